@@ -1,0 +1,48 @@
+-- Closed tests: what the definitions say of small logs.
+use Rattle.std.proofs.Common.{◌≡◌, ℕ, List, [], ◌∷◌, refl}
+use lib.Utf8.{encode}
+use Rattle.std.specs.Prelude.{negsuc, codes, true, false}
+use Rattle.ct_word.specs.declared.values.Value.TheVariants as val
+use Rattle.ct_word.specs.declared.values.Term.TheVariants as term
+use Rattle.ct_word.specs.Word.{kind_with}
+use Rattle.ct_word.specs.Condition.{True}
+use Rattle.ct_word.specs.Change.{Create, Insert}
+use Rattle.ct_word.specs.Reading.{meaning_of, commits_of, int_of_bits}
+use Rattle.ct_word.specs.Writable.{is_writable}
+use Rattle.ct_word.specs.WellFormed.{is_word_after, each_follows, IsWellFormed}
+
+-- the log after `create table t (a);`
+first_log : List ℕ
+first_log = 720575940379279360 ∷ 792633534417207296 ∷ 72057594037927936 ∷ 144115188612726900 ∷ 1513209474796486656 ∷ 144115188612726881 ∷ 1585267069908156421 ∷ 1657324663677648902 ∷ 1945555039024054272 ∷ 2017612635209465863 ∷ 2089740595844087817 ∷ []
+
+-- its words are well formed
+well_formed : IsWellFormed first_log
+unfolding first_log is_word_after kind_with
+well_formed = refl
+
+-- they hold one commit, which creates t with the column a
+one_commit : commits_of first_log ≡ record { session = 1; number = 0; changes = Create (codes "t") (codes "a" ∷ []) ∷ [] } ∷ []
+unfolding first_log meaning_of kind_with encode
+one_commit = refl
+
+-- a word that stands already may not stand again
+no_repeat : each_follows [] (720575940379279360 ∷ 720575940379279360 ∷ []) ≡ false
+unfolding is_word_after kind_with
+no_repeat = refl
+
+-- the ends of numbers
+least_number : int_of_bits 9223372036854775808 ≡ negsuc 9223372036854775807
+least_number = refl
+
+minus_one : int_of_bits 18446744073709551615 ≡ negsuc 0
+minus_one = refl
+
+-- `t (a)` can be created, a table `select` can't, nor a row with another value inserted
+create_writable : is_writable (Create (codes "t") (codes "a" ∷ [])) ≡ true
+create_writable = refl
+
+keyword_no_name : is_writable (Create (codes "select") (codes "a" ∷ [])) ≡ false
+keyword_no_name = refl
+
+other_not_written : is_writable (Insert (codes "t") (record { cells = term.Value (val.Other 0) ∷ []; condition = True } ∷ [])) ≡ false
+other_not_written = refl
