@@ -13,7 +13,7 @@ get_front (m ∷ ms) ns zero lt = refl
 get_front (m ∷ ms) ns (suc k) lt = get_front ms ns k (omega arith)
 
 -- what was read stays
-stays : (ms : List Meaning) (ws : List ℕ) (k : ℕ) → k < length ms → slice_get (read ms ws) k ≡ slice_get ms k
+pub stays : (ms : List Meaning) (ws : List ℕ) (k : ℕ) → k < length ms → slice_get (read ms ws) k ≡ slice_get ms k
 stays ms [] k lt = refl
 stays ms (w ∷ ws) k lt =
     stays (ms ++ meaning_of ms w ∷ []) ws k (omega (arith, length-append ms (meaning_of ms w ∷ []))) ∙ get_front ms (meaning_of ms w ∷ []) k lt
