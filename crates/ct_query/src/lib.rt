@@ -1,0 +1,14 @@
+//! Queries by positions, actions and reads, and in `specs/` what they mean on complete databases.
+//!
+//! The definitions take one valuation at a time and plain sets of tuples: relational algebra (`specs/Rows.antt`),
+//! one change (`specs/Step.antt`), a history of changes (`specs/Worlds.antt`). No conditional row, no place
+//! and no word of the log occurs in them.
+#![tactic(auto)]
+
+mod action;
+mod query;
+mod schema;
+
+pub use action::{Action, Ask, Read, Resolved};
+pub use query::{Pred, Query};
+pub use schema::{Count, Counts, Heading, Schema};
