@@ -1,0 +1,13 @@
+//! The printed form of conditions, and the types of answers and commits.
+//!
+//! A node list holds conditions over earlier nodes of the list (`specs/Nodes.antt`).
+//! `normal` turns places of a log's words into positions of such a list.
+#![tactic(auto)]
+
+mod answer;
+mod form;
+mod history;
+
+pub use answer::{AnswerRow, Node, PossibleRow};
+pub use form::Normal;
+pub use history::{Change, Commit};
