@@ -1,0 +1,3 @@
+pub mod TermText
+pub mod NodeText
+pub mod Text

@@ -1,0 +1,106 @@
+-- The text of replies and of a history, line by line.
+use Rattle.std.specs.Prelude.{ℕ, ◌+◌, not, List, [], ◌∷◌, ◌++◌, map, filter, flat_map, nat_eq, slice_get, if◌then◌else◌, codes, decimal}
+use Rattle.std.specs.List.{join_by}
+use Rattle.ct_rewrite.specs.declared.answer.Node.{Node}
+use Rattle.ct_rewrite.specs.declared.answer.AnswerRow.{AnswerRow}
+use Rattle.ct_rewrite.specs.declared.history.Change.{Change}
+use Rattle.ct_rewrite.specs.declared.history.Change.TheVariants as change
+use Rattle.ct_rewrite.specs.declared.history.Commit.{Commit}
+use Rattle.ct_transcript.specs.declared.reply.Answer.{Answer}
+use Rattle.ct_transcript.specs.declared.reply.Reply.{Reply}
+use Rattle.ct_transcript.specs.declared.reply.Reply.TheVariants as reply
+use Rattle.ct_transcript.specs.declared.reply.Refusal.{Refusal}
+use Rattle.ct_transcript.specs.declared.reply.Refusal.TheVariants as refusal
+use Rattle.ct_transcript.specs.declared.reply.SessionLog.{SessionLog}
+use Rattle.ct_transcript.specs.TermText.{in_parentheses, with_commas, cells_text}
+use Rattle.ct_transcript.specs.NodeText.{line, Printed, printed, as_root, name_lines, unless_true, is_true_node, is_false_node}
+
+-- a row's cells and its condition
+abbrev pub row_text : List Node → List Printed → AnswerRow → List ℕ
+row_text nodes ps r = cells_text r.cells ++ unless_true nodes ps (codes " if ") r.cond
+
+-- the number of a transaction's own changes, where there are some
+abbrev pub plus_text : ℕ → List ℕ
+plus_text plus = if nat_eq plus 0 then [] else codes " plus " ++ decimal plus
+
+-- the head of a list of rows
+abbrev pub head_text : List ℕ → List (List ℕ) → ℕ → ℕ → List ℕ
+head_text word columns at plus =
+    word ++ codes " " ++ in_parentheses (with_commas (λ c. c) columns) ++ codes " at " ++ decimal at ++ plus_text plus
+
+-- the line of the global condition, unless it is True
+abbrev pub global_lines : List Node → List Printed → ℕ → List (List ℕ)
+global_lines nodes ps k = if is_true_node (slice_get nodes k) then [] else line (codes "  worlds where " ++ as_root (slice_get ps k)) ∷ []
+
+-- the lines of an answer below its head
+abbrev pub answer_lines : Answer → List (List ℕ)
+answer_lines a =
+    let ps = printed a.nodes (map (λ r. r.cond) a.rows ++ a.global ∷ []) in
+    name_lines ps ++ global_lines a.nodes ps a.global
+    ++ map (λ r. line (codes "  " ++ row_text a.nodes ps r)) (filter (λ r. not (is_false_node (slice_get a.nodes r.cond))) a.rows)
+
+-- a refusal as it is printed
+abbrev pub refusal_text : Refusal → List ℕ
+refusal_text refusal.NotAStatement = codes "NotAStatement"
+refusal_text refusal.NotYet = codes "NotYet"
+refusal_text refusal.Full = codes "Full"
+refusal_text refusal.Memory = codes "Memory"
+
+-- the lines of a reply, the first without its statement's number
+abbrev pub reply_lines : Reply → List ℕ × List (List ℕ)
+reply_lines (reply.Committed at) = (codes "committed " ++ decimal at, [])
+reply_lines (reply.Rows at plus answer) = (head_text (codes "rows") answer.columns at plus, answer_lines answer)
+reply_lines (reply.Refused at why) = (codes "refused " ++ refusal_text why, [])
+
+-- the lines of the reply to statement k
+abbrev pub numbered : ℕ → List ℕ × List (List ℕ) → List (List ℕ)
+numbered k ls = line (decimal k ++ codes " " ++ ls.0) ∷ ls.1
+
+-- the lines of the replies to statement k and those after it
+abbrev pub replies_from : ℕ → List Reply → List (List ℕ)
+replies_from k [] = []
+replies_from k (r ∷ rs) = numbered k (reply_lines r) ++ replies_from (k + 1) rs
+
+-- the lines of session s and those after it
+abbrev pub sessions_from : ℕ → List SessionLog → List (List ℕ)
+sessions_from s [] = []
+sessions_from s (l ∷ ls) = line (codes "session " ++ decimal s) ∷ replies_from 1 l.replies ++ sessions_from (s + 1) ls
+
+-- the positions that a change refers to
+abbrev pub references_of : Change → List ℕ
+references_of (change.Create name columns) = []
+references_of (change.Insert name rs) = map (λ r. r.cond) rs
+references_of (change.Delete name c) = c ∷ []
+references_of (change.Assert c) = c ∷ []
+
+-- the rows of an insertion
+abbrev pub rows_text : List Node → List Printed → List AnswerRow → List ℕ
+rows_text nodes ps [] = codes "nothing"
+rows_text nodes ps (r ∷ rs) = join_by (row_text nodes ps) (codes "; ") (r ∷ rs)
+
+-- a change as it is printed
+abbrev pub change_text : List Node → List Printed → Change → List ℕ
+change_text nodes ps (change.Create name columns) = codes "create table " ++ name ++ codes " " ++ in_parentheses (with_commas (λ c. c) columns)
+change_text nodes ps (change.Insert name rs) = codes "insert into " ++ name ++ codes " " ++ rows_text nodes ps rs
+change_text nodes ps (change.Delete name c) = codes "delete from " ++ name ++ codes " where " ++ as_root (slice_get ps c)
+change_text nodes ps (change.Assert c) = codes "assert " ++ as_root (slice_get ps c)
+
+-- the lines of commit m
+abbrev pub commit_lines : ℕ → Commit → List (List ℕ)
+commit_lines m c =
+    let ps = printed c.nodes (flat_map references_of c.changes) in
+    line (decimal m ++ codes " by " ++ decimal c.session) ∷ name_lines ps
+    ++ map (λ x. line (codes "  " ++ change_text c.nodes ps x)) c.changes
+
+-- the lines of commit m and those after it
+abbrev pub commits_from : ℕ → List Commit → List (List ℕ)
+commits_from m [] = []
+commits_from m (c ∷ cs) = commit_lines m c ++ commits_from (m + 1) cs
+
+-- the lines of these sessions and this history
+abbrev pub lines_of : List SessionLog → List Commit → List (List ℕ)
+lines_of sessions history = sessions_from 1 sessions ++ line (codes "history") ∷ commits_from 1 history ++ line (codes "end") ∷ []
+
+-- the text of these sessions and this history
+abbrev pub text_of : List SessionLog → List Commit → List ℕ
+text_of sessions history = flat_map (λ l. l) (lines_of sessions history)

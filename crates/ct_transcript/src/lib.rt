@@ -1,0 +1,10 @@
+//! Replies and transcripts, and their text.
+//!
+//! A transcript has the replies of each session and the history of commits.
+//! `lines` is its text, one entry a line (`specs/Text.antt`).
+#![tactic(auto)]
+
+mod reply;
+
+pub use ct_rewrite::{AnswerRow, Change, Commit, Node};
+pub use reply::{Answer, Refusal, Reply, SessionLog};

@@ -1,0 +1,48 @@
+// Replies and transcripts.
+
+use ct_rewrite::{AnswerRow, Node};
+use ct_word::{List, Text};
+
+/// Why a statement was refused.
+#[derive(Drop)]
+pub enum Refusal {
+    /// The text is no statement of the grammar.
+    NotAStatement,
+    /// The text is a statement that is not built yet.
+    NotYet,
+    /// The log has as many words as its capacity, and the statement needs another one.
+    Full,
+    /// Memory was wanting.
+    Memory,
+}
+
+/// A conditional table with its global condition: at each valuation at which the global condition holds,
+/// it shows the cells of the rows whose condition holds, with the valuation's values for the nulls
+/// (Imielinski and Lipski 1984; the global condition is that of Abiteboul, Kanellakis and Grahne 1991).
+#[derive(Drop)]
+pub struct Answer {
+    pub columns: List<Text>,
+    /// The conditions, children before their parents.
+    pub nodes: List<Node>,
+    pub rows: List<AnswerRow>,
+    /// The position of the global condition among the nodes.
+    pub global: u32,
+}
+
+/// What a statement is answered. `at` is a version: the number of commits that were seen.
+#[derive(Drop)]
+pub enum Reply {
+    /// The statement's change is commit `at` of the history.
+    Committed { at: u32 },
+    /// The answer to a query at version `at`, after `plus` changes of the transaction's own.
+    Rows { at: u32, plus: u32, answer: Answer },
+    /// Nothing was changed. `at` is the version that the refusal rests on, or the last one that was seen.
+    Refused { at: u32, why: Refusal },
+}
+
+/// A session's script and its replies, one for each statement.
+#[derive(Drop)]
+pub struct SessionLog {
+    pub script: Text,
+    pub replies: List<Reply>,
+}
