@@ -1,3 +1,4 @@
 pub mod TermText
 pub mod NodeText
 pub mod Text
+pub mod Means

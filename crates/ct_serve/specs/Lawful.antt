@@ -1,0 +1,73 @@
+-- When a transcript is lawful.
+use Rattle.std.specs.Prelude.{◌≡◌, ℕ, ◌+◌, ◌≤◌, List, [], ◌∷◌, length, take, filter_map, Option, Some, None, All, IsTrue, ⊤, nat_eq, if◌then◌else◌}
+use Rattle.ct_word.specs.declared.kinds.Kind.TheVariants as kind
+use Rattle.ct_word.specs.Value.{World}
+use Rattle.ct_word.specs.Word.{word_of}
+use Rattle.ct_word.specs.WellFormed.{IsWellFormed}
+use Rattle.ct_word.specs.Change.{PlainCommit}
+use Rattle.ct_query.specs.Worlds.{admits}
+use Rattle.ct_rewrite.specs.History.{plain_history, IsCommitFormed}
+use Rattle.ct_rewrite.specs.StandsFor.{StandsFor}
+use Rattle.ct_lex.specs.Texts.{texts}
+use Rattle.ct_transcript.specs.declared.reply.Reply.{Reply}
+use Rattle.ct_transcript.specs.declared.reply.Reply.TheVariants as reply
+use Rattle.ct_transcript.specs.declared.reply.Refusal.TheVariants as refusal
+use Rattle.ct_transcript.specs.declared.reply.SessionLog.{SessionLog}
+use Rattle.ct_transcript.specs.declared.reply.Transcript.{Transcript}
+use Rattle.ct_serve.specs.State.{SessionState, beginning}
+use Rattle.ct_serve.specs.LawfulReply.{LawfulReply}
+
+-- the version of a Committed reply
+abbrev pub committed_of : Reply → Option ℕ
+committed_of (reply.Committed m) = Some m
+committed_of _ = None
+
+-- the numbers, from this one on, of the commits of a session
+abbrev pub commits_by : ℕ → ℕ → List PlainCommit → List ℕ
+commits_by s m [] = []
+commits_by s m (c ∷ cs) = if nat_eq c.session s then m ∷ commits_by s (m + 1) cs else commits_by s (m + 1) cs
+
+-- that a reply is not Committed
+abbrev pub IsNoCommit : Reply → Type 0
+IsNoCommit (reply.Committed m) = ⊥
+IsNoCommit _ = ⊤
+
+-- that no Committed reply follows a Full one
+abbrev pub EndsAtFull : List Reply → Type 0
+EndsAtFull [] = ⊤
+EndsAtFull (reply.Refused at refusal.Full ∷ rs) = All IsNoCommit rs
+EndsAtFull (r ∷ rs) = EndsAtFull rs
+
+module _ (H : List PlainCommit) (W : List ℕ) (N : ℕ) where
+  -- one reply for each text, each lawful in the state that the one before it left, from one state to another
+  abbrev pub AreLawful : SessionState → List (List ℕ) → List Reply → SessionState → Type 0
+  AreLawful s [] [] last = s ≡ last
+  AreLawful s (x ∷ xs) (r ∷ rs) last = (next : SessionState) × LawfulReply H W N s x r next × AreLawful next xs rs last
+  AreLawful s _ _ last = ⊥
+
+  -- a session's replies are lawful, and its commits are those of its Committed replies
+  pub record IsLawfulSession (s : ℕ) (log : SessionLog) : Type 0 where
+    pub last : SessionState
+    pub replies : AreLawful (beginning s) (texts log.script) log.replies last
+    pub commits : commits_by s 1 H ≡ filter_map committed_of log.replies
+    pub full : EndsAtFull log.replies
+
+  -- the sessions are lawful, the first having this number
+  abbrev pub AreLawfulSessions : ℕ → List SessionLog → Type 0
+  AreLawfulSessions s [] = ⊤
+  AreLawfulSessions s (l ∷ ls) = IsLawfulSession s l × AreLawfulSessions (s + 1) ls
+
+-- the words true and false
+abbrev pub first_words : List ℕ
+first_words = word_of kind.True 0 0 ∷ word_of kind.False 0 0 ∷ []
+
+-- a transcript is lawful for a capacity of N words
+pub record Lawful (t : Transcript) (N : ℕ) : Type 0 where
+  pub begins : take 2 t.words ≡ first_words
+  pub fits : length t.words ≤ N
+  pub formed : IsWellFormed t.words
+  pub stands : StandsFor (plain_history t.history) t.words
+  pub commits_formed : All IsCommitFormed t.history
+  pub sessions : AreLawfulSessions (plain_history t.history) t.words N 1 t.sessions
+  pub no_others : All (λ c. (1 ≤ c.session) × (c.session ≤ length t.sessions)) (plain_history t.history)
+  pub worlds : (m : ℕ) → m ≤ length t.history → (v : World) × IsTrue (admits v (take m (plain_history t.history)) [])
