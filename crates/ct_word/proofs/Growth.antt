@@ -3,7 +3,7 @@ use Rattle.std.proofs.Common.{◌≡◌, ℕ, zero, suc, ◌+◌, ◌<◌, List,
 use Rattle.std.specs.Prelude.{slice_get}
 use Rattle.ct_word.specs.Reading.{Meaning, meaning_of, read, meanings, as_cond, condition_at}
 
-read-append : (ms : List Meaning) (ws xs : List ℕ) → read ms (ws ++ xs) ≡ read (read ms ws) xs
+pub read-append : (ms : List Meaning) (ws xs : List ℕ) → read ms (ws ++ xs) ≡ read (read ms ws) xs
 read-append ms [] xs = refl
 read-append ms (w ∷ ws) xs = read-append (ms ++ meaning_of ms w ∷ []) ws xs
 
