@@ -1,0 +1,53 @@
+-- When tables denote a history: they are worth what the history makes, at every valuation.
+use Rattle.std.specs.Prelude.{◌≡◌, ℕ, List, [], ◌∷◌, length, map, IfSome, IsTrue, All, ⊤}
+use Rattle.std.specs.List.{IsDistinct}
+use Rattle.ct_word.specs.declared.values.CRow.{CRow}
+use Rattle.ct_word.specs.Value.{World, same_text}
+use Rattle.ct_word.specs.Sublist.{IsSublist}
+use Rattle.ct_word.specs.Change.{PlainCommit}
+use Rattle.ct_query.specs.declared.schema.Heading.{Heading}
+use Rattle.ct_query.specs.declared.schema.Schema.{Schema}
+use Rattle.ct_query.specs.Plain.{Table}
+use Rattle.ct_query.specs.Database.{Relation, Database, SameSet}
+use Rattle.ct_query.specs.Worlds.{world}
+use Rattle.ct_query.specs.Patterns.{pattern}
+use Rattle.ct_query.specs.Schema.{schema}
+use Rattle.ct_table.specs.Tables.{cells_of, value_of_rows, AreRows}
+
+-- a table with its name
+pub record TableView : Type 0 where
+  pub name : List ℕ
+  pub columns : List (List ℕ)
+  pub rows : List CRow
+
+-- the complete database that the tables are worth
+abbrev pub value_of_tables : List ℕ → World → List TableView → Database
+value_of_tables words v db = map (λ t. record { name = t.name; columns = t.columns; tuples = value_of_rows words v t.rows }) db
+
+-- two tables of the same name and columns with the same set of tuples
+pub record SameRelation (a b : Relation) : Type 0 where
+  pub name : a.name ≡ b.name
+  pub columns : a.columns ≡ b.columns
+  pub tuples : SameSet a.tuples b.tuples
+
+-- two databases of the same tables in order
+abbrev pub SameDatabase : Database → Database → Type 0
+SameDatabase [] [] = ⊤
+SameDatabase (a ∷ as') (b ∷ bs) = SameRelation a b × SameDatabase as' bs
+SameDatabase _ _ = ⊥
+
+-- a table's rows are well formed, and their cells are, in order, a part of the cells that were ever inserted
+pub record IsKept (words : List ℕ) (h : List PlainCommit) (t : TableView) : Type 0 where
+  pub rows : AreRows words (length t.columns) t.rows
+  pub in_pattern : IsSublist (cells_of words t.rows) (pattern h [] (Table t.name))
+
+-- the name and the columns of a table
+abbrev pub heading_of : TableView → Heading
+heading_of t = record { name = t.name; columns = t.columns }
+
+-- tables denote a history
+pub record Denotes (words : List ℕ) (h : List PlainCommit) (db : List TableView) : Type 0 where
+  pub tables : (v : World) → IfSome (world v h []) (λ w. SameDatabase (value_of_tables words v db) w)
+  pub kept : All (IsKept words h) db
+  pub names : IsDistinct same_text (map (λ t. t.name) db)
+  pub headings : map heading_of db ≡ (schema h []).tables
