@@ -12,7 +12,7 @@ use Rattle.ct_query.specs.Worlds.{world, after_changes, after_actions, changes_o
 use Rattle.ct_query.specs.Reads.{last, commit_writes, one_earlier}
 use Rattle.ct_query.specs.Patterns.{Patterns, patterns, pattern_changes, pattern_actions, pattern_change, pattern_action, no_patterns}
 
-changes_of-snoc : (h : List PlainCommit) (c : PlainCommit) → changes_of (h ++ c ∷ []) ≡ changes_of h ++ c.changes
+pub changes_of-snoc : (h : List PlainCommit) (c : PlainCommit) → changes_of (h ++ c ∷ []) ≡ changes_of h ++ c.changes
 changes_of-snoc [] c = append-nil c.changes
 changes_of-snoc (d ∷ h) c = ap (λ xs. d.changes ++ xs) (changes_of-snoc h c) ∙ sym (append_assoc d.changes (changes_of h) c.changes)
 

@@ -1,5 +1,5 @@
 -- When tables denote a history: they are worth what the history makes, at every valuation.
-use Rattle.std.specs.Prelude.{◌≡◌, ℕ, List, [], ◌∷◌, length, map, IfSome, IsTrue, All, ⊤}
+use Rattle.std.specs.Prelude.{◌≡◌, ℕ, List, [], ◌∷◌, length, map, Option, Some, None, IfSome, All, ⊤, if◌then◌else◌}
 use Rattle.std.specs.List.{IsDistinct}
 use Rattle.ct_word.specs.declared.values.CRow.{CRow}
 use Rattle.ct_word.specs.Value.{World, same_text}
@@ -51,3 +51,13 @@ pub record Denotes (words : List ℕ) (h : List PlainCommit) (db : List TableVie
   pub kept : All (IsKept words h) db
   pub names : IsDistinct same_text (map (λ t. t.name) db)
   pub headings : map heading_of db ≡ (schema h []).tables
+
+-- the first table with this name, if there is one
+abbrev pub find_table : List TableView → List ℕ → Option TableView
+find_table [] name = None
+find_table (t ∷ db) name = if same_text t.name name then Some t else find_table db name
+
+-- the tables with this one in the place of the first of its name, or last where its name is new
+abbrev pub with_table : List TableView → TableView → List TableView
+with_table [] new = new ∷ []
+with_table (t ∷ db) new = if same_text t.name new.name then new ∷ db else t ∷ with_table db new
