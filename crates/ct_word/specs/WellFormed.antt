@@ -137,6 +137,18 @@ is_formed_as None before a b = false
 unfoldable pub is_word_after : List ℕ → ℕ → Bool
 is_word_after before w = is_formed_as (kind_of w) before (left_of w) (right_of w) && not (list_any (nat_eq w) before)
 
+-- whether this is a word of the table over these words, whether or not it stands among them
+unfoldable pub is_word_over : List ℕ → ℕ → Bool
+is_word_over words w = is_formed_as (kind_of w) words (left_of w) (right_of w)
+
+-- whether this is the word of a commit
+unfoldable pub is_commit_word : ℕ → Bool
+is_commit_word w = has_class (kind_of w) class.Commit
+
+-- whether this is a word over these words that is no commit
+abbrev pub is_plain_word : List ℕ → ℕ → Bool
+is_plain_word words w = is_word_over words w && not (is_commit_word w)
+
 -- whether each word may follow those before it
 abbrev pub each_follows : List ℕ → List ℕ → Bool
 each_follows before [] = true

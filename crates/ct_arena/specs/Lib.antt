@@ -1,0 +1,5 @@
+pub mod Name
+pub mod Counts
+pub mod Seen
+pub mod Handing
+pub mod Kept

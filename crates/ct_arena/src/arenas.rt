@@ -1,0 +1,92 @@
+// The log before it has a name, and the log that a site names.
+
+ghost use Rattle.std.specs.Prelude.{◌≡◌, [], ◌≤◌, ◌<◌, IfOk, None};
+ghost use Rattle.ct_arena.specs.Counts.{opening};
+
+use crate::handing::{Place, Tie};
+use crate::keepers::KeeperPass;
+use crate::sites::Site;
+use ct_word::{Kind, Memory, pack};
+use std::alloc::Global;
+use std::marker::{Model, PhantomData};
+
+/// A log that has no name yet. Contracts see it as the name that it is to have.
+#[derive(Drop)]
+pub struct Blank {
+    cap: u32,
+    tie: Tie,
+    place: Place,
+    words: Vec<u64>,
+}
+
+impl Model for Blank {
+    ghost use Rattle.std.specs.Prelude.{◌≡◌, ℕ, [], ◌≤◌, ◌<◌, vec_capacity};
+    ghost use Rattle.ct_arena.specs.Name.{LogName, log_name_coded};
+    ghost use Rattle.ct_arena.specs.Counts.{opening};
+    ghost use Rattle.ct_arena.specs.declared.handing.View.TheVariants as views;
+
+    ghost Value = { LogName };
+
+    ghost coded = { log_name_coded };
+
+    ghost view = { λ b. record { cap = b.cap; table = b.tie.shared.table_id } };
+
+    ghost invariant = { λ b. (b.place.table_id ≡ b.tie.shared.table_id) × (b.place.id ≡ 0) × (b.place.me ≡ (views.Held, [])) × (0 < b.tie.shared.table_id.words) × (b.words.items ≡ opening) × (b.cap ≤ vec_capacity b.words) × (64 ≤ b.cap) × (b.cap ≤ 4194304) };
+}
+
+impl Blank {
+    /// Makes a log with room for `cap` words, of which the first two are `true` and `false`.
+    ///
+    /// # Errors
+    /// `Memory` where there is none for the log or for the keeper's list of it.
+    pub fn make(alloc: Global, cap: u32) -> Result<Blank, Memory>
+        requires least { 64 ≤ cap }
+        requires most { cap ≤ 4194304 }
+        ensures { IfOk result (λ blank. blank.cap ≡ cap) }
+    {
+        let mut words = Vec::with_capacity(alloc, cap as usize)?;
+        words.push_reserved(pack(Kind::True, 0, 0));
+        words.push_reserved(pack(Kind::False, 0, 0));
+        let (tie, place) = Tie::of_words(alloc, &[0], &0)?;
+        Ok(Blank {
+            cap,
+            tie,
+            place,
+            words,
+        })
+    }
+}
+
+/// The log that N names.
+#[derive(Drop)]
+pub struct Arena<N: Site> {
+    pub(crate) cap: u32,
+    pub(crate) tie: Tie,
+    of: PhantomData<N>,
+    ghost table: { tie.shared.table_id ≡ N.log.table },
+    ghost word: { 0 < N.log.table.words },
+    ghost room: { cap ≡ N.log.cap },
+    ghost least: { 64 ≤ N.log.cap },
+    ghost most: { N.log.cap ≤ 4194304 },
+}
+
+impl<N: Site> Arena<N> {
+    /// Gives a log its name. It takes no memory and leaves the words as they are.
+    pub fn make(blank: Blank) -> (Arena<N>, KeeperPass<N>)
+        requires { blank ≡ N.log }
+        ensures { result.1 ≡ record { words = opening; enrolled = 0; guest = None; ended = [] } }
+    {
+        let Blank {
+            cap,
+            tie,
+            place,
+            words,
+        } = blank;
+        let arena = Arena {
+            cap,
+            tie,
+            of: PhantomData,
+        };
+        (arena, KeeperPass::of(place, words))
+    }
+}

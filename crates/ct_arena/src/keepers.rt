@@ -1,0 +1,312 @@
+// The keeper's pass: sessions are enrolled and ended by it, and commit through it.
+
+ghost use Rattle.std.specs.Prelude.{◌≡◌, ◌+◌, ◌<◌, ◌≤◌, ◌^◌, ◌↔◌, ◌⊎◌, [], ◌∷◌, ◌++◌, length, All, sum_by, IfOk, OnOk, OnErr, IsErr, IsOk, IsTrue, Some, None, slice_get, Contains, IfSome, vec_capacity};
+ghost use mathlib.Core.List.{IsPrefix};
+ghost use Rattle.ct_word.specs.WellFormed.{IsWellFormed, is_plain_word, is_place_of};
+ghost use Rattle.ct_word.specs.Reading.{commits_of};
+ghost use Rattle.ct_arena.specs.Counts.{opening, commit_word, commit_of, numbers_by, AreNumbered, AreOfSessions};
+ghost use Rattle.ct_arena.specs.Kept.{IsKeeper};
+ghost use Rattle.ct_arena.specs.Seen.{CountsWord, StandsLast, tally_of, pass_of};
+ghost use Rattle.ct_word.specs.declared.kinds.Class.TheVariants as class;
+ghost use Rattle.std.specs.List.{range_with_len};
+
+use crate::arenas::Arena;
+use crate::full::Full;
+use crate::handing::{Place, give, take_back};
+use crate::logs::Log;
+use crate::passes::Pass;
+use crate::places::put;
+use crate::sites::Site;
+use crate::tally::{Counts, Stage};
+use ct_word::{Kind, Memory, pack};
+use std::alloc::Global;
+use std::marker::{Model, PhantomData};
+use std::mem;
+
+/// What a session did to the log until it was ended.
+#[derive(Clone, Copy, Debug, PartialEq, Eq)]
+pub struct Ended {
+    pub session: u32,
+    pub made: u32,
+    pub commits: u32,
+}
+
+/// A session's pass while it is entered at the keeper. Its words are the keeper's list.
+#[derive(Drop)]
+pub struct Guest<N: Site> {
+    counts: Counts,
+    spare: Vec<u64>,
+    of: PhantomData<N>,
+}
+
+impl<N: Site> Model for Guest<N> {
+    ghost use Rattle.std.specs.Prelude.{◌≤◌, vec_capacity};
+    ghost use Rattle.ct_arena.specs.Seen.{Tally};
+    ghost use Rattle.ct_arena.specs.Kept.{tally};
+
+    ghost Value = { Tally };
+
+    ghost view = { λ g. tally g.counts };
+
+    ghost invariant = { λ g. N.log.cap ≤ vec_capacity g.spare };
+}
+
+/// What the keeper has seen of the log that N names, and where it stands with each session.
+#[derive(Drop)]
+pub struct KeeperPass<N: Site> {
+    place: Place,
+    seen: Vec<u64>,
+    stage: Stage,
+    of: PhantomData<N>,
+}
+
+impl<N: Site> Model for KeeperPass<N> {
+    ghost use Rattle.std.specs.Prelude.{◌≤◌, vec_capacity};
+    ghost use Rattle.ct_arena.specs.Seen.{Keeping};
+    ghost use Rattle.ct_arena.specs.Kept.{IsKeeper, enrolled_at, guest_at, ended_at};
+
+    ghost Value = { Keeping };
+
+    ghost view = { λ k. record { words = k.seen.items; enrolled = enrolled_at k.stage; guest = guest_at k.stage; ended = ended_at k.stage } };
+
+    ghost invariant = { λ k. IsKeeper N.log k.place.table_id k.place.id k.place.me k.seen.items k.stage × (N.log.cap ≤ vec_capacity k.seen) };
+}
+
+// These words, with room for as many as the capacity.
+fn copied(alloc: Global, cap: u32, words: &[u64]) -> Result<Vec<u64>, Memory>
+    requires { length words.now ≤ cap }
+    ensures words { IfOk result (λ copy. copy.items ≡ words.now) }
+    ensures room { IfOk result (λ copy. cap ≤ vec_capacity copy) }
+{
+    let mut copy = Vec::with_capacity(alloc, cap as usize)?;
+    refill(&mut copy, words);
+    Ok(copy)
+}
+
+// Puts these words in place of those that the list has.
+fn refill(list: &mut Vec<u64>, words: &[u64])
+    requires { length words.now ≤ vec_capacity list.old }
+    ensures words { list.new.items ≡ words.now }
+    ensures room { vec_capacity list.new ≡ vec_capacity list.old }
+{
+    list.clear();
+    for w in words {
+        list.push_reserved(*w);
+    }
+}
+
+impl<N: Site> KeeperPass<N> {
+    pub(crate) fn of(place: Place, seen: Vec<u64>) -> KeeperPass<N>
+        requires { IsKeeper N.log place.table_id place.id place.me seen.items Stage.Expected × (N.log.cap ≤ vec_capacity seen) }
+        ensures { result ≡ record { words = seen.items; enrolled = 0; guest = None; ended = [] } }
+    {
+        KeeperPass {
+            place,
+            seen,
+            stage: Stage::Expected,
+            of: PhantomData,
+        }
+    }
+
+    /// The pass of the next session, which has seen what the keeper has.
+    ///
+    /// # Errors
+    /// `Memory` where there is none for the session's list.
+    pub fn enrol(&mut self, alloc: Global, arena: &Arena<N>) -> Result<Pass<N>, Memory>
+        requires guest { self.old.guest ≡ None }
+
+        // Until the log is shared there is one session.
+        requires first { self.old.enrolled ≡ 0 }
+        ensures pass { IfOk result (λ pass. pass ≡ record { session = self.old.enrolled + 1; words = self.old.words; made = 0; mine = 0 }) }
+        ensures ok { OnOk result (self.new ≡ record { words = self.old.words; enrolled = self.old.enrolled + 1; guest = None; ended = self.old.ended }) }
+        ensures err { OnErr result (self.new ≡ self.old) }
+    {
+        let seen = copied(alloc, arena.cap, self.seen.as_slice())?;
+        let place = give(&arena.tie, &mut self.place, self.seen.as_slice());
+        self.stage = Stage::Away;
+        let counts = Counts {
+            session: 1,
+            made: 0,
+            mine: 0,
+        };
+        Ok(Pass::of(place, counts, seen))
+    }
+
+    /// The words that the keeper has seen. While a guest is entered, they are the guest's too.
+    pub fn words(&self) -> &[u64]
+        ensures words { result.now ≡ self.now.words }
+        ensures formed { IsWellFormed self.now.words }
+        ensures room { length self.now.words ≤ N.log.cap }
+        ensures small { length self.now.words < 2 ^ 28 }
+        ensures begins { IsPrefix opening self.now.words }
+        ensures known { AreOfSessions self.now.enrolled self.now.words }
+        ensures guest { IfSome self.now.guest (λ t. AreNumbered t.session t.mine self.now.words) }
+    {
+        self.seen.as_slice()
+    }
+
+    /// Takes a pass as guest. Keeper and guest have the longer of their lists.
+    pub fn enter(&mut self, arena: &Arena<N>, pass: Pass<N>) -> Guest<N>
+        requires { self.old.guest ≡ None }
+        ensures guest { result ≡ tally_of pass }
+        ensures entered { self.new.guest ≡ Some result }
+        ensures longer { IsPrefix self.old.words self.new.words }
+        ensures seen { IsPrefix pass.words self.new.words }
+        ensures either { (self.new.words ≡ self.old.words) ⊎ (self.new.words ≡ pass.words) }
+        ensures commits { commits_of self.new.words ≡ commits_of self.old.words }
+        ensures enrolled { self.new.enrolled ≡ self.old.enrolled }
+        ensures ended { self.new.ended ≡ self.old.ended }
+    {
+        let Pass {
+            place,
+            counts,
+            seen,
+            of: _,
+        } = pass;
+        take_back(&arena.tie, &mut self.place, place);
+        let spare = mem::replace(&mut self.seen, seen);
+        self.stage = Stage::Entered(counts);
+        Guest {
+            counts,
+            spare,
+            of: PhantomData,
+        }
+    }
+
+    /// Gives the guest its pass back, with the keeper's list.
+    pub fn leave(&mut self, arena: &Arena<N>, guest: Guest<N>) -> Pass<N>
+        requires { self.old.guest ≡ Some guest }
+        ensures pass { result ≡ pass_of guest self.old.words }
+        ensures left { self.new ≡ record { words = self.old.words; enrolled = self.old.enrolled; guest = None; ended = self.old.ended } }
+    {
+        let Guest {
+            counts,
+            mut spare,
+            of: _,
+        } = guest;
+        refill(&mut spare, self.seen.as_slice());
+        let place = give(&arena.tie, &mut self.place, self.seen.as_slice());
+        self.stage = Stage::Away;
+        Pass::of(place, counts, spare)
+    }
+
+    /// The place of a word, which is appended for the guest where it does not stand in the log.
+    ///
+    /// # Errors
+    /// `Full` where the words are as many as the capacity and the word is not among them.
+    pub fn intern(&mut self, arena: &Arena<N>, guest: &mut Guest<N>, w: u64) -> Result<u32, Full>
+        requires guest { self.old.guest ≡ Some guest.old }
+        requires word { IsTrue (is_plain_word self.old.words w) }
+        ensures guest { self.new.guest ≡ Some guest.new }
+        ensures stands { IfOk result (λ place. slice_get self.new.words place ≡ Some w) }
+        ensures longer { IsPrefix self.old.words self.new.words }
+        ensures formed { IsWellFormed self.new.words }
+        ensures room { length self.new.words ≤ N.log.cap }
+        ensures known { Contains self.old.words w → IsOk result × (self.new ≡ self.old) }
+        ensures made { CountsWord guest.old.made guest.new.made self.new.words w }
+        ensures mine { guest.new.mine ≡ guest.old.mine }
+        ensures session { guest.new.session ≡ guest.old.session }
+        ensures commits { commits_of self.new.words ≡ commits_of self.old.words }
+        ensures enrolled { self.new.enrolled ≡ self.old.enrolled }
+        ensures ended { self.new.ended ≡ self.old.ended }
+        ensures full { IsErr result ↔ ((length self.new.words ≡ N.log.cap) × ¬ Contains self.new.words w) }
+        ensures err { OnErr result (guest.new ≡ guest.old) }
+
+        // While no other session is enrolled, nothing else is appended.
+        ensures alone { ¬ Contains self.old.words w → OnOk result ((self.new.words ≡ self.old.words ++ w ∷ []) × (guest.new.made ≡ guest.old.made + 1)) }
+        ensures alone_err { OnErr result (self.new ≡ self.old) }
+    {
+        let result = put(&mut self.seen, arena.cap, &mut guest.counts.made, w);
+        self.stage = Stage::Entered(guest.counts);
+        result
+    }
+
+    /// Appends the commit word of this change list, with the guest's session and next number.
+    ///
+    /// # Errors
+    /// `Full` where the words are as many as the capacity.
+    pub fn append_commit(
+        &mut self,
+        arena: &Arena<N>,
+        guest: &mut Guest<N>,
+        changes: u32,
+    ) -> Result<u32, Full>
+        requires guest { self.old.guest ≡ Some guest.old }
+        requires changes { IsTrue (is_place_of self.old.words class.ChangeList changes) }
+        requires number { guest.old.mine < 2 ^ 18 }
+        ensures guest { self.new.guest ≡ Some guest.new }
+        ensures ok { IfOk result (λ place. StandsLast self.new.words place (commit_word guest.old.session guest.old.mine changes)) }
+        ensures commits { OnOk result (commits_of self.new.words ≡ commits_of self.old.words ++ commit_of self.old.words guest.old.session guest.old.mine changes ∷ []) }
+        ensures counted { OnOk result (guest.new ≡ record { session = guest.old.session; made = guest.old.made + 1; mine = guest.old.mine + 1 }) }
+        ensures longer { IsPrefix self.old.words self.new.words }
+        ensures formed { IsWellFormed self.new.words }
+        ensures room { length self.new.words ≤ N.log.cap }
+        ensures enrolled { self.new.enrolled ≡ self.old.enrolled }
+        ensures ended { self.new.ended ≡ self.old.ended }
+        ensures full { OnErr result (length self.new.words ≡ N.log.cap) }
+        ensures err { OnErr result (guest.new ≡ guest.old) }
+        ensures none { OnErr result (commits_of self.new.words ≡ commits_of self.old.words) }
+
+        // While no other session is enrolled, nothing else is appended.
+        ensures alone { OnOk result (self.new.words ≡ self.old.words ++ commit_word guest.old.session guest.old.mine changes ∷ []) }
+        ensures alone_full { IsErr result ↔ (length self.old.words ≡ N.log.cap) }
+        ensures alone_err { OnErr result (self.new ≡ self.old) }
+    {
+        let place = self.seen.len() as u32;
+        if place == arena.cap {
+            return Err(Full);
+        }
+        let Counts {
+            session,
+            made,
+            mine,
+        } = guest.counts;
+        self.seen
+            .push_reserved(pack(Kind::Commit, session * 0x4_0000 + mine, changes));
+        guest.counts = Counts {
+            session,
+            made: made + 1,
+            mine: mine + 1,
+        };
+        self.stage = Stage::Entered(guest.counts);
+        Ok(place)
+    }
+
+    /// Takes a pass whose session appends no more. The keeper has the longer of both lists.
+    pub fn end(&mut self, arena: &Arena<N>, pass: Pass<N>) -> Ended
+        requires { self.old.guest ≡ None }
+        ensures counts { result ≡ record { session = pass.session; made = pass.made; commits = pass.mine } }
+        ensures ended { self.new.ended ≡ self.old.ended ++ tally_of pass ∷ [] }
+        ensures longer { IsPrefix self.old.words self.new.words }
+        ensures seen { IsPrefix pass.words self.new.words }
+        ensures either { (self.new.words ≡ self.old.words) ⊎ (self.new.words ≡ pass.words) }
+        ensures commits { commits_of self.new.words ≡ commits_of self.old.words }
+        ensures enrolled { self.new.enrolled ≡ self.old.enrolled }
+        ensures guest { self.new.guest ≡ None }
+    {
+        let Guest { counts, .. } = self.enter(arena, pass);
+        self.stage = Stage::Ended(counts);
+        Ended {
+            session: counts.session,
+            made: counts.made,
+            commits: counts.mine,
+        }
+    }
+
+    /// The whole log, once every pass was ended.
+    pub fn finish(self, arena: Arena<N>) -> Log
+        requires guest { self.guest ≡ None }
+        requires ended { length self.ended ≡ self.enrolled }
+        ensures longer { IsPrefix self.words result }
+        ensures commits { commits_of result ≡ commits_of self.words }
+        ensures formed { IsWellFormed result }
+        ensures room { length result ≤ N.log.cap }
+        ensures begins { IsPrefix opening result }
+        ensures counted { length result ≡ 2 + sum_by (λ t. t.made) self.ended }
+        ensures numbered { All (λ t. AreNumbered t.session t.mine result) self.ended }
+        ensures known { AreOfSessions self.enrolled result }
+    {
+        let _ = arena;
+        Log::of(self.seen)
+    }
+}

@@ -1,0 +1,126 @@
+// What one session has seen of the log, and its appending to it.
+
+ghost use Rattle.std.specs.Prelude.{◌≡◌, ◌+◌, ◌<◌, ◌≤◌, ◌^◌, ◌↔◌, [], ◌∷◌, ◌++◌, length, IfOk, OnOk, OnErr, IsErr, IsOk, IsTrue, Some, slice_get, Contains, vec_capacity};
+ghost use mathlib.Core.List.{IsPrefix};
+ghost use Rattle.ct_word.specs.WellFormed.{IsWellFormed, is_plain_word};
+ghost use Rattle.ct_arena.specs.Counts.{opening, AreNumbered};
+ghost use Rattle.ct_arena.specs.Kept.{IsPass};
+ghost use Rattle.ct_arena.specs.Seen.{CountsWord};
+
+use crate::arenas::Arena;
+use crate::full::Full;
+use crate::handing::Place;
+use crate::places::put;
+use crate::sites::Site;
+use crate::tally::Counts;
+use std::marker::{Model, PhantomData};
+
+/// What one session has seen of the log that N names, and how much of it is its own.
+#[derive(Drop)]
+pub struct Pass<N: Site> {
+    pub(crate) place: Place,
+    pub(crate) counts: Counts,
+    pub(crate) seen: Vec<u64>,
+    pub(crate) of: PhantomData<N>,
+}
+
+impl<N: Site> Model for Pass<N> {
+    ghost use Rattle.ct_arena.specs.Seen.{Seen};
+    ghost use Rattle.std.specs.Prelude.{◌≤◌, vec_capacity};
+    ghost use Rattle.ct_arena.specs.Kept.{IsPass};
+
+    ghost Value = { Seen };
+
+    ghost view = { λ p. record { session = p.counts.session; words = p.seen.items; made = p.counts.made; mine = p.counts.mine } };
+
+    ghost invariant = { λ p. IsPass N.log p.place.table_id p.place.me p.counts p.seen.items × (N.log.cap ≤ vec_capacity p.seen) };
+}
+
+impl<N: Site> Pass<N> {
+    pub(crate) fn of(place: Place, counts: Counts, seen: Vec<u64>) -> Pass<N>
+        requires { IsPass N.log place.table_id place.me counts seen.items × (N.log.cap ≤ vec_capacity seen) }
+        ensures { result ≡ record { session = counts.session; words = seen.items; made = counts.made; mine = counts.mine } }
+    {
+        Pass {
+            place,
+            counts,
+            seen,
+            of: PhantomData,
+        }
+    }
+
+    /// The number of the session, from 1.
+    pub fn session(&self) -> u32
+        ensures value { result ≡ self.now.session }
+        ensures least { 1 ≤ result }
+        ensures most { result ≤ 1023 }
+    {
+        self.counts.session
+    }
+
+    /// The words that the session has seen.
+    pub fn words(&self) -> &[u64]
+        ensures words { result.now ≡ self.now.words }
+        ensures formed { IsWellFormed self.now.words }
+        ensures room { length self.now.words ≤ N.log.cap }
+        ensures small { length self.now.words < 2 ^ 28 }
+        ensures begins { IsPrefix opening self.now.words }
+        ensures numbered { AreNumbered self.now.session self.now.mine self.now.words }
+        ensures counted { 2 + self.now.made ≤ length self.now.words }
+    {
+        self.seen.as_slice()
+    }
+
+    /// How many words the session appended.
+    pub fn made(&self) -> u32
+        ensures { result ≡ self.now.made }
+    {
+        self.counts.made
+    }
+
+    /// How many commits are the session's.
+    pub fn mine(&self) -> u32
+        ensures { result ≡ self.now.mine }
+    {
+        self.counts.mine
+    }
+
+    /// The place of a word, which is appended where it does not stand in the log.
+    ///
+    /// # Errors
+    /// `Full` where the words are as many as the capacity and the word is not among them.
+    pub fn intern(&mut self, arena: &Arena<N>, w: u64) -> Result<u32, Full>
+        requires { IsTrue (is_plain_word self.old.words w) }
+        ensures stands { IfOk result (λ place. slice_get self.new.words place ≡ Some w) }
+        ensures longer { IsPrefix self.old.words self.new.words }
+        ensures formed { IsWellFormed self.new.words }
+        ensures room { length self.new.words ≤ N.log.cap }
+        ensures known { Contains self.old.words w → IsOk result × (self.new ≡ self.old) }
+        ensures made { CountsWord self.old.made self.new.made self.new.words w }
+        ensures mine { self.new.mine ≡ self.old.mine }
+        ensures session { self.new.session ≡ self.old.session }
+        ensures full { IsErr result ↔ ((length self.new.words ≡ N.log.cap) × ¬ Contains self.new.words w) }
+        ensures err { OnErr result (self.new.made ≡ self.old.made) }
+
+        // While no other session is enrolled, nothing else is appended.
+        ensures alone { ¬ Contains self.old.words w → OnOk result (self.new ≡ record { session = self.old.session; words = self.old.words ++ w ∷ []; made = self.old.made + 1; mine = self.old.mine }) }
+        ensures alone_err { OnErr result (self.new ≡ self.old) }
+    {
+        put(&mut self.seen, arena.cap, &mut self.counts.made, w)
+    }
+
+    /// Reads on to the end of the log.
+    pub fn catch_up(&mut self, arena: &Arena<N>)
+        ensures longer { IsPrefix self.old.words self.new.words }
+        ensures formed { IsWellFormed self.new.words }
+        ensures room { length self.new.words ≤ N.log.cap }
+        ensures made { self.new.made ≡ self.old.made }
+        ensures mine { self.new.mine ≡ self.old.mine }
+        ensures session { self.new.session ≡ self.old.session }
+
+        // While no other session is enrolled, there is nothing more to read.
+        ensures alone { self.new ≡ self.old }
+    {
+        let _ = arena;
+    }
+}
