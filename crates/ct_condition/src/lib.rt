@@ -1,0 +1,11 @@
+//! Terms and conditions put into a log, through whatever interns words.
+//!
+//! Each call answers the place of what it names, and appends the words that do not stand in the log yet.
+//! Conditions are folded: an equality of two constants, a double NOT, an AND with false have no word of their own.
+#![tactic(auto)]
+
+mod interner;
+mod terms;
+
+pub use interner::Interner;
+pub use terms::text;
