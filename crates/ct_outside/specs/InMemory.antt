@@ -1,0 +1,47 @@
+-- What the source and the sink in memory hold.
+use Rattle.std.specs.Prelude.{◌≡◌, ◌≤◌, ◌<◌, ◌+◌, ◌-◌, ◌^◌, ℕ, Bool, true, false, List, [], ◌∷◌, ◌++◌, take, min, Option, Some, None, Result, Ok, Err, nat_eq, nat_lt, if◌then◌else◌}
+use Rattle.ct_word.specs.Value.{same_text}
+use Rattle.ct_outside.specs.Outside.{Held}
+
+-- the bytes under a name: those of the first pair with it
+abbrev pub bytes_under : List (List ℕ × List ℕ) → Held
+bytes_under [] name = None
+bytes_under (p ∷ ps) name = if same_text p.0 name then Some p.1 else bytes_under ps name
+
+-- one more fault, short of the greatest u64
+abbrev pub one_more : ℕ → ℕ
+one_more count = min (count + 1) (2 ^ 64 - 1)
+
+-- a source in memory: its pairs of names and bytes, the numbers of the calls that are to fail, the names that it was
+-- asked, how many calls it had, and how many of them failed
+pub record Source : Type 0 where
+  pub pairs : List (List ℕ × List ℕ)
+  pub to_fail : List ℕ
+  pub asked : List (List ℕ)
+  pub calls : ℕ
+  pub faults : ℕ
+
+-- a sink in memory: the calls that are to fail, each with how many bytes it takes before, the bytes that it took, how
+-- many calls it had, and how many of them failed
+pub record Taking : Type 0 where
+  pub to_fail : List (ℕ × ℕ)
+  pub bytes : List ℕ
+  pub calls : ℕ
+  pub faults : ℕ
+
+-- how many bytes a call takes before it fails, where it is to fail
+abbrev pub planned : List (ℕ × ℕ) → ℕ → Option ℕ
+planned [] call = None
+planned (p ∷ ps) call = if nat_eq p.0 call then Some p.1 else planned ps call
+
+-- how many bytes the next call takes before it fails, where it is to fail; a count at its end numbers no call
+abbrev pub next_plan : Taking → Option ℕ
+next_plan s = if nat_lt s.calls (2 ^ 64 - 1) then planned s.to_fail (s.calls + 1) else None
+
+-- the sink after a write that took the whole piece
+abbrev pub after_write : Taking → List ℕ → Taking
+after_write s piece = record s { bytes = s.bytes ++ piece; calls = one_more s.calls }
+
+-- the sink after a write that took this many bytes of the piece and failed
+abbrev pub after_failure : Taking → List ℕ → ℕ → Taking
+after_failure s piece count = record s { bytes = s.bytes ++ take count piece; calls = one_more s.calls; faults = one_more s.faults }

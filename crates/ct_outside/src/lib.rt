@@ -1,0 +1,16 @@
+//! What the top call meets outside itself: a source of scripts, a sink of lines, and a gate round each statement.
+//!
+//! Scripts and sinks count their faults and may tell what they hold and what they took (`specs/Outside.antt`),
+//! so that a call over them can say what it read and wrote.
+//! Each has an implementation in memory, which tells all, and one over the runtime, which tells nothing.
+#![tactic(auto)]
+
+mod gates;
+mod mem_sink;
+mod scripts;
+mod sinks;
+
+pub use gates::{Gate, NoGate};
+pub use mem_sink::MemSink;
+pub use scripts::{ReadError, Scripts};
+pub use sinks::{Failed, Sink};
