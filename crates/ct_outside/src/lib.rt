@@ -6,11 +6,13 @@
 #![tactic(auto)]
 
 mod gates;
+mod mem_scripts;
 mod mem_sink;
 mod scripts;
 mod sinks;
 
 pub use gates::{Gate, NoGate};
+pub use mem_scripts::MemScripts;
 pub use mem_sink::MemSink;
 pub use scripts::{ReadError, Scripts};
 pub use sinks::{Failed, Sink};
