@@ -8,11 +8,13 @@
 mod gates;
 mod mem_scripts;
 mod mem_sink;
+mod runtime;
 mod scripts;
 mod sinks;
 
 pub use gates::{Gate, NoGate};
 pub use mem_scripts::MemScripts;
 pub use mem_sink::MemSink;
+pub use runtime::{FileScripts, StdSink};
 pub use scripts::{ReadError, Scripts};
 pub use sinks::{Failed, Sink};
