@@ -15,6 +15,10 @@ bytes_under (p ∷ ps) name = if same_text p.0 name then Some p.1 else bytes_und
 abbrev pub one_more : ℕ → ℕ
 one_more count = min (count + 1) (2 ^ 64 - 1)
 
+-- the number of calls that a count tells: none at its end
+abbrev pub told_calls : ℕ → Option ℕ
+told_calls count = if nat_lt count (2 ^ 64 - 1) then Some count else None
+
 -- a source in memory: its pairs of names and bytes, the numbers of the calls that are to fail, the names that it was
 -- asked, how many calls it had, and how many of them failed
 pub record Source : Type 0 where

@@ -1,5 +1,5 @@
 -- What a source of scripts and a sink tell of themselves.
-use Rattle.std.specs.Prelude.{◌≡◌, ◌≤◌, ◌<◌, ◌+◌, ◌-◌, ◌^◌, ◌⊎◌, ℕ, List, ◌++◌, map, length, take, Option, Some, None, IfSome, MatchOption, if◌then◌else◌, nat_lt}
+use Rattle.std.specs.Prelude.{◌≡◌, ◌≤◌, ◌<◌, ◌+◌, ◌-◌, ◌^◌, ◌⊎◌, ℕ, List, ◌++◌, map, length, take, Option, Some, None, IfSome, MatchOption}
 
 -- a count of faults rose, or stands at the greatest u64
 abbrev pub Rose : ℕ → ℕ → Type 0
@@ -33,7 +33,7 @@ Added told now items = IfSome told (λ old. now ≡ Some (old ++ items))
 abbrev pub AddedFront : {A : Type 0} → Option (List A) → Option (List A) → List A → Type 0
 AddedFront told now items = (count : ℕ) × Added told now (take count items)
 
--- the number of calls that is told after some more of them: it is told while it is below the greatest u64
-abbrev pub calls_after : Option ℕ → ℕ → Option ℕ
-calls_after None more = None
-calls_after (Some before) more = if nat_lt (before + more) (2 ^ 64 - 1) then Some (before + more) else None
+-- this many calls were made: their number, where it was told, still is while it is below the greatest u64
+abbrev pub Called : Option ℕ → Option ℕ → ℕ → Type 0
+Called None now more = now ≡ None
+Called (Some before) now more = (now ≡ Some (before + more)) ⊎ ((now ≡ None) × (2 ^ 64 - 1 ≤ before + more))

@@ -5,6 +5,7 @@
 //! Each has an implementation in memory, which tells all, and one over the runtime, which tells nothing.
 #![tactic(auto)]
 
+mod drive;
 mod gates;
 mod mem_scripts;
 mod mem_sink;
@@ -12,6 +13,7 @@ mod runtime;
 mod scripts;
 mod sinks;
 
+pub use drive::write_all;
 pub use gates::{Gate, NoGate};
 pub use mem_scripts::MemScripts;
 pub use mem_sink::MemSink;

@@ -1,8 +1,8 @@
 // A sink in memory that fails where it is told to.
 
 ghost use Rattle.std.specs.Prelude.{◌≡◌, ◌≤◌, ◌⊎◌, [], OnOk, OnErr, None, Some, unwrap_or};
-ghost use Rattle.ct_outside.specs.Outside.{Rose, calls_after};
-ghost use Rattle.ct_outside.specs.InMemory.{planned, next_plan, after_write, after_failure};
+ghost use Rattle.ct_outside.specs.Outside.{Rose};
+ghost use Rattle.ct_outside.specs.InMemory.{planned, told_calls, next_plan, after_write, after_failure};
 
 use crate::sinks::{Failed, Sink};
 use ct_word::List;
@@ -78,7 +78,7 @@ impl Sink for MemSink {
 
     ghost taken = { λ s. Some s.bytes };
 
-    ghost calls = { λ s. calls_after (Some s.calls) 0 };
+    ghost calls = { λ s. told_calls s.calls };
 
     fn write(&mut self, bytes: &[u8]) -> Result<(), Failed>
         ensures later { self.old.faults ≤ self.new.faults }

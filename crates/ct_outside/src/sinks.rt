@@ -1,7 +1,7 @@
 // A sink of bytes, by what it took and what it tells of itself.
 
 ghost use Rattle.std.specs.Prelude.{◌≡◌, ◌≤◌, ℕ, List, Option, OnOk, OnErr};
-ghost use Rattle.ct_outside.specs.Outside.{Rose, Added, AddedFront, calls_after};
+ghost use Rattle.ct_outside.specs.Outside.{Rose, Added, AddedFront, Called};
 
 use thiserror::Error;
 
@@ -30,5 +30,5 @@ pub trait Sink {
         ensures failed { OnErr result (Rose (faults self.old) (faults self.new)) }
         ensures ok { OnOk result (Added (taken self.old) (taken self.new) bytes.now) }
         ensures err { OnErr result (AddedFront (taken self.old) (taken self.new) bytes.now) }
-        ensures calls { calls self.new ≡ calls_after (calls self.old) 1 };
+        ensures calls { Called (calls self.old) (calls self.new) 1 };
 }
