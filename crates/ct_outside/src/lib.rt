@@ -13,7 +13,7 @@ mod runtime;
 mod scripts;
 mod sinks;
 
-pub use drive::write_all;
+pub use drive::{Unread, read_all, write_all};
 pub use gates::{Gate, NoGate};
 pub use mem_scripts::MemScripts;
 pub use mem_sink::MemSink;
