@@ -1,0 +1,18 @@
+use Rattle.std.proofs.Common.{◌≡◌, ◌≤◌, length, map, take}
+use Rattle.std.specs.Prelude.{All}
+use Rattle.ct_outside.specs.Outside.{StillHolds, Added}
+use Rattle.ct_outside.specs.Reads.{HoldsAll, bytes_in}
+use Rattle.ct_outside.proofs.drive.read_all.Given as goal
+
+abbrev pub invariant-loop-name : goal.invariant-loop-name
+invariant-loop-name g l =
+    let S = g.S.Scripts in
+    let asked = take l.name-index (map (λ f. f.now) l.files) in
+    record {
+      later : S.faults l.fn.scripts ≤ S.faults l.scripts;
+      held : StillHolds (S.held l.fn.scripts) (S.held l.scripts);
+      names : Added (S.names l.fn.scripts) (S.names l.scripts) asked;
+      texts : HoldsAll (S.held l.fn.scripts) asked (bytes_in l.texts.items);
+      count : length l.texts.items ≡ l.name-index;
+      within : All (λ text. length text ≤ l.limit) (bytes_in l.texts.items);
+    }

@@ -1,0 +1,4 @@
+pub mod Outside
+pub mod Reads
+pub mod Writes
+pub mod InMemory

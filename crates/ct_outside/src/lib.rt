@@ -1,0 +1,24 @@
+//! What the top call meets outside itself: a source of scripts, a sink of lines, and a gate round each statement.
+//!
+//! Scripts and sinks count their faults and may tell what they hold and what they took (`specs/Outside.antt`),
+//! so that a call over them can say what it read and wrote.
+//! Each has an implementation in memory, which tells all, and one over the runtime, which tells nothing.
+#![tactic(auto)]
+
+mod drive;
+mod gates;
+mod mem_scripts;
+mod mem_sink;
+mod runtime;
+mod scripts;
+mod sinks;
+#[cfg(test)]
+mod tests;
+
+pub use drive::{Unread, read_all, write_all};
+pub use gates::{Gate, NoGate};
+pub use mem_scripts::MemScripts;
+pub use mem_sink::MemSink;
+pub use runtime::{FileScripts, StdSink};
+pub use scripts::{ReadError, Scripts};
+pub use sinks::{Failed, Sink};
