@@ -1,5 +1,5 @@
 -- Which bytes spell which token.
-use Rattle.std.specs.Prelude.{◌≡◌, ℕ, zero, suc, ℤ, pos, negsuc, ◌<◌, ◌≤◌, ◌⊎◌, Bool, true, false, not, ◌&&◌, ◌||◌, List, [], ◌∷◌, ◌++◌, map, flat_map, nat_eq, Option, Some, None, IsTrue, IsFalse, codes, if◌then◌else◌}
+use Rattle.std.specs.Prelude.{◌≡◌, ℕ, ℤ, pos, neg_ℤ, ◌≤◌, Bool, true, false, not, ◌&&◌, ◌||◌, List, [], ◌∷◌, ◌++◌, map, flat_map, nat_eq, Option, Some, None, IsTrue, IsFalse, codes, if◌then◌else◌}
 use Rattle.std.specs.List.{list_all, list_any}
 use Rattle.std.specs.Char.{to_ascii_lowercase}
 use Rattle.std.specs.Str.Parse.{digits_value}
@@ -20,10 +20,19 @@ begins_word b = is_letter (to_ascii_lowercase b)
 abbrev pub is_word_byte : ℕ → Bool
 is_word_byte b = begins_word b || is_digit b
 
+-- a byte that goes on in a comment: any but a line end
+abbrev pub is_comment_byte : ℕ → Bool
+is_comment_byte b = not (nat_eq b 10)
+
 -- whether the first byte is of a kind
 abbrev pub starts : (ℕ → Bool) → List ℕ → Bool
 starts is [] = false
 starts is (b ∷ bs) = is b
+
+-- whether a symbol begins at this byte before these
+abbrev pub begins_symbol : ℕ → List ℕ → Bool
+begins_symbol b r =
+    list_any (nat_eq b) (codes "(),.*=") || (nat_eq b 60 && starts (nat_eq 62) r) || (nat_eq b 33 && starts (nat_eq 61) r)
 
 -- a word's spelling: a letter or an underscore, then letters, digits and underscores
 abbrev pub is_spelling : List ℕ → Bool
@@ -52,8 +61,7 @@ sign_text false = []
 
 -- the number with this sign and size
 abbrev pub signed : Bool → ℕ → ℤ
-signed true zero = pos 0
-signed true (suc n) = negsuc n
+signed true n = neg_ℤ (pos n)
 signed false n = pos n
 
 -- the greatest size that a number of this sign has in 64 bits
@@ -64,7 +72,7 @@ greatest false = 9223372036854775807
 -- w spells a token, or a blank or a comment, which are none, where r follows
 pub data Spells : List ℕ → Option Lexeme → List ℕ → Type 0 where
   blank : {b : ℕ} {r : List ℕ} → IsTrue (is_blank b) → Spells (b ∷ []) None r
-  comment : {c r : List ℕ} → IsFalse (list_any (nat_eq 10) c) → (r ≡ []) ⊎ IsTrue (starts (nat_eq 10) r) → Spells (45 ∷ 45 ∷ c) None r
+  comment : {c r : List ℕ} → IsTrue (list_all is_comment_byte c) → IsFalse (starts is_comment_byte r) → Spells (45 ∷ 45 ∷ c) None r
   word : {w r : List ℕ} → IsTrue (is_spelling w) → IsFalse (starts is_word_byte r) → Spells w (Some (lexeme.Word (lowered w))) r
   number : {w r : List ℕ} (minus : Bool) (ds : List ℕ) → w ≡ sign_text minus ++ ds → IsTrue (are_digits ds) → IsFalse (starts is_digit r)
       → digits_value 10 ds ≤ greatest minus → Spells w (Some (lexeme.Number (signed minus (digits_value 10 ds)))) r

@@ -1,13 +1,12 @@
 -- The tokens of a text, and its leftmost fault.
-use Rattle.std.specs.Prelude.{◌≡◌, ℕ, ◌+◌, ◌<◌, Bool, ◌||◌, ◌&&◌, List, [], ◌∷◌, ◌++◌, length, nat_eq, Option, Some, None, IsTrue, IsFalse, codes}
-use Rattle.std.specs.List.{list_any}
+use Rattle.std.specs.Prelude.{◌≡◌, ℕ, ◌+◌, ◌<◌, Bool, ◌||◌, ◌&&◌, List, [], ◌∷◌, ◌++◌, length, nat_eq, Option, Some, None, IsTrue, IsFalse}
 use Rattle.std.specs.Str.Parse.{digits_value}
 use Rattle.ct_word.specs.Writable.{is_digit}
 use Rattle.ct_lex.specs.declared.token.Lexeme.{Lexeme}
 use Rattle.ct_lex.specs.declared.token.Token.{Token}
 use Rattle.ct_lex.specs.declared.token.LexError.{LexError}
 use Rattle.ct_lex.specs.declared.token.LexError.TheVariants as fault
-use Rattle.ct_lex.specs.Spelling.{Spells, is_blank, begins_word, starts, are_digits, doubled, sign_text, greatest}
+use Rattle.ct_lex.specs.Spelling.{Spells, is_blank, begins_word, begins_symbol, starts, are_digits, doubled, sign_text, greatest}
 
 -- the tokens of the bytes x, which stand at the place n of a text
 pub data LexesFrom : ℕ → List ℕ → List Token → Type 0 where
@@ -23,9 +22,8 @@ Lexes text tokens = LexesFrom 0 text tokens
 -- whether a blank, a comment or a token begins at this byte before these, a text without its end and a number out of range among them
 abbrev pub is_beginning : ℕ → List ℕ → Bool
 is_beginning b r =
-    is_blank b || begins_word b || is_digit b || list_any (nat_eq b) (codes "'(),.*=") || (nat_eq b 45 && starts (nat_eq 45) r)
-    || (nat_eq b 45 && starts is_digit r) || (nat_eq b 63 && starts begins_word r) || (nat_eq b 60 && starts (nat_eq 62) r)
-    || (nat_eq b 33 && starts (nat_eq 61) r)
+    is_blank b || begins_word b || is_digit b || nat_eq b 39 || (nat_eq b 45 && (starts (nat_eq 45) r || starts is_digit r))
+    || (nat_eq b 63 && starts begins_word r) || begins_symbol b r
 
 -- the fault at the front of the bytes
 pub data FaultsHere : List ℕ → LexError → Type 0 where

@@ -5,6 +5,10 @@
 //! `specs/Texts.antt` what the statement texts of a script are.
 #![tactic(auto)]
 
+mod front;
+mod lexing;
+mod scan;
 mod token;
 
+pub use lexing::tokens;
 pub use token::{LexError, Lexeme, Symbol, Token};

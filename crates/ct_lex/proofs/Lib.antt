@@ -1,0 +1,4 @@
+pub mod Fronts
+pub mod Literals
+pub mod Numbers
+pub mod Runs
