@@ -2,3 +2,4 @@ pub mod Fronts
 pub mod Literals
 pub mod Numbers
 pub mod Runs
+pub mod Readings
