@@ -1,0 +1,5 @@
+pub mod Fronts
+pub mod Literals
+pub mod Numbers
+pub mod Runs
+pub mod Readings

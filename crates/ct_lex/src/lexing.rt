@@ -1,0 +1,36 @@
+// The tokens of a text.
+
+ghost use Rattle.std.specs.Prelude.{◌≡◌, ◌≢◌, ℕ, List, IfOk, IfErr};
+ghost use Rattle.ct_lex.specs.Tokens.{Lexes, FaultsAt};
+ghost use Rattle.ct_lex.specs.declared.token.LexError.TheVariants as fault;
+
+use crate::front::front;
+use crate::token::{LexError, Token};
+use std::alloc::Global;
+
+/// The tokens of a text, in its order.
+///
+/// # Errors
+/// The leftmost fault of the text, or `Memory` where there is none for the tokens.
+pub fn tokens(alloc: Global, text: &str) -> Result<Vec<Token>, LexError>
+    ensures ok { IfOk result (λ v. Lexes text.now v.items) }
+    ensures only { IfOk result (λ v. (ts : List Token) → Lexes text.now ts → ts ≡ v.items) }
+    ensures fault { IfErr result (λ e. e ≢ fault.Memory → (place : ℕ) × FaultsAt text.now place e) }
+    ensures none { IfErr result (λ e. e ≢ fault.Memory → (ts : List Token) → Lexes text.now ts → ⊥) }
+{
+    let mut tokens = Vec::new(alloc);
+    let mut start = 0;
+    while start < text.len() {
+        let (lexeme, length) = front(alloc, &text[start..])?;
+        let end = start + length;
+        if let Some(word) = lexeme {
+            tokens.push(Token {
+                word,
+                start: start as u64,
+                end: end as u64,
+            })?;
+        }
+        start = end;
+    }
+    Ok(tokens)
+}
