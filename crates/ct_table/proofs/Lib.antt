@@ -1,3 +1,4 @@
 pub mod Growing
 pub mod Sets
 pub mod Denoting
+pub mod Shared

@@ -1,0 +1,99 @@
+// The tables of a database, each shared.
+
+ghost use Rattle.std.specs.Prelude.{◌≡◌, List, [], map, Some, None, IfOk, MatchOption, length};
+ghost use Rattle.std.specs.List.{IsDistinct};
+ghost use Rattle.std.specs.Arc.{arc_value};
+ghost use Rattle.ct_word.specs.Value.{same_text};
+ghost use Rattle.ct_table.specs.Denotes.{TableView, heading_of, find_table, with_table};
+ghost use Rattle.ct_table.specs.Shared.{view_of, entry_of};
+
+use crate::table::CTable;
+use ct_query::{Heading, Schema};
+use ct_word::{List, Memory, Text};
+use indexmap::IndexMap;
+use std::alloc::Global;
+use std::marker::Model;
+use std::sync::Arc;
+
+/// Tables by their names, in the order of their creation. Contracts see them as that list. Each table is shared with
+/// the databases that were made from this one.
+#[derive(Drop)]
+pub struct Db {
+    tables: IndexMap<Text, Arc<CTable, Global>>,
+}
+
+impl Model for Db {
+    ghost use Rattle.std.specs.Prelude.{List, ℕ, map, nat_eq};
+    ghost use Rattle.std.specs.Cmp.Lexicographic.{pointwise};
+    ghost use Rattle.indexmap.specs.IndexMap.{IsUnique};
+    ghost use Rattle.ct_table.specs.Denotes.{TableView};
+    ghost use Rattle.ct_table.specs.Shared.{entry_of};
+
+    ghost Value = { List TableView };
+
+    ghost view = { λ d. map entry_of d.tables.entries };
+
+    ghost invariant = { λ d. IsUnique (pointwise nat_eq) d.tables };
+}
+
+impl Db {
+    /// The database without tables. It takes no memory.
+    pub fn empty(alloc: Global) -> Db
+        ensures { result ≡ [] }
+    {
+        Db {
+            tables: IndexMap::new(alloc),
+        }
+    }
+
+    /// The table with this name; none where the name is not there.
+    pub fn get(&self, name: &str) -> Option<&CTable>
+        ensures { MatchOption result (find_table self.now name.now ≡ None) (λ t. find_table self.now name.now ≡ Some (view_of name.now t.now)) }
+    {
+        for (key, table) in self.tables.iter() {
+            if key.as_str() == name {
+                return Some(table);
+            }
+        }
+        None
+    }
+
+    /// The names and columns of the tables.
+    ///
+    /// # Errors
+    /// `Memory` where there is none for the copies.
+    pub fn schema(&self, alloc: Global) -> Result<Schema, Memory>
+        ensures { IfOk result (λ s. s.tables ≡ map heading_of self.now) }
+    {
+        let mut headings = Vec::new(alloc);
+        for (name, table) in self.tables.iter() {
+            headings.push(heading(name, table)?)?;
+        }
+        Ok(Schema {
+            tables: List::from_vec(headings),
+        })
+    }
+
+    /// The same tables with this one at its name's place, or last where the name is new. The others are shared.
+    ///
+    /// # Errors
+    /// `Memory` where there is none for the list of the tables.
+    pub fn with(&self, alloc: Global, name: Text, table: CTable) -> Result<Db, Memory>
+        ensures { IfOk result (λ db. db ≡ with_table self.now (view_of name table)) }
+    {
+        let mut tables = self.tables.clone()?;
+        let shared = Arc::new(alloc, table)?;
+        tables.insert(name, shared)?;
+        Ok(Db { tables })
+    }
+}
+
+/// The name and the columns of a table.
+fn heading(name: &Text, table: &CTable) -> Result<Heading, Memory>
+    ensures { IfOk result (λ h. h ≡ heading_of (view_of name.now table.now)) }
+{
+    Ok(Heading {
+        name: name.clone()?,
+        columns: table.columns.clone()?,
+    })
+}
