@@ -1,5 +1,5 @@
 -- What the types of a pass, a guest and the keeper's pass keep of their fields, while one session is enrolled.
-use Rattle.std.specs.Prelude.{◌≡◌, ℕ, ◌+◌, ◌≤◌, List, [], ◌∷◌, length, Option, Some, None}
+use Rattle.std.specs.Prelude.{◌≡◌, ℕ, ◌+◌, ◌<◌, ◌≤◌, ◌⊎◌, List, [], ◌∷◌, ◌++◌, length, Contains, Option, Some, None}
 use mathlib.Core.List.{IsPrefix}
 use Rattle.atomic_table.specs.Table.{Me}
 use Rattle.atomic_table.specs.Seated.{TableId}
@@ -35,6 +35,11 @@ pub record IsPass (log : LogName) (table : TableId) (me : Me ℕ View) (t : Coun
   pub longer : IsPrefix (given_of me.0) words
   pub commits : commits_of words ≡ commits_of (given_of me.0)
   pub sole : IsSole log.cap t words
+
+-- a list and a count stayed, or a word that did not stand in the list was put at its end, where there was room, and counted
+abbrev pub Puts : ℕ → List ℕ → List ℕ → ℕ → ℕ → ℕ → Type 0
+Puts room old new made made' w =
+    ((new ≡ old) × (made' ≡ made)) ⊎ ((new ≡ old ++ w ∷ []) × (made' ≡ made + 1) × ¬ (Contains old w) × (length old < room))
 
 -- what the keeper knows of its list at each stage of the session
 abbrev pub IsAtStage : ℕ → View → List ℕ → Stage → Type 0

@@ -39,6 +39,7 @@ impl Blank {
     ///
     /// # Errors
     /// `Memory` where there is none for the log or for the keeper's list of it.
+    #[tactic(auto, unfolding(crate::specs::Counts::opening))]
     pub fn make(alloc: Global, cap: u32) -> Result<Blank, Memory>
         requires least { 64 ≤ cap }
         requires most { cap ≤ 4194304 }

@@ -122,5 +122,6 @@ impl<N: Site> Pass<N> {
         ensures alone { self.new ≡ self.old }
     {
         let _ = arena;
+        let _ = &self.seen;
     }
 }

@@ -67,15 +67,16 @@ meanings_snoc ws w = read_snoc [] ws w where
   read_snoc ms [] w = refl
   read_snoc ms (x ∷ ws) w = read_snoc (ms ++ meaning_of ms x ∷ []) ws w
 
-true_left : (a b : Bool) → IsTrue (a && b) → IsTrue a
+-- the parts of a test of two
+pub true_left : (a b : Bool) → IsTrue (a && b) → IsTrue a
 true_left true b e = refl
 true_left false b e = e
 
-true_right : (a b : Bool) → IsTrue (a && b) → IsTrue b
+pub true_right : (a b : Bool) → IsTrue (a && b) → IsTrue b
 true_right true b e = e
 true_right false b e = absurd (true≢false (sym e))
 
-true_both : (a b : Bool) → IsTrue a → IsTrue b → IsTrue (a && b)
+pub true_both : (a b : Bool) → IsTrue a → IsTrue b → IsTrue (a && b)
 true_both true b e f = f
 true_both false b e f = e
 

@@ -1,0 +1,4 @@
+pub mod Hands
+pub mod Lookup
+pub mod Sole
+pub mod Stages

@@ -1,0 +1,161 @@
+-- What is true of the words of a log stays true as words are put at their end.
+use Rattle.std.proofs.Common.{◌≡◌, ℕ, zero, suc, ◌+◌, ◌*◌, ◌/◌, ◌%◌, ◌<◌, ◌≤◌, ◌^◌, List, [], ◌∷◌, ◌++◌, length, Bool, true, false, refl, sym, ap, ◌∙◌, subst, arith, length-append, add-zero, eq-eqb, inl, inr}
+use Rattle.std.specs.Prelude.{IsTrue, Contains, All, nat_eq, if◌then◌else◌}
+use Rattle.std.specs.List.{range_with_len}
+use Rattle.std.proofs.lemmas.List.{append_assoc, append-nil}
+use Rattle.std.proofs.lemmas.List.Elements.{All-push}
+use mathlib.Core.List.{IsPrefix}
+use Rattle.ct_word.specs.declared.kinds.Kind.TheVariants as kind
+use Rattle.ct_word.specs.declared.kinds.Class.TheVariants as class
+use Rattle.ct_word.specs.Change.{PlainCommit}
+use Rattle.ct_word.specs.Reading.{commits_of, change_list_at}
+use Rattle.ct_word.specs.WellFormed.{is_plain_word, is_word_after, is_place_of}
+use Rattle.ct_word.proofs.Packed.{formed_snoc}
+use Rattle.ct_word.proofs.Commits.{HoldsCommit, commits_plain, commits_commit, plain_follows, commit_follows, commit_stands}
+use Rattle.ct_arena.specs.declared.tally.Counts.{Counts}
+use Rattle.ct_arena.specs.Counts.{opening, IsLog, AreNumbered, AreOfSessions, numbers_by, commit_word, commit_of}
+use Rattle.atomic_table.specs.Table.{Me}
+use Rattle.atomic_table.specs.Seated.{TableId}
+use Rattle.ct_arena.specs.declared.handing.View.{View}
+use Rattle.ct_arena.specs.Name.{LogName}
+use Rattle.ct_arena.specs.Seen.{CountsWord, StandsLast}
+use Rattle.ct_arena.specs.Handing.{given_of}
+use Rattle.ct_arena.specs.Kept.{IsSole, IsPass, Puts}
+use Rattle.ct_arena.proofs.Lookup.{get_last}
+
+pub prefix_push : (xs ys : List ℕ) (w : ℕ) → IsPrefix xs ys → IsPrefix xs (ys ++ w ∷ [])
+prefix_push xs ys w p = (p.0 ++ w ∷ [], sym (append_assoc xs p.0 (w ∷ [])) ∙ ap (λ l. l ++ w ∷ []) p.1)
+
+pub prefix_trans : (xs ys zs : List ℕ) → IsPrefix xs ys → IsPrefix ys zs → IsPrefix xs zs
+prefix_trans xs ys zs p q = (p.0 ++ q.0, sym (append_assoc xs p.0 q.0) ∙ ap (λ l. l ++ q.0) p.1 ∙ q.1)
+
+range_push : (a n : ℕ) → range_with_len a (suc n) ≡ range_with_len a n ++ (a + n) ∷ []
+range_push a zero = rw add-zero refl
+range_push a (suc n) =
+    let e : (a + 1) + n ≡ a + suc n = omega arith in
+    ap (λ l. a ∷ l) (range_push (a + 1) n) ∙ ap (λ m. a ∷ (range_with_len (a + 1) n ++ m ∷ [])) e
+
+range_next : (m n : ℕ) → n ≡ m + 1 → range_with_len 0 m ++ m ∷ [] ≡ range_with_len 0 n
+range_next m n e =
+    let same : 0 + m ≡ m = omega arith in
+    let more : suc m ≡ n = omega arith in
+    ap (λ k. range_with_len 0 m ++ k ∷ []) (sym same) ∙ sym (range_push 0 m) ∙ ap (range_with_len 0) more
+
+in_range : (n a m : ℕ) (xs ys : List ℕ) → xs ++ m ∷ ys ≡ range_with_len a n → m < a + n
+in_range zero a m [] ys e = absurd (cc)
+in_range zero a m (x ∷ xs) ys e = absurd (cc)
+in_range (suc n) a m [] ys e = let same : m ≡ a = cc in omega arith
+in_range (suc n) a m (x ∷ xs) ys e = let rest : xs ++ m ∷ ys ≡ range_with_len (a + 1) n = cc in let lt = in_range n (a + 1) m xs ys rest in omega arith
+
+numbers_append : (s : ℕ) (cs ds : List PlainCommit) → numbers_by s (cs ++ ds) ≡ numbers_by s cs ++ numbers_by s ds
+numbers_append s [] ds = refl
+numbers_append s (c ∷ cs) ds = by_test (nat_eq c.session s) (numbers_append s cs ds) where
+  by_test : (b : Bool) → numbers_by s (cs ++ ds) ≡ numbers_by s cs ++ numbers_by s ds
+      → (if b then c.number ∷ numbers_by s (cs ++ ds) else numbers_by s (cs ++ ds)) ≡ (if b then c.number ∷ numbers_by s cs else numbers_by s cs) ++ numbers_by s ds
+  by_test true rest = ap (λ l. c.number ∷ l) rest
+  by_test false rest = rest
+
+numbers_own : (s : ℕ) (c : PlainCommit) (cs : List PlainCommit) → c.session ≡ s → numbers_by s (c ∷ cs) ≡ c.number ∷ numbers_by s cs
+numbers_own s c cs e = rw (eq-eqb c.session s e) refl
+
+-- a session that has committed so often has no commit of the next number
+fresh : (s m b : ℕ) (ws : List ℕ) → s ≤ 1023 → m < 2 ^ 18 → b < 2 ^ 28 → AreNumbered s m ws → Contains ws (commit_word s m b) → ⊥
+fresh s m b ws sl ml bl numbered there =
+    let al : s * 262144 + m < 2 ^ 28 = omega arith in
+    let h = commit_stands ws (s * 262144 + m) b al bl there in
+    let is_s : h.commit.session ≡ s = h.session_is ∙ omega arith in
+    let is_m : h.commit.number ≡ m = h.number_is ∙ omega arith in
+    let split : numbers_by s (commits_of ws) ≡ numbers_by s h.before ++ h.commit.number ∷ numbers_by s h.after =
+    ap (numbers_by s) h.whole ∙ numbers_append s h.before (h.commit ∷ h.after) ∙ ap (λ l. numbers_by s h.before ++ l) (numbers_own s h.commit h.after is_s) in
+    let lt : h.commit.number < 0 + m = in_range m 0 h.commit.number _ _ (sym split ∙ numbered) in
+    omega arith
+
+log_push : (room : ℕ) (ws : List ℕ) (w : ℕ) → IsLog room ws → IsTrue (is_word_after ws w) → length ws < room → IsLog room (ws ++ w ∷ [])
+log_push room ws w log after lt = record {
+  formed = formed_snoc ws w log.formed after;
+  room = omega (arith, length-append ws (w ∷ []));
+  begins = prefix_push opening ws w log.begins;
+}
+
+-- the counts after a plain word
+abbrev pub counted : Counts → Counts
+counted t = record { session = t.session; made = t.made + 1; mine = t.mine }
+
+-- the counts after a commit
+abbrev pub committed : Counts → Counts
+committed t = record { session = t.session; made = t.made + 1; mine = t.mine + 1 }
+
+pub sole_plain : (room : ℕ) (t : Counts) (ws : List ℕ) (w : ℕ) → IsSole room t ws → IsTrue (is_plain_word ws w) → (Contains ws w → ⊥) → length ws < room → IsSole room (counted t) (ws ++ w ∷ [])
+sole_plain room t ws w sole plain absent lt =
+    let same = commits_plain ws w plain in
+    record {
+      log = log_push room ws w sole.log (plain_follows ws w plain absent) lt;
+      first = sole.first;
+      counted = omega (arith, length-append ws (w ∷ []), sole.counted);
+      numbered = ap (numbers_by t.session) same ∙ sole.numbered;
+      known = subst (λ cs. All (λ c. (1 ≤ c.session) × (c.session ≤ 1)) cs) (sym same) sole.known;
+    }
+
+-- the commit that a commit word adds
+pub commits_grow : (s m b : ℕ) (ws : List ℕ) → s ≤ 1023 → m < 2 ^ 18 → b < 2 ^ 28 → commits_of (ws ++ commit_word s m b ∷ []) ≡ commits_of ws ++ commit_of ws s m b ∷ []
+commits_grow s m b ws sl ml bl =
+    let al : s * 262144 + m < 2 ^ 28 = omega arith in
+    let is_s : (s * 262144 + m) / 262144 ≡ s = omega arith in
+    let is_m : (s * 262144 + m) % 262144 ≡ m = omega arith in
+    commits_commit ws (s * 262144 + m) b al bl ∙ (λ i. commits_of ws ++ record { session = is_s i; number = is_m i; changes = change_list_at ws b } ∷ [])
+
+pub sole_commit : (room : ℕ) (t : Counts) (ws : List ℕ) (b : ℕ) → IsSole room t ws → t.mine < 2 ^ 18 → b < 2 ^ 28 → IsTrue (is_place_of ws class.ChangeList b) → length ws < room
+    → IsSole room (committed t) (ws ++ commit_word t.session t.mine b ∷ [])
+sole_commit room t ws b sole ml bl list lt =
+    let sl : t.session ≤ 1023 = omega (arith, sole.first) in
+    let al : t.session * 262144 + t.mine < 2 ^ 28 = omega arith in
+    let w = commit_word t.session t.mine b in
+    let grow = commits_grow t.session t.mine b ws sl ml bl in
+    record {
+      log = log_push room ws w sole.log (commit_follows ws (t.session * 262144 + t.mine) b al bl list (fresh t.session t.mine b ws sl ml bl sole.numbered)) lt;
+      first = sole.first;
+      counted = omega (arith, length-append ws (w ∷ []), sole.counted);
+      numbered =
+          ap (numbers_by t.session) grow ∙ numbers_append t.session (commits_of ws) _ ∙ (λ i. sole.numbered i ++ numbers_own t.session (commit_of ws t.session t.mine b) [] refl i)
+          ∙ range_next t.mine (t.mine + 1) refl;
+      known =
+          let own : (1 ≤ t.session) × (t.session ≤ 1) = (omega (arith, sole.first), omega (arith, sole.first)) in
+          subst (λ cs. All (λ c. (1 ≤ c.session) × (c.session ≤ 1)) cs) (sym grow) (All-push (λ c. (1 ≤ c.session) × (c.session ≤ 1)) (commits_of ws) (commit_of ws t.session t.mine b) sole.known own);
+    }
+
+-- a list that grew by a word that was put in is still of one session
+pub sole_put : (room : ℕ) (t : Counts) (ws ws' : List ℕ) (made w : ℕ) → IsSole room t ws → IsTrue (is_plain_word ws w) → Puts room ws ws' t.made made w
+    → IsSole room (record { session = t.session; made = made; mine = t.mine }) ws'
+sole_put room t ws ws' made w sole plain (inl same) =
+    let e : t ≡ record { session = t.session; made = made; mine = t.mine } = (λ i. record { session = t.session; made = sym same.1 i; mine = t.mine }) in
+    subst (λ x. IsSole room x ws') e (subst (λ l. IsSole room t l) (sym same.0) sole)
+sole_put room t ws ws' made w sole plain (inr more) =
+    let e : counted t ≡ record { session = t.session; made = made; mine = t.mine } = (λ i. record { session = t.session; made = sym more.1 i; mine = t.mine }) in
+    subst (λ x. IsSole room x ws') e (subst (λ l. IsSole room (counted t) l) (sym more.0) (sole_plain room t ws w sole plain more.2 more.3))
+
+pub longer_put : (room : ℕ) (ws ws' : List ℕ) (old new w : ℕ) → Puts room ws ws' old new w → IsPrefix ws ws'
+longer_put room ws ws' old new w (inl same) = ([], append-nil ws ∙ sym same.0)
+longer_put room ws ws' old new w (inr more) = (w ∷ [], sym more.0)
+
+pub counts_put : (room : ℕ) (ws ws' : List ℕ) (old new w : ℕ) → Puts room ws ws' old new w → CountsWord old new ws' w
+counts_put room ws ws' old new w (inl same) = inl same.1
+counts_put room ws ws' old new w (inr more) =
+    inr (more.1, (length ws, rw (more.0) (record { stands = get_last ws w (length ws) refl; last = omega (arith, length-append ws (w ∷ [])) })))
+
+pub commits_put : (room : ℕ) (ws ws' : List ℕ) (old new w : ℕ) → IsTrue (is_plain_word ws w) → Puts room ws ws' old new w → commits_of ws' ≡ commits_of ws
+commits_put room ws ws' old new w plain (inl same) = ap commits_of same.0
+commits_put room ws ws' old new w plain (inr more) = ap commits_of more.0 ∙ commits_plain ws w plain
+
+-- a pass whose list grew so is still a pass
+pub pass_put : (log : LogName) (table : TableId) (me : Me ℕ View) (t : Counts) (ws ws' : List ℕ) (made w : ℕ) → IsPass log table me t ws → IsTrue (is_plain_word ws w) → Puts log.cap ws ws' t.made made w
+    → IsPass log table me (record { session = t.session; made = made; mine = t.mine }) ws'
+pass_put log table me t ws ws' made w pass plain puts = record {
+  named = pass.named;
+  given = pass.given;
+  longer = prefix_trans (given_of me.0) ws ws' pass.longer (longer_put log.cap ws ws' t.made made w puts);
+  commits = commits_put log.cap ws ws' t.made made w plain puts ∙ pass.commits;
+  sole = sole_put log.cap t ws ws' made w pass.sole plain puts;
+}
+
+pub stands_last : (ws : List ℕ) (w place : ℕ) → place ≡ length ws → StandsLast (ws ++ w ∷ []) place w
+stands_last ws w place e = record { stands = get_last ws w place e; last = omega (arith, length-append ws (w ∷ [])) }
