@@ -3,3 +3,4 @@ pub mod Literals
 pub mod Numbers
 pub mod Runs
 pub mod Readings
+pub mod Steps

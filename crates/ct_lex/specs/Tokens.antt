@@ -1,5 +1,5 @@
 -- The tokens of a text, and its leftmost fault.
-use Rattle.std.specs.Prelude.{◌≡◌, ℕ, ◌+◌, ◌<◌, Bool, ◌||◌, ◌&&◌, List, [], ◌∷◌, ◌++◌, length, nat_eq, Option, Some, None, IsTrue, IsFalse}
+use Rattle.std.specs.Prelude.{◌≡◌, ℕ, ◌+◌, ◌<◌, ◌≤◌, Bool, ◌||◌, ◌&&◌, List, [], ◌∷◌, ◌++◌, length, drop, slice_range, nat_eq, Option, Some, None, IsTrue, IsFalse}
 use Rattle.std.specs.Str.Parse.{digits_value}
 use Rattle.ct_word.specs.Writable.{is_digit}
 use Rattle.ct_lex.specs.declared.token.Lexeme.{Lexeme}
@@ -18,6 +18,16 @@ pub data LexesFrom : ℕ → List ℕ → List Token → Type 0 where
 -- the tokens of a text
 abbrev pub Lexes : List ℕ → List Token → Type 0
 Lexes text tokens = LexesFrom 0 text tokens
+
+-- from the place n on the spans rise within the text, and each token's slice spells it before what follows
+abbrev pub AreSlicesFrom : ℕ → List ℕ → List Token → Type 0
+AreSlicesFrom n text [] = Unit {0}
+AreSlicesFrom n text (t ∷ ts) =
+    (n ≤ t.start) × (t.start < t.end) × (t.end ≤ length text) × Spells (slice_range text t.start t.end) (Some t.word) (drop t.end text) × AreSlicesFrom t.end text ts
+
+-- the spans rise, and each token's text is its slice
+abbrev pub AreSlices : List ℕ → List Token → Type 0
+AreSlices text tokens = AreSlicesFrom 0 text tokens
 
 -- whether a blank, a comment or a token begins at this byte before these, a text without its end and a number out of range among them
 abbrev pub is_beginning : ℕ → List ℕ → Bool

@@ -1,7 +1,7 @@
 // The tokens of a text.
 
 ghost use Rattle.std.specs.Prelude.{◌≡◌, ◌≢◌, ℕ, List, IfOk, IfErr};
-ghost use Rattle.ct_lex.specs.Tokens.{Lexes, FaultsAt};
+ghost use Rattle.ct_lex.specs.Tokens.{Lexes, AreSlices, FaultsAt};
 ghost use Rattle.ct_lex.specs.declared.token.LexError.TheVariants as fault;
 
 use crate::front::front;
@@ -14,8 +14,13 @@ use std::alloc::Global;
 /// The leftmost fault of the text, or `Memory` where there is none for the tokens.
 pub fn tokens(alloc: Global, text: &str) -> Result<Vec<Token>, LexError>
     ensures ok { IfOk result (λ v. Lexes text.now v.items) }
-    ensures only { IfOk result (λ v. (ts : List Token) → Lexes text.now ts → ts ≡ v.items) }
+    ensures slices { IfOk result (λ v. AreSlices text.now v.items) }
     ensures fault { IfErr result (λ e. e ≢ fault.Memory → (place : ℕ) × FaultsAt text.now place e) }
+
+    // There are no other tokens, and no other fault.
+    ensures only { IfOk result (λ v. (ts : List Token) → Lexes text.now ts → ts ≡ v.items) }
+    ensures clean { IfOk result (λ v. (place : ℕ) (e : LexError) → FaultsAt text.now place e → ⊥) }
+    ensures leftmost { IfErr result (λ e. e ≢ fault.Memory → (place : ℕ) (f : LexError) → FaultsAt text.now place f → f ≡ e) }
     ensures none { IfErr result (λ e. e ≢ fault.Memory → (ts : List Token) → Lexes text.now ts → ⊥) }
 {
     let mut tokens = Vec::new(alloc);
