@@ -1,3 +1,4 @@
 pub mod Nodes
 pub mod History
 pub mod StandsFor
+pub mod Words

@@ -7,7 +7,9 @@
 mod answer;
 mod form;
 mod history;
+mod reading;
 
 pub use answer::{AnswerRow, Node, PossibleRow};
 pub use form::Normal;
 pub use history::{Change, Commit};
+pub use reading::{term_at, text_at};
