@@ -1,12 +1,11 @@
 -- What the words of texts and numbers stand for.
-use Rattle.std.proofs.Common.{◌≡◌, ℕ, ℤ, pos, suc, ◌+◌, ◌-◌, ◌*◌, ◌<◌, ◌^◌, cond, nat_lt, arith, w64, to_z, of_z, Bool, true, false, List, [], ◌∷◌, ◌++◌, Some, refl, ap, sym, ◌∙◌, subst, append_assoc, append-nil}
+use Rattle.std.proofs.Common.{◌≡◌, ℕ, ℤ, pos, suc, ◌+◌, ◌-◌, ◌*◌, ◌<◌, ◌^◌, cond, nat_lt, arith, w64, to_z, of_z, Bool, true, false, List, [], ◌∷◌, ◌++◌, refl, ap, sym, ◌∙◌, subst, append_assoc, append-nil}
 use Rattle.std.specs.Prelude.{slice_get, IsTrue, encode_utf8, negsuc}
 use mir.Val.{sel}
 use Rattle.std.proofs.lemmas.Int.{of_z-to_z}
 use Rattle.std.proofs.lemmas.Bool.{false≢true}
 use Rattle.ct_word.specs.declared.kinds.Kind.{Kind}
 use Rattle.ct_word.specs.declared.kinds.Kind.TheVariants as kind
-use Rattle.ct_word.specs.declared.kinds.Class.{Class}
 use Rattle.ct_word.specs.declared.kinds.Class.TheVariants as class
 use Rattle.ct_word.specs.WellFormed.{Scalar, fits, is_place_of, same_class, class_of}
 use Rattle.ct_word.specs.Reading.{meanings, as_text, as_high, int_of_bits}
@@ -24,7 +23,7 @@ end_kind kind.TextEnd e f = refl
 end_kind kind.TextCharacter e f = absurd (f refl)
 end_kind _ e f = absurd (false≢true e)
 
-of_kind : (ws : List ℕ) (p : ℕ) (w : Word) (k : Kind) → w.kind ≡ k → IsWordAt ws p w → IsWordAt ws p (record { kind = k; left = w.left; right = w.right })
+pub of_kind : (ws : List ℕ) (p : ℕ) (w : Word) (k : Kind) → w.kind ≡ k → IsWordAt ws p w → IsWordAt ws p (record { kind = k; left = w.left; right = w.right })
 of_kind ws p w k e h = subst (λ x. IsWordAt ws p (record { kind = x; left = w.left; right = w.right })) e h
 
 module _ (ws : List ℕ) (p : ℕ) (w : Word) (is : IsWordAt ws p w) where

@@ -1,5 +1,5 @@
 -- What well formed words say of the word at a place.
-use Rattle.std.proofs.Common.{◌≡◌, ℕ, zero, suc, ◌+◌, ◌<◌, ◌^◌, Bool, true, false, not, ◌&&◌, List, [], ◌∷◌, ◌++◌, length, take, drop, Option, Some, None, nat_lt, refl, ap, sym, ◌∙◌, subst, arith, append_assoc, append-nil}
+use Rattle.std.proofs.Common.{◌≡◌, ℕ, zero, suc, ◌<◌, ◌^◌, List, [], ◌∷◌, ◌++◌, length, take, drop, Some, None, refl, ap, sym, ◌∙◌, subst, arith, append_assoc, append-nil}
 use Rattle.std.specs.Prelude.{slice_get, IsTrue}
 use Rattle.std.proofs.lemmas.Bool.{and_parts, false≢true}
 use Rattle.std.proofs.lemmas.List.{take-append-drop}
@@ -7,11 +7,10 @@ use Rattle.ct_word.specs.declared.kinds.Kind.{Kind}
 use Rattle.ct_word.specs.declared.kinds.Kind.TheVariants as kind
 use Rattle.ct_word.specs.declared.kinds.Class.{Class}
 use Rattle.ct_word.specs.Word.{kind_of, left_of, right_of}
-use Rattle.ct_word.specs.WellFormed.{IsWellFormed, each_follows, is_word_after, is_formed_as, Field, Zero, Any, Byte, Scalar, Session, Positive, PlaceOf, fields_of, fits, is_place_of, is_word_of, has_class}
+use Rattle.ct_word.specs.WellFormed.{IsWellFormed, each_follows, is_word_after, is_formed_as, Field, PlaceOf, fields_of, fits, is_place_of, is_word_of, has_class}
 use Rattle.ct_word.specs.Reading.{Meaning, meaning_of, by_kind, meanings}
 use Rattle.ct_word.proofs.Growth.{meaning_grows}
 use Rattle.ct_word.proofs.Places.{meaning_at}
-use Rattle.ct_rewrite.specs.declared.reading.Word.{Word}
 use Rattle.ct_rewrite.specs.Words.{IsFieldAt, IsWordAt}
 
 -- each word may follow those before it
@@ -89,3 +88,9 @@ module _ (ws : List ℕ) (k : ℕ) where
         left_short = l;
         right_short = r;
       }
+
+-- a place of a class lies within the words
+pub place_within : (ws : List ℕ) (c : Class) (p : ℕ) → IsTrue (is_place_of ws c p) → p < length ws
+place_within [] c p e = absurd (false≢true e)
+place_within (w ∷ ws) c zero e = omega arith
+place_within (w ∷ ws) c (suc p) e = omega (arith, place_within ws c p e)

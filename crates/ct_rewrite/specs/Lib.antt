@@ -2,3 +2,5 @@ pub mod Nodes
 pub mod History
 pub mod StandsFor
 pub mod Words
+pub mod Building
+pub mod Signs

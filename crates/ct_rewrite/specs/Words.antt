@@ -1,7 +1,7 @@
 -- A word of a well formed list, taken apart.
-use Rattle.std.specs.Prelude.{◌≡◌, ℕ, ◌<◌, ◌^◌, List, [], ◌∷◌, ◌++◌, Option, Some, None, IsTrue, slice_get, encode_utf8}
+use Rattle.std.specs.Prelude.{◌≡◌, ℕ, ◌<◌, ◌^◌, List, [], ◌∷◌, ◌++◌, Some, IsTrue, slice_get, encode_utf8}
 use Rattle.ct_word.specs.declared.kinds.Class.{Class}
-use Rattle.ct_word.specs.WellFormed.{Field, Zero, Any, Byte, Scalar, Session, Positive, PlaceOf, fields_of, fits, is_place_of, same_class, class_of}
+use Rattle.ct_word.specs.WellFormed.{Field, PlaceOf, fields_of, fits, is_place_of, same_class, class_of}
 use Rattle.ct_word.specs.Reading.{meanings, by_kind, as_text}
 use Rattle.ct_rewrite.specs.declared.reading.Word.{Word}
 

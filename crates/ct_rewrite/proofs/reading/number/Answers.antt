@@ -1,4 +1,4 @@
-use Rattle.std.proofs.Common.{refl, arith, ◌*◌, ◌+◌, ◌<◌, ◌^◌}
+use Rattle.std.proofs.Common.{refl, arith}
 use Rattle.ct_rewrite.proofs.Texts.{high_bits, number_of_bits}
 use Rattle.ct_rewrite.proofs.reading.number.Goals as goal
 

@@ -1,5 +1,4 @@
 use Rattle.std.proofs.Common.{◌++◌, ◌∙◌, ap}
-use Rattle.std.specs.Prelude.{encode_utf8}
 use Rattle.ct_rewrite.specs.Words.{text_at, backwards}
 use Rattle.ct_rewrite.proofs.Texts.{longer, taken_off}
 use Rattle.ct_rewrite.proofs.reading.text_at.Goals as goal
