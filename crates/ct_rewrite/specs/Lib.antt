@@ -1,3 +1,6 @@
 pub mod Nodes
 pub mod History
 pub mod StandsFor
+pub mod Words
+pub mod Building
+pub mod Signs

@@ -1,6 +1,8 @@
 -- A position of a node list, read as a condition.
-use Rattle.std.specs.Prelude.{ℕ, ◌&&◌, ◌+◌, Bool, true, List, [], ◌∷◌, ◌++◌, map, length, nat_lt, IsTrue, slice_index_or}
+use Rattle.std.specs.Prelude.{ℕ, ◌&&◌, ◌+◌, Bool, true, false, nat_eq, List, [], ◌∷◌, ◌++◌, map, length, nat_lt, IsTrue, slice_index_or}
 use Rattle.std.specs.List.{list_all}
+use Rattle.std.specs.Cmp.Lexicographic.{pointwise}
+use Rattle.ct_word.specs.Value.{same_term}
 use Rattle.ct_word.specs.Condition.{Condition, True, False, Same, Not, And, Or, listed}
 use Rattle.ct_rewrite.specs.declared.answer.Node.{Node}
 use Rattle.ct_rewrite.specs.declared.answer.Node.TheVariants as node
@@ -22,6 +24,10 @@ condition_of_node before (node.Or ks) = Or (listed (map (nth before) ks))
 abbrev pub read_nodes : List Condition → List Node → List Condition
 read_nodes before [] = before
 read_nodes before (n ∷ ns) = read_nodes (before ++ condition_of_node before n ∷ []) ns
+
+-- the condition that a node put behind these nodes is
+abbrev pub node_value : List Node → Node → Condition
+node_value nodes n = condition_of_node (read_nodes [] nodes) n
 
 -- the condition at a position of a node list
 abbrev pub node_condition : List Node → ℕ → Condition
@@ -49,3 +55,13 @@ IsOrdered nodes = IsTrue (are_ordered_from 0 nodes)
 -- whether a position lies in a node list
 abbrev pub is_position : List Node → ℕ → Bool
 is_position nodes k = nat_lt k (length nodes)
+
+-- whether two nodes are written alike
+abbrev pub same_node : Node → Node → Bool
+same_node node.True node.True = true
+same_node node.False node.False = true
+same_node (node.Eq s t) (node.Eq u w) = same_term s u && same_term t w
+same_node (node.Ne s t) (node.Ne u w) = same_term s u && same_term t w
+same_node (node.And ks) (node.And ls) = pointwise nat_eq ks ls
+same_node (node.Or ks) (node.Or ls) = pointwise nat_eq ks ls
+same_node _ _ = false

@@ -3,7 +3,7 @@
 use ct_word::{List, Term, World};
 
 /// A condition over earlier nodes of its list.
-#[derive(Drop, PartialEq, Eq)]
+#[derive(Drop, PartialEq, Eq, Hash)]
 pub enum Node {
     True,
     False,

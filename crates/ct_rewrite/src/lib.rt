@@ -5,9 +5,15 @@
 #![tactic(auto)]
 
 mod answer;
+mod builder;
 mod form;
+mod forms;
 mod history;
+mod printed;
+mod reading;
 
 pub use answer::{AnswerRow, Node, PossibleRow};
 pub use form::Normal;
 pub use history::{Change, Commit};
+pub use printed::normal;
+pub use reading::{term_at, text_at};

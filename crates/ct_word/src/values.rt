@@ -4,7 +4,7 @@ use crate::lists::List;
 use crate::texts::Text;
 
 /// A value of the domain.
-#[derive(Drop, PartialEq, Eq)]
+#[derive(Drop, PartialEq, Eq, Hash)]
 pub enum Value {
     Int(i64),
     Text(Text),
@@ -12,14 +12,14 @@ pub enum Value {
 }
 
 /// A marked null: named by its text, or by the session that drew it and its number there.
-#[derive(Drop, PartialEq, Eq)]
+#[derive(Drop, PartialEq, Eq, Hash)]
 pub enum Null {
     Named(Text),
     Fresh { session: u32, number: u32 },
 }
 
 /// What stands in a cell or a condition.
-#[derive(Drop, PartialEq, Eq)]
+#[derive(Drop, PartialEq, Eq, Hash)]
 pub enum Term {
     Column(u32),
     Null(Null),

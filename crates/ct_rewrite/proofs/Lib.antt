@@ -1,0 +1,6 @@
+pub mod Words
+pub mod Texts
+pub mod Nodes
+pub mod Building
+pub mod Signs
+pub mod Conditions

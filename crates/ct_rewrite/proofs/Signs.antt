@@ -1,0 +1,90 @@
+-- What the forms of conditions say.
+use Rattle.std.proofs.Common.{◌≡◌, ℕ, ◌<◌, Bool, true, false, not, ◌&&◌, ◌||◌, List, ◌++◌, length, refl, ap, sym, ◌∙◌, subst, arith, length-append, append_assoc}
+use Rattle.ct_word.specs.declared.values.Value.{Value}
+use Rattle.ct_word.specs.declared.values.Term.{Term}
+use Rattle.ct_word.specs.Value.{World}
+use Rattle.ct_word.specs.Condition.{Condition, Same, Not, holds, SameTruth}
+use Rattle.ct_rewrite.specs.declared.answer.Node.{Node}
+use Rattle.ct_rewrite.specs.declared.builder.Connective.{Connective}
+use Rattle.ct_rewrite.specs.declared.builder.Connective.TheVariants as connective
+use Rattle.ct_rewrite.specs.declared.forms.Form.{Form}
+use Rattle.ct_rewrite.specs.Nodes.{node_condition}
+use Rattle.ct_rewrite.specs.Building.{Grows, Says, literal, joined, dual}
+use Rattle.ct_rewrite.specs.Signs.{IsForm}
+use Rattle.ct_rewrite.proofs.Nodes.{condition_stays}
+
+longer : (ns ms added : List Node) (k : ℕ) → ms ≡ ns ++ added → k < length ns → k < length ms
+longer ns ms added k e lt = subst (λ (xs : List Node). k < length xs) (sym e) (omega (arith, length-append ns added))
+
+-- a position says what it said when nodes are put at the end
+pub still_says : (ns ms : List Node) (k : ℕ) (c : Condition) → Grows ns ms → Says ns k c → Says ms k c
+still_says ns ms k c g h = record {
+  within = longer ns ms g.added k g.is h.within;
+  truth = λ v row. ap (λ xs. holds v row (node_condition xs k)) g.is ∙ ap (holds v row) (condition_stays ns g.added k h.within) ∙ h.truth v row;
+}
+
+pub still_form : (ns ms : List Node) (f : Form) (c : Condition) → Grows ns ms → IsForm ns f c → IsForm ms f c
+still_form ns ms f c g h = record { plus = still_says ns ms f.plus c g h.plus; minus = still_says ns ms f.minus (Not c) g h.minus }
+
+says_like : (ns : List Node) (k : ℕ) (c d : Condition) → SameTruth c d → Says ns k c → Says ns k d
+says_like ns k c d e h = record { within = h.within; truth = λ v row. h.truth v row ∙ e v row }
+
+not_literal : (b : Bool) → SameTruth (literal (not b)) (Not (literal b))
+not_literal true v row = refl
+not_literal false v row = refl
+
+-- true or false
+pub literal_form_is : (ns ms : List Node) (b : Bool) (k m : ℕ) → Grows ns ms → Says ns k (literal b) → Says ms m (literal (not b)) → IsForm ms (record { plus = k; minus = m }) (literal b)
+literal_form_is ns ms b k m g h i = record { plus = still_says ns ms k _ g h; minus = says_like ms m (literal (not b)) (Not (literal b)) (not_literal b) i }
+
+-- a condition and its denial
+pub form_is : (ns ms : List Node) (c : Condition) (k m : ℕ) → Grows ns ms → Says ns k c → Says ms m (Not c) → IsForm ms (record { plus = k; minus = m }) c
+form_is ns ms c k m g h i = record { plus = still_says ns ms k c g h; minus = i }
+
+not_not : (b : Bool) → b ≡ not (not b)
+not_not true = refl
+not_not false = refl
+
+pub denied_form : (ns : List Node) (f : Form) (c : Condition) → IsForm ns f c → IsForm ns (record { plus = f.minus; minus = f.plus }) (Not c)
+denied_form ns f c h = record { plus = h.minus; minus = says_like ns f.plus c (Not (Not c)) (λ v row. not_not (holds v row c)) h.plus }
+
+joined_truth : (j : Connective) (a b c d : Condition) (v : World) (row : List Value) → holds v row a ≡ holds v row c → holds v row b ≡ holds v row d
+    → holds v row (joined j a b) ≡ holds v row (joined j c d)
+joined_truth connective.And a b c d v row e f = λ i. e i && (f i && true)
+joined_truth connective.Or a b c d v row e f = λ i. e i || (f i || false)
+
+de_morgan : (j : Connective) (c d : Condition) → SameTruth (joined (dual j) (Not c) (Not d)) (Not (joined j c d))
+de_morgan connective.And c d v row = by (holds v row c) (holds v row d) where
+  by : (a b : Bool) → (not a || (not b || false)) ≡ not (a && (b && true))
+  by true true = refl
+  by true false = refl
+  by false b = refl
+de_morgan connective.Or c d v row = by (holds v row c) (holds v row d) where
+  by : (a b : Bool) → (not a && (not b && true)) ≡ not (a || (b || false))
+  by true b = refl
+  by false true = refl
+  by false false = refl
+
+-- two conditions under a connective
+pub joined_form_is : (ns ns' ms : List Node) (j : Connective) (f g : Form) (k m : ℕ) → Grows ns ns' → Grows ns' ms
+    → Says ns' k (joined j (node_condition ns f.plus) (node_condition ns g.plus))
+    → Says ms m (joined (dual j) (node_condition ns' f.minus) (node_condition ns' g.minus))
+    → (c d : Condition) → IsForm ns f c → IsForm ns g d → IsForm ms (record { plus = k; minus = m }) (joined j c d)
+joined_form_is ns ns' ms j f g k m g1 g2 p q c d h i =
+    let h' = still_form ns ns' f c g1 h in
+    let i' = still_form ns ns' g d g1 i in
+    record {
+      plus = still_says ns' ms k _ g2 (says_like ns' k _ (joined j c d) (λ v row. joined_truth j _ _ c d v row (h.plus.truth v row) (i.plus.truth v row)) p);
+      minus =
+          says_like ms m _ (Not (joined j c d))
+          (λ v row. joined_truth (dual j) _ _ (Not c) (Not d) v row (h'.minus.truth v row) (i'.minus.truth v row) ∙ de_morgan j c d v row) q;
+    }
+
+pub grows_trans : (ns ns' ms : List Node) → Grows ns ns' → Grows ns' ms → Grows ns ms
+grows_trans ns ns' ms g h = record { added = g.added ++ h.added; is = h.is ∙ ap (λ xs. xs ++ h.added) g.is ∙ append_assoc ns g.added h.added }
+
+-- an equality of terms and its denial, the terms being copies
+pub equal_form_is : (ns ms : List Node) (s t s1 t1 s2 t2 : Term) (k m : ℕ) → s2 ≡ s → t2 ≡ t → s1 ≡ s2 → t1 ≡ t2 → Grows ns ms
+    → Says ns k (Same s1 t1) → Says ms m (Not (Same s2 t2)) → IsForm ms (record { plus = k; minus = m }) (Same s t)
+equal_form_is ns ms s t s1 t1 s2 t2 k m a b d e g h i =
+    form_is ns ms (Same s t) k m g (subst (Says ns k) (λ j. Same ((d ∙ a) j) ((e ∙ b) j)) h) (subst (Says ms m) (λ j. Not (Same (a j) (b j))) i)

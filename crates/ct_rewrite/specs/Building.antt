@@ -1,0 +1,37 @@
+-- What the making of a node list keeps and adds.
+use Rattle.std.specs.Prelude.{◌≡◌, ℕ, ◌<◌, Bool, true, false, List, ◌++◌, length}
+use Rattle.ct_word.specs.Condition.{Condition, True, False, Not, both, either, SameTruth}
+use Rattle.ct_rewrite.specs.declared.answer.Node.{Node}
+use Rattle.ct_rewrite.specs.declared.builder.Connective.{Connective}
+use Rattle.ct_rewrite.specs.declared.builder.Connective.TheVariants as connective
+use Rattle.ct_rewrite.specs.Nodes.{node_condition}
+
+-- nodes were put at the end
+pub record Grows (old new : List Node) : Type 0 where
+  pub added : List Node
+  pub is : new ≡ old ++ added
+
+-- a position of these nodes has the truth of a condition
+pub record Says (nodes : List Node) (k : ℕ) (c : Condition) : Type 0 where
+  pub within : k < length nodes
+  pub truth : SameTruth (node_condition nodes k) c
+
+-- a condition that has always this truth
+abbrev pub literal : Bool → Condition
+literal true = True
+literal false = False
+
+-- a condition for plus, and what denies it for minus
+abbrev pub signed : Bool → Condition → Condition
+signed true c = c
+signed false c = Not c
+
+-- two conditions under a connective
+abbrev pub joined : Connective → Condition → Condition → Condition
+joined connective.And c d = both c d
+joined connective.Or c d = either c d
+
+-- the other connective
+abbrev pub dual : Connective → Connective
+dual connective.And = connective.Or
+dual connective.Or = connective.And

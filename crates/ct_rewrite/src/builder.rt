@@ -1,0 +1,129 @@
+// A node list in the making, which holds equal nodes once.
+
+ghost use Rattle.std.specs.Prelude.{◌≡◌, ◌<◌, ◌≤◌, ◌+◌, ◌^◌, [], length, IfOk, OnErr, IsTrue};
+ghost use Rattle.std.specs.List.{IsDistinct};
+ghost use Rattle.ct_word.specs.Condition.{Same};
+ghost use Rattle.ct_rewrite.specs.Nodes.{node_condition, stands_over, same_node, node_value, IsOrdered};
+ghost use Rattle.ct_rewrite.specs.Building.{Grows, Says, literal, signed, joined, dual};
+
+use crate::answer::Node;
+use ct_word::{List, Memory, Term};
+use indexmap::IndexSet;
+use std::alloc::Global;
+use std::marker::Model;
+
+/// What joins two conditions.
+#[derive(Clone, Copy, Debug, PartialEq, Eq)]
+pub enum Connective {
+    And,
+    Or,
+}
+
+impl Connective {
+    /// The connective of the denials, where this joins the conditions.
+    pub fn dual(self) -> Connective
+        ensures { result ≡ dual self }
+    {
+        match self {
+            Connective::And => Connective::Or,
+            Connective::Or => Connective::And,
+        }
+    }
+}
+
+/// Nodes, no two of them equal, children before their parents.
+#[derive(Drop)]
+pub struct Builder {
+    nodes: IndexSet<Node>,
+}
+
+impl Model for Builder {
+    ghost use Rattle.std.specs.Prelude.{List};
+    ghost use Rattle.ct_rewrite.specs.declared.answer.Node.{Node};
+    ghost use Rattle.ct_rewrite.specs.Nodes.{IsOrdered};
+
+    ghost Value = { List Node };
+
+    ghost view = { λ b. b.nodes.keys };
+
+    ghost invariant = { λ b. IsOrdered b.nodes.keys };
+}
+
+impl Builder {
+    /// A list without nodes.
+    pub fn new(alloc: Global) -> Builder
+        ensures { result ≡ [] }
+    {
+        Builder {
+            nodes: IndexSet::new(alloc),
+        }
+    }
+
+    /// The position of a node, which is put at the end where it is not there yet.
+    fn place(&mut self, node: Node) -> Result<u32, Memory>
+        requires ordered { IsTrue (stands_over (length self.old) node) }
+        requires room { length self.old < 2 ^ 32 }
+        ensures grows { Grows self.old self.new }
+        ensures count { length self.new ≤ length self.old + 1 }
+        ensures within { IfOk result (λ k. k < length self.new) }
+        ensures value { IfOk result (λ k. node_condition self.new k ≡ node_value self.old node) }
+    {
+        let (position, _) = self.nodes.insert_full(node)?;
+        Ok(position as u32)
+    }
+    /// The position of a condition that is always true or always false.
+    pub fn literal(&mut self, truth: bool) -> Result<u32, Memory>
+        requires room { length self.old < 2 ^ 32 }
+        ensures grows { Grows self.old self.new }
+        ensures count { length self.new ≤ length self.old + 1 }
+        ensures says { IfOk result (λ k. Says self.new k (literal truth)) }
+    {
+        self.place(if truth { Node::True } else { Node::False })
+    }
+
+    /// The position of the equality of two terms, or for minus of its denial.
+    pub fn equal(&mut self, s: Term, t: Term, sign: bool) -> Result<u32, Memory>
+        requires room { length self.old < 2 ^ 32 }
+        ensures grows { Grows self.old self.new }
+        ensures count { length self.new ≤ length self.old + 1 }
+        ensures says { IfOk result (λ k. Says self.new k (signed sign (Same s t))) }
+    {
+        self.place(if sign { Node::Eq(s, t) } else { Node::Ne(s, t) })
+    }
+
+    /// The position of two conditions under a connective.
+    pub fn joined(
+        &mut self,
+        alloc: Global,
+        connective: Connective,
+        a: u32,
+        b: u32,
+    ) -> Result<u32, Memory>
+        requires left { a < length self.old }
+        requires right { b < length self.old }
+        requires room { length self.old < 2 ^ 32 }
+        ensures grows { Grows self.old self.new }
+        ensures count { length self.new ≤ length self.old + 1 }
+        ensures says { IfOk result (λ k. Says self.new k (joined connective (node_condition self.old a) (node_condition self.old b))) }
+    {
+        let mut children = Vec::new(alloc);
+        children.push(a)?;
+        children.push(b)?;
+        let children = List::from_vec(children);
+        self.place(match connective {
+            Connective::And => Node::And(children),
+            Connective::Or => Node::Or(children),
+        })
+    }
+
+    /// The nodes in their order.
+    pub fn into_nodes(self, alloc: Global) -> Result<List<Node>, Memory>
+        ensures nodes { IfOk result (λ ns. ns ≡ self) }
+        ensures ordered { IsOrdered self }
+        ensures distinct { IsDistinct same_node self }
+    {
+        let Builder { nodes } = self;
+        let nodes: Vec<Node> = nodes.into_iter().collect(alloc)?;
+        Ok(List::from_vec(nodes))
+    }
+}

@@ -1,0 +1,55 @@
+// The printed form of conditions.
+
+ghost use Rattle.std.specs.Prelude.{◌≡◌, ◌<◌, ◌^◌, length, map, nat_lt, IfOk, IsTrue};
+ghost use Rattle.std.specs.List.{AllZip, IsDistinct, list_all};
+ghost use Rattle.ct_word.specs.declared.kinds.Class.TheVariants as class;
+ghost use Rattle.ct_word.specs.Condition.{SameTruth};
+ghost use Rattle.ct_word.specs.WellFormed.{IsWellFormed, is_place_of};
+ghost use Rattle.ct_word.specs.Reading.{condition_at};
+ghost use Rattle.ct_rewrite.specs.Nodes.{IsOrdered, is_position, node_condition, same_node};
+ghost use Rattle.ct_rewrite.specs.Signs.{plus_at};
+
+use crate::builder::Builder;
+use crate::form::Normal;
+use crate::forms::{Form, forms};
+use ct_word::{List, Memory};
+use std::alloc::Global;
+
+/// The positions for plus at these places.
+fn positions(alloc: Global, forms: &[Form], places: &[u32]) -> Result<Vec<u32>, Memory>
+    requires { IsTrue (list_all (λ p. nat_lt p (length forms.now)) places.now) }
+    ensures { IfOk result (λ ks. ks.items ≡ map (plus_at forms.now) places.now) }
+{
+    let mut positions = Vec::new(alloc);
+    for place in places {
+        positions.push(forms[*place as usize].plus)?;
+    }
+    Ok(positions)
+}
+
+/// The printed form of the conditions at these places of a log.
+///
+/// Each word that a place leads to is looked at once for each sign, so that what conditions share is
+/// not unfolded.
+///
+/// # Errors
+/// `Memory` where there is none for the nodes.
+pub fn normal(alloc: Global, words: &[u64], roots: &[u32]) -> Result<Normal, Memory>
+    requires formed { IsWellFormed words.now }
+    requires short { length words.now < 2 ^ 28 }
+    requires roots { IsTrue (list_all (is_place_of words.now class.Cond) roots.now) }
+
+    // There are as many roots as places, and at every valuation and row each has the truth of its place's condition.
+    ensures truth { IfOk result (λ n. AllZip (λ k place. SameTruth (node_condition n.nodes k) (condition_at words.now place)) n.roots roots.now) }
+    ensures placed { IfOk result (λ n. IsTrue (list_all (is_position n.nodes) n.roots)) }
+    ensures ordered { IfOk result (λ n. IsOrdered n.nodes) }
+    ensures distinct { IfOk result (λ n. IsDistinct same_node n.nodes) }
+{
+    let mut builder = Builder::new(alloc);
+    let forms = forms(alloc, &mut builder, words)?;
+    let roots = positions(alloc, forms.as_slice(), roots)?;
+    Ok(Normal {
+        nodes: builder.into_nodes(alloc)?,
+        roots: List::from_vec(roots),
+    })
+}
