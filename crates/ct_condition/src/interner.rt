@@ -1,6 +1,6 @@
 // What interns words for one site.
 
-ghost use Rattle.std.specs.Prelude.{◌≡◌, ◌≤◌, ◌<◌, ◌^◌, ◌↔◌, ◌×◌, ℕ, List, [], ◌∷◌, length, IfOk, OnErr, IsErr, IsTrue, Some, slice_get, Contains};
+ghost use Rattle.std.specs.Prelude.{◌≡◌, ◌≤◌, ◌<◌, ◌^◌, ◌↔◌, ◌+◌, OnErr, ℕ, List, [], ◌∷◌, length, IfOk, IsErr, IsTrue, Some, slice_get, Contains};
 ghost use Rattle.std.specs.Borrow.{GName};
 ghost use mathlib.Core.List.{IsPrefix};
 ghost use Rattle.ct_word.specs.WellFormed.{IsWellFormed, is_plain_word};

@@ -5,7 +5,9 @@
 #![tactic(auto)]
 
 mod interner;
+mod packed;
 mod terms;
 
 pub use interner::Interner;
+pub use packed::put;
 pub use terms::text;

@@ -1,0 +1,18 @@
+use Rattle.std.proofs.Common.{◌≡◌, ◌≤◌, ◌<◌, ◌+◌, ◌^◌, ◌++◌, length}
+use Rattle.std.specs.Prelude.{IsTrue, encode_utf8_all}
+use mathlib.Core.List.{IsPrefix}
+use Rattle.ct_word.specs.declared.kinds.Class.TheVariants as class
+use Rattle.ct_word.specs.Reading.{IsText}
+use Rattle.ct_word.specs.Stands.{StandsAt}
+use Rattle.ct_word.specs.WellFormed.{IsWellFormed, is_place_of}
+use Rattle.ct_condition.proofs.terms.text.Given as goal
+
+abbrev pub invariant-loop-character : goal.invariant-loop-character
+invariant-loop-character g l = record {
+  stands : StandsAt (g.I.Interner.list l.pass) l.place (IsText (encode_utf8_all l.yielded));
+  class : IsTrue (is_place_of (g.I.Interner.list l.pass) class.Text l.place);
+  small : l.place < 2 ^ 28;
+  longer : IsPrefix (g.I.Interner.list l.fn.pass) (g.I.Interner.list l.pass);
+  kept : g.I.Interner.kept l.pass ≡ g.I.Interner.kept l.fn.pass;
+  lent : g.I.Interner.lent l.pass ≡ g.I.Interner.lent l.fn.pass;
+}

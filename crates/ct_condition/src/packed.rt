@@ -1,0 +1,43 @@
+// One word.
+
+ghost use Rattle.std.specs.Prelude.{◌≡◌, ◌≤◌, ◌+◌, ◌<◌, ◌^◌, length, IfOk, OnErr, IsTrue, Some, false};
+ghost use mathlib.Core.List.{IsPrefix};
+ghost use Rattle.ct_word.specs.declared.kinds.Class.TheVariants as class;
+ghost use Rattle.ct_word.specs.Reading.{by_kind, meanings};
+ghost use Rattle.ct_word.specs.Stands.{StandsAt};
+ghost use Rattle.ct_word.specs.WellFormed.{IsWellFormed, is_formed_as, is_place_of, class_of, has_class};
+
+use crate::interner::Interner;
+use ct_arena::{Arena, Full, Site};
+use ct_word::{Kind, pack};
+
+/// The place of the word of a kind, with fields as the table of kinds asks.
+///
+/// # Errors
+/// `Full` where the log has no room for the word.
+pub fn put<N: Site, I: Interner<N>>(
+    arena: &Arena<N>,
+    pass: &mut I,
+    kind: Kind,
+    a: u32,
+    b: u32,
+) -> Result<u32, Full>
+    requires left { a < 2 ^ 28 }
+    requires right { b < 2 ^ 28 }
+    requires formed { IsTrue (is_formed_as (Some kind) (I.list pass.old) a b) }
+    requires plain { has_class (Some kind) class.Commit ≡ false }
+    ensures stands { IfOk result (λ place. StandsAt (I.list pass.new) place (by_kind (Some kind) (meanings (I.list pass.new)) a b)) }
+    ensures place { IfOk result (λ place. IsTrue (is_place_of (I.list pass.new) (class_of kind) place)) }
+    ensures small { IfOk result (λ place. place < 2 ^ 28) }
+    ensures longer { IsPrefix (I.list pass.old) (I.list pass.new) }
+    ensures formed { IsWellFormed (I.list pass.new) }
+    ensures room { length (I.list pass.new) ≤ N.log.cap }
+    ensures full { OnErr result (length (I.list pass.new) ≡ N.log.cap) }
+    ensures made { I.made pass.new ≤ I.made pass.old + 1 }
+    ensures err { OnErr result (I.made pass.new ≡ I.made pass.old) }
+    ensures kept { I.kept pass.new ≡ I.kept pass.old }
+    ensures lent { I.lent pass.new ≡ I.lent pass.old }
+{
+    let place = pass.intern(arena, pack(kind, a, b))?;
+    Ok(place)
+}
