@@ -1,0 +1,18 @@
+use Rattle.std.proofs.Common.{◌≡◌, ◌<◌, ◌^◌, take}
+use Rattle.std.specs.Prelude.{IsTrue}
+use mathlib.Core.List.{IsPrefix}
+use Rattle.ct_word.specs.declared.kinds.Class.TheVariants as class
+use Rattle.ct_word.specs.Reading.{IsNameList}
+use Rattle.ct_word.specs.Stands.{StandsAt}
+use Rattle.ct_word.specs.WellFormed.{is_place_of}
+use Rattle.ct_history.specs.Kept.{kept_of}
+use Rattle.ct_history.proofs.changes.names.Given as goal
+
+abbrev pub invariant-loop-name : goal.invariant-loop-name
+invariant-loop-name g l = record {
+  stands : StandsAt l.pass.words l.place (IsNameList (take l.name-index l.names));
+  class : IsTrue (is_place_of l.pass.words class.NameList l.place);
+  small : l.place < 2 ^ 28;
+  longer : IsPrefix l.fn.pass.words l.pass.words;
+  kept : kept_of l.pass ≡ kept_of l.fn.pass;
+}
