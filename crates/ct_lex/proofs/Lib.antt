@@ -4,3 +4,4 @@ pub mod Numbers
 pub mod Runs
 pub mod Readings
 pub mod Steps
+pub mod Pieces

@@ -1,3 +1,4 @@
 pub mod Scan
 pub mod Spelling
 pub mod Tokens
+pub mod Texts

@@ -8,7 +8,9 @@
 mod front;
 mod lexing;
 mod scan;
+mod splitting;
 mod token;
 
 pub use lexing::tokens;
+pub use splitting::split;
 pub use token::{LexError, Lexeme, Symbol, Token};
