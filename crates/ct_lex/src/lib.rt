@@ -9,6 +9,8 @@ mod front;
 mod lexing;
 mod scan;
 mod splitting;
+#[cfg(test)]
+mod tests;
 mod token;
 
 pub use lexing::tokens;
