@@ -5,3 +5,5 @@ pub mod Runs
 pub mod Readings
 pub mod Steps
 pub mod Pieces
+pub mod Blanks
+pub mod Scripts

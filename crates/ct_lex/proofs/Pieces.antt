@@ -40,14 +40,14 @@ pub comment_ends : (r : List ℕ) → starts is_comment_byte r ≡ false → pie
 comment_ends [] h = refl
 comment_ends (b ∷ r) h = let is : b ≡ 10 = grind (arith, nat_tests) in rw is
 
-blank_in_comment : (c r : List ℕ) → list_all is_comment_byte c ≡ true → has_token_from true (c ++ r) ≡ has_token_from true r
+pub blank_in_comment : (c r : List ℕ) → list_all is_comment_byte c ≡ true → has_token_from true (c ++ r) ≡ has_token_from true r
 blank_in_comment [] r h = refl
 blank_in_comment (b ∷ c) r h =
     let first : is_comment_byte b ≡ true = grind arith in
     let rest : list_all is_comment_byte c ≡ true = grind arith in
     ap (λ q. has_token_from q (c ++ r)) first ∙ blank_in_comment c r rest
 
-blank_after_comment : (r : List ℕ) → starts is_comment_byte r ≡ false → has_token_from true r ≡ has_token r
+pub blank_after_comment : (r : List ℕ) → starts is_comment_byte r ≡ false → has_token_from true r ≡ has_token r
 blank_after_comment [] h = refl
 blank_after_comment (b ∷ r) h = let is : b ≡ 10 = grind (arith, nat_tests) in rw is
 

@@ -2,3 +2,4 @@ pub mod Scan
 pub mod Spelling
 pub mod Tokens
 pub mod Texts
+pub mod Splitting

@@ -1,7 +1,8 @@
 // The statement texts of a script.
 
-ghost use Rattle.std.specs.Prelude.{◌≡◌, ◌∷◌, ◌<◌, length, map, take, drop, slice_index, IfOk};
+ghost use Rattle.std.specs.Prelude.{◌≡◌, ◌∷◌, ◌<◌, ℕ, List, length, map, take, drop, slice_index, IfOk};
 ghost use Rattle.std.specs.Str.{IsCharBoundary};
+ghost use Rattle.ct_lex.specs.Splitting.{Splits};
 ghost use Rattle.ct_lex.specs.Texts as spec;
 
 use crate::scan::{Class, byte_at, is_blank, run_len};
@@ -69,7 +70,11 @@ fn has_token(piece: &str) -> bool
 /// # Errors
 /// `Memory` where there is none for the list.
 pub fn split(alloc: Global, script: &str) -> Result<Vec<&str>, Memory>
-    ensures { IfOk result (λ v. map (λ t. t.now) v.items ≡ spec.texts script.now) }
+    ensures value { IfOk result (λ v. map (λ t. t.now) v.items ≡ spec.texts script.now) }
+
+    // These are the pieces between the `;`, those with tokens, and there are no others.
+    ensures splits { IfOk result (λ v. Splits script.now (map (λ t. t.now) v.items)) }
+    ensures only { IfOk result (λ v. (ts : List (List ℕ)) → Splits script.now ts → ts ≡ map (λ t. t.now) v.items) }
 {
     let mut texts = Vec::new(alloc);
     let mut rest = script;
