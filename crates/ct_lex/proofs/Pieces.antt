@@ -1,13 +1,13 @@
 -- How the pieces of a script go on over text literals, comments and other bytes.
-use Rattle.std.proofs.Common.{◌≡◌, ◌≢◌, ℕ, zero, suc, ◌+◌, ◌<◌, ◌≤◌, Bool, true, false, not, List, [], ◌∷◌, ◌++◌, length, get_or, take, drop, refl, sym, subst, ◌∙◌, ap, arith, add-one, add-zero, get_or-drop, take-append-drop, length-append, length-drop}
-use Rattle.std.specs.Prelude.{nat_eq, filter}
+use Rattle.std.proofs.Common.{◌≡◌, ◌≢◌, ℕ, zero, suc, ◌+◌, ◌<◌, ◌≤◌, true, false, List, [], ◌∷◌, ◌++◌, length, get_or, take, drop, refl, sym, subst, ◌∙◌, ap, arith, add-one, add-zero, get_or-drop, take-append-drop, length-drop}
+use Rattle.std.specs.Prelude.{nat_eq}
 use Rattle.std.specs.List.{list_all}
 use Rattle.std.proofs.lemmas.Bool.Decides.{nat_tests}
-use Rattle.std.proofs.lemmas.List.{take_more, take_all, drop_more, drop_all, drop-drop}
+use Rattle.std.proofs.lemmas.List.{take_more, drop_more, drop_all, drop-drop}
 use Rattle.ct_lex.specs.declared.scan.Class.TheVariants.{NotQuote}
 use Rattle.ct_lex.specs.Scan.{class_test}
 use Rattle.ct_lex.specs.Spelling.{starts, is_blank, is_comment_byte}
-use Rattle.ct_lex.specs.Texts.{Place, Plain, InText, InComment, pieces_from, pieces, pieces_behind, onto_first, onto, GoesOn, begins_comment, has_token_from, has_token, texts}
+use Rattle.ct_lex.specs.Texts.{InText, InComment, pieces_from, pieces, pieces_behind, onto_first, onto, GoesOn, begins_comment, has_token_from, has_token}
 use Rattle.std.specs.Str.{IsUtf8, IsCharBoundary}
 use Rattle.std.proofs.lemmas.Str.{IsUtf8-drop}
 use Rattle.ct_lex.proofs.Fronts.{take_add, first_byte}

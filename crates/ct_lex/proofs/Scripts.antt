@@ -1,11 +1,11 @@
 -- The statement texts by the relation are those by the definition.
-use Rattle.std.proofs.Common.{◌≡◌, ℕ, zero, suc, ◌+◌, ◌<◌, ◌≤◌, Bool, true, false, not, ◌||◌, List, [], ◌∷◌, ◌++◌, length, drop, refl, sym, subst, ◌∙◌, ap, arith, cond, append_assoc, length-append}
+use Rattle.std.proofs.Common.{◌≡◌, ℕ, zero, suc, ◌<◌, Bool, true, false, ◌||◌, List, [], ◌∷◌, ◌++◌, length, refl, sym, subst, ◌∙◌, ap, arith, cond, append_assoc, length-append}
 use Rattle.std.specs.Prelude.{nat_eq, filter}
 use Rattle.std.specs.List.{list_all}
 use Rattle.std.proofs.lemmas.Bool.Decides.{nat_tests}
 use Rattle.std.proofs.lemmas.List.{append-nil}
 use Rattle.ct_lex.specs.Spelling.{starts, is_comment_byte}
-use Rattle.ct_lex.specs.Texts.{Place, Plain, InText, InComment, pieces_from, pieces, onto_first, onto, begins_comment, has_token, texts}
+use Rattle.ct_lex.specs.Texts.{Place, Plain, InText, InComment, pieces, onto_first, onto, begins_comment, has_token, texts}
 use Rattle.ct_lex.specs.Splitting.{is_no_quote, IsPiece, ended, literal, open_literal, comment, other, Keeps, kept, skipped, Splits, last, cut}
 use Rattle.ct_lex.specs.Tokens.{Lexes}
 use Rattle.ct_lex.proofs.Pieces.{onto-append, onto_end, in_text, in_comment, comment_ends}

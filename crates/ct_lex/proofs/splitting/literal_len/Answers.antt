@@ -1,4 +1,4 @@
-use Rattle.std.proofs.Common.{◌≡◌, drop, length, arith}
+use Rattle.std.proofs.Common.{◌≡◌, drop, arith}
 use Rattle.ct_lex.proofs.Fronts.{first_byte}
 use Rattle.ct_lex.proofs.Pieces.{literal_goes_on, open_goes_on}
 use Rattle.ct_lex.proofs.splitting.literal_len.Goals as goal

@@ -1,5 +1,4 @@
-use Rattle.std.proofs.Common.{◌≡◌, ◌≢◌, ◌+◌, sym, subst, ◌∙◌, arith, drop, get_or}
-use Rattle.ct_lex.specs.Texts.{GoesOn}
+use Rattle.std.proofs.Common.{sym, ◌∙◌, arith}
 use Rattle.ct_lex.proofs.Pieces.{goes_on_more, other_at, ends_at_semicolon, ends_at_end}
 use Rattle.ct_lex.proofs.splitting.piece_len.Goals as goal
 use Rattle.ct_lex.proofs.splitting.piece_len.Goals.{in-39, in-45, in_default-2, in_default}

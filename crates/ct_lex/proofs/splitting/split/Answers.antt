@@ -1,8 +1,5 @@
-use Rattle.std.proofs.Common.{◌≡◌, ◌<◌, ℕ, List, length, drop, get_or, map, arith, rules, sym, subst, ◌∙◌}
-use Rattle.std.specs.Str.{IsUtf8}
+use Rattle.std.proofs.Common.{arith, rules, sym, subst, ◌∙◌}
 use Rattle.std.proofs.lemmas.Grind.{common_steps}
-use Rattle.std.proofs.lemmas.Str.{IsUtf8-drop}
-use Rattle.ct_lex.specs.Texts.{texts}
 use Rattle.ct_lex.specs.Splitting.{Splits}
 use Rattle.ct_lex.proofs.Pieces.{behind_cut}
 use Rattle.ct_lex.proofs.Scripts.{splits_texts, splits_only}
