@@ -1,5 +1,5 @@
 -- What the byte tests and runs of `front` say of a text as a list.
-use Rattle.std.proofs.Common.{◌≡◌, ℕ, zero, suc, ◌+◌, ◌<◌, ◌≤◌, ◌≢◌, Bool, true, false, not, ◌&&◌, ◌||◌, List, [], ◌∷◌, ◌++◌, length, get_or, take, drop, refl, sym, subst, ◌∙◌, ap, arith, inl, inr, cond, add-one, Option, Some, None, take-append-drop, append_assoc, get_or-drop, add-zero}
+use Rattle.std.proofs.Common.{◌≡◌, ℕ, zero, suc, ◌+◌, ◌<◌, ◌≢◌, Bool, true, false, List, [], ◌∷◌, ◌++◌, length, get_or, take, drop, refl, sym, subst, ◌∙◌, ap, arith, Option, Some, None, take-append-drop, get_or-drop, add-zero}
 use Rattle.std.specs.Prelude.{nat_eq, ℤ, Result, Ok, Err}
 use Rattle.std.specs.Str.Parse.{ParsesSigned, digits_value}
 use mir.Syntax.{w64}
@@ -7,7 +7,6 @@ use mir.Val.{of_z, to_z}
 use Rattle.std.proofs.lemmas.Int.{to_z-of_z}
 use Rattle.std.specs.List.{list_all}
 use Rattle.std.specs.Str.{IsUtf8, IsCharBoundary}
-use Rattle.std.proofs.lemmas.Bool.{cases_lt}
 use Rattle.std.proofs.lemmas.Bool.Decides.{nat_tests}
 use Rattle.std.proofs.lemmas.List.{drop-drop}
 use Rattle.std.proofs.lemmas.Str.{IsCharBoundary-after_ascii, IsCharBoundary-from_rest}
@@ -16,7 +15,7 @@ use Rattle.ct_lex.specs.declared.token.Lexeme.TheVariants as lexeme
 use Rattle.ct_lex.specs.declared.token.LexError.TheVariants as fault
 use Rattle.ct_lex.specs.Spelling.{Spells, blank, comment, word, null, number, sign_text, signed, are_digits, starts, lowered, begins_word, begins_symbol, is_blank, is_word_byte, is_comment_byte, is_spelling}
 use Rattle.ct_lex.specs.Scan.{IsFront}
-use Rattle.ct_lex.specs.Tokens.{FaultsHere, stray_byte, number_range, is_beginning}
+use Rattle.ct_lex.specs.Tokens.{FaultsHere, stray_byte, number_range}
 use Rattle.ct_lex.proofs.Numbers.{parsed, not_parsed}
 use Rattle.ct_word.specs.Writable.{is_digit}
 

@@ -4,3 +4,7 @@ pub mod Numbers
 pub mod Runs
 pub mod Readings
 pub mod Steps
+pub mod Pieces
+pub mod Blanks
+pub mod Scripts
+pub mod Names

@@ -1,7 +1,7 @@
 -- What stands between the quotes of a text literal.
-use Rattle.std.proofs.Common.{◌≡◌, ◌≢◌, ℕ, zero, suc, ◌+◌, ◌-◌, ◌<◌, ◌≤◌, Bool, true, false, not, List, [], ◌∷◌, ◌++◌, length, get_or, take, drop, refl, sym, subst, ◌∙◌, ap, arith, inl, inr, append_assoc, Option, Some}
+use Rattle.std.proofs.Common.{◌≡◌, ◌≢◌, ℕ, ◌+◌, ◌<◌, true, false, List, [], ◌∷◌, ◌++◌, length, get_or, take, drop, refl, sym, subst, ◌∙◌, ap, arith, inl, inr, append_assoc, Some}
 use Rattle.std.specs.Prelude.{nat_eq}
-use Rattle.std.specs.List.{list_all, flat_map}
+use Rattle.std.specs.List.{list_all}
 use Rattle.std.specs.Str.{IsUtf8, IsCharBoundary}
 use Rattle.std.proofs.lemmas.Bool.{cases_lt}
 use Rattle.std.proofs.lemmas.Bool.Decides.{nat_tests}
@@ -11,7 +11,7 @@ use Rattle.std.proofs.lemmas.Str.{IsCharBoundary-after_ascii}
 use Rattle.ct_lex.specs.declared.token.Lexeme.TheVariants as lexeme
 use Rattle.ct_lex.specs.declared.token.LexError.TheVariants as fault
 use Rattle.ct_lex.specs.declared.scan.Class.TheVariants.{NotQuote}
-use Rattle.ct_lex.specs.Spelling.{Spells, text, starts, written, doubled}
+use Rattle.ct_lex.specs.Spelling.{text, starts, written, doubled}
 use Rattle.ct_lex.specs.Scan.{IsFront, class_test}
 use Rattle.ct_lex.specs.Tokens.{FaultsHere, open_text}
 use Rattle.ct_lex.proofs.Fronts.{take_add}

@@ -1,5 +1,5 @@
 -- Bytes have one reading: one first token, one list of tokens, one leftmost fault, and never both.
-use Rattle.std.proofs.Common.{◌≡◌, ◌≢◌, ℕ, zero, suc, ◌+◌, ◌<◌, ◌≤◌, Bool, true, false, not, ◌&&◌, ◌||◌, List, [], ◌∷◌, ◌++◌, length, drop, refl, sym, subst, ◌∙◌, ap, arith, cond, append_assoc, Option, Some, None}
+use Rattle.std.proofs.Common.{◌≡◌, ℕ, ◌+◌, ◌≤◌, Bool, true, false, ◌&&◌, ◌||◌, List, [], ◌∷◌, ◌++◌, length, drop, refl, sym, subst, ◌∙◌, ap, arith, cond, append_assoc, Option, Some, None}
 use Rattle.std.specs.Prelude.{nat_eq, nat_le}
 use Rattle.std.specs.List.{list_all}
 use Rattle.std.specs.Str.Parse.{digits_value}
@@ -11,7 +11,7 @@ use Rattle.ct_lex.specs.declared.token.Lexeme.{Lexeme}
 use Rattle.ct_lex.specs.declared.token.Lexeme.TheVariants as lexeme
 use Rattle.ct_lex.specs.declared.token.LexError.{LexError}
 use Rattle.ct_lex.specs.declared.token.LexError.TheVariants as fault
-use Rattle.ct_lex.specs.Spelling.{Spells, blank, comment, word, number, text, null, left_paren, right_paren, comma, dot, star, equal, unequal, not_equal, starts, written, doubled, lowered, signed, sign_text, greatest, begins_word, begins_symbol, is_blank, is_word_byte, is_comment_byte, is_spelling, are_digits}
+use Rattle.ct_lex.specs.Spelling.{Spells, blank, comment, word, number, text, null, left_paren, right_paren, comma, dot, star, equal, unequal, not_equal, starts, doubled, lowered, signed, sign_text, greatest, begins_word, begins_symbol, is_blank, is_word_byte, is_comment_byte, is_spelling, are_digits}
 use Rattle.ct_lex.specs.declared.token.Token.{Token}
 use Rattle.ct_lex.specs.Tokens.{LexesFrom, ended, skipped, taken, FaultsFrom, here, later, FaultsHere, open_text, number_range, stray_byte, is_beginning}
 

@@ -1,14 +1,13 @@
 -- The steps of the loop over a text's tokens.
-use Rattle.std.proofs.Common.{◌≡◌, ◌≢◌, ℕ, zero, suc, true, false, ◌+◌, ◌-◌, ◌<◌, ◌≤◌, List, [], ◌∷◌, ◌++◌, length, take, drop, refl, sym, subst, ◌∙◌, ap, arith, append_assoc, Option, Some, None, take-append-drop, length-append, length-drop}
+use Rattle.std.proofs.Common.{◌≡◌, ℕ, true, false, ◌+◌, ◌-◌, ◌<◌, ◌≤◌, List, [], ◌∷◌, ◌++◌, length, take, drop, refl, sym, subst, ◌∙◌, ap, arith, append_assoc, Option, Some, None, take-append-drop, length-append}
 use Rattle.std.specs.Prelude.{slice_range}
-use Rattle.std.specs.Str.{IsCharBoundary}
 use Rattle.std.proofs.lemmas.List.{take_at, drop_at, drop-drop, length-take-le, drop_all}
 use Rattle.ct_lex.specs.declared.token.Lexeme.{Lexeme}
 use Rattle.ct_lex.specs.declared.token.LexError.{LexError}
 use Rattle.ct_lex.specs.declared.token.Token.{Token}
 use Rattle.ct_lex.specs.Spelling.{Spells, blank, comment, word, number, text as literal, null, left_paren, right_paren, comma, dot, star, equal, unequal, not_equal, is_spelling, are_digits}
 use Rattle.ct_lex.specs.Scan.{IsFront}
-use Rattle.ct_lex.specs.Tokens.{LexesFrom, ended, skipped, taken, AreSlicesFrom, FaultsFrom, here, later}
+use Rattle.ct_lex.specs.Tokens.{LexesFrom, ended, skipped, taken, AreSlicesFrom, FaultsFrom, later}
 
 -- the token of a front, if it is one, before the others
 abbrev pub with_front : ℕ → ℕ → Option Lexeme → List Token → List Token

@@ -1,3 +1,5 @@
 pub mod Scan
 pub mod Spelling
 pub mod Tokens
+pub mod Texts
+pub mod Splitting

@@ -8,7 +8,11 @@
 mod front;
 mod lexing;
 mod scan;
+mod splitting;
+#[cfg(test)]
+mod tests;
 mod token;
 
 pub use lexing::tokens;
+pub use splitting::split;
 pub use token::{LexError, Lexeme, Symbol, Token};

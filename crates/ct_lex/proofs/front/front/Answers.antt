@@ -1,4 +1,4 @@
-use Rattle.std.proofs.Common.{◌≡◌, sym, ◌∙◌, arith}
+use Rattle.std.proofs.Common.{arith}
 use Rattle.ct_lex.proofs.Fronts.{blank_front, word_front, stray_other}
 use Rattle.ct_lex.proofs.front.front.Goals as goal
 

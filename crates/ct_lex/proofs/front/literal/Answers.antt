@@ -1,4 +1,4 @@
-use Rattle.std.proofs.Common.{◌≡◌, ℕ, List, ◌∷◌, ◌++◌, ◌+◌, ◌-◌, ◌<◌, [], length, get_or, take, drop, refl, sym, ap, subst, Some, arith, ◌∙◌, rules}
+use Rattle.std.proofs.Common.{◌≡◌, ◌∷◌, ◌++◌, ◌+◌, ◌<◌, [], length, get_or, take, drop, sym, ap, subst, Some, arith, ◌∙◌}
 use Rattle.std.specs.Prelude.{string_bytes}
 use Rattle.ct_lex.specs.Spelling.{doubled}
 use Rattle.std.proofs.lemmas.List.{drop-drop}

@@ -1,4 +1,4 @@
-use Rattle.std.proofs.Common.{◌≡◌, ◌∷◌, ◌-◌, length, take, get_or}
+use Rattle.std.proofs.Common.{◌≡◌, ◌∷◌, ◌-◌, length, take}
 use Rattle.std.specs.Prelude.{string_bytes}
 use Rattle.std.specs.Str.{IsCharBoundary}
 use Rattle.ct_lex.specs.Spelling.{doubled}

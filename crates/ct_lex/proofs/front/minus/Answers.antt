@@ -1,4 +1,4 @@
-use Rattle.std.proofs.Common.{◌≡◌, sym, ◌∙◌, get_or}
+use Rattle.std.proofs.Common.{sym, ◌∙◌}
 use Rattle.ct_lex.proofs.Fronts.{comment_front, stray_minus}
 use Rattle.ct_lex.proofs.front.minus.Goals as goal
 

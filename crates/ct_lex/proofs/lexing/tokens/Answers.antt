@@ -1,12 +1,10 @@
-use Rattle.std.proofs.Common.{◌≡◌, ◌≢◌, ◌≤◌, ℕ, ◌+◌, ◌++◌, List, [], ◌∷◌, length, drop, Option, Some, None, refl, sym, subst, ◌∙◌, ap, arith, append_assoc}
-use Rattle.std.specs.Str.{IsCharBoundary}
+use Rattle.std.proofs.Common.{◌≢◌, ◌≤◌, [], length, drop, Some, None, refl, subst, arith, append_assoc}
 use Rattle.std.proofs.lemmas.List.{append-nil}
 use Rattle.std.proofs.lemmas.Result.{err_from_is_err_and}
 use Rattle.std.proofs.lemmas.Str.{IsCharBoundary-start, IsCharBoundary-from_rest}
 use Rattle.ct_lex.specs.declared.token.LexError.TheVariants as fault
-use Rattle.ct_lex.specs.declared.token.Token.{Token}
 use Rattle.ct_lex.specs.Scan.{IsFront}
-use Rattle.ct_lex.specs.Tokens.{LexesFrom, Lexes, FaultsFrom, FaultsAt, FaultsHere, here}
+use Rattle.ct_lex.specs.Tokens.{Lexes, FaultsAt, here}
 use Rattle.ct_lex.proofs.Readings.{same_tokens, no_fault, same_fault}
 use Rattle.ct_lex.proofs.Steps.{front_lexes, front_faults, end_lexes, slices}
 use Rattle.ct_lex.proofs.lexing.tokens.Goals as goal

@@ -1,4 +1,3 @@
-use Rattle.std.proofs.Common.{rules}
 use Rattle.ct_lex.specs.Scan.{class_test}
 use Rattle.ct_lex.proofs.Runs.{run_passes, run_stops, run_ends_character}
 use Rattle.ct_lex.proofs.scan.run_len.Goals as goal
