@@ -1,9 +1,8 @@
 -- What was added and how many calls were made, step after step.
-use Rattle.std.proofs.Common.{◌≡◌, ◌≤◌, ◌<◌, ◌+◌, ◌-◌, ◌^◌, ℕ, zero, suc, List, [], ◌∷◌, ◌++◌, length, map, take, drop, get_or, Option, Some, None, refl, sym, ap, ◌∙◌, subst, inl, inr, append_assoc, append-nil, arith}
-use Rattle.std.specs.Prelude.{◌⊎◌, flat_map, IfSome, Result, Ok, Err, OnErr}
-use Rattle.std.proofs.lemmas.List.{take_more, get_or_default, take-append-drop, length-append}
+use Rattle.std.proofs.Common.{◌≡◌, ◌<◌, ◌+◌, ◌-◌, ℕ, zero, suc, List, [], ◌∷◌, ◌++◌, length, take, drop, get_or, Option, Some, None, refl, sym, ap, ◌∙◌, subst, inl, inr, append_assoc, append-nil, arith}
+use Rattle.std.specs.Prelude.{Result, Ok, Err, OnErr}
+use Rattle.std.proofs.lemmas.List.{get_or_default, take-append-drop, length-append}
 use Rattle.std.proofs.Math.Seq.{take-append_seam, take-append-add}
-use Rattle.std.proofs.lemmas.Grind.{flat_map-append, common_steps}
 use Rattle.ct_outside.specs.Outside.{Added, AddedFront, Called}
 use Rattle.ct_outside.specs.Writes.{joined, FailedAtCall}
 

@@ -1,6 +1,6 @@
 -- One more text of a list of files, as the loop that reads them goes on.
 use Rattle.std.proofs.Common.{◌≡◌, ◌≤◌, ◌<◌, ◌+◌, ℕ, zero, suc, List, [], ◌∷◌, ◌++◌, length, map, take, get_or, Option, Some, None, refl, sym, ap, ◌∙◌, subst, append-nil, arith}
-use Rattle.std.specs.Prelude.{All, ◌≢◌, Result, Err, Vec}
+use Rattle.std.specs.Prelude.{All, ◌≢◌, Err, Vec}
 use Rattle.std.specs.declared.alloc.Global.{Global}
 use Rattle.std.proofs.lemmas.List.{take_more, take_all, take-map, map-append, length-append, length-map}
 use Rattle.std.proofs.lemmas.List.Elements.{All-push}

@@ -1,5 +1,5 @@
 -- What the source and the sink in memory hold.
-use Rattle.std.specs.Prelude.{◌≡◌, ◌≤◌, ◌<◌, ◌+◌, ◌-◌, ◌^◌, ℕ, Bool, true, false, List, [], ◌∷◌, ◌++◌, take, length, min, ◌&&◌, Option, Some, None, Result, Ok, Err, nat_eq, nat_lt, if◌then◌else◌}
+use Rattle.std.specs.Prelude.{◌+◌, ◌-◌, ◌^◌, ℕ, Bool, List, [], ◌∷◌, ◌++◌, take, length, min, ◌&&◌, Option, Some, None, Result, Ok, Err, nat_eq, nat_lt, if◌then◌else◌}
 use Rattle.ct_word.specs.Value.{same_text}
 use Rattle.std.specs.List.{list_any}
 use Rattle.ct_outside.specs.Outside.{Held}

@@ -1,5 +1,5 @@
 -- What a source of scripts and a sink tell of themselves.
-use Rattle.std.specs.Prelude.{◌≡◌, ◌≤◌, ◌<◌, ◌+◌, ◌-◌, ◌^◌, ◌⊎◌, ℕ, List, ◌++◌, map, length, take, Option, Some, None, IfSome, MatchOption}
+use Rattle.std.specs.Prelude.{◌≡◌, ◌≤◌, ◌<◌, ◌+◌, ◌-◌, ◌^◌, ◌⊎◌, ℕ, List, ◌++◌, length, take, Option, Some, None, IfSome, MatchOption}
 
 -- a count of faults rose, or stands at the greatest u64
 abbrev pub Rose : ℕ → ℕ → Type 0

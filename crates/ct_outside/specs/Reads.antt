@@ -1,7 +1,8 @@
 -- What a read of one script, or of many, gave.
-use Rattle.std.specs.Prelude.{◌≡◌, ◌≤◌, ◌<◌, ℕ, List, [], ◌∷◌, ◌++◌, map, length, take, All, Option, Some, IfSome, Result, Ok, Err, Vec}
+use Rattle.std.specs.Prelude.{◌≡◌, ◌≤◌, ◌<◌, ℕ, List, [], ◌∷◌, ◌++◌, map, length, take, slice_index_or, All, Option, Some, IfSome, Result, Ok, Err, Vec}
+use Rattle.std.specs.Borrow.{Bor}
 use Rattle.std.specs.declared.alloc.Global.{Global}
-use Rattle.ct_outside.specs.Outside.{Held, Holds}
+use Rattle.ct_outside.specs.Outside.{Held, Holds, HoldsMore}
 use Rattle.ct_outside.specs.declared.scripts.ReadError.{ReadError}
 use Rattle.ct_outside.specs.declared.scripts.ReadError.TheVariants as fault
 
@@ -21,6 +22,10 @@ OnMemory _ fact = Unit {0}
 abbrev pub HoldsAll : Option Held → List (List ℕ) → List (List ℕ) → Type 0
 HoldsAll told names texts = IfSome told (λ held. map held names ≡ map Some texts)
 
+-- the names that references point to
+abbrev pub names_of : List (Bor (List ℕ)) → List (List ℕ)
+names_of files = map (λ file. file.now) files
+
 -- the bytes of texts
 abbrev pub bytes_in : List (Vec ℕ Global) → List (List ℕ)
 bytes_in texts = map (λ text. text.items) texts
@@ -32,8 +37,16 @@ pub record IsOneMore (told : Option Held) (name : List ℕ) (limit : ℕ) (befor
   pub held : Holds told name text
   pub within : length text ≤ limit
 
--- texts of the first of these files, but not of all: where the source tells, those under their names; and within the limit
-pub record AreOfFirst (told : Option Held) (files : List (List ℕ)) (limit : ℕ) (texts : List (List ℕ)) : Type 0 where
+-- texts of all these files: where the source tells, those under their names; and within the limit
+pub record AreOfAll (told : Option Held) (files : List (List ℕ)) (limit : ℕ) (texts : List (List ℕ)) : Type 0 where
+  pub count : length texts ≡ length files
+  pub held : HoldsAll told files texts
+  pub within : All (λ text. length text ≤ limit) texts
+
+-- texts of the first of these files, up to one that was not read: where the source tells, those under their names, and
+-- too long only what it holds more of under the name of that one; and within the limit
+pub record AreBeforeFault (told : Option Held) (files : List (List ℕ)) (limit : ℕ) (texts : List (List ℕ)) (why : ReadError) : Type 0 where
   pub fewer : length texts < length files
   pub held : HoldsAll told (take (length texts) files) texts
   pub within : All (λ text. length text ≤ limit) texts
+  pub too_long : why ≡ fault.TooLong → HoldsMore told (slice_index_or files (length texts) []) limit

@@ -1,6 +1,6 @@
 -- What a call wrote of its lines, one write a line.
 use Rattle.std.specs.Prelude.{◌≤◌, ◌-◌, ℕ, List, [], ◌++◌, take, length, slice_index_or, flat_map, Option}
-use Rattle.ct_outside.specs.Outside.{Added, Called}
+use Rattle.ct_outside.specs.Outside.{Added}
 
 -- the bytes of lines, one line after the other
 abbrev pub joined : List (List ℕ) → List ℕ

@@ -1,8 +1,8 @@
 // Reads of all scripts, and writes of all lines, in their order.
 
-ghost use Rattle.std.specs.Prelude.{◌≡◌, ◌≢◌, ◌≤◌, ◌+◌, ◌∷◌, [], ℕ, length, map, take, All, slice_index_or, OnOk, OnErr, IfOk, IfErr, IsErrOf};
+ghost use Rattle.std.specs.Prelude.{◌≡◌, ◌≢◌, ◌≤◌, ◌+◌, ◌∷◌, [], ℕ, length, take, OnOk, OnErr, IfOk, IfErr, IsErrOf};
 ghost use Rattle.ct_outside.specs.Outside.{Rose, StillHolds, HoldsMore, Added, AddedFront, Called};
-ghost use Rattle.ct_outside.specs.Reads.{UnlessMemory, HoldsAll, bytes_in, IsOneMore, AreOfFirst};
+ghost use Rattle.ct_outside.specs.Reads.{UnlessMemory, names_of, bytes_in, IsOneMore, AreOfAll, AreBeforeFault};
 ghost use Rattle.ct_outside.specs.Writes.{joined, FailedAtCall};
 ghost use Rattle.ct_outside.specs.declared.scripts.ReadError.TheVariants as fault;
 
@@ -59,15 +59,12 @@ pub fn read_all<S: Scripts>(
 ) -> Result<Vec<Vec<u8>>, Unread>
     ensures later { S.faults scripts.old ≤ S.faults scripts.new }
     ensures held { StillHolds (S.held scripts.old) (S.held scripts.new) }
-    ensures names { AddedFront (S.names scripts.old) (S.names scripts.new) (map (λ f. f.now) files.now) }
-    ensures asked { OnOk result (Added (S.names scripts.old) (S.names scripts.new) (map (λ f. f.now) files.now)) }
-    ensures texts { IfOk result (λ texts. HoldsAll (S.held scripts.old) (map (λ f. f.now) files.now) (bytes_in texts.items)) }
-    ensures count { IfOk result (λ texts. length texts.items ≡ length files.now) }
-    ensures within { IfOk result (λ texts. All (λ text. length text ≤ limit) (bytes_in texts.items)) }
-    ensures before { IfErr result (λ e. AreOfFirst (S.held scripts.old) (map (λ f. f.now) files.now) limit (bytes_in e.texts.items)) }
+    ensures names { AddedFront (S.names scripts.old) (S.names scripts.new) (names_of files.now) }
+    ensures asked { OnOk result (Added (S.names scripts.old) (S.names scripts.new) (names_of files.now)) }
+    ensures ok { IfOk result (λ texts. AreOfAll (S.held scripts.old) (names_of files.now) limit (bytes_in texts.items)) }
+    ensures err { IfErr result (λ e. AreBeforeFault (S.held scripts.old) (names_of files.now) limit (bytes_in e.texts.items) e.fault) }
     ensures failed { IfErr result (λ e. e.fault ≡ fault.Failed → Rose (S.faults scripts.old) (S.faults scripts.new)) }
-    ensures too_long { IfErr result (λ e. e.fault ≡ fault.TooLong → HoldsMore (S.held scripts.old) (slice_index_or (map (λ f. f.now) files.now) (length e.texts.items) []) limit) }
-    ensures last { IfErr result (λ e. e.fault ≢ fault.Memory → Added (S.names scripts.old) (S.names scripts.new) (take (length e.texts.items + 1) (map (λ f. f.now) files.now))) }
+    ensures last { IfErr result (λ e. e.fault ≢ fault.Memory → Added (S.names scripts.old) (S.names scripts.new) (take (length e.texts.items + 1) (names_of files.now))) }
 {
     let mut texts = Vec::new(alloc);
     for name in files {

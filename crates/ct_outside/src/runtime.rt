@@ -1,6 +1,6 @@
 // The trusted edge: scripts from files, and lines to standard output. They tell nothing of what they hold or took.
 
-ghost use Rattle.std.specs.Prelude.{None};
+ghost use Rattle.std.specs.Prelude.{◌≡◌, None};
 
 use crate::scripts::{ReadError, Scripts};
 use crate::sinks::{Failed, Sink};
@@ -17,7 +17,9 @@ pub struct FileScripts<'a, R: Files> {
 }
 
 impl<'a, R: Files> FileScripts<'a, R> {
-    pub fn make(rt: &'a R) -> FileScripts<'a, R> {
+    pub fn make(rt: &'a R) -> FileScripts<'a, R>
+        ensures { ⟦<FileScripts<'a, R> as Scripts>⟧.faults result ≡ 0 }
+    {
         FileScripts { rt, faults: 0 }
     }
 }
@@ -58,7 +60,9 @@ pub struct StdSink<'a, R: Print> {
 }
 
 impl<'a, R: Print> StdSink<'a, R> {
-    pub fn make(rt: &'a R) -> StdSink<'a, R> {
+    pub fn make(rt: &'a R) -> StdSink<'a, R>
+        ensures { ⟦<StdSink<'a, R> as Sink>⟧.faults result ≡ 0 }
+    {
         StdSink { rt, faults: 0 }
     }
 }

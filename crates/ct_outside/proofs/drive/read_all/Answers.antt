@@ -1,5 +1,4 @@
-use Rattle.std.proofs.Common.{◌≡◌, ◌<◌, ◌∙◌, ◌+◌, ap, sym, subst, length, arith}
-use Rattle.std.proofs.lemmas.Grind.{common_steps}
+use Rattle.std.proofs.Common.{◌≡◌, ◌<◌, ◌∙◌, ◌+◌, ap, length, arith}
 use Rattle.ct_outside.proofs.Texts.{added_at, asked_up_to, front_at, still_more, hold_at, within_more, count_more}
 use Rattle.ct_outside.proofs.drive.read_all.Goals as goal
 

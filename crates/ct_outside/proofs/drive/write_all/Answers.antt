@@ -1,4 +1,4 @@
-use Rattle.std.proofs.Common.{◌≡◌, ◌∙◌, ap, sym, subst, arith}
+use Rattle.std.proofs.Common.{◌∙◌, subst, arith}
 use Rattle.ct_outside.specs.Outside.{AddedFront}
 use Rattle.ct_outside.proofs.Additions.{failed_at, on_err}
 use Rattle.ct_outside.proofs.drive.write_all.Goals as goal
