@@ -12,7 +12,7 @@ use Rattle.ct_word.specs.Reading.{commits_of, change_list_at}
 use Rattle.ct_word.specs.WellFormed.{is_plain_word, is_word_after, is_place_of}
 use Rattle.ct_word.proofs.Packed.{formed_snoc}
 use Rattle.ct_word.proofs.Commits.{HoldsCommit, commits_plain, commits_commit, plain_follows, commit_follows, commit_stands}
-use Rattle.ct_arena.specs.declared.tally.Counts.{Counts}
+use Rattle.ct_arena.specs.declared.tally.Tally.{Tally}
 use Rattle.ct_arena.specs.Counts.{opening, IsLog, AreNumbered, AreOfSessions, numbers_by, commit_word, commit_of}
 use Rattle.atomic_table.specs.Table.{Me}
 use Rattle.atomic_table.specs.Seated.{TableId}
@@ -78,14 +78,14 @@ log_push room ws w log after lt = record {
 }
 
 -- the counts after a plain word
-abbrev pub counted : Counts → Counts
+abbrev pub counted : Tally → Tally
 counted t = record { session = t.session; made = t.made + 1; mine = t.mine }
 
 -- the counts after a commit
-abbrev pub committed : Counts → Counts
+abbrev pub committed : Tally → Tally
 committed t = record { session = t.session; made = t.made + 1; mine = t.mine + 1 }
 
-pub sole_plain : (room : ℕ) (t : Counts) (ws : List ℕ) (w : ℕ) → IsSole room t ws → IsTrue (is_plain_word ws w) → (Contains ws w → ⊥) → length ws < room → IsSole room (counted t) (ws ++ w ∷ [])
+pub sole_plain : (room : ℕ) (t : Tally) (ws : List ℕ) (w : ℕ) → IsSole room t ws → IsTrue (is_plain_word ws w) → (Contains ws w → ⊥) → length ws < room → IsSole room (counted t) (ws ++ w ∷ [])
 sole_plain room t ws w sole plain absent lt =
     let same = commits_plain ws w plain in
     record {
@@ -104,7 +104,7 @@ commits_grow s m b ws sl ml bl =
     let is_m : (s * 262144 + m) % 262144 ≡ m = omega arith in
     commits_commit ws (s * 262144 + m) b al bl ∙ (λ i. commits_of ws ++ record { session = is_s i; number = is_m i; changes = change_list_at ws b } ∷ [])
 
-pub sole_commit : (room : ℕ) (t : Counts) (ws : List ℕ) (b : ℕ) → IsSole room t ws → t.mine < 2 ^ 18 → b < 2 ^ 28 → IsTrue (is_place_of ws class.ChangeList b) → length ws < room
+pub sole_commit : (room : ℕ) (t : Tally) (ws : List ℕ) (b : ℕ) → IsSole room t ws → t.mine < 2 ^ 18 → b < 2 ^ 28 → IsTrue (is_place_of ws class.ChangeList b) → length ws < room
     → IsSole room (committed t) (ws ++ commit_word t.session t.mine b ∷ [])
 sole_commit room t ws b sole ml bl list lt =
     let sl : t.session ≤ 1023 = omega (arith, sole.first) in
@@ -124,7 +124,7 @@ sole_commit room t ws b sole ml bl list lt =
     }
 
 -- a list that grew by a word that was put in is still of one session
-pub sole_put : (room : ℕ) (t : Counts) (ws ws' : List ℕ) (made w : ℕ) → IsSole room t ws → IsTrue (is_plain_word ws w) → Puts room ws ws' t.made made w
+pub sole_put : (room : ℕ) (t : Tally) (ws ws' : List ℕ) (made w : ℕ) → IsSole room t ws → IsTrue (is_plain_word ws w) → Puts room ws ws' t.made made w
     → IsSole room (record { session = t.session; made = made; mine = t.mine }) ws'
 sole_put room t ws ws' made w sole plain (inl same) =
     let e : t ≡ record { session = t.session; made = made; mine = t.mine } = (λ i. record { session = t.session; made = sym same.1 i; mine = t.mine }) in
@@ -147,7 +147,7 @@ commits_put room ws ws' old new w plain (inl same) = ap commits_of same.0
 commits_put room ws ws' old new w plain (inr more) = ap commits_of more.0 ∙ commits_plain ws w plain
 
 -- a pass whose list grew so is still a pass
-pub pass_put : (log : LogName) (table : TableId) (me : Me ℕ View) (t : Counts) (ws ws' : List ℕ) (made w : ℕ) → IsPass log table me t ws → IsTrue (is_plain_word ws w) → Puts log.cap ws ws' t.made made w
+pub pass_put : (log : LogName) (table : TableId) (me : Me ℕ View) (t : Tally) (ws ws' : List ℕ) (made w : ℕ) → IsPass log table me t ws → IsTrue (is_plain_word ws w) → Puts log.cap ws ws' t.made made w
     → IsPass log table me (record { session = t.session; made = made; mine = t.mine }) ws'
 pass_put log table me t ws ws' made w pass plain puts = record {
   named = pass.named;
@@ -159,3 +159,7 @@ pass_put log table me t ws ws' made w pass plain puts = record {
 
 pub stands_last : (ws : List ℕ) (w place : ℕ) → place ≡ length ws → StandsLast (ws ++ w ∷ []) place w
 stands_last ws w place e = record { stands = get_last ws w place e; last = omega (arith, length-append ws (w ∷ [])) }
+
+-- the next commit word of the session stands nowhere yet
+pub next_absent : (room : ℕ) (t : Tally) (ws : List ℕ) (b : ℕ) → IsSole room t ws → t.mine < 2 ^ 18 → b < 2 ^ 28 → Contains ws (commit_word t.session t.mine b) → ⊥
+next_absent room t ws b sole ml bl there = fresh t.session t.mine b ws (omega (arith, sole.first)) ml bl sole.numbered there

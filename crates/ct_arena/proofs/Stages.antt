@@ -8,15 +8,14 @@ use Rattle.ct_word.specs.Reading.{commits_of, meaning_of}
 use Rattle.ct_word.specs.WellFormed.{IsWellFormed, is_word_after}
 use Rattle.ct_arena.specs.declared.handing.View.{View}
 use Rattle.ct_arena.specs.declared.handing.View.TheVariants.{Held, Given}
-use Rattle.ct_arena.specs.declared.tally.Counts.{Counts}
+use Rattle.ct_arena.specs.declared.tally.Tally.{Tally}
 use Rattle.ct_arena.specs.declared.tally.Stage.{Stage}
 use Rattle.ct_arena.specs.declared.tally.Stage.TheVariants.{Expected, Away, Entered, Ended}
 use Rattle.atomic_table.specs.Table.{Me}
 use Rattle.atomic_table.specs.Seated.{TableId}
 use Rattle.ct_arena.specs.Name.{LogName}
-use Rattle.ct_arena.specs.Seen.{Tally}
 use Rattle.ct_arena.specs.Counts.{opening, IsLog, AreNumbered, AreOfSessions, numbers_by}
-use Rattle.ct_arena.specs.Kept.{IsNamed, IsSole, IsPass, IsAtStage, IsKeeper, tally, guest_at, enrolled_at, ended_at}
+use Rattle.ct_arena.specs.Kept.{IsNamed, IsSole, IsPass, IsAtStage, IsKeeper, guest_at, enrolled_at, ended_at}
 
 opening_formed : IsWellFormed opening
 unfolding opening is_word_after kind_with
@@ -49,20 +48,13 @@ stage_known room v ws (Entered t) h = h.1.known
 stage_known room v ws (Ended t) h = h.1.known
 
 -- the guest's counts are those of the stage
-pub stage_guest : (room : ℕ) (v : View) (ws : List ℕ) (at : Stage) (t : Counts) → guest_at at ≡ Some (tally t) → IsAtStage room v ws at → (v ≡ Held) × IsSole room t ws
+pub stage_guest : (room : ℕ) (v : View) (ws : List ℕ) (at : Stage) (t : Tally) → guest_at at ≡ Some t → IsAtStage room v ws at → (v ≡ Held) × IsSole room t ws
 stage_guest room v ws Expected t e h = absurd (cc)
 stage_guest room v ws Away t e h = absurd (cc)
 stage_guest room v ws (Ended u) t e h = absurd (cc)
 stage_guest room v ws (Entered u) t e h =
-    let same : tally u ≡ tally t = cc in
-    let is : u ≡ t = (λ i. record { session = (same i).session; made = (same i).made; mine = (same i).mine }) in
+    let is : u ≡ t = cc in
     (h.0, subst (λ x. IsSole room x ws) is h.1)
-
-pub stage_not_away : (room : ℕ) (v : View) (ws : List ℕ) (at : Stage) (t : Counts) → guest_at at ≡ Some (tally t) → enrolled_at at ≡ 1
-stage_not_away room v ws Expected t e = absurd (cc)
-stage_not_away room v ws Away t e = refl
-stage_not_away room v ws (Ended u) t e = refl
-stage_not_away room v ws (Entered u) t e = refl
 
 -- the keeper's list once every session was ended
 pub stage_counted : (room : ℕ) (v : View) (ws : List ℕ) (at : Stage) → guest_at at ≡ None → length (ended_at at) ≡ enrolled_at at → IsAtStage room v ws at → length ws ≡ 2 + sum_by (λ t. t.made) (ended_at at)
@@ -72,14 +64,14 @@ stage_counted room v ws (Entered t) e all h = absurd (cc)
 stage_counted room v ws (Ended t) e all h = omega (arith, h.1.counted)
 
 -- the keeper's pass after the guest's counts and its list changed together
-pub keeper_guest : (log : LogName) (table : TableId) (id : ℕ) (me : Me ℕ View) (ws ws' : List ℕ) (at : Stage) (t t' : Counts) → guest_at at ≡ Some (tally t) → IsKeeper log table id me ws at
+pub keeper_guest : (log : LogName) (table : TableId) (id : ℕ) (me : Me ℕ View) (ws ws' : List ℕ) (at : Stage) (t t' : Tally) → guest_at at ≡ Some t → IsKeeper log table id me ws at
     → (IsSole log.cap t ws → IsSole log.cap t' ws') → IsKeeper log table id me ws' (Entered t')
 keeper_guest log table id me ws ws' at t t' e k step =
     let was = stage_guest log.cap me.0 ws at t e k.stage in
     record { named = k.named; first = k.first; alone = k.alone; stage = (was.0, step was.1) }
 
 -- the pass that is given the keeper's list
-pub pass_given : (log : LogName) (table : TableId) (me : Me ℕ View) (t : Counts) (ws kept : List ℕ) → IsNamed log table → me ≡ (Given kept, []) → ws ≡ kept → IsSole log.cap t kept → IsPass log table me t ws
+pub pass_given : (log : LogName) (table : TableId) (me : Me ℕ View) (t : Tally) (ws kept : List ℕ) → IsNamed log table → me ≡ (Given kept, []) → ws ≡ kept → IsSole log.cap t kept → IsPass log table me t ws
 pass_given log table me t ws kept named given is sole =
     let P : Me ℕ View → Type 0 = λ m. IsPass log table m t kept in
     let there : P (Given kept, []) = record { named = named; given = refl; longer = ([], append-nil kept); commits = refl; sole = sole } in

@@ -5,12 +5,11 @@ use Rattle.atomic_table.specs.Table.{Me}
 use Rattle.atomic_table.specs.Seated.{TableId}
 use Rattle.ct_word.specs.Reading.{commits_of}
 use Rattle.ct_arena.specs.Name.{LogName}
-use Rattle.ct_arena.specs.Seen.{Tally}
 use Rattle.ct_arena.specs.Counts.{opening, IsLog, AreNumbered, AreOfSessions}
 use Rattle.ct_arena.specs.Handing.{given_of}
 use Rattle.ct_arena.specs.declared.handing.View.{View}
 use Rattle.ct_arena.specs.declared.handing.View.TheVariants as views
-use Rattle.ct_arena.specs.declared.tally.Counts.{Counts}
+use Rattle.ct_arena.specs.declared.tally.Tally.{Tally}
 use Rattle.ct_arena.specs.declared.tally.Stage.{Stage}
 use Rattle.ct_arena.specs.declared.tally.Stage.TheVariants as stage
 
@@ -21,7 +20,7 @@ pub record IsNamed (log : LogName) (id : TableId) : Type 0 where
   pub table : id ≡ log.table
 
 -- the words of a log to which this session alone appended
-pub record IsSole (cap : ℕ) (t : Counts) (words : List ℕ) : Type 0 where
+pub record IsSole (cap : ℕ) (t : Tally) (words : List ℕ) : Type 0 where
   pub log : IsLog cap words
   pub first : t.session ≡ 1
   pub counted : length words ≡ 2 + t.made
@@ -29,7 +28,7 @@ pub record IsSole (cap : ℕ) (t : Counts) (words : List ℕ) : Type 0 where
   pub known : AreOfSessions 1 words
 
 -- a pass grew from the list that it was given, by no commit
-pub record IsPass (log : LogName) (table : TableId) (me : Me ℕ View) (t : Counts) (words : List ℕ) : Type 0 where
+pub record IsPass (log : LogName) (table : TableId) (me : Me ℕ View) (t : Tally) (words : List ℕ) : Type 0 where
   pub named : IsNamed log table
   pub given : me ≡ (views.Given (given_of me.0), [])
   pub longer : IsPrefix (given_of me.0) words
@@ -55,10 +54,6 @@ pub record IsKeeper (log : LogName) (table : TableId) (id : ℕ) (me : Me ℕ Vi
   pub alone : me.1 ≡ []
   pub stage : IsAtStage log.cap me.0 words at
 
--- the tally of these counts
-abbrev pub tally : Counts → Tally
-tally t = record { session = t.session; made = t.made; mine = t.mine }
-
 -- how many sessions were enrolled
 abbrev pub enrolled_at : Stage → ℕ
 enrolled_at stage.Expected = 0
@@ -66,10 +61,10 @@ enrolled_at _ = 1
 
 -- the guest, if there is one
 abbrev pub guest_at : Stage → Option Tally
-guest_at (stage.Entered t) = Some (tally t)
+guest_at (stage.Entered t) = Some t
 guest_at _ = None
 
 -- the sessions that were ended
 abbrev pub ended_at : Stage → List Tally
-ended_at (stage.Ended t) = tally t ∷ []
+ended_at (stage.Ended t) = t ∷ []
 ended_at _ = []

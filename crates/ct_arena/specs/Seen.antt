@@ -1,12 +1,7 @@
 -- What contracts see of a pass, of a guest and of the keeper's pass.
 use Rattle.std.specs.Prelude.{◌≡◌, ℕ, ◌+◌, List, [], ◌∷◌, ◌++◌, Option, Some, length}
 use Rattle.std.specs.Prelude.{◌⊎◌, slice_get}
-
--- a session, with how many words it appended and how many of them are commits
-pub record Tally : Type 0 where
-  pub session : ℕ
-  pub made : ℕ
-  pub mine : ℕ
+use Rattle.ct_arena.specs.declared.tally.Tally.{Tally}
 
 -- what a session has seen of the log, with its tally
 pub record Seen : Type 0 where

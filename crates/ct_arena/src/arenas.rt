@@ -3,7 +3,7 @@
 ghost use Rattle.std.specs.Prelude.{◌≡◌, [], ◌≤◌, ◌<◌, IfOk, None};
 ghost use Rattle.ct_arena.specs.Counts.{opening};
 
-use crate::handing::{Place, Tie};
+use crate::handing::{Tie, Token};
 use crate::keepers::KeeperPass;
 use crate::sites::Site;
 use ct_word::{Kind, Memory, pack};
@@ -15,7 +15,7 @@ use std::marker::{Model, PhantomData};
 pub struct Blank {
     cap: u32,
     tie: Tie,
-    place: Place,
+    token: Token,
     words: Vec<u64>,
 }
 
@@ -31,7 +31,7 @@ impl Model for Blank {
 
     ghost view = { λ b. record { cap = b.cap; table = b.tie.shared.table_id } };
 
-    ghost invariant = { λ b. (b.place.table_id ≡ b.tie.shared.table_id) × (b.place.id ≡ 0) × (b.place.me ≡ (views.Held, [])) × (0 < b.tie.shared.table_id.words) × (b.words.items ≡ opening) × (b.cap ≤ vec_capacity b.words) × (64 ≤ b.cap) × (b.cap ≤ 4194304) };
+    ghost invariant = { λ b. (b.token.table_id ≡ b.tie.shared.table_id) × (b.token.id ≡ 0) × (b.token.me ≡ (views.Held, [])) × (0 < b.tie.shared.table_id.words) × (b.words.items ≡ opening) × (b.cap ≤ vec_capacity b.words) × (64 ≤ b.cap) × (b.cap ≤ 4194304) };
 }
 
 impl Blank {
@@ -48,11 +48,11 @@ impl Blank {
         let mut words = Vec::with_capacity(alloc, cap as usize)?;
         words.push_reserved(pack(Kind::True, 0, 0));
         words.push_reserved(pack(Kind::False, 0, 0));
-        let (tie, place) = Tie::of_words(alloc, &[0], &0)?;
+        let (tie, token) = Tie::of_words(alloc, &[0], &0)?;
         Ok(Blank {
             cap,
             tie,
-            place,
+            token,
             words,
         })
     }
@@ -63,7 +63,7 @@ impl Blank {
 pub struct Arena<N: Site> {
     pub(crate) cap: u32,
     pub(crate) tie: Tie,
-    of: PhantomData<N>,
+    site: PhantomData<N>,
     ghost table: { tie.shared.table_id ≡ N.log.table },
     ghost word: { 0 < N.log.table.words },
     ghost room: { cap ≡ N.log.cap },
@@ -80,14 +80,14 @@ impl<N: Site> Arena<N> {
         let Blank {
             cap,
             tie,
-            place,
+            token,
             words,
         } = blank;
         let arena = Arena {
             cap,
             tie,
-            of: PhantomData,
+            site: PhantomData,
         };
-        (arena, KeeperPass::of(place, words))
+        (arena, KeeperPass::from_parts(token, words))
     }
 }

@@ -79,10 +79,10 @@ impl Play<u8, View> for Settles {
 
 pub type Tie = Table<u8, View, u8, Handing, Global>;
 
-pub type Place = Seat<u8, View>;
+pub type Token = Seat<u8, View>;
 
-fn give_told<T: Told>(tie: &Tie, keeper: &mut Place, _words: &[u64]) -> Place
-    requires told { _words.now ≡ T.list }
+fn give_told<T: Told>(tie: &Tie, keeper: &mut Token, words: &[u64]) -> Token
+    requires told { words.now ≡ T.list }
     requires same { keeper.old.table_id ≡ tie.now.shared.table_id }
     requires word { 0 < tie.now.shared.table_id.words }
     requires first { keeper.old.id ≡ 0 }
@@ -93,11 +93,12 @@ fn give_told<T: Told>(tie: &Tie, keeper: &mut Place, _words: &[u64]) -> Place
     ensures table { result.table_id ≡ keeper.old.table_id }
     ensures given { result.me ≡ (View.Given T.list, []) }
 {
+    let _ = words;
     tie.shared.split_seat::<Gives<T>>(keeper)
 }
 
 /// Gives these words to a session.
-pub fn give(tie: &Tie, keeper: &mut Place, words: &[u64]) -> Place
+pub fn give(tie: &Tie, keeper: &mut Token, words: &[u64]) -> Token
     requires same { keeper.old.table_id ≡ tie.now.shared.table_id }
     requires word { 0 < tie.now.shared.table_id.words }
     requires first { keeper.old.id ≡ 0 }
@@ -112,7 +113,7 @@ pub fn give(tie: &Tie, keeper: &mut Place, words: &[u64]) -> Place
 }
 
 /// Takes a session back.
-pub fn take_back(tie: &Tie, keeper: &mut Place, session: Place)
+pub fn take_back(tie: &Tie, keeper: &mut Token, session: Token)
     requires same { keeper.old.table_id ≡ tie.now.shared.table_id }
     requires session { session.table_id ≡ tie.now.shared.table_id }
     requires word { 0 < tie.now.shared.table_id.words }

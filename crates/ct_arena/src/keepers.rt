@@ -12,16 +12,19 @@ ghost use Rattle.std.specs.List.{range_with_len};
 
 use crate::arenas::Arena;
 use crate::full::Full;
-use crate::handing::{Place, give, take_back};
+use crate::handing::{Token, give, take_back};
+use crate::interning::put;
 use crate::logs::Log;
 use crate::passes::Pass;
-use crate::places::put;
 use crate::sites::Site;
-use crate::tally::{Counts, Stage};
+use crate::tally::{Stage, Tally};
 use ct_word::{Kind, Memory, pack};
 use std::alloc::Global;
 use std::marker::{Model, PhantomData};
 use std::mem;
+
+/// How many numbers the commits of one session have.
+const COMMITS_OF_SESSION: u32 = 0x4_0000;
 
 /// What a session did to the log until it was ended.
 #[derive(Clone, Copy, Debug, PartialEq, Eq)]
@@ -34,19 +37,18 @@ pub struct Ended {
 /// A session's pass while it is entered at the keeper. Its words are the keeper's list.
 #[derive(Drop)]
 pub struct Guest<N: Site> {
-    counts: Counts,
+    tally: Tally,
     spare: Vec<u64>,
-    of: PhantomData<N>,
+    site: PhantomData<N>,
 }
 
 impl<N: Site> Model for Guest<N> {
     ghost use Rattle.std.specs.Prelude.{◌≤◌, vec_capacity};
-    ghost use Rattle.ct_arena.specs.Seen.{Tally};
-    ghost use Rattle.ct_arena.specs.Kept.{tally};
+    ghost use Rattle.ct_arena.specs.declared.tally.Tally.{Tally};
 
     ghost Value = { Tally };
 
-    ghost view = { λ g. tally g.counts };
+    ghost view = { λ g. g.tally };
 
     ghost invariant = { λ g. N.log.cap ≤ vec_capacity g.spare };
 }
@@ -54,10 +56,10 @@ impl<N: Site> Model for Guest<N> {
 /// What the keeper has seen of the log that N names, and where it stands with each session.
 #[derive(Drop)]
 pub struct KeeperPass<N: Site> {
-    place: Place,
+    token: Token,
     seen: Vec<u64>,
     stage: Stage,
-    of: PhantomData<N>,
+    site: PhantomData<N>,
 }
 
 impl<N: Site> Model for KeeperPass<N> {
@@ -69,7 +71,7 @@ impl<N: Site> Model for KeeperPass<N> {
 
     ghost view = { λ k. record { words = k.seen.items; enrolled = enrolled_at k.stage; guest = guest_at k.stage; ended = ended_at k.stage } };
 
-    ghost invariant = { λ k. IsKeeper N.log k.place.table_id k.place.id k.place.me k.seen.items k.stage × (N.log.cap ≤ vec_capacity k.seen) };
+    ghost invariant = { λ k. IsKeeper N.log k.token.table_id k.token.id k.token.me k.seen.items k.stage × (N.log.cap ≤ vec_capacity k.seen) };
 }
 
 // These words, with room for as many as the capacity.
@@ -96,15 +98,15 @@ fn refill(list: &mut Vec<u64>, words: &[u64])
 }
 
 impl<N: Site> KeeperPass<N> {
-    pub(crate) fn of(place: Place, seen: Vec<u64>) -> KeeperPass<N>
-        requires { IsKeeper N.log place.table_id place.id place.me seen.items Stage.Expected × (N.log.cap ≤ vec_capacity seen) }
+    pub(crate) fn from_parts(token: Token, seen: Vec<u64>) -> KeeperPass<N>
+        requires { IsKeeper N.log token.table_id token.id token.me seen.items Stage.Expected × (N.log.cap ≤ vec_capacity seen) }
         ensures { result ≡ record { words = seen.items; enrolled = 0; guest = None; ended = [] } }
     {
         KeeperPass {
-            place,
+            token,
             seen,
             stage: Stage::Expected,
-            of: PhantomData,
+            site: PhantomData,
         }
     }
 
@@ -122,14 +124,14 @@ impl<N: Site> KeeperPass<N> {
         ensures err { OnErr result (self.new ≡ self.old) }
     {
         let seen = copied(alloc, arena.cap, self.seen.as_slice())?;
-        let place = give(&arena.tie, &mut self.place, self.seen.as_slice());
+        let token = give(&arena.tie, &mut self.token, self.seen.as_slice());
         self.stage = Stage::Away;
-        let counts = Counts {
+        let tally = Tally {
             session: 1,
             made: 0,
             mine: 0,
         };
-        Ok(Pass::of(place, counts, seen))
+        Ok(Pass::from_parts(token, tally, seen))
     }
 
     /// The words that the keeper has seen. While a guest is entered, they are the guest's too.
@@ -158,18 +160,18 @@ impl<N: Site> KeeperPass<N> {
         ensures ended { self.new.ended ≡ self.old.ended }
     {
         let Pass {
-            place,
-            counts,
+            token,
+            tally,
             seen,
-            of: _,
+            site: _,
         } = pass;
-        take_back(&arena.tie, &mut self.place, place);
+        take_back(&arena.tie, &mut self.token, token);
         let spare = mem::replace(&mut self.seen, seen);
-        self.stage = Stage::Entered(counts);
+        self.stage = Stage::Entered(tally);
         Guest {
-            counts,
+            tally,
             spare,
-            of: PhantomData,
+            site: PhantomData,
         }
     }
 
@@ -180,14 +182,14 @@ impl<N: Site> KeeperPass<N> {
         ensures left { self.new ≡ record { words = self.old.words; enrolled = self.old.enrolled; guest = None; ended = self.old.ended } }
     {
         let Guest {
-            counts,
+            tally,
             mut spare,
-            of: _,
+            site: _,
         } = guest;
         refill(&mut spare, self.seen.as_slice());
-        let place = give(&arena.tie, &mut self.place, self.seen.as_slice());
+        let token = give(&arena.tie, &mut self.token, self.seen.as_slice());
         self.stage = Stage::Away;
-        Pass::of(place, counts, spare)
+        Pass::from_parts(token, tally, spare)
     }
 
     /// The place of a word, which is appended for the guest where it does not stand in the log.
@@ -216,8 +218,8 @@ impl<N: Site> KeeperPass<N> {
         ensures alone { ¬ Contains self.old.words w → OnOk result ((self.new.words ≡ self.old.words ++ w ∷ []) × (guest.new.made ≡ guest.old.made + 1)) }
         ensures alone_err { OnErr result (self.new ≡ self.old) }
     {
-        let result = put(&mut self.seen, arena.cap, &mut guest.counts.made, w);
-        self.stage = Stage::Entered(guest.counts);
+        let result = put(&mut self.seen, arena.cap, &mut guest.tally.made, w);
+        self.stage = Stage::Entered(guest.tally);
         result
     }
 
@@ -243,7 +245,7 @@ impl<N: Site> KeeperPass<N> {
         ensures room { length self.new.words ≤ N.log.cap }
         ensures enrolled { self.new.enrolled ≡ self.old.enrolled }
         ensures ended { self.new.ended ≡ self.old.ended }
-        ensures full { OnErr result (length self.new.words ≡ N.log.cap) }
+        ensures full { IsErr result ↔ ((length self.new.words ≡ N.log.cap) × ¬ Contains self.new.words (commit_word guest.old.session guest.old.mine changes)) }
         ensures err { OnErr result (guest.new ≡ guest.old) }
         ensures none { OnErr result (commits_of self.new.words ≡ commits_of self.old.words) }
 
@@ -256,19 +258,12 @@ impl<N: Site> KeeperPass<N> {
         if place == arena.cap {
             return Err(Full);
         }
-        let Counts {
-            session,
-            made,
-            mine,
-        } = guest.counts;
+        let numbered = guest.tally.session * COMMITS_OF_SESSION + guest.tally.mine;
         self.seen
-            .push_reserved(pack(Kind::Commit, session * 0x4_0000 + mine, changes));
-        guest.counts = Counts {
-            session,
-            made: made + 1,
-            mine: mine + 1,
-        };
-        self.stage = Stage::Entered(guest.counts);
+            .push_reserved(pack(Kind::Commit, numbered, changes));
+        guest.tally.made += 1;
+        guest.tally.mine += 1;
+        self.stage = Stage::Entered(guest.tally);
         Ok(place)
     }
 
@@ -284,12 +279,12 @@ impl<N: Site> KeeperPass<N> {
         ensures enrolled { self.new.enrolled ≡ self.old.enrolled }
         ensures guest { self.new.guest ≡ None }
     {
-        let Guest { counts, .. } = self.enter(arena, pass);
-        self.stage = Stage::Ended(counts);
+        let Guest { tally, .. } = self.enter(arena, pass);
+        self.stage = Stage::Ended(tally);
         Ended {
-            session: counts.session,
-            made: counts.made,
-            commits: counts.mine,
+            session: tally.session,
+            made: tally.made,
+            commits: tally.mine,
         }
     }
 
@@ -307,6 +302,6 @@ impl<N: Site> KeeperPass<N> {
         ensures known { AreOfSessions self.enrolled result }
     {
         let _ = arena;
-        Log::of(self.seen)
+        Log::from_parts(self.seen)
     }
 }

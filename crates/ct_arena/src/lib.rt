@@ -8,10 +8,10 @@
 mod arenas;
 mod full;
 mod handing;
+mod interning;
 mod keepers;
 mod logs;
 mod passes;
-mod places;
 mod sites;
 mod tally;
 

@@ -21,7 +21,7 @@ impl Model for Log {
 }
 
 impl Log {
-    pub(crate) fn of(words: Vec<u64>) -> Log
+    pub(crate) fn from_parts(words: Vec<u64>) -> Log
         ensures { result ≡ words.items }
     {
         Log {

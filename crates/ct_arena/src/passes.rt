@@ -9,19 +9,19 @@ ghost use Rattle.ct_arena.specs.Seen.{CountsWord};
 
 use crate::arenas::Arena;
 use crate::full::Full;
-use crate::handing::Place;
-use crate::places::put;
+use crate::handing::Token;
+use crate::interning::put;
 use crate::sites::Site;
-use crate::tally::Counts;
+use crate::tally::Tally;
 use std::marker::{Model, PhantomData};
 
 /// What one session has seen of the log that N names, and how much of it is its own.
 #[derive(Drop)]
 pub struct Pass<N: Site> {
-    pub(crate) place: Place,
-    pub(crate) counts: Counts,
+    pub(crate) token: Token,
+    pub(crate) tally: Tally,
     pub(crate) seen: Vec<u64>,
-    pub(crate) of: PhantomData<N>,
+    pub(crate) site: PhantomData<N>,
 }
 
 impl<N: Site> Model for Pass<N> {
@@ -31,21 +31,21 @@ impl<N: Site> Model for Pass<N> {
 
     ghost Value = { Seen };
 
-    ghost view = { λ p. record { session = p.counts.session; words = p.seen.items; made = p.counts.made; mine = p.counts.mine } };
+    ghost view = { λ p. record { session = p.tally.session; words = p.seen.items; made = p.tally.made; mine = p.tally.mine } };
 
-    ghost invariant = { λ p. IsPass N.log p.place.table_id p.place.me p.counts p.seen.items × (N.log.cap ≤ vec_capacity p.seen) };
+    ghost invariant = { λ p. IsPass N.log p.token.table_id p.token.me p.tally p.seen.items × (N.log.cap ≤ vec_capacity p.seen) };
 }
 
 impl<N: Site> Pass<N> {
-    pub(crate) fn of(place: Place, counts: Counts, seen: Vec<u64>) -> Pass<N>
-        requires { IsPass N.log place.table_id place.me counts seen.items × (N.log.cap ≤ vec_capacity seen) }
-        ensures { result ≡ record { session = counts.session; words = seen.items; made = counts.made; mine = counts.mine } }
+    pub(crate) fn from_parts(token: Token, tally: Tally, seen: Vec<u64>) -> Pass<N>
+        requires { IsPass N.log token.table_id token.me tally seen.items × (N.log.cap ≤ vec_capacity seen) }
+        ensures { result ≡ record { session = tally.session; words = seen.items; made = tally.made; mine = tally.mine } }
     {
         Pass {
-            place,
-            counts,
+            token,
+            tally,
             seen,
-            of: PhantomData,
+            site: PhantomData,
         }
     }
 
@@ -55,7 +55,7 @@ impl<N: Site> Pass<N> {
         ensures least { 1 ≤ result }
         ensures most { result ≤ 1023 }
     {
-        self.counts.session
+        self.tally.session
     }
 
     /// The words that the session has seen.
@@ -75,14 +75,14 @@ impl<N: Site> Pass<N> {
     pub fn made(&self) -> u32
         ensures { result ≡ self.now.made }
     {
-        self.counts.made
+        self.tally.made
     }
 
     /// How many commits are the session's.
     pub fn mine(&self) -> u32
         ensures { result ≡ self.now.mine }
     {
-        self.counts.mine
+        self.tally.mine
     }
 
     /// The place of a word, which is appended where it does not stand in the log.
@@ -106,7 +106,7 @@ impl<N: Site> Pass<N> {
         ensures alone { ¬ Contains self.old.words w → OnOk result (self.new ≡ record { session = self.old.session; words = self.old.words ++ w ∷ []; made = self.old.made + 1; mine = self.old.mine }) }
         ensures alone_err { OnErr result (self.new ≡ self.old) }
     {
-        put(&mut self.seen, arena.cap, &mut self.counts.made, w)
+        put(&mut self.seen, arena.cap, &mut self.tally.made, w)
     }
 
     /// Reads on to the end of the log.

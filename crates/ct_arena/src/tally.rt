@@ -2,7 +2,7 @@
 
 /// A session, with how many words it appended and how many of them are commits.
 #[derive(Clone, Copy)]
-pub struct Counts {
+pub struct Tally {
     pub session: u32,
     pub made: u32,
     pub mine: u32,
@@ -16,7 +16,7 @@ pub enum Stage {
     /// The session has its pass.
     Away,
     /// The session's pass is the keeper's guest.
-    Entered(Counts),
+    Entered(Tally),
     /// The session's pass was ended.
-    Ended(Counts),
+    Ended(Tally),
 }

@@ -2,7 +2,7 @@ use Rattle.std.proofs.Common.{◌≡◌, ℕ, List, ◌+◌, ◌≤◌, ap, sym,
 use Rattle.std.specs.Prelude.{IsTrue}
 use Rattle.ct_word.specs.WellFormed.{is_plain_word}
 use Rattle.ct_word.specs.Reading.{commits_of}
-use Rattle.ct_arena.specs.Kept.{Puts, guest_at, tally}
+use Rattle.ct_arena.specs.Kept.{Puts, guest_at}
 use Rattle.ct_arena.specs.Seen.{CountsWord}
 use Rattle.ct_arena.proofs.Sole.{sole_put, counts_put, commits_put}
 use Rattle.ct_arena.proofs.Stages.{keeper_guest, stage_log}
@@ -12,10 +12,10 @@ pub invariant_of-self : goal.invariant_of-self
 invariant_of-self g c =
     let plain : IsTrue (is_plain_word c.self.inside.seen.items c.args.w) = rw (ap (λ v. v.words) c.self.view_is) c.requires.word in
     let puts =
-    subst (λ room. Puts room c.self.inside.seen.items c.put-result.new.words.items c.guest.inside.counts.made c.put-result.new.made c.args.w) c.args.arena.now.room c.put-result.ensures.puts in
-    let entered : guest_at c.self.inside.stage ≡ Some (tally c.guest.inside.counts) = ap (λ v. v.guest) c.self.view_is ∙ c.requires.guest ∙ sym (ap Some c.guest.view_is) in (
-      keeper_guest g.N.Site.log _ _ _ c.self.inside.seen.items c.put-result.new.words.items c.self.inside.stage c.guest.inside.counts _ entered c.self.invariant.0
-          (λ sole. sole_put g.N.Site.log.cap c.guest.inside.counts c.self.inside.seen.items c.put-result.new.words.items c.put-result.new.made c.args.w sole plain puts),
+    subst (λ room. Puts room c.self.inside.seen.items c.put-result.new.words.items c.guest.inside.tally.made c.put-result.new.made c.args.w) c.args.arena.now.room c.put-result.ensures.puts in
+    let entered : guest_at c.self.inside.stage ≡ Some c.guest.inside.tally = ap (λ v. v.guest) c.self.view_is ∙ c.requires.guest ∙ sym (ap Some c.guest.view_is) in (
+      keeper_guest g.N.Site.log _ _ _ c.self.inside.seen.items c.put-result.new.words.items c.self.inside.stage c.guest.inside.tally _ entered c.self.invariant.0
+          (λ sole. sole_put g.N.Site.log.cap c.guest.inside.tally c.self.inside.seen.items c.put-result.new.words.items c.put-result.new.made c.args.w sole plain puts),
       omega (arith, c.put-result.ensures.reserved, c.args.arena.now.room),
     )
 
@@ -25,10 +25,10 @@ returns-clause-formed g c = (invariant_of-self g c).0.stage.1.log.formed
 pub returns-clause-made : goal.returns-clause-made
 returns-clause-made g c =
     subst (λ m. CountsWord m c.put-result.new.made c.put-result.new.words.items c.args.w) (ap (λ v. v.made) c.guest.view_is)
-    (counts_put c.args.arena.now.cap c.self.inside.seen.items c.put-result.new.words.items c.guest.inside.counts.made c.put-result.new.made c.args.w c.put-result.ensures.puts)
+    (counts_put c.args.arena.now.cap c.self.inside.seen.items c.put-result.new.words.items c.guest.inside.tally.made c.put-result.new.made c.args.w c.put-result.ensures.puts)
 
 pub returns-clause-commits : goal.returns-clause-commits
 returns-clause-commits g c =
     let plain : IsTrue (is_plain_word c.self.inside.seen.items c.args.w) = rw (ap (λ v. v.words) c.self.view_is) c.requires.word in
-    commits_put c.args.arena.now.cap c.self.inside.seen.items c.put-result.new.words.items c.guest.inside.counts.made c.put-result.new.made c.args.w plain c.put-result.ensures.puts
+    commits_put c.args.arena.now.cap c.self.inside.seen.items c.put-result.new.words.items c.guest.inside.tally.made c.put-result.new.made c.args.w plain c.put-result.ensures.puts
     ∙ ap (λ v. commits_of v.words) c.self.view_is

@@ -9,8 +9,8 @@ use Rattle.ct_arena.proofs.passes.Pass.intern.Goals as goal
 pub invariant_of-self : goal.invariant_of-self
 invariant_of-self g c =
     let plain : IsTrue (is_plain_word c.self.inside.seen.items c.args.w) = rw (ap (λ v. v.words) c.self.view_is) c.requires in
-    let puts = subst (λ room. Puts room c.self.inside.seen.items c.put.new.words.items c.self.inside.counts.made c.put.new.made c.args.w) c.args.arena.now.room c.put.ensures.puts in (
-      pass_put g.N.Site.log _ _ c.self.inside.counts c.self.inside.seen.items c.put.new.words.items c.put.new.made c.args.w c.self.invariant.0 plain puts,
+    let puts = subst (λ room. Puts room c.self.inside.seen.items c.put.new.words.items c.self.inside.tally.made c.put.new.made c.args.w) c.args.arena.now.room c.put.ensures.puts in (
+      pass_put g.N.Site.log _ _ c.self.inside.tally c.self.inside.seen.items c.put.new.words.items c.put.new.made c.args.w c.self.invariant.0 plain puts,
       omega (arith, c.put.ensures.reserved, c.args.arena.now.room),
     )
 
@@ -20,4 +20,4 @@ returns-clause-formed g c = (invariant_of-self g c).0.sole.log.formed
 pub returns-clause-made : goal.returns-clause-made
 returns-clause-made g c =
     subst (λ m. CountsWord m c.put.new.made c.put.new.words.items c.args.w) (ap (λ v. v.made) c.self.view_is)
-    (counts_put c.args.arena.now.cap c.self.inside.seen.items c.put.new.words.items c.self.inside.counts.made c.put.new.made c.args.w c.put.ensures.puts)
+    (counts_put c.args.arena.now.cap c.self.inside.seen.items c.put.new.words.items c.self.inside.tally.made c.put.new.made c.args.w c.put.ensures.puts)
