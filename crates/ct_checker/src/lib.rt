@@ -12,6 +12,8 @@ mod marks;
 mod paths;
 mod places;
 mod propagation;
+#[cfg(test)]
+mod tests;
 
 pub use checking::{check, widest};
 pub use marks::Marks;

@@ -8,6 +8,9 @@ use Rattle.ct_derivation.specs.declared.steps.Why.{Why}
 use Rattle.ct_derivation.specs.declared.steps.Why.TheVariants as why
 use Rattle.ct_derivation.specs.declared.steps.Step.{Step}
 use Rattle.ct_derivation.specs.Literal.{Clause, yes_of, no_of, same_lit, has, same_members}
+use Rattle.std.specs.Prelude.{pos, negsuc, map}
+use Rattle.ct_derivation.specs.Propagation.{follows}
+use Rattle.ct_derivation.specs.Variables.{signed, over_variables}
 use Rattle.ct_derivation.specs.Path.{is_constant, ends_clause, is_path}
 use Rattle.ct_derivation.specs.Accepts.{fits_atom, fits_lit, gives, is_right, accepts}
 
@@ -72,3 +75,7 @@ hint_repeated_after = refl
 no_steps : accepts chain_words 14 (record { steps = [] }) ≡ false
 unfolding chain_words kind_with accepts
 no_steps = refl
+
+-- (1 or 2) and (not 1 or 2) and not 2, over variables
+units : follows over_variables (map (map signed) ((pos 1 ∷ pos 2 ∷ []) ∷ (negsuc 0 ∷ pos 2 ∷ []) ∷ (negsuc 1 ∷ []) ∷ [])) [] (2 ∷ 0 ∷ 1 ∷ []) ≡ true
+units = refl

@@ -5,3 +5,4 @@ pub mod Path
 pub mod Accepts
 pub mod Truth
 pub mod Models
+pub mod Variables

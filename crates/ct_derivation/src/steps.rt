@@ -8,14 +8,16 @@ use ct_word::List;
 pub enum Why {
     /// The root is supposed to hold.
     Root,
-    /// The clause with this number among those that define the condition at a place
-    /// (Tseitin 1968).
+    /// The clause with this number, from 0, among those that define the condition at a place by
+    /// its fields (Tseitin 1968).
     Def(u32, u8),
-    /// Equality is transitive along these places of terms (Bryant and Velev 2002).
+    /// Equality is transitive along these places of terms (transitivity constraints, Bryant and
+    /// Velev 2002), and different constants differ.
     Path(List<u32>),
-    /// The clause follows by reverse unit propagation from these earlier steps, counted from 0
-    /// (Goldberg and Novikov 2003; as hints in the order of propagation: LRAT, Cruz-Filipe and
-    /// others 2017).
+    /// The clause follows by reverse unit propagation (Goldberg and Novikov 2003): its literals
+    /// are taken as false, and each hint names an earlier step, from 0, all but one of whose
+    /// literals are false by then, so that the last one is true, up to one all of whose literals
+    /// are false. The hints stand in the order of propagation (LRAT, Cruz-Filipe and others 2017).
     Rup(List<u32>),
 }
 
