@@ -12,8 +12,9 @@ use Rattle.ct_transcript.specs.declared.reply.Reply.TheVariants as reply
 use Rattle.ct_transcript.specs.declared.reply.Refusal.{Refusal}
 use Rattle.ct_transcript.specs.declared.reply.Refusal.TheVariants as refusal
 use Rattle.ct_transcript.specs.declared.reply.SessionLog.{SessionLog}
+use Rattle.ct_transcript.specs.declared.nodes.Printed.{Printed}
 use Rattle.ct_transcript.specs.TermText.{in_parentheses, with_commas, cells_text}
-use Rattle.ct_transcript.specs.NodeText.{line, Printed, printed, as_root, name_lines, unless_true, is_true_node, is_false_node}
+use Rattle.ct_transcript.specs.NodeText.{line, printed, as_root, name_lines, unless_true, is_true_node, is_false_node}
 
 -- a row's cells and its condition
 abbrev pub row_text : List Node → List Printed → AnswerRow → List ℕ

@@ -4,7 +4,9 @@
 //! `lines` is its text, one entry a line (`specs/Text.antt`).
 #![tactic(auto)]
 
+mod nodes;
 mod reply;
+mod terms;
 
 pub use ct_rewrite::{AnswerRow, Change, Commit, Node};
 pub use reply::{Answer, Refusal, Reply, SessionLog};
