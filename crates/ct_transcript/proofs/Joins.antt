@@ -22,3 +22,7 @@ pub join_written : {X : Type 0} (f : X → List ℕ) (sep : List ℕ) (xs : List
 join_written f sep xs i x d start before mid after h e p q r =
     r ∙ ap (λ b. b ++ f x) (q ∙ ap (λ b. b ++ separator_before i sep) p)
     ∙ ap (λ y. ((start ++ join_by f sep (take i xs)) ++ separator_before i sep) ++ f y) e ∙ rw (join_more f sep xs i d h) (simp append_assoc)
+
+-- two texts written one after the other
+pub both_written : (t x out mid new : List ℕ) → mid ≡ out ++ t → new ≡ mid ++ x → new ≡ out ++ (t ++ x)
+both_written t x out mid new p q = q ∙ rw p (append_assoc out t x)

@@ -17,7 +17,7 @@ two_or_more m n e = grind (arith, nat_tests)
 pub one_name : (b : Bool) (i named : ℕ) (refs : List ℕ) (ns : List Node) (names : List (Option ℕ)) (name : Option ℕ) (named' : ℕ)
     → name ≡ (if b then Some (named + 1) else None) → named' ≡ (if b then named + 1 else named)
     → names ++ (if b then Some (named + 1) ∷ names_from (i + 1) (named + 1 + 1) refs ns else None ∷ names_from (i + 1) (named + 1) refs ns)
-      ≡ (names ++ name ∷ []) ++ names_from (i + 1) (named' + 1) refs ns
+    ≡ (names ++ name ∷ []) ++ names_from (i + 1) (named' + 1) refs ns
 one_name true i named refs ns names name named' p q = rw (p, q) (sym (append_assoc names _ _))
 one_name false i named refs ns names name named' p q = rw (p, q) (sym (append_assoc names _ _))
 
