@@ -1,0 +1,4 @@
+pub mod Quotes
+pub mod Joins
+pub mod Names
+pub mod Prints

@@ -1,3 +1,4 @@
+pub mod Written
 pub mod TermText
 pub mod NodeText
 pub mod Text

@@ -4,6 +4,7 @@ use Rattle.std.specs.List.{join_by}
 use Rattle.ct_rewrite.specs.declared.answer.Node.{Node}
 use Rattle.ct_rewrite.specs.declared.answer.Node.TheVariants as node
 use Rattle.ct_rewrite.specs.Nodes.{children_of}
+use Rattle.ct_transcript.specs.declared.nodes.Printed.{Printed}
 use Rattle.ct_transcript.specs.TermText.{in_parentheses, term_text}
 
 -- a text and its line end
@@ -30,12 +31,6 @@ names_from k next refs (n ∷ ns) =
 -- the names of a node list's nodes; roots are the references from outside the list
 abbrev pub names_of : List Node → List ℕ → List (Option ℕ)
 names_of nodes roots = names_from 0 1 (flat_map children_of nodes ++ roots) nodes
-
--- a node as it is printed: its name, whether it is an And or Or, its text
-pub record Printed : Type 0 where
-  pub name : Option ℕ
-  pub is_run : Bool
-  pub text : List ℕ
 
 -- the name of a node
 abbrev pub name_text : ℕ → List ℕ

@@ -12,8 +12,9 @@ use Rattle.ct_transcript.specs.declared.reply.Reply.TheVariants as reply
 use Rattle.ct_transcript.specs.declared.reply.Refusal.{Refusal}
 use Rattle.ct_transcript.specs.declared.reply.Refusal.TheVariants as refusal
 use Rattle.ct_transcript.specs.declared.reply.SessionLog.{SessionLog}
+use Rattle.ct_transcript.specs.declared.nodes.Printed.{Printed}
 use Rattle.ct_transcript.specs.TermText.{in_parentheses, with_commas, cells_text}
-use Rattle.ct_transcript.specs.NodeText.{line, Printed, printed, as_root, name_lines, unless_true, is_true_node, is_false_node}
+use Rattle.ct_transcript.specs.NodeText.{line, printed, as_root, name_lines, unless_true, is_true_node, is_false_node}
 
 -- a row's cells and its condition
 abbrev pub row_text : List Node → List Printed → AnswerRow → List ℕ
@@ -32,12 +33,17 @@ head_text word columns at plus =
 abbrev pub global_lines : List Node → List Printed → ℕ → List (List ℕ)
 global_lines nodes ps k = if is_true_node (slice_get nodes k) then [] else line (codes "  worlds where " ++ as_root (slice_get ps k)) ∷ []
 
--- the lines of an answer below its head
-abbrev pub answer_lines : Answer → List (List ℕ)
-answer_lines a =
-    let ps = printed a.nodes (map (λ r. r.cond) a.rows ++ a.global ∷ []) in
-    name_lines ps ++ global_lines a.nodes ps a.global
-    ++ map (λ r. line (codes "  " ++ row_text a.nodes ps r)) (filter (λ r. not (is_false_node (slice_get a.nodes r.cond))) a.rows)
+-- the lines of an answer's rows, those left out whose condition is False
+abbrev pub answer_row_lines : List Node → List Printed → List AnswerRow → List (List ℕ)
+answer_row_lines nodes ps rs = map (λ r. line (codes "  " ++ row_text nodes ps r)) (filter (λ r. not (is_false_node (slice_get nodes r.cond))) rs)
+
+-- an answer's nodes as they are printed; its rows and its global condition refer to them
+abbrev pub printed_answer : Answer → List Printed
+printed_answer a = printed a.nodes (map (λ r. r.cond) a.rows ++ a.global ∷ [])
+
+-- the lines of an answer below its head, over its printed nodes
+abbrev pub answer_lines : Answer → List Printed → List (List ℕ)
+answer_lines a ps = name_lines ps ++ global_lines a.nodes ps a.global ++ answer_row_lines a.nodes ps a.rows
 
 -- a refusal as it is printed
 abbrev pub refusal_text : Refusal → List ℕ
@@ -49,7 +55,7 @@ refusal_text refusal.Memory = codes "Memory"
 -- the lines of a reply, the first without its statement's number
 abbrev pub reply_lines : Reply → List ℕ × List (List ℕ)
 reply_lines (reply.Committed at) = (codes "committed " ++ decimal at, [])
-reply_lines (reply.Rows at plus answer) = (head_text (codes "rows") answer.columns at plus, answer_lines answer)
+reply_lines (reply.Rows at plus answer) = (head_text (codes "rows") answer.columns at plus, answer_lines answer (printed_answer answer))
 reply_lines (reply.Refused at why) = (codes "refused " ++ refusal_text why, [])
 
 -- the lines of the reply to statement k
@@ -85,17 +91,22 @@ change_text nodes ps (change.Insert name rs) = codes "insert into " ++ name ++ c
 change_text nodes ps (change.Delete name c) = codes "delete from " ++ name ++ codes " where " ++ as_root (slice_get ps c)
 change_text nodes ps (change.Assert c) = codes "assert " ++ as_root (slice_get ps c)
 
--- the lines of commit m
-abbrev pub commit_lines : ℕ → Commit → List (List ℕ)
-commit_lines m c =
-    let ps = printed c.nodes (flat_map references_of c.changes) in
-    line (decimal m ++ codes " by " ++ decimal c.session) ∷ name_lines ps
-    ++ map (λ x. line (codes "  " ++ change_text c.nodes ps x)) c.changes
+-- the lines of a commit's changes
+abbrev pub change_lines : List Node → List Printed → List Change → List (List ℕ)
+change_lines nodes ps cs = map (λ x. line (codes "  " ++ change_text nodes ps x)) cs
+
+-- a commit's nodes as they are printed; its changes refer to them
+abbrev pub printed_commit : Commit → List Printed
+printed_commit c = printed c.nodes (flat_map references_of c.changes)
+
+-- the lines of commit m, over its printed nodes
+abbrev pub commit_lines : ℕ → Commit → List Printed → List (List ℕ)
+commit_lines m c ps = line (decimal m ++ codes " by " ++ decimal c.session) ∷ name_lines ps ++ change_lines c.nodes ps c.changes
 
 -- the lines of commit m and those after it
 abbrev pub commits_from : ℕ → List Commit → List (List ℕ)
 commits_from m [] = []
-commits_from m (c ∷ cs) = commit_lines m c ++ commits_from (m + 1) cs
+commits_from m (c ∷ cs) = commit_lines m c (printed_commit c) ++ commits_from (m + 1) cs
 
 -- the lines of these sessions and this history
 abbrev pub lines_of : List SessionLog → List Commit → List (List ℕ)

@@ -4,7 +4,14 @@
 //! `lines` is its text, one entry a line (`specs/Text.antt`).
 #![tactic(auto)]
 
+mod history;
+mod nodes;
+mod replies;
 mod reply;
+mod rows;
+mod sessions;
+mod terms;
 
 pub use ct_rewrite::{AnswerRow, Change, Commit, Node};
 pub use reply::{Answer, Refusal, Reply, SessionLog};
+pub use sessions::lines;

@@ -1,0 +1,20 @@
+use Rattle.std.proofs.Common.{◌++◌, ◌∙◌, ap}
+use Rattle.std.specs.Prelude.{codes, string_bytes}
+use Rattle.ct_transcript.specs.TermText.{in_parentheses, with_commas}
+use Rattle.ct_transcript.specs.Text.{rows_text}
+use Rattle.ct_transcript.proofs.Joins.{both_written}
+use Rattle.ct_transcript.proofs.history.push_change.Goals as goal
+
+pub returns-in_ok-push_names-in-Create : goal.returns-in_ok-push_names-in-Create
+returns-in_ok-push_names-in-Create c =
+    let columns = ap (λ ns. string_bytes c.push_about.new.out ++ in_parentheses (with_commas (λ n. n) ns)) c.as_slice.ensures in
+    rw c.in-Create.is (both_written (codes "create table " ++ c.in-Create.name ++ codes " ") _ _ _ _ c.in_ok-push_about-in-Create.ensures (c.in_ok-push_names-in-Create.ensures ∙ columns))
+
+pub returns-in_ok-push_rows-in-Insert : goal.returns-in_ok-push_rows-in-Insert
+returns-in_ok-push_rows-in-Insert c =
+    let shown = ap (λ rs. string_bytes c.push_about-in-Insert.new.out ++ rows_text c.args.nodes.now c.args.printed.now rs) c.as_slice-in-Insert.ensures in
+    rw c.in-Insert.is (both_written (codes "insert into " ++ c.in-Insert.name ++ codes " ") _ _ _ _ c.in_ok-push_about-in-Insert.ensures (c.in_ok-push_rows-in-Insert.ensures ∙ shown))
+
+pub returns-in_ok-push_root-in-Delete : goal.returns-in_ok-push_root-in-Delete
+returns-in_ok-push_root-in-Delete c =
+    rw c.in-Delete.is (both_written (codes "delete from " ++ c.in-Delete.name ++ codes " where ") _ _ _ _ c.in_ok-push_about-in-Delete.ensures c.in_ok-push_root-in-Delete.ensures)

@@ -1,0 +1,156 @@
+// Commits as they are printed.
+
+ghost use Rattle.std.specs.Prelude.{◌≡◌, List, [], ◌∷◌, ◌++◌, map, flat_map, codes, IfOk};
+ghost use Rattle.ct_transcript.specs.NodeText.{line};
+ghost use Rattle.ct_transcript.specs.Text.{references_of, change_text, change_lines, printed_commit, commit_lines, commits_from};
+ghost use Rattle.ct_transcript.specs.Written.{Appends, Adds};
+
+use crate::nodes::{Printed, print_nodes, push_root};
+use crate::rows::{push_conditions, push_line, push_name_lines, push_rows};
+use crate::terms::push_names;
+use ct_rewrite::{Change, Commit, Node};
+use ct_word::{Memory, Text};
+use std::alloc::Global;
+
+fn push_references(references: &mut Vec<u32>, change: &Change) -> Result<(), Memory>
+    ensures { Adds result references.old references.new (references_of change.now) }
+{
+    match change {
+        Change::Create { .. } => {}
+        Change::Insert { rows, .. } => push_conditions(references, rows.as_slice())?,
+        Change::Delete { cond, .. } | Change::Assert { cond } => references.push(*cond)?,
+    }
+    Ok(())
+}
+
+fn commit_references(alloc: Global, changes: &[Change]) -> Result<Vec<u32>, Memory>
+    ensures { IfOk result (λ ks. ks.items ≡ flat_map references_of changes.now) }
+{
+    let mut references = Vec::new(alloc);
+    for change in changes {
+        push_references(&mut references, change)?;
+    }
+    Ok(references)
+}
+
+// Appends what is done to a table, up to the parts of the change.
+fn push_about(out: &mut String, verb: &str, name: &Text, after: &str) -> Result<(), Memory>
+    ensures { Appends result out.old out.new (verb.now ++ name.now ++ after.now) }
+{
+    out.push_str(verb)?;
+    out.push_str(name.as_str())?;
+    out.push_str(after)?;
+    Ok(())
+}
+
+fn push_change(
+    out: &mut String,
+    nodes: &[Node],
+    printed: &[Printed],
+    change: &Change,
+) -> Result<(), Memory>
+    ensures { Appends result out.old out.new (change_text nodes.now printed.now change.now) }
+{
+    match change {
+        Change::Create { name, columns } => {
+            push_about(out, "create table ", name, " ")?;
+            push_names(out, columns.as_slice())?;
+        }
+        Change::Insert { name, rows } => {
+            push_about(out, "insert into ", name, " ")?;
+            push_rows(out, nodes, printed, rows.as_slice())?;
+        }
+        Change::Delete { name, cond } => {
+            push_about(out, "delete from ", name, " where ")?;
+            push_root(out, printed, *cond)?;
+        }
+        Change::Assert { cond } => {
+            out.push_str("assert ")?;
+            push_root(out, printed, *cond)?;
+        }
+    }
+    Ok(())
+}
+
+fn push_change_line(
+    alloc: Global,
+    lines: &mut Vec<Text>,
+    nodes: &[Node],
+    printed: &[Printed],
+    change: &Change,
+) -> Result<(), Memory>
+    ensures { Adds result lines.old lines.new (line (codes "  " ++ change_text nodes.now printed.now change.now) ∷ []) }
+{
+    let mut text = String::from_str(alloc, "  ")?;
+    push_change(&mut text, nodes, printed, change)?;
+    push_line(lines, text)
+}
+
+fn push_change_lines(
+    alloc: Global,
+    lines: &mut Vec<Text>,
+    nodes: &[Node],
+    printed: &[Printed],
+    changes: &[Change],
+) -> Result<(), Memory>
+    ensures { Adds result lines.old lines.new (change_lines nodes.now printed.now changes.now) }
+{
+    for change in changes {
+        push_change_line(alloc, lines, nodes, printed, change)?;
+    }
+    Ok(())
+}
+
+fn print_commit(alloc: Global, commit: &Commit) -> Result<Vec<Printed>, Memory>
+    ensures { IfOk result (λ ps. ps.items ≡ printed_commit commit.now) }
+{
+    let references = commit_references(alloc, commit.changes.as_slice())?;
+    print_nodes(alloc, commit.nodes.as_slice(), &references)
+}
+
+fn push_commit_lines(
+    alloc: Global,
+    lines: &mut Vec<Text>,
+    m: usize,
+    commit: &Commit,
+    printed: &[Printed],
+) -> Result<(), Memory>
+    ensures { Adds result lines.old lines.new (commit_lines m commit.now printed.now) }
+{
+    let session = commit.session;
+    push_line(lines, format!(in alloc; "{m} by {session}")?)?;
+    push_name_lines(alloc, lines, printed)?;
+    push_change_lines(
+        alloc,
+        lines,
+        commit.nodes.as_slice(),
+        printed,
+        commit.changes.as_slice(),
+    )
+}
+
+fn push_commit(
+    alloc: Global,
+    lines: &mut Vec<Text>,
+    m: usize,
+    commit: &Commit,
+) -> Result<(), Memory>
+    ensures { Adds result lines.old lines.new (commit_lines m commit.now (printed_commit commit.now)) }
+{
+    let printed = print_commit(alloc, commit)?;
+    push_commit_lines(alloc, lines, m, commit, &printed)
+}
+
+/// Adds the lines of the commits, which count from 1.
+pub(crate) fn push_commits(
+    alloc: Global,
+    lines: &mut Vec<Text>,
+    commits: &[Commit],
+) -> Result<(), Memory>
+    ensures { Adds result lines.old lines.new (commits_from 1 commits.now) }
+{
+    for (i, commit) in commits.iter().enumerate() {
+        push_commit(alloc, lines, i + 1, commit)?;
+    }
+    Ok(())
+}

@@ -1,0 +1,180 @@
+// Replies as they are printed.
+
+ghost use Rattle.std.specs.Prelude.{◌≡◌, ◌+◌, ◌<◌, ◌^◌, not, List, [], ◌∷◌, ◌++◌, map, filter, slice_get, codes, string_bytes, IfOk};
+ghost use Rattle.ct_transcript.specs.NodeText.{line, is_false_node};
+ghost use Rattle.ct_transcript.specs.Text.{row_text, plus_text, head_text, global_lines, answer_row_lines, printed_answer, answer_lines, refusal_text, reply_lines, numbered, replies_from};
+ghost use Rattle.ct_transcript.specs.Written.{Appends, Adds};
+
+use crate::nodes::{Printed, is_false, is_true, print_nodes, push_root};
+use crate::reply::{Answer, Refusal, Reply};
+use crate::rows::{push_conditions, push_line, push_name_lines, push_row};
+use crate::terms::push_names;
+use ct_rewrite::{AnswerRow, Node};
+use ct_word::{Memory, Text};
+use std::alloc::Global;
+use std::fmt::Write;
+
+fn push_head(
+    out: &mut String,
+    word: &str,
+    columns: &[Text],
+    at: u32,
+    plus: u32,
+) -> Result<(), Memory>
+    ensures { Appends result out.old out.new (head_text word.now columns.now at plus) }
+{
+    out.push_str(word)?;
+    out.push_str(" ")?;
+    push_names(out, columns)?;
+    write!(out, " at {at}")?;
+    if plus > 0 {
+        write!(out, " plus {plus}")?;
+    }
+    Ok(())
+}
+
+fn push_global_line(
+    alloc: Global,
+    lines: &mut Vec<Text>,
+    nodes: &[Node],
+    printed: &[Printed],
+    k: u32,
+) -> Result<(), Memory>
+    ensures { Adds result lines.old lines.new (global_lines nodes.now printed.now k) }
+{
+    if !is_true(nodes, k) {
+        let mut text = String::from_str(alloc, "  worlds where ")?;
+        push_root(&mut text, printed, k)?;
+        push_line(lines, text)?;
+    }
+    Ok(())
+}
+
+fn push_row_line(
+    alloc: Global,
+    lines: &mut Vec<Text>,
+    nodes: &[Node],
+    printed: &[Printed],
+    row: &AnswerRow,
+) -> Result<(), Memory>
+    ensures { Adds result lines.old lines.new (line (codes "  " ++ row_text nodes.now printed.now row.now) ∷ []) }
+{
+    let mut text = String::from_str(alloc, "  ")?;
+    push_row(&mut text, nodes, printed, row)?;
+    push_line(lines, text)
+}
+
+fn push_row_lines(
+    alloc: Global,
+    lines: &mut Vec<Text>,
+    nodes: &[Node],
+    printed: &[Printed],
+    rows: &[AnswerRow],
+) -> Result<(), Memory>
+    ensures { Adds result lines.old lines.new (answer_row_lines nodes.now printed.now rows.now) }
+{
+    for row in rows {
+        if !is_false(nodes, row.cond) {
+            push_row_line(alloc, lines, nodes, printed, row)?;
+        }
+    }
+    Ok(())
+}
+
+fn answer_references(alloc: Global, answer: &Answer) -> Result<Vec<u32>, Memory>
+    ensures { IfOk result (λ ks. ks.items ≡ map (λ r. r.cond) answer.now.rows ++ answer.now.global ∷ []) }
+{
+    let mut references = Vec::new(alloc);
+    push_conditions(&mut references, answer.rows.as_slice())?;
+    references.push(answer.global)?;
+    Ok(references)
+}
+
+fn print_answer(alloc: Global, answer: &Answer) -> Result<Vec<Printed>, Memory>
+    ensures { IfOk result (λ ps. ps.items ≡ printed_answer answer.now) }
+{
+    let references = answer_references(alloc, answer)?;
+    print_nodes(alloc, answer.nodes.as_slice(), &references)
+}
+
+fn push_answer_lines(
+    alloc: Global,
+    lines: &mut Vec<Text>,
+    answer: &Answer,
+    printed: &[Printed],
+) -> Result<(), Memory>
+    ensures { Adds result lines.old lines.new (answer_lines answer.now printed.now) }
+{
+    let nodes = answer.nodes.as_slice();
+    push_name_lines(alloc, lines, printed)?;
+    push_global_line(alloc, lines, nodes, printed, answer.global)?;
+    push_row_lines(alloc, lines, nodes, printed, answer.rows.as_slice())
+}
+
+fn push_answer(alloc: Global, lines: &mut Vec<Text>, answer: &Answer) -> Result<(), Memory>
+    ensures { Adds result lines.old lines.new (answer_lines answer.now (printed_answer answer.now)) }
+{
+    let printed = print_answer(alloc, answer)?;
+    push_answer_lines(alloc, lines, answer, &printed)
+}
+
+fn refusal_name(refusal: &Refusal) -> &'static str
+    ensures { result.now ≡ refusal_text refusal.now }
+{
+    match refusal {
+        Refusal::NotAStatement => "NotAStatement",
+        Refusal::NotYet => "NotYet",
+        Refusal::Full => "Full",
+        Refusal::Memory => "Memory",
+    }
+}
+
+// Appends the first line of a reply, without its statement's number and its line end.
+fn push_first(out: &mut String, reply: &Reply) -> Result<(), Memory>
+    ensures { Appends result out.old out.new (reply_lines reply.now).0 }
+{
+    match reply {
+        Reply::Committed { at } => write!(out, "committed {at}")?,
+        Reply::Rows { at, plus, answer } => {
+            push_head(out, "rows", answer.columns.as_slice(), *at, *plus)?
+        }
+        Reply::Refused { why, .. } => {
+            out.push_str("refused ")?;
+            out.push_str(refusal_name(why))?;
+        }
+    }
+    Ok(())
+}
+
+// Adds the lines of a reply after its first.
+fn push_rest(alloc: Global, lines: &mut Vec<Text>, reply: &Reply) -> Result<(), Memory>
+    ensures { Adds result lines.old lines.new (reply_lines reply.now).1 }
+{
+    match reply {
+        Reply::Rows { answer, .. } => push_answer(alloc, lines, answer),
+        _ => Ok(()),
+    }
+}
+
+fn push_reply(alloc: Global, lines: &mut Vec<Text>, k: usize, reply: &Reply) -> Result<(), Memory>
+    ensures { Adds result lines.old lines.new (numbered k (reply_lines reply.now)) }
+{
+    let mut first = format!(in alloc; "{k} ")?;
+    push_first(&mut first, reply)?;
+    push_line(lines, first)?;
+    push_rest(alloc, lines, reply)
+}
+
+/// Adds the lines of the replies, which count from 1.
+pub(crate) fn push_replies(
+    alloc: Global,
+    lines: &mut Vec<Text>,
+    replies: &[Reply],
+) -> Result<(), Memory>
+    ensures { Adds result lines.old lines.new (replies_from 1 replies.now) }
+{
+    for (i, reply) in replies.iter().enumerate() {
+        push_reply(alloc, lines, i + 1, reply)?;
+    }
+    Ok(())
+}

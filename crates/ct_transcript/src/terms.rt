@@ -1,0 +1,105 @@
+// Values, nulls, terms and names as they are printed.
+
+ghost use Rattle.std.specs.Prelude.{◌≡◌, flat_map, map, encode_utf8};
+ghost use Rattle.ct_transcript.specs.Written.{Appends, separator_before};
+ghost use Rattle.ct_transcript.specs.TermText.{in_parentheses, with_commas, quoted_byte, value_text, null_text, term_text, cells_text};
+
+use ct_word::{Memory, Null, Term, Text, Value};
+use std::fmt::Write;
+
+// Appends a character, a quote twice.
+fn push_char(out: &mut String, c: char) -> Result<(), Memory>
+    ensures { Appends result out.old out.new (flat_map quoted_byte (encode_utf8 c)) }
+{
+    if c == '\'' {
+        out.push(c)?;
+    }
+    out.push(c)?;
+    Ok(())
+}
+
+// Appends a text, each quote twice.
+#[tactic(auto, using(crate::proofs::Quotes::char_written))]
+fn push_quoted(out: &mut String, text: &str) -> Result<(), Memory>
+    ensures { Appends result out.old out.new (flat_map quoted_byte text.now) }
+{
+    for c in text.chars() {
+        push_char(out, c)?;
+    }
+    Ok(())
+}
+
+fn push_value(out: &mut String, value: &Value) -> Result<(), Memory>
+    ensures { Appends result out.old out.new (value_text value.now) }
+{
+    match value {
+        Value::Int(i) => write!(out, "{i}")?,
+        Value::Text(t) => {
+            out.push_str("'")?;
+            push_quoted(out, t.as_str())?;
+            out.push_str("'")?;
+        }
+        Value::Other(k) => write!(out, "@{k}")?,
+    }
+    Ok(())
+}
+
+fn push_null(out: &mut String, null: &Null) -> Result<(), Memory>
+    ensures { Appends result out.old out.new (null_text null.now) }
+{
+    match null {
+        Null::Named(t) => {
+            out.push_str("?")?;
+            out.push_str(t.as_str())?;
+        }
+        Null::Fresh { session, number } => write!(out, "?{session}#{number}")?,
+    }
+    Ok(())
+}
+
+pub(crate) fn push_term(out: &mut String, term: &Term) -> Result<(), Memory>
+    ensures { Appends result out.old out.new (term_text term.now) }
+{
+    match term {
+        Term::Column(k) => {
+            let position = u64::from(*k) + 1;
+            write!(out, "${position}")?;
+        }
+        Term::Null(n) => push_null(out, n)?,
+        Term::Value(x) => push_value(out, x)?,
+    }
+    Ok(())
+}
+
+pub(crate) fn push_separator(out: &mut String, i: usize, separator: &str) -> Result<(), Memory>
+    ensures { Appends result out.old out.new (separator_before i separator.now) }
+{
+    if i > 0 {
+        out.push_str(separator)?;
+    }
+    Ok(())
+}
+
+pub(crate) fn push_cells(out: &mut String, cells: &[Term]) -> Result<(), Memory>
+    ensures { Appends result out.old out.new (cells_text cells.now) }
+{
+    out.push_str("(")?;
+    for (i, cell) in cells.iter().enumerate() {
+        push_separator(out, i, ", ")?;
+        push_term(out, cell)?;
+    }
+    out.push_str(")")?;
+    Ok(())
+}
+
+pub(crate) fn push_names(out: &mut String, names: &[Text]) -> Result<(), Memory>
+    ensures { Appends result out.old out.new (in_parentheses (with_commas (λ n. n) names.now)) }
+{
+    out.push_str("(")?;
+    for (i, name) in names.iter().enumerate() {
+        push_separator(out, i, ", ")?;
+        out.push_str(name.as_str())?;
+    }
+    out.push_str(")")?;
+    Ok(())
+}
