@@ -1,0 +1,11 @@
+pub mod Places
+pub mod Values
+pub mod Codes
+pub mod Constants
+pub mod Members
+pub mod Units
+pub mod Clauses
+pub mod Sound
+pub mod Modelled
+pub mod Carried
+mod Tests

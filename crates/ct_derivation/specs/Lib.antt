@@ -1,0 +1,7 @@
+pub mod Literal
+pub mod Propagation
+pub mod Definition
+pub mod Path
+pub mod Accepts
+pub mod Truth
+pub mod Models
