@@ -1,0 +1,16 @@
+//! A propositional search: a model of clauses, or a refutation by reverse unit propagation.
+//!
+//! The search is that of Davis, Logemann and Loveland (1962): unit propagation, and a literal
+//! that is tried both ways where nothing follows. On the way back the falsified clauses are
+//! resolved (Robinson 1965), so that the last one learned is empty.
+#![tactic(auto)]
+
+mod assignment;
+mod literal;
+mod look;
+mod resolve;
+mod scan;
+mod search;
+mod verdict;
+
+pub use verdict::{Cnf, Rup, Verdict};
