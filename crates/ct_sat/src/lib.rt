@@ -11,6 +11,8 @@ mod look;
 mod resolve;
 mod scan;
 mod search;
+mod solver;
 mod verdict;
 
+pub use solver::solve;
 pub use verdict::{Cnf, Rup, Verdict};

@@ -40,7 +40,7 @@ fn resolve(alloc: Global, l: &i32, c: &[i32], d: &[i32]) -> Result<Vec<i32>, All
 }
 
 /// A place as a hint. A log of 2^32 clauses would not fit any memory of today.
-fn hint(k: usize) -> Result<u32, Memory>
+pub fn hint(k: usize) -> Result<u32, Memory>
     ensures { IfOk result (λ h. h ≡ k) }
 {
     u32::try_from(k).map_err(|_| Memory)

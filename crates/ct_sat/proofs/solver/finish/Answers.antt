@@ -1,0 +1,4 @@
+use Rattle.ct_sat.proofs.solver.finish.Goals as goal
+
+pub returns : goal.returns
+returns c = ?
