@@ -3,7 +3,7 @@ use Rattle.std.proofs.Common.{◌≡◌, ℕ, ◌<◌, ◌≤◌, true, false, L
 use Rattle.ct_sat.specs.declared.assignment.Truth.{Truth}
 use Rattle.ct_sat.specs.declared.verdict.Rup.{Rup}
 use Rattle.ct_sat.specs.Literal.{Clause, numbered, has, is_literal, is_clause, LARGEST}
-use Rattle.ct_sat.specs.Propagation.{follows}
+use Rattle.ct_derivation.specs.Propagation.{follows}
 use Rattle.ct_sat.specs.Assignment.{falsified}
 use Rattle.ct_sat.specs.Learned.{log_of, clause_at, AreLearned, Grows}
 use Rattle.ct_sat.specs.Resolvent.{resolvent}

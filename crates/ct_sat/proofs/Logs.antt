@@ -7,7 +7,7 @@ use Rattle.std.proofs.lemmas.Bool.{and_parts, and_from, false≢true}
 use Rattle.ct_sat.specs.declared.assignment.Truth.{Truth}
 use Rattle.ct_sat.specs.declared.verdict.Rup.{Rup}
 use Rattle.ct_sat.specs.Literal.{Clause, numbered, is_clause}
-use Rattle.ct_sat.specs.Propagation.{follows}
+use Rattle.ct_derivation.specs.Propagation.{follows}
 use Rattle.ct_sat.specs.Assignment.{falsified, falsified_but, IsUnit}
 use Rattle.ct_sat.specs.Learned.{clause_of, log_of, clause_at, each_follows, AreLearned, Grows}
 use Rattle.ct_sat.specs.Search.{IsFalsifiedAt, IsFalsifiedButAt, IsUnitAt}

@@ -8,7 +8,7 @@ use Rattle.std.proofs.lemmas.List.Folds.{list_all-append}
 use Rattle.std.proofs.lemmas.Bool.{and_parts, and_from, or_cases, or_parts, or_left, or_right, false≢true, both_ways, cases_Bool, cond-true, cond-false, false_from_ne_true}
 use Rattle.std.proofs.lemmas.Bool.Decides.{Decides-ltb}
 use Rattle.ct_sat.specs.Literal.{Clause, numbered, has, is_literal, is_clause}
-use Rattle.ct_sat.specs.Propagation.{Look, Unfit, Falsified, Unit_of, is_among, look, look_at, meets, are_hints, follows}
+use Rattle.ct_derivation.specs.Propagation.{Look, Unfit, Falsified, Forces, is_among, look, look_at, meets, are_hints, follows}
 use Rattle.ct_sat.specs.declared.assignment.Truth.{Truth}
 use Rattle.ct_sat.specs.declared.assignment.Truth.TheVariants as truth
 use Rattle.ct_sat.specs.Assignment.{truth_of, is_false, inverted, falsified, falsified_but, IsOpen, IsUnit}
@@ -113,7 +113,7 @@ look_all ls (x ∷ c) all =
     cond-true (has ls x) _ _ (all x (or_left _ _ (same_refl x))) ∙ look_all ls c (λ m h. all m (or_right (int_eq m x) _ h))
 
 module _ (ls : Clause) (l : ℤ) (out : has ls l ≡ false) (opposite_out : has ls (neg_ℤ l) ≡ false) where
-  look_again : (c : Clause) → Nearly ls l c → look numbered ls (Some l) c ≡ Unit_of l
+  look_again : (c : Clause) → Nearly ls l c → look numbered ls (Some l) c ≡ Forces l
   unfolding has
   look_again [] n = refl
   look_again (x ∷ c) n =
@@ -126,7 +126,7 @@ module _ (ls : Clause) (l : ℤ) (out : has ls l ≡ false) (opposite_out : has 
         | inr s ↦ cond-true (has ls x) (look numbered ls (Some l) c) _ (nearly_first ls l x c n s) ∙ look_again c (nearly_rest ls l x c n)
       ]
 
-  look_unit : (c : Clause) → Nearly ls l c → has c l ≡ true → look numbered ls None c ≡ Unit_of l
+  look_unit : (c : Clause) → Nearly ls l c → has c l ≡ true → look numbered ls None c ≡ Forces l
   unfolding has
   look_unit [] n h = absurd (false≢true h)
   look_unit (x ∷ c) n h =
@@ -143,9 +143,9 @@ module _ (ls : Clause) (l : ℤ) (out : has ls l ≡ false) (opposite_out : has 
 
 -- the test of two hints, by what it finds at each
 abbrev after_look : List Clause → Clause → Look ℤ → List ℕ → Bool
-after_look log ls k hs = elim k [ Unfit ↦ false | Falsified ↦ true | Unit_of l ↦ meets numbered log (ls ++ neg_ℤ l ∷ []) hs ]
+after_look log ls k hs = elim k [ Unfit ↦ false | Falsified ↦ true | Forces l ↦ meets numbered log (ls ++ neg_ℤ l ∷ []) hs ]
 
-meets_two : (log : List Clause) (ls : Clause) (l : ℤ) (a b : ℕ) → look_at numbered ls (slice_get log a) ≡ Unit_of l → look_at numbered (ls ++ neg_ℤ l ∷ []) (slice_get log b) ≡ Falsified → meets numbered log ls (a ∷ b ∷ []) ≡ true
+meets_two : (log : List Clause) (ls : Clause) (l : ℤ) (a b : ℕ) → look_at numbered ls (slice_get log a) ≡ Forces l → look_at numbered (ls ++ neg_ℤ l ∷ []) (slice_get log b) ≡ Falsified → meets numbered log ls (a ∷ b ∷ []) ≡ true
 meets_two log ls l a b e f = ap (λ k. after_look log ls k (b ∷ [])) e ∙ ap (λ k. after_look log (ls ++ neg_ℤ l ∷ []) k []) f
 
 not_false_open : (ts : List Truth) (l : ℤ) → IsOpen ts l → is_false (truth_of ts l) ≡ false

@@ -3,7 +3,7 @@ use Rattle.std.specs.Prelude.{◌≡◌, ℕ, Bool, true, ◌&&◌, List, [], �
 use Rattle.std.specs.List.{list_all}
 use Rattle.ct_sat.specs.declared.verdict.Rup.{Rup}
 use Rattle.ct_sat.specs.Literal.{Clause, is_clause, numbered}
-use Rattle.ct_sat.specs.Propagation.{follows}
+use Rattle.ct_derivation.specs.Propagation.{follows}
 
 abbrev pub clause_of : Rup → Clause
 clause_of r = r.clause

@@ -1,7 +1,6 @@
 pub mod Assignment
 pub mod Learned
 pub mod Literal
-pub mod Propagation
 pub mod Resolvent
 pub mod Search
 pub mod Verdict

@@ -3,7 +3,7 @@ use Rattle.std.specs.Prelude.{ℕ, zero, suc, Bool, true, false, List, nat_lt}
 use Rattle.std.specs.List.{list_any, list_all}
 use Rattle.std.specs.Ordering.{int_eq}
 use Rattle.std.proofs.Math.IntN.{ℤ, pos, negsuc, neg_ℤ}
-use Rattle.ct_sat.specs.Propagation.{Literals}
+use Rattle.ct_derivation.specs.Propagation.{Literals}
 
 -- a clause: the literals of which one is to be true
 abbrev pub Clause : Type 0

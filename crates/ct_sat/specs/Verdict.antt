@@ -2,7 +2,7 @@
 use Rattle.std.specs.Prelude.{◌≡◌, ℕ, ◌≤◌, zero, suc, Bool, true, false, not, List, [], ◌∷◌, length, map, slice_index_or}
 use Rattle.std.specs.List.{list_any, list_all}
 use Rattle.std.proofs.Math.IntN.{ℤ, pos, negsuc}
-use Rattle.ct_sat.specs.declared.verdict.Cnf.{Cnf}
+use Rattle.ct_derivation.specs.declared.steps.Cnf.{Cnf}
 use Rattle.ct_sat.specs.declared.verdict.Rup.{Rup}
 use Rattle.ct_sat.specs.declared.verdict.Verdict.{Verdict}
 use Rattle.ct_sat.specs.declared.verdict.Verdict.TheVariants as verdict

@@ -15,4 +15,5 @@ mod solver;
 mod verdict;
 
 pub use solver::solve;
-pub use verdict::{Cnf, Rup, Verdict};
+pub use ct_derivation::Cnf;
+pub use verdict::{Rup, Verdict};

@@ -8,7 +8,8 @@ ghost use Rattle.ct_sat.specs.Verdict.{IsCnf, IsRefutation, VerdictOf, ends_empt
 use crate::assignment::Truth;
 use crate::resolve::{hint, learn};
 use crate::search::{Found, search};
-use crate::verdict::{Cnf, Rup, Verdict};
+use crate::verdict::{Rup, Verdict};
+use ct_derivation::Cnf;
 use ct_word::{List, Memory};
 use std::alloc::{AllocError, Global};
 

@@ -2,13 +2,6 @@
 
 use ct_word::List;
 
-/// Clauses over the variables from 1 to `vars`. A literal is a variable or its negative.
-#[derive(Drop)]
-pub struct Cnf {
-    pub vars: u32,
-    pub clauses: List<List<i32>>,
-}
-
 /// A clause that follows by reverse unit propagation (Goldberg and Novikov 2003).
 #[derive(Drop)]
 pub struct Rup {
