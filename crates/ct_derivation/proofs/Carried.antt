@@ -4,13 +4,13 @@ use Rattle.std.specs.Prelude.{slice_get, option_map}
 use Rattle.std.specs.List.{list_all}
 use Rattle.std.proofs.lemmas.List.{map-append, length-map}
 use Rattle.std.proofs.lemmas.Option.{slice_get-map}
-use Rattle.ct_derivation.specs.Propagation.{Literals, Look, Unfit, Falsified, Unit_of, is_among, by_rest, look, look_at, meets, are_hints, follows, Carries}
+use Rattle.ct_derivation.specs.Propagation.{Literals, Look, Unfit, Falsified, Forces, is_among, by_rest, look, look_at, meets, are_hints, follows, Carries}
 
 module _ (from to : Literals) (f : from.literal → to.literal) (c : Carries from to f) where
   abbrev carried : Look from.literal → Look to.literal
   carried Unfit = Unfit
   carried Falsified = Falsified
-  carried (Unit_of l) = Unit_of (f l)
+  carried (Forces l) = Forces (f l)
 
   among_carried : (ls : List from.literal) (l : from.literal) → is_among to (map f ls) (f l) ≡ is_among from ls l
   among_carried [] l = refl
@@ -44,17 +44,17 @@ module _ (from to : Literals) (f : from.literal → to.literal) (c : Carries fro
   at_carried falses (Some ls) = look_carried falses None ls
 
   abbrev after_to : List (List from.literal) → List from.literal → List ℕ → Look to.literal → Bool
-  after_to log falses hs k = elim k [ Unfit ↦ false | Falsified ↦ true | Unit_of l ↦ meets to (map (map f) log) (map f falses ++ to.opposite l ∷ []) hs ]
+  after_to log falses hs k = elim k [ Unfit ↦ false | Falsified ↦ true | Forces l ↦ meets to (map (map f) log) (map f falses ++ to.opposite l ∷ []) hs ]
 
   abbrev after_from : List (List from.literal) → List from.literal → List ℕ → Look from.literal → Bool
-  after_from log falses hs k = elim k [ Unfit ↦ false | Falsified ↦ true | Unit_of l ↦ meets from log (falses ++ from.opposite l ∷ []) hs ]
+  after_from log falses hs k = elim k [ Unfit ↦ false | Falsified ↦ true | Forces l ↦ meets from log (falses ++ from.opposite l ∷ []) hs ]
 
   on_look : (log : List (List from.literal)) (falses : List from.literal) (hs : List ℕ)
       → ((l : from.literal) → meets to (map (map f) log) (map f falses ++ to.opposite (f l) ∷ []) hs ≡ meets from log (falses ++ from.opposite l ∷ []) hs)
       → (k : Look from.literal) → after_to log falses hs (carried k) ≡ after_from log falses hs k
   on_look log falses hs rest Unfit = refl
   on_look log falses hs rest Falsified = refl
-  on_look log falses hs rest (Unit_of l) = rest l
+  on_look log falses hs rest (Forces l) = rest l
 
   pub meets_carried : (log : List (List from.literal)) (falses : List from.literal) (hs : List ℕ) → meets to (map (map f) log) (map f falses) hs ≡ meets from log falses hs
   meets_carried log falses [] = refl

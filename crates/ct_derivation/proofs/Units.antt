@@ -4,7 +4,7 @@ use Rattle.std.specs.Prelude.{slice_get}
 use Rattle.std.specs.List.{list_any}
 use Rattle.std.proofs.lemmas.List.Folds.{list_any-append}
 use Rattle.std.proofs.lemmas.Bool.{or_cases, or_from, or_parts, and_parts, false≢true, both_ways, cases_Bool, cond_both, not_from_true}
-use Rattle.ct_derivation.specs.Propagation.{Literals, Look, Unfit, Falsified, Unit_of, is_among, by_rest, look, look_at, meets, are_hints, follows}
+use Rattle.ct_derivation.specs.Propagation.{Literals, Look, Unfit, Falsified, Forces, is_among, by_rest, look, look_at, meets, are_hints, follows}
 
 -- an assignment of truths to literals
 pub record IsAssignment (k : Literals) (t : k.literal → Bool) : Type 0 where
@@ -32,28 +32,28 @@ module _ (k : Literals) (t : k.literal → Bool) (a : IsAssignment k t) where
   Told rest ls Unfit = Unit {0}
   Told None ls Falsified = holds ls ≡ false
   Told (Some m) ls Falsified = ⊥
-  Told None ls (Unit_of l) = holds ls ≡ true → t l ≡ true
-  Told (Some m) ls (Unit_of l) = (m ≡ l) × (holds ls ≡ true → t l ≡ true)
+  Told None ls (Forces l) = holds ls ≡ true → t l ≡ true
+  Told (Some m) ls (Forces l) = (m ≡ l) × (holds ls ≡ true → t l ≡ true)
 
   -- a false literal in front changes nothing
   skipped : (rest : Option k.literal) (l : k.literal) (ls : List k.literal) (o : Look k.literal) → t l ≡ false → Told rest ls o → Told rest (l ∷ ls) o
   skipped rest l ls Unfit f d = tt
   skipped None l ls Falsified f d = or_from _ _ f d
   skipped (Some m) l ls Falsified f d = d
-  skipped None l ls (Unit_of n) f d = λ e. elim (or_cases (t l) (holds ls) e) [ inl y ↦ absurd (both_ways _ f y) | inr y ↦ d y ]
-  skipped (Some m) l ls (Unit_of n) f d = (d.0, λ e. elim (or_cases (t l) (holds ls) e) [ inl y ↦ absurd (both_ways _ f y) | inr y ↦ d.1 y ])
+  skipped None l ls (Forces n) f d = λ e. elim (or_cases (t l) (holds ls) e) [ inl y ↦ absurd (both_ways _ f y) | inr y ↦ d y ]
+  skipped (Some m) l ls (Forces n) f d = (d.0, λ e. elim (or_cases (t l) (holds ls) e) [ inl y ↦ absurd (both_ways _ f y) | inr y ↦ d.1 y ])
 
   -- the first literal that is not false, in front
   opened : (l : k.literal) (ls : List k.literal) (o : Look k.literal) → Told (Some l) ls o → Told None (l ∷ ls) o
   opened l ls Unfit d = tt
   opened l ls Falsified d = absurd d
-  opened l ls (Unit_of n) d = λ e. elim (or_cases (t l) (holds ls) e) [ inl y ↦ ap t (sym d.0) ∙ y | inr y ↦ d.1 y ]
+  opened l ls (Forces n) d = λ e. elim (or_cases (t l) (holds ls) e) [ inl y ↦ ap t (sym d.0) ∙ y | inr y ↦ d.1 y ]
 
   -- that literal once more
   again : (m l : k.literal) (ls : List k.literal) (o : Look k.literal) → t m ≡ t l → Told (Some m) ls o → Told (Some m) (l ∷ ls) o
   again m l ls Unfit s d = tt
   again m l ls Falsified s d = d
-  again m l ls (Unit_of n) s d = (d.0, λ e. elim (or_cases (t l) (holds ls) e) [ inl y ↦ ap t (sym d.0) ∙ s ∙ y | inr y ↦ d.1 y ])
+  again m l ls (Forces n) s d = (d.0, λ e. elim (or_cases (t l) (holds ls) e) [ inl y ↦ ap t (sym d.0) ∙ s ∙ y | inr y ↦ d.1 y ])
 
   by_rest_told : (rest : Option k.literal) → Told rest [] (by_rest rest)
   by_rest_told None = refl
@@ -91,14 +91,14 @@ module _ (k : Literals) (t : k.literal → Bool) (a : IsAssignment k t) where
 
     on_look : (falses : List k.literal) (hs : List ℕ) (c : List k.literal) → AllFalse falses → holds c ≡ true
         → ((l : k.literal) → AllFalse (falses ++ k.opposite l ∷ []) → after falses hs l ≡ true → ⊥)
-        → (o : Look k.literal) → Told None c o → (elim o [ Unfit ↦ false | Falsified ↦ true | Unit_of l ↦ after falses hs l ]) ≡ true → ⊥
+        → (o : Look k.literal) → Told None c o → (elim o [ Unfit ↦ false | Falsified ↦ true | Forces l ↦ after falses hs l ]) ≡ true → ⊥
     on_look falses hs c all d rest Unfit told e = false≢true e
     on_look falses hs c all d rest Falsified told e = both_ways _ told d
-    on_look falses hs c all d rest (Unit_of l) told e = rest l (more_false falses l all (told d)) e
+    on_look falses hs c all d rest (Forces l) told e = rest l (more_false falses l all (told d)) e
 
     at_hint : (falses : List k.literal) (hs : List ℕ) → AllFalse falses
         → ((l : k.literal) → AllFalse (falses ++ k.opposite l ∷ []) → after falses hs l ≡ true → ⊥)
-        → (o : Option (List k.literal)) → Holds o → (elim (look_at k falses o) [ Unfit ↦ false | Falsified ↦ true | Unit_of l ↦ after falses hs l ]) ≡ true → ⊥
+        → (o : Option (List k.literal)) → Holds o → (elim (look_at k falses o) [ Unfit ↦ false | Falsified ↦ true | Forces l ↦ after falses hs l ]) ≡ true → ⊥
     at_hint falses hs all rest None h e = false≢true e
     at_hint falses hs all rest (Some c) h e = on_look falses hs c all h rest (look k falses None c) (look_told falses all None c) e
 

@@ -12,7 +12,7 @@ pub record Literals : Type 1 where
 pub data Look (L : Type 0) : Type 0 where
   Unfit : Look L
   Falsified : Look L
-  Unit_of : (l : L) → Look L
+  Forces : (l : L) → Look L
 
 -- whether a literal is among these
 abbrev pub is_among : (k : Literals) → List k.literal → k.literal → Bool
@@ -21,7 +21,7 @@ is_among k ls l = list_any (k.same l) ls
 -- by the one literal that is not false, if there is one
 abbrev pub by_rest : {L : Type 0} → Option L → Look L
 by_rest None = Falsified
-by_rest (Some l) = Unit_of l
+by_rest (Some l) = Forces l
 
 -- the clause under false literals, of which no literal may be true and at most one not false; `rest` is the one met so far
 abbrev pub look : (k : Literals) → List k.literal → Option k.literal → List k.literal → Look k.literal
@@ -40,7 +40,7 @@ look_at k falses (Some clause) = look k falses None clause
 abbrev pub meets : (k : Literals) → List (List k.literal) → List k.literal → List ℕ → Bool
 meets k log falses [] = false
 meets k log falses (h ∷ hs) =
-    elim (look_at k falses (slice_get log h)) [ Unfit ↦ false | Falsified ↦ true | Unit_of l ↦ meets k log (falses ++ k.opposite l ∷ []) hs ]
+    elim (look_at k falses (slice_get log h)) [ Unfit ↦ false | Falsified ↦ true | Forces l ↦ meets k log (falses ++ k.opposite l ∷ []) hs ]
 
 -- whether each hint names a clause of the log
 abbrev pub are_hints : {X : Type 0} → List X → List ℕ → Bool

@@ -1,0 +1,9 @@
+use Rattle.std.proofs.Common.{◌≡◌, drop}
+use Rattle.std.specs.List.{list_all}
+use Rattle.ct_derivation.specs.Literal.{has}
+use Rattle.ct_derivation.specs.Path.{no_links}
+use Rattle.ct_checker.proofs.paths.has_links.Given as goal
+
+abbrev pub invariant-loop-place : goal.invariant-loop-place
+invariant-loop-place l =
+    list_all (has l.clause) (no_links l.last (drop l.place-index l.rest)) ≡ list_all (has l.clause) (no_links l.first l.rest)
