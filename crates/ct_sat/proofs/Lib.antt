@@ -5,3 +5,4 @@ pub mod Logs
 pub mod Looks
 pub mod Resolvents
 pub mod Searches
+pub mod Verdicts

@@ -47,16 +47,17 @@ grows_one vars clauses steps r l w f = record {
   learned = record {
     given = l.given;
     within = ap (list_all (is_clause vars)) (map-append clause_of steps (r ∷ []))
-    ∙ list_all-append (is_clause vars) (map clause_of steps) (r.clause ∷ []) ∙ and_from _ _ l.within (and_from _ true w refl);
+        ∙ list_all-append (is_clause vars) (map clause_of steps) (r.clause ∷ []) ∙ and_from _ _ l.within (and_from _ true w refl);
     follow = follows_last clauses steps r l.follow f;
   };
 }
 
 pub last_clause : (clauses : List Clause) (steps : List Rup) (r : Rup) (k : ℕ) → k ≡ length (log_of clauses steps) → (k < length (log_of clauses (steps ++ r ∷ []))) × (clause_at (log_of clauses (steps ++ r ∷ [])) k ≡ r.clause)
 last_clause clauses steps r k e =
-    let is = log_more clauses steps (r ∷ []) in
-    (omega (arith, ap length is, length_push (log_of clauses steps) r.clause),
-    ap (λ x. get_or x k []) is ∙ get_or_push (log_of clauses steps) r.clause [] k (sym e))
+    let is = log_more clauses steps (r ∷ []) in (
+      omega (arith, ap length is, length_push (log_of clauses steps) r.clause),
+      ap (λ x. get_or x k []) is ∙ get_or_push (log_of clauses steps) r.clause [] k (sym e),
+    )
 
 module _ {vars : ℕ} {clauses : List Clause} {old new : List Rup} (g : Grows vars clauses old new) where
   log_grows : log_of clauses new ≡ log_of clauses old ++ map clause_of g.more

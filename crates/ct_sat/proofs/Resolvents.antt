@@ -23,16 +23,16 @@ in_added out l [] m h = inl h
 in_added out l (x ∷ c) m h =
     elim (cases_Bool (int_eq l x || has out x)) [
       | inl t ↦ elim (in_added out l c m (sym (ap (λ o. has (added o l c) m) (cond-true (int_eq l x || has out x) out (out ++ x ∷ []) t)) ∙ h)) [
-          | inl y ↦ inl y
-          | inr y ↦ inr (or_right (int_eq m x) _ y.0, y.1)
-        ]
+        | inl y ↦ inl y
+        | inr y ↦ inr (or_right (int_eq m x) _ y.0, y.1)
+      ]
       | inr f ↦ elim (in_added (out ++ x ∷ []) l c m (sym (ap (λ o. has (added o l c) m) (cond-false (int_eq l x || has out x) out (out ++ x ∷ []) f)) ∙ h)) [
-          | inl y ↦ elim (or_cases (has out m) (int_eq m x) (sym (has_more out x m) ∙ y)) [
-              | inl z ↦ inl z
-              | inr s ↦ inr (or_left _ _ s, ap (int_eq l) (same_is m x s) ∙ (or_parts (int_eq l x) (has out x) f).0)
-            ]
-          | inr y ↦ inr (or_right (int_eq m x) _ y.0, y.1)
+        | inl y ↦ elim (or_cases (has out m) (int_eq m x) (sym (has_more out x m) ∙ y)) [
+          | inl z ↦ inl z
+          | inr s ↦ inr (or_left _ _ s, ap (int_eq l) (same_is m x s) ∙ (or_parts (int_eq l x) (has out x) f).0)
         ]
+        | inr y ↦ inr (or_right (int_eq m x) _ y.0, y.1)
+      ]
     ]
 
 pub added_keeps : (out : Clause) (l : ℤ) (c : Clause) (m : ℤ) → has out m ≡ true → has (added out l c) m ≡ true
@@ -51,9 +51,9 @@ added_has out l (x ∷ c) m h n =
       | inl t ↦ ap (λ o. has (added o l c) m) (cond-true (int_eq l x || has out x) out (out ++ x ∷ []) t)
           ∙ elim (or_cases (int_eq m x) (has c m) h) [
             | inl s ↦ elim (or_cases (int_eq l x) (has out x) t) [
-                | inl y ↦ absurd (both_ways _ n (ap (int_eq l) (same_is m x s) ∙ y))
-                | inr y ↦ added_keeps out l c m (ap (has out) (same_is m x s) ∙ y)
-              ]
+              | inl y ↦ absurd (both_ways _ n (ap (int_eq l) (same_is m x s) ∙ y))
+              | inr y ↦ added_keeps out l c m (ap (has out) (same_is m x s) ∙ y)
+            ]
             | inr y ↦ added_has out l c m y n
           ]
       | inr f ↦ ap (λ o. has (added o l c) m) (cond-false (int_eq l x || has out x) out (out ++ x ∷ []) f)

@@ -23,6 +23,7 @@ module _ (before : List Truth) (l : ℤ) (o : IsOpen before l) (made : List Trut
 
   -- a clause that is false where l is true, once l has no truth again
   pub taken_back : (after : List Truth) (log : List Clause) (k : ℕ) → FoundOf made after log (found.Falsified k) → AssumedOf before l (set after (place_of l) truth.Open) log (found.Falsified k)
-  taken_back after log k h =
-      (ap (λ ts. set ts (place_of l) truth.Open) (h.0 ∙ made_is) ∙ reopened before l o,
-      record { place = h.1.place; none = but_opposite before l (clause_at log k) o.within (subst (λ ts. falsified ts (clause_at log k) ≡ true) made_is h.1.none) })
+  taken_back after log k h = (
+    ap (λ ts. set ts (place_of l) truth.Open) (h.0 ∙ made_is) ∙ reopened before l o,
+    record { place = h.1.place; none = but_opposite before l (clause_at log k) o.within (subst (λ ts. falsified ts (clause_at log k) ≡ true) made_is h.1.none) },
+  )

@@ -14,6 +14,6 @@ mod search;
 mod solver;
 mod verdict;
 
-pub use solver::solve;
 pub use ct_derivation::Cnf;
+pub use solver::solve;
 pub use verdict::{Rup, Verdict};

@@ -1,6 +1,6 @@
 // A verdict on clauses.
 
-ghost use Rattle.std.specs.Prelude.{◌≡◌, ◌≤◌, ◌<◌, true, map, length, IfOk, OnOk, ◌++◌, ◌∷◌, []};
+ghost use Rattle.std.specs.Prelude.{◌≡◌, ◌≤◌, ◌<◌, true, map, replicate, length, IfOk, OnOk, ◌++◌, ◌∷◌, []};
 ghost use Rattle.ct_sat.specs.Assignment.{is_true};
 ghost use Rattle.ct_sat.specs.Learned.{log_of, clause_at, AreLearned};
 ghost use Rattle.ct_sat.specs.Verdict.{IsCnf, IsRefutation, VerdictOf, ends_empty};
@@ -45,7 +45,36 @@ fn finish(alloc: Global, cnf: &Cnf, learned: &mut Vec<Rup>, k: usize) -> Result<
     Ok(())
 }
 
+/// The assignment without truths.
+fn unassigned(alloc: Global, vars: usize) -> Result<Vec<Truth>, AllocError>
+    ensures { IfOk result (λ v. v.items ≡ replicate vars Truth.Open) }
+{
+    vec![in alloc; Truth::Open; vars]
+}
+
+/// The verdict by a search from the assignment without truths.
+fn conclude(alloc: Global, cnf: &Cnf, truths: &mut [Truth]) -> Result<Verdict, Memory>
+    requires cnf { IsCnf cnf.now }
+    requires unassigned { truths.old ≡ replicate cnf.now.vars Truth.Open }
+    ensures { IfOk result (λ v. VerdictOf cnf.now v) }
+{
+    let mut learned = Vec::new(alloc);
+    match search(alloc, cnf.clauses.as_slice(), &mut learned, truths, 0)? {
+        Found::Model => {
+            let model = model(alloc, truths)?;
+            Ok(Verdict::Model(List::from_vec(model)))
+        }
+        Found::Falsified(k) => {
+            finish(alloc, cnf, &mut learned, k)?;
+            Ok(Verdict::Refuted(List::from_vec(learned)))
+        }
+    }
+}
+
 /// A model of the clauses, or a refutation of them.
+///
+/// The search tries each way, so it always ends with one of both. It calls itself for each
+/// variable that gets a truth, at most `vars` deep.
 ///
 /// # Errors
 ///
@@ -54,16 +83,6 @@ pub fn solve(alloc: Global, cnf: &Cnf) -> Result<Verdict, Memory>
     requires { IsCnf cnf.now }
     ensures { IfOk result (λ v. VerdictOf cnf.now v) }
 {
-    let mut learned = Vec::new(alloc);
-    let mut truths = vec![in alloc; Truth::Open; cnf.vars as usize]?;
-    match search(alloc, cnf.clauses.as_slice(), &mut learned, truths.as_mut_slice(), 0)? {
-        Found::Model => {
-            let model = model(alloc, truths.as_slice())?;
-            Ok(Verdict::Model(List::from_vec(model)))
-        }
-        Found::Falsified(k) => {
-            finish(alloc, cnf, &mut learned, k)?;
-            Ok(Verdict::Refuted(List::from_vec(learned)))
-        }
-    }
+    let mut truths = unassigned(alloc, cnf.vars as usize)?;
+    conclude(alloc, cnf, truths.as_mut_slice())
 }

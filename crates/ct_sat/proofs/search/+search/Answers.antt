@@ -10,10 +10,13 @@ use Rattle.ct_sat.proofs.search.+search.Goals as goal
 pub assume-search-requires : goal.assume-search-requires
 assume-search-requires t c =
     let o = c.requires.is_free in
-    let made = c.assign.ensures in
-    (omega (arith, c.decreases, falls c.args.truths.now c.args.l.now o c.assign.new.truths made),
-    (vars_assigned c.args.truths.now c.args.l.now o c.assign.new.truths made c.requires.vars,
-    learned_assigned c.args.truths.now c.args.l.now o c.assign.new.truths made c.args.clauses.now c.args.learned.now.items c.requires.learned))
+    let made = c.assign.ensures in (
+      omega (arith, c.decreases, falls c.args.truths.now c.args.l.now o c.assign.new.truths made),
+      (
+        vars_assigned c.args.truths.now c.args.l.now o c.assign.new.truths made c.requires.vars,
+        learned_assigned c.args.truths.now c.args.l.now o c.assign.new.truths made c.args.clauses.now c.args.learned.now.items c.requires.learned,
+      ),
+    )
 
 pub assume-returns-in-Falsified-clause-found : goal.assume-returns-in-Falsified-clause-found
 assume-returns-in-Falsified-clause-found t c =
