@@ -8,9 +8,9 @@ use Rattle.ct_sat.specs.declared.assignment.Truth.{Truth}
 use Rattle.ct_sat.specs.declared.assignment.Truth.TheVariants as truth
 use Rattle.ct_sat.specs.declared.look.Look.{Look}
 use Rattle.ct_sat.specs.declared.look.Look.TheVariants as look
-use Rattle.ct_sat.specs.Literal.{Clause, has}
+use Rattle.ct_sat.specs.Literal.{Clause, has, is_positive}
 use Rattle.ct_sat.specs.Assignment.{truth_of, is_true, is_false, satisfied, falsified, falsified_but, IsOpen, IsUnit}
-use Rattle.ct_sat.specs.Search.{LookOf, opened}
+use Rattle.ct_sat.specs.Search.{LookOf, opened, preferred}
 use Rattle.ct_sat.proofs.Literals.{same_is, same_refl, same_sym, has_more}
 
 module _ (ts : List Truth) where
@@ -51,6 +51,9 @@ module _ (ts : List Truth) where
   }
   look_on c l (look.Undecided m) h f = h
 
+  preferred_open : (m l : ℤ) → IsOpen ts m → IsOpen ts l → IsOpen ts (preferred m l)
+  preferred_open m l a b = cond_both (is_positive m) m l (IsOpen ts) (λ _. a) (λ _. b)
+
   pub look_opened : (c : Clause) (l : ℤ) (k : Look) → LookOf ts c k → IsOpen ts l → LookOf ts (c ++ l ∷ []) (opened k l)
   look_opened c l look.Satisfied h o = satisfied_more c l h
   look_opened c l look.Falsified h o = record {
@@ -65,8 +68,8 @@ module _ (ts : List Truth) where
         member = member_more c l m h.member;
         others = but_more m c l h.others (or_right (is_false (truth_of ts l)) _ (same_sym l m s));
       })
-      (λ s. h.is_free)
-  look_opened c l (look.Undecided m) h o = h
+      (λ s. preferred_open m l h.is_free o)
+  look_opened c l (look.Undecided m) h o = preferred_open m l h o
 
   pub satisfied_at : (c : Clause) (i : ℕ) (d : ℤ) → i < length c → truth_of ts (get_or c i d) ≡ truth.True → satisfied ts c ≡ true
   unfolding satisfied

@@ -45,7 +45,7 @@ all_by_place p [] all = refl
 all_by_place p (c ∷ log) all = and_from _ _ (all 0 (omega arith)) (all_by_place p log (λ k lt. all (suc k) (omega arith)))
 
 -- an assignment that satisfies the log gives a model
-pub model_of : (cnf : Cnf) (ts : List Truth) (steps : List Rup) → length ts ≡ cnf.vars → AllSatisfied ts (log_of cnf.clauses steps) 0 → IsModel cnf (map is_true ts)
+pub model_of : (cnf : Cnf) (ts : List Truth) (steps : List Rup) → length ts ≡ cnf.vars → AllSatisfied ts (log_of cnf.clauses steps) 0 (length (log_of cnf.clauses steps)) → IsModel cnf (map is_true ts)
 model_of cnf ts steps n all = record {
   truths = length-map ts is_true ∙ n;
   satisfied = all_by_place (satisfies (map is_true ts)) cnf.clauses (λ k lt.

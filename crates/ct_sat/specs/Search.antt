@@ -9,7 +9,7 @@ use Rattle.ct_sat.specs.declared.scan.Scan.{Scan}
 use Rattle.ct_sat.specs.declared.scan.Scan.TheVariants as scan
 use Rattle.ct_sat.specs.declared.search.Found.{Found}
 use Rattle.ct_sat.specs.declared.search.Found.TheVariants as found
-use Rattle.ct_sat.specs.Literal.{Clause}
+use Rattle.ct_sat.specs.Literal.{Clause, is_positive}
 use Rattle.ct_sat.specs.Learned.{clause_at}
 use Rattle.ct_sat.specs.Assignment.{satisfied, falsified, falsified_but, IsOpen, IsUnit}
 
@@ -20,12 +20,16 @@ LookOf truths c look.Falsified = falsified truths c ≡ true
 LookOf truths c (look.Unit l) = IsUnit truths c l
 LookOf truths c (look.Undecided l) = IsOpen truths l
 
+-- the first of two literals, unless it is the negative of a variable
+abbrev pub preferred : ℤ → ℤ → ℤ
+preferred m l = if is_positive m then m else l
+
 -- what it is with one more literal without a truth
 abbrev pub opened : Look → ℤ → Look
 opened look.Satisfied l = look.Satisfied
 opened look.Falsified l = look.Unit l
-opened (look.Unit m) l = if int_eq l m then look.Unit m else look.Undecided m
-opened (look.Undecided m) l = look.Undecided m
+opened (look.Unit m) l = if int_eq l m then look.Unit m else look.Undecided (preferred m l)
+opened (look.Undecided m) l = look.Undecided (preferred m l)
 
 -- the clause at k is false
 pub record IsFalsifiedAt (truths : List Truth) (log : List Clause) (k : ℕ) : Type 0 where
@@ -42,23 +46,23 @@ pub record IsUnitAt (truths : List Truth) (l : ℤ) (log : List Clause) (k : ℕ
   pub place : k < length log
   pub unit : IsUnit truths (clause_at log k) l
 
--- each clause from a place on is true
-abbrev pub AllSatisfied : List Truth → List Clause → ℕ → Type 0
-AllSatisfied truths log start = (k : ℕ) → start ≤ k → k < length log → satisfied truths (clause_at log k) ≡ true
+-- each clause from one place to before another is true
+abbrev pub AllSatisfied : List Truth → List Clause → ℕ → ℕ → Type 0
+AllSatisfied truths log from to = (k : ℕ) → from ≤ k → k < to → satisfied truths (clause_at log k) ≡ true
 
--- what the clauses from a place on are
-abbrev pub ScanOf : List Truth → List Clause → ℕ → Scan → Type 0
-ScanOf truths log start scan.Satisfied = AllSatisfied truths log start
-ScanOf truths log start (scan.Falsified k) = IsFalsifiedAt truths log k
-ScanOf truths log start (scan.Unit k l) = IsUnitAt truths l log k
-ScanOf truths log start (scan.Undecided l) = IsOpen truths l
+-- what the clauses from one place to before another are
+abbrev pub ScanOf : List Truth → List Clause → ℕ → ℕ → Scan → Type 0
+ScanOf truths log from to scan.Satisfied = AllSatisfied truths log from to
+ScanOf truths log from to (scan.Falsified k) = IsFalsifiedAt truths log k
+ScanOf truths log from to (scan.Unit k l) = IsUnitAt truths l log k
+ScanOf truths log from to (scan.Undecided l) = IsOpen truths l
 
 -- the assignment satisfies the log, or is as before and makes a clause false
 abbrev pub FoundOf : List Truth → List Truth → List Clause → Found → Type 0
-FoundOf before after log found.Model = AllSatisfied after log 0
+FoundOf before after log found.Model = AllSatisfied after log 0 (length log)
 FoundOf before after log (found.Falsified k) = (after ≡ before) × IsFalsifiedAt before log k
 
 -- the same where l was made true meanwhile
 abbrev pub AssumedOf : List Truth → ℤ → List Truth → List Clause → Found → Type 0
-AssumedOf before l after log found.Model = AllSatisfied after log 0
+AssumedOf before l after log found.Model = AllSatisfied after log 0 (length log)
 AssumedOf before l after log (found.Falsified k) = (after ≡ before) × IsFalsifiedButAt before (neg_ℤ l) log k

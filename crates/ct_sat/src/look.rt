@@ -5,7 +5,7 @@ ghost use Rattle.ct_sat.specs.Literal.{is_clause, LARGEST};
 ghost use Rattle.ct_sat.specs.Search.{LookOf, opened};
 
 use crate::assignment::{Truth, look_up};
-use crate::literal::is_same;
+use crate::literal::{is_same, is_variable};
 
 /// What a clause is under an assignment.
 #[derive(Clone, Copy)]
@@ -20,14 +20,18 @@ pub enum Look {
     Undecided(i32),
 }
 
-/// The look where one more literal is open.
+/// The look where one more literal is open. Of undecided literals a variable goes before the
+/// negative of one: n - 1 equalities that are true decide all those of n terms.
 fn with_open(look: Look, l: &i32) -> Look
     ensures { result ≡ opened look l.now }
 {
     match look {
+        Look::Satisfied => Look::Satisfied,
         Look::Falsified => Look::Unit(*l),
-        Look::Unit(m) if !is_same(l, &m) => Look::Undecided(m),
-        other => other,
+        Look::Unit(m) if is_same(l, &m) => Look::Unit(m),
+        Look::Unit(m) | Look::Undecided(m) => {
+            Look::Undecided(if is_variable(&m) { m } else { *l })
+        }
     }
 }
 

@@ -36,14 +36,21 @@ pub fn clause<'a>(clauses: &'a [List<i32>], learned: &'a [Rup], k: usize) -> &'a
     }
 }
 
-/// Looks at the clauses from `start` on, up to the first that is false or a unit.
-fn scan_from(truths: &[Truth], clauses: &[List<i32>], learned: &[Rup], start: usize) -> Scan
+/// Looks at the clauses of a range, up to the first that is false or a unit.
+fn scan_range(
+    truths: &[Truth],
+    clauses: &[List<i32>],
+    learned: &[Rup],
+    from: usize,
+    to: usize,
+) -> Scan
     requires vars { length truths.now ≤ LARGEST }
     requires within { list_all (is_clause (length truths.now)) (log_of clauses.now learned.now) ≡ true }
-    ensures { ScanOf truths.now (log_of clauses.now learned.now) start result }
+    requires to { to ≤ length clauses.now + length learned.now }
+    ensures { ScanOf truths.now (log_of clauses.now learned.now) from to result }
 {
     let mut undecided = None;
-    for k in start..clauses.len() + learned.len() {
+    for k in from..to {
         match look_at(truths, clause(clauses, learned, k)) {
             Look::Satisfied => {}
             Look::Falsified => return Scan::Falsified(k),
@@ -59,14 +66,20 @@ fn scan_from(truths: &[Truth], clauses: &[List<i32>], learned: &[Rup], start: us
 
 /// Looks at all clauses, those from `start` on first: after a unit the next one mostly stands
 /// close behind it.
+
 pub fn scan_all(truths: &[Truth], clauses: &[List<i32>], learned: &[Rup], start: usize) -> Scan
     requires vars { length truths.now ≤ LARGEST }
     requires within { list_all (is_clause (length truths.now)) (log_of clauses.now learned.now) ≡ true }
-    ensures { ScanOf truths.now (log_of clauses.now learned.now) 0 result }
+    ensures { ScanOf truths.now (log_of clauses.now learned.now) 0 (length (log_of clauses.now learned.now)) result }
 {
-    match scan_from(truths, clauses, learned, start) {
-        Scan::Falsified(k) => Scan::Falsified(k),
-        Scan::Unit(k, l) => Scan::Unit(k, l),
-        _ => scan_from(truths, clauses, learned, 0),
+    let end = clauses.len() + learned.len();
+    let start = start.min(end);
+    let tail = scan_range(truths, clauses, learned, start, end);
+    if let Scan::Falsified(_) | Scan::Unit(_, _) = tail {
+        return tail;
+    }
+    match scan_range(truths, clauses, learned, 0, start) {
+        Scan::Satisfied => tail,
+        front => front,
     }
 }

@@ -26,4 +26,4 @@ returns-in_ok-model-in-Model c =
     let h : FoundOf c.args.truths.now after made_log found.Model = subst (λ f. FoundOf c.args.truths.now after made_log f) c.in-Model.is c.in_ok-search.ensures.found in
     let vars : length after ≡ c.args.cnf.now.vars = omega (arith, c.search.auto.truths, ap length c.requires.unassigned, length-replicate c.args.cnf.now.vars truth.Open) in
     subst (IsModel c.args.cnf.now) (sym (c.from_vec.ensures ∙ c.in_ok-model-in-Model.ensures))
-    (model_of c.args.cnf.now after c.search.new.learned.items vars (subst (λ cs. AllSatisfied after (log_of cs c.search.new.learned.items) 0) c.as_slice.ensures h))
+    (model_of c.args.cnf.now after c.search.new.learned.items vars (subst (λ cs. AllSatisfied after (log_of cs c.search.new.learned.items) 0 (length (log_of cs c.search.new.learned.items))) c.as_slice.ensures h))
