@@ -12,6 +12,8 @@ mod resolve;
 mod scan;
 mod search;
 mod solver;
+#[cfg(test)]
+mod tests;
 mod verdict;
 
 pub use ct_derivation::Cnf;
