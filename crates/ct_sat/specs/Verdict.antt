@@ -1,0 +1,51 @@
+-- Models and refutations of clauses over numbered variables.
+use Rattle.std.specs.Prelude.{◌≡◌, ℕ, ◌≤◌, zero, suc, Bool, true, false, not, List, [], ◌∷◌, length, map, slice_index_or}
+use Rattle.std.specs.List.{list_any, list_all}
+use Rattle.std.proofs.Math.IntN.{ℤ, pos, negsuc}
+use Rattle.ct_derivation.specs.declared.steps.Cnf.{Cnf}
+use Rattle.ct_sat.specs.declared.verdict.Rup.{Rup}
+use Rattle.ct_sat.specs.declared.verdict.Verdict.{Verdict}
+use Rattle.ct_sat.specs.declared.verdict.Verdict.TheVariants as verdict
+use Rattle.ct_sat.specs.Literal.{Clause, is_clause, LARGEST}
+use Rattle.ct_sat.specs.Learned.{clause_of, each_follows}
+
+-- fewer than 2^31 variables, and no literal but of these
+pub record IsCnf (cnf : Cnf) : Type 0 where
+  pub vars : cnf.vars ≤ LARGEST
+  pub clauses : list_all (is_clause cnf.vars) cnf.clauses ≡ true
+
+-- whether a literal is true, where the truth of variable n + 1 is at place n
+abbrev pub holds : List Bool → ℤ → Bool
+holds model (pos zero) = false
+holds model (pos (suc n)) = slice_index_or model n false
+holds model (negsuc n) = not (slice_index_or model n false)
+
+-- whether a literal of the clause is true
+unfoldable pub satisfies : List Bool → Clause → Bool
+satisfies model c = list_any (holds model) c
+
+-- a truth for each variable, by which each clause is true
+pub record IsModel (cnf : Cnf) (model : List Bool) : Type 0 where
+  pub truths : length model ≡ cnf.vars
+  pub satisfied : list_all (satisfies model) cnf.clauses ≡ true
+
+abbrev pub is_empty : Clause → Bool
+is_empty [] = true
+is_empty (l ∷ c) = false
+
+-- whether there is a last step, and its clause is empty
+abbrev pub ends_empty : List Rup → Bool
+ends_empty [] = false
+ends_empty (r ∷ []) = is_empty r.clause
+ends_empty (r ∷ s ∷ steps) = ends_empty (s ∷ steps)
+
+-- steps over the variables that follow one after the other, to the empty clause
+pub record IsRefutation (cnf : Cnf) (steps : List Rup) : Type 0 where
+  pub within : list_all (is_clause cnf.vars) (map clause_of steps) ≡ true
+  pub follow : each_follows cnf.clauses steps ≡ true
+  pub empty : ends_empty steps ≡ true
+
+-- a verdict is right
+abbrev pub VerdictOf : Cnf → Verdict → Type 0
+VerdictOf cnf (verdict.Model model) = IsModel cnf model
+VerdictOf cnf (verdict.Refuted steps) = IsRefutation cnf steps
