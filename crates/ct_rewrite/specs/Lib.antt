@@ -4,3 +4,4 @@ pub mod StandsFor
 pub mod Words
 pub mod Building
 pub mod Signs
+pub mod Joining

@@ -9,6 +9,7 @@ mod builder;
 mod form;
 mod forms;
 mod history;
+mod joining;
 mod printed;
 mod reading;
 
