@@ -17,7 +17,7 @@ use Rattle.ct_rewrite.specs.declared.answer.Node.{Node}
 use Rattle.ct_rewrite.specs.declared.answer.Node.TheVariants as node
 use Rattle.ct_rewrite.specs.declared.builder.Connective.{Connective}
 use Rattle.ct_rewrite.specs.declared.builder.Connective.TheVariants as connective
-use Rattle.ct_rewrite.specs.Nodes.{nth, node_condition, node_value, condition_of_node, stands_over, is_position}
+use Rattle.ct_rewrite.specs.Nodes.{nth, node_condition, node_value, condition_of_node, stands_over, is_position, children_of}
 use Rattle.ct_rewrite.specs.Building.{Says, joined, unit, literal, joint_node, literal_node}
 use Rattle.ct_rewrite.specs.Joining.{open_by, leaves_open, all_open, node_open, NeverBothOpen, AreDifferentConstants, StandFor, Settle, HasMembersOf}
 use Rattle.ct_rewrite.proofs.Nodes.{same_value_is, same_term_is}
@@ -283,3 +283,7 @@ module _ (j : Connective) (ns ms : List Node) (k a b : ℕ) where
     pub sides_open : (all : List ℕ) → HasMembersOf all ks ls → ((v : World) (row : List Value) → leaves_open j ms v row k ≡ all_open j ns v row all)
         → (v : World) (row : List Value) → leaves_open j ms v row k ≡ (leaves_open j ns v row a && leaves_open j ns v row b)
     sides_open all h e v row = e v row ∙ h (leaves_open j ns v row) ∙ (λ i. left v row i && right v row i)
+
+-- a child stands below the node's position
+pub child_below : (a x : ℕ) (n : Node) (cs : List ℕ) → IsTrue (stands_over a n) → cs ≡ children_of n → ((test : ℕ → Bool) → list_all test cs ≡ true → test x ≡ true) → x < a
+child_below a x n cs over e h = ltb-true x a (h (λ c. nat_lt c a) (ap (list_all (λ c. nat_lt c a)) e ∙ over))

@@ -5,3 +5,4 @@ pub mod Words
 pub mod Building
 pub mod Signs
 pub mod Joining
+pub mod Order

@@ -7,6 +7,7 @@ ghost use Rattle.ct_rewrite.specs.Nodes.{node_condition, stands_over, same_node,
 ghost use Rattle.ct_rewrite.specs.Building.{Grows, Says, literal, signed, joined, dual, unit, joint_node, literal_node};
 
 use crate::answer::Node;
+use crate::terms::{are_different_constants, are_same, in_order};
 use ct_word::{List, Memory, Term};
 use indexmap::IndexSet;
 use std::alloc::Global;
@@ -78,6 +79,14 @@ impl Builder {
         }
     }
 
+    /// The nodes so far.
+    pub fn nodes(&self) -> &[Node]
+        ensures value { result.now ≡ self.now }
+        ensures ordered { IsOrdered self.now }
+    {
+        self.nodes.as_slice()
+    }
+
     /// The node at a position.
     pub fn node(&self, position: u32) -> &Node
         requires { position < length self.now }
@@ -116,7 +125,18 @@ impl Builder {
         ensures count { length self.new ≤ length self.old + 1 }
         ensures says { IfOk result (λ k. Says self.new k (signed sign (Same s t))) }
     {
-        self.place(if sign { Node::Eq(s, t) } else { Node::Ne(s, t) })
+        if are_same(&s, &t) {
+            return self.literal(sign);
+        }
+        if are_different_constants(&s, &t) {
+            return self.literal(!sign);
+        }
+        let (s, t) = in_order(s, t);
+        if sign {
+            self.place(Node::Eq(s, t))
+        } else {
+            self.place(Node::Ne(s, t))
+        }
     }
 
     /// The nodes in their order.

@@ -6,12 +6,15 @@ ghost use Rattle.ct_word.specs.declared.values.Value.{Value};
 ghost use Rattle.ct_word.specs.Value.{World};
 ghost use Rattle.ct_rewrite.specs.Nodes.{node_condition, is_position};
 ghost use Rattle.ct_rewrite.specs.Building.{Grows, Says, joined, joint_node, literal_node};
-ghost use Rattle.ct_rewrite.specs.Joining.{AreDifferentConstants, NeverBothOpen, leaves_open, all_open, StandFor, Settle, HasMembersOf};
+ghost use Rattle.ct_rewrite.specs.Joining.{NeverBothOpen, leaves_open, all_open, StandFor, Settle, HasMembersOf};
 
 use crate::answer::Node;
 use crate::builder::{Builder, Connective};
-use ct_word::{List, Memory, Term};
+use crate::order::compare_children;
+use crate::terms::{are_different_constants, are_same};
+use ct_word::{List, Memory};
 use std::alloc::Global;
+use std::cmp::Ordering;
 
 /// The most children that are merged into one list.
 const MOST_CHILDREN: usize = 64;
@@ -35,22 +38,6 @@ fn children_of(connective: Connective, node: &Node) -> Option<&[u32]>
         (Connective::And, Node::And(children)) => Some(children.as_slice()),
         (Connective::Or, Node::Or(children)) => Some(children.as_slice()),
         _ => None,
-    }
-}
-
-fn are_same(s: &Term, t: &Term) -> bool
-    ensures { IsTrue result → s.now ≡ t.now }
-{
-    s == t
-}
-
-/// Whether two terms are different constants.
-fn are_different_constants(s: &Term, t: &Term) -> bool
-    ensures { IsTrue result → AreDifferentConstants s.now t.now }
-{
-    match (s, t) {
-        (Term::Value(a), Term::Value(b)) => a != b,
-        _ => false,
     }
 }
 
@@ -146,7 +133,9 @@ impl Builder {
         if children.as_slice().contains(&child) {
             return Ok(());
         }
-        let at = children.len();
+        let nodes = self.nodes();
+        let at = children.as_slice().partition_point(|other| compare_children(nodes, *other, child)
+            == Ordering::Less);
         children.insert(at, child)?;
         Ok(())
     }
