@@ -4,3 +4,4 @@ pub mod Nodes
 pub mod Building
 pub mod Signs
 pub mod Conditions
+pub mod Openings

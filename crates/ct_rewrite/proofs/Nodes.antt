@@ -1,11 +1,12 @@
 -- A node list keeps what its positions are when nodes are put at its end.
-use Rattle.std.proofs.Common.{◌≡◌, ℕ, zero, suc, ◌+◌, ◌<◌, true, ◌&&◌, List, [], ◌∷◌, ◌++◌, length, map, take, drop, Some, nat_lt, refl, ap, sym, ◌∙◌, subst, arith, length-append}
+use Rattle.std.proofs.Common.{◌≡◌, ℕ, zero, suc, ◌+◌, ◌<◌, true, ◌&&◌, List, [], ◌∷◌, ◌++◌, length, map, get_or, take, drop, Some, nat_lt, refl, ap, sym, ◌∙◌, subst, arith, length-append}
 use Rattle.std.specs.Prelude.{slice_get, IsTrue}
 use Rattle.std.specs.List.{list_all}
 use Rattle.std.specs.Cmp.Lexicographic.{same_text}
 use Rattle.std.proofs.lemmas.Bool.{and_parts, and_from, ltb-true, eqb-true, false≢true}
 use Rattle.std.proofs.lemmas.Bool.Decides.{Decides-int_eq}
 use Rattle.std.proofs.lemmas.List.{take-append-drop}
+use Rattle.std.proofs.lemmas.Option.{slice_get-get_or}
 use Rattle.ct_word.specs.declared.values.Value.{Value}
 use Rattle.ct_word.specs.declared.values.Value.TheVariants as val
 use Rattle.ct_word.specs.declared.values.Null.{Null}
@@ -177,3 +178,17 @@ node_compared (node.Eq s t) _ = refl
 node_compared (node.Ne s t) _ = refl
 node_compared (node.And ks) _ = refl
 node_compared (node.Or ks) _ = refl
+
+-- a node that was read at its position
+pub record IsNodeAt (ns : List Node) (k : ℕ) (n : Node) : Type 0 where
+  pub value : node_condition ns k ≡ node_value ns n
+  pub below : IsTrue (stands_over k n)
+
+pub node_read : (inside ns read : List Node) (k : ℕ) (n : Node) → IsOrdered inside → inside ≡ ns → read ≡ inside → k < length ns → n ≡ get_or read k n → IsNodeAt ns k n
+node_read inside ns read k n ordered e f lt is =
+    let there : slice_get ns k ≡ Some n = slice_get-get_or ns k n lt ∙ ap (λ (xs : List Node). Some (get_or xs k n)) (sym (f ∙ e)) ∙ ap Some (sym is) in
+    let ok : IsOrdered ns = subst IsOrdered e ordered in
+    record {
+      value = condition_of_position ns k n ok there;
+      below = let z : 0 + k ≡ k = omega arith in subst (λ i. IsTrue (stands_over i n)) z (ordered_at 0 ns k n there ok);
+    }

@@ -2,6 +2,7 @@
 use Rattle.std.specs.Prelude.{◌≡◌, ℕ, ◌<◌, Bool, true, false, List, ◌++◌, length}
 use Rattle.ct_word.specs.Condition.{Condition, True, False, Not, both, either, SameTruth}
 use Rattle.ct_rewrite.specs.declared.answer.Node.{Node}
+use Rattle.ct_rewrite.specs.declared.answer.Node.TheVariants as node
 use Rattle.ct_rewrite.specs.declared.builder.Connective.{Connective}
 use Rattle.ct_rewrite.specs.declared.builder.Connective.TheVariants as connective
 use Rattle.ct_rewrite.specs.Nodes.{node_condition}
@@ -35,3 +36,18 @@ joined connective.Or c d = either c d
 abbrev pub dual : Connective → Connective
 dual connective.And = connective.Or
 dual connective.Or = connective.And
+
+-- the truth of no conditions under a connective
+abbrev pub unit : Connective → Bool
+unit connective.And = true
+unit connective.Or = false
+
+-- a connective over these children
+abbrev pub joint_node : Connective → List ℕ → Node
+joint_node connective.And ks = node.And ks
+joint_node connective.Or ks = node.Or ks
+
+-- a truth
+abbrev pub literal_node : Bool → Node
+literal_node true = node.True
+literal_node false = node.False

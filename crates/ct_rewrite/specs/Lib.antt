@@ -4,3 +4,5 @@ pub mod StandsFor
 pub mod Words
 pub mod Building
 pub mod Signs
+pub mod Joining
+pub mod Order

@@ -4,9 +4,10 @@ ghost use Rattle.std.specs.Prelude.{◌≡◌, ◌<◌, ◌≤◌, ◌+◌, ◌^
 ghost use Rattle.std.specs.List.{IsDistinct};
 ghost use Rattle.ct_word.specs.Condition.{Same};
 ghost use Rattle.ct_rewrite.specs.Nodes.{node_condition, stands_over, same_node, node_value, IsOrdered};
-ghost use Rattle.ct_rewrite.specs.Building.{Grows, Says, literal, signed, joined, dual};
+ghost use Rattle.ct_rewrite.specs.Building.{Grows, Says, literal, signed, joined, dual, unit, joint_node, literal_node};
 
 use crate::answer::Node;
+use crate::terms::{are_different_constants, are_same, in_order};
 use ct_word::{List, Memory, Term};
 use indexmap::IndexSet;
 use std::alloc::Global;
@@ -27,6 +28,25 @@ impl Connective {
         match self {
             Connective::And => Connective::Or,
             Connective::Or => Connective::And,
+        }
+    }
+}
+
+impl Connective {
+    /// The truth of no conditions under this connective.
+    pub fn unit(self) -> bool
+        ensures { result ≡ unit self }
+    {
+        self == Connective::And
+    }
+
+    /// The node of these children.
+    pub fn node(self, children: List<u32>) -> Node
+        ensures { result ≡ joint_node self children }
+    {
+        match self {
+            Connective::And => Node::And(children),
+            Connective::Or => Node::Or(children),
         }
     }
 }
@@ -59,8 +79,25 @@ impl Builder {
         }
     }
 
+    /// The nodes so far.
+    pub fn nodes(&self) -> &[Node]
+        ensures value { result.now ≡ self.now }
+        ensures ordered { IsOrdered self.now }
+    {
+        self.nodes.as_slice()
+    }
+
+    /// The node at a position.
+    pub fn node(&self, position: u32) -> &Node
+        requires { position < length self.now }
+        ensures value { node_condition self.now position ≡ node_value self.now result.now }
+        ensures below { IsTrue (stands_over position result.now) }
+    {
+        &self.nodes.as_slice()[position as usize]
+    }
+
     /// The position of a node, which is put at the end where it is not there yet.
-    fn place(&mut self, node: Node) -> Result<u32, Memory>
+    pub fn place(&mut self, node: Node) -> Result<u32, Memory>
         requires ordered { IsTrue (stands_over (length self.old) node) }
         requires room { length self.old < 2 ^ 32 }
         ensures grows { Grows self.old self.new }
@@ -88,32 +125,18 @@ impl Builder {
         ensures count { length self.new ≤ length self.old + 1 }
         ensures says { IfOk result (λ k. Says self.new k (signed sign (Same s t))) }
     {
-        self.place(if sign { Node::Eq(s, t) } else { Node::Ne(s, t) })
-    }
-
-    /// The position of two conditions under a connective.
-    pub fn joined(
-        &mut self,
-        alloc: Global,
-        connective: Connective,
-        a: u32,
-        b: u32,
-    ) -> Result<u32, Memory>
-        requires left { a < length self.old }
-        requires right { b < length self.old }
-        requires room { length self.old < 2 ^ 32 }
-        ensures grows { Grows self.old self.new }
-        ensures count { length self.new ≤ length self.old + 1 }
-        ensures says { IfOk result (λ k. Says self.new k (joined connective (node_condition self.old a) (node_condition self.old b))) }
-    {
-        let mut children = Vec::new(alloc);
-        children.push(a)?;
-        children.push(b)?;
-        let children = List::from_vec(children);
-        self.place(match connective {
-            Connective::And => Node::And(children),
-            Connective::Or => Node::Or(children),
-        })
+        if are_same(&s, &t) {
+            return self.literal(sign);
+        }
+        if are_different_constants(&s, &t) {
+            return self.literal(!sign);
+        }
+        let (s, t) = in_order(s, t);
+        if sign {
+            self.place(Node::Eq(s, t))
+        } else {
+            self.place(Node::Ne(s, t))
+        }
     }
 
     /// The nodes in their order.

@@ -9,8 +9,13 @@ mod builder;
 mod form;
 mod forms;
 mod history;
+mod joining;
+mod order;
 mod printed;
 mod reading;
+mod terms;
+#[cfg(test)]
+mod tests;
 
 pub use answer::{AnswerRow, Node, PossibleRow};
 pub use form::Normal;

@@ -1,0 +1,12 @@
+use Rattle.ct_rewrite.proofs.Openings.{children_stand, children_placed}
+use Rattle.ct_rewrite.proofs.builder.Builder.parts.Goals as goal
+
+pub returns-in-Some-clause-placed : goal.returns-in-Some-clause-placed
+returns-in-Some-clause-placed c =
+    rw c.in_ok-from_slice.ensures.items
+    (children_placed c.args.connective c.args.self.now c.args.form _ _ c.requires c.node-node.ensures.below c.in-Some.ensures)
+
+pub returns-in-Some-clause-truth : goal.returns-in-Some-clause-truth
+returns-in-Some-clause-truth c =
+    rw c.in_ok-from_slice.ensures.items
+    (children_stand c.args.connective c.args.self.now c.args.form _ c.node-node.ensures.value _ c.in-Some.ensures)
