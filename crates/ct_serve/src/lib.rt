@@ -1,0 +1,6 @@
+//! A run: scripts from a source, sessions on a log, and the transcript to a sink.
+#![tactic(auto)]
+
+mod statement;
+
+pub use statement::{Filter, Statement};
