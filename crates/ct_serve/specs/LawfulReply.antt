@@ -13,7 +13,7 @@ use Rattle.ct_transcript.specs.declared.reply.Reply.TheVariants as reply
 use Rattle.ct_transcript.specs.declared.reply.Refusal.{Refusal}
 use Rattle.ct_transcript.specs.declared.reply.Refusal.TheVariants as refusal
 use Rattle.ct_transcript.specs.Means.{IsAnswer, Means}
-use Rattle.ct_transcript.specs.Agrees.{Agrees}
+use Rattle.ct_query.specs.Agrees.{Agrees}
 use Rattle.ct_serve.specs.declared.statement.Statement.{Statement}
 use Rattle.ct_serve.specs.Statements.{ReadsAs, IsNoStatement}
 use Rattle.ct_serve.specs.Names.{resolve}

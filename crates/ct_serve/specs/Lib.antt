@@ -1,3 +1,6 @@
 pub mod Statements
 pub mod Names
 pub mod State
+pub mod LawfulReply
+pub mod Sessions
+pub mod Progress
