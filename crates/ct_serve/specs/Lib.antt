@@ -4,3 +4,4 @@ pub mod State
 pub mod LawfulReply
 pub mod Sessions
 pub mod Progress
+pub mod Catalogue

@@ -1,0 +1,53 @@
+-- The tables, the commits and the log of one session that has the catalogue to itself.
+use Rattle.std.specs.Prelude.{◌≡◌, ◌≤◌, ◌⊎◌, ℕ, List, [], ◌∷◌, ◌++◌, length, map, Option, Some, None, IsSome, IsTrue, All}
+use Rattle.ct_word.specs.declared.kinds.Class.TheVariants as class
+use Rattle.ct_word.specs.Value.{World}
+use Rattle.ct_word.specs.Change.{PlainCommit}
+use Rattle.ct_word.specs.Reading.{commits_of, change_list_at}
+use Rattle.ct_word.specs.WellFormed.{IsWellFormed, is_place_of}
+use Rattle.ct_query.specs.Plain.{PlainAction}
+use Rattle.ct_query.specs.Plain as plain
+use Rattle.ct_query.specs.Worlds.{world}
+use Rattle.ct_query.specs.Agrees.{Agrees}
+use Rattle.ct_query.specs.Schema.{schema}
+use Rattle.ct_rewrite.specs.declared.history.Commit.{Commit}
+use Rattle.ct_rewrite.specs.History.{plain_commit, plain_history, IsCommitFormed}
+use Rattle.ct_arena.specs.Seen.{Seen, Keeping}
+use Rattle.ct_table.specs.Denotes.{TableView, Denotes}
+use Rattle.ct_serve.specs.declared.statement.Statement.{Statement}
+use Rattle.ct_serve.specs.Statements.{ReadsAs}
+use Rattle.ct_serve.specs.Names.{resolve}
+use Rattle.ct_serve.specs.State.{drawn}
+
+-- every valuation is admitted by a history
+abbrev pub IsAdmittedEverywhere : List PlainCommit → Type 0
+IsAdmittedEverywhere h = (v : World) → IsSome (world v h [])
+
+-- the keeper's list has the commits that are printed, all of session 1, and the tables denote them over the session's words
+pub record IsCatalogue (room : ℕ) (pass : Seen) (keeper : Keeping) (tables : List TableView) (history : List Commit) : Type 0 where
+  pub guest : keeper.guest ≡ None
+  pub enrolled : keeper.enrolled ≡ 1
+  pub ended : keeper.ended ≡ []
+  pub session : pass.session ≡ 1
+  pub mine : pass.mine ≡ length history
+  pub within : length pass.words ≤ room
+  pub well_formed : IsWellFormed pass.words
+  pub commits : commits_of keeper.words ≡ plain_history history
+  pub denotes : Denotes pass.words (plain_history history) tables
+  pub formed : All IsCommitFormed history
+  pub everywhere : IsAdmittedEverywhere (plain_history history)
+  pub by_one : All (λ c. c.session ≡ 1) (plain_history history)
+
+-- a change list, the commit that prints it, and the tables after it, for a text that asks for its action
+pub record IsOffer (h : List PlainCommit) (words : List ℕ) (x : List ℕ) (changes : ℕ) (commit : Commit) (tables : List TableView) : Type 0 where
+  pub statement : Statement
+  pub action : PlainAction
+  pub reads : ReadsAs x statement
+  pub resolved : resolve (schema h []) statement ≡ Some (plain.Act action)
+  pub none_drawn : drawn action ≡ 0
+  pub place : IsTrue (is_place_of words class.ChangeList changes)
+  pub agrees : Agrees h (action ∷ []) (change_list_at words changes)
+  pub printed : plain_commit commit ≡ record { session = 1; number = length h; changes = change_list_at words changes }
+  pub formed : IsCommitFormed commit
+  pub denotes : Denotes words (h ++ plain_commit commit ∷ []) tables
+  pub everywhere : IsAdmittedEverywhere (h ++ plain_commit commit ∷ [])
