@@ -22,7 +22,7 @@ use Rattle.ct_serve.specs.Names.{resolve}
 use Rattle.ct_serve.specs.State.{SessionState, carried, drawn}
 use Rattle.ct_serve.specs.LawfulReply.{LawfulReply, ResolvesTo, IsCommittedAlone, IsTextFault, IsNotYet, IsFull}
 use Rattle.ct_serve.specs.Progress.{state_after, GoesOn, Commits, nothing, one, Answers}
-use Rattle.ct_serve.specs.Catalogue.{IsOffer}
+use Rattle.ct_serve.specs.Catalogue.{AsksFor}
 
 take_front : {A : Type 0} (xs ys : List A) → take (length xs) (xs ++ ys) ≡ xs
 take_front [] ys = refl
@@ -90,9 +90,9 @@ module _ (N : ℕ) (h : List PlainCommit) (words words' : List ℕ) (x : List �
     at_end W p le = let sum : length (words' ++ p.0) ≡ length W = ap length p.1 in omega (arith, length-append words' p.0, sum)
 
   -- an offer that was committed
-  pub answers_committed : (before : List ℕ) (changes : ℕ) (commit : Commit) (tables : List TableView) → IsOffer h before x changes commit tables → length words < N
+  pub answers_committed : (commit : Commit) → AsksFor h x commit → (plain_commit commit).session ≡ 1 → (plain_commit commit).number ≡ length h → length words < N
       → Answers N h (h ++ plain_commit commit ∷ []) words words' x (reply.Committed (length h + 1))
-  answers_committed before changes commit tables o lt = record {
+  answers_committed commit o by number lt = record {
     lawful = λ H W g. record {
       action = o.action;
       commit = plain_commit commit;
@@ -100,13 +100,13 @@ module _ (N : ℕ) (h : List PlainCommit) (words words' : List ℕ) (x : List �
       asks = subst (λ n. ResolvesTo H W N x n [] (Some (plain.Act o.action))) (sym (back (length h))) (resolves_on h H W N x o.statement _ (prefix_before h _ H g.history) o.reads o.resolved);
       later = omega arith;
       stands = (omega arith, ap (slice_get H) (back (length h)) ∙ get_in_prefix (h ++ plain_commit commit ∷ []) H (length h) g.history (omega (arith, length-append h (plain_commit commit ∷ []))) ∙ last_of h (plain_commit commit));
-      session = ap (λ c. c.session) o.printed;
-      number = ap (λ c. c.number) o.printed;
+      session = by;
+      number = number;
       agrees = subst (λ g'. Agrees g' (o.action ∷ []) (plain_commit commit).changes) (sym (ap (λ n. take n H) (back (length h)) ∙ first_commits h H (prefix_before h _ H g.history)))
-          (subst (λ xs. Agrees h (o.action ∷ []) xs) (sym (ap (λ c. c.changes) o.printed)) o.agrees);
+          o.agrees;
       next_is = λ i. record { session = 1; seen = (length-append h (plain_commit commit ∷ []) ∙ sym (max_next (length h))) i; fresh = fresh_is i; commits = length-append h (plain_commit commit ∷ []) i; transaction = None };
     };
-    longer = longer; room = room; commits = one (plain_commit commit) (ap (λ c. c.session) o.printed); full = λ e. cc; not_full = λ m e. lt;
+    longer = longer; room = room; commits = one (plain_commit commit) by; full = λ e. cc; not_full = λ m e. lt;
   } where
     back : (n : ℕ) → (n + 1) - 1 ≡ n
     back n = omega arith

@@ -1,5 +1,5 @@
 -- The tables, the commits and the log of one session that has the catalogue to itself.
-use Rattle.std.specs.Prelude.{◌≡◌, ◌≤◌, ◌⊎◌, ℕ, List, [], ◌∷◌, ◌++◌, length, map, Option, Some, None, IsSome, IsTrue, All}
+use Rattle.std.specs.Prelude.{◌≡◌, ◌≤◌, ◌<◌, ◌+◌, ℕ, List, [], ◌∷◌, ◌++◌, length, map, Option, Some, None, IsSome, IsTrue, All}
 use Rattle.ct_word.specs.declared.kinds.Class.TheVariants as class
 use Rattle.ct_word.specs.Value.{World}
 use Rattle.ct_word.specs.Change.{PlainCommit}
@@ -14,6 +14,9 @@ use Rattle.ct_rewrite.specs.declared.history.Commit.{Commit}
 use Rattle.ct_rewrite.specs.History.{plain_commit, plain_history, IsCommitFormed}
 use Rattle.ct_arena.specs.Seen.{Seen, Keeping}
 use Rattle.ct_table.specs.Denotes.{TableView, Denotes}
+use Rattle.ct_transcript.specs.declared.reply.Reply.{Reply}
+use Rattle.ct_transcript.specs.declared.reply.Reply.TheVariants as reply
+use Rattle.ct_transcript.specs.declared.reply.Refusal.TheVariants as refusal
 use Rattle.ct_serve.specs.declared.statement.Statement.{Statement}
 use Rattle.ct_serve.specs.Statements.{ReadsAs}
 use Rattle.ct_serve.specs.Names.{resolve}
@@ -38,16 +41,24 @@ pub record IsCatalogue (room : ℕ) (pass : Seen) (keeper : Keeping) (tables : L
   pub everywhere : IsAdmittedEverywhere (plain_history history)
   pub by_one : All (λ c. c.session ≡ 1) (plain_history history)
 
--- a change list, the commit that prints it, and the tables after it, for a text that asks for its action
-pub record IsOffer (h : List PlainCommit) (words : List ℕ) (x : List ℕ) (changes : ℕ) (commit : Commit) (tables : List TableView) : Type 0 where
+-- a change list, the commit that prints it, and the tables after it
+pub record IsReady (h : List PlainCommit) (words : List ℕ) (changes : ℕ) (commit : Commit) (tables : List TableView) : Type 0 where
+  pub place : IsTrue (is_place_of words class.ChangeList changes)
+  pub printed : plain_commit commit ≡ record { session = 1; number = length h; changes = change_list_at words changes }
+  pub formed : IsCommitFormed commit
+  pub denotes : Denotes words (h ++ plain_commit commit ∷ []) tables
+  pub everywhere : IsAdmittedEverywhere (h ++ plain_commit commit ∷ [])
+
+-- a text asks for an action, and the changes of a commit agree with it
+pub record AsksFor (h : List PlainCommit) (x : List ℕ) (commit : Commit) : Type 0 where
   pub statement : Statement
   pub action : PlainAction
   pub reads : ReadsAs x statement
   pub resolved : resolve (schema h []) statement ≡ Some (plain.Act action)
   pub none_drawn : drawn action ≡ 0
-  pub place : IsTrue (is_place_of words class.ChangeList changes)
-  pub agrees : Agrees h (action ∷ []) (change_list_at words changes)
-  pub printed : plain_commit commit ≡ record { session = 1; number = length h; changes = change_list_at words changes }
-  pub formed : IsCommitFormed commit
-  pub denotes : Denotes words (h ++ plain_commit commit ∷ []) tables
-  pub everywhere : IsAdmittedEverywhere (h ++ plain_commit commit ∷ [])
+  pub agrees : Agrees h (action ∷ []) (plain_commit commit).changes
+
+-- what a commit did: one commit more, or nothing, where the log is full
+pub data CommitOf (room : ℕ) (words words' : List ℕ) (history : List Commit) (commit : Commit) : List Commit → Reply → Type 0 where
+  committed : length words < room → CommitOf room words words' history commit (history ++ commit ∷ []) (reply.Committed (length history + 1))
+  filled : length words' ≡ room → CommitOf room words words' history commit history (reply.Refused (length history) refusal.Full)

@@ -1,0 +1,80 @@
+// The one session, which has the catalogue to itself until sessions share it.
+
+ghost use Rattle.std.specs.Prelude.{◌≡◌, ◌<◌, ◌^◌, ◌+◌, ℕ, length, IsOk, IsTrue, Ok, vec_len, vec_capacity};
+ghost use mathlib.Core.List.{IsPrefix};
+ghost use Rattle.ct_rewrite.specs.History.{plain_history};
+ghost use Rattle.ct_serve.specs.Catalogue.{IsCatalogue, IsReady, CommitOf};
+
+use ct_arena::{Arena, KeeperPass, Pass, Site};
+use ct_rewrite::Commit;
+use ct_table::Db;
+use ct_transcript::{Refusal, Reply};
+
+/// The session's pass, the keeper's pass, the tables, and the commits as they are printed.
+#[derive(Drop)]
+pub struct Session<N: Site> {
+    pub pass: Pass<N>,
+    pub keeper: KeeperPass<N>,
+    pub tables: Db,
+    pub history: Vec<Commit>,
+}
+
+/// A change that is ready to be committed: its change list in the log, the commit that prints it, and the tables
+/// after it.
+#[derive(Drop)]
+pub struct Offer {
+    pub changes: u32,
+    pub commit: Commit,
+    pub tables: Db,
+}
+
+/// Commits an offer; where the log is full, nothing but its words is changed.
+pub fn commit<N: Site>(
+    arena: &Arena<N>,
+    session: Session<N>,
+    offer: Offer,
+) -> (Session<N>, Reply)
+    requires kept { IsCatalogue N.log.cap session.pass session.keeper session.tables session.history.items }
+    requires few { length session.history.items < 2 ^ 16 }
+    requires room { vec_len session.history < vec_capacity session.history }
+    requires ready { IsReady (plain_history session.history.items) session.pass.words offer.changes offer.commit offer.tables }
+    ensures kept { IsCatalogue N.log.cap result.0.pass result.0.keeper result.0.tables result.0.history.items }
+    ensures longer { IsPrefix session.pass.words result.0.pass.words }
+    ensures outcome { CommitOf N.log.cap session.pass.words result.0.pass.words session.history.items offer.commit result.0.history.items result.1 }
+{
+    let Session {
+        pass,
+        mut keeper,
+        tables,
+        mut history,
+    } = session;
+    let Offer {
+        changes,
+        commit,
+        tables: after,
+    } = offer;
+    let at = history.len() as u32;
+    let mut guest = keeper.enter(arena, pass);
+    match keeper.append_commit(arena, &mut guest, changes) {
+        Ok(_) => {
+            history.push_reserved(commit);
+            let session = Session {
+                pass: keeper.leave(arena, guest),
+                keeper,
+                tables: after,
+                history,
+            };
+            (session, Reply::Committed { at: at + 1 })
+        }
+        Err(_) => {
+            let session = Session {
+                pass: keeper.leave(arena, guest),
+                keeper,
+                tables,
+                history,
+            };
+            let why = Refusal::Full;
+            (session, Reply::Refused { at, why })
+        }
+    }
+}
