@@ -7,7 +7,9 @@
 mod interner;
 mod packed;
 mod terms;
+mod texts;
 
 pub use interner::Interner;
 pub use packed::put;
-pub use terms::text;
+pub use terms::term;
+pub use texts::text;
