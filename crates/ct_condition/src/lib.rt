@@ -4,6 +4,7 @@
 //! Conditions are folded: an equality of two constants, a double NOT, an AND with false have no word of their own.
 #![tactic(auto)]
 
+mod folding;
 mod interner;
 mod packed;
 mod terms;
