@@ -1,23 +1,23 @@
 -- The truth of the conditions at places: of true and false, of two constants, of a negation.
-use Rattle.std.proofs.Common.{◌≡◌, ℕ, [], ◌∷◌, ◌<◌, ◌^◌, Bool, true, false, not, ◌&&◌, ◌||◌, List, Option, Some, None, refl, ap, sym, ◌∙◌, arith, length}
+use Rattle.std.proofs.Common.{◌≡◌, ℕ, [], ◌∷◌, ◌<◌, ◌^◌, Bool, true, false, not, List, Option, Some, None, refl, ap, sym, ◌∙◌, arith, length}
 use Rattle.std.specs.Prelude.{◌≢◌, slice_get, IsTrue}
-use Rattle.std.proofs.lemmas.Bool.{false≢true, not-true}
+use Rattle.std.proofs.lemmas.Bool.{false≢true}
 use mathlib.Core.List.{IsPrefix}
 use Rattle.ct_word.specs.declared.kinds.Kind.{Kind}
 use Rattle.ct_word.specs.declared.kinds.Kind.TheVariants as kind
 use Rattle.ct_word.specs.declared.kinds.Class.TheVariants as class
 use Rattle.ct_word.specs.declared.values.Value.{Value}
 use Rattle.ct_word.specs.Constant.{is_constant_kind, is_constant_word}
-use Rattle.ct_word.specs.Value.{World, at, same_value}
+use Rattle.ct_word.specs.Value.{World, at}
 use Rattle.ct_word.specs.Word.{kind_of, left_of, right_of}
 use Rattle.ct_word.specs.Condition.{holds}
-use Rattle.ct_word.specs.Reading.{Meaning, by_kind, meanings, as_term, as_cond, condition_at, term_at}
+use Rattle.ct_word.specs.Reading.{Meaning, by_kind, meanings, as_term, as_cond, term_at}
 use Rattle.ct_word.specs.WellFormed.{IsWellFormed, is_place_of, is_formed_as}
 use Rattle.ct_word.proofs.Alike.{value_decides}
 use Rattle.ct_word.proofs.Constants.{one_constant}
 use Rattle.ct_word.proofs.Growth.{place_within, place_grows}
 use Rattle.ct_word.proofs.Prefixes.{get_in_prefix}
-use Rattle.ct_word.proofs.Splits.{Split, split_at, formed_at, formed_fields, meaning_at}
+use Rattle.ct_word.proofs.Splits.{split_at, formed_at, formed_fields, meaning_at}
 use Rattle.ct_word.proofs.Stands.{stands_for_packed, class_of_packed}
 use Rattle.ct_arena.specs.Counts.{opening}
 use Rattle.ct_condition.specs.Truth.{Truth, HasTruth, Negates, truth_at, equal_at}
@@ -81,7 +81,7 @@ pub constants_differ : (ws : List ℕ) (s t : ℕ) → IsWellFormed ws → s ≢
     → (v : World) (row : List Value) → false ≡ equal_at ws s t v row
 constants_differ ws s t formed ne cs ct v row =
     sym (not_true _ (λ same. ne (one_constant ws formed v s t cs ct
-      (sym (constant_row ws formed s _ refl cs v row) ∙ (value_decides _ _).0 same ∙ constant_row ws formed t _ refl ct v row))))
+    (sym (constant_row ws formed s _ refl cs v row) ∙ (value_decides _ _).0 same ∙ constant_row ws formed t _ refl ct v row))))
 
 -- the word not
 pub negation : (ws : List ℕ) (c w : ℕ) → IsWellFormed ws → slice_get ws c ≡ Some w → kind_of w ≡ Some kind.Not → Negates ws c (left_of w)

@@ -12,6 +12,7 @@ use ct_word::{Kind, kind, left};
 
 /// The places of the words true and false, with which every log begins.
 const TRUE: u32 = 0;
+
 const FALSE: u32 = 1;
 
 fn is_kind_of_constant(kind: Option<Kind>) -> bool

@@ -1,5 +1,4 @@
 use Rattle.std.proofs.Common.{not}
-use Rattle.std.proofs.lemmas.Bool.{eqb-true}
 use Rattle.std.proofs.lemmas.Option.{IfSome_then}
 use Rattle.ct_condition.specs.Truth.{HasTruth, Negates, truth_at}
 use Rattle.ct_condition.proofs.Truths.{not_true_at, not_false_at, negation_back}
