@@ -1,0 +1,4 @@
+pub mod Fields
+pub mod Truths
+pub mod Folds
+pub mod Pairs

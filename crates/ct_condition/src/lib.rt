@@ -4,10 +4,15 @@
 //! Conditions are folded: an equality of two constants, a double NOT, an AND with false have no word of their own.
 #![tactic(auto)]
 
+mod conditions;
+mod folding;
 mod interner;
 mod packed;
 mod terms;
+mod texts;
 
+pub use conditions::{and, eq, not, or};
 pub use interner::Interner;
 pub use packed::put;
-pub use terms::text;
+pub use terms::term;
+pub use texts::text;

@@ -1,37 +1,135 @@
-// Texts and terms.
+// Terms.
 
 ghost use Rattle.std.specs.Prelude.{◌≡◌, ◌<◌, ◌^◌, length, IfOk, OnErr, IsTrue};
 ghost use mathlib.Core.List.{IsPrefix};
-ghost use Rattle.ct_word.specs.Reading.{IsText};
+ghost use Rattle.ct_word.specs.Reading.{IsTerm};
 ghost use Rattle.ct_word.specs.Stands.{StandsAt};
 ghost use Rattle.ct_word.specs.WellFormed.{is_place_of};
 ghost use Rattle.ct_word.specs.declared.kinds.Class.TheVariants as class;
+ghost use Rattle.ct_word.specs.declared.values.Value.TheVariants as val;
+ghost use Rattle.ct_word.specs.declared.values.Null.TheVariants as null;
+ghost use Rattle.ct_word.specs.declared.values.Term.TheVariants as term;
+ghost use Rattle.ct_condition.specs.Terms.{FitsFields};
 
 use crate::interner::Interner;
 use crate::packed::put;
+use crate::texts::text;
 use ct_arena::{Arena, Full, Site};
-use ct_word::Kind;
+use ct_word::{Kind, Null, Term, Value};
 
-/// The place of a text.
-///
-/// # Errors
-/// `Full` where the log has no room for a word of it.
-pub fn text<N: Site, I: Interner<N>>(
-    arena: &Arena<N>,
-    pass: &mut I,
-    text: &str,
-) -> Result<u32, Full>
-    ensures stands { IfOk result (λ place. StandsAt (I.list pass.new) place (IsText text.now)) }
-    ensures place { IfOk result (λ place. IsTrue (is_place_of (I.list pass.new) class.Text place)) }
+/// The place of a number.
+fn number<N: Site, I: Interner<N>>(arena: &Arena<N>, pass: &mut I, number: i64) -> Result<u32, Full>
+    ensures stands { IfOk result (λ place. StandsAt (I.list pass.new) place (IsTerm (term.Value (val.Int number)))) }
+    ensures place { IfOk result (λ place. IsTrue (is_place_of (I.list pass.new) class.Term place)) }
     ensures small { IfOk result (λ place. place < 2 ^ 28) }
     ensures longer { IsPrefix (I.list pass.old) (I.list pass.new) }
     ensures full { OnErr result (length (I.list pass.new) ≡ N.log.cap) }
     ensures kept { I.kept pass.new ≡ I.kept pass.old }
     ensures lent { I.lent pass.new ≡ I.lent pass.old }
 {
-    let mut place = put(arena, pass, Kind::TextEnd, 0, 0)?;
-    for character in text.chars() {
-        place = put(arena, pass, Kind::TextCharacter, place, character as u32)?;
+    let bits = number.cast_unsigned();
+    let upper = (bits / 0x10_0000_0000) as u32;
+    let middle = (bits / 0x100 % 0x1000_0000) as u32;
+    let high = put(arena, pass, Kind::NumberHigh, upper, middle)?;
+    put(arena, pass, Kind::Number, high, (bits % 0x100) as u32)
+}
+
+fn value<N: Site, I: Interner<N>>(
+    arena: &Arena<N>,
+    pass: &mut I,
+    value: &Value,
+) -> Result<u32, Full>
+    requires fields { FitsFields (term.Value value.now) }
+    ensures stands { IfOk result (λ place. StandsAt (I.list pass.new) place (IsTerm (term.Value value.now))) }
+    ensures place { IfOk result (λ place. IsTrue (is_place_of (I.list pass.new) class.Term place)) }
+    ensures small { IfOk result (λ place. place < 2 ^ 28) }
+    ensures longer { IsPrefix (I.list pass.old) (I.list pass.new) }
+    ensures full { OnErr result (length (I.list pass.new) ≡ N.log.cap) }
+    ensures kept { I.kept pass.new ≡ I.kept pass.old }
+    ensures lent { I.lent pass.new ≡ I.lent pass.old }
+{
+    match value {
+        Value::Int(n) => number(arena, pass, *n),
+        Value::Text(t) => text_constant(arena, pass, t.as_str()),
+        Value::Other(k) => put(arena, pass, Kind::OtherValue, *k, 0),
     }
-    Ok(place)
+}
+
+fn text_constant<N: Site, I: Interner<N>>(
+    arena: &Arena<N>,
+    pass: &mut I,
+    t: &str,
+) -> Result<u32, Full>
+    ensures stands { IfOk result (λ place. StandsAt (I.list pass.new) place (IsTerm (term.Value (val.Text t.now)))) }
+    ensures place { IfOk result (λ place. IsTrue (is_place_of (I.list pass.new) class.Term place)) }
+    ensures small { IfOk result (λ place. place < 2 ^ 28) }
+    ensures longer { IsPrefix (I.list pass.old) (I.list pass.new) }
+    ensures full { OnErr result (length (I.list pass.new) ≡ N.log.cap) }
+    ensures kept { I.kept pass.new ≡ I.kept pass.old }
+    ensures lent { I.lent pass.new ≡ I.lent pass.old }
+{
+    let place = text(arena, pass, t)?;
+    put(arena, pass, Kind::TextConstant, place, 0)
+}
+
+fn named_null<N: Site, I: Interner<N>>(
+    arena: &Arena<N>,
+    pass: &mut I,
+    name: &str,
+) -> Result<u32, Full>
+    ensures stands { IfOk result (λ place. StandsAt (I.list pass.new) place (IsTerm (term.Null (null.Named name.now)))) }
+    ensures place { IfOk result (λ place. IsTrue (is_place_of (I.list pass.new) class.Term place)) }
+    ensures small { IfOk result (λ place. place < 2 ^ 28) }
+    ensures longer { IsPrefix (I.list pass.old) (I.list pass.new) }
+    ensures full { OnErr result (length (I.list pass.new) ≡ N.log.cap) }
+    ensures kept { I.kept pass.new ≡ I.kept pass.old }
+    ensures lent { I.lent pass.new ≡ I.lent pass.old }
+{
+    let place = text(arena, pass, name)?;
+    put(arena, pass, Kind::NamedNull, place, 0)
+}
+
+fn marked_null<N: Site, I: Interner<N>>(
+    arena: &Arena<N>,
+    pass: &mut I,
+    marked: &Null,
+) -> Result<u32, Full>
+    requires fields { FitsFields (term.Null marked.now) }
+    ensures stands { IfOk result (λ place. StandsAt (I.list pass.new) place (IsTerm (term.Null marked.now))) }
+    ensures place { IfOk result (λ place. IsTrue (is_place_of (I.list pass.new) class.Term place)) }
+    ensures small { IfOk result (λ place. place < 2 ^ 28) }
+    ensures longer { IsPrefix (I.list pass.old) (I.list pass.new) }
+    ensures full { OnErr result (length (I.list pass.new) ≡ N.log.cap) }
+    ensures kept { I.kept pass.new ≡ I.kept pass.old }
+    ensures lent { I.lent pass.new ≡ I.lent pass.old }
+{
+    match marked {
+        Null::Named(name) => named_null(arena, pass, name.as_str()),
+        Null::Fresh { session, number } => { put(arena, pass, Kind::FreshNull, *session, *number) }
+    }
+}
+
+/// The place of a term.
+///
+/// # Errors
+/// `Full` where the log has no room for a word of it.
+pub fn term<N: Site, I: Interner<N>>(
+    arena: &Arena<N>,
+    pass: &mut I,
+    term: &Term,
+) -> Result<u32, Full>
+    requires fields { FitsFields term.now }
+    ensures stands { IfOk result (λ place. StandsAt (I.list pass.new) place (IsTerm term.now)) }
+    ensures place { IfOk result (λ place. IsTrue (is_place_of (I.list pass.new) class.Term place)) }
+    ensures small { IfOk result (λ place. place < 2 ^ 28) }
+    ensures longer { IsPrefix (I.list pass.old) (I.list pass.new) }
+    ensures full { OnErr result (length (I.list pass.new) ≡ N.log.cap) }
+    ensures kept { I.kept pass.new ≡ I.kept pass.old }
+    ensures lent { I.lent pass.new ≡ I.lent pass.old }
+{
+    match term {
+        Term::Column(k) => put(arena, pass, Kind::Column, *k, 0),
+        Term::Null(n) => marked_null(arena, pass, n),
+        Term::Value(x) => value(arena, pass, x),
+    }
 }

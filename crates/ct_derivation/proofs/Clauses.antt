@@ -19,8 +19,8 @@ use Rattle.ct_derivation.specs.Path.{pair_of, is_constant, end_of, no_links, mov
 use Rattle.ct_derivation.specs.Accepts.{is_clause}
 use Rattle.ct_derivation.specs.Truth.{lit_holds, clause_holds}
 use Rattle.ct_derivation.proofs.Values.{same_value_is, same_value_from}
-use Rattle.ct_derivation.proofs.Places.{meaning_at}
-use Rattle.ct_derivation.proofs.Constants.{one_constant}
+use Rattle.ct_word.proofs.Splits.{meaning_at}
+use Rattle.ct_word.proofs.Constants.{one_constant}
 use Rattle.ct_derivation.proofs.Members.{same_members_hold}
 
 -- the clauses of a condition, where p is its truth and a and b those of its fields
@@ -142,7 +142,7 @@ module _ (ws : List ℕ) (v : World) where
     definition_told p k (Some w) there = by_kind_told (kind_of w) k p (left_of w) (right_of w) (ap as_cond (meaning_at ws wf p w there))
 
     ends_told : (s t : ℕ) → (s ≡ t → ⊥) → value_at s ≡ value_at t → clause_holds ws v (ends_clause ws s t) ≡ true
-    unfolding ends_clause
+    unfolding ends_clause is_constant
     ends_told s t ne e =
         cond_both (is_constant ws s && is_constant ws t) [] (yes_of (pair_of s t) ∷ []) (λ ls. clause_holds ws v ls ≡ true)
         (λ both. let parts = and_parts (is_constant ws s) (is_constant ws t) both in absurd (ne (one_constant ws wf v s t parts.0 parts.1 e)))

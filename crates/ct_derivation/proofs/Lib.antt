@@ -1,7 +1,4 @@
-pub mod Places
 pub mod Values
-pub mod Codes
-pub mod Constants
 pub mod Members
 pub mod Units
 pub mod Clauses

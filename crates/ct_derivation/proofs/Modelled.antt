@@ -16,7 +16,7 @@ use Rattle.ct_derivation.specs.Literal.{Clause}
 use Rattle.ct_derivation.specs.Definition.{defining, definition}
 use Rattle.ct_derivation.specs.Truth.{atom_holds}
 use Rattle.ct_derivation.specs.Models.{IsModel, is_satisfied, AreFieldsBelow}
-use Rattle.ct_derivation.proofs.Places.{meaning_at, formed_at, formed_fields, split_at, place_within}
+use Rattle.ct_word.proofs.Splits.{meaning_at, formed_at, formed_fields, split_at, place_within}
 
 -- the truth that the clauses leave
 is_true : (p : Bool) → (p || false) ≡ true → p ≡ true

@@ -1,10 +1,8 @@
 -- The clause of a path of terms: equality is transitive, and different constants differ.
 use Rattle.std.specs.Prelude.{ℕ, Bool, true, false, not, ◌&&◌, List, [], ◌∷◌, ◌++◌, Option, Some, None, nat_eq, nat_lt, slice_get, if◌then◌else◌}
 use Rattle.std.specs.List.{list_all}
-use Rattle.ct_word.specs.declared.kinds.Kind.{Kind}
-use Rattle.ct_word.specs.declared.kinds.Kind.TheVariants as kind
 use Rattle.ct_word.specs.declared.kinds.Class.TheVariants as class
-use Rattle.ct_word.specs.Word.{kind_of}
+pub use Rattle.ct_word.specs.Constant.{is_constant_kind, is_constant_word}
 use Rattle.ct_word.specs.WellFormed.{is_place_of}
 use Rattle.ct_derivation.specs.declared.literals.Atom.{Atom}
 use Rattle.ct_derivation.specs.declared.literals.Atom.TheVariants as atom
@@ -13,18 +11,6 @@ use Rattle.ct_derivation.specs.Literal.{Clause, yes_of, no_of}
 -- the equality of two terms, the smaller place first
 abbrev pub pair_of : ℕ → ℕ → Atom
 pair_of s t = if nat_lt s t then atom.Same s t else atom.Same t s
-
--- whether a kind is one of constants
-abbrev pub is_constant_kind : Option Kind → Bool
-is_constant_kind (Some kind.Number) = true
-is_constant_kind (Some kind.TextConstant) = true
-is_constant_kind (Some kind.OtherValue) = true
-is_constant_kind _ = false
-
--- whether this is a word of a constant
-abbrev pub is_constant_word : Option ℕ → Bool
-is_constant_word None = false
-is_constant_word (Some w) = is_constant_kind (kind_of w)
 
 -- whether a place holds a constant
 unfoldable pub is_constant : List ℕ → ℕ → Bool

@@ -5,7 +5,7 @@ use Rattle.std.proofs.lemmas.Option.{none-some}
 use Rattle.std.proofs.lemmas.Bool.{and_parts, eqb-true, eqb-false, cond_both}
 use Rattle.ct_word.specs.declared.kinds.Kind.{Kind}
 use Rattle.ct_word.specs.Word.{code_of, all_kinds, kind_with}
-use Rattle.ct_derivation.proofs.Places.{some-injective}
+use Rattle.ct_word.proofs.Splits.{some-injective}
 
 -- whether the codes of these kinds go up from n by one
 abbrev are_numbered : ℕ → List Kind → Bool

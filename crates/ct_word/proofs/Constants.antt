@@ -15,9 +15,9 @@ use Rattle.ct_word.specs.Word.{code_of, kind_of, left_of, right_of}
 use Rattle.ct_word.specs.Value.{World, at}
 use Rattle.ct_word.specs.Reading.{Meaning, by_kind, meanings, as_text, as_high, as_term, int_of_bits, term_at}
 use Rattle.ct_word.specs.WellFormed.{Field, Zero, Any, Byte, Scalar, Session, Positive, PlaceOf, has_class, is_word_of, is_place_of, fields_of, fits, is_formed_as, IsWellFormed}
-use Rattle.ct_derivation.specs.Path.{is_constant, is_constant_word, is_constant_kind}
-use Rattle.ct_derivation.proofs.Codes.{code_by}
-use Rattle.ct_derivation.proofs.Places.{split_at, formed_at, formed_fields, meaning_at, one_place, get_front, place_within}
+use Rattle.ct_word.specs.Constant.{is_constant_word, is_constant_kind}
+use Rattle.ct_word.proofs.Codes.{code_by}
+use Rattle.ct_word.proofs.Splits.{split_at, formed_at, formed_fields, meaning_at, one_place, get_front, place_within}
 
 words_by : (w x c : ℕ) → c ≡ w / 72057594037927936 → c ≡ x / 72057594037927936 → left_of w ≡ left_of x → right_of w ≡ right_of x → w ≡ x
 words_by w x c d e l r = omega arith
@@ -304,8 +304,7 @@ module _ (ws : List ℕ) (wf : IsWellFormed ws) where
       ]
     ]
 
-    place_of : (s : ℕ) → is_constant ws s ≡ true → Place s
-    unfolding is_constant
+    place_of : (s : ℕ) → is_constant_word (slice_get ws s) ≡ true → Place s
     place_of s e = place_by s (slice_get ws s) refl e
 
     by_places : (s t : ℕ) → Place s → Place t → value_at s ≡ value_at t → s ≡ t
@@ -320,5 +319,5 @@ module _ (ws : List ℕ) (wf : IsWellFormed ws) where
     by_places s t (of_other p a) (of_text q b) e = let f = ap tag_of e in absurd (omega (arith, a, b, f))
 
     -- two places of constants with one value are one place
-    pub one_constant : (s t : ℕ) → is_constant ws s ≡ true → is_constant ws t ≡ true → value_at s ≡ value_at t → s ≡ t
+    pub one_constant : (s t : ℕ) → is_constant_word (slice_get ws s) ≡ true → is_constant_word (slice_get ws t) ≡ true → value_at s ≡ value_at t → s ≡ t
     one_constant s t cs ct e = by_places s t (place_of s cs) (place_of t ct) e

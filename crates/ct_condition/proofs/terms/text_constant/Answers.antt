@@ -1,0 +1,17 @@
+use Rattle.std.proofs.Common.{◌∙◌, ap, Some}
+use Rattle.std.proofs.lemmas.Result.{IfOk-weaker}
+use Rattle.ct_word.specs.declared.kinds.Class.TheVariants as class
+use Rattle.ct_word.specs.declared.values.Value.TheVariants as val
+use Rattle.ct_word.specs.declared.values.Term.TheVariants as term
+use Rattle.ct_word.specs.Reading.{IsText, IsTerm, as_text}
+use Rattle.ct_word.specs.Stands.{StandsAt}
+use Rattle.ct_condition.proofs.Fields.{kept}
+use Rattle.ct_condition.proofs.terms.text_constant.Goals as goal
+
+pub returns-clause-stands : goal.returns-clause-stands
+returns-clause-stands g c =
+    let new = g.I.Interner.list c.put.new.pass in
+    let stays : StandsAt new c.in_ok-place.place (IsText c.args.t.now) =
+    kept (g.I.Interner.list c.text.new.pass) new class.Text c.in_ok-place.place _ c.put.ensures.longer c.in_ok-place.ensures.place c.in_ok-place.ensures.stands in
+    IfOk-weaker c.put.result _ (λ place. StandsAt new place (IsTerm (term.Value (val.Text c.args.t.now))))
+    (λ place s. s ∙ ap (λ o. Some (IsTerm (term.Value (val.Text (as_text o))))) stays) c.put.ensures.stands

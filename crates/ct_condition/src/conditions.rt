@@ -1,0 +1,138 @@
+// Conditions, folded where they can be.
+
+ghost use Rattle.std.specs.Prelude.{◌≡◌, ◌≢◌, ◌≤◌, ◌+◌, ◌<◌, ◌^◌, ◌⊎◌, length, IfOk, OnErr, IsTrue, Some, false};
+ghost use mathlib.Core.List.{IsPrefix};
+ghost use Rattle.ct_word.specs.Reading.{by_kind, meanings};
+ghost use Rattle.ct_word.specs.Stands.{StandsAt};
+ghost use Rattle.ct_word.specs.WellFormed.{is_formed_as, is_place_of, class_of, has_class};
+ghost use Rattle.ct_word.specs.declared.kinds.Class.TheVariants as class;
+ghost use Rattle.ct_condition.specs.Truth.{HasTruth, equal_at, not_at, and_at, or_at};
+
+use crate::folding::{folded_and, folded_eq, folded_not, folded_or};
+use crate::interner::Interner;
+use crate::packed::put;
+use ct_arena::{Arena, Full, Site};
+use ct_word::Kind;
+
+/// The place of the word of two different places, the smaller one first.
+fn pair<N: Site, I: Interner<N>>(
+    arena: &Arena<N>,
+    pass: &mut I,
+    kind: Kind,
+    c: u32,
+    d: u32,
+) -> Result<u32, Full>
+    requires apart { c ≢ d }
+    requires left { c < 2 ^ 28 }
+    requires right { d < 2 ^ 28 }
+    requires formed { (c < d → IsTrue (is_formed_as (Some kind) (I.list pass.old) c d)) × (d < c → IsTrue (is_formed_as (Some kind) (I.list pass.old) d c)) }
+    requires plain { has_class (Some kind) class.Commit ≡ false }
+    ensures stands { IfOk result (λ place. StandsAt (I.list pass.new) place (by_kind (Some kind) (meanings (I.list pass.new)) c d) ⊎ StandsAt (I.list pass.new) place (by_kind (Some kind) (meanings (I.list pass.new)) d c)) }
+    ensures place { IfOk result (λ place. IsTrue (is_place_of (I.list pass.new) (class_of kind) place)) }
+    ensures small { IfOk result (λ place. place < 2 ^ 28) }
+    ensures longer { IsPrefix (I.list pass.old) (I.list pass.new) }
+    ensures full { OnErr result (length (I.list pass.new) ≡ N.log.cap) }
+    ensures made { I.made pass.new ≤ I.made pass.old + 1 }
+    ensures kept { I.kept pass.new ≡ I.kept pass.old }
+    ensures lent { I.lent pass.new ≡ I.lent pass.old }
+{
+    if c < d {
+        put(arena, pass, kind, c, d)
+    } else {
+        put(arena, pass, kind, d, c)
+    }
+}
+
+/// The place of the equality of two terms.
+///
+/// # Errors
+/// `Full` where the log has no room for its word.
+pub fn eq<N: Site, I: Interner<N>>(
+    arena: &Arena<N>,
+    pass: &mut I,
+    s: u32,
+    t: u32,
+) -> Result<u32, Full>
+    requires left { IsTrue (is_place_of (I.list pass.old) class.Term s) }
+    requires right { IsTrue (is_place_of (I.list pass.old) class.Term t) }
+    ensures truth { IfOk result (λ place. HasTruth (I.list pass.new) place (equal_at (I.list pass.old) s t)) }
+    ensures longer { IsPrefix (I.list pass.old) (I.list pass.new) }
+    ensures full { OnErr result (length (I.list pass.new) ≡ N.log.cap) }
+    ensures made { I.made pass.new ≤ I.made pass.old + 1 }
+    ensures kept { I.kept pass.new ≡ I.kept pass.old }
+    ensures lent { I.lent pass.new ≡ I.lent pass.old }
+{
+    match folded_eq(pass.words(), s, t) {
+        Some(place) => Ok(place),
+        None => pair(arena, pass, Kind::Equal, s, t),
+    }
+}
+
+/// The place of the negation of a condition.
+///
+/// # Errors
+/// `Full` where the log has no room for its word.
+pub fn not<N: Site, I: Interner<N>>(arena: &Arena<N>, pass: &mut I, c: u32) -> Result<u32, Full>
+    requires condition { IsTrue (is_place_of (I.list pass.old) class.Cond c) }
+    ensures truth { IfOk result (λ place. HasTruth (I.list pass.new) place (not_at (I.list pass.old) c)) }
+    ensures longer { IsPrefix (I.list pass.old) (I.list pass.new) }
+    ensures full { OnErr result (length (I.list pass.new) ≡ N.log.cap) }
+    ensures made { I.made pass.new ≤ I.made pass.old + 1 }
+    ensures kept { I.kept pass.new ≡ I.kept pass.old }
+    ensures lent { I.lent pass.new ≡ I.lent pass.old }
+{
+    match folded_not(pass.words(), c) {
+        Some(place) => Ok(place),
+        None => put(arena, pass, Kind::Not, c, 0),
+    }
+}
+
+/// The place of the conjunction of two conditions.
+///
+/// # Errors
+/// `Full` where the log has no room for its word.
+pub fn and<N: Site, I: Interner<N>>(
+    arena: &Arena<N>,
+    pass: &mut I,
+    c: u32,
+    d: u32,
+) -> Result<u32, Full>
+    requires left { IsTrue (is_place_of (I.list pass.old) class.Cond c) }
+    requires right { IsTrue (is_place_of (I.list pass.old) class.Cond d) }
+    ensures truth { IfOk result (λ place. HasTruth (I.list pass.new) place (and_at (I.list pass.old) c d)) }
+    ensures longer { IsPrefix (I.list pass.old) (I.list pass.new) }
+    ensures full { OnErr result (length (I.list pass.new) ≡ N.log.cap) }
+    ensures made { I.made pass.new ≤ I.made pass.old + 1 }
+    ensures kept { I.kept pass.new ≡ I.kept pass.old }
+    ensures lent { I.lent pass.new ≡ I.lent pass.old }
+{
+    match folded_and(pass.words(), c, d) {
+        Some(place) => Ok(place),
+        None => pair(arena, pass, Kind::And, c, d),
+    }
+}
+
+/// The place of the disjunction of two conditions.
+///
+/// # Errors
+/// `Full` where the log has no room for its word.
+pub fn or<N: Site, I: Interner<N>>(
+    arena: &Arena<N>,
+    pass: &mut I,
+    c: u32,
+    d: u32,
+) -> Result<u32, Full>
+    requires left { IsTrue (is_place_of (I.list pass.old) class.Cond c) }
+    requires right { IsTrue (is_place_of (I.list pass.old) class.Cond d) }
+    ensures truth { IfOk result (λ place. HasTruth (I.list pass.new) place (or_at (I.list pass.old) c d)) }
+    ensures longer { IsPrefix (I.list pass.old) (I.list pass.new) }
+    ensures full { OnErr result (length (I.list pass.new) ≡ N.log.cap) }
+    ensures made { I.made pass.new ≤ I.made pass.old + 1 }
+    ensures kept { I.kept pass.new ≡ I.kept pass.old }
+    ensures lent { I.lent pass.new ≡ I.lent pass.old }
+{
+    match folded_or(pass.words(), c, d) {
+        Some(place) => Ok(place),
+        None => pair(arena, pass, Kind::Or, c, d),
+    }
+}

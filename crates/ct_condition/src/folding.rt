@@ -1,0 +1,145 @@
+// Where a condition folds to one that stands already.
+
+ghost use Rattle.std.specs.Prelude.{◌≡◌, ◌≢◌, ◌<◌, ◌^◌, true, length, IfSome, IsTrue, None, Some, slice_get, ℕ};
+ghost use mathlib.Core.List.{IsPrefix};
+ghost use Rattle.ct_arena.specs.Counts.{opening};
+ghost use Rattle.ct_word.specs.Constant.{is_constant_kind, is_constant_word};
+ghost use Rattle.ct_word.specs.WellFormed.{IsWellFormed, is_place_of};
+ghost use Rattle.ct_word.specs.declared.kinds.Class.TheVariants as class;
+ghost use Rattle.ct_condition.specs.Truth.{HasTruth, Negates, equal_at, not_at, and_at, or_at};
+
+use ct_word::{Kind, kind, left};
+
+/// The places of the words true and false, with which every log begins.
+const TRUE: u32 = 0;
+
+const FALSE: u32 = 1;
+
+fn is_kind_of_constant(kind: Option<Kind>) -> bool
+    ensures { result ≡ is_constant_kind kind }
+{
+    matches!(
+        kind,
+        Some(Kind::Number | Kind::TextConstant | Kind::OtherValue)
+    )
+}
+
+fn word_at(words: &[u64], place: u32) -> Option<u64>
+    ensures { result ≡ slice_get words.now place }
+{
+    words.get(place as usize).copied()
+}
+
+fn is_constant(words: &[u64], place: u32) -> bool
+    ensures { result ≡ is_constant_word (slice_get words.now place) }
+{
+    match word_at(words, place) {
+        None => false,
+        Some(word) => is_kind_of_constant(kind(word)),
+    }
+}
+
+/// The condition that the one at a place is the negation of, if its word is a `not`.
+fn negated(words: &[u64], place: u32) -> Option<u32>
+    requires { IsWellFormed words.now }
+    ensures { IfSome result (λ other. Negates words.now place other) }
+{
+    let word = word_at(words, place)?;
+    match kind(word)? {
+        Kind::Not => Some(left(word)),
+        _ => None,
+    }
+}
+
+/// The place that the equality of two terms folds to.
+pub fn folded_eq(words: &[u64], s: u32, t: u32) -> Option<u32>
+    requires formed { IsWellFormed words.now }
+    requires begins { IsPrefix opening words.now }
+    ensures truth { IfSome result (λ place. HasTruth words.now place (equal_at words.now s t)) }
+    ensures apart { result ≡ None → s ≢ t }
+{
+    if s == t {
+        return Some(TRUE);
+    }
+    if is_constant(words, s) && is_constant(words, t) {
+        return Some(FALSE);
+    }
+    None
+}
+
+/// The place that the negation of a condition folds to.
+pub fn folded_not(words: &[u64], c: u32) -> Option<u32>
+    requires formed { IsWellFormed words.now }
+    requires begins { IsPrefix opening words.now }
+    requires small { length words.now < 2 ^ 28 }
+    ensures truth { IfSome result (λ place. HasTruth words.now place (not_at words.now c)) }
+{
+    if c == TRUE {
+        return Some(FALSE);
+    }
+    if c == FALSE {
+        return Some(TRUE);
+    }
+    negated(words, c)
+}
+
+/// Whether the word at a place is the `not` of another.
+fn negates(words: &[u64], c: u32, d: u32) -> bool
+    requires { IsWellFormed words.now }
+    ensures { result ≡ true → Negates words.now c d }
+{
+    match negated(words, c) {
+        Some(other) => other == d,
+        None => false,
+    }
+}
+
+/// The place that the conjunction of two conditions folds to.
+pub fn folded_and(words: &[u64], c: u32, d: u32) -> Option<u32>
+    requires formed { IsWellFormed words.now }
+    requires begins { IsPrefix opening words.now }
+    requires small { length words.now < 2 ^ 28 }
+    requires left { IsTrue (is_place_of words.now class.Cond c) }
+    requires right { IsTrue (is_place_of words.now class.Cond d) }
+    ensures truth { IfSome result (λ place. HasTruth words.now place (and_at words.now c d)) }
+    ensures apart { result ≡ None → c ≢ d }
+{
+    if c == FALSE || d == FALSE {
+        return Some(FALSE);
+    }
+    if c == TRUE {
+        return Some(d);
+    }
+    if d == TRUE || c == d {
+        return Some(c);
+    }
+    if negates(words, c, d) || negates(words, d, c) {
+        return Some(FALSE);
+    }
+    None
+}
+
+/// The place that the disjunction of two conditions folds to.
+pub fn folded_or(words: &[u64], c: u32, d: u32) -> Option<u32>
+    requires formed { IsWellFormed words.now }
+    requires begins { IsPrefix opening words.now }
+    requires small { length words.now < 2 ^ 28 }
+    requires left { IsTrue (is_place_of words.now class.Cond c) }
+    requires right { IsTrue (is_place_of words.now class.Cond d) }
+    ensures truth { IfSome result (λ place. HasTruth words.now place (or_at words.now c d)) }
+    ensures apart { result ≡ None → c ≢ d }
+{
+    if c == TRUE || d == TRUE {
+        return Some(TRUE);
+    }
+    if c == FALSE {
+        return Some(d);
+    }
+    if d == FALSE || c == d {
+        return Some(c);
+    }
+    if negates(words, c, d) || negates(words, d, c) {
+        return Some(TRUE);
+    }
+    None
+}
