@@ -1,11 +1,11 @@
 -- A catalogue after a commit, and after one that found the log full.
-use Rattle.std.proofs.Common.{◌≡◌, ℕ, ◌+◌, ◌<◌, ◌≤◌, List, [], ◌∷◌, ◌++◌, length, map, refl, ap, sym, subst, ◌∙◌, arith, length-append}
+use Rattle.std.proofs.Common.{◌≡◌, ℕ, suc, ◌+◌, ◌<◌, ◌≤◌, List, [], ◌∷◌, ◌++◌, length, map, refl, ap, sym, subst, ◌∙◌, arith, length-append}
 use Rattle.std.specs.Prelude.{None, IsTrue, All}
-use Rattle.std.proofs.lemmas.List.{map_push, length-map}
+use Rattle.std.proofs.lemmas.List.{map_push}
 use Rattle.std.proofs.lemmas.List.Elements.{All-push}
 use mathlib.Core.List.{IsPrefix}
 use Rattle.ct_word.specs.declared.kinds.Class.TheVariants as class
-use Rattle.ct_word.specs.Change.{PlainCommit}
+use Rattle.ct_word.specs.Change.{PlainChange, PlainCommit}
 use Rattle.ct_word.specs.Reading.{commits_of, change_list_at}
 use Rattle.ct_word.specs.WellFormed.{IsWellFormed, is_place_of}
 use Rattle.ct_word.proofs.Growth.{place_within}
@@ -38,16 +38,22 @@ still room pass pass' keeper keeper' tables history k longer within formed sessi
   by_one = k.by_one;
 }
 
+-- as many are printed as there are
+pub length_printed : (history : List Commit) → length (plain_history history) ≡ length history
+length_printed [] = refl
+length_printed (c ∷ history) = ap suc (length_printed history)
+
+commit_with : (xs ys : List PlainChange) (s t m n : ℕ) → s ≡ t → m ≡ n → xs ≡ ys → (let c : PlainCommit = record { session = s; number = m; changes = xs } in c) ≡ record { session = t; number = n; changes = ys }
+commit_with xs ys s t m n e f g = λ i. record { session = e i; number = f i; changes = g i }
+
 -- the commit that was appended is the one that is printed
 pub appended_is : (pass : Seen) (words : List ℕ) (history : List Commit) (changes session mine : ℕ) (commit : Commit) (tables : List TableView)
     → session ≡ 1 → mine ≡ length history → IsPrefix pass.words words → IsReady (plain_history history) pass.words changes commit tables
     → commit_of words session mine changes ≡ plain_commit commit
 appended_is pass words history changes session mine commit tables s m longer ready =
-    (λ i. record {
-      session = s i;
-      number = (m ∙ sym (length-map plain_commit history)) i;
-      changes = change_list_in_prefix pass.words words changes longer (place_within pass.words class.ChangeList changes ready.place) i;
-    }) ∙ sym ready.printed
+    let number : mine ≡ length (plain_history history) = m ∙ sym (length_printed history) in
+    let list : change_list_at words changes ≡ change_list_at pass.words changes = change_list_in_prefix pass.words words changes longer (place_within pass.words class.ChangeList changes ready.place) in
+    commit_with (change_list_at words changes) (change_list_at pass.words changes) session 1 mine (length (plain_history history)) s number list ∙ sym ready.printed
 
 -- after one more commit
 pub further : (room : ℕ) (pass pass' : Seen) (keeper keeper' : Keeping) (tables after : List TableView) (history : List Commit) (changes : ℕ) (commit : Commit)
@@ -73,3 +79,10 @@ further room pass pass' keeper keeper' tables after history changes commit k rea
       by_one = subst (All (λ c. c.session ≡ 1)) (sym printed)
           (All-push (λ c. c.session ≡ 1) (plain_history history) (plain_commit commit) k.by_one (ap (λ c. c.session) ready.printed));
     }
+
+-- a log that took one more word had room for it
+pub had_room : (room : ℕ) (seen words words' : List ℕ) (w : ℕ) → IsPrefix seen words → words' ≡ words ++ w ∷ [] → length words' ≤ room → length seen < room
+had_room room seen words words' w p e le =
+    let a : length (seen ++ p.0) ≡ length words = ap length p.1 in
+    let b : length words' ≡ length (words ++ w ∷ []) = ap length e in
+    omega (arith, length-append seen p.0, length-append words (w ∷ []), a, b)

@@ -28,6 +28,14 @@ pub struct Offer {
     pub tables: Db,
 }
 
+/// The version after these commits: how many they are.
+pub fn version(history: &[Commit]) -> u32
+    requires { length history.now < 2 ^ 32 }
+    ensures { result ≡ length history.now }
+{
+    history.len() as u32
+}
+
 /// Commits an offer; where the log is full, nothing but its words is changed.
 pub fn commit<N: Site>(
     arena: &Arena<N>,
@@ -53,7 +61,7 @@ pub fn commit<N: Site>(
         commit,
         tables: after,
     } = offer;
-    let at = history.len() as u32;
+    let at = version(history.as_slice());
     let mut guest = keeper.enter(arena, pass);
     match keeper.append_commit(arena, &mut guest, changes) {
         Ok(_) => {
