@@ -15,3 +15,6 @@ mod terms;
 pub use ct_rewrite::{AnswerRow, Change, Commit, Node};
 pub use reply::{Answer, Refusal, Reply, SessionLog};
 pub use sessions::lines;
+
+#[cfg(test)]
+mod tests;

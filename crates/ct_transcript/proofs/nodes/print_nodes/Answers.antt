@@ -1,7 +1,7 @@
-use Rattle.std.proofs.Common.{◌≡◌, ◌<◌, ◌++◌, ◌∷◌, [], length, get_or, ap, ◌∙◌, arith}
-use Rattle.std.specs.Prelude.{flat_map, vec_len}
+use Rattle.std.proofs.Common.{◌++◌, length, get_or, ap, ◌∙◌, arith}
+use Rattle.std.specs.Prelude.{flat_map}
 use Rattle.ct_rewrite.specs.Nodes.{children_of}
-use Rattle.ct_transcript.specs.NodeText.{names_of, node_text, printed}
+use Rattle.ct_transcript.specs.NodeText.{names_of, node_text}
 use Rattle.ct_transcript.proofs.Names.{length_names}
 use Rattle.ct_transcript.proofs.Prints.{same_printed, node_printed, all_printed}
 use Rattle.ct_transcript.proofs.nodes.print_nodes.Goals as goal

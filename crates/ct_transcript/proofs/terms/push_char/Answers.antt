@@ -1,4 +1,4 @@
-use Rattle.std.proofs.Common.{◌≡◌, ap, arith}
+use Rattle.std.proofs.Common.{arith}
 use Rattle.ct_transcript.proofs.Quotes.{quote_char, other_char}
 use Rattle.ct_transcript.proofs.terms.push_char.Goals as goal
 use Rattle.ct_transcript.proofs.terms.push_char.Goals.{then-c-eq39+in_ok-push, else-c-eq39}
