@@ -20,7 +20,7 @@ pub name_added : (ws xs ys : List ℕ) (names : List (List ℕ)) (name : List �
     → StandsAt ys new (IsNameList (names ++ name ∷ []))
 name_added ws xs ys names name place text new s p grown t q grown' stands =
     stands ∙ (λ i. Some (IsNameList (as_name_list (stands_in_prefix ws ys place _ grown (place_within ws class.NameList place p) s i)
-        ++ as_text (stands_in_prefix xs ys text _ grown' (place_within xs class.Text text q) t i) ∷ [])))
+    ++ as_text (stands_in_prefix xs ys text _ grown' (place_within xs class.Text text q) t i) ∷ [])))
 
 -- a change that is put behind changes
 pub change_added : (ws xs ys : List ℕ) (change : PlainChange) (list place new : ℕ)
@@ -30,7 +30,7 @@ pub change_added : (ws xs ys : List ℕ) (change : PlainChange) (list place new 
     → StandsAt ys new (IsChangeList (change_list_at ws list ++ change ∷ []))
 change_added ws xs ys change list place new p grown t q grown' stands =
     stands ∙ (λ i. Some (IsChangeList (as_change_list (meaning_in_prefix ws ys list grown (place_within ws class.ChangeList list p) i)
-        ++ as_change (stands_in_prefix xs ys place _ grown' (place_within xs class.Change place q) t i) ∷ [])))
+    ++ as_change (stands_in_prefix xs ys place _ grown' (place_within xs class.Change place q) t i) ∷ [])))
 
 -- the creation of a table
 pub created : (ws xs ys : List ℕ) (name : List ℕ) (columns : List (List ℕ)) (table names new : ℕ)
@@ -40,7 +40,7 @@ pub created : (ws xs ys : List ℕ) (name : List ℕ) (columns : List (List ℕ)
     → StandsAt ys new (IsChange (Create name columns))
 created ws xs ys name columns table names new s p grown t q grown' stands =
     stands ∙ (λ i. Some (IsChange (Create (as_text (stands_in_prefix ws ys table _ grown (place_within ws class.Text table p) s i))
-        (as_name_list (stands_in_prefix xs ys names _ grown' (place_within xs class.NameList names q) t i)))))
+    (as_name_list (stands_in_prefix xs ys names _ grown' (place_within xs class.NameList names q) t i)))))
 
 -- the first items and the next one
 pub take_one : (xs : List (List ℕ)) (i : ℕ) (x y : List ℕ) → i < length xs → x ≡ y → y ≡ get_or xs i y → take (i + 1) xs ≡ take i xs ++ x ∷ []

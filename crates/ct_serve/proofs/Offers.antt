@@ -58,14 +58,22 @@ module _ (N : ℕ) (h : List PlainCommit) (words words' : List ℕ) (x : List �
   pub answers_no_statement : IsNoStatement x → Answers N h h words words' x (reply.Refused (length h) refusal.NotAStatement)
   answers_no_statement none = record {
     lawful = λ H W g. (record { found = none; at_is = refl }, stays h);
-    longer = longer; room = room; commits = nothing _ refl; full = λ e. cc; not_full = λ m e. cc;
+    longer = longer;
+    room = room;
+    commits = nothing _ refl;
+    full = λ e. cc;
+    not_full = λ m e. cc;
   }
 
   -- memory was wanting
   pub answers_memory : Answers N h h words words' x (reply.Refused (length h) refusal.Memory)
   answers_memory = record {
     lawful = λ H W g. (refl, stays h);
-    longer = longer; room = room; commits = nothing _ refl; full = λ e. cc; not_full = λ m e. cc;
+    longer = longer;
+    room = room;
+    commits = nothing _ refl;
+    full = λ e. cc;
+    not_full = λ m e. cc;
   }
 
   within : (H : List PlainCommit) → IsPrefix h H → length h ≤ length H
@@ -75,16 +83,32 @@ module _ (N : ℕ) (h : List PlainCommit) (words words' : List ℕ) (x : List �
   pub answers_not_yet : (st : Statement) → ReadsAs x st → resolve (schema h []) st ≡ None → Answers N h h words words' x (reply.Refused (length h) refusal.NotYet)
   answers_not_yet st reads e = record {
     lawful = λ H W g. (record { actions = []; sees = (omega arith, within H g.history, refl); found = resolves_on h H W N x st None g.history reads e }, stays h);
-    longer = longer; room = room; commits = nothing _ refl; full = λ e. cc; not_full = λ m e. cc;
+    longer = longer;
+    room = room;
+    commits = nothing _ refl;
+    full = λ e. cc;
+    not_full = λ m e. cc;
   }
 
   -- the log is full
   pub answers_full : (st : Statement) (r : PlainStatement) → ReadsAs x st → resolve (schema h []) st ≡ Some r → length words' ≡ N
       → Answers N h h words words' x (reply.Refused (length h) refusal.Full)
   answers_full st r reads e full = record {
-    lawful = λ H W g. (record { actions = []; statement = r; sees = (omega arith, within H g.history, refl); asks = resolves_on h H W N x st (Some r) g.history reads e;
-        full = at_end W g.log g.room }, stays h);
-    longer = longer; room = room; commits = nothing _ refl; full = λ e. full; not_full = λ m e. cc;
+    lawful = λ H W g. (
+      record {
+        actions = [];
+        statement = r;
+        sees = (omega arith, within H g.history, refl);
+        asks = resolves_on h H W N x st (Some r) g.history reads e;
+        full = at_end W g.log g.room;
+      },
+      stays h,
+    );
+    longer = longer;
+    room = room;
+    commits = nothing _ refl;
+    full = λ e. full;
+    not_full = λ m e. cc;
   } where
     at_end : (W : List ℕ) → IsPrefix words' W → length W ≤ N → length W ≡ N
     at_end W p le = let sum : length (words' ++ p.0) ≡ length W = ap length p.1 in omega (arith, length-append words' p.0, sum)
@@ -106,9 +130,14 @@ module _ (N : ℕ) (h : List PlainCommit) (words words' : List ℕ) (x : List �
           o.agrees;
       next_is = λ i. record { session = 1; seen = (length-append h (plain_commit commit ∷ []) ∙ sym (max_next (length h))) i; fresh = fresh_is i; commits = length-append h (plain_commit commit ∷ []) i; transaction = None };
     };
-    longer = longer; room = room; commits = one (plain_commit commit) by; full = λ e. cc; not_full = λ m e. lt;
+    longer = longer;
+    room = room;
+    commits = one (plain_commit commit) by;
+    full = λ e. cc;
+    not_full = λ m e. lt;
   } where
     back : (n : ℕ) → (n + 1) - 1 ≡ n
     back n = omega arith
+
     fresh_is : 0 ≡ 0 + drawn o.action
     fresh_is = let none = o.none_drawn in omega arith

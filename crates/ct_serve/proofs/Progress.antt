@@ -31,9 +31,10 @@ commits_by_push s m [] c e =
 commits_by_push s m (d ∷ h) c e = by_test (nat_eq d.session s) (commits_by_push s (m + 1) h c e) where
   next : (m + 1) + length h ≡ m + length (d ∷ h)
   next = omega arith
+
   by_test : (b : Bool) → commits_by s (m + 1) (h ++ c ∷ []) ≡ commits_by s (m + 1) h ++ ((m + 1) + length h) ∷ []
       → (if b then m ∷ commits_by s (m + 1) (h ++ c ∷ []) else commits_by s (m + 1) (h ++ c ∷ []))
-        ≡ (if b then m ∷ commits_by s (m + 1) h else commits_by s (m + 1) h) ++ (m + length (d ∷ h)) ∷ []
+      ≡ (if b then m ∷ commits_by s (m + 1) h else commits_by s (m + 1) h) ++ (m + length (d ∷ h)) ∷ []
   by_test true rest = ap (λ l. m ∷ l) (rest ∙ ap (λ k. commits_by s (m + 1) h ++ k ∷ []) next)
   by_test false rest = rest ∙ ap (λ k. commits_by s (m + 1) h ++ k ∷ []) next
 
@@ -82,8 +83,8 @@ commits_push h h' rs r (nothing r' none) e =
     e ∙ sym (append-nil (filter_map committed_of rs)) ∙ ap (λ o. filter_map committed_of rs ++ cons_option o []) (sym none) ∙ sym (filter_map-append committed_of rs (r ∷ []))
 commits_push h h' rs r (one c by) e =
     commits_by_push 1 1 h c by ∙ (λ i. e i ++ next i ∷ []) ∙ sym (filter_map-append committed_of rs (reply.Committed (length h + 1) ∷ [])) where
-  next : 1 + length h ≡ length h + 1
-  next = omega arith
+      next : 1 + length h ≡ length h + 1
+      next = omega arith
 
 longer_full : (N : ℕ) (words words' : List ℕ) → IsPrefix words words' → length words ≡ N → length words' ≤ N → length words' ≡ N
 longer_full N words words' p e le = let sum : length (words ++ p.0) ≡ length words' = ap length p.1 in omega (arith, length-append words p.0, sum)

@@ -37,11 +37,7 @@ pub fn version(history: &[Commit]) -> u32
 }
 
 /// Commits an offer; where the log is full, nothing but its words is changed.
-pub fn commit<N: Site>(
-    arena: &Arena<N>,
-    session: Session<N>,
-    offer: Offer,
-) -> (Session<N>, Reply)
+pub fn commit<N: Site>(arena: &Arena<N>, session: Session<N>, offer: Offer) -> (Session<N>, Reply)
     requires kept { IsCatalogue N.log.cap session.pass session.keeper session.tables session.history.items }
     requires few { length session.history.items < 2 ^ 16 }
     requires room { vec_len session.history < vec_capacity session.history }

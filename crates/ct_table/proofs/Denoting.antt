@@ -93,14 +93,14 @@ module _ (words : List ℕ) (h : List PlainCommit) (c : PlainCommit) (db : List 
     created_tables v =
         subst (λ o. IfSome o (λ w. SameDatabase (value_of_tables words v (db ++ empty_table name columns ∷ [])) w))
         (sym (world_commit v h c ∙ ap (after_changes v (world v h [])) is)) (by_world (world v h []) (d.tables v)) where
-      by_world : (o : Option Database) → IfSome o (λ w. SameDatabase (value_of_tables words v db) w)
-          → IfSome (option_and_then (λ w. step_change v w (Create name columns)) o) (λ w. SameDatabase (value_of_tables words v (db ++ empty_table name columns ∷ [])) w)
-      by_world None s = tt
-      by_world (Some w) s =
-          subst (λ a. SameDatabase a (w ++ record { name = name; columns = columns; tuples = [] } ∷ []))
-          (sym (map_push (λ (t : TableView). record { name = t.name; columns = t.columns; tuples = value_of_rows words v t.rows }) db (empty_table name columns)))
-          (same_database_append (value_of_tables words v db) w _ (record { name = name; columns = columns; tuples = [] } ∷ []) s
-            (record { name = refl; columns = refl; tuples = λ t. refl }, tt))
+          by_world : (o : Option Database) → IfSome o (λ w. SameDatabase (value_of_tables words v db) w)
+              → IfSome (option_and_then (λ w. step_change v w (Create name columns)) o) (λ w. SameDatabase (value_of_tables words v (db ++ empty_table name columns ∷ [])) w)
+          by_world None s = tt
+          by_world (Some w) s =
+              subst (λ a. SameDatabase a (w ++ record { name = name; columns = columns; tuples = [] } ∷ []))
+              (sym (map_push (λ (t : TableView). record { name = t.name; columns = t.columns; tuples = value_of_rows words v t.rows }) db (empty_table name columns)))
+              (same_database_append (value_of_tables words v db) w _ (record { name = name; columns = columns; tuples = [] } ∷ []) s
+              (record { name = refl; columns = refl; tuples = λ t. refl }, tt))
 
     patterns_stay : patterns (h ++ c ∷ []) [] ≡ patterns h []
     patterns_stay = patterns_commit h c ∙ ap (pattern_changes (patterns h [])) is
@@ -132,9 +132,10 @@ others_stay : (name : List ℕ) (more : List (List Value)) (v : World) (words : 
     → AllByRecursion (λ n. same_text name n ≡ false) (map (λ t. t.name) db)
     → SameDatabase (value_of_tables words v db) w → SameDatabase (value_of_tables words v db) (inserted w name more)
 others_stay name more v words [] [] others s = tt
-others_stay name more v words (t ∷ db) (r ∷ w) others s =
-    (subst (λ a. SameRelation (relation_of words v t) a) (sym (ap (λ b. if b then with_tuples r (r.tuples ++ more) else r) kept)) s.0
-    , others_stay name more v words db w others.1 s.1) where
+others_stay name more v words (t ∷ db) (r ∷ w) others s = (
+  subst (λ a. SameRelation (relation_of words v t) a) (sym (ap (λ b. if b then with_tuples r (r.tuples ++ more) else r) kept)) s.0,
+  others_stay name more v words db w others.1 s.1,
+) where
   kept : same_text r.name name ≡ false
   kept = ap (λ n. same_text n name) (sym s.0.name) ∙ unalike name t.name others.0
 others_stay name more v words [] (r ∷ w) others s = absurd s
@@ -168,22 +169,25 @@ module _ (v : World) (words : List ℕ) (name : List ℕ) (more : List (List Val
   inserted_same (x ∷ db) (r ∷ w) f d s = by_test (same_text x.name name) refl (inserted_same db w) where
     here : same_text x.name name ≡ true → same_text r.name name ≡ true
     here p = ap (λ n. same_text n name) (sym s.0.name) ∙ p
+
     by_test : (b : Bool) → same_text x.name name ≡ b
         → (find_table db name ≡ Some t → IsDistinct same_text (map (λ x. x.name) db) → SameDatabase (value_of_tables words v db) w
-            → SameDatabase (value_of_tables words v (with_table db (with_rows name t rows))) (inserted w name more))
+        → SameDatabase (value_of_tables words v (with_table db (with_rows name t rows))) (inserted w name more))
         → SameDatabase (value_of_tables words v (with_table (x ∷ db) (with_rows name t rows))) (inserted (r ∷ w) name more)
     by_test true p rest =
         let same : Some x ≡ Some t = sym (ap (λ b. if b then Some x else find_table db name) p) ∙ f in
         let is : x ≡ t = cc in
         let n : x.name ≡ name = (text_decides x.name name).0 p in
-        subst (λ a. SameDatabase (value_of_tables words v a) (inserted (r ∷ w) name more)) (sym (ap (λ b. if b then with_rows name t rows ∷ db else x ∷ with_table db (with_rows name t rows)) p))
-        (subst (λ a. SameRelation (relation_of words v (with_rows name t rows)) a) (sym (ap (λ b. if b then with_tuples r (r.tuples ++ more) else r) (here p)))
-            (first_inserted x r is n s.0)
-        , others_stay name more v words db w (others_of name (map (λ x. x.name) db) x.name n d) s.1)
+        subst (λ a. SameDatabase (value_of_tables words v a) (inserted (r ∷ w) name more)) (sym (ap (λ b. if b then with_rows name t rows ∷ db else x ∷ with_table db (with_rows name t rows)) p)) (
+          subst (λ a. SameRelation (relation_of words v (with_rows name t rows)) a) (sym (ap (λ b. if b then with_tuples r (r.tuples ++ more) else r) (here p)))
+              (first_inserted x r is n s.0),
+          others_stay name more v words db w (others_of name (map (λ x. x.name) db) x.name n d) s.1,
+        )
     by_test false p rest =
-        subst (λ a. SameDatabase (value_of_tables words v a) (inserted (r ∷ w) name more)) (sym (ap (λ b. if b then with_rows name t rows ∷ db else x ∷ with_table db (with_rows name t rows)) p))
-        (subst (λ a. SameRelation (relation_of words v x) a) (sym (ap (λ b. if b then with_tuples r (r.tuples ++ more) else r) (ap (λ n. same_text n name) (sym s.0.name) ∙ p))) s.0
-        , rest (sym (ap (λ b. if b then Some x else find_table db name) p) ∙ f) (IsDistinct-tail same_text x.name (map (λ x. x.name) db) d) s.1)
+        subst (λ a. SameDatabase (value_of_tables words v a) (inserted (r ∷ w) name more)) (sym (ap (λ b. if b then with_rows name t rows ∷ db else x ∷ with_table db (with_rows name t rows)) p)) (
+          subst (λ a. SameRelation (relation_of words v x) a) (sym (ap (λ b. if b then with_tuples r (r.tuples ++ more) else r) (ap (λ n. same_text n name) (sym s.0.name) ∙ p))) s.0,
+          rest (sym (ap (λ b. if b then Some x else find_table db name) p) ∙ f) (IsDistinct-tail same_text x.name (map (λ x. x.name) db) d) s.1,
+        )
 
 -- what is true of each table and of a new one is true of each after the new one took its place
 all_with_table : (P : TableView → Type 0) (db : List TableView) (new : TableView) → AllByRecursion P db → P new → AllByRecursion P (with_table db new)
@@ -246,10 +250,10 @@ module _ (words : List ℕ) (h : List PlainCommit) (c : PlainCommit) (db : List 
     inserted_tables v =
         subst (λ o. IfSome o (λ w. SameDatabase (value_of_tables words v (with_table db (with_rows name t rows))) w))
         (sym (world_commit v h c ∙ ap (after_changes v (world v h [])) is)) (by_world (world v h []) (d.tables v)) where
-      by_world : (o : Option Database) → IfSome o (λ w. SameDatabase (value_of_tables words v db) w)
-          → IfSome (option_and_then (λ w. step_change v w (Insert name rs)) o) (λ w. SameDatabase (value_of_tables words v (with_table db (with_rows name t rows))) w)
-      by_world None s = tt
-      by_world (Some w) s = inserted_same v words name (shown_rows v rs) t rows (tuples v) db w found d.names s
+          by_world : (o : Option Database) → IfSome o (λ w. SameDatabase (value_of_tables words v db) w)
+              → IfSome (option_and_then (λ w. step_change v w (Insert name rs)) o) (λ w. SameDatabase (value_of_tables words v (with_table db (with_rows name t rows))) w)
+          by_world None s = tt
+          by_world (Some w) s = inserted_same v words name (shown_rows v rs) t rows (tuples v) db w found d.names s
 
     patterns_grow : patterns (h ++ c ∷ []) [] ≡ pattern_change (patterns h []) (Insert name rs)
     patterns_grow = patterns_commit h c ∙ ap (pattern_changes (patterns h [])) is
@@ -268,8 +272,8 @@ module _ (words : List ℕ) (h : List PlainCommit) (c : PlainCommit) (db : List 
           subst (λ p. IsSublist (cells_of words rows) (p name)) (sym patterns_grow)
           (subst (λ b. IsSublist (cells_of words rows) (if b then patterns h [] name ++ map (λ r. r.cells) rs else patterns h [] name)) (sym ((text_decides name name).1 refl))
           (sublist_of_sublist _ _ _ part (sublist-append (cells_of words t.rows) (patterns h [] name) (map (λ r. r.cells) rs) (map (λ r. r.cells) rs)
-            (subst (λ n. IsSublist (cells_of words t.rows) (patterns h [] n)) (found_name name t db found)
-              (found_all (IsKept words h) name t db (recursion_from_All (IsKept words h) db d.kept) found).in_pattern) (all_of _))));
+          (subst (λ n. IsSublist (cells_of words t.rows) (patterns h [] n)) (found_name name t db found)
+          (found_all (IsKept words h) name t db (recursion_from_All (IsKept words h) db d.kept) found).in_pattern) (all_of _))));
     }
 
     schema_stays : (schema (h ++ c ∷ []) []).tables ≡ (schema h []).tables

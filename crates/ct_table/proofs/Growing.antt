@@ -21,7 +21,7 @@ module _ (ws xs : List ℕ) (grown : IsPrefix ws xs) where
   terms_grow [] all = refl
   terms_grow (p ∷ ps) all =
       λ i. term_in_prefix ws xs p grown (place_within ws class.Term p (All-head (λ q. IsTrue (is_place_of ws class.Term q)) p ps all)) i
-          ∷ terms_grow ps (All-tail (λ q. IsTrue (is_place_of ws class.Term q)) p ps all) i
+      ∷ terms_grow ps (All-tail (λ q. IsTrue (is_place_of ws class.Term q)) p ps all) i
 
   -- a row of places stands for the same row
   pub row_grows : (n : ℕ) (r : CRow) → IsRow ws n r → plain_crow xs r ≡ plain_crow ws r

@@ -14,7 +14,6 @@ use Rattle.ct_table.specs.Denotes.{TableView, with_table}
 use Rattle.ct_table.specs.Shared.{entry_of}
 use Rattle.ct_table.proofs.Denoting.{unalike}
 
-
 -- copies of entries are the same tables
 pub copied_entries : (es fs : List (List ℕ × Arc CTable Global)) → AllZip (λ p q. (q.0 ≡ p.0) × (arc_value q.1 ≡ arc_value p.1)) es fs
     → map entry_of fs ≡ map entry_of es

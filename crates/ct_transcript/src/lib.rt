@@ -11,10 +11,11 @@ mod reply;
 mod rows;
 mod sessions;
 mod terms;
+mod transcript;
 
 pub use ct_rewrite::{AnswerRow, Change, Commit, Node};
 pub use reply::{Answer, Refusal, Reply, SessionLog};
-pub use sessions::lines;
+pub use transcript::{Transcript, lines};
 
 #[cfg(test)]
 mod tests;

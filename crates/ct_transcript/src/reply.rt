@@ -1,7 +1,12 @@
 // Replies and transcripts.
 
+ghost use Rattle.std.specs.Prelude.{◌≡◌};
+ghost use Rattle.ct_transcript.specs.declared.reply.Refusal.TheVariants as refusal;
+
+use ct_arena::Full;
 use ct_rewrite::{AnswerRow, Node};
-use ct_word::{List, Text};
+use ct_word::{List, Memory, Text};
+use std::alloc::{AllocError, AllocFailed};
 
 /// Why a statement was refused.
 #[derive(Drop)]
@@ -14,6 +19,38 @@ pub enum Refusal {
     Full,
     /// Memory was wanting.
     Memory,
+}
+
+impl From<Full> for Refusal {
+    ghost from_gives = { λ _ e. e ≡ refusal.Full };
+
+    fn from(_: Full) -> Self {
+        Refusal::Full
+    }
+}
+
+impl From<Memory> for Refusal {
+    ghost from_gives = { λ _ e. e ≡ refusal.Memory };
+
+    fn from(_: Memory) -> Self {
+        Refusal::Memory
+    }
+}
+
+impl From<AllocError> for Refusal {
+    ghost from_gives = { λ _ e. e ≡ refusal.Memory };
+
+    fn from(_: AllocError) -> Self {
+        Refusal::Memory
+    }
+}
+
+impl<T: Drop> From<AllocFailed<T>> for Refusal {
+    ghost from_gives = { λ _ e. e ≡ refusal.Memory };
+
+    fn from(_: AllocFailed<T>) -> Self {
+        Refusal::Memory
+    }
 }
 
 /// A conditional table with its global condition: at each valuation at which the global condition holds,

@@ -42,7 +42,7 @@ fn push_sessions(
 ///
 /// # Errors
 /// `Memory` where there is none for the text.
-pub fn lines(
+pub fn lines_of_parts(
     alloc: Global,
     sessions: &[SessionLog],
     history: &[Commit],

@@ -49,7 +49,7 @@ fn written(
     history: &[Commit],
 ) -> Result<String, AllocError> {
     let mut out = String::new(alloc);
-    match lines(alloc, sessions, history) {
+    match lines_of_parts(alloc, sessions, history) {
         Ok(lines) => {
             for line in &lines {
                 out.push_str(line.as_str())?;

@@ -105,7 +105,7 @@ unfolding meaning_of
 stands_for_word words p w formed at =
     meaning_at words p w at
     ∙ ap (λ m. Some m) (sym (meaning_by_kind (kind_of w) (take p words) words (left_of w) (right_of w) (front_of p words)
-        (formed_part (take p words) w (word_follows [] words p w formed at))))
+    (formed_part (take p words) w (word_follows [] words p w formed at))))
 
 -- a place of a packed word stands for the line of its kind, over its fields
 pub stands_for_packed : (words : List ℕ) (p : ℕ) (k : Kind) (a b : ℕ) → IsWellFormed words → a < 2 ^ 28 → b < 2 ^ 28

@@ -9,6 +9,8 @@ mod compared;
 mod kinds;
 mod lists;
 mod memory;
+#[cfg(test)]
+mod tests;
 mod texts;
 mod values;
 mod words;

@@ -35,8 +35,8 @@ returns-clause-stands g c =
     let first = prefix_of_prefix old texts names c.in_ok-table.ensures.longer c.in_ok-list_of_names.ensures.longer in
     let before = prefix_of_prefix old names mid first c.in_ok-change.ensures.longer in
     change_added old mid new (Create c.args.name.now c.args.columns.now) c.args.list c.in_ok-change.change c.in_ok-extended.extended
-        c.requires.list (prefix_of_prefix old mid new before c.in_ok-extended.ensures.longer)
-        (created texts names mid c.args.name.now c.args.columns.now c.in_ok-table.table c.in_ok-list_of_names.list_of_names c.in_ok-change.change
-            c.in_ok-table.ensures.stands c.in_ok-table.ensures.place (prefix_of_prefix texts names mid c.in_ok-list_of_names.ensures.longer c.in_ok-change.ensures.longer)
-            c.in_ok-list_of_names.ensures.stands c.in_ok-list_of_names.ensures.place c.in_ok-change.ensures.longer c.in_ok-change.ensures.stands)
-        c.in_ok-change.ensures.place c.in_ok-extended.ensures.longer c.in_ok-extended.ensures.stands
+    c.requires.list (prefix_of_prefix old mid new before c.in_ok-extended.ensures.longer)
+    (created texts names mid c.args.name.now c.args.columns.now c.in_ok-table.table c.in_ok-list_of_names.list_of_names c.in_ok-change.change
+    c.in_ok-table.ensures.stands c.in_ok-table.ensures.place (prefix_of_prefix texts names mid c.in_ok-list_of_names.ensures.longer c.in_ok-change.ensures.longer)
+    c.in_ok-list_of_names.ensures.stands c.in_ok-list_of_names.ensures.place c.in_ok-change.ensures.longer c.in_ok-change.ensures.stands)
+    c.in_ok-change.ensures.place c.in_ok-extended.ensures.longer c.in_ok-extended.ensures.stands

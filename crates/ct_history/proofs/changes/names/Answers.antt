@@ -24,7 +24,7 @@ loop-name-preserved g c =
     record {
       stands =
           name_added old mid new (take c.loop-name.name-index c.args.names.now) c.as_str.result.now c.loop-name.place c.in_ok-word.word c.in_ok-place-2.place
-              c.loop-name.invariant.stands c.loop-name.invariant.class grown c.in_ok-word.ensures.stands c.in_ok-word.ensures.place c.in_ok-place-2.ensures.longer c.in_ok-place-2.ensures.stands
+          c.loop-name.invariant.stands c.loop-name.invariant.class grown c.in_ok-word.ensures.stands c.in_ok-word.ensures.place c.in_ok-place-2.ensures.longer c.in_ok-place-2.ensures.stands
           ∙ ap (λ ns. Some (IsNameList ns)) (sym (take_one c.args.names.now c.loop-name.name-index c.as_str.result.now c.name-item.result c.loop-name-test.true c.as_str.ensures c.name-item.is));
       class = c.in_ok-place-2.ensures.place;
       small = c.in_ok-place-2.ensures.small;
