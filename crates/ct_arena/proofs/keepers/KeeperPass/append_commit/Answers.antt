@@ -68,12 +68,12 @@ pub returns-then-place-arena-clause-full : goal.returns-then-place-arena-clause-
 returns-then-place-arena-clause-full g c =
     let entered : guest_at c.self.inside.stage ≡ Some c.args.guest.now = ap (λ v. v.guest) c.self.view_is ∙ c.requires.guest in
     let sole : IsSole g.N.Site.log.cap c.args.guest.now c.args.self.now.words =
-        subst (λ (v : Keeping). IsSole g.N.Site.log.cap c.args.guest.now v.words) c.self.view_is
-        (stage_guest g.N.Site.log.cap _ c.self.inside.seen.items c.self.inside.stage c.args.guest.now entered c.self.invariant.0.stage).1 in
+    subst (λ (v : Keeping). IsSole g.N.Site.log.cap c.args.guest.now v.words) c.self.view_is
+    (stage_guest g.N.Site.log.cap _ c.self.inside.seen.items c.self.inside.stage c.args.guest.now entered c.self.invariant.0.stage).1 in
     let small : c.args.changes < 2 ^ 28 =
-        omega (arith, place_within c.args.self.now.words class.ChangeList c.args.changes c.requires.changes, sole.log.room, c.self.invariant.0.named.most) in
+    omega (arith, place_within c.args.self.now.words class.ChangeList c.args.changes c.requires.changes, sole.log.room, c.self.invariant.0.named.most) in
     let whole : length c.args.self.now.words ≡ g.N.Site.log.cap =
-        sym (ap (λ (v : Keeping). length v.words) c.self.view_is) ∙ sym (c.len-place.ensures ∙ c.self.inside.seen.ok.0) ∙ c.if-place-arena.true ∙ c.args.arena.now.room in
+    sym (ap (λ (v : Keeping). length v.words) c.self.view_is) ∙ sym (c.len-place.ensures ∙ c.self.inside.seen.ok.0) ∙ c.if-place-arena.true ∙ c.args.arena.now.room in
     (λ e. (whole, next_absent g.N.Site.log.cap c.args.guest.now c.args.self.now.words c.args.changes sole c.requires.number small), λ e. refl)
 
 pub pack-requires-clause-right : goal.pack-requires-clause-right
