@@ -1,4 +1,4 @@
-use Rattle.std.proofs.Common.{◌≡◌, ℕ, ◌<◌, ap, arith, sym, ◌∙◌}
+use Rattle.std.proofs.Common.{ap, arith}
 use Rattle.ct_word.specs.declared.kinds.Class.TheVariants as class
 use Rattle.ct_word.proofs.Growth.{prefix_place}
 use Rattle.ct_arena.proofs.tests.commit.Goals as goal
