@@ -107,7 +107,7 @@ pub packed_over : (ws : List ℕ) (k : Kind) (a b : ℕ) → a < 2 ^ 28 → b < 
 unfolding is_word_over
 packed_over ws k a b l r formed =
     let is : is_formed_as (kind_of (word_of k a b)) ws (left_of (word_of k a b)) (right_of (word_of k a b)) ≡ is_formed_as (Some k) ws a b =
-    (λ i. is_formed_as (kind_of_parts k (code_of k) a b refl l r i) ws (left_of_parts (code_of k) a b l r i) (right_of_parts (code_of k) a b l r i)) in
+        (λ i. is_formed_as (kind_of_parts k (code_of k) a b refl l r i) ws (left_of_parts (code_of k) a b l r i) (right_of_parts (code_of k) a b l r i)) in
     is ∙ formed
 
 -- it is plain where its kind is another than a commit's

@@ -1,12 +1,11 @@
 -- A place goes on standing for what it stood for when words are added.
-use Rattle.std.proofs.Common.{◌≡◌, Bool, true, false, true≢false, Option, Some, None, sym, ℕ, zero, suc, ◌+◌, ◌<◌, List, [], ◌∷◌, ◌++◌, length, refl, ap, ◌∙◌, arith, length-append, ◌^◌, subst}
+use Rattle.std.proofs.Common.{◌≡◌, Bool, true, false, true≢false, Option, Some, None, sym, ℕ, zero, suc, ◌+◌, ◌<◌, List, [], ◌∷◌, ◌++◌, length, refl, ap, ◌∙◌, arith, length-append}
 use Rattle.std.specs.Prelude.{◌&&◌, ◌||◌, not, IsTrue, nat_lt, slice_get}
-use mathlib.Core.List.{IsPrefix}
 use Rattle.ct_word.specs.declared.kinds.Kind.{Kind}
 use Rattle.ct_word.specs.declared.kinds.Class.{Class}
-use Rattle.ct_word.specs.WellFormed.{Field, Zero, Any, Byte, Scalar, Session, Positive, PlaceOf, fields_of, is_ordered, class_of, same_class, has_class, is_word_of, is_place_of, fits, is_formed_as, is_word_over}
-use Rattle.ct_word.specs.Word.{code_of, word_of, kind_of, left_of, right_of}
-use Rattle.ct_word.proofs.Packed.{kind_of_parts, true_left, true_right, true_both}
+use Rattle.ct_word.specs.WellFormed.{Field, Zero, Any, Byte, Scalar, Session, Positive, PlaceOf, fields_of, is_ordered, is_place_of, fits, is_formed_as, is_word_over}
+use Rattle.ct_word.specs.Word.{kind_of, left_of, right_of}
+use Rattle.ct_word.proofs.Packed.{true_left, true_right, true_both}
 use Rattle.ct_word.specs.Reading.{Meaning, meaning_of, read, meanings, as_cond, condition_at}
 
 pub read-append : (ms : List Meaning) (ws xs : List ℕ) → read ms (ws ++ xs) ≡ read (read ms ws) xs
@@ -69,22 +68,3 @@ pub place_within : (ws : List ℕ) (c : Class) (k : ℕ) → IsTrue (is_place_of
 place_within [] c k e = absurd (true≢false (sym e))
 place_within (w ∷ ws) c zero e = omega arith
 place_within (w ∷ ws) c (suc k) e = let lt = place_within ws c k e in omega arith
-
--- what a word packs has the class of its kind at its place
-pub packed_place : (ws : List ℕ) (k : Kind) (a b place : ℕ) (c : Class) → a < 2 ^ 28 → b < 2 ^ 28 → slice_get ws place ≡ Some (word_of k a b) → IsTrue (same_class (class_of k) c) → IsTrue (is_place_of ws c place)
-packed_place ws k a b place c l r at same =
-    ap (λ o. is_word_of o c) at ∙ ap (λ o. has_class o c) (kind_of_parts k (code_of k) a b refl l r) ∙ same
-
--- the same along a prefix
-pub prefix_get : (ws xs : List ℕ) (k w : ℕ) → IsPrefix ws xs → slice_get ws k ≡ Some w → slice_get xs k ≡ Some w
-prefix_get ws xs k w p at = subst (λ (l : List ℕ). slice_get l k ≡ Some w) p.1 (get_grows ws p.0 k w at) where
-  get_grows : (ws xs : List ℕ) (k w : ℕ) → slice_get ws k ≡ Some w → slice_get (ws ++ xs) k ≡ Some w
-  get_grows [] xs k w at = cc
-  get_grows (y ∷ ws) xs zero w at = at
-  get_grows (y ∷ ws) xs (suc k) w at = get_grows ws xs k w at
-
-pub prefix_place : (ws xs : List ℕ) (c : Class) (k : ℕ) → IsPrefix ws xs → IsTrue (is_place_of ws c k) → IsTrue (is_place_of xs c k)
-prefix_place ws xs c k p e = subst (λ (l : List ℕ). IsTrue (is_place_of l c k)) p.1 (place_grows ws p.0 c k e)
-
-pub prefix_meaning : (ws xs : List ℕ) (k : ℕ) → IsPrefix ws xs → k < length ws → slice_get (meanings xs) k ≡ slice_get (meanings ws) k
-prefix_meaning ws xs k p lt = subst (λ (l : List ℕ). slice_get (meanings l) k ≡ slice_get (meanings ws) k) p.1 (meaning_grows ws p.0 k lt)
