@@ -1,10 +1,9 @@
 -- Each way of handing the list over keeps the rule.
-use Rattle.std.proofs.Common.{◌≡◌, ℕ, zero, suc, List, [], ◌∷◌, ◌++◌, refl, sym, ap, ◌∙◌, subst, set, arith}
-use mathlib.Core.Option.{some, none, some-injective, some-ne-none}
+use Rattle.std.proofs.Common.{◌≡◌, ℕ, zero, suc, List, [], ◌∷◌, ◌++◌, refl, sym, ◌∙◌, subst}
+use mathlib.Core.Option.{some, none, some-injective}
 use lib.ListN.{get_elem?}
-use Rattle.atomic_table.specs.Table.{State, Splits, Joins, Allows, step, Act, keeps}
-use Rattle.std.specs.Prelude.{slice_set, slice_index}
-use Rattle.atomic_table.proofs.Lists.{set_again}
+use Rattle.atomic_table.specs.Table.{Splits, Joins, Allows, step, keeps}
+use Rattle.std.specs.Prelude.{slice_set}
 use Rattle.ct_arena.specs.declared.handing.View.{View}
 use Rattle.ct_arena.specs.declared.handing.View.TheVariants.{Held, Away, Joined, Given, Spent}
 use Rattle.ct_arena.specs.Handing.{AllSpent, OneGiven, Agrees, Handed, joined, IsBack, Settled}

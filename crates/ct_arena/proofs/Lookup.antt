@@ -1,8 +1,7 @@
 -- Where a word stands in a list.
-use Rattle.std.proofs.Common.{◌≡◌, ℕ, zero, suc, ◌+◌, ◌<◌, List, [], ◌∷◌, ◌++◌, length, get_or, Option, Some, None, Bool, true, false, refl, arith, ap, ◌∙◌, sym, subst}
-use Rattle.std.specs.Prelude.{◌==◌, position, slice_get, Contains}
-use Rattle.std.proofs.lemmas.List.Quantifiers.{position-Some}
-use Rattle.std.proofs.lemmas.Option.{slice_get-get_or, slice_get_within, get_or_from_slice_get}
+use Rattle.std.proofs.Common.{◌≡◌, ℕ, zero, suc, List, [], ◌∷◌, ◌++◌, length, Some, refl, arith}
+use Rattle.std.specs.Prelude.{slice_get, Contains}
+use Rattle.std.proofs.lemmas.Option.{slice_get_within, get_or_from_slice_get}
 
 pub contains_of_get : (xs : List ℕ) (k w : ℕ) → slice_get xs k ≡ Some w → Contains xs w
 contains_of_get xs k w at = (k, slice_get_within xs k w at, get_or_from_slice_get xs k w w at)

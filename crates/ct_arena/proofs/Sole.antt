@@ -5,15 +5,14 @@ use Rattle.std.specs.List.{range_with_len}
 use Rattle.std.proofs.lemmas.List.{append_assoc, append-nil}
 use Rattle.std.proofs.lemmas.List.Elements.{All-push}
 use mathlib.Core.List.{IsPrefix}
-use Rattle.ct_word.specs.declared.kinds.Kind.TheVariants as kind
 use Rattle.ct_word.specs.declared.kinds.Class.TheVariants as class
 use Rattle.ct_word.specs.Change.{PlainCommit}
 use Rattle.ct_word.specs.Reading.{commits_of, change_list_at}
 use Rattle.ct_word.specs.WellFormed.{is_plain_word, is_word_after, is_place_of}
 use Rattle.ct_word.proofs.Packed.{formed_snoc}
-use Rattle.ct_word.proofs.Commits.{HoldsCommit, commits_plain, commits_commit, plain_follows, commit_follows, commit_stands}
+use Rattle.ct_word.proofs.Commits.{commits_plain, commits_commit, plain_follows, commit_follows, commit_stands}
 use Rattle.ct_arena.specs.declared.tally.Tally.{Tally}
-use Rattle.ct_arena.specs.Counts.{opening, IsLog, AreNumbered, AreOfSessions, numbers_by, commit_word, commit_of}
+use Rattle.ct_arena.specs.Counts.{opening, IsLog, AreNumbered, numbers_by, commit_word, commit_of}
 use Rattle.atomic_table.specs.Table.{Me}
 use Rattle.atomic_table.specs.Seated.{TableId}
 use Rattle.ct_arena.specs.declared.handing.View.{View}

@@ -1,8 +1,7 @@
 -- What the keeper knows of its list at each stage.
-use Rattle.std.proofs.Common.{◌≡◌, ℕ, ◌+◌, ◌<◌, ◌≤◌, List, [], ◌∷◌, ◌++◌, length, refl, sym, ap, ◌∙◌, subst, arith}
+use Rattle.std.proofs.Common.{◌≡◌, ℕ, ◌+◌, ◌≤◌, List, [], length, refl, sym, ap, ◌∙◌, subst, arith}
 use Rattle.std.specs.Prelude.{All, Some, None, sum_by}
 use Rattle.std.proofs.lemmas.List.{append-nil}
-use mathlib.Core.List.{IsPrefix}
 use Rattle.ct_word.specs.Word.{kind_with}
 use Rattle.ct_word.specs.Reading.{commits_of, meaning_of}
 use Rattle.ct_word.specs.WellFormed.{IsWellFormed, is_word_after}
@@ -14,7 +13,7 @@ use Rattle.ct_arena.specs.declared.tally.Stage.TheVariants.{Expected, Away, Ente
 use Rattle.atomic_table.specs.Table.{Me}
 use Rattle.atomic_table.specs.Seated.{TableId}
 use Rattle.ct_arena.specs.Name.{LogName}
-use Rattle.ct_arena.specs.Counts.{opening, IsLog, AreNumbered, AreOfSessions, numbers_by}
+use Rattle.ct_arena.specs.Counts.{opening, IsLog, AreOfSessions, numbers_by}
 use Rattle.ct_arena.specs.Kept.{IsNamed, IsSole, IsPass, IsAtStage, IsKeeper, guest_at, enrolled_at, ended_at}
 
 opening_formed : IsWellFormed opening

@@ -1,5 +1,5 @@
 -- What contracts see of a pass, of a guest and of the keeper's pass.
-use Rattle.std.specs.Prelude.{◌≡◌, ℕ, ◌+◌, List, [], ◌∷◌, ◌++◌, Option, Some, length}
+use Rattle.std.specs.Prelude.{◌≡◌, ℕ, ◌+◌, List, Option, Some, length}
 use Rattle.std.specs.Prelude.{◌⊎◌, slice_get}
 use Rattle.ct_arena.specs.declared.tally.Tally.{Tally}
 

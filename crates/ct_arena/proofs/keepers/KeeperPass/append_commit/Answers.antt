@@ -1,4 +1,4 @@
-use Rattle.std.proofs.Common.{◌≡◌, ℕ, List, [], ◌∷◌, ◌++◌, ◌+◌, ◌*◌, ◌<◌, ◌≤◌, ◌^◌, length, ap, subst, arith, ◌∙◌, sym, Some, refl}
+use Rattle.std.proofs.Common.{◌≡◌, [], ◌∷◌, ◌++◌, ◌<◌, ◌≤◌, ◌^◌, length, ap, subst, arith, ◌∙◌, sym, Some, refl}
 use Rattle.ct_word.specs.declared.kinds.Class.TheVariants as class
 use Rattle.std.specs.Prelude.{IsTrue}
 use Rattle.ct_word.specs.Reading.{commits_of}

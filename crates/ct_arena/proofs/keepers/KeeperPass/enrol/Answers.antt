@@ -1,4 +1,4 @@
-use Rattle.std.proofs.Common.{◌≡◌, ℕ, List, ◌+◌, ◌<◌, ◌≤◌, length, ap, subst, arith, ◌∙◌, sym}
+use Rattle.std.proofs.Common.{◌≡◌, length, ap, subst, arith, ◌∙◌, sym}
 use Rattle.ct_arena.specs.Kept.{IsNamed, IsSole, enrolled_at}
 use Rattle.ct_arena.proofs.Stages.{stage_log, stage_expected, sole_first, pass_given}
 use Rattle.ct_arena.proofs.keepers.KeeperPass.enrol.Goals as goal

@@ -1,5 +1,4 @@
-use Rattle.std.proofs.Common.{◌≡◌, ℕ, List, ◌+◌, ◌<◌, ◌≤◌, length, ap, subst, arith, ◌∙◌, sym}
-use Rattle.ct_word.specs.WellFormed.{IsWellFormed}
+use Rattle.std.proofs.Common.{◌≡◌, ◌+◌, length, ap, subst, ◌∙◌, sym}
 use Rattle.ct_arena.specs.Counts.{IsLog, AreOfSessions}
 use Rattle.std.specs.Prelude.{None, sum_by}
 use Rattle.ct_arena.specs.Seen.{Keeping}

@@ -1,11 +1,11 @@
-use Rattle.std.proofs.Common.{◌≡◌, ℕ, List, ◌+◌, ◌≤◌, ap, sym, subst, arith, ◌∙◌, Some}
+use Rattle.std.proofs.Common.{◌≡◌, ap, sym, subst, arith, ◌∙◌, Some}
 use Rattle.std.specs.Prelude.{IsTrue}
 use Rattle.ct_word.specs.WellFormed.{is_plain_word}
 use Rattle.ct_word.specs.Reading.{commits_of}
 use Rattle.ct_arena.specs.Kept.{Puts, guest_at}
 use Rattle.ct_arena.specs.Seen.{CountsWord}
 use Rattle.ct_arena.proofs.Sole.{sole_put, counts_put, commits_put}
-use Rattle.ct_arena.proofs.Stages.{keeper_guest, stage_log}
+use Rattle.ct_arena.proofs.Stages.{keeper_guest}
 use Rattle.ct_arena.proofs.keepers.KeeperPass.intern.Goals as goal
 
 pub invariant_of-self : goal.invariant_of-self

@@ -1,5 +1,4 @@
-use Rattle.std.proofs.Common.{◌≡◌, ℕ, List, ◌+◌, ◌<◌, ◌≤◌, length, ap, subst, arith}
-use Rattle.ct_word.specs.WellFormed.{IsWellFormed}
+use Rattle.std.proofs.Common.{subst, arith}
 use Rattle.ct_arena.specs.Counts.{IsLog, AreOfSessions}
 use Rattle.ct_arena.proofs.Stages.{stage_log, stage_known}
 use Rattle.ct_arena.proofs.keepers.KeeperPass.words.Given as given

@@ -1,4 +1,4 @@
-use Rattle.std.proofs.Common.{◌≡◌, ℕ, List, ◌+◌, ◌≤◌, ap, sym, subst, arith}
+use Rattle.std.proofs.Common.{ap, subst, arith}
 use Rattle.std.specs.Prelude.{IsTrue}
 use Rattle.ct_word.specs.WellFormed.{is_plain_word}
 use Rattle.ct_arena.specs.Kept.{Puts}
