@@ -1,6 +1,5 @@
 -- What a new truth changes.
-use Rattle.std.proofs.Common.{◌≡◌, ℕ, zero, suc, ◌<◌, ◌≤◌, ◌+◌, Bool, true, false, ◌||◌, List, [], ◌∷◌, length, get_or, set, refl, ap, ◌∙◌, sym, arith, inl, inr, ◌⊎◌, pos, negsuc, neg_ℤ, ℤ, if◌then◌else◌}
-use Rattle.std.specs.List.{list_any, list_all, sum_by}
+use Rattle.std.proofs.Common.{◌≡◌, ℕ, zero, suc, ◌<◌, ◌≤◌, ◌+◌, true, ◌||◌, List, [], ◌∷◌, length, get_or, set, refl, ap, ◌∙◌, sym, arith, inl, inr, ◌⊎◌, pos, negsuc, neg_ℤ, ℤ, if◌then◌else◌}
 use Rattle.std.specs.Ordering.{int_eq}
 use Rattle.std.proofs.lemmas.List.{get_or-set_same, get_or-set_other, set-set, set-get_or, length-set}
 use Rattle.std.proofs.lemmas.List.Sums.{sum_by-set}
@@ -8,7 +7,7 @@ use Rattle.std.proofs.lemmas.Bool.{and_parts, and_from, or_left, or_right, false
 use Rattle.std.proofs.lemmas.Bool.Decides.{Decides-ltb}
 use Rattle.ct_sat.specs.declared.assignment.Truth.{Truth}
 use Rattle.ct_sat.specs.declared.assignment.Truth.TheVariants as truth
-use Rattle.ct_sat.specs.Literal.{Clause, is_literal, place_of, is_positive, LARGEST}
+use Rattle.ct_sat.specs.Literal.{Clause, is_literal, place_of, is_positive}
 use Rattle.ct_sat.specs.Assignment.{truth_of, inverted, is_false, assigned, open_weight, open_count, falsified, falsified_but, IsOpen}
 use Rattle.ct_sat.proofs.Literals.{same_refl, opposite_literal}
 

@@ -1,5 +1,5 @@
 -- What a resolvent adds to a log.
-use Rattle.std.proofs.Common.{◌≡◌, ℕ, ◌<◌, ◌≤◌, true, false, List, [], ◌∷◌, ◌++◌, length, refl, ap, ◌∙◌, sym, subst, ℤ, neg_ℤ}
+use Rattle.std.proofs.Common.{◌≡◌, ℕ, ◌≤◌, true, false, List, [], ◌∷◌, ◌++◌, length, refl, ap, ◌∙◌, ℤ, neg_ℤ}
 use Rattle.ct_sat.specs.declared.assignment.Truth.{Truth}
 use Rattle.ct_sat.specs.declared.verdict.Rup.{Rup}
 use Rattle.ct_sat.specs.Literal.{Clause, numbered, has, is_literal, is_clause, LARGEST}

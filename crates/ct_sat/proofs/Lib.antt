@@ -1,4 +1,5 @@
 pub mod Assignments
+pub mod Carried
 pub mod Joins
 pub mod Literals
 pub mod Logs

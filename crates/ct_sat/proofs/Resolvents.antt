@@ -1,20 +1,18 @@
 -- The resolvent of two clauses follows from them.
-use Rattle.std.proofs.Common.{◌≡◌, ℕ, ◌<◌, Bool, true, false, not, ◌||◌, ◌&&◌, List, [], ◌∷◌, ◌++◌, length, get_or, Some, None, refl, ap, ◌∙◌, sym, arith, inl, inr, ◌⊎◌, neg_ℤ, ℤ}
-use Rattle.std.specs.Prelude.{slice_get, nat_lt, if◌then◌else◌}
-use Rattle.std.specs.List.{list_any, list_all}
+use Rattle.std.proofs.Common.{◌≡◌, ℕ, ◌<◌, Bool, true, false, ◌||◌, List, [], ◌∷◌, ◌++◌, length, get_or, Some, None, refl, ap, ◌∙◌, sym, inl, inr, ◌⊎◌, neg_ℤ, ℤ}
+use Rattle.std.specs.Prelude.{slice_get}
 use Rattle.std.specs.Ordering.{int_eq}
 use Rattle.std.proofs.lemmas.Option.{slice_get-get_or}
 use Rattle.std.proofs.lemmas.List.Folds.{list_all-append}
 use Rattle.std.proofs.lemmas.Bool.{and_parts, and_from, or_cases, or_parts, or_left, or_right, false≢true, both_ways, cases_Bool, cond-true, cond-false, false_from_ne_true}
 use Rattle.std.proofs.lemmas.Bool.Decides.{Decides-ltb}
 use Rattle.ct_sat.specs.Literal.{Clause, numbered, has, is_literal, is_clause}
-use Rattle.ct_derivation.specs.Propagation.{Look, Unfit, Falsified, Forces, is_among, look, look_at, meets, are_hints, follows}
+use Rattle.ct_derivation.specs.Propagation.{Look, Unfit, Falsified, Forces, look, look_at, meets, follows}
 use Rattle.ct_sat.specs.declared.assignment.Truth.{Truth}
-use Rattle.ct_sat.specs.declared.assignment.Truth.TheVariants as truth
-use Rattle.ct_sat.specs.Assignment.{truth_of, is_false, inverted, falsified, falsified_but, IsOpen, IsUnit}
+use Rattle.ct_sat.specs.Assignment.{truth_of, is_false, falsified, falsified_but, IsOpen}
 use Rattle.ct_sat.specs.Resolvent.{added, resolvent}
 use Rattle.ct_sat.proofs.Assignments.{open_opposite}
-use Rattle.ct_sat.proofs.Literals.{same_is, same_refl, same_sym, opposite_twice, has_more}
+use Rattle.ct_sat.proofs.Literals.{same_is, same_refl, same_sym, has_more}
 
 -- the members of `added`
 pub in_added : (out : Clause) (l : ℤ) (c : Clause) (m : ℤ) → has (added out l c) m ≡ true → (has out m ≡ true) ⊎ ((has c m ≡ true) × (int_eq l m ≡ false))

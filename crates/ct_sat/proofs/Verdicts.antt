@@ -1,10 +1,9 @@
 -- From the end of the search to a verdict.
-use Rattle.std.proofs.Common.{◌≡◌, ℕ, zero, suc, ◌<◌, ◌≤◌, ◌-◌, ◌+◌, Bool, true, false, not, ◌||◌, List, [], ◌∷◌, ◌++◌, length, get_or, map, Option, Some, None, refl, ap, ◌∙◌, sym, subst, arith, pos, negsuc, ℤ, inl, inr, replicate}
+use Rattle.std.proofs.Common.{◌≡◌, ℕ, zero, suc, ◌<◌, ◌-◌, Bool, true, false, not, List, [], ◌∷◌, ◌++◌, length, get_or, map, Option, Some, None, refl, ap, ◌∙◌, sym, subst, arith, pos, negsuc, ℤ, inl, inr, replicate}
 use Rattle.std.specs.Prelude.{slice_get, IsTrue, ◌↔◌}
-use Rattle.std.specs.List.{list_any, list_all}
+use Rattle.std.specs.List.{list_all}
 use Rattle.std.proofs.lemmas.Option.{slice_get-get_or}
-use Rattle.std.proofs.lemmas.List.{get_or-map, length-map, length-append, get_or_append_left, get_or_past, get_or-replicate, length-replicate}
-use Rattle.std.proofs.lemmas.List.Folds.{list_all-append}
+use Rattle.std.proofs.lemmas.List.{length-map, length-append, get_or_append_left, get_or_past, get_or-replicate, length-replicate}
 use Rattle.std.proofs.lemmas.Bool.{and_parts, and_from, or_cases, or_left, or_right, false≢true, cases_lt}
 use Rattle.std.proofs.lemmas.Bool.Decides.{Decides-ltb}
 use Rattle.ct_derivation.specs.declared.steps.Cnf.{Cnf}
@@ -14,7 +13,7 @@ use Rattle.ct_sat.specs.declared.assignment.Truth.TheVariants as truth
 use Rattle.ct_sat.specs.declared.verdict.Rup.{Rup}
 use Rattle.ct_sat.specs.Literal.{Clause, numbered, is_clause}
 use Rattle.ct_sat.specs.Assignment.{truth_of, inverted, is_true, is_false, satisfied, falsified}
-use Rattle.ct_sat.specs.Learned.{clause_of, log_of, clause_at, AreLearned, Grows}
+use Rattle.ct_sat.specs.Learned.{clause_of, log_of, clause_at, AreLearned}
 use Rattle.ct_sat.specs.Search.{AllSatisfied}
 use Rattle.ct_sat.specs.Verdict.{holds, satisfies, IsModel, is_empty, ends_empty, IsRefutation}
 use Rattle.ct_sat.proofs.Logs.{grows_one}

@@ -1,5 +1,5 @@
 -- Resolution (Robinson 1965).
-use Rattle.std.specs.Prelude.{List, [], ◌∷◌, ◌++◌, ◌||◌, if◌then◌else◌}
+use Rattle.std.specs.Prelude.{[], ◌∷◌, ◌++◌, ◌||◌, if◌then◌else◌}
 use Rattle.std.specs.Ordering.{int_eq}
 use Rattle.std.proofs.Math.IntN.{ℤ, neg_ℤ}
 use Rattle.ct_sat.specs.Literal.{Clause, has}

@@ -1,5 +1,5 @@
 -- Models and refutations of clauses over numbered variables.
-use Rattle.std.specs.Prelude.{◌≡◌, ℕ, ◌≤◌, zero, suc, Bool, true, false, not, List, [], ◌∷◌, length, map, slice_index_or}
+use Rattle.std.specs.Prelude.{◌≡◌, ◌≤◌, zero, suc, Bool, true, false, not, List, [], ◌∷◌, length, map, slice_index_or}
 use Rattle.std.specs.List.{list_any, list_all}
 use Rattle.std.proofs.Math.IntN.{ℤ, pos, negsuc}
 use Rattle.ct_derivation.specs.declared.steps.Cnf.{Cnf}

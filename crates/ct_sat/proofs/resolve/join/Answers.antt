@@ -1,10 +1,10 @@
-use Rattle.std.proofs.Common.{◌≡◌, true, false, sym, ◌∙◌, ap, refl, subst, ◌∷◌, [], ◌++◌, length, neg_ℤ}
+use Rattle.std.proofs.Common.{◌≡◌, sym, ◌∙◌, ap, refl, subst, ◌∷◌, [], length, neg_ℤ}
 use Rattle.ct_sat.specs.declared.verdict.Rup.{Rup}
 use Rattle.ct_sat.specs.Literal.{has}
 use Rattle.ct_sat.specs.Learned.{log_of, clause_at, Grows}
 use Rattle.ct_sat.specs.Resolvent.{resolvent}
 use Rattle.ct_sat.specs.Search.{IsFalsifiedAt}
-use Rattle.ct_sat.proofs.Joins.{unit_literal, other_alone, joined, joined_false}
+use Rattle.ct_sat.proofs.Joins.{other_alone, joined, joined_false}
 use Rattle.ct_sat.proofs.resolve.join.Goals as goal
 
 pub returns-then-not-contains_opposite-clause-falsified : goal.returns-then-not-contains_opposite-clause-falsified

@@ -1,4 +1,4 @@
-use Rattle.std.proofs.Common.{◌≡◌, ◌∙◌, sym, ap, subst, arith, ◌<◌, false, neg_ℤ}
+use Rattle.std.proofs.Common.{◌≡◌, ◌∙◌, sym, ap, subst, arith, neg_ℤ}
 use Rattle.ct_sat.specs.declared.search.Found.TheVariants as found
 use Rattle.ct_sat.specs.Literal.{has}
 use Rattle.ct_sat.specs.Learned.{log_of, clause_at}

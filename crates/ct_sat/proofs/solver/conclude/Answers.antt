@@ -1,8 +1,8 @@
-use Rattle.std.proofs.Common.{arith, ◌≡◌, ◌∙◌, sym, ap, subst, length, replicate, [], map, true}
+use Rattle.std.proofs.Common.{arith, ◌≡◌, ◌∙◌, sym, ap, subst, length, true}
 use Rattle.std.proofs.lemmas.List.{length-replicate}
 use Rattle.ct_sat.specs.declared.assignment.Truth.TheVariants as truth
 use Rattle.ct_sat.specs.declared.search.Found.TheVariants as found
-use Rattle.ct_sat.specs.Assignment.{falsified, is_true}
+use Rattle.ct_sat.specs.Assignment.{falsified}
 use Rattle.ct_sat.specs.Learned.{log_of, clause_at}
 use Rattle.ct_sat.specs.Search.{FoundOf, AllSatisfied}
 use Rattle.ct_sat.specs.Verdict.{IsModel}

@@ -1,4 +1,4 @@
-use Rattle.std.proofs.Common.{◌≡◌, ◌∙◌, sym, ap, subst, ◌∷◌, [], ◌++◌}
+use Rattle.std.proofs.Common.{◌≡◌, ◌∙◌, sym, ap, subst, ◌∷◌, []}
 use Rattle.ct_sat.specs.declared.verdict.Rup.{Rup}
 use Rattle.ct_sat.specs.Verdict.{IsRefutation}
 use Rattle.ct_sat.proofs.Verdicts.{finished}

@@ -1,5 +1,4 @@
-use Rattle.std.proofs.Common.{ap, ◌∙◌, sym}
-use Rattle.ct_sat.proofs.Verdicts.{ends_at, ends_some}
+use Rattle.ct_sat.proofs.Verdicts.{ends_some}
 use Rattle.ct_sat.proofs.solver.is_ended.Goals as goal
 
 pub returns-in-Some : goal.returns-in-Some
