@@ -195,7 +195,7 @@ module _ (nodes out : List Node) (marks : List Bool) (ps read : List ℕ) (i : �
   step_kept new j g within value =
       kept_more nodes out marks ps kept new j g
       (λ e. let here = marked_from e in
-          next_kept nodes out marks ps kept new n j ordered at_end (children_marked here) over_end (within here) (value here ∙ ap (λ (xs : List ℕ). node_value out (moved_node xs n)) same))
+      next_kept nodes out marks ps kept new n j ordered at_end (children_marked here) over_end (within here) (value here ∙ ap (λ (xs : List ℕ). node_value out (moved_node xs n)) same))
 
 -- the roots, once all nodes were walked
 pub all_kept : (nodes out final : List Node) (marks : List Bool) (ps read roots js : List ℕ) → AreKept nodes marks out ps → length ps ≡ length nodes

@@ -107,7 +107,13 @@ pub fn kept(alloc: Global, nodes: &[Node], roots: &[u32]) -> Result<Normal, Memo
     let mut builder = Builder::new(alloc);
     let mut positions = Vec::new(alloc);
     for (place, node) in nodes.iter().enumerate() {
-        let position = next_position(alloc, &mut builder, positions.as_slice(), node, marks[place])?;
+        let position = next_position(
+            alloc,
+            &mut builder,
+            positions.as_slice(),
+            node,
+            marks[place],
+        )?;
         positions.push(position)?;
     }
     let roots = moved(alloc, positions.as_slice(), roots)?;
