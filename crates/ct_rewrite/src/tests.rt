@@ -1,6 +1,11 @@
 // Conditions and their printed forms.
 
-use crate::{Node, normal};
+ghost use Rattle.std.specs.Prelude.{IsTrue};
+ghost use Rattle.std.specs.List.{list_all};
+ghost use Rattle.ct_word.specs.declared.kinds.Class.TheVariants as class;
+ghost use Rattle.ct_word.specs.WellFormed.{is_place_of};
+
+use crate::{Node, Normal, normal};
 use ct_word::{Memory, Null, Term, Value};
 use std::alloc::{AllocError, Global};
 use std::test::Fail;
@@ -513,9 +518,16 @@ fn texts_of(alloc: Global, nodes: &[Node]) -> Result<Vec<String>, Memory> {
     Ok(texts)
 }
 
+/// The printed form of conditions of the first log.
+fn rules(alloc: Global, roots: &[u32]) -> Result<Normal, Memory>
+    requires { IsTrue (list_all (is_place_of RULES class.Cond) roots.now) }
+{
+    normal(alloc, &RULES, roots)
+}
+
 #[test]
 fn each_rule_gives_its_form(rt: HostRuntime) -> Result<(), Fail> {
-    let form = normal(rt.alloc(), &RULES, &ROOTS)?;
+    let form = rules(rt.alloc(), &ROOTS)?;
     let texts = texts_of(rt.alloc(), form.nodes.as_slice())?;
     for (root, expected) in form.roots.as_slice().iter().zip(TEXTS.iter()) {
         let text = texts.get(*root as usize).ok_or("no node")?;
@@ -526,20 +538,30 @@ fn each_rule_gives_its_form(rt: HostRuntime) -> Result<(), Fail> {
 
 #[test]
 fn only_nodes_of_the_roots_are_kept(rt: HostRuntime) -> Result<(), Fail> {
-    let form = normal(rt.alloc(), &RULES, &[37])?;
+    let form = rules(rt.alloc(), &[37])?;
     assert_eq!(rt; form.nodes.len(), 5);
     assert_eq!(rt; form.roots.as_slice(), [4].as_slice());
-    let settled = normal(rt.alloc(), &RULES, &[58])?;
+    let settled = rules(rt.alloc(), &[58])?;
     assert_eq!(rt; settled.nodes.len(), 1);
     Ok(())
 }
 
+/// How many children the node at a position has.
+fn count_children(form: &Normal, position: u32) -> usize {
+    match form.nodes.as_slice().get(position as usize) {
+        Some(Node::And(children) | Node::Or(children)) => children.len(),
+        _ => 0,
+    }
+}
+
 #[test]
 fn at_most_64_children_are_merged(rt: HostRuntime) -> Result<(), Fail> {
-    let merged = normal(rt.alloc(), &WIDE, &[198])?;
-    assert_eq!(rt; merged.nodes.len(), 65);
-    let apart = normal(rt.alloc(), &WIDE, &[199])?;
-    assert_eq!(rt; apart.nodes.len(), 67);
+    let form = normal(rt.alloc(), &WIDE, &[198, 199])?;
+    let mut counts = Vec::new(rt.alloc());
+    for root in form.roots.as_slice() {
+        counts.push(count_children(&form, *root))?;
+    }
+    assert_eq!(rt; counts.as_slice(), [64, 2].as_slice());
     Ok(())
 }
 
