@@ -7,7 +7,7 @@ use Rattle.std.proofs.lemmas.Option.{get_or_from_slice_get}
 use Rattle.ct_word.specs.declared.kinds.Kind.TheVariants as kind
 use Rattle.ct_word.specs.declared.kinds.Class.TheVariants as class
 use Rattle.ct_word.specs.WellFormed.{is_place_of}
-use Rattle.ct_word.specs.Condition.{Condition, Not, both, either, SameTruth, holds}
+use Rattle.ct_word.specs.Condition.{Not, both, either, SameTruth, holds}
 use Rattle.ct_word.specs.Reading.{as_cond, condition_at}
 use Rattle.ct_rewrite.specs.declared.answer.Node.{Node}
 use Rattle.ct_rewrite.specs.declared.forms.Form.{Form}
@@ -16,7 +16,7 @@ use Rattle.ct_rewrite.specs.Nodes.{node_condition, is_position}
 use Rattle.ct_rewrite.specs.Words.{IsWordAt}
 use Rattle.ct_rewrite.specs.Marks.{IsKept}
 use Rattle.ct_rewrite.specs.Building.{Grows, Says}
-use Rattle.ct_rewrite.specs.Signs.{IsForm, IsPlaced, HaveForms, plus_at}
+use Rattle.ct_rewrite.specs.Signs.{IsForm, HaveForms, plus_at}
 use Rattle.ct_rewrite.proofs.Signs.{still_form}
 use Rattle.ct_rewrite.proofs.Words.{place_within}
 use Rattle.ct_rewrite.proofs.Texts.{of_kind}
@@ -27,9 +27,6 @@ pub form_kept : (ws : List ℕ) (ns : List Node) (fs : List Form) (p a : ℕ) (d
 form_kept ws ns fs p a d have long lt e =
     let h = have a (omega arith) e in
     subst (λ f. IsForm ns f (condition_at ws a)) (sym (get_or_from_slice_get fs a h.form d h.at)) h.is
-
-pub placed_form : (ns : List Node) (f : Form) (c : Condition) → IsForm ns f c → IsPlaced ns f
-placed_form ns f c h = record { plus = h.plus.within; minus = h.minus.within }
 
 module _ (ws : List ℕ) (p : ℕ) (w : Word) (is : IsWordAt ws p w) where
   -- an earlier condition

@@ -1,10 +1,9 @@
 -- What marking keeps.
-use Rattle.std.proofs.Common.{◌≡◌, ℕ, zero, suc, ◌+◌, ◌-◌, ◌<◌, ◌≤◌, Bool, true, false, ◌&&◌, ◌||◌, List, [], ◌∷◌, ◌++◌, length, map, take, get_or, nat_eq, nat_lt, Some, refl, ap, sym, ◌∙◌, subst, arith, inl, inr, length-append}
+use Rattle.std.proofs.Common.{◌≡◌, ℕ, zero, suc, ◌+◌, ◌<◌, ◌≤◌, Bool, true, false, ◌||◌, List, [], ◌∷◌, ◌++◌, length, map, get_or, nat_eq, nat_lt, Some, refl, ap, sym, ◌∙◌, subst, arith, inl, inr, length-append}
 use Rattle.std.specs.Prelude.{IsTrue, slice_get}
 use Rattle.std.specs.List.{list_all, list_any, AllZip}
 use Rattle.std.proofs.lemmas.Bool.{and_parts, and_from, or_left, or_right, or_cases, ltb-true, lt-ltb, eqb-true, eq-eqb, false≢true, cases_lt}
 use Rattle.std.proofs.lemmas.Option.{slice_get-get_or}
-use Rattle.std.proofs.lemmas.List.Folds.{list_any_more}
 use Rattle.ct_rewrite.specs.declared.answer.Node.{Node}
 use Rattle.ct_rewrite.specs.declared.answer.Node.TheVariants as node
 use Rattle.ct_word.specs.Condition.{And, Or, listed}
@@ -57,13 +56,6 @@ closed_more nodes old new i n at over by closed k m le there marked =
   where
     one : (a b : Node) → Some a ≡ Some b → a ≡ b
     one a b e = cc
-
-pub closed_same : (nodes : List Node) (marks : List Bool) (i : ℕ) → is_marked marks i ≡ false → IsClosedFrom (i + 1) nodes marks → IsClosedFrom i nodes marks
-closed_same nodes marks i e closed k m le there marked =
-    elim (cases_lt i k) [
-      | inl above ↦ closed k m (omega arith) there marked
-      | inr same ↦ let f : k ≡ i = omega arith in absurd (false≢true (sym e ∙ ap (is_marked marks) (sym f) ∙ marked))
-    ]
 
 pub closed_at_end : (nodes : List Node) (marks : List Bool) → IsClosedFrom (length nodes) nodes marks
 closed_at_end nodes marks k m le there marked = absurd (omega (arith, within nodes k m there)) where

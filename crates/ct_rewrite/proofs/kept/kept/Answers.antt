@@ -1,4 +1,4 @@
-use Rattle.std.proofs.Common.{◌≡◌, ◌≤◌, ◌+◌, ◌∷◌, [], length, length-append, arith}
+use Rattle.std.proofs.Common.{◌∷◌, [], length-append, arith}
 use Rattle.ct_rewrite.proofs.Marks.{step_over, step_copied, step_kept, all_kept}
 use Rattle.ct_rewrite.proofs.kept.kept.Goals as goal
 

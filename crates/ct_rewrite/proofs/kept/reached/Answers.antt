@@ -1,4 +1,4 @@
-use Rattle.std.proofs.Common.{◌≡◌, ◌<◌, ◌≤◌, ◌+◌, ◌-◌, ◌||◌, ℕ, List, nat_eq, length, arith, refl, sym, subst}
+use Rattle.std.proofs.Common.{◌≡◌, ◌<◌, ◌+◌, ◌-◌, ◌||◌, ℕ, List, nat_eq, length, arith, refl, subst}
 use Rattle.std.specs.List.{list_any}
 use Rattle.ct_rewrite.specs.Marks.{IsClosedFrom, is_marked}
 use Rattle.ct_rewrite.proofs.Nodes.{node_read}
