@@ -7,15 +7,16 @@ use Rattle.std.proofs.lemmas.Option.{get_or_from_slice_get}
 use Rattle.ct_word.specs.declared.kinds.Kind.TheVariants as kind
 use Rattle.ct_word.specs.declared.kinds.Class.TheVariants as class
 use Rattle.ct_word.specs.WellFormed.{is_place_of}
-use Rattle.ct_word.specs.Condition.{Condition, Not, both, either, SameTruth}
+use Rattle.ct_word.specs.Condition.{Not, both, either, SameTruth, holds}
 use Rattle.ct_word.specs.Reading.{as_cond, condition_at}
 use Rattle.ct_rewrite.specs.declared.answer.Node.{Node}
 use Rattle.ct_rewrite.specs.declared.forms.Form.{Form}
 use Rattle.ct_rewrite.specs.declared.reading.Word.{Word}
 use Rattle.ct_rewrite.specs.Nodes.{node_condition, is_position}
 use Rattle.ct_rewrite.specs.Words.{IsWordAt}
+use Rattle.ct_rewrite.specs.Marks.{IsKept}
 use Rattle.ct_rewrite.specs.Building.{Grows, Says}
-use Rattle.ct_rewrite.specs.Signs.{IsForm, IsPlaced, HaveForms, plus_at}
+use Rattle.ct_rewrite.specs.Signs.{IsForm, HaveForms, plus_at}
 use Rattle.ct_rewrite.proofs.Signs.{still_form}
 use Rattle.ct_rewrite.proofs.Words.{place_within}
 use Rattle.ct_rewrite.proofs.Texts.{of_kind}
@@ -26,9 +27,6 @@ pub form_kept : (ws : List ℕ) (ns : List Node) (fs : List Form) (p a : ℕ) (d
 form_kept ws ns fs p a d have long lt e =
     let h = have a (omega arith) e in
     subst (λ f. IsForm ns f (condition_at ws a)) (sym (get_or_from_slice_get fs a h.form d h.at)) h.is
-
-pub placed_form : (ns : List Node) (f : Form) (c : Condition) → IsForm ns f c → IsPlaced ns f
-placed_form ns f c h = record { plus = h.plus.within; minus = h.minus.within }
 
 module _ (ws : List ℕ) (p : ℕ) (w : Word) (is : IsWordAt ws p w) where
   -- an earlier condition
@@ -103,30 +101,39 @@ roots_within ws n long [] e = refl
 roots_within ws n long (r ∷ roots) e =
     let p = and_parts _ _ e in and_from _ _ (lt-ltb r n (omega (arith, long, place_within ws class.Cond r p.0))) (roots_within ws n long roots p.1)
 
--- positions that say what they should have its truth, and lie in the node list
-module _ (ws : List ℕ) (ns : List Node) where
-  says_truth : (ks ps : List ℕ) → AllZip (λ k p. Says ns k (condition_at ws p)) ks ps → AllZip (λ k p. SameTruth (node_condition ns k) (condition_at ws p)) ks ps
-  says_truth [] [] h = tt
-  says_truth [] (p ∷ ps) h = absurd h
-  says_truth (k ∷ ks) [] h = absurd h
-  says_truth (k ∷ ks) (p ∷ ps) h = (h.0.truth, says_truth ks ps h.1)
+-- positions that say what they should, and those at which they were kept
+module _ (ws : List ℕ) (ns out : List Node) where
+  kept_truth : (js ks ps : List ℕ) → AllZip (λ j k. IsKept ns out k j) js ks → AllZip (λ k p. Says ns k (condition_at ws p)) ks ps
+      → AllZip (λ j p. SameTruth (node_condition out j) (condition_at ws p)) js ps
+  kept_truth [] [] [] h e = tt
+  kept_truth [] [] (p ∷ ps) h e = absurd e
+  kept_truth [] (k ∷ ks) ps h e = absurd h
+  kept_truth (j ∷ js) [] ps h e = absurd h
+  kept_truth (j ∷ js) (k ∷ ks) [] h e = absurd e
+  kept_truth (j ∷ js) (k ∷ ks) (p ∷ ps) h e = ((λ v row. ap (holds v row) h.0.same ∙ e.0.truth v row), kept_truth js ks ps h.1 e.1)
 
-  says_placed : (ks ps : List ℕ) → AllZip (λ k p. Says ns k (condition_at ws p)) ks ps → IsTrue (list_all (is_position ns) ks)
-  says_placed [] [] h = refl
-  says_placed [] (p ∷ ps) h = absurd h
-  says_placed (k ∷ ks) [] h = absurd h
-  says_placed (k ∷ ks) (p ∷ ps) h = and_from _ _ (lt-ltb k (length ns) h.0.within) (says_placed ks ps h.1)
+  pub kept_placed : (js ks : List ℕ) → AllZip (λ j k. IsKept ns out k j) js ks → IsTrue (list_all (is_position out) js)
+  kept_placed [] [] h = refl
+  kept_placed [] (k ∷ ks) h = absurd h
+  kept_placed (j ∷ js) [] h = absurd h
+  kept_placed (j ∷ js) (k ∷ ks) h = and_from _ _ (lt-ltb j (length out) h.0.within) (kept_placed js ks h.1)
 
-module _ (ws : List ℕ) (ns out : List Node) (fs : List Form) (gs : List Form) (roots ks js : List ℕ)
+says_placed : (ws : List ℕ) (ns : List Node) (ks ps : List ℕ) → AllZip (λ k p. Says ns k (condition_at ws p)) ks ps → IsTrue (list_all (is_position ns) ks)
+says_placed ws ns [] [] h = refl
+says_placed ws ns [] (p ∷ ps) h = absurd h
+says_placed ws ns (k ∷ ks) [] h = absurd h
+says_placed ws ns (k ∷ ks) (p ∷ ps) h = and_from _ _ (lt-ltb k (length ns) h.0.within) (says_placed ws ns ks ps h.1)
+
+module _ (ws : List ℕ) (ns read : List Node) (fs gs : List Form) (roots ks : List ℕ)
     (long : length fs ≡ length ws) (have : HaveForms ws ns fs) (conditions : IsTrue (list_all (is_place_of ws class.Cond) roots))
-    (same : out ≡ ns) (read : gs ≡ fs) (found : ks ≡ map (plus_at gs) roots) (moved : js ≡ ks) where
-  all_say : AllZip (λ k p. Says out k (condition_at ws p)) js roots
+    (seen : read ≡ ns) (given : gs ≡ fs) (found : ks ≡ map (plus_at gs) roots) where
+  all_say : AllZip (λ k p. Says read k (condition_at ws p)) ks roots
   all_say =
-      subst (λ (xs : List ℕ). AllZip (λ k p. Says out k (condition_at ws p)) xs roots) (sym (moved ∙ found ∙ ap (λ hs. map (plus_at hs) roots) read))
-      (subst (λ (xs : List Node). AllZip (λ k p. Says xs k (condition_at ws p)) (map (plus_at fs) roots) roots) (sym same) (roots_say ws ns fs long have roots conditions))
+      subst (λ (xs : List ℕ). AllZip (λ k p. Says read k (condition_at ws p)) xs roots) (sym (found ∙ ap (λ hs. map (plus_at hs) roots) given))
+      (subst (λ (xs : List Node). AllZip (λ k p. Says xs k (condition_at ws p)) (map (plus_at fs) roots) roots) (sym seen) (roots_say ws ns fs long have roots conditions))
 
-  pub normal_truth : AllZip (λ k p. SameTruth (node_condition out k) (condition_at ws p)) js roots
-  normal_truth = says_truth ws out js roots all_say
+  pub roots_placed : IsTrue (list_all (is_position read) ks)
+  roots_placed = says_placed ws read ks roots all_say
 
-  pub normal_placed : IsTrue (list_all (is_position out) js)
-  normal_placed = says_placed ws out js roots all_say
+  pub normal_truth : (out : List Node) (js : List ℕ) → AllZip (λ j k. IsKept read out k j) js ks → AllZip (λ j p. SameTruth (node_condition out j) (condition_at ws p)) js roots
+  normal_truth out js kept = kept_truth ws read out js ks roots kept all_say

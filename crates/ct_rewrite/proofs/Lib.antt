@@ -5,3 +5,4 @@ pub mod Building
 pub mod Signs
 pub mod Conditions
 pub mod Openings
+pub mod Marks

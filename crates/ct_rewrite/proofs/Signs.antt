@@ -1,5 +1,5 @@
 -- What the forms of conditions say.
-use Rattle.std.proofs.Common.{◌≡◌, ℕ, ◌<◌, Bool, true, false, not, ◌&&◌, ◌||◌, List, ◌++◌, length, refl, ap, sym, ◌∙◌, subst, arith, length-append, append_assoc}
+use Rattle.std.proofs.Common.{◌≡◌, ℕ, ◌<◌, Bool, true, false, not, ◌&&◌, ◌||◌, List, ◌++◌, length, refl, ap, sym, ◌∙◌, subst, arith, length-append}
 use Rattle.ct_word.specs.declared.values.Value.{Value}
 use Rattle.ct_word.specs.declared.values.Term.{Term}
 use Rattle.ct_word.specs.Value.{World}
@@ -41,13 +41,6 @@ literal_form_is ns ms b k m g h i = record { plus = still_says ns ms k _ g h; mi
 pub form_is : (ns ms : List Node) (c : Condition) (k m : ℕ) → Grows ns ms → Says ns k c → Says ms m (Not c) → IsForm ms (record { plus = k; minus = m }) c
 form_is ns ms c k m g h i = record { plus = still_says ns ms k c g h; minus = i }
 
-not_not : (b : Bool) → b ≡ not (not b)
-not_not true = refl
-not_not false = refl
-
-pub denied_form : (ns : List Node) (f : Form) (c : Condition) → IsForm ns f c → IsForm ns (record { plus = f.minus; minus = f.plus }) (Not c)
-denied_form ns f c h = record { plus = h.minus; minus = says_like ns f.plus c (Not (Not c)) (λ v row. not_not (holds v row c)) h.plus }
-
 joined_truth : (j : Connective) (a b c d : Condition) (v : World) (row : List Value) → holds v row a ≡ holds v row c → holds v row b ≡ holds v row d
     → holds v row (joined j a b) ≡ holds v row (joined j c d)
 joined_truth connective.And a b c d v row e f = λ i. e i && (f i && true)
@@ -79,9 +72,6 @@ joined_form_is ns ns' ms j f g k m g1 g2 p q c d h i =
           says_like ms m _ (Not (joined j c d))
           (λ v row. joined_truth (dual j) _ _ (Not c) (Not d) v row (h'.minus.truth v row) (i'.minus.truth v row) ∙ de_morgan j c d v row) q;
     }
-
-pub grows_trans : (ns ns' ms : List Node) → Grows ns ns' → Grows ns' ms → Grows ns ms
-grows_trans ns ns' ms g h = record { added = g.added ++ h.added; is = h.is ∙ ap (λ xs. xs ++ h.added) g.is ∙ append_assoc ns g.added h.added }
 
 -- an equality of terms and its denial, the terms being copies
 pub equal_form_is : (ns ms : List Node) (s t s1 t1 s2 t2 : Term) (k m : ℕ) → s2 ≡ s → t2 ≡ t → s1 ≡ s2 → t1 ≡ t2 → Grows ns ms

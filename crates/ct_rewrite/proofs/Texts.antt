@@ -17,12 +17,6 @@ high_kind : (k : Kind) → IsTrue (same_class (class_of k) class.High) → k ≡
 high_kind kind.NumberHigh e = refl
 high_kind _ e = absurd (false≢true e)
 
--- a kind of text that is no character
-end_kind : (k : Kind) → IsTrue (same_class (class_of k) class.Text) → (k ≡ kind.TextCharacter → ⊥) → k ≡ kind.TextEnd
-end_kind kind.TextEnd e f = refl
-end_kind kind.TextCharacter e f = absurd (f refl)
-end_kind _ e f = absurd (false≢true e)
-
 pub of_kind : (ws : List ℕ) (p : ℕ) (w : Word) (k : Kind) → w.kind ≡ k → IsWordAt ws p w → IsWordAt ws p (record { kind = k; left = w.left; right = w.right })
 of_kind ws p w k e h = subst (λ x. IsWordAt ws p (record { kind = x; left = w.left; right = w.right })) e h
 
@@ -41,9 +35,6 @@ module _ (ws : List ℕ) (p : ℕ) (w : Word) (is : IsWordAt ws p w) where
   longer e =
       let h = of_kind ws p w kind.TextCharacter e is in
       record { below = h.left.0; placed = h.left.1; scalar = h.right; text = ap as_text h.meaning }
-
-  pub ended : IsTrue (is_place_of ws class.Text p) → (w.kind ≡ kind.TextCharacter → ⊥) → text_at ws p ≡ []
-  ended e f = ap as_text (of_kind ws p w kind.TextEnd (end_kind w.kind (sym (is.class class.Text) ∙ e) f) is).meaning
 
 -- one more character
 pub backwards-push : (cs : List ℕ) (c : ℕ) → backwards (cs ++ c ∷ []) ≡ encode_utf8 c ++ backwards cs

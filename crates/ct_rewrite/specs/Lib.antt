@@ -6,3 +6,4 @@ pub mod Building
 pub mod Signs
 pub mod Joining
 pub mod Order
+pub mod Marks

@@ -167,6 +167,7 @@ pub fn forms(alloc: Global, builder: &mut Builder, words: &[u64]) -> Result<Vec<
     requires short { length words.now < 2 ^ 28 }
     requires empty { builder.old ≡ [] }
     ensures count { IfOk result (λ fs. length fs.items ≡ length words.now) }
+    ensures room { length builder.new ≤ 2 * length words.now }
     ensures forms { IfOk result (λ fs. HaveForms words.now builder.new fs.items) }
 {
     let mut forms = Vec::new(alloc);

@@ -10,6 +10,7 @@ mod form;
 mod forms;
 mod history;
 mod joining;
+mod kept;
 mod order;
 mod printed;
 mod reading;

@@ -12,7 +12,8 @@ ghost use Rattle.ct_rewrite.specs.Signs.{plus_at};
 use crate::builder::Builder;
 use crate::form::Normal;
 use crate::forms::{Form, forms};
-use ct_word::{List, Memory};
+use crate::kept::kept;
+use ct_word::Memory;
 use std::alloc::Global;
 
 /// The positions for plus at these places.
@@ -47,9 +48,6 @@ pub fn normal(alloc: Global, words: &[u64], roots: &[u32]) -> Result<Normal, Mem
 {
     let mut builder = Builder::new(alloc);
     let forms = forms(alloc, &mut builder, words)?;
-    let roots = positions(alloc, forms.as_slice(), roots)?;
-    Ok(Normal {
-        nodes: builder.into_nodes(alloc)?,
-        roots: List::from_vec(roots),
-    })
+    let positions = positions(alloc, forms.as_slice(), roots)?;
+    kept(alloc, builder.nodes(), positions.as_slice())
 }
