@@ -1,3 +1,4 @@
 pub mod Progress
 pub mod Offers
 pub mod Committing
+pub mod Creating

@@ -2,7 +2,7 @@
 use Rattle.std.specs.Prelude.{◌≡◌, ◌≤◌, ◌<◌, ◌+◌, ℕ, List, [], ◌∷◌, ◌++◌, length, map, Option, Some, None, IsSome, IsTrue, All}
 use Rattle.ct_word.specs.declared.kinds.Class.TheVariants as class
 use Rattle.ct_word.specs.Value.{World}
-use Rattle.ct_word.specs.Change.{PlainCommit}
+use Rattle.ct_word.specs.Change.{Create, PlainCommit}
 use Rattle.ct_word.specs.Reading.{commits_of, change_list_at}
 use Rattle.ct_word.specs.WellFormed.{IsWellFormed, is_place_of}
 use Rattle.ct_query.specs.Plain.{PlainAction}
@@ -16,10 +16,11 @@ use Rattle.ct_arena.specs.Seen.{Seen, Keeping}
 use Rattle.ct_table.specs.Denotes.{TableView, Denotes}
 use Rattle.ct_transcript.specs.declared.reply.Reply.{Reply}
 use Rattle.ct_transcript.specs.declared.reply.Reply.TheVariants as reply
+use Rattle.ct_transcript.specs.declared.reply.Refusal.{Refusal}
 use Rattle.ct_transcript.specs.declared.reply.Refusal.TheVariants as refusal
 use Rattle.ct_serve.specs.declared.statement.Statement.{Statement}
 use Rattle.ct_serve.specs.Statements.{ReadsAs}
-use Rattle.ct_serve.specs.Names.{resolve}
+use Rattle.ct_serve.specs.Names.{resolve, columns_of, created_new}
 use Rattle.ct_serve.specs.State.{drawn}
 
 -- every valuation is admitted by a history
@@ -62,3 +63,17 @@ pub record AsksFor (h : List PlainCommit) (x : List ℕ) (commit : Commit) : Typ
 pub data CommitOf (room : ℕ) (words words' : List ℕ) (history : List Commit) (commit : Commit) : List Commit → Reply → Type 0 where
   committed : length words < room → CommitOf room words words' history commit (history ++ commit ∷ []) (reply.Committed (length history + 1))
   filled : length words' ≡ room → CommitOf room words words' history commit history (reply.Refused (length history) refusal.Full)
+
+-- the offer of a new table, which fits the schema
+pub record IsCreation (h : List PlainCommit) (words : List ℕ) (name : List ℕ) (columns : List (List ℕ)) (changes : ℕ) (commit : Commit) (tables : List TableView) : Type 0 where
+  pub ready : IsReady h words changes commit tables
+  pub change : (plain_commit commit).changes ≡ Create name columns ∷ []
+  pub fits : created_new (columns_of (schema h []).tables name) name columns ≡ Some (plain.Act (plain.Create name columns))
+
+-- why there is no offer of a new table: it does not fit the schema, the log is full, or memory was wanting
+abbrev pub IsRefusedCreation : List PlainCommit → ℕ → List ℕ → List ℕ → List (List ℕ) → Refusal → Type 0
+IsRefusedCreation h room words name columns refusal.NotYet = created_new (columns_of (schema h []).tables name) name columns ≡ None
+IsRefusedCreation h room words name columns refusal.Full =
+    (length words ≡ room) × (created_new (columns_of (schema h []).tables name) name columns ≡ Some (plain.Act (plain.Create name columns)))
+IsRefusedCreation h room words name columns refusal.Memory = Unit {0}
+IsRefusedCreation h room words name columns refusal.NotAStatement = ⊥

@@ -1,6 +1,7 @@
 //! A run: scripts from a source, sessions on a log, and the transcript to a sink.
 #![tactic(auto)]
 
+mod creating;
 mod session;
 mod statement;
 

@@ -1,0 +1,93 @@
+// CREATE: the offer of a new table.
+
+ghost use Rattle.std.specs.Prelude.{◌≡◌, ◌<◌, ◌^◌, [], ◌∷◌, ◌++◌, length, IfOk, IfErr, Some, None, IsSome, MatchOption};
+ghost use mathlib.Core.List.{IsPrefix};
+ghost use Rattle.std.specs.List.{list_any};
+ghost use Rattle.ct_word.specs.Value.{same_text};
+ghost use Rattle.ct_history.specs.Kept.{kept_of};
+ghost use Rattle.ct_rewrite.specs.History.{plain_history};
+ghost use Rattle.ct_rewrite.specs.declared.history.Change.TheVariants as change;
+ghost use Rattle.ct_table.specs.Denotes.{Denotes, find_table};
+ghost use Rattle.ct_query.specs.Schema.{schema};
+ghost use Rattle.ct_serve.specs.Names.{has_repeat, created_new, columns_of};
+ghost use Rattle.ct_serve.specs.Catalogue.{IsAdmittedEverywhere, IsCreation, IsRefusedCreation};
+
+use crate::session::{Offer, version};
+use ct_arena::{Arena, Pass, Site};
+use ct_history::{create, no_changes};
+use ct_rewrite::{Change, Commit};
+use ct_table::{CTable, Db};
+use ct_transcript::Refusal;
+use ct_word::{List, Memory, Text};
+use std::alloc::Global;
+
+/// Whether a name stands twice.
+fn has_repeat(names: &[Text]) -> bool
+    ensures { result ≡ has_repeat names.now }
+{
+    for (i, name) in names.iter().enumerate() {
+        if is_among(name, &names[i + 1..]) {
+            return true;
+        }
+    }
+    false
+}
+
+fn is_among(name: &Text, others: &[Text]) -> bool
+    ensures { result ≡ list_any (same_text name.now) others.now }
+{
+    others.iter().any(|other| *other == *name)
+}
+
+/// A commit of the one session with one change, all of whose conditions are true.
+fn single(alloc: Global, number: u32, change: Change) -> Result<Commit, Memory>
+    ensures { IfOk result (λ c. c ≡ record { session = 1; number = number; nodes = []; changes = change ∷ [] }) }
+{
+    let mut changes = Vec::new(alloc);
+    changes.push(change)?;
+    Ok(Commit {
+        session: 1,
+        number,
+        nodes: List::new(alloc),
+        changes: List::from_vec(changes),
+    })
+}
+
+/// The offer of a new table. The pass has its words.
+///
+/// # Errors
+/// `NotYet` where the name is there or two columns have one name, `Full` where the log has no room, `Memory`.
+pub fn offer_table<N: Site>(
+    alloc: Global,
+    arena: &Arena<N>,
+    pass: &mut Pass<N>,
+    tables: &Db,
+    history: &[Commit],
+    name: Text,
+    columns: List<Text>,
+) -> Result<Offer, Refusal>
+    requires few { length history.now < 2 ^ 16 }
+    requires denotes { Denotes pass.old.words (plain_history history.now) tables.now }
+    requires everywhere { IsAdmittedEverywhere (plain_history history.now) }
+    ensures longer { IsPrefix pass.old.words pass.new.words }
+    ensures kept { kept_of pass.new ≡ kept_of pass.old }
+    ensures ok { IfOk result (λ offer. IsCreation (plain_history history.now) pass.new.words name columns offer.changes offer.commit offer.tables) }
+    ensures err { IfErr result (λ why. IsRefusedCreation (plain_history history.now) N.log.cap pass.new.words name columns why) }
+{
+    if tables.get(name.as_str()).is_some() || has_repeat(columns.as_slice()) {
+        return Err(Refusal::NotYet);
+    }
+    let table = CTable {
+        columns: columns.clone()?,
+        rows: List::new(alloc),
+    };
+    let tables = tables.with(alloc, name.clone()?, table)?;
+    let list = no_changes(arena, pass)?;
+    let changes = create(arena, pass, list, name.as_str(), columns.as_slice())?;
+    let commit = single(alloc, version(history), Change::Create { name, columns })?;
+    Ok(Offer {
+        changes,
+        commit,
+        tables,
+    })
+}
