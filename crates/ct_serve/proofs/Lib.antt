@@ -1,4 +1,5 @@
 pub mod Progress
 pub mod Offers
 pub mod Committing
-pub mod Creating
+pub mod Offering
+pub mod ReadingLists

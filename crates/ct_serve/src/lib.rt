@@ -2,7 +2,9 @@
 #![tactic(auto)]
 
 mod creating;
+mod reading;
 mod session;
 mod statement;
 
-pub use statement::{Filter, Statement};
+pub use reading::{ReadingError, read};
+pub use statement::Statement;
