@@ -3,3 +3,4 @@ pub mod Offers
 pub mod Committing
 pub mod Offering
 pub mod ReadingLists
+pub mod Answering

@@ -1,8 +1,9 @@
 -- The offer of a new table.
 use Rattle.std.proofs.Common.{◌≡◌, ℕ, Bool, true, false, List, [], ◌∷◌, ◌++◌, length, map, refl, ap, sym, subst, ◌∙◌}
-use Rattle.std.specs.Prelude.{Option, Some, None, IsSome, option_and_then, option_map, if◌then◌else◌, slice_get}
+use Rattle.std.specs.Prelude.{Option, Some, None, IsSome, IsTrue, option_and_then, option_map, if◌then◌else◌, slice_get}
 use mathlib.Core.List.{IsPrefix}
 use Rattle.ct_word.specs.Value.{World, same_text}
+use Rattle.ct_word.specs.declared.values.CRow.{CRow}
 use Rattle.ct_word.specs.Change.{PlainChange, Create, PlainCommit}
 use Rattle.ct_word.specs.Reading.{IsChangeList, change_list_at, as_change_list}
 use Rattle.ct_word.specs.Stands.{StandsAt}
@@ -16,10 +17,14 @@ use Rattle.ct_query.proofs.Laws.{world_commit}
 use Rattle.ct_rewrite.specs.declared.history.Commit.{Commit}
 use Rattle.ct_rewrite.specs.declared.history.Change.TheVariants as change
 use Rattle.ct_rewrite.specs.History.{plain_commit, plain_history}
+use Rattle.ct_transcript.specs.declared.reply.Refusal.{Refusal}
+use Rattle.ct_transcript.specs.declared.reply.Refusal.TheVariants as refusal
+use Rattle.ct_word.specs.declared.kinds.Class.TheVariants as class
+use Rattle.ct_word.specs.WellFormed.{is_place_of}
 use Rattle.ct_table.specs.Denotes.{TableView, heading_of, Denotes, find_table, with_table}
 use Rattle.ct_table.proofs.Denoting.{created_denotes, denotes_grows, empty_table}
 use Rattle.ct_serve.specs.Names.{columns_of, has_repeat, created_new}
-use Rattle.ct_serve.specs.Catalogue.{IsAdmittedEverywhere, IsReady, IsCreation}
+use Rattle.ct_serve.specs.Catalogue.{IsAdmittedEverywhere, IsReady, IsNewTable, IsWant, FitsSchema, IsCreation, IsRefusedCreation}
 
 -- the columns of a name in a schema are those of the table that is found
 pub columns_found : (db : List TableView) (name : List ℕ) → columns_of (map heading_of db) name ≡ option_map (λ t. t.columns) (find_table db name)
@@ -60,3 +65,41 @@ still_everywhere h c name columns e all v =
   by_world : (o : Option Database) → IsSome o → IsSome (option_and_then (λ w. step_change v w (Create name columns)) o)
   by_world (Some w) s = refl
   by_world None s = s
+
+printed_with : (m n : ℕ) (xs ys : List PlainChange) → m ≡ n → xs ≡ ys → (let c : PlainCommit = record { session = 1; number = m; changes = xs } in c) ≡ record { session = 1; number = n; changes = ys }
+printed_with m n xs ys e f = λ i. record { session = 1; number = e i; changes = f i }
+
+-- the offer of a new table is ready
+pub new_table_is : (h : List PlainCommit) (old words : List ℕ) (db : List TableView) (name : List ℕ) (columns : List (List ℕ)) (list changes number : ℕ) (tables : List TableView)
+    → Denotes old h db → IsAdmittedEverywhere h → find_table db name ≡ None → IsPrefix old words → number ≡ length h
+    → tables ≡ with_table db (record { name = name; columns = columns; rows = [] })
+    → (before : List ℕ) → StandsAt before list (IsChangeList []) → IsTrue (is_place_of words class.ChangeList changes)
+    → StandsAt words changes (IsChangeList (change_list_at before list ++ Create name columns ∷ []))
+    → IsNewTable h words name columns changes (record { session = 1; number = number; nodes = []; changes = change.Create name columns ∷ [] }) tables
+new_table_is h old words db name columns list changes number tables d all none longer n e before empty place stands =
+    let commit : Commit = record { session = 1; number = number; nodes = []; changes = change.Create name columns ∷ [] } in
+    let listed : change_list_at words changes ≡ Create name columns ∷ [] = ap as_change_list stands ∙ ap (λ o. as_change_list o ++ Create name columns ∷ []) empty in
+    record {
+      ready = record {
+        place = place;
+        printed = printed_with number (length h) (Create name columns ∷ []) (change_list_at words changes) n (sym listed);
+        formed = record { ordered = refl; placed = refl };
+        denotes = subst (λ ts. Denotes words (h ++ plain_commit commit ∷ []) ts) (sym (e ∙ with_new db (record { name = name; columns = columns; rows = [] }) none))
+            (created_denotes words h (plain_commit commit) db (denotes_grows old words longer h db d) name columns refl none);
+        everywhere = still_everywhere h (plain_commit commit) name columns refl all;
+      };
+      change = refl;
+    }
+
+-- what is wanting for an offer that fits
+pub want_refuses : (h : List PlainCommit) (room : ℕ) (words : List ℕ) (name : List ℕ) (columns : List (List ℕ)) (why : Refusal) → FitsSchema h name columns → IsWant room words why
+    → IsRefusedCreation h room words name columns why
+want_refuses h room words name columns refusal.Full fits w = (w, fits)
+want_refuses h room words name columns refusal.Memory fits w = tt
+want_refuses h room words name columns refusal.NotYet fits w = absurd w
+want_refuses h room words name columns refusal.NotAStatement fits w = absurd w
+
+-- a table that is put in has these parts
+pub with_parts : (db : List TableView) (name name' : List ℕ) (columns columns' : List (List ℕ)) (rows : List CRow) → name ≡ name' → columns ≡ columns' → rows ≡ []
+    → with_table db (record { name = name; columns = columns; rows = rows }) ≡ with_table db (record { name = name'; columns = columns'; rows = [] })
+with_parts db name name' columns columns' rows e f g = λ i. with_table db (record { name = e i; columns = f i; rows = g i })

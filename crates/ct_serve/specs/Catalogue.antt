@@ -5,7 +5,7 @@ use Rattle.ct_word.specs.Value.{World}
 use Rattle.ct_word.specs.Change.{Create, PlainCommit}
 use Rattle.ct_word.specs.Reading.{commits_of, change_list_at}
 use Rattle.ct_word.specs.WellFormed.{IsWellFormed, is_place_of}
-use Rattle.ct_query.specs.Plain.{PlainAction}
+use Rattle.ct_query.specs.Plain.{PlainAction, PlainStatement}
 use Rattle.ct_query.specs.Plain as plain
 use Rattle.ct_query.specs.Worlds.{world}
 use Rattle.ct_query.specs.Agrees.{Agrees}
@@ -19,7 +19,7 @@ use Rattle.ct_transcript.specs.declared.reply.Reply.TheVariants as reply
 use Rattle.ct_transcript.specs.declared.reply.Refusal.{Refusal}
 use Rattle.ct_transcript.specs.declared.reply.Refusal.TheVariants as refusal
 use Rattle.ct_serve.specs.declared.statement.Statement.{Statement}
-use Rattle.ct_serve.specs.Statements.{ReadsAs}
+use Rattle.ct_serve.specs.Statements.{ReadsAs, IsNoStatement}
 use Rattle.ct_serve.specs.Names.{resolve, columns_of, created_new}
 use Rattle.ct_serve.specs.State.{drawn}
 
@@ -64,16 +64,48 @@ pub data CommitOf (room : ℕ) (words words' : List ℕ) (history : List Commit)
   committed : length words < room → CommitOf room words words' history commit (history ++ commit ∷ []) (reply.Committed (length history + 1))
   filled : length words' ≡ room → CommitOf room words words' history commit history (reply.Refused (length history) refusal.Full)
 
--- the offer of a new table, which fits the schema
-pub record IsCreation (h : List PlainCommit) (words : List ℕ) (name : List ℕ) (columns : List (List ℕ)) (changes : ℕ) (commit : Commit) (tables : List TableView) : Type 0 where
+-- the offer of a new table
+pub record IsNewTable (h : List PlainCommit) (words : List ℕ) (name : List ℕ) (columns : List (List ℕ)) (changes : ℕ) (commit : Commit) (tables : List TableView) : Type 0 where
   pub ready : IsReady h words changes commit tables
   pub change : (plain_commit commit).changes ≡ Create name columns ∷ []
-  pub fits : created_new (columns_of (schema h []).tables name) name columns ≡ Some (plain.Act (plain.Create name columns))
+
+-- why there is no offer: the log is full, or memory was wanting
+abbrev pub IsWant : ℕ → List ℕ → Refusal → Type 0
+IsWant room words refusal.Full = length words ≡ room
+IsWant room words refusal.Memory = Unit {0}
+IsWant room words refusal.NotYet = ⊥
+IsWant room words refusal.NotAStatement = ⊥
+
+-- the creation fits the schema
+abbrev pub FitsSchema : List PlainCommit → List ℕ → List (List ℕ) → Type 0
+FitsSchema h name columns = created_new (columns_of (schema h []).tables name) name columns ≡ Some (plain.Act (plain.Create name columns))
+
+-- the offer of a new table, which fits the schema
+pub record IsCreation (h : List PlainCommit) (words : List ℕ) (name : List ℕ) (columns : List (List ℕ)) (changes : ℕ) (commit : Commit) (tables : List TableView) : Type 0 where
+  pub table : IsNewTable h words name columns changes commit tables
+  pub fits : FitsSchema h name columns
 
 -- why there is no offer of a new table: it does not fit the schema, the log is full, or memory was wanting
 abbrev pub IsRefusedCreation : List PlainCommit → ℕ → List ℕ → List ℕ → List (List ℕ) → Refusal → Type 0
 IsRefusedCreation h room words name columns refusal.NotYet = created_new (columns_of (schema h []).tables name) name columns ≡ None
-IsRefusedCreation h room words name columns refusal.Full =
-    (length words ≡ room) × (created_new (columns_of (schema h []).tables name) name columns ≡ Some (plain.Act (plain.Create name columns)))
+IsRefusedCreation h room words name columns refusal.Full = (length words ≡ room) × FitsSchema h name columns
 IsRefusedCreation h room words name columns refusal.Memory = Unit {0}
 IsRefusedCreation h room words name columns refusal.NotAStatement = ⊥
+
+-- an offer that a text asks for
+pub record IsOffered (h : List PlainCommit) (words : List ℕ) (x : List ℕ) (changes : ℕ) (commit : Commit) (tables : List TableView) : Type 0 where
+  pub ready : IsReady h words changes commit tables
+  pub asked : AsksFor h x commit
+
+-- a text is read as a statement that resolves to this
+pub record Resolves (h : List PlainCommit) (x : List ℕ) (r : Option PlainStatement) : Type 0 where
+  pub statement : Statement
+  pub reads : ReadsAs x statement
+  pub resolved : resolve (schema h []) statement ≡ r
+
+-- why a text is refused
+abbrev pub IsRefusedText : List PlainCommit → ℕ → List ℕ → List ℕ → Refusal → Type 0
+IsRefusedText h room words x refusal.NotAStatement = IsNoStatement x
+IsRefusedText h room words x refusal.NotYet = Resolves h x None
+IsRefusedText h room words x refusal.Full = (length words ≡ room) × ((st : PlainStatement) × Resolves h x (Some st))
+IsRefusedText h room words x refusal.Memory = Unit {0}

@@ -10,7 +10,7 @@ ghost use Rattle.ct_rewrite.specs.declared.history.Change.TheVariants as change;
 ghost use Rattle.ct_table.specs.Denotes.{Denotes, find_table};
 ghost use Rattle.ct_query.specs.Schema.{schema};
 ghost use Rattle.ct_serve.specs.Names.{has_repeat, created_new, columns_of};
-ghost use Rattle.ct_serve.specs.Catalogue.{IsAdmittedEverywhere, IsCreation, IsRefusedCreation};
+ghost use Rattle.ct_serve.specs.Catalogue.{IsAdmittedEverywhere, IsNewTable, IsWant, IsCreation, IsRefusedCreation};
 
 use crate::session::{Offer, version};
 use ct_arena::{Arena, Pass, Site};
@@ -25,10 +25,12 @@ use std::alloc::Global;
 fn has_repeat(names: &[Text]) -> bool
     ensures { result ≡ has_repeat names.now }
 {
-    for (i, name) in names.iter().enumerate() {
-        if is_among(name, &names[i + 1..]) {
+    let mut rest = names;
+    while let Some((name, others)) = rest.split_first() {
+        if is_among(name, others) {
             return true;
         }
+        rest = others;
     }
     false
 }
@@ -53,6 +55,49 @@ fn single(alloc: Global, number: u32, change: Change) -> Result<Commit, Memory>
     })
 }
 
+/// The offer of a table whose name is new. The pass has its words.
+///
+/// # Errors
+/// `Full` where the log has no room, `Memory`.
+fn new_table<N: Site>(
+    alloc: Global,
+    arena: &Arena<N>,
+    pass: &mut Pass<N>,
+    tables: &Db,
+    history: &[Commit],
+    name: Text,
+    columns: List<Text>,
+) -> Result<Offer, Refusal>
+    requires few { length history.now < 2 ^ 16 }
+    requires denotes { Denotes pass.old.words (plain_history history.now) tables.now }
+    requires everywhere { IsAdmittedEverywhere (plain_history history.now) }
+    requires absent { find_table tables.now name ≡ None }
+    ensures longer { IsPrefix pass.old.words pass.new.words }
+    ensures kept { kept_of pass.new ≡ kept_of pass.old }
+    ensures ok { IfOk result (λ offer. IsNewTable (plain_history history.now) pass.new.words name columns offer.changes offer.commit offer.tables) }
+    ensures err { IfErr result (λ why. IsWant N.log.cap pass.new.words why) }
+{
+    let table = CTable {
+        columns: columns.clone()?,
+        rows: List::new(alloc),
+    };
+    let tables = tables.with(alloc, name.clone()?, table)?;
+    let list = match no_changes(arena, pass) {
+        Ok(list) => list,
+        Err(_) => return Err(Refusal::Full),
+    };
+    let changes = match create(arena, pass, list, name.as_str(), columns.as_slice()) {
+        Ok(changes) => changes,
+        Err(_) => return Err(Refusal::Full),
+    };
+    let commit = single(alloc, version(history), Change::Create { name, columns })?;
+    Ok(Offer {
+        changes,
+        commit,
+        tables,
+    })
+}
+
 /// The offer of a new table. The pass has its words.
 ///
 /// # Errors
@@ -74,20 +119,14 @@ pub fn offer_table<N: Site>(
     ensures ok { IfOk result (λ offer. IsCreation (plain_history history.now) pass.new.words name columns offer.changes offer.commit offer.tables) }
     ensures err { IfErr result (λ why. IsRefusedCreation (plain_history history.now) N.log.cap pass.new.words name columns why) }
 {
-    if tables.get(name.as_str()).is_some() || has_repeat(columns.as_slice()) {
+    if let Some(_) = tables.get(name.as_str()) {
         return Err(Refusal::NotYet);
     }
-    let table = CTable {
-        columns: columns.clone()?,
-        rows: List::new(alloc),
-    };
-    let tables = tables.with(alloc, name.clone()?, table)?;
-    let list = no_changes(arena, pass)?;
-    let changes = create(arena, pass, list, name.as_str(), columns.as_slice())?;
-    let commit = single(alloc, version(history), Change::Create { name, columns })?;
-    Ok(Offer {
-        changes,
-        commit,
-        tables,
-    })
+    if has_repeat(columns.as_slice()) {
+        return Err(Refusal::NotYet);
+    }
+    match new_table(alloc, arena, pass, tables, history, name, columns) {
+        Ok(offer) => Ok(offer),
+        Err(why) => Err(why),
+    }
 }

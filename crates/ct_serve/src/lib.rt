@@ -2,6 +2,7 @@
 #![tactic(auto)]
 
 mod creating;
+mod execute;
 mod reading;
 mod session;
 mod statement;

@@ -1,6 +1,7 @@
 // Whole transcripts, byte for byte.
 
-use crate::{Answer, AnswerRow, Change, Commit, Node, Refusal, Reply, SessionLog, lines};
+use crate::sessions::lines_of_parts;
+use crate::{Answer, AnswerRow, Change, Commit, Node, Refusal, Reply, SessionLog};
 use ct_word::{List, Memory, Null, Term, Text, Value};
 use std::alloc::{AllocError, Global};
 use std::test::Fail;

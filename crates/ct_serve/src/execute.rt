@@ -1,0 +1,87 @@
+// One statement of the session.
+
+ghost use Rattle.std.specs.Prelude.{◌≡◌, ◌<◌, ◌^◌, length, IfOk, IfErr};
+ghost use mathlib.Core.List.{IsPrefix};
+ghost use Rattle.ct_history.specs.Kept.{kept_of};
+ghost use Rattle.ct_rewrite.specs.History.{plain_history};
+ghost use Rattle.ct_table.specs.Denotes.{Denotes};
+ghost use Rattle.ct_serve.specs.Catalogue.{IsCatalogue, IsAdmittedEverywhere, IsOffered, IsRefusedText};
+ghost use Rattle.ct_serve.specs.Progress.{Answers};
+
+use crate::creating::offer_table;
+use crate::reading::{ReadingError, read};
+use crate::session::{Offer, Session, commit, version};
+use crate::statement::Statement;
+use ct_arena::{Arena, Pass, Site};
+use ct_rewrite::Commit;
+use ct_table::Db;
+use ct_transcript::{Refusal, Reply};
+use std::alloc::Global;
+
+/// What a text asks to be committed. The pass has the words of it.
+///
+/// # Errors
+/// The refusal of the text.
+fn prepare<N: Site>(
+    alloc: Global,
+    arena: &Arena<N>,
+    pass: &mut Pass<N>,
+    tables: &Db,
+    history: &[Commit],
+    text: &str,
+) -> Result<Offer, Refusal>
+    requires few { length history.now < 2 ^ 16 }
+    requires denotes { Denotes pass.old.words (plain_history history.now) tables.now }
+    requires everywhere { IsAdmittedEverywhere (plain_history history.now) }
+    ensures longer { IsPrefix pass.old.words pass.new.words }
+    ensures kept { kept_of pass.new ≡ kept_of pass.old }
+    ensures ok { IfOk result (λ offer. IsOffered (plain_history history.now) pass.new.words text.now offer.changes offer.commit offer.tables) }
+    ensures err { IfErr result (λ why. IsRefusedText (plain_history history.now) N.log.cap pass.new.words text.now why) }
+{
+    let statement = match read(alloc, text) {
+        Ok(statement) => statement,
+        Err(ReadingError::NotAStatement) => return Err(Refusal::NotAStatement),
+        Err(ReadingError::Memory) => return Err(Refusal::Memory),
+    };
+    let Statement::Create { name, columns } = statement;
+    match offer_table(alloc, arena, pass, tables, history, name, columns) {
+        Ok(offer) => Ok(offer),
+        Err(why) => Err(why),
+    }
+}
+
+/// Executes one statement. A refused one leaves tables and commits as they were.
+pub fn execute<N: Site>(
+    alloc: Global,
+    arena: &Arena<N>,
+    mut session: Session<N>,
+    text: &str,
+) -> (Session<N>, Reply)
+    requires kept { IsCatalogue N.log.cap session.pass session.keeper session.tables session.history.items }
+    requires few { length session.history.items < 2 ^ 16 }
+    ensures kept { IsCatalogue N.log.cap result.0.pass result.0.keeper result.0.tables result.0.history.items }
+    ensures answers { Answers N.log.cap (plain_history session.history.items) (plain_history result.0.history.items) session.pass.words result.0.pass.words text.now result.1 }
+{
+    let at = version(session.history.as_slice());
+    if session.history.reserve(1).is_err() {
+        let why = Refusal::Memory;
+        return (session, Reply::Refused { at, why });
+    }
+    match prepare(
+        alloc,
+        arena,
+        &mut session.pass,
+        &session.tables,
+        session.history.as_slice(),
+        text,
+    ) {
+        Ok(offer) => {
+            let _words = session.pass.words();
+            commit(arena, session, offer)
+        }
+        Err(why) => {
+            let _words = session.pass.words();
+            (session, Reply::Refused { at, why })
+        }
+    }
+}
