@@ -1,4 +1,5 @@
 pub mod Growing
 pub mod Sets
 pub mod Denoting
+pub mod Selecting
 pub mod Shared
