@@ -2,4 +2,5 @@ pub mod Growing
 pub mod Sets
 pub mod Denoting
 pub mod Selecting
+pub mod Inserting
 pub mod Shared

@@ -53,7 +53,7 @@ cell_of_tuple ws v cells column lt =
     get_or-map (at v []) (map (term_at ws) cells) column (term_at ws 0) other_zero (subst (λ n. column < n) (sym (length-map cells (term_at ws))) lt)
     ∙ ap (at v []) (get_or-map (term_at ws) cells column 0 (term_at ws 0) lt)
 
-shown-append : (v : World) (rs ss : List PlainRow) → shown_rows v (rs ++ ss) ≡ shown_rows v rs ++ shown_rows v ss
+pub shown-append : (v : World) (rs ss : List PlainRow) → shown_rows v (rs ++ ss) ≡ shown_rows v rs ++ shown_rows v ss
 shown-append v rs ss =
     ap (map (λ (r : PlainRow). tuple_at v r.cells)) (filter-append (λ (r : PlainRow). holds_at v r.condition) rs ss)
     ∙ map-append (λ (r : PlainRow). tuple_at v r.cells) (filter (λ r. holds_at v r.condition) rs) (filter (λ r. holds_at v r.condition) ss)
@@ -62,7 +62,7 @@ pub value-push : (ws : List ℕ) (v : World) (rs : List CRow) (r : CRow) → val
 value-push ws v rs r = ap (shown_rows v) (map_push (plain_crow ws) rs r) ∙ shown-append v (map (plain_crow ws) rs) (plain_crow ws r ∷ [])
 
 -- the tuple of one row
-one_shown : (v : World) (x : PlainRow) (b : Bool) → holds_at v x.condition ≡ b → shown_rows v (x ∷ []) ≡ cond b (tuple_at v x.cells ∷ []) []
+pub one_shown : (v : World) (x : PlainRow) (b : Bool) → holds_at v x.condition ≡ b → shown_rows v (x ∷ []) ≡ cond b (tuple_at v x.cells ∷ []) []
 one_shown v x b e = ap (λ a. map (λ (r : PlainRow). tuple_at v r.cells) (cond a (x ∷ []) [])) e ∙ by_case b where
   by_case : (a : Bool) → map (λ (r : PlainRow). tuple_at v r.cells) (cond a (x ∷ []) []) ≡ cond a (tuple_at v x.cells ∷ []) []
   by_case true = refl

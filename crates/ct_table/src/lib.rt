@@ -3,10 +3,13 @@
 
 mod db;
 mod error;
-mod select;
+mod insertion;
+mod selection;
 mod table;
 
 pub use ct_word::CRow;
 pub use db::Db;
 pub use error::TableError;
+pub use insertion::insert;
+pub use selection::select;
 pub use table::CTable;

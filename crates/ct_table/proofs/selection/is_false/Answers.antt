@@ -3,7 +3,7 @@ use Rattle.std.proofs.lemmas.Bool.{eqb-true}
 use Rattle.ct_word.specs.Condition.{holds_at}
 use Rattle.ct_word.specs.Reading.{condition_at}
 use Rattle.ct_condition.proofs.Truths.{false_at}
-use Rattle.ct_table.proofs.select.is_false.Goals as goal
+use Rattle.ct_table.proofs.selection.is_false.Goals as goal
 
 pub returns-clause-never : goal.returns-clause-never
 returns-clause-never g c e v =

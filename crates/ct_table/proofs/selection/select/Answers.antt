@@ -5,8 +5,8 @@ use Rattle.ct_word.specs.declared.kinds.Class.TheVariants as class
 use Rattle.ct_word.proofs.Prefixes.{place_in_prefix}
 use Rattle.ct_table.specs.Tables.{IsRow, AreRows}
 use Rattle.ct_table.proofs.Selecting.{Selects, selects_none, selects_more, selects_as_many, selected_rows, row_at}
-use Rattle.ct_table.proofs.select.select.Goals as goal
-use Rattle.ct_table.proofs.select.select.Goals.{then-not-is_false+in_ok-under+in_ok-push, else-not-is_false}
+use Rattle.ct_table.proofs.selection.select.Goals as goal
+use Rattle.ct_table.proofs.selection.select.Goals.{then-not-is_false+in_ok-under+in_ok-push, else-not-is_false}
 
 pub loop-row-init : goal.loop-row-init
 loop-row-init g c = record {

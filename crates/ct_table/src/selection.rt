@@ -52,7 +52,7 @@ fn select_row<N: Site>(
 }
 
 /// Whether a condition is the word false, which no valuation satisfies.
-fn is_false<N: Site>(pass: &Pass<N>, place: u32) -> bool
+pub(crate) fn is_false<N: Site>(pass: &Pass<N>, place: u32) -> bool
     ensures decides { IsTrue result ↔ (place ≡ 1) }
     ensures room { length pass.now.words ≤ N.log.cap }
     ensures never { IsTrue result → (v : World) → holds_at v (condition_at pass.now.words place) ≡ false }
@@ -62,7 +62,7 @@ fn is_false<N: Site>(pass: &Pass<N>, place: u32) -> bool
 }
 
 /// The same cells under another condition.
-fn under(row: &CRow, cond: u32) -> Result<CRow, AllocError>
+pub(crate) fn under(row: &CRow, cond: u32) -> Result<CRow, AllocError>
     ensures { IfOk result (λ r. r ≡ record { cells = row.now.cells; cond = cond }) }
 {
     Ok(CRow {
@@ -72,7 +72,7 @@ fn under(row: &CRow, cond: u32) -> Result<CRow, AllocError>
 }
 
 /// A copy of the names of columns.
-fn names(columns: &List<Text>) -> Result<List<Text>, AllocError>
+pub(crate) fn names(columns: &List<Text>) -> Result<List<Text>, AllocError>
     ensures { IfOk result (λ copy. copy ≡ columns.now) }
 {
     columns.clone()

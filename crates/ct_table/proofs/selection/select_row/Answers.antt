@@ -3,7 +3,7 @@ use Rattle.std.proofs.lemmas.Result.{IfOk-weaker}
 use Rattle.ct_condition.specs.Truth.{HasTruth, and_at, equal_at}
 use Rattle.ct_table.specs.Selection.{chosen_at}
 use Rattle.ct_table.proofs.Selecting.{both_chosen}
-use Rattle.ct_table.proofs.select.select_row.Goals as goal
+use Rattle.ct_table.proofs.selection.select_row.Goals as goal
 
 pub returns-clause-truth : goal.returns-clause-truth
 returns-clause-truth g c =

@@ -1,6 +1,6 @@
 use Rattle.std.proofs.Common.{◌≡◌, ◌≤◌, take, length}
 use Rattle.ct_table.proofs.Selecting.{Selects}
-use Rattle.ct_table.proofs.select.select.Given as goal
+use Rattle.ct_table.proofs.selection.select.Given as goal
 
 abbrev pub invariant-loop-row : goal.invariant-loop-row
 invariant-loop-row g l =
