@@ -1,7 +1,7 @@
 -- Rows put last, or merged by their cells.
-use Rattle.std.proofs.Common.{◌≡◌, ℕ, zero, suc, ◌<◌, ◌+◌, Bool, true, false, not, ◌&&◌, ◌||◌, List, [], ◌∷◌, ◌++◌, map, length, cond, get_or, set, take, refl, ap, sym, subst, ◌∙◌, arith}
+use Rattle.std.proofs.Common.{◌≡◌, ℕ, zero, suc, ◌<◌, Bool, true, false, not, ◌&&◌, ◌||◌, List, [], ◌∷◌, ◌++◌, map, length, cond, get_or, set, refl, ap, sym, subst, ◌∙◌, arith}
 use Rattle.std.specs.Prelude.{◌≢◌, IsTrue, All, nat_eq}
-use Rattle.std.specs.List.{IsDistinct, AllByRecursion, list_any, filter}
+use Rattle.std.specs.List.{IsDistinct, list_any, filter}
 use Rattle.std.specs.Cmp.{IsEquivalence}
 use Rattle.std.proofs.lemmas.Bool.Decides.{same_from_decides}
 use Rattle.std.proofs.lemmas.Bool.{false≢true, eqb-true, eq-eqb}
@@ -28,7 +28,7 @@ use Rattle.ct_condition.specs.Truth.{HasTruth, or_at}
 use Rattle.ct_condition.proofs.Truths.{false_at}
 use Rattle.ct_table.specs.Tables.{cells_of, value_of_rows, IsRow, AreRows}
 use Rattle.ct_table.specs.Insertion.{Inserted, put_last, merged, Gathers, is_possible}
-use Rattle.ct_table.proofs.Sets.{same_set-append, has_tuple-append, same_set_itself, same_set_on}
+use Rattle.ct_table.proofs.Sets.{same_set-append, has_tuple-append, same_set_itself}
 use Rattle.ct_table.proofs.Selecting.{distinct_part, value-push, shown-append, one_shown}
 use Rattle.ct_table.proofs.Growing.{terms_grow, is_row_grows, cells_grow, value_grows}
 use Rattle.ct_table.proofs.Denoting.{sublist-append, sublist_of_sublist, nothing_of, all_of}

@@ -1,6 +1,6 @@
 use Rattle.std.proofs.Common.{◌≡◌, ◌∙◌, ◌++◌, length, ap}
 use Rattle.std.specs.List.{filter}
-use Rattle.ct_table.specs.Insertion.{Gathers, is_possible}
+use Rattle.ct_table.specs.Insertion.{is_possible}
 use Rattle.ct_table.proofs.Inserting.{kept_gathers, kept_rows, gathered_values, gathered_part}
 use Rattle.ct_table.proofs.insertion.insert.Goals as goal
 

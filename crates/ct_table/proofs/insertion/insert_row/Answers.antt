@@ -1,4 +1,4 @@
-use Rattle.std.proofs.Common.{◌≡◌, ◌<◌, ◌∙◌, get_or, set, length, ap, sym, subst, ◌++◌, ◌∷◌, []}
+use Rattle.std.proofs.Common.{◌<◌, ◌∙◌, get_or, set, length, ap, sym, subst, ◌++◌, ◌∷◌, []}
 use Rattle.std.specs.Prelude.{◌≢◌, All}
 use Rattle.ct_word.specs.declared.values.CRow.{CRow}
 use Rattle.ct_condition.specs.Truth.{HasTruth, or_at}

@@ -1,8 +1,7 @@
-use Rattle.std.proofs.Common.{◌≡◌, ◌<◌, ◌+◌, ◌∙◌, ◌++◌, ◌∷◌, [], take, get_or, length, ap, sym, subst, refl}
+use Rattle.std.proofs.Common.{◌≡◌, ◌+◌, ◌∙◌, ◌++◌, ◌∷◌, [], take, length, ap, sym, subst, refl}
 use Rattle.std.proofs.lemmas.List.{append-nil, append_assoc, take_more}
 use Rattle.std.specs.List.{filter}
 use Rattle.ct_table.specs.Insertion.{Gathers, is_possible}
-use Rattle.ct_table.specs.Tables.{IsRow}
 use Rattle.ct_table.proofs.Selecting.{row_at}
 use Rattle.ct_table.proofs.Inserting.{gathers_more, gathers_table, kept_gathers}
 use Rattle.ct_table.proofs.insertion.merged.Goals as goal
