@@ -1,16 +1,14 @@
 -- Tables keep what they are worth when words are added.
-use Rattle.std.proofs.Common.{◌≡◌, ℕ, List, [], ◌∷◌, map, refl, ap, sym, subst, ◌∙◌}
-use Rattle.std.specs.Prelude.{IsTrue, All, length}
+use Rattle.std.proofs.Common.{◌≡◌, ℕ, List, [], ◌∷◌, map, refl, ap, sym, subst}
+use Rattle.std.specs.Prelude.{IsTrue, All}
 use Rattle.std.specs.List.{IsDistinct}
 use Rattle.std.proofs.lemmas.List.Elements.{All-head, All-tail, All-weaker}
 use mathlib.Core.List.{IsPrefix}
 use Rattle.ct_word.specs.declared.kinds.Class.TheVariants as class
-use Rattle.ct_word.specs.declared.values.Value.{Value}
 use Rattle.ct_word.specs.declared.values.CRow.{CRow}
 use Rattle.ct_word.specs.Value.{World, same_cells}
 use Rattle.ct_word.specs.WellFormed.{is_place_of}
-use Rattle.ct_word.specs.Reading.{plain_crow, term_at, condition_at}
-use Rattle.ct_word.specs.Change.{PlainRow}
+use Rattle.ct_word.specs.Reading.{plain_crow, term_at}
 use Rattle.ct_query.specs.Step.{shown_rows}
 use Rattle.ct_word.proofs.Prefixes.{term_in_prefix, condition_in_prefix, place_in_prefix, place_within}
 use Rattle.ct_table.specs.Tables.{cells_of, value_of_rows, IsRow, AreRows}
@@ -41,7 +39,7 @@ module _ (ws xs : List ℕ) (grown : IsPrefix ws xs) where
   pub value_grows : (v : World) (n : ℕ) (rs : List CRow) → All (IsRow ws n) rs → value_of_rows xs v rs ≡ value_of_rows ws v rs
   value_grows v n rs all = ap (shown_rows v) (plain_rows_grow n rs all)
 
-  is_row_grows : (n : ℕ) (r : CRow) → IsRow ws n r → IsRow xs n r
+  pub is_row_grows : (n : ℕ) (r : CRow) → IsRow ws n r → IsRow xs n r
   is_row_grows n r is = record {
     terms = All-weaker _ _ (λ p h. place_in_prefix ws xs class.Term p grown h) r.cells is.terms;
     condition = place_in_prefix ws xs class.Cond r.cond grown is.condition;

@@ -2,8 +2,14 @@
 #![tactic(auto)]
 
 mod db;
+mod error;
+mod insertion;
+mod selection;
 mod table;
 
 pub use ct_word::CRow;
 pub use db::Db;
+pub use error::TableError;
+pub use insertion::insert;
+pub use selection::select;
 pub use table::CTable;

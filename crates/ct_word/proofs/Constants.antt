@@ -1,4 +1,4 @@
--- No two places of constants stand for one value.
+-- No two places of constants stand for one value, and no two places of terms for one term.
 use Rattle.std.proofs.Common.{◌≡◌, ℕ, zero, suc, ◌+◌, ◌-◌, ◌*◌, ◌/◌, ◌<◌, Bool, true, false, List, [], ◌∷◌, ◌++◌, length, Option, Some, None, nat_lt, refl, ap, ◌∙◌, sym, arith, inl, inr, ◌⊎◌}
 use Rattle.std.specs.Prelude.{ℤ, pos, negsuc, slice_get, encode_utf8}
 use Rattle.std.proofs.Math.Utf8.{encodes}
@@ -11,6 +11,9 @@ use Rattle.ct_word.specs.declared.kinds.Class.{Class}
 use Rattle.ct_word.specs.declared.kinds.Class.TheVariants as class
 use Rattle.ct_word.specs.declared.values.Value.{Value}
 use Rattle.ct_word.specs.declared.values.Value.TheVariants as val
+use Rattle.ct_word.specs.declared.values.Null.TheVariants as null
+use Rattle.ct_word.specs.declared.values.Term.{Term}
+use Rattle.ct_word.specs.declared.values.Term.TheVariants as term
 use Rattle.ct_word.specs.Word.{code_of, kind_of, left_of, right_of}
 use Rattle.ct_word.specs.Value.{World, at}
 use Rattle.ct_word.specs.Reading.{Meaning, by_kind, meanings, as_text, as_high, as_term, int_of_bits, term_at}
@@ -321,3 +324,89 @@ module _ (ws : List ℕ) (wf : IsWellFormed ws) where
     -- two places of constants with one value are one place
     pub one_constant : (s t : ℕ) → is_constant_word (slice_get ws s) ≡ true → is_constant_word (slice_get ws t) ≡ true → value_at s ≡ value_at t → s ≡ t
     one_constant s t cs ct e = by_places s t (place_of s cs) (place_of t ct) e
+
+  -- which variant of a term it is, as a number
+  abbrev sort_of : Term → ℕ
+  sort_of (term.Column k) = 0
+  sort_of (term.Null (null.Named t)) = 1
+  sort_of (term.Null (null.Fresh s n)) = 2
+  sort_of (term.Value x) = 3
+
+  abbrev name_in : Term → List ℕ
+  name_in (term.Null (null.Named t)) = t
+  name_in _ = []
+
+  abbrev left_in : Term → ℕ
+  left_in (term.Column k) = k
+  left_in (term.Null (null.Fresh s n)) = s
+  left_in _ = 0
+
+  abbrev right_in : Term → ℕ
+  right_in (term.Null (null.Fresh s n)) = n
+  right_in _ = 0
+
+  term_of : (s : ℕ) (k : Kind) (p : Spot s k) → term_at ws s ≡ as_term (Some (by_kind (Some k) ms (left_of p.word) (right_of p.word)))
+  term_of s k p = ap as_term (meaning s k p)
+
+  -- the place of a term, by its kind
+  data TermPlace (s : ℕ) : Type 0 where
+    of_constant : is_constant_word (slice_get ws s) ≡ true → sort_of (term_at ws s) ≡ 3 → TermPlace s
+    of_named : (p : Spot s kind.NamedNull) → sort_of (term_at ws s) ≡ 1 → TermPlace s
+    of_fresh : (p : Spot s kind.FreshNull) → sort_of (term_at ws s) ≡ 2 → TermPlace s
+    of_column : (p : Spot s kind.Column) → sort_of (term_at ws s) ≡ 0 → TermPlace s
+
+  term_place_by : (s w : ℕ) (o : Option Kind) → slice_get ws s ≡ Some w → kind_of w ≡ o → has_class o class.Term ≡ true → TermPlace s
+  term_place_by s w (Some kind.Number) there k e =
+      of_constant (ap is_constant_word there ∙ ap is_constant_kind k) (ap sort_of (term_of s kind.Number (spot s w kind.Number there k)))
+  term_place_by s w (Some kind.TextConstant) there k e =
+      of_constant (ap is_constant_word there ∙ ap is_constant_kind k) (ap sort_of (term_of s kind.TextConstant (spot s w kind.TextConstant there k)))
+  term_place_by s w (Some kind.OtherValue) there k e =
+      of_constant (ap is_constant_word there ∙ ap is_constant_kind k) (ap sort_of (term_of s kind.OtherValue (spot s w kind.OtherValue there k)))
+  term_place_by s w (Some kind.NamedNull) there k e = let p = spot s w kind.NamedNull there k in of_named p (ap sort_of (term_of s kind.NamedNull p))
+  term_place_by s w (Some kind.FreshNull) there k e = let p = spot s w kind.FreshNull there k in of_fresh p (ap sort_of (term_of s kind.FreshNull p))
+  term_place_by s w (Some kind.Column) there k e = let p = spot s w kind.Column there k in of_column p (ap sort_of (term_of s kind.Column p))
+  term_place_by s w _ there k e = absurd (false≢true e)
+
+  term_place : (s : ℕ) (o : Option ℕ) → slice_get ws s ≡ o → is_word_of o class.Term ≡ true → TermPlace s
+  term_place s None there e = absurd (false≢true e)
+  term_place s (Some w) there e = term_place_by s w (kind_of w) there refl e
+
+  two_named : (s t : ℕ) → Spot s kind.NamedNull → Spot t kind.NamedNull → term_at ws s ≡ term_at ws t → s ≡ t
+  two_named s t p q e =
+      let same : text_at (left_of p.word) ≡ text_at (left_of q.word) = ap name_in (sym (term_of s kind.NamedNull p) ∙ e ∙ term_of t kind.NamedNull q) in
+      zeros s t kind.NamedNull p q (eqb-true _ _ p.right_fits) (eqb-true _ _ q.right_fits)
+      (one_text (suc (left_of p.word)) (left_of p.word) (left_of q.word) (omega arith) p.left_fits q.left_fits same)
+
+  two_fresh : (s t : ℕ) → Spot s kind.FreshNull → Spot t kind.FreshNull → term_at ws s ≡ term_at ws t → s ≡ t
+  two_fresh s t p q e =
+      let same = sym (term_of s kind.FreshNull p) ∙ e ∙ term_of t kind.FreshNull q in
+      same_spot s t kind.FreshNull p q (ap left_in same) (ap right_in same)
+
+  two_columns : (s t : ℕ) → Spot s kind.Column → Spot t kind.Column → term_at ws s ≡ term_at ws t → s ≡ t
+  two_columns s t p q e =
+      zeros s t kind.Column p q (eqb-true _ _ p.right_fits) (eqb-true _ _ q.right_fits) (ap left_in (sym (term_of s kind.Column p) ∙ e ∙ term_of t kind.Column q))
+
+  unlike : (s t m n : ℕ) → sort_of (term_at ws s) ≡ m → sort_of (term_at ws t) ≡ n → term_at ws s ≡ term_at ws t → m ≡ n
+  unlike s t m n a b e = sym a ∙ ap sort_of e ∙ b
+
+  by_term_places : (s t : ℕ) → TermPlace s → TermPlace t → term_at ws s ≡ term_at ws t → s ≡ t
+  by_term_places s t (of_constant p a) (of_constant q b) e = one_constant [] s t p q (ap (at [] []) e)
+  by_term_places s t (of_named p a) (of_named q b) e = two_named s t p q e
+  by_term_places s t (of_fresh p a) (of_fresh q b) e = two_fresh s t p q e
+  by_term_places s t (of_column p a) (of_column q b) e = two_columns s t p q e
+  by_term_places s t (of_constant p a) (of_named q b) e = let f = unlike s t 3 1 a b e in absurd (omega (arith, f))
+  by_term_places s t (of_constant p a) (of_fresh q b) e = let f = unlike s t 3 2 a b e in absurd (omega (arith, f))
+  by_term_places s t (of_constant p a) (of_column q b) e = let f = unlike s t 3 0 a b e in absurd (omega (arith, f))
+  by_term_places s t (of_named p a) (of_constant q b) e = let f = unlike s t 1 3 a b e in absurd (omega (arith, f))
+  by_term_places s t (of_named p a) (of_fresh q b) e = let f = unlike s t 1 2 a b e in absurd (omega (arith, f))
+  by_term_places s t (of_named p a) (of_column q b) e = let f = unlike s t 1 0 a b e in absurd (omega (arith, f))
+  by_term_places s t (of_fresh p a) (of_constant q b) e = let f = unlike s t 2 3 a b e in absurd (omega (arith, f))
+  by_term_places s t (of_fresh p a) (of_named q b) e = let f = unlike s t 2 1 a b e in absurd (omega (arith, f))
+  by_term_places s t (of_fresh p a) (of_column q b) e = let f = unlike s t 2 0 a b e in absurd (omega (arith, f))
+  by_term_places s t (of_column p a) (of_constant q b) e = let f = unlike s t 0 3 a b e in absurd (omega (arith, f))
+  by_term_places s t (of_column p a) (of_named q b) e = let f = unlike s t 0 1 a b e in absurd (omega (arith, f))
+  by_term_places s t (of_column p a) (of_fresh q b) e = let f = unlike s t 0 2 a b e in absurd (omega (arith, f))
+
+  -- two places of terms that stand for one term are one place
+  pub one_term : (s t : ℕ) → is_place_of ws class.Term s ≡ true → is_place_of ws class.Term t ≡ true → term_at ws s ≡ term_at ws t → s ≡ t
+  one_term s t es et e = by_term_places s t (term_place s (slice_get ws s) refl es) (term_place t (slice_get ws t) refl et) e
