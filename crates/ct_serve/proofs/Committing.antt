@@ -12,6 +12,7 @@ use Rattle.ct_word.proofs.Growth.{place_within}
 use Rattle.ct_word.proofs.Prefixes.{change_list_in_prefix}
 use Rattle.ct_arena.specs.Seen.{Seen, Keeping}
 use Rattle.ct_arena.specs.Counts.{commit_of}
+use Rattle.ct_history.specs.Kept.{kept_of}
 use Rattle.ct_rewrite.specs.declared.history.Commit.{Commit}
 use Rattle.ct_rewrite.specs.History.{plain_commit, plain_history, IsCommitFormed}
 use Rattle.ct_table.specs.Denotes.{TableView, Denotes}
@@ -86,3 +87,16 @@ had_room room seen words words' w p e le =
     let a : length (seen ++ p.0) ≡ length words = ap length p.1 in
     let b : length words' ≡ length (words ++ w ∷ []) = ap length e in
     omega (arith, length-append seen p.0, length-append words (w ∷ []), a, b)
+
+-- after the words of an offer
+pub prepared : (room : ℕ) (pass pass' : Seen) (keeper : Keeping) (tables : List TableView) (history history' : List Commit) → IsCatalogue room pass keeper tables history
+    → IsPrefix pass.words pass'.words → length pass'.words ≤ room → IsWellFormed pass'.words → kept_of pass' ≡ kept_of pass → history' ≡ history
+    → IsCatalogue room pass' keeper tables history'
+prepared room pass pass' keeper tables history history' k longer within formed kept same =
+    let session : pass'.session ≡ pass.session = cc in
+    let mine : pass'.mine ≡ pass.mine = cc in
+    subst (λ h. IsCatalogue room pass' keeper tables h) (sym same)
+    (still room pass pass' keeper keeper tables history k longer within formed session mine k.guest refl refl refl)
+
+pub not_shorter : (words words' : List ℕ) → IsPrefix words words' → length words ≤ length words'
+not_shorter words words' p = let sum : length (words ++ p.0) ≡ length words' = ap length p.1 in omega (arith, length-append words p.0, sum)

@@ -62,9 +62,9 @@ still_everywhere : (h : List PlainCommit) (c : PlainCommit) (name : List ℕ) (c
     → IsAdmittedEverywhere h → IsAdmittedEverywhere (h ++ c ∷ [])
 still_everywhere h c name columns e all v =
     subst IsSome (sym (world_commit v h c ∙ ap (after_changes v (world v h [])) e)) (by_world (world v h []) (all v)) where
-  by_world : (o : Option Database) → IsSome o → IsSome (option_and_then (λ w. step_change v w (Create name columns)) o)
-  by_world (Some w) s = refl
-  by_world None s = s
+      by_world : (o : Option Database) → IsSome o → IsSome (option_and_then (λ w. step_change v w (Create name columns)) o)
+      by_world (Some w) s = refl
+      by_world None s = s
 
 printed_with : (m n : ℕ) (xs ys : List PlainChange) → m ≡ n → xs ≡ ys → (let c : PlainCommit = record { session = 1; number = m; changes = xs } in c) ≡ record { session = 1; number = n; changes = ys }
 printed_with m n xs ys e f = λ i. record { session = 1; number = e i; changes = f i }

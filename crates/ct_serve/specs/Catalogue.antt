@@ -19,6 +19,9 @@ use Rattle.ct_transcript.specs.declared.reply.Reply.TheVariants as reply
 use Rattle.ct_transcript.specs.declared.reply.Refusal.{Refusal}
 use Rattle.ct_transcript.specs.declared.reply.Refusal.TheVariants as refusal
 use Rattle.ct_serve.specs.declared.statement.Statement.{Statement}
+use Rattle.ct_serve.specs.declared.statement.Statement.TheVariants as statement
+use Rattle.ct_serve.specs.declared.reading.ReadingError.{ReadingError}
+use Rattle.ct_serve.specs.declared.reading.ReadingError.TheVariants as reading
 use Rattle.ct_serve.specs.Statements.{ReadsAs, IsNoStatement}
 use Rattle.ct_serve.specs.Names.{resolve, columns_of, created_new}
 use Rattle.ct_serve.specs.State.{drawn}
@@ -109,3 +112,15 @@ IsRefusedText h room words x refusal.NotAStatement = IsNoStatement x
 IsRefusedText h room words x refusal.NotYet = Resolves h x None
 IsRefusedText h room words x refusal.Full = (length words ≡ room) × ((st : PlainStatement) × Resolves h x (Some st))
 IsRefusedText h room words x refusal.Memory = Unit {0}
+
+-- the offer of a statement, and why there is none
+abbrev pub IsResolved : List PlainCommit → List ℕ → Statement → ℕ → Commit → List TableView → Type 0
+IsResolved h words (statement.Create name columns) changes commit tables = IsCreation h words name columns changes commit tables
+
+abbrev pub IsRefusedStatement : List PlainCommit → ℕ → List ℕ → Statement → Refusal → Type 0
+IsRefusedStatement h room words (statement.Create name columns) why = IsRefusedCreation h room words name columns why
+
+-- why a text that is not read is refused
+abbrev pub unread_refusal : ReadingError → Refusal
+unread_refusal reading.NotAStatement = refusal.NotAStatement
+unread_refusal reading.Memory = refusal.Memory

@@ -5,7 +5,7 @@ ghost use mathlib.Core.List.{IsPrefix};
 ghost use Rattle.ct_history.specs.Kept.{kept_of};
 ghost use Rattle.ct_rewrite.specs.History.{plain_history};
 ghost use Rattle.ct_table.specs.Denotes.{Denotes};
-ghost use Rattle.ct_serve.specs.Catalogue.{IsCatalogue, IsAdmittedEverywhere, IsOffered, IsRefusedText};
+ghost use Rattle.ct_serve.specs.Catalogue.{IsCatalogue, IsAdmittedEverywhere, IsResolved, IsRefusedStatement, IsOffered, IsRefusedText, unread_refusal};
 ghost use Rattle.ct_serve.specs.Progress.{Answers};
 
 use crate::creating::offer_table;
@@ -38,15 +38,46 @@ fn prepare<N: Site>(
     ensures ok { IfOk result (λ offer. IsOffered (plain_history history.now) pass.new.words text.now offer.changes offer.commit offer.tables) }
     ensures err { IfErr result (λ why. IsRefusedText (plain_history history.now) N.log.cap pass.new.words text.now why) }
 {
-    let statement = match read(alloc, text) {
-        Ok(statement) => statement,
-        Err(ReadingError::NotAStatement) => return Err(Refusal::NotAStatement),
-        Err(ReadingError::Memory) => return Err(Refusal::Memory),
-    };
-    let Statement::Create { name, columns } = statement;
-    match offer_table(alloc, arena, pass, tables, history, name, columns) {
-        Ok(offer) => Ok(offer),
-        Err(why) => Err(why),
+    match read(alloc, text) {
+        Ok(statement) => resolve(alloc, arena, pass, tables, history, statement),
+        Err(e) => Err(unread(e)),
+    }
+}
+
+/// Why a text that is not read is refused.
+fn unread(e: ReadingError) -> Refusal
+    ensures { result ≡ unread_refusal e }
+{
+    match e {
+        ReadingError::NotAStatement => Refusal::NotAStatement,
+        ReadingError::Memory => Refusal::Memory,
+    }
+}
+
+/// What a statement asks to be committed. The pass has the words of it.
+///
+/// # Errors
+/// `NotYet` where a name does not fit the schema, `Full`, `Memory`.
+fn resolve<N: Site>(
+    alloc: Global,
+    arena: &Arena<N>,
+    pass: &mut Pass<N>,
+    tables: &Db,
+    history: &[Commit],
+    statement: Statement,
+) -> Result<Offer, Refusal>
+    requires few { length history.now < 2 ^ 16 }
+    requires denotes { Denotes pass.old.words (plain_history history.now) tables.now }
+    requires everywhere { IsAdmittedEverywhere (plain_history history.now) }
+    ensures longer { IsPrefix pass.old.words pass.new.words }
+    ensures kept { kept_of pass.new ≡ kept_of pass.old }
+    ensures ok { IfOk result (λ offer. IsResolved (plain_history history.now) pass.new.words statement offer.changes offer.commit offer.tables) }
+    ensures err { IfErr result (λ why. IsRefusedStatement (plain_history history.now) N.log.cap pass.new.words statement why) }
+{
+    match statement {
+        Statement::Create { name, columns } => {
+            offer_table(alloc, arena, pass, tables, history, name, columns)
+        }
     }
 }
 
@@ -63,7 +94,7 @@ pub fn execute<N: Site>(
     ensures answers { Answers N.log.cap (plain_history session.history.items) (plain_history result.0.history.items) session.pass.words result.0.pass.words text.now result.1 }
 {
     let at = version(session.history.as_slice());
-    if session.history.reserve(1).is_err() {
+    if let Err(_) = session.history.reserve(1) {
         let why = Refusal::Memory;
         return (session, Reply::Refused { at, why });
     }

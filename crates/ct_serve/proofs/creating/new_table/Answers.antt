@@ -16,8 +16,8 @@ returns-clause-ok g c =
     let words = c.create.new.pass.words in
     subst (λ m. IsNewTable h words c.args.name c.args.columns c.in-Ok-create.changes m c.in_ok-tables.tables) (sym c.in_ok-commit.ensures)
     (new_table_is h c.args.pass.now.words words c.args.tables.now c.args.name c.args.columns c.in-Ok.list c.in-Ok-create.changes c.version.result c.in_ok-tables.tables
-        c.requires.denotes c.requires.everywhere c.requires.absent (prefix_of_prefix c.args.pass.now.words c.no_changes.new.pass.words words c.in-Ok.ensures.longer c.in-Ok-create.ensures.longer)
-        (c.version.ensures ∙ sym (length_printed c.args.history.now))
-        (c.in_ok-tables.ensures ∙ with_parts c.args.tables.now c.in_ok-clone-2.field-0 c.args.name c.in_ok-clone.field-0 c.args.columns c.new.result c.in_ok-clone-2.ensures.cases (same_from_all_zip _ c.args.columns c.in_ok-clone.field-0 c.in_ok-clone.ensures.cases (λ x y r. r)) c.new.ensures)
-        c.no_changes.new.pass.words c.in-Ok.ensures.stands c.in-Ok-create.ensures.place
-        (c.in-Ok-create.ensures.stands ∙ (λ i. Some (IsChangeList (change_list_at c.no_changes.new.pass.words c.in-Ok.list ++ Create (c.as_str.ensures i) (c.as_slice.ensures i) ∷ [])))))
+    c.requires.denotes c.requires.everywhere c.requires.absent (prefix_of_prefix c.args.pass.now.words c.no_changes.new.pass.words words c.in-Ok.ensures.longer c.in-Ok-create.ensures.longer)
+    (c.version.ensures ∙ sym (length_printed c.args.history.now))
+    (c.in_ok-tables.ensures ∙ with_parts c.args.tables.now c.in_ok-clone-2.field-0 c.args.name c.in_ok-clone.field-0 c.args.columns c.new.result c.in_ok-clone-2.ensures.cases (same_from_all_zip _ c.args.columns c.in_ok-clone.field-0 c.in_ok-clone.ensures.cases (λ x y r. r)) c.new.ensures)
+    c.no_changes.new.pass.words c.in-Ok.ensures.stands c.in-Ok-create.ensures.place
+    (c.in-Ok-create.ensures.stands ∙ (λ i. Some (IsChangeList (change_list_at c.no_changes.new.pass.words c.in-Ok.list ++ Create (c.as_str.ensures i) (c.as_slice.ensures i) ∷ [])))))
