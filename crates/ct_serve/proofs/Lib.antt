@@ -4,3 +4,4 @@ pub mod Committing
 pub mod Offering
 pub mod ReadingLists
 pub mod Answering
+pub mod Alone

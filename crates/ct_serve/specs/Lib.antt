@@ -5,3 +5,4 @@ pub mod LawfulReply
 pub mod Sessions
 pub mod Progress
 pub mod Catalogue
+pub mod Lawful

@@ -1,0 +1,156 @@
+// The session of a run.
+
+ghost use Rattle.std.specs.Prelude.{◌≡◌, ◌∷◌, ◌<◌, ◌≤◌, ◌^◌, [], map, length, IfOk};
+ghost use Rattle.ct_lex.specs.Texts.{texts};
+ghost use Rattle.ct_rewrite.specs.History.{plain_history};
+ghost use Rattle.ct_serve.specs.Catalogue.{IsCatalogue};
+ghost use Rattle.ct_serve.specs.Lawful.{Lawful};
+ghost use Rattle.ct_serve.specs.Progress.{Progress};
+
+use crate::execute::execute;
+use crate::session::Session;
+use ct_arena::{Arena, Blank, Site};
+use ct_lex::split;
+use ct_table::Db;
+use ct_transcript::{Reply, SessionLog, Transcript};
+use ct_word::{List, Memory, Text};
+use std::alloc::Global;
+use std::marker::Brand;
+
+/// The replies to statement texts, in their order.
+///
+/// # Errors
+/// `Memory` where there is none for the list of replies.
+fn answer<N: Site>(
+    alloc: Global,
+    arena: &Arena<N>,
+    mut session: Session<N>,
+    statements: &[&str],
+) -> Result<(Session<N>, Vec<Reply>), Memory>
+    requires kept { IsCatalogue N.log.cap session.pass session.keeper session.tables session.history.items }
+    requires begins { session.history.items ≡ [] }
+    requires few { length statements.now < 2 ^ 16 }
+    ensures kept { IfOk result (λ r. IsCatalogue N.log.cap r.0.pass r.0.keeper r.0.tables r.0.history.items) }
+    ensures progress { IfOk result (λ r. Progress N.log.cap (plain_history r.0.history.items) r.0.pass.words (map (λ t. t.now) statements.now) r.1.items) }
+{
+    let mut replies = Vec::with_capacity(alloc, statements.len())?;
+    for statement in statements {
+        let (next, reply) = execute(alloc, arena, session, statement);
+        session = next;
+        replies.push_reserved(reply);
+    }
+    Ok((session, replies))
+}
+
+/// The session that executes a script from its beginning.
+///
+/// # Errors
+/// `Memory` where there is none for the lists of statements and replies.
+fn execute_script<N: Site>(
+    alloc: Global,
+    arena: &Arena<N>,
+    session: Session<N>,
+    script: &str,
+) -> Result<(Session<N>, Vec<Reply>), Memory>
+    requires kept { IsCatalogue N.log.cap session.pass session.keeper session.tables session.history.items }
+    requires begins { session.history.items ≡ [] }
+    requires few { length (texts script.now) < 2 ^ 16 }
+    ensures kept { IfOk result (λ r. IsCatalogue N.log.cap r.0.pass r.0.keeper r.0.tables r.0.history.items) }
+    ensures progress { IfOk result (λ r. Progress N.log.cap (plain_history r.0.history.items) r.0.pass.words (texts script.now) r.1.items) }
+{
+    let statements = split(alloc, script)?;
+    answer(alloc, arena, session, statements.as_slice())
+}
+
+/// A session alone on the log that N names, before its first statement.
+///
+/// # Errors
+/// `Memory` where there is none for its list of the log.
+fn begin<N: Site>(alloc: Global, blank: Blank) -> Result<(Arena<N>, Session<N>), Memory>
+    requires { blank ≡ N.log }
+    ensures kept { IfOk result (λ r. IsCatalogue N.log.cap r.1.pass r.1.keeper r.1.tables r.1.history.items) }
+    ensures begins { IfOk result (λ r. r.1.history.items ≡ []) }
+{
+    let (arena, mut keeper) = Arena::make(blank);
+    let _words = keeper.words();
+    let pass = keeper.enrol(alloc, &arena)?;
+    let session = Session {
+        pass,
+        keeper,
+        tables: Db::empty(alloc),
+        history: Vec::new(alloc),
+    };
+    Ok((arena, session))
+}
+
+/// A list of one item.
+///
+/// # Errors
+/// `Memory` where there is none for it.
+fn single<T: Drop>(alloc: Global, item: T) -> Result<List<T>, Memory>
+    ensures { IfOk result (λ items. items ≡ item ∷ []) }
+{
+    let mut items = Vec::with_capacity(alloc, 1)?;
+    items.push_reserved(item);
+    Ok(List::from_vec(items))
+}
+
+/// Ends the session and the log, and gives the transcript.
+///
+/// # Errors
+/// `Memory` where there is none for the list of sessions.
+fn end<N: Site>(
+    alloc: Global,
+    arena: Arena<N>,
+    session: Session<N>,
+    script: Text,
+    replies: Vec<Reply>,
+) -> Result<Transcript, Memory>
+    requires kept { IsCatalogue N.log.cap session.pass session.keeper session.tables session.history.items }
+    requires progress { Progress N.log.cap (plain_history session.history.items) session.pass.words (texts script) replies.items }
+    ensures lawful { IfOk result (λ transcript. Lawful transcript N.log.cap) }
+    ensures script { IfOk result (λ transcript. map (λ s. s.script) transcript.sessions ≡ script ∷ []) }
+{
+    let Session {
+        pass,
+        mut keeper,
+        history,
+        ..
+    } = session;
+    let replies = List::from_vec(replies);
+    let sessions = single(alloc, SessionLog { script, replies })?;
+    keeper.end(&arena, pass);
+    Ok(Transcript {
+        sessions,
+        history: List::from_vec(history),
+        words: keeper.finish(arena),
+    })
+}
+
+fn serve_named<N: Site>(alloc: Global, blank: Blank, script: Text) -> Result<Transcript, Memory>
+    requires name { blank ≡ N.log }
+    requires few { length (texts script) < 2 ^ 16 }
+    ensures lawful { IfOk result (λ transcript. Lawful transcript N.log.cap) }
+    ensures script { IfOk result (λ transcript. map (λ s. s.script) transcript.sessions ≡ script ∷ []) }
+{
+    let (arena, session) = begin::<N>(alloc, blank)?;
+    let (session, replies) = execute_script(alloc, &arena, session, script.as_str())?;
+    end(alloc, arena, session, script, replies)
+}
+
+/// Runs the session of one script on a log of its own with room for `cap` words, from 64 to 4,194,304. The script has
+/// at most 65,535 statements.
+///
+/// # Errors
+/// `Memory` where there is none for the log or for the lists of statements, replies and sessions. A statement that
+/// wants memory is refused, and the run goes on.
+pub fn serve(alloc: Global, cap: u32, script: Text) -> Result<Transcript, Memory>
+    requires least { 64 ≤ cap }
+    requires most { cap ≤ 4194304 }
+    requires few { length (texts script) < 2 ^ 16 }
+    ensures lawful { IfOk result (λ transcript. Lawful transcript cap) }
+    ensures script { IfOk result (λ transcript. map (λ s. s.script) transcript.sessions ≡ script ∷ []) }
+{
+    let blank = Blank::make(alloc, cap)?;
+    serve_named::<Brand>(alloc, blank, script)
+}
