@@ -9,6 +9,8 @@ mod folding;
 mod interner;
 mod packed;
 mod terms;
+#[cfg(test)]
+mod tests;
 mod texts;
 
 pub use conditions::{and, eq, not, or};

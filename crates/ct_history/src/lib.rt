@@ -2,5 +2,7 @@
 #![tactic(auto)]
 
 mod changes;
+#[cfg(test)]
+mod tests;
 
 pub use changes::{create, no_changes};

@@ -6,6 +6,8 @@ mod error;
 mod insertion;
 mod selection;
 mod table;
+#[cfg(test)]
+mod tests;
 
 pub use ct_word::CRow;
 pub use db::Db;
