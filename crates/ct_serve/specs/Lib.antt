@@ -6,3 +6,4 @@ pub mod Sessions
 pub mod Progress
 pub mod Catalogue
 pub mod Lawful
+pub mod Runs

@@ -2,12 +2,16 @@
 #![tactic(auto)]
 
 mod creating;
+mod driving;
+mod ending;
 mod execute;
 mod reading;
 mod serving;
 mod session;
 mod statement;
 
+pub use driving::run;
+pub use ending::{Run, Status};
 pub use reading::{ReadingError, read};
 pub use serving::serve;
 pub use statement::Statement;

@@ -1,0 +1,220 @@
+// The top call.
+
+ghost use Rattle.std.specs.Prelude.{Bool, true, false, ℕ, List, Err, ◌≡◌, ◌∷◌, ◌<◌, ◌≤◌, ◌↔◌, [], length, map, None, Some, IfOk, IfErr, OnOk, OnErr, IfSome, option_map};
+ghost use Rattle.std.specs.Str.{IsUtf8};
+ghost use Rattle.std.specs.List.{list_any};
+ghost use Rattle.ct_lex.specs.Texts.{texts};
+ghost use Rattle.ct_outside.specs.Outside.{Rose, Holds, Added};
+ghost use Rattle.ct_outside.specs.Writes.{joined};
+ghost use Rattle.ct_transcript.specs.Text.{lines_of};
+ghost use Rattle.ct_serve.specs.Lawful.{Lawful};
+ghost use Rattle.ct_serve.specs.Runs.{file_of, IsScript, is_refusal, is_memory, some_reply, IsOutcome, Printed, Promise, empty_transcript};
+ghost use Rattle.ct_serve.specs.declared.ending.Status.TheVariants as status;
+ghost use Rattle.ct_serve.specs.declared.driving.Unserved.TheVariants as unserved;
+
+use crate::ending::{Run, Status};
+use crate::serving::serve;
+use ct_arena::Log;
+use ct_lex::split;
+use ct_outside::{ReadError, Scripts, Sink, write_all};
+use ct_transcript::{Refusal, Reply, SessionLog, Transcript, lines};
+use ct_word::{List, Memory, Text};
+use std::alloc::Global;
+
+/// How many words the log of a run has room for.
+const CAPACITY: u32 = 262_144;
+
+/// The greatest number of bytes of a script.
+const SCRIPT_BYTES: u32 = 0x10_0000;
+
+/// The greatest number of statements of a script.
+const SCRIPT_STATEMENTS: usize = 65_535;
+
+/// Why no session ran.
+enum Unserved {
+    Words,
+    ReadFault,
+    Script,
+    Memory,
+}
+
+impl From<Memory> for Unserved {
+    ghost from_gives = { λ _ e. e ≡ unserved.Memory };
+
+    fn from(_: Memory) -> Self {
+        Unserved::Memory
+    }
+}
+
+/// The file that the words name.
+fn file_named<'a>(words: &[&'a str]) -> Option<&'a str>
+    ensures { option_map (λ file. file.now) result ≡ file_of (map (λ w. w.now) words.now) }
+{
+    match words {
+        [command, file] if *command == "run" => Some(*file),
+        _ => None,
+    }
+}
+
+/// The script that the bytes are.
+///
+/// # Errors
+/// `Script` only where they are none, `Memory` for want of memory.
+fn as_script(alloc: Global, bytes: Vec<u8>) -> Result<Text, Unserved>
+    ensures ok { IfOk result (λ script. (script ≡ bytes.items) × (length (texts script) ≤ 65535)) }
+    ensures err { IfErr result (λ e. e ≡ unserved.Script → IsScript bytes.items → ⊥) }
+    ensures words { IfErr result (λ e. (e ≡ unserved.Words → ⊥) × (e ≡ unserved.ReadFault → ⊥)) }
+{
+    let Ok(text) = String::from_utf8(bytes) else {
+        return Err(Unserved::Script);
+    };
+    let script = Text::from_string(text);
+    if split(alloc, script.as_str())?.len() <= SCRIPT_STATEMENTS {
+        Ok(script)
+    } else {
+        Err(Unserved::Script)
+    }
+}
+
+/// The transcript of the session of the file that the words name.
+///
+/// # Errors
+/// `Words` exactly where the words name no file, `ReadFault` only where the source failed, `Script`, `Memory`.
+fn served<S: Scripts>(
+    alloc: Global,
+    words: &[&str],
+    scripts: &mut S,
+) -> Result<Transcript, Unserved>
+    ensures ok { IfOk result (λ transcript. Lawful transcript 262144) }
+    ensures script { IfOk result (λ transcript. IfSome (file_of (map (λ w. w.now) words.now)) (λ file. (script : List ℕ) × Holds (S.held scripts.old) file script × (map (λ s. s.script) transcript.sessions ≡ script ∷ []))) }
+    ensures words { (result ≡ Err unserved.Words) ↔ (file_of (map (λ w. w.now) words.now) ≡ None) }
+    ensures read { IfErr result (λ e. e ≡ unserved.ReadFault → Rose (S.faults scripts.old) (S.faults scripts.new)) }
+{
+    let Some(file) = file_named(words) else {
+        return Err(Unserved::Words);
+    };
+    let bytes = match scripts.read(alloc, file, SCRIPT_BYTES) {
+        Ok(bytes) => bytes,
+        Err(ReadError::Failed) => return Err(Unserved::ReadFault),
+        Err(ReadError::TooLong) => return Err(Unserved::Script),
+        Err(ReadError::Memory) => return Err(Unserved::Memory),
+    };
+    let script = as_script(alloc, bytes)?;
+    let transcript = serve(alloc, CAPACITY, script)?;
+    Ok(transcript)
+}
+
+fn is_refusal(reply: &Reply) -> bool
+    ensures { result ≡ is_refusal reply.now }
+{
+    match reply {
+        Reply::Refused { .. } => true,
+        _ => false,
+    }
+}
+
+fn is_memory(reply: &Reply) -> bool
+    ensures { result ≡ is_memory reply.now }
+{
+    match reply {
+        Reply::Refused {
+            why: Refusal::Memory,
+            ..
+        } => true,
+        _ => false,
+    }
+}
+
+fn has_refusal(log: &SessionLog) -> bool
+    ensures { result ≡ list_any is_refusal log.now.replies }
+{
+    log.replies.as_slice().iter().any(|reply| is_refusal(reply))
+}
+
+fn has_memory(log: &SessionLog) -> bool
+    ensures { result ≡ list_any is_memory log.now.replies }
+{
+    log.replies.as_slice().iter().any(|reply| is_memory(reply))
+}
+
+fn some_refusal(logs: &[SessionLog]) -> bool
+    ensures { result ≡ some_reply is_refusal logs.now }
+{
+    logs.iter().any(|log| has_refusal(log))
+}
+
+fn some_memory(logs: &[SessionLog]) -> bool
+    ensures { result ≡ some_reply is_memory logs.now }
+{
+    logs.iter().any(|log| has_memory(log))
+}
+
+/// How a run ends whose lines were written.
+fn outcome(logs: &[SessionLog]) -> Status
+    ensures { IsOutcome logs.now result }
+{
+    if some_memory(logs) {
+        return Status::Memory;
+    }
+    if some_refusal(logs) {
+        return Status::Refused;
+    }
+    Status::Done
+}
+
+/// Writes the lines of a transcript, with one call for each.
+fn print<K: Sink>(alloc: Global, transcript: &Transcript, out: &mut K) -> Status
+    ensures printed { Printed (record { file = None; held = None; taken = K.taken out.old; taken' = K.taken out.new; calls = K.calls out.old; calls' = K.calls out.new }) transcript.now result }
+    ensures write { result ≡ status.WriteFault → Rose (K.faults out.old) (K.faults out.new) }
+{
+    let Ok(text) = lines(alloc, transcript) else {
+        return Status::Memory;
+    };
+    match write_all(out, text.as_slice()) {
+        Ok(()) => outcome(transcript.sessions.as_slice()),
+        Err(_) => Status::WriteFault,
+    }
+}
+
+/// The transcript without sessions. It takes no memory.
+fn no_transcript(alloc: Global) -> Transcript
+    ensures { result ≡ empty_transcript }
+{
+    Transcript {
+        sessions: List::new(alloc),
+        history: List::new(alloc),
+        words: Log::empty(alloc),
+    }
+}
+
+fn status_of(e: Unserved) -> Status
+    ensures words { (result ≡ status.Words) ↔ (e ≡ unserved.Words) }
+    ensures read { (result ≡ status.ReadFault) ↔ (e ≡ unserved.ReadFault) }
+    ensures done { (result ≡ status.Done → ⊥) × (result ≡ status.Refused → ⊥) × (result ≡ status.WriteFault → ⊥) }
+{
+    match e {
+        Unserved::Words => Status::Words,
+        Unserved::ReadFault => Status::ReadFault,
+        Unserved::Script => Status::Script,
+        Unserved::Memory => Status::Memory,
+    }
+}
+
+/// Runs the session of the file that the words name, `run` and the file, and writes its transcript.
+pub fn run<S: Scripts, K: Sink>(alloc: Global, words: &[&str], scripts: &mut S, out: &mut K) -> Run
+    ensures promise { Promise 262144 (record { file = file_of (map (λ w. w.now) words.now); held = S.held scripts.old; taken = K.taken out.old; taken' = K.taken out.new; calls = K.calls out.old; calls' = K.calls out.new }) result.status result.transcript }
+    ensures words { (result.status ≡ status.Words) ↔ (file_of (map (λ w. w.now) words.now) ≡ None) }
+    ensures read { result.status ≡ status.ReadFault → Rose (S.faults scripts.old) (S.faults scripts.new) }
+    ensures write { result.status ≡ status.WriteFault → Rose (K.faults out.old) (K.faults out.new) }
+{
+    let transcript = match served(alloc, words, scripts) {
+        Ok(transcript) => transcript,
+        Err(e) => {
+            let status = status_of(e);
+            let transcript = no_transcript(alloc);
+            return Run { status, transcript };
+        }
+    };
+    let status = print(alloc, &transcript, out);
+    Run { status, transcript }
+}

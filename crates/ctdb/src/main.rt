@@ -1,0 +1,59 @@
+//! `ctdb run FILE` runs the session of a script, and writes its transcript: every reply, then the history of commits.
+#![tactic(auto)]
+
+use anyhow::Result;
+use ct_outside::{FileScripts, StdSink};
+use ct_serve::{Status, run};
+use std::env;
+use std::process::ExitCode;
+
+/// Runs what the words of the command line ask for.
+fn run_words(rt: &HostRuntime) -> Result<Status> {
+    let mut texts = Vec::new(rt.alloc());
+    for word in env::args(rt)? {
+        texts.push(word)?;
+    }
+    let mut words = Vec::new(rt.alloc());
+    for text in texts.iter().skip(1) {
+        words.push(text.as_str())?;
+    }
+    let mut scripts = FileScripts::make(rt);
+    let mut out = StdSink::make(rt);
+    Ok(run(rt.alloc(), words.as_slice(), &mut scripts, &mut out).status)
+}
+
+/// The number that a run ends with.
+fn number(status: Status) -> u8 {
+    match status {
+        Status::Done => 0,
+        Status::Refused => 1,
+        Status::Words => 2,
+        Status::ReadFault => 3,
+        Status::WriteFault => 4,
+        Status::Memory => 5,
+        Status::Script => 6,
+    }
+}
+
+/// What is said of a run without a whole transcript.
+fn fault(status: Status) -> Option<&'static str> {
+    match status {
+        Status::Done | Status::Refused => None,
+        Status::Words => Some("words not understood"),
+        Status::ReadFault => Some("read fault"),
+        Status::WriteFault => Some("write fault"),
+        Status::Memory => Some("out of memory"),
+        Status::Script => Some("not a script"),
+    }
+}
+
+fn main(rt: HostRuntime) -> ExitCode {
+    let status = match run_words(&rt) {
+        Ok(status) => status,
+        Err(_) => Status::Memory,
+    };
+    if let Some(fault) = fault(status) {
+        let _ = eprintln!(rt; "ctdb: {fault}");
+    }
+    ExitCode::from(number(status))
+}
