@@ -1,63 +1,39 @@
 -- From what a statement came to, to its reply.
 use Rattle.std.proofs.Common.{◌≡◌, ◌≢◌, ℕ, ◌+◌, ◌<◌, ◌≤◌, arith, List, [], ◌∷◌, ◌++◌, length, refl, ap, sym, subst, ◌∙◌}
-use Rattle.std.specs.Prelude.{Some, None, Result, Ok, Err, IfOk, IfErr}
+use Rattle.std.specs.Prelude.{Option, Some, None, IsSome, Result, Ok, Err, IfOk, IfErr}
 use mathlib.Core.List.{IsPrefix}
 use Rattle.std.proofs.lemmas.List.{map_push}
-use Rattle.ct_word.specs.Change.{Create, PlainCommit}
+use Rattle.ct_word.specs.Change.{PlainCommit}
 use Rattle.ct_query.specs.Plain as plain
-use Rattle.ct_query.specs.Agrees.{Agrees}
-use Rattle.ct_query.specs.Schema.{schema}
+use Rattle.ct_query.specs.Plain.{PlainStatement}
 use Rattle.ct_rewrite.specs.declared.history.Commit.{Commit}
 use Rattle.ct_rewrite.specs.History.{plain_commit, plain_history}
 use Rattle.ct_table.specs.Denotes.{TableView}
+use Rattle.ct_transcript.specs.declared.reply.Answer.{Answer}
 use Rattle.ct_transcript.specs.declared.reply.Reply.{Reply}
 use Rattle.ct_transcript.specs.declared.reply.Reply.TheVariants as reply
 use Rattle.ct_transcript.specs.declared.reply.Refusal.{Refusal}
 use Rattle.ct_transcript.specs.declared.reply.Refusal.TheVariants as refusal
 use Rattle.ct_serve.specs.declared.statement.Statement.{Statement}
-use Rattle.ct_serve.specs.declared.statement.Statement.TheVariants as statement
 use Rattle.ct_serve.specs.declared.reading.ReadingError.{ReadingError}
 use Rattle.ct_serve.specs.declared.reading.ReadingError.TheVariants as reading
 use Rattle.ct_serve.specs.Statements.{ReadsAs, IsNoStatement}
-use Rattle.ct_serve.specs.Names.{resolve, created_new, columns_of}
 use Rattle.ct_serve.specs.Progress.{Answers}
-use Rattle.ct_serve.specs.Catalogue.{IsReady, AsksFor, IsNewTable, IsCreation, IsRefusedCreation, IsOffered, Resolves, IsRefusedText, CommitOf, committed, filled, FitsSchema, IsResolved, IsRefusedStatement, unread_refusal}
-use Rattle.ct_serve.proofs.Offers.{answers_no_statement, answers_memory, answers_not_yet, answers_full, answers_committed}
+use Rattle.ct_serve.specs.declared.session.Prepared.TheVariants as prepared
+use Rattle.ct_serve.specs.Catalogue.{IsOfferFor, IsPreparedText, IsRefusedAs, Resolves, IsRefusedText, CommitOf, committed, filled, resolved_at, unread_refusal}
+use Rattle.ct_serve.proofs.Offers.{answers_no_statement, answers_memory, answers_not_yet, answers_full, answers_rows, answers_committed}
 use Rattle.ct_serve.proofs.Committing.{length_printed}
 
-resolve_create : (h : List PlainCommit) (name : List ℕ) (columns : List (List ℕ)) → resolve (schema h []) (statement.Create name columns) ≡ created_new (columns_of (schema h []).tables name) name columns
-unfolding resolve
-resolve_create h name columns = refl
-
-module _ (h : List PlainCommit) (words : List ℕ) (x : List ℕ) (name : List ℕ) (columns : List (List ℕ)) (reads : ReadsAs x (statement.Create name columns)) where
-  -- the offer of a new table is what the text asks for
-  pub creation_offered : (changes : ℕ) (commit : Commit) (tables : List TableView) → IsCreation h words name columns changes commit tables → IsOffered h words x changes commit tables
-  creation_offered changes commit tables made = record {
-    ready = made.table.ready;
-    asked = record {
-      statement = statement.Create name columns;
-      action = plain.Create name columns;
-      reads = reads;
-      resolved = resolve_create h name columns ∙ made.fits;
-      none_drawn = refl;
-      agrees = subst (λ xs. Agrees h (plain.Create name columns ∷ []) xs) (sym made.table.change) ((refl, refl), tt);
-    };
-  }
-
-  pub creation_refused : (room : ℕ) (why : Refusal) → IsRefusedCreation h room words name columns why → IsRefusedText h room words x why
-  creation_refused room refusal.NotYet r = record { statement = statement.Create name columns; reads = reads; resolved = resolve_create h name columns ∙ r }
-  creation_refused room refusal.Full r = (r.0, (plain.Act (plain.Create name columns), record { statement = statement.Create name columns; reads = reads; resolved = resolve_create h name columns ∙ r.1 }))
-  creation_refused room refusal.Memory r = tt
-  creation_refused room refusal.NotAStatement r = absurd r
-
--- the offer of a statement is what a text that is read as it asks for
-pub resolved_offered : (h : List PlainCommit) (words : List ℕ) (x : List ℕ) (st : Statement) (changes : ℕ) (commit : Commit) (tables : List TableView) → ReadsAs x st
-    → IsResolved h words st changes commit tables → IsOffered h words x changes commit tables
-resolved_offered h words x (statement.Create name columns) changes commit tables reads made = creation_offered h words x name columns reads changes commit tables made
-
+-- a text that is read as a statement is refused as the statement is
 pub statement_refused : (h : List PlainCommit) (room : ℕ) (words : List ℕ) (x : List ℕ) (st : Statement) (why : Refusal) → ReadsAs x st
-    → IsRefusedStatement h room words st why → IsRefusedText h room words x why
-statement_refused h room words x (statement.Create name columns) why reads r = creation_refused h words x name columns reads room why r
+    → IsRefusedAs (resolved_at h st) room words why → IsRefusedText h room words x why
+statement_refused h room words x st refusal.NotYet reads r = record { statement = st; reads = reads; resolved = r }
+statement_refused h room words x st refusal.Full reads r = by_resolved (resolved_at h st) refl r.1 where
+  by_resolved : (o : Option PlainStatement) → resolved_at h st ≡ o → IsSome o → (length words ≡ room) × ((asked : PlainStatement) × Resolves h x (Some asked))
+  by_resolved (Some asked) e s = (r.0, (asked, record { statement = st; reads = reads; resolved = e }))
+  by_resolved None e s = cc
+statement_refused h room words x st refusal.Memory reads r = tt
+statement_refused h room words x st refusal.NotAStatement reads r = absurd r
 
 pub unread_refused : (h : List PlainCommit) (room : ℕ) (words : List ℕ) (x : List ℕ) (e : ReadingError) → (e ≢ reading.Memory → IsNoStatement x)
     → IsRefusedText h room words x (unread_refusal e)
@@ -77,16 +53,24 @@ refused_answers N history words words' x why at e longer room r =
 
 -- an offer is answered by what its commit did
 pub offer_answers : (N : ℕ) (history history' : List Commit) (words mid words' : List ℕ) (x : List ℕ) (changes : ℕ) (commit : Commit) (tables : List TableView) (r : Reply)
-    → IsPrefix words words' → length words ≤ length mid → length words' ≤ N → IsOffered (plain_history history) mid x changes commit tables → CommitOf N mid words' history commit history' r
+    → IsPrefix words words' → length words ≤ length mid → length words' ≤ N → (st : Statement) → ReadsAs x st → IsOfferFor (plain_history history) mid (resolved_at (plain_history history) st) changes commit tables
+    → CommitOf N mid words' history commit history' r
     → Answers N (plain_history history) (plain_history history') words words' x r
-offer_answers N history history' words mid words' x changes commit tables r longer le room o (committed lt) =
+offer_answers N history history' words mid words' x changes commit tables r longer le room st reads o (committed lt) =
     let number : length (plain_history history) ≡ length history = length_printed history in
-    let answers = answers_committed N (plain_history history) words words' x longer room commit o.asked (ap (λ c. c.session) o.ready.printed) (ap (λ c. c.number) o.ready.printed) (let lt' = lt in omega arith) in
+    let answers = answers_committed N (plain_history history) words words' x longer room mid st changes commit tables reads o (let lt' = lt in omega arith) in
     subst (λ h. Answers N (plain_history history) h words words' x (reply.Committed (length history + 1))) (sym (map_push plain_commit history commit))
     (subst (λ n. Answers N (plain_history history) (plain_history history ++ plain_commit commit ∷ []) words words' x (reply.Committed (n + 1))) number answers)
-offer_answers N history history' words mid words' x changes commit tables r longer le room o (filled full) =
+offer_answers N history history' words mid words' x changes commit tables r longer le room st reads o (filled full) =
     refused_answers N history words words' x refusal.Full (length history) refl longer room
-    (full, (plain.Act o.asked.action, record { statement = o.asked.statement; reads = o.asked.reads; resolved = o.asked.resolved }))
+    (full, (plain.Act o.action, record { statement = st; reads = reads; resolved = o.resolved }))
+
+-- an answer to a query is given at the version of the history
+pub answer_answers : (N : ℕ) (history : List Commit) (words words' : List ℕ) (x : List ℕ) (answer : Answer) (at : ℕ) → at ≡ length history → IsPrefix words words' → length words' ≤ N
+    → IsPreparedText (plain_history history) words' x (prepared.Answer answer) → Answers N (plain_history history) (plain_history history) words words' x (reply.Rows at 0 answer)
+answer_answers N history words words' x answer at e longer room p =
+    subst (λ n. Answers N (plain_history history) (plain_history history) words words' x (reply.Rows n 0 answer)) (length_printed history ∙ sym e)
+    (answers_rows N (plain_history history) words words' x longer room p.statement answer p.reads p.prepared)
 
 -- what is true of an answer, where something stronger is
 pub ok_on : {T E : Type 0} (r : Result T E) (P Q : T → Type 0) → ((t : T) → P t → Q t) → IfOk r P → IfOk r Q

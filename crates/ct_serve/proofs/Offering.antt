@@ -9,6 +9,8 @@ use Rattle.ct_word.specs.Reading.{IsChangeList, change_list_at, as_change_list}
 use Rattle.ct_word.specs.Stands.{StandsAt}
 use Rattle.ct_query.specs.declared.schema.Heading.{Heading}
 use Rattle.ct_query.specs.Plain as plain
+use Rattle.ct_query.specs.Plain.{PlainStatement}
+use Rattle.ct_query.specs.Agrees.{Agrees}
 use Rattle.ct_query.specs.Database.{Database}
 use Rattle.ct_query.specs.Step.{step_change}
 use Rattle.ct_query.specs.Worlds.{world, after_changes}
@@ -24,7 +26,7 @@ use Rattle.ct_word.specs.WellFormed.{is_place_of}
 use Rattle.ct_table.specs.Denotes.{TableView, heading_of, Denotes, find_table, with_table}
 use Rattle.ct_table.proofs.Denoting.{created_denotes, denotes_grows, empty_table}
 use Rattle.ct_serve.specs.Names.{columns_of, has_repeat, created_new}
-use Rattle.ct_serve.specs.Catalogue.{IsAdmittedEverywhere, IsReady, IsNewTable, IsWant, FitsSchema, IsCreation, IsRefusedCreation}
+use Rattle.ct_serve.specs.Catalogue.{IsAdmittedEverywhere, IsReady, IsNewTable, IsWant, IsOfferFor, IsRefusedAs}
 
 -- the columns of a name in a schema are those of the table that is found
 pub columns_found : (db : List TableView) (name : List ℕ) → columns_of (map heading_of db) name ≡ option_map (λ t. t.columns) (find_table db name)
@@ -91,13 +93,26 @@ new_table_is h old words db name columns list changes number tables d all none l
       change = refl;
     }
 
--- what is wanting for an offer that fits
-pub want_refuses : (h : List PlainCommit) (room : ℕ) (words : List ℕ) (name : List ℕ) (columns : List (List ℕ)) (why : Refusal) → FitsSchema h name columns → IsWant room words why
-    → IsRefusedCreation h room words name columns why
-want_refuses h room words name columns refusal.Full fits w = (w, fits)
-want_refuses h room words name columns refusal.Memory fits w = tt
-want_refuses h room words name columns refusal.NotYet fits w = absurd w
-want_refuses h room words name columns refusal.NotAStatement fits w = absurd w
+pub fits_some : {r : Option PlainStatement} {st : PlainStatement} → r ≡ Some st → IsSome r
+fits_some {st = st} e = subst IsSome (sym e) refl
+
+-- what is wanting for a statement that fits
+pub want_refuses : (r : Option PlainStatement) (room : ℕ) (words : List ℕ) (why : Refusal) → IsSome r → IsWant room words why → IsRefusedAs r room words why
+want_refuses r room words refusal.Full fits w = (w, fits)
+want_refuses r room words refusal.Memory fits w = tt
+want_refuses r room words refusal.NotYet fits w = absurd w
+want_refuses r room words refusal.NotAStatement fits w = absurd w
+
+-- the offer of a new table that fits
+pub creation_is : (h : List PlainCommit) (words : List ℕ) (name : List ℕ) (columns : List (List ℕ)) (r : Option PlainStatement) (changes : ℕ) (commit : Commit) (tables : List TableView)
+    → r ≡ Some (plain.Act (plain.Create name columns)) → IsNewTable h words name columns changes commit tables → IsOfferFor h words r changes commit tables
+creation_is h words name columns r changes commit tables fits made = record {
+  ready = made.ready;
+  action = plain.Create name columns;
+  resolved = fits;
+  none_drawn = refl;
+  agrees = subst (λ xs. Agrees h (plain.Create name columns ∷ []) xs) (sym made.change) ((refl, refl), tt);
+}
 
 -- a table that is put in has these parts
 pub with_parts : (db : List TableView) (name name' : List ℕ) (columns columns' : List (List ℕ)) (rows : List CRow) → name ≡ name' → columns ≡ columns' → rows ≡ []

@@ -9,6 +9,10 @@ use Rattle.ct_word.proofs.Prefixes.{get_in_prefix, prefix_same}
 use Rattle.ct_query.specs.Plain.{PlainAction, PlainStatement}
 use Rattle.ct_query.specs.Plain as plain
 use Rattle.ct_query.specs.Agrees.{Agrees}
+use Rattle.ct_query.specs.Patterns.{pattern}
+use Rattle.ct_word.specs.Sublist.{IsSublist}
+use Rattle.ct_transcript.specs.declared.reply.Answer.{Answer}
+use Rattle.ct_transcript.specs.Means.{Means}
 use Rattle.ct_query.specs.Schema.{schema}
 use Rattle.ct_rewrite.specs.declared.history.Commit.{Commit}
 use Rattle.ct_rewrite.specs.History.{plain_commit}
@@ -22,7 +26,7 @@ use Rattle.ct_serve.specs.Names.{resolve}
 use Rattle.ct_serve.specs.State.{SessionState, carried, drawn}
 use Rattle.ct_serve.specs.LawfulReply.{LawfulReply, ResolvesTo, IsCommittedAlone, IsTextFault, IsNotYet, IsFull}
 use Rattle.ct_serve.specs.Progress.{state_after, GoesOn, Commits, nothing, one, Answers}
-use Rattle.ct_serve.specs.Catalogue.{AsksFor}
+use Rattle.ct_serve.specs.Catalogue.{IsOfferFor, IsAnswerFor, resolved_at}
 
 take_front : {A : Type 0} (xs ys : List A) → take (length xs) (xs ++ ys) ≡ xs
 take_front [] ys = refl
@@ -113,15 +117,36 @@ module _ (N : ℕ) (h : List PlainCommit) (words words' : List ℕ) (x : List �
     at_end : (W : List ℕ) → IsPrefix words' W → length W ≤ N → length W ≡ N
     at_end W p le = let sum : length (words' ++ p.0) ≡ length W = ap length p.1 in omega (arith, length-append words' p.0, sum)
 
+  -- an answer to a query
+  pub answers_rows : (st : Statement) (answer : Answer) → ReadsAs x st → IsAnswerFor h (resolved_at h st) answer → Answers N h h words words' x (reply.Rows (length h) 0 answer)
+  answers_rows st answer reads o = record {
+    lawful = λ H W g. record {
+      actions = [];
+      query = o.query;
+      sees = (omega arith, within H g.history, refl);
+      asks = resolves_on h H W N x st _ g.history reads o.resolved;
+      plus_is = refl;
+      formed = o.formed;
+      means = subst (λ g'. Means answer o.query g' []) (sym (first_commits h H g.history)) o.means;
+      in_pattern = subst (λ g'. IsSublist (map (λ r. r.cells) answer.rows) (pattern g' [] o.query)) (sym (first_commits h H g.history)) o.in_pattern;
+      next_is = stays h;
+    };
+    longer = longer;
+    room = room;
+    commits = nothing _ refl;
+    full = λ e. cc;
+    not_full = λ m e. cc;
+  }
+
   -- an offer that was committed
-  pub answers_committed : (commit : Commit) → AsksFor h x commit → (plain_commit commit).session ≡ 1 → (plain_commit commit).number ≡ length h → length words < N
-      → Answers N h (h ++ plain_commit commit ∷ []) words words' x (reply.Committed (length h + 1))
-  answers_committed commit o by number lt = record {
+  pub answers_committed : (mid : List ℕ) (st : Statement) (changes : ℕ) (commit : Commit) (tables : List TableView) → ReadsAs x st → IsOfferFor h mid (resolved_at h st) changes commit tables
+      → length words < N → Answers N h (h ++ plain_commit commit ∷ []) words words' x (reply.Committed (length h + 1))
+  answers_committed mid st changes commit tables reads o lt = record {
     lawful = λ H W g. record {
       action = o.action;
       commit = plain_commit commit;
       none_open = refl;
-      asks = subst (λ n. ResolvesTo H W N x n [] (Some (plain.Act o.action))) (sym (back (length h))) (resolves_on h H W N x o.statement _ (prefix_before h _ H g.history) o.reads o.resolved);
+      asks = subst (λ n. ResolvesTo H W N x n [] (Some (plain.Act o.action))) (sym (back (length h))) (resolves_on h H W N x st _ (prefix_before h _ H g.history) reads o.resolved);
       later = omega arith;
       stands = (omega arith, ap (slice_get H) (back (length h)) ∙ get_in_prefix (h ++ plain_commit commit ∷ []) H (length h) g.history (omega (arith, length-append h (plain_commit commit ∷ []))) ∙ last_of h (plain_commit commit));
       session = by;
@@ -138,6 +163,12 @@ module _ (N : ℕ) (h : List PlainCommit) (words words' : List ℕ) (x : List �
   } where
     back : (n : ℕ) → (n + 1) - 1 ≡ n
     back n = omega arith
+
+    by : (plain_commit commit).session ≡ 1
+    by = ap (λ c. c.session) o.ready.printed
+
+    number : (plain_commit commit).number ≡ length h
+    number = ap (λ c. c.number) o.ready.printed
 
     fresh_is : 0 ≡ 0 + drawn o.action
     fresh_is = let none = o.none_drawn in omega arith

@@ -2,28 +2,34 @@
 use Rattle.std.specs.Prelude.{◌≡◌, ◌≤◌, ◌<◌, ◌+◌, ℕ, List, [], ◌∷◌, ◌++◌, length, map, Option, Some, None, IsSome, IsTrue, All}
 use Rattle.ct_word.specs.declared.kinds.Class.TheVariants as class
 use Rattle.ct_word.specs.Value.{World}
+use Rattle.ct_word.specs.Sublist.{IsSublist}
 use Rattle.ct_word.specs.Change.{Create, PlainCommit}
 use Rattle.ct_word.specs.Reading.{commits_of, change_list_at}
 use Rattle.ct_word.specs.WellFormed.{IsWellFormed, is_place_of}
-use Rattle.ct_query.specs.Plain.{PlainAction, PlainStatement}
+use Rattle.ct_query.specs.Plain.{PlainQuery, PlainAction, PlainStatement}
 use Rattle.ct_query.specs.Plain as plain
 use Rattle.ct_query.specs.Worlds.{world}
 use Rattle.ct_query.specs.Agrees.{Agrees}
+use Rattle.ct_query.specs.Patterns.{pattern}
+use Rattle.ct_query.specs.declared.action.Ask.TheVariants as ask
 use Rattle.ct_query.specs.Schema.{schema}
 use Rattle.ct_rewrite.specs.declared.history.Commit.{Commit}
 use Rattle.ct_rewrite.specs.History.{plain_commit, plain_history, IsCommitFormed}
 use Rattle.ct_arena.specs.Seen.{Seen, Keeping}
 use Rattle.ct_table.specs.Denotes.{TableView, Denotes}
+use Rattle.ct_transcript.specs.declared.reply.Answer.{Answer}
+use Rattle.ct_transcript.specs.Means.{IsAnswer, Means}
 use Rattle.ct_transcript.specs.declared.reply.Reply.{Reply}
 use Rattle.ct_transcript.specs.declared.reply.Reply.TheVariants as reply
 use Rattle.ct_transcript.specs.declared.reply.Refusal.{Refusal}
 use Rattle.ct_transcript.specs.declared.reply.Refusal.TheVariants as refusal
+use Rattle.ct_serve.specs.declared.session.Prepared.{Prepared}
+use Rattle.ct_serve.specs.declared.session.Prepared.TheVariants as prepared
 use Rattle.ct_serve.specs.declared.statement.Statement.{Statement}
-use Rattle.ct_serve.specs.declared.statement.Statement.TheVariants as statement
 use Rattle.ct_serve.specs.declared.reading.ReadingError.{ReadingError}
 use Rattle.ct_serve.specs.declared.reading.ReadingError.TheVariants as reading
 use Rattle.ct_serve.specs.Statements.{ReadsAs, IsNoStatement}
-use Rattle.ct_serve.specs.Names.{resolve, columns_of, created_new}
+use Rattle.ct_serve.specs.Names.{resolve}
 use Rattle.ct_serve.specs.State.{drawn}
 
 -- every valuation is admitted by a history
@@ -53,14 +59,28 @@ pub record IsReady (h : List PlainCommit) (words : List ℕ) (changes : ℕ) (co
   pub denotes : Denotes words (h ++ plain_commit commit ∷ []) tables
   pub everywhere : IsAdmittedEverywhere (h ++ plain_commit commit ∷ [])
 
--- a text asks for an action, and the changes of a commit agree with it
-pub record AsksFor (h : List PlainCommit) (x : List ℕ) (commit : Commit) : Type 0 where
-  pub statement : Statement
+-- a change list, the commit that prints it, and the tables after it, for what a statement resolves to: an action with which the changes agree
+pub record IsOfferFor (h : List PlainCommit) (words : List ℕ) (r : Option PlainStatement) (changes : ℕ) (commit : Commit) (tables : List TableView) : Type 0 where
+  pub ready : IsReady h words changes commit tables
   pub action : PlainAction
-  pub reads : ReadsAs x statement
-  pub resolved : resolve (schema h []) statement ≡ Some (plain.Act action)
+  pub resolved : r ≡ Some (plain.Act action)
   pub none_drawn : drawn action ≡ 0
   pub agrees : Agrees h (action ∷ []) (plain_commit commit).changes
+
+-- an answer for what a statement resolves to: a query that the answer means, its rows being a part of the query's pattern
+pub record IsAnswerFor (h : List PlainCommit) (r : Option PlainStatement) (answer : Answer) : Type 0 where
+  pub query : PlainQuery
+  pub resolved : r ≡ Some (plain.Asks ask.Rows answer.columns query)
+  pub formed : IsAnswer answer
+  pub means : Means answer query h []
+  pub in_pattern : IsSublist (map (λ row. row.cells) answer.rows) (pattern h [] query)
+
+-- why a statement that resolves to this is refused: it does not fit the schema, the log is full, or memory was wanting
+abbrev pub IsRefusedAs : Option PlainStatement → ℕ → List ℕ → Refusal → Type 0
+IsRefusedAs r room words refusal.NotYet = r ≡ None
+IsRefusedAs r room words refusal.Full = (length words ≡ room) × IsSome r
+IsRefusedAs r room words refusal.Memory = Unit {0}
+IsRefusedAs r room words refusal.NotAStatement = ⊥
 
 -- what a commit did: one commit more, or nothing, where the log is full
 pub data CommitOf (room : ℕ) (words words' : List ℕ) (history : List Commit) (commit : Commit) : List Commit → Reply → Type 0 where
@@ -79,32 +99,26 @@ IsWant room words refusal.Memory = Unit {0}
 IsWant room words refusal.NotYet = ⊥
 IsWant room words refusal.NotAStatement = ⊥
 
--- the creation fits the schema
-abbrev pub FitsSchema : List PlainCommit → List ℕ → List (List ℕ) → Type 0
-FitsSchema h name columns = created_new (columns_of (schema h []).tables name) name columns ≡ Some (plain.Act (plain.Create name columns))
+-- what a statement resolves to at a history
+abbrev pub resolved_at : List PlainCommit → Statement → Option PlainStatement
+resolved_at h st = resolve (schema h []) st
 
--- the offer of a new table, which fits the schema
-pub record IsCreation (h : List PlainCommit) (words : List ℕ) (name : List ℕ) (columns : List (List ℕ)) (changes : ℕ) (commit : Commit) (tables : List TableView) : Type 0 where
-  pub table : IsNewTable h words name columns changes commit tables
-  pub fits : FitsSchema h name columns
+-- what a statement asks for, ready to be given
+abbrev pub IsPrepared : List PlainCommit → List ℕ → Option PlainStatement → Prepared → Type 0
+IsPrepared h words r (prepared.Commit offer) = IsOfferFor h words r offer.changes offer.commit offer.tables
+IsPrepared h words r (prepared.Answer answer) = IsAnswerFor h r answer
 
--- why there is no offer of a new table: it does not fit the schema, the log is full, or memory was wanting
-abbrev pub IsRefusedCreation : List PlainCommit → ℕ → List ℕ → List ℕ → List (List ℕ) → Refusal → Type 0
-IsRefusedCreation h room words name columns refusal.NotYet = created_new (columns_of (schema h []).tables name) name columns ≡ None
-IsRefusedCreation h room words name columns refusal.Full = (length words ≡ room) × FitsSchema h name columns
-IsRefusedCreation h room words name columns refusal.Memory = Unit {0}
-IsRefusedCreation h room words name columns refusal.NotAStatement = ⊥
-
--- an offer that a text asks for
-pub record IsOffered (h : List PlainCommit) (words : List ℕ) (x : List ℕ) (changes : ℕ) (commit : Commit) (tables : List TableView) : Type 0 where
-  pub ready : IsReady h words changes commit tables
-  pub asked : AsksFor h x commit
+-- a text is read as a statement that asks for this
+pub record IsPreparedText (h : List PlainCommit) (words : List ℕ) (x : List ℕ) (p : Prepared) : Type 0 where
+  pub statement : Statement
+  pub reads : ReadsAs x statement
+  pub prepared : IsPrepared h words (resolved_at h statement) p
 
 -- a text is read as a statement that resolves to this
 pub record Resolves (h : List PlainCommit) (x : List ℕ) (r : Option PlainStatement) : Type 0 where
   pub statement : Statement
   pub reads : ReadsAs x statement
-  pub resolved : resolve (schema h []) statement ≡ r
+  pub resolved : resolved_at h statement ≡ r
 
 -- why a text is refused
 abbrev pub IsRefusedText : List PlainCommit → ℕ → List ℕ → List ℕ → Refusal → Type 0
@@ -112,13 +126,6 @@ IsRefusedText h room words x refusal.NotAStatement = IsNoStatement x
 IsRefusedText h room words x refusal.NotYet = Resolves h x None
 IsRefusedText h room words x refusal.Full = (length words ≡ room) × ((st : PlainStatement) × Resolves h x (Some st))
 IsRefusedText h room words x refusal.Memory = Unit {0}
-
--- the offer of a statement, and why there is none
-abbrev pub IsResolved : List PlainCommit → List ℕ → Statement → ℕ → Commit → List TableView → Type 0
-IsResolved h words (statement.Create name columns) changes commit tables = IsCreation h words name columns changes commit tables
-
-abbrev pub IsRefusedStatement : List PlainCommit → ℕ → List ℕ → Statement → Refusal → Type 0
-IsRefusedStatement h room words (statement.Create name columns) why = IsRefusedCreation h room words name columns why
 
 -- why a text that is not read is refused
 abbrev pub unread_refusal : ReadingError → Refusal

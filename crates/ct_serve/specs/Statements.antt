@@ -1,5 +1,5 @@
 -- The statements that are built, and which texts are read as which statement.
-use Rattle.std.specs.Prelude.{◌≡◌, ℕ, Bool, true, false, ◌&&◌, List, [], ◌∷◌, map, codes, IsTrue}
+use Rattle.std.specs.Prelude.{◌≡◌, ℕ, ◌-◌, Bool, true, false, ◌&&◌, List, [], ◌∷◌, ◌++◌, map, codes, nat_eq, nat_le, slice_index_or, Option, Some, None, IsTrue, if◌then◌else◌}
 use Rattle.std.specs.List.{list_all}
 use Rattle.ct_word.specs.Writable.{is_name}
 use Rattle.ct_lex.specs.declared.token.Token.{Token}
@@ -7,6 +7,9 @@ use Rattle.ct_lex.specs.declared.token.Lexeme.{Lexeme}
 use Rattle.ct_lex.specs.declared.token.Lexeme.TheVariants as lexeme
 use Rattle.ct_lex.specs.declared.token.Symbol.TheVariants as symbol
 use Rattle.ct_lex.specs.Tokens.{Lexes}
+use Rattle.ct_serve.specs.declared.statement.Cell.{Cell}
+use Rattle.ct_serve.specs.declared.statement.Cell.TheVariants as cell
+use Rattle.ct_serve.specs.declared.statement.Equality.{Equality}
 use Rattle.ct_serve.specs.declared.statement.Statement.{Statement}
 use Rattle.ct_serve.specs.declared.statement.Statement.TheVariants as statement
 
@@ -14,25 +17,48 @@ use Rattle.ct_serve.specs.declared.statement.Statement.TheVariants as statement
 abbrev pub word : List ℕ → Lexeme
 word t = lexeme.Word t
 
+-- cell = Number | Null
+abbrev pub cell_said : Cell → Lexeme
+cell_said (cell.Number n) = lexeme.Number n
+cell_said (cell.Null t) = lexeme.Null t
+
 -- x {"," x} ")"
 abbrev pub closed_list : {X : Type 0} → (X → Lexeme) → List X → List Lexeme
 closed_list f [] = []
 closed_list f (x ∷ []) = f x ∷ lexeme.Symbol symbol.RightParen ∷ []
 closed_list f (x ∷ y ∷ xs) = f x ∷ lexeme.Symbol symbol.Comma ∷ closed_list f (y ∷ xs)
 
+-- [WHERE name "=" cell]
+abbrev pub filter_said : Option Equality → List Lexeme
+filter_said None = []
+filter_said (Some e) = word (codes "where") ∷ word e.column ∷ lexeme.Symbol symbol.Equal ∷ cell_said e.cell ∷ []
+
 -- statement = CREATE TABLE name "(" name {"," name} ")"
+--           | INSERT INTO name VALUES "(" cell {"," cell} ")"
+--           | SELECT "*" FROM name [WHERE name "=" cell]
 abbrev pub lexemes_of : Statement → List Lexeme
 lexemes_of (statement.Create name columns) =
     word (codes "create") ∷ word (codes "table") ∷ word name ∷ lexeme.Symbol symbol.LeftParen ∷ closed_list word columns
+lexemes_of (statement.Insert name cells) =
+    word (codes "insert") ∷ word (codes "into") ∷ word name ∷ word (codes "values") ∷ lexeme.Symbol symbol.LeftParen ∷ closed_list cell_said cells
+lexemes_of (statement.Select name filter) =
+    word (codes "select") ∷ lexeme.Symbol symbol.Star ∷ word (codes "from") ∷ word name ∷ filter_said filter
 
 -- whether a list has an item
 abbrev pub is_filled : {X : Type 0} → List X → Bool
 is_filled [] = false
 is_filled (x ∷ xs) = true
 
--- whether the names are names, and the list of columns not empty
+-- whether the column of a filter is a name
+abbrev pub is_filter_formed : Option Equality → Bool
+is_filter_formed None = true
+is_filter_formed (Some e) = is_name e.column
+
+-- whether the names are names, and the lists not empty
 abbrev pub is_formed : Statement → Bool
 is_formed (statement.Create name columns) = is_name name && is_filled columns && list_all is_name columns
+is_formed (statement.Insert name cells) = is_name name && is_filled cells
+is_formed (statement.Select name filter) = is_name name && is_filter_formed filter
 
 -- what tokens say, without their places
 abbrev pub said : List Token → List Lexeme
@@ -43,9 +69,25 @@ pub record Spells (words : List Lexeme) (st : Statement) : Type 0 where
   pub spelled : words ≡ lexemes_of st
   pub formed : IsTrue (is_formed st)
 
+-- how many digits a spelling has that begins with this byte: it may be a sign
+abbrev pub digits_in : ℕ → ℕ → ℕ
+digits_in first length = if nat_eq first 45 then length - 1 else length
+
+-- whether a lexeme that is spelled so is no number of more than 18 digits
+abbrev pub is_short_lexeme : Lexeme → ℕ → ℕ → Bool
+is_short_lexeme (lexeme.Number n) first length = nat_le (digits_in first length) 18
+is_short_lexeme _ first length = true
+
+-- whether a token of a text is no number of more than 18 digits
+abbrev pub is_short : List ℕ → Token → Bool
+is_short text t = is_short_lexeme t.word (slice_index_or text t.start 0) (t.end - t.start)
+
 -- a text is read as a statement
-abbrev pub ReadsAs : List ℕ → Statement → Type 0
-ReadsAs text st = (tokens : List Token) × Lexes text tokens × Spells (said tokens) st
+pub record ReadsAs (text : List ℕ) (st : Statement) : Type 0 where
+  pub tokens : List Token
+  pub lexes : Lexes text tokens
+  pub short : IsTrue (list_all (is_short text) tokens)
+  pub spells : Spells (said tokens) st
 
 -- a text is read as no statement
 abbrev pub IsNoStatement : List ℕ → Type 0
@@ -55,3 +97,8 @@ IsNoStatement text = (st : Statement) → ReadsAs text st → ⊥
 pub record ClosesNames (words : List Lexeme) (names : List (List ℕ)) : Type 0 where
   pub spelled : words ≡ closed_list word names
   pub formed : IsTrue (is_filled names && list_all is_name names)
+
+-- lexemes close a list of cells: one or more, commas between them, and a parenthesis
+pub record ClosesCells (words : List Lexeme) (cells : List Cell) : Type 0 where
+  pub spelled : words ≡ closed_list cell_said cells
+  pub formed : IsTrue (is_filled cells)

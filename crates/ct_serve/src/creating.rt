@@ -10,7 +10,7 @@ ghost use Rattle.ct_rewrite.specs.declared.history.Change.TheVariants as change;
 ghost use Rattle.ct_table.specs.Denotes.{Denotes, find_table};
 ghost use Rattle.ct_query.specs.Schema.{schema};
 ghost use Rattle.ct_serve.specs.Names.{has_repeat, created_new, columns_of};
-ghost use Rattle.ct_serve.specs.Catalogue.{IsAdmittedEverywhere, IsNewTable, IsWant, IsCreation, IsRefusedCreation};
+ghost use Rattle.ct_serve.specs.Catalogue.{IsAdmittedEverywhere, IsNewTable, IsWant, IsOfferFor, IsRefusedAs};
 
 use crate::session::{Offer, version};
 use ct_arena::{Arena, Pass, Site};
@@ -116,8 +116,8 @@ pub fn offer_table<N: Site>(
     requires everywhere { IsAdmittedEverywhere (plain_history history.now) }
     ensures longer { IsPrefix pass.old.words pass.new.words }
     ensures kept { kept_of pass.new ≡ kept_of pass.old }
-    ensures ok { IfOk result (λ offer. IsCreation (plain_history history.now) pass.new.words name columns offer.changes offer.commit offer.tables) }
-    ensures err { IfErr result (λ why. IsRefusedCreation (plain_history history.now) N.log.cap pass.new.words name columns why) }
+    ensures ok { IfOk result (λ offer. IsOfferFor (plain_history history.now) pass.new.words (created_new (columns_of (schema (plain_history history.now) []).tables name) name columns) offer.changes offer.commit offer.tables) }
+    ensures err { IfErr result (λ why. IsRefusedAs (created_new (columns_of (schema (plain_history history.now) []).tables name) name columns) N.log.cap pass.new.words why) }
 {
     if let Some(_) = tables.get(name.as_str()) {
         return Err(Refusal::NotYet);

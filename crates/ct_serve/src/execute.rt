@@ -5,12 +5,12 @@ ghost use mathlib.Core.List.{IsPrefix};
 ghost use Rattle.ct_history.specs.Kept.{kept_of};
 ghost use Rattle.ct_rewrite.specs.History.{plain_history};
 ghost use Rattle.ct_table.specs.Denotes.{Denotes};
-ghost use Rattle.ct_serve.specs.Catalogue.{IsCatalogue, IsAdmittedEverywhere, IsResolved, IsRefusedStatement, IsOffered, IsRefusedText, unread_refusal};
+ghost use Rattle.ct_serve.specs.Catalogue.{IsCatalogue, IsAdmittedEverywhere, IsPrepared, IsPreparedText, IsRefusedAs, IsRefusedText, resolved_at, unread_refusal};
 ghost use Rattle.ct_serve.specs.Progress.{Answers};
 
 use crate::creating::offer_table;
 use crate::reading::{ReadingError, read};
-use crate::session::{Offer, Session, commit, version};
+use crate::session::{Prepared, Session, commit, version};
 use crate::statement::Statement;
 use ct_arena::{Arena, Pass, Site};
 use ct_rewrite::Commit;
@@ -18,7 +18,7 @@ use ct_table::Db;
 use ct_transcript::{Refusal, Reply};
 use std::alloc::Global;
 
-/// What a text asks to be committed. The pass has the words of it.
+/// What a text asks for. The pass has the words of it.
 ///
 /// # Errors
 /// The refusal of the text.
@@ -29,13 +29,13 @@ fn prepare<N: Site>(
     tables: &Db,
     history: &[Commit],
     text: &str,
-) -> Result<Offer, Refusal>
+) -> Result<Prepared, Refusal>
     requires few { length history.now < 2 ^ 16 }
     requires denotes { Denotes pass.old.words (plain_history history.now) tables.now }
     requires everywhere { IsAdmittedEverywhere (plain_history history.now) }
     ensures longer { IsPrefix pass.old.words pass.new.words }
     ensures kept { kept_of pass.new ≡ kept_of pass.old }
-    ensures ok { IfOk result (λ offer. IsOffered (plain_history history.now) pass.new.words text.now offer.changes offer.commit offer.tables) }
+    ensures ok { IfOk result (λ p. IsPreparedText (plain_history history.now) pass.new.words text.now p) }
     ensures err { IfErr result (λ why. IsRefusedText (plain_history history.now) N.log.cap pass.new.words text.now why) }
 {
     match read(alloc, text) {
@@ -54,7 +54,7 @@ fn unread(e: ReadingError) -> Refusal
     }
 }
 
-/// What a statement asks to be committed. The pass has the words of it.
+/// What a statement asks for. The pass has the words of it.
 ///
 /// # Errors
 /// `NotYet` where a name does not fit the schema, `Full`, `Memory`.
@@ -65,19 +65,21 @@ fn resolve<N: Site>(
     tables: &Db,
     history: &[Commit],
     statement: Statement,
-) -> Result<Offer, Refusal>
+) -> Result<Prepared, Refusal>
     requires few { length history.now < 2 ^ 16 }
     requires denotes { Denotes pass.old.words (plain_history history.now) tables.now }
     requires everywhere { IsAdmittedEverywhere (plain_history history.now) }
     ensures longer { IsPrefix pass.old.words pass.new.words }
     ensures kept { kept_of pass.new ≡ kept_of pass.old }
-    ensures ok { IfOk result (λ offer. IsResolved (plain_history history.now) pass.new.words statement offer.changes offer.commit offer.tables) }
-    ensures err { IfErr result (λ why. IsRefusedStatement (plain_history history.now) N.log.cap pass.new.words statement why) }
+    ensures ok { IfOk result (λ p. IsPrepared (plain_history history.now) pass.new.words (resolved_at (plain_history history.now) statement) p) }
+    ensures err { IfErr result (λ why. IsRefusedAs (resolved_at (plain_history history.now) statement) N.log.cap pass.new.words why) }
 {
     match statement {
-        Statement::Create { name, columns } => {
-            offer_table(alloc, arena, pass, tables, history, name, columns)
-        }
+        Statement::Create { name, columns } => Ok(Prepared::Commit(offer_table(
+            alloc, arena, pass, tables, history, name, columns,
+        )?)),
+        Statement::Insert { .. } => Err(Refusal::NotYet),
+        Statement::Select { .. } => Err(Refusal::NotYet),
     }
 }
 
@@ -106,9 +108,14 @@ pub fn execute<N: Site>(
         session.history.as_slice(),
         text,
     ) {
-        Ok(offer) => {
+        Ok(Prepared::Commit(offer)) => {
             let _words = session.pass.words();
             commit(arena, session, offer)
+        }
+        Ok(Prepared::Answer(answer)) => {
+            let _words = session.pass.words();
+            let plus = 0;
+            (session, Reply::Rows { at, plus, answer })
         }
         Err(why) => {
             let _words = session.pass.words();

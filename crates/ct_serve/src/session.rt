@@ -8,7 +8,7 @@ ghost use Rattle.ct_serve.specs.Catalogue.{IsCatalogue, IsReady, CommitOf};
 use ct_arena::{Arena, KeeperPass, Pass, Site};
 use ct_rewrite::Commit;
 use ct_table::Db;
-use ct_transcript::{Refusal, Reply};
+use ct_transcript::{Answer, Refusal, Reply};
 
 /// The session's pass, the keeper's pass, the tables, and the commits as they are printed.
 #[derive(Drop)]
@@ -26,6 +26,13 @@ pub struct Offer {
     pub changes: u32,
     pub commit: Commit,
     pub tables: Db,
+}
+
+/// What a statement asks for, ready to be given: an offer to be committed, or an answer.
+#[derive(Drop)]
+pub enum Prepared {
+    Commit(Offer),
+    Answer(Answer),
 }
 
 /// The version after these commits: how many they are.

@@ -1,12 +1,12 @@
 use Rattle.std.proofs.Common.{sym, subst}
 use Rattle.ct_rewrite.specs.History.{plain_history}
 use Rattle.ct_serve.specs.Catalogue.{IsRefusedText}
-use Rattle.ct_serve.proofs.Answering.{resolved_offered, statement_refused, unread_refused, ok_on, err_on}
+use Rattle.ct_serve.proofs.Answering.{statement_refused, unread_refused, ok_on, err_on}
 use Rattle.ct_serve.proofs.execute.prepare.Goals as goal
 
 pub returns-in-Ok-clause-ok : goal.returns-in-Ok-clause-ok
 returns-in-Ok-clause-ok g c =
-    ok_on c.resolve.result _ _ (λ o. resolved_offered (plain_history c.args.history.now) c.resolve.new.pass.words c.args.text.now c.in-Ok.statement o.changes o.commit o.tables c.in-Ok.ensures.ok)
+    ok_on c.resolve.result _ _ (λ p prepared. record { statement = c.in-Ok.statement; reads = c.in-Ok.ensures.ok; prepared = prepared })
     c.resolve.ensures.ok
 
 pub returns-in-Ok-clause-err : goal.returns-in-Ok-clause-err
