@@ -89,10 +89,10 @@ had_room room seen words words' w p e le =
     omega (arith, length-append seen p.0, length-append words (w ∷ []), a, b)
 
 -- after the words of an offer
-pub prepared : (room : ℕ) (pass pass' : Seen) (keeper : Keeping) (tables : List TableView) (history history' : List Commit) → IsCatalogue room pass keeper tables history
+pub catalogue_stays : (room : ℕ) (pass pass' : Seen) (keeper : Keeping) (tables : List TableView) (history history' : List Commit) → IsCatalogue room pass keeper tables history
     → IsPrefix pass.words pass'.words → length pass'.words ≤ room → IsWellFormed pass'.words → kept_of pass' ≡ kept_of pass → history' ≡ history
     → IsCatalogue room pass' keeper tables history'
-prepared room pass pass' keeper tables history history' k longer within formed kept same =
+catalogue_stays room pass pass' keeper tables history history' k longer within formed kept same =
     let session : pass'.session ≡ pass.session = cc in
     let mine : pass'.mine ≡ pass.mine = cc in
     subst (λ h. IsCatalogue room pass' keeper tables h) (sym same)

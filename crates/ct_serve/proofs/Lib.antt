@@ -5,3 +5,4 @@ pub mod Offering
 pub mod ReadingLists
 pub mod Answering
 pub mod Alone
+pub mod NewRow

@@ -5,6 +5,8 @@ mod creating;
 mod driving;
 mod ending;
 mod execute;
+mod inserting;
+mod names;
 mod reading;
 mod serving;
 mod session;
