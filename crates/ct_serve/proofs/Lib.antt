@@ -6,3 +6,4 @@ pub mod ReadingLists
 pub mod Answering
 pub mod Alone
 pub mod NewRow
+pub mod Insertions

@@ -221,7 +221,7 @@ names_by_headings [] = refl
 names_by_headings (x ∷ db) = ap (λ ns. x.name ∷ ns) (names_by_headings db)
 
 -- the first table of a name has that name
-found_name : (name : List ℕ) (t : TableView) (db : List TableView) → find_table db name ≡ Some t → t.name ≡ name
+pub found_name : (name : List ℕ) (t : TableView) (db : List TableView) → find_table db name ≡ Some t → t.name ≡ name
 found_name name t [] f = let bad : None ≡ Some t = f in cc
 found_name name t (x ∷ db) f = by_test (same_text x.name name) refl (found_name name t db) where
   by_test : (b : Bool) → same_text x.name name ≡ b → (find_table db name ≡ Some t → t.name ≡ name) → t.name ≡ name
@@ -232,7 +232,7 @@ found_name name t (x ∷ db) f = by_test (same_text x.name name) refl (found_nam
   by_test false p rest = rest (sym (ap (λ b. if b then Some x else find_table db name) p) ∙ f)
 
 -- what is true of each table is true of the one that is found
-found_all : (P : TableView → Type 0) (name : List ℕ) (t : TableView) (db : List TableView) → AllByRecursion P db → find_table db name ≡ Some t → P t
+pub found_all : (P : TableView → Type 0) (name : List ℕ) (t : TableView) (db : List TableView) → AllByRecursion P db → find_table db name ≡ Some t → P t
 found_all P name t [] all f = let bad : None ≡ Some t = f in cc
 found_all P name t (x ∷ db) all f = by_test (same_text x.name name) refl (found_all P name t db all.1) where
   by_test : (b : Bool) → same_text x.name name ≡ b → (find_table db name ≡ Some t → P t) → P t
