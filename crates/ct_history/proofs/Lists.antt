@@ -1,12 +1,12 @@
 -- One more item of a list in the log.
 use Rattle.std.proofs.Common.{◌≡◌, ◌<◌, ◌+◌, ℕ, List, [], ◌∷◌, ◌++◌, Some, take, length, get_or, ap, sym, ◌∙◌}
 use Rattle.std.proofs.lemmas.List.{take_more}
-use Rattle.std.specs.Prelude.{IsTrue, slice_get}
+use Rattle.std.specs.Prelude.{IsTrue}
 use mathlib.Core.List.{IsPrefix}
 use Rattle.ct_word.specs.declared.kinds.Class.TheVariants as class
 use Rattle.ct_word.specs.declared.kinds.Kind.TheVariants as kind
 use Rattle.ct_word.specs.Change.{PlainChange, Create}
-use Rattle.ct_word.specs.Reading.{Meaning, IsText, IsNameList, IsChange, IsChangeList, as_text, as_name_list, as_change, as_change_list, by_kind, meanings, change_list_at}
+use Rattle.ct_word.specs.Reading.{IsText, IsNameList, IsChange, IsChangeList, as_text, as_name_list, as_change, as_change_list, by_kind, meanings, change_list_at}
 use Rattle.ct_word.specs.Stands.{StandsAt}
 use Rattle.ct_word.specs.WellFormed.{is_place_of}
 use Rattle.ct_word.proofs.Prefixes.{stands_in_prefix, meaning_in_prefix}

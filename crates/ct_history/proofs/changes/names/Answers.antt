@@ -1,7 +1,6 @@
-use Rattle.std.proofs.Common.{◌≡◌, ◌<◌, ◌++◌, [], ◌∷◌, take, length, get_or, ap, sym, refl, ◌∙◌, Some, arith}
+use Rattle.std.proofs.Common.{take, ap, sym, refl, ◌∙◌, Some}
 use Rattle.ct_word.specs.Reading.{IsNameList}
 use Rattle.ct_word.proofs.Packed.{true_both}
-use Rattle.ct_word.proofs.Growth.{place_grows}
 use Rattle.ct_word.proofs.Prefixes.{prefix_of_prefix, place_in_prefix}
 use Rattle.ct_word.specs.declared.kinds.Class.TheVariants as class
 use Rattle.ct_history.proofs.Lists.{name_added, take_one}

@@ -1,0 +1,14 @@
+-- Rows of places that can be put into the log.
+use Rattle.std.specs.Prelude.{ℕ, List, All, IsTrue}
+use Rattle.ct_word.specs.declared.kinds.Class.TheVariants as class
+use Rattle.ct_word.specs.declared.values.CRow.{CRow}
+use Rattle.ct_word.specs.WellFormed.{is_place_of}
+
+-- these are places of terms
+abbrev pub AreTerms : List ℕ → List ℕ → Type 0
+AreTerms words places = All (λ p. IsTrue (is_place_of words class.Term p)) places
+
+-- the cells of a row are places of terms, and its condition is a place of a condition
+pub record IsRowOf (words : List ℕ) (r : CRow) : Type 0 where
+  pub terms : AreTerms words r.cells
+  pub condition : IsTrue (is_place_of words class.Cond r.cond)
