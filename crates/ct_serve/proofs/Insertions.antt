@@ -1,7 +1,7 @@
 -- The offer of a row for a table that is there.
 use Rattle.std.proofs.Common.{◌≡◌, ℕ, ◌+◌, Bool, true, false, List, [], ◌∷◌, ◌++◌, length, map, refl, ap, sym, subst, ◌∙◌, arith}
 use Rattle.std.specs.Prelude.{Option, Some, None, IsSome, IsTrue, All, option_and_then, option_map, if◌then◌else◌, nat_eq, sum_by, count_by}
-use Rattle.std.proofs.lemmas.List.Elements.{All-push, All-nil}
+use Rattle.std.proofs.lemmas.List.Elements.{All-push, All-nil, recursion_from_All}
 use mathlib.Core.List.{IsPrefix}
 use Rattle.ct_word.specs.declared.kinds.Class.TheVariants as class
 use Rattle.ct_word.specs.declared.values.Term.{Term}
@@ -20,22 +20,41 @@ use Rattle.ct_query.specs.Database.{Database, SameSet}
 use Rattle.ct_query.specs.Step.{step_change, shown_rows}
 use Rattle.ct_query.specs.Worlds.{world, after_changes}
 use Rattle.ct_query.specs.Schema.{schema}
-use Rattle.ct_query.specs.Agrees.{Agrees}
+use Rattle.ct_query.specs.Agrees.{Agrees, SameTruthAlone}
+use Rattle.ct_history.specs.Rows.{IsRowOf}
 use Rattle.ct_query.proofs.Laws.{world_commit}
 use Rattle.ct_rewrite.specs.declared.answer.Node.TheVariants as node
 use Rattle.ct_rewrite.specs.declared.history.Commit.{Commit}
 use Rattle.ct_rewrite.specs.declared.history.Change.TheVariants as change
 use Rattle.ct_rewrite.specs.History.{plain_commit}
-use Rattle.ct_table.specs.Denotes.{TableView, heading_of, Denotes, find_table, with_table}
+use Rattle.ct_table.specs.Denotes.{TableView, heading_of, IsKept, Denotes, find_table, with_table}
 use Rattle.ct_table.specs.Tables.{cells_of, value_of_rows, IsRow, AreRows}
-use Rattle.ct_table.proofs.Denoting.{with_rows, inserted_denotes, denotes_grows}
+use Rattle.ct_table.proofs.Denoting.{with_rows, found_all, inserted_denotes, denotes_grows}
 use Rattle.ct_table.proofs.Growing.{row_grows, rows_grow, cells_grow, value_grows, is_row_grows}
 use Rattle.ct_serve.specs.declared.statement.Cell.{Cell}
 use Rattle.ct_serve.specs.declared.statement.Cell.TheVariants as cell
 use Rattle.ct_serve.specs.Names.{columns_of, inserted_into, term_of}
 use Rattle.ct_serve.specs.State.{drawn, is_fresh}
-use Rattle.ct_serve.specs.Catalogue.{IsAdmittedEverywhere, IsReady, IsOfferFor}
+use Rattle.ct_serve.specs.Catalogue.{IsAdmittedEverywhere, IsReady, IsOfferFor, row_commit}
 use Rattle.ct_serve.proofs.Offering.{columns_found}
+
+-- what is true of an item is true of each item of the list of it
+pub one_of : {A : Type 0} (P : A → Type 0) (x : A) → P x → All P (x ∷ [])
+one_of P x p = All-push P [] x (All-nil P) p
+
+-- a row of a table can be put into the log
+pub row_of_places : (words : List ℕ) (width : ℕ) (r : CRow) → IsRow words width r → IsRowOf words r
+row_of_places words width r is = record { terms = is.terms; condition = is.condition }
+
+-- the rows of a table that is found are well formed
+pub rows_of_found : (words : List ℕ) (h : List PlainCommit) (db : List TableView) (d : Denotes words h db) (name : List ℕ) (t : TableView) → find_table db name ≡ Some t
+    → AreRows words (length t.columns) t.rows
+rows_of_found words h db d name t found = (found_all (IsKept words h) name t db (recursion_from_All (IsKept words h) db d.kept) found).rows
+
+-- the tables with a table put in, by its parts
+pub table_put : (db : List TableView) (name name' : List ℕ) (t : TableView) (columns : List (List ℕ)) (rows : List CRow) → name ≡ name' → columns ≡ t.columns
+    → with_table db (record { name = name; columns = columns; rows = rows }) ≡ with_table db (with_rows name' t rows)
+table_put db name name' t columns rows e f = λ i. with_table db (record { name = e i; columns = f i; rows = rows })
 
 -- no cell is a fresh null
 none_fresh : (cells : List Cell) → count_by is_fresh (map term_of cells) ≡ 0
@@ -43,11 +62,7 @@ none_fresh [] = refl
 none_fresh (cell.Number n ∷ cells) = none_fresh cells
 none_fresh (cell.Null t ∷ cells) = none_fresh cells
 
--- the commit that prints a row under the condition true
-abbrev pub row_commit : ℕ → List ℕ → List Term → Commit
-row_commit number name ts =
-    record { session = 1; number = number; nodes = node.True ∷ []; changes = change.Insert name (record { cells = ts; cond = 0 } ∷ []) ∷ [] }
-
+-- the row of these terms under the condition true
 abbrev row_under_true : List Term → PlainRow
 row_under_true ts = record { cells = ts; condition = True }
 
@@ -122,7 +137,7 @@ row_offered h words name cells ts r changes number tables e fits ready = record 
   action = plain.InsertRows name (map term_of cells ∷ []) True;
   resolved = fits;
   none_drawn = let none = none_fresh cells in omega arith;
-  agrees = ((refl, ap (λ x. x ∷ []) e, All-push _ [] _ (All-nil _) (λ v. refl)), tt);
+  agrees = ((refl, ap (λ x. x ∷ []) e, one_of (λ x. SameTruthAlone x.condition True) (row_under_true ts) (λ v. refl)), tt);
 }
 
 module _ (h : List PlainCommit) (words : List ℕ) (db : List TableView) (d : Denotes words h db) (name : List ℕ) (cells : List Cell) where

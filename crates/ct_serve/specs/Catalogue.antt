@@ -1,6 +1,7 @@
 -- The tables, the commits and the log of one session that has the catalogue to itself.
 use Rattle.std.specs.Prelude.{◌≡◌, ◌≤◌, ◌<◌, ◌+◌, ℕ, List, [], ◌∷◌, ◌++◌, length, map, Option, Some, None, IsSome, IsTrue, All}
 use Rattle.ct_word.specs.declared.kinds.Class.TheVariants as class
+use Rattle.ct_word.specs.declared.values.Term.{Term}
 use Rattle.ct_word.specs.Value.{World}
 use Rattle.ct_word.specs.Sublist.{IsSublist}
 use Rattle.ct_word.specs.Change.{Create, PlainCommit}
@@ -13,6 +14,8 @@ use Rattle.ct_query.specs.Agrees.{Agrees}
 use Rattle.ct_query.specs.Patterns.{pattern}
 use Rattle.ct_query.specs.declared.action.Ask.TheVariants as ask
 use Rattle.ct_query.specs.Schema.{schema}
+use Rattle.ct_rewrite.specs.declared.answer.Node.TheVariants as node
+use Rattle.ct_rewrite.specs.declared.history.Change.TheVariants as change
 use Rattle.ct_rewrite.specs.declared.history.Commit.{Commit}
 use Rattle.ct_rewrite.specs.History.{plain_commit, plain_history, IsCommitFormed}
 use Rattle.ct_arena.specs.Seen.{Seen, Keeping}
@@ -91,6 +94,11 @@ pub data CommitOf (room : ℕ) (words words' : List ℕ) (history : List Commit)
 pub record IsNewTable (h : List PlainCommit) (words : List ℕ) (name : List ℕ) (columns : List (List ℕ)) (changes : ℕ) (commit : Commit) (tables : List TableView) : Type 0 where
   pub ready : IsReady h words changes commit tables
   pub change : (plain_commit commit).changes ≡ Create name columns ∷ []
+
+-- the commit that prints the insertion of a row of these terms under the condition true
+abbrev pub row_commit : ℕ → List ℕ → List Term → Commit
+row_commit number name terms =
+    record { session = 1; number = number; nodes = node.True ∷ []; changes = change.Insert name (record { cells = terms; cond = 0 } ∷ []) ∷ [] }
 
 -- why there is no offer: the log is full, or memory was wanting
 abbrev pub IsWant : ℕ → List ℕ → Refusal → Type 0

@@ -6,19 +6,19 @@ ghost use Rattle.std.specs.List.{list_any};
 ghost use Rattle.ct_word.specs.Value.{same_text};
 ghost use Rattle.ct_history.specs.Kept.{kept_of};
 ghost use Rattle.ct_rewrite.specs.History.{plain_history};
-ghost use Rattle.ct_rewrite.specs.declared.history.Change.TheVariants as change;
 ghost use Rattle.ct_table.specs.Denotes.{Denotes, find_table};
 ghost use Rattle.ct_query.specs.Schema.{schema};
 ghost use Rattle.ct_serve.specs.Names.{has_repeat, created_new, columns_of};
 ghost use Rattle.ct_serve.specs.Catalogue.{IsAdmittedEverywhere, IsNewTable, IsWant, IsOfferFor, IsRefusedAs};
 
+use crate::lists::commit_of;
 use crate::session::{Offer, version};
 use ct_arena::{Arena, Pass, Site};
 use ct_history::{create, no_changes};
 use ct_rewrite::{Change, Commit};
 use ct_table::{CTable, Db};
 use ct_transcript::Refusal;
-use ct_word::{List, Memory, Text};
+use ct_word::{List, Text};
 use std::alloc::Global;
 
 /// Whether a name stands twice.
@@ -39,20 +39,6 @@ fn is_among(name: &Text, others: &[Text]) -> bool
     ensures { result ≡ list_any (same_text name.now) others.now }
 {
     others.iter().any(|other| *other == *name)
-}
-
-/// A commit of the one session with one change, all of whose conditions are true.
-fn single(alloc: Global, number: u32, change: Change) -> Result<Commit, Memory>
-    ensures { IfOk result (λ c. c ≡ record { session = 1; number = number; nodes = []; changes = change ∷ [] }) }
-{
-    let mut changes = Vec::new(alloc);
-    changes.push(change)?;
-    Ok(Commit {
-        session: 1,
-        number,
-        nodes: List::new(alloc),
-        changes: List::from_vec(changes),
-    })
 }
 
 /// The offer of a table whose name is new. The pass has its words.
@@ -90,7 +76,12 @@ fn new_table<N: Site>(
         Ok(changes) => changes,
         Err(_) => return Err(Refusal::Full),
     };
-    let commit = single(alloc, version(history), Change::Create { name, columns })?;
+    let commit = commit_of(
+        alloc,
+        version(history),
+        List::new(alloc),
+        Change::Create { name, columns },
+    )?;
     Ok(Offer {
         changes,
         commit,

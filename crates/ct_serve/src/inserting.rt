@@ -1,6 +1,6 @@
 // INSERT: the offer of a row.
 
-ghost use Rattle.std.specs.Prelude.{◌≡◌, ◌<◌, ◌^◌, [], ◌∷◌, ◌++◌, map, length, IfOk, IfErr, Some, All, IsTrue};
+ghost use Rattle.std.specs.Prelude.{◌≡◌, ◌⊎◌, ◌<◌, ◌^◌, [], ◌∷◌, ◌++◌, map, length, IfOk, IfErr, Some, All, IsTrue};
 ghost use mathlib.Core.List.{IsPrefix};
 ghost use Rattle.ct_word.specs.Condition.{True};
 ghost use Rattle.ct_word.specs.Change.{PlainRow};
@@ -14,15 +14,17 @@ ghost use Rattle.ct_table.specs.Shared.{view_of};
 ghost use Rattle.ct_table.specs.Denotes.{Denotes, find_table};
 ghost use Rattle.ct_table.specs.declared.error.TableError.TheVariants as fault;
 ghost use Rattle.ct_condition.specs.Terms.{FitsFields};
+ghost use Rattle.ct_transcript.specs.declared.reply.Refusal.TheVariants as refusal;
 ghost use Rattle.ct_serve.specs.Names.{columns_of, inserted_into, term_of};
-ghost use Rattle.ct_serve.specs.Catalogue.{IsAdmittedEverywhere, IsWant, IsOfferFor, IsRefusedAs};
+ghost use Rattle.ct_serve.specs.Catalogue.{IsAdmittedEverywhere, IsReady, IsWant, IsOfferFor, IsRefusedAs, row_commit};
 
+use crate::lists::{commit_of, list_of_one};
 use crate::names::as_term;
 use crate::session::{Offer, version};
 use crate::statement::Cell;
 use ct_arena::{Arena, Pass, Site};
 use ct_condition::term as put_term;
-use ct_history::no_changes;
+use ct_history::{insert as insert_change, no_changes};
 use ct_rewrite::{AnswerRow, Change, Commit, Node};
 use ct_table::{CRow, CTable, Db, TableError, insert};
 use ct_transcript::Refusal;
@@ -71,10 +73,75 @@ fn row_of<N: Site>(
     })
 }
 
+/// The commit that prints a row of these terms under the condition true.
+fn printed(alloc: Global, number: u32, name: Text, terms: List<Term>) -> Result<Commit, Memory>
+    ensures { IfOk result (λ c. c ≡ row_commit number name terms) }
+{
+    let nodes = list_of_one(alloc, Node::True)?;
+    let row = AnswerRow {
+        cells: terms,
+        cond: 0,
+    };
+    let rows = list_of_one(alloc, row)?;
+    commit_of(alloc, number, nodes, Change::Insert { name, rows })
+}
+
 /// The refusal for want of room or memory.
-pub fn wanting(e: TableError) -> Refusal {
+fn wanting(e: TableError) -> Refusal
+    ensures full { result ≡ refusal.Full → e ≡ fault.Full }
+    ensures memory { (result ≡ refusal.Full) ⊎ (result ≡ refusal.Memory) }
+{
     match e {
         TableError::Full => Refusal::Full,
         TableError::Memory => Refusal::Memory,
     }
+}
+
+/// The offer of a row of these terms for a table that is there. The pass has its words.
+///
+/// # Errors
+/// `Full` where the log has no room, `Memory`.
+fn new_row<N: Site>(
+    alloc: Global,
+    arena: &Arena<N>,
+    pass: &mut Pass<N>,
+    tables: &Db,
+    table: &CTable,
+    history: &[Commit],
+    name: Text,
+    terms: List<Term>,
+) -> Result<Offer, Refusal>
+    requires few { length history.now < 2 ^ 16 }
+    requires denotes { Denotes pass.old.words (plain_history history.now) tables.now }
+    requires everywhere { IsAdmittedEverywhere (plain_history history.now) }
+    requires found { find_table tables.now name ≡ Some (view_of name table.now) }
+    requires fits { All FitsFields terms }
+    requires width { length terms ≡ length table.now.columns }
+    ensures longer { IsPrefix pass.old.words pass.new.words }
+    ensures kept { kept_of pass.new ≡ kept_of pass.old }
+    ensures ready { IfOk result (λ offer. IsReady (plain_history history.now) pass.new.words offer.changes offer.commit offer.tables) }
+    ensures commit { IfOk result (λ offer. offer.commit ≡ row_commit (length history.now) name terms) }
+    ensures err { IfErr result (λ why. IsWant N.log.cap pass.new.words why) }
+{
+    let row = row_of(alloc, arena, pass, terms.as_slice())?;
+    let rows = [row];
+    let table = match insert(alloc, arena, pass, table, &rows) {
+        Ok(table) => table,
+        Err(e) => return Err(wanting(e)),
+    };
+    let tables = tables.with(alloc, name.clone()?, table)?;
+    let list = match no_changes(arena, pass) {
+        Ok(list) => list,
+        Err(_) => return Err(Refusal::Full),
+    };
+    let changes = match insert_change(arena, pass, list, name.as_str(), &rows) {
+        Ok(changes) => changes,
+        Err(_) => return Err(Refusal::Full),
+    };
+    let commit = printed(alloc, version(history), name, terms)?;
+    Ok(Offer {
+        changes,
+        commit,
+        tables,
+    })
 }

@@ -6,6 +6,7 @@ mod driving;
 mod ending;
 mod execute;
 mod inserting;
+mod lists;
 mod names;
 mod reading;
 mod serving;

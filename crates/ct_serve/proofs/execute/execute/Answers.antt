@@ -49,7 +49,7 @@ returns-in-Ok-Answer-clause-answers g c =
 pub returns-in-Ok-Commit-clause-answers : goal.returns-in-Ok-Commit-clause-answers
 returns-in-Ok-Commit-clause-answers g c =
     let offered = subst (λ hs. IsPreparedText (plain_history hs) c.prepare.new.pass.words c.args.text.now (prepared.Commit c.in-Ok-Commit.offer)) c.as_slice-2.ensures.value
-        (subst (λ p. IsPreparedText (plain_history c.as_slice-2.result.now) c.prepare.new.pass.words c.args.text.now p) c.in-Ok-Commit.field-0-is c.in-Ok-Commit.ensures.ok) in
+    (subst (λ p. IsPreparedText (plain_history c.as_slice-2.result.now) c.prepare.new.pass.words c.args.text.now p) c.in-Ok-Commit.field-0-is c.in-Ok-Commit.ensures.ok) in
     subst (λ h. Answers g.N.Site.log.cap (plain_history h) (plain_history c.commit.result.0.history.items) c.args.session.pass.words c.commit.result.0.pass.words c.args.text.now c.commit.result.1) c.reserve.ensures.items
     (offer_answers g.N.Site.log.cap c.reserve.new.self.items c.commit.result.0.history.items c.args.session.pass.words c.prepare.new.pass.words c.commit.result.0.pass.words c.args.text.now
     c.in-Ok-Commit.offer.changes c.in-Ok-Commit.offer.commit c.in-Ok-Commit.offer.tables c.commit.result.1
