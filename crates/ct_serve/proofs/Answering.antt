@@ -77,6 +77,10 @@ pub ok_on : {T E : Type 0} (r : Result T E) (P Q : T → Type 0) → ((t : T) �
 ok_on (Ok t) P Q f p = f t p
 ok_on (Err e) P Q f p = tt
 
+pub ok_both : {T E : Type 0} (r : Result T E) (P Q R : T → Type 0) → ((t : T) → P t → Q t → R t) → IfOk r P → IfOk r Q → IfOk r R
+ok_both (Ok t) P Q R f p q = f t p q
+ok_both (Err e) P Q R f p q = tt
+
 pub err_on : {T E : Type 0} (r : Result T E) (P Q : E → Type 0) → ((e : E) → P e → Q e) → IfErr r P → IfErr r Q
 err_on (Ok t) P Q f p = tt
 err_on (Err e) P Q f p = f e p

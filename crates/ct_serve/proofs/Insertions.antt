@@ -1,7 +1,8 @@
 -- The offer of a row for a table that is there.
 use Rattle.std.proofs.Common.{◌≡◌, ℕ, ◌+◌, Bool, true, false, List, [], ◌∷◌, ◌++◌, length, map, refl, ap, sym, subst, ◌∙◌, arith}
 use Rattle.std.specs.Prelude.{Option, Some, None, IsSome, IsTrue, All, option_and_then, option_map, if◌then◌else◌, nat_eq, sum_by, count_by}
-use Rattle.std.proofs.lemmas.List.Elements.{All-push, All-nil, recursion_from_All}
+use Rattle.std.proofs.lemmas.Bool.{eqb-true, eq-eqb}
+use Rattle.std.proofs.lemmas.List.Elements.{All-cons, All-push, All-nil, recursion_from_All}
 use mathlib.Core.List.{IsPrefix}
 use Rattle.ct_word.specs.declared.kinds.Class.TheVariants as class
 use Rattle.ct_word.specs.declared.values.Term.{Term}
@@ -21,6 +22,7 @@ use Rattle.ct_query.specs.Step.{step_change, shown_rows}
 use Rattle.ct_query.specs.Worlds.{world, after_changes}
 use Rattle.ct_query.specs.Schema.{schema}
 use Rattle.ct_query.specs.Agrees.{Agrees, SameTruthAlone}
+use Rattle.ct_condition.specs.Terms.{FitsFields}
 use Rattle.ct_history.specs.Rows.{IsRowOf}
 use Rattle.ct_query.proofs.Laws.{world_commit}
 use Rattle.ct_rewrite.specs.declared.answer.Node.TheVariants as node
@@ -61,6 +63,12 @@ none_fresh : (cells : List Cell) → count_by is_fresh (map term_of cells) ≡ 0
 none_fresh [] = refl
 none_fresh (cell.Number n ∷ cells) = none_fresh cells
 none_fresh (cell.Null t ∷ cells) = none_fresh cells
+
+-- the terms of cells have room in words
+pub cells_fit : (cells : List Cell) → All FitsFields (map term_of cells)
+cells_fit [] = All-nil FitsFields
+cells_fit (cell.Number n ∷ cells) = All-cons FitsFields (term_of (cell.Number n)) (map term_of cells) tt (cells_fit cells)
+cells_fit (cell.Null t ∷ cells) = All-cons FitsFields (term_of (cell.Null t)) (map term_of cells) tt (cells_fit cells)
 
 -- the row of these terms under the condition true
 abbrev row_under_true : List Term → PlainRow
@@ -149,9 +157,14 @@ module _ (h : List PlainCommit) (words : List ℕ) (db : List TableView) (d : De
   pub no_table : find_table db name ≡ None → inserted_into (columns_of (schema h []).tables name) name cells ≡ None
   no_table e = resolved_in None e
 
-  pub other_count : (t : TableView) → find_table db name ≡ Some t → nat_eq (length cells) (length t.columns) ≡ false → inserted_into (columns_of (schema h []).tables name) name cells ≡ None
-  other_count t e c = resolved_in (Some t) e ∙ ap (λ b. if b then Some (plain.Act (plain.InsertRows name (map term_of cells ∷ []) True)) else None) c
+  pub other_count : (t : TableView) → find_table db name ≡ Some t → (length cells ≡ length t.columns → ⊥) → inserted_into (columns_of (schema h []).tables name) name cells ≡ None
+  other_count t e c = resolved_in (Some t) e ∙ by_test (nat_eq (length cells) (length t.columns)) refl where
+    by_test : (b : Bool) → nat_eq (length cells) (length t.columns) ≡ b → (if b then Some (plain.Act (plain.InsertRows name (map term_of cells ∷ []) True)) else None) ≡ None
+    by_test true p = absurd (c (eqb-true _ _ p))
+    by_test false p = refl
 
-  pub fits_row : (t : TableView) → find_table db name ≡ Some t → nat_eq (length cells) (length t.columns) ≡ true
+  pub fits_row : (t : TableView) → find_table db name ≡ Some t → length cells ≡ length t.columns
       → inserted_into (columns_of (schema h []).tables name) name cells ≡ Some (plain.Act (plain.InsertRows name (map term_of cells ∷ []) True))
-  fits_row t e c = resolved_in (Some t) e ∙ ap (λ b. if b then Some (plain.Act (plain.InsertRows name (map term_of cells ∷ []) True)) else None) c
+  fits_row t e c =
+      resolved_in (Some t) e
+      ∙ ap (λ b. if b then Some (plain.Act (plain.InsertRows name (map term_of cells ∷ []) True)) else None) (eq-eqb (length cells) (length t.columns) c)

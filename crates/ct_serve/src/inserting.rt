@@ -145,3 +145,35 @@ fn new_row<N: Site>(
         tables,
     })
 }
+
+/// The offer of a row of these cells. The pass has its words.
+///
+/// # Errors
+/// `NotYet` where no table has the name or the table has another number of columns, `Full` where the log has no room,
+/// `Memory`.
+pub fn offer_row<N: Site>(
+    alloc: Global,
+    arena: &Arena<N>,
+    pass: &mut Pass<N>,
+    tables: &Db,
+    history: &[Commit],
+    name: Text,
+    cells: List<Cell>,
+) -> Result<Offer, Refusal>
+    requires few { length history.now < 2 ^ 16 }
+    requires denotes { Denotes pass.old.words (plain_history history.now) tables.now }
+    requires everywhere { IsAdmittedEverywhere (plain_history history.now) }
+    ensures longer { IsPrefix pass.old.words pass.new.words }
+    ensures kept { kept_of pass.new ≡ kept_of pass.old }
+    ensures ok { IfOk result (λ offer. IsOfferFor (plain_history history.now) pass.new.words (inserted_into (columns_of (schema (plain_history history.now) []).tables name) name cells) offer.changes offer.commit offer.tables) }
+    ensures err { IfErr result (λ why. IsRefusedAs (inserted_into (columns_of (schema (plain_history history.now) []).tables name) name cells) N.log.cap pass.new.words why) }
+{
+    let Some(table) = tables.get(name.as_str()) else {
+        return Err(Refusal::NotYet);
+    };
+    if cells.as_slice().len() != table.columns.as_slice().len() {
+        return Err(Refusal::NotYet);
+    }
+    let terms = List::from_vec(terms(alloc, cells.as_slice())?);
+    new_row(alloc, arena, pass, tables, table, history, name, terms)
+}
