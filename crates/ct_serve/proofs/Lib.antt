@@ -4,4 +4,5 @@ pub mod Committing
 pub mod Offering
 pub mod ReadingLists
 pub mod Answering
+pub mod Printed
 pub mod Alone

@@ -1,6 +1,7 @@
 pub mod Statements
 pub mod Names
 pub mod State
+pub mod Printed
 pub mod LawfulReply
 pub mod Sessions
 pub mod Progress

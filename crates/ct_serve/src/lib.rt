@@ -5,6 +5,7 @@ mod creating;
 mod driving;
 mod ending;
 mod execute;
+mod printing;
 mod reading;
 mod serving;
 mod session;
