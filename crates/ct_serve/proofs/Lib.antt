@@ -5,4 +5,5 @@ pub mod Offering
 pub mod ReadingLists
 pub mod Answering
 pub mod Printed
+pub mod Selected
 pub mod Alone
