@@ -4,6 +4,8 @@ pub mod Committing
 pub mod Offering
 pub mod ReadingLists
 pub mod Answering
+pub mod Printed
+pub mod Selected
 pub mod Alone
 pub mod NewRow
 pub mod Insertions

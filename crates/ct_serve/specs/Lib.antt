@@ -1,6 +1,8 @@
 pub mod Statements
 pub mod Names
 pub mod State
+pub mod Printed
+pub mod Selected
 pub mod LawfulReply
 pub mod Sessions
 pub mod Progress

@@ -1,0 +1,112 @@
+// SELECT: the answer to a query of the rows of one table.
+
+ghost use Rattle.std.specs.Prelude.{◌≡◌, ◌<◌, ◌^◌, [], length, IfOk, IfErr};
+ghost use mathlib.Core.List.{IsPrefix};
+ghost use Rattle.ct_query.specs.Schema.{schema};
+ghost use Rattle.ct_history.specs.Kept.{kept_of};
+ghost use Rattle.ct_rewrite.specs.History.{plain_history};
+ghost use Rattle.ct_table.specs.Denotes.{Denotes};
+ghost use Rattle.ct_table.specs.Tables.{AreRows};
+ghost use Rattle.ct_serve.specs.Catalogue.{IsAdmittedEverywhere, IsAnswerFor, IsRefusedAs, IsWant};
+ghost use Rattle.ct_serve.specs.Names.{columns_of, selected_from};
+ghost use Rattle.ct_serve.specs.Printed.{IsPrinted};
+ghost use Rattle.ct_serve.specs.Selected.{IsFiltered};
+
+use crate::names::{as_term, position_of};
+use crate::printing::answer_of;
+use crate::statement::{Cell, Equality};
+use ct_arena::{Arena, Pass, Site};
+use ct_condition::term;
+use ct_rewrite::Commit;
+use ct_table::{CTable, Db, TableError, select};
+use ct_transcript::{Answer, Refusal};
+use ct_word::Memory;
+use std::alloc::Global;
+
+/// The answer of all rows of a table.
+///
+/// # Errors
+/// `Memory` where there is none for the answer.
+fn answer_all<N: Site>(alloc: Global, pass: &Pass<N>, table: &CTable) -> Result<Answer, Memory>
+    requires { AreRows pass.now.words (length table.now.columns) table.now.rows }
+    ensures { IfOk result (IsPrinted pass.now.words table.now.columns table.now.rows) }
+{
+    let columns = table.columns.clone()?;
+    answer_of(alloc, pass.words(), columns, table.rows.as_slice())
+}
+
+/// The answer of the rows of a table that have a cell's value in a column, each under the condition that it has. The
+/// pass has the words of the conditions.
+///
+/// # Errors
+/// `Full` where the log has no room, `Memory`.
+fn answer_where<N: Site>(
+    alloc: Global,
+    arena: &Arena<N>,
+    pass: &mut Pass<N>,
+    table: &CTable,
+    column: u32,
+    cell: &Cell,
+) -> Result<Answer, Refusal>
+    requires rows { AreRows pass.old.words (length table.now.columns) table.now.rows }
+    requires column { column < length table.now.columns }
+    ensures longer { IsPrefix pass.old.words pass.new.words }
+    ensures kept { kept_of pass.new ≡ kept_of pass.old }
+    ensures ok { IfOk result (IsFiltered pass.old.words table.now.columns table.now.rows column cell.now) }
+    ensures err { IfErr result (λ why. IsWant N.log.cap pass.new.words why) }
+{
+    let value = as_term(cell)?;
+    let place = match term(arena, pass, &value) {
+        Ok(place) => place,
+        Err(_) => return Err(Refusal::Full),
+    };
+    let CTable { columns, rows } = match select(alloc, arena, pass, column, place, table) {
+        Ok(chosen) => chosen,
+        Err(TableError::Full) => return Err(Refusal::Full),
+        Err(TableError::Memory) => return Err(Refusal::Memory),
+    };
+    Ok(answer_of(alloc, pass.words(), columns, rows.as_slice())?)
+}
+
+/// A position as a column's. A table of 2^32 columns would not fit any memory of today.
+fn column(position: usize) -> Result<u32, Memory>
+    ensures { IfOk result (λ column. column ≡ position) }
+{
+    u32::try_from(position).map_err(|_| Memory)
+}
+
+/// The answer to a query of a table's rows, all or those that a filter asks for. The pass has the words of it.
+///
+/// # Errors
+/// `NotYet` where there is no such table or column, `Full` where the log has no room, `Memory`.
+pub fn answer_select<N: Site>(
+    alloc: Global,
+    arena: &Arena<N>,
+    pass: &mut Pass<N>,
+    tables: &Db,
+    history: &[Commit],
+    name: &str,
+    filter: Option<Equality>,
+) -> Result<Answer, Refusal>
+    requires denotes { Denotes pass.old.words (plain_history history.now) tables.now }
+    requires everywhere { IsAdmittedEverywhere (plain_history history.now) }
+    ensures longer { IsPrefix pass.old.words pass.new.words }
+    ensures kept { kept_of pass.new ≡ kept_of pass.old }
+    ensures ok { IfOk result (IsAnswerFor (plain_history history.now) (selected_from (columns_of (schema (plain_history history.now) []).tables name.now) name.now filter)) }
+    ensures err { IfErr result (λ why. IsRefusedAs (selected_from (columns_of (schema (plain_history history.now) []).tables name.now) name.now filter) N.log.cap pass.new.words why) }
+{
+    let Some(table) = tables.get(name) else {
+        return Err(Refusal::NotYet);
+    };
+    let Some(equality) = filter else {
+        return Ok(answer_all(alloc, pass, table)?);
+    };
+    let Some(position) = position_of(table.columns.as_slice(), equality.column.as_str()) else {
+        return Err(Refusal::NotYet);
+    };
+    let column = column(position)?;
+    match answer_where(alloc, arena, pass, table, column, &equality.cell) {
+        Ok(answer) => Ok(answer),
+        Err(why) => Err(why),
+    }
+}
