@@ -3,5 +3,6 @@ pub mod Offers
 pub mod Committing
 pub mod Offering
 pub mod ReadingLists
+pub mod Keywords
 pub mod Answering
 pub mod Alone

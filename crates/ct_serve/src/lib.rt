@@ -5,10 +5,12 @@ mod creating;
 mod driving;
 mod ending;
 mod execute;
+mod lexemes;
 mod reading;
 mod serving;
 mod session;
 mod statement;
+mod words;
 
 pub use driving::run;
 pub use ending::{Run, Status};
