@@ -3,6 +3,7 @@ pub mod Offers
 pub mod Committing
 pub mod Offering
 pub mod ReadingLists
+pub mod Keywords
 pub mod Answering
 pub mod Printed
 pub mod Selected

@@ -28,21 +28,37 @@ closed_list f [] = []
 closed_list f (x ∷ []) = f x ∷ lexeme.Symbol symbol.RightParen ∷ []
 closed_list f (x ∷ y ∷ xs) = f x ∷ lexeme.Symbol symbol.Comma ∷ closed_list f (y ∷ xs)
 
+-- TABLE name "(" before these lexemes
+abbrev pub table_said : List ℕ → List Lexeme → List Lexeme
+table_said name ws = word (codes "table") ∷ word name ∷ lexeme.Symbol symbol.LeftParen ∷ ws
+
+-- INTO name VALUES "(" before these lexemes
+abbrev pub into_said : List ℕ → List Lexeme → List Lexeme
+into_said name ws = word (codes "into") ∷ word name ∷ word (codes "values") ∷ lexeme.Symbol symbol.LeftParen ∷ ws
+
+-- "*" FROM name before these lexemes
+abbrev pub from_said : List ℕ → List Lexeme → List Lexeme
+from_said name ws = lexeme.Symbol symbol.Star ∷ word (codes "from") ∷ word name ∷ ws
+
+-- WHERE name "=" and this lexeme
+abbrev pub where_said : List ℕ → Lexeme → List Lexeme
+where_said name w = word (codes "where") ∷ word name ∷ lexeme.Symbol symbol.Equal ∷ w ∷ []
+
 -- [WHERE name "=" cell]
 abbrev pub filter_said : Option Equality → List Lexeme
 filter_said None = []
-filter_said (Some e) = word (codes "where") ∷ word e.column ∷ lexeme.Symbol symbol.Equal ∷ cell_said e.cell ∷ []
+filter_said (Some e) = where_said e.column (cell_said e.cell)
 
 -- statement = CREATE TABLE name "(" name {"," name} ")"
 --           | INSERT INTO name VALUES "(" cell {"," cell} ")"
 --           | SELECT "*" FROM name [WHERE name "=" cell]
 abbrev pub lexemes_of : Statement → List Lexeme
 lexemes_of (statement.Create name columns) =
-    word (codes "create") ∷ word (codes "table") ∷ word name ∷ lexeme.Symbol symbol.LeftParen ∷ closed_list word columns
+    word (codes "create") ∷ table_said name (closed_list word columns)
 lexemes_of (statement.Insert name cells) =
-    word (codes "insert") ∷ word (codes "into") ∷ word name ∷ word (codes "values") ∷ lexeme.Symbol symbol.LeftParen ∷ closed_list cell_said cells
+    word (codes "insert") ∷ into_said name (closed_list cell_said cells)
 lexemes_of (statement.Select name filter) =
-    word (codes "select") ∷ lexeme.Symbol symbol.Star ∷ word (codes "from") ∷ word name ∷ filter_said filter
+    word (codes "select") ∷ from_said name (filter_said filter)
 
 -- whether a list has an item
 abbrev pub is_filled : {X : Type 0} → List X → Bool
@@ -93,12 +109,24 @@ pub record ReadsAs (text : List ℕ) (st : Statement) : Type 0 where
 abbrev pub IsNoStatement : List ℕ → Type 0
 IsNoStatement text = (st : Statement) → ReadsAs text st → ⊥
 
--- lexemes close a list of names: one or more, commas between them, and a parenthesis
-pub record ClosesNames (words : List Lexeme) (names : List (List ℕ)) : Type 0 where
-  pub spelled : words ≡ closed_list word names
-  pub formed : IsTrue (is_filled names && list_all is_name names)
+-- lexemes close a list: one item or more that pass, commas between them, and a parenthesis
+pub record Closes {X : Type 0} (f : X → Lexeme) (passes : X → Bool) (words : List Lexeme) (items : List X) : Type 0 where
+  pub spelled : words ≡ closed_list f items
+  pub formed : IsTrue (is_filled items && list_all passes items)
 
--- lexemes close a list of cells: one or more, commas between them, and a parenthesis
-pub record ClosesCells (words : List Lexeme) (cells : List Cell) : Type 0 where
-  pub spelled : words ≡ closed_list cell_said cells
-  pub formed : IsTrue (is_filled cells)
+-- lexemes close a list of names
+abbrev pub ClosesNames : List Lexeme → List (List ℕ) → Type 0
+ClosesNames words names = Closes word is_name words names
+
+-- any cell passes
+abbrev pub is_cell : Cell → Bool
+is_cell c = true
+
+-- lexemes close a list of cells
+abbrev pub ClosesCells : List Lexeme → List Cell → Type 0
+ClosesCells words cells = Closes cell_said is_cell words cells
+
+-- lexemes are the filter of a SELECT, or there is none
+pub record Filters (words : List Lexeme) (filter : Option Equality) : Type 0 where
+  pub spelled : words ≡ filter_said filter
+  pub formed : IsTrue (is_filter_formed filter)

@@ -6,6 +6,7 @@ mod driving;
 mod ending;
 mod execute;
 mod inserting;
+mod lexemes;
 mod lists;
 mod names;
 mod printing;
@@ -14,6 +15,7 @@ mod selecting;
 mod serving;
 mod session;
 mod statement;
+mod words;
 
 pub use driving::run;
 pub use ending::{Run, Status};

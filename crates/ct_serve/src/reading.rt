@@ -1,17 +1,16 @@
 // How a text is read as a statement.
 
-ghost use Rattle.std.specs.Prelude.{◌≡◌, ◌≢◌, ◌↔◌, ◌||◌, ℕ, List, [], ◌∷◌, map, IfOk, IfErr, IfSome, IfNone, IsErrOf, IsTrue};
-ghost use Rattle.std.specs.List.{list_all, list_any};
-ghost use Rattle.ct_word.specs.Value.{same_text};
-ghost use Rattle.ct_word.specs.Writable as writable;
+ghost use Rattle.std.specs.Prelude.{◌≡◌, ◌≢◌, ℕ, List, ◌∷◌, Option, IfOk, IfErr, IfSome, IfNone, IsTrue, codes};
 ghost use Rattle.ct_lex.specs.declared.token.Lexeme.{Lexeme as LexemeValue};
-ghost use Rattle.ct_lex.specs.declared.token.Lexeme.TheVariants as lexical;
-ghost use Rattle.ct_lex.specs.declared.token.Symbol.TheVariants as symbolic;
-ghost use Rattle.ct_serve.specs.Statements.{said, ReadsAs, IsNoStatement, Spells, ClosesNames};
+ghost use Rattle.ct_word.specs.Writable as writable;
+ghost use Rattle.ct_serve.specs.Statements.{word, said, cell_said, table_said, into_said, from_said, where_said, ReadsAs, IsNoStatement, Spells, ClosesNames, ClosesCells, Filters};
+ghost use Rattle.ct_serve.specs.declared.statement.Cell.{Cell as CellValue};
+ghost use Rattle.ct_serve.specs.declared.statement.Equality.{Equality as EqualityValue};
 ghost use Rattle.ct_serve.specs.declared.statement.Statement.{Statement as StatementValue};
 ghost use Rattle.ct_serve.specs.declared.reading.ReadingError.TheVariants as fault;
 
-use crate::statement::Statement;
+use crate::lexemes::{are_short, behind_symbol, behind_word, front, front_name, front_word, is_closed, only};
+use crate::statement::{Cell, Equality, Statement};
 use ct_lex::{LexError, Lexeme, Symbol, Token, tokens};
 use ct_word::{List, Memory, Text};
 use std::alloc::{AllocError, AllocFailed, Global};
@@ -51,178 +50,18 @@ impl<T: Drop> From<AllocFailed<T>> for ReadingError {
     }
 }
 
-/// The first token and the rest.
-fn front(tokens: &[Token]) -> Option<(&Token, &[Token])>
-    ensures some { IfSome result (λ p. tokens.now ≡ p.0.now ∷ p.1.now) }
-    ensures none { IfNone result (tokens.now ≡ []) }
-{
-    match tokens {
-        [first, rest @ ..] => Some((first, rest)),
-        [] => None,
-    }
-}
-
-/// The words that are no names.
-const KEYWORDS: [&str; 34] = [
-    "and",
-    "as",
-    "assert",
-    "begin",
-    "certain",
-    "commit",
-    "create",
-    "delete",
-    "distinct",
-    "except",
-    "exists",
-    "false",
-    "from",
-    "if",
-    "inner",
-    "insert",
-    "intersect",
-    "into",
-    "join",
-    "not",
-    "null",
-    "on",
-    "or",
-    "possible",
-    "rollback",
-    "select",
-    "set",
-    "table",
-    "true",
-    "union",
-    "update",
-    "values",
-    "where",
-    "worlds",
-];
-
-fn says_word(lexeme: &Lexeme, word: &str) -> bool
-    ensures { IsTrue result ↔ (lexeme.now ≡ lexical.Word word.now) }
+/// The cell that a token is.
+///
+/// # Errors
+/// `NotAStatement` where it is none, and `Memory`.
+fn cell(alloc: Global, lexeme: &Lexeme) -> Result<Cell, ReadingError>
+    ensures ok { IfOk result (λ c. lexeme.now ≡ cell_said c) }
+    ensures none { IfErr result (λ e. e ≢ fault.Memory → (c : CellValue) → lexeme.now ≡ cell_said c → ⊥) }
 {
     match lexeme {
-        Lexeme::Word(text) => text.as_str() == word,
-        _ => false,
-    }
-}
-
-fn says_symbol(lexeme: &Lexeme, symbol: Symbol) -> bool
-    ensures { IsTrue result ↔ (lexeme.now ≡ lexical.Symbol symbol) }
-{
-    match lexeme {
-        Lexeme::Symbol(other) => *other == symbol,
-        _ => false,
-    }
-}
-
-/// The name that a lexeme is.
-fn name_said(lexeme: &Lexeme) -> Option<&str>
-    ensures some { IfSome result (λ t. lexeme.now ≡ lexical.Word t.now) }
-    ensures name { IfSome result (λ t. IsTrue (writable.is_name t.now)) }
-    ensures none { IfNone result ((t : List ℕ) → IsTrue (writable.is_name t) → lexeme.now ≡ lexical.Word t → ⊥) }
-{
-    match lexeme {
-        Lexeme::Word(text) if is_name(text.as_str()) => Some(text.as_str()),
-        _ => None,
-    }
-}
-
-fn is_letter(byte: u8) -> bool
-    ensures { result ≡ writable.is_letter byte }
-{
-    (b'a' <= byte && byte <= b'z') || byte == b'_'
-}
-
-fn goes_on(byte: u8) -> bool
-    ensures { result ≡ (writable.is_letter byte || writable.is_digit byte) }
-{
-    is_letter(byte) || (b'0' <= byte && byte <= b'9')
-}
-
-fn all_go_on(bytes: &[u8]) -> bool
-    ensures { result ≡ list_all (λ c. writable.is_letter c || writable.is_digit c) bytes.now }
-{
-    bytes.iter().all(|byte| goes_on(*byte))
-}
-
-fn is_word(text: &str) -> bool
-    ensures { result ≡ writable.is_word text.now }
-{
-    let bytes = text.as_bytes();
-    !bytes.is_empty() && is_letter(bytes[0]) && all_go_on(&bytes[1..])
-}
-
-fn contains(words: &[&str], word: &str) -> bool
-    ensures { result ≡ list_any (same_text word.now) (map (λ w. w.now) words.now) }
-{
-    let mut rest = words;
-    while let [other, after @ ..] = rest {
-        if word == *other {
-            return true;
-        }
-        rest = after;
-    }
-    false
-}
-
-fn is_keyword(word: &str) -> bool
-    ensures { result ≡ list_any (same_text word.now) writable.keywords }
-{
-    contains(&KEYWORDS, word)
-}
-
-fn is_name(text: &str) -> bool
-    ensures { result ≡ writable.is_name text.now }
-{
-    is_word(text) && !is_keyword(text)
-}
-
-/// The tokens behind this word, where it stands in front.
-fn behind_word<'a>(tokens: &'a [Token], word: &str) -> Option<&'a [Token]>
-    ensures some { IfSome result (λ r. said tokens.now ≡ lexical.Word word.now ∷ said r.now) }
-    ensures none { IfNone result ((r : List LexemeValue) → said tokens.now ≡ lexical.Word word.now ∷ r → ⊥) }
-{
-    let (first, rest) = front(tokens)?;
-    if says_word(&first.word, word) {
-        Some(rest)
-    } else {
-        None
-    }
-}
-
-/// The tokens behind this symbol, where it stands in front.
-fn behind_symbol(tokens: &[Token], symbol: Symbol) -> Option<&[Token]>
-    ensures some { IfSome result (λ r. said tokens.now ≡ lexical.Symbol symbol ∷ said r.now) }
-    ensures none { IfNone result ((r : List LexemeValue) → said tokens.now ≡ lexical.Symbol symbol ∷ r → ⊥) }
-{
-    let (first, rest) = front(tokens)?;
-    if says_symbol(&first.word, symbol) {
-        Some(rest)
-    } else {
-        None
-    }
-}
-
-/// The name in front, and the tokens behind it.
-fn front_name(tokens: &[Token]) -> Option<(&str, &[Token])>
-    ensures some { IfSome result (λ p. said tokens.now ≡ lexical.Word p.0.now ∷ said p.1.now) }
-    ensures name { IfSome result (λ p. IsTrue (writable.is_name p.0.now)) }
-    ensures none { IfNone result ((t : List ℕ) (r : List LexemeValue) → IsTrue (writable.is_name t) → said tokens.now ≡ lexical.Word t ∷ r → ⊥) }
-{
-    let (first, rest) = front(tokens)?;
-    let name = name_said(&first.word)?;
-    Some((name, rest))
-}
-
-fn is_closed(tokens: &[Token]) -> bool
-    ensures { IsTrue result ↔ (said tokens.now ≡ lexical.Symbol symbolic.RightParen ∷ []) }
-{
-    match behind_symbol(tokens, Symbol::RightParen) {
-        Some(rest) => rest.is_empty(),
-        None => false,
+        Lexeme::Number(number) => Ok(Cell::Number(*number)),
+        Lexeme::Null(name) => Ok(Cell::Null(Text::from_str(alloc, name.as_str())?)),
+        _ => Err(ReadingError::NotAStatement),
     }
 }
 
@@ -252,29 +91,154 @@ fn closed_names(alloc: Global, tokens: &[Token]) -> Result<List<Text>, ReadingEr
     }
 }
 
-/// A statement that makes a table.
+/// The cells up to the parenthesis that closes them.
 ///
 /// # Errors
-/// `NotAStatement` where the tokens spell none, and `Memory`.
-fn create(alloc: Global, tokens: &[Token]) -> Result<Statement, ReadingError>
-    ensures ok { IfOk result (λ st. Spells (said tokens.now) st) }
-    ensures none { IfErr result (λ e. e ≢ fault.Memory → (st : StatementValue) → Spells (said tokens.now) st → ⊥) }
+/// `NotAStatement` where the tokens are no such list, and `Memory`.
+fn closed_cells(alloc: Global, tokens: &[Token]) -> Result<List<Cell>, ReadingError>
+    ensures ok { IfOk result (λ cells. ClosesCells (said tokens.now) cells) }
+    ensures none { IfErr result (λ e. e ≢ fault.Memory → (cells : List CellValue) → ClosesCells (said tokens.now) cells → ⊥) }
 {
-    let Some(behind_create) = behind_word(tokens, "create") else {
+    let mut cells = Vec::new(alloc);
+    let mut rest = tokens;
+    loop {
+        let Some((first, behind)) = front(rest) else {
+            return Err(ReadingError::NotAStatement);
+        };
+        cells.push(cell(alloc, first)?)?;
+        let Some(after) = behind_symbol(behind, Symbol::Comma) else {
+            return if is_closed(behind) {
+                Ok(List::from_vec(cells))
+            } else {
+                Err(ReadingError::NotAStatement)
+            };
+        };
+        rest = after;
+    }
+}
+
+/// The name in `TABLE name (`, and the tokens behind it.
+fn create_front(tokens: &[Token]) -> Option<(&str, &[Token])>
+    ensures some { IfSome result (λ p. said tokens.now ≡ table_said p.0.now (said p.1.now)) }
+    ensures name { IfSome result (λ p. IsTrue (writable.is_name p.0.now)) }
+    ensures none { IfNone result ((t : List ℕ) (r : List LexemeValue) → IsTrue (writable.is_name t) → said tokens.now ≡ table_said t r → ⊥) }
+{
+    let (name, rest) = front_name(behind_word(tokens, "table")?)?;
+    Some((name, behind_symbol(rest, Symbol::LeftParen)?))
+}
+
+/// The name in `INTO name VALUES (`, and the tokens behind it.
+fn insert_front(tokens: &[Token]) -> Option<(&str, &[Token])>
+    ensures some { IfSome result (λ p. said tokens.now ≡ into_said p.0.now (said p.1.now)) }
+    ensures name { IfSome result (λ p. IsTrue (writable.is_name p.0.now)) }
+    ensures none { IfNone result ((t : List ℕ) (r : List LexemeValue) → IsTrue (writable.is_name t) → said tokens.now ≡ into_said t r → ⊥) }
+{
+    let (name, rest) = front_name(behind_word(tokens, "into")?)?;
+    let rest = behind_word(rest, "values")?;
+    Some((name, behind_symbol(rest, Symbol::LeftParen)?))
+}
+
+/// The name in `* FROM name`, and the tokens behind it.
+fn select_front(tokens: &[Token]) -> Option<(&str, &[Token])>
+    ensures some { IfSome result (λ p. said tokens.now ≡ from_said p.0.now (said p.1.now)) }
+    ensures name { IfSome result (λ p. IsTrue (writable.is_name p.0.now)) }
+    ensures none { IfNone result ((t : List ℕ) (r : List LexemeValue) → IsTrue (writable.is_name t) → said tokens.now ≡ from_said t r → ⊥) }
+{
+    let rest = behind_symbol(tokens, Symbol::Star)?;
+    front_name(behind_word(rest, "from")?)
+}
+
+/// The column and the cell's token in `WHERE column = cell`, with nothing behind it.
+fn filter_parts(tokens: &[Token]) -> Option<(&str, &Lexeme)>
+    ensures some { IfSome result (λ p. said tokens.now ≡ where_said p.0.now p.1.now) }
+    ensures name { IfSome result (λ p. IsTrue (writable.is_name p.0.now)) }
+    ensures none { IfNone result ((t : List ℕ) (w : LexemeValue) → IsTrue (writable.is_name t) → said tokens.now ≡ where_said t w → ⊥) }
+{
+    let (column, rest) = front_name(behind_word(tokens, "where")?)?;
+    Some((column, only(behind_symbol(rest, Symbol::Equal)?)?))
+}
+
+/// The filter behind a table's name, if there is one.
+///
+/// # Errors
+/// `NotAStatement` where the tokens are no filter, and `Memory`.
+fn filter(alloc: Global, tokens: &[Token]) -> Result<Option<Equality>, ReadingError>
+    ensures ok { IfOk result (λ f. Filters (said tokens.now) f) }
+    ensures none { IfErr result (λ e. e ≢ fault.Memory → (f : Option EqualityValue) → Filters (said tokens.now) f → ⊥) }
+{
+    if tokens.is_empty() {
+        return Ok(None);
+    }
+    let Some((column, lexeme)) = filter_parts(tokens) else {
         return Err(ReadingError::NotAStatement);
     };
-    let Some(behind_table) = behind_word(behind_create, "table") else {
-        return Err(ReadingError::NotAStatement);
-    };
-    let Some((name, behind_name)) = front_name(behind_table) else {
-        return Err(ReadingError::NotAStatement);
-    };
-    let Some(inside) = behind_symbol(behind_name, Symbol::LeftParen) else {
+    let cell = cell(alloc, lexeme)?;
+    let column = Text::from_str(alloc, column)?;
+    Ok(Some(Equality { column, cell }))
+}
+
+/// What the tokens behind CREATE make a statement of.
+///
+/// # Errors
+/// `NotAStatement` where they make none, and `Memory`.
+fn create(alloc: Global, tokens: &[Token]) -> Result<Statement, ReadingError>
+    ensures ok { IfOk result (λ st. Spells (word (codes "create") ∷ said tokens.now) st) }
+    ensures none { IfErr result (λ e. e ≢ fault.Memory → (st : StatementValue) → Spells (word (codes "create") ∷ said tokens.now) st → ⊥) }
+{
+    let Some((name, inside)) = create_front(tokens) else {
         return Err(ReadingError::NotAStatement);
     };
     let columns = closed_names(alloc, inside)?;
     let name = Text::from_str(alloc, name)?;
     Ok(Statement::Create { name, columns })
+}
+
+/// What the tokens behind INSERT make a statement of.
+///
+/// # Errors
+/// `NotAStatement` where they make none, and `Memory`.
+fn insert(alloc: Global, tokens: &[Token]) -> Result<Statement, ReadingError>
+    ensures ok { IfOk result (λ st. Spells (word (codes "insert") ∷ said tokens.now) st) }
+    ensures none { IfErr result (λ e. e ≢ fault.Memory → (st : StatementValue) → Spells (word (codes "insert") ∷ said tokens.now) st → ⊥) }
+{
+    let Some((name, inside)) = insert_front(tokens) else {
+        return Err(ReadingError::NotAStatement);
+    };
+    let cells = closed_cells(alloc, inside)?;
+    let name = Text::from_str(alloc, name)?;
+    Ok(Statement::Insert { name, cells })
+}
+
+/// What the tokens behind SELECT make a statement of.
+///
+/// # Errors
+/// `NotAStatement` where they make none, and `Memory`.
+fn select(alloc: Global, tokens: &[Token]) -> Result<Statement, ReadingError>
+    ensures ok { IfOk result (λ st. Spells (word (codes "select") ∷ said tokens.now) st) }
+    ensures none { IfErr result (λ e. e ≢ fault.Memory → (st : StatementValue) → Spells (word (codes "select") ∷ said tokens.now) st → ⊥) }
+{
+    let Some((name, behind)) = select_front(tokens) else {
+        return Err(ReadingError::NotAStatement);
+    };
+    let filter = filter(alloc, behind)?;
+    let name = Text::from_str(alloc, name)?;
+    Ok(Statement::Select { name, filter })
+}
+
+/// The statement that tokens spell: its first word tells its kind.
+///
+/// # Errors
+/// `NotAStatement` where they spell none, and `Memory`.
+fn spelled(alloc: Global, tokens: &[Token]) -> Result<Statement, ReadingError>
+    ensures ok { IfOk result (λ st. Spells (said tokens.now) st) }
+    ensures none { IfErr result (λ e. e ≢ fault.Memory → (st : StatementValue) → Spells (said tokens.now) st → ⊥) }
+{
+    match front_word(tokens) {
+        Some(("create", rest)) => create(alloc, rest),
+        Some(("insert", rest)) => insert(alloc, rest),
+        Some(("select", rest)) => select(alloc, rest),
+        _ => Err(ReadingError::NotAStatement),
+    }
 }
 
 /// The statement that a text is read as.
@@ -285,10 +249,15 @@ pub fn read(alloc: Global, text: &str) -> Result<Statement, ReadingError>
     ensures ok { IfOk result (λ st. ReadsAs text.now st) }
     ensures none { IfErr result (λ e. e ≢ fault.Memory → IsNoStatement text.now) }
 {
-    match tokens(alloc, text) {
-        Ok(tokens) => create(alloc, tokens.as_slice()),
-        Err(LexError::Memory) => Err(ReadingError::Memory),
-        Err(_) => Err(ReadingError::NotAStatement),
+    let tokens = match tokens(alloc, text) {
+        Ok(tokens) => tokens,
+        Err(LexError::Memory) => return Err(ReadingError::Memory),
+        Err(_) => return Err(ReadingError::NotAStatement),
+    };
+    if are_short(text, tokens.as_slice()) {
+        spelled(alloc, tokens.as_slice())
+    } else {
+        Err(ReadingError::NotAStatement)
     }
 }
 

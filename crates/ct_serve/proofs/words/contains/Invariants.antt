@@ -1,7 +1,7 @@
 use Rattle.std.proofs.Common.{◌≡◌, length, map}
 use Rattle.std.specs.List.{list_any}
 use Rattle.ct_word.specs.Value.{same_text}
-use Rattle.ct_serve.proofs.reading.contains.Given as goal
+use Rattle.ct_serve.proofs.words.contains.Given as goal
 
 abbrev pub invariant-loop-rest : goal.invariant-loop-rest
 invariant-loop-rest l = list_any (same_text l.word) (map (λ w. w.now) l.rest) ≡ list_any (same_text l.word) (map (λ w. w.now) l.words)
