@@ -1,5 +1,5 @@
 -- Which file the words of a run name, what a script is, and what a run does.
-use Rattle.std.specs.Prelude.{◌≡◌, ℕ, ◌≤◌, ◌⊎◌, Bool, true, false, List, [], ◌∷◌, length, map, codes, Option, Some, None, IfSome, if◌then◌else◌}
+use Rattle.std.specs.Prelude.{◌≡◌, ℕ, ◌≤◌, ◌⊎◌, Bool, true, false, List, [], ◌∷◌, length, map, codes, Option, Some, None, IfSome, MatchOption, if◌then◌else◌}
 use Rattle.std.specs.List.{list_any}
 use Rattle.std.specs.Str.{IsUtf8}
 use Rattle.ct_word.specs.Value.{same_text}
@@ -33,6 +33,17 @@ pub record IsScript (bytes : List ℕ) : Type 0 where
   pub short : length bytes ≤ SCRIPT_BYTES
   pub utf8 : IsUtf8 bytes
   pub few : length (texts bytes) ≤ SCRIPT_STATEMENTS
+
+-- where a source tells, bytes are held under the name, and they are no script
+abbrev pub HoldsNoScript : Option Held → List ℕ → Type 0
+HoldsNoScript told name = IfSome told (λ held. MatchOption (held name) ⊥ (λ bytes. IsScript bytes → ⊥))
+
+-- this is the one script served, and where a source tells, what it holds under the name
+pub record IsScriptOf (told : Option Held) (name : List ℕ) (scripts : List (List ℕ)) : Type 0 where
+  pub script : List ℕ
+  pub held : Holds told name script
+  pub is_script : IsScript script
+  pub alone : scripts ≡ script ∷ []
 
 -- the transcript without sessions, commits and words
 abbrev pub empty_transcript : Transcript
@@ -73,7 +84,7 @@ pub record Outside : Type 0 where
 -- a lawful transcript of one session, whose script is what the source tells under the name of its file
 pub record IsServed (N : ℕ) (o : Outside) (t : Transcript) : Type 0 where
   pub lawful : Lawful t N
-  pub script : IfSome o.file (λ file. (text : List ℕ) × Holds o.held file text × (map (λ s. s.script) t.sessions ≡ text ∷ []))
+  pub script : IfSome o.file (λ file. IsScriptOf o.held file (map (λ s. s.script) t.sessions))
 
 -- exactly the lines of the transcript were added, one call a line
 pub record IsWritten (o : Outside) (t : Transcript) : Type 0 where

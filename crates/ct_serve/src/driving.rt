@@ -8,7 +8,7 @@ ghost use Rattle.ct_outside.specs.Outside.{Rose, Holds, Added};
 ghost use Rattle.ct_outside.specs.Writes.{joined};
 ghost use Rattle.ct_transcript.specs.Text.{lines_of};
 ghost use Rattle.ct_serve.specs.Lawful.{Lawful};
-ghost use Rattle.ct_serve.specs.Runs.{file_of, IsScript, is_refusal, is_memory, some_reply, IsOutcome, Printed, Promise, empty_transcript};
+ghost use Rattle.ct_serve.specs.Runs.{file_of, IsScript, IsScriptOf, HoldsNoScript, is_refusal, is_memory, some_reply, IsOutcome, Printed, Promise, empty_transcript};
 ghost use Rattle.ct_serve.specs.declared.ending.Status.TheVariants as status;
 ghost use Rattle.ct_serve.specs.declared.driving.Unserved.TheVariants as unserved;
 
@@ -61,10 +61,15 @@ fn file_named<'a>(words: &[&'a str]) -> Option<&'a str>
 /// # Errors
 /// `Script` only where they are none, `Memory` for want of memory.
 fn as_script(alloc: Global, bytes: Vec<u8>) -> Result<Text, Unserved>
-    ensures ok { IfOk result (λ script. (script ≡ bytes.items) × (length (texts script) ≤ 65535)) }
-    ensures err { IfErr result (λ e. e ≡ unserved.Script → IsScript bytes.items → ⊥) }
-    ensures words { IfErr result (λ e. (e ≡ unserved.Words → ⊥) × (e ≡ unserved.ReadFault → ⊥)) }
+    ensures same { IfOk result (λ script. script ≡ bytes.items) }
+    ensures script { IfOk result (λ script. IsScript script) }
+    ensures no_script { IfErr result (λ e. e ≡ unserved.Script → IsScript bytes.items → ⊥) }
+    ensures others { IfErr result (λ e. (e ≡ unserved.Words → ⊥) × (e ≡ unserved.ReadFault → ⊥)) }
 {
+    // A source that tells nothing may give more than the limit.
+    if bytes.len() > SCRIPT_BYTES as usize {
+        return Err(Unserved::Script);
+    }
     let Ok(text) = String::from_utf8(bytes) else {
         return Err(Unserved::Script);
     };
@@ -85,10 +90,11 @@ fn served<S: Scripts>(
     words: &[&str],
     scripts: &mut S,
 ) -> Result<Transcript, Unserved>
-    ensures ok { IfOk result (λ transcript. Lawful transcript 262144) }
-    ensures script { IfOk result (λ transcript. IfSome (file_of (map (λ w. w.now) words.now)) (λ file. (script : List ℕ) × Holds (S.held scripts.old) file script × (map (λ s. s.script) transcript.sessions ≡ script ∷ []))) }
+    ensures lawful { IfOk result (λ transcript. Lawful transcript 262144) }
+    ensures script { IfOk result (λ transcript. IfSome (file_of (map (λ w. w.now) words.now)) (λ file. IsScriptOf (S.held scripts.old) file (map (λ s. s.script) transcript.sessions))) }
     ensures words { (result ≡ Err unserved.Words) ↔ (file_of (map (λ w. w.now) words.now) ≡ None) }
     ensures read { IfErr result (λ e. e ≡ unserved.ReadFault → Rose (S.faults scripts.old) (S.faults scripts.new)) }
+    ensures no_script { IfErr result (λ e. e ≡ unserved.Script → IfSome (file_of (map (λ w. w.now) words.now)) (HoldsNoScript (S.held scripts.old))) }
 {
     let Some(file) = file_named(words) else {
         return Err(Unserved::Words);
@@ -190,6 +196,7 @@ fn no_transcript(alloc: Global) -> Transcript
 fn status_of(e: Unserved) -> Status
     ensures words { (result ≡ status.Words) ↔ (e ≡ unserved.Words) }
     ensures read { (result ≡ status.ReadFault) ↔ (e ≡ unserved.ReadFault) }
+    ensures script { (result ≡ status.Script) ↔ (e ≡ unserved.Script) }
     ensures done { (result ≡ status.Done → ⊥) × (result ≡ status.Refused → ⊥) × (result ≡ status.WriteFault → ⊥) }
 {
     match e {
@@ -205,6 +212,7 @@ pub fn run<S: Scripts, K: Sink>(alloc: Global, words: &[&str], scripts: &mut S, 
     ensures promise { Promise 262144 (record { file = file_of (map (λ w. w.now) words.now); held = S.held scripts.old; taken = K.taken out.old; taken' = K.taken out.new; calls = K.calls out.old; calls' = K.calls out.new }) result.status result.transcript }
     ensures words { (result.status ≡ status.Words) ↔ (file_of (map (λ w. w.now) words.now) ≡ None) }
     ensures read { result.status ≡ status.ReadFault → Rose (S.faults scripts.old) (S.faults scripts.new) }
+    ensures script { result.status ≡ status.Script → IfSome (file_of (map (λ w. w.now) words.now)) (HoldsNoScript (S.held scripts.old)) }
     ensures write { result.status ≡ status.WriteFault → Rose (K.faults out.old) (K.faults out.new) }
 {
     let transcript = match served(alloc, words, scripts) {
