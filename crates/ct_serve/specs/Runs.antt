@@ -14,6 +14,8 @@ use Rattle.ct_transcript.specs.declared.transcript.Transcript.{Transcript}
 use Rattle.ct_transcript.specs.Text.{lines_of}
 use Rattle.ct_serve.specs.declared.ending.Status.{Status}
 use Rattle.ct_serve.specs.declared.ending.Status.TheVariants as status
+use Rattle.ct_serve.specs.declared.driving.Sought.{Sought}
+use Rattle.ct_serve.specs.declared.driving.Sought.TheVariants as sought
 use Rattle.ct_serve.specs.Lawful.{Lawful}
 
 -- the greatest number of bytes, and of statements, of a script
@@ -57,6 +59,11 @@ is_refusal _ = false
 abbrev pub is_memory : Reply → Bool
 is_memory (reply.Refused at refusal.Memory) = true
 is_memory _ = false
+
+-- whether a reply is what is looked for
+abbrev pub is_sought : Sought → Reply → Bool
+is_sought sought.Refusal = is_refusal
+is_sought sought.Memory = is_memory
 
 -- whether some reply of some session passes a test
 abbrev pub some_reply : (Reply → Bool) → List SessionLog → Bool

@@ -8,7 +8,7 @@ ghost use Rattle.ct_outside.specs.Outside.{Rose, Holds, Added};
 ghost use Rattle.ct_outside.specs.Writes.{joined};
 ghost use Rattle.ct_transcript.specs.Text.{lines_of};
 ghost use Rattle.ct_serve.specs.Lawful.{Lawful};
-ghost use Rattle.ct_serve.specs.Runs.{file_of, IsScript, IsScriptOf, HoldsNoScript, is_refusal, is_memory, some_reply, IsOutcome, Printed, Promise, empty_transcript};
+ghost use Rattle.ct_serve.specs.Runs.{file_of, IsScript, IsScriptOf, HoldsNoScript, is_sought, some_reply, IsOutcome, Printed, Promise, empty_transcript};
 ghost use Rattle.ct_serve.specs.declared.ending.Status.TheVariants as status;
 ghost use Rattle.ct_serve.specs.declared.driving.Unserved.TheVariants as unserved;
 
@@ -110,59 +110,50 @@ fn served<S: Scripts>(
     Ok(transcript)
 }
 
-fn is_refusal(reply: &Reply) -> bool
-    ensures { result ≡ is_refusal reply.now }
+/// What is looked for among replies.
+#[derive(Clone, Copy)]
+enum Sought {
+    Refusal,
+    Memory,
+}
+
+fn is_sought(reply: &Reply, sought: Sought) -> bool
+    ensures { result ≡ is_sought sought reply.now }
 {
-    match reply {
-        Reply::Refused { .. } => true,
+    match (reply, sought) {
+        (Reply::Refused { .. }, Sought::Refusal) => true,
+        (
+            Reply::Refused {
+                why: Refusal::Memory,
+                ..
+            },
+            Sought::Memory,
+        ) => true,
         _ => false,
     }
 }
 
-fn is_memory(reply: &Reply) -> bool
-    ensures { result ≡ is_memory reply.now }
+fn has_reply(log: &SessionLog, sought: Sought) -> bool
+    ensures { result ≡ list_any (is_sought sought) log.now.replies }
 {
-    match reply {
-        Reply::Refused {
-            why: Refusal::Memory,
-            ..
-        } => true,
-        _ => false,
-    }
+    let mut replies = log.replies.as_slice().iter();
+    replies.any(|reply| is_sought(reply, sought))
 }
 
-fn has_refusal(log: &SessionLog) -> bool
-    ensures { result ≡ list_any is_refusal log.now.replies }
+fn some_reply(logs: &[SessionLog], sought: Sought) -> bool
+    ensures { result ≡ some_reply (is_sought sought) logs.now }
 {
-    log.replies.as_slice().iter().any(|reply| is_refusal(reply))
-}
-
-fn has_memory(log: &SessionLog) -> bool
-    ensures { result ≡ list_any is_memory log.now.replies }
-{
-    log.replies.as_slice().iter().any(|reply| is_memory(reply))
-}
-
-fn some_refusal(logs: &[SessionLog]) -> bool
-    ensures { result ≡ some_reply is_refusal logs.now }
-{
-    logs.iter().any(|log| has_refusal(log))
-}
-
-fn some_memory(logs: &[SessionLog]) -> bool
-    ensures { result ≡ some_reply is_memory logs.now }
-{
-    logs.iter().any(|log| has_memory(log))
+    logs.iter().any(|log| has_reply(log, sought))
 }
 
 /// How a run ends whose lines were written.
 fn outcome(logs: &[SessionLog]) -> Status
     ensures { IsOutcome logs.now result }
 {
-    if some_memory(logs) {
+    if some_reply(logs, Sought::Memory) {
         return Status::Memory;
     }
-    if some_refusal(logs) {
+    if some_reply(logs, Sought::Refusal) {
         return Status::Refused;
     }
     Status::Done
