@@ -16,10 +16,11 @@ use crate::ending::{Run, Status};
 use crate::serving::serve;
 use ct_arena::Log;
 use ct_lex::split;
-use ct_outside::{ReadError, Scripts, Sink, write_all};
+use ct_outside::{Gate, ReadError, Scripts, Sink, write_all};
 use ct_transcript::{Refusal, Reply, SessionLog, Transcript, lines};
 use ct_word::{List, Memory, Text};
 use std::alloc::Global;
+use std::sync::Wait;
 
 /// How many words the log of a run has room for.
 const CAPACITY: u32 = 262_144;
@@ -85,10 +86,12 @@ fn as_script(alloc: Global, bytes: Vec<u8>) -> Result<Text, Unserved>
 ///
 /// # Errors
 /// `Words` exactly where the words name no file, `ReadFault` only where the source failed, `Script`, `Memory`.
-fn served<S: Scripts>(
+fn served<R: Wait, S: Scripts, G: Gate + Sync>(
+    rt: &R,
     alloc: Global,
     words: &[&str],
     scripts: &mut S,
+    gate: &G,
 ) -> Result<Transcript, Unserved>
     ensures lawful { IfOk result (λ transcript. Lawful transcript 262144) }
     ensures script { IfOk result (λ transcript. IfSome (file_of (map (λ w. w.now) words.now)) (λ file. IsScriptOf (S.held scripts.old) file (map (λ s. s.script) transcript.sessions))) }
@@ -106,7 +109,7 @@ fn served<S: Scripts>(
         Err(ReadError::Memory) => return Err(Unserved::Memory),
     };
     let script = as_script(alloc, bytes)?;
-    let transcript = serve(alloc, CAPACITY, script)?;
+    let transcript = serve(rt, alloc, CAPACITY, script, gate)?;
     Ok(transcript)
 }
 
@@ -199,14 +202,21 @@ fn status_of(e: Unserved) -> Status
 }
 
 /// Runs the session of the file that the words name, `run` and the file, and writes its transcript.
-pub fn run<S: Scripts, K: Sink>(alloc: Global, words: &[&str], scripts: &mut S, out: &mut K) -> Run
+pub fn run<R: Wait, S: Scripts, K: Sink, G: Gate + Sync>(
+    rt: &R,
+    alloc: Global,
+    words: &[&str],
+    scripts: &mut S,
+    out: &mut K,
+    gate: &G,
+) -> Run
     ensures promise { Promise 262144 (record { file = file_of (map (λ w. w.now) words.now); held = S.held scripts.old; taken = K.taken out.old; taken' = K.taken out.new; calls = K.calls out.old; calls' = K.calls out.new }) result.status result.transcript }
     ensures words { (result.status ≡ status.Words) ↔ (file_of (map (λ w. w.now) words.now) ≡ None) }
     ensures read { result.status ≡ status.ReadFault → Rose (S.faults scripts.old) (S.faults scripts.new) }
     ensures script { result.status ≡ status.Script → IfSome (file_of (map (λ w. w.now) words.now)) (HoldsNoScript (S.held scripts.old)) }
     ensures write { result.status ≡ status.WriteFault → Rose (K.faults out.old) (K.faults out.new) }
 {
-    let transcript = match served(alloc, words, scripts) {
+    let transcript = match served(rt, alloc, words, scripts, gate) {
         Ok(transcript) => transcript,
         Err(e) => {
             let status = status_of(e);

@@ -9,6 +9,8 @@ mod reading;
 mod serving;
 mod session;
 mod statement;
+#[cfg(test)]
+mod tests;
 
 pub use driving::run;
 pub use ending::{Run, Status};
