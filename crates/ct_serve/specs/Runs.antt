@@ -1,5 +1,6 @@
 -- Which file the words of a run name, what a script is, and what a run does.
 use Rattle.std.specs.Prelude.{◌≡◌, ℕ, ◌≤◌, ◌⊎◌, Bool, true, false, List, [], ◌∷◌, length, map, codes, Option, Some, None, IfSome, MatchOption, if◌then◌else◌}
+use Rattle.std.specs.Borrow.{Bor}
 use Rattle.std.specs.List.{list_any}
 use Rattle.std.specs.Str.{IsUtf8}
 use Rattle.ct_word.specs.Value.{same_text}
@@ -25,10 +26,14 @@ SCRIPT_BYTES = 1048576
 abbrev pub SCRIPT_STATEMENTS : ℕ
 SCRIPT_STATEMENTS = 65535
 
--- the file that the words name: after the word run, and alone
+-- the file that words name: after the word run, and alone
 abbrev pub file_of : List (List ℕ) → Option (List ℕ)
 file_of (command ∷ file ∷ []) = if same_text command (codes "run") then Some file else None
 file_of _ = None
+
+-- the file that the words name to which references point
+abbrev pub file_named : List (Bor (List ℕ)) → Option (List ℕ)
+file_named words = file_of (map (λ word. word.now) words)
 
 -- bytes are a script: not too many, text in UTF-8, and not too many statements
 pub record IsScript (bytes : List ℕ) : Type 0 where
@@ -40,7 +45,7 @@ pub record IsScript (bytes : List ℕ) : Type 0 where
 abbrev pub HoldsNoScript : Option Held → List ℕ → Type 0
 HoldsNoScript told name = IfSome told (λ held. MatchOption (held name) ⊥ (λ bytes. IsScript bytes → ⊥))
 
--- this is the one script served, and where a source tells, what it holds under the name
+-- there is one script, and where a source tells, it is what the source holds under the name
 pub record IsScriptOf (told : Option Held) (name : List ℕ) (scripts : List (List ℕ)) : Type 0 where
   pub script : List ℕ
   pub held : Holds told name script

@@ -8,7 +8,7 @@ ghost use Rattle.ct_outside.specs.Outside.{Rose, Holds, Added};
 ghost use Rattle.ct_outside.specs.Writes.{joined};
 ghost use Rattle.ct_transcript.specs.Text.{lines_of};
 ghost use Rattle.ct_serve.specs.Lawful.{Lawful};
-ghost use Rattle.ct_serve.specs.Runs.{file_of, IsScript, IsScriptOf, HoldsNoScript, is_sought, some_reply, IsOutcome, Printed, Promise, empty_transcript};
+ghost use Rattle.ct_serve.specs.Runs.{file_named, IsScript, IsScriptOf, HoldsNoScript, is_sought, some_reply, IsOutcome, Printed, Promise, empty_transcript};
 ghost use Rattle.ct_serve.specs.declared.ending.Status.TheVariants as status;
 ghost use Rattle.ct_serve.specs.declared.driving.Unserved.TheVariants as unserved;
 
@@ -49,7 +49,7 @@ impl From<Memory> for Unserved {
 
 /// The file that the words name.
 fn file_named<'a>(words: &[&'a str]) -> Option<&'a str>
-    ensures { option_map (λ file. file.now) result ≡ file_of (map (λ w. w.now) words.now) }
+    ensures { option_map (λ file. file.now) result ≡ file_named words.now }
 {
     match words {
         [command, file] if *command == "run" => Some(*file),
@@ -85,7 +85,8 @@ fn as_script(alloc: Global, bytes: Vec<u8>) -> Result<Text, Unserved>
 /// The transcript of the session of the file that the words name.
 ///
 /// # Errors
-/// `Words` exactly where the words name no file, `ReadFault` only where the source failed, `Script`, `Memory`.
+/// `Words` exactly where the words name no file, `ReadFault` only where the source failed, `Script` only where the file
+/// is no script, and `Memory` for want of memory.
 fn served<R: Wait, S: Scripts, G: Gate + Sync>(
     rt: &R,
     alloc: Global,
@@ -93,11 +94,11 @@ fn served<R: Wait, S: Scripts, G: Gate + Sync>(
     scripts: &mut S,
     gate: &G,
 ) -> Result<Transcript, Unserved>
-    ensures lawful { IfOk result (λ transcript. Lawful transcript 262144) }
-    ensures script { IfOk result (λ transcript. IfSome (file_of (map (λ w. w.now) words.now)) (λ file. IsScriptOf (S.held scripts.old) file (map (λ s. s.script) transcript.sessions))) }
-    ensures words { (result ≡ Err unserved.Words) ↔ (file_of (map (λ w. w.now) words.now) ≡ None) }
+    ensures lawful { IfOk result (λ transcript. Lawful transcript CAPACITY) }
+    ensures script { IfOk result (λ transcript. IfSome (file_named words.now) (λ file. IsScriptOf (S.held scripts.old) file (map (λ s. s.script) transcript.sessions))) }
+    ensures words { (result ≡ Err unserved.Words) ↔ (file_named words.now ≡ None) }
     ensures read { IfErr result (λ e. e ≡ unserved.ReadFault → Rose (S.faults scripts.old) (S.faults scripts.new)) }
-    ensures no_script { IfErr result (λ e. e ≡ unserved.Script → IfSome (file_of (map (λ w. w.now) words.now)) (HoldsNoScript (S.held scripts.old))) }
+    ensures no_script { IfErr result (λ e. e ≡ unserved.Script → IfSome (file_named words.now) (HoldsNoScript (S.held scripts.old))) }
 {
     let Some(file) = file_named(words) else {
         return Err(Unserved::Words);
@@ -201,7 +202,23 @@ fn status_of(e: Unserved) -> Status
     }
 }
 
-/// Runs the session of the file that the words name, `run` and the file, and writes its transcript.
+/// Runs the session of the file that the words name, and writes its transcript with one write for each line. The words
+/// that are understood are `run` and the name of a file. The gate is called round each statement, and may wait.
+///
+/// A script has at most 1,048,576 bytes, is in UTF-8, and has at most 65,535 statements. The status is
+/// - `Words` exactly where the words are not understood;
+/// - `ReadFault` only where the source failed, and counted it;
+/// - `Script` only where the file was read and is no script. Where it is none, the status is this one, `ReadFault` or
+///   `Memory`;
+/// - `WriteFault` only where the sink failed, and counted it: the lines before the one at fault were written, and a
+///   prefix of that one;
+/// - `Done` where every reply was made and every line written, and no reply is a refusal;
+/// - `Refused` where the same holds, but some reply is a refusal, and none is for want of memory;
+/// - `Memory` for want of memory. It may come in place of any other but `Words`. Either nothing was written, or every
+///   line was, and some reply is for want of memory.
+///
+/// With `Words`, `ReadFault` and `Script` the transcript is empty, and nothing was written. With every other status but
+/// `Memory` it is the lawful transcript of the script that the file holds; with `Memory` it is one of the two.
 pub fn run<R: Wait, S: Scripts, K: Sink, G: Gate + Sync>(
     rt: &R,
     alloc: Global,
@@ -210,10 +227,10 @@ pub fn run<R: Wait, S: Scripts, K: Sink, G: Gate + Sync>(
     out: &mut K,
     gate: &G,
 ) -> Run
-    ensures promise { Promise 262144 (record { file = file_of (map (λ w. w.now) words.now); held = S.held scripts.old; taken = K.taken out.old; taken' = K.taken out.new; calls = K.calls out.old; calls' = K.calls out.new }) result.status result.transcript }
-    ensures words { (result.status ≡ status.Words) ↔ (file_of (map (λ w. w.now) words.now) ≡ None) }
+    ensures promise { Promise CAPACITY (record { file = file_named words.now; held = S.held scripts.old; taken = K.taken out.old; taken' = K.taken out.new; calls = K.calls out.old; calls' = K.calls out.new }) result.status result.transcript }
+    ensures words { (result.status ≡ status.Words) ↔ (file_named words.now ≡ None) }
     ensures read { result.status ≡ status.ReadFault → Rose (S.faults scripts.old) (S.faults scripts.new) }
-    ensures script { result.status ≡ status.Script → IfSome (file_of (map (λ w. w.now) words.now)) (HoldsNoScript (S.held scripts.old)) }
+    ensures script { result.status ≡ status.Script → IfSome (file_named words.now) (HoldsNoScript (S.held scripts.old)) }
     ensures write { result.status ≡ status.WriteFault → Rose (K.faults out.old) (K.faults out.new) }
 {
     let transcript = match served(rt, alloc, words, scripts, gate) {
