@@ -14,7 +14,12 @@ use Rattle.ct_transcript.specs.declared.reply.Reply.{Reply}
 use Rattle.ct_transcript.specs.declared.reply.Reply.TheVariants as reply
 use Rattle.ct_transcript.specs.declared.reply.Refusal.{Refusal}
 use Rattle.ct_transcript.specs.declared.reply.Refusal.TheVariants as refusal
+use Rattle.ct_query.specs.Schema.{schema}
+use Rattle.ct_serve.specs.declared.statement.Cell.{Cell}
+use Rattle.ct_serve.specs.declared.statement.Equality.{Equality}
 use Rattle.ct_serve.specs.declared.statement.Statement.{Statement}
+use Rattle.ct_serve.specs.declared.statement.Statement.TheVariants as statement
+use Rattle.ct_serve.specs.Names.{resolve, columns_of, created_new, inserted_into, selected_from}
 use Rattle.ct_serve.specs.declared.reading.ReadingError.{ReadingError}
 use Rattle.ct_serve.specs.declared.reading.ReadingError.TheVariants as reading
 use Rattle.ct_serve.specs.Statements.{ReadsAs, IsNoStatement}
@@ -23,6 +28,20 @@ use Rattle.ct_serve.specs.declared.session.Prepared.TheVariants as prepared
 use Rattle.ct_serve.specs.Catalogue.{IsOfferFor, IsPreparedText, IsRefusedAs, Resolves, IsRefusedText, CommitOf, committed, filled, resolved_at, unread_refusal}
 use Rattle.ct_serve.proofs.Offers.{answers_no_statement, answers_memory, answers_not_yet, answers_full, answers_rows, answers_committed}
 use Rattle.ct_serve.proofs.Committing.{length_printed}
+
+-- what each kind of statement resolves to
+module _ (h : List PlainCommit) (name : List ℕ) where
+  pub create_at : (columns : List (List ℕ)) → resolved_at h (statement.Create name columns) ≡ created_new (columns_of (schema h []).tables name) name columns
+  unfolding resolve
+  create_at columns = refl
+
+  pub insert_at : (cells : List Cell) → resolved_at h (statement.Insert name cells) ≡ inserted_into (columns_of (schema h []).tables name) name cells
+  unfolding resolve
+  insert_at cells = refl
+
+  pub select_at : (filter : Option Equality) → resolved_at h (statement.Select name filter) ≡ selected_from (columns_of (schema h []).tables name) name filter
+  unfolding resolve
+  select_at filter = refl
 
 -- a text that is read as a statement is refused as the statement is
 pub statement_refused : (h : List PlainCommit) (room : ℕ) (words : List ℕ) (x : List ℕ) (st : Statement) (why : Refusal) → ReadsAs x st

@@ -1,5 +1,6 @@
 -- Which file the words of a run name, what a script is, and what a run does.
-use Rattle.std.specs.Prelude.{◌≡◌, ℕ, ◌≤◌, ◌⊎◌, Bool, true, false, List, [], ◌∷◌, length, map, codes, Option, Some, None, IfSome, if◌then◌else◌}
+use Rattle.std.specs.Prelude.{◌≡◌, ℕ, ◌≤◌, ◌⊎◌, Bool, true, false, List, [], ◌∷◌, length, map, codes, Option, Some, None, IfSome, MatchOption, if◌then◌else◌}
+use Rattle.std.specs.Borrow.{Bor}
 use Rattle.std.specs.List.{list_any}
 use Rattle.std.specs.Str.{IsUtf8}
 use Rattle.ct_word.specs.Value.{same_text}
@@ -14,6 +15,8 @@ use Rattle.ct_transcript.specs.declared.transcript.Transcript.{Transcript}
 use Rattle.ct_transcript.specs.Text.{lines_of}
 use Rattle.ct_serve.specs.declared.ending.Status.{Status}
 use Rattle.ct_serve.specs.declared.ending.Status.TheVariants as status
+use Rattle.ct_serve.specs.declared.driving.Sought.{Sought}
+use Rattle.ct_serve.specs.declared.driving.Sought.TheVariants as sought
 use Rattle.ct_serve.specs.Lawful.{Lawful}
 
 -- the greatest number of bytes, and of statements, of a script
@@ -23,16 +26,31 @@ SCRIPT_BYTES = 1048576
 abbrev pub SCRIPT_STATEMENTS : ℕ
 SCRIPT_STATEMENTS = 65535
 
--- the file that the words name: after the word run, and alone
+-- the file that words name: after the word run, and alone
 abbrev pub file_of : List (List ℕ) → Option (List ℕ)
 file_of (command ∷ file ∷ []) = if same_text command (codes "run") then Some file else None
 file_of _ = None
+
+-- the file that the words name to which references point
+abbrev pub file_named : List (Bor (List ℕ)) → Option (List ℕ)
+file_named words = file_of (map (λ word. word.now) words)
 
 -- bytes are a script: not too many, text in UTF-8, and not too many statements
 pub record IsScript (bytes : List ℕ) : Type 0 where
   pub short : length bytes ≤ SCRIPT_BYTES
   pub utf8 : IsUtf8 bytes
   pub few : length (texts bytes) ≤ SCRIPT_STATEMENTS
+
+-- where a source tells, bytes are held under the name, and they are no script
+abbrev pub HoldsNoScript : Option Held → List ℕ → Type 0
+HoldsNoScript told name = IfSome told (λ held. MatchOption (held name) ⊥ (λ bytes. IsScript bytes → ⊥))
+
+-- there is one script, and where a source tells, it is what the source holds under the name
+pub record IsScriptOf (told : Option Held) (name : List ℕ) (scripts : List (List ℕ)) : Type 0 where
+  pub script : List ℕ
+  pub held : Holds told name script
+  pub is_script : IsScript script
+  pub alone : scripts ≡ script ∷ []
 
 -- the transcript without sessions, commits and words
 abbrev pub empty_transcript : Transcript
@@ -46,6 +64,11 @@ is_refusal _ = false
 abbrev pub is_memory : Reply → Bool
 is_memory (reply.Refused at refusal.Memory) = true
 is_memory _ = false
+
+-- whether a reply is what is looked for
+abbrev pub is_sought : Sought → Reply → Bool
+is_sought sought.Refusal = is_refusal
+is_sought sought.Memory = is_memory
 
 -- whether some reply of some session passes a test
 abbrev pub some_reply : (Reply → Bool) → List SessionLog → Bool
@@ -73,7 +96,7 @@ pub record Outside : Type 0 where
 -- a lawful transcript of one session, whose script is what the source tells under the name of its file
 pub record IsServed (N : ℕ) (o : Outside) (t : Transcript) : Type 0 where
   pub lawful : Lawful t N
-  pub script : IfSome o.file (λ file. (text : List ℕ) × Holds o.held file text × (map (λ s. s.script) t.sessions ≡ text ∷ []))
+  pub script : IfSome o.file (λ file. IsScriptOf o.held file (map (λ s. s.script) t.sessions))
 
 -- exactly the lines of the transcript were added, one call a line
 pub record IsWritten (o : Outside) (t : Transcript) : Type 0 where

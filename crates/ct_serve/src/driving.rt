@@ -8,7 +8,7 @@ ghost use Rattle.ct_outside.specs.Outside.{Rose, Holds, Added};
 ghost use Rattle.ct_outside.specs.Writes.{joined};
 ghost use Rattle.ct_transcript.specs.Text.{lines_of};
 ghost use Rattle.ct_serve.specs.Lawful.{Lawful};
-ghost use Rattle.ct_serve.specs.Runs.{file_of, IsScript, is_refusal, is_memory, some_reply, IsOutcome, Printed, Promise, empty_transcript};
+ghost use Rattle.ct_serve.specs.Runs.{file_named, IsScript, IsScriptOf, HoldsNoScript, is_sought, some_reply, IsOutcome, Printed, Promise, empty_transcript};
 ghost use Rattle.ct_serve.specs.declared.ending.Status.TheVariants as status;
 ghost use Rattle.ct_serve.specs.declared.driving.Unserved.TheVariants as unserved;
 
@@ -16,10 +16,11 @@ use crate::ending::{Run, Status};
 use crate::serving::serve;
 use ct_arena::Log;
 use ct_lex::split;
-use ct_outside::{ReadError, Scripts, Sink, write_all};
+use ct_outside::{Gate, ReadError, Scripts, Sink, write_all};
 use ct_transcript::{Refusal, Reply, SessionLog, Transcript, lines};
 use ct_word::{List, Memory, Text};
 use std::alloc::Global;
+use std::sync::Wait;
 
 /// How many words the log of a run has room for.
 const CAPACITY: u32 = 262_144;
@@ -48,7 +49,7 @@ impl From<Memory> for Unserved {
 
 /// The file that the words name.
 fn file_named<'a>(words: &[&'a str]) -> Option<&'a str>
-    ensures { option_map (λ file. file.now) result ≡ file_of (map (λ w. w.now) words.now) }
+    ensures { option_map (λ file. file.now) result ≡ file_named words.now }
 {
     match words {
         [command, file] if *command == "run" => Some(*file),
@@ -61,10 +62,15 @@ fn file_named<'a>(words: &[&'a str]) -> Option<&'a str>
 /// # Errors
 /// `Script` only where they are none, `Memory` for want of memory.
 fn as_script(alloc: Global, bytes: Vec<u8>) -> Result<Text, Unserved>
-    ensures ok { IfOk result (λ script. (script ≡ bytes.items) × (length (texts script) ≤ 65535)) }
-    ensures err { IfErr result (λ e. e ≡ unserved.Script → IsScript bytes.items → ⊥) }
-    ensures words { IfErr result (λ e. (e ≡ unserved.Words → ⊥) × (e ≡ unserved.ReadFault → ⊥)) }
+    ensures same { IfOk result (λ script. script ≡ bytes.items) }
+    ensures script { IfOk result (λ script. IsScript script) }
+    ensures no_script { IfErr result (λ e. e ≡ unserved.Script → IsScript bytes.items → ⊥) }
+    ensures others { IfErr result (λ e. (e ≡ unserved.Words → ⊥) × (e ≡ unserved.ReadFault → ⊥)) }
 {
+    // A source that tells nothing may give more than the limit.
+    if bytes.len() > SCRIPT_BYTES as usize {
+        return Err(Unserved::Script);
+    }
     let Ok(text) = String::from_utf8(bytes) else {
         return Err(Unserved::Script);
     };
@@ -79,16 +85,20 @@ fn as_script(alloc: Global, bytes: Vec<u8>) -> Result<Text, Unserved>
 /// The transcript of the session of the file that the words name.
 ///
 /// # Errors
-/// `Words` exactly where the words name no file, `ReadFault` only where the source failed, `Script`, `Memory`.
-fn served<S: Scripts>(
+/// `Words` exactly where the words name no file, `ReadFault` only where the source failed, `Script` only where the file
+/// is no script, and `Memory` for want of memory.
+fn served<R: Wait, S: Scripts, G: Gate + Sync>(
+    rt: &R,
     alloc: Global,
     words: &[&str],
     scripts: &mut S,
+    gate: &G,
 ) -> Result<Transcript, Unserved>
-    ensures ok { IfOk result (λ transcript. Lawful transcript 262144) }
-    ensures script { IfOk result (λ transcript. IfSome (file_of (map (λ w. w.now) words.now)) (λ file. (script : List ℕ) × Holds (S.held scripts.old) file script × (map (λ s. s.script) transcript.sessions ≡ script ∷ []))) }
-    ensures words { (result ≡ Err unserved.Words) ↔ (file_of (map (λ w. w.now) words.now) ≡ None) }
+    ensures lawful { IfOk result (λ transcript. Lawful transcript CAPACITY) }
+    ensures script { IfOk result (λ transcript. IfSome (file_named words.now) (λ file. IsScriptOf (S.held scripts.old) file (map (λ s. s.script) transcript.sessions))) }
+    ensures words { (result ≡ Err unserved.Words) ↔ (file_named words.now ≡ None) }
     ensures read { IfErr result (λ e. e ≡ unserved.ReadFault → Rose (S.faults scripts.old) (S.faults scripts.new)) }
+    ensures no_script { IfErr result (λ e. e ≡ unserved.Script → IfSome (file_named words.now) (HoldsNoScript (S.held scripts.old))) }
 {
     let Some(file) = file_named(words) else {
         return Err(Unserved::Words);
@@ -100,63 +110,54 @@ fn served<S: Scripts>(
         Err(ReadError::Memory) => return Err(Unserved::Memory),
     };
     let script = as_script(alloc, bytes)?;
-    let transcript = serve(alloc, CAPACITY, script)?;
+    let transcript = serve(rt, alloc, CAPACITY, script, gate)?;
     Ok(transcript)
 }
 
-fn is_refusal(reply: &Reply) -> bool
-    ensures { result ≡ is_refusal reply.now }
+/// What is looked for among replies.
+#[derive(Clone, Copy)]
+enum Sought {
+    Refusal,
+    Memory,
+}
+
+fn is_sought(reply: &Reply, sought: Sought) -> bool
+    ensures { result ≡ is_sought sought reply.now }
 {
-    match reply {
-        Reply::Refused { .. } => true,
+    match (reply, sought) {
+        (Reply::Refused { .. }, Sought::Refusal) => true,
+        (
+            Reply::Refused {
+                why: Refusal::Memory,
+                ..
+            },
+            Sought::Memory,
+        ) => true,
         _ => false,
     }
 }
 
-fn is_memory(reply: &Reply) -> bool
-    ensures { result ≡ is_memory reply.now }
+fn has_reply(log: &SessionLog, sought: Sought) -> bool
+    ensures { result ≡ list_any (is_sought sought) log.now.replies }
 {
-    match reply {
-        Reply::Refused {
-            why: Refusal::Memory,
-            ..
-        } => true,
-        _ => false,
-    }
+    let mut replies = log.replies.as_slice().iter();
+    replies.any(|reply| is_sought(reply, sought))
 }
 
-fn has_refusal(log: &SessionLog) -> bool
-    ensures { result ≡ list_any is_refusal log.now.replies }
+fn some_reply(logs: &[SessionLog], sought: Sought) -> bool
+    ensures { result ≡ some_reply (is_sought sought) logs.now }
 {
-    log.replies.as_slice().iter().any(|reply| is_refusal(reply))
-}
-
-fn has_memory(log: &SessionLog) -> bool
-    ensures { result ≡ list_any is_memory log.now.replies }
-{
-    log.replies.as_slice().iter().any(|reply| is_memory(reply))
-}
-
-fn some_refusal(logs: &[SessionLog]) -> bool
-    ensures { result ≡ some_reply is_refusal logs.now }
-{
-    logs.iter().any(|log| has_refusal(log))
-}
-
-fn some_memory(logs: &[SessionLog]) -> bool
-    ensures { result ≡ some_reply is_memory logs.now }
-{
-    logs.iter().any(|log| has_memory(log))
+    logs.iter().any(|log| has_reply(log, sought))
 }
 
 /// How a run ends whose lines were written.
 fn outcome(logs: &[SessionLog]) -> Status
     ensures { IsOutcome logs.now result }
 {
-    if some_memory(logs) {
+    if some_reply(logs, Sought::Memory) {
         return Status::Memory;
     }
-    if some_refusal(logs) {
+    if some_reply(logs, Sought::Refusal) {
         return Status::Refused;
     }
     Status::Done
@@ -190,6 +191,7 @@ fn no_transcript(alloc: Global) -> Transcript
 fn status_of(e: Unserved) -> Status
     ensures words { (result ≡ status.Words) ↔ (e ≡ unserved.Words) }
     ensures read { (result ≡ status.ReadFault) ↔ (e ≡ unserved.ReadFault) }
+    ensures script { (result ≡ status.Script) ↔ (e ≡ unserved.Script) }
     ensures done { (result ≡ status.Done → ⊥) × (result ≡ status.Refused → ⊥) × (result ≡ status.WriteFault → ⊥) }
 {
     match e {
@@ -200,14 +202,38 @@ fn status_of(e: Unserved) -> Status
     }
 }
 
-/// Runs the session of the file that the words name, `run` and the file, and writes its transcript.
-pub fn run<S: Scripts, K: Sink>(alloc: Global, words: &[&str], scripts: &mut S, out: &mut K) -> Run
-    ensures promise { Promise 262144 (record { file = file_of (map (λ w. w.now) words.now); held = S.held scripts.old; taken = K.taken out.old; taken' = K.taken out.new; calls = K.calls out.old; calls' = K.calls out.new }) result.status result.transcript }
-    ensures words { (result.status ≡ status.Words) ↔ (file_of (map (λ w. w.now) words.now) ≡ None) }
+/// Runs the session of the file that the words name, and writes its transcript with one write for each line. The words
+/// that are understood are `run` and the name of a file. The gate is called round each statement, and may wait.
+///
+/// A script has at most 1,048,576 bytes, is in UTF-8, and has at most 65,535 statements. The status is
+/// - `Words` exactly where the words are not understood;
+/// - `ReadFault` only where the source failed, and counted it;
+/// - `Script` only where the file was read and is no script. Where it is none, the status is this one, `ReadFault` or
+///   `Memory`;
+/// - `WriteFault` only where the sink failed, and counted it: the lines before the one at fault were written, and a
+///   prefix of that one;
+/// - `Done` where every reply was made and every line written, and no reply is a refusal;
+/// - `Refused` where the same holds, but some reply is a refusal, and none is for want of memory;
+/// - `Memory` for want of memory. It may come in place of any other but `Words`. Either nothing was written, or every
+///   line was, and some reply is for want of memory.
+///
+/// With `Words`, `ReadFault` and `Script` the transcript is empty, and nothing was written. With every other status but
+/// `Memory` it is the lawful transcript of the script that the file holds; with `Memory` it is one of the two.
+pub fn run<R: Wait, S: Scripts, K: Sink, G: Gate + Sync>(
+    rt: &R,
+    alloc: Global,
+    words: &[&str],
+    scripts: &mut S,
+    out: &mut K,
+    gate: &G,
+) -> Run
+    ensures promise { Promise CAPACITY (record { file = file_named words.now; held = S.held scripts.old; taken = K.taken out.old; taken' = K.taken out.new; calls = K.calls out.old; calls' = K.calls out.new }) result.status result.transcript }
+    ensures words { (result.status ≡ status.Words) ↔ (file_named words.now ≡ None) }
     ensures read { result.status ≡ status.ReadFault → Rose (S.faults scripts.old) (S.faults scripts.new) }
+    ensures script { result.status ≡ status.Script → IfSome (file_named words.now) (HoldsNoScript (S.held scripts.old)) }
     ensures write { result.status ≡ status.WriteFault → Rose (K.faults out.old) (K.faults out.new) }
 {
-    let transcript = match served(alloc, words, scripts) {
+    let transcript = match served(rt, alloc, words, scripts, gate) {
         Ok(transcript) => transcript,
         Err(e) => {
             let status = status_of(e);

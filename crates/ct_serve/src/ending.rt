@@ -2,7 +2,7 @@
 
 use ct_transcript::Transcript;
 
-/// How a run ended.
+/// How a run ended; `run` says when each comes.
 #[derive(Clone, Copy, Debug, PartialEq, Eq)]
 pub enum Status {
     /// All replies were made and all lines written, and no reply is a refusal.

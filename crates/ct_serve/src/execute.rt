@@ -9,7 +9,9 @@ ghost use Rattle.ct_serve.specs.Catalogue.{IsCatalogue, IsAdmittedEverywhere, Is
 ghost use Rattle.ct_serve.specs.Progress.{Answers};
 
 use crate::creating::offer_table;
+use crate::inserting::offer_row;
 use crate::reading::{ReadingError, read};
+use crate::selecting::answer_select;
 use crate::session::{Prepared, Session, commit, version};
 use crate::statement::Statement;
 use ct_arena::{Arena, Pass, Site};
@@ -75,11 +77,19 @@ fn resolve<N: Site>(
     ensures err { IfErr result (λ why. IsRefusedAs (resolved_at (plain_history history.now) statement) N.log.cap pass.new.words why) }
 {
     match statement {
-        Statement::Create { name, columns } => Ok(Prepared::Commit(offer_table(
-            alloc, arena, pass, tables, history, name, columns,
-        )?)),
-        Statement::Insert { .. } => Err(Refusal::NotYet),
-        Statement::Select { .. } => Err(Refusal::NotYet),
+        Statement::Create { name, columns } => {
+            let offer = offer_table(alloc, arena, pass, tables, history, name, columns)?;
+            Ok(Prepared::Commit(offer))
+        }
+        Statement::Insert { name, cells } => {
+            let offer = offer_row(alloc, arena, pass, tables, history, name, cells)?;
+            Ok(Prepared::Commit(offer))
+        }
+        Statement::Select { name, filter } => {
+            let answer =
+                answer_select(alloc, arena, pass, tables, history, name.as_str(), filter)?;
+            Ok(Prepared::Answer(answer))
+        }
     }
 }
 

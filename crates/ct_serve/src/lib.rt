@@ -16,6 +16,8 @@ mod serving;
 mod session;
 mod statement;
 mod words;
+#[cfg(test)]
+mod tests;
 
 pub use driving::run;
 pub use ending::{Run, Status};

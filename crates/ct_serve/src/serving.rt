@@ -11,21 +11,25 @@ use crate::execute::execute;
 use crate::session::Session;
 use ct_arena::{Arena, Blank, Site};
 use ct_lex::split;
+use ct_outside::Gate;
 use ct_table::Db;
 use ct_transcript::{Reply, SessionLog, Transcript};
 use ct_word::{List, Memory, Text};
 use std::alloc::Global;
 use std::marker::Brand;
+use std::sync::Wait;
 
-/// The replies to statement texts, in their order.
+/// The replies to statement texts, in their order. The gate is told of each text, numbered from 1.
 ///
 /// # Errors
 /// `Memory` where there is none for the list of replies.
-fn answer<N: Site>(
+fn answer<N: Site, R: Wait, G: Gate + Sync>(
+    rt: &R,
     alloc: Global,
     arena: &Arena<N>,
     mut session: Session<N>,
     statements: &[&str],
+    gate: &G,
 ) -> Result<(Session<N>, Vec<Reply>), Memory>
     requires kept { IsCatalogue N.log.cap session.pass session.keeper session.tables session.history.items }
     requires begins { session.history.items ≡ [] }
@@ -35,7 +39,11 @@ fn answer<N: Site>(
 {
     let mut replies = Vec::with_capacity(alloc, statements.len())?;
     for statement in statements {
+        let by = session.pass.session();
+        let number = replies.len() as u32 + 1;
+        gate.before(rt, by, number);
         let (next, reply) = execute(alloc, arena, session, statement);
+        gate.after(rt, by, number);
         session = next;
         replies.push_reserved(reply);
     }
@@ -46,11 +54,13 @@ fn answer<N: Site>(
 ///
 /// # Errors
 /// `Memory` where there is none for the lists of statements and replies.
-fn execute_script<N: Site>(
+fn execute_script<N: Site, R: Wait, G: Gate + Sync>(
+    rt: &R,
     alloc: Global,
     arena: &Arena<N>,
     session: Session<N>,
     script: &str,
+    gate: &G,
 ) -> Result<(Session<N>, Vec<Reply>), Memory>
     requires kept { IsCatalogue N.log.cap session.pass session.keeper session.tables session.history.items }
     requires begins { session.history.items ≡ [] }
@@ -59,7 +69,7 @@ fn execute_script<N: Site>(
     ensures progress { IfOk result (λ r. Progress N.log.cap (plain_history r.0.history.items) r.0.pass.words (texts script.now) r.1.items) }
 {
     let statements = split(alloc, script)?;
-    answer(alloc, arena, session, statements.as_slice())
+    answer(rt, alloc, arena, session, statements.as_slice(), gate)
 }
 
 /// A session alone on the log that N names, before its first statement.
@@ -127,24 +137,37 @@ fn end<N: Site>(
     })
 }
 
-fn serve_named<N: Site>(alloc: Global, blank: Blank, script: Text) -> Result<Transcript, Memory>
+fn serve_named<N: Site, R: Wait, G: Gate + Sync>(
+    rt: &R,
+    alloc: Global,
+    blank: Blank,
+    script: Text,
+    gate: &G,
+) -> Result<Transcript, Memory>
     requires name { blank ≡ N.log }
     requires few { length (texts script) < 2 ^ 16 }
     ensures lawful { IfOk result (λ transcript. Lawful transcript N.log.cap) }
     ensures script { IfOk result (λ transcript. map (λ s. s.script) transcript.sessions ≡ script ∷ []) }
 {
     let (arena, session) = begin::<N>(alloc, blank)?;
-    let (session, replies) = execute_script(alloc, &arena, session, script.as_str())?;
+    let (session, replies) = execute_script(rt, alloc, &arena, session, script.as_str(), gate)?;
     end(alloc, arena, session, script, replies)
 }
 
 /// Runs the session of one script on a log of its own with room for `cap` words, from 64 to 4,194,304. The script has
-/// at most 65,535 statements.
+/// at most 65,535 statements. The gate is called round each, with session 1 and the statement's number from 1; it may
+/// wait.
 ///
 /// # Errors
 /// `Memory` where there is none for the log or for the lists of statements, replies and sessions. A statement that
 /// wants memory is refused, and the run goes on.
-pub fn serve(alloc: Global, cap: u32, script: Text) -> Result<Transcript, Memory>
+pub fn serve<R: Wait, G: Gate + Sync>(
+    rt: &R,
+    alloc: Global,
+    cap: u32,
+    script: Text,
+    gate: &G,
+) -> Result<Transcript, Memory>
     requires least { 64 ≤ cap }
     requires most { cap ≤ 4194304 }
     requires few { length (texts script) < 2 ^ 16 }
@@ -152,5 +175,5 @@ pub fn serve(alloc: Global, cap: u32, script: Text) -> Result<Transcript, Memory
     ensures script { IfOk result (λ transcript. map (λ s. s.script) transcript.sessions ≡ script ∷ []) }
 {
     let blank = Blank::make(alloc, cap)?;
-    serve_named::<Brand>(alloc, blank, script)
+    serve_named::<Brand, R, G>(rt, alloc, blank, script, gate)
 }

@@ -2,7 +2,7 @@
 #![tactic(auto)]
 
 use anyhow::Result;
-use ct_outside::{FileScripts, StdSink};
+use ct_outside::{FileScripts, NoGate, StdSink};
 use ct_serve::{Status, run};
 use std::env;
 use std::process::ExitCode;
@@ -19,7 +19,8 @@ fn run_words(rt: &HostRuntime) -> Result<Status> {
     }
     let mut scripts = FileScripts::make(rt);
     let mut out = StdSink::make(rt);
-    Ok(run(rt.alloc(), words.as_slice(), &mut scripts, &mut out).status)
+    let words = words.as_slice();
+    Ok(run(rt, rt.alloc(), words, &mut scripts, &mut out, &NoGate).status)
 }
 
 /// The number that a run ends with.

@@ -1,4 +1,4 @@
 use Rattle.ct_serve.proofs.serving.serve.Given as goal
 
 abbrev pub ghosts-serve_named : goal.ghosts-serve_named
-ghosts-serve_named a = record { log = a.blank; sessions = 1 }
+ghosts-serve_named g a = record { log = a.blank; sessions = 1 }

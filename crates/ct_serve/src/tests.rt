@@ -1,0 +1,169 @@
+// Runs in memory: what a run is given, how it ends, and what it writes.
+
+use crate::{Status, run};
+use ct_outside::{Gate, MemScripts, MemSink, NoGate};
+use ct_word::{List, Text};
+use std::alloc::{AllocError, Global};
+use std::sync::Wait;
+use std::sync::atomic::{AtomicU64, Ordering};
+use std::test::Fail;
+
+/// What the empty script writes.
+const EMPTY: &str = "session 1\nhistory\nend\n";
+
+fn repeated(alloc: Global, bytes: &[u8], times: usize) -> Result<List<u8>, AllocError> {
+    let mut all = Vec::new(alloc);
+    for _ in 0..times {
+        all.extend_from_slice(bytes)?;
+    }
+    Ok(List::from_vec(all))
+}
+
+/// A source of one file, `f`, whose reads with these numbers fail.
+fn source(alloc: Global, script: List<u8>, fails: &[u64]) -> Result<MemScripts, Fail> {
+    let mut held = Vec::new(alloc);
+    held.push((Text::from_str(alloc, "f")?, script))?;
+    let fails = Vec::from_slice(alloc, fails)?;
+    Ok(MemScripts::make(alloc, List::from_vec(held), List::from_vec(fails)))
+}
+
+/// A sink whose writes with these numbers fail, each after so many bytes.
+fn sink(alloc: Global, fails: &[(u64, u32)]) -> Result<MemSink, Fail> {
+    let fails = Vec::from_slice(alloc, fails)?;
+    Ok(MemSink::make(alloc, List::from_vec(fails)))
+}
+
+#[test]
+fn words_and_faults(rt: HostRuntime) -> Result<(), Fail> {
+    // The words, the reads and the writes that fail, and how the run of the empty script ends.
+    let cases: [(&[&str], &[u64], &[(u64, u32)], Status, &str); _] = [
+        (&["run", "f"], &[], &[], Status::Done, EMPTY),
+        (&[], &[], &[], Status::Words, ""),
+        (&["run"], &[], &[], Status::Words, ""),
+        (&["run", "f", "f"], &[], &[], Status::Words, ""),
+        (&["fill", "3"], &[], &[], Status::Words, ""),
+        (&["run", "f"], &[1], &[], Status::ReadFault, ""),
+        (&["run", "g"], &[], &[], Status::ReadFault, ""),
+        (
+            &["run", "f"],
+            &[],
+            &[(2, 0)],
+            Status::WriteFault,
+            "session 1\n",
+        ),
+        (
+            &["run", "f"],
+            &[],
+            &[(2, 3)],
+            Status::WriteFault,
+            "session 1\nhis",
+        ),
+    ];
+    for (words, reads, writes, status, written) in cases {
+        let empty = List::new(rt.alloc());
+        let mut scripts = source(rt.alloc(), empty, reads)?;
+        let mut out = sink(rt.alloc(), writes)?;
+        let ended = run(&rt, rt.alloc(), words, &mut scripts, &mut out, &NoGate);
+        assert_eq!(rt; ended.status, status);
+        assert!(rt; out.bytes() == written.as_bytes());
+    }
+    Ok(())
+}
+
+#[test]
+fn scripts_to_texts(rt: HostRuntime) -> Result<(), Fail> {
+    // A piece of a script, how many times it stands there, and how the run ends.
+    let cases: [(&[u8], usize, Status, &str); _] = [
+        (b"\xff", 1, Status::Script, ""),
+        (b" ", 1_048_577, Status::Script, ""),
+        (b" ", 1_048_576, Status::Done, EMPTY),
+        (b"x;", 65_536, Status::Script, ""),
+        (
+            b"tables, please",
+            1,
+            Status::Refused,
+            "session 1\n1 refused NotAStatement\nhistory\nend\n",
+        ),
+        (
+            b"create table t (a);",
+            1,
+            Status::Done,
+            "session 1\n1 committed 1\nhistory\n1 by 1\n  create table t (a)\nend\n",
+        ),
+        (
+            b"create table t (a);",
+            2,
+            Status::Refused,
+            "session 1\n1 committed 1\n2 refused NotYet\nhistory\n1 by 1\n  create table t (a)\nend\n",
+        ),
+    ];
+    for (piece, times, status, written) in cases {
+        let script = repeated(rt.alloc(), piece, times)?;
+        let mut scripts = source(rt.alloc(), script, &[])?;
+        let mut out = sink(rt.alloc(), &[])?;
+        let ended = run(
+            &rt,
+            rt.alloc(),
+            &["run", "f"],
+            &mut scripts,
+            &mut out,
+            &NoGate,
+        );
+        assert_eq!(rt; ended.status, status);
+        assert!(rt; out.bytes() == written.as_bytes());
+    }
+    Ok(())
+}
+
+/// Counts its calls, and how many of them did not come in their order.
+#[derive(Drop)]
+struct Counting {
+    calls: AtomicU64,
+    astray: AtomicU64,
+}
+
+impl Counting {
+    /// A call of session 1 has this many calls before it.
+    fn count(&self, session: u32, before: u64) {
+        if session != 1 || self.calls.fetch_add(1, Ordering::SeqCst) != before {
+            self.astray.fetch_add(1, Ordering::SeqCst);
+        }
+    }
+}
+
+impl Gate for Counting {
+    fn before<R: Wait>(&self, _: &R, session: u32, statement: u32) {
+        self.count(session, (2 * u64::from(statement)).saturating_sub(2));
+    }
+
+    fn after<R: Wait>(&self, _: &R, session: u32, statement: u32) {
+        self.count(session, (2 * u64::from(statement)).saturating_sub(1));
+    }
+}
+
+#[test]
+fn the_greatest_script_with_its_gate(rt: HostRuntime) -> Result<(), Fail> {
+    let script = repeated(rt.alloc(), b"x;", 65_535)?;
+    let mut scripts = source(rt.alloc(), script, &[])?;
+    let mut out = sink(rt.alloc(), &[])?;
+    let gate = Counting {
+        calls: AtomicU64::new(0),
+        astray: AtomicU64::new(0),
+    };
+    let ended = run(
+        &rt,
+        rt.alloc(),
+        &["run", "f"],
+        &mut scripts,
+        &mut out,
+        &gate,
+    );
+    assert_eq!(rt; ended.status, Status::Refused);
+    assert_eq!(rt;
+        out.bytes().iter().filter(|byte| **byte == b'\n').count(),
+        65_538
+    );
+    assert_eq!(rt; gate.calls.load(Ordering::SeqCst), 131_070);
+    assert_eq!(rt; gate.astray.load(Ordering::SeqCst), 0);
+    Ok(())
+}
