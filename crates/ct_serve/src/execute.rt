@@ -86,8 +86,7 @@ fn resolve<N: Site>(
             Ok(Prepared::Commit(offer))
         }
         Statement::Select { name, filter } => {
-            let answer =
-                answer_select(alloc, arena, pass, tables, history, name.as_str(), filter)?;
+            let answer = answer_select(alloc, arena, pass, tables, history, name.as_str(), filter)?;
             Ok(Prepared::Answer(answer))
         }
     }

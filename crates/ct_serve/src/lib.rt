@@ -15,9 +15,9 @@ mod selecting;
 mod serving;
 mod session;
 mod statement;
-mod words;
 #[cfg(test)]
 mod tests;
+mod words;
 
 pub use driving::run;
 pub use ending::{Run, Status};

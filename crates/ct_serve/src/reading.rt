@@ -9,7 +9,9 @@ ghost use Rattle.ct_serve.specs.declared.statement.Equality.{Equality as Equalit
 ghost use Rattle.ct_serve.specs.declared.statement.Statement.{Statement as StatementValue};
 ghost use Rattle.ct_serve.specs.declared.reading.ReadingError.TheVariants as fault;
 
-use crate::lexemes::{are_short, behind_symbol, behind_word, front, front_name, front_word, is_closed, only};
+use crate::lexemes::{
+    are_short, behind_symbol, behind_word, front, front_name, front_word, is_closed, only,
+};
 use crate::statement::{Cell, Equality, Statement};
 use ct_lex::{LexError, Lexeme, Symbol, Token, tokens};
 use ct_word::{List, Memory, Text};

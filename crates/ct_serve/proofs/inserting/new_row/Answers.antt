@@ -49,7 +49,7 @@ returns-clause-ready g c =
     let first = c.in_ok-row.ensures.longer in
     let is : IsRow rowed (length t.columns) r = subst (λ n. IsRow rowed n r) (ap (λ xs. length xs) c.as_slice.ensures ∙ c.requires.width) c.in_ok-row.ensures.row in
     let put : c.in_ok-tables.tables ≡ with_table db (with_rows name t rows) =
-        c.in_ok-tables.ensures ∙ table_put db c.in_ok-clone.field-0 name t c.in-Ok.table.columns rows c.in_ok-clone.ensures.cases c.in-Ok.ensures.columns in
+    c.in_ok-tables.ensures ∙ table_put db c.in_ok-clone.field-0 name t c.in-Ok.table.columns rows c.in_ok-clone.ensures.cases c.in-Ok.ensures.columns in
     subst (λ m. IsReady h words changes m c.in_ok-tables.tables) (sym c.in_ok-commit.ensures)
     (subst (λ ts. IsReady h words changes (row_commit c.version.result name c.args.terms) ts) (sym put)
     (row_ready h old rowed merged listed words db c.requires.denotes c.requires.everywhere first c.in-Ok.ensures.longer c.in-Ok-no_changes.ensures.longer c.in-Ok-insert_change.ensures.longer

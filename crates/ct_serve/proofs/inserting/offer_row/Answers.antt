@@ -37,7 +37,7 @@ returns-clause-ok g c =
     let are : terms ≡ map term_of cells = c.from_vec-terms.ensures ∙ c.in_ok-terms.ensures ∙ ap (map term_of) c.as_slice-3.ensures in
     let count : length cells ≡ length c.in-Some.table.now.columns = ap (λ xs. length xs) (sym c.as_slice.ensures) ∙ c.if-as_slice.false ∙ ap (λ xs. length xs) c.as_slice-2.ensures in
     let fits = fits_row h c.args.pass.now.words c.args.tables.now c.requires.denotes name cells (view_of name c.in-Some.table.now)
-        (subst (λ n. find_table c.args.tables.now n ≡ Some (view_of n c.in-Some.table.now)) c.as_str.ensures c.in-Some.ensures) count in
+    (subst (λ n. find_table c.args.tables.now n ≡ Some (view_of n c.in-Some.table.now)) c.as_str.ensures c.in-Some.ensures) count in
     ok_both c.new_row.result _ _ _
     (λ offer ready made. subst (λ m. IsOfferFor h words (inserted_into (columns_of (schema h []).tables name) name cells) offer.changes m offer.tables) (sym made)
     (row_offered h words name cells terms _ offer.changes _ offer.tables are fits (subst (λ m. IsReady h words offer.changes m offer.tables) made ready)))
