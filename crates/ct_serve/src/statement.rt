@@ -20,9 +20,15 @@ pub struct Equality {
 #[derive(Drop)]
 pub enum Statement {
     /// `CREATE TABLE name (columns)`
-    Create { name: Text, columns: List<Text> },
+    Create {
+        name: Text,
+        columns: List<Text>,
+    },
     /// `INSERT INTO name VALUES (cells)`
-    Insert { name: Text, cells: List<Cell> },
+    Insert {
+        name: Text,
+        cells: List<Cell>,
+    },
     /// `SELECT * FROM name [WHERE filter]`
     Select {
         name: Text,

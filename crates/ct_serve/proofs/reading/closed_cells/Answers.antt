@@ -10,8 +10,8 @@ pub returns-in_err-cell-clause-none : goal.returns-in_err-cell-clause-none
 returns-in_err-cell-clause-none c =
     let p = err_from_is_err_and c.from_residual.result c.from_residual.ensures.1 in
     rw (p.1, p.2) (λ other cells closes.
-        let ys = c.loop-first.invariant.reads cells closes in
-        no_cell c.in-Some.ensures.some (c.in_err-cell.ensures.none other) ys.0 ys.1)
+    let ys = c.loop-first.invariant.reads cells closes in
+    no_cell c.in-Some.ensures.some (c.in_err-cell.ensures.none other) ys.0 ys.1)
 
 pub returns-else-is_closed-clause-none : goal.returns-else-is_closed-clause-none
 returns-else-is_closed-clause-none c = λ other cells closes.

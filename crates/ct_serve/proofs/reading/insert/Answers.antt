@@ -11,5 +11,5 @@ pub returns-in_err-cells-clause-none : goal.returns-in_err-cells-clause-none
 returns-in_err-cells-clause-none c =
     let p = err_from_is_err_and c.from_residual.result c.from_residual.ensures.1 in
     rw (p.1, p.2) (λ other st spells.
-        let is = insert_said st spells in
-        c.in_err-cells.ensures.none other is.cells (cells_behind is c.in-Some.ensures.some))
+    let is = insert_said st spells in
+    c.in_err-cells.ensures.none other is.cells (cells_behind is c.in-Some.ensures.some))
