@@ -1,4 +1,4 @@
--- What the tokens of each kind of statement are.
+-- What the first word of a statement tells: its kind, and so what its tokens are.
 use Rattle.std.proofs.Common.{◌≡◌, ℕ, Bool, true, false, List, [], ◌∷◌, Option, Some, None, refl, sym, ap, ◌∙◌}
 use Rattle.std.specs.Prelude.{◌&&◌, IsTrue, IfNone, codes}
 use Rattle.std.specs.List.{list_all}
@@ -14,6 +14,7 @@ use Rattle.ct_serve.specs.declared.statement.Statement.TheVariants as statement
 use Rattle.ct_serve.specs.Statements.{word, closed_list, cell_said, filter_said, table_said, into_said, from_said, is_filled, is_filter_formed, Spells, ClosesNames, ClosesCells, Filters}
 use Rattle.ct_serve.proofs.ReadingLists.{behind, has_item}
 
+-- what holds anyway holds where there is no value
 pub if_none : {T P : Type 0} (o : Option T) → P → IfNone o P
 if_none None p = p
 if_none (Some x) p = tt
@@ -52,10 +53,12 @@ pub record IsSelect (ws : List Lexeme) : Type 0 where
   pub spelled : ws ≡ from_said name (filter_said filter)
   pub filters : Filters (filter_said filter) filter
 
+-- any list of cells passes
 all_cells : (cells : List Cell) → list_all (λ c. true) cells ≡ true
 all_cells [] = refl
 all_cells (c ∷ cs) = all_cells cs
 
+-- what begins with CREATE spells no other kind
 pub create_said : {ws : List Lexeme} (st : Statement) → Spells (word (codes "create") ∷ ws) st → IsCreate ws
 create_said (statement.Create name columns) s =
     let both = and_parts (is_name name && is_filled columns) (list_all is_name columns) s.formed in
@@ -70,6 +73,7 @@ create_said (statement.Create name columns) s =
 create_said (statement.Insert name cells) s = absurd (false≢true (sym (ap (starts_with (codes "create")) s.spelled)))
 create_said (statement.Select name filter) s = absurd (false≢true (sym (ap (starts_with (codes "create")) s.spelled)))
 
+-- what begins with INSERT spells no other kind
 pub insert_said : {ws : List Lexeme} (st : Statement) → Spells (word (codes "insert") ∷ ws) st → IsInsert ws
 insert_said (statement.Create name columns) s = absurd (false≢true (sym (ap (starts_with (codes "insert")) s.spelled)))
 insert_said (statement.Insert name cells) s =
@@ -83,6 +87,7 @@ insert_said (statement.Insert name cells) s =
     }
 insert_said (statement.Select name filter) s = absurd (false≢true (sym (ap (starts_with (codes "insert")) s.spelled)))
 
+-- what begins with SELECT spells no other kind
 pub select_said : {ws : List Lexeme} (st : Statement) → Spells (word (codes "select") ∷ ws) st → IsSelect ws
 select_said (statement.Create name columns) s = absurd (false≢true (sym (ap (starts_with (codes "select")) s.spelled)))
 select_said (statement.Insert name cells) s = absurd (false≢true (sym (ap (starts_with (codes "select")) s.spelled)))
@@ -90,7 +95,7 @@ select_said (statement.Select name filter) s =
     let both = and_parts (is_name name) (is_filter_formed filter) s.formed in
     record { name = name; filter = filter; named = both.0; spelled = ap behind s.spelled; filters = record { spelled = refl; formed = both.1 } }
 
--- tokens in front of which stands no cell close no list of cells
+-- where the first token is no cell, no list of cells is closed
 pub no_cell : {ws r : List Lexeme} {w : Lexeme} → ws ≡ w ∷ r → ((c : Cell) → w ≡ cell_said c → ⊥) → (xs : List Cell) → ClosesCells ws xs → ⊥
 no_cell {w = w} e never xs c =
     let front = has_item xs c in

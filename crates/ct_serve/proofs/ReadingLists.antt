@@ -1,12 +1,12 @@
 -- What the steps through a list in parentheses show.
-use Rattle.std.proofs.Common.{◌≡◌, ℕ, Bool, true, false, List, [], ◌∷◌, refl, ap, sym, subst, ◌∙◌}
-use Rattle.std.specs.Prelude.{◌&&◌, IsTrue}
+use Rattle.std.proofs.Common.{◌≡◌, Bool, true, false, List, [], ◌∷◌, refl, ap, sym, subst, ◌∙◌}
+use Rattle.std.specs.Prelude.{IsTrue}
 use Rattle.std.specs.List.{list_all}
 use Rattle.std.proofs.lemmas.Bool.{and_parts, and_from, false≢true}
 use Rattle.ct_lex.specs.declared.token.Lexeme.{Lexeme}
 use Rattle.ct_lex.specs.declared.token.Lexeme.TheVariants as lexeme
 use Rattle.ct_lex.specs.declared.token.Symbol.TheVariants as symbol
-use Rattle.ct_serve.specs.Statements.{Closes, is_filled}
+use Rattle.ct_serve.specs.Statements.{Closes}
 
 -- the lexemes behind the first
 abbrev pub behind : List Lexeme → List Lexeme

@@ -1,5 +1,5 @@
 -- The statements that are built, and which texts are read as which statement.
-use Rattle.std.specs.Prelude.{◌≡◌, ℕ, ◌-◌, Bool, true, false, ◌&&◌, List, [], ◌∷◌, ◌++◌, map, codes, nat_eq, nat_le, slice_index_or, Option, Some, None, IsTrue, if◌then◌else◌}
+use Rattle.std.specs.Prelude.{◌≡◌, ℕ, ◌-◌, Bool, true, false, ◌&&◌, List, [], ◌∷◌, map, codes, nat_eq, nat_le, slice_index_or, Option, Some, None, IsTrue, if◌then◌else◌}
 use Rattle.std.specs.List.{list_all}
 use Rattle.ct_word.specs.Writable.{is_name}
 use Rattle.ct_lex.specs.declared.token.Token.{Token}

@@ -23,4 +23,4 @@ pub use driving::run;
 pub use ending::{Run, Status};
 pub use reading::{ReadingError, read};
 pub use serving::serve;
-pub use statement::Statement;
+pub use statement::{Cell, Equality, Statement};

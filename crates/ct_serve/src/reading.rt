@@ -265,23 +265,70 @@ pub fn read(alloc: Global, text: &str) -> Result<Statement, ReadingError>
 
 #[cfg(test)]
 mod tests {
-    use super::{ReadingError, read};
-    use crate::statement::Statement;
+    use super::read;
+    use crate::statement::{Cell, Equality, Statement};
+    use ct_word::Text;
     use std::alloc::{AllocError, Global};
     use std::test::Fail;
 
-    /// The statement as it is read, or why there is none.
-    fn shown(alloc: Global, text: &str) -> Result<String, AllocError> {
-        let (name, columns) = match read(alloc, text) {
-            Ok(Statement::Create { name, columns }) => (name, columns),
-            Err(error) => return format!(in alloc; "{error:?}"),
-        };
-        let mut all = format!(in alloc; "create {}:", name.as_str())?;
-        for column in columns.as_slice() {
+    fn cell_shown(alloc: Global, cell: &Cell) -> Result<String, AllocError> {
+        match cell {
+            Cell::Number(number) => format!(in alloc; "{number}"),
+            Cell::Null(name) => format!(in alloc; "?{}", name.as_str()),
+        }
+    }
+
+    fn names_shown(alloc: Global, names: &[Text]) -> Result<String, AllocError> {
+        let mut all = String::new(alloc);
+        for name in names {
             all.push(' ')?;
-            all.push_str(column.as_str())?;
+            all.push_str(name.as_str())?;
         }
         Ok(all)
+    }
+
+    fn cells_shown(alloc: Global, cells: &[Cell]) -> Result<String, AllocError> {
+        let mut all = String::new(alloc);
+        for cell in cells {
+            let one = cell_shown(alloc, cell)?;
+            all.push(' ')?;
+            all.push_str(one.as_str())?;
+        }
+        Ok(all)
+    }
+
+    fn select_shown(
+        alloc: Global,
+        name: &str,
+        filter: &Option<Equality>,
+    ) -> Result<String, AllocError> {
+        match filter {
+            Some(Equality { column, cell }) => {
+                let cell = cell_shown(alloc, cell)?;
+                format!(in alloc;
+                    "select {name} where {} = {}",
+                    column.as_str(),
+                    cell.as_str()
+                )
+            }
+            None => format!(in alloc; "select {name}"),
+        }
+    }
+
+    /// The statement as it is read, or why there is none.
+    fn shown(alloc: Global, text: &str) -> Result<String, AllocError> {
+        match read(alloc, text) {
+            Ok(Statement::Create { name, columns }) => {
+                let columns = names_shown(alloc, columns.as_slice())?;
+                format!(in alloc; "create {}:{}", name.as_str(), columns.as_str())
+            }
+            Ok(Statement::Insert { name, cells }) => {
+                let cells = cells_shown(alloc, cells.as_slice())?;
+                format!(in alloc; "insert {}:{}", name.as_str(), cells.as_str())
+            }
+            Ok(Statement::Select { name, filter }) => select_shown(alloc, name.as_str(), &filter),
+            Err(error) => format!(in alloc; "{error:?}"),
+        }
     }
 
     #[test]
@@ -292,20 +339,96 @@ mod tests {
                 "CREATE TABLE Works(Person,-- who\nDept_1)",
                 "create works: person dept_1",
             ),
-            ("create table t ()", "NotAStatement"),
-            ("create table t (a b)", "NotAStatement"),
-            ("create table t (a,)", "NotAStatement"),
-            ("create table t (a) x", "NotAStatement"),
-            ("create table t (a, table)", "NotAStatement"),
-            ("create table Select (a)", "NotAStatement"),
-            ("create table t ('a')", "NotAStatement"),
-            ("create table t (a) 'x", "NotAStatement"),
-            ("create t (a)", "NotAStatement"),
-            ("", "NotAStatement"),
+            ("insert into t values (1)", "insert t: 1"),
+            (
+                "Insert INTO T Values(-7,?X , 0) -- a row",
+                "insert t: -7 ?x 0",
+            ),
+            ("insert into t values (?select)", "insert t: ?select"),
+            ("insert into t values (000000000000000001)", "insert t: 1"),
+            (
+                "insert into t values (999999999999999999,-999999999999999999)",
+                "insert t: 999999999999999999 -999999999999999999",
+            ),
+            ("select * from t", "select t"),
+            ("SELECT*FROM T--", "select t"),
+            ("select * from t where a = 1", "select t where a = 1"),
+            ("select * from t where a=?x", "select t where a = ?x"),
+            (
+                "select * from t where a = -000000000000000009",
+                "select t where a = -9",
+            ),
         ];
         for (text, wanted) in cases {
             let found = shown(rt.alloc(), text)?;
             assert_eq!(rt; found.as_str(), wanted);
+        }
+        Ok(())
+    }
+
+    #[test]
+    fn these_texts_are_no_statements(rt: HostRuntime) -> Result<(), Fail> {
+        let cases = [
+            "",
+            "-- nothing",
+            "t",
+            "create t (a)",
+            "create table (a)",
+            "create table t",
+            "create table t ()",
+            "create table t (a",
+            "create table t (a b)",
+            "create table t (a,)",
+            "create table t (a) x",
+            "create table t (a, table)",
+            "create table t (1)",
+            "create table Select (a)",
+            "create table t ('a')",
+            "create table t (a) 'x",
+            "create into t values (1)",
+            "insert t values (1)",
+            "insert into values (1)",
+            "insert into where values (1)",
+            "insert into t (1)",
+            "insert into t values",
+            "insert into t values 1",
+            "insert into t values ()",
+            "insert into t values (1",
+            "insert into t values (1,)",
+            "insert into t values (1 2)",
+            "insert into t values (1),(2)",
+            "insert into t values (1) 2",
+            "insert into t values (NULL)",
+            "insert into t values (a)",
+            "insert into t values ('a')",
+            "insert into t values (0000000000000000001)",
+            "insert into t values (-1000000000000000000)",
+            "insert into t values (99999999999999999999)",
+            "insert table t (a)",
+            "select",
+            "select a from t",
+            "select * t",
+            "select * from",
+            "select * from select",
+            "select * from t t",
+            "select * from t where",
+            "select * from t where a",
+            "select * from t where a =",
+            "select * from t where a = b",
+            "select * from t where 1 = a",
+            "select * from t where from = 1",
+            "select * from t where a <> 1",
+            "select * from t where a 1",
+            "select * from t where a = 'a'",
+            "select * from t where a = null",
+            "select * from t where a = 1 b",
+            "select * from t where a = 1000000000000000000",
+            "select * from t a = 1",
+            "select * from t; select * from t",
+        ];
+        for text in cases {
+            let found = shown(rt.alloc(), text)?;
+            assert_eq!(rt; found.as_str(), "NotAStatement", "{text}");
         }
         Ok(())
     }

@@ -87,6 +87,7 @@ fn is_keyword(word: &str) -> bool
     contains(&KEYWORDS, word)
 }
 
+/// Whether a text is a name: a word that is no keyword.
 pub fn is_name(text: &str) -> bool
     ensures { result ≡ writable.is_name text.now }
 {
