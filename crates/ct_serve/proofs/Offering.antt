@@ -16,6 +16,7 @@ use Rattle.ct_query.specs.Step.{step_change}
 use Rattle.ct_query.specs.Worlds.{world, after_changes}
 use Rattle.ct_query.specs.Schema.{schema}
 use Rattle.ct_query.proofs.Laws.{world_commit}
+use Rattle.ct_rewrite.specs.declared.answer.Node.{Node}
 use Rattle.ct_rewrite.specs.declared.history.Commit.{Commit}
 use Rattle.ct_rewrite.specs.declared.history.Change.TheVariants as change
 use Rattle.ct_rewrite.specs.History.{plain_commit, plain_history}
@@ -70,6 +71,11 @@ still_everywhere h c name columns e all v =
 
 printed_with : (m n : ℕ) (xs ys : List PlainChange) → m ≡ n → xs ≡ ys → (let c : PlainCommit = record { session = 1; number = m; changes = xs } in c) ≡ record { session = 1; number = n; changes = ys }
 printed_with m n xs ys e f = λ i. record { session = 1; number = e i; changes = f i }
+
+-- the commit that prints a creation has no nodes
+pub without_nodes : (number : ℕ) (nodes : List Node) (name : List ℕ) (columns : List (List ℕ)) → nodes ≡ []
+    → (let c : Commit = record { session = 1; number = number; nodes = nodes; changes = change.Create name columns ∷ [] } in c) ≡ record { session = 1; number = number; nodes = []; changes = change.Create name columns ∷ [] }
+without_nodes number nodes name columns e = λ i. record { session = 1; number = number; nodes = e i; changes = change.Create name columns ∷ [] }
 
 -- the offer of a new table is ready
 pub new_table_is : (h : List PlainCommit) (old words : List ℕ) (db : List TableView) (name : List ℕ) (columns : List (List ℕ)) (list changes number : ℕ) (tables : List TableView)

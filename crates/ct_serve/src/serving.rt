@@ -8,6 +8,7 @@ ghost use Rattle.ct_serve.specs.Lawful.{Lawful};
 ghost use Rattle.ct_serve.specs.Progress.{Progress};
 
 use crate::execute::execute;
+use crate::lists::list_of_one;
 use crate::session::Session;
 use ct_arena::{Arena, Blank, Site};
 use ct_lex::split;
@@ -93,18 +94,6 @@ fn begin<N: Site>(alloc: Global, blank: Blank) -> Result<(Arena<N>, Session<N>),
     Ok((arena, session))
 }
 
-/// A list of one item.
-///
-/// # Errors
-/// `Memory` where there is none for it.
-fn single<T: Drop>(alloc: Global, item: T) -> Result<List<T>, Memory>
-    ensures { IfOk result (λ items. items ≡ item ∷ []) }
-{
-    let mut items = Vec::with_capacity(alloc, 1)?;
-    items.push_reserved(item);
-    Ok(List::from_vec(items))
-}
-
 /// Ends the session and the log, and gives the transcript.
 ///
 /// # Errors
@@ -128,7 +117,7 @@ fn end<N: Site>(
         ..
     } = session;
     let replies = List::from_vec(replies);
-    let sessions = single(alloc, SessionLog { script, replies })?;
+    let sessions = list_of_one(alloc, SessionLog { script, replies })?;
     keeper.end(&arena, pass);
     Ok(Transcript {
         sessions,

@@ -7,14 +7,14 @@ use Rattle.ct_rewrite.specs.History.{plain_history}
 use Rattle.ct_word.proofs.Prefixes.{prefix_of_prefix}
 use Rattle.ct_serve.specs.Catalogue.{IsNewTable}
 use Rattle.ct_serve.proofs.Committing.{length_printed}
-use Rattle.ct_serve.proofs.Offering.{new_table_is, with_parts}
+use Rattle.ct_serve.proofs.Offering.{new_table_is, with_parts, without_nodes}
 use Rattle.ct_serve.proofs.creating.new_table.Goals as goal
 
 pub returns-clause-ok : goal.returns-clause-ok
 returns-clause-ok g c =
     let h = plain_history c.args.history.now in
     let words = c.create.new.pass.words in
-    subst (λ m. IsNewTable h words c.args.name c.args.columns c.in-Ok-create.changes m c.in_ok-tables.tables) (sym c.in_ok-commit.ensures)
+    subst (λ m. IsNewTable h words c.args.name c.args.columns c.in-Ok-create.changes m c.in_ok-tables.tables) (sym (c.in_ok-commit.ensures ∙ without_nodes c.version.result c.new-2.result c.args.name c.args.columns c.new-2.ensures))
     (new_table_is h c.args.pass.now.words words c.args.tables.now c.args.name c.args.columns c.in-Ok.list c.in-Ok-create.changes c.version.result c.in_ok-tables.tables
     c.requires.denotes c.requires.everywhere c.requires.absent (prefix_of_prefix c.args.pass.now.words c.no_changes.new.pass.words words c.in-Ok.ensures.longer c.in-Ok-create.ensures.longer)
     (c.version.ensures ∙ sym (length_printed c.args.history.now))
