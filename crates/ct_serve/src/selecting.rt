@@ -1,12 +1,14 @@
 // SELECT: the answer to a query of the rows of one table.
 
-ghost use Rattle.std.specs.Prelude.{◌≡◌, ◌<◌, ◌^◌, [], length, IfOk, IfErr};
+ghost use Rattle.std.specs.Prelude.{◌≡◌, ◌<◌, [], length, IfOk, IfErr, IsTrue};
 ghost use mathlib.Core.List.{IsPrefix};
+ghost use Rattle.ct_word.specs.declared.kinds.Class.TheVariants as class;
+ghost use Rattle.ct_word.specs.WellFormed.{is_place_of};
 ghost use Rattle.ct_query.specs.Schema.{schema};
 ghost use Rattle.ct_history.specs.Kept.{kept_of};
 ghost use Rattle.ct_rewrite.specs.History.{plain_history};
 ghost use Rattle.ct_table.specs.Denotes.{Denotes};
-ghost use Rattle.ct_table.specs.Tables.{AreRows};
+ghost use Rattle.ct_table.specs.Tables.{AreRows, IsRow};
 ghost use Rattle.ct_serve.specs.Catalogue.{IsAdmittedEverywhere, IsAnswerFor, IsRefusedAs, IsWant};
 ghost use Rattle.ct_serve.specs.Names.{columns_of, selected_from};
 ghost use Rattle.ct_serve.specs.Printed.{IsPrinted};
@@ -108,5 +110,82 @@ pub fn answer_select<N: Site>(
     match answer_where(alloc, arena, pass, table, column, &equality.cell) {
         Ok(answer) => Ok(answer),
         Err(why) => Err(why),
+    }
+}
+
+#[cfg(test)]
+mod tests {
+    use super::answer_where;
+    use crate::statement::Cell;
+    use ct_arena::{Arena, Blank, Pass, Site};
+    use ct_condition::{eq, term};
+    use ct_rewrite::Node;
+    use ct_table::{CTable, insert};
+    use ct_word::{CRow, List, Null, Term, Text, Value};
+    use std::alloc::{AllocError, Global};
+    use std::marker::Brand;
+    use std::process::Abort;
+    use std::test::Fail;
+
+    fn text(alloc: Global, text: &str) -> Result<Text, AllocError> {
+        Ok(Text::from_string(String::from_str(alloc, text)?))
+    }
+
+    /// A table of one column, without rows.
+    fn table(alloc: Global) -> Result<CTable, AllocError>
+        ensures columns { IfOk result (λ t. length t.columns ≡ 1) }
+        ensures rows { IfOk result (λ t. t.rows ≡ []) }
+    {
+        Ok(CTable {
+            columns: List::from_vec(Vec::from_array(alloc, [text(alloc, "a")?])?),
+            rows: List::new(alloc),
+        })
+    }
+
+    /// The row of one term, under a condition that folds to true.
+    #[tactic(auto, using(ct_word::proofs::Prefixes::place_in_prefix))]
+    fn row<N: Site>(
+        alloc: Global,
+        arena: &Arena<N>,
+        pass: &mut Pass<N>,
+        x: u32,
+    ) -> Result<CRow, Fail>
+        requires { IsTrue (is_place_of pass.old.words class.Term x) }
+        ensures row { IfOk result (λ r. IsRow pass.new.words 1 r) }
+        ensures longer { IsPrefix pass.old.words pass.new.words }
+    {
+        let cond = eq(arena, pass, x, x)?;
+        let cells = List::from_vec(Vec::from_array(alloc, [x])?);
+        Ok(CRow { cells, cond })
+    }
+
+    /// SELECT * FROM t WHERE a = 2, where t has the row (?x).
+    fn ask<N: Site>(rt: &impl Abort, alloc: Global, blank: Blank) -> Result<(), Fail>
+        requires { blank ≡ N.log }
+    {
+        let (arena, mut keeper) = Arena::<N>::make(blank);
+        let mut pass = keeper.enrol(alloc, &arena)?;
+        let null = Term::Null(Null::Named(text(alloc, "x")?));
+        let x = term(&arena, &mut pass, &null)?;
+        let rows = [row(alloc, &arena, &mut pass, x)?];
+        let filled = insert(alloc, &arena, &mut pass, &table(alloc)?, &rows)?;
+        let asked = answer_where(alloc, &arena, &mut pass, &filled, 0, &Cell::Number(2));
+        let answer = asked.ok().ok_or("refused")?;
+        let found = answer.rows.as_slice().first().ok_or("no row")?;
+        let nodes = answer.nodes.as_slice();
+        let global = nodes.get(answer.global as usize).ok_or("no node")?;
+        let cond = nodes.get(found.cond as usize).ok_or("no node")?;
+        assert!(rt; *global == Node::True);
+        assert!(rt; *cond == Node::Eq(null, Term::Value(Value::Int(2))));
+        assert_eq!(rt; found.cells.as_slice().len(), 1);
+        Ok(())
+    }
+
+    #[test]
+    fn a_row_is_answered_under_the_condition_that_it_is_asked_for(
+        rt: HostRuntime,
+    ) -> Result<(), Fail> {
+        let blank = Blank::make(rt.alloc(), 64)?;
+        ask::<Brand>(&rt, rt.alloc(), blank)
     }
 }
