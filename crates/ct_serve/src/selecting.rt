@@ -7,6 +7,7 @@ ghost use Rattle.ct_word.specs.WellFormed.{is_place_of};
 ghost use Rattle.ct_query.specs.Schema.{schema};
 ghost use Rattle.ct_history.specs.Kept.{kept_of};
 ghost use Rattle.ct_rewrite.specs.History.{plain_history};
+ghost use Rattle.ct_condition.specs.Terms.{FitsFields};
 ghost use Rattle.ct_table.specs.Denotes.{Denotes};
 ghost use Rattle.ct_table.specs.Tables.{AreRows, IsRow};
 ghost use Rattle.ct_serve.specs.Catalogue.{IsAdmittedEverywhere, IsAnswerFor, IsRefusedAs, IsWant};
@@ -121,10 +122,10 @@ mod tests {
     use ct_condition::{eq, term};
     use ct_rewrite::Node;
     use ct_table::{CTable, insert};
+    use ct_transcript::Answer;
     use ct_word::{CRow, List, Null, Term, Text, Value};
     use std::alloc::{AllocError, Global};
     use std::marker::Brand;
-    use std::process::Abort;
     use std::test::Fail;
 
     fn text(alloc: Global, text: &str) -> Result<Text, AllocError> {
@@ -159,33 +160,45 @@ mod tests {
         Ok(CRow { cells, cond })
     }
 
-    /// SELECT * FROM t WHERE a = 2, where t has the row (?x).
-    fn ask<N: Site>(rt: &impl Abort, alloc: Global, blank: Blank) -> Result<(), Fail>
+    fn null(alloc: Global) -> Result<Term, AllocError>
+        ensures { IfOk result FitsFields }
+    {
+        Ok(Term::Null(Null::Named(text(alloc, "x")?)))
+    }
+
+    /// The answer to SELECT * FROM t WHERE a = 2, where t has the row (?x).
+    fn ask<N: Site>(alloc: Global, blank: Blank) -> Result<Answer, Fail>
         requires { blank ≡ N.log }
     {
         let (arena, mut keeper) = Arena::<N>::make(blank);
         let mut pass = keeper.enrol(alloc, &arena)?;
-        let null = Term::Null(Null::Named(text(alloc, "x")?));
-        let x = term(&arena, &mut pass, &null)?;
+        let x = term(&arena, &mut pass, &null(alloc)?)?;
         let rows = [row(alloc, &arena, &mut pass, x)?];
         let filled = insert(alloc, &arena, &mut pass, &table(alloc)?, &rows)?;
-        let asked = answer_where(alloc, &arena, &mut pass, &filled, 0, &Cell::Number(2));
-        let answer = asked.ok().ok_or("refused")?;
-        let found = answer.rows.as_slice().first().ok_or("no row")?;
-        let nodes = answer.nodes.as_slice();
-        let global = nodes.get(answer.global as usize).ok_or("no node")?;
-        let cond = nodes.get(found.cond as usize).ok_or("no node")?;
-        assert!(rt; *global == Node::True);
-        assert!(rt; *cond == Node::Eq(null, Term::Value(Value::Int(2))));
-        assert_eq!(rt; found.cells.as_slice().len(), 1);
-        Ok(())
+        match answer_where(alloc, &arena, &mut pass, &filled, 0, &Cell::Number(2)) {
+            Ok(answer) => Ok(answer),
+            Err(_) => Err("refused".into()),
+        }
+    }
+
+    fn is_node(answer: &Answer, position: u32, node: &Node) -> bool {
+        match answer.nodes.as_slice().get(position as usize) {
+            Some(found) => *found == *node,
+            None => false,
+        }
     }
 
     #[test]
     fn a_row_is_answered_under_the_condition_that_it_is_asked_for(
         rt: HostRuntime,
     ) -> Result<(), Fail> {
-        let blank = Blank::make(rt.alloc(), 64)?;
-        ask::<Brand>(&rt, rt.alloc(), blank)
+        let alloc = rt.alloc();
+        let answer = ask::<Brand>(alloc, Blank::make(alloc, 64)?)?;
+        let row = answer.rows.as_slice().first().ok_or("no row")?;
+        let wanted = Node::Eq(null(alloc)?, Term::Value(Value::Int(2)));
+        assert_eq!(rt; row.cells.as_slice().len(), 1);
+        assert!(rt; is_node(&answer, row.cond, &wanted));
+        assert!(rt; is_node(&answer, answer.global, &Node::True));
+        Ok(())
     }
 }
