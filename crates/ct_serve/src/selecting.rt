@@ -1,12 +1,15 @@
 // SELECT: the answer to a query of the rows of one table.
 
-ghost use Rattle.std.specs.Prelude.{◌≡◌, ◌<◌, ◌^◌, [], length, IfOk, IfErr};
+ghost use Rattle.std.specs.Prelude.{◌≡◌, ◌<◌, [], length, IfOk, IfErr, IsTrue};
 ghost use mathlib.Core.List.{IsPrefix};
+ghost use Rattle.ct_word.specs.declared.kinds.Class.TheVariants as class;
+ghost use Rattle.ct_word.specs.WellFormed.{is_place_of};
 ghost use Rattle.ct_query.specs.Schema.{schema};
 ghost use Rattle.ct_history.specs.Kept.{kept_of};
 ghost use Rattle.ct_rewrite.specs.History.{plain_history};
+ghost use Rattle.ct_condition.specs.Terms.{FitsFields};
 ghost use Rattle.ct_table.specs.Denotes.{Denotes};
-ghost use Rattle.ct_table.specs.Tables.{AreRows};
+ghost use Rattle.ct_table.specs.Tables.{AreRows, IsRow};
 ghost use Rattle.ct_serve.specs.Catalogue.{IsAdmittedEverywhere, IsAnswerFor, IsRefusedAs, IsWant};
 ghost use Rattle.ct_serve.specs.Names.{columns_of, selected_from};
 ghost use Rattle.ct_serve.specs.Printed.{IsPrinted};
@@ -108,5 +111,94 @@ pub fn answer_select<N: Site>(
     match answer_where(alloc, arena, pass, table, column, &equality.cell) {
         Ok(answer) => Ok(answer),
         Err(why) => Err(why),
+    }
+}
+
+#[cfg(test)]
+mod tests {
+    use super::answer_where;
+    use crate::statement::Cell;
+    use ct_arena::{Arena, Blank, Pass, Site};
+    use ct_condition::{eq, term};
+    use ct_rewrite::Node;
+    use ct_table::{CTable, insert};
+    use ct_transcript::Answer;
+    use ct_word::{CRow, List, Null, Term, Text, Value};
+    use std::alloc::{AllocError, Global};
+    use std::marker::Brand;
+    use std::test::Fail;
+
+    fn text(alloc: Global, text: &str) -> Result<Text, AllocError> {
+        Ok(Text::from_string(String::from_str(alloc, text)?))
+    }
+
+    /// A table of one column, without rows.
+    fn table(alloc: Global) -> Result<CTable, AllocError>
+        ensures columns { IfOk result (λ t. length t.columns ≡ 1) }
+        ensures rows { IfOk result (λ t. t.rows ≡ []) }
+    {
+        Ok(CTable {
+            columns: List::from_vec(Vec::from_array(alloc, [text(alloc, "a")?])?),
+            rows: List::new(alloc),
+        })
+    }
+
+    /// The row of one term, under a condition that folds to true.
+    #[tactic(auto, using(ct_word::proofs::Prefixes::place_in_prefix))]
+    fn row<N: Site>(
+        alloc: Global,
+        arena: &Arena<N>,
+        pass: &mut Pass<N>,
+        x: u32,
+    ) -> Result<CRow, Fail>
+        requires { IsTrue (is_place_of pass.old.words class.Term x) }
+        ensures row { IfOk result (λ r. IsRow pass.new.words 1 r) }
+        ensures longer { IsPrefix pass.old.words pass.new.words }
+    {
+        let cond = eq(arena, pass, x, x)?;
+        let cells = List::from_vec(Vec::from_array(alloc, [x])?);
+        Ok(CRow { cells, cond })
+    }
+
+    fn null(alloc: Global) -> Result<Term, AllocError>
+        ensures { IfOk result FitsFields }
+    {
+        Ok(Term::Null(Null::Named(text(alloc, "x")?)))
+    }
+
+    /// The answer to SELECT * FROM t WHERE a = 2, where t has the row (?x).
+    fn ask<N: Site>(alloc: Global, blank: Blank) -> Result<Answer, Fail>
+        requires { blank ≡ N.log }
+    {
+        let (arena, mut keeper) = Arena::<N>::make(blank);
+        let mut pass = keeper.enrol(alloc, &arena)?;
+        let x = term(&arena, &mut pass, &null(alloc)?)?;
+        let rows = [row(alloc, &arena, &mut pass, x)?];
+        let filled = insert(alloc, &arena, &mut pass, &table(alloc)?, &rows)?;
+        match answer_where(alloc, &arena, &mut pass, &filled, 0, &Cell::Number(2)) {
+            Ok(answer) => Ok(answer),
+            Err(_) => Err("refused".into()),
+        }
+    }
+
+    fn is_node(answer: &Answer, position: u32, node: &Node) -> bool {
+        match answer.nodes.as_slice().get(position as usize) {
+            Some(found) => *found == *node,
+            None => false,
+        }
+    }
+
+    #[test]
+    fn a_row_is_answered_under_the_condition_that_it_is_asked_for(
+        rt: HostRuntime,
+    ) -> Result<(), Fail> {
+        let alloc = rt.alloc();
+        let answer = ask::<Brand>(alloc, Blank::make(alloc, 64)?)?;
+        let row = answer.rows.as_slice().first().ok_or("no row")?;
+        let wanted = Node::Eq(null(alloc)?, Term::Value(Value::Int(2)));
+        assert_eq!(rt; row.cells.as_slice().len(), 1);
+        assert!(rt; is_node(&answer, row.cond, &wanted));
+        assert!(rt; is_node(&answer, answer.global, &Node::True));
+        Ok(())
     }
 }
