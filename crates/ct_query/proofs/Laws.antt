@@ -17,7 +17,7 @@ changes_of-snoc [] c = append-nil c.changes
 changes_of-snoc (d ∷ h) c = ap (λ xs. d.changes ++ xs) (changes_of-snoc h c) ∙ sym (append_assoc d.changes (changes_of h) c.changes)
 
 module _ (v : World) where
-  after_changes-append : (w : Option Database) (xs ys : List PlainChange) → after_changes v w (xs ++ ys) ≡ after_changes v (after_changes v w xs) ys
+  pub after_changes-append : (w : Option Database) (xs ys : List PlainChange) → after_changes v w (xs ++ ys) ≡ after_changes v (after_changes v w xs) ys
   after_changes-append w [] ys = refl
   after_changes-append w (x ∷ xs) ys = after_changes-append (option_and_then (λ d. step_change v d x) w) xs ys
 

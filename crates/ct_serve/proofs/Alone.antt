@@ -1,6 +1,6 @@
 -- The session at its beginning, after one statement more, and the transcript at its end.
 use Rattle.std.proofs.Common.{◌≡◌, ℕ, zero, suc, ◌+◌, ◌<◌, ◌≤◌, List, [], ◌∷◌, ◌++◌, length, map, take, get_or, refl, ap, sym, subst, ◌∙◌, arith, length-append}
-use Rattle.std.specs.Prelude.{Option, Some, None, IsSome, IsTrue, All, option_and_then, is_some}
+use Rattle.std.specs.Prelude.{Option, Some, None, IsSome, IsTrue, is_some}
 use Rattle.std.proofs.lemmas.List.{take_more, take-map, map-append}
 use Rattle.std.proofs.lemmas.List.Elements.{All-nil}
 use mathlib.Core.List.{IsPrefix}
@@ -12,18 +12,17 @@ use Rattle.ct_word.specs.Reading.{commits_of, meaning_of}
 use Rattle.ct_word.specs.WellFormed.{IsWellFormed}
 use Rattle.ct_word.proofs.Prefixes.{prefix_same}
 use Rattle.ct_query.specs.Database.{Database}
-use Rattle.ct_query.specs.Step.{step_change}
-use Rattle.ct_query.specs.Worlds.{world, admits, after_changes, changes_of}
+use Rattle.ct_query.proofs.Laws.{after_changes-append}
+use Rattle.ct_query.specs.Worlds.{after_changes, changes_of}
 use Rattle.ct_arena.specs.Seen.{Seen, Keeping}
 use Rattle.ct_arena.specs.Counts.{opening}
 use Rattle.ct_rewrite.specs.declared.history.Commit.{Commit}
 use Rattle.ct_rewrite.specs.History.{plain_history, IsCommitFormed}
-use Rattle.ct_rewrite.specs.StandsFor.{SameRows, SameChange, SameChanges, SameCommits, StandsFor}
+use Rattle.ct_rewrite.specs.StandsFor.{SameRows, SameChange, SameChanges, SameCommits}
 use Rattle.ct_table.specs.Denotes.{TableView, IsKept}
 use Rattle.ct_lex.specs.Texts.{texts}
 use Rattle.ct_transcript.specs.declared.reply.Reply.{Reply}
 use Rattle.ct_transcript.specs.declared.reply.SessionLog.{SessionLog}
-use Rattle.ct_transcript.specs.declared.transcript.Transcript.{Transcript}
 use Rattle.ct_serve.specs.Catalogue.{IsCatalogue}
 use Rattle.ct_serve.specs.Progress.{Commits, nothing, one, Answers, Progress, state_after}
 use Rattle.ct_serve.specs.Sessions.{AreLawfulSessions}
@@ -104,10 +103,6 @@ same_commits (c ∷ h) = (refl, refl, same_changes c.changes, same_commits h)
 
 -- what a history admits, its beginnings admit
 module _ (v : World) where
-  after_append : (w : Option Database) (xs ys : List PlainChange) → after_changes v w (xs ++ ys) ≡ after_changes v (after_changes v w xs) ys
-  after_append w [] ys = refl
-  after_append w (x ∷ xs) ys = after_append (option_and_then (λ d. step_change v d x) w) xs ys
-
   none_stays : (xs : List PlainChange) → after_changes v None xs ≡ None
   none_stays [] = refl
   none_stays (x ∷ xs) = none_stays xs
@@ -120,8 +115,8 @@ module _ (v : World) where
   front_admits w h zero some = some_before w (changes_of h) some
   front_admits w [] (suc m) some = some_before w [] some
   front_admits w (c ∷ h) (suc m) some =
-      subst (λ x. IsTrue (is_some x)) (sym (after_append w c.changes (changes_of (take m h))))
-      (front_admits (after_changes v w c.changes) h m (subst IsSome (after_append w c.changes (changes_of h)) some))
+      subst (λ x. IsTrue (is_some x)) (sym (after_changes-append v w c.changes (changes_of (take m h))))
+      (front_admits (after_changes v w c.changes) h m (subst IsSome (after_changes-append v w c.changes (changes_of h)) some))
 
 opens : (words : List ℕ) → IsPrefix opening words → take 2 words ≡ first_words
 unfolding opening

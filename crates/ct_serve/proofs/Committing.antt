@@ -1,13 +1,13 @@
 -- A catalogue after a commit, and after one that found the log full.
-use Rattle.std.proofs.Common.{◌≡◌, ℕ, suc, ◌+◌, ◌<◌, ◌≤◌, List, [], ◌∷◌, ◌++◌, length, map, refl, ap, sym, subst, ◌∙◌, arith, length-append}
-use Rattle.std.specs.Prelude.{None, IsTrue, All}
+use Rattle.std.proofs.Common.{◌≡◌, ℕ, suc, ◌+◌, ◌<◌, ◌≤◌, List, [], ◌∷◌, ◌++◌, length, refl, ap, sym, subst, ◌∙◌, arith, length-append}
+use Rattle.std.specs.Prelude.{None, All}
 use Rattle.std.proofs.lemmas.List.{map_push}
 use Rattle.std.proofs.lemmas.List.Elements.{All-push}
 use mathlib.Core.List.{IsPrefix}
 use Rattle.ct_word.specs.declared.kinds.Class.TheVariants as class
 use Rattle.ct_word.specs.Change.{PlainChange, PlainCommit}
 use Rattle.ct_word.specs.Reading.{commits_of, change_list_at}
-use Rattle.ct_word.specs.WellFormed.{IsWellFormed, is_place_of}
+use Rattle.ct_word.specs.WellFormed.{IsWellFormed}
 use Rattle.ct_word.proofs.Growth.{place_within}
 use Rattle.ct_word.proofs.Prefixes.{change_list_in_prefix}
 use Rattle.ct_arena.specs.Seen.{Seen, Keeping}

@@ -1,6 +1,6 @@
 -- The offer of a row for a table that is there.
-use Rattle.std.proofs.Common.{◌≡◌, ℕ, ◌+◌, Bool, true, false, List, [], ◌∷◌, ◌++◌, length, map, refl, ap, sym, subst, ◌∙◌, arith}
-use Rattle.std.specs.Prelude.{Option, Some, None, IsSome, IsTrue, All, option_and_then, option_map, if◌then◌else◌, nat_eq, sum_by, count_by}
+use Rattle.std.proofs.Common.{◌≡◌, ℕ, Bool, true, false, List, [], ◌∷◌, ◌++◌, length, map, refl, ap, sym, subst, ◌∙◌, arith}
+use Rattle.std.specs.Prelude.{Option, Some, None, IsTrue, All, option_map, if◌then◌else◌, nat_eq, count_by}
 use Rattle.std.proofs.lemmas.Bool.{eqb-true, eq-eqb}
 use Rattle.std.proofs.lemmas.List.Elements.{All-cons, All-push, All-nil, recursion_from_All}
 use mathlib.Core.List.{IsPrefix}
@@ -10,35 +10,31 @@ use Rattle.ct_word.specs.declared.values.CRow.{CRow}
 use Rattle.ct_word.specs.Value.{World}
 use Rattle.ct_word.specs.Sublist.{IsSublist}
 use Rattle.ct_word.specs.Condition.{True}
-use Rattle.ct_word.specs.Change.{PlainRow, PlainChange, Insert, PlainCommit}
+use Rattle.ct_word.specs.Change.{PlainRow, Insert, PlainCommit}
 use Rattle.ct_word.specs.WellFormed.{is_place_of}
 use Rattle.ct_word.specs.Reading.{IsChangeList, as_change_list, change_list_at, plain_crow}
 use Rattle.ct_word.specs.Stands.{StandsAt}
 use Rattle.ct_word.proofs.Prefixes.{prefix_of_prefix}
 use Rattle.ct_query.specs.Plain.{PlainAction, PlainStatement}
 use Rattle.ct_query.specs.Plain as plain
-use Rattle.ct_query.specs.Database.{Database, SameSet}
-use Rattle.ct_query.specs.Step.{step_change, shown_rows}
-use Rattle.ct_query.specs.Worlds.{world, after_changes}
+use Rattle.ct_query.specs.Database.{SameSet}
+use Rattle.ct_query.specs.Step.{shown_rows}
 use Rattle.ct_query.specs.Schema.{schema}
-use Rattle.ct_query.specs.Agrees.{Agrees, SameTruthAlone}
+use Rattle.ct_query.specs.Agrees.{SameTruthAlone}
 use Rattle.ct_condition.specs.Terms.{FitsFields}
 use Rattle.ct_history.specs.Rows.{IsRowOf}
-use Rattle.ct_query.proofs.Laws.{world_commit}
-use Rattle.ct_rewrite.specs.declared.answer.Node.TheVariants as node
 use Rattle.ct_rewrite.specs.declared.history.Commit.{Commit}
-use Rattle.ct_rewrite.specs.declared.history.Change.TheVariants as change
 use Rattle.ct_rewrite.specs.History.{plain_commit}
-use Rattle.ct_table.specs.Denotes.{TableView, heading_of, IsKept, Denotes, find_table, with_table}
+use Rattle.ct_table.specs.Denotes.{TableView, IsKept, Denotes, find_table, with_table}
 use Rattle.ct_table.specs.Tables.{cells_of, value_of_rows, IsRow, AreRows}
 use Rattle.ct_table.proofs.Denoting.{with_rows, found_all, inserted_denotes, denotes_grows}
-use Rattle.ct_table.proofs.Growing.{row_grows, rows_grow, cells_grow, value_grows, is_row_grows}
+use Rattle.ct_table.proofs.Growing.{row_grows, rows_grow, cells_grow, value_grows}
 use Rattle.ct_serve.specs.declared.statement.Cell.{Cell}
 use Rattle.ct_serve.specs.declared.statement.Cell.TheVariants as cell
 use Rattle.ct_serve.specs.Names.{columns_of, inserted_into, term_of}
-use Rattle.ct_serve.specs.State.{drawn, is_fresh}
+use Rattle.ct_serve.specs.State.{is_fresh}
 use Rattle.ct_serve.specs.Catalogue.{IsAdmittedEverywhere, IsReady, IsOfferFor, row_commit}
-use Rattle.ct_serve.proofs.Offering.{columns_found}
+use Rattle.ct_serve.proofs.Offering.{columns_found, still_everywhere}
 
 -- what is true of an item is true of each item of the list of it
 pub one_of : {A : Type 0} (P : A → Type 0) (x : A) → P x → All P (x ∷ [])
@@ -76,15 +72,6 @@ row_under_true ts = record { cells = ts; condition = True }
 
 printed_row : (number : ℕ) (name : List ℕ) (ts : List Term) → (plain_commit (row_commit number name ts)).changes ≡ Insert name (row_under_true ts ∷ []) ∷ []
 printed_row number name ts = refl
-
--- every valuation is admitted after rows are inserted
-still_everywhere : (h : List PlainCommit) (c : PlainCommit) (name : List ℕ) (rs : List PlainRow) → c.changes ≡ Insert name rs ∷ []
-    → IsAdmittedEverywhere h → IsAdmittedEverywhere (h ++ c ∷ [])
-still_everywhere h c name rs e all v =
-    subst IsSome (sym (world_commit v h c ∙ ap (after_changes v (world v h [])) e)) (by_world (world v h []) (all v)) where
-      by_world : (o : Option Database) → IsSome o → IsSome (option_and_then (λ w. step_change v w (Insert name rs)) o)
-      by_world (Some w) s = refl
-      by_world None s = s
 
 module _ (h : List PlainCommit) (old rowed merged listed words : List ℕ) (db : List TableView) (d : Denotes old h db) (all : IsAdmittedEverywhere h) where
   module _ (first : IsPrefix old rowed) (second : IsPrefix rowed merged) (third : IsPrefix merged listed) (fourth : IsPrefix listed words) where
@@ -133,7 +120,7 @@ module _ (h : List PlainCommit) (old rowed merged listed words : List ℕ) (db :
                 inserted_denotes words h (plain_commit commit) db
                 (denotes_grows old words (prefix_of_prefix old rowed words first to_end) h db d)
                 name (row_under_true ts ∷ []) refl t rows found tuples_at_end (rows_grow merged words from_merged (length t.columns) rows are) part_at_end;
-            everywhere = still_everywhere h (plain_commit commit) name (row_under_true ts ∷ []) refl all;
+            everywhere = still_everywhere h (plain_commit commit) (Insert name (row_under_true ts ∷ [])) (λ v w. refl) refl all;
           }
 
 -- the offer of a row for what the statement resolves to

@@ -1,13 +1,12 @@
 -- The offer of a new table.
 use Rattle.std.proofs.Common.{◌≡◌, ℕ, Bool, true, false, List, [], ◌∷◌, ◌++◌, length, map, refl, ap, sym, subst, ◌∙◌}
-use Rattle.std.specs.Prelude.{Option, Some, None, IsSome, IsTrue, option_and_then, option_map, if◌then◌else◌, slice_get}
+use Rattle.std.specs.Prelude.{Option, Some, None, IsSome, IsTrue, option_and_then, option_map, if◌then◌else◌}
 use mathlib.Core.List.{IsPrefix}
 use Rattle.ct_word.specs.Value.{World, same_text}
 use Rattle.ct_word.specs.declared.values.CRow.{CRow}
 use Rattle.ct_word.specs.Change.{PlainChange, Create, PlainCommit}
 use Rattle.ct_word.specs.Reading.{IsChangeList, change_list_at, as_change_list}
 use Rattle.ct_word.specs.Stands.{StandsAt}
-use Rattle.ct_query.specs.declared.schema.Heading.{Heading}
 use Rattle.ct_query.specs.Plain as plain
 use Rattle.ct_query.specs.Plain.{PlainStatement}
 use Rattle.ct_query.specs.Agrees.{Agrees}
@@ -19,15 +18,15 @@ use Rattle.ct_query.proofs.Laws.{world_commit}
 use Rattle.ct_rewrite.specs.declared.answer.Node.{Node}
 use Rattle.ct_rewrite.specs.declared.history.Commit.{Commit}
 use Rattle.ct_rewrite.specs.declared.history.Change.TheVariants as change
-use Rattle.ct_rewrite.specs.History.{plain_commit, plain_history}
+use Rattle.ct_rewrite.specs.History.{plain_commit}
 use Rattle.ct_transcript.specs.declared.reply.Refusal.{Refusal}
 use Rattle.ct_transcript.specs.declared.reply.Refusal.TheVariants as refusal
 use Rattle.ct_word.specs.declared.kinds.Class.TheVariants as class
 use Rattle.ct_word.specs.WellFormed.{is_place_of}
 use Rattle.ct_table.specs.Denotes.{TableView, heading_of, Denotes, find_table, with_table}
-use Rattle.ct_table.proofs.Denoting.{created_denotes, denotes_grows, empty_table}
+use Rattle.ct_table.proofs.Denoting.{created_denotes, denotes_grows}
 use Rattle.ct_serve.specs.Names.{columns_of, has_repeat, created_new}
-use Rattle.ct_serve.specs.Catalogue.{IsAdmittedEverywhere, IsReady, IsNewTable, IsWant, IsOfferFor, IsRefusedAs}
+use Rattle.ct_serve.specs.Catalogue.{IsAdmittedEverywhere, IsNewTable, IsWant, IsOfferFor, IsRefusedAs}
 
 -- the columns of a name in a schema are those of the table that is found
 pub columns_found : (db : List TableView) (name : List ℕ) → columns_of (map heading_of db) name ≡ option_map (λ t. t.columns) (find_table db name)
@@ -60,13 +59,13 @@ module _ (h : List PlainCommit) (words : List ℕ) (db : List TableView) (d : De
   pub fits_new : find_table db name ≡ None → has_repeat columns ≡ false → created_new (columns_of (schema h []).tables name) name columns ≡ Some (plain.Act (plain.Create name columns))
   fits_new e r = ap (λ o. created_new o name columns) (columns_in ∙ ap (option_map (λ x. x.columns)) e) ∙ ap (λ b. if b then None else Some (plain.Act (plain.Create name columns))) r
 
--- every valuation is admitted after a new table
-still_everywhere : (h : List PlainCommit) (c : PlainCommit) (name : List ℕ) (columns : List (List ℕ)) → c.changes ≡ Create name columns ∷ []
+-- every valuation is admitted after a change that asserts nothing
+pub still_everywhere : (h : List PlainCommit) (c : PlainCommit) (x : PlainChange) → ((v : World) (w : Database) → IsSome (step_change v w x)) → c.changes ≡ x ∷ []
     → IsAdmittedEverywhere h → IsAdmittedEverywhere (h ++ c ∷ [])
-still_everywhere h c name columns e all v =
+still_everywhere h c x total e all v =
     subst IsSome (sym (world_commit v h c ∙ ap (after_changes v (world v h [])) e)) (by_world (world v h []) (all v)) where
-      by_world : (o : Option Database) → IsSome o → IsSome (option_and_then (λ w. step_change v w (Create name columns)) o)
-      by_world (Some w) s = refl
+      by_world : (o : Option Database) → IsSome o → IsSome (option_and_then (λ w. step_change v w x) o)
+      by_world (Some w) s = total v w
       by_world None s = s
 
 printed_with : (m n : ℕ) (xs ys : List PlainChange) → m ≡ n → xs ≡ ys → (let c : PlainCommit = record { session = 1; number = m; changes = xs } in c) ≡ record { session = 1; number = n; changes = ys }
@@ -94,7 +93,7 @@ new_table_is h old words db name columns list changes number tables d all none l
         formed = record { ordered = refl; placed = refl };
         denotes = subst (λ ts. Denotes words (h ++ plain_commit commit ∷ []) ts) (sym (e ∙ with_new db (record { name = name; columns = columns; rows = [] }) none))
             (created_denotes words h (plain_commit commit) db (denotes_grows old words longer h db d) name columns refl none);
-        everywhere = still_everywhere h (plain_commit commit) name columns refl all;
+        everywhere = still_everywhere h (plain_commit commit) (Create name columns) (λ v w. refl) refl all;
       };
       change = refl;
     }

@@ -1,11 +1,10 @@
 -- What a commit of an offer is answered.
-use Rattle.std.proofs.Common.{◌≡◌, ℕ, zero, suc, ◌+◌, ◌-◌, ◌<◌, ◌≤◌, List, [], ◌∷◌, ◌++◌, length, take, map, refl, ap, sym, subst, ◌∙◌, arith, length-append}
-use Rattle.std.specs.Prelude.{slice_get, Option, Some, None, IsTrue, max}
-use Rattle.std.proofs.lemmas.List.{append-nil, append_assoc, map_push}
+use Rattle.std.proofs.Common.{◌≡◌, ℕ, ◌+◌, ◌-◌, ◌<◌, ◌≤◌, List, [], ◌∷◌, ◌++◌, length, take, map, refl, ap, sym, subst, ◌∙◌, arith, length-append}
+use Rattle.std.specs.Prelude.{slice_get, Option, Some, None, max}
+use Rattle.std.proofs.lemmas.List.{append_assoc}
 use mathlib.Core.List.{IsPrefix}
 use Rattle.ct_word.specs.Change.{PlainCommit}
-use Rattle.ct_word.specs.Reading.{change_list_at}
-use Rattle.ct_word.proofs.Prefixes.{get_in_prefix, prefix_same}
+use Rattle.ct_word.proofs.Prefixes.{get_in_prefix}
 use Rattle.ct_query.specs.Plain.{PlainAction, PlainStatement}
 use Rattle.ct_query.specs.Plain as plain
 use Rattle.ct_query.specs.Agrees.{Agrees}
@@ -17,15 +16,14 @@ use Rattle.ct_query.specs.Schema.{schema}
 use Rattle.ct_rewrite.specs.declared.history.Commit.{Commit}
 use Rattle.ct_rewrite.specs.History.{plain_commit}
 use Rattle.ct_table.specs.Denotes.{TableView}
-use Rattle.ct_transcript.specs.declared.reply.Reply.{Reply}
 use Rattle.ct_transcript.specs.declared.reply.Reply.TheVariants as reply
 use Rattle.ct_transcript.specs.declared.reply.Refusal.TheVariants as refusal
 use Rattle.ct_serve.specs.declared.statement.Statement.{Statement}
 use Rattle.ct_serve.specs.Statements.{ReadsAs, IsNoStatement}
 use Rattle.ct_serve.specs.Names.{resolve}
-use Rattle.ct_serve.specs.State.{SessionState, carried, drawn}
-use Rattle.ct_serve.specs.LawfulReply.{LawfulReply, ResolvesTo, IsCommittedAlone, IsTextFault, IsNotYet, IsFull}
-use Rattle.ct_serve.specs.Progress.{state_after, GoesOn, Commits, nothing, one, Answers}
+use Rattle.ct_serve.specs.State.{carried, drawn}
+use Rattle.ct_serve.specs.LawfulReply.{ResolvesTo}
+use Rattle.ct_serve.specs.Progress.{state_after, nothing, one, Answers}
 use Rattle.ct_serve.specs.Catalogue.{IsOfferFor, IsAnswerFor, resolved_at}
 
 take_front : {A : Type 0} (xs ys : List A) → take (length xs) (xs ++ ys) ≡ xs

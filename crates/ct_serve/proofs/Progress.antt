@@ -1,10 +1,10 @@
 -- One more reply.
-use Rattle.std.proofs.Common.{◌≡◌, ◌≢◌, ℕ, zero, suc, ◌+◌, ◌<◌, ◌≤◌, Bool, true, false, ◌||◌, List, [], ◌∷◌, ◌++◌, length, refl, ap, sym, subst, ◌∙◌, arith, length-append}
-use Rattle.std.specs.Prelude.{filter_map, Option, Some, None, All, IsTrue, nat_eq, if◌then◌else◌}
+use Rattle.std.proofs.Common.{◌≡◌, ℕ, ◌+◌, ◌≤◌, Bool, true, false, ◌||◌, List, [], ◌∷◌, ◌++◌, length, refl, ap, sym, subst, ◌∙◌, arith, length-append}
+use Rattle.std.specs.Prelude.{filter_map, Some, nat_eq, if◌then◌else◌}
 use Rattle.std.specs.List.{list_any, cons_option}
 use Rattle.std.proofs.lemmas.Bool.{eq-eqb, false≢true}
-use Rattle.std.proofs.lemmas.List.{append-nil, append_assoc}
-use Rattle.std.proofs.lemmas.List.Elements.{All-head, All-tail, All-cons, All-nil, All-push, filter_map-append}
+use Rattle.std.proofs.lemmas.List.{append-nil}
+use Rattle.std.proofs.lemmas.List.Elements.{All-nil, All-push, filter_map-append}
 use mathlib.Core.List.{IsPrefix}
 use Rattle.ct_word.specs.Change.{PlainCommit}
 use Rattle.ct_word.proofs.Prefixes.{prefix_of_prefix, prefix_same}
@@ -14,7 +14,7 @@ use Rattle.ct_transcript.specs.declared.reply.Refusal.TheVariants as refusal
 use Rattle.ct_serve.specs.State.{SessionState, beginning}
 use Rattle.ct_serve.specs.LawfulReply.{LawfulReply}
 use Rattle.ct_serve.specs.Sessions.{AreLawful, committed_of, commits_by, IsNoCommit, EndsAtFull}
-use Rattle.ct_serve.specs.Progress.{state_after, is_full, GoesOn, Commits, nothing, one, Answers, Progress}
+use Rattle.ct_serve.specs.Progress.{state_after, is_full, Commits, nothing, one, Answers, Progress}
 
 -- replies that are lawful, and one more
 lawful_push : (H : List PlainCommit) (W : List ℕ) (N : ℕ) (s t u : SessionState) (xs : List (List ℕ)) (rs : List Reply) (x : List ℕ) (r : Reply)

@@ -1,7 +1,6 @@
 -- The answer to a query of one table.
 use Rattle.std.proofs.Common.{◌≡◌, ℕ, suc, ◌<◌, Bool, true, false, ◌&&◌, ◌||◌, List, [], ◌∷◌, length, cond, refl, ap, sym, subst, ◌∙◌, arith}
 use Rattle.std.specs.Prelude.{Option, Some, None, IfSome, option_map, if◌then◌else◌, filter}
-use Rattle.std.specs.List.{AllByRecursion}
 use Rattle.std.proofs.lemmas.List.Elements.{recursion_from_All}
 use mathlib.Core.List.{IsPrefix}
 use Rattle.ct_word.specs.declared.values.Value.{Value}
@@ -27,7 +26,7 @@ use Rattle.ct_table.specs.Tables.{cells_of, value_of_rows, AreRows}
 use Rattle.ct_table.specs.Denotes.{TableView, value_of_tables, SameDatabase, IsKept, Denotes, find_table}
 use Rattle.ct_table.specs.Selection.{has_value}
 use Rattle.ct_table.proofs.Growing.{value_grows, cells_grow}
-use Rattle.ct_table.proofs.Denoting.{sublist_of_sublist}
+use Rattle.ct_table.proofs.Denoting.{sublist_of_sublist, found_all}
 use Rattle.ct_table.proofs.Sets.{same_set_on}
 use Rattle.ct_transcript.specs.declared.reply.Answer.{Answer}
 use Rattle.ct_transcript.specs.Means.{Means, allowed, shown}
@@ -125,17 +124,6 @@ found_tuples words v name t (x ∷ db) (r ∷ w) f s = by_test (same_text x.name
   by_test false p rest =
       subst (λ b. SameSet (value_of_rows words v t.rows) (if b then r.tuples else tuples_of w name)) (sym (ap (λ n. same_text n name) (sym s.0.name) ∙ p))
       (rest (sym (ap (λ b. if b then Some x else find_table db name) p) ∙ f))
-
--- what is true of each table is true of the one that is found
-found_all : (P : TableView → Type 0) (name : List ℕ) (t : TableView) (db : List TableView) → AllByRecursion P db → find_table db name ≡ Some t → P t
-found_all P name t [] all f = let bad : None ≡ Some t = f in cc
-found_all P name t (x ∷ db) all f = by_test (same_text x.name name) refl (found_all P name t db all.1) where
-  by_test : (b : Bool) → same_text x.name name ≡ b → (find_table db name ≡ Some t → P t) → P t
-  by_test true p rest =
-      let same : Some x ≡ Some t = sym (ap (λ b. if b then Some x else find_table db name) p) ∙ f in
-      let is : x ≡ t = cc in
-      subst P is all.0
-  by_test false p rest = rest (sym (ap (λ b. if b then Some x else find_table db name) p) ∙ f)
 
 module _ (h : List PlainCommit) (words : List ℕ) (db : List TableView) (d : Denotes words h db) (name : List ℕ) (filter : Option Equality) where
   abbrev asked : Option PlainStatement

@@ -19,6 +19,8 @@ use Rattle.ct_rewrite.specs.declared.history.Change.TheVariants as change
 use Rattle.ct_rewrite.specs.declared.history.Commit.{Commit}
 use Rattle.ct_rewrite.specs.History.{plain_commit, plain_history, IsCommitFormed}
 use Rattle.ct_arena.specs.Seen.{Seen, Keeping}
+use Rattle.ct_table.specs.declared.error.TableError.{TableError}
+use Rattle.ct_table.specs.declared.error.TableError.TheVariants as fault
 use Rattle.ct_table.specs.Denotes.{TableView, Denotes}
 use Rattle.ct_transcript.specs.declared.reply.Answer.{Answer}
 use Rattle.ct_transcript.specs.Means.{IsAnswer, Means}
@@ -139,3 +141,8 @@ IsRefusedText h room words x refusal.Memory = Unit {0}
 abbrev pub unread_refusal : ReadingError → Refusal
 unread_refusal reading.NotAStatement = refusal.NotAStatement
 unread_refusal reading.Memory = refusal.Memory
+
+-- the refusal for want of room or memory in an operator of tables
+abbrev pub wanting : TableError → Refusal
+wanting fault.Full = refusal.Full
+wanting fault.Memory = refusal.Memory

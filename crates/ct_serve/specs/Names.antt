@@ -1,5 +1,5 @@
 -- Names of tables and columns to positions.
-use Rattle.std.specs.Prelude.{ℕ, zero, suc, Bool, false, ◌||◌, List, [], ◌∷◌, length, map, nat_eq, Option, Some, None, option_map, if◌then◌else◌}
+use Rattle.std.specs.Prelude.{ℕ, suc, Bool, false, ◌||◌, List, [], ◌∷◌, length, map, nat_eq, Option, Some, None, option_map, if◌then◌else◌}
 use Rattle.std.specs.List.{list_any}
 use Rattle.ct_word.specs.declared.values.Value.TheVariants as val
 use Rattle.ct_word.specs.declared.values.Null.TheVariants as null

@@ -1,5 +1,5 @@
 -- What one session has done so far: its replies are lawful, now and however the log goes on.
-use Rattle.std.specs.Prelude.{◌≡◌, ◌⊎◌, ◌≤◌, ◌<◌, ◌+◌, ℕ, List, [], ◌∷◌, ◌++◌, length, filter_map, Option, Some, None, Bool, true, false, IsTrue, All}
+use Rattle.std.specs.Prelude.{◌≡◌, ◌≤◌, ◌<◌, ◌+◌, ℕ, List, [], ◌∷◌, ◌++◌, length, filter_map, Some, None, Bool, true, false, IsTrue}
 use Rattle.std.specs.List.{list_any}
 use mathlib.Core.List.{IsPrefix}
 use Rattle.ct_word.specs.Change.{PlainCommit}

@@ -1,6 +1,6 @@
 // INSERT: the offer of a row.
 
-ghost use Rattle.std.specs.Prelude.{◌≡◌, ◌⊎◌, ◌<◌, ◌^◌, [], ◌∷◌, ◌++◌, map, length, IfOk, IfErr, Some, All, IsTrue};
+ghost use Rattle.std.specs.Prelude.{◌≡◌, ◌<◌, ◌^◌, [], ◌∷◌, ◌++◌, map, length, IfOk, IfErr, Some, All, IsTrue};
 ghost use mathlib.Core.List.{IsPrefix};
 ghost use Rattle.ct_word.specs.Condition.{True};
 ghost use Rattle.ct_word.specs.Change.{PlainRow};
@@ -12,21 +12,19 @@ ghost use Rattle.ct_rewrite.specs.History.{plain_history};
 ghost use Rattle.ct_table.specs.Tables.{IsRow};
 ghost use Rattle.ct_table.specs.Shared.{view_of};
 ghost use Rattle.ct_table.specs.Denotes.{Denotes, find_table};
-ghost use Rattle.ct_table.specs.declared.error.TableError.TheVariants as fault;
 ghost use Rattle.ct_condition.specs.Terms.{FitsFields};
-ghost use Rattle.ct_transcript.specs.declared.reply.Refusal.TheVariants as refusal;
 ghost use Rattle.ct_serve.specs.Names.{columns_of, inserted_into, term_of};
 ghost use Rattle.ct_serve.specs.Catalogue.{IsAdmittedEverywhere, IsReady, IsWant, IsOfferFor, IsRefusedAs, row_commit};
 
 use crate::lists::{commit_of, list_of_one};
 use crate::names::as_term;
-use crate::session::{Offer, version};
+use crate::session::{Offer, version, wanting};
 use crate::statement::Cell;
 use ct_arena::{Arena, Pass, Site};
 use ct_condition::term as put_term;
 use ct_history::{insert as insert_change, no_changes};
 use ct_rewrite::{AnswerRow, Change, Commit, Node};
-use ct_table::{CRow, CTable, Db, TableError, insert};
+use ct_table::{CRow, CTable, Db, insert};
 use ct_transcript::Refusal;
 use ct_word::{List, Memory, Term, Text};
 use std::alloc::Global;
@@ -84,17 +82,6 @@ fn printed(alloc: Global, number: u32, name: Text, terms: List<Term>) -> Result<
     };
     let rows = list_of_one(alloc, row)?;
     commit_of(alloc, number, nodes, Change::Insert { name, rows })
-}
-
-/// The refusal for want of room or memory.
-fn wanting(e: TableError) -> Refusal
-    ensures full { result ≡ refusal.Full → e ≡ fault.Full }
-    ensures memory { (result ≡ refusal.Full) ⊎ (result ≡ refusal.Memory) }
-{
-    match e {
-        TableError::Full => Refusal::Full,
-        TableError::Memory => Refusal::Memory,
-    }
 }
 
 /// The offer of a row of these terms for a table that is there. The pass has its words.

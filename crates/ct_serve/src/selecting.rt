@@ -17,11 +17,12 @@ ghost use Rattle.ct_serve.specs.Selected.{IsFiltered};
 
 use crate::names::{as_term, position_of};
 use crate::printing::answer_of;
+use crate::session::wanting;
 use crate::statement::{Cell, Equality};
 use ct_arena::{Arena, Pass, Site};
 use ct_condition::term;
 use ct_rewrite::Commit;
-use ct_table::{CTable, Db, TableError, select};
+use ct_table::{CTable, Db, select};
 use ct_transcript::{Answer, Refusal};
 use ct_word::Memory;
 use std::alloc::Global;
@@ -65,8 +66,7 @@ fn answer_where<N: Site>(
     };
     let CTable { columns, rows } = match select(alloc, arena, pass, column, place, table) {
         Ok(chosen) => chosen,
-        Err(TableError::Full) => return Err(Refusal::Full),
-        Err(TableError::Memory) => return Err(Refusal::Memory),
+        Err(e) => return Err(wanting(e)),
     };
     Ok(answer_of(alloc, pass.words(), columns, rows.as_slice())?)
 }

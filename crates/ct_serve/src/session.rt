@@ -3,11 +3,11 @@
 ghost use Rattle.std.specs.Prelude.{◌≡◌, ◌<◌, ◌^◌, ◌+◌, ℕ, length, IsOk, IsTrue, Ok, vec_len, vec_capacity};
 ghost use mathlib.Core.List.{IsPrefix};
 ghost use Rattle.ct_rewrite.specs.History.{plain_history};
-ghost use Rattle.ct_serve.specs.Catalogue.{IsCatalogue, IsReady, CommitOf};
+ghost use Rattle.ct_serve.specs.Catalogue.{IsCatalogue, IsReady, CommitOf, wanting};
 
 use ct_arena::{Arena, KeeperPass, Pass, Site};
 use ct_rewrite::Commit;
-use ct_table::Db;
+use ct_table::{Db, TableError};
 use ct_transcript::{Answer, Refusal, Reply};
 
 /// The session's pass, the keeper's pass, the tables, and the commits as they are printed.
@@ -41,6 +41,16 @@ pub fn version(history: &[Commit]) -> u32
     ensures { result ≡ length history.now }
 {
     history.len() as u32
+}
+
+/// The refusal for want of room or memory.
+pub fn wanting(e: TableError) -> Refusal
+    ensures { result ≡ wanting e }
+{
+    match e {
+        TableError::Full => Refusal::Full,
+        TableError::Memory => Refusal::Memory,
+    }
 }
 
 /// Commits an offer; where the log is full, nothing but its words is changed.

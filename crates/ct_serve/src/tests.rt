@@ -1,7 +1,8 @@
 // Runs in memory: what a run is given, how it ends, and what it writes.
 
-use crate::{Status, run};
+use crate::{Status, run, serve};
 use ct_outside::{Gate, MemScripts, MemSink, NoGate};
+use ct_transcript::{Refusal, Reply};
 use ct_word::{List, Text};
 use std::alloc::{AllocError, Global};
 use std::sync::Wait;
@@ -112,6 +113,155 @@ fn scripts_to_texts(rt: HostRuntime) -> Result<(), Fail> {
         assert_eq!(rt; ended.status, status);
         assert!(rt; out.bytes() == written.as_bytes());
     }
+    Ok(())
+}
+
+#[test]
+fn statements_to_texts(rt: HostRuntime) -> Result<(), Fail> {
+    // A script, how its run ends, and what it writes.
+    let cases: [(&str, Status, &str); _] = [
+        (
+            "create table t (a,b); insert into t values (1,?x); select * from t where b = 2",
+            Status::Done,
+            "session 1\n1 committed 1\n2 committed 2\n3 rows (a, b) at 2\n  (1, ?x) if ?x = 2\nhistory\n1 by 1\n  create table t (a, b)\n2 by 1\n  insert into t (1, ?x)\nend\n",
+        ),
+        (
+            "create table t (a, b); select * from t",
+            Status::Done,
+            "session 1\n1 committed 1\n2 rows (a, b) at 1\nhistory\n1 by 1\n  create table t (a, b)\nend\n",
+        ),
+        (
+            "create table t (a, b); insert into t values (1, 2); SELECT * FROM T WHERE B = 2",
+            Status::Done,
+            "session 1\n1 committed 1\n2 committed 2\n3 rows (a, b) at 2\n  (1, 2)\nhistory\n1 by 1\n  create table t (a, b)\n2 by 1\n  insert into t (1, 2)\nend\n",
+        ),
+        (
+            "create table t (a, b); insert into t values (1, 2); select * from t where b = 3",
+            Status::Done,
+            "session 1\n1 committed 1\n2 committed 2\n3 rows (a, b) at 2\nhistory\n1 by 1\n  create table t (a, b)\n2 by 1\n  insert into t (1, 2)\nend\n",
+        ),
+        (
+            "create table t (a, b); insert into t values (1, 2); select * from t where b = ?y",
+            Status::Done,
+            "session 1\n1 committed 1\n2 committed 2\n3 rows (a, b) at 2\n  (1, 2) if ?y = 2\nhistory\n1 by 1\n  create table t (a, b)\n2 by 1\n  insert into t (1, 2)\nend\n",
+        ),
+        (
+            "create table t (a, b); insert into t values (1, ?x); select * from t where b = ?x",
+            Status::Done,
+            "session 1\n1 committed 1\n2 committed 2\n3 rows (a, b) at 2\n  (1, ?x)\nhistory\n1 by 1\n  create table t (a, b)\n2 by 1\n  insert into t (1, ?x)\nend\n",
+        ),
+        (
+            "create table t (a, b); insert into t values (1, ?x); select * from t where b = ?a",
+            Status::Done,
+            "session 1\n1 committed 1\n2 committed 2\n3 rows (a, b) at 2\n  (1, ?x) if ?a = ?x\nhistory\n1 by 1\n  create table t (a, b)\n2 by 1\n  insert into t (1, ?x)\nend\n",
+        ),
+        (
+            "create table t (a, b); insert into t values (?x, ?x); select * from t where a = -5",
+            Status::Done,
+            "session 1\n1 committed 1\n2 committed 2\n3 rows (a, b) at 2\n  (?x, ?x) if ?x = -5\nhistory\n1 by 1\n  create table t (a, b)\n2 by 1\n  insert into t (?x, ?x)\nend\n",
+        ),
+        (
+            "create table t (a, b); insert into t values (1, 2); insert into t values (1, 2); select * from t",
+            Status::Done,
+            "session 1\n1 committed 1\n2 committed 2\n3 committed 3\n4 rows (a, b) at 3\n  (1, 2)\nhistory\n1 by 1\n  create table t (a, b)\n2 by 1\n  insert into t (1, 2)\n3 by 1\n  insert into t (1, 2)\nend\n",
+        ),
+        (
+            "create table t (a, b); insert into t values (1, ?x); insert into t values (1, ?y); select * from t where b = 2",
+            Status::Done,
+            "session 1\n1 committed 1\n2 committed 2\n3 committed 3\n4 rows (a, b) at 3\n  (1, ?x) if ?x = 2\n  (1, ?y) if ?y = 2\nhistory\n1 by 1\n  create table t (a, b)\n2 by 1\n  insert into t (1, ?x)\n3 by 1\n  insert into t (1, ?y)\nend\n",
+        ),
+        (
+            "create table t (a, b); insert into t values (1, 3); insert into t values (1, ?y); insert into t values (4, 2); select * from t where b = 2",
+            Status::Done,
+            "session 1\n1 committed 1\n2 committed 2\n3 committed 3\n4 committed 4\n5 rows (a, b) at 4\n  (1, ?y) if ?y = 2\n  (4, 2)\nhistory\n1 by 1\n  create table t (a, b)\n2 by 1\n  insert into t (1, 3)\n3 by 1\n  insert into t (1, ?y)\n4 by 1\n  insert into t (4, 2)\nend\n",
+        ),
+        (
+            "create table t (a, b); insert into u values (1, 2)",
+            Status::Refused,
+            "session 1\n1 committed 1\n2 refused NotYet\nhistory\n1 by 1\n  create table t (a, b)\nend\n",
+        ),
+        (
+            "create table t (a, b); insert into t values (1)",
+            Status::Refused,
+            "session 1\n1 committed 1\n2 refused NotYet\nhistory\n1 by 1\n  create table t (a, b)\nend\n",
+        ),
+        (
+            "create table t (a, b); insert into t values (1, 2, 3)",
+            Status::Refused,
+            "session 1\n1 committed 1\n2 refused NotYet\nhistory\n1 by 1\n  create table t (a, b)\nend\n",
+        ),
+        (
+            "create table t (a, b); select * from u",
+            Status::Refused,
+            "session 1\n1 committed 1\n2 refused NotYet\nhistory\n1 by 1\n  create table t (a, b)\nend\n",
+        ),
+        (
+            "create table t (a, b); select * from t where c = 1",
+            Status::Refused,
+            "session 1\n1 committed 1\n2 refused NotYet\nhistory\n1 by 1\n  create table t (a, b)\nend\n",
+        ),
+        (
+            "create table t (a, b); create table t (c)",
+            Status::Refused,
+            "session 1\n1 committed 1\n2 refused NotYet\nhistory\n1 by 1\n  create table t (a, b)\nend\n",
+        ),
+        (
+            "create table t (a, b); create table u (c, c)",
+            Status::Refused,
+            "session 1\n1 committed 1\n2 refused NotYet\nhistory\n1 by 1\n  create table t (a, b)\nend\n",
+        ),
+        (
+            "create table t (a, b); insert into t values (1, 1234567890123456789)",
+            Status::Refused,
+            "session 1\n1 committed 1\n2 refused NotAStatement\nhistory\n1 by 1\n  create table t (a, b)\nend\n",
+        ),
+        (
+            "create table t (a, b); select * from t where a = 'x'",
+            Status::Refused,
+            "session 1\n1 committed 1\n2 refused NotAStatement\nhistory\n1 by 1\n  create table t (a, b)\nend\n",
+        ),
+    ];
+    for (script, status, written) in cases {
+        let script = repeated(rt.alloc(), script.as_bytes(), 1)?;
+        let mut scripts = source(rt.alloc(), script, &[])?;
+        let mut out = sink(rt.alloc(), &[])?;
+        let ended = run(
+            &rt,
+            rt.alloc(),
+            &["run", "f"],
+            &mut scripts,
+            &mut out,
+            &NoGate,
+        );
+        assert_eq!(rt; ended.status, status);
+        assert!(rt; out.bytes() == written.as_bytes());
+    }
+    Ok(())
+}
+
+/// How a session of a script of a creation and 45 insertions of the same row fills a log of 64 words: the first
+/// insertion brings the log from 11 words to 21, and each later one adds its commit word alone.
+#[test]
+fn the_last_word_of_the_log(rt: HostRuntime) -> Result<(), Fail> {
+    let mut script = String::from_str(rt.alloc(), "create table t (a);")?;
+    for _ in 0..45 {
+        script.push_str("insert into t values (1);")?;
+    }
+    let transcript = serve(&rt, rt.alloc(), 64, Text::from_string(script), &NoGate)?;
+    let replies = transcript.sessions.as_slice()[0].replies.as_slice();
+    assert_eq!(rt; replies.len(), 46);
+    assert!(rt; matches!(replies[44], Reply::Committed { at: 45 }));
+    assert!(rt;
+        matches!(
+            replies[45],
+            Reply::Refused {
+                at: 45,
+                why: Refusal::Full
+            }
+        )
+    );
+    assert_eq!(rt; transcript.history.as_slice().len(), 45);
+    assert_eq!(rt; transcript.words.words().len(), 64);
     Ok(())
 }
 

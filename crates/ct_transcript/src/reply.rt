@@ -13,7 +13,7 @@ use std::alloc::{AllocError, AllocFailed};
 pub enum Refusal {
     /// The text is no statement of the grammar.
     NotAStatement,
-    /// The text is a statement that is not built yet.
+    /// The text is a statement, but a name or a count in it does not fit the tables.
     NotYet,
     /// The log has as many words as its capacity, and the statement needs another one.
     Full,

@@ -1,5 +1,4 @@
-use Rattle.std.proofs.Common.{◌≡◌, ap, sym, ◌∙◌}
-use Rattle.std.specs.Prelude.{None}
+use Rattle.std.proofs.Common.{ap, sym, ◌∙◌}
 use Rattle.ct_rewrite.specs.History.{plain_history}
 use Rattle.ct_table.specs.Denotes.{find_table}
 use Rattle.ct_serve.specs.Names.{has_repeat}

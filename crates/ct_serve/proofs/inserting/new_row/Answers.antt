@@ -1,12 +1,11 @@
 use Rattle.std.proofs.Common.{◌≡◌, [], ◌∷◌, ◌++◌, ap, sym, subst, ◌∙◌, length, map}
 use Rattle.std.specs.Prelude.{Some}
-use Rattle.ct_word.specs.declared.values.CRow.{CRow}
 use Rattle.ct_word.specs.Change.{Insert}
 use Rattle.ct_word.specs.Reading.{IsChangeList, change_list_at, plain_crow}
 use Rattle.ct_word.proofs.Prefixes.{prefix_of_prefix}
 use Rattle.ct_history.specs.Rows.{IsRowOf}
 use Rattle.ct_rewrite.specs.History.{plain_history}
-use Rattle.ct_table.specs.Denotes.{TableView, with_table}
+use Rattle.ct_table.specs.Denotes.{with_table}
 use Rattle.ct_table.specs.Tables.{IsRow}
 use Rattle.ct_table.specs.Shared.{view_of}
 use Rattle.ct_word.specs.Condition.{True}

@@ -7,7 +7,6 @@ use Rattle.ct_word.specs.WellFormed.{is_place_of}
 use Rattle.ct_table.specs.Tables.{IsRow}
 use Rattle.ct_word.proofs.Prefixes.{prefix_of_prefix}
 use Rattle.ct_serve.proofs.NewRow.{more_places, more_terms, row_is, row_stands}
-use Rattle.ct_serve.proofs.Insertions.{row_ready}
 use Rattle.ct_serve.proofs.inserting.row_of.Goals as goal
 
 pub loop-term-preserved : goal.loop-term-preserved

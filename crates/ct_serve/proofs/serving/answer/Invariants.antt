@@ -1,5 +1,5 @@
 use Rattle.std.proofs.Common.{◌≡◌, ◌≤◌, length, map, take}
-use Rattle.std.specs.Prelude.{vec_capacity, vec_len}
+use Rattle.std.specs.Prelude.{vec_capacity}
 use Rattle.ct_rewrite.specs.History.{plain_history}
 use Rattle.ct_serve.specs.Catalogue.{IsCatalogue}
 use Rattle.ct_serve.specs.Progress.{Progress}

@@ -1,13 +1,11 @@
-use Rattle.std.proofs.Common.{◌≡◌, ◌+◌, ◌++◌, [], ◌∷◌, refl, ap, sym, subst, ◌∙◌, arith, length, length-append}
+use Rattle.std.proofs.Common.{◌+◌, ◌++◌, [], ◌∷◌, refl, ap, sym, subst, ◌∙◌, length}
 use mathlib.Core.List.{IsPrefix}
 use Rattle.ct_arena.specs.Seen.{pass_of}
 use Rattle.ct_transcript.specs.declared.reply.Reply.TheVariants as reply
 use Rattle.ct_transcript.specs.declared.reply.Refusal.TheVariants as refusal
 use Rattle.ct_serve.specs.Catalogue.{IsCatalogue, CommitOf, committed, filled}
 use Rattle.ct_word.specs.declared.kinds.Class.TheVariants as class
-use Rattle.ct_word.specs.Reading.{commits_of}
 use Rattle.ct_word.proofs.Prefixes.{place_in_prefix, prefix_of_prefix}
-use Rattle.ct_rewrite.specs.History.{plain_commit}
 use Rattle.ct_serve.proofs.Committing.{still, further, appended_is, had_room}
 use Rattle.ct_serve.proofs.session.commit.Goals as goal
 
