@@ -1,5 +1,1 @@
--- Two tables; the third statement uses a name again, and the fourth is no statement.
-create table person (name, town);
-create table town (name, country);
-create table person (name);
-create person;
+create table t (a,b); insert into t values (1,?x); select * from t where b = 2

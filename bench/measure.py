@@ -1,0 +1,66 @@
+"""What the measurements share: the program, its runs, and the table that is printed."""
+
+import os
+import re
+import subprocess
+import sys
+import tempfile
+import time
+
+ROOT = os.path.dirname(os.path.dirname(os.path.realpath(__file__)))
+PROGRAM = os.path.join(ROOT, "crates", "ctdb", "out", "ctdb")
+
+
+def program():
+    """Returns the path of the proved program, or of the one that CTDB names."""
+    path = os.environ.get("CTDB", PROGRAM)
+    if not os.access(path, os.X_OK):
+        sys.exit("no program: run rt ci at the top, or rt run in crates/ctdb, or give a path in CTDB")
+    return path
+
+
+def insertions(count):
+    """Returns a script that inserts rows with eight nulls into one table, and selects by one of these nulls."""
+    rows = [f"insert into t values ({i}, ?x_{i % 8});\n" for i in range(count)]
+    return "create table t (a, b);\n" + "".join(rows) + "select * from t where b = ?x_3;\n"
+
+
+def run(words, script):
+    """Runs words on a file with the script. Returns the seconds of processor time, those by the clock, the exit status,
+    what it wrote to standard output and what to standard error."""
+    with tempfile.TemporaryDirectory() as room:
+        path = os.path.join(room, "script.sql")
+        with open(path, "w", encoding="utf-8") as it:
+            it.write(script)
+        began = time.monotonic()
+        with open(os.path.join(room, "out"), "w+b") as out, open(os.path.join(room, "err"), "w+b") as err:
+            child = subprocess.Popen([*words, "run", path], stdin=subprocess.DEVNULL, stdout=out, stderr=err, cwd=room)
+            _, status, used = os.wait4(child.pid, 0)
+            child.returncode = os.waitstatus_to_exitcode(status)
+            took = time.monotonic() - began
+            out.seek(0)
+            err.seek(0)
+            return used.ru_utime + used.ru_stime, took, child.returncode, out.read(), err.read()
+
+
+def fastest(script, times):
+    """Returns the least processor time of so many runs, with the clock's time of that run, and status and output."""
+    return min((run([program()], script)[:4] for _ in range(times)), key=lambda ran: ran[0])
+
+
+def instructions(script):
+    """Returns the number of instructions that the program executes on the script, as valgrind counts them."""
+    words = ["valgrind", "--tool=callgrind", "--callgrind-out-file=/dev/null", program()]
+    said = run(words, script)[4].decode("utf-8", "replace")
+    found = re.search(r"Collected : (\d+)", said)
+    if not found:
+        sys.exit(f"valgrind counted nothing:\n{said}")
+    return int(found[1])
+
+
+def table(head, rows):
+    """Prints a table as the documents have it."""
+    print("| " + " | ".join(head) + " |")
+    print("|" + "---|" * len(head))
+    for row in rows:
+        print("| " + " | ".join(row) + " |")
