@@ -26,7 +26,7 @@ use Rattle.ct_transcript.specs.declared.reply.SessionLog.{SessionLog}
 use Rattle.ct_serve.specs.Catalogue.{IsCatalogue}
 use Rattle.ct_serve.specs.Progress.{Commits, nothing, one, Answers, Progress, state_after}
 use Rattle.ct_serve.specs.Sessions.{AreLawfulSessions}
-use Rattle.ct_serve.specs.Lawful.{Lawful, first_words}
+use Rattle.ct_serve.specs.Lawful.{Lawful}
 use Rattle.ct_serve.proofs.Committing.{length_printed}
 use Rattle.ct_serve.proofs.Progress.{progress_push}
 
@@ -118,7 +118,7 @@ module _ (v : World) where
       subst (λ x. IsTrue (is_some x)) (sym (after_changes-append v w c.changes (changes_of (take m h))))
       (front_admits (after_changes v w c.changes) h m (subst IsSome (after_changes-append v w c.changes (changes_of h)) some))
 
-opens : (words : List ℕ) → IsPrefix opening words → take 2 words ≡ first_words
+opens : (words : List ℕ) → IsPrefix opening words → take 2 words ≡ opening
 unfolding opening
 opens words p = ap (take 2) (sym p.1)
 

@@ -110,7 +110,7 @@ fn served<R: Wait, S: Scripts, G: Gate + Sync>(
         Err(ReadError::Memory) => return Err(Unserved::Memory),
     };
     let script = as_script(alloc, bytes)?;
-    let transcript = serve(rt, alloc, CAPACITY, script, gate)?;
+    let transcript = serve(rt, alloc, CAPACITY, &[script], gate)?;
     Ok(transcript)
 }
 

@@ -1,6 +1,6 @@
 // The session of a run.
 
-ghost use Rattle.std.specs.Prelude.{◌≡◌, ◌∷◌, ◌<◌, ◌≤◌, ◌^◌, [], map, length, IfOk};
+ghost use Rattle.std.specs.Prelude.{All, ◌≡◌, ◌∷◌, ◌<◌, ◌≤◌, ◌^◌, [], map, length, IfOk};
 ghost use Rattle.ct_lex.specs.Texts.{texts};
 ghost use Rattle.ct_rewrite.specs.History.{plain_history};
 ghost use Rattle.ct_serve.specs.Catalogue.{IsCatalogue};
@@ -143,9 +143,9 @@ fn serve_named<N: Site, R: Wait, G: Gate + Sync>(
     end(alloc, arena, session, script, replies)
 }
 
-/// Runs the session of one script on a log of its own with room for `cap` words, from 64 to 4,194,304. The script has
-/// at most 65,535 statements. The gate is called round each, with session 1 and the statement's number from 1; it may
-/// wait.
+/// Runs the session of the one script on a log of its own with room for `cap` words, from 64 to 4,194,304. The script
+/// has at most 65,535 statements. The gate is called round each, with session 1 and the statement's number from 1; it
+/// may wait.
 ///
 /// # Errors
 /// `Memory` where there is none for the log or for the lists of statements, replies and sessions. A statement that
@@ -154,15 +154,17 @@ pub fn serve<R: Wait, G: Gate + Sync>(
     rt: &R,
     alloc: Global,
     cap: u32,
-    script: Text,
+    scripts: &[Text],
     gate: &G,
 ) -> Result<Transcript, Memory>
     requires least { 64 ≤ cap }
     requires most { cap ≤ 4194304 }
-    requires few { length (texts script) < 2 ^ 16 }
+    requires one { length scripts.now ≡ 1 }
+    requires few { All (λ script. length (texts script) ≤ 65535) scripts.now }
     ensures lawful { IfOk result (λ transcript. Lawful transcript cap) }
-    ensures script { IfOk result (λ transcript. map (λ s. s.script) transcript.sessions ≡ script ∷ []) }
+    ensures scripts { IfOk result (λ transcript. map (λ s. s.script) transcript.sessions ≡ scripts.now) }
 {
+    let script = scripts[0].clone()?;
     let blank = Blank::make(alloc, cap)?;
     serve_named::<Brand, R, G>(rt, alloc, blank, script, gate)
 }

@@ -1,6 +1,7 @@
 // Runs in memory: what a run is given, how it ends, and what it writes.
 
 use crate::{Status, run, serve};
+use ct_lex::split;
 use ct_outside::{Gate, MemScripts, MemSink, NoGate};
 use ct_transcript::{Refusal, Reply};
 use ct_word::{List, Text};
@@ -247,7 +248,9 @@ fn the_last_word_of_the_log(rt: HostRuntime) -> Result<(), Fail> {
     for _ in 0..45 {
         script.push_str("insert into t values (1);")?;
     }
-    let transcript = serve(&rt, rt.alloc(), 64, Text::from_string(script), &NoGate)?;
+    let script = Text::from_string(script);
+    assert!(rt; split(rt.alloc(), script.as_str())?.len() < 65_536);
+    let transcript = serve(&rt, rt.alloc(), 64, &[script], &NoGate)?;
     let replies = transcript.sessions.as_slice()[0].replies.as_slice();
     assert_eq!(rt; replies.len(), 46);
     assert!(rt; matches!(replies[44], Reply::Committed { at: 45 }));

@@ -7,14 +7,20 @@ use ct_serve::{Status, run};
 use std::env;
 use std::env::Env;
 use std::fs::Files;
-use std::io::Print;
+use std::io::{ErrorKind, Print};
 use std::process::ExitCode;
 use std::sync::Wait;
 
 /// Runs what the words of the command line ask for.
 fn run_words<R: Wait + AllocGlobal + Env + Files + Print>(rt: &R) -> Result<Status> {
+    let args = match env::args(rt) {
+        Ok(args) => args,
+        // A word that is not UTF-8 is none that is understood.
+        Err(e) if e.kind() == ErrorKind::InvalidData => return Ok(Status::Words),
+        Err(e) => return Err(e.into()),
+    };
     let mut texts = Vec::new(rt.alloc());
-    for word in env::args(rt)? {
+    for word in args {
         texts.push(word)?;
     }
     let mut words = Vec::new(rt.alloc());
