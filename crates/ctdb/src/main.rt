@@ -4,15 +4,15 @@
 use anyhow::Result;
 use ct_outside::{FileScripts, NoGate, StdSink};
 use ct_serve::{Status, run};
-use std::alloc::Global;
 use std::env;
 use std::env::Env;
 use std::fs::Files;
+use std::io::Print;
 use std::process::ExitCode;
 use std::sync::Wait;
 
 /// Runs what the words of the command line ask for.
-fn run_words(rt: &(impl Alloc<A = Global> + Env + Files + Print + Wait)) -> Result<Status> {
+fn run_words<R: Wait + AllocGlobal + Env + Files + Print>(rt: &R) -> Result<Status> {
     let mut texts = Vec::new(rt.alloc());
     for word in env::args(rt)? {
         texts.push(word)?;
