@@ -1,5 +1,10 @@
+pub mod Atoms
 pub mod Counting
 pub mod Items
+pub mod Justified
+pub mod Made
+pub mod Numbered
+pub mod Origins
 pub mod Pairs
 pub mod Pushes
 pub mod Walks

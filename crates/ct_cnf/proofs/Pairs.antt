@@ -59,6 +59,7 @@ module _ (rank : ℕ → ℕ) where
                 let same : length es ≡ i = omega (arith, lt, new, length_push es t) in
                 ap rank (get_or_push es t d i same) ∙ f 0 0 (omega arith) ∙ omega (arith, same)
           ]
+
       get_step : (es ts : List ℕ) (t x y : ℕ) (a : Atom) → length (pairs_with es t) ≡ length es → x ≡ length es + y
           → pair_place rank (get_or (pairs_after (es ++ t ∷ []) ts) y a) ≡ pairs_of (length (es ++ t ∷ [])) + y → length (es ++ t ∷ []) ≡ suc (length es)
           → pair_place rank (get_or (pairs_with es t ++ pairs_after (es ++ t ∷ []) ts) x a) ≡ pairs_of (length es) + x
@@ -98,13 +99,19 @@ listed_pair es (t ∷ ts) a h =
           let k = s.1.0 in
           let lt : k < length es = s.1.1 in
           record {
-            earlier = k; later = 0; within = omega arith; before = omega (arith, lt);
+            earlier = k;
+            later = 0;
+            within = omega arith;
+            before = omega (arith, lt);
             is = sym s.2 ∙ ap (λ x. atom.Same x t) (sym s.1.2 ∙ get_or_default es k s.0 0 lt ∙ sym (get_or_append_left es (t ∷ ts) 0 k lt));
           }
       | inr rest ↦
           let r = listed_pair (es ++ t ∷ []) ts a rest in
           record {
-            earlier = r.earlier; later = suc r.later; within = omega (arith, r.within); before = omega (arith, r.before, length_push es t);
+            earlier = r.earlier;
+            later = suc r.later;
+            within = omega (arith, r.within);
+            before = omega (arith, r.before, length_push es t);
             is = r.is ∙ ap (λ xs. atom.Same (get_or xs r.earlier 0) (get_or ts r.later 0)) (append_assoc es (t ∷ []) ts);
           }
     ]

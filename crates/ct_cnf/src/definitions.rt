@@ -30,13 +30,7 @@ fn add_equal(
 
 /// Adds the clauses of a negation.
 #[tactic(auto, unfolding(crate::specs::Lists::not_entries))]
-fn add_not(
-    alloc: Global,
-    p: u32,
-    node: u32,
-    a: u32,
-    entries: &mut Vec<Entry>,
-) -> Result<(), Memory>
+fn add_not(alloc: Global, p: u32, node: u32, a: u32, entries: &mut Vec<Entry>) -> Result<(), Memory>
     requires node { node < 2 ^ 31 }
     requires a { a < 2 ^ 31 }
     ensures { OnOk result (entries.new.items ≡ entries.old.items ++ not_entries p node a) }

@@ -34,12 +34,7 @@ const MOST_TERMS: usize = 64;
 
 /// The clauses of a question, with their reasons.
 #[tactic(auto, unfolding(crate::specs::Lists::all_entries))]
-fn entries(
-    alloc: Global,
-    words: &[u64],
-    root: u32,
-    numbers: &Numbers,
-) -> Result<Vec<Entry>, Memory>
+fn entries(alloc: Global, words: &[u64], root: u32, numbers: &Numbers) -> Result<Vec<Entry>, Memory>
     requires { IsNumbering words.now root numbers.now }
     ensures { IfOk result (λ v. v.items ≡ all_entries words.now root numbers.now) }
 {
@@ -51,12 +46,7 @@ fn entries(
 }
 
 /// The encoding of a question by its numbers.
-fn assemble(
-    alloc: Global,
-    words: &[u64],
-    root: u32,
-    numbers: &Numbers,
-) -> Result<Encoded, CnfError>
+fn assemble(alloc: Global, words: &[u64], root: u32, numbers: &Numbers) -> Result<Encoded, CnfError>
     requires { IsNumbering words.now root numbers.now }
     ensures made { IfOk result (λ e. IsMadeOf words.now root numbers.now e) }
     ensures fault { IsErrOf result fault.TooManyTerms → ⊥ }
@@ -73,6 +63,23 @@ fn assemble(
         atoms: List::from_vec(atoms),
         origins: List::from_vec(origins),
     })
+}
+
+/// The numbers of what stands below the root, where there are few enough terms.
+fn number(alloc: Global, words: &[u64], root: u32) -> Result<Numbers, CnfError>
+    requires formed { IsWellFormed words.now }
+    requires few { length words.now < 2 ^ 28 }
+    requires condition { is_place_of words.now class.Cond root ≡ true }
+    ensures numbering { IfOk result (λ n. IsNumbering words.now root n) }
+    ensures few_terms { IfOk result (λ _. said.HasTermsUpTo 64 words.now root) }
+    ensures many_terms { IsErrOf result fault.TooManyTerms → said.HasTermsPast 64 words.now root }
+{
+    let marks = mark(alloc, words, root)?;
+    let numbers = count(alloc, words, marks.as_slice())?;
+    if numbers.terms.len() > MOST_TERMS {
+        return Err(CnfError::TooManyTerms);
+    }
+    Ok(numbers)
 }
 
 /// The clauses that hold where the condition at `root` does, at some valuation.
@@ -99,10 +106,6 @@ pub fn encode(alloc: Global, words: &[u64], root: u32) -> Result<Encoded, CnfErr
     ensures few_terms { IfOk result (λ _. said.HasTermsUpTo 64 words.now root) }
     ensures many_terms { IsErrOf result fault.TooManyTerms → said.HasTermsPast 64 words.now root }
 {
-    let marks = mark(alloc, words, root)?;
-    let numbers = count(alloc, words, marks.as_slice())?;
-    if numbers.terms.len() > MOST_TERMS {
-        return Err(CnfError::TooManyTerms);
-    }
+    let numbers = number(alloc, words, root)?;
     assemble(alloc, words, root, &numbers)
 }

@@ -31,12 +31,7 @@ pub fn no(variable: u32) -> i32
 }
 
 /// Adds a clause.
-pub fn add(
-    alloc: Global,
-    entries: &mut Vec<Entry>,
-    clause: &[i32],
-    why: Why,
-) -> Result<(), Memory>
+pub fn add(alloc: Global, entries: &mut Vec<Entry>, clause: &[i32], why: Why) -> Result<(), Memory>
     ensures { OnOk result (entries.new.items ≡ entries.old.items ++ (record { clause = clause.now; why = why }) ∷ []) }
 {
     let clause = List::from_vec(clause.to_vec(alloc)?);
@@ -45,10 +40,7 @@ pub fn add(
 }
 
 /// The clauses and the reasons apart, in the same order.
-pub fn split(
-    alloc: Global,
-    entries: Vec<Entry>,
-) -> Result<(Vec<List<i32>>, Vec<Why>), AllocError>
+pub fn split(alloc: Global, entries: Vec<Entry>) -> Result<(Vec<List<i32>>, Vec<Why>), AllocError>
     ensures clauses { IfOk result (λ r. r.0.items ≡ map clause_of entries.items) }
     ensures origins { IfOk result (λ r. r.1.items ≡ map why_of entries.items) }
 {

@@ -6,10 +6,10 @@
 //! 2002).
 #![tactic(auto)]
 
+mod definitions;
 mod encoding;
 mod entries;
 mod error;
-mod definitions;
 mod marks;
 mod numbers;
 mod paths;

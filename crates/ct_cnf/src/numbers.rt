@@ -132,7 +132,11 @@ impl Numbers {
         ensures variable { result ≡ same_of self.now s t }
         ensures small { result < 2 ^ 31 }
     {
-        if s < t { self.pair(s, t) } else { self.pair(t, s) }
+        if s < t {
+            self.pair(s, t)
+        } else {
+            self.pair(t, s)
+        }
     }
 
     /// The atom of each variable, from variable 1 on.
