@@ -11,6 +11,7 @@ use Rattle.ct_word.specs.Word.{kind_of, left_of, right_of}
 use Rattle.ct_word.specs.WellFormed.{is_place_of, is_formed_as, is_ordered, fits, fields_of, IsWellFormed}
 use Rattle.ct_word.specs.Stands.{Below, itself, places_in, places_of}
 use Rattle.ct_word.proofs.Splits.{Split, split_at, formed_at, formed_fields, place_within}
+use Rattle.ct_word.proofs.Constants.{one_term}
 use Rattle.ct_word.proofs.Growth.{place_grows}
 use Rattle.ct_cnf.specs.declared.numbers.Numbers.{Numbers}
 use Rattle.ct_cnf.specs.Encoding.{IsConditionBelow, IsTermBelow, AreTermsBelow, AreDistinct}
@@ -84,6 +85,7 @@ module _ (ws : List ℕ) (wf : IsWellFormed ws) (root : ℕ) (ms : List Bool) (b
   are_terms = record {
     each = terms_below;
     all = all_terms;
+    apart = λ p q hp hq e. one_term ws wf p q (terms_below p hp).term (terms_below q hq).term e;
     once = λ i j d li lj e. sym (item_ranks class.Term n.terms counted.are_terms counted.term_ranks i d li) ∙ ap (rank_of n) e ∙ item_ranks class.Term n.terms counted.are_terms counted.term_ranks j d lj;
   }
 

@@ -2,6 +2,7 @@
 use Rattle.std.specs.Prelude.{◌≡◌, ◌≢◌, ◌<◌, ◌≤◌, ◌-◌, ℕ, ℤ, true, List, [], ◌∷◌, map, length, Option, Some, None, slice_get, slice_index_or, Contains}
 use Rattle.ct_word.specs.declared.kinds.Class.TheVariants as class
 use Rattle.ct_word.specs.WellFormed.{is_place_of}
+use Rattle.ct_word.specs.Reading.{term_at}
 use Rattle.ct_word.specs.Stands.{Below}
 use Rattle.ct_derivation.specs.declared.literals.Atom.{Atom}
 use Rattle.ct_derivation.specs.declared.literals.Atom.TheVariants as atom
@@ -79,11 +80,12 @@ HasAllPairs words root atoms = (s t : ℕ) → IsPairBelow words root s t → Co
 abbrev pub AreDistinct : {X : Type 0} → List X → Type 0
 AreDistinct {X} xs = (i j : ℕ) (d : X) → i < length xs → j < length xs → slice_index_or xs i d ≡ slice_index_or xs j d → i ≡ j
 
--- the places of the terms below the root, each once; distinct places hold distinct words, and so distinct terms
+-- the places of the distinct terms below the root: each place once, and each for another term
 pub record AreTermsBelow (words : List ℕ) (root : ℕ) (ts : List ℕ) : Type 0 where
   pub each : (p : ℕ) → Contains ts p → IsTermBelow words root p
   pub all : (p : ℕ) → IsTermBelow words root p → Contains ts p
   pub once : AreDistinct ts
+  pub apart : (p q : ℕ) → Contains ts p → Contains ts q → term_at words p ≡ term_at words q → p ≡ q
 
 -- at most so many distinct terms stand below the root
 abbrev pub HasTermsUpTo : ℕ → List ℕ → ℕ → Type 0

@@ -13,6 +13,8 @@ mod error;
 mod marks;
 mod numbers;
 mod paths;
+#[cfg(test)]
+mod tests;
 
 pub use encoding::{Encoded, encode};
 pub use error::CnfError;
