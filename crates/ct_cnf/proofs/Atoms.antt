@@ -1,18 +1,18 @@
 -- The atom of each variable, and the variable of each atom.
-use Rattle.std.proofs.Common.{◌≡◌, ◌≢◌, ℕ, zero, suc, ◌+◌, ◌-◌, ◌*◌, ◌/◌, ◌<◌, ◌≤◌, ◌^◌, Bool, true, false, ◌&&◌, List, [], ◌∷◌, ◌++◌, length, map, get_or, nat_lt, nat_le, refl, ap, ◌∙◌, sym, subst, arith, inl, inr, ◌⊎◌, if◌then◌else◌, length-append}
+use Rattle.std.proofs.Common.{◌≡◌, ◌≢◌, ℕ, suc, ◌+◌, ◌-◌, ◌*◌, ◌<◌, ◌≤◌, ◌^◌, Bool, true, false, List, [], ◌∷◌, ◌++◌, length, map, get_or, refl, ap, ◌∙◌, sym, subst, arith, inl, inr, ◌⊎◌, if◌then◌else◌, length-append}
 use Rattle.std.specs.Prelude.{Contains}
 use Rattle.std.proofs.lemmas.Bool.{cases_lt, lt-ltb, le-ltb, false≢true}
-use Rattle.std.proofs.lemmas.List.{length-map, length_push, get_or_append_left, get_or-append_right, get_or-map, get_or_default, append_assoc}
+use Rattle.std.proofs.lemmas.List.{length-map, length_push, get_or_append_left, get_or-append_right, get_or-map, get_or_default}
 use Rattle.std.proofs.lemmas.List.Elements.{Contains-get_or, Contains-append_left, Contains-append_right, Contains-append_cases}
 use Rattle.std.proofs.lemmas.Nat.{mul-le}
 use Rattle.ct_derivation.specs.declared.literals.Atom.{Atom}
 use Rattle.ct_derivation.specs.declared.literals.Atom.TheVariants as atom
 use Rattle.ct_derivation.specs.Path.{pair_of}
 use Rattle.ct_cnf.specs.declared.numbers.Numbers.{Numbers}
-use Rattle.ct_cnf.specs.Encoding.{atom_of, AreDistinct, IsPairBelow, HasNodesBelow, HasPairsBelow, HasAllPairs}
-use Rattle.ct_cnf.specs.Lists.{pairs_with, pairs_after, pairs_of, atoms_of, rank_of, node_of, pair_variable, same_of, IsRanked, AreNumbers}
+use Rattle.ct_cnf.specs.Encoding.{atom_of, AreDistinct, HasNodesBelow, HasPairsBelow, HasAllPairs}
+use Rattle.ct_cnf.specs.Lists.{pairs_with, pairs_after, pairs_of, atoms_of, rank_of, node_of, pair_variable, same_of, AreNumbers}
 use Rattle.ct_cnf.specs.Making.{IsNumbering}
-use Rattle.ct_cnf.proofs.Items.{mapped_item, unmapped_item, no_item}
+use Rattle.ct_cnf.proofs.Items.{mapped_item, unmapped_item}
 use Rattle.ct_cnf.proofs.Pairs.{pairs_more, pair_place, pair_stands, pair_listed, IsListedPair, listed_pair}
 
 -- how many atoms there are

@@ -1,5 +1,5 @@
 -- Each clause is that of its origin.
-use Rattle.std.proofs.Common.{◌≡◌, ◌≢◌, ℕ, zero, suc, ◌+◌, ◌-◌, ◌<◌, ◌≤◌, ℤ, pos, negsuc, Bool, true, false, not, ◌&&◌, ◌||◌, List, [], ◌∷◌, ◌++◌, length, map, get_or, Option, Some, None, nat_eq, nat_lt, nat_le, refl, ap, ◌∙◌, sym, subst, arith, inl, inr, if◌then◌else◌, append_assoc, length-append}
+use Rattle.std.proofs.Common.{◌≡◌, ◌≢◌, ℕ, zero, suc, ◌+◌, ◌<◌, ◌≤◌, ℤ, Bool, true, false, not, ◌&&◌, ◌||◌, List, [], ◌∷◌, ◌++◌, length, map, get_or, Option, Some, None, nat_eq, nat_le, refl, ap, ◌∙◌, sym, subst, arith, inl, inr, if◌then◌else◌, append_assoc, length-append}
 use Rattle.std.specs.Prelude.{slice_get, Contains}
 use Rattle.std.specs.List.{flat_map, list_all}
 use Rattle.std.proofs.lemmas.Bool.{and_from, or_parts, le-leb, lt-ltb, eqb-false, ne_eqb}
@@ -17,7 +17,7 @@ use Rattle.ct_derivation.specs.declared.steps.Why.{Why}
 use Rattle.ct_derivation.specs.declared.steps.Why.TheVariants as why
 use Rattle.ct_derivation.specs.Literal as literal
 use Rattle.ct_derivation.specs.Definition.{defining, definition}
-use Rattle.ct_derivation.specs.Path.{is_constant, is_path, path_clause, pair_of, no_links, ends_clause, moves}
+use Rattle.ct_derivation.specs.Path.{is_constant, is_path, path_clause, pair_of, ends_clause}
 use Rattle.ct_derivation.specs.Variables.{signed, is_literal}
 use Rattle.ct_cnf.specs.declared.entries.Entry.{Entry}
 use Rattle.ct_cnf.specs.declared.numbers.Numbers.{Numbers}

@@ -1,8 +1,8 @@
 -- The numbers of what stands below a root.
-use Rattle.std.proofs.Common.{◌≡◌, ℕ, zero, suc, ◌+◌, ◌<◌, ◌≤◌, ◌^◌, Bool, true, false, not, ◌&&◌, ◌||◌, List, [], ◌∷◌, ◌++◌, length, get_or, Option, Some, None, nat_lt, refl, ap, ◌∙◌, sym, subst, arith}
+use Rattle.std.proofs.Common.{◌≡◌, ℕ, ◌<◌, ◌≤◌, ◌^◌, Bool, true, not, ◌&&◌, ◌||◌, List, [], ◌∷◌, ◌++◌, length, get_or, Option, Some, nat_lt, refl, ap, ◌∙◌, sym, subst, arith}
 use Rattle.std.specs.Prelude.{slice_get, Contains}
 use Rattle.std.proofs.lemmas.List.Elements.{Contains-get_or}
-use Rattle.std.proofs.lemmas.Bool.{and_parts, and_from, ltb-true, false≢true}
+use Rattle.std.proofs.lemmas.Bool.{and_parts, and_from, ltb-true}
 use Rattle.ct_word.specs.declared.kinds.Kind.{Kind}
 use Rattle.ct_word.specs.declared.kinds.Kind.TheVariants as kind
 use Rattle.ct_word.specs.declared.kinds.Class.{Class}
@@ -14,7 +14,7 @@ use Rattle.ct_word.proofs.Splits.{Split, split_at, formed_at, formed_fields, pla
 use Rattle.ct_word.proofs.Constants.{one_term}
 use Rattle.ct_word.proofs.Growth.{place_grows}
 use Rattle.ct_cnf.specs.declared.numbers.Numbers.{Numbers}
-use Rattle.ct_cnf.specs.Encoding.{IsConditionBelow, IsTermBelow, AreTermsBelow, AreDistinct}
+use Rattle.ct_cnf.specs.Encoding.{IsConditionBelow, IsTermBelow, AreTermsBelow}
 use Rattle.ct_cnf.specs.Marks.{is_marked, AreBelow}
 use Rattle.ct_cnf.specs.Lists.{is_kept, picked, rank_of, AreCounted, IsRanked, AreNumbers, AreFieldsNumbered}
 use Rattle.ct_cnf.specs.Making.{IsNumbering}

@@ -1,4 +1,4 @@
-use Rattle.std.proofs.Common.{◌≡◌, ◌<◌, ◌^◌, length, ap, ◌∙◌, sym, subst, arith, rules}
+use Rattle.std.proofs.Common.{◌<◌, ◌^◌, length, ap, arith, rules}
 use Rattle.ct_cnf.proofs.Made.{atoms_fit}
 use Rattle.ct_cnf.proofs.encoding.assemble.Goals as goal
 

@@ -1,4 +1,4 @@
-use Rattle.std.proofs.Common.{◌≡◌, ◌≤◌, ◌<◌, length, ap, ◌∙◌, sym, subst, arith}
+use Rattle.std.proofs.Common.{sym, subst, arith}
 use Rattle.ct_cnf.specs.Marks.{AreBelow}
 use Rattle.ct_cnf.proofs.Numbered.{are_terms, is_numbering}
 use Rattle.ct_cnf.proofs.encoding.number.Goals as goal

@@ -1,9 +1,9 @@
-use Rattle.std.proofs.Common.{◌≡◌, refl, ◌+◌, ◌-◌, ◌∙◌, length, set, true, false, get_or, Some, ap, sym, subst, arith}
+use Rattle.std.proofs.Common.{◌≡◌, refl, ◌+◌, ◌-◌, ◌∙◌, set, true, false, get_or, Some, sym, subst, arith}
 use Rattle.std.specs.Prelude.{slice_get}
 use Rattle.std.proofs.lemmas.List.{get_or_read}
 use Rattle.std.proofs.lemmas.Option.{slice_get-get_or}
-use Rattle.ct_cnf.specs.Marks.{IsMarking, is_marked}
-use Rattle.ct_cnf.proofs.Walks.{earlier, marking_starts, marking_more, marking_skips, marking_ends, marked_within}
+use Rattle.ct_cnf.specs.Marks.{IsMarking}
+use Rattle.ct_cnf.proofs.Walks.{earlier, marking_starts, marking_more, marking_ends}
 use Rattle.ct_cnf.proofs.marks.mark.Goals as goal
 
 pub loop-place-init : goal.loop-place-init

@@ -1,4 +1,4 @@
-use Rattle.std.proofs.Common.{◌≡◌, ◌<◌, length, ap, ◌∙◌, sym, subst, arith}
+use Rattle.std.proofs.Common.{length, ap, arith}
 use Rattle.ct_cnf.proofs.numbers.Numbers.node.Goals as goal
 
 pub bounds-as_slice-p : goal.bounds-as_slice-p
