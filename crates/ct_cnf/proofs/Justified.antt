@@ -1,8 +1,8 @@
 -- Each clause is that of its origin.
-use Rattle.std.proofs.Common.{◌≡◌, ◌≢◌, ℕ, zero, suc, ◌+◌, ◌<◌, ◌≤◌, ℤ, Bool, true, false, not, ◌&&◌, ◌||◌, List, [], ◌∷◌, ◌++◌, length, map, get_or, Option, Some, None, nat_eq, nat_le, refl, ap, ◌∙◌, sym, subst, arith, inl, inr, if◌then◌else◌, append_assoc, length-append}
+use Rattle.std.proofs.Common.{◌≡◌, ◌≢◌, ℕ, zero, suc, ◌+◌, ◌<◌, ◌≤◌, ℤ, Bool, true, false, ◌&&◌, ◌||◌, List, [], ◌∷◌, ◌++◌, length, map, get_or, Option, Some, None, nat_eq, nat_le, refl, ap, ◌∙◌, sym, subst, arith, inl, inr, if◌then◌else◌, append_assoc, length-append}
 use Rattle.std.specs.Prelude.{slice_get, Contains}
 use Rattle.std.specs.List.{flat_map, list_all}
-use Rattle.std.proofs.lemmas.Bool.{and_from, or_parts, le-leb, lt-ltb, eqb-false, ne_eqb}
+use Rattle.std.proofs.lemmas.Bool.{and_from, or_parts, le-leb, lt-ltb, eqb-false}
 use Rattle.std.proofs.lemmas.List.{get_or_append_left, get_or_at, get_or_default}
 use Rattle.std.proofs.lemmas.List.Elements.{Contains-append_left, Contains-append_right, Contains-append_cases}
 use Rattle.ct_word.specs.declared.kinds.Kind.{Kind}
@@ -17,7 +17,7 @@ use Rattle.ct_derivation.specs.declared.steps.Why.{Why}
 use Rattle.ct_derivation.specs.declared.steps.Why.TheVariants as why
 use Rattle.ct_derivation.specs.Literal as literal
 use Rattle.ct_derivation.specs.Definition.{defining, definition}
-use Rattle.ct_derivation.specs.Path.{is_constant, is_path, path_clause, pair_of, ends_clause}
+use Rattle.ct_derivation.specs.Path.{is_constant, pair_of, ends_clause}
 use Rattle.ct_derivation.specs.Variables.{signed, is_literal}
 use Rattle.ct_cnf.specs.declared.entries.Entry.{Entry}
 use Rattle.ct_cnf.specs.declared.numbers.Numbers.{Numbers}
@@ -25,6 +25,7 @@ use Rattle.ct_cnf.specs.Encoding.{atom_of, named, through, origin_clause, AreOri
 use Rattle.ct_cnf.specs.Lists.{yes_of, no_of, clause_of, why_of, entry, node_of, same_of, atoms_of, equal_entries, not_entries, and_entries, or_entries, defining_entries, word_entries, definition_entries, path_entry, over_entries, apart_entries, between_entries, into_entries, paths_after, all_entries, AreFieldsNumbered}
 use Rattle.ct_cnf.specs.Making.{IsNumbering}
 use Rattle.ct_cnf.proofs.Items.{no_item, item_cases, first_item, later_item}
+use Rattle.ct_cnf.proofs.Shapes.{path_of_two, path_of_three, two_clause, three_clause}
 use Rattle.ct_cnf.proofs.Atoms.{IsAtomOf, node_found, same_found}
 
 -- something holds of each item
@@ -164,27 +165,6 @@ module _ (ws : List ℕ) (root : ℕ) (n : Numbers) (num : IsNumbering ws root n
   is_term : (s : ℕ) → Contains n.terms s → is_place_of ws class.Term s ≡ true
   is_term s h = (num.terms_below s h).term
 
-  unequal : (s t : ℕ) → s ≢ t → not (nat_eq s t) ≡ true
-  unequal s t ne = ap not (ne_eqb s t ne)
-
-  path_of_two : (r t : ℕ) → Contains n.terms r → Contains n.terms t → r ≢ t → is_path ws r (t ∷ []) ≡ true
-  unfolding is_path
-  path_of_two r t hr ht rt =
-      and_from _ _ (and_from _ _ (and_from _ _ (unequal r t rt) refl) (unequal r t rt)) (and_from _ _ (is_term r hr) (and_from _ _ (is_term t ht) refl))
-
-  path_of_three : (r s t : ℕ) → Contains n.terms r → Contains n.terms s → Contains n.terms t → r ≢ s → s ≢ t → r ≢ t → is_path ws r (s ∷ t ∷ []) ≡ true
-  unfolding is_path
-  path_of_three r s t hr hs ht rs st rt =
-      and_from _ _ (and_from _ _ (and_from _ _ (unequal r s rs) (and_from _ _ (unequal s t st) refl)) (unequal r t rt))
-      (and_from _ _ (is_term r hr) (and_from _ _ (is_term s hs) (and_from _ _ (is_term t ht) refl)))
-
-  two_clause : (r t : ℕ) → is_path ws r (t ∷ []) ≡ true → path_clause ws (r ∷ t ∷ []) ≡ Some (literal.no_of (pair_of r t) ∷ ends_clause ws r t)
-  two_clause r t e = ap (λ b. if b then Some (literal.no_of (pair_of r t) ∷ ends_clause ws r t) else None) e
-
-  three_clause : (r s t : ℕ) → is_path ws r (s ∷ t ∷ []) ≡ true
-      → path_clause ws (r ∷ s ∷ t ∷ []) ≡ Some (literal.no_of (pair_of r s) ∷ literal.no_of (pair_of s t) ∷ ends_clause ws r t)
-  three_clause r s t e = ap (λ b. if b then Some (literal.no_of (pair_of r s) ∷ literal.no_of (pair_of s t) ∷ ends_clause ws r t) else None) e
-
   -- the last literal is left out between constants
   by_ends : (b : Bool) (x y z : ℤ) (l m k : Lit) (w : Why) → IsLitOf x l → IsLitOf y m → IsLitOf z k
       → origin_clause ws root w ≡ Some (l ∷ m ∷ (if b then [] else k ∷ [])) → IsJust (entry (x ∷ y ∷ (if b then [] else z ∷ [])) w)
@@ -196,7 +176,7 @@ module _ (ws : List ℕ) (root : ℕ) (n : Numbers) (num : IsNumbering ws root n
   just_path r s t hr hs ht rs st rt =
       by_ends (is_constant ws r && is_constant ws t) _ _ _ _ _ _ (why.Path (r ∷ s ∷ t ∷ []))
       (no_is _ _ (same r s hr hs rs)) (no_is _ _ (same s t hs ht st)) (yes_is _ _ (same r t hr ht rt))
-      (three_clause r s t (path_of_three r s t hr hs ht rs st rt))
+      (three_clause ws r s t (path_of_three ws r s t (is_term r hr) (is_term s hs) (is_term t ht) rs st rt))
 
   over_if : (b : Bool) (r s t : ℕ) → (nat_eq s r || nat_eq s t) ≡ b → Contains n.terms r → Contains n.terms s → Contains n.terms t → r ≢ t
       → Each IsJust (if b then [] else path_entry ws n r t s ∷ [])
@@ -216,7 +196,7 @@ module _ (ws : List ℕ) (root : ℕ) (n : Numbers) (num : IsNumbering ws root n
   apart_if false r t e hr ht rt = each_nil IsJust
   apart_if true r t e hr ht rt =
       each_one IsJust _ (just_one _ _ (why.Path (r ∷ t ∷ [])) (no_is _ _ (same r t hr ht rt))
-      (two_clause r t (path_of_two r t hr ht rt) ∙ ap (λ b. Some (literal.no_of (pair_of r t) ∷ (if b then [] else literal.yes_of (pair_of r t) ∷ []))) e))
+      (two_clause ws r t (path_of_two ws r t (is_term r hr) (is_term t ht) rt) ∙ ap (λ b. Some (literal.no_of (pair_of r t) ∷ (if b then [] else literal.yes_of (pair_of r t) ∷ []))) e))
 
   just_between : (r t : ℕ) → Contains n.terms r → Contains n.terms t → r ≢ t → Each IsJust (between_entries ws n r t)
   unfolding between_entries apart_entries

@@ -1,5 +1,5 @@
 -- What an encoding of a question is: its atoms, and the reason of each clause.
-use Rattle.std.specs.Prelude.{◌≡◌, ◌≢◌, ◌<◌, ◌≤◌, ◌-◌, ℕ, ℤ, true, List, [], ◌∷◌, map, length, Option, Some, None, slice_get, slice_index_or, Contains}
+use Rattle.std.specs.Prelude.{◌≡◌, ◌≢◌, ◌<◌, ◌≤◌, ◌-◌, ℕ, ℤ, Bool, true, List, [], ◌∷◌, map, length, Option, Some, None, slice_get, slice_index_or, Contains}
 use Rattle.ct_word.specs.declared.kinds.Class.TheVariants as class
 use Rattle.ct_word.specs.WellFormed.{is_place_of}
 use Rattle.ct_word.specs.Reading.{term_at}
@@ -11,6 +11,7 @@ use Rattle.ct_derivation.specs.declared.steps.Why.{Why}
 use Rattle.ct_derivation.specs.declared.steps.Why.TheVariants as why
 use Rattle.ct_derivation.specs.Literal.{Clause, yes_of}
 use Rattle.ct_derivation.specs.Definition.{definition}
+use Rattle.ct_derivation.specs.Models.{is_satisfied}
 use Rattle.ct_derivation.specs.Path.{path_clause, is_constant}
 use Rattle.ct_derivation.specs.Variables.{Signed, signed}
 
@@ -94,3 +95,11 @@ HasTermsUpTo n words root = (ts : List ℕ) × AreTermsBelow words root ts × (l
 -- more distinct terms than so many stand below the root
 abbrev pub HasTermsPast : ℕ → List ℕ → ℕ → Type 0
 HasTermsPast n words root = (ts : List ℕ) × AreTermsBelow words root ts × (n < length ts)
+
+-- an assignment of atoms satisfies the clause of each of these origins
+abbrev pub SatisfiesOrigins : List ℕ → ℕ → (Atom → Bool) → List Why → Type 0
+SatisfiesOrigins words root t origins = (w : Why) (c : Clause) → Contains origins w → origin_clause words root w ≡ Some c → is_satisfied t c ≡ true
+
+-- an assignment of atoms satisfies the clause of each path, of any length, over terms below the root
+abbrev pub SatisfiesPaths : List ℕ → ℕ → (Atom → Bool) → Type 0
+SatisfiesPaths words root t = (path : List ℕ) (c : Clause) → ((p : ℕ) → Contains path p → IsTermBelow words root p) → path_clause words path ≡ Some c → is_satisfied t c ≡ true

@@ -10,6 +10,7 @@ mod definitions;
 mod encoding;
 mod entries;
 mod error;
+mod laws;
 mod marks;
 mod numbers;
 mod paths;
@@ -18,3 +19,4 @@ mod tests;
 
 pub use encoding::{Encoded, encode};
 pub use error::CnfError;
+pub use laws::longer_paths;
