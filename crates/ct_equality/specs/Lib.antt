@@ -4,3 +4,5 @@ pub mod Assigned
 pub mod Classes
 pub mod Joining
 pub mod Trees
+pub mod Words
+pub mod Valued

@@ -1,7 +1,7 @@
 // The classes of terms, joined along the true equalities.
 
 ghost use Rattle.std.specs.Prelude.{◌≡◌, true, length, IfOk, IfSome, IfNone};
-ghost use Rattle.ct_equality.specs.Members as member;
+ghost use Rattle.ct_equality.specs.Members as listed;
 ghost use Rattle.ct_equality.specs.Joining.{clash_by, clash_of, joined_by, joined_classes};
 ghost use Rattle.ct_equality.specs.Assigned.{IsClash, are_plain};
 ghost use Rattle.ct_equality.specs.Classes.{AreListed, AreClasses, AreJoined, IsApart, IsContradiction};
@@ -23,7 +23,7 @@ pub struct Member {
 
 /// The term by which a term's class goes.
 pub fn class_of(members: &[Member], place: u32) -> u32
-    ensures { result ≡ member.class_of members.now place }
+    ensures { result ≡ listed.class_of members.now place }
 {
     for m in members {
         if m.place == place {
@@ -35,7 +35,7 @@ pub fn class_of(members: &[Member], place: u32) -> u32
 
 /// The number of a term.
 pub fn number_of(members: &[Member], place: u32) -> Option<u32>
-    ensures { result ≡ member.number_of members.now place }
+    ensures { result ≡ listed.number_of members.now place }
 {
     for m in members {
         if m.place == place {
@@ -47,7 +47,7 @@ pub fn number_of(members: &[Member], place: u32) -> Option<u32>
 
 /// Each term alone in its class.
 pub fn members(alloc: Global, words: &[u64], terms: &[u32]) -> Result<Vec<Member>, AllocError>
-    ensures { IfOk result (λ v. v.items ≡ member.members_at words.now terms.now) }
+    ensures { IfOk result (λ v. v.items ≡ listed.members_at words.now terms.now) }
 {
     let mut members = Vec::new(alloc);
     for place in terms {
@@ -61,13 +61,13 @@ pub fn members(alloc: Global, words: &[u64], terms: &[u32]) -> Result<Vec<Member
 }
 
 fn moved(class: u32, gone: u32, kept: u32) -> u32
-    ensures { result ≡ member.moved gone kept class }
+    ensures { result ≡ listed.moved gone kept class }
 {
     if class == gone { kept } else { class }
 }
 
 fn merge(members: &mut [Member], gone: u32, kept: u32)
-    ensures { members.new ≡ member.merged gone kept members.old }
+    ensures { members.new ≡ listed.merged gone kept members.old }
 {
     for m in members.iter_mut() {
         m.class = moved(m.class, gone, kept);
@@ -78,8 +78,8 @@ fn merge(members: &mut [Member], gone: u32, kept: u32)
 /// Two different constants are not joined but answered.
 #[tactic(auto, unfolding(crate::specs::Joining::clash_of, crate::specs::Joining::joined_classes))]
 fn join(words: &[u64], members: &mut [Member], s: u32, t: u32) -> Option<(u32, u32)>
-    ensures clash { result ≡ clash_of words.now (member.class_of members.old s) (member.class_of members.old t) }
-    ensures joined { members.new ≡ joined_classes words.now (member.class_of members.old s) (member.class_of members.old t) members.old }
+    ensures clash { result ≡ clash_of words.now (listed.class_of members.old s) (listed.class_of members.old t) }
+    ensures joined { members.new ≡ joined_classes words.now (listed.class_of members.old s) (listed.class_of members.old t) members.old }
 {
     let a = class_of(members, s);
     let b = class_of(members, t);

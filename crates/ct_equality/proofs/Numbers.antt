@@ -1,0 +1,158 @@
+-- Giving numbers to classes.
+use Rattle.std.proofs.Common.{◌≡◌, ◌≢◌, ◌<◌, ◌≤◌, ◌^◌, ◌+◌, ℕ, zero, suc, Bool, true, false, List, [], ◌∷◌, ◌++◌, length, map, get_or, Option, Some, None, nat_eq, refl, ap, sym, ◌∙◌, inl, inr, ◌⊎◌, arith}
+use Rattle.std.specs.List.{list_any, IsDistinct}
+use Rattle.std.specs.Cmp.{nat_eq_equiv}
+use Rattle.std.proofs.lemmas.Bool.{eqb-true, eq-eqb, false≢true, cases_Bool, both_ways, or_cases, or_left, or_right}
+use Rattle.std.proofs.lemmas.List.{length-map, length-append}
+use Rattle.std.proofs.lemmas.Map.Keys.{IsDistinct-push}
+use Rattle.std.proofs.lemmas.Map.Made.{length-le_from_is_member}
+use Rattle.ct_derivation.specs.Path.{is_constant}
+use Rattle.ct_equality.specs.declared.classes.Member.{Member}
+use Rattle.ct_equality.specs.Terms.{is_among}
+use Rattle.ct_equality.specs.Members.{is_listed, class_of, number_of, same_number, is_taken, with_number, numbered, number_at}
+use Rattle.ct_equality.specs.Valued.{AreNumbered}
+use Rattle.ct_equality.proofs.Members.{listed_numbered, class_numbered, number_numbered, number_new, taken_by}
+use Rattle.ct_equality.proofs.Trees.{among_append}
+
+some_none : (k : ℕ) → Some k ≢ None
+some_none k e = cc
+
+module _ (words : List ℕ) (first ms : List Member) (done : List ℕ) (are : AreNumbered words first ms done) (p : ℕ) where
+  among_more : (q : ℕ) → is_among (done ++ p ∷ []) q ≡ true → (is_among done q ≡ true) ⊎ (q ≡ p)
+  among_more q e = elim (or_cases (is_among done q) (is_among (p ∷ []) q) (sym (among_append done (p ∷ []) q) ∙ e)) [
+    | inl a ↦ inl a
+    | inr b ↦ elim (or_cases (nat_eq q p) false b) [ inl s ↦ inr (eqb-true q p s) | inr n ↦ absurd (false≢true n) ]
+  ]
+
+  pub not_numbered : (class_of ms p ≡ p → is_constant words p ≡ false → ⊥) → AreNumbered words first ms (done ++ p ∷ [])
+  not_numbered never = record {
+    count = are.count;
+    listed = are.listed;
+    classes = are.classes;
+    once = are.once;
+    short = are.short;
+    constants = are.constants;
+    chiefs = λ q e c n. elim (among_more q e) [
+      | inl a ↦ are.chiefs q a c n
+      | inr s ↦ absurd (never (ap (class_of ms) (sym s) ∙ c ∙ s) (ap (is_constant words) (sym s) ∙ n))
+    ];
+  }
+
+  module _ (k : ℕ) (free : is_taken ms k ≡ false) (short : k < 2 ^ 28) (there : is_listed ms p ≡ true) (no_constant : is_constant words p ≡ false) where
+    abbrev new : List Member
+    new = numbered p k ms
+
+    number_cases : (q : ℕ) → ((q ≡ p) × (number_of new q ≡ Some k)) ⊎ (number_of new q ≡ number_of ms q)
+    number_cases q = elim (cases_Bool (nat_eq q p)) [
+      | inl t ↦ let s = eqb-true q p t in inl (s, ap (number_of new) s ∙ number_new p k ms there)
+      | inr f ↦ inr (number_numbered p k ms q f)
+    ]
+
+    not_old : (q : ℕ) → number_of ms q ≡ Some k → ⊥
+    not_old q e = both_ways _ free (taken_by ms q k e)
+
+    once_more : (q r j : ℕ) → number_of new q ≡ Some j → number_of new r ≡ Some j → q ≡ r
+    once_more q r j e f = elim (number_cases q) [
+      | inl a ↦ elim (number_cases r) [
+        | inl b ↦ a.0 ∙ sym b.0
+        | inr b ↦ absurd (not_old r (sym b ∙ f ∙ sym e ∙ a.1))
+      ]
+      | inr a ↦ elim (number_cases r) [
+        | inl b ↦ absurd (not_old q (sym a ∙ e ∙ sym f ∙ b.1))
+        | inr b ↦ are.once q r j (sym a ∙ e) (sym b ∙ f)
+      ]
+    ]
+
+    pub numbered_more : AreNumbered words first new (done ++ p ∷ [])
+    numbered_more = record {
+      count = length-map ms (with_number p k) ∙ are.count;
+      listed = λ q. listed_numbered p k ms q ∙ are.listed q;
+      classes = λ q. class_numbered p k ms q ∙ are.classes q;
+      once = once_more;
+      short = λ q j e. elim (number_cases q) [
+        | inl a ↦ let s : Some k ≡ Some j = sym a.1 ∙ e in let same : k ≡ j = cc in omega (arith, same, short)
+        | inr a ↦ are.short q j (sym a ∙ e)
+      ];
+      constants = λ q e l. elim (number_cases q) [
+        | inl a ↦ absurd (both_ways _ no_constant (ap (is_constant words) (sym a.0) ∙ e))
+        | inr a ↦ a ∙ are.constants q e (sym (listed_numbered p k ms q) ∙ l)
+      ];
+      chiefs = λ q e c n none. elim (number_cases q) [
+        | inl a ↦ some_none k (sym a.1 ∙ none)
+        | inr a ↦ elim (among_more q e) [
+          | inl d ↦ are.chiefs q d (sym (class_numbered p k ms q) ∙ c) n (sym a ∙ none)
+          | inr s ↦ some_none k (sym (ap (number_of new) s ∙ number_new p k ms there) ∙ none)
+        ]
+      ];
+    }
+
+-- the numbers below n
+upto : ℕ → List ℕ
+upto zero = []
+upto (suc n) = upto n ++ n ∷ []
+
+length_upto : (n : ℕ) → length (upto n) ≡ n
+unfolding upto
+length_upto zero = refl
+length_upto (suc n) = let e = length_upto n in let l = length-append (upto n) (n ∷ []) in omega (arith, e, l)
+
+upto_below : (n q : ℕ) → is_among (upto n) q ≡ true → q < n
+unfolding upto
+upto_below zero q e = absurd (false≢true e)
+upto_below (suc n) q e = elim (or_cases (is_among (upto n) q) (is_among (n ∷ []) q) (sym (among_append (upto n) (n ∷ []) q) ∙ e)) [
+  | inl a ↦ let l = upto_below n q a in omega (arith, l)
+  | inr b ↦ elim (or_cases (nat_eq q n) false b) [ inl s ↦ let t = eqb-true q n s in omega (arith, t) | inr f ↦ absurd (false≢true f) ]
+]
+
+upto_distinct : (n : ℕ) → IsDistinct nat_eq (upto n)
+unfolding upto IsDistinct
+upto_distinct zero = tt
+upto_distinct (suc n) = IsDistinct-push nat_eq_equiv (upto n) n (upto_distinct n) (elim (cases_Bool (is_among (upto n) n)) [
+  | inl t ↦ let l = upto_below n n t in absurd (omega (arith, l))
+  | inr f ↦ f
+])
+
+-- the numbers that members have
+own_of : Option ℕ → List ℕ → List ℕ
+own_of None ks = ks
+own_of (Some k) ks = k ∷ ks
+
+own : List Member → List ℕ
+own [] = []
+own (m ∷ ms) = own_of m.number (own ms)
+
+own_step : (o : Option ℕ) (ks : List ℕ) (n : ℕ) → length ks ≤ n → length (own_of o ks) ≤ n + 1
+unfolding own_of
+own_step None ks n le = omega (arith, le)
+own_step (Some k) ks n le = omega (arith, le)
+
+own_few : (ms : List Member) → length (own ms) ≤ length ms
+unfolding own
+own_few [] = omega arith
+own_few (m ∷ ms) = let l = own_step m.number (own ms) (length ms) (own_few ms) in omega (arith, l)
+
+own_here : (o : Option ℕ) (ks : List ℕ) (k : ℕ) → same_number o k ≡ true → is_among (own_of o ks) k ≡ true
+unfolding own_of
+own_here None ks k e = absurd (false≢true e)
+own_here (Some j) ks k e = or_left (nat_eq k j) _ (eq-eqb k j (sym (eqb-true j k e)))
+
+own_there : (o : Option ℕ) (ks : List ℕ) (k : ℕ) → is_among ks k ≡ true → is_among (own_of o ks) k ≡ true
+unfolding own_of
+own_there None ks k e = e
+own_there (Some j) ks k e = or_right (nat_eq k j) _ e
+
+taken_own : (ms : List Member) (k : ℕ) → is_taken ms k ≡ true → is_among (own ms) k ≡ true
+unfolding own
+taken_own [] k e = absurd (false≢true e)
+taken_own (m ∷ ms) k e = elim (or_cases (same_number m.number k) (is_taken ms k) e) [
+  | inl s ↦ own_here m.number (own ms) k s
+  | inr t ↦ own_there m.number (own ms) k (taken_own ms k t)
+]
+
+-- as many numbers as are all taken, members there are
+pub taken_few : (ms : List Member) (n : ℕ) → ((k : ℕ) → k < n → is_taken ms k ≡ true) → n ≤ length ms
+taken_few ms n all =
+    let le = length-le_from_is_member nat_eq_equiv (upto n) (own ms) (upto_distinct n) (λ q e. taken_own ms q (all q (upto_below n q e))) in
+    let e = length_upto n in
+    let f = own_few ms in
+    omega (arith, le, e, f)
