@@ -6,3 +6,5 @@ pub mod Words
 pub mod Texts
 pub mod Numbers
 pub mod Listed
+pub mod Standing
+pub mod Worlds

@@ -184,7 +184,7 @@ module _ (atoms : List Atom) (truth : List Bool) where
             ]
       ]
 
-  place_below : (k : ℕ) (a : Atom) → slice_get atoms k ≡ Some a → k < length atoms
+  pub place_below : (k : ℕ) (a : Atom) → slice_get atoms k ≡ Some a → k < length atoms
   place_below k a e = within atoms k a e where
     within : (xs : List Atom) (i : ℕ) (x : Atom) → slice_get xs i ≡ Some x → i < length xs
     within [] i x f = cc
