@@ -8,3 +8,4 @@ pub mod Numbers
 pub mod Listed
 pub mod Standing
 pub mod Worlds
+pub mod FalsePaths

@@ -15,4 +15,4 @@ mod reading;
 mod terms;
 mod values;
 
-
+pub use closing::{Closed, close};
