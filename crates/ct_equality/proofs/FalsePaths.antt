@@ -1,22 +1,19 @@
 -- A walk between two terms that have to differ is a path whose clause is false.
-use Rattle.std.proofs.Common.{◌≡◌, ◌≢◌, ◌<◌, ◌≤◌, ℕ, zero, suc, Bool, true, false, not, ◌&&◌, List, [], ◌∷◌, ◌++◌, length, Option, Some, None, nat_eq, nat_lt, refl, ap, sym, ◌∙◌, subst, if◌then◌else◌, inl, inr, ◌⊎◌, arith}
+use Rattle.std.proofs.Common.{◌≡◌, ◌≢◌, ◌≤◌, ℕ, Bool, true, false, not, ◌&&◌, List, [], ◌∷◌, ◌++◌, length, Some, None, nat_eq, nat_lt, refl, ap, sym, ◌∙◌, subst, if◌then◌else◌, inl, inr, arith}
 use Rattle.std.specs.Prelude.{slice_get}
-use Rattle.std.specs.List.{list_all, AllByRecursion}
-use Rattle.std.specs.List.{IsDistinct}
-use Rattle.std.specs.Cmp.{nat_eq_equiv}
-use Rattle.std.proofs.lemmas.Bool.{eqb-true, eq-eqb, ltb-true, ltb-false, lt-ltb, le-ltb, false≢true, cases_Bool, both_ways, and_parts, and_from, or_left, or_right}
+use Rattle.std.specs.List.{list_all}
+use Rattle.std.proofs.lemmas.Bool.{eqb-true, eq-eqb, cases_Bool, both_ways, and_from, or_left, or_right}
 use Rattle.std.proofs.lemmas.Map.Steps.{length-le_from_distinct_below}
 use Rattle.ct_word.specs.declared.kinds.Class.TheVariants as class
 use Rattle.ct_word.specs.WellFormed.{is_place_of}
 use Rattle.ct_word.proofs.Splits.{place_within}
 use Rattle.ct_derivation.specs.declared.literals.Atom.{Atom}
 use Rattle.ct_derivation.specs.declared.literals.Atom.TheVariants as atom
-use Rattle.ct_derivation.specs.declared.literals.Lit.{Lit}
-use Rattle.ct_derivation.specs.Literal.{Clause, yes_of, no_of}
-use Rattle.ct_derivation.specs.Path.{pair_of, end_of, no_links, moves, ends_clause, is_path, path_clause, is_constant}
+use Rattle.ct_derivation.specs.Literal.{Clause}
+use Rattle.ct_derivation.specs.Path.{end_of, no_links, moves, ends_clause, is_path, path_clause, is_constant}
 use Rattle.ct_equality.specs.Terms.{terms_of, is_among}
-use Rattle.ct_equality.specs.Assigned.{Gives, IsLink, AreLinks, IsWalk, IsFalse, IsFalsePath, IsClash, are_plain}
-use Rattle.ct_equality.proofs.Steps.{PlainPair, plain_at, plain_place}
+use Rattle.ct_equality.specs.Assigned.{IsLink, AreLinks, IsWalk, IsFalse, IsFalsePath, IsClash, are_plain}
+use Rattle.ct_equality.proofs.Steps.{plain_at, plain_place}
 use Rattle.ct_equality.proofs.Listed.{among_terms, terms_distinct, plain_end}
 
 is_false_append : (atoms : List Atom) (truth : List Bool) (ls ms : Clause) → IsFalse atoms truth ls → IsFalse atoms truth ms → IsFalse atoms truth (ls ++ ms)

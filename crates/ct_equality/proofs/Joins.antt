@@ -1,7 +1,7 @@
 -- Joining two classes.
-use Rattle.std.proofs.Common.{◌≡◌, ◌≢◌, ◌<◌, ℕ, zero, suc, Bool, true, false, not, ◌&&◌, ◌||◌, List, [], ◌∷◌, length, Option, Some, None, nat_eq, nat_lt, refl, ap, sym, ◌∙◌, subst, if◌then◌else◌, inl, inr, ◌⊎◌, arith}
+use Rattle.std.proofs.Common.{◌≡◌, ℕ, Bool, true, false, not, ◌&&◌, List, Option, Some, None, nat_eq, nat_lt, refl, ap, sym, ◌∙◌, subst, if◌then◌else◌, inl, inr, ◌⊎◌, arith}
 use Rattle.std.specs.Prelude.{slice_get}
-use Rattle.std.proofs.lemmas.Bool.{eqb-true, eq-eqb, ltb-true, ltb-false, false≢true, cases_Bool, both_ways, and_parts, and_from, or_parts}
+use Rattle.std.proofs.lemmas.Bool.{eqb-true, eq-eqb, ltb-true, ltb-false, false≢true, cases_Bool, both_ways, or_parts}
 use Rattle.std.proofs.Math.Bool.{and-false}
 use Rattle.std.proofs.lemmas.List.{length-map}
 use Rattle.ct_derivation.specs.declared.literals.Atom.{Atom}
@@ -13,8 +13,8 @@ use Rattle.ct_word.specs.Word.{kind_of}
 use Rattle.ct_word.specs.WellFormed.{is_place_of, is_word_of, has_class}
 use Rattle.ct_derivation.specs.Path.{pair_of, is_constant, is_constant_kind, is_constant_word}
 use Rattle.ct_equality.specs.declared.classes.Member.{Member}
-use Rattle.ct_equality.specs.Members.{is_listed, class_of, number_of, moved, merged, in_class}
-use Rattle.ct_equality.specs.Joining.{prefers, kept_of, gone_of, clash_of, joined_classes}
+use Rattle.ct_equality.specs.Members.{is_listed, class_of, moved, merged, in_class}
+use Rattle.ct_equality.specs.Joining.{prefers, clash_of, joined_classes}
 use Rattle.ct_equality.specs.Assigned.{Gives, IsLink, Joined, here, step}
 use Rattle.ct_equality.specs.Classes.{AreClasses, Merges}
 use Rattle.ct_equality.proofs.Members.{listed_merged, numbers_merged, class_merged}

@@ -1,32 +1,13 @@
 -- The terms of a question, and each alone in its class.
-use Rattle.std.proofs.Common.{◌≡◌, ◌≢◌, ◌<◌, ◌≤◌, ◌^◌, ◌+◌, ℕ, zero, suc, Bool, true, false, ◌||◌, ◌&&◌, List, [], ◌∷◌, ◌++◌, length, map, Option, Some, None, nat_eq, nat_lt, refl, ap, sym, ◌∙◌, subst, if◌then◌else◌, inl, inr, ◌⊎◌, arith}
-use Rattle.std.specs.Prelude.{slice_get}
-use Rattle.std.specs.List.{list_any, list_all, IsDistinct, AllByRecursion}
-use Rattle.std.proofs.lemmas.Bool.{eqb-true, eq-eqb, ltb-true, ltb-false, lt-ltb, le-ltb, false≢true, cases_Bool, both_ways, and_parts, and_from, or_cases, or_left, or_right, or_parts}
-use Rattle.std.proofs.lemmas.List.{length-map}
-use Rattle.std.proofs.lemmas.Map.Steps.{length-le_from_distinct_below}
-use Rattle.ct_word.specs.declared.kinds.Kind.{Kind}
-use Rattle.ct_word.specs.declared.kinds.Kind.TheVariants as kind
-use Rattle.ct_word.specs.declared.kinds.Class.TheVariants as class
-use Rattle.ct_word.specs.declared.values.Term.{Term}
-use Rattle.ct_word.specs.declared.values.Value.{Value}
-use Rattle.ct_word.specs.declared.values.Value.TheVariants as val
-use Rattle.ct_word.specs.declared.values.Term.TheVariants as term
-use Rattle.ct_word.specs.Word.{kind_of, left_of, right_of}
-use Rattle.ct_word.specs.Value.{World, at}
-use Rattle.ct_word.specs.Reading.{by_kind, meanings, as_term, term_at}
-use Rattle.ct_word.specs.WellFormed.{is_place_of, is_word_of, has_class, IsWellFormed}
-use Rattle.ct_word.proofs.Splits.{split_at, meaning_at, place_within}
-use Rattle.ct_word.proofs.Constants.{one_constant, one_term}
+use Rattle.std.proofs.Common.{◌≡◌, ◌≢◌, ◌<◌, ℕ, Bool, true, false, ◌||◌, List, [], ◌∷◌, None, nat_eq, nat_lt, refl, ap, sym, ◌∙◌, subst, if◌then◌else◌, inl, inr, arith}
+use Rattle.std.specs.List.{list_all, IsDistinct, AllByRecursion}
+use Rattle.std.proofs.lemmas.Bool.{eqb-true, eq-eqb, ltb-true, ltb-false, false≢true, cases_Bool, both_ways, and_parts, or_cases, or_parts}
 use Rattle.ct_derivation.specs.declared.literals.Atom.{Atom}
 use Rattle.ct_derivation.specs.declared.literals.Atom.TheVariants as atom
-use Rattle.ct_derivation.specs.Path.{is_constant, is_constant_kind, is_constant_word}
-use Rattle.ct_equality.specs.declared.classes.Member.{Member}
-use Rattle.ct_equality.specs.Terms.{inserted, terms_from, terms_of, is_among, is_end, is_end_of}
-use Rattle.ct_equality.specs.Members.{is_listed, class_of, number_of, number_by, number_in, number_at, member_at, members_at}
-use Rattle.ct_equality.specs.Assigned.{Joined, here, is_column_kind, is_column_word, is_plain_term, is_plain_atom, are_plain}
-use Rattle.ct_equality.specs.Classes.{AreListed, AreClasses, Merges}
-use Rattle.ct_equality.specs.Valued.{AreNumbered, is_value, value_in}
+use Rattle.ct_equality.specs.Terms.{inserted, terms_from, terms_of, is_among, is_end_of}
+use Rattle.ct_equality.specs.Members.{is_listed, class_of, number_of, number_at, members_at}
+use Rattle.ct_equality.specs.Assigned.{Joined, here, is_plain_term, is_plain_atom, are_plain}
+use Rattle.ct_equality.specs.Classes.{AreListed, AreClasses}
 
 eq_flip : (a b : ℕ) → nat_eq a b ≡ nat_eq b a
 eq_flip a b = elim (cases_Bool (nat_eq a b)) [
@@ -63,15 +44,15 @@ among_from ts (atom.Same s t ∷ atoms) p =
     among_from (inserted t (inserted s ts)) atoms p
     ∙ ap (λ b. b || is_end_of atoms p) (among_inserted t (inserted s ts) p ∙ ap (λ b. nat_eq p t || b) (among_inserted s ts p))
     ∙ shuffle (nat_eq p t) (nat_eq p s) (is_among ts p) (is_end_of atoms p) where
-  shuffle : (a b c d : Bool) → ((a || (b || c)) || d) ≡ (c || ((b || a) || d))
-  shuffle true true true d = refl
-  shuffle true true false d = refl
-  shuffle true false true d = refl
-  shuffle true false false d = refl
-  shuffle false true true d = refl
-  shuffle false true false d = refl
-  shuffle false false true d = refl
-  shuffle false false false d = refl
+      shuffle : (a b c d : Bool) → ((a || (b || c)) || d) ≡ (c || ((b || a) || d))
+      shuffle true true true d = refl
+      shuffle true true false d = refl
+      shuffle true false true d = refl
+      shuffle true false false d = refl
+      shuffle false true true d = refl
+      shuffle false true false d = refl
+      shuffle false false true d = refl
+      shuffle false false false d = refl
 
 -- the terms are those of the equalities
 pub among_terms : (atoms : List Atom) (p : ℕ) → is_among (terms_of atoms) p ≡ is_end_of atoms p
@@ -86,19 +67,25 @@ inserted_ascends : (s : ℕ) (ts : List ℕ) → Ascends ts → Ascends (inserte
 unfolding Ascends
 inserted_ascends s [] a = (λ p e. absurd (false≢true e), tt)
 inserted_ascends s (t ∷ ts) a = elim (cases_Bool (nat_lt s t)) [
-  | inl l ↦ rw l ((λ p e. elim (or_cases (nat_eq p t) (is_among ts p) e) [
-    | inl q ↦ let same = eqb-true p t q in let lt = ltb-true s t l in omega (arith, same, lt)
-    | inr q ↦ let far = a.0 p q in let lt = ltb-true s t l in omega (arith, far, lt)
-  ]), a)
+  | inl l ↦ rw l (
+    (λ p e. elim (or_cases (nat_eq p t) (is_among ts p) e) [
+      | inl q ↦ let same = eqb-true p t q in let lt = ltb-true s t l in omega (arith, same, lt)
+      | inr q ↦ let far = a.0 p q in let lt = ltb-true s t l in omega (arith, far, lt)
+    ]),
+    a,
+  )
   | inr n ↦ elim (cases_Bool (nat_eq s t)) [
     | inl q ↦ rw (n, q) a
     | inr d ↦
         let le = ltb-false s t n in
         let ne : s ≢ t = λ same. both_ways _ d (eq-eqb s t same) in
-        rw (n, d) ((λ p e. elim (or_cases (nat_eq p s) (is_among ts p) (sym (among_inserted s ts p) ∙ e)) [
-          | inl q ↦ let same = eqb-true p s q in omega (arith, same, le, ne)
-          | inr q ↦ a.0 p q
-        ]), inserted_ascends s ts a.1)
+        rw (n, d) (
+          (λ p e. elim (or_cases (nat_eq p s) (is_among ts p) (sym (among_inserted s ts p) ∙ e)) [
+            | inl q ↦ let same = eqb-true p s q in omega (arith, same, le, ne)
+            | inr q ↦ a.0 p q
+          ]),
+          inserted_ascends s ts a.1,
+        )
   ]
 ]
 
@@ -114,10 +101,13 @@ none_among t (y ∷ ts) e = let parts = or_parts (nat_eq t y) (is_among ts t) e 
 ascends_distinct : (ts : List ℕ) → Ascends ts → IsDistinct nat_eq ts
 unfolding Ascends IsDistinct
 ascends_distinct [] a = tt
-ascends_distinct (t ∷ ts) a = (none_among t ts (elim (cases_Bool (is_among ts t)) [
-  | inl q ↦ let l = a.0 t q in absurd (omega (arith, l))
-  | inr n ↦ n
-]), ascends_distinct ts a.1)
+ascends_distinct (t ∷ ts) a = (
+  none_among t ts (elim (cases_Bool (is_among ts t)) [
+    | inl q ↦ let l = a.0 t q in absurd (omega (arith, l))
+    | inr n ↦ n
+  ]),
+  ascends_distinct ts a.1,
+)
 
 pub terms_distinct : (atoms : List Atom) → IsDistinct nat_eq (terms_of atoms)
 unfolding Ascends

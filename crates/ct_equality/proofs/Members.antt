@@ -1,9 +1,8 @@
 -- What changes when a class goes over into another, and when a term gets a number.
-use Rattle.std.proofs.Common.{◌≡◌, ℕ, Bool, true, false, List, [], ◌∷◌, Option, Some, None, nat_eq, refl, ap, sym, ◌∙◌, if◌then◌else◌, inl, inr}
+use Rattle.std.proofs.Common.{◌≡◌, ℕ, true, false, List, [], ◌∷◌, Some, nat_eq, refl, ap, sym, ◌∙◌, if◌then◌else◌, inl, inr}
 use Rattle.std.proofs.lemmas.Bool.{eqb-true, eq-eqb, false≢true, cases_Bool, both_ways}
 use Rattle.ct_equality.specs.declared.classes.Member.{Member}
-use Rattle.ct_equality.specs.Members.{is_listed, class_of, number_of, same_number, is_taken, moved, merged, numbered, member_at, members_at, number_at}
-use Rattle.ct_equality.specs.Terms.{is_among}
+use Rattle.ct_equality.specs.Members.{is_listed, class_of, number_of, same_number, is_taken, moved, merged, numbered}
 
 pub class_unlisted : (ms : List Member) (p : ℕ) → is_listed ms p ≡ false → class_of ms p ≡ p
 class_unlisted [] p e = refl

@@ -1,6 +1,6 @@
 -- Giving numbers to classes.
-use Rattle.std.proofs.Common.{◌≡◌, ◌≢◌, ◌<◌, ◌≤◌, ◌^◌, ◌+◌, ℕ, zero, suc, Bool, true, false, List, [], ◌∷◌, ◌++◌, length, map, get_or, Option, Some, None, nat_eq, refl, ap, sym, ◌∙◌, inl, inr, ◌⊎◌, arith}
-use Rattle.std.specs.List.{list_any, IsDistinct}
+use Rattle.std.proofs.Common.{◌≡◌, ◌≢◌, ◌<◌, ◌≤◌, ◌^◌, ◌+◌, ℕ, zero, suc, true, false, List, [], ◌∷◌, ◌++◌, length, Option, Some, None, nat_eq, refl, ap, sym, ◌∙◌, inl, inr, ◌⊎◌, arith}
+use Rattle.std.specs.List.{IsDistinct}
 use Rattle.std.specs.Cmp.{nat_eq_equiv}
 use Rattle.std.proofs.lemmas.Bool.{eqb-true, eq-eqb, false≢true, cases_Bool, both_ways, or_cases, or_left, or_right}
 use Rattle.std.proofs.lemmas.List.{length-map, length-append}
@@ -9,7 +9,7 @@ use Rattle.std.proofs.lemmas.Map.Made.{length-le_from_is_member}
 use Rattle.ct_derivation.specs.Path.{is_constant}
 use Rattle.ct_equality.specs.declared.classes.Member.{Member}
 use Rattle.ct_equality.specs.Terms.{is_among}
-use Rattle.ct_equality.specs.Members.{is_listed, class_of, number_of, same_number, is_taken, with_number, numbered, number_at}
+use Rattle.ct_equality.specs.Members.{is_listed, class_of, number_of, same_number, is_taken, with_number, numbered}
 use Rattle.ct_equality.specs.Valued.{AreNumbered}
 use Rattle.ct_equality.proofs.Members.{listed_numbered, class_numbered, number_numbered, number_new, taken_by}
 use Rattle.ct_equality.proofs.Trees.{among_append}

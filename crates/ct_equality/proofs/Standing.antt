@@ -1,5 +1,5 @@
 -- What the places of constants and nulls stand for.
-use Rattle.std.proofs.Common.{◌≡◌, ◌≢◌, ◌<◌, ◌^◌, ℕ, Bool, true, false, not, List, [], Option, Some, None, refl, ap, sym, ◌∙◌, subst, inl, inr, arith}
+use Rattle.std.proofs.Common.{◌≡◌, ◌<◌, ◌^◌, ℕ, Bool, true, false, not, List, [], Option, Some, None, refl, ap, sym, ◌∙◌, subst, arith}
 use Rattle.std.specs.Prelude.{slice_get}
 use Rattle.std.proofs.lemmas.Bool.{false≢true, and_parts}
 use Rattle.ct_word.specs.declared.kinds.Kind.{Kind}
@@ -8,13 +8,12 @@ use Rattle.ct_word.specs.declared.kinds.Class.TheVariants as class
 use Rattle.ct_word.specs.declared.values.Term.{Term}
 use Rattle.ct_word.specs.declared.values.Term.TheVariants as term
 use Rattle.ct_word.specs.declared.values.Null.{Null}
-use Rattle.ct_word.specs.declared.values.Value.{Value}
 use Rattle.ct_word.specs.declared.values.Value.TheVariants as val
 use Rattle.ct_word.specs.Word.{kind_of, left_of, right_of}
 use Rattle.ct_word.specs.Value.{World, at}
-use Rattle.ct_word.specs.Reading.{Meaning, by_kind, meanings, as_term, term_at}
+use Rattle.ct_word.specs.Reading.{by_kind, meanings, as_term, term_at}
 use Rattle.ct_word.specs.WellFormed.{has_class, is_word_of, is_place_of, IsWellFormed}
-use Rattle.ct_word.proofs.Splits.{split_at, meaning_at, some-injective}
+use Rattle.ct_word.proofs.Splits.{meaning_at, some-injective}
 use Rattle.ct_derivation.specs.Path.{is_constant, is_constant_kind, is_constant_word}
 use Rattle.ct_equality.specs.Members.{number_by, number_in, number_at}
 use Rattle.ct_equality.specs.Assigned.{is_column_kind, is_column_word, is_plain_term}

@@ -1,20 +1,20 @@
 -- One more equality, and terms of one class that have to differ.
-use Rattle.std.proofs.Common.{◌≡◌, ◌≢◌, ◌<◌, ◌+◌, ℕ, zero, suc, Bool, true, false, ◌&&◌, List, [], ◌∷◌, length, Option, Some, None, nat_eq, nat_lt, refl, ap, sym, ◌∙◌, subst, if◌then◌else◌, inl, inr, ◌⊎◌, arith}
+use Rattle.std.proofs.Common.{◌≡◌, ◌<◌, ◌+◌, ℕ, zero, suc, Bool, true, false, ◌&&◌, List, [], ◌∷◌, Some, None, nat_eq, nat_lt, refl, ap, sym, ◌∙◌, subst, if◌then◌else◌, inl, inr, arith}
 use Rattle.std.specs.Prelude.{slice_get}
 use Rattle.std.specs.List.{list_all, list_any}
-use Rattle.std.proofs.lemmas.Bool.{eqb-true, eq-eqb, ne_eqb, ltb-true, lt-ltb, false≢true, cases_Bool, cases_eq, both_ways, and_parts, and_from, or_left, or_right}
+use Rattle.std.proofs.lemmas.Bool.{eqb-true, eq-eqb, ltb-true, lt-ltb, cases_Bool, cases_eq, both_ways, and_parts, and_from, or_left, or_right}
 use Rattle.ct_word.specs.declared.kinds.Class.TheVariants as class
 use Rattle.ct_word.specs.WellFormed.{is_place_of}
 use Rattle.ct_derivation.specs.declared.literals.Atom.{Atom}
 use Rattle.ct_derivation.specs.declared.literals.Atom.TheVariants as atom
 use Rattle.ct_derivation.specs.Path.{pair_of, is_constant}
 use Rattle.ct_equality.specs.declared.classes.Member.{Member}
-use Rattle.ct_equality.specs.Members.{is_listed, class_of, number_of, merged}
+use Rattle.ct_equality.specs.Members.{is_listed, class_of, merged}
 use Rattle.ct_equality.specs.Terms.{is_end, is_end_of}
 use Rattle.ct_equality.specs.Joining.{prefers, clash_of, joined_classes, clash_by, joined_by}
-use Rattle.ct_equality.specs.Assigned.{Gives, IsLink, Joined, here, step, IsClash, is_plain_term, is_plain_atom, are_plain}
+use Rattle.ct_equality.specs.Assigned.{Gives, IsLink, Joined, step, IsClash, is_plain_term, is_plain_atom, are_plain}
 use Rattle.ct_equality.specs.Classes.{AreListed, AreClasses, AreJoined, Merges, IsClosed, IsContradiction}
-use Rattle.ct_equality.proofs.Joins.{pair_swap, joined_on, joined_back, merged_classes, merged_grows, one_class, no_change, merges_on, constant_term, keeps_same, goes_to_b, goes_to_a, no_clash, clash_b, free_b, free_a, b_is_free, b_constant}
+use Rattle.ct_equality.proofs.Joins.{joined_on, joined_back, merged_classes, merged_grows, one_class, no_change, merges_on, constant_term, keeps_same, goes_to_b, goes_to_a, no_clash, clash_b, free_b, free_a, b_is_free, b_constant}
 
 -- what holds of each atom holds of the one at a place
 atom_at : (p : Atom → Bool) (atoms : List Atom) (k : ℕ) (a : Atom) → list_all p atoms ≡ true → slice_get atoms k ≡ Some a → p a ≡ true

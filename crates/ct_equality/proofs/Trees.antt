@@ -1,9 +1,9 @@
 -- Growing a tree, and walking up in it.
-use Rattle.std.proofs.Common.{◌≡◌, ◌<◌, ◌≤◌, ◌+◌, ◌-◌, ◌^◌, ℕ, zero, suc, Bool, true, false, ◌||◌, List, [], ◌∷◌, ◌++◌, length, get_or, Option, Some, None, nat_eq, nat_lt, refl, ap, sym, ◌∙◌, subst, if◌then◌else◌, inl, inr, ◌⊎◌, arith, append_assoc, append-nil, length-append}
+use Rattle.std.proofs.Common.{◌≡◌, ◌<◌, ◌≤◌, ◌+◌, ◌-◌, ◌^◌, ℕ, zero, suc, Bool, true, false, ◌||◌, List, [], ◌∷◌, ◌++◌, length, get_or, Some, None, nat_eq, nat_lt, refl, ap, sym, ◌∙◌, subst, if◌then◌else◌, inl, inr, ◌⊎◌, arith, append_assoc, append-nil, length-append}
 use Rattle.std.specs.Prelude.{slice_get}
-use Rattle.std.specs.List.{list_any, IsDistinct}
+use Rattle.std.specs.List.{IsDistinct}
 use Rattle.std.specs.Cmp.{nat_eq_equiv}
-use Rattle.std.proofs.lemmas.Bool.{eqb-true, eq-eqb, ltb-true, ltb-false, lt-ltb, le-ltb, false≢true, cases_Bool, cases_eq, cases_lt, both_ways, or_left, or_right, or_cases}
+use Rattle.std.proofs.lemmas.Bool.{eqb-true, eq-eqb, false≢true, cases_Bool, cases_eq, cases_lt, or_left, or_right, or_cases}
 use Rattle.std.proofs.lemmas.List.{get_or_append_left, get_or-append_right}
 use Rattle.std.proofs.lemmas.List.Folds.{list_any-append}
 use Rattle.std.proofs.lemmas.Map.Keys.{IsDistinct-push}
@@ -12,7 +12,7 @@ use Rattle.ct_derivation.specs.declared.literals.Atom.{Atom}
 use Rattle.ct_derivation.specs.declared.literals.Atom.TheVariants as atom
 use Rattle.ct_derivation.specs.Path.{pair_of, end_of}
 use Rattle.ct_equality.specs.Terms.{is_among}
-use Rattle.ct_equality.specs.Assigned.{Gives, IsLink, Joined, here, step, AreLinks, IsWalk, are_plain}
+use Rattle.ct_equality.specs.Assigned.{IsLink, Joined, here, step, AreLinks, IsWalk, are_plain}
 use Rattle.ct_word.proofs.Splits.{some-injective}
 use Rattle.ct_equality.specs.Trees.{beyond, IsTree, Extends, LeadsInto, IsExplored, IsGrowing, IsExploring}
 use Rattle.ct_equality.proofs.Steps.{plain_at, pair_below}

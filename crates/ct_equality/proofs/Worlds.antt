@@ -1,8 +1,8 @@
 -- The valuation of classes gives each equality its truth.
-use Rattle.std.proofs.Common.{◌≡◌, ◌≢◌, ◌<◌, ◌^◌, ℕ, zero, suc, Bool, true, false, ◌||◌, List, [], ◌∷◌, length, map, Option, Some, None, nat_eq, refl, ap, sym, ◌∙◌, subst, if◌then◌else◌, inl, inr, ◌⊎◌, arith}
+use Rattle.std.proofs.Common.{◌≡◌, ◌<◌, ℕ, Bool, true, false, List, [], ◌∷◌, length, map, Option, Some, None, nat_eq, refl, ap, sym, ◌∙◌, subst, if◌then◌else◌, inl, inr, ◌⊎◌}
 use Rattle.std.specs.Prelude.{slice_get}
-use Rattle.std.specs.List.{list_all, IsDistinct, AllByRecursion}
-use Rattle.std.proofs.lemmas.Bool.{eqb-true, eq-eqb, false≢true, cases_Bool, both_ways, or_cases, or_left, or_right, and_from}
+use Rattle.std.specs.List.{IsDistinct, AllByRecursion}
+use Rattle.std.proofs.lemmas.Bool.{eqb-true, eq-eqb, false≢true, cases_Bool, both_ways, or_cases, or_left, or_right}
 use Rattle.std.proofs.lemmas.Map.Keys.{IsDistinct-tail}
 use Rattle.ct_word.specs.declared.kinds.Class.TheVariants as class
 use Rattle.ct_word.specs.declared.values.Term.{Term}
@@ -20,15 +20,15 @@ use Rattle.ct_derivation.specs.declared.literals.Atom.TheVariants as atom
 use Rattle.ct_derivation.specs.Path.{is_constant, is_constant_word}
 use Rattle.ct_derivation.specs.Truth.{atom_holds}
 use Rattle.ct_equality.specs.declared.classes.Member.{Member}
-use Rattle.ct_equality.specs.Terms.{terms_of, is_among, is_end_of}
+use Rattle.ct_equality.specs.Terms.{terms_of, is_among}
 use Rattle.ct_equality.specs.Members.{is_listed, class_of, number_of, number_at, members_at}
-use Rattle.ct_equality.specs.Assigned.{Gives, is_plain_term, are_plain}
-use Rattle.ct_equality.specs.Classes.{AreClasses, AreJoined, Merges, IsClosed, IsApart}
-use Rattle.ct_equality.specs.Valued.{value_in, is_value, numbered_value, class_value, with_pair, world_of, IsConstantOf, IsNumbered, IsPlainValue, IsWorldOf, AreNumbered, HasValue, HaveValues}
+use Rattle.ct_equality.specs.Assigned.{Gives, are_plain}
+use Rattle.ct_equality.specs.Classes.{AreJoined, Merges, IsApart}
+use Rattle.ct_equality.specs.Valued.{value_in, numbered_value, class_value, with_pair, world_of, IsPlainValue, IsWorldOf, AreNumbered, HasValue, HaveValues}
 use Rattle.ct_equality.proofs.Steps.{plain_place, left_end, right_end}
 use Rattle.ct_equality.proofs.Trees.{place_below}
 use Rattle.ct_equality.proofs.Listed.{among_terms, terms_distinct, plain_end, alone_listed, alone_number}
-use Rattle.ct_equality.proofs.Standing.{value_there, IsNull, IsNumber, constant_value, number_value, no_number, null_there}
+use Rattle.ct_equality.proofs.Standing.{value_there, IsNumber, constant_value, number_value, no_number, null_there}
 
 if_some : (b : Bool) (o : Option ℕ) (k : ℕ) → (if b then o else None) ≡ Some k → o ≡ Some k
 if_some true o k e = e
@@ -66,6 +66,7 @@ module _ (words : List ℕ) (wf : IsWellFormed words) where
           number_is p ∙ ap (λ b. if b then number_at words p else None) among;
       chiefs = λ p e c n none. false≢true e;
     }
+
   module _ (ms : List Member) where
     abbrev value_of : ℕ → Value
     value_of p = class_value words ms (class_of ms p)
@@ -98,11 +99,13 @@ module _ (words : List ℕ) (wf : IsWellFormed words) where
     none_same m (t ∷ ts) never = by_term (none_same m ts (λ q f. never q (or_right (nat_eq q t) _ f))) (term_at words t) refl where
       by_term : AllByRecursion (λ y. same_null m y ≡ false) (map (λ p. p.0) (world_of words ms ts))
           → (x : Term) → term_at words t ≡ x → AllByRecursion (λ y. same_null m y ≡ false) (map (λ p. p.0) (with_pair x (value_of t) (world_of words ms ts)))
-      by_term rest (term.Null n) f =
-          (elim (cases_Bool (same_null m n)) [
-            | inl s ↦ let same : m ≡ n = (null_decides m n).0 s in absurd (never t (or_left (nat_eq t t) _ (eq-eqb t t refl)) (f ∙ ap term.Null (sym same)))
-            | inr d ↦ d
-          ], rest)
+      by_term rest (term.Null n) f = (
+        elim (cases_Bool (same_null m n)) [
+          | inl s ↦ let same : m ≡ n = (null_decides m n).0 s in absurd (never t (or_left (nat_eq t t) _ (eq-eqb t t refl)) (f ∙ ap term.Null (sym same)))
+          | inr d ↦ d
+        ],
+        rest,
+      )
       by_term rest (term.Column k) f = rest
       by_term rest (term.Value x) f = rest
 
@@ -122,10 +125,12 @@ module _ (words : List ℕ) (wf : IsWellFormed words) where
 
       by_term : IsDistinct same_null (map (λ p. p.0) (world_of words ms ts))
           → (x : Term) → term_at words t ≡ x → IsDistinct same_null (map (λ p. p.0) (with_pair x (value_of t) (world_of words ms ts)))
-      by_term rest (term.Null n) f =
-          (none_same n ts (λ q e g.
-              let one : q ≡ t = one_term words wf q t (rest_terms q e) (terms t (or_left (nat_eq t t) _ (eq-eqb t t refl))) (g ∙ sym f) in
-              head_not t ts d (subst (λ r. is_among ts r ≡ true) one e)), rest)
+      by_term rest (term.Null n) f = (
+        none_same n ts (λ q e g.
+            let one : q ≡ t = one_term words wf q t (rest_terms q e) (terms t (or_left (nat_eq t t) _ (eq-eqb t t refl))) (g ∙ sym f) in
+            head_not t ts d (subst (λ r. is_among ts r ≡ true) one e)),
+        rest,
+      )
       by_term rest (term.Column k) f = rest
       by_term rest (term.Value x) f = rest
 

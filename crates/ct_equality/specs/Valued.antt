@@ -3,7 +3,6 @@ use Rattle.std.specs.Prelude.{◌≡◌, ◌≢◌, ◌<◌, ◌^◌, ◌⊎◌,
 use Rattle.std.specs.List.{AllByRecursion, IsDistinct}
 use Rattle.ct_word.specs.declared.values.Value.{Value}
 use Rattle.ct_word.specs.declared.values.Value.TheVariants as val
-use Rattle.ct_word.specs.declared.values.Null.{Null}
 use Rattle.ct_word.specs.declared.values.Term.{Term}
 use Rattle.ct_word.specs.declared.values.Term.TheVariants as term
 use Rattle.ct_word.specs.declared.kinds.Class.TheVariants as class

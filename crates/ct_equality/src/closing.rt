@@ -60,12 +60,7 @@ fn settle(
 /// # Errors
 ///
 /// `Memory` where memory is wanting.
-pub fn close(
-    alloc: Global,
-    words: &[u64],
-    atoms: &[Atom],
-    truth: &[bool],
-) -> Result<Closed, Memory>
+pub fn close(alloc: Global, words: &[u64], atoms: &[Atom], truth: &[bool]) -> Result<Closed, Memory>
     requires formed { IsWellFormed words.now }
     requires few { length words.now < 2 ^ 28 }
     requires truths { length atoms.now ≡ length truth.now }

@@ -83,12 +83,7 @@ fn reach(
 }
 
 /// Adds the terms that are joined with the one at a place of the tree.
-fn grow(
-    atoms: &[Atom],
-    truth: &[bool],
-    tree: &mut Tree,
-    at: usize,
-) -> Result<(), AllocError>
+fn grow(atoms: &[Atom], truth: &[bool], tree: &mut Tree, at: usize) -> Result<(), AllocError>
     requires truths { length atoms.now ≡ length truth.now }
     requires plain { (words : List ℕ) × (are_plain words atoms.now ≡ true) }
     requires tree { IsTree atoms.now truth.now tree.old.places.items tree.old.origins.items }

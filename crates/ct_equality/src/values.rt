@@ -103,7 +103,12 @@ pub fn number_classes(words: &[u64], terms: &[u32], members: &mut [Member])
 }
 
 /// The value of a class that goes by this term.
-fn class_value(alloc: Global, words: &[u64], members: &[Member], class: u32) -> Result<Value, Memory>
+fn class_value(
+    alloc: Global,
+    words: &[u64],
+    members: &[Member],
+    class: u32,
+) -> Result<Value, Memory>
     requires formed { IsWellFormed words.now }
     requires value { HasValue words.now members.now class }
     ensures { IfOk result (λ x. x ≡ class_value words.now members.now class) }

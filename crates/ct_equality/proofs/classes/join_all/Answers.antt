@@ -1,4 +1,4 @@
-use Rattle.std.proofs.Common.{◌≡◌, ◌+◌, ◌∙◌, ap, sym, subst, get_or, Some, arith, rules}
+use Rattle.std.proofs.Common.{◌+◌, ◌∙◌, sym, subst, arith}
 use Rattle.std.proofs.lemmas.Option.{slice_get-get_or}
 use Rattle.ct_equality.specs.Classes.{AreJoined}
 use Rattle.ct_equality.proofs.Steps.{joined_more, clash_found}

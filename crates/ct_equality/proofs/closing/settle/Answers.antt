@@ -1,10 +1,10 @@
-use Rattle.std.proofs.Common.{◌≡◌, ◌<◌, true, length, ◌∙◌, ap, sym, subst, arith}
+use Rattle.std.proofs.Common.{◌≡◌, true, length, ◌∙◌, ap, sym, subst, arith}
 use Rattle.std.specs.List.{list_all}
 use Rattle.std.proofs.lemmas.List.{length-map}
 use Rattle.ct_word.specs.declared.kinds.Class.TheVariants as class
 use Rattle.ct_word.specs.WellFormed.{is_place_of}
 use Rattle.ct_equality.specs.Terms.{terms_of, is_among}
-use Rattle.ct_equality.specs.Members.{member_at, members_at}
+use Rattle.ct_equality.specs.Members.{member_at}
 use Rattle.ct_equality.specs.Classes.{AreListed, AreClasses, AreJoined}
 use Rattle.ct_equality.specs.Valued.{AreNumbered, HaveValues, IsWorldOf, world_of}
 use Rattle.ct_equality.proofs.Listed.{all_listed, alone, alone_listed}

@@ -1,5 +1,4 @@
-use Rattle.std.proofs.Common.{◌+◌, arith, sym, subst}
-use Rattle.ct_equality.specs.Trees.{IsExploring}
+use Rattle.std.proofs.Common.{arith}
 use Rattle.ct_equality.proofs.Trees.{few, explored_more, exploring_none}
 use Rattle.ct_equality.proofs.paths.explore.Goals as goal
 

@@ -1,6 +1,6 @@
 use Rattle.std.proofs.Common.{◌++◌, ◌∷◌, [], ◌∙◌, sym, subst, arith}
 use Rattle.ct_equality.specs.Valued.{AreNumbered}
-use Rattle.ct_equality.proofs.Numbers.{not_numbered, numbered_more}
+use Rattle.ct_equality.proofs.Numbers.{numbered_more}
 use Rattle.ct_equality.proofs.values.number_class.Goals as goal
 
 pub returns : goal.returns

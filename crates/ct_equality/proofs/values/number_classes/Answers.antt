@@ -1,8 +1,7 @@
-use Rattle.std.proofs.Common.{◌+◌, ◌∙◌, sym, subst, take, get_or, arith}
+use Rattle.std.proofs.Common.{◌∙◌, sym, subst, take, get_or}
 use Rattle.std.proofs.lemmas.List.{take_more}
 use Rattle.ct_equality.specs.Valued.{AreNumbered}
 use Rattle.ct_equality.proofs.Trees.{among_at}
-use Rattle.ct_equality.proofs.Worlds.{start_numbered}
 use Rattle.ct_equality.proofs.values.number_classes.Goals as goal
 
 pub loop-place-preserved : goal.loop-place-preserved
