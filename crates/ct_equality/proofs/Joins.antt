@@ -1,7 +1,7 @@
 -- Joining two classes.
-use Rattle.std.proofs.Common.{◌≡◌, ℕ, Bool, true, false, not, ◌&&◌, List, Option, Some, None, nat_eq, nat_lt, refl, ap, sym, ◌∙◌, subst, if◌then◌else◌, inl, inr, ◌⊎◌, arith}
+use Rattle.std.proofs.Common.{◌≡◌, ◌<◌, ◌≤◌, ℕ, Bool, true, false, not, ◌&&◌, List, length, Option, Some, None, nat_eq, nat_lt, refl, ap, sym, ◌∙◌, subst, if◌then◌else◌, inl, inr, ◌⊎◌, arith}
 use Rattle.std.specs.Prelude.{slice_get}
-use Rattle.std.proofs.lemmas.Bool.{eqb-true, eq-eqb, ltb-true, ltb-false, false≢true, cases_Bool, both_ways, or_parts}
+use Rattle.std.proofs.lemmas.Bool.{eqb-true, eq-eqb, ltb-true, ltb-false, false≢true, cases_Bool, both_ways, or_parts, and_parts, and_from}
 use Rattle.std.proofs.Math.Bool.{and-false}
 use Rattle.std.proofs.lemmas.List.{length-map}
 use Rattle.ct_derivation.specs.declared.literals.Atom.{Atom}
@@ -17,7 +17,7 @@ use Rattle.ct_equality.specs.Members.{is_listed, class_of, moved, merged, in_cla
 use Rattle.ct_equality.specs.Joining.{prefers, clash_of, joined_classes}
 use Rattle.ct_equality.specs.Assigned.{Gives, IsLink, Joined, here, step}
 use Rattle.ct_equality.specs.Classes.{AreClasses, Merges}
-use Rattle.ct_equality.proofs.Members.{listed_merged, numbers_merged, class_merged}
+use Rattle.ct_equality.proofs.Members.{listed_merged, numbers_merged, taken_merged, class_merged}
 
 pub pair_swap : (s t : ℕ) → pair_of s t ≡ pair_of t s
 pair_swap s t = elim (cases_Bool (nat_lt s t)) [
@@ -59,7 +59,7 @@ moved_other g k c f = ap (λ b. if b then k else c) f
 
 module _ (words : List ℕ) (atoms : List Atom) (truth : List Bool) (ms : List Member) (are : AreClasses words atoms truth ms) where
   module _ (g k : ℕ) (led : Joined atoms truth g k) (g_chief : class_of ms g ≡ g) (k_chief : class_of ms k ≡ k) (apart : nat_eq k g ≡ false)
-      (free : is_constant words g ≡ false) (g_there : is_listed ms g ≡ true) (k_there : is_listed ms k ≡ true) where
+      (free : is_constant words g ≡ false) (g_there : is_listed ms g ≡ true) (k_there : is_listed ms k ≡ true) (lower : is_constant words k ≡ false → k ≤ g) where
     abbrev after : List Member
     after = merged g k ms
 
@@ -91,6 +91,18 @@ module _ (words : List ℕ) (atoms : List Atom) (truth : List Bool) (ms : List M
         | inl c ↦ ap (is_listed after) (after_class p ∙ c.1) ∙ listed_merged g k ms k ∙ k_there
         | inr c ↦ ap (is_listed after) (after_class p ∙ c.1) ∙ listed_merged g k ms (class_of ms p) ∙ are.within p (sym (listed_merged g k ms p) ∙ e)
       ];
+      least = λ p n. elim (moved_cases g k (class_of ms p)) [
+        | inl c ↦
+            let to = after_class p ∙ c.1 in
+            let l = lower (ap (is_constant words) (sym to) ∙ n) in
+            let m = are.least p (ap (is_constant words) c.0 ∙ free) in
+            let from = c.0 in
+            omega (arith, to, l, m, from)
+        | inr c ↦
+            let to = after_class p ∙ c.1 in
+            let m = are.least p (ap (is_constant words) (sym to) ∙ n) in
+            omega (arith, to, m)
+      ];
     }
 
     pub merged_grows : Merges ms after
@@ -98,6 +110,7 @@ module _ (words : List ℕ) (atoms : List Atom) (truth : List Bool) (ms : List M
       count = length-map ms (in_class g k);
       listed = listed_merged g k ms;
       numbers = numbers_merged g k ms;
+      taken = taken_merged g k ms;
       grows = λ p q e. after_class p ∙ ap (moved g k) e ∙ sym (after_class q);
     }
 
@@ -107,13 +120,14 @@ module _ (words : List ℕ) (atoms : List Atom) (truth : List Bool) (ms : List M
         ∙ sym (after_class t ∙ ap (moved g k) b ∙ moved_other g k k apart)
 
 pub no_change : (ms : List Member) → Merges ms ms
-no_change ms = record { count = refl; listed = λ p. refl; numbers = λ p. refl; grows = λ p q e. e }
+no_change ms = record { count = refl; listed = λ p. refl; numbers = λ p. refl; taken = λ k. refl; grows = λ p q e. e }
 
 pub merges_on : (old mid new : List Member) → Merges old mid → Merges mid new → Merges old new
 merges_on old mid new a b = record {
   count = b.count ∙ a.count;
   listed = λ p. b.listed p ∙ a.listed p;
   numbers = λ p. b.numbers p ∙ a.numbers p;
+  taken = λ k. b.taken k ∙ a.taken k;
   grows = λ p q e. b.grows p q (a.grows p q e);
 }
 
@@ -162,6 +176,17 @@ module _ (words : List ℕ) (a b : ℕ) where
 
   pub b_is_free : prefers words a b ≡ false → is_constant words b ≡ false
   b_is_free p = (or_parts _ _ p).0
+
+  pub lower_b : prefers words a b ≡ true → is_constant words b ≡ false → b ≤ a
+  lower_b p n =
+      let both : (nat_lt b a && not (is_constant words a)) ≡ true = rw n at p in
+      let lt = ltb-true b a (and_parts (nat_lt b a) _ both).0 in omega (arith, lt)
+
+  pub lower_a : prefers words a b ≡ false → is_constant words a ≡ false → a ≤ b
+  lower_a p n = elim (cases_Bool (nat_lt b a)) [
+    | inl t ↦ absurd (both_ways _ (or_parts (is_constant words b) _ p).1 (and_from (nat_lt b a) _ t (ap not n)))
+    | inr f ↦ ltb-false b a f
+  ]
 
   -- both are constants where a preferred b finds a constant
   pub b_constant : prefers words a b ≡ true → is_constant words a ≡ true → is_constant words b ≡ true

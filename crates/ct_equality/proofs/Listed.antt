@@ -1,12 +1,13 @@
 -- The terms of a question, and each alone in its class.
-use Rattle.std.proofs.Common.{◌≡◌, ◌≢◌, ◌<◌, ℕ, Bool, true, false, ◌||◌, List, [], ◌∷◌, None, nat_eq, nat_lt, refl, ap, sym, ◌∙◌, subst, if◌then◌else◌, inl, inr, arith}
+use Rattle.std.proofs.Common.{◌≡◌, ◌≢◌, ◌<◌, ℕ, zero, suc, Bool, true, false, ◌||◌, List, [], ◌∷◌, ◌++◌, length, take, get_or, Option, Some, None, nat_eq, nat_lt, refl, ap, sym, ◌∙◌, subst, if◌then◌else◌, inl, inr, arith}
 use Rattle.std.specs.List.{list_all, IsDistinct, AllByRecursion}
-use Rattle.std.proofs.lemmas.Bool.{eqb-true, eq-eqb, ltb-true, ltb-false, false≢true, cases_Bool, both_ways, and_parts, or_cases, or_parts}
+use Rattle.std.proofs.lemmas.Bool.{eqb-true, eq-eqb, ltb-true, ltb-false, false≢true, cases_Bool, both_ways, and_parts, or_cases, or_left, or_right, or_parts}
 use Rattle.ct_derivation.specs.declared.literals.Atom.{Atom}
 use Rattle.ct_derivation.specs.declared.literals.Atom.TheVariants as atom
-use Rattle.ct_equality.specs.Terms.{inserted, terms_from, terms_of, is_among, is_end_of}
-use Rattle.ct_equality.specs.Members.{is_listed, class_of, number_of, number_at, members_at}
+use Rattle.ct_equality.specs.Terms.{AreAscending, inserted, terms_from, terms_of, is_among, is_end_of}
+use Rattle.ct_equality.specs.Members.{is_listed, class_of, number_of, number_at, same_number, is_taken, members_at}
 use Rattle.ct_equality.specs.Assigned.{Joined, here, is_plain_term, is_plain_atom, are_plain}
+use Rattle.ct_equality.proofs.Trees.{among_at}
 use Rattle.ct_equality.specs.Classes.{AreListed, AreClasses}
 
 eq_flip : (a b : ℕ) → nat_eq a b ≡ nat_eq b a
@@ -59,12 +60,7 @@ pub among_terms : (atoms : List Atom) (p : ℕ) → is_among (terms_of atoms) p 
 among_terms atoms p = among_from [] atoms p
 
 -- ascending, so no place twice
-Ascends : List ℕ → Type 0
-Ascends [] = Unit {0}
-Ascends (t ∷ ts) = ((p : ℕ) → is_among ts p ≡ true → t < p) × Ascends ts
-
-inserted_ascends : (s : ℕ) (ts : List ℕ) → Ascends ts → Ascends (inserted s ts)
-unfolding Ascends
+inserted_ascends : (s : ℕ) (ts : List ℕ) → AreAscending ts → AreAscending (inserted s ts)
 inserted_ascends s [] a = (λ p e. absurd (false≢true e), tt)
 inserted_ascends s (t ∷ ts) a = elim (cases_Bool (nat_lt s t)) [
   | inl l ↦ rw l (
@@ -89,7 +85,7 @@ inserted_ascends s (t ∷ ts) a = elim (cases_Bool (nat_lt s t)) [
   ]
 ]
 
-from_ascends : (ts : List ℕ) (atoms : List Atom) → Ascends ts → Ascends (terms_from ts atoms)
+from_ascends : (ts : List ℕ) (atoms : List Atom) → AreAscending ts → AreAscending (terms_from ts atoms)
 from_ascends ts [] a = a
 from_ascends ts (atom.Node q ∷ atoms) a = from_ascends ts atoms a
 from_ascends ts (atom.Same s t ∷ atoms) a = from_ascends (inserted t (inserted s ts)) atoms (inserted_ascends t (inserted s ts) (inserted_ascends s ts a))
@@ -98,8 +94,8 @@ none_among : (t : ℕ) (ts : List ℕ) → is_among ts t ≡ false → AllByRecu
 none_among t [] e = tt
 none_among t (y ∷ ts) e = let parts = or_parts (nat_eq t y) (is_among ts t) e in (parts.0, none_among t ts parts.1)
 
-ascends_distinct : (ts : List ℕ) → Ascends ts → IsDistinct nat_eq ts
-unfolding Ascends IsDistinct
+ascends_distinct : (ts : List ℕ) → AreAscending ts → IsDistinct nat_eq ts
+unfolding IsDistinct
 ascends_distinct [] a = tt
 ascends_distinct (t ∷ ts) a = (
   none_among t ts (elim (cases_Bool (is_among ts t)) [
@@ -109,9 +105,31 @@ ascends_distinct (t ∷ ts) a = (
   ascends_distinct ts a.1,
 )
 
+pub terms_ascend : (atoms : List Atom) → AreAscending (terms_of atoms)
+terms_ascend atoms = from_ascends [] atoms tt
+
+-- the first i of ascending places are below the next
+pub first_below : (ts : List ℕ) (i : ℕ) → AreAscending ts → i < length ts → (q : ℕ) → is_among (take i ts) q ≡ true → q < get_or ts i 0
+first_below [] i a lt q e = absurd (omega arith)
+first_below (t ∷ ts) zero a lt q e = absurd (false≢true e)
+first_below (t ∷ ts) (suc i) a lt q e = elim (or_cases (nat_eq q t) (is_among (take i ts) q) e) [
+  | inl s ↦ let same = eqb-true q t s in let l = a.0 (get_or ts i 0) (among_at ts i (omega (arith, lt))) in omega (arith, same, l)
+  | inr r ↦ first_below ts i a.1 (omega (arith, lt)) q r
+]
+
+-- of ascending places those below one stand before it
+pub stands_before : (done rest : List ℕ) (t q : ℕ) → AreAscending (done ++ t ∷ rest) → is_among (done ++ t ∷ rest) q ≡ true → q < t → is_among done q ≡ true
+stands_before [] rest t q a e lt = elim (or_cases (nat_eq q t) (is_among rest q) e) [
+  | inl s ↦ let same = eqb-true q t s in absurd (omega (arith, same, lt))
+  | inr r ↦ let l = a.0 q r in absurd (omega (arith, l, lt))
+]
+stands_before (d ∷ done) rest t q a e lt = elim (or_cases (nat_eq q d) (is_among (done ++ t ∷ rest) q) e) [
+  | inl s ↦ or_left (nat_eq q d) _ s
+  | inr r ↦ or_right (nat_eq q d) _ (stands_before done rest t q a.1 r lt)
+]
+
 pub terms_distinct : (atoms : List Atom) → IsDistinct nat_eq (terms_of atoms)
-unfolding Ascends
-terms_distinct atoms = ascends_distinct (terms_of atoms) (from_ascends [] atoms tt)
+terms_distinct atoms = ascends_distinct (terms_of atoms) (terms_ascend atoms)
 
 -- what holds of both ends of each equality holds of each term
 pub plain_ends : (words : List ℕ) (atoms : List Atom) (p : ℕ) → list_all (is_plain_atom words) atoms ≡ true → is_end_of atoms p ≡ true → is_plain_term words p ≡ true
@@ -131,6 +149,10 @@ plain_ends words (atom.Same s t ∷ atoms) p all e =
 pub plain_end : (words : List ℕ) (atoms : List Atom) (p : ℕ) → are_plain words atoms ≡ true → is_end_of atoms p ≡ true → is_plain_term words p ≡ true
 unfolding are_plain
 plain_end words atoms p plain e = plain_ends words atoms p plain e
+
+same_number_is : (o : Option ℕ) (k : ℕ) → same_number o k ≡ true → o ≡ Some k
+same_number_is None k e = absurd (false≢true e)
+same_number_is (Some j) k e = ap Some (eqb-true j k e)
 
 -- each term alone in its class
 pub alone_listed : (words ts : List ℕ) (p : ℕ) → is_listed (members_at words ts) p ≡ is_among ts p
@@ -154,12 +176,21 @@ alone_number words (t ∷ ts) p = elim (cases_Bool (nat_eq t p)) [
   | inr a ↦ let b = sym (eq_flip t p) ∙ a in rw (a, b) (alone_number words ts p)
 ]
 
+-- a number that is taken is that of one of the terms
+pub alone_taken : (words ts : List ℕ) (k : ℕ) → is_taken (members_at words ts) k ≡ true → (p : ℕ) × (is_among ts p ≡ true) × (number_at words p ≡ Some k)
+alone_taken words [] k e = absurd (false≢true e)
+alone_taken words (t ∷ ts) k e = elim (or_cases (same_number (number_at words t) k) (is_taken (members_at words ts) k) e) [
+  | inl s ↦ (t, or_left (nat_eq t t) _ (eq-eqb t t refl), same_number_is (number_at words t) k s)
+  | inr r ↦ let f = alone_taken words ts k r in (f.0, or_right (nat_eq f.0 t) _ f.1, f.2)
+]
+
 pub alone : (words : List ℕ) (atoms : List Atom) (truth : List Bool) (ts : List ℕ) → AreClasses words atoms truth (members_at words ts)
 alone words atoms truth ts = record {
   joined = λ p. subst (Joined atoms truth p) (sym (alone_class words ts p)) here;
   chief = λ p. ap (class_of (members_at words ts)) (alone_class words ts p);
   constants = λ p e. alone_class words ts p;
   within = λ p e. ap (is_listed (members_at words ts)) (alone_class words ts p) ∙ e;
+  least = λ p n. let e = alone_class words ts p in omega (arith, e);
 }
 
 pub all_listed : (words : List ℕ) (atoms : List Atom) → AreListed atoms (members_at words (terms_of atoms))

@@ -1,6 +1,6 @@
 -- What changes when a class goes over into another, and when a term gets a number.
-use Rattle.std.proofs.Common.{◌≡◌, ℕ, true, false, List, [], ◌∷◌, Some, nat_eq, refl, ap, sym, ◌∙◌, if◌then◌else◌, inl, inr}
-use Rattle.std.proofs.lemmas.Bool.{eqb-true, eq-eqb, false≢true, cases_Bool, both_ways}
+use Rattle.std.proofs.Common.{◌≡◌, ℕ, Bool, true, false, ◌||◌, List, [], ◌∷◌, Option, Some, None, nat_eq, refl, ap, sym, ◌∙◌, if◌then◌else◌, inl, inr, ◌⊎◌}
+use Rattle.std.proofs.lemmas.Bool.{eqb-true, eq-eqb, false≢true, cases_Bool, both_ways, or_cases, or_left, or_right}
 use Rattle.ct_equality.specs.declared.classes.Member.{Member}
 use Rattle.ct_equality.specs.Members.{is_listed, class_of, number_of, same_number, is_taken, moved, merged, numbered}
 
@@ -19,6 +19,10 @@ module _ (g k : ℕ) where
   pub numbers_merged : (ms : List Member) (p : ℕ) → number_of (merged g k ms) p ≡ number_of ms p
   numbers_merged [] p = refl
   numbers_merged (m ∷ ms) p = ap (λ o. if nat_eq m.place p then m.number else o) (numbers_merged ms p)
+
+  pub taken_merged : (ms : List Member) (j : ℕ) → is_taken (merged g k ms) j ≡ is_taken ms j
+  taken_merged [] j = refl
+  taken_merged (m ∷ ms) j = ap (λ b. same_number m.number j || b) (taken_merged ms j)
 
   class_listed : (ms : List Member) (p : ℕ) → is_listed ms p ≡ true → class_of (merged g k ms) p ≡ moved g k (class_of ms p)
   class_listed [] p e = absurd (false≢true e)
@@ -62,6 +66,25 @@ module _ (p k : ℕ) where
     | inl t ↦ rw t refl
     | inr f ↦ rw f (number_new ms (rw f at e))
   ]
+
+  -- a number that is taken was taken before, or is the new one
+  pub taken_numbered : (ms : List Member) (j : ℕ) → is_taken (numbered p k ms) j ≡ true → (j ≡ k) ⊎ (is_taken ms j ≡ true)
+  taken_numbered [] j e = absurd (false≢true e)
+  taken_numbered (m ∷ ms) j e = elim (or_cases (same_number (if nat_eq m.place p then Some k else m.number) j) (is_taken (numbered p k ms) j) e) [
+    | inl a ↦ elim (cases_Bool (nat_eq m.place p)) [
+      | inl t ↦ let new : nat_eq k j ≡ true = rw t at a in inl (sym (eqb-true k j new))
+      | inr f ↦ let old : same_number m.number j ≡ true = rw f at a in inr (or_left _ _ old)
+    ]
+    | inr b ↦ elim (taken_numbered ms j b) [ inl n ↦ inl n | inr t ↦ inr (or_right (same_number m.number j) _ t) ]
+  ]
+
+-- a term with a number is listed
+pub number_listed : (ms : List Member) (p k : ℕ) → number_of ms p ≡ Some k → is_listed ms p ≡ true
+number_listed [] p k e = cc
+number_listed (m ∷ ms) p k e = elim (cases_Bool (nat_eq m.place p)) [
+  | inl t ↦ rw t refl
+  | inr f ↦ rw f (number_listed ms p k (rw f at e))
+]
 
 -- the number of a term is taken
 pub taken_by : (ms : List Member) (p k : ℕ) → number_of ms p ≡ Some k → is_taken ms k ≡ true

@@ -11,7 +11,7 @@ use Rattle.ct_equality.specs.declared.classes.Member.{Member}
 use Rattle.ct_equality.specs.Terms.{is_among}
 use Rattle.ct_equality.specs.Members.{is_listed, class_of, number_of, same_number, is_taken, with_number, numbered}
 use Rattle.ct_equality.specs.Valued.{AreNumbered}
-use Rattle.ct_equality.proofs.Members.{listed_numbered, class_numbered, number_numbered, number_new, taken_by}
+use Rattle.ct_equality.proofs.Members.{listed_numbered, class_numbered, number_numbered, number_new, taken_numbered, taken_by}
 use Rattle.ct_equality.proofs.Trees.{among_append}
 
 some_none : (k : ℕ) → Some k ≢ None
@@ -24,6 +24,12 @@ module _ (words : List ℕ) (first ms : List Member) (done : List ℕ) (are : Ar
     | inr b ↦ elim (or_cases (nat_eq q p) false b) [ inl s ↦ inr (eqb-true q p s) | inr n ↦ absurd (false≢true n) ]
   ]
 
+  done_more : (q : ℕ) → is_among done q ≡ true → is_among (done ++ p ∷ []) q ≡ true
+  done_more q e = among_append done (p ∷ []) q ∙ or_left (is_among done q) _ e
+
+  done_last : is_among (done ++ p ∷ []) p ≡ true
+  done_last = among_append done (p ∷ []) p ∙ or_right (is_among done p) _ (or_left (nat_eq p p) false (eq-eqb p p refl))
+
   pub not_numbered : (class_of ms p ≡ p → is_constant words p ≡ false → ⊥) → AreNumbered words first ms (done ++ p ∷ [])
   not_numbered never = record {
     count = are.count;
@@ -32,13 +38,17 @@ module _ (words : List ℕ) (first ms : List Member) (done : List ℕ) (are : Ar
     once = are.once;
     short = are.short;
     constants = are.constants;
+    given = λ q j e n. let g = are.given q j e n in (done_more q g.0, g.1);
+    found = are.found;
+    least = are.least;
     chiefs = λ q e c n. elim (among_more q e) [
       | inl a ↦ are.chiefs q a c n
       | inr s ↦ absurd (never (ap (class_of ms) (sym s) ∙ c ∙ s) (ap (is_constant words) (sym s) ∙ n))
     ];
   }
 
-  module _ (k : ℕ) (free : is_taken ms k ≡ false) (short : k < 2 ^ 28) (there : is_listed ms p ≡ true) (no_constant : is_constant words p ≡ false) where
+  module _ (k : ℕ) (free : is_taken ms k ≡ false) (short : k < 2 ^ 28) (there : is_listed ms p ≡ true) (no_constant : is_constant words p ≡ false)
+      (own : class_of ms p ≡ p) (above : (q : ℕ) → is_among done q ≡ true → q < p) (taken : (j : ℕ) → j < k → is_taken ms j ≡ true) where
     abbrev new : List Member
     new = numbered p k ms
 
@@ -63,6 +73,41 @@ module _ (words : List ℕ) (first ms : List Member) (done : List ℕ) (are : Ar
       ]
     ]
 
+    -- this term had no number
+    no_old : (j : ℕ) → number_of ms p ≡ Some j → ⊥
+    no_old j e = let lt = above p (are.given p j e no_constant).0 in omega (arith, lt)
+
+    kept_number : (q j : ℕ) → number_of ms q ≡ Some j → number_of new q ≡ Some j
+    kept_number q j e = elim (cases_Bool (nat_eq q p)) [
+      | inl t ↦ absurd (no_old j (ap (number_of ms) (sym (eqb-true q p t)) ∙ e))
+      | inr f ↦ number_numbered p k ms q f ∙ e
+    ]
+
+    given_more : (q j : ℕ) → number_of new q ≡ Some j → is_constant words q ≡ false → (is_among (done ++ p ∷ []) q ≡ true) × (class_of new q ≡ q)
+    given_more q j e n = elim (number_cases q) [
+      | inl a ↦
+          let s = a.0 in
+          (ap (is_among (done ++ p ∷ [])) s ∙ done_last, class_numbered p k ms q ∙ ap (class_of ms) s ∙ own ∙ sym s)
+      | inr a ↦ let g = are.given q j (sym a ∙ e) n in (done_more q g.0, class_numbered p k ms q ∙ g.1)
+    ]
+
+    found_more : (j : ℕ) → is_taken new j ≡ true → (q : ℕ) × (number_of new q ≡ Some j)
+    found_more j e = elim (taken_numbered p k ms j e) [
+      | inl s ↦ (p, number_new p k ms there ∙ ap Some (sym s))
+      | inr t ↦ let f = are.found j t in (f.0, kept_number f.0 j f.1)
+    ]
+
+    least_more : (q i j : ℕ) → number_of new q ≡ Some i → is_constant words q ≡ false → j < i → (r : ℕ) × (number_of new r ≡ Some j) × (is_constant words r ≡ false → r < q)
+    least_more q i j e n lt = elim (number_cases q) [
+      | inl a ↦
+          let is : Some k ≡ Some i = sym a.1 ∙ e in
+          let same : k ≡ i = cc in
+          let at = a.0 in
+          let f = are.found j (taken j (omega (arith, same, lt))) in
+          (f.0, kept_number f.0 j f.1, λ c. let l = above f.0 (are.given f.0 j f.1 c).0 in omega (arith, l, at))
+      | inr a ↦ let f = are.least q i j (sym a ∙ e) n lt in (f.0, kept_number f.0 j f.1, f.2)
+    ]
+
     pub numbered_more : AreNumbered words first new (done ++ p ∷ [])
     numbered_more = record {
       count = length-map ms (with_number p k) ∙ are.count;
@@ -77,6 +122,9 @@ module _ (words : List ℕ) (first ms : List Member) (done : List ℕ) (are : Ar
         | inl a ↦ absurd (both_ways _ no_constant (ap (is_constant words) (sym a.0) ∙ e))
         | inr a ↦ a ∙ are.constants q e (sym (listed_numbered p k ms q) ∙ l)
       ];
+      given = given_more;
+      found = found_more;
+      least = least_more;
       chiefs = λ q e c n none. elim (number_cases q) [
         | inl a ↦ some_none k (sym a.1 ∙ none)
         | inr a ↦ elim (among_more q e) [

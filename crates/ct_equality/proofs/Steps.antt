@@ -1,5 +1,5 @@
 -- One more equality, and terms of one class that have to differ.
-use Rattle.std.proofs.Common.{◌≡◌, ◌<◌, ◌+◌, ℕ, zero, suc, Bool, true, false, ◌&&◌, List, [], ◌∷◌, Some, None, nat_eq, nat_lt, refl, ap, sym, ◌∙◌, subst, if◌then◌else◌, inl, inr, arith}
+use Rattle.std.proofs.Common.{◌≡◌, ◌≤◌, ◌<◌, ◌+◌, ℕ, zero, suc, Bool, true, false, ◌&&◌, List, [], ◌∷◌, Some, None, nat_eq, nat_lt, refl, ap, sym, ◌∙◌, subst, if◌then◌else◌, inl, inr, arith}
 use Rattle.std.specs.Prelude.{slice_get}
 use Rattle.std.specs.List.{list_all, list_any}
 use Rattle.std.proofs.lemmas.Bool.{eqb-true, eq-eqb, ltb-true, lt-ltb, cases_Bool, cases_eq, both_ways, and_parts, and_from, or_left, or_right}
@@ -14,7 +14,7 @@ use Rattle.ct_equality.specs.Terms.{is_end, is_end_of}
 use Rattle.ct_equality.specs.Joining.{prefers, clash_of, joined_classes, clash_by, joined_by}
 use Rattle.ct_equality.specs.Assigned.{Gives, IsLink, Joined, step, IsClash, is_plain_term, is_plain_atom, are_plain}
 use Rattle.ct_equality.specs.Classes.{AreListed, AreClasses, AreJoined, Merges, IsClosed, IsContradiction}
-use Rattle.ct_equality.proofs.Joins.{joined_on, joined_back, merged_classes, merged_grows, one_class, no_change, merges_on, constant_term, keeps_same, goes_to_b, goes_to_a, no_clash, clash_b, free_b, free_a, b_is_free, b_constant}
+use Rattle.ct_equality.proofs.Joins.{joined_on, joined_back, merged_classes, merged_grows, one_class, no_change, merges_on, constant_term, keeps_same, goes_to_b, goes_to_a, no_clash, clash_b, free_b, free_a, b_is_free, b_constant, lower_a, lower_b}
 
 -- what holds of each atom holds of the one at a place
 atom_at : (p : Atom → Bool) (atoms : List Atom) (k : ℕ) (a : Atom) → list_all p atoms ≡ true → slice_get atoms k ≡ Some a → p a ≡ true
@@ -74,20 +74,20 @@ module _ (words : List ℕ) (atoms : List Atom) (truth : List Bool) (ms : List M
     led : Joined atoms truth a b
     led = joined_on atoms truth (joined_back atoms truth (are.joined s)) (step t link (are.joined t))
 
-    to_b : nat_eq a b ≡ false → is_constant words a ≡ false → After s t (merged a b ms)
-    to_b apart free = record {
-      classes = merged_classes words atoms truth ms are a b led (are.chief s) (are.chief t) (ne_flip a b apart) free (are.within s s_there) (are.within t t_there);
-      merges = merged_grows words atoms truth ms are a b led (are.chief s) (are.chief t) (ne_flip a b apart) free (are.within s s_there) (are.within t t_there);
-      one = one_class words atoms truth ms are a b led (are.chief s) (are.chief t) (ne_flip a b apart) free (are.within s s_there) (are.within t t_there) s t refl refl;
+    to_b : nat_eq a b ≡ false → is_constant words a ≡ false → (is_constant words b ≡ false → b ≤ a) → After s t (merged a b ms)
+    to_b apart free lower = record {
+      classes = merged_classes words atoms truth ms are a b led (are.chief s) (are.chief t) (ne_flip a b apart) free (are.within s s_there) (are.within t t_there) lower;
+      merges = merged_grows words atoms truth ms are a b led (are.chief s) (are.chief t) (ne_flip a b apart) free (are.within s s_there) (are.within t t_there) lower;
+      one = one_class words atoms truth ms are a b led (are.chief s) (are.chief t) (ne_flip a b apart) free (are.within s s_there) (are.within t t_there) lower s t refl refl;
     }
 
-    to_a : nat_eq a b ≡ false → is_constant words b ≡ false → After s t (merged b a ms)
-    to_a apart free =
+    to_a : nat_eq a b ≡ false → is_constant words b ≡ false → (is_constant words a ≡ false → a ≤ b) → After s t (merged b a ms)
+    to_a apart free lower =
         let back = joined_back atoms truth led in
         record {
-          classes = merged_classes words atoms truth ms are b a back (are.chief t) (are.chief s) apart free (are.within t t_there) (are.within s s_there);
-          merges = merged_grows words atoms truth ms are b a back (are.chief t) (are.chief s) apart free (are.within t t_there) (are.within s s_there);
-          one = sym (one_class words atoms truth ms are b a back (are.chief t) (are.chief s) apart free (are.within t t_there) (are.within s s_there) t s refl refl);
+          classes = merged_classes words atoms truth ms are b a back (are.chief t) (are.chief s) apart free (are.within t t_there) (are.within s s_there) lower;
+          merges = merged_grows words atoms truth ms are b a back (are.chief t) (are.chief s) apart free (are.within t t_there) (are.within s s_there) lower;
+          one = sym (one_class words atoms truth ms are b a back (are.chief t) (are.chief s) apart free (are.within t t_there) (are.within s s_there) lower t s refl refl);
         }
 
     keeps : clash_of words a b ≡ None → After s t (joined_classes words a b ms)
@@ -96,9 +96,9 @@ module _ (words : List ℕ) (atoms : List Atom) (truth : List Bool) (ms : List M
       | inr apart ↦ elim (cases_Bool (prefers words a b)) [
         | inl p ↦ elim (cases_Bool (is_constant words a)) [
           | inl c ↦ let e = clash_b words a b apart p c in cc
-          | inr f ↦ subst (After s t) (sym (goes_to_b words a b ms apart p f)) (to_b apart f)
+          | inr f ↦ subst (After s t) (sym (goes_to_b words a b ms apart p f)) (to_b apart f (lower_b words a b p))
         ]
-        | inr n ↦ let f = b_is_free words a b n in subst (After s t) (sym (goes_to_a words a b ms apart n f)) (to_a apart f)
+        | inr n ↦ let f = b_is_free words a b n in subst (After s t) (sym (goes_to_a words a b ms apart n f)) (to_a apart f (lower_a words a b n))
       ]
     ]
 

@@ -1,8 +1,8 @@
 -- The valuation of classes gives each equality its truth.
-use Rattle.std.proofs.Common.{◌≡◌, ◌<◌, ℕ, Bool, true, false, List, [], ◌∷◌, length, map, Option, Some, None, nat_eq, refl, ap, sym, ◌∙◌, subst, if◌then◌else◌, inl, inr, ◌⊎◌}
+use Rattle.std.proofs.Common.{◌≡◌, ◌≢◌, ◌<◌, ◌≤◌, ◌↔◌, ℕ, Bool, true, false, List, [], ◌∷◌, ◌++◌, length, map, Option, Some, None, nat_eq, nat_lt, refl, ap, sym, ◌∙◌, subst, if◌then◌else◌, inl, inr, ◌⊎◌, arith, append_assoc, append-nil}
 use Rattle.std.specs.Prelude.{slice_get}
 use Rattle.std.specs.List.{IsDistinct, AllByRecursion}
-use Rattle.std.proofs.lemmas.Bool.{eqb-true, eq-eqb, false≢true, cases_Bool, both_ways, or_cases, or_left, or_right}
+use Rattle.std.proofs.lemmas.Bool.{eqb-true, eq-eqb, false≢true, cases_Bool, cases_eq, both_ways, or_cases, or_left, or_right}
 use Rattle.std.proofs.lemmas.Map.Keys.{IsDistinct-tail}
 use Rattle.ct_word.specs.declared.kinds.Class.TheVariants as class
 use Rattle.ct_word.specs.declared.values.Term.{Term}
@@ -20,15 +20,17 @@ use Rattle.ct_derivation.specs.declared.literals.Atom.TheVariants as atom
 use Rattle.ct_derivation.specs.Path.{is_constant, is_constant_word}
 use Rattle.ct_derivation.specs.Truth.{atom_holds}
 use Rattle.ct_equality.specs.declared.classes.Member.{Member}
-use Rattle.ct_equality.specs.Terms.{terms_of, is_among}
+use Rattle.ct_equality.specs.Terms.{AreAscending, terms_of, is_among, is_end_of}
 use Rattle.ct_equality.specs.Members.{is_listed, class_of, number_of, number_at, members_at}
-use Rattle.ct_equality.specs.Assigned.{Gives, are_plain}
+use Rattle.ct_equality.specs.Assigned.{Gives, Joined, here, step, are_plain}
 use Rattle.ct_equality.specs.Classes.{AreJoined, Merges, IsApart}
-use Rattle.ct_equality.specs.Valued.{value_in, numbered_value, class_value, with_pair, world_of, IsPlainValue, IsWorldOf, AreNumbered, HasValue, HaveValues}
+use Rattle.ct_equality.specs.Valued.{value_in, numbered_value, class_value, with_pair, world_of, with_null, nulls_of, IsConstantOf, IsPlainValue, IsWorldOf, AreNumbered, HasValue, HaveValues, has_value, IsTaken, IsLeast, AreNext}
 use Rattle.ct_equality.proofs.Steps.{plain_place, left_end, right_end}
-use Rattle.ct_equality.proofs.Trees.{place_below}
-use Rattle.ct_equality.proofs.Listed.{among_terms, terms_distinct, plain_end, alone_listed, alone_number}
-use Rattle.ct_equality.proofs.Standing.{value_there, IsNumber, constant_value, number_value, no_number, null_there}
+use Rattle.ct_equality.proofs.Trees.{among_append, place_below}
+use Rattle.ct_equality.proofs.Joins.{joined_on, joined_back}
+use Rattle.ct_equality.proofs.Members.{number_listed}
+use Rattle.ct_equality.proofs.Listed.{among_terms, terms_ascend, terms_distinct, stands_before, plain_end, alone_listed, alone_number, alone_taken}
+use Rattle.ct_equality.proofs.Standing.{value_there, IsNull, IsNumber, constant_value, number_value, no_number, null_there}
 
 if_some : (b : Bool) (o : Option ℕ) (k : ℕ) → (if b then o else None) ≡ Some k → o ≡ Some k
 if_some true o k e = e
@@ -65,6 +67,11 @@ module _ (words : List ℕ) (wf : IsWellFormed words) where
           let among : is_among ts p ≡ true = sym (merges.listed p ∙ alone_listed words ts p) ∙ l in
           number_is p ∙ ap (λ b. if b then number_at words p else None) among;
       chiefs = λ p e c n none. false≢true e;
+      given = λ p k e n. absurd (both_ways _ n (own_number p k e).constant);
+      found = λ k e.
+          let f = alone_taken words ts k (sym (merges.taken k) ∙ e) in
+          (f.0, number_is f.0 ∙ ap (λ b. if b then number_at words f.0 else None) f.1 ∙ f.2);
+      least = λ p k j e n lt. absurd (both_ways _ n (own_number p k e).constant);
     }
 
   module _ (ms : List Member) where
@@ -176,14 +183,14 @@ module _ (words : List ℕ) (wf : IsWellFormed words) where
       | inr f ↦ absurd (numbered.chiefs c chief.among chief.own f none)
     ]
 
-    has_value : (c : ℕ) → IsChief c → HasValue words ns c
-    has_value c chief = record {
+    fixed_value : (c : ℕ) → IsChief c → HasValue words ns c
+    fixed_value c chief = record {
       term = term_place c chief.among;
       value = λ none. constant_value words wf c (is_fixed c chief none);
     }
 
     pub have_values : HaveValues words ns ts
-    have_values p e = has_value (class_of ns p) (chief_of p e)
+    have_values p e = fixed_value (class_of ns p) (chief_of p e)
 
     number_there : (c : ℕ) → is_among ts c ≡ true → is_constant words c ≡ true → number_of ns c ≡ number_at words c
     number_there c e k = numbered.constants c k (listed_among c ∙ e)
@@ -274,9 +281,134 @@ module _ (words : List ℕ) (wf : IsWellFormed words) where
       truth_there : atom_holds words v (atom.Same s t) ≡ b
       truth_there = elim (cases_Bool b) [ inl e ↦ when_true e ∙ sym e | inr e ↦ when_false e ∙ sym e ]
 
+    ends_among : (p : ℕ) → is_end_of atoms p ≡ true → is_among ts p ≡ true
+    ends_among p e = among_terms atoms p ∙ e
+
+    -- joined terms are in one class
+    joined_class : {s t : ℕ} → Joined atoms truth s t → class_of ms s ≡ class_of ms t
+    joined_class here = refl
+    joined_class (step {s} t l r) = elim (cases_Bool (nat_lt s t)) [
+      | inl a ↦
+          let e : slice_get atoms l.place ≡ Some (atom.Same s t) = l.atom_at ∙ ap Some (ap (λ b. if b then atom.Same s t else atom.Same t s) a) in
+          joined.closed l.place s t (place_below atoms truth l.place (atom.Same s t) e) e l.truth_at ∙ joined_class r
+      | inr a ↦
+          let e : slice_get atoms l.place ≡ Some (atom.Same t s) = l.atom_at ∙ ap Some (ap (λ b. if b then atom.Same s t else atom.Same t s) a) in
+          sym (joined.closed l.place t s (place_below atoms truth l.place (atom.Same t s) e) e l.truth_at) ∙ joined_class r
+    ]
+
+    one_value : (s t : ℕ) → is_end_of atoms s ≡ true → is_end_of atoms t ≡ true → (at v [] (term_at words s) ≡ at v [] (term_at words t)) ↔ Joined atoms truth s t
+    one_value s t a b =
+        let sa = ends_among s a in
+        let tb = ends_among t b in
+        (λ e.
+            let one = one_chief (class_of ns s) (class_of ns t) (chief_of s sa) (chief_of t tb) (sym (value_is s sa) ∙ e ∙ value_is t tb) in
+            let same : class_of ms s ≡ class_of ms t = sym (numbered.classes s) ∙ one ∙ numbered.classes t in
+            joined_on atoms truth (joined.classes.joined s) (subst (λ c. Joined atoms truth c t) (sym same) (joined_back atoms truth (joined.classes.joined t))),
+        λ j.
+            let one = numbered.classes s ∙ joined_class j ∙ sym (numbered.classes t) in
+            value_is s sa ∙ ap x_of one ∙ sym (value_is t tb))
+
+    constant_taken : (c : ℕ) → is_among ts c ≡ true → is_constant words c ≡ true → IsConstantOf words atoms (x_of c)
+    constant_taken c e k = record { place = c; is_end = sym (among_terms atoms c) ∙ e; constant = k; value = sym (constant_own c e k) }
+
+    -- a null among these places has its value in their world
+    has_own : (us : List ℕ) (q : ℕ) → is_among us q ≡ true → IsNull (term_at words q) → has_value (world_of words ns us) (value_of ns q) ≡ true
+    has_own [] q e null = absurd (false≢true e)
+    has_own (u ∷ us) q e null = elim (or_cases (nat_eq q u) (is_among us q) e) [
+      | inl s ↦
+          let at_u : term_at words u ≡ term.Null null.null = ap (term_at words) (sym (eqb-true q u s)) ∙ null.is in
+          ap (λ x. has_value (with_pair x (value_of ns u) (world_of words ns us)) (value_of ns q)) at_u
+          ∙ or_left _ _ ((value_decides (value_of ns u) (value_of ns q)).1 (ap (value_of ns) (sym (eqb-true q u s))))
+      | inr r ↦ further (term_at words u) (has_own us q r null)
+    ] where
+      further : (x : Term) → has_value (world_of words ns us) (value_of ns q) ≡ true → has_value (with_pair x (value_of ns u) (world_of words ns us)) (value_of ns q) ≡ true
+      further (term.Null n) f = or_right (same_value (value_of ns u) (value_of ns q)) _ f
+      further (term.Column k) f = f
+      further (term.Value x) f = f
+
+    null_at : (q : ℕ) → is_among ts q ≡ true → is_constant words q ≡ false → IsNull (term_at words q)
+    null_at q e n = null_there words wf q (plain_end words atoms q plain (sym (among_terms atoms q) ∙ e)) n
+
+    module _ (done rest : List ℕ) (t : ℕ) (is : ts ≡ done ++ t ∷ rest) where
+      t_there : is_among ts t ≡ true
+      t_there = ap (λ l. is_among l t) is ∙ among_append done (t ∷ rest) t ∙ or_right (is_among done t) _ (or_left (nat_eq t t) _ (eq-eqb t t refl))
+
+      earlier : (q : ℕ) → is_among ts q ≡ true → q < t → is_among done q ≡ true
+      earlier q e lt = stands_before done rest t q (subst AreAscending is (terms_ascend atoms)) (ap (λ l. is_among l q) (sym is) ∙ e) lt
+
+      -- an earlier term by which its class goes has its value in the world so far
+      taken_before : (q : ℕ) → IsChief q → is_constant words q ≡ false → q < t → has_value (world_of words ns done) (x_of q) ≡ true
+      taken_before q chief n lt = ap (λ c. has_value (world_of words ns done) (x_of c)) (sym chief.own) ∙ has_own done q (earlier q chief.among lt) (null_at q chief.among n)
+
+      taken_number : (q j : ℕ) → number_of ns q ≡ Some j → (is_constant words q ≡ false → q < t) → IsTaken words atoms (world_of words ns done) (val.Other j)
+      taken_number q j e below =
+          let among : is_among ts q ≡ true = sym (listed_among q) ∙ number_listed ns q j e in
+          let x_is : x_of q ≡ val.Other j = ap (λ o. numbered_value o (term_at words q)) e in
+          elim (cases_Bool (is_constant words q)) [
+            | inl k ↦ inl (subst (IsConstantOf words atoms) x_is (constant_taken q among k))
+            | inr n ↦
+                let chief : IsChief q = record { among = among; own = (numbered.given q j e n).1 } in
+                inr (subst (λ x. has_value (world_of words ns done) x ≡ true) x_is (taken_before q chief n (below n)))
+          ]
+
+      next_value : IsTaken words atoms (world_of words ns done) (value_of ns t) ⊎ IsLeast words atoms (world_of words ns done) (value_of ns t)
+      next_value =
+          let c = class_of ns t in
+          let chief = chief_of t t_there in
+          elim (cases_Bool (is_constant words c)) [
+            | inl k ↦ inl (inl (constant_taken c chief.among k))
+            | inr n ↦
+                let le : c ≤ t = subst (λ x. x ≤ t) (sym (numbered.classes t)) (joined.classes.least t (ap (is_constant words) (sym (numbered.classes t)) ∙ n)) in
+                elim (cases_eq c t) [
+                  | inr other ↦ inl (inr (taken_before c chief n (omega (arith, le, other))))
+                  | inl same ↦ elim (number_known (number_of ns c)) [
+                    | inl none ↦ absurd (both_ways _ n (is_fixed c chief none))
+                    | inr some ↦ inr (record {
+                      number = some.0;
+                      value = ap (λ o. numbered_value o (term_at words c)) some.1;
+                      smaller = λ j lt.
+                          let f = numbered.least c some.0 j some.1 n lt in
+                          taken_number f.0 j f.1 (λ m. let l = f.2 m in omega (arith, l, same));
+                    })
+                  ]
+                ]
+          ]
+
+    world_append : (us : List ℕ) (t : ℕ) → world_of words ns (us ++ t ∷ []) ≡ world_of words ns us ++ with_pair (term_at words t) (value_of ns t) []
+    world_append [] t = refl
+    world_append (u ∷ us) t = ap (with_pair (term_at words u) (value_of ns u)) (world_append us t) ∙ pushed (term_at words u) where
+      pushed : (x : Term) → with_pair x (value_of ns u) (world_of words ns us ++ with_pair (term_at words t) (value_of ns t) [])
+          ≡ with_pair x (value_of ns u) (world_of words ns us) ++ with_pair (term_at words t) (value_of ns t) []
+      pushed (term.Null n) = refl
+      pushed (term.Column k) = refl
+      pushed (term.Value x) = refl
+
+    all_next : (done rest : List ℕ) → ts ≡ done ++ rest → AreNext words atoms (world_of words ns done) (world_of words ns rest)
+    all_next done [] is = tt
+    all_next done (t ∷ rest) is =
+        by_term (all_next (done ++ t ∷ []) rest (is ∙ sym (append_assoc done (t ∷ []) rest))) (next_value done rest t is) (term_at words t) (world_append done t) where
+      by_term : AreNext words atoms (world_of words ns (done ++ t ∷ [])) (world_of words ns rest)
+          → IsTaken words atoms (world_of words ns done) (value_of ns t) ⊎ IsLeast words atoms (world_of words ns done) (value_of ns t)
+          → (x : Term) → world_of words ns (done ++ t ∷ []) ≡ world_of words ns done ++ with_pair x (value_of ns t) []
+          → AreNext words atoms (world_of words ns done) (with_pair x (value_of ns t) (world_of words ns rest))
+      by_term more next (term.Null n) e = (next, subst (λ w. AreNext words atoms w (world_of words ns rest)) e more)
+      by_term more next (term.Column k) e = subst (λ w. AreNext words atoms w (world_of words ns rest)) (e ∙ append-nil _) more
+      by_term more next (term.Value x) e = subst (λ w. AreNext words atoms w (world_of words ns rest)) (e ∙ append-nil _) more
+
+    nulls_there : (us : List ℕ) → map (λ p. p.0) (world_of words ns us) ≡ nulls_of words us
+    nulls_there [] = refl
+    nulls_there (u ∷ us) = firsts (term_at words u) ∙ ap (with_null (term_at words u)) (nulls_there us) where
+      firsts : (x : Term) → map (λ p. p.0) (with_pair x (value_of ns u) (world_of words ns us)) ≡ with_null x (map (λ p. p.0) (world_of words ns us))
+      firsts (term.Null n) = refl
+      firsts (term.Column k) = refl
+      firsts (term.Value x) = refl
+
     pub is_world : IsWorldOf words atoms truth v
     is_world = record {
       truths = truth_there;
+      nulls = nulls_there ts;
+      classes = one_value;
+      next = all_next [] ts refl;
       values = all_values ns (IsPlainValue words atoms) ts (λ p e. plain_value (class_of ns p) (chief_of p e));
       distinct = nulls_distinct ns ts term_place (terms_distinct atoms);
     }

@@ -1,5 +1,5 @@
 -- The terms of a question: the places in its equalities.
-use Rattle.std.specs.Prelude.{ℕ, Bool, false, ◌||◌, List, [], ◌∷◌, nat_eq, nat_lt, if◌then◌else◌}
+use Rattle.std.specs.Prelude.{◌≡◌, ◌<◌, ℕ, Bool, true, false, ◌||◌, List, [], ◌∷◌, nat_eq, nat_lt, if◌then◌else◌}
 use Rattle.std.specs.List.{list_any}
 use Rattle.ct_derivation.specs.declared.literals.Atom.{Atom}
 use Rattle.ct_derivation.specs.declared.literals.Atom.TheVariants as atom
@@ -22,6 +22,11 @@ terms_of atoms = terms_from [] atoms
 -- whether a place is among these
 abbrev pub is_among : List ℕ → ℕ → Bool
 is_among ts p = list_any (nat_eq p) ts
+
+-- each place is below those after it
+abbrev pub AreAscending : List ℕ → Type 0
+AreAscending [] = Unit {0}
+AreAscending (t ∷ ts) = ((p : ℕ) → is_among ts p ≡ true → t < p) × AreAscending ts
 
 -- whether a place is one of an atom's two
 abbrev pub is_end : ℕ → Atom → Bool

@@ -6,7 +6,7 @@ ghost use Rattle.ct_word.specs.declared.kinds.Class.TheVariants as class;
 ghost use Rattle.ct_word.specs.WellFormed.{IsWellFormed, is_place_of};
 ghost use Rattle.ct_word.specs.Reading.{term_at};
 ghost use Rattle.ct_equality.specs.declared.classes.Member.{Member};
-ghost use Rattle.ct_equality.specs.Terms.{is_among};
+ghost use Rattle.ct_equality.specs.Terms.{AreAscending, is_among};
 ghost use Rattle.ct_equality.specs.Members as listed;
 ghost use Rattle.ct_equality.specs.Valued.{AreNumbered, HasValue, HaveValues, class_value, with_pair, world_of};
 
@@ -77,7 +77,7 @@ fn give(members: &mut [Member], place: u32, number: u32)
 fn number_class(words: &[u64], members: &mut [Member], place: u32)
     requires few { length members.old < 2 ^ 28 }
     requires there { listed.is_listed members.old place ≡ true }
-    ensures { (first : List Member) (done : List ℕ) → AreNumbered words.now first members.old done → AreNumbered words.now first members.new (done ++ place ∷ []) }
+    ensures { (first : List Member) (done : List ℕ) → AreNumbered words.now first members.old done → ((p : ℕ) → is_among done p ≡ true → p < place) → AreNumbered words.now first members.new (done ++ place ∷ []) }
 {
     if is_constant(words, place) {
         return;
@@ -94,6 +94,7 @@ fn number_class(words: &[u64], members: &mut [Member], place: u32)
 pub fn number_classes(words: &[u64], terms: &[u32], members: &mut [Member])
     requires few { length members.old < 2 ^ 28 }
     requires there { (p : ℕ) → is_among terms.now p ≡ true → listed.is_listed members.old p ≡ true }
+    requires ascending { AreAscending terms.now }
     requires constants { AreNumbered words.now members.old members.old [] }
     ensures { AreNumbered words.now members.old members.new terms.now }
 {

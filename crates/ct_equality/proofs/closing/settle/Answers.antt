@@ -3,11 +3,11 @@ use Rattle.std.specs.List.{list_all}
 use Rattle.std.proofs.lemmas.List.{length-map}
 use Rattle.ct_word.specs.declared.kinds.Class.TheVariants as class
 use Rattle.ct_word.specs.WellFormed.{is_place_of}
-use Rattle.ct_equality.specs.Terms.{terms_of, is_among}
+use Rattle.ct_equality.specs.Terms.{AreAscending, terms_of, is_among}
 use Rattle.ct_equality.specs.Members.{member_at}
 use Rattle.ct_equality.specs.Classes.{AreListed, AreClasses, AreJoined}
 use Rattle.ct_equality.specs.Valued.{AreNumbered, HaveValues, IsWorldOf, world_of}
-use Rattle.ct_equality.proofs.Listed.{all_listed, alone, alone_listed}
+use Rattle.ct_equality.proofs.Listed.{terms_ascend, all_listed, alone, alone_listed}
 use Rattle.ct_equality.proofs.Worlds.{start_numbered, have_values, is_world}
 use Rattle.ct_equality.proofs.FalsePaths.{false_path, few_terms, term_places}
 use Rattle.ct_equality.proofs.closing.settle.Goals as goal
@@ -35,6 +35,9 @@ number_classes-requires-clause-there c = λ p e.
     let terms = terms_of c.args.atoms.now in
     let joined = subst (λ m. AreJoined words c.args.atoms.now c.args.truth.now (length c.args.atoms.now) m c.clash.new.members) c.requires.members c.in_default.ensures.joined in
     joined.merges.listed p ∙ alone_listed words terms p ∙ ap (λ l. is_among l p) (sym c.requires.terms) ∙ e
+
+pub number_classes-requires-clause-ascending : goal.number_classes-requires-clause-ascending
+number_classes-requires-clause-ascending c = subst AreAscending (sym c.requires.terms) (terms_ascend c.args.atoms.now)
 
 pub number_classes-requires-clause-constants : goal.number_classes-requires-clause-constants
 number_classes-requires-clause-constants c =
