@@ -12,7 +12,7 @@ use Rattle.ct_equality.specs.declared.classes.Member.{Member}
 use Rattle.ct_equality.specs.Members.{is_listed, class_of, merged}
 use Rattle.ct_equality.specs.Terms.{is_end, is_end_of}
 use Rattle.ct_equality.specs.Joining.{prefers, clash_of, joined_classes, clash_by, joined_by}
-use Rattle.ct_equality.specs.Assigned.{Gives, IsLink, Joined, step, IsClash, is_plain_term, is_plain_atom, are_plain}
+use Rattle.ct_equality.specs.Assigned.{Gives, IsLink, Joined, step, IsClash, is_plain_term, is_plain_atom, are_plain, is_ordered, are_ordered}
 use Rattle.ct_equality.specs.Classes.{AreListed, AreClasses, AreJoined, Merges, IsClosed, IsContradiction}
 use Rattle.ct_equality.proofs.Joins.{joined_on, joined_back, merged_classes, merged_grows, one_class, no_change, merges_on, constant_term, keeps_same, goes_to_b, goes_to_a, no_clash, clash_b, free_b, free_a, b_is_free, b_constant, lower_a, lower_b}
 
@@ -38,6 +38,19 @@ plain_at words atoms k s t plain e =
     let parts = and_parts (is_plain_term words s && is_plain_term words t) (nat_lt s t) (atom_at (is_plain_atom words) atoms k (atom.Same s t) plain e) in
     let both = and_parts (is_plain_term words s) (is_plain_term words t) parts.0 in
     record { left = both.0; right = both.1; below = ltb-true s t parts.1 }
+
+-- equalities of constants and nulls have the smaller place first
+pub plain_ordered : (words : List ℕ) (atoms : List Atom) → are_plain words atoms ≡ true → are_ordered atoms ≡ true
+unfolding are_plain are_ordered
+plain_ordered words [] plain = refl
+plain_ordered words (atom.Node p ∷ atoms) plain = plain_ordered words atoms plain
+plain_ordered words (atom.Same s t ∷ atoms) plain =
+    let parts = and_parts (is_plain_atom words (atom.Same s t)) (list_all (is_plain_atom words) atoms) plain in
+    and_from (nat_lt s t) _ (and_parts (is_plain_term words s && is_plain_term words t) (nat_lt s t) parts.0).1 (plain_ordered words atoms parts.1)
+
+pub ordered_at : (atoms : List Atom) (k s t : ℕ) → are_ordered atoms ≡ true → slice_get atoms k ≡ Some (atom.Same s t) → s < t
+unfolding are_ordered
+ordered_at atoms k s t ordered e = ltb-true s t (atom_at is_ordered atoms k (atom.Same s t) ordered e)
 
 pub plain_place : (words : List ℕ) (p : ℕ) → is_plain_term words p ≡ true → is_place_of words class.Term p ≡ true
 plain_place words p e = (and_parts (is_place_of words class.Term p) _ e).0

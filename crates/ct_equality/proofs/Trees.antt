@@ -12,10 +12,10 @@ use Rattle.ct_derivation.specs.declared.literals.Atom.{Atom}
 use Rattle.ct_derivation.specs.declared.literals.Atom.TheVariants as atom
 use Rattle.ct_derivation.specs.Path.{pair_of, end_of}
 use Rattle.ct_equality.specs.Terms.{is_among}
-use Rattle.ct_equality.specs.Assigned.{IsLink, Joined, here, step, AreLinks, IsWalk, are_plain}
+use Rattle.ct_equality.specs.Assigned.{IsLink, Joined, here, step, AreLinks, IsWalk, are_ordered}
 use Rattle.ct_word.proofs.Splits.{some-injective}
 use Rattle.ct_equality.specs.Trees.{beyond, IsTree, Extends, LeadsInto, IsExplored, IsGrowing, IsExploring}
-use Rattle.ct_equality.proofs.Steps.{plain_at, pair_below}
+use Rattle.ct_equality.proofs.Steps.{ordered_at, pair_below}
 use Rattle.ct_equality.proofs.Joins.{pair_swap}
 
 pub record StandsAt (places : List ℕ) (p : ℕ) : Type 0 where
@@ -156,12 +156,12 @@ module _ (atoms : List Atom) (truth : List Bool) where
           ∙ ap (λ b. if b then Some t else None) (eq-eqb p p refl)
     ]
 
-  pub beyond_link : (words : List ℕ) → are_plain words atoms ≡ true → (k : ℕ) (a : Atom) (b : Bool) (p t : ℕ) → slice_get atoms k ≡ Some a → slice_get truth k ≡ Some b → beyond a b p ≡ Some t → IsLink atoms truth t p
-  beyond_link words plain k (atom.Node q) b p t e f g = cc
-  beyond_link words plain k (atom.Same s u) false p t e f g = cc
-  beyond_link words plain k (atom.Same s u) true p t e f g =
-      let pair = plain_at words atoms k s u plain e in
-      let same : pair_of s u ≡ atom.Same s u = pair_below s u pair.below in
+  pub beyond_link : are_ordered atoms ≡ true → (k : ℕ) (a : Atom) (b : Bool) (p t : ℕ) → slice_get atoms k ≡ Some a → slice_get truth k ≡ Some b → beyond a b p ≡ Some t → IsLink atoms truth t p
+  beyond_link ordered k (atom.Node q) b p t e f g = cc
+  beyond_link ordered k (atom.Same s u) false p t e f g = cc
+  beyond_link ordered k (atom.Same s u) true p t e f g =
+      let lt = ordered_at atoms k s u ordered e in
+      let same : pair_of s u ≡ atom.Same s u = pair_below s u lt in
       elim (cases_Bool (nat_eq s p)) [
         | inl a ↦
             let is : Some u ≡ Some t = sym (ap (λ c. if c then Some u else (if nat_eq u p then Some s else None)) a) ∙ g in

@@ -299,14 +299,15 @@ module _ (words : List ℕ) (wf : IsWellFormed words) where
     one_value : (s t : ℕ) → is_end_of atoms s ≡ true → is_end_of atoms t ≡ true → (at v [] (term_at words s) ≡ at v [] (term_at words t)) ↔ Joined atoms truth s t
     one_value s t a b =
         let sa = ends_among s a in
-        let tb = ends_among t b in
-        (λ e.
-            let one = one_chief (class_of ns s) (class_of ns t) (chief_of s sa) (chief_of t tb) (sym (value_is s sa) ∙ e ∙ value_is t tb) in
-            let same : class_of ms s ≡ class_of ms t = sym (numbered.classes s) ∙ one ∙ numbered.classes t in
-            joined_on atoms truth (joined.classes.joined s) (subst (λ c. Joined atoms truth c t) (sym same) (joined_back atoms truth (joined.classes.joined t))),
-        λ j.
-            let one = numbered.classes s ∙ joined_class j ∙ sym (numbered.classes t) in
-            value_is s sa ∙ ap x_of one ∙ sym (value_is t tb))
+        let tb = ends_among t b in (
+          λ e.
+              let one = one_chief (class_of ns s) (class_of ns t) (chief_of s sa) (chief_of t tb) (sym (value_is s sa) ∙ e ∙ value_is t tb) in
+              let same : class_of ms s ≡ class_of ms t = sym (numbered.classes s) ∙ one ∙ numbered.classes t in
+              joined_on atoms truth (joined.classes.joined s) (subst (λ c. Joined atoms truth c t) (sym same) (joined_back atoms truth (joined.classes.joined t))),
+          λ j.
+              let one = numbered.classes s ∙ joined_class j ∙ sym (numbered.classes t) in
+              value_is s sa ∙ ap x_of one ∙ sym (value_is t tb),
+        )
 
     constant_taken : (c : ℕ) → is_among ts c ≡ true → is_constant words c ≡ true → IsConstantOf words atoms (x_of c)
     constant_taken c e k = record { place = c; is_end = sym (among_terms atoms c) ∙ e; constant = k; value = sym (constant_own c e k) }
@@ -387,13 +388,13 @@ module _ (words : List ℕ) (wf : IsWellFormed words) where
     all_next done [] is = tt
     all_next done (t ∷ rest) is =
         by_term (all_next (done ++ t ∷ []) rest (is ∙ sym (append_assoc done (t ∷ []) rest))) (next_value done rest t is) (term_at words t) (world_append done t) where
-      by_term : AreNext words atoms (world_of words ns (done ++ t ∷ [])) (world_of words ns rest)
-          → IsTaken words atoms (world_of words ns done) (value_of ns t) ⊎ IsLeast words atoms (world_of words ns done) (value_of ns t)
-          → (x : Term) → world_of words ns (done ++ t ∷ []) ≡ world_of words ns done ++ with_pair x (value_of ns t) []
-          → AreNext words atoms (world_of words ns done) (with_pair x (value_of ns t) (world_of words ns rest))
-      by_term more next (term.Null n) e = (next, subst (λ w. AreNext words atoms w (world_of words ns rest)) e more)
-      by_term more next (term.Column k) e = subst (λ w. AreNext words atoms w (world_of words ns rest)) (e ∙ append-nil _) more
-      by_term more next (term.Value x) e = subst (λ w. AreNext words atoms w (world_of words ns rest)) (e ∙ append-nil _) more
+          by_term : AreNext words atoms (world_of words ns (done ++ t ∷ [])) (world_of words ns rest)
+              → IsTaken words atoms (world_of words ns done) (value_of ns t) ⊎ IsLeast words atoms (world_of words ns done) (value_of ns t)
+              → (x : Term) → world_of words ns (done ++ t ∷ []) ≡ world_of words ns done ++ with_pair x (value_of ns t) []
+              → AreNext words atoms (world_of words ns done) (with_pair x (value_of ns t) (world_of words ns rest))
+          by_term more next (term.Null n) e = (next, subst (λ w. AreNext words atoms w (world_of words ns rest)) e more)
+          by_term more next (term.Column k) e = subst (λ w. AreNext words atoms w (world_of words ns rest)) (e ∙ append-nil _) more
+          by_term more next (term.Value x) e = subst (λ w. AreNext words atoms w (world_of words ns rest)) (e ∙ append-nil _) more
 
     nulls_there : (us : List ℕ) → map (λ p. p.0) (world_of words ns us) ≡ nulls_of words us
     nulls_there [] = refl

@@ -33,6 +33,14 @@ is_plain_atom words (atom.Same s t) = (is_plain_term words s && is_plain_term wo
 unfoldable pub are_plain : List ℕ → List Atom → Bool
 are_plain words atoms = list_all (is_plain_atom words) atoms
 
+abbrev pub is_ordered : Atom → Bool
+is_ordered (atom.Node p) = true
+is_ordered (atom.Same s t) = nat_lt s t
+
+-- whether each equality has the smaller place first
+unfoldable pub are_ordered : List Atom → Bool
+are_ordered atoms = list_all is_ordered atoms
+
 -- an atom has this truth
 pub record Gives (atoms : List Atom) (truth : List Bool) (b : Bool) (a : Atom) : Type 0 where
   pub place : ℕ

@@ -1,8 +1,8 @@
 // Paths along true equalities, by breadth-first search.
 
-ghost use Rattle.std.specs.Prelude.{◌≡◌, ◌<◌, ℕ, List, true, length, slice_index, OnOk, IfOk};
+ghost use Rattle.std.specs.Prelude.{◌≡◌, ◌<◌, true, length, slice_index, OnOk, IfOk};
 ghost use Rattle.ct_equality.specs.Terms.{is_among};
-ghost use Rattle.ct_equality.specs.Assigned.{IsLink, IsWalk, Joined, are_plain};
+ghost use Rattle.ct_equality.specs.Assigned.{IsLink, IsWalk, Joined, are_ordered};
 ghost use Rattle.ct_equality.specs.Trees.{Extends, IsExplored, IsTree, LeadsInto, beyond};
 
 use ct_derivation::Atom;
@@ -85,7 +85,7 @@ fn reach(
 /// Adds the terms that are joined with the one at a place of the tree.
 fn grow(atoms: &[Atom], truth: &[bool], tree: &mut Tree, at: usize) -> Result<(), AllocError>
     requires truths { length atoms.now ≡ length truth.now }
-    requires plain { (words : List ℕ) × (are_plain words atoms.now ≡ true) }
+    requires ordered { are_ordered atoms.now ≡ true }
     requires tree { IsTree atoms.now truth.now tree.old.places.items tree.old.origins.items }
     requires at { at < length tree.old.places.items }
     ensures tree { OnOk result (IsTree atoms.now truth.now tree.new.places.items tree.new.origins.items) }
@@ -104,7 +104,7 @@ fn grow(atoms: &[Atom], truth: &[bool], tree: &mut Tree, at: usize) -> Result<()
 /// All terms of the class of a term, and how it is reached from each.
 fn explore(alloc: Global, atoms: &[Atom], truth: &[bool], root: u32) -> Result<Tree, AllocError>
     requires truths { length atoms.now ≡ length truth.now }
-    requires plain { (words : List ℕ) × (are_plain words atoms.now ≡ true) }
+    requires ordered { are_ordered atoms.now ≡ true }
     ensures tree { IfOk result (λ t. IsTree atoms.now truth.now t.places.items t.origins.items) }
     ensures root { IfOk result (λ t. slice_index t.places.items 0 ≡ root) }
     ensures explored { IfOk result (λ t. IsExplored atoms.now truth.now (length t.places.items) t.places.items) }
@@ -130,7 +130,7 @@ pub fn path(
     t: u32,
 ) -> Result<List<u32>, Memory>
     requires truths { length atoms.now ≡ length truth.now }
-    requires plain { (words : List ℕ) × (are_plain words atoms.now ≡ true) }
+    requires ordered { are_ordered atoms.now ≡ true }
     requires joined { Joined atoms.now truth.now s t }
     ensures { IfOk result (λ p. IsWalk atoms.now truth.now s t p) }
 {

@@ -8,6 +8,7 @@ use Rattle.ct_equality.specs.Members.{member_at}
 use Rattle.ct_equality.specs.Classes.{AreListed, AreClasses, AreJoined}
 use Rattle.ct_equality.specs.Valued.{AreNumbered, HaveValues, IsWorldOf, world_of}
 use Rattle.ct_equality.proofs.Listed.{terms_ascend, all_listed, alone, alone_listed}
+use Rattle.ct_equality.proofs.Steps.{plain_ordered}
 use Rattle.ct_equality.proofs.Worlds.{start_numbered, have_values, is_world}
 use Rattle.ct_equality.proofs.FalsePaths.{false_path, few_terms, term_places}
 use Rattle.ct_equality.proofs.closing.settle.Goals as goal
@@ -18,6 +19,9 @@ clash-requires-clause-listed c = subst (AreListed c.args.atoms.now) (sym c.requi
 pub clash-requires-clause-classes : goal.clash-requires-clause-classes
 clash-requires-clause-classes c =
     subst (AreClasses c.args.words.now c.args.atoms.now c.args.truth.now) (sym c.requires.members) (alone c.args.words.now c.args.atoms.now c.args.truth.now (terms_of c.args.atoms.now))
+
+pub path-requires-clause-ordered : goal.path-requires-clause-ordered
+path-requires-clause-ordered c = plain_ordered c.args.words.now c.args.atoms.now c.requires.plain
 
 pub returns-in-Some : goal.returns-in-Some
 returns-in-Some c =

@@ -15,7 +15,7 @@ reach-requires-clause-link c =
     let old = c.args.tree.now.places.items in
     let place = c.index-place.result.now in
     subst (IsLink atoms truth c.in-Some.next) (sym (at_more old c.loop-k.tree.places.items c.args.at c.loop-k.invariant.extends c.requires.at ∙ sym (get_or_read old c.args.at place c.requires.at c.index-place.ensures 0)))
-    (beyond_link atoms truth c.requires.plain.0 c.requires.plain.1 c.loop-k.k _ _ place c.in-Some.next (slice_get-get_or atoms c.loop-k.k _ c.loop-k-test.true)
+    (beyond_link atoms truth c.requires.ordered c.loop-k.k _ _ place c.in-Some.next (slice_get-get_or atoms c.loop-k.k _ c.loop-k-test.true)
     (slice_get-get_or truth c.loop-k.k _ (omega (arith, c.requires.truths))) (sym c.beyond.ensures ∙ c.in-Some.is))
 
 pub loop-k-preserved : goal.loop-k-preserved
@@ -25,8 +25,9 @@ loop-k-preserved c =
     let start = c.args.tree.now.places.items in
     let place = c.index-place.result.now in
     let old = c.loop-k.tree in
+    let within : c.loop-k.k < length truth = omega (arith, c.requires.truths) in
     let a_at = slice_get-get_or atoms c.loop-k.k _ c.loop-k-test.true in
-    let b_at = slice_get-get_or truth c.loop-k.k _ (omega (arith, c.requires.truths)) in
+    let b_at = slice_get-get_or truth c.loop-k.k _ within in
     elim c.match-beyond.branch [
       | in-Some+in_ok-reach w ↦
           subst (λ (t : Tree). IsGrowing atoms truth (c.loop-k.k + 1) place start t.places.items t.origins.items) (sym w.tree-is)
