@@ -1,4 +1,4 @@
-use Rattle.std.proofs.Common.{◌+◌, ◌∙◌, sym, subst, arith}
+use Rattle.std.proofs.Common.{◌+◌, ◌<◌, length, ◌∙◌, sym, subst, arith}
 use Rattle.std.proofs.lemmas.List.{get_or_read}
 use Rattle.std.proofs.lemmas.Option.{slice_get-get_or}
 use Rattle.ct_equality.specs.Assigned.{IsLink}
