@@ -1,5 +1,5 @@
 -- What changes when a class goes over into another, and when a term gets a number.
-use Rattle.std.proofs.Common.{◌≡◌, ℕ, Bool, true, false, ◌||◌, List, [], ◌∷◌, Option, Some, None, nat_eq, refl, ap, sym, ◌∙◌, if◌then◌else◌, inl, inr, ◌⊎◌}
+use Rattle.std.proofs.Common.{◌≡◌, ℕ, true, false, ◌||◌, List, [], ◌∷◌, Some, nat_eq, refl, ap, sym, ◌∙◌, if◌then◌else◌, inl, inr, ◌⊎◌}
 use Rattle.std.proofs.lemmas.Bool.{eqb-true, eq-eqb, false≢true, cases_Bool, both_ways, or_cases, or_left, or_right}
 use Rattle.ct_equality.specs.declared.classes.Member.{Member}
 use Rattle.ct_equality.specs.Members.{is_listed, class_of, number_of, same_number, is_taken, moved, merged, numbered}

@@ -186,3 +186,9 @@ module _ (words : List ℕ) (atoms : List Atom) (truth : List Bool) (ms : List M
         joined = joined_on atoms truth (are.joined s) (subst (λ c. Joined atoms truth c t) (sym found.one_class) (joined_back atoms truth (are.joined t)));
         apart = inr (subst (Gives atoms truth false) (sym (pair_below s t pair.below)) found.given);
       }
+
+-- for callers: atoms are plain where each is
+pub plain_from : (words : List ℕ) (atoms : List Atom) → ((k : ℕ) (a : Atom) → slice_get atoms k ≡ Some a → is_plain_atom words a ≡ true) → are_plain words atoms ≡ true
+unfolding are_plain
+plain_from words [] each = refl
+plain_from words (a ∷ atoms) each = and_from (is_plain_atom words a) _ (each 0 a refl) (plain_from words atoms (λ k b e. each (suc k) b e))
