@@ -2,7 +2,7 @@
 use Rattle.std.proofs.Common.{◌≡◌, ◌≢◌, ◌<◌, ◌≤◌, ◌^◌, ◌+◌, ℕ, zero, suc, true, false, List, [], ◌∷◌, ◌++◌, length, Option, Some, None, nat_eq, refl, ap, sym, ◌∙◌, inl, inr, ◌⊎◌, arith}
 use Rattle.std.specs.List.{IsDistinct}
 use Rattle.std.specs.Cmp.{nat_eq_equiv}
-use Rattle.std.proofs.lemmas.Bool.{eqb-true, eq-eqb, false≢true, cases_Bool, both_ways, or_cases, or_left, or_right}
+use Rattle.std.proofs.lemmas.Bool.{eqb-true, eq-eqb, false≢true, cases_Bool, cases_eq, both_ways, or_cases, or_left, or_right}
 use Rattle.std.proofs.lemmas.List.{length-map, length-append}
 use Rattle.std.proofs.lemmas.Map.Keys.{IsDistinct-push}
 use Rattle.std.proofs.lemmas.Map.Made.{length-le_from_is_member}
@@ -10,7 +10,7 @@ use Rattle.ct_derivation.specs.Path.{is_constant}
 use Rattle.ct_equality.specs.declared.classes.Member.{Member}
 use Rattle.ct_equality.specs.Terms.{is_among}
 use Rattle.ct_equality.specs.Members.{is_listed, class_of, number_of, same_number, is_taken, with_number, numbered}
-use Rattle.ct_equality.specs.Valued.{AreNumbered}
+use Rattle.ct_equality.specs.Valued.{AreNumbered, AreNumberedTo}
 use Rattle.ct_equality.proofs.Members.{listed_numbered, class_numbered, number_numbered, number_new, taken_numbered, taken_by}
 use Rattle.ct_equality.proofs.Trees.{among_append}
 
@@ -29,23 +29,6 @@ module _ (words : List ℕ) (first ms : List Member) (done : List ℕ) (are : Ar
 
   done_last : is_among (done ++ p ∷ []) p ≡ true
   done_last = among_append done (p ∷ []) p ∙ or_right (is_among done p) _ (or_left (nat_eq p p) false (eq-eqb p p refl))
-
-  pub not_numbered : (class_of ms p ≡ p → is_constant words p ≡ false → ⊥) → AreNumbered words first ms (done ++ p ∷ [])
-  not_numbered never = record {
-    count = are.count;
-    listed = are.listed;
-    classes = are.classes;
-    once = are.once;
-    short = are.short;
-    constants = are.constants;
-    given = λ q j e n. let g = are.given q j e n in (done_more q g.0, g.1);
-    found = are.found;
-    least = are.least;
-    chiefs = λ q e c n. elim (among_more q e) [
-      | inl a ↦ are.chiefs q a c n
-      | inr s ↦ absurd (never (ap (class_of ms) (sym s) ∙ c ∙ s) (ap (is_constant words) (sym s) ∙ n))
-    ];
-  }
 
   module _ (k : ℕ) (free : is_taken ms k ≡ false) (short : k < 2 ^ 28) (there : is_listed ms p ≡ true) (no_constant : is_constant words p ≡ false)
       (own : class_of ms p ≡ p) (above : (q : ℕ) → is_among done q ≡ true → q < p) (taken : (j : ℕ) → j < k → is_taken ms j ≡ true) where
@@ -133,6 +116,16 @@ module _ (words : List ℕ) (first ms : List Member) (done : List ℕ) (are : Ar
         ]
       ];
     }
+
+    -- it is taken now, and each below it still is
+    taken_more : (j : ℕ) → j < k + 1 → is_taken new j ≡ true
+    taken_more j lt = elim (cases_eq j k) [
+      | inl same ↦ taken_by new p j (number_new p k ms there ∙ ap Some (sym same))
+      | inr other ↦ let f = are.found j (taken j (omega (arith, lt, other))) in taken_by new f.0 j (kept_number f.0 j f.1)
+    ]
+
+    pub numbered_to : AreNumberedTo words first new (done ++ p ∷ []) (k + 1)
+    numbered_to = record { numbers = numbered_more; below = taken_more }
 
 -- the numbers below n
 upto : ℕ → List ℕ

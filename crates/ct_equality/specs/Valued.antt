@@ -132,3 +132,8 @@ pub record HasValue (words : List ℕ) (ms : List Member) (c : ℕ) : Type 0 whe
 -- the classes of these terms have values
 abbrev pub HaveValues : List ℕ → List Member → List ℕ → Type 0
 HaveValues words ms ts = (p : ℕ) → is_among ts p ≡ true → HasValue words ms (class_of ms p)
+
+-- the same, and each number below `next` is taken
+pub record AreNumberedTo (words : List ℕ) (old new : List Member) (done : List ℕ) (next : ℕ) : Type 0 where
+  pub numbers : AreNumbered words old new done
+  pub below : (k : ℕ) → k < next → is_taken new k ≡ true

@@ -8,7 +8,7 @@ ghost use Rattle.ct_word.specs.Reading.{term_at};
 ghost use Rattle.ct_equality.specs.declared.classes.Member.{Member};
 ghost use Rattle.ct_equality.specs.Terms.{AreAscending, is_among};
 ghost use Rattle.ct_equality.specs.Members as listed;
-ghost use Rattle.ct_equality.specs.Valued.{AreNumbered, HasValue, HaveValues, class_value, with_pair, world_of};
+ghost use Rattle.ct_equality.specs.Valued.{AreNumbered, AreNumberedTo, HasValue, HaveValues, class_value, with_pair, world_of};
 
 use crate::classes::{Member, class_of, number_of};
 use crate::places::is_constant;
@@ -36,14 +36,15 @@ fn is_taken(members: &[Member], number: u32) -> bool
     false
 }
 
-/// The least number that no term has.
-fn least_number(members: &[Member]) -> u32
-    requires { length members.now < 2 ^ 28 }
+/// The least number that no term has. Each below `from` is one that a term has.
+fn least_number(members: &[Member], from: u32) -> u32
+    requires few { length members.now < 2 ^ 28 }
+    requires below { (k : ℕ) → k < from → listed.is_taken members.now k ≡ true }
     ensures free { listed.is_taken members.now result ≡ false }
     ensures least { (k : ℕ) → k < result → listed.is_taken members.now k ≡ true }
     ensures short { result ≤ length members.now }
 {
-    let mut number = 0;
+    let mut number = from;
     while is_taken(members, number) {
         number += 1;
     }
@@ -73,20 +74,23 @@ fn give(members: &mut [Member], place: u32, number: u32)
     }
 }
 
-/// Gives a term the next number if a class without a constant goes by it.
-fn number_class(words: &[u64], members: &mut [Member], place: u32)
+/// Gives a term a number, `next` or a greater one, if a class without a constant goes by it.
+/// Answers a number such that each below it is one that a term has.
+fn number_class(words: &[u64], members: &mut [Member], place: u32, next: u32) -> u32
     requires few { length members.old < 2 ^ 28 }
     requires there { listed.is_listed members.old place ≡ true }
-    ensures { (first : List Member) (done : List ℕ) → AreNumbered words.now first members.old done → ((p : ℕ) → is_among done p ≡ true → p < place) → AreNumbered words.now first members.new (done ++ place ∷ []) }
+    requires below { (k : ℕ) → k < next → listed.is_taken members.old k ≡ true }
+    ensures { (first : List Member) (done : List ℕ) → AreNumbered words.now first members.old done → ((p : ℕ) → is_among done p ≡ true → p < place) → AreNumberedTo words.now first members.new (done ++ place ∷ []) result }
 {
     if is_constant(words, place) {
-        return;
+        return next;
     }
     if class_of(members, place) != place {
-        return;
+        return next;
     }
-    let number = least_number(members);
+    let number = least_number(members, next);
     give(members, place, number);
+    number + 1
 }
 
 /// Gives each class without a constant the least number that no class before it has and that is
@@ -98,8 +102,9 @@ pub fn number_classes(words: &[u64], terms: &[u32], members: &mut [Member])
     requires constants { AreNumbered words.now members.old members.old [] }
     ensures { AreNumbered words.now members.old members.new terms.now }
 {
+    let mut next = 0;
     for place in terms {
-        number_class(words, members, *place);
+        next = number_class(words, members, *place, next);
     }
 }
 
