@@ -1,18 +1,18 @@
 -- A walk between two terms that have to differ is a path whose clause is false.
-use Rattle.std.proofs.Common.{◌≡◌, ◌≢◌, ◌≤◌, ℕ, Bool, true, false, not, ◌&&◌, List, [], ◌∷◌, ◌++◌, length, Some, None, nat_eq, nat_lt, refl, ap, sym, ◌∙◌, subst, if◌then◌else◌, inl, inr, arith}
+use Rattle.std.proofs.Common.{◌≡◌, ◌≢◌, ◌≤◌, ℕ, Bool, true, false, not, ◌&&◌, List, [], ◌∷◌, ◌++◌, length, Some, None, nat_eq, nat_lt, refl, ap, sym, ◌∙◌, subst, if◌then◌else◌, inl, inr, ◌⊎◌, arith}
 use Rattle.std.specs.Prelude.{slice_get}
 use Rattle.std.specs.List.{list_all}
 use Rattle.std.proofs.lemmas.Bool.{eqb-true, eq-eqb, cases_Bool, both_ways, and_from, or_left, or_right}
 use Rattle.std.proofs.lemmas.Map.Steps.{length-le_from_distinct_below}
 use Rattle.ct_word.specs.declared.kinds.Class.TheVariants as class
 use Rattle.ct_word.specs.WellFormed.{is_place_of}
-use Rattle.ct_word.proofs.Splits.{place_within}
+use Rattle.ct_word.proofs.Splits.{place_within, some-injective}
 use Rattle.ct_derivation.specs.declared.literals.Atom.{Atom}
 use Rattle.ct_derivation.specs.declared.literals.Atom.TheVariants as atom
-use Rattle.ct_derivation.specs.Literal.{Clause}
-use Rattle.ct_derivation.specs.Path.{end_of, no_links, moves, ends_clause, is_path, path_clause, is_constant}
+use Rattle.ct_derivation.specs.Literal.{Clause, yes_of}
+use Rattle.ct_derivation.specs.Path.{pair_of, end_of, no_links, moves, ends_clause, is_path, path_clause, is_constant}
 use Rattle.ct_equality.specs.Terms.{terms_of, is_among}
-use Rattle.ct_equality.specs.Assigned.{IsLink, AreLinks, IsWalk, IsFalse, IsFalsePath, IsClash, are_plain}
+use Rattle.ct_equality.specs.Assigned.{Gives, IsLink, AreLinks, IsWalk, IsFalse, IsFalsePath, IsClash, are_plain}
 use Rattle.ct_equality.proofs.Steps.{plain_at, plain_place}
 use Rattle.ct_equality.proofs.Listed.{among_terms, terms_distinct, plain_end}
 
@@ -94,3 +94,51 @@ module _ (words : List ℕ) (atoms : List Atom) (truth : List Bool) (plain : are
 
   pub term_places : list_all (is_place_of words class.Term) (terms_of atoms) ≡ true
   term_places = all_places (terms_of atoms) (λ p e. plain_place words p (plain_end words atoms p plain (sym (among_terms atoms p) ∙ e)))
+
+-- for callers: what a path with a false clause has
+pub record FalseLinks (words : List ℕ) (atoms : List Atom) (truth : List Bool) (path : List ℕ) : Type 0 where
+  pub first : ℕ
+  pub rest : List ℕ
+  pub is : path ≡ first ∷ rest
+  pub is_path : is_path words first rest ≡ true
+  pub links : AreLinks atoms truth first rest
+  pub ends : (is_constant words first && is_constant words (end_of first rest) ≡ true) ⊎ Gives atoms truth false (pair_of first (end_of first rest))
+
+front_false : (atoms : List Atom) (truth : List Bool) (ls ms : Clause) → IsFalse atoms truth (ls ++ ms) → IsFalse atoms truth ls
+front_false atoms truth [] ms a = tt
+front_false atoms truth (l ∷ ls) ms a = (a.0, front_false atoms truth ls ms a.1)
+
+back_false : (atoms : List Atom) (truth : List Bool) (ls ms : Clause) → IsFalse atoms truth (ls ++ ms) → IsFalse atoms truth ms
+back_false atoms truth [] ms a = a
+back_false atoms truth (l ∷ ls) ms a = back_false atoms truth ls ms a.1
+
+false_links_are : (atoms : List Atom) (truth : List Bool) (s : ℕ) (us : List ℕ) → IsFalse atoms truth (no_links s us) → AreLinks atoms truth s us
+false_links_are atoms truth s [] f = tt
+false_links_are atoms truth s (u ∷ us) f = (f.0, false_links_are atoms truth u us f.1)
+
+ends_apart : (words : List ℕ) (atoms : List Atom) (truth : List Bool) (s t : ℕ) → IsFalse atoms truth (ends_clause words s t) → (is_constant words s && is_constant words t ≡ true) ⊎ Gives atoms truth false (pair_of s t)
+unfolding ends_clause
+ends_apart words atoms truth s t f = elim (cases_Bool (is_constant words s && is_constant words t)) [
+  | inl c ↦ inl c
+  | inr n ↦ let g : IsFalse atoms truth (yes_of (pair_of s t) ∷ []) = rw n at f in inr g.0
+]
+
+pub false_links : (words : List ℕ) (atoms : List Atom) (truth : List Bool) (path : List ℕ) → IsFalsePath words atoms truth path → FalseLinks words atoms truth path
+false_links words atoms truth [] f = let e = f.clause_is in cc
+false_links words atoms truth (s ∷ us) f = elim (cases_Bool (is_path words s us)) [
+  | inl p ↦
+      let whole = no_links s us ++ ends_clause words s (end_of s us) in
+      let is : whole ≡ f.clause = some-injective whole f.clause (sym (ap (λ b. if b then Some whole else None) p) ∙ f.clause_is) in
+      let all : IsFalse atoms truth whole = subst (IsFalse atoms truth) (sym is) f.is_false in
+      record {
+        first = s;
+        rest = us;
+        is = refl;
+        is_path = p;
+        links = false_links_are atoms truth s us (front_false atoms truth (no_links s us) (ends_clause words s (end_of s us)) all);
+        ends = ends_apart words atoms truth s (end_of s us) (back_false atoms truth (no_links s us) (ends_clause words s (end_of s us)) all);
+      }
+  | inr n ↦
+      let e : None ≡ Some f.clause = sym (ap (λ b. if b then Some (no_links s us ++ ends_clause words s (end_of s us)) else None) n) ∙ f.clause_is in
+      cc
+]

@@ -50,7 +50,8 @@ fn settle(
 }
 
 /// A valuation under which each equality among the atoms has its truth, or a path of terms whose
-/// clause the truths make false.
+/// clause the truths make false. Each atom has the truth at its position; those of conditions are
+/// not looked at. The equalities are of constants and nulls, the smaller place first.
 ///
 /// Terms that true equalities join are a congruence class. A class with a constant has its value.
 /// The others, in the order of their least nulls, have `@k` with the least k that no class before
