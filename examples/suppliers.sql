@@ -22,9 +22,9 @@ insert into supply values (?other, 103, ?count);
 select * from supply;
 -- What did Smith send? The nuts. Both boxes of the van, if he is their sender. The last box, if he sent that.
 select * from supply where supplier = 1;
--- Who sent screws? No condition is needed: the part is known wherever it is not the supplier that is asked for.
+-- Who sent screws? The part of every box is known, so no row has a condition.
 select * from supply where part = 103;
--- What came from the sender of the van, whoever that is? Both boxes for certain, and the rest if it is the same supplier.
+-- What did the sender of the van send, whoever that is? Both boxes, and each other row if its supplier is the same.
 select * from supply where supplier = ?sender;
 -- Who is in Paris? Jones, and Blake if that is where he moved.
 select * from supplier where city = 20;

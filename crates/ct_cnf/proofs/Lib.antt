@@ -1,0 +1,12 @@
+pub mod Atoms
+pub mod Counting
+pub mod Items
+pub mod Justified
+pub mod Longer
+pub mod Made
+pub mod Numbered
+pub mod Origins
+pub mod Pairs
+pub mod Pushes
+pub mod Shapes
+pub mod Walks

@@ -1,0 +1,20 @@
+use Rattle.std.proofs.Common.{[], ◌∷◌, ◌∙◌, w32, rules}
+use Rattle.std.proofs.lemmas.Int.{to_z-of_z}
+use Rattle.std.proofs.lemmas.Result.{on_ok_weaker}
+use Rattle.ct_derivation.specs.declared.steps.Why.TheVariants as why
+use Rattle.ct_cnf.specs.Lists.{entry, equal_entries}
+use Rattle.ct_cnf.proofs.Pushes.{then_two}
+use Rattle.ct_cnf.proofs.definitions.add_equal.Goals as goal
+
+pub returns : goal.returns
+unfolding equal_entries
+returns c =
+    let no_is = to_z-of_z w32 c.no.result (search rules) ∙ c.no.ensures in
+    let no_2_is = to_z-of_z w32 c.no-2.result (search rules) ∙ c.no-2.ensures in
+    let yes_is = to_z-of_z w32 c.yes.result (search rules) ∙ c.yes.ensures in
+    let yes_2_is = to_z-of_z w32 c.yes-2.result (search rules) ∙ c.yes-2.ensures in
+    on_ok_weaker c.add-2.result
+    (λ e. then_two c.args.entries.now.items c.add.new.entries.items c.add-2.new.entries.items _ _ _ _ c.in_ok-add.ensures e
+    (λ i. entry (no_is i ∷ yes_is i ∷ []) (why.Def c.args.p 0))
+    (λ i. entry (yes_2_is i ∷ no_2_is i ∷ []) (why.Def c.args.p 1)))
+    c.add-2.ensures

@@ -1,0 +1,4 @@
+pub mod Encoding
+pub mod Lists
+pub mod Marks
+pub mod Making

@@ -1,0 +1,197 @@
+-- The terms of a question, and each alone in its class.
+use Rattle.std.proofs.Common.{◌≡◌, ◌≢◌, ◌<◌, ℕ, zero, suc, Bool, true, false, ◌||◌, List, [], ◌∷◌, ◌++◌, length, take, get_or, Option, Some, None, nat_eq, nat_lt, refl, ap, sym, ◌∙◌, subst, if◌then◌else◌, inl, inr, arith}
+use Rattle.std.specs.List.{list_all, IsDistinct, AllByRecursion}
+use Rattle.std.proofs.lemmas.Bool.{eqb-true, eq-eqb, ltb-true, ltb-false, false≢true, cases_Bool, both_ways, and_parts, or_cases, or_left, or_right, or_parts}
+use Rattle.ct_derivation.specs.declared.literals.Atom.{Atom}
+use Rattle.ct_derivation.specs.declared.literals.Atom.TheVariants as atom
+use Rattle.ct_equality.specs.Terms.{AreAscending, inserted, terms_from, terms_of, is_among, is_end_of}
+use Rattle.ct_equality.specs.Members.{is_listed, class_of, number_of, number_at, same_number, is_taken, members_at}
+use Rattle.ct_equality.specs.Assigned.{Joined, here, is_plain_term, is_plain_atom, are_plain}
+use Rattle.ct_equality.proofs.Trees.{among_at}
+use Rattle.ct_equality.specs.Classes.{AreListed, AreClasses}
+
+eq_flip : (a b : ℕ) → nat_eq a b ≡ nat_eq b a
+eq_flip a b = elim (cases_Bool (nat_eq a b)) [
+  | inl t ↦ t ∙ sym (eq-eqb b a (sym (eqb-true a b t)))
+  | inr f ↦ elim (cases_Bool (nat_eq b a)) [ inl t ↦ absurd (both_ways _ f (eq-eqb a b (sym (eqb-true b a t)))) | inr g ↦ f ∙ sym g ]
+]
+
+or_again : (a b : Bool) → (a || (a || b)) ≡ (a || b)
+or_again true b = refl
+or_again false b = refl
+
+or_swap : (a b c : Bool) → (a || (b || c)) ≡ (b || (a || c))
+or_swap true true c = refl
+or_swap true false c = refl
+or_swap false true c = refl
+or_swap false false c = refl
+
+among_inserted : (s : ℕ) (ts : List ℕ) (p : ℕ) → is_among (inserted s ts) p ≡ (nat_eq p s || is_among ts p)
+among_inserted s [] p = refl
+among_inserted s (t ∷ ts) p = elim (cases_Bool (nat_lt s t)) [
+  | inl a ↦ rw a refl
+  | inr a ↦ elim (cases_Bool (nat_eq s t)) [
+    | inl b ↦
+        let same = eqb-true s t b in
+        rw (a, b) (sym (ap (λ x. nat_eq p x || (nat_eq p t || is_among ts p)) same ∙ or_again (nat_eq p t) (is_among ts p)))
+    | inr b ↦ rw (a, b) (ap (λ x. nat_eq p t || x) (among_inserted s ts p) ∙ or_swap (nat_eq p t) (nat_eq p s) (is_among ts p))
+  ]
+]
+
+among_from : (ts : List ℕ) (atoms : List Atom) (p : ℕ) → is_among (terms_from ts atoms) p ≡ (is_among ts p || is_end_of atoms p)
+among_from ts [] p = elim (cases_Bool (is_among ts p)) [ inl t ↦ rw t refl | inr f ↦ rw f refl ]
+among_from ts (atom.Node q ∷ atoms) p = among_from ts atoms p
+among_from ts (atom.Same s t ∷ atoms) p =
+    among_from (inserted t (inserted s ts)) atoms p
+    ∙ ap (λ b. b || is_end_of atoms p) (among_inserted t (inserted s ts) p ∙ ap (λ b. nat_eq p t || b) (among_inserted s ts p))
+    ∙ shuffle (nat_eq p t) (nat_eq p s) (is_among ts p) (is_end_of atoms p) where
+      shuffle : (a b c d : Bool) → ((a || (b || c)) || d) ≡ (c || ((b || a) || d))
+      shuffle true true true d = refl
+      shuffle true true false d = refl
+      shuffle true false true d = refl
+      shuffle true false false d = refl
+      shuffle false true true d = refl
+      shuffle false true false d = refl
+      shuffle false false true d = refl
+      shuffle false false false d = refl
+
+-- the terms are those of the equalities
+pub among_terms : (atoms : List Atom) (p : ℕ) → is_among (terms_of atoms) p ≡ is_end_of atoms p
+among_terms atoms p = among_from [] atoms p
+
+-- ascending, so no place twice
+inserted_ascends : (s : ℕ) (ts : List ℕ) → AreAscending ts → AreAscending (inserted s ts)
+inserted_ascends s [] a = (λ p e. absurd (false≢true e), tt)
+inserted_ascends s (t ∷ ts) a = elim (cases_Bool (nat_lt s t)) [
+  | inl l ↦ rw l (
+    (λ p e. elim (or_cases (nat_eq p t) (is_among ts p) e) [
+      | inl q ↦ let same = eqb-true p t q in let lt = ltb-true s t l in omega (arith, same, lt)
+      | inr q ↦ let far = a.0 p q in let lt = ltb-true s t l in omega (arith, far, lt)
+    ]),
+    a,
+  )
+  | inr n ↦ elim (cases_Bool (nat_eq s t)) [
+    | inl q ↦ rw (n, q) a
+    | inr d ↦
+        let le = ltb-false s t n in
+        let ne : s ≢ t = λ same. both_ways _ d (eq-eqb s t same) in
+        rw (n, d) (
+          (λ p e. elim (or_cases (nat_eq p s) (is_among ts p) (sym (among_inserted s ts p) ∙ e)) [
+            | inl q ↦ let same = eqb-true p s q in omega (arith, same, le, ne)
+            | inr q ↦ a.0 p q
+          ]),
+          inserted_ascends s ts a.1,
+        )
+  ]
+]
+
+from_ascends : (ts : List ℕ) (atoms : List Atom) → AreAscending ts → AreAscending (terms_from ts atoms)
+from_ascends ts [] a = a
+from_ascends ts (atom.Node q ∷ atoms) a = from_ascends ts atoms a
+from_ascends ts (atom.Same s t ∷ atoms) a = from_ascends (inserted t (inserted s ts)) atoms (inserted_ascends t (inserted s ts) (inserted_ascends s ts a))
+
+none_among : (t : ℕ) (ts : List ℕ) → is_among ts t ≡ false → AllByRecursion (λ y. nat_eq t y ≡ false) ts
+none_among t [] e = tt
+none_among t (y ∷ ts) e = let parts = or_parts (nat_eq t y) (is_among ts t) e in (parts.0, none_among t ts parts.1)
+
+ascends_distinct : (ts : List ℕ) → AreAscending ts → IsDistinct nat_eq ts
+unfolding IsDistinct
+ascends_distinct [] a = tt
+ascends_distinct (t ∷ ts) a = (
+  none_among t ts (elim (cases_Bool (is_among ts t)) [
+    | inl q ↦ let l = a.0 t q in absurd (omega (arith, l))
+    | inr n ↦ n
+  ]),
+  ascends_distinct ts a.1,
+)
+
+pub terms_ascend : (atoms : List Atom) → AreAscending (terms_of atoms)
+terms_ascend atoms = from_ascends [] atoms tt
+
+-- the first i of ascending places are below the next
+pub first_below : (ts : List ℕ) (i : ℕ) → AreAscending ts → i < length ts → (q : ℕ) → is_among (take i ts) q ≡ true → q < get_or ts i 0
+first_below [] i a lt q e = absurd (omega arith)
+first_below (t ∷ ts) zero a lt q e = absurd (false≢true e)
+first_below (t ∷ ts) (suc i) a lt q e = elim (or_cases (nat_eq q t) (is_among (take i ts) q) e) [
+  | inl s ↦ let same = eqb-true q t s in let l = a.0 (get_or ts i 0) (among_at ts i (omega (arith, lt))) in omega (arith, same, l)
+  | inr r ↦ first_below ts i a.1 (omega (arith, lt)) q r
+]
+
+-- of ascending places those below one stand before it
+pub stands_before : (done rest : List ℕ) (t q : ℕ) → AreAscending (done ++ t ∷ rest) → is_among (done ++ t ∷ rest) q ≡ true → q < t → is_among done q ≡ true
+stands_before [] rest t q a e lt = elim (or_cases (nat_eq q t) (is_among rest q) e) [
+  | inl s ↦ let same = eqb-true q t s in absurd (omega (arith, same, lt))
+  | inr r ↦ let l = a.0 q r in absurd (omega (arith, l, lt))
+]
+stands_before (d ∷ done) rest t q a e lt = elim (or_cases (nat_eq q d) (is_among (done ++ t ∷ rest) q) e) [
+  | inl s ↦ or_left (nat_eq q d) _ s
+  | inr r ↦ or_right (nat_eq q d) _ (stands_before done rest t q a.1 r lt)
+]
+
+pub terms_distinct : (atoms : List Atom) → IsDistinct nat_eq (terms_of atoms)
+terms_distinct atoms = ascends_distinct (terms_of atoms) (terms_ascend atoms)
+
+-- what holds of both ends of each equality holds of each term
+pub plain_ends : (words : List ℕ) (atoms : List Atom) (p : ℕ) → list_all (is_plain_atom words) atoms ≡ true → is_end_of atoms p ≡ true → is_plain_term words p ≡ true
+plain_ends words [] p all e = absurd (false≢true e)
+plain_ends words (atom.Node q ∷ atoms) p all e = plain_ends words atoms p all e
+plain_ends words (atom.Same s t ∷ atoms) p all e =
+    let parts = and_parts (is_plain_atom words (atom.Same s t)) (list_all (is_plain_atom words) atoms) all in
+    let both = and_parts (is_plain_term words s) (is_plain_term words t) (and_parts _ (nat_lt s t) parts.0).0 in
+    elim (or_cases (nat_eq p s || nat_eq p t) (is_end_of atoms p) e) [
+      | inl h ↦ elim (or_cases (nat_eq p s) (nat_eq p t) h) [
+        | inl a ↦ ap (is_plain_term words) (eqb-true p s a) ∙ both.0
+        | inr b ↦ ap (is_plain_term words) (eqb-true p t b) ∙ both.1
+      ]
+      | inr r ↦ plain_ends words atoms p parts.1 r
+    ]
+
+pub plain_end : (words : List ℕ) (atoms : List Atom) (p : ℕ) → are_plain words atoms ≡ true → is_end_of atoms p ≡ true → is_plain_term words p ≡ true
+unfolding are_plain
+plain_end words atoms p plain e = plain_ends words atoms p plain e
+
+same_number_is : (o : Option ℕ) (k : ℕ) → same_number o k ≡ true → o ≡ Some k
+same_number_is None k e = absurd (false≢true e)
+same_number_is (Some j) k e = ap Some (eqb-true j k e)
+
+-- each term alone in its class
+pub alone_listed : (words ts : List ℕ) (p : ℕ) → is_listed (members_at words ts) p ≡ is_among ts p
+alone_listed words [] p = refl
+alone_listed words (t ∷ ts) p = elim (cases_Bool (nat_eq t p)) [
+  | inl a ↦ let b = sym (eq_flip t p) ∙ a in rw (a, b) refl
+  | inr a ↦ let b = sym (eq_flip t p) ∙ a in rw (a, b) (alone_listed words ts p)
+]
+
+pub alone_class : (words ts : List ℕ) (p : ℕ) → class_of (members_at words ts) p ≡ p
+alone_class words [] p = refl
+alone_class words (t ∷ ts) p = elim (cases_Bool (nat_eq t p)) [
+  | inl a ↦ rw a (eqb-true t p a)
+  | inr a ↦ rw a (alone_class words ts p)
+]
+
+pub alone_number : (words ts : List ℕ) (p : ℕ) → number_of (members_at words ts) p ≡ (if is_among ts p then number_at words p else None)
+alone_number words [] p = refl
+alone_number words (t ∷ ts) p = elim (cases_Bool (nat_eq t p)) [
+  | inl a ↦ let b = sym (eq_flip t p) ∙ a in rw (a, b) (ap (number_at words) (eqb-true t p a))
+  | inr a ↦ let b = sym (eq_flip t p) ∙ a in rw (a, b) (alone_number words ts p)
+]
+
+-- a number that is taken is that of one of the terms
+pub alone_taken : (words ts : List ℕ) (k : ℕ) → is_taken (members_at words ts) k ≡ true → (p : ℕ) × (is_among ts p ≡ true) × (number_at words p ≡ Some k)
+alone_taken words [] k e = absurd (false≢true e)
+alone_taken words (t ∷ ts) k e = elim (or_cases (same_number (number_at words t) k) (is_taken (members_at words ts) k) e) [
+  | inl s ↦ (t, or_left (nat_eq t t) _ (eq-eqb t t refl), same_number_is (number_at words t) k s)
+  | inr r ↦ let f = alone_taken words ts k r in (f.0, or_right (nat_eq f.0 t) _ f.1, f.2)
+]
+
+pub alone : (words : List ℕ) (atoms : List Atom) (truth : List Bool) (ts : List ℕ) → AreClasses words atoms truth (members_at words ts)
+alone words atoms truth ts = record {
+  joined = λ p. subst (Joined atoms truth p) (sym (alone_class words ts p)) here;
+  chief = λ p. ap (class_of (members_at words ts)) (alone_class words ts p);
+  constants = λ p e. alone_class words ts p;
+  within = λ p e. ap (is_listed (members_at words ts)) (alone_class words ts p) ∙ e;
+  least = λ p n. let e = alone_class words ts p in omega (arith, e);
+}
+
+pub all_listed : (words : List ℕ) (atoms : List Atom) → AreListed atoms (members_at words (terms_of atoms))
+all_listed words atoms p e = alone_listed words (terms_of atoms) p ∙ among_terms atoms p ∙ e

@@ -1,0 +1,10 @@
+use Rattle.std.proofs.Common.{◌≡◌, ◌++◌, vec_len}
+use Rattle.std.specs.Prelude.{string_bytes}
+use Rattle.ct_equality.specs.Words.{backwards}
+use Rattle.ct_equality.proofs.reading.spelled.Given as goal
+
+abbrev pub invariant-loop-character : goal.invariant-loop-character
+invariant-loop-character l = backwards l.fn.characters.items ≡ string_bytes l.text ++ backwards l.characters.items
+
+abbrev pub decreases-loop-character : goal.decreases-loop-character
+decreases-loop-character l = vec_len l.characters

@@ -1,0 +1,15 @@
+use Rattle.std.proofs.Common.{sym, ◌∙◌, arith}
+use Rattle.std.proofs.lemmas.Option.{slice_get-get_or}
+use Rattle.ct_equality.proofs.Words.{has_kind, word_is}
+use Rattle.ct_equality.proofs.reading.word_at.Goals as goal
+
+pub unreachable-requires : goal.unreachable-requires
+unreachable-requires c =
+    has_kind c.args.words.now c.args.place _ (slice_get-get_or c.args.words.now c.args.place 0 c.requires.within) c.requires.formed
+    (sym c.kind.ensures ∙ c.in_default.is)
+
+pub returns : goal.returns
+returns c =
+    rw (c.left.ensures.value, c.right.ensures.value)
+    (word_is c.args.words.now c.args.place _ c.in-Some.kind (slice_get-get_or c.args.words.now c.args.place 0 c.requires.within) c.requires.formed
+    (sym c.kind.ensures ∙ c.in-Some.is) (omega arith) (omega arith))
