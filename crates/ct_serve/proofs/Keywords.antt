@@ -25,7 +25,7 @@ starts_with t (lexeme.Word w ∷ ws) = same_text w t
 starts_with t _ = false
 
 -- the first lexeme, or this one
-abbrev first : Lexeme → List Lexeme → Lexeme
+abbrev pub first : Lexeme → List Lexeme → Lexeme
 first w [] = w
 first w (v ∷ vs) = v
 

@@ -4,6 +4,7 @@ pub mod Committing
 pub mod Offering
 pub mod ReadingLists
 pub mod Keywords
+pub mod OneReading
 pub mod Answering
 pub mod Printed
 pub mod Selected

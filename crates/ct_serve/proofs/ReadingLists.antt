@@ -13,7 +13,8 @@ abbrev pub behind : List Lexeme → List Lexeme
 behind [] = []
 behind (w ∷ ws) = ws
 
-abbrev starts_comma : List Lexeme → Bool
+-- whether the first lexeme is a comma
+abbrev pub starts_comma : List Lexeme → Bool
 starts_comma (lexeme.Symbol symbol.Comma ∷ ws) = true
 starts_comma _ = false
 

@@ -250,6 +250,9 @@ fn spelled(alloc: Global, tokens: &[Token]) -> Result<Statement, ReadingError>
 pub fn read(alloc: Global, text: &str) -> Result<Statement, ReadingError>
     ensures ok { IfOk result (λ st. ReadsAs text.now st) }
     ensures none { IfErr result (λ e. e ≢ fault.Memory → IsNoStatement text.now) }
+
+    // It is read as no other.
+    ensures only { IfOk result (λ st. (other : StatementValue) → ReadsAs text.now other → other ≡ st) }
 {
     let tokens = match tokens(alloc, text) {
         Ok(tokens) => tokens,
