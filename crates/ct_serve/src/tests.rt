@@ -117,112 +117,113 @@ fn scripts_to_texts(rt: HostRuntime) -> Result<(), Fail> {
     Ok(())
 }
 
+/// A script, how its run ends, and what it writes.
+const STATEMENTS: [(&str, Status, &str); 20] = [
+    (
+        "create table t (a,b); insert into t values (1,?x); select * from t where b = 2",
+        Status::Done,
+        "session 1\n1 committed 1\n2 committed 2\n3 rows (a, b) at 2\n  (1, ?x) if ?x = 2\nhistory\n1 by 1\n  create table t (a, b)\n2 by 1\n  insert into t (1, ?x)\nend\n",
+    ),
+    (
+        "create table t (a, b); select * from t",
+        Status::Done,
+        "session 1\n1 committed 1\n2 rows (a, b) at 1\nhistory\n1 by 1\n  create table t (a, b)\nend\n",
+    ),
+    (
+        "create table t (a, b); insert into t values (1, 2); SELECT * FROM T WHERE B = 2",
+        Status::Done,
+        "session 1\n1 committed 1\n2 committed 2\n3 rows (a, b) at 2\n  (1, 2)\nhistory\n1 by 1\n  create table t (a, b)\n2 by 1\n  insert into t (1, 2)\nend\n",
+    ),
+    (
+        "create table t (a, b); insert into t values (1, 2); select * from t where b = 3",
+        Status::Done,
+        "session 1\n1 committed 1\n2 committed 2\n3 rows (a, b) at 2\nhistory\n1 by 1\n  create table t (a, b)\n2 by 1\n  insert into t (1, 2)\nend\n",
+    ),
+    (
+        "create table t (a, b); insert into t values (1, 2); select * from t where b = ?y",
+        Status::Done,
+        "session 1\n1 committed 1\n2 committed 2\n3 rows (a, b) at 2\n  (1, 2) if ?y = 2\nhistory\n1 by 1\n  create table t (a, b)\n2 by 1\n  insert into t (1, 2)\nend\n",
+    ),
+    (
+        "create table t (a, b); insert into t values (1, ?x); select * from t where b = ?x",
+        Status::Done,
+        "session 1\n1 committed 1\n2 committed 2\n3 rows (a, b) at 2\n  (1, ?x)\nhistory\n1 by 1\n  create table t (a, b)\n2 by 1\n  insert into t (1, ?x)\nend\n",
+    ),
+    (
+        "create table t (a, b); insert into t values (1, ?x); select * from t where b = ?a",
+        Status::Done,
+        "session 1\n1 committed 1\n2 committed 2\n3 rows (a, b) at 2\n  (1, ?x) if ?a = ?x\nhistory\n1 by 1\n  create table t (a, b)\n2 by 1\n  insert into t (1, ?x)\nend\n",
+    ),
+    (
+        "create table t (a, b); insert into t values (?x, ?x); select * from t where a = -5",
+        Status::Done,
+        "session 1\n1 committed 1\n2 committed 2\n3 rows (a, b) at 2\n  (?x, ?x) if ?x = -5\nhistory\n1 by 1\n  create table t (a, b)\n2 by 1\n  insert into t (?x, ?x)\nend\n",
+    ),
+    (
+        "create table t (a, b); insert into t values (1, 2); insert into t values (1, 2); select * from t",
+        Status::Done,
+        "session 1\n1 committed 1\n2 committed 2\n3 committed 3\n4 rows (a, b) at 3\n  (1, 2)\nhistory\n1 by 1\n  create table t (a, b)\n2 by 1\n  insert into t (1, 2)\n3 by 1\n  insert into t (1, 2)\nend\n",
+    ),
+    (
+        "create table t (a, b); insert into t values (1, ?x); insert into t values (1, ?y); select * from t where b = 2",
+        Status::Done,
+        "session 1\n1 committed 1\n2 committed 2\n3 committed 3\n4 rows (a, b) at 3\n  (1, ?x) if ?x = 2\n  (1, ?y) if ?y = 2\nhistory\n1 by 1\n  create table t (a, b)\n2 by 1\n  insert into t (1, ?x)\n3 by 1\n  insert into t (1, ?y)\nend\n",
+    ),
+    (
+        "create table t (a, b); insert into t values (1, 3); insert into t values (1, ?y); insert into t values (4, 2); select * from t where b = 2",
+        Status::Done,
+        "session 1\n1 committed 1\n2 committed 2\n3 committed 3\n4 committed 4\n5 rows (a, b) at 4\n  (1, ?y) if ?y = 2\n  (4, 2)\nhistory\n1 by 1\n  create table t (a, b)\n2 by 1\n  insert into t (1, 3)\n3 by 1\n  insert into t (1, ?y)\n4 by 1\n  insert into t (4, 2)\nend\n",
+    ),
+    (
+        "create table t (a, b); insert into u values (1, 2)",
+        Status::Refused,
+        "session 1\n1 committed 1\n2 refused NotYet\nhistory\n1 by 1\n  create table t (a, b)\nend\n",
+    ),
+    (
+        "create table t (a, b); insert into t values (1)",
+        Status::Refused,
+        "session 1\n1 committed 1\n2 refused NotYet\nhistory\n1 by 1\n  create table t (a, b)\nend\n",
+    ),
+    (
+        "create table t (a, b); insert into t values (1, 2, 3)",
+        Status::Refused,
+        "session 1\n1 committed 1\n2 refused NotYet\nhistory\n1 by 1\n  create table t (a, b)\nend\n",
+    ),
+    (
+        "create table t (a, b); select * from u",
+        Status::Refused,
+        "session 1\n1 committed 1\n2 refused NotYet\nhistory\n1 by 1\n  create table t (a, b)\nend\n",
+    ),
+    (
+        "create table t (a, b); select * from t where c = 1",
+        Status::Refused,
+        "session 1\n1 committed 1\n2 refused NotYet\nhistory\n1 by 1\n  create table t (a, b)\nend\n",
+    ),
+    (
+        "create table t (a, b); create table t (c)",
+        Status::Refused,
+        "session 1\n1 committed 1\n2 refused NotYet\nhistory\n1 by 1\n  create table t (a, b)\nend\n",
+    ),
+    (
+        "create table t (a, b); create table u (c, c)",
+        Status::Refused,
+        "session 1\n1 committed 1\n2 refused NotYet\nhistory\n1 by 1\n  create table t (a, b)\nend\n",
+    ),
+    (
+        "create table t (a, b); insert into t values (1, 1234567890123456789)",
+        Status::Refused,
+        "session 1\n1 committed 1\n2 refused NotAStatement\nhistory\n1 by 1\n  create table t (a, b)\nend\n",
+    ),
+    (
+        "create table t (a, b); select * from t where a = 'x'",
+        Status::Refused,
+        "session 1\n1 committed 1\n2 refused NotAStatement\nhistory\n1 by 1\n  create table t (a, b)\nend\n",
+    ),
+];
+
 #[test]
 fn statements_to_texts(rt: HostRuntime) -> Result<(), Fail> {
-    // A script, how its run ends, and what it writes.
-    let cases: [(&str, Status, &str); _] = [
-        (
-            "create table t (a,b); insert into t values (1,?x); select * from t where b = 2",
-            Status::Done,
-            "session 1\n1 committed 1\n2 committed 2\n3 rows (a, b) at 2\n  (1, ?x) if ?x = 2\nhistory\n1 by 1\n  create table t (a, b)\n2 by 1\n  insert into t (1, ?x)\nend\n",
-        ),
-        (
-            "create table t (a, b); select * from t",
-            Status::Done,
-            "session 1\n1 committed 1\n2 rows (a, b) at 1\nhistory\n1 by 1\n  create table t (a, b)\nend\n",
-        ),
-        (
-            "create table t (a, b); insert into t values (1, 2); SELECT * FROM T WHERE B = 2",
-            Status::Done,
-            "session 1\n1 committed 1\n2 committed 2\n3 rows (a, b) at 2\n  (1, 2)\nhistory\n1 by 1\n  create table t (a, b)\n2 by 1\n  insert into t (1, 2)\nend\n",
-        ),
-        (
-            "create table t (a, b); insert into t values (1, 2); select * from t where b = 3",
-            Status::Done,
-            "session 1\n1 committed 1\n2 committed 2\n3 rows (a, b) at 2\nhistory\n1 by 1\n  create table t (a, b)\n2 by 1\n  insert into t (1, 2)\nend\n",
-        ),
-        (
-            "create table t (a, b); insert into t values (1, 2); select * from t where b = ?y",
-            Status::Done,
-            "session 1\n1 committed 1\n2 committed 2\n3 rows (a, b) at 2\n  (1, 2) if ?y = 2\nhistory\n1 by 1\n  create table t (a, b)\n2 by 1\n  insert into t (1, 2)\nend\n",
-        ),
-        (
-            "create table t (a, b); insert into t values (1, ?x); select * from t where b = ?x",
-            Status::Done,
-            "session 1\n1 committed 1\n2 committed 2\n3 rows (a, b) at 2\n  (1, ?x)\nhistory\n1 by 1\n  create table t (a, b)\n2 by 1\n  insert into t (1, ?x)\nend\n",
-        ),
-        (
-            "create table t (a, b); insert into t values (1, ?x); select * from t where b = ?a",
-            Status::Done,
-            "session 1\n1 committed 1\n2 committed 2\n3 rows (a, b) at 2\n  (1, ?x) if ?a = ?x\nhistory\n1 by 1\n  create table t (a, b)\n2 by 1\n  insert into t (1, ?x)\nend\n",
-        ),
-        (
-            "create table t (a, b); insert into t values (?x, ?x); select * from t where a = -5",
-            Status::Done,
-            "session 1\n1 committed 1\n2 committed 2\n3 rows (a, b) at 2\n  (?x, ?x) if ?x = -5\nhistory\n1 by 1\n  create table t (a, b)\n2 by 1\n  insert into t (?x, ?x)\nend\n",
-        ),
-        (
-            "create table t (a, b); insert into t values (1, 2); insert into t values (1, 2); select * from t",
-            Status::Done,
-            "session 1\n1 committed 1\n2 committed 2\n3 committed 3\n4 rows (a, b) at 3\n  (1, 2)\nhistory\n1 by 1\n  create table t (a, b)\n2 by 1\n  insert into t (1, 2)\n3 by 1\n  insert into t (1, 2)\nend\n",
-        ),
-        (
-            "create table t (a, b); insert into t values (1, ?x); insert into t values (1, ?y); select * from t where b = 2",
-            Status::Done,
-            "session 1\n1 committed 1\n2 committed 2\n3 committed 3\n4 rows (a, b) at 3\n  (1, ?x) if ?x = 2\n  (1, ?y) if ?y = 2\nhistory\n1 by 1\n  create table t (a, b)\n2 by 1\n  insert into t (1, ?x)\n3 by 1\n  insert into t (1, ?y)\nend\n",
-        ),
-        (
-            "create table t (a, b); insert into t values (1, 3); insert into t values (1, ?y); insert into t values (4, 2); select * from t where b = 2",
-            Status::Done,
-            "session 1\n1 committed 1\n2 committed 2\n3 committed 3\n4 committed 4\n5 rows (a, b) at 4\n  (1, ?y) if ?y = 2\n  (4, 2)\nhistory\n1 by 1\n  create table t (a, b)\n2 by 1\n  insert into t (1, 3)\n3 by 1\n  insert into t (1, ?y)\n4 by 1\n  insert into t (4, 2)\nend\n",
-        ),
-        (
-            "create table t (a, b); insert into u values (1, 2)",
-            Status::Refused,
-            "session 1\n1 committed 1\n2 refused NotYet\nhistory\n1 by 1\n  create table t (a, b)\nend\n",
-        ),
-        (
-            "create table t (a, b); insert into t values (1)",
-            Status::Refused,
-            "session 1\n1 committed 1\n2 refused NotYet\nhistory\n1 by 1\n  create table t (a, b)\nend\n",
-        ),
-        (
-            "create table t (a, b); insert into t values (1, 2, 3)",
-            Status::Refused,
-            "session 1\n1 committed 1\n2 refused NotYet\nhistory\n1 by 1\n  create table t (a, b)\nend\n",
-        ),
-        (
-            "create table t (a, b); select * from u",
-            Status::Refused,
-            "session 1\n1 committed 1\n2 refused NotYet\nhistory\n1 by 1\n  create table t (a, b)\nend\n",
-        ),
-        (
-            "create table t (a, b); select * from t where c = 1",
-            Status::Refused,
-            "session 1\n1 committed 1\n2 refused NotYet\nhistory\n1 by 1\n  create table t (a, b)\nend\n",
-        ),
-        (
-            "create table t (a, b); create table t (c)",
-            Status::Refused,
-            "session 1\n1 committed 1\n2 refused NotYet\nhistory\n1 by 1\n  create table t (a, b)\nend\n",
-        ),
-        (
-            "create table t (a, b); create table u (c, c)",
-            Status::Refused,
-            "session 1\n1 committed 1\n2 refused NotYet\nhistory\n1 by 1\n  create table t (a, b)\nend\n",
-        ),
-        (
-            "create table t (a, b); insert into t values (1, 1234567890123456789)",
-            Status::Refused,
-            "session 1\n1 committed 1\n2 refused NotAStatement\nhistory\n1 by 1\n  create table t (a, b)\nend\n",
-        ),
-        (
-            "create table t (a, b); select * from t where a = 'x'",
-            Status::Refused,
-            "session 1\n1 committed 1\n2 refused NotAStatement\nhistory\n1 by 1\n  create table t (a, b)\nend\n",
-        ),
-    ];
-    for (script, status, written) in cases {
+    for (script, status, written) in STATEMENTS {
         let script = repeated(rt.alloc(), script.as_bytes(), 1)?;
         let mut scripts = source(rt.alloc(), script, &[])?;
         let mut out = sink(rt.alloc(), &[])?;
