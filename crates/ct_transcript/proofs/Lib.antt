@@ -2,3 +2,4 @@ pub mod Quotes
 pub mod Joins
 pub mod Names
 pub mod Prints
+pub mod Lists

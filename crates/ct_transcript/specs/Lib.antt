@@ -3,3 +3,5 @@ pub mod TermText
 pub mod NodeText
 pub mod Text
 pub mod Means
+pub mod Possible
+pub mod Certain
