@@ -1,6 +1,6 @@
 // The encoding of a question.
 
-ghost use Rattle.std.specs.Prelude.{◌≡◌, ◌<◌, ◌^◌, ◌++◌, ◌∷◌, [], ℕ, true, length, map, IfOk, IsErrOf, IsOk, Contains};
+ghost use Rattle.std.specs.Prelude.{◌≡◌, ◌<◌, ◌^◌, true, length, IfOk, IsErrOf, Contains};
 ghost use Rattle.ct_word.specs.declared.kinds.Class.TheVariants as class;
 ghost use Rattle.ct_word.specs.WellFormed.{IsWellFormed, is_place_of};
 ghost use Rattle.ct_derivation.specs.declared.steps.Why.TheVariants as why;
@@ -82,7 +82,8 @@ fn number(alloc: Global, words: &[u64], root: u32) -> Result<Numbers, CnfError>
     Ok(numbers)
 }
 
-/// The clauses that hold where the condition at `root` does, at some valuation.
+/// The clauses of the question whether the condition at `root` can hold, each with its origin.
+/// The words are well formed and fewer than 2^28, and `root` is the place of a condition.
 ///
 /// # Errors
 ///

@@ -1,6 +1,6 @@
 // Clauses over variables, each with its reason.
 
-ghost use Rattle.std.specs.Prelude.{◌≡◌, ◌≤◌, ◌<◌, ◌^◌, ◌++◌, ◌∷◌, [], map, IfOk, OnOk};
+ghost use Rattle.std.specs.Prelude.{◌≡◌, ◌<◌, ◌^◌, ◌++◌, ◌∷◌, [], map, IfOk, OnOk};
 ghost use Rattle.ct_cnf.specs.Lists.{yes_of, no_of, clause_of, why_of};
 
 use ct_derivation::Why;

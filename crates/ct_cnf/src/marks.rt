@@ -1,6 +1,6 @@
 // Which places stand below a root.
 
-ghost use Rattle.std.specs.Prelude.{◌≡◌, ◌<◌, ◌^◌, IfOk, false, replicate, length, Contains, ℕ};
+ghost use Rattle.std.specs.Prelude.{◌≡◌, ◌<◌, IfOk, false, replicate, length, Contains, ℕ};
 ghost use Rattle.ct_word.specs.WellFormed.{fields_of, IsWellFormed};
 ghost use Rattle.ct_word.specs.Stands.{places_of};
 ghost use Rattle.ct_cnf.specs.Marks.{names_place, with_marks, AreBelow};

@@ -1,9 +1,9 @@
 // The variables of conditions and of pairs of terms.
 
-ghost use Rattle.std.specs.Prelude.{◌≡◌, ◌≢◌, ◌<◌, ◌≤◌, ◌^◌, ◌+◌, ◌++◌, ◌∷◌, [], ℕ, true, map, length, IfOk, OnOk, Contains};
+ghost use Rattle.std.specs.Prelude.{◌≡◌, ◌<◌, ◌≤◌, ◌^◌, ◌++◌, ◌∷◌, [], true, map, length, IfOk, OnOk, Contains};
 ghost use Rattle.ct_derivation.specs.declared.literals.Atom.TheVariants as atom;
 ghost use Rattle.ct_word.specs.declared.kinds.Class.TheVariants as class;
-ghost use Rattle.ct_cnf.specs.Lists.{AreCounted, AreNumbers, is_kept, with_next, atoms_of, pairs_of, node_of, same_of, pair_variable, pairs_with, pairs_after, rank_of};
+ghost use Rattle.ct_cnf.specs.Lists.{AreCounted, AreNumbers, is_kept, with_next, atoms_of, pairs_of, node_of, same_of, pair_variable, pairs_with, pairs_after};
 
 use ct_derivation::Atom;
 use ct_word::{Class, List, Memory, class, kind};

@@ -1,9 +1,9 @@
 // The clauses by which equality is transitive, and different constants differ.
 
-ghost use Rattle.std.specs.Prelude.{◌≡◌, ◌≢◌, ◌++◌, ◌∷◌, [], ℕ, length, slice_get, OnOk, Contains};
+ghost use Rattle.std.specs.Prelude.{◌≡◌, ◌++◌, ◌∷◌, [], ℕ, OnOk, Contains};
 ghost use Rattle.std.specs.List.{flat_map};
 ghost use Rattle.ct_derivation.specs.Path.{is_constant};
-ghost use Rattle.ct_cnf.specs.Lists.{AreNumbers, path_entry, over_entries, apart_entries, between_entries, into_entries, paths_after};
+ghost use Rattle.ct_cnf.specs.Lists.{AreNumbers, path_entry, over_entries, apart_entries, into_entries, paths_after};
 
 use crate::entries::{Entry, add, no, yes};
 use crate::numbers::Numbers;
