@@ -1,7 +1,6 @@
 -- What the steps of the readers of names, columns and terms show.
-use Rattle.std.proofs.Common.{◌≡◌, ◌≤◌, ℕ, List, [], ◌∷◌, length, refl, ap, ap₂, sym, subst, ◌∙◌, arith}
-use Rattle.std.specs.Prelude.{◌≢◌, IsTrue, codes, Result, Ok, Err, IfErr, IsErrAnd}
-use Rattle.std.proofs.lemmas.Bool.{false≢true}
+use Rattle.std.proofs.Common.{◌≡◌, ℕ, List, [], ◌∷◌, refl, ap, ap₂, sym, subst, ◌∙◌, arith}
+use Rattle.std.specs.Prelude.{◌≢◌, IsTrue, Result, Ok, Err, IfErr, IsErrAnd}
 use Rattle.ct_word.specs.Writable.{is_name}
 use Rattle.ct_lex.specs.declared.token.Lexeme.{Lexeme}
 use Rattle.ct_lex.specs.declared.token.Lexeme.TheVariants as lexeme
@@ -10,14 +9,13 @@ use Rattle.ct_parse.specs.declared.tree.Column.{Column}
 use Rattle.ct_parse.specs.declared.tree.Column.TheVariants as column
 use Rattle.ct_parse.specs.declared.tree.Term.{Term}
 use Rattle.ct_parse.specs.declared.tree.Term.TheVariants as term
-use Rattle.ct_parse.specs.declared.tree.Comparison.{Comparison}
 use Rattle.ct_parse.specs.declared.tree.Comparison.TheVariants as comparison
 use Rattle.ct_parse.specs.declared.error.Unread.{Unread}
 use Rattle.ct_parse.specs.declared.error.Unread.TheVariants as unread
 use Rattle.ct_parse.specs.Grammar.{IsName, name, IsColumn, plain, qualified, IsTerm, number_term, text_term, null_term, column_term, IsComparison, equal, unequal}
 use Rattle.ct_parse.specs.Ends.{Fails, at_dot, at_comma, EndsAnyhow, EndsColumn}
 use Rattle.ct_parse.specs.Reads.{Reads, Never}
-use Rattle.ct_parse.proofs.Unique.{Same, tail, moved, one_name, one_column, word_column, symbol_term, one_term, number_column, text_column, null_column, one_comparison}
+use Rattle.ct_parse.proofs.Unique.{Same, tail, moved, one_name, number_column, text_column, null_column, one_comparison}
 
 -- what reads the same lexemes
 pub reads_at : {T : Type 0} {R : List Lexeme → T → List Lexeme → Type 0} {E : List Lexeme → Type 0} {ws ws' r : List Lexeme} {t : T} → ws ≡ ws' → Reads R E ws' t r → Reads R E ws t r

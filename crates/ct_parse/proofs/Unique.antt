@@ -1,12 +1,11 @@
 -- Lexemes have one reading at most.
 use Rattle.std.proofs.Common.{◌≡◌, ℕ, List, [], ◌∷◌, refl, ap, ap₂, sym, subst, ◌∙◌}
-use Rattle.std.specs.Prelude.{IsTrue, codes}
+use Rattle.std.specs.Prelude.{IsTrue}
 use Rattle.std.proofs.lemmas.Bool.{false≢true}
 use Rattle.ct_word.specs.Writable.{is_name}
 use Rattle.ct_lex.specs.declared.token.Lexeme.{Lexeme}
 use Rattle.ct_lex.specs.declared.token.Lexeme.TheVariants as lexeme
 use Rattle.ct_lex.specs.declared.token.Symbol.{Symbol}
-use Rattle.ct_lex.specs.declared.token.Symbol.TheVariants as symbol
 use Rattle.ct_parse.specs.declared.tree.Column.{Column}
 use Rattle.ct_parse.specs.declared.tree.Column.TheVariants as column
 use Rattle.ct_parse.specs.declared.tree.Term.{Term}
@@ -17,7 +16,7 @@ use Rattle.ct_parse.specs.declared.tree.Factor.TheVariants as factor
 use Rattle.ct_parse.specs.declared.tree.Conjunction.{Conjunction}
 use Rattle.ct_parse.specs.declared.tree.Condition.{Condition}
 use Rattle.ct_parse.specs.Grammar.{condition_of, IsName, name, IsColumn, plain, qualified, IsTerm, number_term, text_term, null_term, column_term, IsComparison, equal, unequal, IsFactor, negated, nested, true_factor, false_factor, compared, AreFactors, no_factor, and_factor, IsConjunction, conjunction, AreConjunctions, no_conjunction, or_conjunction, IsCondition, condition}
-use Rattle.ct_parse.specs.Ends.{at_dot, EndsColumn, EndsConjunction, EndsCondition}
+use Rattle.ct_parse.specs.Ends.{EndsColumn, EndsConjunction, EndsCondition}
 
 -- two readings give the same, and leave the same
 abbrev pub Same : {T : Type 0} → T → T → List Lexeme → List Lexeme → Type 0

@@ -7,7 +7,7 @@ use Rattle.std.specs.Prelude.{ℕ, ℤ, List, [], ◌∷◌, IsTrue, codes, map}
 use Rattle.ct_word.specs.Writable.{is_name}
 use Rattle.ct_lex.specs.declared.token.Lexeme.{Lexeme}
 use Rattle.ct_lex.specs.declared.token.Lexeme.TheVariants.{Word, Number, Text, Null, Symbol}
-use Rattle.ct_lex.specs.declared.token.Symbol.TheVariants.{LeftParen, RightParen, Comma, Dot, Star, Equal, Unequal}
+use Rattle.ct_lex.specs.declared.token.Symbol.TheVariants.{LeftParen, RightParen, Dot, Equal, Unequal}
 use Rattle.ct_lex.specs.declared.token.Token.{Token}
 use Rattle.ct_parse.specs.declared.tree.Column.{Column}
 use Rattle.ct_parse.specs.declared.tree.Column.TheVariants as column

@@ -3,3 +3,4 @@ pub mod Grammar
 pub mod Ends
 pub mod Reads
 pub mod Nest
+pub mod Parses

@@ -1,5 +1,5 @@
 -- How deep lexemes nest, and how many set operators they have.
-use Rattle.std.specs.Prelude.{ℕ, ◌+◌, max, Bool, true, false, ◌||◌, List, [], ◌∷◌, nat_lt, codes, if◌then◌else◌}
+use Rattle.std.specs.Prelude.{ℕ, ◌+◌, ◌≤◌, max, Bool, false, ◌||◌, List, [], ◌∷◌, nat_lt, codes, if◌then◌else◌}
 use Rattle.ct_word.specs.Value.{same_text}
 use Rattle.ct_lex.specs.declared.token.Lexeme.{Lexeme}
 use Rattle.ct_lex.specs.declared.token.Lexeme.TheVariants.{Word, Symbol}
@@ -67,3 +67,8 @@ DEPTH = 64
 -- whether lexemes nest too deep, or have too many set operators
 abbrev pub is_too_deep : List Lexeme → Bool
 is_too_deep ws = nat_lt DEPTH (nest ws) || nat_lt DEPTH (set_operators ws)
+
+-- each count is within the most that it may be
+abbrev pub AreShallow : List ℕ → Type 0
+AreShallow [] = Unit {0}
+AreShallow (n ∷ ns) = (n ≤ DEPTH) × AreShallow ns

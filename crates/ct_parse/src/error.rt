@@ -1,6 +1,7 @@
 // Why tokens are read as no statement.
 
 ghost use Rattle.std.specs.Prelude.{◌≡◌};
+ghost use Rattle.ct_parse.specs.Parses.{error_of};
 ghost use Rattle.ct_parse.specs.declared.error.Unread.TheVariants as unread;
 
 use ct_word::Memory;
@@ -48,5 +49,16 @@ impl<T: Drop> From<AllocFailed<T>> for Unread {
 
     fn from(_: AllocFailed<T>) -> Self {
         Unread::Memory
+    }
+}
+
+impl From<Unread> for ParseError {
+    ghost from_gives = { λ why e. e ≡ error_of why };
+
+    fn from(why: Unread) -> Self {
+        match why {
+            Unread::NotSpelled => ParseError::NotAStatement,
+            Unread::Memory => ParseError::Memory,
+        }
     }
 }

@@ -1,6 +1,6 @@
 // How deep tokens nest, and how many set operators they have.
 
-ghost use Rattle.std.specs.Prelude.{◌≡◌, nat_lt, length, codes, IfOk, IfErr, IfNone};
+ghost use Rattle.std.specs.Prelude.{◌≡◌, ◌≤◌, nat_lt, reverse, IfOk, IfErr, OnOk};
 ghost use Rattle.ct_parse.specs.Grammar.{said};
 ghost use Rattle.ct_parse.specs.Nest as spec;
 ghost use Rattle.ct_parse.specs.declared.error.Unread.TheVariants as unread;
@@ -47,25 +47,40 @@ fn is_set_operator(lexeme: &Lexeme) -> bool
     }
 }
 
+/// The count after a lexeme. `opened` has the counts where the open levels were opened, the innermost
+/// last.
+fn count_after(opened: &mut Vec<usize>, count: usize, turn: Turn) -> Result<usize, Unread>
+    requires count { count ≤ spec.DEPTH }
+    requires opened { spec.AreShallow (reverse opened.old.items) }
+    ensures count { IfOk result (λ n. n ≡ spec.count_after (reverse opened.old.items) count turn) }
+    ensures opened { OnOk result (reverse opened.new.items ≡ spec.opened_after (reverse opened.old.items) count turn) }
+    ensures err { IfErr result (λ e. e ≡ unread.Memory) }
+{
+    match turn {
+        Turn::Opens => {
+            opened.push(count)?;
+            Ok(count + 1)
+        }
+        Turn::Closes => Ok(opened.pop().unwrap_or(count)),
+        Turn::Negates => Ok(count + 1),
+        Turn::Joins => match opened.last() {
+            Some(start) => Ok(*start + 1),
+            None => Ok(0),
+        },
+        Turn::Stays => Ok(count),
+    }
+}
+
 /// Whether the nest is greater than 64. It reads no further than where it is.
 fn nests_too_deep(alloc: Global, tokens: &[Token]) -> Result<bool, Unread>
     ensures ok { IfOk result (λ b. b ≡ nat_lt spec.DEPTH (spec.nest (said tokens.now))) }
     ensures err { IfErr result (λ e. e ≡ unread.Memory) }
 {
-    let mut opened: Vec<usize> = Vec::new(alloc);
+    let mut opened = Vec::new(alloc);
     let mut count = 0;
     let mut rest = tokens;
     while let Some((first, after)) = front(rest) {
-        match turn_of(first) {
-            Turn::Opens => {
-                opened.push(count)?;
-                count += 1;
-            }
-            Turn::Closes => count = opened.pop().unwrap_or(count),
-            Turn::Negates => count += 1,
-            Turn::Joins => count = opened.last().map_or(0, |start| start + 1),
-            Turn::Stays => {}
-        }
+        count = count_after(&mut opened, count, turn_of(first))?;
         if count > DEPTH {
             return Ok(true);
         }
@@ -74,7 +89,7 @@ fn nests_too_deep(alloc: Global, tokens: &[Token]) -> Result<bool, Unread>
     Ok(false)
 }
 
-/// Whether there are more than 64 set operators.
+/// Whether there are more than 64 set operators. It reads no further than where they are.
 fn has_many_operators(tokens: &[Token]) -> bool
     ensures { result ≡ nat_lt spec.DEPTH (spec.set_operators (said tokens.now)) }
 {
@@ -82,11 +97,14 @@ fn has_many_operators(tokens: &[Token]) -> bool
     let mut rest = tokens;
     while let Some((first, after)) = front(rest) {
         if is_set_operator(first) {
+            if count == DEPTH {
+                return true;
+            }
             count += 1;
         }
         rest = after;
     }
-    count > DEPTH
+    false
 }
 
 /// Whether tokens nest deeper than 64, or have more than 64 set operators.

@@ -1,5 +1,5 @@
 use Rattle.std.proofs.Common.{◌≡◌, rules, to_z, of_z, w64}
-use Rattle.ct_parse.proofs.TermSteps.{number_reads, text_reads, null_reads, column_reads, no_term, no_term_left}
+use Rattle.ct_parse.proofs.TermSteps.{number_reads, text_reads, null_reads, column_reads, no_term_left}
 use Rattle.ct_parse.proofs.terms.term.Goals as goal
 
 pub returns-in_default-clause-none : goal.returns-in_default-clause-none
