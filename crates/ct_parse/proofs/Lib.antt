@@ -3,3 +3,7 @@ pub mod TermSteps
 pub mod Deep
 pub mod Listed
 pub mod ConditionSteps
+pub mod Combined
+pub mod RowSteps
+pub mod TableSteps
+pub mod QuerySteps

@@ -8,10 +8,16 @@ mod front;
 mod names;
 mod nest;
 mod parsing;
+mod queries;
+mod rows;
+mod tables;
 mod terms;
 mod tree;
 
 pub use boxed::Boxed;
 pub use error::ParseError;
 pub use parsing::condition;
-pub use tree::{Column, Comparison, Condition, Conjunction, Factor, Term};
+pub use tree::{
+    Alias, Cell, Column, Comparison, Condition, Conjunction, Factor, Item, Items, Joined, Query,
+    QueryPrimary, QueryTerm, Row, Select, SetOperator, Statement, Table, Tables, Term,
+};
