@@ -7,3 +7,4 @@ pub mod Combined
 pub mod RowSteps
 pub mod TableSteps
 pub mod QuerySteps
+pub mod StatementSteps

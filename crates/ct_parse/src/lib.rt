@@ -10,6 +10,7 @@ mod nest;
 mod parsing;
 mod queries;
 mod rows;
+mod statements;
 mod tables;
 mod terms;
 mod tree;
