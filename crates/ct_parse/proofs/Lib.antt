@@ -8,3 +8,4 @@ pub mod RowSteps
 pub mod TableSteps
 pub mod QuerySteps
 pub mod StatementSteps
+pub mod Readings

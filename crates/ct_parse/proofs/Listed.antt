@@ -75,6 +75,19 @@ module _ {T : Type 0} {X : List Lexeme → T → List Lexeme → Type 0} {EX EL 
   pub no_list : {ws rest : List Lexeme} {xs : List T} → SoFar EL L ws rest xs → (EL rest → ⊥) → Never X EX rest → Never L EL ws
   no_list s goes never = λ us r e l. let o = s.only us r e l in broken goes never e (k.cases o.1)
 
+  pub none_read : {r : List Lexeme} → EL r → Reads L EL r [] r
+  none_read e = at_end at_start (λ x m y. k.apart y e)
+
+  more_only : {ws m r r' : List Lexeme} {x : T} {xs us : List T} → Reads X EX ws x m → Reads L EL m xs r → EL r' → Cases X L ws us r' → Same us (x ∷ xs) r' r
+  more_only h i e ended = absurd (k.apart h.is e)
+  more_only h i e (split y l) =
+      let s = h.only _ _ (k.before l e) y in
+      let t = i.only _ _ e (moved L s.1 l) in
+      (ap₂ (λ x y. x ∷ y) s.0 t.0, t.1)
+
+  pub more_read : {ws m r : List Lexeme} {x : T} {xs : List T} → Reads X EX ws x m → Reads L EL m xs r → Reads L EL ws (x ∷ xs) r
+  more_read h i = record { is = k.more h.is i.is; only = λ us r' e l. more_only h i e (k.cases l); within = omega (arith, h.within, i.within) }
+
 -- C is an A and then a B
 pub data Parts {S T U : Type 0} (A : List Lexeme → S → List Lexeme → Type 0) (B : List Lexeme → T → List Lexeme → Type 0) (f : S → T → U) : List Lexeme → U → List Lexeme → Type 0 where
   parts : {ws m r : List Lexeme} {x : S} {y : T} → A ws x m → B m y r → Parts A B f ws (f x y) r

@@ -68,7 +68,7 @@ filter_reads h = record { is = h.is; only = λ t r e x. h.only t r (e.0, e.1.1.1
 no_filter : {ws : List Lexeme} → Never Filter (EndsBehind (codes "where")) ws → Never Filter EndsSelect ws
 no_filter never = λ t r e x. never t r (e.0, e.1.1.1) x
 
-before_filter : {ws r : List Lexeme} {o : Option Condition} → Filter ws o r → EndsSelect r → EndsTables ws
+pub before_filter : {ws r : List Lexeme} {o : Option Condition} → Filter ws o r → EndsSelect r → EndsTables ws
 before_filter no_condition e = e.1
 before_filter (a_condition x) e = (tt, ((tt, tt), (tt, (tt, tt))))
 
@@ -82,7 +82,7 @@ column_apart : {ws r : List Lexeme} {c : Column} → IsColumn ws c r → EndsDis
 column_apart (plain n) = name_apart (codes "distinct") refl n
 column_apart (qualified n m) = name_apart (codes "distinct") refl n
 
-items_apart : {ws r : List Lexeme} {i : Items} → AreItems ws i r → EndsDistinct ws
+pub items_apart : {ws r : List Lexeme} {i : Items} → AreItems ws i r → EndsDistinct ws
 items_apart star = tt
 items_apart (listed (item c a) l) = column_apart c
 
@@ -157,7 +157,7 @@ ends_at_paren r = (tt, (tt, (tt, (tt, ((tt, tt), (tt, (tt, tt)))))))
 abbrev Parens : List Lexeme → Query → List Lexeme → Type 0
 Parens = Behind (lexeme.Symbol symbol.LeftParen) (Then IsQuery (lexeme.Symbol symbol.RightParen))
 
-paren_select : {ws r : List Lexeme} {s : Select} → IsSelect (lexeme.Symbol symbol.LeftParen ∷ ws) s r → ⊥
+pub paren_select : {ws r : List Lexeme} {s : Select} → IsSelect (lexeme.Symbol symbol.LeftParen ∷ ws) s r → ⊥
 paren_select s = elim s [ ]
 
 back_nested : {ws r : List Lexeme} {p : QueryPrimary} → IsPrimary (lexeme.Symbol symbol.LeftParen ∷ ws) p r → Image Parens primary.Nested (lexeme.Symbol symbol.LeftParen ∷ ws) p r

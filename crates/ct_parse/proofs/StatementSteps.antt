@@ -27,10 +27,10 @@ narrowed {E = E} at h = record { is = h.is; only = λ t r e x. h.only t r (subst
 narrowed_never : {T : Type 0} (X : List Lexeme → T → List Lexeme → Type 0) (E : List Lexeme → Type 0) → E [] → {ws : List Lexeme} → Never X E ws → Never X EndsStatement ws
 narrowed_never X E at never = λ t r e x. never t r (subst E (sym e) at) x
 
-condition_at_end : EndsCondition []
+pub condition_at_end : EndsCondition []
 condition_at_end = (tt, (tt, tt))
 
-query_at_end : EndsQuery []
+pub query_at_end : EndsQuery []
 query_at_end = (tt, (tt, (tt, (tt, ((tt, tt), (tt, (tt, tt)))))))
 
 -- a query stands at no word but SELECT
@@ -132,7 +132,7 @@ inside_delete {m = m} f never = no_renamed (delete_is m) (behind_never (Behind F
 pub no_delete_name : {m rest : List Lexeme} → m ≡ FROM ∷ rest → Never IsName EndsAnyhow rest → Never IsStatement EndsStatement (DELETE ∷ m)
 no_delete_name f never = inside_delete f (no_first deleted_pair never)
 
-behind_at_end : (w : List ℕ) → EndsBehind w []
+pub behind_at_end : (w : List ℕ) → EndsBehind w []
 behind_at_end w = (tt, condition_at_end)
 
 pub no_delete_condition : {m rest l : List Lexeme} {n : List ℕ} → m ≡ FROM ∷ rest → Reads IsName EndsAnyhow rest n l → Never Filter (EndsBehind (codes "where")) l
@@ -178,7 +178,7 @@ Queried = Both IsName IsQuery
 abbrev query_into : List ℕ × Query → Statement
 query_into p = statement.InsertQuery p.0 p.1
 
-before_if : {ws r : List Lexeme} {o : Option Condition} → If ws o r → EndsStatement r → EndsList ws
+pub before_if : {ws r : List Lexeme} {o : Option Condition} → If ws o r → EndsStatement r → EndsList ws
 before_if no_condition e = subst EndsList (sym e) tt
 before_if (a_condition x) e = tt
 
@@ -262,14 +262,14 @@ pub no_if : {m rest l k j s : List Lexeme} {n : List ℕ} {w : Row} {vs : List R
     → Reads (AreMore IsRow) EndsList j vs s → Never If (EndsBehind (codes "if")) s → Never IsStatement EndsStatement (INSERT ∷ m)
 no_if f h g i o never =
     no_insert_at f (no_renamed (insert_is h g) (no_second added_pair (named_values h g) (no_second rows_pair i
-      (no_second others_pair o (narrowed_never If (EndsBehind (codes "if")) (behind_at_end (codes "if")) never)))))
+    (no_second others_pair o (narrowed_never If (EndsBehind (codes "if")) (behind_at_end (codes "if")) never)))))
 
 pub insert_rows_read : {m rest l k j s r : List Lexeme} {n : List ℕ} {w : Row} {vs : List Row} {c : Option Condition} → m ≡ INTO ∷ rest → Reads IsName EndsAnyhow rest n l → l ≡ VALUES ∷ k
     → Reads IsRow EndsAnyhow k w j → Reads (AreMore IsRow) EndsList j vs s → Reads If (EndsBehind (codes "if")) s c r
     → Reads IsStatement EndsStatement (INSERT ∷ m) (statement.InsertRows n w vs c) r
 insert_rows_read f h g i o c =
     insert_at f (renamed (insert_is h g) (both_read added_pair (named_values h g) (both_read rows_pair i
-      (both_read others_pair o (narrowed {E = EndsBehind (codes "if")} (behind_at_end (codes "if")) c)))))
+    (both_read others_pair o (narrowed {E = EndsBehind (codes "if")} (behind_at_end (codes "if")) c)))))
 
 -- ASSERT cond
 abbrev ASSERT : Lexeme

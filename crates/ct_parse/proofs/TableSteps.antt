@@ -67,7 +67,7 @@ symbol_column : {s : _} {ws r : List Lexeme} {c : Column} → IsColumn (lexeme.S
 symbol_column (plain n) = symbol_name n
 symbol_column (qualified n m) = symbol_name n
 
-symbol_item : {s : _} {ws r : List Lexeme} {i : Item} → IsItem (lexeme.Symbol s ∷ ws) i r → ⊥
+pub symbol_item : {s : _} {ws r : List Lexeme} {i : Item} → IsItem (lexeme.Symbol s ∷ ws) i r → ⊥
 symbol_item (item c a) = symbol_column c
 
 star_only : {r r' : List Lexeme} {i : Items} → AreItems (lexeme.Symbol symbol.Star ∷ r) i r' → Same i items.Star r' r
@@ -106,7 +106,7 @@ as_alias_only h e (as_alias x) = let s = h.only _ _ tt x in (ap (alias_of true) 
 pub as_alias_read : {ws rest r : List Lexeme} {n : List ℕ} → ws ≡ lexeme.Word (codes "as") ∷ rest → Reads IsName EndsAnyhow rest n r → Reads HasAlias EndsTable ws (alias_of true n) r
 as_alias_read f h = reads_at f (record { is = as_alias h.is; only = λ t r' e x. as_alias_only h e x; within = omega (arith, h.within) })
 
-name_stands : {ws r : List Lexeme} {n : List ℕ} → IsName ws n r → Fails (at_name ws) → ⊥
+pub name_stands : {ws r : List Lexeme} {n : List ℕ} → IsName ws n r → Fails (at_name ws) → ⊥
 name_stands (name p) fails = subst Fails p fails
 
 alias_only : {ws r r' : List Lexeme} {n : List ℕ} {o : Option Alias} → Reads IsName EndsAnyhow ws n r → EndsTable r' → HasAlias ws o r' → Same o (alias_of false n) r' r

@@ -30,10 +30,7 @@ fn names(alloc: Global, tokens: &[Token]) -> Result<(List<Text>, &[Token]), Unre
 }
 
 /// Names in parentheses: the first and the others.
-pub fn columns(
-    alloc: Global,
-    tokens: &[Token],
-) -> Result<((Text, List<Text>), &[Token]), Unread>
+pub fn columns(alloc: Global, tokens: &[Token]) -> Result<((Text, List<Text>), &[Token]), Unread>
     ensures ok { IfOk result (λ p. Reads (IsClosed IsName) EndsAnyhow (said tokens.now) p.0 (said p.1.now)) }
     ensures none { IfErr result (λ e. e ≢ unread.Memory → Never (IsClosed IsName) EndsAnyhow (said tokens.now)) }
 {

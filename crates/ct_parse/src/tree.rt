@@ -176,7 +176,10 @@ pub enum Statement {
         condition: Option<Condition>,
     },
     /// `INSERT INTO name query`
-    InsertQuery { name: Text, query: Query },
+    InsertQuery {
+        name: Text,
+        query: Query,
+    },
     /// `DELETE FROM name [WHERE cond]`
     Delete {
         name: Text,

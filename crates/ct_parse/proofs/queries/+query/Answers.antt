@@ -46,7 +46,7 @@ primary-returns-clause-ok t c = rw c.in_ok-new.ensures (nested_read c.in-Some.en
 pub primaries-returns-in_err-next-clause-none : goal.primaries-returns-in_err-next-clause-none
 primaries-returns-in_err-next-clause-none t c =
     passed _ c.from_residual.ensures.1 (λ memory.
-        no_list primary_list c.loop-tail.invariant (λ e. (subst EndsQueryTerm c.in-Some.ensures.some e).0) (behind_never IsPrimary c.in-Some.ensures.some (c.in_err-next.ensures.none memory)))
+    no_list primary_list c.loop-tail.invariant (λ e. (subst EndsQueryTerm c.in-Some.ensures.some e).0) (behind_never IsPrimary c.in-Some.ensures.some (c.in_err-next.ensures.none memory)))
 
 pub primaries-loop-tail-preserved : goal.primaries-loop-tail-preserved
 primaries-loop-tail-preserved t c =
@@ -59,7 +59,7 @@ primaries-returns-clause-ok t c = rw c.from_vec.ensures (at_end primary_list c.l
 pub query_terms-returns-in_err-term-clause-none : goal.query_terms-returns-in_err-term-clause-none
 query_terms-returns-in_err-term-clause-none t c =
     passed _ c.from_residual.ensures.1 (λ memory.
-        no_list term_list c.loop-operator.invariant (λ e. stands_operator c.in-Some.ensures.some.is e.0) (no_second combined_pair c.in-Some.ensures.some (c.in_err-term.ensures.none memory)))
+    no_list term_list c.loop-operator.invariant (λ e. stands_operator c.in-Some.ensures.some.is e.0) (no_second combined_pair c.in-Some.ensures.some (c.in_err-term.ensures.none memory)))
 
 pub query_terms-loop-operator-preserved : goal.query_terms-loop-operator-preserved
 query_terms-loop-operator-preserved t c =

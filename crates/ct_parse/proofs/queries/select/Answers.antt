@@ -15,12 +15,12 @@ returns-in_err-behind-clause-none c =
 pub returns-in_err-tables-clause-none : goal.returns-in_err-tables-clause-none
 returns-in_err-tables-clause-none c =
     passed _ c.from_residual-in_err-tables.ensures.1 (λ memory.
-        no_tables c.in_ok-tail.ensures.ok c.distinct-is_distinct.ensures c.in_ok-items.ensures.ok c.in_ok-behind.ensures.ok (c.in_err-tables.ensures.none memory))
+    no_tables c.in_ok-tail.ensures.ok c.distinct-is_distinct.ensures c.in_ok-items.ensures.ok c.in_ok-behind.ensures.ok (c.in_err-tables.ensures.none memory))
 
 pub returns-in_err-condition-clause-none : goal.returns-in_err-condition-clause-none
 returns-in_err-condition-clause-none c =
     passed _ c.from_residual-in_err-condition.ensures.1 (λ memory.
-        no_where c.in_ok-tail.ensures.ok c.distinct-is_distinct.ensures c.in_ok-items.ensures.ok c.in_ok-behind.ensures.ok c.in_ok-tables.ensures.ok (c.in_err-condition.ensures.none memory))
+    no_where c.in_ok-tail.ensures.ok c.distinct-is_distinct.ensures c.in_ok-items.ensures.ok c.in_ok-behind.ensures.ok c.in_ok-tables.ensures.ok (c.in_err-condition.ensures.none memory))
 
 pub returns-clause-ok : goal.returns-clause-ok
 returns-clause-ok c =

@@ -9,7 +9,7 @@ use Rattle.ct_parse.proofs.rows.names.Goals as goal
 pub returns-in_err-next-clause-none : goal.returns-in_err-next-clause-none
 returns-in_err-next-clause-none c =
     passed _ c.from_residual.ensures.1 (λ memory.
-        no_list (plain_list IsName) c.loop-tail.invariant (λ e. subst EndsList c.in-Some.ensures.some e) (behind_never IsName c.in-Some.ensures.some (c.in_err-next.ensures.none memory)))
+    no_list (plain_list IsName) c.loop-tail.invariant (λ e. subst EndsList c.in-Some.ensures.some e) (behind_never IsName c.in-Some.ensures.some (c.in_err-next.ensures.none memory)))
 
 pub loop-tail-preserved : goal.loop-tail-preserved
 loop-tail-preserved c =

@@ -11,7 +11,7 @@ returns-in_err-name-clause-none c = passed _ c.from_residual-in_err-name.ensures
 pub returns-in_err-query-clause-none : goal.returns-in_err-query-clause-none
 returns-in_err-query-clause-none c =
     passed _ c.from_residual-in_err-query.ensures.1 (λ memory.
-        no_inserted_query c.in_ok-tail.ensures.ok c.in_ok-name.ensures.ok c.in_default.ensures.none (c.in_err-query.ensures.none memory))
+    no_inserted_query c.in_ok-tail.ensures.ok c.in_ok-name.ensures.ok c.in_default.ensures.none (c.in_err-query.ensures.none memory))
 
 pub returns-in_default-clause-ok : goal.returns-in_default-clause-ok
 returns-in_default-clause-ok c = insert_query_read c.in_ok-tail.ensures.ok c.in_ok-name.ensures.ok c.in_default.ensures.none c.in_ok-query.ensures.ok
@@ -23,12 +23,12 @@ returns-in_err-first-clause-none c =
 pub returns-in_err-others-clause-none : goal.returns-in_err-others-clause-none
 returns-in_err-others-clause-none c =
     passed _ c.from_residual-in_err-others.ensures.1 (λ memory.
-        no_more_rows c.in_ok-tail.ensures.ok c.in_ok-name.ensures.ok c.in-Some.ensures.some c.in_ok-first.ensures.ok (c.in_err-others.ensures.none memory))
+    no_more_rows c.in_ok-tail.ensures.ok c.in_ok-name.ensures.ok c.in-Some.ensures.some c.in_ok-first.ensures.ok (c.in_err-others.ensures.none memory))
 
 pub returns-in_err-condition-clause-none : goal.returns-in_err-condition-clause-none
 returns-in_err-condition-clause-none c =
     passed _ c.from_residual-in_err-condition.ensures.1 (λ memory.
-        no_if c.in_ok-tail.ensures.ok c.in_ok-name.ensures.ok c.in-Some.ensures.some c.in_ok-first.ensures.ok c.in_ok-others.ensures.ok (c.in_err-condition.ensures.none memory))
+    no_if c.in_ok-tail.ensures.ok c.in_ok-name.ensures.ok c.in-Some.ensures.some c.in_ok-first.ensures.ok c.in_ok-others.ensures.ok (c.in_err-condition.ensures.none memory))
 
 pub returns-clause-ok : goal.returns-clause-ok
 returns-clause-ok c =

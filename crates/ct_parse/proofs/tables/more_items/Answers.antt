@@ -10,7 +10,7 @@ use Rattle.ct_parse.proofs.tables.more_items.Goals as goal
 pub returns-in_err-next-clause-none : goal.returns-in_err-next-clause-none
 returns-in_err-next-clause-none c =
     passed _ c.from_residual.ensures.1 (λ memory.
-        no_list item_list c.loop-tail.invariant (λ e. (subst EndsItems c.in-Some.ensures.some e).0) (behind_never IsItem c.in-Some.ensures.some (c.in_err-next.ensures.none memory)))
+    no_list item_list c.loop-tail.invariant (λ e. (subst EndsItems c.in-Some.ensures.some e).0) (behind_never IsItem c.in-Some.ensures.some (c.in_err-next.ensures.none memory)))
 
 pub loop-tail-preserved : goal.loop-tail-preserved
 loop-tail-preserved c =
