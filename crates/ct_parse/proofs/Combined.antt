@@ -1,6 +1,6 @@
 -- Parts that are joined, renamed, or followed by a lexeme; lists behind commas; conditions behind words.
-use Rattle.std.proofs.Common.{◌≡◌, ◌≤◌, ℕ, Bool, true, false, List, [], ◌∷◌, length, Option, Some, None, refl, ap, ap₂, sym, subst, ◌∙◌, arith, rules}
-use Rattle.std.specs.Prelude.{IsTrue, nat_eq, codes}
+use Rattle.std.proofs.Common.{◌≡◌, ℕ, Bool, true, false, List, [], ◌∷◌, length, Option, Some, None, refl, ap, sym, subst, ◌∙◌, arith, rules}
+use Rattle.std.specs.Prelude.{IsTrue, nat_eq}
 use Rattle.std.specs.Cmp.Lexicographic.{same_text as same_bytes}
 use Rattle.std.proofs.lemmas.Bool.{false≢true}
 use Rattle.ct_word.specs.Writable.{is_name}
@@ -10,10 +10,10 @@ use Rattle.ct_lex.specs.declared.token.Lexeme.TheVariants as lexeme
 use Rattle.ct_lex.specs.declared.token.Symbol.TheVariants as symbol
 use Rattle.ct_parse.specs.declared.tree.Condition.{Condition}
 use Rattle.ct_parse.specs.Grammar.{IsName, name, AreMore, no_more, one_more, IsClosed, closed, IsCondition, HasCondition, no_condition, a_condition}
-use Rattle.ct_parse.specs.Ends.{Fails, at_word, at_comma, EndsAnyhow, EndsList, EndsCondition, EndsBehind}
+use Rattle.ct_parse.specs.Ends.{Fails, at_word, EndsAnyhow, EndsList, EndsCondition, EndsBehind}
 use Rattle.ct_parse.specs.Reads.{Reads, Never}
-use Rattle.ct_parse.proofs.Unique.{Same, tail, moved}
-use Rattle.ct_parse.proofs.Listed.{Behind, behind_reads, behind_never, Cases, ended, split, Lists, Parts, parts, Pairs, both_read, no_first, no_second}
+use Rattle.ct_parse.proofs.Fronts.{Same, tail, moved}
+use Rattle.ct_parse.proofs.Listed.{Behind, Cases, ended, split, Lists, Parts, parts, Pairs}
 
 -- a word stands at itself
 same_self : (n : ℕ) → nat_eq n n ≡ true

@@ -14,7 +14,7 @@ use Rattle.ct_parse.specs.declared.tree.Condition.{Condition}
 use Rattle.ct_parse.specs.Grammar.{condition_of, IsTerm, IsComparison, IsFactor, negated, nested, true_factor, false_factor, compared, AreFactors, no_factor, and_factor, IsConjunction, conjunction, AreConjunctions, no_conjunction, or_conjunction, IsCondition, condition}
 use Rattle.ct_parse.specs.Ends.{Fails, at_word, EndsAnyhow, EndsColumn, EndsConjunction, EndsCondition}
 use Rattle.ct_parse.specs.Reads.{Reads, Never}
-use Rattle.ct_parse.proofs.Unique.{Same, tail, moved, ap₃, symbol_term, word_term, before_comparison, before_factors, before_conjunctions}
+use Rattle.ct_parse.proofs.Fronts.{Same, tail, moved, ap₃, symbol_term, word_term, before_comparison, before_factors, before_conjunctions}
 use Rattle.ct_parse.proofs.TermSteps.{reads_at, never_at}
 use Rattle.ct_parse.proofs.Listed.{Behind, Cases, ended, split, Lists, Parts, parts, Pairs}
 

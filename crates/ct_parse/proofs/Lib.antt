@@ -1,4 +1,4 @@
-pub mod Unique
+pub mod Fronts
 pub mod TermSteps
 pub mod Deep
 pub mod Listed

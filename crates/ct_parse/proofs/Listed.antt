@@ -3,7 +3,7 @@ use Rattle.std.proofs.Common.{◌≡◌, ◌≤◌, List, [], ◌∷◌, ◌++�
 use Rattle.std.proofs.lemmas.List.{append-nil}
 use Rattle.ct_lex.specs.declared.token.Lexeme.{Lexeme}
 use Rattle.ct_parse.specs.Reads.{Reads, Never}
-use Rattle.ct_parse.proofs.Unique.{Same, tail, moved}
+use Rattle.ct_parse.proofs.Fronts.{Same, tail, moved}
 
 -- a part behind a lexeme
 abbrev pub Behind : {T : Type 0} → Lexeme → (List Lexeme → T → List Lexeme → Type 0) → List Lexeme → T → List Lexeme → Type 0

@@ -1,7 +1,6 @@
 -- What the steps of the readers of queries show.
-use Rattle.std.proofs.Common.{◌≡◌, ℕ, Bool, true, false, List, [], ◌∷◌, length, Option, Some, None, refl, ap, ap₂, sym, subst, ◌∙◌, arith}
-use Rattle.std.specs.Prelude.{IsTrue, ◌||◌, codes}
-use Rattle.std.proofs.lemmas.Bool.{false≢true}
+use Rattle.std.proofs.Common.{◌≡◌, Bool, true, false, List, ◌∷◌, Option, refl, sym, subst, arith}
+use Rattle.std.specs.Prelude.{codes}
 use Rattle.ct_lex.specs.declared.token.Lexeme.{Lexeme}
 use Rattle.ct_lex.specs.declared.token.Lexeme.TheVariants as lexeme
 use Rattle.ct_lex.specs.declared.token.Symbol.TheVariants as symbol
@@ -16,10 +15,10 @@ use Rattle.ct_parse.specs.declared.tree.QueryPrimary.{QueryPrimary}
 use Rattle.ct_parse.specs.declared.tree.QueryPrimary.TheVariants as primary
 use Rattle.ct_parse.specs.declared.tree.QueryTerm.{QueryTerm}
 use Rattle.ct_parse.specs.declared.tree.Query.{Query}
-use Rattle.ct_parse.specs.Grammar.{HasCondition, no_condition, a_condition, IsItem, item, IsColumn, plain, qualified, AreItems, star, listed, AreTables, IsDistinct, not_distinct, distinct, IsSelect, select, IsSetOperator, union, except, query_of, IsPrimary, nested_query, select_query, ArePrimaries, no_primary, intersect, IsQueryTerm, query_term, AreTerms, no_term, combined, IsQuery, query}
+use Rattle.ct_parse.specs.Grammar.{HasCondition, no_condition, a_condition, item, IsColumn, plain, qualified, AreItems, star, listed, AreTables, IsDistinct, not_distinct, distinct, IsSelect, select, IsSetOperator, union, except, query_of, IsPrimary, nested_query, select_query, ArePrimaries, no_primary, intersect, IsQueryTerm, query_term, AreTerms, no_term, combined, IsQuery, query}
 use Rattle.ct_parse.specs.Ends.{Fails, at_word, at_operator, EndsAnyhow, EndsBehind, EndsItems, EndsTables, EndsDistinct, EndsSelect, EndsQueryTerm, EndsQuery}
 use Rattle.ct_parse.specs.Reads.{Reads, Never}
-use Rattle.ct_parse.proofs.Unique.{Same, tail, moved, word_column}
+use Rattle.ct_parse.proofs.Fronts.{Same, moved}
 use Rattle.ct_parse.proofs.TermSteps.{reads_at, never_at}
 use Rattle.ct_parse.proofs.Listed.{Behind, behind_reads, behind_never, Cases, ended, split, Lists, Parts, parts, Pairs, both_read, no_first, no_second}
 use Rattle.ct_parse.proofs.Combined.{not_word, name_apart, Then, then_read, no_then, not_then, Both, pair_of, Image, image, Renames, renamed, no_renamed}

@@ -1,5 +1,5 @@
 -- Lexemes have one reading: whatever is spelled is what a reader would find, and nothing else.
-use Rattle.std.proofs.Common.{◌≡◌, ◌≤◌, ℕ, List, [], ◌∷◌, refl, sym, subst}
+use Rattle.std.proofs.Common.{◌≡◌, ℕ, List, [], refl, sym, subst}
 use Rattle.ct_lex.specs.declared.token.Lexeme.{Lexeme}
 use Rattle.ct_lex.specs.declared.token.Lexeme.TheVariants as lexeme
 use Rattle.ct_lex.specs.declared.token.Symbol.TheVariants as symbol
@@ -25,9 +25,9 @@ use Rattle.ct_parse.specs.declared.tree.Statement.{Statement}
 use Rattle.std.specs.Prelude.{Bool, Option, codes}
 use Rattle.ct_parse.specs.Grammar.{IsName, name, IsColumn, plain, qualified, IsTerm, number_term, text_term, null_term, column_term, IsComparison, equal, unequal, IsFactor, negated, nested, true_factor, false_factor, compared, AreFactors, no_factor, and_factor, IsConjunction, conjunction, AreConjunctions, no_conjunction, or_conjunction, IsCondition, condition, AreMore, no_more, one_more, IsClosed, closed, IsCell, number_cell, text_cell, null_cell, new_null, IsRow, row, HasCondition, no_condition, a_condition, HasName, no_name, as_name, IsItem, item, AreItems, star, listed, HasAlias, no_alias, alias, as_alias, IsTable, table, IsTableOn, table_on, IsJoined, comma, join, inner_join, AreJoined, none_joined, more_joined, AreTables, tables, IsDistinct, not_distinct, distinct, IsSelect, select, IsSetOperator, union, except, IsPrimary, nested_query, select_query, ArePrimaries, no_primary, intersect, IsQueryTerm, query_term, AreTerms, no_term, combined, IsQuery, query, IsStatement, create, insert_rows, insert_query, delete, assert, rows, possible, certain, begin, commit, rollback}
 use Rattle.ct_parse.specs.Ends.{Fails, at_word, EndsAnyhow, EndsColumn, EndsConjunction, EndsCondition, EndsList, EndsBehind, EndsItem, EndsItems, EndsTable, EndsJoined, EndsTables, EndsDistinct, EndsSelect, EndsQueryTerm, EndsQuery, EndsStatement}
-use Rattle.ct_parse.specs.Reads.{Reads, Never}
+use Rattle.ct_parse.specs.Reads.{Reads}
 use Rattle.ct_parse.specs.Parses.{Spells, SpellsCondition}
-use Rattle.ct_parse.proofs.Unique.{Same, moved, before_comparison}
+use Rattle.ct_parse.proofs.Fronts.{moved, before_comparison}
 use Rattle.ct_parse.proofs.TermSteps.{name_reads, plain_reads, qualified_reads, number_reads, text_reads, null_reads, column_reads, equal_reads, unequal_reads}
 use Rattle.ct_parse.proofs.Listed.{Behind, behind_reads, Lists, none_read, more_read, both_read}
 use Rattle.ct_parse.proofs.ConditionSteps.{negated_read, nested_read, true_read, false_read, compared_read, factors, conjunctions, conjunction_pair, condition_pair}
@@ -155,7 +155,7 @@ reads_operator except = except_read refl
 
 mutual
   reads_primary : {ws r : List Lexeme} {p : QueryPrimary} → IsPrimary ws p r → EndsSelect r → Reads IsPrimary EndsSelect ws p r
-  reads_primary (nested_query q) e = queries.nested_read refl (reads_query q (ends_at_paren _)) refl
+  reads_primary (nested_query {r = r} q) e = queries.nested_read refl (reads_query q (ends_at_paren r)) refl
   reads_primary (select_query s) e = renamed (primary_is (λ x f. paren_select (moved IsSelect f s))) (reads_select s e)
 
   reads_primaries : {ws r : List Lexeme} {ps : List QueryPrimary} → ArePrimaries ws ps r → EndsQueryTerm r → Reads ArePrimaries EndsQueryTerm ws ps r

@@ -1,5 +1,5 @@
 -- What the steps of the readers of rows show.
-use Rattle.std.proofs.Common.{◌≡◌, ℕ, List, [], ◌∷◌, length, refl, ap, sym, subst, ◌∙◌, arith}
+use Rattle.std.proofs.Common.{◌≡◌, ℕ, List, [], ◌∷◌, refl, ap, subst, ◌∙◌, arith}
 use Rattle.std.specs.Prelude.{codes}
 use Rattle.ct_lex.specs.declared.token.Lexeme.{Lexeme}
 use Rattle.ct_lex.specs.declared.token.Lexeme.TheVariants as lexeme
@@ -10,10 +10,10 @@ use Rattle.ct_parse.specs.declared.tree.Row.{Row}
 use Rattle.ct_parse.specs.Grammar.{AreMore, IsClosed, IsCell, number_cell, text_cell, null_cell, new_null, IsRow, row}
 use Rattle.ct_parse.specs.Ends.{Fails, at_word, EndsAnyhow, EndsList}
 use Rattle.ct_parse.specs.Reads.{Reads, Never}
-use Rattle.ct_parse.proofs.Unique.{Same}
+use Rattle.ct_parse.proofs.Fronts.{Same}
 use Rattle.ct_parse.proofs.TermSteps.{reads_at, never_at}
 use Rattle.ct_parse.proofs.Listed.{behind_reads, behind_never, both_read, no_first, no_second}
-use Rattle.ct_parse.proofs.Combined.{Then, then_read, no_then, not_then, Both, Inside, inside_pair, closed_is, Image, image, Renames, renamed, no_renamed}
+use Rattle.ct_parse.proofs.Combined.{Then, then_read, no_then, not_then, Both, inside_pair, closed_is, Image, image, Renames, renamed, no_renamed}
 
 module _ {T : Type 0} (X : List Lexeme → T → List Lexeme → Type 0) {ws : List Lexeme} where
   pub closed_read : {rest m l r : List Lexeme} {x : T} {xs : List T} → ws ≡ lexeme.Symbol symbol.LeftParen ∷ rest → Reads X EndsAnyhow rest x m → Reads (AreMore X) EndsList m xs l

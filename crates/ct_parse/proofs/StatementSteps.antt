@@ -1,5 +1,5 @@
 -- What the steps of the readers of statements show.
-use Rattle.std.proofs.Common.{◌≡◌, ℕ, List, [], ◌∷◌, length, Option, Some, None, refl, ap, sym, subst, ◌∙◌, arith}
+use Rattle.std.proofs.Common.{◌≡◌, ℕ, List, [], ◌∷◌, Option, refl, ap, sym, subst, ◌∙◌, arith}
 use Rattle.std.specs.Prelude.{IsTrue, codes}
 use Rattle.std.proofs.lemmas.Bool.{false≢true}
 use Rattle.ct_word.specs.Value.{same_text}
@@ -15,10 +15,10 @@ use Rattle.ct_parse.specs.declared.tree.Statement.TheVariants as statement
 use Rattle.ct_parse.specs.Grammar.{IsName, AreMore, IsClosed, IsRow, IsCondition, HasCondition, no_condition, a_condition, select, IsPrimary, select_query, IsQueryTerm, query_term, IsQuery, query, IsStatement, create, insert_rows, insert_query, delete, assert, rows, possible, certain, begin, commit, rollback}
 use Rattle.ct_parse.specs.Ends.{Fails, at_word, EndsAnyhow, EndsList, EndsCondition, EndsBehind, EndsQuery, EndsStatement}
 use Rattle.ct_parse.specs.Reads.{Reads, Never}
-use Rattle.ct_parse.proofs.Unique.{Same, tail, moved}
+use Rattle.ct_parse.proofs.Fronts.{Same, moved}
 use Rattle.ct_parse.proofs.TermSteps.{reads_at, never_at}
-use Rattle.ct_parse.proofs.Listed.{Behind, behind_reads, behind_never, Parts, parts, Pairs, both_read, no_first, no_second}
-use Rattle.ct_parse.proofs.Combined.{not_word, Then, then_read, no_then, not_then, Both, pair_of, Image, image, Renames, renamed, no_renamed}
+use Rattle.ct_parse.proofs.Listed.{Behind, behind_reads, behind_never, parts, Pairs, both_read, no_first, no_second}
+use Rattle.ct_parse.proofs.Combined.{not_word, Then, then_read, Both, pair_of, Image, image, Renames, renamed, no_renamed}
 
 -- what ends a statement ends all else
 narrowed : {T : Type 0} {X : List Lexeme → T → List Lexeme → Type 0} {E : List Lexeme → Type 0} → E [] → {ws r : List Lexeme} {t : T} → Reads X E ws t r → Reads X EndsStatement ws t r

@@ -1,8 +1,7 @@
 -- What the steps of the readers of items and tables show.
-use Rattle.std.proofs.Common.{◌≡◌, ◌≤◌, ◌<◌, ℕ, Bool, true, false, List, [], ◌∷◌, length, Option, Some, None, refl, ap, sym, subst, ◌∙◌, arith}
-use Rattle.std.specs.Prelude.{IsTrue, codes}
+use Rattle.std.proofs.Common.{◌≡◌, ◌≤◌, ◌<◌, ℕ, Bool, true, false, List, ◌∷◌, length, Option, Some, None, refl, ap, subst, ◌∙◌, arith}
+use Rattle.std.specs.Prelude.{codes}
 use Rattle.std.proofs.lemmas.Bool.{false≢true}
-use Rattle.ct_word.specs.Writable.{is_name}
 use Rattle.ct_lex.specs.declared.token.Lexeme.{Lexeme}
 use Rattle.ct_lex.specs.declared.token.Lexeme.TheVariants as lexeme
 use Rattle.ct_lex.specs.declared.token.Symbol.TheVariants as symbol
@@ -17,12 +16,12 @@ use Rattle.ct_parse.specs.declared.tree.Joined.{Joined}
 use Rattle.ct_parse.specs.declared.tree.Joined.TheVariants as joined
 use Rattle.ct_parse.specs.declared.tree.Tables.{Tables}
 use Rattle.ct_parse.specs.Grammar.{IsName, name, IsColumn, plain, qualified, IsCondition, AreMore, HasName, no_name, as_name, IsItem, item, AreItems, star, listed, HasAlias, no_alias, alias, as_alias, IsTable, table, IsTableOn, table_on, IsJoined, comma, join, inner_join, AreJoined, none_joined, more_joined, MORE_TABLES, AreTables, tables}
-use Rattle.ct_parse.specs.Ends.{Fails, at_word, at_name, at_comma, at_joined, EndsAnyhow, EndsColumn, EndsItem, EndsItems, EndsTable, EndsCondition, EndsJoined, EndsTables}
+use Rattle.ct_parse.specs.Ends.{Fails, at_word, at_name, at_joined, EndsAnyhow, EndsColumn, EndsItem, EndsItems, EndsTable, EndsCondition, EndsJoined, EndsTables}
 use Rattle.ct_parse.specs.Reads.{Reads, Never}
-use Rattle.ct_parse.proofs.Unique.{Same, tail, moved, symbol_name, word_name}
+use Rattle.ct_parse.proofs.Fronts.{Same, moved, symbol_name, word_name}
 use Rattle.ct_parse.proofs.TermSteps.{reads_at, never_at}
-use Rattle.ct_parse.proofs.Listed.{Behind, Cases, ended, split, Lists, Parts, parts, Pairs, both_read, no_first, no_second}
-use Rattle.ct_parse.proofs.Combined.{not_word, Then, then_read, no_then, not_then, Both, pair_of, comma_list, Image, image, Renames, renamed, no_renamed}
+use Rattle.ct_parse.proofs.Listed.{Behind, Cases, ended, split, Lists, Parts, parts, Pairs}
+use Rattle.ct_parse.proofs.Combined.{Then, Both, pair_of, comma_list, Image, image, Renames}
 
 -- [AS name]
 as_only : {rest r r' : List Lexeme} {n : List ℕ} {o : Option (List ℕ)} → Reads IsName EndsAnyhow rest n r → EndsItem r' → HasName (lexeme.Word (codes "as") ∷ rest) o r' → Same o (Some n) r' r

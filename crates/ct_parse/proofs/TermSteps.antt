@@ -15,7 +15,7 @@ use Rattle.ct_parse.specs.declared.error.Unread.TheVariants as unread
 use Rattle.ct_parse.specs.Grammar.{IsName, name, IsColumn, plain, qualified, IsTerm, number_term, text_term, null_term, column_term, IsComparison, equal, unequal}
 use Rattle.ct_parse.specs.Ends.{Fails, at_dot, at_comma, EndsAnyhow, EndsColumn}
 use Rattle.ct_parse.specs.Reads.{Reads, Never}
-use Rattle.ct_parse.proofs.Unique.{Same, tail, moved, one_name, number_column, text_column, null_column, one_comparison}
+use Rattle.ct_parse.proofs.Fronts.{Same, tail, moved, one_name, number_column, text_column, null_column, one_comparison}
 
 -- what reads the same lexemes
 pub reads_at : {T : Type 0} {R : List Lexeme → T → List Lexeme → Type 0} {E : List Lexeme → Type 0} {ws ws' r : List Lexeme} {t : T} → ws ≡ ws' → Reads R E ws' t r → Reads R E ws t r

@@ -1,4 +1,4 @@
-use Rattle.std.proofs.Common.{ℕ, ◌+◌, ◌*◌, length}
+use Rattle.std.proofs.Common.{◌+◌, ◌*◌, length}
 use Rattle.ct_parse.specs.Grammar.{said, ArePrimaries, AreTerms}
 use Rattle.ct_parse.specs.Ends.{EndsQueryTerm, EndsQuery}
 use Rattle.ct_parse.proofs.Listed.{SoFar}

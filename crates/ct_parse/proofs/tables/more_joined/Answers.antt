@@ -1,4 +1,4 @@
-use Rattle.std.proofs.Common.{sym, subst, ◌∙◌}
+use Rattle.std.proofs.Common.{sym, subst}
 use Rattle.ct_parse.specs.Grammar.{said, AreJoined}
 use Rattle.ct_parse.specs.Ends.{Fails, EndsTables}
 use Rattle.ct_parse.proofs.TermSteps.{passed}
