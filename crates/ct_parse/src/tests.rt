@@ -286,7 +286,11 @@ fn shown(alloc: Global, text: &str) -> Result<String, AllocError> {
     };
     let mut out = String::new(alloc);
     match statement(alloc, list.as_slice()) {
-        Ok(found) => put_statement(alloc, &mut out, &found)?,
+        Ok(found) => {
+            let put = put_statement(alloc, &mut out, &found);
+            drop(found);
+            put?;
+        }
         Err(error) => return format!(in alloc; "{error:?}"),
     }
     Ok(out)
@@ -300,7 +304,11 @@ fn shown_condition(alloc: Global, text: &str) -> Result<String, AllocError> {
     };
     let mut out = String::new(alloc);
     match condition(alloc, list.as_slice()) {
-        Ok(found) => put_condition(alloc, &mut out, &found)?,
+        Ok(found) => {
+            let put = put_condition(alloc, &mut out, &found);
+            drop(found);
+            put?;
+        }
         Err(error) => return format!(in alloc; "{error:?}"),
     }
     Ok(out)
