@@ -1,0 +1,11 @@
+pub mod Fronts
+pub mod TermSteps
+pub mod Deep
+pub mod Listed
+pub mod ConditionSteps
+pub mod Combined
+pub mod RowSteps
+pub mod TableSteps
+pub mod QuerySteps
+pub mod StatementSteps
+pub mod Readings

@@ -1,0 +1,266 @@
+-- What the steps of the readers of queries show.
+use Rattle.std.proofs.Common.{◌≡◌, Bool, true, false, List, ◌∷◌, Option, refl, sym, subst, arith}
+use Rattle.std.specs.Prelude.{codes}
+use Rattle.ct_lex.specs.declared.token.Lexeme.{Lexeme}
+use Rattle.ct_lex.specs.declared.token.Lexeme.TheVariants as lexeme
+use Rattle.ct_lex.specs.declared.token.Symbol.TheVariants as symbol
+use Rattle.ct_parse.specs.declared.tree.Column.{Column}
+use Rattle.ct_parse.specs.declared.tree.Condition.{Condition}
+use Rattle.ct_parse.specs.declared.tree.Items.{Items}
+use Rattle.ct_parse.specs.declared.tree.Tables.{Tables}
+use Rattle.ct_parse.specs.declared.tree.Select.{Select}
+use Rattle.ct_parse.specs.declared.tree.SetOperator.{SetOperator}
+use Rattle.ct_parse.specs.declared.tree.SetOperator.TheVariants as operator
+use Rattle.ct_parse.specs.declared.tree.QueryPrimary.{QueryPrimary}
+use Rattle.ct_parse.specs.declared.tree.QueryPrimary.TheVariants as primary
+use Rattle.ct_parse.specs.declared.tree.QueryTerm.{QueryTerm}
+use Rattle.ct_parse.specs.declared.tree.Query.{Query}
+use Rattle.ct_parse.specs.Grammar.{HasCondition, no_condition, a_condition, item, IsColumn, plain, qualified, AreItems, star, listed, AreTables, IsDistinct, not_distinct, distinct, IsSelect, select, IsSetOperator, union, except, query_of, IsPrimary, nested_query, select_query, ArePrimaries, no_primary, intersect, IsQueryTerm, query_term, AreTerms, no_term, combined, IsQuery, query}
+use Rattle.ct_parse.specs.Ends.{Fails, at_word, at_operator, EndsAnyhow, EndsBehind, EndsItems, EndsTables, EndsDistinct, EndsSelect, EndsQueryTerm, EndsQuery}
+use Rattle.ct_parse.specs.Reads.{Reads, Never}
+use Rattle.ct_parse.proofs.Fronts.{Same, moved}
+use Rattle.ct_parse.proofs.TermSteps.{reads_at, never_at}
+use Rattle.ct_parse.proofs.Listed.{Behind, behind_reads, behind_never, Cases, ended, split, Lists, Parts, parts, Pairs, both_read, no_first, no_second}
+use Rattle.ct_parse.proofs.Combined.{not_word, name_apart, Then, then_read, no_then, not_then, Both, pair_of, Image, image, Renames, renamed, no_renamed}
+
+-- [DISTINCT]
+distinct_only : {r r' : List Lexeme} {b : Bool} → EndsDistinct r' → IsDistinct (lexeme.Word (codes "distinct") ∷ r) b r' → Same b true r' r
+distinct_only e not_distinct = absurd e
+distinct_only e distinct = (refl, refl)
+
+pub distinct_read : {ws r : List Lexeme} → ws ≡ lexeme.Word (codes "distinct") ∷ r → Reads IsDistinct EndsDistinct ws true r
+distinct_read f = reads_at f (record { is = distinct; only = λ t r e x. distinct_only e x; within = omega arith })
+
+not_distinct_only : {ws r : List Lexeme} {b : Bool} → Fails (at_word (codes "distinct") ws) → IsDistinct ws b r → Same b false r ws
+not_distinct_only fails not_distinct = (refl, refl)
+not_distinct_only fails distinct = absurd fails
+
+pub not_distinct_read : {ws : List Lexeme} → Fails (at_word (codes "distinct") ws) → Reads IsDistinct EndsDistinct ws false ws
+not_distinct_read fails = record { is = not_distinct; only = λ t r e x. not_distinct_only fails x; within = omega arith }
+
+-- SELECT [DISTINCT] items FROM from [WHERE cond], as pairs
+abbrev FROM : Lexeme
+FROM = lexeme.Word (codes "from")
+
+abbrev SELECT : Lexeme
+SELECT = lexeme.Word (codes "select")
+
+abbrev Filter : List Lexeme → Option Condition → List Lexeme → Type 0
+Filter = HasCondition (codes "where")
+
+abbrev Source : List Lexeme → Tables × Option Condition → List Lexeme → Type 0
+Source = Both AreTables Filter
+
+abbrev Shown : List Lexeme → Items → List Lexeme → Type 0
+Shown = Then AreItems FROM
+
+abbrev Shape : Type 0
+Shape = Bool × (Items × (Tables × Option Condition))
+
+abbrev Selected : List Lexeme → Shape → List Lexeme → Type 0
+Selected = Behind SELECT (Both IsDistinct (Both Shown Source))
+
+-- the condition of a SELECT ends where the SELECT does
+filter_reads : {ws r : List Lexeme} {o : Option Condition} → Reads Filter (EndsBehind (codes "where")) ws o r → Reads Filter EndsSelect ws o r
+filter_reads h = record { is = h.is; only = λ t r e x. h.only t r (e.0, e.1.1.1) x; within = h.within }
+
+no_filter : {ws : List Lexeme} → Never Filter (EndsBehind (codes "where")) ws → Never Filter EndsSelect ws
+no_filter never = λ t r e x. never t r (e.0, e.1.1.1) x
+
+pub before_filter : {ws r : List Lexeme} {o : Option Condition} → Filter ws o r → EndsSelect r → EndsTables ws
+before_filter no_condition e = e.1
+before_filter (a_condition x) e = (tt, ((tt, tt), (tt, (tt, tt))))
+
+source_pair : Pairs AreTables EndsTables Filter EndsSelect (λ x y. (x, y)) Source
+source_pair = pair_of AreTables EndsTables Filter EndsSelect (λ ws r y c e. before_filter c e)
+
+shown_pair : Pairs Shown EndsAnyhow Source EndsSelect (λ x y. (x, y)) (Both Shown Source)
+shown_pair = pair_of Shown EndsAnyhow Source EndsSelect (λ ws r y c e. tt)
+
+column_apart : {ws r : List Lexeme} {c : Column} → IsColumn ws c r → EndsDistinct ws
+column_apart (plain n) = name_apart (codes "distinct") refl n
+column_apart (qualified n m) = name_apart (codes "distinct") refl n
+
+pub items_apart : {ws r : List Lexeme} {i : Items} → AreItems ws i r → EndsDistinct ws
+items_apart star = tt
+items_apart (listed (item c a) l) = column_apart c
+
+before_shown : {ws r : List Lexeme} {y : Items × (Tables × Option Condition)} → Both Shown Source ws y r → EndsDistinct ws
+before_shown (parts i s) = items_apart i
+
+distinct_pair : Pairs IsDistinct EndsDistinct (Both Shown Source) EndsSelect (λ x y. (x, y)) (Both IsDistinct (Both Shown Source))
+distinct_pair = pair_of IsDistinct EndsDistinct (Both Shown Source) EndsSelect (λ ws r y c e. before_shown c)
+
+abbrev pub select_of : Shape → Select
+select_of p = record { is_distinct = p.0; items = p.1.0; tables = p.1.1.0; condition = p.1.1.1 }
+
+into_select : {ws r : List Lexeme} {p : Shape} → Both IsDistinct (Both Shown Source) ws p r → IsSelect (SELECT ∷ ws) (select_of p) r
+into_select (parts d (parts i (parts t c))) = select d i t c
+
+back_select : {ws r : List Lexeme} {s : Select} → IsSelect ws s r → Image Selected select_of ws s r
+back_select (select d i t c) = image (_, refl, parts d (parts i (parts t c)))
+
+select_is : (ws : List Lexeme) → Renames Selected select_of IsSelect ws
+select_is ws = record { into = λ b. moved IsSelect (sym b.1) (into_select b.2); back = λ s. back_select s }
+
+pub ends_at_from : (r : List Lexeme) → EndsItems (FROM ∷ r)
+ends_at_from r = (tt, (tt, tt))
+
+pub no_select : {ws : List Lexeme} → Fails (at_word (codes "select") ws) → Never IsSelect EndsSelect ws
+no_select {ws = ws} fails = no_renamed (select_is ws) (λ t r e b. not_word (codes "select") fails _ b.1)
+
+inside_select : {ws rest : List Lexeme} → ws ≡ SELECT ∷ rest → Never (Both IsDistinct (Both Shown Source)) EndsSelect rest → Never IsSelect EndsSelect ws
+inside_select {ws = ws} f never = no_renamed (select_is ws) (behind_never (Both IsDistinct (Both Shown Source)) f never)
+
+pub no_items : {ws rest m : List Lexeme} {b : Bool} → ws ≡ SELECT ∷ rest → Reads IsDistinct EndsDistinct rest b m → Never AreItems EndsItems m → Never IsSelect EndsSelect ws
+no_items f d never = inside_select f (no_second distinct_pair d (no_first shown_pair (no_then AreItems FROM ends_at_from never)))
+
+pub no_from : {ws rest m l : List Lexeme} {b : Bool} {i : Items} → ws ≡ SELECT ∷ rest → Reads IsDistinct EndsDistinct rest b m → Reads AreItems EndsItems m i l → Fails (at_word (codes "from") l)
+    → Never IsSelect EndsSelect ws
+no_from f d i fails = inside_select f (no_second distinct_pair d (no_first shown_pair (not_then FROM ends_at_from i (not_word (codes "from") fails))))
+
+pub no_tables : {ws rest m l k : List Lexeme} {b : Bool} {i : Items} → ws ≡ SELECT ∷ rest → Reads IsDistinct EndsDistinct rest b m → Reads AreItems EndsItems m i l → l ≡ FROM ∷ k
+    → Never AreTables EndsTables k → Never IsSelect EndsSelect ws
+no_tables f d i g never = inside_select f (no_second distinct_pair d (no_second shown_pair (then_read FROM ends_at_from i g) (no_first source_pair never)))
+
+pub no_where : {ws rest m l k j : List Lexeme} {b : Bool} {i : Items} {t : Tables} → ws ≡ SELECT ∷ rest → Reads IsDistinct EndsDistinct rest b m → Reads AreItems EndsItems m i l → l ≡ FROM ∷ k
+    → Reads AreTables EndsTables k t j → Never Filter (EndsBehind (codes "where")) j → Never IsSelect EndsSelect ws
+no_where f d i g t never =
+    inside_select f (no_second distinct_pair d (no_second shown_pair (then_read FROM ends_at_from i g) (no_second source_pair t (no_filter never))))
+
+pub select_read : {ws rest m l k j r : List Lexeme} {b : Bool} {i : Items} {t : Tables} {o : Option Condition} → ws ≡ SELECT ∷ rest → Reads IsDistinct EndsDistinct rest b m
+    → Reads AreItems EndsItems m i l → l ≡ FROM ∷ k → Reads AreTables EndsTables k t j → Reads Filter (EndsBehind (codes "where")) j o r
+    → Reads IsSelect EndsSelect ws (record { is_distinct = b; items = i; tables = t; condition = o }) r
+select_read {ws = ws} f d i g t c =
+    renamed (select_is ws) (behind_reads f (both_read distinct_pair d (both_read shown_pair (then_read FROM ends_at_from i g) (both_read source_pair t (filter_reads c)))))
+
+-- UNION and EXCEPT
+one_operator : {ws r r' : List Lexeme} {o o' : SetOperator} → IsSetOperator ws o r → IsSetOperator ws o' r' → Same o o' r r'
+one_operator union union = (refl, refl)
+one_operator except except = (refl, refl)
+
+pub union_read : {ws r : List Lexeme} → ws ≡ lexeme.Word (codes "union") ∷ r → Reads IsSetOperator EndsAnyhow ws operator.Union r
+union_read f = reads_at f (record { is = union; only = λ t r e x. one_operator x union; within = omega arith })
+
+pub except_read : {ws r : List Lexeme} → ws ≡ lexeme.Word (codes "except") ∷ r → Reads IsSetOperator EndsAnyhow ws operator.Except r
+except_read f = reads_at f (record { is = except; only = λ t r e x. one_operator x except; within = omega arith })
+
+pub stands_operator : {ws r : List Lexeme} {o : SetOperator} → IsSetOperator ws o r → Fails (at_operator ws) → ⊥
+stands_operator union fails = fails
+stands_operator except fails = fails
+
+-- primaries
+pub ends_at_paren : (r : List Lexeme) → EndsQuery (lexeme.Symbol symbol.RightParen ∷ r)
+ends_at_paren r = (tt, (tt, (tt, (tt, ((tt, tt), (tt, (tt, tt)))))))
+
+abbrev Parens : List Lexeme → Query → List Lexeme → Type 0
+Parens = Behind (lexeme.Symbol symbol.LeftParen) (Then IsQuery (lexeme.Symbol symbol.RightParen))
+
+pub paren_select : {ws r : List Lexeme} {s : Select} → IsSelect (lexeme.Symbol symbol.LeftParen ∷ ws) s r → ⊥
+paren_select s = elim s [ ]
+
+back_nested : {ws r : List Lexeme} {p : QueryPrimary} → IsPrimary (lexeme.Symbol symbol.LeftParen ∷ ws) p r → Image Parens primary.Nested (lexeme.Symbol symbol.LeftParen ∷ ws) p r
+back_nested (nested_query q) = image (_, refl, q)
+back_nested (select_query s) = absurd (paren_select s)
+
+nested_is : (ws : List Lexeme) → Renames Parens primary.Nested IsPrimary (lexeme.Symbol symbol.LeftParen ∷ ws)
+nested_is ws = record { into = λ b. moved IsPrimary (sym b.1) (nested_query b.2); back = λ p. back_nested p }
+
+pub nested_read : {ws rest m r : List Lexeme} {q : Query} → ws ≡ lexeme.Symbol symbol.LeftParen ∷ rest → Reads IsQuery EndsQuery rest q m → m ≡ lexeme.Symbol symbol.RightParen ∷ r
+    → Reads IsPrimary EndsSelect ws (primary.Nested q) r
+nested_read {rest = rest} f h g = reads_at f (widened (renamed (nested_is rest) (behind_reads refl (then_read (lexeme.Symbol symbol.RightParen) ends_at_paren h g))))
+  where
+    widened : {ws r : List Lexeme} {p : QueryPrimary} → Reads IsPrimary EndsAnyhow ws p r → Reads IsPrimary EndsSelect ws p r
+    widened h = record { is = h.is; only = λ t r e x. h.only t r tt x; within = h.within }
+
+pub no_nested : {ws rest : List Lexeme} → ws ≡ lexeme.Symbol symbol.LeftParen ∷ rest → Never IsQuery EndsQuery rest → Never IsPrimary EndsSelect ws
+no_nested {rest = rest} f never = never_at IsPrimary EndsSelect f (λ t r e x. no_renamed (nested_is rest)
+    (behind_never (Then IsQuery (lexeme.Symbol symbol.RightParen)) {E = EndsAnyhow} refl (no_then IsQuery (lexeme.Symbol symbol.RightParen) ends_at_paren never)) t r tt x)
+
+pub nested_open : {ws rest m : List Lexeme} {q : Query} → ws ≡ lexeme.Symbol symbol.LeftParen ∷ rest → Reads IsQuery EndsQuery rest q m
+    → ((x : List Lexeme) → m ≡ lexeme.Symbol symbol.RightParen ∷ x → ⊥) → Never IsPrimary EndsSelect ws
+nested_open {rest = rest} f h never = never_at IsPrimary EndsSelect f (λ t r e x. no_renamed (nested_is rest)
+    (behind_never (Then IsQuery (lexeme.Symbol symbol.RightParen)) {E = EndsAnyhow} refl (not_then {X = IsQuery} (lexeme.Symbol symbol.RightParen) ends_at_paren h never)) t r tt x)
+
+back_primary : {ws r : List Lexeme} {p : QueryPrimary} → ((x : List Lexeme) → ws ≡ lexeme.Symbol symbol.LeftParen ∷ x → ⊥) → IsPrimary ws p r → Image IsSelect primary.Select ws p r
+back_primary no_paren (nested_query q) = absurd (no_paren _ refl)
+back_primary no_paren (select_query s) = image s
+
+pub primary_is : {ws : List Lexeme} → ((x : List Lexeme) → ws ≡ lexeme.Symbol symbol.LeftParen ∷ x → ⊥) → Renames IsSelect primary.Select IsPrimary ws
+primary_is no_paren = record { into = λ s. select_query s; back = λ p. back_primary no_paren p }
+
+-- primaries behind INTERSECT
+abbrev INTERSECT : Lexeme
+INTERSECT = lexeme.Word (codes "intersect")
+
+cases_of_primaries : {ws r : List Lexeme} {ps : List QueryPrimary} → ArePrimaries ws ps r → Cases (Behind INTERSECT IsPrimary) ArePrimaries ws ps r
+cases_of_primaries no_primary = ended
+cases_of_primaries (intersect p l) = split (_, refl, p) l
+
+before_primaries : {ws r : List Lexeme} {ps : List QueryPrimary} → ArePrimaries ws ps r → EndsQueryTerm r → EndsSelect ws
+before_primaries no_primary e = e.1
+before_primaries (intersect p l) e = (tt, (tt, ((tt, tt), (tt, (tt, tt)))))
+
+pub primary_list : Lists (Behind INTERSECT IsPrimary) EndsSelect EndsQueryTerm ArePrimaries
+primary_list = record {
+  none = no_primary;
+  more = λ b l. moved ArePrimaries (sym b.1) (intersect b.2 l);
+  cases = λ l. cases_of_primaries l;
+  before = λ l e. before_primaries l e;
+  apart = λ b e. (subst EndsQueryTerm b.1 e).0;
+}
+
+pub no_intersect : {ws : List Lexeme} → Fails (at_word (codes "intersect") ws) → (p : QueryPrimary) (m : List Lexeme) → Behind INTERSECT IsPrimary ws p m → ⊥
+no_intersect fails p m b = not_word (codes "intersect") fails _ b.1
+
+abbrev pub term_of : QueryPrimary → List QueryPrimary → QueryTerm
+term_of p ps = record { first = p; rest = ps }
+
+parts_of_term : {ws r : List Lexeme} {t : QueryTerm} → IsQueryTerm ws t r → Parts IsPrimary ArePrimaries term_of ws t r
+parts_of_term (query_term p l) = parts p l
+
+pub term_pair : Pairs IsPrimary EndsSelect ArePrimaries EndsQueryTerm term_of IsQueryTerm
+term_pair = record { both = λ p l. query_term p l; cases = λ t. parts_of_term t; before = λ l e. before_primaries l e }
+
+-- terms behind UNION and EXCEPT
+abbrev pub Combined : List Lexeme → SetOperator × QueryTerm → List Lexeme → Type 0
+Combined = Both IsSetOperator IsQueryTerm
+
+pub combined_pair : Pairs IsSetOperator EndsAnyhow IsQueryTerm EndsQueryTerm (λ x y. (x, y)) Combined
+combined_pair = pair_of IsSetOperator EndsAnyhow IsQueryTerm EndsQueryTerm (λ ws r y c e. tt)
+
+more_terms : {ws m r : List Lexeme} {p : SetOperator × QueryTerm} {ts : List (SetOperator × QueryTerm)} → Combined ws p m → AreTerms m ts r → AreTerms ws (p ∷ ts) r
+more_terms (parts o t) l = combined o t l
+
+cases_of_terms : {ws r : List Lexeme} {ts : List (SetOperator × QueryTerm)} → AreTerms ws ts r → Cases Combined AreTerms ws ts r
+cases_of_terms no_term = ended
+cases_of_terms (combined o t l) = split (parts o t) l
+
+operator_ends : {ws r : List Lexeme} {o : SetOperator} → IsSetOperator ws o r → EndsQueryTerm ws
+operator_ends union = (tt, (tt, (tt, ((tt, tt), (tt, (tt, tt))))))
+operator_ends except = (tt, (tt, (tt, ((tt, tt), (tt, (tt, tt))))))
+
+before_terms : {ws r : List Lexeme} {ts : List (SetOperator × QueryTerm)} → AreTerms ws ts r → EndsQuery r → EndsQueryTerm ws
+before_terms no_term e = e.1
+before_terms (combined o t l) e = operator_ends o
+
+pub no_operator : {ws : List Lexeme} → Fails (at_operator ws) → (p : SetOperator × QueryTerm) (m : List Lexeme) → Combined ws p m → ⊥
+no_operator fails p m c = none c fails
+  where
+    none : {ws r : List Lexeme} {p : SetOperator × QueryTerm} → Combined ws p r → Fails (at_operator ws) → ⊥
+    none (parts o t) fails = stands_operator o fails
+
+pub term_list : Lists Combined EndsQueryTerm EndsQuery AreTerms
+term_list = record {
+  none = no_term;
+  more = λ c l. more_terms c l;
+  cases = λ l. cases_of_terms l;
+  before = λ l e. before_terms l e;
+  apart = λ c e. no_operator e.0 _ _ c;
+}
+
+parts_of_query : {ws r : List Lexeme} {q : Query} → IsQuery ws q r → Parts IsQueryTerm AreTerms query_of ws q r
+parts_of_query (query t l) = parts t l
+
+pub query_pair : Pairs IsQueryTerm EndsQueryTerm AreTerms EndsQuery query_of IsQuery
+query_pair = record { both = λ t l. query t l; cases = λ q. parts_of_query q; before = λ l e. before_terms l e }

@@ -1,0 +1,213 @@
+-- Lexemes have one reading: whatever is spelled is what a reader would find, and nothing else.
+use Rattle.std.proofs.Common.{◌≡◌, ℕ, List, [], refl, sym, subst}
+use Rattle.ct_lex.specs.declared.token.Lexeme.{Lexeme}
+use Rattle.ct_lex.specs.declared.token.Lexeme.TheVariants as lexeme
+use Rattle.ct_lex.specs.declared.token.Symbol.TheVariants as symbol
+use Rattle.ct_parse.specs.declared.tree.Column.{Column}
+use Rattle.ct_parse.specs.declared.tree.Term.{Term}
+use Rattle.ct_parse.specs.declared.tree.Comparison.{Comparison}
+use Rattle.ct_parse.specs.declared.tree.Factor.{Factor}
+use Rattle.ct_parse.specs.declared.tree.Conjunction.{Conjunction}
+use Rattle.ct_parse.specs.declared.tree.Condition.{Condition}
+use Rattle.ct_parse.specs.declared.tree.Cell.{Cell}
+use Rattle.ct_parse.specs.declared.tree.Row.{Row}
+use Rattle.ct_parse.specs.declared.tree.Item.{Item}
+use Rattle.ct_parse.specs.declared.tree.Items.{Items}
+use Rattle.ct_parse.specs.declared.tree.Table.{Table}
+use Rattle.ct_parse.specs.declared.tree.Joined.{Joined}
+use Rattle.ct_parse.specs.declared.tree.Tables.{Tables}
+use Rattle.ct_parse.specs.declared.tree.Select.{Select}
+use Rattle.ct_parse.specs.declared.tree.SetOperator.{SetOperator}
+use Rattle.ct_parse.specs.declared.tree.QueryPrimary.{QueryPrimary}
+use Rattle.ct_parse.specs.declared.tree.QueryTerm.{QueryTerm}
+use Rattle.ct_parse.specs.declared.tree.Query.{Query}
+use Rattle.ct_parse.specs.declared.tree.Statement.{Statement}
+use Rattle.std.specs.Prelude.{Bool, Option, codes}
+use Rattle.ct_parse.specs.Grammar.{IsName, name, IsColumn, plain, qualified, IsTerm, number_term, text_term, null_term, column_term, IsComparison, equal, unequal, IsFactor, negated, nested, true_factor, false_factor, compared, AreFactors, no_factor, and_factor, IsConjunction, conjunction, AreConjunctions, no_conjunction, or_conjunction, IsCondition, condition, AreMore, no_more, one_more, IsClosed, closed, IsCell, number_cell, text_cell, null_cell, new_null, IsRow, row, HasCondition, no_condition, a_condition, HasName, no_name, as_name, IsItem, item, AreItems, star, listed, HasAlias, no_alias, alias, as_alias, IsTable, table, IsTableOn, table_on, IsJoined, comma, join, inner_join, AreJoined, none_joined, more_joined, AreTables, tables, IsDistinct, not_distinct, distinct, IsSelect, select, IsSetOperator, union, except, IsPrimary, nested_query, select_query, ArePrimaries, no_primary, intersect, IsQueryTerm, query_term, AreTerms, no_term, combined, IsQuery, query, IsStatement, create, insert_rows, insert_query, delete, assert, rows, possible, certain, begin, commit, rollback}
+use Rattle.ct_parse.specs.Ends.{Fails, at_word, EndsAnyhow, EndsColumn, EndsConjunction, EndsCondition, EndsList, EndsBehind, EndsItem, EndsItems, EndsTable, EndsJoined, EndsTables, EndsDistinct, EndsSelect, EndsQueryTerm, EndsQuery, EndsStatement}
+use Rattle.ct_parse.specs.Reads.{Reads}
+use Rattle.ct_parse.specs.Parses.{Spells, SpellsCondition}
+use Rattle.ct_parse.proofs.Fronts.{moved, before_comparison}
+use Rattle.ct_parse.proofs.TermSteps.{name_reads, plain_reads, qualified_reads, number_reads, text_reads, null_reads, column_reads, equal_reads, unequal_reads}
+use Rattle.ct_parse.proofs.Listed.{Behind, behind_reads, Lists, none_read, more_read, both_read}
+use Rattle.ct_parse.proofs.ConditionSteps.{negated_read, nested_read, true_read, false_read, compared_read, factors, conjunctions, conjunction_pair, condition_pair}
+use Rattle.ct_parse.proofs.Combined.{then_read, renamed, plain_list, has_read, has_none_read}
+use Rattle.ct_parse.proofs.RowSteps.{closed_read, row_is, new_null_reads}
+use Rattle.ct_parse.proofs.RowSteps as cells
+use Rattle.ct_parse.proofs.TableSteps.{as_read, no_as_read, item_pair, item_list, symbol_item, star_read, listed_pair, listed_is, as_alias_read, name_stands, alias_read, no_alias_read, table_pair, ON, on_pair, on_is, ends_at_on, comma_read, join_read, inner_read, joined_list, tables_read}
+use Rattle.ct_parse.proofs.QuerySteps.{distinct_read, not_distinct_read, items_apart, before_filter, select_read, union_read, except_read, ends_at_paren, paren_select, primary_is, primary_list, term_pair, combined_pair, term_list, query_pair}
+use Rattle.ct_parse.proofs.QuerySteps as queries
+use Rattle.ct_parse.proofs.StatementSteps.{query_at_end, condition_at_end, behind_at_end, before_if, create_read, delete_read, insert_rows_read, insert_query_read, assert_read, possible_read, certain_read, begin_read, commit_read, rollback_read, OnlyQuery, rows_read}
+
+-- names, columns, terms
+reads_name : {ws r : List Lexeme} {n : List ℕ} → IsName ws n r → Reads IsName EndsAnyhow ws n r
+reads_name (name p) = name_reads p refl refl
+
+reads_column : {ws r : List Lexeme} {c : Column} → IsColumn ws c r → EndsColumn r → Reads IsColumn EndsColumn ws c r
+reads_column (plain n) e = plain_reads (reads_name n) (λ x f. subst EndsColumn f e)
+reads_column (qualified n m) e = qualified_reads (reads_name n) refl (reads_name m)
+
+reads_term : {ws r : List Lexeme} {t : Term} → IsTerm ws t r → EndsColumn r → Reads IsTerm EndsColumn ws t r
+reads_term number_term e = number_reads refl refl
+reads_term text_term e = text_reads refl refl
+reads_term null_term e = null_reads refl refl
+reads_term (column_term c) e = column_reads (reads_column c e)
+
+reads_comparison : {ws r : List Lexeme} {o : Comparison} → IsComparison ws o r → Reads IsComparison EndsAnyhow ws o r
+reads_comparison equal = equal_reads refl refl
+reads_comparison unequal = unequal_reads refl refl
+
+mutual
+  reads_factor : {ws r : List Lexeme} {f : Factor} → IsFactor ws f r → EndsColumn r → Reads IsFactor EndsColumn ws f r
+  reads_factor (negated f) e = negated_read refl (reads_factor f e)
+  reads_factor (nested c) e = nested_read refl (reads_condition c (tt, (tt, tt))) refl
+  reads_factor true_factor e = true_read refl
+  reads_factor false_factor e = false_read refl
+  reads_factor (compared s o t) e = compared_read (reads_term s (before_comparison o)) (reads_comparison o) (reads_term t e)
+
+  reads_factors : {ws r : List Lexeme} {fs : List Factor} → AreFactors ws fs r → EndsConjunction r → Reads AreFactors EndsConjunction ws fs r
+  reads_factors no_factor e = none_read factors e
+  reads_factors (and_factor f l) e = more_read factors (behind_reads refl (reads_factor f (factors.before l e))) (reads_factors l e)
+
+  reads_conjunction : {ws r : List Lexeme} {c : Conjunction} → IsConjunction ws c r → EndsConjunction r → Reads IsConjunction EndsConjunction ws c r
+  reads_conjunction (conjunction f l) e = both_read conjunction_pair (reads_factor f (factors.before l e)) (reads_factors l e)
+
+  reads_conjunctions : {ws r : List Lexeme} {cs : List Conjunction} → AreConjunctions ws cs r → EndsCondition r → Reads AreConjunctions EndsCondition ws cs r
+  reads_conjunctions no_conjunction e = none_read conjunctions e
+  reads_conjunctions (or_conjunction c l) e = more_read conjunctions (behind_reads refl (reads_conjunction c (conjunctions.before l e))) (reads_conjunctions l e)
+
+  reads_condition : {ws r : List Lexeme} {c : Condition} → IsCondition ws c r → EndsCondition r → Reads IsCondition EndsCondition ws c r
+  reads_condition (condition c l) e = both_read condition_pair (reads_conjunction c (conjunctions.before l e)) (reads_conjunctions l e)
+
+-- lists behind commas, and in parentheses
+reads_more : {T : Type 0} (X : List Lexeme → T → List Lexeme → Type 0) (EX EL : List Lexeme → Type 0) → Lists (Behind (lexeme.Symbol symbol.Comma) X) EX EL (AreMore X)
+    → ((ws r : List Lexeme) (x : T) → X ws x r → EX r → Reads X EX ws x r) → {ws r : List Lexeme} {xs : List T} → AreMore X ws xs r → EL r → Reads (AreMore X) EL ws xs r
+reads_more X EX EL k reads no_more e = none_read k e
+reads_more X EX EL k reads (one_more x l) e = more_read k (behind_reads refl (reads _ _ _ x (k.before l e))) (reads_more X EX EL k reads l e)
+
+reads_closed : {T : Type 0} (X : List Lexeme → T → List Lexeme → Type 0) → ((ws r : List Lexeme) (x : T) → X ws x r → EndsAnyhow r → Reads X EndsAnyhow ws x r) → {ws r : List Lexeme} {p : T × List T}
+    → IsClosed X ws p r → Reads (IsClosed X) EndsAnyhow ws p r
+reads_closed X reads (closed x l) = closed_read X refl (reads _ _ _ x tt) (reads_more X EndsAnyhow EndsList (plain_list X) reads l tt) refl
+
+reads_cell : {ws r : List Lexeme} {c : Cell} → IsCell ws c r → Reads IsCell EndsAnyhow ws c r
+reads_cell number_cell = cells.number_reads refl refl
+reads_cell text_cell = cells.text_reads refl refl
+reads_cell null_cell = cells.null_reads refl refl
+reads_cell new_null = new_null_reads refl
+
+reads_row : {ws r : List Lexeme} {w : Row} → IsRow ws w r → Reads IsRow EndsAnyhow ws w r
+reads_row (row c) = renamed (row_is _) (reads_closed IsCell (λ ws r x c e. reads_cell c) c)
+
+reads_has : {w : List ℕ} {ws r : List Lexeme} {o : Option Condition} → HasCondition w ws o r → EndsBehind w r → Reads (HasCondition w) (EndsBehind w) ws o r
+reads_has no_condition e = has_none_read e.0
+reads_has (a_condition c) e = has_read refl (reads_condition c e.1)
+
+-- items
+reads_as : {ws r : List Lexeme} {o : Option (List ℕ)} → HasName ws o r → EndsItem r → Reads HasName EndsItem ws o r
+reads_as no_name e = no_as_read e.0
+reads_as (as_name n) e = as_read refl (reads_name n)
+
+reads_item : {ws r : List Lexeme} {i : Item} → IsItem ws i r → EndsItem r → Reads IsItem EndsItem ws i r
+reads_item (item c a) e = both_read item_pair (reads_column c (item_pair.before a e)) (reads_as a e)
+
+reads_items : {ws r : List Lexeme} {i : Items} → AreItems ws i r → EndsItems r → Reads AreItems EndsItems ws i r
+reads_items star e = star_read refl
+reads_items (listed i l) e =
+    renamed (listed_is (λ x f. symbol_item (moved IsItem f i)))
+    (both_read listed_pair (reads_item i (item_list.before l e)) (reads_more IsItem EndsItem EndsItems item_list (λ ws r x i e. reads_item i e) l e))
+
+-- tables
+reads_alias : {ws r : List Lexeme} {o : _} → HasAlias ws o r → EndsTable r → Reads HasAlias EndsTable ws o r
+reads_alias no_alias e = no_alias_read e.1 (λ n r any x. name_stands x e.0)
+reads_alias (alias n) e = alias_read (reads_name n)
+reads_alias (as_alias n) e = as_alias_read refl (reads_name n)
+
+reads_table : {ws r : List Lexeme} {t : Table} → IsTable ws t r → EndsTable r → Reads IsTable EndsTable ws t r
+reads_table (table n a) e = both_read table_pair (reads_name n) (reads_alias a e)
+
+reads_on : {ws r : List Lexeme} {p : Table × Condition} → IsTableOn ws p r → EndsCondition r → Reads IsTableOn EndsCondition ws p r
+reads_on (table_on t c) e = renamed (on_is _) (both_read on_pair (then_read ON ends_at_on (reads_table t (tt, tt)) refl) (reads_condition c e))
+
+reads_joined : {ws r : List Lexeme} {j : Joined} → IsJoined ws j r → EndsJoined r → Reads IsJoined EndsJoined ws j r
+reads_joined (comma t) e = comma_read refl (reads_table t e.0)
+reads_joined (join p) e = join_read refl (reads_on p e.1)
+reads_joined (inner_join p) e = inner_read refl refl (reads_on p e.1)
+
+reads_all_joined : {ws r : List Lexeme} {js : List Joined} → AreJoined ws js r → EndsTables r → Reads AreJoined EndsTables ws js r
+reads_all_joined none_joined e = none_read joined_list e
+reads_all_joined (more_joined j l) e = more_read joined_list (reads_joined j (joined_list.before l e)) (reads_all_joined l e)
+
+reads_tables : {ws r : List Lexeme} {t : Tables} → AreTables ws t r → EndsTables r → Reads AreTables EndsTables ws t r
+reads_tables (tables t l few) e = tables_read (reads_table t (joined_list.before l e).0) (reads_all_joined l e) few
+
+-- queries
+reads_distinct : {ws r : List Lexeme} {b : Bool} → IsDistinct ws b r → EndsDistinct r → Reads IsDistinct EndsDistinct ws b r
+reads_distinct not_distinct e = not_distinct_read e
+reads_distinct distinct e = distinct_read refl
+
+reads_select : {ws r : List Lexeme} {s : Select} → IsSelect ws s r → EndsSelect r → Reads IsSelect EndsSelect ws s r
+reads_select (select d i t c) e =
+    select_read refl (reads_distinct d (items_apart i)) (reads_items i (tt, (tt, tt))) refl (reads_tables t (before_filter c e)) (reads_has c (e.0, e.1.1.1))
+
+reads_operator : {ws r : List Lexeme} {o : SetOperator} → IsSetOperator ws o r → Reads IsSetOperator EndsAnyhow ws o r
+reads_operator union = union_read refl
+reads_operator except = except_read refl
+
+mutual
+  reads_primary : {ws r : List Lexeme} {p : QueryPrimary} → IsPrimary ws p r → EndsSelect r → Reads IsPrimary EndsSelect ws p r
+  reads_primary (nested_query {r = r} q) e = queries.nested_read refl (reads_query q (ends_at_paren r)) refl
+  reads_primary (select_query s) e = renamed (primary_is (λ x f. paren_select (moved IsSelect f s))) (reads_select s e)
+
+  reads_primaries : {ws r : List Lexeme} {ps : List QueryPrimary} → ArePrimaries ws ps r → EndsQueryTerm r → Reads ArePrimaries EndsQueryTerm ws ps r
+  reads_primaries no_primary e = none_read primary_list e
+  reads_primaries (intersect p l) e = more_read primary_list (behind_reads refl (reads_primary p (primary_list.before l e))) (reads_primaries l e)
+
+  reads_query_term : {ws r : List Lexeme} {t : QueryTerm} → IsQueryTerm ws t r → EndsQueryTerm r → Reads IsQueryTerm EndsQueryTerm ws t r
+  reads_query_term (query_term p l) e = both_read term_pair (reads_primary p (primary_list.before l e)) (reads_primaries l e)
+
+  reads_terms : {ws r : List Lexeme} {ts : List (SetOperator × QueryTerm)} → AreTerms ws ts r → EndsQuery r → Reads AreTerms EndsQuery ws ts r
+  reads_terms no_term e = none_read term_list e
+  reads_terms (combined o t l) e = more_read term_list (both_read combined_pair (reads_operator o) (reads_query_term t (term_list.before l e))) (reads_terms l e)
+
+  reads_query : {ws r : List Lexeme} {q : Query} → IsQuery ws q r → EndsQuery r → Reads IsQuery EndsQuery ws q r
+  reads_query (query t l) e = both_read query_pair (reads_query_term t (term_list.before l e)) (reads_terms l e)
+
+-- statements
+primary_only : {ws r : List Lexeme} {p : QueryPrimary} → IsPrimary ws p r → OnlyQuery ws × Fails (at_word (codes "values") ws)
+primary_only (nested_query q) = (record { lone = (tt, tt, tt); create = tt; insert = tt; delete = tt; assert = tt; possible = tt; certain = tt }, tt)
+primary_only (select_query (select d i t c)) = (record { lone = (tt, tt, tt); create = tt; insert = tt; delete = tt; assert = tt; possible = tt; certain = tt }, tt)
+
+term_only : {ws r : List Lexeme} {t : QueryTerm} → IsQueryTerm ws t r → OnlyQuery ws × Fails (at_word (codes "values") ws)
+term_only (query_term p l) = primary_only p
+
+query_only : {ws r : List Lexeme} {q : Query} → IsQuery ws q r → OnlyQuery ws × Fails (at_word (codes "values") ws)
+query_only (query t l) = term_only t
+
+at_end : {r : List Lexeme} → r ≡ [] → EndsQuery r
+at_end e = subst EndsQuery (sym e) query_at_end
+
+condition_end : {r : List Lexeme} → r ≡ [] → EndsCondition r
+condition_end e = subst EndsCondition (sym e) condition_at_end
+
+reads_statement : {ws r : List Lexeme} {st : Statement} → IsStatement ws st r → r ≡ [] → Reads IsStatement EndsStatement ws st r
+reads_statement (create n c) e = create_read refl (reads_name n) (reads_closed IsName (λ ws r x n e. reads_name n) c)
+reads_statement (insert_rows n w vs c) e =
+    insert_rows_read refl (reads_name n) refl (reads_row w) (reads_more IsRow EndsAnyhow EndsList (plain_list IsRow) (λ ws r x w e. reads_row w) vs (before_if c e))
+    (reads_has c (subst (EndsBehind (codes "if")) (sym e) (behind_at_end (codes "if"))))
+reads_statement (insert_query n q) e = insert_query_read refl (reads_name n) (query_only q).1 (reads_query q (at_end e))
+reads_statement (delete n c) e = delete_read refl (reads_name n) (reads_has c (subst (EndsBehind (codes "where")) (sym e) (behind_at_end (codes "where"))))
+reads_statement (assert c) e = assert_read refl (reads_condition c (condition_end e))
+reads_statement (rows q) e = rows_read (query_only q).0 (reads_query q (at_end e))
+reads_statement (possible q) e = possible_read refl (reads_query q (at_end e))
+reads_statement (certain q) e = certain_read refl (reads_query q (at_end e))
+reads_statement begin e = begin_read refl
+reads_statement commit e = commit_read refl
+reads_statement rollback e = rollback_read refl
+
+-- lexemes spell one statement at most
+pub one_statement : {ws : List Lexeme} {st st' : Statement} → Spells ws st → Spells ws st' → st ≡ st'
+one_statement s s' = ((reads_statement s' refl).only _ _ refl s).0
+
+-- lexemes spell one condition at most
+pub one_condition : {ws : List Lexeme} {c c' : Condition} → SpellsCondition ws c → SpellsCondition ws c' → c ≡ c'
+one_condition s s' = ((reads_condition s' (tt, (tt, tt))).only _ _ (tt, (tt, tt)) s).0

@@ -1,0 +1,16 @@
+use Rattle.ct_parse.proofs.TermSteps.{passed}
+use Rattle.ct_parse.proofs.StatementSteps.{no_delete_from, no_delete_name, no_delete_condition, delete_read}
+use Rattle.ct_parse.proofs.statements.delete.Goals as goal
+
+pub returns-in_err-tail-clause-none : goal.returns-in_err-tail-clause-none
+returns-in_err-tail-clause-none c = passed _ c.from_residual.ensures.1 (λ memory. no_delete_from (c.in_err-tail.ensures.none memory))
+
+pub returns-in_err-name-clause-none : goal.returns-in_err-name-clause-none
+returns-in_err-name-clause-none c = passed _ c.from_residual-in_err-name.ensures.1 (λ memory. no_delete_name c.in_ok-tail.ensures.ok (c.in_err-name.ensures.none memory))
+
+pub returns-in_err-condition-clause-none : goal.returns-in_err-condition-clause-none
+returns-in_err-condition-clause-none c =
+    passed _ c.from_residual-in_err-condition.ensures.1 (λ memory. no_delete_condition c.in_ok-tail.ensures.ok c.in_ok-name.ensures.ok (c.in_err-condition.ensures.none memory))
+
+pub returns-clause-ok : goal.returns-clause-ok
+returns-clause-ok c = delete_read c.in_ok-tail.ensures.ok c.in_ok-name.ensures.ok c.in_ok-condition.ensures.ok

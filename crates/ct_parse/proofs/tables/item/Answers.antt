@@ -1,0 +1,13 @@
+use Rattle.ct_parse.proofs.TermSteps.{passed}
+use Rattle.ct_parse.proofs.Listed.{both_read, no_first, no_second}
+use Rattle.ct_parse.proofs.TableSteps.{item_pair}
+use Rattle.ct_parse.proofs.tables.item.Goals as goal
+
+pub returns-in_err-column-clause-none : goal.returns-in_err-column-clause-none
+returns-in_err-column-clause-none c = passed _ c.from_residual.ensures.1 (λ memory. no_first item_pair (c.in_err-column.ensures.none memory))
+
+pub returns-in_err-alias-clause-none : goal.returns-in_err-alias-clause-none
+returns-in_err-alias-clause-none c = passed _ c.from_residual-in_err-alias.ensures.1 (λ memory. no_second item_pair c.in_ok-column.ensures.ok (c.in_err-alias.ensures.none memory))
+
+pub returns-clause-ok : goal.returns-clause-ok
+returns-clause-ok c = both_read item_pair c.in_ok-column.ensures.ok c.in_ok-alias.ensures.ok

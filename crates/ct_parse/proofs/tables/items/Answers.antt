@@ -1,0 +1,19 @@
+use Rattle.ct_parse.proofs.TermSteps.{passed}
+use Rattle.ct_parse.proofs.Listed.{both_read, no_first, no_second}
+use Rattle.ct_parse.proofs.Combined.{renamed, no_renamed}
+use Rattle.ct_parse.proofs.TableSteps.{star_read, listed_pair, listed_is}
+use Rattle.ct_parse.proofs.tables.items.Goals as goal
+
+pub returns-in-Some-clause-ok : goal.returns-in-Some-clause-ok
+returns-in-Some-clause-ok c = star_read c.in-Some.ensures.some
+
+pub returns-in_err-first-clause-none : goal.returns-in_err-first-clause-none
+returns-in_err-first-clause-none c =
+    passed _ c.from_residual.ensures.1 (λ memory. no_renamed (listed_is c.in_default.ensures.none) (no_first listed_pair (c.in_err-first.ensures.none memory)))
+
+pub returns-in_err-others-clause-none : goal.returns-in_err-others-clause-none
+returns-in_err-others-clause-none c =
+    passed _ c.from_residual-in_err-others.ensures.1 (λ memory. no_renamed (listed_is c.in_default.ensures.none) (no_second listed_pair c.in_ok-first.ensures.ok (c.in_err-others.ensures.none memory)))
+
+pub returns-clause-ok : goal.returns-clause-ok
+returns-clause-ok c = renamed (listed_is c.in_default.ensures.none) (both_read listed_pair c.in_ok-first.ensures.ok c.in_ok-others.ensures.ok)

@@ -1,0 +1,6 @@
+pub mod formers
+pub mod Grammar
+pub mod Ends
+pub mod Reads
+pub mod Nest
+pub mod Parses

@@ -1,0 +1,28 @@
+//! Statements from tokens.
+#![tactic(auto)]
+
+mod boxed;
+mod conditions;
+mod error;
+mod front;
+mod names;
+mod nest;
+mod parsing;
+mod parsing_condition;
+mod queries;
+mod rows;
+mod statements;
+mod tables;
+mod terms;
+#[cfg(test)]
+mod tests;
+mod tree;
+
+pub use boxed::Boxed;
+pub use error::ParseError;
+pub use parsing::statement;
+pub use parsing_condition::condition;
+pub use tree::{
+    Alias, Cell, Column, Comparison, Condition, Conjunction, Factor, Item, Items, Joined, Query,
+    QueryPrimary, QueryTerm, Row, Select, SetOperator, Statement, Table, Tables, Term,
+};

@@ -1,0 +1,121 @@
+// Statements at the front of tokens.
+
+ghost use Rattle.std.specs.Prelude.{◌≡◌, ◌≢◌, ◌∷◌, codes, IfOk, IfErr, IfSome, IfNone};
+ghost use Rattle.ct_lex.specs.declared.token.Lexeme.TheVariants as lexical;
+ghost use Rattle.ct_parse.specs.Grammar.{said, IsStatement};
+ghost use Rattle.ct_parse.specs.Ends.{Fails, at_word, EndsStatement};
+ghost use Rattle.ct_parse.specs.Reads.{Reads, Never};
+ghost use Rattle.ct_parse.specs.declared.error.Unread.TheVariants as unread;
+
+use crate::conditions::condition;
+use crate::error::Unread;
+use crate::front::{behind_word, expect_word, name};
+use crate::queries::query;
+use crate::rows::{columns, condition_behind, row, rows};
+use crate::tree::Statement;
+use ct_lex::Token;
+use std::alloc::Global;
+
+/// A statement that makes a table, behind CREATE.
+fn create(alloc: Global, tokens: &[Token]) -> Result<(Statement, &[Token]), Unread>
+    ensures ok { IfOk result (λ p. Reads IsStatement EndsStatement (lexical.Word (codes "create") ∷ said tokens.now) p.0 (said p.1.now)) }
+    ensures none { IfErr result (λ e. e ≢ unread.Memory → Never IsStatement EndsStatement (lexical.Word (codes "create") ∷ said tokens.now)) }
+{
+    let tail = expect_word(tokens, "table")?;
+    let (name, rest) = name(alloc, tail)?;
+    let ((first, others), rest) = columns(alloc, rest)?;
+    Ok((
+        Statement::Create {
+            name,
+            first,
+            rest: others,
+        },
+        rest,
+    ))
+}
+
+/// A statement that adds rows or the rows of a query to a table, behind INSERT.
+fn insert(alloc: Global, tokens: &[Token]) -> Result<(Statement, &[Token]), Unread>
+    ensures ok { IfOk result (λ p. Reads IsStatement EndsStatement (lexical.Word (codes "insert") ∷ said tokens.now) p.0 (said p.1.now)) }
+    ensures none { IfErr result (λ e. e ≢ unread.Memory → Never IsStatement EndsStatement (lexical.Word (codes "insert") ∷ said tokens.now)) }
+{
+    let tail = expect_word(tokens, "into")?;
+    let (name, rest) = name(alloc, tail)?;
+    let Some(tail) = behind_word(rest, "values") else {
+        let (query, rest) = query(alloc, rest)?;
+        return Ok((Statement::InsertQuery { name, query }, rest));
+    };
+    let (first, rest) = row(alloc, tail)?;
+    let (others, rest) = rows(alloc, rest)?;
+    let (condition, rest) = condition_behind(alloc, rest, "if")?;
+    Ok((
+        Statement::InsertRows {
+            name,
+            first,
+            rest: others,
+            condition,
+        },
+        rest,
+    ))
+}
+
+/// A statement that takes rows from a table, behind DELETE.
+fn delete(alloc: Global, tokens: &[Token]) -> Result<(Statement, &[Token]), Unread>
+    ensures ok { IfOk result (λ p. Reads IsStatement EndsStatement (lexical.Word (codes "delete") ∷ said tokens.now) p.0 (said p.1.now)) }
+    ensures none { IfErr result (λ e. e ≢ unread.Memory → Never IsStatement EndsStatement (lexical.Word (codes "delete") ∷ said tokens.now)) }
+{
+    let tail = expect_word(tokens, "from")?;
+    let (name, rest) = name(alloc, tail)?;
+    let (condition, rest) = condition_behind(alloc, rest, "where")?;
+    Ok((Statement::Delete { name, condition }, rest))
+}
+
+/// A statement of one word.
+fn lone_word(tokens: &[Token]) -> Option<(Statement, &[Token])>
+    ensures some { IfSome result (λ p. Reads IsStatement EndsStatement (said tokens.now) p.0 (said p.1.now)) }
+    ensures none { IfNone result (Fails (at_word (codes "begin") (said tokens.now)) × Fails (at_word (codes "commit") (said tokens.now)) × Fails (at_word (codes "rollback") (said tokens.now))) }
+{
+    if let Some(rest) = behind_word(tokens, "begin") {
+        return Some((Statement::Begin, rest));
+    }
+    if let Some(rest) = behind_word(tokens, "commit") {
+        return Some((Statement::Commit, rest));
+    }
+    if let Some(rest) = behind_word(tokens, "rollback") {
+        return Some((Statement::Rollback, rest));
+    }
+    None
+}
+
+/// The statement at the front of tokens.
+pub fn statement(alloc: Global, tokens: &[Token]) -> Result<(Statement, &[Token]), Unread>
+    ensures ok { IfOk result (λ p. Reads IsStatement EndsStatement (said tokens.now) p.0 (said p.1.now)) }
+    ensures none { IfErr result (λ e. e ≢ unread.Memory → Never IsStatement EndsStatement (said tokens.now)) }
+{
+    if let Some(found) = lone_word(tokens) {
+        return Ok(found);
+    }
+    if let Some(tail) = behind_word(tokens, "create") {
+        return create(alloc, tail);
+    }
+    if let Some(tail) = behind_word(tokens, "insert") {
+        return insert(alloc, tail);
+    }
+    if let Some(tail) = behind_word(tokens, "delete") {
+        return delete(alloc, tail);
+    }
+    if let Some(tail) = behind_word(tokens, "assert") {
+        let (found, rest) = condition(alloc, tail)?;
+        return Ok((Statement::Assert(found), rest));
+    }
+    if let Some(tail) = behind_word(tokens, "possible") {
+        let (found, rest) = query(alloc, tail)?;
+        return Ok((Statement::Possible(found), rest));
+    }
+    if let Some(tail) = behind_word(tokens, "certain") {
+        let (found, rest) = query(alloc, tail)?;
+        return Ok((Statement::Certain(found), rest));
+    }
+    let (found, rest) = query(alloc, tokens)?;
+    Ok((Statement::Rows(found), rest))
+}
