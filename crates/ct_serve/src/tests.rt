@@ -118,7 +118,7 @@ fn scripts_to_texts(rt: HostRuntime) -> Result<(), Fail> {
 }
 
 /// A script, how its run ends, and what it writes.
-const STATEMENTS: [(&str, Status, &str); 20] = [
+const STATEMENTS: [(&str, Status, &str); 21] = [
     (
         "create table t (a,b); insert into t values (1,?x); select * from t where b = 2",
         Status::Done,
@@ -158,6 +158,12 @@ const STATEMENTS: [(&str, Status, &str); 20] = [
         "create table t (a, b); insert into t values (?x, ?x); select * from t where a = -5",
         Status::Done,
         "session 1\n1 committed 1\n2 committed 2\n3 rows (a, b) at 2\n  (?x, ?x) if ?x = -5\nhistory\n1 by 1\n  create table t (a, b)\n2 by 1\n  insert into t (?x, ?x)\nend\n",
+    ),
+    // A row that comes again stays where it stood first.
+    (
+        "create table t (a); insert into t values (1); insert into t values (2); insert into t values (1); select * from t",
+        Status::Done,
+        "session 1\n1 committed 1\n2 committed 2\n3 committed 3\n4 committed 4\n5 rows (a) at 4\n  (1)\n  (2)\nhistory\n1 by 1\n  create table t (a)\n2 by 1\n  insert into t (1)\n3 by 1\n  insert into t (2)\n4 by 1\n  insert into t (1)\nend\n",
     ),
     (
         "create table t (a, b); insert into t values (1, 2); insert into t values (1, 2); select * from t",
