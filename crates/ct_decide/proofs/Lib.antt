@@ -1,3 +1,4 @@
+pub mod Columns
 pub mod Steps
 pub mod Named
 pub mod Accepted

@@ -9,6 +9,8 @@
 
 mod deciding;
 mod error;
+#[cfg(test)]
+mod tests;
 mod translating;
 
 pub use deciding::{Decision, decide};
