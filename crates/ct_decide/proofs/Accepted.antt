@@ -1,0 +1,176 @@
+-- The derivation of a refutation is accepted.
+use Rattle.std.proofs.Common.{◌≡◌, ℕ, Bool, true, false, List, [], ◌∷◌, ◌++◌, length, map, Some, refl, ap, ◌∙◌, sym, subst, ℤ, append_assoc, append-nil}
+use Rattle.std.specs.Prelude.{Contains}
+use Rattle.std.specs.List.{list_all, list_any}
+use Rattle.std.proofs.lemmas.Bool.{and_parts, and_from, or_left, or_right, false≢true, lt-ltb}
+use Rattle.std.proofs.lemmas.Option.{none-some}
+use Rattle.std.proofs.lemmas.List.{map-append, length-map}
+use Rattle.std.proofs.lemmas.List.Folds.{list_all-append}
+use Rattle.ct_word.specs.declared.kinds.Class.TheVariants as class
+use Rattle.ct_word.specs.WellFormed.{is_place_of}
+use Rattle.ct_derivation.specs.declared.literals.Atom.{Atom}
+use Rattle.ct_derivation.specs.declared.literals.Atom.TheVariants as atom
+use Rattle.ct_derivation.specs.declared.literals.Lit.{Lit}
+use Rattle.ct_derivation.specs.declared.steps.Why.{Why}
+use Rattle.ct_derivation.specs.declared.steps.Why.TheVariants as why
+use Rattle.ct_derivation.specs.declared.steps.Step.{Step}
+use Rattle.ct_derivation.specs.Literal.{Clause, same_sign, same_lit, has, same_members}
+use Rattle.ct_derivation.specs.Propagation.{follows}
+use Rattle.ct_derivation.specs.Variables.{signed}
+use Rattle.ct_derivation.specs.Accepts.{over_atoms, clauses_of, fits_atom, fits_lit, gives, is_right, all_right, ends_empty, is_empty, accepts, Accepts}
+use Rattle.ct_derivation.specs.Accepts as accepted
+use Rattle.ct_sat.specs.declared.verdict.Rup.{Rup}
+use Rattle.ct_sat.specs.Literal.{is_literal, is_clause, numbered}
+use Rattle.ct_sat.specs.Learned.{clause_of, each_follows}
+use Rattle.ct_sat.specs.Verdict as verdict
+use Rattle.ct_sat.proofs.Carried.{follows_carried}
+use Rattle.ct_cnf.specs.declared.encoding.Encoded.{Encoded}
+use Rattle.ct_cnf.specs.Encoding.{named, through, origin_clause, AreOrigins, HasNodesBelow, HasPairsBelow}
+use Rattle.ct_decide.specs.Question.{IsEncoding}
+use Rattle.ct_decide.specs.Translation.{step, given_steps, learned_step, learned_steps, derivation_of}
+use Rattle.ct_decide.proofs.Named.{same_atom_self, carries, atom_there, solvable}
+
+same_lit_self : (l : Lit) → same_lit l l ≡ true
+unfolding same_lit
+same_lit_self l = and_from _ _ (signs l.positive) (same_atom_self l.atom) where
+  signs : (b : Bool) → same_sign b b ≡ true
+  signs true = refl
+  signs false = refl
+
+has_more : (ls : Clause) (m l : Lit) → has ls l ≡ true → has (m ∷ ls) l ≡ true
+unfolding has
+has_more ls m l e = or_right (same_lit l m) (list_any (same_lit l) ls) e
+
+has_first : (ls : Clause) (l : Lit) → has (l ∷ ls) l ≡ true
+unfolding has
+has_first ls l = or_left (same_lit l l) (list_any (same_lit l) ls) (same_lit_self l)
+
+-- all of a clause's literals are among more of them
+all_among : (ls ms : Clause) → ((l : Lit) → has ls l ≡ true → has ms l ≡ true) → list_all (has ms) ls ≡ true
+all_among [] ms more = refl
+all_among (l ∷ ls) ms more = and_from (has ms l) _ (more l (has_first ls l)) (all_among ls ms (λ m e. more m (has_more ls l m e)))
+
+same_members_self : (ls : Clause) → same_members ls ls ≡ true
+unfolding same_members
+same_members_self ls = and_from _ _ (all_among ls ls (λ l e. e)) (all_among ls ls (λ l e. e))
+
+module _ (words : List ℕ) (root : ℕ) (atoms : List Atom) (nodes : HasNodesBelow words root atoms) (terms : HasPairsBelow words root atoms) where
+  fits_there : (a : Atom) → Contains atoms a → fits_atom words a ≡ true
+  unfolding fits_atom
+  fits_there (atom.Node p) h = (nodes p h).condition
+  fits_there (atom.Same s t) h =
+      let pair = terms s t h in
+      and_from _ _ (and_from (is_place_of words class.Term s) (is_place_of words class.Term t) pair.first.term pair.second.term) (lt-ltb s t pair.ordered)
+
+  pub fits_through : (ls : List ℤ) → is_clause (length atoms) ls ≡ true → list_all (fits_lit words) (through atoms ls) ≡ true
+  unfolding is_clause fits_lit
+  fits_through [] e = refl
+  fits_through (l ∷ ls) e =
+      let parts = and_parts (is_literal (length atoms) l) _ e in
+      and_from (fits_atom words (named atoms (signed l)).atom) _ (fits_there _ (atom_there atoms l parts.0)) (fits_through ls parts.1)
+
+  origin_gives : (earlier : List Step) (w : Why) (c : Clause) → origin_clause words root w ≡ Some c → gives words root earlier w c ≡ true
+  unfolding gives
+  origin_gives earlier why.Root c e = ap (λ o. accepted.is_clause o c) e ∙ same_members_self c
+  origin_gives earlier (why.Def p k) c e = ap (λ o. accepted.is_clause o c) e ∙ same_members_self c
+  origin_gives earlier (why.Path ts) c e = ap (λ o. accepted.is_clause o c) e ∙ same_members_self c
+  origin_gives earlier (why.Rup hs) c e = absurd (none-some c e)
+
+  given_is_right : (earlier : List Step) (ls : List ℤ) (w : Why) → is_clause (length atoms) ls ≡ true → origin_clause words root w ≡ Some (through atoms ls)
+      → is_right words root earlier (step (through atoms ls) w) ≡ true
+  unfolding is_right
+  given_is_right earlier ls w v e = and_from _ _ (fits_through ls v) (origin_gives earlier w (through atoms ls) e)
+
+  head_is : {X : Type 0} (x y : X) (xs ys : List X) → x ∷ xs ≡ y ∷ ys → x ≡ y
+  head_is x y xs ys e = cc
+
+  tail_is : {X : Type 0} (x y : X) (xs ys : List X) → x ∷ xs ≡ y ∷ ys → xs ≡ ys
+  tail_is x y xs ys e = cc
+
+  not_empty : {X : Type 0} (x : X) (xs : List X) → x ∷ xs ≡ [] → ⊥
+  not_empty x xs e = cc
+
+  no_more : {X : Type 0} (x : X) (xs : List X) → [] ≡ x ∷ xs → ⊥
+  no_more x xs e = cc
+
+  -- the clauses of the question are right, whatever comes after them
+  pub given_right : (cs : List (List ℤ)) (ws : List Why) (earlier rest : List Step) → AreOrigins words root atoms cs ws → list_all (is_clause (length atoms)) cs ≡ true
+      → all_right words root (earlier ++ given_steps atoms cs ws) rest ≡ true → all_right words root earlier (given_steps atoms cs ws ++ rest) ≡ true
+  given_right [] ws earlier rest o v h = ap (λ xs. all_right words root xs rest) (sym (append-nil earlier)) ∙ h
+  given_right (c ∷ cs) [] earlier rest o v h = absurd (no_more _ _ o)
+  given_right (c ∷ cs) (w ∷ ws) earlier rest o v h =
+      let parts = and_parts (is_clause (length atoms) c) _ v in
+      let s = step (through atoms c) w in
+      and_from _ _ (given_is_right earlier c w parts.0 (head_is _ _ _ _ o))
+      (given_right cs ws (earlier ++ s ∷ []) rest (tail_is _ _ _ _ o) parts.1
+      (ap (λ xs. all_right words root xs rest) (append_assoc earlier (s ∷ []) (given_steps atoms cs ws)) ∙ h))
+
+  -- the clauses of these steps
+  pub given_clauses : (cs : List (List ℤ)) (ws : List Why) → AreOrigins words root atoms cs ws → clauses_of (given_steps atoms cs ws) ≡ map (through atoms) cs
+  given_clauses [] ws o = refl
+  given_clauses (c ∷ cs) [] o = absurd (no_more _ _ o)
+  given_clauses (c ∷ cs) (w ∷ ws) o = ap (λ xs. through atoms c ∷ xs) (given_clauses cs ws (tail_is _ _ _ _ o))
+
+module _ (words : List ℕ) (root : ℕ) (e : Encoded) (enc : IsEncoding words root e) where
+  abbrev atoms : List Atom
+  atoms = e.atoms
+
+  abbrev vars : ℕ
+  vars = length atoms
+
+  learned_is_right : (earlier : List Step) (log : List (List ℤ)) (r : Rup) → clauses_of earlier ≡ map (through atoms) log → list_all (is_clause vars) log ≡ true
+      → is_clause vars r.clause ≡ true → follows numbered log r.clause r.hints ≡ true → is_right words root earlier (learned_step atoms r) ≡ true
+  unfolding is_right gives
+  learned_is_right earlier log r is v w f =
+      and_from _ _ (fits_through words root atoms enc.nodes enc.terms r.clause w)
+      (ap (λ cs. follows over_atoms cs (through atoms r.clause) r.hints) is
+      ∙ follows_carried vars over_atoms (λ l. named atoms (signed l)) (carries atoms enc.distinct) log r.clause r.hints v w ∙ f)
+
+  -- each step of the refutation is right after the clauses before it
+  learned_right : (rs : List Rup) (earlier : List Step) (log : List (List ℤ)) → clauses_of earlier ≡ map (through atoms) log → list_all (is_clause vars) log ≡ true
+      → list_all (is_clause vars) (map clause_of rs) ≡ true → each_follows log rs ≡ true → all_right words root earlier (learned_steps atoms rs) ≡ true
+  learned_right [] earlier log is v w f = refl
+  learned_right (r ∷ rs) earlier log is v w f =
+      let within = and_parts (is_clause vars r.clause) _ w in
+      let follow = and_parts (follows numbered log r.clause r.hints) _ f in
+      let s = learned_step atoms r in
+      and_from _ _ (learned_is_right earlier log r is v within.0 follow.0)
+      (learned_right rs (earlier ++ s ∷ []) (log ++ r.clause ∷ [])
+      (map-append accepted.clause_of earlier (s ∷ []) ∙ ap (λ xs. xs ++ through atoms r.clause ∷ []) is ∙ sym (map-append (through atoms) log (r.clause ∷ [])))
+      (list_all-append (is_clause vars) log (r.clause ∷ []) ∙ and_from _ _ v (and_from _ true within.0 refl))
+      within.1 follow.1)
+
+  empty_through : (ls : List ℤ) → verdict.is_empty ls ≡ true → is_empty (through atoms ls) ≡ true
+  empty_through [] h = refl
+  empty_through (l ∷ ls) h = absurd (false≢true h)
+
+  learned_end : (rs : List Rup) → verdict.ends_empty rs ≡ true → ends_empty (learned_steps atoms rs) ≡ true
+  learned_end [] h = absurd (false≢true h)
+  learned_end (r ∷ []) h = empty_through r.clause h
+  learned_end (r ∷ s ∷ rs) h = learned_end (s ∷ rs) h
+
+  -- what stands before the last step makes no difference
+  after_more : (xs ys : List Step) → ends_empty ys ≡ true → ends_empty (xs ++ ys) ≡ true
+  after_more [] ys h = h
+  after_more (x ∷ []) [] h = absurd (false≢true h)
+  after_more (x ∷ []) (y ∷ ys) h = h
+  after_more (x ∷ z ∷ xs) ys h = after_more (z ∷ xs) ys h
+
+  pub clauses_within : list_all (is_clause vars) e.cnf.clauses ≡ true
+  clauses_within = subst (λ n. list_all (is_clause n) e.cnf.clauses ≡ true) enc.variables (solvable e.cnf enc.cnf).clauses
+
+  pub same_count : length e.origins ≡ length e.cnf.clauses
+  same_count = sym (length-map e.origins (origin_clause words root)) ∙ ap length enc.clauses ∙ length-map e.cnf.clauses (λ ls. Some (through atoms ls))
+
+  pub steps_within : (rs : List Rup) → verdict.IsRefutation e.cnf rs → list_all (is_clause vars) (map clause_of rs) ≡ true
+  steps_within rs h = subst (λ n. list_all (is_clause n) (map clause_of rs) ≡ true) enc.variables h.within
+
+  pub is_accepted : (rs : List Rup) → is_place_of words class.Cond root ≡ true → verdict.IsRefutation e.cnf rs → Accepts words root (derivation_of e rs)
+  unfolding accepts
+  is_accepted rs condition h =
+      let given = given_steps atoms e.cnf.clauses e.origins in
+      and_from _ _
+      (and_from _ _ condition
+      (given_right words root atoms enc.nodes enc.terms e.cnf.clauses e.origins [] (learned_steps atoms rs) enc.clauses clauses_within
+      (learned_right rs given e.cnf.clauses (given_clauses words root atoms enc.nodes enc.terms e.cnf.clauses e.origins enc.clauses) clauses_within (steps_within rs h) h.follow)))
+      (after_more given (learned_steps atoms rs) (learned_end rs h.empty))

@@ -1,0 +1,28 @@
+-- What a decision is.
+use Rattle.std.specs.Prelude.{◌≡◌, ◌⊎◌, ℕ, true, List, map}
+use Rattle.std.specs.List.{AllByRecursion, IsDistinct}
+use Rattle.ct_word.specs.declared.values.Value.{Value}
+use Rattle.ct_word.specs.declared.values.Term.TheVariants as term
+use Rattle.ct_word.specs.Value.{World, same_null}
+use Rattle.ct_word.specs.Condition.{holds_at}
+use Rattle.ct_word.specs.Reading.{condition_at}
+use Rattle.ct_word.specs.Stands.{TermBelow}
+use Rattle.ct_derivation.specs.Accepts.{Accepts}
+use Rattle.ct_equality.specs.Valued.{IsNumbered}
+use Rattle.ct_decide.specs.declared.deciding.Decision.{Decision}
+use Rattle.ct_decide.specs.declared.deciding.Decision.TheVariants as decision
+
+-- a constant that stands below the root, or `@k` with k below 2^28
+abbrev pub IsValueOf : List ℕ → ℕ → Value → Type 0
+IsValueOf words root x = TermBelow words root (term.Value x) ⊎ IsNumbered x
+
+-- a valuation at which the root holds, with plain values, which gives no null twice
+pub record IsWorldAt (words : List ℕ) (root : ℕ) (v : World) : Type 0 where
+  pub holds : holds_at v (condition_at words root) ≡ true
+  pub values : AllByRecursion (λ p. IsValueOf words root p.1) v
+  pub once : IsDistinct same_null (map (λ p. p.0) v)
+
+-- a valuation at which the root holds, or a derivation that is accepted over the words and the root
+abbrev pub DecisionOf : List ℕ → ℕ → Decision → Type 0
+DecisionOf words root (decision.World v) = IsWorldAt words root v
+DecisionOf words root (decision.Refuted d) = Accepts words root d
