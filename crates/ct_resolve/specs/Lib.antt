@@ -1,0 +1,5 @@
+pub mod Found
+pub mod Names
+pub mod Conditions
+pub mod Queries
+pub mod Statements
