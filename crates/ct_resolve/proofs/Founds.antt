@@ -1,5 +1,6 @@
 -- Items that are found one after another.
-use Rattle.std.proofs.Common.{◌≡◌, ◌≢◌, List, [], ◌∷◌, ◌++◌, refl, ap, sym, ◌∙◌, subst}
+use Rattle.std.proofs.lemmas.List.{drop_more}
+use Rattle.std.proofs.Common.{◌≡◌, ◌≢◌, ◌+◌, ◌<◌, ℕ, length, drop, slice_index_or, List, [], ◌∷◌, ◌++◌, refl, ap, sym, ◌∙◌, subst}
 use Rattle.std.specs.Prelude.{Result, Ok, Err, IfErr, IsErrAnd}
 use Rattle.ct_resolve.specs.declared.error.ResolveError.{ResolveError}
 use Rattle.ct_resolve.specs.declared.error.ResolveError.TheVariants as fault
@@ -36,3 +37,7 @@ pub passed : {X A : Type 0} {found : Found A} {x : ResolveError} (r : Result X R
     → IfErr r (λ e. e ≢ fault.Memory → found ≡ Err e)
 passed (Ok y) is h = absurd is
 passed {found = found} (Err e) is h = subst (λ x. x ≢ fault.Memory → found ≡ Err x) (sym is) h
+
+-- the item that a loop reads stands in front of what is left
+pub read_next : {A : Type 0} (xs : List A) (i : ℕ) (x : A) → i < length xs → x ≡ slice_index_or xs i x → drop i xs ≡ x ∷ drop (i + 1) xs
+read_next xs i x l e = drop_more xs i x l ∙ ap (λ y. y ∷ drop (i + 1) xs) (sym e)

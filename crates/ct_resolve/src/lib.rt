@@ -6,5 +6,6 @@ mod error;
 mod names;
 mod rows;
 mod statements;
+mod tables;
 
 pub use error::ResolveError;

@@ -66,7 +66,7 @@ fn place_in_table(table: &Heading, column: &Column) -> Option<usize>
 ///
 /// # Errors
 /// `Memory` where it is no number of 32 bits: no machine has the memory for so many columns.
-fn further(position: u32, more: usize) -> Result<u32, ResolveError>
+pub fn further(position: u32, more: usize) -> Result<u32, ResolveError>
     ensures ok { IfOk result (λ k. k ≡ position + more) }
     ensures err { IfErr result (λ e. e ≡ fault.Memory) }
 {
