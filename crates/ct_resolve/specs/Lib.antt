@@ -3,3 +3,4 @@ pub mod Names
 pub mod Conditions
 pub mod Queries
 pub mod Statements
+pub mod Views

@@ -5,6 +5,7 @@ mod conditions;
 mod error;
 mod names;
 mod rows;
+mod selects;
 mod statements;
 mod tables;
 
