@@ -17,6 +17,7 @@ use Rattle.ct_parse.specs.declared.tree.SetOperator.{SetOperator}
 use Rattle.ct_parse.specs.declared.tree.SetOperator.TheVariants as operator
 use Rattle.ct_parse.specs.declared.tree.QueryPrimary as primary
 use Rattle.ct_parse.specs.declared.tree.QueryPrimary.{QueryPrimary, Row_of-Query, end_of-Query, more_of-Query}
+use Rattle.ct_parse.specs.declared.tree.QueryTerm.{QueryTerm}
 use Rattle.ct_parse.specs.declared.tree.Query.{Query, Query', Row_of-QueryPrimary, end_of-QueryPrimary, more_of-QueryPrimary, Row_of-Query-rest-2, end_of-Query-rest-2, more_of-Query-rest-2}
 use Rattle.ct_resolve.specs.declared.error.ResolveError.TheVariants as fault
 use Rattle.ct_resolve.specs.Found.{Found, and_then, unless, each}
@@ -148,3 +149,25 @@ abbrev mutual
 
   pub query_at : List Heading → Query → Found Named
   query_at schema (Query' p shape ps shapes rest) = terms_at schema (primaries_at schema (primary_at schema p) ps) rest
+
+-- the query so far with one more primary behind an INTERSECT
+abbrev pub with_primary : List Heading → Named → QueryPrimary → Found Named
+with_primary schema x p = and_then (primary_at schema p) (λ y. sides (λ l r. plain.Intersect l r) x y)
+
+-- the query so far with each of these
+abbrev pub with_primaries : List Heading → Found Named → List QueryPrimary → Found Named
+with_primaries schema a [] = a
+with_primaries schema a (p ∷ ps) = with_primaries schema (and_then a (λ x. with_primary schema x p)) ps
+
+-- primaries joined by INTERSECT
+abbrev pub term_at : List Heading → QueryTerm → Found Named
+term_at schema t = with_primaries schema (primary_at schema t.first) t.rest
+
+-- the query so far with one more term behind a UNION or EXCEPT
+abbrev pub with_term : List Heading → Named → SetOperator × QueryTerm → Found Named
+with_term schema x t = and_then (term_at schema t.1) (λ y. sides (operation t.0) x y)
+
+-- the query so far with each of these
+abbrev pub with_terms : List Heading → Found Named → List (SetOperator × QueryTerm) → Found Named
+with_terms schema a [] = a
+with_terms schema a (t ∷ ts) = with_terms schema (and_then a (λ x. with_term schema x t)) ts

@@ -4,9 +4,12 @@
 mod conditions;
 mod error;
 mod names;
+mod queries;
+mod resolving;
 mod rows;
 mod selects;
 mod statements;
 mod tables;
 
 pub use error::ResolveError;
+pub use resolving::resolve;

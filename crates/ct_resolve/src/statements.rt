@@ -1,11 +1,12 @@
 // Statements with positions for names, by the lines of the grammar that ask for a change.
 
-ghost use Rattle.std.specs.Prelude.{◌≡◌, ◌≢◌, ◌+◌, ◌∷◌, IfOk, IfErr, Ok, Err};
+ghost use Rattle.std.specs.Prelude.{◌≡◌, ◌≢◌, [], IfOk, IfErr, Ok, Err};
 ghost use Rattle.ct_query.specs.Pred.{condition_of};
 ghost use Rattle.ct_query.specs.Views.{action_of};
 ghost use Rattle.ct_query.specs.Plain as plain;
 ghost use Rattle.ct_parse.specs.declared.tree.Statement.TheVariants as tree;
-ghost use Rattle.ct_resolve.specs.Conditions.{condition_or_true};
+ghost use Rattle.ct_resolve.specs.Conditions.{condition_at, condition_or_true};
+ghost use Rattle.ct_resolve.specs.Found.{and_then};
 ghost use Rattle.ct_resolve.specs.Statements.{resolved};
 ghost use Rattle.ct_resolve.specs.declared.error.ResolveError.TheVariants as fault;
 
@@ -13,7 +14,8 @@ use crate::conditions::condition;
 use crate::error::ResolveError;
 use crate::names::{is_named, table_named};
 use crate::rows::{all_fit, are_distinct, listed, terms_of_rows};
-use ct_parse::{Condition, Row};
+use crate::queries::query;
+use ct_parse::{Condition, Query, Row};
 use ct_query::{Action, Heading, Pred, Schema};
 use ct_word::{List, Text};
 use std::alloc::Global;
@@ -48,8 +50,8 @@ pub fn create(
     first: &Text,
     rest: &List<Text>,
 ) -> Result<Action, ResolveError>
-    ensures ok { (s n : _) → IfOk result (λ a. resolved schema.now s n (tree.Create name.now first.now rest.now) ≡ Ok (plain.Act (action_of a))) }
-    ensures err { (s n : _) → IfErr result (λ e. e ≢ fault.Memory → resolved schema.now s n (tree.Create name.now first.now rest.now) ≡ Err e) }
+    ensures ok { IfOk result (λ a. resolved schema.now 0 0 (tree.Create name.now first.now rest.now) ≡ Ok (plain.Act (action_of a))) }
+    ensures err { IfErr result (λ e. e ≢ fault.Memory → resolved schema.now 0 0 (tree.Create name.now first.now rest.now) ≡ Err e) }
 {
     if is_named(schema.tables.as_slice(), name.as_str()) {
         return Err(ResolveError::TableExists);
@@ -108,8 +110,8 @@ pub fn delete(
     name: &Text,
     written: &Option<Condition>,
 ) -> Result<Action, ResolveError>
-    ensures ok { (s n : _) → IfOk result (λ a. resolved schema.now s n (tree.Delete name.now written.now) ≡ Ok (plain.Act (action_of a))) }
-    ensures err { (s n : _) → IfErr result (λ e. e ≢ fault.Memory → resolved schema.now s n (tree.Delete name.now written.now) ≡ Err e) }
+    ensures ok { IfOk result (λ a. resolved schema.now 0 0 (tree.Delete name.now written.now) ≡ Ok (plain.Act (action_of a))) }
+    ensures err { IfErr result (λ e. e ≢ fault.Memory → resolved schema.now 0 0 (tree.Delete name.now written.now) ≡ Err e) }
 {
     let heading = table_named(schema.tables.as_slice(), name.as_str())?;
     let pred = condition_or_default(alloc, std::slice::from_ref(heading), written)?;
@@ -124,9 +126,34 @@ pub fn delete(
 /// # Errors
 /// `UnknownColumn` where it has a column; `Memory` where there is none for the predicate.
 pub fn assertion(alloc: Global, written: &Condition) -> Result<Action, ResolveError>
-    ensures ok { (d s n : _) → IfOk result (λ a. resolved d s n (tree.Assert written.now) ≡ Ok (plain.Act (action_of a))) }
-    ensures err { (d s n : _) → IfErr result (λ e. e ≢ fault.Memory → resolved d s n (tree.Assert written.now) ≡ Err e) }
+    ensures ok { IfOk result (λ a. and_then (condition_at [] written.now) (λ d. Ok (plain.Act (plain.Assert d))) ≡ Ok (plain.Act (action_of a))) }
+    ensures err { IfErr result (λ e. e ≢ fault.Memory → and_then (condition_at [] written.now) (λ d. Ok (plain.Act (plain.Assert d))) ≡ Err e) }
 {
     let pred = condition(alloc, &[], written)?;
     Ok(Action::Assert { pred })
+}
+
+/// The rows of a query that are added to a table.
+///
+/// # Errors
+/// `UnknownTable`, then the refusals of the query, then `ColumnCount` where it has another number of
+/// columns than the table; `Memory` where there is none for the query.
+pub fn insert_query(
+    alloc: Global,
+    schema: &Schema,
+    name: &Text,
+    written: &Query,
+) -> Result<Action, ResolveError>
+    ensures ok { IfOk result (λ a. resolved schema.now 0 0 (tree.InsertQuery name.now written.now) ≡ Ok (plain.Act (action_of a))) }
+    ensures err { IfErr result (λ e. e ≢ fault.Memory → resolved schema.now 0 0 (tree.InsertQuery name.now written.now) ≡ Err e) }
+{
+    let heading = table_named(schema.tables.as_slice(), name.as_str())?;
+    let found = query(alloc, schema.tables.as_slice(), written)?;
+    if found.columns.len() != heading.columns.len() {
+        return Err(ResolveError::ColumnCount);
+    }
+    Ok(Action::InsertQuery {
+        name: name.clone()?,
+        query: found.query,
+    })
 }
