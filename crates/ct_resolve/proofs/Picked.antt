@@ -13,6 +13,6 @@ pub table_picked : {new : List Picked} {n : ℕ} (old : List Picked) (k : ℕ) (
 table_picked {n = n} old k xs ys e f =
     ap (λ ps. ps ++ numbered n ys) e ∙ ap (λ m. (old ++ numbered k xs) ++ numbered m ys) f ∙ assoc old (numbered k xs) (numbered (k + length xs) ys)
     ∙ ap (λ ps. old ++ ps) (sym (numbered_both k xs ys)) where
-  assoc : {A : Type 0} (xs ys zs : List A) → (xs ++ ys) ++ zs ≡ xs ++ (ys ++ zs)
-  assoc [] ys zs = refl
-  assoc (x ∷ xs) ys zs = ap (λ ws. x ∷ ws) (assoc xs ys zs)
+      assoc : {A : Type 0} (xs ys zs : List A) → (xs ++ ys) ++ zs ≡ xs ++ (ys ++ zs)
+      assoc [] ys zs = refl
+      assoc (x ∷ xs) ys zs = ap (λ ws. x ∷ ws) (assoc xs ys zs)

@@ -2,7 +2,6 @@
 use Rattle.std.proofs.Common.{◌≡◌, List, [], ◌∷◌, refl, ap, sym, ◌∙◌}
 use Rattle.std.specs.Prelude.{Ok, Err}
 use Rattle.ct_query.specs.declared.schema.Heading.{Heading}
-use Rattle.ct_query.specs.Plain as plain
 use Rattle.ct_parse.specs.declared.tree.SetOperator.{SetOperator}
 use Rattle.ct_parse.specs.declared.tree.QueryPrimary as primary
 use Rattle.ct_parse.specs.declared.tree.QueryPrimary.{QueryPrimary}

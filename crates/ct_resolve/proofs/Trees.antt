@@ -8,12 +8,11 @@ use Rattle.ct_query.specs.declared.query.Pred.{Pred, And', Row_of-Pred, end_of-P
 use Rattle.ct_query.specs.Pred.{condition_of, conditions_of}
 use Rattle.ct_parse.specs.declared.tree.Factor as factor
 use Rattle.ct_parse.specs.declared.tree.Factor.{Factor, Row_of-Factor, end_of-Factor, more_of-Factor, items-the_row-Factor, items_shown-the_row-Factor-2}
-use Rattle.ct_parse.specs.declared.tree.Conjunction.{Conjunction}
 use Rattle.ct_parse.specs.declared.tree.Condition as tree
 use Rattle.ct_parse.specs.declared.tree.Condition.{Condition', Row_of-Conjunction, end_of-Conjunction, more_of-Conjunction, items-the_row-Conjunction, out-Condition, items_shown-the_row-Conjunction-3, outs-Condition'}
 use Rattle.std.specs.Prelude.{Err}
 use Rattle.ct_resolve.specs.declared.error.ResolveError.{ResolveError}
-use Rattle.ct_resolve.specs.Found.{Found, in_front, each}
+use Rattle.ct_resolve.specs.Found.{in_front, each}
 use Rattle.ct_resolve.specs.Conditions.{negated, and_of, or_of, all_found, any_found, factor_at, factors_at, conjunctions_at, conjunction_at, condition_at}
 
 row_of : Pred → (n : Count) × Row_of-Pred n

@@ -34,12 +34,7 @@ fn term(alloc: Global, scope: &[Heading], written: &ct_parse::Term) -> Result<Te
 ///
 /// # Errors
 /// `Memory` where there is none for the box.
-fn compared(
-    alloc: Global,
-    sign: Comparison,
-    left: Term,
-    right: Term,
-) -> Result<Pred, ResolveError>
+fn compared(alloc: Global, sign: Comparison, left: Term, right: Term) -> Result<Pred, ResolveError>
     ensures ok { IfOk result (λ p. condition_of p ≡ spec.compared sign left right) }
     ensures err { IfErr result (λ e. e ≡ fault.Memory) }
 {

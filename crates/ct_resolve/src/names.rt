@@ -29,9 +29,7 @@ pub fn table_named<'a>(tables: &'a [Heading], name: &str) -> Result<&'a Heading,
 pub fn is_named(tables: &[Heading], name: &str) -> bool
     ensures { result ≡ is_table tables.now name.now }
 {
-    tables
-        .iter()
-        .any(|heading| heading.name.as_str() == name)
+    tables.iter().any(|heading| heading.name.as_str() == name)
 }
 
 /// Where the first of these names is that is this one.

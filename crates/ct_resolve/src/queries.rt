@@ -14,11 +14,7 @@ use std::alloc::Global;
 
 /// A query in parentheses, or a SELECT.
 #[cycle(query)]
-fn primary(
-    alloc: Global,
-    schema: &[Heading],
-    written: &QueryPrimary,
-) -> Result<Named, ResolveError>
+fn primary(alloc: Global, schema: &[Heading], written: &QueryPrimary) -> Result<Named, ResolveError>
     ensures ok { IfOk result (λ n. spec.primary_at schema.now written.now ≡ Ok (named_of n)) }
     ensures err { IfErr result (λ e. e ≢ fault.Memory → spec.primary_at schema.now written.now ≡ Err e) }
 {
@@ -46,11 +42,7 @@ fn with_primary(
 /// Primaries joined by INTERSECT, taken from the left.
 #[cycle(query)]
 #[tactic(auto, using(crate::proofs::QueryTrees::primaries_refused))]
-fn query_term(
-    alloc: Global,
-    schema: &[Heading],
-    written: &QueryTerm,
-) -> Result<Named, ResolveError>
+fn query_term(alloc: Global, schema: &[Heading], written: &QueryTerm) -> Result<Named, ResolveError>
     ensures ok { IfOk result (λ n. spec.term_at schema.now written.now ≡ Ok (named_of n)) }
     ensures err { IfErr result (λ e. e ≢ fault.Memory → spec.term_at schema.now written.now ≡ Err e) }
 {
@@ -79,11 +71,7 @@ fn with_term(
 /// Terms joined by UNION and EXCEPT, taken from the left.
 #[cycle(query)]
 #[tactic(auto, using(crate::proofs::QueryTrees::terms_refused))]
-fn query_terms(
-    alloc: Global,
-    schema: &[Heading],
-    written: &Query,
-) -> Result<Named, ResolveError>
+fn query_terms(alloc: Global, schema: &[Heading], written: &Query) -> Result<Named, ResolveError>
     ensures ok { IfOk result (λ n. spec.with_terms schema.now (spec.term_at schema.now (out-Query written.now).first) (out-Query written.now).rest ≡ Ok (named_of n)) }
     ensures err { IfErr result (λ e. e ≢ fault.Memory → spec.with_terms schema.now (spec.term_at schema.now (out-Query written.now).first) (out-Query written.now).rest ≡ Err e) }
 {

@@ -29,10 +29,7 @@ pub struct Named {
 ///
 /// # Errors
 /// `Memory` where there is none for the lists.
-fn unzipped(
-    alloc: Global,
-    picked: &[(u32, Text)],
-) -> Result<(List<u32>, List<Text>), ResolveError>
+fn unzipped(alloc: Global, picked: &[(u32, Text)]) -> Result<(List<u32>, List<Text>), ResolveError>
     ensures ok { IfOk result (λ r. (r.0 ≡ map (λ p. p.0) picked.now) × (r.1 ≡ map (λ p. p.1) picked.now)) }
     ensures err { IfErr result (λ e. e ≡ fault.Memory) }
 {
@@ -49,11 +46,7 @@ fn unzipped(
 ///
 /// # Errors
 /// The first refusal of a column from the left; `Memory` where there is none for the predicates.
-fn conditions(
-    alloc: Global,
-    scope: &[Heading],
-    select: &Select,
-) -> Result<Vec<Pred>, ResolveError>
+fn conditions(alloc: Global, scope: &[Heading], select: &Select) -> Result<Vec<Pred>, ResolveError>
     ensures ok { IfOk result (λ v. each (condition_at scope.now) (spec.conditions_of select.now) ≡ Ok (map condition_of v.items)) }
     ensures err { IfErr result (λ e. e ≢ fault.Memory → each (condition_at scope.now) (spec.conditions_of select.now) ≡ Err e) }
 {
@@ -97,11 +90,7 @@ fn selected(alloc: Global, scope: &[Heading], select: &Select) -> Result<Named, 
 /// `UnknownTable` for the tables from the left; then `DuplicateName` where two are seen under one
 /// name; then the refusals of the items and of the conditions from the left. `Memory` where there
 /// is none for the query.
-pub fn select(
-    alloc: Global,
-    schema: &[Heading],
-    written: &Select,
-) -> Result<Named, ResolveError>
+pub fn select(alloc: Global, schema: &[Heading], written: &Select) -> Result<Named, ResolveError>
     ensures ok { IfOk result (λ n. spec.select_at schema.now written.now ≡ Ok (named_of n)) }
     ensures err { IfErr result (λ e. e ≢ fault.Memory → spec.select_at schema.now written.now ≡ Err e) }
 {

@@ -13,8 +13,8 @@ ghost use Rattle.ct_resolve.specs.declared.error.ResolveError.TheVariants as fau
 use crate::conditions::condition;
 use crate::error::ResolveError;
 use crate::names::{is_named, table_named};
-use crate::rows::{all_fit, are_distinct, listed, terms_of_rows};
 use crate::queries::query;
+use crate::rows::{all_fit, are_distinct, listed, terms_of_rows};
 use ct_parse::{Condition, Query, Row};
 use ct_query::{Action, Heading, Pred, Schema};
 use ct_word::{List, Text};

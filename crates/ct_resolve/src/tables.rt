@@ -116,11 +116,7 @@ pub fn product(alloc: Global, tables: &Tables) -> Result<Query, ResolveError>
 ///
 /// # Errors
 /// `Memory` where there is none for the copies, or a position is no number of 32 bits.
-fn pick_all(
-    picked: &mut Vec<(u32, Text)>,
-    start: u32,
-    table: &Heading,
-) -> Result<u32, ResolveError>
+fn pick_all(picked: &mut Vec<(u32, Text)>, start: u32, table: &Heading) -> Result<u32, ResolveError>
     ensures ok { IfOk result (λ k. k ≡ start + length table.now.columns) }
     ensures picked { OnOk result (picked.new.items ≡ picked.old.items ++ spec.numbered start table.now.columns) }
     ensures err { IfErr result (λ e. e ≡ fault.Memory) }

@@ -1,4 +1,4 @@
-use Rattle.std.proofs.Common.{◌≡◌, ◌+◌, ◌∷◌, ◌++◌, drop, sym, ap, ◌∙◌}
+use Rattle.std.proofs.Common.{◌+◌, ◌++◌, drop, sym, ap, ◌∙◌}
 use Rattle.ct_resolve.specs.Queries.{numbered, columns_of}
 use Rattle.ct_resolve.proofs.Founds.{read_next}
 use Rattle.ct_resolve.proofs.Picked.{table_picked}

@@ -1,4 +1,4 @@
-use Rattle.std.proofs.Common.{◌≡◌, ◌+◌, ◌++◌, length, drop}
+use Rattle.std.proofs.Common.{◌≡◌, ◌+◌, ◌++◌, drop}
 use Rattle.ct_resolve.specs.Queries.{numbered}
 use Rattle.ct_resolve.proofs.tables.pick_all.Given as goal
 
