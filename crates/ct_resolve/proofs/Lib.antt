@@ -1,0 +1,4 @@
+pub mod Founds
+pub mod Trees
+pub mod Picked
+pub mod QueryTrees

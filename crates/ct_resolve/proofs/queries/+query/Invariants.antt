@@ -1,0 +1,12 @@
+use Rattle.std.proofs.Common.{◌≡◌, Ok, drop}
+use Rattle.ct_parse.specs.declared.tree.Query.{out-Query}
+use Rattle.ct_resolve.specs.Queries.{with_primaries, term_at, with_terms}
+use Rattle.ct_resolve.specs.Views.{named_of}
+use Rattle.ct_resolve.proofs.queries.+query.Given as goal
+
+abbrev pub invariant-query_term-loop-next : goal.invariant-query_term-loop-next
+invariant-query_term-loop-next l = with_primaries l.schema (Ok (named_of l.found)) (drop l.next-index l.next-items) ≡ term_at l.schema l.written
+
+abbrev pub invariant-query_terms-loop-next : goal.invariant-query_terms-loop-next
+invariant-query_terms-loop-next l =
+    with_terms l.schema (Ok (named_of l.found)) (drop l.next-index l.next-items) ≡ with_terms l.schema (term_at l.schema (out-Query l.written).first) (out-Query l.written).rest

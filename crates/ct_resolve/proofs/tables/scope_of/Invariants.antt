@@ -1,0 +1,8 @@
+use Rattle.std.proofs.Common.{◌≡◌, map, drop}
+use Rattle.ct_resolve.specs.Found.{each}
+use Rattle.ct_resolve.specs.Queries.{seen_table, table_of, tables_of}
+use Rattle.ct_resolve.proofs.Founds.{behind}
+use Rattle.ct_resolve.proofs.tables.scope_of.Given as goal
+
+abbrev pub invariant-loop-joined : goal.invariant-loop-joined
+invariant-loop-joined l = behind l.found.items (each (seen_table l.schema) (map table_of (drop l.joined-index l.joined-items))) ≡ each (seen_table l.schema) (tables_of l.tables)

@@ -1,0 +1,6 @@
+pub mod Found
+pub mod Names
+pub mod Conditions
+pub mod Queries
+pub mod Statements
+pub mod Views

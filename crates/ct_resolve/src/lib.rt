@@ -1,0 +1,17 @@
+//! Statements with positions for names.
+#![tactic(auto)]
+
+mod conditions;
+mod error;
+mod names;
+mod queries;
+mod resolving;
+mod rows;
+mod selects;
+mod statements;
+mod tables;
+#[cfg(test)]
+mod tests;
+
+pub use error::ResolveError;
+pub use resolving::resolve;

@@ -1,0 +1,93 @@
+// A whole statement.
+
+ghost use Rattle.std.specs.Prelude.{◌≡◌, ◌≢◌, IfOk, IfErr, Ok, Err};
+ghost use Rattle.ct_query.specs.Plain as plain;
+ghost use Rattle.ct_query.specs.Views.{statement_of};
+ghost use Rattle.ct_resolve.specs.Found.{and_then};
+ghost use Rattle.ct_resolve.specs.Queries.{query_at};
+ghost use Rattle.ct_resolve.specs.Statements.{resolved};
+ghost use Rattle.ct_resolve.specs.declared.error.ResolveError.TheVariants as fault;
+
+use crate::error::ResolveError;
+use crate::queries::query;
+use crate::statements::{assertion, create, delete, insert_query, insert_rows};
+use ct_parse::{Query, Statement};
+use ct_query::{Ask, Resolved, Schema};
+use std::alloc::Global;
+
+/// A query of which something is asked.
+///
+/// # Errors
+/// The refusals of the query; `Memory` where there is none for it.
+fn asked(
+    alloc: Global,
+    schema: &Schema,
+    ask: Ask,
+    written: &Query,
+) -> Result<Resolved, ResolveError>
+    ensures ok { IfOk result (λ r. and_then (query_at schema.now.tables written.now) (λ a. Ok (plain.Asks ask a.columns a.query)) ≡ Ok (statement_of r)) }
+    ensures err { IfErr result (λ e. e ≢ fault.Memory → and_then (query_at schema.now.tables written.now) (λ a. Ok (plain.Asks ask a.columns a.query)) ≡ Err e) }
+{
+    let found = query(alloc, schema.tables.as_slice(), written)?;
+    Ok(Resolved::Ask {
+        ask,
+        columns: found.columns,
+        query: found.query,
+    })
+}
+
+/// The statement with positions for the names of columns. `session` is the session that draws the
+/// nulls, from 1 to 1,023, and `fresh` the number of its last null: each NULL, from the left, is its
+/// null with the next number after `fresh`.
+///
+/// # Errors
+/// The first refusal in this order, and `Memory` where there is none for the answer, or where a
+/// position or the number of a null is none of 32 bits.
+/// - CREATE: `TableExists`, then `DuplicateName` for two columns of one name.
+/// - INSERT of rows: `UnknownTable`, then `ColumnCount`, then the condition, which sees no table.
+/// - INSERT of a query: `UnknownTable`, then the query, then `ColumnCount`.
+/// - DELETE: `UnknownTable`, then the condition, which sees the table under its own name.
+/// - ASSERT: the condition, which sees no table.
+/// - SELECT: `UnknownTable` for the tables from the left, then `DuplicateName` for two tables of one
+///   visible name, then the items, then the conditions of ON and WHERE, each from the left.
+/// - A set operator: its left side, its right side, then `ColumnCount`.
+///
+/// A column is `UnknownColumn` where no table in scope has it, and `AmbiguousColumn` where two or
+/// more have it.
+pub fn resolve(
+    alloc: Global,
+    schema: &Schema,
+    session: u32,
+    fresh: u32,
+    statement: &Statement,
+) -> Result<Resolved, ResolveError>
+    ensures ok { IfOk result (λ r. resolved schema.now session fresh statement.now ≡ Ok (statement_of r)) }
+    ensures err { IfErr result (λ e. e ≢ fault.Memory → resolved schema.now session fresh statement.now ≡ Err e) }
+{
+    match statement {
+        Statement::Create { name, first, rest } => {
+            Ok(Resolved::Act(create(alloc, schema, name, first, rest)?))
+        }
+        Statement::InsertRows {
+            name,
+            first,
+            rest,
+            condition,
+        } => Ok(Resolved::Act(insert_rows(
+            alloc, schema, session, fresh, name, first, rest, condition,
+        )?)),
+        Statement::InsertQuery { name, query } => {
+            Ok(Resolved::Act(insert_query(alloc, schema, name, query)?))
+        }
+        Statement::Delete { name, condition } => {
+            Ok(Resolved::Act(delete(alloc, schema, name, condition)?))
+        }
+        Statement::Assert(condition) => Ok(Resolved::Act(assertion(alloc, condition)?)),
+        Statement::Rows(query) => asked(alloc, schema, Ask::Rows, query),
+        Statement::Possible(query) => asked(alloc, schema, Ask::Possible, query),
+        Statement::Certain(query) => asked(alloc, schema, Ask::Certain, query),
+        Statement::Begin => Ok(Resolved::Begin),
+        Statement::Commit => Ok(Resolved::Commit),
+        Statement::Rollback => Ok(Resolved::Rollback),
+    }
+}

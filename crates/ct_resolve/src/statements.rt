@@ -1,0 +1,159 @@
+// Statements with positions for names, by the lines of the grammar that ask for a change.
+
+ghost use Rattle.std.specs.Prelude.{◌≡◌, ◌≢◌, [], IfOk, IfErr, Ok, Err};
+ghost use Rattle.ct_query.specs.Pred.{condition_of};
+ghost use Rattle.ct_query.specs.Views.{action_of};
+ghost use Rattle.ct_query.specs.Plain as plain;
+ghost use Rattle.ct_parse.specs.declared.tree.Statement.TheVariants as tree;
+ghost use Rattle.ct_resolve.specs.Conditions.{condition_at, condition_or_true};
+ghost use Rattle.ct_resolve.specs.Found.{and_then};
+ghost use Rattle.ct_resolve.specs.Statements.{resolved};
+ghost use Rattle.ct_resolve.specs.declared.error.ResolveError.TheVariants as fault;
+
+use crate::conditions::condition;
+use crate::error::ResolveError;
+use crate::names::{is_named, table_named};
+use crate::queries::query;
+use crate::rows::{all_fit, are_distinct, listed, terms_of_rows};
+use ct_parse::{Condition, Query, Row};
+use ct_query::{Action, Heading, Pred, Schema};
+use ct_word::{List, Text};
+use std::alloc::Global;
+
+/// A condition that may be left out, and then is True.
+///
+/// # Errors
+/// The first refusal of a column from the left; `Memory` where there is none for the predicate.
+fn condition_or_default(
+    alloc: Global,
+    scope: &[Heading],
+    written: &Option<Condition>,
+) -> Result<Pred, ResolveError>
+    ensures ok { IfOk result (λ p. condition_or_true scope.now written.now ≡ Ok (condition_of p)) }
+    ensures err { IfErr result (λ e. e ≢ fault.Memory → condition_or_true scope.now written.now ≡ Err e) }
+{
+    match written {
+        Some(written) => condition(alloc, scope, written),
+        None => Ok(Pred::True),
+    }
+}
+
+/// A new table with these columns.
+///
+/// # Errors
+/// `TableExists` where the name is in the schema, then `DuplicateName` where two columns have one
+/// name; `Memory` where there is none for the copies.
+pub fn create(
+    alloc: Global,
+    schema: &Schema,
+    name: &Text,
+    first: &Text,
+    rest: &List<Text>,
+) -> Result<Action, ResolveError>
+    ensures ok { IfOk result (λ a. resolved schema.now 0 0 (tree.Create name.now first.now rest.now) ≡ Ok (plain.Act (action_of a))) }
+    ensures err { IfErr result (λ e. e ≢ fault.Memory → resolved schema.now 0 0 (tree.Create name.now first.now rest.now) ≡ Err e) }
+{
+    if is_named(schema.tables.as_slice(), name.as_str()) {
+        return Err(ResolveError::TableExists);
+    }
+    let columns = listed(alloc, first, rest.as_slice())?;
+    if !are_distinct(columns.as_slice()) {
+        return Err(ResolveError::DuplicateName);
+    }
+    Ok(Action::Create {
+        name: name.clone()?,
+        columns: List::from_vec(columns),
+    })
+}
+
+/// Rows that are added to a table where a condition holds; `fresh` is the number of the session's
+/// last null.
+///
+/// # Errors
+/// `UnknownTable`; then `ColumnCount` where a row has another number of cells than the table has
+/// columns; then the first refusal of the condition, which sees no table. `Memory` where there is
+/// none for the terms, or the number of a null is none of 32 bits.
+pub fn insert_rows(
+    alloc: Global,
+    schema: &Schema,
+    session: u32,
+    fresh: u32,
+    name: &Text,
+    first: &Row,
+    rest: &List<Row>,
+    written: &Option<Condition>,
+) -> Result<Action, ResolveError>
+    ensures ok { IfOk result (λ a. resolved schema.now session fresh (tree.InsertRows name.now first.now rest.now written.now) ≡ Ok (plain.Act (action_of a))) }
+    ensures err { IfErr result (λ e. e ≢ fault.Memory → resolved schema.now session fresh (tree.InsertRows name.now first.now rest.now written.now) ≡ Err e) }
+{
+    let heading = table_named(schema.tables.as_slice(), name.as_str())?;
+    if !all_fit(first, rest, heading) {
+        return Err(ResolveError::ColumnCount);
+    }
+    let pred = condition_or_default(alloc, &[], written)?;
+    let rows = terms_of_rows(alloc, session, fresh, first, rest)?;
+    Ok(Action::InsertRows {
+        name: name.clone()?,
+        rows,
+        pred,
+    })
+}
+
+/// The removal of the rows of a table where a condition holds.
+///
+/// # Errors
+/// `UnknownTable`, then the first refusal of the condition, which sees the table under its own
+/// name; `Memory` where there is none for the predicate.
+pub fn delete(
+    alloc: Global,
+    schema: &Schema,
+    name: &Text,
+    written: &Option<Condition>,
+) -> Result<Action, ResolveError>
+    ensures ok { IfOk result (λ a. resolved schema.now 0 0 (tree.Delete name.now written.now) ≡ Ok (plain.Act (action_of a))) }
+    ensures err { IfErr result (λ e. e ≢ fault.Memory → resolved schema.now 0 0 (tree.Delete name.now written.now) ≡ Err e) }
+{
+    let heading = table_named(schema.tables.as_slice(), name.as_str())?;
+    let pred = condition_or_default(alloc, std::slice::from_ref(heading), written)?;
+    Ok(Action::Delete {
+        name: name.clone()?,
+        pred,
+    })
+}
+
+/// That a condition, which sees no table, holds.
+///
+/// # Errors
+/// `UnknownColumn` where it has a column; `Memory` where there is none for the predicate.
+pub fn assertion(alloc: Global, written: &Condition) -> Result<Action, ResolveError>
+    ensures ok { IfOk result (λ a. and_then (condition_at [] written.now) (λ d. Ok (plain.Act (plain.Assert d))) ≡ Ok (plain.Act (action_of a))) }
+    ensures err { IfErr result (λ e. e ≢ fault.Memory → and_then (condition_at [] written.now) (λ d. Ok (plain.Act (plain.Assert d))) ≡ Err e) }
+{
+    let pred = condition(alloc, &[], written)?;
+    Ok(Action::Assert { pred })
+}
+
+/// The rows of a query that are added to a table.
+///
+/// # Errors
+/// `UnknownTable`, then the refusals of the query, then `ColumnCount` where it has another number of
+/// columns than the table; `Memory` where there is none for the query.
+pub fn insert_query(
+    alloc: Global,
+    schema: &Schema,
+    name: &Text,
+    written: &Query,
+) -> Result<Action, ResolveError>
+    ensures ok { IfOk result (λ a. resolved schema.now 0 0 (tree.InsertQuery name.now written.now) ≡ Ok (plain.Act (action_of a))) }
+    ensures err { IfErr result (λ e. e ≢ fault.Memory → resolved schema.now 0 0 (tree.InsertQuery name.now written.now) ≡ Err e) }
+{
+    let heading = table_named(schema.tables.as_slice(), name.as_str())?;
+    let found = query(alloc, schema.tables.as_slice(), written)?;
+    if found.columns.len() != heading.columns.len() {
+        return Err(ResolveError::ColumnCount);
+    }
+    Ok(Action::InsertQuery {
+        name: name.clone()?,
+        query: found.query,
+    })
+}
