@@ -52,22 +52,6 @@ fn put_pred(alloc: Global, out: &mut String, pred: &Pred) -> Result<(), AllocErr
     }
 }
 
-#[cycle(put)]
-fn put_sides(
-    alloc: Global,
-    out: &mut String,
-    sign: &str,
-    left: &Query,
-    right: &Query,
-) -> Result<(), AllocError> {
-    out.push('(')?;
-    put_query(alloc, out, left)?;
-    out.push_str(sign)?;
-    put_query(alloc, out, right)?;
-    out.push(')')
-}
-
-#[cycle(put)]
 fn put_query(alloc: Global, out: &mut String, query: &Query) -> Result<(), AllocError> {
     match query {
         Query::Table(name) => out.push_str(name.as_str()),
@@ -84,10 +68,34 @@ fn put_query(alloc: Global, out: &mut String, query: &Query) -> Result<(), Alloc
             }
             put_query(alloc, out, inner)
         }
-        Query::Product(left, right) => put_sides(alloc, out, "*", left, right),
-        Query::Union(left, right) => put_sides(alloc, out, "+", left, right),
-        Query::Except(left, right) => put_sides(alloc, out, "-", left, right),
-        Query::Intersect(left, right) => put_sides(alloc, out, "^", left, right),
+        Query::Product(left, right) => {
+            out.push('(')?;
+            put_query(alloc, out, left)?;
+            out.push('*')?;
+            put_query(alloc, out, right)?;
+            out.push(')')
+        }
+        Query::Union(left, right) => {
+            out.push('(')?;
+            put_query(alloc, out, left)?;
+            out.push('+')?;
+            put_query(alloc, out, right)?;
+            out.push(')')
+        }
+        Query::Except(left, right) => {
+            out.push('(')?;
+            put_query(alloc, out, left)?;
+            out.push('-')?;
+            put_query(alloc, out, right)?;
+            out.push(')')
+        }
+        Query::Intersect(left, right) => {
+            out.push('(')?;
+            put_query(alloc, out, left)?;
+            out.push('^')?;
+            put_query(alloc, out, right)?;
+            out.push(')')
+        }
     }
 }
 
