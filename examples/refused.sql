@@ -8,9 +8,15 @@ insert into parts values (101, 17);
 insert into part values (101);
 -- There is no such column.
 select * from part where colour = 1;
+-- Two tables are seen under one name.
+select * from part, part;
+-- Both tables have the column.
+select number from part, part as other;
+-- The number has no room in 64 bits.
+insert into part values (101, 9223372036854775808);
 -- This is no statement of the language.
-select number from part;
--- Texts are none of the cells yet.
-insert into part values (101, 'heavy');
+select number as from part;
+-- This is one, but it is not executed yet.
+certain select number from part;
 -- The table is empty still.
 select * from part;

@@ -49,7 +49,7 @@ fn is_right(words: &[u64], root: u32, earlier: &[Step], step: &Step, marks: &mut
     match &step.why {
         Why::Root => are_same_members(clause, &[yes(Atom::Node(root))]),
         Why::Def(place, k) => defines(words, *place, *k, clause),
-        Why::Path(places) => joins(words, places.as_slice(), clause),
+        Why::Path(places) => joins(words, places.as_slice(), clause, marks),
         Why::Rup(hints) => follows(earlier, clause, hints.as_slice(), marks),
     }
 }

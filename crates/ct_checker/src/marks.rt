@@ -1,7 +1,8 @@
-// The literals that are false in a test by unit propagation.
+// A table of literals: those that are false in a test by unit propagation, or of a path's clause.
 
 ghost use Rattle.std.specs.Prelude.{◌≡◌, ◌<◌, ◌≤◌, ◌++◌, ◌∷◌, [], ◌^◌, length, slice_index, IfOk};
 ghost use Rattle.ct_derivation.specs.Literal.{has};
+ghost use Rattle.ct_checker.specs.Added.{added};
 ghost use Rattle.ct_checker.specs.Linked.{Linked, IsHead, bucket_of, number_of};
 
 use crate::literals::is_same;
@@ -13,11 +14,11 @@ use std::marker::Model;
 /// A prime past most lengths of logs, so that pairs of places seldom share a number.
 const STRIDE: u64 = 1_000_003;
 
-/// A table with room for so many marked literals, which is emptied in constant time.
+/// A table with room for so many marked literals, which is emptied in the time that its literals took.
 ///
 /// The marked literals are listed, and each bucket of a hash has a chain through the list, from
-/// its newest literal down. After `clear` the old heads stay: a chain from one may pass through
-/// literals of other buckets, and ends all the same.
+/// its newest literal down. `clear` takes the heads of these chains away: a chain from an old head
+/// would pass through literals of other buckets, and one such chain through all.
 #[derive(Drop)]
 pub struct Marks {
     room: u32,
@@ -79,6 +80,17 @@ fn link(falses: &[Lit], heads: &mut [u32], next: &mut [u32], literal: &Lit)
     heads[k] = place as u32;
 }
 
+/// Puts no place at the head of each literal's bucket.
+fn unlink(falses: &[Lit], heads: &mut [u32])
+    requires { 0 < length heads.old }
+    ensures { length heads.new ≡ length heads.old }
+{
+    for literal in falses {
+        let k = bucket(literal, heads.len());
+        heads[k] = u32::MAX;
+    }
+}
+
 /// Walks a chain down from a place.
 fn is_chained(falses: &[Lit], next: &[u32], first: u32, literal: &Lit) -> bool
     requires head { IsHead falses.now next.now first literal.now }
@@ -124,6 +136,7 @@ impl Marks {
     pub(crate) fn clear(&mut self)
         ensures { self.new ≡ record { room = self.old.room; falses = [] } }
     {
+        unlink(self.falses.as_slice(), self.heads.as_mut_slice());
         self.falses.clear();
     }
 
@@ -148,5 +161,16 @@ impl Marks {
     {
         let first = head(self.heads.as_slice(), literal);
         is_chained(self.falses.as_slice(), self.next.as_slice(), first, literal)
+    }
+
+    /// Marks a literal, unless it is marked already.
+    #[tactic(auto, unfolding(crate::specs::Added::added))]
+    pub(crate) fn add(&mut self, literal: Lit)
+        requires { length (added self.old.falses literal) ≤ self.old.room }
+        ensures { self.new ≡ record { room = self.old.room; falses = added self.old.falses literal } }
+    {
+        if !self.holds(&literal) {
+            self.push(literal);
+        }
     }
 }

@@ -191,11 +191,11 @@ fn encodes_a_triangle(rt: HostRuntime) -> Result<(), Fail> {
     Ok(())
 }
 
-#[test]
-fn tells_constants_apart(rt: HostRuntime) -> Result<(), Fail> {
-    let alloc = rt.alloc();
-    // `'x' = 'y' and 'x' = ?x`
-    let words = log(
+/// `'x' = 'y' and 'x' = ?x` at place 8.
+fn two_constants(alloc: Global) -> Result<Vec<u64>, AllocError>
+    ensures { IfOk result (λ words. IsWellFormed words.items) }
+{
+    log(
         alloc,
         &[
             (Kind::TextEnd, 0, 0),
@@ -208,7 +208,13 @@ fn tells_constants_apart(rt: HostRuntime) -> Result<(), Fail> {
             (Kind::Equal, 2, 5),
             (Kind::And, 6, 7),
         ],
-    )?;
+    )
+}
+
+#[test]
+fn tells_constants_apart(rt: HostRuntime) -> Result<(), Fail> {
+    let alloc = rt.alloc();
+    let words = two_constants(alloc)?;
     let Some(e) = encoded(alloc, words.as_slice(), 8)? else {
         return Err(Fail::new("no encoding"));
     };
@@ -262,17 +268,26 @@ fn chain(alloc: Global, nulls: u32) -> Result<Vec<u64>, AllocError>
 #[test]
 fn counts_terms(rt: HostRuntime) -> Result<(), Fail> {
     let alloc = rt.alloc();
-    let words = chain(alloc, 64)?;
-    let Some(e) = encoded(alloc, words.as_slice(), 188)? else {
-        return Err(Fail::new("no encoding"));
-    };
-    // 63 equalities and 62 conjunctions; 2,016 pairs, each with 62 terms between.
-    assert_eq!(rt; e.cnf.vars, 125 + 2016);
-    assert_eq!(rt; e.cnf.clauses.len(), 1 + 63 * 2 + 62 * 3 + 2016 * 62);
-    let words = chain(alloc, 65)?;
+    // The equalities with the conjunctions, and the pairs of nulls.
+    for (nulls, conditions, pairs) in [(32, 31 + 30, 496), (64, 63 + 62, 2016)] {
+        let words = chain(alloc, nulls)?;
+        let Some(e) = encoded(alloc, words.as_slice(), 3 * nulls - 4)? else {
+            return Err(Fail::new("no encoding"));
+        };
+        assert_eq!(rt; e.cnf.vars, conditions + pairs);
+        let definitions = (nulls - 1) * 2 + (nulls - 2) * 3;
+        let paths = pairs * (nulls - 2);
+        assert_eq!(rt; e.cnf.clauses.len(), (1 + definitions + paths) as usize);
+    }
+    Ok(())
+}
+
+#[test]
+fn refuses_sixty_five_terms(rt: HostRuntime) -> Result<(), Fail> {
+    let words = chain(rt.alloc(), 65)?;
     assert!(rt;
         matches!(
-            encoded(alloc, words.as_slice(), 191),
+            encoded(rt.alloc(), words.as_slice(), 191),
             Err(CnfError::TooManyTerms)
         )
     );

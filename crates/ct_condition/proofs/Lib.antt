@@ -2,3 +2,9 @@ pub mod Fields
 pub mod Truths
 pub mod Folds
 pub mod Pairs
+pub mod Runs
+pub mod OnRows
+pub mod Trees
+pub mod Depth
+pub mod Counted
+pub mod Characters

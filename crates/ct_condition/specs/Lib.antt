@@ -1,2 +1,5 @@
 pub mod Terms
 pub mod Truth
+pub mod Rows
+pub mod Runs
+pub mod Folding

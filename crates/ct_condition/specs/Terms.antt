@@ -4,6 +4,7 @@ use Rattle.ct_word.specs.declared.values.Value.TheVariants as val
 use Rattle.ct_word.specs.declared.values.Null.TheVariants as null
 use Rattle.ct_word.specs.declared.values.Term.{Term}
 use Rattle.ct_word.specs.declared.values.Term.TheVariants as term
+use Rattle.ct_word.specs.Condition.{Condition, Conditions, True, False, Same, Not, And, Or, none, also}
 
 -- the numbers of a term are as the fields of its word ask
 abbrev pub FitsFields : Term → Type 0
@@ -13,3 +14,17 @@ FitsFields (term.Null (null.Fresh s n)) = (1 ≤ s) × (s ≤ 1023) × (1 ≤ n)
 FitsFields (term.Value (val.Int i)) = Unit {0}
 FitsFields (term.Value (val.Text t)) = Unit {0}
 FitsFields (term.Value (val.Other k)) = k < 2 ^ 28
+
+-- so are those of each term of a condition
+abbrev mutual
+  pub AreFitting : Condition → Type 0
+  AreFitting True = Unit {0}
+  AreFitting False = Unit {0}
+  AreFitting (Same s t) = FitsFields s × FitsFields t
+  AreFitting (Not c) = AreFitting c
+  AreFitting (And cs) = AreAllFitting cs
+  AreFitting (Or cs) = AreAllFitting cs
+
+  pub AreAllFitting : Conditions → Type 0
+  AreAllFitting none = Unit {0}
+  AreAllFitting (also c cs) = AreFitting c × AreAllFitting cs

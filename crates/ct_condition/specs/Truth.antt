@@ -1,5 +1,6 @@
 -- Places of conditions, by their truth.
 use Rattle.std.specs.Prelude.{◌≡◌, ◌<◌, ◌^◌, ℕ, Bool, not, ◌&&◌, ◌||◌, List, IsTrue}
+use Rattle.std.specs.List.{list_all}
 use Rattle.ct_word.specs.declared.kinds.Class.TheVariants as class
 use Rattle.ct_word.specs.declared.values.Value.{Value}
 use Rattle.ct_word.specs.Value.{World, at, same_value}
@@ -36,6 +37,10 @@ and_at words c d = λ v row. truth_at words c v row && truth_at words d v row
 -- that one of the conditions at two places holds
 abbrev pub or_at : List ℕ → ℕ → ℕ → Truth
 or_at words c d = λ v row. truth_at words c v row || truth_at words d v row
+
+-- that each of the conditions at these places holds
+abbrev pub all_at : List ℕ → List ℕ → Truth
+all_at words cs = λ v row. list_all (λ c. truth_at words c v row) cs
 
 -- the condition at a place is the opposite of the one at another
 pub record Negates (words : List ℕ) (place other : ℕ) : Type 0 where

@@ -1,14 +1,18 @@
 // Conditions, folded where they can be.
 
-ghost use Rattle.std.specs.Prelude.{◌≡◌, ◌≢◌, ◌≤◌, ◌+◌, ◌<◌, ◌^◌, ◌⊎◌, length, IfOk, OnErr, IsTrue, Some, false};
+ghost use Rattle.std.specs.Prelude.{◌≡◌, ◌≢◌, ◌≤◌, ◌+◌, ◌<◌, ◌^◌, ◌⊎◌, length, min, max, slice_get, All, IfOk, IsSome, OnErr, IsTrue, Some, false};
 ghost use mathlib.Core.List.{IsPrefix};
 ghost use Rattle.ct_word.specs.Reading.{by_kind, meanings};
 ghost use Rattle.ct_word.specs.Stands.{StandsAt};
 ghost use Rattle.ct_word.specs.WellFormed.{is_formed_as, is_place_of, class_of, has_class};
 ghost use Rattle.ct_word.specs.declared.kinds.Class.TheVariants as class;
-ghost use Rattle.ct_condition.specs.Truth.{HasTruth, equal_at, not_at, and_at, or_at};
+ghost use Rattle.ct_word.specs.declared.kinds.Kind.TheVariants as kind;
+ghost use Rattle.ct_word.specs.Word.{word_of};
+ghost use Rattle.ct_condition.specs.Folding as spec;
+ghost use Rattle.ct_condition.specs.Folding.{FoldsTo};
+ghost use Rattle.ct_condition.specs.Truth.{HasTruth, equal_at, not_at, and_at, or_at, all_at};
 
-use crate::folding::{folded_and, folded_eq, folded_not, folded_or};
+use crate::folding::{folded_and, folded_eq, folded_not, folded_or, literal};
 use crate::interner::Interner;
 use crate::packed::put;
 use ct_arena::{Arena, Full, Site};
@@ -27,12 +31,14 @@ fn pair<N: Site, I: Interner<N>>(
     requires right { d < 2 ^ 28 }
     requires formed { (c < d → IsTrue (is_formed_as (Some kind) (I.list pass.old) c d)) × (d < c → IsTrue (is_formed_as (Some kind) (I.list pass.old) d c)) }
     requires plain { has_class (Some kind) class.Commit ≡ false }
+    ensures word { IfOk result (λ place. slice_get (I.list pass.new) place ≡ Some (word_of kind (min c d) (max c d))) }
     ensures stands { IfOk result (λ place. StandsAt (I.list pass.new) place (by_kind (Some kind) (meanings (I.list pass.new)) c d) ⊎ StandsAt (I.list pass.new) place (by_kind (Some kind) (meanings (I.list pass.new)) d c)) }
     ensures place { IfOk result (λ place. IsTrue (is_place_of (I.list pass.new) (class_of kind) place)) }
     ensures small { IfOk result (λ place. place < 2 ^ 28) }
     ensures longer { IsPrefix (I.list pass.old) (I.list pass.new) }
     ensures full { OnErr result (length (I.list pass.new) ≡ N.log.cap) }
     ensures made { I.made pass.new ≤ I.made pass.old + 1 }
+    ensures err { OnErr result (I.made pass.new ≡ I.made pass.old) }
     ensures kept { I.kept pass.new ≡ I.kept pass.old }
     ensures lent { I.lent pass.new ≡ I.lent pass.old }
 {
@@ -56,9 +62,12 @@ pub fn eq<N: Site, I: Interner<N>>(
     requires left { IsTrue (is_place_of (I.list pass.old) class.Term s) }
     requires right { IsTrue (is_place_of (I.list pass.old) class.Term t) }
     ensures truth { IfOk result (λ place. HasTruth (I.list pass.new) place (equal_at (I.list pass.old) s t)) }
+    ensures folds { FoldsTo (spec.folded_eq (I.list pass.old) s t) (word_of kind.Equal (min s t) (max s t)) (I.list pass.old) (I.list pass.new) result }
     ensures longer { IsPrefix (I.list pass.old) (I.list pass.new) }
     ensures full { OnErr result (length (I.list pass.new) ≡ N.log.cap) }
     ensures made { I.made pass.new ≤ I.made pass.old + 1 }
+    ensures unmade { IsSome (spec.folded_eq (I.list pass.old) s t) → I.made pass.new ≡ I.made pass.old }
+    ensures err { OnErr result (I.made pass.new ≡ I.made pass.old) }
     ensures kept { I.kept pass.new ≡ I.kept pass.old }
     ensures lent { I.lent pass.new ≡ I.lent pass.old }
 {
@@ -75,9 +84,12 @@ pub fn eq<N: Site, I: Interner<N>>(
 pub fn not<N: Site, I: Interner<N>>(arena: &Arena<N>, pass: &mut I, c: u32) -> Result<u32, Full>
     requires condition { IsTrue (is_place_of (I.list pass.old) class.Cond c) }
     ensures truth { IfOk result (λ place. HasTruth (I.list pass.new) place (not_at (I.list pass.old) c)) }
+    ensures folds { FoldsTo (spec.folded_not (I.list pass.old) c) (word_of kind.Not c 0) (I.list pass.old) (I.list pass.new) result }
     ensures longer { IsPrefix (I.list pass.old) (I.list pass.new) }
     ensures full { OnErr result (length (I.list pass.new) ≡ N.log.cap) }
     ensures made { I.made pass.new ≤ I.made pass.old + 1 }
+    ensures unmade { IsSome (spec.folded_not (I.list pass.old) c) → I.made pass.new ≡ I.made pass.old }
+    ensures err { OnErr result (I.made pass.new ≡ I.made pass.old) }
     ensures kept { I.kept pass.new ≡ I.kept pass.old }
     ensures lent { I.lent pass.new ≡ I.lent pass.old }
 {
@@ -100,9 +112,12 @@ pub fn and<N: Site, I: Interner<N>>(
     requires left { IsTrue (is_place_of (I.list pass.old) class.Cond c) }
     requires right { IsTrue (is_place_of (I.list pass.old) class.Cond d) }
     ensures truth { IfOk result (λ place. HasTruth (I.list pass.new) place (and_at (I.list pass.old) c d)) }
+    ensures folds { FoldsTo (spec.folded_and (I.list pass.old) c d) (word_of kind.And (min c d) (max c d)) (I.list pass.old) (I.list pass.new) result }
     ensures longer { IsPrefix (I.list pass.old) (I.list pass.new) }
     ensures full { OnErr result (length (I.list pass.new) ≡ N.log.cap) }
     ensures made { I.made pass.new ≤ I.made pass.old + 1 }
+    ensures unmade { IsSome (spec.folded_and (I.list pass.old) c d) → I.made pass.new ≡ I.made pass.old }
+    ensures err { OnErr result (I.made pass.new ≡ I.made pass.old) }
     ensures kept { I.kept pass.new ≡ I.kept pass.old }
     ensures lent { I.lent pass.new ≡ I.lent pass.old }
 {
@@ -125,9 +140,12 @@ pub fn or<N: Site, I: Interner<N>>(
     requires left { IsTrue (is_place_of (I.list pass.old) class.Cond c) }
     requires right { IsTrue (is_place_of (I.list pass.old) class.Cond d) }
     ensures truth { IfOk result (λ place. HasTruth (I.list pass.new) place (or_at (I.list pass.old) c d)) }
+    ensures folds { FoldsTo (spec.folded_or (I.list pass.old) c d) (word_of kind.Or (min c d) (max c d)) (I.list pass.old) (I.list pass.new) result }
     ensures longer { IsPrefix (I.list pass.old) (I.list pass.new) }
     ensures full { OnErr result (length (I.list pass.new) ≡ N.log.cap) }
     ensures made { I.made pass.new ≤ I.made pass.old + 1 }
+    ensures unmade { IsSome (spec.folded_or (I.list pass.old) c d) → I.made pass.new ≡ I.made pass.old }
+    ensures err { OnErr result (I.made pass.new ≡ I.made pass.old) }
     ensures kept { I.kept pass.new ≡ I.kept pass.old }
     ensures lent { I.lent pass.new ≡ I.lent pass.old }
 {
@@ -135,4 +153,29 @@ pub fn or<N: Site, I: Interner<N>>(
         Some(place) => Ok(place),
         None => pair(arena, pass, Kind::Or, c, d),
     }
+}
+
+/// The place of the conjunction of conditions, taken from the left; true where there are none.
+///
+/// # Errors
+/// `Full` where the log has no room for a word of it.
+pub fn all<N: Site, I: Interner<N>>(
+    arena: &Arena<N>,
+    pass: &mut I,
+    list: &[u32],
+) -> Result<u32, Full>
+    requires { All (λ c. IsTrue (is_place_of (I.list pass.old) class.Cond c)) list.now }
+    ensures truth { IfOk result (λ place. HasTruth (I.list pass.new) place (all_at (I.list pass.old) list.now)) }
+    ensures longer { IsPrefix (I.list pass.old) (I.list pass.new) }
+    ensures full { OnErr result (length (I.list pass.new) ≡ N.log.cap) }
+    ensures made { I.made pass.new ≤ I.made pass.old + length list.now }
+    ensures err { OnErr result (I.made pass.new < I.made pass.old + length list.now) }
+    ensures kept { I.kept pass.new ≡ I.kept pass.old }
+    ensures lent { I.lent pass.new ≡ I.lent pass.old }
+{
+    let mut place = literal(pass.words(), true);
+    for c in list {
+        place = and(arena, pass, place, *c)?;
+    }
+    Ok(place)
 }

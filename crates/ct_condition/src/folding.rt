@@ -6,6 +6,8 @@ ghost use Rattle.ct_arena.specs.Counts.{opening};
 ghost use Rattle.ct_word.specs.Constant.{is_constant_kind, is_constant_word};
 ghost use Rattle.ct_word.specs.WellFormed.{IsWellFormed, is_place_of};
 ghost use Rattle.ct_word.specs.declared.kinds.Class.TheVariants as class;
+ghost use Rattle.ct_condition.specs.Folding as spec;
+ghost use Rattle.ct_condition.specs.Folding.{denied, is_place, literal_place};
 ghost use Rattle.ct_condition.specs.Truth.{HasTruth, Negates, equal_at, not_at, and_at, or_at};
 
 use ct_word::{Kind, kind, left};
@@ -14,6 +16,17 @@ use ct_word::{Kind, kind, left};
 const TRUE: u32 = 0;
 
 const FALSE: u32 = 1;
+
+/// The place of the word true or of the word false, where the words begin as every log does.
+pub fn literal(words: &[u64], truth: bool) -> u32
+    requires formed { IsWellFormed words.now }
+    requires begins { IsPrefix opening words.now }
+    ensures place { result ≡ literal_place truth }
+    ensures truth { HasTruth words.now result (λ v row. truth) }
+{
+    let _ = words;
+    if truth { TRUE } else { FALSE }
+}
 
 fn is_kind_of_constant(kind: Option<Kind>) -> bool
     ensures { result ≡ is_constant_kind kind }
@@ -42,7 +55,8 @@ fn is_constant(words: &[u64], place: u32) -> bool
 /// The condition that the one at a place is the negation of, if its word is a `not`.
 fn negated(words: &[u64], place: u32) -> Option<u32>
     requires { IsWellFormed words.now }
-    ensures { IfSome result (λ other. Negates words.now place other) }
+    ensures value { result ≡ denied words.now place }
+    ensures negates { IfSome result (λ other. Negates words.now place other) }
 {
     let word = word_at(words, place)?;
     match kind(word)? {
@@ -55,6 +69,7 @@ fn negated(words: &[u64], place: u32) -> Option<u32>
 pub fn folded_eq(words: &[u64], s: u32, t: u32) -> Option<u32>
     requires formed { IsWellFormed words.now }
     requires begins { IsPrefix opening words.now }
+    ensures value { result ≡ spec.folded_eq words.now s t }
     ensures truth { IfSome result (λ place. HasTruth words.now place (equal_at words.now s t)) }
     ensures apart { result ≡ None → s ≢ t }
 {
@@ -72,6 +87,7 @@ pub fn folded_not(words: &[u64], c: u32) -> Option<u32>
     requires formed { IsWellFormed words.now }
     requires begins { IsPrefix opening words.now }
     requires small { length words.now < 2 ^ 28 }
+    ensures value { result ≡ spec.folded_not words.now c }
     ensures truth { IfSome result (λ place. HasTruth words.now place (not_at words.now c)) }
 {
     if c == TRUE {
@@ -86,7 +102,8 @@ pub fn folded_not(words: &[u64], c: u32) -> Option<u32>
 /// Whether the word at a place is the `not` of another.
 fn negates(words: &[u64], c: u32, d: u32) -> bool
     requires { IsWellFormed words.now }
-    ensures { result ≡ true → Negates words.now c d }
+    ensures value { result ≡ is_place (denied words.now c) d }
+    ensures negates { result ≡ true → Negates words.now c d }
 {
     match negated(words, c) {
         Some(other) => other == d,
@@ -101,6 +118,7 @@ pub fn folded_and(words: &[u64], c: u32, d: u32) -> Option<u32>
     requires small { length words.now < 2 ^ 28 }
     requires left { IsTrue (is_place_of words.now class.Cond c) }
     requires right { IsTrue (is_place_of words.now class.Cond d) }
+    ensures value { result ≡ spec.folded_and words.now c d }
     ensures truth { IfSome result (λ place. HasTruth words.now place (and_at words.now c d)) }
     ensures apart { result ≡ None → c ≢ d }
 {
@@ -126,6 +144,7 @@ pub fn folded_or(words: &[u64], c: u32, d: u32) -> Option<u32>
     requires small { length words.now < 2 ^ 28 }
     requires left { IsTrue (is_place_of words.now class.Cond c) }
     requires right { IsTrue (is_place_of words.now class.Cond d) }
+    ensures value { result ≡ spec.folded_or words.now c d }
     ensures truth { IfSome result (λ place. HasTruth words.now place (or_at words.now c d)) }
     ensures apart { result ≡ None → c ≢ d }
 {

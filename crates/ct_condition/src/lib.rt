@@ -8,13 +8,15 @@ mod conditions;
 mod folding;
 mod interner;
 mod packed;
+mod predicates;
 mod terms;
 #[cfg(test)]
 mod tests;
 mod texts;
 
-pub use conditions::{and, eq, not, or};
+pub use conditions::{all, and, eq, not, or};
 pub use interner::Interner;
 pub use packed::put;
+pub use predicates::pred;
 pub use terms::term;
 pub use texts::text;

@@ -1,10 +1,11 @@
 // One word.
 
-ghost use Rattle.std.specs.Prelude.{◌≡◌, ◌≤◌, ◌+◌, ◌<◌, ◌^◌, length, IfOk, OnErr, IsTrue, Some, false};
+ghost use Rattle.std.specs.Prelude.{◌≡◌, ◌≤◌, ◌+◌, ◌<◌, ◌^◌, length, IfOk, OnErr, IsTrue, Some, false, slice_get};
 ghost use mathlib.Core.List.{IsPrefix};
 ghost use Rattle.ct_word.specs.declared.kinds.Class.TheVariants as class;
 ghost use Rattle.ct_word.specs.Reading.{by_kind, meanings};
 ghost use Rattle.ct_word.specs.Stands.{StandsAt};
+ghost use Rattle.ct_word.specs.Word.{word_of};
 ghost use Rattle.ct_word.specs.WellFormed.{IsWellFormed, is_formed_as, is_place_of, class_of, has_class};
 
 use crate::interner::Interner;
@@ -26,6 +27,7 @@ pub fn put<N: Site, I: Interner<N>>(
     requires right { b < 2 ^ 28 }
     requires formed { IsTrue (is_formed_as (Some kind) (I.list pass.old) a b) }
     requires plain { has_class (Some kind) class.Commit ≡ false }
+    ensures word { IfOk result (λ place. slice_get (I.list pass.new) place ≡ Some (word_of kind a b)) }
     ensures stands { IfOk result (λ place. StandsAt (I.list pass.new) place (by_kind (Some kind) (meanings (I.list pass.new)) a b)) }
     ensures place { IfOk result (λ place. IsTrue (is_place_of (I.list pass.new) (class_of kind) place)) }
     ensures small { IfOk result (λ place. place < 2 ^ 28) }

@@ -1,6 +1,6 @@
 // Terms.
 
-ghost use Rattle.std.specs.Prelude.{◌≡◌, ◌<◌, ◌^◌, length, IfOk, OnErr, IsTrue};
+ghost use Rattle.std.specs.Prelude.{◌≡◌, ◌≤◌, ◌+◌, ◌<◌, ◌^◌, length, IfOk, OnErr, IsTrue};
 ghost use mathlib.Core.List.{IsPrefix};
 ghost use Rattle.ct_word.specs.Reading.{IsTerm};
 ghost use Rattle.ct_word.specs.Stands.{StandsAt};
@@ -9,6 +9,7 @@ ghost use Rattle.ct_word.specs.declared.kinds.Class.TheVariants as class;
 ghost use Rattle.ct_word.specs.declared.values.Value.TheVariants as val;
 ghost use Rattle.ct_word.specs.declared.values.Null.TheVariants as null;
 ghost use Rattle.ct_word.specs.declared.values.Term.TheVariants as term;
+ghost use Rattle.ct_query.specs.Bounds.{characters, literal_words, column_words};
 ghost use Rattle.ct_condition.specs.Terms.{FitsFields};
 
 use crate::interner::Interner;
@@ -24,6 +25,8 @@ fn number<N: Site, I: Interner<N>>(arena: &Arena<N>, pass: &mut I, number: i64) 
     ensures small { IfOk result (λ place. place < 2 ^ 28) }
     ensures longer { IsPrefix (I.list pass.old) (I.list pass.new) }
     ensures full { OnErr result (length (I.list pass.new) ≡ N.log.cap) }
+    ensures made { I.made pass.new ≤ I.made pass.old + 2 }
+    ensures err { OnErr result (I.made pass.new < I.made pass.old + 2) }
     ensures kept { I.kept pass.new ≡ I.kept pass.old }
     ensures lent { I.lent pass.new ≡ I.lent pass.old }
 {
@@ -45,6 +48,8 @@ fn value<N: Site, I: Interner<N>>(
     ensures small { IfOk result (λ place. place < 2 ^ 28) }
     ensures longer { IsPrefix (I.list pass.old) (I.list pass.new) }
     ensures full { OnErr result (length (I.list pass.new) ≡ N.log.cap) }
+    ensures made { I.made pass.new ≤ I.made pass.old + literal_words (term.Value value.now) }
+    ensures err { OnErr result (I.made pass.new < I.made pass.old + literal_words (term.Value value.now)) }
     ensures kept { I.kept pass.new ≡ I.kept pass.old }
     ensures lent { I.lent pass.new ≡ I.lent pass.old }
 {
@@ -65,6 +70,8 @@ fn text_constant<N: Site, I: Interner<N>>(
     ensures small { IfOk result (λ place. place < 2 ^ 28) }
     ensures longer { IsPrefix (I.list pass.old) (I.list pass.new) }
     ensures full { OnErr result (length (I.list pass.new) ≡ N.log.cap) }
+    ensures made { I.made pass.new ≤ I.made pass.old + (characters t.now + 2) }
+    ensures err { OnErr result (I.made pass.new < I.made pass.old + (characters t.now + 2)) }
     ensures kept { I.kept pass.new ≡ I.kept pass.old }
     ensures lent { I.lent pass.new ≡ I.lent pass.old }
 {
@@ -82,6 +89,8 @@ fn named_null<N: Site, I: Interner<N>>(
     ensures small { IfOk result (λ place. place < 2 ^ 28) }
     ensures longer { IsPrefix (I.list pass.old) (I.list pass.new) }
     ensures full { OnErr result (length (I.list pass.new) ≡ N.log.cap) }
+    ensures made { I.made pass.new ≤ I.made pass.old + (characters name.now + 2) }
+    ensures err { OnErr result (I.made pass.new < I.made pass.old + (characters name.now + 2)) }
     ensures kept { I.kept pass.new ≡ I.kept pass.old }
     ensures lent { I.lent pass.new ≡ I.lent pass.old }
 {
@@ -100,6 +109,8 @@ fn marked_null<N: Site, I: Interner<N>>(
     ensures small { IfOk result (λ place. place < 2 ^ 28) }
     ensures longer { IsPrefix (I.list pass.old) (I.list pass.new) }
     ensures full { OnErr result (length (I.list pass.new) ≡ N.log.cap) }
+    ensures made { I.made pass.new ≤ I.made pass.old + literal_words (term.Null marked.now) }
+    ensures err { OnErr result (I.made pass.new < I.made pass.old + literal_words (term.Null marked.now)) }
     ensures kept { I.kept pass.new ≡ I.kept pass.old }
     ensures lent { I.lent pass.new ≡ I.lent pass.old }
 {
@@ -124,6 +135,8 @@ pub fn term<N: Site, I: Interner<N>>(
     ensures small { IfOk result (λ place. place < 2 ^ 28) }
     ensures longer { IsPrefix (I.list pass.old) (I.list pass.new) }
     ensures full { OnErr result (length (I.list pass.new) ≡ N.log.cap) }
+    ensures made { I.made pass.new ≤ I.made pass.old + (literal_words term.now + column_words term.now) }
+    ensures err { OnErr result (I.made pass.new < I.made pass.old + (literal_words term.now + column_words term.now)) }
     ensures kept { I.kept pass.new ≡ I.kept pass.old }
     ensures lent { I.lent pass.new ≡ I.lent pass.old }
 {

@@ -1,10 +1,11 @@
 // Texts.
 
-ghost use Rattle.std.specs.Prelude.{◌≡◌, ◌<◌, ◌^◌, length, IfOk, OnErr, IsTrue};
+ghost use Rattle.std.specs.Prelude.{◌≡◌, ◌≤◌, ◌+◌, ◌<◌, ◌^◌, length, IfOk, OnErr, IsTrue};
 ghost use mathlib.Core.List.{IsPrefix};
 ghost use Rattle.ct_word.specs.Reading.{IsText};
 ghost use Rattle.ct_word.specs.Stands.{StandsAt};
 ghost use Rattle.ct_word.specs.WellFormed.{is_place_of};
+ghost use Rattle.ct_query.specs.Bounds.{characters};
 ghost use Rattle.ct_word.specs.declared.kinds.Class.TheVariants as class;
 
 use crate::interner::Interner;
@@ -26,6 +27,8 @@ pub fn text<N: Site, I: Interner<N>>(
     ensures small { IfOk result (λ place. place < 2 ^ 28) }
     ensures longer { IsPrefix (I.list pass.old) (I.list pass.new) }
     ensures full { OnErr result (length (I.list pass.new) ≡ N.log.cap) }
+    ensures made { I.made pass.new ≤ I.made pass.old + (characters text.now + 1) }
+    ensures err { OnErr result (I.made pass.new < I.made pass.old + (characters text.now + 1)) }
     ensures kept { I.kept pass.new ≡ I.kept pass.old }
     ensures lent { I.lent pass.new ≡ I.lent pass.old }
 {

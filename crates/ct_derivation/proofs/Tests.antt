@@ -1,5 +1,5 @@
 -- Closed tests: what the definitions say of small derivations.
-use Rattle.std.proofs.Common.{◌≡◌, ℕ, true, false, List, [], ◌∷◌, refl}
+use Rattle.std.proofs.Common.{◌≡◌, ℕ, Bool, true, false, List, [], ◌∷◌, ◌++◌, refl}
 use Rattle.ct_word.specs.declared.kinds.Kind.TheVariants as kind
 use Rattle.ct_word.specs.Word.{word_of, kind_with}
 use Rattle.ct_derivation.specs.declared.literals.Atom.TheVariants as atom
@@ -12,7 +12,7 @@ use Rattle.std.specs.Prelude.{pos, negsuc, map}
 use Rattle.ct_derivation.specs.Propagation.{follows}
 use Rattle.ct_derivation.specs.Variables.{signed, over_variables}
 use Rattle.ct_derivation.specs.Path.{is_constant, ends_clause, is_path}
-use Rattle.ct_derivation.specs.Accepts.{fits_atom, fits_lit, gives, is_right, accepts}
+use Rattle.ct_derivation.specs.Accepts.{fits_atom, fits_lit, gives, is_right, accepts, widest}
 
 -- (?x = ?y and ?y = ?z) and not ?x = ?z, at place 14
 chain_words : List ℕ
@@ -79,3 +79,87 @@ no_steps = refl
 -- (1 or 2) and (not 1 or 2) and not 2, over variables
 units : follows over_variables (map (map signed) ((pos 1 ∷ pos 2 ∷ []) ∷ (negsuc 0 ∷ pos 2 ∷ []) ∷ (negsuc 1 ∷ []) ∷ [])) [] (2 ∷ 0 ∷ 1 ∷ []) ≡ true
 units = refl
+
+-- the last of these clauses is not empty
+empty_before_the_end : accepts chain_words 14 (record { steps = chain_steps (0 ∷ 1 ∷ 2 ∷ 3 ∷ 4 ∷ 5 ∷ 6 ∷ 7 ∷ 8 ∷ 9 ∷ []) ++ step (node 1 ∷ []) (why.Rup (10 ∷ [])) ∷ [] }) ≡ false
+unfolding chain_words chain_steps kind_with accepts is_right gives fits_lit fits_atom is_path ends_clause is_constant same_members has same_lit
+empty_before_the_end = refl
+
+-- a clause is a set
+literal_repeated : is_right chain_words 14 [] (step (node 12 ∷ no_node 14 ∷ node 12 ∷ []) (why.Def 14 0)) ≡ true
+unfolding chain_words kind_with is_right gives fits_lit fits_atom same_members has same_lit
+literal_repeated = refl
+
+literal_added : is_right chain_words 14 [] (step (no_node 14 ∷ node 12 ∷ node 13 ∷ []) (why.Def 14 0)) ≡ false
+unfolding chain_words kind_with is_right gives fits_lit fits_atom same_members has same_lit
+literal_added = refl
+
+literal_left_out : is_right chain_words 14 [] (step (no_node 14 ∷ []) (why.Def 14 0)) ≡ false
+unfolding chain_words kind_with is_right gives fits_lit fits_atom same_members has same_lit
+literal_left_out = refl
+
+-- a hint names no step but an earlier one
+step_by_itself : accepts chain_words 14 (record { steps = step [] (why.Rup (0 ∷ [])) ∷ [] }) ≡ false
+unfolding chain_words kind_with accepts is_right gives fits_lit fits_atom
+step_by_itself = refl
+
+-- a step by a clause before it that has one literal, which is the first here
+unfoldable resolved : Lit → Bool
+resolved l = is_right chain_words 14 (step (node 14 ∷ []) why.Root ∷ []) (step (node 14 ∷ l ∷ []) (why.Rup (0 ∷ [])))
+
+smaller_place_first : resolved (same 4 6) ≡ true
+unfolding chain_words kind_with resolved is_right gives fits_lit fits_atom same_members has same_lit
+smaller_place_first = refl
+
+greater_place_first : resolved (same 6 4) ≡ false
+unfolding chain_words kind_with resolved is_right gives fits_lit fits_atom same_members has same_lit
+greater_place_first = refl
+
+condition_as_a_term : resolved (same 4 9) ≡ false
+unfolding chain_words kind_with resolved is_right gives fits_lit fits_atom same_members has same_lit
+condition_as_a_term = refl
+
+term_as_a_condition : resolved (node 4) ≡ false
+unfolding chain_words kind_with resolved is_right gives fits_lit fits_atom same_members has same_lit
+term_as_a_condition = refl
+
+path_turned_round : is_right chain_words 14 [] (step (same 4 8 ∷ differ 6 8 ∷ differ 4 6 ∷ []) (why.Path (8 ∷ 6 ∷ 4 ∷ []))) ≡ true
+unfolding chain_words kind_with is_right gives fits_lit fits_atom is_path ends_clause is_constant same_members has same_lit
+path_turned_round = refl
+
+-- 'x' and 'y' at places 15 and 16
+with_constants : List ℕ
+with_constants = chain_words ++ word_of kind.TextConstant 3 0 ∷ word_of kind.TextConstant 5 0 ∷ []
+
+different_constants : is_right with_constants 14 [] (step (differ 15 16 ∷ []) (why.Path (15 ∷ 16 ∷ []))) ≡ true
+unfolding with_constants chain_words kind_with is_right gives fits_lit fits_atom is_path ends_clause is_constant same_members has same_lit
+different_constants = refl
+
+path_back_to_its_constant : is_right with_constants 14 [] (step (differ 4 15 ∷ []) (why.Path (15 ∷ 4 ∷ 15 ∷ []))) ≡ false
+unfolding with_constants chain_words kind_with is_right gives fits_lit fits_atom is_path ends_clause is_constant same_members has same_lit
+path_back_to_its_constant = refl
+
+one_constant : is_right with_constants 14 [] (step (differ 4 15 ∷ []) (why.Path (4 ∷ 15 ∷ []))) ≡ false
+unfolding with_constants chain_words kind_with is_right gives fits_lit fits_atom is_path ends_clause is_constant same_members has same_lit
+one_constant = refl
+
+-- (1 or 1) and not 1, over variables: a literal that stands twice is one open literal
+open_literal_repeated : follows over_variables (map (map signed) ((pos 1 ∷ pos 1 ∷ []) ∷ (negsuc 0 ∷ []) ∷ [])) [] (0 ∷ 1 ∷ []) ≡ true
+open_literal_repeated = refl
+
+-- (1 or 2) and not 1
+two_open_literals : follows over_variables (map (map signed) ((pos 1 ∷ pos 2 ∷ []) ∷ (negsuc 0 ∷ []) ∷ [])) [] (0 ∷ 1 ∷ []) ≡ false
+two_open_literals = refl
+
+-- 1 and (1 or 2) and not 2
+true_literal : follows over_variables (map (map signed) ((pos 1 ∷ []) ∷ (pos 1 ∷ pos 2 ∷ []) ∷ (negsuc 1 ∷ []) ∷ [])) [] (0 ∷ 1 ∷ 2 ∷ []) ≡ false
+true_literal = refl
+
+-- the last step has no literals and these ten hints
+width_of_the_last : widest (record { steps = chain_steps (0 ∷ 1 ∷ 2 ∷ 3 ∷ 4 ∷ 5 ∷ 6 ∷ 7 ∷ 8 ∷ 9 ∷ []) }) ≡ 10
+unfolding chain_steps
+width_of_the_last = refl
+
+-- two literals and one hint
+width_of_both : widest (record { steps = step (node 14 ∷ node 12 ∷ []) (why.Rup (0 ∷ [])) ∷ [] }) ≡ 3
+width_of_both = refl

@@ -1,14 +1,15 @@
 // Assignments over a small log.
 
-ghost use Rattle.std.specs.Prelude.{◌≡◌};
+ghost use Rattle.std.specs.Prelude.{◌≡◌, ◌≤◌, nat_eq, IfOk};
+ghost use Rattle.std.specs.List.{list_any};
 ghost use Rattle.ct_word.specs.declared.kinds.Class.TheVariants as class;
-ghost use Rattle.ct_word.specs.WellFormed.{has_class};
+ghost use Rattle.ct_word.specs.WellFormed.{has_class, IsWellFormed};
 ghost use Rattle.ct_equality.specs.Assigned as assigned;
 
 use crate::{Closed, close};
 use ct_derivation::Atom;
-use ct_word::{Class, Kind, Null, Value, class, kind};
-use std::alloc::Global;
+use ct_word::{Class, Kind, Memory, Null, Value, class, kind, pack};
+use std::alloc::{AllocError, Global};
 use std::fmt::Write;
 use std::test::Fail;
 
@@ -132,103 +133,241 @@ fn answer(alloc: Global, equalities: &[(u32, u32, bool)]) -> Result<String, Fail
     }
 }
 
+/// Equalities with their truths, and the path.
+const PATHS: [(&[(u32, u32, bool)], &str); 9] = [
+    (&[(4, 6, true), (6, 8, true), (4, 8, false)], "path 4 6 8"),
+    (&[(10, 11, true)], "path 10 11"),
+    (&[(4, 10, true), (4, 11, true)], "path 10 4 11"),
+    (
+        &[(4, 6, true), (6, 12, true), (4, 14, true)],
+        "path 12 6 4 14",
+    ),
+    (
+        &[(4, 10, true), (6, 10, true), (4, 6, false)],
+        "path 4 10 6",
+    ),
+    (
+        &[
+            (15, 16, true),
+            (16, 17, true),
+            (17, 18, true),
+            (18, 19, true),
+            (19, 20, true),
+            (15, 20, false),
+        ],
+        "path 15 16 17 18 19 20",
+    ),
+    // The shorter way round.
+    (
+        &[
+            (15, 16, true),
+            (16, 17, true),
+            (17, 18, true),
+            (18, 19, true),
+            (15, 19, true),
+            (15, 18, false),
+        ],
+        "path 15 19 18",
+    ),
+    // Two classes, of which the second has the false equality.
+    (
+        &[
+            (4, 6, true),
+            (8, 15, true),
+            (15, 16, true),
+            (6, 8, false),
+            (8, 16, false),
+        ],
+        "path 8 15 16",
+    ),
+    (&[(4, 21, true)], "no question"),
+];
+
 #[test]
 fn finds_paths(rt: HostRuntime) -> Result<(), Fail> {
-    let cases: [(&[(u32, u32, bool)], &str); 9] = [
-        (&[(4, 6, true), (6, 8, true), (4, 8, false)], "path 4 6 8"),
-        (&[(10, 11, true)], "path 10 11"),
-        (&[(4, 10, true), (4, 11, true)], "path 10 4 11"),
-        (
-            &[(4, 6, true), (6, 12, true), (4, 14, true)],
-            "path 12 6 4 14",
-        ),
-        (
-            &[(4, 10, true), (6, 10, true), (4, 6, false)],
-            "path 4 10 6",
-        ),
-        (
-            &[
-                (15, 16, true),
-                (16, 17, true),
-                (17, 18, true),
-                (18, 19, true),
-                (19, 20, true),
-                (15, 20, false),
-            ],
-            "path 15 16 17 18 19 20",
-        ),
-        // The shorter way round.
-        (
-            &[
-                (15, 16, true),
-                (16, 17, true),
-                (17, 18, true),
-                (18, 19, true),
-                (15, 19, true),
-                (15, 18, false),
-            ],
-            "path 15 19 18",
-        ),
-        // Two classes, of which the second has the false equality.
-        (
-            &[
-                (4, 6, true),
-                (8, 15, true),
-                (15, 16, true),
-                (6, 8, false),
-                (8, 16, false),
-            ],
-            "path 8 15 16",
-        ),
-        (&[(4, 21, true)], "no question"),
-    ];
-    for (equalities, expected) in cases {
+    for (equalities, expected) in PATHS {
         let text = answer(rt.alloc(), equalities)?;
         assert_eq!(rt; text.as_str(), expected);
     }
     Ok(())
 }
 
+/// Equalities with their truths, and the values of the nulls.
+const WORLDS: [(&[(u32, u32, bool)], &str); 9] = [
+    (&[], "world"),
+    (&[(10, 11, false)], "world"),
+    (
+        &[(4, 6, true), (6, 8, true), (4, 8, true)],
+        "world @0 @0 @0",
+    ),
+    // A triangle takes three values, a path two.
+    (
+        &[(4, 6, false), (6, 8, false), (4, 8, false)],
+        "world @0 @1 @2",
+    ),
+    (
+        &[(4, 6, false), (6, 8, false), (4, 8, true)],
+        "world @0 @1 @0",
+    ),
+    (
+        &[(4, 10, true), (6, 10, false), (6, 8, true)],
+        "world 1 @0 @0",
+    ),
+    (
+        &[(4, 12, true), (6, 11, true), (4, 6, false)],
+        "world 'x' 2",
+    ),
+    // @0 and @2 are constants here.
+    (
+        &[(4, 13, true), (6, 13, false), (8, 14, false), (6, 8, false)],
+        "world @0 @1 @3",
+    ),
+    // The classes of 4 and 20, and of 8 and 15, in the order of their least nulls.
+    (
+        &[(8, 15, true), (4, 20, true), (6, 14, true), (15, 20, false)],
+        "world @0 @2 @1 @1 @0",
+    ),
+];
+
 #[test]
 fn finds_worlds(rt: HostRuntime) -> Result<(), Fail> {
-    let cases: [(&[(u32, u32, bool)], &str); 9] = [
-        (&[], "world"),
-        (&[(10, 11, false)], "world"),
-        (
-            &[(4, 6, true), (6, 8, true), (4, 8, true)],
-            "world @0 @0 @0",
-        ),
-        // A triangle takes three values, a path two.
-        (
-            &[(4, 6, false), (6, 8, false), (4, 8, false)],
-            "world @0 @1 @2",
-        ),
-        (
-            &[(4, 6, false), (6, 8, false), (4, 8, true)],
-            "world @0 @1 @0",
-        ),
-        (
-            &[(4, 10, true), (6, 10, false), (6, 8, true)],
-            "world 1 @0 @0",
-        ),
-        (
-            &[(4, 12, true), (6, 11, true), (4, 6, false)],
-            "world 'x' 2",
-        ),
-        // @0 and @2 are constants here.
-        (
-            &[(4, 13, true), (6, 13, false), (8, 14, false), (6, 8, false)],
-            "world @0 @1 @3",
-        ),
-        // The classes of 4 and 20, and of 8 and 15, in the order of their least nulls.
-        (
-            &[(8, 15, true), (4, 20, true), (6, 14, true), (15, 20, false)],
-            "world @0 @2 @1 @1 @0",
-        ),
-    ];
-    for (equalities, expected) in cases {
+    for (equalities, expected) in WORLDS {
         let text = answer(rt.alloc(), equalities)?;
         assert_eq!(rt; text.as_str(), expected);
+    }
+    Ok(())
+}
+
+fn has(words: &[u64], word: u64) -> bool
+    ensures { result ≡ list_any (nat_eq word) words.now }
+{
+    for other in words {
+        if word == *other {
+            return true;
+        }
+    }
+    false
+}
+
+/// Adds a fresh null, unless it is there.
+fn add_null(words: &mut Vec<u64>, number: u32) -> Result<(), AllocError>
+    requires low { 1 ≤ number }
+    requires high { number ≤ 1000 }
+    requires formed { IsWellFormed words.old.items }
+    ensures { IsWellFormed words.new.items }
+{
+    let word = pack(Kind::FreshNull, 1, number);
+    if !has(words.as_slice(), word) {
+        words.push(word)?;
+    }
+    Ok(())
+}
+
+fn nulls(alloc: Global, count: u32) -> Result<Vec<u64>, AllocError>
+    requires { count ≤ 1000 }
+    ensures { IfOk result (λ words. IsWellFormed words.items) }
+{
+    let mut words = Vec::new(alloc);
+    for k in 0..count {
+        add_null(&mut words, k + 1)?;
+    }
+    Ok(words)
+}
+
+fn push_pairs(atoms: &mut Vec<Atom>, t: u32) -> Result<(), AllocError> {
+    for s in 0..t {
+        atoms.push(Atom::Same(s, t))?;
+    }
+    Ok(())
+}
+
+/// The equality of each null with each earlier one.
+fn all_pairs(alloc: Global, count: u32) -> Result<Vec<Atom>, AllocError> {
+    let mut atoms = Vec::new(alloc);
+    for t in 0..count {
+        push_pairs(&mut atoms, t)?;
+    }
+    Ok(atoms)
+}
+
+/// The equality of each null with the next one.
+fn chain(alloc: Global, count: u32) -> Result<Vec<Atom>, AllocError> {
+    let mut atoms = Vec::new(alloc);
+    for t in 1..count {
+        atoms.push(Atom::Same(t - 1, t))?;
+    }
+    Ok(atoms)
+}
+
+/// The answer for equalities of so many nulls; none where they are no question.
+fn closed(
+    alloc: Global,
+    count: u32,
+    atoms: &[Atom],
+    truth: &[bool],
+) -> Result<Option<Closed>, Memory>
+    requires { count ≤ 1000 }
+{
+    let words = nulls(alloc, count)?;
+    if words.len() > 1000 || atoms.len() != truth.len() || !are_plain(words.as_slice(), atoms) {
+        return Ok(None);
+    }
+    Ok(Some(close(alloc, words.as_slice(), atoms, truth)?))
+}
+
+/// The number of the last null's value.
+fn last_number(answer: &Option<Closed>) -> Option<u32> {
+    let Some(Closed::World(world)) = answer else {
+        return None;
+    };
+    match world.as_slice().last() {
+        Some((_, Value::Other(number))) => Some(*number),
+        _ => None,
+    }
+}
+
+/// The number of terms of a path.
+fn path_length(answer: &Option<Closed>) -> Option<usize> {
+    match answer {
+        Some(Closed::Path(path)) => Some(path.len()),
+        _ => None,
+    }
+}
+
+#[test]
+fn tells_nulls_apart(rt: HostRuntime) -> Result<(), Fail> {
+    let alloc = rt.alloc();
+    for count in [32, 64] {
+        let atoms = all_pairs(alloc, count)?;
+        let truth = vec![in alloc; false; atoms.len()]?;
+        let answer = closed(alloc, count, atoms.as_slice(), truth.as_slice())?;
+        assert_eq!(rt; last_number(&answer), Some(count - 1));
+    }
+    Ok(())
+}
+
+#[test]
+fn takes_nulls_as_one(rt: HostRuntime) -> Result<(), Fail> {
+    let alloc = rt.alloc();
+    for count in [32, 64] {
+        let atoms = all_pairs(alloc, count)?;
+        let truth = vec![in alloc; true; atoms.len()]?;
+        let answer = closed(alloc, count, atoms.as_slice(), truth.as_slice())?;
+        assert_eq!(rt; last_number(&answer), Some(0));
+    }
+    Ok(())
+}
+
+#[test]
+fn goes_along_a_chain(rt: HostRuntime) -> Result<(), Fail> {
+    let alloc = rt.alloc();
+    for count in [32, 64] {
+        let mut atoms = chain(alloc, count)?;
+        let mut truth = vec![in alloc; true; atoms.len()]?;
+        atoms.push(Atom::Same(0, count - 1))?;
+        truth.push(false)?;
+        let answer = closed(alloc, count, atoms.as_slice(), truth.as_slice())?;
+        assert_eq!(rt; path_length(&answer), Some(count as usize));
     }
     Ok(())
 }

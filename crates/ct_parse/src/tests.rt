@@ -6,6 +6,7 @@ use crate::{
     statement,
 };
 use ct_lex::tokens;
+use ct_word::{List, Text};
 use std::alloc::{AllocError, Global};
 use std::test::Fail;
 
@@ -230,18 +231,22 @@ fn put_asked(alloc: Global, out: &mut String, word: &str, query: &Query) -> Resu
     put_query(alloc, out, query)
 }
 
+fn put_columns(out: &mut String, first: &Text, rest: &List<Text>) -> Result<(), AllocError> {
+    out.push(' ')?;
+    out.push_str(first.as_str())?;
+    for column in rest.as_slice() {
+        out.push(',')?;
+        out.push_str(column.as_str())?;
+    }
+    Ok(())
+}
+
 fn put_statement(alloc: Global, out: &mut String, statement: &Statement) -> Result<(), AllocError> {
     match statement {
         Statement::Create { name, first, rest } => {
             out.push_str("create ")?;
             out.push_str(name.as_str())?;
-            out.push(' ')?;
-            out.push_str(first.as_str())?;
-            for column in rest.as_slice() {
-                out.push(',')?;
-                out.push_str(column.as_str())?;
-            }
-            Ok(())
+            put_columns(out, first, rest)
         }
         Statement::InsertRows {
             name,
@@ -360,107 +365,111 @@ fn texts_spell_these_conditions(rt: HostRuntime) -> Result<(), Fail> {
     Ok(())
 }
 
+/// A text, and the statement that it spells or why it spells none.
+const STATEMENTS: [(&str, &str); 35] = [
+    ("create table t (a)", "create t a"),
+    ("create table t (a, b, c)", "create t a,b,c"),
+    ("create table t ()", "NotAStatement"),
+    ("create table t (a,)", "NotAStatement"),
+    ("create table t (a b)", "NotAStatement"),
+    ("create table t (a) x", "NotAStatement"),
+    ("create table select (a)", "NotAStatement"),
+    ("create t (a)", "NotAStatement"),
+    ("insert into t values (1)", "t(1)"),
+    (
+        "insert into t values (1, 'x', ?n, null), (-2)",
+        "t(1,'x',?n,null)(-2)",
+    ),
+    (
+        "insert into t values (1) if ?n = 2 or true",
+        "t(1) if ?n=2|true",
+    ),
+    ("insert into t values (1) if", "NotAStatement"),
+    ("insert into t values (a)", "NotAStatement"),
+    ("insert into t values ()", "NotAStatement"),
+    ("insert into t values (1),", "NotAStatement"),
+    ("insert into t values (1) where true", "NotAStatement"),
+    ("insert t values (1)", "NotAStatement"),
+    ("insert into t select * from u", "t [* of u]"),
+    ("insert into t (select * from u)", "t [([* of u])]"),
+    ("insert into t", "NotAStatement"),
+    ("delete from t", "delete t"),
+    ("delete from t where a = 1", "delete t where a=1"),
+    ("delete t", "NotAStatement"),
+    ("delete from t if a = 1", "NotAStatement"),
+    ("assert true", "assert true"),
+    ("assert", "NotAStatement"),
+    ("begin", "begin"),
+    ("commit", "commit"),
+    ("rollback", "rollback"),
+    ("begin work", "NotAStatement"),
+    ("possible select * from t", "possible [* of t]"),
+    ("certain (select * from t)", "certain [([* of t])]"),
+    ("possible certain select * from t", "NotAStatement"),
+    ("update t", "NotAStatement"),
+    ("", "NotAStatement"),
+];
+
 #[test]
 fn texts_spell_these_statements(rt: HostRuntime) -> Result<(), Fail> {
-    let cases = [
-        ("create table t (a)", "create t a"),
-        ("create table t (a, b, c)", "create t a,b,c"),
-        ("create table t ()", "NotAStatement"),
-        ("create table t (a,)", "NotAStatement"),
-        ("create table t (a b)", "NotAStatement"),
-        ("create table t (a) x", "NotAStatement"),
-        ("create table select (a)", "NotAStatement"),
-        ("create t (a)", "NotAStatement"),
-        ("insert into t values (1)", "t(1)"),
-        (
-            "insert into t values (1, 'x', ?n, null), (-2)",
-            "t(1,'x',?n,null)(-2)",
-        ),
-        (
-            "insert into t values (1) if ?n = 2 or true",
-            "t(1) if ?n=2|true",
-        ),
-        ("insert into t values (1) if", "NotAStatement"),
-        ("insert into t values (a)", "NotAStatement"),
-        ("insert into t values ()", "NotAStatement"),
-        ("insert into t values (1),", "NotAStatement"),
-        ("insert into t values (1) where true", "NotAStatement"),
-        ("insert t values (1)", "NotAStatement"),
-        ("insert into t select * from u", "t [* of u]"),
-        ("insert into t (select * from u)", "t [([* of u])]"),
-        ("insert into t", "NotAStatement"),
-        ("delete from t", "delete t"),
-        ("delete from t where a = 1", "delete t where a=1"),
-        ("delete t", "NotAStatement"),
-        ("delete from t if a = 1", "NotAStatement"),
-        ("assert true", "assert true"),
-        ("assert", "NotAStatement"),
-        ("begin", "begin"),
-        ("commit", "commit"),
-        ("rollback", "rollback"),
-        ("begin work", "NotAStatement"),
-        ("possible select * from t", "possible [* of t]"),
-        ("certain (select * from t)", "certain [([* of t])]"),
-        ("possible certain select * from t", "NotAStatement"),
-        ("update t", "NotAStatement"),
-        ("", "NotAStatement"),
-    ];
-    for (text, wanted) in cases {
+    for (text, wanted) in STATEMENTS {
         let found = shown(rt.alloc(), text)?;
         assert_eq!(rt; found.as_str(), wanted);
     }
     Ok(())
 }
 
+/// A text, and the query that it spells or why it spells none.
+const QUERIES: [(&str, &str); 26] = [
+    ("select * from t", "[* of t]"),
+    ("select distinct a from t", "[distinct a of t]"),
+    ("select t.a, b as c, d from t", "[t.a,b:c,d of t]"),
+    ("select a b from t", "NotAStatement"),
+    ("select *, a from t", "NotAStatement"),
+    ("select from t", "NotAStatement"),
+    ("select a", "NotAStatement"),
+    ("select * from t where a = 1", "[* of t where a=1]"),
+    ("select * from t x, u as y, v", "[* of t:x,u::y,v]"),
+    (
+        "select * from t join u on a = b inner join v as w on true",
+        "[* of t join u on a=b inner v::w on true]",
+    ),
+    (
+        "select * from t, u join v on true where a = 1 and b = 2",
+        "[* of t,u join v on true where a=1&b=2]",
+    ),
+    ("select * from t join u", "NotAStatement"),
+    ("select * from t inner u on true", "NotAStatement"),
+    ("select * from t as", "NotAStatement"),
+    ("select * from t x y", "NotAStatement"),
+    ("select * from t where", "NotAStatement"),
+    (
+        "select * from t union select * from u except select * from v",
+        "[* of t]+[* of u]-[* of v]",
+    ),
+    (
+        "select * from t union select * from u intersect select * from v",
+        "[* of t]+[* of u & * of v]",
+    ),
+    (
+        "select * from t intersect select * from u union select * from v",
+        "[* of t & * of u]+[* of v]",
+    ),
+    (
+        "(select * from t union select * from u) intersect select * from v",
+        "[([* of t]+[* of u]) & * of v]",
+    ),
+    ("select * from t union", "NotAStatement"),
+    ("select * from t union all select * from u", "NotAStatement"),
+    ("(select * from t", "NotAStatement"),
+    ("()", "NotAStatement"),
+    ("(select * from t) where true", "NotAStatement"),
+    ("select * from (select * from t)", "NotAStatement"),
+];
+
 #[test]
 fn texts_spell_these_queries(rt: HostRuntime) -> Result<(), Fail> {
-    let cases = [
-        ("select * from t", "[* of t]"),
-        ("select distinct a from t", "[distinct a of t]"),
-        ("select t.a, b as c, d from t", "[t.a,b:c,d of t]"),
-        ("select a b from t", "NotAStatement"),
-        ("select *, a from t", "NotAStatement"),
-        ("select from t", "NotAStatement"),
-        ("select a", "NotAStatement"),
-        ("select * from t where a = 1", "[* of t where a=1]"),
-        ("select * from t x, u as y, v", "[* of t:x,u::y,v]"),
-        (
-            "select * from t join u on a = b inner join v as w on true",
-            "[* of t join u on a=b inner v::w on true]",
-        ),
-        (
-            "select * from t, u join v on true where a = 1 and b = 2",
-            "[* of t,u join v on true where a=1&b=2]",
-        ),
-        ("select * from t join u", "NotAStatement"),
-        ("select * from t inner u on true", "NotAStatement"),
-        ("select * from t as", "NotAStatement"),
-        ("select * from t x y", "NotAStatement"),
-        ("select * from t where", "NotAStatement"),
-        (
-            "select * from t union select * from u except select * from v",
-            "[* of t]+[* of u]-[* of v]",
-        ),
-        (
-            "select * from t union select * from u intersect select * from v",
-            "[* of t]+[* of u & * of v]",
-        ),
-        (
-            "select * from t intersect select * from u union select * from v",
-            "[* of t & * of u]+[* of v]",
-        ),
-        (
-            "(select * from t union select * from u) intersect select * from v",
-            "[([* of t]+[* of u]) & * of v]",
-        ),
-        ("select * from t union", "NotAStatement"),
-        ("select * from t union all select * from u", "NotAStatement"),
-        ("(select * from t", "NotAStatement"),
-        ("()", "NotAStatement"),
-        ("(select * from t) where true", "NotAStatement"),
-        ("select * from (select * from t)", "NotAStatement"),
-    ];
-    for (text, wanted) in cases {
+    for (text, wanted) in QUERIES {
         let found = shown(rt.alloc(), text)?;
         assert_eq!(rt; found.as_str(), wanted);
     }

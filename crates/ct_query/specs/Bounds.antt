@@ -11,7 +11,7 @@ use Rattle.ct_query.specs.Plain.{PlainAction}
 use Rattle.ct_query.specs.declared.action.Ask.{Ask}
 use Rattle.ct_query.specs.declared.action.Ask.TheVariants as ask
 use Rattle.ct_query.specs.Plain.{PlainStatement}
-use Rattle.ct_query.specs.Size.{row_bound}
+use Rattle.ct_query.specs.Size.{row_bound, greatest}
 
 -- the connectives of a run of items
 abbrev pub connectives : Conditions → ℕ
@@ -92,7 +92,19 @@ width (plain.Except a b) = width a
 width (plain.Intersect a b) = width a
 width _ = 0
 
--- the words of a set operator over both sides
+-- the words of a projection of this query, with its literals, where it is a selection of a product of tables
+abbrev pub select_words : (List ℕ → ℕ) → PlainQuery → Option ℕ
+select_words counts (plain.Select c q) = option_map (λ ns. (ops c + 3) * partial_products 1 ns + terms c) (product_counts counts q)
+select_words counts _ = None
+
+-- the words of a set operator, besides those of its sides
+abbrev pub operator_words : (List ℕ → ℕ) → PlainQuery → ℕ
+operator_words counts (plain.Union a b) = row_bound counts a + row_bound counts b
+operator_words counts (plain.Except a b) = row_bound counts a * row_bound counts b * (2 * width a + 2) + row_bound counts a
+operator_words counts (plain.Intersect a b) = row_bound counts a * row_bound counts b * (2 * width a + 1) + 2 * row_bound counts a
+operator_words counts _ = 0
+
+-- the words of a set operator with those of both sides
 abbrev pub side_words : ℕ → Option ℕ → Option ℕ → Option ℕ
 side_words more None _ = None
 side_words more (Some a) None = None
@@ -101,19 +113,15 @@ side_words more (Some a) (Some b) = Some (a + b + more)
 -- the words of a query with its literals, where it is a projection of a selection of a product of tables,
 -- or a set operator over such queries
 abbrev pub query_words : (List ℕ → ℕ) → PlainQuery → Option ℕ
-query_words counts (plain.Project ks (plain.Select c q)) =
-    option_map (λ ns. (ops c + 3) * partial_products 1 ns + terms c) (product_counts counts q)
-query_words counts (plain.Union a b) =
-    side_words (row_bound counts a + row_bound counts b) (query_words counts a) (query_words counts b)
-query_words counts (plain.Except a b) =
-    side_words (row_bound counts a * row_bound counts b * (2 * width a + 2) + row_bound counts a) (query_words counts a) (query_words counts b)
-query_words counts (plain.Intersect a b) =
-    side_words (row_bound counts a * row_bound counts b * (2 * width a + 1) + 2 * row_bound counts a) (query_words counts a) (query_words counts b)
+query_words counts (plain.Project ks q) = select_words counts q
+query_words counts (plain.Union a b) = side_words (operator_words counts (plain.Union a b)) (query_words counts a) (query_words counts b)
+query_words counts (plain.Except a b) = side_words (operator_words counts (plain.Except a b)) (query_words counts a) (query_words counts b)
+query_words counts (plain.Intersect a b) = side_words (operator_words counts (plain.Intersect a b)) (query_words counts a) (query_words counts b)
 query_words counts _ = None
 
 -- the same number, and the greatest of 64 bits for any other query
 abbrev pub nodes : (List ℕ → ℕ) → PlainQuery → ℕ
-nodes counts q = unwrap_or (query_words counts q) 18446744073709551615
+nodes counts q = unwrap_or (query_words counts q) greatest
 
 -- the words of what is asked of an answer of r rows and k columns, besides the query's
 abbrev pub list_words : Ask → ℕ → ℕ → ℕ

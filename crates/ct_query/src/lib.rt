@@ -1,4 +1,5 @@
-//! Queries by positions, actions and reads, and in `specs/` what they mean on complete databases.
+//! Queries by positions and actions, what they read, bounds from counts of rows, and in `specs/` what they
+//! mean on complete databases.
 //!
 //! The definitions take one valuation at a time and plain sets of tuples: relational algebra (`specs/Rows.antt`),
 //! one change (`specs/Step.antt`), a history of changes (`specs/Worlds.antt`). No conditional row, no place
@@ -6,9 +7,18 @@
 #![tactic(auto)]
 
 mod action;
+mod bounding;
 mod query;
+mod reading;
 mod schema;
+mod sizing;
+#[cfg(test)]
+mod tests;
+mod weighing;
 
 pub use action::{Action, Ask, Read, Resolved};
+pub use bounding::nodes;
 pub use query::{Pred, Query};
+pub use reading::reads;
 pub use schema::{Count, Counts, Heading, Schema};
+pub use sizing::size;

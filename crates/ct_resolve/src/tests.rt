@@ -173,55 +173,57 @@ fn shown(alloc: Global, text: &str) -> Result<String, Fail> {
     Ok(out)
 }
 
+/// A text, and what it becomes or why it is refused.
+const RESOLVED: [(&str, &str); 32] = [
+    ("create table t (c, c)", "TableExists"),
+    ("create table v (c, c)", "DuplicateName"),
+    ("create table v (c, d)", "c d "),
+    ("select a from t union select a, b from u", "ColumnCount"),
+    ("select a from nosuch", "UnknownTable"),
+    ("select c from t, t, nosuch", "UnknownTable"),
+    ("select b from t", "UnknownColumn"),
+    ("select t.a from t, t", "DuplicateName"),
+    ("select c from t, t", "DuplicateName"),
+    ("select a from t x, u y", "AmbiguousColumn"),
+    ("select c from t, u where a = 1", "UnknownColumn"),
+    ("select b from t, u where a = 1", "AmbiguousColumn"),
+    ("select a from t intersect select b from t", "UnknownColumn"),
+    ("select t.a from t x", "UnknownColumn"),
+    ("insert into nosuch values (1, 2)", "UnknownTable"),
+    ("insert into t values (1), (1, 2) if c = 1", "ColumnCount"),
+    ("insert into t values (1) if a = 1", "UnknownColumn"),
+    ("insert into t select a, b from u", "ColumnCount"),
+    ("insert into t select c from u", "UnknownColumn"),
+    ("delete from nosuch where c = 1", "UnknownTable"),
+    ("delete from t where u.a = 1", "UnknownColumn"),
+    ("assert a = 1", "UnknownColumn"),
+    (
+        "insert into u values (null, ?x), (null, 'y')",
+        "(?1#5 ?x )(?1#6 'y' )true",
+    ),
+    (
+        "delete from u where u.b <> 2 and not (a = 1 or true)",
+        "& !$1=2 !| $0=1 true;;",
+    ),
+    ("assert ?x = 1", "?x=1"),
+    ("select * from t, u", "Rows a a b 0.1.2.[true](t*u)"),
+    (
+        "certain select u.b as c, t.a from t join u on t.a = u.a, u x where x.b = 1",
+        "Certain c a 2.0.[& $0=$1 $4=1;]((t*u)*u)",
+    ),
+    (
+        "possible select a from t except select b from u intersect select a from u",
+        "Possible a (0.[true]t-(1.[true]u^0.[true]u))",
+    ),
+    ("insert into t (select b from u)", "1.[true]u"),
+    ("begin", "begin"),
+    ("commit", "commit"),
+    ("rollback", "rollback"),
+];
+
 #[test]
 fn texts_are_resolved_so(rt: HostRuntime) -> Result<(), Fail> {
-    let cases = [
-        ("create table t (c, c)", "TableExists"),
-        ("create table v (c, c)", "DuplicateName"),
-        ("create table v (c, d)", "c d "),
-        ("select a from t union select a, b from u", "ColumnCount"),
-        ("select a from nosuch", "UnknownTable"),
-        ("select c from t, t, nosuch", "UnknownTable"),
-        ("select b from t", "UnknownColumn"),
-        ("select t.a from t, t", "DuplicateName"),
-        ("select c from t, t", "DuplicateName"),
-        ("select a from t x, u y", "AmbiguousColumn"),
-        ("select c from t, u where a = 1", "UnknownColumn"),
-        ("select b from t, u where a = 1", "AmbiguousColumn"),
-        ("select a from t intersect select b from t", "UnknownColumn"),
-        ("select t.a from t x", "UnknownColumn"),
-        ("insert into nosuch values (1, 2)", "UnknownTable"),
-        ("insert into t values (1), (1, 2) if c = 1", "ColumnCount"),
-        ("insert into t values (1) if a = 1", "UnknownColumn"),
-        ("insert into t select a, b from u", "ColumnCount"),
-        ("insert into t select c from u", "UnknownColumn"),
-        ("delete from nosuch where c = 1", "UnknownTable"),
-        ("delete from t where u.a = 1", "UnknownColumn"),
-        ("assert a = 1", "UnknownColumn"),
-        (
-            "insert into u values (null, ?x), (null, 'y')",
-            "(?1#5 ?x )(?1#6 'y' )true",
-        ),
-        (
-            "delete from u where u.b <> 2 and not (a = 1 or true)",
-            "& !$1=2 !| $0=1 true;;",
-        ),
-        ("assert ?x = 1", "?x=1"),
-        ("select * from t, u", "Rows a a b 0.1.2.[true](t*u)"),
-        (
-            "certain select u.b as c, t.a from t join u on t.a = u.a, u x where x.b = 1",
-            "Certain c a 2.0.[& $0=$1 $4=1;]((t*u)*u)",
-        ),
-        (
-            "possible select a from t except select b from u intersect select a from u",
-            "Possible a (0.[true]t-(1.[true]u^0.[true]u))",
-        ),
-        ("insert into t (select b from u)", "1.[true]u"),
-        ("begin", "begin"),
-        ("commit", "commit"),
-        ("rollback", "rollback"),
-    ];
-    for (text, wanted) in cases {
+    for (text, wanted) in RESOLVED {
         let found = shown(rt.alloc(), text)?;
         assert_eq!(rt; found.as_str(), wanted);
     }

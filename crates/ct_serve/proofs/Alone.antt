@@ -74,11 +74,11 @@ few_more i h h' r c le =
     let new = length_printed h' in omega arith
 
 -- one statement more
-pub answered : {A : Type 0} (f : A → List ℕ) (xs : List A) (i : ℕ) (d : A) (N : ℕ) (h h' : List PlainCommit) (words words' : List ℕ) (rs : List Reply) (r : Reply) → i < length xs
-    → Progress N h words (take i (map f xs)) rs → Answers N h h' words words' (f (get_or xs i d)) r
-    → Progress N h' words' (take (i + 1) (map f xs)) (rs ++ r ∷ [])
-answered f xs i d N h h' words words' rs r lt p a =
-    subst (λ ts. Progress N h' words' ts (rs ++ r ∷ [])) (sym more) (progress_push N h h' words words' (take i (map f xs)) rs (f (get_or xs i d)) r p a) where
+pub answered : {A : Type 0} (f : A → List ℕ) (xs : List A) (i : ℕ) (d : A) (N : ℕ) (h h' : List PlainCommit) (fresh fresh' : ℕ) (words words' : List ℕ) (rs : List Reply) (r : Reply) → i < length xs
+    → Progress N h fresh words (take i (map f xs)) rs → Answers N h h' fresh fresh' words words' (f (get_or xs i d)) r
+    → Progress N h' fresh' words' (take (i + 1) (map f xs)) (rs ++ r ∷ [])
+answered f xs i d N h h' fresh fresh' words words' rs r lt p a =
+    subst (λ ts. Progress N h' fresh' words' ts (rs ++ r ∷ [])) (sym more) (progress_push N h h' fresh fresh' words words' (take i (map f xs)) rs (f (get_or xs i d)) r p a) where
       more : take (i + 1) (map f xs) ≡ take i (map f xs) ++ f (get_or xs i d) ∷ []
       more = take-map f (i + 1) xs ∙ ap (map f) (take_more xs i d lt) ∙ map-append f (take i xs) (get_or xs i d ∷ []) ∙ ap (λ l. l ++ f (get_or xs i d) ∷ []) (sym (take-map f i xs))
 
@@ -123,13 +123,13 @@ unfolding opening
 opens words p = ap (take 2) (sym p.1)
 
 -- the transcript of a session that was alone
-pub lawful_alone : (N : ℕ) (script : List ℕ) (replies replies' : List Reply) (sessions : List SessionLog) (history history' : List Commit) (words : List ℕ)
+pub lawful_alone : (N : ℕ) (script : List ℕ) (replies replies' : List Reply) (sessions : List SessionLog) (history history' : List Commit) (fresh : ℕ) (words : List ℕ)
     (pass : Seen) (keeper : Keeping) (tables : List TableView) → IsCatalogue N pass keeper tables history
-    → Progress N (plain_history history) pass.words (texts script) replies
+    → Progress N (plain_history history) fresh pass.words (texts script) replies
     → replies' ≡ replies → sessions ≡ (record { script = script; replies = replies' } ∷ []) → history' ≡ history
     → IsPrefix pass.words words → commits_of words ≡ commits_of keeper.words → IsWellFormed words → length words ≤ N → IsPrefix opening words
     → Lawful (record { sessions = sessions; history = history'; words = words }) N
-lawful_alone N script replies replies' sessions history history' words pass keeper tables k p r s h longer commits formed fits begins =
+lawful_alone N script replies replies' sessions history history' fresh words pass keeper tables k p r s h longer commits formed fits begins =
     subst (λ hs. Lawful (record { sessions = sessions; history = hs; words = words }) N) (sym h)
     (subst (λ ls. Lawful (record { sessions = ls; history = history; words = words }) N) (sym (s ∙ ap (λ rs. record { script = script; replies = rs } ∷ []) r)) base) where
       H : List PlainCommit
@@ -138,7 +138,7 @@ lawful_alone N script replies replies' sessions history history' words pass keep
       lawful : AreLawfulSessions H words N 1 (record { script = script; replies = replies } ∷ [])
       lawful = (
         record {
-          last = state_after H;
+          last = state_after H fresh;
           replies = p.lawful H words (record { history = prefix_same H; log = longer; room = fits });
           commits = p.commits;
           full = p.full;

@@ -1,95 +1,190 @@
--- From what a statement came to, to its reply.
-use Rattle.std.proofs.Common.{◌≡◌, ◌≢◌, ℕ, ◌+◌, ◌≤◌, arith, List, [], ◌∷◌, ◌++◌, length, refl, sym, subst, ◌∙◌}
-use Rattle.std.specs.Prelude.{Option, Some, None, IsSome, Result, Ok, Err, IfOk, IfErr}
+-- From what a text came to, to its reply.
+use Rattle.std.proofs.Common.{◌≡◌, ◌≢◌, ℕ, ◌+◌, ◌≤◌, arith, List, [], ◌∷◌, ◌++◌, length, refl, ap, sym, subst, ◌∙◌}
+use Rattle.std.specs.Prelude.{Result, Ok, Err, IfOk, IfErr}
 use mathlib.Core.List.{IsPrefix}
 use Rattle.std.proofs.lemmas.List.{map_push}
 use Rattle.ct_word.specs.Change.{PlainCommit}
+use Rattle.ct_query.specs.declared.action.Ask.TheVariants as ask
 use Rattle.ct_query.specs.Plain as plain
-use Rattle.ct_query.specs.Plain.{PlainStatement}
+use Rattle.ct_query.specs.Plain.{PlainAction, PlainStatement}
+use Rattle.ct_parse.specs.declared.tree.Statement.{Statement}
+use Rattle.ct_resolve.specs.declared.error.ResolveError.{ResolveError}
+use Rattle.ct_resolve.specs.declared.error.ResolveError.TheVariants as name
 use Rattle.ct_rewrite.specs.declared.history.Commit.{Commit}
 use Rattle.ct_rewrite.specs.History.{plain_commit, plain_history}
-use Rattle.ct_table.specs.Denotes.{TableView}
 use Rattle.ct_transcript.specs.declared.reply.Answer.{Answer}
 use Rattle.ct_transcript.specs.declared.reply.Reply.{Reply}
 use Rattle.ct_transcript.specs.declared.reply.Reply.TheVariants as reply
 use Rattle.ct_transcript.specs.declared.reply.Refusal.{Refusal}
 use Rattle.ct_transcript.specs.declared.reply.Refusal.TheVariants as refusal
-use Rattle.ct_query.specs.Schema.{schema}
-use Rattle.ct_serve.specs.declared.statement.Cell.{Cell}
-use Rattle.ct_serve.specs.declared.statement.Equality.{Equality}
-use Rattle.ct_serve.specs.declared.statement.Statement.{Statement}
-use Rattle.ct_serve.specs.declared.statement.Statement.TheVariants as statement
-use Rattle.ct_serve.specs.Names.{resolve, columns_of, created_new, inserted_into, selected_from}
-use Rattle.ct_serve.specs.declared.reading.ReadingError.{ReadingError}
-use Rattle.ct_serve.specs.declared.reading.ReadingError.TheVariants as reading
-use Rattle.ct_serve.specs.Statements.{ReadsAs, IsNoStatement}
+use Rattle.ct_serve.specs.Statements.{ReadsAs, IsTextFault, number_range, open_text, stray_byte, too_deep, unspelled}
+use Rattle.ct_serve.specs.Built.{IsBuilt}
 use Rattle.ct_serve.specs.Progress.{Answers}
+use Rattle.ct_serve.specs.declared.session.Offer.{Offer}
 use Rattle.ct_serve.specs.declared.session.Prepared.TheVariants as prepared
-use Rattle.ct_serve.specs.Catalogue.{IsOfferFor, IsPreparedText, IsRefusedAs, Resolves, IsRefusedText, CommitOf, committed, filled, resolved_at, unread_refusal}
-use Rattle.ct_serve.proofs.Offers.{answers_no_statement, answers_memory, answers_not_yet, answers_full, answers_rows, answers_committed}
+use Rattle.ct_serve.specs.Catalogue.{IsReady, IsOfferFor, IsAnswerFor, IsPrepared, IsPreparedStatement, IsPreparedText, IsRefusedStatement, IsRefusedText, IsWant, unread, wanting_memory, refused, CommitOf, committed, filled, resolved_at, name_refusal}
+use Rattle.ct_serve.proofs.Offers.{answers_refused, is_unread, is_name_fault, is_not_yet, is_full_at, answers_rows, answers_committed, stays}
 use Rattle.ct_serve.proofs.Committing.{length_printed}
 
--- what each kind of statement resolves to
-module _ (h : List PlainCommit) (name : List ℕ) where
-  pub create_at : (columns : List (List ℕ)) → resolved_at h (statement.Create name columns) ≡ created_new (columns_of (schema h []).tables name) name columns
-  unfolding resolve
-  create_at columns = refl
+-- a name that does not fit is refused so
+pub name_refused : (h : List PlainCommit) (room : ℕ) (words : List ℕ) (fresh : ℕ) (st : Statement) (e : ResolveError) → (e ≢ name.Memory → resolved_at h fresh st ≡ Err e)
+    → IsRefusedStatement h room words fresh st (name_refusal e)
+name_refused h room words fresh st name.UnknownTable r = r (λ p. cc)
+name_refused h room words fresh st name.TableExists r = r (λ p. cc)
+name_refused h room words fresh st name.UnknownColumn r = r (λ p. cc)
+name_refused h room words fresh st name.AmbiguousColumn r = r (λ p. cc)
+name_refused h room words fresh st name.DuplicateName r = r (λ p. cc)
+name_refused h room words fresh st name.ColumnCount r = r (λ p. cc)
+name_refused h room words fresh st name.Memory r = tt
 
-  pub insert_at : (cells : List Cell) → resolved_at h (statement.Insert name cells) ≡ inserted_into (columns_of (schema h []).tables name) name cells
-  unfolding resolve
-  insert_at cells = refl
+-- what is wanting for a statement that asks for something
+pub want_refuses : (h : List PlainCommit) (room : ℕ) (words : List ℕ) (fresh : ℕ) (st : Statement) (asked : PlainStatement) (why : Refusal) → resolved_at h fresh st ≡ Ok asked → IsBuilt st
+    → IsWant room words why → IsRefusedStatement h room words fresh st why
+want_refuses h room words fresh st asked refusal.Full r built w = (w, ((asked, r), built))
+want_refuses h room words fresh st asked refusal.Memory r built w = tt
+want_refuses h room words fresh st asked refusal.NotAStatement r built w = absurd w
+want_refuses h room words fresh st asked refusal.TooDeep r built w = absurd w
+want_refuses h room words fresh st asked refusal.NumberRange r built w = absurd w
+want_refuses h room words fresh st asked refusal.UnknownTable r built w = absurd w
+want_refuses h room words fresh st asked refusal.TableExists r built w = absurd w
+want_refuses h room words fresh st asked refusal.UnknownColumn r built w = absurd w
+want_refuses h room words fresh st asked refusal.AmbiguousColumn r built w = absurd w
+want_refuses h room words fresh st asked refusal.DuplicateName r built w = absurd w
+want_refuses h room words fresh st asked refusal.ColumnCount r built w = absurd w
+want_refuses h room words fresh st asked refusal.NotYet r built w = absurd w
 
-  pub select_at : (filter : Option Equality) → resolved_at h (statement.Select name filter) ≡ selected_from (columns_of (schema h []).tables name) name filter
-  unfolding resolve
-  select_at filter = refl
+-- a text that is not read is refused so
+pub unread_refused : (h : List PlainCommit) (room : ℕ) (words : List ℕ) (fresh : ℕ) (x : List ℕ) (why : Refusal) → (why ≢ refusal.Memory → IsTextFault x why) → IsRefusedText h room words fresh x why
+unread_refused h room words fresh x refusal.NotAStatement f = unread refusal.NotAStatement (f (λ p. cc))
+unread_refused h room words fresh x refusal.TooDeep f = unread refusal.TooDeep (f (λ p. cc))
+unread_refused h room words fresh x refusal.NumberRange f = unread refusal.NumberRange (f (λ p. cc))
+unread_refused h room words fresh x refusal.UnknownTable f = unread refusal.UnknownTable (f (λ p. cc))
+unread_refused h room words fresh x refusal.TableExists f = unread refusal.TableExists (f (λ p. cc))
+unread_refused h room words fresh x refusal.UnknownColumn f = unread refusal.UnknownColumn (f (λ p. cc))
+unread_refused h room words fresh x refusal.AmbiguousColumn f = unread refusal.AmbiguousColumn (f (λ p. cc))
+unread_refused h room words fresh x refusal.DuplicateName f = unread refusal.DuplicateName (f (λ p. cc))
+unread_refused h room words fresh x refusal.ColumnCount f = unread refusal.ColumnCount (f (λ p. cc))
+unread_refused h room words fresh x refusal.NotYet f = unread refusal.NotYet (f (λ p. cc))
+unread_refused h room words fresh x refusal.Full f = unread refusal.Full (f (λ p. cc))
+unread_refused h room words fresh x refusal.Memory f = wanting_memory
 
--- a text that is read as a statement is refused as the statement is
-pub statement_refused : (h : List PlainCommit) (room : ℕ) (words : List ℕ) (x : List ℕ) (st : Statement) (why : Refusal) → ReadsAs x st
-    → IsRefusedAs (resolved_at h st) room words why → IsRefusedText h room words x why
-statement_refused h room words x st refusal.NotYet reads r = record { statement = st; reads = reads; resolved = r }
-statement_refused h room words x st refusal.Full reads r = by_resolved (resolved_at h st) refl r.1 where
-  by_resolved : (o : Option PlainStatement) → resolved_at h st ≡ o → IsSome o → (length words ≡ room) × ((asked : PlainStatement) × Resolves h x (Some asked))
-  by_resolved (Some asked) e s = (r.0, (asked, record { statement = st; reads = reads; resolved = e }))
-  by_resolved None e s = cc
-statement_refused h room words x st refusal.Memory reads r = tt
-statement_refused h room words x st refusal.NotAStatement reads r = absurd r
+module _ (N : ℕ) (h : List PlainCommit) (fresh : ℕ) (words words' : List ℕ) (x : List ℕ) (longer : IsPrefix words words') (room : length words' ≤ N) where
+  abbrev Refuses : Refusal → Type 0
+  Refuses why = Answers N h h fresh fresh words words' x (reply.Refused (length h) why)
 
-pub unread_refused : (h : List PlainCommit) (room : ℕ) (words : List ℕ) (x : List ℕ) (e : ReadingError) → (e ≢ reading.Memory → IsNoStatement x)
-    → IsRefusedText h room words x (unread_refusal e)
-unread_refused h room words x reading.NotAStatement none = none (λ p. cc)
-unread_refused h room words x reading.Memory none = tt
+  text_refused : (why : Refusal) → IsTextFault x why → Refuses why
+  text_refused why (number_range f) = answers_refused N h fresh words words' x longer room refusal.NumberRange
+      (λ H W g. (is_unread N h fresh words words' x longer room refusal.NumberRange (number_range f) H W, stays h fresh)) (λ e. cc)
+  text_refused why (open_text f) = answers_refused N h fresh words words' x longer room refusal.NotAStatement
+      (λ H W g. (is_unread N h fresh words words' x longer room refusal.NotAStatement (open_text f) H W, stays h fresh)) (λ e. cc)
+  text_refused why (stray_byte f) = answers_refused N h fresh words words' x longer room refusal.NotAStatement
+      (λ H W g. (is_unread N h fresh words words' x longer room refusal.NotAStatement (stray_byte f) H W, stays h fresh)) (λ e. cc)
+  text_refused why (too_deep f) = answers_refused N h fresh words words' x longer room refusal.TooDeep
+      (λ H W g. (is_unread N h fresh words words' x longer room refusal.TooDeep (too_deep f) H W, stays h fresh)) (λ e. cc)
+  text_refused why (unspelled f) = answers_refused N h fresh words words' x longer room refusal.NotAStatement
+      (λ H W g. (is_unread N h fresh words words' x longer room refusal.NotAStatement (unspelled f) H W, stays h fresh)) (λ e. cc)
+
+  memory_refused : Refuses refusal.Memory
+  memory_refused = answers_refused N h fresh words words' x longer room refusal.Memory (λ H W g. (refl, stays h fresh)) (λ e. cc)
+
+  statement_refused : (st : Statement) (why : Refusal) → ReadsAs x st → IsRefusedStatement h N words' fresh st why → Refuses why
+  statement_refused st refusal.UnknownTable reads r = answers_refused N h fresh words words' x longer room refusal.UnknownTable
+      (λ H W g. (is_name_fault N h fresh words words' x longer room st name.UnknownTable reads r H W g.history, stays h fresh)) (λ e. cc)
+  statement_refused st refusal.TableExists reads r = answers_refused N h fresh words words' x longer room refusal.TableExists
+      (λ H W g. (is_name_fault N h fresh words words' x longer room st name.TableExists reads r H W g.history, stays h fresh)) (λ e. cc)
+  statement_refused st refusal.UnknownColumn reads r = answers_refused N h fresh words words' x longer room refusal.UnknownColumn
+      (λ H W g. (is_name_fault N h fresh words words' x longer room st name.UnknownColumn reads r H W g.history, stays h fresh)) (λ e. cc)
+  statement_refused st refusal.AmbiguousColumn reads r = answers_refused N h fresh words words' x longer room refusal.AmbiguousColumn
+      (λ H W g. (is_name_fault N h fresh words words' x longer room st name.AmbiguousColumn reads r H W g.history, stays h fresh)) (λ e. cc)
+  statement_refused st refusal.DuplicateName reads r = answers_refused N h fresh words words' x longer room refusal.DuplicateName
+      (λ H W g. (is_name_fault N h fresh words words' x longer room st name.DuplicateName reads r H W g.history, stays h fresh)) (λ e. cc)
+  statement_refused st refusal.ColumnCount reads r = answers_refused N h fresh words words' x longer room refusal.ColumnCount
+      (λ H W g. (is_name_fault N h fresh words words' x longer room st name.ColumnCount reads r H W g.history, stays h fresh)) (λ e. cc)
+  statement_refused st refusal.NotYet reads r = answers_refused N h fresh words words' x longer room refusal.NotYet
+      (λ H W g. (is_not_yet N h fresh words words' x longer room st r.0.0 reads r.0.1 r.1 H W g.history, stays h fresh)) (λ e. cc)
+  statement_refused st refusal.Full reads r = answers_refused N h fresh words words' x longer room refusal.Full
+      (λ H W g. (is_full_at N h fresh words words' x longer room st r.1.0.0 reads r.1.0.1 r.1.1 r.0 H W g, stays h fresh)) (λ e. r.0)
+  statement_refused st refusal.Memory reads r = memory_refused
+  statement_refused st refusal.NotAStatement reads r = absurd r
+  statement_refused st refusal.TooDeep reads r = absurd r
+  statement_refused st refusal.NumberRange reads r = absurd r
+
+  refuses : (why : Refusal) → IsRefusedText h N words' fresh x why → Refuses why
+  refuses why (unread why' f) = text_refused why' f
+  refuses why wanting_memory = memory_refused
+  refuses why (refused st why' reads r) = statement_refused st why' reads r
 
 -- a refused text is answered so
-pub refused_answers : (N : ℕ) (history : List Commit) (words words' : List ℕ) (x : List ℕ) (why : Refusal) (at : ℕ) → at ≡ length history → IsPrefix words words' → length words' ≤ N
-    → IsRefusedText (plain_history history) N words' x why → Answers N (plain_history history) (plain_history history) words words' x (reply.Refused at why)
-refused_answers N history words words' x why at e longer room r =
-    subst (λ n. Answers N (plain_history history) (plain_history history) words words' x (reply.Refused n why)) (length_printed history ∙ sym e) (by_why why r) where
-      by_why : (why : Refusal) → IsRefusedText (plain_history history) N words' x why → Answers N (plain_history history) (plain_history history) words words' x (reply.Refused (length (plain_history history)) why)
-      by_why refusal.NotAStatement r = answers_no_statement N (plain_history history) words words' x longer room r
-      by_why refusal.Memory r = answers_memory N (plain_history history) words words' x longer room
-      by_why refusal.NotYet r = answers_not_yet N (plain_history history) words words' x longer room r.statement r.reads r.resolved
-      by_why refusal.Full r = answers_full N (plain_history history) words words' x longer room r.1.1.statement r.1.0 r.1.1.reads r.1.1.resolved r.0
+pub refused_answers : (N : ℕ) (history : List Commit) (fresh : ℕ) (words words' : List ℕ) (x : List ℕ) (why : Refusal) (at : ℕ) → at ≡ length history → IsPrefix words words' → length words' ≤ N
+    → IsRefusedText (plain_history history) N words' fresh x why → Answers N (plain_history history) (plain_history history) fresh fresh words words' x (reply.Refused at why)
+refused_answers N history fresh words words' x why at e longer room r =
+    subst (λ n. Answers N (plain_history history) (plain_history history) fresh fresh words words' x (reply.Refused n why)) (length_printed history ∙ sym e)
+    (refuses N (plain_history history) fresh words words' x longer room why r)
+
+-- an offer that a text asks for is ready
+pub ready_of : (h : List PlainCommit) (words : List ℕ) (fresh : ℕ) (x : List ℕ) (offer : Offer) → IsPreparedText h words fresh x (prepared.Commit offer)
+    → IsReady h words offer.changes offer.commit offer.tables
+ready_of h words fresh x offer p = by_asked p.prepared.asked p.prepared.prepared where
+  by_asked : (asked : PlainStatement) → IsPrepared h words fresh asked (prepared.Commit offer) → IsReady h words offer.changes offer.commit offer.tables
+  by_asked (plain.Act a) o = o.ready
+  by_asked (plain.Asks ask.Rows cs q) o = absurd o
+  by_asked (plain.Asks ask.Possible cs q) o = absurd o
+  by_asked (plain.Asks ask.Certain cs q) o = absurd o
+  by_asked plain.Begin o = absurd o
+  by_asked plain.Commit o = absurd o
+  by_asked plain.Rollback o = absurd o
 
 -- an offer is answered by what its commit did
-pub offer_answers : (N : ℕ) (history history' : List Commit) (words mid words' : List ℕ) (x : List ℕ) (changes : ℕ) (commit : Commit) (tables : List TableView) (r : Reply)
-    → IsPrefix words words' → length words ≤ length mid → length words' ≤ N → (st : Statement) → ReadsAs x st → IsOfferFor (plain_history history) mid (resolved_at (plain_history history) st) changes commit tables
-    → CommitOf N mid words' history commit history' r
-    → Answers N (plain_history history) (plain_history history') words words' x r
-offer_answers N history history' words mid words' x changes commit tables r longer le room st reads o (committed lt) =
-    let number : length (plain_history history) ≡ length history = length_printed history in
-    let answers = answers_committed N (plain_history history) words words' x longer room mid st changes commit tables reads o (let lt' = lt in omega arith) in
-    subst (λ h. Answers N (plain_history history) h words words' x (reply.Committed (length history + 1))) (sym (map_push plain_commit history commit))
-    (subst (λ n. Answers N (plain_history history) (plain_history history ++ plain_commit commit ∷ []) words words' x (reply.Committed (n + 1))) number answers)
-offer_answers N history history' words mid words' x changes commit tables r longer le room st reads o (filled full) =
-    refused_answers N history words words' x refusal.Full (length history) refl longer room
-    (full, (plain.Act o.action, record { statement = st; reads = reads; resolved = o.resolved }))
+pub offer_answers : (N : ℕ) (history history' : List Commit) (fresh fresh' : ℕ) (words mid words' : List ℕ) (x : List ℕ) (offer : Offer) (r : Reply)
+    → IsPrefix words words' → length words ≤ length mid → length words' ≤ N → IsPreparedText (plain_history history) mid fresh x (prepared.Commit offer)
+    → CommitOf N mid words' history fresh offer.commit offer.fresh history' fresh' r
+    → Answers N (plain_history history) (plain_history history') fresh fresh' words words' x r
+offer_answers N history history' fresh fresh' words mid words' x offer r longer le room p did = by_asked p.prepared.asked p.prepared.resolves p.prepared.prepared where
+  h : List PlainCommit
+  h = plain_history history
+
+  by_did : (history' : List Commit) (fresh' : ℕ) (r : Reply) (a : PlainAction) → resolved_at h fresh p.statement ≡ Ok (plain.Act a)
+      → IsOfferFor h mid fresh a offer.changes offer.commit offer.tables offer.fresh → CommitOf N mid words' history fresh offer.commit offer.fresh history' fresh' r
+      → Answers N h (plain_history history') fresh fresh' words words' x r
+  by_did history' fresh' r a resolves o (committed lt) =
+      let number : length h ≡ length history = length_printed history in
+      let answers = answers_committed N h fresh words words' x longer room mid p.statement a offer.changes offer.commit offer.tables offer.fresh p.reads p.prepared.built resolves o (let lt' = lt in omega arith) in
+      subst (λ g. Answers N h g fresh offer.fresh words words' x (reply.Committed (length history + 1))) (sym (map_push plain_commit history offer.commit))
+      (subst (λ n. Answers N h (h ++ plain_commit offer.commit ∷ []) fresh offer.fresh words words' x (reply.Committed (n + 1))) number answers)
+  by_did history' fresh' r a resolves o (filled full) =
+      refused_answers N history fresh words words' x refusal.Full (length history) refl longer room
+      (refused p.statement refusal.Full p.reads (full, ((plain.Act a, resolves), p.prepared.built)))
+
+  by_asked : (asked : PlainStatement) → resolved_at h fresh p.statement ≡ Ok asked → IsPrepared h mid fresh asked (prepared.Commit offer)
+      → Answers N h (plain_history history') fresh fresh' words words' x r
+  by_asked (plain.Act a) resolves o = by_did history' fresh' r a resolves o did
+  by_asked (plain.Asks ask.Rows cs q) resolves o = absurd o
+  by_asked (plain.Asks ask.Possible cs q) resolves o = absurd o
+  by_asked (plain.Asks ask.Certain cs q) resolves o = absurd o
+  by_asked plain.Begin resolves o = absurd o
+  by_asked plain.Commit resolves o = absurd o
+  by_asked plain.Rollback resolves o = absurd o
 
 -- an answer to a query is given at the version of the history
-pub answer_answers : (N : ℕ) (history : List Commit) (words words' : List ℕ) (x : List ℕ) (answer : Answer) (at : ℕ) → at ≡ length history → IsPrefix words words' → length words' ≤ N
-    → IsPreparedText (plain_history history) words' x (prepared.Answer answer) → Answers N (plain_history history) (plain_history history) words words' x (reply.Rows at 0 answer)
-answer_answers N history words words' x answer at e longer room p =
-    subst (λ n. Answers N (plain_history history) (plain_history history) words words' x (reply.Rows n 0 answer)) (length_printed history ∙ sym e)
-    (answers_rows N (plain_history history) words words' x longer room p.statement answer p.reads p.prepared)
+pub answer_answers : (N : ℕ) (history : List Commit) (fresh : ℕ) (words words' : List ℕ) (x : List ℕ) (answer : Answer) (at : ℕ) → at ≡ length history → IsPrefix words words' → length words' ≤ N
+    → IsPreparedText (plain_history history) words' fresh x (prepared.Answer answer) → Answers N (plain_history history) (plain_history history) fresh fresh words words' x (reply.Rows at 0 answer)
+answer_answers N history fresh words words' x answer at e longer room p =
+    subst (λ n. Answers N (plain_history history) (plain_history history) fresh fresh words words' x (reply.Rows n 0 answer)) (length_printed history ∙ sym e)
+    (by_asked p.prepared.asked p.prepared.resolves p.prepared.prepared) where
+      h : List PlainCommit
+      h = plain_history history
+
+      by_asked : (asked : PlainStatement) → resolved_at h fresh p.statement ≡ Ok asked → IsPrepared h words' fresh asked (prepared.Answer answer)
+          → Answers N h h fresh fresh words words' x (reply.Rows (length h) 0 answer)
+      by_asked (plain.Asks ask.Rows cs q) resolves o =
+          answers_rows N h fresh words words' x longer room p.statement q answer p.reads p.prepared.built
+          (resolves ∙ ap (λ c. Ok (plain.Asks ask.Rows c q)) (sym o.named)) (record { named = refl; formed = o.formed; means = o.means; in_pattern = o.in_pattern })
+      by_asked (plain.Asks ask.Possible cs q) resolves o = absurd o
+      by_asked (plain.Asks ask.Certain cs q) resolves o = absurd o
+      by_asked (plain.Act a) resolves o = absurd o
+      by_asked plain.Begin resolves o = absurd o
+      by_asked plain.Commit resolves o = absurd o
+      by_asked plain.Rollback resolves o = absurd o
 
 -- what is true of an answer, where something stronger is
 pub ok_on : {T E : Type 0} (r : Result T E) (P Q : T → Type 0) → ((t : T) → P t → Q t) → IfOk r P → IfOk r Q

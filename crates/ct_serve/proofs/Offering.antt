@@ -1,14 +1,16 @@
 -- The offer of a new table.
-use Rattle.std.proofs.Common.{◌≡◌, ℕ, Bool, true, false, List, [], ◌∷◌, ◌++◌, length, map, refl, ap, sym, subst, ◌∙◌}
-use Rattle.std.specs.Prelude.{Option, Some, None, IsSome, IsTrue, option_and_then, option_map, if◌then◌else◌}
+use Rattle.std.proofs.Common.{◌≡◌, ℕ, Bool, true, false, List, [], ◌∷◌, ◌++◌, length, map, refl, ap, sym, subst, ◌∙◌, arith}
+use Rattle.std.specs.Prelude.{Option, Some, None, IsSome, IsTrue, Ok, ◌||◌, option_and_then, if◌then◌else◌}
+use Rattle.std.proofs.lemmas.Bool.{false≢true}
 use mathlib.Core.List.{IsPrefix}
 use Rattle.ct_word.specs.Value.{World, same_text}
+use Rattle.ct_word.proofs.Alike.{text_decides}
 use Rattle.ct_word.specs.declared.values.CRow.{CRow}
 use Rattle.ct_word.specs.Change.{PlainChange, Create, PlainCommit}
 use Rattle.ct_word.specs.Reading.{IsChangeList, change_list_at, as_change_list}
 use Rattle.ct_word.specs.Stands.{StandsAt}
 use Rattle.ct_query.specs.Plain as plain
-use Rattle.ct_query.specs.Plain.{PlainStatement}
+use Rattle.ct_query.specs.declared.schema.Heading.{Heading}
 use Rattle.ct_query.specs.Agrees.{Agrees}
 use Rattle.ct_query.specs.Database.{Database}
 use Rattle.ct_query.specs.Step.{step_change}
@@ -19,23 +21,42 @@ use Rattle.ct_rewrite.specs.declared.answer.Node.{Node}
 use Rattle.ct_rewrite.specs.declared.history.Commit.{Commit}
 use Rattle.ct_rewrite.specs.declared.history.Change.TheVariants as change
 use Rattle.ct_rewrite.specs.History.{plain_commit}
-use Rattle.ct_transcript.specs.declared.reply.Refusal.{Refusal}
-use Rattle.ct_transcript.specs.declared.reply.Refusal.TheVariants as refusal
 use Rattle.ct_word.specs.declared.kinds.Class.TheVariants as class
 use Rattle.ct_word.specs.WellFormed.{is_place_of}
 use Rattle.ct_table.specs.Denotes.{TableView, heading_of, Denotes, find_table, with_table}
 use Rattle.ct_table.proofs.Denoting.{created_denotes, denotes_grows}
-use Rattle.ct_serve.specs.Names.{columns_of, has_repeat, created_new}
-use Rattle.ct_serve.specs.Catalogue.{IsAdmittedEverywhere, IsNewTable, IsWant, IsOfferFor, IsRefusedAs}
+use Rattle.ct_resolve.specs.Names.{table_in, is_table}
+use Rattle.ct_serve.specs.Catalogue.{IsAdmittedEverywhere, IsNewTable, IsReady, IsOfferFor}
 
--- the columns of a name in a schema are those of the table that is found
-pub columns_found : (db : List TableView) (name : List ℕ) → columns_of (map heading_of db) name ≡ option_map (λ t. t.columns) (find_table db name)
-columns_found [] name = refl
-columns_found (t ∷ db) name = by_test (same_text t.name name) (columns_found db name) where
-  by_test : (b : Bool) → columns_of (map heading_of db) name ≡ option_map (λ t. t.columns) (find_table db name)
-      → (if b then Some t.columns else columns_of (map heading_of db) name) ≡ option_map (λ t. t.columns) (if b then Some t else find_table db name)
-  by_test true rest = refl
-  by_test false rest = rest
+-- a name that no heading has is no table's
+pub not_there : (db : List TableView) (name : List ℕ) → is_table (map heading_of db) name ≡ false → find_table db name ≡ None
+not_there [] name e = refl
+not_there (t ∷ db) name e = by_test (same_text t.name name) refl (not_there db name) where
+  by_test : (b : Bool) → same_text t.name name ≡ b → (is_table (map heading_of db) name ≡ false → find_table db name ≡ None) → (if same_text t.name name then Some t else find_table db name) ≡ None
+  by_test true p rest = absurd (false≢true (sym e ∙ ap (λ b. b || is_table (map heading_of db) name) p))
+  by_test false p rest = ap (λ b. if b then Some t else find_table db name) p ∙ rest (sym (ap (λ b. b || is_table (map heading_of db) name) p) ∙ e)
+
+-- a table that is found
+pub record IsFound (db : List TableView) (name : List ℕ) (columns : List (List ℕ)) : Type 0 where
+  pub rows : List CRow
+  pub found : find_table db name ≡ Some (record { name = name; columns = columns; rows = rows })
+
+-- a heading that a name has is that of the name's table
+pub there : (db : List TableView) (name : List ℕ) (h : Heading) → table_in (map heading_of db) name ≡ Ok h → IsFound db name h.columns
+there [] name h e = cc
+there (t ∷ db) name h e = by_test (same_text t.name name) refl (there db name h) where
+  by_test : (b : Bool) → same_text t.name name ≡ b → (table_in (map heading_of db) name ≡ Ok h → IsFound db name h.columns) → IsFound (t ∷ db) name h.columns
+  by_test true p rest =
+      let is : Ok (heading_of t) ≡ Ok h = sym (ap (λ b. if b then Ok (heading_of t) else table_in (map heading_of db) name) p) ∙ e in
+      let same : heading_of t ≡ h = cc in
+      let named : t.name ≡ name = (text_decides t.name name).0 p in
+      record {
+        rows = t.rows;
+        found = ap (λ b. if b then Some t else find_table db name) p ∙ (λ i. Some (record { name = named i; columns = (same i).columns; rows = t.rows }));
+      }
+  by_test false p rest =
+      let f = rest (sym (ap (λ b. if b then Ok (heading_of t) else table_in (map heading_of db) name) p) ∙ e) in
+      record { rows = f.rows; found = ap (λ b. if b then Some t else find_table db name) p ∙ f.found }
 
 -- a table whose name is new comes last
 pub with_new : (db : List TableView) (new : TableView) → find_table db new.name ≡ None → with_table db new ≡ db ++ new ∷ []
@@ -44,20 +65,6 @@ with_new (t ∷ db) new e = by_test (same_text t.name new.name) refl (with_new d
   by_test : (b : Bool) → same_text t.name new.name ≡ b → (find_table db new.name ≡ None → with_table db new ≡ db ++ new ∷ []) → with_table (t ∷ db) new ≡ t ∷ (db ++ new ∷ [])
   by_test true p rest = let bad : Some t ≡ None = sym (ap (λ b. if b then Some t else find_table db new.name) p) ∙ e in cc
   by_test false p rest = ap (λ b. if b then new ∷ db else t ∷ with_table db new) p ∙ ap (λ l. t ∷ l) (rest (sym (ap (λ b. if b then Some t else find_table db new.name) p) ∙ e))
-
-module _ (h : List PlainCommit) (words : List ℕ) (db : List TableView) (d : Denotes words h db) (name : List ℕ) (columns : List (List ℕ)) where
-  columns_in : columns_of (schema h []).tables name ≡ option_map (λ t. t.columns) (find_table db name)
-  columns_in = ap (λ hs. columns_of hs name) (sym d.headings) ∙ columns_found db name
-
-  -- a name that is there, or a column that stands twice, does not fit
-  pub not_new : (t : TableView) → find_table db name ≡ Some t → created_new (columns_of (schema h []).tables name) name columns ≡ None
-  not_new t e = ap (λ o. created_new o name columns) (columns_in ∙ ap (option_map (λ x. x.columns)) e)
-
-  pub repeated : find_table db name ≡ None → has_repeat columns ≡ true → created_new (columns_of (schema h []).tables name) name columns ≡ None
-  repeated e r = ap (λ o. created_new o name columns) (columns_in ∙ ap (option_map (λ x. x.columns)) e) ∙ ap (λ b. if b then None else Some (plain.Act (plain.Create name columns))) r
-
-  pub fits_new : find_table db name ≡ None → has_repeat columns ≡ false → created_new (columns_of (schema h []).tables name) name columns ≡ Some (plain.Act (plain.Create name columns))
-  fits_new e r = ap (λ o. created_new o name columns) (columns_in ∙ ap (option_map (λ x. x.columns)) e) ∙ ap (λ b. if b then None else Some (plain.Act (plain.Create name columns))) r
 
 -- every valuation is admitted after a change that asserts nothing
 pub still_everywhere : (h : List PlainCommit) (c : PlainCommit) (x : PlainChange) → ((v : World) (w : Database) → IsSome (step_change v w x)) → c.changes ≡ x ∷ []
@@ -98,24 +105,12 @@ new_table_is h old words db name columns list changes number tables d all none l
       change = refl;
     }
 
-pub fits_some : {r : Option PlainStatement} {st : PlainStatement} → r ≡ Some st → IsSome r
-fits_some {st = st} e = subst IsSome (sym e) refl
-
--- what is wanting for a statement that fits
-pub want_refuses : (r : Option PlainStatement) (room : ℕ) (words : List ℕ) (why : Refusal) → IsSome r → IsWant room words why → IsRefusedAs r room words why
-want_refuses r room words refusal.Full fits w = (w, fits)
-want_refuses r room words refusal.Memory fits w = tt
-want_refuses r room words refusal.NotYet fits w = absurd w
-want_refuses r room words refusal.NotAStatement fits w = absurd w
-
--- the offer of a new table that fits
-pub creation_is : (h : List PlainCommit) (words : List ℕ) (name : List ℕ) (columns : List (List ℕ)) (r : Option PlainStatement) (changes : ℕ) (commit : Commit) (tables : List TableView)
-    → r ≡ Some (plain.Act (plain.Create name columns)) → IsNewTable h words name columns changes commit tables → IsOfferFor h words r changes commit tables
-creation_is h words name columns r changes commit tables fits made = record {
+-- a new table is offered for its creation, which draws no null
+pub creation_is : (h : List PlainCommit) (words : List ℕ) (fresh : ℕ) (name : List ℕ) (columns : List (List ℕ)) (changes : ℕ) (commit : Commit) (tables : List TableView)
+    → IsNewTable h words name columns changes commit tables → IsOfferFor h words fresh (plain.Create name columns) changes commit tables fresh
+creation_is h words fresh name columns changes commit tables made = record {
   ready = made.ready;
-  action = plain.Create name columns;
-  resolved = fits;
-  none_drawn = refl;
+  draws = omega arith;
   agrees = subst (λ xs. Agrees h (plain.Create name columns ∷ []) xs) (sym made.change) ((refl, refl), tt);
 }
 

@@ -56,7 +56,7 @@ module _ (words : List ℕ) where
   are_conditions formed begins width rows are = and_from _ _ (true_at words begins formed).class (conditions_of width rows are.each)
 
 -- the tuples of one row more
-shown_more : (v : World) (x : PlainRow) (xs : List PlainRow) → shown_rows v (x ∷ xs) ≡ cond (holds_at v x.condition) (tuple_at v x.cells ∷ shown_rows v xs) (shown_rows v xs)
+pub shown_more : (v : World) (x : PlainRow) (xs : List PlainRow) → shown_rows v (x ∷ xs) ≡ cond (holds_at v x.condition) (tuple_at v x.cells ∷ shown_rows v xs) (shown_rows v xs)
 shown_more v x xs = by_test (holds_at v x.condition) where
   by_test : (b : Bool) → map (λ (r : PlainRow). tuple_at v r.cells) (cond b (x ∷ filter (λ r. holds_at v r.condition) xs) (filter (λ r. holds_at v r.condition) xs))
       ≡ cond b (tuple_at v x.cells ∷ shown_rows v xs) (shown_rows v xs)

@@ -42,6 +42,14 @@ commits_by_push s m (d ∷ h) c e = by_test (nat_eq d.session s) (commits_by_pus
 ends_one : (r : Reply) → EndsAtFull (r ∷ [])
 ends_one (reply.Refused at refusal.Full) = All-nil IsNoCommit
 ends_one (reply.Refused at refusal.NotAStatement) = tt
+ends_one (reply.Refused at refusal.TooDeep) = tt
+ends_one (reply.Refused at refusal.NumberRange) = tt
+ends_one (reply.Refused at refusal.UnknownTable) = tt
+ends_one (reply.Refused at refusal.TableExists) = tt
+ends_one (reply.Refused at refusal.UnknownColumn) = tt
+ends_one (reply.Refused at refusal.AmbiguousColumn) = tt
+ends_one (reply.Refused at refusal.DuplicateName) = tt
+ends_one (reply.Refused at refusal.ColumnCount) = tt
 ends_one (reply.Refused at refusal.NotYet) = tt
 ends_one (reply.Refused at refusal.Memory) = tt
 ends_one (reply.Committed m) = tt
@@ -52,6 +60,14 @@ full_push : (rs : List Reply) (r : Reply) → EndsAtFull rs → (list_any is_ful
 full_push [] r ends none = ends_one r
 full_push (reply.Refused at refusal.Full ∷ rs) r ends none = All-push IsNoCommit rs r ends (none refl)
 full_push (reply.Refused at refusal.NotAStatement ∷ rs) r ends none = full_push rs r ends none
+full_push (reply.Refused at refusal.TooDeep ∷ rs) r ends none = full_push rs r ends none
+full_push (reply.Refused at refusal.NumberRange ∷ rs) r ends none = full_push rs r ends none
+full_push (reply.Refused at refusal.UnknownTable ∷ rs) r ends none = full_push rs r ends none
+full_push (reply.Refused at refusal.TableExists ∷ rs) r ends none = full_push rs r ends none
+full_push (reply.Refused at refusal.UnknownColumn ∷ rs) r ends none = full_push rs r ends none
+full_push (reply.Refused at refusal.AmbiguousColumn ∷ rs) r ends none = full_push rs r ends none
+full_push (reply.Refused at refusal.DuplicateName ∷ rs) r ends none = full_push rs r ends none
+full_push (reply.Refused at refusal.ColumnCount ∷ rs) r ends none = full_push rs r ends none
 full_push (reply.Refused at refusal.NotYet ∷ rs) r ends none = full_push rs r ends none
 full_push (reply.Refused at refusal.Memory ∷ rs) r ends none = full_push rs r ends none
 full_push (reply.Committed m ∷ rs) r ends none = full_push rs r ends none
@@ -89,10 +105,10 @@ commits_push h h' rs r (one c by) e =
 longer_full : (N : ℕ) (words words' : List ℕ) → IsPrefix words words' → length words ≡ N → length words' ≤ N → length words' ≡ N
 longer_full N words words' p e le = let sum : length (words ++ p.0) ≡ length words' = ap length p.1 in omega (arith, length-append words p.0, sum)
 
-pub progress_push : (N : ℕ) (h h' : List PlainCommit) (words words' : List ℕ) (xs : List (List ℕ)) (rs : List Reply) (x : List ℕ) (r : Reply)
-    → Progress N h words xs rs → Answers N h h' words words' x r → Progress N h' words' (xs ++ x ∷ []) (rs ++ r ∷ [])
-progress_push N h h' words words' xs rs x r p a = record {
-  lawful = λ H W g. lawful_push H W N (beginning 1) (state_after h) (state_after h') xs rs x r
+pub progress_push : (N : ℕ) (h h' : List PlainCommit) (fresh fresh' : ℕ) (words words' : List ℕ) (xs : List (List ℕ)) (rs : List Reply) (x : List ℕ) (r : Reply)
+    → Progress N h fresh words xs rs → Answers N h h' fresh fresh' words words' x r → Progress N h' fresh' words' (xs ++ x ∷ []) (rs ++ r ∷ [])
+progress_push N h h' fresh fresh' words words' xs rs x r p a = record {
+  lawful = λ H W g. lawful_push H W N (beginning 1) (state_after h fresh) (state_after h' fresh') xs rs x r
       (p.lawful H W (record {
         history = prefix_of_prefix h h' H (history_grows h h' r a.commits) g.history;
         log = prefix_of_prefix words words' W a.longer g.log;

@@ -1,5 +1,5 @@
 -- Which reply may follow a text in a state, and the state after it.
-use Rattle.std.specs.Prelude.{◌≡◌, ℕ, ◌+◌, ◌-◌, ◌<◌, ◌≤◌, List, [], ◌∷◌, map, length, take, Option, Some, None, slice_get}
+use Rattle.std.specs.Prelude.{◌≡◌, ℕ, ◌+◌, ◌-◌, ◌<◌, ◌≤◌, List, [], ◌∷◌, map, length, take, Option, Some, None, Ok, Err, slice_get}
 use Rattle.ct_word.specs.Sublist.{IsSublist}
 use Rattle.ct_word.specs.Change.{PlainCommit}
 use Rattle.ct_query.specs.Plain.{PlainQuery, PlainAction, PlainStatement}
@@ -14,9 +14,13 @@ use Rattle.ct_transcript.specs.declared.reply.Refusal.{Refusal}
 use Rattle.ct_transcript.specs.declared.reply.Refusal.TheVariants as refusal
 use Rattle.ct_transcript.specs.Means.{IsAnswer, Means}
 use Rattle.ct_query.specs.Agrees.{Agrees}
-use Rattle.ct_serve.specs.declared.statement.Statement.{Statement}
-use Rattle.ct_serve.specs.Statements.{ReadsAs, IsNoStatement}
-use Rattle.ct_serve.specs.Names.{resolve}
+use Rattle.ct_parse.specs.declared.tree.Statement.{Statement}
+use Rattle.ct_resolve.specs.declared.error.ResolveError.{ResolveError}
+use Rattle.ct_resolve.specs.declared.error.ResolveError.TheVariants as name
+use Rattle.ct_resolve.specs.Found.{Found}
+use Rattle.ct_resolve.specs.Statements.{resolved}
+use Rattle.ct_serve.specs.Built.{IsBuilt}
+use Rattle.ct_serve.specs.Statements.{ReadsAs, IsTextFault}
 use Rattle.ct_serve.specs.State.{Transaction, SessionState, carried, drawn, extended}
 
 -- H is the run's history, W the words of its log, N their capacity
@@ -32,14 +36,15 @@ module _ (H : List PlainCommit) (W : List ℕ) (N : ℕ) where
   Sees s at actions = SeesIn s.transaction s at actions
 
   -- a text is read as a statement that resolves to this, at a version and after these actions
-  pub record ResolvesTo (x : List ℕ) (at : ℕ) (actions : List PlainAction) (r : Option PlainStatement) : Type 0 where
+  pub record ResolvesTo (s : SessionState) (x : List ℕ) (at : ℕ) (actions : List PlainAction) (r : Found PlainStatement) : Type 0 where
     pub statement : Statement
     pub reads : ReadsAs x statement
-    pub resolved : resolve (schema (take at H) actions) statement ≡ r
+    pub gives : resolved (schema (take at H) actions) s.session s.fresh statement ≡ r
 
-  -- a text asks for this, at a version and after these actions
-  abbrev pub Asks : List ℕ → ℕ → List PlainAction → PlainStatement → Type 0
-  Asks x at actions st = ResolvesTo x at actions (Some st)
+  -- a text asks for this, in a form that is built
+  pub record Asks (s : SessionState) (x : List ℕ) (at : ℕ) (actions : List PlainAction) (st : PlainStatement) : Type 0 where
+    pub found : ResolvesTo s x at actions (Ok st)
+    pub built : IsBuilt found.statement
 
   -- commit m of the history is this one
   abbrev pub IsCommit : ℕ → PlainCommit → Type 0
@@ -50,7 +55,7 @@ module _ (H : List PlainCommit) (W : List ℕ) (N : ℕ) where
     pub actions : List PlainAction
     pub query : PlainQuery
     pub sees : Sees s at actions
-    pub asks : Asks x at actions (plain.Asks ask.Rows answer.columns query)
+    pub asks : Asks s x at actions (plain.Asks ask.Rows answer.columns query)
     pub plus_is : plus ≡ length actions
     pub formed : IsAnswer answer
     pub means : Means answer query (take at H) actions
@@ -62,7 +67,7 @@ module _ (H : List PlainCommit) (W : List ℕ) (N : ℕ) where
     pub action : PlainAction
     pub commit : PlainCommit
     pub none_open : s.transaction ≡ None
-    pub asks : Asks x (m - 1) [] (plain.Act action)
+    pub asks : Asks s x (m - 1) [] (plain.Act action)
     pub later : s.seen < m
     pub stands : IsCommit m commit
     pub session : commit.session ≡ s.session
@@ -70,23 +75,31 @@ module _ (H : List PlainCommit) (W : List ℕ) (N : ℕ) where
     pub agrees : Agrees (take (m - 1) H) (action ∷ []) commit.changes
     pub next_is : next ≡ carried m (record s { fresh = s.fresh + drawn action; commits = s.commits + 1 })
 
-  -- the text is no statement
-  pub record IsTextFault (s : SessionState) (x : List ℕ) (at : ℕ) : Type 0 where
-    pub found : IsNoStatement x
+  -- the text is read as no statement, for this reason
+  pub record IsUnread (s : SessionState) (x : List ℕ) (at : ℕ) (why : Refusal) : Type 0 where
+    pub found : IsTextFault x why
     pub at_is : at ≡ s.seen
 
-  -- the text is a statement whose names or counts do not fit what it sees
-  pub record IsNotYet (s : SessionState) (x : List ℕ) (at : ℕ) : Type 0 where
+  -- the text is a statement with a name or a count that does not fit what it sees; this is its first fault
+  pub record IsNameFault (s : SessionState) (x : List ℕ) (at : ℕ) (e : ResolveError) : Type 0 where
     pub actions : List PlainAction
     pub sees : Sees s at actions
-    pub found : ResolvesTo x at actions None
+    pub found : ResolvesTo s x at actions (Err e)
+
+  -- the text is a statement without a fault, in a form that is not built
+  pub record IsNotYet (s : SessionState) (x : List ℕ) (at : ℕ) : Type 0 where
+    pub actions : List PlainAction
+    pub statement : PlainStatement
+    pub sees : Sees s at actions
+    pub found : ResolvesTo s x at actions (Ok statement)
+    pub not_built : IsBuilt found.statement → ⊥
 
   -- the log is full
   pub record IsFull (s : SessionState) (x : List ℕ) (at : ℕ) : Type 0 where
     pub actions : List PlainAction
     pub statement : PlainStatement
     pub sees : Sees s at actions
-    pub asks : Asks x at actions statement
+    pub asks : Asks s x at actions statement
     pub full : length W ≡ N
 
   -- a refusal that leaves the state but for the version seen
@@ -95,7 +108,15 @@ module _ (H : List PlainCommit) (W : List ℕ) (N : ℕ) where
 
   -- which refusal may follow
   abbrev pub LawfulRefusal : SessionState → List ℕ → ℕ → Refusal → SessionState → Type 0
-  LawfulRefusal s x at refusal.NotAStatement next = IsTextFault s x at × Keeps s at next
+  LawfulRefusal s x at refusal.NotAStatement next = IsUnread s x at refusal.NotAStatement × Keeps s at next
+  LawfulRefusal s x at refusal.TooDeep next = IsUnread s x at refusal.TooDeep × Keeps s at next
+  LawfulRefusal s x at refusal.NumberRange next = IsUnread s x at refusal.NumberRange × Keeps s at next
+  LawfulRefusal s x at refusal.UnknownTable next = IsNameFault s x at name.UnknownTable × Keeps s at next
+  LawfulRefusal s x at refusal.TableExists next = IsNameFault s x at name.TableExists × Keeps s at next
+  LawfulRefusal s x at refusal.UnknownColumn next = IsNameFault s x at name.UnknownColumn × Keeps s at next
+  LawfulRefusal s x at refusal.AmbiguousColumn next = IsNameFault s x at name.AmbiguousColumn × Keeps s at next
+  LawfulRefusal s x at refusal.DuplicateName next = IsNameFault s x at name.DuplicateName × Keeps s at next
+  LawfulRefusal s x at refusal.ColumnCount next = IsNameFault s x at name.ColumnCount × Keeps s at next
   LawfulRefusal s x at refusal.NotYet next = IsNotYet s x at × Keeps s at next
   LawfulRefusal s x at refusal.Full next = IsFull s x at × Keeps s at next
   LawfulRefusal s x at refusal.Memory next = (at ≡ s.seen) × Keeps s at next

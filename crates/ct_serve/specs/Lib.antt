@@ -1,5 +1,7 @@
 pub mod Statements
-pub mod Names
+pub mod Built
+pub mod Simple
+pub mod Fits
 pub mod State
 pub mod Printed
 pub mod Selected

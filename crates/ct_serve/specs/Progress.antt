@@ -11,9 +11,9 @@ use Rattle.ct_serve.specs.LawfulReply.{LawfulReply}
 use Rattle.ct_serve.specs.Sessions.{AreLawful, committed_of, commits_by, EndsAtFull}
 use Rattle.ct_serve.specs.State.{beginning}
 
--- the state of the first session when it has seen all of a history, which it made alone
-abbrev pub state_after : List PlainCommit → SessionState
-state_after h = record { session = 1; seen = length h; fresh = 0; commits = length h; transaction = None }
+-- the state of the first session when it has seen all of a history, which it made alone, and drawn so many nulls
+abbrev pub state_after : List PlainCommit → ℕ → SessionState
+state_after h fresh = record { session = 1; seen = length h; fresh = fresh; commits = length h; transaction = None }
 
 -- whether a reply says that the log is full
 abbrev pub is_full : Reply → Bool
@@ -32,8 +32,8 @@ pub data Commits (h : List PlainCommit) : List PlainCommit → Reply → Type 0 
   one : (c : PlainCommit) → c.session ≡ 1 → Commits h (h ++ c ∷ []) (reply.Committed (length h + 1))
 
 -- a reply that is lawful however history and log go on
-pub record Answers (N : ℕ) (h h' : List PlainCommit) (words words' : List ℕ) (x : List ℕ) (r : Reply) : Type 0 where
-  pub lawful : (H : List PlainCommit) (W : List ℕ) → GoesOn N h' H words' W → LawfulReply H W N (state_after h) x r (state_after h')
+pub record Answers (N : ℕ) (h h' : List PlainCommit) (fresh fresh' : ℕ) (words words' : List ℕ) (x : List ℕ) (r : Reply) : Type 0 where
+  pub lawful : (H : List PlainCommit) (W : List ℕ) → GoesOn N h' H words' W → LawfulReply H W N (state_after h fresh) x r (state_after h' fresh')
   pub longer : IsPrefix words words'
   pub room : length words' ≤ N
   pub commits : Commits h h' r
@@ -41,8 +41,8 @@ pub record Answers (N : ℕ) (h h' : List PlainCommit) (words words' : List ℕ)
   pub not_full : (m : ℕ) → committed_of r ≡ Some m → length words < N
 
 -- what a session has done: its replies to these texts are lawful, and its commits are the history
-pub record Progress (N : ℕ) (h : List PlainCommit) (words : List ℕ) (xs : List (List ℕ)) (rs : List Reply) : Type 0 where
-  pub lawful : (H : List PlainCommit) (W : List ℕ) → GoesOn N h H words W → AreLawful H W N (beginning 1) xs rs (state_after h)
+pub record Progress (N : ℕ) (h : List PlainCommit) (fresh : ℕ) (words : List ℕ) (xs : List (List ℕ)) (rs : List Reply) : Type 0 where
+  pub lawful : (H : List PlainCommit) (W : List ℕ) → GoesOn N h H words W → AreLawful H W N (beginning 1) xs rs (state_after h fresh)
   pub commits : commits_by 1 1 h ≡ filter_map committed_of rs
   pub full : EndsAtFull rs
   pub filled : list_any is_full rs ≡ true → length words ≡ N

@@ -1,35 +1,142 @@
 // One statement of the session.
 
-ghost use Rattle.std.specs.Prelude.{◌≡◌, ◌<◌, ◌^◌, length, IfOk, IfErr};
+ghost use Rattle.std.specs.Prelude.{◌≡◌, ◌<◌, ◌^◌, [], length, IfOk, IfErr};
 ghost use mathlib.Core.List.{IsPrefix};
 ghost use Rattle.ct_history.specs.Kept.{kept_of};
+ghost use Rattle.ct_query.specs.Schema.{schema};
+ghost use Rattle.ct_query.specs.Views.{statement_of};
 ghost use Rattle.ct_rewrite.specs.History.{plain_history};
 ghost use Rattle.ct_table.specs.Denotes.{Denotes};
-ghost use Rattle.ct_serve.specs.Catalogue.{IsCatalogue, IsAdmittedEverywhere, IsPrepared, IsPreparedText, IsRefusedAs, IsRefusedText, resolved_at, unread_refusal};
+ghost use Rattle.ct_serve.specs.Fits.{Fits};
+ghost use Rattle.ct_serve.specs.Catalogue.{IsCatalogue, IsAdmittedEverywhere, IsPrepared, IsPreparedStatement, IsPreparedText, IsRefusedStatement, IsRefusedText, IsWant, name_refusal};
 ghost use Rattle.ct_serve.specs.Progress.{Answers};
 
+use crate::built::is_built;
 use crate::creating::offer_table;
-use crate::inserting::offer_row;
-use crate::reading::{ReadingError, read};
-use crate::selecting::answer_select;
-use crate::session::{Prepared, Session, commit, version};
-use crate::statement::Statement;
+use crate::inserting::offer_rows;
+use crate::reading::read;
+use crate::selecting::answer_query;
+use crate::session::{Prepared, SESSION, Session, commit, version};
 use ct_arena::{Arena, Pass, Site};
+use ct_parse::Statement;
+use ct_query::{Action, Resolved};
+use ct_resolve::{ResolveError, resolve};
 use ct_rewrite::Commit;
 use ct_table::Db;
 use ct_transcript::{Refusal, Reply};
 use std::alloc::Global;
 
+/// The refusal of a name or a count that does not fit.
+fn named(e: ResolveError) -> Refusal
+    ensures { result ≡ name_refusal e }
+{
+    match e {
+        ResolveError::UnknownTable => Refusal::UnknownTable,
+        ResolveError::TableExists => Refusal::TableExists,
+        ResolveError::UnknownColumn => Refusal::UnknownColumn,
+        ResolveError::AmbiguousColumn => Refusal::AmbiguousColumn,
+        ResolveError::DuplicateName => Refusal::DuplicateName,
+        ResolveError::ColumnCount => Refusal::ColumnCount,
+        ResolveError::Memory => Refusal::Memory,
+    }
+}
+
+/// What a statement of a built form asks for, names being positions. The pass has the words of it.
+///
+/// # Errors
+/// `Full` where the log has no room, `Memory`.
+fn perform<N: Site>(
+    alloc: Global,
+    arena: &Arena<N>,
+    pass: &mut Pass<N>,
+    tables: &Db,
+    history: &[Commit],
+    fresh: u32,
+    resolved: Resolved,
+) -> Result<Prepared, Refusal>
+    requires few { length history.now < 2 ^ 16 }
+    requires denotes { Denotes pass.old.words (plain_history history.now) tables.now }
+    requires everywhere { IsAdmittedEverywhere (plain_history history.now) }
+    requires fits { Fits (schema (plain_history history.now) []).tables (statement_of resolved) }
+    ensures longer { IsPrefix pass.old.words pass.new.words }
+    ensures kept { kept_of pass.new ≡ kept_of pass.old }
+    ensures ok { IfOk result (IsPrepared (plain_history history.now) pass.new.words fresh (statement_of resolved)) }
+    ensures err { IfErr result (λ why. IsWant N.log.cap pass.new.words why) }
+{
+    match resolved {
+        Resolved::Act(Action::Create { name, columns }) => {
+            let offer = offer_table(alloc, arena, pass, tables, history, fresh, name, columns)?;
+            Ok(Prepared::Commit(offer))
+        }
+        Resolved::Act(
+            Action::InsertRows {
+                name,
+                rows,
+                pred: _always,
+            },
+        ) => {
+            let offer = offer_rows(alloc, arena, pass, tables, history, fresh, name, rows)?;
+            Ok(Prepared::Commit(offer))
+        }
+        Resolved::Ask {
+            ask: _rows,
+            columns,
+            query,
+        } => {
+            let columns = columns.as_slice();
+            let answer = answer_query(alloc, arena, pass, tables, history, columns, &query)?;
+            Ok(Prepared::Answer(answer))
+        }
+        _ => unreachable!(),
+    }
+}
+
+/// What a statement asks for. The pass has the words of it.
+///
+/// # Errors
+/// The first fault of its names and counts; `NotYet` where it has none and is not built; `Full`; `Memory`.
+fn prepare_statement<N: Site>(
+    alloc: Global,
+    arena: &Arena<N>,
+    pass: &mut Pass<N>,
+    tables: &Db,
+    history: &[Commit],
+    fresh: u32,
+    statement: &Statement,
+) -> Result<Prepared, Refusal>
+    requires few { length history.now < 2 ^ 16 }
+    requires denotes { Denotes pass.old.words (plain_history history.now) tables.now }
+    requires everywhere { IsAdmittedEverywhere (plain_history history.now) }
+    ensures longer { IsPrefix pass.old.words pass.new.words }
+    ensures kept { kept_of pass.new ≡ kept_of pass.old }
+    ensures ok { IfOk result (IsPreparedStatement (plain_history history.now) pass.new.words fresh statement.now) }
+    ensures err { IfErr result (IsRefusedStatement (plain_history history.now) N.log.cap pass.new.words fresh statement.now) }
+{
+    let schema = tables.schema(alloc)?;
+    let resolved = match resolve(alloc, &schema, SESSION, fresh, statement) {
+        Ok(resolved) => resolved,
+        Err(e) => return Err(named(e)),
+    };
+    if !is_built(statement) {
+        return Err(Refusal::NotYet);
+    }
+    match perform(alloc, arena, pass, tables, history, fresh, resolved) {
+        Ok(prepared) => Ok(prepared),
+        Err(why) => Err(why),
+    }
+}
+
 /// What a text asks for. The pass has the words of it.
 ///
 /// # Errors
-/// The refusal of the text.
+/// The refusal of the text, or of the statement that it is read as.
 fn prepare<N: Site>(
     alloc: Global,
     arena: &Arena<N>,
     pass: &mut Pass<N>,
     tables: &Db,
     history: &[Commit],
+    fresh: u32,
     text: &str,
 ) -> Result<Prepared, Refusal>
     requires few { length history.now < 2 ^ 16 }
@@ -37,58 +144,14 @@ fn prepare<N: Site>(
     requires everywhere { IsAdmittedEverywhere (plain_history history.now) }
     ensures longer { IsPrefix pass.old.words pass.new.words }
     ensures kept { kept_of pass.new ≡ kept_of pass.old }
-    ensures ok { IfOk result (λ p. IsPreparedText (plain_history history.now) pass.new.words text.now p) }
-    ensures err { IfErr result (λ why. IsRefusedText (plain_history history.now) N.log.cap pass.new.words text.now why) }
+    ensures ok { IfOk result (IsPreparedText (plain_history history.now) pass.new.words fresh text.now) }
+    ensures err { IfErr result (IsRefusedText (plain_history history.now) N.log.cap pass.new.words fresh text.now) }
 {
     match read(alloc, text) {
-        Ok(statement) => resolve(alloc, arena, pass, tables, history, statement),
-        Err(e) => Err(unread(e)),
-    }
-}
-
-/// Why a text that is not read is refused.
-fn unread(e: ReadingError) -> Refusal
-    ensures { result ≡ unread_refusal e }
-{
-    match e {
-        ReadingError::NotAStatement => Refusal::NotAStatement,
-        ReadingError::Memory => Refusal::Memory,
-    }
-}
-
-/// What a statement asks for. The pass has the words of it.
-///
-/// # Errors
-/// `NotYet` where a name does not fit the schema, `Full`, `Memory`.
-fn resolve<N: Site>(
-    alloc: Global,
-    arena: &Arena<N>,
-    pass: &mut Pass<N>,
-    tables: &Db,
-    history: &[Commit],
-    statement: Statement,
-) -> Result<Prepared, Refusal>
-    requires few { length history.now < 2 ^ 16 }
-    requires denotes { Denotes pass.old.words (plain_history history.now) tables.now }
-    requires everywhere { IsAdmittedEverywhere (plain_history history.now) }
-    ensures longer { IsPrefix pass.old.words pass.new.words }
-    ensures kept { kept_of pass.new ≡ kept_of pass.old }
-    ensures ok { IfOk result (λ p. IsPrepared (plain_history history.now) pass.new.words (resolved_at (plain_history history.now) statement) p) }
-    ensures err { IfErr result (λ why. IsRefusedAs (resolved_at (plain_history history.now) statement) N.log.cap pass.new.words why) }
-{
-    match statement {
-        Statement::Create { name, columns } => {
-            let offer = offer_table(alloc, arena, pass, tables, history, name, columns)?;
-            Ok(Prepared::Commit(offer))
+        Ok(statement) => {
+            prepare_statement(alloc, arena, pass, tables, history, fresh, &statement)
         }
-        Statement::Insert { name, cells } => {
-            let offer = offer_row(alloc, arena, pass, tables, history, name, cells)?;
-            Ok(Prepared::Commit(offer))
-        }
-        Statement::Select { name, filter } => {
-            let answer = answer_select(alloc, arena, pass, tables, history, name.as_str(), filter)?;
-            Ok(Prepared::Answer(answer))
-        }
+        Err(why) => Err(why),
     }
 }
 
@@ -102,7 +165,7 @@ pub fn execute<N: Site>(
     requires kept { IsCatalogue N.log.cap session.pass session.keeper session.tables session.history.items }
     requires few { length session.history.items < 2 ^ 16 }
     ensures kept { IsCatalogue N.log.cap result.0.pass result.0.keeper result.0.tables result.0.history.items }
-    ensures answers { Answers N.log.cap (plain_history session.history.items) (plain_history result.0.history.items) session.pass.words result.0.pass.words text.now result.1 }
+    ensures answers { Answers N.log.cap (plain_history session.history.items) (plain_history result.0.history.items) session.fresh result.0.fresh session.pass.words result.0.pass.words text.now result.1 }
 {
     let at = version(session.history.as_slice());
     if let Err(_) = session.history.reserve(1) {
@@ -115,6 +178,7 @@ pub fn execute<N: Site>(
         &mut session.pass,
         &session.tables,
         session.history.as_slice(),
+        session.fresh,
         text,
     ) {
         Ok(Prepared::Commit(offer)) => {

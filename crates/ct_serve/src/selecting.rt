@@ -1,30 +1,36 @@
-// SELECT: the answer to a query of the rows of one table.
+// Queries: the answer of the rows of one table.
 
 ghost use Rattle.std.specs.Prelude.{◌≡◌, ◌<◌, [], length, IfOk, IfErr, IsTrue};
 ghost use mathlib.Core.List.{IsPrefix};
 ghost use Rattle.ct_word.specs.declared.kinds.Class.TheVariants as class;
+ghost use Rattle.ct_word.specs.declared.values.Term.TheVariants as termed;
+ghost use Rattle.ct_word.specs.Condition.{Same};
 ghost use Rattle.ct_word.specs.WellFormed.{is_place_of};
+ghost use Rattle.ct_query.specs.Plain as plain;
 ghost use Rattle.ct_query.specs.Schema.{schema};
+ghost use Rattle.ct_query.specs.Views.{query_of};
+ghost use Rattle.ct_query.specs.declared.action.Ask.TheVariants as ask;
 ghost use Rattle.ct_history.specs.Kept.{kept_of};
 ghost use Rattle.ct_rewrite.specs.History.{plain_history};
 ghost use Rattle.ct_condition.specs.Terms.{FitsFields};
 ghost use Rattle.ct_table.specs.Denotes.{Denotes};
 ghost use Rattle.ct_table.specs.Tables.{AreRows, IsRow};
-ghost use Rattle.ct_serve.specs.Catalogue.{IsAdmittedEverywhere, IsAnswerFor, IsRefusedAs, IsWant};
-ghost use Rattle.ct_serve.specs.Names.{columns_of, selected_from};
+ghost use Rattle.ct_serve.specs.Fits.{Fits};
+ghost use Rattle.ct_serve.specs.Simple.{IsLiteral};
+ghost use Rattle.ct_serve.specs.Catalogue.{IsAdmittedEverywhere, IsAnswerFor, IsWant};
 ghost use Rattle.ct_serve.specs.Printed.{IsPrinted};
-ghost use Rattle.ct_serve.specs.Selected.{IsFiltered};
+ghost use Rattle.ct_serve.specs.Selected.{IsSelected};
 
-use crate::names::{as_term, position_of};
 use crate::printing::answer_of;
 use crate::session::wanting;
-use crate::statement::{Cell, Equality};
+use crate::simple::{Simple, parts};
 use ct_arena::{Arena, Pass, Site};
-use ct_condition::term;
+use ct_condition::term as put_term;
+use ct_query::Query;
 use ct_rewrite::Commit;
 use ct_table::{CTable, Db, select};
 use ct_transcript::{Answer, Refusal};
-use ct_word::Memory;
+use ct_word::{Memory, Term, Text};
 use std::alloc::Global;
 
 /// The answer of all rows of a table.
@@ -39,8 +45,8 @@ fn answer_all<N: Site>(alloc: Global, pass: &Pass<N>, table: &CTable) -> Result<
     answer_of(alloc, pass.words(), columns, table.rows.as_slice())
 }
 
-/// The answer of the rows of a table that have a cell's value in a column, each under the condition that it has. The
-/// pass has the words of the conditions.
+/// The answer of the rows of a table that have a constant's value in a column, each under the condition that it has.
+/// The pass has the words of the conditions.
 ///
 /// # Errors
 /// `Full` where the log has no room, `Memory`.
@@ -50,17 +56,17 @@ fn answer_where<N: Site>(
     pass: &mut Pass<N>,
     table: &CTable,
     column: u32,
-    cell: &Cell,
+    constant: &Term,
 ) -> Result<Answer, Refusal>
     requires rows { AreRows pass.old.words (length table.now.columns) table.now.rows }
     requires column { column < length table.now.columns }
+    requires constant { IsLiteral constant.now }
     ensures longer { IsPrefix pass.old.words pass.new.words }
     ensures kept { kept_of pass.new ≡ kept_of pass.old }
-    ensures ok { IfOk result (IsFiltered pass.old.words table.now.columns table.now.rows column cell.now) }
+    ensures ok { IfOk result (IsSelected pass.old.words table.now.columns table.now.rows (Same (termed.Column column) constant.now)) }
     ensures err { IfErr result (λ why. IsWant N.log.cap pass.new.words why) }
 {
-    let value = as_term(cell)?;
-    let place = match term(arena, pass, &value) {
+    let place = match put_term(arena, pass, constant) {
         Ok(place) => place,
         Err(_) => return Err(Refusal::Full),
     };
@@ -71,53 +77,41 @@ fn answer_where<N: Site>(
     Ok(answer_of(alloc, pass.words(), columns, rows.as_slice())?)
 }
 
-/// A position as a column's. A table of 2^32 columns would not fit any memory of today.
-fn column(position: usize) -> Result<u32, Memory>
-    ensures { IfOk result (λ column. column ≡ position) }
-{
-    u32::try_from(position).map_err(|_| Memory)
-}
-
-/// The answer to a query of a table's rows, all or those that a filter asks for. The pass has the words of it.
+/// The answer to a query of one table, of all its rows or of those that have a constant in a column. The pass has the
+/// words of it.
 ///
 /// # Errors
-/// `NotYet` where there is no such table or column, `Full` where the log has no room, `Memory`.
-pub fn answer_select<N: Site>(
+/// `Full` where the log has no room, `Memory`.
+pub fn answer_query<N: Site>(
     alloc: Global,
     arena: &Arena<N>,
     pass: &mut Pass<N>,
     tables: &Db,
     history: &[Commit],
-    name: &str,
-    filter: Option<Equality>,
+    columns: &[Text],
+    query: &Query,
 ) -> Result<Answer, Refusal>
     requires denotes { Denotes pass.old.words (plain_history history.now) tables.now }
     requires everywhere { IsAdmittedEverywhere (plain_history history.now) }
+    requires fits { Fits (schema (plain_history history.now) []).tables (plain.Asks ask.Rows columns.now (query_of query.now)) }
     ensures longer { IsPrefix pass.old.words pass.new.words }
     ensures kept { kept_of pass.new ≡ kept_of pass.old }
-    ensures ok { IfOk result (IsAnswerFor (plain_history history.now) (selected_from (columns_of (schema (plain_history history.now) []).tables name.now) name.now filter)) }
-    ensures err { IfErr result (λ why. IsRefusedAs (selected_from (columns_of (schema (plain_history history.now) []).tables name.now) name.now filter) N.log.cap pass.new.words why) }
+    ensures ok { IfOk result (IsAnswerFor (plain_history history.now) columns.now (query_of query.now)) }
+    ensures err { IfErr result (λ why. IsWant N.log.cap pass.new.words why) }
 {
-    let Some(table) = tables.get(name) else {
-        return Err(Refusal::NotYet);
+    let Simple { table, filter } = parts(query);
+    let Some(table) = tables.get(table) else {
+        unreachable!()
     };
-    let Some(equality) = filter else {
-        return Ok(answer_all(alloc, pass, table)?);
-    };
-    let Some(position) = position_of(table.columns.as_slice(), equality.column.as_str()) else {
-        return Err(Refusal::NotYet);
-    };
-    let column = column(position)?;
-    match answer_where(alloc, arena, pass, table, column, &equality.cell) {
-        Ok(answer) => Ok(answer),
-        Err(why) => Err(why),
+    match filter {
+        None => Ok(answer_all(alloc, pass, table)?),
+        Some((column, constant)) => answer_where(alloc, arena, pass, table, column, constant),
     }
 }
 
 #[cfg(test)]
 mod tests {
     use super::answer_where;
-    use crate::statement::Cell;
     use ct_arena::{Arena, Blank, Pass, Site};
     use ct_condition::{eq, term};
     use ct_rewrite::Node;
@@ -175,7 +169,8 @@ mod tests {
         let x = term(&arena, &mut pass, &null(alloc)?)?;
         let rows = [row(alloc, &arena, &mut pass, x)?];
         let filled = insert(alloc, &arena, &mut pass, &table(alloc)?, &rows)?;
-        match answer_where(alloc, &arena, &mut pass, &filled, 0, &Cell::Number(2)) {
+        let two = Term::Value(Value::Int(2));
+        match answer_where(alloc, &arena, &mut pass, &filled, 0, &two) {
             Ok(answer) => Ok(answer),
             Err(_) => Err("refused".into()),
         }

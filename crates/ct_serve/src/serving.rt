@@ -34,9 +34,10 @@ fn answer<N: Site, R: Wait, G: Gate + Sync>(
 ) -> Result<(Session<N>, Vec<Reply>), Memory>
     requires kept { IsCatalogue N.log.cap session.pass session.keeper session.tables session.history.items }
     requires begins { session.history.items ≡ [] }
+    requires none_drawn { session.fresh ≡ 0 }
     requires few { length statements.now < 2 ^ 16 }
     ensures kept { IfOk result (λ r. IsCatalogue N.log.cap r.0.pass r.0.keeper r.0.tables r.0.history.items) }
-    ensures progress { IfOk result (λ r. Progress N.log.cap (plain_history r.0.history.items) r.0.pass.words (map (λ t. t.now) statements.now) r.1.items) }
+    ensures progress { IfOk result (λ r. Progress N.log.cap (plain_history r.0.history.items) r.0.fresh r.0.pass.words (map (λ t. t.now) statements.now) r.1.items) }
 {
     let mut replies = Vec::with_capacity(alloc, statements.len())?;
     for statement in statements {
@@ -65,9 +66,10 @@ fn execute_script<N: Site, R: Wait, G: Gate + Sync>(
 ) -> Result<(Session<N>, Vec<Reply>), Memory>
     requires kept { IsCatalogue N.log.cap session.pass session.keeper session.tables session.history.items }
     requires begins { session.history.items ≡ [] }
+    requires none_drawn { session.fresh ≡ 0 }
     requires few { length (texts script.now) < 2 ^ 16 }
     ensures kept { IfOk result (λ r. IsCatalogue N.log.cap r.0.pass r.0.keeper r.0.tables r.0.history.items) }
-    ensures progress { IfOk result (λ r. Progress N.log.cap (plain_history r.0.history.items) r.0.pass.words (texts script.now) r.1.items) }
+    ensures progress { IfOk result (λ r. Progress N.log.cap (plain_history r.0.history.items) r.0.fresh r.0.pass.words (texts script.now) r.1.items) }
 {
     let statements = split(alloc, script)?;
     answer(rt, alloc, arena, session, statements.as_slice(), gate)
@@ -81,6 +83,7 @@ fn begin<N: Site>(alloc: Global, blank: Blank) -> Result<(Arena<N>, Session<N>),
     requires { blank ≡ N.log }
     ensures kept { IfOk result (λ r. IsCatalogue N.log.cap r.1.pass r.1.keeper r.1.tables r.1.history.items) }
     ensures begins { IfOk result (λ r. r.1.history.items ≡ []) }
+    ensures none_drawn { IfOk result (λ r. r.1.fresh ≡ 0) }
 {
     let (arena, mut keeper) = Arena::make(blank);
     let _words = keeper.words();
@@ -90,6 +93,7 @@ fn begin<N: Site>(alloc: Global, blank: Blank) -> Result<(Arena<N>, Session<N>),
         keeper,
         tables: Db::empty(alloc),
         history: Vec::new(alloc),
+        fresh: 0,
     };
     Ok((arena, session))
 }
@@ -106,7 +110,7 @@ fn end<N: Site>(
     replies: Vec<Reply>,
 ) -> Result<Transcript, Memory>
     requires kept { IsCatalogue N.log.cap session.pass session.keeper session.tables session.history.items }
-    requires progress { Progress N.log.cap (plain_history session.history.items) session.pass.words (texts script) replies.items }
+    requires progress { Progress N.log.cap (plain_history session.history.items) session.fresh session.pass.words (texts script) replies.items }
     ensures lawful { IfOk result (λ transcript. Lawful transcript N.log.cap) }
     ensures script { IfOk result (λ transcript. map (λ s. s.script) transcript.sessions ≡ script ∷ []) }
 {

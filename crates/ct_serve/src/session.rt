@@ -10,22 +10,28 @@ use ct_rewrite::Commit;
 use ct_table::{Db, TableError};
 use ct_transcript::{Answer, Refusal, Reply};
 
-/// The session's pass, the keeper's pass, the tables, and the commits as they are printed.
+/// The number of the one session.
+pub const SESSION: u32 = 1;
+
+/// The session's pass, the keeper's pass, the tables, the commits as they are printed, and the number of the last null
+/// that the session drew, 0 before the first.
 #[derive(Drop)]
 pub struct Session<N: Site> {
     pub pass: Pass<N>,
     pub keeper: KeeperPass<N>,
     pub tables: Db,
     pub history: Vec<Commit>,
+    pub fresh: u32,
 }
 
-/// A change that is ready to be committed: its change list in the log, the commit that prints it, and the tables
-/// after it.
+/// A change that is ready to be committed: its change list in the log, the commit that prints it, and the tables and
+/// the number of the session's last null after it.
 #[derive(Drop)]
 pub struct Offer {
     pub changes: u32,
     pub commit: Commit,
     pub tables: Db,
+    pub fresh: u32,
 }
 
 /// What a statement asks for, ready to be given: an offer to be committed, or an answer.
@@ -61,18 +67,20 @@ pub fn commit<N: Site>(arena: &Arena<N>, session: Session<N>, offer: Offer) -> (
     requires ready { IsReady (plain_history session.history.items) session.pass.words offer.changes offer.commit offer.tables }
     ensures kept { IsCatalogue N.log.cap result.0.pass result.0.keeper result.0.tables result.0.history.items }
     ensures longer { IsPrefix session.pass.words result.0.pass.words }
-    ensures outcome { CommitOf N.log.cap session.pass.words result.0.pass.words session.history.items offer.commit result.0.history.items result.1 }
+    ensures outcome { CommitOf N.log.cap session.pass.words result.0.pass.words session.history.items session.fresh offer.commit offer.fresh result.0.history.items result.0.fresh result.1 }
 {
     let Session {
         pass,
         mut keeper,
         tables,
         mut history,
+        fresh,
     } = session;
     let Offer {
         changes,
         commit,
         tables: after,
+        fresh: drawn,
     } = offer;
     let at = version(history.as_slice());
     let mut guest = keeper.enter(arena, pass);
@@ -84,6 +92,7 @@ pub fn commit<N: Site>(arena: &Arena<N>, session: Session<N>, offer: Offer) -> (
                 keeper,
                 tables: after,
                 history,
+                fresh: drawn,
             };
             (session, Reply::Committed { at: at + 1 })
         }
@@ -93,6 +102,7 @@ pub fn commit<N: Site>(arena: &Arena<N>, session: Session<N>, offer: Offer) -> (
                 keeper,
                 tables,
                 history,
+                fresh,
             };
             let why = Refusal::Full;
             (session, Reply::Refused { at, why })

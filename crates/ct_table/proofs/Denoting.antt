@@ -1,25 +1,23 @@
 -- Tables go on denoting the history when it grows by a commit, and the tables by the same change.
 use Rattle.std.proofs.Common.{◌≡◌, ℕ, Bool, true, false, ◌||◌, List, [], ◌∷◌, ◌++◌, map, refl, ap, sym, subst, ◌∙◌}
-use Rattle.std.specs.Prelude.{Option, Some, None, option_and_then, IfSome, All, length, filter_map, if◌then◌else◌}
+use Rattle.std.specs.Prelude.{Option, Some, None, option_and_then, IfSome, length, filter_map, if◌then◌else◌}
 use Rattle.std.specs.List.{IsDistinct, AllByRecursion, list_any}
 use Rattle.std.proofs.lemmas.Bool.{false≢true}
-use Rattle.std.proofs.lemmas.List.{append-nil, append_assoc, map_push}
+use Rattle.std.proofs.lemmas.List.{append-nil, map_push}
 use Rattle.std.proofs.lemmas.Map.Keys.{IsDistinct-push, IsDistinct-head, IsDistinct-tail}
 use Rattle.std.proofs.lemmas.Cmp.{nat_list_eq_equiv}
-use Rattle.std.proofs.lemmas.List.Elements.{All-head, All-tail, All-cons, All-nil, All-weaker, All-push, filter_map-append, All-from_recursion, recursion_from_All}
+use Rattle.std.proofs.lemmas.List.Elements.{All-nil, All-weaker, All-push, filter_map-append, All-from_recursion, recursion_from_All}
 use mathlib.Core.List.{IsPrefix}
 use Rattle.ct_word.specs.declared.values.Value.{Value}
-use Rattle.ct_word.specs.declared.values.Term.{Term}
 use Rattle.ct_word.specs.declared.values.CRow.{CRow}
 use Rattle.ct_word.specs.Value.{World, same_text, same_cells}
 use Rattle.ct_word.specs.Sublist.{IsSublist, ended, left_out, taken}
-use Rattle.ct_word.specs.Change.{PlainRow, PlainChange, Create, Insert, PlainCommit}
+use Rattle.ct_word.specs.Change.{PlainRow, Create, Insert, PlainCommit}
 use Rattle.ct_word.proofs.Alike.{text_decides}
-use Rattle.ct_query.specs.declared.schema.Heading.{Heading}
 use Rattle.ct_query.specs.Database.{Relation, Database, SameSet, with_tuples}
 use Rattle.ct_query.specs.Step.{shown_rows, step_change, inserted}
 use Rattle.ct_query.specs.Worlds.{world, changes_of, after_changes}
-use Rattle.ct_query.specs.Patterns.{patterns, pattern_changes, Patterns, pattern_change}
+use Rattle.ct_query.specs.Patterns.{patterns, pattern_changes, pattern_change}
 use Rattle.ct_query.specs.Schema.{schema, created_by_change}
 use Rattle.ct_query.proofs.Laws.{world_commit, patterns_commit, changes_of-snoc}
 use Rattle.ct_table.specs.Tables.{cells_of, value_of_rows, AreRows}

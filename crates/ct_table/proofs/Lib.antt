@@ -2,5 +2,12 @@ pub mod Growing
 pub mod Sets
 pub mod Denoting
 pub mod Selecting
-pub mod Inserting
+pub mod Firsts
+pub mod Merges
+pub mod Projecting
+pub mod Building
+pub mod Pairing
+pub mod Holding
+pub mod Comparing
+pub mod Placed
 pub mod Shared

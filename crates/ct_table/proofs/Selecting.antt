@@ -47,7 +47,7 @@ both_chosen old mid new r column term same place grown is equal h =
     (λ v row i. holds v row (condition_in_prefix old mid r.cond grown (place_within old class.Cond r.cond is) i) && equal.truth_is v row i)
 
 -- the cell of the tuple that a row stands for
-cell_of_tuple : (ws : List ℕ) (v : World) (cells : List ℕ) (column : ℕ) → column < length cells
+pub cell_of_tuple : (ws : List ℕ) (v : World) (cells : List ℕ) (column : ℕ) → column < length cells
     → cell_at (tuple_at v (map (term_at ws) cells)) column ≡ at v [] (term_at ws (slice_index_or cells column 0))
 cell_of_tuple ws v cells column lt =
     get_or-map (at v []) (map (term_at ws) cells) column (term_at ws 0) other_zero (subst (λ n. column < n) (sym (length-map cells (term_at ws))) lt)
@@ -57,6 +57,9 @@ pub shown-append : (v : World) (rs ss : List PlainRow) → shown_rows v (rs ++ s
 shown-append v rs ss =
     ap (map (λ (r : PlainRow). tuple_at v r.cells)) (filter-append (λ (r : PlainRow). holds_at v r.condition) rs ss)
     ∙ map-append (λ (r : PlainRow). tuple_at v r.cells) (filter (λ r. holds_at v r.condition) rs) (filter (λ r. holds_at v r.condition) ss)
+
+pub value-append : (ws : List ℕ) (v : World) (rs ss : List CRow) → value_of_rows ws v (rs ++ ss) ≡ value_of_rows ws v rs ++ value_of_rows ws v ss
+value-append ws v rs ss = ap (shown_rows v) (map-append (plain_crow ws) rs ss) ∙ shown-append v (map (plain_crow ws) rs) (map (plain_crow ws) ss)
 
 pub value-push : (ws : List ℕ) (v : World) (rs : List CRow) (r : CRow) → value_of_rows ws v (rs ++ r ∷ []) ≡ value_of_rows ws v rs ++ value_of_rows ws v (r ∷ [])
 value-push ws v rs r = ap (shown_rows v) (map_push (plain_crow ws) rs r) ∙ shown-append v (map (plain_crow ws) rs) (plain_crow ws r ∷ [])
@@ -73,7 +76,7 @@ picked true e t h q = sym (ap (λ b. cond b (t ∷ []) []) q)
 picked false e t h q = refl
 
 -- one row that is under a further test of its tuple
-one_picked : (v : World) (x y : PlainRow) (h : List Value → Bool) → tuple_at v x.cells ≡ tuple_at v y.cells
+pub one_picked : (v : World) (x y : PlainRow) (h : List Value → Bool) → tuple_at v x.cells ≡ tuple_at v y.cells
     → holds_at v x.condition ≡ (holds_at v y.condition && h (tuple_at v y.cells)) → shown_rows v (x ∷ []) ≡ filter h (shown_rows v (y ∷ []))
 one_picked v x y h t e =
     one_shown v x _ e ∙ ap (λ u. cond (holds_at v y.condition && h (tuple_at v y.cells)) (u ∷ []) []) t

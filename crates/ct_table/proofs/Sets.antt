@@ -1,5 +1,5 @@
 -- Sets of tuples: equality, union, selection.
-use Rattle.std.proofs.Common.{◌≡◌, ℕ, Bool, true, false, ◌||◌, List, [], ◌∷◌, ◌++◌, refl, ap, sym, ◌∙◌}
+use Rattle.std.proofs.Common.{◌≡◌, Bool, true, false, ◌||◌, List, [], ◌∷◌, ◌++◌, refl, ap, sym, ◌∙◌}
 use Rattle.ct_word.specs.declared.values.Value.{Value}
 use Rattle.ct_word.specs.Value.{same_tuple}
 use Rattle.ct_query.specs.Database.{has_tuple, SameSet}

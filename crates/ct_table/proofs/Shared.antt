@@ -10,7 +10,7 @@ use Rattle.indexmap.specs.IndexMap.{insert_entry}
 use Rattle.ct_word.specs.Value.{same_text}
 use Rattle.ct_word.proofs.Alike.{text_decides}
 use Rattle.ct_table.specs.declared.table.CTable.{CTable}
-use Rattle.ct_table.specs.Denotes.{TableView, with_table}
+use Rattle.ct_table.specs.Denotes.{with_table}
 use Rattle.ct_table.specs.Shared.{entry_of}
 use Rattle.ct_table.proofs.Denoting.{unalike}
 

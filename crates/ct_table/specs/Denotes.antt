@@ -6,7 +6,6 @@ use Rattle.ct_word.specs.Value.{World, same_text}
 use Rattle.ct_word.specs.Sublist.{IsSublist}
 use Rattle.ct_word.specs.Change.{PlainCommit}
 use Rattle.ct_query.specs.declared.schema.Heading.{Heading}
-use Rattle.ct_query.specs.declared.schema.Schema.{Schema}
 use Rattle.ct_query.specs.Plain.{Table}
 use Rattle.ct_query.specs.Database.{Relation, Database, SameSet}
 use Rattle.ct_query.specs.Worlds.{world}

@@ -1,5 +1,5 @@
 -- Conditional tables over places: when they are well formed, and what they are worth at a valuation.
-use Rattle.std.specs.Prelude.{◌≡◌, ◌≢◌, ℕ, List, length, map, IsTrue, All}
+use Rattle.std.specs.Prelude.{◌≡◌, ◌≢◌, ℕ, Bool, not, List, [], ◌∷◌, length, map, filter, IsTrue, All}
 use Rattle.std.specs.List.{IsDistinct}
 use Rattle.ct_word.specs.declared.kinds.Class.TheVariants as class
 use Rattle.ct_word.specs.declared.values.Value.{Value}
@@ -29,3 +29,8 @@ pub record AreRows (words : List ℕ) (width : ℕ) (rs : List CRow) : Type 0 wh
   pub each : All (IsRow words width) rs
   pub distinct : IsDistinct same_cells (cells_of words rs)
   pub possible : All (λ r. r.cond ≢ 1) rs
+
+-- the items of a list, each once, where it stands first
+abbrev pub firsts : {A : Type 0} → (A → A → Bool) → List A → List A
+firsts same [] = []
+firsts same (x ∷ xs) = x ∷ filter (λ y. not (same x y)) (firsts same xs)

@@ -2,16 +2,34 @@
 #![tactic(auto)]
 
 mod db;
+mod deletion;
+mod difference;
 mod error;
 mod insertion;
+mod intersection;
+mod matching;
+mod merging;
+#[cfg(test)]
+mod operator_tests;
+mod placing;
+mod products;
+mod projection;
+mod rows;
 mod selection;
 mod table;
 #[cfg(test)]
 mod tests;
+mod unions;
 
 pub use ct_word::CRow;
 pub use db::Db;
+pub use deletion::delete;
+pub use difference::except;
 pub use error::TableError;
 pub use insertion::insert;
+pub use intersection::intersect;
+pub use products::product;
+pub use projection::project;
 pub use selection::select;
 pub use table::CTable;
+pub use unions::union;

@@ -16,11 +16,12 @@ ghost use Rattle.ct_table.specs.Selection.{has_value, chosen_at};
 ghost use Rattle.ct_table.specs.declared.error.TableError.TheVariants as fault;
 
 use crate::error::TableError;
+use crate::rows::{names, under};
 use crate::table::CTable;
 use ct_arena::{Arena, Full, Pass, Site};
 use ct_condition::{and, eq};
-use ct_word::{CRow, List, Text};
-use std::alloc::{AllocError, Global};
+use ct_word::{CRow, List};
+use std::alloc::Global;
 
 /// The place of a row's cell in a column.
 fn cell(row: &CRow, column: u32) -> u32
@@ -52,30 +53,13 @@ fn select_row<N: Site>(
 }
 
 /// Whether a condition is the word false, which no valuation satisfies.
-pub(crate) fn is_false<N: Site>(pass: &Pass<N>, place: u32) -> bool
+fn is_false<N: Site>(pass: &Pass<N>, place: u32) -> bool
     ensures decides { IsTrue result ↔ (place ≡ 1) }
     ensures room { length pass.now.words ≤ N.log.cap }
     ensures never { IsTrue result → (v : World) → holds_at v (condition_at pass.now.words place) ≡ false }
 {
     let _ = pass.words();
     place == 1
-}
-
-/// The same cells under another condition.
-pub(crate) fn under(row: &CRow, cond: u32) -> Result<CRow, AllocError>
-    ensures { IfOk result (λ r. r ≡ record { cells = row.now.cells; cond = cond }) }
-{
-    Ok(CRow {
-        cells: row.cells.clone()?,
-        cond,
-    })
-}
-
-/// A copy of the names of columns.
-pub(crate) fn names(columns: &List<Text>) -> Result<List<Text>, AllocError>
-    ensures { IfOk result (λ copy. copy ≡ columns.now) }
-{
-    columns.clone()
 }
 
 /// The rows of a table whose value in a column is that of a term, each under the condition that it is.

@@ -48,6 +48,14 @@ answer_lines a ps = name_lines ps ++ global_lines a.nodes ps a.global ++ answer_
 -- a refusal as it is printed
 abbrev pub refusal_text : Refusal → List ℕ
 refusal_text refusal.NotAStatement = codes "NotAStatement"
+refusal_text refusal.TooDeep = codes "TooDeep"
+refusal_text refusal.NumberRange = codes "NumberRange"
+refusal_text refusal.UnknownTable = codes "UnknownTable"
+refusal_text refusal.TableExists = codes "TableExists"
+refusal_text refusal.UnknownColumn = codes "UnknownColumn"
+refusal_text refusal.AmbiguousColumn = codes "AmbiguousColumn"
+refusal_text refusal.DuplicateName = codes "DuplicateName"
+refusal_text refusal.ColumnCount = codes "ColumnCount"
 refusal_text refusal.NotYet = codes "NotYet"
 refusal_text refusal.Full = codes "Full"
 refusal_text refusal.Memory = codes "Memory"

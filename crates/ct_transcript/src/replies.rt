@@ -123,6 +123,14 @@ fn refusal_name(refusal: &Refusal) -> &'static str
 {
     match refusal {
         Refusal::NotAStatement => "NotAStatement",
+        Refusal::TooDeep => "TooDeep",
+        Refusal::NumberRange => "NumberRange",
+        Refusal::UnknownTable => "UnknownTable",
+        Refusal::TableExists => "TableExists",
+        Refusal::UnknownColumn => "UnknownColumn",
+        Refusal::AmbiguousColumn => "AmbiguousColumn",
+        Refusal::DuplicateName => "DuplicateName",
+        Refusal::ColumnCount => "ColumnCount",
         Refusal::NotYet => "NotYet",
         Refusal::Full => "Full",
         Refusal::Memory => "Memory",

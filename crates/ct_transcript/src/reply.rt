@@ -11,9 +11,25 @@ use std::alloc::{AllocError, AllocFailed};
 /// Why a statement was refused.
 #[derive(Drop)]
 pub enum Refusal {
-    /// The text is no statement of the grammar.
+    /// The text is no statement of the grammar: it has an open text or a stray byte, or its tokens spell none.
     NotAStatement,
-    /// The text is a statement, but a name or a count in it does not fit the tables.
+    /// The text nests deeper than 64, or has more than 64 set operators.
+    TooDeep,
+    /// A number of the text is outside 64 bits signed.
+    NumberRange,
+    /// A table that is named is not there.
+    UnknownTable,
+    /// A table is to be created whose name is there.
+    TableExists,
+    /// No table in scope has a column that is named.
+    UnknownColumn,
+    /// Two or more tables in scope have a column that is named without its table.
+    AmbiguousColumn,
+    /// Two columns of a new table, or two tables of a FROM, have one name.
+    DuplicateName,
+    /// Numbers of columns differ.
+    ColumnCount,
+    /// The statement has no fault, and is of a form that is not built yet.
     NotYet,
     /// The log has as many words as its capacity, and the statement needs another one.
     Full,

@@ -288,27 +288,21 @@ fn deep_answer(alloc: Global) -> Result<Answer, AllocError> {
 }
 
 fn refusals(alloc: Global) -> Result<List<Reply>, AllocError> {
-    list(
-        alloc,
-        [
-            Reply::Refused {
-                at: 0,
-                why: Refusal::NotAStatement,
-            },
-            Reply::Refused {
-                at: 0,
-                why: Refusal::NotYet,
-            },
-            Reply::Refused {
-                at: 0,
-                why: Refusal::Full,
-            },
-            Reply::Refused {
-                at: 0,
-                why: Refusal::Memory,
-            },
-        ],
-    )
+    let reasons = [
+        Refusal::NotAStatement,
+        Refusal::TooDeep,
+        Refusal::NumberRange,
+        Refusal::UnknownTable,
+        Refusal::TableExists,
+        Refusal::UnknownColumn,
+        Refusal::AmbiguousColumn,
+        Refusal::DuplicateName,
+        Refusal::ColumnCount,
+        Refusal::NotYet,
+        Refusal::Full,
+        Refusal::Memory,
+    ];
+    list(alloc, reasons.map(|why| Reply::Refused { at: 0, why }))
 }
 
 fn changes(alloc: Global) -> Result<[Change; 4], AllocError> {
@@ -352,9 +346,17 @@ fn each_form_is_printed(rt: HostRuntime) -> Result<(), Fail> {
           (1)\n\
         session 2\n\
         1 refused NotAStatement\n\
-        2 refused NotYet\n\
-        3 refused Full\n\
-        4 refused Memory\n\
+        2 refused TooDeep\n\
+        3 refused NumberRange\n\
+        4 refused UnknownTable\n\
+        5 refused TableExists\n\
+        6 refused UnknownColumn\n\
+        7 refused AmbiguousColumn\n\
+        8 refused DuplicateName\n\
+        9 refused ColumnCount\n\
+        10 refused NotYet\n\
+        11 refused Full\n\
+        12 refused Memory\n\
         history\n\
         1 by 2\n  \
           insert into t ('') if false\n  \

@@ -6,4 +6,4 @@ use Rattle.ct_checker.proofs.paths.has_links.Given as goal
 
 abbrev pub invariant-loop-place : goal.invariant-loop-place
 invariant-loop-place l =
-    list_all (has l.clause) (no_links l.last (drop l.place-index l.rest)) ≡ list_all (has l.clause) (no_links l.first l.rest)
+    list_all (has l.marks.falses) (no_links l.last (drop l.place-index l.rest)) ≡ list_all (has l.marks.falses) (no_links l.first l.rest)

@@ -19,6 +19,6 @@ returns-then-d-eq-TRUE-clause-truth c = elim c.then-d-eq-TRUE.branch [
 
 pub returns-then-negates-clause-truth : goal.returns-then-negates-clause-truth
 returns-then-negates-clause-truth c = elim c.then-negates.branch [
-  | then-negates-via-then-negates w ↦ negation_and c.args.words.now c.requires.formed c.requires.begins c.requires.small c.args.c c.args.d c.requires.left c.requires.right (c.negates.ensures w.if-negates.true)
-  | then-negates-via-else-negates+then-negates-2 w ↦ and_negation c.args.words.now c.requires.formed c.requires.begins c.requires.small c.args.c c.args.d c.requires.left c.requires.right (w.negates-else-negates.ensures w.if-negates-2.true)
+  | then-negates-via-then-negates w ↦ negation_and c.args.words.now c.requires.formed c.requires.begins c.requires.small c.args.c c.args.d c.requires.left c.requires.right (c.negates.ensures.negates w.if-negates.true)
+  | then-negates-via-else-negates+then-negates-2 w ↦ and_negation c.args.words.now c.requires.formed c.requires.begins c.requires.small c.args.c c.args.d c.requires.left c.requires.right (w.negates-else-negates.ensures.negates w.if-negates-2.true)
 ]

@@ -1,4 +1,4 @@
-use Rattle.std.proofs.Common.{◌≡◌, ◌<◌, ◌^◌}
+use Rattle.std.proofs.Common.{◌≡◌, ◌≤◌, ◌+◌, ◌<◌, ◌^◌, ◌++◌, length}
 use Rattle.std.specs.Prelude.{IsTrue, encode_utf8_all}
 use mathlib.Core.List.{IsPrefix}
 use Rattle.ct_word.specs.declared.kinds.Class.TheVariants as class
@@ -13,6 +13,8 @@ invariant-loop-character g l = record {
   class : IsTrue (is_place_of (g.I.Interner.list l.pass) class.Text l.place);
   small : l.place < 2 ^ 28;
   longer : IsPrefix (g.I.Interner.list l.fn.pass) (g.I.Interner.list l.pass);
+  spelled : encode_utf8_all l.yielded ++ l.character-iterator.rest.now ≡ l.text;
+  made : g.I.Interner.made l.pass ≤ g.I.Interner.made l.fn.pass + (length l.yielded + 1);
   kept : g.I.Interner.kept l.pass ≡ g.I.Interner.kept l.fn.pass;
   lent : g.I.Interner.lent l.pass ≡ g.I.Interner.lent l.fn.pass;
 }

@@ -1,28 +1,25 @@
-use Rattle.std.proofs.Common.{ap, sym, ◌∙◌}
+use Rattle.std.proofs.Common.{[], ◌∷◌, ◌++◌, Some, sym, ◌∙◌, subst}
+use Rattle.std.proofs.lemmas.List.Elements.{same_from_all_zip}
+use Rattle.ct_word.specs.Change.{Create}
+use Rattle.ct_word.specs.Reading.{IsChangeList, change_list_at}
+use Rattle.ct_query.specs.Plain as plain
 use Rattle.ct_rewrite.specs.History.{plain_history}
-use Rattle.ct_table.specs.Denotes.{find_table}
-use Rattle.ct_serve.specs.Names.{has_repeat}
-use Rattle.ct_serve.proofs.Offering.{not_new, repeated, fits_new, fits_some, creation_is, want_refuses}
+use Rattle.ct_word.proofs.Prefixes.{prefix_of_prefix}
+use Rattle.ct_serve.specs.Catalogue.{IsOfferFor}
+use Rattle.ct_serve.proofs.Committing.{length_printed}
+use Rattle.ct_serve.proofs.Offering.{new_table_is, creation_is, with_parts, without_nodes}
 use Rattle.ct_serve.proofs.creating.offer_table.Goals as goal
 
-pub returns-in-Some-clause-err : goal.returns-in-Some-clause-err
-returns-in-Some-clause-err g c =
-    not_new (plain_history c.args.history.now) c.args.pass.now.words c.args.tables.now c.requires.denotes c.args.name c.args.columns _
-    (ap (λ n. find_table c.args.tables.now n) (sym c.as_str.ensures) ∙ c.in-Some.ensures)
-
-pub returns-then-has_repeat-clause-err : goal.returns-then-has_repeat-clause-err
-returns-then-has_repeat-clause-err g c =
-    repeated (plain_history c.args.history.now) c.args.pass.now.words c.args.tables.now c.requires.denotes c.args.name c.args.columns
-    (ap (λ n. find_table c.args.tables.now n) (sym c.as_str.ensures) ∙ c.in_default.ensures)
-    (ap (λ ns. has_repeat ns) (sym c.as_slice.ensures) ∙ sym c.has_repeat.ensures ∙ c.if-has_repeat.true)
-
-pub returns-in-Ok-clause-ok : goal.returns-in-Ok-clause-ok
-returns-in-Ok-clause-ok g c =
-    creation_is (plain_history c.args.history.now) c.new_table.new.pass.words c.args.name c.args.columns _ c.in-Ok.offer.changes c.in-Ok.offer.commit c.in-Ok.offer.tables
-    (fits_new (plain_history c.args.history.now) c.args.pass.now.words c.args.tables.now c.requires.denotes c.args.name c.args.columns (ap (λ n. find_table c.args.tables.now n) (sym c.as_str.ensures) ∙ c.in_default.ensures) (ap (λ ns. has_repeat ns) (sym c.as_slice.ensures) ∙ sym c.has_repeat.ensures ∙ c.if-has_repeat.false))
-    c.in-Ok.ensures.ok
-
-pub returns-in-Err-clause-err : goal.returns-in-Err-clause-err
-returns-in-Err-clause-err g c =
-    want_refuses _ g.N.Site.log.cap c.new_table.new.pass.words c.in-Err.why
-    (fits_some (fits_new (plain_history c.args.history.now) c.args.pass.now.words c.args.tables.now c.requires.denotes c.args.name c.args.columns (ap (λ n. find_table c.args.tables.now n) (sym c.as_str.ensures) ∙ c.in_default.ensures) (ap (λ ns. has_repeat ns) (sym c.as_slice.ensures) ∙ sym c.has_repeat.ensures ∙ c.if-has_repeat.false))) c.in-Err.ensures.err
+pub returns-clause-ok : goal.returns-clause-ok
+returns-clause-ok g c =
+    let h = plain_history c.args.history.now in
+    let words = c.create.new.pass.words in
+    subst (λ m. IsOfferFor h words c.args.fresh (plain.Create c.args.name c.args.columns) c.in-Ok-create.changes m c.in_ok-tables.tables c.args.fresh)
+    (sym (c.in_ok-commit.ensures ∙ without_nodes c.version.result c.new-2.result c.args.name c.args.columns c.new-2.ensures))
+    (creation_is h words c.args.fresh c.args.name c.args.columns c.in-Ok-create.changes _ c.in_ok-tables.tables
+    (new_table_is h c.args.pass.now.words words c.args.tables.now c.args.name c.args.columns c.in-Ok.list c.in-Ok-create.changes c.version.result c.in_ok-tables.tables
+    c.requires.denotes c.requires.everywhere c.requires.absent (prefix_of_prefix c.args.pass.now.words c.no_changes.new.pass.words words c.in-Ok.ensures.longer c.in-Ok-create.ensures.longer)
+    (c.version.ensures ∙ sym (length_printed c.args.history.now))
+    (c.in_ok-tables.ensures ∙ with_parts c.args.tables.now c.in_ok-clone-2.field-0 c.args.name c.in_ok-clone.field-0 c.args.columns c.new.result c.in_ok-clone-2.ensures.cases (same_from_all_zip _ c.args.columns c.in_ok-clone.field-0 c.in_ok-clone.ensures.cases (λ x y r. r)) c.new.ensures)
+    c.no_changes.new.pass.words c.in-Ok.ensures.stands c.in-Ok-create.ensures.place
+    (c.in-Ok-create.ensures.stands ∙ (λ i. Some (IsChangeList (change_list_at c.no_changes.new.pass.words c.in-Ok.list ++ Create (c.as_str.ensures i) (c.as_slice.ensures i) ∷ []))))))

@@ -1,11 +1,11 @@
-use Rattle.std.proofs.Common.{◌≡◌, All, IsTrue, map, length, ap, sym, subst, ◌∙◌}
+use Rattle.std.proofs.Common.{◌≡◌, All, IsTrue, map, ap, sym, subst, ◌∙◌}
 use Rattle.std.proofs.lemmas.List.{take_all}
 use Rattle.ct_word.specs.declared.kinds.Class.TheVariants as class
-use Rattle.ct_word.specs.Condition.{True}
 use Rattle.ct_word.specs.Reading.{term_at, plain_crow}
 use Rattle.ct_word.specs.WellFormed.{is_place_of}
-use Rattle.ct_table.specs.Tables.{IsRow}
+use Rattle.ct_history.specs.Rows.{IsRowOf}
 use Rattle.ct_word.proofs.Prefixes.{prefix_of_prefix}
+use Rattle.ct_serve.specs.Catalogue.{row_under_true}
 use Rattle.ct_serve.proofs.NewRow.{more_places, more_terms, row_is, row_stands}
 use Rattle.ct_serve.proofs.inserting.row_of.Goals as goal
 
@@ -27,13 +27,12 @@ loop-term-preserved g c =
 pub returns-clause-row : goal.returns-clause-row
 returns-clause-row g c =
     let words = c.loop-term.pass.words in
-    subst (λ ps. IsRow words (length c.args.terms.now) (record { cells = ps; cond = 0 })) (sym c.from_vec.ensures)
-    (row_is words c.words-words.ensures.begins c.loop-term.cells.items c.args.terms.now c.loop-term.invariant.places
-    (c.loop-term.invariant.stand ∙ take_all c.loop-term.term-index c.args.terms.now c.loop-term-test.false))
+    subst (λ ps. IsRowOf words (record { cells = ps; cond = 0 })) (sym c.from_vec.ensures)
+    (row_is words c.words-words.ensures.begins c.loop-term.cells.items c.loop-term.invariant.places)
 
 pub returns-clause-stands : goal.returns-clause-stands
 returns-clause-stands g c =
     let words = c.loop-term.pass.words in
-    subst (λ ps. plain_crow words (record { cells = ps; cond = 0 }) ≡ record { cells = c.args.terms.now; condition = True }) (sym c.from_vec.ensures)
-    (row_stands words c.words-words.ensures.begins c.loop-term.cells.items c.args.terms.now c.loop-term.invariant.places
+    subst (λ ps. plain_crow words (record { cells = ps; cond = 0 }) ≡ row_under_true c.args.terms.now) (sym c.from_vec.ensures)
+    (row_stands words c.words-words.ensures.begins c.loop-term.cells.items c.args.terms.now
     (c.loop-term.invariant.stand ∙ take_all c.loop-term.term-index c.args.terms.now c.loop-term-test.false))

@@ -11,7 +11,7 @@ invariant-loop-statement g l =
     record {
       kept : IsCatalogue cap l.session.pass l.session.keeper l.session.tables l.session.history.items;
       few : length l.session.history.items ≤ l.statement-index;
-      progress : Progress cap (plain_history l.session.history.items) l.session.pass.words (take l.statement-index (map (λ t. t.now) l.statements)) l.replies.items;
+      progress : Progress cap (plain_history l.session.history.items) l.session.fresh l.session.pass.words (take l.statement-index (map (λ t. t.now) l.statements)) l.replies.items;
       count : length l.replies.items ≡ l.statement-index;
       room : length l.statements ≤ vec_capacity l.replies;
     }

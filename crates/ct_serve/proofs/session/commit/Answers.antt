@@ -36,8 +36,8 @@ returns-in-Ok-clause-kept g c =
 
 pub returns-in-Ok-clause-outcome : goal.returns-in-Ok-clause-outcome
 returns-in-Ok-clause-outcome g c =
-    subst (λ h. CommitOf g.N.Site.log.cap c.args.session.pass.words c.leave.result.words c.args.session.history.items c.args.offer.commit h (reply.Committed (c.version-at.result + 1))) (sym c.push_reserved.ensures.items)
-    (subst (λ n. CommitOf g.N.Site.log.cap c.args.session.pass.words c.leave.result.words c.args.session.history.items c.args.offer.commit (c.args.session.history.items ++ c.args.offer.commit ∷ []) (reply.Committed (n + 1))) (sym (c.version-at.ensures ∙ ap (λ xs. length xs) c.as_slice.ensures.value))
+    subst (λ h. CommitOf g.N.Site.log.cap c.args.session.pass.words c.leave.result.words c.args.session.history.items c.args.session.fresh c.args.offer.commit c.args.offer.fresh h c.args.offer.fresh (reply.Committed (c.version-at.result + 1))) (sym c.push_reserved.ensures.items)
+    (subst (λ n. CommitOf g.N.Site.log.cap c.args.session.pass.words c.leave.result.words c.args.session.history.items c.args.session.fresh c.args.offer.commit c.args.offer.fresh (c.args.session.history.items ++ c.args.offer.commit ∷ []) c.args.offer.fresh (reply.Committed (n + 1))) (sym (c.version-at.ensures ∙ ap (λ xs. length xs) c.as_slice.ensures.value))
     (committed (had_room g.N.Site.log.cap c.args.session.pass.words c.enter-guest.new.self.words c.append_commit.new.self.words _ c.enter-guest.ensures.seen c.in-Ok.ensures.alone c.in-Ok.ensures.room)))
 
 pub returns-in-Err-clause-kept : goal.returns-in-Err-clause-kept
@@ -55,5 +55,5 @@ returns-in-Err-clause-kept g c =
 
 pub returns-in-Err-clause-outcome : goal.returns-in-Err-clause-outcome
 returns-in-Err-clause-outcome g c =
-    subst (λ n. CommitOf g.N.Site.log.cap c.args.session.pass.words c.leave-in-Err.result.words c.args.session.history.items c.args.offer.commit c.args.session.history.items (reply.Refused n refusal.Full)) (sym (c.version-at.ensures ∙ ap (λ xs. length xs) c.as_slice.ensures.value))
+    subst (λ n. CommitOf g.N.Site.log.cap c.args.session.pass.words c.leave-in-Err.result.words c.args.session.history.items c.args.session.fresh c.args.offer.commit c.args.offer.fresh c.args.session.history.items c.args.session.fresh (reply.Refused n refusal.Full)) (sym (c.version-at.ensures ∙ ap (λ xs. length xs) c.as_slice.ensures.value))
     (filled (ap (λ p. length p.words) c.leave-in-Err.ensures.pass ∙ (c.in-Err.ensures.full.0 refl).0))

@@ -1,36 +1,60 @@
-use Rattle.std.proofs.Common.{◌≡◌, ◌∙◌, ◌++◌, length, ap}
-use Rattle.std.specs.List.{filter}
-use Rattle.ct_table.specs.Insertion.{is_possible}
-use Rattle.ct_table.proofs.Inserting.{kept_gathers, kept_rows, gathered_values, gathered_part}
+use Rattle.std.proofs.Common.{◌≡◌, ◌++◌, ◌∙◌, length, map, ap, sym, subst}
+use Rattle.std.specs.Prelude.{All, IfOk}
+use Rattle.std.proofs.lemmas.List.{map-append}
+use Rattle.std.proofs.lemmas.List.Elements.{All-append}
+use Rattle.std.proofs.lemmas.Result.{IfOk-weaker}
+use Rattle.ct_word.specs.declared.values.CRow.{CRow}
+use Rattle.ct_word.specs.Value.{same_cells}
+use Rattle.ct_word.specs.Sublist.{IsSublist}
+use Rattle.ct_word.specs.Reading.{term_at}
+use Rattle.ct_query.specs.Database.{SameSet}
+use Rattle.ct_table.specs.Tables.{IsRow, AreRows, value_of_rows, cells_of, firsts}
+use Rattle.ct_table.proofs.Firsts.{part_of_firsts}
+use Rattle.ct_table.proofs.Selecting.{value-append}
 use Rattle.ct_table.proofs.insertion.insert.Goals as goal
+
+pub merged-requires : goal.merged-requires
+merged-requires g c =
+    let old = g.I.Interner.list c.args.pass.now in
+    let width = length c.args.table.now.columns in
+    let rows = c.args.table.now.rows in
+    let more = c.args.rows.now in
+    let listed : c.copy_rows-2.new.to.items ≡ rows ++ more =
+    c.in_ok-copy_rows-2.ensures ∙ ap (λ l. l ++ more) (c.in_ok-copy_rows.ensures ∙ (λ i. c.new-all.ensures.items i ++ c.as_slice.ensures i)) in
+    record {
+      rows = subst (λ n. All (IsRow old n) c.copy_rows-2.new.to.items) (ap (λ cs. length cs) (sym c.in_ok-columns.ensures))
+          (subst (All (IsRow old width)) (sym listed) (All-append (IsRow old width) rows more c.requires.table.each c.requires.rows));
+    }
 
 pub returns-clause-rows : goal.returns-clause-rows
 returns-clause-rows g c =
-    let old = c.args.pass.now.words in
-    let new = c.merged-gathered.new.pass.words in
-    let width = length c.args.table.now.columns in
-    let done = c.args.table.now.rows ++ c.args.rows.now in
-    let out = c.in_ok-gathered.gathered.items in
-    let e : c.from_vec.result ≡ filter is_possible out = c.from_vec.ensures ∙ c.in_ok-kept.ensures ∙ ap (filter is_possible) c.as_slice.ensures.value in
-    kept_rows old new width done out c.from_vec.result e
-    (kept_gathers old new width done out c.from_vec.result c.words.ensures.begins c.words.ensures.formed e c.in_ok-gathered.ensures.rows)
+    subst (λ cs. IfOk c.merged.result (λ out. AreRows (g.I.Interner.list c.merged.new.pass) (length cs) out.rows)) c.in_ok-columns.ensures c.merged.ensures.rows
 
 pub returns-clause-tuples : goal.returns-clause-tuples
-returns-clause-tuples g c =
-    let old = c.args.pass.now.words in
-    let new = c.merged-gathered.new.pass.words in
-    let width = length c.args.table.now.columns in
-    let out = c.in_ok-gathered.gathered.items in
-    let e : c.from_vec.result ≡ filter is_possible out = c.from_vec.ensures ∙ c.in_ok-kept.ensures ∙ ap (filter is_possible) c.as_slice.ensures.value in
-    gathered_values old new width c.args.table.now.rows c.args.rows.now c.from_vec.result
-    (kept_gathers old new width (c.args.table.now.rows ++ c.args.rows.now) out c.from_vec.result c.words.ensures.begins c.words.ensures.formed e c.in_ok-gathered.ensures.rows)
+returns-clause-tuples g c v =
+    let old = g.I.Interner.list c.args.pass.now in
+    let new = g.I.Interner.list c.merged.new.pass in
+    let rows = c.args.table.now.rows in
+    let more = c.args.rows.now in
+    let listed : c.copy_rows-2.new.to.items ≡ rows ++ more =
+    c.in_ok-copy_rows-2.ensures ∙ ap (λ l. l ++ more) (c.in_ok-copy_rows.ensures ∙ (λ i. c.new-all.ensures.items i ++ c.as_slice.ensures i)) in
+    subst (λ l. IfOk c.merged.result (λ out. SameSet (value_of_rows new v out.rows) l)) (ap (value_of_rows old v) listed ∙ value-append old v rows more) (c.merged.ensures.tuples v)
+
+pub returns-clause-order : goal.returns-clause-order
+returns-clause-order g c =
+    let old = g.I.Interner.list c.args.pass.now in
+    let new = g.I.Interner.list c.merged.new.pass in
+    let rows = c.args.table.now.rows in
+    let more = c.args.rows.now in
+    let listed : c.copy_rows-2.new.to.items ≡ rows ++ more =
+    c.in_ok-copy_rows-2.ensures ∙ ap (λ l. l ++ more) (c.in_ok-copy_rows.ensures ∙ (λ i. c.new-all.ensures.items i ++ c.as_slice.ensures i)) in
+    subst (λ l. IfOk c.merged.result (λ out. IsSublist (cells_of new out.rows) (firsts same_cells l)))
+    (ap (cells_of old) listed ∙ map-append (λ (r : CRow). map (term_at old) r.cells) rows more) c.merged.ensures.order
 
 pub returns-clause-part : goal.returns-clause-part
 returns-clause-part g c =
-    let old = c.args.pass.now.words in
-    let new = c.merged-gathered.new.pass.words in
-    let width = length c.args.table.now.columns in
-    let out = c.in_ok-gathered.gathered.items in
-    let e : c.from_vec.result ≡ filter is_possible out = c.from_vec.ensures ∙ c.in_ok-kept.ensures ∙ ap (filter is_possible) c.as_slice.ensures.value in
-    gathered_part old new width c.args.table.now.rows c.args.rows.now c.from_vec.result
-    (kept_gathers old new width (c.args.table.now.rows ++ c.args.rows.now) out c.from_vec.result c.words.ensures.begins c.words.ensures.formed e c.in_ok-gathered.ensures.rows)
+    let old = g.I.Interner.list c.args.pass.now in
+    let new = g.I.Interner.list c.merged.new.pass in
+    let all = cells_of old c.args.table.now.rows ++ cells_of old c.args.rows.now in
+    IfOk-weaker c.merged.result (λ out. IsSublist (cells_of new out.rows) (firsts same_cells all)) (λ out. IsSublist (cells_of new out.rows) all)
+    (λ out. part_of_firsts same_cells (cells_of new out.rows) all) (returns-clause-order g c)

@@ -1,0 +1,90 @@
+-- How many words a predicate is put by.
+use Rattle.std.proofs.Common.{◌≡◌, ℕ, ◌+◌, ◌-◌, ◌≤◌, ◌<◌, Bool, true, false, List, Option, Some, None, Result, Ok, Err, length, take, get_or, nat_eq, inl, inr, refl, ap, sym, ◌∙◌, arith}
+use Rattle.std.specs.Prelude.{is_some, sum_by}
+use Rattle.std.proofs.lemmas.Bool.{cases_eq}
+use Rattle.std.proofs.lemmas.List.{length-take-le}
+use Rattle.std.proofs.lemmas.List.Sums.{sum_by-cons, sum_by_more, sum_by-take-le}
+use Rattle.ct_word.specs.declared.values.Term.{Term}
+use Rattle.ct_query.specs.declared.query.Pred.{Pred, And, Or, Row_of-Pred, end_of-Pred, more_of-Pred, items-the_row-Pred, items_hidden-the_row-Pred-0}
+use Rattle.ct_query.specs.Pred.{condition_of, conditions_of}
+use Rattle.ct_query.specs.Bounds.{connectives, over_all_equalities, all_ops}
+use Rattle.ct_condition.specs.Folding.{FoldsTo, folded_and, folded_or}
+use Rattle.ct_condition.specs.Rows.{term_words, words_on}
+use Rattle.ct_condition.specs.Runs.{run_words}
+use Rattle.ct_condition.proofs.Trees.{row_of}
+
+module _ (cells : List ℕ) where
+  abbrev of_terms : Term → Term → ℕ
+  of_terms s t = term_words cells s + term_words cells t
+
+  abbrev pub of_one : Pred → ℕ
+  of_one p = words_on cells (condition_of p)
+
+  of_row : (n : _) (row : Row_of-Pred n) → over_all_equalities of_terms (conditions_of row) + all_ops (conditions_of row) ≡ sum_by of_one (items-the_row-Pred n row)
+  of_row n end_of-Pred = refl
+  of_row n (more_of-Pred c rest) = let e = of_row _ rest in omega (arith, sum_by-cons of_one c (items-the_row-Pred _ rest))
+
+  joined : (n : _) (row : Row_of-Pred n) → connectives (conditions_of row) ≡ length (items-the_row-Pred n row) - 1
+  joined n end_of-Pred = refl
+  joined n (more_of-Pred c end_of-Pred) = refl
+  joined n (more_of-Pred c (more_of-Pred d rest)) = let e = joined _ (more_of-Pred d rest) in omega arith
+
+  of_list : (cs : List Pred) → words_on cells (condition_of (And cs)) ≡ run_words cells cs
+  of_list cs =
+      let row = row_of (And cs) in
+      let e = of_row row.0 row.1 in
+      let j = joined row.0 row.1 in
+      omega arith ∙ ap (run_words cells) (items_hidden-the_row-Pred-0 cs)
+
+  -- an And is put by the words of its run, and so is an Or
+  pub words_and : (p : Pred) (cs : List Pred) → p ≡ And cs → words_on cells (condition_of p) ≡ run_words cells cs
+  words_and p cs e = ap of_one e ∙ of_list cs
+
+  pub words_or : (p : Pred) (cs : List Pred) → p ≡ Or cs → words_on cells (condition_of p) ≡ run_words cells cs
+  words_or p cs e = ap of_one e ∙ of_list cs
+
+-- a run by its items: m counts the words before the run, m1 those before an item, m2 those after it, m3 those after its connective
+module _ (cells : List ℕ) (ps : List Pred) (i : ℕ) (p : Pred) (within : i < length ps) (is : p ≡ get_or ps i p) (m m1 m2 m3 : ℕ)
+    (before : m1 ≤ m + run_words cells (take i ps)) where
+  abbrev sums : List Pred → ℕ
+  sums qs = sum_by (of_one cells) qs
+
+  more : sums (take (i + 1) ps) ≡ sums (take i ps) + of_one cells p
+  more = sum_by_more (of_one cells) ps i p within ∙ ap (λ q. sums (take i ps) + of_one cells q) (sym is)
+
+  all : sums (take (i + 1) ps) ≤ sums ps
+  all = sum_by-take-le (of_one cells) ps (i + 1)
+
+  pub run_more : m2 ≤ m1 + of_one cells p → (i ≡ 0 → m3 ≡ m2) → m3 ≤ m2 + 1 → m3 ≤ m + run_words cells (take (i + 1) ps)
+  run_more item first next = elim (cases_eq i 0) [
+    | inl e ↦ let same = first e in omega (arith, more, length-take-le i ps (omega arith), length-take-le (i + 1) ps (omega arith))
+    | inr ne ↦ omega (arith, more, length-take-le i ps (omega arith), length-take-le (i + 1) ps (omega arith))
+  ]
+
+  -- an item for which there is no room
+  pub run_stops : m2 < m1 + of_one cells p → m2 < m + run_words cells ps
+  run_stops item = omega (arith, more, all, length-take-le i ps (omega arith))
+
+  -- a connective for which there is none
+  pub run_ends : (i ≡ 0 → ⊥) → m2 ≤ m1 + of_one cells p → m3 ≡ m2 → m3 < m + run_words cells ps
+  run_ends ne item same = omega (arith, more, all, length-take-le i ps (omega arith))
+
+-- an And with true folds, and an Or with false
+true_first : (words : List ℕ) (d : ℕ) (b : Bool) → nat_eq d 1 ≡ b → is_some (folded_and words 0 d) ≡ true
+true_first words d true e = rw e refl
+true_first words d false e = rw e refl
+
+pub and_folds : (words : List ℕ) (c d : ℕ) → c ≡ 0 → is_some (folded_and words c d) ≡ true
+and_folds words c d e = ap (λ p. is_some (folded_and words p d)) e ∙ true_first words d (nat_eq d 1) refl
+
+false_first : (words : List ℕ) (d : ℕ) (b : Bool) → nat_eq d 0 ≡ b → is_some (folded_or words 1 d) ≡ true
+false_first words d true e = rw e refl
+false_first words d false e = rw e refl
+
+pub or_folds : (words : List ℕ) (c d : ℕ) → c ≡ 1 → is_some (folded_or words c d) ≡ true
+or_folds words c d e = ap (λ p. is_some (folded_or words p d)) e ∙ false_first words d (nat_eq d 0) refl
+
+-- what folds is no error
+pub folds_ok : {E : Type 0} (fold : Option ℕ) (w : ℕ) (old new : List ℕ) (r : Result ℕ E) (e : E) → is_some fold ≡ true → FoldsTo fold w old new r → r ≡ Err e → ⊥
+folds_ok (Some place) w old new r e some h is = let clash : Ok place ≡ Err e = sym h.0 ∙ is in cc
+folds_ok None w old new r e some h is = cc

@@ -1,0 +1,28 @@
+use Rattle.std.proofs.Common.{◌∙◌, arith, get_or}
+use Rattle.std.specs.Prelude.{IsTrue}
+use Rattle.std.proofs.lemmas.List.Elements.{All-get_or}
+use Rattle.ct_word.specs.declared.kinds.Class.TheVariants as class
+use Rattle.ct_word.specs.WellFormed.{is_place_of}
+use Rattle.ct_word.proofs.Prefixes.{prefix_same, prefix_of_prefix}
+use Rattle.ct_condition.specs.Truth.{truth_at}
+use Rattle.ct_condition.proofs.Truths.{itself}
+use Rattle.ct_condition.proofs.Runs.{truth_in_prefix, all_more}
+use Rattle.ct_condition.proofs.conditions.all.Goals as goal
+
+pub loop-c-preserved : goal.loop-c-preserved
+loop-c-preserved g c =
+    let first = g.I.Interner.list c.args.pass.now in
+    let old = g.I.Interner.list c.loop-c.pass in
+    let new = g.I.Interner.list c.and.new.pass in
+    let item = get_or c.args.list.now c.loop-c.c-index 0 in
+    let place = All-get_or (λ p. IsTrue (is_place_of first class.Cond p)) c.args.list.now c.loop-c.c-index 0 c.loop-c-test.true c.requires in
+    record {
+      truth =
+          all_more (truth_at first) c.args.list.now c.loop-c.c-index 0 c.loop-c-test.true old old new c.loop-c.place item c.in_ok-place.place (prefix_same old)
+          (truth_in_prefix first old item (truth_at first item) c.loop-c.invariant.longer (itself first item c.words.ensures.small place))
+          c.loop-c.invariant.truth c.in_ok-place.ensures.truth;
+      longer = prefix_of_prefix first old new c.loop-c.invariant.longer c.in_ok-place.ensures.longer;
+      made = omega arith;
+      kept = c.in_ok-place.ensures.kept ∙ c.loop-c.invariant.kept;
+      lent = c.in_ok-place.ensures.lent ∙ c.loop-c.invariant.lent;
+    }

@@ -1,0 +1,69 @@
+-- Which conditions fold to one that stands already, by the first rule that fits.
+use Rattle.std.specs.Prelude.{◌≡◌, ℕ, Bool, true, false, ◌&&◌, ◌||◌, List, Option, Some, None, Result, Ok, nat_eq, slice_get, IfOk, if◌then◌else◌}
+use Rattle.ct_word.specs.declared.kinds.Kind.{Kind}
+use Rattle.ct_word.specs.declared.kinds.Kind.TheVariants as kind
+use Rattle.ct_word.specs.Constant.{is_constant_word}
+use Rattle.ct_word.specs.Word.{kind_of, left_of}
+
+-- the place of the word true or false, with which the words begin
+abbrev pub literal_place : Bool → ℕ
+literal_place true = 0
+literal_place false = 1
+
+-- the place that a word of this kind is the Not of, if its kind is Not
+abbrev pub denied_by : Option Kind → ℕ → Option ℕ
+denied_by (Some kind.Not) a = Some a
+denied_by _ a = None
+
+abbrev pub denied_in : Option ℕ → Option ℕ
+denied_in (Some w) = denied_by (kind_of w) (left_of w)
+denied_in None = None
+
+-- the place that the word at a place is the Not of, if it is one
+abbrev pub denied : List ℕ → ℕ → Option ℕ
+denied words c = denied_in (slice_get words c)
+
+abbrev pub is_place : Option ℕ → ℕ → Bool
+is_place (Some p) d = nat_eq p d
+is_place None d = false
+
+-- whether one of two words is the Not of the other
+abbrev pub are_opposite : List ℕ → ℕ → ℕ → Bool
+are_opposite words c d = is_place (denied words c) d || is_place (denied words d) c
+
+-- whether two places are of constants
+abbrev pub are_constants : List ℕ → ℕ → ℕ → Bool
+are_constants words s t = is_constant_word (slice_get words s) && is_constant_word (slice_get words t)
+
+-- of an equality
+abbrev pub folded_eq : List ℕ → ℕ → ℕ → Option ℕ
+folded_eq words s t =
+    if nat_eq s t then Some 0 else
+    if are_constants words s t then Some 1 else None
+
+-- of a Not
+abbrev pub folded_not : List ℕ → ℕ → Option ℕ
+folded_not words c =
+    if nat_eq c 0 then Some 1 else
+    if nat_eq c 1 then Some 0 else denied words c
+
+-- of an And
+abbrev pub folded_and : List ℕ → ℕ → ℕ → Option ℕ
+folded_and words c d =
+    if nat_eq c 1 || nat_eq d 1 then Some 1 else
+    if nat_eq c 0 then Some d else
+    if nat_eq d 0 || nat_eq c d then Some c else
+    if are_opposite words c d then Some 1 else None
+
+-- of an Or
+abbrev pub folded_or : List ℕ → ℕ → ℕ → Option ℕ
+folded_or words c d =
+    if nat_eq c 0 || nat_eq d 0 then Some 0 else
+    if nat_eq c 1 then Some d else
+    if nat_eq d 1 || nat_eq c d then Some c else
+    if are_opposite words c d then Some 0 else None
+
+-- the answer of a call: the place that is folded to, the words as they were; else the place of this word
+abbrev pub FoldsTo : {E : Type 0} → Option ℕ → ℕ → List ℕ → List ℕ → Result ℕ E → Type 0
+FoldsTo (Some place) w old new result = (result ≡ Ok place) × (new ≡ old)
+FoldsTo None w old new result = IfOk result (λ place. slice_get new place ≡ Some w)

@@ -1,0 +1,166 @@
+// Predicates on rows.
+
+ghost use Rattle.std.specs.Prelude.{◌≡◌, ◌≤◌, ◌+◌, ◌<◌, ◌^◌, length, All, IfOk, OnErr, IsTrue};
+ghost use Rattle.std.specs.List.{list_all, list_any};
+ghost use mathlib.Core.List.{IsPrefix};
+ghost use Rattle.ct_word.specs.Condition.{Same};
+ghost use Rattle.ct_word.specs.WellFormed.{is_place_of};
+ghost use Rattle.ct_word.specs.declared.kinds.Class.TheVariants as class;
+ghost use Rattle.ct_query.specs.Pred.{condition_of};
+ghost use Rattle.ct_condition.specs.Truth.{HasTruth};
+ghost use Rattle.ct_condition.specs.Terms.{FitsFields, AreFitting};
+ghost use Rattle.ct_condition.specs.Runs.{run_words};
+ghost use Rattle.ct_condition.specs.Rows.{cell_for, WorthOn, on_row, term_words, words_on};
+
+use crate::conditions::{and, eq, not, or};
+use crate::folding::literal;
+use crate::interner::Interner;
+use crate::terms::term;
+use ct_arena::{Arena, Full, Site};
+use ct_query::Pred;
+use ct_word::Term;
+
+/// The row's cell for a column; none for another term and for a column past the row's end.
+fn cell(row: &[u32], t: &Term) -> Option<u32>
+    ensures { result ≡ cell_for row.now t.now }
+{
+    match t {
+        Term::Column(k) => row.get(*k as usize).copied(),
+        _ => None,
+    }
+}
+
+/// The place of a term, or of the row's cell where the term is a column of the row.
+fn place_on<N: Site, I: Interner<N>>(
+    arena: &Arena<N>,
+    pass: &mut I,
+    t: &Term,
+    row: &[u32],
+) -> Result<u32, Full>
+    requires fields { FitsFields t.now }
+    requires row { All (λ s. IsTrue (is_place_of (I.list pass.old) class.Term s)) row.now }
+    ensures worth { IfOk result (λ place. WorthOn (I.list pass.old) (I.list pass.new) t.now row.now place) }
+    ensures place { IfOk result (λ place. IsTrue (is_place_of (I.list pass.new) class.Term place)) }
+    ensures longer { IsPrefix (I.list pass.old) (I.list pass.new) }
+    ensures full { OnErr result (length (I.list pass.new) ≡ N.log.cap) }
+    ensures made { I.made pass.new ≤ I.made pass.old + term_words row.now t.now }
+    ensures err { OnErr result (I.made pass.new < I.made pass.old + term_words row.now t.now) }
+    ensures kept { I.kept pass.new ≡ I.kept pass.old }
+    ensures lent { I.lent pass.new ≡ I.lent pass.old }
+{
+    match cell(row, t) {
+        Some(place) => Ok(place),
+        None => term(arena, pass, t),
+    }
+}
+
+/// The place of the equality of two terms on a row.
+fn same<N: Site, I: Interner<N>>(
+    arena: &Arena<N>,
+    pass: &mut I,
+    s: &Term,
+    t: &Term,
+    row: &[u32],
+) -> Result<u32, Full>
+    requires left { FitsFields s.now }
+    requires right { FitsFields t.now }
+    requires row { All (λ s. IsTrue (is_place_of (I.list pass.old) class.Term s)) row.now }
+    ensures truth { IfOk result (λ place. HasTruth (I.list pass.new) place (on_row (I.list pass.old) (Same s.now t.now) row.now)) }
+    ensures longer { IsPrefix (I.list pass.old) (I.list pass.new) }
+    ensures full { OnErr result (length (I.list pass.new) ≡ N.log.cap) }
+    ensures made { I.made pass.new ≤ I.made pass.old + words_on row.now (Same s.now t.now) }
+    ensures err { OnErr result (I.made pass.new < I.made pass.old + words_on row.now (Same s.now t.now)) }
+    ensures kept { I.kept pass.new ≡ I.kept pass.old }
+    ensures lent { I.lent pass.new ≡ I.lent pass.old }
+{
+    let left = place_on(arena, pass, s, row)?;
+    let right = place_on(arena, pass, t, row)?;
+    eq(arena, pass, left, right)
+}
+
+/// The place of the conjunction of predicates on a row, taken from the left.
+#[cycle(pred)]
+fn every<N: Site, I: Interner<N>>(
+    arena: &Arena<N>,
+    pass: &mut I,
+    list: &[Pred],
+    row: &[u32],
+) -> Result<u32, Full>
+    requires fields { All (λ p. AreFitting (condition_of p)) list.now }
+    requires row { All (λ s. IsTrue (is_place_of (I.list pass.old) class.Term s)) row.now }
+    ensures truth { IfOk result (λ place. HasTruth (I.list pass.new) place (λ v r. list_all (λ p. on_row (I.list pass.old) (condition_of p) row.now v r) list.now)) }
+    ensures longer { IsPrefix (I.list pass.old) (I.list pass.new) }
+    ensures full { OnErr result (length (I.list pass.new) ≡ N.log.cap) }
+    ensures made { I.made pass.new ≤ I.made pass.old + run_words row.now list.now }
+    ensures err { OnErr result (I.made pass.new < I.made pass.old + run_words row.now list.now) }
+    ensures kept { I.kept pass.new ≡ I.kept pass.old }
+    ensures lent { I.lent pass.new ≡ I.lent pass.old }
+{
+    let mut place = literal(pass.words(), true);
+    for p in list {
+        let next = pred(arena, pass, p, row)?;
+        place = and(arena, pass, place, next)?;
+    }
+    Ok(place)
+}
+
+/// The place of the disjunction of predicates on a row, taken from the left.
+#[cycle(pred)]
+fn some<N: Site, I: Interner<N>>(
+    arena: &Arena<N>,
+    pass: &mut I,
+    list: &[Pred],
+    row: &[u32],
+) -> Result<u32, Full>
+    requires fields { All (λ p. AreFitting (condition_of p)) list.now }
+    requires row { All (λ s. IsTrue (is_place_of (I.list pass.old) class.Term s)) row.now }
+    ensures truth { IfOk result (λ place. HasTruth (I.list pass.new) place (λ v r. list_any (λ p. on_row (I.list pass.old) (condition_of p) row.now v r) list.now)) }
+    ensures longer { IsPrefix (I.list pass.old) (I.list pass.new) }
+    ensures full { OnErr result (length (I.list pass.new) ≡ N.log.cap) }
+    ensures made { I.made pass.new ≤ I.made pass.old + run_words row.now list.now }
+    ensures err { OnErr result (I.made pass.new < I.made pass.old + run_words row.now list.now) }
+    ensures kept { I.kept pass.new ≡ I.kept pass.old }
+    ensures lent { I.lent pass.new ≡ I.lent pass.old }
+{
+    let mut place = literal(pass.words(), false);
+    for p in list {
+        let next = pred(arena, pass, p, row)?;
+        place = or(arena, pass, place, next)?;
+    }
+    Ok(place)
+}
+
+/// The place of a predicate with the cells of a row, places of terms, put for its columns. A column past the row's end
+/// stays a column.
+///
+/// # Errors
+/// `Full` where the log has no room for a word of it.
+#[cycle(pred)]
+pub fn pred<N: Site, I: Interner<N>>(
+    arena: &Arena<N>,
+    pass: &mut I,
+    p: &Pred,
+    row: &[u32],
+) -> Result<u32, Full>
+    requires fields { AreFitting (condition_of p.now) }
+    requires row { All (λ s. IsTrue (is_place_of (I.list pass.old) class.Term s)) row.now }
+    ensures truth { IfOk result (λ place. HasTruth (I.list pass.new) place (on_row (I.list pass.old) (condition_of p.now) row.now)) }
+    ensures longer { IsPrefix (I.list pass.old) (I.list pass.new) }
+    ensures full { OnErr result (length (I.list pass.new) ≡ N.log.cap) }
+    ensures made { I.made pass.new ≤ I.made pass.old + words_on row.now (condition_of p.now) }
+    ensures err { OnErr result (I.made pass.new < I.made pass.old + words_on row.now (condition_of p.now)) }
+    ensures kept { I.kept pass.new ≡ I.kept pass.old }
+    ensures lent { I.lent pass.new ≡ I.lent pass.old }
+{
+    match p {
+        Pred::True => Ok(literal(pass.words(), true)),
+        Pred::False => Ok(literal(pass.words(), false)),
+        Pred::Same(s, t) => same(arena, pass, s, t, row),
+        Pred::Not(c) => {
+            let place = pred(arena, pass, c, row)?;
+            not(arena, pass, place)
+        }
+        Pred::And(list) => every(arena, pass, list.as_slice(), row),
+        Pred::Or(list) => some(arena, pass, list.as_slice(), row),
+    }
+}

@@ -1,0 +1,12 @@
+use Rattle.std.proofs.Common.{◌≡◌, ◌≤◌, ◌+◌, map, drop}
+use Rattle.ct_word.specs.Condition.{And, listed}
+use Rattle.ct_query.specs.Pred.{condition_of}
+use Rattle.ct_query.specs.Size.{greatest, stopped}
+use Rattle.ct_query.specs.Bounds as spec
+use Rattle.ct_query.proofs.weighing.+operations.Given as goal
+
+abbrev pub invariant-operations_of_run-loop-pred : goal.invariant-operations_of_run-loop-pred
+invariant-operations_of_run-loop-pred l = record {
+  rest : stopped (l.sum + spec.all_ops (listed (map condition_of (drop l.pred-index l.preds)))) ≡ stopped (spec.ops (And (listed (map condition_of l.preds))));
+  fits : l.sum ≤ greatest;
+}

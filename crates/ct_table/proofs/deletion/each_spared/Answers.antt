@@ -1,0 +1,75 @@
+use Rattle.std.proofs.Common.{◌≡◌, ◌<◌, ◌≤◌, ◌+◌, ◌∙◌, not, [], ◌∷◌, ◌++◌, get_or, length, take, ap, sym, subst, refl}
+use Rattle.std.specs.List.{filter}
+use Rattle.std.proofs.lemmas.List.{take_more, take_all}
+use Rattle.ct_word.specs.declared.kinds.Class.TheVariants as class
+use Rattle.ct_word.specs.Condition.{holds}
+use Rattle.ct_word.specs.Reading.{condition_at}
+use Rattle.ct_word.proofs.Prefixes.{place_in_prefix}
+use Rattle.ct_table.specs.Tables.{cells_of, value_of_rows}
+use Rattle.ct_table.specs.Building.{Builds}
+use Rattle.ct_table.specs.Placing.{holds_for}
+use Rattle.ct_table.proofs.Selecting.{row_at}
+use Rattle.ct_table.proofs.Building.{builds_none, builds_tested}
+use Rattle.ct_table.proofs.Placed.{holds_for_grows}
+use Rattle.ct_table.proofs.deletion.each_spared.Goals as goal
+
+pub loop-row-init : goal.loop-row-init
+loop-row-init g c =
+    let old = g.I.Interner.list c.args.pass.now in
+    let width = length c.args.table.now.columns in
+    record {
+      builds = subst (λ out. Builds old old width [] (λ v. []) out) (sym c.new-out.ensures.items) (builds_none old width);
+      kept = refl;
+      lent = refl;
+    }
+
+pub spared-requires-clause-row : goal.spared-requires-clause-row
+spared-requires-clause-row g c =
+    let rows = c.args.table.now.rows in
+    let r = c.row-item.result in
+    (row_at (g.I.Interner.list c.args.pass.now) (g.I.Interner.list c.loop-row.pass) (length c.args.table.now.columns) rows c.loop-row.row-index r c.loop-row.invariant.builds.grown c.requires.rows.each
+    (subst (λ l. c.loop-row.row-index < length l) c.as_slice-row-items.ensures c.loop-row-test.true)
+    (c.row-item.is ∙ ap (λ l. get_or l c.loop-row.row-index r) c.as_slice-row-items.ensures)).1
+
+pub spared-requires-clause-cond : goal.spared-requires-clause-cond
+spared-requires-clause-cond g c =
+    place_in_prefix (g.I.Interner.list c.args.pass.now) (g.I.Interner.list c.loop-row.pass) class.Cond c.args.cond c.loop-row.invariant.builds.grown c.requires.cond
+
+pub loop-row-preserved : goal.loop-row-preserved
+loop-row-preserved g c =
+    let old = g.I.Interner.list c.args.pass.now in
+    let now = g.I.Interner.list c.loop-row.pass in
+    let new = g.I.Interner.list c.spared.new.pass in
+    let width = length c.args.table.now.columns in
+    let rows = c.args.table.now.rows in
+    let cond = c.args.cond in
+    let i = c.loop-row.row-index in
+    let r = c.row-item.result in
+    let out = c.loop-row.out.items in
+    let place = c.in_ok-place.place in
+    let so_far = c.loop-row.invariant.builds in
+    let lt : i < length rows = subst (λ l. i < length l) c.as_slice-row-items.ensures c.loop-row-test.true in
+    let e : r ≡ get_or rows i r = c.row-item.is ∙ ap (λ l. get_or l i r) c.as_slice-row-items.ensures in
+    let is = (row_at old now width rows i r so_far.grown c.requires.rows.each lt e).0 in
+    let done : take i rows ++ r ∷ [] ≡ take (i + 1) rows = ap (λ x. take i rows ++ x ∷ []) e ∙ sym (take_more rows i r lt) in
+    record {
+      builds = subst (λ d. Builds old new width (cells_of old d) (λ v. filter (λ t. not (holds v t (condition_at old cond))) (value_of_rows old v d)) c.push.new.self.items) done
+          (subst (λ l. Builds old new width (cells_of old (take i rows ++ r ∷ [])) (λ v. filter (λ t. not (holds v t (condition_at old cond))) (value_of_rows old v (take i rows ++ r ∷ []))) l)
+          (ap (λ u. out ++ u ∷ []) (sym c.in_ok-under.ensures) ∙ sym c.in_ok-push.ensures.items)
+          (builds_tested old now new width (λ v. (λ t. not (holds v t (condition_at old cond)))) (take i rows) out so_far c.spared.ensures.longer r is place (λ v. not (holds_for now cond r.cells v))
+          c.in_ok-place.ensures.holds
+          (λ v. ap not (holds_for_grows old now cond r.cells v so_far.grown c.requires.cond is.terms))));
+      kept = c.spared.ensures.kept ∙ c.loop-row.invariant.kept;
+      lent = c.spared.ensures.lent ∙ c.loop-row.invariant.lent;
+    }
+
+pub returns-clause-rows : goal.returns-clause-rows
+returns-clause-rows g c =
+    let old = g.I.Interner.list c.args.pass.now in
+    let new = g.I.Interner.list c.loop-row.pass in
+    let width = length c.args.table.now.columns in
+    let rows = c.args.table.now.rows in
+    let cond = c.args.cond in
+    let i = c.loop-row.row-index in
+    subst (λ d. Builds old new width (cells_of old d) (λ v. filter (λ t. not (holds v t (condition_at old cond))) (value_of_rows old v d)) c.loop-row.out.items)
+    (take_all i rows (subst (λ l. length l ≤ i) c.as_slice-row-items.ensures c.loop-row-test.false)) c.loop-row.invariant.builds

@@ -1,0 +1,87 @@
+use Rattle.std.proofs.Common.{◌≡◌, ◌<◌, ◌≤◌, ◌+◌, ◌∙◌, not, ◌&&◌, [], ◌∷◌, ◌++◌, get_or, length, take, ap, sym, subst, refl}
+use Rattle.std.specs.Prelude.{All}
+use Rattle.std.specs.List.{filter}
+use Rattle.std.proofs.lemmas.List.{take_more, take_all}
+use Rattle.std.proofs.lemmas.List.Elements.{All-weaker}
+use Rattle.ct_word.specs.Condition.{holds_at}
+use Rattle.ct_word.specs.Reading.{condition_at}
+use Rattle.ct_query.specs.Database.{has_tuple}
+use Rattle.ct_table.specs.Tables.{IsRow, cells_of, value_of_rows}
+use Rattle.ct_table.specs.Building.{Builds, HoldsWhere}
+use Rattle.ct_table.specs.Matching.{is_among}
+use Rattle.ct_table.proofs.Selecting.{row_at}
+use Rattle.ct_table.proofs.Growing.{is_row_grows}
+use Rattle.ct_table.proofs.Building.{builds_none, builds_tested}
+use Rattle.ct_table.proofs.Comparing.{among_grows}
+use Rattle.ct_table.proofs.difference.each_alone.Goals as goal
+
+pub loop-row-init : goal.loop-row-init
+loop-row-init g c =
+    let old = g.I.Interner.list c.args.pass.now in
+    let width = length c.args.left.now.columns in
+    record {
+      builds = subst (λ out. Builds old old width [] (λ v. []) out) (sym c.new-out.ensures.items) (builds_none old width);
+      kept = refl;
+      lent = refl;
+    }
+
+pub alone-requires-clause-row : goal.alone-requires-clause-row
+alone-requires-clause-row g c =
+    let rows = c.args.left.now.rows in
+    let r = c.row-item.result in
+    (row_at (g.I.Interner.list c.args.pass.now) (g.I.Interner.list c.loop-row.pass) (length c.args.left.now.columns) rows c.loop-row.row-index r c.loop-row.invariant.builds.grown c.requires.left.each
+    (subst (λ l. c.loop-row.row-index < length l) c.as_slice-row-items.ensures c.loop-row-test.true)
+    (c.row-item.is ∙ ap (λ l. get_or l c.loop-row.row-index r) c.as_slice-row-items.ensures)).1
+
+pub alone-requires-clause-others : goal.alone-requires-clause-others
+alone-requires-clause-others g c =
+    let old = g.I.Interner.list c.args.pass.now in
+    let now = g.I.Interner.list c.loop-row.pass in
+    let width = length c.args.left.now.columns in
+    let rows = c.args.left.now.rows in
+    let r = c.row-item.result in
+    let is = (row_at old now width rows c.loop-row.row-index r c.loop-row.invariant.builds.grown c.requires.left.each
+    (subst (λ l. c.loop-row.row-index < length l) c.as_slice-row-items.ensures c.loop-row-test.true)
+    (c.row-item.is ∙ ap (λ l. get_or l c.loop-row.row-index r) c.as_slice-row-items.ensures)).0 in
+    subst (λ n. All (IsRow now n) c.as_slice.result.now) (sym is.width_is)
+    (subst (All (IsRow now width)) (sym c.as_slice.ensures)
+    (All-weaker (IsRow old width) (IsRow now width) (is_row_grows old now c.loop-row.invariant.builds.grown width) c.args.right.now.rows c.requires.right.each))
+
+pub loop-row-preserved : goal.loop-row-preserved
+loop-row-preserved g c =
+    let old = g.I.Interner.list c.args.pass.now in
+    let now = g.I.Interner.list c.loop-row.pass in
+    let new = g.I.Interner.list c.alone.new.pass in
+    let width = length c.args.left.now.columns in
+    let rows = c.args.left.now.rows in
+    let others = c.args.right.now.rows in
+    let i = c.loop-row.row-index in
+    let r = c.row-item.result in
+    let out = c.loop-row.out.items in
+    let place = c.in_ok-cond.cond in
+    let so_far = c.loop-row.invariant.builds in
+    let lt : i < length rows = subst (λ l. i < length l) c.as_slice-row-items.ensures c.loop-row-test.true in
+    let e : r ≡ get_or rows i r = c.row-item.is ∙ ap (λ l. get_or l i r) c.as_slice-row-items.ensures in
+    let is = (row_at old now width rows i r so_far.grown c.requires.left.each lt e).0 in
+    let done : take i rows ++ r ∷ [] ≡ take (i + 1) rows = ap (λ x. take i rows ++ x ∷ []) e ∙ sym (take_more rows i r lt) in
+    record {
+      builds = subst (λ d. Builds old new width (cells_of old d) (λ v. filter (λ t. not (has_tuple (value_of_rows old v others) t)) (value_of_rows old v d)) c.push.new.self.items) done
+          (subst (λ l. Builds old new width (cells_of old (take i rows ++ r ∷ [])) (λ v. filter (λ t. not (has_tuple (value_of_rows old v others) t)) (value_of_rows old v (take i rows ++ r ∷ []))) l)
+          (ap (λ u. out ++ u ∷ []) (sym c.in_ok-under.ensures) ∙ sym c.in_ok-push.ensures.items)
+          (builds_tested old now new width (λ v. (λ t. not (has_tuple (value_of_rows old v others) t))) (take i rows) out so_far c.alone.ensures.longer r is place (λ v. not (is_among now others r.cells v))
+          (subst (λ ss. HoldsWhere new place (λ v. holds_at v (condition_at now r.cond) && not (is_among now ss r.cells v))) c.as_slice.ensures c.in_ok-cond.ensures.holds)
+          (λ v. ap not (among_grows old now width others r.cells v so_far.grown c.requires.right.each is.terms))));
+      kept = c.alone.ensures.kept ∙ c.loop-row.invariant.kept;
+      lent = c.alone.ensures.lent ∙ c.loop-row.invariant.lent;
+    }
+
+pub returns-clause-rows : goal.returns-clause-rows
+returns-clause-rows g c =
+    let old = g.I.Interner.list c.args.pass.now in
+    let new = g.I.Interner.list c.loop-row.pass in
+    let width = length c.args.left.now.columns in
+    let rows = c.args.left.now.rows in
+    let others = c.args.right.now.rows in
+    let i = c.loop-row.row-index in
+    subst (λ d. Builds old new width (cells_of old d) (λ v. filter (λ t. not (has_tuple (value_of_rows old v others) t)) (value_of_rows old v d)) c.loop-row.out.items)
+    (take_all i rows (subst (λ l. length l ≤ i) c.as_slice-row-items.ensures c.loop-row-test.false)) c.loop-row.invariant.builds

@@ -1,0 +1,77 @@
+use Rattle.std.proofs.Common.{◌≤◌, ◌∙◌, length, take, sym, subst, refl, rules, arith}
+use Rattle.std.specs.Prelude.{IsTrue}
+use Rattle.std.proofs.lemmas.List.{take_all, length_push}
+use Rattle.std.proofs.lemmas.List.Elements.{All-get_or}
+use Rattle.std.proofs.lemmas.Slice.Zip.{zip_turn, zip_end}
+use Rattle.ct_word.specs.declared.kinds.Class.TheVariants as class
+use Rattle.ct_word.specs.WellFormed.{is_place_of}
+use Rattle.ct_word.proofs.Prefixes.{prefix_same, prefix_of_prefix, place_in_prefix}
+use Rattle.ct_table.specs.Building.{HoldsWhere}
+use Rattle.ct_table.specs.Matching.{same_worth}
+use Rattle.ct_table.proofs.Holding.{holds_true}
+use Rattle.ct_table.proofs.Comparing.{equal_more}
+use Rattle.ct_table.proofs.matching.cells_equal.Goals as goal
+
+pub loop-s-init : goal.loop-s-init
+loop-s-init g c = record {
+  grown = prefix_same _;
+  holds = holds_true _ c.words.ensures.begins c.words.ensures.formed;
+  kept = refl;
+  lent = refl;
+}
+
+pub eq-requires-clause-left : goal.eq-requires-clause-left
+eq-requires-clause-left g c =
+    let old = g.I.Interner.list c.args.pass.now in
+    let p = c.in-Some.s.now in
+    let t = zip_turn c.args.left.now c.args.right.now c.loop-s.yielded _ _ c.next.new.self _ (search rules) (search rules) c.loop-s.yielded_by (c.in-Some.s, c.in-Some.t) c.in-Some.is c.next.ensures.steps in
+    place_in_prefix old (g.I.Interner.list c.loop-s.pass) class.Term p c.loop-s.invariant.grown
+    (subst (λ q. IsTrue (is_place_of old class.Term q)) (sym (t.2 p)) (All-get_or (λ q. IsTrue (is_place_of old class.Term q)) c.args.left.now (length c.loop-s.yielded) p t.0 c.requires.left))
+
+pub eq-requires-clause-right : goal.eq-requires-clause-right
+eq-requires-clause-right g c =
+    let old = g.I.Interner.list c.args.pass.now in
+    let p = c.in-Some.t.now in
+    let t = zip_turn c.args.left.now c.args.right.now c.loop-s.yielded _ _ c.next.new.self _ (search rules) (search rules) c.loop-s.yielded_by (c.in-Some.s, c.in-Some.t) c.in-Some.is c.next.ensures.steps in
+    place_in_prefix old (g.I.Interner.list c.loop-s.pass) class.Term p c.loop-s.invariant.grown
+    (subst (λ q. IsTrue (is_place_of old class.Term q)) (sym (t.3 p)) (All-get_or (λ q. IsTrue (is_place_of old class.Term q)) c.args.right.now (length c.loop-s.yielded) p t.1 c.requires.right))
+
+pub and-requires-clause-left : goal.and-requires-clause-left
+and-requires-clause-left g c =
+    place_in_prefix (g.I.Interner.list c.loop-s.pass) (g.I.Interner.list c.eq.new.pass) class.Cond c.loop-s.all c.eq.ensures.longer c.loop-s.invariant.holds.class
+
+pub and-requires-clause-right : goal.and-requires-clause-right
+and-requires-clause-right g c = c.in_ok-same.ensures.truth.class
+
+pub loop-s-preserved : goal.loop-s-preserved
+loop-s-preserved g c =
+    let old = g.I.Interner.list c.args.pass.now in
+    let now = g.I.Interner.list c.loop-s.pass in
+    let mid = g.I.Interner.list c.eq.new.pass in
+    let new = g.I.Interner.list c.and.new.pass in
+    let ps = c.args.left.now in
+    let qs = c.args.right.now in
+    let n = length c.loop-s.yielded in
+    let p = c.in-Some.s.now in
+    let q = c.in-Some.t.now in
+    let t = zip_turn c.args.left.now c.args.right.now c.loop-s.yielded _ _ c.next.new.self _ (search rules) (search rules) c.loop-s.yielded_by (c.in-Some.s, c.in-Some.t) c.in-Some.is c.next.ensures.steps in
+    record {
+      grown = prefix_of_prefix old now new c.loop-s.invariant.grown (prefix_of_prefix now mid new c.eq.ensures.longer c.and.ensures.longer);
+      holds = subst (λ k. HoldsWhere new c.in_ok-all.all (same_worth old (take k ps) (take k qs))) (sym (length_push c.loop-s.yielded (c.in-Some.s, c.in-Some.t)))
+          (equal_more old now mid new ps qs n p q c.loop-s.all c.in_ok-same.same c.in_ok-all.all c.loop-s.invariant.grown c.eq.ensures.longer c.requires.left c.requires.right t.0 t.1 (t.2 p) (t.3 q)
+          c.loop-s.invariant.holds c.in_ok-same.ensures.truth c.in_ok-all.ensures.truth);
+      kept = c.and.ensures.kept ∙ c.eq.ensures.kept ∙ c.loop-s.invariant.kept;
+      lent = c.and.ensures.lent ∙ c.eq.ensures.lent ∙ c.loop-s.invariant.lent;
+    }
+
+pub returns-clause-holds : goal.returns-clause-holds
+returns-clause-holds g c =
+    let old = g.I.Interner.list c.args.pass.now in
+    let new = g.I.Interner.list c.loop-s.pass in
+    let ps = c.args.left.now in
+    let qs = c.args.right.now in
+    let n = length c.loop-s.yielded in
+    let e = zip_end ps qs c.loop-s.yielded _ _ c.next.new.self _ (search rules) (search rules) c.loop-s.yielded_by c.in-None.is c.next.ensures.steps in
+    let long : length ps ≤ n = omega (arith, e, c.requires.lengths) in
+    subst (λ xs. HoldsWhere new c.loop-s.all (same_worth old xs qs)) (take_all n ps long)
+    (subst (λ ys. HoldsWhere new c.loop-s.all (same_worth old (take n ps) ys)) (take_all n qs (omega (arith, e, c.requires.lengths))) c.loop-s.invariant.holds)

@@ -1,0 +1,13 @@
+use Rattle.std.proofs.Common.{◌≡◌, take, length}
+use mathlib.Core.List.{IsPrefix}
+use Rattle.ct_table.specs.Building.{HoldsWhere}
+use Rattle.ct_table.specs.Matching.{same_worth}
+use Rattle.ct_table.proofs.matching.cells_equal.Given as goal
+
+abbrev pub invariant-loop-s : goal.invariant-loop-s
+invariant-loop-s g l = record {
+  grown : IsPrefix (g.I.Interner.list l.fn.pass) (g.I.Interner.list l.pass);
+  holds : HoldsWhere (g.I.Interner.list l.pass) l.all (same_worth (g.I.Interner.list l.fn.pass) (take (length l.yielded) l.left) (take (length l.yielded) l.right));
+  kept : g.I.Interner.kept l.pass ≡ g.I.Interner.kept l.fn.pass;
+  lent : g.I.Interner.lent l.pass ≡ g.I.Interner.lent l.fn.pass;
+}

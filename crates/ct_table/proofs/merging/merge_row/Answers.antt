@@ -1,0 +1,25 @@
+use Rattle.std.proofs.Common.{length, subst, sym}
+use Rattle.ct_table.specs.Merging.{rows_of, Merged}
+use Rattle.ct_table.proofs.Merges.{found_condition, entry_merged, entry_put}
+use Rattle.ct_table.proofs.merging.merge_row.Goals as goal
+
+pub or-requires-clause-left : goal.or-requires-clause-left
+or-requires-clause-left g c =
+    found_condition (g.I.Interner.list c.args.pass.now) (length c.args.row.cells) c.args.row.cells c.in-Some.first.now c.args.rows.now.entries c.requires.rows (sym c.in-Some.ensures.value)
+
+pub returns-in_ok-insert-in-Some-clause-merged : goal.returns-in_ok-insert-in-Some-clause-merged
+returns-in_ok-insert-in-Some-clause-merged g c =
+    let old = g.I.Interner.list c.args.pass.now in
+    let new = g.I.Interner.list c.or.new.pass in
+    let es = c.args.rows.now.entries in
+    let r = c.args.row in
+    subst (λ l. Merged old new (rows_of es) r (rows_of l)) (sym c.in_ok-insert-in-Some.ensures.entries)
+    (entry_merged old new r.cells r.cond c.in-Some.first.now c.in_ok-both-in-Some.both es (sym c.in-Some.ensures.value) c.in_ok-both-in-Some.ensures.truth)
+
+pub returns-in_ok-insert-in-None-clause-merged : goal.returns-in_ok-insert-in-None-clause-merged
+returns-in_ok-insert-in-None-clause-merged g c =
+    let old = g.I.Interner.list c.args.pass.now in
+    let es = c.args.rows.now.entries in
+    let r = c.args.row in
+    subst (λ l. Merged old old (rows_of es) r (rows_of l)) (sym c.in_ok-insert-in-None.ensures.entries)
+    (entry_put old old r.cells r.cond es (sym c.in-None.ensures.value))

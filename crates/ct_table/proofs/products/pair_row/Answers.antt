@@ -1,0 +1,72 @@
+use Rattle.std.proofs.Common.{◌≡◌, ◌<◌, ◌≤◌, ◌+◌, ◌∙◌, [], ◌∷◌, ◌++◌, get_or, length, map, take, ap, sym, subst, refl}
+use Rattle.std.proofs.lemmas.List.{take_more, take_all}
+use Rattle.ct_word.specs.declared.kinds.Class.TheVariants as class
+use Rattle.ct_word.specs.Reading.{term_at}
+use Rattle.ct_word.proofs.Prefixes.{place_in_prefix}
+use Rattle.ct_table.specs.Tables.{cells_of, value_of_rows}
+use Rattle.ct_table.specs.Building.{Builds, joins}
+use Rattle.ct_table.proofs.Selecting.{row_at}
+use Rattle.ct_table.proofs.Pairing.{no_pairs, pairs_more}
+use Rattle.ct_table.proofs.products.pair_row.Goals as goal
+
+pub loop-other-init : goal.loop-other-init
+loop-other-init g c =
+    let old = g.I.Interner.list c.args.pass.now in
+    let m = length c.args.row.now.cells in
+    let n = length c.args.right.now.columns in
+    let l = c.args.row.now in
+    record {
+      builds = subst (λ out. Builds old old (m + n) [] (λ v. joins (value_of_rows old v (l ∷ [])) []) out) (sym c.new-pairs.ensures.items) (no_pairs old l m n);
+      kept = refl;
+      lent = refl;
+    }
+
+pub and-requires-clause-left : goal.and-requires-clause-left
+and-requires-clause-left g c =
+    place_in_prefix (g.I.Interner.list c.args.pass.now) (g.I.Interner.list c.loop-other.pass) class.Cond c.args.row.now.cond c.loop-other.invariant.builds.grown c.requires.row.condition
+
+pub and-requires-clause-right : goal.and-requires-clause-right
+and-requires-clause-right g c =
+    let rows = c.args.right.now.rows in
+    let s = c.other-item.result in
+    (row_at (g.I.Interner.list c.args.pass.now) (g.I.Interner.list c.loop-other.pass) (length c.args.right.now.columns) rows c.loop-other.other-index s c.loop-other.invariant.builds.grown c.requires.right.each
+    (subst (λ l. c.loop-other.other-index < length l) c.as_slice-other-items.ensures c.loop-other-test.true)
+    (c.other-item.is ∙ ap (λ l. get_or l c.loop-other.other-index s) c.as_slice-other-items.ensures)).1.condition
+
+pub loop-other-preserved : goal.loop-other-preserved
+loop-other-preserved g c =
+    let old = g.I.Interner.list c.args.pass.now in
+    let now = g.I.Interner.list c.loop-other.pass in
+    let new = g.I.Interner.list c.and.new.pass in
+    let m = length c.args.row.now.cells in
+    let n = length c.args.right.now.columns in
+    let l = c.args.row.now in
+    let rows = c.args.right.now.rows in
+    let i = c.loop-other.other-index in
+    let s = c.other-item.result in
+    let out = c.loop-other.pairs.items in
+    let so_far = c.loop-other.invariant.builds in
+    let lt : i < length rows = subst (λ l. i < length l) c.as_slice-other-items.ensures c.loop-other-test.true in
+    let e : s ≡ get_or rows i s = c.other-item.is ∙ ap (λ l. get_or l i s) c.as_slice-other-items.ensures in
+    let is = (row_at old now n rows i s so_far.grown c.requires.right.each lt e).0 in
+    let done : take i rows ++ s ∷ [] ≡ take (i + 1) rows = ap (λ x. take i rows ++ x ∷ []) e ∙ sym (take_more rows i s lt) in
+    record {
+      builds = subst (λ d. Builds old new (m + n) (map (λ c. map (term_at old) l.cells ++ c) (cells_of old d)) (λ v. joins (value_of_rows old v (l ∷ [])) (value_of_rows old v d)) c.push.new.self.items) done
+          (subst (λ r. Builds old new (m + n) (map (λ c. map (term_at old) l.cells ++ c) (cells_of old (take i rows ++ s ∷ []))) (λ v. joins (value_of_rows old v (l ∷ [])) (value_of_rows old v (take i rows ++ s ∷ []))) r)
+          (ap (λ u. out ++ u ∷ []) (sym c.in_ok-joined.ensures) ∙ sym c.in_ok-push.ensures.items)
+          (pairs_more old l m n now new (take i rows) out so_far c.and.ensures.longer c.requires.row s is c.in_ok-cond.cond c.in_ok-cond.ensures.truth));
+      kept = c.and.ensures.kept ∙ c.loop-other.invariant.kept;
+      lent = c.and.ensures.lent ∙ c.loop-other.invariant.lent;
+    }
+
+pub returns-clause-pairs : goal.returns-clause-pairs
+returns-clause-pairs g c =
+    let old = g.I.Interner.list c.args.pass.now in
+    let new = g.I.Interner.list c.loop-other.pass in
+    let m = length c.args.row.now.cells in
+    let n = length c.args.right.now.columns in
+    let l = c.args.row.now in
+    let rows = c.args.right.now.rows in
+    let i = c.loop-other.other-index in
+    subst (λ d. Builds old new (m + n) (map (λ c. map (term_at old) l.cells ++ c) (cells_of old d)) (λ v. joins (value_of_rows old v (l ∷ [])) (value_of_rows old v d)) c.loop-other.pairs.items)
+    (take_all i rows (subst (λ l. length l ≤ i) c.as_slice-other-items.ensures c.loop-other-test.false)) c.loop-other.invariant.builds

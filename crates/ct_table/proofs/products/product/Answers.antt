@@ -1,0 +1,37 @@
+use Rattle.std.proofs.Common.{◌∙◌, length, ap, sym, subst}
+use Rattle.std.specs.Prelude.{All, IfOk}
+use Rattle.std.proofs.lemmas.List.{length-append}
+use Rattle.std.proofs.lemmas.Result.{IfOk-weaker}
+use Rattle.ct_word.specs.Value.{same_cells}
+use Rattle.ct_word.specs.Sublist.{IsSublist}
+use Rattle.ct_query.specs.Database.{SameSet}
+use Rattle.ct_table.specs.Tables.{IsRow, AreRows, value_of_rows, cells_of, firsts}
+use Rattle.ct_table.specs.Building.{joins}
+use Rattle.ct_table.proofs.Firsts.{part_of_firsts}
+use Rattle.ct_table.proofs.products.product.Goals as goal
+
+pub merged-requires : goal.merged-requires
+merged-requires g c =
+    let mid = g.I.Interner.list c.pairs.new.pass in
+    record {
+      rows = subst (λ n. All (IsRow mid n) c.in_ok-pairs.pairs.items)
+          (sym (ap (λ cs. length cs) c.in_ok-names.ensures ∙ length-append c.args.left.now.columns c.args.right.now.columns)) c.in_ok-pairs.ensures.pairs.each;
+    }
+
+pub returns-clause-rows : goal.returns-clause-rows
+returns-clause-rows g c =
+    subst (λ n. IfOk c.merged.result (λ out. AreRows (g.I.Interner.list c.merged.new.pass) n out.rows))
+    (ap (λ cs. length cs) c.in_ok-names.ensures ∙ length-append c.args.left.now.columns c.args.right.now.columns) c.merged.ensures.rows
+
+pub returns-clause-tuples : goal.returns-clause-tuples
+returns-clause-tuples g c v =
+    subst (λ l. IfOk c.merged.result (λ out. SameSet (value_of_rows (g.I.Interner.list c.merged.new.pass) v out.rows) l)) (c.in_ok-pairs.ensures.pairs.worth_is v) (c.merged.ensures.tuples v)
+
+pub returns-clause-part : goal.returns-clause-part
+returns-clause-part g c =
+    let old = g.I.Interner.list c.args.pass.now in
+    let new = g.I.Interner.list c.merged.new.pass in
+    let all = joins (cells_of old c.args.left.now.rows) (cells_of old c.args.right.now.rows) in
+    IfOk-weaker c.merged.result (λ out. IsSublist (cells_of new out.rows) (firsts same_cells all)) (λ out. IsSublist (cells_of new out.rows) all)
+    (λ out. part_of_firsts same_cells (cells_of new out.rows) all)
+    (subst (λ l. IfOk c.merged.result (λ out. IsSublist (cells_of new out.rows) (firsts same_cells l))) c.in_ok-pairs.ensures.pairs.cells_are c.merged.ensures.order)

@@ -1,0 +1,103 @@
+// The rows of one table that are among those of another.
+
+ghost use Rattle.std.specs.Prelude.{◌≡◌, ◌&&◌, length, filter, All, IfOk, OnErr, IsErrOf};
+ghost use mathlib.Core.List.{IsPrefix};
+ghost use Rattle.ct_word.specs.Value.{World};
+ghost use Rattle.ct_word.specs.Sublist.{IsSublist};
+ghost use Rattle.ct_word.specs.Condition.{holds_at};
+ghost use Rattle.ct_word.specs.Reading.{condition_at};
+ghost use Rattle.ct_query.specs.Database.{has_tuple, SameSet};
+ghost use Rattle.ct_table.specs.Tables.{IsRow, AreRows, value_of_rows, cells_of};
+ghost use Rattle.ct_table.specs.Building.{Builds, HoldsWhere};
+ghost use Rattle.ct_table.specs.Matching.{is_among};
+ghost use Rattle.ct_table.specs.declared.error.TableError.TheVariants as fault;
+
+use crate::error::TableError;
+use crate::matching::shown_as;
+use crate::merging::merged;
+use crate::rows::{names, under};
+use crate::table::CTable;
+use ct_arena::{Arena, Full, Site};
+use ct_condition::{Interner, and, or};
+use ct_word::CRow;
+use std::alloc::Global;
+
+/// The place of the word false, which no valuation satisfies.
+const FALSE: u32 = 1;
+
+/// The place of the condition that a row is shown, and one of the others is worth the same.
+fn among<N: Site, I: Interner<N>>(
+    arena: &Arena<N>,
+    pass: &mut I,
+    row: &CRow,
+    others: &[CRow],
+) -> Result<u32, Full>
+    requires row { IsRow (I.list pass.old) (length row.now.cells) row.now }
+    requires others { All (IsRow (I.list pass.old) (length row.now.cells)) others.now }
+    ensures holds { IfOk result (λ place. HoldsWhere (I.list pass.new) place (λ v. holds_at v (condition_at (I.list pass.old) row.now.cond) && is_among (I.list pass.old) others.now row.now.cells v)) }
+    ensures longer { IsPrefix (I.list pass.old) (I.list pass.new) }
+    ensures full { OnErr result (length (I.list pass.new) ≡ N.log.cap) }
+    ensures kept { I.kept pass.new ≡ I.kept pass.old }
+    ensures lent { I.lent pass.new ≡ I.lent pass.old }
+{
+    let _ = pass.words();
+    let mut any = FALSE;
+    for other in others {
+        let there = shown_as(arena, pass, row.cells.as_slice(), other)?;
+        any = or(arena, pass, any, there)?;
+    }
+    and(arena, pass, row.cond, any)
+}
+
+/// Each row of the left table, under the condition that it is among those of the right one.
+fn each_among<N: Site, I: Interner<N>>(
+    alloc: Global,
+    arena: &Arena<N>,
+    pass: &mut I,
+    left: &CTable,
+    right: &CTable,
+) -> Result<Vec<CRow>, TableError>
+    requires left { AreRows (I.list pass.old) (length left.now.columns) left.now.rows }
+    requires right { AreRows (I.list pass.old) (length left.now.columns) right.now.rows }
+    ensures rows { IfOk result (λ out. Builds (I.list pass.old) (I.list pass.new) (length left.now.columns) (cells_of (I.list pass.old) left.now.rows) (λ v. filter (has_tuple (value_of_rows (I.list pass.old) v right.now.rows)) (value_of_rows (I.list pass.old) v left.now.rows)) out.items) }
+    ensures longer { IsPrefix (I.list pass.old) (I.list pass.new) }
+    ensures full { IsErrOf result fault.Full → length (I.list pass.new) ≡ N.log.cap }
+    ensures kept { I.kept pass.new ≡ I.kept pass.old }
+    ensures lent { I.lent pass.new ≡ I.lent pass.old }
+{
+    let mut out = Vec::new(alloc);
+    for row in left.rows.as_slice() {
+        let cond = among(arena, pass, row, right.rows.as_slice())?;
+        out.push(under(row, cond)?)?;
+    }
+    Ok(out)
+}
+
+/// The rows of the left table, each under the further condition that a row of the right one is worth the same, under
+/// the names of the left columns.
+///
+/// # Errors
+/// `Full` where the log has no room for a condition, `Memory` where there is none for the rows.
+pub fn intersect<N: Site, I: Interner<N>>(
+    alloc: Global,
+    arena: &Arena<N>,
+    pass: &mut I,
+    left: &CTable,
+    right: &CTable,
+) -> Result<CTable, TableError>
+    requires left { AreRows (I.list pass.old) (length left.now.columns) left.now.rows }
+    requires right { AreRows (I.list pass.old) (length right.now.columns) right.now.rows }
+    requires columns { length right.now.columns ≡ length left.now.columns }
+    ensures columns { IfOk result (λ out. out.columns ≡ left.now.columns) }
+    ensures rows { IfOk result (λ out. AreRows (I.list pass.new) (length left.now.columns) out.rows) }
+    ensures tuples { (v : World) → IfOk result (λ out. SameSet (value_of_rows (I.list pass.new) v out.rows) (filter (has_tuple (value_of_rows (I.list pass.old) v right.now.rows)) (value_of_rows (I.list pass.old) v left.now.rows))) }
+    ensures part { IfOk result (λ out. IsSublist (cells_of (I.list pass.new) out.rows) (cells_of (I.list pass.old) left.now.rows)) }
+    ensures longer { IsPrefix (I.list pass.old) (I.list pass.new) }
+    ensures full { IsErrOf result fault.Full → length (I.list pass.new) ≡ N.log.cap }
+    ensures kept { I.kept pass.new ≡ I.kept pass.old }
+    ensures lent { I.lent pass.new ≡ I.lent pass.old }
+{
+    let columns = names(&left.columns)?;
+    let rows = each_among(alloc, arena, pass, left, right)?;
+    merged(alloc, arena, pass, columns, rows)
+}

@@ -1,0 +1,62 @@
+// Whether a row is worth the tuple of another, as a condition.
+
+ghost use Rattle.std.specs.Prelude.{◌≡◌, ◌&&◌, length, All, IfOk, OnErr, IsTrue};
+ghost use mathlib.Core.List.{IsPrefix};
+ghost use Rattle.ct_word.specs.declared.kinds.Class.TheVariants as class;
+ghost use Rattle.ct_word.specs.Condition.{holds_at};
+ghost use Rattle.ct_word.specs.Reading.{condition_at};
+ghost use Rattle.ct_word.specs.WellFormed.{is_place_of};
+ghost use Rattle.ct_table.specs.Tables.{IsRow};
+ghost use Rattle.ct_table.specs.Building.{HoldsWhere};
+ghost use Rattle.ct_table.specs.Matching.{same_worth};
+
+use ct_arena::{Arena, Full, Site};
+use ct_condition::{Interner, and, eq};
+use ct_word::CRow;
+
+/// The place of the word true, which every valuation satisfies.
+const TRUE: u32 = 0;
+
+/// The place of the condition that two lists of cells are worth the same.
+fn cells_equal<N: Site, I: Interner<N>>(
+    arena: &Arena<N>,
+    pass: &mut I,
+    left: &[u32],
+    right: &[u32],
+) -> Result<u32, Full>
+    requires left { All (λ p. IsTrue (is_place_of (I.list pass.old) class.Term p)) left.now }
+    requires right { All (λ p. IsTrue (is_place_of (I.list pass.old) class.Term p)) right.now }
+    requires lengths { length left.now ≡ length right.now }
+    ensures holds { IfOk result (λ place. HoldsWhere (I.list pass.new) place (same_worth (I.list pass.old) left.now right.now)) }
+    ensures longer { IsPrefix (I.list pass.old) (I.list pass.new) }
+    ensures full { OnErr result (length (I.list pass.new) ≡ N.log.cap) }
+    ensures kept { I.kept pass.new ≡ I.kept pass.old }
+    ensures lent { I.lent pass.new ≡ I.lent pass.old }
+{
+    let _ = pass.words();
+    let mut all = TRUE;
+    for (s, t) in left.iter().zip(right) {
+        let same = eq(arena, pass, *s, *t)?;
+        all = and(arena, pass, all, same)?;
+    }
+    Ok(all)
+}
+
+/// The place of the condition that a row is shown and is worth what these cells are.
+pub(crate) fn shown_as<N: Site, I: Interner<N>>(
+    arena: &Arena<N>,
+    pass: &mut I,
+    cells: &[u32],
+    other: &CRow,
+) -> Result<u32, Full>
+    requires cells { All (λ p. IsTrue (is_place_of (I.list pass.old) class.Term p)) cells.now }
+    requires other { IsRow (I.list pass.old) (length cells.now) other.now }
+    ensures holds { IfOk result (λ place. HoldsWhere (I.list pass.new) place (λ v. holds_at v (condition_at (I.list pass.old) other.now.cond) && same_worth (I.list pass.old) other.now.cells cells.now v)) }
+    ensures longer { IsPrefix (I.list pass.old) (I.list pass.new) }
+    ensures full { OnErr result (length (I.list pass.new) ≡ N.log.cap) }
+    ensures kept { I.kept pass.new ≡ I.kept pass.old }
+    ensures lent { I.lent pass.new ≡ I.lent pass.old }
+{
+    let same = cells_equal(arena, pass, other.cells.as_slice(), cells)?;
+    and(arena, pass, other.cond, same)
+}

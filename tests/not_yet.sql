@@ -1,0 +1,1 @@
+create table t (a); select a from t; assert 1 = 1; insert into t values ('it''s');

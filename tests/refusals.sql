@@ -1,0 +1,1 @@
+create table t (a); create table u (a, b); select a from t union select a, b from u; select a from nosuch; select b from t; select t.a from t, t; select a from t x, u y; create table t (c); create table v (c, c); select * from t where a = 'open
