@@ -11,7 +11,7 @@ use Rattle.ct_query.specs.declared.query.Pred.{Pred, And, Or, And', Row_of-Pred,
 use Rattle.ct_query.specs.Pred.{condition_of, conditions_of}
 use Rattle.ct_query.proofs.Trees.{holds_and, holds_or}
 use Rattle.ct_condition.specs.Truth.{HasTruth}
-use Rattle.ct_condition.specs.Terms.{AreFitting, AreAllFitting}
+use Rattle.ct_query.specs.Fields.{AreFitting, AreAllFitting}
 use Rattle.ct_condition.specs.Rows.{values_on, on_row}
 use Rattle.ct_condition.proofs.Truths.{in_place}
 use Rattle.ct_condition.proofs.OnRows.{on_row_in_prefix}

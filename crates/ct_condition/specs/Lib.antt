@@ -1,4 +1,3 @@
-pub mod Terms
 pub mod Truth
 pub mod Rows
 pub mod Runs

@@ -8,7 +8,7 @@ ghost use Rattle.ct_word.specs.WellFormed.{is_place_of};
 ghost use Rattle.ct_word.specs.declared.kinds.Class.TheVariants as class;
 ghost use Rattle.ct_query.specs.Pred.{condition_of};
 ghost use Rattle.ct_condition.specs.Truth.{HasTruth};
-ghost use Rattle.ct_condition.specs.Terms.{FitsFields, AreFitting};
+ghost use Rattle.ct_query.specs.Fields.{FitsFields, AreFitting};
 ghost use Rattle.ct_condition.specs.Runs.{run_words};
 ghost use Rattle.ct_condition.specs.Rows.{cell_for, WorthOn, on_row, term_words, words_on};
 

@@ -10,7 +10,7 @@ ghost use Rattle.ct_word.specs.declared.values.Value.TheVariants as val;
 ghost use Rattle.ct_word.specs.declared.values.Null.TheVariants as null;
 ghost use Rattle.ct_word.specs.declared.values.Term.TheVariants as term;
 ghost use Rattle.ct_query.specs.Bounds.{characters, literal_words, column_words};
-ghost use Rattle.ct_condition.specs.Terms.{FitsFields};
+ghost use Rattle.ct_query.specs.Fields.{FitsFields};
 
 use crate::interner::Interner;
 use crate::packed::put;

@@ -3,7 +3,7 @@
 ghost use Rattle.std.specs.Prelude.{◌≡◌, All, IsTrue};
 ghost use Rattle.ct_word.specs.WellFormed.{is_place_of};
 ghost use Rattle.ct_query.specs.Pred.{condition_of};
-ghost use Rattle.ct_condition.specs.Terms.{AreFitting};
+ghost use Rattle.ct_query.specs.Fields.{AreFitting};
 
 use crate::{all, and, eq, not, or, pred, put, term, text};
 use ct_arena::{Arena, Blank, Full, Pass, Site};

@@ -13,7 +13,7 @@ use Rattle.ct_word.specs.Change.{PlainCommit}
 use Rattle.ct_word.specs.Condition.{Condition, True, Same, holds}
 use Rattle.ct_word.specs.Reading.{IsTerm, as_term}
 use Rattle.ct_word.specs.Stands.{StandsAt}
-use Rattle.ct_condition.specs.Terms.{FitsFields}
+use Rattle.ct_query.specs.Fields.{FitsFields}
 use Rattle.ct_query.specs.Plain as plain
 use Rattle.ct_query.specs.Plain.{PlainQuery}
 use Rattle.ct_query.specs.Database.{Database, has_tuple, SameSet, tuples_of}

@@ -11,7 +11,7 @@ ghost use Rattle.ct_history.specs.Rows.{IsRowOf};
 ghost use Rattle.ct_rewrite.specs.History.{plain_history};
 ghost use Rattle.ct_table.specs.Shared.{view_of};
 ghost use Rattle.ct_table.specs.Denotes.{Denotes, find_table};
-ghost use Rattle.ct_condition.specs.Terms.{FitsFields};
+ghost use Rattle.ct_query.specs.Fields.{FitsFields};
 ghost use Rattle.ct_serve.specs.State.{is_fresh};
 ghost use Rattle.ct_serve.specs.Catalogue.{IsAdmittedEverywhere, IsReady, IsWant, IsOfferFor, row_under_true, row_under_first, rows_commit};
 

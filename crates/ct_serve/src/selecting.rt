@@ -12,7 +12,7 @@ ghost use Rattle.ct_query.specs.Views.{query_of};
 ghost use Rattle.ct_query.specs.declared.action.Ask.TheVariants as ask;
 ghost use Rattle.ct_history.specs.Kept.{kept_of};
 ghost use Rattle.ct_rewrite.specs.History.{plain_history};
-ghost use Rattle.ct_condition.specs.Terms.{FitsFields};
+ghost use Rattle.ct_query.specs.Fields.{FitsFields};
 ghost use Rattle.ct_table.specs.Denotes.{Denotes};
 ghost use Rattle.ct_table.specs.Tables.{AreRows, IsRow};
 ghost use Rattle.ct_serve.specs.Fits.{Fits};

@@ -4,7 +4,7 @@ ghost use Rattle.std.specs.Prelude.{◌≡◌, true, [], length, All, IfOk, IsTr
 ghost use mathlib.Core.List.{IsPrefix};
 ghost use Rattle.ct_word.specs.WellFormed.{is_place_of};
 ghost use Rattle.ct_word.specs.declared.kinds.Class.TheVariants as class;
-ghost use Rattle.ct_condition.specs.Terms.{FitsFields};
+ghost use Rattle.ct_query.specs.Fields.{FitsFields};
 ghost use Rattle.ct_table.specs.Tables.{IsRow, AreRows};
 
 use crate::{CRow, CTable, except, insert, intersect, product, project, union};

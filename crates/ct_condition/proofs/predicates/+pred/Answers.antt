@@ -12,7 +12,7 @@ use Rattle.ct_word.proofs.Prefixes.{prefix_same, prefix_of_prefix, place_in_pref
 use Rattle.ct_query.specs.declared.query.Pred.{Pred, And, Or}
 use Rattle.ct_query.specs.Pred.{condition_of}
 use Rattle.ct_condition.specs.Truth.{HasTruth}
-use Rattle.ct_condition.specs.Terms.{AreFitting}
+use Rattle.ct_query.specs.Fields.{AreFitting}
 use Rattle.ct_condition.specs.Rows.{on_row}
 use Rattle.ct_condition.proofs.Runs.{all_more, any_more}
 use Rattle.ct_condition.specs.Folding.{folded_and, folded_or}

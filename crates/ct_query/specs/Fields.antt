@@ -1,4 +1,4 @@
--- Which terms a word has room for.
+-- Which terms and conditions have numbers that a word has room for.
 use Rattle.std.specs.Prelude.{◌<◌, ◌≤◌, ◌^◌}
 use Rattle.ct_word.specs.declared.values.Value.TheVariants as val
 use Rattle.ct_word.specs.declared.values.Null.TheVariants as null

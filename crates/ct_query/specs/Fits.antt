@@ -1,0 +1,83 @@
+-- Which queries, actions and statements by positions fit the tables of a schema.
+use Rattle.std.specs.Prelude.{◌≡◌, ◌<◌, ◌+◌, ℕ, List, [], ◌∷◌, length, Option, Some, None, IsSome, All, if◌then◌else◌}
+use Rattle.ct_word.specs.declared.values.Term.{Term}
+use Rattle.ct_word.specs.declared.values.Term.TheVariants as term
+use Rattle.ct_word.specs.Value.{same_text}
+use Rattle.ct_word.specs.Condition.{Condition, Conditions, True, False, Same, Not, And, Or, none, also}
+use Rattle.ct_query.specs.declared.schema.Heading.{Heading}
+use Rattle.ct_query.specs.Plain as plain
+use Rattle.ct_query.specs.Plain.{PlainQuery, PlainAction, PlainStatement}
+use Rattle.ct_query.specs.Fields.{FitsFields, AreFitting}
+
+-- the columns of the first table with this name, if there is one
+abbrev pub columns_in : List Heading → List ℕ → Option (List (List ℕ))
+columns_in [] t = None
+columns_in (h ∷ hs) t = if same_text h.name t then Some h.columns else columns_in hs t
+
+-- how many columns a table has; none for a name without a table
+abbrev pub count_of : Option (List (List ℕ)) → ℕ
+count_of (Some columns) = length columns
+count_of None = 0
+
+-- how many columns a query answers
+abbrev pub width : List Heading → PlainQuery → ℕ
+width s (plain.Table t) = count_of (columns_in s t)
+width s (plain.Select c q) = width s q
+width s (plain.Project ks q) = length ks
+width s (plain.Product a b) = width s a + width s b
+width s (plain.Union a b) = width s a
+width s (plain.Except a b) = width s a
+width s (plain.Intersect a b) = width s a
+
+-- a term is no column, or one below this position
+abbrev pub IsColumnBelow : ℕ → Term → Type 0
+IsColumnBelow n (term.Column k) = k < n
+IsColumnBelow n (term.Null u) = Unit {0}
+IsColumnBelow n (term.Value x) = Unit {0}
+
+-- the columns of a condition are below this position
+abbrev mutual
+  pub AreColumnsBelow : ℕ → Condition → Type 0
+  AreColumnsBelow n True = Unit {0}
+  AreColumnsBelow n False = Unit {0}
+  AreColumnsBelow n (Same s t) = IsColumnBelow n s × IsColumnBelow n t
+  AreColumnsBelow n (Not c) = AreColumnsBelow n c
+  AreColumnsBelow n (And cs) = AreAllColumnsBelow n cs
+  AreColumnsBelow n (Or cs) = AreAllColumnsBelow n cs
+
+  pub AreAllColumnsBelow : ℕ → Conditions → Type 0
+  AreAllColumnsBelow n none = Unit {0}
+  AreAllColumnsBelow n (also c cs) = AreColumnsBelow n c × AreAllColumnsBelow n cs
+
+-- a condition fits rows of so many cells
+pub record FitsRows (n : ℕ) (c : Condition) : Type 0 where
+  pub fields : AreFitting c
+  pub columns : AreColumnsBelow n c
+
+-- a query fits: its tables are there, its columns are those of its parts, and the sides of its set operators have the
+-- same number of columns
+abbrev pub Fits : List Heading → PlainQuery → Type 0
+Fits s (plain.Table t) = IsSome (columns_in s t)
+Fits s (plain.Select c q) = FitsRows (width s q) c × Fits s q
+Fits s (plain.Project ks q) = All (λ k. k < width s q) ks × Fits s q
+Fits s (plain.Product a b) = Fits s a × Fits s b
+Fits s (plain.Union a b) = (width s a ≡ width s b) × Fits s a × Fits s b
+Fits s (plain.Except a b) = (width s a ≡ width s b) × Fits s a × Fits s b
+Fits s (plain.Intersect a b) = (width s a ≡ width s b) × Fits s a × Fits s b
+
+-- an action fits: a new table has a new name, and further rows have as many cells as their table has columns
+abbrev pub FitsAction : List Heading → PlainAction → Type 0
+FitsAction s (plain.Create name columns) = columns_in s name ≡ None
+FitsAction s (plain.InsertRows name rows c) =
+    IsSome (columns_in s name) × All (λ r. length r ≡ width s (plain.Table name)) rows × All (All FitsFields) rows × FitsRows 0 c
+FitsAction s (plain.InsertQuery name q) = IsSome (columns_in s name) × (width s q ≡ width s (plain.Table name)) × Fits s q
+FitsAction s (plain.Delete name c) = IsSome (columns_in s name) × FitsRows (width s (plain.Table name)) c
+FitsAction s (plain.Assert c) = FitsRows 0 c
+
+-- a statement fits: its action does, or its query does and has a name for each column
+abbrev pub FitsStatement : List Heading → PlainStatement → Type 0
+FitsStatement s (plain.Act a) = FitsAction s a
+FitsStatement s (plain.Asks ask columns q) = Fits s q × (length columns ≡ width s q)
+FitsStatement s plain.Begin = Unit {0}
+FitsStatement s plain.Commit = Unit {0}
+FitsStatement s plain.Rollback = Unit {0}
