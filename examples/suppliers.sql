@@ -23,3 +23,7 @@ select * from supply where part = 'screw';
 select * from supply where supplier = ?sender;
 -- Who is in Paris? Jones, and Blake if that is where he moved.
 select * from supplier where city = 'Paris';
+-- From which cities did bolts come? From Paris, and from that of the van's sender.
+select city from supplier, supply where name = supplier and part = 'bolt';
+-- Who sent nothing? It depends on who sent the boxes.
+select name from supplier except select supplier from supply;

@@ -165,13 +165,16 @@ fn asks_for_an_empty_end(rt: HostRuntime) -> Result<(), Fail> {
 
 #[test]
 fn takes_hints_in_order(rt: HostRuntime) -> Result<(), Fail> {
-    let cases: [(&[Lit], &[u32], bool); 6] = [
+    // The last two follow from the empty clause; place 4 is one of a term.
+    let cases: [(&[Lit], &[u32], bool); 8] = [
         (&[], &[0, 1, 2, 3, 4, 5, 6, 7, 8, 9, 0], true),
         (&[], &[0, 1, 2, 4, 5, 6, 7, 8, 9], false),
         (&[], &[9, 0, 1, 2, 3, 4, 5, 6, 7, 8], false),
         (&[], &[0, 1, 2, 3, 4, 5, 6, 7, 8, 9, 11], false),
         (&[no_node(12)], &[0, 1, 10], false),
         (&[node(12), no_node(12)], &[0, 1], true),
+        (&[node(13)], &[10], true),
+        (&[node(4)], &[10], false),
     ];
     for (literals, hints, right) in &cases {
         let other = resolved(rt.alloc(), literals, hints)?;
@@ -185,9 +188,10 @@ fn takes_paths(rt: HostRuntime) -> Result<(), Fail> {
     let clause = [same(4, 8), differ(6, 8), differ(4, 6)];
     let twice = [same(4, 8), differ(6, 8), same(4, 8), differ(4, 6)];
     let more = [same(4, 8), differ(6, 8), node(14), differ(4, 6)];
-    let cases: [(&[Lit], &[u32], bool); 10] = [
+    let cases: [(&[Lit], &[u32], bool); 11] = [
         (&clause, &[8, 6, 4], true),
         (&clause, &[4, 6, 4, 6, 8], true),
+        (&clause, &[4, 6, 6, 8], false),
         (&twice, &[4, 6, 8], true),
         (&more, &[4, 6, 8], false),
         (&clause, &[4, 8, 6], false),

@@ -8,3 +8,4 @@ pub mod Trees
 pub mod Depth
 pub mod Counted
 pub mod Characters
+pub mod Pasts

@@ -2,7 +2,7 @@
 use Rattle.std.proofs.Common.{◌≡◌, ℕ, List, ap, sym, ◌∙◌, subst}
 use Rattle.std.specs.Prelude.{All, IsTrue}
 use Rattle.std.specs.List.{list_all, list_any}
-use Rattle.std.proofs.lemmas.List.Elements.{All-nil, All-cons, All-head, All-tail, All-same}
+use Rattle.std.proofs.lemmas.List.Elements.{All-nil, All-cons, All-same}
 use mathlib.Core.Former.{Count}
 use mathlib.Core.List.{IsPrefix}
 use Rattle.ct_word.specs.declared.kinds.Class.TheVariants as class
@@ -11,7 +11,7 @@ use Rattle.ct_query.specs.declared.query.Pred.{Pred, And, Or, And', Row_of-Pred,
 use Rattle.ct_query.specs.Pred.{condition_of, conditions_of}
 use Rattle.ct_query.proofs.Trees.{holds_and, holds_or}
 use Rattle.ct_condition.specs.Truth.{HasTruth}
-use Rattle.ct_query.specs.Fields.{AreFitting, AreAllFitting}
+use Rattle.ct_query.specs.Fields.{AreFittingOn, AreAllFittingOn}
 use Rattle.ct_condition.specs.Rows.{values_on, on_row}
 use Rattle.ct_condition.proofs.Truths.{in_place}
 use Rattle.ct_condition.proofs.OnRows.{on_row_in_prefix}
@@ -20,40 +20,26 @@ abbrev pub row_of : Pred → (n : Count) × Row_of-Pred n
 row_of (And' _ row) = (_, row)
 row_of _ = (_, end_of-Pred)
 
-fit_row : (n : _) (row : Row_of-Pred n) → AreAllFitting (conditions_of row) → All (λ c. AreFitting (condition_of c)) (items-the_row-Pred n row)
-fit_row n end_of-Pred fit = All-nil (λ c. AreFitting (condition_of c))
-fit_row n (more_of-Pred c rest) fit = All-cons (λ c. AreFitting (condition_of c)) c (items-the_row-Pred _ rest) fit.0 (fit_row _ rest fit.1)
+-- over rows of so many cells
+module _ (width : ℕ) where
+  abbrev Fitting : Pred → Type 0
+  Fitting c = AreFittingOn width (condition_of c)
 
-fit_list : (cs : List Pred) → AreAllFitting (conditions_of (row_of (And cs)).1) → All (λ c. AreFitting (condition_of c)) cs
-fit_list cs fit =
-    let row = row_of (And cs) in
-    All-same (λ c. AreFitting (condition_of c)) cs (items-the_row-Pred row.0 row.1) (sym (items_hidden-the_row-Pred-0 cs)) (fit_row row.0 row.1 fit)
+  fit_row : (n : _) (row : Row_of-Pred n) → AreAllFittingOn width (conditions_of row) → All Fitting (items-the_row-Pred n row)
+  fit_row n end_of-Pred fit = All-nil Fitting
+  fit_row n (more_of-Pred c rest) fit = All-cons Fitting c (items-the_row-Pred _ rest) fit.0 (fit_row _ rest fit.1)
 
--- each part of an And fits, and each part of an Or
-pub fit_and : (p : Pred) (cs : List Pred) → p ≡ And cs → AreFitting (condition_of p) → All (λ c. AreFitting (condition_of c)) cs
-fit_and p cs e fit = fit_list cs (subst (λ q. AreFitting (condition_of q)) e fit)
+  fit_list : (cs : List Pred) → AreAllFittingOn width (conditions_of (row_of (And cs)).1) → All Fitting cs
+  fit_list cs fit =
+      let row = row_of (And cs) in
+      All-same Fitting cs (items-the_row-Pred row.0 row.1) (sym (items_hidden-the_row-Pred-0 cs)) (fit_row row.0 row.1 fit)
 
-pub fit_or : (p : Pred) (cs : List Pred) → p ≡ Or cs → AreFitting (condition_of p) → All (λ c. AreFitting (condition_of c)) cs
-fit_or p cs e fit = fit_list cs (subst (λ q. AreFitting (condition_of q)) e fit)
+  -- each part of an And fits, and each part of an Or
+  pub fit_and : (p : Pred) (cs : List Pred) → p ≡ And cs → Fitting p → All Fitting cs
+  fit_and p cs e fit = fit_list cs (subst Fitting e fit)
 
-row_fits : (n : _) (row : Row_of-Pred n) → All (λ c. AreFitting (condition_of c)) (items-the_row-Pred n row) → AreAllFitting (conditions_of row)
-row_fits n end_of-Pred all = tt
-row_fits n (more_of-Pred c rest) all = (
-  All-head (λ c. AreFitting (condition_of c)) c (items-the_row-Pred _ rest) all,
-  row_fits _ rest (All-tail (λ c. AreFitting (condition_of c)) c (items-the_row-Pred _ rest) all),
-)
-
-list_fits : (cs : List Pred) → All (λ c. AreFitting (condition_of c)) cs → AreAllFitting (conditions_of (row_of (And cs)).1)
-list_fits cs all =
-    let row = row_of (And cs) in
-    row_fits row.0 row.1 (All-same (λ c. AreFitting (condition_of c)) (items-the_row-Pred row.0 row.1) cs (items_hidden-the_row-Pred-0 cs) all)
-
--- an And of predicates that fit does, and so does an Or
-pub and_fits : (cs : List Pred) → All (λ c. AreFitting (condition_of c)) cs → AreFitting (condition_of (And cs))
-and_fits cs all = list_fits cs all
-
-pub or_fits : (cs : List Pred) → All (λ c. AreFitting (condition_of c)) cs → AreFitting (condition_of (Or cs))
-or_fits cs all = list_fits cs all
+  pub fit_or : (p : Pred) (cs : List Pred) → p ≡ Or cs → Fitting p → All Fitting cs
+  fit_or p cs e fit = fit_list cs (subst Fitting e fit)
 
 module _ (ws new : List ℕ) (place : ℕ) (p : Pred) (cs : List Pred) (cells : List ℕ) where
   pub and_on_row : p ≡ And cs → HasTruth new place (λ v row. list_all (λ c. on_row ws (condition_of c) cells v row) cs) → HasTruth new place (on_row ws (condition_of p) cells)

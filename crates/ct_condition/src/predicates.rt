@@ -8,7 +8,7 @@ ghost use Rattle.ct_word.specs.WellFormed.{is_place_of};
 ghost use Rattle.ct_word.specs.declared.kinds.Class.TheVariants as class;
 ghost use Rattle.ct_query.specs.Pred.{condition_of};
 ghost use Rattle.ct_condition.specs.Truth.{HasTruth};
-ghost use Rattle.ct_query.specs.Fields.{FitsFields, AreFitting};
+ghost use Rattle.ct_query.specs.Fields.{FitsFieldsOn, AreFittingOn};
 ghost use Rattle.ct_condition.specs.Runs.{run_words};
 ghost use Rattle.ct_condition.specs.Rows.{cell_for, WorthOn, on_row, term_words, words_on};
 
@@ -37,7 +37,7 @@ fn place_on<N: Site, I: Interner<N>>(
     t: &Term,
     row: &[u32],
 ) -> Result<u32, Full>
-    requires fields { FitsFields t.now }
+    requires fields { FitsFieldsOn (length row.now) t.now }
     requires row { All (λ s. IsTrue (is_place_of (I.list pass.old) class.Term s)) row.now }
     ensures worth { IfOk result (λ place. WorthOn (I.list pass.old) (I.list pass.new) t.now row.now place) }
     ensures place { IfOk result (λ place. IsTrue (is_place_of (I.list pass.new) class.Term place)) }
@@ -62,8 +62,8 @@ fn same<N: Site, I: Interner<N>>(
     t: &Term,
     row: &[u32],
 ) -> Result<u32, Full>
-    requires left { FitsFields s.now }
-    requires right { FitsFields t.now }
+    requires left { FitsFieldsOn (length row.now) s.now }
+    requires right { FitsFieldsOn (length row.now) t.now }
     requires row { All (λ s. IsTrue (is_place_of (I.list pass.old) class.Term s)) row.now }
     ensures truth { IfOk result (λ place. HasTruth (I.list pass.new) place (on_row (I.list pass.old) (Same s.now t.now) row.now)) }
     ensures longer { IsPrefix (I.list pass.old) (I.list pass.new) }
@@ -86,7 +86,7 @@ fn every<N: Site, I: Interner<N>>(
     list: &[Pred],
     row: &[u32],
 ) -> Result<u32, Full>
-    requires fields { All (λ p. AreFitting (condition_of p)) list.now }
+    requires fields { All (λ p. AreFittingOn (length row.now) (condition_of p)) list.now }
     requires row { All (λ s. IsTrue (is_place_of (I.list pass.old) class.Term s)) row.now }
     ensures truth { IfOk result (λ place. HasTruth (I.list pass.new) place (λ v r. list_all (λ p. on_row (I.list pass.old) (condition_of p) row.now v r) list.now)) }
     ensures longer { IsPrefix (I.list pass.old) (I.list pass.new) }
@@ -112,7 +112,7 @@ fn some<N: Site, I: Interner<N>>(
     list: &[Pred],
     row: &[u32],
 ) -> Result<u32, Full>
-    requires fields { All (λ p. AreFitting (condition_of p)) list.now }
+    requires fields { All (λ p. AreFittingOn (length row.now) (condition_of p)) list.now }
     requires row { All (λ s. IsTrue (is_place_of (I.list pass.old) class.Term s)) row.now }
     ensures truth { IfOk result (λ place. HasTruth (I.list pass.new) place (λ v r. list_any (λ p. on_row (I.list pass.old) (condition_of p) row.now v r) list.now)) }
     ensures longer { IsPrefix (I.list pass.old) (I.list pass.new) }
@@ -142,7 +142,7 @@ pub fn pred<N: Site, I: Interner<N>>(
     p: &Pred,
     row: &[u32],
 ) -> Result<u32, Full>
-    requires fields { AreFitting (condition_of p.now) }
+    requires fields { AreFittingOn (length row.now) (condition_of p.now) }
     requires row { All (λ s. IsTrue (is_place_of (I.list pass.old) class.Term s)) row.now }
     ensures truth { IfOk result (λ place. HasTruth (I.list pass.new) place (on_row (I.list pass.old) (condition_of p.now) row.now)) }
     ensures longer { IsPrefix (I.list pass.old) (I.list pass.new) }

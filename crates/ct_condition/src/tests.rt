@@ -223,6 +223,7 @@ fn is_one() -> Pred
 }
 
 /// The place of a predicate on a row, the cells of which are tested to be terms.
+#[tactic(auto, using(ct_query::proofs::Fitting::condition_on))]
 fn on_row<N: Site>(arena: &Arena<N>, pass: &mut Pass<N>, p: &Pred, row: &[u32]) -> Result<u32, Fail>
     requires { AreFitting (condition_of p.now) }
 {

@@ -10,7 +10,7 @@ use Rattle.ct_derivation.specs.declared.steps.Step.{Step}
 use Rattle.ct_derivation.specs.Literal.{Clause, yes_of, no_of, same_lit, has, same_members}
 use Rattle.std.specs.Prelude.{pos, negsuc, map}
 use Rattle.ct_derivation.specs.Propagation.{follows}
-use Rattle.ct_derivation.specs.Variables.{signed, over_variables}
+use Rattle.ct_derivation.specs.Variables.{signed, over_variables, is_literal}
 use Rattle.ct_derivation.specs.Path.{is_constant, ends_clause, is_path}
 use Rattle.ct_derivation.specs.Accepts.{fits_atom, fits_lit, gives, is_right, accepts, widest}
 
@@ -163,3 +163,46 @@ width_of_the_last = refl
 -- two literals and one hint
 width_of_both : widest (record { steps = step (node 14 ∷ node 12 ∷ []) (why.Rup (0 ∷ [])) ∷ [] }) ≡ 3
 width_of_both = refl
+
+-- a step by the root says no more
+root_with_more : is_right chain_words 14 [] (step (node 14 ∷ node 13 ∷ []) why.Root) ≡ false
+unfolding chain_words kind_with is_right gives fits_lit fits_atom same_members has same_lit
+root_with_more = refl
+
+-- ?x = ?y or ?y = ?z, at place 15
+with_disjunction : List ℕ
+with_disjunction = chain_words ++ word_of kind.Or 9 10 ∷ []
+
+left_of_a_disjunction : is_right with_disjunction 14 [] (step (node 15 ∷ no_node 9 ∷ []) (why.Def 15 1)) ≡ true
+unfolding with_disjunction chain_words kind_with is_right gives fits_lit fits_atom same_members has same_lit
+left_of_a_disjunction = refl
+
+right_of_a_disjunction : is_right with_disjunction 14 [] (step (node 15 ∷ no_node 10 ∷ []) (why.Def 15 2)) ≡ true
+unfolding with_disjunction chain_words kind_with is_right gives fits_lit fits_atom same_members has same_lit
+right_of_a_disjunction = refl
+
+-- a condition that is its own negation is no well formed word; its steps refute any root that is a condition
+unfoldable own_negation : ℕ → Bool
+own_negation root = accepts (word_of kind.Not 0 0 ∷ []) root (record { steps = step (no_node 0 ∷ []) (why.Def 0 0) ∷ step (node 0 ∷ []) (why.Def 0 1) ∷ step [] (why.Rup (0 ∷ 1 ∷ [])) ∷ [] })
+
+root_there : own_negation 0 ≡ true
+unfolding own_negation kind_with accepts is_right gives fits_lit fits_atom same_members has same_lit
+root_there = refl
+
+root_past_the_words : own_negation 1 ≡ false
+unfolding own_negation kind_with accepts is_right gives fits_lit fits_atom same_members has same_lit
+root_past_the_words = refl
+
+-- a path stays nowhere
+equal_neighbours : is_path chain_words 4 (4 ∷ 6 ∷ []) ≡ false
+unfolding chain_words kind_with is_path
+equal_neighbours = refl
+
+zero_is_no_literal : is_literal 3 (pos 0) ≡ false
+zero_is_no_literal = refl
+
+last_literal : is_literal 3 (negsuc 2) ≡ true
+last_literal = refl
+
+literal_past_the_last : is_literal 3 (negsuc 3) ≡ false
+literal_past_the_last = refl

@@ -7,7 +7,7 @@ use Rattle.ct_word.specs.Condition.{Condition, Conditions, True, False, Same, No
 use Rattle.ct_query.specs.declared.schema.Heading.{Heading}
 use Rattle.ct_query.specs.Plain as plain
 use Rattle.ct_query.specs.Plain.{PlainQuery, PlainAction, PlainStatement}
-use Rattle.ct_query.specs.Fields.{FitsFields, AreFitting}
+use Rattle.ct_query.specs.Fields.{FitsFields, AreFittingOn}
 
 -- the columns of the first table with this name, if there is one
 abbrev pub columns_in : List Heading → List ℕ → Option (List (List ℕ))
@@ -49,9 +49,10 @@ abbrev mutual
   AreAllColumnsBelow n none = Unit {0}
   AreAllColumnsBelow n (also c cs) = AreColumnsBelow n c × AreAllColumnsBelow n cs
 
--- a condition fits rows of so many cells
+-- a condition fits rows of so many cells: its nulls and values have numbers that a word has room for, and its columns
+-- are cells of the row
 pub record FitsRows (n : ℕ) (c : Condition) : Type 0 where
-  pub fields : AreFitting c
+  pub fields : AreFittingOn n c
   pub columns : AreColumnsBelow n c
 
 -- a query fits: its tables are there, its columns are those of its parts, and the sides of its set operators have the

@@ -1,5 +1,5 @@
 -- Statements with positions for names.
-use Rattle.std.specs.Prelude.{ℕ, ◌+◌, not, List, [], ◌∷◌, length, Ok, nat_eq}
+use Rattle.std.specs.Prelude.{ℕ, ◌+◌, ◌≤◌, ◌^◌, not, List, [], ◌∷◌, length, Ok, nat_eq}
 use Rattle.std.specs.List.{list_all}
 use Rattle.ct_word.specs.declared.values.Value.TheVariants as val
 use Rattle.ct_word.specs.declared.values.Null.TheVariants as null
@@ -46,6 +46,11 @@ cell_terms session next (c ∷ cs) = cell_term session next c ∷ cell_terms ses
 abbrev pub cells_of : Row → List Cell
 cells_of r = r.first ∷ r.rest
 
+-- the number after rows
+abbrev pub next_after_rows : ℕ → List Row → ℕ
+next_after_rows next [] = next
+next_after_rows next (r ∷ rs) = next_after_rows (next_after_all next (cells_of r)) rs
+
 -- the terms of rows from the left
 abbrev pub row_terms : ℕ → ℕ → List Row → List (List Term)
 row_terms session next [] = []
@@ -73,3 +78,8 @@ resolved s session fresh (statement.Certain q) = and_then (query_at s.tables q) 
 resolved s session fresh statement.Begin = Ok plain.Begin
 resolved s session fresh statement.Commit = Ok plain.Commit
 resolved s session fresh statement.Rollback = Ok plain.Rollback
+
+-- a word has room for the number of each null that a statement draws; fresh is the number of the session's last null
+abbrev pub HasRoom : ℕ → Statement → Type 0
+HasRoom fresh (statement.InsertRows name r rs c) = next_after_rows (fresh + 1) (r ∷ rs) ≤ 2 ^ 28
+HasRoom fresh _ = Unit {0}

@@ -1,11 +1,12 @@
 // A whole statement.
 
-ghost use Rattle.std.specs.Prelude.{◌≡◌, ◌≢◌, IfOk, IfErr, Ok, Err};
+ghost use Rattle.std.specs.Prelude.{◌≡◌, ◌≢◌, ◌≤◌, IfOk, IfErr, Ok, Err};
+ghost use Rattle.ct_query.specs.Fits.{FitsStatement};
 ghost use Rattle.ct_query.specs.Plain as plain;
 ghost use Rattle.ct_query.specs.Views.{statement_of};
 ghost use Rattle.ct_resolve.specs.Found.{and_then};
 ghost use Rattle.ct_resolve.specs.Queries.{query_at};
-ghost use Rattle.ct_resolve.specs.Statements.{resolved};
+ghost use Rattle.ct_resolve.specs.Statements.{HasRoom, resolved};
 ghost use Rattle.ct_resolve.specs.declared.error.ResolveError.TheVariants as fault;
 
 use crate::error::ResolveError;
@@ -36,25 +37,11 @@ fn asked(
     })
 }
 
-/// The statement with positions for the names of columns. `session` is the session that draws the
-/// nulls, from 1 to 1,023, and `fresh` the number of its last null: each NULL, from the left, is its
-/// null with the next number after `fresh`.
+/// The statement with positions for the names of columns.
 ///
 /// # Errors
-/// The first refusal in this order, and `Memory` where there is none for the answer, or where a
-/// position or the number of a null is none of 32 bits.
-/// - CREATE: `TableExists`, then `DuplicateName` for two columns of one name.
-/// - INSERT of rows: `UnknownTable`, then `ColumnCount`, then the condition, which sees no table.
-/// - INSERT of a query: `UnknownTable`, then the query, then `ColumnCount`.
-/// - DELETE: `UnknownTable`, then the condition, which sees the table under its own name.
-/// - ASSERT: the condition, which sees no table.
-/// - SELECT: `UnknownTable` for the tables from the left, then `DuplicateName` for two tables of one
-///   visible name, then the items, then the conditions of ON and WHERE, each from the left.
-/// - A set operator: its left side, its right side, then `ColumnCount`.
-///
-/// A column is `UnknownColumn` where no table in scope has it, and `AmbiguousColumn` where two or
-/// more have it.
-pub fn resolve(
+/// Its first refusal, or `Memory`, as `resolve` has them.
+fn positioned(
     alloc: Global,
     schema: &Schema,
     session: u32,
@@ -62,6 +49,7 @@ pub fn resolve(
     statement: &Statement,
 ) -> Result<Resolved, ResolveError>
     ensures ok { IfOk result (λ r. resolved schema.now session fresh statement.now ≡ Ok (statement_of r)) }
+    ensures room { IfOk result (λ r. HasRoom fresh statement.now) }
     ensures err { IfErr result (λ e. e ≢ fault.Memory → resolved schema.now session fresh statement.now ≡ Err e) }
 {
     match statement {
@@ -90,4 +78,38 @@ pub fn resolve(
         Statement::Commit => Ok(Resolved::Commit),
         Statement::Rollback => Ok(Resolved::Rollback),
     }
+}
+
+/// The statement with positions for the names of columns. `session` is the session that draws the
+/// nulls, from 1 to 1,023, and `fresh` the number of its last null: each NULL, from the left, is its
+/// null with the next number after `fresh`. What is answered fits the schema: its tables and columns
+/// are there, and a word has room for the numbers of its nulls and values.
+///
+/// # Errors
+/// The first refusal in this order, and `Memory` where there is none for the answer, where a position
+/// is no number of 32 bits, or where the number of the session's last null would be 2^28 or more.
+/// - CREATE: `TableExists`, then `DuplicateName` for two columns of one name.
+/// - INSERT of rows: `UnknownTable`, then `ColumnCount`, then the condition, which sees no table.
+/// - INSERT of a query: `UnknownTable`, then the query, then `ColumnCount`.
+/// - DELETE: `UnknownTable`, then the condition, which sees the table under its own name.
+/// - ASSERT: the condition, which sees no table.
+/// - SELECT: `UnknownTable` for the tables from the left, then `DuplicateName` for two tables of one
+///   visible name, then the items, then the conditions of ON and WHERE, each from the left.
+/// - A set operator: its left side, its right side, then `ColumnCount`.
+///
+/// A column is `UnknownColumn` where no table in scope has it, and `AmbiguousColumn` where two or
+/// more have it.
+pub fn resolve(
+    alloc: Global,
+    schema: &Schema,
+    session: u32,
+    fresh: u32,
+    statement: &Statement,
+) -> Result<Resolved, ResolveError>
+    ensures ok { IfOk result (λ r. resolved schema.now session fresh statement.now ≡ Ok (statement_of r)) }
+    ensures fits { IfOk result (λ r. 1 ≤ session → session ≤ 1023 → FitsStatement schema.now.tables (statement_of r)) }
+    ensures err { IfErr result (λ e. e ≢ fault.Memory → resolved schema.now session fresh statement.now ≡ Err e) }
+{
+    let found = positioned(alloc, schema, session, fresh, statement)?;
+    Ok(found)
 }

@@ -1,6 +1,6 @@
 // Rows and lists of names.
 
-ghost use Rattle.std.specs.Prelude.{◌≡◌, ◌+◌, ◌∷◌, IfOk, IfErr, length, map, nat_eq};
+ghost use Rattle.std.specs.Prelude.{◌≡◌, ◌+◌, ◌≤◌, ◌^◌, ◌∷◌, IfOk, IfErr, length, map, nat_eq};
 ghost use Rattle.std.specs.List.{list_all, list_any};
 ghost use Rattle.ct_word.specs.Value.{same_text};
 ghost use Rattle.ct_resolve.specs.Names as naming;
@@ -12,6 +12,9 @@ use ct_parse::{Cell, Row};
 use ct_query::Heading;
 use ct_word::{List, Null, Term, Text, Value};
 use std::alloc::Global;
+
+/// The numbers of nulls that a word has room for are below this one.
+const NUMBERS: u32 = 1 << 28;
 
 fn contains(others: &[Text], name: &str) -> bool
     ensures { result ≡ list_any (same_text name.now) others.now }
@@ -102,7 +105,7 @@ fn row(
     Ok((List::from_vec(terms), next))
 }
 
-/// The terms of rows whose next NULL has this number.
+/// The terms of rows whose next NULL has this number, and the number of the next NULL after them.
 ///
 /// # Errors
 /// `Memory` where there is none for the terms, or a number is none of 32 bits.
@@ -112,8 +115,8 @@ fn rows(
     start: u32,
     first: &Row,
     rest: &[Row],
-) -> Result<List<List<Term>>, ResolveError>
-    ensures ok { IfOk result (λ rs. rs ≡ spec.row_terms session start (first.now ∷ rest.now)) }
+) -> Result<(List<List<Term>>, u32), ResolveError>
+    ensures ok { IfOk result (λ p. (p.0 ≡ spec.row_terms session start (first.now ∷ rest.now)) × (p.1 ≡ spec.next_after_rows start (first.now ∷ rest.now))) }
     ensures err { IfErr result (λ e. e ≡ fault.Memory) }
 {
     let mut found = Vec::new(alloc);
@@ -125,7 +128,7 @@ fn rows(
         found.push(terms)?;
         next = after;
     }
-    Ok(List::from_vec(found))
+    Ok((List::from_vec(found), next))
 }
 
 /// Whether a row has so many cells.
@@ -159,7 +162,8 @@ pub fn all_fit(first: &Row, rest: &List<Row>, heading: &Heading) -> bool
 /// The terms of rows, where `fresh` is the number of the session's last null.
 ///
 /// # Errors
-/// `Memory` where there is none for the terms, or a number is none of 32 bits.
+/// `Memory` where there is none for the terms, or where the number of the session's last null would
+/// be 2^28 or more: a word has no room for it.
 pub fn terms_of_rows(
     alloc: Global,
     session: u32,
@@ -168,8 +172,13 @@ pub fn terms_of_rows(
     rest: &List<Row>,
 ) -> Result<List<List<Term>>, ResolveError>
     ensures ok { IfOk result (λ rs. rs ≡ spec.row_terms session (fresh + 1) (first.now ∷ rest.now)) }
+    ensures room { IfOk result (λ rs. spec.next_after_rows (fresh + 1) (first.now ∷ rest.now) ≤ 2 ^ 28) }
     ensures err { IfErr result (λ e. e ≡ fault.Memory) }
 {
     let start = fresh.checked_add(1).ok_or(ResolveError::Memory)?;
-    rows(alloc, session, start, first, rest.as_slice())
+    let (terms, next) = rows(alloc, session, start, first, rest.as_slice())?;
+    if next > NUMBERS {
+        return Err(ResolveError::Memory);
+    }
+    Ok(terms)
 }

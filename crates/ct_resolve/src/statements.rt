@@ -1,13 +1,13 @@
 // Statements with positions for names, by the lines of the grammar that ask for a change.
 
-ghost use Rattle.std.specs.Prelude.{◌≡◌, ◌≢◌, [], IfOk, IfErr, Ok, Err};
+ghost use Rattle.std.specs.Prelude.{◌≡◌, ◌≢◌, ◌+◌, ◌≤◌, ◌^◌, [], ◌∷◌, IfOk, IfErr, Ok, Err};
 ghost use Rattle.ct_query.specs.Pred.{condition_of};
 ghost use Rattle.ct_query.specs.Views.{action_of};
 ghost use Rattle.ct_query.specs.Plain as plain;
 ghost use Rattle.ct_parse.specs.declared.tree.Statement.TheVariants as tree;
 ghost use Rattle.ct_resolve.specs.Conditions.{condition_at, condition_or_true};
 ghost use Rattle.ct_resolve.specs.Found.{and_then};
-ghost use Rattle.ct_resolve.specs.Statements.{resolved};
+ghost use Rattle.ct_resolve.specs.Statements.{next_after_rows, resolved};
 ghost use Rattle.ct_resolve.specs.declared.error.ResolveError.TheVariants as fault;
 
 use crate::conditions::condition;
@@ -72,7 +72,7 @@ pub fn create(
 /// # Errors
 /// `UnknownTable`; then `ColumnCount` where a row has another number of cells than the table has
 /// columns; then the first refusal of the condition, which sees no table. `Memory` where there is
-/// none for the terms, or the number of a null is none of 32 bits.
+/// none for the terms, or where the number of the session's last null would be 2^28 or more.
 pub fn insert_rows(
     alloc: Global,
     schema: &Schema,
@@ -84,6 +84,7 @@ pub fn insert_rows(
     written: &Option<Condition>,
 ) -> Result<Action, ResolveError>
     ensures ok { IfOk result (λ a. resolved schema.now session fresh (tree.InsertRows name.now first.now rest.now written.now) ≡ Ok (plain.Act (action_of a))) }
+    ensures room { IfOk result (λ a. next_after_rows (fresh + 1) (first.now ∷ rest.now) ≤ 2 ^ 28) }
     ensures err { IfErr result (λ e. e ≢ fault.Memory → resolved schema.now session fresh (tree.InsertRows name.now first.now rest.now written.now) ≡ Err e) }
 {
     let heading = table_named(schema.tables.as_slice(), name.as_str())?;

@@ -52,6 +52,17 @@ fn put_pred(alloc: Global, out: &mut String, pred: &Pred) -> Result<(), AllocErr
     }
 }
 
+/// The sign of a product or set operator; a space for another query.
+fn sign(query: &Query) -> char {
+    match query {
+        Query::Product(..) => '*',
+        Query::Union(..) => '+',
+        Query::Except(..) => '-',
+        Query::Intersect(..) => '^',
+        _ => ' ',
+    }
+}
+
 fn put_query(alloc: Global, out: &mut String, query: &Query) -> Result<(), AllocError> {
     match query {
         Query::Table(name) => out.push_str(name.as_str()),
@@ -68,31 +79,13 @@ fn put_query(alloc: Global, out: &mut String, query: &Query) -> Result<(), Alloc
             }
             put_query(alloc, out, inner)
         }
-        Query::Product(left, right) => {
+        Query::Product(left, right)
+        | Query::Union(left, right)
+        | Query::Except(left, right)
+        | Query::Intersect(left, right) => {
             out.push('(')?;
             put_query(alloc, out, left)?;
-            out.push('*')?;
-            put_query(alloc, out, right)?;
-            out.push(')')
-        }
-        Query::Union(left, right) => {
-            out.push('(')?;
-            put_query(alloc, out, left)?;
-            out.push('+')?;
-            put_query(alloc, out, right)?;
-            out.push(')')
-        }
-        Query::Except(left, right) => {
-            out.push('(')?;
-            put_query(alloc, out, left)?;
-            out.push('-')?;
-            put_query(alloc, out, right)?;
-            out.push(')')
-        }
-        Query::Intersect(left, right) => {
-            out.push('(')?;
-            put_query(alloc, out, left)?;
-            out.push('^')?;
+            out.push(sign(query))?;
             put_query(alloc, out, right)?;
             out.push(')')
         }
@@ -155,8 +148,8 @@ fn heading(alloc: Global, name: &str, columns: &[&str]) -> Result<Heading, Fail>
     })
 }
 
-/// What a text is resolved to in session 1, whose last null has the number 4.
-fn shown(alloc: Global, text: &str) -> Result<String, Fail> {
+/// What a text is resolved to in session 1, whose last null has this number.
+fn shown_after(alloc: Global, fresh: u32, text: &str) -> Result<String, Fail> {
     let mut tables = Vec::new(alloc);
     tables.push(heading(alloc, "t", &["a"])?)?;
     tables.push(heading(alloc, "u", &["a", "b"])?)?;
@@ -166,7 +159,7 @@ fn shown(alloc: Global, text: &str) -> Result<String, Fail> {
     let words = tokens(alloc, text)?;
     let written = statement(alloc, words.as_slice())?;
     let mut out = String::new(alloc);
-    match resolve(alloc, &schema, 1, 4, &written) {
+    match resolve(alloc, &schema, 1, fresh, &written) {
         Ok(found) => put_resolved(alloc, &mut out, &found)?,
         Err(error) => return Ok(format!(in alloc; "{error:?}")?),
     }
@@ -224,8 +217,18 @@ const RESOLVED: [(&str, &str); 32] = [
 #[test]
 fn texts_are_resolved_so(rt: HostRuntime) -> Result<(), Fail> {
     for (text, wanted) in RESOLVED {
-        let found = shown(rt.alloc(), text)?;
+        let found = shown_after(rt.alloc(), 4, text)?;
         assert_eq!(rt; found.as_str(), wanted);
     }
+    Ok(())
+}
+
+#[test]
+fn numbers_of_nulls_are_below_2_to_the_28(rt: HostRuntime) -> Result<(), Fail> {
+    let text = "insert into u values (null, null)";
+    let last = shown_after(rt.alloc(), 268_435_453, text)?;
+    assert_eq!(rt; last.as_str(), "(?1#268435454 ?1#268435455 )true");
+    let past = shown_after(rt.alloc(), 268_435_454, text)?;
+    assert_eq!(rt; past.as_str(), "Memory");
     Ok(())
 }

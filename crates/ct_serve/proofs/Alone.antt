@@ -23,11 +23,12 @@ use Rattle.ct_table.specs.Denotes.{TableView, IsKept}
 use Rattle.ct_lex.specs.Texts.{texts}
 use Rattle.ct_transcript.specs.declared.reply.Reply.{Reply}
 use Rattle.ct_transcript.specs.declared.reply.SessionLog.{SessionLog}
-use Rattle.ct_serve.specs.Catalogue.{IsCatalogue}
-use Rattle.ct_serve.specs.Progress.{Commits, nothing, one, Answers, Progress, state_after}
+use Rattle.ct_session.specs.Catalogue.{IsCatalogue}
+use Rattle.ct_session.specs.Answers.{Commits, nothing, one, Answers, state_after}
+use Rattle.ct_session.proofs.Committing.{length_printed}
+use Rattle.ct_serve.specs.Progress.{Progress}
 use Rattle.ct_serve.specs.Sessions.{AreLawfulSessions}
 use Rattle.ct_serve.specs.Lawful.{Lawful}
-use Rattle.ct_serve.proofs.Committing.{length_printed}
 use Rattle.ct_serve.proofs.Progress.{progress_push}
 
 no_commits : commits_of opening ≡ []

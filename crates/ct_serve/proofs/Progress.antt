@@ -11,10 +11,11 @@ use Rattle.ct_word.proofs.Prefixes.{prefix_of_prefix, prefix_same}
 use Rattle.ct_transcript.specs.declared.reply.Reply.{Reply}
 use Rattle.ct_transcript.specs.declared.reply.Reply.TheVariants as reply
 use Rattle.ct_transcript.specs.declared.reply.Refusal.TheVariants as refusal
-use Rattle.ct_serve.specs.State.{SessionState, beginning}
-use Rattle.ct_serve.specs.LawfulReply.{LawfulReply}
-use Rattle.ct_serve.specs.Sessions.{AreLawful, committed_of, commits_by, IsNoCommit, EndsAtFull}
-use Rattle.ct_serve.specs.Progress.{state_after, is_full, Commits, nothing, one, Answers, Progress}
+use Rattle.ct_session.specs.State.{SessionState, beginning}
+use Rattle.ct_session.specs.LawfulReply.{LawfulReply}
+use Rattle.ct_session.specs.Answers.{state_after, committed_of, is_full, Commits, nothing, one, Answers}
+use Rattle.ct_serve.specs.Sessions.{AreLawful, commits_by, IsNoCommit, EndsAtFull}
+use Rattle.ct_serve.specs.Progress.{Progress}
 
 -- replies that are lawful, and one more
 lawful_push : (H : List PlainCommit) (W : List ℕ) (N : ℕ) (s t u : SessionState) (xs : List (List ℕ)) (rs : List Reply) (x : List ℕ) (r : Reply)
@@ -51,6 +52,7 @@ ends_one (reply.Refused at refusal.AmbiguousColumn) = tt
 ends_one (reply.Refused at refusal.DuplicateName) = tt
 ends_one (reply.Refused at refusal.ColumnCount) = tt
 ends_one (reply.Refused at refusal.NotYet) = tt
+ends_one (reply.Refused at refusal.TooLarge) = tt
 ends_one (reply.Refused at refusal.Memory) = tt
 ends_one (reply.Committed m) = tt
 ends_one (reply.Rows at plus answer) = tt
@@ -69,6 +71,7 @@ full_push (reply.Refused at refusal.AmbiguousColumn ∷ rs) r ends none = full_p
 full_push (reply.Refused at refusal.DuplicateName ∷ rs) r ends none = full_push rs r ends none
 full_push (reply.Refused at refusal.ColumnCount ∷ rs) r ends none = full_push rs r ends none
 full_push (reply.Refused at refusal.NotYet ∷ rs) r ends none = full_push rs r ends none
+full_push (reply.Refused at refusal.TooLarge ∷ rs) r ends none = full_push rs r ends none
 full_push (reply.Refused at refusal.Memory ∷ rs) r ends none = full_push rs r ends none
 full_push (reply.Committed m ∷ rs) r ends none = full_push rs r ends none
 full_push (reply.Rows at plus answer ∷ rs) r ends none = full_push rs r ends none

@@ -1,13 +1,4 @@
-pub mod Statements
-pub mod Built
-pub mod Simple
-pub mod Fits
-pub mod State
-pub mod Printed
-pub mod Selected
-pub mod LawfulReply
 pub mod Sessions
 pub mod Progress
-pub mod Catalogue
 pub mod Lawful
 pub mod Runs

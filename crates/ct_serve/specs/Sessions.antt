@@ -1,18 +1,14 @@
 -- When the replies of a session are lawful.
-use Rattle.std.specs.Prelude.{◌≡◌, ℕ, ◌+◌, List, [], ◌∷◌, filter_map, Option, Some, None, All, ⊤, nat_eq, if◌then◌else◌}
+use Rattle.std.specs.Prelude.{◌≡◌, ℕ, ◌+◌, List, [], ◌∷◌, filter_map, All, ⊤, nat_eq, if◌then◌else◌}
 use Rattle.ct_word.specs.Change.{PlainCommit}
 use Rattle.ct_lex.specs.Texts.{texts}
 use Rattle.ct_transcript.specs.declared.reply.Reply.{Reply}
 use Rattle.ct_transcript.specs.declared.reply.Reply.TheVariants as reply
 use Rattle.ct_transcript.specs.declared.reply.Refusal.TheVariants as refusal
 use Rattle.ct_transcript.specs.declared.reply.SessionLog.{SessionLog}
-use Rattle.ct_serve.specs.State.{SessionState, beginning}
-use Rattle.ct_serve.specs.LawfulReply.{LawfulReply}
-
--- the version of a Committed reply
-abbrev pub committed_of : Reply → Option ℕ
-committed_of (reply.Committed m) = Some m
-committed_of _ = None
+use Rattle.ct_session.specs.State.{SessionState, beginning}
+use Rattle.ct_session.specs.LawfulReply.{LawfulReply}
+use Rattle.ct_session.specs.Answers.{committed_of}
 
 -- the numbers, from this one on, of the commits of a session
 abbrev pub commits_by : ℕ → ℕ → List PlainCommit → List ℕ

@@ -3,16 +3,14 @@
 ghost use Rattle.std.specs.Prelude.{All, ◌≡◌, ◌∷◌, ◌<◌, ◌≤◌, ◌^◌, [], map, length, IfOk};
 ghost use Rattle.ct_lex.specs.Texts.{texts};
 ghost use Rattle.ct_rewrite.specs.History.{plain_history};
-ghost use Rattle.ct_serve.specs.Catalogue.{IsCatalogue};
+ghost use Rattle.ct_session.specs.Catalogue.{IsCatalogue};
 ghost use Rattle.ct_serve.specs.Lawful.{Lawful};
 ghost use Rattle.ct_serve.specs.Progress.{Progress};
 
-use crate::execute::execute;
-use crate::lists::list_of_one;
-use crate::session::Session;
 use ct_arena::{Arena, Blank, Site};
 use ct_lex::split;
 use ct_outside::Gate;
+use ct_session::{Session, execute, list_of_one};
 use ct_table::Db;
 use ct_transcript::{Reply, SessionLog, Transcript};
 use ct_word::{List, Memory, Text};

@@ -6,6 +6,7 @@ use ct_outside::{Gate, MemScripts, MemSink, NoGate};
 use ct_transcript::{Refusal, Reply};
 use ct_word::{List, Text};
 use std::alloc::{AllocError, Global};
+use std::process::Abort;
 use std::sync::Wait;
 use std::sync::atomic::{AtomicU64, Ordering};
 use std::test::Fail;
@@ -33,6 +34,22 @@ fn source(alloc: Global, script: List<u8>, fails: &[u64]) -> Result<MemScripts, 
 fn sink(alloc: Global, fails: &[(u64, u32)]) -> Result<MemSink, Fail> {
     let fails = Vec::from_slice(alloc, fails)?;
     Ok(MemSink::make(alloc, List::from_vec(fails)))
+}
+
+/// Runs a script, and compares how the run ends and what it writes.
+fn ends<R: Wait + Abort>(
+    rt: &R,
+    alloc: Global,
+    script: List<u8>,
+    status: Status,
+    written: &str,
+) -> Result<(), Fail> {
+    let mut scripts = source(alloc, script, &[])?;
+    let mut out = sink(alloc, &[])?;
+    let ended = run(rt, alloc, &["run", "f"], &mut scripts, &mut out, &NoGate);
+    assert_eq!(rt; ended.status, status);
+    assert!(rt; out.bytes() == written.as_bytes());
+    Ok(())
 }
 
 #[test]
@@ -101,18 +118,7 @@ fn scripts_to_texts(rt: HostRuntime) -> Result<(), Fail> {
     ];
     for (piece, times, status, written) in cases {
         let script = repeated(rt.alloc(), piece, times)?;
-        let mut scripts = source(rt.alloc(), script, &[])?;
-        let mut out = sink(rt.alloc(), &[])?;
-        let ended = run(
-            &rt,
-            rt.alloc(),
-            &["run", "f"],
-            &mut scripts,
-            &mut out,
-            &NoGate,
-        );
-        assert_eq!(rt; ended.status, status);
-        assert!(rt; out.bytes() == written.as_bytes());
+        ends(&rt, rt.alloc(), script, status, written)?;
     }
     Ok(())
 }
@@ -221,18 +227,7 @@ const STATEMENTS: [(&str, Status, &str); 19] = [
 fn statements_to_texts(rt: HostRuntime) -> Result<(), Fail> {
     for (script, status, written) in STATEMENTS {
         let script = repeated(rt.alloc(), script.as_bytes(), 1)?;
-        let mut scripts = source(rt.alloc(), script, &[])?;
-        let mut out = sink(rt.alloc(), &[])?;
-        let ended = run(
-            &rt,
-            rt.alloc(),
-            &["run", "f"],
-            &mut scripts,
-            &mut out,
-            &NoGate,
-        );
-        assert_eq!(rt; ended.status, status);
-        assert!(rt; out.bytes() == written.as_bytes());
+        ends(&rt, rt.alloc(), script, status, written)?;
     }
     Ok(())
 }

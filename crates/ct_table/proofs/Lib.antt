@@ -4,10 +4,16 @@ pub mod Denoting
 pub mod Selecting
 pub mod Firsts
 pub mod Merges
+pub mod QueryTuples
+pub mod QueryPatterns
+pub mod QuerySizes
+pub mod Counted
+pub mod ByTables
 pub mod Projecting
 pub mod Building
 pub mod Pairing
 pub mod Holding
 pub mod Comparing
 pub mod Placed
+pub mod Choosing
 pub mod Shared

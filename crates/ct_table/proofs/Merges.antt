@@ -35,7 +35,7 @@ use Rattle.ct_table.proofs.Selecting.{distinct_part, value-push, shown-append, o
 use Rattle.ct_table.proofs.Growing.{terms_grow, is_row_grows, cells_grow, value_grows}
 use Rattle.ct_table.proofs.Firsts.{filtered_part, any_first, firsts_known, firsts_new, or_with_true}
 
-cells_equiv : IsEquivalence same_cells
+pub cells_equiv : IsEquivalence same_cells
 cells_equiv = record {
   refl = λ x. (cells_decide x x).1 refl;
   symm = λ x y. same_from_decides (same_cells x y) (same_cells y x) (cells_decide x y) (λ e. sym ((cells_decide y x).0 e), λ e. (cells_decide y x).1 (sym e));

@@ -1,50 +1,25 @@
 -- A selection, row by row.
 use Rattle.std.proofs.Common.{◌≡◌, ℕ, ◌<◌, Bool, true, false, ◌&&◌, List, [], ◌∷◌, ◌++◌, map, length, cond, get_or, refl, ap, sym, subst, ◌∙◌}
-use Rattle.std.specs.Prelude.{◌≢◌, IsTrue, All, slice_index_or}
+use Rattle.std.specs.Prelude.{◌≢◌, All, slice_index_or}
 use Rattle.std.specs.List.{IsDistinct, AllByRecursion, filter}
 use Rattle.std.proofs.lemmas.List.{append-nil, map_push, map-append, get_or-map, length-map}
 use Rattle.std.proofs.lemmas.List.Elements.{All-push, All-weaker, All-get_or, All-nil, filter-append}
 use Rattle.std.proofs.lemmas.Map.Keys.{IsDistinct-head, IsDistinct-tail, IsDistinct-cons}
 use mathlib.Core.List.{IsPrefix}
-use Rattle.ct_word.specs.declared.kinds.Class.TheVariants as class
 use Rattle.ct_word.specs.declared.values.Value.{Value}
 use Rattle.ct_word.specs.declared.values.CRow.{CRow}
-use Rattle.ct_word.specs.Value.{World, at, cell_at, other_zero, same_value, same_cells, tuple_at}
+use Rattle.ct_word.specs.Value.{World, at, cell_at, other_zero, same_cells, tuple_at}
 use Rattle.ct_word.specs.Sublist.{IsSublist, ended, left_out, taken}
 use Rattle.ct_word.specs.Change.{PlainRow}
-use Rattle.ct_word.specs.Condition.{holds, holds_at}
-use Rattle.ct_word.specs.WellFormed.{is_place_of}
+use Rattle.ct_word.specs.Condition.{holds_at}
 use Rattle.ct_word.specs.Reading.{term_at, condition_at, plain_crow}
-use Rattle.ct_word.proofs.Prefixes.{prefix_of_prefix, prefix_same, term_in_prefix, condition_in_prefix, place_within}
+use Rattle.ct_word.proofs.Prefixes.{prefix_of_prefix, prefix_same}
 use Rattle.ct_query.specs.Database.{SameSet, has_tuple}
 use Rattle.ct_query.specs.Step.{shown_rows}
-use Rattle.ct_condition.specs.Truth.{HasTruth, equal_at, and_at}
-use Rattle.ct_condition.proofs.Truths.{in_place}
 use Rattle.ct_table.specs.Tables.{cells_of, value_of_rows, IsRow, AreRows}
-use Rattle.ct_table.specs.Selection.{has_value, chosen_at}
+use Rattle.ct_table.specs.Building.{HoldsWhere}
 use Rattle.ct_table.proofs.Growing.{terms_grow, is_row_grows, cells_grow, value_grows}
 use Rattle.ct_table.proofs.Denoting.{sublist-append, nothing_of, all_of}
-
--- the cell of a row in a column is a term
-cell_is_term : (ws : List ℕ) (r : CRow) (column : ℕ) → IsRow ws (length r.cells) r → column < length r.cells
-    → IsTrue (is_place_of ws class.Term (slice_index_or r.cells column 0))
-cell_is_term ws r column is lt = All-get_or (λ p. IsTrue (is_place_of ws class.Term p)) r.cells column 0 lt is.terms
-
--- what a row is chosen by, as words are added
-chosen_stays : (old now : List ℕ) (r : CRow) (column term : ℕ) → IsPrefix old now → IsRow old (length r.cells) r → column < length r.cells
-    → IsTrue (is_place_of old class.Term term) → (v : World) (row : List Value) → chosen_at now r column term v row ≡ chosen_at old r column term v row
-chosen_stays old now r column term grown is lt t v row =
-    λ i. holds v row (condition_in_prefix old now r.cond grown (place_within old class.Cond r.cond is.condition) i)
-    && same_value (at v row (term_in_prefix old now (slice_index_or r.cells column 0) grown (place_within old class.Term (slice_index_or r.cells column 0) (cell_is_term old r column is lt)) i))
-    (at v row (term_in_prefix old now term grown (place_within old class.Term term t) i))
-
--- the conjunction of a row's condition and an equality that was put before it
-pub both_chosen : (old mid new : List ℕ) (r : CRow) (column term same place : ℕ) → IsPrefix old mid → IsTrue (is_place_of old class.Cond r.cond)
-    → HasTruth mid same (equal_at old (slice_index_or r.cells column 0) term) → HasTruth new place (and_at mid r.cond same)
-    → HasTruth new place (chosen_at old r column term)
-both_chosen old mid new r column term same place grown is equal h =
-    in_place new place (and_at mid r.cond same) (chosen_at old r column term) h
-    (λ v row i. holds v row (condition_in_prefix old mid r.cond grown (place_within old class.Cond r.cond is) i) && equal.truth_is v row i)
 
 -- the cell of the tuple that a row stands for
 pub cell_of_tuple : (ws : List ℕ) (v : World) (cells : List ℕ) (column : ℕ) → column < length cells
@@ -89,41 +64,29 @@ none_picked v y h e =
     ∙ picked (holds_at v y.condition) (h (tuple_at v y.cells)) (tuple_at v y.cells) h refl
     ∙ ap (filter h) (sym (one_shown v y _ refl))
 
--- what was selected of the rows so far
-pub record Selects (old now : List ℕ) (width column term : ℕ) (done out : List CRow) : Type 0 where
+-- what was selected of the rows so far, by a test of their tuples
+pub record Selects (old now : List ℕ) (width : ℕ) (test : World → List Value → Bool) (done out : List CRow) : Type 0 where
   pub grown : IsPrefix old now
   pub each : All (IsRow now width) out
   pub possible : All (λ r. r.cond ≢ 1) out
-  pub values : (v : World) → value_of_rows now v out ≡ filter (has_value old v column term) (value_of_rows old v done)
+  pub values : (v : World) → value_of_rows now v out ≡ filter (test v) (value_of_rows old v done)
   pub part : IsSublist (cells_of now out) (cells_of old done)
 
-pub selects_none : (old : List ℕ) (width column term : ℕ) → Selects old old width column term [] []
-selects_none old width column term = record { grown = prefix_same old; each = All-nil _; possible = All-nil _; values = λ v. refl; part = ended }
+pub selects_none : (old : List ℕ) (width : ℕ) (test : World → List Value → Bool) → Selects old old width test [] []
+selects_none old width test = record { grown = prefix_same old; each = All-nil _; possible = All-nil _; values = λ v. refl; part = ended }
 
-module _ (old now new : List ℕ) (width column term : ℕ) (lt : column < width) (t : IsTrue (is_place_of old class.Term term))
-    (done out : List CRow) (so_far : Selects old now width column term done out) (longer : IsPrefix now new) (r : CRow) (is : IsRow old width r)
-    (place : ℕ) (chosen : HasTruth new place (chosen_at now r column term)) where
-  own : IsRow old (length r.cells) r
-  own = record { terms = is.terms; condition = is.condition; width_is = refl }
-
-  within : column < length r.cells
-  within = subst (λ n. column < n) (sym is.width_is) lt
-
-  -- the truth of the condition that was put, as a test of the row's tuple
-  tested : (v : World) → holds_at v (condition_at new place) ≡ (holds_at v (condition_at old r.cond) && has_value old v column term (tuple_at v (map (term_at old) r.cells)))
-  tested v =
-      chosen.truth_is v [] ∙ chosen_stays old now r column term so_far.grown own within t v []
-      ∙ ap (λ x. holds_at v (condition_at old r.cond) && same_value x (at v [] (term_at old term))) (sym (cell_of_tuple old v r.cells column within))
-
-  values_before : (v : World) → value_of_rows new v out ≡ filter (has_value old v column term) (value_of_rows old v done)
+module _ (old now new : List ℕ) (width : ℕ) (test : World → List Value → Bool)
+    (done out : List CRow) (so_far : Selects old now width test done out) (longer : IsPrefix now new) (r : CRow) (is : IsRow old width r)
+    (place : ℕ) (chosen : HoldsWhere new place (λ v. holds_at v (condition_at old r.cond) && test v (tuple_at v (map (term_at old) r.cells)))) where
+  values_before : (v : World) → value_of_rows new v out ≡ filter (test v) (value_of_rows old v done)
   values_before v = value_grows now new longer v width out so_far.each ∙ so_far.values v
 
-  more_values : (v : World) (last : List (List Value)) → last ≡ filter (has_value old v column term) (value_of_rows old v (r ∷ []))
-      → value_of_rows new v out ++ last ≡ filter (has_value old v column term) (value_of_rows old v (done ++ r ∷ []))
+  more_values : (v : World) (last : List (List Value)) → last ≡ filter (test v) (value_of_rows old v (r ∷ []))
+      → value_of_rows new v out ++ last ≡ filter (test v) (value_of_rows old v (done ++ r ∷ []))
   more_values v last e =
       (λ i. values_before v i ++ e i)
-      ∙ sym (filter-append (has_value old v column term) (value_of_rows old v done) (value_of_rows old v (r ∷ [])))
-      ∙ ap (filter (has_value old v column term)) (sym (value-push old v done r))
+      ∙ sym (filter-append (test v) (value_of_rows old v done) (value_of_rows old v (r ∷ [])))
+      ∙ ap (filter (test v)) (sym (value-push old v done r))
 
   part_before : IsSublist (cells_of new out) (cells_of old done)
   part_before = subst (λ cs. IsSublist cs (cells_of old done)) (sym (cells_grow now new longer width out so_far.each)) so_far.part
@@ -134,7 +97,7 @@ module _ (old now new : List ℕ) (width column term : ℕ) (lt : column < width
   terms_stay : map (term_at new) r.cells ≡ map (term_at old) r.cells
   terms_stay = terms_grow old new (prefix_of_prefix old now new so_far.grown longer) r.cells is.terms
 
-  pub selects_more : place ≢ 1 → Selects old new width column term (done ++ r ∷ []) (out ++ under ∷ [])
+  pub selects_more : place ≢ 1 → Selects old new width test (done ++ r ∷ []) (out ++ under ∷ [])
   selects_more ne = record {
     grown = prefix_of_prefix old now new so_far.grown longer;
     each = All-push (IsRow new width) out under (All-weaker (IsRow now width) (IsRow new width) (is_row_grows now new longer width) out so_far.each)
@@ -142,20 +105,20 @@ module _ (old now new : List ℕ) (width column term : ℕ) (lt : column < width
     possible = All-push (λ r. r.cond ≢ 1) out under so_far.possible ne;
     values = λ v. value-push new v out under
         ∙ more_values v (value_of_rows new v (under ∷ []))
-        (one_picked v (plain_crow new under) (plain_crow old r) (has_value old v column term) (ap (tuple_at v) terms_stay) (tested v));
+        (one_picked v (plain_crow new under) (plain_crow old r) (test v) (ap (tuple_at v) terms_stay) (chosen.holds v));
     part = subst (λ cs. IsSublist cs (cells_of old (done ++ r ∷ []))) (sym (map_push (λ (r : CRow). map (term_at new) r.cells) out under))
         (subst (λ cs. IsSublist (cells_of new out ++ map (term_at new) r.cells ∷ []) cs) (sym (map_push (λ (r : CRow). map (term_at old) r.cells) done r))
         (sublist-append (cells_of new out) (cells_of old done) (map (term_at new) r.cells ∷ []) (map (term_at old) r.cells ∷ []) part_before
         (subst (λ c. IsSublist (map (term_at new) r.cells ∷ []) (c ∷ [])) terms_stay (all_of (map (term_at new) r.cells ∷ [])))));
   }
 
-  pub selects_as_many : ((v : World) → holds_at v (condition_at new place) ≡ false) → Selects old new width column term (done ++ r ∷ []) out
+  pub selects_as_many : ((v : World) → holds_at v (condition_at new place) ≡ false) → Selects old new width test (done ++ r ∷ []) out
   selects_as_many never = record {
     grown = prefix_of_prefix old now new so_far.grown longer;
     each = All-weaker (IsRow now width) (IsRow new width) (is_row_grows now new longer width) out so_far.each;
     possible = so_far.possible;
     values = λ v. sym (append-nil (value_of_rows new v out))
-        ∙ more_values v [] (none_picked v (plain_crow old r) (has_value old v column term) (sym (tested v) ∙ never v));
+        ∙ more_values v [] (none_picked v (plain_crow old r) (test v) (sym (chosen.holds v) ∙ never v));
     part = subst (λ cs. IsSublist cs (cells_of old (done ++ r ∷ []))) (append-nil (cells_of new out))
         (subst (λ cs. IsSublist (cells_of new out ++ []) cs) (sym (map_push (λ (r : CRow). map (term_at old) r.cells) done r))
         (sublist-append (cells_of new out) (cells_of old done) [] (map (term_at old) r.cells ∷ []) part_before (nothing_of _)));
@@ -174,13 +137,13 @@ distinct_part same (x ∷ xs) (x' ∷ ys) (taken p) d =
     IsDistinct-cons same x xs (apart (λ y. same x y ≡ false) xs ys p (IsDistinct-head same x ys d)) (distinct_part same xs ys p (IsDistinct-tail same x ys d))
 
 -- what was selected of all rows
-pub selected_rows : (old new : List ℕ) (width column term : ℕ) (rows out : List CRow) → AreRows old width rows → Selects old new width column term rows out → AreRows new width out
-selected_rows old new width column term rows out are s =
+pub selected_rows : (old new : List ℕ) (width : ℕ) (test : World → List Value → Bool) (rows out : List CRow) → AreRows old width rows → Selects old new width test rows out → AreRows new width out
+selected_rows old new width test rows out are s =
     record { each = s.each; distinct = distinct_part same_cells _ _ s.part are.distinct; possible = s.possible }
 
-pub selected_values : (old new : List ℕ) (width column term : ℕ) (rows out : List CRow) → Selects old new width column term rows out
-    → (v : World) → SameSet (value_of_rows new v out) (filter (has_value old v column term) (value_of_rows old v rows))
-selected_values old new width column term rows out s v tuple = ap (λ ts. has_tuple ts tuple) (s.values v)
+pub selected_values : (old new : List ℕ) (width : ℕ) (test : World → List Value → Bool) (rows out : List CRow) → Selects old new width test rows out
+    → (v : World) → SameSet (value_of_rows new v out) (filter (test v) (value_of_rows old v rows))
+selected_values old new width test rows out s v tuple = ap (λ ts. has_tuple ts tuple) (s.values v)
 
 -- a row of a table, as words are added
 pub row_at : (old now : List ℕ) (width : ℕ) (rows : List CRow) (i : ℕ) (r : CRow) → IsPrefix old now → All (IsRow old width) rows → i < length rows → r ≡ get_or rows i r

@@ -1,9 +1,9 @@
 pub mod Tables
 pub mod Denotes
-pub mod Selection
 pub mod Merging
 pub mod Projection
 pub mod Building
 pub mod Matching
 pub mod Placing
 pub mod Shared
+pub mod Counting

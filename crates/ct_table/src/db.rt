@@ -1,17 +1,18 @@
 // The tables of a database, each shared.
 
-ghost use Rattle.std.specs.Prelude.{◌≡◌, List, [], map, Some, None, IfOk, MatchOption, length};
+ghost use Rattle.std.specs.Prelude.{◌≡◌, List, [], map, min, Some, None, IfOk, MatchOption, length};
 ghost use Rattle.std.specs.List.{IsDistinct};
 ghost use Rattle.std.specs.Arc.{arc_value};
 ghost use Rattle.ct_word.specs.Value.{same_text};
 ghost use Rattle.ct_table.specs.Denotes.{TableView, heading_of, find_table, with_table};
 ghost use Rattle.ct_table.specs.Shared.{view_of, entry_of};
+ghost use Rattle.ct_table.specs.Counting.{count_of};
 
 use crate::table::CTable;
-use ct_query::{Heading, Schema};
+use ct_query::{Count, Counts, Heading, Schema};
 use ct_word::{List, Memory, Text};
 use indexmap::IndexMap;
-use std::alloc::Global;
+use std::alloc::{AllocError, Global};
 use std::marker::Model;
 use std::sync::Arc;
 
@@ -74,6 +75,22 @@ impl Db {
         })
     }
 
+    /// The numbers of rows and columns of the tables. A number of columns stops at the greatest `u32`.
+    ///
+    /// # Errors
+    /// `AllocError` where there is no memory for the copies of the names.
+    pub fn counts(&self, alloc: Global) -> Result<Counts, AllocError>
+        ensures { IfOk result (λ c. c.tables ≡ map count_of self.now) }
+    {
+        let mut counts = Vec::new(alloc);
+        for (name, table) in self.tables.iter() {
+            counts.push(count(name, table)?)?;
+        }
+        Ok(Counts {
+            tables: List::from_vec(counts),
+        })
+    }
+
     /// The same tables with this one at its name's place, or last where the name is new. The others are shared.
     ///
     /// # Errors
@@ -96,4 +113,22 @@ fn heading(name: &Text, table: &CTable) -> Result<Heading, Memory>
         name: name.clone()?,
         columns: table.columns.clone()?,
     })
+}
+
+/// The name of a table, and its numbers of rows and columns.
+fn count(name: &Text, table: &CTable) -> Result<Count, AllocError>
+    ensures { IfOk result (λ c. c ≡ count_of (view_of name.now table.now)) }
+{
+    Ok(Count {
+        name: name.clone()?,
+        rows: table.rows.as_slice().len() as u64,
+        columns: stopped(table.columns.as_slice().len()),
+    })
+}
+
+/// The number, which stops at the greatest `u32`.
+fn stopped(number: usize) -> u32
+    ensures { result ≡ min number 4294967295 }
+{
+    u32::try_from(number).unwrap_or(u32::MAX)
 }

@@ -5,11 +5,14 @@ ghost use mathlib.Core.List.{IsPrefix};
 ghost use Rattle.ct_word.specs.WellFormed.{is_place_of};
 ghost use Rattle.ct_word.specs.declared.kinds.Class.TheVariants as class;
 ghost use Rattle.ct_query.specs.Fields.{FitsFields};
+ghost use Rattle.ct_query.specs.Fits.{FitsRows};
+ghost use Rattle.ct_query.specs.Pred.{condition_of};
 ghost use Rattle.ct_table.specs.Tables.{IsRow, AreRows};
 
-use crate::{CRow, CTable, except, insert, intersect, product, project, union};
+use crate::{CRow, CTable, except, insert, intersect, product, project, select, union};
 use ct_arena::{Arena, Blank, Pass, Site};
 use ct_condition::{and, eq, not, or, term};
+use ct_query::Pred;
 use ct_word::{Class, List, Null, Term, Text, Value, class, kind};
 use std::alloc::{AllocError, Global};
 use std::marker::Brand;
@@ -161,6 +164,54 @@ const CASES: [(Operator, &'static [Row], &'static [Row], &'static [Row]); 16] = 
         &[(&[ONE], BOTH_ONE)],
     ),
     (Intersect, &[(&[ONE], ALWAYS)], &[], &[]),
+];
+
+/// What rows of two columns are selected by: the first is 1, or is not, or equals the second.
+#[derive(Clone, Copy)]
+enum Test {
+    One,
+    Other,
+    Equal,
+}
+
+/// A test, the rows of a table, and those that a selection answers.
+const SELECTIONS: [(Test, &'static [Row], &'static [Row]); 3] = [
+    // 2 is not 1; ?x is 1 never where it is not 1; ?y may be.
+    (
+        Test::One,
+        &[
+            (&[ONE, X], Y_ONE),
+            (&[TWO, X], ALWAYS),
+            (&[X, X], X_NOT_ONE),
+            (&[Y, X], X_ONE),
+        ],
+        &[(&[ONE, X], Y_ONE), (&[Y, X], BOTH_ONE)],
+    ),
+    (
+        Test::Other,
+        &[
+            (&[ONE, X], ALWAYS),
+            (&[TWO, X], Y_ONE),
+            (&[X, X], ALWAYS),
+            (&[Y, X], X_ONE),
+        ],
+        &[
+            (&[TWO, X], Y_ONE),
+            (&[X, X], X_NOT_ONE),
+            (&[Y, X], X_ALONE_ONE),
+        ],
+    ),
+    // A null equals itself.
+    (
+        Test::Equal,
+        &[
+            (&[ONE, X], ALWAYS),
+            (&[X, X], Y_ONE),
+            (&[ONE, TWO], ALWAYS),
+            (&[X, Y], ALWAYS),
+        ],
+        &[(&[ONE, X], X_ONE), (&[X, X], Y_ONE), (&[X, Y], X_Y)],
+    ),
 ];
 
 /// Whether a place is of a class.
@@ -432,4 +483,59 @@ fn try_all<N: Site>(rt: &impl Abort, alloc: Global, blank: Blank) -> Result<(), 
 fn the_operators_answer_their_rows(rt: HostRuntime) -> Result<(), Fail> {
     let blank = Blank::make(rt.alloc(), 1024)?;
     try_all::<Brand>(&rt, rt.alloc(), blank)
+}
+
+fn is_one() -> Pred
+    ensures { FitsRows 2 (condition_of result) }
+{
+    Pred::Same(Term::Column(0), Term::Value(Value::Int(1)))
+}
+
+fn predicate(alloc: Global, test: Test) -> Result<Pred, AllocError>
+    ensures { IfOk result (λ p. FitsRows 2 (condition_of p)) }
+{
+    Ok(match test {
+        Test::One => is_one(),
+        Test::Other => Pred::Not(Box::new(alloc, is_one())?),
+        Test::Equal => Pred::Same(Term::Column(0), Term::Column(1)),
+    })
+}
+
+fn selected<N: Site>(
+    alloc: Global,
+    arena: &Arena<N>,
+    pass: &mut Pass<N>,
+    test: Test,
+    table: &CTable,
+) -> Result<CTable, Fail>
+    requires { AreRows pass.old.words (length table.now.columns) table.now.rows }
+{
+    if table.columns.as_slice().len() != 2 {
+        return Err("not two columns".into());
+    }
+    let p = predicate(alloc, test)?;
+    Ok(select(alloc, arena, pass, &p, table)?)
+}
+
+fn try_selections<N: Site>(rt: &impl Abort, alloc: Global, blank: Blank) -> Result<(), Fail>
+    requires { blank ≡ N.log }
+{
+    let (arena, mut keeper) = Arena::<N>::make(blank);
+    let mut pass = keeper.enrol(alloc, &arena)?;
+    let terms = terms(alloc, &arena, &mut pass)?;
+    let conditions = conditions(&arena, &mut pass, &terms)?;
+    for (test, given, expected) in SELECTIONS {
+        let given = rows(alloc, &terms, &conditions, given)?;
+        let table = filled(alloc, &arena, &mut pass, 2, given.as_slice())?;
+        let out = selected(alloc, &arena, &mut pass, test, &table)?;
+        let expected = rows(alloc, &terms, &conditions, expected)?;
+        assert!(rt; same_rows(out.rows.as_slice(), expected.as_slice()));
+    }
+    Ok(())
+}
+
+#[test]
+fn selections_answer_their_rows(rt: HostRuntime) -> Result<(), Fail> {
+    let blank = Blank::make(rt.alloc(), 1024)?;
+    try_selections::<Brand>(&rt, rt.alloc(), blank)
 }

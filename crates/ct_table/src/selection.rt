@@ -1,104 +1,99 @@
-// Selection by the equality of a column and a term.
+// Selection of the rows for which a predicate holds.
 
-ghost use Rattle.std.specs.Prelude.{◌≡◌, ◌≤◌, ◌<◌, ◌↔◌, false, length, slice_index_or, IfOk, OnErr, IsErrOf, IsTrue};
+ghost use Rattle.std.specs.Prelude.{◌≡◌, ◌≤◌, ◌<◌, ◌+◌, ◌*◌, ◌↔◌, false, ◌&&◌, length, IfOk, OnErr, IsErrOf, IsTrue};
 ghost use Rattle.std.specs.List.{filter};
 ghost use mathlib.Core.List.{IsPrefix};
-ghost use Rattle.ct_word.specs.declared.kinds.Class.TheVariants as class;
 ghost use Rattle.ct_word.specs.Value.{World};
 ghost use Rattle.ct_word.specs.Sublist.{IsSublist};
-ghost use Rattle.ct_word.specs.Condition.{holds_at};
+ghost use Rattle.ct_word.specs.Condition.{holds, holds_at};
 ghost use Rattle.ct_word.specs.Reading.{condition_at};
-ghost use Rattle.ct_word.specs.WellFormed.{is_place_of};
+ghost use Rattle.ct_query.specs.Bounds.{terms, ops};
 ghost use Rattle.ct_query.specs.Database.{SameSet};
-ghost use Rattle.ct_condition.specs.Truth.{HasTruth};
+ghost use Rattle.ct_query.specs.Fits.{FitsRows};
+ghost use Rattle.ct_query.specs.Pred.{condition_of};
 ghost use Rattle.ct_table.specs.Tables.{IsRow, AreRows, value_of_rows, cells_of};
-ghost use Rattle.ct_table.specs.Selection.{has_value, chosen_at};
+ghost use Rattle.ct_table.specs.Building.{HoldsWhere};
+ghost use Rattle.ct_table.specs.Placing.{tuple_of};
 ghost use Rattle.ct_table.specs.declared.error.TableError.TheVariants as fault;
 
 use crate::error::TableError;
 use crate::rows::{names, under};
 use crate::table::CTable;
-use ct_arena::{Arena, Full, Pass, Site};
-use ct_condition::{and, eq};
+use ct_arena::{Arena, Full, Site};
+use ct_condition::{Interner, and, pred};
+use ct_query::Pred;
 use ct_word::{CRow, List};
 use std::alloc::Global;
 
-/// The place of a row's cell in a column.
-fn cell(row: &CRow, column: u32) -> u32
-    requires { column < length row.now.cells }
-    ensures { result ≡ slice_index_or row.now.cells column 0 }
-{
-    row.cells.as_slice()[column as usize]
-}
-
-/// The place of the condition under which a row is kept.
-fn select_row<N: Site>(
+/// The place of the condition that a row is shown, and a predicate holds for it.
+fn chosen<N: Site, I: Interner<N>>(
     arena: &Arena<N>,
-    pass: &mut Pass<N>,
+    pass: &mut I,
     row: &CRow,
-    column: u32,
-    term: u32,
+    p: &Pred,
 ) -> Result<u32, Full>
-    requires row { IsRow pass.old.words (length row.now.cells) row.now }
-    requires column { column < length row.now.cells }
-    requires term { IsTrue (is_place_of pass.old.words class.Term term) }
-    ensures truth { IfOk result (λ place. HasTruth pass.new.words place (chosen_at pass.old.words row.now column term)) }
-    ensures longer { IsPrefix pass.old.words pass.new.words }
-    ensures full { OnErr result (length pass.new.words ≡ N.log.cap) }
-    ensures session { pass.new.session ≡ pass.old.session }
-    ensures mine { pass.new.mine ≡ pass.old.mine }
+    requires row { IsRow (I.list pass.old) (length row.now.cells) row.now }
+    requires predicate { FitsRows (length row.now.cells) (condition_of p.now) }
+    ensures holds { IfOk result (λ place. HoldsWhere (I.list pass.new) place (λ v. holds_at v (condition_at (I.list pass.old) row.now.cond) && holds v (tuple_of (I.list pass.old) row.now.cells v) (condition_of p.now))) }
+    ensures longer { IsPrefix (I.list pass.old) (I.list pass.new) }
+    ensures full { OnErr result (length (I.list pass.new) ≡ N.log.cap) }
+    ensures made { I.made pass.new ≤ I.made pass.old + (terms (condition_of p.now) + ops (condition_of p.now) + 1) }
+    ensures err { OnErr result (I.made pass.new < I.made pass.old + (terms (condition_of p.now) + ops (condition_of p.now) + 1)) }
+    ensures kept { I.kept pass.new ≡ I.kept pass.old }
+    ensures lent { I.lent pass.new ≡ I.lent pass.old }
 {
-    let same = eq(arena, pass, cell(row, column), term)?;
-    and(arena, pass, row.cond, same)
+    let place = pred(arena, pass, p, row.cells.as_slice())?;
+    and(arena, pass, row.cond, place)
 }
 
 /// Whether a condition is the word false, which no valuation satisfies.
-fn is_false<N: Site>(pass: &Pass<N>, place: u32) -> bool
+fn is_false<N: Site, I: Interner<N>>(pass: &I, place: u32) -> bool
     ensures decides { IsTrue result ↔ (place ≡ 1) }
-    ensures room { length pass.now.words ≤ N.log.cap }
-    ensures never { IsTrue result → (v : World) → holds_at v (condition_at pass.now.words place) ≡ false }
+    ensures room { length (I.list pass.now) ≤ N.log.cap }
+    ensures never { IsTrue result → (v : World) → holds_at v (condition_at (I.list pass.now) place) ≡ false }
 {
     let _ = pass.words();
     place == 1
 }
 
-/// The rows of a table whose value in a column is that of a term, each under the condition that it is.
+/// The rows, each under the further condition that a predicate holds for it. A column of the predicate is a cell of the
+/// row. Rows under the word false are left out.
 ///
 /// # Errors
 /// `Full` where the log has no room for a condition, `Memory` where there is none for the rows.
-pub fn select<N: Site>(
+pub fn select<N: Site, I: Interner<N>>(
     alloc: Global,
     arena: &Arena<N>,
-    pass: &mut Pass<N>,
-    column: u32,
-    term: u32,
+    pass: &mut I,
+    p: &Pred,
     table: &CTable,
 ) -> Result<CTable, TableError>
-    requires rows { AreRows pass.old.words (length table.now.columns) table.now.rows }
-    requires column { column < length table.now.columns }
-    requires term { IsTrue (is_place_of pass.old.words class.Term term) }
+    requires rows { AreRows (I.list pass.old) (length table.now.columns) table.now.rows }
+    requires predicate { FitsRows (length table.now.columns) (condition_of p.now) }
     ensures columns { IfOk result (λ out. out.columns ≡ table.now.columns) }
-    ensures rows { IfOk result (λ out. AreRows pass.new.words (length table.now.columns) out.rows) }
-    ensures tuples { (v : World) → IfOk result (λ out. SameSet (value_of_rows pass.new.words v out.rows) (filter (has_value pass.old.words v column term) (value_of_rows pass.old.words v table.now.rows))) }
-    ensures part { IfOk result (λ out. IsSublist (cells_of pass.new.words out.rows) (cells_of pass.old.words table.now.rows)) }
-    ensures longer { IsPrefix pass.old.words pass.new.words }
-    ensures room { length pass.new.words ≤ N.log.cap }
-    ensures full { IsErrOf result fault.Full → length pass.new.words ≡ N.log.cap }
-    ensures session { pass.new.session ≡ pass.old.session }
-    ensures mine { pass.new.mine ≡ pass.old.mine }
+    ensures rows { IfOk result (λ out. AreRows (I.list pass.new) (length table.now.columns) out.rows) }
+    ensures tuples { (v : World) → IfOk result (λ out. SameSet (value_of_rows (I.list pass.new) v out.rows) (filter (λ t. holds v t (condition_of p.now)) (value_of_rows (I.list pass.old) v table.now.rows))) }
+    ensures part { IfOk result (λ out. IsSublist (cells_of (I.list pass.new) out.rows) (cells_of (I.list pass.old) table.now.rows)) }
+    ensures longer { IsPrefix (I.list pass.old) (I.list pass.new) }
+    ensures room { length (I.list pass.new) ≤ N.log.cap }
+    ensures full { IsErrOf result fault.Full → length (I.list pass.new) ≡ N.log.cap }
+    ensures made { I.made pass.new ≤ I.made pass.old + length table.now.rows * (terms (condition_of p.now) + ops (condition_of p.now) + 1) }
+    ensures fewer { IsErrOf result fault.Full → I.made pass.new < I.made pass.old + length table.now.rows * (terms (condition_of p.now) + ops (condition_of p.now) + 1) }
+    ensures kept { I.kept pass.new ≡ I.kept pass.old }
+    ensures lent { I.lent pass.new ≡ I.lent pass.old }
 {
     // The words are within the capacity, also where no row adds any.
     let _ = pass.words();
     let columns = names(&table.columns)?;
-    let mut rows = Vec::new(alloc);
+    let mut out = Vec::new(alloc);
     for row in table.rows.as_slice() {
-        let cond = select_row(arena, pass, row, column, term)?;
-        if !is_false(pass, cond) {
-            rows.push(under(row, cond)?)?;
+        let place = chosen(arena, pass, row, p)?;
+        if !is_false(pass, place) {
+            out.push(under(row, place)?)?;
         }
     }
     Ok(CTable {
         columns,
-        rows: List::from_vec(rows),
+        rows: List::from_vec(out),
     })
 }

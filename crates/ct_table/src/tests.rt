@@ -9,6 +9,7 @@ ghost use Rattle.ct_table.specs.Tables.{IsRow};
 use crate::{CRow, CTable, Db, insert, select};
 use ct_arena::{Arena, Blank, Pass, Site};
 use ct_condition::{eq, term};
+use ct_query::Pred;
 use ct_word::{List, Term, Text, Value};
 use std::alloc::{AllocError, Global};
 use std::marker::Brand;
@@ -39,6 +40,9 @@ fn tables_are_found_by_their_names(rt: HostRuntime) -> Result<(), Fail> {
     let found = db.get("t").ok_or("no table")?;
     assert_eq!(rt; found.columns.as_slice().len(), 1);
     assert_eq!(rt; db.schema(alloc)?.tables.as_slice().len(), 1);
+    let counts = db.counts(alloc)?;
+    let count = counts.tables.as_slice().first().ok_or("no count")?;
+    assert_eq!(rt; (count.rows, count.columns), (0, 1));
     Ok(())
 }
 
@@ -64,8 +68,10 @@ fn put_row<N: Site>(rt: &impl Abort, alloc: Global, blank: Blank) -> Result<(), 
     let rows = [row(alloc, &arena, &mut pass, x)?];
     let filled = insert(alloc, &arena, &mut pass, &table(alloc)?, &rows)?;
     assert_eq!(rt; filled.rows.as_slice().len(), 1);
-    let same = select(alloc, &arena, &mut pass, 0, x, &filled)?;
+    let one = Pred::Same(Term::Column(0), Term::Value(Value::Int(1)));
+    let same = select(alloc, &arena, &mut pass, &one, &filled)?;
     assert_eq!(rt; same.rows.as_slice().len(), 1);
+    assert_eq!(rt; filled.copied(alloc)?.rows.as_slice().len(), 1);
     Ok(())
 }
 

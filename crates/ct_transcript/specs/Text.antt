@@ -57,6 +57,7 @@ refusal_text refusal.AmbiguousColumn = codes "AmbiguousColumn"
 refusal_text refusal.DuplicateName = codes "DuplicateName"
 refusal_text refusal.ColumnCount = codes "ColumnCount"
 refusal_text refusal.NotYet = codes "NotYet"
+refusal_text refusal.TooLarge = codes "TooLarge"
 refusal_text refusal.Full = codes "Full"
 refusal_text refusal.Memory = codes "Memory"
 

@@ -132,6 +132,7 @@ fn refusal_name(refusal: &Refusal) -> &'static str
         Refusal::DuplicateName => "DuplicateName",
         Refusal::ColumnCount => "ColumnCount",
         Refusal::NotYet => "NotYet",
+        Refusal::TooLarge => "TooLarge",
         Refusal::Full => "Full",
         Refusal::Memory => "Memory",
     }

@@ -299,6 +299,7 @@ fn refusals(alloc: Global) -> Result<List<Reply>, AllocError> {
         Refusal::DuplicateName,
         Refusal::ColumnCount,
         Refusal::NotYet,
+        Refusal::TooLarge,
         Refusal::Full,
         Refusal::Memory,
     ];
@@ -318,6 +319,37 @@ fn changes(alloc: Global) -> Result<[Change; 4], AllocError> {
     ])
 }
 
+/// The replies and the changes of `each_form_is_printed`, line by line.
+const EACH_FORM: &str = "session 1\n\
+    1 rows (a) at 1 plus 2\n  \
+      [1] is ?1#2 = -5 or (?1#2 = -5 and ?x <> 'it''s')\n  \
+      [2] is ?x <> 'it''s' and [1]\n  \
+      worlds where [2]\n  \
+      (-5) if [1]\n  \
+      (@7) if [2]\n  \
+      (1)\n\
+    session 2\n\
+    1 refused NotAStatement\n\
+    2 refused TooDeep\n\
+    3 refused NumberRange\n\
+    4 refused UnknownTable\n\
+    5 refused TableExists\n\
+    6 refused UnknownColumn\n\
+    7 refused AmbiguousColumn\n\
+    8 refused DuplicateName\n\
+    9 refused ColumnCount\n\
+    10 refused NotYet\n\
+    11 refused TooLarge\n\
+    12 refused Full\n\
+    13 refused Memory\n\
+    history\n\
+    1 by 2\n  \
+      insert into t ('') if false\n  \
+      insert into t nothing\n  \
+      delete from t where $1 = ?x\n  \
+      assert true\n\
+    end\n";
+
 #[test]
 fn each_form_is_printed(rt: HostRuntime) -> Result<(), Fail> {
     let alloc = rt.alloc();
@@ -334,36 +366,6 @@ fn each_form_is_printed(rt: HostRuntime) -> Result<(), Fail> {
     let nodes = list(alloc, [Node::False, column, Node::True])?;
     let history = [commit(alloc, 2, nodes, changes(alloc)?)?];
     let out = written(alloc, &sessions, &history)?;
-    assert_eq!(rt;
-        out.as_str(),
-        "session 1\n\
-        1 rows (a) at 1 plus 2\n  \
-          [1] is ?1#2 = -5 or (?1#2 = -5 and ?x <> 'it''s')\n  \
-          [2] is ?x <> 'it''s' and [1]\n  \
-          worlds where [2]\n  \
-          (-5) if [1]\n  \
-          (@7) if [2]\n  \
-          (1)\n\
-        session 2\n\
-        1 refused NotAStatement\n\
-        2 refused TooDeep\n\
-        3 refused NumberRange\n\
-        4 refused UnknownTable\n\
-        5 refused TableExists\n\
-        6 refused UnknownColumn\n\
-        7 refused AmbiguousColumn\n\
-        8 refused DuplicateName\n\
-        9 refused ColumnCount\n\
-        10 refused NotYet\n\
-        11 refused Full\n\
-        12 refused Memory\n\
-        history\n\
-        1 by 2\n  \
-          insert into t ('') if false\n  \
-          insert into t nothing\n  \
-          delete from t where $1 = ?x\n  \
-          assert true\n\
-        end\n"
-    );
+    assert_eq!(rt; out.as_str(), EACH_FORM);
     Ok(())
 }

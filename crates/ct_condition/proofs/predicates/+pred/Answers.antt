@@ -1,4 +1,4 @@
-use Rattle.std.proofs.Common.{◌≡◌, ◌∙◌, true, false, Err, get_or, refl, ap, sym, subst, arith}
+use Rattle.std.proofs.Common.{◌≡◌, ◌∙◌, true, false, Err, length, get_or, refl, ap, sym, subst, arith}
 use Rattle.std.specs.Prelude.{All}
 use Rattle.std.specs.List.{list_all, list_any}
 use Rattle.std.specs.Prelude.{min, max}
@@ -12,7 +12,7 @@ use Rattle.ct_word.proofs.Prefixes.{prefix_same, prefix_of_prefix, place_in_pref
 use Rattle.ct_query.specs.declared.query.Pred.{Pred, And, Or}
 use Rattle.ct_query.specs.Pred.{condition_of}
 use Rattle.ct_condition.specs.Truth.{HasTruth}
-use Rattle.ct_query.specs.Fields.{AreFitting}
+use Rattle.ct_query.specs.Fields.{AreFittingOn}
 use Rattle.ct_condition.specs.Rows.{on_row}
 use Rattle.ct_condition.proofs.Runs.{all_more, any_more}
 use Rattle.ct_condition.specs.Folding.{folded_and, folded_or}
@@ -76,7 +76,7 @@ pub pred-every-requires : goal.pred-every-requires
 pred-every-requires g t c κs within =
     let cs = c.as_slice.result.now in
     let is : c.args.p.now ≡ And cs = cc in
-    let fields : All (λ q. AreFitting (condition_of q)) cs = fit_and c.args.p.now cs is c.requires.fields in
+    let fields : All (λ q. AreFittingOn (length c.args.row.now) (condition_of q)) cs = fit_and (length c.args.row.now) c.args.p.now cs is c.requires.fields in
     let one_more = parts_and c.args.p.now cs is in
     (omega (arith, c.decreases), (within.0, (within.1, (fields, c.requires.row))))
 
@@ -84,7 +84,7 @@ pub pred-some-requires : goal.pred-some-requires
 pred-some-requires g t c κs within =
     let cs = c.as_slice-in-Or.result.now in
     let is : c.args.p.now ≡ Or cs = cc in
-    let fields : All (λ q. AreFitting (condition_of q)) cs = fit_or c.args.p.now cs is c.requires.fields in
+    let fields : All (λ q. AreFittingOn (length c.args.row.now) (condition_of q)) cs = fit_or (length c.args.row.now) c.args.p.now cs is c.requires.fields in
     let one_more = parts_or c.args.p.now cs is in
     (omega (arith, c.decreases), (within.0, (within.1, (fields, c.requires.row))))
 
@@ -115,7 +115,7 @@ every-pred-requires g t c κs within =
     let i = c.loop-p.p-index in
     let less = get_or-le-sum_by parts_of ps i p c.loop-p-test.true in
     let same = ap parts_of c.p-item.is in
-    let fields = subst (λ q. AreFitting (condition_of q)) (sym c.p-item.is) (All-get_or (λ q. AreFitting (condition_of q)) ps i p c.loop-p-test.true c.requires.fields) in
+    let fields = subst (λ q. AreFittingOn (length c.args.row.now) (condition_of q)) (sym c.p-item.is) (All-get_or (λ q. AreFittingOn (length c.args.row.now) (condition_of q)) ps i p c.loop-p-test.true c.requires.fields) in
     (omega (arith, less, same, c.decreases), (within.0, (within.1, (fields, places_in_prefix (g.I.Interner.list c.args.pass.now) (g.I.Interner.list c.loop-p.pass) c.args.row.now c.loop-p.invariant.longer c.requires.row))))
 
 pub every-and-requires-clause-left : goal.every-and-requires-clause-left
@@ -129,7 +129,7 @@ some-pred-requires g t c κs within =
     let i = c.loop-p.p-index in
     let less = get_or-le-sum_by parts_of ps i p c.loop-p-test.true in
     let same = ap parts_of c.p-item.is in
-    let fields = subst (λ q. AreFitting (condition_of q)) (sym c.p-item.is) (All-get_or (λ q. AreFitting (condition_of q)) ps i p c.loop-p-test.true c.requires.fields) in
+    let fields = subst (λ q. AreFittingOn (length c.args.row.now) (condition_of q)) (sym c.p-item.is) (All-get_or (λ q. AreFittingOn (length c.args.row.now) (condition_of q)) ps i p c.loop-p-test.true c.requires.fields) in
     (omega (arith, less, same, c.decreases), (within.0, (within.1, (fields, places_in_prefix (g.I.Interner.list c.args.pass.now) (g.I.Interner.list c.loop-p.pass) c.args.row.now c.loop-p.invariant.longer c.requires.row))))
 
 pub some-or-requires-clause-left : goal.some-or-requires-clause-left

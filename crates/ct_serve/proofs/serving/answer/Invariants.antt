@@ -1,7 +1,7 @@
 use Rattle.std.proofs.Common.{◌≡◌, ◌≤◌, length, map, take}
 use Rattle.std.specs.Prelude.{vec_capacity}
 use Rattle.ct_rewrite.specs.History.{plain_history}
-use Rattle.ct_serve.specs.Catalogue.{IsCatalogue}
+use Rattle.ct_session.specs.Catalogue.{IsCatalogue}
 use Rattle.ct_serve.specs.Progress.{Progress}
 use Rattle.ct_serve.proofs.serving.answer.Given as goal
 

@@ -7,5 +7,5 @@ use Rattle.ct_table.proofs.selection.is_false.Goals as goal
 
 pub returns-clause-never : goal.returns-clause-never
 returns-clause-never g c e v =
-    ap (λ p. holds_at v (condition_at c.args.pass.now.words p)) (eqb-true c.args.place 1 e)
-    ∙ (false_at c.args.pass.now.words c.words.ensures.begins c.words.ensures.formed).truth_is v []
+    ap (λ p. holds_at v (condition_at (g.I.Interner.list c.args.pass.now) p)) (eqb-true c.args.place 1 e)
+    ∙ (false_at (g.I.Interner.list c.args.pass.now) c.words.ensures.begins c.words.ensures.formed).truth_is v []

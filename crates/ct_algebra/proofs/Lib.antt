@@ -1,0 +1,5 @@
+pub mod Growing
+pub mod Found
+pub mod Operators
+pub mod Parts
+pub mod Limits

@@ -1,0 +1,50 @@
+// What the evaluation of a query refuses.
+
+ghost use Rattle.std.specs.Prelude.{◌≡◌};
+ghost use Rattle.ct_algebra.specs.Refusals.{refusal_of};
+ghost use Rattle.ct_algebra.specs.declared.error.EvalError.TheVariants as fault;
+
+use ct_table::TableError;
+use std::alloc::{AllocError, AllocFailed};
+use thiserror::Error;
+
+/// Why a query has no answer.
+#[derive(Clone, Copy, Debug, PartialEq, Eq, Error)]
+pub enum EvalError {
+    /// A part of the query goes through more than 1,048,576 rows or pairs of rows.
+    #[error("the query is too large")]
+    TooLarge,
+    /// The log has as many words as its capacity.
+    #[error("the log is full")]
+    Full,
+    /// Memory was wanting.
+    #[error("out of memory")]
+    Memory,
+}
+
+impl From<TableError> for EvalError {
+    ghost from_gives = { λ t e. e ≡ refusal_of t };
+
+    fn from(error: TableError) -> Self {
+        match error {
+            TableError::Full => EvalError::Full,
+            TableError::Memory => EvalError::Memory,
+        }
+    }
+}
+
+impl From<AllocError> for EvalError {
+    ghost from_gives = { λ _ e. e ≡ fault.Memory };
+
+    fn from(_: AllocError) -> Self {
+        EvalError::Memory
+    }
+}
+
+impl<T: Drop> From<AllocFailed<T>> for EvalError {
+    ghost from_gives = { λ _ e. e ≡ fault.Memory };
+
+    fn from(_: AllocFailed<T>) -> Self {
+        EvalError::Memory
+    }
+}

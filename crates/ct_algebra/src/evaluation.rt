@@ -1,0 +1,72 @@
+// The evaluation of a query.
+
+ghost use Rattle.std.specs.Prelude.{◌≡◌, ◌≤◌, ◌<◌, ◌⊎◌, length, map, IfOk, IsErrOf};
+ghost use mathlib.Core.List.{IsPrefix};
+ghost use Rattle.ct_word.specs.Value.{World};
+ghost use Rattle.ct_word.specs.Sublist.{IsSublist};
+ghost use Rattle.ct_query.specs.Database.{SameSet};
+ghost use Rattle.ct_query.specs.Fits.{Fits, width};
+ghost use Rattle.ct_query.specs.Patterns.{query_pattern};
+ghost use Rattle.ct_query.specs.Rows.{rows};
+ghost use Rattle.ct_query.specs.Size as spec;
+ghost use Rattle.ct_query.specs.Size.{rows_in};
+ghost use Rattle.ct_query.specs.Views.{query_of};
+ghost use Rattle.ct_table.specs.Tables.{AreRows, cells_of, value_of_rows};
+ghost use Rattle.ct_table.specs.Counting.{count_of};
+ghost use Rattle.ct_table.specs.Denotes.{heading_of, value_of_tables};
+ghost use Rattle.ct_algebra.specs.Operands.{AreTables, cells_in};
+ghost use Rattle.ct_algebra.specs.Evaluates.{limit};
+ghost use Rattle.ct_algebra.specs.declared.error.EvalError.TheVariants as fault;
+
+use crate::answering::answer;
+use crate::error::EvalError;
+use ct_arena::{Arena, Pass, Site};
+use ct_query::{Query, size};
+use ct_table::{CTable, Db};
+use std::alloc::Global;
+
+/// The most rows, or pairs of rows, that a part of a query may go through.
+const LIMIT: u64 = 1_048_576;
+
+/// The table that answers a query over the tables of a database: at every valuation it is worth what the query gives
+/// on what these tables are worth (Imielinski and Lipski 1984). Its columns have the names that the operators give
+/// them: those of the left side, or of both sides of a product.
+///
+/// # Errors
+/// `TooLarge` exactly where a part of the query goes through more than 1,048,576 rows or pairs of rows, by the numbers
+/// of rows of the tables; no word is appended then. `Full` where the log has no room for a word, `Memory` where there
+/// is none for the rows.
+pub fn eval<N: Site>(
+    alloc: Global,
+    arena: &Arena<N>,
+    pass: &mut Pass<N>,
+    q: &Query,
+    db: &Db,
+) -> Result<CTable, EvalError>
+    requires tables { AreTables pass.old.words db.now }
+    requires fits { Fits (map heading_of db.now) (query_of q.now) }
+    ensures columns { IfOk result (λ out. length out.columns ≡ width (map heading_of db.now) (query_of q.now)) }
+    ensures rows { IfOk result (λ out. AreRows pass.new.words (width (map heading_of db.now) (query_of q.now)) out.rows) }
+    ensures tuples { (v : World) → IfOk result (λ out. SameSet (value_of_rows pass.new.words v out.rows) (rows v (query_of q.now) (value_of_tables pass.old.words v db.now))) }
+    ensures part { IfOk result (λ out. IsSublist (cells_of pass.new.words out.rows) (query_pattern (cells_in pass.old.words db.now) (query_of q.now))) }
+    ensures longer { IsPrefix pass.old.words pass.new.words }
+    ensures room { length pass.new.words ≤ N.log.cap }
+    ensures full { IsErrOf result fault.Full → length pass.new.words ≡ N.log.cap }
+    ensures session { pass.new.session ≡ pass.old.session }
+    ensures mine { pass.new.mine ≡ pass.old.mine }
+
+    // A query that is too large is refused before any row is made. Want of memory may come in place of the refusal.
+    ensures too_large { IsErrOf result fault.TooLarge → limit < spec.size (rows_in (map count_of db.now)) (query_of q.now) }
+    ensures refused { limit < spec.size (rows_in (map count_of db.now)) (query_of q.now) → IsErrOf result fault.TooLarge ⊎ IsErrOf result fault.Memory }
+    ensures untouched { limit < spec.size (rows_in (map count_of db.now)) (query_of q.now) → pass.new ≡ pass.old }
+{
+    // The words are within the capacity, also where memory is wanting.
+    let _ = pass.words();
+    let counts = db.counts(alloc)?;
+    if size(q, &counts) > LIMIT {
+        return Err(EvalError::TooLarge);
+    }
+    let answered = answer(alloc, arena, pass, q, db);
+    let _ = pass.words();
+    Ok(answered?)
+}

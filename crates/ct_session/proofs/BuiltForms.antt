@@ -1,0 +1,87 @@
+-- Built statements, by their trees, and what they are with positions for names.
+use Rattle.std.proofs.Common.{◌≡◌, ◌+◌, ℕ, Bool, true, false, not, List, ◌∷◌, length, refl, ap, sym, subst, ◌∙◌}
+use Rattle.std.proofs.lemmas.Result.{IfOk-at_ok}
+use Rattle.std.specs.List.{list_all}
+use Rattle.std.specs.Prelude.{Option, None, Ok, Err, nat_eq}
+use Rattle.ct_word.specs.declared.values.Term.{Term}
+use Rattle.ct_word.specs.Condition.{Condition, True}
+use Rattle.ct_query.specs.declared.action.Ask.{Ask}
+use Rattle.ct_query.specs.declared.action.Ask.TheVariants as ask
+use Rattle.ct_query.specs.declared.schema.Heading.{Heading}
+use Rattle.ct_query.specs.declared.schema.Schema.{Schema}
+use Rattle.ct_query.specs.Plain as plain
+use Rattle.ct_query.specs.Plain.{PlainQuery, PlainStatement}
+use Rattle.ct_parse.specs.declared.tree.Condition as tree
+use Rattle.ct_parse.specs.declared.tree.Query.{Query}
+use Rattle.ct_parse.specs.declared.tree.Row.{Row}
+use Rattle.ct_parse.specs.declared.tree.Statement.{Statement}
+use Rattle.ct_parse.specs.declared.tree.Statement.TheVariants as statement
+use Rattle.ct_resolve.specs.declared.error.ResolveError.{ResolveError}
+use Rattle.ct_resolve.specs.declared.error.ResolveError.TheVariants as fault
+use Rattle.ct_resolve.specs.Found.{Found, and_then, unless}
+use Rattle.ct_resolve.specs.Names.{table_in, is_table, are_distinct}
+use Rattle.ct_resolve.specs.Queries.{Named, query_at}
+use Rattle.ct_resolve.specs.Statements.{cells_of, row_terms, resolved}
+use Rattle.ct_session.specs.Built.{IsBuilt, create, insert, query, IsPlainBuilt, creation, insertion, question}
+
+-- the statements, by their trees
+pub create_is : (st : Statement) (n c : List ℕ) (cs : List (List ℕ)) → st ≡ statement.Create n c cs → IsBuilt st
+create_is st n c cs e = subst IsBuilt (sym e) create
+
+pub insert_is : (st : Statement) (n : List ℕ) (r : Row) (rs : List Row) (c : Option tree.Condition) → st ≡ statement.InsertRows n r rs c → c ≡ None → IsBuilt st
+insert_is st n r rs c e none = subst IsBuilt (sym (e ∙ ap (λ o. statement.InsertRows n r rs o) none)) insert
+
+pub query_is : (st : Statement) (q : Query) → st ≡ statement.Rows q → IsBuilt st
+query_is st q e = subst IsBuilt (sym e) query
+
+-- their forms
+pub always : {name : List ℕ} {rows : List (List Term)} {c : Condition} → IsPlainBuilt (plain.Act (plain.InsertRows name rows c)) → c ≡ True
+always insertion = refl
+
+pub asks_rows : {a : Ask} {columns : List (List ℕ)} {q : PlainQuery} → IsPlainBuilt (plain.Asks a columns q) → a ≡ ask.Rows
+asks_rows question = refl
+
+-- what is found, step by step
+abbrev found : {A : Type 0} → A → Found A
+found a = Ok a
+
+ok_same : {A : Type 0} {a b : A} → found a ≡ found b → a ≡ b
+ok_same {a = a} e = IfOk-at_ok (λ x. a ≡ x) e refl
+
+not_ok : {A : Type 0} {a : A} {r : Found A} {x : ResolveError} → r ≡ Err x → r ≡ Ok a → ⊥
+not_ok e f = IfOk-at_ok (λ _. ⊥) (sym e ∙ f) tt
+
+and_then_ok : {A B : Type 0} (m : Found A) (f : A → Found B) (b : B) → and_then m f ≡ Ok b → (a : A) × (m ≡ Ok a) × (f a ≡ Ok b)
+and_then_ok (Ok a) f b e = (a, refl, e)
+and_then_ok (Err x) f b e = absurd (not_ok refl e)
+
+unless_ok : {A : Type 0} (b : Bool) (x : ResolveError) (f : Found A) (a : A) → unless b x f ≡ Ok a → f ≡ Ok a
+unless_ok true x f a e = e
+unless_ok false x f a e = absurd (not_ok refl e)
+
+-- INSERT without IF
+abbrev inserted : ℕ → ℕ → List ℕ → List Row → Heading → Found PlainStatement
+inserted session fresh name rs h =
+    unless (list_all (λ w. nat_eq (length (cells_of w)) (length h.columns)) rs) fault.ColumnCount (Ok (plain.Act (plain.InsertRows name (row_terms session (fresh + 1) rs) True)))
+
+-- a query
+abbrev asked : Named → Found PlainStatement
+asked a = Ok (plain.Asks ask.Rows a.columns a.query)
+
+forms : (schema : Schema) (session fresh : ℕ) {st : Statement} (r : PlainStatement) → IsBuilt st → resolved schema session fresh st ≡ Ok r → IsPlainBuilt r
+forms schema session fresh r (create {n = n} {c = c} {cs = cs}) e =
+    let made = found (plain.Act (plain.Create n (c ∷ cs))) in
+    subst IsPlainBuilt
+    (ok_same (unless_ok (are_distinct (c ∷ cs)) fault.DuplicateName made r (unless_ok (not (is_table schema.tables n)) fault.TableExists (unless (are_distinct (c ∷ cs)) fault.DuplicateName made) r e)))
+    creation
+forms schema session fresh r (insert {n = n} {r = w} {rs = ws}) e =
+    let there = and_then_ok (table_in schema.tables n) (inserted session fresh n (w ∷ ws)) r e in
+    subst IsPlainBuilt
+    (ok_same (unless_ok (list_all (λ x. nat_eq (length (cells_of x)) (length there.0.columns)) (w ∷ ws)) fault.ColumnCount
+    (Ok (plain.Act (plain.InsertRows n (row_terms session (fresh + 1) (w ∷ ws)) True))) r there.2))
+    insertion
+forms schema session fresh r (query {q = q}) e = subst IsPlainBuilt (ok_same (and_then_ok (query_at schema.tables q) asked r e).2) question
+
+-- a statement that is built resolves to one of a built form
+pub plain_built : (schema : Schema) (session fresh : ℕ) (st : Statement) (r : PlainStatement) → IsBuilt st → resolved schema session fresh st ≡ Ok r → IsPlainBuilt r
+plain_built schema session fresh st r built e = forms schema session fresh r built e

@@ -1,0 +1,166 @@
+-- The offer of rows for a table that is there.
+use Rattle.std.proofs.Common.{◌≡◌, ℕ, ◌+◌, Bool, true, false, ◌&&◌, List, [], ◌∷◌, ◌++◌, length, map, refl, ap, sym, subst, ◌∙◌}
+use Rattle.std.specs.Prelude.{Option, Some, None, IsSome, IfSome, IsTrue, All, sum_by, count_by}
+use Rattle.std.proofs.lemmas.Bool.{false≢true}
+use Rattle.std.specs.List.{list_all}
+use Rattle.std.proofs.lemmas.List.Elements.{All-cons, All-push, All-nil, All-weaker, recursion_from_All}
+use mathlib.Core.List.{IsPrefix}
+use Rattle.ct_word.specs.declared.kinds.Class.TheVariants as class
+use Rattle.ct_word.specs.declared.values.Term.{Term}
+use Rattle.ct_word.specs.declared.values.CRow.{CRow}
+use Rattle.ct_word.specs.Value.{World}
+use Rattle.ct_word.specs.Sublist.{IsSublist}
+use Rattle.ct_word.specs.Condition.{True}
+use Rattle.ct_word.specs.Change.{PlainRow, Insert, PlainCommit}
+use Rattle.ct_word.specs.WellFormed.{is_place_of}
+use Rattle.ct_word.specs.Reading.{IsChangeList, as_change_list, change_list_at, term_at, plain_crow}
+use Rattle.ct_word.specs.Stands.{StandsAt}
+use Rattle.ct_word.proofs.Prefixes.{prefix_of_prefix}
+use Rattle.ct_query.specs.Plain as plain
+use Rattle.ct_query.specs.Database.{SameSet}
+use Rattle.ct_query.specs.Step.{shown_rows}
+use Rattle.ct_query.specs.Agrees.{SameTruthAlone, Agrees}
+use Rattle.ct_history.specs.Rows.{IsRowOf}
+use Rattle.ct_rewrite.specs.declared.history.Commit.{Commit}
+use Rattle.ct_rewrite.specs.declared.answer.AnswerRow.{AnswerRow}
+use Rattle.ct_rewrite.specs.declared.answer.Node.TheVariants as node
+use Rattle.ct_rewrite.specs.Nodes.{is_position}
+use Rattle.ct_rewrite.specs.History.{plain_row, plain_commit}
+use Rattle.ct_table.specs.Denotes.{TableView, IsKept, Denotes, find_table, with_table}
+use Rattle.ct_table.specs.Tables.{cells_of, value_of_rows, IsRow, AreRows}
+use Rattle.ct_table.proofs.Denoting.{with_rows, found_all, inserted_denotes, denotes_grows}
+use Rattle.ct_table.proofs.Growing.{is_row_grows, plain_rows_grow, rows_grow, cells_grow, value_grows}
+use Rattle.ct_session.specs.State.{is_fresh}
+use Rattle.ct_session.specs.Catalogue.{IsAdmittedEverywhere, IsReady, IsOfferFor, row_under_true, row_under_first, rows_commit}
+use Rattle.ct_session.proofs.Offering.{still_everywhere}
+
+-- what is true of an item is true of each item of the list of it
+pub one_of : {A : Type 0} (P : A → Type 0) (x : A) → P x → All P (x ∷ [])
+one_of P x p = All-push P [] x (All-nil P) p
+
+-- the rows of a table can be put into the log, over more words too
+pub rows_of_places : (words more : List ℕ) → IsPrefix words more → (width : ℕ) (rs : List CRow) → All (IsRow words width) rs → All (IsRowOf more) rs
+rows_of_places words more grown width rs all = All-weaker (IsRow words width) (IsRowOf more) put rs all where
+  put : (r : CRow) → IsRow words width r → IsRowOf more r
+  put r is = let later = is_row_grows words more grown width r is in record { terms = later.terms; condition = later.condition }
+
+-- the rows of a table that is found are well formed
+pub rows_of_found : (words : List ℕ) (h : List PlainCommit) (db : List TableView) (d : Denotes words h db) (name : List ℕ) (t : TableView) → find_table db name ≡ Some t
+    → AreRows words (length t.columns) t.rows
+rows_of_found words h db d name t found = (found_all (IsKept words h) name t db (recursion_from_All (IsKept words h) db d.kept) found).rows
+
+-- a table that is found is not missing
+pub found_some : (o : Option TableView) (t : TableView) → o ≡ Some t → IsSome o
+found_some o t e = subst IsSome (sym e) refl
+
+pub not_missing : (o : Option TableView) → o ≡ None → IsSome o → ⊥
+not_missing o e s = false≢true (subst IsSome e s)
+
+-- rows as wide as the table that is found
+pub widths_found : (o : Option TableView) (t : TableView) (tss : List (List Term)) → o ≡ Some t → All (λ ts. length ts ≡ length t.columns) tss
+    → IfSome o (λ u. All (λ ts. length ts ≡ length u.columns) tss)
+widths_found o t tss e all = subst (λ p. IfSome p (λ u. All (λ ts. length ts ≡ length u.columns) tss)) (sym e) all
+
+pub widths_of_found : (o : Option TableView) (t : TableView) (tss : List (List Term)) → o ≡ Some t → IfSome o (λ u. All (λ ts. length ts ≡ length u.columns) tss)
+    → All (λ ts. length ts ≡ length t.columns) tss
+widths_of_found o t tss e some = subst (λ p. IfSome p (λ u. All (λ ts. length ts ≡ length u.columns) tss)) e some
+
+-- the tables with a table put in, by its parts
+pub table_put : (db : List TableView) (name name' : List ℕ) (t : TableView) (columns : List (List ℕ)) (rows : List CRow) → name ≡ name' → columns ≡ t.columns
+    → with_table db (record { name = name; columns = columns; rows = rows }) ≡ with_table db (with_rows name' t rows)
+table_put db name name' t columns rows e f = λ i. with_table db (record { name = e i; columns = f i; rows = rows })
+
+-- the printed rows are rows under the condition true
+plain_rows : (tss : List (List Term)) → map (plain_row (node.True ∷ [])) (map row_under_first tss) ≡ map row_under_true tss
+plain_rows [] = refl
+plain_rows (ts ∷ tss) = ap (λ rs. row_under_true ts ∷ rs) (plain_rows tss)
+
+rows_placed : (tss : List (List Term)) → list_all (λ (r : AnswerRow). is_position (node.True ∷ []) r.cond) (map row_under_first tss) ≡ true
+rows_placed [] = refl
+rows_placed (ts ∷ tss) = rows_placed tss
+
+-- what the printed commit changes
+pub printed_rows : (number : ℕ) (name : List ℕ) (tss : List (List Term)) → (plain_commit (rows_commit number name tss)).changes ≡ Insert name (map row_under_true tss) ∷ []
+printed_rows number name tss = ap (λ rs. Insert name rs ∷ []) (plain_rows tss)
+
+terms_of_rows : (tss : List (List Term)) → map (λ (r : PlainRow). r.cells) (map row_under_true tss) ≡ tss
+terms_of_rows [] = refl
+terms_of_rows (ts ∷ tss) = ap (λ rest. ts ∷ rest) (terms_of_rows tss)
+
+rows_where_true : (tss : List (List Term)) → All (λ (r : PlainRow). SameTruthAlone r.condition True) (map row_under_true tss)
+rows_where_true [] = All-nil (λ (r : PlainRow). SameTruthAlone r.condition True)
+rows_where_true (ts ∷ tss) = All-cons (λ (r : PlainRow). SameTruthAlone r.condition True) (row_under_true ts) (map row_under_true tss) (λ v. refl) (rows_where_true tss)
+
+-- the printed change agrees with the insertion of these rows where true
+pub rows_agree : (h : List PlainCommit) (number : ℕ) (name : List ℕ) (tss : List (List Term))
+    → Agrees h (plain.InsertRows name tss True ∷ []) (plain_commit (rows_commit number name tss)).changes
+rows_agree h number name tss =
+    subst (λ xs. Agrees h (plain.InsertRows name tss True ∷ []) xs) (sym (printed_rows number name tss)) ((refl, terms_of_rows tss, rows_where_true tss), tt)
+
+-- the cells of rows of places, as the terms of the rows that they stand for
+cells_as_terms : (words : List ℕ) (rs : List CRow) → map (λ (r : PlainRow). r.cells) (map (plain_crow words) rs) ≡ cells_of words rs
+cells_as_terms words [] = refl
+cells_as_terms words (r ∷ rs) = ap (λ rest. map (term_at words) r.cells ∷ rest) (cells_as_terms words rs)
+
+module _ (h : List PlainCommit) (old rowed merged listed words : List ℕ) (db : List TableView) (d : Denotes old h db) (all : IsAdmittedEverywhere h) where
+  module _ (first : IsPrefix old rowed) (second : IsPrefix rowed merged) (third : IsPrefix merged listed) (fourth : IsPrefix listed words) where
+    module _ (name : List ℕ) (t : TableView) (found : find_table db name ≡ Some t) (tss : List (List Term)) (rs : List CRow)
+        (is : All (IsRow rowed (length t.columns)) rs) (stand : map (plain_crow rowed) rs ≡ map row_under_true tss) where
+      module _ (rows : List CRow) (are : AreRows merged (length t.columns) rows)
+          (tuples : (v : World) → SameSet (value_of_rows merged v rows) (value_of_rows rowed v t.rows ++ value_of_rows rowed v rs))
+          (part : IsSublist (cells_of merged rows) (cells_of rowed t.rows ++ cells_of rowed rs))
+          (kept : AreRows rowed (length t.columns) t.rows) where
+        module _ (list changes number : ℕ) (empty : StandsAt listed list (IsChangeList [])) (place : IsTrue (is_place_of words class.ChangeList changes))
+            (added : StandsAt words changes (IsChangeList (change_list_at listed list ++ Insert name (map (plain_crow listed) rs) ∷ []))) (n : number ≡ length h) where
+          to_end : IsPrefix rowed words
+          to_end = prefix_of_prefix rowed listed words (prefix_of_prefix rowed merged listed second third) fourth
+
+          from_merged : IsPrefix merged words
+          from_merged = prefix_of_prefix merged listed words third fourth
+
+          in_list : map (plain_crow listed) rs ≡ map row_under_true tss
+          in_list = plain_rows_grow rowed listed (prefix_of_prefix rowed merged listed second third) (length t.columns) rs is ∙ stand
+
+          in_words : change_list_at words changes ≡ Insert name (map row_under_true tss) ∷ []
+          in_words = ap as_change_list added ∙ ap (λ o. as_change_list o ++ Insert name (map (plain_crow listed) rs) ∷ []) empty ∙ ap (λ x. Insert name x ∷ []) in_list
+
+          abbrev commit : Commit
+          commit = rows_commit number name tss
+
+          tuples_at_end : (v : World) → SameSet (value_of_rows words v rows) (value_of_rows words v t.rows ++ shown_rows v (map row_under_true tss))
+          tuples_at_end v =
+              subst (λ x. SameSet x (value_of_rows words v t.rows ++ shown_rows v (map row_under_true tss))) (sym (value_grows merged words from_merged v (length t.columns) rows are.each))
+              (subst (λ x. SameSet (value_of_rows merged v rows) (x ++ shown_rows v (map row_under_true tss))) (sym (value_grows rowed words to_end v (length t.columns) t.rows kept.each))
+              (subst (λ x. SameSet (value_of_rows merged v rows) (value_of_rows rowed v t.rows ++ shown_rows v x)) stand (tuples v)))
+
+          as_terms : cells_of rowed rs ≡ map (λ (r : PlainRow). r.cells) (map row_under_true tss)
+          as_terms = sym (cells_as_terms rowed rs) ∙ ap (map (λ (r : PlainRow). r.cells)) stand
+
+          part_at_end : IsSublist (cells_of words rows) (cells_of words t.rows ++ map (λ (r : PlainRow). r.cells) (map row_under_true tss))
+          part_at_end =
+              subst (λ x. IsSublist x (cells_of words t.rows ++ map (λ (r : PlainRow). r.cells) (map row_under_true tss))) (sym (cells_grow merged words from_merged (length t.columns) rows are.each))
+              (subst (λ x. IsSublist (cells_of merged rows) (x ++ map (λ (r : PlainRow). r.cells) (map row_under_true tss))) (sym (cells_grow rowed words to_end (length t.columns) t.rows kept.each))
+              (subst (λ x. IsSublist (cells_of merged rows) (cells_of rowed t.rows ++ x)) as_terms part))
+
+          -- the offer of the rows is ready
+          pub rows_ready : IsReady h words changes (rows_commit number name tss) (with_table db (with_rows name t rows))
+          rows_ready = record {
+            place = place;
+            printed = λ i. record { session = 1; number = n i; changes = (printed_rows number name tss ∙ sym in_words) i };
+            formed = record { ordered = refl; placed = ap (λ b. b && true) (rows_placed tss) };
+            denotes =
+                inserted_denotes words h (plain_commit commit) db
+                (denotes_grows old words (prefix_of_prefix old rowed words first to_end) h db d)
+                name (map row_under_true tss) (printed_rows number name tss) t rows found tuples_at_end (rows_grow merged words from_merged (length t.columns) rows are) part_at_end;
+            everywhere = still_everywhere h (plain_commit commit) (Insert name (map row_under_true tss)) (λ v w. refl) (printed_rows number name tss) all;
+          }
+
+-- rows are offered for their insertion where true, which draws their fresh nulls
+pub rows_offered : (h : List PlainCommit) (words : List ℕ) (fresh fresh' number : ℕ) (name : List ℕ) (tss : List (List Term)) (changes : ℕ) (commit : Commit) (tables : List TableView)
+    → IsReady h words changes commit tables → commit ≡ rows_commit number name tss → fresh' ≡ fresh + sum_by (count_by is_fresh) tss
+    → IsOfferFor h words fresh (plain.InsertRows name tss True) changes commit tables fresh'
+rows_offered h words fresh fresh' number name tss changes commit tables ready made draws = record {
+  ready = ready;
+  draws = draws;
+  agrees = subst (λ m. Agrees h (plain.InsertRows name tss True ∷ []) (plain_commit m).changes) (sym made) (rows_agree h number name tss);
+}

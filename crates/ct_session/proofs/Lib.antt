@@ -1,0 +1,10 @@
+pub mod Offers
+pub mod Committing
+pub mod Offering
+pub mod Readings
+pub mod Answering
+pub mod Printed
+pub mod NewRow
+pub mod Insertions
+pub mod BuiltForms
+pub mod Meaning

@@ -1,0 +1,61 @@
+use Rattle.std.proofs.Common.{◌≡◌, [], ap, sym, subst, ◌∙◌}
+use Rattle.ct_query.specs.declared.action.Resolved.TheVariants as resolved
+use Rattle.ct_query.specs.Plain as plain
+use Rattle.ct_query.specs.Views.{statement_of, query_of}
+use Rattle.ct_query.specs.Schema.{schema}
+use Rattle.ct_query.specs.Fits.{FitsStatement}
+use Rattle.ct_rewrite.specs.History.{plain_history}
+use Rattle.ct_session.specs.Built.{IsPlainBuilt}
+use Rattle.ct_session.specs.Catalogue.{IsPrepared, IsOfferFor, IsUnmet}
+use Rattle.ct_session.specs.declared.session.Prepared.TheVariants as prepared
+use Rattle.ct_session.proofs.BuiltForms.{always, asks_rows}
+use Rattle.ct_session.proofs.Offering.{not_there, is_there, widths_there}
+use Rattle.ct_session.proofs.executing.perform.Goals as goal
+
+pub offer_table-requires-clause-absent : goal.offer_table-requires-clause-absent
+offer_table-requires-clause-absent g c =
+    let hs = (schema (plain_history c.args.history.now) []).tables in
+    not_there hs c.args.tables.now c.requires.denotes.headings c.in-Act-Create.name
+    (subst (λ r. FitsStatement hs (statement_of r)) (c.in-Act-Create.is ∙ ap resolved.Act c.in-Act-Create.field-0-is) c.requires.fits)
+
+pub offer_rows-requires-clause-found : goal.offer_rows-requires-clause-found
+offer_rows-requires-clause-found g c =
+    let hs = (schema (plain_history c.args.history.now) []).tables in
+    is_there hs c.args.tables.now c.requires.denotes.headings c.in-Act-InsertRows.name
+    (subst (λ r. FitsStatement hs (statement_of r)) (c.in-Act-InsertRows.is ∙ ap resolved.Act c.in-Act-InsertRows.field-0-is) c.requires.fits).0
+
+pub offer_rows-requires-clause-width : goal.offer_rows-requires-clause-width
+offer_rows-requires-clause-width g c =
+    let hs = (schema (plain_history c.args.history.now) []).tables in
+    widths_there hs c.args.tables.now c.requires.denotes.headings c.in-Act-InsertRows.name c.in-Act-InsertRows.rows
+    (subst (λ r. FitsStatement hs (statement_of r)) (c.in-Act-InsertRows.is ∙ ap resolved.Act c.in-Act-InsertRows.field-0-is) c.requires.fits).1
+
+pub returns-in-Act-InsertRows-clause-ok : goal.returns-in-Act-InsertRows-clause-ok
+returns-in-Act-InsertRows-clause-ok g c =
+    let h = plain_history c.args.history.now in
+    let words = c.offer_rows.new.pass.words in
+    let offer = c.in_ok-offer-in-Act-InsertRows.offer in
+    let is = c.in-Act-InsertRows.is ∙ ap resolved.Act c.in-Act-InsertRows.field-0-is in
+    subst (λ r. IsPrepared h words c.args.fresh (statement_of r) (prepared.Commit offer)) (sym is)
+    (subst (λ p. IsOfferFor h words c.args.fresh (plain.InsertRows c.in-Act-InsertRows.name c.in-Act-InsertRows.rows p) offer.changes offer.commit offer.tables offer.fresh)
+    (sym (always (subst (λ r. IsPlainBuilt (statement_of r)) is c.requires.built)))
+    c.in_ok-offer-in-Act-InsertRows.ensures.ok)
+
+pub returns-in-Ok-clause-ok : goal.returns-in-Ok-clause-ok
+returns-in-Ok-clause-ok g c =
+    let h = plain_history c.args.history.now in
+    let words = c.answer_query.new.pass.words in
+    let answer = c.in-Ok.answer in
+    subst (λ r. IsPrepared h words c.args.fresh (statement_of r) (prepared.Answer answer)) (sym c.in-Ask.is)
+    (subst (λ k. IsPrepared h words c.args.fresh (plain.Asks k c.in-Ask.columns (query_of c.in-Ask.query)) (prepared.Answer answer))
+    (sym (asks_rows (subst (λ r. IsPlainBuilt (statement_of r)) c.in-Ask.is c.requires.built)))
+    c.in-Ok.ensures.ok)
+
+pub returns-in-Ask-clause-err : goal.returns-in-Ask-clause-err
+returns-in-Ask-clause-err g c =
+    let h = plain_history c.args.history.now in
+    let words = c.answer_query.new.pass.words in
+    subst (λ r. IsUnmet h g.N.Site.log.cap words (statement_of r) c.in-Err.why) (sym c.in-Ask.is)
+    (subst (λ k. IsUnmet h g.N.Site.log.cap words (plain.Asks k c.in-Ask.columns (query_of c.in-Ask.query)) c.in-Err.why)
+    (sym (asks_rows (subst (λ r. IsPlainBuilt (statement_of r)) c.in-Ask.is c.requires.built)))
+    c.in-Err.ensures.err)

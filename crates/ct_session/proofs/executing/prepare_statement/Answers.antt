@@ -1,0 +1,32 @@
+use Rattle.std.proofs.Common.{◌≡◌, [], refl, ap, sym, subst, ◌∙◌, arith}
+use Rattle.std.specs.Prelude.{Ok}
+use Rattle.ct_query.specs.declared.schema.Schema.{Schema}
+use Rattle.ct_query.specs.Fits.{FitsStatement}
+use Rattle.ct_query.specs.Schema.{schema}
+use Rattle.ct_query.specs.Views.{statement_of}
+use Rattle.ct_resolve.specs.Statements.{resolved}
+use Rattle.ct_rewrite.specs.History.{plain_history}
+use Rattle.ct_session.proofs.Answering.{unmet_refuses}
+use Rattle.ct_session.proofs.BuiltForms.{plain_built}
+use Rattle.ct_session.proofs.executing.prepare_statement.Goals as goal
+
+pub returns-then-not-is_built-clause-err : goal.returns-then-not-is_built-clause-err
+returns-then-not-is_built-clause-err g c =
+    let same : c.in_ok-schema.schema ≡ schema (plain_history c.args.history.now) [] = λ i. record { tables = (c.in_ok-schema.ensures ∙ c.requires.denotes.headings) i } in
+    ((statement_of c.in-Ok.resolved, ap (λ s. resolved s 1 c.args.fresh c.args.statement.now) (sym same) ∙ c.in-Ok.ensures.ok), c.if-not-is_built.ensures.not_built refl)
+
+pub perform-requires-clause-fits : goal.perform-requires-clause-fits
+perform-requires-clause-fits g c =
+    let same : c.in_ok-schema.schema ≡ schema (plain_history c.args.history.now) [] = λ i. record { tables = (c.in_ok-schema.ensures ∙ c.requires.denotes.headings) i } in
+    subst (λ s. FitsStatement s.tables (statement_of c.in-Ok.resolved)) same (c.in-Ok.ensures.fits (omega arith) (omega arith))
+
+pub perform-requires-clause-built : goal.perform-requires-clause-built
+perform-requires-clause-built g c =
+    plain_built c.in_ok-schema.schema 1 c.args.fresh c.args.statement.now (statement_of c.in-Ok.resolved) (c.if-not-is_built.ensures.built refl) c.in-Ok.ensures.ok
+
+pub returns-clause-err : goal.returns-clause-err
+returns-clause-err g c =
+    let h = plain_history c.args.history.now in
+    let same : c.in_ok-schema.schema ≡ schema h [] = λ i. record { tables = (c.in_ok-schema.ensures ∙ c.requires.denotes.headings) i } in
+    unmet_refuses h g.N.Site.log.cap c.perform.new.pass.words c.args.fresh c.args.statement.now (c.if-not-is_built.ensures.built refl) (statement_of c.in-Ok.resolved) c.in-Err-perform.why
+    (ap (λ s. resolved s 1 c.args.fresh c.args.statement.now) (sym same) ∙ c.in-Ok.ensures.ok) c.in-Err-perform.ensures.err

@@ -1,0 +1,21 @@
+// Which statements are built.
+
+ghost use Rattle.std.specs.Prelude.{IsTrue, IsFalse};
+ghost use Rattle.ct_session.specs.Built.{IsBuilt};
+
+use ct_parse::Statement;
+
+/// Whether a statement is built: CREATE; INSERT of rows, without IF; or a query without POSSIBLE and
+/// CERTAIN.
+#[tactic(auto, using(crate::proofs::BuiltForms::create_is, crate::proofs::BuiltForms::insert_is, crate::proofs::BuiltForms::query_is))]
+pub fn is_built(statement: &Statement) -> bool
+    ensures built { IsTrue result → IsBuilt statement.now }
+    ensures not_built { IsFalse result → IsBuilt statement.now → ⊥ }
+{
+    match statement {
+        Statement::Create { .. } => true,
+        Statement::InsertRows { condition, .. } => condition.is_none(),
+        Statement::Rows(_) => true,
+        _ => false,
+    }
+}

@@ -1,0 +1,69 @@
+// CREATE: the offer of a new table.
+
+ghost use Rattle.std.specs.Prelude.{◌≡◌, ◌<◌, ◌^◌, length, IfOk, IfErr, None};
+ghost use mathlib.Core.List.{IsPrefix};
+ghost use Rattle.ct_history.specs.Kept.{kept_of};
+ghost use Rattle.ct_query.specs.Plain as plain;
+ghost use Rattle.ct_rewrite.specs.History.{plain_history};
+ghost use Rattle.ct_table.specs.Denotes.{Denotes, find_table};
+ghost use Rattle.ct_session.specs.Catalogue.{IsAdmittedEverywhere, IsOfferFor, IsWant};
+
+use crate::lists::commit_of;
+use crate::session::{Offer, version};
+use ct_arena::{Arena, Pass, Site};
+use ct_history::{create, no_changes};
+use ct_rewrite::{Change, Commit};
+use ct_table::{CTable, Db};
+use ct_transcript::Refusal;
+use ct_word::{List, Text};
+use std::alloc::Global;
+
+/// The offer of a new table, whose name is new. The pass has its words.
+///
+/// # Errors
+/// `Full` where the log has no room, `Memory`.
+pub fn offer_table<N: Site>(
+    alloc: Global,
+    arena: &Arena<N>,
+    pass: &mut Pass<N>,
+    tables: &Db,
+    history: &[Commit],
+    fresh: u32,
+    name: Text,
+    columns: List<Text>,
+) -> Result<Offer, Refusal>
+    requires few { length history.now < 2 ^ 16 }
+    requires denotes { Denotes pass.old.words (plain_history history.now) tables.now }
+    requires everywhere { IsAdmittedEverywhere (plain_history history.now) }
+    requires absent { find_table tables.now name ≡ None }
+    ensures longer { IsPrefix pass.old.words pass.new.words }
+    ensures kept { kept_of pass.new ≡ kept_of pass.old }
+    ensures ok { IfOk result (λ offer. IsOfferFor (plain_history history.now) pass.new.words fresh (plain.Create name columns) offer.changes offer.commit offer.tables offer.fresh) }
+    ensures err { IfErr result (λ why. IsWant N.log.cap pass.new.words why) }
+{
+    let table = CTable {
+        columns: columns.clone()?,
+        rows: List::new(alloc),
+    };
+    let tables = tables.with(alloc, name.clone()?, table)?;
+    let list = match no_changes(arena, pass) {
+        Ok(list) => list,
+        Err(_) => return Err(Refusal::Full),
+    };
+    let changes = match create(arena, pass, list, name.as_str(), columns.as_slice()) {
+        Ok(changes) => changes,
+        Err(_) => return Err(Refusal::Full),
+    };
+    let commit = commit_of(
+        alloc,
+        version(history),
+        List::new(alloc),
+        Change::Create { name, columns },
+    )?;
+    Ok(Offer {
+        changes,
+        commit,
+        tables,
+        fresh,
+    })
+}

@@ -1,0 +1,268 @@
+// INSERT: the offer of rows.
+
+ghost use Rattle.std.specs.Prelude.{◌≡◌, ◌↔◌, ◌+◌, ◌<◌, ◌^◌, [], ◌∷◌, ◌++◌, map, length, sum_by, count_by, IfOk, IfErr, IfSome, IsSome, Some, All, IsTrue};
+ghost use mathlib.Core.List.{IsPrefix};
+ghost use Rattle.ct_word.specs.declared.values.Term.TheVariants as variant;
+ghost use Rattle.ct_word.specs.Reading.{plain_crow};
+ghost use Rattle.ct_query.specs.Plain as plain;
+ghost use Rattle.ct_word.specs.Condition.{True};
+ghost use Rattle.ct_history.specs.Kept.{kept_of};
+ghost use Rattle.ct_history.specs.Rows.{IsRowOf};
+ghost use Rattle.ct_rewrite.specs.History.{plain_history};
+ghost use Rattle.ct_table.specs.Shared.{view_of};
+ghost use Rattle.ct_table.specs.Denotes.{Denotes, find_table};
+ghost use Rattle.ct_query.specs.Fields.{FitsFields};
+ghost use Rattle.ct_session.specs.State.{is_fresh};
+ghost use Rattle.ct_session.specs.Catalogue.{IsAdmittedEverywhere, IsReady, IsWant, IsOfferFor, row_under_true, row_under_first, rows_commit};
+
+use crate::lists::{commit_of, list_of_one};
+use crate::session::{Offer, version, wanting};
+use ct_arena::{Arena, Pass, Site};
+use ct_condition::term as put_term;
+use ct_history::{insert as insert_change, no_changes};
+use ct_rewrite::{AnswerRow, Change, Commit, Node};
+use ct_table::{CRow, CTable, Db, insert};
+use ct_transcript::Refusal;
+use ct_word::{List, Memory, Null, Term, Text, Value};
+use std::alloc::Global;
+
+#[cfg(test)]
+mod tests;
+
+/// The numbers of a word's field are below this one.
+const FIELD: u32 = 1 << 28;
+
+/// Whether a word has room for the numbers of a null.
+fn null_fits(null: &Null) -> bool
+    ensures { IsTrue result ↔ FitsFields (variant.Null null.now) }
+{
+    match null {
+        Null::Named(_) => true,
+        Null::Fresh { session, number } => {
+            1 <= *session && *session <= 1023 && 1 <= *number && *number < FIELD
+        }
+    }
+}
+
+/// Whether a word has room for a value that is no number and no text.
+fn value_fits(value: &Value) -> bool
+    ensures { IsTrue result ↔ FitsFields (variant.Value value.now) }
+{
+    match value {
+        Value::Other(k) => *k < FIELD,
+        _ => true,
+    }
+}
+
+/// Whether a word has room for the numbers of a term.
+fn fits(term: &Term) -> bool
+    ensures { IsTrue result ↔ FitsFields term.now }
+{
+    match term {
+        Term::Column(k) => *k < FIELD,
+        Term::Null(null) => null_fits(null),
+        Term::Value(value) => value_fits(value),
+    }
+}
+
+/// The row of these terms, under the word true.
+///
+/// # Errors
+/// `Full` where the log has no room, `Memory`, also for a term that a word has no room for.
+fn row_of<N: Site>(
+    alloc: Global,
+    arena: &Arena<N>,
+    pass: &mut Pass<N>,
+    terms: &[Term],
+) -> Result<CRow, Refusal>
+    ensures row { IfOk result (λ row. IsRowOf pass.new.words row) }
+    ensures stands { IfOk result (λ row. plain_crow pass.new.words row ≡ row_under_true terms.now) }
+    ensures longer { IsPrefix pass.old.words pass.new.words }
+    ensures kept { kept_of pass.new ≡ kept_of pass.old }
+    ensures err { IfErr result (λ why. IsWant N.log.cap pass.new.words why) }
+{
+    let mut cells = Vec::new(alloc);
+    for term in terms {
+        // No script of 1 MiB draws as many fresh nulls as a word has numbers for.
+        if !fits(term) {
+            return Err(Refusal::Memory);
+        }
+        let Ok(place) = put_term(arena, pass, term) else {
+            return Err(Refusal::Full);
+        };
+        cells.push(place)?;
+    }
+    let _words = pass.words();
+    Ok(CRow {
+        cells: List::from_vec(cells),
+        cond: 0,
+    })
+}
+
+/// The rows of these terms, each under the word true.
+///
+/// # Errors
+/// `Full` where the log has no room, `Memory`, also for a term that a word has no room for.
+fn rows_of<N: Site>(
+    alloc: Global,
+    arena: &Arena<N>,
+    pass: &mut Pass<N>,
+    rows: &[List<Term>],
+) -> Result<List<CRow>, Refusal>
+    ensures rows { IfOk result (All (IsRowOf pass.new.words)) }
+    ensures stand { IfOk result (λ placed. map (plain_crow pass.new.words) placed ≡ map row_under_true rows.now) }
+    ensures longer { IsPrefix pass.old.words pass.new.words }
+    ensures kept { kept_of pass.new ≡ kept_of pass.old }
+    ensures err { IfErr result (λ why. IsWant N.log.cap pass.new.words why) }
+{
+    let mut placed = Vec::new(alloc);
+    for terms in rows {
+        placed.push(row_of(alloc, arena, pass, terms.as_slice())?)?;
+    }
+    Ok(List::from_vec(placed))
+}
+
+/// The rows of these terms as they are printed.
+fn under_first(alloc: Global, rows: Vec<List<Term>>) -> Result<List<AnswerRow>, Memory>
+    ensures { IfOk result (λ printed. printed ≡ map row_under_first rows.items) }
+{
+    let mut printed = Vec::new(alloc);
+    for cells in rows {
+        printed.push(AnswerRow { cells, cond: 0 })?;
+    }
+    Ok(List::from_vec(printed))
+}
+
+/// The commit that prints rows of these terms under the condition true.
+fn printed(alloc: Global, number: u32, name: Text, rows: List<List<Term>>) -> Result<Commit, Memory>
+    ensures { IfOk result (λ c. c ≡ rows_commit number name rows) }
+{
+    let nodes = list_of_one(alloc, Node::True)?;
+    let rows = under_first(alloc, rows.into_vec())?;
+    commit_of(alloc, number, nodes, Change::Insert { name, rows })
+}
+
+/// The offer of rows of these terms for a table that is there. The pass has its words.
+///
+/// # Errors
+/// `Full` where the log has no room, `Memory`, also for a term that a word has no room for.
+fn new_rows<N: Site>(
+    alloc: Global,
+    arena: &Arena<N>,
+    pass: &mut Pass<N>,
+    tables: &Db,
+    table: &CTable,
+    history: &[Commit],
+    fresh: u32,
+    name: Text,
+    rows: List<List<Term>>,
+) -> Result<Offer, Refusal>
+    requires few { length history.now < 2 ^ 16 }
+    requires denotes { Denotes pass.old.words (plain_history history.now) tables.now }
+    requires everywhere { IsAdmittedEverywhere (plain_history history.now) }
+    requires found { find_table tables.now name ≡ Some (view_of name table.now) }
+    requires width { All (λ row. length row ≡ length table.now.columns) rows }
+    ensures longer { IsPrefix pass.old.words pass.new.words }
+    ensures kept { kept_of pass.new ≡ kept_of pass.old }
+    ensures ready { IfOk result (λ offer. IsReady (plain_history history.now) pass.new.words offer.changes offer.commit offer.tables) }
+    ensures commit { IfOk result (λ offer. offer.commit ≡ rows_commit (length history.now) name rows) }
+    ensures fresh { IfOk result (λ offer. offer.fresh ≡ fresh) }
+    ensures err { IfErr result (λ why. IsWant N.log.cap pass.new.words why) }
+{
+    let placed = rows_of(alloc, arena, pass, rows.as_slice())?;
+    let table = match insert(alloc, arena, pass, table, placed.as_slice()) {
+        Ok(table) => table,
+        Err(e) => return Err(wanting(e)),
+    };
+    let tables = tables.with(alloc, name.clone()?, table)?;
+    let list = match no_changes(arena, pass) {
+        Ok(list) => list,
+        Err(_) => return Err(Refusal::Full),
+    };
+    let changes = match insert_change(arena, pass, list, name.as_str(), placed.as_slice()) {
+        Ok(changes) => changes,
+        Err(_) => return Err(Refusal::Full),
+    };
+    let commit = printed(alloc, version(history), name, rows)?;
+    Ok(Offer {
+        changes,
+        commit,
+        tables,
+        fresh,
+    })
+}
+
+/// Whether a term is a fresh null.
+fn is_fresh(term: &Term) -> bool
+    ensures { result ≡ is_fresh term.now }
+{
+    matches!(term, Term::Null(Null::Fresh { .. }))
+}
+
+/// How many terms are fresh nulls.
+fn fresh_among(terms: &[Term]) -> usize
+    ensures { result ≡ count_by is_fresh terms.now }
+{
+    terms.iter().filter(|term| is_fresh(term)).count()
+}
+
+/// How many fresh nulls stand in rows.
+///
+/// # Errors
+/// `Memory` where it is no number of 32 bits.
+pub fn drawn(rows: &[List<Term>]) -> Result<u32, Memory>
+    ensures { IfOk result (λ n. n ≡ sum_by (count_by is_fresh) rows.now) }
+{
+    let mut count: usize = 0;
+    for terms in rows {
+        count = count
+            .checked_add(fresh_among(terms.as_slice()))
+            .ok_or(Memory)?;
+    }
+    u32::try_from(count).map_err(|_| Memory)
+}
+
+/// The number of a session's last null after so many more.
+///
+/// # Errors
+/// `Memory` where it is no number of 32 bits.
+fn after(fresh: u32, more: u32) -> Result<u32, Memory>
+    ensures { IfOk result (λ n. n ≡ fresh + more) }
+{
+    fresh.checked_add(more).ok_or(Memory)
+}
+
+/// The offer of rows of these terms, as many in each as the table has columns, for a session whose last null has this
+/// number. The pass has its words.
+///
+/// # Errors
+/// `Full` where the log has no room, `Memory`, also for a term that a word has no room for.
+pub fn offer_rows<N: Site>(
+    alloc: Global,
+    arena: &Arena<N>,
+    pass: &mut Pass<N>,
+    tables: &Db,
+    history: &[Commit],
+    fresh: u32,
+    name: Text,
+    rows: List<List<Term>>,
+) -> Result<Offer, Refusal>
+    requires few { length history.now < 2 ^ 16 }
+    requires denotes { Denotes pass.old.words (plain_history history.now) tables.now }
+    requires everywhere { IsAdmittedEverywhere (plain_history history.now) }
+    requires found { IsSome (find_table tables.now name) }
+    requires width { IfSome (find_table tables.now name) (λ t. All (λ row. length row ≡ length t.columns) rows) }
+    ensures longer { IsPrefix pass.old.words pass.new.words }
+    ensures kept { kept_of pass.new ≡ kept_of pass.old }
+    ensures ok { IfOk result (λ offer. IsOfferFor (plain_history history.now) pass.new.words fresh (plain.InsertRows name rows True) offer.changes offer.commit offer.tables offer.fresh) }
+    ensures err { IfErr result (λ why. IsWant N.log.cap pass.new.words why) }
+{
+    let more = drawn(rows.as_slice())?;
+    let fresh = after(fresh, more)?;
+    let Some(table) = tables.get(name.as_str()) else {
+        unreachable!()
+    };
+    new_rows(
+        alloc, arena, pass, tables, table, history, fresh, name, rows,
+    )
+}

@@ -1,0 +1,115 @@
+// The one session, which has the catalogue to itself until sessions share it.
+
+ghost use Rattle.std.specs.Prelude.{◌≡◌, ◌<◌, ◌^◌, ◌+◌, ℕ, length, IsOk, IsTrue, Ok, vec_len, vec_capacity};
+ghost use mathlib.Core.List.{IsPrefix};
+ghost use Rattle.ct_rewrite.specs.History.{plain_history};
+ghost use Rattle.ct_session.specs.Catalogue.{IsCatalogue, IsReady, CommitOf, wanting};
+
+use ct_arena::{Arena, KeeperPass, Pass, Site};
+use ct_rewrite::Commit;
+use ct_table::{Db, TableError};
+use ct_transcript::{Answer, Refusal, Reply};
+
+/// The number of the one session.
+pub const SESSION: u32 = 1;
+
+/// The one session between its statements, with the catalogue of the log that N names.
+#[derive(Drop)]
+pub struct Session<N: Site> {
+    /// The session's own pass, by which its statements read and add words.
+    pub pass: Pass<N>,
+    /// The keeper's pass, which has the words up to the last commit.
+    pub keeper: KeeperPass<N>,
+    /// The tables after the commits so far.
+    pub tables: Db,
+    /// The commits so far as they are printed, in their order.
+    pub history: Vec<Commit>,
+    /// The number of the last null that a commit of the session drew, 0 before the first.
+    pub fresh: u32,
+}
+
+/// A change that is ready to be committed: its change list in the log, the commit that prints it, and the tables and
+/// the number of the session's last null after it.
+#[derive(Drop)]
+pub struct Offer {
+    pub changes: u32,
+    pub commit: Commit,
+    pub tables: Db,
+    pub fresh: u32,
+}
+
+/// What a statement asks for, ready to be given: an offer to be committed, or an answer.
+#[derive(Drop)]
+pub enum Prepared {
+    Commit(Offer),
+    Answer(Answer),
+}
+
+/// The version after these commits: how many they are.
+pub fn version(history: &[Commit]) -> u32
+    requires { length history.now < 2 ^ 32 }
+    ensures { result ≡ length history.now }
+{
+    history.len() as u32
+}
+
+/// The refusal for want of room or memory.
+pub fn wanting(e: TableError) -> Refusal
+    ensures { result ≡ wanting e }
+{
+    match e {
+        TableError::Full => Refusal::Full,
+        TableError::Memory => Refusal::Memory,
+    }
+}
+
+/// Commits an offer; where the log is full, nothing but its words is changed.
+pub fn commit<N: Site>(arena: &Arena<N>, session: Session<N>, offer: Offer) -> (Session<N>, Reply)
+    requires kept { IsCatalogue N.log.cap session.pass session.keeper session.tables session.history.items }
+    requires few { length session.history.items < 2 ^ 16 }
+    requires room { vec_len session.history < vec_capacity session.history }
+    requires ready { IsReady (plain_history session.history.items) session.pass.words offer.changes offer.commit offer.tables }
+    ensures kept { IsCatalogue N.log.cap result.0.pass result.0.keeper result.0.tables result.0.history.items }
+    ensures longer { IsPrefix session.pass.words result.0.pass.words }
+    ensures outcome { CommitOf N.log.cap session.pass.words result.0.pass.words session.history.items session.fresh offer.commit offer.fresh result.0.history.items result.0.fresh result.1 }
+{
+    let Session {
+        pass,
+        mut keeper,
+        tables,
+        mut history,
+        fresh,
+    } = session;
+    let Offer {
+        changes,
+        commit,
+        tables: after,
+        fresh: drawn,
+    } = offer;
+    let at = version(history.as_slice());
+    let mut guest = keeper.enter(arena, pass);
+    match keeper.append_commit(arena, &mut guest, changes) {
+        Ok(_) => {
+            history.push_reserved(commit);
+            let session = Session {
+                pass: keeper.leave(arena, guest),
+                keeper,
+                tables: after,
+                history,
+                fresh: drawn,
+            };
+            (session, Reply::Committed { at: at + 1 })
+        }
+        Err(_) => {
+            let session = Session {
+                pass: keeper.leave(arena, guest),
+                keeper,
+                tables,
+                history,
+                fresh,
+            };
+            let why = Refusal::Full;
+            (session, Reply::Refused { at, why })
+        }
+    }
+}
