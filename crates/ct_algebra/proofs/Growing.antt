@@ -1,9 +1,11 @@
 -- Answers and the tables that they are over stay what they are as words are added.
-use Rattle.std.proofs.Common.{◌≡◌, ℕ, List, [], ◌∷◌, length, refl, sym, subst}
+use Rattle.std.proofs.Common.{◌≡◌, ℕ, List, [], ◌∷◌, length, refl, sym, subst, inl, inr}
 use Rattle.std.specs.Prelude.{if◌then◌else◌}
-use Rattle.std.proofs.lemmas.List.Elements.{All-head, All-tail, All-weaker}
+use Rattle.std.proofs.lemmas.List.Elements.{All-head, All-tail, All-weaker, All-contains}
 use mathlib.Core.List.{IsPrefix}
+use Rattle.ct_word.specs.declared.values.Term.{Term}
 use Rattle.ct_word.specs.Value.{World, same_text}
+use Rattle.ct_word.specs.WellFormed.{IsWellFormed}
 use Rattle.ct_word.specs.Sublist.{IsSublist}
 use Rattle.ct_query.specs.Plain.{PlainQuery}
 use Rattle.ct_query.specs.Database.{SameSet}
@@ -13,13 +15,15 @@ use Rattle.ct_table.specs.declared.table.CTable.{CTable}
 use Rattle.ct_table.specs.Tables.{cells_of, value_of_rows, AreRows}
 use Rattle.ct_table.specs.Denotes.{TableView, value_of_tables}
 use Rattle.ct_table.proofs.Growing.{cells_grow, value_grows, rows_grow}
+use Rattle.ct_table.proofs.Reaching.{rows_wider, rows_later, rows_before}
 use Rattle.ct_algebra.specs.Operands.{AreTables, cells_in}
 use Rattle.ct_algebra.specs.Evaluates.{Evaluates}
+use Rattle.ct_algebra.specs.Terms.{TermOfQuery}
 
 module _ (old now : List ℕ) (grown : IsPrefix old now) where
-  pub tables_grow : (db : List TableView) → AreTables old db → AreTables now db
-  tables_grow db are =
-      All-weaker (λ t. AreRows old (length t.columns) t.rows) (λ t. AreRows now (length t.columns) t.rows) (λ t. rows_grow old now grown (length t.columns) t.rows) db are
+  pub tables_grow : IsWellFormed old → (db : List TableView) → AreTables old db → AreTables now db
+  tables_grow formed db are =
+      All-weaker (λ t. AreRows old (length t.columns) t.rows) (λ t. AreRows now (length t.columns) t.rows) (λ t. rows_grow old now grown formed (length t.columns) t.rows) db are
 
   -- the tables are worth the same
   tables_worth : (v : World) (db : List TableView) → AreTables old db → value_of_tables now v db ≡ value_of_tables old v db
@@ -39,20 +43,29 @@ module _ (old now : List ℕ) (grown : IsPrefix old now) where
       then cells_grow old now grown (length t.columns) t.rows (All-head (λ (x : TableView). AreRows old (length x.columns) x.rows) t db are).each i
       else same_cells_in db (All-tail (λ (x : TableView). AreRows old (length x.columns) x.rows) t db are) name i
 
+  -- and the terms below them stood there before
+  terms_before : IsWellFormed old → (db : List TableView) → AreTables old db → (q : PlainQuery) (t : Term) → TermOfQuery now db q t → TermOfQuery old db q t
+  terms_before formed db are q t (inl h) =
+      let its = All-contains (λ (x : TableView). AreRows old (length x.columns) x.rows) db h.table are h.among in
+      inl (record { table = h.table; among = h.among; below = rows_before old now grown formed (length h.table.columns) h.table.rows t its.each h.below })
+  terms_before formed db are q t (inr h) = inr h
+
 -- an answer, as words are added to it
-pub answer_grows : (old now new : List ℕ) (db : List TableView) (q : PlainQuery) (t : CTable) → IsPrefix now new → Evaluates old now db q t → Evaluates old new db q t
-answer_grows old now new db q t longer s = record {
+pub answer_grows : (old now new : List ℕ) (db : List TableView) (q : PlainQuery) (t : CTable) → IsPrefix now new → IsWellFormed now → Evaluates old now db q t → Evaluates old new db q t
+answer_grows old now new db q t longer formed s = record {
   width_is = s.width_is;
-  are = rows_grow now new longer (length t.columns) t.rows s.are;
+  are = rows_grow now new longer formed (length t.columns) t.rows s.are;
   tuples = λ v. subst (λ l. SameSet l (rows v q (value_of_tables old v db))) (sym (value_grows now new longer v (length t.columns) t.rows s.are.each)) (s.tuples v);
   part = subst (λ cs. IsSublist cs (query_pattern (cells_in old db) q)) (sym (cells_grow now new longer (length t.columns) t.rows s.are.each)) s.part;
+  from = rows_later now new longer formed (length t.columns) (TermOfQuery old db q) t.rows s.are.each s.from;
 }
 
 -- an answer, said of the tables of the words before
-pub answer_before : (old now new : List ℕ) (db : List TableView) (q : PlainQuery) (t : CTable) → IsPrefix old now → AreTables old db → Evaluates now new db q t → Evaluates old new db q t
-answer_before old now new db q t grown are s = record {
+pub answer_before : (old now new : List ℕ) (db : List TableView) (q : PlainQuery) (t : CTable) → IsPrefix old now → IsWellFormed old → AreTables old db → Evaluates now new db q t → Evaluates old new db q t
+answer_before old now new db q t grown formed are s = record {
   width_is = s.width_is;
   are = s.are;
   tuples = λ v. subst (λ w. SameSet (value_of_rows new v t.rows) (rows v q w)) (tables_worth old now grown v db are) (s.tuples v);
   part = subst (λ p. IsSublist (cells_of new t.rows) (query_pattern p q)) (λ i name. same_cells_in old now grown db are name i) s.part;
+  from = rows_wider new (TermOfQuery now db q) (TermOfQuery old db q) (terms_before old now grown formed db are q) t.rows s.from;
 }

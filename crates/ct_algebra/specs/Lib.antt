@@ -1,3 +1,5 @@
 pub mod Refusals
 pub mod Operands
+pub mod Terms
 pub mod Evaluates
+pub mod Words

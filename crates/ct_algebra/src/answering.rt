@@ -1,6 +1,6 @@
 // The answer to a query, one operator after another.
 
-ghost use Rattle.std.specs.Prelude.{◌≡◌, length, map, IfOk, IsErrOf};
+ghost use Rattle.std.specs.Prelude.{◌≡◌, ◌+◌, length, map, IfOk, IsErrOf};
 ghost use mathlib.Core.List.{IsPrefix};
 ghost use Rattle.ct_query.specs.Fits.{Fits};
 ghost use Rattle.ct_query.specs.Views.{query_of};
@@ -8,6 +8,7 @@ ghost use Rattle.ct_table.specs.Denotes.{heading_of};
 ghost use Rattle.ct_table.specs.declared.error.TableError.TheVariants as fault;
 ghost use Rattle.ct_algebra.specs.Operands.{AreTables};
 ghost use Rattle.ct_algebra.specs.Evaluates.{Evaluates};
+ghost use Rattle.ct_algebra.specs.Words.{most_words, GrowsWithin};
 
 use ct_arena::{Arena, Pass, Site};
 use ct_query::Query;
@@ -31,10 +32,14 @@ fn sides<N: Site>(
     ensures right { IfOk result (λ t. Evaluates pass.old.words pass.new.words db.now (query_of right.now) t.1) }
     ensures longer { IsPrefix pass.old.words pass.new.words }
     ensures full { IsErrOf result fault.Full → length pass.new.words ≡ N.log.cap }
+    ensures made { GrowsWithin result pass.old.made pass.new.made (most_words db.now (query_of left.now) + most_words db.now (query_of right.now)) }
     ensures session { pass.new.session ≡ pass.old.session }
     ensures mine { pass.new.mine ≡ pass.old.mine }
 {
+    // The words are well formed, which keeps the terms below a place as words are added.
+    let _ = pass.words();
     let one = answer(alloc, arena, pass, left, db)?;
+    let _ = pass.words();
     let other = answer(alloc, arena, pass, right, db)?;
     Ok((one, other))
 }
@@ -56,6 +61,7 @@ pub(crate) fn answer<N: Site>(
     ensures evaluates { IfOk result (Evaluates pass.old.words pass.new.words db.now (query_of query.now)) }
     ensures longer { IsPrefix pass.old.words pass.new.words }
     ensures full { IsErrOf result fault.Full → length pass.new.words ≡ N.log.cap }
+    ensures made { GrowsWithin result pass.old.made pass.new.made (most_words db.now (query_of query.now)) }
     ensures session { pass.new.session ≡ pass.old.session }
     ensures mine { pass.new.mine ≡ pass.old.mine }
 {

@@ -1,9 +1,10 @@
 // The evaluation of a query.
 
-ghost use Rattle.std.specs.Prelude.{◌≡◌, ◌≤◌, ◌<◌, ◌⊎◌, length, map, IfOk, IsErrOf};
+ghost use Rattle.std.specs.Prelude.{◌≡◌, ◌≤◌, ◌<◌, ◌+◌, ◌⊎◌, length, map, IfOk, IsErrOf};
 ghost use mathlib.Core.List.{IsPrefix};
 ghost use Rattle.ct_word.specs.Value.{World};
 ghost use Rattle.ct_word.specs.Sublist.{IsSublist};
+ghost use Rattle.ct_query.specs.Bounds.{nodes};
 ghost use Rattle.ct_query.specs.Database.{SameSet};
 ghost use Rattle.ct_query.specs.Fits.{Fits, width};
 ghost use Rattle.ct_query.specs.Patterns.{query_pattern};
@@ -14,8 +15,10 @@ ghost use Rattle.ct_query.specs.Views.{query_of};
 ghost use Rattle.ct_table.specs.Tables.{AreRows, cells_of, value_of_rows};
 ghost use Rattle.ct_table.specs.Counting.{count_of};
 ghost use Rattle.ct_table.specs.Denotes.{heading_of, value_of_tables};
+ghost use Rattle.ct_table.specs.Terms.{RowsFrom};
 ghost use Rattle.ct_algebra.specs.Operands.{AreTables, cells_in};
 ghost use Rattle.ct_algebra.specs.Evaluates.{limit};
+ghost use Rattle.ct_algebra.specs.Terms.{TermOfQuery};
 ghost use Rattle.ct_algebra.specs.declared.error.EvalError.TheVariants as fault;
 
 use crate::answering::answer;
@@ -49,9 +52,12 @@ pub fn eval<N: Site>(
     ensures rows { IfOk result (λ out. AreRows pass.new.words (width (map heading_of db.now) (query_of q.now)) out.rows) }
     ensures tuples { (v : World) → IfOk result (λ out. SameSet (value_of_rows pass.new.words v out.rows) (rows v (query_of q.now) (value_of_tables pass.old.words v db.now))) }
     ensures part { IfOk result (λ out. IsSublist (cells_of pass.new.words out.rows) (query_pattern (cells_in pass.old.words db.now) (query_of q.now))) }
+    ensures terms { IfOk result (λ out. RowsFrom pass.new.words out.rows (TermOfQuery pass.old.words db.now (query_of q.now))) }
     ensures longer { IsPrefix pass.old.words pass.new.words }
     ensures room { length pass.new.words ≤ N.log.cap }
     ensures full { IsErrOf result fault.Full → length pass.new.words ≡ N.log.cap }
+    ensures made { pass.new.made ≤ pass.old.made + nodes (rows_in (map count_of db.now)) (query_of q.now) }
+    ensures fewer { IsErrOf result fault.Full → pass.new.made < pass.old.made + nodes (rows_in (map count_of db.now)) (query_of q.now) }
     ensures session { pass.new.session ≡ pass.old.session }
     ensures mine { pass.new.mine ≡ pass.old.mine }
 

@@ -9,3 +9,11 @@ pub mod Depth
 pub mod Counted
 pub mod Characters
 pub mod Pasts
+pub mod Reached
+pub mod Denied
+pub mod Named
+pub mod Chains
+pub mod Known
+pub mod Placed
+pub mod Worths
+pub mod Ops

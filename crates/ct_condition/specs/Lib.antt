@@ -1,4 +1,7 @@
 pub mod Truth
+pub mod Places
 pub mod Rows
 pub mod Runs
 pub mod Folding
+pub mod Terms
+pub mod Worth

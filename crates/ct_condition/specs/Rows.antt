@@ -7,6 +7,7 @@ use Rattle.ct_word.specs.Value.{World, at}
 use Rattle.ct_word.specs.Condition.{Condition, holds}
 use Rattle.ct_word.specs.Reading.{term_at}
 use Rattle.ct_query.specs.Bounds.{literal_words, column_words, over_equalities, ops}
+use Rattle.ct_condition.specs.Places.{has_place}
 use Rattle.ct_condition.specs.Truth.{Truth}
 
 -- the cell for a column, none for another term and past the cells' end
@@ -26,10 +27,16 @@ on_row words c cells = λ v row. holds v (values_on words cells v row) c
 abbrev pub WorthOn : List ℕ → List ℕ → Term → List ℕ → ℕ → Type 0
 WorthOn old new t cells place = (v : World) (row : List Value) → at v row (term_at new place) ≡ at v (values_on old cells v row) t
 
--- the words that a term is put by: none where a cell stands for it
-abbrev pub term_words : List ℕ → Term → ℕ
-term_words cells t = if is_some (cell_for cells t) then 0 else literal_words t + column_words t
+-- the words that a term is put by after these: none where a cell stands for it, or a place already
+abbrev pub term_words : List ℕ → List ℕ → Term → ℕ
+term_words words cells t =
+    if is_some (cell_for cells t) then 0 else
+    if has_place words t then 0 else literal_words t + column_words t
+
+-- the words that the terms of a condition are put by, at most
+abbrev pub new_words : List ℕ → List ℕ → Condition → ℕ
+new_words words cells c = over_equalities (λ s t. term_words words cells s + term_words words cells t) c
 
 -- the words that a condition is put by, at most: those of its terms, and one for each equality, Not and connective
-abbrev pub words_on : List ℕ → Condition → ℕ
-words_on cells c = over_equalities (λ s t. term_words cells s + term_words cells t) c + ops c
+abbrev pub words_on : List ℕ → List ℕ → Condition → ℕ
+words_on words cells c = new_words words cells c + ops c

@@ -7,6 +7,7 @@ use Rattle.ct_word.specs.Value.{World, at, same_value}
 use Rattle.ct_word.specs.Condition.{holds}
 use Rattle.ct_word.specs.Reading.{condition_at, term_at}
 use Rattle.ct_word.specs.WellFormed.{is_place_of}
+use Rattle.ct_query.specs.Bounds.{ops}
 
 -- a truth for each valuation and row
 abbrev pub Truth : Type 0
@@ -46,3 +47,7 @@ all_at words cs = λ v row. list_all (λ c. truth_at words c v row) cs
 pub record Negates (words : List ℕ) (place other : ℕ) : Type 0 where
   pub class : IsTrue (is_place_of words class.Cond other)
   pub opposite : (v : World) (row : List Value) → truth_at words place v row ≡ not (truth_at words other v row)
+
+-- the equalities, Nots and connectives of the condition at a place
+abbrev pub ops_at : List ℕ → ℕ → ℕ
+ops_at words c = ops (condition_at words c)

@@ -2,15 +2,16 @@
 
 ghost use Rattle.std.specs.Prelude.{◌≡◌, ◌≢◌, ◌≤◌, ◌+◌, ◌<◌, ◌^◌, ◌⊎◌, length, min, max, slice_get, All, IfOk, IsSome, OnErr, IsTrue, Some, false};
 ghost use mathlib.Core.List.{IsPrefix};
-ghost use Rattle.ct_word.specs.Reading.{by_kind, meanings};
-ghost use Rattle.ct_word.specs.Stands.{StandsAt};
-ghost use Rattle.ct_word.specs.WellFormed.{is_formed_as, is_place_of, class_of, has_class};
+ghost use Rattle.ct_word.specs.Reading.{IsTerm, by_kind, meanings};
+ghost use Rattle.ct_word.specs.Stands.{StandsAt, TermBelow};
+ghost use Rattle.ct_word.specs.WellFormed.{IsWellFormed, is_formed_as, is_place_of, class_of, has_class};
 ghost use Rattle.ct_word.specs.declared.kinds.Class.TheVariants as class;
 ghost use Rattle.ct_word.specs.declared.kinds.Kind.TheVariants as kind;
 ghost use Rattle.ct_word.specs.Word.{word_of};
 ghost use Rattle.ct_condition.specs.Folding as spec;
 ghost use Rattle.ct_condition.specs.Folding.{FoldsTo};
-ghost use Rattle.ct_condition.specs.Truth.{HasTruth, equal_at, not_at, and_at, or_at, all_at};
+ghost use Rattle.ct_condition.specs.Truth.{HasTruth, equal_at, not_at, and_at, or_at, all_at, ops_at};
+ghost use Rattle.ct_condition.specs.Terms.{TermsFrom, BelowEither, BelowSome};
 
 use crate::folding::{folded_and, folded_eq, folded_not, folded_or, literal};
 use crate::interner::Interner;
@@ -35,7 +36,9 @@ fn pair<N: Site, I: Interner<N>>(
     ensures stands { IfOk result (λ place. StandsAt (I.list pass.new) place (by_kind (Some kind) (meanings (I.list pass.new)) c d) ⊎ StandsAt (I.list pass.new) place (by_kind (Some kind) (meanings (I.list pass.new)) d c)) }
     ensures place { IfOk result (λ place. IsTrue (is_place_of (I.list pass.new) (class_of kind) place)) }
     ensures small { IfOk result (λ place. place < 2 ^ 28) }
+    ensures terms { IfOk result (λ place. TermsFrom (I.list pass.new) place (λ t. StandsAt (I.list pass.new) place (IsTerm t) ⊎ BelowEither (I.list pass.new) c d t)) }
     ensures longer { IsPrefix (I.list pass.old) (I.list pass.new) }
+    ensures formed { IsWellFormed (I.list pass.new) }
     ensures full { OnErr result (length (I.list pass.new) ≡ N.log.cap) }
     ensures made { I.made pass.new ≤ I.made pass.old + 1 }
     ensures err { OnErr result (I.made pass.new ≡ I.made pass.old) }
@@ -62,8 +65,11 @@ pub fn eq<N: Site, I: Interner<N>>(
     requires left { IsTrue (is_place_of (I.list pass.old) class.Term s) }
     requires right { IsTrue (is_place_of (I.list pass.old) class.Term t) }
     ensures truth { IfOk result (λ place. HasTruth (I.list pass.new) place (equal_at (I.list pass.old) s t)) }
+    ensures terms { IfOk result (λ place. TermsFrom (I.list pass.new) place (BelowEither (I.list pass.old) s t)) }
+    ensures ops { IfOk result (λ place. ops_at (I.list pass.new) place ≤ 1) }
     ensures folds { FoldsTo (spec.folded_eq (I.list pass.old) s t) (word_of kind.Equal (min s t) (max s t)) (I.list pass.old) (I.list pass.new) result }
     ensures longer { IsPrefix (I.list pass.old) (I.list pass.new) }
+    ensures formed { IsWellFormed (I.list pass.new) }
     ensures full { OnErr result (length (I.list pass.new) ≡ N.log.cap) }
     ensures made { I.made pass.new ≤ I.made pass.old + 1 }
     ensures unmade { IsSome (spec.folded_eq (I.list pass.old) s t) → I.made pass.new ≡ I.made pass.old }
@@ -84,8 +90,11 @@ pub fn eq<N: Site, I: Interner<N>>(
 pub fn not<N: Site, I: Interner<N>>(arena: &Arena<N>, pass: &mut I, c: u32) -> Result<u32, Full>
     requires condition { IsTrue (is_place_of (I.list pass.old) class.Cond c) }
     ensures truth { IfOk result (λ place. HasTruth (I.list pass.new) place (not_at (I.list pass.old) c)) }
+    ensures terms { IfOk result (λ place. TermsFrom (I.list pass.new) place (TermBelow (I.list pass.old) c)) }
+    ensures ops { IfOk result (λ place. ops_at (I.list pass.new) place ≤ ops_at (I.list pass.old) c + 1) }
     ensures folds { FoldsTo (spec.folded_not (I.list pass.old) c) (word_of kind.Not c 0) (I.list pass.old) (I.list pass.new) result }
     ensures longer { IsPrefix (I.list pass.old) (I.list pass.new) }
+    ensures formed { IsWellFormed (I.list pass.new) }
     ensures full { OnErr result (length (I.list pass.new) ≡ N.log.cap) }
     ensures made { I.made pass.new ≤ I.made pass.old + 1 }
     ensures unmade { IsSome (spec.folded_not (I.list pass.old) c) → I.made pass.new ≡ I.made pass.old }
@@ -112,8 +121,11 @@ pub fn and<N: Site, I: Interner<N>>(
     requires left { IsTrue (is_place_of (I.list pass.old) class.Cond c) }
     requires right { IsTrue (is_place_of (I.list pass.old) class.Cond d) }
     ensures truth { IfOk result (λ place. HasTruth (I.list pass.new) place (and_at (I.list pass.old) c d)) }
+    ensures terms { IfOk result (λ place. TermsFrom (I.list pass.new) place (BelowEither (I.list pass.old) c d)) }
+    ensures ops { IfOk result (λ place. ops_at (I.list pass.new) place ≤ ops_at (I.list pass.old) c + ops_at (I.list pass.old) d + 1) }
     ensures folds { FoldsTo (spec.folded_and (I.list pass.old) c d) (word_of kind.And (min c d) (max c d)) (I.list pass.old) (I.list pass.new) result }
     ensures longer { IsPrefix (I.list pass.old) (I.list pass.new) }
+    ensures formed { IsWellFormed (I.list pass.new) }
     ensures full { OnErr result (length (I.list pass.new) ≡ N.log.cap) }
     ensures made { I.made pass.new ≤ I.made pass.old + 1 }
     ensures unmade { IsSome (spec.folded_and (I.list pass.old) c d) → I.made pass.new ≡ I.made pass.old }
@@ -140,8 +152,11 @@ pub fn or<N: Site, I: Interner<N>>(
     requires left { IsTrue (is_place_of (I.list pass.old) class.Cond c) }
     requires right { IsTrue (is_place_of (I.list pass.old) class.Cond d) }
     ensures truth { IfOk result (λ place. HasTruth (I.list pass.new) place (or_at (I.list pass.old) c d)) }
+    ensures terms { IfOk result (λ place. TermsFrom (I.list pass.new) place (BelowEither (I.list pass.old) c d)) }
+    ensures ops { IfOk result (λ place. ops_at (I.list pass.new) place ≤ ops_at (I.list pass.old) c + ops_at (I.list pass.old) d + 1) }
     ensures folds { FoldsTo (spec.folded_or (I.list pass.old) c d) (word_of kind.Or (min c d) (max c d)) (I.list pass.old) (I.list pass.new) result }
     ensures longer { IsPrefix (I.list pass.old) (I.list pass.new) }
+    ensures formed { IsWellFormed (I.list pass.new) }
     ensures full { OnErr result (length (I.list pass.new) ≡ N.log.cap) }
     ensures made { I.made pass.new ≤ I.made pass.old + 1 }
     ensures unmade { IsSome (spec.folded_or (I.list pass.old) c d) → I.made pass.new ≡ I.made pass.old }
@@ -166,7 +181,9 @@ pub fn all<N: Site, I: Interner<N>>(
 ) -> Result<u32, Full>
     requires { All (λ c. IsTrue (is_place_of (I.list pass.old) class.Cond c)) list.now }
     ensures truth { IfOk result (λ place. HasTruth (I.list pass.new) place (all_at (I.list pass.old) list.now)) }
+    ensures terms { IfOk result (λ place. TermsFrom (I.list pass.new) place (BelowSome (I.list pass.old) list.now)) }
     ensures longer { IsPrefix (I.list pass.old) (I.list pass.new) }
+    ensures formed { IsWellFormed (I.list pass.new) }
     ensures full { OnErr result (length (I.list pass.new) ≡ N.log.cap) }
     ensures made { I.made pass.new ≤ I.made pass.old + length list.now }
     ensures err { OnErr result (I.made pass.new < I.made pass.old + length list.now) }

@@ -1,6 +1,6 @@
 // What interns words for one site.
 
-ghost use Rattle.std.specs.Prelude.{◌≡◌, ◌≤◌, ◌<◌, ◌^◌, ◌↔◌, ◌+◌, OnErr, ℕ, List, [], ◌∷◌, length, IfOk, IsErr, IsTrue, Some, slice_get, Contains};
+ghost use Rattle.std.specs.Prelude.{◌≡◌, ◌≤◌, ◌<◌, ◌^◌, ◌↔◌, ◌+◌, OnErr, ℕ, List, [], ◌∷◌, length, IfOk, IsErr, IsOk, IsTrue, Some, slice_get, Contains};
 ghost use Rattle.std.specs.Borrow.{GName};
 ghost use mathlib.Core.List.{IsPrefix};
 ghost use Rattle.ct_word.specs.WellFormed.{IsWellFormed, is_plain_word};
@@ -33,6 +33,7 @@ pub trait Interner<N: Site> {
         ensures formed { IsWellFormed (list self.new) }
         ensures room { length (list self.new) ≤ N.log.cap }
         ensures full { OnErr result (length (list self.new) ≡ N.log.cap) }
+        ensures known { Contains (list self.old) w → IsOk result × (list self.new ≡ list self.old) × (made self.new ≡ made self.old) }
         ensures made { made self.new ≤ made self.old + 1 }
         ensures err { OnErr result (made self.new ≡ made self.old) }
         ensures kept { kept self.new ≡ kept self.old }

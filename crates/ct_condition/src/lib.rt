@@ -13,6 +13,10 @@ mod terms;
 #[cfg(test)]
 mod tests;
 mod texts;
+mod valued;
+#[cfg(test)]
+mod valued_tests;
+mod worlds;
 
 pub use conditions::{all, and, eq, not, or};
 pub use interner::Interner;
@@ -20,3 +24,4 @@ pub use packed::put;
 pub use predicates::pred;
 pub use terms::term;
 pub use texts::text;
+pub use valued::value_at;

@@ -1,11 +1,12 @@
 // One word.
 
-ghost use Rattle.std.specs.Prelude.{◌≡◌, ◌≤◌, ◌+◌, ◌<◌, ◌^◌, length, IfOk, OnErr, IsTrue, Some, false, slice_get};
+ghost use Rattle.std.specs.Prelude.{◌≡◌, ◌≤◌, ◌+◌, ◌<◌, ◌^◌, length, IfOk, IsOk, OnErr, IsTrue, Some, false, slice_get, Contains};
 ghost use mathlib.Core.List.{IsPrefix};
 ghost use Rattle.ct_word.specs.declared.kinds.Class.TheVariants as class;
 ghost use Rattle.ct_word.specs.Reading.{by_kind, meanings};
 ghost use Rattle.ct_word.specs.Stands.{StandsAt};
 ghost use Rattle.ct_word.specs.Word.{word_of};
+ghost use Rattle.ct_condition.specs.Terms.{TermsFrom, AtOrUnder};
 ghost use Rattle.ct_word.specs.WellFormed.{IsWellFormed, is_formed_as, is_place_of, class_of, has_class};
 
 use crate::interner::Interner;
@@ -31,10 +32,12 @@ pub fn put<N: Site, I: Interner<N>>(
     ensures stands { IfOk result (λ place. StandsAt (I.list pass.new) place (by_kind (Some kind) (meanings (I.list pass.new)) a b)) }
     ensures place { IfOk result (λ place. IsTrue (is_place_of (I.list pass.new) (class_of kind) place)) }
     ensures small { IfOk result (λ place. place < 2 ^ 28) }
+    ensures terms { IfOk result (λ place. TermsFrom (I.list pass.new) place (AtOrUnder (I.list pass.new) place kind a b)) }
     ensures longer { IsPrefix (I.list pass.old) (I.list pass.new) }
     ensures formed { IsWellFormed (I.list pass.new) }
     ensures room { length (I.list pass.new) ≤ N.log.cap }
     ensures full { OnErr result (length (I.list pass.new) ≡ N.log.cap) }
+    ensures known { Contains (I.list pass.old) (word_of kind a b) → IsOk result × (I.list pass.new ≡ I.list pass.old) × (I.made pass.new ≡ I.made pass.old) }
     ensures made { I.made pass.new ≤ I.made pass.old + 1 }
     ensures err { OnErr result (I.made pass.new ≡ I.made pass.old) }
     ensures kept { I.kept pass.new ≡ I.kept pass.old }

@@ -1,16 +1,18 @@
 // Predicates on rows.
 
-ghost use Rattle.std.specs.Prelude.{◌≡◌, ◌≤◌, ◌+◌, ◌<◌, ◌^◌, length, All, IfOk, OnErr, IsTrue};
+ghost use Rattle.std.specs.Prelude.{◌≡◌, ◌≤◌, ◌+◌, ◌<◌, ◌^◌, length, All, IfOk, OnErr, OnOk, IsTrue};
 ghost use Rattle.std.specs.List.{list_all, list_any};
 ghost use mathlib.Core.List.{IsPrefix};
 ghost use Rattle.ct_word.specs.Condition.{Same};
 ghost use Rattle.ct_word.specs.WellFormed.{is_place_of};
 ghost use Rattle.ct_word.specs.declared.kinds.Class.TheVariants as class;
 ghost use Rattle.ct_query.specs.Pred.{condition_of};
-ghost use Rattle.ct_condition.specs.Truth.{HasTruth};
+ghost use Rattle.ct_condition.specs.Truth.{HasTruth, ops_at};
 ghost use Rattle.ct_query.specs.Fields.{FitsFieldsOn, AreFittingOn};
-ghost use Rattle.ct_condition.specs.Runs.{run_words};
-ghost use Rattle.ct_condition.specs.Rows.{cell_for, WorthOn, on_row, term_words, words_on};
+ghost use Rattle.ct_condition.specs.Runs.{run_words, run_new_words, run_ops};
+ghost use Rattle.ct_condition.specs.Rows.{cell_for, WorthOn, on_row, term_words, words_on, new_words};
+ghost use Rattle.ct_query.specs.Bounds.{ops};
+ghost use Rattle.ct_condition.specs.Terms.{TermsFrom, IsOnRow, IsOnRowOfSome, IsTermOnRow};
 
 use crate::conditions::{and, eq, not, or};
 use crate::folding::literal;
@@ -41,10 +43,12 @@ fn place_on<N: Site, I: Interner<N>>(
     requires row { All (λ s. IsTrue (is_place_of (I.list pass.old) class.Term s)) row.now }
     ensures worth { IfOk result (λ place. WorthOn (I.list pass.old) (I.list pass.new) t.now row.now place) }
     ensures place { IfOk result (λ place. IsTrue (is_place_of (I.list pass.new) class.Term place)) }
+    ensures terms { IfOk result (λ place. TermsFrom (I.list pass.new) place (IsTermOnRow (I.list pass.old) row.now t.now)) }
     ensures longer { IsPrefix (I.list pass.old) (I.list pass.new) }
     ensures full { OnErr result (length (I.list pass.new) ≡ N.log.cap) }
-    ensures made { I.made pass.new ≤ I.made pass.old + term_words row.now t.now }
-    ensures err { OnErr result (I.made pass.new < I.made pass.old + term_words row.now t.now) }
+    ensures made { I.made pass.new ≤ I.made pass.old + term_words (I.list pass.old) row.now t.now }
+    ensures err { OnErr result (I.made pass.new < I.made pass.old + term_words (I.list pass.old) row.now t.now) }
+    ensures placed { OnOk result (term_words (I.list pass.new) row.now t.now ≡ 0) }
     ensures kept { I.kept pass.new ≡ I.kept pass.old }
     ensures lent { I.lent pass.new ≡ I.lent pass.old }
 {
@@ -66,10 +70,13 @@ fn same<N: Site, I: Interner<N>>(
     requires right { FitsFieldsOn (length row.now) t.now }
     requires row { All (λ s. IsTrue (is_place_of (I.list pass.old) class.Term s)) row.now }
     ensures truth { IfOk result (λ place. HasTruth (I.list pass.new) place (on_row (I.list pass.old) (Same s.now t.now) row.now)) }
+    ensures terms { IfOk result (λ place. TermsFrom (I.list pass.new) place (IsOnRow (I.list pass.old) row.now (Same s.now t.now))) }
+    ensures ops { IfOk result (λ place. ops_at (I.list pass.new) place ≤ 1) }
     ensures longer { IsPrefix (I.list pass.old) (I.list pass.new) }
     ensures full { OnErr result (length (I.list pass.new) ≡ N.log.cap) }
-    ensures made { I.made pass.new ≤ I.made pass.old + words_on row.now (Same s.now t.now) }
-    ensures err { OnErr result (I.made pass.new < I.made pass.old + words_on row.now (Same s.now t.now)) }
+    ensures made { I.made pass.new ≤ I.made pass.old + words_on (I.list pass.old) row.now (Same s.now t.now) }
+    ensures err { OnErr result (I.made pass.new < I.made pass.old + words_on (I.list pass.old) row.now (Same s.now t.now)) }
+    ensures placed { OnOk result (new_words (I.list pass.new) row.now (Same s.now t.now) ≡ 0) }
     ensures kept { I.kept pass.new ≡ I.kept pass.old }
     ensures lent { I.lent pass.new ≡ I.lent pass.old }
 {
@@ -89,10 +96,13 @@ fn every<N: Site, I: Interner<N>>(
     requires fields { All (λ p. AreFittingOn (length row.now) (condition_of p)) list.now }
     requires row { All (λ s. IsTrue (is_place_of (I.list pass.old) class.Term s)) row.now }
     ensures truth { IfOk result (λ place. HasTruth (I.list pass.new) place (λ v r. list_all (λ p. on_row (I.list pass.old) (condition_of p) row.now v r) list.now)) }
+    ensures terms { IfOk result (λ place. TermsFrom (I.list pass.new) place (IsOnRowOfSome (I.list pass.old) row.now list.now)) }
+    ensures ops { IfOk result (λ place. ops_at (I.list pass.new) place ≤ run_ops list.now) }
     ensures longer { IsPrefix (I.list pass.old) (I.list pass.new) }
     ensures full { OnErr result (length (I.list pass.new) ≡ N.log.cap) }
-    ensures made { I.made pass.new ≤ I.made pass.old + run_words row.now list.now }
-    ensures err { OnErr result (I.made pass.new < I.made pass.old + run_words row.now list.now) }
+    ensures made { I.made pass.new ≤ I.made pass.old + run_words (I.list pass.old) row.now list.now }
+    ensures err { OnErr result (I.made pass.new < I.made pass.old + run_words (I.list pass.old) row.now list.now) }
+    ensures placed { OnOk result (run_new_words (I.list pass.new) row.now list.now ≡ 0) }
     ensures kept { I.kept pass.new ≡ I.kept pass.old }
     ensures lent { I.lent pass.new ≡ I.lent pass.old }
 {
@@ -115,10 +125,13 @@ fn some<N: Site, I: Interner<N>>(
     requires fields { All (λ p. AreFittingOn (length row.now) (condition_of p)) list.now }
     requires row { All (λ s. IsTrue (is_place_of (I.list pass.old) class.Term s)) row.now }
     ensures truth { IfOk result (λ place. HasTruth (I.list pass.new) place (λ v r. list_any (λ p. on_row (I.list pass.old) (condition_of p) row.now v r) list.now)) }
+    ensures terms { IfOk result (λ place. TermsFrom (I.list pass.new) place (IsOnRowOfSome (I.list pass.old) row.now list.now)) }
+    ensures ops { IfOk result (λ place. ops_at (I.list pass.new) place ≤ run_ops list.now) }
     ensures longer { IsPrefix (I.list pass.old) (I.list pass.new) }
     ensures full { OnErr result (length (I.list pass.new) ≡ N.log.cap) }
-    ensures made { I.made pass.new ≤ I.made pass.old + run_words row.now list.now }
-    ensures err { OnErr result (I.made pass.new < I.made pass.old + run_words row.now list.now) }
+    ensures made { I.made pass.new ≤ I.made pass.old + run_words (I.list pass.old) row.now list.now }
+    ensures err { OnErr result (I.made pass.new < I.made pass.old + run_words (I.list pass.old) row.now list.now) }
+    ensures placed { OnOk result (run_new_words (I.list pass.new) row.now list.now ≡ 0) }
     ensures kept { I.kept pass.new ≡ I.kept pass.old }
     ensures lent { I.lent pass.new ≡ I.lent pass.old }
 {
@@ -145,10 +158,13 @@ pub fn pred<N: Site, I: Interner<N>>(
     requires fields { AreFittingOn (length row.now) (condition_of p.now) }
     requires row { All (λ s. IsTrue (is_place_of (I.list pass.old) class.Term s)) row.now }
     ensures truth { IfOk result (λ place. HasTruth (I.list pass.new) place (on_row (I.list pass.old) (condition_of p.now) row.now)) }
+    ensures terms { IfOk result (λ place. TermsFrom (I.list pass.new) place (IsOnRow (I.list pass.old) row.now (condition_of p.now))) }
+    ensures ops { IfOk result (λ place. ops_at (I.list pass.new) place ≤ ops (condition_of p.now)) }
     ensures longer { IsPrefix (I.list pass.old) (I.list pass.new) }
     ensures full { OnErr result (length (I.list pass.new) ≡ N.log.cap) }
-    ensures made { I.made pass.new ≤ I.made pass.old + words_on row.now (condition_of p.now) }
-    ensures err { OnErr result (I.made pass.new < I.made pass.old + words_on row.now (condition_of p.now)) }
+    ensures made { I.made pass.new ≤ I.made pass.old + words_on (I.list pass.old) row.now (condition_of p.now) }
+    ensures err { OnErr result (I.made pass.new < I.made pass.old + words_on (I.list pass.old) row.now (condition_of p.now)) }
+    ensures placed { OnOk result (new_words (I.list pass.new) row.now (condition_of p.now) ≡ 0) }
     ensures kept { I.kept pass.new ≡ I.kept pass.old }
     ensures lent { I.lent pass.new ≡ I.lent pass.old }
 {

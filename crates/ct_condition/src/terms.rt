@@ -1,6 +1,6 @@
 // Terms.
 
-ghost use Rattle.std.specs.Prelude.{◌≡◌, ◌≤◌, ◌+◌, ◌<◌, ◌^◌, length, IfOk, OnErr, IsTrue};
+ghost use Rattle.std.specs.Prelude.{ℕ, ◌≡◌, ◌≤◌, ◌+◌, ◌<◌, ◌^◌, length, IfOk, IsOk, OnErr, IsTrue};
 ghost use mathlib.Core.List.{IsPrefix};
 ghost use Rattle.ct_word.specs.Reading.{IsTerm};
 ghost use Rattle.ct_word.specs.Stands.{StandsAt};
@@ -11,6 +11,8 @@ ghost use Rattle.ct_word.specs.declared.values.Null.TheVariants as null;
 ghost use Rattle.ct_word.specs.declared.values.Term.TheVariants as term;
 ghost use Rattle.ct_query.specs.Bounds.{characters, literal_words, column_words};
 ghost use Rattle.ct_query.specs.Fields.{FitsFields};
+ghost use Rattle.ct_condition.specs.Terms.{TermsFrom};
+ghost use Rattle.ct_condition.specs.Places.{has_place};
 
 use crate::interner::Interner;
 use crate::packed::put;
@@ -23,8 +25,10 @@ fn number<N: Site, I: Interner<N>>(arena: &Arena<N>, pass: &mut I, number: i64) 
     ensures stands { IfOk result (λ place. StandsAt (I.list pass.new) place (IsTerm (term.Value (val.Int number)))) }
     ensures place { IfOk result (λ place. IsTrue (is_place_of (I.list pass.new) class.Term place)) }
     ensures small { IfOk result (λ place. place < 2 ^ 28) }
+    ensures terms { IfOk result (λ place. TermsFrom (I.list pass.new) place (λ t. t ≡ term.Value (val.Int number))) }
     ensures longer { IsPrefix (I.list pass.old) (I.list pass.new) }
     ensures full { OnErr result (length (I.list pass.new) ≡ N.log.cap) }
+    ensures known { (p : ℕ) → StandsAt (I.list pass.old) p (IsTerm (term.Value (val.Int number))) → IsOk result × (I.list pass.new ≡ I.list pass.old) × (I.made pass.new ≡ I.made pass.old) }
     ensures made { I.made pass.new ≤ I.made pass.old + 2 }
     ensures err { OnErr result (I.made pass.new < I.made pass.old + 2) }
     ensures kept { I.kept pass.new ≡ I.kept pass.old }
@@ -46,8 +50,10 @@ fn value<N: Site, I: Interner<N>>(
     ensures stands { IfOk result (λ place. StandsAt (I.list pass.new) place (IsTerm (term.Value value.now))) }
     ensures place { IfOk result (λ place. IsTrue (is_place_of (I.list pass.new) class.Term place)) }
     ensures small { IfOk result (λ place. place < 2 ^ 28) }
+    ensures terms { IfOk result (λ place. TermsFrom (I.list pass.new) place (λ t. t ≡ term.Value value.now)) }
     ensures longer { IsPrefix (I.list pass.old) (I.list pass.new) }
     ensures full { OnErr result (length (I.list pass.new) ≡ N.log.cap) }
+    ensures known { (p : ℕ) → StandsAt (I.list pass.old) p (IsTerm (term.Value value.now)) → IsOk result × (I.list pass.new ≡ I.list pass.old) × (I.made pass.new ≡ I.made pass.old) }
     ensures made { I.made pass.new ≤ I.made pass.old + literal_words (term.Value value.now) }
     ensures err { OnErr result (I.made pass.new < I.made pass.old + literal_words (term.Value value.now)) }
     ensures kept { I.kept pass.new ≡ I.kept pass.old }
@@ -68,8 +74,10 @@ fn text_constant<N: Site, I: Interner<N>>(
     ensures stands { IfOk result (λ place. StandsAt (I.list pass.new) place (IsTerm (term.Value (val.Text t.now)))) }
     ensures place { IfOk result (λ place. IsTrue (is_place_of (I.list pass.new) class.Term place)) }
     ensures small { IfOk result (λ place. place < 2 ^ 28) }
+    ensures terms { IfOk result (λ place. TermsFrom (I.list pass.new) place (λ u. u ≡ term.Value (val.Text t.now))) }
     ensures longer { IsPrefix (I.list pass.old) (I.list pass.new) }
     ensures full { OnErr result (length (I.list pass.new) ≡ N.log.cap) }
+    ensures known { (p : ℕ) → StandsAt (I.list pass.old) p (IsTerm (term.Value (val.Text t.now))) → IsOk result × (I.list pass.new ≡ I.list pass.old) × (I.made pass.new ≡ I.made pass.old) }
     ensures made { I.made pass.new ≤ I.made pass.old + (characters t.now + 2) }
     ensures err { OnErr result (I.made pass.new < I.made pass.old + (characters t.now + 2)) }
     ensures kept { I.kept pass.new ≡ I.kept pass.old }
@@ -87,8 +95,10 @@ fn named_null<N: Site, I: Interner<N>>(
     ensures stands { IfOk result (λ place. StandsAt (I.list pass.new) place (IsTerm (term.Null (null.Named name.now)))) }
     ensures place { IfOk result (λ place. IsTrue (is_place_of (I.list pass.new) class.Term place)) }
     ensures small { IfOk result (λ place. place < 2 ^ 28) }
+    ensures terms { IfOk result (λ place. TermsFrom (I.list pass.new) place (λ t. t ≡ term.Null (null.Named name.now))) }
     ensures longer { IsPrefix (I.list pass.old) (I.list pass.new) }
     ensures full { OnErr result (length (I.list pass.new) ≡ N.log.cap) }
+    ensures known { (p : ℕ) → StandsAt (I.list pass.old) p (IsTerm (term.Null (null.Named name.now))) → IsOk result × (I.list pass.new ≡ I.list pass.old) × (I.made pass.new ≡ I.made pass.old) }
     ensures made { I.made pass.new ≤ I.made pass.old + (characters name.now + 2) }
     ensures err { OnErr result (I.made pass.new < I.made pass.old + (characters name.now + 2)) }
     ensures kept { I.kept pass.new ≡ I.kept pass.old }
@@ -107,8 +117,10 @@ fn marked_null<N: Site, I: Interner<N>>(
     ensures stands { IfOk result (λ place. StandsAt (I.list pass.new) place (IsTerm (term.Null marked.now))) }
     ensures place { IfOk result (λ place. IsTrue (is_place_of (I.list pass.new) class.Term place)) }
     ensures small { IfOk result (λ place. place < 2 ^ 28) }
+    ensures terms { IfOk result (λ place. TermsFrom (I.list pass.new) place (λ t. t ≡ term.Null marked.now)) }
     ensures longer { IsPrefix (I.list pass.old) (I.list pass.new) }
     ensures full { OnErr result (length (I.list pass.new) ≡ N.log.cap) }
+    ensures known { (p : ℕ) → StandsAt (I.list pass.old) p (IsTerm (term.Null marked.now)) → IsOk result × (I.list pass.new ≡ I.list pass.old) × (I.made pass.new ≡ I.made pass.old) }
     ensures made { I.made pass.new ≤ I.made pass.old + literal_words (term.Null marked.now) }
     ensures err { OnErr result (I.made pass.new < I.made pass.old + literal_words (term.Null marked.now)) }
     ensures kept { I.kept pass.new ≡ I.kept pass.old }
@@ -133,8 +145,10 @@ pub fn term<N: Site, I: Interner<N>>(
     ensures stands { IfOk result (λ place. StandsAt (I.list pass.new) place (IsTerm term.now)) }
     ensures place { IfOk result (λ place. IsTrue (is_place_of (I.list pass.new) class.Term place)) }
     ensures small { IfOk result (λ place. place < 2 ^ 28) }
+    ensures terms { IfOk result (λ place. TermsFrom (I.list pass.new) place (λ t. t ≡ term.now)) }
     ensures longer { IsPrefix (I.list pass.old) (I.list pass.new) }
     ensures full { OnErr result (length (I.list pass.new) ≡ N.log.cap) }
+    ensures known { IsTrue (has_place (I.list pass.old) term.now) → IsOk result × (I.list pass.new ≡ I.list pass.old) × (I.made pass.new ≡ I.made pass.old) }
     ensures made { I.made pass.new ≤ I.made pass.old + (literal_words term.now + column_words term.now) }
     ensures err { OnErr result (I.made pass.new < I.made pass.old + (literal_words term.now + column_words term.now)) }
     ensures kept { I.kept pass.new ≡ I.kept pass.old }

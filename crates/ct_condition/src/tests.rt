@@ -112,7 +112,7 @@ const ROWS: [(&[u32], u32, usize); 5] = [
 ];
 
 /// Whether a place is one of a class.
-fn is_of(words: &[u64], place: u32, wanted: Class) -> bool
+pub fn is_of(words: &[u64], place: u32, wanted: Class) -> bool
     ensures { result ≡ is_place_of words.now wanted place }
 {
     let Some(word) = words.get(place as usize) else {
@@ -147,7 +147,7 @@ fn put_terms<N: Site>(alloc: Global, arena: &Arena<N>, pass: &mut Pass<N>) -> Re
     Ok(())
 }
 
-fn word(alloc: Global, text: &str) -> Result<Text, AllocError> {
+pub fn word(alloc: Global, text: &str) -> Result<Text, AllocError> {
     Ok(Text::from_string(String::from_str(alloc, text)?))
 }
 

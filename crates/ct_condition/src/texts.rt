@@ -1,12 +1,13 @@
 // Texts.
 
-ghost use Rattle.std.specs.Prelude.{◌≡◌, ◌≤◌, ◌+◌, ◌<◌, ◌^◌, length, IfOk, OnErr, IsTrue};
+ghost use Rattle.std.specs.Prelude.{ℕ, ◌≡◌, ◌≤◌, ◌+◌, ◌<◌, ◌^◌, length, IfOk, IsOk, OnErr, IsTrue};
 ghost use mathlib.Core.List.{IsPrefix};
 ghost use Rattle.ct_word.specs.Reading.{IsText};
 ghost use Rattle.ct_word.specs.Stands.{StandsAt};
-ghost use Rattle.ct_word.specs.WellFormed.{is_place_of};
+ghost use Rattle.ct_word.specs.WellFormed.{IsWellFormed, is_place_of};
 ghost use Rattle.ct_query.specs.Bounds.{characters};
 ghost use Rattle.ct_word.specs.declared.kinds.Class.TheVariants as class;
+ghost use Rattle.ct_condition.specs.Terms.{TermsFrom};
 
 use crate::interner::Interner;
 use crate::packed::put;
@@ -25,8 +26,11 @@ pub fn text<N: Site, I: Interner<N>>(
     ensures stands { IfOk result (λ place. StandsAt (I.list pass.new) place (IsText text.now)) }
     ensures place { IfOk result (λ place. IsTrue (is_place_of (I.list pass.new) class.Text place)) }
     ensures small { IfOk result (λ place. place < 2 ^ 28) }
+    ensures terms { IfOk result (λ place. TermsFrom (I.list pass.new) place (λ t. ⊥)) }
     ensures longer { IsPrefix (I.list pass.old) (I.list pass.new) }
     ensures full { OnErr result (length (I.list pass.new) ≡ N.log.cap) }
+    ensures formed { IsWellFormed (I.list pass.new) }
+    ensures known { (p : ℕ) → StandsAt (I.list pass.old) p (IsText text.now) → IsOk result × (I.list pass.new ≡ I.list pass.old) × (I.made pass.new ≡ I.made pass.old) }
     ensures made { I.made pass.new ≤ I.made pass.old + (characters text.now + 1) }
     ensures err { OnErr result (I.made pass.new < I.made pass.old + (characters text.now + 1)) }
     ensures kept { I.kept pass.new ≡ I.kept pass.old }

@@ -1,5 +1,5 @@
 -- Closed tests: what the definitions say of small histories, queries and actions.
-use Rattle.std.proofs.Common.{◌≡◌, ℕ, List, [], ◌∷◌, refl}
+use Rattle.std.proofs.Common.{◌≡◌, ℕ, List, [], ◌∷◌, refl, arith}
 use Rattle.std.specs.Prelude.{true, false, Option, Some, None, pos, codes, option_map, if◌then◌else◌}
 use Rattle.ct_word.specs.declared.values.Value.{Value}
 use Rattle.ct_word.specs.declared.values.Value.TheVariants as val
@@ -17,6 +17,8 @@ use Rattle.ct_query.specs.Worlds.{world, admits}
 use Rattle.ct_query.specs.Reads.{last, query_reads}
 use Rattle.ct_query.specs.Patterns.{pattern, count}
 use Rattle.ct_query.specs.Size.{size}
+use Rattle.ct_query.specs.declared.schema.Heading.{Heading}
+use Rattle.ct_query.specs.Fits.{Fits}
 use Rattle.ct_query.specs.Bounds.{bound, nodes}
 
 abbrev int : ℕ → Value
@@ -109,9 +111,22 @@ last_t = refl
 last_worlds : last except_history read.Worlds ≡ 0
 last_worlds = refl
 
+last_deleted : last delete_history (read.Table (codes "t")) ≡ 3
+last_deleted = refl
+
 -- the pattern of a table keeps what was deleted
 pattern_kept : pattern delete_history [] (Table (codes "t")) ≡ (constant 1 ∷ []) ∷ (constant 2 ∷ []) ∷ []
 pattern_kept = refl
+
+pattern_left : pattern delete_history (plain.Delete (codes "t") True ∷ []) (Table (codes "t")) ≡ (constant 1 ∷ []) ∷ (constant 2 ∷ []) ∷ []
+pattern_left = refl
+
+-- sides with other numbers of columns do not fit
+abbrev one_and_two : List Heading
+one_and_two = record { name = codes "t"; columns = codes "a" ∷ [] } ∷ record { name = codes "u"; columns = codes "a" ∷ codes "b" ∷ [] } ∷ []
+
+other_widths : Fits one_and_two (Except (Table (codes "t")) (Table (codes "u"))) → ⊥
+other_widths f = let e : 1 ≡ 2 = f.0 in omega (arith, e)
 
 -- equal cells are counted once
 counted_once : count (by_one 0 (Insert (codes "t") (row x ∷ row x ∷ [])) ∷ []) [] (codes "t") ≡ 1

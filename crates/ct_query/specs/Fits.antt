@@ -35,6 +35,10 @@ IsColumnBelow n (term.Column k) = k < n
 IsColumnBelow n (term.Null u) = Unit {0}
 IsColumnBelow n (term.Value x) = Unit {0}
 
+-- a term fits a cell: it is no column, and its numbers are such that a word has room for them
+abbrev pub FitsCell : Term → Type 0
+FitsCell t = IsColumnBelow 0 t × FitsFields t
+
 -- the columns of a condition are below this position
 abbrev mutual
   pub AreColumnsBelow : ℕ → Condition → Type 0
@@ -66,11 +70,12 @@ Fits s (plain.Union a b) = (width s a ≡ width s b) × Fits s a × Fits s b
 Fits s (plain.Except a b) = (width s a ≡ width s b) × Fits s a × Fits s b
 Fits s (plain.Intersect a b) = (width s a ≡ width s b) × Fits s a × Fits s b
 
--- an action fits: a new table has a new name, and further rows have as many cells as their table has columns
+-- an action fits: a new table has a new name, and further rows have as many cells as their table has columns, none of
+-- them a column
 abbrev pub FitsAction : List Heading → PlainAction → Type 0
 FitsAction s (plain.Create name columns) = columns_in s name ≡ None
 FitsAction s (plain.InsertRows name rows c) =
-    IsSome (columns_in s name) × All (λ r. length r ≡ width s (plain.Table name)) rows × All (All FitsFields) rows × FitsRows 0 c
+    IsSome (columns_in s name) × All (λ r. length r ≡ width s (plain.Table name)) rows × All (All FitsCell) rows × FitsRows 0 c
 FitsAction s (plain.InsertQuery name q) = IsSome (columns_in s name) × (width s q ≡ width s (plain.Table name)) × Fits s q
 FitsAction s (plain.Delete name c) = IsSome (columns_in s name) × FitsRows (width s (plain.Table name)) c
 FitsAction s (plain.Assert c) = FitsRows 0 c

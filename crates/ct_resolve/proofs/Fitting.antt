@@ -11,8 +11,7 @@ use Rattle.ct_query.specs.declared.action.Ask.{Ask}
 use Rattle.ct_query.specs.declared.action.Ask.TheVariants as ask
 use Rattle.ct_query.specs.declared.schema.Heading.{Heading}
 use Rattle.ct_query.specs.declared.schema.Schema.{Schema}
-use Rattle.ct_query.specs.Fields.{FitsFields}
-use Rattle.ct_query.specs.Fits.{columns_in, FitsRows, FitsStatement}
+use Rattle.ct_query.specs.Fits.{columns_in, FitsCell, FitsRows, FitsStatement}
 use Rattle.ct_query.specs.Plain as plain
 use Rattle.ct_query.specs.Plain.{PlainStatement}
 use Rattle.ct_parse.specs.declared.tree.Cell.{Cell}
@@ -74,24 +73,24 @@ rows_rise next [] = omega arith
 rows_rise next (r ∷ rs) = omega (arith, cells_rise next (cells_of r), rows_rise (next_after_all next (cells_of r)) rs)
 
 module _ (session : ℕ) (first : 1 ≤ session) (last : session ≤ 1023) where
-  cell_fits : (next : ℕ) (c : Cell) → 1 ≤ next → next_after next c ≤ 2 ^ 28 → FitsFields (cell_term session next c)
-  cell_fits next (cell.Number i) low room = tt
-  cell_fits next (cell.Text t) low room = tt
-  cell_fits next (cell.Null n) low room = tt
-  cell_fits next cell.NewNull low room = (first, last, low, omega (arith, room))
+  cell_fits : (next : ℕ) (c : Cell) → 1 ≤ next → next_after next c ≤ 2 ^ 28 → FitsCell (cell_term session next c)
+  cell_fits next (cell.Number i) low room = (tt, tt)
+  cell_fits next (cell.Text t) low room = (tt, tt)
+  cell_fits next (cell.Null n) low room = (tt, tt)
+  cell_fits next cell.NewNull low room = (tt, (first, last, low, omega (arith, room)))
 
-  cells_fit : (next : ℕ) (cs : List Cell) → 1 ≤ next → next_after_all next cs ≤ 2 ^ 28 → All FitsFields (cell_terms session next cs)
-  cells_fit next [] low room = All-nil FitsFields
+  cells_fit : (next : ℕ) (cs : List Cell) → 1 ≤ next → next_after_all next cs ≤ 2 ^ 28 → All FitsCell (cell_terms session next cs)
+  cells_fit next [] low room = All-nil FitsCell
   cells_fit next (c ∷ cs) low room =
       let after = next_after next c in
-      All-cons FitsFields (cell_term session next c) (cell_terms session after cs)
+      All-cons FitsCell (cell_term session next c) (cell_terms session after cs)
       (cell_fits next c low (omega (arith, room, cells_rise after cs))) (cells_fit after cs (omega (arith, low, cell_rises next c)) room)
 
-  rows_fit : (next : ℕ) (rs : List Row) → 1 ≤ next → next_after_rows next rs ≤ 2 ^ 28 → All (All FitsFields) (row_terms session next rs)
-  rows_fit next [] low room = All-nil (All FitsFields)
+  rows_fit : (next : ℕ) (rs : List Row) → 1 ≤ next → next_after_rows next rs ≤ 2 ^ 28 → All (All FitsCell) (row_terms session next rs)
+  rows_fit next [] low room = All-nil (All FitsCell)
   rows_fit next (r ∷ rs) low room =
       let after = next_after_all next (cells_of r) in
-      All-cons (All FitsFields) (cell_terms session next (cells_of r)) (row_terms session after rs)
+      All-cons (All FitsCell) (cell_terms session next (cells_of r)) (row_terms session after rs)
       (cells_fit next (cells_of r) low (omega (arith, room, rows_rise after rs))) (rows_fit after rs (omega (arith, low, cells_rise next (cells_of r))) room)
 
 -- the statements, kind by kind

@@ -1,12 +1,14 @@
 -- What putting a node into a list of distinct nodes does.
 use Rattle.std.proofs.Common.{◌≡◌, ℕ, Bool, true, List, [], ◌∷◌, ◌++◌, length, Some, refl, ap, sym, ◌∙◌, subst}
 use Rattle.std.specs.Prelude.{slice_get, IsTrue}
-use Rattle.std.specs.List.{list_any, IsDistinct}
-use Rattle.std.proofs.lemmas.Bool.{cond_both}
+use Rattle.std.specs.List.{list_all, list_any, IsDistinct}
+use Rattle.std.proofs.lemmas.Bool.{cond_both, and_from}
+use Rattle.std.proofs.lemmas.List.Folds.{list_all-append}
 use Rattle.indexmap.specs.IndexSet.{insert_key}
 use Rattle.ct_rewrite.specs.declared.answer.Node.{Node}
 use Rattle.ct_rewrite.specs.contracts.answer.NodePartialEq.TheImpl as node_eq
 use Rattle.ct_rewrite.specs.Nodes.{node_value, node_condition, stands_over, IsOrdered, same_node}
+use Rattle.ct_rewrite.specs.Rules.{is_proper}
 use Rattle.ct_rewrite.proofs.Nodes.{ordered_push, value_stays, condition_of_position, node_compared, same_node_is}
 
 abbrev compared : Node → Node → Bool
@@ -26,6 +28,11 @@ module _ (ns : List Node) (n : Node) (ordered : IsOrdered ns) (over : IsTrue (st
       let same : n ≡ found.0 = same_node_is n found.0 (sym (node_compared n found.0) ∙ found.2) in
       condition_of_position new k found.0 (subst IsOrdered (sym e) inserted_ordered) found.1
       ∙ ap (node_value new) (sym same) ∙ ap (λ xs. node_value xs n) e ∙ value_inserted
+
+pub inserted_proper : (ns : List Node) (n : Node) → IsTrue (list_all is_proper ns) → IsTrue (is_proper n) → IsTrue (list_all is_proper (insert_key compared ns n))
+inserted_proper ns n all e =
+    cond_both (list_any (compared n) ns) ns (ns ++ n ∷ []) (λ xs. IsTrue (list_all is_proper xs)) (λ i. all)
+    (λ i. list_all-append is_proper ns (n ∷ []) ∙ and_from _ _ all (and_from (is_proper n) true e refl))
 
 -- distinct by the derived comparison, and by that of the definitions
 pub distinct_nodes : (ns : List Node) → IsDistinct compared ns → IsDistinct same_node ns

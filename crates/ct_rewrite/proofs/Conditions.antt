@@ -1,5 +1,5 @@
 -- What the words of conditions stand for.
-use Rattle.std.proofs.Common.{◌≡◌, ℕ, zero, suc, ◌<◌, List, [], ◌∷◌, ◌++◌, length, map, nat_lt, Some, get_or, refl, ap, sym, ◌∙◌, subst, arith, inl, inr, length-append}
+use Rattle.std.proofs.Common.{◌≡◌, ℕ, zero, suc, ◌<◌, ◌≤◌, List, [], ◌∷◌, ◌++◌, length, map, nat_lt, Some, get_or, refl, ap, sym, ◌∙◌, subst, arith, inl, inr, length-append}
 use Rattle.std.specs.Prelude.{IsTrue, slice_get}
 use Rattle.std.specs.List.{list_all, AllZip}
 use Rattle.std.proofs.lemmas.Bool.{cases_lt, and_parts, and_from, lt-ltb}
@@ -7,7 +7,8 @@ use Rattle.std.proofs.lemmas.Option.{get_or_from_slice_get}
 use Rattle.ct_word.specs.declared.kinds.Kind.TheVariants as kind
 use Rattle.ct_word.specs.declared.kinds.Class.TheVariants as class
 use Rattle.ct_word.specs.WellFormed.{is_place_of}
-use Rattle.ct_word.specs.Condition.{Not, both, either, SameTruth, holds}
+use Rattle.ct_word.specs.declared.values.Term.{Term}
+use Rattle.ct_word.specs.Condition.{Condition, Not, both, either, SameTruth}
 use Rattle.ct_word.specs.Reading.{as_cond, condition_at}
 use Rattle.ct_rewrite.specs.declared.answer.Node.{Node}
 use Rattle.ct_rewrite.specs.declared.forms.Form.{Form}
@@ -17,7 +18,9 @@ use Rattle.ct_rewrite.specs.Words.{IsWordAt}
 use Rattle.ct_rewrite.specs.Marks.{IsKept}
 use Rattle.ct_rewrite.specs.Building.{Grows, Says}
 use Rattle.ct_rewrite.specs.Signs.{IsForm, HaveForms, plus_at}
+use Rattle.ct_rewrite.specs.Sizes.{Fits, NoneIsEmpty, deep, nest_of, text_of, wide}
 use Rattle.ct_rewrite.proofs.Signs.{still_form}
+use Rattle.ct_rewrite.proofs.Sizes.{nest_lower, text_shorter}
 use Rattle.ct_rewrite.proofs.Words.{place_within}
 use Rattle.ct_rewrite.proofs.Texts.{of_kind}
 
@@ -87,53 +90,69 @@ module _ (ws : List ℕ) (ns ms : List Node) (fs : List Form) (f : Form) (k : �
             }
       ]
 
--- the positions for plus say what the conditions at the places say
-pub roots_say : (ws : List ℕ) (ns : List Node) (fs : List Form) → length fs ≡ length ws → HaveForms ws ns fs → (roots : List ℕ)
-    → IsTrue (list_all (is_place_of ws class.Cond) roots) → AllZip (λ k p. Says ns k (condition_at ws p)) (map (plus_at fs) roots) roots
-roots_say ws ns fs long have [] e = tt
-roots_say ws ns fs long have (r ∷ roots) e =
+-- a position says a condition and keeps to its bounds
+record Stands (ns : List Node) (k : ℕ) (c : Condition) : Type 0 where
+  says : Says ns k c
+  fits : Fits (node_condition ns k) c
+
+-- the positions for plus stand for the conditions at the places
+roots_stand : (ws : List ℕ) (ns : List Node) (fs : List Form) → length fs ≡ length ws → HaveForms ws ns fs → (roots : List ℕ)
+    → IsTrue (list_all (is_place_of ws class.Cond) roots) → AllZip (λ k p. Stands ns k (condition_at ws p)) (map (plus_at fs) roots) roots
+roots_stand ws ns fs long have [] e = tt
+roots_stand ws ns fs long have (r ∷ roots) e =
     let p = and_parts _ _ e in
     let h = have r (omega (arith, long, place_within ws class.Cond r p.0)) p.0 in
-    (subst (λ (f : Form). Says ns f.plus (condition_at ws r)) (sym (get_or_from_slice_get fs r h.form _ h.at)) h.is.plus, roots_say ws ns fs long have roots p.1)
+    (subst (λ (f : Form). Stands ns f.plus (condition_at ws r)) (sym (get_or_from_slice_get fs r h.form _ h.at)) (record { says = h.is.plus; fits = h.is.plus_fits }), roots_stand ws ns fs long have roots p.1)
 
 pub roots_within : (ws : List ℕ) (n : ℕ) → n ≡ length ws → (roots : List ℕ) → IsTrue (list_all (is_place_of ws class.Cond) roots) → IsTrue (list_all (λ p. nat_lt p n) roots)
 roots_within ws n long [] e = refl
 roots_within ws n long (r ∷ roots) e =
     let p = and_parts _ _ e in and_from _ _ (lt-ltb r n (omega (arith, long, place_within ws class.Cond r p.0))) (roots_within ws n long roots p.1)
 
--- positions that say what they should, and those at which they were kept
-module _ (ws : List ℕ) (ns out : List Node) where
-  kept_truth : (js ks ps : List ℕ) → AllZip (λ j k. IsKept ns out k j) js ks → AllZip (λ k p. Says ns k (condition_at ws p)) ks ps
-      → AllZip (λ j p. SameTruth (node_condition out j) (condition_at ws p)) js ps
-  kept_truth [] [] [] h e = tt
-  kept_truth [] [] (p ∷ ps) h e = absurd e
-  kept_truth [] (k ∷ ks) ps h e = absurd h
-  kept_truth (j ∷ js) [] ps h e = absurd h
-  kept_truth (j ∷ js) (k ∷ ks) [] h e = absurd e
-  kept_truth (j ∷ js) (k ∷ ks) (p ∷ ps) h e = ((λ v row. ap (holds v row) h.0.same ∙ e.0.truth v row), kept_truth js ks ps h.1 e.1)
+-- positions that stand for the conditions, and those at which they were kept
+module _ (ws : List ℕ) (ns out : List Node) (P : Condition → Condition → Type 0) (says : (k : ℕ) (c : Condition) → Stands ns k c → P (node_condition ns k) c) where
+  kept_each : (js ks ps : List ℕ) → AllZip (λ j k. IsKept ns out k j) js ks → AllZip (λ k p. Stands ns k (condition_at ws p)) ks ps
+      → AllZip (λ j p. P (node_condition out j) (condition_at ws p)) js ps
+  kept_each [] [] [] h e = tt
+  kept_each [] [] (p ∷ ps) h e = absurd e
+  kept_each [] (k ∷ ks) ps h e = absurd h
+  kept_each (j ∷ js) [] ps h e = absurd h
+  kept_each (j ∷ js) (k ∷ ks) [] h e = absurd e
+  kept_each (j ∷ js) (k ∷ ks) (p ∷ ps) h e = (subst (λ x. P x (condition_at ws p)) (sym h.0.same) (says k (condition_at ws p) e.0), kept_each js ks ps h.1 e.1)
 
-  pub kept_placed : (js ks : List ℕ) → AllZip (λ j k. IsKept ns out k j) js ks → IsTrue (list_all (is_position out) js)
-  kept_placed [] [] h = refl
-  kept_placed [] (k ∷ ks) h = absurd h
-  kept_placed (j ∷ js) [] h = absurd h
-  kept_placed (j ∷ js) (k ∷ ks) h = and_from _ _ (lt-ltb j (length out) h.0.within) (kept_placed js ks h.1)
+pub kept_placed : (ns out : List Node) (js ks : List ℕ) → AllZip (λ j k. IsKept ns out k j) js ks → IsTrue (list_all (is_position out) js)
+kept_placed ns out [] [] h = refl
+kept_placed ns out [] (k ∷ ks) h = absurd h
+kept_placed ns out (j ∷ js) [] h = absurd h
+kept_placed ns out (j ∷ js) (k ∷ ks) h = and_from _ _ (lt-ltb j (length out) h.0.within) (kept_placed ns out js ks h.1)
 
-says_placed : (ws : List ℕ) (ns : List Node) (ks ps : List ℕ) → AllZip (λ k p. Says ns k (condition_at ws p)) ks ps → IsTrue (list_all (is_position ns) ks)
-says_placed ws ns [] [] h = refl
-says_placed ws ns [] (p ∷ ps) h = absurd h
-says_placed ws ns (k ∷ ks) [] h = absurd h
-says_placed ws ns (k ∷ ks) (p ∷ ps) h = and_from _ _ (lt-ltb k (length ns) h.0.within) (says_placed ws ns ks ps h.1)
+stand_placed : (ws : List ℕ) (ns : List Node) (ks ps : List ℕ) → AllZip (λ k p. Stands ns k (condition_at ws p)) ks ps → IsTrue (list_all (is_position ns) ks)
+stand_placed ws ns [] [] h = refl
+stand_placed ws ns [] (p ∷ ps) h = absurd h
+stand_placed ws ns (k ∷ ks) [] h = absurd h
+stand_placed ws ns (k ∷ ks) (p ∷ ps) h = and_from _ _ (lt-ltb k (length ns) h.0.says.within) (stand_placed ws ns ks ps h.1)
 
 module _ (ws : List ℕ) (ns read : List Node) (fs gs : List Form) (roots ks : List ℕ)
     (long : length fs ≡ length ws) (have : HaveForms ws ns fs) (conditions : IsTrue (list_all (is_place_of ws class.Cond) roots))
     (seen : read ≡ ns) (given : gs ≡ fs) (found : ks ≡ map (plus_at gs) roots) where
-  all_say : AllZip (λ k p. Says read k (condition_at ws p)) ks roots
-  all_say =
-      subst (λ (xs : List ℕ). AllZip (λ k p. Says read k (condition_at ws p)) xs roots) (sym (found ∙ ap (λ hs. map (plus_at hs) roots) given))
-      (subst (λ (xs : List Node). AllZip (λ k p. Says xs k (condition_at ws p)) (map (plus_at fs) roots) roots) (sym seen) (roots_say ws ns fs long have roots conditions))
+  all_stand : AllZip (λ k p. Stands read k (condition_at ws p)) ks roots
+  all_stand =
+      subst (λ (xs : List ℕ). AllZip (λ k p. Stands read k (condition_at ws p)) xs roots) (sym (found ∙ ap (λ hs. map (plus_at hs) roots) given))
+      (subst (λ (xs : List Node). AllZip (λ k p. Stands xs k (condition_at ws p)) (map (plus_at fs) roots) roots) (sym seen) (roots_stand ws ns fs long have roots conditions))
 
   pub roots_placed : IsTrue (list_all (is_position read) ks)
-  roots_placed = says_placed ws read ks roots all_say
+  roots_placed = stand_placed ws read ks roots all_stand
 
-  pub normal_truth : (out : List Node) (js : List ℕ) → AllZip (λ j k. IsKept read out k j) js ks → AllZip (λ j p. SameTruth (node_condition out j) (condition_at ws p)) js roots
-  normal_truth out js kept = kept_truth ws read out js ks roots kept all_say
+  module _ (out : List Node) (js : List ℕ) (kept : AllZip (λ j k. IsKept read out k j) js ks) where
+    pub normal_truth : AllZip (λ j p. SameTruth (node_condition out j) (condition_at ws p)) js roots
+    normal_truth = kept_each ws read out SameTruth (λ k c h. h.says.truth) js ks roots kept all_stand
+
+    pub normal_wide : (texts : Term → List ℕ) → NoneIsEmpty texts → AllZip (λ j p. length (text_of texts (node_condition out j)) ≤ wide (λ t. length (texts t)) (condition_at ws p)) js roots
+    normal_wide texts some =
+        kept_each ws read out (λ x c. length (text_of texts x) ≤ wide (λ t. length (texts t)) c)
+        (λ k c h. omega (arith, text_shorter texts (node_condition read k), h.fits.short texts some)) js ks roots kept all_stand
+
+    pub normal_deep : AllZip (λ j p. nest_of (node_condition out j) ≤ deep (condition_at ws p)) js roots
+    normal_deep =
+        kept_each ws read out (λ x c. nest_of x ≤ deep c)
+        (λ k c h. omega (arith, nest_lower (node_condition read k), h.fits.shallow)) js ks roots kept all_stand

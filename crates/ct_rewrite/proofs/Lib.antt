@@ -1,8 +1,12 @@
 pub mod Words
 pub mod Texts
 pub mod Nodes
+pub mod Results
+pub mod Sizes
 pub mod Building
 pub mod Signs
 pub mod Conditions
 pub mod Openings
 pub mod Marks
+pub mod Sides
+pub mod Rules

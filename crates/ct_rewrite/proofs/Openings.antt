@@ -12,7 +12,7 @@ use Rattle.ct_rewrite.specs.declared.answer.Node.{Node}
 use Rattle.ct_rewrite.specs.declared.builder.Connective.{Connective}
 use Rattle.ct_rewrite.specs.declared.builder.Connective.TheVariants as connective
 use Rattle.ct_rewrite.specs.Nodes.{nth, node_condition, node_value, stands_over, is_position, children_of}
-use Rattle.ct_rewrite.specs.Building.{joint_node}
+use Rattle.ct_rewrite.specs.Building.{Says, joined, joint_node}
 use Rattle.ct_rewrite.specs.Joining.{open_by, leaves_open, all_open, node_open, NeverBothOpen, StandFor, Settle, HasMembersOf}
 
 module _ (v : World) (row : List Value) (f : ℕ → Condition) where
@@ -131,3 +131,29 @@ joint_stands j ns ms ks read n k e f h v row =
 -- a child stands below the node's position
 pub child_below : (a x : ℕ) (n : Node) (cs : List ℕ) → IsTrue (stands_over a n) → cs ≡ children_of n → ((test : ℕ → Bool) → list_all test cs ≡ true → test x ≡ true) → x < a
 child_below a x n cs over e h = ltb-true x a (h (λ c. nat_lt c a) (ap (list_all (λ c. nat_lt c a)) e ∙ over))
+
+-- a truth is fixed by what it leaves open
+open_joined : (j : Connective) (v : World) (row : List Value) (c d e : Condition) → open_by j (holds v row e) ≡ (open_by j (holds v row c) && open_by j (holds v row d)) → holds v row e ≡ holds v row (joined j c d)
+open_joined connective.And v row c d e h = h ∙ by (holds v row c) (holds v row d) where
+  by : (a b : Bool) → (a && b) ≡ (a && (b && true))
+  by true true = refl
+  by true false = refl
+  by false b = refl
+open_joined connective.Or v row c d e h = by (holds v row e) (holds v row c) (holds v row d) h where
+  by : (x a b : Bool) → not x ≡ (not a && not b) → x ≡ (a || (b || false))
+  by true true b g = refl
+  by true false true g = refl
+  by true false false g = absurd (false≢true g)
+  by false true b g = absurd (false≢true (sym g))
+  by false false true g = absurd (false≢true (sym g))
+  by false false false g = refl
+
+-- what two forms bring says what both say together
+pub joined_says : (j : Connective) (old new : List Node) (a b k : ℕ) (left right read all : List ℕ) → read ≡ right → StandFor j old left a → StandFor j old right b → HasMembersOf all left read
+    → k < length new → ((v : World) (row : List Value) → leaves_open j new v row k ≡ all_open j old v row all) → Says new k (joined j (node_condition old a) (node_condition old b))
+joined_says j old new a b k left right read all e la lb members lt whole = record {
+  within = lt;
+  truth = λ v row.
+      open_joined j v row (node_condition old a) (node_condition old b) (node_condition new k)
+      (whole v row ∙ members (leaves_open j old v row) ∙ ap (λ xs. list_all (leaves_open j old v row) left && list_all (leaves_open j old v row) xs) e ∙ λ i. la v row i && lb v row i);
+}

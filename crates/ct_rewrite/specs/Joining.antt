@@ -1,5 +1,5 @@
 -- What joining two forms under a connective keeps.
-use Rattle.std.specs.Prelude.{◌≡◌, ℕ, Bool, false, not, ◌&&◌, List}
+use Rattle.std.specs.Prelude.{◌≡◌, ℕ, ◌+◌, ◌≤◌, Bool, false, not, ◌&&◌, List, sum_by, nat_le, IsTrue}
 use Rattle.std.specs.List.{list_all}
 use Rattle.ct_word.specs.declared.values.Value.{Value}
 use Rattle.ct_word.specs.declared.values.Term.{Term}
@@ -10,6 +10,7 @@ use Rattle.ct_rewrite.specs.declared.answer.Node.{Node}
 use Rattle.ct_rewrite.specs.declared.builder.Connective.{Connective}
 use Rattle.ct_rewrite.specs.declared.builder.Connective.TheVariants as connective
 use Rattle.ct_rewrite.specs.Nodes.{node_condition, condition_of_node}
+use Rattle.ct_rewrite.specs.Sizes.{part_length, part_nest}
 
 -- whether a truth leaves a connective open: a false one settles And, a true one settles Or
 abbrev pub open_by : Connective → Bool → Bool
@@ -48,3 +49,30 @@ Settle j nodes ks ls = (v : World) (row : List Value) → (all_open j nodes v ro
 -- a list has the members of two lists
 abbrev pub HasMembersOf : List ℕ → List ℕ → List ℕ → Type 0
 HasMembersOf all ks ls = (test : ℕ → Bool) → list_all test all ≡ (list_all test ks && list_all test ls)
+
+-- a list has each item at most as often as two lists together
+abbrev pub HasNoMoreThan : List ℕ → List ℕ → List ℕ → Type 0
+HasNoMoreThan all ks ls = (f : ℕ → ℕ) → sum_by f all ≤ sum_by f ks + sum_by f ls
+
+-- the bytes that stand between two children
+abbrev pub gap : Connective → ℕ
+gap connective.And = 5
+gap connective.Or = 4
+
+-- the bytes of these positions as children, each with those that stand between two
+abbrev pub bytes_under : Connective → (Term → List ℕ) → List Node → List ℕ → ℕ
+bytes_under j texts nodes ks = sum_by (λ k. part_length texts (node_condition nodes k) + gap j) ks
+
+-- whether a position is nested no deeper than this
+abbrev pub nests_within : List Node → ℕ → ℕ → Bool
+nests_within nodes most k = nat_le (part_nest (node_condition nodes k)) most
+
+-- these positions together are no longer and no deeper under a connective than one position
+pub record AreNoLarger (j : Connective) (nodes : List Node) (ks : List ℕ) (k : ℕ) : Type 0 where
+  pub short : (texts : Term → List ℕ) → bytes_under j texts nodes ks ≤ part_length texts (node_condition nodes k) + gap j
+  pub shallow : IsTrue (list_all (nests_within nodes (part_nest (node_condition nodes k))) ks)
+
+-- a position is no longer and no deeper than these positions under a connective
+pub record IsNoLarger (j : Connective) (old new : List Node) (k : ℕ) (ks : List ℕ) : Type 0 where
+  pub short : (texts : Term → List ℕ) (most : ℕ) → 5 ≤ most → bytes_under j texts old ks + 2 ≤ most + gap j → part_length texts (node_condition new k) ≤ most
+  pub shallow : (most : ℕ) → IsTrue (list_all (nests_within old most) ks) → part_nest (node_condition new k) ≤ most + 1

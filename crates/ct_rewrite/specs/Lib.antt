@@ -1,9 +1,11 @@
 pub mod Nodes
 pub mod History
 pub mod StandsFor
+pub mod Sizes
 pub mod Words
 pub mod Building
 pub mod Signs
 pub mod Joining
 pub mod Order
+pub mod Rules
 pub mod Marks

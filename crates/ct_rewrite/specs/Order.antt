@@ -1,7 +1,7 @@
 -- The order of terms in the printed form.
-use Rattle.std.specs.Prelude.{ℕ}
+use Rattle.std.specs.Prelude.{ℕ, ◌&&◌, ◌||◌, Bool, false, nat_eq, nat_lt, int_lt}
 use Rattle.std.specs.declared.cmp.Ordering.{Ordering}
-use Rattle.std.specs.Ordering.{nat_cmp, int_cmp, on, ordering_then}
+use Rattle.std.specs.Ordering.{nat_cmp, int_cmp, is_lt, on, ordering_then}
 use Rattle.std.specs.Cmp.Lexicographic.{slice_cmp}
 use Rattle.ct_word.specs.declared.values.Value.{Value}
 use Rattle.ct_word.specs.declared.values.Value.TheVariants as val
@@ -46,3 +46,26 @@ term_order (term.Column j) (term.Column k) = nat_cmp j k
 term_order (term.Null m) (term.Null n) = null_order m n
 term_order (term.Value x) (term.Value y) = value_order x y
 term_order s t = on term_class nat_cmp s t
+
+-- the kinds: columns, named nulls, fresh nulls, numbers, texts, other values
+abbrev pub kind_of : Term → ℕ
+kind_of (term.Column k) = 0
+kind_of (term.Null (null.Named t)) = 1
+kind_of (term.Null (null.Fresh s n)) = 2
+kind_of (term.Value (val.Int i)) = 3
+kind_of (term.Value (val.Text t)) = 4
+kind_of (term.Value (val.Other k)) = 5
+
+-- in one kind: columns by position, named nulls and texts by their bytes, fresh nulls by session and then number, the others by number
+abbrev pub is_before_in_kind : Term → Term → Bool
+is_before_in_kind (term.Column j) (term.Column k) = nat_lt j k
+is_before_in_kind (term.Null (null.Named t)) (term.Null (null.Named u)) = is_lt (slice_cmp nat_cmp t u)
+is_before_in_kind (term.Null (null.Fresh s m)) (term.Null (null.Fresh t n)) = nat_lt s t || (nat_eq s t && nat_lt m n)
+is_before_in_kind (term.Value (val.Int i)) (term.Value (val.Int j)) = int_lt i j
+is_before_in_kind (term.Value (val.Text t)) (term.Value (val.Text u)) = is_lt (slice_cmp nat_cmp t u)
+is_before_in_kind (term.Value (val.Other j)) (term.Value (val.Other k)) = nat_lt j k
+is_before_in_kind _ _ = false
+
+-- whether a term is smaller than another: of an earlier kind, or before it in their kind
+abbrev pub is_before : Term → Term → Bool
+is_before s t = nat_lt (kind_of s) (kind_of t) || (nat_eq (kind_of s) (kind_of t) && is_before_in_kind s t)

@@ -6,12 +6,16 @@ use Rattle.ct_word.specs.Condition.{Condition, Not}
 use Rattle.ct_word.specs.Reading.{condition_at}
 use Rattle.ct_rewrite.specs.declared.answer.Node.{Node}
 use Rattle.ct_rewrite.specs.declared.forms.Form.{Form}
+use Rattle.ct_rewrite.specs.Nodes.{node_condition}
+use Rattle.ct_rewrite.specs.Sizes.{Fits}
 use Rattle.ct_rewrite.specs.Building.{Says}
 
 -- the positions of a condition and of its denial
 pub record IsForm (nodes : List Node) (f : Form) (c : Condition) : Type 0 where
   pub plus : Says nodes f.plus c
   pub minus : Says nodes f.minus (Not c)
+  pub plus_fits : Fits (node_condition nodes f.plus) c
+  pub minus_fits : Fits (node_condition nodes f.minus) c
 
 -- both positions lie in the node list
 pub record IsPlaced (nodes : List Node) (f : Form) : Type 0 where

@@ -1,10 +1,12 @@
 // A node list in the making, which holds equal nodes once.
 
 ghost use Rattle.std.specs.Prelude.{◌≡◌, ◌<◌, ◌≤◌, ◌+◌, ◌^◌, [], length, IfOk, OnErr, IsTrue};
-ghost use Rattle.std.specs.List.{IsDistinct};
+ghost use Rattle.std.specs.List.{IsDistinct, list_all};
 ghost use Rattle.ct_word.specs.Condition.{Same};
 ghost use Rattle.ct_rewrite.specs.Nodes.{node_condition, stands_over, same_node, node_value, IsOrdered};
 ghost use Rattle.ct_rewrite.specs.Building.{Grows, Says, literal, signed, joined, dual, unit, joint_node, literal_node};
+ghost use Rattle.ct_rewrite.specs.Rules.{is_proper};
+ghost use Rattle.ct_rewrite.specs.Sizes.{Fits};
 
 use crate::answer::Node;
 use crate::terms::{are_different_constants, are_same, in_order};
@@ -51,22 +53,24 @@ impl Connective {
     }
 }
 
-/// Nodes, no two of them equal, children before their parents.
+/// Nodes that the printed form allows, no two of them equal, children before their parents.
 #[derive(Drop)]
 pub struct Builder {
     nodes: IndexSet<Node>,
 }
 
 impl Model for Builder {
-    ghost use Rattle.std.specs.Prelude.{List};
+    ghost use Rattle.std.specs.Prelude.{List, IsTrue};
+    ghost use Rattle.std.specs.List.{list_all};
     ghost use Rattle.ct_rewrite.specs.declared.answer.Node.{Node};
     ghost use Rattle.ct_rewrite.specs.Nodes.{IsOrdered};
+    ghost use Rattle.ct_rewrite.specs.Rules.{is_proper};
 
     ghost Value = { List Node };
 
     ghost view = { λ b. b.nodes.keys };
 
-    ghost invariant = { λ b. IsOrdered b.nodes.keys };
+    ghost invariant = { λ b. IsOrdered b.nodes.keys × IsTrue (list_all is_proper b.nodes.keys) };
 }
 
 impl Builder {
@@ -83,6 +87,7 @@ impl Builder {
     pub fn nodes(&self) -> &[Node]
         ensures value { result.now ≡ self.now }
         ensures ordered { IsOrdered self.now }
+        ensures proper { IsTrue (list_all is_proper self.now) }
     {
         self.nodes.as_slice()
     }
@@ -99,6 +104,7 @@ impl Builder {
     /// The position of a node, which is put at the end where it is not there yet.
     pub fn place(&mut self, node: Node) -> Result<u32, Memory>
         requires ordered { IsTrue (stands_over (length self.old) node) }
+        requires proper { IsTrue (is_proper node) }
         requires room { length self.old < 2 ^ 32 }
         ensures grows { Grows self.old self.new }
         ensures count { length self.new ≤ length self.old + 1 }
@@ -114,6 +120,7 @@ impl Builder {
         ensures grows { Grows self.old self.new }
         ensures count { length self.new ≤ length self.old + 1 }
         ensures says { IfOk result (λ k. Says self.new k (literal truth)) }
+        ensures is { IfOk result (λ k. node_condition self.new k ≡ literal truth) }
     {
         self.place(if truth { Node::True } else { Node::False })
     }
@@ -124,6 +131,7 @@ impl Builder {
         ensures grows { Grows self.old self.new }
         ensures count { length self.new ≤ length self.old + 1 }
         ensures says { IfOk result (λ k. Says self.new k (signed sign (Same s t))) }
+        ensures fits { IfOk result (λ k. Fits (node_condition self.new k) (Same s t)) }
     {
         if are_same(&s, &t) {
             return self.literal(sign);
@@ -143,6 +151,7 @@ impl Builder {
     pub fn into_nodes(self, alloc: Global) -> Result<List<Node>, Memory>
         ensures nodes { IfOk result (λ ns. ns ≡ self) }
         ensures ordered { IsOrdered self }
+        ensures proper { IsTrue (list_all is_proper self) }
         ensures distinct { IsDistinct same_node self }
     {
         let Builder { nodes } = self;

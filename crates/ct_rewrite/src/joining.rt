@@ -4,9 +4,11 @@ ghost use Rattle.std.specs.Prelude.{◌≡◌, ℕ, Bool, false, List, [], ◌�
 ghost use Rattle.std.specs.List.{list_all};
 ghost use Rattle.ct_word.specs.declared.values.Value.{Value};
 ghost use Rattle.ct_word.specs.Value.{World};
+ghost use Rattle.ct_word.specs.Condition.{Condition};
 ghost use Rattle.ct_rewrite.specs.Nodes.{node_condition, is_position};
 ghost use Rattle.ct_rewrite.specs.Building.{Grows, Says, joined, joint_node, literal_node};
-ghost use Rattle.ct_rewrite.specs.Joining.{NeverBothOpen, leaves_open, all_open, StandFor, Settle, HasMembersOf};
+ghost use Rattle.ct_rewrite.specs.Joining.{NeverBothOpen, leaves_open, all_open, StandFor, Settle, HasMembersOf, HasNoMoreThan, AreNoLarger, IsNoLarger};
+ghost use Rattle.ct_rewrite.specs.Sizes.{Fits};
 
 use crate::answer::Node;
 use crate::builder::{Builder, Connective};
@@ -77,6 +79,7 @@ impl Builder {
         requires { form < length self.now }
         ensures placed { IfOk result (λ ks. IsTrue (list_all (is_position self.now) ks.items)) }
         ensures truth { IfOk result (λ ks. StandFor connective self.now ks.items form) }
+        ensures size { IfOk result (λ ks. AreNoLarger connective self.now ks.items form) }
     {
         let node = self.node(form);
         if let Some(children) = children_of(connective, node) {
@@ -102,6 +105,9 @@ impl Builder {
         ensures right_placed { IfOk result (λ p. IsTrue (list_all (is_position self.now) p.1.items)) }
         ensures left { IfOk result (λ p. StandFor connective self.now p.0.items a) }
         ensures right { IfOk result (λ p. StandFor connective self.now p.1.items b) }
+        ensures left_size { IfOk result (λ p. AreNoLarger connective self.now p.0.items a) }
+        ensures right_size { IfOk result (λ p. AreNoLarger connective self.now p.1.items b) }
+        ensures few { IfOk result (λ p. length p.0.items + length p.1.items ≤ 64) }
     {
         let left = self.parts(alloc, connective, a)?;
         let right = self.parts(alloc, connective, b)?;
@@ -128,7 +134,8 @@ impl Builder {
 
     /// Puts a child at its place in the order of children, unless it is there.
     fn add(&self, children: &mut Vec<u32>, child: u32) -> Result<(), Memory>
-        ensures { OnOk result (HasMembersOf children.new.items children.old.items (child ∷ [])) }
+        ensures members { OnOk result (HasMembersOf children.new.items children.old.items (child ∷ [])) }
+        ensures once { OnOk result (HasNoMoreThan children.new.items children.old.items (child ∷ [])) }
     {
         if children.as_slice().contains(&child) {
             return Ok(());
@@ -149,7 +156,8 @@ impl Builder {
     ) -> Result<Option<Vec<u32>>, Memory>
         requires children { IsTrue (list_all (is_position self.now) children.items) }
         requires added { IsTrue (list_all (is_position self.now) added.now) }
-        ensures { IfOk result (λ r. MatchOption r (Settle connective self.now children.items added.now) (λ all. HasMembersOf all.items children.items added.now)) }
+        ensures members { IfOk result (λ r. MatchOption r (Settle connective self.now children.items added.now) (λ all. HasMembersOf all.items children.items added.now)) }
+        ensures once { IfOk result (λ r. IfSome r (λ all. HasNoMoreThan all.items children.items added.now)) }
     {
         for child in added {
             if self.clashes(connective, children.as_slice(), *child) {
@@ -168,11 +176,13 @@ impl Builder {
         children: Vec<u32>,
     ) -> Result<u32, Memory>
         requires placed { IsTrue (list_all (is_position self.old) children.items) }
+        requires few { length children.items ≤ 64 }
         requires room { length self.old < 2 ^ 32 }
         ensures grows { Grows self.old self.new }
         ensures count { length self.new ≤ length self.old + 1 }
         ensures within { IfOk result (λ k. k < length self.new) }
         ensures truth { IfOk result (λ k. (v : World) (row : List Value) → leaves_open connective self.new v row k ≡ all_open connective self.old v row children.items) }
+        ensures size { IfOk result (λ k. IsNoLarger connective self.old self.new k children.items) }
     {
         match children.as_slice() {
             [] => self.literal(connective.unit()),
@@ -195,6 +205,7 @@ impl Builder {
         ensures grows { Grows self.old self.new }
         ensures count { length self.new ≤ length self.old + 1 }
         ensures says { IfOk result (λ k. Says self.new k (joined connective (node_condition self.old a) (node_condition self.old b))) }
+        ensures fits { IfOk result (λ k. (c d : Condition) → Fits (node_condition self.old a) c → Fits (node_condition self.old b) d → Fits (node_condition self.new k) (joined connective c d)) }
     {
         if self.settles(connective, a) || self.settles(connective, b) {
             return self.literal(!connective.unit());

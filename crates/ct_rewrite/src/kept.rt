@@ -4,6 +4,7 @@ ghost use Rattle.std.specs.Prelude.{◌≡◌, ℕ, ◌<◌, ◌≤◌, ◌+◌,
 ghost use Rattle.std.specs.List.{AllZip, IsDistinct, list_all, list_any};
 ghost use Rattle.ct_rewrite.specs.Nodes.{IsOrdered, children_of, is_position, node_condition, node_value, same_node, stands_over};
 ghost use Rattle.ct_rewrite.specs.Building.{Grows};
+ghost use Rattle.ct_rewrite.specs.Rules.{is_proper};
 ghost use Rattle.ct_rewrite.specs.Marks.{AreKept, IsClosedFrom, IsKept, is_marked, moved_node, moved_to};
 
 use crate::answer::Node;
@@ -72,6 +73,7 @@ fn copied(alloc: Global, positions: &[u32], node: &Node) -> Result<Node, Memory>
 }
 
 /// The position at which a node is kept: that of its copy where it is marked.
+#[tactic(auto, using(crate::proofs::Rules::moved_proper))]
 fn next_position(
     alloc: Global,
     builder: &mut Builder,
@@ -81,6 +83,7 @@ fn next_position(
 ) -> Result<u32, Memory>
     requires children { IsTrue marked → IsTrue (stands_over (length positions.now) node.now) }
     requires copied { IsTrue marked → IsTrue (stands_over (length builder.old) (moved_node positions.now node.now)) }
+    requires proper { IsTrue marked → IsTrue (is_proper node.now) }
     requires room { length builder.old < 2 ^ 32 }
     ensures grows { Grows builder.old builder.new }
     ensures count { length builder.new ≤ length builder.old + 1 }
@@ -97,11 +100,13 @@ fn next_position(
 /// The nodes that the roots lead to, in their order, and where the roots stand among them.
 pub fn kept(alloc: Global, nodes: &[Node], roots: &[u32]) -> Result<Normal, Memory>
     requires ordered { IsOrdered nodes.now }
+    requires proper { IsTrue (list_all is_proper nodes.now) }
     requires roots { IsTrue (list_all (is_position nodes.now) roots.now) }
     requires room { length nodes.now < 2 ^ 32 }
     ensures kept { IfOk result (λ n. AllZip (λ j k. IsKept nodes.now n.nodes k j) n.roots roots.now) }
     ensures ordered { IfOk result (λ n. IsOrdered n.nodes) }
     ensures distinct { IfOk result (λ n. IsDistinct same_node n.nodes) }
+    ensures proper { IfOk result (λ n. IsTrue (list_all is_proper n.nodes)) }
 {
     let marks = reached(alloc, nodes, roots)?;
     let mut builder = Builder::new(alloc);

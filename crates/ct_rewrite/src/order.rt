@@ -3,7 +3,8 @@
 ghost use Rattle.std.specs.Prelude.{◌≡◌, ℕ, Bool, true, IfSome, IsTrue};
 ghost use Rattle.std.specs.List.{list_all};
 ghost use Rattle.ct_rewrite.specs.Nodes.{IsOrdered, children_of, stands_over};
-ghost use Rattle.ct_rewrite.specs.Order.{term_class, term_order, null_class, null_order, value_class, value_order};
+ghost use Rattle.std.specs.Ordering.{is_lt};
+ghost use Rattle.ct_rewrite.specs.Order.{is_before, term_class, term_order, null_class, null_order, value_class, value_order};
 
 use crate::answer::Node;
 use ct_word::{Null, Term, Value};
@@ -61,8 +62,10 @@ fn class_of_null(n: &Null) -> u8
 }
 
 /// The order of terms: columns by position, then nulls, then values.
+#[tactic(auto, using(crate::proofs::Sides::less_term))]
 pub fn compare_terms(s: &Term, t: &Term) -> Ordering
-    ensures { result ≡ term_order s.now t.now }
+    ensures order { result ≡ term_order s.now t.now }
+    ensures before { is_lt result ≡ is_before s.now t.now }
 {
     match (s, t) {
         (Term::Column(j), Term::Column(k)) => j.cmp(k),

@@ -1,13 +1,16 @@
 // The printed form of conditions.
 
-ghost use Rattle.std.specs.Prelude.{◌≡◌, ◌<◌, ◌^◌, length, map, nat_lt, IfOk, IsTrue};
+ghost use Rattle.std.specs.Prelude.{◌≡◌, ℕ, List, ◌<◌, ◌≤◌, ◌^◌, length, map, nat_lt, IfOk, IsTrue};
 ghost use Rattle.std.specs.List.{AllZip, IsDistinct, list_all};
 ghost use Rattle.ct_word.specs.declared.kinds.Class.TheVariants as class;
+ghost use Rattle.ct_word.specs.declared.values.Term.{Term};
 ghost use Rattle.ct_word.specs.Condition.{SameTruth};
 ghost use Rattle.ct_word.specs.WellFormed.{IsWellFormed, is_place_of};
 ghost use Rattle.ct_word.specs.Reading.{condition_at};
 ghost use Rattle.ct_rewrite.specs.Nodes.{IsOrdered, is_position, node_condition, same_node};
+ghost use Rattle.ct_rewrite.specs.Rules.{are_children_within, are_sides_in_order, is_unsettled};
 ghost use Rattle.ct_rewrite.specs.Signs.{plus_at};
+ghost use Rattle.ct_rewrite.specs.Sizes.{NoneIsEmpty, deep, nest_of, text_of, wide};
 
 use crate::builder::Builder;
 use crate::form::Normal;
@@ -42,9 +45,21 @@ pub fn normal(alloc: Global, words: &[u64], roots: &[u32]) -> Result<Normal, Mem
 
     // There are as many roots as places, and at every valuation and row each has the truth of its place's condition.
     ensures truth { IfOk result (λ n. AllZip (λ k place. SameTruth (node_condition n.nodes k) (condition_at words.now place)) n.roots roots.now) }
+
+    // Its text without names is no longer and no deeper than the condition of the words allows,
+    // whatever texts the terms have, none of them empty.
+    ensures wide { IfOk result (λ n. (texts : Term → List ℕ) → NoneIsEmpty texts → AllZip (λ k place. length (text_of texts (node_condition n.nodes k)) ≤ wide (λ t. length (texts t)) (condition_at words.now place)) n.roots roots.now) }
+    ensures deep { IfOk result (λ n. AllZip (λ k place. nest_of (node_condition n.nodes k) ≤ deep (condition_at words.now place)) n.roots roots.now) }
     ensures placed { IfOk result (λ n. IsTrue (list_all (is_position n.nodes) n.roots)) }
     ensures ordered { IfOk result (λ n. IsOrdered n.nodes) }
     ensures distinct { IfOk result (λ n. IsDistinct same_node n.nodes) }
+
+    // Each And and Or has at least two children and at most 64.
+    ensures children { IfOk result (λ n. IsTrue (list_all are_children_within n.nodes)) }
+
+    // In each equality, and in the denial of one, the smaller term stands first, and not both are constants.
+    ensures sides { IfOk result (λ n. IsTrue (list_all are_sides_in_order n.nodes)) }
+    ensures unsettled { IfOk result (λ n. IsTrue (list_all is_unsettled n.nodes)) }
 {
     let mut builder = Builder::new(alloc);
     let forms = forms(alloc, &mut builder, words)?;

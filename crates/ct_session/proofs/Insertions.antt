@@ -12,10 +12,10 @@ use Rattle.ct_word.specs.Value.{World}
 use Rattle.ct_word.specs.Sublist.{IsSublist}
 use Rattle.ct_word.specs.Condition.{True}
 use Rattle.ct_word.specs.Change.{PlainRow, Insert, PlainCommit}
-use Rattle.ct_word.specs.WellFormed.{is_place_of}
+use Rattle.ct_word.specs.WellFormed.{IsWellFormed, is_place_of}
 use Rattle.ct_word.specs.Reading.{IsChangeList, as_change_list, change_list_at, term_at, plain_crow}
 use Rattle.ct_word.specs.Stands.{StandsAt}
-use Rattle.ct_word.proofs.Prefixes.{prefix_of_prefix}
+use Rattle.ct_word.proofs.Prefixes.{prefix_of_prefix, place_in_prefix}
 use Rattle.ct_query.specs.Plain as plain
 use Rattle.ct_query.specs.Database.{SameSet}
 use Rattle.ct_query.specs.Step.{shown_rows}
@@ -29,7 +29,8 @@ use Rattle.ct_rewrite.specs.History.{plain_row, plain_commit}
 use Rattle.ct_table.specs.Denotes.{TableView, IsKept, Denotes, find_table, with_table}
 use Rattle.ct_table.specs.Tables.{cells_of, value_of_rows, IsRow, AreRows}
 use Rattle.ct_table.proofs.Denoting.{with_rows, found_all, inserted_denotes, denotes_grows}
-use Rattle.ct_table.proofs.Growing.{is_row_grows, plain_rows_grow, rows_grow, cells_grow, value_grows}
+use Rattle.ct_condition.proofs.Reached.{formed_before}
+use Rattle.ct_table.proofs.Growing.{plain_rows_grow, rows_grow, cells_grow, value_grows}
 use Rattle.ct_session.specs.State.{is_fresh}
 use Rattle.ct_session.specs.Catalogue.{IsAdmittedEverywhere, IsReady, IsOfferFor, row_under_true, row_under_first, rows_commit}
 use Rattle.ct_session.proofs.Offering.{still_everywhere}
@@ -42,7 +43,10 @@ one_of P x p = All-push P [] x (All-nil P) p
 pub rows_of_places : (words more : List ℕ) → IsPrefix words more → (width : ℕ) (rs : List CRow) → All (IsRow words width) rs → All (IsRowOf more) rs
 rows_of_places words more grown width rs all = All-weaker (IsRow words width) (IsRowOf more) put rs all where
   put : (r : CRow) → IsRow words width r → IsRowOf more r
-  put r is = let later = is_row_grows words more grown width r is in record { terms = later.terms; condition = later.condition }
+  put r is = record {
+    terms = All-weaker _ _ (λ p h. place_in_prefix words more class.Term p grown h) r.cells is.terms;
+    condition = place_in_prefix words more class.Cond r.cond grown is.condition;
+  }
 
 -- the rows of a table that is found are well formed
 pub rows_of_found : (words : List ℕ) (h : List PlainCommit) (db : List TableView) (d : Denotes words h db) (name : List ℕ) (t : TableView) → find_table db name ≡ Some t
@@ -103,7 +107,8 @@ cells_as_terms words [] = refl
 cells_as_terms words (r ∷ rs) = ap (λ rest. map (term_at words) r.cells ∷ rest) (cells_as_terms words rs)
 
 module _ (h : List PlainCommit) (old rowed merged listed words : List ℕ) (db : List TableView) (d : Denotes old h db) (all : IsAdmittedEverywhere h) where
-  module _ (first : IsPrefix old rowed) (second : IsPrefix rowed merged) (third : IsPrefix merged listed) (fourth : IsPrefix listed words) where
+  module _ (first : IsPrefix old rowed) (second : IsPrefix rowed merged) (third : IsPrefix merged listed) (fourth : IsPrefix listed words)
+      (formed : IsWellFormed words) where
     module _ (name : List ℕ) (t : TableView) (found : find_table db name ≡ Some t) (tss : List (List Term)) (rs : List CRow)
         (is : All (IsRow rowed (length t.columns)) rs) (stand : map (plain_crow rowed) rs ≡ map row_under_true tss) where
       module _ (rows : List CRow) (are : AreRows merged (length t.columns) rows)
@@ -114,6 +119,9 @@ module _ (h : List PlainCommit) (old rowed merged listed words : List ℕ) (db :
             (added : StandsAt words changes (IsChangeList (change_list_at listed list ++ Insert name (map (plain_crow listed) rs) ∷ []))) (n : number ≡ length h) where
           to_end : IsPrefix rowed words
           to_end = prefix_of_prefix rowed listed words (prefix_of_prefix rowed merged listed second third) fourth
+
+          from_old : IsPrefix old words
+          from_old = prefix_of_prefix old rowed words first to_end
 
           from_merged : IsPrefix merged words
           from_merged = prefix_of_prefix merged listed words third fourth
@@ -150,8 +158,8 @@ module _ (h : List PlainCommit) (old rowed merged listed words : List ℕ) (db :
             formed = record { ordered = refl; placed = ap (λ b. b && true) (rows_placed tss) };
             denotes =
                 inserted_denotes words h (plain_commit commit) db
-                (denotes_grows old words (prefix_of_prefix old rowed words first to_end) h db d)
-                name (map row_under_true tss) (printed_rows number name tss) t rows found tuples_at_end (rows_grow merged words from_merged (length t.columns) rows are) part_at_end;
+                (denotes_grows old words from_old (formed_before old words from_old formed) h db d)
+                name (map row_under_true tss) (printed_rows number name tss) t rows found tuples_at_end (rows_grow merged words from_merged (formed_before merged words from_merged formed) (length t.columns) rows are) part_at_end;
             everywhere = still_everywhere h (plain_commit commit) (Insert name (map row_under_true tss)) (λ v w. refl) (printed_rows number name tss) all;
           }
 

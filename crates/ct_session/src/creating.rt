@@ -54,6 +54,8 @@ pub fn offer_table<N: Site>(
         Ok(changes) => changes,
         Err(_) => return Err(Refusal::Full),
     };
+    // The words are well formed, which keeps the tables' rows as words are added.
+    let _ = pass.words();
     let commit = commit_of(
         alloc,
         version(history),

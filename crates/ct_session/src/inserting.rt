@@ -1,8 +1,7 @@
 // INSERT: the offer of rows.
 
-ghost use Rattle.std.specs.Prelude.{◌≡◌, ◌↔◌, ◌+◌, ◌<◌, ◌^◌, [], ◌∷◌, ◌++◌, map, length, sum_by, count_by, IfOk, IfErr, IfSome, IsSome, Some, All, IsTrue};
+ghost use Rattle.std.specs.Prelude.{◌≡◌, ◌+◌, ◌<◌, ◌^◌, [], ◌∷◌, ◌++◌, map, length, sum_by, count_by, IfOk, IfErr, IfSome, IsSome, Some, All};
 ghost use mathlib.Core.List.{IsPrefix};
-ghost use Rattle.ct_word.specs.declared.values.Term.TheVariants as variant;
 ghost use Rattle.ct_word.specs.Reading.{plain_crow};
 ghost use Rattle.ct_query.specs.Plain as plain;
 ghost use Rattle.ct_word.specs.Condition.{True};
@@ -11,7 +10,7 @@ ghost use Rattle.ct_history.specs.Rows.{IsRowOf};
 ghost use Rattle.ct_rewrite.specs.History.{plain_history};
 ghost use Rattle.ct_table.specs.Shared.{view_of};
 ghost use Rattle.ct_table.specs.Denotes.{Denotes, find_table};
-ghost use Rattle.ct_query.specs.Fields.{FitsFields};
+ghost use Rattle.ct_query.specs.Fits.{FitsCell};
 ghost use Rattle.ct_session.specs.State.{is_fresh};
 ghost use Rattle.ct_session.specs.Catalogue.{IsAdmittedEverywhere, IsReady, IsWant, IsOfferFor, row_under_true, row_under_first, rows_commit};
 
@@ -23,59 +22,25 @@ use ct_history::{insert as insert_change, no_changes};
 use ct_rewrite::{AnswerRow, Change, Commit, Node};
 use ct_table::{CRow, CTable, Db, insert};
 use ct_transcript::Refusal;
-use ct_word::{List, Memory, Null, Term, Text, Value};
+use ct_word::{List, Memory, Null, Term, Text};
 use std::alloc::Global;
 
 #[cfg(test)]
 mod tests;
 
-/// The numbers of a word's field are below this one.
-const FIELD: u32 = 1 << 28;
-
-/// Whether a word has room for the numbers of a null.
-fn null_fits(null: &Null) -> bool
-    ensures { IsTrue result ↔ FitsFields (variant.Null null.now) }
-{
-    match null {
-        Null::Named(_) => true,
-        Null::Fresh { session, number } => {
-            1 <= *session && *session <= 1023 && 1 <= *number && *number < FIELD
-        }
-    }
-}
-
-/// Whether a word has room for a value that is no number and no text.
-fn value_fits(value: &Value) -> bool
-    ensures { IsTrue result ↔ FitsFields (variant.Value value.now) }
-{
-    match value {
-        Value::Other(k) => *k < FIELD,
-        _ => true,
-    }
-}
-
-/// Whether a word has room for the numbers of a term.
-fn fits(term: &Term) -> bool
-    ensures { IsTrue result ↔ FitsFields term.now }
-{
-    match term {
-        Term::Column(k) => *k < FIELD,
-        Term::Null(null) => null_fits(null),
-        Term::Value(value) => value_fits(value),
-    }
-}
-
 /// The row of these terms, under the word true.
 ///
 /// # Errors
-/// `Full` where the log has no room, `Memory`, also for a term that a word has no room for.
+/// `Full` where the log has no room, `Memory`.
 fn row_of<N: Site>(
     alloc: Global,
     arena: &Arena<N>,
     pass: &mut Pass<N>,
     terms: &[Term],
 ) -> Result<CRow, Refusal>
+    requires { All FitsCell terms.now }
     ensures row { IfOk result (λ row. IsRowOf pass.new.words row) }
+    ensures always { IfOk result (λ row. row.cond ≡ 0) }
     ensures stands { IfOk result (λ row. plain_crow pass.new.words row ≡ row_under_true terms.now) }
     ensures longer { IsPrefix pass.old.words pass.new.words }
     ensures kept { kept_of pass.new ≡ kept_of pass.old }
@@ -83,10 +48,6 @@ fn row_of<N: Site>(
 {
     let mut cells = Vec::new(alloc);
     for term in terms {
-        // No script of 1 MiB draws as many fresh nulls as a word has numbers for.
-        if !fits(term) {
-            return Err(Refusal::Memory);
-        }
         let Ok(place) = put_term(arena, pass, term) else {
             return Err(Refusal::Full);
         };
@@ -102,14 +63,16 @@ fn row_of<N: Site>(
 /// The rows of these terms, each under the word true.
 ///
 /// # Errors
-/// `Full` where the log has no room, `Memory`, also for a term that a word has no room for.
+/// `Full` where the log has no room, `Memory`.
 fn rows_of<N: Site>(
     alloc: Global,
     arena: &Arena<N>,
     pass: &mut Pass<N>,
     rows: &[List<Term>],
 ) -> Result<List<CRow>, Refusal>
+    requires { All (All FitsCell) rows.now }
     ensures rows { IfOk result (All (IsRowOf pass.new.words)) }
+    ensures always { IfOk result (All (λ row. row.cond ≡ 0)) }
     ensures stand { IfOk result (λ placed. map (plain_crow pass.new.words) placed ≡ map row_under_true rows.now) }
     ensures longer { IsPrefix pass.old.words pass.new.words }
     ensures kept { kept_of pass.new ≡ kept_of pass.old }
@@ -145,7 +108,7 @@ fn printed(alloc: Global, number: u32, name: Text, rows: List<List<Term>>) -> Re
 /// The offer of rows of these terms for a table that is there. The pass has its words.
 ///
 /// # Errors
-/// `Full` where the log has no room, `Memory`, also for a term that a word has no room for.
+/// `Full` where the log has no room, `Memory`.
 fn new_rows<N: Site>(
     alloc: Global,
     arena: &Arena<N>,
@@ -162,6 +125,7 @@ fn new_rows<N: Site>(
     requires everywhere { IsAdmittedEverywhere (plain_history history.now) }
     requires found { find_table tables.now name ≡ Some (view_of name table.now) }
     requires width { All (λ row. length row ≡ length table.now.columns) rows }
+    requires cells { All (All FitsCell) rows }
     ensures longer { IsPrefix pass.old.words pass.new.words }
     ensures kept { kept_of pass.new ≡ kept_of pass.old }
     ensures ready { IfOk result (λ offer. IsReady (plain_history history.now) pass.new.words offer.changes offer.commit offer.tables) }
@@ -170,6 +134,8 @@ fn new_rows<N: Site>(
     ensures err { IfErr result (λ why. IsWant N.log.cap pass.new.words why) }
 {
     let placed = rows_of(alloc, arena, pass, rows.as_slice())?;
+    // The words are well formed, which keeps the tables' rows as words are added.
+    let _ = pass.words();
     let table = match insert(alloc, arena, pass, table, placed.as_slice()) {
         Ok(table) => table,
         Err(e) => return Err(wanting(e)),
@@ -183,6 +149,7 @@ fn new_rows<N: Site>(
         Ok(changes) => changes,
         Err(_) => return Err(Refusal::Full),
     };
+    let _ = pass.words();
     let commit = printed(alloc, version(history), name, rows)?;
     Ok(Offer {
         changes,
@@ -236,7 +203,7 @@ fn after(fresh: u32, more: u32) -> Result<u32, Memory>
 /// number. The pass has its words.
 ///
 /// # Errors
-/// `Full` where the log has no room, `Memory`, also for a term that a word has no room for.
+/// `Full` where the log has no room, `Memory`.
 pub fn offer_rows<N: Site>(
     alloc: Global,
     arena: &Arena<N>,
@@ -252,6 +219,7 @@ pub fn offer_rows<N: Site>(
     requires everywhere { IsAdmittedEverywhere (plain_history history.now) }
     requires found { IsSome (find_table tables.now name) }
     requires width { IfSome (find_table tables.now name) (λ t. All (λ row. length row ≡ length t.columns) rows) }
+    requires cells { All (All FitsCell) rows }
     ensures longer { IsPrefix pass.old.words pass.new.words }
     ensures kept { kept_of pass.new ≡ kept_of pass.old }
     ensures ok { IfOk result (λ offer. IsOfferFor (plain_history history.now) pass.new.words fresh (plain.InsertRows name rows True) offer.changes offer.commit offer.tables offer.fresh) }

@@ -12,6 +12,7 @@ use Rattle.ct_word.specs.declared.values.Value.{Value}
 use Rattle.ct_word.specs.declared.values.CRow.{CRow}
 use Rattle.ct_word.specs.Value.{World, same_text, same_cells}
 use Rattle.ct_word.specs.Sublist.{IsSublist, ended, left_out, taken}
+use Rattle.ct_word.specs.WellFormed.{IsWellFormed}
 use Rattle.ct_word.specs.Change.{PlainRow, Create, Insert, PlainCommit}
 use Rattle.ct_word.proofs.Alike.{text_decides}
 use Rattle.ct_query.specs.Database.{Relation, Database, SameSet, with_tuples}
@@ -291,7 +292,7 @@ module _ (words : List ℕ) (h : List PlainCommit) (c : PlainCommit) (db : List 
       headings = headings_stay name t rows db found ∙ d.headings ∙ sym schema_stays;
     }
 
-module _ (ws xs : List ℕ) (grown : IsPrefix ws xs) (h : List PlainCommit) where
+module _ (ws xs : List ℕ) (grown : IsPrefix ws xs) (formed : IsWellFormed ws) (h : List PlainCommit) where
   relation_grows : (v : World) (t : TableView) → IsKept ws h t → relation_of xs v t ≡ relation_of ws v t
   relation_grows v t k = λ i. record { name = t.name; columns = t.columns; tuples = value_grows ws xs grown v (length t.columns) t.rows k.rows.each i }
 
@@ -301,7 +302,7 @@ module _ (ws xs : List ℕ) (grown : IsPrefix ws xs) (h : List PlainCommit) wher
 
   kept_as_words_grow : (t : TableView) → IsKept ws h t → IsKept xs h t
   kept_as_words_grow t k = record {
-    rows = rows_grow ws xs grown (length t.columns) t.rows k.rows;
+    rows = rows_grow ws xs grown formed (length t.columns) t.rows k.rows;
     in_pattern = subst (λ cs. IsSublist cs (patterns h [] t.name)) (sym (cells_grow ws xs grown (length t.columns) t.rows k.rows.each)) k.in_pattern;
   }
 

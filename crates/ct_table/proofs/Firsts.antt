@@ -1,9 +1,10 @@
 -- The items of a list, each once, where it stands first.
-use Rattle.std.proofs.Common.{◌≡◌, Bool, true, false, not, ◌||◌, List, [], ◌∷◌, ◌++◌, cond, filter, refl, ap, sym, ◌∙◌}
-use Rattle.std.specs.List.{list_any}
+use Rattle.std.proofs.Common.{◌≡◌, ℕ, ◌+◌, ◌≤◌, Bool, true, false, not, ◌||◌, List, [], ◌∷◌, ◌++◌, length, cond, filter, refl, ap, sym, subst, ◌∙◌, arith}
+use Rattle.std.specs.List.{list_any, IsDistinct, AllByRecursion}
 use Rattle.std.specs.Cmp.{IsEquivalence}
-use Rattle.std.proofs.lemmas.List.{append-nil}
+use Rattle.std.proofs.lemmas.List.{append-nil, append_assoc, length_push}
 use Rattle.std.proofs.lemmas.List.Elements.{filter-append}
+use Rattle.std.proofs.lemmas.Map.Keys.{IsDistinct-head, IsDistinct-tail}
 use Rattle.ct_word.specs.Sublist.{IsSublist, ended, left_out, taken}
 use Rattle.ct_table.specs.Tables.{firsts}
 use Rattle.ct_table.proofs.Denoting.{sublist_of_sublist}
@@ -23,6 +24,18 @@ firsts_part same (x ∷ xs) = taken (sublist_of_sublist _ _ _ (filtered_part (λ
 -- a part of the first ones is a part of all
 pub part_of_firsts : {A : Type 0} (same : A → A → Bool) (xs ys : List A) → IsSublist xs (firsts same ys) → IsSublist xs ys
 part_of_firsts same xs ys p = sublist_of_sublist _ _ _ p (firsts_part same ys)
+
+-- items without doubles are the first ones
+apart_stays : {A : Type 0} (same : A → A → Bool) (x : A) (xs : List A) → AllByRecursion (λ y. same x y ≡ false) xs → filter (λ y. not (same x y)) xs ≡ xs
+apart_stays same x [] a = refl
+apart_stays same x (y ∷ xs) a =
+    ap (λ b. cond (not b) (y ∷ filter (λ z. not (same x z)) xs) (filter (λ z. not (same x z)) xs)) a.0 ∙ ap (λ l. y ∷ l) (apart_stays same x xs a.1)
+
+pub firsts_distinct : {A : Type 0} (same : A → A → Bool) (xs : List A) → IsDistinct same xs → firsts same xs ≡ xs
+firsts_distinct same [] d = refl
+firsts_distinct same (x ∷ xs) d =
+    ap (λ l. x ∷ filter (λ y. not (same x y)) l) (firsts_distinct same xs (IsDistinct-tail same x xs d))
+    ∙ ap (λ l. x ∷ l) (apart_stays same x xs (IsDistinct-head same x xs d))
 
 pub or_with_true : (b : Bool) → (b || true) ≡ true
 or_with_true true = refl
@@ -75,3 +88,21 @@ module _ {A : Type 0} (same : A → A → Bool) (laws : IsEquivalence same) wher
 
   pub firsts_new : (xs : List A) (y : A) → list_any (same y) xs ≡ false → firsts same (xs ++ y ∷ []) ≡ firsts same xs ++ y ∷ []
   firsts_new xs y p = firsts-push xs y ∙ ap (λ b. cond b (firsts same xs) (firsts same xs ++ y ∷ [])) p
+
+  long_push : (xs : List A) (y : A) → (length (firsts same xs) ≤ length (firsts same (xs ++ y ∷ []))) × (length (firsts same (xs ++ y ∷ [])) ≤ length (firsts same xs) + 1)
+  long_push xs y = by_test (list_any (same y) xs) refl where
+    by_test : (b : Bool) → list_any (same y) xs ≡ b
+        → (length (firsts same xs) ≤ length (firsts same (xs ++ y ∷ []))) × (length (firsts same (xs ++ y ∷ [])) ≤ length (firsts same xs) + 1)
+    by_test true p = let e : length (firsts same (xs ++ y ∷ [])) ≡ length (firsts same xs) = ap (λ l. length l) (firsts_known xs y p) in (omega (arith, e), omega (arith, e))
+    by_test false p =
+        let e : length (firsts same (xs ++ y ∷ [])) ≡ length (firsts same xs) + 1 = ap (λ l. length l) (firsts_new xs y p) ∙ length_push (firsts same xs) y in
+        (omega (arith, e), omega (arith, e))
+
+  -- with further items there are no fewer first ones, and at most one more for each
+  pub firsts_long : (xs ys : List A) → (length (firsts same xs) ≤ length (firsts same (xs ++ ys))) × (length (firsts same (xs ++ ys)) ≤ length (firsts same xs) + length ys)
+  firsts_long xs [] = let e : length (firsts same (xs ++ [])) ≡ length (firsts same xs) = ap (λ l. length (firsts same l)) (append-nil xs) in (omega (arith, e), omega (arith, e))
+  firsts_long xs (y ∷ ys) =
+      let one = long_push xs y in
+      let rest = firsts_long (xs ++ y ∷ []) ys in
+      let e : length (firsts same ((xs ++ y ∷ []) ++ ys)) ≡ length (firsts same (xs ++ y ∷ ys)) = ap (λ l. length (firsts same l)) (append_assoc xs (y ∷ []) ys) in
+      (omega (arith, one.0, rest.0, e), omega (arith, one.1, rest.1, e))

@@ -7,11 +7,12 @@ use mathlib.Core.List.{IsPrefix}
 use Rattle.ct_word.specs.declared.kinds.Class.TheVariants as class
 use Rattle.ct_word.specs.declared.values.CRow.{CRow}
 use Rattle.ct_word.specs.Value.{World, same_cells}
-use Rattle.ct_word.specs.WellFormed.{is_place_of}
+use Rattle.ct_word.specs.WellFormed.{IsWellFormed, is_place_of}
 use Rattle.ct_word.specs.Reading.{plain_crow, term_at}
 use Rattle.ct_query.specs.Step.{shown_rows}
 use Rattle.ct_word.proofs.Prefixes.{term_in_prefix, condition_in_prefix, place_in_prefix, place_within}
 use Rattle.ct_table.specs.Tables.{cells_of, value_of_rows, IsRow, AreRows}
+use Rattle.ct_table.proofs.Reaching.{none_later, row_within}
 
 module _ (ws xs : List ℕ) (grown : IsPrefix ws xs) where
   -- places of terms stand for the same terms
@@ -39,17 +40,18 @@ module _ (ws xs : List ℕ) (grown : IsPrefix ws xs) where
   pub value_grows : (v : World) (n : ℕ) (rs : List CRow) → All (IsRow ws n) rs → value_of_rows xs v rs ≡ value_of_rows ws v rs
   value_grows v n rs all = ap (shown_rows v) (plain_rows_grow n rs all)
 
-  pub is_row_grows : (n : ℕ) (r : CRow) → IsRow ws n r → IsRow xs n r
-  is_row_grows n r is = record {
+  pub is_row_grows : IsWellFormed ws → (n : ℕ) (r : CRow) → IsRow ws n r → IsRow xs n r
+  is_row_grows formed n r is = record {
     terms = All-weaker _ _ (λ p h. place_in_prefix ws xs class.Term p grown h) r.cells is.terms;
     condition = place_in_prefix ws xs class.Cond r.cond grown is.condition;
     width_is = is.width_is;
+    plain = none_later ws xs grown formed (r.cond ∷ r.cells) (row_within ws n r is.terms is.condition) is.plain;
   }
 
   -- the rows of a table go on being that
-  pub rows_grow : (n : ℕ) (rs : List CRow) → AreRows ws n rs → AreRows xs n rs
-  rows_grow n rs are = record {
-    each = All-weaker (IsRow ws n) (IsRow xs n) (is_row_grows n) rs are.each;
+  pub rows_grow : IsWellFormed ws → (n : ℕ) (rs : List CRow) → AreRows ws n rs → AreRows xs n rs
+  rows_grow formed n rs are = record {
+    each = All-weaker (IsRow ws n) (IsRow xs n) (is_row_grows formed n) rs are.each;
     distinct = subst (λ cs. IsDistinct same_cells cs) (sym (cells_grow n rs are.each)) are.distinct;
     possible = are.possible;
   }

@@ -1,3 +1,5 @@
+pub mod Reaching
+pub mod Columns
 pub mod Growing
 pub mod Sets
 pub mod Denoting
@@ -15,5 +17,6 @@ pub mod Pairing
 pub mod Holding
 pub mod Comparing
 pub mod Placed
+pub mod Adding
 pub mod Choosing
 pub mod Shared

@@ -1,25 +1,27 @@
 -- Rows put last, or merged by their cells.
-use Rattle.std.proofs.Common.{◌≡◌, ℕ, zero, suc, ◌<◌, ◌≤◌, Bool, true, false, not, ◌&&◌, ◌||◌, List, [], ◌∷◌, ◌++◌, Some, None, map, length, cond, get_or, set, take, refl, ap, sym, subst, ◌∙◌, arith}
-use Rattle.std.specs.Prelude.{◌≢◌, IsTrue, All, nat_eq, if◌then◌else◌}
+use Rattle.std.proofs.Common.{◌≡◌, ℕ, zero, suc, ◌+◌, ◌<◌, ◌≤◌, Bool, true, false, not, ◌&&◌, ◌||◌, List, [], ◌∷◌, ◌++◌, Some, None, map, length, cond, get_or, set, take, drop, refl, ap, sym, subst, ◌∙◌, arith, inl, inr}
+use Rattle.std.specs.Prelude.{◌≢◌, IsTrue, All, nat_eq, is_some, Option, if◌then◌else◌}
 use Rattle.std.specs.List.{IsDistinct, list_any, filter}
 use Rattle.std.specs.Cmp.{IsEquivalence}
 use Rattle.std.specs.Cmp.Lexicographic.{pointwise}
 use Rattle.std.specs.Map.{lookup}
 use Rattle.std.proofs.lemmas.Bool.Decides.{same_from_decides}
 use Rattle.std.proofs.lemmas.Bool.{false≢true, eqb-true, eq-eqb}
-use Rattle.std.proofs.lemmas.List.{map_push, take_all}
-use Rattle.std.proofs.lemmas.List.Elements.{All-head, All-tail, All-cons, All-nil, All-push, All-weaker, All-get_or, All-filter}
+use Rattle.std.proofs.lemmas.List.{map_push, map-append, take_all, take-append-drop, length-append, length_push, length-map}
+use Rattle.std.proofs.lemmas.List.Elements.{All-head, All-tail, All-cons, All-nil, All-push, All-weaker, All-get_or, All-filter, Contains-append_left, Contains-push}
 use Rattle.std.proofs.lemmas.Map.Keys.{IsDistinct-push}
 use mathlib.Core.List.{IsPrefix}
 use Rattle.indexmap.specs.IndexMap.{insert_entry}
 use Rattle.ct_word.specs.declared.kinds.Class.TheVariants as class
 use Rattle.ct_word.specs.declared.values.Value.{Value}
 use Rattle.ct_word.specs.declared.values.Term.{Term}
+use Rattle.ct_word.specs.declared.values.Term.TheVariants as term
 use Rattle.ct_word.specs.declared.values.CRow.{CRow}
 use Rattle.ct_word.specs.Value.{World, same_text, same_cells, same_tuple, tuple_at}
 use Rattle.ct_word.specs.Sublist.{IsSublist, ended, left_out, taken}
 use Rattle.ct_word.specs.Condition.{holds_at}
 use Rattle.ct_word.specs.WellFormed.{IsWellFormed, is_place_of}
+use Rattle.ct_word.specs.Stands.{HasNoColumn}
 use Rattle.ct_word.specs.Reading.{term_at, condition_at, plain_crow}
 use Rattle.ct_word.proofs.Alike.{text_decides, cells_decide}
 use Rattle.ct_word.proofs.Constants.{one_term}
@@ -27,13 +29,17 @@ use Rattle.ct_word.proofs.Prefixes.{prefix_of_prefix, prefix_same, condition_in_
 use Rattle.ct_query.specs.Database.{SameSet, has_tuple}
 use Rattle.ct_arena.specs.Counts.{opening}
 use Rattle.ct_condition.specs.Truth.{HasTruth, or_at}
+use Rattle.ct_condition.specs.Terms.{TermsFrom, BelowEither}
+use Rattle.ct_condition.proofs.Reached.{formed_before}
 use Rattle.ct_condition.proofs.Truths.{false_at}
 use Rattle.ct_table.specs.Tables.{cells_of, value_of_rows, IsRow, AreRows, firsts}
-use Rattle.ct_table.specs.Merging.{rows_of, Merged, put_last, into, Gathers, is_possible}
+use Rattle.ct_table.specs.Terms.{TermOfRows, RowFrom, RowsFrom}
+use Rattle.ct_table.specs.Merging.{rows_of, Merged, put_last, into, Gathers, is_possible, known}
+use Rattle.ct_table.proofs.Reaching.{row_itself, rows_among, rows_wider, row_later, rows_later, under_from, from_two}
 use Rattle.ct_table.proofs.Sets.{same_set-append, has_tuple-append, same_set_itself}
 use Rattle.ct_table.proofs.Selecting.{distinct_part, value-push, shown-append, one_shown}
 use Rattle.ct_table.proofs.Growing.{terms_grow, is_row_grows, cells_grow, value_grows}
-use Rattle.ct_table.proofs.Firsts.{filtered_part, any_first, firsts_known, firsts_new, or_with_true}
+use Rattle.ct_table.proofs.Firsts.{filtered_part, any_first, firsts_known, firsts_new, firsts_long, or_with_true}
 
 pub cells_equiv : IsEquivalence same_cells
 cells_equiv = record {
@@ -158,8 +164,30 @@ module _ (old now new : List ℕ) (width : ℕ) (done before : List CRow) (so_fa
   far : IsPrefix old new
   far = prefix_of_prefix old now new so_far.grown longer
 
+  formed_first : IsWellFormed old
+  formed_first = formed_before old now so_far.grown wf
+
+  is_now : IsRow now width r
+  is_now = is_row_grows old now so_far.grown formed_first width r is
+
+  is_later : IsRow new width r
+  is_later = is_row_grows old new far formed_first width r is
+
+  -- where the terms are from, with the row
+  abbrev Source : Term → Type 0
+  Source = TermOfRows old (done ++ r ∷ [])
+
+  wider : (t : Term) → TermOfRows old done t → Source t
+  wider t = rows_among old done (done ++ r ∷ []) t (λ x h. Contains-append_left done (r ∷ []) x h)
+
+  own : RowFrom old Source r
+  own = row_itself old (done ++ r ∷ []) r (Contains-push done r)
+
+  from_before : RowsFrom new before Source
+  from_before = rows_later now new longer wf width Source before so_far.each (rows_wider now (TermOfRows old done) Source wider before so_far.from)
+
   each_before : All (IsRow new width) before
-  each_before = All-weaker (IsRow now width) (IsRow new width) (is_row_grows now new longer width) before so_far.each
+  each_before = All-weaker (IsRow now width) (IsRow new width) (is_row_grows now new longer wf width) before so_far.each
 
   values_before : (v : World) → SameSet (value_of_rows new v before) (value_of_rows old v done)
   values_before v = subst (λ l. SameSet l (value_of_rows old v done)) (sym (value_grows now new longer v width before so_far.each)) (so_far.values v)
@@ -195,26 +223,32 @@ module _ (old now new : List ℕ) (width : ℕ) (done before : List CRow) (so_fa
   last : (All (λ x. x.cells ≢ r.cells) before) → Gathers old new width (done ++ r ∷ []) (before ++ r ∷ [])
   last others = record {
     grown = far;
-    each = All-push (IsRow new width) before r each_before (is_row_grows old new far width r is);
-    distinct = subst (IsDistinct same_cells) (sym (cells_grow now new longer width (before ++ r ∷ []) (All-push (IsRow now width) before r so_far.each (is_row_grows old now so_far.grown width r is))))
+    each = All-push (IsRow new width) before r each_before is_later;
+    distinct = subst (IsDistinct same_cells) (sym (cells_grow now new longer width (before ++ r ∷ []) (All-push (IsRow now width) before r so_far.each is_now)))
         (subst (IsDistinct same_cells) (sym (map_push (λ (r : CRow). map (term_at now) r.cells) before r))
         (IsDistinct-push cells_equiv (cells_of now before) (map (term_at now) r.cells) so_far.distinct
-        (apart_cells now wf width before r so_far.each (is_row_grows old now so_far.grown width r is) others)));
+        (apart_cells now wf width before r so_far.each is_now others)));
     values = λ v. subst (λ l. SameSet l (value_of_rows old v (done ++ r ∷ []))) (sym (value-push new v before r)) (both_values v);
     order =
         map_push (λ (r : CRow). map (term_at new) r.cells) before r
         ∙ (λ i. order_before i ++ terms_stay i ∷ [])
         ∙ sym (firsts_new same_cells cells_equiv (cells_of old done) (map (term_at old) r.cells)
-        (stood false (apart_cells now wf width before r so_far.each (is_row_grows old now so_far.grown width r is) others)))
+        (stood false (apart_cells now wf width before r so_far.each is_now others)))
         ∙ ap (firsts same_cells) (sym done_more);
+    from = All-push (RowFrom new Source) before r from_before (row_later old new far formed_first width Source r is own);
   }
 
   joined : (i c : ℕ) → i < length before → (get_or before i r).cells ≡ r.cells → HasTruth new c (or_at now (get_or before i r).cond r.cond)
-      → Gathers old new width (done ++ r ∷ []) (set before i (record { cells = r.cells; cond = c }))
-  joined i c lt same h = record {
+      → TermsFrom new c (BelowEither now (get_or before i r).cond r.cond) → Gathers old new width (done ++ r ∷ []) (set before i (record { cells = r.cells; cond = c }))
+  joined i c lt same h either = record {
     grown = far;
     each = set_all (IsRow new width) before i (record { cells = r.cells; cond = c }) each_before
-        (record { terms = (is_row_grows old new far width r is).terms; condition = h.class; width_is = is.width_is });
+        (record {
+          terms = is_later.terms;
+          condition = h.class;
+          width_is = is.width_is;
+          plain = All-cons (HasNoColumn new) c r.cells none (All-tail (HasNoColumn new) r.cond r.cells is_later.plain);
+        });
     distinct = subst (IsDistinct same_cells) (sym (set_cells new before i r c lt same)) distinct_before;
     values = λ v t. set_has new v before i r c t lt same (truth v)
         ∙ ap (λ b. has_tuple (value_of_rows new v before) t || b) (sym (has_one new v r t))
@@ -223,20 +257,33 @@ module _ (old now new : List ℕ) (width : ℕ) (done before : List CRow) (so_fa
         set_cells new before i r c lt same ∙ order_before
         ∙ sym (firsts_known same_cells cells_equiv (cells_of old done) (map (term_at old) r.cells) (stood true (there_cells now before i r lt same)))
         ∙ ap (firsts same_cells) (sym done_more);
+    from = set_all (RowFrom new Source) before i (record { cells = r.cells; cond = c }) from_before
+        (under_from old new far formed_first width Source r c is own (from_two now new first.cond r.cond c Source
+        (λ t x. wider t (All-head (λ p. TermsFrom now p (TermOfRows old done)) first.cond first.cells (All-get_or (RowFrom now (TermOfRows old done)) before i r lt so_far.from) t x))
+        (All-head (λ p. TermsFrom now p Source) r.cond r.cells (row_later old now so_far.grown formed_first width Source r is own)) either));
   } where
+    first : CRow
+    first = get_or before i r
+
+    none : HasNoColumn new c
+    none k x = elim (either (term.Column k) x) [
+      | inl a ↦ All-head (HasNoColumn now) first.cond first.cells (All-get_or (IsRow now width) before i r lt so_far.each).plain k a
+      | inr b ↦ All-head (HasNoColumn now) r.cond r.cells is_now.plain k b
+    ]
+
     truth : (v : World) → holds_at v (condition_at new c) ≡ (holds_at v (condition_at new (get_or before i r).cond) || holds_at v (condition_at new r.cond))
     truth v =
         h.truth_is v []
         ∙ sym (λ j. holds_at v (condition_in_prefix now new (get_or before i r).cond longer (place_within now class.Cond (get_or before i r).cond (All-get_or (IsRow now width) before i r lt so_far.each).condition) j)
-        || holds_at v (condition_in_prefix now new r.cond longer (place_within now class.Cond r.cond (is_row_grows old now so_far.grown width r is).condition) j))
+        || holds_at v (condition_in_prefix now new r.cond longer (place_within now class.Cond r.cond is_now.condition) j))
 
   pub gathers_more : (after : List CRow) → Merged now new before r after → Gathers old new width (done ++ r ∷ []) after
   gathers_more after (put_last others) = last others
-  gathers_more after (into i c lt same h) = joined i c lt same h
+  gathers_more after (into i c lt same h either) = joined i c lt same h either
 
 pub gathers_none : (old : List ℕ) (width : ℕ) → Gathers old old width [] []
 unfolding IsDistinct
-gathers_none old width = record { grown = prefix_same old; each = All-nil _; distinct = tt; values = λ v t. refl; order = refl }
+gathers_none old width = record { grown = prefix_same old; each = All-nil _; distinct = tt; values = λ v t. refl; order = refl; from = All-nil _ }
 
 -- a row under the word false is worth nothing
 thin_value : (ws : List ℕ) (v : World) → holds_at v (condition_at ws 1) ≡ false → (rs : List CRow) → value_of_rows ws v (filter is_possible rs) ≡ value_of_rows ws v rs
@@ -286,6 +333,9 @@ module _ (old now : List ℕ) (width : ℕ) (done out : List CRow) (begins : IsP
   pub kept_order : IsSublist (cells_of now (filter is_possible out)) (firsts same_cells (cells_of old done))
   kept_order = subst (IsSublist (cells_of now (filter is_possible out))) s.order (thin_cells now out)
 
+  pub kept_from : RowsFrom now (filter is_possible out) (TermOfRows old done)
+  kept_from = All-filter is_possible (RowFrom now (TermOfRows old done)) out s.from
+
 -- a condition goes into the entry of its cells
 into_entry : (cells : List ℕ) (first both : ℕ) (d : CRow) (es : List (List ℕ × ℕ)) → lookup (same_text cells) es ≡ Some first
     → (i : ℕ) × (i < length (rows_of es)) × ((get_or (rows_of es) i d).cells ≡ cells) × ((get_or (rows_of es) i d).cond ≡ first)
@@ -327,12 +377,13 @@ found_condition ws width cells first es each e =
     subst (λ k. IsTrue (is_place_of ws class.Cond k)) found.3 (All-get_or (IsRow ws width) (rows_of es) found.0 r found.1 each).condition
 
 pub entry_merged : (old new cells : List ℕ) (c first both : ℕ) (es : List (List ℕ × ℕ)) → lookup (same_text cells) es ≡ Some first → HasTruth new both (or_at old first c)
-    → Merged old new (rows_of es) (record { cells = cells; cond = c }) (rows_of (insert_entry (pointwise nat_eq) es cells both))
-entry_merged old new cells c first both es e h =
+    → TermsFrom new both (BelowEither old first c) → Merged old new (rows_of es) (record { cells = cells; cond = c }) (rows_of (insert_entry (pointwise nat_eq) es cells both))
+entry_merged old new cells c first both es e h either =
     let r : CRow = record { cells = cells; cond = c } in
     let found = into_entry cells first both r es e in
     subst (Merged old new (rows_of es) r) (sym found.4)
-    (into found.0 both found.1 found.2 (subst (λ k. HasTruth new both (or_at old k c)) (sym found.3) h))
+    (into found.0 both found.1 found.2 (subst (λ k. HasTruth new both (or_at old k c)) (sym found.3) h)
+    (subst (λ k. TermsFrom new both (BelowEither old k c)) (sym found.3) either))
 
 -- new cells get an entry of their own
 last_entry : (cells : List ℕ) (c : ℕ) (es : List (List ℕ × ℕ)) → lookup (same_text cells) es ≡ None
@@ -356,3 +407,52 @@ entry_put old new cells c es e =
     let r : CRow = record { cells = cells; cond = c } in
     let last = last_entry cells c es e in
     subst (Merged old new (rows_of es) r) (sym last.1) (put_last last.0)
+
+-- one row more: its cells have an entry, or there is one more first one
+known_counts : (old now : List ℕ) (width : ℕ) (done : List CRow) (es : List (List ℕ × ℕ)) → Gathers old now width done (rows_of es) → IsWellFormed now → (r : CRow) → IsRow old width r
+    → length (firsts same_cells (cells_of old (done ++ r ∷ []))) + known r.cells es ≡ length (firsts same_cells (cells_of old done)) + 1
+known_counts old now width done es so_far wf r is = by_case (lookup (same_text r.cells) es) refl where
+  cells : List Term
+  cells = map (term_at old) r.cells
+
+  done_too : cells_of old (done ++ r ∷ []) ≡ cells_of old done ++ cells ∷ []
+  done_too = map_push (λ (r : CRow). map (term_at old) r.cells) done r
+
+  by_case : (o : Option ℕ) → lookup (same_text r.cells) es ≡ o
+      → length (firsts same_cells (cells_of old (done ++ r ∷ []))) + known r.cells es ≡ length (firsts same_cells (cells_of old done)) + 1
+  by_case (Some first) e =
+      let found = into_entry r.cells first first r es e in
+      let there = stood old now now width done (rows_of es) so_far (prefix_same now) wf r is true (there_cells now (rows_of es) found.0 r found.1 found.2) in
+      (λ i. length (firsts same_cells (done_too i)) + (if is_some (e i) then 1 else 0))
+      ∙ ap (λ l. length l + 1) (firsts_known same_cells cells_equiv (cells_of old done) cells there)
+  by_case None e =
+      let last = last_entry r.cells r.cond es e in
+      let apart = stood old now now width done (rows_of es) so_far (prefix_same now) wf r is false
+      (apart_cells now wf width (rows_of es) r so_far.each (is_row_grows old now so_far.grown (formed_before old now so_far.grown wf) width r is) last.0) in
+      let long : length (firsts same_cells (cells_of old done ++ cells ∷ [])) ≡ length (firsts same_cells (cells_of old done)) + 1 =
+      ap (λ l. length l) (firsts_new same_cells cells_equiv (cells_of old done) cells apart) ∙ length_push (firsts same_cells (cells_of old done)) cells in
+      let none : length (firsts same_cells (cells_of old done ++ cells ∷ [])) + 0 ≡ length (firsts same_cells (cells_of old done)) + 1 = omega (arith, long) in
+      (λ i. length (firsts same_cells (done_too i)) + (if is_some (e i) then 1 else 0)) ∙ none
+
+-- the words for the rows so far, and for one more: one for each that was merged into an earlier one
+module _ (old now : List ℕ) (width : ℕ) (done : List CRow) (es : List (List ℕ × ℕ)) (so_far : Gathers old now width done (rows_of es)) (wf : IsWellFormed now) (r : CRow) (is : IsRow old width r)
+    (m at after : ℕ) (before : at + length (firsts same_cells (cells_of old done)) ≤ m + length done) where
+  pub merging_more : after ≤ at + known r.cells es → after + length (firsts same_cells (cells_of old (done ++ r ∷ []))) ≤ m + length (done ++ r ∷ [])
+  merging_more more = omega (arith, before, more, known_counts old now width done es so_far wf r is, length_push done r)
+
+  -- a row for which there is no room
+  pub merging_fewer : after < at + known r.cells es → after + length (firsts same_cells (cells_of old (done ++ r ∷ []))) < m + length (done ++ r ∷ [])
+  merging_fewer fewer = omega (arith, before, fewer, known_counts old now width done es so_far wf r is, length_push done r)
+
+-- of all rows there are at most as many more first ones as there are more rows
+pub first_rows : (old : List ℕ) (k : ℕ) (rows : List CRow)
+    → length (firsts same_cells (cells_of old rows)) + length (take k rows) ≤ length (firsts same_cells (cells_of old (take k rows))) + length rows
+first_rows old k rows =
+    let split : cells_of old rows ≡ cells_of old (take k rows) ++ cells_of old (drop k rows) =
+    ap (cells_of old) (sym (take-append-drop k rows)) ∙ map-append (λ (r : CRow). map (term_at old) r.cells) (take k rows) (drop k rows) in
+    let long : length rows ≡ length (take k rows) + length (drop k rows) = ap (λ l. length l) (sym (take-append-drop k rows)) ∙ length-append (take k rows) (drop k rows) in
+    let more = (firsts_long same_cells cells_equiv (cells_of old (take k rows)) (cells_of old (drop k rows))).1 in
+    let each : length (cells_of old (drop k rows)) ≡ length (drop k rows) = length-map (drop k rows) (λ (r : CRow). map (term_at old) r.cells) in
+    let same : length (firsts same_cells (cells_of old rows)) ≡ length (firsts same_cells (cells_of old (take k rows) ++ cells_of old (drop k rows))) =
+    ap (λ cs. length (firsts same_cells cs)) split in
+    omega (arith, long, more, each, same)

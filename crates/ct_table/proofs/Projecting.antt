@@ -3,7 +3,7 @@ use Rattle.std.proofs.Common.{◌≡◌, ℕ, zero, suc, ◌<◌, Bool, true, fa
 use Rattle.std.specs.Prelude.{IsTrue, All, slice_get}
 use Rattle.std.specs.List.{filter, cons_option}
 use Rattle.std.proofs.lemmas.List.{length-map}
-use Rattle.std.proofs.lemmas.List.Elements.{All-head, All-tail, All-map, All-weaker, All-get_or}
+use Rattle.std.proofs.lemmas.List.Elements.{All-nil, All-cons, All-head, All-tail, All-map, All-weaker, All-get_or}
 use Rattle.ct_word.specs.declared.kinds.Class.TheVariants as class
 use Rattle.ct_word.specs.declared.values.Term.{Term}
 use Rattle.ct_word.specs.declared.values.CRow.{CRow}
@@ -11,8 +11,11 @@ use Rattle.ct_word.specs.Value.{World, cell_at, tuple_at}
 use Rattle.ct_word.specs.Change.{PlainRow}
 use Rattle.ct_word.specs.Condition.{holds_at}
 use Rattle.ct_word.specs.WellFormed.{is_place_of}
+use Rattle.ct_word.specs.Stands.{HasNoColumn}
 use Rattle.ct_word.specs.Reading.{term_at, condition_at, plain_crow}
 use Rattle.ct_query.specs.Patterns.{picked}
+use Rattle.ct_condition.specs.Terms.{TermsFrom}
+use Rattle.ct_table.specs.Terms.{RowFrom, RowsFrom}
 use Rattle.ct_table.specs.Tables.{cells_of, value_of_rows, IsRow}
 use Rattle.ct_table.specs.Projection.{picked_row}
 use Rattle.ct_table.proofs.Selecting.{cell_of_tuple}
@@ -44,6 +47,20 @@ module _ (ws : List ℕ) (width : ℕ) (ks : List ℕ) (below : All (λ k. k < w
   pub all_within : (rs : List CRow) → All (IsRow ws width) rs → All (λ r. All (λ k. k < length r.cells) ks) rs
   all_within rs each = All-weaker (IsRow ws width) (λ r. All (λ k. k < length r.cells) ks) within rs each
 
+  -- what holds of a row's places holds of those that are picked
+  picked_all : (P : ℕ → Type 0) (r : CRow) → IsRow ws width r → All P (r.cond ∷ r.cells) → All P (r.cond ∷ map (λ k. get_or r.cells k 0) ks)
+  picked_all P r is all =
+      All-cons P r.cond (map (λ k. get_or r.cells k 0) ks) (All-head P r.cond r.cells all)
+      (All-map P (λ k. get_or r.cells k 0) ks
+      (All-weaker (λ k. k < length r.cells) (λ k. P (get_or r.cells k 0)) (λ k lt. All-get_or P r.cells k 0 lt (All-tail P r.cond r.cells all)) ks (within r is)))
+
+  pub picked_from : (source : Term → Type 0) (rs : List CRow) → All (IsRow ws width) rs → RowsFrom ws rs source → RowsFrom ws (map (picked_row ks) rs) source
+  picked_from source [] each from = All-nil (RowFrom ws source)
+  picked_from source (r ∷ rs) each from =
+      All-cons (RowFrom ws source) (picked_row ks r) (map (picked_row ks) rs)
+      (picked_all (λ p. TermsFrom ws p source) r (All-head (IsRow ws width) r rs each) (All-head (RowFrom ws source) r rs from))
+      (picked_from source rs (All-tail (IsRow ws width) r rs each) (All-tail (RowFrom ws source) r rs from))
+
   picked_is_row : (r : CRow) → IsRow ws width r → IsRow ws (length ks) (picked_row ks r)
   picked_is_row r is = record {
     terms = All-map (λ p. IsTrue (is_place_of ws class.Term p)) (λ k. get_or r.cells k 0) ks
@@ -51,6 +68,7 @@ module _ (ws : List ℕ) (width : ℕ) (ks : List ℕ) (below : All (λ k. k < w
         (λ k lt. All-get_or (λ p. IsTrue (is_place_of ws class.Term p)) r.cells k 0 lt is.terms) ks (within r is));
     condition = is.condition;
     width_is = length-map ks (λ k. get_or r.cells k 0);
+    plain = picked_all (HasNoColumn ws) r is is.plain;
   }
 
   pub picked_rows : (rs : List CRow) → All (IsRow ws width) rs → All (IsRow ws (length ks)) (map (picked_row ks) rs)

@@ -3,21 +3,29 @@ use Rattle.std.proofs.Common.{◌≡◌, ℕ, ◌<◌, Bool, true, false, ◌&&�
 use Rattle.std.specs.Prelude.{◌≢◌, All, slice_index_or}
 use Rattle.std.specs.List.{IsDistinct, AllByRecursion, filter}
 use Rattle.std.proofs.lemmas.List.{append-nil, map_push, map-append, get_or-map, length-map}
-use Rattle.std.proofs.lemmas.List.Elements.{All-push, All-weaker, All-get_or, All-nil, filter-append}
+use Rattle.std.proofs.lemmas.List.Elements.{All-cons, All-tail, All-push, All-weaker, All-get_or, All-nil, filter-append}
 use Rattle.std.proofs.lemmas.Map.Keys.{IsDistinct-head, IsDistinct-tail, IsDistinct-cons}
 use mathlib.Core.List.{IsPrefix}
 use Rattle.ct_word.specs.declared.values.Value.{Value}
+use Rattle.ct_word.specs.declared.values.Term.{Term}
+use Rattle.ct_word.specs.declared.values.Term.TheVariants as term
 use Rattle.ct_word.specs.declared.values.CRow.{CRow}
 use Rattle.ct_word.specs.Value.{World, at, cell_at, other_zero, same_cells, tuple_at}
 use Rattle.ct_word.specs.Sublist.{IsSublist, ended, left_out, taken}
 use Rattle.ct_word.specs.Change.{PlainRow}
 use Rattle.ct_word.specs.Condition.{holds_at}
+use Rattle.ct_word.specs.WellFormed.{IsWellFormed}
+use Rattle.ct_word.specs.Stands.{HasNoColumn}
 use Rattle.ct_word.specs.Reading.{term_at, condition_at, plain_crow}
 use Rattle.ct_word.proofs.Prefixes.{prefix_of_prefix, prefix_same}
 use Rattle.ct_query.specs.Database.{SameSet, has_tuple}
 use Rattle.ct_query.specs.Step.{shown_rows}
+use Rattle.ct_condition.specs.Terms.{TermsFrom}
+use Rattle.ct_condition.proofs.Reached.{formed_before}
 use Rattle.ct_table.specs.Tables.{cells_of, value_of_rows, IsRow, AreRows}
+use Rattle.ct_table.specs.Terms.{RowFrom, RowsFrom}
 use Rattle.ct_table.specs.Building.{HoldsWhere}
+use Rattle.ct_table.proofs.Reaching.{none_from, rows_later, under_from}
 use Rattle.ct_table.proofs.Growing.{terms_grow, is_row_grows, cells_grow, value_grows}
 use Rattle.ct_table.proofs.Denoting.{sublist-append, nothing_of, all_of}
 
@@ -65,19 +73,32 @@ none_picked v y h e =
     ∙ ap (filter h) (sym (one_shown v y _ refl))
 
 -- what was selected of the rows so far, by a test of their tuples
-pub record Selects (old now : List ℕ) (width : ℕ) (test : World → List Value → Bool) (done out : List CRow) : Type 0 where
+pub record Selects (old now : List ℕ) (width : ℕ) (test : World → List Value → Bool) (source : Term → Type 0) (done out : List CRow) : Type 0 where
   pub grown : IsPrefix old now
   pub each : All (IsRow now width) out
   pub possible : All (λ r. r.cond ≢ 1) out
   pub values : (v : World) → value_of_rows now v out ≡ filter (test v) (value_of_rows old v done)
   pub part : IsSublist (cells_of now out) (cells_of old done)
+  pub from : RowsFrom now out source
 
-pub selects_none : (old : List ℕ) (width : ℕ) (test : World → List Value → Bool) → Selects old old width test [] []
-selects_none old width test = record { grown = prefix_same old; each = All-nil _; possible = All-nil _; values = λ v. refl; part = ended }
+pub selects_none : (old : List ℕ) (width : ℕ) (test : World → List Value → Bool) (source : Term → Type 0) → Selects old old width test source [] []
+selects_none old width test source = record { grown = prefix_same old; each = All-nil _; possible = All-nil _; values = λ v. refl; part = ended; from = All-nil _ }
 
-module _ (old now new : List ℕ) (width : ℕ) (test : World → List Value → Bool)
-    (done out : List CRow) (so_far : Selects old now width test done out) (longer : IsPrefix now new) (r : CRow) (is : IsRow old width r)
-    (place : ℕ) (chosen : HoldsWhere new place (λ v. holds_at v (condition_at old r.cond) && test v (tuple_at v (map (term_at old) r.cells)))) where
+module _ (old now new : List ℕ) (width : ℕ) (test : World → List Value → Bool) (source : Term → Type 0) (plain : (k : ℕ) → source (term.Column k) → ⊥)
+    (done out : List CRow) (so_far : Selects old now width test source done out) (longer : IsPrefix now new) (formed : IsWellFormed now) (r : CRow) (is : IsRow old width r) (origin : RowFrom old source r)
+    (place : ℕ) (chosen : HoldsWhere new place (λ v. holds_at v (condition_at old r.cond) && test v (tuple_at v (map (term_at old) r.cells)))) (from : TermsFrom new place source) where
+  far : IsPrefix old new
+  far = prefix_of_prefix old now new so_far.grown longer
+
+  formed_first : IsWellFormed old
+  formed_first = formed_before old now so_far.grown formed
+
+  is_later : IsRow new width r
+  is_later = is_row_grows old new far formed_first width r is
+
+  rows_later_too : RowsFrom new out source
+  rows_later_too = rows_later now new longer formed width source out so_far.each so_far.from
+
   values_before : (v : World) → value_of_rows new v out ≡ filter (test v) (value_of_rows old v done)
   values_before v = value_grows now new longer v width out so_far.each ∙ so_far.values v
 
@@ -97,11 +118,16 @@ module _ (old now new : List ℕ) (width : ℕ) (test : World → List Value →
   terms_stay : map (term_at new) r.cells ≡ map (term_at old) r.cells
   terms_stay = terms_grow old new (prefix_of_prefix old now new so_far.grown longer) r.cells is.terms
 
-  pub selects_more : place ≢ 1 → Selects old new width test (done ++ r ∷ []) (out ++ under ∷ [])
+  pub selects_more : place ≢ 1 → Selects old new width test source (done ++ r ∷ []) (out ++ under ∷ [])
   selects_more ne = record {
     grown = prefix_of_prefix old now new so_far.grown longer;
-    each = All-push (IsRow new width) out under (All-weaker (IsRow now width) (IsRow new width) (is_row_grows now new longer width) out so_far.each)
-        (record { terms = (is_row_grows old new (prefix_of_prefix old now new so_far.grown longer) width r is).terms; condition = chosen.class; width_is = is.width_is });
+    each = All-push (IsRow new width) out under (All-weaker (IsRow now width) (IsRow new width) (is_row_grows now new longer formed width) out so_far.each)
+        (record {
+          terms = is_later.terms;
+          condition = chosen.class;
+          width_is = is.width_is;
+          plain = All-cons (HasNoColumn new) place r.cells (none_from new place source plain from) (All-tail (HasNoColumn new) r.cond r.cells is_later.plain);
+        });
     possible = All-push (λ r. r.cond ≢ 1) out under so_far.possible ne;
     values = λ v. value-push new v out under
         ∙ more_values v (value_of_rows new v (under ∷ []))
@@ -110,18 +136,20 @@ module _ (old now new : List ℕ) (width : ℕ) (test : World → List Value →
         (subst (λ cs. IsSublist (cells_of new out ++ map (term_at new) r.cells ∷ []) cs) (sym (map_push (λ (r : CRow). map (term_at old) r.cells) done r))
         (sublist-append (cells_of new out) (cells_of old done) (map (term_at new) r.cells ∷ []) (map (term_at old) r.cells ∷ []) part_before
         (subst (λ c. IsSublist (map (term_at new) r.cells ∷ []) (c ∷ [])) terms_stay (all_of (map (term_at new) r.cells ∷ [])))));
+    from = All-push (RowFrom new source) out under rows_later_too (under_from old new far formed_first width source r place is origin from);
   }
 
-  pub selects_as_many : ((v : World) → holds_at v (condition_at new place) ≡ false) → Selects old new width test (done ++ r ∷ []) out
+  pub selects_as_many : ((v : World) → holds_at v (condition_at new place) ≡ false) → Selects old new width test source (done ++ r ∷ []) out
   selects_as_many never = record {
     grown = prefix_of_prefix old now new so_far.grown longer;
-    each = All-weaker (IsRow now width) (IsRow new width) (is_row_grows now new longer width) out so_far.each;
+    each = All-weaker (IsRow now width) (IsRow new width) (is_row_grows now new longer formed width) out so_far.each;
     possible = so_far.possible;
     values = λ v. sym (append-nil (value_of_rows new v out))
         ∙ more_values v [] (none_picked v (plain_crow old r) (test v) (sym (chosen.holds v) ∙ never v));
     part = subst (λ cs. IsSublist cs (cells_of old (done ++ r ∷ []))) (append-nil (cells_of new out))
         (subst (λ cs. IsSublist (cells_of new out ++ []) cs) (sym (map_push (λ (r : CRow). map (term_at old) r.cells) done r))
         (sublist-append (cells_of new out) (cells_of old done) [] (map (term_at old) r.cells ∷ []) part_before (nothing_of _)));
+    from = rows_later_too;
   }
 
 apart : {K : Type 0} (P : K → Type 0) (xs ys : List K) → IsSublist xs ys → AllByRecursion P ys → AllByRecursion P xs
@@ -137,18 +165,18 @@ distinct_part same (x ∷ xs) (x' ∷ ys) (taken p) d =
     IsDistinct-cons same x xs (apart (λ y. same x y ≡ false) xs ys p (IsDistinct-head same x ys d)) (distinct_part same xs ys p (IsDistinct-tail same x ys d))
 
 -- what was selected of all rows
-pub selected_rows : (old new : List ℕ) (width : ℕ) (test : World → List Value → Bool) (rows out : List CRow) → AreRows old width rows → Selects old new width test rows out → AreRows new width out
-selected_rows old new width test rows out are s =
+pub selected_rows : (old new : List ℕ) (width : ℕ) (test : World → List Value → Bool) (source : Term → Type 0) (rows out : List CRow) → AreRows old width rows → Selects old new width test source rows out → AreRows new width out
+selected_rows old new width test source rows out are s =
     record { each = s.each; distinct = distinct_part same_cells _ _ s.part are.distinct; possible = s.possible }
 
-pub selected_values : (old new : List ℕ) (width : ℕ) (test : World → List Value → Bool) (rows out : List CRow) → Selects old new width test rows out
+pub selected_values : (old new : List ℕ) (width : ℕ) (test : World → List Value → Bool) (source : Term → Type 0) (rows out : List CRow) → Selects old new width test source rows out
     → (v : World) → SameSet (value_of_rows new v out) (filter (test v) (value_of_rows old v rows))
-selected_values old new width test rows out s v tuple = ap (λ ts. has_tuple ts tuple) (s.values v)
+selected_values old new width test source rows out s v tuple = ap (λ ts. has_tuple ts tuple) (s.values v)
 
 -- a row of a table, as words are added
-pub row_at : (old now : List ℕ) (width : ℕ) (rows : List CRow) (i : ℕ) (r : CRow) → IsPrefix old now → All (IsRow old width) rows → i < length rows → r ≡ get_or rows i r
+pub row_at : (old now : List ℕ) (width : ℕ) (rows : List CRow) (i : ℕ) (r : CRow) → IsPrefix old now → IsWellFormed old → All (IsRow old width) rows → i < length rows → r ≡ get_or rows i r
     → IsRow old width r × IsRow now (length r.cells) r
-row_at old now width rows i r grown each lt e =
+row_at old now width rows i r grown formed each lt e =
     let is : IsRow old width r = subst (IsRow old width) (sym e) (All-get_or (IsRow old width) rows i r lt each) in
-    let on = is_row_grows old now grown width r is in
-    (is, record { terms = on.terms; condition = on.condition; width_is = refl })
+    let on = is_row_grows old now grown formed width r is in
+    (is, record { terms = on.terms; condition = on.condition; width_is = refl; plain = on.plain })

@@ -10,13 +10,15 @@ use Rattle.ct_word.specs.Condition.{holds_at}
 use Rattle.ct_word.specs.WellFormed.{is_place_of}
 use Rattle.ct_word.specs.Reading.{condition_at}
 use Rattle.ct_table.specs.Tables.{cells_of, value_of_rows, IsRow}
+use Rattle.ct_table.specs.Terms.{RowsFrom}
 
--- rows over the words now, which earlier words begin, with these cells, and worth these tuples at each valuation
-pub record Builds (old now : List ℕ) (width : ℕ) (cells : List (List Term)) (worth : World → List (List Value)) (out : List CRow) : Type 0 where
+-- rows over the words now, which earlier words begin, with these cells, worth these tuples at each valuation, with terms of a source alone
+pub record Builds (old now : List ℕ) (width : ℕ) (cells : List (List Term)) (worth : World → List (List Value)) (source : Term → Type 0) (out : List CRow) : Type 0 where
   pub grown : IsPrefix old now
   pub each : All (IsRow now width) out
   pub cells_are : cells_of now out ≡ cells
   pub worth_is : (v : World) → value_of_rows now v out ≡ worth v
+  pub from : RowsFrom now out source
 
 -- a place is of a condition that holds at the valuations that pass a test
 pub record HoldsWhere (words : List ℕ) (place : ℕ) (test : World → Bool) : Type 0 where

@@ -1,4 +1,5 @@
 pub mod Tables
+pub mod Terms
 pub mod Denotes
 pub mod Merging
 pub mod Projection

@@ -6,8 +6,12 @@ use Rattle.ct_word.specs.declared.kinds.Class.TheVariants as class
 use Rattle.ct_word.specs.declared.values.Value.{Value}
 use Rattle.ct_word.specs.Value.{World, at, same_value, tuple_at}
 use Rattle.ct_word.specs.Condition.{Same, Not, both, either, holds}
+use Rattle.ct_word.specs.declared.values.Term.{Term}
+use Rattle.ct_word.specs.Stands.{TermBelow}
 use Rattle.ct_word.specs.Reading.{condition_at, term_at}
 use Rattle.ct_word.specs.WellFormed.{is_place_of}
+use Rattle.ct_condition.specs.Terms.{TermsFrom, BelowEither}
+use Rattle.ct_table.specs.Terms.{IsPlaced}
 use Rattle.ct_table.specs.declared.placing.Parts.{Parts}
 use Rattle.ct_table.specs.declared.placing.Parts.TheVariants as parts
 
@@ -35,14 +39,19 @@ parts_of _ a b = parts.Nothing
 abbrev pub IsEarlier : List ℕ → ℕ → ℕ → Type 0
 IsEarlier words place c = IsTrue (is_place_of words class.Cond c) × (c < place)
 
--- what the condition at a place is made of
+-- what the condition at a place is made of; the terms below its parts stand below it, and none where it has no parts
 abbrev pub AreParts : List ℕ → ℕ → Parts → Type 0
-AreParts words place parts.Nothing = (v : World) (row : List Value) → holds v [] (condition_at words place) ≡ holds v row (condition_at words place)
+AreParts words place parts.Nothing = ((v : World) (row : List Value) → holds v [] (condition_at words place) ≡ holds v row (condition_at words place)) × ((u : Term) → TermBelow words place u → ⊥)
 AreParts words place (parts.Equal s t) =
     IsTrue (is_place_of words class.Term s) × IsTrue (is_place_of words class.Term t) × (condition_at words place ≡ Same (term_at words s) (term_at words t))
-AreParts words place (parts.Not c) = IsEarlier words place c × (condition_at words place ≡ Not (condition_at words c))
-AreParts words place (parts.And c d) = IsEarlier words place c × IsEarlier words place d × (condition_at words place ≡ both (condition_at words c) (condition_at words d))
-AreParts words place (parts.Or c d) = IsEarlier words place c × IsEarlier words place d × (condition_at words place ≡ either (condition_at words c) (condition_at words d))
+    × ((u : Term) → BelowEither words s t u → TermBelow words place u)
+AreParts words place (parts.Not c) = IsEarlier words place c × (condition_at words place ≡ Not (condition_at words c)) × ((u : Term) → TermBelow words c u → TermBelow words place u)
+AreParts words place (parts.And c d) =
+    IsEarlier words place c × IsEarlier words place d × (condition_at words place ≡ both (condition_at words c) (condition_at words d))
+    × ((u : Term) → BelowEither words c d u → TermBelow words place u)
+AreParts words place (parts.Or c d) =
+    IsEarlier words place c × IsEarlier words place d × (condition_at words place ≡ either (condition_at words c) (condition_at words d))
+    × ((u : Term) → BelowEither words c d u → TermBelow words place u)
 
 -- the position of a word of this kind, if it is a column
 abbrev pub column_of : Option Kind → ℕ → Option ℕ
@@ -53,3 +62,4 @@ column_of _ k = None
 pub record IsCellFor (words : List ℕ) (cells : List ℕ) (term place : ℕ) : Type 0 where
   pub class : IsTrue (is_place_of words class.Term place)
   pub worth : (v : World) → at v [] (term_at words place) ≡ at v (tuple_of words cells v) (term_at words term)
+  pub from : TermsFrom words place (IsPlaced words term cells)

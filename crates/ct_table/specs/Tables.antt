@@ -7,6 +7,7 @@ use Rattle.ct_word.specs.declared.values.Term.{Term}
 use Rattle.ct_word.specs.declared.values.CRow.{CRow}
 use Rattle.ct_word.specs.Value.{World, same_cells}
 use Rattle.ct_word.specs.WellFormed.{is_place_of}
+use Rattle.ct_word.specs.Stands.{HasNoColumn}
 use Rattle.ct_word.specs.Reading.{plain_crow, term_at}
 use Rattle.ct_query.specs.Step.{shown_rows}
 
@@ -18,11 +19,12 @@ cells_of words rs = map (λ r. map (term_at words) r.cells) rs
 abbrev pub value_of_rows : List ℕ → World → List CRow → List (List Value)
 value_of_rows words v rs = shown_rows v (map (plain_crow words) rs)
 
--- a row has this many cells, each of them a term, under a condition
+-- a row has this many cells, each of them a term, under a condition; no column stands below them
 pub record IsRow (words : List ℕ) (width : ℕ) (r : CRow) : Type 0 where
   pub terms : All (λ p. IsTrue (is_place_of words class.Term p)) r.cells
   pub condition : IsTrue (is_place_of words class.Cond r.cond)
   pub width_is : length r.cells ≡ width
+  pub plain : All (HasNoColumn words) (r.cond ∷ r.cells)
 
 -- the rows of a table of this many columns: they are rows, their cells differ, and no condition is the word false
 pub record AreRows (words : List ℕ) (width : ℕ) (rs : List CRow) : Type 0 where

@@ -1,11 +1,12 @@
 // Insertion of rows.
 
-ghost use Rattle.std.specs.Prelude.{◌≡◌, ◌≤◌, ◌++◌, length, All, IfOk, IsErrOf};
+ghost use Rattle.std.specs.Prelude.{◌≡◌, ◌≤◌, ◌<◌, ◌+◌, ◌++◌, length, All, IfOk, IsErrOf};
 ghost use mathlib.Core.List.{IsPrefix};
 ghost use Rattle.ct_word.specs.Value.{World, same_cells};
 ghost use Rattle.ct_word.specs.Sublist.{IsSublist};
 ghost use Rattle.ct_query.specs.Database.{SameSet};
 ghost use Rattle.ct_table.specs.Tables.{IsRow, AreRows, value_of_rows, cells_of, firsts};
+ghost use Rattle.ct_table.specs.Terms.{TermOfRows, RowsFrom};
 ghost use Rattle.ct_table.specs.declared.error.TableError.TheVariants as fault;
 
 use crate::error::TableError;
@@ -36,9 +37,12 @@ pub fn insert<N: Site, I: Interner<N>>(
     ensures tuples { (v : World) → IfOk result (λ out. SameSet (value_of_rows (I.list pass.new) v out.rows) (value_of_rows (I.list pass.old) v table.now.rows ++ value_of_rows (I.list pass.old) v rows.now)) }
     ensures part { IfOk result (λ out. IsSublist (cells_of (I.list pass.new) out.rows) (cells_of (I.list pass.old) table.now.rows ++ cells_of (I.list pass.old) rows.now)) }
     ensures order { IfOk result (λ out. IsSublist (cells_of (I.list pass.new) out.rows) (firsts same_cells (cells_of (I.list pass.old) table.now.rows ++ cells_of (I.list pass.old) rows.now))) }
+    ensures terms { IfOk result (λ out. RowsFrom (I.list pass.new) out.rows (TermOfRows (I.list pass.old) (table.now.rows ++ rows.now))) }
     ensures longer { IsPrefix (I.list pass.old) (I.list pass.new) }
     ensures room { length (I.list pass.new) ≤ N.log.cap }
     ensures full { IsErrOf result fault.Full → length (I.list pass.new) ≡ N.log.cap }
+    ensures made { I.made pass.new ≤ I.made pass.old + length rows.now }
+    ensures fewer { IsErrOf result fault.Full → I.made pass.new < I.made pass.old + length rows.now }
     ensures kept { I.kept pass.new ≡ I.kept pass.old }
     ensures lent { I.lent pass.new ≡ I.lent pass.old }
 {

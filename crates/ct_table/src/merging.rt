@@ -1,6 +1,6 @@
 // Rows with the same cells merged into the first of them.
 
-ghost use Rattle.std.specs.Prelude.{◌≡◌, ◌≢◌, ◌≤◌, length, All, IfOk, OnOk, IsErrOf};
+ghost use Rattle.std.specs.Prelude.{◌≡◌, ◌≢◌, ◌≤◌, ◌<◌, ◌+◌, length, All, IfOk, OnOk, IsErrOf};
 ghost use Rattle.std.specs.List.{filter};
 ghost use mathlib.Core.List.{IsPrefix};
 ghost use Rattle.ct_word.specs.Value.{World, same_cells};
@@ -8,7 +8,8 @@ ghost use Rattle.ct_word.specs.Sublist.{IsSublist};
 ghost use Rattle.ct_word.specs.WellFormed.{IsWellFormed};
 ghost use Rattle.ct_query.specs.Database.{SameSet};
 ghost use Rattle.ct_table.specs.Tables.{IsRow, AreRows, value_of_rows, cells_of, firsts};
-ghost use Rattle.ct_table.specs.Merging.{rows_of, Merged, is_possible};
+ghost use Rattle.ct_table.specs.Merging.{rows_of, Merged, is_possible, known};
+ghost use Rattle.ct_table.specs.Terms.{TermOfRows, RowsFrom};
 ghost use Rattle.ct_table.specs.declared.error.TableError.TheVariants as fault;
 
 use crate::error::TableError;
@@ -37,6 +38,8 @@ fn merge_row<N: Site, I: Interner<N>>(
     ensures room { length (I.list pass.new) ≤ N.log.cap }
     ensures merged { OnOk result (Merged (I.list pass.old) (I.list pass.new) (rows_of rows.old.entries) row (rows_of rows.new.entries)) }
     ensures full { IsErrOf result fault.Full → length (I.list pass.new) ≡ N.log.cap }
+    ensures made { I.made pass.new ≤ I.made pass.old + known row.cells rows.old.entries }
+    ensures fewer { IsErrOf result fault.Full → I.made pass.new < I.made pass.old + known row.cells rows.old.entries }
     ensures kept { I.kept pass.new ≡ I.kept pass.old }
     ensures lent { I.lent pass.new ≡ I.lent pass.old }
 {
@@ -86,9 +89,12 @@ pub(crate) fn merged<N: Site, I: Interner<N>>(
     ensures rows { IfOk result (λ out. AreRows (I.list pass.new) (length columns) out.rows) }
     ensures tuples { (v : World) → IfOk result (λ out. SameSet (value_of_rows (I.list pass.new) v out.rows) (value_of_rows (I.list pass.old) v rows.items)) }
     ensures order { IfOk result (λ out. IsSublist (cells_of (I.list pass.new) out.rows) (firsts same_cells (cells_of (I.list pass.old) rows.items))) }
+    ensures terms { IfOk result (λ out. RowsFrom (I.list pass.new) out.rows (TermOfRows (I.list pass.old) rows.items)) }
     ensures longer { IsPrefix (I.list pass.old) (I.list pass.new) }
     ensures room { length (I.list pass.new) ≤ N.log.cap }
     ensures full { IsErrOf result fault.Full → length (I.list pass.new) ≡ N.log.cap }
+    ensures made { I.made pass.new + length (firsts same_cells (cells_of (I.list pass.old) rows.items)) ≤ I.made pass.old + length rows.items }
+    ensures fewer { IsErrOf result fault.Full → I.made pass.new + length (firsts same_cells (cells_of (I.list pass.old) rows.items)) < I.made pass.old + length rows.items }
     ensures kept { I.kept pass.new ≡ I.kept pass.old }
     ensures lent { I.lent pass.new ≡ I.lent pass.old }
 {

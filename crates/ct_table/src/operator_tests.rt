@@ -1,19 +1,21 @@
 // Small tables, and what the operators make of them.
 
-ghost use Rattle.std.specs.Prelude.{◌≡◌, true, [], length, All, IfOk, IsTrue};
+ghost use Rattle.std.specs.Prelude.{◌≡◌, true, false, is_some, [], length, All, IfOk, IsTrue};
 ghost use mathlib.Core.List.{IsPrefix};
 ghost use Rattle.ct_word.specs.WellFormed.{is_place_of};
+ghost use Rattle.ct_word.specs.Word.{kind_of};
 ghost use Rattle.ct_word.specs.declared.kinds.Class.TheVariants as class;
 ghost use Rattle.ct_query.specs.Fields.{FitsFields};
 ghost use Rattle.ct_query.specs.Fits.{FitsRows};
 ghost use Rattle.ct_query.specs.Pred.{condition_of};
+ghost use Rattle.ct_table.specs.Placing.{column_of};
 ghost use Rattle.ct_table.specs.Tables.{IsRow, AreRows};
 
 use crate::{CRow, CTable, except, insert, intersect, product, project, select, union};
 use ct_arena::{Arena, Blank, Pass, Site};
 use ct_condition::{and, eq, not, or, term};
 use ct_query::Pred;
-use ct_word::{Class, List, Null, Term, Text, Value, class, kind};
+use ct_word::{Class, Kind, List, Null, Term, Text, Value, class, kind};
 use std::alloc::{AllocError, Global};
 use std::marker::Brand;
 use std::process::Abort;
@@ -53,8 +55,6 @@ const X_NOT_Y: usize = 8;
 
 const FRESH_EQUAL: usize = 9;
 
-const FRESH_UNEQUAL: usize = 10;
-
 /// What is tried; `First` is the projection to the first of two columns, `Swapped` that to both in the other order.
 #[derive(Clone, Copy)]
 enum Operator {
@@ -72,14 +72,8 @@ use Operator::{Except, First, Intersect, Product, Swapped, Union};
 type Row = (&'static [usize], usize);
 
 /// An operator, its operands, and the rows that it answers.
-const CASES: [(Operator, &'static [Row], &'static [Row], &'static [Row]); 16] = [
+const CASES: [(Operator, &'static [Row], &'static [Row], &'static [Row]); 10] = [
     // The left rows come first. A row that stands on both sides stands once, where it stood first.
-    (
-        Union,
-        &[(&[ONE], ALWAYS)],
-        &[(&[X], Y_ONE)],
-        &[(&[ONE], ALWAYS), (&[X], Y_ONE)],
-    ),
     (
         Union,
         &[(&[X], X_ONE), (&[ONE], ALWAYS)],
@@ -111,26 +105,12 @@ const CASES: [(Operator, &'static [Row], &'static [Row], &'static [Row]); 16] = 
             (&[TWO, Y], ALWAYS),
         ],
     ),
-    // A pair of rows that exclude each other is none.
-    (Product, &[(&[ONE], X_ONE)], &[(&[ONE], X_NOT_ONE)], &[]),
     // A null may be the number.
-    (
-        Except,
-        &[(&[ONE], ALWAYS)],
-        &[(&[X], ALWAYS)],
-        &[(&[ONE], X_NOT_ONE)],
-    ),
     (
         Except,
         &[(&[X], ALWAYS), (&[ONE], ALWAYS)],
         &[(&[X], ALWAYS)],
         &[(&[ONE], X_NOT_ONE)],
-    ),
-    (
-        Except,
-        &[(&[TWO], X_ONE)],
-        &[(&[ONE], ALWAYS), (&[TWO], Y_ONE)],
-        &[(&[TWO], X_ALONE_ONE)],
     ),
     // Two nulls may be equal, and fresh ones too.
     (
@@ -140,22 +120,10 @@ const CASES: [(Operator, &'static [Row], &'static [Row], &'static [Row]); 16] = 
         &[(&[X], X_NOT_Y)],
     ),
     (
-        Except,
-        &[(&[FRESH], ALWAYS)],
-        &[(&[OTHER_FRESH], ALWAYS)],
-        &[(&[FRESH], FRESH_UNEQUAL)],
-    ),
-    (
         Intersect,
         &[(&[FRESH], ALWAYS)],
         &[(&[OTHER_FRESH], ALWAYS)],
         &[(&[FRESH], FRESH_EQUAL)],
-    ),
-    (
-        Intersect,
-        &[(&[X], ALWAYS)],
-        &[(&[Y], ALWAYS)],
-        &[(&[X], X_Y)],
     ),
     (
         Intersect,
@@ -287,7 +255,7 @@ fn conditions<N: Site>(
     arena: &Arena<N>,
     pass: &mut Pass<N>,
     terms: &[u32; 6],
-) -> Result<[u32; 11], Fail> {
+) -> Result<[u32; 10], Fail> {
     let x_one = equal(arena, pass, terms[X], terms[ONE])?;
     let y_one = equal(arena, pass, terms[Y], terms[ONE])?;
     let y_not_one = negated(arena, pass, y_one)?;
@@ -304,7 +272,6 @@ fn conditions<N: Site>(
         x_y,
         negated(arena, pass, x_y)?,
         fresh,
-        negated(arena, pass, fresh)?,
     ])
 }
 
@@ -345,8 +312,25 @@ fn are_terms(words: &[u64], cells: &[u32]) -> bool
     true
 }
 
+fn is_column(kind: Option<Kind>) -> bool
+    ensures { result ≡ is_some (column_of kind 0) }
+{
+    matches!(kind, Some(Kind::Column))
+}
+
+fn no_columns(words: &[u64]) -> bool
+    ensures { result ≡ true → All (λ w. is_some (column_of (kind_of w) 0) ≡ false) words.now }
+{
+    for word in words {
+        if is_column(kind(*word)) {
+            return false;
+        }
+    }
+    true
+}
+
 fn is_row(words: &[u64], width: usize, row: &CRow) -> bool
-    ensures { result ≡ true → IsRow words.now width row.now }
+    ensures { result ≡ true → All (λ p. IsTrue (is_place_of words.now class.Term p)) row.now.cells × IsTrue (is_place_of words.now class.Cond row.now.cond) × (length row.now.cells ≡ width) }
 {
     row.cells.as_slice().len() == width
         && is_place(words, Class::Cond, row.cond)
@@ -356,6 +340,9 @@ fn is_row(words: &[u64], width: usize, row: &CRow) -> bool
 fn are_rows(words: &[u64], width: usize, rows: &[CRow]) -> bool
     ensures { result ≡ true → All (IsRow words.now width) rows.now }
 {
+    if !no_columns(words) {
+        return false;
+    }
     for row in rows {
         if !is_row(words, width, row) {
             return false;
@@ -415,6 +402,7 @@ fn operands<N: Site>(
     ensures right { IfOk result (λ t. AreRows pass.new.words (length t.1.columns) t.1.rows) }
 {
     let one = filled(alloc, arena, pass, width, left)?;
+    let _ = pass.words();
     let other = filled(alloc, arena, pass, width, right)?;
     Ok((one, other))
 }

@@ -1,9 +1,13 @@
 // A condition with the cells of a row put for its columns.
 
-ghost use Rattle.std.specs.Prelude.{◌≡◌, ◌<◌, Some, length, slice_get, All, IfOk, OnErr, IsTrue};
+ghost use Rattle.std.specs.Prelude.{◌≡◌, ◌⊎◌, ◌≤◌, ◌<◌, ◌+◌, Some, length, slice_get, All, IfOk, OnErr, IsTrue};
 ghost use mathlib.Core.List.{IsPrefix};
 ghost use Rattle.ct_word.specs.declared.kinds.Class.TheVariants as class;
 ghost use Rattle.ct_word.specs.WellFormed.{IsWellFormed, is_place_of};
+ghost use Rattle.ct_word.specs.Reading.{condition_at};
+ghost use Rattle.ct_query.specs.Bounds.{ops};
+ghost use Rattle.ct_condition.specs.Terms.{TermsFrom};
+ghost use Rattle.ct_table.specs.Terms.{IsPlaced};
 ghost use Rattle.ct_table.specs.Building.{HoldsWhere};
 ghost use Rattle.ct_table.specs.Placing.{parts_of, AreParts, column_of, IsCellFor, holds_for, equal_for};
 
@@ -89,8 +93,11 @@ fn equal_on<N: Site, I: Interner<N>>(
     requires right { IsTrue (is_place_of (I.list pass.old) class.Term t) }
     requires cells { All (λ p. IsTrue (is_place_of (I.list pass.old) class.Term p)) cells.now }
     ensures holds { IfOk result (λ place. HoldsWhere (I.list pass.new) place (equal_for (I.list pass.old) s t cells.now)) }
+    ensures terms { IfOk result (λ place. TermsFrom (I.list pass.new) place (λ u. IsPlaced (I.list pass.old) s cells.now u ⊎ IsPlaced (I.list pass.old) t cells.now u)) }
     ensures longer { IsPrefix (I.list pass.old) (I.list pass.new) }
     ensures full { OnErr result (length (I.list pass.new) ≡ N.log.cap) }
+    ensures made { I.made pass.new ≤ I.made pass.old + 1 }
+    ensures err { OnErr result (I.made pass.new ≡ I.made pass.old) }
     ensures kept { I.kept pass.new ≡ I.kept pass.old }
     ensures lent { I.lent pass.new ≡ I.lent pass.old }
 {
@@ -113,8 +120,11 @@ pub(crate) fn on_row<N: Site, I: Interner<N>>(
     requires cond { IsTrue (is_place_of (I.list pass.old) class.Cond cond) }
     requires cells { All (λ p. IsTrue (is_place_of (I.list pass.old) class.Term p)) cells.now }
     ensures holds { IfOk result (λ place. HoldsWhere (I.list pass.new) place (holds_for (I.list pass.old) cond cells.now)) }
+    ensures terms { IfOk result (λ place. TermsFrom (I.list pass.new) place (IsPlaced (I.list pass.old) cond cells.now)) }
     ensures longer { IsPrefix (I.list pass.old) (I.list pass.new) }
     ensures full { OnErr result (length (I.list pass.new) ≡ N.log.cap) }
+    ensures made { I.made pass.new ≤ I.made pass.old + ops (condition_at (I.list pass.old) cond) }
+    ensures err { OnErr result (I.made pass.new < I.made pass.old + ops (condition_at (I.list pass.old) cond)) }
     ensures kept { I.kept pass.new ≡ I.kept pass.old }
     ensures lent { I.lent pass.new ≡ I.lent pass.old }
 {
@@ -128,11 +138,13 @@ pub(crate) fn on_row<N: Site, I: Interner<N>>(
         Parts::And(c, d) => {
             let first = on_row(arena, pass, c, cells)?;
             let second = on_row(arena, pass, d, cells)?;
+            let _ = pass.words();
             and(arena, pass, first, second)
         }
         Parts::Or(c, d) => {
             let first = on_row(arena, pass, c, cells)?;
             let second = on_row(arena, pass, d, cells)?;
+            let _ = pass.words();
             or(arena, pass, first, second)
         }
     }

@@ -1,6 +1,6 @@
 // The product of two tables.
 
-ghost use Rattle.std.specs.Prelude.{◌≡◌, ◌+◌, [], ◌∷◌, ◌++◌, length, map, IfOk, IsErrOf};
+ghost use Rattle.std.specs.Prelude.{◌≡◌, ◌≤◌, ◌<◌, ◌+◌, ◌*◌, [], ◌∷◌, ◌++◌, length, map, IfOk, IsErrOf};
 ghost use mathlib.Core.List.{IsPrefix};
 ghost use Rattle.ct_word.specs.Value.{World};
 ghost use Rattle.ct_word.specs.Reading.{term_at};
@@ -8,6 +8,7 @@ ghost use Rattle.ct_word.specs.Sublist.{IsSublist};
 ghost use Rattle.ct_query.specs.Database.{SameSet};
 ghost use Rattle.ct_table.specs.Tables.{IsRow, AreRows, value_of_rows, cells_of};
 ghost use Rattle.ct_table.specs.Building.{Builds, joins};
+ghost use Rattle.ct_table.specs.Terms.{TermOfRows, RowsFrom};
 ghost use Rattle.ct_table.specs.declared.error.TableError.TheVariants as fault;
 
 use crate::error::TableError;
@@ -52,14 +53,18 @@ fn pair_row<N: Site, I: Interner<N>>(
 ) -> Result<Vec<CRow>, TableError>
     requires row { IsRow (I.list pass.old) (length row.now.cells) row.now }
     requires right { AreRows (I.list pass.old) (length right.now.columns) right.now.rows }
-    ensures pairs { IfOk result (λ out. Builds (I.list pass.old) (I.list pass.new) (length row.now.cells + length right.now.columns) (map (λ c. map (term_at (I.list pass.old)) row.now.cells ++ c) (cells_of (I.list pass.old) right.now.rows)) (λ v. joins (value_of_rows (I.list pass.old) v (row.now ∷ [])) (value_of_rows (I.list pass.old) v right.now.rows)) out.items) }
+    ensures pairs { IfOk result (λ out. Builds (I.list pass.old) (I.list pass.new) (length row.now.cells + length right.now.columns) (map (λ c. map (term_at (I.list pass.old)) row.now.cells ++ c) (cells_of (I.list pass.old) right.now.rows)) (λ v. joins (value_of_rows (I.list pass.old) v (row.now ∷ [])) (value_of_rows (I.list pass.old) v right.now.rows)) (TermOfRows (I.list pass.old) (row.now ∷ right.now.rows)) out.items) }
     ensures longer { IsPrefix (I.list pass.old) (I.list pass.new) }
     ensures full { IsErrOf result fault.Full → length (I.list pass.new) ≡ N.log.cap }
+    ensures made { I.made pass.new ≤ I.made pass.old + length right.now.rows }
+    ensures fewer { IsErrOf result fault.Full → I.made pass.new < I.made pass.old + length right.now.rows }
     ensures kept { I.kept pass.new ≡ I.kept pass.old }
     ensures lent { I.lent pass.new ≡ I.lent pass.old }
 {
+    let _ = pass.words();
     let mut pairs = Vec::new(alloc);
     for other in right.rows.as_slice() {
+        let _ = pass.words();
         let cond = and(arena, pass, row.cond, other.cond)?;
         pairs.push(joined(row, other, cond)?)?;
     }
@@ -76,14 +81,18 @@ fn pairs<N: Site, I: Interner<N>>(
 ) -> Result<Vec<CRow>, TableError>
     requires left { AreRows (I.list pass.old) (length left.now.columns) left.now.rows }
     requires right { AreRows (I.list pass.old) (length right.now.columns) right.now.rows }
-    ensures pairs { IfOk result (λ out. Builds (I.list pass.old) (I.list pass.new) (length left.now.columns + length right.now.columns) (joins (cells_of (I.list pass.old) left.now.rows) (cells_of (I.list pass.old) right.now.rows)) (λ v. joins (value_of_rows (I.list pass.old) v left.now.rows) (value_of_rows (I.list pass.old) v right.now.rows)) out.items) }
+    ensures pairs { IfOk result (λ out. Builds (I.list pass.old) (I.list pass.new) (length left.now.columns + length right.now.columns) (joins (cells_of (I.list pass.old) left.now.rows) (cells_of (I.list pass.old) right.now.rows)) (λ v. joins (value_of_rows (I.list pass.old) v left.now.rows) (value_of_rows (I.list pass.old) v right.now.rows)) (TermOfRows (I.list pass.old) (left.now.rows ++ right.now.rows)) out.items) }
     ensures longer { IsPrefix (I.list pass.old) (I.list pass.new) }
     ensures full { IsErrOf result fault.Full → length (I.list pass.new) ≡ N.log.cap }
+    ensures made { I.made pass.new ≤ I.made pass.old + length left.now.rows * length right.now.rows }
+    ensures fewer { IsErrOf result fault.Full → I.made pass.new < I.made pass.old + length left.now.rows * length right.now.rows }
     ensures kept { I.kept pass.new ≡ I.kept pass.old }
     ensures lent { I.lent pass.new ≡ I.lent pass.old }
 {
+    let _ = pass.words();
     let mut pairs = Vec::new(alloc);
     for row in left.rows.as_slice() {
+        let _ = pass.words();
         let mut more = pair_row(alloc, arena, pass, row, right)?;
         pairs.append(&mut more)?;
     }
@@ -108,8 +117,11 @@ pub fn product<N: Site, I: Interner<N>>(
     ensures rows { IfOk result (λ out. AreRows (I.list pass.new) (length left.now.columns + length right.now.columns) out.rows) }
     ensures tuples { (v : World) → IfOk result (λ out. SameSet (value_of_rows (I.list pass.new) v out.rows) (joins (value_of_rows (I.list pass.old) v left.now.rows) (value_of_rows (I.list pass.old) v right.now.rows))) }
     ensures part { IfOk result (λ out. IsSublist (cells_of (I.list pass.new) out.rows) (joins (cells_of (I.list pass.old) left.now.rows) (cells_of (I.list pass.old) right.now.rows))) }
+    ensures terms { IfOk result (λ out. RowsFrom (I.list pass.new) out.rows (TermOfRows (I.list pass.old) (left.now.rows ++ right.now.rows))) }
     ensures longer { IsPrefix (I.list pass.old) (I.list pass.new) }
     ensures full { IsErrOf result fault.Full → length (I.list pass.new) ≡ N.log.cap }
+    ensures made { I.made pass.new ≤ I.made pass.old + length left.now.rows * length right.now.rows }
+    ensures fewer { IsErrOf result fault.Full → I.made pass.new < I.made pass.old + length left.now.rows * length right.now.rows }
     ensures kept { I.kept pass.new ≡ I.kept pass.old }
     ensures lent { I.lent pass.new ≡ I.lent pass.old }
 {

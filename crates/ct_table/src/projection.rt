@@ -1,6 +1,6 @@
 // Projection to some of the columns.
 
-ghost use Rattle.std.specs.Prelude.{◌≡◌, ◌<◌, [], length, map, slice_index_or, All, IfOk, IsErrOf};
+ghost use Rattle.std.specs.Prelude.{◌≡◌, ◌≤◌, ◌<◌, ◌+◌, [], length, map, slice_index_or, All, IfOk, IsErrOf};
 ghost use mathlib.Core.List.{IsPrefix};
 ghost use Rattle.ct_word.specs.Value.{World, same_cells, cell_at};
 ghost use Rattle.ct_word.specs.Sublist.{IsSublist};
@@ -8,6 +8,7 @@ ghost use Rattle.ct_query.specs.Database.{SameSet};
 ghost use Rattle.ct_query.specs.Patterns.{picked};
 ghost use Rattle.ct_table.specs.Tables.{AreRows, value_of_rows, cells_of, firsts};
 ghost use Rattle.ct_table.specs.Projection.{picked_row};
+ghost use Rattle.ct_table.specs.Terms.{TermOfRows, RowsFrom};
 ghost use Rattle.ct_table.specs.declared.error.TableError.TheVariants as fault;
 
 use crate::error::TableError;
@@ -75,8 +76,11 @@ pub fn project<N: Site, I: Interner<N>>(
     ensures tuples { (v : World) → IfOk result (λ out. SameSet (value_of_rows (I.list pass.new) v out.rows) (map (λ t. map (cell_at t) columns.now) (value_of_rows (I.list pass.old) v table.now.rows))) }
     ensures part { IfOk result (λ out. IsSublist (cells_of (I.list pass.new) out.rows) (map (picked columns.now) (cells_of (I.list pass.old) table.now.rows))) }
     ensures order { IfOk result (λ out. IsSublist (cells_of (I.list pass.new) out.rows) (firsts same_cells (map (picked columns.now) (cells_of (I.list pass.old) table.now.rows)))) }
+    ensures terms { IfOk result (λ out. RowsFrom (I.list pass.new) out.rows (TermOfRows (I.list pass.old) table.now.rows)) }
     ensures longer { IsPrefix (I.list pass.old) (I.list pass.new) }
     ensures full { IsErrOf result fault.Full → length (I.list pass.new) ≡ N.log.cap }
+    ensures made { I.made pass.new ≤ I.made pass.old + length table.now.rows }
+    ensures fewer { IsErrOf result fault.Full → I.made pass.new < I.made pass.old + length table.now.rows }
     ensures kept { I.kept pass.new ≡ I.kept pass.old }
     ensures lent { I.lent pass.new ≡ I.lent pass.old }
 {

@@ -4,6 +4,7 @@ ghost use Rattle.std.specs.Prelude.{◌≡◌, [], length, IfOk, IsTrue};
 ghost use mathlib.Core.List.{IsPrefix};
 ghost use Rattle.ct_word.specs.WellFormed.{is_place_of};
 ghost use Rattle.ct_word.specs.declared.kinds.Class.TheVariants as class;
+ghost use Rattle.ct_word.specs.Stands.{HasNoColumn};
 ghost use Rattle.ct_table.specs.Tables.{IsRow};
 
 use crate::{CRow, CTable, Db, insert, select};
@@ -49,10 +50,12 @@ fn tables_are_found_by_their_names(rt: HostRuntime) -> Result<(), Fail> {
 /// The row of one term, under a condition that folds to true.
 #[tactic(auto, using(ct_word::proofs::Prefixes::place_in_prefix))]
 fn row<N: Site>(alloc: Global, arena: &Arena<N>, pass: &mut Pass<N>, x: u32) -> Result<CRow, Fail>
-    requires { IsTrue (is_place_of pass.old.words class.Term x) }
+    requires term { IsTrue (is_place_of pass.old.words class.Term x) }
+    requires plain { HasNoColumn pass.old.words x }
     ensures row { IfOk result (λ r. IsRow pass.new.words 1 r) }
     ensures longer { IsPrefix pass.old.words pass.new.words }
 {
+    let _ = pass.words();
     let cond = eq(arena, pass, x, x)?;
     let cells = List::from_vec(Vec::from_array(alloc, [x])?);
     Ok(CRow { cells, cond })

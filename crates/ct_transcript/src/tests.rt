@@ -251,6 +251,61 @@ fn a_shared_condition_has_a_name(rt: HostRuntime) -> Result<(), Fail> {
     Ok(())
 }
 
+// How often a condition stands over the one below it, which it names twice.
+const LEVELS: u32 = 60;
+
+// `?x = 1`, `?y = 1` and `?z = 1`, and on them 60 conditions, each over the one before; the last is at position 182.
+fn tower(alloc: Global) -> Result<List<Node>, AllocError> {
+    let mut nodes = Vec::new(alloc);
+    nodes.push(equal(alloc, "x", 1)?)?;
+    nodes.push(equal(alloc, "y", 1)?)?;
+    nodes.push(equal(alloc, "z", 1)?)?;
+    for level in 1..=LEVELS {
+        let below = 3 * level - 1;
+        nodes.push(Node::Or(list(alloc, [0, below])?))?;
+        nodes.push(Node::Or(list(alloc, [1, below])?))?;
+        nodes.push(Node::And(list(alloc, [below + 1, below + 2])?))?;
+    }
+    nodes.push(Node::True)?;
+    Ok(List::from_vec(nodes))
+}
+
+fn tower_text(alloc: Global) -> Result<String, AllocError> {
+    let mut out = String::from_str(
+        alloc,
+        "session 1\n1 rows (a) at 4\n  [1] is (?x = 1 or ?z = 1) and (?y = 1 or ?z = 1)\n",
+    )?;
+    for level in 2..LEVELS {
+        let below = level - 1;
+        let line = format!(in alloc;
+            "  [{level}] is (?x = 1 or [{below}]) and (?y = 1 or [{below}])\n"
+        )?;
+        out.push_str(line.as_str())?;
+    }
+    out.push_str("  (1) if (?x = 1 or [59]) and (?y = 1 or [59])\nhistory\nend\n")?;
+    Ok(out)
+}
+
+#[test]
+fn sixty_conditions_that_share_are_not_unfolded(rt: HostRuntime) -> Result<(), Fail> {
+    let alloc = rt.alloc();
+    let answer = Answer {
+        columns: list(alloc, [text(alloc, "a")?])?,
+        nodes: tower(alloc)?,
+        rows: list(alloc, [row(alloc, [int(1)], 182)?])?,
+        global: 183,
+    };
+    let reply = Reply::Rows {
+        at: 4,
+        plus: 0,
+        answer,
+    };
+    let sessions = [session(alloc, list(alloc, [reply])?)?];
+    let out = written(alloc, &sessions, &[])?;
+    assert_eq!(rt; out.as_str(), tower_text(alloc)?.as_str());
+    Ok(())
+}
+
 // The condition at 2 has one reference, those at 3 and 4 have two.
 fn deep_nodes(alloc: Global) -> Result<List<Node>, AllocError> {
     let fresh = Term::Null(Null::Fresh {

@@ -1,7 +1,8 @@
 // The offer of two rows with a fresh null in each.
 
-ghost use Rattle.std.specs.Prelude.{◌≡◌, ◌∷◌, [], length, All, IfOk};
+ghost use Rattle.std.specs.Prelude.{◌≡◌, ◌≤◌, ◌<◌, ◌^◌, ◌∷◌, [], length, All, IfOk};
 ghost use Rattle.ct_rewrite.specs.History.{plain_commit};
+ghost use Rattle.ct_query.specs.Fits.{FitsCell};
 ghost use Rattle.ct_table.specs.Denotes.{Denotes};
 ghost use Rattle.ct_session.specs.Catalogue.{IsAdmittedEverywhere};
 
@@ -34,7 +35,9 @@ fn created<N: Site>(alloc: Global, arena: &Arena<N>, pass: &mut Pass<N>) -> Resu
 
 /// The row of an integer and the fresh null of session 1 with a number.
 fn row(alloc: Global, int: i64, number: u32) -> Result<List<Term>, AllocError>
-    ensures { IfOk result (λ row. length row ≡ 2) }
+    requires { (1 ≤ number) × (number < 2 ^ 28) }
+    ensures width { IfOk result (λ row. length row ≡ 2) }
+    ensures cells { IfOk result (All FitsCell) }
 {
     let null = Null::Fresh { session: 1, number };
     let terms = [Term::Value(Value::Int(int)), Term::Null(null)];
@@ -42,7 +45,8 @@ fn row(alloc: Global, int: i64, number: u32) -> Result<List<Term>, AllocError>
 }
 
 fn rows(alloc: Global) -> Result<List<List<Term>>, AllocError>
-    ensures { IfOk result (All (λ row. length row ≡ 2)) }
+    ensures widths { IfOk result (All (λ row. length row ≡ 2)) }
+    ensures cells { IfOk result (All (All FitsCell)) }
 {
     let rows = [row(alloc, 10, 1)?, row(alloc, 20, 2)?];
     Ok(List::from_vec(Vec::from_array(alloc, rows)?))

@@ -8,9 +8,11 @@ use Rattle.ct_query.specs.Fits.{Fits, columns_in}
 use Rattle.ct_table.specs.Denotes.{heading_of, find_table}
 use Rattle.ct_table.specs.Shared.{view_of}
 use Rattle.ct_algebra.specs.Evaluates.{Evaluates}
+use Rattle.ct_algebra.specs.Words.{most_words, GrowsWithin}
 use Rattle.ct_algebra.proofs.Growing.{tables_grow, answer_grows, answer_before}
 use Rattle.ct_algebra.proofs.Found.{got_some}
 use Rattle.ct_algebra.proofs.Operators.{table_answers, select_answers, project_answers, product_answers, union_answers, except_answers, intersect_answers}
+use Rattle.ct_algebra.proofs.Appending.{select_within, project_within, product_within, union_within, except_within, intersect_within}
 use Rattle.ct_algebra.proofs.Parts.{count_parts}
 use Rattle.ct_algebra.proofs.answering.+answer.Goals as goal
 
@@ -52,7 +54,7 @@ answer-returns-in_ok-table-in-Select-clause-evaluates g t c =
     subst (λ q. IfOk c.select.result (Evaluates old new c.args.db.now q)) is
     (select_answers old c.answer.new.pass.words new c.args.db.now (query_of c.deref.result.now)
     c.in_ok-table-in-Select.table c.in_ok-table-in-Select.ensures.evaluates (condition_of c.in-Select.p) c.select.result
-    c.select.ensures.columns c.select.ensures.rows c.select.ensures.tuples c.select.ensures.part)
+    c.select.ensures.columns c.select.ensures.rows c.select.ensures.tuples c.select.ensures.part c.select.ensures.terms)
 
 pub answer-answer-requires-in-Project : goal.answer-answer-requires-in-Project
 answer-answer-requires-in-Project g t c κs within =
@@ -74,7 +76,7 @@ answer-returns-in_ok-table-in-Project-clause-evaluates g t c =
     subst (λ q. IfOk c.project.result (Evaluates old new c.args.db.now q)) is
     (project_answers old c.answer-in-Project.new.pass.words new c.args.db.now (query_of c.deref-in-Project.result.now)
     c.in_ok-table-in-Project.table c.in_ok-table-in-Project.ensures.evaluates c.as_slice.result.now c.project.result
-    c.project.ensures.columns c.project.ensures.rows c.project.ensures.tuples c.project.ensures.part)
+    c.project.ensures.columns c.project.ensures.rows c.project.ensures.tuples c.project.ensures.part c.project.ensures.terms)
 
 pub answer-sides-requires : goal.answer-sides-requires
 answer-sides-requires g t c κs within =
@@ -98,7 +100,7 @@ answer-returns-in_ok-left-in-Product-clause-evaluates g t c =
     subst (λ q. IfOk c.product.result (Evaluates old new c.args.db.now q)) is
     (product_answers old c.sides.new.pass.words new c.args.db.now (query_of c.deref-in-Product.result.now) (query_of c.deref-in-Product-2.result.now)
     c.in_ok-left-in-Product.left c.in_ok-left-in-Product.right c.in_ok-left-in-Product.ensures.left c.in_ok-left-in-Product.ensures.right
-    c.product.result c.product.ensures.columns c.product.ensures.rows c.product.ensures.tuples c.product.ensures.part)
+    c.product.result c.product.ensures.columns c.product.ensures.rows c.product.ensures.tuples c.product.ensures.part c.product.ensures.terms)
 
 pub answer-sides-requires-in-Union : goal.answer-sides-requires-in-Union
 answer-sides-requires-in-Union g t c κs within =
@@ -122,7 +124,7 @@ answer-returns-in_ok-left-in-Union-clause-evaluates g t c =
     subst (λ q. IfOk c.union.result (Evaluates old new c.args.db.now q)) is
     (union_answers old c.sides-in-Union.new.pass.words new c.args.db.now (query_of c.deref-in-Union.result.now) (query_of c.deref-in-Union-2.result.now)
     c.in_ok-left-in-Union.left c.in_ok-left-in-Union.right c.in_ok-left-in-Union.ensures.left c.in_ok-left-in-Union.ensures.right
-    c.union.result c.union.ensures.columns c.union.ensures.rows c.union.ensures.tuples c.union.ensures.part)
+    c.union.result c.union.ensures.columns c.union.ensures.rows c.union.ensures.tuples c.union.ensures.part c.union.ensures.terms)
 
 pub answer-sides-requires-in-Except : goal.answer-sides-requires-in-Except
 answer-sides-requires-in-Except g t c κs within =
@@ -146,7 +148,7 @@ answer-returns-in_ok-left-in-Except-clause-evaluates g t c =
     subst (λ q. IfOk c.except.result (Evaluates old new c.args.db.now q)) is
     (except_answers old c.sides-in-Except.new.pass.words new c.args.db.now (query_of c.deref-in-Except.result.now) (query_of c.deref-in-Except-2.result.now)
     c.in_ok-left-in-Except.left c.in_ok-left-in-Except.right c.in_ok-left-in-Except.ensures.left c.in_ok-left-in-Except.ensures.right
-    c.except.result c.except.ensures.columns c.except.ensures.rows c.except.ensures.tuples c.except.ensures.part)
+    c.except.result c.except.ensures.columns c.except.ensures.rows c.except.ensures.tuples c.except.ensures.part c.except.ensures.terms)
 
 pub answer-sides-requires-in-Intersect : goal.answer-sides-requires-in-Intersect
 answer-sides-requires-in-Intersect g t c κs within =
@@ -170,19 +172,101 @@ answer-returns-in_ok-left-in-Intersect-clause-evaluates g t c =
     subst (λ q. IfOk c.intersect.result (Evaluates old new c.args.db.now q)) is
     (intersect_answers old c.sides-in-Intersect.new.pass.words new c.args.db.now (query_of c.deref-in-Intersect.result.now) (query_of c.deref-in-Intersect-2.result.now)
     c.in_ok-left-in-Intersect.left c.in_ok-left-in-Intersect.right c.in_ok-left-in-Intersect.ensures.left c.in_ok-left-in-Intersect.ensures.right
-    c.intersect.result c.intersect.ensures.columns c.intersect.ensures.rows c.intersect.ensures.tuples c.intersect.ensures.part)
+    c.intersect.result c.intersect.ensures.columns c.intersect.ensures.rows c.intersect.ensures.tuples c.intersect.ensures.part c.intersect.ensures.terms)
 
 pub sides-answer-requires : goal.sides-answer-requires
 sides-answer-requires g t c κs within = (omega (arith, c.decreases), (within, (c.requires.tables, c.requires.left)))
 
 pub sides-answer-requires-2 : goal.sides-answer-requires-2
 sides-answer-requires-2 g t c κs within =
-    (omega (arith, c.decreases), (within, (tables_grow c.args.pass.now.words c.answer.new.pass.words c.answer.ensures.longer c.args.db.now c.requires.tables, c.requires.right)))
+    (omega (arith, c.decreases), (within, (tables_grow c.args.pass.now.words c.answer.new.pass.words c.answer.ensures.longer c.words.ensures.formed c.args.db.now c.requires.tables, c.requires.right)))
 
 pub sides-returns-clause-left : goal.sides-returns-clause-left
 sides-returns-clause-left g t c =
-    answer_grows c.args.pass.now.words c.answer.new.pass.words c.answer-2.new.pass.words c.args.db.now (query_of c.args.left.now) c.in_ok-one.one c.answer-2.ensures.longer c.in_ok-one.ensures.evaluates
+    answer_grows c.args.pass.now.words c.answer.new.pass.words c.answer-2.new.pass.words c.args.db.now (query_of c.args.left.now) c.in_ok-one.one c.answer-2.ensures.longer c.words-2.ensures.formed c.in_ok-one.ensures.evaluates
 
 pub sides-returns-clause-right : goal.sides-returns-clause-right
 sides-returns-clause-right g t c =
-    answer_before c.args.pass.now.words c.answer.new.pass.words c.answer-2.new.pass.words c.args.db.now (query_of c.args.right.now) c.in_ok-other.other c.answer.ensures.longer c.requires.tables c.in_ok-other.ensures.evaluates
+    answer_before c.args.pass.now.words c.answer.new.pass.words c.answer-2.new.pass.words c.args.db.now (query_of c.args.right.now) c.in_ok-other.other c.answer.ensures.longer c.words.ensures.formed c.requires.tables c.in_ok-other.ensures.evaluates
+
+pub answer-returns-in_ok-table-in-Select-clause-made : goal.answer-returns-in_ok-table-in-Select-clause-made
+answer-returns-in_ok-table-in-Select-clause-made g t c =
+    let p : c.deref.result.now ≡ c.in-Select.inner.value = c.deref.ensures in
+    let is : Select (condition_of c.in-Select.p) (query_of c.deref.result.now) ≡ query_of c.args.query.now =
+    ap (λ x. Select (condition_of c.in-Select.p) (query_of x)) p ∙ sym (ap query_of c.in-Select.is) in
+    let old = c.args.pass.now.made in
+    let mid = c.answer.new.pass.made in
+    let new = c.select.new.pass.made in
+    let grown = c.in_ok-table-in-Select.ensures.made in
+    subst (λ q. GrowsWithin c.select.result old new (most_words c.args.db.now q)) is
+    (select_within c.args.pass.now.words c.answer.new.pass.words c.args.db.now (query_of c.deref.result.now) c.in_ok-table-in-Select.table
+    c.in_ok-table-in-Select.ensures.evaluates old mid new grown.made c.select.result (condition_of c.in-Select.p) c.select.ensures.made c.select.ensures.fewer)
+
+pub answer-returns-in_ok-table-in-Project-clause-made : goal.answer-returns-in_ok-table-in-Project-clause-made
+answer-returns-in_ok-table-in-Project-clause-made g t c =
+    let p : c.deref-in-Project.result.now ≡ c.in-Project.inner.value = c.deref-in-Project.ensures in
+    let is : Project c.in-Project.columns (query_of c.deref-in-Project.result.now) ≡ query_of c.args.query.now =
+    ap (λ x. Project c.in-Project.columns (query_of x)) p ∙ sym (ap query_of c.in-Project.is) in
+    let old = c.args.pass.now.made in
+    let mid = c.answer-in-Project.new.pass.made in
+    let new = c.project.new.pass.made in
+    let grown = c.in_ok-table-in-Project.ensures.made in
+    subst (λ q. GrowsWithin c.project.result old new (most_words c.args.db.now q)) is
+    (project_within c.args.pass.now.words c.answer-in-Project.new.pass.words c.args.db.now (query_of c.deref-in-Project.result.now) c.in_ok-table-in-Project.table
+    c.in_ok-table-in-Project.ensures.evaluates old mid new grown.made c.project.result c.in-Project.columns c.project.ensures.made c.project.ensures.fewer)
+
+pub answer-returns-in_ok-left-in-Product-clause-made : goal.answer-returns-in_ok-left-in-Product-clause-made
+answer-returns-in_ok-left-in-Product-clause-made g t c =
+    let p : c.deref-in-Product.result.now ≡ c.in-Product.left.value = c.deref-in-Product.ensures in
+    let r : c.deref-in-Product-2.result.now ≡ c.in-Product.right.value = c.deref-in-Product-2.ensures in
+    let is : Product (query_of c.deref-in-Product.result.now) (query_of c.deref-in-Product-2.result.now) ≡ query_of c.args.query.now =
+    (λ i. Product (query_of (p i)) (query_of (r i))) ∙ sym (ap query_of c.in-Product.is) in
+    let old = c.args.pass.now.made in
+    let mid = c.sides.new.pass.made in
+    let new = c.product.new.pass.made in
+    let parts = c.in_ok-left-in-Product.ensures in
+    subst (λ q. GrowsWithin c.product.result old new (most_words c.args.db.now q)) is
+    (product_within c.args.pass.now.words c.sides.new.pass.words c.args.db.now (query_of c.deref-in-Product.result.now) (query_of c.deref-in-Product-2.result.now)
+    c.in_ok-left-in-Product.left c.in_ok-left-in-Product.right parts.left parts.right old mid new parts.made.made c.product.result c.product.ensures.made c.product.ensures.fewer)
+
+pub answer-returns-in_ok-left-in-Union-clause-made : goal.answer-returns-in_ok-left-in-Union-clause-made
+answer-returns-in_ok-left-in-Union-clause-made g t c =
+    let p : c.deref-in-Union.result.now ≡ c.in-Union.left.value = c.deref-in-Union.ensures in
+    let r : c.deref-in-Union-2.result.now ≡ c.in-Union.right.value = c.deref-in-Union-2.ensures in
+    let is : Union (query_of c.deref-in-Union.result.now) (query_of c.deref-in-Union-2.result.now) ≡ query_of c.args.query.now =
+    (λ i. Union (query_of (p i)) (query_of (r i))) ∙ sym (ap query_of c.in-Union.is) in
+    let old = c.args.pass.now.made in
+    let mid = c.sides-in-Union.new.pass.made in
+    let new = c.union.new.pass.made in
+    let parts = c.in_ok-left-in-Union.ensures in
+    subst (λ q. GrowsWithin c.union.result old new (most_words c.args.db.now q)) is
+    (union_within c.args.pass.now.words c.sides-in-Union.new.pass.words c.args.db.now (query_of c.deref-in-Union.result.now) (query_of c.deref-in-Union-2.result.now)
+    c.in_ok-left-in-Union.left c.in_ok-left-in-Union.right parts.left parts.right old mid new parts.made.made c.union.result c.union.ensures.made c.union.ensures.fewer)
+
+pub answer-returns-in_ok-left-in-Except-clause-made : goal.answer-returns-in_ok-left-in-Except-clause-made
+answer-returns-in_ok-left-in-Except-clause-made g t c =
+    let p : c.deref-in-Except.result.now ≡ c.in-Except.left.value = c.deref-in-Except.ensures in
+    let r : c.deref-in-Except-2.result.now ≡ c.in-Except.right.value = c.deref-in-Except-2.ensures in
+    let is : Except (query_of c.deref-in-Except.result.now) (query_of c.deref-in-Except-2.result.now) ≡ query_of c.args.query.now =
+    (λ i. Except (query_of (p i)) (query_of (r i))) ∙ sym (ap query_of c.in-Except.is) in
+    let old = c.args.pass.now.made in
+    let mid = c.sides-in-Except.new.pass.made in
+    let new = c.except.new.pass.made in
+    let parts = c.in_ok-left-in-Except.ensures in
+    subst (λ q. GrowsWithin c.except.result old new (most_words c.args.db.now q)) is
+    (except_within c.args.pass.now.words c.sides-in-Except.new.pass.words c.args.db.now (query_of c.deref-in-Except.result.now) (query_of c.deref-in-Except-2.result.now)
+    c.in_ok-left-in-Except.left c.in_ok-left-in-Except.right parts.left parts.right old mid new parts.made.made c.except.result c.except.ensures.made c.except.ensures.fewer)
+
+pub answer-returns-in_ok-left-in-Intersect-clause-made : goal.answer-returns-in_ok-left-in-Intersect-clause-made
+answer-returns-in_ok-left-in-Intersect-clause-made g t c =
+    let p : c.deref-in-Intersect.result.now ≡ c.in-Intersect.left.value = c.deref-in-Intersect.ensures in
+    let r : c.deref-in-Intersect-2.result.now ≡ c.in-Intersect.right.value = c.deref-in-Intersect-2.ensures in
+    let is : Intersect (query_of c.deref-in-Intersect.result.now) (query_of c.deref-in-Intersect-2.result.now) ≡ query_of c.args.query.now =
+    (λ i. Intersect (query_of (p i)) (query_of (r i))) ∙ sym (ap query_of c.in-Intersect.is) in
+    let old = c.args.pass.now.made in
+    let mid = c.sides-in-Intersect.new.pass.made in
+    let new = c.intersect.new.pass.made in
+    let parts = c.in_ok-left-in-Intersect.ensures in
+    subst (λ q. GrowsWithin c.intersect.result old new (most_words c.args.db.now q)) is
+    (intersect_within c.args.pass.now.words c.sides-in-Intersect.new.pass.words c.args.db.now (query_of c.deref-in-Intersect.result.now) (query_of c.deref-in-Intersect-2.result.now)
+    c.in_ok-left-in-Intersect.left c.in_ok-left-in-Intersect.right parts.left parts.right old mid new parts.made.made c.intersect.result c.intersect.ensures.made c.intersect.ensures.fewer)

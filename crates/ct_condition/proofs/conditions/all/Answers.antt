@@ -1,12 +1,14 @@
-use Rattle.std.proofs.Common.{◌∙◌, arith, get_or}
+use Rattle.std.proofs.Common.{◌∙◌, true, arith, get_or, refl, subst, inl}
 use Rattle.std.specs.Prelude.{IsTrue}
 use Rattle.std.proofs.lemmas.List.Elements.{All-get_or}
 use Rattle.ct_word.specs.declared.kinds.Class.TheVariants as class
 use Rattle.ct_word.specs.WellFormed.{is_place_of}
 use Rattle.ct_word.proofs.Prefixes.{prefix_same, prefix_of_prefix}
-use Rattle.ct_condition.specs.Truth.{truth_at}
+use Rattle.ct_condition.specs.Truth.{HasTruth, truth_at}
 use Rattle.ct_condition.proofs.Truths.{itself}
 use Rattle.ct_condition.proofs.Runs.{truth_in_prefix, all_more}
+use Rattle.ct_condition.proofs.Denied.{below_literal}
+use Rattle.ct_condition.proofs.Reached.{all_below}
 use Rattle.ct_condition.proofs.conditions.all.Goals as goal
 
 pub loop-c-preserved : goal.loop-c-preserved
@@ -21,8 +23,23 @@ loop-c-preserved g c =
           all_more (truth_at first) c.args.list.now c.loop-c.c-index 0 c.loop-c-test.true old old new c.loop-c.place item c.in_ok-place.place (prefix_same old)
           (truth_in_prefix first old item (truth_at first item) c.loop-c.invariant.longer (itself first item c.words.ensures.small place))
           c.loop-c.invariant.truth c.in_ok-place.ensures.truth;
+      terms =
+          all_below first old new c.loop-c.invariant.longer c.loop-c.invariant.formed c.args.list.now c.loop-c.c-index 0 c.loop-c-test.true c.requires c.loop-c.place c.in_ok-place.place
+          c.loop-c.invariant.terms c.in_ok-place.ensures.terms;
+      formed = c.in_ok-place.ensures.formed;
       longer = prefix_of_prefix first old new c.loop-c.invariant.longer c.in_ok-place.ensures.longer;
       made = omega arith;
       kept = c.in_ok-place.ensures.kept ∙ c.loop-c.invariant.kept;
       lent = c.in_ok-place.ensures.lent ∙ c.loop-c.invariant.lent;
     }
+
+pub loop-c-init : goal.loop-c-init
+loop-c-init g c = record {
+  truth = subst (λ ws. HasTruth ws c.literal-place.result (λ v r. true)) c.words.ensures.words c.literal-place.ensures.truth;
+  terms = λ t h. absurd (below_literal (g.I.Interner.list c.args.pass.now) c.words.ensures.formed c.words.ensures.begins c.literal-place.result (inl c.literal-place.ensures.place) t h);
+  formed = c.words.ensures.formed;
+  longer = prefix_same (g.I.Interner.list c.args.pass.now);
+  made = omega arith;
+  kept = refl;
+  lent = refl;
+}

@@ -4,6 +4,7 @@ use Rattle.std.proofs.lemmas.Option.{slice_get_within}
 use Rattle.ct_word.specs.WellFormed.{is_plain_word}
 use Rattle.ct_word.proofs.Commits.{packed_plain}
 use Rattle.ct_word.proofs.Stands.{stands_for_packed, class_of_packed}
+use Rattle.ct_condition.proofs.Reached.{under_word}
 use Rattle.ct_condition.proofs.packed.put.Goals as goal
 
 pub intern-requires : goal.intern-requires
@@ -25,3 +26,8 @@ pub returns-clause-small : goal.returns-clause-small
 returns-clause-small g c =
     let lt = slice_get_within (g.I.Interner.list c.intern.new.self) c.in_ok-place.place _ c.in_ok-place.ensures.stands in
     omega (arith, lt, c.in_ok-place.ensures.room, c.args.arena.now.most)
+
+pub returns-clause-terms : goal.returns-clause-terms
+returns-clause-terms g c =
+    under_word (g.I.Interner.list c.intern.new.self) c.in_ok-place.place c.args.kind c.args.a c.args.b c.requires.left c.requires.right
+    (c.in_ok-place.ensures.stands ∙ ap (λ w. Some w) c.pack.ensures.word)

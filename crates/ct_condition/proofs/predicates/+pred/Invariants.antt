@@ -2,17 +2,21 @@ use Rattle.std.proofs.Common.{◌≡◌, ◌≤◌, ◌+◌, ◌*◌, take}
 use Rattle.std.specs.List.{list_all, list_any}
 use mathlib.Core.List.{IsPrefix}
 use Rattle.ct_query.specs.Pred.{condition_of}
-use Rattle.ct_condition.specs.Truth.{HasTruth}
+use Rattle.ct_condition.specs.Truth.{HasTruth, ops_at}
 use Rattle.ct_condition.specs.Rows.{on_row}
-use Rattle.ct_condition.specs.Runs.{run_words}
+use Rattle.ct_condition.specs.Runs.{run_words, run_new_words, run_ops}
 use Rattle.ct_condition.proofs.Depth.{parts_of, parts_of_all}
+use Rattle.ct_condition.specs.Terms.{TermsFrom, IsOnRowOfSome}
 use Rattle.ct_condition.proofs.predicates.+pred.Given as goal
 
 abbrev pub invariant-every-loop-p : goal.invariant-every-loop-p
 invariant-every-loop-p g l = record {
   truth : HasTruth (g.I.Interner.list l.pass) l.place (λ v r. list_all (λ p. on_row (g.I.Interner.list l.fn.pass) (condition_of p) l.row v r) (take l.p-index l.list));
+  terms : TermsFrom (g.I.Interner.list l.pass) l.place (IsOnRowOfSome (g.I.Interner.list l.fn.pass) l.row l.list);
+  ops : ops_at (g.I.Interner.list l.pass) l.place ≤ run_ops (take l.p-index l.list);
   longer : IsPrefix (g.I.Interner.list l.fn.pass) (g.I.Interner.list l.pass);
-  made : g.I.Interner.made l.pass ≤ g.I.Interner.made l.fn.pass + run_words l.row (take l.p-index l.list);
+  made : g.I.Interner.made l.pass ≤ g.I.Interner.made l.fn.pass + run_words (g.I.Interner.list l.fn.pass) l.row (take l.p-index l.list);
+  placed : run_new_words (g.I.Interner.list l.pass) l.row (take l.p-index l.list) ≡ 0;
   first : l.p-index ≡ 0 → l.place ≡ 0;
   kept : g.I.Interner.kept l.pass ≡ g.I.Interner.kept l.fn.pass;
   lent : g.I.Interner.lent l.pass ≡ g.I.Interner.lent l.fn.pass;
@@ -21,8 +25,11 @@ invariant-every-loop-p g l = record {
 abbrev pub invariant-some-loop-p : goal.invariant-some-loop-p
 invariant-some-loop-p g l = record {
   truth : HasTruth (g.I.Interner.list l.pass) l.place (λ v r. list_any (λ p. on_row (g.I.Interner.list l.fn.pass) (condition_of p) l.row v r) (take l.p-index l.list));
+  terms : TermsFrom (g.I.Interner.list l.pass) l.place (IsOnRowOfSome (g.I.Interner.list l.fn.pass) l.row l.list);
+  ops : ops_at (g.I.Interner.list l.pass) l.place ≤ run_ops (take l.p-index l.list);
   longer : IsPrefix (g.I.Interner.list l.fn.pass) (g.I.Interner.list l.pass);
-  made : g.I.Interner.made l.pass ≤ g.I.Interner.made l.fn.pass + run_words l.row (take l.p-index l.list);
+  made : g.I.Interner.made l.pass ≤ g.I.Interner.made l.fn.pass + run_words (g.I.Interner.list l.fn.pass) l.row (take l.p-index l.list);
+  placed : run_new_words (g.I.Interner.list l.pass) l.row (take l.p-index l.list) ≡ 0;
   first : l.p-index ≡ 0 → l.place ≡ 1;
   kept : g.I.Interner.kept l.pass ≡ g.I.Interner.kept l.fn.pass;
   lent : g.I.Interner.lent l.pass ≡ g.I.Interner.lent l.fn.pass;

@@ -1,10 +1,13 @@
-use Rattle.std.proofs.Common.{sym}
+use Rattle.std.proofs.Common.{◌≡◌, sym, arith}
 use Rattle.std.proofs.lemmas.Result.{IfOk-weaker}
 use Rattle.ct_word.specs.Reading.{IsTerm}
 use Rattle.ct_word.specs.Stands.{StandsAt}
-use Rattle.ct_condition.specs.Rows.{WorthOn}
+use Rattle.ct_condition.specs.Rows.{WorthOn, term_words}
 use Rattle.ct_condition.proofs.OnRows.{cell_worth, cell_place, term_worth}
+use Rattle.ct_condition.proofs.Placed.{cell_zero, placed_zero, place_from, term_made, term_less}
 use Rattle.ct_condition.proofs.Pasts.{past_fits}
+use Rattle.ct_condition.specs.Terms.{TermsFrom, IsTermOnRow}
+use Rattle.ct_condition.proofs.Named.{cell_terms, own_terms}
 use Rattle.ct_condition.proofs.predicates.place_on.Goals as goal
 
 pub returns-in-Some-clause-worth : goal.returns-in-Some-clause-worth
@@ -22,3 +25,36 @@ returns-in-None-clause-worth g c =
 
 pub term-requires : goal.term-requires
 term-requires g c = record { fields = past_fits c.args.row.now c.args.t.now (sym c.in-None.ensures) c.requires.fields }
+
+pub returns-in-Some-clause-terms : goal.returns-in-Some-clause-terms
+returns-in-Some-clause-terms g c = cell_terms (g.I.Interner.list c.args.pass.now) c.args.row.now c.args.t.now c.in-Some.place (sym c.in-Some.ensures)
+
+pub returns-in-None-clause-terms : goal.returns-in-None-clause-terms
+returns-in-None-clause-terms g c =
+    let old = g.I.Interner.list c.args.pass.now in
+    let new = g.I.Interner.list c.term.new.pass in
+    IfOk-weaker c.term.result (λ place. TermsFrom new place (λ t. t ≡ c.args.t.now)) (λ place. TermsFrom new place (IsTermOnRow old c.args.row.now c.args.t.now))
+    (λ place from. own_terms old new c.args.row.now c.args.t.now place (sym c.in-None.ensures) from) c.term.ensures.terms
+
+pub returns-in-Some-clause-made : goal.returns-in-Some-clause-made
+returns-in-Some-clause-made g c = omega arith
+
+pub returns-in-Some-clause-placed : goal.returns-in-Some-clause-placed
+returns-in-Some-clause-placed g c = cell_zero (g.I.Interner.list c.args.pass.now) c.args.row.now c.args.t.now c.in-Some.place (sym c.in-Some.ensures)
+
+pub returns-in-None-clause-made : goal.returns-in-None-clause-made
+returns-in-None-clause-made g c =
+    term_made (g.I.Interner.made c.args.pass.now) (g.I.Interner.made c.term.new.pass) (g.I.Interner.list c.args.pass.now) c.args.row.now c.args.t.now (sym c.in-None.ensures)
+    (λ e. (c.term.ensures.known e).2) c.term.ensures.made
+
+pub returns-in-None-clause-err : goal.returns-in-None-clause-err
+returns-in-None-clause-err g c =
+    term_less (g.I.Interner.made c.args.pass.now) (g.I.Interner.made c.term.new.pass) (g.I.Interner.list c.args.pass.now) c.args.row.now c.args.t.now c.term.result (sym c.in-None.ensures)
+    (λ e. (c.term.ensures.known e).0) c.term.ensures.err
+
+pub returns-in-None-clause-placed : goal.returns-in-None-clause-placed
+returns-in-None-clause-placed g c =
+    let new = g.I.Interner.list c.term.new.pass in
+    let t = c.args.t.now in
+    IfOk-weaker c.term.result (λ place. StandsAt new place (IsTerm t)) (λ place. term_words new c.args.row.now t ≡ 0)
+    (λ place stands. placed_zero new c.args.row.now t (place_from new place t stands)) c.term.ensures.stands

@@ -1,8 +1,15 @@
-use Rattle.std.proofs.lemmas.Result.{IfOk-weaker}
+use Rattle.std.proofs.lemmas.Result.{IfOk-weaker, on_err_weaker, err_from_is_err_and}
+use Rattle.std.proofs.Common.{◌≡◌, arith}
+use Rattle.ct_word.proofs.Prefixes.{prefix_of_prefix, place_in_prefix, place_within}
+use Rattle.ct_condition.proofs.Placed.{term_fewer, on_ok}
 use Rattle.ct_word.specs.Condition.{Same}
 use Rattle.ct_condition.specs.Truth.{HasTruth, equal_at}
 use Rattle.ct_condition.specs.Rows.{on_row}
 use Rattle.ct_condition.proofs.OnRows.{equal_on_row}
+use Rattle.ct_word.specs.declared.kinds.Class.TheVariants as class
+use Rattle.ct_condition.specs.Terms.{TermsFrom, BelowEither, IsOnRow}
+use Rattle.ct_condition.proofs.Reached.{formed_before}
+use Rattle.ct_condition.proofs.Named.{equal_terms}
 use Rattle.ct_condition.proofs.predicates.same.Goals as goal
 
 pub returns-clause-truth : goal.returns-clause-truth
@@ -16,3 +23,50 @@ returns-clause-truth g c =
     IfOk-weaker c.eq.result (λ place. HasTruth new place (equal_at last left right)) (λ place. HasTruth new place (on_row first (Same c.args.s.now c.args.t.now) c.args.row.now))
     (λ place h. equal_on_row first mid last new c.args.row.now c.args.s.now c.args.t.now left right place c.in_ok-left.ensures.longer c.in_ok-right.ensures.longer c.requires.row
     c.in_ok-left.ensures.worth c.in_ok-left.ensures.place c.in_ok-right.ensures.worth h) c.eq.ensures.truth
+
+pub returns-clause-terms : goal.returns-clause-terms
+returns-clause-terms g c =
+    let first = g.I.Interner.list c.args.pass.now in
+    let mid = g.I.Interner.list c.place_on.new.pass in
+    let last = g.I.Interner.list c.place_on-2.new.pass in
+    let new = g.I.Interner.list c.eq.new.pass in
+    let left = c.in_ok-left.left in
+    let right = c.in_ok-right.right in
+    IfOk-weaker c.eq.result (λ place. TermsFrom new place (BelowEither last left right)) (λ place. TermsFrom new place (IsOnRow first c.args.row.now (Same c.args.s.now c.args.t.now)))
+    (λ place from. equal_terms first mid last new c.args.row.now c.in_ok-left.ensures.longer c.in_ok-right.ensures.longer (formed_before last new c.eq.ensures.longer c.eq.ensures.formed)
+    c.requires.row c.args.s.now c.args.t.now left right place (place_within mid class.Term left c.in_ok-left.ensures.place) c.in_ok-left.ensures.terms c.in_ok-right.ensures.terms from) c.eq.ensures.terms
+
+pub eq-requires-clause-left : goal.eq-requires-clause-left
+eq-requires-clause-left g c =
+    place_in_prefix (g.I.Interner.list c.place_on.new.pass) (g.I.Interner.list c.place_on-2.new.pass) class.Term c.in_ok-left.left c.in_ok-right.ensures.longer c.in_ok-left.ensures.place
+
+pub returns-clause-made : goal.returns-clause-made
+returns-clause-made g c =
+    let later = term_fewer (g.I.Interner.list c.args.pass.now) (g.I.Interner.list c.place_on.new.pass) c.args.row.now c.in_ok-left.ensures.longer c.args.t.now in
+    omega (arith, later, c.in_ok-left.ensures.made, c.in_ok-right.ensures.made, c.eq.ensures.made)
+
+pub returns-clause-err : goal.returns-clause-err
+returns-clause-err g c =
+    let later = term_fewer (g.I.Interner.list c.args.pass.now) (g.I.Interner.list c.place_on.new.pass) c.args.row.now c.in_ok-left.ensures.longer c.args.t.now in
+    on_err_weaker c.eq.result (λ (same : g.I.Interner.made c.eq.new.pass ≡ g.I.Interner.made c.place_on-2.new.pass). omega (arith, later, same, c.in_ok-left.ensures.made, c.in_ok-right.ensures.made)) c.eq.ensures.err
+
+pub returns-in_err-right-clause-made : goal.returns-in_err-right-clause-made
+returns-in_err-right-clause-made g c =
+    let later = term_fewer (g.I.Interner.list c.args.pass.now) (g.I.Interner.list c.place_on.new.pass) c.args.row.now c.in_ok-left.ensures.longer c.args.t.now in
+    omega (arith, later, c.in_ok-left.ensures.made, c.in_err-right.ensures.made)
+
+pub returns-in_err-right-clause-err : goal.returns-in_err-right-clause-err
+returns-in_err-right-clause-err g c =
+    let later = term_fewer (g.I.Interner.list c.args.pass.now) (g.I.Interner.list c.place_on.new.pass) c.args.row.now c.in_ok-left.ensures.longer c.args.t.now in
+    let is = err_from_is_err_and c.from_residual-in_err-right.result c.from_residual-in_err-right.ensures.1 in
+    rw is.1 (omega (arith, later, c.in_ok-left.ensures.made, c.in_err-right.ensures.err))
+
+pub returns-clause-placed : goal.returns-clause-placed
+returns-clause-placed g c =
+    let mid = g.I.Interner.list c.place_on.new.pass in
+    let last = g.I.Interner.list c.place_on-2.new.pass in
+    let new = g.I.Interner.list c.eq.new.pass in
+    let cells = c.args.row.now in
+    let left = term_fewer mid new cells (prefix_of_prefix mid last new c.in_ok-right.ensures.longer c.eq.ensures.longer) c.args.s.now in
+    let right = term_fewer last new cells c.eq.ensures.longer c.args.t.now in
+    on_ok c.eq.result (omega (arith, left, right, c.in_ok-left.ensures.placed, c.in_ok-right.ensures.placed))

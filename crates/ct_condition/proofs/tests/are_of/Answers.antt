@@ -1,6 +1,5 @@
-use Rattle.std.proofs.Common.{◌∙◌, ap, sym, arith, not, take_all}
+use Rattle.std.proofs.Common.{◌∙◌, sym, take_all}
 use Rattle.std.specs.Prelude.{IsTrue}
-use Rattle.std.proofs.lemmas.Bool.{not-false}
 use Rattle.std.proofs.lemmas.List.Elements.{All-more, All-same}
 use Rattle.ct_word.specs.WellFormed.{is_place_of}
 use Rattle.ct_condition.proofs.tests.are_of.Goals as goal

@@ -1,5 +1,9 @@
-use Rattle.std.proofs.Common.{◌++◌, [], ◌∷◌, ap, sym, ◌∙◌, Some, arith}
-use Rattle.std.specs.Prelude.{encode_utf8, encode_utf8_all}
+use Rattle.std.proofs.Common.{◌++◌, [], ◌∷◌, ap, sym, ◌∙◌, subst, Some, arith}
+use Rattle.std.specs.Prelude.{encode_utf8, encode_utf8_all, Contains}
+use Rattle.std.proofs.lemmas.Bool.{false≢true}
+use Rattle.ct_word.specs.declared.kinds.Kind.TheVariants as kind
+use Rattle.ct_word.specs.Word.{word_of}
+use Rattle.ct_condition.proofs.Chains.{ends_there, next_there}
 use Rattle.std.proofs.lemmas.Str.{encodes-append}
 use Rattle.std.proofs.lemmas.List.{append-nil, length-append}
 use Rattle.ct_word.specs.declared.kinds.Class.TheVariants as class
@@ -9,7 +13,29 @@ use Rattle.ct_word.proofs.Prefixes.{stands_in_prefix, prefix_of_prefix}
 use Rattle.ct_word.proofs.Growth.{place_within}
 use Rattle.std.proofs.lemmas.Result.{err_from_is_err_and}
 use Rattle.ct_condition.proofs.Characters.{spelled_more, spelled_before, spelled_so_far}
+use Rattle.ct_condition.proofs.Reached.{formed_before, none_under, under_none, under_one, terms_before}
 use Rattle.ct_condition.proofs.texts.text.Goals as goal
+
+pub loop-character-init : goal.loop-character-init
+loop-character-init g c = record {
+  stands = c.in_ok-place.ensures.stands;
+  class = c.in_ok-place.ensures.place;
+  small = c.in_ok-place.ensures.small;
+  terms =
+      none_under (g.I.Interner.list c.put.new.pass) class.Text c.in_ok-place.place kind.TextEnd 0 0 c.in_ok-place.ensures.place (λ e. cc)
+      (under_none (g.I.Interner.list c.put.new.pass)) c.in_ok-place.ensures.terms;
+  longer = c.in_ok-place.ensures.longer;
+  formed = c.in_ok-place.ensures.formed;
+  spelled = ap (λ s. s.rest.now) c.into_iter-character-iterator.ensures.into_iter_gives ∙ c.chars-character-items.ensures.rest;
+  known = λ p is.
+      let old = g.I.Interner.list c.args.pass.now in
+      let wf = formed_before old (g.I.Interner.list c.put.new.pass) c.in_ok-place.ensures.longer c.in_ok-place.ensures.formed in
+      let after = c.in_ok-place.ensures.known (ends_there old wf p c.args.text.now is) in
+      (after.1, after.2);
+  made = omega (arith, c.in_ok-place.ensures.made);
+  kept = c.in_ok-place.ensures.kept;
+  lent = c.in_ok-place.ensures.lent;
+}
 
 pub loop-character-preserved : goal.loop-character-preserved
 loop-character-preserved g c =
@@ -25,14 +51,52 @@ loop-character-preserved g c =
           ∙ sym (encodes-append c.loop-character.yielded (c.in-Some.character ∷ [])));
       class = c.in_ok-place-2.ensures.place;
       small = c.in_ok-place-2.ensures.small;
+      terms =
+          none_under new class.Text c.in_ok-place-2.place kind.TextCharacter c.loop-character.place c.in-Some.character c.in_ok-place-2.ensures.place (λ e. cc)
+          (λ t u. c.loop-character.invariant.terms t
+          (terms_before old new c.in_ok-place-2.ensures.longer c.in_ok-place-2.ensures.formed c.loop-character.place t
+          (place_within old class.Text c.loop-character.place c.loop-character.invariant.class) (under_one new c.loop-character.place t u)))
+          c.in_ok-place-2.ensures.terms;
       longer = prefix_of_prefix (g.I.Interner.list c.args.pass.now) old new c.loop-character.invariant.longer c.in_ok-place-2.ensures.longer;
+      formed = c.in_ok-place-2.ensures.formed;
       spelled =
           spelled_more c.loop-character.yielded c.loop-character.character-iterator.rest.now c.next.new.self.rest.now c.args.text.now c.in-Some.character
           c.loop-character.invariant.spelled c.in-Some.ensures.steps.0;
+      known = λ p is.
+          let first = g.I.Interner.list c.args.pass.now in
+          let before = c.loop-character.invariant.known p is in
+          let wf = formed_before first new
+          (prefix_of_prefix first old new c.loop-character.invariant.longer c.in_ok-place-2.ensures.longer) c.in_ok-place-2.ensures.formed in
+          let next = next_there first wf p c.loop-character.place c.args.text.now c.loop-character.yielded c.next.new.self.rest.now c.in-Some.character is
+          (subst (λ ws. StandsAt ws c.loop-character.place (IsText (encode_utf8_all c.loop-character.yielded))) before.0 c.loop-character.invariant.stands)
+          (ap (λ r. encode_utf8_all c.loop-character.yielded ++ r) (sym c.in-Some.ensures.steps.0) ∙ c.loop-character.invariant.spelled) in
+          let after = c.in_ok-place-2.ensures.known (subst (λ ws. Contains ws (word_of kind.TextCharacter c.loop-character.place c.in-Some.character)) (sym before.0) next) in
+          (after.1 ∙ before.0, after.2 ∙ before.1);
       made = omega (arith, length-append c.loop-character.yielded (c.in-Some.character ∷ []));
       kept = c.in_ok-place-2.ensures.kept ∙ c.loop-character.invariant.kept;
       lent = c.in_ok-place-2.ensures.lent ∙ c.loop-character.invariant.lent;
     }
+
+pub returns-in_err-place-clause-known : goal.returns-in_err-place-clause-known
+returns-in_err-place-clause-known g c p is =
+    let old = g.I.Interner.list c.args.pass.now in
+    let after = c.in_err-place.ensures.known
+    (ends_there old (formed_before old (g.I.Interner.list c.put.new.pass) c.in_err-place.ensures.longer c.in_err-place.ensures.formed) p c.args.text.now is) in
+    absurd (false≢true after.0)
+
+pub returns-in_err-place-2-clause-known : goal.returns-in_err-place-2-clause-known
+returns-in_err-place-2-clause-known g c p is =
+    let first = g.I.Interner.list c.args.pass.now in
+    let old = g.I.Interner.list c.loop-character.pass in
+    let new = g.I.Interner.list c.put-in-loop-character.new.pass in
+    let before = c.loop-character.invariant.known p is in
+    let wf = formed_before first new
+    (prefix_of_prefix first old new c.loop-character.invariant.longer c.in_err-place-2.ensures.longer) c.in_err-place-2.ensures.formed in
+    let next = next_there first wf p c.loop-character.place c.args.text.now c.loop-character.yielded c.next.new.self.rest.now c.in-Some.character is
+    (subst (λ ws. StandsAt ws c.loop-character.place (IsText (encode_utf8_all c.loop-character.yielded))) before.0 c.loop-character.invariant.stands)
+    (ap (λ r. encode_utf8_all c.loop-character.yielded ++ r) (sym c.in-Some.ensures.steps.0) ∙ c.loop-character.invariant.spelled) in
+    let after = c.in_err-place-2.ensures.known (subst (λ ws. Contains ws (word_of kind.TextCharacter c.loop-character.place c.in-Some.character)) (sym before.0) next) in
+    absurd (false≢true after.0)
 
 pub returns-in_err-place-2-clause-made : goal.returns-in_err-place-2-clause-made
 returns-in_err-place-2-clause-made g c =

@@ -1,8 +1,20 @@
-use Rattle.std.proofs.Common.{◌∙◌, ap, sym, map, take, Some}
+use Rattle.std.proofs.Common.{◌∙◌, ◌&&◌, ap, sym, refl, true, map, take, Some}
+use Rattle.std.proofs.lemmas.Bool.{and_from}
+use Rattle.ct_word.specs.declared.kinds.Class.TheVariants as class
+use Rattle.ct_word.specs.WellFormed.{is_place_of}
 use Rattle.ct_word.specs.Reading.{IsRowList, plain_crow}
-use Rattle.ct_word.proofs.Prefixes.{prefix_of_prefix}
+use Rattle.ct_word.proofs.Prefixes.{prefix_of_prefix, place_in_prefix}
 use Rattle.ct_history.proofs.Rows.{row_added, rows_one}
 use Rattle.ct_history.proofs.insertion.row_list.Goals as goal
+
+pub put-requires-in-loop-row-clause-formed : goal.put-requires-in-loop-row-clause-formed
+put-requires-in-loop-row-clause-formed g c =
+    let old = c.loop-row.pass.words in
+    let mid = c.conditional_row.new.pass.words in
+    let list = is_place_of mid class.RowList c.loop-row.place in
+    let item = is_place_of mid class.CondRow c.in_ok-item.item in
+    let still = place_in_prefix old mid class.RowList c.loop-row.place c.in_ok-item.ensures.longer c.loop-row.invariant.class in
+    and_from (list && item) true (and_from list item still c.in_ok-item.ensures.place) refl
 
 pub loop-row-preserved : goal.loop-row-preserved
 loop-row-preserved g c =

@@ -18,7 +18,7 @@ returns-clause-ok g c =
     (sym (c.in_ok-commit.ensures ∙ without_nodes c.version.result c.new-2.result c.args.name c.args.columns c.new-2.ensures))
     (creation_is h words c.args.fresh c.args.name c.args.columns c.in-Ok-create.changes _ c.in_ok-tables.tables
     (new_table_is h c.args.pass.now.words words c.args.tables.now c.args.name c.args.columns c.in-Ok.list c.in-Ok-create.changes c.version.result c.in_ok-tables.tables
-    c.requires.denotes c.requires.everywhere c.requires.absent (prefix_of_prefix c.args.pass.now.words c.no_changes.new.pass.words words c.in-Ok.ensures.longer c.in-Ok-create.ensures.longer)
+    c.requires.denotes c.requires.everywhere c.requires.absent c.words.ensures.formed (prefix_of_prefix c.args.pass.now.words c.no_changes.new.pass.words words c.in-Ok.ensures.longer c.in-Ok-create.ensures.longer)
     (c.version.ensures ∙ sym (length_printed c.args.history.now))
     (c.in_ok-tables.ensures ∙ with_parts c.args.tables.now c.in_ok-clone-2.field-0 c.args.name c.in_ok-clone.field-0 c.args.columns c.new.result c.in_ok-clone-2.ensures.cases (same_from_all_zip _ c.args.columns c.in_ok-clone.field-0 c.in_ok-clone.ensures.cases (λ x y r. r)) c.new.ensures)
     c.no_changes.new.pass.words c.in-Ok.ensures.stands c.in-Ok-create.ensures.place

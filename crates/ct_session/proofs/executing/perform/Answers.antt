@@ -30,6 +30,11 @@ offer_rows-requires-clause-width g c =
     widths_there hs c.args.tables.now c.requires.denotes.headings c.in-Act-InsertRows.name c.in-Act-InsertRows.rows
     (subst (λ r. FitsStatement hs (statement_of r)) (c.in-Act-InsertRows.is ∙ ap resolved.Act c.in-Act-InsertRows.field-0-is) c.requires.fits).1
 
+pub offer_rows-requires-clause-cells : goal.offer_rows-requires-clause-cells
+offer_rows-requires-clause-cells g c =
+    let hs = (schema (plain_history c.args.history.now) []).tables in
+    (subst (λ r. FitsStatement hs (statement_of r)) (c.in-Act-InsertRows.is ∙ ap resolved.Act c.in-Act-InsertRows.field-0-is) c.requires.fits).2
+
 pub returns-in-Act-InsertRows-clause-ok : goal.returns-in-Act-InsertRows-clause-ok
 returns-in-Act-InsertRows-clause-ok g c =
     let h = plain_history c.args.history.now in

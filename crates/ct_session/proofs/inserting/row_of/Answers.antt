@@ -1,13 +1,20 @@
 use Rattle.std.proofs.Common.{◌≡◌, All, IsTrue, map, ap, sym, subst, ◌∙◌}
 use Rattle.std.proofs.lemmas.List.{take_all}
+use Rattle.std.proofs.lemmas.List.Elements.{All-get_or}
 use Rattle.ct_word.specs.declared.kinds.Class.TheVariants as class
 use Rattle.ct_word.specs.Reading.{term_at, plain_crow}
 use Rattle.ct_word.specs.WellFormed.{is_place_of}
+use Rattle.ct_query.specs.Fits.{FitsCell}
 use Rattle.ct_history.specs.Rows.{IsRowOf}
 use Rattle.ct_word.proofs.Prefixes.{prefix_of_prefix}
 use Rattle.ct_session.specs.Catalogue.{row_under_true}
 use Rattle.ct_session.proofs.NewRow.{more_places, more_terms, row_is, row_stands}
 use Rattle.ct_session.proofs.inserting.row_of.Goals as goal
+
+pub term-requires : goal.term-requires
+term-requires g c =
+    let term = c.term-item.result in
+    record { fields = (subst FitsCell (sym c.term-item.is) (All-get_or FitsCell c.args.terms.now c.loop-term.term-index term c.loop-term-test.true c.requires)).1 }
 
 pub loop-term-preserved : goal.loop-term-preserved
 loop-term-preserved g c =

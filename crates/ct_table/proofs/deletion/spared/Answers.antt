@@ -1,15 +1,21 @@
-use Rattle.std.proofs.Common.{not, ◌&&◌, subst, sym}
-use Rattle.std.specs.Prelude.{All, IsTrue}
-use Rattle.std.proofs.lemmas.Result.{IfOk-weaker}
+use Rattle.std.proofs.Common.{not, ◌&&◌, subst, sym, ◌≡◌, arith, ◌∷◌, None, inl, inr}
+use Rattle.std.specs.Prelude.{All, IsTrue, ◌⊎◌}
+use Rattle.std.proofs.lemmas.Result.{IfOk-weaker, on_err_weaker}
 use Rattle.ct_word.specs.declared.kinds.Class.TheVariants as class
 use Rattle.ct_word.specs.Condition.{holds_at}
 use Rattle.ct_word.specs.Reading.{condition_at}
 use Rattle.ct_word.specs.WellFormed.{is_place_of}
-use Rattle.ct_word.proofs.Prefixes.{prefix_of_prefix, place_in_prefix}
+use Rattle.ct_word.proofs.Prefixes.{prefix_of_prefix, place_in_prefix, place_within}
 use Rattle.ct_condition.specs.Truth.{HasTruth, and_at}
 use Rattle.ct_table.specs.Building.{HoldsWhere}
 use Rattle.ct_table.specs.Placing.{holds_for}
 use Rattle.ct_table.proofs.Holding.{holds_itself, holds_later, holds_not, holds_and}
+use Rattle.ct_word.specs.Stands.{TermBelow}
+use Rattle.ct_condition.specs.Rows.{cell_for}
+use Rattle.ct_condition.specs.Terms.{TermsFrom, BelowEither}
+use Rattle.ct_table.specs.Terms.{TermOfRow, IsPlaced}
+use Rattle.ct_table.proofs.Reaching.{from_two, below_before, some_among, foremost, behind}
+use Rattle.ct_word.specs.declared.values.Term.{Term}
 use Rattle.ct_table.proofs.deletion.spared.Goals as goal
 
 pub on_row-requires-clause-cells : goal.on_row-requires-clause-cells
@@ -44,3 +50,33 @@ returns-clause-holds g c =
     (holds_not m1 m2 c.in_ok-gone.gone c.in_ok-stays.stays (holds_for old cond row.cells)
     (subst (λ cs. HoldsWhere m1 c.in_ok-gone.gone (holds_for old cond cs)) c.as_slice.ensures c.in_ok-gone.ensures.holds) c.in_ok-stays.ensures.truth))
     c.and.ensures.truth
+
+pub returns-clause-made : goal.returns-clause-made
+returns-clause-made g c = omega (arith, c.on_row.ensures.made, c.not.ensures.made, c.and.ensures.made)
+
+pub returns-clause-err : goal.returns-clause-err
+returns-clause-err g c =
+    on_err_weaker c.and.result (λ (e : g.I.Interner.made c.and.new.pass ≡ g.I.Interner.made c.not.new.pass). omega (arith, e, c.on_row.ensures.made, c.not.ensures.made)) c.and.ensures.err
+
+pub returns-clause-terms : goal.returns-clause-terms
+returns-clause-terms g c =
+    let old = g.I.Interner.list c.args.pass.now in
+    let m1 = g.I.Interner.list c.on_row.new.pass in
+    let m2 = g.I.Interner.list c.not.new.pass in
+    let new = g.I.Interner.list c.and.new.pass in
+    let row = c.args.row.now in
+    let cond = c.args.cond in
+    let stays = c.in_ok-stays.stays in
+    let source : Term → Type 0 = λ t. TermOfRow old row t ⊎ (TermBelow old cond t × (cell_for row.cells t ≡ None)) in
+    IfOk-weaker c.and.result (λ place. TermsFrom new place (BelowEither m2 row.cond stays)) (λ place. TermsFrom new place source)
+    (λ place. from_two m2 new row.cond stays place source
+    (λ t h. inl (record {
+      place = row.cond;
+      among = foremost row.cond row.cells;
+      below = below_before old m2 (prefix_of_prefix old m1 m2 c.on_row.ensures.longer c.not.ensures.longer) c.words.ensures.formed row.cond t (place_within old class.Cond row.cond c.requires.row.condition) h;
+    }))
+    (λ t h. elim (subst (λ cs. TermsFrom m1 c.in_ok-gone.gone (IsPlaced old cond cs)) c.as_slice.ensures c.in_ok-gone.ensures.terms t (c.in_ok-stays.ensures.terms t h)) [
+      | inl b ↦ inl (some_among old row.cells (row.cond ∷ row.cells) t (behind row.cond row.cells) b)
+      | inr x ↦ inr x
+    ]))
+    c.and.ensures.terms

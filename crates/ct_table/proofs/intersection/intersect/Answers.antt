@@ -1,11 +1,14 @@
-use Rattle.std.proofs.Common.{length, sym, subst}
+use Rattle.std.proofs.Common.{length, sym, subst, ◌≡◌, ◌≤◌, ◌<◌, ◌+◌, ◌*◌, Err, ◌∙◌, ap, arith, ◌++◌}
 use Rattle.std.specs.Prelude.{All, IfOk}
-use Rattle.std.proofs.lemmas.Result.{IfOk-weaker}
+use Rattle.std.proofs.lemmas.Result.{IfOk-weaker, err_from_is_err_and}
 use Rattle.ct_word.specs.Value.{same_cells}
 use Rattle.ct_word.specs.Sublist.{IsSublist}
 use Rattle.ct_query.specs.Database.{SameSet}
 use Rattle.ct_table.specs.Tables.{IsRow, AreRows, value_of_rows, cells_of, firsts}
 use Rattle.ct_table.proofs.Firsts.{part_of_firsts}
+use Rattle.ct_table.proofs.Adding.{passed, in_all_and_one, built_long}
+use Rattle.ct_table.specs.Terms.{TermOfRows, RowsFrom}
+use Rattle.ct_table.proofs.Reaching.{rows_wider, from_rows}
 use Rattle.ct_table.proofs.intersection.intersect.Goals as goal
 
 pub each_among-requires-clause-right : goal.each_among-requires-clause-right
@@ -32,3 +35,35 @@ returns-clause-part g c =
     IfOk-weaker c.merged.result (λ out. IsSublist (cells_of new out.rows) (firsts same_cells all)) (λ out. IsSublist (cells_of new out.rows) all)
     (λ out. part_of_firsts same_cells (cells_of new out.rows) all)
     (subst (λ l. IfOk c.merged.result (λ out. IsSublist (cells_of new out.rows) (firsts same_cells l))) c.in_ok-rows.ensures.rows.cells_are c.merged.ensures.order)
+
+pub returns-clause-made : goal.returns-clause-made
+returns-clause-made g c =
+    let sum : length c.args.left.now.rows * (length c.args.right.now.rows * (2 * length c.args.left.now.columns + 1) + 1) ≡ length c.args.left.now.rows * length c.args.right.now.rows * (2 * length c.args.left.now.columns + 1) + length c.args.left.now.rows = in_all_and_one (length c.args.left.now.rows) (length c.args.right.now.rows) (2 * length c.args.left.now.columns + 1) in
+    let long = built_long (g.I.Interner.list c.args.pass.now) (g.I.Interner.list c.each_among.new.pass) (length c.args.left.now.columns) c.args.left.now.rows c.in_ok-rows.rows.items _ _ c.in_ok-rows.ensures.rows in
+    omega (arith, sum, long, c.each_among.ensures.made, c.merged.ensures.made)
+
+pub returns-clause-fewer : goal.returns-clause-fewer
+returns-clause-fewer g c e =
+    let sum : length c.args.left.now.rows * (length c.args.right.now.rows * (2 * length c.args.left.now.columns + 1) + 1) ≡ length c.args.left.now.rows * length c.args.right.now.rows * (2 * length c.args.left.now.columns + 1) + length c.args.left.now.rows = in_all_and_one (length c.args.left.now.rows) (length c.args.right.now.rows) (2 * length c.args.left.now.columns + 1) in
+    let long = built_long (g.I.Interner.list c.args.pass.now) (g.I.Interner.list c.each_among.new.pass) (length c.args.left.now.columns) c.args.left.now.rows c.in_ok-rows.rows.items _ _ c.in_ok-rows.ensures.rows in
+    omega (arith, sum, long, c.each_among.ensures.made, c.merged.ensures.fewer e)
+
+pub returns-in_err-rows-clause-made : goal.returns-in_err-rows-clause-made
+returns-in_err-rows-clause-made g c =
+    let sum : length c.args.left.now.rows * (length c.args.right.now.rows * (2 * length c.args.left.now.columns + 1) + 1) ≡ length c.args.left.now.rows * length c.args.right.now.rows * (2 * length c.args.left.now.columns + 1) + length c.args.left.now.rows = in_all_and_one (length c.args.left.now.rows) (length c.args.right.now.rows) (2 * length c.args.left.now.columns + 1) in
+    omega (arith, sum, c.each_among.ensures.made)
+
+pub returns-in_err-rows-clause-fewer : goal.returns-in_err-rows-clause-fewer
+returns-in_err-rows-clause-fewer g c e =
+    let sum : length c.args.left.now.rows * (length c.args.right.now.rows * (2 * length c.args.left.now.columns + 1) + 1) ≡ length c.args.left.now.rows * length c.args.right.now.rows * (2 * length c.args.left.now.columns + 1) + length c.args.left.now.rows = in_all_and_one (length c.args.left.now.rows) (length c.args.right.now.rows) (2 * length c.args.left.now.columns + 1) in
+    let exit = err_from_is_err_and c.from_residual-in_err-rows.result c.from_residual-in_err-rows.ensures.1 in
+    omega (arith, sum, c.in_err-rows.ensures.fewer (passed _ _ _ (exit.1 ∙ ap Err exit.2) e))
+
+pub returns-clause-terms : goal.returns-clause-terms
+returns-clause-terms g c =
+    let mid = g.I.Interner.list c.each_among.new.pass in
+    let new = g.I.Interner.list c.merged.new.pass in
+    let source = TermOfRows (g.I.Interner.list c.args.pass.now) (c.args.left.now.rows ++ c.args.right.now.rows) in
+    IfOk-weaker c.merged.result (λ out. RowsFrom new out.rows (TermOfRows mid c.in_ok-rows.rows.items)) (λ out. RowsFrom new out.rows source)
+    (λ out. rows_wider new (TermOfRows mid c.in_ok-rows.rows.items) source (from_rows mid c.in_ok-rows.rows.items source c.in_ok-rows.ensures.rows.from) out.rows)
+    c.merged.ensures.terms

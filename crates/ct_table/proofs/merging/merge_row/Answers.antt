@@ -1,5 +1,6 @@
-use Rattle.std.proofs.Common.{length, subst, sym}
-use Rattle.ct_table.specs.Merging.{rows_of, Merged}
+use Rattle.std.proofs.Common.{◌≡◌, length, subst, sym, ap, arith}
+use Rattle.std.specs.Prelude.{is_some, if◌then◌else◌}
+use Rattle.ct_table.specs.Merging.{rows_of, Merged, known}
 use Rattle.ct_table.proofs.Merges.{found_condition, entry_merged, entry_put}
 use Rattle.ct_table.proofs.merging.merge_row.Goals as goal
 
@@ -14,7 +15,7 @@ returns-in_ok-insert-in-Some-clause-merged g c =
     let es = c.args.rows.now.entries in
     let r = c.args.row in
     subst (λ l. Merged old new (rows_of es) r (rows_of l)) (sym c.in_ok-insert-in-Some.ensures.entries)
-    (entry_merged old new r.cells r.cond c.in-Some.first.now c.in_ok-both-in-Some.both es (sym c.in-Some.ensures.value) c.in_ok-both-in-Some.ensures.truth)
+    (entry_merged old new r.cells r.cond c.in-Some.first.now c.in_ok-both-in-Some.both es (sym c.in-Some.ensures.value) c.in_ok-both-in-Some.ensures.truth c.in_ok-both-in-Some.ensures.terms)
 
 pub returns-in_ok-insert-in-None-clause-merged : goal.returns-in_ok-insert-in-None-clause-merged
 returns-in_ok-insert-in-None-clause-merged g c =
@@ -23,3 +24,23 @@ returns-in_ok-insert-in-None-clause-merged g c =
     let r = c.args.row in
     subst (λ l. Merged old old (rows_of es) r (rows_of l)) (sym c.in_ok-insert-in-None.ensures.entries)
     (entry_put old old r.cells r.cond es (sym c.in-None.ensures.value))
+
+pub returns-in_ok-insert-in-Some-clause-made : goal.returns-in_ok-insert-in-Some-clause-made
+returns-in_ok-insert-in-Some-clause-made g c =
+    let one : known c.args.row.cells c.args.rows.now.entries ≡ 1 = ap (λ o. if is_some o then 1 else 0) (sym c.in-Some.ensures.value) in
+    omega (arith, one, c.or.ensures.made)
+
+pub returns-in_err-insert-in-Some-clause-made : goal.returns-in_err-insert-in-Some-clause-made
+returns-in_err-insert-in-Some-clause-made g c =
+    let one : known c.args.row.cells c.args.rows.now.entries ≡ 1 = ap (λ o. if is_some o then 1 else 0) (sym c.in-Some.ensures.value) in
+    omega (arith, one, c.or.ensures.made)
+
+pub returns-in_err-both-in-Some-clause-made : goal.returns-in_err-both-in-Some-clause-made
+returns-in_err-both-in-Some-clause-made g c =
+    let one : known c.args.row.cells c.args.rows.now.entries ≡ 1 = ap (λ o. if is_some o then 1 else 0) (sym c.in-Some.ensures.value) in
+    omega (arith, one, c.or.ensures.made)
+
+pub returns-in_err-both-in-Some-clause-fewer : goal.returns-in_err-both-in-Some-clause-fewer
+returns-in_err-both-in-Some-clause-fewer g c e =
+    let one : known c.args.row.cells c.args.rows.now.entries ≡ 1 = ap (λ o. if is_some o then 1 else 0) (sym c.in-Some.ensures.value) in
+    omega (arith, one, c.in_err-both-in-Some.ensures.err)

@@ -1,14 +1,20 @@
-use Rattle.std.proofs.Common.{subst}
+use Rattle.std.proofs.Common.{subst, ◌∷◌}
 use Rattle.std.specs.Prelude.{All}
 use Rattle.std.proofs.lemmas.List.{take_all}
 use Rattle.std.proofs.lemmas.List.Elements.{All-more}
 use Rattle.ct_table.specs.Tables.{IsRow}
+use Rattle.ct_table.proofs.Columns.{all_plain}
 use Rattle.ct_table.proofs.operator_tests.are_rows.Goals as goal
 
 pub loop-row-preserved : goal.loop-row-preserved
 loop-row-preserved c =
+    let words = c.args.words.now in
+    let row = c.row-item.result in
+    let fits = c.is_row.ensures c.if-not-is_row.false in
+    let plain = all_plain words (c.no_columns.ensures c.if-not-no_columns.false) (row.cond ∷ row.cells) in
+    let is : IsRow words c.args.width row = record { terms = fits.0; condition = fits.1; width_is = fits.2; plain = plain } in
     All-more (IsRow c.args.words.now c.args.width) c.args.rows.now c.loop-row.row-index c.row-item.result c.loop-row-test.true c.loop-row.invariant
-    (subst (IsRow c.args.words.now c.args.width) c.row-item.is (c.is_row.ensures c.if-not-is_row.false))
+    (subst (IsRow words c.args.width) c.row-item.is is)
 
 pub returns : goal.returns
 returns c e = subst (All (IsRow c.args.words.now c.args.width)) (take_all c.loop-row.row-index c.args.rows.now c.loop-row-test.false) c.loop-row.invariant

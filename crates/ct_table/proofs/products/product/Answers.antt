@@ -1,5 +1,6 @@
-use Rattle.std.proofs.Common.{◌∙◌, length, ap, sym, subst}
+use Rattle.std.proofs.Common.{◌∙◌, length, ap, sym, subst, ◌≡◌, ◌+◌, arith, ◌++◌}
 use Rattle.std.specs.Prelude.{All, IfOk}
+use Rattle.std.specs.List.{IsDistinct}
 use Rattle.std.proofs.lemmas.List.{length-append}
 use Rattle.std.proofs.lemmas.Result.{IfOk-weaker}
 use Rattle.ct_word.specs.Value.{same_cells}
@@ -8,6 +9,10 @@ use Rattle.ct_query.specs.Database.{SameSet}
 use Rattle.ct_table.specs.Tables.{IsRow, AreRows, value_of_rows, cells_of, firsts}
 use Rattle.ct_table.specs.Building.{joins}
 use Rattle.ct_table.proofs.Firsts.{part_of_firsts}
+use Rattle.ct_table.proofs.Adding.{all_first}
+use Rattle.ct_table.proofs.Pairing.{joined_apart}
+use Rattle.ct_table.specs.Terms.{TermOfRows, RowsFrom}
+use Rattle.ct_table.proofs.Reaching.{rows_wider, from_rows}
 use Rattle.ct_table.proofs.products.product.Goals as goal
 
 pub merged-requires : goal.merged-requires
@@ -35,3 +40,32 @@ returns-clause-part g c =
     IfOk-weaker c.merged.result (λ out. IsSublist (cells_of new out.rows) (firsts same_cells all)) (λ out. IsSublist (cells_of new out.rows) all)
     (λ out. part_of_firsts same_cells (cells_of new out.rows) all)
     (subst (λ l. IfOk c.merged.result (λ out. IsSublist (cells_of new out.rows) (firsts same_cells l))) c.in_ok-pairs.ensures.pairs.cells_are c.merged.ensures.order)
+
+pub returns-clause-made : goal.returns-clause-made
+returns-clause-made g c =
+    let old = g.I.Interner.list c.args.pass.now in
+    let mid = g.I.Interner.list c.pairs.new.pass in
+    let out = c.in_ok-pairs.pairs.items in
+    let apart : length (firsts same_cells (cells_of mid out)) ≡ length out =
+    all_first mid out (subst (IsDistinct same_cells) (sym c.in_ok-pairs.ensures.pairs.cells_are)
+    (joined_apart old (length c.args.left.now.columns) (length c.args.right.now.columns) c.args.left.now.rows c.args.right.now.rows c.requires.left c.requires.right)) in
+    omega (arith, apart, c.pairs.ensures.made, c.merged.ensures.made)
+
+pub returns-clause-fewer : goal.returns-clause-fewer
+returns-clause-fewer g c e =
+    let old = g.I.Interner.list c.args.pass.now in
+    let mid = g.I.Interner.list c.pairs.new.pass in
+    let out = c.in_ok-pairs.pairs.items in
+    let apart : length (firsts same_cells (cells_of mid out)) ≡ length out =
+    all_first mid out (subst (IsDistinct same_cells) (sym c.in_ok-pairs.ensures.pairs.cells_are)
+    (joined_apart old (length c.args.left.now.columns) (length c.args.right.now.columns) c.args.left.now.rows c.args.right.now.rows c.requires.left c.requires.right)) in
+    omega (arith, apart, c.pairs.ensures.made, c.merged.ensures.fewer e)
+
+pub returns-clause-terms : goal.returns-clause-terms
+returns-clause-terms g c =
+    let mid = g.I.Interner.list c.pairs.new.pass in
+    let new = g.I.Interner.list c.merged.new.pass in
+    let source = TermOfRows (g.I.Interner.list c.args.pass.now) (c.args.left.now.rows ++ c.args.right.now.rows) in
+    IfOk-weaker c.merged.result (λ out. RowsFrom new out.rows (TermOfRows mid c.in_ok-pairs.pairs.items)) (λ out. RowsFrom new out.rows source)
+    (λ out. rows_wider new (TermOfRows mid c.in_ok-pairs.pairs.items) source (from_rows mid c.in_ok-pairs.pairs.items source c.in_ok-pairs.ensures.pairs.from) out.rows)
+    c.merged.ensures.terms

@@ -1,9 +1,16 @@
 use Rattle.std.proofs.lemmas.Result.{IfOk-weaker}
 use Rattle.ct_rewrite.proofs.Openings.{joint_stands}
+use Rattle.ct_rewrite.proofs.Sizes.{joint_no_larger}
 use Rattle.ct_rewrite.proofs.builder.Builder.gathered.Goals as goal
 
 pub returns-in_default-clause-truth : goal.returns-in_default-clause-truth
 returns-in_default-clause-truth c =
     IfOk-weaker c.place.result _ _
     (λ k. joint_stands c.args.connective c.args.self.now c.place.new.self c.args.children.items _ _ k c.from_vec.ensures c.node.ensures)
+    c.place.ensures.value
+
+pub returns-in_default-clause-size : goal.returns-in_default-clause-size
+returns-in_default-clause-size c =
+    IfOk-weaker c.place.result _ _
+    (λ k. joint_no_larger c.args.connective c.args.self.now c.place.new.self c.args.children.items _ _ k c.from_vec.ensures c.node.ensures)
     c.place.ensures.value

@@ -1,4 +1,5 @@
 use Rattle.ct_rewrite.proofs.Openings.{children_stand, children_placed}
+use Rattle.ct_rewrite.proofs.Sizes.{children_no_larger}
 use Rattle.ct_rewrite.proofs.builder.Builder.parts.Goals as goal
 
 pub returns-in-Some-clause-placed : goal.returns-in-Some-clause-placed
@@ -10,3 +11,8 @@ pub returns-in-Some-clause-truth : goal.returns-in-Some-clause-truth
 returns-in-Some-clause-truth c =
     rw c.in_ok-from_slice.ensures.items
     (children_stand c.args.connective c.args.self.now c.args.form _ c.node-node.ensures.value _ c.in-Some.ensures)
+
+pub returns-in-Some-clause-size : goal.returns-in-Some-clause-size
+returns-in-Some-clause-size c =
+    rw c.in_ok-from_slice.ensures.items
+    (children_no_larger c.args.connective c.args.self.now c.args.form _ _ c.node-node.ensures.value c.in-Some.ensures)

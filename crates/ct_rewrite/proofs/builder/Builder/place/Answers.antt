@@ -2,16 +2,16 @@ use Rattle.std.proofs.Common.{List, length, sym, subst, ap, ◌∙◌}
 use Rattle.std.specs.Prelude.{IsTrue}
 use Rattle.ct_rewrite.specs.declared.answer.Node.{Node}
 use Rattle.ct_rewrite.specs.Nodes.{stands_over, node_value}
-use Rattle.ct_rewrite.proofs.Building.{inserted_ordered, inserted_value}
+use Rattle.ct_rewrite.proofs.Building.{inserted_ordered, inserted_proper, inserted_value}
 use Rattle.ct_rewrite.proofs.builder.Builder.place.Goals as goal
 
 pub invariant_of-self-2 : goal.invariant_of-self-2
 invariant_of-self-2 c =
     let over = subst (λ (ns : List Node). IsTrue (stands_over (length ns) c.args.node)) (sym c.self.view_is) c.requires.ordered in
-    rw c.in_ok-position.ensures.keys (inserted_ordered _ c.args.node c.self.invariant over)
+    rw c.in_ok-position.ensures.keys (inserted_ordered _ c.args.node c.self.invariant.0 over, inserted_proper _ c.args.node c.self.invariant.1 c.requires.proper)
 
 pub returns-clause-value : goal.returns-clause-value
 returns-clause-value c =
     let over = subst (λ (ns : List Node). IsTrue (stands_over (length ns) c.args.node)) (sym c.self.view_is) c.requires.ordered in
-    inserted_value _ c.args.node c.self.invariant over _ _ c.in_ok-position.ensures.keys c.in_ok-position.ensures.stored
+    inserted_value _ c.args.node c.self.invariant.0 over _ _ c.in_ok-position.ensures.keys c.in_ok-position.ensures.stored
     ∙ ap (λ (ns : List Node). node_value ns c.args.node) c.self.view_is

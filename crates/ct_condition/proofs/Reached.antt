@@ -1,0 +1,224 @@
+-- Which terms are reached from a place, as words are added.
+use Rattle.std.proofs.Common.{◌≡◌, ◌≤◌, ◌<◌, ◌^◌, ℕ, zero, suc, true, List, [], ◌∷◌, ◌++◌, length, Option, Some, None, Result, Ok, Err, get_or, refl, ap, sym, subst, ◌∙◌, arith, inl, inr}
+use Rattle.std.specs.Prelude.{◌⊎◌, All, Contains, IfOk, IsTrue, slice_get}
+use Rattle.std.proofs.lemmas.Option.{slice_get_within}
+use Rattle.std.proofs.lemmas.List.Elements.{All-contains, All-get_or, Contains-append_cases, Contains-get_or}
+use mathlib.Core.List.{IsPrefix}
+use Rattle.ct_word.specs.declared.kinds.Kind.{Kind}
+use Rattle.ct_word.specs.declared.kinds.Kind.TheVariants as kind
+use Rattle.ct_word.specs.declared.kinds.Class.{Class}
+use Rattle.ct_word.specs.declared.kinds.Class.TheVariants as class
+use Rattle.ct_word.specs.declared.values.Term.{Term}
+use Rattle.ct_word.specs.Word.{word_of, code_of, kind_of, left_of, right_of}
+use Rattle.ct_word.specs.Reading.{IsTerm}
+use Rattle.ct_word.specs.Stands.{StandsAt, Below, itself, through, TermBelow, class_of_meaning, place_in, places_in, places_of}
+use Rattle.ct_word.specs.WellFormed.{Field, Zero, Any, Byte, Scalar, Session, Positive, PlaceOf, IsWellFormed, each_follows, fields_of, fits, is_formed_as, is_place_of, is_word_after}
+use Rattle.ct_word.proofs.Packed.{true_left, true_right, true_both, kind_of_parts, left_of_parts, right_of_parts}
+use Rattle.ct_word.proofs.Places.{meaning_of_class}
+use Rattle.ct_word.proofs.Prefixes.{get_in_prefix, meaning_in_prefix, place_within}
+use Rattle.ct_word.proofs.Splits.{split_at, formed_at, formed_fields, some-injective}
+use Rattle.ct_condition.specs.Terms.{TermsFrom, BelowEither, BelowSome, AtOrUnder}
+
+pub no_item : {X : Type 0} (x : X) → Contains [] x → ⊥
+no_item x h = omega (arith, h.1)
+
+pub first_item : {X : Type 0} (xs : List X) (x : X) → Contains (x ∷ xs) x
+first_item xs x = (zero, omega arith, refl)
+
+by_place : {X : Type 0} (xs : List X) (y x : X) (k : ℕ) → k < length (y ∷ xs) → get_or (y ∷ xs) k x ≡ x → (y ≡ x) ⊎ Contains xs x
+by_place xs y x zero lt e = inl e
+by_place xs y x (suc k) lt e = inr (k, omega (arith, lt), e)
+
+sole_item : {X : Type 0} (y x : X) → Contains (y ∷ []) x → y ≡ x
+sole_item y x h = elim (by_place [] y x h.0 h.1 h.2) [ inl e ↦ e | inr n ↦ absurd (no_item x n) ]
+
+-- the first words of a well formed list are one
+follow_before : (seen ws xs : List ℕ) → IsTrue (each_follows seen (ws ++ xs)) → IsTrue (each_follows seen ws)
+follow_before seen [] xs e = refl
+follow_before seen (w ∷ ws) xs e =
+    true_both _ _ (true_left (is_word_after seen w) _ e) (follow_before (seen ++ w ∷ []) ws xs (true_right (is_word_after seen w) _ e))
+
+pub formed_before : (old new : List ℕ) → IsPrefix old new → IsWellFormed new → IsWellFormed old
+formed_before old new longer formed = follow_before [] old longer.0 (subst IsWellFormed (sym longer.1) formed)
+
+-- the place that a field names is the field
+field_names : (f : Field) (n q : ℕ) → Contains (place_in f n) q → n ≡ q
+field_names (PlaceOf c) n q h = sole_item n q h
+field_names Zero n q h = absurd (no_item q h)
+field_names Any n q h = absurd (no_item q h)
+field_names Byte n q h = absurd (no_item q h)
+field_names Scalar n q h = absurd (no_item q h)
+field_names Session n q h = absurd (no_item q h)
+field_names Positive n q h = absurd (no_item q h)
+
+-- and stands among the words before
+field_before : (front : List ℕ) (f : Field) (n q : ℕ) → fits front f n ≡ true → Contains (place_in f n) q → q < length front
+field_before front (PlaceOf c) n q e h = subst (λ p. p < length front) (sole_item n q h) (place_within front c n e)
+field_before front Zero n q e h = absurd (no_item q h)
+field_before front Any n q e h = absurd (no_item q h)
+field_before front Byte n q e h = absurd (no_item q h)
+field_before front Scalar n q e h = absurd (no_item q h)
+field_before front Session n q e h = absurd (no_item q h)
+field_before front Positive n q e h = absurd (no_item q h)
+
+fields_before : (front : List ℕ) (o : Option Kind) (a b q : ℕ) → is_formed_as o front a b ≡ true → Contains (places_in o a b) q → q < length front
+fields_before front (Some k) a b q e h =
+    let fields = formed_fields front k a b e in
+    elim (Contains-append_cases (place_in (fields_of k).0 a) (place_in (fields_of k).1 b) q h) [
+      | inl l ↦ field_before front (fields_of k).0 a q fields.0 l
+      | inr r ↦ field_before front (fields_of k).1 b q fields.1 r
+    ]
+fields_before front None a b q e h = absurd (no_item q h)
+
+-- the fields of a word of a well formed list name earlier places
+pub named_earlier : (ws : List ℕ) → IsWellFormed ws → (p w q : ℕ) → slice_get ws p ≡ Some w → Contains (places_of w) q → q < p
+unfolding places_of
+named_earlier ws formed p w q there h =
+    let s = split_at ws p w there in
+    let lt = fields_before s.front (kind_of w) (left_of w) (right_of w) q (formed_at ws formed p w there s) h in
+    omega (arith, s.long, lt)
+
+-- what stands below a place is no later
+pub reached_earlier : (ws : List ℕ) → IsWellFormed ws → (p r : ℕ) → Below ws p r → r ≤ p
+reached_earlier ws formed p r itself = omega arith
+reached_earlier ws formed p r (through w q there among rest) =
+    let lt = named_earlier ws formed p w q there among in
+    let le = reached_earlier ws formed q r rest in
+    omega (arith, lt, le)
+
+-- no term stands at a place of another class
+pub no_term_at : (ws : List ℕ) (c : Class) (p : ℕ) (t : Term) → IsTrue (is_place_of ws c p) → (class.Term ≡ c → ⊥) → StandsAt ws p (IsTerm t) → ⊥
+no_term_at ws c p t e ne s =
+    let m = meaning_of_class ws c p e in
+    let same : m.0 ≡ IsTerm t = some-injective m.0 (IsTerm t) (sym m.1 ∙ s) in
+    ne (some-injective class.Term c (ap class_of_meaning (sym same) ∙ m.2))
+
+-- what stands below a place of the first words does so in them
+module _ (old new : List ℕ) (longer : IsPrefix old new) (formed : IsWellFormed new) where
+  reached_before : (p r : ℕ) → p < length old → Below new p r → Below old p r
+  reached_before p r lt itself = itself
+  reached_before p r lt (through w q there among rest) =
+      let less = named_earlier new formed p w q there among in
+      through w q (sym (get_in_prefix old new p longer lt) ∙ there) among (reached_before q r (omega (arith, less)) rest)
+
+  pub terms_before : (p : ℕ) (t : Term) → p < length old → TermBelow new p t → TermBelow old p t
+  terms_before p t lt h =
+      let le = reached_earlier new formed p h.0 h.1 in
+      (h.0, reached_before p h.0 lt h.1, sym (meaning_in_prefix old new h.0 longer (omega (arith, le))) ∙ h.2)
+
+  pub either_before : (c d : ℕ) (t : Term) → c < length old → d < length old → BelowEither new c d t → BelowEither old c d t
+  either_before c d t l r (inl h) = inl (terms_before c t l h)
+  either_before c d t l r (inr h) = inr (terms_before d t r h)
+
+  pub some_before : (c : Class) (places : List ℕ) (t : Term) → All (λ p. IsTrue (is_place_of old c p)) places → BelowSome new places t → BelowSome old places t
+  some_before c places t are h = record {
+    place = h.place;
+    among = h.among;
+    below = terms_before h.place t (place_within old c h.place (All-contains (λ p. IsTrue (is_place_of old c p)) places h.place are h.among)) h.below;
+  }
+
+-- and goes on to stand below it
+reached_after : (old new : List ℕ) → IsPrefix old new → (p r : ℕ) → Below old p r → Below new p r
+reached_after old new longer p r itself = itself
+reached_after old new longer p r (through w q there among rest) =
+    through w q (get_in_prefix old new p longer (slice_get_within old p w there) ∙ there) among (reached_after old new longer q r rest)
+
+pub terms_after : (old new : List ℕ) → IsPrefix old new → IsWellFormed old → (p : ℕ) (t : Term) → p < length old → TermBelow old p t → TermBelow new p t
+terms_after old new longer formed p t lt h =
+    let le = reached_earlier old formed p h.0 h.1 in
+    (h.0, reached_after old new longer p h.0 h.1, meaning_in_prefix old new h.0 longer (omega (arith, le)) ∙ h.2)
+
+module _ (ws : List ℕ) where
+  by_word : (p r w : ℕ) (t : Term) → slice_get ws p ≡ Some w → Below ws p r → StandsAt ws r (IsTerm t) → StandsAt ws p (IsTerm t) ⊎ BelowSome ws (places_of w) t
+  by_word p r w t there itself s = inl s
+  by_word p r w t there (through v q is among rest) s =
+      inr (record { place = q; among = subst (λ x. Contains (places_of x) q) (some-injective v w (sym is ∙ there)) among; below = (r, rest, s) })
+
+  -- a term below a packed word stands at its place or below its fields
+  pub under_word : (p : ℕ) (k : Kind) (a b : ℕ) → a < 2 ^ 28 → b < 2 ^ 28 → slice_get ws p ≡ Some (word_of k a b) → TermsFrom ws p (AtOrUnder ws p k a b)
+  unfolding places_of
+  under_word p k a b l r there t h =
+      let same : places_of (word_of k a b) ≡ places_in (Some k) a b =
+      λ i. places_in (kind_of_parts k (code_of k) a b refl l r i) (left_of_parts (code_of k) a b l r i) (right_of_parts (code_of k) a b l r i) in
+      elim (by_word p h.0 (word_of k a b) t there h.1 h.2) [
+        | inl s ↦ inl s
+        | inr u ↦ inr (subst (λ ps. BelowSome ws ps t) same u)
+      ]
+
+  pub under_none : (t : Term) → BelowSome ws [] t → ⊥
+  under_none t u = no_item u.place u.among
+
+  pub under_one : (p : ℕ) (t : Term) → BelowSome ws (p ∷ []) t → TermBelow ws p t
+  under_one p t u = subst (λ q. TermBelow ws q t) (sym (sole_item p u.place u.among)) u.below
+
+  under_either : (k : Kind) (a b : ℕ) (t : Term) → BelowSome ws (places_in (Some k) a b) t → BelowEither ws a b t
+  under_either k a b t u = elim (Contains-append_cases (place_in (fields_of k).0 a) (place_in (fields_of k).1 b) u.place u.among) [
+    | inl l ↦ inl (subst (λ q. TermBelow ws q t) (sym (field_names (fields_of k).0 a u.place l)) u.below)
+    | inr r ↦ inr (subst (λ q. TermBelow ws q t) (sym (field_names (fields_of k).1 b u.place r)) u.below)
+  ]
+
+  -- a term below the word of two places stands at it or below one of them, whichever comes first
+  pub at_or_either : (p : ℕ) (k : Kind) (a b : ℕ) → TermsFrom ws p (AtOrUnder ws p k a b) → TermsFrom ws p (λ t. StandsAt ws p (IsTerm t) ⊎ BelowEither ws a b t)
+  at_or_either p k a b from t h = elim (from t h) [ inl s ↦ inl s | inr u ↦ inr (under_either k a b t u) ]
+
+  swapped : (a b : ℕ) (t : Term) → BelowEither ws a b t → BelowEither ws b a t
+  swapped a b t (inl h) = inr h
+  swapped a b t (inr h) = inl h
+
+  pub at_or_swapped : (p : ℕ) (k : Kind) (a b : ℕ) → TermsFrom ws p (AtOrUnder ws p k b a) → TermsFrom ws p (λ t. StandsAt ws p (IsTerm t) ⊎ BelowEither ws a b t)
+  at_or_swapped p k a b from t h = elim (from t h) [ inl s ↦ inl s | inr u ↦ inr (swapped b a t (under_either k b a t u)) ]
+
+  -- no term stands below a place of another class, where none stands below its fields
+  pub none_under : (c : Class) (p : ℕ) (k : Kind) (a b : ℕ) → IsTrue (is_place_of ws c p) → (class.Term ≡ c → ⊥) → ((t : Term) → BelowSome ws (places_in (Some k) a b) t → ⊥)
+      → TermsFrom ws p (AtOrUnder ws p k a b) → TermsFrom ws p (λ t. ⊥)
+  none_under c p k a b is ne none from t h = elim (from t h) [ inl s ↦ no_term_at ws c p t is ne s | inr u ↦ none t u ]
+
+  term_is : (p : ℕ) (t u : Term) → StandsAt ws p (IsTerm t) → StandsAt ws p (IsTerm u) → t ≡ u
+  term_is p t u s r = let same : Some (IsTerm t) ≡ Some (IsTerm u) = sym s ∙ r in cc
+
+  -- the only term below its own word, where none stands below the fields
+  pub only_term : (p : ℕ) (k : Kind) (a b : ℕ) (u : Term) → ((t : Term) → BelowSome ws (places_in (Some k) a b) t → ⊥) → StandsAt ws p (IsTerm u)
+      → TermsFrom ws p (AtOrUnder ws p k a b) → TermsFrom ws p (λ t. t ≡ u)
+  only_term p k a b u none stands from t h = elim (from t h) [ inl s ↦ term_is p t u s stands | inr x ↦ absurd (none t x) ]
+
+module _ (old new : List ℕ) (longer : IsPrefix old new) (formed : IsWellFormed new) (p : ℕ) (is : IsTrue (is_place_of new class.Cond p)) where
+  -- a term below the word of one place stood below it before
+  pub put_one : (c : ℕ) → c < length old → TermsFrom new p (AtOrUnder new p kind.Not c 0) → TermsFrom new p (TermBelow old c)
+  put_one c lt from t h = elim (from t h) [
+    | inl s ↦ absurd (no_term_at new class.Cond p t is (λ e. cc) s)
+    | inr u ↦ terms_before old new longer formed c t lt (under_one new c t u)
+  ]
+
+  -- and one below the word of two places below one of them
+  pub put_either : (c d : ℕ) → c < length old → d < length old → TermsFrom new p (λ t. StandsAt new p (IsTerm t) ⊎ BelowEither new c d t) → TermsFrom new p (BelowEither old c d)
+  put_either c d l r from t h = elim (from t h) [
+    | inl s ↦ absurd (no_term_at new class.Cond p t is (λ e. cc) s)
+    | inr e ↦ either_before old new longer formed c d t l r e
+  ]
+
+-- a term below the conjunction of conditions before the next one stands below one of them, and so does one with it
+pub all_below : (first old new : List ℕ) → IsPrefix first old → IsWellFormed old → (cs : List ℕ) (i d : ℕ) → i < length cs → All (λ c. IsTrue (is_place_of first class.Cond c)) cs → (place q : ℕ)
+    → TermsFrom old place (BelowSome first cs) → TermsFrom new q (BelowEither old place (get_or cs i d)) → TermsFrom new q (BelowSome first cs)
+all_below first old new longer formed cs i d lt are place q before from t h = elim (from t h) [
+  | inl b ↦ before t b
+  | inr b ↦
+      let item = get_or cs i d in
+      record {
+        place = item;
+        among = Contains-get_or cs i d lt;
+        below = terms_before first old longer formed item t (place_within first class.Cond item (All-get_or (λ c. IsTrue (is_place_of first class.Cond c)) cs i d lt are)) b;
+      }
+]
+
+-- a clause about each answer, from two of them
+pub both_of : {X Y : Type 0} (r : Result X Y) (P Q R : X → Type 0) → ((x : X) → P x → Q x → R x) → IfOk r P → IfOk r Q → IfOk r R
+both_of (Ok x) P Q R f p q = f x p q
+both_of (Err y) P Q R f p q = tt
+
+pub as_named : {Y : Type 0} (ws : List ℕ) (r : Result ℕ Y) (t u : Term) → IfOk r (λ p. TermsFrom ws p (λ x. x ≡ t)) → t ≡ u → IfOk r (λ p. TermsFrom ws p (λ x. x ≡ u))
+as_named ws (Ok p) t u from e = λ x h. from x h ∙ e
+as_named ws (Err y) t u from e = tt
+
+pub as_stands : {Y : Type 0} (ws : List ℕ) (r : Result ℕ Y) (t u : Term) → IfOk r (λ p. StandsAt ws p (IsTerm t)) → IfOk r (λ p. StandsAt ws p (IsTerm u)) → IfOk r (λ p. TermsFrom ws p (λ x. x ≡ t)) → IfOk r (λ p. TermsFrom ws p (λ x. x ≡ u))
+as_stands ws (Ok p) t u s r from = λ x h. from x h ∙ term_is ws p t u s r
+as_stands ws (Err y) t u s r from = tt

@@ -1,0 +1,9 @@
+use Rattle.std.proofs.Common.{◌≡◌, length}
+use Rattle.ct_condition.specs.Worth.{HaveWorths}
+use Rattle.ct_condition.proofs.valued.value_at.Given as goal
+
+abbrev pub invariant-loop-earlier : goal.invariant-loop-earlier
+invariant-loop-earlier l = record {
+  count : length l.worths.items ≡ l.earlier;
+  worths : HaveWorths l.words l.world l.worths.items;
+}
