@@ -1,5 +1,6 @@
 """What the measurements share: the program, its runs, and the table that is printed."""
 
+import glob
 import os
 import re
 import subprocess
@@ -56,6 +57,31 @@ def instructions(script):
     if not found:
         sys.exit(f"valgrind counted nothing:\n{said}")
     return int(found[1])
+
+
+def built_tests(crate):
+    """Proves and builds the tests of a crate. Returns the path of their program."""
+    folder = os.path.join(ROOT, "crates", crate)
+    ran = subprocess.run(["rt", "test"], cwd=folder, stdout=subprocess.PIPE, stderr=subprocess.STDOUT, check=False)
+    if ran.returncode:
+        sys.exit(f"rt test did not pass in {folder}:\n{ran.stdout.decode('utf-8', 'replace')[-2000:]}")
+    return os.path.join(folder, "out", f"{crate}_tests")
+
+
+def calls(program, test, function):
+    """Returns the instructions of each call of the function in a test, with all that it calls, in order."""
+    with tempfile.TemporaryDirectory() as room:
+        counts = os.path.join(room, "counts")
+        words = ["valgrind", "--tool=callgrind", f"--callgrind-out-file={counts}"]
+        words += [f"--toggle-collect={function}", f"--dump-after={function}", program, f"tests::{test}"]
+        ran = subprocess.run(words, cwd=room, stdout=subprocess.PIPE, stderr=subprocess.STDOUT, check=False)
+        if ran.returncode:
+            sys.exit(f"{test} did not pass under valgrind:\n{ran.stdout.decode('utf-8', 'replace')}")
+        found = []
+        for k in range(1, len(glob.glob(f"{counts}.*")) + 1):
+            with open(f"{counts}.{k}", encoding="utf-8") as it:
+                found.append(int(re.search(r"^totals: (\d+)", it.read(), re.MULTILINE)[1]))
+        return found
 
 
 def table(head, rows):

@@ -5,7 +5,7 @@ ghost use Rattle.ct_algebra.specs.Refusals.{refusal_of};
 ghost use Rattle.ct_algebra.specs.declared.error.EvalError.TheVariants as fault;
 
 use ct_table::TableError;
-use std::alloc::{AllocError, AllocFailed};
+use ct_word::Memory;
 use thiserror::Error;
 
 /// Why a query has no answer.
@@ -33,18 +33,10 @@ impl From<TableError> for EvalError {
     }
 }
 
-impl From<AllocError> for EvalError {
+impl From<Memory> for EvalError {
     ghost from_gives = { λ _ e. e ≡ fault.Memory };
 
-    fn from(_: AllocError) -> Self {
-        EvalError::Memory
-    }
-}
-
-impl<T: Drop> From<AllocFailed<T>> for EvalError {
-    ghost from_gives = { λ _ e. e ≡ fault.Memory };
-
-    fn from(_: AllocFailed<T>) -> Self {
+    fn from(_: Memory) -> Self {
         EvalError::Memory
     }
 }

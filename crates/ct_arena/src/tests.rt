@@ -132,3 +132,28 @@ fn fills(rt: HostRuntime) -> Result<(), Fail> {
     let blank = Blank::make(rt.alloc(), 64)?;
     fill::<Brand>(&rt, rt.alloc(), blank)
 }
+
+/// A guest interns a word that stands already, and a new one.
+fn intern_as_guest<N: Site>(rt: &impl Abort, alloc: Global, blank: Blank) -> Result<(), Fail>
+    requires { blank ≡ N.log }
+{
+    let (arena, mut keeper) = Arena::<N>::make(blank);
+    let pass = keeper.enrol(alloc, &arena)?;
+    let mut guest = keeper.enter(&arena, pass);
+    let known = keeper.intern(&arena, &mut guest, pack(Kind::True, 0, 0));
+    assert_eq!(rt; known, Ok(0));
+    let new = keeper.intern(&arena, &mut guest, pack(Kind::TextEnd, 0, 0));
+    assert_eq!(rt; new, Ok(2));
+    let pass = keeper.leave(&arena, guest);
+    assert_eq!(rt; [pass.made(), pass.mine()], [1, 0]);
+    let _ = keeper.end(&arena, pass);
+    let words = keeper.finish(arena).into_words();
+    assert_eq!(rt; words.as_slice(), &CREATED[..3]);
+    Ok(())
+}
+
+#[test]
+fn guests_intern(rt: HostRuntime) -> Result<(), Fail> {
+    let blank = Blank::make(rt.alloc(), 64)?;
+    intern_as_guest::<Brand>(&rt, rt.alloc(), blank)
+}

@@ -1,6 +1,6 @@
 // Conditions, folded where they can be.
 
-ghost use Rattle.std.specs.Prelude.{◌≡◌, ◌≢◌, ◌≤◌, ◌+◌, ◌<◌, ◌^◌, ◌⊎◌, length, min, max, slice_get, All, IfOk, IsSome, OnErr, IsTrue, Some, false};
+ghost use Rattle.std.specs.Prelude.{◌≡◌, ◌≢◌, ◌≤◌, ◌+◌, ◌<◌, ◌^◌, ◌↔◌, ◌⊎◌, length, min, max, slice_get, All, Contains, IfOk, IsErr, IsNone, IsSome, OnErr, IsTrue, Some, false};
 ghost use mathlib.Core.List.{IsPrefix};
 ghost use Rattle.ct_word.specs.Reading.{IsTerm, by_kind, meanings};
 ghost use Rattle.ct_word.specs.Stands.{StandsAt, TermBelow};
@@ -39,7 +39,7 @@ fn pair<N: Site, I: Interner<N>>(
     ensures terms { IfOk result (λ place. TermsFrom (I.list pass.new) place (λ t. StandsAt (I.list pass.new) place (IsTerm t) ⊎ BelowEither (I.list pass.new) c d t)) }
     ensures longer { IsPrefix (I.list pass.old) (I.list pass.new) }
     ensures formed { IsWellFormed (I.list pass.new) }
-    ensures full { OnErr result (length (I.list pass.new) ≡ N.log.cap) }
+    ensures full { IsErr result ↔ ((length (I.list pass.new) ≡ N.log.cap) × ¬ Contains (I.list pass.new) (word_of kind (min c d) (max c d))) }
     ensures made { I.made pass.new ≤ I.made pass.old + 1 }
     ensures err { OnErr result (I.made pass.new ≡ I.made pass.old) }
     ensures kept { I.kept pass.new ≡ I.kept pass.old }
@@ -70,7 +70,7 @@ pub fn eq<N: Site, I: Interner<N>>(
     ensures folds { FoldsTo (spec.folded_eq (I.list pass.old) s t) (word_of kind.Equal (min s t) (max s t)) (I.list pass.old) (I.list pass.new) result }
     ensures longer { IsPrefix (I.list pass.old) (I.list pass.new) }
     ensures formed { IsWellFormed (I.list pass.new) }
-    ensures full { OnErr result (length (I.list pass.new) ≡ N.log.cap) }
+    ensures full { IsErr result ↔ (IsNone (spec.folded_eq (I.list pass.old) s t) × (length (I.list pass.new) ≡ N.log.cap) × ¬ Contains (I.list pass.new) (word_of kind.Equal (min s t) (max s t))) }
     ensures made { I.made pass.new ≤ I.made pass.old + 1 }
     ensures unmade { IsSome (spec.folded_eq (I.list pass.old) s t) → I.made pass.new ≡ I.made pass.old }
     ensures err { OnErr result (I.made pass.new ≡ I.made pass.old) }
@@ -95,7 +95,7 @@ pub fn not<N: Site, I: Interner<N>>(arena: &Arena<N>, pass: &mut I, c: u32) -> R
     ensures folds { FoldsTo (spec.folded_not (I.list pass.old) c) (word_of kind.Not c 0) (I.list pass.old) (I.list pass.new) result }
     ensures longer { IsPrefix (I.list pass.old) (I.list pass.new) }
     ensures formed { IsWellFormed (I.list pass.new) }
-    ensures full { OnErr result (length (I.list pass.new) ≡ N.log.cap) }
+    ensures full { IsErr result ↔ (IsNone (spec.folded_not (I.list pass.old) c) × (length (I.list pass.new) ≡ N.log.cap) × ¬ Contains (I.list pass.new) (word_of kind.Not c 0)) }
     ensures made { I.made pass.new ≤ I.made pass.old + 1 }
     ensures unmade { IsSome (spec.folded_not (I.list pass.old) c) → I.made pass.new ≡ I.made pass.old }
     ensures err { OnErr result (I.made pass.new ≡ I.made pass.old) }
@@ -126,7 +126,7 @@ pub fn and<N: Site, I: Interner<N>>(
     ensures folds { FoldsTo (spec.folded_and (I.list pass.old) c d) (word_of kind.And (min c d) (max c d)) (I.list pass.old) (I.list pass.new) result }
     ensures longer { IsPrefix (I.list pass.old) (I.list pass.new) }
     ensures formed { IsWellFormed (I.list pass.new) }
-    ensures full { OnErr result (length (I.list pass.new) ≡ N.log.cap) }
+    ensures full { IsErr result ↔ (IsNone (spec.folded_and (I.list pass.old) c d) × (length (I.list pass.new) ≡ N.log.cap) × ¬ Contains (I.list pass.new) (word_of kind.And (min c d) (max c d))) }
     ensures made { I.made pass.new ≤ I.made pass.old + 1 }
     ensures unmade { IsSome (spec.folded_and (I.list pass.old) c d) → I.made pass.new ≡ I.made pass.old }
     ensures err { OnErr result (I.made pass.new ≡ I.made pass.old) }
@@ -157,7 +157,7 @@ pub fn or<N: Site, I: Interner<N>>(
     ensures folds { FoldsTo (spec.folded_or (I.list pass.old) c d) (word_of kind.Or (min c d) (max c d)) (I.list pass.old) (I.list pass.new) result }
     ensures longer { IsPrefix (I.list pass.old) (I.list pass.new) }
     ensures formed { IsWellFormed (I.list pass.new) }
-    ensures full { OnErr result (length (I.list pass.new) ≡ N.log.cap) }
+    ensures full { IsErr result ↔ (IsNone (spec.folded_or (I.list pass.old) c d) × (length (I.list pass.new) ≡ N.log.cap) × ¬ Contains (I.list pass.new) (word_of kind.Or (min c d) (max c d))) }
     ensures made { I.made pass.new ≤ I.made pass.old + 1 }
     ensures unmade { IsSome (spec.folded_or (I.list pass.old) c d) → I.made pass.new ≡ I.made pass.old }
     ensures err { OnErr result (I.made pass.new ≡ I.made pass.old) }

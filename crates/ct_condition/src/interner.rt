@@ -5,6 +5,7 @@ ghost use Rattle.std.specs.Borrow.{GName};
 ghost use mathlib.Core.List.{IsPrefix};
 ghost use Rattle.ct_word.specs.WellFormed.{IsWellFormed, is_plain_word};
 ghost use Rattle.ct_arena.specs.Counts.{opening};
+ghost use Rattle.ct_arena.specs.Seen.{CountsWord};
 
 use ct_arena::{Arena, Full, Pass, Site};
 
@@ -32,9 +33,9 @@ pub trait Interner<N: Site> {
         ensures longer { IsPrefix (list self.old) (list self.new) }
         ensures formed { IsWellFormed (list self.new) }
         ensures room { length (list self.new) ≤ N.log.cap }
-        ensures full { OnErr result (length (list self.new) ≡ N.log.cap) }
+        ensures full { IsErr result ↔ ((length (list self.new) ≡ N.log.cap) × ¬ Contains (list self.new) w) }
         ensures known { Contains (list self.old) w → IsOk result × (list self.new ≡ list self.old) × (made self.new ≡ made self.old) }
-        ensures made { made self.new ≤ made self.old + 1 }
+        ensures made { CountsWord (made self.old) (made self.new) (list self.new) w }
         ensures err { OnErr result (made self.new ≡ made self.old) }
         ensures kept { kept self.new ≡ kept self.old }
         ensures lent { lent self.new ≡ lent self.old };

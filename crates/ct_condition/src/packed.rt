@@ -1,11 +1,12 @@
 // One word.
 
-ghost use Rattle.std.specs.Prelude.{◌≡◌, ◌≤◌, ◌+◌, ◌<◌, ◌^◌, length, IfOk, IsOk, OnErr, IsTrue, Some, false, slice_get, Contains};
+ghost use Rattle.std.specs.Prelude.{◌≡◌, ◌≤◌, ◌<◌, ◌^◌, ◌↔◌, length, IfOk, IsErr, IsOk, OnErr, IsTrue, Some, false, slice_get, Contains};
 ghost use mathlib.Core.List.{IsPrefix};
 ghost use Rattle.ct_word.specs.declared.kinds.Class.TheVariants as class;
 ghost use Rattle.ct_word.specs.Reading.{by_kind, meanings};
 ghost use Rattle.ct_word.specs.Stands.{StandsAt};
 ghost use Rattle.ct_word.specs.Word.{word_of};
+ghost use Rattle.ct_arena.specs.Seen.{CountsWord};
 ghost use Rattle.ct_condition.specs.Terms.{TermsFrom, AtOrUnder};
 ghost use Rattle.ct_word.specs.WellFormed.{IsWellFormed, is_formed_as, is_place_of, class_of, has_class};
 
@@ -36,9 +37,9 @@ pub fn put<N: Site, I: Interner<N>>(
     ensures longer { IsPrefix (I.list pass.old) (I.list pass.new) }
     ensures formed { IsWellFormed (I.list pass.new) }
     ensures room { length (I.list pass.new) ≤ N.log.cap }
-    ensures full { OnErr result (length (I.list pass.new) ≡ N.log.cap) }
+    ensures full { IsErr result ↔ ((length (I.list pass.new) ≡ N.log.cap) × ¬ Contains (I.list pass.new) (word_of kind a b)) }
     ensures known { Contains (I.list pass.old) (word_of kind a b) → IsOk result × (I.list pass.new ≡ I.list pass.old) × (I.made pass.new ≡ I.made pass.old) }
-    ensures made { I.made pass.new ≤ I.made pass.old + 1 }
+    ensures made { CountsWord (I.made pass.old) (I.made pass.new) (I.list pass.new) (word_of kind a b) }
     ensures err { OnErr result (I.made pass.new ≡ I.made pass.old) }
     ensures kept { I.kept pass.new ≡ I.kept pass.old }
     ensures lent { I.lent pass.new ≡ I.lent pass.old }

@@ -11,7 +11,7 @@ use Rattle.ct_rewrite.specs.Nodes.{node_value, node_condition, stands_over, IsOr
 use Rattle.ct_rewrite.specs.Rules.{is_proper}
 use Rattle.ct_rewrite.proofs.Nodes.{ordered_push, value_stays, condition_of_position, node_compared, same_node_is}
 
-abbrev compared : Node → Node → Bool
+abbrev pub compared : Node → Node → Bool
 compared = node_eq.ghosts.eq
 
 module _ (ns : List Node) (n : Node) (ordered : IsOrdered ns) (over : IsTrue (stands_over (length ns) n)) where

@@ -10,3 +10,4 @@ pub mod Openings
 pub mod Marks
 pub mod Sides
 pub mod Rules
+pub mod Literals

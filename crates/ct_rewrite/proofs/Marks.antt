@@ -10,7 +10,9 @@ use Rattle.ct_word.specs.Condition.{And, Or, listed}
 use Rattle.ct_rewrite.specs.Nodes.{IsOrdered, children_of, stands_over, nth, read_nodes, node_value, node_condition}
 use Rattle.ct_rewrite.specs.Building.{Grows}
 use Rattle.ct_rewrite.specs.Marks.{is_marked, IsClosedFrom, moved_to, moved_node, IsKept, AreKept}
+use Rattle.ct_rewrite.specs.Rules.{has_no_literals}
 use Rattle.ct_rewrite.proofs.Nodes.{condition_of_position, condition_stays, node_read}
+use Rattle.ct_rewrite.proofs.Literals.{literals_at}
 
 -- positions that were marked by these
 abbrev pub AreMarkedBy : List Bool → List Bool → List ℕ → Type 0
@@ -182,6 +184,13 @@ module _ (nodes out : List Node) (marks : List Bool) (ps read : List ℕ) (i : �
 
   pub step_copied : IsTrue m → IsTrue (stands_over (length out) (moved_node read n))
   step_copied e = subst (λ (xs : List ℕ). IsTrue (stands_over (length out) (moved_node xs n))) (sym same) (moved_over nodes out marks ps kept n (children_marked e) over_end)
+
+  pub step_literals : IsTrue (list_all has_no_literals (read_nodes [] nodes)) → IsTrue m → IsTrue (has_no_literals (node_value out (moved_node read n)))
+  step_literals all e =
+      subst (λ d. IsTrue (has_no_literals d))
+      (sym (ap (λ (xs : List ℕ). node_value out (moved_node xs n)) same ∙ moved_value nodes out marks ps kept n (children_marked e) over_end
+      ∙ sym (condition_of_position nodes (length ps) n ordered at_end)))
+      (literals_at nodes (length ps) all)
 
   pub step_kept : (new : List Node) (j : ℕ) → Grows out new → (IsTrue m → j < length new) → (IsTrue m → node_condition new j ≡ node_value out (moved_node read n)) → AreKept nodes marks new (ps ++ j ∷ [])
   step_kept new j g within value =

@@ -23,7 +23,7 @@ use Rattle.ct_word.specs.contracts.values.NullPartialEq.TheImpl as null_eq
 use Rattle.ct_word.specs.contracts.values.ValuePartialEq.TheImpl as value_eq
 use Rattle.ct_rewrite.specs.Nodes.{nth, condition_of_node, read_nodes, node_value, node_condition, stands_over, are_ordered_from, IsOrdered, same_node}
 
-read-append : (cs : List Condition) (ns ms : List Node) → read_nodes cs (ns ++ ms) ≡ read_nodes (read_nodes cs ns) ms
+pub read-append : (cs : List Condition) (ns ms : List Node) → read_nodes cs (ns ++ ms) ≡ read_nodes (read_nodes cs ns) ms
 read-append cs [] ms = refl
 read-append cs (n ∷ ns) ms = read-append (cs ++ condition_of_node cs n ∷ []) ns ms
 

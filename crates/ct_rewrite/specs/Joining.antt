@@ -10,6 +10,8 @@ use Rattle.ct_rewrite.specs.declared.answer.Node.{Node}
 use Rattle.ct_rewrite.specs.declared.builder.Connective.{Connective}
 use Rattle.ct_rewrite.specs.declared.builder.Connective.TheVariants as connective
 use Rattle.ct_rewrite.specs.Nodes.{node_condition, condition_of_node}
+use Rattle.ct_rewrite.specs.Building.{literal, unit}
+use Rattle.ct_rewrite.specs.Rules.{is_literal}
 use Rattle.ct_rewrite.specs.Sizes.{part_length, part_nest}
 
 -- whether a truth leaves a connective open: a false one settles And, a true one settles Or
@@ -32,6 +34,14 @@ node_open j before v row n = open_by j (holds v row (condition_of_node before n)
 -- two nodes never leave a connective open together, whatever nodes stand before them
 abbrev pub NeverBothOpen : Connective → Node → Node → Type 0
 NeverBothOpen j a b = (before : List Condition) (v : World) (row : List Value) → (node_open j before v row a && node_open j before v row b) ≡ false
+
+-- a position is not the truth that settles a connective
+abbrev pub IsNoSettler : Connective → List Node → ℕ → Type 0
+IsNoSettler j nodes k = node_condition nodes k ≡ literal (not (unit j)) → ⊥
+
+-- whether a position is neither True nor False
+abbrev pub is_no_literal : List Node → ℕ → Bool
+is_no_literal nodes k = not (is_literal (node_condition nodes k))
 
 -- two constants that are written differently
 abbrev pub AreDifferentConstants : Term → Term → Type 0

@@ -2,6 +2,7 @@
 use Rattle.std.specs.Prelude.{ℕ, not, ◌&&◌, Bool, true, false, length, nat_le}
 use Rattle.ct_word.specs.declared.values.Term.{Term}
 use Rattle.ct_word.specs.declared.values.Term.TheVariants as term
+use Rattle.ct_word.specs.Condition.{Condition, Conditions, True, False, And, Or, none, also}
 use Rattle.ct_rewrite.specs.declared.answer.Node.{Node}
 use Rattle.ct_rewrite.specs.declared.answer.Node.TheVariants as node
 use Rattle.ct_rewrite.specs.Order.{is_before}
@@ -36,3 +37,20 @@ is_unsettled _ = true
 -- whether the printed form allows a node
 abbrev pub is_proper : Node → Bool
 is_proper n = are_children_within n && are_sides_in_order n && is_unsettled n
+
+-- whether a condition is True or False
+abbrev pub is_literal : Condition → Bool
+is_literal True = true
+is_literal False = true
+is_literal _ = false
+
+-- whether none of these conditions is True or False
+abbrev pub are_no_literals : Conditions → Bool
+are_no_literals none = true
+are_no_literals (also c cs) = not (is_literal c) && are_no_literals cs
+
+-- whether an And or an Or has no part that is True or False
+abbrev pub has_no_literals : Condition → Bool
+has_no_literals (And cs) = are_no_literals cs
+has_no_literals (Or cs) = are_no_literals cs
+has_no_literals _ = true

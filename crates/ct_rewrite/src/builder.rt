@@ -3,9 +3,9 @@
 ghost use Rattle.std.specs.Prelude.{◌≡◌, ◌<◌, ◌≤◌, ◌+◌, ◌^◌, [], length, IfOk, OnErr, IsTrue};
 ghost use Rattle.std.specs.List.{IsDistinct, list_all};
 ghost use Rattle.ct_word.specs.Condition.{Same};
-ghost use Rattle.ct_rewrite.specs.Nodes.{node_condition, stands_over, same_node, node_value, IsOrdered};
+ghost use Rattle.ct_rewrite.specs.Nodes.{node_condition, read_nodes, stands_over, same_node, node_value, IsOrdered};
 ghost use Rattle.ct_rewrite.specs.Building.{Grows, Says, literal, signed, joined, dual, unit, joint_node, literal_node};
-ghost use Rattle.ct_rewrite.specs.Rules.{is_proper};
+ghost use Rattle.ct_rewrite.specs.Rules.{is_proper, has_no_literals};
 ghost use Rattle.ct_rewrite.specs.Sizes.{Fits};
 
 use crate::answer::Node;
@@ -60,17 +60,17 @@ pub struct Builder {
 }
 
 impl Model for Builder {
-    ghost use Rattle.std.specs.Prelude.{List, IsTrue};
+    ghost use Rattle.std.specs.Prelude.{List, [], IsTrue};
     ghost use Rattle.std.specs.List.{list_all};
     ghost use Rattle.ct_rewrite.specs.declared.answer.Node.{Node};
-    ghost use Rattle.ct_rewrite.specs.Nodes.{IsOrdered};
-    ghost use Rattle.ct_rewrite.specs.Rules.{is_proper};
+    ghost use Rattle.ct_rewrite.specs.Nodes.{IsOrdered, read_nodes};
+    ghost use Rattle.ct_rewrite.specs.Rules.{is_proper, has_no_literals};
 
     ghost Value = { List Node };
 
     ghost view = { λ b. b.nodes.keys };
 
-    ghost invariant = { λ b. IsOrdered b.nodes.keys × IsTrue (list_all is_proper b.nodes.keys) };
+    ghost invariant = { λ b. IsOrdered b.nodes.keys × IsTrue (list_all is_proper b.nodes.keys) × IsTrue (list_all has_no_literals (read_nodes [] b.nodes.keys)) };
 }
 
 impl Builder {
@@ -88,6 +88,7 @@ impl Builder {
         ensures value { result.now ≡ self.now }
         ensures ordered { IsOrdered self.now }
         ensures proper { IsTrue (list_all is_proper self.now) }
+        ensures no_literals { IsTrue (list_all has_no_literals (read_nodes [] self.now)) }
     {
         self.nodes.as_slice()
     }
@@ -97,6 +98,8 @@ impl Builder {
         requires { position < length self.now }
         ensures value { node_condition self.now position ≡ node_value self.now result.now }
         ensures below { IsTrue (stands_over position result.now) }
+        ensures proper { IsTrue (is_proper result.now) }
+        ensures no_literals { IsTrue (has_no_literals (node_value self.now result.now)) }
     {
         &self.nodes.as_slice()[position as usize]
     }
@@ -105,6 +108,7 @@ impl Builder {
     pub fn place(&mut self, node: Node) -> Result<u32, Memory>
         requires ordered { IsTrue (stands_over (length self.old) node) }
         requires proper { IsTrue (is_proper node) }
+        requires no_literals { IsTrue (has_no_literals (node_value self.old node)) }
         requires room { length self.old < 2 ^ 32 }
         ensures grows { Grows self.old self.new }
         ensures count { length self.new ≤ length self.old + 1 }
@@ -152,6 +156,7 @@ impl Builder {
         ensures nodes { IfOk result (λ ns. ns ≡ self) }
         ensures ordered { IsOrdered self }
         ensures proper { IsTrue (list_all is_proper self) }
+        ensures no_literals { IsTrue (list_all has_no_literals (read_nodes [] self)) }
         ensures distinct { IsDistinct same_node self }
     {
         let Builder { nodes } = self;

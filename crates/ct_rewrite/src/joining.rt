@@ -5,9 +5,10 @@ ghost use Rattle.std.specs.List.{list_all};
 ghost use Rattle.ct_word.specs.declared.values.Value.{Value};
 ghost use Rattle.ct_word.specs.Value.{World};
 ghost use Rattle.ct_word.specs.Condition.{Condition};
-ghost use Rattle.ct_rewrite.specs.Nodes.{node_condition, is_position};
+ghost use Rattle.ct_rewrite.specs.Nodes.{condition_of_node, node_condition, is_position};
 ghost use Rattle.ct_rewrite.specs.Building.{Grows, Says, joined, joint_node, literal_node};
-ghost use Rattle.ct_rewrite.specs.Joining.{NeverBothOpen, leaves_open, all_open, StandFor, Settle, HasMembersOf, HasNoMoreThan, AreNoLarger, IsNoLarger};
+ghost use Rattle.ct_rewrite.specs.Joining.{NeverBothOpen, leaves_open, all_open, StandFor, Settle, HasMembersOf, HasNoMoreThan, AreNoLarger, IsNoLarger, IsNoSettler, is_no_literal};
+ghost use Rattle.ct_rewrite.specs.Rules.{is_literal};
 ghost use Rattle.ct_rewrite.specs.Sizes.{Fits};
 
 use crate::answer::Node;
@@ -23,7 +24,7 @@ const MOST_CHILDREN: usize = 64;
 
 /// The truth of a node that is always true or always false.
 fn truth_of(node: &Node) -> Option<bool>
-    ensures { IfSome result (λ b. node.now ≡ literal_node b) }
+    ensures { MatchOption result ((before : List Condition) → is_literal (condition_of_node before node.now) ≡ false) (λ b. node.now ≡ literal_node b) }
 {
     match node {
         Node::True => Some(true),
@@ -65,7 +66,8 @@ impl Builder {
     /// Whether a form settles a connective: False settles And, True settles Or.
     fn settles(&self, connective: Connective, form: u32) -> bool
         requires { form < length self.now }
-        ensures { IsTrue result → (v : World) (row : List Value) → leaves_open connective self.now v row form ≡ false }
+        ensures settles { IsTrue result → (v : World) (row : List Value) → leaves_open connective self.now v row form ≡ false }
+        ensures no_settler { result ≡ false → IsNoSettler connective self.now form }
     {
         match truth_of(self.node(form)) {
             Some(truth) => truth != connective.unit(),
@@ -80,6 +82,9 @@ impl Builder {
         ensures placed { IfOk result (λ ks. IsTrue (list_all (is_position self.now) ks.items)) }
         ensures truth { IfOk result (λ ks. StandFor connective self.now ks.items form) }
         ensures size { IfOk result (λ ks. AreNoLarger connective self.now ks.items form) }
+        ensures few { IfOk result (λ ks. length ks.items ≤ 64) }
+        ensures no_literals { IfOk result (λ ks. IsNoSettler connective self.now form → IsTrue (list_all (is_no_literal self.now) ks.items)) }
+        ensures no_literal { IfOk result (λ ks. IsNoSettler connective self.now form → 1 ≤ length ks.items → IsTrue (is_no_literal self.now form)) }
     {
         let node = self.node(form);
         if let Some(children) = children_of(connective, node) {
@@ -108,6 +113,7 @@ impl Builder {
         ensures left_size { IfOk result (λ p. AreNoLarger connective self.now p.0.items a) }
         ensures right_size { IfOk result (λ p. AreNoLarger connective self.now p.1.items b) }
         ensures few { IfOk result (λ p. length p.0.items + length p.1.items ≤ 64) }
+        ensures no_literals { IfOk result (λ p. IsNoSettler connective self.now a → IsNoSettler connective self.now b → IsTrue (list_all (is_no_literal self.now) p.0.items && list_all (is_no_literal self.now) p.1.items)) }
     {
         let left = self.parts(alloc, connective, a)?;
         let right = self.parts(alloc, connective, b)?;
@@ -177,6 +183,7 @@ impl Builder {
     ) -> Result<u32, Memory>
         requires placed { IsTrue (list_all (is_position self.old) children.items) }
         requires few { length children.items ≤ 64 }
+        requires no_literals { IsTrue (list_all (is_no_literal self.old) children.items) }
         requires room { length self.old < 2 ^ 32 }
         ensures grows { Grows self.old self.new }
         ensures count { length self.new ≤ length self.old + 1 }

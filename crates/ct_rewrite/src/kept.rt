@@ -2,9 +2,9 @@
 
 ghost use Rattle.std.specs.Prelude.{◌≡◌, ℕ, ◌<◌, ◌≤◌, ◌+◌, ◌^◌, ◌||◌, [], length, map, nat_eq, nat_lt, IfOk, IsTrue};
 ghost use Rattle.std.specs.List.{AllZip, IsDistinct, list_all, list_any};
-ghost use Rattle.ct_rewrite.specs.Nodes.{IsOrdered, children_of, is_position, node_condition, node_value, same_node, stands_over};
+ghost use Rattle.ct_rewrite.specs.Nodes.{IsOrdered, children_of, is_position, node_condition, node_value, read_nodes, same_node, stands_over};
 ghost use Rattle.ct_rewrite.specs.Building.{Grows};
-ghost use Rattle.ct_rewrite.specs.Rules.{is_proper};
+ghost use Rattle.ct_rewrite.specs.Rules.{is_proper, has_no_literals};
 ghost use Rattle.ct_rewrite.specs.Marks.{AreKept, IsClosedFrom, IsKept, is_marked, moved_node, moved_to};
 
 use crate::answer::Node;
@@ -84,6 +84,7 @@ fn next_position(
     requires children { IsTrue marked → IsTrue (stands_over (length positions.now) node.now) }
     requires copied { IsTrue marked → IsTrue (stands_over (length builder.old) (moved_node positions.now node.now)) }
     requires proper { IsTrue marked → IsTrue (is_proper node.now) }
+    requires no_literals { IsTrue marked → IsTrue (has_no_literals (node_value builder.old (moved_node positions.now node.now))) }
     requires room { length builder.old < 2 ^ 32 }
     ensures grows { Grows builder.old builder.new }
     ensures count { length builder.new ≤ length builder.old + 1 }
@@ -101,12 +102,14 @@ fn next_position(
 pub fn kept(alloc: Global, nodes: &[Node], roots: &[u32]) -> Result<Normal, Memory>
     requires ordered { IsOrdered nodes.now }
     requires proper { IsTrue (list_all is_proper nodes.now) }
+    requires no_literals { IsTrue (list_all has_no_literals (read_nodes [] nodes.now)) }
     requires roots { IsTrue (list_all (is_position nodes.now) roots.now) }
     requires room { length nodes.now < 2 ^ 32 }
     ensures kept { IfOk result (λ n. AllZip (λ j k. IsKept nodes.now n.nodes k j) n.roots roots.now) }
     ensures ordered { IfOk result (λ n. IsOrdered n.nodes) }
     ensures distinct { IfOk result (λ n. IsDistinct same_node n.nodes) }
     ensures proper { IfOk result (λ n. IsTrue (list_all is_proper n.nodes)) }
+    ensures no_literals { IfOk result (λ n. IsTrue (list_all has_no_literals (read_nodes [] n.nodes))) }
 {
     let marks = reached(alloc, nodes, roots)?;
     let mut builder = Builder::new(alloc);

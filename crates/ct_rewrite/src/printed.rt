@@ -1,14 +1,14 @@
 // The printed form of conditions.
 
-ghost use Rattle.std.specs.Prelude.{◌≡◌, ℕ, List, ◌<◌, ◌≤◌, ◌^◌, length, map, nat_lt, IfOk, IsTrue};
+ghost use Rattle.std.specs.Prelude.{◌≡◌, ℕ, List, [], ◌<◌, ◌≤◌, ◌^◌, length, map, nat_lt, IfOk, IsTrue};
 ghost use Rattle.std.specs.List.{AllZip, IsDistinct, list_all};
 ghost use Rattle.ct_word.specs.declared.kinds.Class.TheVariants as class;
 ghost use Rattle.ct_word.specs.declared.values.Term.{Term};
 ghost use Rattle.ct_word.specs.Condition.{SameTruth};
 ghost use Rattle.ct_word.specs.WellFormed.{IsWellFormed, is_place_of};
 ghost use Rattle.ct_word.specs.Reading.{condition_at};
-ghost use Rattle.ct_rewrite.specs.Nodes.{IsOrdered, is_position, node_condition, same_node};
-ghost use Rattle.ct_rewrite.specs.Rules.{are_children_within, are_sides_in_order, is_unsettled};
+ghost use Rattle.ct_rewrite.specs.Nodes.{IsOrdered, is_position, node_condition, read_nodes, same_node};
+ghost use Rattle.ct_rewrite.specs.Rules.{are_children_within, are_sides_in_order, has_no_literals, is_unsettled};
 ghost use Rattle.ct_rewrite.specs.Signs.{plus_at};
 ghost use Rattle.ct_rewrite.specs.Sizes.{NoneIsEmpty, deep, nest_of, text_of, wide};
 
@@ -56,6 +56,9 @@ pub fn normal(alloc: Global, words: &[u64], roots: &[u32]) -> Result<Normal, Mem
 
     // Each And and Or has at least two children and at most 64.
     ensures children { IfOk result (λ n. IsTrue (list_all are_children_within n.nodes)) }
+
+    // No child of an And or Or is True or False.
+    ensures no_literals { IfOk result (λ n. IsTrue (list_all has_no_literals (read_nodes [] n.nodes))) }
 
     // In each equality, and in the denial of one, the smaller term stands first, and not both are constants.
     ensures sides { IfOk result (λ n. IsTrue (list_all are_sides_in_order n.nodes)) }

@@ -20,7 +20,7 @@ use Rattle.ct_condition.proofs.Reached.{formed_before}
 use Rattle.ct_table.specs.Tables.{cells_of, value_of_rows, IsRow}
 use Rattle.ct_table.specs.Terms.{RowFrom}
 use Rattle.ct_table.specs.Building.{Builds, HoldsWhere}
-use Rattle.ct_table.proofs.Reaching.{none_from, row_later, rows_later, rows_wider, under_from}
+use Rattle.ct_table.proofs.Reaching.{none_from, rows_later, rows_wider, under_from}
 use Rattle.ct_table.proofs.Selecting.{value-append, value-push, one_picked}
 use Rattle.ct_table.proofs.Growing.{terms_grow, is_row_grows, cells_grow, value_grows}
 

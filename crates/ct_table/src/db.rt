@@ -12,7 +12,7 @@ use crate::table::CTable;
 use ct_query::{Count, Counts, Heading, Schema};
 use ct_word::{List, Memory, Text};
 use indexmap::IndexMap;
-use std::alloc::{AllocError, Global};
+use std::alloc::Global;
 use std::marker::Model;
 use std::sync::Arc;
 
@@ -78,8 +78,8 @@ impl Db {
     /// The numbers of rows and columns of the tables. A number of columns stops at the greatest `u32`.
     ///
     /// # Errors
-    /// `AllocError` where there is no memory for the copies of the names.
-    pub fn counts(&self, alloc: Global) -> Result<Counts, AllocError>
+    /// `Memory` where there is none for the copies of the names.
+    pub fn counts(&self, alloc: Global) -> Result<Counts, Memory>
         ensures { IfOk result (λ c. c.tables ≡ map count_of self.now) }
     {
         let mut counts = Vec::new(alloc);
@@ -116,7 +116,7 @@ fn heading(name: &Text, table: &CTable) -> Result<Heading, Memory>
 }
 
 /// The name of a table, and its numbers of rows and columns.
-fn count(name: &Text, table: &CTable) -> Result<Count, AllocError>
+fn count(name: &Text, table: &CTable) -> Result<Count, Memory>
     ensures { IfOk result (λ c. c ≡ count_of (view_of name.now table.now)) }
 {
     Ok(Count {

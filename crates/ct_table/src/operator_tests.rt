@@ -5,15 +5,15 @@ ghost use mathlib.Core.List.{IsPrefix};
 ghost use Rattle.ct_word.specs.WellFormed.{is_place_of};
 ghost use Rattle.ct_word.specs.Word.{kind_of};
 ghost use Rattle.ct_word.specs.declared.kinds.Class.TheVariants as class;
-ghost use Rattle.ct_query.specs.Fields.{FitsFields};
+ghost use Rattle.ct_query.specs.Fields.{FitsFields, AreFittingOn};
 ghost use Rattle.ct_query.specs.Fits.{FitsRows};
 ghost use Rattle.ct_query.specs.Pred.{condition_of};
 ghost use Rattle.ct_table.specs.Placing.{column_of};
 ghost use Rattle.ct_table.specs.Tables.{IsRow, AreRows};
 
-use crate::{CRow, CTable, except, insert, intersect, product, project, select, union};
+use crate::{CRow, CTable, delete, except, insert, intersect, product, project, select, union};
 use ct_arena::{Arena, Blank, Pass, Site};
-use ct_condition::{and, eq, not, or, term};
+use ct_condition::{and, eq, not, or, pred, term};
 use ct_query::Pred;
 use ct_word::{Class, Kind, List, Null, Term, Text, Value, class, kind};
 use std::alloc::{AllocError, Global};
@@ -55,6 +55,14 @@ const X_NOT_Y: usize = 8;
 
 const FRESH_EQUAL: usize = 9;
 
+/// What rows are selected or deleted by: the first cell is 1, or is not, or equals the second.
+#[derive(Clone, Copy)]
+enum Test {
+    One,
+    Other,
+    Equal,
+}
+
 /// What is tried; `First` is the projection to the first of two columns, `Swapped` that to both in the other order.
 #[derive(Clone, Copy)]
 enum Operator {
@@ -64,15 +72,27 @@ enum Operator {
     Product,
     Except,
     Intersect,
+    Select(Test),
+    Delete(Test),
 }
 
-use Operator::{Except, First, Intersect, Product, Swapped, Union};
+use Operator::{Delete, Except, First, Intersect, Product, Select, Swapped, Union};
 
 /// Cells and a condition, by their numbers.
 type Row = (&'static [usize], usize);
 
+/// Rows of two cells, which are always equal, or where the condition says so, or never.
+const PAIRS: [Row; 4] = [
+    (&[ONE, X], ALWAYS),
+    (&[X, X], Y_ONE),
+    (&[ONE, TWO], ALWAYS),
+    (&[X, Y], ALWAYS),
+];
+
 /// An operator, its operands, and the rows that it answers.
-const CASES: [(Operator, &'static [Row], &'static [Row], &'static [Row]); 10] = [
+type Case = (Operator, &'static [Row], &'static [Row], &'static [Row]);
+
+const CASES: [Case; 16] = [
     // The left rows come first. A row that stands on both sides stands once, where it stood first.
     (
         Union,
@@ -132,37 +152,27 @@ const CASES: [(Operator, &'static [Row], &'static [Row], &'static [Row]); 10] = 
         &[(&[ONE], BOTH_ONE)],
     ),
     (Intersect, &[(&[ONE], ALWAYS)], &[], &[]),
-];
-
-/// What rows of two columns are selected by: the first is 1, or is not, or equals the second.
-#[derive(Clone, Copy)]
-enum Test {
-    One,
-    Other,
-    Equal,
-}
-
-/// A test, the rows of a table, and those that a selection answers.
-const SELECTIONS: [(Test, &'static [Row], &'static [Row]); 3] = [
     // 2 is not 1; ?x is 1 never where it is not 1; ?y may be.
     (
-        Test::One,
+        Select(Test::One),
         &[
             (&[ONE, X], Y_ONE),
             (&[TWO, X], ALWAYS),
             (&[X, X], X_NOT_ONE),
             (&[Y, X], X_ONE),
         ],
+        &[],
         &[(&[ONE, X], Y_ONE), (&[Y, X], BOTH_ONE)],
     ),
     (
-        Test::Other,
+        Select(Test::Other),
         &[
             (&[ONE, X], ALWAYS),
             (&[TWO, X], Y_ONE),
             (&[X, X], ALWAYS),
             (&[Y, X], X_ONE),
         ],
+        &[],
         &[
             (&[TWO, X], Y_ONE),
             (&[X, X], X_NOT_ONE),
@@ -171,14 +181,34 @@ const SELECTIONS: [(Test, &'static [Row], &'static [Row]); 3] = [
     ),
     // A null equals itself.
     (
-        Test::Equal,
-        &[
-            (&[ONE, X], ALWAYS),
-            (&[X, X], Y_ONE),
-            (&[ONE, TWO], ALWAYS),
-            (&[X, Y], ALWAYS),
-        ],
+        Select(Test::Equal),
+        &PAIRS,
+        &[],
         &[(&[ONE, X], X_ONE), (&[X, X], Y_ONE), (&[X, Y], X_Y)],
+    ),
+    // 1 goes, 2 stays, and ?x stays where it is not 1.
+    (
+        Delete(Test::One),
+        &[(&[ONE], ALWAYS), (&[X], ALWAYS), (&[TWO], ALWAYS)],
+        &[],
+        &[(&[X], X_NOT_ONE), (&[TWO], ALWAYS)],
+    ),
+    // What stays keeps its own condition; ?x goes where that makes it 1.
+    (
+        Delete(Test::One),
+        &[(&[X], X_ONE), (&[Y], X_ONE), (&[TWO], Y_ONE)],
+        &[],
+        &[(&[Y], X_ALONE_ONE), (&[TWO], Y_ONE)],
+    ),
+    (
+        Delete(Test::Equal),
+        &PAIRS,
+        &[],
+        &[
+            (&[ONE, X], X_NOT_ONE),
+            (&[ONE, TWO], ALWAYS),
+            (&[X, Y], X_NOT_Y),
+        ],
     ),
 ];
 
@@ -223,32 +253,29 @@ fn either<N: Site>(arena: &Arena<N>, pass: &mut Pass<N>, c: u32, d: u32) -> Resu
     Ok(or(arena, pass, c, d)?)
 }
 
-fn named(alloc: Global, name: &str) -> Result<Term, AllocError>
+fn named(alloc: Global, name: &str) -> Result<Term, Fail>
     ensures { IfOk result FitsFields }
 {
-    let name = Text::from_string(String::from_str(alloc, name)?);
-    Ok(Term::Null(Null::Named(name)))
-}
-
-fn fresh<N: Site>(arena: &Arena<N>, pass: &mut Pass<N>) -> Result<[u32; 2], Fail> {
-    let null = Term::Null(Null::Fresh {
-        session: 1,
-        number: 1,
-    });
-    let other = Term::Null(Null::Fresh {
-        session: 1,
-        number: 2,
-    });
-    Ok([term(arena, pass, &null)?, term(arena, pass, &other)?])
+    Ok(Term::Null(Null::Named(Text::from_str(alloc, name)?)))
 }
 
 fn terms<N: Site>(alloc: Global, arena: &Arena<N>, pass: &mut Pass<N>) -> Result<[u32; 6], Fail> {
-    let one = term(arena, pass, &Term::Value(Value::Int(1)))?;
-    let two = term(arena, pass, &Term::Value(Value::Int(2)))?;
-    let x = term(arena, pass, &named(alloc, "x")?)?;
-    let y = term(arena, pass, &named(alloc, "y")?)?;
-    let [fresh, other] = fresh(arena, pass)?;
-    Ok([one, two, x, y, fresh, other])
+    let fresh = Null::Fresh {
+        session: 1,
+        number: 1,
+    };
+    let other = Null::Fresh {
+        session: 1,
+        number: 2,
+    };
+    Ok([
+        term(arena, pass, &Term::Value(Value::Int(1)))?,
+        term(arena, pass, &Term::Value(Value::Int(2)))?,
+        term(arena, pass, &named(alloc, "x")?)?,
+        term(arena, pass, &named(alloc, "y")?)?,
+        term(arena, pass, &Term::Null(fresh))?,
+        term(arena, pass, &Term::Null(other))?,
+    ])
 }
 
 fn conditions<N: Site>(
@@ -390,21 +417,43 @@ fn filled<N: Site>(
     Ok(insert(alloc, arena, pass, &none, rows)?)
 }
 
-fn operands<N: Site>(
+fn is_one(width: usize) -> Result<Pred, Fail>
+    ensures fits { IfOk result (λ p. FitsRows width (condition_of p)) }
+    ensures fields { IfOk result (λ p. AreFittingOn 0 (condition_of p)) }
+{
+    if width == 0 {
+        return Err("no column".into());
+    }
+    Ok(Pred::Same(Term::Column(0), Term::Value(Value::Int(1))))
+}
+
+/// The test on rows of so many columns.
+fn predicate(alloc: Global, width: usize, test: Test) -> Result<Pred, Fail>
+    ensures fits { IfOk result (λ p. FitsRows width (condition_of p)) }
+    ensures fields { IfOk result (λ p. AreFittingOn 0 (condition_of p)) }
+{
+    match test {
+        Test::One => is_one(width),
+        Test::Other => Ok(Pred::Not(Box::new(alloc, is_one(width)?)?)),
+        Test::Equal if width < 2 => Err("not two columns".into()),
+        Test::Equal => Ok(Pred::Same(Term::Column(0), Term::Column(1))),
+    }
+}
+
+/// What a deletion of the rows that pass a test leaves. The test is put into the log with its columns.
+fn deleted<N: Site>(
     alloc: Global,
     arena: &Arena<N>,
     pass: &mut Pass<N>,
-    width: usize,
-    left: &[CRow],
-    right: &[CRow],
-) -> Result<(CTable, CTable), Fail>
-    ensures left { IfOk result (λ t. AreRows pass.new.words (length t.0.columns) t.0.rows) }
-    ensures right { IfOk result (λ t. AreRows pass.new.words (length t.1.columns) t.1.rows) }
+    test: Test,
+    table: &CTable,
+) -> Result<CTable, Fail>
+    requires { AreRows pass.old.words (length table.now.columns) table.now.rows }
 {
-    let one = filled(alloc, arena, pass, width, left)?;
     let _ = pass.words();
-    let other = filled(alloc, arena, pass, width, right)?;
-    Ok((one, other))
+    let p = predicate(alloc, table.columns.as_slice().len(), test)?;
+    let cond = pred(arena, pass, &p, &[])?;
+    Ok(delete(alloc, arena, pass, table, cond)?)
 }
 
 fn answer<N: Site>(
@@ -432,6 +481,8 @@ fn answer<N: Site>(
         Product => product(alloc, arena, pass, left, right)?,
         Except => except(alloc, arena, pass, left, right)?,
         Intersect => intersect(alloc, arena, pass, left, right)?,
+        Select(test) => select(alloc, arena, pass, &predicate(alloc, width, test)?, left)?,
+        Delete(test) => deleted(alloc, arena, pass, test, left)?,
     })
 }
 
@@ -441,89 +492,32 @@ fn same_rows(a: &[CRow], b: &[CRow]) -> bool {
             && r.cond == s.cond)
 }
 
-fn try_all<N: Site>(rt: &impl Abort, alloc: Global, blank: Blank) -> Result<(), Fail>
+/// One case, on a log of its own: `are_rows` wants a log without columns, and a deletion puts some there.
+fn try_case<N: Site>(rt: &impl Abort, alloc: Global, blank: Blank, case: Case) -> Result<(), Fail>
     requires { blank ≡ N.log }
 {
+    let (operator, left, right, expected) = case;
     let (arena, mut keeper) = Arena::<N>::make(blank);
     let mut pass = keeper.enrol(alloc, &arena)?;
     let terms = terms(alloc, &arena, &mut pass)?;
     let conditions = conditions(&arena, &mut pass, &terms)?;
-    for (operator, left, right, expected) in CASES {
-        let width = left.first().map_or(1, |row| row.0.len());
-        let left = rows(alloc, &terms, &conditions, left)?;
-        let right = rows(alloc, &terms, &conditions, right)?;
-        let (left, right) = operands(
-            alloc,
-            &arena,
-            &mut pass,
-            width,
-            left.as_slice(),
-            right.as_slice(),
-        )?;
-        let out = answer(alloc, &arena, &mut pass, operator, &left, &right)?;
-        let expected = rows(alloc, &terms, &conditions, expected)?;
-        assert!(rt; same_rows(out.rows.as_slice(), expected.as_slice()));
-    }
+    let width = left.first().map_or(1, |row| row.0.len());
+    let left_rows = rows(alloc, &terms, &conditions, left)?;
+    let right_rows = rows(alloc, &terms, &conditions, right)?;
+    let left = filled(alloc, &arena, &mut pass, width, left_rows.as_slice())?;
+    let _ = pass.words();
+    let right = filled(alloc, &arena, &mut pass, width, right_rows.as_slice())?;
+    let out = answer(alloc, &arena, &mut pass, operator, &left, &right)?;
+    let expected = rows(alloc, &terms, &conditions, expected)?;
+    assert!(rt; same_rows(out.rows.as_slice(), expected.as_slice()));
     Ok(())
 }
 
 #[test]
 fn the_operators_answer_their_rows(rt: HostRuntime) -> Result<(), Fail> {
-    let blank = Blank::make(rt.alloc(), 1024)?;
-    try_all::<Brand>(&rt, rt.alloc(), blank)
-}
-
-fn is_one() -> Pred
-    ensures { FitsRows 2 (condition_of result) }
-{
-    Pred::Same(Term::Column(0), Term::Value(Value::Int(1)))
-}
-
-fn predicate(alloc: Global, test: Test) -> Result<Pred, AllocError>
-    ensures { IfOk result (λ p. FitsRows 2 (condition_of p)) }
-{
-    Ok(match test {
-        Test::One => is_one(),
-        Test::Other => Pred::Not(Box::new(alloc, is_one())?),
-        Test::Equal => Pred::Same(Term::Column(0), Term::Column(1)),
-    })
-}
-
-fn selected<N: Site>(
-    alloc: Global,
-    arena: &Arena<N>,
-    pass: &mut Pass<N>,
-    test: Test,
-    table: &CTable,
-) -> Result<CTable, Fail>
-    requires { AreRows pass.old.words (length table.now.columns) table.now.rows }
-{
-    if table.columns.as_slice().len() != 2 {
-        return Err("not two columns".into());
-    }
-    let p = predicate(alloc, test)?;
-    Ok(select(alloc, arena, pass, &p, table)?)
-}
-
-fn try_selections<N: Site>(rt: &impl Abort, alloc: Global, blank: Blank) -> Result<(), Fail>
-    requires { blank ≡ N.log }
-{
-    let (arena, mut keeper) = Arena::<N>::make(blank);
-    let mut pass = keeper.enrol(alloc, &arena)?;
-    let terms = terms(alloc, &arena, &mut pass)?;
-    let conditions = conditions(&arena, &mut pass, &terms)?;
-    for (test, given, expected) in SELECTIONS {
-        let given = rows(alloc, &terms, &conditions, given)?;
-        let table = filled(alloc, &arena, &mut pass, 2, given.as_slice())?;
-        let out = selected(alloc, &arena, &mut pass, test, &table)?;
-        let expected = rows(alloc, &terms, &conditions, expected)?;
-        assert!(rt; same_rows(out.rows.as_slice(), expected.as_slice()));
+    for case in CASES {
+        let blank = Blank::make(rt.alloc(), 1024)?;
+        try_case::<Brand>(&rt, rt.alloc(), blank, case)?;
     }
     Ok(())
-}
-
-#[test]
-fn selections_answer_their_rows(rt: HostRuntime) -> Result<(), Fail> {
-    let blank = Blank::make(rt.alloc(), 1024)?;
-    try_selections::<Brand>(&rt, rt.alloc(), blank)
 }

@@ -11,23 +11,19 @@ use crate::{CRow, CTable, Db, insert, select};
 use ct_arena::{Arena, Blank, Pass, Site};
 use ct_condition::{eq, term};
 use ct_query::Pred;
-use ct_word::{List, Term, Text, Value};
-use std::alloc::{AllocError, Global};
+use ct_word::{List, Memory, Term, Text, Value};
+use std::alloc::Global;
 use std::marker::Brand;
 use std::process::Abort;
 use std::test::Fail;
 
-fn text(alloc: Global, text: &str) -> Result<Text, AllocError> {
-    Ok(Text::from_string(String::from_str(alloc, text)?))
-}
-
 /// A table of one column, without rows.
-fn table(alloc: Global) -> Result<CTable, AllocError>
+fn table(alloc: Global) -> Result<CTable, Memory>
     ensures columns { IfOk result (λ t. length t.columns ≡ 1) }
     ensures rows { IfOk result (λ t. t.rows ≡ []) }
 {
     Ok(CTable {
-        columns: List::from_vec(Vec::from_array(alloc, [text(alloc, "a")?])?),
+        columns: List::from_vec(Vec::from_array(alloc, [Text::from_str(alloc, "a")?])?),
         rows: List::new(alloc),
     })
 }
@@ -37,7 +33,7 @@ fn tables_are_found_by_their_names(rt: HostRuntime) -> Result<(), Fail> {
     let alloc = rt.alloc();
     let none = Db::empty(alloc);
     assert!(rt; none.get("t").is_none());
-    let db = none.with(alloc, text(alloc, "t")?, table(alloc)?)?;
+    let db = none.with(alloc, Text::from_str(alloc, "t")?, table(alloc)?)?;
     let found = db.get("t").ok_or("no table")?;
     assert_eq!(rt; found.columns.as_slice().len(), 1);
     assert_eq!(rt; db.schema(alloc)?.tables.as_slice().len(), 1);

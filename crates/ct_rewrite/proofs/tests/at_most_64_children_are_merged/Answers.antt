@@ -1,12 +1,7 @@
 use Rattle.std.proofs.Common.{refl}
 use Rattle.ct_word.specs.Word.{kind_with}
-use Rattle.ct_word.specs.WellFormed.{is_word_after}
 use Rattle.ct_rewrite.proofs.tests.at_most_64_children_are_merged.Goals as goal
 
-pub normal-requires-clause-formed : goal.normal-requires-clause-formed
-unfolding kind_with is_word_after
-normal-requires-clause-formed g c = refl
-
-pub normal-requires-clause-roots : goal.normal-requires-clause-roots
+pub wide-requires : goal.wide-requires
 unfolding kind_with
-normal-requires-clause-roots g c = refl
+wide-requires g c = refl

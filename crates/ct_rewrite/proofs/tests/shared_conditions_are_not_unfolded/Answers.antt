@@ -10,3 +10,19 @@ normal-requires-clause-formed g c = refl
 pub normal-requires-clause-roots : goal.normal-requires-clause-roots
 unfolding kind_with
 normal-requires-clause-roots g c = refl
+
+pub normal-requires-2-clause-formed : goal.normal-requires-2-clause-formed
+unfolding kind_with is_word_after
+normal-requires-2-clause-formed g c = refl
+
+pub normal-requires-2-clause-roots : goal.normal-requires-2-clause-roots
+unfolding kind_with
+normal-requires-2-clause-roots g c = refl
+
+pub normal-requires-3-clause-formed : goal.normal-requires-3-clause-formed
+unfolding kind_with is_word_after
+normal-requires-3-clause-formed g c = refl
+
+pub normal-requires-3-clause-roots : goal.normal-requires-3-clause-roots
+unfolding kind_with
+normal-requires-3-clause-roots g c = refl

@@ -1,4 +1,4 @@
-use Rattle.std.proofs.Common.{◌≡◌, ◌+◌, ◌∙◌, not, ◌&&◌, [], ◌∷◌, ◌++◌, length, take, ap, sym, subst, refl, ◌≤◌, ◌<◌, ◌*◌, arith}
+use Rattle.std.proofs.Common.{◌≡◌, ◌+◌, ◌∙◌, not, ◌&&◌, [], ◌∷◌, ◌++◌, length, take, ap, sym, subst, refl, ◌≤◌, ◌*◌, arith}
 use Rattle.std.specs.Prelude.{All, IsTrue}
 use Rattle.std.proofs.lemmas.List.{take_more, take_all}
 use Rattle.std.proofs.lemmas.Result.{err_from_is_err_and}

@@ -1,4 +1,4 @@
-use Rattle.std.proofs.Common.{length, sym, subst, ◌≡◌, ◌≤◌, ◌<◌, ◌+◌, ◌*◌, Err, ◌∙◌, ap, arith, ◌++◌}
+use Rattle.std.proofs.Common.{length, sym, subst, ◌≡◌, ◌+◌, ◌*◌, Err, ◌∙◌, ap, arith, ◌++◌}
 use Rattle.std.specs.Prelude.{All, IfOk}
 use Rattle.std.proofs.lemmas.Result.{IfOk-weaker, err_from_is_err_and}
 use Rattle.ct_word.specs.Value.{same_cells}

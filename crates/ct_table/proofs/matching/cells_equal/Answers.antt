@@ -1,4 +1,4 @@
-use Rattle.std.proofs.Common.{◌≤◌, ◌∙◌, length, take, sym, subst, refl, rules, arith, ◌≡◌, ◌<◌, ◌+◌, ◌-◌, ◌*◌, ◌++◌, inl}
+use Rattle.std.proofs.Common.{◌≤◌, ◌∙◌, length, take, sym, subst, refl, rules, arith, ◌+◌, ◌-◌, ◌*◌, ◌++◌, inl}
 use Rattle.std.specs.Prelude.{IsTrue}
 use Rattle.std.specs.Option.{IsSome}
 use Rattle.std.proofs.lemmas.List.{take_all, length_push}

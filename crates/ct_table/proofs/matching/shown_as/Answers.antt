@@ -1,4 +1,4 @@
-use Rattle.std.proofs.Common.{◌&&◌, subst, ◌≡◌, ◌≤◌, ◌<◌, ◌+◌, ◌-◌, ◌*◌, ◌∙◌, length, ap, sym, arith, ◌∷◌, ◌++◌}
+use Rattle.std.proofs.Common.{◌&&◌, subst, ◌≡◌, ◌≤◌, ◌+◌, ◌-◌, ◌*◌, ◌∙◌, length, ap, sym, arith, ◌∷◌, ◌++◌}
 use Rattle.std.specs.Option.{IsSome}
 use Rattle.std.proofs.lemmas.Result.{IfOk-weaker, err_from_is_err_and}
 use Rattle.ct_word.specs.Condition.{holds_at}

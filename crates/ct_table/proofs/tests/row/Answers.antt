@@ -1,5 +1,5 @@
-use Rattle.std.proofs.Common.{◌≡◌, ◌<◌, [], ◌∷◌, ◌∙◌, length, refl, sym, subst, inl, inr}
-use Rattle.std.specs.Prelude.{◌⊎◌, All, IsTrue}
+use Rattle.std.proofs.Common.{◌<◌, [], ◌∷◌, ◌∙◌, length, refl, sym, subst, inl, inr}
+use Rattle.std.specs.Prelude.{IsTrue}
 use Rattle.std.proofs.lemmas.List.Elements.{All-nil, All-cons}
 use Rattle.ct_word.specs.declared.kinds.Class.TheVariants as class
 use Rattle.ct_word.specs.declared.values.Term.TheVariants as term

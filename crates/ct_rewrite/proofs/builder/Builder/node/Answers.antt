@@ -1,4 +1,11 @@
+use Rattle.std.proofs.Common.{List, [], subst}
+use Rattle.std.specs.Prelude.{IsTrue}
+use Rattle.std.specs.List.{list_all}
+use Rattle.ct_rewrite.specs.declared.answer.Node.{Node}
+use Rattle.ct_rewrite.specs.Nodes.{read_nodes}
+use Rattle.ct_rewrite.specs.Rules.{has_no_literals}
 use Rattle.ct_rewrite.proofs.Nodes.{node_read}
+use Rattle.ct_rewrite.proofs.Literals.{node_literals}
 use Rattle.ct_rewrite.proofs.builder.Builder.node.Goals as goal
 
 pub returns-clause-value : goal.returns-clause-value
@@ -8,3 +15,9 @@ returns-clause-value c =
 pub returns-clause-below : goal.returns-clause-below
 returns-clause-below c =
     (node_read _ c.args.self.now _ c.args.position _ c.self.invariant.0 c.self.view_is c.as_slice.ensures.keys c.requires c.index-as_slice-position.is).below
+
+pub returns-clause-no_literals : goal.returns-clause-no_literals
+returns-clause-no_literals c =
+    node_literals c.args.self.now c.args.position _
+    (node_read _ c.args.self.now _ c.args.position _ c.self.invariant.0 c.self.view_is c.as_slice.ensures.keys c.requires c.index-as_slice-position.is).value
+    (subst (λ (ns : List Node). IsTrue (list_all has_no_literals (read_nodes [] ns))) c.self.view_is c.self.invariant.2)

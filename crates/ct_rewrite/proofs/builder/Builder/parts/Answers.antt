@@ -1,5 +1,6 @@
 use Rattle.ct_rewrite.proofs.Openings.{children_stand, children_placed}
 use Rattle.ct_rewrite.proofs.Sizes.{children_no_larger}
+use Rattle.ct_rewrite.proofs.Literals.{children_literals}
 use Rattle.ct_rewrite.proofs.builder.Builder.parts.Goals as goal
 
 pub returns-in-Some-clause-placed : goal.returns-in-Some-clause-placed
@@ -16,3 +17,8 @@ pub returns-in-Some-clause-size : goal.returns-in-Some-clause-size
 returns-in-Some-clause-size c =
     rw c.in_ok-from_slice.ensures.items
     (children_no_larger c.args.connective c.args.self.now c.args.form _ _ c.node-node.ensures.value c.in-Some.ensures)
+
+pub returns-in-Some-clause-no_literals : goal.returns-in-Some-clause-no_literals
+returns-in-Some-clause-no_literals c =
+    rw c.in_ok-from_slice.ensures.items
+    (λ h. children_literals c.args.connective _ _ c.in-Some.ensures c.args.self.now c.node-node.ensures.no_literals)
