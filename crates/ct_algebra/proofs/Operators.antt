@@ -26,6 +26,7 @@ use Rattle.ct_table.proofs.Denoting.{all_of, sublist-append, sublist_of_sublist,
 use Rattle.ct_table.proofs.Sets.{same_set_on, same_set-append}
 use Rattle.ct_algebra.specs.Operands.{AreTables, cells_in}
 use Rattle.ct_algebra.specs.Evaluates.{Evaluates}
+use Rattle.ct_algebra.specs.Names.{names, names_of}
 use Rattle.ct_algebra.specs.Terms.{IsNamedIn, TermOfQuery}
 use Rattle.ct_algebra.proofs.Found.{stands_for}
 use Rattle.ct_table.proofs.QueryTuples.{same_set_filter, same_set_without, same_set_within, same_set_map, same_set_joins}
@@ -47,6 +48,7 @@ pub table_answers : (ws : List ℕ) (db : List TableView) (name : List ℕ) (t :
 table_answers ws db name t are found =
     let s = stands_for ws name (view_of name t) db found in
     record {
+      names_are = sym (ap names_of s.columns);
       width_is = sym (ap count_of s.columns);
       are = found_all (λ (x : TableView). AreRows ws (length x.columns) x.rows) name (view_of name t) db
           (recursion_from_All (λ (x : TableView). AreRows ws (length x.columns) x.rows) db are) found;
@@ -58,10 +60,11 @@ table_answers ws db name t are found =
     }
 
 -- a table with the columns and the rows of an operator
-module _ (old new : List ℕ) (db : List TableView) (q : PlainQuery) (columns : List (List ℕ)) (wide : length columns ≡ width (map heading_of db) q) where
+module _ (old new : List ℕ) (db : List TableView) (q : PlainQuery) (columns : List (List ℕ)) (named : columns ≡ names (map heading_of db) q) (wide : length columns ≡ width (map heading_of db) q) where
   made : (o : CTable) → o.columns ≡ columns → AreRows new (length columns) o.rows → ((v : World) → SameSet (value_of_rows new v o.rows) (rows v q (value_of_tables old v db)))
       → IsSublist (cells_of new o.rows) (query_pattern (cells_in old db) q) → RowsFrom new o.rows (TermOfQuery old db q) → Evaluates old new db q o
   made o e are tuples part from = record {
+    names_are = e ∙ named;
     width_is = ap (λ cs. length cs) e ∙ wide;
     are = subst (λ cs. AreRows new (length cs) o.rows) (sym e) are;
     tuples = tuples;
@@ -83,7 +86,7 @@ module _ (old now new : List ℕ) (db : List TableView) (q : PlainQuery) (t : CT
       → IfOk out (λ o. RowsFrom new o.rows (λ x. TermOfRows now t.rows x ⊎ (IsNamed c x × IsNoColumn x))) → IfOk out (Evaluates old new db (Select c q))
   select_answers c (Err e) columns are tuples part from = tt
   select_answers c (Ok o) columns are tuples part from =
-      made old new db (Select c q) t.columns s.width_is o columns are
+      made old new db (Select c q) t.columns s.names_are s.width_is o columns are
       (λ v. same_set_on (value_of_rows new v o.rows) (filter (λ u. holds v u c) (its_tuples v)) (rows v (Select c q) (value_of_tables old v db))
       (tuples v) (same_set_filter (λ u. holds v u c) (its_tuples v) (rows v q (value_of_tables old v db)) (s.tuples v)))
       (sublist_of_sublist (cells_of new o.rows) (cells_of now t.rows) (query_pattern (cells_in old db) q) part s.part)
@@ -99,7 +102,7 @@ module _ (old now new : List ℕ) (db : List TableView) (q : PlainQuery) (t : CT
   project_answers ks (Err e) columns are tuples part from = tt
   project_answers ks (Ok o) columns are tuples part from =
       let wide : length (map (λ k. slice_index_or t.columns k []) ks) ≡ length ks = length-map ks (λ k. slice_index_or t.columns k []) in
-      made old new db (Project ks q) (map (λ k. slice_index_or t.columns k []) ks) wide o columns (subst (λ n. AreRows new n o.rows) (sym wide) are)
+      made old new db (Project ks q) (map (λ k. slice_index_or t.columns k []) ks) (ap (λ cs. map (λ k. slice_index_or cs k []) ks) s.names_are) wide o columns (subst (λ n. AreRows new n o.rows) (sym wide) are)
       (λ v. same_set_on (value_of_rows new v o.rows) (map (λ u. map (cell_at u) ks) (its_tuples v)) (rows v (Project ks q) (value_of_tables old v db))
       (tuples v) (same_set_map (λ u. map (cell_at u) ks) (its_tuples v) (rows v q (value_of_tables old v db)) (s.tuples v)))
       (sublist_of_sublist (cells_of new o.rows) (map (picked ks) (cells_of now t.rows)) (query_pattern (cells_in old db) (Project ks q)) part
@@ -139,7 +142,7 @@ module _ (old now new : List ℕ) (db : List TableView) (a b : PlainQuery) (l r 
   product_answers (Err e) columns are tuples part from = tt
   product_answers (Ok o) columns are tuples part from =
       let both = length-append l.columns r.columns in
-      made old new db (Product a b) (l.columns ++ r.columns) (both ∙ (λ i. s.width_is i + t.width_is i)) o columns (subst (λ n. AreRows new n o.rows) (sym both) are)
+      made old new db (Product a b) (l.columns ++ r.columns) (λ i. s.names_are i ++ t.names_are i) (both ∙ (λ i. s.width_is i + t.width_is i)) o columns (subst (λ n. AreRows new n o.rows) (sym both) are)
       (λ v. same_set_on (value_of_rows new v o.rows) (joins (lefts v) (rights v)) (joins (left_part v) (right_part v))
       (tuples v) (same_set_joins (lefts v) (left_part v) (rights v) (right_part v) (s.tuples v) (t.tuples v)))
       (sublist_of_sublist (cells_of new o.rows) (joins (cells_of now l.rows) (cells_of now r.rows)) (query_pattern (cells_in old db) (Product a b)) part
@@ -152,7 +155,7 @@ module _ (old now new : List ℕ) (db : List TableView) (a b : PlainQuery) (l r 
       → IfOk out (λ o. RowsFrom new o.rows (TermOfRows now (l.rows ++ r.rows))) → IfOk out (Evaluates old new db (Union a b))
   union_answers (Err e) columns are tuples part from = tt
   union_answers (Ok o) columns are tuples part from =
-      made old new db (Union a b) l.columns s.width_is o columns are
+      made old new db (Union a b) l.columns s.names_are s.width_is o columns are
       (λ v. same_set_on (value_of_rows new v o.rows) (lefts v ++ rights v) (left_part v ++ right_part v)
       (tuples v) (same_set-append (lefts v) (left_part v) (rights v) (right_part v) (s.tuples v) (t.tuples v)))
       (sublist_of_sublist (cells_of new o.rows) (cells_of now l.rows ++ cells_of now r.rows) (query_pattern (cells_in old db) (Union a b)) part
@@ -165,7 +168,7 @@ module _ (old now new : List ℕ) (db : List TableView) (a b : PlainQuery) (l r 
       → IfOk out (λ o. RowsFrom new o.rows (TermOfRows now (l.rows ++ r.rows))) → IfOk out (Evaluates old new db (Except a b))
   except_answers (Err e) columns are tuples part from = tt
   except_answers (Ok o) columns are tuples part from =
-      made old new db (Except a b) l.columns s.width_is o columns are
+      made old new db (Except a b) l.columns s.names_are s.width_is o columns are
       (λ v. same_set_on (value_of_rows new v o.rows) (filter (λ u. not (has_tuple (rights v) u)) (lefts v)) (rows v (Except a b) (value_of_tables old v db))
       (tuples v) (same_set_without (lefts v) (left_part v) (rights v) (right_part v) (s.tuples v) (t.tuples v)))
       (sublist_of_sublist (cells_of new o.rows) (cells_of now l.rows) (query_pattern (cells_in old db) a) part s.part)
@@ -177,7 +180,7 @@ module _ (old now new : List ℕ) (db : List TableView) (a b : PlainQuery) (l r 
       → IfOk out (λ o. RowsFrom new o.rows (TermOfRows now (l.rows ++ r.rows))) → IfOk out (Evaluates old new db (Intersect a b))
   intersect_answers (Err e) columns are tuples part from = tt
   intersect_answers (Ok o) columns are tuples part from =
-      made old new db (Intersect a b) l.columns s.width_is o columns are
+      made old new db (Intersect a b) l.columns s.names_are s.width_is o columns are
       (λ v. same_set_on (value_of_rows new v o.rows) (filter (has_tuple (rights v)) (lefts v)) (rows v (Intersect a b) (value_of_tables old v db))
       (tuples v) (same_set_within (lefts v) (left_part v) (rights v) (right_part v) (s.tuples v) (t.tuples v)))
       (sublist_of_sublist (cells_of new o.rows) (cells_of now l.rows) (query_pattern (cells_in old db) a) part s.part)

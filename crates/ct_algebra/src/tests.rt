@@ -234,6 +234,18 @@ const SIZES: [(&'static [Step], Option<usize>); 4] = [
     (&[R, S, Product, First], None),
 ];
 
+/// Queries over `r(a)` and `s(b)`, and the names of the columns that they answer.
+const NAMES: [(&'static [Step], &'static [&'static str]); 8] = [
+    (&[R], &["a"]),
+    (&[S, One], &["b"]),
+    (&[R, Twice], &["a", "a"]),
+    (&[R, S, Product], &["a", "b"]),
+    (&[R, S, Product, Swapped], &["b", "a"]),
+    (&[R, S, Union], &["a"]),
+    (&[S, R, Except], &["b"]),
+    (&[R, S, Intersect], &["a"]),
+];
+
 fn table(alloc: Global, name: &str) -> Result<Query, Fail> {
     Ok(Query::Table(Text::from_str(alloc, name)?))
 }
@@ -351,6 +363,36 @@ fn try_all<N: Site>(rt: &impl Abort, alloc: Global, blank: Blank) -> Result<(), 
 fn queries_answer_their_rows(rt: HostRuntime) -> Result<(), Fail> {
     let blank = Blank::make(rt.alloc(), 1024)?;
     try_all::<Brand>(&rt, rt.alloc(), blank)
+}
+
+fn same_names(columns: &[Text], expected: &[&str]) -> bool {
+    columns.len() == expected.len()
+        && columns
+            .iter()
+            .zip(expected)
+            .all(|(name, other)| name.as_str() == *other)
+}
+
+fn try_names<N: Site>(rt: &impl Abort, alloc: Global, blank: Blank) -> Result<(), Fail>
+    requires { blank ≡ N.log }
+{
+    let (arena, mut keeper) = Arena::<N>::make(blank);
+    let mut pass = keeper.enrol(alloc, &arena)?;
+    for (steps, expected) in NAMES {
+        let query = built(alloc, steps)?;
+        let db = tables(alloc, &arena, &mut pass, &[], &[])?;
+        match answered(alloc, &arena, &mut pass, &query, &db)? {
+            None => return Err("too large".into()),
+            Some(out) => assert!(rt; same_names(out.columns.as_slice(), expected)),
+        }
+    }
+    Ok(())
+}
+
+#[test]
+fn columns_have_the_names_of_their_operators(rt: HostRuntime) -> Result<(), Fail> {
+    let blank = Blank::make(rt.alloc(), 64)?;
+    try_names::<Brand>(&rt, rt.alloc(), blank)
 }
 
 fn try_sizes<N: Site>(rt: &impl Abort, alloc: Global, blank: Blank) -> Result<(), Fail>

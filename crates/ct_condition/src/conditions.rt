@@ -1,6 +1,6 @@
 // Conditions, folded where they can be.
 
-ghost use Rattle.std.specs.Prelude.{◌≡◌, ◌≢◌, ◌≤◌, ◌+◌, ◌<◌, ◌^◌, ◌↔◌, ◌⊎◌, length, min, max, slice_get, All, Contains, IfOk, IsErr, IsNone, IsSome, OnErr, IsTrue, Some, false};
+ghost use Rattle.std.specs.Prelude.{◌≡◌, ◌≢◌, ◌≤◌, ◌+◌, ◌<◌, ◌^◌, ◌↔◌, ◌⊎◌, length, min, max, slice_get, All, Contains, IfOk, IsErr, IsNone, IsOk, IsSome, OnErr, IsTrue, Some, false};
 ghost use mathlib.Core.List.{IsPrefix};
 ghost use Rattle.ct_word.specs.Reading.{IsTerm, by_kind, meanings};
 ghost use Rattle.ct_word.specs.Stands.{StandsAt, TermBelow};
@@ -40,6 +40,7 @@ fn pair<N: Site, I: Interner<N>>(
     ensures longer { IsPrefix (I.list pass.old) (I.list pass.new) }
     ensures formed { IsWellFormed (I.list pass.new) }
     ensures full { IsErr result ↔ ((length (I.list pass.new) ≡ N.log.cap) × ¬ Contains (I.list pass.new) (word_of kind (min c d) (max c d))) }
+    ensures known { Contains (I.list pass.old) (word_of kind (min c d) (max c d)) → IsOk result × (I.list pass.new ≡ I.list pass.old) × (I.made pass.new ≡ I.made pass.old) }
     ensures made { I.made pass.new ≤ I.made pass.old + 1 }
     ensures err { OnErr result (I.made pass.new ≡ I.made pass.old) }
     ensures kept { I.kept pass.new ≡ I.kept pass.old }
@@ -71,6 +72,7 @@ pub fn eq<N: Site, I: Interner<N>>(
     ensures longer { IsPrefix (I.list pass.old) (I.list pass.new) }
     ensures formed { IsWellFormed (I.list pass.new) }
     ensures full { IsErr result ↔ (IsNone (spec.folded_eq (I.list pass.old) s t) × (length (I.list pass.new) ≡ N.log.cap) × ¬ Contains (I.list pass.new) (word_of kind.Equal (min s t) (max s t))) }
+    ensures known { Contains (I.list pass.old) (word_of kind.Equal (min s t) (max s t)) → IsOk result × (I.list pass.new ≡ I.list pass.old) × (I.made pass.new ≡ I.made pass.old) }
     ensures made { I.made pass.new ≤ I.made pass.old + 1 }
     ensures unmade { IsSome (spec.folded_eq (I.list pass.old) s t) → I.made pass.new ≡ I.made pass.old }
     ensures err { OnErr result (I.made pass.new ≡ I.made pass.old) }
@@ -96,6 +98,7 @@ pub fn not<N: Site, I: Interner<N>>(arena: &Arena<N>, pass: &mut I, c: u32) -> R
     ensures longer { IsPrefix (I.list pass.old) (I.list pass.new) }
     ensures formed { IsWellFormed (I.list pass.new) }
     ensures full { IsErr result ↔ (IsNone (spec.folded_not (I.list pass.old) c) × (length (I.list pass.new) ≡ N.log.cap) × ¬ Contains (I.list pass.new) (word_of kind.Not c 0)) }
+    ensures known { Contains (I.list pass.old) (word_of kind.Not c 0) → IsOk result × (I.list pass.new ≡ I.list pass.old) × (I.made pass.new ≡ I.made pass.old) }
     ensures made { I.made pass.new ≤ I.made pass.old + 1 }
     ensures unmade { IsSome (spec.folded_not (I.list pass.old) c) → I.made pass.new ≡ I.made pass.old }
     ensures err { OnErr result (I.made pass.new ≡ I.made pass.old) }
@@ -127,6 +130,7 @@ pub fn and<N: Site, I: Interner<N>>(
     ensures longer { IsPrefix (I.list pass.old) (I.list pass.new) }
     ensures formed { IsWellFormed (I.list pass.new) }
     ensures full { IsErr result ↔ (IsNone (spec.folded_and (I.list pass.old) c d) × (length (I.list pass.new) ≡ N.log.cap) × ¬ Contains (I.list pass.new) (word_of kind.And (min c d) (max c d))) }
+    ensures known { Contains (I.list pass.old) (word_of kind.And (min c d) (max c d)) → IsOk result × (I.list pass.new ≡ I.list pass.old) × (I.made pass.new ≡ I.made pass.old) }
     ensures made { I.made pass.new ≤ I.made pass.old + 1 }
     ensures unmade { IsSome (spec.folded_and (I.list pass.old) c d) → I.made pass.new ≡ I.made pass.old }
     ensures err { OnErr result (I.made pass.new ≡ I.made pass.old) }
@@ -158,6 +162,7 @@ pub fn or<N: Site, I: Interner<N>>(
     ensures longer { IsPrefix (I.list pass.old) (I.list pass.new) }
     ensures formed { IsWellFormed (I.list pass.new) }
     ensures full { IsErr result ↔ (IsNone (spec.folded_or (I.list pass.old) c d) × (length (I.list pass.new) ≡ N.log.cap) × ¬ Contains (I.list pass.new) (word_of kind.Or (min c d) (max c d))) }
+    ensures known { Contains (I.list pass.old) (word_of kind.Or (min c d) (max c d)) → IsOk result × (I.list pass.new ≡ I.list pass.old) × (I.made pass.new ≡ I.made pass.old) }
     ensures made { I.made pass.new ≤ I.made pass.old + 1 }
     ensures unmade { IsSome (spec.folded_or (I.list pass.old) c d) → I.made pass.new ≡ I.made pass.old }
     ensures err { OnErr result (I.made pass.new ≡ I.made pass.old) }

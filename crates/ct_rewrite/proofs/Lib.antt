@@ -7,6 +7,7 @@ pub mod Building
 pub mod Signs
 pub mod Conditions
 pub mod Openings
+pub mod Distinct
 pub mod Marks
 pub mod Sides
 pub mod Rules

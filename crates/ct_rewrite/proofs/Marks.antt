@@ -1,18 +1,20 @@
 -- What marking keeps.
-use Rattle.std.proofs.Common.{◌≡◌, ℕ, zero, suc, ◌+◌, ◌<◌, ◌≤◌, Bool, true, false, ◌||◌, List, [], ◌∷◌, ◌++◌, length, map, get_or, nat_eq, nat_lt, Some, refl, ap, sym, ◌∙◌, subst, arith, inl, inr, length-append}
+use Rattle.std.proofs.Common.{◌≡◌, ℕ, zero, suc, ◌+◌, ◌<◌, ◌≤◌, Bool, true, false, ◌&&◌, ◌||◌, List, [], ◌∷◌, ◌++◌, length, map, get_or, nat_eq, nat_lt, Some, refl, ap, sym, ◌∙◌, subst, arith, inl, inr, length-append}
 use Rattle.std.specs.Prelude.{IsTrue, slice_get}
-use Rattle.std.specs.List.{list_all, list_any, AllZip}
+use Rattle.std.specs.List.{list_all, list_any, AllZip, IsDistinct}
 use Rattle.std.proofs.lemmas.Bool.{and_parts, and_from, or_left, or_right, or_cases, ltb-true, lt-ltb, eqb-true, eq-eqb, false≢true, cases_lt}
 use Rattle.std.proofs.lemmas.Option.{slice_get-get_or}
 use Rattle.ct_rewrite.specs.declared.answer.Node.{Node}
 use Rattle.ct_rewrite.specs.declared.answer.Node.TheVariants as node
 use Rattle.ct_word.specs.Condition.{And, Or, listed}
-use Rattle.ct_rewrite.specs.Nodes.{IsOrdered, children_of, stands_over, nth, read_nodes, node_value, node_condition}
+use Rattle.ct_rewrite.specs.Nodes.{IsOrdered, children_of, stands_over, nth, read_nodes, node_value, node_condition, same_node}
 use Rattle.ct_rewrite.specs.Building.{Grows}
 use Rattle.ct_rewrite.specs.Marks.{is_marked, IsClosedFrom, moved_to, moved_node, IsKept, AreKept}
-use Rattle.ct_rewrite.specs.Rules.{has_no_literals}
+use Rattle.ct_rewrite.specs.Rules.{has_no_literals, is_proper, are_distinct}
 use Rattle.ct_rewrite.proofs.Nodes.{condition_of_position, condition_stays, node_read}
 use Rattle.ct_rewrite.proofs.Literals.{literals_at}
+use Rattle.ct_rewrite.proofs.Rules.{proper_at, moved_proper, children_distinct}
+use Rattle.ct_rewrite.proofs.Distinct.{distinct_mapped, one_condition}
 
 -- positions that were marked by these
 abbrev pub AreMarkedBy : List Bool → List Bool → List ℕ → Type 0
@@ -122,6 +124,29 @@ module _ (nodes out : List Node) (marks : List Bool) (ps : List ℕ) (kept : Are
   moved_over (node.Eq s t) e f = refl
   moved_over (node.Ne s t) e f = refl
 
+  -- marked children go to places of their own
+  pub moved_apart : IsOrdered nodes → IsDistinct same_node nodes → length ps ≤ length nodes → (ks : List ℕ) → IsTrue (list_all (is_marked marks) ks)
+      → IsTrue (list_all (λ c. nat_lt c (length ps)) ks) → IsTrue (are_distinct ks) → IsTrue (are_distinct (map (moved_to ps) ks))
+  moved_apart ordered distinct le ks e f d = distinct_mapped (moved_to ps) good tells ks (both_hold ks e f) d where
+    good : ℕ → Bool
+    good k = is_marked marks k && nat_lt k (length ps)
+
+    both_hold : (xs : List ℕ) → IsTrue (list_all (is_marked marks) xs) → IsTrue (list_all (λ c. nat_lt c (length ps)) xs) → IsTrue (list_all good xs)
+    both_hold [] g h = refl
+    both_hold (x ∷ xs) g h =
+        let p = and_parts _ _ g in
+        let q = and_parts (nat_lt x (length ps)) (list_all (λ c. nat_lt c (length ps)) xs) h in
+        and_from _ _ (and_from _ _ p.0 q.0) (both_hold xs p.1 q.1)
+
+    tells : (a b : ℕ) → IsTrue (good a) → IsTrue (good b) → moved_to ps a ≡ moved_to ps b → a ≡ b
+    tells a b g h same =
+        let p = and_parts (is_marked marks a) (nat_lt a (length ps)) g in
+        let q = and_parts (is_marked marks b) (nat_lt b (length ps)) h in
+        let la : a < length ps = ltb-true a (length ps) p.1 in
+        let lb : b < length ps = ltb-true b (length ps) q.1 in
+        one_condition nodes ordered distinct a b (omega (arith, la, le)) (omega (arith, lb, le))
+        (sym (kept a la p.0).same ∙ ap (node_condition out) same ∙ (kept b lb q.0).same)
+
   -- the node at the next position, put behind those that were kept
   pub next_kept : (new : List Node) (n : Node) (j : ℕ) → IsOrdered nodes → slice_get nodes (length ps) ≡ Some n
       → IsTrue (list_all (is_marked marks) (children_of n)) → IsTrue (stands_over (length ps) n)
@@ -184,6 +209,13 @@ module _ (nodes out : List Node) (marks : List Bool) (ps read : List ℕ) (i : �
 
   pub step_copied : IsTrue m → IsTrue (stands_over (length out) (moved_node read n))
   step_copied e = subst (λ (xs : List ℕ). IsTrue (stands_over (length out) (moved_node xs n))) (sym same) (moved_over nodes out marks ps kept n (children_marked e) over_end)
+
+  pub step_proper : IsDistinct same_node nodes → IsTrue (list_all is_proper nodes) → IsTrue m → IsTrue (is_proper (moved_node read n))
+  step_proper distinct all e =
+      let proper = proper_at nodes (length ps) n at_end all in
+      subst (λ (xs : List ℕ). IsTrue (is_proper (moved_node xs n))) (sym same)
+      (moved_proper ps n proper
+      (moved_apart nodes out marks ps kept ordered distinct (omega (arith, count, lt)) (children_of n) (children_marked e) over_end (children_distinct n proper)))
 
   pub step_literals : IsTrue (list_all has_no_literals (read_nodes [] nodes)) → IsTrue m → IsTrue (has_no_literals (node_value out (moved_node read n)))
   step_literals all e =

@@ -1,10 +1,12 @@
 -- What the printed form allows at each node.
-use Rattle.std.specs.Prelude.{ℕ, not, ◌&&◌, Bool, true, false, length, nat_le}
+use Rattle.std.specs.Prelude.{ℕ, not, ◌&&◌, Bool, true, false, List, [], ◌∷◌, length, nat_eq, nat_le}
+use Rattle.std.specs.List.{list_all}
 use Rattle.ct_word.specs.declared.values.Term.{Term}
 use Rattle.ct_word.specs.declared.values.Term.TheVariants as term
 use Rattle.ct_word.specs.Condition.{Condition, Conditions, True, False, And, Or, none, also}
 use Rattle.ct_rewrite.specs.declared.answer.Node.{Node}
 use Rattle.ct_rewrite.specs.declared.answer.Node.TheVariants as node
+use Rattle.ct_rewrite.specs.Nodes.{children_of}
 use Rattle.ct_rewrite.specs.Order.{is_before}
 
 -- two children at least, and 64 at most
@@ -34,9 +36,22 @@ is_unsettled (node.Eq s t) = not (are_constants s t)
 is_unsettled (node.Ne s t) = not (are_constants s t)
 is_unsettled _ = true
 
+-- whether a position is none of these
+abbrev pub is_none_of : ℕ → List ℕ → Bool
+is_none_of k ks = list_all (λ j. not (nat_eq k j)) ks
+
+-- whether each of these positions is none of those behind it
+abbrev pub are_distinct : List ℕ → Bool
+are_distinct [] = true
+are_distinct (k ∷ ks) = is_none_of k ks && are_distinct ks
+
+-- whether no position stands twice among the children of an And or an Or
+abbrev pub are_children_distinct : Node → Bool
+are_children_distinct n = are_distinct (children_of n)
+
 -- whether the printed form allows a node
 abbrev pub is_proper : Node → Bool
-is_proper n = are_children_within n && are_sides_in_order n && is_unsettled n
+is_proper n = are_children_within n && are_sides_in_order n && is_unsettled n && are_children_distinct n
 
 -- whether a condition is True or False
 abbrev pub is_literal : Condition → Bool

@@ -87,6 +87,7 @@ impl Builder {
     pub fn nodes(&self) -> &[Node]
         ensures value { result.now ≡ self.now }
         ensures ordered { IsOrdered self.now }
+        ensures distinct { IsDistinct same_node self.now }
         ensures proper { IsTrue (list_all is_proper self.now) }
         ensures no_literals { IsTrue (list_all has_no_literals (read_nodes [] self.now)) }
     {

@@ -8,7 +8,7 @@ ghost use Rattle.ct_word.specs.Condition.{Condition};
 ghost use Rattle.ct_rewrite.specs.Nodes.{condition_of_node, node_condition, is_position};
 ghost use Rattle.ct_rewrite.specs.Building.{Grows, Says, joined, joint_node, literal_node};
 ghost use Rattle.ct_rewrite.specs.Joining.{NeverBothOpen, leaves_open, all_open, StandFor, Settle, HasMembersOf, HasNoMoreThan, AreNoLarger, IsNoLarger, IsNoSettler, is_no_literal};
-ghost use Rattle.ct_rewrite.specs.Rules.{is_literal};
+ghost use Rattle.ct_rewrite.specs.Rules.{are_distinct, is_literal};
 ghost use Rattle.ct_rewrite.specs.Sizes.{Fits};
 
 use crate::answer::Node;
@@ -83,6 +83,7 @@ impl Builder {
         ensures truth { IfOk result (λ ks. StandFor connective self.now ks.items form) }
         ensures size { IfOk result (λ ks. AreNoLarger connective self.now ks.items form) }
         ensures few { IfOk result (λ ks. length ks.items ≤ 64) }
+        ensures distinct { IfOk result (λ ks. IsTrue (are_distinct ks.items)) }
         ensures no_literals { IfOk result (λ ks. IsNoSettler connective self.now form → IsTrue (list_all (is_no_literal self.now) ks.items)) }
         ensures no_literal { IfOk result (λ ks. IsNoSettler connective self.now form → 1 ≤ length ks.items → IsTrue (is_no_literal self.now form)) }
     {
@@ -113,6 +114,7 @@ impl Builder {
         ensures left_size { IfOk result (λ p. AreNoLarger connective self.now p.0.items a) }
         ensures right_size { IfOk result (λ p. AreNoLarger connective self.now p.1.items b) }
         ensures few { IfOk result (λ p. length p.0.items + length p.1.items ≤ 64) }
+        ensures distinct { IfOk result (λ p. IsTrue (are_distinct p.0.items)) }
         ensures no_literals { IfOk result (λ p. IsNoSettler connective self.now a → IsNoSettler connective self.now b → IsTrue (list_all (is_no_literal self.now) p.0.items && list_all (is_no_literal self.now) p.1.items)) }
     {
         let left = self.parts(alloc, connective, a)?;
@@ -142,6 +144,7 @@ impl Builder {
     fn add(&self, children: &mut Vec<u32>, child: u32) -> Result<(), Memory>
         ensures members { OnOk result (HasMembersOf children.new.items children.old.items (child ∷ [])) }
         ensures once { OnOk result (HasNoMoreThan children.new.items children.old.items (child ∷ [])) }
+        ensures distinct { OnOk result (IsTrue (are_distinct children.old.items) → IsTrue (are_distinct children.new.items)) }
     {
         if children.as_slice().contains(&child) {
             return Ok(());
@@ -162,8 +165,10 @@ impl Builder {
     ) -> Result<Option<Vec<u32>>, Memory>
         requires children { IsTrue (list_all (is_position self.now) children.items) }
         requires added { IsTrue (list_all (is_position self.now) added.now) }
+        requires distinct { IsTrue (are_distinct children.items) }
         ensures members { IfOk result (λ r. MatchOption r (Settle connective self.now children.items added.now) (λ all. HasMembersOf all.items children.items added.now)) }
         ensures once { IfOk result (λ r. IfSome r (λ all. HasNoMoreThan all.items children.items added.now)) }
+        ensures distinct { IfOk result (λ r. IfSome r (λ all. IsTrue (are_distinct all.items))) }
     {
         for child in added {
             if self.clashes(connective, children.as_slice(), *child) {
@@ -183,6 +188,7 @@ impl Builder {
     ) -> Result<u32, Memory>
         requires placed { IsTrue (list_all (is_position self.old) children.items) }
         requires few { length children.items ≤ 64 }
+        requires distinct { IsTrue (are_distinct children.items) }
         requires no_literals { IsTrue (list_all (is_no_literal self.old) children.items) }
         requires room { length self.old < 2 ^ 32 }
         ensures grows { Grows self.old self.new }

@@ -73,7 +73,6 @@ fn copied(alloc: Global, positions: &[u32], node: &Node) -> Result<Node, Memory>
 }
 
 /// The position at which a node is kept: that of its copy where it is marked.
-#[tactic(auto, using(crate::proofs::Rules::moved_proper))]
 fn next_position(
     alloc: Global,
     builder: &mut Builder,
@@ -83,7 +82,7 @@ fn next_position(
 ) -> Result<u32, Memory>
     requires children { IsTrue marked → IsTrue (stands_over (length positions.now) node.now) }
     requires copied { IsTrue marked → IsTrue (stands_over (length builder.old) (moved_node positions.now node.now)) }
-    requires proper { IsTrue marked → IsTrue (is_proper node.now) }
+    requires proper { IsTrue marked → IsTrue (is_proper (moved_node positions.now node.now)) }
     requires no_literals { IsTrue marked → IsTrue (has_no_literals (node_value builder.old (moved_node positions.now node.now))) }
     requires room { length builder.old < 2 ^ 32 }
     ensures grows { Grows builder.old builder.new }
@@ -101,6 +100,7 @@ fn next_position(
 /// The nodes that the roots lead to, in their order, and where the roots stand among them.
 pub fn kept(alloc: Global, nodes: &[Node], roots: &[u32]) -> Result<Normal, Memory>
     requires ordered { IsOrdered nodes.now }
+    requires distinct { IsDistinct same_node nodes.now }
     requires proper { IsTrue (list_all is_proper nodes.now) }
     requires no_literals { IsTrue (list_all has_no_literals (read_nodes [] nodes.now)) }
     requires roots { IsTrue (list_all (is_position nodes.now) roots.now) }

@@ -8,7 +8,7 @@ ghost use Rattle.ct_word.specs.Condition.{SameTruth};
 ghost use Rattle.ct_word.specs.WellFormed.{IsWellFormed, is_place_of};
 ghost use Rattle.ct_word.specs.Reading.{condition_at};
 ghost use Rattle.ct_rewrite.specs.Nodes.{IsOrdered, is_position, node_condition, read_nodes, same_node};
-ghost use Rattle.ct_rewrite.specs.Rules.{are_children_within, are_sides_in_order, has_no_literals, is_unsettled};
+ghost use Rattle.ct_rewrite.specs.Rules.{are_children_distinct, are_children_within, are_sides_in_order, has_no_literals, is_unsettled};
 ghost use Rattle.ct_rewrite.specs.Signs.{plus_at};
 ghost use Rattle.ct_rewrite.specs.Sizes.{NoneIsEmpty, deep, nest_of, text_of, wide};
 
@@ -56,6 +56,9 @@ pub fn normal(alloc: Global, words: &[u64], roots: &[u32]) -> Result<Normal, Mem
 
     // Each And and Or has at least two children and at most 64.
     ensures children { IfOk result (λ n. IsTrue (list_all are_children_within n.nodes)) }
+
+    // No position stands twice among the children of an And or Or.
+    ensures children_distinct { IfOk result (λ n. IsTrue (list_all are_children_distinct n.nodes)) }
 
     // No child of an And or Or is True or False.
     ensures no_literals { IfOk result (λ n. IsTrue (list_all has_no_literals (read_nodes [] n.nodes))) }

@@ -12,7 +12,7 @@ use std::alloc::{AllocError, Global};
 use std::test::Fail;
 
 /// A log in which each rule of the printed form has its conditions.
-const RULES: [u64; 125] = [
+const RULES: [u64; 130] = [
     0x0a_0000000_0000000,
     0x0b_0000000_0000000,
     0x01_0000000_0000000,
@@ -138,17 +138,22 @@ const RULES: [u64; 125] = [
     0x0f_0000078_0000079,
     0x0e_0000050_0000074,
     0x0e_0000050_0000079,
+    0x0e_0000037_0000067,
+    0x0e_0000037_0000068,
+    0x0e_0000037_000005f,
+    0x0f_0000042_0000050,
+    0x0f_0000027_0000055,
 ];
 
 /// The places of conditions in that log.
-const ROOTS: [u32; 60] = [
+const ROOTS: [u32; 65] = [
     37, 39, 42, 47, 0, 48, 1, 49, 51, 50, 52, 54, 56, 57, 58, 59, 60, 62, 63, 64, 65, 67, 68, 69,
     70, 71, 72, 73, 74, 75, 76, 77, 78, 79, 80, 81, 82, 83, 84, 86, 88, 89, 91, 92, 94, 95, 97, 98,
-    99, 100, 101, 102, 106, 107, 108, 110, 114, 122, 123, 124,
+    99, 100, 101, 102, 106, 107, 108, 110, 114, 122, 123, 124, 125, 126, 127, 128, 129,
 ];
 
 /// Their printed forms.
-const TEXTS: [&str; 60] = [
+const TEXTS: [&str; 65] = [
     "?x = 2 and (?y = 1 or ?z = 2)",
     "?x <> 1",
     "?s = 'Acme' or ?s = 'Bolton'",
@@ -209,11 +214,17 @@ const TEXTS: [&str; 60] = [
     "?x = ?y or ?x = -1 or ?x = 1 or ?x = 'Acme' or ?x = @3",
     "false",
     "?x = ?y and ?x = 1",
+    "(?x = 1 or ?y = 1) and (?x <> 1 or ?y = 1)",
+    "(?x = 1 or ?y = 1) and (?x = 1 or ?z = 2)",
+    "(?x = 1 or ?y = 1) and (?x = 1 or ?y = 1 or ?z = 2)",
+    "?x = 1 or ?x <> 2",
+    "?x <> 1 or ?x = 2",
 ];
 
 /// Equalities of 12 columns; at place 141 the Or of 64 of them, at place 142 that of 65. At places 143 and 145 the Or of
-/// those 64 and one of them, and of those 64 and an And.
-const WIDE: [u64; 146] = [
+/// those 64 and one of them, and of those 64 and an And. At place 146 an And of the last two equalities, at place 147 the
+/// Or of those 64 and that And.
+const WIDE: [u64; 148] = [
     0x0a_0000000_0000000,
     0x0b_0000000_0000000,
     0x09_0000000_0000000,
@@ -360,6 +371,8 @@ const WIDE: [u64; 146] = [
     0x0f_000000e_000008d,
     0x0e_000000e_000000f,
     0x0f_000008d_0000090,
+    0x0e_000004d_000004e,
+    0x0f_000008d_0000092,
 ];
 
 /// `?x = 1`, `?y = 1` and `?z = 1`, and on them 60 conditions, each an And of two Ors that have the one below in common.
@@ -689,11 +702,12 @@ fn equalities_are_one_or(rt: HostRuntime) -> Result<(), Fail> {
 
 #[test]
 fn an_and_stands_before_an_or(rt: HostRuntime) -> Result<(), Fail> {
-    let form = wide(rt.alloc(), &[141, 144, 145])?;
-    let [or, and, both] = form.roots.as_slice() else {
+    let form = wide(rt.alloc(), &[141, 144, 146, 145, 147])?;
+    let [or, first, last, one, other] = form.roots.as_slice() else {
         return Err("other roots".into());
     };
-    assert_eq!(rt; children_at(&form, *both), [*and, *or].as_slice());
+    assert_eq!(rt; children_at(&form, *one), [*first, *or].as_slice());
+    assert_eq!(rt; children_at(&form, *other), [*last, *or].as_slice());
     Ok(())
 }
 

@@ -26,6 +26,10 @@ SCRIPT_BYTES = 1048576
 abbrev pub SCRIPT_STATEMENTS : ℕ
 SCRIPT_STATEMENTS = 65535
 
+-- how many words the log of a run has room for
+abbrev pub capacity : ℕ
+capacity = 262144
+
 -- the file that words name: after the word run, and alone
 abbrev pub file_of : List (List ℕ) → Option (List ℕ)
 file_of (command ∷ file ∷ []) = if same_text command (codes "run") then Some file else None

@@ -8,7 +8,7 @@ ghost use Rattle.ct_outside.specs.Outside.{Rose, Holds, Added};
 ghost use Rattle.ct_outside.specs.Writes.{joined};
 ghost use Rattle.ct_transcript.specs.Text.{lines_of};
 ghost use Rattle.ct_serve.specs.Lawful.{Lawful};
-ghost use Rattle.ct_serve.specs.Runs.{file_named, IsScript, IsScriptOf, HoldsNoScript, is_sought, some_reply, IsOutcome, Printed, Promise, empty_transcript};
+ghost use Rattle.ct_serve.specs.Runs.{file_named, IsScript, IsScriptOf, HoldsNoScript, is_sought, some_reply, capacity, IsOutcome, Printed, Promise, empty_transcript};
 ghost use Rattle.ct_serve.specs.declared.ending.Status.TheVariants as status;
 ghost use Rattle.ct_serve.specs.declared.driving.Unserved.TheVariants as unserved;
 
@@ -94,7 +94,7 @@ fn served<R: Wait, S: Scripts, G: Gate + Sync>(
     scripts: &mut S,
     gate: &G,
 ) -> Result<Transcript, Unserved>
-    ensures lawful { IfOk result (λ transcript. Lawful transcript CAPACITY) }
+    ensures lawful { IfOk result (λ transcript. Lawful transcript capacity) }
     ensures script { IfOk result (λ transcript. IfSome (file_named words.now) (λ file. IsScriptOf (S.held scripts.old) file (map (λ s. s.script) transcript.sessions))) }
     ensures words { (result ≡ Err unserved.Words) ↔ (file_named words.now ≡ None) }
     ensures read { IfErr result (λ e. e ≡ unserved.ReadFault → Rose (S.faults scripts.old) (S.faults scripts.new)) }
@@ -208,8 +208,8 @@ fn status_of(e: Unserved) -> Status
 /// A script has at most 1,048,576 bytes, is in UTF-8, and has at most 65,535 statements. The status is
 /// - `Words` exactly where the words are not understood;
 /// - `ReadFault` only where the source failed, and counted it;
-/// - `Script` only where the file was read and is no script. Where it is none, the status is this one, `ReadFault` or
-///   `Memory`;
+/// - `Script` only where the source tells what the file holds, and it is no script. Where it tells so, the status is this
+///   one, `ReadFault` or `Memory`;
 /// - `WriteFault` only where the sink failed, and counted it: the lines before the one at fault were written, and a
 ///   prefix of that one;
 /// - `Done` where every reply was made and every line written, and no reply is a refusal;
@@ -227,7 +227,7 @@ pub fn run<R: Wait, S: Scripts, K: Sink, G: Gate + Sync>(
     out: &mut K,
     gate: &G,
 ) -> Run
-    ensures promise { Promise CAPACITY (record { file = file_named words.now; held = S.held scripts.old; taken = K.taken out.old; taken' = K.taken out.new; calls = K.calls out.old; calls' = K.calls out.new }) result.status result.transcript }
+    ensures promise { Promise capacity (record { file = file_named words.now; held = S.held scripts.old; taken = K.taken out.old; taken' = K.taken out.new; calls = K.calls out.old; calls' = K.calls out.new }) result.status result.transcript }
     ensures words { (result.status ≡ status.Words) ↔ (file_named words.now ≡ None) }
     ensures read { result.status ≡ status.ReadFault → Rose (S.faults scripts.old) (S.faults scripts.new) }
     ensures script { result.status ≡ status.Script → IfSome (file_named words.now) (HoldsNoScript (S.held scripts.old)) }

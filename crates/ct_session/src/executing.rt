@@ -165,8 +165,9 @@ fn prepare<N: Site>(
 /// - `Rows` where it asks for an answer, at the number of commits so far;
 /// - `Refused`, at that number too, for the first cause that holds: `NumberRange`, `NotAStatement` or `TooDeep` where the
 ///   text is read as no statement, as `read` says; a name or a count that does not fit; `NotYet` where the statement is
-///   of a form that is not built; `Full` where the log has no room for what it asks for. `Memory` may come in place of
-///   any reply.
+///   of a form that is not built; `TooLarge` where a part of the query goes through too many rows; `Full` where the log
+///   has no room for what it asks for. By the contract `Full` may come for a query that is too large as well, and
+///   `Memory` in place of any reply.
 ///
 /// A refused statement and a query leave tables, commits and the number of the last null as they were, though words may
 /// have come to the log.

@@ -1,5 +1,5 @@
 use Rattle.std.proofs.Common.{◌∷◌, [], length-append, arith}
-use Rattle.ct_rewrite.proofs.Marks.{step_over, step_copied, step_literals, step_kept, all_kept}
+use Rattle.ct_rewrite.proofs.Marks.{step_over, step_copied, step_proper, step_literals, step_kept, all_kept}
 use Rattle.ct_rewrite.proofs.kept.kept.Goals as goal
 
 pub next_position-requires-clause-children : goal.next_position-requires-clause-children
@@ -13,6 +13,12 @@ next_position-requires-clause-copied c =
     step_copied c.args.nodes.now c.loop-place.builder c.in_ok-marks.marks.items c.loop-place.positions.items _ c.loop-place.place _ c.index.result.now
     c.requires.ordered c.in_ok-marks.ensures.closed c.in_ok-marks.ensures.count c.loop-place.invariant.kept c.loop-place.invariant.count c.as_slice.ensures.value
     c.loop-place-test.true c.index-nodes-place.is c.index.ensures
+
+pub next_position-requires-clause-proper : goal.next_position-requires-clause-proper
+next_position-requires-clause-proper c =
+    step_proper c.args.nodes.now c.loop-place.builder c.in_ok-marks.marks.items c.loop-place.positions.items _ c.loop-place.place _ c.index.result.now
+    c.requires.ordered c.in_ok-marks.ensures.closed c.in_ok-marks.ensures.count c.loop-place.invariant.kept c.loop-place.invariant.count c.as_slice.ensures.value
+    c.loop-place-test.true c.index-nodes-place.is c.index.ensures c.requires.distinct c.requires.proper
 
 pub next_position-requires-clause-no_literals : goal.next_position-requires-clause-no_literals
 next_position-requires-clause-no_literals c =

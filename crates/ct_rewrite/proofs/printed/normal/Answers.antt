@@ -4,7 +4,7 @@ use Rattle.std.specs.List.{list_all}
 use Rattle.std.proofs.lemmas.Result.{IfOk-weaker}
 use Rattle.ct_rewrite.specs.declared.forms.Form.{Form}
 use Rattle.ct_rewrite.proofs.Conditions.{roots_within, roots_placed, normal_truth, normal_wide, normal_deep, kept_placed}
-use Rattle.ct_rewrite.proofs.Rules.{all_weaker, children_within, sides_in_order, unsettled}
+use Rattle.ct_rewrite.proofs.Rules.{all_weaker, children_within, children_distinct, sides_in_order, unsettled}
 use Rattle.ct_rewrite.proofs.printed.normal.Goals as goal
 
 pub positions-requires : goal.positions-requires
@@ -46,6 +46,9 @@ returns-clause-placed c = IfOk-weaker c.kept.result _ _ (λ n. kept_placed _ n.n
 
 pub returns-clause-children : goal.returns-clause-children
 returns-clause-children c = IfOk-weaker c.kept.result _ _ (λ n. all_weaker _ children_within n.nodes) c.kept.ensures.proper
+
+pub returns-clause-children_distinct : goal.returns-clause-children_distinct
+returns-clause-children_distinct c = IfOk-weaker c.kept.result _ _ (λ n. all_weaker _ children_distinct n.nodes) c.kept.ensures.proper
 
 pub returns-clause-sides : goal.returns-clause-sides
 returns-clause-sides c = IfOk-weaker c.kept.result _ _ (λ n. all_weaker _ sides_in_order n.nodes) c.kept.ensures.proper

@@ -1,4 +1,5 @@
 use Rattle.ct_rewrite.proofs.Openings.{child_is_there, inserted_child}
+use Rattle.ct_rewrite.proofs.Distinct.{child_put_in}
 use Rattle.ct_rewrite.proofs.Sizes.{no_more_than_inserted}
 use Rattle.ct_rewrite.proofs.builder.Builder.add.Goals as goal
 
@@ -11,3 +12,8 @@ returns-clause-members c = rw c.in_ok-insert.ensures.items (inserted_child c.arg
 
 pub returns-clause-once : goal.returns-clause-once
 returns-clause-once c = rw c.in_ok-insert.ensures.items (no_more_than_inserted c.args.children.now.items c.partition_point-at.result c.args.child)
+
+pub returns-clause-distinct : goal.returns-clause-distinct
+returns-clause-distinct c =
+    rw c.in_ok-insert.ensures.items
+    (child_put_in c.args.children.now.items _ c.partition_point-at.result c.args.child _ c.as_slice.ensures.value c.contains.ensures.value c.if-contains.false)

@@ -1,6 +1,7 @@
 use Rattle.ct_rewrite.proofs.Openings.{children_stand, children_placed}
 use Rattle.ct_rewrite.proofs.Sizes.{children_no_larger}
 use Rattle.ct_rewrite.proofs.Literals.{children_literals}
+use Rattle.ct_rewrite.proofs.Rules.{brought_distinct}
 use Rattle.ct_rewrite.proofs.builder.Builder.parts.Goals as goal
 
 pub returns-in-Some-clause-placed : goal.returns-in-Some-clause-placed
@@ -17,6 +18,11 @@ pub returns-in-Some-clause-size : goal.returns-in-Some-clause-size
 returns-in-Some-clause-size c =
     rw c.in_ok-from_slice.ensures.items
     (children_no_larger c.args.connective c.args.self.now c.args.form _ _ c.node-node.ensures.value c.in-Some.ensures)
+
+pub returns-in-Some-clause-distinct : goal.returns-in-Some-clause-distinct
+returns-in-Some-clause-distinct c =
+    rw c.in_ok-from_slice.ensures.items
+    (brought_distinct c.args.connective _ _ c.in-Some.ensures c.node-node.ensures.proper)
 
 pub returns-in-Some-clause-no_literals : goal.returns-in-Some-clause-no_literals
 returns-in-Some-clause-no_literals c =

@@ -1,0 +1,9 @@
+use Rattle.std.proofs.Common.{List, subst}
+use Rattle.std.specs.List.{IsDistinct}
+use Rattle.ct_rewrite.specs.declared.answer.Node.{Node}
+use Rattle.ct_rewrite.specs.Nodes.{same_node}
+use Rattle.ct_rewrite.proofs.Building.{distinct_nodes}
+use Rattle.ct_rewrite.proofs.builder.Builder.nodes.Goals as goal
+
+pub returns-clause-distinct : goal.returns-clause-distinct
+returns-clause-distinct c = subst (λ (ns : List Node). IsDistinct same_node ns) c.self.view_is (distinct_nodes _ c.as_slice.ensures.unique)
