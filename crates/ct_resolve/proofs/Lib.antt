@@ -1,3 +1,4 @@
+pub mod Distinct
 pub mod Founds
 pub mod Trees
 pub mod Picked

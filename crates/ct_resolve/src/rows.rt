@@ -11,29 +11,27 @@ use crate::error::ResolveError;
 use ct_parse::{Cell, Row};
 use ct_query::Heading;
 use ct_word::{List, Null, Term, Text, Value};
+use indexmap::IndexSet;
 use std::alloc::Global;
 
 /// The numbers of nulls that a word has room for are below this one.
 const NUMBERS: u32 = 1 << 28;
 
-fn contains(others: &[Text], name: &str) -> bool
-    ensures { result ≡ list_any (same_text name.now) others.now }
-{
-    others.iter().any(|other| name == other.as_str())
-}
-
 /// Whether no name stands twice.
-pub fn are_distinct(names: &[Text]) -> bool
-    ensures { result ≡ naming.are_distinct names.now }
+///
+/// # Errors
+/// `Memory` where there is none for a set of the names.
+pub fn are_distinct(alloc: Global, names: &[Text]) -> Result<bool, ResolveError>
+    ensures ok { IfOk result (λ b. b ≡ naming.are_distinct names.now) }
+    ensures err { IfErr result (λ e. e ≡ fault.Memory) }
 {
-    let mut rest = names;
-    while let Some((first, others)) = rest.split_first() {
-        if contains(others, first.as_str()) {
-            return false;
+    let mut seen = IndexSet::new(alloc);
+    for name in names {
+        if !seen.insert(name.clone()?)? {
+            return Ok(false);
         }
-        rest = others;
     }
-    true
+    Ok(true)
 }
 
 /// The first name and the others as one list.

@@ -96,7 +96,7 @@ pub fn select(alloc: Global, schema: &[Heading], written: &Select) -> Result<Nam
 {
     let scope = scope_of(alloc, schema, &written.tables)?;
     let names = visible_names(alloc, &written.tables)?;
-    if !are_distinct(names.as_slice()) {
+    if !are_distinct(alloc, names.as_slice())? {
         return Err(ResolveError::DuplicateName);
     }
     selected(alloc, scope.as_slice(), written)

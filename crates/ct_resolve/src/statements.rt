@@ -57,7 +57,7 @@ pub fn create(
         return Err(ResolveError::TableExists);
     }
     let columns = listed(alloc, first, rest.as_slice())?;
-    if !are_distinct(columns.as_slice()) {
+    if !are_distinct(alloc, columns.as_slice())? {
         return Err(ResolveError::DuplicateName);
     }
     Ok(Action::Create {
