@@ -4,7 +4,7 @@ use Rattle.ct_word.specs.declared.values.Value.{Value}
 use Rattle.ct_word.specs.declared.connectives.Connective.{Connective}
 use Rattle.ct_word.specs.declared.connectives.Connective.TheVariants as connective
 use Rattle.ct_word.specs.Value.{World}
-use Rattle.ct_word.specs.Condition.{Condition, Not, holds, SameTruth}
+use Rattle.ct_word.specs.Condition.{Condition, holds}
 use Rattle.ct_word.specs.Connective.{joined, join, dual, unit}
 
 and_with_true : (a b : Bool) → (a && (b && true)) ≡ (a && b)
