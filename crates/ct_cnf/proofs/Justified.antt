@@ -24,7 +24,7 @@ use Rattle.ct_cnf.specs.declared.numbers.Numbers.{Numbers}
 use Rattle.ct_cnf.specs.Encoding.{atom_of, named, through, origin_clause, AreOrigins}
 use Rattle.ct_cnf.specs.Lists.{yes_of, no_of, clause_of, why_of, entry, node_of, same_of, atoms_of, equal_entries, not_entries, and_entries, or_entries, defining_entries, word_entries, definition_entries, path_entry, over_entries, apart_entries, between_entries, into_entries, paths_after, all_entries, AreFieldsNumbered}
 use Rattle.ct_cnf.specs.Making.{IsNumbering}
-use Rattle.ct_cnf.proofs.Items.{no_item, item_cases, first_item, later_item}
+use Rattle.ct_word.proofs.Items.{no_item, item_cases, first_item, later_item}
 use Rattle.ct_cnf.proofs.Shapes.{path_of_two, path_of_three, two_clause, three_clause}
 use Rattle.ct_cnf.proofs.Atoms.{IsAtomOf, node_found, same_found}
 
