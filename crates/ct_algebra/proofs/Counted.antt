@@ -10,7 +10,7 @@ use Rattle.ct_query.specs.Plain.{PlainQuery, Table, Select, Project, Product, Un
 use Rattle.ct_query.specs.Patterns.{Patterns, picked, query_pattern}
 use Rattle.ct_query.specs.Size.{rows_in, row_bound}
 use Rattle.ct_table.specs.declared.table.CTable.{CTable}
-use Rattle.ct_table.specs.Building.{joins}
+use Rattle.ct_query.specs.Rows.{joins}
 use Rattle.ct_table.specs.Counting.{count_of}
 use Rattle.ct_table.specs.Denotes.{TableView}
 use Rattle.ct_table.specs.Tables.{cells_of}

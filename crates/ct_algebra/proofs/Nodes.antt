@@ -7,23 +7,11 @@ use Rattle.ct_query.specs.Bounds as bounds
 use Rattle.ct_query.specs.Bounds.{terms, ops, product_counts, partial_products, select_words, operator_words, side_words, query_words, nodes}
 use Rattle.ct_query.specs.Fits.{width}
 use Rattle.ct_query.specs.Size.{rows_in, greatest}
+use Rattle.ct_query.proofs.Products.{product_from, product_last, partial_last}
 use Rattle.ct_table.specs.declared.error.TableError.{TableError}
 use Rattle.ct_table.specs.Counting.{count_of}
 use Rattle.ct_table.specs.Denotes.{TableView, heading_of}
 use Rattle.ct_algebra.specs.Words.{most_rows, most_words, GrowsWithin}
-
--- the product of p and these numbers
-abbrev product_from : ℕ → List ℕ → ℕ
-product_from p [] = p
-product_from p (n ∷ ns) = product_from (p * n) ns
-
-product_last : (p : ℕ) (ns : List ℕ) (n : ℕ) → product_from p (ns ++ n ∷ []) ≡ product_from p ns * n
-product_last p [] n = refl
-product_last p (m ∷ ns) n = product_last (p * m) ns n
-
-partial_last : (p : ℕ) (ns : List ℕ) (n : ℕ) → partial_products p (ns ++ n ∷ []) ≡ partial_products p ns + (n + product_from p ns * n)
-partial_last p [] n = grind arith
-partial_last p (m ∷ ns) n = ap (λ s. m + p * m + s) (partial_last (p * m) ns n) ∙ omega arith
 
 -- the rows of a product of tables with these counts, and bounds on them and on its words
 abbrev Counts : List ℕ → ℕ → ℕ → Type 0

@@ -18,20 +18,21 @@ use Rattle.ct_condition.specs.Terms.{IsNamed}
 use Rattle.ct_table.specs.declared.table.CTable.{CTable}
 use Rattle.ct_table.specs.declared.error.TableError.{TableError}
 use Rattle.ct_table.specs.Tables.{cells_of, value_of_rows, AreRows}
-use Rattle.ct_table.specs.Building.{joins}
+use Rattle.ct_query.specs.Rows.{joins}
 use Rattle.ct_table.specs.Terms.{TermOfRows, RowsFrom, IsNoColumn}
 use Rattle.ct_table.specs.Shared.{view_of}
 use Rattle.ct_table.specs.Denotes.{TableView, heading_of, find_table, value_of_tables}
-use Rattle.ct_table.proofs.Denoting.{all_of, sublist-append, sublist_of_sublist, found_all}
-use Rattle.ct_table.proofs.Sets.{same_set_on, same_set-append}
+use Rattle.ct_query.proofs.Sublists.{all_of, sublist-append, sublist_of_sublist}
+use Rattle.ct_table.proofs.Denoting.{found_all}
+use Rattle.ct_query.proofs.Sets.{same_set_on, same_set-append}
 use Rattle.ct_algebra.specs.Operands.{AreTables, cells_in}
 use Rattle.ct_algebra.specs.Evaluates.{Evaluates}
 use Rattle.ct_algebra.specs.Names.{names, names_of}
 use Rattle.ct_algebra.specs.Terms.{IsNamedIn, TermOfQuery}
 use Rattle.ct_algebra.proofs.Found.{stands_for}
-use Rattle.ct_table.proofs.QueryTuples.{same_set_filter, same_set_without, same_set_within, same_set_map, same_set_joins}
-use Rattle.ct_table.proofs.QueryPatterns.{sublist_joins}
-use Rattle.ct_table.proofs.Merges.{sublist-map}
+use Rattle.ct_query.proofs.SameRows.{same_set_filter, same_set_without, same_set_within, same_set_map, same_set_joins}
+use Rattle.ct_query.proofs.Sublists.{sublist_joins}
+use Rattle.ct_query.proofs.Sublists.{sublist-map}
 use Rattle.ct_table.proofs.Reaching.{row_itself, rows_wider, from_rows}
 
 -- the terms of a query are those of one that names what it names

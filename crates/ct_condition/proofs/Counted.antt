@@ -14,7 +14,7 @@ use Rattle.ct_condition.specs.Runs.{run_words, run_new_words}
 use mathlib.Core.List.{IsPrefix}
 use Rattle.ct_word.proofs.Prefixes.{prefix_of_prefix}
 use Rattle.ct_condition.proofs.Placed.{new_fewer, words_fewer}
-use Rattle.ct_condition.proofs.Trees.{row_of}
+use Rattle.ct_query.proofs.Trees.{row_of}
 
 module _ (words cells : List ℕ) where
   abbrev of_terms : Term → Term → ℕ

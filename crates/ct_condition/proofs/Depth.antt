@@ -6,7 +6,7 @@ use Rattle.ct_word.specs.Condition.{Condition, Conditions, True, False, Same, No
 use Rattle.ct_query.specs.declared.query.Pred as pred
 use Rattle.ct_query.specs.declared.query.Pred.{Pred, Row_of-Pred, end_of-Pred, more_of-Pred, items-the_row-Pred, items_hidden-the_row-Pred-0}
 use Rattle.ct_query.specs.Pred.{condition_of, conditions_of}
-use Rattle.ct_condition.proofs.Trees.{row_of}
+use Rattle.ct_query.proofs.Trees.{row_of}
 
 abbrev mutual
   pub parts : Condition → ℕ

@@ -15,7 +15,7 @@ use Rattle.ct_condition.specs.Rows.{cell_for}
 use Rattle.ct_condition.specs.Terms.{TermsFrom, BelowEither, IsNamed, IsNamedInSome, IsNamedBySome, IsOnRow, IsOnRowOfSome, IsTermOnRow}
 use Rattle.ct_condition.proofs.OnRows.{ArePlaces}
 use Rattle.ct_condition.proofs.Reached.{formed_before, terms_before, some_before}
-use Rattle.ct_condition.proofs.Trees.{row_of}
+use Rattle.ct_query.proofs.Trees.{row_of}
 
 among_at : (cells : List ℕ) (k place : ℕ) → slice_get cells k ≡ Some place → Contains cells place
 among_at [] k place e = absurd (none-some place e)

@@ -25,7 +25,7 @@ use Rattle.ct_condition.specs.Truth.{ops_at}
 use Rattle.ct_condition.specs.Runs.{run_ops}
 use Rattle.ct_condition.proofs.Counted.{joined}
 use Rattle.ct_condition.proofs.Denied.{equal_tests, not_tests, pair_tests}
-use Rattle.ct_condition.proofs.Trees.{row_of}
+use Rattle.ct_query.proofs.Trees.{row_of}
 
 -- a word Not stands for the negation of the place that it denies
 by_denied : (o : Option Kind) (ms : List Meaning) (a b d : ℕ) → denied_by o a ≡ Some d → by_kind o ms a b ≡ IsCond (Not (as_cond (slice_get ms d)))

@@ -3,22 +3,17 @@ use Rattle.std.proofs.Common.{◌≡◌, ℕ, List, ap, sym, ◌∙◌, subst}
 use Rattle.std.specs.Prelude.{All, IsTrue}
 use Rattle.std.specs.List.{list_all, list_any}
 use Rattle.std.proofs.lemmas.List.Elements.{All-nil, All-cons, All-same}
-use mathlib.Core.Former.{Count}
 use mathlib.Core.List.{IsPrefix}
 use Rattle.ct_word.specs.declared.kinds.Class.TheVariants as class
 use Rattle.ct_word.specs.WellFormed.{is_place_of}
-use Rattle.ct_query.specs.declared.query.Pred.{Pred, And, Or, And', Row_of-Pred, end_of-Pred, more_of-Pred, items-the_row-Pred, items_hidden-the_row-Pred-0}
+use Rattle.ct_query.specs.declared.query.Pred.{Pred, And, Or, Row_of-Pred, end_of-Pred, more_of-Pred, items-the_row-Pred, items_hidden-the_row-Pred-0}
 use Rattle.ct_query.specs.Pred.{condition_of, conditions_of}
-use Rattle.ct_query.proofs.Trees.{holds_and, holds_or}
+use Rattle.ct_query.proofs.Trees.{row_of, holds_and, holds_or}
 use Rattle.ct_condition.specs.Truth.{HasTruth}
 use Rattle.ct_query.specs.Fields.{AreFittingOn, AreAllFittingOn}
 use Rattle.ct_condition.specs.Rows.{values_on, on_row}
 use Rattle.ct_condition.proofs.Truths.{in_place}
 use Rattle.ct_condition.proofs.OnRows.{on_row_in_prefix}
-
-abbrev pub row_of : Pred → (n : Count) × Row_of-Pred n
-row_of (And' _ row) = (_, row)
-row_of _ = (_, end_of-Pred)
 
 -- over rows of so many cells
 module _ (width : ℕ) where

@@ -6,15 +6,16 @@ use Rattle.ct_query.specs.Size.{row_bound, greatest, stopped}
 use Rattle.ct_query.specs.Bounds.{product_counts, partial_products}
 
 -- the product of p and these numbers
-abbrev product_from : ℕ → List ℕ → ℕ
+abbrev pub product_from : ℕ → List ℕ → ℕ
 product_from p [] = p
 product_from p (n ∷ ns) = product_from (p * n) ns
 
-product_last : (p : ℕ) (ns : List ℕ) (n : ℕ) → product_from p (ns ++ n ∷ []) ≡ product_from p ns * n
+-- one more number on the right, in the product and in the sum of all partial products
+pub product_last : (p : ℕ) (ns : List ℕ) (n : ℕ) → product_from p (ns ++ n ∷ []) ≡ product_from p ns * n
 product_last p [] n = refl
 product_last p (m ∷ ns) n = product_last (p * m) ns n
 
-partial_last : (p : ℕ) (ns : List ℕ) (n : ℕ) → partial_products p (ns ++ n ∷ []) ≡ partial_products p ns + (n + product_from p ns * n)
+pub partial_last : (p : ℕ) (ns : List ℕ) (n : ℕ) → partial_products p (ns ++ n ∷ []) ≡ partial_products p ns + (n + product_from p ns * n)
 partial_last p [] n = grind arith
 partial_last p (m ∷ ns) n = ap (λ s. m + p * m + s) (partial_last (p * m) ns n) ∙ omega arith
 

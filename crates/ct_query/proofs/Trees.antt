@@ -10,11 +10,12 @@ use Rattle.ct_query.specs.declared.query.Pred.{Pred, And, Or, And', Row_of-Pred,
 use Rattle.ct_query.specs.Pred.{condition_of, conditions_of}
 use Rattle.ct_query.specs.Bounds.{connectives}
 
-abbrev row_of : Pred → (n : Count) × Row_of-Pred n
+-- the items of an And, as the type has them
+abbrev pub row_of : Pred → (n : Count) × Row_of-Pred n
 row_of (And' _ row) = (_, row)
 row_of _ = (_, end_of-Pred)
 
-listed_row : (n : _) (row : Row_of-Pred n) → conditions_of row ≡ listed (map condition_of (items-the_row-Pred n row))
+pub listed_row : (n : _) (row : Row_of-Pred n) → conditions_of row ≡ listed (map condition_of (items-the_row-Pred n row))
 listed_row n end_of-Pred = refl
 listed_row n (more_of-Pred c rest) = ap (also (condition_of c)) (listed_row _ rest)
 

@@ -1,5 +1,5 @@
 -- A complete database: tables of tuples, without nulls and conditions.
-use Rattle.std.specs.Prelude.{◌≡◌, ℕ, Bool, List, [], ◌∷◌, map, if◌then◌else◌}
+use Rattle.std.specs.Prelude.{◌≡◌, ℕ, Bool, List, [], ◌∷◌, map, ⊤, if◌then◌else◌}
 use Rattle.std.specs.List.{list_any}
 use Rattle.ct_word.specs.declared.values.Value.{Value}
 use Rattle.ct_word.specs.Value.{same_text, same_tuple}
@@ -34,3 +34,15 @@ has_tuple tuples tuple = list_any (λ t. same_tuple t tuple) tuples
 -- two lists of tuples with the same members
 abbrev pub SameSet : List (List Value) → List (List Value) → Type 0
 SameSet a b = (tuple : List Value) → has_tuple a tuple ≡ has_tuple b tuple
+
+-- two tables of the same name and columns with the same set of tuples
+pub record SameRelation (a b : Relation) : Type 0 where
+  pub name : a.name ≡ b.name
+  pub columns : a.columns ≡ b.columns
+  pub tuples : SameSet a.tuples b.tuples
+
+-- two databases of the same tables in order
+abbrev pub SameDatabase : Database → Database → Type 0
+SameDatabase [] [] = ⊤
+SameDatabase (a ∷ as') (b ∷ bs) = SameRelation a b × SameDatabase as' bs
+SameDatabase _ _ = ⊥

@@ -1,5 +1,5 @@
 -- Patterns: the cells of all rows that were ever inserted, without conditions.
-use Rattle.std.specs.Prelude.{ℕ, ◌+◌, List, [], ◌∷◌, ◌++◌, map, flat_map, filter_map, slice_get, if◌then◌else◌}
+use Rattle.std.specs.Prelude.{ℕ, ◌+◌, List, [], ◌∷◌, ◌++◌, map, filter_map, slice_get, if◌then◌else◌}
 use Rattle.std.specs.List.{list_any}
 use Rattle.ct_word.specs.declared.values.Term.{Term}
 use Rattle.ct_word.specs.Value.{same_text, same_cells}
@@ -7,6 +7,7 @@ use Rattle.ct_word.specs.Change.{PlainChange, Create, Insert, Delete, Assert, Pl
 use Rattle.ct_query.specs.Plain.{PlainAction}
 use Rattle.ct_query.specs.Plain as plain
 use Rattle.ct_query.specs.Plain.{PlainQuery}
+use Rattle.ct_query.specs.Rows.{joins}
 use Rattle.ct_query.specs.Worlds.{changes_of}
 
 -- the cell lists of each table, by its name
@@ -26,7 +27,7 @@ abbrev pub query_pattern : Patterns → PlainQuery → List (List Term)
 query_pattern p (plain.Table t) = p t
 query_pattern p (plain.Select c q) = query_pattern p q
 query_pattern p (plain.Project ks q) = map (picked ks) (query_pattern p q)
-query_pattern p (plain.Product a b) = let right = query_pattern p b in flat_map (λ l. map (λ r. l ++ r) right) (query_pattern p a)
+query_pattern p (plain.Product a b) = joins (query_pattern p a) (query_pattern p b)
 query_pattern p (plain.Union a b) = query_pattern p a ++ query_pattern p b
 query_pattern p (plain.Except a b) = query_pattern p a
 query_pattern p (plain.Intersect a b) = query_pattern p a

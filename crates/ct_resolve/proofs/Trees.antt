@@ -1,11 +1,10 @@
 -- What is said of the rows of a tree, said of its lists.
 use Rattle.std.proofs.Common.{◌≡◌, ◌<◌, List, [], ◌∷◌, refl, ap, sym, ◌∙◌, map, length, arith}
-use mathlib.Core.Former.{Count}
-use Rattle.ct_word.specs.Condition.{Condition, Conditions, And, Or, listed}
 use Rattle.ct_query.specs.declared.schema.Heading.{Heading}
 use Rattle.ct_query.specs.declared.query.Pred as pred
-use Rattle.ct_query.specs.declared.query.Pred.{Pred, And', Row_of-Pred, end_of-Pred, more_of-Pred, items-the_row-Pred, items_hidden-the_row-Pred-0}
-use Rattle.ct_query.specs.Pred.{condition_of, conditions_of}
+use Rattle.ct_query.specs.declared.query.Pred.{Pred}
+use Rattle.ct_query.specs.Pred.{condition_of}
+use Rattle.ct_query.proofs.Trees.{and_is, or_is}
 use Rattle.ct_parse.specs.declared.tree.Factor as factor
 use Rattle.ct_parse.specs.declared.tree.Factor.{Factor, Row_of-Factor, end_of-Factor, more_of-Factor, items-the_row-Factor, items_shown-the_row-Factor-2}
 use Rattle.ct_parse.specs.declared.tree.Condition as tree
@@ -14,22 +13,6 @@ use Rattle.std.specs.Prelude.{Err}
 use Rattle.ct_resolve.specs.declared.error.ResolveError.{ResolveError}
 use Rattle.ct_resolve.specs.Found.{in_front, each}
 use Rattle.ct_resolve.specs.Conditions.{negated, and_of, or_of, all_found, any_found, factor_at, factors_at, conjunctions_at, conjunction_at, condition_at}
-
-row_of : Pred → (n : Count) × Row_of-Pred n
-row_of (And' _ row) = (_, row)
-row_of _ = (_, end_of-Pred)
-
-listed_row : (n : _) (row : Row_of-Pred n) → conditions_of row ≡ listed (map condition_of (items-the_row-Pred n row))
-listed_row n end_of-Pred = refl
-listed_row n (more_of-Pred c rest) = ap (λ cs. Rattle.ct_word.specs.Condition.also (condition_of c) cs) (listed_row _ rest)
-
-pub and_is : (cs : List Pred) → condition_of (pred.And cs) ≡ And (listed (map condition_of cs))
-unfolding row_of
-and_is cs = let row = row_of (pred.And cs) in ap And (listed_row row.0 row.1 ∙ ap (λ ds. listed (map condition_of ds)) (items_hidden-the_row-Pred-0 cs))
-
-pub or_is : (cs : List Pred) → condition_of (pred.Or cs) ≡ Or (listed (map condition_of cs))
-unfolding row_of
-or_is cs = let row = row_of (pred.And cs) in ap Or (listed_row row.0 row.1 ∙ ap (λ ds. listed (map condition_of ds)) (items_hidden-the_row-Pred-0 cs))
 
 -- a run of two or more is one node
 pub and_long : (cs : List Pred) → 1 < length cs → condition_of (pred.And cs) ≡ and_of (map condition_of cs)

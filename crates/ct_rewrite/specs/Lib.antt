@@ -1,6 +1,5 @@
 pub mod Nodes
 pub mod History
-pub mod StandsFor
 pub mod Sizes
 pub mod Words
 pub mod Building

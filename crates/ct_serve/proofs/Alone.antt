@@ -18,7 +18,7 @@ use Rattle.ct_arena.specs.Seen.{Seen, Keeping}
 use Rattle.ct_arena.specs.Counts.{opening}
 use Rattle.ct_rewrite.specs.declared.history.Commit.{Commit}
 use Rattle.ct_rewrite.specs.History.{plain_history, IsCommitFormed}
-use Rattle.ct_rewrite.specs.StandsFor.{SameRows, SameChange, SameChanges, SameCommits}
+use Rattle.ct_word.specs.StandsFor.{SameRows, SameChange, SameChanges, SameCommits}
 use Rattle.ct_table.specs.Denotes.{TableView, IsKept}
 use Rattle.ct_lex.specs.Texts.{texts}
 use Rattle.ct_transcript.specs.declared.reply.Reply.{Reply}

@@ -5,7 +5,7 @@ use Rattle.ct_word.specs.WellFormed.{IsWellFormed}
 use Rattle.ct_arena.specs.Counts.{opening}
 use Rattle.ct_query.specs.Worlds.{admits}
 use Rattle.ct_rewrite.specs.History.{plain_history, IsCommitFormed}
-use Rattle.ct_rewrite.specs.StandsFor.{StandsFor}
+use Rattle.ct_word.specs.StandsFor.{StandsFor}
 use Rattle.ct_transcript.specs.declared.transcript.Transcript.{Transcript}
 use Rattle.ct_serve.specs.Sessions.{AreLawfulSessions}
 

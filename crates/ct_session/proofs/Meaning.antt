@@ -13,7 +13,7 @@ use Rattle.ct_query.specs.Patterns.{pattern, query_pattern, count}
 use Rattle.ct_query.specs.Size.{size, rows_in}
 use Rattle.ct_table.specs.Tables.{cells_of, value_of_rows, AreRows}
 use Rattle.ct_table.specs.Denotes.{TableView, value_of_tables, IsKept, Denotes}
-use Rattle.ct_table.proofs.Denoting.{sublist_of_sublist}
+use Rattle.ct_query.proofs.Sublists.{sublist_of_sublist}
 use Rattle.ct_table.proofs.ByTables.{cells_found, rows_found, found-cons, rows_in_found, answered_by_tables, pattern_by_tables, size_by_tables}
 use Rattle.ct_table.specs.Counting.{count_of}
 use Rattle.ct_algebra.specs.Evaluates.{limit}

@@ -12,17 +12,18 @@ use Rattle.ct_word.specs.Change.{PlainCommit}
 use Rattle.ct_word.specs.Reading.{term_at}
 use Rattle.ct_query.specs.declared.schema.Count.{Count}
 use Rattle.ct_query.specs.Plain.{PlainQuery}
-use Rattle.ct_query.specs.Database.{Database, SameSet}
+use Rattle.ct_query.specs.Database.{Database, SameSet, SameDatabase}
 use Rattle.ct_query.specs.Rows.{rows}
 use Rattle.ct_query.specs.Worlds.{world}
 use Rattle.ct_query.specs.Patterns.{Patterns, patterns, pattern, query_pattern, count}
 use Rattle.ct_query.specs.Size.{size, rows_in}
 use Rattle.ct_table.specs.Tables.{cells_of}
-use Rattle.ct_table.specs.Denotes.{TableView, value_of_tables, SameDatabase, IsKept, Denotes, find_table}
-use Rattle.ct_table.proofs.Denoting.{nothing_of, found_name, found_all}
-use Rattle.ct_table.proofs.Sets.{same_set_on}
-use Rattle.ct_table.proofs.QueryTuples.{rows_same}
-use Rattle.ct_table.proofs.QueryPatterns.{pattern_part}
+use Rattle.ct_table.specs.Denotes.{TableView, value_of_tables, IsKept, Denotes, find_table}
+use Rattle.ct_query.proofs.Sublists.{nothing_of}
+use Rattle.ct_table.proofs.Denoting.{found_name, found_all}
+use Rattle.ct_query.proofs.Sets.{same_set_on}
+use Rattle.ct_query.proofs.SameRows.{rows_same}
+use Rattle.ct_query.proofs.Sublists.{pattern_part}
 use Rattle.ct_table.proofs.QuerySizes.{size_grows}
 use Rattle.ct_table.proofs.Counted.{rows_counted}
 

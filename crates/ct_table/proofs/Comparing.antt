@@ -17,7 +17,7 @@ use Rattle.ct_condition.specs.Truth.{HasTruth, equal_at, not_at, and_at, or_at}
 use Rattle.ct_table.specs.Tables.{value_of_rows, IsRow}
 use Rattle.ct_table.specs.Matching.{same_worth, is_among}
 use Rattle.ct_table.specs.Building.{HoldsWhere}
-use Rattle.ct_table.proofs.Sets.{has_tuple-append}
+use Rattle.ct_query.proofs.Sets.{has_tuple-append}
 use Rattle.ct_table.proofs.Selecting.{value-push}
 use Rattle.ct_table.proofs.Merges.{has_one}
 use Rattle.ct_table.proofs.Growing.{terms_grow, value_grows}

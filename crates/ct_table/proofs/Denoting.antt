@@ -15,45 +15,18 @@ use Rattle.ct_word.specs.Sublist.{IsSublist, ended, left_out, taken}
 use Rattle.ct_word.specs.WellFormed.{IsWellFormed}
 use Rattle.ct_word.specs.Change.{PlainRow, Create, Insert, PlainCommit}
 use Rattle.ct_word.proofs.Alike.{text_decides}
-use Rattle.ct_query.specs.Database.{Relation, Database, SameSet, with_tuples}
+use Rattle.ct_query.specs.Database.{Relation, Database, SameSet, with_tuples, SameRelation, SameDatabase}
 use Rattle.ct_query.specs.Step.{shown_rows, step_change, inserted}
 use Rattle.ct_query.specs.Worlds.{world, changes_of, after_changes}
 use Rattle.ct_query.specs.Patterns.{patterns, pattern_changes, pattern_change}
 use Rattle.ct_query.specs.Schema.{schema, created_by_change}
 use Rattle.ct_query.proofs.Laws.{world_commit, patterns_commit, changes_of-snoc}
 use Rattle.ct_table.specs.Tables.{cells_of, value_of_rows, AreRows}
-use Rattle.ct_table.specs.Denotes.{TableView, value_of_tables, SameRelation, SameDatabase, IsKept, heading_of, Denotes, find_table, with_table}
+use Rattle.ct_table.specs.Denotes.{TableView, value_of_tables, IsKept, heading_of, Denotes, find_table, with_table}
 use Rattle.ct_table.proofs.Growing.{value_grows, cells_grow, rows_grow}
-use Rattle.ct_table.proofs.Sets.{same_set_itself, same_set_on, same_set-append}
-
--- nothing is a part of every list
-pub nothing_of : {A : Type 0} (ys : List A) → IsSublist [] ys
-nothing_of [] = ended
-nothing_of (y ∷ ys) = left_out (nothing_of ys)
-
--- parts of two lists, one after the other, are a part of both
-pub sublist-append : {A : Type 0} (xs ys as' bs : List A) → IsSublist xs ys → IsSublist as' bs → IsSublist (xs ++ as') (ys ++ bs)
-sublist-append xs ys as' bs ended q = q
-sublist-append xs (y ∷ ys) as' bs (left_out p) q = left_out (sublist-append xs ys as' bs p q)
-sublist-append (x ∷ xs) (x' ∷ ys) as' bs (taken p) q = taken (sublist-append xs ys as' bs p q)
-
--- a list is a part of itself
-pub all_of : {A : Type 0} (ys : List A) → IsSublist ys ys
-all_of [] = ended
-all_of (y ∷ ys) = taken (all_of ys)
-
-pub sublist_of_sublist : {A : Type 0} (xs ys zs : List A) → IsSublist xs ys → IsSublist ys zs → IsSublist xs zs
-sublist_of_sublist xs ys zs p ended = p
-sublist_of_sublist xs ys (z ∷ zs) p (left_out q) = left_out (sublist_of_sublist xs ys zs p q)
-sublist_of_sublist xs (y ∷ ys) (z ∷ zs) (left_out p) (taken q) = left_out (sublist_of_sublist xs ys zs p q)
-sublist_of_sublist (x ∷ xs) (y ∷ ys) (z ∷ zs) (taken p) (taken q) = taken (sublist_of_sublist xs ys zs p q)
-
--- the same tables are worth the same
-pub same_database_append : (a b c d : Database) → SameDatabase a b → SameDatabase c d → SameDatabase (a ++ c) (b ++ d)
-same_database_append [] [] c d s r = r
-same_database_append (x ∷ a) (y ∷ b) c d s r = (s.0, same_database_append a b c d s.1 r)
-same_database_append [] (y ∷ b) c d s r = absurd s
-same_database_append (x ∷ a) [] c d s r = absurd s
+use Rattle.ct_query.proofs.Sets.{same_set_itself, same_set_on, same_set-append}
+use Rattle.ct_query.proofs.SameRows.{same_database_append}
+use Rattle.ct_query.proofs.Sublists.{nothing_of, sublist-append, all_of, sublist_of_sublist}
 
 -- a text that is not written as another: nor the other as it
 pub unalike : (a b : List ℕ) → same_text a b ≡ false → same_text b a ≡ false

@@ -7,7 +7,7 @@ use Rattle.std.proofs.lemmas.List.Elements.{filter-append}
 use Rattle.std.proofs.lemmas.Map.Keys.{IsDistinct-head, IsDistinct-tail}
 use Rattle.ct_word.specs.Sublist.{IsSublist, ended, left_out, taken}
 use Rattle.ct_table.specs.Tables.{firsts}
-use Rattle.ct_table.proofs.Denoting.{sublist_of_sublist}
+use Rattle.ct_query.proofs.Sublists.{sublist_of_sublist}
 
 -- what is filtered is a part
 pub filtered_part : {A : Type 0} (test : A → Bool) (xs : List A) → IsSublist (filter test xs) xs

@@ -1,13 +1,10 @@
 pub mod Reaching
 pub mod Columns
 pub mod Growing
-pub mod Sets
 pub mod Denoting
 pub mod Selecting
 pub mod Firsts
 pub mod Merges
-pub mod QueryTuples
-pub mod QueryPatterns
 pub mod QuerySizes
 pub mod Counted
 pub mod ByTables

@@ -36,7 +36,8 @@ use Rattle.ct_table.specs.Tables.{cells_of, value_of_rows, IsRow, AreRows, first
 use Rattle.ct_table.specs.Terms.{TermOfRows, RowFrom, RowsFrom}
 use Rattle.ct_table.specs.Merging.{rows_of, Merged, put_last, into, Gathers, is_possible, known}
 use Rattle.ct_table.proofs.Reaching.{row_itself, rows_among, rows_wider, row_later, rows_later, under_from, from_two}
-use Rattle.ct_table.proofs.Sets.{same_set-append, has_tuple-append, same_set_itself}
+use Rattle.ct_query.proofs.Sublists.{sublist-map}
+use Rattle.ct_query.proofs.Sets.{same_set-append, has_tuple-append, same_set_itself}
 use Rattle.ct_table.proofs.Selecting.{distinct_part, value-push, shown-append, one_shown}
 use Rattle.ct_table.proofs.Growing.{terms_grow, is_row_grows, cells_grow, value_grows}
 use Rattle.ct_table.proofs.Firsts.{filtered_part, any_first, firsts_known, firsts_new, firsts_long, or_with_true}
@@ -297,12 +298,6 @@ thin_value ws v never (x ∷ rs) = by_test (nat_eq x.cond 1) refl (thin_value ws
   by_test false p later =
       ap (λ b. value_of_rows ws v (cond (not b) (x ∷ filter is_possible rs) (filter is_possible rs))) p
       ∙ value-cons ws v x (filter is_possible rs) ∙ ap (λ l. value_of_rows ws v (x ∷ []) ++ l) later ∙ sym (value-cons ws v x rs)
-
--- parts keep being parts item by item
-pub sublist-map : {A B : Type 0} (f : A → B) (xs ys : List A) → IsSublist xs ys → IsSublist (map f xs) (map f ys)
-sublist-map f xs ys ended = ended
-sublist-map f xs (y ∷ ys) (left_out p) = left_out (sublist-map f xs ys p)
-sublist-map f (x ∷ xs) (x' ∷ ys) (taken p) = taken (sublist-map f xs ys p)
 
 thin_cells : (ws : List ℕ) (rs : List CRow) → IsSublist (cells_of ws (filter is_possible rs)) (cells_of ws rs)
 thin_cells ws rs = sublist-map (λ (r : CRow). map (term_at ws) r.cells) _ _ (filtered_part is_possible rs)

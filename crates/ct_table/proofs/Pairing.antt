@@ -26,7 +26,8 @@ use Rattle.ct_condition.specs.Terms.{TermsFrom, BelowEither}
 use Rattle.ct_condition.proofs.Reached.{formed_before}
 use Rattle.ct_table.specs.Tables.{cells_of, value_of_rows, IsRow, AreRows}
 use Rattle.ct_table.specs.Terms.{RowFrom}
-use Rattle.ct_table.specs.Building.{Builds, joins}
+use Rattle.ct_query.specs.Rows.{joins}
+use Rattle.ct_table.specs.Building.{Builds}
 use Rattle.ct_table.proofs.Denoting.{none_distinct}
 use Rattle.ct_table.proofs.Reaching.{none_from, row_later, from_two}
 use Rattle.ct_table.proofs.Selecting.{value-push, one_shown}

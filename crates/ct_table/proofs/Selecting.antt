@@ -27,7 +27,7 @@ use Rattle.ct_table.specs.Terms.{RowFrom, RowsFrom}
 use Rattle.ct_table.specs.Building.{HoldsWhere}
 use Rattle.ct_table.proofs.Reaching.{none_from, rows_later, under_from}
 use Rattle.ct_table.proofs.Growing.{terms_grow, is_row_grows, cells_grow, value_grows}
-use Rattle.ct_table.proofs.Denoting.{sublist-append, nothing_of, all_of}
+use Rattle.ct_query.proofs.Sublists.{sublist-append, nothing_of, all_of}
 
 -- the cell of the tuple that a row stands for
 pub cell_of_tuple : (ws : List ℕ) (v : World) (cells : List ℕ) (column : ℕ) → column < length cells

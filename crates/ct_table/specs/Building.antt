@@ -1,5 +1,5 @@
 -- Rows in the making, before they are merged.
-use Rattle.std.specs.Prelude.{◌≡◌, ℕ, Bool, List, ◌++◌, map, flat_map, IsTrue, All}
+use Rattle.std.specs.Prelude.{◌≡◌, ℕ, Bool, List, IsTrue, All}
 use mathlib.Core.List.{IsPrefix}
 use Rattle.ct_word.specs.declared.kinds.Class.TheVariants as class
 use Rattle.ct_word.specs.declared.values.Value.{Value}
@@ -24,7 +24,3 @@ pub record Builds (old now : List ℕ) (width : ℕ) (cells : List (List Term)) 
 pub record HoldsWhere (words : List ℕ) (place : ℕ) (test : World → Bool) : Type 0 where
   pub class : IsTrue (is_place_of words class.Cond place)
   pub holds : (v : World) → holds_at v (condition_at words place) ≡ test v
-
--- each of these lists, with each of those after it
-abbrev pub joins : {A : Type 0} → List (List A) → List (List A) → List (List A)
-joins ls rs = flat_map (λ l. map (λ r. l ++ r) rs) ls

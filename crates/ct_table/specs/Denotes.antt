@@ -1,5 +1,5 @@
 -- When tables denote a history: they are worth what the history makes, at every valuation.
-use Rattle.std.specs.Prelude.{◌≡◌, ℕ, List, [], ◌∷◌, length, map, Option, Some, None, IfSome, All, ⊤, if◌then◌else◌}
+use Rattle.std.specs.Prelude.{◌≡◌, ℕ, List, [], ◌∷◌, length, map, Option, Some, None, IfSome, All, if◌then◌else◌}
 use Rattle.std.specs.List.{IsDistinct}
 use Rattle.ct_word.specs.declared.values.CRow.{CRow}
 use Rattle.ct_word.specs.Value.{World, same_text}
@@ -7,7 +7,7 @@ use Rattle.ct_word.specs.Sublist.{IsSublist}
 use Rattle.ct_word.specs.Change.{PlainCommit}
 use Rattle.ct_query.specs.declared.schema.Heading.{Heading}
 use Rattle.ct_query.specs.Plain.{Table}
-use Rattle.ct_query.specs.Database.{Relation, Database, SameSet}
+use Rattle.ct_query.specs.Database.{Database, SameDatabase}
 use Rattle.ct_query.specs.Worlds.{world}
 use Rattle.ct_query.specs.Patterns.{pattern}
 use Rattle.ct_query.specs.Schema.{schema}
@@ -22,18 +22,6 @@ pub record TableView : Type 0 where
 -- the complete database that the tables are worth
 abbrev pub value_of_tables : List ℕ → World → List TableView → Database
 value_of_tables words v db = map (λ t. record { name = t.name; columns = t.columns; tuples = value_of_rows words v t.rows }) db
-
--- two tables of the same name and columns with the same set of tuples
-pub record SameRelation (a b : Relation) : Type 0 where
-  pub name : a.name ≡ b.name
-  pub columns : a.columns ≡ b.columns
-  pub tuples : SameSet a.tuples b.tuples
-
--- two databases of the same tables in order
-abbrev pub SameDatabase : Database → Database → Type 0
-SameDatabase [] [] = ⊤
-SameDatabase (a ∷ as') (b ∷ bs) = SameRelation a b × SameDatabase as' bs
-SameDatabase _ _ = ⊥
 
 -- a table's rows are well formed, and their cells are, in order, a part of the cells that were ever inserted
 pub record IsKept (words : List ℕ) (h : List PlainCommit) (t : TableView) : Type 0 where

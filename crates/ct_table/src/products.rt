@@ -7,7 +7,8 @@ ghost use Rattle.ct_word.specs.Reading.{term_at};
 ghost use Rattle.ct_word.specs.Sublist.{IsSublist};
 ghost use Rattle.ct_query.specs.Database.{SameSet};
 ghost use Rattle.ct_table.specs.Tables.{IsRow, AreRows, value_of_rows, cells_of};
-ghost use Rattle.ct_table.specs.Building.{Builds, joins};
+ghost use Rattle.ct_query.specs.Rows.{joins};
+ghost use Rattle.ct_table.specs.Building.{Builds};
 ghost use Rattle.ct_table.specs.Terms.{TermOfRows, RowsFrom};
 ghost use Rattle.ct_table.specs.declared.error.TableError.TheVariants as fault;
 

@@ -4,7 +4,8 @@ use Rattle.ct_word.specs.declared.kinds.Class.TheVariants as class
 use Rattle.ct_word.specs.Reading.{term_at}
 use Rattle.ct_word.proofs.Prefixes.{place_in_prefix}
 use Rattle.ct_table.specs.Tables.{cells_of, value_of_rows}
-use Rattle.ct_table.specs.Building.{Builds, joins}
+use Rattle.ct_query.specs.Rows.{joins}
+use Rattle.ct_table.specs.Building.{Builds}
 use Rattle.ct_table.proofs.Selecting.{row_at}
 use Rattle.ct_table.proofs.Pairing.{no_pairs, pairs_more}
 use Rattle.ct_table.proofs.Adding.{made_more, made_within, made_fewer, mul_one}

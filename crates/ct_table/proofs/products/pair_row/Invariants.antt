@@ -1,7 +1,8 @@
 use Rattle.std.proofs.Common.{◌≡◌, ◌+◌, [], ◌∷◌, ◌++◌, take, map, length, ◌≤◌, ◌*◌}
 use Rattle.ct_word.specs.Reading.{term_at}
 use Rattle.ct_table.specs.Tables.{cells_of, value_of_rows}
-use Rattle.ct_table.specs.Building.{Builds, joins}
+use Rattle.ct_query.specs.Rows.{joins}
+use Rattle.ct_table.specs.Building.{Builds}
 use Rattle.ct_table.specs.Terms.{TermOfRows}
 use Rattle.ct_table.proofs.products.pair_row.Given as goal
 

@@ -3,7 +3,8 @@ use Rattle.std.proofs.lemmas.List.{take_more, take_all}
 use Rattle.std.proofs.lemmas.Result.{err_from_is_err_and}
 use Rattle.ct_word.specs.Reading.{term_at}
 use Rattle.ct_table.specs.Tables.{cells_of, value_of_rows}
-use Rattle.ct_table.specs.Building.{Builds, joins}
+use Rattle.ct_query.specs.Rows.{joins}
+use Rattle.ct_table.specs.Building.{Builds}
 use Rattle.ct_table.proofs.Selecting.{row_at}
 use Rattle.ct_table.proofs.Growing.{rows_grow}
 use Rattle.ct_table.proofs.Building.{builds_none}

@@ -1,6 +1,7 @@
 use Rattle.std.proofs.Common.{◌≡◌, ◌+◌, take, length, ◌≤◌, ◌*◌, ◌++◌}
 use Rattle.ct_table.specs.Tables.{cells_of, value_of_rows}
-use Rattle.ct_table.specs.Building.{Builds, joins}
+use Rattle.ct_query.specs.Rows.{joins}
+use Rattle.ct_table.specs.Building.{Builds}
 use Rattle.ct_table.specs.Terms.{TermOfRows}
 use Rattle.ct_table.proofs.products.pairs.Given as goal
 

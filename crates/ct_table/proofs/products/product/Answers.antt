@@ -7,7 +7,7 @@ use Rattle.ct_word.specs.Value.{same_cells}
 use Rattle.ct_word.specs.Sublist.{IsSublist}
 use Rattle.ct_query.specs.Database.{SameSet}
 use Rattle.ct_table.specs.Tables.{IsRow, AreRows, value_of_rows, cells_of, firsts}
-use Rattle.ct_table.specs.Building.{joins}
+use Rattle.ct_query.specs.Rows.{joins}
 use Rattle.ct_table.proofs.Firsts.{part_of_firsts}
 use Rattle.ct_table.proofs.Adding.{all_first}
 use Rattle.ct_table.proofs.Pairing.{joined_apart}

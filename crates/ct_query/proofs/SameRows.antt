@@ -10,11 +10,9 @@ use Rattle.ct_word.specs.Condition.{holds}
 use Rattle.ct_word.proofs.Alike.{tuple_decides}
 use Rattle.ct_query.specs.Plain as plain
 use Rattle.ct_query.specs.Plain.{PlainQuery}
-use Rattle.ct_query.specs.Database.{Database, tuples_of, has_tuple, SameSet}
-use Rattle.ct_query.specs.Rows.{rows}
-use Rattle.ct_table.specs.Building.{joins}
-use Rattle.ct_table.specs.Denotes.{SameDatabase}
-use Rattle.ct_table.proofs.Sets.{has_tuple-append, same_set_on, same_set-append}
+use Rattle.ct_query.specs.Database.{Database, tuples_of, has_tuple, SameSet, SameDatabase}
+use Rattle.ct_query.specs.Rows.{rows, joins}
+use Rattle.ct_query.proofs.Sets.{has_tuple-append, same_set_on, same_set-append}
 
 -- a test of the tuples
 module _ (h : List Value → Bool) where
@@ -88,6 +86,13 @@ same_right (l ∷ a) c d r t = same_set-append (map (λ x. l ++ x) c) (map (λ x
 -- each tuple joined with each of others
 pub same_set_joins : (a b c d : List (List Value)) → SameSet a b → SameSet c d → SameSet (joins a c) (joins b d)
 same_set_joins a b c d s r = same_set_on (joins a c) (joins b c) (joins b d) (same_set_flat_map (λ l. map (λ x. l ++ x) c) a b s) (same_right b c d r)
+
+-- the same tables are worth the same
+pub same_database_append : (a b c d : Database) → SameDatabase a b → SameDatabase c d → SameDatabase (a ++ c) (b ++ d)
+same_database_append [] [] c d s r = r
+same_database_append (x ∷ a) (y ∷ b) c d s r = (s.0, same_database_append a b c d s.1 r)
+same_database_append [] (y ∷ b) c d s r = absurd s
+same_database_append (x ∷ a) [] c d s r = absurd s
 
 -- the tuples of the table with a name
 pub same_tuples_of : (t : List ℕ) (a b : Database) → SameDatabase a b → SameSet (tuples_of a t) (tuples_of b t)
