@@ -64,8 +64,8 @@ impl Chain {
         )
     }
 
-    #[tactic(auto, using(crate::proofs::Steps::linked_grows, crate::proofs::Steps::distinct_push))]
     /// Puts a word that does not stand in the list at its end. It takes no memory.
+    #[tactic(auto, using(crate::proofs::Steps::linked_grows, crate::proofs::Steps::distinct_push))]
     pub fn push(&mut self, w: u64)
         requires room { length self.old.words < self.old.room }
         requires new { ¬ Contains self.old.words w }
@@ -96,7 +96,7 @@ impl Chain {
 
     /// The list. It takes no memory.
     pub fn into_words(self) -> Vec<u64>
-        ensures words { result.items ≡ self.words }
+        ensures { result.items ≡ self.words }
     {
         self.words
     }
