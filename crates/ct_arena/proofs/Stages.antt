@@ -1,6 +1,9 @@
 -- What the keeper knows of its list at each stage.
-use Rattle.std.proofs.Common.{◌≡◌, ℕ, ◌+◌, ◌≤◌, List, [], length, refl, sym, ap, ◌∙◌, subst, arith}
-use Rattle.std.specs.Prelude.{All, Some, None, sum_by}
+use Rattle.std.proofs.Common.{◌≡◌, ℕ, ◌+◌, ◌≤◌, List, [], ◌++◌, length, refl, sym, ap, ◌∙◌, subst, arith}
+use Rattle.std.specs.Prelude.{All, Option, Some, None, sum_by}
+use mathlib.Core.List.{IsPrefix}
+use Rattle.ct_chain.specs.Seen.{Chained}
+use Rattle.ct_arena.proofs.Sole.{prefix_trans}
 use Rattle.std.proofs.lemmas.List.{append-nil}
 use Rattle.ct_word.specs.Word.{kind_with}
 use Rattle.ct_word.specs.Reading.{commits_of, meaning_of}
@@ -14,7 +17,7 @@ use Rattle.atomic_table.specs.Table.{Me}
 use Rattle.atomic_table.specs.Seated.{TableId}
 use Rattle.ct_arena.specs.Name.{LogName}
 use Rattle.ct_arena.specs.Counts.{opening, IsLog, AreOfSessions, numbers_by}
-use Rattle.ct_arena.specs.Kept.{IsNamed, IsSole, IsPass, IsAtStage, IsKeeper, guest_at, enrolled_at, ended_at}
+use Rattle.ct_arena.specs.Kept.{IsNamed, IsSole, IsPass, IsAtStage, IsKeeper, IsBehind, IsSpare, guest_at, enrolled_at, ended_at}
 
 opening_formed : IsWellFormed opening
 unfolding opening is_word_after kind_with
@@ -92,3 +95,16 @@ stage_expected room v ws Expected e h = h
 stage_expected room v ws Away e h = absurd (omega arith)
 stage_expected room v ws (Ended u) e h = absurd (omega arith)
 stage_expected room v ws (Entered u) e h = absurd (omega arith)
+
+-- a list of no words is a front of any
+pub empty_behind : (short long : Chained) → short.room ≡ long.room → short.words ≡ [] → IsBehind short long
+empty_behind short long room empty = record { room = room; longer = (long.words, ap (λ words. words ++ long.words) empty) }
+
+-- the list that was laid by stays a front of the keeper's as that one grows
+pub spare_grows : (seen seen' : Chained) (at : Stage) (spare : Option Chained) (t t' : Tally) → guest_at at ≡ Some t → IsSpare seen at spare → seen'.room ≡ seen.room → IsPrefix seen.words seen'.words
+    → IsSpare seen' (Entered t') spare
+spare_grows seen seen' Expected spare t t' e is room grows = absurd (cc)
+spare_grows seen seen' Away spare t t' e is room grows = absurd (cc)
+spare_grows seen seen' (Ended u) spare t t' e is room grows = absurd (cc)
+spare_grows seen seen' (Entered u) None t t' e is room grows = absurd is
+spare_grows seen seen' (Entered u) (Some list) t t' e is room grows = record { room = is.room ∙ sym room; longer = prefix_trans list.words seen.words seen'.words is.longer grows }

@@ -3,6 +3,7 @@ use Rattle.std.specs.Prelude.{◌≡◌, ℕ, ◌+◌, ◌<◌, ◌≤◌, ◌�
 use mathlib.Core.List.{IsPrefix}
 use Rattle.atomic_table.specs.Table.{Me}
 use Rattle.atomic_table.specs.Seated.{TableId}
+use Rattle.ct_chain.specs.Seen.{Chained}
 use Rattle.ct_word.specs.Reading.{commits_of}
 use Rattle.ct_arena.specs.Name.{LogName}
 use Rattle.ct_arena.specs.Counts.{opening, IsLog, AreNumbered, AreOfSessions}
@@ -53,6 +54,17 @@ pub record IsKeeper (log : LogName) (table : TableId) (id : ℕ) (me : Me ℕ Vi
   pub first : id ≡ 0
   pub alone : me.1 ≡ []
   pub stage : IsAtStage log.cap me.0 words at
+
+-- a list has as much room as another and is a front of it
+pub record IsBehind (short long : Chained) : Type 0 where
+  pub room : short.room ≡ long.room
+  pub longer : IsPrefix short.words long.words
+
+-- while a guest is entered, the keeper has a list laid by
+abbrev pub IsSpare : Chained → Stage → Option Chained → Type 0
+IsSpare seen (stage.Entered _) (Some list) = IsBehind list seen
+IsSpare seen (stage.Entered _) None = ⊥
+IsSpare seen _ _ = Unit {0}
 
 -- how many sessions were enrolled
 abbrev pub enrolled_at : Stage → ℕ

@@ -6,6 +6,7 @@ ghost use Rattle.ct_arena.specs.Counts.{opening};
 use crate::handing::{Tie, Token};
 use crate::keepers::KeeperPass;
 use crate::sites::Site;
+use ct_chain::Chain;
 use ct_word::{Kind, Memory, pack};
 use std::alloc::Global;
 use std::marker::{Model, PhantomData};
@@ -16,11 +17,11 @@ pub struct Blank {
     cap: u32,
     tie: Tie,
     token: Token,
-    words: Vec<u64>,
+    seen: Chain,
 }
 
 impl Model for Blank {
-    ghost use Rattle.std.specs.Prelude.{◌≡◌, ℕ, [], ◌≤◌, ◌<◌, vec_capacity};
+    ghost use Rattle.std.specs.Prelude.{◌≡◌, ℕ, [], ◌≤◌, ◌<◌};
     ghost use Rattle.ct_arena.specs.Name.{LogName, log_name_coded};
     ghost use Rattle.ct_arena.specs.Counts.{opening};
     ghost use Rattle.ct_arena.specs.declared.handing.View.TheVariants as views;
@@ -31,7 +32,7 @@ impl Model for Blank {
 
     ghost view = { λ b. record { cap = b.cap; table = b.tie.shared.table_id } };
 
-    ghost invariant = { λ b. (b.token.table_id ≡ b.tie.shared.table_id) × (b.token.id ≡ 0) × (b.token.me ≡ (views.Held, [])) × (0 < b.tie.shared.table_id.words) × (b.words.items ≡ opening) × (b.cap ≤ vec_capacity b.words) × (64 ≤ b.cap) × (b.cap ≤ 4194304) };
+    ghost invariant = { λ b. (b.token.table_id ≡ b.tie.shared.table_id) × (b.token.id ≡ 0) × (b.token.me ≡ (views.Held, [])) × (0 < b.tie.shared.table_id.words) × (b.seen.words ≡ opening) × (b.seen.room ≡ b.cap) × (64 ≤ b.cap) × (b.cap ≤ 4194304) };
 }
 
 impl Blank {
@@ -45,15 +46,15 @@ impl Blank {
         requires most { cap ≤ 4194304 }
         ensures { IfOk result (λ blank. blank.cap ≡ cap) }
     {
-        let mut words = Vec::with_capacity(alloc, cap as usize)?;
-        words.push_reserved(pack(Kind::True, 0, 0));
-        words.push_reserved(pack(Kind::False, 0, 0));
+        let mut seen = Chain::make(alloc, cap)?;
+        seen.push(pack(Kind::True, 0, 0));
+        seen.push(pack(Kind::False, 0, 0));
         let (tie, token) = Tie::of_words(alloc, &[0], &0)?;
         Ok(Blank {
             cap,
             tie,
             token,
-            words,
+            seen,
         })
     }
 }
@@ -81,13 +82,13 @@ impl<N: Site> Arena<N> {
             cap,
             tie,
             token,
-            words,
+            seen,
         } = blank;
         let arena = Arena {
             cap,
             tie,
             site: PhantomData,
         };
-        (arena, KeeperPass::from_parts(token, words))
+        (arena, KeeperPass::from_parts(token, seen))
     }
 }

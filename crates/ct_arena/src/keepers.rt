@@ -1,11 +1,11 @@
 // The keeper's pass: sessions are enrolled and ended by it, and commit through it.
 
-ghost use Rattle.std.specs.Prelude.{◌≡◌, ◌+◌, ◌<◌, ◌≤◌, ◌^◌, ◌↔◌, ◌⊎◌, [], ◌∷◌, ◌++◌, length, All, sum_by, IfOk, OnOk, OnErr, IsErr, IsOk, IsTrue, Some, None, slice_get, Contains, IfSome, vec_capacity};
+ghost use Rattle.std.specs.Prelude.{◌≡◌, ◌+◌, ◌<◌, ◌≤◌, ◌^◌, ◌↔◌, ◌⊎◌, [], ◌∷◌, ◌++◌, length, All, sum_by, IfOk, OnOk, OnErr, IsErr, IsOk, IsTrue, Some, None, slice_get, Contains, IfSome, IsSome};
 ghost use mathlib.Core.List.{IsPrefix};
 ghost use Rattle.ct_word.specs.WellFormed.{IsWellFormed, is_plain_word, is_place_of};
 ghost use Rattle.ct_word.specs.Reading.{commits_of};
 ghost use Rattle.ct_arena.specs.Counts.{opening, commit_word, commit_of, numbers_by, AreNumbered, AreOfSessions};
-ghost use Rattle.ct_arena.specs.Kept.{IsKeeper};
+ghost use Rattle.ct_arena.specs.Kept.{IsKeeper, IsBehind};
 ghost use Rattle.ct_arena.specs.Seen.{CountsWord, StandsLast, tally_of, pass_of};
 ghost use Rattle.ct_word.specs.declared.kinds.Class.TheVariants as class;
 ghost use Rattle.std.specs.List.{range_with_len};
@@ -13,11 +13,12 @@ ghost use Rattle.std.specs.List.{range_with_len};
 use crate::arenas::Arena;
 use crate::full::Full;
 use crate::handing::{Token, give, take_back};
-use crate::interning::put;
+use crate::interning::{follow, put};
 use crate::logs::Log;
 use crate::passes::Pass;
 use crate::sites::Site;
 use crate::tally::{Stage, Tally};
+use ct_chain::Chain;
 use ct_word::{Kind, Memory, pack};
 use std::alloc::Global;
 use std::marker::{Model, PhantomData};
@@ -38,73 +39,73 @@ pub struct Ended {
 #[derive(Drop)]
 pub struct Guest<N: Site> {
     tally: Tally,
-    spare: Vec<u64>,
     site: PhantomData<N>,
 }
 
 impl<N: Site> Model for Guest<N> {
-    ghost use Rattle.std.specs.Prelude.{◌≤◌, vec_capacity};
     ghost use Rattle.ct_arena.specs.declared.tally.Tally.{Tally};
 
     ghost Value = { Tally };
 
     ghost view = { λ g. g.tally };
-
-    ghost invariant = { λ g. N.log.cap ≤ vec_capacity g.spare };
 }
 
 /// What the keeper has seen of the log that N names, and where it stands with each session.
+///
+/// A guest brings its list. The keeper takes the longer one for both, and lays the shorter one by until the guest leaves.
 #[derive(Drop)]
 pub struct KeeperPass<N: Site> {
     token: Token,
-    seen: Vec<u64>,
+    seen: Chain,
+    spare: Option<Chain>,
     stage: Stage,
     site: PhantomData<N>,
 }
 
 impl<N: Site> Model for KeeperPass<N> {
-    ghost use Rattle.std.specs.Prelude.{◌≤◌, vec_capacity};
+    ghost use Rattle.std.specs.Prelude.{◌≡◌};
     ghost use Rattle.ct_arena.specs.Seen.{Keeping};
-    ghost use Rattle.ct_arena.specs.Kept.{IsKeeper, enrolled_at, guest_at, ended_at};
+    ghost use Rattle.ct_arena.specs.Kept.{IsKeeper, IsSpare, enrolled_at, guest_at, ended_at};
 
     ghost Value = { Keeping };
 
-    ghost view = { λ k. record { words = k.seen.items; enrolled = enrolled_at k.stage; guest = guest_at k.stage; ended = ended_at k.stage } };
+    ghost view = { λ k. record { words = k.seen.words; enrolled = enrolled_at k.stage; guest = guest_at k.stage; ended = ended_at k.stage } };
 
-    ghost invariant = { λ k. IsKeeper N.log k.token.table_id k.token.id k.token.me k.seen.items k.stage × (N.log.cap ≤ vec_capacity k.seen) };
+    ghost invariant = { λ k. IsKeeper N.log k.token.table_id k.token.id k.token.me k.seen.words k.stage × (k.seen.room ≡ N.log.cap) × IsSpare k.seen k.stage k.spare };
 }
 
-// These words, with room for as many as the capacity.
-fn copied(alloc: Global, cap: u32, words: &[u64]) -> Result<Vec<u64>, Memory>
-    requires { length words.now ≤ cap }
-    ensures words { IfOk result (λ copy. copy.items ≡ words.now) }
-    ensures room { IfOk result (λ copy. cap ≤ vec_capacity copy) }
+// Another list of these words, with as much room.
+fn copied(alloc: Global, cap: u32, seen: &Chain) -> Result<Chain, Memory>
+    requires { seen.now.room ≡ cap }
+    ensures { IfOk result (λ copy. copy ≡ seen.now) }
 {
-    let mut copy = Vec::with_capacity(alloc, cap as usize)?;
-    refill(&mut copy, words);
+    let mut copy = Chain::make(alloc, cap)?;
+    follow(&mut copy, seen);
     Ok(copy)
 }
 
-// Puts these words in place of those that the list has.
-fn refill(list: &mut Vec<u64>, words: &[u64])
-    requires { length words.now ≤ vec_capacity list.old }
-    ensures words { list.new.items ≡ words.now }
-    ensures room { vec_capacity list.new ≡ vec_capacity list.old }
+// The list that was laid by, with what came since.
+fn caught_up(spare: Option<Chain>, seen: &Chain) -> Chain
+    requires behind { IfSome spare (λ c. IsBehind c seen.now) }
+    requires there { IsSome spare }
+    ensures { result ≡ seen.now }
 {
-    list.clear();
-    for w in words {
-        list.push_reserved(*w);
-    }
+    let Some(mut list) = spare else {
+        unreachable!()
+    };
+    follow(&mut list, seen);
+    list
 }
 
 impl<N: Site> KeeperPass<N> {
-    pub(crate) fn from_parts(token: Token, seen: Vec<u64>) -> KeeperPass<N>
-        requires { IsKeeper N.log token.table_id token.id token.me seen.items Stage.Expected × (N.log.cap ≤ vec_capacity seen) }
-        ensures { result ≡ record { words = seen.items; enrolled = 0; guest = None; ended = [] } }
+    pub(crate) fn from_parts(token: Token, seen: Chain) -> KeeperPass<N>
+        requires { IsKeeper N.log token.table_id token.id token.me seen.words Stage.Expected × (seen.room ≡ N.log.cap) }
+        ensures { result ≡ record { words = seen.words; enrolled = 0; guest = None; ended = [] } }
     {
         KeeperPass {
             token,
             seen,
+            spare: None,
             stage: Stage::Expected,
             site: PhantomData,
         }
@@ -123,8 +124,8 @@ impl<N: Site> KeeperPass<N> {
         ensures ok { OnOk result (self.new ≡ record { words = self.old.words; enrolled = self.old.enrolled + 1; guest = None; ended = self.old.ended }) }
         ensures err { OnErr result (self.new ≡ self.old) }
     {
-        let seen = copied(alloc, arena.cap, self.seen.as_slice())?;
-        let token = give(&arena.tie, &mut self.token, self.seen.as_slice());
+        let seen = copied(alloc, arena.cap, &self.seen)?;
+        let token = give(&arena.tie, &mut self.token, self.seen.words());
         self.stage = Stage::Away;
         let tally = Tally {
             session: 1,
@@ -144,7 +145,7 @@ impl<N: Site> KeeperPass<N> {
         ensures known { AreOfSessions self.now.enrolled self.now.words }
         ensures guest { IfSome self.now.guest (λ t. AreNumbered t.session t.mine self.now.words) }
     {
-        self.seen.as_slice()
+        self.seen.words()
     }
 
     /// Takes a pass as guest. Keeper and guest have the longer of their lists.
@@ -166,11 +167,10 @@ impl<N: Site> KeeperPass<N> {
             site: _,
         } = pass;
         take_back(&arena.tie, &mut self.token, token);
-        let spare = mem::replace(&mut self.seen, seen);
+        self.spare = Some(mem::replace(&mut self.seen, seen));
         self.stage = Stage::Entered(tally);
         Guest {
             tally,
-            spare,
             site: PhantomData,
         }
     }
@@ -181,13 +181,9 @@ impl<N: Site> KeeperPass<N> {
         ensures pass { result ≡ pass_of guest self.old.words }
         ensures left { self.new ≡ record { words = self.old.words; enrolled = self.old.enrolled; guest = None; ended = self.old.ended } }
     {
-        let Guest {
-            tally,
-            mut spare,
-            site: _,
-        } = guest;
-        refill(&mut spare, self.seen.as_slice());
-        let token = give(&arena.tie, &mut self.token, self.seen.as_slice());
+        let Guest { tally, site: _ } = guest;
+        let spare = caught_up(self.spare.take(), &self.seen);
+        let token = give(&arena.tie, &mut self.token, self.seen.words());
         self.stage = Stage::Away;
         Pass::from_parts(token, tally, spare)
     }
@@ -254,13 +250,12 @@ impl<N: Site> KeeperPass<N> {
         ensures alone_full { IsErr result ↔ (length self.old.words ≡ N.log.cap) }
         ensures alone_err { OnErr result (self.new ≡ self.old) }
     {
-        let place = self.seen.len() as u32;
+        let place = self.seen.words().len() as u32;
         if place == arena.cap {
             return Err(Full);
         }
         let numbered = guest.tally.session * COMMITS_OF_SESSION + guest.tally.mine;
-        self.seen
-            .push_reserved(pack(Kind::Commit, numbered, changes));
+        self.seen.push(pack(Kind::Commit, numbered, changes));
         guest.tally.made += 1;
         guest.tally.mine += 1;
         self.stage = Stage::Entered(guest.tally);
@@ -280,6 +275,7 @@ impl<N: Site> KeeperPass<N> {
         ensures guest { self.new.guest ≡ None }
     {
         let Guest { tally, .. } = self.enter(arena, pass);
+        self.spare = None;
         self.stage = Stage::Ended(tally);
         Ended {
             session: tally.session,
@@ -302,6 +298,6 @@ impl<N: Site> KeeperPass<N> {
         ensures known { AreOfSessions self.enrolled result }
     {
         let _ = arena;
-        Log::from_parts(self.seen)
+        Log::from_parts(self.seen.into_words())
     }
 }

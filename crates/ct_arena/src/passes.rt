@@ -1,6 +1,6 @@
 // What one session has seen of the log, and its appending to it.
 
-ghost use Rattle.std.specs.Prelude.{◌≡◌, ◌+◌, ◌<◌, ◌≤◌, ◌^◌, ◌↔◌, [], ◌∷◌, ◌++◌, length, IfOk, OnOk, OnErr, IsErr, IsOk, IsTrue, Some, slice_get, Contains, vec_capacity};
+ghost use Rattle.std.specs.Prelude.{◌≡◌, ◌+◌, ◌<◌, ◌≤◌, ◌^◌, ◌↔◌, [], ◌∷◌, ◌++◌, length, IfOk, OnOk, OnErr, IsErr, IsOk, IsTrue, Some, slice_get, Contains};
 ghost use mathlib.Core.List.{IsPrefix};
 ghost use Rattle.ct_word.specs.WellFormed.{IsWellFormed, is_plain_word};
 ghost use Rattle.ct_arena.specs.Counts.{opening, AreNumbered};
@@ -13,6 +13,7 @@ use crate::handing::Token;
 use crate::interning::put;
 use crate::sites::Site;
 use crate::tally::Tally;
+use ct_chain::Chain;
 use std::marker::{Model, PhantomData};
 
 /// What one session has seen of the log that N names, and how much of it is its own.
@@ -20,26 +21,26 @@ use std::marker::{Model, PhantomData};
 pub struct Pass<N: Site> {
     pub(crate) token: Token,
     pub(crate) tally: Tally,
-    pub(crate) seen: Vec<u64>,
+    pub(crate) seen: Chain,
     pub(crate) site: PhantomData<N>,
 }
 
 impl<N: Site> Model for Pass<N> {
     ghost use Rattle.ct_arena.specs.Seen.{Seen};
-    ghost use Rattle.std.specs.Prelude.{◌≤◌, vec_capacity};
+    ghost use Rattle.std.specs.Prelude.{◌≡◌};
     ghost use Rattle.ct_arena.specs.Kept.{IsPass};
 
     ghost Value = { Seen };
 
-    ghost view = { λ p. record { session = p.tally.session; words = p.seen.items; made = p.tally.made; mine = p.tally.mine } };
+    ghost view = { λ p. record { session = p.tally.session; words = p.seen.words; made = p.tally.made; mine = p.tally.mine } };
 
-    ghost invariant = { λ p. IsPass N.log p.token.table_id p.token.me p.tally p.seen.items × (N.log.cap ≤ vec_capacity p.seen) };
+    ghost invariant = { λ p. IsPass N.log p.token.table_id p.token.me p.tally p.seen.words × (p.seen.room ≡ N.log.cap) };
 }
 
 impl<N: Site> Pass<N> {
-    pub(crate) fn from_parts(token: Token, tally: Tally, seen: Vec<u64>) -> Pass<N>
-        requires { IsPass N.log token.table_id token.me tally seen.items × (N.log.cap ≤ vec_capacity seen) }
-        ensures { result ≡ record { session = tally.session; words = seen.items; made = tally.made; mine = tally.mine } }
+    pub(crate) fn from_parts(token: Token, tally: Tally, seen: Chain) -> Pass<N>
+        requires { IsPass N.log token.table_id token.me tally seen.words × (seen.room ≡ N.log.cap) }
+        ensures { result ≡ record { session = tally.session; words = seen.words; made = tally.made; mine = tally.mine } }
     {
         Pass {
             token,
@@ -68,7 +69,7 @@ impl<N: Site> Pass<N> {
         ensures numbered { AreNumbered self.now.session self.now.mine self.now.words }
         ensures counted { 2 + self.now.made ≤ length self.now.words }
     {
-        self.seen.as_slice()
+        self.seen.words()
     }
 
     /// How many words the session appended.
