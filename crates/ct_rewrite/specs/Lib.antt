@@ -4,6 +4,8 @@ pub mod StandsFor
 pub mod Sizes
 pub mod Words
 pub mod Building
+pub mod Shape
+pub mod Below
 pub mod Signs
 pub mod Joining
 pub mod Order

@@ -5,6 +5,7 @@
 #![tactic(auto)]
 
 mod answer;
+mod below;
 mod builder;
 mod form;
 mod forms;
@@ -14,6 +15,7 @@ mod kept;
 mod order;
 mod printed;
 mod reading;
+mod shape;
 mod terms;
 #[cfg(test)]
 mod tests;
