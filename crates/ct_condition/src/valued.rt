@@ -8,8 +8,7 @@ ghost use Rattle.ct_word.specs.WellFormed.{IsWellFormed, is_place_of};
 ghost use Rattle.ct_condition.specs.Worth.{HaveWorths, are_equal, is_true, truth_by, worth_of};
 
 use crate::worlds::{are_same, value_in};
-use ct_rewrite::term_at;
-use ct_word::{Class, Kind, Memory, Value, World, class, kind, left, right};
+use ct_word::{Class, Kind, Memory, Value, World, class, kind, left, right, term_at};
 use std::alloc::Global;
 
 /// What a place is worth in a world: the value of a term, or the truth of a condition.

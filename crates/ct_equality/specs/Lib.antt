@@ -4,5 +4,4 @@ pub mod Assigned
 pub mod Classes
 pub mod Joining
 pub mod Trees
-pub mod Words
 pub mod Valued

@@ -11,7 +11,6 @@ mod classes;
 mod closing;
 mod paths;
 mod places;
-mod reading;
 mod terms;
 #[cfg(test)]
 mod tests;

@@ -12,8 +12,7 @@ ghost use Rattle.ct_equality.specs.Valued.{AreNumbered, AreNumberedTo, HasValue,
 
 use crate::classes::{Member, class_of, number_of};
 use crate::places::is_constant;
-use crate::reading::term_at;
-use ct_word::{List, Memory, Null, Term, Value, World};
+use ct_word::{List, Memory, Null, Term, Value, World, term_at};
 use std::alloc::Global;
 
 fn has_number(m: &Member, number: u32) -> bool

@@ -9,6 +9,7 @@ mod compared;
 mod kinds;
 mod lists;
 mod memory;
+mod reading;
 #[cfg(test)]
 mod tests;
 mod texts;
@@ -18,6 +19,7 @@ mod words;
 pub use kinds::{Class, Kind};
 pub use lists::List;
 pub use memory::Memory;
+pub use reading::{Word, term_at, text_at, word_at};
 pub use texts::Text;
 pub use values::{CRow, Null, Term, Value, World};
 pub use words::{class, kind, left, pack, right};

@@ -3,7 +3,7 @@ use Rattle.std.specs.Prelude.{◌≡◌, ℕ, ◌<◌, ◌^◌, List, [], ◌∷
 use Rattle.ct_word.specs.declared.kinds.Class.{Class}
 use Rattle.ct_word.specs.WellFormed.{Field, PlaceOf, fields_of, fits, is_place_of, same_class, class_of}
 use Rattle.ct_word.specs.Reading.{meanings, by_kind, as_text}
-use Rattle.ct_equality.specs.declared.reading.Word.{Word}
+use Rattle.ct_word.specs.declared.reading.Word.{Word}
 
 -- the text that a place stands for
 abbrev pub text_at : List ℕ → ℕ → List ℕ

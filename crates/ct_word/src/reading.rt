@@ -4,9 +4,13 @@ ghost use Rattle.std.specs.Prelude.{◌≡◌, ◌<◌, ◌+◌, ◌*◌, [], le
 ghost use Rattle.ct_word.specs.declared.kinds.Class.TheVariants as class;
 ghost use Rattle.ct_word.specs.WellFormed.{IsWellFormed, is_place_of, fits, Scalar};
 ghost use Rattle.ct_word.specs.Reading.{term_at, meanings, as_high, int_of_bits};
-ghost use Rattle.ct_equality.specs.Words.{IsWordAt, text_at, backwards};
+ghost use Rattle.ct_word.specs.WordAt.{IsWordAt, text_at, backwards};
 
-use ct_word::{Kind, Memory, Null, Term, Text, Value, kind, left, right};
+use crate::kinds::Kind;
+use crate::memory::Memory;
+use crate::texts::Text;
+use crate::values::{Null, Term, Value};
+use crate::words::{kind, left, right};
 use std::alloc::Global;
 
 /// A word taken apart.

@@ -1,7 +1,7 @@
 use Rattle.std.proofs.Common.{sym, ◌∙◌, arith}
 use Rattle.std.proofs.lemmas.Option.{slice_get-get_or}
-use Rattle.ct_equality.proofs.Words.{has_kind, word_is}
-use Rattle.ct_equality.proofs.reading.word_at.Goals as goal
+use Rattle.ct_word.proofs.WordAt.{has_kind, word_is}
+use Rattle.ct_word.proofs.reading.word_at.Goals as goal
 
 pub unreachable-requires : goal.unreachable-requires
 unreachable-requires c =
@@ -11,5 +11,5 @@ unreachable-requires c =
 pub returns : goal.returns
 returns c =
     rw (c.left.ensures.value, c.right.ensures.value)
-    (word_is c.args.words.now c.args.place _ c.in-Some.kind (slice_get-get_or c.args.words.now c.args.place 0 c.requires.within) c.requires.formed
+    (word_is c.args.words.now c.args.place _ (slice_get-get_or c.args.words.now c.args.place 0 c.requires.within) c.requires.formed c.in-Some.kind
     (sym c.kind.ensures ∙ c.in-Some.is) (omega arith) (omega arith))

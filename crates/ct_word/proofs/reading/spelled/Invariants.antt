@@ -1,7 +1,7 @@
 use Rattle.std.proofs.Common.{◌≡◌, ◌++◌, vec_len}
 use Rattle.std.specs.Prelude.{string_bytes}
-use Rattle.ct_equality.specs.Words.{backwards}
-use Rattle.ct_equality.proofs.reading.spelled.Given as goal
+use Rattle.ct_word.specs.WordAt.{backwards}
+use Rattle.ct_word.proofs.reading.spelled.Given as goal
 
 abbrev pub invariant-loop-character : goal.invariant-loop-character
 invariant-loop-character l = backwards l.fn.characters.items ≡ string_bytes l.text ++ backwards l.characters.items

@@ -1,7 +1,7 @@
 use Rattle.std.proofs.Common.{◌++◌, ◌∙◌, ap}
-use Rattle.ct_equality.specs.Words.{text_at, backwards}
-use Rattle.ct_equality.proofs.Texts.{longer, taken_off}
-use Rattle.ct_equality.proofs.reading.text_at.Goals as goal
+use Rattle.ct_word.specs.WordAt.{text_at, backwards}
+use Rattle.ct_word.proofs.Spelling.{longer, taken_off}
+use Rattle.ct_word.proofs.reading.text_at.Goals as goal
 
 pub loop-characters-preserved : goal.loop-characters-preserved
 loop-characters-preserved c =

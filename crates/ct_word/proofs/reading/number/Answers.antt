@@ -1,6 +1,6 @@
 use Rattle.std.proofs.Common.{refl, arith}
-use Rattle.ct_equality.proofs.Texts.{high_bits, number_of_bits}
-use Rattle.ct_equality.proofs.reading.number.Goals as goal
+use Rattle.ct_word.proofs.Spelling.{high_bits, number_of_bits}
+use Rattle.ct_word.proofs.reading.number.Goals as goal
 
 pub returns : goal.returns
 returns c =

@@ -1,5 +1,5 @@
-use Rattle.ct_equality.proofs.Texts.{popped}
-use Rattle.ct_equality.proofs.reading.spelled.Goals as goal
+use Rattle.ct_word.proofs.Spelling.{popped}
+use Rattle.ct_word.proofs.reading.spelled.Goals as goal
 
 pub loop-character-preserved : goal.loop-character-preserved
 loop-character-preserved c = rw c.in_ok-push.ensures.bytes (popped _ _ _ _ _ c.loop-character.invariant c.in-Some.ensures.items)

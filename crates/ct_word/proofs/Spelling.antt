@@ -9,8 +9,8 @@ use Rattle.ct_word.specs.declared.kinds.Kind.TheVariants as kind
 use Rattle.ct_word.specs.declared.kinds.Class.TheVariants as class
 use Rattle.ct_word.specs.WellFormed.{Scalar, fits, is_place_of, same_class, class_of}
 use Rattle.ct_word.specs.Reading.{meanings, as_text, as_high, int_of_bits}
-use Rattle.ct_equality.specs.declared.reading.Word.{Word}
-use Rattle.ct_equality.specs.Words.{IsWordAt, text_at, backwards}
+use Rattle.ct_word.specs.declared.reading.Word.{Word}
+use Rattle.ct_word.specs.WordAt.{IsWordAt, text_at, backwards}
 
 -- the only kind of its class
 high_kind : (k : Kind) → IsTrue (same_class (class_of k) class.High) → k ≡ kind.NumberHigh
