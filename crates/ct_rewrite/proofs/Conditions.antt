@@ -1,9 +1,11 @@
 -- What the positions of conditions stand for.
-use Rattle.std.proofs.Common.{◌≡◌, ℕ, ◌≤◌, Bool, List, [], ◌∷◌, length, map, refl, ap, sym, ◌∙◌, subst, arith}
+use Rattle.std.proofs.Common.{◌≡◌, ℕ, ◌+◌, ◌<◌, ◌≤◌, Bool, List, [], ◌∷◌, ◌++◌, length, map, take, get_or, Some, refl, ap, sym, ◌∙◌, subst, arith}
 use Rattle.std.specs.Prelude.{IsTrue, is_some}
-use Rattle.std.specs.BTreeMap.{BTreeMap}
+use Rattle.std.specs.Ordering.{nat_cmp}
+use Rattle.std.specs.BTreeMap.{BTreeMap, get}
 use Rattle.std.specs.List.{list_all, AllZip}
 use Rattle.std.proofs.lemmas.Bool.{and_parts, and_from, lt-ltb}
+use Rattle.std.proofs.lemmas.List.{map_more}
 use Rattle.ct_word.specs.declared.values.Term.{Term}
 use Rattle.ct_word.specs.Condition.{Condition, SameTruth}
 use Rattle.ct_word.specs.Reading.{condition_at}
@@ -33,6 +35,11 @@ module _ (ws : List ℕ) (ns : List Node) (fs : BTreeMap ℕ Form) (there : ℕ 
   pub roots_have : (roots : List ℕ) → IsTrue (list_all there roots) → IsTrue (list_all (has_form fs) roots)
   roots_have [] e = refl
   roots_have (r ∷ roots) e = let p = and_parts _ _ e in and_from _ _ (ap is_some (have r p.0).at) (roots_have roots p.1)
+
+-- the position for plus at one more place
+pub plus_more : (fs : BTreeMap ℕ Form) (ks ps : List ℕ) (i : ℕ) (f : Form) → i < length ps → ks ≡ map (plus_at fs) (take i ps) → get nat_cmp fs (get_or ps i 0) ≡ Some f
+    → ks ++ f.plus ∷ [] ≡ map (plus_at fs) (take (i + 1) ps)
+plus_more fs ks ps i f lt e at = (λ j. e j ++ plus_of (sym at j) ∷ []) ∙ sym (map_more (plus_at fs) ps i 0 lt)
 
 -- positions that stand for the conditions, and those at which they were kept
 module _ (ws : List ℕ) (ns out : List Node) (P : Condition → Condition → Type 0) (says : (k : ℕ) (c : Condition) → Stands ns k c → P (node_condition ns k) c) where

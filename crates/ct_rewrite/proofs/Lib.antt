@@ -1,5 +1,3 @@
-pub mod Words
-pub mod Texts
 pub mod Shaped
 pub mod Closing
 pub mod Nodes

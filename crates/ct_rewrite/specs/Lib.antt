@@ -2,7 +2,6 @@ pub mod Nodes
 pub mod History
 pub mod StandsFor
 pub mod Sizes
-pub mod Words
 pub mod Building
 pub mod Shape
 pub mod Below

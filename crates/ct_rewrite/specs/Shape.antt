@@ -58,8 +58,8 @@ pub record IsEarlier (words : List ℕ) (place part : ℕ) : Type 0 where
   pub below : part < place
   pub placed : IsTrue (is_place_of words class.Cond part)
 
--- a place stands for the condition of its shape, which names earlier conditions, and terms
-pub record IsShaped (words : List ℕ) (place : ℕ) : Type 0 where
-  pub condition : condition_at words place ≡ condition_of words (shape_at words place)
-  pub parts : AllByRecursion (IsEarlier words place) (parts_at words place)
-  pub terms : AllByRecursion (λ t. IsTrue (is_place_of words class.Term t)) (terms_of (shape_at words place))
+-- a place stands for the condition of a shape, which names earlier conditions, and terms
+pub record IsShaped (words : List ℕ) (place : ℕ) (s : Shape) : Type 0 where
+  pub condition : condition_at words place ≡ condition_of words s
+  pub parts : AllByRecursion (IsEarlier words place) (parts_of s)
+  pub terms : AllByRecursion (λ t. IsTrue (is_place_of words class.Term t)) (terms_of s)

@@ -14,9 +14,8 @@ ghost use Rattle.ct_rewrite.specs.Signs.{IsForm, IsPlaced, HasForm};
 
 use crate::below::first_from;
 use crate::builder::{Builder, Connective};
-use crate::reading::term_at;
 use crate::shape::{Shape, shape_at};
-use ct_word::Memory;
+use ct_word::{Memory, term_at};
 use std::alloc::Global;
 use std::collections::{BTreeMap, BTreeSet};
 

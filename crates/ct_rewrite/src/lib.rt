@@ -14,7 +14,6 @@ mod joining;
 mod kept;
 mod order;
 mod printed;
-mod reading;
 mod shape;
 mod terms;
 #[cfg(test)]
@@ -24,4 +23,3 @@ pub use answer::{AnswerRow, Node, PossibleRow};
 pub use form::Normal;
 pub use history::{Change, Commit};
 pub use printed::normal;
-pub use reading::{term_at, text_at};
