@@ -8,5 +8,6 @@ pub mod Below
 pub mod Signs
 pub mod Joining
 pub mod Order
+pub mod Tidy
 pub mod Rules
 pub mod Marks

@@ -19,7 +19,7 @@ mod terms;
 #[cfg(test)]
 mod tests;
 
-pub use answer::{AnswerRow, Node, PossibleRow};
+pub use answer::{AnswerRow, CertainRow, Node, PossibleRow};
 pub use form::Normal;
 pub use history::{Change, Commit};
 pub use printed::normal;
