@@ -1,5 +1,5 @@
-pub mod Words
-pub mod Texts
+pub mod Shaped
+pub mod Closing
 pub mod Nodes
 pub mod Results
 pub mod Sizes

@@ -1,10 +1,12 @@
 pub mod Nodes
 pub mod History
 pub mod Sizes
-pub mod Words
 pub mod Building
+pub mod Shape
+pub mod Below
 pub mod Signs
 pub mod Joining
 pub mod Order
+pub mod Tidy
 pub mod Rules
 pub mod Marks

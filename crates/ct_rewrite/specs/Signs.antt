@@ -1,7 +1,7 @@
 -- The forms of conditions in the making, with both signs.
-use Rattle.std.specs.Prelude.{◌≡◌, ℕ, ◌<◌, length, List, Some, IsTrue, slice_get, slice_index_or}
-use Rattle.ct_word.specs.declared.kinds.Class.TheVariants as class
-use Rattle.ct_word.specs.WellFormed.{is_place_of}
+use Rattle.std.specs.Prelude.{◌≡◌, ℕ, ◌<◌, Bool, length, List, Option, Some, None, is_some}
+use Rattle.std.specs.Ordering.{nat_cmp}
+use Rattle.std.specs.BTreeMap.{BTreeMap, get}
 use Rattle.ct_word.specs.Condition.{Condition, Not}
 use Rattle.ct_word.specs.Reading.{condition_at}
 use Rattle.ct_rewrite.specs.declared.answer.Node.{Node}
@@ -23,15 +23,20 @@ pub record IsPlaced (nodes : List Node) (f : Form) : Type 0 where
   pub minus : f.minus < length nodes
 
 -- the form of the condition at a place is there
-pub record HasForm (words : List ℕ) (nodes : List Node) (forms : List Form) (place : ℕ) : Type 0 where
+pub record HasForm (words : List ℕ) (nodes : List Node) (forms : BTreeMap ℕ Form) (place : ℕ) : Type 0 where
   pub form : Form
-  pub at : slice_get forms place ≡ Some form
+  pub at : get nat_cmp forms place ≡ Some form
   pub is : IsForm nodes form (condition_at words place)
 
--- each of these places that is a condition's has its form
-abbrev pub HaveForms : List ℕ → List Node → List Form → Type 0
-HaveForms words nodes forms = (p : ℕ) → p < length forms → IsTrue (is_place_of words class.Cond p) → HasForm words nodes forms p
+-- whether there is a form at a place
+abbrev pub has_form : BTreeMap ℕ Form → ℕ → Bool
+has_form forms place = is_some (get nat_cmp forms place)
+
+-- the position for plus
+abbrev pub plus_of : Option Form → ℕ
+plus_of (Some f) = f.plus
+plus_of None = 0
 
 -- the position for plus at a place
-abbrev pub plus_at : List Form → ℕ → ℕ
-plus_at forms place = (slice_index_or forms place (record { plus = 0; minus = 0 })).plus
+abbrev pub plus_at : BTreeMap ℕ Form → ℕ → ℕ
+plus_at forms place = plus_of (get nat_cmp forms place)

@@ -1,6 +1,10 @@
 // Conditions as numbered nodes, and the rows that they stand at.
 
-use ct_word::{List, Term, World};
+ghost use Rattle.std.specs.Prelude.{◌≡◌};
+ghost use Rattle.ct_rewrite.specs.Nodes.{children_of};
+
+use ct_derivation::Proof;
+use ct_word::{List, Term, Value, World};
 
 /// A condition over earlier nodes of its list.
 #[derive(Drop, PartialEq, Eq, Hash)]
@@ -11,6 +15,18 @@ pub enum Node {
     Ne(Term, Term),
     And(List<u32>),
     Or(List<u32>),
+}
+
+impl Node {
+    /// The positions of the nodes that an And or Or is over.
+    pub fn children(&self) -> &[u32]
+        ensures { result.now ≡ children_of self.now }
+    {
+        match self {
+            Node::And(children) | Node::Or(children) => children.as_slice(),
+            _ => &[],
+        }
+    }
 }
 
 /// Cells under the condition at a position of a node list.
@@ -25,4 +41,11 @@ pub struct AnswerRow {
 pub struct PossibleRow {
     pub cells: List<Term>,
     pub world: World,
+}
+
+/// A tuple that is in a table in every world, and a proof that it is absent in none.
+#[derive(Drop)]
+pub struct CertainRow {
+    pub tuple: List<Value>,
+    pub proof: Proof,
 }

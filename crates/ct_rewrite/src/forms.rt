@@ -1,35 +1,29 @@
-// The forms of the conditions of a log, each with both signs.
+// The forms of conditions of a log, each with both signs.
 
-ghost use Rattle.std.specs.Prelude.{◌≡◌, ℕ, List, ◌<◌, ◌≤◌, ◌+◌, ◌*◌, ◌^◌, [], length, map, nat_lt, IfOk, IsTrue};
-ghost use Rattle.std.specs.List.{list_all};
+ghost use Rattle.std.specs.Prelude.{◌≡◌, ℕ, List, ◌<◌, ◌≤◌, ◌+◌, ◌*◌, ◌^◌, [], length, IfOk, IsTrue};
+ghost use Rattle.std.specs.List.{AllByRecursion};
 ghost use Rattle.ct_word.specs.declared.kinds.Class.TheVariants as class;
 ghost use Rattle.ct_word.specs.WellFormed.{IsWellFormed, is_place_of};
 ghost use Rattle.ct_word.specs.Reading.{condition_at, term_at};
 ghost use Rattle.ct_word.specs.Condition.{Condition, Same, Not};
 ghost use Rattle.ct_rewrite.specs.declared.answer.Node.{Node};
 ghost use Rattle.ct_rewrite.specs.Building.{Grows, literal, joined};
-ghost use Rattle.ct_rewrite.specs.Signs.{IsForm, IsPlaced, HaveForms, plus_at};
+ghost use Rattle.ct_rewrite.specs.Shape.{parts_at};
+ghost use Rattle.ct_rewrite.specs.Below.{has, IsClosedFrom};
+ghost use Rattle.ct_rewrite.specs.Signs.{IsForm, IsPlaced, HasForm};
 
+use crate::below::first_from;
 use crate::builder::{Builder, Connective};
-use crate::reading::{term_at, word_at};
-use ct_word::{Class, Kind, Memory, class};
+use crate::shape::{Shape, shape_at};
+use ct_word::{Memory, term_at};
 use std::alloc::Global;
+use std::collections::{BTreeMap, BTreeSet};
 
 /// The positions of a condition and of its denial.
 #[derive(Clone, Copy)]
 pub struct Form {
     pub plus: u32,
     pub minus: u32,
-}
-
-/// Whether the word at a place is a condition.
-fn is_condition(words: &[u64], place: u32) -> bool
-    requires formed { IsWellFormed words.now }
-    requires within { place < length words.now }
-    ensures { result ≡ is_place_of words.now class.Cond place }
-{
-    let word = word_at(words, place);
-    class(word.kind) == Class::Cond
 }
 
 /// The form of true or false.
@@ -97,83 +91,53 @@ fn joined_form(
     Ok(Form { plus, minus })
 }
 
-/// The form of the condition at a place, over the forms of earlier places.
+/// The form of the condition at a place, over the forms of those that it names.
 fn form_at(
     alloc: Global,
     builder: &mut Builder,
     words: &[u64],
     place: u32,
-    forms: &[Form],
+    forms: &BTreeMap<u32, Form>,
 ) -> Result<Form, Memory>
     requires formed { IsWellFormed words.now }
     requires condition { IsTrue (is_place_of words.now class.Cond place) }
+    requires parts { AllByRecursion (HasForm words.now builder.old forms.now) (parts_at words.now place) }
     requires room { length builder.old + 2 ≤ 2 ^ 32 }
-    requires earlier { length forms.now ≡ place }
-    requires forms { HaveForms words.now builder.old forms.now }
     ensures grows { Grows builder.old builder.new }
     ensures count { length builder.new ≤ length builder.old + 2 }
     ensures form { IfOk result (λ f. IsForm builder.new f (condition_at words.now place)) }
 {
-    let word = word_at(words, place);
-    match word.kind {
-        Kind::True => literal_form(builder, true),
-        Kind::False => literal_form(builder, false),
-        Kind::Equal => equal_form(alloc, builder, words, word.left, word.right),
-        Kind::Not => Ok(denied(forms[word.left as usize])),
-        Kind::And => {
-            let left = forms[word.left as usize];
-            let right = forms[word.right as usize];
-            joined_form(alloc, builder, Connective::And, left, right)
+    match shape_at(words, place) {
+        Shape::Literal(truth) => literal_form(builder, truth),
+        Shape::Equal(left, right) => equal_form(alloc, builder, words, left, right),
+        Shape::Not(part) => Ok(denied(forms[&part])),
+        Shape::Joined(connective, left, right) => {
+            joined_form(alloc, builder, connective, forms[&left], forms[&right])
         }
-        Kind::Or => {
-            let left = forms[word.left as usize];
-            let right = forms[word.right as usize];
-            joined_form(alloc, builder, Connective::Or, left, right)
-        }
-        _ => unreachable!(),
     }
 }
 
-/// Stands where a word is no condition.
-const NO_FORM: Form = Form { plus: 0, minus: 0 };
-
-/// The form at a place, over the forms of earlier places.
-fn next_form(
+/// The forms of the conditions at these places, the lowest one first.
+pub fn forms(
     alloc: Global,
     builder: &mut Builder,
     words: &[u64],
-    place: u32,
-    forms: &[Form],
-) -> Result<Form, Memory>
-    requires formed { IsWellFormed words.now }
-    requires within { place < length words.now }
-    requires room { length builder.old + 2 ≤ 2 ^ 32 }
-    requires earlier { length forms.now ≡ place }
-    requires forms { HaveForms words.now builder.old forms.now }
-    ensures grows { Grows builder.old builder.new }
-    ensures count { length builder.new ≤ length builder.old + 2 }
-    ensures form { IfOk result (λ f. IsTrue (is_place_of words.now class.Cond place) → IsForm builder.new f (condition_at words.now place)) }
-{
-    if is_condition(words, place) {
-        form_at(alloc, builder, words, place, forms)
-    } else {
-        Ok(NO_FORM)
-    }
-}
-
-/// The forms of all conditions of the words.
-pub fn forms(alloc: Global, builder: &mut Builder, words: &[u64]) -> Result<Vec<Form>, Memory>
+    places: &BTreeSet<u32>,
+) -> Result<BTreeMap<u32, Form>, Memory>
     requires formed { IsWellFormed words.now }
     requires short { length words.now < 2 ^ 28 }
+    requires conditions { (k : ℕ) → IsTrue (has places.now k) → IsTrue (is_place_of words.now class.Cond k) }
+    requires closed { IsClosedFrom (parts_at words.now) 0 (has places.now) }
     requires empty { builder.old ≡ [] }
-    ensures count { IfOk result (λ fs. length fs.items ≡ length words.now) }
     ensures room { length builder.new ≤ 2 * length words.now }
-    ensures forms { IfOk result (λ fs. HaveForms words.now builder.new fs.items) }
+    ensures forms { IfOk result (λ fs. (k : ℕ) → IsTrue (has places.now k) → HasForm words.now builder.new fs k) }
 {
-    let mut forms = Vec::new(alloc);
-    for place in 0..words.len() as u32 {
-        let form = next_form(alloc, builder, words, place, forms.as_slice())?;
-        forms.push(form)?;
+    let mut forms = BTreeMap::new(alloc);
+    let mut low = 0;
+    while let Some(place) = first_from(places, low) {
+        let form = form_at(alloc, builder, words, place, &forms)?;
+        forms.insert(place, form)?;
+        low = place + 1;
     }
     Ok(forms)
 }

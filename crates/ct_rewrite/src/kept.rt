@@ -10,7 +10,6 @@ ghost use Rattle.ct_rewrite.specs.Marks.{AreKept, IsClosedFrom, IsKept, is_marke
 use crate::answer::Node;
 use crate::builder::Builder;
 use crate::form::Normal;
-use crate::order::children;
 use ct_word::{List, Memory};
 use std::alloc::Global;
 
@@ -39,7 +38,7 @@ fn reached(alloc: Global, nodes: &[Node], roots: &[u32]) -> Result<Vec<bool>, Me
     while position > 0 {
         position -= 1;
         if marks[position] {
-            mark(&mut marks, children(&nodes[position]));
+            mark(&mut marks, nodes[position].children());
         }
     }
     Ok(marks)

@@ -5,6 +5,7 @@
 #![tactic(auto)]
 
 mod answer;
+mod below;
 mod builder;
 mod form;
 mod forms;
@@ -13,13 +14,12 @@ mod joining;
 mod kept;
 mod order;
 mod printed;
-mod reading;
+mod shape;
 mod terms;
 #[cfg(test)]
 mod tests;
 
-pub use answer::{AnswerRow, Node, PossibleRow};
+pub use answer::{AnswerRow, CertainRow, Node, PossibleRow};
 pub use form::Normal;
 pub use history::{Change, Commit};
 pub use printed::normal;
-pub use reading::{term_at, text_at};

@@ -2,7 +2,7 @@
 
 ghost use Rattle.std.specs.Prelude.{◌≡◌, ℕ, Bool, true, IfSome, IsTrue};
 ghost use Rattle.std.specs.List.{list_all};
-ghost use Rattle.ct_rewrite.specs.Nodes.{IsOrdered, children_of, stands_over};
+ghost use Rattle.ct_rewrite.specs.Nodes.{IsOrdered, stands_over};
 ghost use Rattle.std.specs.Ordering.{is_lt};
 ghost use Rattle.ct_rewrite.specs.Order.{is_before, term_class, term_order, null_class, null_order, value_class, value_order};
 
@@ -111,16 +111,6 @@ fn class_of_node(node: &Node) -> u8 {
     }
 }
 
-/// The children of a node.
-pub fn children(node: &Node) -> &[u32]
-    ensures { result.now ≡ children_of node.now }
-{
-    match node {
-        Node::And(children) | Node::Or(children) => children.as_slice(),
-        _ => &[],
-    }
-}
-
 /// The first children that differ.
 fn first_apart(left: &[u32], right: &[u32]) -> Option<(u32, u32)>
     ensures { IfSome result (λ p. (test : ℕ → Bool) → list_all test left.now ≡ true → test p.0 ≡ true) }
@@ -160,9 +150,9 @@ pub fn compare_children(nodes: &[Node], a: u32, b: u32) -> Ordering
         if order != Ordering::Equal {
             return order;
         }
-        match first_apart(children(left), children(right)) {
+        match first_apart(left.children(), right.children()) {
             Some(next) => (a, b) = next,
-            None => return children(left).len().cmp(&children(right).len()),
+            None => return left.children().len().cmp(&right.children().len()),
         }
     }
     Ordering::Equal

@@ -1,6 +1,6 @@
 // The printed form of conditions.
 
-ghost use Rattle.std.specs.Prelude.{◌≡◌, ℕ, List, [], ◌<◌, ◌≤◌, ◌^◌, length, map, nat_lt, IfOk, IsTrue};
+ghost use Rattle.std.specs.Prelude.{◌≡◌, ℕ, List, [], ◌<◌, ◌≤◌, ◌^◌, length, map, IfOk, IsTrue};
 ghost use Rattle.std.specs.List.{AllZip, IsDistinct, list_all};
 ghost use Rattle.ct_word.specs.declared.kinds.Class.TheVariants as class;
 ghost use Rattle.ct_word.specs.declared.values.Term.{Term};
@@ -9,32 +9,38 @@ ghost use Rattle.ct_word.specs.WellFormed.{IsWellFormed, is_place_of};
 ghost use Rattle.ct_word.specs.Reading.{condition_at};
 ghost use Rattle.ct_rewrite.specs.Nodes.{IsOrdered, is_position, node_condition, read_nodes, same_node};
 ghost use Rattle.ct_rewrite.specs.Rules.{are_children_distinct, are_children_within, are_sides_in_order, has_no_literals, is_unsettled};
-ghost use Rattle.ct_rewrite.specs.Signs.{plus_at};
+ghost use Rattle.ct_rewrite.specs.Signs.{has_form, plus_at};
 ghost use Rattle.ct_rewrite.specs.Sizes.{NoneIsEmpty, deep, nest_of, text_of, wide};
 
+use crate::below::below;
 use crate::builder::Builder;
 use crate::form::Normal;
 use crate::forms::{Form, forms};
 use crate::kept::kept;
 use ct_word::Memory;
 use std::alloc::Global;
+use std::collections::BTreeMap;
 
 /// The positions for plus at these places.
-fn positions(alloc: Global, forms: &[Form], places: &[u32]) -> Result<Vec<u32>, Memory>
-    requires { IsTrue (list_all (λ p. nat_lt p (length forms.now)) places.now) }
+fn positions(
+    alloc: Global,
+    forms: &BTreeMap<u32, Form>,
+    places: &[u32],
+) -> Result<Vec<u32>, Memory>
+    requires { IsTrue (list_all (has_form forms.now) places.now) }
     ensures { IfOk result (λ ks. ks.items ≡ map (plus_at forms.now) places.now) }
 {
     let mut positions = Vec::new(alloc);
     for place in places {
-        positions.push(forms[*place as usize].plus)?;
+        positions.push(forms[place].plus)?;
     }
     Ok(positions)
 }
 
 /// The printed form of the conditions at these places of a log.
 ///
-/// Each word that a place leads to is looked at once for each sign, so that what conditions share is
-/// not unfolded.
+/// Each condition that a root leads to gets its form once for each sign, so that what conditions
+/// share is not unfolded. No other word of the log is looked at.
 ///
 /// # Errors
 /// `Memory` where there is none for the nodes.
@@ -67,8 +73,9 @@ pub fn normal(alloc: Global, words: &[u64], roots: &[u32]) -> Result<Normal, Mem
     ensures sides { IfOk result (λ n. IsTrue (list_all are_sides_in_order n.nodes)) }
     ensures unsettled { IfOk result (λ n. IsTrue (list_all is_unsettled n.nodes)) }
 {
+    let places = below(alloc, words, roots)?;
     let mut builder = Builder::new(alloc);
-    let forms = forms(alloc, &mut builder, words)?;
-    let positions = positions(alloc, forms.as_slice(), roots)?;
+    let forms = forms(alloc, &mut builder, words, &places)?;
+    let positions = positions(alloc, &forms, roots)?;
     kept(alloc, builder.nodes(), positions.as_slice())
 }

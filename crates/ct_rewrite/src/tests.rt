@@ -5,7 +5,6 @@ ghost use Rattle.std.specs.List.{list_all};
 ghost use Rattle.ct_word.specs.declared.kinds.Class.TheVariants as class;
 ghost use Rattle.ct_word.specs.WellFormed.{is_place_of};
 
-use crate::order::children;
 use crate::{Node, Normal, normal};
 use ct_word::{Memory, Null, Term, Value};
 use std::alloc::{AllocError, Global};
@@ -666,7 +665,7 @@ fn only_nodes_of_the_roots_are_kept(rt: HostRuntime) -> Result<(), Fail> {
 /// The children of the node at a position.
 fn children_at(form: &Normal, position: u32) -> &[u32] {
     match form.nodes.as_slice().get(position as usize) {
-        Some(node) => children(node),
+        Some(node) => node.children(),
         None => &[],
     }
 }

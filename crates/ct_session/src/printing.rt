@@ -9,9 +9,9 @@ ghost use Rattle.ct_arena.specs.Counts.{opening};
 ghost use Rattle.ct_table.specs.Tables.{AreRows};
 ghost use Rattle.ct_session.specs.Printed.{printed_rows, IsPrinted};
 
-use ct_rewrite::{AnswerRow, Normal, normal, term_at};
+use ct_rewrite::{AnswerRow, Normal, normal};
 use ct_transcript::Answer;
-use ct_word::{CRow, List, Memory, Term, Text};
+use ct_word::{CRow, List, Memory, Term, Text, term_at};
 use std::alloc::Global;
 
 /// The place of the word true, under which the answer is, and then those of the rows' conditions.

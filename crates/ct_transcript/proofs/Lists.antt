@@ -22,8 +22,10 @@ use Rattle.ct_derivation.specs.declared.steps.Why.TheVariants as why
 use Rattle.ct_derivation.specs.declared.steps.Proof.{Proof}
 use Rattle.ct_derivation.specs.Literal.{yes_of, no_of, same_lit, has, same_members}
 use Rattle.ct_derivation.specs.Accepts.{fits_atom, fits_lit, gives, is_right, accepts}
-use Rattle.ct_transcript.specs.Possible.{PossibleRight, ShowsRow, IsTidy, are_ascending}
-use Rattle.ct_transcript.specs.Certain.{CertainTuple, CertainRight, RefutesAbsence}
+use Rattle.ct_rewrite.specs.declared.answer.CertainRow.{CertainRow}
+use Rattle.ct_rewrite.specs.Tidy.{IsTidy, are_ascending}
+use Rattle.ct_transcript.specs.Possible.{PossibleRight, ShowsRow}
+use Rattle.ct_transcript.specs.Certain.{CertainRight, RefutesAbsence}
 
 abbrev int : ℕ → Value
 int n = val.Int (pos n)
@@ -121,10 +123,10 @@ false_refuted = record {
   };
 }
 
-abbrev one_listed : List CertainTuple
+abbrev one_listed : List CertainRow
 one_listed = record { tuple = int 1 ∷ []; proof = false_refuted } ∷ []
 
-one_refuted : (k : ℕ) (d : CertainTuple) → k < 1 → RefutesAbsence (slice_index_or one_listed k d) query (table_with (row one ∷ [])) [] log
+one_refuted : (k : ℕ) (d : CertainRow) → k < 1 → RefutesAbsence (slice_index_or one_listed k d) query (table_with (row one ∷ [])) [] log
 unfolding kind_with meaning_of accepts is_right gives fits_lit fits_atom same_members has same_lit
 one_refuted zero d lt = record { accepted = refl; root = λ v. refl }
 one_refuted (suc k) d lt = absurd (omega (arith, lt))

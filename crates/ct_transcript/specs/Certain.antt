@@ -12,13 +12,8 @@ use Rattle.ct_query.specs.Plain.{PlainAction}
 use Rattle.ct_query.specs.Database.{Database, has_tuple}
 use Rattle.ct_query.specs.Rows.{rows}
 use Rattle.ct_query.specs.Worlds.{world}
-use Rattle.ct_derivation.specs.declared.steps.Proof.{Proof}
+use Rattle.ct_rewrite.specs.declared.answer.CertainRow.{CertainRow}
 use Rattle.ct_derivation.specs.Accepts.{AcceptsProof}
-
--- a certain tuple, with the root and the derivation that refute its absence
-pub record CertainTuple : Type 0 where
-  pub tuple : List Value
-  pub proof : Proof
 
 -- the query has the tuple in every admitted world
 abbrev pub IsCertain : PlainQuery → List PlainCommit → List PlainAction → List Value → Type 0
@@ -30,12 +25,12 @@ is_absent v q tuple None = false
 is_absent v q tuple (Some w) = not (has_tuple (rows v q w) tuple)
 
 -- the proof is accepted over the log's words, and its root holds exactly where a world is admitted without the tuple
-pub record RefutesAbsence (r : CertainTuple) (q : PlainQuery) (h : List PlainCommit) (actions : List PlainAction) (words : List ℕ) : Type 0 where
+pub record RefutesAbsence (r : CertainRow) (q : PlainQuery) (h : List PlainCommit) (actions : List PlainAction) (words : List ℕ) : Type 0 where
   pub accepted : AcceptsProof words r.proof
   pub root : (v : World) → holds_at v (condition_at words r.proof.root) ≡ is_absent v q r.tuple (world v h actions)
 
 -- a list of certain tuples is right: distinct, exactly the certain ones, each with a refutation of its absence
-pub record CertainRight (list : List CertainTuple) (q : PlainQuery) (h : List PlainCommit) (actions : List PlainAction) (words : List ℕ) : Type 0 where
+pub record CertainRight (list : List CertainRow) (q : PlainQuery) (h : List PlainCommit) (actions : List PlainAction) (words : List ℕ) : Type 0 where
   pub distinct : IsDistinct same_tuple (map (λ r. r.tuple) list)
   pub exact : (tuple : List Value) → IsTrue (has_tuple (map (λ r. r.tuple) list) tuple) ↔ IsCertain q h actions tuple
   pub refuted : All (λ r. RefutesAbsence r q h actions words) list

@@ -1,11 +1,9 @@
 -- When a list of possible rows is right: the rows that a query has in some of the databases that a history stands for.
 -- Possibility of a fact is that of Abiteboul, Kanellakis and Grahne 1991; the set of databases, Imielinski and Lipski 1984. The worlds that the list shows are own.
-use Rattle.std.specs.Prelude.{◌&&◌, Bool, true, not, List, [], ◌∷◌, map, IfSome, IsSomeAnd, IsTrue, All}
-use Rattle.std.specs.List.{IsDistinct, list_all}
-use Rattle.std.specs.Ordering.{is_lt}
+use Rattle.std.specs.Prelude.{List, map, IfSome, IsSomeAnd, IsTrue, All}
+use Rattle.std.specs.List.{IsDistinct}
 use Rattle.ct_word.specs.declared.values.Value.{Value}
-use Rattle.ct_word.specs.declared.values.Null.{Null}
-use Rattle.ct_word.specs.Value.{World, same_cells, same_value, other_zero, tuple_at}
+use Rattle.ct_word.specs.Value.{World, same_cells, tuple_at}
 use Rattle.ct_word.specs.Sublist.{IsSublist}
 use Rattle.ct_word.specs.Change.{PlainCommit}
 use Rattle.ct_query.specs.Plain.{PlainQuery}
@@ -15,24 +13,7 @@ use Rattle.ct_query.specs.Rows.{rows}
 use Rattle.ct_query.specs.Worlds.{world}
 use Rattle.ct_query.specs.Patterns.{pattern}
 use Rattle.ct_rewrite.specs.declared.answer.PossibleRow.{PossibleRow}
-use Rattle.ct_rewrite.specs.Order.{null_order}
-
--- whether a null comes before another in the order of terms
-abbrev pub null_before : Null → Null → Bool
-null_before m n = is_lt (null_order m n)
-
--- whether each null comes before all those after it, so that no null is there twice
-abbrev pub are_ascending : World → Bool
-are_ascending [] = true
-are_ascending (p ∷ v) = list_all (λ r. null_before p.0 r.0) v && are_ascending v
-
--- whether no pair has @0, the value of a null that is not listed
-abbrev pub has_no_zero : World → Bool
-has_no_zero v = list_all (λ p. not (same_value p.1 other_zero)) v
-
--- a world is written in one way: distinct nulls in ascending order, none with @0
-abbrev pub IsTidy : World → Type 0
-IsTidy v = IsTrue (are_ascending v && has_no_zero v)
+use Rattle.ct_rewrite.specs.Tidy.{IsTidy}
 
 -- the row's world is admitted, and there the query has the row
 abbrev pub ShowsRow : PlainQuery → List PlainCommit → List PlainAction → PossibleRow → Type 0

@@ -13,7 +13,7 @@ mod sessions;
 mod terms;
 mod transcript;
 
-pub use ct_rewrite::{AnswerRow, Change, Commit, Node};
+pub use ct_rewrite::{AnswerRow, CertainRow, Change, Commit, Node, PossibleRow};
 pub use reply::{Answer, Refusal, Reply, SessionLog};
 pub use transcript::{Transcript, lines};
 

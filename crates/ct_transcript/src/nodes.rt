@@ -33,15 +33,6 @@ fn is_run(node: &Node) -> bool
     matches!(node, Node::And(_) | Node::Or(_))
 }
 
-fn children(node: &Node) -> &[u32]
-    ensures { result.now ≡ children_of node.now }
-{
-    match node {
-        Node::And(ks) | Node::Or(ks) => ks.as_slice(),
-        _ => &[],
-    }
-}
-
 // Counts the references. A count stops at 255, and only two or more matters.
 fn add_references(counts: &mut [u8], positions: &[u32])
     ensures len { length counts.new ≡ length counts.old }
@@ -61,7 +52,7 @@ fn count_references(alloc: Global, nodes: &[Node], roots: &[u32]) -> Result<Vec<
 {
     let mut counts = vec![in alloc; 0u8; nodes.len()]?;
     for node in nodes {
-        add_references(&mut counts, children(node));
+        add_references(&mut counts, node.children());
     }
     add_references(&mut counts, roots);
     Ok(counts)

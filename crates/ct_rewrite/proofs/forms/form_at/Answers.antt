@@ -1,37 +1,50 @@
-use Rattle.std.proofs.Common.{sym, subst}
+use Rattle.std.proofs.Common.{sym, subst, ◌∙◌}
 use Rattle.std.specs.Prelude.{IfOk}
+use Rattle.std.specs.List.{AllByRecursion}
 use Rattle.ct_word.specs.Condition.{Condition}
-use Rattle.ct_word.specs.Reading.{condition_at}
-use Rattle.ct_rewrite.specs.Signs.{IsForm}
-use Rattle.ct_rewrite.proofs.Conditions.{form_kept, not_part, and_left, and_right, or_left, or_right, not_at, and_at, or_at}
+use Rattle.ct_rewrite.specs.Shape.{IsShaped, parts_of}
+use Rattle.ct_rewrite.specs.Signs.{IsForm, HasForm}
+use Rattle.ct_rewrite.proofs.Shaped.{shaped}
+use Rattle.ct_rewrite.proofs.Signs.{found_form}
 use Rattle.ct_rewrite.proofs.forms.form_at.Goals as goal
+
+pub equal_form-requires-clause-left : goal.equal_form-requires-clause-left
+equal_form-requires-clause-left c =
+    let ws = c.args.words.now in
+    (subst (IsShaped ws c.args.place) (sym c.shape_at.ensures ∙ c.in-Equal.is) (shaped ws c.args.place c.requires.formed c.requires.condition)).terms.0
+
+pub equal_form-requires-clause-right : goal.equal_form-requires-clause-right
+equal_form-requires-clause-right c =
+    let ws = c.args.words.now in
+    (subst (IsShaped ws c.args.place) (sym c.shape_at.ensures ∙ c.in-Equal.is) (shaped ws c.args.place c.requires.formed c.requires.condition)).terms.1.0
+
+pub returns-in-Literal-clause-form : goal.returns-in-Literal-clause-form
+returns-in-Literal-clause-form c =
+    let ws = c.args.words.now in
+    let is = subst (IsShaped ws c.args.place) (sym c.shape_at.ensures ∙ c.in-Literal.is) (shaped ws c.args.place c.requires.formed c.requires.condition) in
+    subst (λ (x : Condition). IfOk c.literal_form.result (λ f. IsForm c.literal_form.new.builder f x)) (sym is.condition) c.literal_form.ensures.form
+
+pub returns-in-Equal-clause-form : goal.returns-in-Equal-clause-form
+returns-in-Equal-clause-form c =
+    let ws = c.args.words.now in
+    let is = subst (IsShaped ws c.args.place) (sym c.shape_at.ensures ∙ c.in-Equal.is) (shaped ws c.args.place c.requires.formed c.requires.condition) in
+    subst (λ (x : Condition). IfOk c.equal_form.result (λ f. IsForm c.equal_form.new.builder f x)) (sym is.condition) c.equal_form.ensures.form
 
 pub returns-in-Not-clause-form : goal.returns-in-Not-clause-form
 returns-in-Not-clause-form c =
-    let words = c.args.words.now in
-    let word = c.word_at-word.result in
-    let part = not_part words c.args.place word c.word_at-word.ensures c.in-Not.is in
-    subst (λ (x : Condition). IsForm c.args.builder.now c.denied.result x) (sym (not_at words c.args.place word c.word_at-word.ensures c.in-Not.is))
-    (c.denied.ensures _ _ (form_kept words _ c.args.forms.now c.args.place word.left _ c.requires.forms c.requires.earlier part.below part.placed))
+    let ws = c.args.words.now in
+    let e = sym c.shape_at.ensures ∙ c.in-Not.is in
+    let is = subst (IsShaped ws c.args.place) e (shaped ws c.args.place c.requires.formed c.requires.condition) in
+    let have = subst (λ s. AllByRecursion (HasForm ws c.args.builder.now c.args.forms.now) (parts_of s)) e c.requires.parts in
+    subst (λ (x : Condition). IsForm c.args.builder.now c.denied.result x) (sym is.condition)
+    (c.denied.ensures _ _ (found_form ws _ c.args.forms.now c.in-Not.part _ c.index.ensures have.0))
 
-pub returns-in-And-clause-form : goal.returns-in-And-clause-form
-returns-in-And-clause-form c =
-    let words = c.args.words.now in
-    let word = c.word_at-word.result in
-    let left = and_left words c.args.place word c.word_at-word.ensures c.in-And.is in
-    let right = and_right words c.args.place word c.word_at-word.ensures c.in-And.is in
-    subst (λ (x : Condition). IfOk c.joined_form.result (λ f. IsForm c.joined_form.new.builder f x)) (sym (and_at words c.args.place word c.word_at-word.ensures c.in-And.is))
-    (c.joined_form.ensures.form (condition_at words word.left) (condition_at words word.right)
-    (form_kept words _ c.args.forms.now c.args.place word.left _ c.requires.forms c.requires.earlier left.below left.placed)
-    (form_kept words _ c.args.forms.now c.args.place word.right _ c.requires.forms c.requires.earlier right.below right.placed))
-
-pub returns-in-Or-clause-form : goal.returns-in-Or-clause-form
-returns-in-Or-clause-form c =
-    let words = c.args.words.now in
-    let word = c.word_at-word.result in
-    let left = or_left words c.args.place word c.word_at-word.ensures c.in-Or.is in
-    let right = or_right words c.args.place word c.word_at-word.ensures c.in-Or.is in
-    subst (λ (x : Condition). IfOk c.joined_form-in-Or.result (λ f. IsForm c.joined_form-in-Or.new.builder f x)) (sym (or_at words c.args.place word c.word_at-word.ensures c.in-Or.is))
-    (c.joined_form-in-Or.ensures.form (condition_at words word.left) (condition_at words word.right)
-    (form_kept words _ c.args.forms.now c.args.place word.left _ c.requires.forms c.requires.earlier left.below left.placed)
-    (form_kept words _ c.args.forms.now c.args.place word.right _ c.requires.forms c.requires.earlier right.below right.placed))
+pub returns-in-Joined-clause-form : goal.returns-in-Joined-clause-form
+returns-in-Joined-clause-form c =
+    let ws = c.args.words.now in
+    let e = sym c.shape_at.ensures ∙ c.in-Joined.is in
+    let is = subst (IsShaped ws c.args.place) e (shaped ws c.args.place c.requires.formed c.requires.condition) in
+    let have = subst (λ s. AllByRecursion (HasForm ws c.args.builder.now c.args.forms.now) (parts_of s)) e c.requires.parts in
+    subst (λ (x : Condition). IfOk c.joined_form.result (λ f. IsForm c.joined_form.new.builder f x)) (sym is.condition)
+    (c.joined_form.ensures.form _ _ (found_form ws _ c.args.forms.now c.in-Joined.left _ c.index-in-Joined.ensures have.0)
+    (found_form ws _ c.args.forms.now c.in-Joined.right _ c.index-in-Joined-2.ensures have.1.0))

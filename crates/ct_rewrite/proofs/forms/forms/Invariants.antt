@@ -1,10 +1,15 @@
-use Rattle.std.proofs.Common.{◌≡◌, ◌≤◌, ◌*◌, length}
-use Rattle.ct_rewrite.specs.Signs.{HaveForms}
+use Rattle.std.proofs.Common.{ℕ, ◌<◌, ◌≤◌, ◌*◌, ◌-◌, length}
+use Rattle.std.specs.Prelude.{IsTrue}
+use Rattle.ct_rewrite.specs.Below.{has}
+use Rattle.ct_rewrite.specs.Signs.{HasForm}
 use Rattle.ct_rewrite.proofs.forms.forms.Given as goal
 
 abbrev pub invariant-loop-place : goal.invariant-loop-place
 invariant-loop-place l = record {
-  count : length l.forms.items ≡ l.place;
-  room : length l.builder ≤ 2 * l.place;
-  forms : HaveForms l.words l.builder l.forms.items;
+  within : l.low ≤ length l.words;
+  room : length l.builder ≤ 2 * l.low;
+  forms : (k : ℕ) → IsTrue (has l.places k) → k < l.low → HasForm l.words l.builder l.forms k;
 }
+
+abbrev pub decreases-loop-place : goal.decreases-loop-place
+decreases-loop-place l = length l.words - l.low

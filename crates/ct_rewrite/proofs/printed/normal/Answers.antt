@@ -1,44 +1,36 @@
-use Rattle.std.proofs.Common.{List, length, subst, sym, nat_lt, ◌∙◌}
-use Rattle.std.specs.Prelude.{IsTrue}
-use Rattle.std.specs.List.{list_all}
+use Rattle.std.proofs.Common.{◌∙◌}
 use Rattle.std.proofs.lemmas.Result.{IfOk-weaker}
-use Rattle.ct_rewrite.specs.declared.forms.Form.{Form}
-use Rattle.ct_rewrite.proofs.Conditions.{roots_within, roots_placed, normal_truth, normal_wide, normal_deep, kept_placed}
+use Rattle.ct_rewrite.proofs.Conditions.{roots_have, roots_placed, normal_truth, normal_wide, normal_deep, kept_placed}
 use Rattle.ct_rewrite.proofs.Rules.{all_weaker, children_within, children_distinct, sides_in_order, unsettled}
 use Rattle.ct_rewrite.proofs.printed.normal.Goals as goal
 
 pub positions-requires : goal.positions-requires
-positions-requires c =
-    subst (λ (fs : List Form). IsTrue (list_all (λ p. nat_lt p (length fs)) c.args.roots.now)) (sym c.as_slice.ensures.value)
-    (roots_within c.args.words.now _ c.in_ok-forms.ensures.count c.args.roots.now c.requires.roots)
+positions-requires c = roots_have c.args.words.now _ c.in_ok-forms.forms _ c.in_ok-forms.ensures.forms c.args.roots.now c.in_ok-places.ensures.roots
 
 pub kept-requires-clause-roots : goal.kept-requires-clause-roots
 kept-requires-clause-roots c =
-    roots_placed c.args.words.now _ c.nodes.result.now c.in_ok-forms.forms.items _ c.args.roots.now c.as_slice-2.result.now
-    c.in_ok-forms.ensures.count c.in_ok-forms.ensures.forms c.requires.roots c.nodes.ensures.value c.as_slice.ensures.value (c.as_slice-2.ensures.value ∙ c.in_ok-positions.ensures)
+    roots_placed c.args.words.now _ c.nodes.result.now c.in_ok-forms.forms _ c.args.roots.now c.as_slice.result.now
+    c.in_ok-forms.ensures.forms c.in_ok-places.ensures.roots c.nodes.ensures.value (c.as_slice.ensures.value ∙ c.in_ok-positions.ensures)
 
 pub returns-clause-truth : goal.returns-clause-truth
 returns-clause-truth c =
     IfOk-weaker c.kept.result _ _
-    (λ n. normal_truth c.args.words.now _ c.nodes.result.now c.in_ok-forms.forms.items _ c.args.roots.now c.as_slice-2.result.now
-    c.in_ok-forms.ensures.count c.in_ok-forms.ensures.forms c.requires.roots c.nodes.ensures.value c.as_slice.ensures.value
-    (c.as_slice-2.ensures.value ∙ c.in_ok-positions.ensures) n.nodes n.roots)
+    (λ n. normal_truth c.args.words.now _ c.nodes.result.now c.in_ok-forms.forms _ c.args.roots.now c.as_slice.result.now
+    c.in_ok-forms.ensures.forms c.in_ok-places.ensures.roots c.nodes.ensures.value (c.as_slice.ensures.value ∙ c.in_ok-positions.ensures) n.nodes n.roots)
     c.kept.ensures.kept
 
 pub returns-clause-wide : goal.returns-clause-wide
 returns-clause-wide c =
     IfOk-weaker c.kept.result _ _
-    (λ n kept. normal_wide c.args.words.now _ c.nodes.result.now c.in_ok-forms.forms.items _ c.args.roots.now c.as_slice-2.result.now
-    c.in_ok-forms.ensures.count c.in_ok-forms.ensures.forms c.requires.roots c.nodes.ensures.value c.as_slice.ensures.value
-    (c.as_slice-2.ensures.value ∙ c.in_ok-positions.ensures) n.nodes n.roots kept)
+    (λ n kept. normal_wide c.args.words.now _ c.nodes.result.now c.in_ok-forms.forms _ c.args.roots.now c.as_slice.result.now
+    c.in_ok-forms.ensures.forms c.in_ok-places.ensures.roots c.nodes.ensures.value (c.as_slice.ensures.value ∙ c.in_ok-positions.ensures) n.nodes n.roots kept)
     c.kept.ensures.kept
 
 pub returns-clause-deep : goal.returns-clause-deep
 returns-clause-deep c =
     IfOk-weaker c.kept.result _ _
-    (λ n. normal_deep c.args.words.now _ c.nodes.result.now c.in_ok-forms.forms.items _ c.args.roots.now c.as_slice-2.result.now
-    c.in_ok-forms.ensures.count c.in_ok-forms.ensures.forms c.requires.roots c.nodes.ensures.value c.as_slice.ensures.value
-    (c.as_slice-2.ensures.value ∙ c.in_ok-positions.ensures) n.nodes n.roots)
+    (λ n. normal_deep c.args.words.now _ c.nodes.result.now c.in_ok-forms.forms _ c.args.roots.now c.as_slice.result.now
+    c.in_ok-forms.ensures.forms c.in_ok-places.ensures.roots c.nodes.ensures.value (c.as_slice.ensures.value ∙ c.in_ok-positions.ensures) n.nodes n.roots)
     c.kept.ensures.kept
 
 pub returns-clause-placed : goal.returns-clause-placed

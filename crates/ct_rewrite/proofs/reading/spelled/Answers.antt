@@ -1,5 +1,0 @@
-use Rattle.ct_rewrite.proofs.Texts.{popped}
-use Rattle.ct_rewrite.proofs.reading.spelled.Goals as goal
-
-pub loop-character-preserved : goal.loop-character-preserved
-loop-character-preserved c = rw c.in_ok-push.ensures.bytes (popped _ _ _ _ _ c.loop-character.invariant c.in-Some.ensures.items)
