@@ -6,7 +6,17 @@ use Rattle.std.proofs.lemmas.Bool.Decides.{nat_tests}
 use Rattle.ct_lex.specs.Spelling.{Spells, blank, comment, starts, is_blank, is_comment_byte}
 use Rattle.ct_lex.specs.Texts.{begins_comment, has_token_from, has_token}
 use Rattle.ct_lex.specs.Tokens.{LexesFrom, ended, skipped, Lexes}
-use Rattle.ct_lex.proofs.Pieces.{blank_in_comment, blank_after_comment}
+
+blank_in_comment : (c r : List ℕ) → list_all is_comment_byte c ≡ true → has_token_from true (c ++ r) ≡ has_token_from true r
+blank_in_comment [] r h = refl
+blank_in_comment (b ∷ c) r h =
+    let first : is_comment_byte b ≡ true = grind arith in
+    let rest : list_all is_comment_byte c ≡ true = grind arith in
+    ap (λ q. has_token_from q (c ++ r)) first ∙ blank_in_comment c r rest
+
+blank_after_comment : (r : List ℕ) → starts is_comment_byte r ≡ false → has_token_from true r ≡ has_token r
+blank_after_comment [] h = refl
+blank_after_comment (b ∷ r) h = let is : b ≡ 10 = grind (arith, nat_tests) in rw is
 
 -- a comment's rest, and what follows it has no tokens
 record HasRest (x : List ℕ) : Type 0 where

@@ -5,11 +5,31 @@ use Rattle.std.specs.List.{list_all}
 use Rattle.std.proofs.lemmas.Bool.Decides.{nat_tests}
 use Rattle.std.proofs.lemmas.List.{append-nil}
 use Rattle.ct_lex.specs.Spelling.{starts, is_comment_byte}
-use Rattle.ct_lex.specs.Texts.{Place, Plain, InText, InComment, pieces, onto_first, onto, begins_comment, has_token, texts}
+use Rattle.ct_lex.specs.declared.splitting.Place.{Place}
+use Rattle.ct_lex.specs.declared.splitting.Place.TheVariants.{Plain, InText, InComment}
+use Rattle.ct_lex.specs.Texts.{pieces_from, pieces, onto_first, onto, begins_comment, has_token, texts}
 use Rattle.ct_lex.specs.Splitting.{is_no_quote, IsPiece, ended, literal, open_literal, comment, other, Keeps, kept, skipped, Splits, last, cut}
 use Rattle.ct_lex.specs.Tokens.{Lexes}
-use Rattle.ct_lex.proofs.Pieces.{onto-append, onto_end, in_text, in_comment, comment_ends}
+use Rattle.ct_lex.proofs.Pieces.{onto-append, onto_end}
 use Rattle.ct_lex.proofs.Blanks.{no_tokens, none_read}
+
+in_text : (t r : List ℕ) → list_all (is_no_quote) t ≡ true → pieces_from InText (t ++ r) ≡ onto t (pieces_from InText r)
+in_text [] r h = refl
+in_text (b ∷ t) r h =
+    let other : nat_eq b 39 ≡ false = grind (arith, nat_tests) in
+    let rest : list_all (is_no_quote) t ≡ true = grind (arith, nat_tests) in
+    rw other (ap (onto_first b) (in_text t r rest))
+
+in_comment : (c r : List ℕ) → list_all is_comment_byte c ≡ true → pieces_from InComment (c ++ r) ≡ onto c (pieces_from InComment r)
+in_comment [] r h = refl
+in_comment (b ∷ c) r h =
+    let first : nat_eq b 10 ≡ false = grind (arith, nat_tests) in
+    let rest : list_all is_comment_byte c ≡ true = grind (arith, nat_tests) in
+    rw first (ap (onto_first b) (in_comment c r rest))
+
+comment_ends : (r : List ℕ) → starts is_comment_byte r ≡ false → pieces_from InComment r ≡ pieces r
+comment_ends [] h = refl
+comment_ends (b ∷ r) h = let is : b ≡ 10 = grind (arith, nat_tests) in rw is
 
 literal_piece : (t z : List ℕ) → list_all is_no_quote t ≡ true → pieces ((39 ∷ t ++ 39 ∷ []) ++ z) ≡ onto (39 ∷ t ++ 39 ∷ []) (pieces z)
 literal_piece t z h =

@@ -1,12 +1,8 @@
 -- The statement texts of a script.
 use Rattle.std.specs.Prelude.{◌≡◌, ℕ, ◌≤◌, Bool, true, false, not, ◌&&◌, ◌||◌, List, [], ◌∷◌, length, take, drop, filter, nat_eq, if◌then◌else◌}
+use Rattle.ct_lex.specs.declared.splitting.Place.{Place}
+use Rattle.ct_lex.specs.declared.splitting.Place.TheVariants.{Plain, InText, InComment}
 use Rattle.ct_lex.specs.Spelling.{is_blank, is_comment_byte, starts}
-
--- where a byte stands: in a text literal, in a comment, or in neither
-pub data Place : Type 0 where
-  Plain : Place
-  InText : Place
-  InComment : Place
 
 -- whether a comment begins at this byte before these
 abbrev pub begins_comment : ℕ → List ℕ → Bool
@@ -55,10 +51,6 @@ texts script = filter has_token (pieces script)
 abbrev pub onto : List ℕ → List (List ℕ) → List (List ℕ)
 onto [] others = others
 onto (b ∷ w) others = onto_first b (onto w others)
-
--- the first n bytes go on in a piece, and what follows them stands outside text literals and comments
-abbrev pub GoesOn : List ℕ → ℕ → Type 0
-GoesOn script n = (n ≤ length script) × (pieces script ≡ onto (take n script) (pieces (drop n script)))
 
 -- the pieces behind the first, where these bytes follow it
 abbrev pub pieces_behind : List ℕ → List (List ℕ)

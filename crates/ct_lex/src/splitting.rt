@@ -1,34 +1,51 @@
 // The statement texts of a script.
 
-ghost use Rattle.std.specs.Prelude.{◌≡◌, ◌∷◌, ◌<◌, ℕ, List, length, map, take, drop, slice_index, IfOk};
+ghost use Rattle.std.specs.Prelude.{◌≡◌, ◌∷◌, ◌<◌, ◌&&◌, ℕ, List, [], length, map, nat_eq, take, drop, slice_index, IfOk};
 ghost use Rattle.std.specs.Str.{IsCharBoundary};
 ghost use Rattle.ct_lex.specs.Splitting.{Splits};
 ghost use Rattle.ct_lex.specs.Texts as spec;
 
-use crate::scan::{Class, byte_at, is_blank, run_len};
+use crate::scan::{byte_at, is_blank};
 use ct_word::Memory;
 use std::alloc::Global;
 
-/// How long the text literal at the front is, up to its next quote, or to the end where there is
-/// none. A doubled quote is read as two literals.
-fn literal_len(text: &str) -> usize
-    requires { slice_index text.now 0 ≡ 39 }
-    ensures goes_on { spec.GoesOn text.now result }
-    ensures some { 0 < result }
-{
-    let quote = 1 + run_len(&text[1..], Class::NotQuote);
-    if quote < text.len() { quote + 1 } else { quote }
+/// Where a byte stands: in a text literal, in a comment, or in neither. A doubled quote is read as
+/// the end of one literal and the start of another.
+#[derive(Clone, Copy)]
+pub enum Place {
+    Plain,
+    InText,
+    InComment,
 }
 
-/// How long the comment at the front is.
-fn comment_len(text: &str) -> usize
-    requires first { slice_index text.now 0 ≡ 45 }
-    requires second { slice_index text.now 1 ≡ 45 }
-    ensures goes_on { spec.GoesOn text.now result }
-    ensures blank { spec.has_token text.now ≡ spec.has_token (drop result text.now) }
-    ensures some { 0 < result }
+/// Whether a comment begins at this byte before the next one.
+fn begins_comment(byte: u8, next: u8) -> bool
+    ensures { result ≡ (nat_eq byte 45 && nat_eq next 45) }
 {
-    run_len(text, Class::Comment)
+    byte == b'-' && next == b'-'
+}
+
+/// Where the byte behind this one stands.
+fn place_after(place: Place, byte: u8, next: u8) -> Place
+    ensures { result ≡ spec.place_after place byte (next ∷ []) }
+{
+    match place {
+        Place::Plain if byte == b'\'' => Place::InText,
+        Place::Plain if begins_comment(byte, next) => Place::InComment,
+        Place::InText if byte != b'\'' => Place::InText,
+        Place::InComment if byte != b'\n' => Place::InComment,
+        _ => Place::Plain,
+    }
+}
+
+/// Whether a byte there ends a piece.
+fn ends_piece(place: Place, byte: u8) -> bool
+    ensures { result ≡ spec.ends_piece place byte }
+{
+    match place {
+        Place::Plain => byte == b';',
+        _ => false,
+    }
 }
 
 /// How long the first piece is: up to a `;` outside text literals and comments, or all.
@@ -37,29 +54,31 @@ fn piece_len(script: &str) -> usize
     ensures cut { IsCharBoundary script.now result }
     ensures ends { result < length script.now → slice_index script.now result ≡ 59 }
 {
-    let mut at = 0;
-    while at < script.len() {
-        at += match byte_at(script, at) {
-            b';' => return at,
-            b'\'' => literal_len(&script[at..]),
-            b'-' if byte_at(script, at + 1) == b'-' => comment_len(&script[at..]),
-            _ => 1,
-        };
+    let mut place = Place::Plain;
+    for at in 0..script.len() {
+        let byte = byte_at(script, at);
+        if ends_piece(place, byte) {
+            return at;
+        }
+        place = place_after(place, byte, byte_at(script, at + 1));
     }
-    at
+    script.len()
 }
 
 /// Whether a piece has more than blanks and comments.
 fn has_token(piece: &str) -> bool
     ensures { result ≡ spec.has_token piece.now }
 {
-    let mut at = 0;
-    while at < piece.len() {
-        at += match byte_at(piece, at) {
-            b'-' if byte_at(piece, at + 1) == b'-' => comment_len(&piece[at..]),
-            byte if is_blank(byte) => 1,
-            _ => return true,
-        };
+    let mut in_comment = false;
+    for at in 0..piece.len() {
+        let byte = byte_at(piece, at);
+        if in_comment {
+            in_comment = byte != b'\n';
+        } else if begins_comment(byte, byte_at(piece, at + 1)) {
+            in_comment = true;
+        } else if !is_blank(byte) {
+            return true;
+        }
     }
     false
 }

@@ -1,9 +1,6 @@
-use Rattle.std.proofs.Common.{length, ◌-◌}
-use Rattle.ct_lex.specs.Texts.{GoesOn}
+use Rattle.std.proofs.Common.{◌≡◌, take, drop}
+use Rattle.ct_lex.specs.Texts.{pieces_from, pieces, onto}
 use Rattle.ct_lex.proofs.splitting.piece_len.Given as goal
 
 abbrev pub invariant-loop-at : goal.invariant-loop-at
-invariant-loop-at l = GoesOn l.script l.at
-
-abbrev pub decreases-loop-at : goal.decreases-loop-at
-decreases-loop-at l = length l.script - l.at
+invariant-loop-at l = pieces l.script ≡ onto (take l.at l.script) (pieces_from l.place (drop l.at l.script))
