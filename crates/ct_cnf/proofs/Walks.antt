@@ -10,6 +10,7 @@ use Rattle.ct_word.specs.WellFormed.{Field, Zero, Any, Byte, Scalar, Session, Po
 use Rattle.ct_word.specs.Stands.{Below, itself, through, place_in, places_in, places_of}
 use Rattle.ct_word.proofs.Splits.{split_at, formed_at, formed_fields, place_within}
 use Rattle.ct_cnf.specs.Marks.{names_place, is_marked, with_marks, AreBelow, IsMarking}
+use Rattle.ct_word.proofs.Fields.{named_earlier}
 use Rattle.ct_word.proofs.Items.{first_item, later_item, item_cases, no_item, sole_item}
 
 -- the places of a word
@@ -110,13 +111,13 @@ module _ (ws : List ℕ) (wf : IsWellFormed ws) (root : ℕ) (within : root < le
       each = λ p e. elim (marked_cases ms (places_of w) p e) [ inl old ↦ walk.each p old | inr new ↦ below_more ws root place p w (walk.each place m) at new ];
       top = still_marked ms (places_of w) root walk.top;
       closed = λ p x q le e there h. elim (marked_cases ms (places_of w) p e) [
-        | inr new ↦ absurd (omega (arith, earlier ws wf place w p at new, le))
+        | inr new ↦ absurd (omega (arith, named_earlier ws wf place w p at new, le))
         | inl old ↦ elim (cases_lt place p) [
           | inl above ↦ still_marked ms (places_of w) q (walk.closed p x q (omega (arith, above, pos)) old there h)
           | inr not_above ↦
               let same : p ≡ place = omega (arith, not_above, le) in
               let one : x ≡ w = some_is x w (sym there ∙ ap (slice_get ws) same ∙ at) in
-              now_marked ms (places_of w) q (omega (arith, walk.long, marked_within ms place m, earlier ws wf p x q there h, same))
+              now_marked ms (places_of w) q (omega (arith, walk.long, marked_within ms place m, named_earlier ws wf p x q there h, same))
               (subst (λ y. Contains (places_of y) q) one h)
         ]
       ];

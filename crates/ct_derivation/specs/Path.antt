@@ -1,5 +1,5 @@
 -- The clause of a path of terms: equality is transitive, and different constants differ.
-use Rattle.std.specs.Prelude.{ℕ, Bool, true, false, not, ◌&&◌, List, [], ◌∷◌, ◌++◌, Option, Some, None, nat_eq, nat_lt, if◌then◌else◌}
+use Rattle.std.specs.Prelude.{ℕ, Bool, true, not, ◌&&◌, List, [], ◌∷◌, ◌++◌, Option, Some, None, nat_eq, nat_lt, if◌then◌else◌}
 use Rattle.std.specs.List.{list_all}
 use Rattle.ct_word.specs.declared.kinds.Class.TheVariants as class
 pub use Rattle.ct_word.specs.Constant.{is_constant_kind, is_constant_word}
