@@ -1,8 +1,8 @@
 -- A commit of changes that agree with actions does what these do.
 use Rattle.std.proofs.Common.{◌≡◌, ℕ, Bool, true, false, not, List, [], ◌∷◌, ◌++◌, map, refl, ap, sym, subst, ◌∙◌}
 use Rattle.std.proofs.lemmas.List.{append-nil}
-use Rattle.std.proofs.lemmas.List.Elements.{All-from_recursion, recursion_from_All, filter_map-append}
-use Rattle.std.specs.Prelude.{Option, Some, None, IfSome, All, ⊤, is_some, option_and_then, filter, filter_map, if◌then◌else◌}
+use Rattle.std.proofs.lemmas.List.Elements.{recursion_from_All, filter_map-append}
+use Rattle.std.specs.Prelude.{Option, Some, None, IfSome, is_some, option_and_then, filter, filter_map, if◌then◌else◌}
 use Rattle.std.specs.List.{AllByRecursion, cons_option}
 use Rattle.ct_word.specs.declared.values.Value.{Value}
 use Rattle.ct_word.specs.declared.values.Term.{Term}
@@ -10,20 +10,19 @@ use Rattle.ct_word.specs.Value.{World, tuple_at, same_text}
 use Rattle.ct_word.specs.Condition.{Condition, holds, holds_at}
 use Rattle.ct_word.specs.Sublist.{IsSublist}
 use Rattle.ct_word.specs.Change.{PlainRow, PlainChange, Create, Insert, Delete, Assert, PlainCommit}
-use Rattle.ct_query.specs.declared.schema.Heading.{Heading}
 use Rattle.ct_query.specs.Plain as plain
 use Rattle.ct_query.specs.Plain.{PlainQuery, PlainAction}
 use Rattle.ct_query.specs.Database.{Relation, Database, SameSet, SameRelation, SameDatabase, changed, with_tuples}
 use Rattle.ct_query.specs.Rows.{rows}
-use Rattle.ct_query.specs.Step.{created, inserted, deleted, asserted, shown_rows, step_change, step_action}
-use Rattle.ct_query.specs.Worlds.{world, admits, after_changes, after_actions, changes_of}
-use Rattle.ct_query.specs.Schema.{schema, created_by_change, created_by_action}
-use Rattle.ct_query.specs.Patterns.{Patterns, patterns, pattern, query_pattern, pattern_change, pattern_changes, pattern_action, pattern_actions, with_lines}
+use Rattle.ct_query.specs.Step.{inserted, deleted, asserted, shown_rows, step_change, step_action}
+use Rattle.ct_query.specs.Worlds.{world, after_changes, after_actions, changes_of}
+use Rattle.ct_query.specs.Schema.{created_by_change, created_by_action}
+use Rattle.ct_query.specs.Patterns.{Patterns, patterns, pattern, pattern_change, pattern_changes, pattern_action, pattern_actions, with_lines}
 use Rattle.ct_query.specs.Agrees.{AgreesWith, AgreesAfter, Agrees, SameTruthAlone}
 use Rattle.ct_query.specs.Committed.{SameWorld, Does}
 use Rattle.ct_query.proofs.Laws.{world_commit, world_action, patterns_commit, patterns_action, changes_of-snoc}
-use Rattle.ct_query.proofs.Sets.{same_set_itself, same_set_on, same_set-append}
-use Rattle.ct_query.proofs.SameRows.{rows_same, same_set_filter, same_database_append}
+use Rattle.ct_query.proofs.Sets.{same_set_itself, same_set-append}
+use Rattle.ct_query.proofs.SameRows.{same_set_filter, same_database_append}
 use Rattle.ct_query.proofs.Sublists.{all_of, sublist-append, pattern_part}
 
 -- the same tables
@@ -92,16 +91,16 @@ module _ (v : World) where
     does_one (plain.InsertRows n ls p) (Insert n' rs) f w w' is s =
         let shown = rows_under p rs (holds_at v p) refl (recursion_from_All (λ (r : PlainRow). SameTruthAlone r.condition p) rs f.2) in
         subst (λ d. SameDatabase d (inserted w' n' (shown_rows v rs)))
-            ((λ i. inserted w (f.0 i) (shown i)) ∙ (λ i. inserted w n (if holds_at v p then map (tuple_at v) (f.1 i) else [])) ∙ inserted_under w n (map (tuple_at v) ls) (holds_at v p))
-            (inserted_same n' (shown_rows v rs) (shown_rows v rs) w w' (same_set_itself (shown_rows v rs)) s)
+        ((λ i. inserted w (f.0 i) (shown i)) ∙ (λ i. inserted w n (if holds_at v p then map (tuple_at v) (f.1 i) else [])) ∙ inserted_under w n (map (tuple_at v) ls) (holds_at v p))
+        (inserted_same n' (shown_rows v rs) (shown_rows v rs) w w' (same_set_itself (shown_rows v rs)) s)
     does_one (plain.InsertQuery n q) (Insert n' rs) f w w' is s =
         let shown : SameSet (shown_rows v rs) (rows v q w) = subst (λ o. IfSome o (λ d. SameSet (shown_rows v rs) (rows v q d))) is (f.2 v) in
         subst (λ m. SameDatabase (inserted w n (rows v q w)) (inserted w' m (shown_rows v rs))) (sym f.0)
-            (inserted_same n (rows v q w) (shown_rows v rs) w w' (λ t. sym (shown t)) s)
+        (inserted_same n (rows v q w) (shown_rows v rs) w w' (λ t. sym (shown t)) s)
     does_one (plain.Delete n p) (Delete n' c) f w w' is s =
         subst (λ m. SameDatabase (deleted v w n p) (deleted v w' m c)) (sym f.0)
-            (same_changed n (filter (λ tuple. not (holds v tuple p))) (filter (λ tuple. not (holds v tuple c)))
-            (λ a b e. subst (λ l. SameSet (filter (λ tuple. not (holds v tuple p)) a) l) (λ i. filter (λ tuple. not (sym (f.1 v tuple) i)) b) (same_set_filter (λ tuple. not (holds v tuple p)) a b e)) w w' s)
+        (same_changed n (filter (λ tuple. not (holds v tuple p))) (filter (λ tuple. not (holds v tuple c)))
+        (λ a b e. subst (λ l. SameSet (filter (λ tuple. not (holds v tuple p)) a) l) (λ i. filter (λ tuple. not (sym (f.1 v tuple) i)) b) (same_set_filter (λ tuple. not (holds v tuple p)) a b e)) w w' s)
     does_one (plain.Assert p) (Assert c) f w w' is s =
         subst (λ b. SameWorld (asserted v w p) (if b then Some w' else None)) (sym (f v)) (asserted_same (holds_at v p) w w' s)
     does_one _ _ f w w' is s = absurd f

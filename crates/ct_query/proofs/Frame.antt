@@ -1,7 +1,7 @@
 -- Commits that write nothing of what is read change nothing for the reader.
-use Rattle.std.proofs.Common.{◌≡◌, ℕ, zero, suc, ◌≤◌, ◌<◌, ◌+◌, Bool, true, false, ◌&&◌, ◌||◌, List, [], ◌∷◌, ◌++◌, map, length, refl, ap, sym, subst, ◌∙◌, arith}
+use Rattle.std.proofs.Common.{◌≡◌, ℕ, zero, suc, ◌≤◌, ◌<◌, ◌+◌, Bool, true, false, ◌||◌, List, [], ◌∷◌, ◌++◌, map, length, refl, ap, sym, subst, ◌∙◌, arith}
 use Rattle.std.specs.Prelude.{Option, Some, None, IfSome, IsSome, All, ⊤, is_some, option_and_then, option_map, filter, filter_map, not, if◌then◌else◌}
-use Rattle.std.specs.List.{AllByRecursion, Contains, cons_option, list_any}
+use Rattle.std.specs.List.{AllByRecursion, cons_option, list_any}
 use Rattle.std.proofs.lemmas.Bool.{false≢true}
 use Rattle.std.proofs.lemmas.List.Elements.{All-contains, recursion_from_All, filter_map-append}
 use Rattle.std.proofs.lemmas.List.Folds.{list_any-append}
@@ -9,7 +9,7 @@ use Rattle.std.proofs.lemmas.Grind.{flat_map-append}
 use Rattle.ct_word.specs.declared.values.Value.{Value}
 use Rattle.ct_word.specs.declared.values.Term.{Term}
 use Rattle.ct_word.specs.Value.{World, tuple_at, cell_at, same_text}
-use Rattle.ct_word.specs.Condition.{Condition, holds, holds_at}
+use Rattle.ct_word.specs.Condition.{holds, holds_at}
 use Rattle.ct_word.specs.Change.{PlainRow, PlainChange, Create, Insert, Delete, Assert, PlainCommit}
 use Rattle.ct_word.proofs.Alike.{text_decides}
 use Rattle.ct_query.specs.declared.schema.Heading.{Heading}
@@ -19,14 +19,12 @@ use Rattle.ct_query.specs.declared.action.Read.{Read}
 use Rattle.ct_query.specs.declared.action.Read.TheVariants as read
 use Rattle.ct_query.specs.Database.{Relation, Database, SameSet, tuples_of, with_tuples, changed, has_tuple}
 use Rattle.ct_query.specs.Rows.{rows, joins}
-use Rattle.ct_query.specs.Step.{created, inserted, deleted, shown_rows, step_change, step_action}
+use Rattle.ct_query.specs.Step.{created, inserted, shown_rows, step_change, step_action}
 use Rattle.ct_query.specs.Worlds.{world, admits, after_changes, after_actions, changes_of}
 use Rattle.ct_query.specs.Schema.{schema, created_by_change, created_by_action}
 use Rattle.ct_query.specs.Patterns.{Patterns, patterns, pattern, query_pattern, picked, pattern_change, pattern_changes, pattern_action, pattern_actions, no_patterns, with_lines}
 use Rattle.ct_query.specs.Reads.{same_read, with_reads, tables_of, query_reads, action_reads, writes, commit_writes, one_earlier, last}
 use Rattle.ct_query.specs.Fits.{columns_in, count_of, width, Fits, FitsAction, FitsCell, FitsRows}
-use Rattle.ct_query.specs.Agrees.{Agrees}
-use Rattle.ct_query.specs.Shows.{ShowsAt}
 use Rattle.ct_query.specs.Frame.{AreOlder, reads_of_actions, SameForActions, SameForNext, SameForQuery}
 use Rattle.ct_query.proofs.Laws.{after_changes-append, pattern_changes-append}
 use Rattle.ct_query.proofs.Keeping.{Finds, FindAll, all_agree, changes_themselves}
@@ -508,8 +506,8 @@ module _ (h k : List PlainCommit) where
     columns_later s =
         columns_before (h ++ k)
         ∙ ap (λ o. or_else o (columns_in (filter_map created_by_action actions) t))
-            (created_later ∙ ap (or_else (columns_in (filter_map created_by_change (changes_of h)) t)) (none_created (changes_of k) t s)
-            ∙ or_none (columns_in (filter_map created_by_change (changes_of h)) t))
+        (created_later ∙ ap (or_else (columns_in (filter_map created_by_change (changes_of h)) t)) (none_created (changes_of k) t s)
+        ∙ or_none (columns_in (filter_map created_by_change (changes_of h)) t))
         ∙ sym (columns_before h)
 
     -- a table that is there
@@ -520,11 +518,11 @@ module _ (h k : List PlainCommit) where
       by_columns (Some cs) f =
           columns_before (h ++ k)
           ∙ ap (λ o. or_else o (columns_in (filter_map created_by_action actions) t))
-              (created_later ∙ ap (λ o. or_else o (columns_in (filter_map created_by_change (changes_of k)) t)) f)
+          (created_later ∙ ap (λ o. or_else o (columns_in (filter_map created_by_change (changes_of k)) t)) f)
           ∙ sym (ap (λ o. or_else o (columns_in (filter_map created_by_action actions) t)) f) ∙ sym (columns_before h) ∙ e
       by_columns None f =
           columns_later (free_of t (created_is_read Older t columns actions all
-              (sym (ap (λ o. or_else o (columns_in (filter_map created_by_action actions) t)) f) ∙ sym (columns_before h) ∙ e))) ∙ e
+          (sym (ap (λ o. or_else o (columns_in (filter_map created_by_action actions) t)) f) ∙ sym (columns_before h) ∙ e))) ∙ e
 
   pub same_for_actions : (actions : List PlainAction) → AreOlder h k (reads_of_actions actions) → SameForActions h k actions
   same_for_actions actions old =

@@ -1,5 +1,5 @@
 -- What stays the same when a history grows by commits that write nothing of what is read.
-use Rattle.std.specs.Prelude.{◌≡◌, ◌≤◌, ℕ, Bool, List, ◌++◌, length, flat_map, Option, Some, option_map, All}
+use Rattle.std.specs.Prelude.{◌≡◌, ◌≤◌, ℕ, Bool, List, ◌++◌, length, flat_map, Some, option_map, All}
 use Rattle.std.specs.List.{Contains}
 use Rattle.ct_word.specs.declared.values.Value.{Value}
 use Rattle.ct_word.specs.Value.{World}
@@ -11,7 +11,7 @@ use Rattle.ct_query.specs.Rows.{rows}
 use Rattle.ct_query.specs.Worlds.{world, admits}
 use Rattle.ct_query.specs.Schema.{schema}
 use Rattle.ct_query.specs.Patterns.{pattern}
-use Rattle.ct_query.specs.Reads.{action_reads, query_reads, last}
+use Rattle.ct_query.specs.Reads.{action_reads, last}
 use Rattle.ct_query.specs.Fits.{columns_in, FitsAction}
 use Rattle.ct_query.specs.Agrees.{Agrees}
 use Rattle.ct_query.specs.Shows.{ShowsAt}

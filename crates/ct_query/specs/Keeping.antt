@@ -8,7 +8,7 @@ use Rattle.ct_query.specs.Plain.{PlainQuery, PlainAction}
 use Rattle.ct_query.specs.declared.action.Read.{Read}
 use Rattle.ct_query.specs.Worlds.{world, admits}
 use Rattle.ct_query.specs.Schema.{schema}
-use Rattle.ct_query.specs.Patterns.{patterns, pattern, count}
+use Rattle.ct_query.specs.Patterns.{pattern, count}
 use Rattle.ct_query.specs.Reads.{last}
 use Rattle.ct_query.specs.Agrees.{Agrees}
 use Rattle.ct_query.specs.Shows.{ShowsAt}

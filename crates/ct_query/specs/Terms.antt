@@ -1,13 +1,12 @@
 -- Terms of queries, actions and changes, and how many distinct ones a question has.
-use Rattle.std.specs.Prelude.{ℕ, ◌+◌, Bool, List, [], ◌∷◌, ◌++◌, length, filter, flat_map, if◌then◌else◌}
+use Rattle.std.specs.Prelude.{ℕ, ◌+◌, List, [], ◌∷◌, ◌++◌, length, filter, flat_map, if◌then◌else◌}
 use Rattle.std.specs.List.{list_any}
 use Rattle.ct_word.specs.declared.values.Term.{Term}
 use Rattle.ct_word.specs.Value.{same_term}
 use Rattle.ct_word.specs.Condition.{Condition, Conditions, True, False, Same, Not, And, Or, none, also}
-use Rattle.ct_word.specs.Change.{PlainRow, PlainChange, Create, Insert, Delete, Assert, PlainCommit}
+use Rattle.ct_word.specs.Change.{PlainChange, Create, Insert, Delete, Assert, PlainCommit}
 use Rattle.ct_query.specs.Plain as plain
 use Rattle.ct_query.specs.Plain.{PlainQuery, PlainAction, PlainStatement}
-use Rattle.ct_query.specs.declared.action.Ask.{Ask}
 use Rattle.ct_query.specs.declared.action.Ask.TheVariants as ask
 use Rattle.ct_query.specs.declared.action.Read.{Read}
 use Rattle.ct_query.specs.Reads.{action_reads, reads_of, writes}
