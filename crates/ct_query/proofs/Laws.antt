@@ -35,7 +35,7 @@ module _ (v : World) where
       → world v h (actions ++ a ∷ []) ≡ option_and_then (λ d. step_action v d a) (world v h actions)
   world_action h actions a = after_actions-snoc (after_changes v (Some []) (changes_of h)) actions a
 
-pattern_changes-append : (p : Patterns) (xs ys : List PlainChange) → pattern_changes p (xs ++ ys) ≡ pattern_changes (pattern_changes p xs) ys
+pub pattern_changes-append : (p : Patterns) (xs ys : List PlainChange) → pattern_changes p (xs ++ ys) ≡ pattern_changes (pattern_changes p xs) ys
 pattern_changes-append p [] ys = refl
 pattern_changes-append p (x ∷ xs) ys = pattern_changes-append (pattern_change p x) xs ys
 

@@ -1,13 +1,16 @@
--- Which queries, actions and statements by positions fit the tables of a schema.
-use Rattle.std.specs.Prelude.{◌≡◌, ◌<◌, ◌+◌, ℕ, List, [], ◌∷◌, length, Option, Some, None, IsSome, All, if◌then◌else◌}
+-- Which queries, actions, statements and changes by positions fit the tables of a schema.
+use Rattle.std.specs.Prelude.{◌≡◌, ◌<◌, ◌+◌, ℕ, List, [], ◌∷◌, ◌++◌, length, Option, Some, None, IsSome, All, ⊤, if◌then◌else◌}
+use Rattle.std.specs.Option.{option_to_list}
 use Rattle.ct_word.specs.declared.values.Term.{Term}
 use Rattle.ct_word.specs.declared.values.Term.TheVariants as term
 use Rattle.ct_word.specs.Value.{same_text}
 use Rattle.ct_word.specs.Condition.{Condition, Conditions, True, False, Same, Not, And, Or, none, also}
+use Rattle.ct_word.specs.Change.{PlainRow, PlainChange, Create, Insert, Delete, Assert, PlainCommit}
 use Rattle.ct_query.specs.declared.schema.Heading.{Heading}
 use Rattle.ct_query.specs.Plain as plain
 use Rattle.ct_query.specs.Plain.{PlainQuery, PlainAction, PlainStatement}
 use Rattle.ct_query.specs.Fields.{FitsFields, AreFittingOn}
+use Rattle.ct_query.specs.Schema.{schema, created_by_change}
 
 -- the columns of the first table with this name, if there is one
 abbrev pub columns_in : List Heading → List ℕ → Option (List (List ℕ))
@@ -87,3 +90,26 @@ FitsStatement s (plain.Asks ask columns q) = Fits s q × (length columns ≡ wid
 FitsStatement s plain.Begin = Unit {0}
 FitsStatement s plain.Commit = Unit {0}
 FitsStatement s plain.Rollback = Unit {0}
+
+-- a row fits a table of so many columns: it has as many cells, and no column stands in it
+pub record FitsRow (n : ℕ) (r : PlainRow) : Type 0 where
+  pub cells : length r.cells ≡ n
+  pub plain : All (IsColumnBelow 0) r.cells
+  pub condition : AreColumnsBelow 0 r.condition
+
+-- a change fits: a new table has a new name, or the table that is named is there and the change fits its columns; no column
+-- stands in an assertion
+abbrev pub FitsChange : List Heading → PlainChange → Type 0
+FitsChange s (Create name columns) = columns_in s name ≡ None
+FitsChange s (Insert name rs) = IsSome (columns_in s name) × All (FitsRow (width s (plain.Table name))) rs
+FitsChange s (Delete name c) = IsSome (columns_in s name) × AreColumnsBelow (width s (plain.Table name)) c
+FitsChange s (Assert c) = AreColumnsBelow 0 c
+
+-- each change fits the tables that are there after the changes before it
+abbrev pub FitChanges : List Heading → List PlainChange → Type 0
+FitChanges s [] = ⊤
+FitChanges s (x ∷ xs) = FitsChange s x × FitChanges (s ++ option_to_list (created_by_change x)) xs
+
+-- each change fits the tables that are there after a history and the changes before it
+abbrev pub FitAfter : List PlainCommit → List PlainChange → Type 0
+FitAfter h xs = FitChanges (schema h []).tables xs

@@ -14,6 +14,7 @@ mod schema;
 mod sizing;
 #[cfg(test)]
 mod tests;
+mod theorems;
 mod weighing;
 
 pub use action::{Action, Ask, Read, Resolved};
@@ -22,3 +23,4 @@ pub use query::{Pred, Query};
 pub use reading::reads;
 pub use schema::{Count, Counts, Heading, Schema};
 pub use sizing::size;
+pub use theorems::{agreed_changes_do, same_commits_keep, unread_commits_change_nothing};
