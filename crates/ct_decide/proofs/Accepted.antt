@@ -1,11 +1,12 @@
 -- The derivation of a refutation is accepted.
-use Rattle.std.proofs.Common.{◌≡◌, ℕ, Bool, true, false, List, [], ◌∷◌, ◌++◌, length, map, Some, refl, ap, ◌∙◌, sym, subst, ℤ, append_assoc, append-nil}
+use Rattle.std.proofs.Common.{◌≡◌, ℕ, Bool, true, false, ◌&&◌, List, [], ◌∷◌, ◌++◌, ◌<◌, suc, length, map, replicate, drop, Some, refl, ap, ◌∙◌, sym, subst, arith, inl, inr, ℤ, append_assoc, append-nil}
 use Rattle.std.specs.Prelude.{Contains}
 use Rattle.std.specs.List.{list_all, list_any}
 use Rattle.std.proofs.lemmas.Bool.{and_parts, and_from, or_left, or_right, false≢true, lt-ltb}
 use Rattle.std.proofs.lemmas.Option.{none-some}
 use Rattle.std.proofs.lemmas.List.{map-append, length-map}
 use Rattle.std.proofs.lemmas.List.Folds.{list_all-append}
+use Rattle.std.proofs.lemmas.List.Elements.{Contains-append_cases}
 use Rattle.ct_word.specs.declared.kinds.Class.TheVariants as class
 use Rattle.ct_word.specs.WellFormed.{is_place_of}
 use Rattle.ct_derivation.specs.declared.literals.Atom.{Atom}
@@ -14,10 +15,11 @@ use Rattle.ct_derivation.specs.declared.literals.Lit.{Lit}
 use Rattle.ct_derivation.specs.declared.steps.Why.{Why}
 use Rattle.ct_derivation.specs.declared.steps.Why.TheVariants as why
 use Rattle.ct_derivation.specs.declared.steps.Step.{Step}
+use Rattle.ct_derivation.specs.declared.steps.Derivation.{Derivation}
 use Rattle.ct_derivation.specs.Literal.{Clause, same_sign, same_lit, has, same_members}
 use Rattle.ct_derivation.specs.Propagation.{follows}
 use Rattle.ct_derivation.specs.Variables.{signed}
-use Rattle.ct_derivation.specs.Accepts.{over_atoms, clauses_of, fits_atom, fits_lit, gives, is_right, all_right, ends_empty, is_empty, accepts, Accepts}
+use Rattle.ct_derivation.specs.Accepts.{over_atoms, clauses_of, fits_atom, fits_lit, hints_of, gives, is_right, all_right, ends_empty, is_empty, accepts, Accepts}
 use Rattle.ct_derivation.specs.Accepts as accepted
 use Rattle.ct_sat.specs.declared.verdict.Rup.{Rup}
 use Rattle.ct_sat.specs.Literal.{is_literal, is_clause, numbered}
@@ -28,6 +30,10 @@ use Rattle.ct_cnf.specs.declared.encoding.Encoded.{Encoded}
 use Rattle.ct_cnf.specs.Encoding.{named, through, origin_clause, AreOrigins, HasNodesBelow, HasPairsBelow}
 use Rattle.ct_decide.specs.Question.{IsEncoding}
 use Rattle.ct_decide.specs.Translation.{step, given_steps, learned_step, learned_steps, derivation_of}
+use Rattle.ct_cnf.proofs.Items.{mapped_item, unmapped_item}
+use Rattle.ct_decide.specs.Cut.{IsAtomBelow, IsHintOfLater, IsCut, kept, ranks, why_by, step_by, cut, all_hints, hints_at, HaveEarlier, AreNeeded, IsCutOf}
+use Rattle.ct_decide.proofs.Kept.{all_item, kept_item, kept_parts}
+use Rattle.ct_decide.proofs.Cuts.{hints_in, right_earlier, right_kept, end_kept, hint_kept}
 use Rattle.ct_decide.proofs.Named.{same_atom_self, carries, atom_there, solvable}
 
 same_lit_self : (l : Lit) → same_lit l l ≡ true
@@ -174,3 +180,125 @@ module _ (words : List ℕ) (root : ℕ) (e : Encoded) (enc : IsEncoding words r
       (given_right words root atoms enc.nodes enc.terms e.cnf.clauses e.origins [] (learned_steps atoms rs) enc.clauses clauses_within
       (learned_right rs given e.cnf.clauses (given_clauses words root atoms enc.nodes enc.terms e.cnf.clauses e.origins enc.clauses) clauses_within (steps_within rs h) h.follow)))
       (after_more given (learned_steps atoms rs) (learned_end rs h.empty))
+
+  -- the clause of a step is over the variables
+  record IsOver (s : Step) : Type 0 where
+    literals : List ℤ
+    within : is_clause vars literals ≡ true
+    is : through atoms literals ≡ s.clause
+
+  given_over : (s : Step) → Contains (given_steps atoms e.cnf.clauses e.origins) s → IsOver s
+  given_over s h =
+      let listed = subst (λ cs. Contains cs s.clause) (given_clauses words root atoms enc.nodes enc.terms e.cnf.clauses e.origins enc.clauses) (mapped_item accepted.clause_of _ s h) in
+      let from = unmapped_item (through atoms) e.cnf.clauses s.clause listed in
+      record { literals = from.0; within = all_item (is_clause vars) e.cnf.clauses from.0 clauses_within from.1; is = from.2 }
+
+  learned_over : (rs : List Rup) → list_all (is_clause vars) (map clause_of rs) ≡ true → (s : Step) → Contains (learned_steps atoms rs) s → IsOver s
+  learned_over rs w s h =
+      let from = unmapped_item (learned_step atoms) rs s h in
+      record { literals = from.0.clause; within = all_item (is_clause vars) (map clause_of rs) from.0.clause w (mapped_item clause_of rs from.0 from.1); is = ap accepted.clause_of from.2 }
+
+  atom_below : (a : Atom) → Contains atoms a → IsAtomBelow words root a
+  atom_below (atom.Node p) h = (enc.nodes p h).below
+  atom_below (atom.Same s t) h = let pair = enc.terms s t h in (pair.first.below, pair.second.below)
+
+  literal_in : (ls : List ℤ) (x : ℤ) → is_clause vars ls ≡ true → Contains ls x → is_literal vars x ≡ true
+  unfolding is_clause
+  literal_in ls x w i = all_item (is_literal vars) ls x w i
+
+  over_below : (s : Step) → IsOver s → (l : Lit) → Contains s.clause l → IsAtomBelow words root l.atom
+  over_below s o l h =
+      let from = unmapped_item (λ x. named atoms (signed x)) o.literals l (subst (λ ls. Contains ls l) (sym o.is) h) in
+      subst (λ (m : Lit). IsAtomBelow words root m.atom) from.2 (atom_below _ (atom_there atoms from.0 (literal_in o.literals from.0 o.within from.1)))
+
+  module _ (numbers : List ℕ) where
+    -- a reason of the question has no hints
+    plain : (w : Why) (c : Clause) → origin_clause words root w ≡ Some c → (why_by numbers w ≡ w) × (hints_of w ≡ [])
+    plain why.Root c is = (refl, refl)
+    plain (why.Def p k) c is = (refl, refl)
+    plain (why.Path ts) c is = (refl, refl)
+    plain (why.Rup hs) c is = absurd (none-some c is)
+
+    given_same : (cs : List (List ℤ)) (ws : List Why) → AreOrigins words root atoms cs ws → map (step_by numbers) (given_steps atoms cs ws) ≡ given_steps atoms cs ws
+    given_same [] ws o = refl
+    given_same (c ∷ cs) [] o = refl
+    given_same (c ∷ cs) (w ∷ ws) o =
+        ap (λ v. step (through atoms c) v ∷ map (step_by numbers) (given_steps atoms cs ws)) (plain w _ (head_is words root atoms enc.nodes enc.terms _ _ _ _ o)).0
+        ∙ ap (λ ss. step (through atoms c) w ∷ ss) (given_same cs ws (tail_is words root atoms enc.nodes enc.terms _ _ _ _ o))
+
+    given_hints : (cs : List (List ℤ)) (ws : List Why) → AreOrigins words root atoms cs ws → map hints_in (given_steps atoms cs ws) ≡ replicate (length cs) []
+    given_hints [] ws o = refl
+    given_hints (c ∷ cs) [] o = absurd (no_more words root atoms enc.nodes enc.terms _ _ o)
+    given_hints (c ∷ cs) (w ∷ ws) o =
+        ap (λ hs. hs ∷ map hints_in (given_steps atoms cs ws)) (plain w _ (head_is words root atoms enc.nodes enc.terms _ _ _ _ o)).1 ∙ ap (λ hs. [] ∷ hs) (given_hints cs ws (tail_is words root atoms enc.nodes enc.terms _ _ _ _ o))
+
+  learned_hints : (rs : List Rup) → map hints_in (learned_steps atoms rs) ≡ map (λ r. r.hints) rs
+  learned_hints [] = refl
+  learned_hints (r ∷ rs) = ap (λ hs. r.hints ∷ hs) (learned_hints rs)
+
+  abbrev given : List Step
+  given = given_steps atoms e.cnf.clauses e.origins
+
+  abbrev whole : List Rup → List Step
+  whole rs = given ++ learned_steps atoms rs
+
+  hints_same : (rs : List Rup) → map hints_in (whole rs) ≡ all_hints (length e.cnf.clauses) rs
+  hints_same rs =
+      map-append hints_in given (learned_steps atoms rs) ∙ ap (λ hs. hs ++ map hints_in (learned_steps atoms rs)) (given_hints [] e.cnf.clauses e.origins enc.clauses)
+      ∙ ap (λ hs. replicate (length e.cnf.clauses) [] ++ hs) (learned_hints rs)
+
+  -- the steps that are kept are a part of all of them
+  steps_same : (numbers : List ℕ) (marks : List Bool) (rs : List Rup) → kept marks given ++ cut numbers (drop (length e.cnf.clauses) marks) (learned_steps atoms rs) ≡ cut numbers marks (whole rs)
+  steps_same numbers marks rs =
+      let same = given_same numbers e.cnf.clauses e.origins enc.clauses in
+      let long : length (map (step_by numbers) given) ≡ length e.cnf.clauses =
+      length-map given (step_by numbers) ∙ sym (length-map given accepted.clause_of)
+      ∙ ap length (given_clauses words root atoms enc.nodes enc.terms e.cnf.clauses e.origins enc.clauses) ∙ length-map e.cnf.clauses (through atoms) in
+      ap (λ ss. kept marks ss ++ cut numbers (drop (length e.cnf.clauses) marks) (learned_steps atoms rs)) (sym same)
+      ∙ ap (λ n. kept marks (map (step_by numbers) given) ++ cut numbers (drop n marks) (learned_steps atoms rs)) (sym long)
+      ∙ sym (kept_parts marks (map (step_by numbers) given) (map (step_by numbers) (learned_steps atoms rs)))
+      ∙ ap (kept marks) (sym (map-append (step_by numbers) given (learned_steps atoms rs)))
+
+  module _ (rs : List Rup) (condition : is_place_of words class.Cond root ≡ true) (h : verdict.IsRefutation e.cnf rs) where
+    parts : (all_right words root [] (whole rs) ≡ true) × (ends_empty (whole rs) ≡ true)
+    unfolding accepts
+    parts = let both = and_parts (is_place_of words class.Cond root && all_right words root [] (whole rs)) _ (is_accepted rs condition h) in
+        ((and_parts (is_place_of words class.Cond root) _ both.0).1, both.1)
+
+    whole_earlier : (k h : ℕ) → Contains (hints_at (map hints_in (whole rs)) k) h → h < k
+    whole_earlier k h i = omega (arith, right_earlier words root [] (whole rs) parts.0 k h i)
+
+    pub have_earlier : HaveEarlier (all_hints (length e.cnf.clauses) rs)
+    have_earlier = subst HaveEarlier (hints_same rs) whole_earlier
+
+    pub some_steps : 0 < length rs
+    some_steps = some rs h.empty where
+      some : (rs : List Rup) → verdict.ends_empty rs ≡ true → 0 < length rs
+      some [] x = absurd (false≢true x)
+      some (r ∷ rs) x = omega arith
+
+    -- what is cut from it is accepted, and has no more than it needs
+    pub cut_accepted : (d : Derivation) → IsCutOf e rs d → Accepts words root d × IsCut words root d
+    unfolding accepts
+    cut_accepted d c =
+        let numbers = ranks 0 c.marks in
+        let is : d.steps ≡ cut numbers c.marks (whole rs) = c.is ∙ steps_same numbers c.marks rs in
+        let needed : AreNeeded (map hints_in (whole rs)) 0 c.marks = subst (λ hs. AreNeeded hs 0 c.marks) (sym (hints_same rs)) c.needed in
+        let long : length c.marks ≡ length (whole rs) = needed.long ∙ length-map (whole rs) hints_in in
+        let right = right_kept words root c.marks [] c.marks [] (whole rs) refl refl (λ k m g i. needed.closed k g (omega arith) m i) parts.0 in
+        let end = end_kept words root c.marks c.marks (whole rs) long (λ k l. needed.last k (l ∙ sym (length-map (whole rs) hints_in))) parts.1 in (
+          subst (λ ss. ((is_place_of words class.Cond root && all_right words root [] ss) && ends_empty ss) ≡ true) (sym is)
+              (and_from _ _ (and_from _ _ condition right) end),
+          record {
+            below = λ s l i j.
+                let from = unmapped_item (step_by numbers) (whole rs) s (kept_item c.marks _ s (subst (λ ss. Contains ss s) is i)) in
+                step_below from.0 from.1 l (subst (λ (x : Step). Contains x.clause l) (sym from.2) j);
+            used = subst (λ ss. (k : ℕ) → suc k < length ss → IsHintOfLater ss k) (sym is) (hint_kept words root c.marks (whole rs) needed whole_earlier);
+          },
+        )
+      where
+        step_below : (s : Step) → Contains (whole rs) s → (l : Lit) → Contains s.clause l → IsAtomBelow words root l.atom
+        step_below s i l j = elim (Contains-append_cases given (learned_steps atoms rs) s i) [
+          | inl g ↦ over_below s (given_over s g) l j
+          | inr g ↦ over_below s (learned_over rs (steps_within rs h) s g) l j
+        ]

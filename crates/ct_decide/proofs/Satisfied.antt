@@ -1,5 +1,5 @@
 -- The clause of each origin is one of the question's, so a model satisfies it and has its atoms.
-use Rattle.std.proofs.Common.{◌≡◌, ℕ, Bool, true, List, [], ◌∷◌, length, map, Some, refl, ap, ◌∙◌, sym, subst, ℤ, inl, inr}
+use Rattle.std.proofs.Common.{◌≡◌, ℕ, Bool, true, List, [], ◌∷◌, length, map, Some, refl, ap, ◌∙◌, subst, ℤ, inl, inr}
 use Rattle.std.specs.Prelude.{Contains}
 use Rattle.std.specs.List.{list_all}
 use Rattle.std.proofs.lemmas.Bool.{and_parts, and_from, or_left, or_right}
@@ -16,6 +16,7 @@ use Rattle.ct_cnf.specs.declared.encoding.Encoded.{Encoded}
 use Rattle.ct_cnf.specs.Encoding.{named, through, origin_clause, SatisfiesOrigins}
 use Rattle.ct_word.proofs.Items.{item_cases, no_item, mapped_item, unmapped_item}
 use Rattle.ct_decide.specs.Question.{IsEncoding}
+use Rattle.ct_decide.proofs.Kept.{all_item}
 use Rattle.ct_decide.proofs.Named.{same_atom_self, atom_there}
 use Rattle.ct_decide.proofs.Accepted.{clauses_within}
 use Rattle.ct_decide.proofs.Truths.{truth_of, is_atom, clause_truth}
@@ -27,12 +28,6 @@ atom_is_there (x ∷ xs) a h =
       | inl e ↦ or_left (same_atom x a) _ (ap (λ y. same_atom y a) e ∙ same_atom_self a)
       | inr there ↦ or_right (same_atom x a) _ (atom_is_there xs a there)
     ]
-
-pub all_item : {X : Type 0} (test : X → Bool) (xs : List X) (x : X) → list_all test xs ≡ true → Contains xs x → test x ≡ true
-all_item test [] x e h = absurd (no_item x h)
-all_item test (y ∷ xs) x e h =
-    let parts = and_parts (test y) _ e in
-    elim (item_cases xs y x h) [ inl s ↦ ap test (sym s) ∙ parts.0 | inr there ↦ all_item test xs x parts.1 there ]
 
 -- each literal's atom is among these
 abbrev pub HasAtoms : List Atom → Clause → Type 0

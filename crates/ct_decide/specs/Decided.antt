@@ -9,6 +9,7 @@ use Rattle.ct_word.specs.Reading.{condition_at}
 use Rattle.ct_word.specs.Stands.{TermBelow}
 use Rattle.ct_derivation.specs.Accepts.{Accepts}
 use Rattle.ct_equality.specs.Valued.{IsNumbered}
+use Rattle.ct_decide.specs.Cut.{IsCut}
 use Rattle.ct_decide.specs.declared.deciding.Decision.{Decision}
 use Rattle.ct_decide.specs.declared.deciding.Decision.TheVariants as decision
 
@@ -22,7 +23,7 @@ pub record IsWorldAt (words : List ℕ) (root : ℕ) (v : World) : Type 0 where
   pub values : AllByRecursion (λ p. IsValueOf words root p.1) v
   pub once : IsDistinct same_null (map (λ p. p.0) v)
 
--- a valuation at which the root holds, or a derivation that is accepted over the words and the root
+-- a valuation at which the root holds, or a derivation that is accepted over the words and the root and has no more than it needs
 abbrev pub DecisionOf : List ℕ → ℕ → Decision → Type 0
 DecisionOf words root (decision.World v) = IsWorldAt words root v
-DecisionOf words root (decision.Refuted d) = Accepts words root d
+DecisionOf words root (decision.Refuted d) = Accepts words root d × IsCut words root d

@@ -1,3 +1,4 @@
 pub mod Question
 pub mod Translation
+pub mod Cut
 pub mod Decided

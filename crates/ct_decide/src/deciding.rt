@@ -51,21 +51,21 @@ fn world(
 }
 
 /// The decision by the clauses of a question.
-fn settle(alloc: Global, words: &[u64], root: u32, encoded: Encoded) -> Result<Decision, Memory>
+fn settle(alloc: Global, words: &[u64], root: u32, encoded: &Encoded) -> Result<Decision, Memory>
     requires formed { IsWellFormed words.now }
     requires few { length words.now < 2 ^ 28 }
     requires condition { is_place_of words.now class.Cond root ≡ true }
     requires columns { HasNoColumn words.now root }
-    requires encoding { IsEncoding words.now root encoded }
+    requires encoding { IsEncoding words.now root encoded.now }
     ensures { IfOk result (λ d. DecisionOf words.now root d) }
 {
     match solve(alloc, &encoded.cnf)? {
         Verdict::Model(model) => {
-            let world = world(alloc, words, root, &encoded, model.as_slice())?;
+            let world = world(alloc, words, root, encoded, model.as_slice())?;
             Ok(Decision::World(world))
         }
         Verdict::Refuted(steps) => {
-            let derivation = derivation(alloc, encoded, steps)?;
+            let derivation = derivation(alloc, encoded, steps.as_slice())?;
             Ok(Decision::Refuted(derivation))
         }
     }
@@ -90,6 +90,5 @@ pub fn decide(alloc: Global, words: &[u64], root: u32) -> Result<Decision, Decid
     ensures many_terms { IsErrOf result fault.TooManyTerms → HasTermsPast 64 words.now root }
 {
     let encoded = encode(alloc, words, root)?;
-    let decision = settle(alloc, words, root, encoded)?;
-    Ok(decision)
+    Ok(settle(alloc, words, root, &encoded)?)
 }

@@ -9,6 +9,7 @@
 
 mod deciding;
 mod error;
+mod needed;
 #[cfg(test)]
 mod tests;
 mod translating;

@@ -1,34 +1,35 @@
-use Rattle.std.proofs.Common.{◌≡◌, ◌++◌, ◌∷◌, [], length, map, sym, ap, ◌∙◌, append_assoc}
-use Rattle.std.specs.List.{list_all}
-use Rattle.std.proofs.lemmas.Bool.{and_parts}
-use Rattle.std.proofs.lemmas.List.{map-append}
-use Rattle.ct_derivation.specs.declared.steps.Why.TheVariants as why
-use Rattle.ct_sat.specs.Literal.{is_clause}
-use Rattle.ct_sat.specs.Learned.{clause_of}
-use Rattle.ct_cnf.specs.Encoding.{through}
-use Rattle.ct_decide.specs.Translation.{step, learned_step, learned_steps}
+use Rattle.std.proofs.Common.{◌++◌, ◌∷◌, ◌+◌, ◌<◌, [], true, false, List, length, map, drop, get_or, sym, subst, ap, ◌∙◌, arith}
+use Rattle.std.proofs.lemmas.List.{drop_more, get_or_default}
+use Rattle.ct_derivation.specs.declared.steps.Step.{Step}
+use Rattle.ct_sat.specs.declared.verdict.Rup.{Rup}
+use Rattle.ct_decide.specs.Translation.{learned_step, learned_steps}
+use Rattle.ct_decide.specs.Cut.{step_by, IsWithin}
+use Rattle.ct_decide.proofs.Kept.{kept_turn}
 use Rattle.ct_decide.proofs.translating.add_learned.Goals as goal
+use Rattle.ct_decide.proofs.translating.add_learned.Goals.{then-marks-k+in_ok-learned+in_ok-push, else-marks-k}
 
-pub clause-requires : goal.clause-requires
-clause-requires c =
-    let n = length c.args.atoms.now in
-    let parts = and_parts (is_clause n c.in-Some.rup.clause) (list_all (is_clause n) (map clause_of c.next.new.self.rest.items))
-    (sym (ap (λ xs. list_all (is_clause n) (map clause_of xs)) c.in-Some.ensures.steps.0) ∙ c.loop-rup.invariant.1) in
-    ap (is_clause n) c.as_slice.ensures ∙ parts.0
+abbrev none : Rup
+none = record { clause = []; hints = [] }
 
-pub loop-rup-preserved : goal.loop-rup-preserved
-loop-rup-preserved c =
-    let n = length c.args.atoms.now in
-    let atoms = c.args.atoms.now in
-    let old = c.args.steps.now.items in
-    let r = c.in-Some.rup in
-    let parts = and_parts (is_clause n r.clause) (list_all (is_clause n) (map clause_of c.next.new.self.rest.items))
-    (sym (ap (λ xs. list_all (is_clause n) (map clause_of xs)) c.in-Some.ensures.steps.0) ∙ c.loop-rup.invariant.1) in
-    let clause_is = c.in_ok-clause.ensures ∙ ap (through atoms) c.as_slice.ensures in
-    let items : c.push.new.self.items ≡ old ++ learned_steps atoms (c.loop-rup.yielded ++ r ∷ []) =
-    c.in_ok-push.ensures.items
-    ∙ ap (λ xs. xs ++ step c.in_ok-clause.clause (why.Rup r.hints) ∷ []) c.loop-rup.invariant.0
-    ∙ ap (λ x. (old ++ learned_steps atoms c.loop-rup.yielded) ++ step x (why.Rup r.hints) ∷ []) clause_is
-    ∙ append_assoc old (learned_steps atoms c.loop-rup.yielded) (learned_step atoms r ∷ [])
-    ∙ ap (λ xs. old ++ xs) (sym (map-append (learned_step atoms) c.loop-rup.yielded (r ∷ []))) in
-    (items, parts.1)
+pub learned-requires : goal.learned-requires
+learned-requires c =
+    subst (IsWithin (length c.args.atoms.now) (length c.args.numbers.now)) (sym c.index-refutation-k.is) (c.requires.within c.loop-k.k c.index-refutation-k.result c.loop-k-test.true)
+
+pub loop-k-preserved : goal.loop-k-preserved
+loop-k-preserved c =
+    let k = c.loop-k.k in
+    let ms = c.args.marks.now in
+    let rs = c.args.refutation.now in
+    let old = c.loop-k.steps.items in
+    let translated : Rup → Step = λ r. step_by c.args.numbers.now (learned_step c.args.atoms.now r) in
+    let steps : List Rup → List Step = λ xs. map (step_by c.args.numbers.now) (learned_steps c.args.atoms.now xs) in
+    let x = translated (get_or rs k none) in
+    let in_marks : k < length ms = omega (arith, c.loop-k-test.true, c.requires.marks) in
+    let left = ap steps (drop_more rs k none c.loop-k-test.true) in
+    elim c.if-marks-k.branch [
+      | then-marks-k+in_ok-learned+in_ok-push w ↦
+          let x_is = w.in_ok-learned.ensures ∙ ap translated (w.index-refutation-k.is ∙ get_or_default rs k w.index-refutation-k.result none c.loop-k-test.true) in
+          kept_turn ms k true old c.if-marks-k.steps.items x (steps (drop k rs)) (steps (drop (k + 1) rs)) in_marks w.if-marks-k.true left
+          (ap (λ v. v.items) w.steps-is ∙ w.in_ok-push.ensures.items ∙ ap (λ s. old ++ s ∷ []) x_is) ∙ c.loop-k.invariant
+      | else-marks-k w ↦ kept_turn ms k false old c.if-marks-k.steps.items x (steps (drop k rs)) (steps (drop (k + 1) rs)) in_marks w.if-marks-k.false left (ap (λ v. v.items) w.steps-is) ∙ c.loop-k.invariant
+    ]

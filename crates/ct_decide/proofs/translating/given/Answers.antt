@@ -1,62 +1,32 @@
-use Rattle.std.proofs.Common.{◌≡◌, ◌<◌, ◌++◌, ◌∷◌, ◌+◌, [], length, get_or, sym, ap, ◌∙◌, arith, rules}
-use Rattle.ct_sat.specs.Literal.{is_clause}
+use Rattle.std.proofs.Common.{◌≡◌, ◌++◌, ◌∷◌, ◌+◌, ◌<◌, [], true, false, length, drop, get_or, ap, ◌∙◌, arith}
+use Rattle.std.proofs.lemmas.List.{drop_more, get_or_default}
+use Rattle.ct_derivation.specs.declared.steps.Why.TheVariants as why
 use Rattle.ct_cnf.specs.Encoding.{through}
 use Rattle.ct_decide.specs.Translation.{step, given_steps}
-use Rattle.ct_decide.proofs.Steps.{given_more, length_given, given_none, clause_there, counted}
+use Rattle.ct_decide.proofs.Kept.{kept_turn}
 use Rattle.ct_decide.proofs.translating.given.Goals as goal
+use Rattle.ct_decide.proofs.translating.given.Goals.{then-marks-k+in_ok-stated+in_ok-push, else-marks-k}
 
-pub loop-why-init : goal.loop-why-init
-loop-why-init c =
-    let origins = ap length c.into_iter-why-iterator.ensures.into_iter_gives.0 in
-    (c.new-steps.ensures.items ∙ sym (given_none c.args.atoms.now c.args.clauses.now), omega (arith, origins, c.requires.origins))
-
-pub offset_bounds-clauses-len : goal.offset_bounds-clauses-len
-offset_bounds-clauses-len c =
+pub loop-k-preserved : goal.loop-k-preserved
+loop-k-preserved c =
+    let k = c.loop-k.k in
+    let ms = c.args.marks.now in
     let atoms = c.args.atoms.now in
     let cs = c.args.clauses.now in
-    let ws = c.loop-why.yielded in
-    let left = ap length c.in-Some.ensures.steps.0 in
-    let all = c.loop-why.invariant.1 in
-    let lt : c.len.result < length cs =
-    omega (arith, c.len.ensures, c.loop-why.steps.ok.0, ap length c.loop-why.invariant.0, length_given atoms cs ws (omega (arith, all)), left, all) in
-    search rules
-
-pub bounds-clauses-len : goal.bounds-clauses-len
-bounds-clauses-len c =
-    let atoms = c.args.atoms.now in
-    let cs = c.args.clauses.now in
-    let ws = c.loop-why.yielded in
-    let left = ap length c.in-Some.ensures.steps.0 in
-    let all = c.loop-why.invariant.1 in
-    omega (arith, c.len.ensures, c.loop-why.steps.ok.0, ap length c.loop-why.invariant.0, length_given atoms cs ws (omega (arith, all)), left, all)
-
-pub clause-requires : goal.clause-requires
-clause-requires c =
-    let n = length c.args.atoms.now in
-    let atoms = c.args.atoms.now in
-    let cs = c.args.clauses.now in
-    let ws = c.loop-why.yielded in
-    let left = ap length c.in-Some.ensures.steps.0 in
-    let all = c.loop-why.invariant.1 in
-    let lt : c.len.result < length cs =
-    omega (arith, c.len.ensures, c.loop-why.steps.ok.0, ap length c.loop-why.invariant.0, length_given atoms cs ws (omega (arith, all)), left, all) in
-    ap (is_clause n) (c.as_slice-literals.ensures ∙ c.index-clauses-len.is) ∙ clause_there n cs c.len.result c.index-clauses-len.result lt c.requires.clauses
-
-pub loop-why-preserved : goal.loop-why-preserved
-loop-why-preserved c =
-    let atoms = c.args.atoms.now in
-    let cs = c.args.clauses.now in
-    let ws = c.loop-why.yielded in
-    let w = c.in-Some.why in
-    let d = c.index-clauses-len.result in
-    let left = ap length c.in-Some.ensures.steps.0 in
-    let all = c.loop-why.invariant.1 in
-    let lt : length ws < length cs = omega (arith, left, all) in
-    let long : c.len.result ≡ length ws = omega (arith, c.len.ensures, c.loop-why.steps.ok.0, ap length c.loop-why.invariant.0, length_given atoms cs ws (omega (arith, all))) in
-    let clause_is = c.in_ok-clause.ensures ∙ ap (through atoms) (c.as_slice-literals.ensures ∙ c.index-clauses-len.is ∙ ap (λ k. get_or cs k d) long) in
-    let items : c.push.new.self.items ≡ given_steps atoms cs (ws ++ w ∷ []) =
-    c.in_ok-push.ensures.items
-    ∙ ap (λ xs. xs ++ step c.in_ok-clause.field-0 w ∷ []) c.loop-why.invariant.0
-    ∙ ap (λ x. given_steps atoms cs ws ++ step x w ∷ []) clause_is
-    ∙ sym (given_more atoms cs ws w d lt) in
-    (items, counted ws w c.next.new.self.rest.items (length cs) (ap (λ xs. length ws + length xs) (sym c.in-Some.ensures.steps.0) ∙ all))
+    let ws = c.args.origins.now in
+    let old = c.loop-k.steps.items in
+    let x = step (through atoms (get_or cs k [])) (get_or ws k why.Root) in
+    let rest = given_steps atoms (drop (k + 1) cs) (drop (k + 1) ws) in
+    let all = given_steps atoms (drop k cs) (drop k ws) in
+    let in_marks : k < length ms = omega (arith, c.loop-k-test.true, c.requires.marks) in
+    let in_origins : k < length ws = omega (arith, c.loop-k-test.true, c.requires.origins) in
+    let left : all ≡ x ∷ rest = ap (λ xs. given_steps atoms xs (drop k ws)) (drop_more cs k [] c.loop-k-test.true) ∙ ap (given_steps atoms (get_or cs k [] ∷ drop (k + 1) cs)) (drop_more ws k why.Root in_origins) in
+    elim c.if-marks-k.branch [
+      | then-marks-k+in_ok-stated+in_ok-push w ↦
+          let clause_is = w.as_slice.ensures ∙ w.index-clauses-k.is ∙ get_or_default cs k w.index-clauses-k.result [] c.loop-k-test.true in
+          let why_is = w.index-origins-k.is ∙ get_or_default ws k w.index-origins-k.result why.Root in_origins in
+          let x_is = w.in_ok-stated.ensures ∙ ap (λ ls. step (through atoms ls) w.index-origins-k.result) clause_is ∙ ap (step (through atoms (get_or cs k []))) why_is in
+          kept_turn ms k true old c.if-marks-k.steps.items x all rest in_marks w.if-marks-k.true left
+          (ap (λ v. v.items) w.steps-is ∙ w.in_ok-push.ensures.items ∙ ap (λ s. old ++ s ∷ []) x_is) ∙ c.loop-k.invariant
+      | else-marks-k w ↦ kept_turn ms k false old c.if-marks-k.steps.items x all rest in_marks w.if-marks-k.false left (ap (λ v. v.items) w.steps-is) ∙ c.loop-k.invariant
+    ]
