@@ -14,8 +14,8 @@ use Rattle.ct_derivation.specs.Literal.{yes_of, no_of, negated, same_atom, same_
 use Rattle.ct_derivation.specs.Variables.{signed}
 use Rattle.ct_derivation.specs.Variables as variables
 use Rattle.ct_derivation.specs.Accepts.{over_atoms}
-pub use Rattle.ct_derivation.proofs.Members.{same_atom_self}
-use Rattle.ct_derivation.proofs.Members.{same_atom_is, same_lit_is}
+pub use Rattle.ct_derivation.proofs.Members.{same_atom_self, same_atom_is}
+use Rattle.ct_derivation.proofs.Members.{same_lit_is}
 use Rattle.ct_cnf.specs.Encoding.{atom_of, named, AreDistinct}
 use Rattle.ct_sat.specs.Literal.{is_literal, is_clause, place_of, is_positive}
 use Rattle.ct_sat.specs.Verdict as verdict
