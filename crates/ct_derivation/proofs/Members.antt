@@ -1,7 +1,8 @@
 -- Literals that are written alike are one, and clauses with the same members have one truth.
-use Rattle.std.proofs.Common.{◌≡◌, ℕ, Bool, true, false, not, List, [], ◌∷◌, nat_eq, refl, ap, ◌∙◌, subst, if◌then◌else◌, inl, inr}
+use Rattle.std.proofs.Common.{◌≡◌, ℕ, Bool, true, false, not, List, [], ◌∷◌, nat_eq, refl, ap, sym, ◌∙◌, subst, if◌then◌else◌, inl, inr}
 use Rattle.std.specs.List.{list_all}
 use Rattle.std.specs.Bool.{Decides}
+use Rattle.std.specs.Cmp.{IsEquivalence}
 use Rattle.std.proofs.lemmas.Bool.{eqb-true, eq-eqb, and_from, and_parts, or_cases, or_parts, false≢true, both_ways, cases_Bool}
 use Rattle.ct_word.specs.Value.{World}
 use Rattle.ct_derivation.specs.declared.literals.Atom.{Atom}
@@ -46,6 +47,21 @@ same_lit_self l = and_from (same_sign l.positive l.positive) (same_atom l.atom l
 
 pub lit_decides : (l m : Lit) → Decides (same_lit l m) (l ≡ m)
 lit_decides l m = (same_lit_is l m, λ e. subst (λ x. same_lit l x ≡ true) e (same_lit_self l))
+
+both_or_none : (a b : Bool) → (a ≡ true → b ≡ true) → (b ≡ true → a ≡ true) → a ≡ b
+both_or_none true b f g = sym (f refl)
+both_or_none false true f g = g refl
+both_or_none false false f g = refl
+
+flipped : (l m : Lit) → same_lit l m ≡ true → same_lit m l ≡ true
+flipped l m e = (lit_decides m l).1 (sym (same_lit_is l m e))
+
+pub lit_laws : IsEquivalence same_lit
+lit_laws = record {
+  refl = same_lit_self;
+  symm = λ l m. both_or_none _ _ (flipped l m) (flipped m l);
+  congr = λ l m n e. ap (λ x. same_lit x n) (same_lit_is l m e);
+}
 
 signs : (b a : Bool) → (if not b then a else not a) ≡ not (if b then a else not a)
 signs true a = refl
