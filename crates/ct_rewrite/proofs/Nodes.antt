@@ -88,12 +88,15 @@ ordered_at j (m ∷ ns) zero n e f =
 ordered_at j (m ∷ ns) (suc k) n e f =
     let z : j + 1 + k ≡ j + suc k = omega arith in subst (λ i. IsTrue (stands_over i n)) z (ordered_at (j + 1) ns k n e (and_parts _ _ f).1)
 
+pub stands_at : (ns : List Node) (k : ℕ) (n : Node) → IsOrdered ns → slice_get ns k ≡ Some n → IsTrue (stands_over k n)
+stands_at ns k n ordered e = let z : 0 + k ≡ k = omega arith in subst (λ i. IsTrue (stands_over i n)) z (ordered_at 0 ns k n e ordered)
+
 -- the condition at a position is that of its node
 pub condition_of_position : (ns : List Node) (k : ℕ) (n : Node) → IsOrdered ns → slice_get ns k ≡ Some n → node_condition ns k ≡ node_value ns n
 condition_of_position ns k n ordered e =
     let z : k ≡ 0 + k = omega arith in
     ap (λ j. nth (read_nodes [] ns) j) z ∙ read_at [] ns k n e
-    ∙ node_agrees (read_nodes [] (take k ns)) (read_nodes [] ns) k agree n (subst (λ i. IsTrue (stands_over i n)) (sym z) (ordered_at 0 ns k n e ordered))
+    ∙ node_agrees (read_nodes [] (take k ns)) (read_nodes [] ns) k agree n (stands_at ns k n ordered e)
   where
     long : (xs : List Node) (j c : ℕ) (m : Node) → slice_get xs j ≡ Some m → c < j → c < length (take j xs)
     long [] j c m f lt = cc
@@ -188,7 +191,4 @@ pub node_read : (inside ns read : List Node) (k : ℕ) (n : Node) → IsOrdered 
 node_read inside ns read k n ordered e f lt is =
     let there : slice_get ns k ≡ Some n = slice_get-get_or ns k n lt ∙ ap (λ (xs : List Node). Some (get_or xs k n)) (sym (f ∙ e)) ∙ ap Some (sym is) in
     let ok : IsOrdered ns = subst IsOrdered e ordered in
-    record {
-      value = condition_of_position ns k n ok there;
-      below = let z : 0 + k ≡ k = omega arith in subst (λ i. IsTrue (stands_over i n)) z (ordered_at 0 ns k n there ok);
-    }
+    record { value = condition_of_position ns k n ok there; below = stands_at ns k n ok there }

@@ -2,6 +2,7 @@
 use Rattle.std.proofs.Common.{◌≡◌, ℕ, zero, suc, ◌+◌, ◌≤◌, Bool, true, ◌&&◌, List, [], ◌∷◌, length, map, Some, refl, sym, subst, arith}
 use Rattle.std.specs.Prelude.{IsTrue, slice_get, sum_by}
 use Rattle.std.specs.List.{list_all}
+use Rattle.std.specs.BTreeMap.{BTreeMap}
 use Rattle.std.proofs.lemmas.Bool.{and_parts, and_from}
 use Rattle.std.proofs.lemmas.List.{length-map}
 use Rattle.std.proofs.lemmas.List.Sums.{sum_by-cons}
@@ -12,7 +13,7 @@ use Rattle.ct_rewrite.specs.declared.builder.Connective.TheVariants as connectiv
 use Rattle.ct_rewrite.specs.Nodes.{children_of}
 use Rattle.ct_rewrite.specs.Building.{joint_node}
 use Rattle.ct_rewrite.specs.Joining.{HasNoMoreThan}
-use Rattle.ct_rewrite.specs.Marks.{moved_to, moved_node}
+use Rattle.ct_rewrite.specs.Moving.{moved_to, moved_node}
 use Rattle.ct_rewrite.specs.Rules.{is_count_of_children, is_proper, are_children_within, are_sides_in_order, is_unsettled, are_distinct, are_children_distinct}
 
 counted : (xs : List ℕ) → sum_by (λ x. 1) xs ≡ length xs
@@ -24,7 +25,7 @@ no_longer all ks ls read most same once few =
     omega (arith, subst (HasNoMoreThan all ks) same once (λ x. 1), counted all, counted ks, counted ls, few)
 
 -- a node keeps what makes it proper when its children go elsewhere, each to a place of its own
-pub moved_proper : (ps : List ℕ) (n : Node) → IsTrue (is_proper n) → IsTrue (are_distinct (map (moved_to ps) (children_of n))) → IsTrue (is_proper (moved_node ps n))
+pub moved_proper : (ps : BTreeMap ℕ ℕ) (n : Node) → IsTrue (is_proper n) → IsTrue (are_distinct (map (moved_to ps) (children_of n))) → IsTrue (is_proper (moved_node ps n))
 moved_proper ps (node.And ks) e d =
     and_from _ _ (subst (λ m. IsTrue (is_count_of_children m && true && true)) (sym (length-map ks (moved_to ps))) (and_parts (is_count_of_children (length ks) && true && true) (are_distinct ks) e).0) d
 moved_proper ps (node.Or ks) e d =

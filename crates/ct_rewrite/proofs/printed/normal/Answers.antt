@@ -1,36 +1,49 @@
-use Rattle.std.proofs.Common.{◌∙◌}
+use Rattle.std.proofs.Common.{◌∙◌, refl}
 use Rattle.std.proofs.lemmas.Result.{IfOk-weaker}
-use Rattle.ct_rewrite.proofs.Conditions.{roots_have, roots_placed, normal_truth, normal_wide, normal_deep, kept_placed}
+use Rattle.ct_rewrite.specs.Below.{has}
+use Rattle.ct_rewrite.specs.Signs.{IsFormAt}
+use Rattle.ct_rewrite.proofs.Shaped.{conditions_downward}
+use Rattle.ct_rewrite.proofs.Closing.{there_have, all_have}
+use Rattle.ct_rewrite.proofs.Conditions.{roots_placed, normal_truth, normal_wide, normal_deep, kept_placed}
 use Rattle.ct_rewrite.proofs.Rules.{all_weaker, children_within, children_distinct, sides_in_order, unsettled}
 use Rattle.ct_rewrite.proofs.printed.normal.Goals as goal
 
+pub below-requires-clause-downward : goal.below-requires-clause-downward
+below-requires-clause-downward c = conditions_downward c.args.words.now _ c.requires.formed refl
+
 pub positions-requires : goal.positions-requires
-positions-requires c = roots_have c.args.words.now _ c.in_ok-forms.forms _ c.in_ok-forms.ensures.forms c.args.roots.now c.in_ok-places.ensures.roots
+positions-requires c =
+    all_have (IsFormAt c.args.words.now _) c.in_ok-forms.forms c.args.roots.now
+    (there_have (IsFormAt c.args.words.now _) c.in_ok-forms.forms (has c.in_ok-places.places) c.in_ok-forms.ensures.forms c.args.roots.now c.in_ok-places.ensures.roots)
 
 pub kept-requires-clause-roots : goal.kept-requires-clause-roots
 kept-requires-clause-roots c =
-    roots_placed c.args.words.now _ c.nodes.result.now c.in_ok-forms.forms _ c.args.roots.now c.as_slice.result.now
-    c.in_ok-forms.ensures.forms c.in_ok-places.ensures.roots c.nodes.ensures.value (c.as_slice.ensures.value ∙ c.in_ok-positions.ensures)
+    roots_placed c.args.words.now _ c.nodes.result.now c.in_ok-forms.forms c.args.roots.now c.as_slice.result.now
+    (there_have (IsFormAt c.args.words.now _) c.in_ok-forms.forms (has c.in_ok-places.places) c.in_ok-forms.ensures.forms c.args.roots.now c.in_ok-places.ensures.roots)
+    c.nodes.ensures.value (c.as_slice.ensures.value ∙ c.in_ok-positions.ensures)
 
 pub returns-clause-truth : goal.returns-clause-truth
 returns-clause-truth c =
     IfOk-weaker c.kept.result _ _
-    (λ n. normal_truth c.args.words.now _ c.nodes.result.now c.in_ok-forms.forms _ c.args.roots.now c.as_slice.result.now
-    c.in_ok-forms.ensures.forms c.in_ok-places.ensures.roots c.nodes.ensures.value (c.as_slice.ensures.value ∙ c.in_ok-positions.ensures) n.nodes n.roots)
+    (λ n. normal_truth c.args.words.now _ c.nodes.result.now c.in_ok-forms.forms c.args.roots.now c.as_slice.result.now
+    (there_have (IsFormAt c.args.words.now _) c.in_ok-forms.forms (has c.in_ok-places.places) c.in_ok-forms.ensures.forms c.args.roots.now c.in_ok-places.ensures.roots)
+    c.nodes.ensures.value (c.as_slice.ensures.value ∙ c.in_ok-positions.ensures) n.nodes n.roots)
     c.kept.ensures.kept
 
 pub returns-clause-wide : goal.returns-clause-wide
 returns-clause-wide c =
     IfOk-weaker c.kept.result _ _
-    (λ n kept. normal_wide c.args.words.now _ c.nodes.result.now c.in_ok-forms.forms _ c.args.roots.now c.as_slice.result.now
-    c.in_ok-forms.ensures.forms c.in_ok-places.ensures.roots c.nodes.ensures.value (c.as_slice.ensures.value ∙ c.in_ok-positions.ensures) n.nodes n.roots kept)
+    (λ n kept. normal_wide c.args.words.now _ c.nodes.result.now c.in_ok-forms.forms c.args.roots.now c.as_slice.result.now
+    (there_have (IsFormAt c.args.words.now _) c.in_ok-forms.forms (has c.in_ok-places.places) c.in_ok-forms.ensures.forms c.args.roots.now c.in_ok-places.ensures.roots)
+    c.nodes.ensures.value (c.as_slice.ensures.value ∙ c.in_ok-positions.ensures) n.nodes n.roots kept)
     c.kept.ensures.kept
 
 pub returns-clause-deep : goal.returns-clause-deep
 returns-clause-deep c =
     IfOk-weaker c.kept.result _ _
-    (λ n. normal_deep c.args.words.now _ c.nodes.result.now c.in_ok-forms.forms _ c.args.roots.now c.as_slice.result.now
-    c.in_ok-forms.ensures.forms c.in_ok-places.ensures.roots c.nodes.ensures.value (c.as_slice.ensures.value ∙ c.in_ok-positions.ensures) n.nodes n.roots)
+    (λ n. normal_deep c.args.words.now _ c.nodes.result.now c.in_ok-forms.forms c.args.roots.now c.as_slice.result.now
+    (there_have (IsFormAt c.args.words.now _) c.in_ok-forms.forms (has c.in_ok-places.places) c.in_ok-forms.ensures.forms c.args.roots.now c.in_ok-places.ensures.roots)
+    c.nodes.ensures.value (c.as_slice.ensures.value ∙ c.in_ok-positions.ensures) n.nodes n.roots)
     c.kept.ensures.kept
 
 pub returns-clause-placed : goal.returns-clause-placed
