@@ -8,6 +8,7 @@ use Rattle.std.specs.Cmp.{nat_cmp_is}
 use Rattle.std.specs.BTreeMap.{BTreeMap, Updates, get}
 use Rattle.std.proofs.lemmas.Bool.{and_parts, and_from, or_left, or_right, or_cases, ltb-true, eqb-true, eq-eqb, false≢true, cases_lt}
 use Rattle.std.proofs.lemmas.List.{map_more}
+use Rattle.ct_word.proofs.Items.{all_implied}
 use Rattle.ct_rewrite.specs.Below.{AreAdded, IsClosedFrom, HasAt, has_at}
 
 member_any : (ps all : List ℕ) → ((k : ℕ) → list_any (nat_eq k) ps ≡ true → list_any (nat_eq k) all ≡ true) → (test : ℕ → Bool)
@@ -33,8 +34,7 @@ module _ (old new : ℕ → Bool) (ps : List ℕ) (by : AreAdded old new ps) whe
 
   -- what was there is there
   pub still_there : (qs : List ℕ) → IsTrue (list_all old qs) → IsTrue (list_all new qs)
-  still_there [] e = refl
-  still_there (q ∷ qs) e = let p = and_parts _ _ e in and_from _ _ (by q ∙ or_left _ _ p.0) (still_there qs p.1)
+  still_there qs e = all_implied old new (λ q f. by q ∙ or_left _ _ f) qs e
 
   -- what holds of what was there, and of what was added, holds of all that is there
   pub all_there : (test : ℕ → Bool) → ((k : ℕ) → IsTrue (old k) → IsTrue (test k)) → IsTrue (list_all test ps) → (k : ℕ) → IsTrue (new k) → IsTrue (test k)

@@ -14,19 +14,11 @@ use Rattle.ct_rewrite.specs.Below.{IsClosedFrom, IsDownward, IsFirstFrom, HasAt,
 use Rattle.ct_rewrite.specs.Building.{Grows}
 use Rattle.ct_rewrite.specs.Moving.{children_of_one, children_at, moved_to, moved_node, IsKept}
 use Rattle.ct_rewrite.specs.Rules.{has_no_literals, is_proper, are_distinct}
-use Rattle.ct_rewrite.proofs.Nodes.{condition_of_position, condition_stays, stands_at}
+use Rattle.ct_rewrite.proofs.Nodes.{condition_of_position, condition_stays, stands_at, below_more}
 use Rattle.ct_rewrite.proofs.Closing.{all_have, have_parts, have_more}
 use Rattle.ct_rewrite.proofs.Literals.{literals_at}
 use Rattle.ct_rewrite.proofs.Rules.{proper_at, moved_proper, children_distinct}
 use Rattle.ct_rewrite.proofs.Distinct.{distinct_mapped, one_condition}
-
-below_more : (m n : ℕ) (ks : List ℕ) → m ≤ n → IsTrue (list_all (λ c. nat_lt c m) ks) → IsTrue (list_all (λ c. nat_lt c n) ks)
-below_more m n [] le e = refl
-below_more m n (c ∷ ks) le e = let p = and_parts (nat_lt c m) (list_all (λ x. nat_lt x m) ks) e in and_from _ _ (lt-ltb c n (omega (arith, le, ltb-true c m p.0))) (below_more m n ks le p.1)
-
--- the children of a node of the list lie in it
-pub children_within : (nodes : List Node) (count i : ℕ) (n : Node) (ks : List ℕ) → IsTrue (stands_over i n) → ks ≡ children_of n → i < length nodes → count ≡ length nodes → IsTrue (list_all (λ c. nat_lt c count) ks)
-children_within nodes count i n ks over e lt long = below_more i count ks (omega arith) (subst (λ xs. IsTrue (list_all (λ c. nat_lt c i) xs)) (sym e) over)
 
 pub node_there : (nodes : List Node) (i : ℕ) (n : Node) → i < length nodes → n ≡ get_or nodes i n → slice_get nodes i ≡ Some n
 node_there nodes i n lt e = slice_get-get_or nodes i n lt ∙ ap Some (sym e)

@@ -1,10 +1,9 @@
 -- A node list keeps what its positions are when nodes are put at its end.
-use Rattle.std.proofs.Common.{◌≡◌, ℕ, zero, suc, ◌+◌, ◌<◌, true, ◌&&◌, List, [], ◌∷◌, ◌++◌, length, map, get_or, take, drop, Some, nat_lt, refl, ap, sym, ◌∙◌, subst, arith, length-append}
+use Rattle.std.proofs.Common.{◌≡◌, ℕ, zero, suc, ◌+◌, ◌<◌, ◌≤◌, true, ◌&&◌, List, [], ◌∷◌, ◌++◌, length, map, get_or, take, drop, Some, nat_lt, refl, ap, sym, ◌∙◌, subst, arith, length-append}
 use Rattle.std.specs.Prelude.{slice_get, IsTrue}
 use Rattle.std.specs.List.{list_all}
 use Rattle.std.specs.Cmp.Lexicographic.{same_text}
-use Rattle.std.proofs.lemmas.Bool.{and_parts, and_from, ltb-true, eqb-true, false≢true}
-use Rattle.std.proofs.lemmas.Bool.Decides.{Decides-int_eq}
+use Rattle.std.proofs.lemmas.Bool.{and_parts, and_from, ltb-true, lt-ltb, false≢true}
 use Rattle.std.proofs.lemmas.List.{take-append-drop}
 use Rattle.std.proofs.lemmas.Option.{slice_get-get_or}
 use Rattle.ct_word.specs.declared.values.Value.{Value}
@@ -21,6 +20,8 @@ use Rattle.ct_rewrite.specs.contracts.answer.NodePartialEq.TheImpl as node_eq
 use Rattle.ct_word.specs.contracts.values.TermPartialEq.TheImpl as term_eq
 use Rattle.ct_word.specs.contracts.values.NullPartialEq.TheImpl as null_eq
 use Rattle.ct_word.specs.contracts.values.ValuePartialEq.TheImpl as value_eq
+use Rattle.ct_word.proofs.Alike.{term_decides}
+use Rattle.ct_word.proofs.Items.{all_implied}
 use Rattle.ct_rewrite.specs.Nodes.{nth, condition_of_node, read_nodes, node_value, node_condition, stands_over, are_ordered_from, IsOrdered, same_node}
 
 pub read-append : (cs : List Condition) (ns ms : List Node) → read_nodes cs (ns ++ ms) ≡ read_nodes (read_nodes cs ns) ms
@@ -63,6 +64,9 @@ read_at cs (m ∷ ns) zero n e =
 read_at cs (m ∷ ns) (suc k) n e =
     let j : length cs + suc k ≡ length (cs ++ condition_of_node cs m ∷ []) + k = omega (arith, length-append cs (condition_of_node cs m ∷ [])) in
     ap (λ i. nth (read_nodes (cs ++ condition_of_node cs m ∷ []) ns) i) j ∙ read_at (cs ++ condition_of_node cs m ∷ []) ns k n e
+
+pub below_more : (m n : ℕ) (ks : List ℕ) → m ≤ n → IsTrue (list_all (λ c. nat_lt c m) ks) → IsTrue (list_all (λ c. nat_lt c n) ks)
+below_more m n ks le e = all_implied (λ c. nat_lt c m) (λ c. nat_lt c n) (λ c f. lt-ltb c n (omega (arith, le, ltb-true c m f))) ks e
 
 children_agree : (cs ds : List Condition) (k : ℕ) → ((c : ℕ) → c < k → nth cs c ≡ nth ds c)
     → (ks : List ℕ) → IsTrue (list_all (λ c. nat_lt c k) ks) → map (nth cs) ks ≡ map (nth ds) ks
@@ -118,29 +122,12 @@ ordered_more j (m ∷ ns) n e f =
 pub ordered_push : (ns : List Node) (n : Node) → IsOrdered ns → IsTrue (stands_over (length ns) n) → IsOrdered (ns ++ n ∷ [])
 ordered_push ns n e f = let z : length ns ≡ 0 + length ns = omega arith in ordered_more 0 ns n e (subst (λ i. IsTrue (stands_over i n)) z f)
 
-pub same_value_is : (a b : Value) → word.same_value a b ≡ true → a ≡ b
-same_value_is (val.Int a) (val.Int b) e = ap val.Int ((Decides-int_eq a b).0 e)
-same_value_is (val.Text a) (val.Text b) e = ap val.Text (same_text a b (sym e))
-same_value_is (val.Other a) (val.Other b) e = ap val.Other (eqb-true a b e)
-same_value_is _ _ e = absurd (false≢true e)
-
-same_null_is : (a b : Null) → word.same_null a b ≡ true → a ≡ b
-same_null_is (null.Named a) (null.Named b) e = ap null.Named (same_text a b (sym e))
-same_null_is (null.Fresh s m) (null.Fresh t n) e = let p = and_parts _ _ e in λ i. null.Fresh (eqb-true s t p.0 i) (eqb-true m n p.1 i)
-same_null_is _ _ e = absurd (false≢true e)
-
-pub same_term_is : (a b : Term) → word.same_term a b ≡ true → a ≡ b
-same_term_is (term.Column a) (term.Column b) e = ap term.Column (eqb-true a b e)
-same_term_is (term.Null a) (term.Null b) e = ap term.Null (same_null_is a b e)
-same_term_is (term.Value a) (term.Value b) e = ap term.Value (same_value_is a b e)
-same_term_is _ _ e = absurd (false≢true e)
-
 -- nodes that are written alike are one
 pub same_node_is : (a b : Node) → same_node a b ≡ true → a ≡ b
 same_node_is node.True node.True e = refl
 same_node_is node.False node.False e = refl
-same_node_is (node.Eq s t) (node.Eq u w) e = let p = and_parts _ _ e in λ i. node.Eq (same_term_is s u p.0 i) (same_term_is t w p.1 i)
-same_node_is (node.Ne s t) (node.Ne u w) e = let p = and_parts _ _ e in λ i. node.Ne (same_term_is s u p.0 i) (same_term_is t w p.1 i)
+same_node_is (node.Eq s t) (node.Eq u w) e = let p = and_parts _ _ e in λ i. node.Eq ((term_decides s u).0 p.0 i) ((term_decides t w).0 p.1 i)
+same_node_is (node.Ne s t) (node.Ne u w) e = let p = and_parts _ _ e in λ i. node.Ne ((term_decides s u).0 p.0 i) ((term_decides t w).0 p.1 i)
 same_node_is (node.And ks) (node.And ls) e = ap node.And (same_text ks ls (sym e))
 same_node_is (node.Or ks) (node.Or ls) e = ap node.Or (same_text ks ls (sym e))
 same_node_is _ _ e = absurd (false≢true e)

@@ -8,8 +8,8 @@ use Rattle.std.proofs.lemmas.List.{length-map}
 use Rattle.std.proofs.lemmas.List.Sums.{sum_by-cons}
 use Rattle.ct_rewrite.specs.declared.answer.Node.{Node}
 use Rattle.ct_rewrite.specs.declared.answer.Node.TheVariants as node
-use Rattle.ct_rewrite.specs.declared.builder.Connective.{Connective}
-use Rattle.ct_rewrite.specs.declared.builder.Connective.TheVariants as connective
+use Rattle.ct_word.specs.declared.connectives.Connective.{Connective}
+use Rattle.ct_word.specs.declared.connectives.Connective.TheVariants as connective
 use Rattle.ct_rewrite.specs.Nodes.{children_of}
 use Rattle.ct_rewrite.specs.Building.{joint_node}
 use Rattle.ct_rewrite.specs.Joining.{HasNoMoreThan}
@@ -34,11 +34,6 @@ moved_proper ps node.True e d = e
 moved_proper ps node.False e d = e
 moved_proper ps (node.Eq s t) e d = e
 moved_proper ps (node.Ne s t) e d = e
-
--- what holds of each proper node holds of all of them
-pub all_weaker : (test : Node → Bool) → ((n : Node) → IsTrue (is_proper n) → IsTrue (test n)) → (ns : List Node) → IsTrue (list_all is_proper ns) → IsTrue (list_all test ns)
-all_weaker test f [] e = refl
-all_weaker test f (n ∷ ns) e = let p = and_parts (is_proper n) (list_all is_proper ns) e in and_from _ _ (f n p.0) (all_weaker test f ns p.1)
 
 pub children_within : (n : Node) → IsTrue (is_proper n) → IsTrue (are_children_within n)
 children_within n e = (and_parts _ _ (and_parts _ (is_unsettled n) (and_parts _ (are_children_distinct n) e).0).0).0

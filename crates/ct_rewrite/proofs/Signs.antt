@@ -5,11 +5,13 @@ use Rattle.ct_word.specs.declared.values.Term.{Term}
 use Rattle.ct_word.specs.Value.{World}
 use Rattle.ct_word.specs.Condition.{Condition, Same, Not, holds, SameTruth}
 use Rattle.ct_rewrite.specs.declared.answer.Node.{Node}
-use Rattle.ct_rewrite.specs.declared.builder.Connective.{Connective}
-use Rattle.ct_rewrite.specs.declared.builder.Connective.TheVariants as connective
+use Rattle.ct_word.specs.declared.connectives.Connective.{Connective}
+use Rattle.ct_word.specs.declared.connectives.Connective.TheVariants as connective
 use Rattle.ct_rewrite.specs.declared.forms.Form.{Form}
 use Rattle.ct_rewrite.specs.Nodes.{node_condition}
-use Rattle.ct_rewrite.specs.Building.{Grows, Says, literal, joined, dual}
+use Rattle.ct_rewrite.specs.Building.{Grows, Says, literal}
+use Rattle.ct_word.specs.Connective.{joined, join, dual}
+use Rattle.ct_word.proofs.Joins.{joined_holds, denied_join}
 use Rattle.ct_rewrite.specs.Signs.{IsForm}
 use Rattle.ct_rewrite.specs.Sizes.{Fits}
 use Rattle.ct_rewrite.proofs.Nodes.{condition_stays}
@@ -77,20 +79,10 @@ form_is ns ms c k m g h i e f = record { plus = still_says ns ms k c g h; minus 
 
 joined_truth : (j : Connective) (a b c d : Condition) (v : World) (row : List Value) → holds v row a ≡ holds v row c → holds v row b ≡ holds v row d
     → holds v row (joined j a b) ≡ holds v row (joined j c d)
-joined_truth connective.And a b c d v row e f = λ i. e i && (f i && true)
-joined_truth connective.Or a b c d v row e f = λ i. e i || (f i || false)
+joined_truth j a b c d v row e f = joined_holds j v row a b ∙ (λ i. join j (e i) (f i)) ∙ sym (joined_holds j v row c d)
 
 de_morgan : (j : Connective) (c d : Condition) → SameTruth (joined (dual j) (Not c) (Not d)) (Not (joined j c d))
-de_morgan connective.And c d v row = by (holds v row c) (holds v row d) where
-  by : (a b : Bool) → (not a || (not b || false)) ≡ not (a && (b && true))
-  by true true = refl
-  by true false = refl
-  by false b = refl
-de_morgan connective.Or c d v row = by (holds v row c) (holds v row d) where
-  by : (a b : Bool) → (not a && (not b && true)) ≡ not (a || (b || false))
-  by true b = refl
-  by false true = refl
-  by false false = refl
+de_morgan j c d v row = joined_holds (dual j) v row (Not c) (Not d) ∙ sym (denied_join j (holds v row c) (holds v row d)) ∙ ap not (sym (joined_holds j v row c d))
 
 -- a denial has the bounds of what it denies
 fits_denied : (form : Condition) (j : Connective) (c d : Condition) → Fits form (joined (dual j) c d) → Fits form (joined j c d)

@@ -5,17 +5,18 @@ ghost use Rattle.std.specs.List.{AllByRecursion};
 ghost use Rattle.ct_word.specs.declared.kinds.Class.TheVariants as class;
 ghost use Rattle.ct_word.specs.WellFormed.{IsWellFormed, is_place_of};
 ghost use Rattle.ct_word.specs.Reading.{condition_at, term_at};
+ghost use Rattle.ct_word.specs.Connective.{joined};
 ghost use Rattle.ct_word.specs.Condition.{Condition, Same, Not};
 ghost use Rattle.ct_rewrite.specs.declared.answer.Node.{Node};
-ghost use Rattle.ct_rewrite.specs.Building.{Grows, literal, joined};
+ghost use Rattle.ct_rewrite.specs.Building.{Grows, literal};
 ghost use Rattle.ct_rewrite.specs.Shape.{parts_at};
 ghost use Rattle.ct_rewrite.specs.Below.{has, HasAt, IsClosedFrom};
 ghost use Rattle.ct_rewrite.specs.Signs.{IsForm, IsFormAt, IsPlaced};
 
 use crate::below::first_from;
-use crate::builder::{Builder, Connective};
+use crate::builder::Builder;
 use crate::shape::{Shape, shape_at};
-use ct_word::{Memory, term_at};
+use ct_word::{Connective, Memory, term_at};
 use std::alloc::Global;
 use std::collections::{BTreeMap, BTreeSet};
 

@@ -4,8 +4,7 @@ ghost use Rattle.std.specs.Prelude.{◌≡◌, ◌<◌, length};
 ghost use Rattle.ct_rewrite.specs.Shape.{shape_at};
 
 use crate::below::{Graph, add};
-use crate::builder::Connective;
-use ct_word::{Kind, Memory, kind, left, right};
+use ct_word::{Connective, Kind, Memory, kind, left, right};
 use std::collections::BTreeSet;
 
 /// A condition over earlier places of a log.

@@ -1,11 +1,13 @@
 use Rattle.std.proofs.Common.{◌∙◌, refl}
 use Rattle.std.proofs.lemmas.Result.{IfOk-weaker}
+use Rattle.ct_word.proofs.Items.{all_implied}
+use Rattle.ct_rewrite.specs.Rules.{is_proper}
 use Rattle.ct_rewrite.specs.Below.{has}
 use Rattle.ct_rewrite.specs.Signs.{IsFormAt}
 use Rattle.ct_rewrite.proofs.Shaped.{conditions_downward}
 use Rattle.ct_rewrite.proofs.Closing.{there_have, all_have}
 use Rattle.ct_rewrite.proofs.Conditions.{roots_placed, normal_truth, normal_wide, normal_deep, kept_placed}
-use Rattle.ct_rewrite.proofs.Rules.{all_weaker, children_within, children_distinct, sides_in_order, unsettled}
+use Rattle.ct_rewrite.proofs.Rules.{children_within, children_distinct, sides_in_order, unsettled}
 use Rattle.ct_rewrite.proofs.printed.normal.Goals as goal
 
 pub below-requires-clause-downward : goal.below-requires-clause-downward
@@ -50,13 +52,13 @@ pub returns-clause-placed : goal.returns-clause-placed
 returns-clause-placed c = IfOk-weaker c.kept.result _ _ (λ n. kept_placed _ n.nodes n.roots _) c.kept.ensures.kept
 
 pub returns-clause-children : goal.returns-clause-children
-returns-clause-children c = IfOk-weaker c.kept.result _ _ (λ n. all_weaker _ children_within n.nodes) c.kept.ensures.proper
+returns-clause-children c = IfOk-weaker c.kept.result _ _ (λ n. all_implied is_proper _ children_within n.nodes) c.kept.ensures.proper
 
 pub returns-clause-children_distinct : goal.returns-clause-children_distinct
-returns-clause-children_distinct c = IfOk-weaker c.kept.result _ _ (λ n. all_weaker _ children_distinct n.nodes) c.kept.ensures.proper
+returns-clause-children_distinct c = IfOk-weaker c.kept.result _ _ (λ n. all_implied is_proper _ children_distinct n.nodes) c.kept.ensures.proper
 
 pub returns-clause-sides : goal.returns-clause-sides
-returns-clause-sides c = IfOk-weaker c.kept.result _ _ (λ n. all_weaker _ sides_in_order n.nodes) c.kept.ensures.proper
+returns-clause-sides c = IfOk-weaker c.kept.result _ _ (λ n. all_implied is_proper _ sides_in_order n.nodes) c.kept.ensures.proper
 
 pub returns-clause-unsettled : goal.returns-clause-unsettled
-returns-clause-unsettled c = IfOk-weaker c.kept.result _ _ (λ n. all_weaker _ unsettled n.nodes) c.kept.ensures.proper
+returns-clause-unsettled c = IfOk-weaker c.kept.result _ _ (λ n. all_implied is_proper _ unsettled n.nodes) c.kept.ensures.proper
