@@ -9,4 +9,4 @@ pub mod Joining
 pub mod Order
 pub mod Tidy
 pub mod Rules
-pub mod Marks
+pub mod Moving
