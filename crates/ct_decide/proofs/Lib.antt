@@ -1,4 +1,3 @@
-pub mod Columns
 pub mod Steps
 pub mod Named
 pub mod Accepted

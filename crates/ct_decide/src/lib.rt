@@ -9,8 +9,6 @@
 
 mod deciding;
 mod error;
-#[cfg(test)]
-mod tests;
 mod translating;
 
 pub use deciding::{Decision, decide};

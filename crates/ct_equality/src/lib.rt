@@ -13,8 +13,6 @@ mod paths;
 mod places;
 mod reading;
 mod terms;
-#[cfg(test)]
-mod tests;
 mod values;
 
 pub use closing::{Closed, close};

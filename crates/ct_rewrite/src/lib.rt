@@ -15,8 +15,6 @@ mod order;
 mod printed;
 mod reading;
 mod terms;
-#[cfg(test)]
-mod tests;
 
 pub use answer::{AnswerRow, Node, PossibleRow};
 pub use form::Normal;

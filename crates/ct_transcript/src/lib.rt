@@ -16,6 +16,3 @@ mod transcript;
 pub use ct_rewrite::{AnswerRow, Change, Commit, Node};
 pub use reply::{Answer, Refusal, Reply, SessionLog};
 pub use transcript::{Transcript, lines};
-
-#[cfg(test)]
-mod tests;

@@ -9,8 +9,6 @@ mod compared;
 mod kinds;
 mod lists;
 mod memory;
-#[cfg(test)]
-mod tests;
 mod texts;
 mod values;
 mod words;
