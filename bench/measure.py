@@ -69,11 +69,11 @@ def built_tests(crate):
 
 
 def calls(program, test, function):
-    """Returns the instructions of each call of the function in a test, with all that it calls, in order."""
+    """Returns the instructions of each call of the function in a test, as module::test, with all that it calls, in order."""
     with tempfile.TemporaryDirectory() as room:
         counts = os.path.join(room, "counts")
         words = ["valgrind", "--tool=callgrind", f"--callgrind-out-file={counts}"]
-        words += [f"--toggle-collect={function}", f"--dump-after={function}", program, f"tests::{test}"]
+        words += [f"--toggle-collect={function}", f"--dump-after={function}", program, test]
         ran = subprocess.run(words, cwd=room, stdout=subprocess.PIPE, stderr=subprocess.STDOUT, check=False)
         if ran.returncode:
             sys.exit(f"{test} did not pass under valgrind:\n{ran.stdout.decode('utf-8', 'replace')}")

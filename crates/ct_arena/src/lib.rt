@@ -14,8 +14,6 @@ mod logs;
 mod passes;
 mod sites;
 mod tally;
-#[cfg(test)]
-mod tests;
 
 pub use arenas::{Arena, Blank};
 pub use full::Full;

@@ -12,8 +12,6 @@ mod marks;
 mod paths;
 mod places;
 mod propagation;
-#[cfg(test)]
-mod tests;
 
 pub use checking::{check, widest};
 pub use marks::Marks;

@@ -14,8 +14,6 @@ mod laws;
 mod marks;
 mod numbers;
 mod paths;
-#[cfg(test)]
-mod tests;
 
 pub use encoding::{Encoded, encode};
 pub use error::CnfError;

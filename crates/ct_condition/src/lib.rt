@@ -10,12 +10,8 @@ mod interner;
 mod packed;
 mod predicates;
 mod terms;
-#[cfg(test)]
-mod tests;
 mod texts;
 mod valued;
-#[cfg(test)]
-mod valued_tests;
 mod worlds;
 
 pub use conditions::{all, and, eq, not, or};

@@ -10,8 +10,6 @@
 mod deciding;
 mod error;
 mod needed;
-#[cfg(test)]
-mod tests;
 mod translating;
 
 pub use deciding::{Decision, decide};

@@ -12,8 +12,6 @@ mod closing;
 mod paths;
 mod places;
 mod terms;
-#[cfg(test)]
-mod tests;
 mod values;
 
 pub use closing::{Closed, close};

@@ -3,8 +3,6 @@
 
 mod changes;
 mod insertion;
-#[cfg(test)]
-mod tests;
 
 pub use changes::{create, no_changes};
 pub use insertion::insert;

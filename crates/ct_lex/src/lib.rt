@@ -9,8 +9,6 @@ mod front;
 mod lexing;
 mod scan;
 mod splitting;
-#[cfg(test)]
-mod tests;
 mod token;
 
 pub use lexing::tokens;

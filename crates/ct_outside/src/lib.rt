@@ -12,8 +12,6 @@ mod mem_sink;
 mod runtime;
 mod scripts;
 mod sinks;
-#[cfg(test)]
-mod tests;
 
 pub use drive::{Unread, read_all, write_all};
 pub use gates::{Gate, NoGate};

@@ -14,8 +14,6 @@ mod rows;
 mod statements;
 mod tables;
 mod terms;
-#[cfg(test)]
-mod tests;
 mod tree;
 
 pub use boxed::Boxed;

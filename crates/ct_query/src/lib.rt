@@ -12,8 +12,6 @@ mod query;
 mod reading;
 mod schema;
 mod sizing;
-#[cfg(test)]
-mod tests;
 mod theorems;
 mod weighing;
 

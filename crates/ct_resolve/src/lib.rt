@@ -10,8 +10,6 @@ mod rows;
 mod selects;
 mod statements;
 mod tables;
-#[cfg(test)]
-mod tests;
 
 pub use error::ResolveError;
 pub use resolving::resolve;

@@ -16,8 +16,6 @@ mod order;
 mod printed;
 mod shape;
 mod terms;
-#[cfg(test)]
-mod tests;
 
 pub use answer::{AnswerRow, CertainRow, Node, PossibleRow};
 pub use form::Normal;

@@ -12,8 +12,6 @@ mod resolve;
 mod scan;
 mod search;
 mod solver;
-#[cfg(test)]
-mod tests;
 mod verdict;
 
 pub use ct_derivation::Cnf;

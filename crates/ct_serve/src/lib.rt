@@ -4,8 +4,6 @@
 mod driving;
 mod ending;
 mod serving;
-#[cfg(test)]
-mod tests;
 
 pub use driving::run;
 pub use ending::{Run, Status};

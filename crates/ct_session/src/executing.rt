@@ -74,9 +74,10 @@ fn perform<N: Site>(
             Action::InsertRows {
                 name,
                 rows,
-                pred: _always,
+                pred: always,
             },
         ) => {
+            drop(always);
             let offer = offer_rows(alloc, arena, pass, tables, history, fresh, name, rows)?;
             Ok(Prepared::Commit(offer))
         }
@@ -85,7 +86,9 @@ fn perform<N: Site>(
             columns,
             query,
         } => {
-            match answer_query(alloc, arena, pass, tables, history, columns, &query) {
+            let answered = answer_query(alloc, arena, pass, tables, history, columns, &query);
+            drop(query);
+            match answered {
                 Ok(answer) => Ok(Prepared::Answer(answer)),
                 Err(why) => Err(why),
             }
@@ -121,6 +124,7 @@ fn prepare_statement<N: Site>(
         Err(e) => return Err(named(e)),
     };
     if !is_built(statement) {
+        drop(resolved);
         return Err(Refusal::NotYet);
     }
     match perform(alloc, arena, pass, tables, history, fresh, resolved) {
@@ -152,7 +156,12 @@ fn prepare<N: Site>(
 {
     match read(alloc, text) {
         Ok(statement) => {
-            prepare_statement(alloc, arena, pass, tables, history, fresh, &statement)
+            let prepared = prepare_statement(
+                alloc, arena, pass, tables, history, fresh, &statement,
+            );
+            // By a call, since a tree that is let go at the end of its scope is proved variant by variant.
+            drop(statement);
+            prepared
         }
         Err(why) => Err(why),
     }

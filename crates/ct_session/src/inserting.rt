@@ -25,9 +25,6 @@ use ct_transcript::Refusal;
 use ct_word::{List, Memory, Null, Term, Text};
 use std::alloc::Global;
 
-#[cfg(test)]
-mod tests;
-
 /// The row of these terms, under the word true.
 ///
 /// # Errors

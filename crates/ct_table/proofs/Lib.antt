@@ -1,5 +1,4 @@
 pub mod Reaching
-pub mod Columns
 pub mod Growing
 pub mod Denoting
 pub mod Selecting

@@ -9,16 +9,12 @@ mod insertion;
 mod intersection;
 mod matching;
 mod merging;
-#[cfg(test)]
-mod operator_tests;
 mod placing;
 mod products;
 mod projection;
 mod rows;
 mod selection;
 mod table;
-#[cfg(test)]
-mod tests;
 mod unions;
 
 pub use ct_word::CRow;

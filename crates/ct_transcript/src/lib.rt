@@ -16,6 +16,3 @@ mod transcript;
 pub use ct_rewrite::{AnswerRow, CertainRow, Change, Commit, Node, PossibleRow};
 pub use reply::{Answer, Refusal, Reply, SessionLog};
 pub use transcript::{Transcript, lines};
-
-#[cfg(test)]
-mod tests;

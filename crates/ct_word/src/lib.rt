@@ -12,8 +12,6 @@ mod lists;
 mod memory;
 mod opening;
 mod reading;
-#[cfg(test)]
-mod tests;
 mod texts;
 mod values;
 mod words;

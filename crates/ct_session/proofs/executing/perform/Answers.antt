@@ -49,7 +49,7 @@ returns-in-Act-InsertRows-clause-ok g c =
 pub returns-in-Ok-clause-ok : goal.returns-in-Ok-clause-ok
 returns-in-Ok-clause-ok g c =
     let h = plain_history c.args.history.now in
-    let words = c.answer_query.new.pass.words in
+    let words = c.answer_query-answered.new.pass.words in
     let answer = c.in-Ok.answer in
     subst (λ r. IsPrepared h words c.args.fresh (statement_of r) (prepared.Answer answer)) (sym c.in-Ask.is)
     (subst (λ k. IsPrepared h words c.args.fresh (plain.Asks k c.in-Ask.columns (query_of c.in-Ask.query)) (prepared.Answer answer))
@@ -59,7 +59,7 @@ returns-in-Ok-clause-ok g c =
 pub returns-in-Ask-clause-err : goal.returns-in-Ask-clause-err
 returns-in-Ask-clause-err g c =
     let h = plain_history c.args.history.now in
-    let words = c.answer_query.new.pass.words in
+    let words = c.answer_query-answered.new.pass.words in
     subst (λ r. IsUnmet h g.N.Site.log.cap words (statement_of r) c.in-Err.why) (sym c.in-Ask.is)
     (subst (λ k. IsUnmet h g.N.Site.log.cap words (plain.Asks k c.in-Ask.columns (query_of c.in-Ask.query)) c.in-Err.why)
     (sym (asks_rows (subst (λ r. IsPlainBuilt (statement_of r)) c.in-Ask.is c.requires.built)))

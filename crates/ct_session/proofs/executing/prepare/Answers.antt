@@ -6,13 +6,13 @@ use Rattle.ct_session.proofs.executing.prepare.Goals as goal
 
 pub returns-in-Ok-clause-ok : goal.returns-in-Ok-clause-ok
 returns-in-Ok-clause-ok g c =
-    ok_on c.prepare_statement.result _ _ (λ p prepared. record { statement = c.in-Ok.statement; reads = c.in-Ok.ensures.ok; prepared = prepared })
-    c.prepare_statement.ensures.ok
+    ok_on c.prepare_statement-prepared.result _ _ (λ p prepared. record { statement = c.in-Ok.statement; reads = c.in-Ok.ensures.ok; prepared = prepared })
+    c.prepare_statement-prepared.ensures.ok
 
 pub returns-in-Ok-clause-err : goal.returns-in-Ok-clause-err
 returns-in-Ok-clause-err g c =
-    err_on c.prepare_statement.result _ _ (λ why r. refused c.in-Ok.statement why c.in-Ok.ensures.ok r)
-    c.prepare_statement.ensures.err
+    err_on c.prepare_statement-prepared.result _ _ (λ why r. refused c.in-Ok.statement why c.in-Ok.ensures.ok r)
+    c.prepare_statement-prepared.ensures.err
 
 pub returns-in-Err-clause-err : goal.returns-in-Err-clause-err
 returns-in-Err-clause-err g c =

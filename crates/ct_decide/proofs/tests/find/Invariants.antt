@@ -1,6 +1,0 @@
-use Rattle.std.proofs.Common.{◌≡◌, take, false, nat_eq}
-use Rattle.std.specs.List.{list_any}
-use Rattle.ct_decide.proofs.tests.find.Given as goal
-
-abbrev pub invariant-loop-k : goal.invariant-loop-k
-invariant-loop-k l = list_any (nat_eq l.word) (take l.k l.words) ≡ false

@@ -1,8 +1,0 @@
-use Rattle.std.proofs.Common.{◌≡◌, take, false}
-use Rattle.std.specs.List.{list_any}
-use Rattle.ct_word.specs.Word.{kind_of}
-use Rattle.ct_equality.specs.Assigned.{is_column_kind}
-use Rattle.ct_decide.proofs.tests.has_column.Given as goal
-
-abbrev pub invariant-loop-word : goal.invariant-loop-word
-invariant-loop-word l = list_any (λ w. is_column_kind (kind_of w)) (take l.word-index l.words) ≡ false

@@ -1,5 +1,0 @@
-use Rattle.ct_word.specs.WellFormed.{IsWellFormed}
-use Rattle.ct_decide.proofs.tests.triangle.Given as goal
-
-abbrev pub invariant-loop-kind : goal.invariant-loop-kind
-invariant-loop-kind l = IsWellFormed l.words.items

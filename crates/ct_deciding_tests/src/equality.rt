@@ -1,0 +1,180 @@
+// Equalities of nulls.
+
+ghost use Rattle.std.specs.Prelude.{◌≡◌, ◌≤◌, IfOk};
+ghost use Rattle.ct_word.specs.declared.kinds.Class.TheVariants as class;
+ghost use Rattle.ct_word.specs.WellFormed.{has_class, IsWellFormed};
+ghost use Rattle.ct_equality.specs.Assigned as assigned;
+
+use ct_derivation::Atom;
+use ct_equality::{Closed, close};
+use ct_samples::add;
+use ct_word::{Class, Kind, Memory, Value, class, kind};
+use std::alloc::{AllocError, Global};
+use std::test::Fail;
+
+fn names_term(kind: Option<Kind>) -> bool
+    ensures { result ≡ has_class kind class.Term }
+{
+    match kind {
+        None => false,
+        Some(kind) => matches!(class(kind), Class::Term),
+    }
+}
+
+fn names_column(kind: Option<Kind>) -> bool
+    ensures { result ≡ assigned.is_column_kind kind }
+{
+    matches!(kind, Some(Kind::Column))
+}
+
+fn is_plain_term(words: &[u64], place: u32) -> bool
+    ensures { result ≡ assigned.is_plain_term words.now place }
+{
+    match words.get(place as usize) {
+        None => false,
+        Some(word) => names_term(kind(*word)) && !names_column(kind(*word)),
+    }
+}
+
+fn is_plain_atom(words: &[u64], atom: &Atom) -> bool
+    ensures { result ≡ assigned.is_plain_atom words.now atom.now }
+{
+    match atom {
+        Atom::Node(_) => true,
+        Atom::Same(s, t) => is_plain_term(words, *s) && is_plain_term(words, *t) && s < t,
+    }
+}
+
+/// Whether the atoms are as `close` asks.
+#[tactic(auto, unfolding(ct_equality::specs::Assigned::are_plain))]
+fn are_plain(words: &[u64], atoms: &[Atom]) -> bool
+    ensures { result ≡ assigned.are_plain words.now atoms.now }
+{
+    for atom in atoms {
+        if !is_plain_atom(words, atom) {
+            return false;
+        }
+    }
+    true
+}
+
+fn nulls(alloc: Global, count: u32) -> Result<Vec<u64>, AllocError>
+    requires { count ≤ 1000 }
+    ensures { IfOk result (λ words. IsWellFormed words.items) }
+{
+    let mut words = Vec::new(alloc);
+    for k in 0..count {
+        add(&mut words, Kind::FreshNull, 1, k + 1)?;
+    }
+    Ok(words)
+}
+
+fn push_pairs(atoms: &mut Vec<Atom>, t: u32) -> Result<(), AllocError> {
+    for s in 0..t {
+        atoms.push(Atom::Same(s, t))?;
+    }
+    Ok(())
+}
+
+/// The equality of each null with each earlier one.
+fn all_pairs(alloc: Global, count: u32) -> Result<Vec<Atom>, AllocError> {
+    let mut atoms = Vec::new(alloc);
+    for t in 0..count {
+        push_pairs(&mut atoms, t)?;
+    }
+    Ok(atoms)
+}
+
+/// The equality of each null with the next one.
+fn chain(alloc: Global, count: u32) -> Result<Vec<Atom>, AllocError> {
+    let mut atoms = Vec::new(alloc);
+    for t in 1..count {
+        atoms.push(Atom::Same(t - 1, t))?;
+    }
+    Ok(atoms)
+}
+
+/// The answer for equalities of so many nulls; none where they are no question.
+fn closed(
+    alloc: Global,
+    count: u32,
+    atoms: &[Atom],
+    truth: &[bool],
+) -> Result<Option<Closed>, Memory>
+    requires { count ≤ 1000 }
+{
+    let words = nulls(alloc, count)?;
+    if words.len() > 1000 || atoms.len() != truth.len() || !are_plain(words.as_slice(), atoms) {
+        return Ok(None);
+    }
+    Ok(Some(close(alloc, words.as_slice(), atoms, truth)?))
+}
+
+/// The number of the last null's value.
+fn last_number(answer: &Option<Closed>) -> Option<u32> {
+    let Some(Closed::World(world)) = answer else {
+        return None;
+    };
+    match world.as_slice().last() {
+        Some((_, Value::Other(number))) => Some(*number),
+        _ => None,
+    }
+}
+
+/// The number of terms of a path.
+fn path_length(answer: &Option<Closed>) -> Option<usize> {
+    match answer {
+        Some(Closed::Path(path)) => Some(path.len()),
+        _ => None,
+    }
+}
+
+#[test]
+fn tells_nulls_apart(rt: HostRuntime) -> Result<(), Fail> {
+    let alloc = rt.alloc();
+    for count in [32, 64] {
+        let atoms = all_pairs(alloc, count)?;
+        let truth = vec![in alloc; false; atoms.len()]?;
+        let answer = closed(alloc, count, atoms.as_slice(), truth.as_slice())?;
+        assert_eq!(rt; last_number(&answer), Some(count - 1));
+    }
+    Ok(())
+}
+
+#[test]
+fn takes_nulls_as_one(rt: HostRuntime) -> Result<(), Fail> {
+    let alloc = rt.alloc();
+    for count in [32, 64] {
+        let atoms = all_pairs(alloc, count)?;
+        let truth = vec![in alloc; true; atoms.len()]?;
+        let answer = closed(alloc, count, atoms.as_slice(), truth.as_slice())?;
+        assert_eq!(rt; last_number(&answer), Some(0));
+    }
+    Ok(())
+}
+
+#[test]
+fn goes_along_a_chain(rt: HostRuntime) -> Result<(), Fail> {
+    let alloc = rt.alloc();
+    for count in [32, 64] {
+        let mut atoms = chain(alloc, count)?;
+        let mut truth = vec![in alloc; true; atoms.len()]?;
+        atoms.push(Atom::Same(0, count - 1))?;
+        truth.push(false)?;
+        let answer = closed(alloc, count, atoms.as_slice(), truth.as_slice())?;
+        assert_eq!(rt; path_length(&answer), Some(count as usize));
+    }
+    Ok(())
+}
+
+#[test]
+fn goes_the_shorter_way_round(rt: HostRuntime) -> Result<(), Fail> {
+    let alloc = rt.alloc();
+    let mut atoms = chain(alloc, 5)?;
+    atoms.push(Atom::Same(0, 4))?;
+    atoms.push(Atom::Same(0, 3))?;
+    let truth = [true, true, true, true, true, false];
+    let answer = closed(alloc, 5, atoms.as_slice(), &truth)?;
+    assert_eq!(rt; path_length(&answer), Some(3));
+    Ok(())
+}

@@ -1,0 +1,37 @@
+// Words of a small log, as their hexadecimal digits are printed.
+
+use ct_word::{Class, Kind, List, Null, Term, Text, Value, class, kind, left, pack, right};
+use std::test::Fail;
+
+#[test]
+fn words_of_a_created_table(rt: HostRuntime) -> Result<(), Fail> {
+    let words = [
+        (Kind::True, 0, 0, 0x0a00_0000_0000_0000),
+        (Kind::TextCharacter, 2, 0x74, 0x0200_0000_2000_0074),
+        (Kind::Names, 4, 5, 0x1600_0000_4000_0005),
+        (Kind::Create, 3, 6, 0x1700_0000_3000_0006),
+        (Kind::Commit, 0x4_0000, 9, 0x1d00_4000_0000_0009),
+    ];
+    for (k, a, b, word) in words.iter() {
+        assert_eq!(rt; pack(*k, *a, *b), *word);
+        assert_eq!(rt; kind(*word), Some(*k));
+        assert_eq!(rt; left(*word), *a);
+        assert_eq!(rt; right(*word), *b);
+    }
+    assert_eq!(rt; kind(0), None);
+    assert_eq!(rt; kind(0x1e00_0000_0000_0000), None);
+    assert_eq!(rt; class(Kind::Column), Class::Term);
+    Ok(())
+}
+
+#[test]
+fn copies_are_what_they_copy(rt: HostRuntime) -> Result<(), Fail> {
+    let name = Text::from_str(rt.alloc(), "x")?;
+    let null = Term::Null(Null::Named(name));
+    let copy = null.clone()?;
+    assert!(rt; copy == null);
+    assert!(rt; copy != Term::Value(Value::Other(0)));
+    let texts: Vec<Text> = Vec::new(rt.alloc());
+    assert!(rt; List::from_vec(texts).is_empty());
+    Ok(())
+}
