@@ -15,5 +15,7 @@ pub mod Named
 pub mod Chains
 pub mod Known
 pub mod Placed
-pub mod Worths
+pub mod Values
 pub mod Ops
+pub mod Writes
+pub mod CommitWords

@@ -4,4 +4,6 @@ pub mod Rows
 pub mod Runs
 pub mod Folding
 pub mod Terms
+pub mod Writes
+pub mod CommitWords
 pub mod Worth

@@ -18,6 +18,11 @@ worth_of v _ = worth.Nothing
 abbrev pub HaveWorths : List ℕ → World → List Worth → Type 0
 HaveWorths words v worths = (p : ℕ) → p < length worths → slice_get worths p ≡ Some (worth_of v (slice_get (meanings words) p))
 
+-- each place of these words has its worth
+pub record AreWorths (words : List ℕ) (v : World) (worths : List Worth) : Type 0 where
+  pub count : length worths ≡ length words
+  pub each : HaveWorths words v worths
+
 -- whether this is the truth true
 abbrev pub is_true : Option Worth → Bool
 is_true (Some (worth.Truth b)) = b

@@ -1,6 +1,6 @@
 // Conditions, folded where they can be.
 
-ghost use Rattle.std.specs.Prelude.{◌≡◌, ◌≢◌, ◌≤◌, ◌+◌, ◌<◌, ◌^◌, ◌↔◌, ◌⊎◌, length, min, max, slice_get, All, Contains, IfOk, IsErr, IsNone, IsOk, IsSome, OnErr, IsTrue, Some, false};
+ghost use Rattle.std.specs.Prelude.{◌≡◌, ◌≢◌, ◌≤◌, ◌+◌, ◌<◌, ◌^◌, ◌↔◌, ◌⊎◌, length, min, max, slice_get, All, Contains, IfOk, IsErr, IsNone, IsOk, IsSome, OnErr, IsTrue, Some, false, is_err};
 ghost use mathlib.Core.List.{IsPrefix};
 ghost use Rattle.ct_word.specs.Reading.{IsTerm, by_kind, meanings};
 ghost use Rattle.ct_word.specs.Stands.{StandsAt, TermBelow};
@@ -12,6 +12,7 @@ ghost use Rattle.ct_condition.specs.Folding as spec;
 ghost use Rattle.ct_condition.specs.Folding.{FoldsTo};
 ghost use Rattle.ct_condition.specs.Truth.{HasTruth, equal_at, not_at, and_at, or_at, all_at, ops_at};
 ghost use Rattle.ct_condition.specs.Terms.{TermsFrom, BelowEither, BelowSome};
+ghost use Rattle.ct_condition.specs.Writes.{Writes};
 
 use crate::folding::{folded_and, folded_eq, folded_not, folded_or, literal};
 use crate::interner::Interner;
@@ -38,6 +39,7 @@ fn pair<N: Site, I: Interner<N>>(
     ensures small { IfOk result (λ place. place < 2 ^ 28) }
     ensures terms { IfOk result (λ place. TermsFrom (I.list pass.new) place (λ t. StandsAt (I.list pass.new) place (IsTerm t) ⊎ BelowEither (I.list pass.new) c d t)) }
     ensures longer { IsPrefix (I.list pass.old) (I.list pass.new) }
+    ensures room { length (I.list pass.new) ≤ N.log.cap }
     ensures formed { IsWellFormed (I.list pass.new) }
     ensures full { IsErr result ↔ ((length (I.list pass.new) ≡ N.log.cap) × ¬ Contains (I.list pass.new) (word_of kind (min c d) (max c d))) }
     ensures known { Contains (I.list pass.old) (word_of kind (min c d) (max c d)) → IsOk result × (I.list pass.new ≡ I.list pass.old) × (I.made pass.new ≡ I.made pass.old) }
@@ -69,6 +71,7 @@ pub fn eq<N: Site, I: Interner<N>>(
     ensures terms { IfOk result (λ place. TermsFrom (I.list pass.new) place (BelowEither (I.list pass.old) s t)) }
     ensures ops { IfOk result (λ place. ops_at (I.list pass.new) place ≤ 1) }
     ensures folds { FoldsTo (spec.folded_eq (I.list pass.old) s t) (word_of kind.Equal (min s t) (max s t)) (I.list pass.old) (I.list pass.new) result }
+    ensures writes { Writes I.list I.made I.kept I.lent N.log.cap pass.old pass.new 1 (is_err result) }
     ensures longer { IsPrefix (I.list pass.old) (I.list pass.new) }
     ensures formed { IsWellFormed (I.list pass.new) }
     ensures full { IsErr result ↔ (IsNone (spec.folded_eq (I.list pass.old) s t) × (length (I.list pass.new) ≡ N.log.cap) × ¬ Contains (I.list pass.new) (word_of kind.Equal (min s t) (max s t))) }
@@ -95,6 +98,7 @@ pub fn not<N: Site, I: Interner<N>>(arena: &Arena<N>, pass: &mut I, c: u32) -> R
     ensures terms { IfOk result (λ place. TermsFrom (I.list pass.new) place (TermBelow (I.list pass.old) c)) }
     ensures ops { IfOk result (λ place. ops_at (I.list pass.new) place ≤ ops_at (I.list pass.old) c + 1) }
     ensures folds { FoldsTo (spec.folded_not (I.list pass.old) c) (word_of kind.Not c 0) (I.list pass.old) (I.list pass.new) result }
+    ensures writes { Writes I.list I.made I.kept I.lent N.log.cap pass.old pass.new 1 (is_err result) }
     ensures longer { IsPrefix (I.list pass.old) (I.list pass.new) }
     ensures formed { IsWellFormed (I.list pass.new) }
     ensures full { IsErr result ↔ (IsNone (spec.folded_not (I.list pass.old) c) × (length (I.list pass.new) ≡ N.log.cap) × ¬ Contains (I.list pass.new) (word_of kind.Not c 0)) }
@@ -127,6 +131,7 @@ pub fn and<N: Site, I: Interner<N>>(
     ensures terms { IfOk result (λ place. TermsFrom (I.list pass.new) place (BelowEither (I.list pass.old) c d)) }
     ensures ops { IfOk result (λ place. ops_at (I.list pass.new) place ≤ ops_at (I.list pass.old) c + ops_at (I.list pass.old) d + 1) }
     ensures folds { FoldsTo (spec.folded_and (I.list pass.old) c d) (word_of kind.And (min c d) (max c d)) (I.list pass.old) (I.list pass.new) result }
+    ensures writes { Writes I.list I.made I.kept I.lent N.log.cap pass.old pass.new 1 (is_err result) }
     ensures longer { IsPrefix (I.list pass.old) (I.list pass.new) }
     ensures formed { IsWellFormed (I.list pass.new) }
     ensures full { IsErr result ↔ (IsNone (spec.folded_and (I.list pass.old) c d) × (length (I.list pass.new) ≡ N.log.cap) × ¬ Contains (I.list pass.new) (word_of kind.And (min c d) (max c d))) }
@@ -159,6 +164,7 @@ pub fn or<N: Site, I: Interner<N>>(
     ensures terms { IfOk result (λ place. TermsFrom (I.list pass.new) place (BelowEither (I.list pass.old) c d)) }
     ensures ops { IfOk result (λ place. ops_at (I.list pass.new) place ≤ ops_at (I.list pass.old) c + ops_at (I.list pass.old) d + 1) }
     ensures folds { FoldsTo (spec.folded_or (I.list pass.old) c d) (word_of kind.Or (min c d) (max c d)) (I.list pass.old) (I.list pass.new) result }
+    ensures writes { Writes I.list I.made I.kept I.lent N.log.cap pass.old pass.new 1 (is_err result) }
     ensures longer { IsPrefix (I.list pass.old) (I.list pass.new) }
     ensures formed { IsWellFormed (I.list pass.new) }
     ensures full { IsErr result ↔ (IsNone (spec.folded_or (I.list pass.old) c d) × (length (I.list pass.new) ≡ N.log.cap) × ¬ Contains (I.list pass.new) (word_of kind.Or (min c d) (max c d))) }

@@ -7,8 +7,10 @@
 mod conditions;
 mod folding;
 mod interner;
+mod one_world;
 mod packed;
 mod predicates;
+mod seated;
 mod terms;
 mod texts;
 mod valued;
@@ -16,8 +18,10 @@ mod worlds;
 
 pub use conditions::{all, and, eq, not, or};
 pub use interner::Interner;
+pub use one_world::Worths;
 pub use packed::put;
 pub use predicates::pred;
+pub use seated::Seated;
 pub use terms::term;
 pub use texts::text;
-pub use valued::value_at;
+pub use valued::{value_at, worths};

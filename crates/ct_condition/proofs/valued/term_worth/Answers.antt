@@ -1,7 +1,7 @@
 use Rattle.std.proofs.Common.{◌∙◌, ap}
 use Rattle.std.specs.Prelude.{[]}
 use Rattle.ct_word.specs.Value.{at}
-use Rattle.ct_condition.proofs.Worths.{term_worth}
+use Rattle.ct_condition.proofs.Values.{term_worth}
 use Rattle.ct_condition.proofs.valued.term_worth.Goals as goal
 
 pub returns : goal.returns

@@ -2,7 +2,7 @@ use Rattle.std.proofs.Common.{get_or, sym, ◌∙◌, ap}
 use Rattle.std.proofs.lemmas.Option.{slice_get-get_or}
 use Rattle.ct_condition.specs.declared.valued.Worth.TheVariants as worth
 use Rattle.ct_condition.specs.Worth.{truth_by}
-use Rattle.ct_condition.proofs.Worths.{condition_worth, other_worth, none_worth, term_placed}
+use Rattle.ct_condition.proofs.Values.{condition_worth, other_worth, none_worth, term_placed}
 use Rattle.ct_condition.proofs.valued.worth_at.Goals as goal
 
 pub returns-in_default : goal.returns-in_default

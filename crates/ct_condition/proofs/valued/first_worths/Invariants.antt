@@ -1,6 +1,6 @@
 use Rattle.std.proofs.Common.{◌≡◌, length}
 use Rattle.ct_condition.specs.Worth.{HaveWorths}
-use Rattle.ct_condition.proofs.valued.value_at.Given as goal
+use Rattle.ct_condition.proofs.valued.first_worths.Given as goal
 
 abbrev pub invariant-loop-earlier : goal.invariant-loop-earlier
 invariant-loop-earlier l = record {

@@ -17,7 +17,7 @@ use Rattle.ct_word.proofs.Places.{stands_term, stands_condition}
 use Rattle.ct_word.proofs.Splits.{Split, split_at, formed_at, formed_fields, meaning_at, get_front}
 use Rattle.ct_condition.specs.declared.valued.Worth.{Worth}
 use Rattle.ct_condition.specs.declared.valued.Worth.TheVariants as worth
-use Rattle.ct_condition.specs.Worth.{HaveWorths, are_equal, is_true, truth_by, worth_of}
+use Rattle.ct_condition.specs.Worth.{AreWorths, HaveWorths, are_equal, is_true, truth_by, worth_of}
 
 get_last : {A : Type 0} (xs : List A) (x : A) (k : ℕ) → k ≡ length xs → slice_get (xs ++ x ∷ []) k ≡ Some x
 get_last [] x zero e = refl
@@ -39,6 +39,12 @@ have_more ws v xs x k long have is p lt =
 truth_of : (v : World) (m : Option Meaning) → is_true (Some (worth_of v m)) ≡ holds_at v (as_cond m)
 truth_of v (Some (IsCond c)) = refl
 truth_of v _ = refl
+
+-- where all places have their worths, a condition its truth
+pub worth_holds : (ws : List ℕ) (v : World) (xs : List Worth) (p : ℕ) → AreWorths ws v xs → IsTrue (is_place_of ws class.Cond p) → is_true (slice_get xs p) ≡ holds_at v (condition_at ws p)
+worth_holds ws v xs p are e =
+    let lt = place_within ws class.Cond p e in
+    ap is_true (are.each p (omega (arith, are.count, lt))) ∙ truth_of v (slice_get (meanings ws) p)
 
 -- a field names an earlier place of a class
 record Names (ws : List ℕ) (p : ℕ) (c : Class) (a : ℕ) : Type 0 where
