@@ -87,7 +87,7 @@ none_among : (t : ℕ) (ts : List ℕ) → is_among ts t ≡ false → AllByRecu
 none_among t [] e = tt
 none_among t (y ∷ ts) e = let parts = or_parts (nat_eq t y) (is_among ts t) e in (parts.0, none_among t ts parts.1)
 
-ascends_distinct : (ts : List ℕ) → AreAscending ts → IsDistinct nat_eq ts
+pub ascends_distinct : (ts : List ℕ) → AreAscending ts → IsDistinct nat_eq ts
 unfolding IsDistinct
 ascends_distinct [] a = tt
 ascends_distinct (t ∷ ts) a = (
