@@ -1,17 +1,15 @@
 -- Joining two classes.
-use Rattle.std.proofs.Common.{◌≡◌, ◌≤◌, ℕ, Bool, true, false, not, ◌&&◌, List, Option, Some, None, nat_eq, nat_lt, refl, ap, sym, ◌∙◌, subst, if◌then◌else◌, inl, inr, ◌⊎◌, arith}
+use Rattle.std.proofs.Common.{◌≡◌, ◌≤◌, ℕ, Bool, true, false, not, ◌&&◌, List, Some, None, nat_eq, nat_lt, refl, ap, sym, ◌∙◌, subst, if◌then◌else◌, inl, inr, ◌⊎◌, arith}
 use Rattle.std.specs.Prelude.{slice_get}
-use Rattle.std.proofs.lemmas.Bool.{eqb-true, eq-eqb, ltb-true, ltb-false, false≢true, cases_Bool, both_ways, or_parts, and_parts, and_from}
+use Rattle.std.proofs.lemmas.Bool.{eqb-true, eq-eqb, ltb-true, ltb-false, cases_Bool, both_ways, or_parts, and_parts, and_from}
 use Rattle.std.proofs.Math.Bool.{and-false}
 use Rattle.std.proofs.lemmas.List.{length-map}
 use Rattle.ct_derivation.specs.declared.literals.Atom.{Atom}
 use Rattle.ct_derivation.specs.declared.literals.Atom.TheVariants as atom
-use Rattle.ct_word.specs.declared.kinds.Kind.{Kind}
-use Rattle.ct_word.specs.declared.kinds.Kind.TheVariants as kind
 use Rattle.ct_word.specs.declared.kinds.Class.TheVariants as class
-use Rattle.ct_word.specs.Word.{kind_of}
-use Rattle.ct_word.specs.WellFormed.{is_place_of, is_word_of, has_class}
-use Rattle.ct_derivation.specs.Path.{pair_of, is_constant, is_constant_kind, is_constant_word}
+use Rattle.ct_word.specs.WellFormed.{is_place_of}
+use Rattle.ct_word.proofs.Constants as constants
+use Rattle.ct_derivation.specs.Path.{pair_of, is_constant}
 use Rattle.ct_equality.specs.declared.classes.Member.{Member}
 use Rattle.ct_equality.specs.Members.{is_listed, class_of, moved, merged, in_class}
 use Rattle.ct_equality.specs.Joining.{prefers, clash_of, joined_classes}
@@ -134,16 +132,7 @@ merges_on old mid new a b = record {
 -- a constant is a term
 pub constant_term : (words : List ℕ) (p : ℕ) → is_constant words p ≡ true → is_place_of words class.Term p ≡ true
 unfolding is_constant
-constant_term words p e = by_word (slice_get words p) e where
-  by_kind : (o : Option Kind) → is_constant_kind o ≡ true → has_class o class.Term ≡ true
-  by_kind (Some kind.Number) e = refl
-  by_kind (Some kind.TextConstant) e = refl
-  by_kind (Some kind.OtherValue) e = refl
-  by_kind _ e = absurd (false≢true e)
-
-  by_word : (o : Option ℕ) → is_constant_word o ≡ true → is_word_of o class.Term ≡ true
-  by_word None e = absurd (false≢true e)
-  by_word (Some w) e = by_kind (kind_of w) e
+constant_term words p e = constants.constant_term (slice_get words p) e
 
 module _ (words : List ℕ) (a b : ℕ) where
   pub keeps_same : (ms : List Member) → nat_eq a b ≡ true → joined_classes words a b ms ≡ ms

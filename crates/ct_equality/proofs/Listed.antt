@@ -1,6 +1,7 @@
 -- The terms of a question, and each alone in its class.
 use Rattle.std.proofs.Common.{◌≡◌, ◌≢◌, ◌<◌, ℕ, zero, suc, Bool, true, false, ◌||◌, List, [], ◌∷◌, ◌++◌, length, take, get_or, Option, Some, None, nat_eq, nat_lt, refl, ap, sym, ◌∙◌, subst, if◌then◌else◌, inl, inr, arith}
 use Rattle.std.specs.List.{list_all, IsDistinct, AllByRecursion}
+use Rattle.std.specs.Cmp.{nat_eq_equiv}
 use Rattle.std.proofs.lemmas.Bool.{eqb-true, eq-eqb, ltb-true, ltb-false, false≢true, cases_Bool, both_ways, and_parts, or_cases, or_left, or_right, or_parts}
 use Rattle.ct_derivation.specs.declared.literals.Atom.{Atom}
 use Rattle.ct_derivation.specs.declared.literals.Atom.TheVariants as atom
@@ -9,12 +10,6 @@ use Rattle.ct_equality.specs.Members.{is_listed, class_of, number_of, number_at,
 use Rattle.ct_equality.specs.Assigned.{Joined, here, is_plain_term, is_plain_atom, are_plain}
 use Rattle.ct_equality.proofs.Trees.{among_at}
 use Rattle.ct_equality.specs.Classes.{AreListed, AreClasses}
-
-eq_flip : (a b : ℕ) → nat_eq a b ≡ nat_eq b a
-eq_flip a b = elim (cases_Bool (nat_eq a b)) [
-  | inl t ↦ t ∙ sym (eq-eqb b a (sym (eqb-true a b t)))
-  | inr f ↦ elim (cases_Bool (nat_eq b a)) [ inl t ↦ absurd (both_ways _ f (eq-eqb a b (sym (eqb-true b a t)))) | inr g ↦ f ∙ sym g ]
-]
 
 or_again : (a b : Bool) → (a || (a || b)) ≡ (a || b)
 or_again true b = refl
@@ -46,14 +41,12 @@ among_from ts (atom.Same s t ∷ atoms) p =
     ∙ ap (λ b. b || is_end_of atoms p) (among_inserted t (inserted s ts) p ∙ ap (λ b. nat_eq p t || b) (among_inserted s ts p))
     ∙ shuffle (nat_eq p t) (nat_eq p s) (is_among ts p) (is_end_of atoms p) where
       shuffle : (a b c d : Bool) → ((a || (b || c)) || d) ≡ (c || ((b || a) || d))
-      shuffle true true true d = refl
+      shuffle true b true d = refl
       shuffle true true false d = refl
-      shuffle true false true d = refl
       shuffle true false false d = refl
       shuffle false true true d = refl
       shuffle false true false d = refl
-      shuffle false false true d = refl
-      shuffle false false false d = refl
+      shuffle false false c d = refl
 
 -- the terms are those of the equalities
 pub among_terms : (atoms : List Atom) (p : ℕ) → is_among (terms_of atoms) p ≡ is_end_of atoms p
@@ -94,7 +87,7 @@ none_among : (t : ℕ) (ts : List ℕ) → is_among ts t ≡ false → AllByRecu
 none_among t [] e = tt
 none_among t (y ∷ ts) e = let parts = or_parts (nat_eq t y) (is_among ts t) e in (parts.0, none_among t ts parts.1)
 
-ascends_distinct : (ts : List ℕ) → AreAscending ts → IsDistinct nat_eq ts
+pub ascends_distinct : (ts : List ℕ) → AreAscending ts → IsDistinct nat_eq ts
 unfolding IsDistinct
 ascends_distinct [] a = tt
 ascends_distinct (t ∷ ts) a = (
@@ -158,8 +151,8 @@ same_number_is (Some j) k e = ap Some (eqb-true j k e)
 pub alone_listed : (words ts : List ℕ) (p : ℕ) → is_listed (members_at words ts) p ≡ is_among ts p
 alone_listed words [] p = refl
 alone_listed words (t ∷ ts) p = elim (cases_Bool (nat_eq t p)) [
-  | inl a ↦ let b = sym (eq_flip t p) ∙ a in rw (a, b) refl
-  | inr a ↦ let b = sym (eq_flip t p) ∙ a in rw (a, b) (alone_listed words ts p)
+  | inl a ↦ let b = sym (nat_eq_equiv.symm t p) ∙ a in rw (a, b) refl
+  | inr a ↦ let b = sym (nat_eq_equiv.symm t p) ∙ a in rw (a, b) (alone_listed words ts p)
 ]
 
 pub alone_class : (words ts : List ℕ) (p : ℕ) → class_of (members_at words ts) p ≡ p
@@ -172,8 +165,8 @@ alone_class words (t ∷ ts) p = elim (cases_Bool (nat_eq t p)) [
 pub alone_number : (words ts : List ℕ) (p : ℕ) → number_of (members_at words ts) p ≡ (if is_among ts p then number_at words p else None)
 alone_number words [] p = refl
 alone_number words (t ∷ ts) p = elim (cases_Bool (nat_eq t p)) [
-  | inl a ↦ let b = sym (eq_flip t p) ∙ a in rw (a, b) (ap (number_at words) (eqb-true t p a))
-  | inr a ↦ let b = sym (eq_flip t p) ∙ a in rw (a, b) (alone_number words ts p)
+  | inl a ↦ let b = sym (nat_eq_equiv.symm t p) ∙ a in rw (a, b) (ap (number_at words) (eqb-true t p a))
+  | inr a ↦ let b = sym (nat_eq_equiv.symm t p) ∙ a in rw (a, b) (alone_number words ts p)
 ]
 
 -- a number that is taken is that of one of the terms

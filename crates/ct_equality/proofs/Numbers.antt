@@ -1,17 +1,18 @@
 -- Giving numbers to classes.
-use Rattle.std.proofs.Common.{◌≡◌, ◌≢◌, ◌<◌, ◌≤◌, ◌^◌, ◌+◌, ℕ, zero, suc, true, false, List, [], ◌∷◌, ◌++◌, length, Option, Some, None, nat_eq, refl, ap, sym, ◌∙◌, inl, inr, ◌⊎◌, arith}
-use Rattle.std.specs.List.{IsDistinct}
+use Rattle.std.proofs.Common.{◌≡◌, ◌≢◌, ◌<◌, ◌≤◌, ◌^◌, ◌+◌, ℕ, zero, suc, true, false, List, [], ◌∷◌, ◌++◌, length, map, Option, Some, None, nat_eq, refl, ap, sym, ◌∙◌, inl, inr, ◌⊎◌, arith}
+use Rattle.std.specs.List.{range_with_len}
+use Rattle.std.proofs.lemmas.List.FromFn.{length-range_with_len}
 use Rattle.std.specs.Cmp.{nat_eq_equiv}
 use Rattle.std.proofs.lemmas.Bool.{eqb-true, eq-eqb, false≢true, cases_Bool, cases_eq, both_ways, or_cases, or_left, or_right}
-use Rattle.std.proofs.lemmas.List.{length-map, length-append}
-use Rattle.std.proofs.lemmas.Map.Keys.{IsDistinct-push}
+use Rattle.std.proofs.lemmas.List.{length-map}
 use Rattle.std.proofs.lemmas.Map.Made.{length-le_from_is_member}
 use Rattle.ct_derivation.specs.Path.{is_constant}
 use Rattle.ct_equality.specs.declared.classes.Member.{Member}
-use Rattle.ct_equality.specs.Terms.{is_among}
+use Rattle.ct_equality.specs.Terms.{AreAscending, is_among}
 use Rattle.ct_equality.specs.Members.{is_listed, class_of, number_of, same_number, is_taken, with_number, numbered}
 use Rattle.ct_equality.specs.Valued.{AreNumbered, AreNumberedTo}
 use Rattle.ct_equality.proofs.Members.{listed_numbered, class_numbered, number_numbered, number_new, taken_numbered, taken_by}
+use Rattle.ct_equality.proofs.Listed.{ascends_distinct}
 use Rattle.ct_equality.proofs.Trees.{among_append}
 
 some_none : (k : ℕ) → Some k ≢ None
@@ -127,73 +128,39 @@ module _ (words : List ℕ) (first ms : List Member) (done : List ℕ) (are : Ar
     pub numbered_to : AreNumberedTo words first new (done ++ p ∷ []) (k + 1)
     numbered_to = record { numbers = numbered_more; below = taken_more }
 
--- the numbers below n
-upto : ℕ → List ℕ
-upto zero = []
-upto (suc n) = upto n ++ n ∷ []
-
-length_upto : (n : ℕ) → length (upto n) ≡ n
-unfolding upto
-length_upto zero = refl
-length_upto (suc n) = let e = length_upto n in let l = length-append (upto n) (n ∷ []) in omega (arith, e, l)
-
-upto_below : (n q : ℕ) → is_among (upto n) q ≡ true → q < n
-unfolding upto
-upto_below zero q e = absurd (false≢true e)
-upto_below (suc n) q e = elim (or_cases (is_among (upto n) q) (is_among (n ∷ []) q) (sym (among_append (upto n) (n ∷ []) q) ∙ e)) [
-  | inl a ↦ let l = upto_below n q a in omega (arith, l)
-  | inr b ↦ elim (or_cases (nat_eq q n) false b) [ inl s ↦ let t = eqb-true q n s in omega (arith, t) | inr f ↦ absurd (false≢true f) ]
+-- ascending numbers
+range_within : (a n q : ℕ) → is_among (range_with_len a n) q ≡ true → (a ≤ q) × (q < a + n)
+range_within a zero q e = absurd (false≢true e)
+range_within a (suc n) q e = elim (or_cases (nat_eq q a) (is_among (range_with_len (a + 1) n) q) e) [
+  | inl s ↦ let t = eqb-true q a s in (omega (arith, t), omega (arith, t))
+  | inr r ↦ let f = range_within (a + 1) n q r in let l = f.0 in let m = f.1 in (omega (arith, l), omega (arith, m))
 ]
 
-upto_distinct : (n : ℕ) → IsDistinct nat_eq (upto n)
-unfolding upto IsDistinct
-upto_distinct zero = tt
-upto_distinct (suc n) = IsDistinct-push nat_eq_equiv (upto n) n (upto_distinct n) (elim (cases_Bool (is_among (upto n) n)) [
-  | inl t ↦ let l = upto_below n n t in absurd (omega (arith, l))
-  | inr f ↦ f
-])
+range_ascends : (a n : ℕ) → AreAscending (range_with_len a n)
+range_ascends a zero = tt
+range_ascends a (suc n) = (λ p e. let l = (range_within (a + 1) n p e).0 in omega (arith, l), range_ascends (a + 1) n)
 
--- the numbers that members have
-own_of : Option ℕ → List ℕ → List ℕ
-own_of None ks = ks
-own_of (Some k) ks = k ∷ ks
+-- the number of a member, 0 where it has none
+abbrev number_or_zero : Option ℕ → ℕ
+number_or_zero None = 0
+number_or_zero (Some k) = k
 
-own : List Member → List ℕ
-own [] = []
-own (m ∷ ms) = own_of m.number (own ms)
+number_here : (o : Option ℕ) (k : ℕ) → same_number o k ≡ true → nat_eq k (number_or_zero o) ≡ true
+number_here None k e = absurd (false≢true e)
+number_here (Some j) k e = eq-eqb k j (sym (eqb-true j k e))
 
-own_step : (o : Option ℕ) (ks : List ℕ) (n : ℕ) → length ks ≤ n → length (own_of o ks) ≤ n + 1
-unfolding own_of
-own_step None ks n le = omega (arith, le)
-own_step (Some k) ks n le = omega (arith, le)
-
-own_few : (ms : List Member) → length (own ms) ≤ length ms
-unfolding own
-own_few [] = omega arith
-own_few (m ∷ ms) = let l = own_step m.number (own ms) (length ms) (own_few ms) in omega (arith, l)
-
-own_here : (o : Option ℕ) (ks : List ℕ) (k : ℕ) → same_number o k ≡ true → is_among (own_of o ks) k ≡ true
-unfolding own_of
-own_here None ks k e = absurd (false≢true e)
-own_here (Some j) ks k e = or_left (nat_eq k j) _ (eq-eqb k j (sym (eqb-true j k e)))
-
-own_there : (o : Option ℕ) (ks : List ℕ) (k : ℕ) → is_among ks k ≡ true → is_among (own_of o ks) k ≡ true
-unfolding own_of
-own_there None ks k e = e
-own_there (Some j) ks k e = or_right (nat_eq k j) _ e
-
-taken_own : (ms : List Member) (k : ℕ) → is_taken ms k ≡ true → is_among (own ms) k ≡ true
-unfolding own
-taken_own [] k e = absurd (false≢true e)
-taken_own (m ∷ ms) k e = elim (or_cases (same_number m.number k) (is_taken ms k) e) [
-  | inl s ↦ own_here m.number (own ms) k s
-  | inr t ↦ own_there m.number (own ms) k (taken_own ms k t)
+taken_among : (ms : List Member) (k : ℕ) → is_taken ms k ≡ true → is_among (map (λ m. number_or_zero m.number) ms) k ≡ true
+taken_among [] k e = absurd (false≢true e)
+taken_among (m ∷ ms) k e = elim (or_cases (same_number m.number k) (is_taken ms k) e) [
+  | inl s ↦ or_left (nat_eq k (number_or_zero m.number)) _ (number_here m.number k s)
+  | inr t ↦ or_right (nat_eq k (number_or_zero m.number)) _ (taken_among ms k t)
 ]
 
 -- as many numbers as are all taken, members there are
 pub taken_few : (ms : List Member) (n : ℕ) → ((k : ℕ) → k < n → is_taken ms k ≡ true) → n ≤ length ms
 taken_few ms n all =
-    let le = length-le_from_is_member nat_eq_equiv (upto n) (own ms) (upto_distinct n) (λ q e. taken_own ms q (all q (upto_below n q e))) in
-    let e = length_upto n in
-    let f = own_few ms in
+    let le = length-le_from_is_member nat_eq_equiv (range_with_len 0 n) (map (λ m. number_or_zero m.number) ms) (ascends_distinct (range_with_len 0 n) (range_ascends 0 n))
+    (λ q e. taken_among ms q (all q (let l = (range_within 0 n q e).1 in omega (arith, l)))) in
+    let e = length-range_with_len 0 n in
+    let f = length-map ms (λ m. number_or_zero m.number) in
     omega (arith, le, e, f)

@@ -1,7 +1,7 @@
 -- What the places of constants and nulls stand for.
-use Rattle.std.proofs.Common.{◌≡◌, ◌<◌, ◌^◌, ℕ, Bool, true, false, not, List, [], Option, Some, None, refl, ap, sym, ◌∙◌, subst, arith}
+use Rattle.std.proofs.Common.{◌≡◌, ◌<◌, ◌^◌, ℕ, true, false, not, List, [], Option, Some, None, refl, ap, sym, ◌∙◌, subst, arith}
 use Rattle.std.specs.Prelude.{slice_get}
-use Rattle.std.proofs.lemmas.Bool.{false≢true, and_parts}
+use Rattle.std.proofs.lemmas.Bool.{false≢true, and_parts, not-true}
 use Rattle.ct_word.specs.declared.kinds.Kind.{Kind}
 use Rattle.ct_word.specs.declared.kinds.Kind.TheVariants as kind
 use Rattle.ct_word.specs.declared.kinds.Class.TheVariants as class
@@ -13,6 +13,7 @@ use Rattle.ct_word.specs.Word.{kind_of, left_of, right_of}
 use Rattle.ct_word.specs.Value.{World, at}
 use Rattle.ct_word.specs.Reading.{by_kind, meanings, as_term, term_at}
 use Rattle.ct_word.specs.WellFormed.{has_class, is_word_of, is_place_of, IsWellFormed}
+use Rattle.ct_word.proofs.Constants.{constant_stands}
 use Rattle.ct_word.proofs.Splits.{meaning_at, some-injective}
 use Rattle.ct_derivation.specs.Path.{is_constant, is_constant_kind, is_constant_word}
 use Rattle.ct_equality.specs.Members.{number_by, number_in, number_at}
@@ -22,8 +23,7 @@ use Rattle.ct_equality.specs.Valued.{is_value, value_in}
 -- a value stands for itself
 pub value_there : (v : World) (t : Term) → is_value t ≡ true → at v [] t ≡ value_in t
 value_there v (term.Value x) e = refl
-value_there v (term.Column k) e = absurd (false≢true e)
-value_there v (term.Null n) e = absurd (false≢true e)
+value_there v _ e = absurd (false≢true e)
 
 pub record IsNull (t : Term) : Type 0 where
   pub null : Null
@@ -41,20 +41,10 @@ module _ (words : List ℕ) (wf : IsWellFormed words) where
   term_is : (p w : ℕ) → slice_get words p ≡ Some w → term_at words p ≡ read (kind_of w) (left_of w) (right_of w)
   term_is p w there = ap as_term (meaning_at words wf p w there)
 
-  value_by : (o : Option Kind) (a b : ℕ) → is_constant_kind o ≡ true → is_value (read o a b) ≡ true
-  value_by (Some kind.Number) a b e = refl
-  value_by (Some kind.TextConstant) a b e = refl
-  value_by (Some kind.OtherValue) a b e = refl
-  value_by _ a b e = absurd (false≢true e)
-
-  value_at_word : (p : ℕ) (o : Option ℕ) → slice_get words p ≡ o → is_constant_word o ≡ true → is_value (term_at words p) ≡ true
-  value_at_word p None there e = absurd (false≢true e)
-  value_at_word p (Some w) there e = ap is_value (term_is p w there) ∙ value_by (kind_of w) (left_of w) (right_of w) e
-
   -- a constant is a value
   pub constant_value : (p : ℕ) → is_constant words p ≡ true → is_value (term_at words p) ≡ true
   unfolding is_constant
-  constant_value p e = value_at_word p (slice_get words p) refl e
+  constant_value p e = ap is_value (constant_stands words wf [] p e)
 
   left_short : (w : ℕ) → left_of w < 2 ^ 28
   left_short w = omega arith
@@ -80,10 +70,8 @@ module _ (words : List ℕ) (wf : IsWellFormed words) where
   number_value p k e = number_by_word p k (slice_get words p) refl e
 
   other_by : (o : Option Kind) (a b k : ℕ) → is_constant_kind o ≡ true → number_by o a ≡ None → value_in (read o a b) ≡ val.Other k → ⊥
-  other_by (Some kind.Number) a b k c e f = cc
-  other_by (Some kind.TextConstant) a b k c e f = cc
   other_by (Some kind.OtherValue) a b k c e f = cc
-  other_by _ a b k c e f = false≢true c
+  other_by _ a b k c e f = cc
 
   other_by_word : (p k : ℕ) (o : Option ℕ) → slice_get words p ≡ o → is_constant_word o ≡ true → number_in o ≡ None → value_in (term_at words p) ≡ val.Other k → ⊥
   other_by_word p k None there c e f = false≢true c
@@ -107,13 +95,9 @@ module _ (words : List ℕ) (wf : IsWellFormed words) where
   null_by_word p None there t c n = absurd (false≢true t)
   null_by_word p (Some w) there t c n = subst IsNull (sym (term_is p w there)) (null_by (kind_of w) (left_of w) (right_of w) t c n)
 
-  no_column : (b : Bool) → not b ≡ true → b ≡ false
-  no_column true e = absurd (false≢true e)
-  no_column false e = refl
-
   -- a term that is neither a constant nor a column is a null
   pub null_there : (p : ℕ) → is_plain_term words p ≡ true → is_constant words p ≡ false → IsNull (term_at words p)
   unfolding is_constant
   null_there p plain n =
       let parts = and_parts (is_place_of words class.Term p) (not (is_column_word (slice_get words p))) plain in
-      null_by_word p (slice_get words p) refl parts.0 (no_column _ parts.1) n
+      null_by_word p (slice_get words p) refl parts.0 (not-true _ parts.1) n

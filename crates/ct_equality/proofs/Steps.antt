@@ -2,6 +2,7 @@
 use Rattle.std.proofs.Common.{◌≡◌, ◌≤◌, ◌<◌, ◌+◌, ℕ, zero, suc, Bool, true, false, ◌&&◌, List, [], ◌∷◌, Some, None, nat_eq, nat_lt, refl, ap, sym, ◌∙◌, subst, if◌then◌else◌, inl, inr, arith}
 use Rattle.std.specs.Prelude.{slice_get}
 use Rattle.std.specs.List.{list_all, list_any}
+use Rattle.std.specs.Cmp.{nat_eq_equiv}
 use Rattle.std.proofs.lemmas.Bool.{eqb-true, eq-eqb, ltb-true, lt-ltb, cases_Bool, cases_eq, both_ways, and_parts, and_from, or_left, or_right}
 use Rattle.ct_word.specs.declared.kinds.Class.TheVariants as class
 use Rattle.ct_word.specs.WellFormed.{is_place_of}
@@ -65,10 +66,7 @@ pub pair_below : (s t : ℕ) → s < t → pair_of s t ≡ atom.Same s t
 pair_below s t lt = ap (λ b. if b then atom.Same s t else atom.Same t s) (lt-ltb s t lt)
 
 ne_flip : (a b : ℕ) → nat_eq a b ≡ false → nat_eq b a ≡ false
-ne_flip a b e = elim (cases_Bool (nat_eq b a)) [
-  | inl t ↦ absurd (both_ways _ e (eq-eqb a b (sym (eqb-true b a t))))
-  | inr f ↦ f
-]
+ne_flip a b e = sym (nat_eq_equiv.symm a b) ∙ e
 
 module _ (words : List ℕ) (atoms : List Atom) (truth : List Bool) (ms : List Member) (are : AreClasses words atoms truth ms) where
   -- the members after an equality of s and t

@@ -4,6 +4,7 @@ use Rattle.std.specs.Prelude.{slice_get}
 use Rattle.std.specs.List.{IsDistinct}
 use Rattle.std.specs.Cmp.{nat_eq_equiv}
 use Rattle.std.proofs.lemmas.Bool.{eqb-true, eq-eqb, false≢true, cases_Bool, cases_eq, cases_lt, or_left, or_right, or_cases}
+use Rattle.std.proofs.lemmas.Option.{slice_get_within}
 use Rattle.std.proofs.lemmas.List.{get_or_append_left, get_or-append_right}
 use Rattle.std.proofs.lemmas.List.Folds.{list_any-append}
 use Rattle.std.proofs.lemmas.Map.Keys.{IsDistinct-push}
@@ -185,11 +186,7 @@ module _ (atoms : List Atom) (truth : List Bool) where
       ]
 
   pub place_below : (k : ℕ) (a : Atom) → slice_get atoms k ≡ Some a → k < length atoms
-  place_below k a e = within atoms k a e where
-    within : (xs : List Atom) (i : ℕ) (x : Atom) → slice_get xs i ≡ Some x → i < length xs
-    within [] i x f = cc
-    within (y ∷ xs) zero x f = omega arith
-    within (y ∷ xs) (suc i) x f = let l = within xs i x f in omega (arith, l)
+  place_below k a e = slice_get_within atoms k a e
 
   -- a set of terms that true equalities do not leave has all of a class
   pub spread : (places : List ℕ) → length atoms ≡ length truth → IsExplored atoms truth (length places) places

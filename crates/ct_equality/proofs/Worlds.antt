@@ -98,8 +98,7 @@ module _ (words : List ℕ) (wf : IsWellFormed words) where
             rw s (ap value_of one)
         | inr d ↦ rw d (rest (not_head (λ g. let same : m ≡ n = cc in both_ways _ d ((null_decides m n).1 same))))
       ]
-      by_term rest (term.Column k) f = rest (not_head (λ g. cc))
-      by_term rest (term.Value x) f = rest (not_head (λ g. cc))
+      by_term rest _ f = rest (not_head (λ g. cc))
 
     none_same : (m : Null) (ts : List ℕ) → ((p : ℕ) → is_among ts p ≡ true → term_at words p ≡ term.Null m → ⊥) → AllByRecursion (λ y. same_null m y ≡ false) (map (λ p. p.0) (world_of words ms ts))
     none_same m [] never = tt
@@ -113,8 +112,7 @@ module _ (words : List ℕ) (wf : IsWellFormed words) where
         ],
         rest,
       )
-      by_term rest (term.Column k) f = rest
-      by_term rest (term.Value x) f = rest
+      by_term rest _ f = rest
 
     head_not : (t : ℕ) (ts : List ℕ) → IsDistinct nat_eq (t ∷ ts) → is_among ts t ≡ true → ⊥
     unfolding IsDistinct
@@ -138,16 +136,14 @@ module _ (words : List ℕ) (wf : IsWellFormed words) where
             head_not t ts d (subst (λ r. is_among ts r ≡ true) one e)),
         rest,
       )
-      by_term rest (term.Column k) f = rest
-      by_term rest (term.Value x) f = rest
+      by_term rest _ f = rest
 
     all_values : (P : Value → Type 0) (ts : List ℕ) → ((p : ℕ) → is_among ts p ≡ true → P (value_of p)) → AllByRecursion (λ p. P p.1) (world_of words ms ts)
     all_values P [] all = tt
     all_values P (t ∷ ts) all = by_term (all_values P ts (λ q f. all q (or_right (nat_eq q t) _ f))) (term_at words t) where
       by_term : AllByRecursion (λ p. P p.1) (world_of words ms ts) → (x : Term) → AllByRecursion (λ p. P p.1) (with_pair x (value_of t) (world_of words ms ts))
       by_term rest (term.Null n) = (all t (or_left (nat_eq t t) _ (eq-eqb t t refl)), rest)
-      by_term rest (term.Column k) = rest
-      by_term rest (term.Value x) = rest
+      by_term rest _ = rest
 
   module _ (atoms : List Atom) (truth : List Bool) (plain : are_plain words atoms ≡ true) (ms ns : List Member) (joined : AreJoined words atoms truth (length atoms) (members_at words (terms_of atoms)) ms)
       (apart : IsApart atoms truth (length atoms) ms) (numbered : AreNumbered words ms ns (terms_of atoms)) where
@@ -324,8 +320,7 @@ module _ (words : List ℕ) (wf : IsWellFormed words) where
     ] where
       further : (x : Term) → has_value (world_of words ns us) (value_of ns q) ≡ true → has_value (with_pair x (value_of ns u) (world_of words ns us)) (value_of ns q) ≡ true
       further (term.Null n) f = or_right (same_value (value_of ns u) (value_of ns q)) _ f
-      further (term.Column k) f = f
-      further (term.Value x) f = f
+      further _ f = f
 
     null_at : (q : ℕ) → is_among ts q ≡ true → is_constant words q ≡ false → IsNull (term_at words q)
     null_at q e n = null_there words wf q (plain_end words atoms q plain (sym (among_terms atoms q) ∙ e)) n
@@ -381,8 +376,7 @@ module _ (words : List ℕ) (wf : IsWellFormed words) where
       pushed : (x : Term) → with_pair x (value_of ns u) (world_of words ns us ++ with_pair (term_at words t) (value_of ns t) [])
           ≡ with_pair x (value_of ns u) (world_of words ns us) ++ with_pair (term_at words t) (value_of ns t) []
       pushed (term.Null n) = refl
-      pushed (term.Column k) = refl
-      pushed (term.Value x) = refl
+      pushed _ = refl
 
     all_next : (done rest : List ℕ) → ts ≡ done ++ rest → AreNext words atoms (world_of words ns done) (world_of words ns rest)
     all_next done [] is = tt
@@ -393,16 +387,14 @@ module _ (words : List ℕ) (wf : IsWellFormed words) where
               → (x : Term) → world_of words ns (done ++ t ∷ []) ≡ world_of words ns done ++ with_pair x (value_of ns t) []
               → AreNext words atoms (world_of words ns done) (with_pair x (value_of ns t) (world_of words ns rest))
           by_term more next (term.Null n) e = (next, subst (λ w. AreNext words atoms w (world_of words ns rest)) e more)
-          by_term more next (term.Column k) e = subst (λ w. AreNext words atoms w (world_of words ns rest)) (e ∙ append-nil _) more
-          by_term more next (term.Value x) e = subst (λ w. AreNext words atoms w (world_of words ns rest)) (e ∙ append-nil _) more
+          by_term more next _ e = subst (λ w. AreNext words atoms w (world_of words ns rest)) (e ∙ append-nil _) more
 
     nulls_there : (us : List ℕ) → map (λ p. p.0) (world_of words ns us) ≡ nulls_of words us
     nulls_there [] = refl
     nulls_there (u ∷ us) = firsts (term_at words u) ∙ ap (with_null (term_at words u)) (nulls_there us) where
       firsts : (x : Term) → map (λ p. p.0) (with_pair x (value_of ns u) (world_of words ns us)) ≡ with_null x (map (λ p. p.0) (world_of words ns us))
       firsts (term.Null n) = refl
-      firsts (term.Column k) = refl
-      firsts (term.Value x) = refl
+      firsts _ = refl
 
     pub is_world : IsWorldOf words atoms truth v
     is_world = record {

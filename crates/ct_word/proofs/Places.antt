@@ -58,7 +58,7 @@ unfolding meaning_of
 class_of_word ms w c e = has_class_is (kind_of w) c ms (left_of w) (right_of w) e
 
 -- a word of a class
-is_word : (o : Option ℕ) (c : Class) → IsTrue (is_word_of o c) → (w : ℕ) × (o ≡ Some w) × IsTrue (has_class (kind_of w) c)
+pub is_word : (o : Option ℕ) (c : Class) → IsTrue (is_word_of o c) → (w : ℕ) × (o ≡ Some w) × IsTrue (has_class (kind_of w) c)
 is_word (Some w) c e = (w, refl, e)
 is_word None c e = cc
 
