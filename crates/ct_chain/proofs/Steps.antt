@@ -12,7 +12,7 @@ use Rattle.ct_chain.specs.Linked.{IsLast, IsLinked, IsSought}
 use Rattle.ct_chain.proofs.Mixing.{bucket_below}
 
 -- no place is of any bucket yet
-last_of_none : (n : ℕ) (numbers : List ℕ) (b at : ℕ) → at ≡ 0 → IsLast n numbers b at 0
+pub last_of_none : (n : ℕ) (numbers : List ℕ) (b at : ℕ) → at ≡ 0 → IsLast n numbers b at 0
 last_of_none n numbers b at e = record { within = omega arith; own = λ p is. absurd (omega arith); none = λ p from lt. absurd (omega arith) }
 
 pub none_linked : (n : ℕ) (numbers next heads : List ℕ) → 0 < n → n ≤ 2 ^ 32 → heads ≡ replicate n 0 → length heads ≡ n → IsLinked n numbers heads next 0
@@ -47,7 +47,7 @@ last_past n numbers b at p last other = record {
   none q from lt (inl same) = λ e. other (ap (own n numbers) (sym same) ∙ e)
   none q from lt (inr differs) = last.none q from (omega arith)
 
-head_step : (n : ℕ) (numbers heads : List ℕ) (p c : ℕ) → length heads ≡ n → own n numbers p < n → IsLast n numbers c (get_or heads c 0) p → (c ≡ own n numbers p) ⊎ (c ≡ own n numbers p → ⊥)
+pub head_step : (n : ℕ) (numbers heads : List ℕ) (p c : ℕ) → length heads ≡ n → own n numbers p < n → IsLast n numbers c (get_or heads c 0) p → (c ≡ own n numbers p) ⊎ (c ≡ own n numbers p → ⊥)
     → IsLast n numbers c (get_or (set heads (own n numbers p) (p + 1)) c 0) (p + 1)
 head_step n numbers heads p c count lt last (inl same) =
     let there : get_or (set heads (own n numbers p) (p + 1)) (own n numbers p) 0 ≡ p + 1 = get_or-set_same heads (own n numbers p) (p + 1) 0 (omega arith) in
@@ -107,7 +107,7 @@ pub sought_last : (n : ℕ) (numbers : List ℕ) (number : ℕ) → IsSought n n
 sought_last n numbers number sought there = sought.none there.0 (omega arith) there.1 (sym (get_or_default_zero numbers there.0 number there.1) ∙ there.2)
 
 -- what is known of the places before `upto` stays as numbers are put at the end
-last_grows : (n : ℕ) (numbers more : List ℕ) (b at upto : ℕ) → upto ≤ length numbers → IsLast n numbers b at upto → IsLast n (numbers ++ more) b at upto
+pub last_grows : (n : ℕ) (numbers more : List ℕ) (b at upto : ℕ) → upto ≤ length numbers → IsLast n numbers b at upto → IsLast n (numbers ++ more) b at upto
 last_grows n numbers more b at upto le last = record {
   within = last.within;
   own = λ p e. ap (bucket_of n) (get_or_append_left numbers more 0 p (omega (arith, last.within))) ∙ last.own p e;

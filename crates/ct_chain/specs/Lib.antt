@@ -1,3 +1,4 @@
 pub mod Bucket
 pub mod Seen
 pub mod Linked
+pub mod Keys

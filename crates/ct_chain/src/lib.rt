@@ -6,6 +6,9 @@
 
 mod buckets;
 mod chain;
+mod key_chain;
+mod key_links;
 mod links;
 
 pub use chain::Chain;
+pub use key_chain::KeyChain;
