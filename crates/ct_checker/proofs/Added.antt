@@ -9,43 +9,10 @@ use Rattle.std.proofs.lemmas.Map.Made.{length-le_from_is_member}
 use Rattle.ct_derivation.specs.declared.literals.Atom.{Atom}
 use Rattle.ct_derivation.specs.declared.literals.Atom.TheVariants as atom
 use Rattle.ct_derivation.specs.declared.literals.Lit.{Lit}
-use Rattle.ct_derivation.specs.Literal.{same_sign, same_atom, same_lit, has}
-use Rattle.ct_derivation.proofs.Members.{same_lit_is}
+use Rattle.ct_derivation.specs.Literal.{same_lit, has}
+use Rattle.ct_derivation.proofs.Members.{same_lit_is, lit_laws}
 use Rattle.ct_checker.specs.Added.{added, added_all}
 use Rattle.ct_checker.proofs.Members.{has_append}
-
-own_sign : (a : Bool) → same_sign a a ≡ true
-own_sign true = refl
-own_sign false = refl
-
-own_atom : (a : Atom) → same_atom a a ≡ true
-own_atom (atom.Node p) = nat_eq_equiv.refl p
-own_atom (atom.Same s t) = ap (λ b. b && nat_eq t t) (nat_eq_equiv.refl s) ∙ nat_eq_equiv.refl t
-
-flip_sign : (a b : Bool) → same_sign a b ≡ same_sign b a
-flip_sign true true = refl
-flip_sign true false = refl
-flip_sign false true = refl
-flip_sign false false = refl
-
-flip_atom : (a b : Atom) → same_atom a b ≡ same_atom b a
-flip_atom (atom.Node p) (atom.Node q) = nat_eq_equiv.symm p q
-flip_atom (atom.Same s t) (atom.Same p q) =
-    ap (λ b. b && nat_eq t q) (nat_eq_equiv.symm s p) ∙ ap (λ b. nat_eq p s && b) (nat_eq_equiv.symm t q)
-flip_atom (atom.Node p) (atom.Same s t) = refl
-flip_atom (atom.Same s t) (atom.Node p) = refl
-
-own_lit : (l : Lit) → same_lit l l ≡ true
-unfolding same_lit
-own_lit l = ap (λ b. b && same_atom l.atom l.atom) (own_sign l.positive) ∙ own_atom l.atom
-
-flip_lit : (l m : Lit) → same_lit l m ≡ same_lit m l
-unfolding same_lit
-flip_lit l m =
-    ap (λ b. b && same_atom l.atom m.atom) (flip_sign l.positive m.positive) ∙ ap (λ b. same_sign m.positive l.positive && b) (flip_atom l.atom m.atom)
-
-lit_laws : IsEquivalence same_lit
-lit_laws = record { refl = own_lit; symm = flip_lit; congr = λ x y z e. ap (λ w. same_lit w z) (same_lit_is x y e) }
 
 -- a test that holds only where another does adds nothing to it
 held : (a b : Bool) → (b ≡ true → a ≡ true) → a ≡ (a || b)

@@ -11,8 +11,9 @@ ghost use Rattle.ct_checker.specs.Added.{added_all};
 
 use crate::literals::{contains, no, yes};
 use crate::marks::Marks;
-use crate::places::{is_constant, is_term};
+use crate::places::is_term;
 use ct_derivation::{Atom, Lit};
+use ct_word::is_constant;
 
 /// The equality of two terms, the smaller place first.
 fn pair(s: u32, t: u32) -> Atom

@@ -3,7 +3,6 @@
 ghost use Rattle.std.specs.Prelude.{◌≡◌};
 ghost use Rattle.ct_word.specs.declared.kinds.Class.TheVariants as class;
 ghost use Rattle.ct_word.specs.WellFormed as formed;
-ghost use Rattle.ct_derivation.specs.Path as path;
 
 use ct_word::{Class, Kind, class, kind};
 
@@ -25,15 +24,6 @@ fn names_term(kind: Option<Kind>) -> bool
     }
 }
 
-fn names_constant(kind: Option<Kind>) -> bool
-    ensures { result ≡ path.is_constant_kind kind }
-{
-    matches!(
-        kind,
-        Some(Kind::Number | Kind::TextConstant | Kind::OtherValue)
-    )
-}
-
 /// Whether a place, which may lie past the words, is one of a condition.
 pub fn is_condition(words: &[u64], place: u32) -> bool
     ensures { result ≡ formed.is_place_of words.now class.Cond place }
@@ -51,16 +41,5 @@ pub fn is_term(words: &[u64], place: u32) -> bool
     match words.get(place as usize) {
         None => false,
         Some(word) => names_term(kind(*word)),
-    }
-}
-
-/// Whether a place, which may lie past the words, is one of a constant.
-#[tactic(auto, unfolding(ct_derivation::specs::Path::is_constant))]
-pub fn is_constant(words: &[u64], place: u32) -> bool
-    ensures { result ≡ path.is_constant words.now place }
-{
-    match words.get(place as usize) {
-        None => false,
-        Some(word) => names_constant(kind(*word)),
     }
 }

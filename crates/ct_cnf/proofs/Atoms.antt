@@ -12,7 +12,7 @@ use Rattle.ct_cnf.specs.declared.numbers.Numbers.{Numbers}
 use Rattle.ct_cnf.specs.Encoding.{atom_of, AreDistinct, HasNodesBelow, HasPairsBelow, HasAllPairs}
 use Rattle.ct_cnf.specs.Lists.{pairs_with, pairs_after, pairs_of, atoms_of, rank_of, node_of, pair_variable, same_of, AreNumbers}
 use Rattle.ct_cnf.specs.Making.{IsNumbering}
-use Rattle.ct_cnf.proofs.Items.{mapped_item, unmapped_item}
+use Rattle.ct_word.proofs.Items.{mapped_item, unmapped_item}
 use Rattle.ct_cnf.proofs.Pairs.{pairs_more, pair_place, pair_stands, pair_listed, IsListedPair, listed_pair}
 
 -- how many atoms there are

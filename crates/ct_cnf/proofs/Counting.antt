@@ -6,7 +6,7 @@ use Rattle.std.proofs.lemmas.List.{length_push, get_or_push, get_or_append_left}
 use Rattle.std.proofs.lemmas.List.Elements.{Contains-push, Contains-push_cases, Contains-append_left}
 use Rattle.ct_word.specs.declared.kinds.Class.TheVariants as class
 use Rattle.ct_cnf.specs.Lists.{is_kept, with_next, picked, AreCounted}
-use Rattle.ct_cnf.proofs.Items.{no_item}
+use Rattle.ct_word.proofs.Items.{no_item}
 
 length_next : (b : Bool) (n : ℕ) (ps : List ℕ) → length ps ≤ n → length (with_next b n ps) ≤ suc n
 length_next true n ps le = omega (arith, length_push ps n, le)

@@ -1,8 +1,8 @@
 -- Each clause is that of its origin.
-use Rattle.std.proofs.Common.{◌≡◌, ◌≢◌, ℕ, zero, suc, ◌+◌, ◌<◌, ◌≤◌, ℤ, Bool, true, false, ◌&&◌, ◌||◌, List, [], ◌∷◌, ◌++◌, length, map, get_or, Option, Some, None, nat_eq, nat_le, refl, ap, ◌∙◌, sym, subst, arith, inl, inr, if◌then◌else◌, append_assoc, length-append}
+use Rattle.std.proofs.Common.{◌≡◌, ◌≢◌, ℕ, zero, suc, ◌+◌, ◌<◌, ◌≤◌, ℤ, Bool, true, false, ◌&&◌, ◌||◌, List, [], ◌∷◌, ◌++◌, length, map, get_or, Option, Some, None, nat_eq, refl, ap, ◌∙◌, sym, subst, arith, inl, inr, if◌then◌else◌, append_assoc, length-append}
 use Rattle.std.specs.Prelude.{slice_get, Contains}
 use Rattle.std.specs.List.{flat_map, list_all}
-use Rattle.std.proofs.lemmas.Bool.{and_from, or_parts, le-leb, lt-ltb, eqb-false}
+use Rattle.std.proofs.lemmas.Bool.{and_from, or_parts, lt-ltb, eqb-false}
 use Rattle.std.proofs.lemmas.List.{get_or_append_left, get_or_at, get_or_default}
 use Rattle.std.proofs.lemmas.List.Elements.{Contains-append_left, Contains-append_right, Contains-append_cases}
 use Rattle.ct_word.specs.declared.kinds.Kind.{Kind}
@@ -24,7 +24,7 @@ use Rattle.ct_cnf.specs.declared.numbers.Numbers.{Numbers}
 use Rattle.ct_cnf.specs.Encoding.{atom_of, named, through, origin_clause, AreOrigins}
 use Rattle.ct_cnf.specs.Lists.{yes_of, no_of, clause_of, why_of, entry, node_of, same_of, atoms_of, equal_entries, not_entries, and_entries, or_entries, defining_entries, word_entries, definition_entries, path_entry, over_entries, apart_entries, between_entries, into_entries, paths_after, all_entries, AreFieldsNumbered}
 use Rattle.ct_cnf.specs.Making.{IsNumbering}
-use Rattle.ct_cnf.proofs.Items.{no_item, item_cases, first_item, later_item}
+use Rattle.ct_word.proofs.Items.{no_item, item_cases, first_item, later_item}
 use Rattle.ct_cnf.proofs.Shapes.{path_of_two, path_of_three, two_clause, three_clause}
 use Rattle.ct_cnf.proofs.Atoms.{IsAtomOf, node_found, same_found}
 
@@ -71,11 +71,9 @@ module _ (ws : List ℕ) (root : ℕ) (n : Numbers) (num : IsNumbering ws root n
     is : named atoms (signed x) ≡ l
     within : is_literal (length atoms) x ≡ true
 
-  bounds : (v : ℕ) → 1 ≤ v → v ≤ length atoms → (nat_le 1 v && nat_le v (length atoms)) ≡ true
-  bounds v lo hi = and_from (nat_le 1 v) (nat_le v (length atoms)) (le-leb 1 v lo) (le-leb v (length atoms) hi)
-
   yes_is : (v : ℕ) (a : Atom) → Found v a → IsLitOf (yes_of v) (literal.yes_of a)
-  yes_is v a f = record { is = ap literal.yes_of f.is; within = bounds v f.low f.high }
+  yes_is zero a f = absurd (omega (arith, f.low))
+  yes_is (suc k) a f = record { is = ap literal.yes_of f.is; within = lt-ltb k (length atoms) (omega (arith, f.high)) }
 
   no_is : (v : ℕ) (a : Atom) → Found v a → IsLitOf (no_of v) (literal.no_of a)
   no_is zero a f = absurd (omega (arith, f.low))
@@ -83,7 +81,7 @@ module _ (ws : List ℕ) (root : ℕ) (n : Numbers) (num : IsNumbering ws root n
       let one : k + 1 ≡ suc k = omega arith in
       record {
         is = ap (λ v. literal.no_of (atom_of atoms v)) one ∙ ap literal.no_of f.is;
-        within = ap (λ v. nat_le 1 v && nat_le v (length atoms)) one ∙ bounds (suc k) f.low f.high;
+        within = lt-ltb k (length atoms) (omega (arith, f.high));
       }
 
   just_one : (x : ℤ) (l : Lit) (w : Why) → IsLitOf x l → origin_clause ws root w ≡ Some (l ∷ []) → IsJust (entry (x ∷ []) w)

@@ -1,6 +1,5 @@
 pub mod Atoms
 pub mod Counting
-pub mod Items
 pub mod Justified
 pub mod Longer
 pub mod Made

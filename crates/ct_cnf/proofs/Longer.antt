@@ -12,7 +12,7 @@ use Rattle.ct_derivation.specs.Literal.{Clause, yes_of}
 use Rattle.ct_derivation.specs.Models.{is_satisfied}
 use Rattle.ct_derivation.specs.Path.{is_constant, is_path, pair_of, end_of, no_links, moves, ends_clause}
 use Rattle.ct_cnf.specs.Encoding.{IsTermBelow, HasPaths, HasConstants, SatisfiesOrigins, SatisfiesPaths}
-use Rattle.ct_cnf.proofs.Items.{first_item, later_item}
+use Rattle.ct_word.proofs.Items.{first_item, later_item}
 use Rattle.ct_cnf.proofs.Shapes.{path_of_two, path_of_three, two_clause, three_clause}
 
 -- two links that hold leave the ends

@@ -5,7 +5,7 @@ use Rattle.std.specs.List.{list_all}
 use Rattle.ct_derivation.specs.declared.literals.Atom.{Atom}
 use Rattle.ct_derivation.specs.declared.steps.Why.{Why}
 use Rattle.ct_derivation.specs.declared.steps.Why.TheVariants as why
-use Rattle.ct_derivation.specs.Variables.{is_literal, IsCnf}
+use Rattle.ct_derivation.specs.Variables.{is_literal, is_clause, IsCnf}
 use Rattle.ct_cnf.specs.declared.encoding.Encoded.{Encoded}
 use Rattle.ct_cnf.specs.declared.numbers.Numbers.{Numbers}
 use Rattle.ct_cnf.specs.Encoding.{AreOrigins, HasDefinitions, HasPaths, HasConstants, HasNodesBelow, HasPairsBelow, HasAllPairs, AreDistinct}
@@ -63,9 +63,10 @@ module _ (ws : List ℕ) (root : ℕ) (n : Numbers) (num : IsNumbering ws root n
     count = made.variables ∙ ap length made.atoms
 
     pub made_cnf : IsCnf e.cnf
+    unfolding is_clause
     made_cnf = record {
-      few = omega (arith, count, atoms_fit);
-      literals =
+      vars = omega (arith, count, atoms_fit);
+      clauses =
           subst (λ cs. list_all (list_all (is_literal e.cnf.vars)) cs ≡ true) (sym made.clauses)
           (subst (λ k. list_all (list_all (is_literal k)) (map clause_of (all_entries ws root n)) ≡ true) (sym count) (are_literals ws root n num));
     }

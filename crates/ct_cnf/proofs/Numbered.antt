@@ -18,7 +18,7 @@ use Rattle.ct_cnf.specs.Encoding.{IsConditionBelow, IsTermBelow, AreTermsBelow}
 use Rattle.ct_cnf.specs.Marks.{is_marked, AreBelow}
 use Rattle.ct_cnf.specs.Lists.{is_kept, picked, rank_of, AreCounted, IsRanked, AreNumbers, AreFieldsNumbered}
 use Rattle.ct_cnf.specs.Making.{IsNumbering}
-use Rattle.ct_cnf.proofs.Items.{first_item, later_item}
+use Rattle.ct_word.proofs.Items.{first_item, later_item}
 use Rattle.ct_cnf.proofs.Walks.{marked_within, below_more}
 use Rattle.ct_cnf.proofs.Counting.{length_picked, picked_passes, picks, rank_below, rank_there, rank_of_item, items_rise}
 

@@ -19,7 +19,7 @@ use Rattle.ct_cnf.specs.declared.numbers.Numbers.{Numbers}
 use Rattle.ct_cnf.specs.Encoding.{HasDefinitions, HasPaths, HasConstants}
 use Rattle.ct_cnf.specs.Lists.{why_of, no_of, entry, same_of, equal_entries, not_entries, and_entries, or_entries, defining_entries, word_entries, definition_entries, path_entry, over_entries, apart_entries, between_entries, into_entries, paths_after, all_entries}
 use Rattle.ct_cnf.specs.Making.{IsNumbering}
-use Rattle.ct_cnf.proofs.Items.{no_item, item_cases, first_item, later_item, mapped_item, unmapped_item, flat_item}
+use Rattle.ct_word.proofs.Items.{no_item, item_cases, first_item, later_item, mapped_item, unmapped_item, flat_item}
 
 -- each defining clause is named
 named_definition : (n : Numbers) (o : Option Kind) (k p a b : ℕ) (c : Clause) → defining o k p a b ≡ Some c → Contains (map why_of (defining_entries n o p a b)) (why.Def p k)

@@ -8,7 +8,7 @@ use Rattle.std.proofs.lemmas.List.Elements.{Contains-get_or, Contains-append_lef
 use Rattle.ct_derivation.specs.declared.literals.Atom.{Atom}
 use Rattle.ct_derivation.specs.declared.literals.Atom.TheVariants as atom
 use Rattle.ct_cnf.specs.Lists.{pairs_with, pairs_after, pairs_of}
-use Rattle.ct_cnf.proofs.Items.{no_item, mapped_item, unmapped_item}
+use Rattle.ct_word.proofs.Items.{no_item, mapped_item, unmapped_item}
 
 half_more : (x y : ℕ) → (x + y + y) / 2 ≡ x / 2 + y
 half_more x y = omega arith

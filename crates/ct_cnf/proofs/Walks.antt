@@ -10,17 +10,13 @@ use Rattle.ct_word.specs.WellFormed.{Field, Zero, Any, Byte, Scalar, Session, Po
 use Rattle.ct_word.specs.Stands.{Below, itself, through, place_in, places_in, places_of}
 use Rattle.ct_word.proofs.Splits.{split_at, formed_at, formed_fields, place_within}
 use Rattle.ct_cnf.specs.Marks.{names_place, is_marked, with_marks, AreBelow, IsMarking}
-use Rattle.ct_cnf.proofs.Items.{first_item, later_item, item_cases, no_item, sole_item}
+use Rattle.ct_word.proofs.Fields.{named_earlier}
+use Rattle.ct_word.proofs.Items.{first_item, later_item, item_cases, no_item, sole_item}
 
 -- the places of a word
 place_named : (f : Field) (n : ℕ) → names_place f ≡ true → Contains (place_in f n) n
 place_named (PlaceOf c) n e = first_item [] n
-place_named Zero n e = absurd (false≢true e)
-place_named Any n e = absurd (false≢true e)
-place_named Byte n e = absurd (false≢true e)
-place_named Scalar n e = absurd (false≢true e)
-place_named Session n e = absurd (false≢true e)
-place_named Positive n e = absurd (false≢true e)
+place_named _ n e = absurd (false≢true e)
 
 pub left_named : (w : ℕ) (k : Kind) → kind_of w ≡ Some k → names_place (fields_of k).0 ≡ true → Contains (places_of w) (left_of w)
 unfolding places_of
@@ -33,31 +29,6 @@ unfolding places_of
 right_named w k e n =
     subst (λ o. Contains (places_in o (left_of w) (right_of w)) (right_of w)) (sym e)
     (Contains-append_right (place_in (fields_of k).0 (left_of w)) (place_in (fields_of k).1 (right_of w)) (right_of w) (place_named (fields_of k).1 (right_of w) n))
-
--- fields name earlier places
-field_earlier : (front : List ℕ) (f : Field) (n q : ℕ) → fits front f n ≡ true → Contains (place_in f n) q → q < length front
-field_earlier front (PlaceOf c) n q e h = subst (λ m. m < length front) (sole_item n q h) (place_within front c n e)
-field_earlier front Zero n q e h = absurd (no_item q h)
-field_earlier front Any n q e h = absurd (no_item q h)
-field_earlier front Byte n q e h = absurd (no_item q h)
-field_earlier front Scalar n q e h = absurd (no_item q h)
-field_earlier front Session n q e h = absurd (no_item q h)
-field_earlier front Positive n q e h = absurd (no_item q h)
-
-kind_earlier : (front : List ℕ) (o : Option Kind) (a b q : ℕ) → is_formed_as o front a b ≡ true → Contains (places_in o a b) q → q < length front
-kind_earlier front None a b q e h = absurd (no_item q h)
-kind_earlier front (Some k) a b q e h =
-    let f = formed_fields front k a b e in
-    elim (Contains-append_cases (place_in (fields_of k).0 a) (place_in (fields_of k).1 b) q h) [
-      | inl l ↦ field_earlier front (fields_of k).0 a q f.0 l
-      | inr r ↦ field_earlier front (fields_of k).1 b q f.1 r
-    ]
-
-pub earlier : (ws : List ℕ) → IsWellFormed ws → (p w q : ℕ) → slice_get ws p ≡ Some w → Contains (places_of w) q → q < p
-unfolding places_of
-earlier ws wf p w q at h =
-    let s = split_at ws p w at in
-    omega (arith, s.long, kind_earlier s.front (kind_of w) (left_of w) (right_of w) q (formed_at ws wf p w at s) h)
 
 -- more marks
 length_marked : (ms : List Bool) (ps : List ℕ) → length (with_marks ms ps) ≡ length ms
@@ -140,13 +111,13 @@ module _ (ws : List ℕ) (wf : IsWellFormed ws) (root : ℕ) (within : root < le
       each = λ p e. elim (marked_cases ms (places_of w) p e) [ inl old ↦ walk.each p old | inr new ↦ below_more ws root place p w (walk.each place m) at new ];
       top = still_marked ms (places_of w) root walk.top;
       closed = λ p x q le e there h. elim (marked_cases ms (places_of w) p e) [
-        | inr new ↦ absurd (omega (arith, earlier ws wf place w p at new, le))
+        | inr new ↦ absurd (omega (arith, named_earlier ws wf place w p at new, le))
         | inl old ↦ elim (cases_lt place p) [
           | inl above ↦ still_marked ms (places_of w) q (walk.closed p x q (omega (arith, above, pos)) old there h)
           | inr not_above ↦
               let same : p ≡ place = omega (arith, not_above, le) in
               let one : x ≡ w = some_is x w (sym there ∙ ap (slice_get ws) same ∙ at) in
-              now_marked ms (places_of w) q (omega (arith, walk.long, marked_within ms place m, earlier ws wf p x q there h, same))
+              now_marked ms (places_of w) q (omega (arith, walk.long, marked_within ms place m, named_earlier ws wf p x q there h, same))
               (subst (λ y. Contains (places_of y) q) one h)
         ]
       ];

@@ -2,28 +2,13 @@
 
 ghost use Rattle.std.specs.Prelude.{◌≡◌, ◌++◌, ◌∷◌, [], ℕ, OnOk, Contains};
 ghost use Rattle.std.specs.List.{flat_map};
-ghost use Rattle.ct_derivation.specs.Path.{is_constant};
 ghost use Rattle.ct_cnf.specs.Lists.{AreNumbers, path_entry, over_entries, apart_entries, into_entries, paths_after};
 
 use crate::entries::{Entry, add, no, yes};
 use crate::numbers::Numbers;
 use ct_derivation::Why;
-use ct_word::{Kind, List, Memory, kind};
+use ct_word::{List, Memory, is_constant};
 use std::alloc::Global;
-
-/// Whether a place holds a constant.
-#[tactic(auto, unfolding(ct_derivation::specs::Path::is_constant))]
-fn is_constant(words: &[u64], place: u32) -> bool
-    ensures { result ≡ is_constant words.now place }
-{
-    match words.get(place as usize) {
-        None => false,
-        Some(word) => match kind(*word) {
-            Some(Kind::Number | Kind::TextConstant | Kind::OtherValue) => true,
-            _ => false,
-        },
-    }
-}
 
 /// Adds the clause of the path from r over s to t.
 fn add_path(

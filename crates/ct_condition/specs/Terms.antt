@@ -3,7 +3,8 @@ use Rattle.std.specs.Prelude.{◌≡◌, ◌⊎◌, ℕ, List, [], ◌∷◌, So
 use Rattle.std.specs.List.{Contains}
 use Rattle.ct_word.specs.declared.kinds.Kind.{Kind}
 use Rattle.ct_word.specs.declared.values.Term.{Term}
-use Rattle.ct_word.specs.Condition.{Condition, Conditions, True, False, Same, Not, And, Or, none, also}
+use Rattle.ct_word.specs.Condition.{Condition}
+pub use Rattle.ct_word.specs.Named.{IsNamed, IsNamedInSome}
 use Rattle.ct_word.specs.Reading.{IsTerm}
 use Rattle.ct_word.specs.Stands.{StandsAt, TermBelow, places_in}
 use Rattle.ct_query.specs.declared.query.Pred.{Pred}
@@ -27,21 +28,6 @@ pub record BelowSome (words : List ℕ) (places : List ℕ) (t : Term) : Type 0 
 -- a term stands at a place, or below one of those that a word of this kind names there
 abbrev pub AtOrUnder : List ℕ → ℕ → Kind → ℕ → ℕ → Term → Type 0
 AtOrUnder words place k a b t = StandsAt words place (IsTerm t) ⊎ BelowSome words (places_in (Some k) a b) t
-
--- a term is a side of an equality of a condition
-abbrev mutual
-  pub IsNamed : Condition → Term → Type 0
-  IsNamed True t = ⊥
-  IsNamed False t = ⊥
-  IsNamed (Same s u) t = (t ≡ s) ⊎ (t ≡ u)
-  IsNamed (Not c) t = IsNamed c t
-  IsNamed (And cs) t = IsNamedInSome cs t
-  IsNamed (Or cs) t = IsNamedInSome cs t
-
-  -- of one of these conditions
-  pub IsNamedInSome : Conditions → Term → Type 0
-  IsNamedInSome none t = ⊥
-  IsNamedInSome (also c cs) t = IsNamed c t ⊎ IsNamedInSome cs t
 
 -- a term below a predicate put on a row: below one of its cells, or named, and no cell is put for it
 abbrev pub IsOnRow : List ℕ → List ℕ → Condition → Term → Type 0

@@ -3,19 +3,13 @@
 ghost use Rattle.std.specs.Prelude.{◌≡◌, ◌≢◌, ◌<◌, ◌^◌, true, length, IfSome, IsTrue, None, Some, slice_get, ℕ};
 ghost use mathlib.Core.List.{IsPrefix};
 ghost use Rattle.ct_arena.specs.Counts.{opening};
-ghost use Rattle.ct_word.specs.Constant.{is_constant_kind, is_constant_word};
 ghost use Rattle.ct_word.specs.WellFormed.{IsWellFormed, is_place_of};
 ghost use Rattle.ct_word.specs.declared.kinds.Class.TheVariants as class;
 ghost use Rattle.ct_condition.specs.Folding as spec;
 ghost use Rattle.ct_condition.specs.Folding.{denied, is_place, literal_place};
 ghost use Rattle.ct_condition.specs.Truth.{HasTruth, Negates, equal_at, not_at, and_at, or_at};
 
-use ct_word::{Kind, kind, left};
-
-/// The places of the words true and false, with which every log begins.
-const TRUE: u32 = 0;
-
-const FALSE: u32 = 1;
+use ct_word::{FALSE_PLACE, Kind, TRUE_PLACE, is_constant, kind, left};
 
 /// The place of the word true or of the word false, where the words begin as every log does.
 pub fn literal(words: &[u64], truth: bool) -> u32
@@ -25,31 +19,13 @@ pub fn literal(words: &[u64], truth: bool) -> u32
     ensures truth { HasTruth words.now result (λ v row. truth) }
 {
     let _ = words;
-    if truth { TRUE } else { FALSE }
-}
-
-fn is_kind_of_constant(kind: Option<Kind>) -> bool
-    ensures { result ≡ is_constant_kind kind }
-{
-    matches!(
-        kind,
-        Some(Kind::Number | Kind::TextConstant | Kind::OtherValue)
-    )
+    if truth { TRUE_PLACE } else { FALSE_PLACE }
 }
 
 fn word_at(words: &[u64], place: u32) -> Option<u64>
     ensures { result ≡ slice_get words.now place }
 {
     words.get(place as usize).copied()
-}
-
-fn is_constant(words: &[u64], place: u32) -> bool
-    ensures { result ≡ is_constant_word (slice_get words.now place) }
-{
-    match word_at(words, place) {
-        None => false,
-        Some(word) => is_kind_of_constant(kind(word)),
-    }
 }
 
 /// The condition that the one at a place is the negation of, if its word is a `not`.
@@ -74,10 +50,10 @@ pub fn folded_eq(words: &[u64], s: u32, t: u32) -> Option<u32>
     ensures apart { result ≡ None → s ≢ t }
 {
     if s == t {
-        return Some(TRUE);
+        return Some(TRUE_PLACE);
     }
     if is_constant(words, s) && is_constant(words, t) {
-        return Some(FALSE);
+        return Some(FALSE_PLACE);
     }
     None
 }
@@ -90,11 +66,11 @@ pub fn folded_not(words: &[u64], c: u32) -> Option<u32>
     ensures value { result ≡ spec.folded_not words.now c }
     ensures truth { IfSome result (λ place. HasTruth words.now place (not_at words.now c)) }
 {
-    if c == TRUE {
-        return Some(FALSE);
+    if c == TRUE_PLACE {
+        return Some(FALSE_PLACE);
     }
-    if c == FALSE {
-        return Some(TRUE);
+    if c == FALSE_PLACE {
+        return Some(TRUE_PLACE);
     }
     negated(words, c)
 }
@@ -122,17 +98,17 @@ pub fn folded_and(words: &[u64], c: u32, d: u32) -> Option<u32>
     ensures truth { IfSome result (λ place. HasTruth words.now place (and_at words.now c d)) }
     ensures apart { result ≡ None → c ≢ d }
 {
-    if c == FALSE || d == FALSE {
-        return Some(FALSE);
+    if c == FALSE_PLACE || d == FALSE_PLACE {
+        return Some(FALSE_PLACE);
     }
-    if c == TRUE {
+    if c == TRUE_PLACE {
         return Some(d);
     }
-    if d == TRUE || c == d {
+    if d == TRUE_PLACE || c == d {
         return Some(c);
     }
     if negates(words, c, d) || negates(words, d, c) {
-        return Some(FALSE);
+        return Some(FALSE_PLACE);
     }
     None
 }
@@ -148,17 +124,17 @@ pub fn folded_or(words: &[u64], c: u32, d: u32) -> Option<u32>
     ensures truth { IfSome result (λ place. HasTruth words.now place (or_at words.now c d)) }
     ensures apart { result ≡ None → c ≢ d }
 {
-    if c == TRUE || d == TRUE {
-        return Some(TRUE);
+    if c == TRUE_PLACE || d == TRUE_PLACE {
+        return Some(TRUE_PLACE);
     }
-    if c == FALSE {
+    if c == FALSE_PLACE {
         return Some(d);
     }
-    if d == FALSE || c == d {
+    if d == FALSE_PLACE || c == d {
         return Some(c);
     }
     if negates(words, c, d) || negates(words, d, c) {
-        return Some(TRUE);
+        return Some(TRUE_PLACE);
     }
     None
 }

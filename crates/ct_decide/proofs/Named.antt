@@ -14,6 +14,7 @@ use Rattle.ct_derivation.specs.Literal.{yes_of, no_of, negated, same_atom, same_
 use Rattle.ct_derivation.specs.Variables.{signed}
 use Rattle.ct_derivation.specs.Variables as variables
 use Rattle.ct_derivation.specs.Accepts.{over_atoms}
+pub use Rattle.ct_derivation.proofs.Members.{same_atom_self, same_atom_is}
 use Rattle.ct_derivation.proofs.Members.{same_lit_is}
 use Rattle.ct_cnf.specs.Encoding.{atom_of, named, AreDistinct}
 use Rattle.ct_sat.specs.Literal.{is_literal, is_clause, place_of, is_positive}
@@ -22,14 +23,6 @@ use Rattle.ct_sat.proofs.Carried.{CarriesLiterals}
 
 abbrev atom_at : List Atom → ℕ → Atom
 atom_at atoms n = get_or atoms n (atom.Node 0)
-
-pub same_atom_self : (a : Atom) → same_atom a a ≡ true
-same_atom_self (atom.Node p) = eq-eqb p p refl
-same_atom_self (atom.Same s t) = and_from (nat_eq s s) (nat_eq t t) (eq-eqb s s refl) (eq-eqb t t refl)
-
-pub same_atom_is : (a b : Atom) → same_atom a b ≡ true → a ≡ b
-unfolding same_lit
-same_atom_is a b e = ap (λ (l : Lit). l.atom) (same_lit_is (yes_of a) (yes_of b) e)
 
 -- the atoms of a variable and of its negation
 module _ (atoms : List Atom) where
@@ -134,25 +127,5 @@ atom_there atoms (pos zero) v = absurd (false≢true v)
 atom_there atoms (pos (suc n)) v = subst (λ (l : Lit). Contains atoms l.atom) (sym (named_pos atoms n)) (at_place atoms n v)
 atom_there atoms (negsuc n) v = subst (λ (l : Lit). Contains atoms l.atom) (sym (named_neg atoms n)) (at_place atoms n v)
 
--- the clauses of the one crate are clauses of the other
-literal_same : (vars : ℕ) (l : ℤ) → variables.is_literal vars l ≡ true → is_literal vars l ≡ true
-literal_same vars (pos zero) e = absurd (false≢true e)
-literal_same vars (pos (suc n)) e = let parts = and_parts (nat_le 1 (suc n)) (nat_le (suc n) vars) e in lt-ltb n vars (leb-true (suc n) vars parts.1)
-literal_same vars (negsuc n) e =
-    let parts = and_parts (nat_le 1 (n + 1)) (nat_le (n + 1) vars) e in
-    let le : n + 1 ≤ vars = leb-true (n + 1) vars parts.1 in
-    lt-ltb n vars (omega (arith, le))
-
-clause_same : (vars : ℕ) (ls : List ℤ) → list_all (variables.is_literal vars) ls ≡ true → is_clause vars ls ≡ true
-unfolding is_clause
-clause_same vars [] e = refl
-clause_same vars (l ∷ ls) e =
-    let parts = and_parts (variables.is_literal vars l) _ e in and_from (is_literal vars l) _ (literal_same vars l parts.0) (clause_same vars ls parts.1)
-
-clauses_same : (vars : ℕ) (cs : List (List ℤ)) → list_all (list_all (variables.is_literal vars)) cs ≡ true → list_all (is_clause vars) cs ≡ true
-clauses_same vars [] e = refl
-clauses_same vars (c ∷ cs) e =
-    let parts = and_parts (list_all (variables.is_literal vars) c) _ e in and_from (is_clause vars c) _ (clause_same vars c parts.0) (clauses_same vars cs parts.1)
-
 pub solvable : (cnf : Cnf) → variables.IsCnf cnf → verdict.IsCnf cnf
-solvable cnf h = record { vars = let few = h.few in omega (arith, few); clauses = clauses_same cnf.vars cnf.clauses h.literals }
+solvable cnf h = h

@@ -14,7 +14,7 @@ use Rattle.ct_sat.specs.Literal.{is_literal, is_clause}
 use Rattle.ct_sat.specs.Verdict.{satisfies, IsModel}
 use Rattle.ct_cnf.specs.declared.encoding.Encoded.{Encoded}
 use Rattle.ct_cnf.specs.Encoding.{named, through, origin_clause, SatisfiesOrigins}
-use Rattle.ct_cnf.proofs.Items.{item_cases, no_item, mapped_item, unmapped_item}
+use Rattle.ct_word.proofs.Items.{item_cases, no_item, mapped_item, unmapped_item}
 use Rattle.ct_decide.specs.Question.{IsEncoding}
 use Rattle.ct_decide.proofs.Named.{same_atom_self, atom_there}
 use Rattle.ct_decide.proofs.Accepted.{clauses_within}

@@ -28,7 +28,7 @@ use Rattle.ct_derivation.proofs.Modelled.{each_right}
 use Rattle.ct_sat.specs.Verdict.{IsModel}
 use Rattle.ct_cnf.specs.declared.encoding.Encoded.{Encoded}
 use Rattle.ct_cnf.specs.Encoding.{IsConditionBelow, IsTermBelow}
-use Rattle.ct_cnf.proofs.Items.{item_cases, first_item, later_item, no_item}
+use Rattle.ct_word.proofs.Items.{item_cases, first_item, later_item, no_item}
 use Rattle.ct_cnf.proofs.Longer.{longer}
 use Rattle.ct_equality.specs.Assigned.{is_column_kind, is_column_word, is_plain_term, is_plain_atom, are_plain, IsLink, AreLinks, IsFalsePath}
 use Rattle.ct_equality.specs.Terms.{is_end, is_end_of}

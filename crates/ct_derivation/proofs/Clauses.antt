@@ -18,7 +18,7 @@ use Rattle.ct_derivation.specs.Definition.{defining, definition}
 use Rattle.ct_derivation.specs.Path.{pair_of, is_constant, end_of, no_links, moves, ends_clause, is_path, path_clause}
 use Rattle.ct_derivation.specs.Accepts.{is_clause}
 use Rattle.ct_derivation.specs.Truth.{lit_holds, clause_holds}
-use Rattle.ct_derivation.proofs.Values.{same_value_is, same_value_from}
+use Rattle.ct_word.proofs.Alike.{value_decides}
 use Rattle.ct_word.proofs.Splits.{meaning_at}
 use Rattle.ct_word.proofs.Constants.{one_constant}
 use Rattle.ct_derivation.proofs.Members.{same_members_hold}
@@ -103,10 +103,10 @@ module _ (ws : List ℕ) (v : World) where
   unfolding lit_holds
   yes_pair s t e =
       cond_both (nat_lt s t) (atom.Same s t) (atom.Same t s) (λ a. lit_holds ws v (yes_of a) ≡ true)
-      (λ _. same_value_from _ _ e) (λ _. same_value_from _ _ (sym e))
+      (λ _. (value_decides _ _).1 e) (λ _. (value_decides _ _).1 (sym e))
 
   differ : (s t : ℕ) → (value_at s ≡ value_at t → ⊥) → same_value (value_at s) (value_at t) ≡ false
-  differ s t ne = false_from_ne_true _ (λ e. ne (same_value_is _ _ e))
+  differ s t ne = false_from_ne_true _ (λ e. ne ((value_decides _ _).0 e))
 
   no_pair : (s t : ℕ) → (value_at s ≡ value_at t → ⊥) → lit_holds ws v (no_of (pair_of s t)) ≡ true
   unfolding lit_holds
@@ -116,7 +116,7 @@ module _ (ws : List ℕ) (v : World) where
 
   same_or : (s t : ℕ) → (value_at s ≡ value_at t) ⊎ (value_at s ≡ value_at t → ⊥)
   same_or s t =
-      elim (cases_Bool (same_value (value_at s) (value_at t))) [ inl e ↦ inl (same_value_is _ _ e) | inr f ↦ inr (λ e. false≢true (sym f ∙ same_value_from _ _ e)) ]
+      elim (cases_Bool (same_value (value_at s) (value_at t))) [ inl e ↦ inl ((value_decides _ _).0 e) | inr f ↦ inr (λ e. false≢true (sym f ∙ (value_decides _ _).1 e)) ]
 
   -- a link is broken, or both ends have one value
   links : (t : ℕ) (us : List ℕ) → (clause_holds ws v (no_links t us) ≡ true) ⊎ (value_at t ≡ value_at (end_of t us))

@@ -1,7 +1,9 @@
 -- Literals that are written alike are one, and clauses with the same members have one truth.
-use Rattle.std.proofs.Common.{◌≡◌, ℕ, Bool, true, false, not, List, [], ◌∷◌, nat_eq, refl, ap, ◌∙◌, if◌then◌else◌, inl, inr}
+use Rattle.std.proofs.Common.{◌≡◌, ℕ, Bool, true, false, not, List, [], ◌∷◌, nat_eq, refl, ap, sym, ◌∙◌, subst, if◌then◌else◌, inl, inr}
 use Rattle.std.specs.List.{list_all}
-use Rattle.std.proofs.lemmas.Bool.{eqb-true, and_parts, or_cases, or_parts, false≢true, both_ways, cases_Bool}
+use Rattle.std.specs.Bool.{Decides}
+use Rattle.std.specs.Cmp.{IsEquivalence}
+use Rattle.std.proofs.lemmas.Bool.{eqb-true, eq-eqb, and_from, and_parts, or_cases, or_parts, false≢true, both_ways, cases_Bool}
 use Rattle.ct_word.specs.Value.{World}
 use Rattle.ct_derivation.specs.declared.literals.Atom.{Atom}
 use Rattle.ct_derivation.specs.declared.literals.Atom.TheVariants as atom
@@ -11,17 +13,15 @@ use Rattle.ct_derivation.specs.Truth.{atom_holds, lit_holds, clause_holds}
 
 same_sign_is : (a b : Bool) → same_sign a b ≡ true → a ≡ b
 same_sign_is true true e = refl
-same_sign_is true false e = absurd (false≢true e)
-same_sign_is false true e = absurd (false≢true e)
 same_sign_is false false e = refl
+same_sign_is _ _ e = absurd (false≢true e)
 
-same_atom_is : (a b : Atom) → same_atom a b ≡ true → a ≡ b
+pub same_atom_is : (a b : Atom) → same_atom a b ≡ true → a ≡ b
 same_atom_is (atom.Node p) (atom.Node q) e = ap atom.Node (eqb-true p q e)
 same_atom_is (atom.Same s t) (atom.Same p q) e =
     let both = and_parts (nat_eq s p) (nat_eq t q) e in
     ap (λ x. atom.Same x t) (eqb-true s p both.0) ∙ ap (λ y. atom.Same p y) (eqb-true t q both.1)
-same_atom_is (atom.Node p) (atom.Same s t) e = absurd (false≢true e)
-same_atom_is (atom.Same s t) (atom.Node p) e = absurd (false≢true e)
+same_atom_is _ _ e = absurd (false≢true e)
 
 abbrev lit_of : Bool → Atom → Lit
 lit_of b a = record { positive = b; atom = a }
@@ -31,6 +31,37 @@ unfolding same_lit
 same_lit_is l m e =
     let both = and_parts (same_sign l.positive m.positive) (same_atom l.atom m.atom) e in
     ap (λ b. lit_of b l.atom) (same_sign_is _ _ both.0) ∙ ap (λ a. lit_of m.positive a) (same_atom_is _ _ both.1)
+
+-- each is written like itself
+same_sign_self : (b : Bool) → same_sign b b ≡ true
+same_sign_self true = refl
+same_sign_self false = refl
+
+pub same_atom_self : (a : Atom) → same_atom a a ≡ true
+same_atom_self (atom.Node p) = eq-eqb p p refl
+same_atom_self (atom.Same s t) = and_from (nat_eq s s) (nat_eq t t) (eq-eqb s s refl) (eq-eqb t t refl)
+
+pub same_lit_self : (l : Lit) → same_lit l l ≡ true
+unfolding same_lit
+same_lit_self l = and_from (same_sign l.positive l.positive) (same_atom l.atom l.atom) (same_sign_self l.positive) (same_atom_self l.atom)
+
+pub lit_decides : (l m : Lit) → Decides (same_lit l m) (l ≡ m)
+lit_decides l m = (same_lit_is l m, λ e. subst (λ x. same_lit l x ≡ true) e (same_lit_self l))
+
+both_or_none : (a b : Bool) → (a ≡ true → b ≡ true) → (b ≡ true → a ≡ true) → a ≡ b
+both_or_none true b f g = sym (f refl)
+both_or_none false true f g = g refl
+both_or_none false false f g = refl
+
+flipped : (l m : Lit) → same_lit l m ≡ true → same_lit m l ≡ true
+flipped l m e = (lit_decides m l).1 (sym (same_lit_is l m e))
+
+pub lit_laws : IsEquivalence same_lit
+lit_laws = record {
+  refl = same_lit_self;
+  symm = λ l m. both_or_none _ _ (flipped l m) (flipped m l);
+  congr = λ l m n e. ap (λ x. same_lit x n) (same_lit_is l m e);
+}
 
 signs : (b a : Bool) → (if not b then a else not a) ≡ not (if b then a else not a)
 signs true a = refl

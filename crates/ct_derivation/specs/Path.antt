@@ -1,8 +1,9 @@
 -- The clause of a path of terms: equality is transitive, and different constants differ.
-use Rattle.std.specs.Prelude.{ℕ, Bool, true, false, not, ◌&&◌, List, [], ◌∷◌, ◌++◌, Option, Some, None, nat_eq, nat_lt, slice_get, if◌then◌else◌}
+use Rattle.std.specs.Prelude.{ℕ, Bool, true, not, ◌&&◌, List, [], ◌∷◌, ◌++◌, Option, Some, None, nat_eq, nat_lt, if◌then◌else◌}
 use Rattle.std.specs.List.{list_all}
 use Rattle.ct_word.specs.declared.kinds.Class.TheVariants as class
 pub use Rattle.ct_word.specs.Constant.{is_constant_kind, is_constant_word}
+unfoldable pub use Rattle.ct_word.specs.Constant.{is_constant}
 use Rattle.ct_word.specs.WellFormed.{is_place_of}
 use Rattle.ct_derivation.specs.declared.literals.Atom.{Atom}
 use Rattle.ct_derivation.specs.declared.literals.Atom.TheVariants as atom
@@ -11,10 +12,6 @@ use Rattle.ct_derivation.specs.Literal.{Clause, yes_of, no_of}
 -- the equality of two terms, the smaller place first
 abbrev pub pair_of : ℕ → ℕ → Atom
 pair_of s t = if nat_lt s t then atom.Same s t else atom.Same t s
-
--- whether a place holds a constant
-unfoldable pub is_constant : List ℕ → ℕ → Bool
-is_constant words p = is_constant_word (slice_get words p)
 
 -- the last place of a path that goes on from t
 abbrev pub end_of : ℕ → List ℕ → ℕ

@@ -1,5 +1,5 @@
 -- Clauses over numbered variables.
-use Rattle.std.specs.Prelude.{◌≡◌, ℕ, ◌+◌, ◌<◌, ◌^◌, ℤ, pos, negsuc, Bool, true, false, not, ◌&&◌, nat_eq, nat_le}
+use Rattle.std.specs.Prelude.{◌≡◌, ℕ, zero, suc, ◌+◌, ◌≤◌, ℤ, pos, negsuc, Bool, true, false, not, ◌&&◌, List, nat_eq, nat_lt}
 use Rattle.std.specs.List.{list_all}
 use Rattle.ct_derivation.specs.declared.steps.Cnf.{Cnf}
 use Rattle.ct_derivation.specs.Literal.{same_sign}
@@ -23,11 +23,21 @@ same_signed l m = same_sign l.positive m.positive && nat_eq l.variable m.variabl
 abbrev pub over_variables : Literals
 over_variables = record { literal = Signed; same = same_signed; opposite = λ l. record { positive = not l.positive; variable = l.variable } }
 
--- whether a number stands for a literal over the variables from 1 to vars
+-- whether the variable of a literal is from 1 to `vars`
 abbrev pub is_literal : ℕ → ℤ → Bool
-is_literal vars x = nat_le 1 (signed x).variable && nat_le (signed x).variable vars
+is_literal vars (pos zero) = false
+is_literal vars (pos (suc n)) = nat_lt n vars
+is_literal vars (negsuc n) = nat_lt n vars
 
--- the literals are over the variables from 1 to the number of variables, which fit a signed number
-pub record IsCnf (c : Cnf) : Type 0 where
-  pub few : c.vars < 2 ^ 31
-  pub literals : list_all (list_all (is_literal c.vars)) c.clauses ≡ true
+-- whether the variables of a clause are from 1 to `vars`
+unfoldable pub is_clause : ℕ → List ℤ → Bool
+is_clause vars c = list_all (is_literal vars) c
+
+-- the largest variable of which the negative is a literal too
+abbrev pub LARGEST : ℕ
+LARGEST = 2147483647
+
+-- fewer than 2^31 variables, and no literal but of these
+pub record IsCnf (cnf : Cnf) : Type 0 where
+  pub vars : cnf.vars ≤ LARGEST
+  pub clauses : list_all (is_clause cnf.vars) cnf.clauses ≡ true

@@ -10,5 +10,5 @@ mod meaning;
 mod steps;
 
 pub use literals::{Atom, Lit};
-pub use meaning::{conditions_by_clauses, refuted};
+pub use meaning::{conditions_by_clauses, refuted, still_accepted};
 pub use steps::{Cnf, Derivation, Proof, Step, Why};

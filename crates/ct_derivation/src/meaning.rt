@@ -1,6 +1,8 @@
 // What accepted derivations and satisfied clauses show.
 
-ghost use Rattle.std.specs.Prelude.{◌≡◌, ℕ, Bool, true};
+ghost use Rattle.std.specs.Prelude.{◌≡◌, ℕ, Bool, true, List};
+ghost use mathlib.Core.List.{IsPrefix};
+ghost use Rattle.ct_word.specs.Later.{Later};
 ghost use Rattle.ct_word.specs.Value.{World};
 ghost use Rattle.ct_word.specs.Condition.{holds_at};
 ghost use Rattle.ct_word.specs.Reading.{condition_at};
@@ -18,6 +20,13 @@ pub fn refuted(words: &[u64], root: u32, derivation: &Derivation)
     requires words { IsWellFormed words.now }
     requires accepted { Accepts words.now root derivation.now }
     ensures { IsRefuted words.now root }
+{}
+
+/// A derivation that is accepted over words is accepted over every longer list of words.
+pub fn still_accepted(words: &[u64], root: u32, derivation: &Derivation)
+    requires { Accepts words.now root derivation.now }
+    ensures longer { (longer : List ℕ) → IsPrefix words.now longer → Accepts longer root derivation.now }
+    ensures later { Later words.now (λ longer. Accepts longer root derivation.now) }
 {}
 
 /// An assignment that satisfies the defining clauses of some conditions, closed under their

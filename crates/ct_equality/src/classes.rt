@@ -6,8 +6,9 @@ ghost use Rattle.ct_equality.specs.Joining.{clash_by, clash_of, joined_by, joine
 ghost use Rattle.ct_equality.specs.Assigned.{IsClash, are_plain};
 ghost use Rattle.ct_equality.specs.Classes.{AreListed, AreClasses, AreJoined, IsApart, IsContradiction};
 
-use crate::places::{is_constant, number_at};
+use crate::places::number_at;
 use ct_derivation::Atom;
+use ct_word::is_constant;
 use std::alloc::{AllocError, Global};
 
 /// A term, the term by which its class goes, and a number.

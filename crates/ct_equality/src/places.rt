@@ -1,30 +1,9 @@
-// Places of constants.
+// The numbers of the constants `@k`.
 
 ghost use Rattle.std.specs.Prelude.{◌≡◌, Some};
-ghost use Rattle.ct_derivation.specs.Path as path;
 ghost use Rattle.ct_equality.specs.Members.{number_at, number_in};
 
 use ct_word::{Kind, kind, left};
-
-fn names_constant(kind: Option<Kind>) -> bool
-    ensures { result ≡ path.is_constant_kind kind }
-{
-    matches!(
-        kind,
-        Some(Kind::Number | Kind::TextConstant | Kind::OtherValue)
-    )
-}
-
-/// Whether a place, which may lie past the words, is one of a constant.
-#[tactic(auto, unfolding(ct_derivation::specs::Path::is_constant))]
-pub fn is_constant(words: &[u64], place: u32) -> bool
-    ensures { result ≡ path.is_constant words.now place }
-{
-    match words.get(place as usize) {
-        None => false,
-        Some(word) => names_constant(kind(*word)),
-    }
-}
 
 fn number_in(word: u64) -> Option<u32>
     ensures { result ≡ number_in (Some word) }

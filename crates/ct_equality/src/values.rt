@@ -11,8 +11,7 @@ ghost use Rattle.ct_equality.specs.Members as listed;
 ghost use Rattle.ct_equality.specs.Valued.{AreNumbered, AreNumberedTo, HasValue, HaveValues, class_value, with_pair, world_of};
 
 use crate::classes::{Member, class_of, number_of};
-use crate::places::is_constant;
-use ct_word::{List, Memory, Null, Term, Value, World, term_at};
+use ct_word::{List, Memory, Null, Term, Value, World, is_constant, term_at};
 use std::alloc::Global;
 
 fn has_number(m: &Member, number: u32) -> bool

@@ -1,20 +1,19 @@
 -- What the positions of conditions stand for.
-use Rattle.std.proofs.Common.{◌≡◌, ℕ, ◌+◌, ◌<◌, ◌≤◌, Bool, List, [], ◌∷◌, ◌++◌, length, map, take, get_or, Some, refl, ap, sym, ◌∙◌, subst, arith}
-use Rattle.std.specs.Prelude.{IsTrue, is_some}
-use Rattle.std.specs.Ordering.{nat_cmp}
-use Rattle.std.specs.BTreeMap.{BTreeMap, get}
-use Rattle.std.specs.List.{list_all, AllZip}
-use Rattle.std.proofs.lemmas.Bool.{and_parts, and_from, lt-ltb}
-use Rattle.std.proofs.lemmas.List.{map_more}
+use Rattle.std.proofs.Common.{◌≡◌, ℕ, ◌≤◌, List, [], ◌∷◌, length, map, refl, ap, sym, subst, arith}
+use Rattle.std.specs.Prelude.{IsTrue}
+use Rattle.std.specs.BTreeMap.{BTreeMap}
+use Rattle.std.specs.List.{AllByRecursion, list_all, AllZip}
+use Rattle.std.proofs.lemmas.Bool.{and_from, lt-ltb}
 use Rattle.ct_word.specs.declared.values.Term.{Term}
 use Rattle.ct_word.specs.Condition.{Condition, SameTruth}
 use Rattle.ct_word.specs.Reading.{condition_at}
 use Rattle.ct_rewrite.specs.declared.answer.Node.{Node}
 use Rattle.ct_rewrite.specs.declared.forms.Form.{Form}
 use Rattle.ct_rewrite.specs.Nodes.{node_condition, is_position}
-use Rattle.ct_rewrite.specs.Marks.{IsKept}
+use Rattle.ct_rewrite.specs.Moving.{IsKept}
 use Rattle.ct_rewrite.specs.Building.{Says}
-use Rattle.ct_rewrite.specs.Signs.{HasForm, has_form, plus_of, plus_at}
+use Rattle.ct_rewrite.specs.Below.{HasAt}
+use Rattle.ct_rewrite.specs.Signs.{IsFormAt, plus_of, plus_at}
 use Rattle.ct_rewrite.specs.Sizes.{Fits, NoneIsEmpty, deep, nest_of, text_of, wide}
 use Rattle.ct_rewrite.proofs.Sizes.{nest_lower, text_shorter}
 
@@ -23,23 +22,12 @@ record Stands (ns : List Node) (k : ℕ) (c : Condition) : Type 0 where
   says : Says ns k c
   fits : Fits (node_condition ns k) c
 
-module _ (ws : List ℕ) (ns : List Node) (fs : BTreeMap ℕ Form) (there : ℕ → Bool) (have : (k : ℕ) → IsTrue (there k) → HasForm ws ns fs k) where
-  -- the positions for plus stand for the conditions at the places
-  roots_stand : (roots : List ℕ) → IsTrue (list_all there roots) → AllZip (λ k p. Stands ns k (condition_at ws p)) (map (plus_at fs) roots) roots
-  roots_stand [] e = tt
-  roots_stand (r ∷ roots) e =
-      let p = and_parts _ _ e in
-      let h = have r p.0 in
-      (subst (λ k. Stands ns k (condition_at ws r)) (sym (ap plus_of h.at)) (record { says = h.is.plus; fits = h.is.plus_fits }), roots_stand roots p.1)
-
-  pub roots_have : (roots : List ℕ) → IsTrue (list_all there roots) → IsTrue (list_all (has_form fs) roots)
-  roots_have [] e = refl
-  roots_have (r ∷ roots) e = let p = and_parts _ _ e in and_from _ _ (ap is_some (have r p.0).at) (roots_have roots p.1)
-
--- the position for plus at one more place
-pub plus_more : (fs : BTreeMap ℕ Form) (ks ps : List ℕ) (i : ℕ) (f : Form) → i < length ps → ks ≡ map (plus_at fs) (take i ps) → get nat_cmp fs (get_or ps i 0) ≡ Some f
-    → ks ++ f.plus ∷ [] ≡ map (plus_at fs) (take (i + 1) ps)
-plus_more fs ks ps i f lt e at = (λ j. e j ++ plus_of (sym at j) ∷ []) ∙ sym (map_more (plus_at fs) ps i 0 lt)
+-- the positions for plus stand for the conditions at the places
+roots_stand : (ws : List ℕ) (ns : List Node) (fs : BTreeMap ℕ Form) (roots : List ℕ) → AllByRecursion (HasAt (IsFormAt ws ns) fs) roots
+    → AllZip (λ k p. Stands ns k (condition_at ws p)) (map (plus_at fs) roots) roots
+roots_stand ws ns fs [] h = tt
+roots_stand ws ns fs (r ∷ roots) h =
+    (subst (λ k. Stands ns k (condition_at ws r)) (sym (ap plus_of h.0.at)) (record { says = h.0.is.plus; fits = h.0.is.plus_fits }), roots_stand ws ns fs roots h.1)
 
 -- positions that stand for the conditions, and those at which they were kept
 module _ (ws : List ℕ) (ns out : List Node) (P : Condition → Condition → Type 0) (says : (k : ℕ) (c : Condition) → Stands ns k c → P (node_condition ns k) c) where
@@ -64,12 +52,12 @@ stand_placed ws ns [] (p ∷ ps) h = absurd h
 stand_placed ws ns (k ∷ ks) [] h = absurd h
 stand_placed ws ns (k ∷ ks) (p ∷ ps) h = and_from _ _ (lt-ltb k (length ns) h.0.says.within) (stand_placed ws ns ks ps h.1)
 
-module _ (ws : List ℕ) (ns read : List Node) (fs : BTreeMap ℕ Form) (there : ℕ → Bool) (roots ks : List ℕ)
-    (have : (k : ℕ) → IsTrue (there k) → HasForm ws ns fs k) (conditions : IsTrue (list_all there roots)) (seen : read ≡ ns) (found : ks ≡ map (plus_at fs) roots) where
+module _ (ws : List ℕ) (ns read : List Node) (fs : BTreeMap ℕ Form) (roots ks : List ℕ)
+    (have : AllByRecursion (HasAt (IsFormAt ws ns) fs) roots) (seen : read ≡ ns) (found : ks ≡ map (plus_at fs) roots) where
   all_stand : AllZip (λ k p. Stands read k (condition_at ws p)) ks roots
   all_stand =
       subst (λ (xs : List ℕ). AllZip (λ k p. Stands read k (condition_at ws p)) xs roots) (sym found)
-      (subst (λ (xs : List Node). AllZip (λ k p. Stands xs k (condition_at ws p)) (map (plus_at fs) roots) roots) (sym seen) (roots_stand ws ns fs there have roots conditions))
+      (subst (λ (xs : List Node). AllZip (λ k p. Stands xs k (condition_at ws p)) (map (plus_at fs) roots) roots) (sym seen) (roots_stand ws ns fs roots have))
 
   pub roots_placed : IsTrue (list_all (is_position read) ks)
   roots_placed = stand_placed ws read ks roots all_stand

@@ -1,7 +1,7 @@
 -- Positions that stand once in a list, and positions that have a condition of their own.
 use Rattle.std.proofs.Common.{◌≡◌, ℕ, zero, suc, ◌<◌, ◌≤◌, Bool, true, false, not, List, [], ◌∷◌, ◌++◌, length, map, take, drop, get_or, insert, nat_eq, nat_lt, Some, refl, ap, sym, ◌∙◌, subst, arith, inl, inr}
 use Rattle.std.specs.Prelude.{IsTrue, slice_get}
-use Rattle.std.specs.List.{list_all, list_any, IsDistinct}
+use Rattle.std.specs.List.{AllByRecursion, list_all, list_any, IsDistinct}
 use Rattle.std.proofs.lemmas.Bool.{and_parts, and_from, or_parts, both_ways, ltb-true, eqb-false, ne_eqb, not-true, not_from_false, cases_order}
 use Rattle.std.proofs.lemmas.List.{take-append-drop}
 use Rattle.std.proofs.lemmas.List.Folds.{list_all-append}
@@ -44,20 +44,18 @@ child_put_in ks read i c b e f g d =
     (subst (λ (xs : List ℕ). IsTrue (is_none_of c xs)) parts (none_from_absent c ks absent))
 
 -- where different positions go to different ones
-module _ (f : ℕ → ℕ) (good : ℕ → Bool) (tells : (a b : ℕ) → IsTrue (good a) → IsTrue (good b) → f a ≡ f b → a ≡ b) where
-  none_mapped : (k : ℕ) (ks : List ℕ) → IsTrue (good k) → IsTrue (list_all good ks) → IsTrue (is_none_of k ks) → IsTrue (is_none_of (f k) (map f ks))
-  none_mapped k [] g e n = refl
-  none_mapped k (j ∷ ks) g e n =
-      let p = and_parts (good j) (list_all good ks) e in
+module _ (f : ℕ → ℕ) (P : ℕ → Type 0) (tells : (a b : ℕ) → P a → P b → f a ≡ f b → a ≡ b) where
+  none_mapped : (k : ℕ) (ks : List ℕ) → P k → AllByRecursion P ks → IsTrue (is_none_of k ks) → IsTrue (is_none_of (f k) (map f ks))
+  none_mapped k [] g h n = refl
+  none_mapped k (j ∷ ks) g h n =
       let q = and_parts (not (nat_eq k j)) (is_none_of k ks) n in
-      and_from _ _ (not_from_false _ (ne_eqb (f k) (f j) (λ s. eqb-false k j (not-true _ q.0) (tells k j g p.0 s)))) (none_mapped k ks g p.1 q.1)
+      and_from _ _ (not_from_false _ (ne_eqb (f k) (f j) (λ s. eqb-false k j (not-true _ q.0) (tells k j g h.0 s)))) (none_mapped k ks g h.1 q.1)
 
-  pub distinct_mapped : (ks : List ℕ) → IsTrue (list_all good ks) → IsTrue (are_distinct ks) → IsTrue (are_distinct (map f ks))
-  distinct_mapped [] e d = refl
-  distinct_mapped (k ∷ ks) e d =
-      let p = and_parts (good k) (list_all good ks) e in
+  pub distinct_mapped : (ks : List ℕ) → AllByRecursion P ks → IsTrue (are_distinct ks) → IsTrue (are_distinct (map f ks))
+  distinct_mapped [] h d = refl
+  distinct_mapped (k ∷ ks) h d =
       let q = and_parts (is_none_of k ks) (are_distinct ks) d in
-      and_from _ _ (none_mapped k ks p.0 p.1 q.0) (distinct_mapped ks p.1 q.1)
+      and_from _ _ (none_mapped k ks h.0 h.1 q.0) (distinct_mapped ks h.1 q.1)
 
 node_itself : (n : Node) → same_node n n ≡ true
 node_itself node.True = refl

@@ -8,7 +8,7 @@ pub mod Signs
 pub mod Conditions
 pub mod Openings
 pub mod Distinct
-pub mod Marks
+pub mod Moving
 pub mod Sides
 pub mod Rules
 pub mod Literals

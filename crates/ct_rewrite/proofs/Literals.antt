@@ -7,8 +7,8 @@ use Rattle.std.proofs.lemmas.List.Folds.{list_all-append}
 use Rattle.indexmap.specs.IndexSet.{insert_key}
 use Rattle.ct_word.specs.Condition.{Condition, listed}
 use Rattle.ct_rewrite.specs.declared.answer.Node.{Node}
-use Rattle.ct_rewrite.specs.declared.builder.Connective.{Connective}
-use Rattle.ct_rewrite.specs.declared.builder.Connective.TheVariants as connective
+use Rattle.ct_word.specs.declared.connectives.Connective.{Connective}
+use Rattle.ct_word.specs.declared.connectives.Connective.TheVariants as connective
 use Rattle.ct_rewrite.specs.Nodes.{nth, read_nodes, node_value, node_condition}
 use Rattle.ct_rewrite.specs.Building.{joint_node}
 use Rattle.ct_rewrite.specs.Joining.{is_no_literal}

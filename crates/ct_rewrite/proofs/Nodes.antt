@@ -1,10 +1,9 @@
 -- A node list keeps what its positions are when nodes are put at its end.
-use Rattle.std.proofs.Common.{◌≡◌, ℕ, zero, suc, ◌+◌, ◌<◌, true, ◌&&◌, List, [], ◌∷◌, ◌++◌, length, map, get_or, take, drop, Some, nat_lt, refl, ap, sym, ◌∙◌, subst, arith, length-append}
+use Rattle.std.proofs.Common.{◌≡◌, ℕ, zero, suc, ◌+◌, ◌<◌, ◌≤◌, true, ◌&&◌, List, [], ◌∷◌, ◌++◌, length, map, get_or, take, drop, Some, nat_lt, refl, ap, sym, ◌∙◌, subst, arith, length-append}
 use Rattle.std.specs.Prelude.{slice_get, IsTrue}
 use Rattle.std.specs.List.{list_all}
 use Rattle.std.specs.Cmp.Lexicographic.{same_text}
-use Rattle.std.proofs.lemmas.Bool.{and_parts, and_from, ltb-true, eqb-true, false≢true}
-use Rattle.std.proofs.lemmas.Bool.Decides.{Decides-int_eq}
+use Rattle.std.proofs.lemmas.Bool.{and_parts, and_from, ltb-true, lt-ltb, false≢true}
 use Rattle.std.proofs.lemmas.List.{take-append-drop}
 use Rattle.std.proofs.lemmas.Option.{slice_get-get_or}
 use Rattle.ct_word.specs.declared.values.Value.{Value}
@@ -21,6 +20,8 @@ use Rattle.ct_rewrite.specs.contracts.answer.NodePartialEq.TheImpl as node_eq
 use Rattle.ct_word.specs.contracts.values.TermPartialEq.TheImpl as term_eq
 use Rattle.ct_word.specs.contracts.values.NullPartialEq.TheImpl as null_eq
 use Rattle.ct_word.specs.contracts.values.ValuePartialEq.TheImpl as value_eq
+use Rattle.ct_word.proofs.Alike.{term_decides}
+use Rattle.ct_word.proofs.Items.{all_implied}
 use Rattle.ct_rewrite.specs.Nodes.{nth, condition_of_node, read_nodes, node_value, node_condition, stands_over, are_ordered_from, IsOrdered, same_node}
 
 pub read-append : (cs : List Condition) (ns ms : List Node) → read_nodes cs (ns ++ ms) ≡ read_nodes (read_nodes cs ns) ms
@@ -64,6 +65,9 @@ read_at cs (m ∷ ns) (suc k) n e =
     let j : length cs + suc k ≡ length (cs ++ condition_of_node cs m ∷ []) + k = omega (arith, length-append cs (condition_of_node cs m ∷ [])) in
     ap (λ i. nth (read_nodes (cs ++ condition_of_node cs m ∷ []) ns) i) j ∙ read_at (cs ++ condition_of_node cs m ∷ []) ns k n e
 
+pub below_more : (m n : ℕ) (ks : List ℕ) → m ≤ n → IsTrue (list_all (λ c. nat_lt c m) ks) → IsTrue (list_all (λ c. nat_lt c n) ks)
+below_more m n ks le e = all_implied (λ c. nat_lt c m) (λ c. nat_lt c n) (λ c f. lt-ltb c n (omega (arith, le, ltb-true c m f))) ks e
+
 children_agree : (cs ds : List Condition) (k : ℕ) → ((c : ℕ) → c < k → nth cs c ≡ nth ds c)
     → (ks : List ℕ) → IsTrue (list_all (λ c. nat_lt c k) ks) → map (nth cs) ks ≡ map (nth ds) ks
 children_agree cs ds k f [] e = refl
@@ -88,12 +92,15 @@ ordered_at j (m ∷ ns) zero n e f =
 ordered_at j (m ∷ ns) (suc k) n e f =
     let z : j + 1 + k ≡ j + suc k = omega arith in subst (λ i. IsTrue (stands_over i n)) z (ordered_at (j + 1) ns k n e (and_parts _ _ f).1)
 
+pub stands_at : (ns : List Node) (k : ℕ) (n : Node) → IsOrdered ns → slice_get ns k ≡ Some n → IsTrue (stands_over k n)
+stands_at ns k n ordered e = let z : 0 + k ≡ k = omega arith in subst (λ i. IsTrue (stands_over i n)) z (ordered_at 0 ns k n e ordered)
+
 -- the condition at a position is that of its node
 pub condition_of_position : (ns : List Node) (k : ℕ) (n : Node) → IsOrdered ns → slice_get ns k ≡ Some n → node_condition ns k ≡ node_value ns n
 condition_of_position ns k n ordered e =
     let z : k ≡ 0 + k = omega arith in
     ap (λ j. nth (read_nodes [] ns) j) z ∙ read_at [] ns k n e
-    ∙ node_agrees (read_nodes [] (take k ns)) (read_nodes [] ns) k agree n (subst (λ i. IsTrue (stands_over i n)) (sym z) (ordered_at 0 ns k n e ordered))
+    ∙ node_agrees (read_nodes [] (take k ns)) (read_nodes [] ns) k agree n (stands_at ns k n ordered e)
   where
     long : (xs : List Node) (j c : ℕ) (m : Node) → slice_get xs j ≡ Some m → c < j → c < length (take j xs)
     long [] j c m f lt = cc
@@ -115,29 +122,12 @@ ordered_more j (m ∷ ns) n e f =
 pub ordered_push : (ns : List Node) (n : Node) → IsOrdered ns → IsTrue (stands_over (length ns) n) → IsOrdered (ns ++ n ∷ [])
 ordered_push ns n e f = let z : length ns ≡ 0 + length ns = omega arith in ordered_more 0 ns n e (subst (λ i. IsTrue (stands_over i n)) z f)
 
-pub same_value_is : (a b : Value) → word.same_value a b ≡ true → a ≡ b
-same_value_is (val.Int a) (val.Int b) e = ap val.Int ((Decides-int_eq a b).0 e)
-same_value_is (val.Text a) (val.Text b) e = ap val.Text (same_text a b (sym e))
-same_value_is (val.Other a) (val.Other b) e = ap val.Other (eqb-true a b e)
-same_value_is _ _ e = absurd (false≢true e)
-
-same_null_is : (a b : Null) → word.same_null a b ≡ true → a ≡ b
-same_null_is (null.Named a) (null.Named b) e = ap null.Named (same_text a b (sym e))
-same_null_is (null.Fresh s m) (null.Fresh t n) e = let p = and_parts _ _ e in λ i. null.Fresh (eqb-true s t p.0 i) (eqb-true m n p.1 i)
-same_null_is _ _ e = absurd (false≢true e)
-
-pub same_term_is : (a b : Term) → word.same_term a b ≡ true → a ≡ b
-same_term_is (term.Column a) (term.Column b) e = ap term.Column (eqb-true a b e)
-same_term_is (term.Null a) (term.Null b) e = ap term.Null (same_null_is a b e)
-same_term_is (term.Value a) (term.Value b) e = ap term.Value (same_value_is a b e)
-same_term_is _ _ e = absurd (false≢true e)
-
 -- nodes that are written alike are one
 pub same_node_is : (a b : Node) → same_node a b ≡ true → a ≡ b
 same_node_is node.True node.True e = refl
 same_node_is node.False node.False e = refl
-same_node_is (node.Eq s t) (node.Eq u w) e = let p = and_parts _ _ e in λ i. node.Eq (same_term_is s u p.0 i) (same_term_is t w p.1 i)
-same_node_is (node.Ne s t) (node.Ne u w) e = let p = and_parts _ _ e in λ i. node.Ne (same_term_is s u p.0 i) (same_term_is t w p.1 i)
+same_node_is (node.Eq s t) (node.Eq u w) e = let p = and_parts _ _ e in λ i. node.Eq ((term_decides s u).0 p.0 i) ((term_decides t w).0 p.1 i)
+same_node_is (node.Ne s t) (node.Ne u w) e = let p = and_parts _ _ e in λ i. node.Ne ((term_decides s u).0 p.0 i) ((term_decides t w).0 p.1 i)
 same_node_is (node.And ks) (node.And ls) e = ap node.And (same_text ks ls (sym e))
 same_node_is (node.Or ks) (node.Or ls) e = ap node.Or (same_text ks ls (sym e))
 same_node_is _ _ e = absurd (false≢true e)
@@ -188,7 +178,4 @@ pub node_read : (inside ns read : List Node) (k : ℕ) (n : Node) → IsOrdered 
 node_read inside ns read k n ordered e f lt is =
     let there : slice_get ns k ≡ Some n = slice_get-get_or ns k n lt ∙ ap (λ (xs : List Node). Some (get_or xs k n)) (sym (f ∙ e)) ∙ ap Some (sym is) in
     let ok : IsOrdered ns = subst IsOrdered e ordered in
-    record {
-      value = condition_of_position ns k n ok there;
-      below = let z : 0 + k ≡ k = omega arith in subst (λ i. IsTrue (stands_over i n)) z (ordered_at 0 ns k n there ok);
-    }
+    record { value = condition_of_position ns k n ok there; below = stands_at ns k n ok there }

@@ -2,18 +2,21 @@
 use Rattle.std.proofs.Common.{◌≡◌, ℕ, zero, suc, ◌+◌, ◌<◌, Bool, true, false, not, ◌&&◌, ◌||◌, List, [], ◌∷◌, length, map, take, drop, get_or, nat_lt, nat_eq, insert, refl, ap, sym, ◌∙◌, subst, arith}
 use Rattle.std.specs.Prelude.{IsTrue}
 use Rattle.std.specs.List.{list_all, list_any}
-use Rattle.std.proofs.lemmas.Bool.{and_parts, and_from, ltb-true, lt-ltb, eqb-true, false≢true, false_from_ne_true, both_ways}
+use Rattle.std.proofs.lemmas.Bool.{and_parts, and_from, ltb-true, eqb-true, false≢true, false_from_ne_true, both_ways}
 use Rattle.std.proofs.lemmas.List.{take-append-drop}
 use Rattle.std.proofs.lemmas.List.Folds.{list_all-append, list_all_more}
 use Rattle.ct_word.specs.declared.values.Value.{Value}
 use Rattle.ct_word.specs.Value.{World}
 use Rattle.ct_word.specs.Condition.{Condition, holds, all_hold, any_holds, listed}
 use Rattle.ct_rewrite.specs.declared.answer.Node.{Node}
-use Rattle.ct_rewrite.specs.declared.builder.Connective.{Connective}
-use Rattle.ct_rewrite.specs.declared.builder.Connective.TheVariants as connective
+use Rattle.ct_word.specs.declared.connectives.Connective.{Connective}
+use Rattle.ct_word.specs.declared.connectives.Connective.TheVariants as connective
 use Rattle.ct_rewrite.specs.Nodes.{nth, node_condition, node_value, stands_over, is_position, children_of}
-use Rattle.ct_rewrite.specs.Building.{Says, joined, joint_node}
-use Rattle.ct_rewrite.specs.Joining.{open_by, leaves_open, all_open, node_open, NeverBothOpen, StandFor, Settle, HasMembersOf}
+use Rattle.ct_rewrite.specs.Building.{Says, joint_node}
+use Rattle.ct_word.specs.Connective.{joined, join, open_by}
+use Rattle.ct_word.proofs.Joins.{joined_holds}
+use Rattle.ct_rewrite.proofs.Nodes.{below_more}
+use Rattle.ct_rewrite.specs.Joining.{leaves_open, all_open, node_open, NeverBothOpen, StandFor, Settle, HasMembersOf}
 
 module _ (v : World) (row : List Value) (f : ℕ → Condition) where
   all_hold_is : (ks : List ℕ) → all_hold v row (listed (map f ks)) ≡ list_all (λ k. holds v row (f k)) ks
@@ -42,16 +45,12 @@ module _ (j : Connective) (ns : List Node) (k : ℕ) (n : Node) (value : node_co
   children_stand ks e v row = sym (open_at j ns k _ (value ∙ ap (node_value ns) e) v row ∙ joint_open j _ v row ks)
 
 -- the children of a node lie in the node list
-below_all : (m n : ℕ) (ks : List ℕ) → m < n → IsTrue (list_all (λ c. nat_lt c m) ks) → IsTrue (list_all (λ c. nat_lt c n) ks)
-below_all m n [] lt e = refl
-below_all m n (c ∷ ks) lt e = let p = and_parts _ _ e in and_from _ _ (lt-ltb c n (omega (arith, lt, ltb-true c m p.0))) (below_all m n ks lt p.1)
-
 joint_below : (j : Connective) (m : ℕ) (ks : List ℕ) → IsTrue (stands_over m (joint_node j ks)) → IsTrue (list_all (λ c. nat_lt c m) ks)
 joint_below connective.And m ks e = e
 joint_below connective.Or m ks e = e
 
 pub children_placed : (j : Connective) (ns : List Node) (k : ℕ) (n : Node) (ks : List ℕ) → k < length ns → IsTrue (stands_over k n) → n ≡ joint_node j ks → IsTrue (list_all (is_position ns) ks)
-children_placed j ns k n ks lt over e = below_all k (length ns) ks lt (joint_below j k ks (subst (λ x. IsTrue (stands_over k x)) e over))
+children_placed j ns k n ks lt over e = below_more k (length ns) ks (omega (arith, lt)) (joint_below j k ks (subst (λ x. IsTrue (stands_over k x)) e over))
 
 -- members of lists of children
 have_child : (ks : List ℕ) (c : ℕ) → list_any (λ y. nat_eq y c) ks ≡ true → HasMembersOf ks ks (c ∷ [])
@@ -134,19 +133,15 @@ child_below a x n cs over e h = ltb-true x a (h (λ c. nat_lt c a) (ap (list_all
 
 -- a truth is fixed by what it leaves open
 open_joined : (j : Connective) (v : World) (row : List Value) (c d e : Condition) → open_by j (holds v row e) ≡ (open_by j (holds v row c) && open_by j (holds v row d)) → holds v row e ≡ holds v row (joined j c d)
-open_joined connective.And v row c d e h = h ∙ by (holds v row c) (holds v row d) where
-  by : (a b : Bool) → (a && b) ≡ (a && (b && true))
-  by true true = refl
-  by true false = refl
-  by false b = refl
-open_joined connective.Or v row c d e h = by (holds v row e) (holds v row c) (holds v row d) h where
-  by : (x a b : Bool) → not x ≡ (not a && not b) → x ≡ (a || (b || false))
-  by true true b g = refl
-  by true false true g = refl
-  by true false false g = absurd (false≢true g)
-  by false true b g = absurd (false≢true (sym g))
-  by false false true g = absurd (false≢true (sym g))
-  by false false false g = refl
+open_joined j v row c d e h = by j (holds v row e) (holds v row c) (holds v row d) h ∙ sym (joined_holds j v row c d) where
+  by : (i : Connective) (x a b : Bool) → open_by i x ≡ (open_by i a && open_by i b) → x ≡ join i a b
+  by connective.And x a b g = g
+  by connective.Or true true b g = refl
+  by connective.Or true false true g = refl
+  by connective.Or true false false g = absurd (false≢true g)
+  by connective.Or false true b g = absurd (false≢true (sym g))
+  by connective.Or false false true g = absurd (false≢true (sym g))
+  by connective.Or false false false g = refl
 
 -- what two forms bring says what both say together
 pub joined_says : (j : Connective) (old new : List Node) (a b k : ℕ) (left right read all : List ℕ) → read ≡ right → StandFor j old left a → StandFor j old right b → HasMembersOf all left read

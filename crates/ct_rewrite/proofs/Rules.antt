@@ -1,18 +1,19 @@
 -- What is kept of the nodes that the printed form allows.
-use Rattle.std.proofs.Common.{◌≡◌, ℕ, zero, suc, ◌+◌, ◌≤◌, Bool, true, ◌&&◌, List, [], ◌∷◌, length, map, Some, refl, sym, subst, arith}
+use Rattle.std.proofs.Common.{◌≡◌, ℕ, zero, suc, ◌+◌, ◌≤◌, true, ◌&&◌, List, [], ◌∷◌, length, map, Some, refl, sym, subst, arith}
 use Rattle.std.specs.Prelude.{IsTrue, slice_get, sum_by}
 use Rattle.std.specs.List.{list_all}
+use Rattle.std.specs.BTreeMap.{BTreeMap}
 use Rattle.std.proofs.lemmas.Bool.{and_parts, and_from}
 use Rattle.std.proofs.lemmas.List.{length-map}
 use Rattle.std.proofs.lemmas.List.Sums.{sum_by-cons}
 use Rattle.ct_rewrite.specs.declared.answer.Node.{Node}
 use Rattle.ct_rewrite.specs.declared.answer.Node.TheVariants as node
-use Rattle.ct_rewrite.specs.declared.builder.Connective.{Connective}
-use Rattle.ct_rewrite.specs.declared.builder.Connective.TheVariants as connective
+use Rattle.ct_word.specs.declared.connectives.Connective.{Connective}
+use Rattle.ct_word.specs.declared.connectives.Connective.TheVariants as connective
 use Rattle.ct_rewrite.specs.Nodes.{children_of}
 use Rattle.ct_rewrite.specs.Building.{joint_node}
 use Rattle.ct_rewrite.specs.Joining.{HasNoMoreThan}
-use Rattle.ct_rewrite.specs.Marks.{moved_to, moved_node}
+use Rattle.ct_rewrite.specs.Moving.{moved_to, moved_node}
 use Rattle.ct_rewrite.specs.Rules.{is_count_of_children, is_proper, are_children_within, are_sides_in_order, is_unsettled, are_distinct, are_children_distinct}
 
 counted : (xs : List ℕ) → sum_by (λ x. 1) xs ≡ length xs
@@ -24,7 +25,7 @@ no_longer all ks ls read most same once few =
     omega (arith, subst (HasNoMoreThan all ks) same once (λ x. 1), counted all, counted ks, counted ls, few)
 
 -- a node keeps what makes it proper when its children go elsewhere, each to a place of its own
-pub moved_proper : (ps : List ℕ) (n : Node) → IsTrue (is_proper n) → IsTrue (are_distinct (map (moved_to ps) (children_of n))) → IsTrue (is_proper (moved_node ps n))
+pub moved_proper : (ps : BTreeMap ℕ ℕ) (n : Node) → IsTrue (is_proper n) → IsTrue (are_distinct (map (moved_to ps) (children_of n))) → IsTrue (is_proper (moved_node ps n))
 moved_proper ps (node.And ks) e d =
     and_from _ _ (subst (λ m. IsTrue (is_count_of_children m && true && true)) (sym (length-map ks (moved_to ps))) (and_parts (is_count_of_children (length ks) && true && true) (are_distinct ks) e).0) d
 moved_proper ps (node.Or ks) e d =
@@ -33,11 +34,6 @@ moved_proper ps node.True e d = e
 moved_proper ps node.False e d = e
 moved_proper ps (node.Eq s t) e d = e
 moved_proper ps (node.Ne s t) e d = e
-
--- what holds of each proper node holds of all of them
-pub all_weaker : (test : Node → Bool) → ((n : Node) → IsTrue (is_proper n) → IsTrue (test n)) → (ns : List Node) → IsTrue (list_all is_proper ns) → IsTrue (list_all test ns)
-all_weaker test f [] e = refl
-all_weaker test f (n ∷ ns) e = let p = and_parts (is_proper n) (list_all is_proper ns) e in and_from _ _ (f n p.0) (all_weaker test f ns p.1)
 
 pub children_within : (n : Node) → IsTrue (is_proper n) → IsTrue (are_children_within n)
 children_within n e = (and_parts _ _ (and_parts _ (is_unsettled n) (and_parts _ (are_children_distinct n) e).0).0).0

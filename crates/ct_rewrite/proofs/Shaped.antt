@@ -1,5 +1,5 @@
 -- What the words of conditions stand for.
-use Rattle.std.proofs.Common.{◌≡◌, ℕ, ◌<◌, List, [], ◌∷◌, nat_lt, Some, None, refl, ap, arith}
+use Rattle.std.proofs.Common.{◌≡◌, ℕ, ◌<◌, List, [], ◌∷◌, length, nat_lt, Some, None, refl, ap, arith}
 use Rattle.std.specs.Prelude.{IsTrue, slice_get, Option}
 use Rattle.std.specs.List.{AllByRecursion, list_all}
 use Rattle.std.proofs.lemmas.Bool.{false≢true, and_from, lt-ltb}
@@ -10,7 +10,9 @@ use Rattle.ct_word.specs.Word.{kind_of, left_of, right_of}
 use Rattle.ct_word.specs.WellFormed.{IsWellFormed, is_place_of, is_word_of, has_class, same_class, class_of}
 use Rattle.ct_word.specs.Reading.{as_cond}
 use Rattle.ct_word.specs.WordAt.{IsWordAt}
-use Rattle.ct_rewrite.specs.Shape.{shape_of, shape_of_word, shape_at, IsEarlier, IsShaped}
+use Rattle.ct_rewrite.specs.Shape.{shape_of, shape_of_word, shape_at, parts_at, IsEarlier, IsShaped}
+use Rattle.ct_rewrite.specs.Below.{IsDownward}
+use Rattle.ct_word.proofs.Growth.{place_within}
 use Rattle.ct_word.proofs.WordAt.{word_is}
 
 module _ (ws : List ℕ) (p : ℕ) where
@@ -44,6 +46,13 @@ module _ (ws : List ℕ) (p : ℕ) where
   named_below [] e = refl
   named_below (k ∷ ks) e = and_from _ _ (lt-ltb k p e.0.below) (named_below ks e.1)
 
-  pub named_placed : (ks : List ℕ) → AllByRecursion (IsEarlier ws p) ks → IsTrue (list_all (is_place_of ws class.Cond) ks)
+  named_placed : (ks : List ℕ) → AllByRecursion (IsEarlier ws p) ks → IsTrue (list_all (is_place_of ws class.Cond) ks)
   named_placed [] e = refl
   named_placed (k ∷ ks) e = and_from _ _ e.0.placed (named_placed ks e.1)
+
+pub conditions_downward : (ws : List ℕ) (bound : ℕ) → IsWellFormed ws → bound ≡ length ws → IsDownward (is_place_of ws class.Cond) (parts_at ws) bound
+conditions_downward ws bound formed long = record {
+  within = λ k e. omega (arith, place_within ws class.Cond k e, long);
+  lower = λ k e. named_below ws k _ (shaped ws k formed e).parts;
+  inside = λ k e. named_placed ws k _ (shaped ws k formed e).parts;
+}

@@ -1,25 +1,18 @@
 -- What the forms of conditions say.
-use Rattle.std.proofs.Common.{◌≡◌, ℕ, ◌+◌, ◌<◌, ◌≤◌, Bool, true, false, not, ◌&&◌, ◌||◌, List, [], ◌∷◌, ◌++◌, length, Some, refl, ap, sym, ◌∙◌, subst, arith, inl, inr, length-append}
-use Rattle.std.specs.Prelude.{IsTrue}
-use Rattle.std.specs.List.{AllByRecursion, list_all}
-use Rattle.std.specs.declared.cmp.Ordering.TheVariants.{Greater}
-use Rattle.std.specs.Ordering.{nat_cmp, is_eq}
-use Rattle.std.specs.Cmp.{nat_cmp_is}
-use Rattle.std.specs.BTreeMap.{BTreeMap, get, Updates}
-use Rattle.std.proofs.lemmas.Bool.{and_parts, cases_lt}
-use Rattle.ct_word.specs.Reading.{condition_at}
+use Rattle.std.proofs.Common.{◌≡◌, ℕ, ◌<◌, Bool, true, false, not, List, ◌++◌, length, refl, ap, sym, ◌∙◌, subst, arith, length-append}
 use Rattle.ct_word.specs.declared.values.Value.{Value}
 use Rattle.ct_word.specs.declared.values.Term.{Term}
 use Rattle.ct_word.specs.Value.{World}
 use Rattle.ct_word.specs.Condition.{Condition, Same, Not, holds, SameTruth}
 use Rattle.ct_rewrite.specs.declared.answer.Node.{Node}
-use Rattle.ct_rewrite.specs.declared.builder.Connective.{Connective}
-use Rattle.ct_rewrite.specs.declared.builder.Connective.TheVariants as connective
+use Rattle.ct_word.specs.declared.connectives.Connective.{Connective}
+use Rattle.ct_word.specs.declared.connectives.Connective.TheVariants as connective
 use Rattle.ct_rewrite.specs.declared.forms.Form.{Form}
 use Rattle.ct_rewrite.specs.Nodes.{node_condition}
-use Rattle.ct_rewrite.specs.Building.{Grows, Says, literal, joined, dual}
-use Rattle.ct_rewrite.specs.Shape.{IsEarlier}
-use Rattle.ct_rewrite.specs.Signs.{IsForm, HasForm}
+use Rattle.ct_rewrite.specs.Building.{Grows, Says, literal}
+use Rattle.ct_word.specs.Connective.{joined, join, dual}
+use Rattle.ct_word.proofs.Joins.{joined_holds, denied_join}
+use Rattle.ct_rewrite.specs.Signs.{IsForm}
 use Rattle.ct_rewrite.specs.Sizes.{Fits}
 use Rattle.ct_rewrite.proofs.Nodes.{condition_stays}
 use Rattle.ct_rewrite.proofs.Sizes.{fits_as, literal_fits}
@@ -86,20 +79,10 @@ form_is ns ms c k m g h i e f = record { plus = still_says ns ms k c g h; minus 
 
 joined_truth : (j : Connective) (a b c d : Condition) (v : World) (row : List Value) → holds v row a ≡ holds v row c → holds v row b ≡ holds v row d
     → holds v row (joined j a b) ≡ holds v row (joined j c d)
-joined_truth connective.And a b c d v row e f = λ i. e i && (f i && true)
-joined_truth connective.Or a b c d v row e f = λ i. e i || (f i || false)
+joined_truth j a b c d v row e f = joined_holds j v row a b ∙ (λ i. join j (e i) (f i)) ∙ sym (joined_holds j v row c d)
 
 de_morgan : (j : Connective) (c d : Condition) → SameTruth (joined (dual j) (Not c) (Not d)) (Not (joined j c d))
-de_morgan connective.And c d v row = by (holds v row c) (holds v row d) where
-  by : (a b : Bool) → (not a || (not b || false)) ≡ not (a && (b && true))
-  by true true = refl
-  by true false = refl
-  by false b = refl
-de_morgan connective.Or c d v row = by (holds v row c) (holds v row d) where
-  by : (a b : Bool) → (not a && (not b && true)) ≡ not (a || (b || false))
-  by true b = refl
-  by false true = refl
-  by false false = refl
+de_morgan j c d v row = joined_holds (dual j) v row (Not c) (Not d) ∙ sym (denied_join j (holds v row c) (holds v row d)) ∙ ap not (sym (joined_holds j v row c d))
 
 -- a denial has the bounds of what it denies
 fits_denied : (form : Condition) (j : Connective) (c d : Condition) → Fits form (joined (dual j) c d) → Fits form (joined j c d)
@@ -132,34 +115,3 @@ pub equal_form_is : (ns ms : List Node) (s t s1 t1 s2 t2 : Term) (k m : ℕ) →
 equal_form_is ns ms s t s1 t1 s2 t2 k m a b d e g h i x y =
     form_is ns ms (Same s t) k m g (subst (Says ns k) (λ j. Same ((d ∙ a) j) ((e ∙ b) j)) h) (subst (Says ms m) (λ j. Not (Same (a j) (b j))) i)
     (subst (Fits (node_condition ns k)) (λ j. Same ((d ∙ a) j) ((e ∙ b) j)) x) (subst (Fits (node_condition ms m)) (λ j. Same (a j) (b j)) y)
-
--- the form that was found at a place
-pub found_form : (ws : List ℕ) (ns : List Node) (fs : BTreeMap ℕ Form) (k : ℕ) (f : Form) → get nat_cmp fs k ≡ Some f → HasForm ws ns fs k → IsForm ns f (condition_at ws k)
-found_form ws ns fs k f at h = let same : h.form ≡ f = one h.form f (sym h.at ∙ at) in subst (λ g. IsForm ns g (condition_at ws k)) same h.is where
-  one : (g f : Form) → Some g ≡ Some f → g ≡ f
-  one g f e = cc
-
--- the forms of the conditions below a place
-module _ (ws : List ℕ) (ns : List Node) (fs : BTreeMap ℕ Form) (there : ℕ → Bool) (low p : ℕ)
-    (have : (k : ℕ) → IsTrue (there k) → k < low → HasForm ws ns fs k) (first : (k : ℕ) → low ≤ k → IsTrue (there k) → p ≤ k) where
-  have_below : (k : ℕ) → IsTrue (there k) → k < p → HasForm ws ns fs k
-  have_below k e lt =
-      elim (cases_lt k low) [
-        | inl before ↦ have k e before
-        | inr after ↦ absurd (omega (arith, lt, first k after e))
-      ]
-
-  pub have_parts : (ks : List ℕ) → AllByRecursion (IsEarlier ws p) ks → IsTrue (list_all there ks) → AllByRecursion (HasForm ws ns fs) ks
-  have_parts [] e f = tt
-  have_parts (k ∷ ks) e f = let q = and_parts _ _ f in (have_below k q.0 e.0.below, have_parts ks e.1 q.1)
-
-  -- with the form of that place
-  pub have_more : (ms : List Node) (gs : BTreeMap ℕ Form) (f : Form) → Grows ns ms → Updates nat_cmp fs gs p (Some f) → IsForm ms f (condition_at ws p)
-      → (k : ℕ) → IsTrue (there k) → k < p + 1 → HasForm ws ms gs k
-  have_more ms gs f g put is k e lt =
-      elim (cases_lt k p) [
-        | inl before ↦
-            let h = have_below k e before in
-            record { form = h.form; at = put.2 k (ap is_eq (sym (nat_cmp_is p k Greater before))) ∙ h.at; is = still_form ns ms h.form _ g h.is }
-        | inr here ↦ subst (HasForm ws ms gs) (omega (arith, here, lt)) (record { form = f; at = put.1; is = is })
-      ]

@@ -7,10 +7,12 @@ use Rattle.std.proofs.lemmas.List.Sums.{sum_by-cons, sum_by-insert}
 use Rattle.ct_word.specs.declared.values.Term.{Term}
 use Rattle.ct_word.specs.Condition.{Condition, True, False, Same, Not, And, Or, listed}
 use Rattle.ct_rewrite.specs.declared.answer.Node.{Node}
-use Rattle.ct_rewrite.specs.declared.builder.Connective.{Connective}
-use Rattle.ct_rewrite.specs.declared.builder.Connective.TheVariants as connective
+use Rattle.ct_word.specs.declared.connectives.Connective.{Connective}
+use Rattle.ct_word.specs.declared.connectives.Connective.TheVariants as connective
 use Rattle.ct_rewrite.specs.Nodes.{nth, condition_of_node, read_nodes, node_condition, node_value}
-use Rattle.ct_rewrite.specs.Building.{literal, joined, joint_node}
+use Rattle.ct_rewrite.specs.Building.{literal, joint_node}
+use Rattle.ct_word.specs.Connective.{joined}
+use Rattle.ct_word.proofs.Items.{all_implied}
 use Rattle.ct_rewrite.specs.Joining.{HasMembersOf, HasNoMoreThan, AreNoLarger, IsNoLarger, bytes_under, gap, nests_within}
 use Rattle.ct_rewrite.specs.Sizes.{as_part, text_of, text_of_parts, text_of_others, nest_of, nest_of_parts, wide, deep, part_length, part_nest, Fits}
 
@@ -110,10 +112,8 @@ module _ (f : ℕ → Condition) (most : ℕ) where
   nests_down (k ∷ ks) le = and_from _ _ (le-leb (part_nest (f k)) most (omega (arith, le))) (nests_down ks (omega (arith, le)))
 
 within_more : (ns : List Node) (m n : ℕ) (ks : List ℕ) → m ≤ n → IsTrue (list_all (nests_within ns m) ks) → IsTrue (list_all (nests_within ns n) ks)
-within_more ns m n [] le e = refl
-within_more ns m n (k ∷ ks) le e =
-    let p = and_parts (nests_within ns m k) _ e in
-    and_from _ _ (le-leb _ n (omega (arith, le, leb-true (part_nest (node_condition ns k)) m p.0))) (within_more ns m n ks le p.1)
+within_more ns m n ks le e =
+    all_implied (nests_within ns m) (nests_within ns n) (λ k f. le-leb _ n (omega (arith, le, leb-true (part_nest (node_condition ns k)) m f))) ks e
 
 -- the children of a node
 pub children_no_larger : (j : Connective) (ns : List Node) (k : ℕ) (n : Node) (ks : List ℕ) → node_condition ns k ≡ node_value ns n → n ≡ joint_node j ks → AreNoLarger j ns ks k

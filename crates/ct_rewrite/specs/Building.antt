@@ -1,10 +1,10 @@
 -- What the making of a node list keeps and adds.
 use Rattle.std.specs.Prelude.{◌≡◌, ℕ, ◌<◌, Bool, true, false, List, ◌++◌, length}
-use Rattle.ct_word.specs.Condition.{Condition, True, False, Not, both, either, SameTruth}
+use Rattle.ct_word.specs.Condition.{Condition, True, False, Not, SameTruth}
 use Rattle.ct_rewrite.specs.declared.answer.Node.{Node}
 use Rattle.ct_rewrite.specs.declared.answer.Node.TheVariants as node
-use Rattle.ct_rewrite.specs.declared.builder.Connective.{Connective}
-use Rattle.ct_rewrite.specs.declared.builder.Connective.TheVariants as connective
+use Rattle.ct_word.specs.declared.connectives.Connective.{Connective}
+use Rattle.ct_word.specs.declared.connectives.Connective.TheVariants as connective
 use Rattle.ct_rewrite.specs.Nodes.{node_condition}
 
 -- nodes were put at the end
@@ -26,21 +26,6 @@ literal false = False
 abbrev pub signed : Bool → Condition → Condition
 signed true c = c
 signed false c = Not c
-
--- two conditions under a connective
-abbrev pub joined : Connective → Condition → Condition → Condition
-joined connective.And c d = both c d
-joined connective.Or c d = either c d
-
--- the other connective
-abbrev pub dual : Connective → Connective
-dual connective.And = connective.Or
-dual connective.Or = connective.And
-
--- the truth of no conditions under a connective
-abbrev pub unit : Connective → Bool
-unit connective.And = true
-unit connective.Or = false
 
 -- a connective over these children
 abbrev pub joint_node : Connective → List ℕ → Node

@@ -7,17 +7,13 @@ use Rattle.ct_word.specs.declared.values.Term.TheVariants as term
 use Rattle.ct_word.specs.Value.{World, same_value}
 use Rattle.ct_word.specs.Condition.{Condition, holds}
 use Rattle.ct_rewrite.specs.declared.answer.Node.{Node}
-use Rattle.ct_rewrite.specs.declared.builder.Connective.{Connective}
-use Rattle.ct_rewrite.specs.declared.builder.Connective.TheVariants as connective
+use Rattle.ct_word.specs.declared.connectives.Connective.{Connective}
+use Rattle.ct_word.specs.declared.connectives.Connective.TheVariants as connective
 use Rattle.ct_rewrite.specs.Nodes.{node_condition, condition_of_node}
-use Rattle.ct_rewrite.specs.Building.{literal, unit}
+use Rattle.ct_word.specs.Connective.{unit, open_by}
+use Rattle.ct_rewrite.specs.Building.{literal}
 use Rattle.ct_rewrite.specs.Rules.{is_literal}
 use Rattle.ct_rewrite.specs.Sizes.{part_length, part_nest}
-
--- whether a truth leaves a connective open: a false one settles And, a true one settles Or
-abbrev pub open_by : Connective → Bool → Bool
-open_by connective.And b = b
-open_by connective.Or b = not b
 
 -- whether the condition at a position leaves a connective open
 abbrev pub leaves_open : Connective → List Node → World → List Value → ℕ → Bool

@@ -10,4 +10,4 @@ pub mod Joining
 pub mod Order
 pub mod Tidy
 pub mod Rules
-pub mod Marks
+pub mod Moving

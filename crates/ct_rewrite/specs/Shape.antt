@@ -10,8 +10,9 @@ use Rattle.ct_word.specs.Reading.{condition_at, term_at}
 use Rattle.ct_word.specs.Condition.{Condition, Same, Not}
 use Rattle.ct_rewrite.specs.declared.shape.Shape.{Shape}
 use Rattle.ct_rewrite.specs.declared.shape.Shape.TheVariants as shape
-use Rattle.ct_rewrite.specs.declared.builder.Connective.TheVariants as connective
-use Rattle.ct_rewrite.specs.Building.{literal, joined}
+use Rattle.ct_word.specs.declared.connectives.Connective.TheVariants as connective
+use Rattle.ct_word.specs.Connective.{joined}
+use Rattle.ct_rewrite.specs.Building.{literal}
 
 -- what a word of this kind says with these fields; false where it is no condition
 abbrev pub shape_of : Option Kind → ℕ → ℕ → Shape

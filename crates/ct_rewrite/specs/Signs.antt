@@ -1,5 +1,5 @@
 -- The forms of conditions in the making, with both signs.
-use Rattle.std.specs.Prelude.{◌≡◌, ℕ, ◌<◌, Bool, length, List, Option, Some, None, is_some}
+use Rattle.std.specs.Prelude.{ℕ, ◌<◌, length, List, Option, Some, None}
 use Rattle.std.specs.Ordering.{nat_cmp}
 use Rattle.std.specs.BTreeMap.{BTreeMap, get}
 use Rattle.ct_word.specs.Condition.{Condition, Not}
@@ -22,15 +22,9 @@ pub record IsPlaced (nodes : List Node) (f : Form) : Type 0 where
   pub plus : f.plus < length nodes
   pub minus : f.minus < length nodes
 
--- the form of the condition at a place is there
-pub record HasForm (words : List ℕ) (nodes : List Node) (forms : BTreeMap ℕ Form) (place : ℕ) : Type 0 where
-  pub form : Form
-  pub at : get nat_cmp forms place ≡ Some form
-  pub is : IsForm nodes form (condition_at words place)
-
--- whether there is a form at a place
-abbrev pub has_form : BTreeMap ℕ Form → ℕ → Bool
-has_form forms place = is_some (get nat_cmp forms place)
+-- a form is that of the condition at a place
+abbrev pub IsFormAt : List ℕ → List Node → ℕ → Form → Type 0
+IsFormAt words nodes place f = IsForm nodes f (condition_at words place)
 
 -- the position for plus
 abbrev pub plus_of : Option Form → ℕ

@@ -1,16 +1,36 @@
-// The conditions that roots lead to.
+// The places that roots lead to.
 
-ghost use Rattle.std.specs.Prelude.{◌≡◌, ℕ, ◌<◌, ◌≤◌, ◌^◌, false, length, OnOk, IfOk, IsTrue, MatchOption};
+ghost use Rattle.std.specs.Prelude.{◌≡◌, ℕ, ◌≤◌, ◌<◌, false, OnOk, IfOk, IsTrue, MatchOption};
 ghost use Rattle.std.specs.List.{list_all};
-ghost use Rattle.ct_word.specs.declared.kinds.Class.TheVariants as class;
-ghost use Rattle.ct_word.specs.WellFormed.{IsWellFormed, is_place_of};
-ghost use Rattle.ct_rewrite.specs.Shape.{parts_at};
-ghost use Rattle.ct_rewrite.specs.Below.{has, AreAdded, IsClosedFrom, IsLastBelow, IsFirstFrom};
+ghost use Rattle.ct_rewrite.specs.Below.{has, AreAdded, IsClosedFrom, IsDownward, IsLastBelow, IsFirstFrom};
 
-use crate::shape::{Shape, shape_at};
 use ct_word::Memory;
 use std::alloc::Global;
 use std::collections::BTreeSet;
+
+/// Things at places, each over things at lower places.
+pub trait Graph {
+    ghost use Rattle.std.specs.Prelude.{ℕ, Bool, List};
+
+    ghost is_in: { Self → ℕ → Bool };
+
+    ghost parts: { Self → ℕ → List ℕ };
+
+    /// Adds the places that the thing at a place names.
+    fn add_parts(&self, place: u32, places: &mut BTreeSet<u32>) -> Result<(), Memory>
+        requires { IsTrue (is_in self.now place) }
+        ensures { OnOk result (AreAdded (has places.old) (has places.new) (parts self.now place)) };
+}
+
+/// Adds places to a set.
+pub fn add(places: &mut BTreeSet<u32>, more: &[u32]) -> Result<(), Memory>
+    ensures { OnOk result (AreAdded (has places.old) (has places.new) more.now) }
+{
+    for place in more {
+        places.insert(*place)?;
+    }
+    Ok(())
+}
 
 /// The greatest place of a set below a bound.
 fn last_below(places: &BTreeSet<u32>, bound: u32) -> Option<u32>
@@ -32,42 +52,24 @@ pub fn first_from(places: &BTreeSet<u32>, low: u32) -> Option<u32>
     }
 }
 
-/// Adds places to a set.
-fn add(places: &mut BTreeSet<u32>, more: &[u32]) -> Result<(), Memory>
-    ensures { OnOk result (AreAdded (has places.old) (has places.new) more.now) }
-{
-    for place in more {
-        places.insert(*place)?;
-    }
-    Ok(())
-}
-
-/// Adds the conditions that the one at a place names.
-fn add_parts(places: &mut BTreeSet<u32>, words: &[u64], place: u32) -> Result<(), Memory>
-    requires { place < length words.now }
-    ensures { OnOk result (AreAdded (has places.old) (has places.new) (parts_at words.now place)) }
-{
-    match shape_at(words, place) {
-        Shape::Not(part) => add(places, &[part]),
-        Shape::Joined(_, left, right) => add(places, &[left, right]),
-        _ => Ok(()),
-    }
-}
-
-/// The places of the conditions that the roots lead to, and of the roots.
-pub fn below(alloc: Global, words: &[u64], roots: &[u32]) -> Result<BTreeSet<u32>, Memory>
-    requires formed { IsWellFormed words.now }
-    requires short { length words.now < 2 ^ 28 }
-    requires roots { IsTrue (list_all (is_place_of words.now class.Cond) roots.now) }
-    ensures conditions { IfOk result (λ ps. (k : ℕ) → IsTrue (has ps k) → IsTrue (is_place_of words.now class.Cond k)) }
+/// The roots, and the places that they lead to.
+pub fn below<G: Graph>(
+    alloc: Global,
+    graph: &G,
+    bound: u32,
+    roots: &[u32],
+) -> Result<BTreeSet<u32>, Memory>
+    requires downward { IsDownward (G.is_in graph.now) (G.parts graph.now) bound }
+    requires roots { IsTrue (list_all (G.is_in graph.now) roots.now) }
+    ensures inside { IfOk result (λ ps. (k : ℕ) → IsTrue (has ps k) → IsTrue (G.is_in graph.now k)) }
     ensures roots { IfOk result (λ ps. IsTrue (list_all (has ps) roots.now)) }
-    ensures closed { IfOk result (λ ps. IsClosedFrom (parts_at words.now) 0 (has ps)) }
+    ensures closed { IfOk result (λ ps. IsClosedFrom (G.parts graph.now) 0 (has ps)) }
 {
     let mut places = BTreeSet::new(alloc);
     add(&mut places, roots)?;
-    let mut bound = words.len() as u32;
+    let mut bound = bound;
     while let Some(place) = last_below(&places, bound) {
-        add_parts(&mut places, words, place)?;
+        graph.add_parts(place, &mut places)?;
         bound = place;
     }
     Ok(places)

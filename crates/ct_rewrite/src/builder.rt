@@ -4,7 +4,7 @@ ghost use Rattle.std.specs.Prelude.{◌≡◌, ◌<◌, ◌≤◌, ◌+◌, ◌^
 ghost use Rattle.std.specs.List.{IsDistinct, list_all};
 ghost use Rattle.ct_word.specs.Condition.{Same};
 ghost use Rattle.ct_rewrite.specs.Nodes.{node_condition, read_nodes, stands_over, same_node, node_value, IsOrdered};
-ghost use Rattle.ct_rewrite.specs.Building.{Grows, Says, literal, signed, joined, dual, unit, joint_node, literal_node};
+ghost use Rattle.ct_rewrite.specs.Building.{Grows, Says, literal, signed};
 ghost use Rattle.ct_rewrite.specs.Rules.{is_proper, has_no_literals};
 ghost use Rattle.ct_rewrite.specs.Sizes.{Fits};
 
@@ -14,44 +14,6 @@ use ct_word::{List, Memory, Term};
 use indexmap::IndexSet;
 use std::alloc::Global;
 use std::marker::Model;
-
-/// What joins two conditions.
-#[derive(Clone, Copy, Debug, PartialEq, Eq)]
-pub enum Connective {
-    And,
-    Or,
-}
-
-impl Connective {
-    /// The connective of the denials, where this joins the conditions.
-    pub fn dual(self) -> Connective
-        ensures { result ≡ dual self }
-    {
-        match self {
-            Connective::And => Connective::Or,
-            Connective::Or => Connective::And,
-        }
-    }
-}
-
-impl Connective {
-    /// The truth of no conditions under this connective.
-    pub fn unit(self) -> bool
-        ensures { result ≡ unit self }
-    {
-        self == Connective::And
-    }
-
-    /// The node of these children.
-    pub fn node(self, children: List<u32>) -> Node
-        ensures { result ≡ joint_node self children }
-    {
-        match self {
-            Connective::And => Node::And(children),
-            Connective::Or => Node::Or(children),
-        }
-    }
-}
 
 /// Nodes that the printed form allows, no two of them equal, children before their parents.
 #[derive(Drop)]
@@ -119,6 +81,7 @@ impl Builder {
         let (position, _) = self.nodes.insert_full(node)?;
         Ok(position as u32)
     }
+
     /// The position of a condition that is always true or always false.
     pub fn literal(&mut self, truth: bool) -> Result<u32, Memory>
         requires room { length self.old < 2 ^ 32 }

@@ -5,17 +5,18 @@ ghost use Rattle.std.specs.List.{AllByRecursion};
 ghost use Rattle.ct_word.specs.declared.kinds.Class.TheVariants as class;
 ghost use Rattle.ct_word.specs.WellFormed.{IsWellFormed, is_place_of};
 ghost use Rattle.ct_word.specs.Reading.{condition_at, term_at};
+ghost use Rattle.ct_word.specs.Connective.{joined};
 ghost use Rattle.ct_word.specs.Condition.{Condition, Same, Not};
 ghost use Rattle.ct_rewrite.specs.declared.answer.Node.{Node};
-ghost use Rattle.ct_rewrite.specs.Building.{Grows, literal, joined};
+ghost use Rattle.ct_rewrite.specs.Building.{Grows, literal};
 ghost use Rattle.ct_rewrite.specs.Shape.{parts_at};
-ghost use Rattle.ct_rewrite.specs.Below.{has, IsClosedFrom};
-ghost use Rattle.ct_rewrite.specs.Signs.{IsForm, IsPlaced, HasForm};
+ghost use Rattle.ct_rewrite.specs.Below.{has, HasAt, IsClosedFrom};
+ghost use Rattle.ct_rewrite.specs.Signs.{IsForm, IsFormAt, IsPlaced};
 
 use crate::below::first_from;
-use crate::builder::{Builder, Connective};
+use crate::builder::Builder;
 use crate::shape::{Shape, shape_at};
-use ct_word::{Memory, term_at};
+use ct_word::{Connective, Memory, term_at};
 use std::alloc::Global;
 use std::collections::{BTreeMap, BTreeSet};
 
@@ -101,7 +102,7 @@ fn form_at(
 ) -> Result<Form, Memory>
     requires formed { IsWellFormed words.now }
     requires condition { IsTrue (is_place_of words.now class.Cond place) }
-    requires parts { AllByRecursion (HasForm words.now builder.old forms.now) (parts_at words.now place) }
+    requires parts { AllByRecursion (HasAt (IsFormAt words.now builder.old) forms.now) (parts_at words.now place) }
     requires room { length builder.old + 2 ≤ 2 ^ 32 }
     ensures grows { Grows builder.old builder.new }
     ensures count { length builder.new ≤ length builder.old + 2 }
@@ -130,7 +131,7 @@ pub fn forms(
     requires closed { IsClosedFrom (parts_at words.now) 0 (has places.now) }
     requires empty { builder.old ≡ [] }
     ensures room { length builder.new ≤ 2 * length words.now }
-    ensures forms { IfOk result (λ fs. (k : ℕ) → IsTrue (has places.now k) → HasForm words.now builder.new fs k) }
+    ensures forms { IfOk result (λ fs. (k : ℕ) → IsTrue (has places.now k) → HasAt (IsFormAt words.now builder.new) fs k) }
 {
     let mut forms = BTreeMap::new(alloc);
     let mut low = 0;

@@ -4,18 +4,19 @@ ghost use Rattle.std.specs.Prelude.{◌≡◌, ℕ, Bool, false, List, [], ◌�
 ghost use Rattle.std.specs.List.{list_all};
 ghost use Rattle.ct_word.specs.declared.values.Value.{Value};
 ghost use Rattle.ct_word.specs.Value.{World};
+ghost use Rattle.ct_word.specs.Connective.{joined};
 ghost use Rattle.ct_word.specs.Condition.{Condition};
 ghost use Rattle.ct_rewrite.specs.Nodes.{condition_of_node, node_condition, is_position};
-ghost use Rattle.ct_rewrite.specs.Building.{Grows, Says, joined, joint_node, literal_node};
+ghost use Rattle.ct_rewrite.specs.Building.{Grows, Says, joint_node, literal_node};
 ghost use Rattle.ct_rewrite.specs.Joining.{NeverBothOpen, leaves_open, all_open, StandFor, Settle, HasMembersOf, HasNoMoreThan, AreNoLarger, IsNoLarger, IsNoSettler, is_no_literal};
 ghost use Rattle.ct_rewrite.specs.Rules.{are_distinct, is_literal};
 ghost use Rattle.ct_rewrite.specs.Sizes.{Fits};
 
 use crate::answer::Node;
-use crate::builder::{Builder, Connective};
+use crate::builder::Builder;
 use crate::order::compare_children;
 use crate::terms::{are_different_constants, are_same};
-use ct_word::{List, Memory};
+use ct_word::{Connective, List, Memory};
 use std::alloc::Global;
 use std::cmp::Ordering;
 
@@ -41,6 +42,16 @@ fn children_of(connective: Connective, node: &Node) -> Option<&[u32]>
         (Connective::And, Node::And(children)) => Some(children.as_slice()),
         (Connective::Or, Node::Or(children)) => Some(children.as_slice()),
         _ => None,
+    }
+}
+
+/// The node of these children under a connective.
+fn joint(connective: Connective, children: List<u32>) -> Node
+    ensures { result ≡ joint_node connective children }
+{
+    match connective {
+        Connective::And => Node::And(children),
+        Connective::Or => Node::Or(children),
     }
 }
 
@@ -200,7 +211,7 @@ impl Builder {
         match children.as_slice() {
             [] => self.literal(connective.unit()),
             [only] => Ok(*only),
-            _ => self.place(connective.node(List::from_vec(children))),
+            _ => self.place(joint(connective, List::from_vec(children))),
         }
     }
 

@@ -9,7 +9,8 @@ ghost use Rattle.ct_word.specs.WellFormed.{IsWellFormed, is_place_of};
 ghost use Rattle.ct_word.specs.Reading.{condition_at};
 ghost use Rattle.ct_rewrite.specs.Nodes.{IsOrdered, is_position, node_condition, read_nodes, same_node};
 ghost use Rattle.ct_rewrite.specs.Rules.{are_children_distinct, are_children_within, are_sides_in_order, has_no_literals, is_unsettled};
-ghost use Rattle.ct_rewrite.specs.Signs.{has_form, plus_at};
+ghost use Rattle.ct_rewrite.specs.Below.{has_at};
+ghost use Rattle.ct_rewrite.specs.Signs.{plus_at};
 ghost use Rattle.ct_rewrite.specs.Sizes.{NoneIsEmpty, deep, nest_of, text_of, wide};
 
 use crate::below::below;
@@ -17,17 +18,14 @@ use crate::builder::Builder;
 use crate::form::Normal;
 use crate::forms::{Form, forms};
 use crate::kept::kept;
+use crate::shape::Conditions;
 use ct_word::Memory;
 use std::alloc::Global;
 use std::collections::BTreeMap;
 
 /// The positions for plus at these places.
-fn positions(
-    alloc: Global,
-    forms: &BTreeMap<u32, Form>,
-    places: &[u32],
-) -> Result<Vec<u32>, Memory>
-    requires { IsTrue (list_all (has_form forms.now) places.now) }
+fn positions(alloc: Global, forms: &BTreeMap<u32, Form>, places: &[u32]) -> Result<Vec<u32>, Memory>
+    requires { IsTrue (list_all (has_at forms.now) places.now) }
     ensures { IfOk result (λ ks. ks.items ≡ map (plus_at forms.now) places.now) }
 {
     let mut positions = Vec::new(alloc);
@@ -73,7 +71,7 @@ pub fn normal(alloc: Global, words: &[u64], roots: &[u32]) -> Result<Normal, Mem
     ensures sides { IfOk result (λ n. IsTrue (list_all are_sides_in_order n.nodes)) }
     ensures unsettled { IfOk result (λ n. IsTrue (list_all is_unsettled n.nodes)) }
 {
-    let places = below(alloc, words, roots)?;
+    let places = below(alloc, &Conditions { words }, words.len() as u32, roots)?;
     let mut builder = Builder::new(alloc);
     let forms = forms(alloc, &mut builder, words, &places)?;
     let positions = positions(alloc, &forms, roots)?;

@@ -3,8 +3,9 @@
 ghost use Rattle.std.specs.Prelude.{◌≡◌, ◌<◌, length};
 ghost use Rattle.ct_rewrite.specs.Shape.{shape_at};
 
-use crate::builder::Connective;
-use ct_word::{Kind, kind, left, right};
+use crate::below::{Graph, add};
+use ct_word::{Connective, Kind, Memory, kind, left, right};
+use std::collections::BTreeSet;
 
 /// A condition over earlier places of a log.
 #[derive(Clone, Copy)]
@@ -28,5 +29,29 @@ pub fn shape_at(words: &[u64], place: u32) -> Shape
         Some(Kind::And) => Shape::Joined(Connective::And, left(word), right(word)),
         Some(Kind::Or) => Shape::Joined(Connective::Or, left(word), right(word)),
         _ => Shape::Literal(false),
+    }
+}
+
+/// The conditions of a log.
+#[derive(Drop)]
+pub struct Conditions<'a> {
+    pub words: &'a [u64],
+}
+
+impl Graph for Conditions<'_> {
+    ghost use Rattle.ct_word.specs.declared.kinds.Class.TheVariants as class;
+    ghost use Rattle.ct_word.specs.WellFormed.{is_place_of};
+    ghost use Rattle.ct_rewrite.specs.Shape.{parts_at};
+
+    ghost is_in = { λ g. is_place_of g.words.now class.Cond };
+
+    ghost parts = { λ g. parts_at g.words.now };
+
+    fn add_parts(&self, place: u32, places: &mut BTreeSet<u32>) -> Result<(), Memory> {
+        match shape_at(self.words, place) {
+            Shape::Not(part) => add(places, &[part]),
+            Shape::Joined(_, left, right) => add(places, &[left, right]),
+            _ => Ok(()),
+        }
     }
 }

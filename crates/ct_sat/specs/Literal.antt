@@ -1,9 +1,11 @@
 -- Literals over variables numbered from 1: a variable's number, or its negative.
-use Rattle.std.specs.Prelude.{ℕ, zero, suc, Bool, true, false, List, nat_lt}
-use Rattle.std.specs.List.{list_any, list_all}
+use Rattle.std.specs.Prelude.{ℕ, zero, suc, Bool, true, false, List}
+use Rattle.std.specs.List.{list_any}
 use Rattle.std.specs.Ordering.{int_eq}
 use Rattle.std.proofs.Math.IntN.{ℤ, pos, negsuc, neg_ℤ}
 use Rattle.ct_derivation.specs.Propagation.{Literals}
+pub use Rattle.ct_derivation.specs.Variables.{is_literal, LARGEST}
+unfoldable pub use Rattle.ct_derivation.specs.Variables.{is_clause}
 
 -- a clause: the literals of which one is to be true
 abbrev pub Clause : Type 0
@@ -12,16 +14,6 @@ Clause = List ℤ
 -- these literals, as a kind of literals
 abbrev pub numbered : Literals
 numbered = record { literal = ℤ; same = int_eq; opposite = neg_ℤ }
-
--- whether the variable of a literal is from 1 to `vars`
-abbrev pub is_literal : ℕ → ℤ → Bool
-is_literal vars (pos zero) = false
-is_literal vars (pos (suc n)) = nat_lt n vars
-is_literal vars (negsuc n) = nat_lt n vars
-
--- whether the variables of a clause are from 1 to `vars`
-unfoldable pub is_clause : ℕ → Clause → Bool
-is_clause vars c = list_all (is_literal vars) c
 
 -- whether a literal is in a clause
 unfoldable pub has : Clause → ℤ → Bool
@@ -38,7 +30,3 @@ abbrev pub is_positive : ℤ → Bool
 is_positive (pos zero) = false
 is_positive (pos (suc n)) = true
 is_positive (negsuc n) = false
-
--- the largest variable of which the negative is a literal too
-abbrev pub LARGEST : ℕ
-LARGEST = 2147483647

@@ -1,18 +1,14 @@
 -- Models and refutations of clauses over numbered variables.
-use Rattle.std.specs.Prelude.{◌≡◌, ◌≤◌, zero, suc, Bool, true, false, not, List, [], ◌∷◌, length, map, slice_index_or}
+use Rattle.std.specs.Prelude.{◌≡◌, zero, suc, Bool, true, false, not, List, [], ◌∷◌, length, map, slice_index_or}
 use Rattle.std.specs.List.{list_any, list_all}
 use Rattle.std.proofs.Math.IntN.{ℤ, pos, negsuc}
 use Rattle.ct_derivation.specs.declared.steps.Cnf.{Cnf}
+pub use Rattle.ct_derivation.specs.Variables.{IsCnf}
 use Rattle.ct_sat.specs.declared.verdict.Rup.{Rup}
 use Rattle.ct_sat.specs.declared.verdict.Verdict.{Verdict}
 use Rattle.ct_sat.specs.declared.verdict.Verdict.TheVariants as verdict
-use Rattle.ct_sat.specs.Literal.{Clause, is_clause, LARGEST}
+use Rattle.ct_sat.specs.Literal.{Clause, is_clause}
 use Rattle.ct_sat.specs.Learned.{clause_of, each_follows}
-
--- fewer than 2^31 variables, and no literal but of these
-pub record IsCnf (cnf : Cnf) : Type 0 where
-  pub vars : cnf.vars ≤ LARGEST
-  pub clauses : list_all (is_clause cnf.vars) cnf.clauses ≡ true
 
 -- whether a literal is true, where the truth of variable n + 1 is at place n
 abbrev pub holds : List Bool → ℤ → Bool

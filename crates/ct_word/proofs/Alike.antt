@@ -1,7 +1,6 @@
 -- What is written alike is equal, and the other way round.
-use Rattle.std.proofs.Common.{◌≡◌, ℕ, Bool, true, false, List, [], ◌∷◌, refl, ap, subst}
+use Rattle.std.proofs.Common.{◌≡◌, ℕ, true, List, refl, ap, subst}
 use Rattle.std.specs.Bool.{Decides}
-use Rattle.std.specs.Ordering.{int_eq}
 use Rattle.std.proofs.lemmas.Bool.{and_parts, and_from, eqb-true, eq-eqb, false≢true}
 use Rattle.std.proofs.lemmas.Bool.Decides.{Decides-int_eq, Decides-eqb}
 use Rattle.std.proofs.lemmas.Slice.Eq.{slice_eq-Decides}
@@ -21,12 +20,7 @@ value_is : (x y : Value) → same_value x y ≡ true → x ≡ y
 value_is (val.Int a) (val.Int b) e = ap val.Int ((Decides-int_eq a b).0 e)
 value_is (val.Text a) (val.Text b) e = ap val.Text ((text_decides a b).0 e)
 value_is (val.Other a) (val.Other b) e = ap val.Other (eqb-true a b e)
-value_is (val.Int a) (val.Text b) e = absurd (false≢true e)
-value_is (val.Int a) (val.Other b) e = absurd (false≢true e)
-value_is (val.Text a) (val.Int b) e = absurd (false≢true e)
-value_is (val.Text a) (val.Other b) e = absurd (false≢true e)
-value_is (val.Other a) (val.Int b) e = absurd (false≢true e)
-value_is (val.Other a) (val.Text b) e = absurd (false≢true e)
+value_is _ _ e = absurd (false≢true e)
 
 value_self : (x : Value) → same_value x x ≡ true
 value_self (val.Int a) = (Decides-int_eq a a).1 refl
@@ -41,8 +35,7 @@ null_is (null.Named a) (null.Named b) e = ap null.Named ((text_decides a b).0 e)
 null_is (null.Fresh s m) (null.Fresh t n) e =
     let parts = and_parts (nat_eq s t) (nat_eq m n) e in
     λ i. null.Fresh (eqb-true s t parts.0 i) (eqb-true m n parts.1 i)
-null_is (null.Named a) (null.Fresh t n) e = absurd (false≢true e)
-null_is (null.Fresh s m) (null.Named b) e = absurd (false≢true e)
+null_is _ _ e = absurd (false≢true e)
 
 null_self : (n : Null) → same_null n n ≡ true
 null_self (null.Named a) = (text_decides a a).1 refl
@@ -55,12 +48,7 @@ term_is : (s t : Term) → same_term s t ≡ true → s ≡ t
 term_is (term.Column j) (term.Column k) e = ap term.Column (eqb-true j k e)
 term_is (term.Null m) (term.Null n) e = ap term.Null (null_is m n e)
 term_is (term.Value x) (term.Value y) e = ap term.Value (value_is x y e)
-term_is (term.Column j) (term.Null n) e = absurd (false≢true e)
-term_is (term.Column j) (term.Value y) e = absurd (false≢true e)
-term_is (term.Null m) (term.Column k) e = absurd (false≢true e)
-term_is (term.Null m) (term.Value y) e = absurd (false≢true e)
-term_is (term.Value x) (term.Column k) e = absurd (false≢true e)
-term_is (term.Value x) (term.Null n) e = absurd (false≢true e)
+term_is _ _ e = absurd (false≢true e)
 
 term_self : (t : Term) → same_term t t ≡ true
 term_self (term.Column k) = eq-eqb k k refl

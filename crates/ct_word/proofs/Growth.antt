@@ -1,21 +1,17 @@
 -- A place goes on standing for what it stood for when words are added.
-use Rattle.std.proofs.Common.{◌≡◌, Bool, true, false, true≢false, Option, Some, None, sym, ℕ, zero, suc, ◌+◌, ◌<◌, List, [], ◌∷◌, ◌++◌, length, refl, ap, ◌∙◌, arith, length-append}
+use Rattle.std.proofs.Common.{◌≡◌, true≢false, Option, Some, None, sym, ℕ, zero, suc, ◌+◌, ◌<◌, List, [], ◌∷◌, ◌++◌, length, refl, ap, ◌∙◌, arith, length-append}
 use Rattle.std.specs.Prelude.{◌&&◌, ◌||◌, not, IsTrue, nat_lt, slice_get}
 use Rattle.ct_word.specs.declared.kinds.Kind.{Kind}
 use Rattle.ct_word.specs.declared.kinds.Class.{Class}
-use Rattle.ct_word.specs.WellFormed.{Field, Zero, Any, Byte, Scalar, Session, Positive, PlaceOf, fields_of, is_ordered, is_place_of, fits, is_formed_as, is_word_over}
+use Rattle.ct_word.specs.WellFormed.{Field, PlaceOf, fields_of, is_ordered, is_place_of, fits, is_formed_as, is_word_over}
 use Rattle.ct_word.specs.Word.{kind_of, left_of, right_of}
+use Rattle.ct_word.proofs.Items.{get_front}
 use Rattle.ct_word.proofs.Packed.{true_left, true_right, true_both}
 use Rattle.ct_word.specs.Reading.{Meaning, meaning_of, read, meanings, as_cond, condition_at}
 
 pub read-append : (ms : List Meaning) (ws xs : List ℕ) → read ms (ws ++ xs) ≡ read (read ms ws) xs
 read-append ms [] xs = refl
 read-append ms (w ∷ ws) xs = read-append (ms ++ meaning_of ms w ∷ []) ws xs
-
-get_front : (ms ns : List Meaning) (k : ℕ) → k < length ms → slice_get (ms ++ ns) k ≡ slice_get ms k
-get_front [] ns k lt = absurd (omega arith)
-get_front (m ∷ ms) ns zero lt = refl
-get_front (m ∷ ms) ns (suc k) lt = get_front ms ns k (omega arith)
 
 -- what was read stays
 pub stays : (ms : List Meaning) (ws : List ℕ) (k : ℕ) → k < length ms → slice_get (read ms ws) k ≡ slice_get ms k
@@ -43,13 +39,8 @@ place_grows (w ∷ ws) xs c (suc k) e = place_grows ws xs c k e
 
 -- a field goes on as the table asks
 fits_grows : (ws xs : List ℕ) (f : Field) (n : ℕ) → IsTrue (fits ws f n) → IsTrue (fits (ws ++ xs) f n)
-fits_grows ws xs Zero n e = e
-fits_grows ws xs Any n e = e
-fits_grows ws xs Byte n e = e
-fits_grows ws xs Scalar n e = e
-fits_grows ws xs Session n e = e
-fits_grows ws xs Positive n e = e
 fits_grows ws xs (PlaceOf c) n e = place_grows ws xs c n e
+fits_grows ws xs _ n e = e
 
 pub formed_grows : (ws xs : List ℕ) (k : Option Kind) (a b : ℕ) → IsTrue (is_formed_as k ws a b) → IsTrue (is_formed_as k (ws ++ xs) a b)
 formed_grows ws xs None a b e = e

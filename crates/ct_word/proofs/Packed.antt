@@ -13,34 +13,7 @@ use Rattle.ct_word.specs.WellFormed.{IsWellFormed, each_follows, is_word_after}
 pub kind_with_code : (k : Kind) → kind_with (code_of k) ≡ Some k
 unfolding kind_with
 kind_with_code kind.TextEnd = refl
-kind_with_code kind.TextCharacter = refl
-kind_with_code kind.NumberHigh = refl
-kind_with_code kind.Number = refl
-kind_with_code kind.TextConstant = refl
-kind_with_code kind.NamedNull = refl
-kind_with_code kind.FreshNull = refl
-kind_with_code kind.OtherValue = refl
-kind_with_code kind.Column = refl
-kind_with_code kind.True = refl
-kind_with_code kind.False = refl
-kind_with_code kind.Equal = refl
-kind_with_code kind.Not = refl
-kind_with_code kind.And = refl
-kind_with_code kind.Or = refl
-kind_with_code kind.RowEnd = refl
-kind_with_code kind.RowCell = refl
-kind_with_code kind.ConditionalRow = refl
-kind_with_code kind.RowsEnd = refl
-kind_with_code kind.Rows = refl
-kind_with_code kind.NamesEnd = refl
-kind_with_code kind.Names = refl
-kind_with_code kind.Create = refl
-kind_with_code kind.Insert = refl
-kind_with_code kind.Delete = refl
-kind_with_code kind.Assert = refl
-kind_with_code kind.ChangesEnd = refl
-kind_with_code kind.Changes = refl
-kind_with_code kind.Commit = refl
+kind_with_code _ = refl
 
 top_of : (c a b : ℕ) → a < 2 ^ 28 → b < 2 ^ 28 → (c * 72057594037927936 + a * 268435456 + b) / 72057594037927936 ≡ c
 top_of c a b l r = omega arith

@@ -7,16 +7,10 @@ use Rattle.ct_word.specs.declared.kinds.Class.{Class}
 use Rattle.ct_word.specs.declared.kinds.Class.TheVariants as class
 use Rattle.ct_word.specs.Word.{kind_of, left_of, right_of}
 use Rattle.ct_word.specs.WellFormed.{class_of, same_class, has_class, is_word_of, is_place_of}
-use Rattle.ct_word.specs.Reading.{Meaning, Nothing, IsText, IsHigh, IsTerm, IsCond, IsRow, IsCondRow, IsRowList, IsNameList, IsChange, IsChangeList, IsCommit, meaning_of, by_kind, read, meanings, term_at, condition_at, as_cond, as_term, as_change_list, change_list_at}
+use Rattle.ct_word.specs.Reading.{Meaning, IsTerm, IsCond, IsChangeList, meaning_of, by_kind, read, meanings, term_at, condition_at, as_cond, as_term, as_change_list, change_list_at}
 use Rattle.ct_word.specs.Stands.{StandsAt, class_of_meaning}
 use Rattle.ct_word.proofs.Growth.{stays}
-
--- the item that was put at the end
-get_last : {A : Type 0} (xs : List A) (x : A) (k : ℕ) → k ≡ length xs → slice_get (xs ++ x ∷ []) k ≡ Some x
-get_last [] x zero e = refl
-get_last [] x (suc k) e = absurd (omega arith)
-get_last (y ∷ xs) x zero e = absurd (omega arith)
-get_last (y ∷ xs) x (suc k) e = get_last xs x k (omega arith)
+use Rattle.ct_word.proofs.Items.{get_last}
 
 -- what the word at a place stands for, over the words before it
 read_at : (ms : List Meaning) (ws : List ℕ) (k w : ℕ) → slice_get ws k ≡ Some w
@@ -38,34 +32,7 @@ meaning_at words k w e = ap (λ j. slice_get (meanings words) j) (let z : k ≡ 
 -- what a word of a kind stands for is of the kind's class
 class_of_by_kind : (k : Kind) (ms : List Meaning) (a b : ℕ) → class_of_meaning (by_kind (Some k) ms a b) ≡ Some (class_of k)
 class_of_by_kind kind.TextEnd ms a b = refl
-class_of_by_kind kind.TextCharacter ms a b = refl
-class_of_by_kind kind.NumberHigh ms a b = refl
-class_of_by_kind kind.Number ms a b = refl
-class_of_by_kind kind.TextConstant ms a b = refl
-class_of_by_kind kind.NamedNull ms a b = refl
-class_of_by_kind kind.FreshNull ms a b = refl
-class_of_by_kind kind.OtherValue ms a b = refl
-class_of_by_kind kind.Column ms a b = refl
-class_of_by_kind kind.True ms a b = refl
-class_of_by_kind kind.False ms a b = refl
-class_of_by_kind kind.Equal ms a b = refl
-class_of_by_kind kind.Not ms a b = refl
-class_of_by_kind kind.And ms a b = refl
-class_of_by_kind kind.Or ms a b = refl
-class_of_by_kind kind.RowEnd ms a b = refl
-class_of_by_kind kind.RowCell ms a b = refl
-class_of_by_kind kind.ConditionalRow ms a b = refl
-class_of_by_kind kind.RowsEnd ms a b = refl
-class_of_by_kind kind.Rows ms a b = refl
-class_of_by_kind kind.NamesEnd ms a b = refl
-class_of_by_kind kind.Names ms a b = refl
-class_of_by_kind kind.Create ms a b = refl
-class_of_by_kind kind.Insert ms a b = refl
-class_of_by_kind kind.Delete ms a b = refl
-class_of_by_kind kind.Assert ms a b = refl
-class_of_by_kind kind.ChangesEnd ms a b = refl
-class_of_by_kind kind.Changes ms a b = refl
-class_of_by_kind kind.Commit ms a b = refl
+class_of_by_kind _ ms a b = refl
 
 -- whether a class is the one that is asked for
 same_class_is : (c d : Class) → IsTrue (same_class c d) → c ≡ d
@@ -103,18 +70,8 @@ meaning_of_class words c p e =
     (meaning_of (meanings (take p words)) found.0, meaning_at words p found.0 found.1, class_of_word _ found.0 c found.2)
 
 is_condition : (m : Meaning) → class_of_meaning m ≡ Some class.Cond → m ≡ IsCond (as_cond (Some m))
-is_condition Nothing e = cc
-is_condition (IsText t) e = cc
-is_condition (IsHigh h) e = cc
-is_condition (IsTerm t) e = cc
 is_condition (IsCond c) e = refl
-is_condition (IsRow r) e = cc
-is_condition (IsCondRow r) e = cc
-is_condition (IsRowList r) e = cc
-is_condition (IsNameList n) e = cc
-is_condition (IsChange x) e = cc
-is_condition (IsChangeList xs) e = cc
-is_condition (IsCommit c) e = cc
+is_condition _ e = cc
 
 -- a place of class Cond stands for its condition
 pub stands_condition : (words : List ℕ) (p : ℕ) → IsTrue (is_place_of words class.Cond p) → StandsAt words p (IsCond (condition_at words p))
@@ -123,18 +80,8 @@ stands_condition words p e =
     m.1 ∙ ap (λ x. Some x) (is_condition m.0 m.2) ∙ ap (λ o. Some (IsCond (as_cond o))) (sym m.1)
 
 is_term : (m : Meaning) → class_of_meaning m ≡ Some class.Term → m ≡ IsTerm (as_term (Some m))
-is_term Nothing e = cc
-is_term (IsText t) e = cc
-is_term (IsHigh h) e = cc
 is_term (IsTerm t) e = refl
-is_term (IsCond c) e = cc
-is_term (IsRow r) e = cc
-is_term (IsCondRow r) e = cc
-is_term (IsRowList r) e = cc
-is_term (IsNameList n) e = cc
-is_term (IsChange x) e = cc
-is_term (IsChangeList xs) e = cc
-is_term (IsCommit c) e = cc
+is_term _ e = cc
 
 -- a place of class Term stands for its term
 pub stands_term : (words : List ℕ) (p : ℕ) → IsTrue (is_place_of words class.Term p) → StandsAt words p (IsTerm (term_at words p))
@@ -143,18 +90,8 @@ stands_term words p e =
     m.1 ∙ ap (λ x. Some x) (is_term m.0 m.2) ∙ ap (λ o. Some (IsTerm (as_term o))) (sym m.1)
 
 is_change_list : (m : Meaning) → class_of_meaning m ≡ Some class.ChangeList → m ≡ IsChangeList (as_change_list (Some m))
-is_change_list Nothing e = cc
-is_change_list (IsText t) e = cc
-is_change_list (IsHigh h) e = cc
-is_change_list (IsTerm t) e = cc
-is_change_list (IsCond c) e = cc
-is_change_list (IsRow r) e = cc
-is_change_list (IsCondRow r) e = cc
-is_change_list (IsRowList r) e = cc
-is_change_list (IsNameList n) e = cc
-is_change_list (IsChange x) e = cc
 is_change_list (IsChangeList xs) e = refl
-is_change_list (IsCommit c) e = cc
+is_change_list _ e = cc
 
 -- a place of class ChangeList stands for its changes
 pub stands_change_list : (words : List ℕ) (p : ℕ) → IsTrue (is_place_of words class.ChangeList p) → StandsAt words p (IsChangeList (change_list_at words p))

@@ -1,5 +1,5 @@
 -- What stays when words are added: what each place stands for, the commits, and the classes of places.
-use Rattle.std.proofs.Common.{◌≡◌, ℕ, zero, suc, ◌<◌, List, [], ◌∷◌, ◌++◌, length, refl, ap, sym, ◌∙◌, arith}
+use Rattle.std.proofs.Common.{◌≡◌, ℕ, ◌<◌, List, [], ◌∷◌, ◌++◌, length, ap, sym, ◌∙◌, arith}
 use Rattle.std.specs.Prelude.{slice_get, IsTrue, filter_map}
 use Rattle.std.proofs.lemmas.List.{append-nil, append_assoc}
 use Rattle.std.proofs.lemmas.List.Elements.{filter_map-append}
@@ -8,7 +8,9 @@ use Rattle.ct_word.specs.declared.kinds.Class.{Class}
 use Rattle.ct_word.specs.WellFormed.{is_word_of, is_place_of}
 use Rattle.ct_word.specs.Reading.{Meaning, meaning_of, read, meanings, as_term, as_cond, as_change_list, as_commit, term_at, condition_at, change_list_at, commits_of}
 use Rattle.ct_word.specs.Stands.{StandsAt}
+pub use Rattle.ct_word.proofs.Growth.{place_within}
 use Rattle.ct_word.proofs.Growth.{read-append, length-read}
+use Rattle.ct_word.proofs.Items.{get_front}
 
 -- a list is a prefix of itself
 pub prefix_same : {A : Type 0} (xs : List A) → IsPrefix xs xs
@@ -20,11 +22,7 @@ prefix_of_prefix xs ys zs p q = (p.0 ++ q.0, sym (append_assoc xs p.0 q.0) ∙ a
 
 -- an item of a prefix is an item of the list
 pub get_in_prefix : {A : Type 0} (xs ys : List A) (k : ℕ) → IsPrefix xs ys → k < length xs → slice_get ys k ≡ slice_get xs k
-get_in_prefix xs ys k p lt = ap (λ l. slice_get l k) (sym p.1) ∙ front xs p.0 k lt where
-  front : {A : Type 0} (xs ys : List A) (k : ℕ) → k < length xs → slice_get (xs ++ ys) k ≡ slice_get xs k
-  front [] ys k lt = absurd (omega arith)
-  front (x ∷ xs) ys zero lt = refl
-  front (x ∷ xs) ys (suc k) lt = front xs ys k (omega arith)
+get_in_prefix xs ys k p lt = ap (λ l. slice_get l k) (sym p.1) ∙ get_front xs p.0 k lt
 
 -- what is read goes on from what was read
 read_extends : (ms : List Meaning) (ws : List ℕ) → (more : List Meaning) × (ms ++ more ≡ read ms ws)
@@ -62,12 +60,6 @@ condition_in_prefix ws xs k p lt = ap as_cond (meaning_in_prefix ws xs k p lt)
 
 pub change_list_in_prefix : (ws xs : List ℕ) (k : ℕ) → IsPrefix ws xs → k < length ws → change_list_at xs k ≡ change_list_at ws k
 change_list_in_prefix ws xs k p lt = ap as_change_list (meaning_in_prefix ws xs k p lt)
-
--- a place of a class lies within the words
-pub place_within : (ws : List ℕ) (c : Class) (k : ℕ) → IsTrue (is_place_of ws c k) → k < length ws
-place_within [] c k e = cc
-place_within (w ∷ ws) c zero e = omega arith
-place_within (w ∷ ws) c (suc k) e = let lt = place_within ws c k e in omega arith
 
 -- a place keeps its class
 pub place_in_prefix : (ws xs : List ℕ) (c : Class) (k : ℕ) → IsPrefix ws xs → IsTrue (is_place_of ws c k) → IsTrue (is_place_of xs c k)

@@ -1,74 +1,36 @@
 -- A place stands for what its word says over all words: fields name earlier places, and these keep their meaning.
-use Rattle.std.proofs.Common.{◌≡◌, ℕ, ◌+◌, ◌*◌, ◌/◌, ◌%◌, zero, suc, ◌<◌, List, [], ◌∷◌, ◌++◌, length, take, Option, Some, None, Bool, true, false, not, ◌&&◌, ◌||◌, refl, ap, sym, subst, ◌∙◌, ◌^◌, arith}
+use Rattle.std.proofs.Common.{◌≡◌, ℕ, zero, suc, ◌<◌, List, [], ◌∷◌, ◌++◌, take, Option, Some, None, ◌&&◌, refl, ap, sym, subst, ◌∙◌, ◌^◌}
 use Rattle.std.proofs.lemmas.List.{append-nil, append_assoc}
-use Rattle.std.specs.Prelude.{slice_get, IsTrue, encode_utf8, nat_lt}
+use Rattle.std.specs.Prelude.{slice_get, IsTrue}
 use mathlib.Core.List.{IsPrefix}
 use Rattle.ct_word.specs.declared.kinds.Kind.{Kind}
 use Rattle.ct_word.specs.declared.kinds.Kind.TheVariants as kind
 use Rattle.ct_word.specs.declared.kinds.Class.{Class}
 use Rattle.ct_word.specs.declared.kinds.Class.TheVariants as class
-use Rattle.ct_word.specs.declared.values.Value.TheVariants as val
-use Rattle.ct_word.specs.declared.values.Null.TheVariants as null
-use Rattle.ct_word.specs.declared.values.Term.TheVariants as term
-use Rattle.ct_word.specs.Condition.{True, False, Same, Not, both, either}
-use Rattle.ct_word.specs.Change.{Create, Insert, Delete, Assert}
 use Rattle.ct_word.specs.Word.{code_of, word_of, kind_of, left_of, right_of}
-use Rattle.ct_word.specs.WellFormed.{Field, Zero, Any, Byte, Scalar, Session, Positive, PlaceOf, fields_of, fits, is_ordered, class_of, same_class, has_class, is_word_of, is_place_of, is_formed_as, is_word_after, each_follows, IsWellFormed}
-use Rattle.ct_word.specs.Reading.{Meaning, Nothing, IsText, IsHigh, IsTerm, IsCond, IsRow, IsCondRow, IsRowList, IsNameList, IsChange, IsChangeList, IsCommit, as_text, as_high, as_term, as_cond, as_row, as_cond_row, as_row_list, as_name_list, as_change, as_change_list, int_of_bits, by_kind, meaning_of, meanings}
+use Rattle.ct_word.specs.WellFormed.{Field, PlaceOf, fields_of, fits, class_of, same_class, has_class, is_word_of, is_place_of, is_formed_as, is_word_after, each_follows, IsWellFormed}
+use Rattle.ct_word.specs.Reading.{Meaning, by_kind, meaning_of, meanings}
 use Rattle.ct_word.specs.Stands.{StandsAt}
 use Rattle.ct_word.proofs.Packed.{true_left, true_right, meaning_packed, kind_of_parts}
 use Rattle.ct_word.proofs.Prefixes.{meaning_in_prefix}
 use Rattle.ct_word.proofs.Growth.{place_within}
 use Rattle.ct_word.proofs.Places.{meaning_at}
 
--- a field names a place
-abbrev NamesPlace : Field → Type 0
-NamesPlace (PlaceOf c) = Unit {0}
-NamesPlace _ = ⊥
+-- two lists of meanings agree at the place that a field names
+abbrev Agrees : List Meaning → List Meaning → Field → ℕ → Type 0
+Agrees ms ns (PlaceOf c) n = slice_get ms n ≡ slice_get ns n
+Agrees ms ns _ n = Unit {0}
 
 -- what a word stands for rests on the places that its fields name
-by_kind_same : (k : Kind) (ms ns : List Meaning) (a b : ℕ) → (NamesPlace (fields_of k).0 → slice_get ms a ≡ slice_get ns a) → (NamesPlace (fields_of k).1 → slice_get ms b ≡ slice_get ns b)
+by_kind_same : (k : Kind) (ms ns : List Meaning) (a b : ℕ) → Agrees ms ns (fields_of k).0 a → Agrees ms ns (fields_of k).1 b
     → by_kind (Some k) ms a b ≡ by_kind (Some k) ns a b
 by_kind_same kind.TextEnd ms ns a b f g = refl
-by_kind_same kind.TextCharacter ms ns a b f g = λ i. IsText (as_text (f tt i) ++ encode_utf8 b)
-by_kind_same kind.NumberHigh ms ns a b f g = refl
-by_kind_same kind.Number ms ns a b f g = λ i. IsTerm (term.Value (val.Int (int_of_bits (as_high (f tt i) * 256 + b))))
-by_kind_same kind.TextConstant ms ns a b f g = λ i. IsTerm (term.Value (val.Text (as_text (f tt i))))
-by_kind_same kind.NamedNull ms ns a b f g = λ i. IsTerm (term.Null (null.Named (as_text (f tt i))))
-by_kind_same kind.FreshNull ms ns a b f g = refl
-by_kind_same kind.OtherValue ms ns a b f g = refl
-by_kind_same kind.Column ms ns a b f g = refl
-by_kind_same kind.True ms ns a b f g = refl
-by_kind_same kind.False ms ns a b f g = refl
-by_kind_same kind.Equal ms ns a b f g = λ i. IsCond (Same (as_term (f tt i)) (as_term (g tt i)))
-by_kind_same kind.Not ms ns a b f g = λ i. IsCond (Not (as_cond (f tt i)))
-by_kind_same kind.And ms ns a b f g = λ i. IsCond (both (as_cond (f tt i)) (as_cond (g tt i)))
-by_kind_same kind.Or ms ns a b f g = λ i. IsCond (either (as_cond (f tt i)) (as_cond (g tt i)))
-by_kind_same kind.RowEnd ms ns a b f g = refl
-by_kind_same kind.RowCell ms ns a b f g = λ i. IsRow (as_row (f tt i) ++ as_term (g tt i) ∷ [])
-by_kind_same kind.ConditionalRow ms ns a b f g = λ i. IsCondRow (record { cells = as_row (f tt i); condition = as_cond (g tt i) })
-by_kind_same kind.RowsEnd ms ns a b f g = refl
-by_kind_same kind.Rows ms ns a b f g = λ i. IsRowList (as_row_list (f tt i) ++ as_cond_row (g tt i) ∷ [])
-by_kind_same kind.NamesEnd ms ns a b f g = refl
-by_kind_same kind.Names ms ns a b f g = λ i. IsNameList (as_name_list (f tt i) ++ as_text (g tt i) ∷ [])
-by_kind_same kind.Create ms ns a b f g = λ i. IsChange (Create (as_text (f tt i)) (as_name_list (g tt i)))
-by_kind_same kind.Insert ms ns a b f g = λ i. IsChange (Insert (as_text (f tt i)) (as_row_list (g tt i)))
-by_kind_same kind.Delete ms ns a b f g = λ i. IsChange (Delete (as_text (f tt i)) (as_cond (g tt i)))
-by_kind_same kind.Assert ms ns a b f g = λ i. IsChange (Assert (as_cond (f tt i)))
-by_kind_same kind.ChangesEnd ms ns a b f g = refl
-by_kind_same kind.Changes ms ns a b f g = λ i. IsChangeList (as_change_list (f tt i) ++ as_change (g tt i) ∷ [])
-by_kind_same kind.Commit ms ns a b f g = λ i. IsCommit (record { session = a / 262144; number = a % 262144; changes = as_change_list (g tt i) })
+by_kind_same _ ms ns a b f g = cc
 
 -- a field that fits names an earlier place, which keeps its meaning
-field_same : (before words : List ℕ) (f : Field) (n : ℕ) → IsPrefix before words → IsTrue (fits before f n) → NamesPlace f
-    → slice_get (meanings words) n ≡ slice_get (meanings before) n
-field_same before words (PlaceOf c) n p e names = meaning_in_prefix before words n p (place_within before c n e)
-field_same before words Zero n p e names = absurd names
-field_same before words Any n p e names = absurd names
-field_same before words Byte n p e names = absurd names
-field_same before words Scalar n p e names = absurd names
-field_same before words Session n p e names = absurd names
-field_same before words Positive n p e names = absurd names
+field_same : (before words : List ℕ) (f : Field) (n : ℕ) → IsPrefix before words → IsTrue (fits before f n) → Agrees (meanings words) (meanings before) f n
+field_same before words (PlaceOf c) n p e = meaning_in_prefix before words n p (place_within before c n e)
+field_same before words _ n p e = tt
 
 meaning_by_kind : (o : Option Kind) (before words : List ℕ) (a b : ℕ) → IsPrefix before words → IsTrue (is_formed_as o before a b)
     → by_kind o (meanings words) a b ≡ by_kind o (meanings before) a b
@@ -115,16 +77,7 @@ stands_for_packed words p k a b formed l r at =
 
 same_class_self : (c : Class) → IsTrue (same_class c c)
 same_class_self class.Text = refl
-same_class_self class.High = refl
-same_class_self class.Term = refl
-same_class_self class.Cond = refl
-same_class_self class.Row = refl
-same_class_self class.CondRow = refl
-same_class_self class.RowList = refl
-same_class_self class.NameList = refl
-same_class_self class.Change = refl
-same_class_self class.ChangeList = refl
-same_class_self class.Commit = refl
+same_class_self _ = refl
 
 -- a place of a packed word is of its kind's class
 pub class_of_packed : (words : List ℕ) (p : ℕ) (k : Kind) (a b : ℕ) → a < 2 ^ 28 → b < 2 ^ 28

@@ -9,7 +9,7 @@ use Rattle.ct_word.specs.WellFormed.{IsWellFormed, is_formed_as, Field, PlaceOf,
 use Rattle.ct_word.specs.Reading.{by_kind, meanings}
 use Rattle.ct_word.specs.WordAt.{IsFieldAt, IsWordAt}
 use Rattle.ct_word.proofs.Prefixes.{place_in_prefix}
-use Rattle.ct_word.proofs.Splits.{Split, split_at, place_within, formed_fields, formed_at, meaning_at}
+use Rattle.ct_word.proofs.Splits.{split_at, place_within, formed_fields, formed_at, meaning_at}
 
 -- a field that fits the words before a place names an earlier place of the words, if it names one
 field_at : (ws front : List ℕ) (k : ℕ) → IsPrefix front ws → length front ≡ k → (f : Field) (n : ℕ) → IsTrue (fits front f n) → IsFieldAt ws k f n

@@ -6,9 +6,11 @@
 
 mod clones;
 mod compared;
+mod connectives;
 mod kinds;
 mod lists;
 mod memory;
+mod opening;
 mod reading;
 #[cfg(test)]
 mod tests;
@@ -16,10 +18,12 @@ mod texts;
 mod values;
 mod words;
 
+pub use connectives::Connective;
 pub use kinds::{Class, Kind};
 pub use lists::List;
 pub use memory::Memory;
-pub use reading::{Word, term_at, text_at, word_at};
+pub use opening::{FALSE_PLACE, TRUE_PLACE};
+pub use reading::{Word, is_constant, term_at, text_at, word_at};
 pub use texts::Text;
 pub use values::{CRow, Null, Term, Value, World};
 pub use words::{class, kind, left, pack, right};

@@ -1,9 +1,10 @@
-// The texts and terms that places of a log stand for.
+// What places of a log stand for.
 
 ghost use Rattle.std.specs.Prelude.{◌≡◌, ◌<◌, ◌+◌, ◌*◌, [], length, slice_get, IfOk, IsTrue};
 ghost use Rattle.ct_word.specs.declared.kinds.Class.TheVariants as class;
 ghost use Rattle.ct_word.specs.WellFormed.{IsWellFormed, is_place_of, fits, Scalar};
 ghost use Rattle.ct_word.specs.Reading.{term_at, meanings, as_high, int_of_bits};
+ghost use Rattle.ct_word.specs.Constant.{is_constant, is_constant_word};
 ghost use Rattle.ct_word.specs.WordAt.{IsWordAt, text_at, backwards};
 
 use crate::kinds::Kind;
@@ -115,5 +116,17 @@ pub fn term_at(alloc: Global, words: &[u64], place: u32) -> Result<Term, Memory>
         Kind::OtherValue => Ok(Term::Value(Value::Other(word.left))),
         Kind::Column => Ok(Term::Column(word.left)),
         _ => unreachable!(),
+    }
+}
+
+/// Whether a place, which may lie past the words, is one of a constant.
+#[tactic(auto, unfolding(crate::specs::Constant::is_constant))]
+pub fn is_constant(words: &[u64], place: u32) -> bool
+    ensures word { result ≡ is_constant_word (slice_get words.now place) }
+    ensures place { result ≡ is_constant words.now place }
+{
+    match words.get(place as usize) {
+        None => false,
+        Some(word) => kind(*word).is_some_and(Kind::is_constant),
     }
 }

@@ -3,7 +3,8 @@ use Rattle.std.specs.Prelude.{slice_get}
 use Rattle.std.proofs.lemmas.List.{get_or_read}
 use Rattle.std.proofs.lemmas.Option.{slice_get-get_or}
 use Rattle.ct_cnf.specs.Marks.{IsMarking}
-use Rattle.ct_cnf.proofs.Walks.{earlier, marking_starts, marking_more, marking_ends}
+use Rattle.ct_cnf.proofs.Walks.{marking_starts, marking_more, marking_ends}
+use Rattle.ct_word.proofs.Fields.{named_earlier}
 use Rattle.ct_cnf.proofs.marks.mark.Goals as goal
 
 pub loop-place-init : goal.loop-place-init
@@ -17,7 +18,7 @@ mark_fields-requires c = λ q h.
     let ws = c.args.words.now in
     let place = c.loop-place.place - 1 in
     let at : slice_get ws place ≡ Some (get_or ws place 0) = slice_get-get_or ws place 0 (omega (arith, c.requires.place, c.loop-place.auto.place, c.loop-place-test.true)) in
-    omega (arith, earlier ws c.requires.formed place (get_or ws place 0) q at h, c.loop-place.invariant.long, c.loop-place.auto.place, c.loop-place-test.true)
+    omega (arith, named_earlier ws c.requires.formed place (get_or ws place 0) q at h, c.loop-place.invariant.long, c.loop-place.auto.place, c.loop-place-test.true)
 
 pub loop-place-preserved-then-index : goal.loop-place-preserved-then-index
 loop-place-preserved-then-index c =

@@ -13,4 +13,4 @@ pub returns-then-is_constant-2-clause-truth : goal.returns-then-is_constant-2-cl
 returns-then-is_constant-2-clause-truth c =
     let ws = c.args.words.now in
     in_place ws 1 (λ v row. false) (equal_at ws c.args.s c.args.t) (false_at ws c.requires.begins c.requires.formed)
-    (constants_differ ws c.args.s c.args.t c.requires.formed c.if-s-t.false (sym c.if-is_constant.ensures) (sym c.if-is_constant-2.ensures))
+    (constants_differ ws c.args.s c.args.t c.requires.formed c.if-s-t.false (sym c.if-is_constant.ensures.word) (sym c.if-is_constant-2.ensures.word))

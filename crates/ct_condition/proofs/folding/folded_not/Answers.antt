@@ -4,11 +4,11 @@ use Rattle.ct_condition.specs.Truth.{HasTruth, Negates, truth_at}
 use Rattle.ct_condition.proofs.Truths.{not_true_at, not_false_at, negation_back}
 use Rattle.ct_condition.proofs.folding.folded_not.Goals as goal
 
-pub returns-then-c-eq-TRUE-clause-truth : goal.returns-then-c-eq-TRUE-clause-truth
-returns-then-c-eq-TRUE-clause-truth c = not_true_at c.args.words.now c.requires.begins c.requires.formed c.args.c c.if-c-eq-TRUE.true
+pub returns-then-c-eq-TRUE_PLACE-clause-truth : goal.returns-then-c-eq-TRUE_PLACE-clause-truth
+returns-then-c-eq-TRUE_PLACE-clause-truth c = not_true_at c.args.words.now c.requires.begins c.requires.formed c.args.c c.if-c-eq-TRUE_PLACE.true
 
-pub returns-then-c-eq-FALSE-clause-truth : goal.returns-then-c-eq-FALSE-clause-truth
-returns-then-c-eq-FALSE-clause-truth c = not_false_at c.args.words.now c.requires.begins c.requires.formed c.args.c c.if-c-eq-FALSE.true
+pub returns-then-c-eq-FALSE_PLACE-clause-truth : goal.returns-then-c-eq-FALSE_PLACE-clause-truth
+returns-then-c-eq-FALSE_PLACE-clause-truth c = not_false_at c.args.words.now c.requires.begins c.requires.formed c.args.c c.if-c-eq-FALSE_PLACE.true
 
 pub returns-clause-truth : goal.returns-clause-truth
 returns-clause-truth c =

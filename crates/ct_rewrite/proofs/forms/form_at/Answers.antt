@@ -3,9 +3,10 @@ use Rattle.std.specs.Prelude.{IfOk}
 use Rattle.std.specs.List.{AllByRecursion}
 use Rattle.ct_word.specs.Condition.{Condition}
 use Rattle.ct_rewrite.specs.Shape.{IsShaped, parts_of}
-use Rattle.ct_rewrite.specs.Signs.{IsForm, HasForm}
+use Rattle.ct_rewrite.specs.Below.{HasAt}
+use Rattle.ct_rewrite.specs.Signs.{IsForm, IsFormAt}
 use Rattle.ct_rewrite.proofs.Shaped.{shaped}
-use Rattle.ct_rewrite.proofs.Signs.{found_form}
+use Rattle.ct_rewrite.proofs.Closing.{found_at}
 use Rattle.ct_rewrite.proofs.forms.form_at.Goals as goal
 
 pub equal_form-requires-clause-left : goal.equal_form-requires-clause-left
@@ -35,16 +36,16 @@ returns-in-Not-clause-form c =
     let ws = c.args.words.now in
     let e = sym c.shape_at.ensures ∙ c.in-Not.is in
     let is = subst (IsShaped ws c.args.place) e (shaped ws c.args.place c.requires.formed c.requires.condition) in
-    let have = subst (λ s. AllByRecursion (HasForm ws c.args.builder.now c.args.forms.now) (parts_of s)) e c.requires.parts in
+    let have = subst (λ s. AllByRecursion (HasAt (IsFormAt ws c.args.builder.now) c.args.forms.now) (parts_of s)) e c.requires.parts in
     subst (λ (x : Condition). IsForm c.args.builder.now c.denied.result x) (sym is.condition)
-    (c.denied.ensures _ _ (found_form ws _ c.args.forms.now c.in-Not.part _ c.index.ensures have.0))
+    (c.denied.ensures _ _ (found_at (IsFormAt ws c.args.builder.now) c.args.forms.now c.in-Not.part _ c.index.ensures have.0))
 
 pub returns-in-Joined-clause-form : goal.returns-in-Joined-clause-form
 returns-in-Joined-clause-form c =
     let ws = c.args.words.now in
     let e = sym c.shape_at.ensures ∙ c.in-Joined.is in
     let is = subst (IsShaped ws c.args.place) e (shaped ws c.args.place c.requires.formed c.requires.condition) in
-    let have = subst (λ s. AllByRecursion (HasForm ws c.args.builder.now c.args.forms.now) (parts_of s)) e c.requires.parts in
+    let have = subst (λ s. AllByRecursion (HasAt (IsFormAt ws c.args.builder.now) c.args.forms.now) (parts_of s)) e c.requires.parts in
     subst (λ (x : Condition). IfOk c.joined_form.result (λ f. IsForm c.joined_form.new.builder f x)) (sym is.condition)
-    (c.joined_form.ensures.form _ _ (found_form ws _ c.args.forms.now c.in-Joined.left _ c.index-in-Joined.ensures have.0)
-    (found_form ws _ c.args.forms.now c.in-Joined.right _ c.index-in-Joined-2.ensures have.1.0))
+    (c.joined_form.ensures.form _ _ (found_at (IsFormAt ws c.args.builder.now) c.args.forms.now c.in-Joined.left _ c.index-in-Joined.ensures have.0)
+    (found_at (IsFormAt ws c.args.builder.now) c.args.forms.now c.in-Joined.right _ c.index-in-Joined-2.ensures have.1.0))

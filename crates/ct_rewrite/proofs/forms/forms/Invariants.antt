@@ -1,14 +1,14 @@
 use Rattle.std.proofs.Common.{ℕ, ◌<◌, ◌≤◌, ◌*◌, ◌-◌, length}
 use Rattle.std.specs.Prelude.{IsTrue}
-use Rattle.ct_rewrite.specs.Below.{has}
-use Rattle.ct_rewrite.specs.Signs.{HasForm}
+use Rattle.ct_rewrite.specs.Below.{has, HasAt}
+use Rattle.ct_rewrite.specs.Signs.{IsFormAt}
 use Rattle.ct_rewrite.proofs.forms.forms.Given as goal
 
 abbrev pub invariant-loop-place : goal.invariant-loop-place
 invariant-loop-place l = record {
   within : l.low ≤ length l.words;
   room : length l.builder ≤ 2 * l.low;
-  forms : (k : ℕ) → IsTrue (has l.places k) → k < l.low → HasForm l.words l.builder l.forms k;
+  forms : (k : ℕ) → IsTrue (has l.places k) → k < l.low → HasAt (IsFormAt l.words l.builder) l.forms k;
 }
 
 abbrev pub decreases-loop-place : goal.decreases-loop-place

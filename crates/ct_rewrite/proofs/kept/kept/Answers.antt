@@ -1,48 +1,63 @@
-use Rattle.std.proofs.Common.{◌∷◌, [], length-append, arith}
-use Rattle.ct_rewrite.proofs.Marks.{step_over, step_copied, step_proper, step_literals, step_kept, all_kept}
+use Rattle.std.proofs.Common.{arith, refl}
+use Rattle.ct_rewrite.specs.Below.{has}
+use Rattle.ct_rewrite.specs.Moving.{IsKept}
+use Rattle.ct_rewrite.proofs.Closing.{have_all, there_have, all_have}
+use Rattle.ct_rewrite.proofs.Moving.{nodes_downward, step_within, step_has, step_over, step_proper, step_literals, step_kept, roots_kept}
 use Rattle.ct_rewrite.proofs.kept.kept.Goals as goal
 
-pub next_position-requires-clause-children : goal.next_position-requires-clause-children
-next_position-requires-clause-children c =
-    step_over c.args.nodes.now c.loop-place.builder c.in_ok-marks.marks.items c.loop-place.positions.items _ c.loop-place.place _ c.index.result.now
-    c.requires.ordered c.in_ok-marks.ensures.closed c.in_ok-marks.ensures.count c.loop-place.invariant.kept c.loop-place.invariant.count c.as_slice.ensures.value
-    c.loop-place-test.true c.index-nodes-place.is c.index.ensures
+pub below-requires-clause-downward : goal.below-requires-clause-downward
+below-requires-clause-downward c = nodes_downward c.args.nodes.now _ c.requires.ordered refl
 
-pub next_position-requires-clause-copied : goal.next_position-requires-clause-copied
-next_position-requires-clause-copied c =
-    step_copied c.args.nodes.now c.loop-place.builder c.in_ok-marks.marks.items c.loop-place.positions.items _ c.loop-place.place _ c.index.result.now
-    c.requires.ordered c.in_ok-marks.ensures.closed c.in_ok-marks.ensures.count c.loop-place.invariant.kept c.loop-place.invariant.count c.as_slice.ensures.value
-    c.loop-place-test.true c.index-nodes-place.is c.index.ensures
+pub copied-requires : goal.copied-requires
+copied-requires c =
+    step_has c.args.nodes.now c.loop-position.builder c.loop-position.positions (has c.in_ok-reached.reached) c.loop-position.low c.in-Some.position c.index-nodes-position.result
+    c.requires.ordered c.in_ok-reached.ensures.inside c.in_ok-reached.ensures.closed c.loop-position.invariant.kept c.in-Some.ensures c.index-nodes-position.is
 
-pub next_position-requires-clause-proper : goal.next_position-requires-clause-proper
-next_position-requires-clause-proper c =
-    step_proper c.args.nodes.now c.loop-place.builder c.in_ok-marks.marks.items c.loop-place.positions.items _ c.loop-place.place _ c.index.result.now
-    c.requires.ordered c.in_ok-marks.ensures.closed c.in_ok-marks.ensures.count c.loop-place.invariant.kept c.loop-place.invariant.count c.as_slice.ensures.value
-    c.loop-place-test.true c.index-nodes-place.is c.index.ensures c.requires.distinct c.requires.proper
+pub place-requires-clause-ordered : goal.place-requires-clause-ordered
+place-requires-clause-ordered c =
+    step_over c.args.nodes.now c.loop-position.builder c.loop-position.positions (has c.in_ok-reached.reached) c.loop-position.low c.in-Some.position c.index-nodes-position.result
+    c.requires.ordered c.in_ok-reached.ensures.inside c.in_ok-reached.ensures.closed c.loop-position.invariant.kept c.in-Some.ensures c.index-nodes-position.is
+    c.in_ok-copy.copy c.in_ok-copy.ensures
 
-pub next_position-requires-clause-no_literals : goal.next_position-requires-clause-no_literals
-next_position-requires-clause-no_literals c =
-    step_literals c.args.nodes.now c.loop-place.builder c.in_ok-marks.marks.items c.loop-place.positions.items _ c.loop-place.place _ c.index.result.now
-    c.requires.ordered c.in_ok-marks.ensures.closed c.in_ok-marks.ensures.count c.loop-place.invariant.kept c.loop-place.invariant.count c.as_slice.ensures.value
-    c.loop-place-test.true c.index-nodes-place.is c.index.ensures c.requires.no_literals
+pub place-requires-clause-proper : goal.place-requires-clause-proper
+place-requires-clause-proper c =
+    step_proper c.args.nodes.now c.loop-position.builder c.loop-position.positions (has c.in_ok-reached.reached) c.loop-position.low c.in-Some.position c.index-nodes-position.result
+    c.requires.ordered c.in_ok-reached.ensures.inside c.in_ok-reached.ensures.closed c.loop-position.invariant.kept c.in-Some.ensures c.index-nodes-position.is
+    c.in_ok-copy.copy c.in_ok-copy.ensures c.requires.distinct c.requires.proper
 
-pub loop-place-preserved : goal.loop-place-preserved
-loop-place-preserved c =
-    let loop = c.loop-place.invariant in
-    let grew = c.in_ok-position.ensures.count in
-    rw c.in_ok-push.ensures.items
+pub place-requires-clause-no_literals : goal.place-requires-clause-no_literals
+place-requires-clause-no_literals c =
+    step_literals c.args.nodes.now c.loop-position.builder c.loop-position.positions (has c.in_ok-reached.reached) c.loop-position.low c.in-Some.position c.index-nodes-position.result
+    c.requires.ordered c.in_ok-reached.ensures.inside c.in_ok-reached.ensures.closed c.loop-position.invariant.kept c.in-Some.ensures c.index-nodes-position.is
+    c.in_ok-copy.copy c.in_ok-copy.ensures c.requires.no_literals
+
+pub loop-position-preserved : goal.loop-position-preserved
+loop-position-preserved c =
+    let lt = step_within c.args.nodes.now c.loop-position.builder c.loop-position.positions (has c.in_ok-reached.reached) c.loop-position.low c.in-Some.position c.index-nodes-position.result
+    c.requires.ordered c.in_ok-reached.ensures.inside c.in_ok-reached.ensures.closed c.loop-position.invariant.kept c.in-Some.ensures c.index-nodes-position.is in
     record {
-      count = omega (arith, loop.count, length-append c.loop-place.positions.items (c.in_ok-position.position ∷ []));
-      room = omega (arith, loop.room, grew);
+      within = omega (arith, lt);
+      room = omega (arith, c.loop-position.invariant.room, c.in_ok-to.ensures.count, c.in-Some.ensures.from);
       kept =
-          step_kept c.args.nodes.now c.loop-place.builder c.in_ok-marks.marks.items c.loop-place.positions.items _ c.loop-place.place c.index-nodes-place.result c.index.result.now
-          c.requires.ordered c.in_ok-marks.ensures.closed c.in_ok-marks.ensures.count loop.kept loop.count c.as_slice.ensures.value
-          c.loop-place-test.true c.index-nodes-place.is c.index.ensures _ c.in_ok-position.position c.in_ok-position.ensures.grows
-          c.in_ok-position.ensures.within c.in_ok-position.ensures.value;
+          step_kept c.args.nodes.now c.loop-position.builder c.loop-position.positions (has c.in_ok-reached.reached) c.loop-position.low c.in-Some.position c.index-nodes-position.result
+          c.requires.ordered c.in_ok-reached.ensures.inside c.in_ok-reached.ensures.closed c.loop-position.invariant.kept c.in-Some.ensures c.index-nodes-position.is
+          c.in_ok-copy.copy c.in_ok-copy.ensures c.place.new.self c.insert.new.self c.in_ok-to.to c.in_ok-to.ensures.grows c.in_ok-to.ensures.within c.in_ok-to.ensures.value
+          c.in_ok-insert.ensures.updates;
     }
+
+pub moved-requires : goal.moved-requires
+moved-requires c =
+    let nodes = c.args.nodes.now in
+    all_have (IsKept nodes c.loop-position.builder) c.loop-position.positions c.args.roots.now
+    (there_have (IsKept nodes c.loop-position.builder) c.loop-position.positions (has c.in_ok-reached.reached)
+    (have_all (IsKept nodes c.loop-position.builder) c.loop-position.positions (has c.in_ok-reached.reached) c.loop-position.low c.loop-position.invariant.kept c.in_default.ensures)
+    c.args.roots.now c.in_ok-reached.ensures.roots)
 
 pub returns-clause-kept : goal.returns-clause-kept
 returns-clause-kept c =
-    all_kept c.args.nodes.now c.loop-place.builder c.in_ok-into_nodes.field-0 c.in_ok-marks.marks.items c.loop-place.positions.items _ c.args.roots.now
-    c.in_ok-roots.roots c.loop-place.invariant.kept (omega (arith, c.loop-place.invariant.count, c.loop-place-test.false, c.loop-place.auto.place-end))
-    c.in_ok-marks.ensures.roots c.requires.roots c.in_ok-into_nodes.ensures.nodes c.as_slice-2.ensures.value c.in_ok-roots.ensures
+    let nodes = c.args.nodes.now in
+    roots_kept nodes c.loop-position.builder c.loop-position.positions c.in_ok-into_nodes.field-0 c.args.roots.now c.in_ok-roots.roots
+    (there_have (IsKept nodes c.loop-position.builder) c.loop-position.positions (has c.in_ok-reached.reached)
+    (have_all (IsKept nodes c.loop-position.builder) c.loop-position.positions (has c.in_ok-reached.reached) c.loop-position.low c.loop-position.invariant.kept c.in_default.ensures)
+    c.args.roots.now c.in_ok-reached.ensures.roots)
+    c.in_ok-into_nodes.ensures.nodes c.in_ok-roots.ensures

@@ -1,10 +1,15 @@
-use Rattle.std.proofs.Common.{◌≡◌, ◌≤◌, length}
-use Rattle.ct_rewrite.specs.Marks.{AreKept}
+use Rattle.std.proofs.Common.{ℕ, ◌<◌, ◌≤◌, ◌-◌, length}
+use Rattle.std.specs.Prelude.{IsTrue}
+use Rattle.ct_rewrite.specs.Below.{has, HasAt}
+use Rattle.ct_rewrite.specs.Moving.{IsKept}
 use Rattle.ct_rewrite.proofs.kept.kept.Given as goal
 
-abbrev pub invariant-loop-place : goal.invariant-loop-place
-invariant-loop-place l = record {
-  count : length l.positions.items ≡ l.place;
-  room : length l.builder ≤ l.place;
-  kept : AreKept l.nodes l.marks.items l.builder l.positions.items;
+abbrev pub invariant-loop-position : goal.invariant-loop-position
+invariant-loop-position l = record {
+  within : l.low ≤ length l.nodes;
+  room : length l.builder ≤ l.low;
+  kept : (k : ℕ) → IsTrue (has l.reached k) → k < l.low → HasAt (IsKept l.nodes l.builder) l.positions k;
 }
+
+abbrev pub decreases-loop-position : goal.decreases-loop-position
+decreases-loop-position l = length l.nodes - l.low

@@ -1,5 +1,5 @@
 use Rattle.std.proofs.Common.{◌≡◌, map, take}
-use Rattle.ct_rewrite.specs.Marks.{moved_to}
+use Rattle.ct_rewrite.specs.Moving.{moved_to}
 use Rattle.ct_rewrite.proofs.kept.moved.Given as goal
 
 abbrev pub invariant-loop-position : goal.invariant-loop-position
