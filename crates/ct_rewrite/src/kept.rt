@@ -35,11 +35,7 @@ impl Graph for Nodes<'_> {
 }
 
 /// Where these positions went.
-fn moved(
-    alloc: Global,
-    positions: &BTreeMap<u32, u32>,
-    from: &[u32],
-) -> Result<List<u32>, Memory>
+fn moved(alloc: Global, positions: &BTreeMap<u32, u32>, from: &[u32]) -> Result<List<u32>, Memory>
     requires { IsTrue (list_all (has_at positions.now) from.now) }
     ensures { IfOk result (λ to. to ≡ map (moved_to positions.now) from.now) }
 {

@@ -24,11 +24,7 @@ use std::alloc::Global;
 use std::collections::BTreeMap;
 
 /// The positions for plus at these places.
-fn positions(
-    alloc: Global,
-    forms: &BTreeMap<u32, Form>,
-    places: &[u32],
-) -> Result<Vec<u32>, Memory>
+fn positions(alloc: Global, forms: &BTreeMap<u32, Form>, places: &[u32]) -> Result<Vec<u32>, Memory>
     requires { IsTrue (list_all (has_at forms.now) places.now) }
     ensures { IfOk result (λ ks. ks.items ≡ map (plus_at forms.now) places.now) }
 {

@@ -10,7 +10,7 @@ use Rattle.ct_rewrite.proofs.below.below.Goals as goal
 pub loop-place-init : goal.loop-place-init
 loop-place-init g c =
     let inside = all_there (has c.new-places.result) (has c.add.new.places) c.args.roots.now c.in_ok-add.ensures (g.G.Graph.is_in c.args.graph.now)
-        (λ k e. absurd (false≢true (sym (ap (list_any (is_at (nat_cmp k))) c.new-places.ensures.empty) ∙ e))) c.requires.roots in
+    (λ k e. absurd (false≢true (sym (ap (list_any (is_at (nat_cmp k))) c.new-places.ensures.empty) ∙ e))) c.requires.roots in
     record {
       inside = inside;
       roots = added_there (has c.new-places.result) (has c.add.new.places) c.args.roots.now c.in_ok-add.ensures;

@@ -40,7 +40,7 @@ loop-position-preserved c =
       room = omega (arith, c.loop-position.invariant.room, c.in_ok-to.ensures.count, c.in-Some.ensures.from);
       kept =
           step_kept c.args.nodes.now c.loop-position.builder c.loop-position.positions (has c.in_ok-reached.reached) c.loop-position.low c.in-Some.position c.index-nodes-position.result
-    c.requires.ordered c.in_ok-reached.ensures.inside c.in_ok-reached.ensures.closed c.loop-position.invariant.kept c.in-Some.ensures c.index-nodes-position.is
+          c.requires.ordered c.in_ok-reached.ensures.inside c.in_ok-reached.ensures.closed c.loop-position.invariant.kept c.in-Some.ensures c.index-nodes-position.is
           c.in_ok-copy.copy c.in_ok-copy.ensures c.place.new.self c.insert.new.self c.in_ok-to.to c.in_ok-to.ensures.grows c.in_ok-to.ensures.within c.in_ok-to.ensures.value
           c.in_ok-insert.ensures.updates;
     }
