@@ -7,7 +7,7 @@ ghost use Rattle.ct_word.specs.Constant.{is_constant_kind, is_constant_word};
 ghost use Rattle.ct_word.specs.WellFormed.{IsWellFormed, is_place_of};
 ghost use Rattle.ct_word.specs.declared.kinds.Class.TheVariants as class;
 ghost use Rattle.ct_condition.specs.Folding as spec;
-ghost use Rattle.ct_condition.specs.Folding.{denied, is_place, literal_place};
+ghost use Rattle.ct_condition.specs.Folding.{are_apart, denied, is_place, literal_place};
 ghost use Rattle.ct_condition.specs.Truth.{HasTruth, Negates, equal_at, not_at, and_at, or_at};
 
 use ct_word::{Kind, kind, left};
@@ -50,6 +50,13 @@ fn is_constant(words: &[u64], place: u32) -> bool
         None => false,
         Some(word) => is_kind_of_constant(kind(word)),
     }
+}
+
+/// Whether the terms at two places are different constants, which are worth different values in each world.
+pub fn are_apart(words: &[u64], s: u32, t: u32) -> bool
+    ensures { result ≡ are_apart words.now s t }
+{
+    s != t && is_constant(words, s) && is_constant(words, t)
 }
 
 /// The condition that the one at a place is the negation of, if its word is a `not`.

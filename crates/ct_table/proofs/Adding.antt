@@ -103,6 +103,7 @@ pairs_and_one {words_of = words_of} {made_of} {kept_of} {lent_of} {cap} {old} {m
 } where
   all : Writes words_of made_of kept_of lent_of cap old new (m + 1) (is_err r)
   all = writes_both a b
+
   by_width : (k : ℕ) → made_of mid ≤ made_of old + (2 * k - 1) → (k ≡ 0 → IsSome o) → made_of new + charge (is_err r) ≤ made_of old + 2 * k
   by_width zero spare folds =
       let same : made_of new ≡ made_of mid = unmade (folds refl) in

@@ -1,10 +1,11 @@
 // Whether a row is worth the tuple of another, as a condition.
 
-ghost use Rattle.std.specs.Prelude.{◌≡◌, ◌≤◌, ◌<◌, ◌+◌, ◌-◌, ◌*◌, ◌&&◌, ◌∷◌, ◌++◌, length, All, IfOk, OnOk, IsTrue, is_err};
+ghost use Rattle.std.specs.Prelude.{◌≡◌, true, false, ◌≤◌, ◌<◌, ◌+◌, ◌-◌, ◌*◌, ◌&&◌, ◌∷◌, ◌++◌, length, All, IfOk, OnOk, IsTrue, is_err};
 ghost use Rattle.ct_word.specs.declared.kinds.Class.TheVariants as class;
 ghost use Rattle.ct_word.specs.Condition.{holds_at};
 ghost use Rattle.ct_word.specs.Reading.{condition_at};
-ghost use Rattle.ct_word.specs.WellFormed.{is_place_of};
+ghost use Rattle.ct_word.specs.Value.{World};
+ghost use Rattle.ct_word.specs.WellFormed.{IsWellFormed, is_place_of};
 ghost use Rattle.ct_condition.specs.Terms.{TermsFrom, BelowSome};
 ghost use Rattle.ct_condition.specs.Writes.{Writes};
 ghost use Rattle.ct_table.specs.Tables.{IsRow};
@@ -12,11 +13,27 @@ ghost use Rattle.ct_table.specs.Building.{HoldsWhere};
 ghost use Rattle.ct_table.specs.Matching.{same_worth};
 
 use ct_arena::{Arena, Full, Site};
-use ct_condition::{Interner, and, eq};
+use ct_condition::{Interner, and, are_apart, eq};
 use ct_word::CRow;
 
 /// The place of the word true, which every valuation satisfies.
 const TRUE: u32 = 0;
+
+/// The place of the word false, which no valuation satisfies.
+const FALSE: u32 = 1;
+
+/// Whether two lists of cells differ in a constant. They are then worth different tuples in each world.
+fn differ(words: &[u64], left: &[u32], right: &[u32]) -> bool
+    requires formed { IsWellFormed words.now }
+    ensures { result ≡ true → (v : World) → same_worth words.now left.now right.now v ≡ false }
+{
+    for (s, t) in left.iter().zip(right) {
+        if are_apart(words, *s, *t) {
+            return true;
+        }
+    }
+    false
+}
 
 /// The place of the condition that two lists of cells are worth the same.
 fn cells_equal<N: Site, I: Interner<N>>(
@@ -43,7 +60,8 @@ fn cells_equal<N: Site, I: Interner<N>>(
     Ok(all)
 }
 
-/// The place of the condition that a row is shown and is worth what these cells are.
+/// The place of the condition that a row is shown and is worth what these cells are. Where they differ in a constant
+/// that is the word false, and no word is looked for.
 pub(crate) fn shown_as<N: Site, I: Interner<N>>(
     arena: &Arena<N>,
     pass: &mut I,
@@ -56,7 +74,10 @@ pub(crate) fn shown_as<N: Site, I: Interner<N>>(
     ensures terms { IfOk result (λ place. TermsFrom (I.list pass.new) place (BelowSome (I.list pass.old) (other.now.cond ∷ (other.now.cells ++ cells.now)))) }
     ensures writes { Writes I.list I.made I.kept I.lent N.log.cap pass.old pass.new (2 * length cells.now) (is_err result) }
 {
-    let _ = pass.words();
-    let same = cells_equal(arena, pass, other.cells.as_slice(), cells)?;
+    let theirs = other.cells.as_slice();
+    if differ(pass.words(), theirs, cells) {
+        return Ok(FALSE);
+    }
+    let same = cells_equal(arena, pass, theirs, cells)?;
     and(arena, pass, other.cond, same)
 }

@@ -122,4 +122,3 @@ returns-in_err-push-clause-writes g c =
     let exit = err_from_is_err_and c.from_residual-in_err-push.result c.from_residual-in_err-push.ensures.1 in
     rw (exit.1, exit.2) (writes_last _ _ c.loop-row.invariant.writes _ (subst (λ l. c.loop-row.row-index < length l) c.as_slice-row-items.ensures c.loop-row-test.true)
     (writes_as (λ i. length (c.as_slice.ensures i) * (2 * is.width_is i + 2)) c.in_ok-cond.ensures.writes))
-
