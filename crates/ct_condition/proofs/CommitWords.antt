@@ -1,7 +1,7 @@
 -- Interning adds no commit word.
 use Rattle.std.proofs.Common.{◌≡◌, ℕ, true, false, not, ◌&&◌, Bool, List, [], ◌∷◌, ◌++◌, append-nil, refl, ap, sym, ◌∙◌, Ok, Err, inl, inr, arith}
 use Rattle.std.specs.Prelude.{◌⊎◌, if◌then◌else◌, IsTrue, Result, OnOk, OnErr}
-use Rattle.std.specs.List.{filter, Contains}
+use Rattle.std.specs.List.{Contains}
 use Rattle.std.proofs.lemmas.Bool.Decides.{eqb_tells}
 use Rattle.std.proofs.lemmas.List.Elements.{filter-append, Contains-append_right, Contains-append_cases, Contains-push_cases}
 use Rattle.ct_word.specs.WellFormed.{is_commit_word, is_word_over, is_plain_word}

@@ -1,7 +1,7 @@
 -- The truth of the conditions at places: of true and false, of two constants, of a negation.
 use Rattle.std.proofs.Common.{◌≡◌, ℕ, [], ◌∷◌, ◌<◌, ◌^◌, Bool, true, false, not, List, Option, Some, None, refl, ap, sym, ◌∙◌, arith, length}
-use Rattle.std.specs.Prelude.{◌≢◌, slice_get, IsTrue}
-use Rattle.std.proofs.lemmas.Bool.{false≢true}
+use Rattle.std.specs.Prelude.{◌≢◌, nat_eq, slice_get, IsTrue}
+use Rattle.std.proofs.lemmas.Bool.{false≢true, and_parts, eq-eqb}
 use mathlib.Core.List.{IsPrefix}
 use Rattle.ct_word.specs.declared.kinds.Kind.{Kind}
 use Rattle.ct_word.specs.declared.kinds.Kind.TheVariants as kind
@@ -20,6 +20,7 @@ use Rattle.ct_word.proofs.Prefixes.{get_in_prefix}
 use Rattle.ct_word.proofs.Splits.{split_at, formed_at, formed_fields, meaning_at}
 use Rattle.ct_word.proofs.Stands.{stands_for_packed, class_of_packed}
 use Rattle.ct_arena.specs.Counts.{opening}
+use Rattle.ct_condition.specs.Folding.{are_apart, are_constants}
 use Rattle.ct_condition.specs.Truth.{Truth, HasTruth, Negates, truth_at, equal_at}
 
 -- what a place is worth by itself
@@ -82,6 +83,13 @@ pub constants_differ : (ws : List ℕ) (s t : ℕ) → IsWellFormed ws → s ≢
 constants_differ ws s t formed ne cs ct v row =
     sym (not_true _ (λ same. ne (one_constant ws formed v s t cs ct
     (sym (constant_row ws formed s _ refl cs v row) ∙ (value_decides _ _).0 same ∙ constant_row ws formed t _ refl ct v row))))
+
+-- so terms that are apart
+pub apart_differ : (ws : List ℕ) (s t : ℕ) → IsWellFormed ws → are_apart ws s t ≡ true → (v : World) (row : List Value) → equal_at ws s t v row ≡ false
+apart_differ ws s t formed e v row =
+    let parts = and_parts (not (nat_eq s t)) (are_constants ws s t) e in
+    let both = and_parts (is_constant_word (slice_get ws s)) (is_constant_word (slice_get ws t)) parts.1 in
+    sym (constants_differ ws s t formed (λ same. false≢true (sym (ap not (eq-eqb s t same)) ∙ parts.0)) both.0 both.1 v row)
 
 -- the word not
 pub negation : (ws : List ℕ) (c w : ℕ) → IsWellFormed ws → slice_get ws c ≡ Some w → kind_of w ≡ Some kind.Not → Negates ws c (left_of w)

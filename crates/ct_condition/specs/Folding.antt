@@ -1,5 +1,5 @@
 -- Which conditions fold to one that stands already, by the first rule that fits.
-use Rattle.std.specs.Prelude.{◌≡◌, ℕ, Bool, true, false, ◌&&◌, ◌||◌, List, Option, Some, None, Result, Ok, nat_eq, slice_get, IfOk, if◌then◌else◌}
+use Rattle.std.specs.Prelude.{◌≡◌, ℕ, Bool, true, false, not, ◌&&◌, ◌||◌, List, Option, Some, None, Result, Ok, nat_eq, slice_get, IfOk, if◌then◌else◌}
 use Rattle.ct_word.specs.declared.kinds.Kind.{Kind}
 use Rattle.ct_word.specs.declared.kinds.Kind.TheVariants as kind
 use Rattle.ct_word.specs.Constant.{is_constant_word}
@@ -34,6 +34,10 @@ are_opposite words c d = is_place (denied words c) d || is_place (denied words d
 -- whether two places are of constants
 abbrev pub are_constants : List ℕ → ℕ → ℕ → Bool
 are_constants words s t = is_constant_word (slice_get words s) && is_constant_word (slice_get words t)
+
+-- whether two places are of different constants
+abbrev pub are_apart : List ℕ → ℕ → ℕ → Bool
+are_apart words s t = not (nat_eq s t) && are_constants words s t
 
 -- of an equality
 abbrev pub folded_eq : List ℕ → ℕ → ℕ → Option ℕ

@@ -6,7 +6,7 @@ ghost use Rattle.ct_arena.specs.Counts.{opening};
 ghost use Rattle.ct_word.specs.WellFormed.{IsWellFormed, is_place_of};
 ghost use Rattle.ct_word.specs.declared.kinds.Class.TheVariants as class;
 ghost use Rattle.ct_condition.specs.Folding as spec;
-ghost use Rattle.ct_condition.specs.Folding.{denied, is_place, literal_place};
+ghost use Rattle.ct_condition.specs.Folding.{are_apart, denied, is_place, literal_place};
 ghost use Rattle.ct_condition.specs.Truth.{HasTruth, Negates, equal_at, not_at, and_at, or_at};
 
 use ct_word::{FALSE_PLACE, Kind, TRUE_PLACE, is_constant, kind, left};
@@ -26,6 +26,13 @@ fn word_at(words: &[u64], place: u32) -> Option<u64>
     ensures { result ≡ slice_get words.now place }
 {
     words.get(place as usize).copied()
+}
+
+/// Whether the terms at two places are different constants, which are worth different values in each world.
+pub fn are_apart(words: &[u64], s: u32, t: u32) -> bool
+    ensures { result ≡ are_apart words.now s t }
+{
+    s != t && is_constant(words, s) && is_constant(words, t)
 }
 
 /// The condition that the one at a place is the negation of, if its word is a `not`.

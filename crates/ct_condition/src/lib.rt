@@ -17,6 +17,7 @@ mod valued;
 mod worlds;
 
 pub use conditions::{all, and, eq, not, or};
+pub use folding::are_apart;
 pub use interner::Interner;
 pub use one_world::Worths;
 pub use packed::put;

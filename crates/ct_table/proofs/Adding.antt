@@ -1,11 +1,16 @@
 -- Sums of the words that rows are put by.
 use Rattle.std.proofs.Common.{◌≡◌, ℕ, zero, suc, ◌+◌, ◌-◌, ◌*◌, ◌≤◌, ◌<◌, Bool, true, false, ◌||◌, List, ◌++◌, map, length, take, refl, ap, sym, subst, ◌∙◌, Ok, Err, arith}
-use Rattle.std.specs.Prelude.{Result, OnErr, IsErrOf, Option, Some, None, nat_eq, if◌then◌else◌}
+use Rattle.std.specs.Prelude.{Result, is_err, IsErrOf, Option, Some, None, nat_eq, if◌then◌else◌}
+use Rattle.std.specs.Borrow.{GName}
 use Rattle.std.specs.Option.{IsSome}
+use Rattle.ct_table.specs.declared.error.TableError.{TableError}
+use Rattle.ct_table.specs.declared.error.TableError.TheVariants as fault
+use Rattle.ct_table.specs.Refusals.{is_full}
+use Rattle.ct_condition.specs.Writes.{Writes, charge}
+use Rattle.ct_condition.proofs.Writes.{writes_both}
 use Rattle.std.specs.List.{IsDistinct}
 use Rattle.std.proofs.Math.Nat.{mul-le-mul_right, mul_assoc, mul-add}
 use Rattle.std.proofs.lemmas.List.{length-take-le, length-map, map-append}
-use Rattle.std.proofs.lemmas.Result.{on_err_weaker}
 use Rattle.ct_word.specs.declared.values.Value.{Value}
 use Rattle.ct_word.specs.declared.values.Term.{Term}
 use Rattle.ct_word.specs.declared.values.CRow.{CRow}
@@ -53,6 +58,12 @@ error_of e (Err d) = d
 pub passed : {T U E : Type 0} (r : Result T E) (a f : E) → r ≡ Err a → IsErrOf r f → IsErrOf {T = U} (Err a) f
 passed r a f p e = ap Err (ap (error_of a) (sym p ∙ e))
 
+-- fewer words where the log was full
+pub fewer_full : {S : Type 0} {words_of : S → List ℕ} {made_of : S → ℕ} {kept_of : S → List ℕ} {lent_of : S → List GName} {cap : ℕ} {old new : S} {most : ℕ} {T : Type 0} (r : Result T TableError) → IsErrOf r fault.Full
+    → Writes words_of made_of kept_of lent_of cap old new most (is_full r) → made_of new < made_of old + most
+fewer_full {words_of = words_of} {made_of} {kept_of} {lent_of} {cap} {old} {new} {most} r e w =
+    let h : made_of new + 1 ≤ made_of old + most = (subst (λ x. Writes words_of made_of kept_of lent_of cap old new most (is_full x)) e w).made in omega (arith, h)
+
 -- a conjunction that begins or ends with true is folded
 pub true_first : (words : List ℕ) (d : ℕ) → IsSome (folded_and words 0 d)
 true_first words d = by_case (nat_eq d 1) where
@@ -68,22 +79,37 @@ true_last words c = by_case (nat_eq c 1) (nat_eq c 0) where
   by_case false false = refl
 
 -- what is folded is no error
-pub folded_answers : {E : Type 0} (o : Option ℕ) (w : ℕ) (old new : List ℕ) (r : Result ℕ E) (P : Type 0) → IsSome o → FoldsTo o w old new r → OnErr r P
-folded_answers (Some p) w old new r P is f = subst (λ x. OnErr x P) (sym f.0) tt
-folded_answers None w old new r P is f = let bad : false ≡ true = is in cc
+folded_free : {E : Type 0} (o : Option ℕ) (w : ℕ) (old new : List ℕ) (r : Result ℕ E) → IsSome o → FoldsTo o w old new r → charge (is_err r) ≡ 0
+folded_free (Some p) w old new r is f = ap (λ x. charge (is_err x)) f.0
+folded_free None w old new r is f = let bad : false ≡ true = is in cc
 
 -- a pair of cells compared after others, of which the first is not joined to any
 pub pair_more : (n m now mid new : ℕ) → now ≤ m + (2 * n - 1) → mid ≤ now + 1 → new ≤ mid + 1 → (n ≡ 0 → new ≡ mid) → new ≤ m + (2 * (n + 1) - 1)
 pair_more zero m now mid new a b c first = let same : new ≡ mid = first refl in omega (arith, same)
 pair_more (suc n) m now mid new a b c first = omega arith
 
-pub pairs_and_one : (k m mid new : ℕ) → mid ≤ m + (2 * k - 1) → new ≤ mid + 1 → (k ≡ 0 → new ≡ mid) → new ≤ m + 2 * k
-pairs_and_one zero m mid new a b none = let same : new ≡ mid = none refl in omega (arith, same)
-pairs_and_one (suc k) m mid new a b none = omega arith
+-- cells compared, and the condition of their row with that
+pub pairs_and_one : {S : Type 0} {words_of : S → List ℕ} {made_of : S → ℕ} {kept_of : S → List ℕ} {lent_of : S → List GName} {cap : ℕ} {old mid new : S} {m : ℕ} {E : Type 0} (r : Result ℕ E) (o : Option ℕ) (w k : ℕ)
+    → Writes words_of made_of kept_of lent_of cap old mid m false → m ≤ 2 * k → made_of mid ≤ made_of old + (2 * k - 1) → Writes words_of made_of kept_of lent_of cap mid new 1 (is_err r)
+    → (k ≡ 0 → IsSome o) → (IsSome o → made_of new ≡ made_of mid) → FoldsTo o w (words_of mid) (words_of new) r → Writes words_of made_of kept_of lent_of cap old new (2 * k) (is_err r)
+pairs_and_one {words_of = words_of} {made_of} {kept_of} {lent_of} {cap} {old} {mid} {new} {m} r o w k a le spare b folds unmade to = record {
+  longer = all.longer;
+  formed = all.formed;
+  room = all.room;
+  full = all.full;
+  made = by_width k spare folds;
+  kept = all.kept;
+  lent = all.lent;
+} where
+  all : Writes words_of made_of kept_of lent_of cap old new (m + 1) (is_err r)
+  all = writes_both a b
 
-pub pairs_and_none : {T E : Type 0} (r : Result T E) (k m mid new : ℕ) → mid ≤ m + (2 * k - 1) → OnErr r (new ≡ mid) → (k ≡ 0 → OnErr r (new < m + 2 * k)) → OnErr r (new < m + 2 * k)
-pairs_and_none r zero m mid new a same none = none refl
-pairs_and_none r (suc k) m mid new a same none = on_err_weaker r (λ (e : new ≡ mid). omega (arith, e)) same
+  by_width : (k : ℕ) → made_of mid ≤ made_of old + (2 * k - 1) → (k ≡ 0 → IsSome o) → made_of new + charge (is_err r) ≤ made_of old + 2 * k
+  by_width zero spare folds =
+      let same : made_of new ≡ made_of mid = unmade (folds refl) in
+      let free : charge (is_err r) ≡ 0 = folded_free o w (words_of mid) (words_of new) r (folds refl) to in
+      omega (arith, same, free)
+  by_width (suc k) spare folds = let one : made_of new + charge (is_err r) ≤ made_of mid + 1 = b.made in omega (arith, one)
 
 -- the sums of the operators
 pub mul_one : (n : ℕ) → n * 1 ≡ n

@@ -1,5 +1,5 @@
 -- Whether a row is worth the tuple of another, cell by cell and row by row.
-use Rattle.std.proofs.Common.{◌≡◌, ℕ, ◌+◌, ◌<◌, Bool, true, false, not, ◌&&◌, ◌||◌, List, [], ◌∷◌, ◌++◌, map, length, take, get_or, refl, ap, sym, subst, ◌∙◌, arith}
+use Rattle.std.proofs.Common.{◌≡◌, ℕ, zero, suc, ◌+◌, ◌<◌, Bool, true, false, not, ◌&&◌, ◌||◌, List, [], ◌∷◌, ◌++◌, map, length, take, get_or, refl, ap, sym, subst, ◌∙◌, arith}
 use Rattle.std.specs.Prelude.{IsTrue, All}
 use Rattle.std.proofs.lemmas.List.{map_more, map-append, length-map, length-take-le}
 use Rattle.std.proofs.lemmas.List.Elements.{All-get_or}
@@ -9,7 +9,8 @@ use Rattle.ct_word.specs.declared.values.Value.{Value}
 use Rattle.ct_word.specs.declared.values.CRow.{CRow}
 use Rattle.ct_word.specs.Value.{World, at, same_value, same_tuple, tuple_at}
 use Rattle.ct_word.specs.Condition.{holds_at}
-use Rattle.ct_word.specs.WellFormed.{is_place_of}
+use Rattle.ct_word.specs.WellFormed.{IsWellFormed, is_place_of}
+use Rattle.ct_arena.specs.Counts.{opening}
 use Rattle.ct_word.specs.Reading.{term_at, condition_at}
 use Rattle.ct_word.proofs.Prefixes.{prefix_of_prefix, term_in_prefix, condition_in_prefix, place_within}
 use Rattle.ct_query.specs.Database.{has_tuple}
@@ -21,7 +22,7 @@ use Rattle.ct_query.proofs.Sets.{has_tuple-append}
 use Rattle.ct_table.proofs.Selecting.{value-push}
 use Rattle.ct_table.proofs.Merges.{has_one}
 use Rattle.ct_table.proofs.Growing.{terms_grow, value_grows}
-use Rattle.ct_table.proofs.Holding.{holds_as, holds_itself, holds_later, holds_equal, holds_not, holds_and, holds_or}
+use Rattle.ct_table.proofs.Holding.{holds_as, holds_false, holds_itself, holds_later, holds_equal, holds_not, holds_and, holds_or}
 
 and_true : (b : Bool) → (true && b) ≡ (b && true)
 and_true true = refl
@@ -55,6 +56,27 @@ same_worth_more ws ps qs n p q v lp lq ep eq =
     sym (same_tuple-push (tuple_at v (map (term_at ws) (take n ps))) (tuple_at v (map (term_at ws) (take n qs))) (at v [] (term_at ws p)) (at v [] (term_at ws q))
     (long_tuple ws v ps n lp ∙ sym (long_tuple ws v qs n lq)))
     ∙ sym (λ i. same_tuple (worth_more ws v ps n p lp ep i) (worth_more ws v qs n q lq eq i))
+
+and_false : (b : Bool) → (b && false) ≡ false
+and_false true = refl
+and_false false = refl
+
+-- cells of which two are worth different values
+pub worth_apart : (ws : List ℕ) (v : World) (ps qs : List ℕ) (n p q : ℕ) → n < length ps → n < length qs → p ≡ get_or ps n p → q ≡ get_or qs n q
+    → same_value (at v [] (term_at ws p)) (at v [] (term_at ws q)) ≡ false → same_worth ws ps qs v ≡ false
+worth_apart ws v [] qs n p q lp lq ep eq e = absurd (omega (arith, lp))
+worth_apart ws v (x ∷ ps) [] n p q lp lq ep eq e = absurd (omega (arith, lq))
+worth_apart ws v (x ∷ ps) (y ∷ qs) zero p q lp lq ep eq e =
+    (λ i. same_value (at v [] (term_at ws (sym ep i))) (at v [] (term_at ws (sym eq i))) && same_worth ws ps qs v) ∙ ap (λ b. b && same_worth ws ps qs v) e
+worth_apart ws v (x ∷ ps) (y ∷ qs) (suc n) p q lp lq ep eq e =
+    ap (λ b. same_value (at v [] (term_at ws x)) (at v [] (term_at ws y)) && b) (worth_apart ws v ps qs n p q (omega (arith, lp)) (omega (arith, lq)) ep eq e)
+    ∙ and_false (same_value (at v [] (term_at ws x)) (at v [] (term_at ws y)))
+
+-- a row that is shown and worth the same, where its cells can't be
+pub shown_never : (ws qs cs : List ℕ) (c : ℕ) → IsPrefix opening ws → IsWellFormed ws → ((v : World) → same_worth ws qs cs v ≡ false)
+    → HoldsWhere ws 1 (λ v. holds_at v (condition_at ws c) && same_worth ws qs cs v)
+shown_never ws qs cs c begins formed never =
+    holds_as ws 1 (λ v. false) _ (λ v. sym (ap (λ b. holds_at v (condition_at ws c) && b) (never v) ∙ and_false (holds_at v (condition_at ws c)))) (holds_false ws begins formed)
 
 -- cells compared so far, and two more
 pub equal_more : (old now mid new : List ℕ) (ps qs : List ℕ) (n p q all same place : ℕ) → IsPrefix old now → IsPrefix now mid

@@ -8,3 +8,4 @@ pub mod Matching
 pub mod Placing
 pub mod Shared
 pub mod Counting
+pub mod Refusals

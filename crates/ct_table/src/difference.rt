@@ -1,6 +1,6 @@
 // The rows of one table that are not among those of another.
 
-ghost use Rattle.std.specs.Prelude.{◌≡◌, ◌≤◌, ◌<◌, ◌+◌, ◌*◌, not, ◌&&◌, ◌∷◌, ◌++◌, length, filter, All, IfOk, OnErr, IsErrOf};
+ghost use Rattle.std.specs.Prelude.{◌≡◌, ◌≤◌, ◌<◌, ◌+◌, ◌*◌, not, ◌&&◌, ◌∷◌, ◌++◌, length, filter, All, IfOk, IsErrOf, is_err};
 ghost use mathlib.Core.List.{IsPrefix};
 ghost use Rattle.ct_word.specs.Value.{World};
 ghost use Rattle.ct_word.specs.Sublist.{IsSublist};
@@ -8,10 +8,12 @@ ghost use Rattle.ct_word.specs.Condition.{holds_at};
 ghost use Rattle.ct_word.specs.Reading.{condition_at};
 ghost use Rattle.ct_query.specs.Database.{has_tuple, SameSet};
 ghost use Rattle.ct_condition.specs.Terms.{TermsFrom};
+ghost use Rattle.ct_condition.specs.Writes.{Writes};
 ghost use Rattle.ct_table.specs.Tables.{IsRow, AreRows, value_of_rows, cells_of};
 ghost use Rattle.ct_table.specs.Building.{Builds, HoldsWhere};
 ghost use Rattle.ct_table.specs.Matching.{is_among};
 ghost use Rattle.ct_table.specs.Terms.{TermOfRows, RowsFrom};
+ghost use Rattle.ct_table.specs.Refusals.{is_full};
 ghost use Rattle.ct_table.specs.declared.error.TableError.TheVariants as fault;
 
 use crate::error::TableError;
@@ -35,17 +37,11 @@ fn alone<N: Site, I: Interner<N>>(
     requires others { All (IsRow (I.list pass.old) (length row.now.cells)) others.now }
     ensures holds { IfOk result (λ place. HoldsWhere (I.list pass.new) place (λ v. holds_at v (condition_at (I.list pass.old) row.now.cond) && not (is_among (I.list pass.old) others.now row.now.cells v))) }
     ensures terms { IfOk result (λ place. TermsFrom (I.list pass.new) place (TermOfRows (I.list pass.old) (row.now ∷ others.now))) }
-    ensures longer { IsPrefix (I.list pass.old) (I.list pass.new) }
-    ensures full { OnErr result (length (I.list pass.new) ≡ N.log.cap) }
-    ensures made { I.made pass.new ≤ I.made pass.old + length others.now * (2 * length row.now.cells + 2) }
-    ensures err { OnErr result (I.made pass.new < I.made pass.old + length others.now * (2 * length row.now.cells + 2)) }
-    ensures kept { I.kept pass.new ≡ I.kept pass.old }
-    ensures lent { I.lent pass.new ≡ I.lent pass.old }
+    ensures writes { Writes I.list I.made I.kept I.lent N.log.cap pass.old pass.new (length others.now * (2 * length row.now.cells + 2)) (is_err result) }
 {
     let _ = pass.words();
     let mut cond = row.cond;
     for other in others {
-        let _ = pass.words();
         let there = shown_as(arena, pass, row.cells.as_slice(), other)?;
         let absent = not(arena, pass, there)?;
         cond = and(arena, pass, cond, absent)?;
@@ -64,17 +60,11 @@ fn each_alone<N: Site, I: Interner<N>>(
     requires left { AreRows (I.list pass.old) (length left.now.columns) left.now.rows }
     requires right { AreRows (I.list pass.old) (length left.now.columns) right.now.rows }
     ensures rows { IfOk result (λ out. Builds (I.list pass.old) (I.list pass.new) (length left.now.columns) (cells_of (I.list pass.old) left.now.rows) (λ v. filter (λ t. not (has_tuple (value_of_rows (I.list pass.old) v right.now.rows) t)) (value_of_rows (I.list pass.old) v left.now.rows)) (TermOfRows (I.list pass.old) (left.now.rows ++ right.now.rows)) out.items) }
-    ensures longer { IsPrefix (I.list pass.old) (I.list pass.new) }
-    ensures full { IsErrOf result fault.Full → length (I.list pass.new) ≡ N.log.cap }
-    ensures made { I.made pass.new ≤ I.made pass.old + length left.now.rows * (length right.now.rows * (2 * length left.now.columns + 2)) }
-    ensures fewer { IsErrOf result fault.Full → I.made pass.new < I.made pass.old + length left.now.rows * (length right.now.rows * (2 * length left.now.columns + 2)) }
-    ensures kept { I.kept pass.new ≡ I.kept pass.old }
-    ensures lent { I.lent pass.new ≡ I.lent pass.old }
+    ensures writes { Writes I.list I.made I.kept I.lent N.log.cap pass.old pass.new (length left.now.rows * (length right.now.rows * (2 * length left.now.columns + 2))) (is_full result) }
 {
     let _ = pass.words();
     let mut out = Vec::new(alloc);
     for row in left.rows.as_slice() {
-        let _ = pass.words();
         let cond = alone(arena, pass, row, right.rows.as_slice())?;
         out.push(under(row, cond)?)?;
     }

@@ -1,4 +1,4 @@
-use Rattle.std.proofs.Common.{length, sym, subst, ◌≡◌, ◌+◌, ◌*◌, Err, ◌∙◌, ap, arith, ◌++◌}
+use Rattle.std.proofs.Common.{ℕ, length, sym, subst, ◌≡◌, ◌+◌, ◌*◌, Err, ◌∙◌, ap, arith, ◌++◌}
 use Rattle.std.specs.Prelude.{All, IfOk}
 use Rattle.std.proofs.lemmas.Result.{IfOk-weaker, err_from_is_err_and}
 use Rattle.ct_word.specs.Value.{same_cells}
@@ -6,7 +6,7 @@ use Rattle.ct_word.specs.Sublist.{IsSublist}
 use Rattle.ct_query.specs.Database.{SameSet}
 use Rattle.ct_table.specs.Tables.{IsRow, AreRows, value_of_rows, cells_of, firsts}
 use Rattle.ct_table.proofs.Firsts.{part_of_firsts}
-use Rattle.ct_table.proofs.Adding.{passed, in_all, built_long}
+use Rattle.ct_table.proofs.Adding.{passed, fewer_full, in_all, built_long}
 use Rattle.ct_table.specs.Terms.{TermOfRows, RowsFrom}
 use Rattle.ct_table.proofs.Reaching.{rows_wider, from_rows}
 use Rattle.ct_table.proofs.difference.except.Goals as goal
@@ -40,24 +40,24 @@ pub returns-clause-made : goal.returns-clause-made
 returns-clause-made g c =
     let sum : length c.args.left.now.rows * (length c.args.right.now.rows * (2 * length c.args.left.now.columns + 2)) ≡ length c.args.left.now.rows * length c.args.right.now.rows * (2 * length c.args.left.now.columns + 2) = in_all (length c.args.left.now.rows) (length c.args.right.now.rows) (2 * length c.args.left.now.columns + 2) in
     let long = built_long (g.I.Interner.list c.args.pass.now) (g.I.Interner.list c.each_alone.new.pass) (length c.args.left.now.columns) c.args.left.now.rows c.in_ok-rows.rows.items _ _ c.in_ok-rows.ensures.rows in
-    omega (arith, sum, long, c.each_alone.ensures.made, c.merged.ensures.made)
+    omega (arith, sum, long, c.in_ok-rows.ensures.writes.made, c.merged.ensures.made)
 
 pub returns-clause-fewer : goal.returns-clause-fewer
 returns-clause-fewer g c e =
     let sum : length c.args.left.now.rows * (length c.args.right.now.rows * (2 * length c.args.left.now.columns + 2)) ≡ length c.args.left.now.rows * length c.args.right.now.rows * (2 * length c.args.left.now.columns + 2) = in_all (length c.args.left.now.rows) (length c.args.right.now.rows) (2 * length c.args.left.now.columns + 2) in
     let long = built_long (g.I.Interner.list c.args.pass.now) (g.I.Interner.list c.each_alone.new.pass) (length c.args.left.now.columns) c.args.left.now.rows c.in_ok-rows.rows.items _ _ c.in_ok-rows.ensures.rows in
-    omega (arith, sum, long, c.each_alone.ensures.made, c.merged.ensures.fewer e)
+    omega (arith, sum, long, c.in_ok-rows.ensures.writes.made, c.merged.ensures.fewer e)
 
 pub returns-in_err-rows-clause-made : goal.returns-in_err-rows-clause-made
 returns-in_err-rows-clause-made g c =
     let sum : length c.args.left.now.rows * (length c.args.right.now.rows * (2 * length c.args.left.now.columns + 2)) ≡ length c.args.left.now.rows * length c.args.right.now.rows * (2 * length c.args.left.now.columns + 2) = in_all (length c.args.left.now.rows) (length c.args.right.now.rows) (2 * length c.args.left.now.columns + 2) in
-    omega (arith, sum, c.each_alone.ensures.made)
+    omega (arith, sum, c.in_err-rows.ensures.writes.made)
 
 pub returns-in_err-rows-clause-fewer : goal.returns-in_err-rows-clause-fewer
 returns-in_err-rows-clause-fewer g c e =
     let sum : length c.args.left.now.rows * (length c.args.right.now.rows * (2 * length c.args.left.now.columns + 2)) ≡ length c.args.left.now.rows * length c.args.right.now.rows * (2 * length c.args.left.now.columns + 2) = in_all (length c.args.left.now.rows) (length c.args.right.now.rows) (2 * length c.args.left.now.columns + 2) in
     let exit = err_from_is_err_and c.from_residual-in_err-rows.result c.from_residual-in_err-rows.ensures.1 in
-    omega (arith, sum, c.in_err-rows.ensures.fewer (passed _ _ _ (exit.1 ∙ ap Err exit.2) e))
+    omega (arith, sum, fewer_full {T = ℕ} (Err c.in_err-rows.field-0.0) (passed _ _ _ (exit.1 ∙ ap Err exit.2) e) c.in_err-rows.ensures.writes)
 
 pub returns-clause-terms : goal.returns-clause-terms
 returns-clause-terms g c =

@@ -1,5 +1,5 @@
-use Rattle.std.proofs.Common.{◌≡◌, take, ◌≤◌, ◌+◌, ◌*◌, length, ◌∷◌}
-use mathlib.Core.List.{IsPrefix}
+use Rattle.std.proofs.Common.{false, take, ◌+◌, ◌*◌, length, ◌∷◌}
+use Rattle.ct_condition.specs.Writes.{Writes}
 use Rattle.ct_table.specs.Building.{HoldsWhere}
 use Rattle.ct_table.specs.Matching.{is_among}
 use Rattle.ct_condition.specs.Terms.{TermsFrom}
@@ -8,10 +8,7 @@ use Rattle.ct_table.proofs.intersection.among.Given as goal
 
 abbrev pub invariant-loop-other : goal.invariant-loop-other
 invariant-loop-other g l = record {
-  grown : IsPrefix (g.I.Interner.list l.fn.pass) (g.I.Interner.list l.pass);
+  writes : Writes g.I.Interner.list g.I.Interner.made g.I.Interner.kept g.I.Interner.lent g.N.Site.log.cap l.fn.pass l.pass (l.other-index * (2 * length l.row.cells + 1)) false;
   holds : HoldsWhere (g.I.Interner.list l.pass) l.any (is_among (g.I.Interner.list l.fn.pass) (take l.other-index l.others) l.row.cells);
-  made : g.I.Interner.made l.pass ≤ g.I.Interner.made l.fn.pass + length (take l.other-index l.others) * (2 * length l.row.cells + 1);
   from : TermsFrom (g.I.Interner.list l.pass) l.any (TermOfRows (g.I.Interner.list l.fn.pass) (l.row ∷ l.others));
-  kept : g.I.Interner.kept l.pass ≡ g.I.Interner.kept l.fn.pass;
-  lent : g.I.Interner.lent l.pass ≡ g.I.Interner.lent l.fn.pass;
 }

@@ -1,4 +1,4 @@
-use Rattle.std.proofs.Common.{◌≡◌, ◌<◌, ◌≤◌, ◌+◌, ◌∙◌, ◌&&◌, [], ◌∷◌, ◌++◌, get_or, length, take, ap, sym, subst, refl, arith, ◌*◌}
+use Rattle.std.proofs.Common.{◌≡◌, ◌<◌, ◌≤◌, ◌+◌, ◌∙◌, ◌&&◌, [], ◌∷◌, ◌++◌, get_or, length, take, ap, sym, subst, ◌*◌}
 use Rattle.std.specs.Prelude.{All}
 use Rattle.std.specs.List.{filter}
 use Rattle.std.proofs.lemmas.List.{take_more, take_all}
@@ -13,7 +13,8 @@ use Rattle.ct_table.proofs.Selecting.{row_at}
 use Rattle.ct_table.proofs.Growing.{is_row_grows}
 use Rattle.ct_table.proofs.Building.{builds_none, builds_tested}
 use Rattle.ct_table.proofs.Comparing.{among_grows}
-use Rattle.ct_table.proofs.Adding.{made_more, made_within, made_fewer}
+use Rattle.std.proofs.lemmas.Result.{err_from_is_err_and}
+use Rattle.ct_condition.proofs.Writes.{writes_none, writes_as, writes_more, writes_all, writes_last}
 use Rattle.ct_condition.specs.Terms.{TermsFrom}
 use Rattle.ct_table.specs.Terms.{TermOfRows}
 use Rattle.ct_table.proofs.Reaching.{of_either, none_of_both, row_itself}
@@ -25,9 +26,7 @@ loop-row-init g c =
     let width = length c.args.left.now.columns in
     record {
       builds = subst (λ out. Builds old old width [] (λ v. []) (TermOfRows old (c.args.left.now.rows ++ c.args.right.now.rows)) out) (sym c.new-out.ensures.items) (builds_none old width (TermOfRows old (c.args.left.now.rows ++ c.args.right.now.rows)));
-      made = omega arith;
-      kept = refl;
-      lent = refl;
+      writes = writes_none _ c.words.ensures.formed c.words.ensures.room;
     }
 
 pub among-requires-clause-row : goal.among-requires-clause-row
@@ -74,16 +73,13 @@ loop-row-preserved g c =
       builds = subst (λ d. Builds old new width (cells_of old d) (λ v. filter (has_tuple (value_of_rows old v others)) (value_of_rows old v d)) source c.push.new.self.items) done
           (subst (λ l. Builds old new width (cells_of old (take i rows ++ r ∷ [])) (λ v. filter (has_tuple (value_of_rows old v others)) (value_of_rows old v (take i rows ++ r ∷ []))) source l)
           (ap (λ u. out ++ u ∷ []) (sym c.in_ok-under.ensures) ∙ sym c.in_ok-push.ensures.items)
-          (builds_tested old now new c.words-in-loop-row.ensures.formed width (λ v. (has_tuple (value_of_rows old v others))) source (none_of_both old width width rows others c.requires.left.each c.requires.right.each)
-          (take i rows) out so_far c.among.ensures.longer r is (row_itself old (rows ++ others) r (Contains-append_left rows others r (i, lt, sym e))) place (is_among now others r.cells)
+          (builds_tested old now new c.loop-row.invariant.writes.formed width (λ v. (has_tuple (value_of_rows old v others))) source (none_of_both old width width rows others c.requires.left.each c.requires.right.each)
+          (take i rows) out so_far c.in_ok-cond.ensures.writes.longer r is (row_itself old (rows ++ others) r (Contains-append_left rows others r (i, lt, sym e))) place (is_among now others r.cells)
           (subst (λ ss. HoldsWhere new place (λ v. holds_at v (condition_at now r.cond) && is_among now ss r.cells v)) c.as_slice.ensures c.in_ok-cond.ensures.holds)
           (λ v. among_grows old now width others r.cells v so_far.grown c.requires.right.each is.terms)
           (λ t h. of_either old now so_far.grown c.words.ensures.formed width width rows others r is (i, lt, sym e) c.requires.right.each t
           (subst (λ ss. TermsFrom new place (TermOfRows now (r ∷ ss))) c.as_slice.ensures c.in_ok-cond.ensures.terms t h))));
-      made = made_more (length others * (2 * width + 1) + 1) rows i lt (g.I.Interner.made c.args.pass.now) (g.I.Interner.made c.loop-row.pass) (g.I.Interner.made c.among.new.pass) c.loop-row.invariant.made
-          (subst (λ x. g.I.Interner.made c.among.new.pass ≤ g.I.Interner.made c.loop-row.pass + x) (λ i. length (c.as_slice.ensures i) * (2 * is.width_is i + 1) + 1) c.among.ensures.made);
-      kept = c.among.ensures.kept ∙ c.loop-row.invariant.kept;
-      lent = c.among.ensures.lent ∙ c.loop-row.invariant.lent;
+      writes = writes_more _ i c.loop-row.invariant.writes (writes_as (λ i. length (c.as_slice.ensures i) * (2 * is.width_is i + 1) + 1) c.in_ok-cond.ensures.writes);
     }
 
 pub returns-clause-rows : goal.returns-clause-rows
@@ -97,61 +93,32 @@ returns-clause-rows g c =
     subst (λ d. Builds old new width (cells_of old d) (λ v. filter (has_tuple (value_of_rows old v others)) (value_of_rows old v d)) (TermOfRows old (rows ++ others)) c.loop-row.out.items)
     (take_all i rows (subst (λ l. length l ≤ i) c.as_slice-row-items.ensures c.loop-row-test.false)) c.loop-row.invariant.builds
 
-pub returns-clause-made : goal.returns-clause-made
-returns-clause-made g c =
-    let rows = c.args.left.now.rows in
-    let i = c.loop-row.row-index in
-    subst (λ d. g.I.Interner.made c.loop-row.pass ≤ g.I.Interner.made c.args.pass.now + length d * (length c.args.right.now.rows * (2 * length c.args.left.now.columns + 1) + 1))
-    (take_all i rows (subst (λ l. length l ≤ i) c.as_slice-row-items.ensures c.loop-row-test.false)) c.loop-row.invariant.made
+pub returns-clause-writes : goal.returns-clause-writes
+returns-clause-writes g c = writes_all _ _ c.loop-row.invariant.writes _ (subst (λ l. c.loop-row.row-index ≤ length l) c.as_slice-row-items.ensures c.loop-row.auto.row-index-end)
 
-pub returns-in_err-cond-clause-made : goal.returns-in_err-cond-clause-made
-returns-in_err-cond-clause-made g c =
-    let old = g.I.Interner.list c.args.pass.now in
-    let width = length c.args.left.now.columns in
-    let rows = c.args.left.now.rows in
-    let i = c.loop-row.row-index in
-    let r = c.row-item.result in
-    let lt : i < length rows = subst (λ l. i < length l) c.as_slice-row-items.ensures c.loop-row-test.true in
-    let e : r ≡ get_or rows i r = c.row-item.is ∙ ap (λ l. get_or l i r) c.as_slice-row-items.ensures in
-    let is = (row_at old (g.I.Interner.list c.loop-row.pass) width rows i r c.loop-row.invariant.builds.grown c.words.ensures.formed c.requires.left.each lt e).0 in
-    made_within (length c.args.right.now.rows * (2 * length c.args.left.now.columns + 1) + 1) rows i lt (g.I.Interner.made c.args.pass.now) (g.I.Interner.made c.loop-row.pass) (g.I.Interner.made c.among.new.pass) c.loop-row.invariant.made
-    (subst (λ x. g.I.Interner.made c.among.new.pass ≤ g.I.Interner.made c.loop-row.pass + x) (λ i. length (c.as_slice.ensures i) * (2 * is.width_is i + 1) + 1) c.among.ensures.made)
+pub returns-in_err-cond-clause-writes : goal.returns-in_err-cond-clause-writes
+returns-in_err-cond-clause-writes g c =
+    let is = (row_at (g.I.Interner.list c.args.pass.now) (g.I.Interner.list c.loop-row.pass) (length c.args.left.now.columns) c.args.left.now.rows c.loop-row.row-index c.row-item.result c.loop-row.invariant.writes.longer c.words.ensures.formed c.requires.left.each
+    (subst (λ l. c.loop-row.row-index < length l) c.as_slice-row-items.ensures c.loop-row-test.true)
+    (c.row-item.is ∙ ap (λ l. get_or l c.loop-row.row-index c.row-item.result) c.as_slice-row-items.ensures)).0 in
+    let exit = err_from_is_err_and c.from_residual.result c.from_residual.ensures.1 in
+    rw (exit.1, exit.2) (writes_last _ _ c.loop-row.invariant.writes _ (subst (λ l. c.loop-row.row-index < length l) c.as_slice-row-items.ensures c.loop-row-test.true)
+    (writes_as (λ i. length (c.as_slice.ensures i) * (2 * is.width_is i + 1) + 1) c.in_err-cond.ensures.writes))
 
-pub returns-in_err-under-clause-made : goal.returns-in_err-under-clause-made
-returns-in_err-under-clause-made g c =
-    let old = g.I.Interner.list c.args.pass.now in
-    let width = length c.args.left.now.columns in
-    let rows = c.args.left.now.rows in
-    let i = c.loop-row.row-index in
-    let r = c.row-item.result in
-    let lt : i < length rows = subst (λ l. i < length l) c.as_slice-row-items.ensures c.loop-row-test.true in
-    let e : r ≡ get_or rows i r = c.row-item.is ∙ ap (λ l. get_or l i r) c.as_slice-row-items.ensures in
-    let is = (row_at old (g.I.Interner.list c.loop-row.pass) width rows i r c.loop-row.invariant.builds.grown c.words.ensures.formed c.requires.left.each lt e).0 in
-    made_within (length c.args.right.now.rows * (2 * length c.args.left.now.columns + 1) + 1) rows i lt (g.I.Interner.made c.args.pass.now) (g.I.Interner.made c.loop-row.pass) (g.I.Interner.made c.among.new.pass) c.loop-row.invariant.made
-    (subst (λ x. g.I.Interner.made c.among.new.pass ≤ g.I.Interner.made c.loop-row.pass + x) (λ i. length (c.as_slice.ensures i) * (2 * is.width_is i + 1) + 1) c.among.ensures.made)
+pub returns-in_err-under-clause-writes : goal.returns-in_err-under-clause-writes
+returns-in_err-under-clause-writes g c =
+    let is = (row_at (g.I.Interner.list c.args.pass.now) (g.I.Interner.list c.loop-row.pass) (length c.args.left.now.columns) c.args.left.now.rows c.loop-row.row-index c.row-item.result c.loop-row.invariant.writes.longer c.words.ensures.formed c.requires.left.each
+    (subst (λ l. c.loop-row.row-index < length l) c.as_slice-row-items.ensures c.loop-row-test.true)
+    (c.row-item.is ∙ ap (λ l. get_or l c.loop-row.row-index c.row-item.result) c.as_slice-row-items.ensures)).0 in
+    let exit = err_from_is_err_and c.from_residual-in_err-under.result c.from_residual-in_err-under.ensures.1 in
+    rw (exit.1, exit.2) (writes_last _ _ c.loop-row.invariant.writes _ (subst (λ l. c.loop-row.row-index < length l) c.as_slice-row-items.ensures c.loop-row-test.true)
+    (writes_as (λ i. length (c.as_slice.ensures i) * (2 * is.width_is i + 1) + 1) c.in_ok-cond.ensures.writes))
 
-pub returns-in_err-push-clause-made : goal.returns-in_err-push-clause-made
-returns-in_err-push-clause-made g c =
-    let old = g.I.Interner.list c.args.pass.now in
-    let width = length c.args.left.now.columns in
-    let rows = c.args.left.now.rows in
-    let i = c.loop-row.row-index in
-    let r = c.row-item.result in
-    let lt : i < length rows = subst (λ l. i < length l) c.as_slice-row-items.ensures c.loop-row-test.true in
-    let e : r ≡ get_or rows i r = c.row-item.is ∙ ap (λ l. get_or l i r) c.as_slice-row-items.ensures in
-    let is = (row_at old (g.I.Interner.list c.loop-row.pass) width rows i r c.loop-row.invariant.builds.grown c.words.ensures.formed c.requires.left.each lt e).0 in
-    made_within (length c.args.right.now.rows * (2 * length c.args.left.now.columns + 1) + 1) rows i lt (g.I.Interner.made c.args.pass.now) (g.I.Interner.made c.loop-row.pass) (g.I.Interner.made c.among.new.pass) c.loop-row.invariant.made
-    (subst (λ x. g.I.Interner.made c.among.new.pass ≤ g.I.Interner.made c.loop-row.pass + x) (λ i. length (c.as_slice.ensures i) * (2 * is.width_is i + 1) + 1) c.among.ensures.made)
-
-pub returns-in_err-cond-clause-fewer : goal.returns-in_err-cond-clause-fewer
-returns-in_err-cond-clause-fewer g c e' =
-    let old = g.I.Interner.list c.args.pass.now in
-    let width = length c.args.left.now.columns in
-    let rows = c.args.left.now.rows in
-    let i = c.loop-row.row-index in
-    let r = c.row-item.result in
-    let lt : i < length rows = subst (λ l. i < length l) c.as_slice-row-items.ensures c.loop-row-test.true in
-    let e : r ≡ get_or rows i r = c.row-item.is ∙ ap (λ l. get_or l i r) c.as_slice-row-items.ensures in
-    let is = (row_at old (g.I.Interner.list c.loop-row.pass) width rows i r c.loop-row.invariant.builds.grown c.words.ensures.formed c.requires.left.each lt e).0 in
-    made_fewer (length c.args.right.now.rows * (2 * length c.args.left.now.columns + 1) + 1) rows i lt (g.I.Interner.made c.args.pass.now) (g.I.Interner.made c.loop-row.pass) (g.I.Interner.made c.among.new.pass) c.loop-row.invariant.made
-    (subst (λ x. g.I.Interner.made c.among.new.pass < g.I.Interner.made c.loop-row.pass + x) (λ i. length (c.as_slice.ensures i) * (2 * is.width_is i + 1) + 1) c.in_err-cond.ensures.err)
+pub returns-in_err-push-clause-writes : goal.returns-in_err-push-clause-writes
+returns-in_err-push-clause-writes g c =
+    let is = (row_at (g.I.Interner.list c.args.pass.now) (g.I.Interner.list c.loop-row.pass) (length c.args.left.now.columns) c.args.left.now.rows c.loop-row.row-index c.row-item.result c.loop-row.invariant.writes.longer c.words.ensures.formed c.requires.left.each
+    (subst (λ l. c.loop-row.row-index < length l) c.as_slice-row-items.ensures c.loop-row-test.true)
+    (c.row-item.is ∙ ap (λ l. get_or l c.loop-row.row-index c.row-item.result) c.as_slice-row-items.ensures)).0 in
+    let exit = err_from_is_err_and c.from_residual-in_err-push.result c.from_residual-in_err-push.ensures.1 in
+    rw (exit.1, exit.2) (writes_last _ _ c.loop-row.invariant.writes _ (subst (λ l. c.loop-row.row-index < length l) c.as_slice-row-items.ensures c.loop-row-test.true)
+    (writes_as (λ i. length (c.as_slice.ensures i) * (2 * is.width_is i + 1) + 1) c.in_ok-cond.ensures.writes))

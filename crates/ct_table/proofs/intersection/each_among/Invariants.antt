@@ -1,4 +1,5 @@
-use Rattle.std.proofs.Common.{◌≡◌, take, length, ◌≤◌, ◌+◌, ◌*◌, ◌++◌}
+use Rattle.ct_condition.specs.Writes.{Writes}
+use Rattle.std.proofs.Common.{false, take, length, ◌+◌, ◌*◌, ◌++◌}
 use Rattle.std.specs.List.{filter}
 use Rattle.ct_query.specs.Database.{has_tuple}
 use Rattle.ct_table.specs.Tables.{cells_of, value_of_rows}
@@ -10,7 +11,5 @@ abbrev pub invariant-loop-row : goal.invariant-loop-row
 invariant-loop-row g l = record {
   builds : Builds (g.I.Interner.list l.fn.pass) (g.I.Interner.list l.pass) (length l.left.columns) (cells_of (g.I.Interner.list l.fn.pass) (take l.row-index l.left.rows))
       (λ v. filter (has_tuple (value_of_rows (g.I.Interner.list l.fn.pass) v l.right.rows)) (value_of_rows (g.I.Interner.list l.fn.pass) v (take l.row-index l.left.rows))) (TermOfRows (g.I.Interner.list l.fn.pass) (l.left.rows ++ l.right.rows)) l.out.items;
-  made : g.I.Interner.made l.pass ≤ g.I.Interner.made l.fn.pass + length (take l.row-index l.left.rows) * (length l.right.rows * (2 * length l.left.columns + 1) + 1);
-  kept : g.I.Interner.kept l.pass ≡ g.I.Interner.kept l.fn.pass;
-  lent : g.I.Interner.lent l.pass ≡ g.I.Interner.lent l.fn.pass;
+  writes : Writes g.I.Interner.list g.I.Interner.made g.I.Interner.kept g.I.Interner.lent g.N.Site.log.cap l.fn.pass l.pass (l.row-index * (length l.right.rows * (2 * length l.left.columns + 1) + 1)) false;
 }

@@ -1,4 +1,4 @@
-use Rattle.std.proofs.Common.{◌&&◌, subst, ◌≡◌, ◌≤◌, ◌+◌, ◌-◌, ◌*◌, ◌∙◌, length, ap, sym, arith, ◌∷◌, ◌++◌}
+use Rattle.std.proofs.Common.{false, refl, inr, ◌&&◌, subst, ◌≡◌, ◌∙◌, length, ap, sym, arith, ◌∷◌, ◌++◌}
 use Rattle.std.specs.Option.{IsSome}
 use Rattle.std.proofs.lemmas.Result.{IfOk-weaker, err_from_is_err_and}
 use Rattle.ct_word.specs.Condition.{holds_at}
@@ -8,12 +8,28 @@ use Rattle.ct_condition.specs.Truth.{HasTruth, and_at}
 use Rattle.ct_table.specs.Building.{HoldsWhere}
 use Rattle.ct_table.specs.Matching.{same_worth}
 use Rattle.ct_table.proofs.Holding.{holds_itself, holds_later, holds_and}
-use Rattle.ct_table.proofs.Adding.{true_last, folded_answers, pairs_and_one, pairs_and_none}
+use Rattle.ct_table.proofs.Adding.{true_last, pairs_and_one}
+use Rattle.ct_condition.proofs.Writes.{writes_none, writes_within}
+use Rattle.ct_condition.proofs.Denied.{below_literal}
+use Rattle.ct_table.proofs.Comparing.{shown_never}
 use Rattle.ct_word.specs.declared.kinds.Class.TheVariants as class
 use Rattle.ct_word.proofs.Prefixes.{place_within}
 use Rattle.ct_condition.specs.Terms.{TermsFrom, BelowEither, BelowSome}
 use Rattle.ct_table.proofs.Reaching.{from_two, below_before, some_among, foremost, behind}
 use Rattle.ct_table.proofs.matching.shown_as.Goals as goal
+
+pub returns-then-differ-clause-holds : goal.returns-then-differ-clause-holds
+returns-then-differ-clause-holds g c =
+    let old = g.I.Interner.list c.args.pass.now in
+    shown_never old c.args.other.now.cells c.args.cells.now c.args.other.now.cond c.words.ensures.begins c.words.ensures.formed
+    (λ v. subst (λ ws. same_worth ws c.args.other.now.cells c.args.cells.now v ≡ false) c.words.ensures.words
+    (subst (λ ps. same_worth c.words.result.now ps c.args.cells.now v ≡ false) c.as_slice-theirs.ensures (c.differ.ensures c.if-differ.true v)))
+
+pub returns-then-differ-clause-terms : goal.returns-then-differ-clause-terms
+returns-then-differ-clause-terms g c t h = absurd (below_literal (g.I.Interner.list c.args.pass.now) c.words.ensures.formed c.words.ensures.begins 1 (inr refl) t h)
+
+pub returns-then-differ-clause-writes : goal.returns-then-differ-clause-writes
+returns-then-differ-clause-writes g c = writes_none _ c.words.ensures.formed c.words.ensures.room
 
 pub returns-clause-holds : goal.returns-clause-holds
 returns-clause-holds g c =
@@ -25,40 +41,21 @@ returns-clause-holds g c =
     IfOk-weaker c.and.result (λ place. HasTruth new place (and_at mid other.cond c.in_ok-same.same))
     (λ place. HoldsWhere new place (λ v. holds_at v (condition_at old other.cond) && same_worth old other.cells cells v))
     (λ place. holds_and mid new other.cond c.in_ok-same.same place (λ v. holds_at v (condition_at old other.cond)) (same_worth old other.cells cells)
-    (holds_later old mid other.cond _ c.cells_equal.ensures.longer (holds_itself old other.cond c.requires.other.condition))
-    (subst (λ ps. HoldsWhere mid c.in_ok-same.same (same_worth old ps cells)) c.as_slice.ensures c.in_ok-same.ensures.holds))
+    (holds_later old mid other.cond _ c.in_ok-same.ensures.writes.longer (holds_itself old other.cond c.requires.other.condition))
+    (subst (λ ps. HoldsWhere mid c.in_ok-same.same (same_worth old ps cells)) c.as_slice-theirs.ensures c.in_ok-same.ensures.holds))
     c.and.ensures.truth
 
-pub returns-clause-made : goal.returns-clause-made
-returns-clause-made g c =
+pub returns-clause-writes : goal.returns-clause-writes
+returns-clause-writes g c =
     let mid = g.I.Interner.list c.cells_equal.new.pass in
-    let wide : length c.as_slice.result.now ≡ length c.args.cells.now = ap (λ l. length l) c.as_slice.ensures ∙ c.requires.other.width_is in
-    let before : g.I.Interner.made c.cells_equal.new.pass ≤ g.I.Interner.made c.args.pass.now + (2 * length c.args.cells.now - 1) = omega (arith, wide, c.cells_equal.ensures.made) in
-    let folded : (length c.args.cells.now ≡ 0) → IsSome (folded_and mid c.args.other.now.cond c.in_ok-same.same) =
-    λ z. subst (λ x. IsSome (folded_and mid c.args.other.now.cond x)) (sym (c.in_ok-same.ensures.none (wide ∙ z))) (true_last mid c.args.other.now.cond) in
-    pairs_and_one (length c.args.cells.now) (g.I.Interner.made c.args.pass.now) (g.I.Interner.made c.cells_equal.new.pass) (g.I.Interner.made c.and.new.pass) before c.and.ensures.made
-    (λ z. c.and.ensures.unmade (folded z))
+    let wide : length c.as_slice-theirs.result.now ≡ length c.args.cells.now = ap (λ l. length l) c.as_slice-theirs.ensures ∙ c.requires.other.width_is in
+    pairs_and_one c.and.result (folded_and mid c.args.other.now.cond c.in_ok-same.same) _ (length c.args.cells.now) c.in_ok-same.ensures.writes (omega (arith, wide)) (omega (arith, wide, c.in_ok-same.ensures.spare)) c.and.ensures.writes
+    (λ z. subst (λ x. IsSome (folded_and mid c.args.other.now.cond x)) (sym (c.in_ok-same.ensures.none (wide ∙ z))) (true_last mid c.args.other.now.cond)) c.and.ensures.unmade c.and.ensures.folds
 
-pub returns-clause-err : goal.returns-clause-err
-returns-clause-err g c =
-    let mid = g.I.Interner.list c.cells_equal.new.pass in
-    let wide : length c.as_slice.result.now ≡ length c.args.cells.now = ap (λ l. length l) c.as_slice.ensures ∙ c.requires.other.width_is in
-    let before : g.I.Interner.made c.cells_equal.new.pass ≤ g.I.Interner.made c.args.pass.now + (2 * length c.args.cells.now - 1) = omega (arith, wide, c.cells_equal.ensures.made) in
-    let folded : (length c.args.cells.now ≡ 0) → IsSome (folded_and mid c.args.other.now.cond c.in_ok-same.same) =
-    λ z. subst (λ x. IsSome (folded_and mid c.args.other.now.cond x)) (sym (c.in_ok-same.ensures.none (wide ∙ z))) (true_last mid c.args.other.now.cond) in
-    pairs_and_none c.and.result (length c.args.cells.now) (g.I.Interner.made c.args.pass.now) (g.I.Interner.made c.cells_equal.new.pass) (g.I.Interner.made c.and.new.pass) before c.and.ensures.err
-    (λ z. folded_answers (folded_and mid c.args.other.now.cond c.in_ok-same.same) _ _ _ c.and.result _ (folded z) c.and.ensures.folds)
-
-pub returns-in_err-same-clause-made : goal.returns-in_err-same-clause-made
-returns-in_err-same-clause-made g c =
-    let wide : length c.as_slice.result.now ≡ length c.args.cells.now = ap (λ l. length l) c.as_slice.ensures ∙ c.requires.other.width_is in
-    omega (arith, wide, c.cells_equal.ensures.made)
-
-pub returns-in_err-same-clause-err : goal.returns-in_err-same-clause-err
-returns-in_err-same-clause-err g c =
-    let wide : length c.as_slice.result.now ≡ length c.args.cells.now = ap (λ l. length l) c.as_slice.ensures ∙ c.requires.other.width_is in
-    let exit = err_from_is_err_and c.from_residual.result c.from_residual.ensures.1 in
-    rw exit.1 (omega (arith, wide, c.in_err-same.ensures.err))
+pub returns-in_err-same-clause-writes : goal.returns-in_err-same-clause-writes
+returns-in_err-same-clause-writes g c =
+    let wide : length c.as_slice-theirs.result.now ≡ length c.args.cells.now = ap (λ l. length l) c.as_slice-theirs.ensures ∙ c.requires.other.width_is in
+    rw (err_from_is_err_and c.from_residual.result c.from_residual.ensures.1).1 (writes_within _ (omega (arith, wide)) c.in_err-same.ensures.writes)
 
 pub returns-clause-terms : goal.returns-clause-terms
 returns-clause-terms g c =
@@ -74,8 +71,8 @@ returns-clause-terms g c =
     (λ t h. record {
       place = other.cond;
       among = foremost other.cond (other.cells ++ cells);
-      below = below_before old mid c.cells_equal.ensures.longer c.words.ensures.formed other.cond t (place_within old class.Cond other.cond c.requires.other.condition) h;
+      below = below_before old mid c.in_ok-same.ensures.writes.longer c.words.ensures.formed other.cond t (place_within old class.Cond other.cond c.requires.other.condition) h;
     })
     (λ t h. some_among old (other.cells ++ cells) (other.cond ∷ (other.cells ++ cells)) t (behind other.cond (other.cells ++ cells))
-    (subst (λ ps. TermsFrom mid same (BelowSome old (ps ++ cells))) c.as_slice.ensures c.in_ok-same.ensures.terms t h)))
+    (subst (λ ps. TermsFrom mid same (BelowSome old (ps ++ cells))) c.as_slice-theirs.ensures c.in_ok-same.ensures.terms t h)))
     c.and.ensures.terms

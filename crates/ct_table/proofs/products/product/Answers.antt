@@ -1,4 +1,4 @@
-use Rattle.std.proofs.Common.{◌∙◌, length, ap, sym, subst, ◌≡◌, ◌+◌, arith, ◌++◌}
+use Rattle.std.proofs.Common.{◌∙◌, length, ap, sym, subst, ◌≡◌, arith, ◌++◌}
 use Rattle.std.specs.Prelude.{All, IfOk}
 use Rattle.std.specs.List.{IsDistinct}
 use Rattle.std.proofs.lemmas.List.{length-append}

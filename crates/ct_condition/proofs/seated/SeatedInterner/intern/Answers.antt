@@ -1,4 +1,4 @@
-use Rattle.std.proofs.Common.{◌≡◌, ◌∷◌, ap}
+use Rattle.std.proofs.Common.{◌∷◌, ap}
 use Rattle.std.proofs.lemmas.Result.{on_ok_weaker, on_err_weaker}
 use Rattle.ct_condition.proofs.CommitWords.{commits_stay}
 use Rattle.ct_condition.proofs.seated.SeatedInterner.intern.Goals as goal
