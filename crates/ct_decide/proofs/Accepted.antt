@@ -34,14 +34,7 @@ use Rattle.ct_cnf.proofs.Items.{mapped_item, unmapped_item}
 use Rattle.ct_decide.specs.Cut.{IsAtomBelow, IsHintOfLater, IsCut, kept, ranks, why_by, step_by, cut, all_hints, hints_at, HaveEarlier, AreNeeded, IsCutOf}
 use Rattle.ct_decide.proofs.Kept.{all_item, kept_item, kept_parts}
 use Rattle.ct_decide.proofs.Cuts.{hints_in, right_earlier, right_kept, end_kept, hint_kept}
-use Rattle.ct_decide.proofs.Named.{same_atom_self, carries, atom_there, solvable}
-
-same_lit_self : (l : Lit) → same_lit l l ≡ true
-unfolding same_lit
-same_lit_self l = and_from _ _ (signs l.positive) (same_atom_self l.atom) where
-  signs : (b : Bool) → same_sign b b ≡ true
-  signs true = refl
-  signs false = refl
+use Rattle.ct_decide.proofs.Named.{same_lit_self, carries, atom_there, solvable}
 
 has_more : (ls : Clause) (m l : Lit) → has ls l ≡ true → has (m ∷ ls) l ≡ true
 unfolding has
