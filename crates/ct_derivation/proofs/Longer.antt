@@ -56,7 +56,7 @@ module _ (ws xs : List ℕ) (longer : IsPrefix ws xs) where
       let parts = and_parts (moves t us && not (nat_eq t (end_of t us))) (list_all (is_place_of ws class.Term) (t ∷ us)) e in
       let start = (and_parts (is_place_of ws class.Term t) _ parts.1).0 in (
         and_from (moves t us && not (nat_eq t (end_of t us))) (list_all (is_place_of xs class.Term) (t ∷ us)) parts.0
-        (all_implied (is_place_of ws class.Term) (is_place_of xs class.Term) (λ q. place_in_prefix ws xs class.Term q longer) (t ∷ us) parts.1),
+            (all_implied (is_place_of ws class.Term) (is_place_of xs class.Term) (λ q. place_in_prefix ws xs class.Term q longer) (t ∷ us) parts.1),
         rw (constant_longer t start, constant_longer (end_of t us) (end_passes (is_place_of ws class.Term) t us parts.1)) refl,
       )
 

@@ -29,7 +29,7 @@ module _ (ws : List ℕ) (k w : ℕ) (at : slice_get ws k ≡ Some w) (formed : 
       let s = split_at ws k w at in
       let p : IsPrefix s.front ws = (_, sym s.is) in
       let fit = formed_fields s.front o (left_of w) (right_of w)
-          (subst (λ x. IsTrue (is_formed_as x s.front (left_of w) (right_of w))) e (formed_at ws formed k w at s)) in
+      (subst (λ x. IsTrue (is_formed_as x s.front (left_of w) (right_of w))) e (formed_at ws formed k w at s)) in
       record {
         meaning = meaning_at ws formed k w at ∙ ap (λ x. Some (by_kind x (meanings ws) (left_of w) (right_of w))) e;
         class = λ c. ap (λ x. is_word_of x c) at ∙ ap (λ x. has_class x c) e;
