@@ -8,3 +8,4 @@ pub mod Pieces
 pub mod Blanks
 pub mod Scripts
 pub mod Names
+pub mod Written

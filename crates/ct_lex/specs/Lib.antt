@@ -3,3 +3,4 @@ pub mod Spelling
 pub mod Tokens
 pub mod Texts
 pub mod Splitting
+pub mod Written

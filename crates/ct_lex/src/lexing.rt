@@ -1,7 +1,8 @@
 // The tokens of a text.
 
-ghost use Rattle.std.specs.Prelude.{◌≡◌, ◌≢◌, ℕ, List, IfOk, IfErr};
+ghost use Rattle.std.specs.Prelude.{◌≡◌, ◌≢◌, ℕ, List, map, IfOk, IfErr};
 ghost use Rattle.ct_lex.specs.Tokens.{Lexes, AreSlices, FaultsAt};
+ghost use Rattle.ct_lex.specs.Written.{AreWritten, TokensAreWritten};
 ghost use Rattle.ct_lex.specs.declared.token.LexError.TheVariants as fault;
 
 use crate::front::front;
@@ -15,6 +16,7 @@ use std::alloc::Global;
 pub fn tokens(alloc: Global, text: &str) -> Result<Vec<Token>, LexError>
     ensures ok { IfOk result (λ v. Lexes text.now v.items) }
     ensures slices { IfOk result (λ v. AreSlices text.now v.items) }
+    ensures written { IfOk result (λ v. AreWritten (map (λ t. t.word) v.items)) }
     ensures fault { IfErr result (λ e. e ≢ fault.Memory → (place : ℕ) × FaultsAt text.now place e) }
 
     // There are no other tokens, and no other fault.
@@ -38,4 +40,11 @@ pub fn tokens(alloc: Global, text: &str) -> Result<Vec<Token>, LexError>
         start = end;
     }
     Ok(tokens)
+}
+
+/// The law that words and nulls of the tokens of any text have names that are spelled as words, in
+/// lower case.
+pub fn tokens_are_written()
+    ensures { TokensAreWritten }
+{
 }

@@ -13,6 +13,6 @@ mod splitting;
 mod tests;
 mod token;
 
-pub use lexing::tokens;
+pub use lexing::{tokens, tokens_are_written};
 pub use splitting::split;
 pub use token::{LexError, Lexeme, Symbol, Token};

@@ -7,6 +7,7 @@ use Rattle.ct_lex.specs.Scan.{IsFront}
 use Rattle.ct_lex.specs.Tokens.{Lexes, FaultsAt, here}
 use Rattle.ct_lex.proofs.Readings.{same_tokens, no_fault, same_fault}
 use Rattle.ct_lex.proofs.Steps.{front_lexes, front_faults, end_lexes, slices}
+use Rattle.ct_lex.proofs.Written.{tokens_written}
 use Rattle.ct_lex.proofs.lexing.tokens.Goals as goal
 
 -- the fault that `front` found, in the text
@@ -63,6 +64,9 @@ returns-clause-ok c = lexed c
 
 pub returns-clause-slices : goal.returns-clause-slices
 returns-clause-slices c = slices [] 0 refl (omega arith) (lexed c)
+
+pub returns-clause-written : goal.returns-clause-written
+returns-clause-written c = tokens_written (lexed c)
 
 pub returns-clause-only : goal.returns-clause-only
 returns-clause-only c = λ ts lexes. same_tokens lexes (lexed c)
