@@ -1,11 +1,34 @@
 -- Words and nulls of a text's tokens have names that are spelled as words.
-use Rattle.std.proofs.Common.{ℕ, List, map, Option, Some, None}
+use Rattle.std.proofs.Common.{◌≡◌, ℕ, true, ◌||◌, List, [], ◌∷◌, map, refl, arith, Option, Some, None}
+use Rattle.std.specs.List.{list_all}
+use Rattle.std.specs.Char.{to_ascii_lowercase}
+use Rattle.std.proofs.lemmas.Bool.Decides.{nat_tests}
+use Rattle.ct_word.specs.Writable.{is_letter, is_digit, is_word}
 use Rattle.ct_lex.specs.declared.token.Lexeme.{Lexeme}
 use Rattle.ct_lex.specs.declared.token.Token.{Token}
-use Rattle.ct_lex.specs.Spelling.{Spells, blank, comment, word, number, text, null, left_paren, right_paren, comma, dot, star, equal, unequal, not_equal}
+use Rattle.ct_lex.specs.Spelling.{is_spelling, is_word_byte, lowered, Spells, blank, comment, word, number, text, null, left_paren, right_paren, comma, dot, star, equal, unequal, not_equal}
 use Rattle.ct_lex.specs.Tokens.{LexesFrom, ended, skipped, taken}
 use Rattle.ct_lex.specs.Written.{IsWritten, AreWritten}
-use Rattle.ct_lex.proofs.Names.{lowered_is_word}
+
+byte_lowered : (b : ℕ) → is_word_byte b ≡ true → (is_letter (to_ascii_lowercase b) || is_digit (to_ascii_lowercase b)) ≡ true
+byte_lowered b h = grind (arith, nat_tests)
+
+bytes_lowered : (w : List ℕ) → list_all is_word_byte w ≡ true → list_all (λ c. is_letter c || is_digit c) (lowered w) ≡ true
+bytes_lowered [] h = refl
+bytes_lowered (b ∷ w) h =
+    let first : is_word_byte b ≡ true = grind arith in
+    let rest : list_all is_word_byte w ≡ true = grind arith in
+    let one = byte_lowered b first in
+    let others = bytes_lowered w rest in
+    rw (one, others)
+
+pub lowered_is_word : (w : List ℕ) → is_spelling w ≡ true → is_word (lowered w) ≡ true
+lowered_is_word [] h = absurd (grind arith)
+lowered_is_word (b ∷ w) h =
+    let first : is_letter (to_ascii_lowercase b) ≡ true = grind arith in
+    let rest : list_all is_word_byte w ≡ true = grind arith in
+    let others = bytes_lowered w rest in
+    rw (first, others)
 
 abbrev IsFound : Option Lexeme → Type 0
 IsFound None = Unit {0}

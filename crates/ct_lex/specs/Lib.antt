@@ -4,3 +4,4 @@ pub mod Tokens
 pub mod Texts
 pub mod Splitting
 pub mod Written
+pub mod Reading

@@ -1,6 +1,7 @@
 // The tokens of a text.
 
-ghost use Rattle.std.specs.Prelude.{◌≡◌, ◌≢◌, ℕ, List, map, IfOk, IfErr};
+ghost use Rattle.std.specs.Prelude.{◌≡◌, ◌≢◌, ℕ, List, map, Ok, Err, IfOk, IfErr};
+ghost use Rattle.ct_lex.specs.Reading.{read, ReadsTokens, ReadsFault};
 ghost use Rattle.ct_lex.specs.Tokens.{Lexes, AreSlices, FaultsAt};
 ghost use Rattle.ct_lex.specs.Written.{AreWritten, TokensAreWritten};
 ghost use Rattle.ct_lex.specs.declared.token.LexError.TheVariants as fault;
@@ -14,6 +15,10 @@ use std::alloc::Global;
 /// # Errors
 /// The leftmost fault of the text, or `Memory` where there is none for the tokens.
 pub fn tokens(alloc: Global, text: &str) -> Result<Vec<Token>, LexError>
+    ensures value { IfOk result (λ v. read text.now ≡ Ok v.items) }
+    ensures error { IfErr result (λ e. e ≢ fault.Memory → (place : ℕ) × (read text.now ≡ Err (place, e))) }
+
+    // By the token table: the bytes spell these tokens, or there is this fault.
     ensures ok { IfOk result (λ v. Lexes text.now v.items) }
     ensures slices { IfOk result (λ v. AreSlices text.now v.items) }
     ensures written { IfOk result (λ v. AreWritten (map (λ t. t.word) v.items)) }
@@ -46,5 +51,14 @@ pub fn tokens(alloc: Global, text: &str) -> Result<Vec<Token>, LexError>
 /// lower case.
 pub fn tokens_are_written()
     ensures { TokensAreWritten }
-{
-}
+{}
+
+/// The law that a text whose bytes spell tokens is read as these and as no others.
+pub fn tokens_are_read()
+    ensures { ReadsTokens }
+{}
+
+/// The law that a text that has a fault is read as this one and as no other.
+pub fn faults_are_read()
+    ensures { ReadsFault }
+{}
