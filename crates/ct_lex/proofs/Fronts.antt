@@ -12,8 +12,9 @@ use Rattle.std.proofs.lemmas.List.{drop-drop}
 use Rattle.std.proofs.lemmas.Str.{IsCharBoundary-after_ascii, IsCharBoundary-from_rest}
 use Rattle.ct_lex.specs.declared.token.Lexeme.{Lexeme}
 use Rattle.ct_lex.specs.declared.token.Lexeme.TheVariants as lexeme
+use Rattle.ct_lex.specs.declared.token.Symbol.TheVariants as symbol
 use Rattle.ct_lex.specs.declared.token.LexError.TheVariants as fault
-use Rattle.ct_lex.specs.Spelling.{Spells, blank, comment, word, null, number, sign_text, signed, are_digits, starts, lowered, begins_word, begins_symbol, is_blank, is_word_byte, is_comment_byte, is_spelling}
+use Rattle.ct_lex.specs.Spelling.{Spells, blank, comment, word, null, number, left_paren, right_paren, comma, dot, star, equal, unequal, not_equal, sign_text, signed, are_digits, starts, lowered, begins_word, begins_symbol, is_blank, is_word_byte, is_comment_byte, is_spelling}
 use Rattle.ct_lex.specs.Scan.{IsFront}
 use Rattle.ct_lex.specs.Tokens.{FaultsHere, stray_byte, number_range}
 use Rattle.ct_lex.proofs.Numbers.{parsed, not_parsed}
@@ -42,6 +43,31 @@ two (c ∷ d ∷ x) a b o utf8 ea eb some ascii spells = record {
   cut = IsCharBoundary-after_ascii (c ∷ d ∷ x) 1 utf8 (omega arith) (omega arith);
   spells = subst (λ y. Spells (y ∷ d ∷ []) o x) (sym ea) (subst (λ y. Spells (a ∷ y ∷ []) o x) (sym eb) (spells x));
 }
+
+-- a symbol of one byte, and one of two
+pub left_paren_front : (x : List ℕ) → IsUtf8 x → get_or x 0 0 ≡ 40 → IsFront x 1 (Some (lexeme.Symbol symbol.LeftParen))
+left_paren_front x utf8 e = one x 40 _ utf8 e (omega arith) (omega arith) (λ r. left_paren)
+
+pub right_paren_front : (x : List ℕ) → IsUtf8 x → get_or x 0 0 ≡ 41 → IsFront x 1 (Some (lexeme.Symbol symbol.RightParen))
+right_paren_front x utf8 e = one x 41 _ utf8 e (omega arith) (omega arith) (λ r. right_paren)
+
+pub comma_front : (x : List ℕ) → IsUtf8 x → get_or x 0 0 ≡ 44 → IsFront x 1 (Some (lexeme.Symbol symbol.Comma))
+comma_front x utf8 e = one x 44 _ utf8 e (omega arith) (omega arith) (λ r. comma)
+
+pub dot_front : (x : List ℕ) → IsUtf8 x → get_or x 0 0 ≡ 46 → IsFront x 1 (Some (lexeme.Symbol symbol.Dot))
+dot_front x utf8 e = one x 46 _ utf8 e (omega arith) (omega arith) (λ r. dot)
+
+pub star_front : (x : List ℕ) → IsUtf8 x → get_or x 0 0 ≡ 42 → IsFront x 1 (Some (lexeme.Symbol symbol.Star))
+star_front x utf8 e = one x 42 _ utf8 e (omega arith) (omega arith) (λ r. star)
+
+pub equal_front : (x : List ℕ) → IsUtf8 x → get_or x 0 0 ≡ 61 → IsFront x 1 (Some (lexeme.Symbol symbol.Equal))
+equal_front x utf8 e = one x 61 _ utf8 e (omega arith) (omega arith) (λ r. equal)
+
+pub unequal_front : (x : List ℕ) → IsUtf8 x → get_or x 0 0 ≡ 60 → get_or x 1 0 ≡ 62 → IsFront x 2 (Some (lexeme.Symbol symbol.Unequal))
+unequal_front x utf8 e f = two x 60 62 _ utf8 e f (omega arith) (omega arith) (λ r. unequal)
+
+pub not_equal_front : (x : List ℕ) → IsUtf8 x → get_or x 0 0 ≡ 33 → get_or x 1 0 ≡ 61 → IsFront x 2 (Some (lexeme.Symbol symbol.Unequal))
+not_equal_front x utf8 e f = two x 33 61 _ utf8 e f (omega arith) (omega arith) (λ r. not_equal)
 
 -- a blank
 pub blank_front : (x : List ℕ) → IsUtf8 x → is_blank (get_or x 0 0) ≡ true → IsFront x 1 None

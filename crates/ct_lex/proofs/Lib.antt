@@ -7,4 +7,4 @@ pub mod Steps
 pub mod Pieces
 pub mod Blanks
 pub mod Scripts
-pub mod Names
+pub mod Written

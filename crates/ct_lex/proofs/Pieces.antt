@@ -1,13 +1,11 @@
 -- How the pieces of a script go on, byte by byte.
-use Rattle.std.proofs.Common.{◌≡◌, ℕ, ◌+◌, ◌<◌, ◌≤◌, false, true, List, [], ◌∷◌, ◌++◌, length, get_or, take, drop, refl, sym, subst, ◌∙◌, ap, arith, add-zero, get_or-drop, length-drop}
-use Rattle.std.specs.Prelude.{nat_eq}
+use Rattle.std.proofs.Common.{◌≡◌, ℕ, ◌+◌, ◌<◌, false, true, List, [], ◌∷◌, ◌++◌, length, get_or, take, drop, refl, sym, ◌∙◌, ap, arith, add-zero, get_or-drop, length-drop}
 use Rattle.std.proofs.lemmas.Bool.Decides.{nat_tests}
 use Rattle.std.proofs.lemmas.List.{take_more, drop_more, drop_all, at_drop_more}
 use Rattle.std.proofs.lemmas.Str.{IsUtf8-drop}
 use Rattle.std.specs.Str.{IsUtf8, IsCharBoundary}
 use Rattle.ct_lex.specs.declared.splitting.Place.{Place}
 use Rattle.ct_lex.specs.declared.splitting.Place.TheVariants.{Plain, InText, InComment}
-use Rattle.ct_lex.specs.Spelling.{starts}
 use Rattle.ct_lex.specs.Texts.{place_after, ends_piece, begins_comment, pieces_from, pieces, pieces_behind, onto_first, onto}
 use Rattle.ct_lex.proofs.Fronts.{first_byte}
 

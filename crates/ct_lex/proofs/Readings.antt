@@ -1,81 +1,19 @@
--- Bytes have one reading: one first token, one list of tokens, one leftmost fault, and never both.
-use Rattle.std.proofs.Common.{◌≡◌, ℕ, ◌+◌, ◌≤◌, Bool, true, false, ◌&&◌, ◌||◌, List, [], ◌∷◌, ◌++◌, length, drop, refl, sym, subst, ◌∙◌, ap, arith, cond, append_assoc, Option, Some, None}
+-- What bytes spell is what they are read as, so they have one reading: one list of tokens, or one leftmost fault.
+use Rattle.std.proofs.Common.{◌≡◌, ℕ, suc, ◌+◌, ◌-◌, ◌≤◌, Bool, true, false, List, [], ◌∷◌, ◌++◌, length, refl, sym, ◌∙◌, ap, arith, append_assoc, Option, Some, None, Ok, Err}
 use Rattle.std.specs.Prelude.{nat_eq, nat_le}
 use Rattle.std.specs.List.{list_all}
 use Rattle.std.specs.Str.Parse.{digits_value}
 use Rattle.std.proofs.lemmas.Bool.Decides.{nat_tests}
 use Rattle.ct_word.specs.Writable.{is_digit}
-use Rattle.ct_lex.specs.declared.token.Symbol.{Symbol}
-use Rattle.ct_lex.specs.declared.token.Symbol.TheVariants as symbol
 use Rattle.ct_lex.specs.declared.token.Lexeme.{Lexeme}
 use Rattle.ct_lex.specs.declared.token.Lexeme.TheVariants as lexeme
 use Rattle.ct_lex.specs.declared.token.LexError.{LexError}
 use Rattle.ct_lex.specs.declared.token.LexError.TheVariants as fault
-use Rattle.ct_lex.specs.Spelling.{Spells, blank, comment, word, number, text, null, left_paren, right_paren, comma, dot, star, equal, unequal, not_equal, starts, doubled, lowered, signed, sign_text, greatest, begins_word, begins_symbol, is_blank, is_word_byte, is_comment_byte, is_spelling, are_digits}
+use Rattle.ct_lex.specs.Spelling.{Spells, blank, comment, word, number, text, null, left_paren, right_paren, comma, dot, star, equal, unequal, not_equal, starts, doubled, signed, sign_text, greatest, begins_word, is_blank, is_word_byte, is_comment_byte, is_spelling, are_digits}
 use Rattle.ct_lex.specs.declared.token.Token.{Token}
-use Rattle.ct_lex.specs.Tokens.{LexesFrom, ended, skipped, taken, FaultsFrom, here, later, FaultsHere, open_text, number_range, stray_byte, is_beginning}
-
--- what stands at the front of bytes
-data Step : Type 0 where
-  Found : (o : Option Lexeme) (w r : List ℕ) → Step
-  Fault : (e : LexError) → Step
-  Nothing : Step
-
-abbrev span : (ℕ → Bool) → List ℕ → List ℕ × List ℕ
-span p [] = ([], [])
-span p (b ∷ bs) = cond (p b) (b ∷ (span p bs).0, (span p bs).1) ([], b ∷ bs)
-
-abbrev consed : ℕ → Option (List ℕ × List ℕ) → Option (List ℕ × List ℕ)
-consed b (Some s) = Some (b ∷ s.0, s.1)
-consed b None = None
-
--- the text up to its closing quote, and what follows
-abbrev close : List ℕ → Option (List ℕ × List ℕ)
-close [] = None
-close (b ∷ []) = cond (nat_eq b 39) (Some ([], [])) None
-close (b ∷ c ∷ r) = cond (nat_eq b 39) (cond (nat_eq c 39) (consed 39 (close r)) (Some ([], c ∷ r))) (consed b (close (c ∷ r)))
-
-abbrev word_of : List ℕ × List ℕ → Step
-word_of s = Found (Some (lexeme.Word (lowered s.0))) s.0 s.1
-
-abbrev null_of : List ℕ × List ℕ → Step
-null_of s = Found (Some (lexeme.Null (lowered s.0))) (63 ∷ s.0) s.1
-
-abbrev comment_of : List ℕ × List ℕ → Step
-comment_of s = Found None (45 ∷ 45 ∷ s.0) s.1
-
-abbrev number_of : Bool → List ℕ × List ℕ → Step
-number_of minus s =
-    cond (nat_le (digits_value 10 s.0) (greatest minus)) (Found (Some (lexeme.Number (signed minus (digits_value 10 s.0)))) (sign_text minus ++ s.0) s.1) (Fault fault.NumberRange)
-
-abbrev literal_of : Option (List ℕ × List ℕ) → Step
-literal_of (Some s) = Found (Some (lexeme.Text s.0)) (39 ∷ doubled s.0 ++ 39 ∷ []) s.1
-literal_of None = Fault fault.OpenText
-
-abbrev minus_step : List ℕ → Step
-minus_step r =
-    cond (starts (nat_eq 45) r) (comment_of (span is_comment_byte (drop 1 r))) (cond (starts is_digit r) (number_of true (span is_digit r)) (Fault fault.StrayByte))
-
-abbrev question_step : List ℕ → Step
-question_step r = cond (starts begins_word r) (null_of (span is_word_byte r)) (Fault fault.StrayByte)
-
-abbrev symbol_found : Symbol → List ℕ → List ℕ → Step
-symbol_found s w r = Found (Some (lexeme.Symbol s)) w r
-
-abbrev symbol_step : ℕ → List ℕ → Step
-symbol_step b r =
-    cond (nat_eq b 40) (symbol_found symbol.LeftParen (40 ∷ []) r) (cond (nat_eq b 41) (symbol_found symbol.RightParen (41 ∷ []) r)
-    (cond (nat_eq b 44) (symbol_found symbol.Comma (44 ∷ []) r) (cond (nat_eq b 46) (symbol_found symbol.Dot (46 ∷ []) r)
-    (cond (nat_eq b 42) (symbol_found symbol.Star (42 ∷ []) r) (cond (nat_eq b 61) (symbol_found symbol.Equal (61 ∷ []) r)
-    (cond (nat_eq b 60 && starts (nat_eq 62) r) (symbol_found symbol.Unequal (60 ∷ 62 ∷ []) (drop 1 r))
-    (cond (nat_eq b 33 && starts (nat_eq 61) r) (symbol_found symbol.Unequal (33 ∷ 61 ∷ []) (drop 1 r)) (Fault fault.StrayByte))))))))
-
--- what the first byte decides
-abbrev step : List ℕ → Step
-step [] = Nothing
-step (b ∷ r) =
-    cond (is_blank b) (Found None (b ∷ []) r) (cond (begins_word b) (word_of (span is_word_byte (b ∷ r))) (cond (is_digit b) (number_of false (span is_digit (b ∷ r)))
-    (cond (nat_eq b 39) (literal_of (close r)) (cond (nat_eq b 45) (minus_step r) (cond (nat_eq b 63) (question_step r) (symbol_step b r))))))
+use Rattle.ct_lex.specs.Tokens.{LexesFrom, ended, skipped, taken, FaultsFrom, here, later, FaultsHere, open_text, number_range, stray_byte}
+use Rattle.ct_lex.specs.Reading.{Read, Found, Fault, Nothing, span, consed, close, word_of, null_of, comment_of, number_of, literal_of, step, with_front, with_step, bytes_behind, read_from}
+use Rattle.ct_lex.proofs.Steps.{some_spelled}
 
 span_stops : (p : ℕ → Bool) (r : List ℕ) → starts p r ≡ false → span p r ≡ ([], r)
 span_stops p [] h = refl
@@ -169,136 +107,58 @@ found equal = refl
 found unequal = refl
 found not_equal = refl
 
-no_symbol : (b : ℕ) (r : List ℕ) → begins_symbol b r ≡ false → symbol_step b r ≡ Fault fault.StrayByte
-no_symbol b r h =
-    let h1 : nat_eq b 40 ≡ false = grind arith in
-    let h2 : nat_eq b 41 ≡ false = grind arith in
-    let h3 : nat_eq b 44 ≡ false = grind arith in
-    let h4 : nat_eq b 46 ≡ false = grind arith in
-    let h5 : nat_eq b 42 ≡ false = grind arith in
-    let h6 : nat_eq b 61 ≡ false = grind arith in
-    let h7 : (nat_eq b 60 && starts (nat_eq 62) r) ≡ false = grind arith in
-    let h8 : (nat_eq b 33 && starts (nat_eq 61) r) ≡ false = grind arith in
-    rw (h1, h2, h3, h4, h5, h6, h7, h8)
-
-no_minus : (b : ℕ) (r : List ℕ) (other : Step) (q : Bool) → nat_eq b 45 ≡ q → (nat_eq b 45 && (starts (nat_eq 45) r || starts is_digit r)) ≡ false
-    → other ≡ Fault fault.StrayByte → cond (nat_eq b 45) (minus_step r) other ≡ Fault fault.StrayByte
-no_minus b r other true q h rest =
-    let h1 : starts (nat_eq 45) r ≡ false = grind arith in
-    let h2 : starts is_digit r ≡ false = grind arith in
-    rw (q, h1, h2)
-no_minus b r other false q h rest = rw q rest
-
-no_question : (b : ℕ) (r : List ℕ) (other : Step) (q : Bool) → nat_eq b 63 ≡ q → (nat_eq b 63 && starts begins_word r) ≡ false
-    → other ≡ Fault fault.StrayByte → cond (nat_eq b 63) (question_step r) other ≡ Fault fault.StrayByte
-no_question b r other true q h rest = let h1 : starts begins_word r ≡ false = grind arith in rw (q, h1)
-no_question b r other false q h rest = rw q rest
-
--- a byte that begins nothing is found
-stray_at : (b : ℕ) (r : List ℕ) → is_beginning b r ≡ false → step (b ∷ r) ≡ Fault fault.StrayByte
-stray_at b r h =
-    let h1 : is_blank b ≡ false = grind arith in
-    let h2 : begins_word b ≡ false = grind arith in
-    let h3 : is_digit b ≡ false = grind arith in
-    let h4 : nat_eq b 39 ≡ false = grind arith in
-    let h5 : (nat_eq b 45 && (starts (nat_eq 45) r || starts is_digit r)) ≡ false = grind arith in
-    let h6 : (nat_eq b 63 && starts begins_word r) ≡ false = grind arith in
-    let h7 : begins_symbol b r ≡ false = grind arith in
-    rw (h1, h2, h3, h4) (no_minus b r _ (nat_eq b 45) refl h5 (no_question b r _ (nat_eq b 63) refl h6 (no_symbol b r h7)))
-
 -- the fault at the front is found
 faulty : {x : List ℕ} {e : LexError} → FaultsHere x e → step x ≡ Fault e
 faulty (open_text t is) = rw is (ap literal_of (left_open t))
 faulty (number_range minus ds r is digits stops past) =
     let above : nat_le (digits_value 10 ds) (greatest minus) ≡ false = grind (arith, nat_tests) in
     rw is (number_at minus ds r digits stops ∙ rw above)
-faulty (stray_byte {b} {r} other) = stray_at b r other
+faulty (stray_byte other) = rw other
 
-found_at : {x : List ℕ} {o : Option Lexeme} (w r : List ℕ) → x ≡ w ++ r → Spells w o r → step x ≡ Found o w r
-found_at w r is spells = rw is (found spells)
+no_bytes : {w r : List ℕ} {o : Option Lexeme} → Spells w o r → w ≡ [] → ⊥
+no_bytes spells e = absurd (omega (arith, some_spelled spells, ap length e))
 
-lexeme_of : Step → Option Lexeme
-lexeme_of (Found o w r) = o
-lexeme_of _ = None
+skipped_on : (w r : List ℕ) (n : ℕ) → read_from (length w) n (w ++ r) ≡ read_from 0 (n + length w) r
+skipped_on [] r n = ap (λ m. read_from 0 m r) (omega arith)
+skipped_on (b ∷ w) r n = skipped_on w r (n + 1) ∙ ap (λ m. read_from 0 m r) (omega arith)
 
-spelling_of : Step → List ℕ
-spelling_of (Found o w r) = w
-spelling_of _ = []
+-- the front is read before what follows it
+reads : {x : List ℕ} {o : Option Lexeme} (n : ℕ) (w r : List ℕ) → x ≡ w ++ r → Spells w o r → read_from 0 n x ≡ with_front n (length w) o (read_from 0 (n + length w) r)
+reads n [] r is spells = absurd (no_bytes spells refl)
+reads {o = o} n (b ∷ w) r is spells =
+    let less : suc (length w) - 1 ≡ length w = omega arith in
+    ap (read_from 0 n) is ∙ ap (λ s. with_step n s (read_from (bytes_behind s) (n + 1) (w ++ r))) (found spells)
+    ∙ ap (with_front n (suc (length w)) o) (ap (λ k. read_from k (n + 1) (w ++ r)) less ∙ skipped_on w r (n + 1) ∙ ap (λ m. read_from 0 m r) (omega arith))
 
-rest_of : Step → List ℕ
-rest_of (Found o w r) = r
-rest_of _ = []
+-- tokens are what is read
+pub read_tokens : {n : ℕ} {x : List ℕ} {ts : List Token} → LexesFrom n x ts → read_from 0 n x ≡ Ok ts
+read_tokens ended = refl
+read_tokens (skipped {n} w r is spells more) = reads n w r is spells ∙ read_tokens more
+read_tokens (taken {n} w r t is spells more) = reads n w r is spells ∙ ap (with_front n (length w) (Some t)) (read_tokens more)
 
-fault_of : Step → LexError
-fault_of (Fault e) = e
-fault_of _ = fault.Memory
+fault_stays : (n len place : ℕ) (o : Option Lexeme) (e : LexError) → with_front n len o (Err (place, e)) ≡ Err (place, e)
+fault_stays n len place None e = refl
+fault_stays n len place (Some t) e = refl
 
-record SameFront (o p : Option Lexeme) (w v r s : List ℕ) : Type 0 where
-  lexeme : o ≡ p
-  spelling : w ≡ v
-  rest : r ≡ s
+fault_first : {n : ℕ} (x : List ℕ) {e : LexError} → FaultsHere x e → read_from 0 n x ≡ Err (n, e)
+fault_first [] faults = absurd (let none : Nothing ≡ Fault _ = faulty faults in cc)
+fault_first {n} (b ∷ r) faults = ap (λ s. with_step n s (read_from (bytes_behind s) (n + 1) r)) (faulty faults)
 
-same_front : {o p : Option Lexeme} {w v r s : List ℕ} → Found o w r ≡ Found p v s → SameFront o p w v r s
-unfolding lexeme_of spelling_of rest_of
-same_front e = record { lexeme = ap lexeme_of e; spelling = ap spelling_of e; rest = ap rest_of e }
+-- a fault is what is read
+pub read_fault : {n place : ℕ} {x : List ℕ} {e : LexError} → FaultsFrom n x place e → read_from 0 n x ≡ Err (place, e)
+read_fault (here {x = x} faults) = fault_first x faults
+read_fault (later {n} {place} {e = e} w r o is spells more) = reads n w r is spells ∙ ap (with_front n (length w) o) (read_fault more) ∙ fault_stays n (length w) place o e
 
--- bytes have one first token
-one_front : {x : List ℕ} {o p : Option Lexeme} (w r v s : List ℕ) → x ≡ w ++ r → Spells w o r → x ≡ v ++ s → Spells v p s → SameFront o p w v r s
-one_front w r v s is spells is' spells' = same_front (sym (found_at w r is spells) ∙ found_at v s is' spells')
+-- what is read is one thing
+pub same_tokens : {r : Read} {ts us : List Token} → r ≡ Ok ts → r ≡ Ok us → ts ≡ us
+same_tokens a b = let e = sym a ∙ b in cc
 
-nothing_there : {o : Option Lexeme} (w r : List ℕ) → [] ≡ w ++ r → Spells w o r → ⊥
-nothing_there w r is spells = let e : Nothing ≡ Found _ w r = found_at w r is spells in cc
+abbrev error_of : Read → LexError
+error_of (Err x) = x.1
+error_of (Ok ts) = fault.Memory
 
-no_fault_there : {x : List ℕ} {o : Option Lexeme} {e : LexError} (w r : List ℕ) → x ≡ w ++ r → Spells w o r → FaultsHere x e → ⊥
-no_fault_there w r is spells faults = let e : Found _ w r ≡ Fault _ = sym (found_at w r is spells) ∙ faulty faults in cc
+pub same_fault : {r : Read} {p q : ℕ} {e f : LexError} → r ≡ Err (p, e) → r ≡ Err (q, f) → f ≡ e
+same_fault a b = ap error_of (sym b ∙ a)
 
-no_fault_nowhere : {e : LexError} → FaultsHere [] e → ⊥
-no_fault_nowhere faults = let e : Nothing ≡ Fault _ = faulty faults in cc
-
-one_fault : {x : List ℕ} {e f : LexError} → FaultsHere x e → FaultsHere x f → e ≡ f
-unfolding fault_of
-one_fault a b = ap fault_of (sym (faulty a) ∙ faulty b)
-
-with_token : (n : ℕ) (t : Lexeme) (w : List ℕ) → List Token → List Token
-with_token n t w ts = record { word = t; start = n; end = n + length w } ∷ ts
-
--- a text has one list of tokens
-pub same_tokens : {n : ℕ} {x : List ℕ} {ts us : List Token} → LexesFrom n x ts → LexesFrom n x us → ts ≡ us
-unfolding with_token
-same_tokens ended ended = refl
-same_tokens ended (skipped v s is' spells' more') = absurd (nothing_there v s is' spells')
-same_tokens ended (taken v s u is' spells' more') = absurd (nothing_there v s is' spells')
-same_tokens (skipped w r is spells more) ended = absurd (nothing_there w r is spells)
-same_tokens (skipped {n} w r is spells more) (skipped {ts = us} v s is' spells' more') =
-    let same = one_front v s w r is' spells' is spells in
-    same_tokens more (subst (λ y. LexesFrom (n + length y) r us) same.spelling (subst (λ y. LexesFrom (n + length v) y us) same.rest more'))
-same_tokens (skipped w r is spells more) (taken v s u is' spells' more') = let same = one_front w r v s is spells is' spells' in absurd (let e : None ≡ Some u = same.lexeme in cc)
-same_tokens (taken w r t is spells more) ended = absurd (nothing_there w r is spells)
-same_tokens (taken w r t is spells more) (skipped v s is' spells' more') = let same = one_front w r v s is spells is' spells' in absurd (let e : Some t ≡ None = same.lexeme in cc)
-same_tokens (taken {n} {x} {ts} w r t is spells more) (taken {ts = us} v s u is' spells' more') =
-    let same = one_front v s w r is' spells' is spells in
-    let word : t ≡ u = let e : Some u ≡ Some t = same.lexeme in cc in
-    let rest : ts ≡ us = same_tokens more (subst (λ y. LexesFrom (n + length y) r us) same.spelling (subst (λ y. LexesFrom (n + length v) y us) same.rest more')) in
-    ap (λ y. with_token n y w ts) word ∙ ap (λ y. with_token n u y ts) (sym same.spelling) ∙ ap (with_token n u v) rest
-
--- a text that has tokens has no fault
-pub no_fault : {n place : ℕ} {x : List ℕ} {ts : List Token} {e : LexError} → LexesFrom n x ts → FaultsFrom n x place e → ⊥
-no_fault ended (here faults) = no_fault_nowhere faults
-no_fault ended (later v s p is' spells' more') = nothing_there v s is' spells'
-no_fault (skipped w r is spells more) (here faults) = no_fault_there w r is spells faults
-no_fault (skipped {n} w r is spells more) (later {place = place} {e = e} v s p is' spells' more') =
-    let same = one_front v s w r is' spells' is spells in
-    no_fault more (subst (λ y. FaultsFrom (n + length y) r place e) same.spelling (subst (λ y. FaultsFrom (n + length v) y place e) same.rest more'))
-no_fault (taken w r t is spells more) (here faults) = no_fault_there w r is spells faults
-no_fault (taken {n} w r t is spells more) (later {place = place} {e = e} v s p is' spells' more') =
-    let same = one_front v s w r is' spells' is spells in
-    no_fault more (subst (λ y. FaultsFrom (n + length y) r place e) same.spelling (subst (λ y. FaultsFrom (n + length v) y place e) same.rest more'))
-
--- a text has one leftmost fault, at one place
-pub same_fault : {n place place' : ℕ} {x : List ℕ} {e f : LexError} → FaultsFrom n x place e → FaultsFrom n x place' f → (place ≡ place') × (e ≡ f)
-same_fault (here a) (here b) = (refl, one_fault a b)
-same_fault (here a) (later v s p is' spells' more') = absurd (no_fault_there v s is' spells' a)
-same_fault (later w r o is spells more) (here b) = absurd (no_fault_there w r is spells b)
-same_fault (later {n} w r o is spells more) (later {place = place'} {e = f} v s p is' spells' more') =
-    let same = one_front v s w r is' spells' is spells in
-    same_fault more (subst (λ y. FaultsFrom (n + length y) r place' f) same.spelling (subst (λ y. FaultsFrom (n + length v) y place' f) same.rest more'))
+pub never_both : {r : Read} {ts : List Token} {p : ℕ} {e : LexError} → r ≡ Ok ts → r ≡ Err (p, e) → ⊥
+never_both a b = let e = sym a ∙ b in cc

@@ -46,7 +46,7 @@ front_faults text n len o place e front more =
 pub end_lexes : (text : List ℕ) (n : ℕ) → length text ≤ n → LexesFrom n (drop n text) []
 end_lexes text n past = rw (drop_all n text past) ended
 
-some_spelled : {w r : List ℕ} {o : Option Lexeme} → Spells w o r → 0 < length w
+pub some_spelled : {w r : List ℕ} {o : Option Lexeme} → Spells w o r → 0 < length w
 some_spelled (blank h) = omega arith
 some_spelled (comment all stops) = omega arith
 some_spelled (word {w} spelled stops) = elim w as (λ v. is_spelling v ≡ true → 0 < length v) [ [] ↦ λ h. absurd (grind arith) | ◌∷◌ b v ↦ λ h. omega arith ] spelled

@@ -3,3 +3,5 @@ pub mod Spelling
 pub mod Tokens
 pub mod Texts
 pub mod Splitting
+pub mod Written
+pub mod Reading

@@ -2,7 +2,7 @@
 use Rattle.std.specs.Prelude.{◌≡◌, ℕ, Bool, not, ◌||◌, List, [], ◌∷◌, ◌++◌, nat_eq, IsTrue, IsFalse}
 use Rattle.std.specs.List.{list_all}
 use Rattle.ct_lex.specs.Spelling.{is_comment_byte, starts}
-use Rattle.ct_lex.specs.Texts.{begins_comment}
+use Rattle.ct_lex.specs.Texts.{begins_comment, texts}
 use Rattle.ct_lex.specs.Tokens.{Lexes}
 
 -- any byte but a quote
@@ -27,3 +27,7 @@ pub data Keeps : List ℕ → List (List ℕ) → List (List ℕ) → Type 0 whe
 pub data Splits : List ℕ → List (List ℕ) → Type 0 where
   last : {x : List ℕ} {ts : List (List ℕ)} → IsPiece x [] → Keeps x [] ts → Splits x ts
   cut : {script : List ℕ} {ts us : List (List ℕ)} (x r : List ℕ) → script ≡ x ++ 59 ∷ r → IsPiece x (59 ∷ r) → Splits r ts → Keeps x ts us → Splits script us
+
+-- the law: the relation holds of the texts of the definition, and of these alone
+abbrev pub SplitsTexts : Type 0
+SplitsTexts = (script : List ℕ) → Splits script (texts script) × ((ts : List (List ℕ)) → Splits script ts → ts ≡ texts script)

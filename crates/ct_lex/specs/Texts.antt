@@ -1,5 +1,5 @@
 -- The statement texts of a script.
-use Rattle.std.specs.Prelude.{◌≡◌, ℕ, ◌≤◌, Bool, true, false, not, ◌&&◌, ◌||◌, List, [], ◌∷◌, length, take, drop, filter, nat_eq, if◌then◌else◌}
+use Rattle.std.specs.Prelude.{ℕ, Bool, true, false, not, ◌&&◌, ◌||◌, List, [], ◌∷◌, filter, nat_eq, if◌then◌else◌}
 use Rattle.ct_lex.specs.declared.splitting.Place.{Place}
 use Rattle.ct_lex.specs.declared.splitting.Place.TheVariants.{Plain, InText, InComment}
 use Rattle.ct_lex.specs.Spelling.{is_blank, is_comment_byte, starts}

@@ -68,6 +68,7 @@ fn literal(alloc: Global, text: &str) -> Result<Front, LexError>
 }
 
 /// The null at the front: `?` directly before a word.
+#[tactic(auto, using(crate::proofs::Fronts::null_front, crate::proofs::Fronts::stray_question))]
 fn null(alloc: Global, text: &str) -> Result<Front, LexError>
     requires { slice_index text.now 0 ≡ 63 }
     ensures ok { IfOk result (λ p. IsFront text.now p.1 p.0) }
@@ -81,6 +82,7 @@ fn null(alloc: Global, text: &str) -> Result<Front, LexError>
 }
 
 /// The number or the comment at the front, which begins with a minus.
+#[tactic(auto, using(crate::proofs::Fronts::stray_minus))]
 fn minus(text: &str) -> Result<Front, LexError>
     requires { slice_index text.now 0 ≡ 45 }
     ensures ok { IfOk result (λ p. IsFront text.now p.1 p.0) }
@@ -97,6 +99,7 @@ fn minus(text: &str) -> Result<Front, LexError>
 }
 
 /// The symbol at the front, and its length.
+#[tactic(auto, using(crate::proofs::Fronts::left_paren_front, crate::proofs::Fronts::right_paren_front, crate::proofs::Fronts::comma_front, crate::proofs::Fronts::dot_front, crate::proofs::Fronts::star_front, crate::proofs::Fronts::equal_front, crate::proofs::Fronts::unequal_front, crate::proofs::Fronts::not_equal_front))]
 fn symbol(text: &str) -> Option<(Symbol, usize)>
     ensures some { IfSome result (λ p. IsFront text.now p.1 (Some (lexeme.Symbol p.0))) }
     ensures none { IfNone result (spelling.begins_symbol (slice_index text.now 0) (drop 1 text.now) ≡ false) }
@@ -117,6 +120,7 @@ fn symbol(text: &str) -> Option<(Symbol, usize)>
 ///
 /// # Errors
 /// The fault at the front, or `Memory` where there is none for the token.
+#[tactic(auto, using(crate::proofs::Fronts::blank_front, crate::proofs::Fronts::word_front, crate::proofs::Fronts::stray_other))]
 pub fn front(alloc: Global, text: &str) -> Result<Front, LexError>
     requires { 0 < length text.now }
     ensures ok { IfOk result (λ p. IsFront text.now p.1 p.0) }

@@ -1,7 +1,9 @@
 // The tokens of a text.
 
-ghost use Rattle.std.specs.Prelude.{◌≡◌, ◌≢◌, ℕ, List, IfOk, IfErr};
+ghost use Rattle.std.specs.Prelude.{◌≡◌, ◌≢◌, ℕ, List, map, Ok, Err, IfOk, IfErr};
+ghost use Rattle.ct_lex.specs.Reading.{read, ReadsTokens, ReadsFault};
 ghost use Rattle.ct_lex.specs.Tokens.{Lexes, AreSlices, FaultsAt};
+ghost use Rattle.ct_lex.specs.Written.{AreWritten, TokensAreWritten};
 ghost use Rattle.ct_lex.specs.declared.token.LexError.TheVariants as fault;
 
 use crate::front::front;
@@ -13,8 +15,13 @@ use std::alloc::Global;
 /// # Errors
 /// The leftmost fault of the text, or `Memory` where there is none for the tokens.
 pub fn tokens(alloc: Global, text: &str) -> Result<Vec<Token>, LexError>
+    ensures value { IfOk result (λ v. read text.now ≡ Ok v.items) }
+    ensures error { IfErr result (λ e. e ≢ fault.Memory → (place : ℕ) × (read text.now ≡ Err (place, e))) }
+
+    // By the token table: the bytes spell these tokens, or there is this fault.
     ensures ok { IfOk result (λ v. Lexes text.now v.items) }
     ensures slices { IfOk result (λ v. AreSlices text.now v.items) }
+    ensures written { IfOk result (λ v. AreWritten (map (λ t. t.word) v.items)) }
     ensures fault { IfErr result (λ e. e ≢ fault.Memory → (place : ℕ) × FaultsAt text.now place e) }
 
     // There are no other tokens, and no other fault.
@@ -39,3 +46,19 @@ pub fn tokens(alloc: Global, text: &str) -> Result<Vec<Token>, LexError>
     }
     Ok(tokens)
 }
+
+/// The law that words and nulls of the tokens of any text have names that are spelled as words, in
+/// lower case.
+pub fn tokens_are_written()
+    ensures { TokensAreWritten }
+{}
+
+/// The law that a text whose bytes spell tokens is read as these and as no others.
+pub fn tokens_are_read()
+    ensures { ReadsTokens }
+{}
+
+/// The law that a text that has a fault is read as this one and as no other.
+pub fn faults_are_read()
+    ensures { ReadsFault }
+{}

@@ -11,6 +11,6 @@ mod scan;
 mod splitting;
 mod token;
 
-pub use lexing::tokens;
-pub use splitting::split;
+pub use lexing::{faults_are_read, tokens, tokens_are_read, tokens_are_written};
+pub use splitting::{split, texts_are_pieces};
 pub use token::{LexError, Lexeme, Symbol, Token};

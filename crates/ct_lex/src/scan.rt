@@ -62,6 +62,7 @@ fn passing(bytes: &[u8], class: Class) -> usize
 }
 
 /// How many bytes at the front are of the class.
+#[tactic(auto, using(crate::proofs::Runs::run_passes, crate::proofs::Runs::run_stops, crate::proofs::Runs::run_ends_character))]
 pub fn run_len(text: &str, class: Class) -> usize
     ensures all { list_all (class_test class) (take result text.now) ≡ true }
     ensures stops { starts (class_test class) (drop result text.now) ≡ false }

@@ -2,7 +2,7 @@
 
 ghost use Rattle.std.specs.Prelude.{◌≡◌, ◌∷◌, ◌<◌, ◌&&◌, ℕ, List, [], length, map, nat_eq, take, drop, slice_index, IfOk};
 ghost use Rattle.std.specs.Str.{IsCharBoundary};
-ghost use Rattle.ct_lex.specs.Splitting.{Splits};
+ghost use Rattle.ct_lex.specs.Splitting.{Splits, SplitsTexts};
 ghost use Rattle.ct_lex.specs.Texts as spec;
 
 use crate::scan::{byte_at, is_blank};
@@ -49,6 +49,7 @@ fn ends_piece(place: Place, byte: u8) -> bool
 }
 
 /// How long the first piece is: up to a `;` outside text literals and comments, or all.
+#[tactic(auto, using(crate::proofs::Pieces::goes_on, crate::proofs::Pieces::ends_at_semicolon, crate::proofs::Pieces::ends_at_end))]
 fn piece_len(script: &str) -> usize
     ensures first { spec.pieces script.now ≡ take result script.now ∷ spec.pieces_behind (drop result script.now) }
     ensures cut { IsCharBoundary script.now result }
@@ -108,3 +109,8 @@ pub fn split(alloc: Global, script: &str) -> Result<Vec<&str>, Memory>
         rest = &behind[1..];
     }
 }
+
+/// The law that the texts of a script are its pieces that have tokens.
+pub fn texts_are_pieces()
+    ensures { SplitsTexts }
+{}

@@ -7,3 +7,6 @@ pub mod FoundParts
 pub mod FittingConditions
 pub mod FittingQueries
 pub mod Fitting
+pub mod WritingConditions
+pub mod WritingQueries
+pub mod Writing

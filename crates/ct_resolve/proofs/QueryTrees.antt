@@ -29,7 +29,7 @@ pub terms_stop : (schema : List Heading) (x : Named) (t : SetOperator × QueryTe
 terms_stop schema x t ts e h = ap (λ a. with_terms schema a ts) h ∙ terms_refused schema e ts
 
 -- what parentheses hold
-nested_is : (schema : List Heading) (q : Query) → primary_at schema (primary.Nested q) ≡ query_at schema q
+pub nested_is : (schema : List Heading) (q : Query) → primary_at schema (primary.Nested q) ≡ query_at schema q
 unfolding Rattle.ct_parse.specs.declared.tree.QueryPrimary.TheBlock.hidden-the_row-Query-0 denote.Hole.Carrier.hidden
 nested_is schema q = refl
 

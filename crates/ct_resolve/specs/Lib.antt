@@ -4,3 +4,4 @@ pub mod Conditions
 pub mod Queries
 pub mod Statements
 pub mod Views
+pub mod Writing

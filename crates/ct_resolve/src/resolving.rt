@@ -1,12 +1,16 @@
 // A whole statement.
 
-ghost use Rattle.std.specs.Prelude.{◌≡◌, ◌≢◌, ◌≤◌, IfOk, IfErr, Ok, Err};
+ghost use Rattle.std.specs.Prelude.{◌≡◌, ◌≢◌, ◌≤◌, List, IfOk, IfErr, Ok, Err};
+ghost use Rattle.ct_lex.specs.Written.{AreWritten};
+ghost use Rattle.ct_lex.specs.declared.token.Lexeme.{Lexeme};
+ghost use Rattle.ct_parse.specs.Parses.{Spells};
 ghost use Rattle.ct_query.specs.Fits.{FitsStatement};
 ghost use Rattle.ct_query.specs.Plain as plain;
 ghost use Rattle.ct_query.specs.Views.{statement_of};
 ghost use Rattle.ct_resolve.specs.Found.{and_then};
 ghost use Rattle.ct_resolve.specs.Queries.{query_at};
 ghost use Rattle.ct_resolve.specs.Statements.{HasRoom, resolved};
+ghost use Rattle.ct_resolve.specs.Writing.{WritesStatement, NamesColumns};
 ghost use Rattle.ct_resolve.specs.declared.error.ResolveError.TheVariants as fault;
 
 use crate::error::ResolveError;
@@ -83,7 +87,10 @@ fn positioned(
 /// The statement with positions for the names of columns. `session` is the session that draws the
 /// nulls, from 1 to 1,023, and `fresh` the number of its last null: each NULL, from the left, is its
 /// null with the next number after `fresh`. What is answered fits the schema: its tables and columns
-/// are there, and a word has room for the numbers of its nulls and values.
+/// are there, and a word has room for the numbers of its nulls and values. Of a statement that tokens
+/// spell, a text can write what is answered: tables and new columns are names, named nulls are words
+/// in lower case, and there is no other value; the columns of an answer are names, too, where those
+/// of the schema are.
 ///
 /// # Errors
 /// The first refusal in this order, and `Memory` where there is none for the answer, where a position
@@ -108,6 +115,8 @@ pub fn resolve(
 ) -> Result<Resolved, ResolveError>
     ensures ok { IfOk result (λ r. resolved schema.now session fresh statement.now ≡ Ok (statement_of r)) }
     ensures fits { IfOk result (λ r. 1 ≤ session → session ≤ 1023 → FitsStatement schema.now.tables (statement_of r)) }
+    ensures writable { IfOk result (λ r. (ls : List Lexeme) → AreWritten ls → Spells ls statement.now → WritesStatement (statement_of r)) }
+    ensures named { IfOk result (λ r. (ls : List Lexeme) → AreWritten ls → Spells ls statement.now → NamesColumns schema.now.tables (statement_of r)) }
     ensures err { IfErr result (λ e. e ≢ fault.Memory → resolved schema.now session fresh statement.now ≡ Err e) }
 {
     let found = positioned(alloc, schema, session, fresh, statement)?;

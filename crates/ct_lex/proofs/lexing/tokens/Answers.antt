@@ -1,12 +1,14 @@
-use Rattle.std.proofs.Common.{◌≢◌, ◌≤◌, [], length, drop, Some, None, refl, subst, arith, append_assoc}
+use Rattle.std.proofs.Common.{◌≢◌, ◌≤◌, IfErr, [], length, drop, Some, None, refl, subst, arith, append_assoc}
 use Rattle.std.proofs.lemmas.List.{append-nil}
 use Rattle.std.proofs.lemmas.Result.{err_from_is_err_and}
 use Rattle.std.proofs.lemmas.Str.{IsCharBoundary-start, IsCharBoundary-from_rest}
+use Rattle.ct_lex.specs.declared.token.LexError.{LexError}
 use Rattle.ct_lex.specs.declared.token.LexError.TheVariants as fault
 use Rattle.ct_lex.specs.Scan.{IsFront}
 use Rattle.ct_lex.specs.Tokens.{Lexes, FaultsAt, here}
-use Rattle.ct_lex.proofs.Readings.{same_tokens, no_fault, same_fault}
+use Rattle.ct_lex.proofs.Readings.{read_tokens, read_fault, same_tokens, same_fault, never_both}
 use Rattle.ct_lex.proofs.Steps.{front_lexes, front_faults, end_lexes, slices}
+use Rattle.ct_lex.proofs.Written.{tokens_written}
 use Rattle.ct_lex.proofs.lexing.tokens.Goals as goal
 
 -- the fault that `front` found, in the text
@@ -17,19 +19,21 @@ pub loop-start-init : goal.loop-start-init
 loop-start-init c =
     (IsCharBoundary-start c.args.text.now c.utf8.text, λ ts lexes. rw c.new-tokens.ensures.items lexes, λ place e faults. faults)
 
+-- what holds of the error of `front` holds of what is returned
+passed : (c : goal.After-drop-tokens) (P : LexError → Type 0) → P c.in_err-lexeme.field-0.0 → IfErr c.from_residual.result P
+passed c P h = let p = err_from_is_err_and c.from_residual.result c.from_residual.ensures.1 in rw (p.1, p.2) h
+
+pub returns-in_err-lexeme-clause-error : goal.returns-in_err-lexeme-clause-error
+returns-in_err-lexeme-clause-error c = passed c _ (λ other. (c.loop-start.start, read_fault (faulted c other)))
+
 pub returns-in_err-lexeme-clause-fault : goal.returns-in_err-lexeme-clause-fault
-returns-in_err-lexeme-clause-fault c =
-    let p = err_from_is_err_and c.from_residual.result c.from_residual.ensures.1 in rw (p.1, p.2) (λ other. (c.loop-start.start, faulted c other))
+returns-in_err-lexeme-clause-fault c = passed c _ (λ other. (c.loop-start.start, faulted c other))
 
 pub returns-in_err-lexeme-clause-leftmost : goal.returns-in_err-lexeme-clause-leftmost
-returns-in_err-lexeme-clause-leftmost c =
-    let p = err_from_is_err_and c.from_residual.result c.from_residual.ensures.1 in
-    rw (p.1, p.2) (λ other place f faults. (same_fault faults (faulted c other)).1)
+returns-in_err-lexeme-clause-leftmost c = passed c _ (λ other place f faults. same_fault (read_fault (faulted c other)) (read_fault faults))
 
 pub returns-in_err-lexeme-clause-none : goal.returns-in_err-lexeme-clause-none
-returns-in_err-lexeme-clause-none c =
-    let p = err_from_is_err_and c.from_residual.result c.from_residual.ensures.1 in
-    rw (p.1, p.2) (λ other ts lexes. no_fault lexes (faulted c other))
+returns-in_err-lexeme-clause-none c = passed c _ (λ other ts lexes. never_both (read_tokens lexes) (read_fault (faulted c other)))
 
 pub loop-start-preserved-in_ok-push : goal.loop-start-preserved-in_ok-push
 loop-start-preserved-in_ok-push c =
@@ -64,8 +68,14 @@ returns-clause-ok c = lexed c
 pub returns-clause-slices : goal.returns-clause-slices
 returns-clause-slices c = slices [] 0 refl (omega arith) (lexed c)
 
+pub returns-clause-written : goal.returns-clause-written
+returns-clause-written c = tokens_written (lexed c)
+
+pub returns-clause-value : goal.returns-clause-value
+returns-clause-value c = read_tokens (lexed c)
+
 pub returns-clause-only : goal.returns-clause-only
-returns-clause-only c = λ ts lexes. same_tokens lexes (lexed c)
+returns-clause-only c = λ ts lexes. same_tokens (read_tokens lexes) (read_tokens (lexed c))
 
 pub returns-clause-clean : goal.returns-clause-clean
-returns-clause-clean c = λ place e faults. no_fault (lexed c) faults
+returns-clause-clean c = λ place e faults. never_both (read_tokens (lexed c)) (read_fault faults)
