@@ -70,25 +70,36 @@ fn insert<const N: usize>(
     Ok(Change::Insert { name, rows })
 }
 
-// The condition at 2 has one reference, those at 3 and 4 have two.
-fn deep_nodes(alloc: Global) -> Result<List<Node>, AllocError> {
-    let fresh = Term::Null(Null::Fresh {
+/// `?1#2 = -5`.
+fn first_node() -> Node {
+    let fresh = Null::Fresh {
         session: 1,
         number: 2,
-    });
-    let quoted = Term::Value(Value::Text(text(alloc, "it's")?));
-    list(
-        alloc,
-        [
-            Node::Eq(fresh, int(-5)),
-            Node::Ne(named(alloc, "x")?, quoted),
-            Node::And(list(alloc, [0, 1])?),
-            Node::Or(list(alloc, [0, 2])?),
-            Node::And(list(alloc, [1, 3])?),
-            Node::False,
-            Node::True,
-        ],
-    )
+    };
+    Node::Eq(Term::Null(fresh), int(-5))
+}
+
+/// `?x <> 'it''s'`.
+fn second_node(alloc: Global) -> Result<Node, AllocError> {
+    let quoted = text(alloc, "it's")?;
+    let null = text(alloc, "x")?;
+    Ok(Node::Ne(
+        Term::Null(Null::Named(null)),
+        Term::Value(Value::Text(quoted)),
+    ))
+}
+
+// The condition at 2 has one reference, those at 3 and 4 have two.
+fn deep_nodes(alloc: Global) -> Result<List<Node>, AllocError> {
+    let mut nodes = Vec::new(alloc);
+    nodes.push(first_node())?;
+    nodes.push(second_node(alloc)?)?;
+    nodes.push(Node::And(list(alloc, [0, 1])?))?;
+    nodes.push(Node::Or(list(alloc, [0, 2])?))?;
+    nodes.push(Node::And(list(alloc, [1, 3])?))?;
+    nodes.push(Node::False)?;
+    nodes.push(Node::True)?;
+    Ok(List::from_vec(nodes))
 }
 
 fn deep_answer(alloc: Global) -> Result<Answer, AllocError> {

@@ -35,8 +35,8 @@ offer_rows-requires-clause-cells g c =
     let hs = (schema (plain_history c.args.history.now) []).tables in
     (subst (λ r. FitsStatement hs (statement_of r)) (c.in-Act-InsertRows.is ∙ ap resolved.Act c.in-Act-InsertRows.field-0-is) c.requires.fits).2
 
-pub returns-in-Act-InsertRows-clause-ok : goal.returns-in-Act-InsertRows-clause-ok
-returns-in-Act-InsertRows-clause-ok g c =
+pub returns-in_ok-offer-in-Act-InsertRows-clause-ok : goal.returns-in_ok-offer-in-Act-InsertRows-clause-ok
+returns-in_ok-offer-in-Act-InsertRows-clause-ok g c =
     let h = plain_history c.args.history.now in
     let words = c.offer_rows.new.pass.words in
     let offer = c.in_ok-offer-in-Act-InsertRows.offer in
@@ -56,8 +56,8 @@ returns-in-Ok-clause-ok g c =
     (sym (asks_rows (subst (λ r. IsPlainBuilt (statement_of r)) c.in-Ask.is c.requires.built)))
     c.in-Ok.ensures.ok)
 
-pub returns-in-Ask-clause-err : goal.returns-in-Ask-clause-err
-returns-in-Ask-clause-err g c =
+pub returns-in-Err-clause-err : goal.returns-in-Err-clause-err
+returns-in-Err-clause-err g c =
     let h = plain_history c.args.history.now in
     let words = c.answer_query-answered.new.pass.words in
     subst (λ r. IsUnmet h g.N.Site.log.cap words (statement_of r) c.in-Err.why) (sym c.in-Ask.is)
