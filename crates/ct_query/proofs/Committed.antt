@@ -11,7 +11,7 @@ use Rattle.ct_word.specs.Condition.{Condition, holds, holds_at}
 use Rattle.ct_word.specs.Sublist.{IsSublist}
 use Rattle.ct_word.specs.Change.{PlainRow, PlainChange, Create, Insert, Delete, Assert, PlainCommit}
 use Rattle.ct_query.specs.Plain as plain
-use Rattle.ct_query.specs.Plain.{PlainQuery, PlainAction}
+use Rattle.ct_query.specs.Plain.{PlainAction}
 use Rattle.ct_query.specs.Database.{Relation, Database, SameSet, SameRelation, SameDatabase, changed, with_tuples}
 use Rattle.ct_query.specs.Rows.{rows}
 use Rattle.ct_query.specs.Step.{inserted, deleted, asserted, shown_rows, step_change, step_action}

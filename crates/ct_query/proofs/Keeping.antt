@@ -10,7 +10,7 @@ use Rattle.ct_word.specs.Sublist.{IsSublist}
 use Rattle.ct_word.specs.Change.{PlainRow, PlainChange, Create, Insert, Delete, Assert, PlainCommit}
 use Rattle.ct_word.specs.StandsFor.{SameRows, SameChange, SameChanges, SameCommits}
 use Rattle.ct_query.specs.Plain as plain
-use Rattle.ct_query.specs.Plain.{PlainQuery, PlainAction}
+use Rattle.ct_query.specs.Plain.{PlainAction}
 use Rattle.ct_query.specs.declared.action.Read.{Read}
 use Rattle.ct_query.specs.declared.action.Read.TheVariants as read
 use Rattle.ct_query.specs.Database.{Database, SameSet, changed}

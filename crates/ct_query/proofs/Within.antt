@@ -1,5 +1,5 @@
 -- What reads a set of tables alone finds the same where these are the same.
-use Rattle.std.proofs.Common.{◌≡◌, ℕ, zero, suc, ◌≤◌, Bool, true, false, ◌&&◌, ◌||◌, cond, List, [], ◌∷◌, ◌++◌, map, length, refl, ap, sym, subst, ◌∙◌, arith}
+use Rattle.std.proofs.Common.{◌≡◌, ℕ, zero, suc, ◌≤◌, Bool, true, false, ◌||◌, cond, List, [], ◌∷◌, ◌++◌, map, length, refl, ap, sym, subst, ◌∙◌, arith}
 use Rattle.std.specs.Prelude.{Option, Some, None, ⊤, is_some, option_and_then, filter, not, if◌then◌else◌}
 use Rattle.std.specs.List.{AllByRecursion, list_any}
 use Rattle.std.proofs.lemmas.Bool.{false≢true}
@@ -10,7 +10,7 @@ use Rattle.std.proofs.lemmas.List.Folds.{list_any-append, map_fixed}
 use Rattle.ct_word.specs.declared.values.Value.{Value}
 use Rattle.ct_word.specs.declared.values.Term.{Term}
 use Rattle.ct_word.specs.Value.{World, tuple_at, cell_at, same_text}
-use Rattle.ct_word.specs.Condition.{Condition, holds, holds_at}
+use Rattle.ct_word.specs.Condition.{holds, holds_at}
 use Rattle.ct_word.specs.Change.{PlainRow, PlainChange, Create, Insert, Delete, Assert, PlainCommit}
 use Rattle.ct_word.proofs.Alike.{text_decides}
 use Rattle.ct_query.specs.Plain as plain
