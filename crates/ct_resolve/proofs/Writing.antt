@@ -1,10 +1,9 @@
 -- What a statement that is spelled by lexemes as a text writes them is resolved to can be written.
-use Rattle.std.proofs.Common.{◌≡◌, ◌+◌, ℕ, true, not, List, [], ◌∷◌, length, refl}
+use Rattle.std.proofs.Common.{◌≡◌, ◌+◌, ℕ, not, List, [], ◌∷◌, length, refl}
 use Rattle.std.proofs.lemmas.List.Elements.{All-nil, All-cons, All-head, All-tail}
 use Rattle.std.proofs.lemmas.Result.{IfOk-at_ok}
 use Rattle.std.specs.List.{list_all}
 use Rattle.std.specs.Prelude.{All, nat_eq, Ok, Option, Some, None, IfOk}
-use Rattle.ct_word.specs.Condition.{Condition}
 use Rattle.ct_query.specs.declared.action.Ask.{Ask}
 use Rattle.ct_query.specs.declared.action.Ask.TheVariants as ask
 use Rattle.ct_query.specs.declared.schema.Heading.{Heading}
@@ -18,7 +17,7 @@ use Rattle.ct_parse.specs.declared.tree.Condition as tree
 use Rattle.ct_parse.specs.declared.tree.Query.{Query}
 use Rattle.ct_parse.specs.declared.tree.Row.{Row}
 use Rattle.ct_parse.specs.declared.tree.Statement.{Statement}
-use Rattle.ct_parse.specs.Grammar.{IsCell, number_cell, text_cell, null_cell, new_null, IsRow, row, IsQuery, HasCondition, IsStatement, create, insert_rows, insert_query, delete, assert, rows, possible, certain, begin, commit, rollback}
+use Rattle.ct_parse.specs.Grammar.{IsCell, number_cell, text_cell, null_cell, new_null, IsRow, row, IsQuery, IsStatement, create, insert_rows, insert_query, delete, assert, rows, possible, certain, begin, commit, rollback}
 use Rattle.ct_resolve.specs.declared.error.ResolveError.TheVariants as fault
 use Rattle.ct_resolve.specs.Conditions.{condition_at, condition_or_true}
 use Rattle.ct_resolve.specs.Found.{Found, and_then, unless}

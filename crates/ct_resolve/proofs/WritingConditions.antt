@@ -1,7 +1,7 @@
 -- What a condition that is spelled by lexemes as a text writes them is resolved to can be written.
-use Rattle.std.proofs.Common.{◌≡◌, ℕ, Bool, true, ◌&&◌, List, [], ◌∷◌, map, refl, ap, sym, subst, ◌∙◌}
-use Rattle.std.proofs.lemmas.List.Elements.{All-nil, All-cons, All-head, All-tail}
-use Rattle.std.specs.Prelude.{All, Ok, Err, Option, Some, None, IfOk}
+use Rattle.std.proofs.Common.{◌≡◌, ℕ, Bool, true, ◌&&◌, List, [], ◌∷◌, refl, ap, sym, subst, ◌∙◌}
+use Rattle.std.proofs.lemmas.List.Elements.{All-nil, All-head, All-tail}
+use Rattle.std.specs.Prelude.{All, Ok, Err, IfOk}
 use Rattle.ct_word.specs.declared.values.Term.{Term}
 use Rattle.ct_word.specs.declared.values.Term.TheVariants as term
 use Rattle.ct_word.specs.Condition as plain
@@ -21,7 +21,7 @@ use Rattle.ct_parse.specs.declared.tree.Term as parsed
 use Rattle.ct_parse.specs.Grammar.{IsName, name, IsColumn, plain as plain_column, qualified, IsTerm, number_term, text_term, null_term, column_term, IsComparison, equal, unequal, condition_of, IsFactor, negated as not_factor, nested, true_factor, false_factor, compared as compared_terms, AreFactors, no_factor, and_factor, IsConjunction, conjunction, AreConjunctions, no_conjunction, or_conjunction, IsCondition, condition}
 use Rattle.ct_resolve.specs.Found.{Found, and_then, in_front, each}
 use Rattle.ct_resolve.specs.Names.{own_name, column_at}
-use Rattle.ct_resolve.specs.Conditions.{term_at, compared, comparison_of, negated, and_of, or_of, all_found, any_found, factor_at, conjunction_at, condition_at}
+use Rattle.ct_resolve.specs.Conditions.{term_at, compared, comparison_of, and_of, or_of, all_found, any_found, factor_at, conjunction_at, condition_at}
 use Rattle.ct_resolve.specs.Writing.{IsNamed, WritesTerm, Writes}
 use Rattle.ct_resolve.proofs.FoundParts.{and_then_has, in_front_has}
 use Rattle.ct_resolve.proofs.Trees.{not_is, nested_is, condition_is}
@@ -122,7 +122,7 @@ module _ (scope : List Heading) where
         let others = conjunctions_write ds first.1 in
         let parts = ap (λ l. any_found (in_front (conjunction_at scope l.first) (each (conjunction_at scope) l.rest))) (out-roll-Condition (record { first = c; rest = cs })) in (
           subst (λ m. IfOk m Writes) (sym (condition_is scope (condition_of c cs) ∙ parts))
-          (any_found_writes (in_front (conjunction_at scope c) (each (conjunction_at scope) cs)) (in_front_has Writes (conjunction_at scope c) (each (conjunction_at scope) cs) first.0 others.0)),
+              (any_found_writes (in_front (conjunction_at scope c) (each (conjunction_at scope) cs)) (in_front_has Writes (conjunction_at scope c) (each (conjunction_at scope) cs) first.0 others.0)),
           others.1,
         )
 

@@ -1,5 +1,5 @@
 -- What a query that is spelled by lexemes as a text writes them is resolved to can be written.
-use Rattle.std.proofs.Common.{◌≡◌, ◌+◌, ℕ, Bool, true, false, List, [], ◌∷◌, ◌++◌, map, length, refl, ap, sym, subst, ◌∙◌}
+use Rattle.std.proofs.Common.{◌+◌, ℕ, Bool, true, false, List, [], ◌∷◌, map, length, ap, sym, subst, ◌∙◌}
 use Rattle.std.proofs.lemmas.List.Elements.{All-nil, All-cons, All-head, All-tail, All-append, All-map}
 use Rattle.std.specs.Prelude.{All, Ok, Err, Option, IfOk, nat_eq, if◌then◌else◌}
 use Rattle.ct_word.specs.Value.{same_text}
@@ -8,8 +8,6 @@ use Rattle.ct_query.specs.declared.schema.Heading.{Heading}
 use Rattle.ct_query.specs.Plain as plain
 use Rattle.ct_query.specs.Plain.{PlainQuery}
 use Rattle.ct_lex.specs.declared.token.Lexeme.{Lexeme}
-use Rattle.ct_lex.specs.declared.token.Lexeme.TheVariants as lexeme
-use Rattle.ct_lex.specs.declared.token.Symbol.TheVariants as symbol
 use Rattle.ct_lex.specs.Written.{AreWritten}
 use Rattle.ct_parse.specs.declared.tree.Alias.{Alias}
 use Rattle.ct_parse.specs.declared.tree.Condition as tree
@@ -25,7 +23,7 @@ use Rattle.ct_parse.specs.declared.tree.SetOperator.TheVariants as operator
 use Rattle.ct_parse.specs.declared.tree.QueryPrimary.{QueryPrimary}
 use Rattle.ct_parse.specs.declared.tree.QueryTerm.{QueryTerm}
 use Rattle.ct_parse.specs.declared.tree.Query.{Query, out-roll-Query}
-use Rattle.ct_parse.specs.Grammar.{AreMore, no_more, one_more, IsClosed, closed, HasCondition, no_condition, a_condition, HasName, no_name, as_name, IsItem, item, AreItems, star, listed, HasAlias, no_alias, alias, as_alias, IsTable, table, IsTableOn, table_on, IsJoined, comma, join, inner_join, AreJoined, none_joined, more_joined, AreTables, tables, IsDistinct, not_distinct, distinct, IsSelect, select, IsSetOperator, union, except, query_of, IsPrimary, nested_query, select_query, ArePrimaries, no_primary, intersect, IsQueryTerm, query_term, AreTerms, no_term, combined, IsQuery, query}
+use Rattle.ct_parse.specs.Grammar.{AreMore, no_more, one_more, IsClosed, closed, HasCondition, no_condition, a_condition, no_name, as_name, IsItem, item, AreItems, star, listed, HasAlias, no_alias, alias, as_alias, IsTable, table, IsTableOn, table_on, IsJoined, comma, join, inner_join, AreJoined, none_joined, more_joined, AreTables, tables, IsDistinct, not_distinct, distinct, IsSelect, select, IsSetOperator, union, except, query_of, IsPrimary, nested_query, select_query, ArePrimaries, no_primary, intersect, IsQueryTerm, query_term, AreTerms, no_term, combined, IsQuery, query}
 use Rattle.ct_resolve.specs.declared.error.ResolveError.TheVariants as fault
 use Rattle.ct_resolve.specs.Found.{Found, and_then, unless, each}
 use Rattle.ct_resolve.specs.Names.{table_in, are_distinct, own_name, column_at}
@@ -207,7 +205,7 @@ module _ (schema : List Heading) where
       let s : Select = record { is_distinct = b; items = is; tables = t; condition = c } in
       let apart = are_distinct (map visible (tables_of t)) in (
         and_then_has (IsScope schema) (WritesNamed schema) (each (seen_table schema) (tables_of t)) (λ scope. unless apart fault.DuplicateName (selected scope s)) (scope_named schema (tables_of t))
-        (λ scope seen. unless_has (WritesNamed schema) apart fault.DuplicateName (selected scope s) (λ _. selected_writes schema scope s picked.0 from.0.0 (All-append Good (ons_of t.rest) (where_of c) from.0.1 behind.0) seen)),
+            (λ scope seen. unless_has (WritesNamed schema) apart fault.DuplicateName (selected scope s) (λ _. selected_writes schema scope s picked.0 from.0.0 (All-append Good (ons_of t.rest) (where_of c) from.0.1 behind.0) seen)),
         behind.1,
       )
 
