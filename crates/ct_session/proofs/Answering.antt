@@ -27,7 +27,7 @@ use Rattle.ct_session.specs.Built.{IsBuilt}
 use Rattle.ct_session.specs.Answers.{Answers}
 use Rattle.ct_session.specs.declared.session.Offer.{Offer}
 use Rattle.ct_session.specs.declared.session.Prepared.TheVariants as prepared
-use Rattle.ct_session.specs.Catalogue.{IsReady, IsOfferFor, IsAnswerFor, IsPrepared, IsPreparedStatement, IsPreparedText, IsRefusedStatement, IsRefusedText, IsWant, IsPast, IsUnmet, IsTooLargeAt, unread, wanting_memory, refused, CommitOf, committed, filled, resolved_at, name_refusal, unevaluated}
+use Rattle.ct_session.specs.Catalogue.{IsReady, IsOfferFor, IsPrepared, IsPreparedText, IsRefusedStatement, IsRefusedText, IsWant, IsPast, IsUnmet, IsTooLargeAt, unread, wanting_memory, refused, CommitOf, committed, filled, resolved_at, name_refusal, unevaluated}
 use Rattle.ct_session.proofs.Offers.{answers_refused, is_unread, is_name_fault, is_not_yet, is_too_large, is_full_at, answers_rows, answers_committed, stays}
 use Rattle.ct_session.proofs.Committing.{length_printed}
 

@@ -1,6 +1,6 @@
 -- The answer to a query over the tables of a session, which denote its history.
-use Rattle.std.proofs.Common.{◌≡◌, ◌<◌, ◌≤◌, ℕ, Bool, true, false, List, [], ◌∷◌, map, length, refl, ap, sym, subst, ◌∙◌, arith}
-use Rattle.std.specs.Prelude.{All, if◌then◌else◌}
+use Rattle.std.proofs.Common.{◌≡◌, ◌<◌, ℕ, List, [], ◌∷◌, map, length, refl, ap, sym, subst, ◌∙◌, arith}
+use Rattle.std.specs.Prelude.{if◌then◌else◌}
 use Rattle.std.proofs.lemmas.List.Elements.{All-weaker}
 use Rattle.ct_word.specs.declared.values.CRow.{CRow}
 use Rattle.ct_word.specs.Value.{World, same_text}
@@ -14,7 +14,7 @@ use Rattle.ct_query.specs.Size.{size, rows_in}
 use Rattle.ct_table.specs.Tables.{cells_of, value_of_rows, AreRows}
 use Rattle.ct_table.specs.Denotes.{TableView, value_of_tables, IsKept, Denotes}
 use Rattle.ct_query.proofs.Sublists.{sublist_of_sublist}
-use Rattle.ct_table.proofs.ByTables.{cells_found, rows_found, found-cons, rows_in_found, answered_by_tables, pattern_by_tables, size_by_tables}
+use Rattle.ct_table.proofs.ByTables.{cells_found, found-cons, rows_in_found, answered_by_tables, pattern_by_tables, size_by_tables}
 use Rattle.ct_table.specs.Counting.{count_of}
 use Rattle.ct_algebra.specs.Evaluates.{limit}
 use Rattle.ct_algebra.specs.Operands.{AreTables, cells_in}

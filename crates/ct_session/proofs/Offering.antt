@@ -1,10 +1,8 @@
 -- The offer of a new table.
 use Rattle.std.proofs.Common.{◌≡◌, ℕ, Bool, true, false, List, [], ◌∷◌, ◌++◌, length, map, refl, ap, sym, subst, ◌∙◌, arith}
 use Rattle.std.specs.Prelude.{All, Option, Some, None, IsSome, IfSome, IsTrue, option_and_then, option_map, if◌then◌else◌}
-use Rattle.std.proofs.lemmas.Bool.{false≢true}
 use mathlib.Core.List.{IsPrefix}
 use Rattle.ct_word.specs.Value.{World, same_text}
-use Rattle.ct_word.proofs.Alike.{text_decides}
 use Rattle.ct_word.specs.declared.values.CRow.{CRow}
 use Rattle.ct_word.specs.Change.{PlainChange, Create, PlainCommit}
 use Rattle.ct_word.specs.Reading.{IsChangeList, change_list_at, as_change_list}
@@ -17,7 +15,6 @@ use Rattle.ct_query.specs.Agrees.{Agrees}
 use Rattle.ct_query.specs.Database.{Database}
 use Rattle.ct_query.specs.Step.{step_change}
 use Rattle.ct_query.specs.Worlds.{world, after_changes}
-use Rattle.ct_query.specs.Schema.{schema}
 use Rattle.ct_query.proofs.Laws.{world_commit}
 use Rattle.ct_rewrite.specs.declared.answer.Node.{Node}
 use Rattle.ct_rewrite.specs.declared.history.Commit.{Commit}
@@ -28,7 +25,7 @@ use Rattle.ct_word.specs.WellFormed.{IsWellFormed, is_place_of}
 use Rattle.ct_condition.proofs.Reached.{formed_before}
 use Rattle.ct_table.specs.Denotes.{TableView, heading_of, Denotes, find_table, with_table}
 use Rattle.ct_table.proofs.Denoting.{created_denotes, denotes_grows}
-use Rattle.ct_session.specs.Catalogue.{IsAdmittedEverywhere, IsNewTable, IsReady, IsOfferFor}
+use Rattle.ct_session.specs.Catalogue.{IsAdmittedEverywhere, IsNewTable, IsOfferFor}
 
 -- the columns that a schema has for a name are those of the name's table
 columns_found : (db : List TableView) (name : List ℕ) → columns_in (map heading_of db) name ≡ option_map (λ t. t.columns) (find_table db name)

@@ -1,6 +1,6 @@
 -- What a commit of an offer is answered.
 use Rattle.std.proofs.Common.{◌≡◌, ℕ, ◌+◌, ◌-◌, ◌<◌, ◌≤◌, List, [], ◌∷◌, ◌++◌, length, take, map, refl, ap, sym, subst, ◌∙◌, arith, length-append}
-use Rattle.std.specs.Prelude.{slice_get, Option, Some, None, Ok, Err, IsTrue, max}
+use Rattle.std.specs.Prelude.{slice_get, Some, None, Ok, Err, IsTrue, max}
 use Rattle.std.proofs.lemmas.List.{append_assoc}
 use mathlib.Core.List.{IsPrefix}
 use Rattle.ct_word.specs.Change.{PlainCommit}
@@ -26,7 +26,7 @@ use Rattle.ct_resolve.specs.declared.error.ResolveError.{ResolveError}
 use Rattle.ct_resolve.specs.Found.{Found}
 use Rattle.ct_session.specs.Statements.{ReadsAs, IsTextFault}
 use Rattle.ct_session.specs.Built.{IsBuilt}
-use Rattle.ct_session.specs.State.{carried, drawn}
+use Rattle.ct_session.specs.State.{carried}
 use Rattle.ct_session.specs.LawfulReply.{ResolvesTo, IsUnread, IsNameFault, IsNotYet, IsTooLarge, IsFull, LawfulRefusal}
 use Rattle.ct_session.specs.Answers.{state_after, nothing, one, Answers, GoesOn, is_full}
 use Rattle.ct_session.specs.Catalogue.{IsOfferFor, IsAnswerFor, IsTooLargeAt, resolved_at}

@@ -14,7 +14,7 @@ use Rattle.ct_parse.specs.Nest.{is_too_deep}
 use Rattle.ct_parse.specs.Parses.{Spells}
 use Rattle.ct_transcript.specs.declared.reply.Refusal.{Refusal}
 use Rattle.ct_transcript.specs.declared.reply.Refusal.TheVariants as refusal
-use Rattle.ct_session.specs.Statements.{ReadsAs, HasFault, IsTooDeep, IsUnspelled, IsTextFault, number_range, open_text, stray_byte, too_deep, unspelled, lexical_refusal, grammatical_refusal}
+use Rattle.ct_session.specs.Statements.{ReadsAs, HasFault, IsTextFault, number_range, open_text, stray_byte, too_deep, unspelled, lexical_refusal, grammatical_refusal}
 
 not_both : (b : Bool) → IsTrue b → IsFalse b → ⊥
 not_both true t f = absurd (false≢true (sym f))

@@ -1,4 +1,4 @@
-use Rattle.std.proofs.Common.{◌≡◌, [], ap, sym, subst, ◌∙◌}
+use Rattle.std.proofs.Common.{[], ap, sym, subst, ◌∙◌}
 use Rattle.ct_query.specs.declared.action.Resolved.TheVariants as resolved
 use Rattle.ct_query.specs.Plain as plain
 use Rattle.ct_query.specs.Views.{statement_of, query_of}

@@ -1,4 +1,3 @@
-use Rattle.std.specs.Prelude.{IfOk, IfErr}
 use Rattle.ct_rewrite.specs.History.{plain_history}
 use Rattle.ct_session.specs.Catalogue.{refused}
 use Rattle.ct_session.proofs.Answering.{unread_refused, ok_on, err_on}

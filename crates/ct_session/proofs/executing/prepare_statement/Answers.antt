@@ -1,6 +1,4 @@
 use Rattle.std.proofs.Common.{◌≡◌, [], refl, ap, sym, subst, ◌∙◌, arith}
-use Rattle.std.specs.Prelude.{Ok}
-use Rattle.ct_query.specs.declared.schema.Schema.{Schema}
 use Rattle.ct_query.specs.Fits.{FitsStatement}
 use Rattle.ct_query.specs.Schema.{schema}
 use Rattle.ct_query.specs.Views.{statement_of}

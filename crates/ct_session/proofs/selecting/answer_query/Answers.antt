@@ -1,4 +1,4 @@
-use Rattle.std.proofs.Common.{[], ap, length, sym, subst, ◌∙◌}
+use Rattle.std.proofs.Common.{ap, length, sym, subst, ◌∙◌}
 use Rattle.std.specs.Prelude.{Err}
 use Rattle.ct_query.specs.Fits.{Fits, width}
 use Rattle.ct_query.specs.Views.{query_of}
