@@ -1,5 +1,5 @@
 -- The derivation of a refutation is accepted.
-use Rattle.std.proofs.Common.{◌≡◌, ℕ, Bool, true, false, ◌&&◌, List, [], ◌∷◌, ◌++◌, ◌<◌, suc, length, map, replicate, drop, Some, refl, ap, ◌∙◌, sym, subst, arith, inl, inr, ℤ, append_assoc, append-nil}
+use Rattle.std.proofs.Common.{◌≡◌, ℕ, Bool, true, ◌&&◌, List, [], ◌∷◌, ◌++◌, ◌<◌, suc, length, map, replicate, drop, Some, refl, ap, ◌∙◌, sym, subst, arith, inl, inr, ℤ, append_assoc, append-nil}
 use Rattle.std.specs.Prelude.{Contains}
 use Rattle.std.specs.List.{list_all, list_any}
 use Rattle.std.proofs.lemmas.Bool.{and_parts, and_from, or_left, or_right, false≢true, lt-ltb}
@@ -16,7 +16,7 @@ use Rattle.ct_derivation.specs.declared.steps.Why.{Why}
 use Rattle.ct_derivation.specs.declared.steps.Why.TheVariants as why
 use Rattle.ct_derivation.specs.declared.steps.Step.{Step}
 use Rattle.ct_derivation.specs.declared.steps.Derivation.{Derivation}
-use Rattle.ct_derivation.specs.Literal.{Clause, same_sign, same_lit, has, same_members}
+use Rattle.ct_derivation.specs.Literal.{Clause, same_lit, has, same_members}
 use Rattle.ct_derivation.specs.Propagation.{follows}
 use Rattle.ct_derivation.specs.Variables.{signed}
 use Rattle.ct_derivation.specs.Accepts.{over_atoms, clauses_of, fits_atom, fits_lit, hints_of, gives, is_right, all_right, ends_empty, is_empty, accepts, Accepts}

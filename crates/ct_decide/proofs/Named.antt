@@ -1,5 +1,5 @@
 -- Literals over variables and over the atoms of these.
-use Rattle.std.proofs.Common.{◌≡◌, ℕ, zero, suc, ◌+◌, ◌-◌, ◌<◌, ◌≤◌, Bool, true, false, List, [], ◌∷◌, length, get_or, nat_eq, nat_lt, nat_le, refl, ap, ◌∙◌, sym, subst, arith, inl, inr, pos, negsuc, neg_ℤ, ℤ}
+use Rattle.std.proofs.Common.{◌≡◌, ℕ, zero, suc, ◌+◌, ◌-◌, ◌≤◌, Bool, true, false, List, [], ◌∷◌, length, get_or, nat_eq, nat_lt, nat_le, refl, ap, ◌∙◌, sym, subst, arith, pos, negsuc, neg_ℤ, ℤ}
 use Rattle.std.specs.Prelude.{Contains}
 use Rattle.std.specs.List.{list_all}
 use Rattle.std.specs.Ordering.{int_eq}
@@ -62,8 +62,8 @@ module _ (atoms : List Atom) (distinct : AreDistinct atoms) where
   carries = record { same = same; opposite = opposite } where
     same : (a b : ℤ) → is_literal (length atoms) a ≡ true → is_literal (length atoms) b ≡ true → same_lit (named atoms (signed a)) (named atoms (signed b)) ≡ int_eq a b
     same a b v w = both_ways _ _
-      (λ e. (Decides-int_eq a b).1 (one_literal a b v w (same_lit_is _ _ e)))
-      (λ e. subst (λ x. same_lit (named atoms (signed a)) (named atoms (signed x)) ≡ true) ((Decides-int_eq a b).0 e) (same_lit_self (named atoms (signed a))))
+        (λ e. (Decides-int_eq a b).1 (one_literal a b v w (same_lit_is _ _ e)))
+        (λ e. subst (λ x. same_lit (named atoms (signed a)) (named atoms (signed x)) ≡ true) ((Decides-int_eq a b).0 e) (same_lit_self (named atoms (signed a))))
 
     opposite : (a : ℤ) → is_literal (length atoms) a ≡ true → negated (named atoms (signed a)) ≡ named atoms (signed (neg_ℤ a))
     opposite (pos zero) v = absurd (false≢true v)
