@@ -30,7 +30,7 @@ use Rattle.ct_cnf.specs.declared.encoding.Encoded.{Encoded}
 use Rattle.ct_cnf.specs.Encoding.{named, through, origin_clause, AreOrigins, HasNodesBelow, HasPairsBelow}
 use Rattle.ct_decide.specs.Question.{IsEncoding}
 use Rattle.ct_decide.specs.Translation.{step, given_steps, learned_step, learned_steps, derivation_of}
-use Rattle.ct_cnf.proofs.Items.{mapped_item, unmapped_item}
+use Rattle.ct_word.proofs.Items.{mapped_item, unmapped_item}
 use Rattle.ct_decide.specs.Cut.{IsAtomBelow, IsHintOfLater, IsCut, kept, ranks, why_by, step_by, cut, all_hints, hints_at, HaveEarlier, AreNeeded, IsCutOf}
 use Rattle.ct_decide.proofs.Kept.{all_item, kept_item, kept_parts}
 use Rattle.ct_decide.proofs.Cuts.{hints_in, right_earlier, right_kept, end_kept, hint_kept}

@@ -12,7 +12,7 @@ use Rattle.ct_derivation.specs.Literal.{Clause}
 use Rattle.ct_derivation.specs.Propagation.{Literals, Look, Unfit, Falsified, Forces, look_at, meets, are_hints, follows}
 use Rattle.ct_derivation.specs.Accepts.{over_atoms, clause_of, clauses_of, fits_lit, hints_of, gives, is_right, all_right, ends_empty}
 use Rattle.ct_cnf.specs.Marks.{is_marked}
-use Rattle.ct_cnf.proofs.Items.{first_item, later_item, mapped_item, no_item}
+use Rattle.ct_word.proofs.Items.{first_item, later_item, mapped_item, no_item}
 use Rattle.ct_cnf.proofs.Walks.{marked_within}
 use Rattle.ct_decide.specs.Translation.{step}
 use Rattle.ct_decide.specs.Cut.{kept, rank, ranks, why_by, step_by, cut, hints_at, AreNeeded, IsHintOfLater}

@@ -6,7 +6,7 @@ use Rattle.std.proofs.lemmas.Bool.{false≢true, and_parts}
 use Rattle.std.proofs.lemmas.Option.{none-some}
 use Rattle.std.proofs.lemmas.List.{drop_more}
 use Rattle.ct_cnf.specs.Marks.{is_marked}
-use Rattle.ct_cnf.proofs.Items.{first_item, later_item, item_cases, no_item}
+use Rattle.ct_word.proofs.Items.{first_item, later_item, item_cases, no_item}
 use Rattle.ct_decide.specs.Cut.{kept, rank, ranks}
 
 pub all_item : {X : Type 0} (test : X → Bool) (xs : List X) (x : X) → list_all test xs ≡ true → Contains xs x → test x ≡ true

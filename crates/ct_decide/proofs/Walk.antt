@@ -10,7 +10,7 @@ use Rattle.ct_sat.specs.declared.verdict.Rup.{Rup}
 use Rattle.ct_sat.specs.Literal.{is_clause}
 use Rattle.ct_sat.specs.Learned.{clause_of}
 use Rattle.ct_cnf.specs.Marks.{is_marked, with_marks}
-use Rattle.ct_cnf.proofs.Items.{no_item}
+use Rattle.ct_word.proofs.Items.{no_item}
 use Rattle.ct_cnf.proofs.Walks.{still_marked, now_marked, marked_cases, marked_within}
 use Rattle.ct_decide.specs.Cut.{all_hints, hints_at, HaveEarlier, IsWithin, AreNeeded}
 
