@@ -4,6 +4,8 @@
 #[cfg(test)]
 mod arena;
 #[cfg(test)]
+mod chains;
+#[cfg(test)]
 mod changes;
 #[cfg(test)]
 mod conditions;
