@@ -55,12 +55,12 @@ module _ (words : List ℕ) (h : List PlainCommit) (actions : List PlainAction) 
   come_on = All-weaker (ComesFrom words h actions) (ComesFrom words h' actions')
       (λ t from. rows_wider words (IsTermFor h actions (read.Table t.name)) (IsTermFor h' actions' (read.Table t.name)) (wider (read.Table t.name)) t.rows from) db d.from
 
-  found_from : (name : List ℕ) (t : TableView) → find_table db name ≡ Some t → RowsFrom words t.rows (IsTermFor h' actions' (read.Table name))
+  pub found_from : (name : List ℕ) (t : TableView) → find_table db name ≡ Some t → RowsFrom words t.rows (IsTermFor h' actions' (read.Table name))
   found_from name t found =
       subst (λ n. RowsFrom words t.rows (IsTermFor h' actions' (read.Table n))) (found_name name t db found)
       (found_all (ComesFrom words h' actions') name t db (recursion_from_All (ComesFrom words h' actions') db come_on) found)
 
-  with_empty : (name : List ℕ) (columns : List (List ℕ)) → AreWorth words h' actions' (db ++ empty_table name columns ∷ []) → Denotes words h' actions' (db ++ empty_table name columns ∷ [])
+  pub with_empty : (name : List ℕ) (columns : List (List ℕ)) → AreWorth words h' actions' (db ++ empty_table name columns ∷ []) → Denotes words h' actions' (db ++ empty_table name columns ∷ [])
   with_empty name columns worth = record {
     worth = worth;
     from = All-push (ComesFrom words h' actions') db (empty_table name columns) come_on (All-nil _);
@@ -99,12 +99,12 @@ module _ (old new : List ℕ) (longer : IsPrefix old new) (formed : IsWellFormed
   now = denotes_grows old new longer first_formed h actions db d
 
   -- after the empty table
-  created_after : (name : List ℕ) (columns : List (List ℕ)) → Follows h actions h' actions' (λ v w. Some (created w name columns)) (record { name = name; columns = columns } ∷ [])
+  pub created_after : (name : List ℕ) (columns : List (List ℕ)) → Follows h actions h' actions' (λ v w. Some (created w name columns)) (record { name = name; columns = columns } ∷ [])
       → find_table db name ≡ None → Denotes new h' actions' (db ++ empty_table name columns ∷ [])
   created_after name columns f none = with_empty new h actions h' actions' db now f.terms writable name columns (created_worth new h actions h' actions' db now.worth name columns f none)
 
   -- after an assertion
-  asserted_after : (c : Condition) → Follows h actions h' actions' (λ v w. asserted v w c) [] → Denotes new h' actions' db
+  pub asserted_after : (c : Condition) → Follows h actions h' actions' (λ v w. asserted v w c) [] → Denotes new h' actions' db
   asserted_after c f = as_before new h actions h' actions' db now f.terms writable (asserted_worth new h actions h' actions' db now.worth c f)
 
   -- the rows of one of the tables, and others in their place
@@ -119,7 +119,7 @@ module _ (old new : List ℕ) (longer : IsPrefix old new) (formed : IsWellFormed
     same_cells_now = cells_grow old new longer (length t.columns) t.rows its_rows.each
 
     -- after `insert` of further rows, which are worth what the step adds
-    inserted_after : (more_of : World → Database → List (List Value)) → Follows h actions h' actions' (λ v w. Some (inserted w name (more_of v w))) [] → (more : List CRow)
+    pub inserted_after : (more_of : World → Database → List (List Value)) → Follows h actions h' actions' (λ v w. Some (inserted w name (more_of v w))) [] → (more : List CRow)
         → ((v : World) (w : Database) → world v h actions ≡ Some w → SameSet (value_of_rows old v more) (more_of v w))
         → (lines : List (List Term)) → IsSublist (cells_of old more) lines → patterns h' actions' name ≡ patterns h actions name ++ lines
         → ((u : Term) → TermOfRows old more u → IsTermFor h' actions' (read.Table name) u)
@@ -144,7 +144,7 @@ module _ (old new : List ℕ) (longer : IsPrefix old new) (formed : IsWellFormed
           ]
 
     -- after `delete` with a condition of the truth of the step's
-    deleted_after : (c : Condition) → Follows h actions h' actions' (λ v w. Some (deleted v w name c)) [] → (cond : ℕ) → SameTruth (condition_at old cond) c
+    pub deleted_after : (c : Condition) → Follows h actions h' actions' (λ v w. Some (deleted v w name c)) [] → (cond : ℕ) → SameTruth (condition_at old cond) c
         → ((u : Term) → TermBelow old cond u → IsNoColumn u → IsTermFor h' actions' (read.Table name) u)
         → ((v : World) → SameSet (value_of_rows new v rows) (filter (λ x. not (holds v x (condition_at old cond))) (value_of_rows old v t.rows)))
         → IsSublist (cells_of new rows) (cells_of old t.rows)

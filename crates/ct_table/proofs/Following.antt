@@ -103,7 +103,7 @@ commit_goes_on h c d x is =
     (changes_of-snoc h d ∙ ap (λ xs. changes_of h ++ xs) is ∙ sym (append_assoc (changes_of h) c.changes (x ∷ [])) ∙ ap (λ xs. xs ++ x ∷ []) (sym (changes_of-snoc h c)))
 
 module _ (h : List PlainCommit) (actions : List PlainAction) (a : PlainAction) where
-  more_read : (r s : Read) → Contains (r ∷ reads_of_actions actions) s → Contains (r ∷ reads_of_actions (actions ++ a ∷ [])) s
+  pub more_read : (r s : Read) → Contains (r ∷ reads_of_actions actions) s → Contains (r ∷ reads_of_actions (actions ++ a ∷ [])) s
   more_read r s of =
       subst (λ rs. Contains (r ∷ rs) s) (sym (flat_map-append action_reads actions (a ∷ [])))
       (Contains-append_left (r ∷ reads_of_actions actions) (reads_of_actions (a ∷ [])) s of)

@@ -19,3 +19,4 @@ pub mod Choosing
 pub mod Shared
 pub mod Naming
 pub mod Changing
+pub mod Acting

@@ -26,7 +26,7 @@ use Rattle.ct_table.proofs.Reaching.{behind, foremost, first_or_behind, at_or_un
 use Rattle.ct_table.proofs.Placed.{parts_are}
 
 -- the image of an item
-mapped : {A B : Type 0} (f : A → B) (xs : List A) (x : A) → Contains xs x → Contains (map f xs) (f x)
+pub mapped : {A B : Type 0} (f : A → B) (xs : List A) (x : A) → Contains xs x → Contains (map f xs) (f x)
 mapped f [] x h = absurd (omega (arith, h.1))
 mapped f (y ∷ ys) x h = elim (first_or_behind y ys x h) [
   | inl e ↦ subst (λ z. Contains (f y ∷ map f ys) (f z)) e (foremost (f y) (map f ys))
