@@ -20,3 +20,4 @@ pub mod Shared
 pub mod Naming
 pub mod Changing
 pub mod Acting
+pub mod Snapshots
