@@ -76,7 +76,7 @@ module _ (words : List ℕ) (h : List PlainCommit) (actions : List PlainAction) 
     writable = writable;
   }
 
-  as_before : AreWorth words h' actions' db → Denotes words h' actions' db
+  pub as_before : AreWorth words h' actions' db → Denotes words h' actions' db
   as_before worth = record { worth = worth; from = come_on; writable = writable }
 
 module _ (ws xs : List ℕ) (grown : IsPrefix ws xs) (formed : IsWellFormed ws) (h : List PlainCommit) (actions : List PlainAction) where

@@ -179,7 +179,7 @@ found_all P name t (x ∷ db) all f = by_test (same_text x.name name) refl (foun
 module _ (words : List ℕ) (h : List PlainCommit) (actions : List PlainAction) (h' : List PlainCommit) (actions' : List PlainAction)
     (db : List TableView) (d : AreWorth words h actions db) where
   -- what tables are worth after a step
-  worth_after : (step : World → Database → Option Database) → ((v : World) → world v h' actions' ≡ option_and_then (step v) (world v h actions)) → (after : List TableView)
+  pub worth_after : (step : World → Database → Option Database) → ((v : World) → world v h' actions' ≡ option_and_then (step v) (world v h actions)) → (after : List TableView)
       → ((v : World) (w : Database) → world v h actions ≡ Some w → SameDatabase (value_of_tables words v db) w → IfSome (step v w) (λ u. SameDatabase (value_of_tables words v after) u))
       → (v : World) → IfSome (world v h' actions') (λ w. SameDatabase (value_of_tables words v after) w)
   worth_after step worlds after each v =
@@ -190,7 +190,7 @@ module _ (words : List ℕ) (h : List PlainCommit) (actions : List PlainAction) 
         by_world (Some w) e s = each v w e s
 
   module _ (grow : (n : List ℕ) → IsSublist (patterns h actions n) (patterns h' actions' n)) where
-    kept_on : (t : TableView) → IsKept words h actions t → IsKept words h' actions' t
+    pub kept_on : (t : TableView) → IsKept words h actions t → IsKept words h' actions' t
     kept_on t k = record { rows = k.rows; in_pattern = sublist_of_sublist _ _ _ k.in_pattern (grow t.name) }
 
   -- the pattern of a table that is found

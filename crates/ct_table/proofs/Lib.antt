@@ -21,3 +21,4 @@ pub mod Naming
 pub mod Changing
 pub mod Acting
 pub mod Snapshots
+pub mod Carrying
