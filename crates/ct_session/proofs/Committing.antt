@@ -16,8 +16,8 @@ use Rattle.ct_history.specs.Kept.{kept_of}
 use Rattle.ct_rewrite.specs.declared.history.Commit.{Commit}
 use Rattle.ct_rewrite.specs.History.{plain_commit, plain_history, IsCommitFormed}
 use Rattle.ct_condition.proofs.Reached.{formed_before}
-use Rattle.ct_table.specs.Denotes.{TableView, Denotes}
-use Rattle.ct_table.proofs.Denoting.{denotes_grows}
+use Rattle.ct_table.specs.Denotes.{TableView, AreWorth}
+use Rattle.ct_table.proofs.Denoting.{worth_grows}
 use Rattle.ct_session.specs.Catalogue.{IsCatalogue, IsReady, IsAdmittedEverywhere}
 
 -- after words alone
@@ -34,7 +34,7 @@ still room pass pass' keeper keeper' tables history k longer within formed sessi
   within = within;
   well_formed = formed;
   commits = commits ∙ k.commits;
-  denotes = denotes_grows pass.words pass'.words longer (formed_before pass.words pass'.words longer formed) (plain_history history) tables k.denotes;
+  denotes = worth_grows pass.words pass'.words longer (formed_before pass.words pass'.words longer formed) (plain_history history) [] tables k.denotes;
   formed = k.formed;
   everywhere = k.everywhere;
   by_one = k.by_one;
@@ -74,8 +74,8 @@ further room pass pass' keeper keeper' tables after history changes commit k rea
       within = within;
       well_formed = formed;
       commits = commits ∙ ap (λ h. h ++ plain_commit commit ∷ []) k.commits ∙ sym printed;
-      denotes = subst (λ h. Denotes pass'.words h after) (sym printed)
-          (denotes_grows pass.words pass'.words longer (formed_before pass.words pass'.words longer formed) (plain_history history ++ plain_commit commit ∷ []) after ready.denotes);
+      denotes = subst (λ h. AreWorth pass'.words h [] after) (sym printed)
+          (worth_grows pass.words pass'.words longer (formed_before pass.words pass'.words longer formed) (plain_history history ++ plain_commit commit ∷ []) [] after ready.denotes);
       formed = All-push IsCommitFormed history commit k.formed ready.formed;
       everywhere = subst IsAdmittedEverywhere (sym printed) ready.everywhere;
       by_one = subst (All (λ c. c.session ≡ 1)) (sym printed)

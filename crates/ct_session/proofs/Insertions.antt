@@ -26,9 +26,10 @@ use Rattle.ct_rewrite.specs.declared.answer.AnswerRow.{AnswerRow}
 use Rattle.ct_rewrite.specs.declared.answer.Node.TheVariants as node
 use Rattle.ct_rewrite.specs.Nodes.{is_position}
 use Rattle.ct_rewrite.specs.History.{plain_row, plain_commit}
-use Rattle.ct_table.specs.Denotes.{TableView, IsKept, Denotes, find_table, with_table}
+use Rattle.ct_table.specs.Denotes.{TableView, IsKept, AreWorth, find_table, with_table}
 use Rattle.ct_table.specs.Tables.{cells_of, value_of_rows, IsRow, AreRows}
-use Rattle.ct_table.proofs.Denoting.{with_rows, found_all, inserted_denotes, denotes_grows}
+use Rattle.ct_table.proofs.Denoting.{with_rows, found_all, rows_worth, worth_grows}
+use Rattle.ct_table.proofs.Following.{one_more}
 use Rattle.ct_condition.proofs.Reached.{formed_before}
 use Rattle.ct_table.proofs.Growing.{plain_rows_grow, rows_grow, cells_grow, value_grows}
 use Rattle.ct_session.specs.State.{is_fresh}
@@ -49,9 +50,9 @@ rows_of_places words more grown width rs all = All-weaker (IsRow words width) (I
   }
 
 -- the rows of a table that is found are well formed
-pub rows_of_found : (words : List ℕ) (h : List PlainCommit) (db : List TableView) (d : Denotes words h db) (name : List ℕ) (t : TableView) → find_table db name ≡ Some t
+pub rows_of_found : (words : List ℕ) (h : List PlainCommit) (db : List TableView) (d : AreWorth words h [] db) (name : List ℕ) (t : TableView) → find_table db name ≡ Some t
     → AreRows words (length t.columns) t.rows
-rows_of_found words h db d name t found = (found_all (IsKept words h) name t db (recursion_from_All (IsKept words h) db d.kept) found).rows
+rows_of_found words h db d name t found = (found_all (IsKept words h []) name t db (recursion_from_All (IsKept words h []) db d.kept) found).rows
 
 -- a table that is found is not missing
 pub found_some : (o : Option TableView) (t : TableView) → o ≡ Some t → IsSome o
@@ -106,7 +107,7 @@ cells_as_terms : (words : List ℕ) (rs : List CRow) → map (λ (r : PlainRow).
 cells_as_terms words [] = refl
 cells_as_terms words (r ∷ rs) = ap (λ rest. map (term_at words) r.cells ∷ rest) (cells_as_terms words rs)
 
-module _ (h : List PlainCommit) (old rowed merged listed words : List ℕ) (db : List TableView) (d : Denotes old h db) (all : IsAdmittedEverywhere h) where
+module _ (h : List PlainCommit) (old rowed merged listed words : List ℕ) (db : List TableView) (d : AreWorth old h [] db) (all : IsAdmittedEverywhere h) where
   module _ (first : IsPrefix old rowed) (second : IsPrefix rowed merged) (third : IsPrefix merged listed) (fourth : IsPrefix listed words)
       (formed : IsWellFormed words) where
     module _ (name : List ℕ) (t : TableView) (found : find_table db name ≡ Some t) (tss : List (List Term)) (rs : List CRow)
@@ -157,9 +158,10 @@ module _ (h : List PlainCommit) (old rowed merged listed words : List ℕ) (db :
             printed = λ i. record { session = 1; number = n i; changes = (printed_rows number name tss ∙ sym in_words) i };
             formed = record { ordered = refl; placed = ap (λ b. b && true) (rows_placed tss) };
             denotes =
-                inserted_denotes words h (plain_commit commit) db
-                (denotes_grows old words from_old (formed_before old words from_old formed) h db d)
-                name (map row_under_true tss) (printed_rows number name tss) t rows found tuples_at_end (rows_grow merged words from_merged (formed_before merged words from_merged formed) (length t.columns) rows are) part_at_end;
+                rows_worth words h (h ++ plain_commit commit ∷ []) db
+                (worth_grows old words from_old (formed_before old words from_old formed) h [] db d)
+                name (map row_under_true tss) (one_more h (plain_commit commit) (Insert name (map row_under_true tss)) (printed_rows number name tss))
+                t rows found tuples_at_end (rows_grow merged words from_merged (formed_before merged words from_merged formed) (length t.columns) rows are) part_at_end;
             everywhere = still_everywhere h (plain_commit commit) (Insert name (map row_under_true tss)) (λ v w. refl) (printed_rows number name tss) all;
           }
 

@@ -12,7 +12,7 @@ use Rattle.ct_query.specs.Rows.{rows}
 use Rattle.ct_query.specs.Patterns.{pattern, query_pattern, count}
 use Rattle.ct_query.specs.Size.{size, rows_in}
 use Rattle.ct_table.specs.Tables.{cells_of, value_of_rows, AreRows}
-use Rattle.ct_table.specs.Denotes.{TableView, value_of_tables, IsKept, Denotes}
+use Rattle.ct_table.specs.Denotes.{TableView, value_of_tables, IsKept, AreWorth}
 use Rattle.ct_query.proofs.Sublists.{sublist_of_sublist}
 use Rattle.ct_table.proofs.ByTables.{cells_found, found-cons, rows_in_found, answered_by_tables, pattern_by_tables, size_by_tables}
 use Rattle.ct_table.specs.Counting.{count_of}
@@ -30,10 +30,10 @@ cells_by_name words (t ∷ db) name =
     ap (λ cs. if same_text t.name name then cells_of words t.rows else cs) (cells_by_name words db name)
     ∙ sym (found-cons (λ x. cells_of words x.rows) [] t db name)
 
-module _ (words : List ℕ) (h : List PlainCommit) (db : List TableView) (d : Denotes words h db) where
+module _ (words : List ℕ) (h : List PlainCommit) (db : List TableView) (d : AreWorth words h [] db) where
   -- the rows of the tables are well formed
   pub are_tables : AreTables words db
-  are_tables = All-weaker (IsKept words h) (λ t. AreRows words (length t.columns) t.rows) (λ t k. k.rows) db d.kept
+  are_tables = All-weaker (IsKept words h []) (λ t. AreRows words (length t.columns) t.rows) (λ t k. k.rows) db d.kept
 
   -- a printed table that answers the query over the tables means the query
   pub answer_means : IsAdmittedEverywhere h → (q : PlainQuery) (new : List ℕ) (columns : List (List ℕ)) (out : List CRow) (answer : Answer) → IsPrinted new columns out answer
@@ -44,15 +44,15 @@ module _ (words : List ℕ) (h : List PlainCommit) (db : List TableView) (d : De
     formed = printed.formed;
     means = λ v. record {
       worlds = printed.everywhere v ∙ sym (all v);
-      tuples = answered_by_tables words h db d v q (shown v answer) (subst (λ a. SameSet a (rows v q (value_of_tables words v db))) (sym (printed.tuples v)) (tuples v));
+      tuples = answered_by_tables words h [] db d v q (shown v answer) (subst (λ a. SameSet a (rows v q (value_of_tables words v db))) (sym (printed.tuples v)) (tuples v));
     };
     in_pattern = subst (λ cs. IsSublist cs (pattern h [] q)) (sym printed.cells)
-        (sublist_of_sublist _ _ _ (subst (λ p. IsSublist (cells_of new out) (query_pattern p q)) (λ i name. cells_by_name words db name i) part) (pattern_by_tables words h db d q));
+        (sublist_of_sublist _ _ _ (subst (λ p. IsSublist (cells_of new out) (query_pattern p q)) (λ i name. cells_by_name words db name i) part) (pattern_by_tables words h [] db d q));
   }
 
   -- a query that is too large over the tables is too large over the history
   pub is_past : (q : PlainQuery) → limit < size (rows_in (map count_of db)) q → limit < size (count h []) q
   is_past q past =
       let over = subst (λ counts. limit < size counts q) (λ i name. rows_in_found count_of (λ t. refl) (λ t. refl) db name i) past in
-      let at_most = size_by_tables words h db d q in
+      let at_most = size_by_tables words h [] db d q in
       omega (arith, over, at_most)

@@ -23,8 +23,9 @@ use Rattle.ct_rewrite.specs.History.{plain_commit}
 use Rattle.ct_word.specs.declared.kinds.Class.TheVariants as class
 use Rattle.ct_word.specs.WellFormed.{IsWellFormed, is_place_of}
 use Rattle.ct_condition.proofs.Reached.{formed_before}
-use Rattle.ct_table.specs.Denotes.{TableView, heading_of, Denotes, find_table, with_table}
-use Rattle.ct_table.proofs.Denoting.{created_denotes, denotes_grows}
+use Rattle.ct_table.specs.Denotes.{TableView, heading_of, AreWorth, find_table, with_table}
+use Rattle.ct_table.proofs.Denoting.{created_worth, worth_grows}
+use Rattle.ct_table.proofs.Following.{commit_follows}
 use Rattle.ct_session.specs.Catalogue.{IsAdmittedEverywhere, IsNewTable, IsOfferFor}
 
 -- the columns that a schema has for a name are those of the name's table
@@ -91,7 +92,7 @@ without_nodes number nodes name columns e = λ i. record { session = 1; number =
 
 -- the offer of a new table is ready
 pub new_table_is : (h : List PlainCommit) (old words : List ℕ) (db : List TableView) (name : List ℕ) (columns : List (List ℕ)) (list changes number : ℕ) (tables : List TableView)
-    → Denotes old h db → IsAdmittedEverywhere h → find_table db name ≡ None → IsWellFormed words → IsPrefix old words → number ≡ length h
+    → AreWorth old h [] db → IsAdmittedEverywhere h → find_table db name ≡ None → IsWellFormed words → IsPrefix old words → number ≡ length h
     → tables ≡ with_table db (record { name = name; columns = columns; rows = [] })
     → (before : List ℕ) → StandsAt before list (IsChangeList []) → IsTrue (is_place_of words class.ChangeList changes)
     → StandsAt words changes (IsChangeList (change_list_at before list ++ Create name columns ∷ []))
@@ -104,8 +105,9 @@ new_table_is h old words db name columns list changes number tables d all none w
         place = place;
         printed = printed_with number (length h) (Create name columns ∷ []) (change_list_at words changes) n (sym listed);
         formed = record { ordered = refl; placed = refl };
-        denotes = subst (λ ts. Denotes words (h ++ plain_commit commit ∷ []) ts) (sym (e ∙ with_new db (record { name = name; columns = columns; rows = [] }) none))
-            (created_denotes words h (plain_commit commit) db (denotes_grows old words longer (formed_before old words longer well) h db d) name columns refl none);
+        denotes = subst (λ ts. AreWorth words (h ++ plain_commit commit ∷ []) [] ts) (sym (e ∙ with_new db (record { name = name; columns = columns; rows = [] }) none))
+            (created_worth words h [] (h ++ plain_commit commit ∷ []) [] db (worth_grows old words longer (formed_before old words longer well) h [] db d) name columns
+            (commit_follows h (plain_commit commit) (Create name columns) refl) none);
         everywhere = still_everywhere h (plain_commit commit) (Create name columns) (λ v w. refl) refl all;
       };
       change = refl;

@@ -27,7 +27,7 @@ use Rattle.ct_rewrite.specs.History.{plain_commit, plain_history, IsCommitFormed
 use Rattle.ct_arena.specs.Seen.{Seen, Keeping}
 use Rattle.ct_table.specs.declared.error.TableError.{TableError}
 use Rattle.ct_table.specs.declared.error.TableError.TheVariants as fault
-use Rattle.ct_table.specs.Denotes.{TableView, Denotes}
+use Rattle.ct_table.specs.Denotes.{TableView, AreWorth}
 use Rattle.ct_transcript.specs.declared.reply.Answer.{Answer}
 use Rattle.ct_transcript.specs.Means.{IsAnswer, Means}
 use Rattle.ct_transcript.specs.declared.reply.Reply.{Reply}
@@ -49,7 +49,7 @@ use Rattle.ct_session.specs.State.{drawn}
 abbrev pub IsAdmittedEverywhere : List PlainCommit → Type 0
 IsAdmittedEverywhere h = (v : World) → IsSome (world v h [])
 
--- the keeper's list has the commits that are printed, all of session 1, and the tables denote them over the session's words
+-- the keeper's list has the commits that are printed, all of session 1, and the tables are worth what they make, over the session's words
 pub record IsCatalogue (room : ℕ) (pass : Seen) (keeper : Keeping) (tables : List TableView) (history : List Commit) : Type 0 where
   pub guest : keeper.guest ≡ None
   pub enrolled : keeper.enrolled ≡ 1
@@ -59,7 +59,7 @@ pub record IsCatalogue (room : ℕ) (pass : Seen) (keeper : Keeping) (tables : L
   pub within : length pass.words ≤ room
   pub well_formed : IsWellFormed pass.words
   pub commits : commits_of keeper.words ≡ plain_history history
-  pub denotes : Denotes pass.words (plain_history history) tables
+  pub denotes : AreWorth pass.words (plain_history history) [] tables
   pub formed : All IsCommitFormed history
   pub everywhere : IsAdmittedEverywhere (plain_history history)
   pub by_one : All (λ c. c.session ≡ 1) (plain_history history)
@@ -69,7 +69,7 @@ pub record IsReady (h : List PlainCommit) (words : List ℕ) (changes : ℕ) (co
   pub place : IsTrue (is_place_of words class.ChangeList changes)
   pub printed : plain_commit commit ≡ record { session = 1; number = length h; changes = change_list_at words changes }
   pub formed : IsCommitFormed commit
-  pub denotes : Denotes words (h ++ plain_commit commit ∷ []) tables
+  pub denotes : AreWorth words (h ++ plain_commit commit ∷ []) [] tables
   pub everywhere : IsAdmittedEverywhere (h ++ plain_commit commit ∷ [])
 
 -- an offer for an action, with which its changes agree: its change list, the commit that prints it, the tables after it,

@@ -1,11 +1,11 @@
 // CREATE: the offer of a new table.
 
-ghost use Rattle.std.specs.Prelude.{◌≡◌, ◌<◌, ◌^◌, length, IfOk, IfErr, None};
+ghost use Rattle.std.specs.Prelude.{◌≡◌, ◌<◌, ◌^◌, [], length, IfOk, IfErr, None};
 ghost use mathlib.Core.List.{IsPrefix};
 ghost use Rattle.ct_history.specs.Kept.{kept_of};
 ghost use Rattle.ct_query.specs.Plain as plain;
 ghost use Rattle.ct_rewrite.specs.History.{plain_history};
-ghost use Rattle.ct_table.specs.Denotes.{Denotes, find_table};
+ghost use Rattle.ct_table.specs.Denotes.{AreWorth, find_table};
 ghost use Rattle.ct_session.specs.Catalogue.{IsAdmittedEverywhere, IsOfferFor, IsWant};
 
 use crate::lists::commit_of;
@@ -33,7 +33,7 @@ pub fn offer_table<N: Site>(
     columns: List<Text>,
 ) -> Result<Offer, Refusal>
     requires few { length history.now < 2 ^ 16 }
-    requires denotes { Denotes pass.old.words (plain_history history.now) tables.now }
+    requires denotes { AreWorth pass.old.words (plain_history history.now) [] tables.now }
     requires everywhere { IsAdmittedEverywhere (plain_history history.now) }
     requires absent { find_table tables.now name ≡ None }
     ensures longer { IsPrefix pass.old.words pass.new.words }

@@ -6,7 +6,7 @@ ghost use Rattle.ct_history.specs.Kept.{kept_of};
 ghost use Rattle.ct_query.specs.Schema.{schema};
 ghost use Rattle.ct_query.specs.Views.{statement_of};
 ghost use Rattle.ct_rewrite.specs.History.{plain_history};
-ghost use Rattle.ct_table.specs.Denotes.{Denotes};
+ghost use Rattle.ct_table.specs.Denotes.{AreWorth};
 ghost use Rattle.ct_query.specs.Fits.{FitsStatement};
 ghost use Rattle.ct_session.specs.Built.{IsPlainBuilt};
 ghost use Rattle.ct_session.specs.Catalogue.{IsCatalogue, IsAdmittedEverywhere, IsPrepared, IsPreparedStatement, IsPreparedText, IsRefusedStatement, IsRefusedText, IsUnmet, name_refusal};
@@ -56,7 +56,7 @@ fn perform<N: Site>(
     resolved: Resolved,
 ) -> Result<Prepared, Refusal>
     requires few { length history.now < 2 ^ 16 }
-    requires denotes { Denotes pass.old.words (plain_history history.now) tables.now }
+    requires denotes { AreWorth pass.old.words (plain_history history.now) [] tables.now }
     requires everywhere { IsAdmittedEverywhere (plain_history history.now) }
     requires fits { FitsStatement (schema (plain_history history.now) []).tables (statement_of resolved) }
     requires built { IsPlainBuilt (statement_of resolved) }
@@ -111,7 +111,7 @@ fn prepare_statement<N: Site>(
     statement: &Statement,
 ) -> Result<Prepared, Refusal>
     requires few { length history.now < 2 ^ 16 }
-    requires denotes { Denotes pass.old.words (plain_history history.now) tables.now }
+    requires denotes { AreWorth pass.old.words (plain_history history.now) [] tables.now }
     requires everywhere { IsAdmittedEverywhere (plain_history history.now) }
     ensures longer { IsPrefix pass.old.words pass.new.words }
     ensures kept { kept_of pass.new ≡ kept_of pass.old }
@@ -147,7 +147,7 @@ fn prepare<N: Site>(
     text: &str,
 ) -> Result<Prepared, Refusal>
     requires few { length history.now < 2 ^ 16 }
-    requires denotes { Denotes pass.old.words (plain_history history.now) tables.now }
+    requires denotes { AreWorth pass.old.words (plain_history history.now) [] tables.now }
     requires everywhere { IsAdmittedEverywhere (plain_history history.now) }
     ensures longer { IsPrefix pass.old.words pass.new.words }
     ensures kept { kept_of pass.new ≡ kept_of pass.old }

@@ -9,7 +9,7 @@ ghost use Rattle.ct_history.specs.Kept.{kept_of};
 ghost use Rattle.ct_history.specs.Rows.{IsRowOf};
 ghost use Rattle.ct_rewrite.specs.History.{plain_history};
 ghost use Rattle.ct_table.specs.Shared.{view_of};
-ghost use Rattle.ct_table.specs.Denotes.{Denotes, find_table};
+ghost use Rattle.ct_table.specs.Denotes.{AreWorth, find_table};
 ghost use Rattle.ct_query.specs.Fits.{FitsCell};
 ghost use Rattle.ct_session.specs.State.{is_fresh};
 ghost use Rattle.ct_session.specs.Catalogue.{IsAdmittedEverywhere, IsReady, IsWant, IsOfferFor, row_under_true, row_under_first, rows_commit};
@@ -118,7 +118,7 @@ fn new_rows<N: Site>(
     rows: List<List<Term>>,
 ) -> Result<Offer, Refusal>
     requires few { length history.now < 2 ^ 16 }
-    requires denotes { Denotes pass.old.words (plain_history history.now) tables.now }
+    requires denotes { AreWorth pass.old.words (plain_history history.now) [] tables.now }
     requires everywhere { IsAdmittedEverywhere (plain_history history.now) }
     requires found { find_table tables.now name ≡ Some (view_of name table.now) }
     requires width { All (λ row. length row ≡ length table.now.columns) rows }
@@ -212,7 +212,7 @@ pub fn offer_rows<N: Site>(
     rows: List<List<Term>>,
 ) -> Result<Offer, Refusal>
     requires few { length history.now < 2 ^ 16 }
-    requires denotes { Denotes pass.old.words (plain_history history.now) tables.now }
+    requires denotes { AreWorth pass.old.words (plain_history history.now) [] tables.now }
     requires everywhere { IsAdmittedEverywhere (plain_history history.now) }
     requires found { IsSome (find_table tables.now name) }
     requires width { IfSome (find_table tables.now name) (λ t. All (λ row. length row ≡ length t.columns) rows) }

@@ -9,7 +9,7 @@ ghost use Rattle.ct_query.specs.Views.{query_of};
 ghost use Rattle.ct_query.specs.declared.action.Ask.TheVariants as ask;
 ghost use Rattle.ct_history.specs.Kept.{kept_of};
 ghost use Rattle.ct_rewrite.specs.History.{plain_history};
-ghost use Rattle.ct_table.specs.Denotes.{Denotes};
+ghost use Rattle.ct_table.specs.Denotes.{AreWorth};
 ghost use Rattle.ct_session.specs.Catalogue.{IsAdmittedEverywhere, IsAnswerFor, IsUnmet, unevaluated};
 
 use crate::printing::answer_of;
@@ -47,7 +47,7 @@ pub fn answer_query<N: Site>(
     columns: List<Text>,
     query: &Query,
 ) -> Result<Answer, Refusal>
-    requires denotes { Denotes pass.old.words (plain_history history.now) tables.now }
+    requires denotes { AreWorth pass.old.words (plain_history history.now) [] tables.now }
     requires everywhere { IsAdmittedEverywhere (plain_history history.now) }
     requires fits { Fits (schema (plain_history history.now) []).tables (query_of query.now) }
     requires named { length columns ≡ width (schema (plain_history history.now) []).tables (query_of query.now) }

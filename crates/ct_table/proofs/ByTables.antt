@@ -1,4 +1,4 @@
--- Queries over tables that denote a history, and over the history.
+-- Queries over tables that are worth what a history and further actions make, and over these.
 use Rattle.std.proofs.Common.{◌≡◌, ℕ, ◌≤◌, Bool, true, false, List, [], ◌∷◌, map, length, refl, sym, subst, ◌∙◌, arith}
 use Rattle.std.specs.Prelude.{Option, Some, None, IfSome, if◌then◌else◌}
 use Rattle.std.specs.Option.{option_map_or}
@@ -11,14 +11,14 @@ use Rattle.ct_word.specs.Sublist.{IsSublist}
 use Rattle.ct_word.specs.Change.{PlainCommit}
 use Rattle.ct_word.specs.Reading.{term_at}
 use Rattle.ct_query.specs.declared.schema.Count.{Count}
-use Rattle.ct_query.specs.Plain.{PlainQuery}
+use Rattle.ct_query.specs.Plain.{PlainQuery, PlainAction}
 use Rattle.ct_query.specs.Database.{Database, SameSet, SameDatabase}
 use Rattle.ct_query.specs.Rows.{rows}
 use Rattle.ct_query.specs.Worlds.{world}
 use Rattle.ct_query.specs.Patterns.{Patterns, patterns, pattern, query_pattern, count}
 use Rattle.ct_query.specs.Size.{size, rows_in}
 use Rattle.ct_table.specs.Tables.{cells_of}
-use Rattle.ct_table.specs.Denotes.{TableView, value_of_tables, IsKept, Denotes, find_table}
+use Rattle.ct_table.specs.Denotes.{TableView, value_of_tables, IsKept, AreWorth, find_table}
 use Rattle.ct_query.proofs.Sublists.{nothing_of}
 use Rattle.ct_table.proofs.Denoting.{found_name, found_all}
 use Rattle.ct_query.proofs.Sets.{same_set_on}
@@ -51,45 +51,45 @@ rows_in_found f names counts (t ∷ db) name =
     (λ i. if same_text (names t i) name then counts t i else rows_in_found f names counts db name i)
     ∙ sym (found-cons (λ x. length x.rows) 0 t db name)
 
-module _ (words : List ℕ) (h : List PlainCommit) (db : List TableView) (d : Denotes words h db) where
-  found_kept : (name : List ℕ) (t : TableView) → find_table db name ≡ Some t → IsKept words h t
-  found_kept name t e = found_all (IsKept words h) name t db (recursion_from_All (IsKept words h) db d.kept) e
+module _ (words : List ℕ) (h : List PlainCommit) (actions : List PlainAction) (db : List TableView) (d : AreWorth words h actions db) where
+  found_kept : (name : List ℕ) (t : TableView) → find_table db name ≡ Some t → IsKept words h actions t
+  found_kept name t e = found_all (IsKept words h actions) name t db (recursion_from_All (IsKept words h actions) db d.kept) e
 
-  found_part : (name : List ℕ) (t : TableView) → find_table db name ≡ Some t → IsSublist (cells_of words t.rows) (patterns h [] name)
-  found_part name t e = subst (λ n. IsSublist (cells_of words t.rows) (patterns h [] n)) (found_name name t db e) (found_kept name t e).in_pattern
+  found_part : (name : List ℕ) (t : TableView) → find_table db name ≡ Some t → IsSublist (cells_of words t.rows) (patterns h actions name)
+  found_part name t e = subst (λ n. IsSublist (cells_of words t.rows) (patterns h actions n)) (found_name name t db e) (found_kept name t e).in_pattern
 
   -- the cells of a table are, in order, a part of the cells that were ever inserted into it
-  pub cells_part : (name : List ℕ) → IsSublist (cells_found words db name) (patterns h [] name)
+  pub cells_part : (name : List ℕ) → IsSublist (cells_found words db name) (patterns h actions name)
   cells_part name = by_case (find_table db name) refl where
-    by_case : (o : Option TableView) → find_table db name ≡ o → IsSublist (option_map_or (λ t. cells_of words t.rows) o []) (patterns h [] name)
-    by_case None e = nothing_of (patterns h [] name)
+    by_case : (o : Option TableView) → find_table db name ≡ o → IsSublist (option_map_or (λ t. cells_of words t.rows) o []) (patterns h actions name)
+    by_case None e = nothing_of (patterns h actions name)
     by_case (Some t) e = found_part name t e
 
   -- a table has at most as many rows as different cells were ever inserted into it
-  pub tables_counted : (name : List ℕ) → rows_found db name ≤ count h [] name
+  pub tables_counted : (name : List ℕ) → rows_found db name ≤ count h actions name
   tables_counted name = by_case (find_table db name) refl where
-    by_case : (o : Option TableView) → find_table db name ≡ o → option_map_or (λ t. length t.rows) o 0 ≤ count h [] name
+    by_case : (o : Option TableView) → find_table db name ≡ o → option_map_or (λ t. length t.rows) o 0 ≤ count h actions name
     by_case None e = omega arith
     by_case (Some t) e =
-        subst (λ n. n ≤ count h [] name) (length-map t.rows (λ (r : CRow). map (term_at words) r.cells))
-        (rows_counted (cells_of words t.rows) (patterns h [] name) (found_kept name t e).rows.distinct (found_part name t e))
+        subst (λ n. n ≤ count h actions name) (length-map t.rows (λ (r : CRow). map (term_at words) r.cells))
+        (rows_counted (cells_of words t.rows) (patterns h actions name) (found_kept name t e).rows.distinct (found_part name t e))
 
   -- a query over the tables gives what it gives over the history
-  pub means_by_tables : (v : World) (q : PlainQuery) (w : Database) → world v h [] ≡ Some w → SameSet (rows v q (value_of_tables words v db)) (rows v q w)
+  pub means_by_tables : (v : World) (q : PlainQuery) (w : Database) → world v h actions ≡ Some w → SameSet (rows v q (value_of_tables words v db)) (rows v q w)
   means_by_tables v q w e = rows_same v q (value_of_tables words v db) w (subst (λ o. IfSome o (λ u. SameDatabase (value_of_tables words v db) u)) e (d.tables v))
 
   -- tuples that answer a query over the tables answer it over the history
   pub answered_by_tables : (v : World) (q : PlainQuery) (tuples : List (List Value)) → SameSet tuples (rows v q (value_of_tables words v db))
-      → IfSome (world v h []) (λ w. SameSet tuples (rows v q w))
-  answered_by_tables v q tuples s = by_world (world v h []) refl where
-    by_world : (o : Option Database) → world v h [] ≡ o → IfSome o (λ w. SameSet tuples (rows v q w))
+      → IfSome (world v h actions) (λ w. SameSet tuples (rows v q w))
+  answered_by_tables v q tuples s = by_world (world v h actions) refl where
+    by_world : (o : Option Database) → world v h actions ≡ o → IfSome o (λ w. SameSet tuples (rows v q w))
     by_world None e = tt
     by_world (Some w) e = same_set_on tuples (rows v q (value_of_tables words v db)) (rows v q w) s (means_by_tables v q w e)
 
   -- its cells over the tables are a part of its pattern
-  pub pattern_by_tables : (q : PlainQuery) → IsSublist (query_pattern (cells_found words db) q) (pattern h [] q)
-  pattern_by_tables q = pattern_part (cells_found words db) (patterns h []) cells_part q
+  pub pattern_by_tables : (q : PlainQuery) → IsSublist (query_pattern (cells_found words db) q) (pattern h actions q)
+  pattern_by_tables q = pattern_part (cells_found words db) (patterns h actions) cells_part q
 
   -- its size over the tables is at most that over the history
-  pub size_by_tables : (q : PlainQuery) → size (rows_found db) q ≤ size (count h []) q
-  size_by_tables q = size_grows (rows_found db) (count h []) tables_counted q
+  pub size_by_tables : (q : PlainQuery) → size (rows_found db) q ≤ size (count h actions) q
+  size_by_tables q = size_grows (rows_found db) (count h actions) tables_counted q

@@ -1,5 +1,6 @@
 pub mod Reaching
 pub mod Growing
+pub mod Following
 pub mod Denoting
 pub mod Selecting
 pub mod Firsts
@@ -16,3 +17,8 @@ pub mod Placed
 pub mod Adding
 pub mod Choosing
 pub mod Shared
+pub mod Naming
+pub mod Changing
+pub mod Acting
+pub mod Snapshots
+pub mod Carrying

@@ -25,7 +25,7 @@ use Rattle.ct_condition.proofs.Reached.{named_earlier, reached_earlier, no_term_
 use Rattle.ct_table.specs.Tables.{IsRow}
 use Rattle.ct_table.specs.Terms.{TermOfRow, TermOfRows, RowFrom, RowsFrom, IsNoColumn}
 
-both_all : {X : Type 0} (P Q R : X → Type 0) → ((x : X) → P x → Q x → R x) → (xs : List X) → All P xs → All Q xs → All R xs
+pub both_all : {X : Type 0} (P Q R : X → Type 0) → ((x : X) → P x → Q x → R x) → (xs : List X) → All P xs → All Q xs → All R xs
 both_all P Q R f [] ps qs = All-nil R
 both_all P Q R f (x ∷ xs) ps qs = All-cons R x xs (f x (All-head P x xs ps) (All-head Q x xs qs)) (both_all P Q R f xs (All-tail P x xs ps) (All-tail Q x xs qs))
 
@@ -222,20 +222,20 @@ left_field ws formed p w there k c is field =
 
 module _ (ws : List ℕ) (formed : IsWellFormed ws) where
   -- a place of a class has a word of it
-  word_of_place : (c : Class) (p : ℕ) → IsTrue (is_place_of ws c p) → (w : ℕ) × (slice_get ws p ≡ Some w) × (has_class (kind_of w) c ≡ true)
+  pub word_of_place : (c : Class) (p : ℕ) → IsTrue (is_place_of ws c p) → (w : ℕ) × (slice_get ws p ≡ Some w) × (has_class (kind_of w) c ≡ true)
   word_of_place c p e = by_case (slice_get ws p) refl where
     by_case : (o : Option ℕ) → slice_get ws p ≡ o → (w : ℕ) × (slice_get ws p ≡ Some w) × (has_class (kind_of w) c ≡ true)
     by_case (Some w) q = (w, q, sym (ap (λ o. is_word_of o c) q) ∙ e)
     by_case None q = absurd (false≢true (sym (ap (λ o. is_word_of o c) q) ∙ e))
 
-  named_by : (w : ℕ) (k : Kind) → kind_of w ≡ Some k → (t : Term) → BelowSome ws (places_of w) t → BelowSome ws (places_in (Some k) (left_of w) (right_of w)) t
+  pub named_by : (w : ℕ) (k : Kind) → kind_of w ≡ Some k → (t : Term) → BelowSome ws (places_of w) t → BelowSome ws (places_in (Some k) (left_of w) (right_of w)) t
   unfolding places_of
   named_by w k is t b = subst (λ o. BelowSome ws (places_in o (left_of w) (right_of w)) t) is b
 
   nothing_named : (t : Term) → BelowSome ws [] t → ⊥
   nothing_named t b = omega (arith, b.among.1)
 
-  one_named : (a : ℕ) (t : Term) → BelowSome ws (a ∷ []) t → TermBelow ws a t
+  pub one_named : (a : ℕ) (t : Term) → BelowSome ws (a ∷ []) t → TermBelow ws a t
   one_named a t b = elim (first_or_behind a [] b.place b.among) [ inl e ↦ subst (λ p. TermBelow ws p t) (sym e) b.below | inr n ↦ absurd (omega (arith, n.1)) ]
 
   -- no term stands below a number's high bits

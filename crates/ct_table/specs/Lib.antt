@@ -1,6 +1,8 @@
 pub mod Tables
 pub mod Terms
 pub mod Denotes
+pub mod Snapshot
+pub mod Following
 pub mod Merging
 pub mod Projection
 pub mod Building
