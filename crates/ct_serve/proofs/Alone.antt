@@ -57,7 +57,7 @@ begun room pass old keeper tables history o p k t h formed within =
         within = subst (λ ws. length ws ≤ room) (sym (ap (λ x. x.words) p)) within;
         well_formed = subst IsWellFormed (sym (ap (λ x. x.words) p)) formed;
         commits = ap (λ x. commits_of x.words) k ∙ ap (λ x. commits_of x.words) o ∙ no_commits;
-        denotes = record { tables = λ v. tt; kept = All-nil (IsKept pass.words []); names = no_names; headings = refl };
+        denotes = record { tables = λ v. tt; kept = All-nil (IsKept pass.words [] []); names = no_names; headings = refl };
         formed = All-nil IsCommitFormed;
         everywhere = λ v. refl;
         by_one = All-nil (λ c. c.session ≡ 1);

@@ -13,7 +13,7 @@ use Rattle.ct_word.specs.Sublist.{IsSublist}
 use Rattle.ct_word.specs.Condition.{True}
 use Rattle.ct_word.specs.Change.{PlainRow, Insert, PlainCommit}
 use Rattle.ct_word.specs.WellFormed.{IsWellFormed, is_place_of}
-use Rattle.ct_word.specs.Reading.{IsChangeList, as_change_list, change_list_at, term_at, plain_crow}
+use Rattle.ct_word.specs.Reading.{IsChangeList, as_change_list, change_list_at, plain_crow}
 use Rattle.ct_word.specs.Stands.{StandsAt}
 use Rattle.ct_word.proofs.Prefixes.{prefix_of_prefix, place_in_prefix}
 use Rattle.ct_query.specs.Plain as plain
@@ -30,6 +30,7 @@ use Rattle.ct_table.specs.Denotes.{TableView, IsKept, AreWorth, find_table, with
 use Rattle.ct_table.specs.Tables.{cells_of, value_of_rows, IsRow, AreRows}
 use Rattle.ct_table.proofs.Denoting.{with_rows, found_all, rows_worth, worth_grows}
 use Rattle.ct_table.proofs.Following.{one_more}
+use Rattle.ct_table.proofs.Changing.{cells_listed}
 use Rattle.ct_condition.proofs.Reached.{formed_before}
 use Rattle.ct_table.proofs.Growing.{plain_rows_grow, rows_grow, cells_grow, value_grows}
 use Rattle.ct_session.specs.State.{is_fresh}
@@ -102,11 +103,6 @@ pub rows_agree : (h : List PlainCommit) (number : ℕ) (name : List ℕ) (tss : 
 rows_agree h number name tss =
     subst (λ xs. Agrees h (plain.InsertRows name tss True ∷ []) xs) (sym (printed_rows number name tss)) ((refl, terms_of_rows tss, rows_where_true tss), tt)
 
--- the cells of rows of places, as the terms of the rows that they stand for
-cells_as_terms : (words : List ℕ) (rs : List CRow) → map (λ (r : PlainRow). r.cells) (map (plain_crow words) rs) ≡ cells_of words rs
-cells_as_terms words [] = refl
-cells_as_terms words (r ∷ rs) = ap (λ rest. map (term_at words) r.cells ∷ rest) (cells_as_terms words rs)
-
 module _ (h : List PlainCommit) (old rowed merged listed words : List ℕ) (db : List TableView) (d : AreWorth old h [] db) (all : IsAdmittedEverywhere h) where
   module _ (first : IsPrefix old rowed) (second : IsPrefix rowed merged) (third : IsPrefix merged listed) (fourth : IsPrefix listed words)
       (formed : IsWellFormed words) where
@@ -143,7 +139,7 @@ module _ (h : List PlainCommit) (old rowed merged listed words : List ℕ) (db :
               (subst (λ x. SameSet (value_of_rows merged v rows) (value_of_rows rowed v t.rows ++ shown_rows v x)) stand (tuples v)))
 
           as_terms : cells_of rowed rs ≡ map (λ (r : PlainRow). r.cells) (map row_under_true tss)
-          as_terms = sym (cells_as_terms rowed rs) ∙ ap (map (λ (r : PlainRow). r.cells)) stand
+          as_terms = sym (cells_listed rowed rs) ∙ ap (map (λ (r : PlainRow). r.cells)) stand
 
           part_at_end : IsSublist (cells_of words rows) (cells_of words t.rows ++ map (λ (r : PlainRow). r.cells) (map row_under_true tss))
           part_at_end =

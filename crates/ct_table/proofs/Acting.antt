@@ -1,11 +1,10 @@
 -- Tables go on denoting a history and further actions, by the operator's contract, as one action more is done.
 use Rattle.std.proofs.Common.{◌≡◌, ℕ, Bool, true, false, not, List, [], ◌∷◌, ◌++◌, map, length, refl, ap, sym, subst, ◌∙◌, inl, inr}
-use Rattle.std.specs.Prelude.{◌⊎◌, Option, Some, None, IsTrue, All, filter, option_and_then, if◌then◌else◌}
+use Rattle.std.specs.Prelude.{◌⊎◌, Option, Some, None, All, filter, option_and_then, if◌then◌else◌}
 use Rattle.std.specs.List.{Contains, AllByRecursion}
 use Rattle.std.proofs.lemmas.List.{append-nil}
 use Rattle.std.proofs.lemmas.List.Elements.{All-contains, All-contains_itself, All-from_recursion, recursion_from_All, Contains-push, Contains-append_left}
 use mathlib.Core.List.{IsPrefix}
-use Rattle.ct_word.specs.declared.values.Value.{Value}
 use Rattle.ct_word.specs.declared.values.Term.{Term}
 use Rattle.ct_word.specs.declared.values.CRow.{CRow}
 use Rattle.ct_word.specs.Value.{World, same_text, tuple_at}
@@ -17,8 +16,6 @@ use Rattle.ct_word.specs.Reading.{condition_at, term_at, plain_crow}
 use Rattle.ct_word.specs.Stands.{TermBelow}
 use Rattle.ct_query.specs.Plain as plain
 use Rattle.ct_query.specs.Plain.{PlainQuery, PlainAction}
-use Rattle.ct_query.specs.declared.schema.Heading.{Heading}
-use Rattle.ct_query.specs.declared.action.Read.{Read}
 use Rattle.ct_query.specs.declared.action.Read.TheVariants as read
 use Rattle.ct_query.specs.Database.{Database, SameSet, with_tuples}
 use Rattle.ct_query.specs.Rows.{rows}
@@ -33,11 +30,11 @@ use Rattle.ct_query.proofs.Laws.{patterns_action}
 use Rattle.ct_query.proofs.Sets.{same_set_itself, same_set_on}
 use Rattle.ct_query.proofs.Sublists.{all_of, sublist_of_sublist}
 use Rattle.ct_query.proofs.Within.{of_added}
-use Rattle.ct_table.specs.Tables.{cells_of, value_of_rows, IsRow, AreRows}
+use Rattle.ct_table.specs.Tables.{cells_of, value_of_rows, AreRows}
 use Rattle.ct_table.specs.Terms.{TermOfRows, RowsFrom, IsNoColumn}
 use Rattle.ct_table.specs.Denotes.{TableView, value_of_tables, IsTermFor, by_change, by_action, Denotes, find_table, with_table}
 use Rattle.ct_table.specs.Following.{Follows}
-use Rattle.ct_table.proofs.Reaching.{first_or_behind, from_rows, foremost, behind}
+use Rattle.ct_table.proofs.Reaching.{first_or_behind, from_rows, behind}
 use Rattle.ct_table.proofs.Following.{action_follows, more_read, lines_here}
 use Rattle.ct_table.proofs.Denoting.{empty_table, with_rows}
 use Rattle.ct_table.proofs.ByTables.{cells_found, means_by_tables, pattern_by_tables}

@@ -1,25 +1,23 @@
 -- What tables denote, carried to other histories that say the same: of the same changes, of the same commits, or with a commit
 -- of changes that agree with the actions.
-use Rattle.std.proofs.Common.{◌≡◌, ℕ, true, List, [], ◌∷◌, ◌++◌, refl, ap, sym, subst, ◌∙◌}
+use Rattle.std.proofs.Common.{◌≡◌, ℕ, List, [], ◌∷◌, ◌++◌, refl, ap, sym, subst, ◌∙◌}
 use Rattle.std.specs.Prelude.{Option, Some, None, IfSome, IsTrue, All, filter_map, option_and_then}
 use Rattle.std.specs.List.{Contains, list_all}
 use Rattle.std.proofs.lemmas.List.{append-nil}
 use Rattle.std.proofs.lemmas.List.Elements.{All-weaker}
-use mathlib.Core.List.{IsPrefix}
 use Rattle.ct_word.specs.declared.values.Term.{Term}
 use Rattle.ct_word.specs.Value.{World}
 use Rattle.ct_word.specs.Sublist.{IsSublist}
 use Rattle.ct_word.specs.Writable.{is_writable}
 use Rattle.ct_word.specs.StandsFor.{SameCommits}
 use Rattle.ct_word.specs.Change.{PlainCommit}
-use Rattle.ct_word.specs.Reading.{condition_at}
 use Rattle.ct_query.specs.Plain.{PlainAction, Table}
 use Rattle.ct_query.specs.declared.action.Read.{Read}
 use Rattle.ct_query.specs.declared.action.Read.TheVariants as read
 use Rattle.ct_query.specs.Database.{Database, Relation, SameRelation, SameDatabase}
-use Rattle.ct_query.specs.Worlds.{world, after_changes, changes_of, admits}
+use Rattle.ct_query.specs.Worlds.{world, after_changes, changes_of}
 use Rattle.ct_query.specs.Patterns.{no_patterns, patterns, pattern_changes}
-use Rattle.ct_query.specs.Schema.{schema, created_by_change}
+use Rattle.ct_query.specs.Schema.{created_by_change}
 use Rattle.ct_query.specs.Agrees.{Agrees}
 use Rattle.ct_query.specs.Committed.{SameWorld}
 use Rattle.ct_query.proofs.Keeping.{same_keeps}
@@ -28,7 +26,6 @@ use Rattle.ct_query.proofs.Sets.{same_set_on}
 use Rattle.ct_query.proofs.Sublists.{all_of}
 use Rattle.ct_condition.specs.Terms.{TermsFrom}
 use Rattle.ct_table.specs.Tables.{cells_of}
-use Rattle.ct_table.specs.Terms.{RowsFrom}
 use Rattle.ct_table.specs.Denotes.{TableView, value_of_tables, IsKept, AreWorth, IsTermFor, by_change, by_action, Denotes}
 use Rattle.ct_table.specs.Snapshot.{IsGlobal, IsKeptWorld}
 use Rattle.ct_table.specs.Following.{Follows}

@@ -1,16 +1,15 @@
 -- Tables go on denoting a history and further actions, by the contract of the operator that changes them.
-use Rattle.std.proofs.Common.{◌≡◌, ℕ, Bool, true, false, not, List, [], ◌∷◌, ◌++◌, map, length, refl, ap, sym, subst, ◌∙◌, inl, inr}
-use Rattle.std.specs.Prelude.{◌⊎◌, Some, None, IsTrue, All, filter, flat_map, if◌then◌else◌}
-use Rattle.std.specs.List.{Contains, AllByRecursion, list_all}
-use Rattle.std.proofs.lemmas.List.{append-nil}
-use Rattle.std.proofs.lemmas.List.Elements.{All-nil, All-weaker, All-push, All-contains, All-from_recursion, recursion_from_All, Contains-push, Contains-append_cases, Contains-append_left, Contains-append_right}
+use Rattle.std.proofs.Common.{◌≡◌, ℕ, Bool, true, not, List, [], ◌∷◌, ◌++◌, map, length, refl, ap, sym, subst, inl, inr}
+use Rattle.std.specs.Prelude.{◌⊎◌, Some, None, IsTrue, All, filter}
+use Rattle.std.specs.List.{Contains, list_all}
+use Rattle.std.proofs.lemmas.List.Elements.{All-nil, All-weaker, All-push, All-from_recursion, recursion_from_All, Contains-push, Contains-append_cases}
 use mathlib.Core.List.{IsPrefix}
 use Rattle.ct_word.specs.declared.kinds.Class.TheVariants as class
 use Rattle.ct_word.specs.declared.values.Value.{Value}
 use Rattle.ct_word.specs.declared.values.Term.{Term}
 use Rattle.ct_word.specs.declared.values.CRow.{CRow}
-use Rattle.ct_word.specs.Value.{World, same_text, tuple_at}
-use Rattle.ct_word.specs.Condition.{Condition, SameTruth, holds, holds_at}
+use Rattle.ct_word.specs.Value.{World, same_text}
+use Rattle.ct_word.specs.Condition.{Condition, SameTruth, holds}
 use Rattle.ct_word.specs.Sublist.{IsSublist}
 use Rattle.ct_word.specs.WellFormed.{IsWellFormed, is_place_of}
 use Rattle.ct_word.specs.Writable.{is_writable}
@@ -19,31 +18,27 @@ use Rattle.ct_word.specs.Reading.{condition_at, term_at, plain_crow}
 use Rattle.ct_word.specs.Stands.{TermBelow}
 use Rattle.ct_word.proofs.Alike.{text_decides}
 use Rattle.ct_word.proofs.Packed.{true_left, true_right, true_both}
-use Rattle.ct_query.specs.Plain as plain
-use Rattle.ct_query.specs.Plain.{PlainQuery, PlainAction}
+use Rattle.ct_query.specs.Plain.{PlainAction}
 use Rattle.ct_query.specs.declared.action.Read.{Read}
 use Rattle.ct_query.specs.declared.action.Read.TheVariants as read
-use Rattle.ct_query.specs.Database.{Database, SameSet, changed}
+use Rattle.ct_query.specs.Database.{Database, SameSet}
 use Rattle.ct_query.specs.Rows.{rows}
 use Rattle.ct_query.specs.Step.{created, inserted, deleted, asserted, shown_rows}
 use Rattle.ct_query.specs.Worlds.{world, changes_of}
-use Rattle.ct_query.specs.Patterns.{patterns, pattern, query_pattern}
-use Rattle.ct_query.specs.Terms.{change_terms, action_terms}
-use Rattle.ct_query.proofs.Laws.{patterns_action}
+use Rattle.ct_query.specs.Patterns.{patterns}
 use Rattle.ct_query.proofs.Sets.{same_set_itself, same_set_on, same_set-append}
 use Rattle.ct_query.proofs.SameRows.{same_set_filter}
 use Rattle.ct_query.proofs.Sublists.{all_of, sublist_of_sublist}
 use Rattle.ct_condition.proofs.Reached.{formed_before}
 use Rattle.ct_table.specs.Tables.{cells_of, value_of_rows, IsRow, AreRows}
 use Rattle.ct_table.specs.Terms.{TermOfRows, RowsFrom, IsNoColumn}
-use Rattle.ct_table.specs.Denotes.{TableView, value_of_tables, IsKept, AreWorth, IsTermFor, by_change, by_action, Denotes, find_table, with_table}
+use Rattle.ct_table.specs.Denotes.{TableView, IsKept, AreWorth, IsTermFor, by_change, Denotes, find_table, with_table}
 use Rattle.ct_table.specs.Following.{Follows}
 use Rattle.ct_table.proofs.Reaching.{both_all, foremost, rows_wider, from_rows, rows_later}
 use Rattle.ct_table.proofs.Growing.{value_grows, cells_grow}
-use Rattle.ct_table.proofs.Following.{change_follows, action_follows, lines_here, lines_follow}
+use Rattle.ct_table.proofs.Following.{change_follows, lines_follow}
 use Rattle.ct_table.proofs.Denoting.{empty_table, with_rows, found_name, found_all, all_with_table, found_pattern, part_after, created_worth, changed_worth, inserted_worth, asserted_worth, worth_grows}
-use Rattle.ct_table.proofs.ByTables.{cells_found, means_by_tables, pattern_by_tables}
-use Rattle.ct_table.proofs.Naming.{condition_named, rows_named, row_terms}
+use Rattle.ct_table.proofs.Naming.{condition_named, rows_named}
 
 -- the terms below a table come from where the definition says
 abbrev ComesFrom : List ℕ → List PlainCommit → List PlainAction → TableView → Type 0
@@ -167,7 +162,7 @@ all_true_push f [] x all one = true_both (f x) true one refl
 all_true_push f (y ∷ xs) x all one = true_both (f y) (list_all f (xs ++ x ∷ [])) (true_left (f y) (list_all f xs) all) (all_true_push f xs x (true_right (f y) (list_all f xs) all) one)
 
 -- a row of places has the cells of the row that it stands for
-cells_listed : (words : List ℕ) (rs : List CRow) → map (λ (r : PlainRow). r.cells) (map (plain_crow words) rs) ≡ cells_of words rs
+pub cells_listed : (words : List ℕ) (rs : List CRow) → map (λ (r : PlainRow). r.cells) (map (plain_crow words) rs) ≡ cells_of words rs
 cells_listed words [] = refl
 cells_listed words (r ∷ rs) = ap (λ rest. map (term_at words) r.cells ∷ rest) (cells_listed words rs)
 

@@ -1,13 +1,13 @@
 -- What follows a history and further actions: one change more, or one action more.
 use Rattle.std.proofs.Common.{◌≡◌, ℕ, Bool, true, false, List, [], ◌∷◌, ◌++◌, map, refl, ap, sym, subst, ◌∙◌}
-use Rattle.std.specs.Prelude.{Option, Some, None, filter_map, flat_map, if◌then◌else◌}
+use Rattle.std.specs.Prelude.{Option, Some, None, filter_map, if◌then◌else◌}
 use Rattle.std.specs.List.{cons_option, Contains}
 use Rattle.std.specs.Option.{option_to_list}
 use Rattle.std.proofs.lemmas.List.{append-nil, append_assoc}
 use Rattle.std.proofs.lemmas.List.Concat.{flat_map-append}
 use Rattle.std.proofs.lemmas.List.Elements.{filter_map-append, Contains-append_left}
 use Rattle.ct_word.specs.declared.values.Term.{Term}
-use Rattle.ct_word.specs.Value.{World, same_text}
+use Rattle.ct_word.specs.Value.{same_text}
 use Rattle.ct_word.specs.Sublist.{IsSublist}
 use Rattle.ct_word.proofs.Alike.{text_decides}
 use Rattle.ct_word.specs.Change.{PlainRow, PlainChange, Create, Insert, Delete, Assert, PlainCommit}
@@ -18,7 +18,7 @@ use Rattle.ct_query.specs.declared.action.Read.{Read}
 use Rattle.ct_query.specs.Step.{step_change, step_action}
 use Rattle.ct_query.specs.Worlds.{after_changes, changes_of}
 use Rattle.ct_query.specs.Patterns.{Patterns, no_patterns, patterns, pattern_change, pattern_changes, pattern_action, with_lines, query_pattern}
-use Rattle.ct_query.specs.Schema.{schema, created_by_change, created_by_action}
+use Rattle.ct_query.specs.Schema.{created_by_change, created_by_action}
 use Rattle.ct_query.specs.Reads.{action_reads}
 use Rattle.ct_query.specs.Frame.{reads_of_actions}
 use Rattle.ct_query.proofs.Laws.{after_changes-append, world_action, pattern_changes-append, patterns_action, changes_of-snoc}

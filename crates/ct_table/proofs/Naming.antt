@@ -1,21 +1,19 @@
 -- A term that stands below a place is one of the terms of what the place stands for.
-use Rattle.std.proofs.Common.{◌≡◌, ℕ, zero, suc, ◌<◌, true, List, [], ◌∷◌, ◌++◌, map, Option, Some, None, refl, ap, sym, subst, ◌∙◌, arith, inl, inr}
-use Rattle.std.specs.Prelude.{◌⊎◌, IsTrue, All, slice_get, flat_map}
+use Rattle.std.proofs.Common.{◌≡◌, ℕ, zero, suc, ◌<◌, true, List, [], ◌∷◌, ◌++◌, map, Option, Some, refl, sym, subst, arith, inl, inr}
+use Rattle.std.specs.Prelude.{IsTrue, All, slice_get, flat_map}
 use Rattle.std.specs.List.{Contains}
 use Rattle.std.proofs.lemmas.Bool.{false≢true}
-use Rattle.std.proofs.lemmas.List.{append-nil}
-use Rattle.std.proofs.lemmas.List.Elements.{All-head, All-tail, All-contains, Contains-append_left, Contains-append_right}
+use Rattle.std.proofs.lemmas.List.Elements.{All-contains, Contains-append_left, Contains-append_right}
 use Rattle.ct_word.specs.declared.kinds.Kind.{Kind}
 use Rattle.ct_word.specs.declared.kinds.Kind.TheVariants as kind
 use Rattle.ct_word.specs.declared.kinds.Class.TheVariants as class
 use Rattle.ct_word.specs.declared.values.Term.{Term}
 use Rattle.ct_word.specs.declared.values.CRow.{CRow}
 use Rattle.ct_word.specs.Word.{kind_of, left_of, right_of}
-use Rattle.ct_word.specs.Condition.{Condition}
 use Rattle.ct_word.specs.Change.{PlainRow}
 use Rattle.ct_word.specs.WellFormed.{IsWellFormed, has_class, is_place_of}
 use Rattle.ct_word.specs.Reading.{condition_at, term_at, plain_crow}
-use Rattle.ct_word.specs.Stands.{TermBelow, places_of, places_in}
+use Rattle.ct_word.specs.Stands.{TermBelow, places_in}
 use Rattle.ct_query.specs.Terms.{condition_terms}
 use Rattle.ct_condition.specs.Terms.{BelowSome}
 use Rattle.ct_condition.proofs.Reached.{no_term_at}

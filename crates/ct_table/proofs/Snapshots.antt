@@ -1,6 +1,6 @@
 -- The global condition, the kept world and the whole of a snapshot: as words grow, and after one step.
-use Rattle.std.proofs.Common.{◌≡◌, ◌≤◌, ◌<◌, ℕ, Bool, true, false, ◌&&◌, List, [], ◌∷◌, ◌++◌, length, take, refl, ap, sym, subst, ◌∙◌, arith, inl, inr, take_all, length-append}
-use Rattle.std.specs.Prelude.{Option, Some, None, IsSome, IsTrue, All, is_some, option_and_then, if◌then◌else◌}
+use Rattle.std.proofs.Common.{◌≡◌, ◌≤◌, ℕ, Bool, true, false, ◌&&◌, List, [], ◌∷◌, ◌++◌, length, take, refl, ap, sym, subst, ◌∙◌, arith, inl, inr, take_all, length-append}
+use Rattle.std.specs.Prelude.{Option, Some, None, IsSome, IsTrue, is_some, option_and_then, if◌then◌else◌}
 use Rattle.std.specs.List.{Contains}
 use Rattle.std.proofs.lemmas.List.{take-append-le}
 use Rattle.std.proofs.lemmas.Option.{slice_get_within}
@@ -11,11 +11,11 @@ use Rattle.ct_word.specs.declared.values.Value.{Value}
 use Rattle.ct_word.specs.declared.values.Term.{Term}
 use Rattle.ct_word.specs.declared.values.Term.TheVariants as term
 use Rattle.ct_word.specs.Value.{World}
-use Rattle.ct_word.specs.Condition.{Condition, True, holds_at}
+use Rattle.ct_word.specs.Condition.{Condition, holds_at}
 use Rattle.ct_word.specs.Change.{Assert, PlainCommit}
 use Rattle.ct_word.specs.WellFormed.{IsWellFormed, is_place_of}
 use Rattle.ct_word.specs.Reading.{IsTerm, meanings, condition_at, commits_of}
-use Rattle.ct_word.specs.Stands.{StandsAt, TermBelow, HasNoColumn}
+use Rattle.ct_word.specs.Stands.{TermBelow, HasNoColumn}
 use Rattle.ct_word.specs.Later.{Later}
 use Rattle.ct_word.proofs.Growth.{length-read}
 use Rattle.ct_word.proofs.Prefixes.{place_within, place_in_prefix, stands_in_prefix, condition_in_prefix, commits_prefix}
