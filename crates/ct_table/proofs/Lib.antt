@@ -22,3 +22,4 @@ pub mod Changing
 pub mod Acting
 pub mod Snapshots
 pub mod Carrying
+pub mod Asked

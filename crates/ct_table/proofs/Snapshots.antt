@@ -1,5 +1,5 @@
 -- The global condition, the kept world and the whole of a snapshot: as words grow, and after one step.
-use Rattle.std.proofs.Common.{◌≡◌, ◌≤◌, ℕ, Bool, true, false, ◌&&◌, List, [], ◌∷◌, ◌++◌, length, take, refl, ap, sym, subst, ◌∙◌, arith, inl, inr, take_all, length-append}
+use Rattle.std.proofs.Common.{◌≡◌, ◌≤◌, ℕ, Bool, true, false, ◌&&◌, List, [], ◌∷◌, ◌++◌, length, take, refl, ap, sym, subst, ◌∙◌, ◌+◌, arith, inl, inr, take_all, length-append}
 use Rattle.std.specs.Prelude.{Option, Some, None, IsSome, IsTrue, is_some, option_and_then, if◌then◌else◌}
 use Rattle.std.specs.List.{Contains}
 use Rattle.std.proofs.lemmas.List.{take-append-le}
@@ -105,6 +105,18 @@ snapshot_of_all words db global kept d g k =
       condition = subst (λ h. IsGlobal words h [] global) all g;
       world = subst (λ h. IsKeptWorld words h [] kept) all k;
     }
+
+-- tables that denote the commits and one more, before its word is there, are the snapshot of the last version when it is
+pub snapshot_of_commit : (old new : List ℕ) → IsPrefix old new → IsWellFormed new → (c : PlainCommit) → commits_of new ≡ commits_of old ++ c ∷ []
+    → (db : List TableView) (global : ℕ) (kept : World) → Denotes old (commits_of old ++ c ∷ []) [] db → IsGlobal old (commits_of old ++ c ∷ []) [] global
+    → IsKeptWorld old (commits_of old ++ c ∷ []) [] kept → IsSnapshot new (length (commits_of old) + 1) db global kept
+snapshot_of_commit old new longer formed c appended db global kept d g k =
+    let h = commits_of old ++ c ∷ [] in
+    subst (λ n. IsSnapshot new n db global kept) (ap length appended ∙ length-append (commits_of old) (c ∷ []))
+    (snapshot_of_all new db global kept
+    (subst (λ cs. Denotes new cs [] db) (sym appended) (denotes_grows old new longer (formed_before old new longer formed) h [] db d))
+    (subst (λ cs. IsGlobal new cs [] global) (sym appended) (global_grows old new longer formed h [] global g))
+    (subst (λ cs. IsKeptWorld new cs [] kept) (sym appended) (kept_grows old new longer formed h [] kept k)))
 
 -- no tables denote the history without commits
 pub nothing_denotes : (words : List ℕ) → Denotes words [] [] []
