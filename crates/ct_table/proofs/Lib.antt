@@ -3,7 +3,9 @@ pub mod Growing
 pub mod Denoting
 pub mod Selecting
 pub mod Firsts
+pub mod Putting
 pub mod Merges
+pub mod Joining
 pub mod QuerySizes
 pub mod Counted
 pub mod ByTables
