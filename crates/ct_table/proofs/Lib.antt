@@ -4,7 +4,9 @@ pub mod Following
 pub mod Denoting
 pub mod Selecting
 pub mod Firsts
+pub mod Putting
 pub mod Merges
+pub mod Joining
 pub mod QuerySizes
 pub mod Counted
 pub mod ByTables

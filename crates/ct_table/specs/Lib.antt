@@ -11,3 +11,4 @@ pub mod Placing
 pub mod Shared
 pub mod Counting
 pub mod Refusals
+pub mod Growing

@@ -1,0 +1,131 @@
+-- Conditions joined to those that rows have already.
+use Rattle.std.proofs.Common.{◌≡◌, ℕ, Bool, true, false, ◌||◌, ◌<◌, List, [], ◌∷◌, ◌++◌, map, Option, None, Some, Ok, Err, length, refl, ap, sym, subst, ◌∙◌, arith}
+use Rattle.std.specs.Prelude.{◌≢◌, IsTrue, ◌^◌, All, Result, IfOk}
+use Rattle.std.proofs.lemmas.List.Elements.{All-head, All-tail}
+use mathlib.Core.List.{IsPrefix}
+use Rattle.ct_word.specs.declared.kinds.Class.TheVariants as class
+use Rattle.ct_word.specs.Condition.{holds}
+use Rattle.ct_word.specs.WellFormed.{IsWellFormed, is_place_of}
+use Rattle.ct_word.specs.Reading.{condition_at}
+use Rattle.ct_word.proofs.Prefixes.{place_in_prefix, place_within, condition_in_prefix}
+use Rattle.ct_arena.specs.Counts.{opening}
+use Rattle.ct_condition.specs.Truth.{HasTruth, or_at, truth_at}
+use Rattle.ct_condition.proofs.Truths.{false_at}
+use Rattle.ct_word.specs.declared.values.CRow.{CRow}
+use Rattle.std.specs.List.{filter}
+use Rattle.std.proofs.lemmas.List.{map-append}
+use Rattle.ct_word.specs.Value.{World, same_text, same_cells}
+use Rattle.ct_word.specs.Sublist.{IsSublist}
+use Rattle.ct_word.specs.Reading.{term_at}
+use Rattle.ct_word.proofs.Prefixes.{prefix_same}
+use Rattle.ct_query.specs.Database.{SameSet}
+use Rattle.ct_query.proofs.Sets.{same_set_itself}
+use Rattle.ct_table.specs.Tables.{AreRows, cells_of, value_of_rows, firsts}
+use Rattle.ct_table.specs.Terms.{TermOfRows, RowsFrom}
+use Rattle.ct_table.proofs.Firsts.{firsts_distinct, part_of_firsts}
+use Rattle.ct_table.proofs.Reaching.{rows_itself}
+use Rattle.ct_table.proofs.Selecting.{value-append}
+use Rattle.ct_table.specs.Merging.{rows_of, Merged, Gathers, is_possible}
+use Rattle.ct_table.specs.Growing.{find, put, put_each, grown, Apart, Fits, Joins, alone, with_first}
+use Rattle.ct_table.proofs.Merges.{entry_merged, entry_put, kept_rows, kept_values, kept_order, kept_from}
+use Rattle.ct_table.proofs.Putting.{find_hit, find_miss, none_some, find_among, find_after, put_more, fits_more, kept_of, keep, isnt, rows_grown}
+
+or_false : (a b : Bool) → (a || b) ≡ false → a ≡ (a || b)
+or_false true b e = e ∙ sym e
+or_false false b e = sym e
+
+-- where a disjunction is the word false, the first of the two conditions is false as well
+pub first_false : (old new : List ℕ) (p q : ℕ) → IsPrefix old new → IsWellFormed new → IsPrefix opening new → length new < 2 ^ 28 → IsTrue (is_place_of old class.Cond p)
+    → HasTruth new 1 (or_at old p q) → HasTruth new p (or_at old p q)
+first_false old new p q longer wf begins small is h = record {
+  class = there;
+  small = let within = place_within new class.Cond p there in omega (arith, within, small);
+  truth_is = λ v row.
+      ap (holds v row) (condition_in_prefix old new p longer (place_within old class.Cond p is))
+      ∙ or_false (truth_at old p v row) (truth_at old q v row) (sym (h.truth_is v row) ∙ (false_at new begins wf).truth_is v row);
+} where
+  there : IsTrue (is_place_of new class.Cond p)
+  there = place_in_prefix old new class.Cond p longer is
+
+pub if_ok_all : {T E : Type 0} (P Q R S : T → Type 0) (r : Result T E) → IfOk r P → IfOk r Q → IfOk r R → ((x : T) → P x → Q x → R x → S x) → IfOk r S
+if_ok_all P Q R S (Ok x) p q s f = f x p q s
+if_ok_all P Q R S (Err e) p q s f = tt
+
+-- the condition of a row that was found is not the word false
+found_possible : (k : List ℕ) (d : ℕ) (es : List (List ℕ × ℕ)) → find k es ≡ Some d → All (λ r. r.cond ≢ 1) (rows_of es) → d ≢ 1
+found_possible k d [] found all = none_some d (find k []) refl found
+found_possible k d (e ∷ es) found all = by_test (same_text k e.0) refl (found_possible k d es) where
+  by_test : (b : Bool) → same_text k e.0 ≡ b → (find k es ≡ Some d → All (λ r. r.cond ≢ 1) (rows_of es) → d ≢ 1) → d ≢ 1
+  by_test true p later =
+      let same : Some e.1 ≡ Some d = sym (find_hit k e es p) ∙ found in
+      let is : e.1 ≡ d = cc in
+      λ one. All-head (λ r. r.cond ≢ 1) (record { cells = e.0; cond = e.1 }) (rows_of es) all (is ∙ one)
+  by_test false p later = later (sym (find_miss k e es p) ∙ found) (All-tail (λ r. r.cond ≢ 1) (record { cells = e.0; cond = e.1 }) (rows_of es) all)
+
+-- no row is under the word false
+pub all_kept : (es : List (List ℕ × ℕ)) → All (λ r. r.cond ≢ 1) (rows_of es) → kept_of es ≡ es
+all_kept [] all = refl
+all_kept (e ∷ es) all =
+    keep e es false (isnt e.1 (All-head (λ r. r.cond ≢ 1) (record { cells = e.0; cond = e.1 }) (rows_of es) all))
+    ∙ ap (λ l. e ∷ l) (all_kept es (All-tail (λ r. r.cond ≢ 1) (record { cells = e.0; cond = e.1 }) (rows_of es) all))
+
+-- a row that is there has a condition after others were put, which is not the word false
+still_there : (k : List ℕ) (d : ℕ) (es ps : List (List ℕ × ℕ)) → Apart ps → Fits es ps → find k es ≡ Some d → d ≢ 1 → (f : ℕ) × (find k (put_each es ps) ≡ Some f) × (f ≢ 1)
+still_there k d es ps a fits there ne = by_case (find k ps) refl where
+  by_case : (o : Option ℕ) → find k ps ≡ o → (f : ℕ) × (find k (put_each es ps) ≡ Some f) × (f ≢ 1)
+  by_case (Some x) e = (x, find_among k x ps es a e, (fits k x d e there).1)
+  by_case None e = (d, find_after k ps es e ∙ there, ne)
+
+module _ (old new : List ℕ) (es ps : List (List ℕ × ℕ)) (r : CRow) (c : ℕ) (a : Apart ps) where
+  pub joins_merged : Joins old new (put_each es ps) r c → Merged old new (rows_of (put_each es ps)) r (rows_of (put_each es (put ps r.cells c)))
+  joins_merged (alone none is) = subst (λ l. Merged old new (rows_of (put_each es ps)) r (rows_of l)) (ap (put (put_each es ps) r.cells) (sym is) ∙ sym (put_more r.cells c ps es a))
+      (entry_put old new r.cells r.cond (put_each es ps) none)
+  joins_merged (with_first first found truth terms possible) = subst (λ l. Merged old new (rows_of (put_each es ps)) r (rows_of l)) (sym (put_more r.cells c ps es a))
+      (entry_merged old new r.cells r.cond first c (put_each es ps) found truth terms)
+
+  pub joins_fits : All (λ r. r.cond ≢ 1) (rows_of es) → Fits es ps → Joins old new (put_each es ps) r c → Fits es (put ps r.cells c)
+  joins_fits all fits joins = fits_more r.cells c es ps fits (λ d there. let ne = found_possible r.cells d es there all in (ne, by_join joins (still_there r.cells d es ps a fits there ne))) where
+    by_join : Joins old new (put_each es ps) r c → (f : ℕ) × (find r.cells (put_each es ps) ≡ Some f) × (f ≢ 1) → c ≢ 1
+    by_join (alone none is) f = none_some f.0 (find r.cells (put_each es ps)) none f.1
+    by_join (with_first first found truth terms possible) f =
+        let same : Some first ≡ Some f.0 = sym found ∙ f.1 in
+        let is : first ≡ f.0 = cc in
+        possible (λ one. f.2 (sym is ∙ one))
+
+-- a table is what its own rows gather to
+pub gathers_rows : (ws : List ℕ) (width : ℕ) (rows : List CRow) → AreRows ws width rows → Gathers ws ws width rows rows
+gathers_rows ws width rows are = record {
+  grown = prefix_same ws;
+  each = are.each;
+  distinct = are.distinct;
+  values = λ v. same_set_itself (value_of_rows ws v rows);
+  order = sym (firsts_distinct same_cells (cells_of ws rows) are.distinct);
+  from = rows_itself ws rows;
+}
+
+-- what a table grows to, when all rows were put
+module _ (old now : List ℕ) (width : ℕ) (es ps : List (List ℕ × ℕ)) (more : List CRow) (begins : IsPrefix opening now) (wf : IsWellFormed now) (a : Apart ps) (fits : Fits es ps)
+    (all : All (λ r. r.cond ≢ 1) (rows_of es)) (s : Gathers old now width (rows_of es ++ more) (rows_of (put_each es ps))) where
+  left : filter is_possible (rows_of (put_each es ps)) ≡ rows_of (grown es ps)
+  left = rows_grown ps es a fits (all_kept es all)
+
+  pub grown_rows : AreRows now width (rows_of (grown es ps))
+  grown_rows = subst (AreRows now width) left (kept_rows old now width (rows_of es ++ more) (rows_of (put_each es ps)) begins wf s)
+
+  pub grown_values : (v : World) → SameSet (value_of_rows now v (rows_of (grown es ps))) (value_of_rows old v (rows_of es) ++ value_of_rows old v more)
+  grown_values v =
+      subst (λ l. SameSet (value_of_rows now v l) (value_of_rows old v (rows_of es) ++ value_of_rows old v more)) left
+      (subst (SameSet (value_of_rows now v (filter is_possible (rows_of (put_each es ps))))) (value-append old v (rows_of es) more)
+      (kept_values old now width (rows_of es ++ more) (rows_of (put_each es ps)) begins wf s v))
+
+  pub grown_order : IsSublist (cells_of now (rows_of (grown es ps))) (firsts same_cells (cells_of old (rows_of es) ++ cells_of old more))
+  grown_order =
+      subst (λ l. IsSublist (cells_of now l) (firsts same_cells (cells_of old (rows_of es) ++ cells_of old more))) left
+      (subst (λ l. IsSublist (cells_of now (filter is_possible (rows_of (put_each es ps)))) (firsts same_cells l)) (map-append (λ (r : CRow). map (term_at old) r.cells) (rows_of es) more)
+      (kept_order old now width (rows_of es ++ more) (rows_of (put_each es ps)) begins wf s))
+
+  pub grown_part : IsSublist (cells_of now (rows_of (grown es ps))) (cells_of old (rows_of es) ++ cells_of old more)
+  grown_part = part_of_firsts same_cells _ _ grown_order
+
+  pub grown_from : RowsFrom now (rows_of (grown es ps)) (TermOfRows old (rows_of es ++ more))
+  grown_from = subst (λ l. RowsFrom now l (TermOfRows old (rows_of es ++ more))) left (kept_from old now width (rows_of es ++ more) (rows_of (put_each es ps)) begins wf s)

@@ -1,0 +1,42 @@
+use Rattle.std.proofs.Common.{◌≡◌, ◌≤◌, ◌+◌, ◌∷◌, [], ◌++◌, length, take, true, false, ap, sym, ◌∙◌, rules, arith}
+use Rattle.std.specs.Prelude.{nat_eq, if◌then◌else◌}
+use Rattle.std.proofs.lemmas.List.{take_more, take_all, length_push}
+use Rattle.std.proofs.lemmas.Iterator.Adapters.{YieldsList-from_vec}
+use Rattle.std.proofs.lemmas.Iterator.Consumers.{YieldsList-turn, YieldsList-end}
+use Rattle.ct_table.specs.Growing.{grown, put}
+use Rattle.ct_table.proofs.Putting.{grown_more}
+use Rattle.ct_table.proofs.stored.Stored.grow.Goals as goal
+
+pub loop-put-preserved-then-not-is_void : goal.loop-put-preserved-then-not-is_void
+loop-put-preserved-then-not-is_void c =
+    let es = c.args.self.now.entries in
+    let all = c.args.puts.items in
+    let n = length c.loop-put.yielded in
+    let p = c.in-Some.put in
+    let t = YieldsList-turn (YieldsList-from_vec all (search rules) (search rules)) c.loop-put.yielded _ c.loop-put.yielded_by _ c.next.new.self p c.in-Some.is c.next.ensures.steps in
+    let done : take n all ++ p ∷ [] ≡ take (length (c.loop-put.yielded ++ p ∷ [])) all =
+    ap (λ x. take n all ++ x ∷ []) t.1 ∙ sym (take_more all n p t.0) ∙ ap (λ k. take k all) (sym (length_push c.loop-put.yielded p)) in
+    let real : nat_eq p.1 1 ≡ false = sym c.is_void.ensures ∙ c.if-not-is_void.true in
+    record {
+      columns = c.put-then-not-is_void.ensures.columns ∙ c.loop-put.invariant.columns;
+      entries = c.put-then-not-is_void.ensures.entries ∙ ap (λ l. put l p.0 p.1) c.loop-put.invariant.entries
+          ∙ sym (sym (ap (grown es) done) ∙ grown_more p (take n all) es ∙ ap (λ b. if b then grown es (take n all) else put (grown es (take n all)) p.0 p.1) real);
+      room = let one = length_push c.loop-put.yielded p in omega (arith, one, c.loop-put.invariant.room, c.put-then-not-is_void.ensures.room);
+    }
+
+pub loop-put-preserved : goal.loop-put-preserved
+loop-put-preserved c =
+    let es = c.args.self.now.entries in
+    let all = c.args.puts.items in
+    let n = length c.loop-put.yielded in
+    let p = c.in-Some.put in
+    let t = YieldsList-turn (YieldsList-from_vec all (search rules) (search rules)) c.loop-put.yielded _ c.loop-put.yielded_by _ c.next.new.self p c.in-Some.is c.next.ensures.steps in
+    let done : take n all ++ p ∷ [] ≡ take (length (c.loop-put.yielded ++ p ∷ [])) all =
+    ap (λ x. take n all ++ x ∷ []) t.1 ∙ sym (take_more all n p t.0) ∙ ap (λ k. take k all) (sym (length_push c.loop-put.yielded p)) in
+    let void : nat_eq p.1 1 ≡ true = sym c.is_void.ensures ∙ c.if-not-is_void.false in
+    record {
+      columns = c.loop-put.invariant.columns;
+      entries = c.loop-put.invariant.entries
+          ∙ sym (sym (ap (grown es) done) ∙ grown_more p (take n all) es ∙ ap (λ b. if b then grown es (take n all) else put (grown es (take n all)) p.0 p.1) void);
+      room = let one = length_push c.loop-put.yielded p in omega (arith, one, c.loop-put.invariant.room);
+    }

@@ -1,0 +1,54 @@
+-- Rows of a table that get conditions in place.
+use Rattle.std.specs.Prelude.{◌≡◌, ◌≢◌, ℕ, nat_eq, List, [], ◌∷◌, map, Option, None, Some, if◌then◌else◌}
+use Rattle.std.specs.Cmp.Lexicographic.{pointwise}
+use Rattle.std.specs.Map.{lookup}
+use Rattle.indexmap.specs.IndexMap.{insert_entry}
+use Rattle.ct_word.specs.declared.values.CRow.{CRow}
+use Rattle.ct_word.specs.Value.{same_text}
+use Rattle.ct_condition.specs.Truth.{HasTruth, or_at}
+use Rattle.ct_condition.specs.Terms.{TermsFrom, BelowEither}
+use Rattle.ct_table.specs.declared.table.CTable.{CTable}
+use Rattle.ct_table.specs.Merging.{rows_of}
+
+-- the condition of the row with these cells, if there is one
+abbrev pub find : List ℕ → List (List ℕ × ℕ) → Option ℕ
+find cells es = lookup (same_text cells) es
+
+-- rows with this condition at these cells: in the row that has them, or in a new one, which stands last
+abbrev pub put : List (List ℕ × ℕ) → List ℕ → ℕ → List (List ℕ × ℕ)
+put es cells cond = insert_entry (pointwise nat_eq) es cells cond
+
+-- rows with each of these conditions at its cells
+abbrev pub put_each : List (List ℕ × ℕ) → List (List ℕ × ℕ) → List (List ℕ × ℕ)
+put_each es [] = es
+put_each es (p ∷ ps) = put_each (put es p.0 p.1) ps
+
+-- the same without the conditions that are the word false
+abbrev pub grown : List (List ℕ × ℕ) → List (List ℕ × ℕ) → List (List ℕ × ℕ)
+grown es [] = es
+grown es (p ∷ ps) = grown (if nat_eq p.1 1 then es else put es p.0 p.1) ps
+
+-- no two entries have the same cells
+abbrev pub Apart : List (List ℕ × ℕ) → Type 0
+Apart [] = Unit {0}
+Apart (p ∷ ps) = (find p.0 ps ≡ None) × Apart ps
+
+-- where a row is there already, its condition was not the word false, and is not the word false
+abbrev pub Fits : List (List ℕ × ℕ) → List (List ℕ × ℕ) → Type 0
+Fits es ps = (cells : List ℕ) (c d : ℕ) → find cells ps ≡ Some c → find cells es ≡ Some d → (d ≢ 1) × (c ≢ 1)
+
+-- a row's condition was joined to the one that its cells have; it is not the word false where that one is not
+pub data Joins (old new : List ℕ) (es : List (List ℕ × ℕ)) (r : CRow) (cond : ℕ) : Type 0 where
+  alone : find r.cells es ≡ None → cond ≡ r.cond → Joins old new es r cond
+  with_first : (first : ℕ) → find r.cells es ≡ Some first → HasTruth new cond (or_at old first r.cond) → TermsFrom new cond (BelowEither old first r.cond)
+      → (first ≢ 1 → cond ≢ 1) → Joins old new es r cond
+
+-- a table whose rows stand in a map from their cells to their conditions, with room for so many more
+pub record Keyed : Type 0 where
+  pub columns : List (List ℕ)
+  pub entries : List (List ℕ × ℕ)
+  pub room : ℕ
+
+-- the table
+abbrev pub table_of : Keyed → CTable
+table_of k = record { columns = k.columns; rows = rows_of k.entries }

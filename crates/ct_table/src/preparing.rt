@@ -1,0 +1,151 @@
+// What rows are to be inserted into a table that changes in place: found and made before it is touched.
+
+ghost use Rattle.std.specs.Prelude.{◌≡◌, ◌≢◌, ◌≤◌, ◌<◌, ◌+◌, ◌++◌, length, All, IfOk, OnOk, IsErrOf, IsTrue, is_err};
+ghost use mathlib.Core.List.{IsPrefix};
+ghost use Rattle.ct_word.specs.declared.kinds.Class.TheVariants as class;
+ghost use Rattle.ct_word.specs.Value.{World, same_cells};
+ghost use Rattle.ct_word.specs.Sublist.{IsSublist};
+ghost use Rattle.ct_word.specs.WellFormed.{IsWellFormed, is_place_of};
+ghost use Rattle.ct_query.specs.Database.{SameSet};
+ghost use Rattle.ct_condition.specs.Truth.{HasTruth, or_at};
+ghost use Rattle.ct_condition.specs.Terms.{TermsFrom, BelowEither};
+ghost use Rattle.ct_condition.specs.Writes.{Writes};
+ghost use Rattle.ct_table.specs.Tables.{IsRow, AreRows, value_of_rows, cells_of, firsts};
+ghost use Rattle.ct_table.specs.Merging.{rows_of, Merged};
+ghost use Rattle.ct_table.specs.Terms.{TermOfRows, RowsFrom};
+ghost use Rattle.ct_table.specs.Refusals.{is_full};
+ghost use Rattle.ct_table.specs.Growing.{find, put_each, grown, Apart, Fits, Joins};
+ghost use Rattle.ct_table.specs.declared.error.TableError.TheVariants as fault;
+
+use crate::error::TableError;
+use crate::rows::under;
+use crate::stored::{Put, Stored};
+use ct_arena::{Arena, Full, Site};
+use ct_condition::{Interner, or};
+use ct_word::{CRow, FALSE_PLACE, List};
+use indexmap::IndexMap;
+use std::alloc::{AllocError, Global};
+
+/// The place of the disjunction of two conditions; the first of them where the disjunction is the word false.
+fn joined<N: Site, I: Interner<N>>(
+    arena: &Arena<N>,
+    pass: &mut I,
+    present: u32,
+    cond: u32,
+) -> Result<u32, Full>
+    requires present { IsTrue (is_place_of (I.list pass.old) class.Cond present) }
+    requires cond { IsTrue (is_place_of (I.list pass.old) class.Cond cond) }
+    ensures truth { IfOk result (λ place. HasTruth (I.list pass.new) place (or_at (I.list pass.old) present cond)) }
+    ensures terms { IfOk result (λ place. TermsFrom (I.list pass.new) place (BelowEither (I.list pass.old) present cond)) }
+    ensures possible { IfOk result (λ place. present ≢ 1 → place ≢ 1) }
+    ensures writes { Writes I.list I.made I.kept I.lent N.log.cap pass.old pass.new 1 (is_err result) }
+{
+    let both = or(arena, pass, present, cond)?;
+    let _ = pass.words();
+    if both == FALSE_PLACE {
+        return Ok(present);
+    }
+    Ok(both)
+}
+
+/// The condition at these cells: that which was put there, else that of the table's row.
+fn present(
+    pending: &IndexMap<List<u32>, u32>,
+    stored: &Stored,
+    cells: &List<u32>,
+) -> Option<u32>
+    requires { Apart pending.now.entries }
+    ensures { result ≡ find cells.now (put_each stored.now.entries pending.now.entries) }
+{
+    match pending.get(cells) {
+        Some(cond) => Some(*cond),
+        None => stored.find(cells),
+    }
+}
+
+/// The condition of a row that is to be inserted, joined to the one that its cells have.
+fn joint<N: Site, I: Interner<N>>(
+    pending: &IndexMap<List<u32>, u32>,
+    arena: &Arena<N>,
+    pass: &mut I,
+    stored: &Stored,
+    row: &CRow,
+) -> Result<u32, Full>
+    requires rows { All (IsRow (I.list pass.old) (length row.now.cells)) (rows_of (put_each stored.now.entries pending.now.entries)) }
+    requires row { IsRow (I.list pass.old) (length row.now.cells) row.now }
+    requires apart { Apart pending.now.entries }
+    ensures joins { IfOk result (Joins (I.list pass.old) (I.list pass.new) (put_each stored.now.entries pending.now.entries) row.now) }
+    ensures writes { Writes I.list I.made I.kept I.lent N.log.cap pass.old pass.new 1 (is_err result) }
+{
+    let _ = pass.words();
+    match present(pending, stored, &row.cells) {
+        Some(first) => joined(arena, pass, first, row.cond),
+        None => Ok(row.cond),
+    }
+}
+
+/// Puts a row among those that are to be inserted.
+fn insert_row<N: Site, I: Interner<N>>(
+    pending: &mut IndexMap<List<u32>, u32>,
+    arena: &Arena<N>,
+    pass: &mut I,
+    stored: &Stored,
+    row: &CRow,
+) -> Result<(), TableError>
+    requires rows { All (IsRow (I.list pass.old) (length row.now.cells)) (rows_of (put_each stored.now.entries pending.old.entries)) }
+    requires row { IsRow (I.list pass.old) (length row.now.cells) row.now }
+    requires possible { All (λ r. r.cond ≢ 1) (rows_of stored.now.entries) }
+    requires apart { Apart pending.old.entries }
+    requires fits { Fits stored.now.entries pending.old.entries }
+    ensures merged { OnOk result (Merged (I.list pass.old) (I.list pass.new) (rows_of (put_each stored.now.entries pending.old.entries)) row.now (rows_of (put_each stored.now.entries pending.new.entries))) }
+    ensures apart { OnOk result (Apart pending.new.entries) }
+    ensures fits { OnOk result (Fits stored.now.entries pending.new.entries) }
+    ensures writes { Writes I.list I.made I.kept I.lent N.log.cap pass.old pass.new 1 (is_full result) }
+{
+    let cond = joint(pending, arena, pass, stored, row)?;
+    let new = under(row, cond)?;
+    pending.insert(new.cells, new.cond)?;
+    Ok(())
+}
+
+/// The conditions that have been put at cells, each ready to be moved into the table.
+fn ready(alloc: Global, pending: IndexMap<List<u32>, u32>) -> Result<Vec<Put>, AllocError>
+    ensures { IfOk result (λ puts. puts.items ≡ pending.entries) }
+{
+    let mut puts = Vec::with_capacity(alloc, pending.len())?;
+    for (cells, cond) in pending {
+        puts.push(Put::make(cells, cond)?)?;
+    }
+    Ok(puts)
+}
+
+/// The conditions to put at cells so that a table gets these rows. A row whose cells are there already is merged into
+/// the first of them, by the disjunction of their conditions, and rows under the word false are left out. The table
+/// stays as it is, with room for them.
+///
+/// # Errors
+/// `Full` where the log has no room for a condition, `Memory` where there is none for the rows.
+pub fn prepared<N: Site, I: Interner<N>>(
+    alloc: Global,
+    arena: &Arena<N>,
+    pass: &mut I,
+    stored: &Stored,
+    rows: &[CRow],
+) -> Result<Vec<Put>, TableError>
+    requires table { AreRows (I.list pass.old) (length stored.now.columns) (rows_of stored.now.entries) }
+    requires rows { All (IsRow (I.list pass.old) (length stored.now.columns)) rows.now }
+    ensures rows { IfOk result (λ out. AreRows (I.list pass.new) (length stored.now.columns) (rows_of (grown stored.now.entries out.items))) }
+    ensures tuples { (v : World) → IfOk result (λ out. SameSet (value_of_rows (I.list pass.new) v (rows_of (grown stored.now.entries out.items))) (value_of_rows (I.list pass.old) v (rows_of stored.now.entries) ++ value_of_rows (I.list pass.old) v rows.now)) }
+    ensures order { IfOk result (λ out. IsSublist (cells_of (I.list pass.new) (rows_of (grown stored.now.entries out.items))) (firsts same_cells (cells_of (I.list pass.old) (rows_of stored.now.entries) ++ cells_of (I.list pass.old) rows.now))) }
+    ensures part { IfOk result (λ out. IsSublist (cells_of (I.list pass.new) (rows_of (grown stored.now.entries out.items))) (cells_of (I.list pass.old) (rows_of stored.now.entries) ++ cells_of (I.list pass.old) rows.now)) }
+    ensures terms { IfOk result (λ out. RowsFrom (I.list pass.new) (rows_of (grown stored.now.entries out.items)) (TermOfRows (I.list pass.old) (rows_of stored.now.entries ++ rows.now))) }
+    ensures writes { Writes I.list I.made I.kept I.lent N.log.cap pass.old pass.new (length rows.now) (is_full result) }
+{
+    let _ = pass.words();
+    let mut pending = IndexMap::new(alloc);
+    for row in rows {
+        insert_row(&mut pending, arena, pass, stored, row)?;
+    }
+    let _ = pass.words();
+    Ok(ready(alloc, pending)?)
+}
