@@ -49,11 +49,7 @@ fn joined<N: Site, I: Interner<N>>(
 }
 
 /// The condition at these cells: that which was put there, else that of the table's row.
-fn present(
-    pending: &IndexMap<List<u32>, u32>,
-    stored: &Stored,
-    cells: &List<u32>,
-) -> Option<u32>
+fn present(pending: &IndexMap<List<u32>, u32>, stored: &Stored, cells: &List<u32>) -> Option<u32>
     requires { Apart pending.now.entries }
     ensures { result ≡ find cells.now (put_each stored.now.entries pending.now.entries) }
 {
@@ -121,7 +117,7 @@ fn ready(alloc: Global, pending: IndexMap<List<u32>, u32>) -> Result<Vec<Put>, A
 
 /// The conditions to put at cells so that a table gets these rows. A row whose cells are there already is merged into
 /// the first of them, by the disjunction of their conditions, and rows under the word false are left out. The table
-/// stays as it is, with room for them.
+/// stays as it is; `Stored::reserve` makes room for them, and `Stored::grow` puts them in.
 ///
 /// # Errors
 /// `Full` where the log has no room for a condition, `Memory` where there is none for the rows.
