@@ -10,8 +10,8 @@ ghost use Rattle.ct_table.specs.Terms.{TermOfRows, RowsFrom};
 ghost use Rattle.ct_table.specs.declared.error.TableError.TheVariants as fault;
 
 use crate::error::TableError;
-use crate::merging::merged;
-use crate::rows::{copy_rows, names};
+use crate::preparing::prepared;
+use crate::stored::Stored;
 use crate::table::CTable;
 use ct_arena::{Arena, Site};
 use ct_condition::Interner;
@@ -48,9 +48,10 @@ pub fn insert<N: Site, I: Interner<N>>(
 {
     // The words are within the capacity, also where memory is wanting.
     let _ = pass.words();
-    let columns = names(&table.columns)?;
-    let mut all = Vec::new(alloc);
-    copy_rows(&mut all, table.rows.as_slice())?;
-    copy_rows(&mut all, rows)?;
-    merged(alloc, arena, pass, columns, all)
+    let copy = table.copied(alloc)?;
+    let mut stored = Stored::make(alloc, copy)?;
+    let puts = prepared(alloc, arena, pass, &stored, rows)?;
+    stored.reserve(puts.len())?;
+    stored.grow(puts);
+    Ok(stored.into_table())
 }

@@ -6,7 +6,7 @@ ghost use Rattle.ct_table.specs.Growing as spec;
 ghost use Rattle.ct_table.specs.Growing.{Keyed, Apart, entries_of, grown, table_of};
 
 use crate::table::CTable;
-use ct_word::{CRow, FALSE_PLACE, List, Memory, Text};
+use ct_word::{CRow, FALSE_PLACE, List, Text};
 use indexmap::IndexMap;
 use std::alloc::{AllocError, Global};
 use std::marker::Model;
@@ -77,8 +77,8 @@ impl Stored {
     /// The table, with a map of its rows. Where cells stand twice, the later row's condition stands at the first place.
     ///
     /// # Errors
-    /// `Memory` where there is none for the map.
-    pub fn make(alloc: Global, table: CTable) -> Result<Stored, Memory>
+    /// `AllocError` where there is no memory for the map.
+    pub fn make(alloc: Global, table: CTable) -> Result<Stored, AllocError>
         ensures columns { IfOk result (λ s. s.columns ≡ table.columns) }
         ensures rows { Apart (entries_of table.rows) → IfOk result (λ s. rows_of s.entries ≡ table.rows) }
     {
@@ -132,8 +132,8 @@ impl Stored {
     /// Makes room for so many more rows, and leaves the table as it is.
     ///
     /// # Errors
-    /// `Memory` where there is none for them.
-    pub fn reserve(&mut self, more: usize) -> Result<(), Memory>
+    /// `AllocError` where there is no memory for them.
+    pub fn reserve(&mut self, more: usize) -> Result<(), AllocError>
         ensures columns { self.new.columns ≡ self.old.columns }
         ensures entries { self.new.entries ≡ self.old.entries }
         ensures room { OnOk result (more ≤ self.new.room) }
