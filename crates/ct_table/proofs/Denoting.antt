@@ -11,7 +11,7 @@ use mathlib.Core.List.{IsPrefix}
 use Rattle.ct_word.specs.declared.values.Value.{Value}
 use Rattle.ct_word.specs.declared.values.CRow.{CRow}
 use Rattle.ct_word.specs.Value.{World, same_text, same_cells}
-use Rattle.ct_word.specs.Sublist.{IsSublist, ended, left_out, taken}
+use Rattle.ct_word.specs.Sublist.{IsSublist}
 use Rattle.ct_word.specs.WellFormed.{IsWellFormed}
 use Rattle.ct_word.specs.Change.{PlainRow, Create, Insert, PlainCommit}
 use Rattle.ct_word.proofs.Alike.{text_decides}

@@ -6,7 +6,6 @@ use mathlib.Core.List.{IsPrefix}
 use Rattle.ct_word.specs.declared.kinds.Class.TheVariants as class
 use Rattle.ct_word.specs.Condition.{holds}
 use Rattle.ct_word.specs.WellFormed.{IsWellFormed, is_place_of}
-use Rattle.ct_word.specs.Reading.{condition_at}
 use Rattle.ct_word.proofs.Prefixes.{place_in_prefix, place_within, condition_in_prefix}
 use Rattle.ct_arena.specs.Counts.{opening}
 use Rattle.ct_condition.specs.Truth.{HasTruth, or_at, truth_at}

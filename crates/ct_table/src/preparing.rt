@@ -49,11 +49,7 @@ fn joined<N: Site, I: Interner<N>>(
 }
 
 /// The condition at these cells: that which was put there, else that of the table's row.
-fn present(
-    pending: &IndexMap<List<u32>, u32>,
-    stored: &Stored,
-    cells: &List<u32>,
-) -> Option<u32>
+fn present(pending: &IndexMap<List<u32>, u32>, stored: &Stored, cells: &List<u32>) -> Option<u32>
     requires { Apart pending.now.entries }
     ensures { result ≡ find cells.now (put_each stored.now.entries pending.now.entries) }
 {
