@@ -6,13 +6,15 @@ use mathlib.Core.List.{IsPrefix}
 use Rattle.ct_word.specs.declared.kinds.Class.TheVariants as class
 use Rattle.ct_word.specs.Condition.{holds}
 use Rattle.ct_word.specs.WellFormed.{IsWellFormed, is_place_of}
-use Rattle.ct_word.specs.Reading.{condition_at}
 use Rattle.ct_word.proofs.Prefixes.{place_in_prefix, place_within, condition_in_prefix}
 use Rattle.ct_arena.specs.Counts.{opening}
 use Rattle.ct_condition.specs.Truth.{HasTruth, or_at, truth_at}
 use Rattle.ct_condition.proofs.Truths.{false_at}
 use Rattle.ct_word.specs.declared.values.CRow.{CRow}
-use Rattle.std.specs.List.{filter}
+use Rattle.std.specs.List.{filter, IsDistinct, AllByRecursion}
+use Rattle.std.proofs.lemmas.Bool.{false≢true}
+use Rattle.std.proofs.lemmas.Map.Keys.{IsDistinct-head, IsDistinct-tail}
+use Rattle.ct_word.proofs.Alike.{text_decides, cells_decide}
 use Rattle.std.proofs.lemmas.List.{map-append}
 use Rattle.ct_word.specs.Value.{World, same_text, same_cells}
 use Rattle.ct_word.specs.Sublist.{IsSublist}
@@ -26,7 +28,7 @@ use Rattle.ct_table.proofs.Firsts.{firsts_distinct, part_of_firsts}
 use Rattle.ct_table.proofs.Reaching.{rows_itself}
 use Rattle.ct_table.proofs.Selecting.{value-append}
 use Rattle.ct_table.specs.Merging.{rows_of, Merged, Gathers, is_possible}
-use Rattle.ct_table.specs.Growing.{find, put, put_each, grown, Apart, Fits, Joins, alone, with_first}
+use Rattle.ct_table.specs.Growing.{find, put, put_each, grown, entries_of, Apart, Fits, Joins, alone, with_first}
 use Rattle.ct_table.proofs.Merges.{entry_merged, entry_put, kept_rows, kept_values, kept_order, kept_from}
 use Rattle.ct_table.proofs.Putting.{find_hit, find_miss, none_some, find_among, find_after, put_more, fits_more, kept_of, keep, isnt, rows_grown}
 
@@ -129,3 +131,16 @@ module _ (old now : List ℕ) (width : ℕ) (es ps : List (List ℕ × ℕ)) (mo
 
   pub grown_from : RowsFrom now (rows_of (grown es ps)) (TermOfRows old (rows_of es ++ more))
   grown_from = subst (λ l. RowsFrom now l (TermOfRows old (rows_of es ++ more))) left (kept_from old now width (rows_of es ++ more) (rows_of (put_each es ps)) begins wf s)
+
+-- the rows of a table differ in their cells
+pub rows_apart : (ws : List ℕ) (rows : List CRow) → IsDistinct same_cells (cells_of ws rows) → Apart (entries_of rows)
+rows_apart ws [] d = tt
+rows_apart ws (r ∷ rows) d = (none rows (IsDistinct-head same_cells (map (term_at ws) r.cells) (cells_of ws rows) d), rows_apart ws rows (IsDistinct-tail same_cells (map (term_at ws) r.cells) (cells_of ws rows) d)) where
+  none : (rs : List CRow) → AllByRecursion (λ y. same_cells (map (term_at ws) r.cells) y ≡ false) (cells_of ws rs) → find r.cells (entries_of rs) ≡ None
+  none [] a = refl
+  none (x ∷ rs) a = by_test (same_text r.cells x.cells) refl (none rs a.1) where
+    by_test : (b : Bool) → same_text r.cells x.cells ≡ b → find r.cells (entries_of rs) ≡ None → find r.cells (entries_of (x ∷ rs)) ≡ None
+    by_test true p later =
+        let same : map (term_at ws) r.cells ≡ map (term_at ws) x.cells = ap (map (term_at ws)) ((text_decides r.cells x.cells).0 p) in
+        absurd (false≢true (sym a.0 ∙ (cells_decide (map (term_at ws) r.cells) (map (term_at ws) x.cells)).1 same))
+    by_test false p later = find_miss r.cells (x.cells, x.cond) (entries_of rs) p ∙ later

@@ -2,13 +2,13 @@
 use Rattle.std.proofs.Common.{◌≡◌, ℕ, suc, ◌+◌, Bool, true, false, not, List, [], ◌∷◌, ◌++◌, Option, None, Some, cond, map, get_or, set, refl, ap, sym, subst, ◌∙◌, arith}
 use Rattle.std.specs.Prelude.{◌≢◌, nat_eq, if◌then◌else◌}
 use Rattle.std.specs.List.{filter, position_or_len}
-use Rattle.std.specs.Cmp.Lexicographic.{pointwise}
-use Rattle.std.proofs.lemmas.Bool.{false≢true, eqb-true, eq-eqb}
+use Rattle.std.proofs.lemmas.List.{append-nil, append_assoc}
+use Rattle.std.proofs.lemmas.Bool.{false≢true, eqb-true}
 use Rattle.ct_word.specs.declared.values.CRow.{CRow}
 use Rattle.ct_word.specs.Value.{same_text}
 use Rattle.ct_word.proofs.Alike.{text_decides}
 use Rattle.ct_table.specs.Merging.{rows_of, is_possible}
-use Rattle.ct_table.specs.Growing.{find, put, put_each, grown, Apart, Fits}
+use Rattle.ct_table.specs.Growing.{find, put, put_each, grown, entries_of, Apart, Fits}
 use Rattle.ct_table.proofs.Denoting.{unalike}
 
 module _ (k : List ℕ) (c : ℕ) (e : List ℕ × ℕ) (es : List (List ℕ × ℕ)) where
@@ -239,3 +239,33 @@ rows_set k c v x (e ∷ es) found is = by_test (same_text k e.0) refl (rows_set 
 pub grown_more : (p : List ℕ × ℕ) (ps es : List (List ℕ × ℕ)) → grown es (ps ++ p ∷ []) ≡ (if nat_eq p.1 1 then grown es ps else put (grown es ps) p.0 p.1)
 grown_more p [] es = refl
 grown_more p (q ∷ ps) es = grown_more p ps (if nat_eq q.1 1 then es else put es q.0 q.1)
+
+-- one more condition put
+pub put_one_more : (p : List ℕ × ℕ) (ps es : List (List ℕ × ℕ)) → put_each es (ps ++ p ∷ []) ≡ put (put_each es ps) p.0 p.1
+put_one_more p [] es = refl
+put_one_more p (q ∷ ps) es = put_one_more p ps (put es q.0 q.1)
+
+entry_last : (k : List ℕ) (c : ℕ) (es : List (List ℕ × ℕ)) → find k es ≡ None → put es k c ≡ es ++ (k, c) ∷ []
+entry_last k c [] none = refl
+entry_last k c (e ∷ es) none = put_miss k c e es (not_first k e es none) ∙ ap (λ l. e ∷ l) (entry_last k c es (not_later k e es none))
+
+not_middle : (k : List ℕ) (p : List ℕ × ℕ) (es ps : List (List ℕ × ℕ)) → find k (es ++ p ∷ ps) ≡ None → same_text k p.0 ≡ false
+not_middle k p [] ps none = not_first k p ps none
+not_middle k p (e ∷ es) ps none = not_middle k p es ps (not_later k e (es ++ p ∷ ps) none)
+
+not_before : (p : List ℕ × ℕ) (es ps : List (List ℕ × ℕ)) → Apart (es ++ p ∷ ps) → find p.0 es ≡ None
+not_before p [] ps a = refl
+not_before p (e ∷ es) ps a = find_miss p.0 e es (unalike e.0 p.0 (not_middle e.0 p es ps a.0)) ∙ not_before p es ps a.1
+
+-- entries of which no two have the same cells stand as they were put
+pub put_apart : (es ps : List (List ℕ × ℕ)) → Apart (es ++ ps) → put_each es ps ≡ es ++ ps
+put_apart es [] a = sym (append-nil es)
+put_apart es (p ∷ ps) a =
+    let last = entry_last p.0 p.1 es (not_before p es ps a) in
+    ap (λ l. put_each l ps) last
+    ∙ put_apart (es ++ p ∷ []) ps (subst Apart (sym (append_assoc es (p ∷ []) ps)) a)
+    ∙ append_assoc es (p ∷ []) ps
+
+pub rows_back : (rs : List CRow) → rows_of (entries_of rs) ≡ rs
+rows_back [] = refl
+rows_back (r ∷ rs) = ap (λ l. r ∷ l) (rows_back rs)

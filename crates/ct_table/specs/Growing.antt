@@ -37,6 +37,10 @@ Apart (p ∷ ps) = (find p.0 ps ≡ None) × Apart ps
 abbrev pub Fits : List (List ℕ × ℕ) → List (List ℕ × ℕ) → Type 0
 Fits es ps = (cells : List ℕ) (c d : ℕ) → find cells ps ≡ Some c → find cells es ≡ Some d → (d ≢ 1) × (c ≢ 1)
 
+-- the cells and the conditions of rows
+abbrev pub entries_of : List CRow → List (List ℕ × ℕ)
+entries_of rs = map (λ r. (r.cells, r.cond)) rs
+
 -- a row's condition was joined to the one that its cells have; it is not the word false where that one is not
 pub data Joins (old new : List ℕ) (es : List (List ℕ × ℕ)) (r : CRow) (cond : ℕ) : Type 0 where
   alone : find r.cells es ≡ None → cond ≡ r.cond → Joins old new es r cond

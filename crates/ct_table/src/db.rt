@@ -1,6 +1,6 @@
 // The tables of a database, each shared.
 
-ghost use Rattle.std.specs.Prelude.{◌≡◌, List, [], map, min, Some, None, IfOk, MatchOption, length};
+ghost use Rattle.std.specs.Prelude.{◌≡◌, List, [], map, min, Some, None, IfOk, OnOk, OnErr, MatchOption, length};
 ghost use Rattle.std.specs.List.{IsDistinct};
 ghost use Rattle.std.specs.Arc.{arc_value};
 ghost use Rattle.ct_word.specs.Value.{same_text};
@@ -102,6 +102,19 @@ impl Db {
         let shared = Arc::new(alloc, table)?;
         tables.insert(name, shared)?;
         Ok(Db { tables })
+    }
+
+    /// Puts this table at its name's place, or last where the name is new. The list of the tables is not copied.
+    ///
+    /// # Errors
+    /// `Memory` where there is none for the table; the tables are then those that were there.
+    pub fn add(&mut self, alloc: Global, name: Text, table: CTable) -> Result<(), Memory>
+        ensures added { OnOk result (self.new ≡ with_table self.old (view_of name table)) }
+        ensures same { OnErr result (self.new ≡ self.old) }
+    {
+        let shared = Arc::new(alloc, table)?;
+        self.tables.insert(name, shared)?;
+        Ok(())
     }
 }
 

@@ -3,10 +3,10 @@
 ghost use Rattle.std.specs.Prelude.{◌≡◌, ◌≤◌, ◌<◌, ◌+◌, length, nat_eq, IfOk, OnOk};
 ghost use Rattle.ct_table.specs.Merging.{rows_of};
 ghost use Rattle.ct_table.specs.Growing as spec;
-ghost use Rattle.ct_table.specs.Growing.{Keyed, grown, table_of};
+ghost use Rattle.ct_table.specs.Growing.{Keyed, Apart, entries_of, grown, table_of};
 
 use crate::table::CTable;
-use ct_word::{CRow, FALSE_PLACE, List, Memory, Text};
+use ct_word::{CRow, FALSE_PLACE, List, Text};
 use indexmap::IndexMap;
 use std::alloc::{AllocError, Global};
 use std::marker::Model;
@@ -74,6 +74,39 @@ impl Model for Stored {
 }
 
 impl Stored {
+    /// The table, with a map of its rows. Where cells stand twice, the later row's condition stands at the first place.
+    ///
+    /// # Errors
+    /// `AllocError` where there is no memory for the map.
+    pub fn make(alloc: Global, table: CTable) -> Result<Stored, AllocError>
+        ensures columns { IfOk result (λ s. s.columns ≡ table.columns) }
+        ensures rows { Apart (entries_of table.rows) → IfOk result (λ s. rows_of s.entries ≡ table.rows) }
+    {
+        let CTable { columns, rows } = table;
+        let rows = rows.into_vec();
+        let mut stored = Stored {
+            columns,
+            rows: Vec::with_capacity(alloc, rows.len())?,
+            conds: IndexMap::with_capacity(alloc, rows.len())?,
+        };
+        for row in rows {
+            let CRow { cells, cond } = row;
+            stored.put(Put::make(cells, cond)?);
+        }
+        Ok(stored)
+    }
+
+    /// The table, without the map of its rows.
+    pub fn into_table(self) -> CTable
+        ensures { result ≡ table_of self }
+    {
+        let Stored { columns, rows, .. } = self;
+        CTable {
+            columns,
+            rows: List::from_vec(rows),
+        }
+    }
+
     /// A condition at cells: in the row that has them, or in a new row.
     fn put(&mut self, put: Put)
         requires room { 0 < self.old.room }
@@ -99,8 +132,8 @@ impl Stored {
     /// Makes room for so many more rows, and leaves the table as it is.
     ///
     /// # Errors
-    /// `Memory` where there is none for them.
-    pub fn reserve(&mut self, more: usize) -> Result<(), Memory>
+    /// `AllocError` where there is no memory for them.
+    pub fn reserve(&mut self, more: usize) -> Result<(), AllocError>
         ensures columns { self.new.columns ≡ self.old.columns }
         ensures entries { self.new.entries ≡ self.old.entries }
         ensures room { OnOk result (more ≤ self.new.room) }

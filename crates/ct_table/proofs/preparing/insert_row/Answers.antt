@@ -1,4 +1,4 @@
-use Rattle.std.proofs.Common.{◌≡◌, ap, sym, subst, ◌∙◌}
+use Rattle.std.proofs.Common.{ap, sym, subst, ◌∙◌}
 use Rattle.ct_word.specs.declared.values.CRow.{CRow}
 use Rattle.ct_table.specs.Merging.{rows_of, Merged}
 use Rattle.ct_table.specs.Growing.{put, put_each, Apart, Fits}

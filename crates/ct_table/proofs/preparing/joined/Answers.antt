@@ -1,4 +1,4 @@
-use Rattle.std.proofs.Common.{◌≡◌, subst, inl}
+use Rattle.std.proofs.Common.{subst, inl}
 use Rattle.ct_word.specs.declared.kinds.Class.TheVariants as class
 use Rattle.ct_word.proofs.Prefixes.{place_within}
 use Rattle.ct_condition.specs.Truth.{HasTruth, or_at}

@@ -1,4 +1,4 @@
-use Rattle.std.proofs.Common.{◌≡◌, ℕ, length, sym, ◌∙◌}
+use Rattle.std.proofs.Common.{ℕ, length, sym, ◌∙◌}
 use Rattle.std.specs.Prelude.{◌≢◌}
 use Rattle.ct_condition.specs.Truth.{HasTruth, or_at}
 use Rattle.ct_condition.specs.Terms.{TermsFrom, BelowEither}

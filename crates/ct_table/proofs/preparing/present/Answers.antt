@@ -1,4 +1,4 @@
-use Rattle.std.proofs.Common.{◌≡◌, sym, ◌∙◌}
+use Rattle.std.proofs.Common.{sym, ◌∙◌}
 use Rattle.ct_table.proofs.Putting.{find_among, find_after}
 use Rattle.ct_table.proofs.preparing.present.Goals as goal
 

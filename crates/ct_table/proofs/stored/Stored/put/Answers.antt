@@ -1,7 +1,5 @@
-use Rattle.std.proofs.Common.{◌≡◌, ap, sym, subst, ◌∙◌, ◌++◌, ◌∷◌, [], set, get_or}
-use Rattle.ct_word.specs.declared.values.CRow.{CRow}
+use Rattle.std.proofs.Common.{ap, sym, ◌∙◌, ◌++◌, ◌∷◌, [], set, get_or}
 use Rattle.ct_table.specs.Merging.{rows_of}
-use Rattle.ct_table.specs.Growing.{put}
 use Rattle.ct_table.proofs.Putting.{rows_last, rows_set}
 use Rattle.ct_table.proofs.stored.Stored.put.Goals as goal
 
