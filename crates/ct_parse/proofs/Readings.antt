@@ -1,5 +1,6 @@
 -- Lexemes have one reading: whatever is spelled is what a reader would find, and nothing else.
 use Rattle.std.proofs.Common.{◌≡◌, ℕ, List, [], refl, sym, subst}
+use Rattle.std.proofs.lemmas.Bool.{not-true}
 use Rattle.ct_lex.specs.declared.token.Lexeme.{Lexeme}
 use Rattle.ct_lex.specs.declared.token.Lexeme.TheVariants as lexeme
 use Rattle.ct_lex.specs.declared.token.Symbol.TheVariants as symbol
@@ -23,7 +24,7 @@ use Rattle.ct_parse.specs.declared.tree.QueryTerm.{QueryTerm}
 use Rattle.ct_parse.specs.declared.tree.Query.{Query}
 use Rattle.ct_parse.specs.declared.tree.Statement.{Statement}
 use Rattle.std.specs.Prelude.{Bool, Option, codes}
-use Rattle.ct_parse.specs.Grammar.{IsName, name, IsColumn, plain, qualified, IsTerm, number_term, text_term, null_term, column_term, IsComparison, equal, unequal, IsFactor, negated, nested, true_factor, false_factor, compared, AreFactors, no_factor, and_factor, IsConjunction, conjunction, AreConjunctions, no_conjunction, or_conjunction, IsCondition, condition, AreMore, no_more, one_more, IsClosed, closed, IsCell, number_cell, text_cell, null_cell, new_null, IsRow, row, HasCondition, no_condition, a_condition, HasName, no_name, as_name, IsItem, item, AreItems, star, listed, HasAlias, no_alias, alias, as_alias, IsTable, table, IsTableOn, table_on, IsJoined, comma, join, inner_join, AreJoined, none_joined, more_joined, AreTables, tables, IsDistinct, not_distinct, distinct, IsSelect, select, IsSetOperator, union, except, IsPrimary, nested_query, select_query, ArePrimaries, no_primary, intersect, IsQueryTerm, query_term, AreTerms, no_term, combined, IsQuery, query, IsStatement, create, insert_rows, insert_query, delete, assert, rows, possible, certain, begin, commit, rollback}
+use Rattle.ct_parse.specs.Grammar.{IsName, name, IsColumn, plain, qualified, IsTerm, number_term, text_term, null_term, column_term, IsComparison, equal, unequal, IsFactor, negated, nested, true_factor, false_factor, compared, AreFactors, no_factor, and_factor, IsConjunction, conjunction, AreConjunctions, no_conjunction, or_conjunction, IsCondition, condition, AreMore, no_more, one_more, IsClosed, closed, IsCell, number_cell, text_cell, null_cell, new_null, IsRow, row, HasCondition, no_condition, a_condition, HasName, no_name, as_name, IsItem, item, AreItems, star, listed, IsBareAlias, bare_alias, HasAlias, no_alias, alias, as_alias, IsTable, table, IsTableOn, table_on, IsJoined, comma, join, inner_join, AreJoined, none_joined, more_joined, AreTables, tables, IsDistinct, not_distinct, distinct, IsSelect, select, IsSetOperator, union, except, IsPrimary, nested_query, select_query, ArePrimaries, no_primary, intersect, IsQueryTerm, query_term, AreTerms, no_term, combined, IsQuery, query, IsStatement, create, insert_rows, insert_query, delete, assert, rows, possible, certain, begin, commit, rollback}
 use Rattle.ct_parse.specs.Ends.{Fails, at_word, EndsAnyhow, EndsColumn, EndsConjunction, EndsCondition, EndsList, EndsBehind, EndsItem, EndsItems, EndsTable, EndsJoined, EndsTables, EndsDistinct, EndsSelect, EndsQueryTerm, EndsQuery, EndsStatement}
 use Rattle.ct_parse.specs.Reads.{Reads}
 use Rattle.ct_parse.specs.Parses.{Spells, SpellsCondition}
@@ -34,7 +35,7 @@ use Rattle.ct_parse.proofs.ConditionSteps.{negated_read, nested_read, true_read,
 use Rattle.ct_parse.proofs.Combined.{then_read, renamed, plain_list, has_read, has_none_read}
 use Rattle.ct_parse.proofs.RowSteps.{closed_read, row_is, new_null_reads}
 use Rattle.ct_parse.proofs.RowSteps as cells
-use Rattle.ct_parse.proofs.TableSteps.{as_read, no_as_read, item_pair, item_list, symbol_item, star_read, listed_pair, listed_is, as_alias_read, name_stands, alias_read, no_alias_read, table_pair, ON, on_pair, on_is, ends_at_on, comma_read, join_read, inner_read, joined_list, tables_read}
+use Rattle.ct_parse.proofs.TableSteps.{as_read, no_as_read, item_pair, item_list, symbol_item, star_read, listed_pair, listed_is, bare_read, as_alias_read, alias_stands, alias_read, no_alias_read, table_pair, ON, on_pair, on_is, ends_at_on, comma_read, join_read, inner_read, joined_list, tables_read}
 use Rattle.ct_parse.proofs.QuerySteps.{distinct_read, not_distinct_read, items_apart, before_filter, select_read, union_read, except_read, ends_at_paren, paren_select, primary_is, primary_list, term_pair, combined_pair, term_list, query_pair}
 use Rattle.ct_parse.proofs.QuerySteps as queries
 use Rattle.ct_parse.proofs.StatementSteps.{query_at_end, condition_at_end, behind_at_end, before_if, create_read, delete_read, insert_rows_read, insert_query_read, assert_read, possible_read, certain_read, begin_read, commit_read, rollback_read, OnlyQuery, rows_read}
@@ -117,9 +118,12 @@ reads_items (listed i l) e =
     (both_read listed_pair (reads_item i (item_list.before l e)) (reads_more IsItem EndsItem EndsItems item_list (λ ws r x i e. reads_item i e) l e))
 
 -- tables
+reads_bare : {ws r : List Lexeme} {n : List ℕ} → IsBareAlias ws n r → Reads IsBareAlias EndsAnyhow ws n r
+reads_bare (bare_alias n p) = bare_read (reads_name n) (not-true _ p)
+
 reads_alias : {ws r : List Lexeme} {o : _} → HasAlias ws o r → EndsTable r → Reads HasAlias EndsTable ws o r
-reads_alias no_alias e = no_alias_read e.1 (λ n r any x. name_stands x e.0)
-reads_alias (alias n) e = alias_read (reads_name n)
+reads_alias no_alias e = no_alias_read e.1 (λ n r any x. alias_stands x e.0)
+reads_alias (alias n) e = alias_read (reads_bare n)
 reads_alias (as_alias n) e = as_alias_read refl (reads_name n)
 
 reads_table : {ws r : List Lexeme} {t : Table} → IsTable ws t r → EndsTable r → Reads IsTable EndsTable ws t r

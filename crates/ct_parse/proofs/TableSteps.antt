@@ -1,7 +1,7 @@
 -- What the steps of the readers of items and tables show.
-use Rattle.std.proofs.Common.{◌≡◌, ◌≤◌, ◌<◌, ℕ, Bool, true, false, List, ◌∷◌, length, Option, Some, None, refl, ap, subst, ◌∙◌, arith}
+use Rattle.std.proofs.Common.{◌≡◌, ◌≤◌, ◌<◌, ℕ, Bool, true, false, List, ◌∷◌, length, Option, Some, None, refl, ap, sym, subst, ◌∙◌, arith}
 use Rattle.std.specs.Prelude.{codes}
-use Rattle.std.proofs.lemmas.Bool.{false≢true}
+use Rattle.std.proofs.lemmas.Bool.{false≢true, not_from_true, not_from_false, and_from}
 use Rattle.ct_lex.specs.declared.token.Lexeme.{Lexeme}
 use Rattle.ct_lex.specs.declared.token.Lexeme.TheVariants as lexeme
 use Rattle.ct_lex.specs.declared.token.Symbol.TheVariants as symbol
@@ -15,8 +15,8 @@ use Rattle.ct_parse.specs.declared.tree.Table.{Table}
 use Rattle.ct_parse.specs.declared.tree.Joined.{Joined}
 use Rattle.ct_parse.specs.declared.tree.Joined.TheVariants as joined
 use Rattle.ct_parse.specs.declared.tree.Tables.{Tables}
-use Rattle.ct_parse.specs.Grammar.{IsName, name, IsColumn, plain, qualified, IsCondition, AreMore, HasName, no_name, as_name, IsItem, item, AreItems, star, listed, HasAlias, no_alias, alias, as_alias, IsTable, table, IsTableOn, table_on, IsJoined, comma, join, inner_join, AreJoined, none_joined, more_joined, MORE_TABLES, AreTables, tables}
-use Rattle.ct_parse.specs.Ends.{Fails, at_word, at_name, at_joined, EndsAnyhow, EndsColumn, EndsItem, EndsItems, EndsTable, EndsCondition, EndsJoined, EndsTables}
+use Rattle.ct_parse.specs.Grammar.{IsName, name, IsColumn, plain, qualified, IsCondition, AreMore, HasName, no_name, as_name, IsItem, item, AreItems, star, listed, is_clause_word, IsBareAlias, bare_alias, HasAlias, no_alias, alias, as_alias, IsTable, table, IsTableOn, table_on, IsJoined, comma, join, inner_join, AreJoined, none_joined, more_joined, MORE_TABLES, AreTables, tables}
+use Rattle.ct_parse.specs.Ends.{Fails, at_word, at_bare_alias, at_joined, EndsAnyhow, EndsColumn, EndsItem, EndsItems, EndsTable, EndsCondition, EndsJoined, EndsTables}
 use Rattle.ct_parse.specs.Reads.{Reads, Never}
 use Rattle.ct_parse.proofs.Fronts.{Same, moved, symbol_name, word_name}
 use Rattle.ct_parse.proofs.TermSteps.{reads_at, never_at}
@@ -92,41 +92,53 @@ back_listed no_star (listed i l) = image (parts i l)
 pub listed_is : {ws : List Lexeme} → ((x : List Lexeme) → ws ≡ lexeme.Symbol symbol.Star ∷ x → ⊥) → Renames (Both IsItem (AreMore IsItem)) listed_of AreItems ws
 listed_is no_star = record { into = λ b. into_listed b; back = λ i. back_listed no_star i }
 
--- [[AS] name]
+-- [AS name | alias]
 abbrev pub alias_of : Bool → List ℕ → Option Alias
 alias_of b n = Some (record { has_as = b; name = n })
+
+bare_name : {ws r : List Lexeme} {n : List ℕ} → IsBareAlias ws n r → IsName ws n r
+bare_name (bare_alias x p) = x
+
+pub bare_read : {ws r : List Lexeme} {n : List ℕ} → Reads IsName EndsAnyhow ws n r → is_clause_word n ≡ false → Reads IsBareAlias EndsAnyhow ws n r
+bare_read h p = record { is = bare_alias h.is (not_from_false _ p); only = λ t r' e x. h.only _ _ tt (bare_name x); within = h.within }
+
+pub no_bare_name : {ws : List Lexeme} → Never IsName EndsAnyhow ws → Never IsBareAlias EndsAnyhow ws
+no_bare_name never n r e x = never _ _ tt (bare_name x)
+
+pub no_bare_word : {ws r : List Lexeme} {n : List ℕ} → Reads IsName EndsAnyhow ws n r → is_clause_word n ≡ true → Never IsBareAlias EndsAnyhow ws
+no_bare_word h p n' r' e (bare_alias x q) = false≢true (sym (not_from_true _ (ap is_clause_word (h.only _ _ tt x).0 ∙ p)) ∙ q)
 
 as_alias_only : {rest r r' : List Lexeme} {n : List ℕ} {o : Option Alias} → Reads IsName EndsAnyhow rest n r → EndsTable r' → HasAlias (lexeme.Word (codes "as") ∷ rest) o r'
     → Same o (alias_of true n) r' r
 as_alias_only h e no_alias = absurd e.1
-as_alias_only h e (alias x) = absurd (false≢true (word_name x))
+as_alias_only h e (alias x) = absurd (false≢true (word_name (bare_name x)))
 as_alias_only h e (as_alias x) = let s = h.only _ _ tt x in (ap (alias_of true) s.0, s.1)
 
 pub as_alias_read : {ws rest r : List Lexeme} {n : List ℕ} → ws ≡ lexeme.Word (codes "as") ∷ rest → Reads IsName EndsAnyhow rest n r → Reads HasAlias EndsTable ws (alias_of true n) r
 as_alias_read f h = reads_at f (record { is = as_alias h.is; only = λ t r' e x. as_alias_only h e x; within = omega (arith, h.within) })
 
-pub name_stands : {ws r : List Lexeme} {n : List ℕ} → IsName ws n r → Fails (at_name ws) → ⊥
-name_stands (name p) fails = subst Fails p fails
+pub alias_stands : {ws r : List Lexeme} {n : List ℕ} → IsBareAlias ws n r → Fails (at_bare_alias ws) → ⊥
+alias_stands (bare_alias (name p) q) fails = subst Fails (and_from _ _ p q) fails
 
-alias_only : {ws r r' : List Lexeme} {n : List ℕ} {o : Option Alias} → Reads IsName EndsAnyhow ws n r → EndsTable r' → HasAlias ws o r' → Same o (alias_of false n) r' r
-alias_only h e no_alias = absurd (name_stands h.is e.0)
+alias_only : {ws r r' : List Lexeme} {n : List ℕ} {o : Option Alias} → Reads IsBareAlias EndsAnyhow ws n r → EndsTable r' → HasAlias ws o r' → Same o (alias_of false n) r' r
+alias_only h e no_alias = absurd (alias_stands h.is e.0)
 alias_only h e (alias x) = let s = h.only _ _ tt x in (ap (alias_of false) s.0, s.1)
-alias_only h e (as_alias x) = absurd (false≢true (word_name h.is))
+alias_only h e (as_alias x) = absurd (false≢true (word_name (bare_name h.is)))
 
-pub alias_read : {ws r : List Lexeme} {n : List ℕ} → Reads IsName EndsAnyhow ws n r → Reads HasAlias EndsTable ws (alias_of false n) r
+pub alias_read : {ws r : List Lexeme} {n : List ℕ} → Reads IsBareAlias EndsAnyhow ws n r → Reads HasAlias EndsTable ws (alias_of false n) r
 alias_read h = record { is = alias h.is; only = λ t r' e x. alias_only h e x; within = h.within }
 
-no_alias_only : {ws r : List Lexeme} {o : Option Alias} → Fails (at_word (codes "as") ws) → Never IsName EndsAnyhow ws → HasAlias ws o r → Same o None r ws
+no_alias_only : {ws r : List Lexeme} {o : Option Alias} → Fails (at_word (codes "as") ws) → Never IsBareAlias EndsAnyhow ws → HasAlias ws o r → Same o None r ws
 no_alias_only fails never no_alias = (refl, refl)
 no_alias_only fails never (alias x) = absurd (never _ _ tt x)
 no_alias_only fails never (as_alias x) = absurd fails
 
-pub no_alias_read : {ws : List Lexeme} → Fails (at_word (codes "as") ws) → Never IsName EndsAnyhow ws → Reads HasAlias EndsTable ws None ws
+pub no_alias_read : {ws : List Lexeme} → Fails (at_word (codes "as") ws) → Never IsBareAlias EndsAnyhow ws → Reads HasAlias EndsTable ws None ws
 no_alias_read fails never = record { is = no_alias; only = λ t r e x. no_alias_only fails never x; within = omega arith }
 
 none_alias : {rest r : List Lexeme} {o : Option Alias} → Never IsName EndsAnyhow rest → EndsTable r → HasAlias (lexeme.Word (codes "as") ∷ rest) o r → ⊥
 none_alias never e no_alias = e.1
-none_alias never e (alias x) = false≢true (word_name x)
+none_alias never e (alias x) = false≢true (word_name (bare_name x))
 none_alias never e (as_alias x) = never _ _ tt x
 
 pub no_alias_name : {ws rest : List Lexeme} → ws ≡ lexeme.Word (codes "as") ∷ rest → Never IsName EndsAnyhow rest → Never HasAlias EndsTable ws

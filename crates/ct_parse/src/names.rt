@@ -4,6 +4,7 @@ ghost use Rattle.std.specs.Prelude.{◌≡◌, ◌||◌, map};
 ghost use Rattle.std.specs.List.{list_all, list_any};
 ghost use Rattle.ct_word.specs.Value.{same_text};
 ghost use Rattle.ct_word.specs.Writable as writable;
+ghost use Rattle.ct_parse.specs.Grammar as grammar;
 
 /// The words that are no names.
 const KEYWORDS: [&str; 34] = [
@@ -41,6 +42,13 @@ const KEYWORDS: [&str; 34] = [
     "values",
     "where",
     "worlds",
+];
+
+/// Words that SQL has behind a table, and this grammar has not. `from t left join u` would be an
+/// inner join with the alias `left`, if a name without AS could be any of them.
+const CLAUSE_WORDS: [&str; 16] = [
+    "left", "right", "full", "outer", "natural", "cross", "limit", "offset", "order", "group",
+    "having", "fetch", "using", "window", "asc", "desc",
 ];
 
 fn is_letter(byte: u8) -> bool
@@ -92,4 +100,11 @@ pub fn is_name(text: &str) -> bool
     ensures { result ≡ writable.is_name text.now }
 {
     is_word(text) && !is_keyword(text)
+}
+
+/// Whether a name is a word that is no alias without AS.
+pub fn is_clause_word(name: &str) -> bool
+    ensures { result ≡ grammar.is_clause_word name.now }
+{
+    contains(&CLAUSE_WORDS, name)
 }

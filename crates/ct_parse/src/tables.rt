@@ -1,14 +1,15 @@
 // The items of a SELECT, and the tables of its FROM.
 
 ghost use Rattle.std.specs.Prelude.{◌≡◌, ◌≢◌, ◌<◌, length, IfOk, IfErr};
-ghost use Rattle.ct_parse.specs.Grammar.{said, AreMore, HasName, IsItem, AreItems, HasAlias, IsTable, IsTableOn, IsJoined, AreJoined, AreTables};
-ghost use Rattle.ct_parse.specs.Ends.{at_joined, EndsItem, EndsItems, EndsTable, EndsCondition, EndsJoined, EndsTables};
+ghost use Rattle.ct_parse.specs.Grammar.{said, AreMore, HasName, IsItem, AreItems, IsBareAlias, HasAlias, IsTable, IsTableOn, IsJoined, AreJoined, AreTables};
+ghost use Rattle.ct_parse.specs.Ends.{at_joined, EndsAnyhow, EndsItem, EndsItems, EndsTable, EndsCondition, EndsJoined, EndsTables};
 ghost use Rattle.ct_parse.specs.Reads.{Reads, Never};
 ghost use Rattle.ct_parse.specs.declared.error.Unread.TheVariants as unread;
 
 use crate::conditions::condition;
 use crate::error::Unread;
 use crate::front::{behind_symbol, behind_word, expect_word, name};
+use crate::names::is_clause_word;
 use crate::terms::column;
 use crate::tree::{Alias, Condition, Item, Items, Joined, Table, Tables};
 use ct_lex::{Symbol, Token};
@@ -68,6 +69,18 @@ pub fn items(alloc: Global, tokens: &[Token]) -> Result<(Items, &[Token]), Unrea
     Ok((Items::Listed(first, others), rest))
 }
 
+/// The alias in front, where it stands without AS.
+fn bare_alias(alloc: Global, tokens: &[Token]) -> Result<(Text, &[Token]), Unread>
+    ensures ok { IfOk result (λ p. Reads IsBareAlias EndsAnyhow (said tokens.now) p.0 (said p.1.now)) }
+    ensures none { IfErr result (λ e. e ≢ unread.Memory → Never IsBareAlias EndsAnyhow (said tokens.now)) }
+{
+    let (found, rest) = name(alloc, tokens)?;
+    if is_clause_word(found.as_str()) {
+        return Err(Unread::NotSpelled);
+    }
+    Ok((found, rest))
+}
+
 /// The alias of a table, with AS or without.
 fn alias(alloc: Global, tokens: &[Token]) -> Result<(Option<Alias>, &[Token]), Unread>
     ensures ok { IfOk result (λ p. Reads HasAlias EndsTable (said tokens.now) p.0 (said p.1.now)) }
@@ -77,7 +90,7 @@ fn alias(alloc: Global, tokens: &[Token]) -> Result<(Option<Alias>, &[Token]), U
         let (name, rest) = name(alloc, tail)?;
         return Ok((Some(Alias { has_as: true, name }), rest));
     }
-    match name(alloc, tokens) {
+    match bare_alias(alloc, tokens) {
         Ok((name, rest)) => Ok((
             Some(Alias {
                 has_as: false,

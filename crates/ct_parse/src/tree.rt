@@ -87,14 +87,14 @@ pub enum Items {
     Listed(Item, List<Item>),
 }
 
-/// `[AS] name`
+/// `AS name | alias`
 #[derive(Drop)]
 pub struct Alias {
     pub has_as: bool,
     pub name: Text,
 }
 
-/// `table = name [[AS] name]`
+/// `table = name [AS name | alias]`
 #[derive(Drop)]
 pub struct Table {
     pub name: Text,
