@@ -8,6 +8,7 @@ use Rattle.ct_word.specs.declared.values.Null.{Null}
 use Rattle.ct_word.specs.declared.values.Null.TheVariants as null
 use Rattle.ct_word.specs.declared.values.Term.{Term}
 use Rattle.ct_word.specs.declared.values.Term.TheVariants as term
+use Rattle.ct_word.specs.Value.{World}
 
 -- a text in parentheses
 abbrev pub in_parentheses : List ℕ → List ℕ
@@ -41,3 +42,16 @@ term_text (term.Value x) = value_text x
 -- cells as they are printed
 abbrev pub cells_text : List Term → List ℕ
 cells_text cells = in_parentheses (with_commas term_text cells)
+
+-- a tuple as it is printed
+abbrev pub tuple_text : List Value → List ℕ
+tuple_text tuple = in_parentheses (with_commas value_text tuple)
+
+-- a null and its value, as a world is printed
+abbrev pub pair_text : Null × Value → List ℕ
+pair_text pair = null_text pair.0 ++ codes " = " ++ value_text pair.1
+
+-- a world as it is printed; the empty one gives each null the default value
+abbrev pub world_text : World → List ℕ
+world_text [] = codes "default"
+world_text (pair ∷ pairs) = with_commas pair_text (pair ∷ pairs)

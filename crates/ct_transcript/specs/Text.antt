@@ -3,6 +3,10 @@ use Rattle.std.specs.Prelude.{ℕ, ◌+◌, not, List, [], ◌∷◌, ◌++◌, 
 use Rattle.std.specs.List.{join_by}
 use Rattle.ct_rewrite.specs.declared.answer.Node.{Node}
 use Rattle.ct_rewrite.specs.declared.answer.AnswerRow.{AnswerRow}
+use Rattle.ct_rewrite.specs.declared.answer.PossibleRow.{PossibleRow}
+use Rattle.ct_rewrite.specs.declared.answer.CertainRow.{CertainRow}
+use Rattle.ct_query.specs.declared.action.Read.{Read}
+use Rattle.ct_query.specs.declared.action.Read.TheVariants as read
 use Rattle.ct_rewrite.specs.declared.history.Change.{Change}
 use Rattle.ct_rewrite.specs.declared.history.Change.TheVariants as change
 use Rattle.ct_rewrite.specs.declared.history.Commit.{Commit}
@@ -13,7 +17,7 @@ use Rattle.ct_transcript.specs.declared.reply.Refusal.{Refusal}
 use Rattle.ct_transcript.specs.declared.reply.Refusal.TheVariants as refusal
 use Rattle.ct_transcript.specs.declared.reply.SessionLog.{SessionLog}
 use Rattle.ct_transcript.specs.declared.nodes.Printed.{Printed}
-use Rattle.ct_transcript.specs.TermText.{in_parentheses, with_commas, cells_text}
+use Rattle.ct_transcript.specs.TermText.{in_parentheses, with_commas, cells_text, tuple_text, world_text}
 use Rattle.ct_transcript.specs.NodeText.{line, printed, as_root, name_lines, unless_true, is_true_node, is_false_node}
 
 -- a row's cells and its condition
@@ -45,27 +49,61 @@ printed_answer a = printed a.nodes (map (λ r. r.cond) a.rows ++ a.global ∷ []
 abbrev pub answer_lines : Answer → List Printed → List (List ℕ)
 answer_lines a ps = name_lines ps ++ global_lines a.nodes ps a.global ++ answer_row_lines a.nodes ps a.rows
 
--- a refusal as it is printed
-abbrev pub refusal_text : Refusal → List ℕ
-refusal_text refusal.NotAStatement = codes "NotAStatement"
-refusal_text refusal.TooDeep = codes "TooDeep"
-refusal_text refusal.NumberRange = codes "NumberRange"
-refusal_text refusal.UnknownTable = codes "UnknownTable"
-refusal_text refusal.TableExists = codes "TableExists"
-refusal_text refusal.UnknownColumn = codes "UnknownColumn"
-refusal_text refusal.AmbiguousColumn = codes "AmbiguousColumn"
-refusal_text refusal.DuplicateName = codes "DuplicateName"
-refusal_text refusal.ColumnCount = codes "ColumnCount"
-refusal_text refusal.NotYet = codes "NotYet"
-refusal_text refusal.TooLarge = codes "TooLarge"
-refusal_text refusal.Full = codes "Full"
-refusal_text refusal.Memory = codes "Memory"
+-- the line of a possible row: its cells, and a world that shows it
+abbrev pub possible_line : PossibleRow → List ℕ
+possible_line r = line (codes "  " ++ cells_text r.cells ++ codes " in " ++ world_text r.world)
+
+-- the line of a certain tuple
+abbrev pub certain_line : CertainRow → List ℕ
+certain_line r = line (codes "  " ++ tuple_text r.tuple ++ codes " absence refuted")
+
+-- the name of a refusal
+abbrev pub refusal_name : Refusal → List ℕ
+refusal_name refusal.NotAStatement = codes "NotAStatement"
+refusal_name refusal.TooDeep = codes "TooDeep"
+refusal_name refusal.NumberRange = codes "NumberRange"
+refusal_name refusal.InTransaction = codes "InTransaction"
+refusal_name refusal.NoTransaction = codes "NoTransaction"
+refusal_name refusal.UnknownTable = codes "UnknownTable"
+refusal_name refusal.TableExists = codes "TableExists"
+refusal_name refusal.UnknownColumn = codes "UnknownColumn"
+refusal_name refusal.AmbiguousColumn = codes "AmbiguousColumn"
+refusal_name refusal.DuplicateName = codes "DuplicateName"
+refusal_name refusal.ColumnCount = codes "ColumnCount"
+refusal_name refusal.NotYet = codes "NotYet"
+refusal_name refusal.TooLarge = codes "TooLarge"
+refusal_name refusal.Full = codes "Full"
+refusal_name refusal.TooManyTerms = codes "TooManyTerms"
+refusal_name (refusal.Inconsistent proof) = codes "Inconsistent"
+refusal_name (refusal.Conflict table was now at) = codes "Conflict"
+refusal_name refusal.Memory = codes "Memory"
+
+-- a read as it is printed: a table by its name, or the worlds
+abbrev pub read_text : Read → List ℕ
+read_text (read.Table name) = name
+read_text read.Worlds = codes "worlds"
+
+-- what was read, its last commit when the transaction began, and a later one at a version
+abbrev pub conflict_text : Read → ℕ → ℕ → ℕ → List ℕ
+conflict_text table was now at =
+    codes " " ++ read_text table ++ codes " was " ++ decimal was ++ codes " now " ++ decimal now ++ codes " at " ++ decimal at
+
+-- what a refusal says after its name
+abbrev pub refusal_rest : Refusal → List ℕ
+refusal_rest (refusal.Conflict table was now at) = conflict_text table was now at
+refusal_rest _ = []
 
 -- the lines of a reply, the first without its statement's number
 abbrev pub reply_lines : Reply → List ℕ × List (List ℕ)
+reply_lines (reply.Begun at) = (codes "begun at " ++ decimal at, [])
+reply_lines reply.RolledBack = (codes "rolled back", [])
+reply_lines (reply.Pending at plus) = (codes "pending at " ++ decimal at ++ codes " plus " ++ decimal plus, [])
 reply_lines (reply.Committed at) = (codes "committed " ++ decimal at, [])
+reply_lines (reply.Nothing at) = (codes "nothing to commit at " ++ decimal at, [])
 reply_lines (reply.Rows at plus answer) = (head_text (codes "rows") answer.columns at plus, answer_lines answer (printed_answer answer))
-reply_lines (reply.Refused at why) = (codes "refused " ++ refusal_text why, [])
+reply_lines (reply.Possible at plus columns rows) = (head_text (codes "possible") columns at plus, map possible_line rows)
+reply_lines (reply.Certain at plus columns rows) = (head_text (codes "certain") columns at plus, map certain_line rows)
+reply_lines (reply.Refused at why) = (codes "refused " ++ refusal_name why ++ refusal_rest why, [])
 
 -- the lines of the reply to statement k
 abbrev pub numbered : ℕ → List ℕ × List (List ℕ) → List (List ℕ)

@@ -5,6 +5,7 @@
 #![tactic(auto)]
 
 mod history;
+mod listed;
 mod nodes;
 mod replies;
 mod reply;

@@ -2,13 +2,15 @@
 
 ghost use Rattle.std.specs.Prelude.{◌≡◌, ◌+◌, ◌<◌, ◌^◌, not, List, [], ◌∷◌, ◌++◌, map, filter, slice_get, codes, string_bytes, IfOk};
 ghost use Rattle.ct_transcript.specs.NodeText.{line, is_false_node};
-ghost use Rattle.ct_transcript.specs.Text.{row_text, plus_text, head_text, global_lines, answer_row_lines, printed_answer, answer_lines, refusal_text, reply_lines, numbered, replies_from};
+ghost use Rattle.ct_transcript.specs.Text.{row_text, plus_text, head_text, global_lines, answer_row_lines, printed_answer, answer_lines, refusal_name, read_text, conflict_text, refusal_rest, reply_lines, numbered, replies_from};
 ghost use Rattle.ct_transcript.specs.Written.{Appends, Adds};
 
+use crate::listed::{push_certain_rows, push_possible_rows};
 use crate::nodes::{Printed, is_false, is_true, print_nodes, push_root};
 use crate::reply::{Answer, Refusal, Reply};
 use crate::rows::{push_conditions, push_line, push_name_lines, push_row};
 use crate::terms::push_names;
+use ct_query::Read;
 use ct_rewrite::{AnswerRow, Node};
 use ct_word::{Memory, Text};
 use std::alloc::Global;
@@ -119,12 +121,14 @@ fn push_answer(alloc: Global, lines: &mut Vec<Text>, answer: &Answer) -> Result<
 }
 
 fn refusal_name(refusal: &Refusal) -> &'static str
-    ensures { result.now ≡ refusal_text refusal.now }
+    ensures { result.now ≡ refusal_name refusal.now }
 {
     match refusal {
         Refusal::NotAStatement => "NotAStatement",
         Refusal::TooDeep => "TooDeep",
         Refusal::NumberRange => "NumberRange",
+        Refusal::InTransaction => "InTransaction",
+        Refusal::NoTransaction => "NoTransaction",
         Refusal::UnknownTable => "UnknownTable",
         Refusal::TableExists => "TableExists",
         Refusal::UnknownColumn => "UnknownColumn",
@@ -134,7 +138,43 @@ fn refusal_name(refusal: &Refusal) -> &'static str
         Refusal::NotYet => "NotYet",
         Refusal::TooLarge => "TooLarge",
         Refusal::Full => "Full",
+        Refusal::TooManyTerms => "TooManyTerms",
+        Refusal::Inconsistent { .. } => "Inconsistent",
+        Refusal::Conflict { .. } => "Conflict",
         Refusal::Memory => "Memory",
+    }
+}
+
+fn read_name(read: &Read) -> &str
+    ensures { result.now ≡ read_text read.now }
+{
+    match read {
+        Read::Table(name) => name.as_str(),
+        Read::Worlds => "worlds",
+    }
+}
+
+fn push_conflict(out: &mut String, table: &Read, was: u32, now: u32, at: u32) -> Result<(), Memory>
+    ensures { Appends result out.old out.new (conflict_text table.now was now at) }
+{
+    out.push_str(" ")?;
+    out.push_str(read_name(table))?;
+    write!(out, " was {was} now {now} at {at}")?;
+    Ok(())
+}
+
+fn push_refusal(out: &mut String, refusal: &Refusal) -> Result<(), Memory>
+    ensures { Appends result out.old out.new (refusal_name refusal.now ++ refusal_rest refusal.now) }
+{
+    out.push_str(refusal_name(refusal))?;
+    match refusal {
+        Refusal::Conflict {
+            table,
+            was,
+            now,
+            at,
+        } => push_conflict(out, table, *was, *now, *at),
+        _ => Ok(()),
     }
 }
 
@@ -143,13 +183,29 @@ fn push_first(out: &mut String, reply: &Reply) -> Result<(), Memory>
     ensures { Appends result out.old out.new (reply_lines reply.now).0 }
 {
     match reply {
+        Reply::Begun { at } => write!(out, "begun at {at}")?,
+        Reply::RolledBack => out.push_str("rolled back")?,
+        Reply::Pending { at, plus } => write!(out, "pending at {at} plus {plus}")?,
         Reply::Committed { at } => write!(out, "committed {at}")?,
+        Reply::Nothing { at } => write!(out, "nothing to commit at {at}")?,
         Reply::Rows { at, plus, answer } => {
             push_head(out, "rows", answer.columns.as_slice(), *at, *plus)?
         }
+        Reply::Possible {
+            at,
+            plus,
+            columns,
+            ..
+        } => push_head(out, "possible", columns.as_slice(), *at, *plus)?,
+        Reply::Certain {
+            at,
+            plus,
+            columns,
+            ..
+        } => push_head(out, "certain", columns.as_slice(), *at, *plus)?,
         Reply::Refused { why, .. } => {
             out.push_str("refused ")?;
-            out.push_str(refusal_name(why))?;
+            push_refusal(out, why)?;
         }
     }
     Ok(())
@@ -161,6 +217,8 @@ fn push_rest(alloc: Global, lines: &mut Vec<Text>, reply: &Reply) -> Result<(), 
 {
     match reply {
         Reply::Rows { answer, .. } => push_answer(alloc, lines, answer),
+        Reply::Possible { rows, .. } => push_possible_rows(alloc, lines, rows.as_slice()),
+        Reply::Certain { rows, .. } => push_certain_rows(alloc, lines, rows.as_slice()),
         _ => Ok(()),
     }
 }

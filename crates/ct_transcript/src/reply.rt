@@ -4,7 +4,9 @@ ghost use Rattle.std.specs.Prelude.{◌≡◌};
 ghost use Rattle.ct_transcript.specs.declared.reply.Refusal.TheVariants as refusal;
 
 use ct_arena::Full;
-use ct_rewrite::{AnswerRow, Node};
+use ct_derivation::Proof;
+use ct_query::Read;
+use ct_rewrite::{AnswerRow, CertainRow, Node, PossibleRow};
 use ct_word::{List, Memory, Text};
 use std::alloc::{AllocError, AllocFailed};
 
@@ -17,6 +19,10 @@ pub enum Refusal {
     TooDeep,
     /// A number of the text is outside 64 bits signed.
     NumberRange,
+    /// A transaction is to begin within another one.
+    InTransaction,
+    /// A transaction is to end where none is open.
+    NoTransaction,
     /// A table that is named is not there.
     UnknownTable,
     /// A table is to be created whose name is there.
@@ -35,6 +41,20 @@ pub enum Refusal {
     TooLarge,
     /// The log has as many words as its capacity, and the statement needs another one.
     Full,
+    /// The question has more than 64 distinct terms.
+    TooManyTerms,
+    /// No world that the commits and the transaction's changes admit satisfies the assertion: the proof refutes it.
+    Inconsistent {
+        proof: Proof,
+    },
+    /// Another session has changed what the transaction reads: `table` was last changed by commit `was` when the
+    /// transaction began, and by commit `now` at version `at`. A count of 0 is no commit.
+    Conflict {
+        table: Read,
+        was: u32,
+        now: u32,
+        at: u32,
+    },
     /// Memory was wanting.
     Memory,
 }
@@ -84,15 +104,54 @@ pub struct Answer {
     pub global: u32,
 }
 
-/// What a statement is answered. `at` is a version: the number of commits that were seen.
+/// What a statement is answered. `at` is a version: the number of commits that were seen. `plus` is the number of
+/// the transaction's own changes, 0 outside a transaction.
 #[derive(Drop)]
 pub enum Reply {
-    /// The statement's change is commit `at` of the history.
-    Committed { at: u32 },
+    /// A transaction has begun, at version `at`.
+    Begun {
+        at: u32,
+    },
+    /// The transaction has ended, and none of its changes was made.
+    RolledBack,
+    /// The statement's change is number `plus` of the transaction that began at version `at`.
+    Pending {
+        at: u32,
+        plus: u32,
+    },
+    /// The changes of the statement or of the transaction that it ends are commit `at` of the history.
+    Committed {
+        at: u32,
+    },
+    /// The transaction that began at version `at` has ended, and had no changes.
+    Nothing {
+        at: u32,
+    },
     /// The answer to a query at version `at`, after `plus` changes of the transaction's own.
-    Rows { at: u32, plus: u32, answer: Answer },
+    Rows {
+        at: u32,
+        plus: u32,
+        answer: Answer,
+    },
+    /// The rows that a query has in some of the worlds, each with such a world.
+    Possible {
+        at: u32,
+        plus: u32,
+        columns: List<Text>,
+        rows: List<PossibleRow>,
+    },
+    /// The tuples that a query has in all worlds, each with a proof that it is absent in none.
+    Certain {
+        at: u32,
+        plus: u32,
+        columns: List<Text>,
+        rows: List<CertainRow>,
+    },
     /// Nothing was changed. `at` is the version that the refusal rests on, or the last one that was seen.
-    Refused { at: u32, why: Refusal },
+    Refused {
+        at: u32,
+        why: Refusal,
+    },
 }
 
 /// A session's script and its replies, one for each statement.

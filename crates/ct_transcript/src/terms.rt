@@ -2,7 +2,7 @@
 
 ghost use Rattle.std.specs.Prelude.{◌≡◌, flat_map, map, encode_utf8};
 ghost use Rattle.ct_transcript.specs.Written.{Appends, separator_before};
-ghost use Rattle.ct_transcript.specs.TermText.{in_parentheses, with_commas, quoted_byte, value_text, null_text, term_text, cells_text};
+ghost use Rattle.ct_transcript.specs.TermText.{in_parentheses, with_commas, quoted_byte, value_text, null_text, term_text, cells_text, tuple_text, pair_text, world_text};
 
 use ct_word::{Memory, Null, Term, Text, Value};
 use std::fmt::Write;
@@ -89,6 +89,50 @@ pub(crate) fn push_cells(out: &mut String, cells: &[Term]) -> Result<(), Memory>
         push_term(out, cell)?;
     }
     out.push_str(")")?;
+    Ok(())
+}
+
+/// Appends the values of a tuple.
+pub(crate) fn push_tuple(out: &mut String, tuple: &[Value]) -> Result<(), Memory>
+    ensures { Appends result out.old out.new (tuple_text tuple.now) }
+{
+    out.push_str("(")?;
+    for (i, value) in tuple.iter().enumerate() {
+        push_separator(out, i, ", ")?;
+        push_value(out, value)?;
+    }
+    out.push_str(")")?;
+    Ok(())
+}
+
+fn push_pair(out: &mut String, pair: &(Null, Value)) -> Result<(), Memory>
+    ensures { Appends result out.old out.new (pair_text pair.now) }
+{
+    push_null(out, &pair.0)?;
+    out.push_str(" = ")?;
+    push_value(out, &pair.1)?;
+    Ok(())
+}
+
+fn push_pairs(out: &mut String, pairs: &[(Null, Value)]) -> Result<(), Memory>
+    ensures { Appends result out.old out.new (with_commas pair_text pairs.now) }
+{
+    for (i, pair) in pairs.iter().enumerate() {
+        push_separator(out, i, ", ")?;
+        push_pair(out, pair)?;
+    }
+    Ok(())
+}
+
+/// Appends the nulls of a world with their values.
+pub(crate) fn push_world(out: &mut String, world: &[(Null, Value)]) -> Result<(), Memory>
+    ensures { Appends result out.old out.new (world_text world.now) }
+{
+    if world.is_empty() {
+        out.push_str("default")?;
+    } else {
+        push_pairs(out, world)?;
+    }
     Ok(())
 }
 
