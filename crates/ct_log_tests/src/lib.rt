@@ -12,4 +12,6 @@ mod conditions;
 #[cfg(test)]
 mod printed;
 #[cfg(test)]
+mod replies;
+#[cfg(test)]
 mod transcript;

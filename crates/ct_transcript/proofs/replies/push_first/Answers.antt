@@ -1,0 +1,7 @@
+use Rattle.ct_transcript.proofs.replies.push_first.Goals as goal
+
+pub returns-in_ok-write-in-Pending : goal.returns-in_ok-write-in-Pending
+returns-in_ok-write-in-Pending c = rw c.in-Pending.is c.in_ok-write-in-Pending.ensures.bytes
+
+pub returns-in_ok-write-in-Committed : goal.returns-in_ok-write-in-Committed
+returns-in_ok-write-in-Committed c = rw c.in-Committed.is c.in_ok-write-in-Committed.ensures.bytes
