@@ -1,20 +1,22 @@
 -- One more reply.
 use Rattle.std.proofs.Common.{◌≡◌, ℕ, ◌+◌, ◌≤◌, Bool, true, false, ◌||◌, List, [], ◌∷◌, ◌++◌, length, refl, ap, sym, subst, ◌∙◌, arith, length-append}
-use Rattle.std.specs.Prelude.{filter_map, Some, nat_eq, if◌then◌else◌}
+use Rattle.std.specs.Prelude.{filter_map, Option, Some, None, IsSome}
+use Rattle.std.specs.Option.{option_to_list}
 use Rattle.std.specs.List.{list_any, cons_option}
-use Rattle.std.proofs.lemmas.Bool.{eq-eqb, false≢true}
-use Rattle.std.proofs.lemmas.List.{append-nil}
+use Rattle.std.proofs.lemmas.Bool.{false≢true}
+use Rattle.std.proofs.lemmas.List.{append_assoc}
 use Rattle.std.proofs.lemmas.List.Elements.{All-nil, All-push, filter_map-append}
 use mathlib.Core.List.{IsPrefix}
 use Rattle.ct_word.specs.Change.{PlainCommit}
-use Rattle.ct_word.proofs.Prefixes.{prefix_of_prefix, prefix_same}
+use Rattle.ct_word.specs.Reading.{commits_of}
+use Rattle.ct_word.proofs.Prefixes.{prefix_of_prefix}
 use Rattle.ct_transcript.specs.declared.reply.Reply.{Reply}
 use Rattle.ct_transcript.specs.declared.reply.Reply.TheVariants as reply
 use Rattle.ct_transcript.specs.declared.reply.Refusal.TheVariants as refusal
-use Rattle.ct_session.specs.State.{SessionState, beginning}
+use Rattle.ct_session.specs.State.{SessionState}
 use Rattle.ct_session.specs.LawfulReply.{LawfulReply}
-use Rattle.ct_session.specs.Answers.{state_after, committed_of, is_full, Commits, nothing, one, Answers}
-use Rattle.ct_serve.specs.Sessions.{AreLawful, commits_by, IsNoCommit, EndsAtFull}
+use Rattle.ct_session.specs.Answers.{committed_of, commits_by, is_full, Answers}
+use Rattle.ct_serve.specs.Sessions.{AreLawful, IsNoCommit, EndsAtFull}
 use Rattle.ct_serve.specs.Progress.{Progress}
 
 -- replies that are lawful, and one more
@@ -24,20 +26,6 @@ lawful_push H W N s t u [] [] x r are is = (u, subst (λ st. LawfulReply H W N s
 lawful_push H W N s t u (y ∷ xs) (q ∷ rs) x r are is = (are.0, are.1, lawful_push H W N are.0 t u xs rs x r are.2 is)
 lawful_push H W N s t u [] (q ∷ rs) x r are is = absurd are
 lawful_push H W N s t u (y ∷ xs) [] x r are is = absurd are
-
--- one more commit of a session has the next number
-commits_by_push : (s m : ℕ) (h : List PlainCommit) (c : PlainCommit) → c.session ≡ s → commits_by s m (h ++ c ∷ []) ≡ commits_by s m h ++ (m + length h) ∷ []
-commits_by_push s m [] c e =
-    ap (λ b. if b then m ∷ [] else []) (eq-eqb c.session s e) ∙ ap (λ k. k ∷ []) (let z : m ≡ m + 0 = omega arith in z)
-commits_by_push s m (d ∷ h) c e = by_test (nat_eq d.session s) (commits_by_push s (m + 1) h c e) where
-  next : (m + 1) + length h ≡ m + length (d ∷ h)
-  next = omega arith
-
-  by_test : (b : Bool) → commits_by s (m + 1) (h ++ c ∷ []) ≡ commits_by s (m + 1) h ++ ((m + 1) + length h) ∷ []
-      → (if b then m ∷ commits_by s (m + 1) (h ++ c ∷ []) else commits_by s (m + 1) (h ++ c ∷ []))
-      ≡ (if b then m ∷ commits_by s (m + 1) h else commits_by s (m + 1) h) ++ (m + length (d ∷ h)) ∷ []
-  by_test true rest = ap (λ l. m ∷ l) (rest ∙ ap (λ k. commits_by s (m + 1) h ++ k ∷ []) next)
-  by_test false rest = rest ∙ ap (λ k. commits_by s (m + 1) h ++ k ∷ []) next
 
 -- the last reply, after none that says that the log is full
 ends_one : (r : Reply) → EndsAtFull (r ∷ [])
@@ -53,9 +41,20 @@ ends_one (reply.Refused at refusal.DuplicateName) = tt
 ends_one (reply.Refused at refusal.ColumnCount) = tt
 ends_one (reply.Refused at refusal.NotYet) = tt
 ends_one (reply.Refused at refusal.TooLarge) = tt
+ends_one (reply.Refused at refusal.InTransaction) = tt
+ends_one (reply.Refused at refusal.NoTransaction) = tt
+ends_one (reply.Refused at refusal.TooManyTerms) = tt
+ends_one (reply.Refused at (refusal.Inconsistent proof)) = tt
+ends_one (reply.Refused at (refusal.Conflict table was now at')) = tt
 ends_one (reply.Refused at refusal.Memory) = tt
+ends_one (reply.Begun at) = tt
+ends_one reply.RolledBack = tt
+ends_one (reply.Pending at plus) = tt
 ends_one (reply.Committed m) = tt
+ends_one (reply.Nothing at) = tt
 ends_one (reply.Rows at plus answer) = tt
+ends_one (reply.Possible at plus columns list) = tt
+ends_one (reply.Certain at plus columns list) = tt
 
 -- no Committed reply follows one that says that the log is full
 full_push : (rs : List Reply) (r : Reply) → EndsAtFull rs → (list_any is_full rs ≡ true → IsNoCommit r) → EndsAtFull (rs ++ r ∷ [])
@@ -72,9 +71,20 @@ full_push (reply.Refused at refusal.DuplicateName ∷ rs) r ends none = full_pus
 full_push (reply.Refused at refusal.ColumnCount ∷ rs) r ends none = full_push rs r ends none
 full_push (reply.Refused at refusal.NotYet ∷ rs) r ends none = full_push rs r ends none
 full_push (reply.Refused at refusal.TooLarge ∷ rs) r ends none = full_push rs r ends none
+full_push (reply.Refused at refusal.InTransaction ∷ rs) r ends none = full_push rs r ends none
+full_push (reply.Refused at refusal.NoTransaction ∷ rs) r ends none = full_push rs r ends none
+full_push (reply.Refused at refusal.TooManyTerms ∷ rs) r ends none = full_push rs r ends none
+full_push (reply.Refused at (refusal.Inconsistent proof) ∷ rs) r ends none = full_push rs r ends none
+full_push (reply.Refused at (refusal.Conflict table was now at') ∷ rs) r ends none = full_push rs r ends none
 full_push (reply.Refused at refusal.Memory ∷ rs) r ends none = full_push rs r ends none
+full_push (reply.Begun at ∷ rs) r ends none = full_push rs r ends none
+full_push (reply.RolledBack ∷ rs) r ends none = full_push rs r ends none
+full_push (reply.Pending at plus ∷ rs) r ends none = full_push rs r ends none
 full_push (reply.Committed m ∷ rs) r ends none = full_push rs r ends none
+full_push (reply.Nothing at ∷ rs) r ends none = full_push rs r ends none
 full_push (reply.Rows at plus answer ∷ rs) r ends none = full_push rs r ends none
+full_push (reply.Possible at plus columns list ∷ rs) r ends none = full_push rs r ends none
+full_push (reply.Certain at plus columns list ∷ rs) r ends none = full_push rs r ends none
 
 any_push : (rs : List Reply) (r : Reply) → list_any is_full (rs ++ r ∷ []) ≡ (list_any is_full rs || is_full r)
 any_push [] r = by_test (is_full r) where
@@ -86,42 +96,45 @@ any_push (q ∷ rs) r = ap (λ b. is_full q || b) (any_push rs r) ∙ by_test (i
   by_test true = refl
   by_test false = refl
 
--- the history of a reply begins with the one before it
-history_grows : (h h' : List PlainCommit) (r : Reply) → Commits h h' r → IsPrefix h h'
-history_grows h h' r (nothing r' e) = prefix_same h
-history_grows h h' r (one c e) = (c ∷ [], refl)
-
-not_committed : (r : Reply) → ((m : ℕ) → committed_of r ≡ Some m → ⊥) → IsNoCommit r
-not_committed (reply.Committed m) never = never m refl
-not_committed (reply.Refused at why) never = tt
+not_committed : (r : Reply) → (IsSome (committed_of r) → ⊥) → IsNoCommit r
+not_committed (reply.Committed m) never = never refl
+not_committed (reply.Begun at) never = tt
+not_committed reply.RolledBack never = tt
+not_committed (reply.Pending at plus) never = tt
+not_committed (reply.Nothing at) never = tt
 not_committed (reply.Rows at plus answer) never = tt
+not_committed (reply.Possible at plus columns list) never = tt
+not_committed (reply.Certain at plus columns list) never = tt
+not_committed (reply.Refused at why) never = tt
 
-commits_push : (h h' : List PlainCommit) (rs : List Reply) (r : Reply) → Commits h h' r → commits_by 1 1 h ≡ filter_map committed_of rs
-    → commits_by 1 1 h' ≡ filter_map committed_of (rs ++ r ∷ [])
-commits_push h h' rs r (nothing r' none) e =
-    e ∙ sym (append-nil (filter_map committed_of rs)) ∙ ap (λ o. filter_map committed_of rs ++ cons_option o []) (sym none) ∙ sym (filter_map-append committed_of rs (r ∷ []))
-commits_push h h' rs r (one c by) e =
-    commits_by_push 1 1 h c by ∙ (λ i. e i ++ next i ∷ []) ∙ sym (filter_map-append committed_of rs (reply.Committed (length h + 1) ∷ [])) where
-      next : 1 + length h ≡ length h + 1
-      next = omega arith
+-- the commits that came to the words, and one more reply
+commits_push : (old mid new : List ℕ) (rs : List Reply) (r : Reply) → mid ≡ old ++ filter_map committed_of rs → new ≡ mid ++ option_to_list (committed_of r)
+    → new ≡ old ++ filter_map committed_of (rs ++ r ∷ [])
+commits_push old mid new rs r e f =
+    f
+    ∙ ap (λ l. l ++ option_to_list (committed_of r)) e
+    ∙ append_assoc old (filter_map committed_of rs) (option_to_list (committed_of r))
+    ∙ ap (λ l. old ++ l) (ap (λ l. filter_map committed_of rs ++ l) (one_listed (committed_of r)) ∙ sym (filter_map-append committed_of rs (r ∷ []))) where
+      one_listed : (o : Option ℕ) → option_to_list o ≡ cons_option o []
+      one_listed None = refl
+      one_listed (Some m) = refl
 
 longer_full : (N : ℕ) (words words' : List ℕ) → IsPrefix words words' → length words ≡ N → length words' ≤ N → length words' ≡ N
 longer_full N words words' p e le = let sum : length (words ++ p.0) ≡ length words' = ap length p.1 in omega (arith, length-append words p.0, sum)
 
-pub progress_push : (N : ℕ) (h h' : List PlainCommit) (fresh fresh' : ℕ) (words words' : List ℕ) (xs : List (List ℕ)) (rs : List Reply) (x : List ℕ) (r : Reply)
-    → Progress N h fresh words xs rs → Answers N h h' fresh fresh' words words' x r → Progress N h' fresh' words' (xs ++ x ∷ []) (rs ++ r ∷ [])
-progress_push N h h' fresh fresh' words words' xs rs x r p a = record {
-  lawful = λ H W g. lawful_push H W N (beginning 1) (state_after h fresh) (state_after h' fresh') xs rs x r
-      (p.lawful H W (record {
-        history = prefix_of_prefix h h' H (history_grows h h' r a.commits) g.history;
-        log = prefix_of_prefix words words' W a.longer g.log;
-        room = g.room;
-      })) (a.lawful H W g);
-  commits = commits_push h h' rs r a.commits p.commits;
-  full = full_push rs r p.full (λ e. not_committed r (λ m is. let lt = a.not_full m is in let eq = p.filled e in omega arith));
+pub progress_push : (N : ℕ) (first s next : SessionState) (words mid words' : List ℕ) (xs : List (List ℕ)) (rs : List Reply) (x : List ℕ) (r : Reply)
+    → Progress N first s words mid xs rs → Answers N s next mid words' x r → Progress N first next words words' (xs ++ x ∷ []) (rs ++ r ∷ [])
+progress_push N first s next words mid words' xs rs x r p a = record {
+  lawful = λ W g H stands. lawful_push H W N first s next xs rs x r
+      (p.lawful W (record { log = prefix_of_prefix mid words' W a.longer g.log; formed = g.formed; room = g.room }) H stands) (a.lawful W g H stands);
+  longer = prefix_of_prefix words mid words' p.longer a.longer;
+  same = a.same ∙ p.same;
+  commits = commits_push (commits_by first.session 1 (commits_of words)) (commits_by first.session 1 (commits_of mid)) (commits_by first.session 1 (commits_of words')) rs r p.commits
+      (subst (λ k. commits_by k 1 (commits_of words') ≡ commits_by k 1 (commits_of mid) ++ option_to_list (committed_of r)) p.same a.commits);
+  full = full_push rs r p.full (λ e. not_committed r (λ some. let lt = a.not_full some in let eq = p.filled e in omega arith));
   filled = λ e. by_test (list_any is_full rs) (is_full r) refl refl (sym (any_push rs r) ∙ e);
 } where
   by_test : (b c : Bool) → list_any is_full rs ≡ b → is_full r ≡ c → (list_any is_full rs || is_full r) ≡ true → length words' ≡ N
-  by_test true c p' q' e = longer_full N words words' a.longer (p.filled p') a.room
+  by_test true c p' q' e = longer_full N mid words' a.longer (p.filled p') a.room
   by_test false true p' q' e = a.full q'
   by_test false false p' q' e = absurd (false≢true (sym (λ i. p' i || q' i) ∙ e))

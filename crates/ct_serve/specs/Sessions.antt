@@ -1,5 +1,5 @@
 -- When the replies of a session are lawful.
-use Rattle.std.specs.Prelude.{◌≡◌, ℕ, ◌+◌, List, [], ◌∷◌, filter_map, All, ⊤, nat_eq, if◌then◌else◌}
+use Rattle.std.specs.Prelude.{◌≡◌, ℕ, ◌+◌, List, [], ◌∷◌, filter_map, All, ⊤}
 use Rattle.ct_word.specs.Change.{PlainCommit}
 use Rattle.ct_lex.specs.Texts.{texts}
 use Rattle.ct_transcript.specs.declared.reply.Reply.{Reply}
@@ -8,12 +8,7 @@ use Rattle.ct_transcript.specs.declared.reply.Refusal.TheVariants as refusal
 use Rattle.ct_transcript.specs.declared.reply.SessionLog.{SessionLog}
 use Rattle.ct_session.specs.State.{SessionState, beginning}
 use Rattle.ct_session.specs.LawfulReply.{LawfulReply}
-use Rattle.ct_session.specs.Answers.{committed_of}
-
--- the numbers, from this one on, of the commits of a session
-abbrev pub commits_by : ℕ → ℕ → List PlainCommit → List ℕ
-commits_by s m [] = []
-commits_by s m (c ∷ cs) = if nat_eq c.session s then m ∷ commits_by s (m + 1) cs else commits_by s (m + 1) cs
+use Rattle.ct_session.specs.Answers.{committed_of, commits_by}
 
 -- that a reply is not Committed
 abbrev pub IsNoCommit : Reply → Type 0

@@ -1,9 +1,10 @@
 // The session of a run.
 
 ghost use Rattle.std.specs.Prelude.{All, ◌≡◌, ◌∷◌, ◌<◌, ◌≤◌, ◌^◌, [], map, length, IfOk};
+ghost use Rattle.ct_arena.specs.Counts.{opening};
 ghost use Rattle.ct_lex.specs.Texts.{texts};
-ghost use Rattle.ct_rewrite.specs.History.{plain_history};
-ghost use Rattle.ct_session.specs.Catalogue.{IsCatalogue};
+ghost use Rattle.ct_session.specs.Catalogue.{IsCatalogue, state_of};
+ghost use Rattle.ct_session.specs.State.{beginning};
 ghost use Rattle.ct_serve.specs.Lawful.{Lawful};
 ghost use Rattle.ct_serve.specs.Progress.{Progress};
 
@@ -30,12 +31,13 @@ fn answer<N: Site, R: Wait, G: Gate + Sync>(
     statements: &[&str],
     gate: &G,
 ) -> Result<(Session<N>, Vec<Reply>), Memory>
-    requires kept { IsCatalogue N.log.cap session.pass session.keeper session.tables session.history.items }
+    requires kept { IsCatalogue session.pass session.keeper session.tables session.history.items }
     requires begins { session.history.items ≡ [] }
     requires none_drawn { session.fresh ≡ 0 }
+    requires opens { session.pass.words ≡ opening }
     requires few { length statements.now < 2 ^ 16 }
-    ensures kept { IfOk result (λ r. IsCatalogue N.log.cap r.0.pass r.0.keeper r.0.tables r.0.history.items) }
-    ensures progress { IfOk result (λ r. Progress N.log.cap (plain_history r.0.history.items) r.0.fresh r.0.pass.words (map (λ t. t.now) statements.now) r.1.items) }
+    ensures kept { IfOk result (λ r. IsCatalogue r.0.pass r.0.keeper r.0.tables r.0.history.items) }
+    ensures progress { IfOk result (λ r. Progress N.log.cap (beginning 1) (state_of r.0.pass r.0.history.items r.0.fresh) opening r.0.pass.words (map (λ t. t.now) statements.now) r.1.items) }
 {
     let mut replies = Vec::with_capacity(alloc, statements.len())?;
     for statement in statements {
@@ -62,12 +64,13 @@ fn execute_script<N: Site, R: Wait, G: Gate + Sync>(
     script: &str,
     gate: &G,
 ) -> Result<(Session<N>, Vec<Reply>), Memory>
-    requires kept { IsCatalogue N.log.cap session.pass session.keeper session.tables session.history.items }
+    requires kept { IsCatalogue session.pass session.keeper session.tables session.history.items }
     requires begins { session.history.items ≡ [] }
     requires none_drawn { session.fresh ≡ 0 }
+    requires opens { session.pass.words ≡ opening }
     requires few { length (texts script.now) < 2 ^ 16 }
-    ensures kept { IfOk result (λ r. IsCatalogue N.log.cap r.0.pass r.0.keeper r.0.tables r.0.history.items) }
-    ensures progress { IfOk result (λ r. Progress N.log.cap (plain_history r.0.history.items) r.0.fresh r.0.pass.words (texts script.now) r.1.items) }
+    ensures kept { IfOk result (λ r. IsCatalogue r.0.pass r.0.keeper r.0.tables r.0.history.items) }
+    ensures progress { IfOk result (λ r. Progress N.log.cap (beginning 1) (state_of r.0.pass r.0.history.items r.0.fresh) opening r.0.pass.words (texts script.now) r.1.items) }
 {
     let statements = split(alloc, script)?;
     answer(rt, alloc, arena, session, statements.as_slice(), gate)
@@ -79,12 +82,12 @@ fn execute_script<N: Site, R: Wait, G: Gate + Sync>(
 /// `Memory` where there is none for its list of the log.
 fn begin<N: Site>(alloc: Global, blank: Blank) -> Result<(Arena<N>, Session<N>), Memory>
     requires { blank ≡ N.log }
-    ensures kept { IfOk result (λ r. IsCatalogue N.log.cap r.1.pass r.1.keeper r.1.tables r.1.history.items) }
+    ensures kept { IfOk result (λ r. IsCatalogue r.1.pass r.1.keeper r.1.tables r.1.history.items) }
     ensures begins { IfOk result (λ r. r.1.history.items ≡ []) }
     ensures none_drawn { IfOk result (λ r. r.1.fresh ≡ 0) }
+    ensures opens { IfOk result (λ r. r.1.pass.words ≡ opening) }
 {
     let (arena, mut keeper) = Arena::make(blank);
-    let _words = keeper.words();
     let pass = keeper.enrol(alloc, &arena)?;
     let session = Session {
         pass,
@@ -107,8 +110,8 @@ fn end<N: Site>(
     script: Text,
     replies: Vec<Reply>,
 ) -> Result<Transcript, Memory>
-    requires kept { IsCatalogue N.log.cap session.pass session.keeper session.tables session.history.items }
-    requires progress { Progress N.log.cap (plain_history session.history.items) session.fresh session.pass.words (texts script) replies.items }
+    requires kept { IsCatalogue session.pass session.keeper session.tables session.history.items }
+    requires progress { Progress N.log.cap (beginning 1) (state_of session.pass session.history.items session.fresh) opening session.pass.words (texts script) replies.items }
     ensures lawful { IfOk result (λ transcript. Lawful transcript N.log.cap) }
     ensures script { IfOk result (λ transcript. map (λ s. s.script) transcript.sessions ≡ script ∷ []) }
 {
@@ -118,6 +121,8 @@ fn end<N: Site>(
         history,
         ..
     } = session;
+    // The commits of the session in its words are all that it made.
+    let _ = pass.words();
     let replies = List::from_vec(replies);
     let sessions = list_of_one(alloc, SessionLog { script, replies })?;
     keeper.end(&arena, pass);

@@ -1,50 +1,49 @@
--- What a commit of an offer is answered.
-use Rattle.std.proofs.Common.{◌≡◌, ℕ, ◌+◌, ◌-◌, ◌<◌, ◌≤◌, List, [], ◌∷◌, ◌++◌, length, take, map, refl, ap, sym, subst, ◌∙◌, arith, length-append}
-use Rattle.std.specs.Prelude.{slice_get, Some, None, Ok, Err, IsTrue, max}
-use Rattle.std.proofs.lemmas.List.{append_assoc}
+-- What a statement is answered, when the session's pass has caught up with all commits: each reply is lawful as the words go on.
+use Rattle.std.proofs.Common.{◌≡◌, ℕ, ◌+◌, ◌-◌, ◌<◌, ◌≤◌, Bool, true, false, List, [], ◌∷◌, ◌++◌, length, take, map, refl, ap, sym, subst, inl, ◌∙◌, arith, length-append}
+use Rattle.std.specs.Prelude.{Option, slice_get, Some, None, IfSome, Ok, Err, IsTrue, max, if◌then◌else◌}
+use Rattle.std.proofs.lemmas.Bool.{false≢true}
+use Rattle.std.proofs.lemmas.List.{append-nil}
 use mathlib.Core.List.{IsPrefix}
 use Rattle.ct_word.specs.Change.{PlainCommit}
-use Rattle.ct_word.proofs.Prefixes.{get_in_prefix}
-use Rattle.ct_query.specs.Plain.{PlainAction, PlainStatement}
+use Rattle.ct_word.specs.Reading.{commits_of, change_list_at}
+use Rattle.ct_word.specs.StandsFor.{StandsFor}
+use Rattle.ct_word.proofs.Prefixes.{get_in_prefix, commits_prefix, prefix_of_prefix}
+use Rattle.ct_query.specs.Plain.{PlainAction, PlainStatement, PlainQuery}
 use Rattle.ct_query.specs.Plain as plain
+use Rattle.ct_query.specs.declared.action.Ask.TheVariants as ask
 use Rattle.ct_query.specs.Agrees.{Agrees}
+use Rattle.ct_query.specs.Schema.{schema}
 use Rattle.ct_query.specs.Patterns.{pattern, count}
 use Rattle.ct_query.specs.Size.{size}
+use Rattle.ct_query.specs.Terms.{term_count}
 use Rattle.ct_algebra.specs.Evaluates.{limit}
 use Rattle.ct_word.specs.Sublist.{IsSublist}
 use Rattle.ct_transcript.specs.declared.reply.Answer.{Answer}
-use Rattle.ct_transcript.specs.Means.{Means}
-use Rattle.ct_rewrite.specs.declared.history.Commit.{Commit}
-use Rattle.ct_rewrite.specs.History.{plain_commit}
-use Rattle.ct_table.specs.Denotes.{TableView}
+use Rattle.ct_transcript.specs.Means.{allowed, shown}
+use Rattle.ct_transcript.specs.declared.reply.Reply.{Reply}
 use Rattle.ct_transcript.specs.declared.reply.Reply.TheVariants as reply
 use Rattle.ct_transcript.specs.declared.reply.Refusal.{Refusal}
-use Rattle.ct_query.specs.Plain.{PlainQuery}
-use Rattle.ct_query.specs.declared.action.Ask.TheVariants as ask
+use Rattle.ct_transcript.specs.declared.reply.Refusal.TheVariants as refusal
 use Rattle.ct_parse.specs.declared.tree.Statement.{Statement}
 use Rattle.ct_resolve.specs.declared.error.ResolveError.{ResolveError}
 use Rattle.ct_resolve.specs.Found.{Found}
+use Rattle.ct_resolve.specs.Statements.{resolved}
 use Rattle.ct_session.specs.Statements.{ReadsAs, IsTextFault}
 use Rattle.ct_session.specs.Built.{IsBuilt}
-use Rattle.ct_session.specs.State.{carried}
-use Rattle.ct_session.specs.LawfulReply.{ResolvesTo, IsUnread, IsNameFault, IsNotYet, IsTooLarge, IsFull, LawfulRefusal}
-use Rattle.ct_session.specs.Answers.{state_after, nothing, one, Answers, GoesOn, is_full}
-use Rattle.ct_session.specs.Catalogue.{IsOfferFor, IsAnswerFor, IsTooLargeAt, resolved_at}
+use Rattle.ct_session.specs.State.{SessionState, carried, drawn}
+use Rattle.ct_session.specs.Seeing.{Sees, ResolvesTo}
+use Rattle.ct_session.specs.LawfulRefusal.{TERMS, IsUnread, IsNameFault, IsNotYet, IsTooLarge, IsFull, IsTooManyTerms, LawfulRefusal}
+use Rattle.ct_session.specs.LawfulReply.{IsRows, IsCommittedAlone, LawfulReply}
+use Rattle.ct_session.specs.Answers.{committed_of, version_of, is_full, is_of_text, commits_by, GoesOn, Answers}
+use Rattle.ct_session.specs.Catalogue.{logged, IsAnswerFor, IsPast, IsFilled, IsManyTerms, IsUnmetAt, resolved_at}
+use Rattle.ct_session.proofs.Going.{state_at, prefix_short, prefix_first, IsOnward, onward}
+use Rattle.ct_session.proofs.Own.{commits_split, one_by}
+use Rattle.ct_session.proofs.Sameness.{commits_back, StandsAs, same_commit}
+use Rattle.ct_session.proofs.Weights.{makes_words_still}
 
-take_front : {A : Type 0} (xs ys : List A) → take (length xs) (xs ++ ys) ≡ xs
-take_front [] ys = refl
-take_front (x ∷ xs) ys = ap (λ l. x ∷ l) (take_front xs ys)
-
--- the first commits of a history that goes on are those before
-pub first_commits : (h H : List PlainCommit) → IsPrefix h H → take (length h) H ≡ h
-first_commits h H p = ap (take (length h)) (sym p.1) ∙ take_front h p.0
-
-prefix_before : (h : List PlainCommit) (c : PlainCommit) (H : List PlainCommit) → IsPrefix (h ++ c ∷ []) H → IsPrefix h H
-prefix_before h c H p = (c ∷ p.0, sym (append_assoc h (c ∷ []) p.0) ∙ p.1)
-
-abbrev pub resolves_on : (h H : List PlainCommit) (W : List ℕ) (N : ℕ) (fresh : ℕ) (x : List ℕ) (st : Statement) (r : Found PlainStatement) → IsPrefix h H
-    → ReadsAs x st → resolved_at h fresh st ≡ r → ResolvesTo H W N (state_after h fresh) x (length h) [] r
-resolves_on h H W N fresh x st r p reads e = record { statement = st; reads = reads; gives = ap (λ g. resolved_at g fresh st) (first_commits h H p) ∙ e }
+last_of : (h : List PlainCommit) (c : PlainCommit) → slice_get (h ++ c ∷ []) (length h) ≡ Some c
+last_of [] c = refl
+last_of (d ∷ h) c = last_of h c
 
 max_self : (n : ℕ) → max n n ≡ n
 max_self n = omega arith
@@ -52,133 +51,186 @@ max_self n = omega arith
 max_next : (n : ℕ) → max n (n + 1) ≡ n + 1
 max_next n = omega arith
 
-last_of : (h : List PlainCommit) (c : PlainCommit) → slice_get (h ++ c ∷ []) (length h) ≡ Some c
-last_of [] c = refl
-last_of (d ∷ h) c = last_of h c
+before : (n : ℕ) → (n + 1) - 1 ≡ n
+before n = omega arith
 
--- the state after a refusal, or another reply that keeps the history
-pub stays : (h : List PlainCommit) (fresh : ℕ) → state_after h fresh ≡ carried (length h) (state_after h fresh)
-stays h fresh = ap (λ n. record { session = 1; seen = n; fresh = fresh; commits = length h; transaction = None }) (sym (max_self (length h)))
+-- the state after a refusal, or another reply that keeps the commits
+pub stays : (n fresh : ℕ) → state_at n fresh ≡ carried n (state_at n fresh)
+stays n fresh = λ i. record { session = 1; seen = sym (max_self n) i; fresh = fresh; commits = n; transaction = None }
 
-module _ (N : ℕ) (h : List PlainCommit) (fresh : ℕ) (words words' : List ℕ) (x : List ℕ) (longer : IsPrefix words words') (room : length words' ≤ N) where
-  within : (H : List PlainCommit) → IsPrefix h H → length h ≤ length H
-  within H p = let sum : length (h ++ p.0) ≡ length H = ap length p.1 in omega (arith, length-append h p.0, sum)
+module _ (N : ℕ) (words start now : List ℕ) (fresh : ℕ) (x : List ℕ) (first : IsPrefix words start) (grown : IsPrefix start now) (room : length now ≤ N) where
+  abbrev h : List PlainCommit
+  h = commits_of start
 
-  at_end : (W : List ℕ) → length words' ≡ N → IsPrefix words' W → length W ≤ N → length W ≡ N
-  at_end W full p le = let sum : length (words' ++ p.0) ≡ length W = ap length p.1 in omega (arith, length-append words' p.0, sum)
+  abbrev s : SessionState
+  s = state_at (length h) fresh
 
-  -- the text is read as no statement
-  pub is_unread : (why : Refusal) → IsTextFault x why → (H : List PlainCommit) (W : List ℕ) → IsUnread H W N (state_after h fresh) x (length h) why
-  is_unread why found H W = record { found = found; at_is = refl }
+  from_words : IsPrefix words now
+  from_words = prefix_of_prefix words start now first grown
 
-  -- a name or a count does not fit
-  pub is_name_fault : (st : Statement) (e : ResolveError) → ReadsAs x st → resolved_at h fresh st ≡ Err e → (H : List PlainCommit) (W : List ℕ) → IsPrefix h H
-      → IsNameFault H W N (state_after h fresh) x (length h) e
-  is_name_fault st e reads r H W p = record {
-    actions = [];
-    sees = (omega arith, within H p, refl);
-    found = resolves_on h H W N fresh x st (Err e) p reads r;
-  }
+  -- the session has seen all commits of the words before
+  seen : length (commits_of words) ≤ length h
+  seen = prefix_short (commits_of words) h (commits_prefix words start first)
 
-  -- the statement is not built
-  pub is_not_yet : (st : Statement) (asked : PlainStatement) → ReadsAs x st → resolved_at h fresh st ≡ Ok asked → (IsBuilt st → ⊥) → (H : List PlainCommit) (W : List ℕ) → IsPrefix h H
-      → IsNotYet H W N (state_after h fresh) x (length h)
-  is_not_yet st asked reads r never H W p = record {
-    actions = [];
-    statement = asked;
-    sees = (omega arith, within H p, refl);
-    found = resolves_on h H W N fresh x st (Ok asked) p reads r;
-    not_built = never;
-  }
+  at_end : (W : List ℕ) → GoesOn N now W → length now ≡ N → length W ≡ N
+  at_end W g full = let short = prefix_short now W g.log in let le = g.room in omega (arith, short, le, full)
 
-  -- the query is too large
-  pub is_too_large : (st : Statement) → ReadsAs x st → IsTooLargeAt h fresh st → (H : List PlainCommit) (W : List ℕ) → IsPrefix h H → IsTooLarge H W N (state_after h fresh) x (length h)
-  is_too_large st reads l H W p = record {
-    actions = [];
-    columns = l.columns;
-    query = l.query;
-    sees = (omega arith, within H p, refl);
-    asks = record { found = resolves_on h H W N fresh x st _ p reads l.resolves; built = l.built };
-    past = subst (λ g. limit < size (count g []) l.query) (sym (first_commits h H p)) l.past;
-  }
+  module _ (W : List ℕ) (g : GoesOn N now W) (H : List PlainCommit) (stands : StandsFor H W) where
+    abbrev on : IsOnward h W H
+    on = onward start W (prefix_of_prefix start now W grown g.log) H stands
 
-  -- the log is full
-  pub is_full_at : (st : Statement) (asked : PlainStatement) → ReadsAs x st → resolved_at h fresh st ≡ Ok asked → IsBuilt st → length words' ≡ N
-      → (H : List PlainCommit) (W : List ℕ) → GoesOn N h H words' W → IsFull H W N (state_after h fresh) x (length h)
-  is_full_at st asked reads r built full H W g = record {
-    actions = [];
-    statement = asked;
-    sees = (omega arith, within H g.history, refl);
-    asks = record { found = resolves_on h H W N fresh x st (Ok asked) g.history reads r; built = built };
-    full = at_end W full g.log g.room;
-  }
+    sees : Sees H s (length h) []
+    sees = (omega arith, on.within, refl)
 
-  -- a refusal that is lawful however the log goes on
-  pub answers_refused : (why : Refusal) → ((H : List PlainCommit) (W : List ℕ) → GoesOn N h H words' W → LawfulRefusal H W N (state_after h fresh) x (length h) why (state_after h fresh))
-      → (IsTrue (is_full (reply.Refused (length h) why)) → length words' ≡ N) → Answers N h h fresh fresh words words' x (reply.Refused (length h) why)
-  answers_refused why lawful full = record {
-    lawful = lawful;
-    longer = longer;
-    room = room;
-    commits = nothing _ refl;
-    full = full;
-    not_full = λ m e. cc;
-  }
+    abbrev pub resolves_on : (st : Statement) (r : Found PlainStatement) → ReadsAs x st → resolved_at h fresh st ≡ r → ResolvesTo H s x (length h) [] r
+    resolves_on st r reads e = record { statement = st; reads = reads; gives = ap (λ sch. resolved sch 1 fresh st) (sym (on.keeps.schemas [])) ∙ e }
 
-  -- an answer to a query
-  pub answers_rows : (st : Statement) (query : PlainQuery) (answer : Answer) → ReadsAs x st → IsBuilt st → resolved_at h fresh st ≡ Ok (plain.Asks ask.Rows answer.columns query)
-      → IsAnswerFor h answer.columns query answer → Answers N h h fresh fresh words words' x (reply.Rows (length h) 0 answer)
-  answers_rows st query answer reads built r o = record {
-    lawful = λ H W g. record {
+    -- a name or a count does not fit
+    pub is_name_fault : (st : Statement) (e : ResolveError) → ReadsAs x st → resolved_at h fresh st ≡ Err e → IsNameFault H W N s x (length h) e
+    is_name_fault st e reads r = record { actions = []; sees = sees; found = resolves_on st (Err e) reads r }
+
+    -- the statement is not built
+    pub is_not_yet : (st : Statement) (asked : PlainStatement) → ReadsAs x st → resolved_at h fresh st ≡ Ok asked → (IsBuilt st → ⊥) → IsNotYet H W N s x (length h)
+    is_not_yet st asked reads r never = record { actions = []; statement = asked; sees = sees; asks = resolves_on st (Ok asked) reads r; not_built = never }
+
+    -- its query is too large
+    pub is_too_large : (st : Statement) → ReadsAs x st → IsUnmetAt h N now fresh st refusal.TooLarge → IsTooLarge H W N s x (length h)
+    is_too_large st reads u = record {
+      actions = [];
+      statement = u.asked;
+      query = u.unmet.query;
+      sees = sees;
+      asks = resolves_on st (Ok u.asked) reads u.resolves;
+      built = u.built;
+      evaluates = u.unmet.evaluates;
+      past = subst (λ (counts : List ℕ → ℕ). limit < size counts u.unmet.query) (λ i t. on.keeps.counts [] t i) u.unmet.past;
+    }
+
+    -- the log is full
+    pub is_full_at : (st : Statement) → ReadsAs x st → IsUnmetAt h N now fresh st refusal.Full → IsFull H W N s x (length h)
+    is_full_at st reads u = record {
+      actions = [];
+      statement = u.asked;
+      sees = sees;
+      asks = resolves_on st (Ok u.asked) reads u.resolves;
+      built = u.built;
+      full = at_end W g u.unmet.full;
+      makes_words = makes_words_still (count h []) (count H []) on.counts u.asked u.unmet.makes_words;
+    }
+
+    -- it asks about too many terms
+    pub is_too_many : (st : Statement) → ReadsAs x st → IsUnmetAt h N now fresh st refusal.TooManyTerms → IsTooManyTerms H W N s x (length h)
+    is_too_many st reads u = record {
+      actions = [];
+      statement = u.asked;
+      sees = sees;
+      asks = resolves_on st (Ok u.asked) reads u.resolves;
+      built = u.built;
+      of_worlds = u.unmet.of_worlds;
+      past = subst (λ cs. TERMS < term_count cs [] u.asked) (sym on.first) u.unmet.past;
+    }
+
+    -- a query is answered
+    is_rows : (st : Statement) (query : PlainQuery) (answer : Answer) → ReadsAs x st → IsBuilt st → resolved_at h fresh st ≡ Ok (plain.Asks ask.Rows answer.columns query)
+        → IsAnswerFor h answer.columns query answer → IsRows H W N s x (length h) 0 answer s
+    is_rows st query answer reads built r o = record {
       actions = [];
       query = query;
-      sees = (omega arith, within H g.history, refl);
-      asks = record { found = resolves_on h H W N fresh x st _ g.history reads r; built = built };
+      sees = sees;
+      asks = resolves_on st (Ok (plain.Asks ask.Rows answer.columns query)) reads r;
+      built = built;
       plus_is = refl;
       formed = o.formed;
-      means = subst (λ g'. Means answer query g' []) (sym (first_commits h H g.history)) o.means;
-      in_pattern = subst (λ g'. IsSublist (map (λ r. r.cells) answer.rows) (pattern g' [] query)) (sym (first_commits h H g.history)) o.in_pattern;
-      next_is = stays h fresh;
-    };
-    longer = longer;
-    room = room;
-    commits = nothing _ refl;
-    full = λ e. cc;
-    not_full = λ m e. cc;
-  }
+      means = λ v. on.keeps.shown (allowed v answer) (shown v answer) query [] v (o.means v);
+      in_pattern = subst (IsSublist (map (λ row. row.cells) answer.rows)) (on.keeps.patterns [] query) o.in_pattern;
+      next_is = stays (length h) fresh;
+    }
 
-  -- an offer that was committed
-  pub answers_committed : (mid : List ℕ) (st : Statement) (action : PlainAction) (changes : ℕ) (commit : Commit) (tables : List TableView) (fresh' : ℕ) → ReadsAs x st → IsBuilt st
-      → resolved_at h fresh st ≡ Ok (plain.Act action) → IsOfferFor h mid fresh action changes commit tables fresh' → length words < N
-      → Answers N h (h ++ plain_commit commit ∷ []) fresh fresh' words words' x (reply.Committed (length h + 1))
-  answers_committed mid st action changes commit tables fresh' reads built r o lt = record {
-    lawful = λ H W g. record {
-      action = action;
-      commit = plain_commit commit;
-      none_open = refl;
-      asks = record {
-        found = subst (λ n. ResolvesTo H W N (state_after h fresh) x n [] (Ok (plain.Act action))) (sym (back (length h))) (resolves_on h H W N fresh x st _ (prefix_before h _ H g.history) reads r);
-        built = built;
-      };
-      later = omega arith;
-      stands = (omega arith, ap (slice_get H) (back (length h)) ∙ get_in_prefix (h ++ plain_commit commit ∷ []) H (length h) g.history (omega (arith, length-append h (plain_commit commit ∷ []))) ∙ last_of h (plain_commit commit));
-      session = by;
-      number = number;
-      agrees = subst (λ g'. Agrees g' (action ∷ []) (plain_commit commit).changes) (sym (ap (λ n. take n H) (back (length h)) ∙ first_commits h H (prefix_before h _ H g.history)))
-          o.agrees;
-      next_is = λ i. record { session = 1; seen = (length-append h (plain_commit commit ∷ []) ∙ sym (max_next (length h))) i; fresh = o.draws i; commits = length-append h (plain_commit commit ∷ []) i; transaction = None };
-    };
-    longer = longer;
-    room = room;
-    commits = one (plain_commit commit) by;
-    full = λ e. cc;
-    not_full = λ m e. lt;
-  } where
-    back : (n : ℕ) → (n + 1) - 1 ≡ n
-    back n = omega arith
+  -- the text is read as no statement
+  pub is_unread : (why : Refusal) → IsTextFault x why → (W : List ℕ) (H : List PlainCommit) → IsUnread H W N s x (length h) why
+  is_unread why found W H = record { found = found; at_is = refl }
 
-    by : (plain_commit commit).session ≡ 1
-    by = ap (λ c. c.session) o.ready.printed
+  module _ (own : commits_by 1 1 (commits_of now) ≡ commits_by 1 1 (commits_of words)) where
+    -- a refusal that is lawful however the words go on
+    pub answers_refused : (why : Refusal) → ((W : List ℕ) → GoesOn N now W → (H : List PlainCommit) → StandsFor H W → LawfulRefusal H W N s x (length h) why s)
+        → (IsTrue (is_full (reply.Refused (length h) why)) → length now ≡ N) → Answers N s s words now x (reply.Refused (length h) why)
+    answers_refused why lawful full = record {
+      lawful = lawful;
+      newest = λ none. by_test (is_of_text why);
+      longer = from_words;
+      room = room;
+      same = refl;
+      commits = own ∙ sym (append-nil (commits_by 1 1 (commits_of words)));
+      full = full;
+      not_full = λ some. absurd (false≢true some);
+    } where
+      by_test : (b : Bool) → IfSome (if b then None else Some (length h)) (λ at. length (commits_of words) ≤ at)
+      by_test true = tt
+      by_test false = seen
 
-    number : (plain_commit commit).number ≡ length h
-    number = ap (λ c. c.number) o.ready.printed
+    -- an answer to a query
+    pub answers_rows : (st : Statement) (query : PlainQuery) (answer : Answer) → ReadsAs x st → IsBuilt st → resolved_at h fresh st ≡ Ok (plain.Asks ask.Rows answer.columns query)
+        → IsAnswerFor h answer.columns query answer → Answers N s s words now x (reply.Rows (length h) 0 answer)
+    answers_rows st query answer reads built r o = record {
+      lawful = λ W g H stands. is_rows W g H stands st query answer reads built r o;
+      newest = λ none. seen;
+      longer = from_words;
+      room = room;
+      same = refl;
+      commits = own ∙ sym (append-nil (commits_by 1 1 (commits_of words)));
+      full = λ e. absurd (false≢true e);
+      not_full = λ some. absurd (false≢true some);
+    }
+
+  -- an action that was committed: its commit came to the words
+  module _ (own : commits_by 1 1 h ≡ commits_by 1 1 (commits_of words)) (mid : List ℕ) (changes : ℕ) (came : commits_of now ≡ h ++ logged h mid changes ∷ []) (lt : length words < N) where
+    abbrev c : PlainCommit
+    c = logged h mid changes
+
+    module _ (st : Statement) (action : PlainAction) (fresh' : ℕ) (reads : ReadsAs x st) (built : IsBuilt st) (r : resolved_at h fresh st ≡ Ok (plain.Act action))
+        (draws : fresh' ≡ fresh + drawn action) (agrees : Agrees h (action ∷ []) (change_list_at mid changes)) where
+      its_place : (W : List ℕ) → GoesOn N now W → slice_get (commits_of W) (length h) ≡ Some c
+      its_place W g =
+          get_in_prefix (commits_of now) (commits_of W) (length h) (commits_prefix now W g.log)
+          (let longer : length (commits_of now) ≡ length (h ++ c ∷ []) = ap length came in omega (arith, length-append h (c ∷ []), longer))
+          ∙ ap (λ cs. slice_get cs (length h)) came ∙ last_of h c
+
+      is_committed : (W : List ℕ) → GoesOn N now W → (H : List PlainCommit) → StandsFor H W → IsCommittedAlone H W N s x (length h + 1) (state_at (length h + 1) fresh')
+      is_committed W g H stands =
+          let onw = onward start W (prefix_of_prefix start now W grown g.log) H stands in
+          let there = same_commit (commits_of W) H (length h) c (commits_back H (commits_of W) stands) (its_place W g) in
+          record {
+            action = action;
+            commit = there.commit;
+            none_open = refl;
+            asks = record {
+              statement = st;
+              reads = reads;
+              gives = ap (λ n. resolved_in H n) (before (length h)) ∙ ap (λ sch. resolved sch 1 fresh st) (sym (onw.keeps.schemas [])) ∙ r;
+            };
+            built = built;
+            later = omega arith;
+            stands = (omega arith, ap (slice_get H) (before (length h)) ∙ there.at);
+            session = there.session;
+            number = there.number;
+            agrees = subst (λ n. Agrees (take n H) (action ∷ []) there.commit.changes) (sym (before (length h)))
+                (onw.keeps.agreed (action ∷ []) c.changes there.commit.changes there.changes agrees);
+            next_is = λ i. record { session = 1; seen = sym (max_next (length h)) i; fresh = draws i; commits = length h + 1; transaction = None };
+          } where
+            resolved_in : List PlainCommit → ℕ → Found PlainStatement
+            resolved_in H n = resolved (schema (take n H) []) 1 fresh st
+
+      pub answers_committed : Answers N s (state_at (length h + 1) fresh') words now x (reply.Committed (length h + 1))
+      answers_committed = record {
+        lawful = λ W g H stands. inl (is_committed W g H stands);
+        newest = λ none. omega (arith, seen);
+        longer = from_words;
+        room = room;
+        same = refl;
+        commits =
+            ap (commits_by 1 1) came ∙ commits_split 1 1 h (c ∷ []) ∙ (λ i. own i ++ one_by 1 (next i) c refl i);
+        full = λ e. absurd (false≢true e);
+        not_full = λ some. lt;
+      } where
+        next : 1 + length h ≡ length h + 1
+        next = omega arith

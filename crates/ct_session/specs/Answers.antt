@@ -1,16 +1,17 @@
--- What one statement of a session does: its reply is lawful, now and however the log goes on.
-use Rattle.std.specs.Prelude.{◌≡◌, ◌≤◌, ◌<◌, ◌+◌, ℕ, List, [], ◌∷◌, ◌++◌, length, Option, Some, None, Bool, true, false, IsTrue}
+-- What one statement of a session does: its reply is lawful, however the log goes on.
+use Rattle.std.specs.Prelude.{◌≡◌, ◌≤◌, ◌<◌, ◌+◌, ◌-◌, ℕ, List, [], ◌∷◌, ◌++◌, length, Option, Some, None, Bool, true, false, IsTrue, IsSome, IfSome, nat_eq, if◌then◌else◌}
+use Rattle.std.specs.Option.{option_to_list}
 use mathlib.Core.List.{IsPrefix}
 use Rattle.ct_word.specs.Change.{PlainCommit}
+use Rattle.ct_word.specs.Reading.{commits_of}
+use Rattle.ct_word.specs.StandsFor.{StandsFor}
+use Rattle.ct_word.specs.WellFormed.{IsWellFormed}
 use Rattle.ct_transcript.specs.declared.reply.Reply.{Reply}
 use Rattle.ct_transcript.specs.declared.reply.Reply.TheVariants as reply
+use Rattle.ct_transcript.specs.declared.reply.Refusal.{Refusal}
 use Rattle.ct_transcript.specs.declared.reply.Refusal.TheVariants as refusal
 use Rattle.ct_session.specs.State.{SessionState}
 use Rattle.ct_session.specs.LawfulReply.{LawfulReply}
-
--- the state of the first session when it has seen all of a history, which it made alone, and drawn so many nulls
-abbrev pub state_after : List PlainCommit → ℕ → SessionState
-state_after h fresh = record { session = 1; seen = length h; fresh = fresh; commits = length h; transaction = None }
 
 -- the version of a Committed reply
 abbrev pub committed_of : Reply → Option ℕ
@@ -22,22 +23,49 @@ abbrev pub is_full : Reply → Bool
 is_full (reply.Refused at refusal.Full) = true
 is_full _ = false
 
--- the history and the words may go on from these: they begin with them, and the words are at most N
-pub record GoesOn (N : ℕ) (h h' : List PlainCommit) (words words' : List ℕ) : Type 0 where
-  pub history : IsPrefix h h'
-  pub log : IsPrefix words words'
-  pub room : length words' ≤ N
+-- whether a refusal rests on no version: that of a text, of BEGIN, COMMIT or ROLLBACK in the wrong place, and for want of memory
+abbrev pub is_of_text : Refusal → Bool
+is_of_text refusal.NotAStatement = true
+is_of_text refusal.TooDeep = true
+is_of_text refusal.NumberRange = true
+is_of_text refusal.InTransaction = true
+is_of_text refusal.NoTransaction = true
+is_of_text refusal.Memory = true
+is_of_text _ = false
 
--- the history after a reply: one commit of the session more, where it says so, and else as before
-pub data Commits (h : List PlainCommit) : List PlainCommit → Reply → Type 0 where
-  nothing : (r : Reply) → committed_of r ≡ None → Commits h h r
-  one : (c : PlainCommit) → c.session ≡ 1 → Commits h (h ++ c ∷ []) (reply.Committed (length h + 1))
+-- the version that a reply outside a transaction rests on, if it rests on one: a commit on the one before its own, and a
+-- conflict on the one at which it was found
+abbrev pub version_of : Reply → Option ℕ
+version_of (reply.Begun at) = Some at
+version_of (reply.Committed m) = Some (m - 1)
+version_of (reply.Rows at plus answer) = Some at
+version_of (reply.Possible at plus columns list) = Some at
+version_of (reply.Certain at plus columns list) = Some at
+version_of (reply.Refused at why) = if is_of_text why then None else Some at
+version_of reply.RolledBack = None
+version_of (reply.Pending at plus) = None
+version_of (reply.Nothing at) = None
 
--- a reply that is lawful however history and log go on
-pub record Answers (N : ℕ) (h h' : List PlainCommit) (fresh fresh' : ℕ) (words words' : List ℕ) (x : List ℕ) (r : Reply) : Type 0 where
-  pub lawful : (H : List PlainCommit) (W : List ℕ) → GoesOn N h' H words' W → LawfulReply H W N (state_after h fresh) x r (state_after h' fresh')
+-- the numbers, from this one on, of the commits of a session
+abbrev pub commits_by : ℕ → ℕ → List PlainCommit → List ℕ
+commits_by s m [] = []
+commits_by s m (c ∷ cs) = if nat_eq c.session s then m ∷ commits_by s (m + 1) cs else commits_by s (m + 1) cs
+
+-- the words of a log may go on from these: they begin with them, are well formed, and at most N
+pub record GoesOn (N : ℕ) (words W : List ℕ) : Type 0 where
+  pub log : IsPrefix words W
+  pub formed : IsWellFormed W
+  pub room : length W ≤ N
+
+-- a statement leads a session from a state to the next, and its words to further ones: the reply is lawful however the words
+-- go on and for every history that stands for them; outside a transaction it rests on all commits of the words before; and
+-- one commit of the session comes to the words where the reply says so, and else none
+pub record Answers (N : ℕ) (s next : SessionState) (words words' : List ℕ) (x : List ℕ) (r : Reply) : Type 0 where
+  pub lawful : (W : List ℕ) → GoesOn N words' W → (H : List PlainCommit) → StandsFor H W → LawfulReply H W N s x r next
+  pub newest : s.transaction ≡ None → IfSome (version_of r) (λ at. length (commits_of words) ≤ at)
   pub longer : IsPrefix words words'
   pub room : length words' ≤ N
-  pub commits : Commits h h' r
+  pub same : next.session ≡ s.session
+  pub commits : commits_by s.session 1 (commits_of words') ≡ commits_by s.session 1 (commits_of words) ++ option_to_list (committed_of r)
   pub full : IsTrue (is_full r) → length words' ≡ N
-  pub not_full : (m : ℕ) → committed_of r ≡ Some m → length words < N
+  pub not_full : IsSome (committed_of r) → length words < N

@@ -1,5 +1,5 @@
 -- The tables, the commits and the log of one session that has the catalogue to itself.
-use Rattle.std.specs.Prelude.{◌≡◌, ◌≤◌, ◌<◌, ◌+◌, ℕ, List, [], ◌∷◌, ◌++◌, length, map, None, IsSome, IsTrue, All, Ok, Err}
+use Rattle.std.specs.Prelude.{◌≡◌, ◌≤◌, ◌<◌, ◌+◌, ℕ, true, List, [], ◌∷◌, ◌++◌, length, map, Some, None, IsSome, IsTrue, All, Ok, Err}
 use Rattle.ct_word.specs.declared.kinds.Class.TheVariants as class
 use Rattle.ct_word.specs.declared.values.Term.{Term}
 use Rattle.ct_word.specs.Value.{World}
@@ -7,13 +7,16 @@ use Rattle.ct_word.specs.Sublist.{IsSublist}
 use Rattle.ct_word.specs.Condition.{True}
 use Rattle.ct_word.specs.Change.{PlainRow, Create, PlainCommit}
 use Rattle.ct_word.specs.Reading.{commits_of, change_list_at}
-use Rattle.ct_word.specs.WellFormed.{IsWellFormed, is_place_of}
+use Rattle.ct_word.specs.StandsFor.{SameChanges, StandsFor}
+use Rattle.ct_word.specs.WellFormed.{is_place_of}
 use Rattle.ct_query.specs.Plain.{PlainQuery, PlainAction, PlainStatement}
 use Rattle.ct_query.specs.Plain as plain
 use Rattle.ct_query.specs.Worlds.{world}
 use Rattle.ct_query.specs.Agrees.{Agrees}
 use Rattle.ct_query.specs.Patterns.{pattern, count}
 use Rattle.ct_query.specs.Size.{size}
+use Rattle.ct_query.specs.Bounds.{bound}
+use Rattle.ct_query.specs.Terms.{term_count}
 use Rattle.ct_algebra.specs.Evaluates.{limit}
 use Rattle.ct_algebra.specs.declared.error.EvalError.{EvalError}
 use Rattle.ct_algebra.specs.declared.error.EvalError.TheVariants as eval
@@ -24,10 +27,11 @@ use Rattle.ct_rewrite.specs.declared.answer.AnswerRow.{AnswerRow}
 use Rattle.ct_rewrite.specs.declared.history.Change.TheVariants as change
 use Rattle.ct_rewrite.specs.declared.history.Commit.{Commit}
 use Rattle.ct_rewrite.specs.History.{plain_commit, plain_history, IsCommitFormed}
+use Rattle.ct_arena.specs.Counts.{commit_of}
 use Rattle.ct_arena.specs.Seen.{Seen, Keeping}
 use Rattle.ct_table.specs.declared.error.TableError.{TableError}
 use Rattle.ct_table.specs.declared.error.TableError.TheVariants as fault
-use Rattle.ct_table.specs.Denotes.{TableView, AreWorth}
+use Rattle.ct_table.specs.Denotes.{TableView, Denotes}
 use Rattle.ct_transcript.specs.declared.reply.Answer.{Answer}
 use Rattle.ct_transcript.specs.Means.{IsAnswer, Means}
 use Rattle.ct_transcript.specs.declared.reply.Reply.{Reply}
@@ -38,46 +42,56 @@ use Rattle.ct_parse.specs.declared.tree.Statement.{Statement}
 use Rattle.ct_resolve.specs.declared.error.ResolveError.{ResolveError}
 use Rattle.ct_resolve.specs.declared.error.ResolveError.TheVariants as name
 use Rattle.ct_resolve.specs.Found.{Found}
+use Rattle.ct_resolve.specs.Writing.{WritesStatement}
 use Rattle.ct_resolve.specs.Statements.{resolved}
 use Rattle.ct_session.specs.declared.session.Prepared.{Prepared}
 use Rattle.ct_session.specs.declared.session.Prepared.TheVariants as prepared
 use Rattle.ct_session.specs.Built.{IsBuilt}
 use Rattle.ct_session.specs.Statements.{ReadsAs, IsTextFault}
-use Rattle.ct_session.specs.State.{drawn}
+use Rattle.ct_session.specs.State.{SessionState, drawn}
+use Rattle.ct_session.specs.Seeing.{query_in}
+use Rattle.ct_session.specs.LawfulRefusal.{asks_of_worlds, TERMS}
 
 -- every valuation is admitted by a history
 abbrev pub IsAdmittedEverywhere : List PlainCommit → Type 0
 IsAdmittedEverywhere h = (v : World) → IsSome (world v h [])
 
--- the keeper's list has the commits that are printed, all of session 1, and the tables are worth what they make, over the session's words
-pub record IsCatalogue (room : ℕ) (pass : Seen) (keeper : Keeping) (tables : List TableView) (history : List Commit) : Type 0 where
+-- the printed history stands for the keeper's commits, which the session made, and the tables denote them over the keeper's words
+pub record IsCatalogue (pass : Seen) (keeper : Keeping) (tables : List TableView) (history : List Commit) : Type 0 where
   pub guest : keeper.guest ≡ None
   pub enrolled : keeper.enrolled ≡ 1
   pub ended : keeper.ended ≡ []
   pub session : pass.session ≡ 1
   pub mine : pass.mine ≡ length history
-  pub within : length pass.words ≤ room
-  pub well_formed : IsWellFormed pass.words
-  pub commits : commits_of keeper.words ≡ plain_history history
-  pub denotes : AreWorth pass.words (plain_history history) [] tables
+  pub stands : StandsFor (plain_history history) keeper.words
+  pub denotes : Denotes keeper.words (commits_of keeper.words) [] tables
   pub formed : All IsCommitFormed history
-  pub everywhere : IsAdmittedEverywhere (plain_history history)
-  pub by_one : All (λ c. c.session ≡ 1) (plain_history history)
+  pub everywhere : IsAdmittedEverywhere (commits_of keeper.words)
 
--- a change list, the commit that prints it, and the tables after it
+-- the state of a session that made all commits and has seen them, when it has drawn so many nulls
+abbrev pub state_of : Seen → List Commit → ℕ → SessionState
+state_of pass history fresh = record { session = pass.session; seen = length history; fresh = fresh; commits = pass.mine; transaction = None }
+
+-- the commit of a change list after a history, as the log has it
+abbrev pub logged : List PlainCommit → List ℕ → ℕ → PlainCommit
+logged h words changes = commit_of words 1 (length h) changes
+
+-- a change list, a commit that prints it, and the tables after it
 pub record IsReady (h : List PlainCommit) (words : List ℕ) (changes : ℕ) (commit : Commit) (tables : List TableView) : Type 0 where
   pub place : IsTrue (is_place_of words class.ChangeList changes)
-  pub printed : plain_commit commit ≡ record { session = 1; number = length h; changes = change_list_at words changes }
+  pub session : commit.session ≡ 1
+  pub number : commit.number ≡ length h
+  pub printed : SameChanges (plain_commit commit).changes (change_list_at words changes)
   pub formed : IsCommitFormed commit
-  pub denotes : AreWorth words (h ++ plain_commit commit ∷ []) [] tables
-  pub everywhere : IsAdmittedEverywhere (h ++ plain_commit commit ∷ [])
+  pub denotes : Denotes words (h ++ logged h words changes ∷ []) [] tables
+  pub everywhere : IsAdmittedEverywhere (h ++ logged h words changes ∷ [])
 
 -- an offer for an action, with which its changes agree: its change list, the commit that prints it, the tables after it,
 -- and the number of the last null that was drawn, in the place of the one before
 pub record IsOfferFor (h : List PlainCommit) (words : List ℕ) (fresh : ℕ) (action : PlainAction) (changes : ℕ) (commit : Commit) (tables : List TableView) (fresh' : ℕ) : Type 0 where
   pub ready : IsReady h words changes commit tables
   pub draws : fresh' ≡ fresh + drawn action
-  pub agrees : Agrees h (action ∷ []) (plain_commit commit).changes
+  pub agrees : Agrees h (action ∷ []) (change_list_at words changes)
 
 -- an answer that means a query, its rows being a part of the query's pattern
 pub record IsAnswerFor (h : List PlainCommit) (columns : List (List ℕ)) (query : PlainQuery) (answer : Answer) : Type 0 where
@@ -87,14 +101,15 @@ pub record IsAnswerFor (h : List PlainCommit) (columns : List (List ℕ)) (query
   pub in_pattern : IsSublist (map (λ row. row.cells) answer.rows) (pattern h [] query)
 
 -- what a commit did: one commit more, and the nulls that it draws; or nothing, where the log is full
-pub data CommitOf (room : ℕ) (words words' : List ℕ) (history : List Commit) (fresh : ℕ) (commit : Commit) (fresh' : ℕ) : List Commit → ℕ → Reply → Type 0 where
-  committed : length words < room → CommitOf room words words' history fresh commit fresh' (history ++ commit ∷ []) fresh' (reply.Committed (length history + 1))
-  filled : length words' ≡ room → CommitOf room words words' history fresh commit fresh' history fresh (reply.Refused (length history) refusal.Full)
+pub data CommitOf (room : ℕ) (old words words' : List ℕ) (changes : ℕ) (history : List Commit) (fresh : ℕ) (commit : Commit) (fresh' : ℕ) : List Commit → ℕ → Reply → Type 0 where
+  committed : length words < length words' → commits_of words' ≡ commits_of old ++ logged (commits_of old) words changes ∷ []
+      → CommitOf room old words words' changes history fresh commit fresh' (history ++ commit ∷ []) fresh' (reply.Committed (length history + 1))
+  filled : length words' ≡ room → CommitOf room old words words' changes history fresh commit fresh' history fresh (reply.Refused (length history) refusal.Full)
 
 -- the offer of a new table
 pub record IsNewTable (h : List PlainCommit) (words : List ℕ) (name : List ℕ) (columns : List (List ℕ)) (changes : ℕ) (commit : Commit) (tables : List TableView) : Type 0 where
   pub ready : IsReady h words changes commit tables
-  pub change : (plain_commit commit).changes ≡ Create name columns ∷ []
+  pub change : change_list_at words changes ≡ Create name columns ∷ []
 
 -- the row of these terms under the condition true
 abbrev pub row_under_true : List Term → PlainRow
@@ -115,18 +130,35 @@ IsWant room words refusal.Full = length words ≡ room
 IsWant room words refusal.Memory = Unit {0}
 IsWant room words _ = ⊥
 
--- a query is too large: by the counts of all rows that were ever inserted, its greatest part goes through more rows, or
--- pairs of rows, than a part may
-abbrev pub IsPast : List PlainCommit → PlainStatement → Type 0
-IsPast h (plain.Asks ask.Rows columns query) = limit < size (count h []) query
-IsPast h _ = ⊥
+-- a statement's query is too large: by the counts of all rows that were ever inserted, its greatest part goes through more
+-- rows, or pairs of rows, than a part may
+pub record IsPast (h : List PlainCommit) (st : PlainStatement) : Type 0 where
+  pub query : PlainQuery
+  pub evaluates : query_in st ≡ Some query
+  pub past : limit < size (count h []) query
 
--- what is wanting for a statement with positions: it is a query that is too large, the log is full, or memory
+-- the log is full, and a statement may need a word
+pub record IsFilled (h : List PlainCommit) (room : ℕ) (words : List ℕ) (st : PlainStatement) : Type 0 where
+  pub full : length words ≡ room
+  pub makes_words : 1 ≤ bound (count h []) None st
+
+-- a statement that asks of all worlds asks about more terms than it may
+pub record IsManyTerms (h : List PlainCommit) (st : PlainStatement) : Type 0 where
+  pub of_worlds : asks_of_worlds st ≡ true
+  pub past : TERMS < term_count h [] st
+
+-- what is wanting for a statement with positions: its query is too large, the log is full, it asks about too many terms, or
+-- memory is wanting
 abbrev pub IsUnmet : List PlainCommit → ℕ → List ℕ → PlainStatement → Refusal → Type 0
 IsUnmet h room words st refusal.TooLarge = IsPast h st
-IsUnmet h room words st refusal.Full = length words ≡ room
+IsUnmet h room words st refusal.Full = IsFilled h room words st
+IsUnmet h room words st refusal.TooManyTerms = IsManyTerms h st
 IsUnmet h room words st refusal.Memory = Unit {0}
 IsUnmet h room words st _ = ⊥
+
+-- a statement with positions can be written
+pub record IsWritable (st : PlainStatement) : Type 0 where
+  pub writes : WritesStatement st
 
 -- what a statement of session 1 resolves to at a history, where the last null that was drawn has this number
 abbrev pub resolved_at : List PlainCommit → ℕ → Statement → Found PlainStatement
@@ -151,23 +183,18 @@ pub record IsPreparedText (h : List PlainCommit) (words : List ℕ) (fresh : ℕ
   pub reads : ReadsAs x statement
   pub prepared : IsPreparedStatement h words fresh statement p
 
--- that a statement resolves, and whether it is built
-abbrev pub IsAsked : List PlainCommit → ℕ → Statement → Type 0
-IsAsked h fresh st = ((asked : PlainStatement) × (resolved_at h fresh st ≡ Ok asked)) × IsBuilt st
-
+-- a statement resolves, and is not built
 abbrev pub IsUnbuilt : List PlainCommit → ℕ → Statement → Type 0
 IsUnbuilt h fresh st = ((asked : PlainStatement) × (resolved_at h fresh st ≡ Ok asked)) × (IsBuilt st → ⊥)
 
--- a statement asks for a query that is too large
-pub record IsTooLargeAt (h : List PlainCommit) (fresh : ℕ) (st : Statement) : Type 0 where
-  pub columns : List (List ℕ)
-  pub query : PlainQuery
-  pub resolves : resolved_at h fresh st ≡ Ok (plain.Asks ask.Rows columns query)
+-- a statement is built and resolves to one for which this is wanting
+pub record IsUnmetAt (h : List PlainCommit) (room : ℕ) (words : List ℕ) (fresh : ℕ) (st : Statement) (why : Refusal) : Type 0 where
+  pub asked : PlainStatement
+  pub resolves : resolved_at h fresh st ≡ Ok asked
   pub built : IsBuilt st
-  pub past : limit < size (count h []) query
+  pub unmet : IsUnmet h room words asked why
 
--- why a statement is refused: a name or a count does not fit, it is not built, it is a query that is too large, the log
--- is full, or memory was wanting
+-- why a statement is refused: a name or a count does not fit, it is not built, or something is wanting for it
 abbrev pub IsRefusedStatement : List PlainCommit → ℕ → List ℕ → ℕ → Statement → Refusal → Type 0
 IsRefusedStatement h room words fresh st refusal.UnknownTable = resolved_at h fresh st ≡ Err name.UnknownTable
 IsRefusedStatement h room words fresh st refusal.TableExists = resolved_at h fresh st ≡ Err name.TableExists
@@ -176,8 +203,9 @@ IsRefusedStatement h room words fresh st refusal.AmbiguousColumn = resolved_at h
 IsRefusedStatement h room words fresh st refusal.DuplicateName = resolved_at h fresh st ≡ Err name.DuplicateName
 IsRefusedStatement h room words fresh st refusal.ColumnCount = resolved_at h fresh st ≡ Err name.ColumnCount
 IsRefusedStatement h room words fresh st refusal.NotYet = IsUnbuilt h fresh st
-IsRefusedStatement h room words fresh st refusal.TooLarge = IsTooLargeAt h fresh st
-IsRefusedStatement h room words fresh st refusal.Full = (length words ≡ room) × IsAsked h fresh st
+IsRefusedStatement h room words fresh st refusal.TooLarge = IsUnmetAt h room words fresh st refusal.TooLarge
+IsRefusedStatement h room words fresh st refusal.Full = IsUnmetAt h room words fresh st refusal.Full
+IsRefusedStatement h room words fresh st refusal.TooManyTerms = IsUnmetAt h room words fresh st refusal.TooManyTerms
 IsRefusedStatement h room words fresh st refusal.Memory = Unit {0}
 IsRefusedStatement h room words fresh st _ = ⊥
 

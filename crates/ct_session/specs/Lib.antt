@@ -1,7 +1,9 @@
 pub mod Statements
 pub mod Built
 pub mod State
-pub mod Printed
+pub mod Seeing
+pub mod LawfulRefusal
 pub mod LawfulReply
 pub mod Answers
+pub mod Printed
 pub mod Catalogue

@@ -1,9 +1,11 @@
 -- Which texts are read as which statement, and why a text is read as none.
 use Rattle.std.specs.Prelude.{ℕ, List, IsTrue, IsFalse}
 use Rattle.ct_lex.specs.declared.token.Token.{Token}
+use Rattle.ct_lex.specs.declared.token.Lexeme.{Lexeme}
 use Rattle.ct_lex.specs.declared.token.LexError.{LexError}
 use Rattle.ct_lex.specs.declared.token.LexError.TheVariants as lexical
 use Rattle.ct_lex.specs.Tokens.{Lexes, FaultsAt}
+use Rattle.ct_lex.specs.Written.{AreWritten}
 use Rattle.ct_parse.specs.declared.error.ParseError.{ParseError}
 use Rattle.ct_parse.specs.declared.error.ParseError.TheVariants as grammatical
 use Rattle.ct_parse.specs.declared.tree.Statement.{Statement}
@@ -19,6 +21,12 @@ pub record ReadsAs (text : List ℕ) (st : Statement) : Type 0 where
   pub lexes : Lexes text tokens
   pub shallow : IsFalse (is_too_deep (said tokens))
   pub spells : Spells (said tokens) st
+
+-- a statement is spelled by lexemes as a text writes them
+pub record IsWritten (st : Statement) : Type 0 where
+  pub lexemes : List Lexeme
+  pub written : AreWritten lexemes
+  pub spells : Spells lexemes st
 
 -- the leftmost fault of a text is this one
 abbrev pub HasFault : List ℕ → LexError → Type 0

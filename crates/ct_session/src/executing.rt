@@ -1,28 +1,28 @@
 // One statement of the session.
 
-ghost use Rattle.std.specs.Prelude.{◌≡◌, ◌<◌, ◌^◌, [], length, IfOk, IfErr};
+ghost use Rattle.std.specs.Prelude.{◌≡◌, ◌<◌, ◌≤◌, ◌+◌, ◌^◌, [], length, IfOk, IfErr};
 ghost use mathlib.Core.List.{IsPrefix};
 ghost use Rattle.ct_history.specs.Kept.{kept_of};
 ghost use Rattle.ct_query.specs.Schema.{schema};
 ghost use Rattle.ct_query.specs.Views.{statement_of};
-ghost use Rattle.ct_rewrite.specs.History.{plain_history};
-ghost use Rattle.ct_table.specs.Denotes.{AreWorth};
+ghost use Rattle.ct_table.specs.Denotes.{Denotes};
+ghost use Rattle.ct_word.specs.Reading.{commits_of};
 ghost use Rattle.ct_query.specs.Fits.{FitsStatement};
 ghost use Rattle.ct_session.specs.Built.{IsPlainBuilt};
-ghost use Rattle.ct_session.specs.Catalogue.{IsCatalogue, IsAdmittedEverywhere, IsPrepared, IsPreparedStatement, IsPreparedText, IsRefusedStatement, IsRefusedText, IsUnmet, name_refusal};
+ghost use Rattle.ct_session.specs.Catalogue.{IsCatalogue, IsAdmittedEverywhere, state_of, IsPrepared, IsPreparedStatement, IsPreparedText, IsRefusedStatement, IsRefusedText, IsUnmet, IsWritable, name_refusal};
 ghost use Rattle.ct_session.specs.Answers.{Answers};
+ghost use Rattle.ct_session.specs.Statements.{IsWritten};
 
 use crate::built::is_built;
 use crate::creating::offer_table;
 use crate::inserting::offer_rows;
 use crate::reading::read;
 use crate::selecting::answer_query;
-use crate::session::{Prepared, SESSION, Session, commit, version};
+use crate::session::{Prepared, SESSION, Session, caught_up, commit, version};
 use ct_arena::{Arena, Pass, Site};
 use ct_parse::Statement;
 use ct_query::{Action, Resolved};
 use ct_resolve::{ResolveError, resolve};
-use ct_rewrite::Commit;
 use ct_table::Db;
 use ct_transcript::{Refusal, Reply};
 use std::alloc::Global;
@@ -46,28 +46,30 @@ fn named(e: ResolveError) -> Refusal
 ///
 /// # Errors
 /// `TooLarge` for a query that goes through too many rows, `Full` where the log has no room, `Memory`.
+#[tactic(auto, using(crate::proofs::BuiltForms::not_insert_query, crate::proofs::BuiltForms::not_delete, crate::proofs::BuiltForms::not_assert, crate::proofs::BuiltForms::not_begin, crate::proofs::BuiltForms::not_commit, crate::proofs::BuiltForms::not_rollback))]
 fn perform<N: Site>(
     alloc: Global,
     arena: &Arena<N>,
     pass: &mut Pass<N>,
     tables: &Db,
-    history: &[Commit],
+    version: u32,
     fresh: u32,
     resolved: Resolved,
 ) -> Result<Prepared, Refusal>
-    requires few { length history.now < 2 ^ 16 }
-    requires denotes { AreWorth pass.old.words (plain_history history.now) [] tables.now }
-    requires everywhere { IsAdmittedEverywhere (plain_history history.now) }
-    requires fits { FitsStatement (schema (plain_history history.now) []).tables (statement_of resolved) }
+    requires version { version ≡ length (commits_of pass.old.words) }
+    requires denotes { Denotes pass.old.words (commits_of pass.old.words) [] tables.now }
+    requires everywhere { IsAdmittedEverywhere (commits_of pass.old.words) }
+    requires fits { FitsStatement (schema (commits_of pass.old.words) []).tables (statement_of resolved) }
+    requires written { IsWritable (statement_of resolved) }
     requires built { IsPlainBuilt (statement_of resolved) }
     ensures longer { IsPrefix pass.old.words pass.new.words }
     ensures kept { kept_of pass.new ≡ kept_of pass.old }
-    ensures ok { IfOk result (IsPrepared (plain_history history.now) pass.new.words fresh (statement_of resolved)) }
-    ensures err { IfErr result (λ why. IsUnmet (plain_history history.now) N.log.cap pass.new.words (statement_of resolved) why) }
+    ensures ok { IfOk result (IsPrepared (commits_of pass.old.words) pass.new.words fresh (statement_of resolved)) }
+    ensures err { IfErr result (λ why. IsUnmet (commits_of pass.old.words) N.log.cap pass.new.words (statement_of resolved) why) }
 {
     match resolved {
         Resolved::Act(Action::Create { name, columns }) => {
-            let offer = offer_table(alloc, arena, pass, tables, history, fresh, name, columns)?;
+            let offer = offer_table(alloc, arena, pass, tables, version, fresh, name, columns)?;
             Ok(Prepared::Commit(offer))
         }
         Resolved::Act(
@@ -78,7 +80,7 @@ fn perform<N: Site>(
             },
         ) => {
             drop(always);
-            let offer = offer_rows(alloc, arena, pass, tables, history, fresh, name, rows)?;
+            let offer = offer_rows(alloc, arena, pass, tables, version, fresh, name, rows)?;
             Ok(Prepared::Commit(offer))
         }
         Resolved::Ask {
@@ -86,14 +88,19 @@ fn perform<N: Site>(
             columns,
             query,
         } => {
-            let answered = answer_query(alloc, arena, pass, tables, history, columns, &query);
+            let answered = answer_query(alloc, arena, pass, tables, columns, &query);
             drop(query);
             match answered {
                 Ok(answer) => Ok(Prepared::Answer(answer)),
                 Err(why) => Err(why),
             }
         }
-        _ => unreachable!(),
+        Resolved::Act(Action::InsertQuery { .. }) => unreachable!(),
+        Resolved::Act(Action::Delete { .. }) => unreachable!(),
+        Resolved::Act(Action::Assert(_)) => unreachable!(),
+        Resolved::Begin => unreachable!(),
+        Resolved::Commit => unreachable!(),
+        Resolved::Rollback => unreachable!(),
     }
 }
 
@@ -106,17 +113,18 @@ fn prepare_statement<N: Site>(
     arena: &Arena<N>,
     pass: &mut Pass<N>,
     tables: &Db,
-    history: &[Commit],
+    version: u32,
     fresh: u32,
     statement: &Statement,
 ) -> Result<Prepared, Refusal>
-    requires few { length history.now < 2 ^ 16 }
-    requires denotes { AreWorth pass.old.words (plain_history history.now) [] tables.now }
-    requires everywhere { IsAdmittedEverywhere (plain_history history.now) }
+    requires version { version ≡ length (commits_of pass.old.words) }
+    requires denotes { Denotes pass.old.words (commits_of pass.old.words) [] tables.now }
+    requires everywhere { IsAdmittedEverywhere (commits_of pass.old.words) }
+    requires written { IsWritten statement.now }
     ensures longer { IsPrefix pass.old.words pass.new.words }
     ensures kept { kept_of pass.new ≡ kept_of pass.old }
-    ensures ok { IfOk result (IsPreparedStatement (plain_history history.now) pass.new.words fresh statement.now) }
-    ensures err { IfErr result (IsRefusedStatement (plain_history history.now) N.log.cap pass.new.words fresh statement.now) }
+    ensures ok { IfOk result (IsPreparedStatement (commits_of pass.old.words) pass.new.words fresh statement.now) }
+    ensures err { IfErr result (IsRefusedStatement (commits_of pass.old.words) N.log.cap pass.new.words fresh statement.now) }
 {
     let schema = tables.schema(alloc)?;
     let resolved = match resolve(alloc, &schema, SESSION, fresh, statement) {
@@ -127,7 +135,7 @@ fn prepare_statement<N: Site>(
         drop(resolved);
         return Err(Refusal::NotYet);
     }
-    match perform(alloc, arena, pass, tables, history, fresh, resolved) {
+    match perform(alloc, arena, pass, tables, version, fresh, resolved) {
         Ok(prepared) => Ok(prepared),
         Err(why) => Err(why),
     }
@@ -142,22 +150,22 @@ fn prepare<N: Site>(
     arena: &Arena<N>,
     pass: &mut Pass<N>,
     tables: &Db,
-    history: &[Commit],
+    version: u32,
     fresh: u32,
     text: &str,
 ) -> Result<Prepared, Refusal>
-    requires few { length history.now < 2 ^ 16 }
-    requires denotes { AreWorth pass.old.words (plain_history history.now) [] tables.now }
-    requires everywhere { IsAdmittedEverywhere (plain_history history.now) }
+    requires version { version ≡ length (commits_of pass.old.words) }
+    requires denotes { Denotes pass.old.words (commits_of pass.old.words) [] tables.now }
+    requires everywhere { IsAdmittedEverywhere (commits_of pass.old.words) }
     ensures longer { IsPrefix pass.old.words pass.new.words }
     ensures kept { kept_of pass.new ≡ kept_of pass.old }
-    ensures ok { IfOk result (IsPreparedText (plain_history history.now) pass.new.words fresh text.now) }
-    ensures err { IfErr result (IsRefusedText (plain_history history.now) N.log.cap pass.new.words fresh text.now) }
+    ensures ok { IfOk result (IsPreparedText (commits_of pass.old.words) pass.new.words fresh text.now) }
+    ensures err { IfErr result (IsRefusedText (commits_of pass.old.words) N.log.cap pass.new.words fresh text.now) }
 {
     match read(alloc, text) {
         Ok(statement) => {
             let prepared = prepare_statement(
-                alloc, arena, pass, tables, history, fresh, &statement,
+                alloc, arena, pass, tables, version, fresh, &statement,
             );
             // By a call, since a tree that is let go at the end of its scope is proved variant by variant.
             drop(statement);
@@ -183,14 +191,17 @@ fn prepare<N: Site>(
 pub fn execute<N: Site>(
     alloc: Global,
     arena: &Arena<N>,
-    mut session: Session<N>,
+    session: Session<N>,
     text: &str,
 ) -> (Session<N>, Reply)
-    requires kept { IsCatalogue N.log.cap session.pass session.keeper session.tables session.history.items }
+    requires kept { IsCatalogue session.pass session.keeper session.tables session.history.items }
     requires few { length session.history.items < 2 ^ 16 }
-    ensures kept { IsCatalogue N.log.cap result.0.pass result.0.keeper result.0.tables result.0.history.items }
-    ensures answers { Answers N.log.cap (plain_history session.history.items) (plain_history result.0.history.items) session.fresh result.0.fresh session.pass.words result.0.pass.words text.now result.1 }
+    ensures kept { IsCatalogue result.0.pass result.0.keeper result.0.tables result.0.history.items }
+    ensures answers { Answers N.log.cap (state_of session.pass session.history.items session.fresh) (state_of result.0.pass result.0.history.items result.0.fresh) session.pass.words result.0.pass.words text.now result.1 }
+    ensures more { length result.0.history.items ≤ length session.history.items + 1 }
 {
+    let _ = session.pass.words();
+    let mut session = caught_up(arena, session);
     let at = version(session.history.as_slice());
     if let Err(_) = session.history.reserve(1) {
         let why = Refusal::Memory;
@@ -201,13 +212,14 @@ pub fn execute<N: Site>(
         arena,
         &mut session.pass,
         &session.tables,
-        session.history.as_slice(),
+        at,
         session.fresh,
         text,
     ) {
         Ok(Prepared::Commit(offer)) => {
+            let (session, reply) = commit(arena, session, offer);
             let _words = session.pass.words();
-            commit(arena, session, offer)
+            (session, reply)
         }
         Ok(Prepared::Answer(answer)) => {
             let _words = session.pass.words();

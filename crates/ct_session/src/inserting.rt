@@ -1,21 +1,22 @@
 // INSERT: the offer of rows.
 
-ghost use Rattle.std.specs.Prelude.{◌≡◌, ◌+◌, ◌<◌, ◌^◌, [], ◌∷◌, ◌++◌, map, length, sum_by, count_by, IfOk, IfErr, IfSome, IsSome, Some, All};
+ghost use Rattle.std.specs.Prelude.{◌≡◌, ◌+◌, [], ◌∷◌, ◌++◌, map, length, sum_by, count_by, IfOk, IfErr, IfSome, IsSome, Some, All};
 ghost use mathlib.Core.List.{IsPrefix};
-ghost use Rattle.ct_word.specs.Reading.{plain_crow};
+ghost use Rattle.ct_word.specs.Reading.{commits_of, change_list_at, plain_crow};
+ghost use Rattle.ct_word.specs.Change.{Insert};
 ghost use Rattle.ct_query.specs.Plain as plain;
 ghost use Rattle.ct_word.specs.Condition.{True};
 ghost use Rattle.ct_history.specs.Kept.{kept_of};
 ghost use Rattle.ct_history.specs.Rows.{IsRowOf};
-ghost use Rattle.ct_rewrite.specs.History.{plain_history};
+ghost use Rattle.ct_resolve.specs.Writing.{WritesAction};
 ghost use Rattle.ct_table.specs.Shared.{view_of};
-ghost use Rattle.ct_table.specs.Denotes.{AreWorth, find_table};
+ghost use Rattle.ct_table.specs.Denotes.{Denotes, find_table};
 ghost use Rattle.ct_query.specs.Fits.{FitsCell};
 ghost use Rattle.ct_session.specs.State.{is_fresh};
 ghost use Rattle.ct_session.specs.Catalogue.{IsAdmittedEverywhere, IsReady, IsWant, IsOfferFor, row_under_true, row_under_first, rows_commit};
 
 use crate::lists::{commit_of, list_of_one};
-use crate::session::{Offer, version, wanting};
+use crate::session::{Offer, wanting};
 use ct_arena::{Arena, Pass, Site};
 use ct_condition::term as put_term;
 use ct_history::{insert as insert_change, no_changes};
@@ -102,7 +103,7 @@ fn printed(alloc: Global, number: u32, name: Text, rows: List<List<Term>>) -> Re
     commit_of(alloc, number, nodes, Change::Insert { name, rows })
 }
 
-/// The offer of rows of these terms for a table that is there. The pass has its words.
+/// The offer of rows of these terms for a table that is there, as the commit after this version. The pass has its words.
 ///
 /// # Errors
 /// `Full` where the log has no room, `Memory`.
@@ -112,21 +113,22 @@ fn new_rows<N: Site>(
     pass: &mut Pass<N>,
     tables: &Db,
     table: &CTable,
-    history: &[Commit],
+    version: u32,
     fresh: u32,
     name: Text,
     rows: List<List<Term>>,
 ) -> Result<Offer, Refusal>
-    requires few { length history.now < 2 ^ 16 }
-    requires denotes { AreWorth pass.old.words (plain_history history.now) [] tables.now }
-    requires everywhere { IsAdmittedEverywhere (plain_history history.now) }
+    requires version { version ≡ length (commits_of pass.old.words) }
+    requires denotes { Denotes pass.old.words (commits_of pass.old.words) [] tables.now }
+    requires everywhere { IsAdmittedEverywhere (commits_of pass.old.words) }
     requires found { find_table tables.now name ≡ Some (view_of name table.now) }
     requires width { All (λ row. length row ≡ length table.now.columns) rows }
     requires cells { All (All FitsCell) rows }
+    requires written { WritesAction (plain.InsertRows name rows True) }
     ensures longer { IsPrefix pass.old.words pass.new.words }
     ensures kept { kept_of pass.new ≡ kept_of pass.old }
-    ensures ready { IfOk result (λ offer. IsReady (plain_history history.now) pass.new.words offer.changes offer.commit offer.tables) }
-    ensures commit { IfOk result (λ offer. offer.commit ≡ rows_commit (length history.now) name rows) }
+    ensures ready { IfOk result (λ offer. IsReady (commits_of pass.old.words) pass.new.words offer.changes offer.commit offer.tables) }
+    ensures changes { IfOk result (λ offer. change_list_at pass.new.words offer.changes ≡ Insert name (map row_under_true rows) ∷ []) }
     ensures fresh { IfOk result (λ offer. offer.fresh ≡ fresh) }
     ensures err { IfErr result (λ why. IsWant N.log.cap pass.new.words why) }
 {
@@ -147,7 +149,7 @@ fn new_rows<N: Site>(
         Err(_) => return Err(Refusal::Full),
     };
     let _ = pass.words();
-    let commit = printed(alloc, version(history), name, rows)?;
+    let commit = printed(alloc, version, name, rows)?;
     Ok(Offer {
         changes,
         commit,
@@ -196,8 +198,8 @@ fn after(fresh: u32, more: u32) -> Result<u32, Memory>
     fresh.checked_add(more).ok_or(Memory)
 }
 
-/// The offer of rows of these terms, as many in each as the table has columns, for a session whose last null has this
-/// number. The pass has its words.
+/// The offer of rows of these terms, as many in each as the table has columns, as the commit after this version, for a
+/// session whose last null has this number. The pass has its words.
 ///
 /// # Errors
 /// `Full` where the log has no room, `Memory`.
@@ -206,20 +208,21 @@ pub fn offer_rows<N: Site>(
     arena: &Arena<N>,
     pass: &mut Pass<N>,
     tables: &Db,
-    history: &[Commit],
+    version: u32,
     fresh: u32,
     name: Text,
     rows: List<List<Term>>,
 ) -> Result<Offer, Refusal>
-    requires few { length history.now < 2 ^ 16 }
-    requires denotes { AreWorth pass.old.words (plain_history history.now) [] tables.now }
-    requires everywhere { IsAdmittedEverywhere (plain_history history.now) }
+    requires version { version ≡ length (commits_of pass.old.words) }
+    requires denotes { Denotes pass.old.words (commits_of pass.old.words) [] tables.now }
+    requires everywhere { IsAdmittedEverywhere (commits_of pass.old.words) }
     requires found { IsSome (find_table tables.now name) }
     requires width { IfSome (find_table tables.now name) (λ t. All (λ row. length row ≡ length t.columns) rows) }
     requires cells { All (All FitsCell) rows }
+    requires written { WritesAction (plain.InsertRows name rows True) }
     ensures longer { IsPrefix pass.old.words pass.new.words }
     ensures kept { kept_of pass.new ≡ kept_of pass.old }
-    ensures ok { IfOk result (λ offer. IsOfferFor (plain_history history.now) pass.new.words fresh (plain.InsertRows name rows True) offer.changes offer.commit offer.tables offer.fresh) }
+    ensures ok { IfOk result (λ offer. IsOfferFor (commits_of pass.old.words) pass.new.words fresh (plain.InsertRows name rows True) offer.changes offer.commit offer.tables offer.fresh) }
     ensures err { IfErr result (λ why. IsWant N.log.cap pass.new.words why) }
 {
     let more = drawn(rows.as_slice())?;
@@ -228,6 +231,6 @@ pub fn offer_rows<N: Site>(
         unreachable!()
     };
     new_rows(
-        alloc, arena, pass, tables, table, history, fresh, name, rows,
+        alloc, arena, pass, tables, table, version, fresh, name, rows,
     )
 }

@@ -1,6 +1,7 @@
 // Queries: the answer to one.
 
 ghost use Rattle.std.specs.Prelude.{◌≡◌, [], length, IfOk, IfErr};
+ghost use Rattle.ct_word.specs.Reading.{commits_of};
 ghost use mathlib.Core.List.{IsPrefix};
 ghost use Rattle.ct_query.specs.Fits.{Fits, width};
 ghost use Rattle.ct_query.specs.Plain as plain;
@@ -8,15 +9,13 @@ ghost use Rattle.ct_query.specs.Schema.{schema};
 ghost use Rattle.ct_query.specs.Views.{query_of};
 ghost use Rattle.ct_query.specs.declared.action.Ask.TheVariants as ask;
 ghost use Rattle.ct_history.specs.Kept.{kept_of};
-ghost use Rattle.ct_rewrite.specs.History.{plain_history};
-ghost use Rattle.ct_table.specs.Denotes.{AreWorth};
+ghost use Rattle.ct_table.specs.Denotes.{Denotes};
 ghost use Rattle.ct_session.specs.Catalogue.{IsAdmittedEverywhere, IsAnswerFor, IsUnmet, unevaluated};
 
 use crate::printing::answer_of;
 use ct_algebra::{EvalError, eval};
 use ct_arena::{Arena, Pass, Site};
 use ct_query::Query;
-use ct_rewrite::Commit;
 use ct_table::Db;
 use ct_transcript::{Answer, Refusal};
 use ct_word::{List, Text};
@@ -43,22 +42,28 @@ pub fn answer_query<N: Site>(
     arena: &Arena<N>,
     pass: &mut Pass<N>,
     tables: &Db,
-    history: &[Commit],
     columns: List<Text>,
     query: &Query,
 ) -> Result<Answer, Refusal>
-    requires denotes { AreWorth pass.old.words (plain_history history.now) [] tables.now }
-    requires everywhere { IsAdmittedEverywhere (plain_history history.now) }
-    requires fits { Fits (schema (plain_history history.now) []).tables (query_of query.now) }
-    requires named { length columns ≡ width (schema (plain_history history.now) []).tables (query_of query.now) }
+    requires denotes { Denotes pass.old.words (commits_of pass.old.words) [] tables.now }
+    requires everywhere { IsAdmittedEverywhere (commits_of pass.old.words) }
+    requires fits { Fits (schema (commits_of pass.old.words) []).tables (query_of query.now) }
+    requires named { length columns ≡ width (schema (commits_of pass.old.words) []).tables (query_of query.now) }
     ensures longer { IsPrefix pass.old.words pass.new.words }
     ensures kept { kept_of pass.new ≡ kept_of pass.old }
-    ensures ok { IfOk result (IsAnswerFor (plain_history history.now) columns (query_of query.now)) }
-    ensures err { IfErr result (λ why. IsUnmet (plain_history history.now) N.log.cap pass.new.words (plain.Asks ask.Rows columns (query_of query.now)) why) }
+    ensures ok { IfOk result (IsAnswerFor (commits_of pass.old.words) columns (query_of query.now)) }
+    ensures err { IfErr result (λ why. IsUnmet (commits_of pass.old.words) N.log.cap pass.new.words (plain.Asks ask.Rows columns (query_of query.now)) why) }
 {
+    let before = pass.made();
     let table = match eval(alloc, arena, pass, query, tables) {
         Ok(table) => table,
-        Err(e) => return Err(unevaluated(e)),
+        Err(e) => {
+            // No clause says that the count of a pass's words never falls. It does not, so this case does not come.
+            if pass.made() < before {
+                return Err(Refusal::Memory);
+            }
+            return Err(unevaluated(e));
+        }
     };
     Ok(answer_of(alloc, pass.words(), columns, table.rows.as_slice())?)
 }

@@ -1,8 +1,10 @@
 // The one session, which has the catalogue to itself until sessions share it.
 
-ghost use Rattle.std.specs.Prelude.{◌≡◌, ◌<◌, ◌^◌, ◌+◌, ℕ, length, IsOk, IsTrue, Ok, vec_len, vec_capacity};
+ghost use Rattle.std.specs.Prelude.{◌≡◌, ◌<◌, ◌≤◌, ◌^◌, ◌+◌, ℕ, length, IsOk, IsTrue, Ok, vec_len, vec_capacity};
 ghost use mathlib.Core.List.{IsPrefix};
-ghost use Rattle.ct_rewrite.specs.History.{plain_history};
+ghost use Rattle.ct_arena.specs.Counts.{AreNumbered};
+ghost use Rattle.ct_history.specs.Kept.{kept_of};
+ghost use Rattle.ct_word.specs.Reading.{commits_of};
 ghost use Rattle.ct_session.specs.Catalogue.{IsCatalogue, IsReady, CommitOf, wanting};
 
 use ct_arena::{Arena, KeeperPass, Pass, Site};
@@ -63,15 +65,47 @@ pub fn wanting(e: TableError) -> Refusal
     }
 }
 
+/// The session when its pass has all words of the keeper, and with them every commit.
+pub fn caught_up<N: Site>(arena: &Arena<N>, session: Session<N>) -> Session<N>
+    requires kept { IsCatalogue session.pass session.keeper session.tables session.history.items }
+    ensures kept { IsCatalogue result.pass result.keeper result.tables result.history.items }
+    ensures words { result.pass.words ≡ result.keeper.words }
+    ensures longer { IsPrefix session.pass.words result.pass.words }
+    ensures pass { kept_of result.pass ≡ kept_of session.pass }
+    ensures numbered { AreNumbered result.pass.session result.pass.mine result.pass.words }
+    ensures room { length result.pass.words ≤ N.log.cap }
+    ensures history { result.history.items ≡ session.history.items }
+    ensures fresh { result.fresh ≡ session.fresh }
+{
+    let Session {
+        pass,
+        mut keeper,
+        tables,
+        history,
+        fresh,
+    } = session;
+    let guest = keeper.enter(arena, pass);
+    let pass = keeper.leave(arena, guest);
+    // The words are well formed, which keeps the tables' rows as words are added.
+    let _ = pass.words();
+    Session {
+        pass,
+        keeper,
+        tables,
+        history,
+        fresh,
+    }
+}
+
 /// Commits an offer; where the log is full, nothing but its words is changed.
 pub fn commit<N: Site>(arena: &Arena<N>, session: Session<N>, offer: Offer) -> (Session<N>, Reply)
-    requires kept { IsCatalogue N.log.cap session.pass session.keeper session.tables session.history.items }
+    requires kept { IsCatalogue session.pass session.keeper session.tables session.history.items }
     requires few { length session.history.items < 2 ^ 16 }
     requires room { vec_len session.history < vec_capacity session.history }
-    requires ready { IsReady (plain_history session.history.items) session.pass.words offer.changes offer.commit offer.tables }
-    ensures kept { IsCatalogue N.log.cap result.0.pass result.0.keeper result.0.tables result.0.history.items }
+    requires ready { IsReady (commits_of session.keeper.words) session.pass.words offer.changes offer.commit offer.tables }
+    ensures kept { IsCatalogue result.0.pass result.0.keeper result.0.tables result.0.history.items }
     ensures longer { IsPrefix session.pass.words result.0.pass.words }
-    ensures outcome { CommitOf N.log.cap session.pass.words result.0.pass.words session.history.items session.fresh offer.commit offer.fresh result.0.history.items result.0.fresh result.1 }
+    ensures outcome { CommitOf N.log.cap session.keeper.words session.pass.words result.0.pass.words offer.changes session.history.items session.fresh offer.commit offer.fresh result.0.history.items result.0.fresh result.1 }
 {
     let Session {
         pass,
