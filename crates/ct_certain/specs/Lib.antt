@@ -1,0 +1,4 @@
+pub mod Possible
+pub mod Certain
+pub mod Asked
+pub mod Faults
