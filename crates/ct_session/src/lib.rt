@@ -1,6 +1,7 @@
 //! One statement of one session: from its text to what it does to the session, and the reply to it.
 #![tactic(auto)]
 
+mod asking;
 mod built;
 mod creating;
 mod executing;
