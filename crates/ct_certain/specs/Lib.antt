@@ -2,3 +2,5 @@ pub mod Possible
 pub mod Certain
 pub mod Asked
 pub mod Faults
+pub mod Order
+pub mod Answered
