@@ -8,7 +8,7 @@ use Rattle.ct_certain.specs.Certain.{IsKeptWorld}
 use Rattle.ct_session.specs.Catalogue.{IsUnmet}
 use Rattle.ct_session.proofs.Questions.{true_plain, nothing_kept, certain_right, certain_fails}
 use Rattle.ct_session.proofs.TermCounts.{past_of_tuple}
-use Rattle.ct_session.proofs.asking.certain_rows.Goals as goal
+use Rattle.ct_session.proofs.certainty.certain_rows.Goals as goal
 
 pub certain-requires-clause-plain : goal.certain-requires-clause-plain
 certain-requires-clause-plain g c = true_plain c.answered.new.pass.words c.words.ensures.begins c.words.ensures.formed
