@@ -1,4 +1,5 @@
 pub mod Sessions
 pub mod Progress
 pub mod Lawful
+pub mod Scripts
 pub mod Runs

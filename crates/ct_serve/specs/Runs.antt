@@ -1,11 +1,7 @@
--- Which file the words of a run name, what a script is, and what a run does.
-use Rattle.std.specs.Prelude.{◌≡◌, ℕ, ◌≤◌, ◌⊎◌, Bool, true, false, List, [], ◌∷◌, length, map, codes, Option, Some, None, IfSome, MatchOption, if◌then◌else◌}
-use Rattle.std.specs.Borrow.{Bor}
+-- What a run does.
+use Rattle.std.specs.Prelude.{◌≡◌, ℕ, ◌⊎◌, Bool, true, false, List, [], length, map, Option, IfSome}
 use Rattle.std.specs.List.{list_any}
-use Rattle.std.specs.Str.{IsUtf8}
-use Rattle.ct_word.specs.Value.{same_text}
-use Rattle.ct_lex.specs.Texts.{texts}
-use Rattle.ct_outside.specs.Outside.{Held, Holds, Added, Called}
+use Rattle.ct_outside.specs.Outside.{Held, Added, Called}
 use Rattle.ct_outside.specs.Writes.{joined, FailedAtCall}
 use Rattle.ct_transcript.specs.declared.reply.Reply.{Reply}
 use Rattle.ct_transcript.specs.declared.reply.Reply.TheVariants as reply
@@ -18,43 +14,11 @@ use Rattle.ct_serve.specs.declared.ending.Status.TheVariants as status
 use Rattle.ct_serve.specs.declared.driving.Sought.{Sought}
 use Rattle.ct_serve.specs.declared.driving.Sought.TheVariants as sought
 use Rattle.ct_serve.specs.Lawful.{Lawful}
-
--- the greatest number of bytes, and of statements, of a script
-abbrev pub SCRIPT_BYTES : ℕ
-SCRIPT_BYTES = 1048576
-
-abbrev pub SCRIPT_STATEMENTS : ℕ
-SCRIPT_STATEMENTS = 65535
+use Rattle.ct_serve.specs.Scripts.{AreScriptsOf, IsUnread, IsNoScript}
 
 -- how many words the log of a run has room for
 abbrev pub capacity : ℕ
 capacity = 262144
-
--- the file that words name: after the word run, and alone
-abbrev pub file_of : List (List ℕ) → Option (List ℕ)
-file_of (command ∷ file ∷ []) = if same_text command (codes "run") then Some file else None
-file_of _ = None
-
--- the file that the words name to which references point
-abbrev pub file_named : List (Bor (List ℕ)) → Option (List ℕ)
-file_named words = file_of (map (λ word. word.now) words)
-
--- bytes are a script: not too many, text in UTF-8, and not too many statements
-pub record IsScript (bytes : List ℕ) : Type 0 where
-  pub short : length bytes ≤ SCRIPT_BYTES
-  pub utf8 : IsUtf8 bytes
-  pub few : length (texts bytes) ≤ SCRIPT_STATEMENTS
-
--- where a source tells, bytes are held under the name, and they are no script
-abbrev pub HoldsNoScript : Option Held → List ℕ → Type 0
-HoldsNoScript told name = IfSome told (λ held. MatchOption (held name) ⊥ (λ bytes. IsScript bytes → ⊥))
-
--- there is one script, and where a source tells, it is what the source holds under the name
-pub record IsScriptOf (told : Option Held) (name : List ℕ) (scripts : List (List ℕ)) : Type 0 where
-  pub script : List ℕ
-  pub held : Holds told name script
-  pub is_script : IsScript script
-  pub alone : scripts ≡ script ∷ []
 
 -- the transcript without sessions, commits and words
 abbrev pub empty_transcript : Transcript
@@ -88,19 +52,24 @@ IsOutcome logs status.ReadFault = ⊥
 IsOutcome logs status.WriteFault = ⊥
 IsOutcome logs status.Script = ⊥
 
--- what the source told before the call, what the sink told before and after it of its bytes and of its calls
+-- the files that the words name; what the source told before the call of the bytes that it holds, and before and after
+-- it of the names that it was asked; what the sink told before and after it of its bytes and of its calls
 pub record Outside : Type 0 where
-  pub file : Option (List ℕ)
+  pub files : Option (List (List ℕ))
   pub held : Option Held
+  pub asked : Option (List (List ℕ))
+  pub asked' : Option (List (List ℕ))
   pub taken : Option (List ℕ)
   pub taken' : Option (List ℕ)
   pub calls : Option ℕ
   pub calls' : Option ℕ
 
--- a lawful transcript of one session, whose script is what the source tells under the name of its file
+-- a lawful transcript with a session for each file, whose script is what the source tells under the file's name; each
+-- file was asked once, in their order
 pub record IsServed (N : ℕ) (o : Outside) (t : Transcript) : Type 0 where
   pub lawful : Lawful t N
-  pub script : IfSome o.file (λ file. IsScriptOf o.held file (map (λ s. s.script) t.sessions))
+  pub scripts : IfSome o.files (λ files. AreScriptsOf o.held files (map (λ s. s.script) t.sessions))
+  pub asked_all : IfSome o.files (Added o.asked o.asked')
 
 -- exactly the lines of the transcript were added, one call a line
 pub record IsWritten (o : Outside) (t : Transcript) : Type 0 where
@@ -145,5 +114,5 @@ Promise N o status.Refused t = IsServed N o t × Printed o t status.Refused
 Promise N o status.WriteFault t = IsServed N o t × Printed o t status.WriteFault
 Promise N o status.Memory t = IsNothingDone o t ⊎ (IsServed N o t × Printed o t status.Memory)
 Promise N o status.Words t = IsNothingDone o t
-Promise N o status.ReadFault t = IsNothingDone o t
-Promise N o status.Script t = IsNothingDone o t
+Promise N o status.ReadFault t = IsNothingDone o t × IfSome o.files (IsUnread o.held o.asked o.asked')
+Promise N o status.Script t = IsNothingDone o t × IfSome o.files (IsNoScript o.held o.asked o.asked')

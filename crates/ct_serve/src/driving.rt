@@ -8,109 +8,50 @@ ghost use Rattle.ct_outside.specs.Outside.{Rose, Holds, Added};
 ghost use Rattle.ct_outside.specs.Writes.{joined};
 ghost use Rattle.ct_transcript.specs.Text.{lines_of};
 ghost use Rattle.ct_serve.specs.Lawful.{Lawful};
-ghost use Rattle.ct_serve.specs.Runs.{file_named, IsScript, IsScriptOf, HoldsNoScript, is_sought, some_reply, capacity, IsOutcome, Printed, Promise, empty_transcript};
+ghost use Rattle.ct_serve.specs.Scripts.{files_named, AreScriptsOf, AsksInOrder, IsUnread, IsNoScript};
+ghost use Rattle.ct_serve.specs.Runs.{is_sought, some_reply, capacity, IsOutcome, Printed, Promise, empty_transcript};
 ghost use Rattle.ct_serve.specs.declared.ending.Status.TheVariants as status;
-ghost use Rattle.ct_serve.specs.declared.driving.Unserved.TheVariants as unserved;
+ghost use Rattle.ct_serve.specs.declared.reading.Unserved.TheVariants as unserved;
 
 use crate::ending::{Run, Status};
+use crate::reading::{Unserved, files_named, scripts_of};
 use crate::serving::serve;
 use ct_arena::Log;
-use ct_lex::split;
-use ct_outside::{Gate, ReadError, Scripts, Sink, write_all};
+use ct_outside::{Gate, Scripts, Sink, write_all};
 use ct_transcript::{Refusal, Reply, SessionLog, Transcript, lines};
-use ct_word::{List, Memory, Text};
+use ct_word::List;
 use std::alloc::Global;
 use std::sync::Wait;
 
 /// How many words the log of a run has room for.
 const CAPACITY: u32 = 262_144;
 
-/// The greatest number of bytes of a script.
-const SCRIPT_BYTES: u32 = 0x10_0000;
-
-/// The greatest number of statements of a script.
-const SCRIPT_STATEMENTS: usize = 65_535;
-
-/// Why no session ran.
-enum Unserved {
-    Words,
-    ReadFault,
-    Script,
-    Memory,
-}
-
-impl From<Memory> for Unserved {
-    ghost from_gives = { λ _ e. e ≡ unserved.Memory };
-
-    fn from(_: Memory) -> Self {
-        Unserved::Memory
-    }
-}
-
-/// The file that the words name.
-fn file_named<'a>(words: &[&'a str]) -> Option<&'a str>
-    ensures { option_map (λ file. file.now) result ≡ file_named words.now }
-{
-    match words {
-        [command, file] if *command == "run" => Some(*file),
-        _ => None,
-    }
-}
-
-/// The script that the bytes are.
+/// The transcript of the sessions of the files that the words name.
 ///
 /// # Errors
-/// `Script` only where they are none, `Memory` for want of memory.
-fn as_script(alloc: Global, bytes: Vec<u8>) -> Result<Text, Unserved>
-    ensures same { IfOk result (λ script. script ≡ bytes.items) }
-    ensures script { IfOk result (λ script. IsScript script) }
-    ensures no_script { IfErr result (λ e. e ≡ unserved.Script → IsScript bytes.items → ⊥) }
-    ensures others { IfErr result (λ e. (e ≡ unserved.Words → ⊥) × (e ≡ unserved.ReadFault → ⊥)) }
-{
-    // A source that tells nothing may give more than the limit.
-    if bytes.len() > SCRIPT_BYTES as usize {
-        return Err(Unserved::Script);
-    }
-    let Ok(text) = String::from_utf8(bytes) else {
-        return Err(Unserved::Script);
-    };
-    let script = Text::from_string(text);
-    if split(alloc, script.as_str())?.len() <= SCRIPT_STATEMENTS {
-        Ok(script)
-    } else {
-        Err(Unserved::Script)
-    }
-}
-
-/// The transcript of the session of the file that the words name.
-///
-/// # Errors
-/// `Words` exactly where the words name no file, `ReadFault` only where the source failed, `Script` only where the file
-/// is no script, and `Memory` for want of memory.
+/// `Words` exactly where the words name no files. Of the others the first file at fault decides: `ReadFault` only where
+/// the source failed, `Script` only where the file is no script. `Memory` comes for want of memory.
 fn served<R: Wait, S: Scripts, G: Gate + Sync>(
     rt: &R,
     alloc: Global,
     words: &[&str],
-    scripts: &mut S,
+    source: &mut S,
     gate: &G,
 ) -> Result<Transcript, Unserved>
     ensures lawful { IfOk result (λ transcript. Lawful transcript capacity) }
-    ensures script { IfOk result (λ transcript. IfSome (file_named words.now) (λ file. IsScriptOf (S.held scripts.old) file (map (λ s. s.script) transcript.sessions))) }
-    ensures words { (result ≡ Err unserved.Words) ↔ (file_named words.now ≡ None) }
-    ensures read { IfErr result (λ e. e ≡ unserved.ReadFault → Rose (S.faults scripts.old) (S.faults scripts.new)) }
-    ensures no_script { IfErr result (λ e. e ≡ unserved.Script → IfSome (file_named words.now) (HoldsNoScript (S.held scripts.old))) }
+    ensures scripts { IfOk result (λ transcript. IfSome (files_named words.now) (λ files. AreScriptsOf (S.held source.old) files (map (λ s. s.script) transcript.sessions))) }
+    ensures words { (result ≡ Err unserved.Words) ↔ (files_named words.now ≡ None) }
+    ensures in_order { AsksInOrder (S.names source.old) (S.names source.new) (files_named words.now) }
+    ensures asked { OnOk result (IfSome (files_named words.now) (Added (S.names source.old) (S.names source.new))) }
+    ensures rose { IfErr result (λ e. e ≡ unserved.ReadFault → Rose (S.faults source.old) (S.faults source.new)) }
+    ensures unread { IfErr result (λ e. e ≡ unserved.ReadFault → IfSome (files_named words.now) (IsUnread (S.held source.old) (S.names source.old) (S.names source.new))) }
+    ensures no_script { IfErr result (λ e. e ≡ unserved.Script → IfSome (files_named words.now) (IsNoScript (S.held source.old) (S.names source.old) (S.names source.new))) }
 {
-    let Some(file) = file_named(words) else {
+    let Some(files) = files_named(words) else {
         return Err(Unserved::Words);
     };
-    let bytes = match scripts.read(alloc, file, SCRIPT_BYTES) {
-        Ok(bytes) => bytes,
-        Err(ReadError::Failed) => return Err(Unserved::ReadFault),
-        Err(ReadError::TooLong) => return Err(Unserved::Script),
-        Err(ReadError::Memory) => return Err(Unserved::Memory),
-    };
-    let script = as_script(alloc, bytes)?;
-    let transcript = serve(rt, alloc, CAPACITY, &[script], gate)?;
+    let scripts = scripts_of(alloc, source, files)?;
+    let transcript = serve(rt, alloc, CAPACITY, scripts.as_slice(), gate)?;
     Ok(transcript)
 }
 
@@ -165,7 +106,7 @@ fn outcome(logs: &[SessionLog]) -> Status
 
 /// Writes the lines of a transcript, with one call for each.
 fn print<K: Sink>(alloc: Global, transcript: &Transcript, out: &mut K) -> Status
-    ensures printed { Printed (record { file = None; held = None; taken = K.taken out.old; taken' = K.taken out.new; calls = K.calls out.old; calls' = K.calls out.new }) transcript.now result }
+    ensures printed { Printed (record { files = None; held = None; asked = None; asked' = None; taken = K.taken out.old; taken' = K.taken out.new; calls = K.calls out.old; calls' = K.calls out.new }) transcript.now result }
     ensures write { result ≡ status.WriteFault → Rose (K.faults out.old) (K.faults out.new) }
 {
     let Ok(text) = lines(alloc, transcript) else {
@@ -202,14 +143,15 @@ fn status_of(e: Unserved) -> Status
     }
 }
 
-/// Runs the session of the file that the words name, and writes its transcript with one write for each line. The words
-/// that are understood are `run` and the name of a file. The gate is called round each statement, and may wait.
+/// Runs the sessions of the files that the words name, and writes their transcript with one write for each line. The
+/// words that are understood are `run` and the name of a file. The files are asked in their order, each once. The gate is
+/// called round each statement, and may wait.
 ///
 /// A script has at most 1,048,576 bytes, is in UTF-8, and has at most 65,535 statements. The status is
-/// - `Words` exactly where the words are not understood;
-/// - `ReadFault` only where the source failed, and counted it;
-/// - `Script` only where the source tells what the file holds, and it is no script. Where it tells so, the status is this
-///   one, `ReadFault` or `Memory`;
+/// - `Words` exactly where the words are not understood; then no file is asked;
+/// - `ReadFault` only where the source failed, and counted it: at the last file that was asked. Where the source tells
+///   what it holds, the files before that one are scripts;
+/// - `Script` only where, if the source tells what it holds, one of the files is no script, and those before it are;
 /// - `WriteFault` only where the sink failed, and counted it: the lines before the one at fault were written, and a
 ///   prefix of that one;
 /// - `Done` where every reply was made and every line written, and no reply is a refusal;
@@ -218,7 +160,7 @@ fn status_of(e: Unserved) -> Status
 ///   line was, and some reply is for want of memory.
 ///
 /// With `Words`, `ReadFault` and `Script` the transcript is empty, and nothing was written. With every other status but
-/// `Memory` it is the lawful transcript of the script that the file holds; with `Memory` it is one of the two.
+/// `Memory` it is the lawful transcript of the scripts that the files hold; with `Memory` it is one of the two.
 pub fn run<R: Wait, S: Scripts, K: Sink, G: Gate + Sync>(
     rt: &R,
     alloc: Global,
@@ -227,10 +169,10 @@ pub fn run<R: Wait, S: Scripts, K: Sink, G: Gate + Sync>(
     out: &mut K,
     gate: &G,
 ) -> Run
-    ensures promise { Promise capacity (record { file = file_named words.now; held = S.held scripts.old; taken = K.taken out.old; taken' = K.taken out.new; calls = K.calls out.old; calls' = K.calls out.new }) result.status result.transcript }
-    ensures words { (result.status ≡ status.Words) ↔ (file_named words.now ≡ None) }
+    ensures promise { Promise capacity (record { files = files_named words.now; held = S.held scripts.old; asked = S.names scripts.old; asked' = S.names scripts.new; taken = K.taken out.old; taken' = K.taken out.new; calls = K.calls out.old; calls' = K.calls out.new }) result.status result.transcript }
+    ensures words { (result.status ≡ status.Words) ↔ (files_named words.now ≡ None) }
+    ensures names { AsksInOrder (S.names scripts.old) (S.names scripts.new) (files_named words.now) }
     ensures read { result.status ≡ status.ReadFault → Rose (S.faults scripts.old) (S.faults scripts.new) }
-    ensures script { result.status ≡ status.Script → IfSome (file_named words.now) (HoldsNoScript (S.held scripts.old)) }
     ensures write { result.status ≡ status.WriteFault → Rose (K.faults out.old) (K.faults out.new) }
 {
     let transcript = match served(rt, alloc, words, scripts, gate) {

@@ -3,6 +3,7 @@
 
 mod driving;
 mod ending;
+mod reading;
 mod serving;
 
 pub use driving::run;

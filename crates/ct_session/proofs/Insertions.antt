@@ -3,7 +3,7 @@ use Rattle.std.proofs.Common.{◌≡◌, ℕ, ◌+◌, true, ◌&&◌, List, [],
 use Rattle.std.specs.Prelude.{Option, Some, None, IsSome, IfSome, IsTrue, All, sum_by, count_by}
 use Rattle.std.proofs.lemmas.Bool.{false≢true}
 use Rattle.std.specs.List.{list_all}
-use Rattle.std.proofs.lemmas.List.Elements.{All-cons, All-push, All-nil, All-weaker, recursion_from_All}
+use Rattle.std.proofs.lemmas.List.Elements.{All-cons, All-head, All-tail, All-push, All-nil, All-weaker, recursion_from_All}
 use mathlib.Core.List.{IsPrefix}
 use Rattle.ct_word.specs.declared.kinds.Class.TheVariants as class
 use Rattle.ct_word.specs.declared.values.Term.{Term}
@@ -18,7 +18,11 @@ use Rattle.ct_word.specs.Stands.{StandsAt}
 use Rattle.ct_word.proofs.Prefixes.{prefix_of_prefix, place_in_prefix}
 use Rattle.ct_query.specs.Plain as plain
 use Rattle.ct_query.specs.Database.{SameSet}
-use Rattle.ct_query.specs.Step.{shown_rows}
+use Rattle.ct_query.specs.Worlds.{changes_of}
+use Rattle.ct_query.proofs.Keeping.{changes_themselves}
+use Rattle.ct_word.specs.StandsFor.{SameChanges}
+use Rattle.ct_word.specs.Writable.{is_writable_term, is_writable_row, is_writable}
+use Rattle.ct_resolve.specs.Writing.{WritesTerm, WritesAction}
 use Rattle.ct_query.specs.Agrees.{SameTruthAlone, Agrees}
 use Rattle.ct_history.specs.Rows.{IsRowOf}
 use Rattle.ct_rewrite.specs.declared.history.Commit.{Commit}
@@ -26,15 +30,16 @@ use Rattle.ct_rewrite.specs.declared.answer.AnswerRow.{AnswerRow}
 use Rattle.ct_rewrite.specs.declared.answer.Node.TheVariants as node
 use Rattle.ct_rewrite.specs.Nodes.{is_position}
 use Rattle.ct_rewrite.specs.History.{plain_row, plain_commit}
-use Rattle.ct_table.specs.Denotes.{TableView, IsKept, AreWorth, find_table, with_table}
+use Rattle.ct_table.specs.Denotes.{TableView, IsKept, Denotes, find_table, with_table}
+use Rattle.ct_table.specs.Terms.{TermOfRows, RowsFrom}
 use Rattle.ct_table.specs.Tables.{cells_of, value_of_rows, IsRow, AreRows}
-use Rattle.ct_table.proofs.Denoting.{with_rows, found_all, rows_worth, worth_grows}
+use Rattle.ct_table.proofs.Denoting.{with_rows, found_all}
 use Rattle.ct_table.proofs.Following.{one_more}
-use Rattle.ct_table.proofs.Changing.{cells_listed}
+use Rattle.ct_table.proofs.Changing.{denotes_grows, inserted_denotes}
 use Rattle.ct_condition.proofs.Reached.{formed_before}
-use Rattle.ct_table.proofs.Growing.{plain_rows_grow, rows_grow, cells_grow, value_grows}
+use Rattle.ct_table.proofs.Growing.{plain_rows_grow}
 use Rattle.ct_session.specs.State.{is_fresh}
-use Rattle.ct_session.specs.Catalogue.{IsAdmittedEverywhere, IsReady, IsOfferFor, row_under_true, row_under_first, rows_commit}
+use Rattle.ct_session.specs.Catalogue.{IsAdmittedEverywhere, IsReady, IsOfferFor, logged, row_under_true, row_under_first, rows_commit}
 use Rattle.ct_session.proofs.Offering.{still_everywhere}
 
 -- what is true of an item is true of each item of the list of it
@@ -51,9 +56,9 @@ rows_of_places words more grown width rs all = All-weaker (IsRow words width) (I
   }
 
 -- the rows of a table that is found are well formed
-pub rows_of_found : (words : List ℕ) (h : List PlainCommit) (db : List TableView) (d : AreWorth words h [] db) (name : List ℕ) (t : TableView) → find_table db name ≡ Some t
+pub rows_of_found : (words : List ℕ) (h : List PlainCommit) (db : List TableView) (d : Denotes words h [] db) (name : List ℕ) (t : TableView) → find_table db name ≡ Some t
     → AreRows words (length t.columns) t.rows
-rows_of_found words h db d name t found = (found_all (IsKept words h []) name t db (recursion_from_All (IsKept words h []) db d.kept) found).rows
+rows_of_found words h db d name t found = (found_all (IsKept words h []) name t db (recursion_from_All (IsKept words h []) db d.worth.kept) found).rows
 
 -- a table that is found is not missing
 pub found_some : (o : Option TableView) (t : TableView) → o ≡ Some t → IsSome o
@@ -97,76 +102,77 @@ rows_where_true : (tss : List (List Term)) → All (λ (r : PlainRow). SameTruth
 rows_where_true [] = All-nil (λ (r : PlainRow). SameTruthAlone r.condition True)
 rows_where_true (ts ∷ tss) = All-cons (λ (r : PlainRow). SameTruthAlone r.condition True) (row_under_true ts) (map row_under_true tss) (λ v. refl) (rows_where_true tss)
 
--- the printed change agrees with the insertion of these rows where true
-pub rows_agree : (h : List PlainCommit) (number : ℕ) (name : List ℕ) (tss : List (List Term))
-    → Agrees h (plain.InsertRows name tss True ∷ []) (plain_commit (rows_commit number name tss)).changes
-rows_agree h number name tss =
-    subst (λ xs. Agrees h (plain.InsertRows name tss True ∷ []) xs) (sym (printed_rows number name tss)) ((refl, terms_of_rows tss, rows_where_true tss), tt)
+-- the change agrees with the insertion of these rows where true
+rows_agree : (h : List PlainCommit) (name : List ℕ) (tss : List (List Term)) → Agrees h (plain.InsertRows name tss True ∷ []) (Insert name (map row_under_true tss) ∷ [])
+rows_agree h name tss = ((refl, terms_of_rows tss, rows_where_true tss), tt)
 
-module _ (h : List PlainCommit) (old rowed merged listed words : List ℕ) (db : List TableView) (d : AreWorth old h [] db) (all : IsAdmittedEverywhere h) where
+-- an insertion can be written
+terms_written : (ts : List Term) → All WritesTerm ts → list_all is_writable_term ts ≡ true
+terms_written [] all = refl
+terms_written (t ∷ ts) all = ap (λ b. b && list_all is_writable_term ts) (All-head WritesTerm t ts all) ∙ terms_written ts (All-tail WritesTerm t ts all)
+
+rows_written : (tss : List (List Term)) → All (All WritesTerm) tss → list_all is_writable_row (map row_under_true tss) ≡ true
+rows_written [] all = refl
+rows_written (ts ∷ tss) all =
+    ap (λ b. (b && true) && list_all is_writable_row (map row_under_true tss)) (terms_written ts (All-head (All WritesTerm) ts tss all)) ∙ rows_written tss (All-tail (All WritesTerm) ts tss all)
+
+insertion_written : (name : List ℕ) (tss : List (List Term)) → WritesAction (plain.InsertRows name tss True) → IsTrue (is_writable (Insert name (map row_under_true tss)))
+insertion_written name tss w = ap (λ b. b && list_all is_writable_row (map row_under_true tss)) w.0 ∙ rows_written tss w.1
+
+module _ (h : List PlainCommit) (old rowed merged listed words : List ℕ) (db : List TableView) (d : Denotes old h [] db) (all : IsAdmittedEverywhere h) where
   module _ (first : IsPrefix old rowed) (second : IsPrefix rowed merged) (third : IsPrefix merged listed) (fourth : IsPrefix listed words)
       (formed : IsWellFormed words) where
-    module _ (name : List ℕ) (t : TableView) (found : find_table db name ≡ Some t) (tss : List (List Term)) (rs : List CRow)
+    module _ (name : List ℕ) (t : TableView) (found : find_table db name ≡ Some t) (tss : List (List Term)) (written : WritesAction (plain.InsertRows name tss True)) (rs : List CRow)
         (is : All (IsRow rowed (length t.columns)) rs) (stand : map (plain_crow rowed) rs ≡ map row_under_true tss) where
-      module _ (rows : List CRow) (are : AreRows merged (length t.columns) rows)
-          (tuples : (v : World) → SameSet (value_of_rows merged v rows) (value_of_rows rowed v t.rows ++ value_of_rows rowed v rs))
-          (part : IsSublist (cells_of merged rows) (cells_of rowed t.rows ++ cells_of rowed rs))
-          (kept : AreRows rowed (length t.columns) t.rows) where
-        module _ (list changes number : ℕ) (empty : StandsAt listed list (IsChangeList [])) (place : IsTrue (is_place_of words class.ChangeList changes))
-            (added : StandsAt words changes (IsChangeList (change_list_at listed list ++ Insert name (map (plain_crow listed) rs) ∷ []))) (n : number ≡ length h) where
-          to_end : IsPrefix rowed words
-          to_end = prefix_of_prefix rowed listed words (prefix_of_prefix rowed merged listed second third) fourth
+      module _ (list changes number : ℕ) (empty : StandsAt listed list (IsChangeList [])) (place : IsTrue (is_place_of words class.ChangeList changes))
+          (added : StandsAt words changes (IsChangeList (change_list_at listed list ++ Insert name (map (plain_crow listed) rs) ∷ []))) (n : number ≡ length h) where
+        in_list : map (plain_crow listed) rs ≡ map row_under_true tss
+        in_list = plain_rows_grow rowed listed (prefix_of_prefix rowed merged listed second third) (length t.columns) rs is ∙ stand
 
-          from_old : IsPrefix old words
-          from_old = prefix_of_prefix old rowed words first to_end
+        -- the change list is the insertion of the rows
+        pub in_words : change_list_at words changes ≡ Insert name (map row_under_true tss) ∷ []
+        in_words = ap as_change_list added ∙ ap (λ o. as_change_list o ++ Insert name (map (plain_crow listed) rs) ∷ []) empty ∙ ap (λ x. Insert name x ∷ []) in_list
 
-          from_merged : IsPrefix merged words
-          from_merged = prefix_of_prefix merged listed words third fourth
+        abbrev g : List PlainCommit
+        g = h ++ logged h words changes ∷ []
 
-          in_list : map (plain_crow listed) rs ≡ map row_under_true tss
-          in_list = plain_rows_grow rowed listed (prefix_of_prefix rowed merged listed second third) (length t.columns) rs is ∙ stand
+        from_merged : IsPrefix merged words
+        from_merged = prefix_of_prefix merged listed words third fourth
 
-          in_words : change_list_at words changes ≡ Insert name (map row_under_true tss) ∷ []
-          in_words = ap as_change_list added ∙ ap (λ o. as_change_list o ++ Insert name (map (plain_crow listed) rs) ∷ []) empty ∙ ap (λ x. Insert name x ∷ []) in_list
+        formed_merged : IsWellFormed merged
+        formed_merged = formed_before merged words from_merged formed
 
-          abbrev commit : Commit
-          commit = rows_commit number name tss
+        formed_old : IsWellFormed old
+        formed_old = formed_before old merged (prefix_of_prefix old rowed merged first second) formed_merged
 
-          tuples_at_end : (v : World) → SameSet (value_of_rows words v rows) (value_of_rows words v t.rows ++ shown_rows v (map row_under_true tss))
-          tuples_at_end v =
-              subst (λ x. SameSet x (value_of_rows words v t.rows ++ shown_rows v (map row_under_true tss))) (sym (value_grows merged words from_merged v (length t.columns) rows are.each))
-              (subst (λ x. SameSet (value_of_rows merged v rows) (x ++ shown_rows v (map row_under_true tss))) (sym (value_grows rowed words to_end v (length t.columns) t.rows kept.each))
-              (subst (λ x. SameSet (value_of_rows merged v rows) (value_of_rows rowed v t.rows ++ shown_rows v x)) stand (tuples v)))
+        x_written : IsTrue (is_writable (Insert name (map (plain_crow rowed) rs)))
+        x_written = subst (λ xs. IsTrue (is_writable (Insert name xs))) (sym stand) (insertion_written name tss written)
 
-          as_terms : cells_of rowed rs ≡ map (λ (r : PlainRow). r.cells) (map row_under_true tss)
-          as_terms = sym (cells_listed rowed rs) ∙ ap (map (λ (r : PlainRow). r.cells)) stand
+        one : changes_of g ≡ changes_of h ++ Insert name (map (plain_crow rowed) rs) ∷ []
+        one = one_more h (logged h words changes) (Insert name (map (plain_crow rowed) rs)) (in_words ∙ ap (λ xs. Insert name xs ∷ []) (sym stand))
 
-          part_at_end : IsSublist (cells_of words rows) (cells_of words t.rows ++ map (λ (r : PlainRow). r.cells) (map row_under_true tss))
-          part_at_end =
-              subst (λ x. IsSublist x (cells_of words t.rows ++ map (λ (r : PlainRow). r.cells) (map row_under_true tss))) (sym (cells_grow merged words from_merged (length t.columns) rows are.each))
-              (subst (λ x. IsSublist (cells_of merged rows) (x ++ map (λ (r : PlainRow). r.cells) (map row_under_true tss))) (sym (cells_grow rowed words to_end (length t.columns) t.rows kept.each))
-              (subst (λ x. IsSublist (cells_of merged rows) (cells_of rowed t.rows ++ x)) as_terms part))
-
-          -- the offer of the rows is ready
-          pub rows_ready : IsReady h words changes (rows_commit number name tss) (with_table db (with_rows name t rows))
-          rows_ready = record {
-            place = place;
-            printed = λ i. record { session = 1; number = n i; changes = (printed_rows number name tss ∙ sym in_words) i };
-            formed = record { ordered = refl; placed = ap (λ b. b && true) (rows_placed tss) };
-            denotes =
-                rows_worth words h (h ++ plain_commit commit ∷ []) db
-                (worth_grows old words from_old (formed_before old words from_old formed) h [] db d)
-                name (map row_under_true tss) (one_more h (plain_commit commit) (Insert name (map row_under_true tss)) (printed_rows number name tss))
-                t rows found tuples_at_end (rows_grow merged words from_merged (formed_before merged words from_merged formed) (length t.columns) rows are) part_at_end;
-            everywhere = still_everywhere h (plain_commit commit) (Insert name (map row_under_true tss)) (λ v w. refl) (printed_rows number name tss) all;
-          }
+        -- the offer of the rows is ready
+        pub rows_ready : (rows : List CRow) → AreRows merged (length t.columns) rows
+            → ((v : World) → SameSet (value_of_rows merged v rows) (value_of_rows rowed v t.rows ++ value_of_rows rowed v rs))
+            → IsSublist (cells_of merged rows) (cells_of rowed t.rows ++ cells_of rowed rs) → RowsFrom merged rows (TermOfRows rowed (t.rows ++ rs))
+            → IsReady h words changes (rows_commit number name tss) (with_table db (with_rows name t rows))
+        rows_ready rows are tuples part from = record {
+          place = place;
+          session = refl;
+          number = n;
+          printed = subst (SameChanges (plain_commit (rows_commit number name tss)).changes) (printed_rows number name tss ∙ sym in_words) (changes_themselves (plain_commit (rows_commit number name tss)).changes);
+          formed = record { ordered = refl; placed = ap (λ b. b && true) (rows_placed tss) };
+          denotes = denotes_grows merged words from_merged formed_merged g [] (with_table db (with_rows name t rows))
+              (inserted_denotes rowed merged second formed_merged h g db (denotes_grows old rowed first formed_old h [] db d) name rs one x_written t found is rows are tuples part from);
+          everywhere = still_everywhere h (logged h words changes) (Insert name (map row_under_true tss)) (λ v w. refl) in_words all;
+        }
 
 -- rows are offered for their insertion where true, which draws their fresh nulls
-pub rows_offered : (h : List PlainCommit) (words : List ℕ) (fresh fresh' number : ℕ) (name : List ℕ) (tss : List (List Term)) (changes : ℕ) (commit : Commit) (tables : List TableView)
-    → IsReady h words changes commit tables → commit ≡ rows_commit number name tss → fresh' ≡ fresh + sum_by (count_by is_fresh) tss
+pub rows_offered : (h : List PlainCommit) (words : List ℕ) (fresh fresh' : ℕ) (name : List ℕ) (tss : List (List Term)) (changes : ℕ) (commit : Commit) (tables : List TableView)
+    → IsReady h words changes commit tables → change_list_at words changes ≡ Insert name (map row_under_true tss) ∷ [] → fresh' ≡ fresh + sum_by (count_by is_fresh) tss
     → IsOfferFor h words fresh (plain.InsertRows name tss True) changes commit tables fresh'
-rows_offered h words fresh fresh' number name tss changes commit tables ready made draws = record {
+rows_offered h words fresh fresh' name tss changes commit tables ready listed draws = record {
   ready = ready;
   draws = draws;
-  agrees = subst (λ m. Agrees h (plain.InsertRows name tss True ∷ []) (plain_commit m).changes) (sym made) (rows_agree h number name tss);
+  agrees = subst (λ xs. Agrees h (plain.InsertRows name tss True ∷ []) xs) (sym listed) (rows_agree h name tss);
 }

@@ -1,8 +1,13 @@
+pub mod Weights
+pub mod Own
+pub mod Sameness
+pub mod Going
 pub mod Offers
 pub mod Committing
 pub mod Offering
 pub mod Readings
 pub mod Answering
+pub mod Caught
 pub mod Printed
 pub mod NewRow
 pub mod Insertions

@@ -1,6 +1,8 @@
 -- The offer of a new table.
-use Rattle.std.proofs.Common.{◌≡◌, ℕ, Bool, true, false, List, [], ◌∷◌, ◌++◌, length, map, refl, ap, sym, subst, ◌∙◌, arith}
+use Rattle.std.proofs.Common.{◌≡◌, ℕ, Bool, true, false, ◌&&◌, List, [], ◌∷◌, ◌++◌, length, map, refl, ap, sym, subst, ◌∙◌, arith}
 use Rattle.std.specs.Prelude.{All, Option, Some, None, IsSome, IfSome, IsTrue, option_and_then, option_map, if◌then◌else◌}
+use Rattle.std.specs.List.{list_all}
+use Rattle.std.proofs.lemmas.List.Elements.{All-head, All-tail}
 use mathlib.Core.List.{IsPrefix}
 use Rattle.ct_word.specs.Value.{World, same_text}
 use Rattle.ct_word.specs.declared.values.CRow.{CRow}
@@ -19,14 +21,15 @@ use Rattle.ct_query.proofs.Laws.{world_commit}
 use Rattle.ct_rewrite.specs.declared.answer.Node.{Node}
 use Rattle.ct_rewrite.specs.declared.history.Commit.{Commit}
 use Rattle.ct_rewrite.specs.declared.history.Change.TheVariants as change
-use Rattle.ct_rewrite.specs.History.{plain_commit}
 use Rattle.ct_word.specs.declared.kinds.Class.TheVariants as class
 use Rattle.ct_word.specs.WellFormed.{IsWellFormed, is_place_of}
-use Rattle.ct_condition.proofs.Reached.{formed_before}
-use Rattle.ct_table.specs.Denotes.{TableView, heading_of, AreWorth, find_table, with_table}
-use Rattle.ct_table.proofs.Denoting.{created_worth, worth_grows}
-use Rattle.ct_table.proofs.Following.{commit_follows}
-use Rattle.ct_session.specs.Catalogue.{IsAdmittedEverywhere, IsNewTable, IsOfferFor}
+use Rattle.ct_word.specs.StandsFor.{SameChanges}
+use Rattle.ct_word.specs.Writable.{is_name, is_writable}
+use Rattle.ct_resolve.specs.Writing.{IsNamed, WritesAction}
+use Rattle.ct_table.specs.Denotes.{TableView, heading_of, Denotes, find_table, with_table}
+use Rattle.ct_table.proofs.Changing.{created_denotes}
+use Rattle.ct_table.proofs.Following.{one_more}
+use Rattle.ct_session.specs.Catalogue.{IsAdmittedEverywhere, IsNewTable, IsOfferFor, logged}
 
 -- the columns that a schema has for a name are those of the name's table
 columns_found : (db : List TableView) (name : List ℕ) → columns_in (map heading_of db) name ≡ option_map (λ t. t.columns) (find_table db name)
@@ -82,35 +85,41 @@ still_everywhere h c x total e all v =
       by_world (Some w) s = total v w
       by_world None s = s
 
-printed_with : (m n : ℕ) (xs ys : List PlainChange) → m ≡ n → xs ≡ ys → (let c : PlainCommit = record { session = 1; number = m; changes = xs } in c) ≡ record { session = 1; number = n; changes = ys }
-printed_with m n xs ys e f = λ i. record { session = 1; number = e i; changes = f i }
-
 -- the commit that prints a creation has no nodes
 pub without_nodes : (number : ℕ) (nodes : List Node) (name : List ℕ) (columns : List (List ℕ)) → nodes ≡ []
     → (let c : Commit = record { session = 1; number = number; nodes = nodes; changes = change.Create name columns ∷ [] } in c) ≡ record { session = 1; number = number; nodes = []; changes = change.Create name columns ∷ [] }
 without_nodes number nodes name columns e = λ i. record { session = 1; number = number; nodes = e i; changes = change.Create name columns ∷ [] }
 
+-- a creation can be written
+names_written : (ns : List (List ℕ)) → All IsNamed ns → list_all is_name ns ≡ true
+names_written [] all = refl
+names_written (n ∷ ns) all = ap (λ b. b && list_all is_name ns) (All-head IsNamed n ns all) ∙ names_written ns (All-tail IsNamed n ns all)
+
+creation_written : (name : List ℕ) (columns : List (List ℕ)) → WritesAction (plain.Create name columns) → IsTrue (is_writable (Create name columns))
+creation_written name columns w = ap (λ b. b && list_all is_name columns) w.0 ∙ names_written columns w.1
+
 -- the offer of a new table is ready
 pub new_table_is : (h : List PlainCommit) (old words : List ℕ) (db : List TableView) (name : List ℕ) (columns : List (List ℕ)) (list changes number : ℕ) (tables : List TableView)
-    → AreWorth old h [] db → IsAdmittedEverywhere h → find_table db name ≡ None → IsWellFormed words → IsPrefix old words → number ≡ length h
+    → Denotes old h [] db → IsAdmittedEverywhere h → WritesAction (plain.Create name columns) → find_table db name ≡ None → IsWellFormed words → IsPrefix old words → number ≡ length h
     → tables ≡ with_table db (record { name = name; columns = columns; rows = [] })
     → (before : List ℕ) → StandsAt before list (IsChangeList []) → IsTrue (is_place_of words class.ChangeList changes)
     → StandsAt words changes (IsChangeList (change_list_at before list ++ Create name columns ∷ []))
     → IsNewTable h words name columns changes (record { session = 1; number = number; nodes = []; changes = change.Create name columns ∷ [] }) tables
-new_table_is h old words db name columns list changes number tables d all none well longer n e before empty place stands =
-    let commit : Commit = record { session = 1; number = number; nodes = []; changes = change.Create name columns ∷ [] } in
+new_table_is h old words db name columns list changes number tables d all written none well longer n e before empty place stands =
     let listed : change_list_at words changes ≡ Create name columns ∷ [] = ap as_change_list stands ∙ ap (λ o. as_change_list o ++ Create name columns ∷ []) empty in
+    let c = logged h words changes in
     record {
       ready = record {
         place = place;
-        printed = printed_with number (length h) (Create name columns ∷ []) (change_list_at words changes) n (sym listed);
+        session = refl;
+        number = n;
+        printed = subst (SameChanges (Create name columns ∷ [])) (sym listed) ((refl, refl), tt);
         formed = record { ordered = refl; placed = refl };
-        denotes = subst (λ ts. AreWorth words (h ++ plain_commit commit ∷ []) [] ts) (sym (e ∙ with_new db (record { name = name; columns = columns; rows = [] }) none))
-            (created_worth words h [] (h ++ plain_commit commit ∷ []) [] db (worth_grows old words longer (formed_before old words longer well) h [] db d) name columns
-            (commit_follows h (plain_commit commit) (Create name columns) refl) none);
-        everywhere = still_everywhere h (plain_commit commit) (Create name columns) (λ v w. refl) refl all;
+        denotes = subst (λ ts. Denotes words (h ++ c ∷ []) [] ts) (sym (e ∙ with_new db (record { name = name; columns = columns; rows = [] }) none))
+            (created_denotes old words longer well h (h ++ c ∷ []) db d name columns (one_more h c (Create name columns) listed) (creation_written name columns written) none);
+        everywhere = still_everywhere h c (Create name columns) (λ v w. refl) listed all;
       };
-      change = refl;
+      change = listed;
     }
 
 -- a new table is offered for its creation, which draws no null

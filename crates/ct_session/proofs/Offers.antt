@@ -82,7 +82,7 @@ module _ (N : ℕ) (words start now : List ℕ) (fresh : ℕ) (x : List ℕ) (fi
     sees : Sees H s (length h) []
     sees = (omega arith, on.within, refl)
 
-    pub resolves_on : (st : Statement) (r : Found PlainStatement) → ReadsAs x st → resolved_at h fresh st ≡ r → ResolvesTo H s x (length h) [] r
+    abbrev pub resolves_on : (st : Statement) (r : Found PlainStatement) → ReadsAs x st → resolved_at h fresh st ≡ r → ResolvesTo H s x (length h) [] r
     resolves_on st r reads e = record { statement = st; reads = reads; gives = ap (λ sch. resolved sch 1 fresh st) (sym (on.keeps.schemas [])) ∙ e }
 
     -- a name or a count does not fit

@@ -43,7 +43,7 @@ none_by s m [] e = refl
 none_by s m (c ∷ cs) e = by_test (nat_eq c.session s) (none_by s (m + 1) cs) e where
   by_test : (b : Bool) → (length (numbers_by s cs) ≡ 0 → commits_by s (m + 1) cs ≡ []) → length (if b then c.number ∷ numbers_by s cs else numbers_by s cs) ≡ 0
       → (if b then m ∷ commits_by s (m + 1) cs else commits_by s (m + 1) cs) ≡ []
-  by_test true rest none = absurd (let bad : length (numbers_by s cs) + 1 ≡ 0 = none in omega (arith, bad))
+  by_test true rest none = absurd (let bad : length (c.number ∷ numbers_by s cs) ≡ 0 = none in omega (arith, bad))
   by_test false rest none = rest none
 
 -- words and further ones that have as many commits of a session have the same ones

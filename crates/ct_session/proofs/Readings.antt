@@ -6,6 +6,7 @@ use Rattle.ct_lex.specs.declared.token.Token.{Token}
 use Rattle.ct_lex.specs.declared.token.LexError.{LexError}
 use Rattle.ct_lex.specs.declared.token.LexError.TheVariants as lexical
 use Rattle.ct_lex.specs.Tokens.{Lexes, FaultsAt}
+use Rattle.ct_lex.proofs.Written.{tokens_written}
 use Rattle.ct_parse.specs.declared.error.ParseError.{ParseError}
 use Rattle.ct_parse.specs.declared.error.ParseError.TheVariants as grammatical
 use Rattle.ct_parse.specs.declared.tree.Statement.{Statement}
@@ -14,7 +15,7 @@ use Rattle.ct_parse.specs.Nest.{is_too_deep}
 use Rattle.ct_parse.specs.Parses.{Spells}
 use Rattle.ct_transcript.specs.declared.reply.Refusal.{Refusal}
 use Rattle.ct_transcript.specs.declared.reply.Refusal.TheVariants as refusal
-use Rattle.ct_session.specs.Statements.{ReadsAs, HasFault, IsTextFault, number_range, open_text, stray_byte, too_deep, unspelled, lexical_refusal, grammatical_refusal}
+use Rattle.ct_session.specs.Statements.{ReadsAs, IsWritten, HasFault, IsTextFault, number_range, open_text, stray_byte, too_deep, unspelled, lexical_refusal, grammatical_refusal}
 
 not_both : (b : Bool) → IsTrue b → IsFalse b → ⊥
 not_both true t f = absurd (false≢true (sym f))
@@ -81,3 +82,7 @@ module _ (x : List ℕ) (tokens : List Token) (lexes : Lexes x tokens) (only : (
       by_error grammatical.NotAStatement p = refl
       by_error grammatical.TooDeep p = absurd (not_both (is_too_deep (said tokens)) (deep p) (subst (λ ts. IsFalse (is_too_deep (said ts))) (only t.tokens t.lexes) t.shallow))
       by_error grammatical.Memory p = absurd (n (ap grammatical_refusal p))
+
+-- the lexemes of a text that is read as a statement are such as a text writes
+pub is_written : (x : List ℕ) (st : Statement) → ReadsAs x st → IsWritten st
+is_written x st r = record { lexemes = said r.tokens; written = tokens_written r.lexes; spells = r.spells }

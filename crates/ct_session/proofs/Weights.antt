@@ -25,23 +25,23 @@ use Rattle.ct_table.proofs.Counted.{rows_counted}
 use Rattle.ct_table.proofs.QuerySizes.{row_bound_grows}
 
 -- numbers that grow together
-AllLe : List ℕ → List ℕ → Type 0
-AllLe [] [] = Unit {0}
-AllLe (m ∷ ms) (n ∷ ns) = (m ≤ n) × AllLe ms ns
-AllLe _ _ = ⊥
+abbrev AreLe : List ℕ → List ℕ → Type 0
+AreLe [] [] = Unit {0}
+AreLe (m ∷ ms) (n ∷ ns) = (m ≤ n) × AreLe ms ns
+AreLe _ _ = ⊥
 
 -- both are there, and the second is as great, or neither is
-Le? : Option ℕ → Option ℕ → Type 0
-Le? None None = Unit {0}
-Le? (Some m) (Some n) = m ≤ n
-Le? _ _ = ⊥
+abbrev IsLe? : Option ℕ → Option ℕ → Type 0
+IsLe? None None = Unit {0}
+IsLe? (Some m) (Some n) = m ≤ n
+IsLe? _ _ = ⊥
 
-AllLe? : Option (List ℕ) → Option (List ℕ) → Type 0
-AllLe? None None = Unit {0}
-AllLe? (Some ms) (Some ns) = AllLe ms ns
-AllLe? _ _ = ⊥
+abbrev AreLe? : Option (List ℕ) → Option (List ℕ) → Type 0
+AreLe? None None = Unit {0}
+AreLe? (Some ms) (Some ns) = AreLe ms ns
+AreLe? _ _ = ⊥
 
-all_le_push : (ms ns : List ℕ) (m n : ℕ) → AllLe ms ns → m ≤ n → AllLe (ms ++ m ∷ []) (ns ++ n ∷ [])
+all_le_push : (ms ns : List ℕ) (m n : ℕ) → AreLe ms ns → m ≤ n → AreLe (ms ++ m ∷ []) (ns ++ n ∷ [])
 all_le_push [] [] m n a le = (le, tt)
 all_le_push (x ∷ ms) (y ∷ ns) m n a le = (a.0, all_le_push ms ns m n a.1 le)
 all_le_push [] (y ∷ ns) m n a le = absurd a
@@ -50,7 +50,7 @@ all_le_push (x ∷ ms) [] m n a le = absurd a
 add_le : (a b m n : ℕ) → a ≤ m → b ≤ n → a + b ≤ m + n
 add_le a b m n p q = omega arith
 
-partial_products_grow : (p q : ℕ) (ms ns : List ℕ) → p ≤ q → AllLe ms ns → partial_products p ms ≤ partial_products q ns
+partial_products_grow : (p q : ℕ) (ms ns : List ℕ) → p ≤ q → AreLe ms ns → partial_products p ms ≤ partial_products q ns
 partial_products_grow p q [] [] le a = omega arith
 partial_products_grow p q (m ∷ ms) (n ∷ ns) le a =
     let more : p * m ≤ q * n = mul-le p m q n le a.0 in
@@ -63,13 +63,13 @@ module _ (f g : List ℕ → ℕ) (each : (t : List ℕ) → f t ≤ g t) where
   rows_grow : (q : PlainQuery) → row_bound f q ≤ row_bound g q
   rows_grow q = row_bound_grows f g each q
 
-  push_grows : (a b : Option (List ℕ)) (m n : ℕ) → AllLe? a b → m ≤ n → AllLe? (option_map (λ ns. ns ++ m ∷ []) a) (option_map (λ ns. ns ++ n ∷ []) b)
+  push_grows : (a b : Option (List ℕ)) (m n : ℕ) → AreLe? a b → m ≤ n → AreLe? (option_map (λ ns. ns ++ m ∷ []) a) (option_map (λ ns. ns ++ n ∷ []) b)
   push_grows None None m n l le = tt
   push_grows (Some ms) (Some ns) m n l le = all_le_push ms ns m n l le
   push_grows None (Some ns) m n l le = absurd l
   push_grows (Some ms) None m n l le = absurd l
 
-  product_grows : (q : PlainQuery) → AllLe? (product_counts f q) (product_counts g q)
+  product_grows : (q : PlainQuery) → AreLe? (product_counts f q) (product_counts g q)
   product_grows (plain.Table t) = (each t, tt)
   product_grows (plain.Product a (plain.Table t)) = push_grows (product_counts f a) (product_counts g a) (f t) (g t) (product_grows a) (each t)
   product_grows (plain.Product a (plain.Select c q)) = tt
@@ -84,7 +84,7 @@ module _ (f g : List ℕ → ℕ) (each : (t : List ℕ) → f t ≤ g t) where
   product_grows (plain.Except a b) = tt
   product_grows (plain.Intersect a b) = tt
 
-  times_grow : (k t : ℕ) (a b : Option (List ℕ)) → AllLe? a b → Le? (option_map (λ ns. k * partial_products 1 ns + t) a) (option_map (λ ns. k * partial_products 1 ns + t) b)
+  times_grow : (k t : ℕ) (a b : Option (List ℕ)) → AreLe? a b → IsLe? (option_map (λ ns. k * partial_products 1 ns + t) a) (option_map (λ ns. k * partial_products 1 ns + t) b)
   times_grow k t None None l = tt
   times_grow k t (Some ms) (Some ns) l =
       add_le (k * partial_products 1 ms) t (k * partial_products 1 ns) t
@@ -92,7 +92,7 @@ module _ (f g : List ℕ → ℕ) (each : (t : List ℕ) → f t ≤ g t) where
   times_grow k t None (Some ns) l = absurd l
   times_grow k t (Some ms) None l = absurd l
 
-  select_grows : (q : PlainQuery) → Le? (select_words f q) (select_words g q)
+  select_grows : (q : PlainQuery) → IsLe? (select_words f q) (select_words g q)
   select_grows (plain.Select c q) = times_grow (ops c + 3) (terms c) (product_counts f q) (product_counts g q) (product_grows q)
   select_grows (plain.Table t) = tt
   select_grows (plain.Project ks q) = tt
@@ -101,7 +101,7 @@ module _ (f g : List ℕ → ℕ) (each : (t : List ℕ) → f t ≤ g t) where
   select_grows (plain.Except a b) = tt
   select_grows (plain.Intersect a b) = tt
 
-  sides_grow : (m n : ℕ) (a b c d : Option ℕ) → m ≤ n → Le? a b → Le? c d → Le? (side_words m a c) (side_words n b d)
+  sides_grow : (m n : ℕ) (a b c d : Option ℕ) → m ≤ n → IsLe? a b → IsLe? c d → IsLe? (side_words m a c) (side_words n b d)
   sides_grow m n None None c d le p q = tt
   sides_grow m n (Some a) (Some b) None None le p q = tt
   sides_grow m n (Some a) (Some b) (Some c) (Some d) le p q = add_le (a + c) m (b + d) n (add_le a c b d p q) le
@@ -118,7 +118,7 @@ module _ (f g : List ℕ → ℕ) (each : (t : List ℕ) → f t ≤ g t) where
   twice_grows : (a : PlainQuery) → 2 * row_bound f a ≤ 2 * row_bound g a
   twice_grows a = mul-le 2 (row_bound f a) 2 (row_bound g a) (omega arith) (rows_grow a)
 
-  query_grows : (q : PlainQuery) → Le? (query_words f q) (query_words g q)
+  query_grows : (q : PlainQuery) → IsLe? (query_words f q) (query_words g q)
   query_grows (plain.Project ks q) = select_grows q
   query_grows (plain.Union a b) =
       sides_grow (operator_words f (plain.Union a b)) (operator_words g (plain.Union a b)) (query_words f a) (query_words g a) (query_words f b) (query_words g b)
@@ -135,7 +135,7 @@ module _ (f g : List ℕ → ℕ) (each : (t : List ℕ) → f t ≤ g t) where
   query_grows (plain.Select c q) = tt
   query_grows (plain.Product a b) = tt
 
-  known_grows : (a b : Option ℕ) → Le? a b → unwrap_or a greatest ≤ unwrap_or b greatest
+  known_grows : (a b : Option ℕ) → IsLe? a b → unwrap_or a greatest ≤ unwrap_or b greatest
   known_grows None None l = omega arith
   known_grows (Some m) (Some n) l = l
   known_grows None (Some n) l = absurd l
@@ -174,7 +174,7 @@ pub action_makes_words : (counts : List ℕ → ℕ) (a : PlainAction) → 1 ≤
 action_makes_words counts a = let one = action_makes counts counts (λ t. omega arith) counts a in omega (arith, one)
 
 -- cell lists, each where it stands last
-once : List (List Term) → List (List Term)
+abbrev once : List (List Term) → List (List Term)
 once [] = []
 once (l ∷ ls) = if list_any (same_cells l) ls then once ls else l ∷ once ls
 
@@ -192,7 +192,7 @@ once_length (l ∷ ls) = by_test (list_any (same_cells l) ls) (once_length ls) w
   by_test true rest = rest
   by_test false rest = omega arith
 
-Apart : List Term → List (List Term) → Type 0
+abbrev Apart : List Term → List (List Term) → Type 0
 Apart l ls = AllByRecursion (λ m. same_cells l m ≡ false) ls
 
 once_apart : (l : List Term) (ls : List (List Term)) → list_any (same_cells l) ls ≡ false → Apart l (once ls)

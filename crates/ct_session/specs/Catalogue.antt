@@ -42,6 +42,7 @@ use Rattle.ct_parse.specs.declared.tree.Statement.{Statement}
 use Rattle.ct_resolve.specs.declared.error.ResolveError.{ResolveError}
 use Rattle.ct_resolve.specs.declared.error.ResolveError.TheVariants as name
 use Rattle.ct_resolve.specs.Found.{Found}
+use Rattle.ct_resolve.specs.Writing.{WritesStatement}
 use Rattle.ct_resolve.specs.Statements.{resolved}
 use Rattle.ct_session.specs.declared.session.Prepared.{Prepared}
 use Rattle.ct_session.specs.declared.session.Prepared.TheVariants as prepared
@@ -154,6 +155,10 @@ IsUnmet h room words st refusal.Full = IsFilled h room words st
 IsUnmet h room words st refusal.TooManyTerms = IsManyTerms h st
 IsUnmet h room words st refusal.Memory = Unit {0}
 IsUnmet h room words st _ = ⊥
+
+-- a statement with positions can be written
+pub record IsWritable (st : PlainStatement) : Type 0 where
+  pub writes : WritesStatement st
 
 -- what a statement of session 1 resolves to at a history, where the last null that was drawn has this number
 abbrev pub resolved_at : List PlainCommit → ℕ → Statement → Found PlainStatement

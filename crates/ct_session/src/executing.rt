@@ -5,12 +5,11 @@ ghost use mathlib.Core.List.{IsPrefix};
 ghost use Rattle.ct_history.specs.Kept.{kept_of};
 ghost use Rattle.ct_query.specs.Schema.{schema};
 ghost use Rattle.ct_query.specs.Views.{statement_of};
-ghost use Rattle.ct_resolve.specs.Writing.{WritesStatement};
 ghost use Rattle.ct_table.specs.Denotes.{Denotes};
 ghost use Rattle.ct_word.specs.Reading.{commits_of};
 ghost use Rattle.ct_query.specs.Fits.{FitsStatement};
 ghost use Rattle.ct_session.specs.Built.{IsPlainBuilt};
-ghost use Rattle.ct_session.specs.Catalogue.{IsCatalogue, IsAdmittedEverywhere, state_of, IsPrepared, IsPreparedStatement, IsPreparedText, IsRefusedStatement, IsRefusedText, IsUnmet, name_refusal};
+ghost use Rattle.ct_session.specs.Catalogue.{IsCatalogue, IsAdmittedEverywhere, state_of, IsPrepared, IsPreparedStatement, IsPreparedText, IsRefusedStatement, IsRefusedText, IsUnmet, IsWritable, name_refusal};
 ghost use Rattle.ct_session.specs.Answers.{Answers};
 ghost use Rattle.ct_session.specs.Statements.{IsWritten};
 
@@ -60,7 +59,7 @@ fn perform<N: Site>(
     requires denotes { Denotes pass.old.words (commits_of pass.old.words) [] tables.now }
     requires everywhere { IsAdmittedEverywhere (commits_of pass.old.words) }
     requires fits { FitsStatement (schema (commits_of pass.old.words) []).tables (statement_of resolved) }
-    requires written { WritesStatement (statement_of resolved) }
+    requires written { IsWritable (statement_of resolved) }
     requires built { IsPlainBuilt (statement_of resolved) }
     ensures longer { IsPrefix pass.old.words pass.new.words }
     ensures kept { kept_of pass.new ≡ kept_of pass.old }
@@ -195,7 +194,7 @@ pub fn execute<N: Site>(
     ensures answers { Answers N.log.cap (state_of session.pass session.history.items session.fresh) (state_of result.0.pass result.0.history.items result.0.fresh) session.pass.words result.0.pass.words text.now result.1 }
     ensures more { length result.0.history.items ≤ length session.history.items + 1 }
 {
-    let _words = session.pass.words();
+    let _ = session.pass.words();
     let mut session = caught_up(arena, session);
     let at = version(session.history.as_slice());
     if let Err(_) = session.history.reserve(1) {
@@ -212,8 +211,9 @@ pub fn execute<N: Site>(
         text,
     ) {
         Ok(Prepared::Commit(offer)) => {
+            let (session, reply) = commit(arena, session, offer);
             let _words = session.pass.words();
-            commit(arena, session, offer)
+            (session, reply)
         }
         Ok(Prepared::Answer(answer)) => {
             let _words = session.pass.words();

@@ -2,7 +2,8 @@
 
 ghost use Rattle.std.specs.Prelude.{◌≡◌, ◌+◌, [], ◌∷◌, ◌++◌, map, length, sum_by, count_by, IfOk, IfErr, IfSome, IsSome, Some, All};
 ghost use mathlib.Core.List.{IsPrefix};
-ghost use Rattle.ct_word.specs.Reading.{commits_of, plain_crow};
+ghost use Rattle.ct_word.specs.Reading.{commits_of, change_list_at, plain_crow};
+ghost use Rattle.ct_word.specs.Change.{Insert};
 ghost use Rattle.ct_query.specs.Plain as plain;
 ghost use Rattle.ct_word.specs.Condition.{True};
 ghost use Rattle.ct_history.specs.Kept.{kept_of};
@@ -127,7 +128,7 @@ fn new_rows<N: Site>(
     ensures longer { IsPrefix pass.old.words pass.new.words }
     ensures kept { kept_of pass.new ≡ kept_of pass.old }
     ensures ready { IfOk result (λ offer. IsReady (commits_of pass.old.words) pass.new.words offer.changes offer.commit offer.tables) }
-    ensures commit { IfOk result (λ offer. offer.commit ≡ rows_commit version name rows) }
+    ensures changes { IfOk result (λ offer. change_list_at pass.new.words offer.changes ≡ Insert name (map row_under_true rows) ∷ []) }
     ensures fresh { IfOk result (λ offer. offer.fresh ≡ fresh) }
     ensures err { IfErr result (λ why. IsWant N.log.cap pass.new.words why) }
 {

@@ -54,12 +54,16 @@ pub fn answer_query<N: Site>(
     ensures ok { IfOk result (IsAnswerFor (commits_of pass.old.words) columns (query_of query.now)) }
     ensures err { IfErr result (λ why. IsUnmet (commits_of pass.old.words) N.log.cap pass.new.words (plain.Asks ask.Rows columns (query_of query.now)) why) }
 {
-    let made = pass.made();
+    let before = pass.made();
     let table = match eval(alloc, arena, pass, query, tables) {
         Ok(table) => table,
-        // No clause says that the count of a pass's words never falls. It does not, so this case does not come.
-        Err(EvalError::Full) if pass.made() < made => return Err(Refusal::Memory),
-        Err(e) => return Err(unevaluated(e)),
+        Err(e) => {
+            // No clause says that the count of a pass's words never falls. It does not, so this case does not come.
+            if pass.made() < before {
+                return Err(Refusal::Memory);
+            }
+            return Err(unevaluated(e));
+        }
     };
     Ok(answer_of(alloc, pass.words(), columns, table.rows.as_slice())?)
 }

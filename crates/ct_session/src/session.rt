@@ -1,7 +1,8 @@
 // The one session, which has the catalogue to itself until sessions share it.
 
-ghost use Rattle.std.specs.Prelude.{◌≡◌, ◌<◌, ◌^◌, ◌+◌, ℕ, length, IsOk, IsTrue, Ok, vec_len, vec_capacity};
+ghost use Rattle.std.specs.Prelude.{◌≡◌, ◌<◌, ◌≤◌, ◌^◌, ◌+◌, ℕ, length, IsOk, IsTrue, Ok, vec_len, vec_capacity};
 ghost use mathlib.Core.List.{IsPrefix};
+ghost use Rattle.ct_arena.specs.Counts.{AreNumbered};
 ghost use Rattle.ct_history.specs.Kept.{kept_of};
 ghost use Rattle.ct_word.specs.Reading.{commits_of};
 ghost use Rattle.ct_session.specs.Catalogue.{IsCatalogue, IsReady, CommitOf, wanting};
@@ -71,6 +72,8 @@ pub fn caught_up<N: Site>(arena: &Arena<N>, session: Session<N>) -> Session<N>
     ensures words { result.pass.words ≡ result.keeper.words }
     ensures longer { IsPrefix session.pass.words result.pass.words }
     ensures pass { kept_of result.pass ≡ kept_of session.pass }
+    ensures numbered { AreNumbered result.pass.session result.pass.mine result.pass.words }
+    ensures room { length result.pass.words ≤ N.log.cap }
     ensures history { result.history.items ≡ session.history.items }
     ensures fresh { result.fresh ≡ session.fresh }
 {

@@ -1,64 +1,106 @@
-use Rattle.std.proofs.Common.{ap, sym, subst, ◌∙◌, length}
-use Rattle.ct_rewrite.specs.History.{plain_history}
-use Rattle.ct_transcript.specs.declared.reply.Reply.TheVariants as reply
+use Rattle.std.proofs.Common.{◌≡◌, ◌+◌, ◌≤◌, [], ap, sym, subst, ◌∙◌, length, arith}
+use Rattle.ct_word.specs.Reading.{commits_of}
+use Rattle.ct_word.proofs.Prefixes.{prefix_same}
+use Rattle.ct_table.specs.Denotes.{Denotes}
 use Rattle.ct_transcript.specs.declared.reply.Refusal.TheVariants as refusal
-use Rattle.ct_word.proofs.Prefixes.{prefix_same, prefix_of_prefix}
-use Rattle.ct_session.specs.Answers.{Answers}
-use Rattle.ct_session.specs.Catalogue.{IsPreparedText, IsRefusedText, wanting_memory}
+use Rattle.ct_session.specs.Catalogue.{IsAdmittedEverywhere, IsPreparedText, IsReady, CommitOf, wanting_memory}
 use Rattle.ct_session.specs.declared.session.Prepared.TheVariants as prepared
-use Rattle.ct_session.proofs.Answering.{refused_answers, answer_answers, ready_of, offer_answers}
-use Rattle.ct_session.proofs.Committing.{catalogue_stays, not_shorter}
+use Rattle.ct_session.proofs.Answering.{ready_of}
+use Rattle.ct_session.proofs.Committing.{how_many, catalogue_stays}
+use Rattle.ct_session.proofs.Caught.{session_kept, mine_kept, refused_so, answered_so, offered_so, one_more_at_most, before_same, after_same}
 use Rattle.ct_session.proofs.executing.execute.Goals as goal
+
+pub prepare-requires-clause-version : goal.prepare-requires-clause-version
+prepare-requires-clause-version g c =
+    let s = c.caught_up-session in
+    c.version-at.ensures ∙ ap (λ xs. length xs) c.as_slice.ensures.value
+    ∙ sym (ap (λ ws. length (commits_of ws)) s.ensures.words ∙ how_many s.result.pass s.result.keeper s.result.tables s.result.history.items s.ensures.kept)
+
+pub prepare-requires-clause-denotes : goal.prepare-requires-clause-denotes
+prepare-requires-clause-denotes g c =
+    let s = c.caught_up-session in subst (λ ws. Denotes ws (commits_of ws) [] s.result.tables) (sym s.ensures.words) s.ensures.kept.denotes
+
+pub prepare-requires-clause-everywhere : goal.prepare-requires-clause-everywhere
+prepare-requires-clause-everywhere g c =
+    let s = c.caught_up-session in subst (λ ws. IsAdmittedEverywhere (commits_of ws)) (sym s.ensures.words) s.ensures.kept.everywhere
 
 pub returns-in-Err-clause-answers : goal.returns-in-Err-clause-answers
 returns-in-Err-clause-answers g c =
-    subst (λ h. Answers g.N.Site.log.cap (plain_history c.args.session.history.items) (plain_history h) c.args.session.fresh c.args.session.fresh c.args.session.pass.words c.args.session.pass.words c.args.text.now (reply.Refused c.version-at.result refusal.Memory)) (sym c.reserve.ensures.items)
-    (refused_answers g.N.Site.log.cap c.args.session.history.items c.args.session.fresh c.args.session.pass.words c.args.session.pass.words c.args.text.now refusal.Memory c.version-at.result
-    (c.version-at.ensures ∙ ap (λ xs. length xs) c.as_slice.ensures.value) (prefix_same c.args.session.pass.words) c.requires.kept.within wanting_memory)
-
-pub commit-requires-clause-kept : goal.commit-requires-clause-kept
-commit-requires-clause-kept g c =
-    catalogue_stays g.N.Site.log.cap c.args.session.pass c.prepare.new.pass c.args.session.keeper c.args.session.tables c.args.session.history.items c.reserve.new.self.items
-    c.requires.kept c.in-Ok-Commit.ensures.longer c.words-words.ensures.room c.words-words.ensures.formed c.in-Ok-Commit.ensures.kept c.reserve.ensures.items
+    let s = c.caught_up-session.result in
+    let e = c.caught_up-session.ensures in
+    let cap = g.N.Site.log.cap in
+    let at = c.version-at.ensures ∙ ap (λ xs. length xs) c.as_slice.ensures.value in
+    before_same cap c.args.session.pass s.history.items c.args.session.history.items s.fresh c.args.session.fresh _ _ _ _ _ e.history e.fresh
+    (after_same cap _ s.pass s.history.items c.reserve.new.self.items s.fresh _ _ _ _ c.reserve.ensures.items
+    (refused_so cap c.args.session.pass s.pass s.keeper s.tables s.history.items s.fresh c.args.text.now e.kept e.words e.longer e.pass c.words.ensures.numbered
+    s.pass (prefix_same s.pass.words) e.kept.session e.kept.mine e.room e.numbered refusal.Memory c.version-at.result at wanting_memory))
 
 pub returns-in-Err-prepare-clause-kept : goal.returns-in-Err-prepare-clause-kept
 returns-in-Err-prepare-clause-kept g c =
-    catalogue_stays g.N.Site.log.cap c.args.session.pass c.prepare.new.pass c.args.session.keeper c.args.session.tables c.args.session.history.items c.reserve.new.self.items
-    c.requires.kept c.in-Err-prepare.ensures.longer c.words-words-in-Err-prepare.ensures.room c.words-words-in-Err-prepare.ensures.formed c.in-Err-prepare.ensures.kept c.reserve.ensures.items
+    let s = c.caught_up-session.result in
+    catalogue_stays s.pass c.prepare.new.pass s.keeper s.tables s.history.items c.reserve.new.self.items c.caught_up-session.ensures.kept c.in-Err-prepare.ensures.kept c.reserve.ensures.items
 
 pub returns-in-Err-prepare-clause-answers : goal.returns-in-Err-prepare-clause-answers
 returns-in-Err-prepare-clause-answers g c =
-    subst (λ h. Answers g.N.Site.log.cap (plain_history c.args.session.history.items) (plain_history h) c.args.session.fresh c.args.session.fresh c.args.session.pass.words c.prepare.new.pass.words c.args.text.now (reply.Refused c.version-at.result c.in-Err-prepare.why)) (sym c.reserve.ensures.items)
-    (refused_answers g.N.Site.log.cap c.args.session.history.items c.args.session.fresh c.args.session.pass.words c.prepare.new.pass.words c.args.text.now c.in-Err-prepare.why c.version-at.result
-    (c.version-at.ensures ∙ ap (λ xs. length xs) c.as_slice.ensures.value) c.in-Err-prepare.ensures.longer c.words-words-in-Err-prepare.ensures.room
-    (subst (λ hs. IsRefusedText (plain_history hs) g.N.Site.log.cap c.prepare.new.pass.words c.args.session.fresh c.args.text.now c.in-Err-prepare.why) (c.as_slice-2.ensures.value ∙ c.reserve.ensures.items) c.in-Err-prepare.ensures.err))
+    let s = c.caught_up-session.result in
+    let e = c.caught_up-session.ensures in
+    let cap = g.N.Site.log.cap in
+    let at = c.version-at.ensures ∙ ap (λ xs. length xs) c.as_slice.ensures.value in
+    let words = c.words-words-in-Err-prepare.ensures in
+    before_same cap c.args.session.pass s.history.items c.args.session.history.items s.fresh c.args.session.fresh _ _ _ _ _ e.history e.fresh
+    (after_same cap _ c.prepare.new.pass s.history.items c.reserve.new.self.items s.fresh _ _ _ _ c.reserve.ensures.items
+    (refused_so cap c.args.session.pass s.pass s.keeper s.tables s.history.items s.fresh c.args.text.now e.kept e.words e.longer e.pass c.words.ensures.numbered
+    c.prepare.new.pass c.in-Err-prepare.ensures.longer (session_kept s.pass c.prepare.new.pass c.in-Err-prepare.ensures.kept ∙ e.kept.session) (mine_kept s.pass c.prepare.new.pass c.in-Err-prepare.ensures.kept ∙ e.kept.mine)
+    words.room words.numbered c.in-Err-prepare.why c.version-at.result at c.in-Err-prepare.ensures.err))
 
 pub returns-in-Ok-Answer-clause-kept : goal.returns-in-Ok-Answer-clause-kept
 returns-in-Ok-Answer-clause-kept g c =
-    catalogue_stays g.N.Site.log.cap c.args.session.pass c.prepare.new.pass c.args.session.keeper c.args.session.tables c.args.session.history.items c.reserve.new.self.items
-    c.requires.kept c.in-Ok-Answer.ensures.longer c.words-words-in-Ok-Answer.ensures.room c.words-words-in-Ok-Answer.ensures.formed c.in-Ok-Answer.ensures.kept c.reserve.ensures.items
+    let s = c.caught_up-session.result in
+    catalogue_stays s.pass c.prepare.new.pass s.keeper s.tables s.history.items c.reserve.new.self.items c.caught_up-session.ensures.kept c.in-Ok-Answer.ensures.kept c.reserve.ensures.items
 
 pub returns-in-Ok-Answer-clause-answers : goal.returns-in-Ok-Answer-clause-answers
 returns-in-Ok-Answer-clause-answers g c =
-    subst (λ h. Answers g.N.Site.log.cap (plain_history c.args.session.history.items) (plain_history h) c.args.session.fresh c.args.session.fresh c.args.session.pass.words c.prepare.new.pass.words c.args.text.now (reply.Rows c.version-at.result 0 c.in-Ok-Answer.answer)) (sym c.reserve.ensures.items)
-    (answer_answers g.N.Site.log.cap c.args.session.history.items c.args.session.fresh c.args.session.pass.words c.prepare.new.pass.words c.args.text.now c.in-Ok-Answer.answer c.version-at.result
-    (c.version-at.ensures ∙ ap (λ xs. length xs) c.as_slice.ensures.value) c.in-Ok-Answer.ensures.longer c.words-words-in-Ok-Answer.ensures.room
-    (subst (λ hs. IsPreparedText (plain_history hs) c.prepare.new.pass.words c.args.session.fresh c.args.text.now (prepared.Answer c.in-Ok-Answer.answer)) (c.as_slice-2.ensures.value ∙ c.reserve.ensures.items)
-    (subst (λ p. IsPreparedText (plain_history c.as_slice-2.result.now) c.prepare.new.pass.words c.args.session.fresh c.args.text.now p) c.in-Ok-Answer.field-0-is c.in-Ok-Answer.ensures.ok)))
+    let s = c.caught_up-session.result in
+    let e = c.caught_up-session.ensures in
+    let cap = g.N.Site.log.cap in
+    let at = c.version-at.ensures ∙ ap (λ xs. length xs) c.as_slice.ensures.value in
+    let words = c.words-words-in-Ok-Answer.ensures in
+    before_same cap c.args.session.pass s.history.items c.args.session.history.items s.fresh c.args.session.fresh _ _ _ _ _ e.history e.fresh
+    (after_same cap _ c.prepare.new.pass s.history.items c.reserve.new.self.items s.fresh _ _ _ _ c.reserve.ensures.items
+    (answered_so cap c.args.session.pass s.pass s.keeper s.tables s.history.items s.fresh c.args.text.now e.kept e.words e.longer e.pass c.words.ensures.numbered
+    c.prepare.new.pass c.in-Ok-Answer.ensures.longer (session_kept s.pass c.prepare.new.pass c.in-Ok-Answer.ensures.kept ∙ e.kept.session) (mine_kept s.pass c.prepare.new.pass c.in-Ok-Answer.ensures.kept ∙ e.kept.mine)
+    words.room words.numbered c.in-Ok-Answer.answer c.version-at.result at
+    (subst (λ p. IsPreparedText (commits_of s.pass.words) c.prepare.new.pass.words s.fresh c.args.text.now p) c.in-Ok-Answer.field-0-is c.in-Ok-Answer.ensures.ok)))
+
+pub commit-session-requires-clause-kept : goal.commit-session-requires-clause-kept
+commit-session-requires-clause-kept g c =
+    let s = c.caught_up-session.result in
+    catalogue_stays s.pass c.prepare.new.pass s.keeper s.tables s.history.items c.reserve.new.self.items c.caught_up-session.ensures.kept c.in-Ok-Commit.ensures.kept c.reserve.ensures.items
+
+pub commit-session-requires-clause-ready : goal.commit-session-requires-clause-ready
+commit-session-requires-clause-ready g c =
+    let s = c.caught_up-session.result in
+    let offer = c.in-Ok-Commit.offer in
+    subst (λ ws. IsReady (commits_of ws) c.prepare.new.pass.words offer.changes offer.commit offer.tables) c.caught_up-session.ensures.words
+    (ready_of (commits_of s.pass.words) c.prepare.new.pass.words s.fresh c.args.text.now offer
+    (subst (λ p. IsPreparedText (commits_of s.pass.words) c.prepare.new.pass.words s.fresh c.args.text.now p) c.in-Ok-Commit.field-0-is c.in-Ok-Commit.ensures.ok))
 
 pub returns-in-Ok-Commit-clause-answers : goal.returns-in-Ok-Commit-clause-answers
 returns-in-Ok-Commit-clause-answers g c =
-    let offered = subst (λ hs. IsPreparedText (plain_history hs) c.prepare.new.pass.words c.args.session.fresh c.args.text.now (prepared.Commit c.in-Ok-Commit.offer)) c.as_slice-2.ensures.value
-    (subst (λ p. IsPreparedText (plain_history c.as_slice-2.result.now) c.prepare.new.pass.words c.args.session.fresh c.args.text.now p) c.in-Ok-Commit.field-0-is c.in-Ok-Commit.ensures.ok) in
-    subst (λ h. Answers g.N.Site.log.cap (plain_history h) (plain_history c.commit.result.0.history.items) c.args.session.fresh c.commit.result.0.fresh c.args.session.pass.words c.commit.result.0.pass.words c.args.text.now c.commit.result.1) c.reserve.ensures.items
-    (offer_answers g.N.Site.log.cap c.reserve.new.self.items c.commit.result.0.history.items c.args.session.fresh c.commit.result.0.fresh c.args.session.pass.words c.prepare.new.pass.words c.commit.result.0.pass.words c.args.text.now
-    c.in-Ok-Commit.offer c.commit.result.1
-    (prefix_of_prefix c.args.session.pass.words c.prepare.new.pass.words c.commit.result.0.pass.words c.in-Ok-Commit.ensures.longer c.commit.ensures.longer)
-    (not_shorter c.args.session.pass.words c.prepare.new.pass.words c.in-Ok-Commit.ensures.longer) c.commit.ensures.kept.within
-    offered c.commit.ensures.outcome)
+    let s = c.caught_up-session.result in
+    let e = c.caught_up-session.ensures in
+    let cap = g.N.Site.log.cap in
+    let offer = c.in-Ok-Commit.offer in
+    let after = c.commit-session.result.0 in
+    let words = c.words-words.ensures in
+    let did = subst (λ hs. CommitOf cap s.keeper.words c.prepare.new.pass.words after.pass.words offer.changes hs s.fresh offer.commit offer.fresh after.history.items after.fresh c.commit-session.result.1) c.reserve.ensures.items c.commit-session.ensures.outcome in
+    before_same cap c.args.session.pass s.history.items c.args.session.history.items s.fresh c.args.session.fresh _ _ _ _ _ e.history e.fresh
+    (offered_so cap c.args.session.pass s.pass s.keeper s.tables s.history.items s.fresh c.args.text.now e.kept e.words e.longer e.pass c.words.ensures.numbered e.numbered
+    offer c.prepare.new.pass after.pass after.keeper after.tables after.history.items after.fresh c.commit-session.result.1
+    c.in-Ok-Commit.ensures.longer c.commit-session.ensures.longer c.commit-session.ensures.kept words.room words.numbered
+    (subst (λ p. IsPreparedText (commits_of s.pass.words) c.prepare.new.pass.words s.fresh c.args.text.now p) c.in-Ok-Commit.field-0-is c.in-Ok-Commit.ensures.ok) did)
 
-pub commit-requires-clause-ready : goal.commit-requires-clause-ready
-commit-requires-clause-ready g c =
-    ready_of (plain_history c.reserve.new.self.items) c.prepare.new.pass.words c.args.session.fresh c.args.text.now c.in-Ok-Commit.offer
-    (subst (λ hs. IsPreparedText (plain_history hs) c.prepare.new.pass.words c.args.session.fresh c.args.text.now (prepared.Commit c.in-Ok-Commit.offer)) c.as_slice-2.ensures.value
-    (subst (λ p. IsPreparedText (plain_history c.as_slice-2.result.now) c.prepare.new.pass.words c.args.session.fresh c.args.text.now p) c.in-Ok-Commit.field-0-is c.in-Ok-Commit.ensures.ok))
+pub returns-in-Ok-Commit-clause-more : goal.returns-in-Ok-Commit-clause-more
+returns-in-Ok-Commit-clause-more g c =
+    subst (λ hs. length c.commit-session.result.0.history.items ≤ length hs + 1) (c.reserve.ensures.items ∙ c.caught_up-session.ensures.history)
+    (one_more_at_most g.N.Site.log.cap _ _ _ _ c.reserve.new.self.items c.commit-session.result.0.history.items _ _ _ _ _ c.commit-session.ensures.outcome)

@@ -1,12 +1,13 @@
-use Rattle.std.proofs.Common.{◌≡◌, ◌+◌, ap, sym, subst, ◌∙◌, length}
+use Rattle.std.proofs.Common.{◌≡◌, ◌+◌, [], ◌∷◌, map, ap, sym, subst, ◌∙◌, length}
 use Rattle.std.specs.Prelude.{Some, sum_by, count_by}
 use Rattle.ct_session.specs.State.{is_fresh}
 use Rattle.ct_table.specs.Denotes.{find_table}
 use Rattle.ct_table.specs.Shared.{view_of}
 use Rattle.ct_session.proofs.Answering.{ok_both}
 use Rattle.ct_session.proofs.Insertions.{not_missing, widths_of_found, rows_offered}
-use Rattle.ct_rewrite.specs.History.{plain_history}
-use Rattle.ct_session.specs.Catalogue.{IsReady, rows_commit}
+use Rattle.ct_word.specs.Change.{Insert}
+use Rattle.ct_word.specs.Reading.{commits_of, change_list_at}
+use Rattle.ct_session.specs.Catalogue.{IsReady, row_under_true}
 use Rattle.ct_session.proofs.inserting.offer_rows.Goals as goal
 
 pub unreachable-requires : goal.unreachable-requires
@@ -20,10 +21,10 @@ new_rows-requires-clause-width g c =
 
 pub returns-clause-ok : goal.returns-clause-ok
 returns-clause-ok g c =
-    let h = plain_history c.args.history.now in
+    let h = commits_of c.args.pass.now.words in
     let words = c.new_rows.new.pass.words in
-    let number = length c.args.history.now in
-    let made = ok_both c.new_rows.result (λ offer. IsReady h words offer.changes offer.commit offer.tables) (λ offer. offer.commit ≡ rows_commit number c.args.name c.args.rows)
-    (λ offer. IsReady h words offer.changes offer.commit offer.tables × (offer.commit ≡ rows_commit number c.args.name c.args.rows)) (λ offer ready is. (ready, is)) c.new_rows.ensures.ready c.new_rows.ensures.commit in
-    ok_both c.new_rows.result (λ offer. IsReady h words offer.changes offer.commit offer.tables × (offer.commit ≡ rows_commit number c.args.name c.args.rows)) _ _
-    (λ offer both fresh_is. rows_offered h words c.args.fresh offer.fresh number c.args.name c.args.rows offer.changes offer.commit offer.tables both.0 both.1 (fresh_is ∙ c.in_ok-fresh.ensures ∙ ap (λ n. c.args.fresh + n) (c.in_ok-more.ensures ∙ ap (sum_by (count_by is_fresh)) c.as_slice.ensures))) made c.new_rows.ensures.fresh
+    let listed = Insert c.args.name (map row_under_true c.args.rows) ∷ [] in
+    let made = ok_both c.new_rows.result (λ offer. IsReady h words offer.changes offer.commit offer.tables) (λ offer. change_list_at words offer.changes ≡ listed)
+    (λ offer. IsReady h words offer.changes offer.commit offer.tables × (change_list_at words offer.changes ≡ listed)) (λ offer ready is. (ready, is)) c.new_rows.ensures.ready c.new_rows.ensures.changes in
+    ok_both c.new_rows.result (λ offer. IsReady h words offer.changes offer.commit offer.tables × (change_list_at words offer.changes ≡ listed)) _ _
+    (λ offer both fresh_is. rows_offered h words c.args.fresh offer.fresh c.args.name c.args.rows offer.changes offer.commit offer.tables both.0 both.1 (fresh_is ∙ c.in_ok-fresh.ensures ∙ ap (λ n. c.args.fresh + n) (c.in_ok-more.ensures ∙ ap (sum_by (count_by is_fresh)) c.as_slice.ensures))) made c.new_rows.ensures.fresh
