@@ -1,7 +1,7 @@
 -- Answers and the tables that they are over stay what they are as words are added.
 use Rattle.std.proofs.Common.{◌≡◌, ℕ, List, [], ◌∷◌, length, refl, sym, subst, inl, inr}
 use Rattle.std.specs.Prelude.{if◌then◌else◌}
-use Rattle.std.proofs.lemmas.List.Elements.{All-head, All-tail, All-weaker, All-contains}
+use Rattle.std.proofs.lemmas.List.Elements.{All-head, All-tail, All-weaker, recursion_from_All}
 use mathlib.Core.List.{IsPrefix}
 use Rattle.ct_word.specs.declared.values.Term.{Term}
 use Rattle.ct_word.specs.Value.{World, same_text}
@@ -14,6 +14,7 @@ use Rattle.ct_query.specs.Patterns.{query_pattern}
 use Rattle.ct_table.specs.declared.table.CTable.{CTable}
 use Rattle.ct_table.specs.Tables.{cells_of, value_of_rows, AreRows}
 use Rattle.ct_table.specs.Denotes.{TableView, value_of_tables}
+use Rattle.ct_table.proofs.Denoting.{found_all}
 use Rattle.ct_table.proofs.Growing.{cells_grow, value_grows, rows_grow}
 use Rattle.ct_table.proofs.Reaching.{rows_wider, rows_later, rows_before}
 use Rattle.ct_algebra.specs.Operands.{AreTables, cells_in}
@@ -46,8 +47,8 @@ module _ (old now : List ℕ) (grown : IsPrefix old now) where
   -- and the terms below them stood there before
   terms_before : IsWellFormed old → (db : List TableView) → AreTables old db → (q : PlainQuery) (t : Term) → TermOfQuery now db q t → TermOfQuery old db q t
   terms_before formed db are q t (inl h) =
-      let its = All-contains (λ (x : TableView). AreRows old (length x.columns) x.rows) db h.table are h.among in
-      inl (record { table = h.table; among = h.among; below = rows_before old now grown formed (length h.table.columns) h.table.rows t its.each h.below })
+      let its = found_all (λ (x : TableView). AreRows old (length x.columns) x.rows) h.name h.table db (recursion_from_All (λ (x : TableView). AreRows old (length x.columns) x.rows) db are) h.found in
+      inl (record { name = h.name; is_read = h.is_read; table = h.table; found = h.found; below = rows_before old now grown formed (length h.table.columns) h.table.rows t its.each h.below })
   terms_before formed db are q t (inr h) = inr h
 
 -- an answer, as words are added to it

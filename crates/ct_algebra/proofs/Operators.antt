@@ -1,9 +1,9 @@
 -- What each operator makes of answers to the parts of a query answers the query.
-use Rattle.std.proofs.Common.{◌≡◌, ℕ, ◌+◌, not, List, [], ◌++◌, length, map, Result, Ok, Err, Some, get_or, ap, sym, subst, ◌∙◌, inl, inr}
+use Rattle.std.proofs.Common.{◌≡◌, ℕ, ◌+◌, not, List, [], ◌++◌, length, map, Result, Ok, Err, Some, get_or, refl, ap, sym, subst, ◌∙◌, inl, inr}
 use Rattle.std.specs.Prelude.{◌⊎◌, IfOk, filter, slice_index_or}
 use Rattle.std.specs.List.{Contains}
 use Rattle.std.proofs.lemmas.List.{length-append, length-map}
-use Rattle.std.proofs.lemmas.List.Elements.{recursion_from_All, Contains-get_or, Contains-append_cases}
+use Rattle.std.proofs.lemmas.List.Elements.{recursion_from_All, Contains-get_or, Contains-append_cases, Contains-append_left, Contains-append_right}
 use Rattle.ct_word.specs.declared.values.Value.{Value}
 use Rattle.ct_word.specs.declared.values.Term.{Term}
 use Rattle.ct_word.specs.Value.{World, cell_at}
@@ -11,6 +11,7 @@ use Rattle.ct_word.specs.Sublist.{IsSublist}
 use Rattle.ct_word.specs.Condition.{Condition, holds}
 use Rattle.ct_query.specs.Plain.{PlainQuery, Table, Select, Project, Product, Union, Except, Intersect}
 use Rattle.ct_query.specs.Database.{has_tuple, SameSet}
+use Rattle.ct_query.specs.Reads.{tables_of}
 use Rattle.ct_query.specs.Rows.{rows}
 use Rattle.ct_query.specs.Patterns.{picked, query_pattern}
 use Rattle.ct_query.specs.Fits.{width, count_of}
@@ -33,16 +34,13 @@ use Rattle.ct_algebra.proofs.Found.{stands_for}
 use Rattle.ct_query.proofs.SameRows.{same_set_filter, same_set_without, same_set_within, same_set_map, same_set_joins}
 use Rattle.ct_query.proofs.Sublists.{sublist_joins}
 use Rattle.ct_query.proofs.Sublists.{sublist-map}
-use Rattle.ct_table.proofs.Reaching.{row_itself, rows_wider, from_rows}
+use Rattle.ct_table.proofs.Reaching.{foremost, row_itself, rows_wider, from_rows}
 
--- the terms of a query are those of one that names what it names
-widened : (ws : List ℕ) (db : List TableView) (q whole : PlainQuery) (t : Term) → (IsNamedIn q t → IsNamedIn whole t) → TermOfQuery ws db q t → TermOfQuery ws db whole t
-widened ws db q whole t more (inl h) = inl h
-widened ws db q whole t more (inr h) = inr (more h.0, h.1)
-
--- a table that is found is one of them
-found_among : (db : List TableView) (name : List ℕ) (t : TableView) → find_table db name ≡ Some t → Contains db t
-found_among db name t found = found_all (Contains db) name t db (recursion_from_All (Contains db) db (λ k d lt. Contains-get_or db k d lt)) found
+-- the terms of a query are those of one that reads what it reads, and names what it names
+widened : (ws : List ℕ) (db : List TableView) (q whole : PlainQuery) (t : Term) → ((n : List ℕ) → Contains (tables_of q) n → Contains (tables_of whole) n)
+    → (IsNamedIn q t → IsNamedIn whole t) → TermOfQuery ws db q t → TermOfQuery ws db whole t
+widened ws db q whole t reads more (inl h) = inl (record { name = h.name; is_read = reads h.name h.is_read; table = h.table; found = h.found; below = h.below })
+widened ws db q whole t reads more (inr h) = inr (more h.0, h.1)
 
 -- a table answers the query that names it
 pub table_answers : (ws : List ℕ) (db : List TableView) (name : List ℕ) (t : CTable) → AreTables ws db → find_table db name ≡ Some (view_of name t) → Evaluates ws ws db (Table name) t
@@ -56,7 +54,7 @@ table_answers ws db name t are found =
       tuples = λ v u. ap (λ l. has_tuple l u) (sym (s.tuples v));
       part = subst (IsSublist (cells_of ws t.rows)) (sym s.cells) (all_of (cells_of ws t.rows));
       from = rows_wider ws (TermOfRows ws t.rows) (TermOfQuery ws db (Table name))
-          (λ x h. inl (record { table = view_of name t; among = found_among db name (view_of name t) found; below = h })) t.rows
+          (λ x h. inl (record { name = name; is_read = foremost name []; table = view_of name t; found = found; below = h })) t.rows
           (λ k d lt. row_itself ws t.rows (get_or t.rows k d) (Contains-get_or t.rows k d lt));
     }
 
@@ -92,7 +90,7 @@ module _ (old now new : List ℕ) (db : List TableView) (q : PlainQuery) (t : CT
       (tuples v) (same_set_filter (λ u. holds v u c) (its_tuples v) (rows v q (value_of_tables old v db)) (s.tuples v)))
       (sublist_of_sublist (cells_of new o.rows) (cells_of now t.rows) (query_pattern (cells_in old db) q) part s.part)
       (rows_wider new (λ x. TermOfRows now t.rows x ⊎ (IsNamed c x × IsNoColumn x)) (TermOfQuery old db (Select c q)) (λ x h. elim h [
-        | inl a ↦ widened old db q (Select c q) x (λ n. inr n) (its_terms x a)
+        | inl a ↦ widened old db q (Select c q) x (λ n i. i) (λ n. inr n) (its_terms x a)
         | inr b ↦ inr (inl b.0, b.1)
       ]) o.rows from)
 
@@ -108,7 +106,7 @@ module _ (old now new : List ℕ) (db : List TableView) (q : PlainQuery) (t : CT
       (tuples v) (same_set_map (λ u. map (cell_at u) ks) (its_tuples v) (rows v q (value_of_tables old v db)) (s.tuples v)))
       (sublist_of_sublist (cells_of new o.rows) (map (picked ks) (cells_of now t.rows)) (query_pattern (cells_in old db) (Project ks q)) part
       (sublist-map (picked ks) (cells_of now t.rows) (query_pattern (cells_in old db) q) s.part))
-      (rows_wider new (TermOfRows now t.rows) (TermOfQuery old db (Project ks q)) its_terms o.rows from)
+      (rows_wider new (TermOfRows now t.rows) (TermOfQuery old db (Project ks q)) (λ x h. widened old db q (Project ks q) x (λ n i. i) (λ n. n) (its_terms x h)) o.rows from)
 
 -- an operator of two parts
 module _ (old now new : List ℕ) (db : List TableView) (a b : PlainQuery) (l r : CTable) (s : Evaluates old now db a l) (t : Evaluates old now db b r) where
@@ -125,15 +123,15 @@ module _ (old now new : List ℕ) (db : List TableView) (a b : PlainQuery) (l r 
   right_part v = rows v b (value_of_tables old v db)
 
   -- a term below the rows of both is one of the whole
-  of_both : (whole : PlainQuery) → ((x : Term) → IsNamedIn a x ⊎ IsNamedIn b x → IsNamedIn whole x) → (x : Term) → TermOfRows now (l.rows ++ r.rows) x → TermOfQuery old db whole x
-  of_both whole named x h = elim (Contains-append_cases l.rows r.rows h.row h.among) [
-    | inl i ↦ widened old db a whole x (λ n. named x (inl n)) (from_rows now l.rows (TermOfQuery old db a) s.from x (record { row = h.row; among = i; below = h.below }))
-    | inr i ↦ widened old db b whole x (λ n. named x (inr n)) (from_rows now r.rows (TermOfQuery old db b) t.from x (record { row = h.row; among = i; below = h.below }))
+  of_both : (whole : PlainQuery) → tables_of whole ≡ tables_of a ++ tables_of b → ((x : Term) → IsNamedIn a x ⊎ IsNamedIn b x → IsNamedIn whole x) → (x : Term) → TermOfRows now (l.rows ++ r.rows) x → TermOfQuery old db whole x
+  of_both whole read named x h = elim (Contains-append_cases l.rows r.rows h.row h.among) [
+    | inl i ↦ widened old db a whole x (λ n k. subst (λ ts. Contains ts n) (sym read) (Contains-append_left (tables_of a) (tables_of b) n k)) (λ n. named x (inl n)) (from_rows now l.rows (TermOfQuery old db a) s.from x (record { row = h.row; among = i; below = h.below }))
+    | inr i ↦ widened old db b whole x (λ n k. subst (λ ts. Contains ts n) (sym read) (Contains-append_right (tables_of a) (tables_of b) n k)) (λ n. named x (inr n)) (from_rows now r.rows (TermOfQuery old db b) t.from x (record { row = h.row; among = i; below = h.below }))
   ]
 
-  both_from : (whole : PlainQuery) → ((x : Term) → IsNamedIn a x ⊎ IsNamedIn b x → IsNamedIn whole x) → (o : CTable) → RowsFrom new o.rows (TermOfRows now (l.rows ++ r.rows))
+  both_from : (whole : PlainQuery) → tables_of whole ≡ tables_of a ++ tables_of b → ((x : Term) → IsNamedIn a x ⊎ IsNamedIn b x → IsNamedIn whole x) → (o : CTable) → RowsFrom new o.rows (TermOfRows now (l.rows ++ r.rows))
       → RowsFrom new o.rows (TermOfQuery old db whole)
-  both_from whole named o = rows_wider new (TermOfRows now (l.rows ++ r.rows)) (TermOfQuery old db whole) (of_both whole named) o.rows
+  both_from whole read named o = rows_wider new (TermOfRows now (l.rows ++ r.rows)) (TermOfQuery old db whole) (of_both whole read named) o.rows
 
   pub product_answers : (out : Result CTable TableError) → IfOk out (λ o. o.columns ≡ l.columns ++ r.columns)
       → IfOk out (λ o. AreRows new (length l.columns + length r.columns) o.rows)
@@ -148,7 +146,7 @@ module _ (old now new : List ℕ) (db : List TableView) (a b : PlainQuery) (l r 
       (tuples v) (same_set_joins (lefts v) (left_part v) (rights v) (right_part v) (s.tuples v) (t.tuples v)))
       (sublist_of_sublist (cells_of new o.rows) (joins (cells_of now l.rows) (cells_of now r.rows)) (query_pattern (cells_in old db) (Product a b)) part
       (sublist_joins (cells_of now l.rows) (query_pattern (cells_in old db) a) (cells_of now r.rows) (query_pattern (cells_in old db) b) s.part t.part))
-      (both_from (Product a b) (λ x n. n) o from)
+      (both_from (Product a b) refl (λ x n. n) o from)
 
   pub union_answers : (out : Result CTable TableError) → IfOk out (λ o. o.columns ≡ l.columns) → IfOk out (λ o. AreRows new (length l.columns) o.rows)
       → ((v : World) → IfOk out (λ o. SameSet (value_of_rows new v o.rows) (lefts v ++ rights v)))
@@ -161,7 +159,7 @@ module _ (old now new : List ℕ) (db : List TableView) (a b : PlainQuery) (l r 
       (tuples v) (same_set-append (lefts v) (left_part v) (rights v) (right_part v) (s.tuples v) (t.tuples v)))
       (sublist_of_sublist (cells_of new o.rows) (cells_of now l.rows ++ cells_of now r.rows) (query_pattern (cells_in old db) (Union a b)) part
       (sublist-append (cells_of now l.rows) (query_pattern (cells_in old db) a) (cells_of now r.rows) (query_pattern (cells_in old db) b) s.part t.part))
-      (both_from (Union a b) (λ x n. n) o from)
+      (both_from (Union a b) refl (λ x n. n) o from)
 
   pub except_answers : (out : Result CTable TableError) → IfOk out (λ o. o.columns ≡ l.columns) → IfOk out (λ o. AreRows new (length l.columns) o.rows)
       → ((v : World) → IfOk out (λ o. SameSet (value_of_rows new v o.rows) (filter (λ u. not (has_tuple (rights v) u)) (lefts v))))
@@ -173,7 +171,7 @@ module _ (old now new : List ℕ) (db : List TableView) (a b : PlainQuery) (l r 
       (λ v. same_set_on (value_of_rows new v o.rows) (filter (λ u. not (has_tuple (rights v) u)) (lefts v)) (rows v (Except a b) (value_of_tables old v db))
       (tuples v) (same_set_without (lefts v) (left_part v) (rights v) (right_part v) (s.tuples v) (t.tuples v)))
       (sublist_of_sublist (cells_of new o.rows) (cells_of now l.rows) (query_pattern (cells_in old db) a) part s.part)
-      (both_from (Except a b) (λ x n. n) o from)
+      (both_from (Except a b) refl (λ x n. n) o from)
 
   pub intersect_answers : (out : Result CTable TableError) → IfOk out (λ o. o.columns ≡ l.columns) → IfOk out (λ o. AreRows new (length l.columns) o.rows)
       → ((v : World) → IfOk out (λ o. SameSet (value_of_rows new v o.rows) (filter (has_tuple (rights v)) (lefts v))))
@@ -185,4 +183,4 @@ module _ (old now new : List ℕ) (db : List TableView) (a b : PlainQuery) (l r 
       (λ v. same_set_on (value_of_rows new v o.rows) (filter (has_tuple (rights v)) (lefts v)) (rows v (Intersect a b) (value_of_tables old v db))
       (tuples v) (same_set_within (lefts v) (left_part v) (rights v) (right_part v) (s.tuples v) (t.tuples v)))
       (sublist_of_sublist (cells_of new o.rows) (cells_of now l.rows) (query_pattern (cells_in old db) a) part s.part)
-      (both_from (Intersect a b) (λ x n. n) o from)
+      (both_from (Intersect a b) refl (λ x n. n) o from)

@@ -13,3 +13,7 @@ pub mod NewRow
 pub mod Insertions
 pub mod BuiltForms
 pub mod Meaning
+pub mod Questions
+pub mod TermCounts
+pub mod Listed
+pub mod ListReplies

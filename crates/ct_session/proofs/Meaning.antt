@@ -26,7 +26,7 @@ use Rattle.ct_session.specs.Printed.{IsPrinted}
 use Rattle.ct_session.proofs.Weights.{nodes_grow}
 
 -- the cells of the table with a name
-cells_by_name : (words : List ℕ) (db : List TableView) (name : List ℕ) → cells_in words db name ≡ cells_found words db name
+pub cells_by_name : (words : List ℕ) (db : List TableView) (name : List ℕ) → cells_in words db name ≡ cells_found words db name
 cells_by_name words [] name = refl
 cells_by_name words (t ∷ db) name =
     ap (λ cs. if same_text t.name name then cells_of words t.rows else cs) (cells_by_name words db name)

@@ -7,3 +7,4 @@ pub mod LawfulReply
 pub mod Answers
 pub mod Printed
 pub mod Catalogue
+pub mod Asking

@@ -1,7 +1,9 @@
 //! One statement of one session: from its text to what it does to the session, and the reply to it.
 #![tactic(auto)]
 
+mod asking;
 mod built;
+mod certainty;
 mod creating;
 mod executing;
 mod inserting;

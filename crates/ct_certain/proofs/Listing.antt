@@ -1,0 +1,47 @@
+-- Lists of possible rows, one row after another.
+use Rattle.std.proofs.Common.{◌≡◌, ◌<◌, ◌+◌, ℕ, List, [], ◌∷◌, ◌++◌, get_or, length, take, refl, ap, sym, subst, ◌∙◌, arith, inl, inr}
+use Rattle.std.specs.Prelude.{All, IsTrue}
+use Rattle.std.proofs.lemmas.List.{take_more}
+use Rattle.std.proofs.lemmas.List.Elements.{All-get_or, All-head, All-weaker}
+use Rattle.ct_word.specs.declared.values.CRow.{CRow}
+use Rattle.ct_word.specs.declared.kinds.Class.TheVariants as class
+use Rattle.ct_word.specs.Stands.{HasNoColumn}
+use Rattle.ct_word.specs.WellFormed.{is_place_of}
+use Rattle.ct_table.specs.Tables.{IsRow}
+use Rattle.ct_rewrite.specs.declared.answer.PossibleRow.{PossibleRow}
+use Rattle.ct_condition.specs.Terms.{BelowEither}
+use Rattle.ct_certain.specs.Answered.{AreOf, Adds, nothing, one}
+use Rattle.ct_certain.specs.Asked.{IsOfTable, IsPastTerms}
+use Rattle.ct_certain.specs.Possible.{ListsPossible, ended, left_out, taken}
+
+module _ (words : List ℕ) (global : ℕ) where
+  pub lists_more : (rs : List CRow) (list : List PossibleRow) (r : CRow) (new : List PossibleRow) → ListsPossible words global rs list → Adds words global r list new → ListsPossible words global (rs ++ r ∷ []) new
+  lists_more rs list r new ended (nothing none) = left_out none ended
+  lists_more rs list r new ended (one v tidy shown) = taken v tidy shown ended
+  lists_more (s ∷ rs) list r new (left_out none rest) adds = left_out none (lists_more rs list r new rest adds)
+  lists_more (s ∷ rs) (x ∷ list) r new (taken v tidy shown rest) (nothing none) = taken v tidy shown (lists_more rs list r list rest (nothing none))
+  lists_more (s ∷ rs) (x ∷ list) r new (taken v tidy shown rest) (one w t h) = taken v tidy shown (lists_more rs list r _ rest (one w t h))
+
+  pub lists_turn : (rows : List CRow) (i : ℕ) (r : CRow) (list new : List PossibleRow) → i < length rows → r ≡ get_or rows i r
+      → ListsPossible words global (take i rows) list → Adds words global r list new → ListsPossible words global (take (i + 1) rows) new
+  lists_turn rows i r list new lt e so_far adds =
+      let done : take i rows ++ r ∷ [] ≡ take (i + 1) rows = ap (λ x. take i rows ++ x ∷ []) e ∙ sym (take_more rows i r lt) in
+      subst (λ d. ListsPossible words global d new) done (lists_more (take i rows) list r new so_far adds)
+
+  pub row_of : (rows : List CRow) (i : ℕ) (r : CRow) → i < length rows → r ≡ get_or rows i r → All (AreOf words global) rows → AreOf words global r
+  row_of rows i r lt e all = subst (AreOf words global) (sym e) (All-get_or (AreOf words global) rows i r lt all)
+
+  pub past_row : (now : List ℕ) (rows : List CRow) (i : ℕ) (r : CRow) → i < length rows → r ≡ get_or rows i r → IsPastTerms now (BelowEither words global r.cond) → IsPastTerms now (IsOfTable words global rows)
+  past_row now rows i r lt e past = record {
+    root = past.root;
+    many = past.many;
+    from = λ t h. elim (past.from t h) [
+      | inl a ↦ inl a
+      | inr b ↦ inr (record { row = r; among = (i, lt, sym e); below = record { place = r.cond; among = (0, omega arith, refl); below = b } })
+    ];
+  }
+
+  -- the rows of a table
+  pub all_of : (n : ℕ) (rows : List CRow) → IsTrue (is_place_of words class.Cond global) → HasNoColumn words global → All (IsRow words n) rows → All (AreOf words global) rows
+  all_of n rows is plain each = All-weaker (IsRow words n) (AreOf words global)
+      (λ r row. record { global_is = is; global_plain = plain; condition = row.condition; plain = All-head (HasNoColumn words) r.cond r.cells row.plain; terms = row.terms }) rows each

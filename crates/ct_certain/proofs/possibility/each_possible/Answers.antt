@@ -1,0 +1,60 @@
+use Rattle.std.proofs.Common.{◌≡◌, ◌≤◌, ◌*◌, Err, [], length, ap, sym, subst, arith, ◌∙◌}
+use mathlib.Core.List.{IsPrefix}
+use Rattle.std.proofs.lemmas.List.{take_all}
+use Rattle.std.proofs.lemmas.Result.{err_from_is_err_and}
+use Rattle.ct_condition.proofs.Writes.{writes_none, writes_within, writes_as, writes_more, writes_last}
+use Rattle.ct_table.proofs.Adding.{passed}
+use Rattle.ct_certain.specs.Possible.{ListsPossible, ended}
+use Rattle.ct_certain.proofs.Listing.{lists_turn, row_of, past_row}
+use Rattle.ct_certain.proofs.possibility.each_possible.Goals as goal
+
+pub loop-row-init : goal.loop-row-init
+loop-row-init g c = record {
+  writes = writes_none _ c.words.ensures.formed c.words.ensures.room;
+  lists = subst (ListsPossible c.args.words.now c.args.global []) (sym c.new-list.ensures.items) ended;
+  pool = c.in_ok-pool.ensures;
+}
+
+pub show-requires-clause-longer : goal.show-requires-clause-longer
+show-requires-clause-longer g c = subst (λ ws. IsPrefix ws (g.I.Interner.list c.loop-row.pass)) (sym c.requires.same) c.loop-row.invariant.writes.longer
+
+pub show-requires-clause-asked : goal.show-requires-clause-asked
+show-requires-clause-asked g c = row_of c.args.words.now c.args.global c.args.rows.now c.loop-row.row-index c.row-item.result c.loop-row-test.true c.row-item.is c.requires.rows
+
+pub list_row-requires-clause-asked : goal.list_row-requires-clause-asked
+list_row-requires-clause-asked g c = row_of c.args.words.now c.args.global c.args.rows.now c.loop-row.row-index c.row-item.result c.loop-row-test.true c.row-item.is c.requires.rows
+
+pub loop-row-preserved : goal.loop-row-preserved
+loop-row-preserved g c = record {
+  writes = writes_more _ c.loop-row.row-index c.loop-row.invariant.writes c.in_ok-found.ensures.writes;
+  lists = lists_turn c.args.words.now c.args.global c.args.rows.now c.loop-row.row-index c.row-item.result c.loop-row.list.items c.list_row.new.list.items c.loop-row-test.true c.row-item.is c.loop-row.invariant.lists c.in_ok-list_row.ensures;
+  pool = c.in_ok-found.ensures.pool;
+}
+
+pub returns-clause-lists : goal.returns-clause-lists
+returns-clause-lists g c = subst (λ d. ListsPossible c.args.words.now c.args.global d c.loop-row.list.items) (take_all c.loop-row.row-index c.args.rows.now c.loop-row-test.false) c.loop-row.invariant.lists
+
+pub returns-clause-writes : goal.returns-clause-writes
+returns-clause-writes g c = let le : c.loop-row.row-index ≤ length c.args.rows.now = c.loop-row.auto.row-index-end in writes_within _ (omega (arith, le)) c.loop-row.invariant.writes
+
+pub returns-in_err-pool-clause-writes : goal.returns-in_err-pool-clause-writes
+returns-in_err-pool-clause-writes g c =
+    let exit = err_from_is_err_and c.from_residual.result c.from_residual.ensures.1 in
+    rw (exit.1, exit.2) (writes_none _ c.words.ensures.formed c.words.ensures.room)
+
+pub returns-in_err-found-clause-writes : goal.returns-in_err-found-clause-writes
+returns-in_err-found-clause-writes g c =
+    let exit = err_from_is_err_and c.from_residual-in_err-found.result c.from_residual-in_err-found.ensures.1 in
+    let n : length c.args.rows.now * 1 ≡ length c.args.rows.now = omega arith in
+    rw (exit.1, exit.2) (writes_as n (writes_last _ _ c.loop-row.invariant.writes _ c.loop-row-test.true c.in_err-found.ensures.writes))
+
+pub returns-in_err-found-clause-many : goal.returns-in_err-found-clause-many
+returns-in_err-found-clause-many g c e =
+    let exit = err_from_is_err_and c.from_residual-in_err-found.result c.from_residual-in_err-found.ensures.1 in
+    past_row c.args.words.now c.args.global _ c.args.rows.now c.loop-row.row-index c.row-item.result c.loop-row-test.true c.row-item.is (c.in_err-found.ensures.many (passed _ _ _ (exit.1 ∙ ap Err exit.2) e))
+
+pub returns-in_err-list_row-clause-writes : goal.returns-in_err-list_row-clause-writes
+returns-in_err-list_row-clause-writes g c =
+    let exit = err_from_is_err_and c.from_residual-in_err-list_row.result c.from_residual-in_err-list_row.ensures.1 in
+    let n : length c.args.rows.now * 1 ≡ length c.args.rows.now = omega arith in
+    rw (exit.1, exit.2) (writes_as n (writes_last _ _ c.loop-row.invariant.writes _ c.loop-row-test.true c.in_ok-found.ensures.writes))

@@ -1,0 +1,13 @@
+use Rattle.std.proofs.Common.{◌≡◌, length, sym, subst, rules}
+use Rattle.std.specs.Prelude.{All}
+use Rattle.ct_certain.specs.Answered.{AreOf}
+use Rattle.ct_certain.proofs.Listing.{all_of}
+use Rattle.ct_certain.proofs.possibility.possible.Goals as goal
+
+pub each_possible-requires-clause-rows : goal.each_possible-requires-clause-rows
+each_possible-requires-clause-rows g c =
+    let words = c.args.pass.now.words in
+    let rows = c.args.table.now.rows in
+    let same : c.as_slice.result.now ≡ words = search rules in
+    subst (λ rs. All (AreOf c.as_slice.result.now c.args.global) rs) (sym c.as_slice-2.ensures)
+    (subst (λ ws. All (AreOf ws c.args.global) rows) (sym same) (all_of words c.args.global (length c.args.table.now.columns) rows c.requires.global c.requires.plain c.requires.rows.each))

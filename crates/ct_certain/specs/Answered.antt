@@ -1,0 +1,46 @@
+-- The answer to a question, and a pool of worlds.
+use Rattle.std.specs.Prelude.{◌≡◌, ℕ, true, false, List, [], ◌∷◌, ◌++◌, Option, Some, None, IsTrue, All}
+use Rattle.ct_word.specs.declared.kinds.Class.TheVariants as class
+use Rattle.ct_word.specs.declared.values.CRow.{CRow}
+use Rattle.ct_word.specs.Value.{World}
+use Rattle.ct_word.specs.Condition.{holds_at}
+use Rattle.ct_word.specs.Reading.{condition_at}
+use Rattle.ct_word.specs.Stands.{HasNoColumn}
+use Rattle.ct_word.specs.WellFormed.{is_place_of}
+use Rattle.ct_derivation.specs.Accepts.{Accepts}
+use Rattle.ct_decide.specs.declared.deciding.Decision.{Decision}
+use Rattle.ct_decide.specs.declared.deciding.Decision.TheVariants as decision
+use Rattle.ct_condition.specs.Worth.{AreWorths}
+use Rattle.ct_rewrite.specs.Tidy.{IsTidy}
+use Rattle.ct_rewrite.specs.declared.answer.PossibleRow.{PossibleRow}
+use Rattle.ct_certain.specs.Possible.{is_shown, shown_row}
+use Rattle.ct_certain.specs.declared.pool.Known.{Known}
+
+-- a tidy world at which a condition holds, or a derivation that is accepted, so that it holds at none
+abbrev pub IsSettled : List ℕ → ℕ → Decision → Type 0
+IsSettled words root (decision.World v) = IsTidy v × (holds_at v (condition_at words root) ≡ true)
+IsSettled words root (decision.Refuted d) = Accepts words root d
+
+-- a global condition and a row are of these words, and no column stands below the conditions
+pub record AreOf (words : List ℕ) (global : ℕ) (r : CRow) : Type 0 where
+  pub global_is : IsTrue (is_place_of words class.Cond global)
+  pub global_plain : HasNoColumn words global
+  pub condition : IsTrue (is_place_of words class.Cond r.cond)
+  pub plain : HasNoColumn words r.cond
+  pub terms : All (λ p. IsTrue (is_place_of words class.Term p)) r.cells
+
+-- a tidy world that shows a row, or that none does
+abbrev pub IsAnswer : List ℕ → ℕ → CRow → Option World → Type 0
+IsAnswer words global r (Some v) = IsTidy v × IsTrue (is_shown words global r v)
+IsAnswer words global r None = (v : World) → is_shown words global r v ≡ false
+
+-- a tidy world at which the global condition holds, with what the words are worth there
+pub record IsKnown (words : List ℕ) (global : ℕ) (k : Known) : Type 0 where
+  pub tidy : IsTidy k.world
+  pub holds : IsTrue (holds_at k.world (condition_at words global))
+  pub worths : AreWorths words k.world k.worths
+
+-- the list with a row where some world shows it, as it was where none does
+pub data Adds (words : List ℕ) (global : ℕ) (r : CRow) (old : List PossibleRow) : List PossibleRow → Type 0 where
+  nothing : ((v : World) → is_shown words global r v ≡ false) → Adds words global r old old
+  one : (v : World) → IsTidy v → IsTrue (is_shown words global r v) → Adds words global r old (old ++ shown_row words r v ∷ [])

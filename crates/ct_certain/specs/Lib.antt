@@ -1,0 +1,6 @@
+pub mod Possible
+pub mod Certain
+pub mod Asked
+pub mod Faults
+pub mod Order
+pub mod Answered

@@ -1,0 +1,69 @@
+// Why there is no list.
+
+ghost use Rattle.std.specs.Prelude.{◌≡◌, ℕ};
+ghost use Rattle.ct_decide.specs.declared.error.DecideError.{DecideError};
+ghost use Rattle.ct_certain.specs.Faults.{fault_of};
+ghost use Rattle.ct_certain.specs.declared.error.CertainError.TheVariants as fault;
+
+use ct_arena::Full;
+use ct_decide::DecideError;
+use ct_word::Memory;
+use std::alloc::{AllocError, AllocFailed};
+use thiserror::Error;
+
+/// Why rows are not listed.
+#[derive(Clone, Copy, Debug, PartialEq, Eq, Error)]
+pub enum CertainError {
+    /// The log has as many words as its capacity, and a question needs another one.
+    #[error("the log is full")]
+    Full,
+    /// More than 64 distinct terms stand below the root of a question.
+    #[error("more than 64 terms")]
+    TooManyTerms,
+    /// Memory was wanting.
+    #[error("out of memory")]
+    Memory,
+}
+
+impl From<Full> for CertainError {
+    ghost from_gives = { λ _ e. e ≡ fault.Full };
+
+    fn from(_: Full) -> Self {
+        CertainError::Full
+    }
+}
+
+impl From<DecideError> for CertainError {
+    ghost from_gives = { λ x e. e ≡ fault_of x };
+
+    fn from(error: DecideError) -> Self {
+        match error {
+            DecideError::TooManyTerms => CertainError::TooManyTerms,
+            DecideError::Memory => CertainError::Memory,
+        }
+    }
+}
+
+impl From<Memory> for CertainError {
+    ghost from_gives = { λ _ e. e ≡ fault.Memory };
+
+    fn from(_: Memory) -> Self {
+        CertainError::Memory
+    }
+}
+
+impl From<AllocError> for CertainError {
+    ghost from_gives = { λ _ e. e ≡ fault.Memory };
+
+    fn from(_: AllocError) -> Self {
+        CertainError::Memory
+    }
+}
+
+impl<T: Drop> From<AllocFailed<T>> for CertainError {
+    ghost from_gives = { λ _ e. e ≡ fault.Memory };
+
+    fn from(_: AllocFailed<T>) -> Self {
+        CertainError::Memory
+    }
+}

@@ -1,0 +1,18 @@
+//! Which rows of a conditional table are possible, and which of its tuples are certain.
+//!
+//! A row is possible where it is shown at some valuation at which the global condition holds, and a tuple is certain
+//! where the table has it at all of these. `ct_decide` answers for each row, and for each tuple, whether a condition can
+//! hold, and a valuation that was found once is used for all rows.
+#![tactic(auto)]
+
+mod cells;
+mod error;
+mod order;
+mod pool;
+mod possibility;
+mod settling;
+mod showing;
+
+pub use ct_rewrite::{CertainRow, PossibleRow};
+pub use error::CertainError;
+pub use possibility::possible;

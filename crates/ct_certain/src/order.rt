@@ -1,0 +1,123 @@
+// Worlds in the order of their nulls.
+
+ghost use Rattle.std.specs.Prelude.{◌≡◌, ◌≤◌, [], length, map, IfOk, IfSome, OnOk};
+ghost use Rattle.ct_word.specs.Value.{same_null, value_of_null};
+ghost use Rattle.ct_rewrite.specs.Order.{null_class, null_order};
+ghost use Rattle.ct_rewrite.specs.Tidy.{IsTidy};
+ghost use Rattle.ct_certain.specs.Order as spec;
+ghost use Rattle.ct_certain.specs.Order.{with_null};
+
+use ct_word::{List, Memory, Null, Value, World};
+use std::alloc::{AllocError, Global};
+use std::cmp::Ordering;
+
+/// The order of nulls: named ones by the bytes of their names, then fresh ones by session and number.
+fn compare(m: &Null, n: &Null) -> Ordering
+    ensures { result ≡ null_order m.now n.now }
+{
+    match (m, n) {
+        (Null::Named(a), Null::Named(b)) => a.as_str().cmp(b.as_str()),
+        (
+            Null::Fresh {
+                session: s,
+                number: j,
+            },
+            Null::Fresh {
+                session: t,
+                number: k,
+            },
+        ) => s.cmp(t).then(j.cmp(k)),
+        _ => class_of(m).cmp(&class_of(n)),
+    }
+}
+
+fn class_of(n: &Null) -> u8
+    ensures { result ≡ null_class n.now }
+{
+    match n {
+        Null::Named(_) => 0,
+        Null::Fresh { .. } => 1,
+    }
+}
+
+/// Whether two nulls are the same.
+fn are_same(m: &Null, n: &Null) -> bool
+    ensures { result ≡ same_null m.now n.now }
+{
+    match (m, n) {
+        (Null::Named(t), Null::Named(u)) => t.as_str() == u.as_str(),
+        (
+            Null::Fresh {
+                session: s,
+                number: j,
+            },
+            Null::Fresh {
+                session: t,
+                number: k,
+            },
+        ) => s == t && j == k,
+        _ => false,
+    }
+}
+
+/// The value of a null in a world; `@0` where it is not listed.
+pub fn value_of(world: &[(Null, Value)], null: &Null) -> Result<Value, AllocError>
+    ensures { IfOk result (λ x. x ≡ value_of_null world.now null.now) }
+{
+    for pair in world {
+        if are_same(&pair.0, null) {
+            return pair.1.clone();
+        }
+    }
+    Ok(Value::Other(0))
+}
+
+/// Where a null belongs among ascending ones; none where it is there already.
+fn slot(world: &[(Null, Value)], null: &Null) -> Option<usize>
+    ensures value { result ≡ spec.slot world.now null.now }
+    ensures within { IfSome result (λ k. k ≤ length world.now) }
+{
+    for (place, pair) in world.iter().enumerate() {
+        match compare(null, &pair.0) {
+            Ordering::Less => return Some(place),
+            Ordering::Equal => return None,
+            Ordering::Greater => {}
+        }
+    }
+    Some(world.len())
+}
+
+/// Puts a pair where its null belongs. A null that is there already keeps its value.
+fn put(world: &mut Vec<(Null, Value)>, null: Null, value: Value) -> Result<(), Memory>
+    ensures { OnOk result (world.new.items ≡ spec.put world.old.items null value) }
+{
+    match slot(world.as_slice(), &null) {
+        None => Ok(()),
+        Some(place) => {
+            world.insert(place, (null, value))?;
+            Ok(())
+        }
+    }
+}
+
+/// Puts a null in with the value that a world gives it, but for `@0`.
+fn add(to: &mut Vec<(Null, Value)>, world: &World, null: &Null) -> Result<(), Memory>
+    ensures { OnOk result (to.new.items ≡ with_null world.now to.old.items null.now) }
+{
+    let value = value_of(world.as_slice(), null)?;
+    match value {
+        Value::Other(0) => Ok(()),
+        _ => put(to, null.clone()?, value),
+    }
+}
+
+/// The same world, with its nulls in order, and without those that have `@0`.
+pub fn tidy(alloc: Global, world: &World) -> Result<World, Memory>
+    ensures value { IfOk result (λ w. w ≡ spec.with_nulls world.now [] (map (λ p. p.0) world.now)) }
+{
+    let mut out = Vec::new(alloc);
+    for pair in world.as_slice() {
+        add(&mut out, world, &pair.0)?;
+    }
+    Ok(List::from_vec(out))
+}

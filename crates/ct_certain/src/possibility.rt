@@ -1,0 +1,91 @@
+// The possible rows of a table.
+
+ghost use Rattle.std.specs.Prelude.{◌≡◌, ◌≤◌, ◌<◌, ◌+◌, ◌^◌, length, All, IfOk, IsErrOf, IsTrue};
+ghost use mathlib.Core.List.{IsPrefix};
+ghost use Rattle.ct_word.specs.declared.kinds.Class.TheVariants as class;
+ghost use Rattle.ct_word.specs.Stands.{HasNoColumn};
+ghost use Rattle.ct_word.specs.WellFormed.{IsWellFormed, is_place_of};
+ghost use Rattle.ct_condition.specs.Writes.{Writes};
+ghost use Rattle.ct_table.specs.Tables.{AreRows};
+ghost use Rattle.ct_certain.specs.Answered.{AreOf};
+ghost use Rattle.ct_certain.specs.Asked.{IsOfTable, IsPastTerms};
+ghost use Rattle.ct_certain.specs.Faults.{is_full};
+ghost use Rattle.ct_certain.specs.Possible.{ListsPossible};
+ghost use Rattle.ct_certain.specs.declared.error.CertainError.TheVariants as fault;
+
+use crate::error::CertainError;
+use crate::pool::start;
+use crate::showing::{list_row, show};
+use ct_arena::{Arena, Pass, Site};
+use ct_condition::Interner;
+use ct_rewrite::PossibleRow;
+use ct_table::CTable;
+use ct_word::{CRow, List};
+use std::alloc::Global;
+
+/// The possible rows among these, which are of the words that the pass had before.
+fn each_possible<N: Site, I: Interner<N>>(
+    alloc: Global,
+    arena: &Arena<N>,
+    pass: &mut I,
+    words: &[u64],
+    global: u32,
+    rows: &[CRow],
+) -> Result<Vec<PossibleRow>, CertainError>
+    requires formed { IsWellFormed words.now }
+    requires small { length words.now < 2 ^ 28 }
+    requires same { words.now ≡ I.list pass.old }
+    requires global { IsTrue (is_place_of words.now class.Cond global) }
+    requires rows { All (AreOf words.now global) rows.now }
+    ensures lists { IfOk result (λ list. ListsPossible words.now global rows.now list.items) }
+    ensures writes { Writes I.list I.made I.kept I.lent N.log.cap pass.old pass.new (length rows.now) (is_full result) }
+    ensures many { IsErrOf result fault.TooManyTerms → IsPastTerms (I.list pass.new) (IsOfTable words.now global rows.now) }
+{
+    let _ = pass.words();
+    let mut pool = start(alloc, words, global)?;
+    let mut list = Vec::new(alloc);
+    for row in rows {
+        let found = show(alloc, arena, pass, words, global, &mut pool, row)?;
+        list_row(alloc, words, &mut list, row, found, global)?;
+    }
+    Ok(list)
+}
+
+/// The rows of a table that are shown at some valuation at which the global condition holds, in their order, each with
+/// such a valuation. At most one word is made for each row.
+///
+/// # Errors
+/// `Full` where the log has no room for the root of a question, `TooManyTerms` where a question has more than 64
+/// distinct terms, `Memory` where there is none for the list or a question.
+pub fn possible<N: Site>(
+    alloc: Global,
+    arena: &Arena<N>,
+    pass: &mut Pass<N>,
+    table: &CTable,
+    global: u32,
+) -> Result<List<PossibleRow>, CertainError>
+    requires global { IsTrue (is_place_of pass.old.words class.Cond global) }
+    requires plain { HasNoColumn pass.old.words global }
+    requires rows { AreRows pass.old.words (length table.now.columns) table.now.rows }
+    ensures lists { IfOk result (λ list. ListsPossible pass.old.words global table.now.rows list) }
+    ensures longer { IsPrefix pass.old.words pass.new.words }
+    ensures formed { IsWellFormed pass.new.words }
+    ensures room { length pass.new.words ≤ N.log.cap }
+    ensures full { IsErrOf result fault.Full → length pass.new.words ≡ N.log.cap }
+    ensures many { IsErrOf result fault.TooManyTerms → IsPastTerms pass.new.words (IsOfTable pass.old.words global table.now.rows) }
+    ensures made { pass.new.made ≤ pass.old.made + length table.now.rows }
+    ensures fewer { IsErrOf result fault.Full → pass.new.made < pass.old.made + length table.now.rows }
+    ensures session { pass.new.session ≡ pass.old.session }
+    ensures mine { pass.new.mine ≡ pass.old.mine }
+{
+    let words = pass.words().to_vec(alloc)?;
+    let rows = each_possible(
+        alloc,
+        arena,
+        pass,
+        words.as_slice(),
+        global,
+        table.rows.as_slice(),
+    )?;
+    Ok(List::from_vec(rows))
+}
