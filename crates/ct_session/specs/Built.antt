@@ -1,7 +1,7 @@
 -- Which statements are built, by their trees:
 --     CREATE TABLE name "(" name {"," name} ")"
 --     INSERT INTO name VALUES row {"," row}
---     query
+--     ["POSSIBLE"] query
 -- No other statement is built.
 use Rattle.std.specs.Prelude.{ℕ, List, None}
 use Rattle.ct_word.specs.declared.values.Term.{Term}
@@ -18,9 +18,11 @@ pub data IsBuilt : Statement → Type 0 where
   create : {n c : List ℕ} {cs : List (List ℕ)} → IsBuilt (statement.Create n c cs)
   insert : {n : List ℕ} {r : Row} {rs : List Row} → IsBuilt (statement.InsertRows n r rs None)
   query : {q : Query} → IsBuilt (statement.Rows q)
+  possible : {q : Query} → IsBuilt (statement.Possible q)
 
 -- what they are with positions for names
 pub data IsPlainBuilt : PlainStatement → Type 0 where
   creation : {name : List ℕ} {columns : List (List ℕ)} → IsPlainBuilt (Act (Create name columns))
   insertion : {name : List ℕ} {rows : List (List Term)} → IsPlainBuilt (Act (InsertRows name rows True))
   question : {columns : List (List ℕ)} {q : PlainQuery} → IsPlainBuilt (Asks ask.Rows columns q)
+  possibility : {columns : List (List ℕ)} {q : PlainQuery} → IsPlainBuilt (Asks ask.Possible columns q)

@@ -3,13 +3,13 @@
 
 mod asking;
 mod built;
-mod certainty;
 mod creating;
 mod executing;
 mod inserting;
 mod lists;
 mod printing;
 mod reading;
+mod replying;
 mod selecting;
 mod session;
 
