@@ -8,4 +8,5 @@ pub mod Putting
 pub mod Steps
 pub mod Told
 pub mod Making
+pub mod Placing
 pub mod Stages

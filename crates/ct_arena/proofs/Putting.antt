@@ -22,13 +22,13 @@ use Rattle.ct_arena.proofs.Totals.{total_set}
 use Rattle.ct_arena.proofs.Tied.{load_of, set_fronted}
 use Rattle.ct_arena.proofs.Sole.{prefix_push, numbers_append, numbers_own, range_next, commits_grow}
 
-plain_kind : (ws : List ℕ) (w : ℕ) → IsTrue (is_plain_word ws w) → is_commit_word w ≡ false
+pub plain_kind : (ws : List ℕ) (w : ℕ) → IsTrue (is_plain_word ws w) → is_commit_word w ≡ false
 plain_kind ws w plain = none (is_commit_word w) (true_right (is_word_over ws w) (not (is_commit_word w)) plain) where
   none : (b : Bool) → IsTrue (not b) → b ≡ false
   none true e = absurd (true≢false (sym e))
   none false e = refl
 
-commit_kind : (s m b : ℕ) → s ≤ 1023 → m < 2 ^ 18 → b < 2 ^ 28 → is_commit_word (commit_word s m b) ≡ true
+pub commit_kind : (s m b : ℕ) → s ≤ 1023 → m < 2 ^ 18 → b < 2 ^ 28 → is_commit_word (commit_word s m b) ≡ true
 unfolding is_commit_word
 commit_kind s m b sl ml bl =
     let al : s * 262144 + m < 2 ^ 28 = omega arith in

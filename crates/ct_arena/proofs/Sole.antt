@@ -58,7 +58,7 @@ pub numbers_own : (s : ℕ) (c : PlainCommit) (cs : List PlainCommit) → c.sess
 numbers_own s c cs e = rw (eq-eqb c.session s e) refl
 
 -- a session that has committed so often has no commit of the next number
-fresh : (s m b : ℕ) (ws : List ℕ) → s ≤ 1023 → m < 2 ^ 18 → b < 2 ^ 28 → AreNumbered s m ws → Contains ws (commit_word s m b) → ⊥
+pub fresh : (s m b : ℕ) (ws : List ℕ) → s ≤ 1023 → m < 2 ^ 18 → b < 2 ^ 28 → AreNumbered s m ws → Contains ws (commit_word s m b) → ⊥
 fresh s m b ws sl ml bl numbered there =
     let al : s * 262144 + m < 2 ^ 28 = omega arith in
     let h = commit_stands ws (s * 262144 + m) b al bl there in
@@ -69,7 +69,7 @@ fresh s m b ws sl ml bl numbered there =
     let lt : h.commit.number < 0 + m = in_range m 0 h.commit.number _ _ (sym split ∙ numbered) in
     omega arith
 
-log_push : (room : ℕ) (ws : List ℕ) (w : ℕ) → IsLog room ws → IsTrue (is_word_after ws w) → length ws < room → IsLog room (ws ++ w ∷ [])
+pub log_push : (room : ℕ) (ws : List ℕ) (w : ℕ) → IsLog room ws → IsTrue (is_word_after ws w) → length ws < room → IsLog room (ws ++ w ∷ [])
 log_push room ws w log after lt = record {
   formed = formed_snoc ws w log.formed after;
   room = omega (arith, length-append ws (w ∷ []));
