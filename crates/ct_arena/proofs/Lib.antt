@@ -1,4 +1,12 @@
 pub mod Hands
 pub mod Lookup
 pub mod Sole
+pub mod Totals
+pub mod Fronts
+pub mod Tied
+pub mod Putting
+pub mod Steps
+pub mod Told
+pub mod Making
+pub mod Placing
 pub mod Stages

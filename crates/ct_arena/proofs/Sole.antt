@@ -34,7 +34,7 @@ range_push a (suc n) =
     let e : (a + 1) + n ≡ a + suc n = omega arith in
     ap (λ l. a ∷ l) (range_push (a + 1) n) ∙ ap (λ m. a ∷ (range_with_len (a + 1) n ++ m ∷ [])) e
 
-range_next : (m n : ℕ) → n ≡ m + 1 → range_with_len 0 m ++ m ∷ [] ≡ range_with_len 0 n
+pub range_next : (m n : ℕ) → n ≡ m + 1 → range_with_len 0 m ++ m ∷ [] ≡ range_with_len 0 n
 range_next m n e =
     let same : 0 + m ≡ m = omega arith in
     let more : suc m ≡ n = omega arith in
@@ -46,7 +46,7 @@ in_range zero a m (x ∷ xs) ys e = absurd (cc)
 in_range (suc n) a m [] ys e = let same : m ≡ a = cc in omega arith
 in_range (suc n) a m (x ∷ xs) ys e = let rest : xs ++ m ∷ ys ≡ range_with_len (a + 1) n = cc in let lt = in_range n (a + 1) m xs ys rest in omega arith
 
-numbers_append : (s : ℕ) (cs ds : List PlainCommit) → numbers_by s (cs ++ ds) ≡ numbers_by s cs ++ numbers_by s ds
+pub numbers_append : (s : ℕ) (cs ds : List PlainCommit) → numbers_by s (cs ++ ds) ≡ numbers_by s cs ++ numbers_by s ds
 numbers_append s [] ds = refl
 numbers_append s (c ∷ cs) ds = by_test (nat_eq c.session s) (numbers_append s cs ds) where
   by_test : (b : Bool) → numbers_by s (cs ++ ds) ≡ numbers_by s cs ++ numbers_by s ds
@@ -54,11 +54,11 @@ numbers_append s (c ∷ cs) ds = by_test (nat_eq c.session s) (numbers_append s 
   by_test true rest = ap (λ l. c.number ∷ l) rest
   by_test false rest = rest
 
-numbers_own : (s : ℕ) (c : PlainCommit) (cs : List PlainCommit) → c.session ≡ s → numbers_by s (c ∷ cs) ≡ c.number ∷ numbers_by s cs
+pub numbers_own : (s : ℕ) (c : PlainCommit) (cs : List PlainCommit) → c.session ≡ s → numbers_by s (c ∷ cs) ≡ c.number ∷ numbers_by s cs
 numbers_own s c cs e = rw (eq-eqb c.session s e) refl
 
 -- a session that has committed so often has no commit of the next number
-fresh : (s m b : ℕ) (ws : List ℕ) → s ≤ 1023 → m < 2 ^ 18 → b < 2 ^ 28 → AreNumbered s m ws → Contains ws (commit_word s m b) → ⊥
+pub fresh : (s m b : ℕ) (ws : List ℕ) → s ≤ 1023 → m < 2 ^ 18 → b < 2 ^ 28 → AreNumbered s m ws → Contains ws (commit_word s m b) → ⊥
 fresh s m b ws sl ml bl numbered there =
     let al : s * 262144 + m < 2 ^ 28 = omega arith in
     let h = commit_stands ws (s * 262144 + m) b al bl there in
@@ -69,7 +69,7 @@ fresh s m b ws sl ml bl numbered there =
     let lt : h.commit.number < 0 + m = in_range m 0 h.commit.number _ _ (sym split ∙ numbered) in
     omega arith
 
-log_push : (room : ℕ) (ws : List ℕ) (w : ℕ) → IsLog room ws → IsTrue (is_word_after ws w) → length ws < room → IsLog room (ws ++ w ∷ [])
+pub log_push : (room : ℕ) (ws : List ℕ) (w : ℕ) → IsLog room ws → IsTrue (is_word_after ws w) → length ws < room → IsLog room (ws ++ w ∷ [])
 log_push room ws w log after lt = record {
   formed = formed_snoc ws w log.formed after;
   room = omega (arith, length-append ws (w ∷ []));

@@ -19,15 +19,15 @@ use Rattle.ct_arena.specs.Name.{LogName}
 use Rattle.ct_arena.specs.Counts.{opening, IsLog, AreOfSessions, numbers_by}
 use Rattle.ct_arena.specs.Kept.{IsNamed, IsSole, IsPass, IsAtStage, IsKeeper, IsBehind, IsSpare, guest_at, enrolled_at, ended_at}
 
-opening_formed : IsWellFormed opening
+pub opening_formed : IsWellFormed opening
 unfolding opening is_word_after kind_with
 opening_formed = refl
 
-no_commits : commits_of opening ≡ []
+pub no_commits : commits_of opening ≡ []
 unfolding opening meaning_of kind_with
 no_commits = refl
 
-two : length opening ≡ 2
+pub two : length opening ≡ 2
 unfolding opening
 two = refl
 

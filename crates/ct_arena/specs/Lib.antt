@@ -3,3 +3,5 @@ pub mod Counts
 pub mod Seen
 pub mod Handing
 pub mod Kept
+pub mod Sharing
+pub mod Own

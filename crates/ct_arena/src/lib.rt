@@ -6,12 +6,14 @@
 #![tactic(auto)]
 
 mod arenas;
+mod following;
 mod full;
 mod handing;
 mod interning;
 mod keepers;
 mod logs;
 mod passes;
+mod sharing;
 mod sites;
 mod tally;
 
