@@ -46,8 +46,8 @@ returns-in_ok-offer-in-Act-InsertRows-clause-ok g c =
     (sym (always (subst (λ r. IsPlainBuilt (statement_of r)) is c.requires.built)))
     c.in_ok-offer-in-Act-InsertRows.ensures.ok)
 
-pub answer_to-requires-clause-built : goal.answer_to-requires-clause-built
-answer_to-requires-clause-built g c = subst (λ r. IsPlainBuilt (statement_of r)) c.in-Ask.is c.requires.built
+pub answer_to-answered-requires-clause-built : goal.answer_to-answered-requires-clause-built
+answer_to-answered-requires-clause-built g c = subst (λ r. IsPlainBuilt (statement_of r)) c.in-Ask.is c.requires.built
 
 pub returns-in-Ok-clause-ok : goal.returns-in-Ok-clause-ok
 returns-in-Ok-clause-ok g c =
