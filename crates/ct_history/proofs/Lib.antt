@@ -1,2 +1,5 @@
+pub mod ItemLists
 pub mod Lists
+pub mod Printed
 pub mod Rows
+pub mod Writers

@@ -1,2 +1,7 @@
+pub mod Commits
+pub mod Items
 pub mod Kept
+pub mod Places
+pub mod Printed
 pub mod Rows
+pub mod Written

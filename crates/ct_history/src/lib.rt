@@ -3,6 +3,14 @@
 
 mod changes;
 mod insertion;
+mod items;
+mod latest;
+mod printing;
+mod words;
+mod written;
 
 pub use changes::{create, no_changes};
 pub use insertion::insert;
+pub use latest::last;
+pub use printing::commits;
+pub use written::{Written, changes_at};

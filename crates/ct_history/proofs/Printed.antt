@@ -1,0 +1,141 @@
+-- Printed changes stand for those of the log.
+use Rattle.std.proofs.Common.{◌≡◌, ◌≢◌, ℕ, zero, suc, ◌+◌, ◌<◌, ◌≤◌, Bool, true, false, ◌&&◌, List, [], ◌∷◌, ◌++◌, map, length, take, drop, get_or, Some, refl, ap, sym, subst, ◌∙◌, arith}
+use Rattle.std.specs.Prelude.{IsTrue, All, flat_map, filter_map}
+use Rattle.std.specs.List.{AllZip, list_all}
+use Rattle.std.proofs.lemmas.Bool.{false≢true, and_parts, and_from}
+use Rattle.std.proofs.lemmas.List.Elements.{All-head, All-tail}
+use Rattle.ct_word.specs.declared.kinds.Kind.{Kind}
+use Rattle.ct_word.specs.declared.kinds.Kind.TheVariants as kind
+use Rattle.ct_word.specs.declared.kinds.Class.TheVariants as class
+use Rattle.ct_word.specs.declared.values.CRow.{CRow}
+use Rattle.ct_word.specs.declared.reading.Word.{Word}
+use Rattle.ct_word.specs.Condition.{SameTruth}
+use Rattle.ct_word.specs.Change.{PlainCommit}
+use Rattle.ct_word.specs.Reading.{IsCommit, as_commit, meanings, condition_at, change_list_at, plain_crow}
+use Rattle.ct_word.specs.StandsFor.{SameRows, SameChange, SameChanges, SameCommits}
+use Rattle.ct_word.specs.WellFormed.{is_place_of, same_class, class_of}
+use Rattle.ct_word.specs.WordAt.{IsWordAt}
+use Rattle.ct_rewrite.specs.declared.answer.Node.{Node}
+use Rattle.ct_rewrite.specs.declared.history.Commit.{Commit}
+use Rattle.ct_rewrite.specs.Nodes.{node_condition, is_position}
+use Rattle.ct_rewrite.specs.History.{plain_row, plain_change, plain_commit, is_change_placed}
+use Rattle.ct_history.specs.Commits.{IsCommitAt}
+use Rattle.ct_history.specs.Printed.{conds_of, rows_with, change_with, changes_with}
+use Rattle.ct_history.specs.Rows.{IsRowOf}
+use Rattle.ct_history.specs.Written.{plain_written, IsWritten}
+use Rattle.ct_history.specs.declared.written.Written.{Written}
+use Rattle.ct_history.specs.declared.written.Written.TheVariants as written
+
+module _ {A B : Type 0} (R : A → B → Type 0) where
+  zip_front : (a b : List B) (ks : List A) → AllZip R ks (a ++ b) → AllZip R (take (length a) ks) a
+  zip_front [] b ks h = tt
+  zip_front (x ∷ a) b [] h = absurd h
+  zip_front (x ∷ a) b (k ∷ ks) h = (h.0, zip_front a b ks h.1)
+
+  zip_back : (a b : List B) (ks : List A) → AllZip R ks (a ++ b) → AllZip R (drop (length a) ks) b
+  zip_back [] b ks h = h
+  zip_back (x ∷ a) b [] h = absurd h
+  zip_back (x ∷ a) b (k ∷ ks) h = zip_back a b ks h.1
+
+  pub zip_length : (ks : List A) (cs : List B) → AllZip R ks cs → length ks ≡ length cs
+  zip_length [] [] h = refl
+  zip_length [] (c ∷ cs) h = absurd h
+  zip_length (k ∷ ks) [] h = absurd h
+  zip_length (k ∷ ks) (c ∷ cs) h = ap suc (zip_length ks cs h.1)
+
+  zip_passed : (p : A → Bool) (ks : List A) (cs : List B) → AllZip R ks cs → IsTrue (list_all p ks) → AllZip (λ k c. R k c × IsTrue (p k)) ks cs
+  zip_passed p [] [] h e = tt
+  zip_passed p [] (c ∷ cs) h e = absurd h
+  zip_passed p (k ∷ ks) [] h e = absurd h
+  zip_passed p (k ∷ ks) (c ∷ cs) h e = let parts = and_parts (p k) (list_all p ks) e in ((h.0, parts.0), zip_passed p ks cs h.1 parts.1)
+
+module _ (ws : List ℕ) (nodes : List Node) where
+  -- a position has the truth of a place
+  abbrev pub Prints : ℕ → ℕ → Type 0
+  Prints k c = SameTruth (node_condition nodes k) (condition_at ws c)
+
+  abbrev PrintsAt : ℕ → ℕ → Type 0
+  PrintsAt k c = Prints k c × IsTrue (is_position nodes k)
+
+  rows_same : (rows : List CRow) (ks : List ℕ) → AllZip PrintsAt ks (map (λ r. r.cond) rows) → SameRows (map (plain_row nodes) (rows_with ws rows ks)) (map (plain_crow ws) rows)
+  rows_same [] ks h = tt
+  rows_same (r ∷ rows) [] h = absurd h
+  rows_same (r ∷ rows) (k ∷ ks) h = (refl, h.0.0, rows_same rows ks h.1)
+
+  rows_placed : (rows : List CRow) (ks : List ℕ) → AllZip PrintsAt ks (map (λ r. r.cond) rows) → IsTrue (list_all (λ r. is_position nodes r.cond) (rows_with ws rows ks))
+  rows_placed [] ks h = refl
+  rows_placed (r ∷ rows) [] h = absurd h
+  rows_placed (r ∷ rows) (k ∷ ks) h = and_from _ _ h.0.1 (rows_placed rows ks h.1)
+
+  change_same : (x : Written) (ks : List ℕ) → AllZip PrintsAt ks (conds_of x) → SameChange (plain_change nodes (change_with ws x ks)) (plain_written ws x)
+  change_same (written.Create name columns) ks h = (refl, refl)
+  change_same (written.Insert name rows) ks h = (refl, rows_same rows ks h)
+  change_same (written.Delete name c) [] h = absurd h
+  change_same (written.Delete name c) (k ∷ ks) h = (refl, h.0.0)
+  change_same (written.Assert c) [] h = absurd h
+  change_same (written.Assert c) (k ∷ ks) h = h.0.0
+
+  change_placed : (x : Written) (ks : List ℕ) → AllZip PrintsAt ks (conds_of x) → IsTrue (is_change_placed nodes (change_with ws x ks))
+  change_placed (written.Create name columns) ks h = refl
+  change_placed (written.Insert name rows) ks h = rows_placed rows ks h
+  change_placed (written.Delete name c) [] h = absurd h
+  change_placed (written.Delete name c) (k ∷ ks) h = h.0.1
+  change_placed (written.Assert c) [] h = absurd h
+  change_placed (written.Assert c) (k ∷ ks) h = h.0.1
+
+  all_same : (xs : List Written) (ks : List ℕ) → AllZip PrintsAt ks (flat_map conds_of xs) → SameChanges (map (plain_change nodes) (changes_with ws xs ks)) (map (plain_written ws) xs)
+  all_same [] ks h = tt
+  all_same (x ∷ xs) ks h =
+      (change_same x _ (zip_front PrintsAt (conds_of x) (flat_map conds_of xs) ks h), all_same xs _ (zip_back PrintsAt (conds_of x) (flat_map conds_of xs) ks h))
+
+  all_placed : (xs : List Written) (ks : List ℕ) → AllZip PrintsAt ks (flat_map conds_of xs) → IsTrue (list_all (is_change_placed nodes) (changes_with ws xs ks))
+  all_placed [] ks h = refl
+  all_placed (x ∷ xs) ks h =
+      and_from _ _ (change_placed x _ (zip_front PrintsAt (conds_of x) (flat_map conds_of xs) ks h)) (all_placed xs _ (zip_back PrintsAt (conds_of x) (flat_map conds_of xs) ks h))
+
+  module _ (xs : List Written) (ks : List ℕ) (h : AllZip Prints ks (flat_map conds_of xs)) (e : IsTrue (list_all (is_position nodes) ks)) where
+    pub changes_same : SameChanges (map (plain_change nodes) (changes_with ws xs ks)) (map (plain_written ws) xs)
+    changes_same = all_same xs ks (zip_passed Prints (is_position nodes) ks (flat_map conds_of xs) h e)
+
+    pub changes_placed : IsTrue (list_all (is_change_placed nodes) (changes_with ws xs ks))
+    changes_placed = all_placed xs ks (zip_passed Prints (is_position nodes) ks (flat_map conds_of xs) h e)
+
+list_all_both : (p : ℕ → Bool) (a b : List ℕ) → IsTrue (list_all p a) → IsTrue (list_all p b) → IsTrue (list_all p (a ++ b))
+list_all_both p [] b e f = f
+list_all_both p (x ∷ a) b e f = let parts = and_parts (p x) (list_all p a) e in and_from _ _ parts.0 (list_all_both p a b parts.1 f)
+
+-- the places of the conditions of changes are such
+module _ (ws : List ℕ) where
+  rows_conds : (rows : List CRow) → All (IsRowOf ws) rows → IsTrue (list_all (is_place_of ws class.Cond) (map (λ r. r.cond) rows))
+  rows_conds [] all = refl
+  rows_conds (r ∷ rows) all = and_from _ _ (All-head (IsRowOf ws) r rows all).condition (rows_conds rows (All-tail (IsRowOf ws) r rows all))
+
+  change_conds : (x : Written) → IsWritten ws x → IsTrue (list_all (is_place_of ws class.Cond) (conds_of x))
+  change_conds (written.Create name columns) is = refl
+  change_conds (written.Insert name rows) is = rows_conds rows is
+  change_conds (written.Delete name c) is = and_from _ _ is refl
+  change_conds (written.Assert c) is = and_from _ _ is refl
+
+  pub all_conds : (xs : List Written) → All (IsWritten ws) xs → IsTrue (list_all (is_place_of ws class.Cond) (flat_map conds_of xs))
+  all_conds [] all = refl
+  all_conds (x ∷ xs) all =
+      list_all_both (is_place_of ws class.Cond) (conds_of x) (flat_map conds_of xs) (change_conds x (All-head (IsWritten ws) x xs all)) (all_conds xs (All-tail (IsWritten ws) x xs all))
+
+-- the word of a commit
+pub commit_word : (ws : List ℕ) (p : ℕ) (w : Word) → IsWordAt ws p w → IsTrue (is_place_of ws class.Commit p) → w.kind ≡ kind.Commit
+commit_word ws p w is e = by w.kind (sym (is.class class.Commit) ∙ e) where
+  by : (k : Kind) → same_class (class_of k) class.Commit ≡ true → k ≡ kind.Commit
+  by kind.Commit of = refl
+  by _ of = absurd (false≢true of)
+
+-- and the other way round
+pub is_commit_place : (ws : List ℕ) (p : ℕ) (w : Word) → IsWordAt ws p w → w.kind ≡ kind.Commit → IsTrue (is_place_of ws class.Commit p)
+is_commit_place ws p w is e = is.class class.Commit ∙ ap (λ k. same_class (class_of k) class.Commit) e
+
+-- one more commit
+pub commits_longer : (g h : List PlainCommit) (c d : PlainCommit) → SameCommits g h → c.session ≡ d.session → c.number ≡ d.number → SameChanges c.changes d.changes
+    → SameCommits (g ++ c ∷ []) (h ++ d ∷ [])
+commits_longer [] [] c d s a b e = (a, b, e, tt)
+commits_longer [] (y ∷ h) c d s a b e = absurd s
+commits_longer (x ∷ g) [] c d s a b e = absurd s
+commits_longer (x ∷ g) (y ∷ h) c d s a b e = (s.0, s.1, s.2, commits_longer g h c d s.3 a b e)

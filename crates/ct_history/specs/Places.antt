@@ -1,0 +1,40 @@
+-- What places of changes and of their parts stand for.
+use Rattle.std.specs.Prelude.{◌≡◌, ℕ, List, IsTrue, slice_get}
+use Rattle.ct_word.specs.declared.kinds.Class.TheVariants as class
+use Rattle.ct_word.specs.declared.values.Term.{Term}
+use Rattle.ct_word.specs.Change.{PlainRow, PlainChange, Create, Insert, Delete, Assert}
+use Rattle.ct_word.specs.Reading.{meanings, as_row, as_cond_row, as_row_list, as_name_list, as_change, condition_at}
+use Rattle.ct_word.specs.WellFormed.{is_place_of}
+use Rattle.ct_word.specs.WordAt.{text_at}
+use Rattle.ct_history.specs.declared.words.ChangeWord.{ChangeWord}
+use Rattle.ct_history.specs.declared.words.ChangeWord.TheVariants as parts
+
+-- the change that a place stands for
+abbrev pub change_at : List ℕ → ℕ → PlainChange
+change_at words place = as_change (slice_get (meanings words) place)
+
+-- the names that a place stands for
+abbrev pub names_at : List ℕ → ℕ → List (List ℕ)
+names_at words place = as_name_list (slice_get (meanings words) place)
+
+-- the rows that a place stands for
+abbrev pub rows_at : List ℕ → ℕ → List PlainRow
+rows_at words place = as_row_list (slice_get (meanings words) place)
+
+-- the row under its condition that a place stands for
+abbrev pub cond_row_at : List ℕ → ℕ → PlainRow
+cond_row_at words place = as_cond_row (slice_get (meanings words) place)
+
+-- the cells that a place stands for
+abbrev pub cells_at : List ℕ → ℕ → List Term
+cells_at words place = as_row (slice_get (meanings words) place)
+
+-- a place stands for a change of these parts, places of their classes
+abbrev pub IsChangeOf : List ℕ → ℕ → ChangeWord → Type 0
+IsChangeOf words place (parts.Create name columns) =
+    (change_at words place ≡ Create (text_at words name) (names_at words columns)) × IsTrue (is_place_of words class.Text name) × IsTrue (is_place_of words class.NameList columns)
+IsChangeOf words place (parts.Insert name rows) =
+    (change_at words place ≡ Insert (text_at words name) (rows_at words rows)) × IsTrue (is_place_of words class.Text name) × IsTrue (is_place_of words class.RowList rows)
+IsChangeOf words place (parts.Delete name cond) =
+    (change_at words place ≡ Delete (text_at words name) (condition_at words cond)) × IsTrue (is_place_of words class.Text name) × IsTrue (is_place_of words class.Cond cond)
+IsChangeOf words place (parts.Assert cond) = (change_at words place ≡ Assert (condition_at words cond)) × IsTrue (is_place_of words class.Cond cond)
