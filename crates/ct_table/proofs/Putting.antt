@@ -269,3 +269,7 @@ put_apart es (p ∷ ps) a =
 pub rows_back : (rs : List CRow) → rows_of (entries_of rs) ≡ rs
 rows_back [] = refl
 rows_back (r ∷ rs) = ap (λ l. r ∷ l) (rows_back rs)
+
+pub entries_back : (es : List (List ℕ × ℕ)) → entries_of (rows_of es) ≡ es
+entries_back [] = refl
+entries_back (e ∷ es) = ap (λ l. e ∷ l) (entries_back es)

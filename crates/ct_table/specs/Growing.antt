@@ -41,18 +41,31 @@ Fits es ps = (cells : List ℕ) (c d : ℕ) → find cells ps ≡ Some c → fin
 abbrev pub entries_of : List CRow → List (List ℕ × ℕ)
 entries_of rs = map (λ r. (r.cells, r.cond)) rs
 
+-- rows of a table after these conditions are put at their cells
+abbrev pub rows_after : List CRow → List (List ℕ × ℕ) → List CRow
+rows_after rs ps = rows_of (grown (entries_of rs) ps)
+
 -- a row's condition was joined to the one that its cells have; it is not the word false where that one is not
 pub data Joins (old new : List ℕ) (es : List (List ℕ × ℕ)) (r : CRow) (cond : ℕ) : Type 0 where
   alone : find r.cells es ≡ None → cond ≡ r.cond → Joins old new es r cond
   with_first : (first : ℕ) → find r.cells es ≡ Some first → HasTruth new cond (or_at old first r.cond) → TermsFrom new cond (BelowEither old first r.cond)
       → (first ≢ 1 → cond ≢ 1) → Joins old new es r cond
 
--- a table whose rows stand in a map from their cells to their conditions, with room for so many more
+-- a table whose rows stand in a map from their cells to their conditions
 pub record Keyed : Type 0 where
+  pub columns : List (List ℕ)
+  pub entries : List (List ℕ × ℕ)
+
+-- the same with room for so many more rows
+pub record Roomy : Type 0 where
   pub columns : List (List ℕ)
   pub entries : List (List ℕ × ℕ)
   pub room : ℕ
 
+-- a table of these columns and entries
+abbrev pub table_with : List (List ℕ) → List (List ℕ × ℕ) → CTable
+table_with columns es = record { columns = columns; rows = rows_of es }
+
 -- the table
 abbrev pub table_of : Keyed → CTable
-table_of k = record { columns = k.columns; rows = rows_of k.entries }
+table_of k = table_with k.columns k.entries

@@ -12,3 +12,5 @@ pub mod Shared
 pub mod Counting
 pub mod Refusals
 pub mod Growing
+pub mod Turn
+pub mod Pending

@@ -1,40 +1,41 @@
 // The tables of a database, each shared.
 
-ghost use Rattle.std.specs.Prelude.{◌≡◌, List, [], map, min, Some, None, IfOk, OnOk, OnErr, MatchOption, length};
-ghost use Rattle.std.specs.List.{IsDistinct};
-ghost use Rattle.std.specs.Arc.{arc_value};
-ghost use Rattle.ct_word.specs.Value.{same_text};
+ghost use Rattle.std.specs.Prelude.{◌≡◌, List, [], map, min, Some, None, IfOk, OnOk, OnErr, MatchOption, MatchResult, length};
 ghost use Rattle.ct_table.specs.Denotes.{TableView, heading_of, find_table, with_table};
 ghost use Rattle.ct_table.specs.Shared.{view_of, entry_of};
+ghost use Rattle.ct_table.specs.Pending.{FitsGrowth, after, turn_of};
 ghost use Rattle.ct_table.specs.Counting.{count_of};
 
+use crate::pending::{Growth, Pending, PendingRows, PendingTable};
+use crate::sharing::SharedTable;
 use crate::table::CTable;
 use ct_query::{Count, Counts, Heading, Schema};
 use ct_word::{List, Memory, Text};
 use indexmap::IndexMap;
-use std::alloc::Global;
+use std::alloc::{AllocError, Global};
 use std::marker::Model;
-use std::sync::Arc;
 
 /// Tables by their names, in the order of their creation. Contracts see them as that list. Each table is shared with
-/// the databases that were made from this one.
+/// the databases that were made from this one. The names and columns stand here a second time, so that they can be
+/// lent together.
 #[derive(Drop)]
 pub struct Db {
-    tables: IndexMap<Text, Arc<CTable, Global>>,
+    pub(crate) tables: IndexMap<Text, SharedTable>,
+    pub(crate) headings: Schema,
 }
 
 impl Model for Db {
-    ghost use Rattle.std.specs.Prelude.{List, ℕ, map, nat_eq};
+    ghost use Rattle.std.specs.Prelude.{◌≡◌, List, ℕ, map, nat_eq};
     ghost use Rattle.std.specs.Cmp.Lexicographic.{pointwise};
     ghost use Rattle.indexmap.specs.IndexMap.{IsUnique};
-    ghost use Rattle.ct_table.specs.Denotes.{TableView};
+    ghost use Rattle.ct_table.specs.Denotes.{TableView, heading_of};
     ghost use Rattle.ct_table.specs.Shared.{entry_of};
 
     ghost Value = { List TableView };
 
     ghost view = { λ d. map entry_of d.tables.entries };
 
-    ghost invariant = { λ d. IsUnique (pointwise nat_eq) d.tables };
+    ghost invariant = { λ d. IsUnique (pointwise nat_eq) d.tables × (d.headings.tables ≡ map heading_of (map entry_of d.tables.entries)) };
 }
 
 impl Db {
@@ -44,6 +45,9 @@ impl Db {
     {
         Db {
             tables: IndexMap::new(alloc),
+            headings: Schema {
+                tables: List::new(alloc),
+            },
         }
     }
 
@@ -53,10 +57,27 @@ impl Db {
     {
         for (key, table) in self.tables.iter() {
             if key.as_str() == name {
-                return Some(table);
+                return Some(table.table());
             }
         }
         None
+    }
+
+    /// The table with this name, shared; none where the name is not there. It is found by a map.
+    pub fn shared(&self, name: &Text) -> Option<&SharedTable>
+        ensures { MatchOption result (find_table self.now name.now ≡ None) (λ t. find_table self.now name.now ≡ Some (view_of name.now t.now)) }
+    {
+        match self.tables.get(name) {
+            Some(table) => Some(table),
+            None => None,
+        }
+    }
+
+    /// The names and columns of the tables, without a copy.
+    pub fn headings(&self) -> &Schema
+        ensures { result.now.tables ≡ map heading_of self.now }
+    {
+        &self.headings
     }
 
     /// The names and columns of the tables.
@@ -68,7 +89,7 @@ impl Db {
     {
         let mut headings = Vec::new(alloc);
         for (name, table) in self.tables.iter() {
-            headings.push(heading(name, table)?)?;
+            headings.push(heading(name, table.table())?)?;
         }
         Ok(Schema {
             tables: List::from_vec(headings),
@@ -84,7 +105,7 @@ impl Db {
     {
         let mut counts = Vec::new(alloc);
         for (name, table) in self.tables.iter() {
-            counts.push(count(name, table)?)?;
+            counts.push(count(name, table.table())?)?;
         }
         Ok(Counts {
             tables: List::from_vec(counts),
@@ -98,28 +119,41 @@ impl Db {
     pub fn with(&self, alloc: Global, name: Text, table: CTable) -> Result<Db, Memory>
         ensures { IfOk result (λ db. db ≡ with_table self.now (view_of name table)) }
     {
-        let mut tables = self.tables.clone()?;
-        let shared = Arc::new(alloc, table)?;
-        tables.insert(name, shared)?;
-        Ok(Db { tables })
+        let copy = Db {
+            tables: self.tables.clone()?,
+            headings: self.schema(alloc)?,
+        };
+        match copy.growing(alloc, Growth::Table { name, table }) {
+            Ok(pending) => Ok(pending.done(alloc)),
+            Err(_) => Err(Memory),
+        }
     }
 
-    /// Puts this table at its name's place, or last where the name is new. The list of the tables is not copied.
+    /// Makes all room for a growth. A table that gets rows is taken out for that: the one that is here, where nobody
+    /// else holds it, else a copy.
     ///
     /// # Errors
-    /// `Memory` where there is none for the table; the tables are then those that were there.
-    pub fn add(&mut self, alloc: Global, name: Text, table: CTable) -> Result<(), Memory>
-        ensures added { OnOk result (self.new ≡ with_table self.old (view_of name table)) }
-        ensures same { OnErr result (self.new ≡ self.old) }
+    /// The database as it was, where there is no memory.
+    pub fn growing(self, alloc: Global, growth: Growth) -> Result<Pending, Db>
+        requires fits { FitsGrowth self growth }
+        ensures before { MatchResult result (λ p. (turn_of p).before ≡ self) (λ same. same ≡ self) }
+        ensures after { IfOk result (λ p. (turn_of p).after ≡ after self growth) }
     {
-        let shared = Arc::new(alloc, table)?;
-        self.tables.insert(name, shared)?;
-        Ok(())
+        match growth {
+            Growth::Table { name, table } => match PendingTable::make(alloc, self, name, table) {
+                Ok(pending) => Ok(Pending::Table(pending)),
+                Err(same) => Err(same),
+            },
+            Growth::Rows { name, puts } => match PendingRows::make(alloc, self, name, puts) {
+                Ok(pending) => Ok(Pending::Rows(pending)),
+                Err(same) => Err(same),
+            },
+        }
     }
 }
 
 /// The name and the columns of a table.
-fn heading(name: &Text, table: &CTable) -> Result<Heading, Memory>
+pub(crate) fn heading(name: &Text, table: &CTable) -> Result<Heading, Memory>
     ensures { IfOk result (λ h. h ≡ heading_of (view_of name.now table.now)) }
 {
     Ok(Heading {

@@ -3,7 +3,7 @@
 ghost use Rattle.std.specs.Prelude.{◌≡◌, ◌≤◌, ◌<◌, ◌+◌, length, nat_eq, IfOk, OnOk};
 ghost use Rattle.ct_table.specs.Merging.{rows_of};
 ghost use Rattle.ct_table.specs.Growing as spec;
-ghost use Rattle.ct_table.specs.Growing.{Keyed, Apart, entries_of, grown, table_of};
+ghost use Rattle.ct_table.specs.Growing.{Keyed, Roomy, Apart, entries_of, grown, table_of};
 
 use crate::table::CTable;
 use ct_word::{CRow, FALSE_PLACE, List, Text};
@@ -50,27 +50,23 @@ impl Put {
     }
 }
 
-/// A table that can change in place. Contracts see its columns, the cells and conditions of its rows, and for how many
-/// more rows it has room.
+/// A table with a map of its rows. Contracts see its columns, and the cells and conditions of its rows.
 #[derive(Drop)]
 pub struct Stored {
-    columns: List<Text>,
-    rows: Vec<CRow>,
+    table: CTable,
     conds: IndexMap<List<u32>, u32>,
 }
 
 impl Model for Stored {
-    ghost use Rattle.std.specs.Prelude.{◌≡◌, ◌-◌, nat_eq, min, vec_capacity, vec_len};
-    ghost use Rattle.std.specs.Cmp.Lexicographic.{pointwise};
-    ghost use Rattle.indexmap.specs.IndexMap.{IsUnique, spare};
+    ghost use Rattle.std.specs.Prelude.{◌≡◌};
     ghost use Rattle.ct_table.specs.Merging.{rows_of};
     ghost use Rattle.ct_table.specs.Growing.{Keyed};
 
     ghost Value = { Keyed };
 
-    ghost view = { λ s. record { columns = s.columns; entries = s.conds.entries; room = min (spare s.conds) (vec_capacity s.rows - vec_len s.rows) } };
+    ghost view = { λ s. record { columns = s.table.columns; entries = s.conds.entries } };
 
-    ghost invariant = { λ s. s.rows.items ≡ rows_of s.conds.entries };
+    ghost invariant = { λ s. s.table.rows ≡ rows_of s.conds.entries };
 }
 
 impl Stored {
@@ -80,33 +76,74 @@ impl Stored {
     /// `AllocError` where there is no memory for the map.
     pub fn make(alloc: Global, table: CTable) -> Result<Stored, AllocError>
         ensures columns { IfOk result (λ s. s.columns ≡ table.columns) }
-        ensures rows { Apart (entries_of table.rows) → IfOk result (λ s. rows_of s.entries ≡ table.rows) }
+        ensures entries { Apart (entries_of table.rows) → IfOk result (λ s. s.entries ≡ entries_of table.rows) }
     {
         let CTable { columns, rows } = table;
         let rows = rows.into_vec();
-        let mut stored = Stored {
+        let mut opened = Opened {
             columns,
             rows: Vec::with_capacity(alloc, rows.len())?,
             conds: IndexMap::with_capacity(alloc, rows.len())?,
         };
         for row in rows {
             let CRow { cells, cond } = row;
-            stored.put(Put::make(cells, cond)?);
+            opened.put(Put::make(cells, cond)?);
         }
-        Ok(stored)
+        Ok(opened.close())
     }
 
     /// The table, without the map of its rows.
-    pub fn into_table(self) -> CTable
-        ensures { result ≡ table_of self }
+    pub fn table(&self) -> &CTable
+        ensures { result.now ≡ table_of self.now }
     {
-        let Stored { columns, rows, .. } = self;
-        CTable {
-            columns,
-            rows: List::from_vec(rows),
-        }
+        &self.table
     }
 
+    /// The condition of the row with these cells.
+    pub(crate) fn find(&self, cells: &List<u32>) -> Option<u32>
+        ensures { result ≡ spec.find cells.now self.now.entries }
+    {
+        self.conds.get(cells).copied()
+    }
+
+    /// The table, to be changed. It takes no memory.
+    pub fn open(self) -> Opened
+        ensures columns { result.columns ≡ self.columns }
+        ensures entries { result.entries ≡ self.entries }
+    {
+        let Stored { table, conds } = self;
+        let CTable { columns, rows } = table;
+        Opened {
+            columns,
+            rows: rows.into_vec(),
+            conds,
+        }
+    }
+}
+
+/// A table that can change in place. Contracts see its columns, the cells and conditions of its rows, and for how many
+/// more rows it has room.
+#[derive(Drop)]
+pub struct Opened {
+    columns: List<Text>,
+    rows: Vec<CRow>,
+    conds: IndexMap<List<u32>, u32>,
+}
+
+impl Model for Opened {
+    ghost use Rattle.std.specs.Prelude.{◌≡◌, ◌-◌, min, vec_capacity, vec_len};
+    ghost use Rattle.indexmap.specs.IndexMap.{spare};
+    ghost use Rattle.ct_table.specs.Merging.{rows_of};
+    ghost use Rattle.ct_table.specs.Growing.{Roomy};
+
+    ghost Value = { Roomy };
+
+    ghost view = { λ s. record { columns = s.columns; entries = s.conds.entries; room = min (spare s.conds) (vec_capacity s.rows - vec_len s.rows) } };
+
+    ghost invariant = { λ s. s.rows.items ≡ rows_of s.conds.entries };
+}
+
+impl Opened {
     /// A condition at cells: in the row that has them, or in a new row.
     fn put(&mut self, put: Put)
         requires room { 0 < self.old.room }
@@ -120,13 +157,6 @@ impl Stored {
             Ok((_, None)) => self.rows.push_reserved(CRow { cells, cond }),
             Err(_) => {}
         }
-    }
-
-    /// The condition of the row with these cells.
-    pub(crate) fn find(&self, cells: &List<u32>) -> Option<u32>
-        ensures { result ≡ spec.find cells.now self.now.entries }
-    {
-        self.conds.get(cells).copied()
     }
 
     /// Makes room for so many more rows, and leaves the table as it is.
@@ -153,6 +183,25 @@ impl Stored {
             if !put.is_void() {
                 self.put(put);
             }
+        }
+    }
+
+    /// The table as it is now. It takes no memory.
+    pub fn close(self) -> Stored
+        ensures columns { result.columns ≡ self.columns }
+        ensures entries { result.entries ≡ self.entries }
+    {
+        let Opened {
+            columns,
+            rows,
+            conds,
+        } = self;
+        Stored {
+            table: CTable {
+                columns,
+                rows: List::from_vec(rows),
+            },
+            conds,
         }
     }
 }

@@ -3,9 +3,8 @@ use Rattle.std.proofs.lemmas.List.{take_more, take_all, length_push, map_push}
 use Rattle.std.proofs.lemmas.Iterator.Adapters.{YieldsList-from_vec}
 use Rattle.std.proofs.lemmas.Iterator.Consumers.{YieldsList-turn, YieldsList-end}
 use Rattle.ct_word.specs.declared.values.CRow.{CRow}
-use Rattle.ct_table.specs.Merging.{rows_of}
 use Rattle.ct_table.specs.Growing.{put, put_each, entries_of}
-use Rattle.ct_table.proofs.Putting.{put_one_more, put_apart, rows_back}
+use Rattle.ct_table.proofs.Putting.{put_one_more, put_apart}
 use Rattle.ct_table.proofs.stored.Stored.make.Goals as goal
 
 pub loop-row-preserved : goal.loop-row-preserved
@@ -26,10 +25,9 @@ loop-row-preserved c =
       room = let one = length_push c.loop-row.yielded r in omega (arith, one, c.loop-row.invariant.room, c.put.ensures.room);
     }
 
-pub returns-clause-rows : goal.returns-clause-rows
-returns-clause-rows c apart =
+pub returns-clause-entries : goal.returns-clause-entries
+returns-clause-entries c apart =
     let rows = c.args.table.rows in
     let e = YieldsList-end (YieldsList-from_vec c.into_vec-rows.result.items (search rules) (search rules)) c.loop-row.yielded _ c.loop-row.yielded_by _ c.next.new.self c.in-None.is c.next.ensures.steps in
     let long : length c.into_vec-rows.result.items ≡ length rows = ap (λ l. length l) c.into_vec-rows.ensures in
-    ap rows_of (c.loop-row.invariant.entries ∙ ap (λ l. put_each [] (entries_of l)) (take_all (length c.loop-row.yielded) rows (omega (arith, e.1, long))) ∙ put_apart [] (entries_of rows) apart)
-    ∙ rows_back rows
+    c.close.ensures.entries ∙ c.loop-row.invariant.entries ∙ ap (λ l. put_each [] (entries_of l)) (take_all (length c.loop-row.yielded) rows (omega (arith, e.1, long))) ∙ put_apart [] (entries_of rows) apart

@@ -4,7 +4,7 @@ use Rattle.ct_table.proofs.stored.Stored.make.Given as goal
 
 abbrev pub invariant-loop-row : goal.invariant-loop-row
 invariant-loop-row l = record {
-  columns : l.stored.columns ≡ l.fn.table.columns;
-  entries : l.stored.entries ≡ put_each [] (entries_of (take (length l.yielded) l.fn.table.rows));
-  room : length l.fn.table.rows ≤ l.stored.room + length l.yielded;
+  columns : l.opened.columns ≡ l.fn.table.columns;
+  entries : l.opened.entries ≡ put_each [] (entries_of (take (length l.yielded) l.fn.table.rows));
+  room : length l.fn.table.rows ≤ l.opened.room + length l.yielded;
 }

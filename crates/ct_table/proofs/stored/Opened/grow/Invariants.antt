@@ -1,6 +1,6 @@
 use Rattle.std.proofs.Common.{◌≡◌, ◌≤◌, ◌+◌, length, take}
 use Rattle.ct_table.specs.Growing.{grown}
-use Rattle.ct_table.proofs.stored.Stored.grow.Given as goal
+use Rattle.ct_table.proofs.stored.Opened.grow.Given as goal
 
 abbrev pub invariant-loop-put : goal.invariant-loop-put
 invariant-loop-put l = record {

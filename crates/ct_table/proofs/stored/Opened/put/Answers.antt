@@ -1,7 +1,7 @@
 use Rattle.std.proofs.Common.{ap, sym, ◌∙◌, ◌++◌, ◌∷◌, [], set, get_or}
 use Rattle.ct_table.specs.Merging.{rows_of}
 use Rattle.ct_table.proofs.Putting.{rows_last, rows_set}
-use Rattle.ct_table.proofs.stored.Stored.put.Goals as goal
+use Rattle.ct_table.proofs.stored.Opened.put.Goals as goal
 
 pub invariant_of-self : goal.invariant_of-self
 invariant_of-self c =

@@ -5,7 +5,7 @@ use Rattle.std.proofs.lemmas.Iterator.Adapters.{YieldsList-from_vec}
 use Rattle.std.proofs.lemmas.Iterator.Consumers.{YieldsList-turn}
 use Rattle.ct_table.specs.Growing.{grown, put}
 use Rattle.ct_table.proofs.Putting.{grown_more}
-use Rattle.ct_table.proofs.stored.Stored.grow.Goals as goal
+use Rattle.ct_table.proofs.stored.Opened.grow.Goals as goal
 
 pub loop-put-preserved-then-not-is_void : goal.loop-put-preserved-then-not-is_void
 loop-put-preserved-then-not-is_void c =

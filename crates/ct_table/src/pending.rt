@@ -1,0 +1,319 @@
+// Growths of a database: a table that is put in, or rows that one gets. All room is there before, so that what
+// follows only moves.
+
+ghost use Rattle.std.specs.Prelude.{◌≡◌, ◌<◌, ◌≤◌, [], nat_eq, map, None, Some, IsSome, MatchOption, MatchResult, IfOk, vec_len, vec_capacity};
+ghost use Rattle.std.specs.Cmp.Lexicographic.{pointwise};
+ghost use Rattle.indexmap.specs.IndexMap.{IsUnique, get, insert_entry, spare};
+ghost use Rattle.ct_table.specs.Denotes.{TableView, heading_of, with_table, find_table};
+ghost use Rattle.ct_table.specs.Pending.{IsApart, put_into, turn_of};
+ghost use Rattle.ct_table.specs.Shared.{view_of, entry_of};
+
+use crate::db::{Db, heading};
+use crate::sharing::{Body, SharedTable};
+use crate::stored::{Opened, Put};
+use crate::table::CTable;
+use ct_query::{Heading, Schema};
+use ct_word::{List, Memory, Text};
+use indexmap::IndexMap;
+use std::alloc::Global;
+use std::marker::Model;
+
+/// How the tables of a database grow: by a table, at its name's place or last, or by conditions that the table of this
+/// name gets at some cells.
+#[derive(Drop)]
+pub enum Growth {
+    Table { name: Text, table: CTable },
+    Rows { name: Text, puts: Vec<Put> },
+}
+
+/// A database that is about to get a table, at its name's place or last.
+#[derive(Drop)]
+pub struct PendingTable {
+    tables: IndexMap<Text, SharedTable>,
+    headings: Vec<Heading>,
+    name: Text,
+    table: SharedTable,
+    heading: Heading,
+}
+
+impl Model for PendingTable {
+    ghost use Rattle.std.specs.Prelude.{◌≡◌, ◌<◌, map, nat_eq, vec_len, vec_capacity};
+    ghost use Rattle.std.specs.Cmp.Lexicographic.{pointwise};
+    ghost use Rattle.indexmap.specs.IndexMap.{IsUnique, spare};
+    ghost use Rattle.ct_table.specs.Denotes.{heading_of, with_table};
+    ghost use Rattle.ct_table.specs.Turn.{Turn};
+    ghost use Rattle.ct_table.specs.Shared.{view_of, entry_of};
+
+    ghost Value = { Turn };
+
+    ghost view = { λ p. record { before = map entry_of p.tables.entries; after = with_table (map entry_of p.tables.entries) (view_of p.name p.table) } };
+
+    ghost invariant = { λ p. IsUnique (pointwise nat_eq) p.tables × (0 < spare p.tables) × (vec_len p.headings < vec_capacity p.headings)
+        × (p.headings.items ≡ map heading_of (map entry_of p.tables.entries)) × (p.heading ≡ heading_of (view_of p.name p.table)) };
+}
+
+/// A database of which one table is taken out, with room for the conditions that it is about to get.
+#[derive(Drop)]
+pub struct PendingRows {
+    tables: IndexMap<Text, SharedTable>,
+    headings: Schema,
+    name: Text,
+    table: Opened,
+    puts: Vec<Put>,
+}
+
+impl Model for PendingRows {
+    ghost use Rattle.std.specs.Prelude.{◌≡◌, ◌≤◌, map, length, nat_eq, IsSome};
+    ghost use Rattle.std.specs.Cmp.Lexicographic.{pointwise};
+    ghost use Rattle.indexmap.specs.IndexMap.{IsUnique, get};
+    ghost use Rattle.ct_table.specs.Denotes.{heading_of, with_table};
+    ghost use Rattle.ct_table.specs.Growing.{grown, table_with};
+    ghost use Rattle.ct_table.specs.Turn.{Turn};
+    ghost use Rattle.ct_table.specs.Shared.{view_of, entry_of};
+
+    ghost Value = { Turn };
+
+    ghost view = { λ p. record {
+      before = with_table (map entry_of p.tables.entries) (view_of p.name (table_with p.table.columns p.table.entries));
+      after = with_table (map entry_of p.tables.entries) (view_of p.name (table_with p.table.columns (grown p.table.entries p.puts.items)));
+    } };
+
+    ghost invariant = { λ p. IsUnique (pointwise nat_eq) p.tables × IsSome (get (pointwise nat_eq) p.tables p.name) × (length p.puts.items ≤ p.table.room)
+        × (p.headings.tables ≡ map heading_of (with_table (map entry_of p.tables.entries) (view_of p.name (table_with p.table.columns p.table.entries)))) };
+}
+
+/// A growth for which all room is there, with its database. It is done, or left undone.
+#[derive(Drop)]
+pub enum Pending {
+    Table(PendingTable),
+    Rows(PendingRows),
+}
+
+impl PendingTable {
+    /// Makes room for a table.
+    ///
+    /// # Errors
+    /// The database as it was, where there is no memory.
+    pub(crate) fn make(alloc: Global, db: Db, name: Text, table: CTable) -> Result<PendingTable, Db>
+        ensures before { MatchResult result (λ p. p.before ≡ db) (λ same. same ≡ db) }
+        ensures after { IfOk result (λ p. p.after ≡ with_table db (view_of name table)) }
+    {
+        let Db {
+            mut tables,
+            headings,
+        } = db;
+        let Ok((table, heading)) = parts(alloc, &name, table) else {
+            return Err(Db { tables, headings });
+        };
+        let mut headings = headings.tables.into_vec();
+        if tables.reserve(1).is_err() || headings.reserve(1).is_err() {
+            return Err(Db {
+                tables,
+                headings: schema_of(headings),
+            });
+        }
+        Ok(PendingTable {
+            tables,
+            headings,
+            name,
+            table,
+            heading,
+        })
+    }
+
+    /// The database with the table.
+    fn done(self) -> Db
+        ensures { result ≡ self.after }
+    {
+        let PendingTable {
+            tables,
+            mut headings,
+            name,
+            table,
+            heading,
+        } = self;
+        headed(&tables, &mut headings, &name, heading);
+        put_back(tables, schema_of(headings), name, table)
+    }
+
+    /// The database as it was.
+    fn undone(self) -> Db
+        ensures { result ≡ self.before }
+    {
+        let PendingTable {
+            tables,
+            headings,
+            ..
+        } = self;
+        Db {
+            tables,
+            headings: schema_of(headings),
+        }
+    }
+}
+
+impl PendingRows {
+    /// Takes the table of this name out, with room for the conditions.
+    ///
+    /// # Errors
+    /// The database as it was, where there is no memory.
+    pub(crate) fn make(alloc: Global, db: Db, name: Text, puts: Vec<Put>) -> Result<PendingRows, Db>
+        requires apart { IsApart (find_table db name) }
+        ensures before { MatchResult result (λ p. p.before ≡ db) (λ same. same ≡ db) }
+        ensures after { IfOk result (λ p. p.after ≡ put_into db name puts.items (find_table db name)) }
+    {
+        let Db {
+            mut tables,
+            headings,
+        } = db;
+        let Some(table) = taken(alloc, &mut tables, &name) else {
+            return Err(Db { tables, headings });
+        };
+        match table.opened(alloc, puts.as_slice().len()) {
+            Ok(table) => Ok(PendingRows {
+                tables,
+                headings,
+                name,
+                table,
+                puts,
+            }),
+            Err(table) => Err(put_back(tables, headings, name, table)),
+        }
+    }
+
+    /// The database with the conditions in its table.
+    fn done(self, alloc: Global) -> Db
+        ensures { result ≡ self.after }
+    {
+        let PendingRows {
+            tables,
+            headings,
+            name,
+            mut table,
+            puts,
+        } = self;
+        table.grow(puts);
+        put_back(
+            tables,
+            headings,
+            name,
+            SharedTable::held(alloc, Body::Keyed(table.close())),
+        )
+    }
+
+    /// The database as it was.
+    fn undone(self, alloc: Global) -> Db
+        ensures { result ≡ self.before }
+    {
+        let PendingRows {
+            tables,
+            headings,
+            name,
+            table,
+            ..
+        } = self;
+        put_back(
+            tables,
+            headings,
+            name,
+            SharedTable::held(alloc, Body::Keyed(table.close())),
+        )
+    }
+}
+
+impl Pending {
+    /// The database after the growth. Memory may be asked for, and is not needed.
+    pub fn done(self, alloc: Global) -> Db
+        ensures { result ≡ (turn_of self).after }
+    {
+        match self {
+            Pending::Table(pending) => pending.done(),
+            Pending::Rows(pending) => pending.done(alloc),
+        }
+    }
+
+    /// The database as it was before the growth. Memory may be asked for, and is not needed.
+    pub fn undone(self, alloc: Global) -> Db
+        ensures { result ≡ (turn_of self).before }
+    {
+        match self {
+            Pending::Table(pending) => pending.undone(),
+            Pending::Rows(pending) => pending.undone(alloc),
+        }
+    }
+}
+
+/// The headings of the tables. It takes no memory.
+fn schema_of(headings: Vec<Heading>) -> Schema
+    ensures { result.tables ≡ headings.items }
+{
+    Schema {
+        tables: List::from_vec(headings),
+    }
+}
+
+/// A table that is to be put in, and its heading.
+///
+/// # Errors
+/// `Memory` where there is none for them.
+fn parts(alloc: Global, name: &Text, table: CTable) -> Result<(SharedTable, Heading), Memory>
+    ensures table { IfOk result (λ p. p.0 ≡ table) }
+    ensures heading { IfOk result (λ p. p.1 ≡ heading_of (view_of name.now table)) }
+{
+    let heading = heading(name, &table)?;
+    let table = SharedTable::make(alloc, table)?;
+    Ok((table, heading))
+}
+
+/// Takes the table of this name, and leaves one without columns and rows in its place.
+fn taken(
+    alloc: Global,
+    tables: &mut IndexMap<Text, SharedTable>,
+    name: &Text,
+) -> Option<SharedTable>
+    requires unique { IsUnique (pointwise nat_eq) tables.old }
+    requires there { IsSome (get (pointwise nat_eq) tables.old name.now) }
+    ensures unique { IsUnique (pointwise nat_eq) tables.new }
+    ensures found { MatchOption result (tables.new.entries ≡ tables.old.entries) (λ t. get (pointwise nat_eq) tables.old name.now ≡ Some t) }
+    ensures left { MatchOption result (tables.new.entries ≡ tables.old.entries) (λ t. tables.new.entries ≡ insert_entry (pointwise nat_eq) tables.old.entries name.now (record { columns = []; rows = [] })) }
+{
+    let Ok(key) = name.clone() else {
+        return None;
+    };
+    let Ok(old) = tables.insert(key, SharedTable::empty(alloc)) else {
+        return None;
+    };
+    old
+}
+
+/// The headings with that of a table of this name: at its name's place, or last. It takes no memory.
+fn headed(
+    tables: &IndexMap<Text, SharedTable>,
+    headings: &mut Vec<Heading>,
+    name: &Text,
+    heading: Heading,
+)
+    requires room { vec_len headings.old < vec_capacity headings.old }
+    requires headings { headings.old.items ≡ map heading_of (map entry_of tables.now.entries) }
+    ensures { (t : TableView) → t.name ≡ name.now → heading ≡ heading_of t → headings.new.items ≡ map heading_of (with_table (map entry_of tables.now.entries) t) }
+{
+    match tables.get_index_of(name) {
+        Some(place) => headings[place] = heading,
+        None => headings.push_reserved(heading),
+    }
+}
+
+/// The database with this table at the place of its name, or last. It takes no memory.
+fn put_back(
+    mut tables: IndexMap<Text, SharedTable>,
+    headings: Schema,
+    name: Text,
+    table: SharedTable,
+) -> Db
+    requires room { get (pointwise nat_eq) tables name ≡ None → 0 < spare tables }
+    requires headings { headings.tables ≡ map heading_of (with_table (map entry_of tables.entries) (view_of name table)) }
+    ensures { result ≡ with_table (map entry_of tables.entries) (view_of name table) }
+{
+    drop(tables.insert(name, table));
+    Db { tables, headings }
+}
