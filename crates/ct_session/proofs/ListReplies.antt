@@ -10,7 +10,7 @@ use Rattle.ct_word.specs.StandsFor.{StandsFor}
 use Rattle.ct_word.proofs.Prefixes.{prefix_of_prefix, commits_prefix}
 use Rattle.ct_query.specs.declared.action.Ask.TheVariants as ask
 use Rattle.ct_query.specs.Plain as plain
-use Rattle.ct_query.specs.Plain.{PlainQuery}
+use Rattle.ct_query.specs.Plain.{PlainQuery, PlainStatement}
 use Rattle.ct_rewrite.specs.declared.answer.PossibleRow.{PossibleRow}
 use Rattle.ct_rewrite.specs.declared.answer.CertainRow.{CertainRow}
 use Rattle.ct_transcript.specs.declared.reply.Reply.{Reply}
@@ -25,7 +25,8 @@ use Rattle.ct_session.specs.State.{SessionState}
 use Rattle.ct_session.specs.Seeing.{Sees}
 use Rattle.ct_session.specs.LawfulReply.{IsPossible, IsCertain, LawfulReply}
 use Rattle.ct_session.specs.Answers.{Answers, GoesOn, commits_by}
-use Rattle.ct_session.specs.Catalogue.{resolved_at}
+use Rattle.ct_session.specs.Catalogue.{resolved_at, IsPrepared, IsPreparedText}
+use Rattle.ct_session.specs.declared.session.Prepared.TheVariants as prepared
 use Rattle.ct_session.proofs.Going.{state_at, prefix_short, IsOnward, onward}
 use Rattle.ct_session.proofs.Listed.{possible_kept, certain_kept, certain_longer}
 use Rattle.ct_session.proofs.Offers.{stays}
@@ -103,3 +104,31 @@ module _ (N : ℕ) (words start now : List ℕ) (fresh : ℕ) (x : List ℕ) (fi
       full = λ e. absurd (false≢true e);
       not_full = λ some. absurd (false≢true some);
     }
+
+    -- a text that asks for possible rows
+    pub possible_answers : (columns : List (List ℕ)) (list : List PossibleRow) → IsPreparedText h now fresh x (prepared.Possible columns list) → Answers N s s words now x (reply.Possible (length h) 0 columns list)
+    possible_answers columns list p = by_asked p.prepared.asked p.prepared.resolves p.prepared.prepared where
+      by_asked : (asked : PlainStatement) → resolved_at h fresh p.statement ≡ Ok asked → IsPrepared h now fresh asked (prepared.Possible columns list)
+          → Answers N s s words now x (reply.Possible (length h) 0 columns list)
+      by_asked (plain.Asks ask.Possible cs q) resolves o =
+          answers_possible p.statement columns q list p.reads p.prepared.built (resolves ∙ ap (λ c. Ok (plain.Asks ask.Possible c q)) (sym o.0)) o.1
+      by_asked (plain.Asks ask.Rows cs q) resolves o = absurd o
+      by_asked (plain.Asks ask.Certain cs q) resolves o = absurd o
+      by_asked (plain.Act a) resolves o = absurd o
+      by_asked plain.Begin resolves o = absurd o
+      by_asked plain.Commit resolves o = absurd o
+      by_asked plain.Rollback resolves o = absurd o
+
+    -- a text that asks for certain tuples
+    pub certain_answers : (columns : List (List ℕ)) (list : List CertainRow) → IsPreparedText h now fresh x (prepared.Certain columns list) → Answers N s s words now x (reply.Certain (length h) 0 columns list)
+    certain_answers columns list p = by_asked p.prepared.asked p.prepared.resolves p.prepared.prepared where
+      by_asked : (asked : PlainStatement) → resolved_at h fresh p.statement ≡ Ok asked → IsPrepared h now fresh asked (prepared.Certain columns list)
+          → Answers N s s words now x (reply.Certain (length h) 0 columns list)
+      by_asked (plain.Asks ask.Certain cs q) resolves o =
+          answers_certain p.statement columns q list p.reads p.prepared.built (resolves ∙ ap (λ c. Ok (plain.Asks ask.Certain c q)) (sym o.0)) o.1
+      by_asked (plain.Asks ask.Rows cs q) resolves o = absurd o
+      by_asked (plain.Asks ask.Possible cs q) resolves o = absurd o
+      by_asked (plain.Act a) resolves o = absurd o
+      by_asked plain.Begin resolves o = absurd o
+      by_asked plain.Commit resolves o = absurd o
+      by_asked plain.Rollback resolves o = absurd o

@@ -17,7 +17,7 @@ use crate::built::is_built;
 use crate::creating::offer_table;
 use crate::inserting::offer_rows;
 use crate::reading::read;
-use crate::selecting::answer_query;
+use crate::replying::answer_to;
 use crate::session::{Prepared, SESSION, Session, caught_up, commit, version};
 use ct_arena::{Arena, Pass, Site};
 use ct_parse::Statement;
@@ -46,6 +46,7 @@ fn named(e: ResolveError) -> Refusal
 ///
 /// # Errors
 /// `TooLarge` for a query that goes through too many rows, `Full` where the log has no room, `Memory`.
+#[tactic(auto, using(crate::proofs::BuiltForms::not_insert_query, crate::proofs::BuiltForms::not_delete, crate::proofs::BuiltForms::not_assert, crate::proofs::BuiltForms::not_begin, crate::proofs::BuiltForms::not_commit, crate::proofs::BuiltForms::not_rollback))]
 fn perform<N: Site>(
     alloc: Global,
     arena: &Arena<N>,
@@ -83,18 +84,23 @@ fn perform<N: Site>(
             Ok(Prepared::Commit(offer))
         }
         Resolved::Ask {
-            ask: _rows,
+            ask,
             columns,
             query,
         } => {
-            let answered = answer_query(alloc, arena, pass, tables, columns, &query);
+            let answered = answer_to(alloc, arena, pass, tables, ask, columns, &query);
             drop(query);
             match answered {
-                Ok(answer) => Ok(Prepared::Answer(answer)),
+                Ok(prepared) => Ok(prepared),
                 Err(why) => Err(why),
             }
         }
-        _ => unreachable!(),
+        Resolved::Act(Action::InsertQuery { .. }) => unreachable!(),
+        Resolved::Act(Action::Delete { .. }) => unreachable!(),
+        Resolved::Act(Action::Assert(_)) => unreachable!(),
+        Resolved::Begin => unreachable!(),
+        Resolved::Commit => unreachable!(),
+        Resolved::Rollback => unreachable!(),
     }
 }
 
@@ -173,7 +179,7 @@ fn prepare<N: Site>(
 ///
 /// The reply is
 /// - `Committed` where the text asks for a change, at the number of its commit, which is one more than those before;
-/// - `Rows` where it asks for an answer, at the number of commits so far;
+/// - `Rows`, `Possible` or `Certain` where it asks for an answer, at the number of commits so far;
 /// - `Refused`, at that number too, for the first cause that holds: `NumberRange`, `NotAStatement` or `TooDeep` where the
 ///   text is read as no statement, as `read` says; a name or a count that does not fit; `NotYet` where the statement is
 ///   of a form that is not built; `TooLarge` where a part of the query goes through too many rows; `Full` where the log
@@ -219,6 +225,28 @@ pub fn execute<N: Site>(
             let _words = session.pass.words();
             let plus = 0;
             (session, Reply::Rows { at, plus, answer })
+        }
+        Ok(Prepared::Possible { columns, list }) => {
+            let _words = session.pass.words();
+            let plus = 0;
+            let reply = Reply::Possible {
+                at,
+                plus,
+                columns,
+                rows: list,
+            };
+            (session, reply)
+        }
+        Ok(Prepared::Certain { columns, list }) => {
+            let _words = session.pass.words();
+            let plus = 0;
+            let reply = Reply::Certain {
+                at,
+                plus,
+                columns,
+                rows: list,
+            };
+            (session, reply)
         }
         Err(why) => {
             let _words = session.pass.words();

@@ -10,6 +10,7 @@ mod inserting;
 mod lists;
 mod printing;
 mod reading;
+mod replying;
 mod selecting;
 mod session;
 

@@ -8,9 +8,10 @@ ghost use Rattle.ct_word.specs.Reading.{commits_of};
 ghost use Rattle.ct_session.specs.Catalogue.{IsCatalogue, IsReady, CommitOf, wanting};
 
 use ct_arena::{Arena, KeeperPass, Pass, Site};
-use ct_rewrite::Commit;
+use ct_rewrite::{CertainRow, Commit, PossibleRow};
 use ct_table::{Db, TableError};
 use ct_transcript::{Answer, Refusal, Reply};
+use ct_word::{List, Text};
 
 /// The number of the one session.
 pub const SESSION: u32 = 1;
@@ -40,11 +41,20 @@ pub struct Offer {
     pub fresh: u32,
 }
 
-/// What a statement asks for, ready to be given: an offer to be committed, or an answer.
+/// What a statement asks for, ready to be given: an offer to be committed, an answer, or a list under the names of its
+/// columns.
 #[derive(Drop)]
 pub enum Prepared {
     Commit(Offer),
     Answer(Answer),
+    Possible {
+        columns: List<Text>,
+        list: List<PossibleRow>,
+    },
+    Certain {
+        columns: List<Text>,
+        list: List<CertainRow>,
+    },
 }
 
 /// The version after these commits: how many they are.

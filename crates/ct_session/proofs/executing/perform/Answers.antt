@@ -1,14 +1,14 @@
 use Rattle.std.proofs.Common.{[], refl, ap, sym, subst, ◌∙◌}
 use Rattle.ct_query.specs.declared.action.Resolved.TheVariants as resolved
 use Rattle.ct_query.specs.Plain as plain
-use Rattle.ct_query.specs.Views.{statement_of, query_of}
+use Rattle.ct_query.specs.Views.{statement_of}
 use Rattle.ct_query.specs.Schema.{schema}
 use Rattle.ct_query.specs.Fits.{FitsStatement}
 use Rattle.ct_word.specs.Reading.{commits_of}
 use Rattle.ct_session.specs.Built.{IsPlainBuilt}
 use Rattle.ct_session.specs.Catalogue.{IsPrepared, IsOfferFor, IsUnmet, IsWritable}
 use Rattle.ct_session.specs.declared.session.Prepared.TheVariants as prepared
-use Rattle.ct_session.proofs.BuiltForms.{always, asks_rows}
+use Rattle.ct_session.proofs.BuiltForms.{always}
 use Rattle.ct_session.proofs.Offering.{not_there, is_there, widths_there}
 use Rattle.ct_session.proofs.executing.perform.Goals as goal
 
@@ -48,22 +48,11 @@ returns-in_ok-offer-in-Act-InsertRows-clause-ok g c =
 
 pub returns-in-Ok-clause-ok : goal.returns-in-Ok-clause-ok
 returns-in-Ok-clause-ok g c =
-    let h = commits_of c.args.pass.now.words in
-    let words = c.answer_query-answered.new.pass.words in
-    let answer = c.in-Ok.answer in
-    subst (λ r. IsPrepared h words c.args.fresh (statement_of r) (prepared.Answer answer)) (sym c.in-Ask.is)
-    (subst (λ k. IsPrepared h words c.args.fresh (plain.Asks k c.in-Ask.columns (query_of c.in-Ask.query)) (prepared.Answer answer))
-    (sym (asks_rows (subst (λ r. IsPlainBuilt (statement_of r)) c.in-Ask.is c.requires.built)))
-    c.in-Ok.ensures.ok)
+    subst (λ r. IsPrepared (commits_of c.args.pass.now.words) c.answer_to-answered.new.pass.words c.args.fresh (statement_of r) c.in-Ok.prepared) (sym c.in-Ask.is) (c.in-Ok.ensures.ok c.args.fresh)
 
 pub returns-in-Err-clause-err : goal.returns-in-Err-clause-err
 returns-in-Err-clause-err g c =
-    let h = commits_of c.args.pass.now.words in
-    let words = c.answer_query-answered.new.pass.words in
-    subst (λ r. IsUnmet h g.N.Site.log.cap words (statement_of r) c.in-Err.why) (sym c.in-Ask.is)
-    (subst (λ k. IsUnmet h g.N.Site.log.cap words (plain.Asks k c.in-Ask.columns (query_of c.in-Ask.query)) c.in-Err.why)
-    (sym (asks_rows (subst (λ r. IsPlainBuilt (statement_of r)) c.in-Ask.is c.requires.built)))
-    c.in-Err.ensures.err)
+    subst (λ r. IsUnmet (commits_of c.args.pass.now.words) g.N.Site.log.cap c.answer_to-answered.new.pass.words (statement_of r) c.in-Err.why) (sym c.in-Ask.is) c.in-Err.ensures.err
 
 pub offer_table-requires-clause-written : goal.offer_table-requires-clause-written
 offer_table-requires-clause-written g c = (subst (λ r. IsWritable (statement_of r)) (c.in-Act-Create.is ∙ ap resolved.Act c.in-Act-Create.field-0-is) c.requires.written).writes
