@@ -97,7 +97,7 @@ fn perform<N: Site>(
         }
         Resolved::Act(Action::InsertQuery { .. }) => unreachable!(),
         Resolved::Act(Action::Delete { .. }) => unreachable!(),
-        Resolved::Act(Action::Assert(_)) => unreachable!(),
+        Resolved::Act(Action::Assert { .. }) => unreachable!(),
         Resolved::Begin => unreachable!(),
         Resolved::Commit => unreachable!(),
         Resolved::Rollback => unreachable!(),
