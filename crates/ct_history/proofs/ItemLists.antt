@@ -1,5 +1,5 @@
 -- The items of lists in the log, and what the lists stand for.
-use Rattle.std.proofs.Common.{◌≡◌, ◌≢◌, ℕ, zero, suc, ◌+◌, ◌<◌, Bool, true, false, ◌||◌, List, [], ◌∷◌, ◌++◌, map, length, Some, refl, ap, sym, subst, ◌∙◌, arith, inl, inr}
+use Rattle.std.proofs.Common.{◌≡◌, ℕ, zero, suc, ◌<◌, Bool, true, false, ◌||◌, List, [], ◌∷◌, ◌++◌, map, refl, ap, sym, subst, ◌∙◌, arith}
 use Rattle.std.specs.Prelude.{IsTrue, All, reverse}
 use Rattle.std.proofs.lemmas.List.{append_assoc, reverse-append}
 use Rattle.std.proofs.lemmas.Bool.{false≢true, or_left, or_right}
@@ -7,9 +7,7 @@ use Rattle.ct_word.specs.declared.kinds.Kind.{Kind}
 use Rattle.ct_word.specs.declared.kinds.Kind.TheVariants as kind
 use Rattle.ct_word.specs.declared.kinds.Class.{Class}
 use Rattle.ct_word.specs.declared.kinds.Class.TheVariants as class
-use Rattle.ct_word.specs.declared.values.Term.{Term}
 use Rattle.ct_word.specs.declared.reading.Word.{Word}
-use Rattle.ct_word.specs.Change.{PlainRow, PlainChange}
 use Rattle.ct_word.specs.Reading.{as_row, as_row_list, as_name_list, as_change_list, as_cond_row, term_at, condition_at, change_list_at}
 use Rattle.ct_word.specs.WellFormed.{is_place_of, same_class, class_of}
 use Rattle.ct_word.specs.WordAt.{IsWordAt, text_at}

@@ -1,5 +1,7 @@
+pub mod Encoded
 pub mod ItemLists
 pub mod Lists
+pub mod Named
 pub mod Printed
 pub mod Rows
 pub mod Writers

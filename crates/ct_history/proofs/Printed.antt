@@ -1,6 +1,6 @@
 -- Printed changes stand for those of the log.
-use Rattle.std.proofs.Common.{◌≡◌, ◌≢◌, ℕ, zero, suc, ◌+◌, ◌<◌, ◌≤◌, Bool, true, false, ◌&&◌, List, [], ◌∷◌, ◌++◌, map, length, take, drop, get_or, Some, refl, ap, sym, subst, ◌∙◌, arith}
-use Rattle.std.specs.Prelude.{IsTrue, All, flat_map, filter_map}
+use Rattle.std.proofs.Common.{◌≡◌, ℕ, suc, Bool, true, List, [], ◌∷◌, ◌++◌, map, length, take, drop, refl, ap, sym, ◌∙◌}
+use Rattle.std.specs.Prelude.{IsTrue, All, flat_map}
 use Rattle.std.specs.List.{AllZip, list_all}
 use Rattle.std.proofs.lemmas.Bool.{false≢true, and_parts, and_from}
 use Rattle.std.proofs.lemmas.List.Elements.{All-head, All-tail}
@@ -11,15 +11,13 @@ use Rattle.ct_word.specs.declared.values.CRow.{CRow}
 use Rattle.ct_word.specs.declared.reading.Word.{Word}
 use Rattle.ct_word.specs.Condition.{SameTruth}
 use Rattle.ct_word.specs.Change.{PlainCommit}
-use Rattle.ct_word.specs.Reading.{IsCommit, as_commit, meanings, condition_at, change_list_at, plain_crow}
+use Rattle.ct_word.specs.Reading.{condition_at, plain_crow}
 use Rattle.ct_word.specs.StandsFor.{SameRows, SameChange, SameChanges, SameCommits}
 use Rattle.ct_word.specs.WellFormed.{is_place_of, same_class, class_of}
 use Rattle.ct_word.specs.WordAt.{IsWordAt}
 use Rattle.ct_rewrite.specs.declared.answer.Node.{Node}
-use Rattle.ct_rewrite.specs.declared.history.Commit.{Commit}
 use Rattle.ct_rewrite.specs.Nodes.{node_condition, is_position}
-use Rattle.ct_rewrite.specs.History.{plain_row, plain_change, plain_commit, is_change_placed}
-use Rattle.ct_history.specs.Commits.{IsCommitAt}
+use Rattle.ct_rewrite.specs.History.{plain_row, plain_change, is_change_placed}
 use Rattle.ct_history.specs.Printed.{conds_of, rows_with, change_with, changes_with}
 use Rattle.ct_history.specs.Rows.{IsRowOf}
 use Rattle.ct_history.specs.Written.{plain_written, IsWritten}

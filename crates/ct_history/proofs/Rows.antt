@@ -1,7 +1,7 @@
 -- Rows of the log: one more cell, one more row, a condition over cells, the insertion of rows.
-use Rattle.std.proofs.Common.{◌≡◌, ◌<◌, ◌+◌, ℕ, List, [], ◌∷◌, ◌++◌, Some, map, take, length, get_or, refl, ap, sym, subst, ◌∙◌}
+use Rattle.std.proofs.Common.{◌≡◌, ◌<◌, ◌≤◌, ◌+◌, arith, inl, inr, ℕ, List, [], ◌∷◌, ◌++◌, Some, map, take, length, get_or, refl, ap, sym, subst, ◌∙◌}
 use Rattle.std.proofs.lemmas.List.{map_more}
-use Rattle.std.proofs.lemmas.List.Elements.{All-head, All-tail, All-get_or}
+use Rattle.std.proofs.lemmas.List.Elements.{All-head, All-tail, All-get_or, All-weaker}
 use Rattle.std.specs.Prelude.{IsTrue, All}
 use mathlib.Core.List.{IsPrefix}
 use Rattle.ct_word.specs.declared.kinds.Class.TheVariants as class
@@ -12,8 +12,9 @@ use Rattle.ct_word.specs.Change.{PlainRow, Insert}
 use Rattle.ct_word.specs.Reading.{IsText, IsRow, IsCondRow, IsRowList, IsChange, as_text, as_row, as_cond_row, as_row_list, by_kind, meanings, term_at, plain_crow}
 use Rattle.ct_word.specs.Stands.{StandsAt}
 use Rattle.ct_word.specs.WellFormed.{is_place_of}
-use Rattle.ct_word.proofs.Prefixes.{stands_in_prefix, term_in_prefix, condition_in_prefix, place_within}
-use Rattle.ct_history.specs.Rows.{AreTerms, IsRowOf}
+use Rattle.ct_word.proofs.Prefixes.{stands_in_prefix, term_in_prefix, condition_in_prefix, place_in_prefix, place_within}
+use Rattle.ct_arena.specs.Seen.{CountsWord}
+use Rattle.ct_history.specs.Rows.{AreTerms, IsNoRow, IsRowOf}
 
 -- places of terms stand for the same terms in more words
 terms_grow : (ws xs : List ℕ) → IsPrefix ws xs → (ps : List ℕ) → AreTerms ws ps → map (term_at xs) ps ≡ map (term_at ws) ps
@@ -80,3 +81,23 @@ rows_one ws xs rows i r grown all lt at =
     map_more (plain_crow ws) rows i r lt
     ∙ ap (λ y. map (plain_crow ws) (take i rows) ++ plain_crow ws y ∷ []) (sym at)
     ∙ ap (λ y. map (plain_crow ws) (take i rows) ++ y ∷ []) (sym (row_grows ws xs grown r is))
+
+-- the row without cells stays where it stands
+pub no_row_later : (ws xs : List ℕ) (p : ℕ) → IsPrefix ws xs → IsNoRow ws p → IsNoRow xs p
+no_row_later ws xs p longer is = record {
+  stands = stands_in_prefix ws xs p _ longer (place_within ws class.Row p is.class) is.stands;
+  class = place_in_prefix ws xs class.Row p longer is.class;
+  small = is.small;
+}
+
+-- a word that was put raised the count by one at most
+pub counted : (a b : ℕ) (ws : List ℕ) (w : ℕ) → CountsWord a b ws w → b ≤ a + 1
+counted a b ws w (inl e) = omega (arith, e)
+counted a b ws w (inr e) = omega (arith, e.0)
+
+-- a row of places stays one in more words
+pub row_later : (ws xs : List ℕ) → IsPrefix ws xs → (r : CRow) → IsRowOf ws r → IsRowOf xs r
+row_later ws xs longer r is = record {
+  terms = All-weaker (λ p. IsTrue (is_place_of ws class.Term p)) (λ p. IsTrue (is_place_of xs class.Term p)) (λ p e. place_in_prefix ws xs class.Term p longer e) r.cells is.terms;
+  condition = place_in_prefix ws xs class.Cond r.cond longer is.condition;
+}

@@ -1,7 +1,7 @@
 -- The commit at a place, as it is printed.
-use Rattle.std.specs.Prelude.{◌≡◌, ℕ, List, Some, slice_get}
+use Rattle.std.specs.Prelude.{◌≡◌, ℕ, List}
 use Rattle.ct_word.specs.Change.{PlainCommit}
-use Rattle.ct_word.specs.Reading.{IsCommit, meanings}
+use Rattle.ct_word.specs.Reading.{IsCommit}
 use Rattle.ct_word.specs.Stands.{StandsAt}
 use Rattle.ct_word.specs.StandsFor.{SameChanges}
 use Rattle.ct_rewrite.specs.declared.history.Commit.{Commit}

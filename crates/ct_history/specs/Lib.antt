@@ -1,4 +1,5 @@
 pub mod Commits
+pub mod Encodes
 pub mod Items
 pub mod Kept
 pub mod Places

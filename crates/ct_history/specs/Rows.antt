@@ -1,7 +1,12 @@
 -- Rows of places that can be put into the log.
-use Rattle.std.specs.Prelude.{ℕ, List, All, IsTrue}
+use Rattle.std.specs.Prelude.{◌<◌, ◌^◌, ℕ, List, [], All, IsTrue}
 use Rattle.ct_word.specs.declared.kinds.Class.TheVariants as class
 use Rattle.ct_word.specs.declared.values.CRow.{CRow}
+use Rattle.ct_word.specs.declared.values.Term.{Term}
+use Rattle.ct_word.specs.Condition.{Condition}
+use Rattle.ct_word.specs.Change.{PlainRow}
+use Rattle.ct_word.specs.Reading.{IsRow}
+use Rattle.ct_word.specs.Stands.{StandsAt}
 use Rattle.ct_word.specs.WellFormed.{is_place_of}
 
 -- these are places of terms
@@ -12,3 +17,13 @@ AreTerms words places = All (λ p. IsTrue (is_place_of words class.Term p)) plac
 pub record IsRowOf (words : List ℕ) (r : CRow) : Type 0 where
   pub terms : AreTerms words r.cells
   pub condition : IsTrue (is_place_of words class.Cond r.cond)
+
+-- a place stands for the row without cells
+pub record IsNoRow (words : List ℕ) (start : ℕ) : Type 0 where
+  pub stands : StandsAt words start (IsRow [])
+  pub class : IsTrue (is_place_of words class.Row start)
+  pub small : start < 2 ^ 28
+
+-- a row of terms under a condition
+abbrev pub row_under : Condition → List Term → PlainRow
+row_under c cells = record { cells = cells; condition = c }

@@ -1,12 +1,13 @@
 // Change lists, put into the log word by word.
 
-ghost use Rattle.std.specs.Prelude.{◌≡◌, ◌<◌, ◌^◌, [], ◌∷◌, ◌++◌, length, IfOk, OnErr, IsTrue};
+ghost use Rattle.std.specs.Prelude.{◌≡◌, ◌≤◌, ◌<◌, ◌+◌, ◌^◌, [], ◌∷◌, ◌++◌, length, sum_by, IfOk, OnErr, IsTrue};
 ghost use mathlib.Core.List.{IsPrefix};
 ghost use Rattle.ct_word.specs.declared.kinds.Class.TheVariants as class;
 ghost use Rattle.ct_word.specs.Change.{Create};
 ghost use Rattle.ct_word.specs.Reading.{IsNameList, IsChangeList, change_list_at};
 ghost use Rattle.ct_word.specs.Stands.{StandsAt};
 ghost use Rattle.ct_word.specs.WellFormed.{is_place_of};
+ghost use Rattle.ct_history.specs.Encodes.{name_words};
 ghost use Rattle.ct_history.specs.Kept.{kept_of};
 
 use ct_arena::{Arena, Full, Pass, Site};
@@ -23,6 +24,8 @@ pub fn no_changes<N: Site>(arena: &Arena<N>, pass: &mut Pass<N>) -> Result<u32, 
     ensures small { IfOk result (λ place. place < 2 ^ 28) }
     ensures longer { IsPrefix pass.old.words pass.new.words }
     ensures full { OnErr result (length pass.new.words ≡ N.log.cap) }
+    ensures made { pass.new.made ≤ pass.old.made + 1 }
+    ensures err { OnErr result (pass.new.made ≡ pass.old.made) }
     ensures kept { kept_of pass.new ≡ kept_of pass.old }
 {
     put(arena, pass, Kind::ChangesEnd, 0, 0)
@@ -35,6 +38,8 @@ fn names<N: Site>(arena: &Arena<N>, pass: &mut Pass<N>, names: &[Text]) -> Resul
     ensures small { IfOk result (λ place. place < 2 ^ 28) }
     ensures longer { IsPrefix pass.old.words pass.new.words }
     ensures full { OnErr result (length pass.new.words ≡ N.log.cap) }
+    ensures made { pass.new.made ≤ pass.old.made + (sum_by name_words names.now + 1) }
+    ensures err { OnErr result (pass.new.made < pass.old.made + (sum_by name_words names.now + 1)) }
     ensures kept { kept_of pass.new ≡ kept_of pass.old }
 {
     let mut place = put(arena, pass, Kind::NamesEnd, 0, 0)?;
@@ -63,6 +68,8 @@ pub fn create<N: Site>(
     ensures small { IfOk result (λ place. place < 2 ^ 28) }
     ensures longer { IsPrefix pass.old.words pass.new.words }
     ensures full { OnErr result (length pass.new.words ≡ N.log.cap) }
+    ensures made { pass.new.made ≤ pass.old.made + (sum_by name_words (name.now ∷ columns.now) + 2) }
+    ensures err { OnErr result (pass.new.made < pass.old.made + (sum_by name_words (name.now ∷ columns.now) + 2)) }
     ensures kept { kept_of pass.new ≡ kept_of pass.old }
 {
     let table = text(arena, pass, name)?;

@@ -2,6 +2,7 @@
 #![tactic(auto)]
 
 mod changes;
+mod encoding;
 mod insertion;
 mod items;
 mod latest;
@@ -10,6 +11,7 @@ mod words;
 mod written;
 
 pub use changes::{create, no_changes};
+pub use encoding::encode;
 pub use insertion::insert;
 pub use latest::last;
 pub use printing::commits;

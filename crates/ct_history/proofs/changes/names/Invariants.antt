@@ -1,10 +1,11 @@
-use Rattle.std.proofs.Common.{◌≡◌, ◌<◌, ◌^◌, take}
-use Rattle.std.specs.Prelude.{IsTrue}
+use Rattle.std.proofs.Common.{◌≡◌, ◌<◌, ◌^◌, ◌≤◌, ◌+◌, take}
+use Rattle.std.specs.Prelude.{IsTrue, sum_by}
 use mathlib.Core.List.{IsPrefix}
 use Rattle.ct_word.specs.declared.kinds.Class.TheVariants as class
 use Rattle.ct_word.specs.Reading.{IsNameList}
 use Rattle.ct_word.specs.Stands.{StandsAt}
 use Rattle.ct_word.specs.WellFormed.{is_place_of}
+use Rattle.ct_history.specs.Encodes.{name_words}
 use Rattle.ct_history.specs.Kept.{kept_of}
 use Rattle.ct_history.proofs.changes.names.Given as goal
 
@@ -14,5 +15,6 @@ invariant-loop-name g l = record {
   class : IsTrue (is_place_of l.pass.words class.NameList l.place);
   small : l.place < 2 ^ 28;
   longer : IsPrefix l.fn.pass.words l.pass.words;
+  made : l.pass.made ≤ l.fn.pass.made + (sum_by name_words (take l.name-index l.names) + 1);
   kept : kept_of l.pass ≡ kept_of l.fn.pass;
 }

@@ -1,4 +1,4 @@
-use Rattle.std.proofs.Common.{◌≡◌, ◌<◌, ◌^◌, take, map}
+use Rattle.std.proofs.Common.{◌≡◌, ◌<◌, ◌^◌, ◌≤◌, ◌+◌, take, map}
 use Rattle.std.specs.Prelude.{IsTrue}
 use mathlib.Core.List.{IsPrefix}
 use Rattle.ct_word.specs.declared.kinds.Class.TheVariants as class
@@ -14,5 +14,6 @@ invariant-loop-cell g l = record {
   class : IsTrue (is_place_of l.pass.words class.Row l.place);
   small : l.place < 2 ^ 28;
   longer : IsPrefix l.fn.pass.words l.pass.words;
+  made : l.pass.made ≤ l.fn.pass.made + l.cell-index;
   kept : kept_of l.pass ≡ kept_of l.fn.pass;
 }

@@ -1,4 +1,4 @@
-use Rattle.std.proofs.Common.{[], ◌++◌, ◌∷◌, ap, sym, subst, refl, ◌∙◌}
+use Rattle.std.proofs.Common.{[], sym, subst, ◌∙◌}
 use Rattle.ct_history.specs.Items.{AreItems, ended}
 use Rattle.ct_history.proofs.ItemLists.{behind, items_behind}
 use Rattle.ct_history.proofs.items.items.Goals as goal

@@ -1,13 +1,9 @@
-use Rattle.std.proofs.Common.{sym, ◌∙◌, ap, ◌+◌, arith, length, take, ◌++◌, ◌∷◌, [], Some, subst, length-append}
-use Rattle.std.specs.Prelude.{filter_map, if◌then◌else◌}
-use Rattle.std.proofs.lemmas.List.{append-nil}
-use Rattle.ct_word.specs.declared.kinds.Kind.TheVariants as kind
-use Rattle.ct_word.specs.Reading.{as_commit, meanings, by_kind, commits_of}
-use Rattle.ct_word.proofs.Spelling.{of_kind}
+use Rattle.std.proofs.Common.{sym, ◌∙◌, ap, ◌+◌, arith, length, []}
+use Rattle.std.specs.Prelude.{if◌then◌else◌}
+use Rattle.ct_word.specs.Reading.{meanings}
 use Rattle.ct_word.proofs.Growth.{length-read}
 use Rattle.ct_query.specs.Reads.{last}
-use Rattle.ct_query.proofs.Laws.{last_commit}
-use Rattle.ct_history.proofs.Writers.{commits_more, no_commit, first_commits, all_commits, commits_to, next_commit, no_next}
+use Rattle.ct_history.proofs.Writers.{first_commits, all_commits, commits_to, next_commit, no_next}
 use Rattle.ct_history.proofs.latest.last.Goals.{in-Commit+then-list_writes, in-Commit+else-list_writes, in_default}
 use Rattle.ct_history.proofs.latest.last.Goals as goal
 

@@ -1,4 +1,4 @@
-use Rattle.std.proofs.Common.{◌≡◌, ◌+◌, ◌∙◌, ◌++◌, ◌∷◌, [], ap, map, sym, subst, take, arith}
+use Rattle.std.proofs.Common.{◌+◌, ◌∙◌, ◌++◌, ◌∷◌, [], ap, map, sym, subst, arith}
 use Rattle.std.specs.Prelude.{filter_map}
 use Rattle.std.proofs.lemmas.List.{take_all}
 use Rattle.ct_word.specs.Reading.{IsCommit, as_commit, meanings}
