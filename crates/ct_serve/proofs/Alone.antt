@@ -122,7 +122,7 @@ opens words p = ap (take 2) (sym p.1)
 module _ (N : ℕ) (history : List Commit) (fresh : ℕ) (words : List ℕ) (pass : Seen) (keeper : Keeping) (tables : List TableView) (k : IsCatalogue pass keeper tables history)
     (longer : IsPrefix pass.words words) (commits : commits_of words ≡ commits_of keeper.words) (formed : IsWellFormed words) (fits : length words ≤ N) (begins : IsPrefix opening words)
     (enrolled : ℕ) (ended : List Tally) (ends : ended ≡ tally_of pass ∷ []) (one : enrolled ≡ 1)
-    (before : AreNumbered pass.session pass.mine pass.words) (numbered : All (λ t. AreNumbered t.session t.mine words) ended) (known : AreOfSessions enrolled words) where
+    (before : AreNumbered pass.session pass.mine pass.words) (numbered : All (λ (t : Tally). AreNumbered t.session t.mine words) ended) (known : AreOfSessions enrolled words) where
   abbrev H : List PlainCommit
   H = plain_history history
 
@@ -134,10 +134,10 @@ module _ (N : ℕ) (history : List Commit) (fresh : ℕ) (words : List ℕ) (pas
   own =
       same_by 1 1 H (commits_of words) stands
       ∙ own_commits_stay 1 pass.mine pass.words words longer (subst (λ n. AreNumbered n pass.mine pass.words) k.session before)
-      (subst (λ n. AreNumbered n pass.mine words) k.session (All-head (λ t. AreNumbered t.session t.mine words) (tally_of pass) [] (subst (All (λ t. AreNumbered t.session t.mine words)) ends numbered)))
+      (subst (λ n. AreNumbered n pass.mine words) k.session (All-head (λ (t : Tally). AreNumbered t.session t.mine words) (tally_of pass) [] (subst (All (λ (t : Tally). AreNumbered t.session t.mine words)) ends numbered)))
 
   admitted : (v : World) → IsSome (after_changes v (Some []) (changes_of H))
-  admitted v = subst IsSome (sym ((same_throughout H (commits_of words) stands).whole.worlds v []) ) (subst (λ cs. IsSome (world v cs [])) (sym commits) (k.everywhere v))
+  admitted v = subst IsSome (sym ((same_throughout H (commits_of words) stands).whole.worlds v [])) (subst (λ cs. IsSome (world v cs [])) (sym commits) (k.everywhere v))
 
   pub lawful_alone : (script : List ℕ) (replies replies' : List Reply) (sessions : List SessionLog) (history' : List Commit)
       → Progress N (beginning 1) (state_of pass history fresh) opening pass.words (texts script) replies

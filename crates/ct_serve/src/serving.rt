@@ -88,7 +88,6 @@ fn begin<N: Site>(alloc: Global, blank: Blank) -> Result<(Arena<N>, Session<N>),
     ensures opens { IfOk result (λ r. r.1.pass.words ≡ opening) }
 {
     let (arena, mut keeper) = Arena::make(blank);
-    let _words = keeper.words();
     let pass = keeper.enrol(alloc, &arena)?;
     let session = Session {
         pass,

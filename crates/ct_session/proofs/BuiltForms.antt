@@ -7,6 +7,13 @@ use Rattle.ct_word.specs.declared.values.Term.{Term}
 use Rattle.ct_word.specs.Condition.{Condition, True}
 use Rattle.ct_query.specs.declared.action.Ask.{Ask}
 use Rattle.ct_query.specs.declared.action.Ask.TheVariants as ask
+use Rattle.ct_query.specs.declared.action.Action.{Action}
+use Rattle.ct_query.specs.declared.action.Action.TheVariants as action
+use Rattle.ct_query.specs.declared.action.Resolved.{Resolved}
+use Rattle.ct_query.specs.declared.action.Resolved.TheVariants as resolution
+use Rattle.ct_query.specs.declared.query.Pred.{Pred}
+use Rattle.ct_query.specs.declared.query.Query.{Query as ActionQuery}
+use Rattle.ct_query.specs.Views.{statement_of}
 use Rattle.ct_query.specs.declared.schema.Heading.{Heading}
 use Rattle.ct_query.specs.declared.schema.Schema.{Schema}
 use Rattle.ct_query.specs.Plain as plain
@@ -40,6 +47,39 @@ always insertion = refl
 
 pub asks_rows : {a : Ask} {columns : List (List ℕ)} {q : PlainQuery} → IsPlainBuilt (plain.Asks a columns q) → a ≡ ask.Rows
 asks_rows question = refl
+
+-- no other form is built
+abbrev HasForm : PlainStatement → Type 0
+HasForm (plain.Act (plain.Create name columns)) = Unit {0}
+HasForm (plain.Act (plain.InsertRows name rows c)) = Unit {0}
+HasForm (plain.Asks k columns q) = Unit {0}
+HasForm _ = ⊥
+
+has_form : {st : PlainStatement} → IsPlainBuilt st → HasForm st
+has_form creation = tt
+has_form insertion = tt
+has_form question = tt
+
+at_form : (r r' : Resolved) → IsPlainBuilt (statement_of r) → r ≡ r' → HasForm (statement_of r')
+at_form r r' built e = has_form (subst (λ x. IsPlainBuilt (statement_of x)) e built)
+
+pub not_insert_query : (r : Resolved) (a : Action) (n : List ℕ) (q : ActionQuery) → IsPlainBuilt (statement_of r) → r ≡ resolution.Act a → a ≡ action.InsertQuery n q → ⊥
+not_insert_query r a n q built e f = at_form r (resolution.Act (action.InsertQuery n q)) built (e ∙ ap resolution.Act f)
+
+pub not_delete : (r : Resolved) (a : Action) (n : List ℕ) (p : Pred) → IsPlainBuilt (statement_of r) → r ≡ resolution.Act a → a ≡ action.Delete n p → ⊥
+not_delete r a n p built e f = at_form r (resolution.Act (action.Delete n p)) built (e ∙ ap resolution.Act f)
+
+pub not_assert : (r : Resolved) (a : Action) (p : Pred) → IsPlainBuilt (statement_of r) → r ≡ resolution.Act a → a ≡ action.Assert p → ⊥
+not_assert r a p built e f = at_form r (resolution.Act (action.Assert p)) built (e ∙ ap resolution.Act f)
+
+pub not_begin : (r : Resolved) → IsPlainBuilt (statement_of r) → r ≡ resolution.Begin → ⊥
+not_begin r built e = at_form r resolution.Begin built e
+
+pub not_commit : (r : Resolved) → IsPlainBuilt (statement_of r) → r ≡ resolution.Commit → ⊥
+not_commit r built e = at_form r resolution.Commit built e
+
+pub not_rollback : (r : Resolved) → IsPlainBuilt (statement_of r) → r ≡ resolution.Rollback → ⊥
+not_rollback r built e = at_form r resolution.Rollback built e
 
 -- what is found, step by step
 abbrev found : {A : Type 0} → A → Found A

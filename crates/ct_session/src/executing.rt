@@ -46,6 +46,7 @@ fn named(e: ResolveError) -> Refusal
 ///
 /// # Errors
 /// `TooLarge` for a query that goes through too many rows, `Full` where the log has no room, `Memory`.
+#[tactic(auto, using(crate::proofs::BuiltForms::not_insert_query, crate::proofs::BuiltForms::not_delete, crate::proofs::BuiltForms::not_assert, crate::proofs::BuiltForms::not_begin, crate::proofs::BuiltForms::not_commit, crate::proofs::BuiltForms::not_rollback))]
 fn perform<N: Site>(
     alloc: Global,
     arena: &Arena<N>,
@@ -94,7 +95,12 @@ fn perform<N: Site>(
                 Err(why) => Err(why),
             }
         }
-        _ => unreachable!(),
+        Resolved::Act(Action::InsertQuery { .. }) => unreachable!(),
+        Resolved::Act(Action::Delete { .. }) => unreachable!(),
+        Resolved::Act(Action::Assert(_)) => unreachable!(),
+        Resolved::Begin => unreachable!(),
+        Resolved::Commit => unreachable!(),
+        Resolved::Rollback => unreachable!(),
     }
 }
 

@@ -44,4 +44,4 @@ returns-in-Err-clause-err g c =
     (unanswered h g.N.Site.log.cap c.eval.new.pass.words c.args.columns q c.in-Err.e
     (λ e. is_past c.args.pass.now.words h c.args.tables.now c.requires.denotes.worth q (c.in-Err.ensures.too_large (ap Err e))) (λ e. c.in-Err.ensures.full (ap Err e))
     (λ e. makes_words c.args.pass.now.words h c.args.tables.now c.requires.denotes.worth q
-    (let less = c.in-Err.ensures.fewer (ap Err e) in omega (arith, less, c.if-made-lt-before.false, c.made.ensures, c.made-before.ensures))))
+    (let less = c.in-Err.ensures.fewer (ap Err e) in omega (arith, less, c.if-made-before.false, c.made.ensures, c.made-before.ensures))))
