@@ -8,7 +8,6 @@
 mod arenas;
 mod following;
 mod full;
-mod handing;
 mod interning;
 mod keepers;
 mod logs;

@@ -82,12 +82,11 @@ further room pass pass' keeper keeper' tables after history changes commit k rea
           (All-push (λ c. c.session ≡ 1) (plain_history history) (plain_commit commit) k.by_one (ap (λ c. c.session) ready.printed));
     }
 
--- a log that took one more word had room for it
-pub had_room : (room : ℕ) (seen words words' : List ℕ) (w : ℕ) → IsPrefix seen words → words' ≡ words ++ w ∷ [] → length words' ≤ room → length seen < room
-had_room room seen words words' w p e le =
+-- a log that became longer had room
+pub had_room : (room : ℕ) (seen words words' : List ℕ) → IsPrefix seen words → length words < length words' → length words' ≤ room → length seen < room
+had_room room seen words words' p lt le =
     let a : length (seen ++ p.0) ≡ length words = ap length p.1 in
-    let b : length words' ≡ length (words ++ w ∷ []) = ap length e in
-    omega (arith, length-append seen p.0, length-append words (w ∷ []), a, b)
+    omega (arith, length-append seen p.0, a)
 
 -- after the words of an offer
 pub catalogue_stays : (room : ℕ) (pass pass' : Seen) (keeper : Keeping) (tables : List TableView) (history history' : List Commit) → IsCatalogue room pass keeper tables history

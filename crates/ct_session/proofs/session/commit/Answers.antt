@@ -38,7 +38,7 @@ pub returns-in-Ok-clause-outcome : goal.returns-in-Ok-clause-outcome
 returns-in-Ok-clause-outcome g c =
     subst (λ h. CommitOf g.N.Site.log.cap c.args.session.pass.words c.leave.result.words c.args.session.history.items c.args.session.fresh c.args.offer.commit c.args.offer.fresh h c.args.offer.fresh (reply.Committed (c.version-at.result + 1))) (sym c.push_reserved.ensures.items)
     (subst (λ n. CommitOf g.N.Site.log.cap c.args.session.pass.words c.leave.result.words c.args.session.history.items c.args.session.fresh c.args.offer.commit c.args.offer.fresh (c.args.session.history.items ++ c.args.offer.commit ∷ []) c.args.offer.fresh (reply.Committed (n + 1))) (sym (c.version-at.ensures ∙ ap (λ xs. length xs) c.as_slice.ensures.value))
-    (committed (had_room g.N.Site.log.cap c.args.session.pass.words c.enter-guest.new.self.words c.append_commit.new.self.words _ c.enter-guest.ensures.seen c.in-Ok.ensures.alone c.in-Ok.ensures.room)))
+    (committed (had_room g.N.Site.log.cap c.args.session.pass.words c.enter-guest.new.self.words c.append_commit.new.self.words c.enter-guest.ensures.seen c.in-Ok.ensures.grows c.in-Ok.ensures.room)))
 
 pub returns-in-Err-clause-kept : goal.returns-in-Err-clause-kept
 returns-in-Err-clause-kept g c =
