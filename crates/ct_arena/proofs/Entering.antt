@@ -86,7 +86,7 @@ took cap e t ended words other m log own = record {
   fronts = both_fronts v m
   sees : IsPrefix words m.log × IsPrefix other m.log
   sees = m.tied.fronted.fronts m.id v m.at
-  keeper : IsKept cap m.tied.enrolled m.log v
+  keeper : IsKept m.cap m.tied.enrolled m.log v
   keeper = (m.tied.fronted.keeper m.id v m.at refl).1
   commits_ : (b : Bool) → IsPrefix words (if b then other else words) × IsPrefix other (if b then other else words) → commits_of (if b then other else words) ≡ commits_of words
   commits_ true f = commits_between words other m.log f.0 sees.1 keeper.commits
@@ -119,3 +119,7 @@ laid_aside cap seen other now shorter a b p q (inr x) =
 pub kept_either : (seen other now shorter : Chained) → ((now ≡ other) × (shorter ≡ seen)) ⊎ ((now ≡ seen) × (shorter ≡ other)) → (now.words ≡ seen.words) ⊎ (now.words ≡ other.words)
 kept_either seen other now shorter (inl x) = inr (ap (λ c. c.words) x.0)
 kept_either seen other now shorter (inr x) = inl (ap (λ c. c.words) x.0)
+
+-- a list of no words is a front of any
+pub empty_behind : (short long : Chained) → short.room ≡ long.room → short.words ≡ [] → IsBehind short long
+empty_behind short long room empty = record { room = room; longer = (long.words, ap (λ words. words ++ long.words) empty) }

@@ -91,11 +91,11 @@ outcome_commits keeps t t' old new w plain k o = from o.what where
 pub known_stays : (enrolled : ℕ) (old new : List ℕ) → commits_of new ≡ commits_of old → AreOfSessions enrolled old → AreOfSessions enrolled new
 known_stays enrolled old new same known = subst (λ cs. All (λ c. (1 ≤ c.session) × (c.session ≤ enrolled)) cs) (sym same) known
 
-pub plain_counts : (words : List ℕ) (w : ℕ) → IsTrue (is_plain_word words w) → 0 ≡ (if is_commit_word w then 1 else 0)
-plain_counts words w plain = rw (plain_kind words w plain) refl
+pub plain_counts : (words : List ℕ) (w n : ℕ) → n ≡ 0 → IsTrue (is_plain_word words w) → n ≡ (if is_commit_word w then 1 else 0)
+plain_counts words w n e plain = rw (plain_kind words w plain) e
 
-pub commit_counts : (s m b w : ℕ) → s ≤ 1023 → m < 2 ^ 18 → b < 2 ^ 28 → w ≡ commit_word s m b → 1 ≡ (if is_commit_word w then 1 else 0)
-commit_counts s m b w sl ml bl is = rw (ap is_commit_word is ∙ commit_kind s m b sl ml bl) refl
+pub commit_counts : (s m b w n : ℕ) → n ≡ 1 → s ≤ 1023 → m < 2 ^ 18 → b < 2 ^ 28 → w ≡ commit_word s m b → n ≡ (if is_commit_word w then 1 else 0)
+commit_counts s m b w n e sl ml bl is = rw (ap is_commit_word is ∙ commit_kind s m b sl ml bl) e
 
 -- at Ok the next commit of a session was put
 pub outcome_put : (cap : ℕ) (keeps : Bool) (t t' : Tally) (old new : List ℕ) (w b place : ℕ) → IsOwn cap t' new → t.mine < 2 ^ 18 → b < 2 ^ 28 → w ≡ commit_word t.session t.mine b → slice_get new place ≡ Some w → (o : IsOutcome keeps t t' old new w)
@@ -124,7 +124,7 @@ outcome_commit cap keeps t t' old new w b place k own sl ml bl within is stands 
       commits =
           ap commits_of put.0 ∙ ap (λ x. commits_of (o.before ++ x ∷ [])) is ∙ commits_grow t.session t.mine b o.before sl ml bl
           ∙ (λ i. o.commits k i ++ record { session = t.session; number = t.mine; changes = changes i } ∷ []);
-      counted = put.1 ∙ (λ i. record { session = t.session; made = t.made + 1; mine = t.mine + one i });
+      counted = put.1 ∙ (λ i. record { session = t.session; made = t.made + 1; mine = one i });
       grows = omega (arith, ap length put.0, length-append o.before (w ∷ []), prefix_length old o.before o.longer);
     }
   where
@@ -133,8 +133,8 @@ outcome_commit cap keeps t t' old new w b place k own sl ml bl within is stands 
   ends (inl same) =
       let mine : IsOwn cap t new = subst (λ x. IsOwn cap x new) same own in
       absurd (fresh t.session t.mine b new mine.most ml bl mine.numbered (subst (λ x. Contains new x) is (contains_of_get new place w stands)))
-  one : (if is_commit_word w then 1 else 0) ≡ 1
-  one = sym (commit_counts t.session t.mine b w sl ml bl is)
+  one : t.mine + (if is_commit_word w then 1 else 0) ≡ t.mine + 1
+  one = ap (λ (b : Bool). t.mine + (if b then 1 else 0)) (ap is_commit_word is ∙ commit_kind t.session t.mine b sl ml bl)
 
 -- at Err nothing was put
 pub outcome_none : (keeps : Bool) (t t' : Tally) (old new : List ℕ) (w : ℕ) → keeps ≡ true → (Contains new w → ⊥) → IsOutcome keeps t t' old new w → commits_of new ≡ commits_of old

@@ -11,4 +11,4 @@ pub mod Making
 pub mod Placing
 pub mod Keeping
 pub mod Entering
-pub mod Keepers
+pub mod Handover

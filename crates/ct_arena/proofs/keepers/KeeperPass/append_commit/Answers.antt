@@ -1,5 +1,5 @@
-use Rattle.std.proofs.Common.{◌≡◌, ◌+◌, ◌<◌, ◌^◌, length, ap, sym, subst, ◌∙◌, Some, inr, arith, true}
-use Rattle.std.specs.Prelude.{IsTrue, IfOk, OnOk, [], ◌∷◌, ◌++◌}
+use Rattle.std.proofs.Common.{◌≡◌, ◌+◌, ◌<◌, ◌^◌, length, ap, sym, subst, ◌∙◌, Some, inr, arith, refl, true}
+use Rattle.std.specs.Prelude.{IsTrue, IfOk, OnOk, [], ◌∷◌, ◌++◌, ◌*◌}
 use mathlib.Core.List.{IsPrefix}
 use Rattle.ct_word.specs.declared.kinds.Class.TheVariants as class
 use Rattle.ct_word.specs.WellFormed.{is_place_of}
@@ -10,7 +10,7 @@ use Rattle.ct_word.specs.Reading.{commits_of}
 use Rattle.ct_arena.specs.Counts.{commit_word, commit_of}
 use Rattle.ct_arena.specs.Seen.{Keeping, StandsLast}
 use Rattle.ct_arena.specs.declared.tally.Tally.{Tally}
-use Rattle.ct_arena.proofs.Keepers.{keeper_put, known_put, spare_put, both_ok, ok_then, ok_more, err_then}
+use Rattle.ct_arena.proofs.Handover.{keeper_put, known_put, spare_put, both_ok, ok_then, ok_more, err_then}
 use Rattle.ct_arena.proofs.Keeping.{keeper_seat, commit_counts, outcome_longer, outcome_session, outcome_none, IsCommitted, outcome_commit}
 use Rattle.ct_arena.proofs.keepers.KeeperPass.append_commit.Goals as goal
 
@@ -45,7 +45,7 @@ put-result-requires-clause-commits g c =
     let within : c.args.changes < length c.self.inside.seen.words = place_within c.self.inside.seen.words class.ChangeList c.args.changes list in
     let small : c.args.changes < 2 ^ 28 = omega (arith, within, own.log.room, c.self.invariant.0.named.most) in
     let keeps : c.self.inside.token.me.0.keeps ≡ true = ap (λ m. m.0.keeps) c.self.invariant.0.seat in
-    commit_counts c.guest.inside.tally.session c.guest.inside.tally.mine c.args.changes c.pack-w.result own.most number small c.pack-w.ensures.word
+    commit_counts c.guest.inside.tally.session c.guest.inside.tally.mine c.args.changes c.pack-w.result _ refl own.most number small c.pack-w.ensures.word
 
 pub invariant_of-self : goal.invariant_of-self
 invariant_of-self g c =
@@ -145,3 +145,32 @@ returns-clause-longer g c = subst (λ l. IsPrefix l c.put-result.new.seen.words)
 
 pub returns-clause-formed : goal.returns-clause-formed
 returns-clause-formed g c = c.put-result.ensures.own.log.formed
+
+pub overflow_mul-numbered : goal.overflow_mul-numbered
+overflow_mul-numbered g c =
+    let entered : c.self.inside.guest ≡ Some c.guest.inside.tally = ap (λ v. v.guest) c.self.view_is ∙ c.requires.guest ∙ sym (ap Some c.guest.view_is) in
+    let own = (c.self.invariant.0.own c.guest.inside.tally entered).0 in
+    let number : c.guest.inside.tally.mine < 2 ^ 18 = rw (ap (λ v. v.mine) c.guest.view_is) c.requires.number in
+    omega (arith, own.most)
+
+pub overflow_add-numbered : goal.overflow_add-numbered
+overflow_add-numbered g c =
+    let entered : c.self.inside.guest ≡ Some c.guest.inside.tally = ap (λ v. v.guest) c.self.view_is ∙ c.requires.guest ∙ sym (ap Some c.guest.view_is) in
+    let own = (c.self.invariant.0.own c.guest.inside.tally entered).0 in
+    let number : c.guest.inside.tally.mine < 2 ^ 18 = rw (ap (λ v. v.mine) c.guest.view_is) c.requires.number in
+    omega (arith, own.most)
+
+pub pack-w-requires-clause-left : goal.pack-w-requires-clause-left
+pack-w-requires-clause-left g c =
+    let entered : c.self.inside.guest ≡ Some c.guest.inside.tally = ap (λ v. v.guest) c.self.view_is ∙ c.requires.guest ∙ sym (ap Some c.guest.view_is) in
+    let own = (c.self.invariant.0.own c.guest.inside.tally entered).0 in
+    let number : c.guest.inside.tally.mine < 2 ^ 18 = rw (ap (λ v. v.mine) c.guest.view_is) c.requires.number in
+    omega (arith, own.most)
+
+pub pack-w-requires-clause-right : goal.pack-w-requires-clause-right
+pack-w-requires-clause-right g c =
+    let entered : c.self.inside.guest ≡ Some c.guest.inside.tally = ap (λ v. v.guest) c.self.view_is ∙ c.requires.guest ∙ sym (ap Some c.guest.view_is) in
+    let own = (c.self.invariant.0.own c.guest.inside.tally entered).0 in
+    let number : c.guest.inside.tally.mine < 2 ^ 18 = rw (ap (λ v. v.mine) c.guest.view_is) c.requires.number in
+    let list : IsTrue (is_place_of c.self.inside.seen.words class.ChangeList c.args.changes) = rw (ap (λ v. v.words) c.self.view_is) c.requires.changes in
+    omega (arith, place_within c.self.inside.seen.words class.ChangeList c.args.changes list, own.log.room, c.self.invariant.0.named.most)

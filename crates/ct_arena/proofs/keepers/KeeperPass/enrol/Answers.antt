@@ -1,5 +1,5 @@
 use Rattle.std.proofs.Common.{◌<◌, ap, ◌∙◌}
-use Rattle.ct_arena.proofs.Keepers.{keeper_enrolled, pass_enrolled}
+use Rattle.ct_arena.proofs.Handover.{keeper_enrolled, pass_enrolled}
 use Rattle.ct_arena.proofs.keepers.KeeperPass.enrol.Goals as goal
 
 pub from_parts-requires : goal.from_parts-requires

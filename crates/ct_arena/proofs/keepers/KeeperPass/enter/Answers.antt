@@ -2,7 +2,7 @@ use Rattle.std.proofs.Common.{◌≡◌, ap, subst, ◌∙◌, sym, Some, None, 
 use mathlib.Core.List.{IsPrefix}
 use Rattle.ct_word.specs.Reading.{commits_of}
 use Rattle.ct_arena.proofs.Entering.{laid_aside, kept_either}
-use Rattle.ct_arena.proofs.Keepers.{keeper_entered}
+use Rattle.ct_arena.proofs.Handover.{keeper_entered}
 use Rattle.ct_arena.proofs.keepers.KeeperPass.enter.Goals as goal
 
 pub take_in-requires-clause-alone : goal.take_in-requires-clause-alone

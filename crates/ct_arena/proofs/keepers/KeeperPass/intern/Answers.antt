@@ -1,4 +1,4 @@
-use Rattle.std.proofs.Common.{◌≡◌, ap, sym, subst, ◌∙◌, Some, inl, refl, true}
+use Rattle.std.proofs.Common.{◌≡◌, [], ap, sym, subst, ◌∙◌, Some, inl, refl, true}
 use Rattle.std.specs.Prelude.{IsTrue}
 use mathlib.Core.List.{IsPrefix}
 use Rattle.ct_word.specs.WellFormed.{is_plain_word}
@@ -7,7 +7,7 @@ use Rattle.ct_arena.specs.Own.{IsOwn}
 use Rattle.ct_arena.specs.Sharing.{keeper_view}
 use Rattle.ct_arena.specs.Seen.{CountsWord}
 use Rattle.ct_arena.proofs.Keeping.{keeper_seat, plain_counts, known_stays, outcome_longer, outcome_counts, outcome_session, outcome_mine, outcome_commits}
-use Rattle.ct_arena.proofs.Keepers.{keeper_put, spare_put}
+use Rattle.ct_arena.proofs.Handover.{keeper_put, spare_put}
 use Rattle.ct_arena.proofs.keepers.KeeperPass.intern.Goals as goal
 
 pub put-result-requires-clause-seat : goal.put-result-requires-clause-seat
@@ -27,7 +27,7 @@ put-result-requires-clause-next g c =
     inl plain
 
 pub put-result-requires-clause-commits : goal.put-result-requires-clause-commits
-put-result-requires-clause-commits g c = plain_counts c.args.self.now.words c.args.w c.requires.word
+put-result-requires-clause-commits g c = plain_counts c.args.self.now.words c.args.w _ refl c.requires.word
 
 pub invariant_of-self : goal.invariant_of-self
 invariant_of-self g c =

@@ -1,5 +1,5 @@
 use Rattle.std.proofs.Common.{◌≡◌, ap, ◌∙◌, sym, Some}
-use Rattle.ct_arena.proofs.Keepers.{keeper_left, pass_left}
+use Rattle.ct_arena.proofs.Handover.{keeper_left, pass_left}
 use Rattle.ct_arena.proofs.keepers.KeeperPass.leave.Goals as goal
 
 pub from_parts-requires : goal.from_parts-requires

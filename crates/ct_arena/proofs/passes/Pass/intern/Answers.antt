@@ -1,4 +1,4 @@
-use Rattle.std.proofs.Common.{◌∙◌, ap, sym, subst, inl}
+use Rattle.std.proofs.Common.{◌∙◌, ap, sym, subst, inl, refl}
 use Rattle.std.specs.Prelude.{IsTrue}
 use mathlib.Core.List.{IsPrefix}
 use Rattle.ct_word.specs.WellFormed.{is_plain_word}
@@ -19,7 +19,7 @@ put-requires-clause-next g c =
     inl plain
 
 pub put-requires-clause-commits : goal.put-requires-clause-commits
-put-requires-clause-commits g c = plain_counts c.args.self.now.words c.args.w c.requires
+put-requires-clause-commits g c = plain_counts c.args.self.now.words c.args.w _ refl c.requires
 
 pub invariant_of-self : goal.invariant_of-self
 invariant_of-self g c = (
