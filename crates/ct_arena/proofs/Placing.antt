@@ -1,5 +1,5 @@
 -- Putting a word at the end of the log, as a seat knows it of its own list.
-use Rattle.std.proofs.Common.{◌≡◌, ◌≢◌, ℕ, ◌+◌, ◌*◌, ◌<◌, ◌≤◌, ◌^◌, ◌⊎◌, ◌&&◌, not, List, [], ◌∷◌, ◌++◌, length, Bool, true, false, Some, refl, sym, ap, ◌∙◌, subst, inl, inr, arith, length-append}
+use Rattle.std.proofs.Common.{◌≡◌, ◌≢◌, ℕ, ◌+◌, ◌*◌, ◌<◌, ◌^◌, ◌⊎◌, not, List, [], ◌∷◌, ◌++◌, length, Bool, refl, sym, ap, ◌∙◌, subst, inl, inr, arith, length-append}
 use Rattle.std.specs.Prelude.{IsTrue, Contains, if◌then◌else◌}
 use mathlib.Core.List.{IsPrefix}
 use Rattle.atomic_table.specs.Table.{Me}
@@ -10,11 +10,11 @@ use Rattle.ct_word.proofs.Packed.{true_left, true_right, true_both}
 use Rattle.ct_word.proofs.Growth.{word_over_grows}
 use Rattle.ct_word.proofs.Prefixes.{place_in_prefix}
 use Rattle.ct_word.proofs.Commits.{commits_plain, plain_follows, commit_follows}
-use Rattle.ct_arena.specs.Counts.{AreNumbered, numbers_by, commit_word, commit_of}
+use Rattle.ct_arena.specs.Counts.{AreNumbered, numbers_by, commit_of}
 use Rattle.ct_arena.specs.declared.sharing.View.{View}
 use Rattle.ct_arena.specs.declared.tally.Tally.{Tally}
-use Rattle.ct_arena.specs.Sharing.{counts_word, grown, put_on, MayPut, IsNextCommit, IsPut, IsMoment}
-use Rattle.ct_arena.specs.Own.{IsOwn, with_seen, with_guest, IsCommitOf, IsNextWord, IsOutcome}
+use Rattle.ct_arena.specs.Sharing.{counts_word, MayPut, IsNextCommit, IsPut}
+use Rattle.ct_arena.specs.Own.{IsOwn, with_seen, with_guest, IsNextWord}
 use Rattle.ct_arena.proofs.Putting.{plain_kind, commit_kind}
 use Rattle.ct_arena.proofs.Told.{IsGrown, reads_one}
 use Rattle.ct_arena.proofs.Sole.{log_push, commits_grow, numbers_append, numbers_own, range_next}

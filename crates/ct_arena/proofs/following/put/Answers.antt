@@ -3,7 +3,7 @@ use Rattle.std.specs.Prelude.{slice_get, Contains}
 use Rattle.std.proofs.lemmas.List.Elements.{Contains-push_cases}
 use mathlib.Core.List.{IsPrefix}
 use Rattle.ct_word.specs.Reading.{commits_of}
-use Rattle.ct_arena.specs.Own.{IsOwn, IsNextWord, with_seen, with_guest}
+use Rattle.ct_arena.specs.Own.{IsOwn, with_seen, with_guest}
 use Rattle.ct_arena.specs.Sharing.{MayPut, counts_word}
 use Rattle.ct_arena.proofs.Lookup.{get_last}
 use Rattle.ct_arena.proofs.Sole.{prefix_push}
