@@ -1,18 +1,16 @@
 -- Sessions come to the keeper and leave it.
-use Rattle.std.proofs.Common.{◌≡◌, ◌≢◌, ℕ, zero, suc, ◌+◌, ◌<◌, ◌≤◌, ◌⊎◌, List, [], ◌∷◌, ◌++◌, length, Bool, true, false, Option, Some, None, refl, sym, ap, ◌∙◌, subst, inl, inr, arith, ne_eqb}
+use Rattle.std.proofs.Common.{◌≡◌, ◌≢◌, ℕ, suc, ◌+◌, ◌<◌, ◌≤◌, ◌⊎◌, List, [], ◌∷◌, ◌++◌, length, Bool, true, false, Option, Some, None, refl, sym, ap, ◌∙◌, subst, inl, inr, arith, ne_eqb}
 use Rattle.std.specs.Prelude.{All, nat_lt, if◌then◌else◌}
-use Rattle.std.proofs.lemmas.Bool.{ltb-true, ltb-false}
 use mathlib.Core.List.{IsPrefix}
 use Rattle.atomic_table.specs.Table.{Me}
 use Rattle.ct_chain.specs.Seen.{Chained}
 use Rattle.ct_word.specs.Change.{PlainCommit}
 use Rattle.ct_word.specs.Reading.{commits_of}
-use Rattle.ct_word.proofs.Prefixes.{prefix_same}
-use Rattle.ct_arena.specs.Counts.{opening, IsLog, AreOfSessions, AreNumbered, numbers_by}
+use Rattle.ct_arena.specs.Counts.{opening, IsLog, AreOfSessions, numbers_by}
 use Rattle.ct_arena.specs.declared.sharing.View.{View}
 use Rattle.ct_arena.specs.declared.tally.Tally.{Tally}
 use Rattle.ct_arena.specs.Kept.{IsBehind}
-use Rattle.ct_arena.specs.Sharing.{session_view, keeper_view, newcomer, enrolled, enrolled_by, kept, given, joined, settled, laid_by, as_list, longer, IsKept, IsMoment, IsSettled, IsLaidBy}
+use Rattle.ct_arena.specs.Sharing.{session_view, keeper_view, newcomer, enrolled, enrolled_by, kept, given, joined, longer, IsKept, IsMoment, IsSettled, IsLaidBy}
 use Rattle.ct_arena.specs.Own.{IsOwn}
 use Rattle.ct_arena.proofs.Fronts.{prefix_length, commits_between, numbers_between}
 use Rattle.ct_arena.proofs.Told.{owner_guest, was_enrolled, both_fronts}
@@ -82,15 +80,20 @@ took cap e t ended words other m log own = record {
 } where
   v : View
   v = joined (keeper_view cap words e None ended) (session_view other (Some t))
+
   fronts : IsPrefix words (longer words other) × IsPrefix other (longer words other)
   fronts = both_fronts v m
+
   sees : IsPrefix words m.log × IsPrefix other m.log
   sees = m.tied.fronted.fronts m.id v m.at
+
   keeper : IsKept m.cap m.tied.enrolled m.log v
   keeper = (m.tied.fronted.keeper m.id v m.at refl).1
+
   commits_ : (b : Bool) → IsPrefix words (if b then other else words) × IsPrefix other (if b then other else words) → commits_of (if b then other else words) ≡ commits_of words
   commits_ true f = commits_between words other m.log f.0 sees.1 keeper.commits
   commits_ false f = refl
+
   own_ : (b : Bool) → nat_lt (length words) (length other) ≡ b → IsPrefix words (if b then other else words) × IsPrefix other (if b then other else words) → IsOwn cap t (if b then other else words)
   own_ true e f = own
   own_ false e f = record {

@@ -1,6 +1,5 @@
 -- What the keeper's pass keeps of its fields, from call to call.
-use Rattle.std.proofs.Common.{◌≡◌, ℕ, ◌+◌, ◌<◌, ◌≤◌, ◌^◌, ◌⊎◌, Bool, true, inl, inr, List, [], ◌∷◌, ◌++◌, length, Option, Some, None, refl, sym, ap, ◌∙◌, subst, arith}
-use Rattle.std.proofs.lemmas.List.{append-nil}
+use Rattle.std.proofs.Common.{◌≡◌, ℕ, ◌+◌, ◌<◌, ◌≤◌, ◌^◌, ◌⊎◌, Bool, true, inl, inr, List, [], ◌∷◌, ◌++◌, Option, Some, None, refl, sym, ap, ◌∙◌, subst, arith}
 use Rattle.std.specs.Prelude.{All, Result, Ok, Err, IfOk, OnOk, OnErr, IsErr}
 use Rattle.std.proofs.lemmas.List.Elements.{All-push}
 use Rattle.ct_word.specs.Change.{PlainCommit}
@@ -12,10 +11,10 @@ use Rattle.ct_word.proofs.Splits.{some-injective}
 use Rattle.ct_chain.specs.Seen.{Chained}
 use Rattle.ct_arena.proofs.Sole.{prefix_trans, commits_grow}
 use Rattle.ct_arena.specs.Name.{LogName}
-use Rattle.ct_arena.specs.Counts.{opening, IsLog, AreOfSessions, commit_word, commit_of}
+use Rattle.ct_arena.specs.Counts.{opening, AreOfSessions, commit_word, commit_of}
 use Rattle.ct_arena.specs.declared.sharing.View.{View}
 use Rattle.ct_arena.specs.declared.tally.Tally.{Tally}
-use Rattle.ct_arena.specs.Kept.{IsNamed, IsPass, IsKeeper, IsBehind, IsSpare}
+use Rattle.ct_arena.specs.Kept.{IsNamed, IsPass, IsKeeper, IsSpare}
 use Rattle.ct_arena.specs.Sharing.{first_view, session_view, keeper_view, newcomer, enrolled, enrolled_by, kept, given, joined, longer, counts_word, IsSettled, IsLaidBy}
 use Rattle.ct_arena.specs.Own.{IsOwn, IsOutcome, with_seen, with_guest}
 use Rattle.ct_arena.proofs.Opening.{opening_log, none_of}

@@ -1,5 +1,5 @@
 -- The seats of passes and of the keeper, and what a word put for them tells.
-use Rattle.std.proofs.Common.{◌≡◌, ℕ, ◌+◌, ◌<◌, ◌≤◌, ◌^◌, ◌⊎◌, ◌&&◌, not, List, [], ◌∷◌, ◌++◌, length, Bool, true, false, Option, Some, None, refl, sym, ap, ◌∙◌, subst, inl, inr, arith, length-append}
+use Rattle.std.proofs.Common.{◌≡◌, ℕ, ◌+◌, ◌<◌, ◌≤◌, ◌^◌, ◌⊎◌, not, List, [], ◌∷◌, ◌++◌, length, Bool, true, Option, Some, refl, sym, ap, ◌∙◌, subst, inl, inr, arith, length-append}
 use Rattle.std.specs.Prelude.{IsTrue, Contains, slice_get, All, if◌then◌else◌}
 use mathlib.Core.List.{IsPrefix}
 use Rattle.atomic_table.specs.Table.{Me}
@@ -128,13 +128,14 @@ outcome_commit cap keeps t t' old new w b place k own sl ml bl within is stands 
       grows = omega (arith, ap length put.0, length-append o.before (w ∷ []), prefix_length old o.before o.longer);
     }
   where
-  ends : (t' ≡ t) ⊎ (length new ≡ place + 1) → length new ≡ place + 1
-  ends (inr e) = e
-  ends (inl same) =
-      let mine : IsOwn cap t new = subst (λ x. IsOwn cap x new) same own in
-      absurd (fresh t.session t.mine b new mine.most ml bl mine.numbered (subst (λ x. Contains new x) is (contains_of_get new place w stands)))
-  one : t.mine + (if is_commit_word w then 1 else 0) ≡ t.mine + 1
-  one = ap (λ (b : Bool). t.mine + (if b then 1 else 0)) (ap is_commit_word is ∙ commit_kind t.session t.mine b sl ml bl)
+    ends : (t' ≡ t) ⊎ (length new ≡ place + 1) → length new ≡ place + 1
+    ends (inr e) = e
+    ends (inl same) =
+        let mine : IsOwn cap t new = subst (λ x. IsOwn cap x new) same own in
+        absurd (fresh t.session t.mine b new mine.most ml bl mine.numbered (subst (λ x. Contains new x) is (contains_of_get new place w stands)))
+
+    one : t.mine + (if is_commit_word w then 1 else 0) ≡ t.mine + 1
+    one = ap (λ (b : Bool). t.mine + (if b then 1 else 0)) (ap is_commit_word is ∙ commit_kind t.session t.mine b sl ml bl)
 
 -- at Err nothing was put
 pub outcome_none : (keeps : Bool) (t t' : Tally) (old new : List ℕ) (w : ℕ) → keeps ≡ true → (Contains new w → ⊥) → IsOutcome keeps t t' old new w → commits_of new ≡ commits_of old

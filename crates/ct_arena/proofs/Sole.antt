@@ -1,16 +1,14 @@
 -- What is true of the words of a log stays true as words are put at their end.
-use Rattle.std.proofs.Common.{◌≡◌, ℕ, zero, suc, ◌+◌, ◌*◌, ◌/◌, ◌%◌, ◌<◌, ◌≤◌, ◌^◌, List, [], ◌∷◌, ◌++◌, length, Bool, true, false, refl, sym, ap, ◌∙◌, subst, arith, length-append, add-zero, eq-eqb, inl, inr}
-use Rattle.std.specs.Prelude.{IsTrue, Contains, All, nat_eq, if◌then◌else◌}
+use Rattle.std.proofs.Common.{◌≡◌, ℕ, zero, suc, ◌+◌, ◌*◌, ◌/◌, ◌%◌, ◌<◌, ◌≤◌, ◌^◌, List, [], ◌∷◌, ◌++◌, length, Bool, true, false, refl, sym, ap, ◌∙◌, arith, length-append, add-zero, eq-eqb}
+use Rattle.std.specs.Prelude.{IsTrue, Contains, nat_eq, if◌then◌else◌}
 use Rattle.std.specs.List.{range_with_len}
-use Rattle.std.proofs.lemmas.List.{append_assoc, append-nil}
-use Rattle.std.proofs.lemmas.List.Elements.{All-push}
+use Rattle.std.proofs.lemmas.List.{append_assoc}
 use mathlib.Core.List.{IsPrefix}
-use Rattle.ct_word.specs.declared.kinds.Class.TheVariants as class
 use Rattle.ct_word.specs.Change.{PlainCommit}
 use Rattle.ct_word.specs.Reading.{commits_of, change_list_at}
-use Rattle.ct_word.specs.WellFormed.{is_plain_word, is_word_after, is_place_of}
+use Rattle.ct_word.specs.WellFormed.{is_word_after}
 use Rattle.ct_word.proofs.Packed.{formed_snoc}
-use Rattle.ct_word.proofs.Commits.{commits_plain, commits_commit, plain_follows, commit_follows, commit_stands}
+use Rattle.ct_word.proofs.Commits.{commits_commit, commit_stands}
 use Rattle.ct_arena.specs.Counts.{opening, IsLog, AreNumbered, numbers_by, commit_word, commit_of}
 use Rattle.ct_arena.specs.Seen.{StandsLast}
 use Rattle.ct_arena.proofs.Lookup.{get_last}

@@ -268,6 +268,8 @@ impl<N: Site> KeeperPass<N> {
         ensures none { OnErr result (commits_of self.new.words ≡ commits_of self.old.words) }
         ensures grows { OnOk result (length self.old.words < length self.new.words) }
     {
+        // What the pass keeps of its guest bounds the number.
+        let _ = &self.seen;
         let numbered = guest.tally.session * COMMITS_OF_SESSION + guest.tally.mine;
         let w = pack(Kind::Commit, numbered, changes);
         let result = put(

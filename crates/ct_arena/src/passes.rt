@@ -123,11 +123,6 @@ impl<N: Site> Pass<N> {
         ensures mine { self.new.mine ≡ self.old.mine }
         ensures session { self.new.session ≡ self.old.session }
     {
-        read_on(
-            &arena.words,
-            arena.cap,
-            &mut self.token,
-            &mut self.seen,
-        );
+        read_on(&arena.words, arena.cap, &mut self.token, &mut self.seen);
     }
 }

@@ -25,8 +25,15 @@ one_word ms w = by_kinds (kind_of w) ms (left_of w) (right_of w) w
 counts : (ms : List Meaning) (ws : List ℕ) → length (filter_map as_commit (read ms ws)) ≡ length (filter_map as_commit ms) + length (commit_words ws)
 counts ms [] = omega arith
 counts ms (w ∷ ws) =
-    omega (arith, counts (ms ++ meaning_of ms w ∷ []) ws, ap length (filter_map-append as_commit ms (meaning_of ms w ∷ [])), length-append (filter_map as_commit ms) (filter_map as_commit (meaning_of ms w ∷ [])), one_word ms w,
-      ap length (filter-append is_commit_word (w ∷ []) ws), length-append (commit_words (w ∷ [])) (commit_words ws))
+    omega (
+      arith,
+      counts (ms ++ meaning_of ms w ∷ []) ws,
+      ap length (filter_map-append as_commit ms (meaning_of ms w ∷ [])),
+      length-append (filter_map as_commit ms) (filter_map as_commit (meaning_of ms w ∷ [])),
+      one_word ms w,
+      ap length (filter-append is_commit_word (w ∷ []) ws),
+      length-append (commit_words (w ∷ [])) (commit_words ws),
+    )
 
 -- where no commit came, no commit word did
 pub commits_stay : (old new : List ℕ) → IsPrefix old new → commits_of new ≡ commits_of old → commit_words new ≡ commit_words old

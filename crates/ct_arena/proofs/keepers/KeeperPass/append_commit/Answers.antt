@@ -1,5 +1,5 @@
 use Rattle.std.proofs.Common.{◌≡◌, ◌+◌, ◌<◌, ◌^◌, length, ap, sym, subst, ◌∙◌, Some, inr, arith, refl, true}
-use Rattle.std.specs.Prelude.{IsTrue, IfOk, OnOk, [], ◌∷◌, ◌++◌, ◌*◌}
+use Rattle.std.specs.Prelude.{IsTrue, IfOk, OnOk, [], ◌∷◌, ◌++◌}
 use mathlib.Core.List.{IsPrefix}
 use Rattle.ct_word.specs.declared.kinds.Class.TheVariants as class
 use Rattle.ct_word.specs.WellFormed.{is_place_of}

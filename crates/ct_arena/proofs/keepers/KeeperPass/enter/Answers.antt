@@ -1,12 +1,12 @@
-use Rattle.std.proofs.Common.{◌≡◌, ap, subst, ◌∙◌, sym, Some, None, inl, inr, ⊎_elim}
+use Rattle.std.proofs.Common.{◌≡◌, ap, subst, ◌∙◌, None, inl, inr, ⊎_elim}
 use mathlib.Core.List.{IsPrefix}
 use Rattle.ct_word.specs.Reading.{commits_of}
 use Rattle.ct_arena.proofs.Entering.{laid_aside, kept_either}
 use Rattle.ct_arena.proofs.Handover.{keeper_entered}
 use Rattle.ct_arena.proofs.keepers.KeeperPass.enter.Goals as goal
 
-pub take_in-requires-clause-alone : goal.take_in-requires-clause-alone
-take_in-requires-clause-alone g c = ap (λ m. m.0.guest) c.self.invariant.0.seat ∙ ap (λ v. v.guest) c.self.view_is ∙ c.requires
+pub take_in-requires-clause-guest : goal.take_in-requires-clause-guest
+take_in-requires-clause-guest g c = ap (λ m. m.0.guest) c.self.invariant.0.seat ∙ ap (λ v. v.guest) c.self.view_is ∙ c.requires
 
 pub take_in-requires-clause-bare : goal.take_in-requires-clause-bare
 take_in-requires-clause-bare g c = ap (λ m. m.0.ended) c.pass.invariant.0.seat

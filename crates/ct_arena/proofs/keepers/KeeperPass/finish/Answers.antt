@@ -1,6 +1,5 @@
 use Rattle.std.proofs.Common.{◌≡◌, ◌+◌, length, ap, sym, subst, ◌∙◌, true, None}
 use Rattle.std.specs.Prelude.{All, sum_by}
-use mathlib.Core.List.{IsPrefix}
 use Rattle.ct_word.specs.Reading.{commits_of}
 use Rattle.ct_arena.specs.Counts.{IsLog, AreNumbered, AreOfSessions}
 use Rattle.ct_arena.specs.Seen.{Keeping}

@@ -1,5 +1,4 @@
-use Rattle.std.proofs.Common.{◌∙◌, ap, sym, subst, refl, Some}
-use mathlib.Core.List.{IsPrefix}
+use Rattle.std.proofs.Common.{◌∙◌, ap, sym, subst}
 use Rattle.ct_arena.specs.Counts.{IsLog}
 use Rattle.ct_arena.specs.Own.{IsOwn}
 use Rattle.ct_arena.proofs.Keeping.{session_seen, session_read}
