@@ -27,3 +27,9 @@ select * from supplier where city = 'Paris';
 select city from supplier, supply where name = supplier and part = 'bolt';
 -- Who sent nothing? It depends on who sent the boxes.
 select name from supplier except select supplier from supply;
+-- Who may have sent nothing? Blake: the world behind his name is one in which he sent no box.
+possible select name from supplier except select supplier from supply;
+-- Which parts may have come from Blake? Bolts and screws, if he sent a box. He sent no nuts.
+possible select part from supply where supplier = 'Blake';
+-- What may the sender of the van have sent? Bolts and screws, which were in the van, and nuts if he is Smith.
+possible select part from supply where supplier = ?sender;
