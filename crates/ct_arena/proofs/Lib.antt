@@ -1,4 +1,3 @@
-pub mod Hands
 pub mod Lookup
 pub mod Sole
 pub mod Totals
@@ -7,6 +6,9 @@ pub mod Tied
 pub mod Putting
 pub mod Steps
 pub mod Told
+pub mod Opening
 pub mod Making
 pub mod Placing
-pub mod Stages
+pub mod Keeping
+pub mod Entering
+pub mod Handover

@@ -7,7 +7,7 @@ use lib.ListN.{get_elem?}
 use Rattle.ct_arena.specs.Counts.{opening, numbers_by}
 use Rattle.ct_arena.specs.declared.sharing.View.{View}
 use Rattle.ct_arena.specs.Sharing.{first_view, IsKept, IsShared}
-use Rattle.ct_arena.proofs.Stages.{opening_formed, no_commits, two}
+use Rattle.ct_arena.proofs.Opening.{opening_formed, no_commits, two}
 use Rattle.ct_arena.proofs.Tied.{Sees}
 
 pub more_zeros : (xs : List ℕ) (k n : ℕ) → n ≡ k + 1 → (xs ++ replicate k 0) ++ 0 ∷ [] ≡ xs ++ replicate n 0

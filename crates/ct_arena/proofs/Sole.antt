@@ -1,25 +1,16 @@
 -- What is true of the words of a log stays true as words are put at their end.
-use Rattle.std.proofs.Common.{◌≡◌, ℕ, zero, suc, ◌+◌, ◌*◌, ◌/◌, ◌%◌, ◌<◌, ◌≤◌, ◌^◌, List, [], ◌∷◌, ◌++◌, length, Bool, true, false, refl, sym, ap, ◌∙◌, subst, arith, length-append, add-zero, eq-eqb, inl, inr}
-use Rattle.std.specs.Prelude.{IsTrue, Contains, All, nat_eq, if◌then◌else◌}
+use Rattle.std.proofs.Common.{◌≡◌, ℕ, zero, suc, ◌+◌, ◌*◌, ◌/◌, ◌%◌, ◌<◌, ◌≤◌, ◌^◌, List, [], ◌∷◌, ◌++◌, length, Bool, true, false, refl, sym, ap, ◌∙◌, arith, length-append, add-zero, eq-eqb}
+use Rattle.std.specs.Prelude.{IsTrue, Contains, nat_eq, if◌then◌else◌}
 use Rattle.std.specs.List.{range_with_len}
-use Rattle.std.proofs.lemmas.List.{append_assoc, append-nil}
-use Rattle.std.proofs.lemmas.List.Elements.{All-push}
+use Rattle.std.proofs.lemmas.List.{append_assoc}
 use mathlib.Core.List.{IsPrefix}
-use Rattle.ct_word.specs.declared.kinds.Class.TheVariants as class
 use Rattle.ct_word.specs.Change.{PlainCommit}
 use Rattle.ct_word.specs.Reading.{commits_of, change_list_at}
-use Rattle.ct_word.specs.WellFormed.{is_plain_word, is_word_after, is_place_of}
+use Rattle.ct_word.specs.WellFormed.{is_word_after}
 use Rattle.ct_word.proofs.Packed.{formed_snoc}
-use Rattle.ct_word.proofs.Commits.{commits_plain, commits_commit, plain_follows, commit_follows, commit_stands}
-use Rattle.ct_arena.specs.declared.tally.Tally.{Tally}
+use Rattle.ct_word.proofs.Commits.{commits_commit, commit_stands}
 use Rattle.ct_arena.specs.Counts.{opening, IsLog, AreNumbered, numbers_by, commit_word, commit_of}
-use Rattle.atomic_table.specs.Table.{Me}
-use Rattle.atomic_table.specs.Seated.{TableId}
-use Rattle.ct_arena.specs.declared.handing.View.{View}
-use Rattle.ct_arena.specs.Name.{LogName}
-use Rattle.ct_arena.specs.Seen.{CountsWord, StandsLast}
-use Rattle.ct_arena.specs.Handing.{given_of}
-use Rattle.ct_arena.specs.Kept.{IsSole, IsPass, Puts}
+use Rattle.ct_arena.specs.Seen.{StandsLast}
 use Rattle.ct_arena.proofs.Lookup.{get_last}
 
 pub prefix_push : (xs ys : List ℕ) (w : ℕ) → IsPrefix xs ys → IsPrefix xs (ys ++ w ∷ [])
@@ -76,25 +67,6 @@ log_push room ws w log after lt = record {
   begins = prefix_push opening ws w log.begins;
 }
 
--- the counts after a plain word
-abbrev pub counted : Tally → Tally
-counted t = record { session = t.session; made = t.made + 1; mine = t.mine }
-
--- the counts after a commit
-abbrev pub committed : Tally → Tally
-committed t = record { session = t.session; made = t.made + 1; mine = t.mine + 1 }
-
-pub sole_plain : (room : ℕ) (t : Tally) (ws : List ℕ) (w : ℕ) → IsSole room t ws → IsTrue (is_plain_word ws w) → (Contains ws w → ⊥) → length ws < room → IsSole room (counted t) (ws ++ w ∷ [])
-sole_plain room t ws w sole plain absent lt =
-    let same = commits_plain ws w plain in
-    record {
-      log = log_push room ws w sole.log (plain_follows ws w plain absent) lt;
-      first = sole.first;
-      counted = omega (arith, length-append ws (w ∷ []), sole.counted);
-      numbered = ap (numbers_by t.session) same ∙ sole.numbered;
-      known = subst (λ cs. All (λ c. (1 ≤ c.session) × (c.session ≤ 1)) cs) (sym same) sole.known;
-    }
-
 -- the commit that a commit word adds
 pub commits_grow : (s m b : ℕ) (ws : List ℕ) → s ≤ 1023 → m < 2 ^ 18 → b < 2 ^ 28 → commits_of (ws ++ commit_word s m b ∷ []) ≡ commits_of ws ++ commit_of ws s m b ∷ []
 commits_grow s m b ws sl ml bl =
@@ -103,62 +75,5 @@ commits_grow s m b ws sl ml bl =
     let is_m : (s * 262144 + m) % 262144 ≡ m = omega arith in
     commits_commit ws (s * 262144 + m) b al bl ∙ (λ i. commits_of ws ++ record { session = is_s i; number = is_m i; changes = change_list_at ws b } ∷ [])
 
-pub sole_commit : (room : ℕ) (t : Tally) (ws : List ℕ) (b : ℕ) → IsSole room t ws → t.mine < 2 ^ 18 → b < 2 ^ 28 → IsTrue (is_place_of ws class.ChangeList b) → length ws < room
-    → IsSole room (committed t) (ws ++ commit_word t.session t.mine b ∷ [])
-sole_commit room t ws b sole ml bl list lt =
-    let sl : t.session ≤ 1023 = omega (arith, sole.first) in
-    let al : t.session * 262144 + t.mine < 2 ^ 28 = omega arith in
-    let w = commit_word t.session t.mine b in
-    let grow = commits_grow t.session t.mine b ws sl ml bl in
-    record {
-      log = log_push room ws w sole.log (commit_follows ws (t.session * 262144 + t.mine) b al bl list (fresh t.session t.mine b ws sl ml bl sole.numbered)) lt;
-      first = sole.first;
-      counted = omega (arith, length-append ws (w ∷ []), sole.counted);
-      numbered =
-          ap (numbers_by t.session) grow ∙ numbers_append t.session (commits_of ws) _ ∙ (λ i. sole.numbered i ++ numbers_own t.session (commit_of ws t.session t.mine b) [] refl i)
-          ∙ range_next t.mine (t.mine + 1) refl;
-      known =
-          let own : (1 ≤ t.session) × (t.session ≤ 1) = (omega (arith, sole.first), omega (arith, sole.first)) in
-          subst (λ cs. All (λ c. (1 ≤ c.session) × (c.session ≤ 1)) cs) (sym grow) (All-push (λ c. (1 ≤ c.session) × (c.session ≤ 1)) (commits_of ws) (commit_of ws t.session t.mine b) sole.known own);
-    }
-
--- a list that grew by a word that was put in is still of one session
-pub sole_put : (room : ℕ) (t : Tally) (ws ws' : List ℕ) (made w : ℕ) → IsSole room t ws → IsTrue (is_plain_word ws w) → Puts room ws ws' t.made made w
-    → IsSole room (record { session = t.session; made = made; mine = t.mine }) ws'
-sole_put room t ws ws' made w sole plain (inl same) =
-    let e : t ≡ record { session = t.session; made = made; mine = t.mine } = (λ i. record { session = t.session; made = sym same.1 i; mine = t.mine }) in
-    subst (λ x. IsSole room x ws') e (subst (λ l. IsSole room t l) (sym same.0) sole)
-sole_put room t ws ws' made w sole plain (inr more) =
-    let e : counted t ≡ record { session = t.session; made = made; mine = t.mine } = (λ i. record { session = t.session; made = sym more.1 i; mine = t.mine }) in
-    subst (λ x. IsSole room x ws') e (subst (λ l. IsSole room (counted t) l) (sym more.0) (sole_plain room t ws w sole plain more.2 more.3))
-
-pub longer_put : (room : ℕ) (ws ws' : List ℕ) (old new w : ℕ) → Puts room ws ws' old new w → IsPrefix ws ws'
-longer_put room ws ws' old new w (inl same) = ([], append-nil ws ∙ sym same.0)
-longer_put room ws ws' old new w (inr more) = (w ∷ [], sym more.0)
-
-pub counts_put : (room : ℕ) (ws ws' : List ℕ) (old new w : ℕ) → Puts room ws ws' old new w → CountsWord old new ws' w
-counts_put room ws ws' old new w (inl same) = inl same.1
-counts_put room ws ws' old new w (inr more) =
-    inr (more.1, (length ws, rw (more.0) (record { stands = get_last ws w (length ws) refl; last = omega (arith, length-append ws (w ∷ [])) })))
-
-pub commits_put : (room : ℕ) (ws ws' : List ℕ) (old new w : ℕ) → IsTrue (is_plain_word ws w) → Puts room ws ws' old new w → commits_of ws' ≡ commits_of ws
-commits_put room ws ws' old new w plain (inl same) = ap commits_of same.0
-commits_put room ws ws' old new w plain (inr more) = ap commits_of more.0 ∙ commits_plain ws w plain
-
--- a pass whose list grew so is still a pass
-pub pass_put : (log : LogName) (table : TableId) (me : Me ℕ View) (t : Tally) (ws ws' : List ℕ) (made w : ℕ) → IsPass log table me t ws → IsTrue (is_plain_word ws w) → Puts log.cap ws ws' t.made made w
-    → IsPass log table me (record { session = t.session; made = made; mine = t.mine }) ws'
-pass_put log table me t ws ws' made w pass plain puts = record {
-  named = pass.named;
-  given = pass.given;
-  longer = prefix_trans (given_of me.0) ws ws' pass.longer (longer_put log.cap ws ws' t.made made w puts);
-  commits = commits_put log.cap ws ws' t.made made w plain puts ∙ pass.commits;
-  sole = sole_put log.cap t ws ws' made w pass.sole plain puts;
-}
-
 pub stands_last : (ws : List ℕ) (w place : ℕ) → place ≡ length ws → StandsLast (ws ++ w ∷ []) place w
 stands_last ws w place e = record { stands = get_last ws w place e; last = omega (arith, length-append ws (w ∷ [])) }
-
--- the next commit word of the session stands nowhere yet
-pub next_absent : (room : ℕ) (t : Tally) (ws : List ℕ) (b : ℕ) → IsSole room t ws → t.mine < 2 ^ 18 → b < 2 ^ 28 → Contains ws (commit_word t.session t.mine b) → ⊥
-next_absent room t ws b sole ml bl there = fresh t.session t.mine b ws (omega (arith, sole.first)) ml bl sole.numbered there

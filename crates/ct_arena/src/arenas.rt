@@ -3,8 +3,8 @@
 ghost use Rattle.std.specs.Prelude.{◌≡◌, [], ◌≤◌, ◌<◌, IfOk, None};
 ghost use Rattle.ct_arena.specs.Counts.{opening};
 
-use crate::handing::{Tie, Token};
 use crate::keepers::KeeperPass;
+use crate::sharing::{Token, Words, table};
 use crate::sites::Site;
 use ct_chain::Chain;
 use ct_word::{Kind, Memory, pack};
@@ -15,7 +15,7 @@ use std::marker::{Model, PhantomData};
 #[derive(Drop)]
 pub struct Blank {
     cap: u32,
-    tie: Tie,
+    words: Words,
     token: Token,
     seen: Chain,
 }
@@ -24,15 +24,15 @@ impl Model for Blank {
     ghost use Rattle.std.specs.Prelude.{◌≡◌, ℕ, [], ◌≤◌, ◌<◌};
     ghost use Rattle.ct_arena.specs.Name.{LogName, log_name_coded};
     ghost use Rattle.ct_arena.specs.Counts.{opening};
-    ghost use Rattle.ct_arena.specs.declared.handing.View.TheVariants as views;
+    ghost use Rattle.ct_arena.specs.Sharing.{first_view};
 
     ghost Value = { LogName };
 
     ghost coded = { log_name_coded };
 
-    ghost view = { λ b. record { cap = b.cap; table = b.tie.shared.table_id } };
+    ghost view = { λ b. record { cap = b.cap; table = b.words.shared.table_id } };
 
-    ghost invariant = { λ b. (b.token.table_id ≡ b.tie.shared.table_id) × (b.token.id ≡ 0) × (b.token.me ≡ (views.Held, [])) × (0 < b.tie.shared.table_id.words) × (b.seen.words ≡ opening) × (b.seen.room ≡ b.cap) × (64 ≤ b.cap) × (b.cap ≤ 4194304) };
+    ghost invariant = { λ b. (b.token.table_id ≡ b.words.shared.table_id) × (b.token.me ≡ (first_view b.cap, [])) × (b.words.shared.table_id.words ≡ b.words.shared.key) × (b.cap ≡ b.words.shared.key) × (b.seen.words ≡ opening) × (b.seen.room ≡ b.cap) × (64 ≤ b.cap) × (b.cap ≤ 4194304) };
 }
 
 impl Blank {
@@ -49,10 +49,10 @@ impl Blank {
         let mut seen = Chain::make(alloc, cap)?;
         seen.push(pack(Kind::True, 0, 0));
         seen.push(pack(Kind::False, 0, 0));
-        let (tie, token) = Tie::of_words(alloc, &[0], &0)?;
+        let (words, token) = table(alloc, cap)?;
         Ok(Blank {
             cap,
-            tie,
+            words,
             token,
             seen,
         })
@@ -63,10 +63,11 @@ impl Blank {
 #[derive(Drop)]
 pub struct Arena<N: Site> {
     pub(crate) cap: u32,
-    pub(crate) tie: Tie,
+    pub(crate) words: Words,
     site: PhantomData<N>,
-    ghost table: { tie.shared.table_id ≡ N.log.table },
-    ghost word: { 0 < N.log.table.words },
+    ghost table: { words.shared.table_id ≡ N.log.table },
+    ghost count: { words.shared.table_id.words ≡ words.shared.key },
+    ghost key: { cap ≡ words.shared.key },
     ghost room: { cap ≡ N.log.cap },
     ghost least: { 64 ≤ N.log.cap },
     ghost most: { N.log.cap ≤ 4194304 },
@@ -80,13 +81,13 @@ impl<N: Site> Arena<N> {
     {
         let Blank {
             cap,
-            tie,
+            words,
             token,
             seen,
         } = blank;
         let arena = Arena {
             cap,
-            tie,
+            words,
             site: PhantomData,
         };
         (arena, KeeperPass::from_parts(token, seen))

@@ -1,6 +1,6 @@
 // Reading on in the shared log, and putting words at its end.
 
-ghost use Rattle.std.specs.Prelude.{◌≡◌, ◌+◌, ◌<◌, ◌≤◌, ◌^◌, ◌↔◌, [], true, length, if◌then◌else◌, Some, IfOk, OnErr, IsOk, IsErr, slice_get, Contains};
+ghost use Rattle.std.specs.Prelude.{◌≡◌, ◌+◌, ◌<◌, ◌≤◌, ◌^◌, ◌↔◌, ◌⊎◌, [], true, length, if◌then◌else◌, Some, IfOk, OnErr, IsOk, IsErr, slice_get, Contains};
 ghost use mathlib.Core.List.{IsPrefix};
 ghost use Rattle.ct_word.specs.Reading.{commits_of};
 ghost use Rattle.ct_word.specs.WellFormed.{is_commit_word};
@@ -69,6 +69,7 @@ pub fn put(
     ensures known { Contains seen.old.words w → IsOk result × (seen.new ≡ seen.old) × (tally.new ≡ tally.old) }
     ensures full { IsErr result ↔ ((length seen.new.words ≡ cap) × ¬ Contains seen.new.words w) }
     ensures err { OnErr result (tally.new ≡ tally.old) }
+    ensures last { IfOk result (λ place. (tally.new ≡ tally.old) ⊎ (length seen.new.words ≡ place + 1)) }
 {
     if let Some(place) = seen.find(w) {
         return Ok(place);

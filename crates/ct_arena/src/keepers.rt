@@ -5,19 +5,21 @@ ghost use mathlib.Core.List.{IsPrefix};
 ghost use Rattle.ct_word.specs.WellFormed.{IsWellFormed, is_plain_word, is_place_of};
 ghost use Rattle.ct_word.specs.Reading.{commits_of};
 ghost use Rattle.ct_arena.specs.Counts.{opening, commit_word, commit_of, numbers_by, AreNumbered, AreOfSessions};
-ghost use Rattle.ct_arena.specs.Kept.{IsKeeper, IsBehind};
+ghost use Rattle.ct_arena.specs.Kept.{IsNamed, IsKeeper, IsBehind};
+ghost use Rattle.ct_arena.specs.Sharing.{first_view, longer};
 ghost use Rattle.ct_arena.specs.Seen.{CountsWord, StandsLast, tally_of, pass_of};
 ghost use Rattle.ct_word.specs.declared.kinds.Class.TheVariants as class;
 ghost use Rattle.std.specs.List.{range_with_len};
 
 use crate::arenas::Arena;
+use crate::following::{put, read_on};
 use crate::full::Full;
-use crate::handing::{Token, give, take_back};
-use crate::interning::{follow, put};
+use crate::interning::follow;
 use crate::logs::Log;
 use crate::passes::Pass;
+use crate::sharing::{Token, enrol_seat, lay_by, leave_seat, take_in};
 use crate::sites::Site;
-use crate::tally::{Stage, Tally};
+use crate::tally::Tally;
 use ct_chain::Chain;
 use ct_word::{Kind, Memory, pack};
 use std::alloc::Global;
@@ -58,20 +60,21 @@ pub struct KeeperPass<N: Site> {
     token: Token,
     seen: Chain,
     spare: Option<Chain>,
-    stage: Stage,
+    guest: Option<Tally>,
+    enrolled: u32,
     site: PhantomData<N>,
 }
 
 impl<N: Site> Model for KeeperPass<N> {
     ghost use Rattle.std.specs.Prelude.{◌≡◌};
     ghost use Rattle.ct_arena.specs.Seen.{Keeping};
-    ghost use Rattle.ct_arena.specs.Kept.{IsKeeper, IsSpare, enrolled_at, guest_at, ended_at};
+    ghost use Rattle.ct_arena.specs.Kept.{IsKeeper, IsSpare};
 
     ghost Value = { Keeping };
 
-    ghost view = { λ k. record { words = k.seen.words; enrolled = enrolled_at k.stage; guest = guest_at k.stage; ended = ended_at k.stage } };
+    ghost view = { λ k. record { words = k.seen.words; enrolled = k.enrolled; guest = k.guest; ended = k.token.me.0.ended } };
 
-    ghost invariant = { λ k. IsKeeper N.log k.token.table_id k.token.id k.token.me k.seen.words k.stage × (k.seen.room ≡ N.log.cap) × IsSpare k.seen k.stage k.spare };
+    ghost invariant = { λ k. IsKeeper N.log k.token.table_id k.token.me k.seen.words k.enrolled k.guest × (k.seen.room ≡ N.log.cap) × IsSpare k.seen k.guest k.spare };
 }
 
 // Another list of these words, with as much room.
@@ -97,16 +100,32 @@ fn caught_up(spare: Option<Chain>, seen: &Chain) -> Chain
     list
 }
 
+// Keeps the longer of two lists, and gives the shorter one.
+fn keep_longer(seen: &mut Chain, other: Chain) -> Chain
+    ensures kept { seen.new.words ≡ longer seen.old.words other.words }
+    ensures rooms { ((seen.new ≡ other) × (result ≡ seen.old)) ⊎ ((seen.new ≡ seen.old) × (result ≡ other)) }
+{
+    if seen.words().len() < other.words().len() {
+        mem::replace(seen, other)
+    } else {
+        other
+    }
+}
+
 impl<N: Site> KeeperPass<N> {
     pub(crate) fn from_parts(token: Token, seen: Chain) -> KeeperPass<N>
-        requires { IsKeeper N.log token.table_id token.id token.me seen.words Stage.Expected × (seen.room ≡ N.log.cap) }
+        requires seat { token.me ≡ (first_view N.log.cap, []) }
+        requires named { IsNamed N.log token.table_id }
+        requires words { seen.words ≡ opening }
+        requires room { seen.room ≡ N.log.cap }
         ensures { result ≡ record { words = seen.words; enrolled = 0; guest = None; ended = [] } }
     {
         KeeperPass {
             token,
             seen,
             spare: None,
-            stage: Stage::Expected,
+            guest: None,
+            enrolled: 0,
             site: PhantomData,
         }
     }
@@ -117,18 +136,16 @@ impl<N: Site> KeeperPass<N> {
     /// `Memory` where there is none for the session's list.
     pub fn enrol(&mut self, alloc: Global, arena: &Arena<N>) -> Result<Pass<N>, Memory>
         requires guest { self.old.guest ≡ None }
-
-        // Until the log is shared there is one session.
-        requires first { self.old.enrolled ≡ 0 }
+        requires number { self.old.enrolled < 1023 }
         ensures pass { IfOk result (λ pass. pass ≡ record { session = self.old.enrolled + 1; words = self.old.words; made = 0; mine = 0 }) }
         ensures ok { OnOk result (self.new ≡ record { words = self.old.words; enrolled = self.old.enrolled + 1; guest = None; ended = self.old.ended }) }
         ensures err { OnErr result (self.new ≡ self.old) }
     {
         let seen = copied(alloc, arena.cap, &self.seen)?;
-        let token = give(&arena.tie, &mut self.token, self.seen.words());
-        self.stage = Stage::Away;
+        let token = enrol_seat(&arena.words, &mut self.token);
+        self.enrolled += 1;
         let tally = Tally {
-            session: 1,
+            session: self.enrolled,
             made: 0,
             mine: 0,
         };
@@ -166,9 +183,10 @@ impl<N: Site> KeeperPass<N> {
             seen,
             site: _,
         } = pass;
-        take_back(&arena.tie, &mut self.token, token);
-        self.spare = Some(mem::replace(&mut self.seen, seen));
-        self.stage = Stage::Entered(tally);
+        take_in(&arena.words, &mut self.token, token);
+        let shorter = keep_longer(&mut self.seen, seen);
+        self.spare = Some(shorter);
+        self.guest = Some(tally);
         Guest {
             tally,
             site: PhantomData,
@@ -183,8 +201,8 @@ impl<N: Site> KeeperPass<N> {
     {
         let Guest { tally, site: _ } = guest;
         let spare = caught_up(self.spare.take(), &self.seen);
-        let token = give(&arena.tie, &mut self.token, self.seen.words());
-        self.stage = Stage::Away;
+        let token = leave_seat(&arena.words, &mut self.token);
+        self.guest = None;
         Pass::from_parts(token, tally, spare)
     }
 
@@ -209,13 +227,17 @@ impl<N: Site> KeeperPass<N> {
         ensures ended { self.new.ended ≡ self.old.ended }
         ensures full { IsErr result ↔ ((length self.new.words ≡ N.log.cap) × ¬ Contains self.new.words w) }
         ensures err { OnErr result (guest.new ≡ guest.old) }
-
-        // While no other session is enrolled, nothing else is appended.
-        ensures alone { ¬ Contains self.old.words w → OnOk result ((self.new.words ≡ self.old.words ++ w ∷ []) × (guest.new.made ≡ guest.old.made + 1)) }
-        ensures alone_err { OnErr result (self.new ≡ self.old) }
     {
-        let result = put(&mut self.seen, arena.cap, &mut guest.tally.made, w);
-        self.stage = Stage::Entered(guest.tally);
+        let result = put(
+            &arena.words,
+            arena.cap,
+            &mut self.token,
+            &mut self.seen,
+            &mut guest.tally,
+            0,
+            w,
+        );
+        self.guest = Some(guest.tally);
         result
     }
 
@@ -244,22 +266,23 @@ impl<N: Site> KeeperPass<N> {
         ensures full { IsErr result ↔ ((length self.new.words ≡ N.log.cap) × ¬ Contains self.new.words (commit_word guest.old.session guest.old.mine changes)) }
         ensures err { OnErr result (guest.new ≡ guest.old) }
         ensures none { OnErr result (commits_of self.new.words ≡ commits_of self.old.words) }
-
-        // While no other session is enrolled, nothing else is appended.
-        ensures alone { OnOk result (self.new.words ≡ self.old.words ++ commit_word guest.old.session guest.old.mine changes ∷ []) }
-        ensures alone_full { IsErr result ↔ (length self.old.words ≡ N.log.cap) }
-        ensures alone_err { OnErr result (self.new ≡ self.old) }
+        ensures grows { OnOk result (length self.old.words < length self.new.words) }
     {
-        let place = self.seen.words().len() as u32;
-        if place == arena.cap {
-            return Err(Full);
-        }
+        // What the pass keeps of its guest bounds the number.
+        let _ = &self.seen;
         let numbered = guest.tally.session * COMMITS_OF_SESSION + guest.tally.mine;
-        self.seen.push(pack(Kind::Commit, numbered, changes));
-        guest.tally.made += 1;
-        guest.tally.mine += 1;
-        self.stage = Stage::Entered(guest.tally);
-        Ok(place)
+        let w = pack(Kind::Commit, numbered, changes);
+        let result = put(
+            &arena.words,
+            arena.cap,
+            &mut self.token,
+            &mut self.seen,
+            &mut guest.tally,
+            1,
+            w,
+        );
+        self.guest = Some(guest.tally);
+        result
     }
 
     /// Takes a pass whose session appends no more. The keeper has the longer of both lists.
@@ -275,8 +298,9 @@ impl<N: Site> KeeperPass<N> {
         ensures guest { self.new.guest ≡ None }
     {
         let Guest { tally, .. } = self.enter(arena, pass);
+        lay_by(&arena.words, &mut self.token);
         self.spare = None;
-        self.stage = Stage::Ended(tally);
+        self.guest = None;
         Ended {
             session: tally.session,
             made: tally.made,
@@ -297,7 +321,12 @@ impl<N: Site> KeeperPass<N> {
         ensures numbered { All (λ t. AreNumbered t.session t.mine result) self.ended }
         ensures known { AreOfSessions self.enrolled result }
     {
-        let _ = arena;
-        Log::from_parts(self.seen.into_words())
+        let KeeperPass {
+            mut token,
+            mut seen,
+            ..
+        } = self;
+        read_on(&arena.words, arena.cap, &mut token, &mut seen);
+        Log::from_parts(seen.into_words())
     }
 }

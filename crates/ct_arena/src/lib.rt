@@ -1,14 +1,13 @@
 //! The log of a server's words, and what each session and the keeper have seen of it.
 //!
 //! A `Blank` becomes an `Arena` with the `KeeperPass` once a `Site` names it. A session appends through its `Pass`;
-//! to commit, the pass enters the keeper as its `Guest`, and leaves again. The list is not shared yet: one session
-//! is enrolled, and keeper and session each have a copy, of which the one whose turn it is grows (`specs/Handing.antt`).
+//! to commit, the pass enters the keeper as its `Guest`, and leaves again. The log is a table of words that all share,
+//! and each pass has a list of what it has seen (`specs/Sharing.antt`).
 #![tactic(auto)]
 
 mod arenas;
 mod following;
 mod full;
-mod handing;
 mod interning;
 mod keepers;
 mod logs;

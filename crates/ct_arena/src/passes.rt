@@ -8,9 +8,9 @@ ghost use Rattle.ct_arena.specs.Kept.{IsPass};
 ghost use Rattle.ct_arena.specs.Seen.{CountsWord};
 
 use crate::arenas::Arena;
+use crate::following::{put, read_on};
 use crate::full::Full;
-use crate::handing::Token;
-use crate::interning::put;
+use crate::sharing::Token;
 use crate::sites::Site;
 use crate::tally::Tally;
 use ct_chain::Chain;
@@ -102,15 +102,19 @@ impl<N: Site> Pass<N> {
         ensures session { self.new.session ≡ self.old.session }
         ensures full { IsErr result ↔ ((length self.new.words ≡ N.log.cap) × ¬ Contains self.new.words w) }
         ensures err { OnErr result (self.new.made ≡ self.old.made) }
-
-        // While no other session is enrolled, nothing else is appended.
-        ensures alone { ¬ Contains self.old.words w → OnOk result (self.new ≡ record { session = self.old.session; words = self.old.words ++ w ∷ []; made = self.old.made + 1; mine = self.old.mine }) }
-        ensures alone_err { OnErr result (self.new ≡ self.old) }
     {
-        put(&mut self.seen, arena.cap, &mut self.tally.made, w)
+        put(
+            &arena.words,
+            arena.cap,
+            &mut self.token,
+            &mut self.seen,
+            &mut self.tally,
+            0,
+            w,
+        )
     }
 
-    /// Reads on to the end of the log.
+    /// Reads on to the first empty word.
     pub fn catch_up(&mut self, arena: &Arena<N>)
         ensures longer { IsPrefix self.old.words self.new.words }
         ensures formed { IsWellFormed self.new.words }
@@ -118,11 +122,7 @@ impl<N: Site> Pass<N> {
         ensures made { self.new.made ≡ self.old.made }
         ensures mine { self.new.mine ≡ self.old.mine }
         ensures session { self.new.session ≡ self.old.session }
-
-        // While no other session is enrolled, there is nothing more to read.
-        ensures alone { self.new ≡ self.old }
     {
-        let _ = arena;
-        let _ = &self.seen;
+        read_on(&arena.words, arena.cap, &mut self.token, &mut self.seen);
     }
 }

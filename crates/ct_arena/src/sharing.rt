@@ -183,7 +183,7 @@ pub fn take_in(words: &Words, keeper: &mut Token, session: Token)
     requires session { session.table_id ≡ words.now.shared.table_id }
     requires free { keeper.old.me.1 ≡ [] }
     requires session_free { session.me.1 ≡ [] }
-    requires alone { keeper.old.me.0.guest ≡ None }
+    requires guest { keeper.old.me.0.guest ≡ None }
     requires bare { session.me.0.ended ≡ [] }
     ensures table { keeper.new.table_id ≡ keeper.old.table_id }
     ensures taken { IsSettled (joined keeper.old.me.0 session.me.0) keeper.new.me }

@@ -1,43 +1,44 @@
 -- Interning adds no commit word.
-use Rattle.std.proofs.Common.{◌≡◌, ℕ, true, false, not, ◌&&◌, Bool, List, [], ◌∷◌, ◌++◌, append-nil, refl, ap, sym, ◌∙◌, Ok, Err, inl, inr, arith}
-use Rattle.std.specs.Prelude.{◌⊎◌, if◌then◌else◌, IsTrue, Result, OnOk, OnErr}
-use Rattle.std.specs.List.{Contains}
-use Rattle.std.proofs.lemmas.Bool.Decides.{eqb_tells}
-use Rattle.std.proofs.lemmas.List.Elements.{filter-append, Contains-append_right, Contains-append_cases, Contains-push_cases}
-use Rattle.ct_word.specs.WellFormed.{is_commit_word, is_word_over, is_plain_word}
+use Rattle.std.proofs.Common.{◌≡◌, ℕ, ◌+◌, true, false, Bool, List, [], ◌∷◌, ◌++◌, length, append-nil, length-append, refl, ap, sym, ◌∙◌, Option, Some, None, arith}
+use Rattle.std.specs.Prelude.{if◌then◌else◌, filter_map}
+use Rattle.std.proofs.lemmas.List.{nil_from_length}
+use Rattle.std.proofs.lemmas.List.Elements.{filter-append, filter_map-append}
+use mathlib.Core.List.{IsPrefix}
+use Rattle.ct_word.specs.declared.kinds.Kind.{Kind}
+use Rattle.ct_word.specs.declared.kinds.Kind.TheVariants as kind
+use Rattle.ct_word.specs.declared.kinds.Class.TheVariants as class
+use Rattle.ct_word.specs.Word.{kind_of, left_of, right_of}
+use Rattle.ct_word.specs.Reading.{Meaning, as_commit, by_kind, meaning_of, read, commits_of}
+use Rattle.ct_word.specs.WellFormed.{has_class, is_commit_word}
 use Rattle.ct_condition.specs.CommitWords.{commit_words}
 
--- a word is among others or it is not
-among_or_not : (ws : List ℕ) (w : ℕ) → Contains ws w ⊎ (Contains ws w → ⊥)
-among_or_not [] w = inr (λ h. omega (arith, h.1))
-among_or_not (x ∷ ws) w = elim (eqb_tells x w) [
-  | inl same ↦ inl (0, omega arith, same.1)
-  | inr other ↦ elim (among_or_not ws w) [
-    | inl h ↦ inl (Contains-append_right (x ∷ []) ws w h)
-    | inr none ↦ inr (λ h. elim (Contains-append_cases (x ∷ []) ws w h) [
-      | inl a ↦ elim (Contains-push_cases [] x w a) [ inl n ↦ omega (arith, n.1) | inr e ↦ other.1 e ]
-      | inr b ↦ none b
-    ])
-  ]
-]
+-- a word stands for a commit where its kind is a commit's
+by_kinds : (k : Option Kind) (ms : List Meaning) (a b w : ℕ) → length (filter_map as_commit (by_kind k ms a b ∷ [])) ≡ length (if has_class k class.Commit then w ∷ [] else [])
+by_kinds None ms a b w = refl
+by_kinds (Some kind.Commit) ms a b w = refl
+by_kinds (Some _) ms a b w = refl
 
--- a plain word is no commit
-no_commit : (words : List ℕ) (w : ℕ) → IsTrue (is_plain_word words w) → is_commit_word w ≡ false
-no_commit words w plain = from (is_word_over words w) (is_commit_word w) plain where
-  from : (a b : Bool) → IsTrue (a && not b) → b ≡ false
-  from true true e = sym e
-  from true false e = refl
-  from false true e = cc
-  from false false e = refl
+one_word : (ms : List Meaning) (w : ℕ) → length (filter_map as_commit (meaning_of ms w ∷ [])) ≡ length (commit_words (w ∷ []))
+unfolding meaning_of is_commit_word
+one_word ms w = by_kinds (kind_of w) ms (left_of w) (right_of w) w
 
-one_more : (old : List ℕ) (w : ℕ) → is_commit_word w ≡ false → commit_words (old ++ w ∷ []) ≡ commit_words old
-one_more old w e =
-    filter-append is_commit_word old (w ∷ []) ∙ ap (λ b. commit_words old ++ (if b then w ∷ [] else [])) e ∙ append-nil (commit_words old)
+counts : (ms : List Meaning) (ws : List ℕ) → length (filter_map as_commit (read ms ws)) ≡ length (filter_map as_commit ms) + length (commit_words ws)
+counts ms [] = omega arith
+counts ms (w ∷ ws) =
+    omega (
+      arith,
+      counts (ms ++ meaning_of ms w ∷ []) ws,
+      ap length (filter_map-append as_commit ms (meaning_of ms w ∷ [])),
+      length-append (filter_map as_commit ms) (filter_map as_commit (meaning_of ms w ∷ [])),
+      one_word ms w,
+      ap length (filter-append is_commit_word (w ∷ []) ws),
+      length-append (commit_words (w ∷ [])) (commit_words ws),
+    )
 
--- the commit words stay, as a plain word is interned for a guest
-pub commits_stay : {E : Type 0} (r : Result ℕ E) (old new : List ℕ) (w : ℕ) → IsTrue (is_plain_word old w) → (Contains old w → new ≡ old) → ((Contains old w → ⊥) → OnOk r (new ≡ old ++ w ∷ [])) → OnErr r (new ≡ old) → commit_words new ≡ commit_words old
-commits_stay (Err e) old new w plain known alone err = ap commit_words err
-commits_stay (Ok p) old new w plain known alone err = elim (among_or_not old w) [
-  | inl h ↦ ap commit_words (known h)
-  | inr none ↦ ap commit_words (alone none) ∙ one_more old w (no_commit old w plain)
-]
+-- where no commit came, no commit word did
+pub commits_stay : (old new : List ℕ) → IsPrefix old new → commits_of new ≡ commits_of old → commit_words new ≡ commit_words old
+commits_stay old new p same =
+    let split : commit_words new ≡ commit_words old ++ commit_words p.0 = ap commit_words (sym p.1) ∙ filter-append is_commit_word old p.0 in
+    let none : commit_words p.0 ≡ [] =
+    nil_from_length (commit_words p.0) (omega (arith, ap length same, counts [] new, counts [] old, ap length split, length-append (commit_words old) (commit_words p.0))) in
+    split ∙ ap (λ l. commit_words old ++ l) none ∙ append-nil (commit_words old)

@@ -1,5 +1,6 @@
 pub mod Sessions
 pub mod Progress
 pub mod Lawful
+pub mod Complete
 pub mod Scripts
 pub mod Runs

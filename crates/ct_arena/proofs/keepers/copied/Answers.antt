@@ -1,5 +1,5 @@
 use Rattle.std.proofs.Common.{ap, ◌∙◌, sym}
-use Rattle.ct_arena.proofs.Stages.{empty_behind}
+use Rattle.ct_arena.proofs.Entering.{empty_behind}
 use Rattle.ct_arena.proofs.keepers.copied.Goals as goal
 
 pub follow-requires : goal.follow-requires

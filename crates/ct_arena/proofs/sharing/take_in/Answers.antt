@@ -6,7 +6,7 @@ use Rattle.ct_arena.proofs.sharing.take_in.Goals as goal
 pub join_seat-requires : goal.join_seat-requires
 join_seat-requires c =
     let some : 0 < c.args.words.now.shared.table_id.words = rw (c.requires.room) c.requires.some in
-    (c.requires.table, c.requires.session, c.requires.session_free, some, enters _ _ _ _ _ c.requires.alone c.requires.bare)
+    (c.requires.table, c.requires.session, c.requires.session_free, some, enters _ _ _ _ _ c.requires.guest c.requires.bare)
 
 pub load-requires : goal.load-requires
 load-requires c =

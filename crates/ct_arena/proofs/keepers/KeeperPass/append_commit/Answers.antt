@@ -1,93 +1,176 @@
-use Rattle.std.proofs.Common.{◌≡◌, [], ◌∷◌, ◌++◌, ◌<◌, ◌≤◌, ◌^◌, length, ap, subst, arith, ◌∙◌, sym, Some, refl}
+use Rattle.std.proofs.Common.{◌≡◌, ◌+◌, ◌<◌, ◌^◌, length, ap, sym, subst, ◌∙◌, Some, inr, arith, refl, true}
+use Rattle.std.specs.Prelude.{IsTrue, IfOk, OnOk, [], ◌∷◌, ◌++◌}
+use mathlib.Core.List.{IsPrefix}
 use Rattle.ct_word.specs.declared.kinds.Class.TheVariants as class
-use Rattle.std.specs.Prelude.{IsTrue, Contains}
-use Rattle.ct_word.specs.Reading.{commits_of}
 use Rattle.ct_word.specs.WellFormed.{is_place_of}
 use Rattle.ct_word.proofs.Growth.{place_within}
+use Rattle.ct_arena.specs.Own.{IsOwn}
+use Rattle.ct_arena.specs.Sharing.{keeper_view}
+use Rattle.ct_word.specs.Reading.{commits_of}
 use Rattle.ct_arena.specs.Counts.{commit_word, commit_of}
 use Rattle.ct_arena.specs.Seen.{Keeping, StandsLast}
 use Rattle.ct_arena.specs.declared.tally.Tally.{Tally}
-use Rattle.ct_arena.specs.Kept.{IsSole, guest_at}
-use Rattle.ct_arena.proofs.Sole.{committed, sole_commit, commits_grow, stands_last, next_absent}
-use Rattle.ct_arena.proofs.Stages.{keeper_guest, stage_guest, stage_log, spare_grows}
-use Rattle.ct_arena.proofs.keepers.KeeperPass.append_commit.Given as given
+use Rattle.ct_arena.proofs.Handover.{keeper_put, known_put, spare_put, both_ok, ok_then, ok_more, err_then}
+use Rattle.ct_arena.proofs.Keeping.{keeper_seat, commit_counts, outcome_longer, outcome_session, outcome_none, IsCommitted, outcome_commit}
 use Rattle.ct_arena.proofs.keepers.KeeperPass.append_commit.Goals as goal
 
-module _ (g : given.Over) (c : goal.After-self-2-1 g) where
-  entered : guest_at c.self.inside.stage ≡ Some c.guest.inside.tally
-  entered = ap (λ v. v.guest) c.self.view_is ∙ c.requires.guest ∙ sym (ap Some c.guest.view_is)
+pub put-result-requires-clause-seat : goal.put-result-requires-clause-seat
+put-result-requires-clause-seat g c =
+    let entered : c.self.inside.guest ≡ Some c.guest.inside.tally = ap (λ v. v.guest) c.self.view_is ∙ c.requires.guest ∙ sym (ap Some c.guest.view_is) in
+    keeper_seat c.self.inside.token.me g.N.Site.log.cap c.self.inside.enrolled c.guest.inside.tally c.self.inside.token.me.0.ended c.self.inside.seen.words
+    (subst (λ o. c.self.inside.token.me ≡ (keeper_view g.N.Site.log.cap c.self.inside.seen.words c.self.inside.enrolled o c.self.inside.token.me.0.ended, [])) entered c.self.invariant.0.seat)
 
-  sole : IsSole g.N.Site.log.cap c.guest.inside.tally c.self.inside.seen.words
-  sole = (stage_guest g.N.Site.log.cap _ c.self.inside.seen.words c.self.inside.stage c.guest.inside.tally entered c.self.invariant.0.stage).1
+pub put-result-requires-clause-own : goal.put-result-requires-clause-own
+put-result-requires-clause-own g c =
+    let entered : c.self.inside.guest ≡ Some c.guest.inside.tally = ap (λ v. v.guest) c.self.view_is ∙ c.requires.guest ∙ sym (ap Some c.guest.view_is) in
+    subst (λ n. IsOwn n c.guest.inside.tally c.self.inside.seen.words) (sym c.args.arena.now.room) (c.self.invariant.0.own c.guest.inside.tally entered).0
 
-  list : IsTrue (is_place_of c.self.inside.seen.words class.ChangeList c.args.changes)
-  list = rw (ap (λ v. v.words) c.self.view_is) c.requires.changes
+pub put-result-requires-clause-next : goal.put-result-requires-clause-next
+put-result-requires-clause-next g c =
+    let entered : c.self.inside.guest ≡ Some c.guest.inside.tally = ap (λ v. v.guest) c.self.view_is ∙ c.requires.guest ∙ sym (ap Some c.guest.view_is) in
+    let own = (c.self.invariant.0.own c.guest.inside.tally entered).0 in
+    let list : IsTrue (is_place_of c.self.inside.seen.words class.ChangeList c.args.changes) = rw (ap (λ v. v.words) c.self.view_is) c.requires.changes in
+    let number : c.guest.inside.tally.mine < 2 ^ 18 = rw (ap (λ v. v.mine) c.guest.view_is) c.requires.number in
+    let within : c.args.changes < length c.self.inside.seen.words = place_within c.self.inside.seen.words class.ChangeList c.args.changes list in
+    let small : c.args.changes < 2 ^ 28 = omega (arith, within, own.log.room, c.self.invariant.0.named.most) in
+    let keeps : c.self.inside.token.me.0.keeps ≡ true = ap (λ m. m.0.keeps) c.self.invariant.0.seat in
+    inr (record { changes = c.args.changes; keeper = keeps; session = own.most; number = number; small = small; list = list; word = c.pack-w.ensures.word })
 
-  small : c.args.changes < 2 ^ 28
-  small = omega (arith, place_within c.self.inside.seen.words class.ChangeList c.args.changes list, sole.log.room, c.self.invariant.0.named.most)
-
-  number : c.guest.inside.tally.mine < 2 ^ 18
-  number = rw (ap (λ v. v.mine) c.guest.view_is) c.requires.number
-
-  items : c.push.new.self.words ≡ c.self.inside.seen.words ++ commit_word c.guest.inside.tally.session c.guest.inside.tally.mine c.args.changes ∷ []
-  items = ap (λ v. v.words) c.push.ensures ∙ ap (λ w. c.self.inside.seen.words ++ w ∷ []) c.pack.ensures.word
-
-  place : length c.words.result.now ≡ length c.self.inside.seen.words
-  place = ap length c.words.ensures.words
-
-  room : length c.self.inside.seen.words < g.N.Site.log.cap
-  room = omega (arith, place, sole.log.room, c.args.arena.now.room, c.if-place-arena.false)
+pub put-result-requires-clause-commits : goal.put-result-requires-clause-commits
+put-result-requires-clause-commits g c =
+    let entered : c.self.inside.guest ≡ Some c.guest.inside.tally = ap (λ v. v.guest) c.self.view_is ∙ c.requires.guest ∙ sym (ap Some c.guest.view_is) in
+    let own = (c.self.invariant.0.own c.guest.inside.tally entered).0 in
+    let list : IsTrue (is_place_of c.self.inside.seen.words class.ChangeList c.args.changes) = rw (ap (λ v. v.words) c.self.view_is) c.requires.changes in
+    let number : c.guest.inside.tally.mine < 2 ^ 18 = rw (ap (λ v. v.mine) c.guest.view_is) c.requires.number in
+    let within : c.args.changes < length c.self.inside.seen.words = place_within c.self.inside.seen.words class.ChangeList c.args.changes list in
+    let small : c.args.changes < 2 ^ 28 = omega (arith, within, own.log.room, c.self.invariant.0.named.most) in
+    let keeps : c.self.inside.token.me.0.keeps ≡ true = ap (λ m. m.0.keeps) c.self.invariant.0.seat in
+    commit_counts c.guest.inside.tally.session c.guest.inside.tally.mine c.args.changes c.pack-w.result _ refl own.most number small c.pack-w.ensures.word
 
 pub invariant_of-self : goal.invariant_of-self
-invariant_of-self g c = (
-  keeper_guest g.N.Site.log _ _ _ c.self.inside.seen.words c.push.new.self.words c.self.inside.stage c.guest.inside.tally _ (entered g c) c.self.invariant.0
-      (λ was. subst (λ l. IsSole g.N.Site.log.cap (committed c.guest.inside.tally) l) (sym (items g c))
-      (sole_commit g.N.Site.log.cap c.guest.inside.tally c.self.inside.seen.words c.args.changes was (number g c) (small g c) (list g c) (room g c))),
-  ap (λ v. v.room) c.push.ensures ∙ c.self.invariant.1,
-  spare_grows c.self.inside.seen c.push.new.self c.self.inside.stage c.self.inside.spare c.guest.inside.tally (committed c.guest.inside.tally) (entered g c) c.self.invariant.2 (ap (λ v. v.room) c.push.ensures) (_, sym (items g c)),
-)
+invariant_of-self g c =
+    let entered : c.self.inside.guest ≡ Some c.guest.inside.tally = ap (λ v. v.guest) c.self.view_is ∙ c.requires.guest ∙ sym (ap Some c.guest.view_is) in
+    let own = (c.self.invariant.0.own c.guest.inside.tally entered).0 in
+    let list : IsTrue (is_place_of c.self.inside.seen.words class.ChangeList c.args.changes) = rw (ap (λ v. v.words) c.self.view_is) c.requires.changes in
+    let number : c.guest.inside.tally.mine < 2 ^ 18 = rw (ap (λ v. v.mine) c.guest.view_is) c.requires.number in
+    let within : c.args.changes < length c.self.inside.seen.words = place_within c.self.inside.seen.words class.ChangeList c.args.changes list in
+    let small : c.args.changes < 2 ^ 28 = omega (arith, within, own.log.room, c.self.invariant.0.named.most) in
+    let keeps : c.self.inside.token.me.0.keeps ≡ true = ap (λ m. m.0.keeps) c.self.invariant.0.seat in
+    let owner = c.self.invariant.0.own c.guest.inside.tally entered in (
+      keeper_put g.N.Site.log c.self.inside.token.table_id c.put-result.new.token.table_id c.self.inside.token.me c.put-result.new.token.me c.self.inside.seen.words c.put-result.new.seen.words c.self.inside.enrolled c.self.inside.guest c.guest.inside.tally
+          c.put-result.new.tally c.self.invariant.0 entered c.put-result.ensures.table c.put-result.ensures.seat (subst (λ n. IsOwn n c.put-result.new.tally c.put-result.new.seen.words) c.args.arena.now.room c.put-result.ensures.own)
+          (outcome_session _ _ _ _ _ c.pack-w.result c.put-result.ensures.outcome)
+          (known_put c.self.inside.enrolled _ c.guest.inside.tally c.put-result.new.tally c.self.inside.seen.words c.put-result.new.seen.words c.pack-w.result c.args.changes keeps own.most number small c.pack-w.ensures.word own.least owner.1 c.put-result.ensures.outcome
+          c.self.invariant.0.known),
+      c.put-result.ensures.chain ∙ c.args.arena.now.room,
+      spare_put c.self.inside.seen c.put-result.new.seen c.self.inside.guest c.self.inside.spare c.guest.inside.tally c.put-result.new.tally entered c.self.invariant.2 (c.put-result.ensures.chain ∙ c.args.arena.now.room ∙ sym c.self.invariant.1)
+          (outcome_longer _ _ _ _ _ c.pack-w.result c.put-result.ensures.outcome),
+    )
 
 pub returns-clause-ok : goal.returns-clause-ok
 returns-clause-ok g c =
-    let w = commit_word c.guest.inside.tally.session c.guest.inside.tally.mine c.args.changes in
-    subst (λ (t : Tally). StandsLast c.push.new.self.words (length c.words.result.now) (commit_word t.session t.mine c.args.changes)) c.guest.view_is
-    (subst (λ l. StandsLast l (length c.words.result.now) w) (sym (items g c)) (stands_last c.self.inside.seen.words w (length c.words.result.now) (place g c)))
+    let entered : c.self.inside.guest ≡ Some c.guest.inside.tally = ap (λ v. v.guest) c.self.view_is ∙ c.requires.guest ∙ sym (ap Some c.guest.view_is) in
+    let own = (c.self.invariant.0.own c.guest.inside.tally entered).0 in
+    let list : IsTrue (is_place_of c.self.inside.seen.words class.ChangeList c.args.changes) = rw (ap (λ v. v.words) c.self.view_is) c.requires.changes in
+    let number : c.guest.inside.tally.mine < 2 ^ 18 = rw (ap (λ v. v.mine) c.guest.view_is) c.requires.number in
+    let within : c.args.changes < length c.self.inside.seen.words = place_within c.self.inside.seen.words class.ChangeList c.args.changes list in
+    let small : c.args.changes < 2 ^ 28 = omega (arith, within, own.log.room, c.self.invariant.0.named.most) in
+    let keeps : c.self.inside.token.me.0.keeps ≡ true = ap (λ m. m.0.keeps) c.self.invariant.0.seat in
+    let done : IfOk c.put-result.result (λ place. IsCommitted c.guest.inside.tally c.put-result.new.tally c.self.inside.seen.words c.put-result.new.seen.words c.args.changes place) =
+    both_ok c.put-result.result _ _ _ c.put-result.ensures.stands c.put-result.ensures.last
+    (λ place stands last. outcome_commit c.args.arena.now.cap _ c.guest.inside.tally c.put-result.new.tally c.self.inside.seen.words c.put-result.new.seen.words c.pack-w.result c.args.changes place keeps c.put-result.ensures.own own.most number small within c.pack-w.ensures.word
+    stands last c.put-result.ensures.outcome) in
+    subst (λ (t : Tally). IfOk c.put-result.result (λ place. StandsLast c.put-result.new.seen.words place (commit_word t.session t.mine c.args.changes))) c.guest.view_is (ok_more c.put-result.result _ _ (λ p h. h.stands) done)
 
 pub returns-clause-commits : goal.returns-clause-commits
 returns-clause-commits g c =
-    let session : c.guest.inside.tally.session ≤ 1023 = omega (arith, (sole g c).first) in
-    let grown = commits_grow c.guest.inside.tally.session c.guest.inside.tally.mine c.args.changes c.self.inside.seen.words session (number g c) (small g c) in
-    let there : commits_of c.push.new.self.words ≡ commits_of c.self.inside.seen.words ++ commit_of c.self.inside.seen.words c.guest.inside.tally.session c.guest.inside.tally.mine c.args.changes ∷ [] =
-    ap commits_of (items g c) ∙ grown in
-    subst (λ (v : Keeping). commits_of c.push.new.self.words ≡ commits_of v.words ++ commit_of v.words c.args.guest.now.session c.args.guest.now.mine c.args.changes ∷ []) c.self.view_is
-    (subst (λ (t : Tally). commits_of c.push.new.self.words ≡ commits_of c.self.inside.seen.words ++ commit_of c.self.inside.seen.words t.session t.mine c.args.changes ∷ []) c.guest.view_is there)
+    let entered : c.self.inside.guest ≡ Some c.guest.inside.tally = ap (λ v. v.guest) c.self.view_is ∙ c.requires.guest ∙ sym (ap Some c.guest.view_is) in
+    let own = (c.self.invariant.0.own c.guest.inside.tally entered).0 in
+    let list : IsTrue (is_place_of c.self.inside.seen.words class.ChangeList c.args.changes) = rw (ap (λ v. v.words) c.self.view_is) c.requires.changes in
+    let number : c.guest.inside.tally.mine < 2 ^ 18 = rw (ap (λ v. v.mine) c.guest.view_is) c.requires.number in
+    let within : c.args.changes < length c.self.inside.seen.words = place_within c.self.inside.seen.words class.ChangeList c.args.changes list in
+    let small : c.args.changes < 2 ^ 28 = omega (arith, within, own.log.room, c.self.invariant.0.named.most) in
+    let keeps : c.self.inside.token.me.0.keeps ≡ true = ap (λ m. m.0.keeps) c.self.invariant.0.seat in
+    let done : IfOk c.put-result.result (λ place. IsCommitted c.guest.inside.tally c.put-result.new.tally c.self.inside.seen.words c.put-result.new.seen.words c.args.changes place) =
+    both_ok c.put-result.result _ _ _ c.put-result.ensures.stands c.put-result.ensures.last
+    (λ place stands last. outcome_commit c.args.arena.now.cap _ c.guest.inside.tally c.put-result.new.tally c.self.inside.seen.words c.put-result.new.seen.words c.pack-w.result c.args.changes place keeps c.put-result.ensures.own own.most number small within c.pack-w.ensures.word
+    stands last c.put-result.ensures.outcome) in
+    let there : OnOk c.put-result.result (commits_of c.put-result.new.seen.words ≡ commits_of c.self.inside.seen.words ++ commit_of c.self.inside.seen.words c.guest.inside.tally.session c.guest.inside.tally.mine c.args.changes ∷ []) =
+    ok_then c.put-result.result _ _ (λ p h. h.commits) done in
+    subst (λ (v : Keeping). OnOk c.put-result.result (commits_of c.put-result.new.seen.words ≡ commits_of v.words ++ commit_of v.words c.args.guest.now.session c.args.guest.now.mine c.args.changes ∷ [])) c.self.view_is
+    (subst (λ (t : Tally). OnOk c.put-result.result (commits_of c.put-result.new.seen.words ≡ commits_of c.self.inside.seen.words ++ commit_of c.self.inside.seen.words t.session t.mine c.args.changes ∷ [])) c.guest.view_is there)
+
+pub returns-clause-counted : goal.returns-clause-counted
+returns-clause-counted g c =
+    let entered : c.self.inside.guest ≡ Some c.guest.inside.tally = ap (λ v. v.guest) c.self.view_is ∙ c.requires.guest ∙ sym (ap Some c.guest.view_is) in
+    let own = (c.self.invariant.0.own c.guest.inside.tally entered).0 in
+    let list : IsTrue (is_place_of c.self.inside.seen.words class.ChangeList c.args.changes) = rw (ap (λ v. v.words) c.self.view_is) c.requires.changes in
+    let number : c.guest.inside.tally.mine < 2 ^ 18 = rw (ap (λ v. v.mine) c.guest.view_is) c.requires.number in
+    let within : c.args.changes < length c.self.inside.seen.words = place_within c.self.inside.seen.words class.ChangeList c.args.changes list in
+    let small : c.args.changes < 2 ^ 28 = omega (arith, within, own.log.room, c.self.invariant.0.named.most) in
+    let keeps : c.self.inside.token.me.0.keeps ≡ true = ap (λ m. m.0.keeps) c.self.invariant.0.seat in
+    let done : IfOk c.put-result.result (λ place. IsCommitted c.guest.inside.tally c.put-result.new.tally c.self.inside.seen.words c.put-result.new.seen.words c.args.changes place) =
+    both_ok c.put-result.result _ _ _ c.put-result.ensures.stands c.put-result.ensures.last
+    (λ place stands last. outcome_commit c.args.arena.now.cap _ c.guest.inside.tally c.put-result.new.tally c.self.inside.seen.words c.put-result.new.seen.words c.pack-w.result c.args.changes place keeps c.put-result.ensures.own own.most number small within c.pack-w.ensures.word
+    stands last c.put-result.ensures.outcome) in
+    let there : OnOk c.put-result.result (c.put-result.new.tally ≡ record { session = c.guest.inside.tally.session; made = c.guest.inside.tally.made + 1; mine = c.guest.inside.tally.mine + 1 }) =
+    ok_then c.put-result.result _ _ (λ p h. h.counted) done in
+    subst (λ (t : Tally). OnOk c.put-result.result (c.put-result.new.tally ≡ record { session = t.session; made = t.made + 1; mine = t.mine + 1 })) c.guest.view_is there
+
+pub returns-clause-grows : goal.returns-clause-grows
+returns-clause-grows g c =
+    let entered : c.self.inside.guest ≡ Some c.guest.inside.tally = ap (λ v. v.guest) c.self.view_is ∙ c.requires.guest ∙ sym (ap Some c.guest.view_is) in
+    let own = (c.self.invariant.0.own c.guest.inside.tally entered).0 in
+    let list : IsTrue (is_place_of c.self.inside.seen.words class.ChangeList c.args.changes) = rw (ap (λ v. v.words) c.self.view_is) c.requires.changes in
+    let number : c.guest.inside.tally.mine < 2 ^ 18 = rw (ap (λ v. v.mine) c.guest.view_is) c.requires.number in
+    let within : c.args.changes < length c.self.inside.seen.words = place_within c.self.inside.seen.words class.ChangeList c.args.changes list in
+    let small : c.args.changes < 2 ^ 28 = omega (arith, within, own.log.room, c.self.invariant.0.named.most) in
+    let keeps : c.self.inside.token.me.0.keeps ≡ true = ap (λ m. m.0.keeps) c.self.invariant.0.seat in
+    let done : IfOk c.put-result.result (λ place. IsCommitted c.guest.inside.tally c.put-result.new.tally c.self.inside.seen.words c.put-result.new.seen.words c.args.changes place) =
+    both_ok c.put-result.result _ _ _ c.put-result.ensures.stands c.put-result.ensures.last
+    (λ place stands last. outcome_commit c.args.arena.now.cap _ c.guest.inside.tally c.put-result.new.tally c.self.inside.seen.words c.put-result.new.seen.words c.pack-w.result c.args.changes place keeps c.put-result.ensures.own own.most number small within c.pack-w.ensures.word
+    stands last c.put-result.ensures.outcome) in
+    subst (λ (v : Keeping). OnOk c.put-result.result (length v.words < length c.put-result.new.seen.words)) c.self.view_is (ok_then c.put-result.result _ _ (λ p h. h.grows) done)
+
+pub returns-clause-none : goal.returns-clause-none
+returns-clause-none g c =
+    let keeps : c.self.inside.token.me.0.keeps ≡ true = ap (λ m. m.0.keeps) c.self.invariant.0.seat in
+    err_then c.put-result.result _ (λ e. outcome_none _ _ _ _ _ c.pack-w.result keeps (c.put-result.ensures.full.0 e).1 c.put-result.ensures.outcome ∙ ap (λ v. commits_of v.words) c.self.view_is)
+
+pub returns-clause-ended : goal.returns-clause-ended
+returns-clause-ended g c = ap (λ m. m.0.ended) c.put-result.ensures.seat ∙ ap (λ v. v.ended) c.self.view_is
+
+pub returns-clause-longer : goal.returns-clause-longer
+returns-clause-longer g c = subst (λ l. IsPrefix l c.put-result.new.seen.words) (ap (λ v. v.words) c.self.view_is) (outcome_longer _ _ _ _ _ c.pack-w.result c.put-result.ensures.outcome)
 
 pub returns-clause-formed : goal.returns-clause-formed
-returns-clause-formed g c = (invariant_of-self g c).0.stage.1.log.formed
+returns-clause-formed g c = c.put-result.ensures.own.log.formed
 
-pub returns-then-place-arena-clause-full : goal.returns-then-place-arena-clause-full
-returns-then-place-arena-clause-full g c =
-    let entered : guest_at c.self.inside.stage ≡ Some c.args.guest.now = ap (λ v. v.guest) c.self.view_is ∙ c.requires.guest in
-    let sole : IsSole g.N.Site.log.cap c.args.guest.now c.args.self.now.words =
-    subst (λ (v : Keeping). IsSole g.N.Site.log.cap c.args.guest.now v.words) c.self.view_is
-    (stage_guest g.N.Site.log.cap _ c.self.inside.seen.words c.self.inside.stage c.args.guest.now entered c.self.invariant.0.stage).1 in
-    let small : c.args.changes < 2 ^ 28 =
-    omega (arith, place_within c.args.self.now.words class.ChangeList c.args.changes c.requires.changes, sole.log.room, c.self.invariant.0.named.most) in
-    let whole : length c.args.self.now.words ≡ g.N.Site.log.cap =
-    sym (ap (λ (v : Keeping). length v.words) c.self.view_is) ∙ sym (ap length c.words.ensures.words) ∙ c.if-place-arena.true ∙ c.args.arena.now.room in
-    (λ e. (whole, next_absent g.N.Site.log.cap c.args.guest.now c.args.self.now.words c.args.changes sole c.requires.number small), λ e. refl)
-
-pub pack-requires-clause-right : goal.pack-requires-clause-right
-pack-requires-clause-right g c =
-    let list : IsTrue (is_place_of c.self.inside.seen.words class.ChangeList c.args.changes) = rw (ap (λ v. v.words) c.self.view_is) c.requires.changes in
-    let log = stage_log g.N.Site.log.cap _ c.self.inside.seen.words c.self.inside.stage c.self.invariant.0.named.least c.self.invariant.0.stage in
-    omega (arith, place_within c.self.inside.seen.words class.ChangeList c.args.changes list, log.room, c.self.invariant.0.named.most)
-
-pub push-requires-clause-new : goal.push-requires-clause-new
-push-requires-clause-new g c =
-    let entered : guest_at c.self.inside.stage ≡ Some c.guest.inside.tally = ap (λ v. v.guest) c.self.view_is ∙ c.requires.guest ∙ sym (ap Some c.guest.view_is) in
-    let sole = (stage_guest g.N.Site.log.cap _ c.self.inside.seen.words c.self.inside.stage c.guest.inside.tally entered c.self.invariant.0.stage).1 in
-    let list : IsTrue (is_place_of c.self.inside.seen.words class.ChangeList c.args.changes) = rw (ap (λ v. v.words) c.self.view_is) c.requires.changes in
-    let small : c.args.changes < 2 ^ 28 = omega (arith, place_within c.self.inside.seen.words class.ChangeList c.args.changes list, sole.log.room, c.self.invariant.0.named.most) in
+pub overflow_mul-numbered : goal.overflow_mul-numbered
+overflow_mul-numbered g c =
+    let entered : c.self.inside.guest ≡ Some c.guest.inside.tally = ap (λ v. v.guest) c.self.view_is ∙ c.requires.guest ∙ sym (ap Some c.guest.view_is) in
+    let own = (c.self.invariant.0.own c.guest.inside.tally entered).0 in
     let number : c.guest.inside.tally.mine < 2 ^ 18 = rw (ap (λ v. v.mine) c.guest.view_is) c.requires.number in
-    λ there. next_absent g.N.Site.log.cap c.guest.inside.tally c.self.inside.seen.words c.args.changes sole number small (subst (λ w. Contains c.self.inside.seen.words w) c.pack.ensures.word there)
+    omega (arith, own.most)
+
+pub overflow_add-numbered : goal.overflow_add-numbered
+overflow_add-numbered g c =
+    let entered : c.self.inside.guest ≡ Some c.guest.inside.tally = ap (λ v. v.guest) c.self.view_is ∙ c.requires.guest ∙ sym (ap Some c.guest.view_is) in
+    let own = (c.self.invariant.0.own c.guest.inside.tally entered).0 in
+    let number : c.guest.inside.tally.mine < 2 ^ 18 = rw (ap (λ v. v.mine) c.guest.view_is) c.requires.number in
+    omega (arith, own.most)
+
+pub pack-w-requires-clause-left : goal.pack-w-requires-clause-left
+pack-w-requires-clause-left g c =
+    let entered : c.self.inside.guest ≡ Some c.guest.inside.tally = ap (λ v. v.guest) c.self.view_is ∙ c.requires.guest ∙ sym (ap Some c.guest.view_is) in
+    let own = (c.self.invariant.0.own c.guest.inside.tally entered).0 in
+    let number : c.guest.inside.tally.mine < 2 ^ 18 = rw (ap (λ v. v.mine) c.guest.view_is) c.requires.number in
+    omega (arith, own.most)
+
+pub pack-w-requires-clause-right : goal.pack-w-requires-clause-right
+pack-w-requires-clause-right g c =
+    let entered : c.self.inside.guest ≡ Some c.guest.inside.tally = ap (λ v. v.guest) c.self.view_is ∙ c.requires.guest ∙ sym (ap Some c.guest.view_is) in
+    let own = (c.self.invariant.0.own c.guest.inside.tally entered).0 in
+    let number : c.guest.inside.tally.mine < 2 ^ 18 = rw (ap (λ v. v.mine) c.guest.view_is) c.requires.number in
+    let list : IsTrue (is_place_of c.self.inside.seen.words class.ChangeList c.args.changes) = rw (ap (λ v. v.words) c.self.view_is) c.requires.changes in
+    omega (arith, place_within c.self.inside.seen.words class.ChangeList c.args.changes list, own.log.room, c.self.invariant.0.named.most)

@@ -1,0 +1,146 @@
+-- What the keeper's pass keeps of its fields, from call to call.
+use Rattle.std.proofs.Common.{◌≡◌, ℕ, ◌+◌, ◌<◌, ◌≤◌, ◌^◌, ◌⊎◌, Bool, true, inl, inr, List, [], ◌∷◌, ◌++◌, Option, Some, None, refl, sym, ap, ◌∙◌, subst, arith}
+use Rattle.std.specs.Prelude.{All, Result, Ok, Err, IfOk, OnOk, OnErr, IsErr}
+use Rattle.std.proofs.lemmas.List.Elements.{All-push}
+use Rattle.ct_word.specs.Change.{PlainCommit}
+use mathlib.Core.List.{IsPrefix}
+use Rattle.atomic_table.specs.Table.{Me}
+use Rattle.atomic_table.specs.Seated.{TableId}
+use Rattle.ct_word.specs.Reading.{commits_of}
+use Rattle.ct_word.proofs.Splits.{some-injective}
+use Rattle.ct_chain.specs.Seen.{Chained}
+use Rattle.ct_arena.proofs.Sole.{prefix_trans, commits_grow}
+use Rattle.ct_arena.specs.Name.{LogName}
+use Rattle.ct_arena.specs.Counts.{opening, AreOfSessions, commit_word, commit_of}
+use Rattle.ct_arena.specs.declared.sharing.View.{View}
+use Rattle.ct_arena.specs.declared.tally.Tally.{Tally}
+use Rattle.ct_arena.specs.Kept.{IsNamed, IsPass, IsKeeper, IsSpare}
+use Rattle.ct_arena.specs.Sharing.{first_view, session_view, keeper_view, newcomer, enrolled, enrolled_by, kept, given, joined, longer, counts_word, IsSettled, IsLaidBy}
+use Rattle.ct_arena.specs.Own.{IsOwn, IsOutcome, with_seen, with_guest}
+use Rattle.ct_arena.proofs.Opening.{opening_log, none_of}
+use Rattle.ct_arena.proofs.Keeping.{keeper_own, keeper_after, known_stays}
+use Rattle.ct_arena.proofs.Entering.{IsEntered, enters, enrolled_seat, enrolled_keeper, left_seat, left_keeper, laid_keeper, newcomer_own, known_more}
+
+named_as : (log : LogName) (table table' : TableId) → IsNamed log table → table' ≡ table → IsNamed log table'
+named_as log table table' named same = record { least = named.least; most = named.most; table = same ∙ named.table }
+
+pub keeper_first : (log : LogName) (table : TableId) (me : Me ℕ View) (words : List ℕ) → IsNamed log table → me ≡ (first_view log.cap, []) → words ≡ opening → IsKeeper log table me words 0 None
+keeper_first log table me words named seat is =
+    subst (λ l. IsKeeper log table me l 0 None) (sym is)
+    (record { named = named; seat = keeper_own me log.cap 0 None [] opening seat; list = opening_log log.cap named.least; most = omega arith; known = none_of 0; own = λ t e. absurd (cc) })
+
+pub keeper_enrolled : (log : LogName) (table table' : TableId) (me me' : Me ℕ View) (words : List ℕ) (e : ℕ) (guest : Option Tally) → IsKeeper log table me words e guest → e < 1023 → table' ≡ table → me' ≡ (enrolled_by me.0, me.1)
+    → IsKeeper log table' me' words (e + 1) guest
+keeper_enrolled log table table' me me' words e guest k few same seat = record {
+  named = named_as log table table' k.named same;
+  seat = keeper_own me' log.cap (e + 1) guest me.0.ended words (enrolled_keeper me me' log.cap e guest me.0.ended words k.seat seat);
+  list = k.list;
+  most = omega arith;
+  known = known_more e words k.known;
+  own = λ t is. let h = k.own t is in (h.0, (let le = h.1 in omega arith));
+}
+
+pub pass_enrolled : (log : LogName) (table table' : TableId) (me me' : Me ℕ View) (words copy : List ℕ) (e : ℕ) (guest : Option Tally) → IsKeeper log table me words e guest → e < 1023 → table' ≡ table → me' ≡ (enrolled me.0, []) → copy ≡ words
+    → IsPass log table' me' (newcomer (e + 1)) copy
+pass_enrolled log table table' me me' words copy e guest k few same seat is =
+    subst (λ l. IsPass log table' me' (newcomer (e + 1)) l) (sym is)
+    (record {
+      named = named_as log table table' k.named same;
+      seat = enrolled_seat me me' log.cap e guest me.0.ended words k.seat seat;
+      own = newcomer_own log.cap e words k.list k.known few;
+    })
+
+pub keeper_entered : (log : LogName) (table table' pass_table : TableId) (me pass me' : Me ℕ View) (words other now : List ℕ) (e : ℕ) (guest : Option Tally) (t : Tally) → IsKeeper log table me words e guest → guest ≡ None → IsPass log pass_table pass t other
+    → IsSettled (joined me.0 pass.0) me' → table' ≡ table → now ≡ longer words other → IsKeeper log table' me' now e (Some t) × IsEntered log.cap e t words other now
+keeper_entered log table table' pass_table me pass me' words other now e guest t k none_ p settled same is =
+    let seat : me ≡ (keeper_view log.cap words e None me.0.ended, []) = subst (λ o. me ≡ (keeper_view log.cap words e o me.0.ended, [])) none_ k.seat in
+    let done = enters log.cap e t me.0.ended words other me pass me' seat p.seat settled k.list p.own in
+    let all : IsKeeper log table' me' (longer words other) e (Some t) = record {
+      named = named_as log table table' k.named same;
+      seat = keeper_own me' log.cap e (Some t) me.0.ended (longer words other) done.0;
+      list = done.1.own.log;
+      most = k.most;
+      known = known_stays e words (longer words other) done.1.commits k.known;
+      own = λ u e'. subst (λ x. IsOwn log.cap x (longer words other) × (x.session ≤ e)) (some-injective t u e') (done.1.own, done.1.enrolled);
+    } in
+    subst (λ l. IsKeeper log table' me' l e (Some t) × IsEntered log.cap e t words other l) (sym is) (all, done.1)
+
+pub keeper_left : (log : LogName) (table table' : TableId) (me me' : Me ℕ View) (words : List ℕ) (e : ℕ) (guest : Option Tally) → IsKeeper log table me words e guest → table' ≡ table → me' ≡ (kept me.0, me.1) → IsKeeper log table' me' words e None
+keeper_left log table table' me me' words e guest k same seat = record {
+  named = named_as log table table' k.named same;
+  seat = keeper_own me' log.cap e None me.0.ended words (left_keeper me me' log.cap e guest me.0.ended words k.seat seat);
+  list = k.list;
+  most = k.most;
+  known = k.known;
+  own = λ t is. absurd (cc);
+}
+
+pub pass_left : (log : LogName) (table table' : TableId) (me me' : Me ℕ View) (words copy : List ℕ) (e : ℕ) (guest : Option Tally) (t : Tally) → IsKeeper log table me words e guest → guest ≡ Some t → table' ≡ table → me' ≡ (given me.0, []) → copy ≡ words
+    → IsPass log table' me' t copy
+pass_left log table table' me me' words copy e guest t k there same seat is =
+    subst (λ l. IsPass log table' me' t l) (sym is)
+    (record {
+      named = named_as log table table' k.named same;
+      seat = subst (λ o. me' ≡ (session_view words o, [])) there (left_seat me me' log.cap e guest me.0.ended words k.seat seat);
+      own = (k.own t there).0;
+    })
+
+pub keeper_put : (log : LogName) (table table' : TableId) (me me' : Me ℕ View) (words words' : List ℕ) (e : ℕ) (guest : Option Tally) (t t' : Tally) → IsKeeper log table me words e guest → guest ≡ Some t → table' ≡ table
+    → me' ≡ (with_seen (with_guest me.0 t') words', []) → IsOwn log.cap t' words' → t'.session ≡ t.session → AreOfSessions e words' → IsKeeper log table' me' words' e (Some t')
+keeper_put log table table' me me' words words' e guest t t' k there same seat own session known =
+    let was : me ≡ (keeper_view log.cap words e (Some t) me.0.ended, []) = subst (λ o. me ≡ (keeper_view log.cap words e o me.0.ended, [])) there k.seat in
+    let le = (k.own t there).1 in record {
+      named = named_as log table table' k.named same;
+      seat = keeper_own me' log.cap e (Some t') me.0.ended words' (keeper_after me me' log.cap e t t' me.0.ended words words' was seat);
+      list = own.log;
+      most = k.most;
+      known = known;
+      own = λ u is. subst (λ x. IsOwn log.cap x words' × (x.session ≤ e)) (some-injective t' u is) (own, (let s = session in omega arith));
+    }
+
+pub keeper_laid : (log : LogName) (table table' : TableId) (me me' : Me ℕ View) (words : List ℕ) (e : ℕ) (t : Tally) → IsKeeper log table me words e (Some t) → table' ≡ table → IsLaidBy me.0 me' → IsKeeper log table' me' words e None × (me'.0.ended ≡ me.0.ended ++ t ∷ [])
+keeper_laid log table table' me me' words e t k same laid =
+    let seat = laid_keeper me me' log.cap e t me.0.ended words k.seat laid in (
+      record {
+        named = named_as log table table' k.named same;
+        seat = keeper_own me' log.cap e None (me.0.ended ++ t ∷ []) words seat;
+        list = k.list;
+        most = k.most;
+        known = k.known;
+        own = λ u is. absurd (cc);
+      },
+      ap (λ m. m.0.ended) seat,
+    )
+
+-- the list that was laid by stays a front of the keeper's as that one grows
+pub spare_put : (seen seen' : Chained) (guest : Option Tally) (spare : Option Chained) (t t' : Tally) → guest ≡ Some t → IsSpare seen guest spare → seen'.room ≡ seen.room → IsPrefix seen.words seen'.words → IsSpare seen' (Some t') spare
+spare_put seen seen' None spare t t' e is room grows = absurd (cc)
+spare_put seen seen' (Some u) None t t' e is room grows = absurd is
+spare_put seen seen' (Some u) (Some list) t t' e is room grows = record { room = is.room ∙ sym room; longer = prefix_trans list.words seen.words seen'.words is.longer grows }
+
+pub known_put : (e : ℕ) (keeps : Bool) (t t' : Tally) (old new : List ℕ) (w b : ℕ) → keeps ≡ true → t.session ≤ 1023 → t.mine < 2 ^ 18 → b < 2 ^ 28 → w ≡ commit_word t.session t.mine b → 1 ≤ t.session → t.session ≤ e → IsOutcome keeps t t' old new w
+    → AreOfSessions e old → AreOfSessions e new
+known_put e keeps t t' old new w b k sl ml bl is least most o known = from o.what where
+  from : ((new ≡ o.before) × (t' ≡ t)) ⊎ ((new ≡ o.before ++ w ∷ []) × (t' ≡ counts_word w t)) → AreOfSessions e new
+  from (inl same) = known_stays e old new (ap commits_of same.0 ∙ o.commits k) known
+  from (inr put) =
+      let P : PlainCommit → Type 0 = λ c. (1 ≤ c.session) × (c.session ≤ e) in
+      let grown : commits_of new ≡ commits_of o.before ++ commit_of o.before t.session t.mine b ∷ [] = ap commits_of put.0 ∙ ap (λ x. commits_of (o.before ++ x ∷ [])) is ∙ commits_grow t.session t.mine b o.before sl ml bl in
+      subst (λ cs. All P cs) (sym grown) (All-push P (commits_of o.before) (commit_of o.before t.session t.mine b) (known_stays e old o.before (o.commits k) known) (least, most))
+
+-- facts of an answer
+pub both_ok : {E : Type 0} (r : Result ℕ E) (P Q R : ℕ → Type 0) → IfOk r P → IfOk r Q → ((p : ℕ) → P p → Q p → R p) → IfOk r R
+both_ok (Ok p) P Q R a b f = f p a b
+both_ok (Err e) P Q R a b f = tt
+
+pub ok_then : {E : Type 0} (r : Result ℕ E) (P : ℕ → Type 0) (X : Type 0) → ((p : ℕ) → P p → X) → IfOk r P → OnOk r X
+ok_then (Ok p) P X f a = f p a
+ok_then (Err e) P X f a = tt
+
+pub ok_more : {E : Type 0} (r : Result ℕ E) (P Q : ℕ → Type 0) → ((p : ℕ) → P p → Q p) → IfOk r P → IfOk r Q
+ok_more (Ok p) P Q f a = f p a
+ok_more (Err e) P Q f a = tt
+
+pub err_then : {E : Type 0} (r : Result ℕ E) (X : Type 0) → (IsErr r → X) → OnErr r X
+err_then (Ok p) X f = tt
+err_then (Err e) X f = f refl

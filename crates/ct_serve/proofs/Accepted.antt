@@ -1,0 +1,120 @@
+-- A closed test: a session that creates a table, and one that commits a transaction, are lawful, whichever texts are read
+-- so, and once their forms are built.
+use Rattle.std.proofs.Common.{ℕ, List, [], ◌∷◌, refl, arith, inl, inr}
+use Rattle.std.specs.Prelude.{pos, codes, Some, None}
+use Rattle.std.proofs.lemmas.List.Elements.{All-nil, All-cons}
+use Rattle.ct_word.specs.declared.values.Value.TheVariants as val
+use Rattle.ct_word.specs.declared.values.Term.{Term}
+use Rattle.ct_word.specs.declared.values.Term.TheVariants as term
+use Rattle.ct_word.specs.Condition.{True}
+use Rattle.ct_word.specs.Change.{PlainRow, PlainCommit, Create, Insert}
+use Rattle.ct_query.specs.Agrees.{SameTruthAlone}
+use Rattle.ct_query.specs.Plain.{PlainAction}
+use Rattle.ct_query.specs.Plain as plain
+use Rattle.ct_transcript.specs.declared.reply.Reply.TheVariants as reply
+use Rattle.ct_session.specs.Built.{IsBuilt}
+use Rattle.ct_session.specs.State.{Transaction, SessionState, beginning, carried, with_transaction, opened, extended}
+use Rattle.ct_session.specs.Seeing.{Asks, Orders}
+use Rattle.ct_serve.specs.Sessions.{AreLawful}
+
+abbrev creation : PlainAction
+creation = plain.Create (codes "t") (codes "a" ∷ [])
+
+abbrev one : List Term
+one = term.Value (val.Int (pos 1)) ∷ []
+
+abbrev insertion : PlainAction
+insertion = plain.InsertRows (codes "t") (one ∷ []) True
+
+abbrev row : PlainRow
+row = record { cells = one; condition = True }
+
+abbrev created : PlainCommit
+created = record { session = 1; number = 0; changes = Create (codes "t") (codes "a" ∷ []) ∷ [] }
+
+abbrev inserted : PlainCommit
+inserted = record { session = 2; number = 0; changes = Insert (codes "t") (row ∷ []) ∷ [] }
+
+abbrev history : List PlainCommit
+history = created ∷ inserted ∷ []
+
+-- session 1 at its end, and session 2 after each of its replies
+abbrev ended : SessionState
+ended = record { session = 1; seen = 1; fresh = 0; commits = 1; transaction = None }
+
+abbrev begun : SessionState
+begun = carried 1 (with_transaction (Some (opened 1)) (beginning 2))
+
+abbrev pending : SessionState
+pending = carried 1 (extended (plain.Act insertion) begun)
+
+abbrev committed : SessionState
+committed = record { session = 2; seen = 2; fresh = 0; commits = 1; transaction = None }
+
+abbrev transaction : Transaction
+transaction = record { base = 1; actions = insertion ∷ []; reads = [] }
+
+-- the row's condition is that of the action
+abbrev Holds : PlainRow → Type 0
+Holds r = SameTruthAlone r.condition True
+
+module _ (W : List ℕ) (N : ℕ) (create begin insert commit : List ℕ) (creates : Asks history (beginning 1) create 0 [] (plain.Act creation)) (begins : Orders history (beginning 2) begin plain.Begin)
+    (inserts : Asks history begun insert 1 [] (plain.Act insertion)) (commits : Orders history pending commit plain.Commit)
+    (create_built : IsBuilt creates.statement) (begin_built : IsBuilt begins.statement) (insert_built : IsBuilt inserts.statement) (commit_built : IsBuilt commits.statement) where
+  first : AreLawful history W N (beginning 1) (create ∷ []) (reply.Committed 1 ∷ []) ended
+  first = (
+    ended,
+    inl (record {
+      action = creation;
+      commit = created;
+      none_open = refl;
+      asks = creates;
+      built = create_built;
+      later = omega arith;
+      stands = (omega arith, refl);
+      session = refl;
+      number = refl;
+      agrees = ((refl, refl), tt);
+      next_is = refl;
+    }),
+    refl,
+  )
+
+  second : AreLawful history W N (beginning 2) (begin ∷ insert ∷ commit ∷ []) (reply.Begun 1 ∷ reply.Pending 1 1 ∷ reply.Committed 2 ∷ []) committed
+  second = (
+    begun,
+    record { none_open = refl; asks = begins; built = begin_built; from_seen = omega arith; within = omega arith; next_is = refl },
+    (
+      pending,
+      record {
+        actions = [];
+        action = insertion;
+        is_open = refl;
+        sees = (refl, refl);
+        asks = inserts;
+        built = insert_built;
+        plus_is = refl;
+        leaves = ([], refl);
+        next_is = refl;
+      },
+      (
+        committed,
+        inr (record {
+          transaction = transaction;
+          commit = inserted;
+          is_open = refl;
+          asks = commits;
+          built = commit_built;
+          has_actions = omega arith;
+          later = omega arith;
+          unchanged = λ k d lt. absurd (omega (arith, lt));
+          stands = (omega arith, refl);
+          session = refl;
+          number = refl;
+          agrees = ((refl, refl, All-cons Holds row [] (λ v. refl) (All-nil Holds)), tt);
+          next_is = refl;
+        }),
+        refl,
+      ),
+    ),
+  )

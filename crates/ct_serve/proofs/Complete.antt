@@ -1,0 +1,111 @@
+-- A statement within all limits is answered.
+use Rattle.std.proofs.Common.{◌≡◌, ℕ, ◌+◌, ◌≤◌, List, [], ◌∷◌, ◌++◌, take, refl, sym, subst, ◌∙◌, arith}
+use Rattle.std.specs.Prelude.{All, Option, Some, None, IsSome, IfSome, MatchOption}
+use Rattle.std.proofs.lemmas.Bool.{false≢true}
+use Rattle.std.proofs.lemmas.Option.{none-some}
+use Rattle.std.proofs.lemmas.List.Elements.{All-head, All-tail}
+use Rattle.ct_word.specs.Change.{PlainCommit}
+use Rattle.ct_query.specs.declared.action.Read.{Read}
+use Rattle.ct_query.specs.Reads.{last}
+use Rattle.ct_rewrite.specs.History.{plain_history}
+use Rattle.ct_transcript.specs.declared.reply.Reply.{Reply}
+use Rattle.ct_transcript.specs.declared.reply.Reply.TheVariants as reply
+use Rattle.ct_transcript.specs.declared.reply.Refusal.{Refusal}
+use Rattle.ct_transcript.specs.declared.reply.Refusal.TheVariants as refusal
+use Rattle.ct_transcript.specs.declared.reply.SessionLog.{SessionLog}
+use Rattle.ct_transcript.specs.declared.transcript.Transcript.{Transcript}
+use Rattle.ct_resolve.specs.declared.error.ResolveError.{ResolveError}
+use Rattle.ct_session.specs.State.{Transaction, SessionState}
+use Rattle.ct_session.specs.LawfulRefusal.{IsNameFault, IsFirstWritten, LawfulRefusal}
+use Rattle.ct_session.specs.LawfulReply.{LawfulReply}
+use Rattle.ct_serve.specs.Sessions.{AreLawful, AreLawfulSessions}
+use Rattle.ct_serve.specs.Lawful.{Lawful}
+use Rattle.ct_outside.specs.Outside.{Held}
+use Rattle.ct_serve.specs.declared.ending.Status.TheVariants as status
+use Rattle.ct_serve.specs.Scripts.{IsScript, HoldsScript, HoldsNoScript, IsNoScript}
+use Rattle.ct_serve.specs.Runs.{Outside, Promise}
+use Rattle.ct_serve.specs.Complete.{IsAnswered, IsWithinLimits, AreComplete, AreCompleteSessions, IsComplete}
+
+none_open : (t : Option Transaction) → IsSome t → t ≡ None → ⊥
+none_open None some e = false≢true some
+none_open (Some t) some e = none-some t (sym e)
+
+-- what holds of all items holds of one among them
+of_one : {X : Type 0} (P : X → Type 0) (before after : List X) (x : X) → All P (before ++ x ∷ after) → P x
+of_one P [] after x all = All-head P x after all
+of_one P (b ∷ before) after x all = of_one P before after x (All-tail P b (before ++ x ∷ after) all)
+
+module _ (H : List PlainCommit) (W : List ℕ) (N : ℕ) where
+  not_written : (reads : List Read) (base at : ℕ) (table : Read) → IsFirstWritten H W N reads base at table → All (λ r. last (take at H) r ≤ base) reads → ⊥
+  not_written reads base at table f all =
+      let le : last (take at H) table ≤ base = of_one (λ r. last (take at H) r ≤ base) f.before f.after table (subst (All (λ r. last (take at H) r ≤ base)) f.place all) in
+      let lt = f.written in absurd (omega (arith, le, lt))
+
+  module _ (s : SessionState) (x : List ℕ) (w : IsWithinLimits H W N s x) where
+    no_fault : (at : ℕ) (e : ResolveError) → IsNameFault H W N s x at e → ⊥
+    no_fault at e f = w.named at f.actions e f.sees f.found
+
+    refused : (at : ℕ) (why : Refusal) (next : SessionState) → LawfulRefusal H W N s x at why next → why ≡ refusal.Memory
+    refused at refusal.NotAStatement next l = absurd (w.read refusal.NotAStatement l.0.found)
+    refused at refusal.TooDeep next l = absurd (w.read refusal.TooDeep l.0.found)
+    refused at refusal.NumberRange next l = absurd (w.read refusal.NumberRange l.0.found)
+    refused at refusal.InTransaction next l = absurd (none_open s.transaction l.0.is_open (w.begins_outside l.0.asks))
+    refused at refusal.NoTransaction next l = absurd (none_open s.transaction (w.ends_inside l.0.statement l.0.ends l.0.asks) l.0.none_open)
+    refused at refusal.UnknownTable next l = absurd (no_fault at _ l.0)
+    refused at refusal.TableExists next l = absurd (no_fault at _ l.0)
+    refused at refusal.UnknownColumn next l = absurd (no_fault at _ l.0)
+    refused at refusal.AmbiguousColumn next l = absurd (no_fault at _ l.0)
+    refused at refusal.DuplicateName next l = absurd (no_fault at _ l.0)
+    refused at refusal.ColumnCount next l = absurd (no_fault at _ l.0)
+    refused at refusal.NotYet next l = absurd (l.0.not_built (w.built at l.0.actions l.0.statement l.0.sees l.0.asks))
+    refused at refusal.TooLarge next l =
+        let le = w.small at l.0.actions l.0.statement l.0.query l.0.sees l.0.asks l.0.evaluates in
+        let lt = l.0.past in absurd (omega (arith, le, lt))
+    refused at refusal.Full next l = let lt = w.room in let e = l.0.full in absurd (omega (arith, lt, e))
+    refused at refusal.TooManyTerms next l =
+        let le = w.few_terms at l.0.actions l.0.statement l.0.sees l.0.asks l.0.of_worlds in
+        let lt = l.0.past in absurd (omega (arith, le, lt))
+    refused at (refusal.Inconsistent proof) next l =
+        let v = w.satisfied at l.0.actions l.0.condition l.0.sees l.0.asks in
+        absurd (false≢true (sym (l.0.none_satisfies v.0) ∙ v.1))
+    refused at (refusal.Conflict table was now at') next l =
+        absurd (not_written l.1.reads l.1.base at table l.1.first (w.unwritten l.1.base at l.1.reads l.1.commits l.1.within))
+    refused at refusal.Memory next l = refl
+
+    answered : (r : Reply) (next : SessionState) → LawfulReply H W N s x r next → IsAnswered r
+    answered (reply.Begun at) next l = tt
+    answered reply.RolledBack next l = tt
+    answered (reply.Pending at plus) next l = tt
+    answered (reply.Committed m) next l = tt
+    answered (reply.Nothing at) next l = tt
+    answered (reply.Rows at plus answer) next l = tt
+    answered (reply.Possible at plus columns rows) next l = tt
+    answered (reply.Certain at plus columns rows) next l = tt
+    answered (reply.Refused at why) next l = refused at why next l
+
+  complete : (s t : SessionState) (xs : List (List ℕ)) (rs : List Reply) → AreLawful H W N s xs rs t → AreComplete H W N s xs rs t
+  complete s t [] [] l = l
+  complete s t (x ∷ xs) (r ∷ rs) l = (l.0, l.1, (λ w. answered s x w r l.0 l.1), complete l.0 t xs rs l.2)
+  complete s t [] (r ∷ rs) l = absurd l
+  complete s t (x ∷ xs) [] l = absurd l
+
+  all_complete : (s : ℕ) (logs : List SessionLog) → AreLawfulSessions H W N s logs → AreCompleteSessions H W N s logs
+  all_complete s [] l = tt
+  all_complete s (log ∷ logs) l = ((l.0.last, complete _ l.0.last _ log.replies l.0.replies), all_complete (s + 1) logs l.1)
+
+-- the replies of a lawful transcript are complete
+pub lawful_complete : (t : Transcript) (N : ℕ) → Lawful t N → IsComplete t N
+lawful_complete t N l = all_complete (plain_history t.history) t.words N 1 t.sessions l.sessions
+
+-- bytes are not both a script and none
+not_both : (bytes : Option (List ℕ)) → MatchOption bytes ⊥ IsScript → MatchOption bytes ⊥ (λ b. IsScript b → ⊥) → ⊥
+not_both None a b = a
+not_both (Some bytes) a b = b a
+
+-- where all files are scripts, a run does not end for one that is none
+pub scripts_served : (N : ℕ) (o : Outside) (t : Transcript) (files : List (List ℕ)) (held : Held) → o.files ≡ Some files → o.held ≡ Some held → All (HoldsScript o.held) files → Promise N o status.Script t → ⊥
+scripts_served N o t files held named told all p =
+    let found : IsNoScript o.held o.asked o.asked' files = subst (λ fs. IfSome fs (IsNoScript o.held o.asked o.asked')) named p.1 in
+    let reached = found.2 in
+    let is : HoldsScript o.held found.0 = of_one (HoldsScript o.held) reached.before (found.1 ++ reached.after) found.0 (subst (All (HoldsScript o.held)) reached.split all) in
+    not_both (held found.0) (subst (λ h. HoldsScript h found.0) told is) (subst (λ h. HoldsNoScript h found.0) told found.3)

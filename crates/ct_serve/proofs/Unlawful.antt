@@ -1,0 +1,159 @@
+-- Closed tests: replies that no log makes lawful. A text may be read as any statement of the reply's kind.
+use Rattle.std.proofs.Common.{◌≡◌, ℕ, ◌≤◌, List, [], ◌∷◌, refl, sym, subst, ap, ◌∙◌, arith, inl, inr}
+use Rattle.std.specs.Prelude.{Bool, true, false, pos, codes, All, Some, None, if◌then◌else◌}
+use Rattle.std.proofs.lemmas.Bool.{false≢true}
+use Rattle.std.proofs.lemmas.Option.{none-some}
+use Rattle.ct_word.specs.declared.values.Value.TheVariants as val
+use Rattle.ct_word.specs.declared.values.Null.TheVariants as null
+use Rattle.ct_word.specs.declared.values.Term.{Term}
+use Rattle.ct_word.specs.declared.values.Term.TheVariants as term
+use Rattle.ct_word.specs.Value.{same_text}
+use Rattle.ct_word.specs.Condition.{True, Same}
+use Rattle.ct_word.specs.Sublist.{IsSublist, ended, left_out, taken}
+use Rattle.ct_word.specs.Change.{PlainChange, PlainCommit, Create, Assert}
+use Rattle.ct_word.proofs.Splits.{some-injective}
+use Rattle.ct_query.specs.Plain.{PlainQuery, PlainAction, PlainStatement}
+use Rattle.ct_query.specs.Plain as plain
+use Rattle.ct_query.specs.declared.action.Read.TheVariants as read
+use Rattle.ct_query.specs.Database.{Database, has_tuple}
+use Rattle.ct_query.specs.Reads.{last as last_of}
+use Rattle.ct_query.specs.Bounds.{bound}
+use Rattle.ct_query.specs.Rows.{rows}
+use Rattle.ct_query.specs.Patterns.{query_pattern, no_patterns, pattern, count}
+use Rattle.ct_derivation.specs.declared.steps.Proof.{Proof}
+use Rattle.ct_rewrite.specs.declared.answer.Node.TheVariants as node
+use Rattle.ct_rewrite.specs.declared.answer.PossibleRow.{PossibleRow}
+use Rattle.ct_rewrite.specs.declared.answer.CertainRow.{CertainRow}
+use Rattle.ct_transcript.specs.Possible.{PossibleRight}
+use Rattle.ct_transcript.specs.Certain.{CertainRight}
+use Rattle.ct_transcript.specs.declared.reply.Answer.{Answer}
+use Rattle.ct_transcript.specs.declared.reply.Reply.TheVariants as reply
+use Rattle.ct_transcript.specs.declared.reply.Refusal.TheVariants as refusal
+use Rattle.ct_session.specs.State.{SessionState, beginning}
+use Rattle.ct_session.specs.Seeing.{Asks, Sees}
+use Rattle.ct_serve.specs.Sessions.{AreLawful}
+
+abbrev one : Term
+one = term.Value (val.Int (pos 1))
+
+-- the null ?x has this value
+abbrev x_is : ℕ → PlainChange
+x_is n = Assert (Same (term.Null (null.Named (codes "x"))) (term.Value (val.Int (pos n))))
+
+abbrev by : ℕ → PlainChange → PlainCommit
+by session change = record { session = session; number = 0; changes = change ∷ [] }
+
+-- `create table t (a)`, committed by session 1
+abbrev created : List PlainCommit
+created = by 1 (Create (codes "t") (codes "a" ∷ [])) ∷ []
+
+abbrev no_rows : Answer
+no_rows = record { columns = codes "a" ∷ []; nodes = node.True ∷ []; rows = []; global = 0 }
+
+abbrev one_row : Answer
+one_row = record { columns = codes "a" ∷ []; nodes = node.True ∷ []; rows = record { cells = one ∷ []; cond = 0 } ∷ []; global = 0 }
+
+-- without rows in the tables a query has none
+no_pattern : (q : PlainQuery) → query_pattern no_patterns q ≡ []
+no_pattern (plain.Table t) = refl
+no_pattern (plain.Select c q) = no_pattern q
+no_pattern (plain.Project ks q) = rw (no_pattern q) refl
+no_pattern (plain.Product a b) = rw (no_pattern a) refl
+no_pattern (plain.Union a b) = rw (no_pattern a, no_pattern b) refl
+no_pattern (plain.Except a b) = no_pattern a
+no_pattern (plain.Intersect a b) = no_pattern a
+
+abbrev is_empty : {A : Type 0} → List A → Bool
+is_empty [] = true
+is_empty (x ∷ xs) = false
+
+part_of_none : {A : Type 0} {xs ys : List A} → IsSublist xs ys → is_empty ys ≡ true → is_empty xs ≡ true
+part_of_none ended e = refl
+part_of_none (left_out s) e = absurd (false≢true e)
+part_of_none (taken s) e = absurd (false≢true e)
+
+module _ (W : List ℕ) (N : ℕ) (text more : List ℕ) (last : SessionState) where
+  -- a dirty read: session 2 is shown a row that session 1 has inserted in its open transaction
+  dirty_read : AreLawful created W N (beginning 2) (text ∷ []) (reply.Rows 1 0 one_row ∷ []) last → ⊥
+  dirty_read l =
+      let r = l.1 in
+      let part = subst (λ a. IsSublist ((one ∷ []) ∷ []) (pattern created a r.query)) r.sees.2 r.in_pattern in
+      false≢true (part_of_none part (ap is_empty (no_pattern r.query)))
+
+  -- a lost commit: it was answered, and is not in the history
+  lost_commit : AreLawful [] W N (beginning 1) (text ∷ []) (reply.Committed 1 ∷ []) last → ⊥
+  lost_commit (next, inl r, rest) = none-some r.commit r.stands.1
+  lost_commit (next, inr r, rest) = none-some r.commit r.stands.1
+
+  -- the replies to BEGIN and COMMIT, swapped
+  swapped : AreLawful [] W N (beginning 1) (text ∷ more ∷ []) (reply.Nothing 0 ∷ reply.Begun 0 ∷ []) last → ⊥
+  swapped l = none-some l.1.transaction l.1.is_open
+
+  -- a version that goes back
+  goes_back : AreLawful created W N (beginning 2) (text ∷ more ∷ []) (reply.Rows 1 0 no_rows ∷ reply.Rows 0 0 no_rows ∷ []) last → ⊥
+  goes_back l =
+      let r = l.2.1 in
+      let sees = subst (λ s. Sees created s 0 r.actions) l.1.next_is r.sees in
+      let le : 1 ≤ 0 = sees.0 in omega (arith, le)
+
+  -- a world that is not admitted: (?x) in ?x = 2, after ?x = 1 was asserted
+  abbrev in_two : PossibleRow
+  in_two = record { cells = term.Null (null.Named (codes "x")) ∷ []; world = (null.Named (codes "x"), val.Int (pos 2)) ∷ [] }
+
+  not_admitted : AreLawful (by 1 (x_is 1) ∷ []) W N (beginning 2) (text ∷ []) (reply.Possible 1 0 (codes "a" ∷ []) (in_two ∷ []) ∷ []) last → ⊥
+  not_admitted l =
+      let r = l.1 in
+      let right = subst (λ a. PossibleRight (in_two ∷ []) r.query (by 1 (x_is 1) ∷ []) a) r.sees.2 r.right in
+      right.witnessed 0 in_two (omega arith)
+
+  -- a certain row that is not: (1), of tables without rows
+  no_tuples : (q : PlainQuery) (w : Database) → ((t : List ℕ) → rows [] (plain.Table t) w ≡ []) → rows [] q w ≡ []
+  no_tuples (plain.Table t) w e = e t
+  no_tuples (plain.Select c q) w e = rw (no_tuples q w e) refl
+  no_tuples (plain.Project ks q) w e = rw (no_tuples q w e) refl
+  no_tuples (plain.Product a b) w e = rw (no_tuples a w e) refl
+  no_tuples (plain.Union a b) w e = rw (no_tuples a w e, no_tuples b w e) refl
+  no_tuples (plain.Except a b) w e = rw (no_tuples a w e) refl
+  no_tuples (plain.Intersect a b) w e = rw (no_tuples a w e) refl
+
+  abbrev empty_t : Database
+  empty_t = record { name = codes "t"; columns = codes "a" ∷ []; tuples = [] } ∷ []
+
+  if_same : {A : Type 0} (b : Bool) (x : A) → (if b then x else x) ≡ x
+  if_same true x = refl
+  if_same false x = refl
+
+  abbrev listed : Proof → CertainRow
+  listed proof = record { tuple = val.Int (pos 1) ∷ []; proof = proof }
+
+  not_certain : (proof : Proof) → AreLawful created W N (beginning 2) (text ∷ []) (reply.Certain 1 0 (codes "a" ∷ []) (listed proof ∷ []) ∷ []) last → ⊥
+  not_certain proof l =
+      let r = l.1 in
+      let right = subst (λ a. CertainRight (listed proof ∷ []) r.query created a W) r.sees.2 r.right in
+      let certain = (right.exact (val.Int (pos 1) ∷ [])).0 refl [] in
+      let none : rows [] r.query empty_t ≡ [] = no_tuples r.query empty_t (λ t. if_same (same_text (codes "t") t) []) in
+      false≢true (sym (ap (λ ts. has_tuple ts (val.Int (pos 1) ∷ [])) none) ∙ certain)
+
+  -- a read that changed: a transaction that read the worlds at version 0 is committed, after another session's assertion
+  abbrev reader : SessionState
+  reader = record {
+    session = 1;
+    seen = 0;
+    fresh = 0;
+    commits = 0;
+    transaction = Some (record { base = 0; actions = plain.InsertRows (codes "t") ((one ∷ []) ∷ []) True ∷ []; reads = read.Worlds ∷ [] });
+  }
+
+  changed_read : (c : PlainCommit) → AreLawful (by 2 (x_is 1) ∷ c ∷ []) W N reader (text ∷ []) (reply.Committed 2 ∷ []) last → ⊥
+  changed_read c (next, inl r, rest) = none-some _ (sym r.none_open)
+  changed_read c (next, inr r, rest) =
+      let t = some-injective _ r.transaction r.is_open in
+      let all = subst (λ u. All (λ x. last_of (by 2 (x_is 1) ∷ []) x ≤ u.base) u.reads) (sym t) r.unchanged in
+      let le : 1 ≤ 0 = all 0 read.Worlds (omega arith) in omega (arith, le)
+
+  -- a full log is no cause to refuse BEGIN
+  full_for_begin : ((at : ℕ) (actions : List PlainAction) (st : PlainStatement) → Asks [] (beginning 1) text at actions st → st ≡ plain.Begin)
+      → AreLawful [] W N (beginning 1) (text ∷ []) (reply.Refused 0 refusal.Full ∷ []) last → ⊥
+  full_for_begin only l =
+      let f = l.1.0 in
+      let le : 1 ≤ 0 = subst (λ st. 1 ≤ bound (count [] f.actions) None st) (only 0 f.actions f.statement f.asks) f.makes_words in omega (arith, le)

@@ -1,0 +1,80 @@
+-- Completeness: what is within all limits is not refused.
+use Rattle.std.specs.Prelude.{◌≡◌, ℕ, ◌+◌, ◌<◌, ◌≤◌, ◌⊎◌, List, [], ◌∷◌, ◌++◌, length, take, All, ⊤, Some, None, Err, IsSome, IsTrue, true}
+use Rattle.ct_word.specs.Value.{World}
+use Rattle.ct_word.specs.Condition.{Condition}
+use Rattle.ct_word.specs.Change.{PlainCommit}
+use Rattle.ct_word.specs.Reading.{commits_of}
+use Rattle.ct_query.specs.Plain.{PlainQuery, PlainAction, PlainStatement}
+use Rattle.ct_query.specs.Plain as plain
+use Rattle.ct_query.specs.declared.action.Read.{Read}
+use Rattle.ct_query.specs.Worlds.{admits}
+use Rattle.ct_query.specs.Reads.{last}
+use Rattle.ct_query.specs.Patterns.{count}
+use Rattle.ct_query.specs.Size.{size}
+use Rattle.ct_query.specs.Terms.{term_count}
+use Rattle.ct_algebra.specs.Evaluates.{limit}
+use Rattle.ct_resolve.specs.declared.error.ResolveError.{ResolveError}
+use Rattle.ct_lex.specs.Texts.{texts}
+use Rattle.ct_rewrite.specs.History.{plain_history}
+use Rattle.ct_transcript.specs.declared.reply.Reply.{Reply}
+use Rattle.ct_transcript.specs.declared.reply.Reply.TheVariants as reply
+use Rattle.ct_transcript.specs.declared.reply.Refusal.{Refusal}
+use Rattle.ct_transcript.specs.declared.reply.Refusal.TheVariants as refusal
+use Rattle.ct_transcript.specs.declared.reply.SessionLog.{SessionLog}
+use Rattle.ct_transcript.specs.declared.transcript.Transcript.{Transcript}
+use Rattle.ct_session.specs.Built.{IsBuilt}
+use Rattle.ct_session.specs.Statements.{IsTextFault}
+use Rattle.ct_session.specs.State.{SessionState, beginning}
+use Rattle.ct_session.specs.Seeing.{Sees, ResolvesTo, Asks, Orders, query_in}
+use Rattle.ct_session.specs.LawfulRefusal.{asks_of_worlds, TERMS, CommitsWhole, CommitsAlone}
+use Rattle.ct_session.specs.LawfulReply.{LawfulReply}
+
+-- a reply is no refusal, or want of memory
+abbrev pub IsAnswered : Reply → Type 0
+IsAnswered (reply.Refused at why) = why ≡ refusal.Memory
+IsAnswered _ = ⊤
+
+-- H is the run's history, W the words of its log, N their capacity
+module _ (H : List PlainCommit) (W : List ℕ) (N : ℕ) where
+  -- a statement is within all limits in a state, wherever in the history it is answered
+  pub record IsWithinLimits (s : SessionState) (x : List ℕ) : Type 0 where
+    -- no fault of the text, and in its place
+    pub read : (why : Refusal) → IsTextFault x why → ⊥
+    pub begins_outside : Orders H s x plain.Begin → s.transaction ≡ None
+    pub ends_inside : (st : PlainStatement) → (st ≡ plain.Commit) ⊎ (st ≡ plain.Rollback) → Orders H s x st → IsSome s.transaction
+    -- no fault of a name or a count, in a form that is built
+    pub named : (at : ℕ) (actions : List PlainAction) (e : ResolveError) → Sees H s at actions → ResolvesTo H s x at actions (Err e) → ⊥
+    pub built : (at : ℕ) (actions : List PlainAction) (st : PlainStatement) → Sees H s at actions → (a : Asks H s x at actions st) → IsBuilt a.statement
+    -- its query is not too large, the log is not full, and it has not too many terms
+    pub small : (at : ℕ) (actions : List PlainAction) (st : PlainStatement) (q : PlainQuery) → Sees H s at actions → Asks H s x at actions st → query_in st ≡ Some q
+        → size (count (take at H) actions) q ≤ limit
+    pub room : length W < N
+    pub few_terms : (at : ℕ) (actions : List PlainAction) (st : PlainStatement) → Sees H s at actions → Asks H s x at actions st → asks_of_worlds st ≡ true
+        → term_count (take at (commits_of W)) actions st ≤ TERMS
+    -- where it asserts, some valuation satisfies it
+    pub satisfied : (at : ℕ) (actions : List PlainAction) (c : Condition) → Sees H s at actions → Asks H s x at actions (plain.Act (plain.Assert c))
+        → (v : World) × IsTrue (admits v (take at H) (actions ++ plain.Assert c ∷ []))
+    -- where it commits, no commit after its base has written what it reads
+    pub unwritten : (base at : ℕ) (reads : List Read) → CommitsWhole H W N s x base reads ⊎ CommitsAlone H W N s x base reads → at ≤ length H
+        → All (λ r. last (take at H) r ≤ base) reads
+
+  -- each of these replies to these texts is lawful in the state that the one before it left, and one within all limits is
+  -- no refusal but want of memory
+  abbrev pub AreComplete : SessionState → List (List ℕ) → List Reply → SessionState → Type 0
+  AreComplete s [] [] last = s ≡ last
+  AreComplete s (x ∷ xs) (r ∷ rs) last =
+      (next : SessionState) × LawfulReply H W N s x r next × (IsWithinLimits s x → IsAnswered r) × AreComplete next xs rs last
+  AreComplete s _ _ last = ⊥
+
+  -- the replies of a session are complete
+  abbrev pub IsCompleteSession : ℕ → SessionLog → Type 0
+  IsCompleteSession s log = (last : SessionState) × AreComplete (beginning s) (texts log.script) log.replies last
+
+  -- the replies of the sessions are complete, the first session having this number
+  abbrev pub AreCompleteSessions : ℕ → List SessionLog → Type 0
+  AreCompleteSessions s [] = ⊤
+  AreCompleteSessions s (l ∷ ls) = IsCompleteSession s l × AreCompleteSessions (s + 1) ls
+
+-- the replies of a transcript are complete, for a capacity of N words
+abbrev pub IsComplete : Transcript → ℕ → Type 0
+IsComplete t N = AreCompleteSessions (plain_history t.history) t.words N 1 t.sessions

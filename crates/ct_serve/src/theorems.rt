@@ -1,0 +1,21 @@
+// Laws of the definitions: what a lawful transcript answers, and what a run serves.
+
+ghost use Rattle.std.specs.Prelude.{◌≡◌, ℕ, List, All, Some};
+ghost use Rattle.ct_outside.specs.Outside.{Held};
+ghost use Rattle.ct_transcript.specs.declared.transcript.Transcript.{Transcript};
+ghost use Rattle.ct_serve.specs.Lawful.{Lawful};
+ghost use Rattle.ct_serve.specs.Complete.{IsComplete};
+ghost use Rattle.ct_serve.specs.Scripts.{HoldsScript};
+ghost use Rattle.ct_serve.specs.Runs.{Outside, Promise};
+ghost use Rattle.ct_serve.specs.declared.ending.Status.TheVariants as status;
+
+/// Completeness: a lawful transcript refuses no statement that is within all limits, but for want of memory. So each
+/// refusal has one of the causes that `IsWithinLimits` lists.
+pub fn within_limits_is_answered()
+    ensures { (t : Transcript) (N : ℕ) → Lawful t N → IsComplete t N }
+{}
+
+/// Where a source tells that all files are scripts, a run does not end for one that is none.
+pub fn scripts_are_served()
+    ensures { (N : ℕ) (o : Outside) (t : Transcript) (files : List (List ℕ)) (held : Held) → o.files ≡ Some files → o.held ≡ Some held → All (HoldsScript o.held) files → Promise N o status.Script t → ⊥ }
+{}
