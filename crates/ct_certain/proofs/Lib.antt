@@ -3,3 +3,7 @@ pub mod Ordered
 pub mod Agreed
 pub mod Asking
 pub mod Listing
+pub mod Missing
+pub mod Values
+pub mod Roots
+pub mod Certainties

@@ -5,6 +5,7 @@
 //! hold, and a valuation that was found once is used for all rows.
 #![tactic(auto)]
 
+mod absence;
 mod cells;
 mod error;
 mod order;
@@ -12,7 +13,10 @@ mod pool;
 mod possibility;
 mod settling;
 mod showing;
+mod tuples;
 
 pub use ct_rewrite::{CertainRow, PossibleRow};
 pub use error::CertainError;
 pub use possibility::possible;
+pub use absence::ask_tuple;
+pub use tuples::{copied_tuple, has, is_listed, tuples as tuples_of};
