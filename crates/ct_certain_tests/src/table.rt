@@ -1,6 +1,7 @@
 // The possible rows of a table whose rows have conditions.
 
 ghost use Rattle.std.specs.Prelude.{◌≡◌, true, [], length, All, IfOk, IsTrue};
+ghost use Rattle.ct_word.specs.Stands.{HasNoColumn};
 ghost use Rattle.ct_word.specs.WellFormed.{IsWellFormed, is_place_of};
 ghost use Rattle.ct_word.specs.declared.kinds.Class.TheVariants as class;
 ghost use Rattle.ct_table.specs.Tables.{IsRow, AreRows};
@@ -79,6 +80,43 @@ fn shows_number(row: &PossibleRow, number: i64) -> bool {
     }
 }
 
+/// The place of the equality of two terms.
+fn equal<N: Site>(arena: &Arena<N>, pass: &mut Pass<N>, s: u32, t: u32) -> Result<u32, Fail> {
+    if !is_place(pass.words(), Class::Term, s) {
+        return Err("no term on the left".into());
+    }
+    if !is_place(pass.words(), Class::Term, t) {
+        return Err("no term on the right".into());
+    }
+    Ok(eq(arena, pass, s, t)?)
+}
+
+/// The place of the conjunction of two conditions.
+fn both<N: Site>(arena: &Arena<N>, pass: &mut Pass<N>, c: u32, d: u32) -> Result<u32, Fail> {
+    if !is_place(pass.words(), Class::Cond, c) {
+        return Err("no condition on the left".into());
+    }
+    if !is_place(pass.words(), Class::Cond, d) {
+        return Err("no condition on the right".into());
+    }
+    Ok(and(arena, pass, c, d)?)
+}
+
+/// The place of the word true, as a global condition.
+fn always<N: Site>(pass: &Pass<N>) -> Result<u32, Fail>
+    ensures place { IfOk result (λ p. IsTrue (is_place_of pass.now.words class.Cond p)) }
+    ensures plain { IfOk result (λ p. HasNoColumn pass.now.words p) }
+{
+    let now = pass.words();
+    if !is_place(now, Class::Cond, 0) {
+        return Err("no condition".into());
+    }
+    if !no_columns(now) {
+        return Err("a column".into());
+    }
+    Ok(0)
+}
+
 /// Of the rows (?x) if ?x = 2, (1), (2) if ?x = 1 and ?x = 2 and (3) if ?x = 2, all but the third one are possible.
 fn list_rows<N: Site>(rt: &impl Abort, alloc: Global, blank: Blank) -> Result<(), Fail>
     requires { blank ≡ N.log }
@@ -90,24 +128,13 @@ fn list_rows<N: Site>(rt: &impl Abort, alloc: Global, blank: Blank) -> Result<()
     let three = term(&arena, &mut pass, &Term::Value(Value::Int(3)))?;
     let name = Text::from_str(alloc, "x")?;
     let x = term(&arena, &mut pass, &Term::Null(Null::Named(name)))?;
-    if !are_places(pass.words(), Class::Term, &[one, two, three, x]) {
-        return Err("no terms".into());
-    }
-    let is_one = eq(&arena, &mut pass, x, one)?;
-    if !are_places(pass.words(), Class::Term, &[two, x]) {
-        return Err("no terms".into());
-    }
-    let is_two = eq(&arena, &mut pass, x, two)?;
-    if !are_places(pass.words(), Class::Cond, &[is_one, is_two]) {
-        return Err("no conditions".into());
-    }
-    let both = and(&arena, &mut pass, is_one, is_two)?;
-    let rows = [(x, is_two), (one, 0), (two, both), (three, is_two)];
+    let is_one = equal(&arena, &mut pass, x, one)?;
+    let is_two = equal(&arena, &mut pass, x, two)?;
+    let never = both(&arena, &mut pass, is_one, is_two)?;
+    let rows = [(x, is_two), (one, 0), (two, never), (three, is_two)];
     let table = filled(alloc, &arena, &mut pass, rows)?;
-    if !is_place(pass.words(), Class::Cond, 0) || !no_columns(pass.words()) {
-        return Err("no global condition".into());
-    }
-    let list = possible(alloc, &arena, &mut pass, &table, 0)?;
+    let global = always(&pass)?;
+    let list = possible(alloc, &arena, &mut pass, &table, global)?;
     let rows = list.as_slice();
     assert_eq!(rt; rows.len(), 3);
     assert!(rt; shows_number(&rows[0], 2));
