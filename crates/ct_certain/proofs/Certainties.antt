@@ -1,8 +1,9 @@
 -- Lists of certain tuples, one candidate after another.
-use Rattle.std.proofs.Common.{◌≡◌, ℕ, Bool, true, false, not, ◌&&◌, ◌||◌, List, [], ◌∷◌, ◌++◌, map, refl, ap, sym, subst, ◌∙◌, inl, inr}
+use Rattle.std.proofs.Common.{◌≡◌, ◌<◌, ◌+◌, ℕ, get_or, length, take, Bool, true, false, not, ◌&&◌, ◌||◌, List, [], ◌∷◌, ◌++◌, map, refl, ap, sym, subst, ◌∙◌, inl, inr}
 use Rattle.std.specs.Prelude.{◌⊎◌, ◌↔◌, All, IsTrue}
 use Rattle.std.specs.List.{AllByRecursion, IsDistinct}
 use Rattle.std.proofs.lemmas.Bool.{and_parts, cases_Bool, false≢true}
+use Rattle.std.proofs.lemmas.List.{take_more}
 use Rattle.std.proofs.lemmas.List.Elements.{All-head, All-tail, All-nil, All-push, All-weaker}
 use Rattle.std.proofs.lemmas.Map.Keys.{IsDistinct-cons, IsDistinct-head, IsDistinct-tail}
 use mathlib.Core.List.{IsPrefix}
@@ -24,7 +25,9 @@ use Rattle.ct_rewrite.specs.declared.answer.CertainRow.{CertainRow}
 use Rattle.ct_table.specs.Tables.{value_of_rows}
 use Rattle.ct_table.proofs.Denoting.{none_distinct}
 use Rattle.ct_certain.specs.Certain.{tuples_in, is_missing, IsInAll, RefutesMissing, ListsCertain}
-use Rattle.ct_certain.specs.Missing.{AreListed}
+use Rattle.ct_decide.specs.declared.deciding.Decision.TheVariants as decision
+use Rattle.ct_certain.specs.Answered.{IsSettled}
+use Rattle.ct_certain.specs.Missing.{AreListed, IsRootOf, Takes, nothing, one}
 
 sub_left : {A : Type 0} {xs ys : List A} (y : A) → IsSublist xs ys → IsSublist xs (ys ++ y ∷ [])
 sub_left y ended = left_out ended
@@ -84,6 +87,11 @@ has_by true true e f = refl
 has_by true false e f = absurd (false≢true (sym f))
 has_by false b e f = absurd (false≢true e)
 
+lacks : (a b : Bool) → (a && not b) ≡ true → (a ≡ true → b ≡ true) → ⊥
+lacks true true e f = false≢true e
+lacks true false e f = false≢true (f refl)
+lacks false b e f = false≢true e
+
 module _ (words : List ℕ) (global : ℕ) (rs : List CRow) where
   refutes_later : (old new : List ℕ) → IsPrefix old new → (r : CertainRow) → RefutesMissing words old global rs r → RefutesMissing words new global rs r
   refutes_later old new longer r is = record {
@@ -130,6 +138,27 @@ module _ (words : List ℕ) (global : ℕ) (rs : List CRow) where
           | inr b ↦ true_second (has_tuple (tuples_in list) t) (same_tuple r.tuple t) b
         ];
   }
+
+  listed_by : (now : List ℕ) (done : List (List Value)) (t : List Value) (list out : List CertainRow) → AreListed words now global rs done list → Takes words now global rs t list out → AreListed words now global rs (done ++ t ∷ []) out
+  listed_by now done t list out are (nothing known) = listed_skip now done list t known are
+  listed_by now done t list out are (one r is new refutes) =
+      subst (λ x. AreListed words now global rs (done ++ x ∷ []) (list ++ r ∷ [])) is (listed_more now done list r (ap (has_tuple (tuples_in list)) is ∙ new) refutes are)
+
+  -- one more candidate
+  pub listed_turn : (old new : List ℕ) (all : List (List Value)) (i : ℕ) (t : List Value) (list out : List CertainRow) → IsPrefix old new → i < length all → t ≡ get_or all i t
+      → AreListed words old global rs (take i all) list → Takes words new global rs t list out → AreListed words new global rs (take (i + 1) all) out
+  listed_turn old new all i t list out longer lt e are takes =
+      let done : take i all ++ t ∷ [] ≡ take (i + 1) all = ap (λ x. take i all ++ x ∷ []) e ∙ sym (take_more all i t lt) in
+      subst (λ d. AreListed words new global rs d out) done (listed_by new (take i all) t list out (listed_later old new (take i all) list longer are) takes)
+
+  -- what the answer to a question says of a candidate
+  pub takes_nothing : (now : List ℕ) (t : List Value) (list : List CertainRow) (root : ℕ) (w : World) → IsRootOf words now global rs t root → IsSettled now root (decision.World w) → Takes words now global rs t list list
+  takes_nothing now t list root w is settled =
+      nothing (λ all. absurd (lacks (holds_at w (condition_at words global)) (has_tuple (value_of_rows words w rs) t) (sym (is.holds w) ∙ settled.1) (all w)))
+
+  pub takes_one : (now : List ℕ) (t : List Value) (list out : List CertainRow) (root : ℕ) (d : _) → IsRootOf words now global rs t root → IsSettled now root (decision.Refuted d) → has_tuple (tuples_in list) t ≡ false
+      → out ≡ list ++ (record { tuple = t; proof = record { root = root; derivation = d } }) ∷ [] → Takes words now global rs t list out
+  takes_one now t list out root d is settled new e = subst (Takes words now global rs t list) (sym e) (one _ refl new (record { accepted = settled; root = is.holds }))
 
   is_in_all : (now : List ℕ) → IsWellFormed now → (r : CertainRow) → RefutesMissing words now global rs r → IsInAll words global rs r.tuple
   is_in_all now formed r is v holds = has_by (holds_at v (condition_at words global)) (has_tuple (value_of_rows words v rs) r.tuple) holds (sym (is.root v) ∙ root_refuted now r.proof.root r.proof.derivation formed is.accepted v)

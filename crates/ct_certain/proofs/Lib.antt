@@ -7,3 +7,4 @@ pub mod Missing
 pub mod Values
 pub mod Roots
 pub mod Certainties
+pub mod Candidates

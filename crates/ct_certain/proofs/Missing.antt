@@ -25,16 +25,18 @@ use Rattle.ct_certain.specs.Missing.{IsOfValue, AreOfTuple, condition_of}
 terms_of : (words : List ℕ) (xs : List Value) (ps : List ℕ) → AreOfTuple words xs ps → map (term_at words) ps ≡ map (λ x. term.Value x) xs
 terms_of words [] [] are = refl
 terms_of words (x ∷ xs) (p ∷ ps) are = λ i. as_term (are.0.stands i) ∷ terms_of words xs ps are.1 i
+terms_of words [] (p ∷ ps) are = elim are [ ]
+terms_of words (x ∷ xs) [] are = elim are [ ]
 
 worth_of_values : (v : World) (xs : List Value) → tuple_at v (map (λ x. term.Value x) xs) ≡ xs
 worth_of_values v [] = refl
 worth_of_values v (x ∷ xs) = ap (λ l. x ∷ l) (worth_of_values v xs)
 
 -- what one row is worth
-abbrev one_or_none : Bool → List Value → List (List Value)
+abbrev pub one_or_none : Bool → List Value → List (List Value)
 one_or_none b t = if b then t ∷ [] else []
 
-one_row : (v : World) (words : List ℕ) (r : CRow) → value_of_rows words v (r ∷ []) ≡ one_or_none (holds_at v (condition_at words r.cond)) (tuple_at v (map (term_at words) r.cells))
+pub one_row : (v : World) (words : List ℕ) (r : CRow) → value_of_rows words v (r ∷ []) ≡ one_or_none (holds_at v (condition_at words r.cond)) (tuple_at v (map (term_at words) r.cells))
 one_row v words r = by (holds_at v (condition_at words r.cond)) where
   by : (b : Bool) → map (λ p. tuple_at v p.cells) (if b then plain_crow words r ∷ [] else []) ≡ one_or_none b (tuple_at v (map (term_at words) r.cells))
   by true = refl

@@ -34,8 +34,13 @@ use Rattle.ct_table.specs.Terms.{TermOfRows, RowsFrom, RowFrom}
 use Rattle.ct_table.proofs.Denoting.{none_distinct}
 use Rattle.ct_table.proofs.Growing.{value_grows, rows_grow}
 use Rattle.ct_table.proofs.Holding.{holds_false}
-use Rattle.ct_table.proofs.Reaching.{from_rows, rows_before, rows_itself, rows_wider}
-use Rattle.ct_certain.specs.Asked.{IsOfTable, IsValueIn}
+use Rattle.ct_table.proofs.Reaching.{behind, from_rows, rows_before, rows_itself, rows_wider}
+use Rattle.ct_cnf.specs.Encoding.{HasTermsPast}
+use Rattle.ct_certain.specs.Asked.{IsOfTable, IsPastTermsOfTuple, IsValueIn}
+use Rattle.ct_decide.specs.declared.deciding.Decision.{Decision}
+use Rattle.ct_certain.specs.Faults as faults
+use Rattle.ct_certain.specs.declared.error.CertainError.{CertainError}
+use Rattle.ct_certain.specs.declared.error.CertainError.TheVariants as fault
 use Rattle.ct_certain.specs.Missing.{IsOfValue, AreOfTuple, IsAskedOf, IsRootOf, condition_of}
 use Rattle.ct_certain.proofs.Missing.{left_truth, tuple_worth}
 
@@ -68,10 +73,14 @@ one ps global = record { cells = ps; cond = global }
 cells_are : (words : List ℕ) (xs : List Value) (ps : List ℕ) → AreOfTuple words xs ps → All (λ p. IsTrue (is_place_of words class.Term p)) ps
 cells_are words [] [] are = All-nil _
 cells_are words (x ∷ xs) (p ∷ ps) are = All-cons (λ p. IsTrue (is_place_of words class.Term p)) p ps are.0.place (cells_are words xs ps are.1)
+cells_are words [] (p ∷ ps) are = elim are [ ]
+cells_are words (x ∷ xs) [] are = elim are [ ]
 
 cells_long : (words : List ℕ) (xs : List Value) (ps : List ℕ) → AreOfTuple words xs ps → length ps ≡ length xs
 cells_long words [] [] are = refl
 cells_long words (x ∷ xs) (p ∷ ps) are = let h = cells_long words xs ps are.1 in omega (arith, h)
+cells_long words [] (p ∷ ps) are = elim are [ ]
+cells_long words (x ∷ xs) [] are = elim are [ ]
 
 no_column : (x : Value) (k : ℕ) → term.Column k ≡ term.Value x → ⊥
 no_column x k e = cc
@@ -79,16 +88,17 @@ no_column x k e = cc
 cells_plain : (words : List ℕ) (xs : List Value) (ps : List ℕ) → AreOfTuple words xs ps → All (HasNoColumn words) ps
 cells_plain words [] [] are = All-nil _
 cells_plain words (x ∷ xs) (p ∷ ps) are = All-cons (HasNoColumn words) p ps (λ k h. no_column x k (are.0.terms (term.Column k) h)) (cells_plain words xs ps are.1)
-
-in_rest : {X : Type 0} (x : X) (xs : List X) (y : X) → Contains xs y → Contains (x ∷ xs) y
-in_rest x xs y h = let lt = h.1 in (h.0 + 1, omega (arith, lt), h.2)
+cells_plain words [] (p ∷ ps) are = elim are [ ]
+cells_plain words (x ∷ xs) [] are = elim are [ ]
 
 cells_from : (words : List ℕ) (source : Term → Type 0) (tuple xs : List Value) (ps : List ℕ) → ((x : Value) → Contains xs x → Contains tuple x) → ((t : Term) → IsValueIn tuple t → source t)
     → AreOfTuple words xs ps → All (λ p. TermsFrom words p source) ps
 cells_from words source tuple [] [] among wider are = All-nil _
 cells_from words source tuple (x ∷ xs) (p ∷ ps) among wider are = All-cons (λ p. TermsFrom words p source) p ps
     (λ t h. wider t (record { value = x; among = among x (0, omega arith, refl); is = are.0.terms t h }))
-    (cells_from words source tuple xs ps (λ y h. among y (in_rest x xs y h)) wider are.1)
+    (cells_from words source tuple xs ps (λ y h. among y (behind x xs y h)) wider are.1)
+cells_from words source tuple [] (p ∷ ps) among wider are = elim are [ ]
+cells_from words source tuple (x ∷ xs) [] among wider are = elim are [ ]
 
 module _ (words mid new : List ℕ) (global width : ℕ) (rs : List CRow) (tuple : List Value) (asked : IsAskedOf words mid global width rs tuple)
     (formed : IsWellFormed mid) (ps : List ℕ) (are : AreOfTuple mid tuple ps) where
@@ -99,7 +109,7 @@ module _ (words mid new : List ℕ) (global width : ℕ) (rs : List CRow) (tuple
   global_terms t h = terms_before words mid asked.grown formed global t global_there h
 
   -- the tuple as a row under the global condition
-  pub alone_rows : AreRows mid width (one ps global ∷ [])
+  alone_rows : AreRows mid width (one ps global ∷ [])
   alone_rows = record {
     each = All-cons (IsRow mid width) (one ps global) []
         (record {
@@ -113,6 +123,9 @@ module _ (words mid new : List ℕ) (global width : ℕ) (rs : List CRow) (tuple
     possible = All-cons (λ r. r.cond ≢ 1) (one ps global) [] asked.not_false (All-nil _);
   }
 
+  pub alone_by : (alone : List CRow) (n : ℕ) → alone ≡ one ps global ∷ [] → n ≡ width → AreRows mid n alone
+  alone_by alone n is wide = subst (λ m. AreRows mid m alone) (sym wide) (subst (λ l. AreRows mid width l) (sym is) alone_rows)
+
   pub table_rows : AreRows mid width rs
   table_rows = rows_grow words mid asked.grown asked.formed width rs asked.rows
 
@@ -122,7 +135,7 @@ module _ (words mid new : List ℕ) (global width : ℕ) (rs : List CRow) (tuple
   both_from : RowsFrom mid (one ps global ∷ rs) source
   both_from = All-cons (RowFrom mid source) (one ps global) rs
       (All-cons (λ p. TermsFrom mid p source) global ps (λ t h. inl (inl (global_terms t h))) (cells_from mid source tuple tuple ps (λ x h. h) (λ t h. inr h) are))
-      (rows_wider mid (TermOfRows mid rs) source (λ t h. inl (inr (rows_before words mid asked.grown formed width rs t asked.rows.each h))) rs (rows_itself mid rs))
+      (rows_wider mid (TermOfRows mid rs) source (λ t h. inl (inr (rows_before words mid asked.grown asked.formed width rs t asked.rows.each h))) rs (rows_itself mid rs))
 
   pub root_of : (out : List CRow) → IsWellFormed new → IsPrefix opening new → AreRows new width out → IsSublist (cells_of new out) (cells_of mid (one ps global ∷ []))
       → ((v : World) → SameSet (value_of_rows new v out) (filter (λ t. not (has_tuple (value_of_rows mid v rs) t)) (value_of_rows mid v (one ps global ∷ []))))
@@ -146,3 +159,46 @@ module _ (words mid new : List ℕ) (global width : ℕ) (rs : List CRow) (tuple
     its_terms [] from = λ t h. absurd (below_literal new formed_new begins 1 (inr refl) t h)
     its_terms (r ∷ out) from = λ t h. from_rows mid (one ps global ∷ rs) source both_from t
         (All-head (λ p. TermsFrom new p (TermOfRows mid (one ps global ∷ rs))) r.cond r.cells (All-head (RowFrom new (TermOfRows mid (one ps global ∷ rs))) r out from) t h)
+
+  -- the same, with the one row as a list that is equal to it
+  pub root_by : (alone out : List CRow) (n : ℕ) → alone ≡ one ps global ∷ [] → n ≡ width → IsWellFormed new → IsPrefix opening new → AreRows new n out → IsSublist (cells_of new out) (cells_of mid alone)
+      → ((v : World) → SameSet (value_of_rows new v out) (filter (λ t. not (has_tuple (value_of_rows mid v rs) t)) (value_of_rows mid v alone)))
+      → RowsFrom new out (TermOfRows mid (alone ++ rs)) → IsRootOf words new global rs tuple (condition_of out)
+  root_by alone out n is wide formed_new begins rows part same from = root_of out formed_new begins
+      (subst (λ m. AreRows new m out) wide rows)
+      (subst (λ l. IsSublist (cells_of new out) (cells_of mid l)) is part)
+      (λ v. subst (λ l. SameSet (value_of_rows new v out) (filter (λ t. not (has_tuple (value_of_rows mid v rs) t)) (value_of_rows mid v l))) is (same v))
+      (subst (λ l. RowsFrom new out (TermOfRows mid (l ++ rs))) is from)
+
+-- what is asked for when a question has too many terms
+pub past_tuple : (words mid now : List ℕ) (global width : ℕ) (rs : List CRow) (tuple : List Value) (root : ℕ) → IsAskedOf words mid global width rs tuple → IsRootOf words now global rs tuple root → HasTermsPast 64 now root
+    → IsPastTermsOfTuple words now global width rs
+past_tuple words mid now global width rs tuple root asked is many = record { tuple = tuple; width_is = asked.width_is; past = record { root = root; many = many; from = is.terms } }
+
+one_times : (r : ℕ) → 1 * r ≡ r
+one_times r = omega arith
+
+-- how many words a question makes
+pub root_most : (t k r a n : ℕ) → t ≡ k → a ≡ 1 → n ≡ k → t + (a * r * (2 * n + 2) + a) ≡ r * (2 * k + 2) + k + 1
+root_most t k r a n e ea en =
+    let h : 1 * r * (2 * k + 2) ≡ r * (2 * k + 2) = ap (λ x. x * (2 * k + 2)) (one_times r) in
+    let g : t + (1 * r * (2 * k + 2) + 1) ≡ r * (2 * k + 2) + k + 1 = omega (arith, h, e) in
+    (λ i. t + (ea i * r * (2 * en i + 2) + ea i)) ∙ g
+
+pub root_begun : (t k m : ℕ) → t ≡ k → t ≤ m + k + 1
+root_begun t k m e = omega (arith, e)
+
+-- an operator's refusal, handed on
+pub handed_on : (e : TableError) → refusals.is_full {T = ℕ} (Err e) ≡ faults.is_full {T = ℕ × Decision} (Err (faults.table_fault e))
+handed_on table.Full = refl
+handed_on table.Memory = refl
+
+abbrev error_number : Result (ℕ × Decision) CertainError → ℕ
+error_number (Err fault.Full) = 0
+error_number (Err fault.TooManyTerms) = 1
+error_number (Err fault.Memory) = 2
+error_number (Ok x) = 3
+
+pub never_many : (e : TableError) → IsErrOf {T = ℕ × Decision} (Err (faults.table_fault e)) fault.TooManyTerms → ⊥
+never_many table.Full h = let z : 0 ≡ 1 = ap error_number h in omega (arith, z)
+never_many table.Memory h = let z : 2 ≡ 1 = ap error_number h in omega (arith, z)

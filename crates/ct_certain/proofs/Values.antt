@@ -43,10 +43,14 @@ of_value_grows old new x p longer formed is =
 are_grow : (old new : List ℕ) (xs : List Value) (ps : List ℕ) → IsPrefix old new → IsWellFormed new → AreOfTuple old xs ps → AreOfTuple new xs ps
 are_grow old new [] [] longer formed are = are
 are_grow old new (x ∷ xs) (p ∷ ps) longer formed are = (of_value_grows old new x p longer formed are.0, are_grow old new xs ps longer formed are.1)
+are_grow old new [] (p ∷ ps) longer formed are = elim are [ ]
+are_grow old new (x ∷ xs) [] longer formed are = elim are [ ]
 
 are_more : (words : List ℕ) (xs : List Value) (ps : List ℕ) (x : Value) (p : ℕ) → AreOfTuple words xs ps → IsOfValue words x p → AreOfTuple words (xs ++ x ∷ []) (ps ++ p ∷ [])
 are_more words [] [] x p are is = (is, are)
 are_more words (y ∷ xs) (q ∷ ps) x p are is = (are.0, are_more words xs ps x p are.1 is)
+are_more words [] (q ∷ ps) x p are is = elim are [ ]
+are_more words (y ∷ xs) [] x p are is = elim are [ ]
 
 -- one more value of a tuple
 pub are_turn : (old new : List ℕ) (xs : List Value) (i : ℕ) (x : Value) (ps : List ℕ) (p : ℕ) → IsPrefix old new → IsWellFormed new → take i xs ++ x ∷ [] ≡ take (i + 1) xs
@@ -122,17 +126,15 @@ value_fits ws formed (val.Other k) (inr n) = subst (λ j. j < 2 ^ 28) (sym (ap n
 one_word : (x : Value) → IsNumbered x → literal_words (term.Value x) ≡ 1
 one_word x n = ap (λ y. literal_words (term.Value y)) n.value
 
-module _ {S E : Type 0} {words_of : S → List ℕ} {made_of : S → ℕ} {kept_of : S → List ℕ} {lent_of : S → List GName} {cap : ℕ} (old new : S) where
-  -- what a call for the place of a value makes
-  value_made : (x : Value) (r : Result ℕ E) → IsAtHand (words_of old) x
-      → (IsTrue (has_place (words_of old) (term.Value x)) → IsOk r × (words_of new ≡ words_of old) × (made_of new ≡ made_of old))
-      → made_of new ≤ made_of old + (literal_words (term.Value x) + column_words (term.Value x)) → OnErr r (made_of new < made_of old + (literal_words (term.Value x) + column_words (term.Value x)))
-      → made_of new + charge (is_err r) ≤ made_of old + 1
-  value_made x (Ok p) (inl e) known most less = let same = (known e).2 in omega (arith, same)
-  value_made x (Ok p) (inr n) known most less = let one = one_word x n in omega (arith, one, most)
-  value_made x (Err f) (inl e) known most less = absurd (known e).0
-  value_made x (Err f) (inr n) known most less = let one = one_word x n in omega (arith, one, less)
+-- what a call for the place of a value makes
+value_made : {E : Type 0} (words new : List ℕ) (m n : ℕ) (x : Value) (r : Result ℕ E) → IsAtHand words x → (IsTrue (has_place words (term.Value x)) → IsOk r × (new ≡ words) × (n ≡ m))
+    → n ≤ m + (literal_words (term.Value x) + column_words (term.Value x)) → OnErr r (n < m + (literal_words (term.Value x) + column_words (term.Value x))) → n + charge (is_err r) ≤ m + 1
+value_made words new m n x (Ok p) (inl e) known most less = let same = (known e).2 in omega (arith, same)
+value_made words new m n x (Ok p) (inr k) known most less = let one = one_word x k in omega (arith, one, most)
+value_made words new m n x (Err f) (inl e) known most less = absurd (false≢true (known e).0)
+value_made words new m n x (Err f) (inr k) known most less = let one = one_word x k in omega (arith, one, less)
 
+module _ {S E : Type 0} {words_of : S → List ℕ} {made_of : S → ℕ} {kept_of : S → List ℕ} {lent_of : S → List GName} {cap : ℕ} (old new : S) where
   pub value_writes : (x : Value) (r : Result ℕ E) → IsAtHand (words_of old) x → IsPrefix (words_of old) (words_of new) → IsWellFormed (words_of new) → length (words_of new) ≤ cap
       → OnErr r (length (words_of new) ≡ cap)
       → (IsTrue (has_place (words_of old) (term.Value x)) → IsOk r × (words_of new ≡ words_of old) × (made_of new ≡ made_of old))
@@ -143,7 +145,7 @@ module _ {S E : Type 0} {words_of : S → List ℕ} {made_of : S → ℕ} {kept_
     formed = formed;
     room = room;
     full = when_full r full;
-    made = value_made x r at known most less;
+    made = value_made (words_of old) (words_of new) (made_of old) (made_of new) x r at known most less;
     kept = kept;
     lent = lent;
   } where

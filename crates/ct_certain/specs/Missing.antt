@@ -1,5 +1,5 @@
 -- The question whether a tuple is missing from a table.
-use Rattle.std.specs.Prelude.{◌≡◌, ◌≢◌, ◌⊎◌, ◌<◌, ◌^◌, ⊤, ℕ, List, [], ◌∷◌, length, IsTrue, All}
+use Rattle.std.specs.Prelude.{◌≡◌, ◌≢◌, ◌⊎◌, ◌<◌, ◌^◌, ⊤, ℕ, false, List, [], ◌∷◌, ◌++◌, length, IsTrue, All}
 use mathlib.Core.List.{IsPrefix}
 use Rattle.ct_word.specs.declared.kinds.Class.TheVariants as class
 use Rattle.ct_word.specs.declared.values.Value.{Value}
@@ -61,15 +61,14 @@ abbrev pub condition_of : List CRow → ℕ
 condition_of [] = 1
 condition_of (r ∷ rs) = r.cond
 
--- the tuples that rows are worth at a valuation at which the global condition holds
-pub record IsWorthSomewhere (words : List ℕ) (global : ℕ) (rs : List CRow) (tuples : List (List Value)) : Type 0 where
-  pub world : World
-  pub holds : IsTrue (holds_at world (condition_at words global))
-  pub worth : tuples ≡ value_of_rows words world rs
-
 -- the certain tuples among these candidates are listed, each with a proof over the words now
 pub record AreListed (words now : List ℕ) (global : ℕ) (rs : List CRow) (done : List (List Value)) (list : List CertainRow) : Type 0 where
   pub distinct : IsDistinct same_tuple (tuples_in list)
   pub refuted : All (RefutesMissing words now global rs) list
   pub ordered : IsSublist (tuples_in list) done
   pub complete : (t : List Value) → IsTrue (has_tuple done t) → IsInAll words global rs t → IsTrue (has_tuple (tuples_in list) t)
+
+-- the list with a tuple and its proof; as it was where the tuple is listed already, or is not certain
+pub data Takes (words now : List ℕ) (global : ℕ) (rs : List CRow) (tuple : List Value) (old : List CertainRow) : List CertainRow → Type 0 where
+  nothing : (IsInAll words global rs tuple → IsTrue (has_tuple (tuples_in old) tuple)) → Takes words now global rs tuple old old
+  one : (r : CertainRow) → r.tuple ≡ tuple → has_tuple (tuples_in old) tuple ≡ false → RefutesMissing words now global rs r → Takes words now global rs tuple old (old ++ r ∷ [])

@@ -1,7 +1,8 @@
 // The question whether a tuple is missing from a table.
 
-ghost use Rattle.std.specs.Prelude.{◌≡◌, ◌*◌, ◌+◌, [], ◌∷◌, length, All, IfOk, IsErrOf};
+ghost use Rattle.std.specs.Prelude.{◌≡◌, ◌*◌, ◌+◌, [], ◌∷◌, false, length, All, IfOk, IsErrOf};
 ghost use Rattle.ct_condition.specs.Writes.{Writes};
+ghost use Rattle.ct_table.specs.Refusals.{is_full as has_no_room};
 ghost use Rattle.ct_certain.specs.Answered.{IsSettled};
 ghost use Rattle.ct_certain.specs.Asked.{IsPastTermsOfTuple};
 ghost use Rattle.ct_certain.specs.Faults.{is_full};
@@ -13,8 +14,8 @@ use crate::settling::settle;
 use ct_arena::{Arena, Site};
 use ct_condition::{Interner, term};
 use ct_decide::Decision;
-use ct_table::{CTable, except};
-use ct_word::{CRow, FALSE_PLACE, List, Memory, Term, Text, Value};
+use ct_table::{CTable, TableError, except};
+use ct_word::{CRow, FALSE_PLACE, List, Term, Text, Value};
 use std::alloc::Global;
 
 /// The place of a value. A word is made for `@k` at most, and none for a constant of the words.
@@ -22,18 +23,20 @@ fn place_of<N: Site, I: Interner<N>>(
     arena: &Arena<N>,
     pass: &mut I,
     value: &Value,
-) -> Result<u32, CertainError>
+) -> Result<u32, TableError>
     requires { IsAtHand (I.list pass.old) value.now }
     ensures place { IfOk result (λ p. IsOfValue (I.list pass.new) value.now p) }
-    ensures writes { Writes I.list I.made I.kept I.lent N.log.cap pass.old pass.new 1 (is_full result) }
+    ensures writes { Writes I.list I.made I.kept I.lent N.log.cap pass.old pass.new 1 (has_no_room result) }
 {
     let _ = pass.words();
     let copy = value.clone()?;
     let literal = Term::Value(copy);
     let found = term(arena, pass, &literal);
     let _ = pass.words();
-    let place = found?;
-    Ok(place)
+    match found {
+        Ok(place) => Ok(place),
+        Err(_) => Err(TableError::Full),
+    }
 }
 
 /// The places of the values of a tuple.
@@ -42,10 +45,10 @@ fn places<N: Site, I: Interner<N>>(
     arena: &Arena<N>,
     pass: &mut I,
     tuple: &[Value],
-) -> Result<List<u32>, CertainError>
+) -> Result<List<u32>, TableError>
     requires { All (IsAtHand (I.list pass.old)) tuple.now }
     ensures places { IfOk result (λ ps. AreOfTuple (I.list pass.new) tuple.now ps) }
-    ensures writes { Writes I.list I.made I.kept I.lent N.log.cap pass.old pass.new (length tuple.now) (is_full result) }
+    ensures writes { Writes I.list I.made I.kept I.lent N.log.cap pass.old pass.new (length tuple.now) (has_no_room result) }
 {
     let _ = pass.words();
     let mut places = Vec::new(alloc);
@@ -62,9 +65,10 @@ fn of_one_row(
     columns: &List<Text>,
     cells: List<u32>,
     cond: u32,
-) -> Result<CTable, Memory>
+) -> Result<CTable, TableError>
     ensures columns { IfOk result (λ t. t.columns ≡ columns.now) }
     ensures rows { IfOk result (λ t. t.rows ≡ (record { cells = cells; cond = cond }) ∷ []) }
+    ensures room { has_no_room result ≡ false }
 {
     let columns = columns.clone()?;
     let mut rows = Vec::new(alloc);
@@ -95,10 +99,10 @@ fn root<N: Site, I: Interner<N>>(
     table: &CTable,
     global: u32,
     tuple: &[Value],
-) -> Result<u32, CertainError>
+) -> Result<u32, TableError>
     requires { IsAskedOf words.now (I.list pass.old) global (length table.now.columns) table.now.rows tuple.now }
     ensures root { IfOk result (λ p. IsRootOf words.now (I.list pass.new) global table.now.rows tuple.now p) }
-    ensures writes { Writes I.list I.made I.kept I.lent N.log.cap pass.old pass.new (length table.now.rows * (2 * length table.now.columns + 2) + length table.now.columns + 1) (is_full result) }
+    ensures writes { Writes I.list I.made I.kept I.lent N.log.cap pass.old pass.new (length table.now.rows * (2 * length table.now.columns + 2) + length table.now.columns + 1) (has_no_room result) }
 {
     let _ = words;
     let cells = places(alloc, arena, pass, tuple)?;
@@ -106,8 +110,10 @@ fn root<N: Site, I: Interner<N>>(
     let alone = of_one_row(alloc, &table.columns, cells, global)?;
     let rest = except(alloc, arena, pass, &alone, table);
     let _ = pass.words();
-    let left = rest?;
-    Ok(first_condition(left.rows.as_slice()))
+    match rest {
+        Ok(left) => Ok(first_condition(left.rows.as_slice())),
+        Err(error) => Err(error),
+    }
 }
 
 /// A question about a tuple: its root, and a world in which the tuple is missing or a derivation that there is none.

@@ -7,6 +7,7 @@
 
 mod absence;
 mod cells;
+mod certainty;
 mod error;
 mod order;
 mod pool;
@@ -15,8 +16,7 @@ mod settling;
 mod showing;
 mod tuples;
 
+pub use certainty::certain;
 pub use ct_rewrite::{CertainRow, PossibleRow};
 pub use error::CertainError;
 pub use possibility::possible;
-pub use absence::ask_tuple;
-pub use tuples::{copied_tuple, has, is_listed, tuples as tuples_of};

@@ -1,6 +1,6 @@
 // The tuples that rows are worth in a world.
 
-ghost use Rattle.std.specs.Prelude.{◌≡◌, ◌<◌, ◌^◌, ◌++◌, [], ◌∷◌, length, map, false, All, IfOk, IsTrue, OnOk};
+ghost use Rattle.std.specs.Prelude.{◌≡◌, ◌<◌, ◌^◌, ◌++◌, [], ◌∷◌, length, map, All, IfOk, IsTrue, OnOk};
 ghost use Rattle.ct_word.specs.declared.kinds.Class.TheVariants as class;
 ghost use Rattle.ct_word.specs.Reading.{term_at};
 ghost use Rattle.ct_word.specs.Value.{at, same_tuple, tuple_at};
@@ -90,29 +90,10 @@ pub fn tuples(
 }
 
 /// Whether two tuples are the same.
-fn are_same(left: &List<Value>, right: &List<Value>) -> bool
-    ensures same { IsTrue result → left.now ≡ right.now }
-    ensures apart { result ≡ false → left.now ≡ right.now → ⊥ }
-{
-    left == right
-}
-
 fn is_same(left: &List<Value>, right: &List<Value>) -> bool
     ensures { result ≡ same_tuple left.now right.now }
 {
-    are_same(left, right)
-}
-
-/// Whether a tuple is among these.
-pub fn has(tuples: &[List<Value>], tuple: &List<Value>) -> bool
-    ensures { result ≡ has_tuple tuples.now tuple.now }
-{
-    for other in tuples {
-        if is_same(other, tuple) {
-            return true;
-        }
-    }
-    false
+    left == right
 }
 
 /// Whether a tuple is listed.

@@ -1,5 +1,5 @@
 use Rattle.std.proofs.Common.{◌≡◌, ◌≤◌, ◌*◌, ◌+◌, ◌++◌, ◌∷◌, ◌∙◌, [], length, take, ap, sym, subst, arith}
-use Rattle.std.proofs.lemmas.List.{take_all, take_more}
+use Rattle.std.proofs.lemmas.List.{take_more}
 use Rattle.std.proofs.lemmas.List.Elements.{All-get_or}
 use Rattle.std.proofs.lemmas.Result.{err_from_is_err_and}
 use Rattle.ct_condition.proofs.Writes.{writes_none, writes_within, writes_as, writes_more, writes_last}
@@ -31,3 +31,18 @@ loop-value-preserved g c =
           (are_turn (g.I.Interner.list c.loop-value.pass) (g.I.Interner.list c.place_of.new.pass) xs i x c.loop-value.places.items c.in_ok-place.place c.in_ok-place.ensures.writes.longer c.in_ok-place.ensures.writes.formed done
           c.loop-value.invariant.places c.in_ok-place.ensures.place);
     }
+
+pub returns-clause-writes : goal.returns-clause-writes
+returns-clause-writes g c = let le : c.loop-value.value-index ≤ length c.args.tuple.now = c.loop-value.auto.value-index-end in writes_within _ (omega (arith, le)) c.loop-value.invariant.writes
+
+pub returns-in_err-place-clause-writes : goal.returns-in_err-place-clause-writes
+returns-in_err-place-clause-writes g c =
+    let exit = err_from_is_err_and c.from_residual.result c.from_residual.ensures.1 in
+    let n : length c.args.tuple.now * 1 ≡ length c.args.tuple.now = omega arith in
+    rw (exit.1, exit.2) (writes_as n (writes_last _ _ c.loop-value.invariant.writes _ c.loop-value-test.true c.in_err-place.ensures.writes))
+
+pub returns-in_err-push-clause-writes : goal.returns-in_err-push-clause-writes
+returns-in_err-push-clause-writes g c =
+    let exit = err_from_is_err_and c.from_residual-in_err-push.result c.from_residual-in_err-push.ensures.1 in
+    let n : length c.args.tuple.now * 1 ≡ length c.args.tuple.now = omega arith in
+    rw (exit.1, exit.2) (writes_as n (writes_last _ _ c.loop-value.invariant.writes _ c.loop-value-test.true c.in_ok-place.ensures.writes))
