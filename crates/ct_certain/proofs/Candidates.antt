@@ -90,17 +90,17 @@ module _ (words : List ℕ) where
       → AreRows words width rs → IsKeptWorld words global kept → All (IsAskedOf words words global width rs) (value_of_rows words kept rs)
   worth_asked global width rs kept formed begins is plain rows keeps =
       each_worth (IsAskedOf words words global width rs) kept rs (All-weaker (IsRow words width) (λ r. IsAskedOf words words global width rs (tuple_at kept (map (term_at words) r.cells))) one rs rows.each) where
-    one : (r : CRow) → IsRow words width r → IsAskedOf words words global width rs (tuple_at kept (map (term_at words) r.cells))
-    one r row = record {
-      formed = formed;
-      grown = prefix_same words;
-      global_is = is;
-      global_plain = plain;
-      not_false = λ e. false≢true (sym ((holds_false words begins formed).holds kept) ∙ subst (λ g. holds_at kept (condition_at words g) ≡ true) e keeps.holds);
-      rows = rows;
-      width_is = tuple_long kept r.cells ∙ row.width_is;
-      values = tuple_at_hand kept keeps.values r.cells row.terms;
-    }
+        one : (r : CRow) → IsRow words width r → IsAskedOf words words global width rs (tuple_at kept (map (term_at words) r.cells))
+        one r row = record {
+          formed = formed;
+          grown = prefix_same words;
+          global_is = is;
+          global_plain = plain;
+          not_false = λ e. false≢true (sym ((holds_false words begins formed).holds kept) ∙ subst (λ g. holds_at kept (condition_at words g) ≡ true) e keeps.holds);
+          rows = rows;
+          width_is = tuple_long kept r.cells ∙ row.width_is;
+          values = tuple_at_hand kept keeps.values r.cells row.terms;
+        }
 
 -- as words are added
 pub asked_later : (words old new : List ℕ) (global width : ℕ) (rs : List CRow) (tuple : List Value) → IsPrefix old new → IsAskedOf words old global width rs tuple → IsAskedOf words new global width rs tuple
