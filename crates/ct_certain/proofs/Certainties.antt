@@ -1,8 +1,8 @@
 -- Lists of certain tuples, one candidate after another.
-use Rattle.std.proofs.Common.{◌≡◌, ◌<◌, ◌+◌, ℕ, get_or, length, take, Bool, true, false, not, ◌&&◌, ◌||◌, List, [], ◌∷◌, ◌++◌, map, refl, ap, sym, subst, ◌∙◌, inl, inr}
-use Rattle.std.specs.Prelude.{◌⊎◌, ◌↔◌, All, IsTrue}
+use Rattle.std.proofs.Common.{◌≡◌, ◌<◌, ◌+◌, ℕ, get_or, length, take, Bool, true, false, not, ◌&&◌, ◌||◌, List, [], ◌∷◌, ◌++◌, refl, ap, sym, subst, ◌∙◌, inl, inr}
+use Rattle.std.specs.Prelude.{◌⊎◌, All, IsTrue}
 use Rattle.std.specs.List.{AllByRecursion, IsDistinct}
-use Rattle.std.proofs.lemmas.Bool.{and_parts, cases_Bool, false≢true}
+use Rattle.std.proofs.lemmas.Bool.{and_parts, false≢true}
 use Rattle.std.proofs.lemmas.List.{take_more}
 use Rattle.std.proofs.lemmas.List.Elements.{All-head, All-tail, All-nil, All-push, All-weaker}
 use Rattle.std.proofs.lemmas.Map.Keys.{IsDistinct-cons, IsDistinct-head, IsDistinct-tail}
@@ -24,7 +24,7 @@ use Rattle.ct_derivation.proofs.Sound.{root_refuted}
 use Rattle.ct_rewrite.specs.declared.answer.CertainRow.{CertainRow}
 use Rattle.ct_table.specs.Tables.{value_of_rows}
 use Rattle.ct_table.proofs.Denoting.{none_distinct}
-use Rattle.ct_certain.specs.Certain.{tuples_in, is_missing, IsInAll, RefutesMissing, ListsCertain}
+use Rattle.ct_certain.specs.Certain.{tuples_in, IsInAll, RefutesMissing, ListsCertain}
 use Rattle.ct_decide.specs.declared.deciding.Decision.TheVariants as decision
 use Rattle.ct_certain.specs.Answered.{IsSettled}
 use Rattle.ct_certain.specs.Missing.{AreListed, IsRootOf, Takes, nothing, one}

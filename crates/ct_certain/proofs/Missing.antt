@@ -1,26 +1,18 @@
 -- The root of the question whether a tuple is missing, by what `except` leaves of it.
-use Rattle.std.proofs.Common.{◌≡◌, ◌≢◌, ◌≤◌, ◌<◌, ◌+◌, ℕ, zero, suc, Bool, true, false, not, ◌&&◌, ◌||◌, List, [], ◌∷◌, ◌++◌, map, length, refl, ap, sym, subst, ◌∙◌, arith, inl, inr, if◌then◌else◌}
-use Rattle.std.specs.Prelude.{◌⊎◌, All, Contains, IsTrue, slice_get, filter}
-use Rattle.std.proofs.lemmas.Bool.{cases_Bool, false≢true}
-use Rattle.std.proofs.lemmas.List.Elements.{All-head, All-tail, All-contains}
-use mathlib.Core.List.{IsPrefix}
-use Rattle.ct_word.specs.declared.kinds.Class.TheVariants as class
+use Rattle.std.proofs.Common.{◌≡◌, ◌≤◌, ℕ, Bool, true, false, ◌&&◌, ◌||◌, List, [], ◌∷◌, map, length, refl, ap, sym, ◌∙◌, arith, if◌then◌else◌}
+use Rattle.std.specs.Prelude.{filter}
 use Rattle.ct_word.specs.declared.values.Value.{Value}
-use Rattle.ct_word.specs.declared.values.Term.{Term}
 use Rattle.ct_word.specs.declared.values.Term.TheVariants as term
 use Rattle.ct_word.specs.declared.values.CRow.{CRow}
-use Rattle.ct_word.specs.Value.{World, at, same_tuple, tuple_at}
+use Rattle.ct_word.specs.Value.{World, tuple_at}
 use Rattle.ct_word.specs.Condition.{holds_at}
-use Rattle.ct_word.specs.Reading.{IsTerm, as_term, condition_at, term_at, plain_crow}
-use Rattle.ct_word.specs.Stands.{HasNoColumn, TermBelow}
+use Rattle.ct_word.specs.Reading.{as_term, condition_at, term_at, plain_crow}
 use Rattle.ct_word.specs.Sublist.{IsSublist, ended, left_out, taken}
-use Rattle.ct_word.specs.WellFormed.{IsWellFormed, is_place_of}
 use Rattle.ct_word.proofs.Alike.{tuple_decides}
-use Rattle.ct_word.proofs.Prefixes.{condition_in_prefix, place_within}
 use Rattle.ct_query.specs.Database.{has_tuple, SameSet}
-use Rattle.ct_table.specs.Tables.{IsRow, value_of_rows, cells_of}
+use Rattle.ct_table.specs.Tables.{value_of_rows, cells_of}
 use Rattle.ct_table.specs.Building.{HoldsWhere}
-use Rattle.ct_certain.specs.Missing.{IsOfValue, AreOfTuple, condition_of}
+use Rattle.ct_certain.specs.Missing.{AreOfTuple, condition_of}
 
 terms_of : (words : List ℕ) (xs : List Value) (ps : List ℕ) → AreOfTuple words xs ps → map (term_at words) ps ≡ map (λ x. term.Value x) xs
 terms_of words [] [] are = refl

@@ -1,11 +1,10 @@
 -- The root of the question whether a tuple is missing.
-use Rattle.std.proofs.Common.{◌≡◌, ◌≢◌, ◌≤◌, ◌<◌, ◌+◌, ◌*◌, ℕ, Bool, true, false, not, ◌&&◌, List, [], ◌∷◌, ◌++◌, map, length, Result, Ok, Err, refl, ap, sym, subst, ◌∙◌, arith, inl, inr}
+use Rattle.std.proofs.Common.{◌≡◌, ◌≢◌, ◌≤◌, ◌<◌, ◌+◌, ◌*◌, ℕ, true, not, ◌&&◌, List, [], ◌∷◌, ◌++◌, length, Result, Ok, Err, refl, ap, sym, subst, ◌∙◌, arith, inl, inr}
 use Rattle.std.specs.Prelude.{◌⊎◌, All, Contains, IsTrue, filter}
 use Rattle.std.specs.Prelude.{IsErrOf}
 use Rattle.std.specs.Borrow.{GName}
-use Rattle.std.specs.List.{IsDistinct}
 use Rattle.std.proofs.lemmas.Bool.{false≢true}
-use Rattle.std.proofs.lemmas.List.Elements.{All-head, All-tail, All-nil, All-cons, All-weaker}
+use Rattle.std.proofs.lemmas.List.Elements.{All-head, All-nil, All-cons}
 use Rattle.std.proofs.lemmas.Map.Keys.{IsDistinct-cons}
 use mathlib.Core.List.{IsPrefix}
 use Rattle.ct_word.specs.declared.kinds.Class.TheVariants as class
@@ -15,7 +14,6 @@ use Rattle.ct_word.specs.declared.values.Term.TheVariants as term
 use Rattle.ct_word.specs.declared.values.CRow.{CRow}
 use Rattle.ct_word.specs.Value.{World, same_cells}
 use Rattle.ct_word.specs.Condition.{holds_at}
-use Rattle.ct_word.specs.Reading.{condition_at}
 use Rattle.ct_word.specs.Stands.{HasNoColumn, TermBelow}
 use Rattle.ct_word.specs.Sublist.{IsSublist}
 use Rattle.ct_word.specs.WellFormed.{IsWellFormed, is_place_of}
@@ -41,7 +39,7 @@ use Rattle.ct_decide.specs.declared.deciding.Decision.{Decision}
 use Rattle.ct_certain.specs.Faults as faults
 use Rattle.ct_certain.specs.declared.error.CertainError.{CertainError}
 use Rattle.ct_certain.specs.declared.error.CertainError.TheVariants as fault
-use Rattle.ct_certain.specs.Missing.{IsOfValue, AreOfTuple, IsAskedOf, IsRootOf, condition_of}
+use Rattle.ct_certain.specs.Missing.{AreOfTuple, IsAskedOf, IsRootOf, condition_of}
 use Rattle.ct_certain.proofs.Missing.{left_truth, tuple_worth}
 
 -- what an operator does to the words

@@ -1,5 +1,5 @@
 -- The question whether a tuple is missing from a table.
-use Rattle.std.specs.Prelude.{◌≡◌, ◌≢◌, ◌⊎◌, ◌<◌, ◌^◌, ⊤, ℕ, false, List, [], ◌∷◌, ◌++◌, length, IsTrue, All}
+use Rattle.std.specs.Prelude.{◌≡◌, ◌≢◌, ◌⊎◌, ⊤, ℕ, false, List, [], ◌∷◌, ◌++◌, length, IsTrue, All}
 use mathlib.Core.List.{IsPrefix}
 use Rattle.ct_word.specs.declared.kinds.Class.TheVariants as class
 use Rattle.ct_word.specs.declared.values.Value.{Value}
@@ -13,7 +13,7 @@ use Rattle.ct_word.specs.WellFormed.{IsWellFormed, is_place_of}
 use Rattle.ct_condition.specs.Places.{has_place}
 use Rattle.ct_condition.specs.Terms.{TermsFrom}
 use Rattle.ct_equality.specs.Valued.{IsNumbered}
-use Rattle.ct_table.specs.Tables.{AreRows, value_of_rows}
+use Rattle.ct_table.specs.Tables.{AreRows}
 use Rattle.ct_certain.specs.Asked.{IsOfTable, IsValueIn}
 use Rattle.ct_certain.specs.Certain.{is_missing, tuples_in, IsInAll, RefutesMissing}
 use Rattle.std.specs.List.{IsDistinct}

@@ -1,4 +1,4 @@
-use Rattle.std.proofs.Common.{◌≡◌, ◌≤◌, length, sym, subst, ◌∙◌, rules}
+use Rattle.std.proofs.Common.{◌≡◌, ◌≤◌, length, sym, subst, rules}
 use Rattle.std.specs.Prelude.{All}
 use Rattle.ct_table.specs.Tables.{value_of_rows}
 use Rattle.ct_certain.specs.Certain.{ListsCertain}

@@ -1,9 +1,9 @@
-use Rattle.std.proofs.Common.{◌≡◌, ◌≤◌, ◌<◌, ◌*◌, ◌+◌, Err, [], length, ap, sym, subst, arith, ◌∙◌}
+use Rattle.std.proofs.Common.{◌≤◌, ◌<◌, [], length, sym, subst, arith}
 use mathlib.Core.List.{IsPrefix}
 use Rattle.std.proofs.lemmas.List.{take_all}
 use Rattle.std.proofs.lemmas.List.Elements.{All-get_or}
 use Rattle.std.proofs.lemmas.Result.{err_from_is_err_and}
-use Rattle.ct_condition.proofs.Writes.{writes_none, writes_all, writes_as, writes_more, writes_last}
+use Rattle.ct_condition.proofs.Writes.{writes_none, writes_all, writes_more, writes_last}
 use Rattle.ct_certain.specs.Missing.{AreListed, IsAskedOf}
 use Rattle.ct_certain.proofs.Candidates.{asked_later}
 use Rattle.ct_certain.proofs.Certainties.{listed_none, listed_turn}

@@ -1,7 +1,5 @@
-use Rattle.std.proofs.Common.{◌≡◌, true, false, ap, sym, subst, ◌∙◌}
-use Rattle.std.proofs.lemmas.Result.{err_from_is_err_and}
+use Rattle.std.proofs.Common.{ap, sym, subst, ◌∙◌}
 use Rattle.ct_query.specs.Database.{has_tuple}
-use Rattle.ct_decide.specs.declared.deciding.Decision.TheVariants as decision
 use Rattle.ct_certain.specs.Answered.{IsSettled}
 use Rattle.ct_certain.specs.Certain.{tuples_in}
 use Rattle.ct_certain.specs.Missing.{IsRootOf, nothing}
