@@ -3,3 +3,8 @@ pub mod Ordered
 pub mod Agreed
 pub mod Asking
 pub mod Listing
+pub mod Missing
+pub mod Values
+pub mod Roots
+pub mod Certainties
+pub mod Candidates

@@ -1,5 +1,5 @@
 -- The answer to a question, and a pool of worlds.
-use Rattle.std.specs.Prelude.{◌≡◌, ℕ, true, false, List, [], ◌∷◌, ◌++◌, Option, Some, None, IsTrue, All}
+use Rattle.std.specs.Prelude.{◌≡◌, ℕ, true, false, ◌&&◌, List, [], ◌∷◌, ◌++◌, Option, Some, None, IsTrue, All}
 use Rattle.ct_word.specs.declared.kinds.Class.TheVariants as class
 use Rattle.ct_word.specs.declared.values.CRow.{CRow}
 use Rattle.ct_word.specs.Value.{World}
@@ -15,6 +15,7 @@ use Rattle.ct_rewrite.specs.Tidy.{IsTidy}
 use Rattle.ct_rewrite.specs.declared.answer.PossibleRow.{PossibleRow}
 use Rattle.ct_certain.specs.Possible.{is_shown, shown_row}
 use Rattle.ct_certain.specs.declared.pool.Known.{Known}
+use Rattle.ct_certain.specs.declared.pool.Pool.{Pool}
 
 -- a tidy world at which a condition holds, or a derivation that is accepted, so that it holds at none
 abbrev pub IsSettled : List ℕ → ℕ → Decision → Type 0
@@ -39,6 +40,15 @@ pub record IsKnown (words : List ℕ) (global : ℕ) (k : Known) : Type 0 where
   pub tidy : IsTidy k.world
   pub holds : IsTrue (holds_at k.world (condition_at words global))
   pub worths : AreWorths words k.world k.worths
+
+-- a condition holds at no valuation together with the global one
+abbrev pub IsNever : List ℕ → ℕ → ℕ → Type 0
+IsNever words global c = (v : World) → (holds_at v (condition_at words global) && holds_at v (condition_at words c)) ≡ false
+
+-- worlds that are known, and conditions that hold at none
+pub record IsPool (words : List ℕ) (global : ℕ) (p : Pool) : Type 0 where
+  pub worlds : All (IsKnown words global) p.worlds.items
+  pub never : All (IsNever words global) p.never.items
 
 -- the list with a row where some world shows it, as it was where none does
 pub data Adds (words : List ℕ) (global : ℕ) (r : CRow) (old : List PossibleRow) : List PossibleRow → Type 0 where

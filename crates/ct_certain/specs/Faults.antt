@@ -2,6 +2,8 @@
 use Rattle.std.specs.Prelude.{Bool, true, false, Result, Err}
 use Rattle.ct_decide.specs.declared.error.DecideError.{DecideError}
 use Rattle.ct_decide.specs.declared.error.DecideError.TheVariants as decide
+use Rattle.ct_table.specs.declared.error.TableError.{TableError}
+use Rattle.ct_table.specs.declared.error.TableError.TheVariants as table
 use Rattle.ct_certain.specs.declared.error.CertainError.{CertainError}
 use Rattle.ct_certain.specs.declared.error.CertainError.TheVariants as fault
 
@@ -9,6 +11,11 @@ use Rattle.ct_certain.specs.declared.error.CertainError.TheVariants as fault
 abbrev pub fault_of : DecideError → CertainError
 fault_of decide.TooManyTerms = fault.TooManyTerms
 fault_of decide.Memory = fault.Memory
+
+-- the error where an operator on tables makes none
+abbrev pub table_fault : TableError → CertainError
+table_fault table.Full = fault.Full
+table_fault table.Memory = fault.Memory
 
 -- whether a call was refused since the log was full
 abbrev pub is_full : {T : Type 0} → Result T CertainError → Bool

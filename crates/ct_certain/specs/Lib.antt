@@ -4,3 +4,4 @@ pub mod Asked
 pub mod Faults
 pub mod Order
 pub mod Answered
+pub mod Missing

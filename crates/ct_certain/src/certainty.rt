@@ -1,24 +1,110 @@
 // The certain tuples of a table.
 
-ghost use Rattle.std.specs.Prelude.{◌≡◌, ◌≤◌, ◌<◌, ◌+◌, ◌*◌, length, IfOk, IsErrOf, IsTrue};
+ghost use Rattle.std.specs.Prelude.{◌≡◌, ◌≤◌, ◌<◌, ◌+◌, ◌*◌, ◌^◌, ◌++◌, [], ◌∷◌, length, All, IfOk, OnOk, IsErrOf, IsTrue};
 ghost use mathlib.Core.List.{IsPrefix};
 ghost use Rattle.ct_word.specs.declared.kinds.Class.TheVariants as class;
 ghost use Rattle.ct_word.specs.Stands.{HasNoColumn};
 ghost use Rattle.ct_word.specs.WellFormed.{IsWellFormed, is_place_of};
+ghost use Rattle.ct_condition.specs.Writes.{Writes};
 ghost use Rattle.ct_table.specs.Tables.{AreRows};
 ghost use Rattle.ct_certain.specs.Asked.{IsPastTermsOfTuple};
 ghost use Rattle.ct_certain.specs.Certain.{IsKeptWorld, ListsCertain};
+ghost use Rattle.ct_certain.specs.Faults.{is_full};
+ghost use Rattle.ct_certain.specs.Missing.{AreListed, IsAskedOf, Takes};
 ghost use Rattle.ct_certain.specs.declared.error.CertainError.TheVariants as fault;
 
+use crate::absence::ask_tuple;
 use crate::error::CertainError;
+use crate::tuples::{copied_tuple, is_listed, tuples};
 use ct_arena::{Arena, Pass, Site};
+use ct_condition::Interner;
+use ct_decide::Decision;
+use ct_derivation::{Derivation, Proof};
 use ct_rewrite::CertainRow;
 use ct_table::CTable;
-use ct_word::{List, World};
+use ct_word::{List, Memory, Value, World};
 use std::alloc::Global;
 
+/// Puts a tuple with its proof last in a list.
+fn list_tuple(
+    alloc: Global,
+    list: &mut Vec<CertainRow>,
+    tuple: &List<Value>,
+    root: u32,
+    derivation: Derivation,
+) -> Result<(), Memory>
+    ensures { OnOk result (list.new.items ≡ list.old.items ++ (record { tuple = tuple.now; proof = record { root = root; derivation = derivation } }) ∷ []) }
+{
+    let tuple = copied_tuple(alloc, tuple)?;
+    list.push(CertainRow {
+        tuple,
+        proof: Proof { root, derivation },
+    })?;
+    Ok(())
+}
+
+/// Lists a tuple if it is certain and not listed.
+fn try_tuple<N: Site, I: Interner<N>>(
+    alloc: Global,
+    arena: &Arena<N>,
+    pass: &mut I,
+    words: &[u64],
+    table: &CTable,
+    global: u32,
+    list: &mut Vec<CertainRow>,
+    tuple: &List<Value>,
+) -> Result<(), CertainError>
+    requires { IsAskedOf words.now (I.list pass.old) global (length table.now.columns) table.now.rows tuple.now }
+    ensures takes { OnOk result (Takes words.now (I.list pass.new) global table.now.rows tuple.now list.old.items list.new.items) }
+    ensures writes { Writes I.list I.made I.kept I.lent N.log.cap pass.old pass.new (length table.now.rows * (2 * length table.now.columns + 2) + length table.now.columns + 1) (is_full result) }
+    ensures many { IsErrOf result fault.TooManyTerms → IsPastTermsOfTuple words.now (I.list pass.new) global (length table.now.columns) table.now.rows }
+{
+    let _ = pass.words();
+    if is_listed(list.as_slice(), tuple) {
+        return Ok(());
+    }
+    let (root, decision) = ask_tuple(alloc, arena, pass, words, table, global, tuple.as_slice())?;
+    match decision {
+        Decision::World(_) => Ok(()),
+        Decision::Refuted(derivation) => {
+            list_tuple(alloc, list, tuple, root, derivation)?;
+            Ok(())
+        }
+    }
+}
+
+/// The certain tuples among candidates over the words that the pass had before, each once, in the order of these.
+fn each_certain<N: Site, I: Interner<N>>(
+    alloc: Global,
+    arena: &Arena<N>,
+    pass: &mut I,
+    words: &[u64],
+    table: &CTable,
+    global: u32,
+    candidates: &[List<Value>],
+) -> Result<Vec<CertainRow>, CertainError>
+    requires same { words.now ≡ I.list pass.old }
+    requires few { length candidates.now ≤ length table.now.rows }
+    requires asked { All (IsAskedOf words.now words.now global (length table.now.columns) table.now.rows) candidates.now }
+    ensures lists { IfOk result (λ list. AreListed words.now (I.list pass.new) global table.now.rows candidates.now list.items) }
+    ensures writes { Writes I.list I.made I.kept I.lent N.log.cap pass.old pass.new (length table.now.rows * (length table.now.rows * (2 * length table.now.columns + 2) + length table.now.columns + 1)) (is_full result) }
+    ensures many { IsErrOf result fault.TooManyTerms → IsPastTermsOfTuple words.now (I.list pass.new) global (length table.now.columns) table.now.rows }
+{
+    let _ = pass.words();
+    let mut list = Vec::new(alloc);
+    for tuple in candidates {
+        try_tuple(alloc, arena, pass, words, table, global, &mut list, tuple)?;
+    }
+    Ok(list)
+}
+
 /// The tuples that a table has at every valuation at which the global condition holds, each once, in the order of the
-/// rows at the kept world, each with a proof that it is missing at none.
+/// rows at a valuation that is kept, each with a proof that it is missing at none. For each row of the table at most
+/// `r (2k + 2) + k + 1` words are made, where the table has r rows and k columns.
+///
+/// # Errors
+/// `Full` where the log has no room for the root of a question, `TooManyTerms` where a question has more than 64
+/// distinct terms, `Memory` where there is none for the list or a question.
 pub fn certain<N: Site>(
     alloc: Global,
     arena: &Arena<N>,
@@ -42,11 +128,16 @@ pub fn certain<N: Site>(
     ensures session { pass.new.session ≡ pass.old.session }
     ensures mine { pass.new.mine ≡ pass.old.mine }
 {
-    let _ = alloc;
-    let _ = arena;
-    let _ = table;
-    let _ = global;
-    let _ = kept;
-    let _ = pass.words();
-    Err(CertainError::Memory)
+    let words = pass.words().to_vec(alloc)?;
+    let candidates = tuples(alloc, words.as_slice(), kept, table.rows.as_slice())?;
+    let list = each_certain(
+        alloc,
+        arena,
+        pass,
+        words.as_slice(),
+        table,
+        global,
+        candidates.as_slice(),
+    )?;
+    Ok(List::from_vec(list))
 }

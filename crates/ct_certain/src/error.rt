@@ -2,11 +2,12 @@
 
 ghost use Rattle.std.specs.Prelude.{◌≡◌, ℕ};
 ghost use Rattle.ct_decide.specs.declared.error.DecideError.{DecideError};
-ghost use Rattle.ct_certain.specs.Faults.{fault_of};
+ghost use Rattle.ct_certain.specs.Faults.{fault_of, table_fault};
 ghost use Rattle.ct_certain.specs.declared.error.CertainError.TheVariants as fault;
 
 use ct_arena::Full;
 use ct_decide::DecideError;
+use ct_table::TableError;
 use ct_word::Memory;
 use std::alloc::{AllocError, AllocFailed};
 use thiserror::Error;
@@ -40,6 +41,17 @@ impl From<DecideError> for CertainError {
         match error {
             DecideError::TooManyTerms => CertainError::TooManyTerms,
             DecideError::Memory => CertainError::Memory,
+        }
+    }
+}
+
+impl From<TableError> for CertainError {
+    ghost from_gives = { λ x e. e ≡ table_fault x };
+
+    fn from(error: TableError) -> Self {
+        match error {
+            TableError::Full => CertainError::Full,
+            TableError::Memory => CertainError::Memory,
         }
     }
 }

@@ -5,6 +5,7 @@
 //! hold, and a valuation that was found once is used for all rows.
 #![tactic(auto)]
 
+mod absence;
 mod cells;
 mod certainty;
 mod error;
@@ -13,6 +14,7 @@ mod pool;
 mod possibility;
 mod settling;
 mod showing;
+mod tuples;
 
 pub use certainty::certain;
 pub use ct_rewrite::{CertainRow, PossibleRow};

@@ -1,9 +1,9 @@
 // The worlds that are known, each at which the global condition holds.
 
-ghost use Rattle.std.specs.Prelude.{◌≡◌, ◌<◌, ◌^◌, length, All, IfOk, IfSome, OnOk, IsTrue};
+ghost use Rattle.std.specs.Prelude.{◌≡◌, ◌<◌, ◌^◌, length, All, IfOk, IfSome, OnOk, IsTrue, None};
 ghost use Rattle.ct_word.specs.declared.kinds.Class.TheVariants as class;
 ghost use Rattle.ct_word.specs.WellFormed.{IsWellFormed, is_place_of};
-ghost use Rattle.ct_certain.specs.Answered.{AreOf, IsAnswer, IsKnown};
+ghost use Rattle.ct_certain.specs.Answered.{AreOf, IsAnswer, IsKnown, IsNever, IsPool};
 ghost use Rattle.ct_certain.specs.Possible.{is_shown};
 ghost use Rattle.ct_rewrite.specs.Tidy.{IsTidy};
 
@@ -19,8 +19,17 @@ pub struct Known {
     pub worths: Worths,
 }
 
+/// What is known of the rows of a table.
+#[derive(Drop)]
+pub struct Pool {
+    /// Worlds at which the global condition holds.
+    pub worlds: Vec<Known>,
+    /// Conditions of rows that hold at no valuation together with the global one.
+    pub never: Vec<u32>,
+}
+
 /// The world in which each null is `@0`, if the global condition holds there.
-pub fn start(alloc: Global, words: &[u64], global: u32) -> Result<Vec<Known>, Memory>
+fn first(alloc: Global, words: &[u64], global: u32) -> Result<Vec<Known>, Memory>
     requires formed { IsWellFormed words.now }
     requires small { length words.now < 2 ^ 28 }
     requires global { IsTrue (is_place_of words.now class.Cond global) }
@@ -34,6 +43,35 @@ pub fn start(alloc: Global, words: &[u64], global: u32) -> Result<Vec<Known>, Me
         return Ok(pool);
     }
     Ok(pool)
+}
+
+/// What is known before any row is asked for.
+pub fn start(alloc: Global, words: &[u64], global: u32) -> Result<Pool, Memory>
+    requires formed { IsWellFormed words.now }
+    requires small { length words.now < 2 ^ 28 }
+    requires global { IsTrue (is_place_of words.now class.Cond global) }
+    ensures { IfOk result (λ pool. IsPool words.now global pool) }
+{
+    let worlds = first(alloc, words, global)?;
+    Ok(Pool {
+        worlds,
+        never: Vec::new(alloc),
+    })
+}
+
+/// Whether it is known that no world shows a row.
+pub fn is_never(words: &[u64], global: u32, never: &[u32], row: &CRow) -> bool
+    requires { All (IsNever words.now global) never.now }
+    ensures { IsTrue result → IsAnswer words.now global row.now None }
+{
+    let _ = words;
+    let _ = global;
+    for cond in never {
+        if *cond == row.cond {
+            return true;
+        }
+    }
+    false
 }
 
 /// A known world that shows a row.

@@ -1,18 +1,18 @@
 // One row of the possible ones.
 
-ghost use Rattle.std.specs.Prelude.{◌≡◌, ◌<◌, ◌^◌, length, All, IfOk, OnOk, IsErrOf};
+ghost use Rattle.std.specs.Prelude.{◌≡◌, ◌<◌, ◌^◌, length, IfOk, OnOk, IsErrOf};
 ghost use mathlib.Core.List.{IsPrefix};
 ghost use Rattle.ct_word.specs.WellFormed.{IsWellFormed};
 ghost use Rattle.ct_condition.specs.Terms.{BelowEither};
 ghost use Rattle.ct_condition.specs.Writes.{Writes};
-ghost use Rattle.ct_certain.specs.Answered.{AreOf, IsAnswer, IsKnown, Adds};
+ghost use Rattle.ct_certain.specs.Answered.{AreOf, IsAnswer, IsPool, Adds};
 ghost use Rattle.ct_certain.specs.Asked.{IsPastTerms};
 ghost use Rattle.ct_certain.specs.Faults.{is_full};
 ghost use Rattle.ct_certain.specs.declared.error.CertainError.TheVariants as fault;
 
 use crate::cells::terms;
 use crate::error::CertainError;
-use crate::pool::{Known, learn, look};
+use crate::pool::{Pool, is_never, learn, look};
 use crate::settling::ask;
 use ct_arena::{Arena, Site};
 use ct_condition::Interner;
@@ -27,29 +27,35 @@ pub fn show<N: Site, I: Interner<N>>(
     pass: &mut I,
     words: &[u64],
     global: u32,
-    pool: &mut Vec<Known>,
+    pool: &mut Pool,
     row: &CRow,
 ) -> Result<Option<World>, CertainError>
     requires formed { IsWellFormed words.now }
     requires small { length words.now < 2 ^ 28 }
     requires longer { IsPrefix words.now (I.list pass.old) }
     requires asked { AreOf words.now global row.now }
-    requires pool { All (IsKnown words.now global) pool.old.items }
+    requires pool { IsPool words.now global pool.old }
     ensures answer { IfOk result (λ o. IsAnswer words.now global row.now o) }
-    ensures pool { OnOk result (All (IsKnown words.now global) pool.new.items) }
+    ensures pool { OnOk result (IsPool words.now global pool.new) }
     ensures writes { Writes I.list I.made I.kept I.lent N.log.cap pass.old pass.new 1 (is_full result) }
     ensures many { IsErrOf result fault.TooManyTerms → IsPastTerms (I.list pass.new) (BelowEither words.now global row.now.cond) }
 {
     let _ = pass.words();
-    let known = look(alloc, words, global, pool.as_slice(), row)?;
+    if is_never(words, global, pool.never.as_slice(), row) {
+        return Ok(None);
+    }
+    let known = look(alloc, words, global, pool.worlds.as_slice(), row)?;
     if let Some(world) = known {
         return Ok(Some(world));
     }
     let found = ask(alloc, arena, pass, words, global, row)?;
     match found {
-        None => Ok(None),
+        None => {
+            pool.never.push(row.cond)?;
+            Ok(None)
+        }
         Some(world) => {
-            let copy = learn(alloc, words, global, pool, row, world)?;
+            let copy = learn(alloc, words, global, &mut pool.worlds, row, world)?;
             Ok(Some(copy))
         }
     }

@@ -1,7 +1,6 @@
 use Rattle.std.proofs.Common.{false, take, ◌*◌}
-use Rattle.std.specs.Prelude.{All}
 use Rattle.ct_condition.specs.Writes.{Writes}
-use Rattle.ct_certain.specs.Answered.{IsKnown}
+use Rattle.ct_certain.specs.Answered.{IsPool}
 use Rattle.ct_certain.specs.Possible.{ListsPossible}
 use Rattle.ct_certain.proofs.possibility.each_possible.Given as goal
 
@@ -9,5 +8,5 @@ abbrev pub invariant-loop-row : goal.invariant-loop-row
 invariant-loop-row g l = record {
   writes : Writes g.I.Interner.list g.I.Interner.made g.I.Interner.kept g.I.Interner.lent g.N.Site.log.cap l.fn.pass l.pass (l.row-index * 1) false;
   lists : ListsPossible l.words l.global (take l.row-index l.rows) l.list.items;
-  pool : All (IsKnown l.words l.global) l.pool.items;
+  pool : IsPool l.words l.global l.pool;
 }

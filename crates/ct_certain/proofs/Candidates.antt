@@ -1,0 +1,157 @@
+-- The tuples that rows are worth at a kept world: how many there are, and which values they have.
+use Rattle.std.proofs.Common.{◌≡◌, ◌≤◌, ◌<◌, ◌+◌, ℕ, zero, suc, Bool, true, false, List, [], ◌∷◌, ◌++◌, drop, get_or, map, length, take, refl, ap, sym, subst, ◌∙◌, arith, inl, inr, if◌then◌else◌}
+use Rattle.std.specs.Prelude.{◌&&◌, ◌||◌, All, IsTrue, filter}
+use Rattle.std.proofs.lemmas.Bool.{false≢true}
+use Rattle.std.proofs.lemmas.List.{take_more}
+use Rattle.std.proofs.Math.Seq.{drop-cons}
+use Rattle.std.proofs.lemmas.List.Elements.{All-head, All-tail, All-nil, All-cons, All-weaker}
+use mathlib.Core.List.{IsPrefix}
+use Rattle.ct_word.specs.declared.kinds.Class.TheVariants as class
+use Rattle.ct_word.specs.declared.values.Value.{Value}
+use Rattle.ct_word.specs.declared.values.Null.{Null}
+use Rattle.ct_word.specs.declared.values.Term.{Term}
+use Rattle.ct_word.specs.declared.values.Term.TheVariants as term
+use Rattle.ct_word.specs.declared.values.CRow.{CRow}
+use Rattle.ct_word.specs.Value.{World, at, cell_at, other_zero, same_null, same_tuple, same_value, tuple_at, value_of_null}
+use Rattle.ct_word.specs.Condition.{holds_at}
+use Rattle.ct_word.specs.Reading.{IsTerm, condition_at, plain_crow, term_at}
+use Rattle.ct_word.specs.Stands.{HasNoColumn, StandsAt}
+use Rattle.ct_word.specs.WellFormed.{IsWellFormed, is_place_of}
+use Rattle.ct_word.proofs.Places.{stands_term}
+use Rattle.ct_word.proofs.Prefixes.{prefix_of_prefix, prefix_same}
+use Rattle.ct_arena.specs.Counts.{opening}
+use Rattle.ct_condition.proofs.Placed.{place_from}
+use Rattle.ct_equality.specs.Valued.{IsNumbered}
+use Rattle.ct_table.specs.Tables.{AreRows, IsRow, value_of_rows}
+use Rattle.ct_table.proofs.Holding.{holds_false}
+use Rattle.ct_table.proofs.Selecting.{value-push}
+use Rattle.ct_rewrite.specs.declared.answer.CertainRow.{CertainRow}
+use Rattle.ct_query.specs.Database.{has_tuple}
+use Rattle.std.specs.Cmp.Lexicographic.{pointwise}
+use Rattle.ct_word.specs.contracts.values.ValuePartialEq.TheImpl as value_eq
+use Rattle.ct_word.specs.declared.values.Value.TheVariants as val
+use Rattle.ct_certain.specs.Certain.{IsKeptWorld, tuples_in}
+use Rattle.ct_certain.specs.Missing.{IsAskedOf, IsAtHand}
+use Rattle.ct_certain.proofs.Missing.{one_or_none, one_row}
+
+append_none : {X : Type 0} (xs : List X) → xs ++ [] ≡ xs
+append_none [] = refl
+append_none (x ∷ xs) = ap (λ l. x ∷ l) (append_none xs)
+
+zero_numbered : IsNumbered other_zero
+zero_numbered = record { number = 0; short = omega arith; value = refl }
+
+cell_of_none : (k : ℕ) → cell_at [] k ≡ other_zero
+cell_of_none zero = refl
+cell_of_none (suc k) = refl
+
+module _ (words : List ℕ) where
+  null_at_hand : (ps : World) → All (λ p. IsAtHand words p.1) ps → (n : Null) → IsAtHand words (value_of_null ps n)
+  null_at_hand [] all n = inr zero_numbered
+  null_at_hand (p ∷ ps) all n = by (same_null p.0 n) (null_at_hand ps (All-tail (λ p. IsAtHand words p.1) p ps all) n) where
+    by : (b : Bool) → IsAtHand words (value_of_null ps n) → IsAtHand words (if b then p.1 else value_of_null ps n)
+    by true rest = All-head (λ p. IsAtHand words p.1) p ps all
+    by false rest = rest
+
+  module _ (v : World) (values : All (λ p. IsAtHand words p.1) v) where
+    term_at_hand : (p : ℕ) (t : Term) → StandsAt words p (IsTerm t) → IsAtHand words (at v [] t)
+    term_at_hand p (term.Column k) s = subst (IsAtHand words) (sym (cell_of_none k)) (inr zero_numbered)
+    term_at_hand p (term.Null n) s = null_at_hand v values n
+    term_at_hand p (term.Value x) s = inl (place_from words p (term.Value x) s)
+
+    tuple_at_hand : (ps : List ℕ) → All (λ p. IsTrue (is_place_of words class.Term p)) ps → All (IsAtHand words) (tuple_at v (map (term_at words) ps))
+    tuple_at_hand [] are = All-nil (IsAtHand words)
+    tuple_at_hand (p ∷ ps) are = All-cons (IsAtHand words) (at v [] (term_at words p)) (tuple_at v (map (term_at words) ps))
+        (term_at_hand p (term_at words p) (stands_term words p (All-head (λ p. IsTrue (is_place_of words class.Term p)) p ps are)))
+        (tuple_at_hand ps (All-tail (λ p. IsTrue (is_place_of words class.Term p)) p ps are))
+
+  tuple_long : (v : World) (ps : List ℕ) → length (tuple_at v (map (term_at words) ps)) ≡ length ps
+  tuple_long v [] = refl
+  tuple_long v (p ∷ ps) = let h = tuple_long v ps in omega (arith, h)
+
+  each_worth : (P : List Value → Type 0) (v : World) (rs : List CRow) → All (λ r. P (tuple_at v (map (term_at words) r.cells))) rs → All P (value_of_rows words v rs)
+  each_worth P v [] all = All-nil P
+  each_worth P v (r ∷ rs) all = by (holds_at v (condition_at words r.cond)) (each_worth P v rs (All-tail (λ r. P (tuple_at v (map (term_at words) r.cells))) r rs all)) where
+    by : (b : Bool) → All P (value_of_rows words v rs) → All P (map (λ q. tuple_at v q.cells) (if b then plain_crow words r ∷ filter (λ q. holds_at v q.condition) (map (plain_crow words) rs) else filter (λ q. holds_at v q.condition) (map (plain_crow words) rs)))
+    by true rest = All-cons P (tuple_at v (map (term_at words) r.cells)) (value_of_rows words v rs) (All-head (λ r. P (tuple_at v (map (term_at words) r.cells))) r rs all) rest
+    by false rest = rest
+
+  -- rows are worth no more tuples than they are
+  pub worth_fewer : (v : World) (rs : List CRow) → length (value_of_rows words v rs) ≤ length rs
+  worth_fewer v [] = omega arith
+  worth_fewer v (r ∷ rs) = by (holds_at v (condition_at words r.cond)) (worth_fewer v rs) where
+    by : (b : Bool) → length (value_of_rows words v rs) ≤ length rs
+        → length (map (λ q. tuple_at v q.cells) (if b then plain_crow words r ∷ filter (λ q. holds_at v q.condition) (map (plain_crow words) rs) else filter (λ q. holds_at v q.condition) (map (plain_crow words) rs))) ≤ suc (length rs)
+    by true h = omega (arith, h)
+    by false h = omega (arith, h)
+
+  -- each of them can be asked for
+  pub worth_asked : (global width : ℕ) (rs : List CRow) (kept : World) → IsWellFormed words → IsPrefix opening words → IsTrue (is_place_of words class.Cond global) → HasNoColumn words global
+      → AreRows words width rs → IsKeptWorld words global kept → All (IsAskedOf words words global width rs) (value_of_rows words kept rs)
+  worth_asked global width rs kept formed begins is plain rows keeps =
+      each_worth (IsAskedOf words words global width rs) kept rs (All-weaker (IsRow words width) (λ r. IsAskedOf words words global width rs (tuple_at kept (map (term_at words) r.cells))) one rs rows.each) where
+        one : (r : CRow) → IsRow words width r → IsAskedOf words words global width rs (tuple_at kept (map (term_at words) r.cells))
+        one r row = record {
+          formed = formed;
+          grown = prefix_same words;
+          global_is = is;
+          global_plain = plain;
+          not_false = λ e. false≢true (sym ((holds_false words begins formed).holds kept) ∙ subst (λ g. holds_at kept (condition_at words g) ≡ true) e keeps.holds);
+          rows = rows;
+          width_is = tuple_long kept r.cells ∙ row.width_is;
+          values = tuple_at_hand kept keeps.values r.cells row.terms;
+        }
+
+-- as words are added
+pub asked_later : (words old new : List ℕ) (global width : ℕ) (rs : List CRow) (tuple : List Value) → IsPrefix old new → IsAskedOf words old global width rs tuple → IsAskedOf words new global width rs tuple
+asked_later words old new global width rs tuple longer is = record {
+  formed = is.formed;
+  grown = prefix_of_prefix words old new is.grown longer;
+  global_is = is.global_is;
+  global_plain = is.global_plain;
+  not_false = is.not_false;
+  rows = is.rows;
+  width_is = is.width_is;
+  values = is.values;
+}
+
+-- a row that is worth no tuple, and one that is worth its own
+pub worth_none : (words : List ℕ) (v : World) (r : CRow) (ts : List (List Value)) → false ≡ holds_at v (condition_at words r.cond) → ts ≡ ts ++ value_of_rows words v (r ∷ [])
+worth_none words v r ts e = sym (append_none ts) ∙ ap (λ l. ts ++ l) (ap (λ b. one_or_none b (tuple_at v (map (term_at words) r.cells))) e ∙ sym (one_row v words r))
+
+pub worth_one : (words : List ℕ) (v : World) (r : CRow) (ts : List (List Value)) → true ≡ holds_at v (condition_at words r.cond) → ts ++ tuple_at v (map (term_at words) r.cells) ∷ [] ≡ ts ++ value_of_rows words v (r ∷ [])
+worth_one words v r ts e = ap (λ l. ts ++ l) (ap (λ b. one_or_none b (tuple_at v (map (term_at words) r.cells))) e ∙ sym (one_row v words r))
+
+-- one more row
+pub worth_turn : (words : List ℕ) (v : World) (rows : List CRow) (i : ℕ) (r : CRow) → i < length rows → r ≡ get_or rows i r → value_of_rows words v (take i rows) ++ value_of_rows words v (r ∷ []) ≡ value_of_rows words v (take (i + 1) rows)
+worth_turn words v rows i r lt e = sym (value-push words v (take i rows) r) ∙ ap (value_of_rows words v) (ap (λ x. take i rows ++ x ∷ []) e ∙ sym (take_more rows i r lt))
+
+value_compared : (a b : Value) → value_eq.ghosts.eq a b ≡ same_value a b
+value_compared (val.Int a) (val.Int b) = refl
+value_compared (val.Text a) (val.Text b) = refl
+value_compared (val.Other a) (val.Other b) = refl
+value_compared (val.Int a) _ = refl
+value_compared (val.Text a) _ = refl
+value_compared (val.Other a) _ = refl
+
+-- the code compares tuples as the definition does
+pub tuples_compared : (a b : List Value) → pointwise value_eq.ghosts.eq a b ≡ same_tuple a b
+tuples_compared [] [] = refl
+tuples_compared (x ∷ a) (y ∷ b) = λ i. value_compared x y i && tuples_compared a b i
+tuples_compared [] (y ∷ b) = refl
+tuples_compared (x ∷ a) [] = refl
+
+-- the tuples from a row on
+pub from_row : (list : List CertainRow) (t : List Value) (i : ℕ) (r : CertainRow) → i < length list → r ≡ get_or list i r
+    → has_tuple (tuples_in (drop i list)) t ≡ (same_tuple r.tuple t || has_tuple (tuples_in (drop (i + 1) list)) t)
+from_row list t i r lt e =
+    let one : suc i ≡ i + 1 = omega arith in
+    ap (λ l. has_tuple (tuples_in l) t) (drop-cons list i r lt) ∙ (λ j. same_tuple (sym e j).tuple t || has_tuple (tuples_in (drop (one j) list)) t)
+
+pub row_found : (list : List CertainRow) (t : List Value) (i : ℕ) (r : CertainRow) → i < length list → r ≡ get_or list i r → true ≡ same_tuple r.tuple t
+    → has_tuple (tuples_in (drop i list)) t ≡ has_tuple (tuples_in list) t → true ≡ has_tuple (tuples_in list) t
+row_found list t i r lt e is so_far = ap (λ b. b || has_tuple (tuples_in (drop (i + 1) list)) t) is ∙ sym (from_row list t i r lt e) ∙ so_far
+
+pub row_passed : (list : List CertainRow) (t : List Value) (i : ℕ) (r : CertainRow) → i < length list → r ≡ get_or list i r → false ≡ same_tuple r.tuple t
+    → has_tuple (tuples_in (drop i list)) t ≡ has_tuple (tuples_in list) t → has_tuple (tuples_in (drop (i + 1) list)) t ≡ has_tuple (tuples_in list) t
+row_passed list t i r lt e is so_far = ap (λ b. b || has_tuple (tuples_in (drop (i + 1) list)) t) is ∙ sym (from_row list t i r lt e) ∙ so_far

@@ -1,0 +1,180 @@
+-- Lists of certain tuples, one candidate after another.
+use Rattle.std.proofs.Common.{◌≡◌, ◌<◌, ◌+◌, ℕ, get_or, length, take, Bool, true, false, not, ◌&&◌, ◌||◌, List, [], ◌∷◌, ◌++◌, refl, ap, sym, subst, ◌∙◌, inl, inr}
+use Rattle.std.specs.Prelude.{◌⊎◌, All, IsTrue}
+use Rattle.std.specs.List.{AllByRecursion, IsDistinct}
+use Rattle.std.proofs.lemmas.Bool.{and_parts, false≢true}
+use Rattle.std.proofs.lemmas.List.{take_more}
+use Rattle.std.proofs.lemmas.List.Elements.{All-head, All-tail, All-nil, All-push, All-weaker}
+use Rattle.std.proofs.lemmas.Map.Keys.{IsDistinct-cons, IsDistinct-head, IsDistinct-tail}
+use mathlib.Core.List.{IsPrefix}
+use Rattle.ct_word.specs.declared.kinds.Class.TheVariants as class
+use Rattle.ct_word.specs.declared.values.Value.{Value}
+use Rattle.ct_word.specs.declared.values.CRow.{CRow}
+use Rattle.ct_word.specs.Value.{World, same_tuple}
+use Rattle.ct_word.specs.Condition.{holds_at}
+use Rattle.ct_word.specs.Reading.{condition_at}
+use Rattle.ct_word.specs.Sublist.{IsSublist, ended, left_out, taken}
+use Rattle.ct_word.specs.WellFormed.{IsWellFormed, is_place_of}
+use Rattle.ct_word.proofs.Alike.{tuple_decides}
+use Rattle.ct_word.proofs.Prefixes.{condition_in_prefix, place_within}
+use Rattle.ct_query.specs.Database.{has_tuple}
+use Rattle.ct_derivation.specs.Accepts.{Accepts, accepts}
+use Rattle.ct_derivation.proofs.Longer.{accepted_longer}
+use Rattle.ct_derivation.proofs.Sound.{root_refuted}
+use Rattle.ct_rewrite.specs.declared.answer.CertainRow.{CertainRow}
+use Rattle.ct_table.specs.Tables.{value_of_rows}
+use Rattle.ct_table.proofs.Denoting.{none_distinct}
+use Rattle.ct_certain.specs.Certain.{tuples_in, IsInAll, RefutesMissing, ListsCertain}
+use Rattle.ct_decide.specs.declared.deciding.Decision.TheVariants as decision
+use Rattle.ct_certain.specs.Answered.{IsSettled}
+use Rattle.ct_certain.specs.Missing.{AreListed, IsRootOf, Takes, nothing, one}
+
+sub_left : {A : Type 0} {xs ys : List A} (y : A) → IsSublist xs ys → IsSublist xs (ys ++ y ∷ [])
+sub_left y ended = left_out ended
+sub_left y (left_out s) = left_out (sub_left y s)
+sub_left y (taken s) = taken (sub_left y s)
+
+sub_more : {A : Type 0} {xs ys : List A} (y : A) → IsSublist xs ys → IsSublist (xs ++ y ∷ []) (ys ++ y ∷ [])
+sub_more y ended = taken ended
+sub_more y (left_out s) = left_out (sub_more y s)
+sub_more y (taken s) = taken (sub_more y s)
+
+tuples_push : (list : List CertainRow) (r : CertainRow) → tuples_in (list ++ r ∷ []) ≡ tuples_in list ++ r.tuple ∷ []
+tuples_push [] r = refl
+tuples_push (x ∷ list) r = ap (λ l. x.tuple ∷ l) (tuples_push list r)
+
+or_false : (a b : Bool) → (a || b) ≡ false → (a ≡ false) × (b ≡ false)
+or_false true b e = absurd (false≢true (sym e))
+or_false false b e = (refl, e)
+
+or_true : (a b : Bool) → (a || b) ≡ true → (a ≡ true) ⊎ (b ≡ true)
+or_true true b e = inl refl
+or_true false b e = inr e
+
+true_first : (a b : Bool) → a ≡ true → (a || b) ≡ true
+true_first a b e = ap (λ c. c || b) e
+
+true_second : (a b : Bool) → b ≡ true → (a || b) ≡ true
+true_second true b e = refl
+true_second false b e = e
+
+has_push : (ts : List (List Value)) (u t : List Value) → has_tuple (ts ++ u ∷ []) t ≡ (has_tuple ts t || same_tuple u t)
+has_push [] u t = flip (same_tuple u t) where
+  flip : (b : Bool) → (b || false) ≡ b
+  flip true = refl
+  flip false = refl
+has_push (x ∷ ts) u t = ap (λ b. same_tuple x t || b) (has_push ts u t) ∙ grouped (same_tuple x t) (has_tuple ts t) (same_tuple u t) where
+  grouped : (a b c : Bool) → (a || (b || c)) ≡ ((a || b) || c)
+  grouped true b c = refl
+  grouped false b c = refl
+
+others_differ : (x : List Value) (xs : List (List Value)) (t : List Value) → AllByRecursion (λ y. same_tuple x y ≡ false) xs → same_tuple x t ≡ false → AllByRecursion (λ y. same_tuple x y ≡ false) (xs ++ t ∷ [])
+others_differ x [] t all e = (e, tt)
+others_differ x (y ∷ xs) t all e = (all.0, others_differ x xs t all.1 e)
+
+distinct_more : (xs : List (List Value)) (t : List Value) → IsDistinct same_tuple xs → has_tuple xs t ≡ false → IsDistinct same_tuple (xs ++ t ∷ [])
+distinct_more [] t d e = IsDistinct-cons same_tuple t [] tt (none_distinct same_tuple)
+distinct_more (x ∷ xs) t d e =
+    let parts = or_false (same_tuple x t) (has_tuple xs t) e in
+    IsDistinct-cons same_tuple x (xs ++ t ∷ []) (others_differ x xs t (IsDistinct-head same_tuple x xs d) parts.0) (distinct_more xs t (IsDistinct-tail same_tuple x xs d) parts.1)
+
+root_there : (words : List ℕ) (root : ℕ) (d : _) → Accepts words root d → IsTrue (is_place_of words class.Cond root)
+unfolding accepts
+root_there words root d is = (and_parts (is_place_of words class.Cond root) _ (and_parts _ _ is).0).0
+
+has_by : (a b : Bool) → a ≡ true → (a && not b) ≡ false → b ≡ true
+has_by true true e f = refl
+has_by true false e f = absurd (false≢true (sym f))
+has_by false b e f = absurd (false≢true e)
+
+lacks : (a b : Bool) → (a && not b) ≡ true → (a ≡ true → b ≡ true) → ⊥
+lacks true true e f = false≢true e
+lacks true false e f = false≢true (f refl)
+lacks false b e f = false≢true e
+
+module _ (words : List ℕ) (global : ℕ) (rs : List CRow) where
+  refutes_later : (old new : List ℕ) → IsPrefix old new → (r : CertainRow) → RefutesMissing words old global rs r → RefutesMissing words new global rs r
+  refutes_later old new longer r is = record {
+    accepted = accepted_longer old new longer r.proof.root r.proof.derivation is.accepted;
+    root = λ v. ap (holds_at v) (condition_in_prefix old new r.proof.root longer (place_within old class.Cond r.proof.root (root_there old r.proof.root r.proof.derivation is.accepted))) ∙ is.root v;
+  }
+
+  pub listed_none : (now : List ℕ) → AreListed words now global rs [] []
+  listed_none now = record { distinct = none_distinct same_tuple; refuted = All-nil _; ordered = ended; complete = λ t h all. h }
+
+  pub listed_later : (old new : List ℕ) (done : List (List Value)) (list : List CertainRow) → IsPrefix old new → AreListed words old global rs done list → AreListed words new global rs done list
+  listed_later old new done list longer are = record {
+    distinct = are.distinct;
+    refuted = All-weaker (RefutesMissing words old global rs) (RefutesMissing words new global rs) (refutes_later old new longer) list are.refuted;
+    ordered = are.ordered;
+    complete = are.complete;
+  }
+
+  -- a candidate that is listed already, or is not certain
+  pub listed_skip : (now : List ℕ) (done : List (List Value)) (list : List CertainRow) (u : List Value) → (IsInAll words global rs u → IsTrue (has_tuple (tuples_in list) u)) → AreListed words now global rs done list → AreListed words now global rs (done ++ u ∷ []) list
+  listed_skip now done list u known are = record {
+    distinct = are.distinct;
+    refuted = are.refuted;
+    ordered = sub_left u are.ordered;
+    complete = λ t h all. elim (or_true (has_tuple done t) (same_tuple u t) (sym (has_push done u t) ∙ h)) [
+      | inl a ↦ are.complete t a all
+      | inr b ↦
+          let same : u ≡ t = (tuple_decides u t).0 b in
+          subst (λ x. IsTrue (has_tuple (tuples_in list) x)) same (known (subst (IsInAll words global rs) (sym same) all))
+    ];
+  }
+
+  -- a candidate with its proof
+  pub listed_more : (now : List ℕ) (done : List (List Value)) (list : List CertainRow) (r : CertainRow) → has_tuple (tuples_in list) r.tuple ≡ false → RefutesMissing words now global rs r → AreListed words now global rs done list
+      → AreListed words now global rs (done ++ r.tuple ∷ []) (list ++ r ∷ [])
+  listed_more now done list r new is are = record {
+    distinct = subst (λ ts. IsDistinct same_tuple ts) (sym (tuples_push list r)) (distinct_more (tuples_in list) r.tuple are.distinct new);
+    refuted = All-push (RefutesMissing words now global rs) list r are.refuted is;
+    ordered = subst (λ ts. IsSublist ts (done ++ r.tuple ∷ [])) (sym (tuples_push list r)) (sub_more r.tuple are.ordered);
+    complete = λ t h all.
+        ap (λ ts. has_tuple ts t) (tuples_push list r) ∙ has_push (tuples_in list) r.tuple t
+        ∙ elim (or_true (has_tuple done t) (same_tuple r.tuple t) (sym (has_push done r.tuple t) ∙ h)) as (λ _. (has_tuple (tuples_in list) t || same_tuple r.tuple t) ≡ true) [
+          | inl a ↦ true_first (has_tuple (tuples_in list) t) (same_tuple r.tuple t) (are.complete t a all)
+          | inr b ↦ true_second (has_tuple (tuples_in list) t) (same_tuple r.tuple t) b
+        ];
+  }
+
+  listed_by : (now : List ℕ) (done : List (List Value)) (t : List Value) (list out : List CertainRow) → AreListed words now global rs done list → Takes words now global rs t list out → AreListed words now global rs (done ++ t ∷ []) out
+  listed_by now done t list out are (nothing known) = listed_skip now done list t known are
+  listed_by now done t list out are (one r is new refutes) =
+      subst (λ x. AreListed words now global rs (done ++ x ∷ []) (list ++ r ∷ [])) is (listed_more now done list r (ap (has_tuple (tuples_in list)) is ∙ new) refutes are)
+
+  -- one more candidate
+  pub listed_turn : (old new : List ℕ) (all : List (List Value)) (i : ℕ) (t : List Value) (list out : List CertainRow) → IsPrefix old new → i < length all → t ≡ get_or all i t
+      → AreListed words old global rs (take i all) list → Takes words new global rs t list out → AreListed words new global rs (take (i + 1) all) out
+  listed_turn old new all i t list out longer lt e are takes =
+      let done : take i all ++ t ∷ [] ≡ take (i + 1) all = ap (λ x. take i all ++ x ∷ []) e ∙ sym (take_more all i t lt) in
+      subst (λ d. AreListed words new global rs d out) done (listed_by new (take i all) t list out (listed_later old new (take i all) list longer are) takes)
+
+  -- what the answer to a question says of a candidate
+  pub takes_nothing : (now : List ℕ) (t : List Value) (list : List CertainRow) (root : ℕ) (w : World) → IsRootOf words now global rs t root → IsSettled now root (decision.World w) → Takes words now global rs t list list
+  takes_nothing now t list root w is settled =
+      nothing (λ all. absurd (lacks (holds_at w (condition_at words global)) (has_tuple (value_of_rows words w rs) t) (sym (is.holds w) ∙ settled.1) (all w)))
+
+  pub takes_one : (now : List ℕ) (t : List Value) (list out : List CertainRow) (root : ℕ) (d : _) → IsRootOf words now global rs t root → IsSettled now root (decision.Refuted d) → has_tuple (tuples_in list) t ≡ false
+      → out ≡ list ++ (record { tuple = t; proof = record { root = root; derivation = d } }) ∷ [] → Takes words now global rs t list out
+  takes_one now t list out root d is settled new e = subst (Takes words now global rs t list) (sym e) (one _ refl new (record { accepted = settled; root = is.holds }))
+
+  is_in_all : (now : List ℕ) → IsWellFormed now → (r : CertainRow) → RefutesMissing words now global rs r → IsInAll words global rs r.tuple
+  is_in_all now formed r is v holds = has_by (holds_at v (condition_at words global)) (has_tuple (value_of_rows words v rs) r.tuple) holds (sym (is.root v) ∙ root_refuted now r.proof.root r.proof.derivation formed is.accepted v)
+
+  each_in_all : (now : List ℕ) → IsWellFormed now → (list : List CertainRow) → All (RefutesMissing words now global rs) list → (t : List Value) → IsTrue (has_tuple (tuples_in list) t) → IsInAll words global rs t
+  each_in_all now formed [] all t h = absurd (false≢true h)
+  each_in_all now formed (r ∷ list) all t h = elim (or_true (same_tuple r.tuple t) (has_tuple (tuples_in list) t) h) [
+    | inl a ↦ subst (IsInAll words global rs) ((tuple_decides r.tuple t).0 a) (is_in_all now formed r (All-head (RefutesMissing words now global rs) r list all))
+    | inr b ↦ each_in_all now formed list (All-tail (RefutesMissing words now global rs) r list all) t b
+  ]
+
+  -- all candidates, which are the tuples at a kept world
+  pub listed_all : (now : List ℕ) → IsWellFormed now → (kept : World) → IsTrue (holds_at kept (condition_at words global)) → (list : List CertainRow) → AreListed words now global rs (value_of_rows words kept rs) list → ListsCertain words now global rs kept list
+  listed_all now formed kept holds list are = record {
+    distinct = are.distinct;
+    exact = λ t. (each_in_all now formed list are.refuted t, λ all. are.complete t (all kept holds) all);
+    refuted = are.refuted;
+    ordered = are.ordered;
+  }

@@ -1,0 +1,202 @@
+-- The root of the question whether a tuple is missing.
+use Rattle.std.proofs.Common.{◌≡◌, ◌≢◌, ◌≤◌, ◌<◌, ◌+◌, ◌*◌, ℕ, true, not, ◌&&◌, List, [], ◌∷◌, ◌++◌, length, Result, Ok, Err, refl, ap, sym, subst, ◌∙◌, arith, inl, inr}
+use Rattle.std.specs.Prelude.{◌⊎◌, All, Contains, IsTrue, filter}
+use Rattle.std.specs.Prelude.{IsErrOf}
+use Rattle.std.specs.Borrow.{GName}
+use Rattle.std.proofs.lemmas.Bool.{false≢true}
+use Rattle.std.proofs.lemmas.List.Elements.{All-head, All-nil, All-cons}
+use Rattle.std.proofs.lemmas.Map.Keys.{IsDistinct-cons}
+use mathlib.Core.List.{IsPrefix}
+use Rattle.ct_word.specs.declared.kinds.Class.TheVariants as class
+use Rattle.ct_word.specs.declared.values.Value.{Value}
+use Rattle.ct_word.specs.declared.values.Term.{Term}
+use Rattle.ct_word.specs.declared.values.Term.TheVariants as term
+use Rattle.ct_word.specs.declared.values.CRow.{CRow}
+use Rattle.ct_word.specs.Value.{World, same_cells}
+use Rattle.ct_word.specs.Condition.{holds_at}
+use Rattle.ct_word.specs.Stands.{HasNoColumn, TermBelow}
+use Rattle.ct_word.specs.Sublist.{IsSublist}
+use Rattle.ct_word.specs.WellFormed.{IsWellFormed, is_place_of}
+use Rattle.ct_word.proofs.Prefixes.{condition_in_prefix, place_in_prefix, place_within}
+use Rattle.ct_query.specs.Database.{has_tuple, SameSet}
+use Rattle.ct_arena.specs.Counts.{opening}
+use Rattle.ct_condition.specs.Terms.{TermsFrom}
+use Rattle.ct_condition.specs.Writes.{charge, Writes}
+use Rattle.ct_condition.proofs.Denied.{below_literal}
+use Rattle.ct_condition.proofs.Reached.{terms_before}
+use Rattle.ct_table.specs.declared.error.TableError.{TableError}
+use Rattle.ct_table.specs.declared.error.TableError.TheVariants as table
+use Rattle.ct_table.specs.Refusals as refusals
+use Rattle.ct_table.specs.Tables.{IsRow, AreRows, value_of_rows, cells_of}
+use Rattle.ct_table.specs.Terms.{TermOfRows, RowsFrom, RowFrom}
+use Rattle.ct_table.proofs.Denoting.{none_distinct}
+use Rattle.ct_table.proofs.Growing.{value_grows, rows_grow}
+use Rattle.ct_table.proofs.Holding.{holds_false}
+use Rattle.ct_table.proofs.Reaching.{behind, from_rows, rows_before, rows_itself, rows_wider}
+use Rattle.ct_cnf.specs.Encoding.{HasTermsPast}
+use Rattle.ct_certain.specs.Asked.{IsOfTable, IsPastTermsOfTuple, IsValueIn}
+use Rattle.ct_decide.specs.declared.deciding.Decision.{Decision}
+use Rattle.ct_certain.specs.Faults as faults
+use Rattle.ct_certain.specs.declared.error.CertainError.{CertainError}
+use Rattle.ct_certain.specs.declared.error.CertainError.TheVariants as fault
+use Rattle.ct_certain.specs.Missing.{AreOfTuple, IsAskedOf, IsRootOf, condition_of}
+use Rattle.ct_certain.proofs.Missing.{left_truth, tuple_worth}
+
+-- what an operator does to the words
+module _ {S : Type 0} {words_of : S → List ℕ} {made_of : S → ℕ} {kept_of : S → List ℕ} {lent_of : S → List GName} {cap : ℕ} {T : Type 0} (old new : S) where
+  pub table_writes : (m : ℕ) (r : Result T TableError) → IsPrefix (words_of old) (words_of new) → IsWellFormed (words_of new) → length (words_of new) ≤ cap → (IsErrOf r table.Full → length (words_of new) ≡ cap)
+      → made_of new ≤ made_of old + m → (IsErrOf r table.Full → made_of new < made_of old + m) → kept_of new ≡ kept_of old → lent_of new ≡ lent_of old → Writes words_of made_of kept_of lent_of cap old new m (refusals.is_full r)
+  table_writes m r longer formed room full most fewer kept lent = record {
+    longer = longer;
+    formed = formed;
+    room = room;
+    full = when_full r full;
+    made = when_made r fewer;
+    kept = kept;
+    lent = lent;
+  } where
+    when_full : (r : Result T TableError) → (IsErrOf r table.Full → length (words_of new) ≡ cap) → refusals.is_full r ≡ true → length (words_of new) ≡ cap
+    when_full (Ok x) h e = absurd (false≢true e)
+    when_full (Err table.Full) h e = h refl
+    when_full (Err table.Memory) h e = absurd (false≢true e)
+
+    when_made : (r : Result T TableError) → (IsErrOf r table.Full → made_of new < made_of old + m) → made_of new + charge (refusals.is_full r) ≤ made_of old + m
+    when_made (Ok x) h = omega (arith, most)
+    when_made (Err table.Full) h = let lt = h refl in omega (arith, lt)
+    when_made (Err table.Memory) h = omega (arith, most)
+
+abbrev pub one : List ℕ → ℕ → CRow
+one ps global = record { cells = ps; cond = global }
+
+cells_are : (words : List ℕ) (xs : List Value) (ps : List ℕ) → AreOfTuple words xs ps → All (λ p. IsTrue (is_place_of words class.Term p)) ps
+cells_are words [] [] are = All-nil _
+cells_are words (x ∷ xs) (p ∷ ps) are = All-cons (λ p. IsTrue (is_place_of words class.Term p)) p ps are.0.place (cells_are words xs ps are.1)
+cells_are words [] (p ∷ ps) are = elim are [ ]
+cells_are words (x ∷ xs) [] are = elim are [ ]
+
+cells_long : (words : List ℕ) (xs : List Value) (ps : List ℕ) → AreOfTuple words xs ps → length ps ≡ length xs
+cells_long words [] [] are = refl
+cells_long words (x ∷ xs) (p ∷ ps) are = let h = cells_long words xs ps are.1 in omega (arith, h)
+cells_long words [] (p ∷ ps) are = elim are [ ]
+cells_long words (x ∷ xs) [] are = elim are [ ]
+
+no_column : (x : Value) (k : ℕ) → term.Column k ≡ term.Value x → ⊥
+no_column x k e = cc
+
+cells_plain : (words : List ℕ) (xs : List Value) (ps : List ℕ) → AreOfTuple words xs ps → All (HasNoColumn words) ps
+cells_plain words [] [] are = All-nil _
+cells_plain words (x ∷ xs) (p ∷ ps) are = All-cons (HasNoColumn words) p ps (λ k h. no_column x k (are.0.terms (term.Column k) h)) (cells_plain words xs ps are.1)
+cells_plain words [] (p ∷ ps) are = elim are [ ]
+cells_plain words (x ∷ xs) [] are = elim are [ ]
+
+cells_from : (words : List ℕ) (source : Term → Type 0) (tuple xs : List Value) (ps : List ℕ) → ((x : Value) → Contains xs x → Contains tuple x) → ((t : Term) → IsValueIn tuple t → source t)
+    → AreOfTuple words xs ps → All (λ p. TermsFrom words p source) ps
+cells_from words source tuple [] [] among wider are = All-nil _
+cells_from words source tuple (x ∷ xs) (p ∷ ps) among wider are = All-cons (λ p. TermsFrom words p source) p ps
+    (λ t h. wider t (record { value = x; among = among x (0, omega arith, refl); is = are.0.terms t h }))
+    (cells_from words source tuple xs ps (λ y h. among y (behind x xs y h)) wider are.1)
+cells_from words source tuple [] (p ∷ ps) among wider are = elim are [ ]
+cells_from words source tuple (x ∷ xs) [] among wider are = elim are [ ]
+
+module _ (words mid new : List ℕ) (global width : ℕ) (rs : List CRow) (tuple : List Value) (asked : IsAskedOf words mid global width rs tuple)
+    (formed : IsWellFormed mid) (ps : List ℕ) (are : AreOfTuple mid tuple ps) where
+  global_there : global < length words
+  global_there = place_within words class.Cond global asked.global_is
+
+  global_terms : (t : Term) → TermBelow mid global t → TermBelow words global t
+  global_terms t h = terms_before words mid asked.grown formed global t global_there h
+
+  -- the tuple as a row under the global condition
+  alone_rows : AreRows mid width (one ps global ∷ [])
+  alone_rows = record {
+    each = All-cons (IsRow mid width) (one ps global) []
+        (record {
+          terms = cells_are mid tuple ps are;
+          condition = place_in_prefix words mid class.Cond global asked.grown asked.global_is;
+          width_is = cells_long mid tuple ps are ∙ asked.width_is;
+          plain = All-cons (HasNoColumn mid) global ps (λ k h. asked.global_plain k (global_terms (term.Column k) h)) (cells_plain mid tuple ps are);
+        })
+        (All-nil _);
+    distinct = IsDistinct-cons same_cells _ [] tt (none_distinct same_cells);
+    possible = All-cons (λ r. r.cond ≢ 1) (one ps global) [] asked.not_false (All-nil _);
+  }
+
+  pub alone_by : (alone : List CRow) (n : ℕ) → alone ≡ one ps global ∷ [] → n ≡ width → AreRows mid n alone
+  alone_by alone n is wide = subst (λ m. AreRows mid m alone) (sym wide) (subst (λ l. AreRows mid width l) (sym is) alone_rows)
+
+  pub table_rows : AreRows mid width rs
+  table_rows = rows_grow words mid asked.grown asked.formed width rs asked.rows
+
+  abbrev source : Term → Type 0
+  source t = IsOfTable words global rs t ⊎ IsValueIn tuple t
+
+  both_from : RowsFrom mid (one ps global ∷ rs) source
+  both_from = All-cons (RowFrom mid source) (one ps global) rs
+      (All-cons (λ p. TermsFrom mid p source) global ps (λ t h. inl (inl (global_terms t h))) (cells_from mid source tuple tuple ps (λ x h. h) (λ t h. inr h) are))
+      (rows_wider mid (TermOfRows mid rs) source (λ t h. inl (inr (rows_before words mid asked.grown asked.formed width rs t asked.rows.each h))) rs (rows_itself mid rs))
+
+  pub root_of : (out : List CRow) → IsWellFormed new → IsPrefix opening new → AreRows new width out → IsSublist (cells_of new out) (cells_of mid (one ps global ∷ []))
+      → ((v : World) → SameSet (value_of_rows new v out) (filter (λ t. not (has_tuple (value_of_rows mid v rs) t)) (value_of_rows mid v (one ps global ∷ []))))
+      → RowsFrom new out (TermOfRows mid (one ps global ∷ rs)) → IsRootOf words new global rs tuple (condition_of out)
+  root_of out formed_new begins rows part same from = record {
+    class = its_class out rows.each;
+    plain = its_plain out rows.each;
+    holds = λ v. left_truth mid new ps global tuple (λ v t. not (has_tuple (value_of_rows mid v rs) t)) (tuple_worth mid tuple ps are) out (holds_false new begins formed_new) part same v
+        ∙ (λ i. holds_at v (condition_in_prefix words mid global asked.grown global_there i) && not (has_tuple (value_grows words mid asked.grown v width rs asked.rows.each i) tuple));
+    terms = its_terms out from;
+  } where
+    its_class : (out : List CRow) → All (IsRow new width) out → IsTrue (is_place_of new class.Cond (condition_of out))
+    its_class [] each = (holds_false new begins formed_new).class
+    its_class (r ∷ out) each = (All-head (IsRow new width) r out each).condition
+
+    its_plain : (out : List CRow) → All (IsRow new width) out → HasNoColumn new (condition_of out)
+    its_plain [] each = λ k h. absurd (below_literal new formed_new begins 1 (inr refl) (term.Column k) h)
+    its_plain (r ∷ out) each = All-head (HasNoColumn new) r.cond r.cells (All-head (IsRow new width) r out each).plain
+
+    its_terms : (out : List CRow) → RowsFrom new out (TermOfRows mid (one ps global ∷ rs)) → TermsFrom new (condition_of out) source
+    its_terms [] from = λ t h. absurd (below_literal new formed_new begins 1 (inr refl) t h)
+    its_terms (r ∷ out) from = λ t h. from_rows mid (one ps global ∷ rs) source both_from t
+        (All-head (λ p. TermsFrom new p (TermOfRows mid (one ps global ∷ rs))) r.cond r.cells (All-head (RowFrom new (TermOfRows mid (one ps global ∷ rs))) r out from) t h)
+
+  -- the same, with the one row as a list that is equal to it
+  pub root_by : (alone out : List CRow) (n : ℕ) → alone ≡ one ps global ∷ [] → n ≡ width → IsWellFormed new → IsPrefix opening new → AreRows new n out → IsSublist (cells_of new out) (cells_of mid alone)
+      → ((v : World) → SameSet (value_of_rows new v out) (filter (λ t. not (has_tuple (value_of_rows mid v rs) t)) (value_of_rows mid v alone)))
+      → RowsFrom new out (TermOfRows mid (alone ++ rs)) → IsRootOf words new global rs tuple (condition_of out)
+  root_by alone out n is wide formed_new begins rows part same from = root_of out formed_new begins
+      (subst (λ m. AreRows new m out) wide rows)
+      (subst (λ l. IsSublist (cells_of new out) (cells_of mid l)) is part)
+      (λ v. subst (λ l. SameSet (value_of_rows new v out) (filter (λ t. not (has_tuple (value_of_rows mid v rs) t)) (value_of_rows mid v l))) is (same v))
+      (subst (λ l. RowsFrom new out (TermOfRows mid (l ++ rs))) is from)
+
+-- what is asked for when a question has too many terms
+pub past_tuple : (words mid now : List ℕ) (global width : ℕ) (rs : List CRow) (tuple : List Value) (root : ℕ) → IsAskedOf words mid global width rs tuple → IsRootOf words now global rs tuple root → HasTermsPast 64 now root
+    → IsPastTermsOfTuple words now global width rs
+past_tuple words mid now global width rs tuple root asked is many = record { tuple = tuple; width_is = asked.width_is; past = record { root = root; many = many; from = is.terms } }
+
+one_times : (r : ℕ) → 1 * r ≡ r
+one_times r = omega arith
+
+-- how many words a question makes
+pub root_most : (t k r a n : ℕ) → t ≡ k → a ≡ 1 → n ≡ k → t + (a * r * (2 * n + 2) + a) ≡ r * (2 * k + 2) + k + 1
+root_most t k r a n e ea en =
+    let h : 1 * r * (2 * k + 2) ≡ r * (2 * k + 2) = ap (λ x. x * (2 * k + 2)) (one_times r) in
+    let g : t + (1 * r * (2 * k + 2) + 1) ≡ r * (2 * k + 2) + k + 1 = omega (arith, h, e) in
+    (λ i. t + (ea i * r * (2 * en i + 2) + ea i)) ∙ g
+
+pub root_begun : (t k m : ℕ) → t ≡ k → t ≤ m + k + 1
+root_begun t k m e = omega (arith, e)
+
+-- an operator's refusal, handed on
+pub handed_on : (e : TableError) → refusals.is_full {T = ℕ} (Err e) ≡ faults.is_full {T = ℕ × Decision} (Err (faults.table_fault e))
+handed_on table.Full = refl
+handed_on table.Memory = refl
+
+abbrev error_number : Result (ℕ × Decision) CertainError → ℕ
+error_number (Err fault.Full) = 0
+error_number (Err fault.TooManyTerms) = 1
+error_number (Err fault.Memory) = 2
+error_number (Ok x) = 3
+
+pub never_many : (e : TableError) → IsErrOf {T = ℕ × Decision} (Err (faults.table_fault e)) fault.TooManyTerms → ⊥
+never_many table.Full h = let z : 0 ≡ 1 = ap error_number h in omega (arith, z)
+never_many table.Memory h = let z : 2 ≡ 1 = ap error_number h in omega (arith, z)

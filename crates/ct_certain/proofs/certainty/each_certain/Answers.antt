@@ -1,0 +1,50 @@
+use Rattle.std.proofs.Common.{◌≤◌, ◌<◌, [], length, sym, subst, arith}
+use mathlib.Core.List.{IsPrefix}
+use Rattle.std.proofs.lemmas.List.{take_all}
+use Rattle.std.proofs.lemmas.List.Elements.{All-get_or}
+use Rattle.std.proofs.lemmas.Result.{err_from_is_err_and}
+use Rattle.ct_condition.proofs.Writes.{writes_none, writes_all, writes_more, writes_last}
+use Rattle.ct_certain.specs.Missing.{AreListed, IsAskedOf}
+use Rattle.ct_certain.proofs.Candidates.{asked_later}
+use Rattle.ct_certain.proofs.Certainties.{listed_none, listed_turn}
+use Rattle.ct_certain.proofs.certainty.each_certain.Goals as goal
+
+pub loop-tuple-init : goal.loop-tuple-init
+loop-tuple-init g c = record {
+  writes = writes_none _ c.words.ensures.formed c.words.ensures.room;
+  lists = subst (AreListed c.args.words.now (g.I.Interner.list c.args.pass.now) c.args.global c.args.table.now.rows []) (sym c.new-list.ensures.items) (listed_none c.args.words.now c.args.global c.args.table.now.rows (g.I.Interner.list c.args.pass.now));
+}
+
+pub try_tuple-requires : goal.try_tuple-requires
+try_tuple-requires g c =
+    let words = c.args.words.now in
+    let now = g.I.Interner.list c.loop-tuple.pass in
+    let width = length c.args.table.now.columns in
+    let rows = c.args.table.now.rows in
+    asked_later words words now c.args.global width rows c.tuple-item.result (subst (λ ws. IsPrefix ws now) (sym c.requires.same) c.loop-tuple.invariant.writes.longer)
+    (subst (IsAskedOf words words c.args.global width rows) (sym c.tuple-item.is) (All-get_or (IsAskedOf words words c.args.global width rows) c.args.candidates.now c.loop-tuple.tuple-index c.tuple-item.result c.loop-tuple-test.true c.requires.asked))
+
+pub loop-tuple-preserved : goal.loop-tuple-preserved
+loop-tuple-preserved g c = record {
+  writes = writes_more _ c.loop-tuple.tuple-index c.loop-tuple.invariant.writes c.in_ok-try_tuple.ensures.writes;
+  lists = listed_turn c.args.words.now c.args.global c.args.table.now.rows (g.I.Interner.list c.loop-tuple.pass) (g.I.Interner.list c.try_tuple.new.pass) c.args.candidates.now c.loop-tuple.tuple-index c.tuple-item.result
+      c.loop-tuple.list.items c.try_tuple.new.list.items c.in_ok-try_tuple.ensures.writes.longer c.loop-tuple-test.true c.tuple-item.is c.loop-tuple.invariant.lists c.in_ok-try_tuple.ensures.takes;
+}
+
+pub returns-clause-lists : goal.returns-clause-lists
+returns-clause-lists g c = subst (λ d. AreListed c.args.words.now (g.I.Interner.list c.loop-tuple.pass) c.args.global c.args.table.now.rows d c.loop-tuple.list.items) (take_all c.loop-tuple.tuple-index c.args.candidates.now c.loop-tuple-test.false) c.loop-tuple.invariant.lists
+
+pub returns-clause-writes : goal.returns-clause-writes
+returns-clause-writes g c =
+    let end : c.loop-tuple.tuple-index ≤ length c.args.candidates.now = c.loop-tuple.auto.tuple-index-end in
+    let few : length c.args.candidates.now ≤ length c.args.table.now.rows = c.requires.few in
+    let le : c.loop-tuple.tuple-index ≤ length c.args.table.now.rows = omega (arith, end, few) in
+    writes_all _ c.loop-tuple.tuple-index c.loop-tuple.invariant.writes (length c.args.table.now.rows) le
+
+pub returns-in_err-try_tuple-clause-writes : goal.returns-in_err-try_tuple-clause-writes
+returns-in_err-try_tuple-clause-writes g c =
+    let exit = err_from_is_err_and c.from_residual.result c.from_residual.ensures.1 in
+    let lt : c.loop-tuple.tuple-index < length c.args.candidates.now = c.loop-tuple-test.true in
+    let few : length c.args.candidates.now ≤ length c.args.table.now.rows = c.requires.few in
+    let le : c.loop-tuple.tuple-index < length c.args.table.now.rows = omega (arith, lt, few) in
+    rw (exit.1, exit.2) (writes_last _ _ c.loop-tuple.invariant.writes _ le c.in_err-try_tuple.ensures.writes)

@@ -1,0 +1,74 @@
+-- The question whether a tuple is missing from a table.
+use Rattle.std.specs.Prelude.{◌≡◌, ◌≢◌, ◌⊎◌, ⊤, ℕ, false, List, [], ◌∷◌, ◌++◌, length, IsTrue, All}
+use mathlib.Core.List.{IsPrefix}
+use Rattle.ct_word.specs.declared.kinds.Class.TheVariants as class
+use Rattle.ct_word.specs.declared.values.Value.{Value}
+use Rattle.ct_word.specs.declared.values.Term.TheVariants as term
+use Rattle.ct_word.specs.declared.values.CRow.{CRow}
+use Rattle.ct_word.specs.Value.{World}
+use Rattle.ct_word.specs.Condition.{holds_at}
+use Rattle.ct_word.specs.Reading.{IsTerm, condition_at}
+use Rattle.ct_word.specs.Stands.{StandsAt, HasNoColumn}
+use Rattle.ct_word.specs.WellFormed.{IsWellFormed, is_place_of}
+use Rattle.ct_condition.specs.Places.{has_place}
+use Rattle.ct_condition.specs.Terms.{TermsFrom}
+use Rattle.ct_equality.specs.Valued.{IsNumbered}
+use Rattle.ct_table.specs.Tables.{AreRows}
+use Rattle.ct_certain.specs.Asked.{IsOfTable, IsValueIn}
+use Rattle.ct_certain.specs.Certain.{is_missing, tuples_in, IsInAll, RefutesMissing}
+use Rattle.std.specs.List.{IsDistinct}
+use Rattle.ct_word.specs.Value.{same_tuple}
+use Rattle.ct_word.specs.Sublist.{IsSublist}
+use Rattle.ct_query.specs.Database.{has_tuple}
+use Rattle.ct_rewrite.specs.declared.answer.CertainRow.{CertainRow}
+
+-- a place of the words has this value, or it is `@k` with k below 2^28
+abbrev pub IsAtHand : List ℕ → Value → Type 0
+IsAtHand words x = IsTrue (has_place words (term.Value x)) ⊎ IsNumbered x
+
+-- a place stands for a value, and nothing else stands below it
+pub record IsOfValue (words : List ℕ) (x : Value) (p : ℕ) : Type 0 where
+  pub place : IsTrue (is_place_of words class.Term p)
+  pub stands : StandsAt words p (IsTerm (term.Value x))
+  pub terms : TermsFrom words p (λ t. t ≡ term.Value x)
+
+-- places stand for the values of a tuple, one by one
+abbrev pub AreOfTuple : List ℕ → List Value → List ℕ → Type 0
+AreOfTuple words [] [] = ⊤
+AreOfTuple words (x ∷ xs) (p ∷ ps) = IsOfValue words x p × AreOfTuple words xs ps
+AreOfTuple words _ _ = ⊥
+
+-- a table of so many columns, a global condition that is not the word false, and a tuple, over words that later ones begin with
+pub record IsAskedOf (words now : List ℕ) (global width : ℕ) (rs : List CRow) (tuple : List Value) : Type 0 where
+  pub formed : IsWellFormed words
+  pub grown : IsPrefix words now
+  pub global_is : IsTrue (is_place_of words class.Cond global)
+  pub global_plain : HasNoColumn words global
+  pub not_false : global ≢ 1
+  pub rows : AreRows words width rs
+  pub width_is : length tuple ≡ width
+  pub values : All (IsAtHand words) tuple
+
+-- a place of the words now holds exactly where the tuple is missing by the words before
+pub record IsRootOf (words now : List ℕ) (global : ℕ) (rs : List CRow) (tuple : List Value) (root : ℕ) : Type 0 where
+  pub class : IsTrue (is_place_of now class.Cond root)
+  pub plain : HasNoColumn now root
+  pub holds : (v : World) → holds_at v (condition_at now root) ≡ is_missing words global rs tuple v
+  pub terms : TermsFrom now root (λ t. IsOfTable words global rs t ⊎ IsValueIn tuple t)
+
+-- the place of the condition of the first of these rows, that of the word false where there is none
+abbrev pub condition_of : List CRow → ℕ
+condition_of [] = 1
+condition_of (r ∷ rs) = r.cond
+
+-- the certain tuples among these candidates are listed, each with a proof over the words now
+pub record AreListed (words now : List ℕ) (global : ℕ) (rs : List CRow) (done : List (List Value)) (list : List CertainRow) : Type 0 where
+  pub distinct : IsDistinct same_tuple (tuples_in list)
+  pub refuted : All (RefutesMissing words now global rs) list
+  pub ordered : IsSublist (tuples_in list) done
+  pub complete : (t : List Value) → IsTrue (has_tuple done t) → IsInAll words global rs t → IsTrue (has_tuple (tuples_in list) t)
+
+-- the list with a tuple and its proof; as it was where the tuple is listed already, or is not certain
+pub data Takes (words now : List ℕ) (global : ℕ) (rs : List CRow) (tuple : List Value) (old : List CertainRow) : List CertainRow → Type 0 where
+  nothing : (IsInAll words global rs tuple → IsTrue (has_tuple (tuples_in old) tuple)) → Takes words now global rs tuple old old
+  one : (r : CertainRow) → r.tuple ≡ tuple → has_tuple (tuples_in old) tuple ≡ false → RefutesMissing words now global rs r → Takes words now global rs tuple old (old ++ r ∷ [])

@@ -1,0 +1,139 @@
+// The question whether a tuple is missing from a table.
+
+ghost use Rattle.std.specs.Prelude.{◌≡◌, ◌*◌, ◌+◌, [], ◌∷◌, false, length, All, IfOk, IsErrOf};
+ghost use Rattle.ct_condition.specs.Writes.{Writes};
+ghost use Rattle.ct_table.specs.Refusals.{is_full as has_no_room};
+ghost use Rattle.ct_certain.specs.Answered.{IsSettled};
+ghost use Rattle.ct_certain.specs.Asked.{IsPastTermsOfTuple};
+ghost use Rattle.ct_certain.specs.Faults.{is_full};
+ghost use Rattle.ct_certain.specs.Missing.{AreOfTuple, IsAtHand, IsAskedOf, IsOfValue, IsRootOf, condition_of};
+ghost use Rattle.ct_certain.specs.declared.error.CertainError.TheVariants as fault;
+
+use crate::error::CertainError;
+use crate::settling::settle;
+use ct_arena::{Arena, Site};
+use ct_condition::{Interner, term};
+use ct_decide::Decision;
+use ct_table::{CTable, TableError, except};
+use ct_word::{CRow, FALSE_PLACE, List, Term, Text, Value};
+use std::alloc::Global;
+
+/// The place of a value. A word is made for `@k` at most, and none for a constant of the words.
+fn place_of<N: Site, I: Interner<N>>(
+    arena: &Arena<N>,
+    pass: &mut I,
+    value: &Value,
+) -> Result<u32, TableError>
+    requires { IsAtHand (I.list pass.old) value.now }
+    ensures place { IfOk result (λ p. IsOfValue (I.list pass.new) value.now p) }
+    ensures writes { Writes I.list I.made I.kept I.lent N.log.cap pass.old pass.new 1 (has_no_room result) }
+{
+    let _ = pass.words();
+    let copy = value.clone()?;
+    let literal = Term::Value(copy);
+    let found = term(arena, pass, &literal);
+    let _ = pass.words();
+    match found {
+        Ok(place) => Ok(place),
+        Err(_) => Err(TableError::Full),
+    }
+}
+
+/// The places of the values of a tuple.
+fn places<N: Site, I: Interner<N>>(
+    alloc: Global,
+    arena: &Arena<N>,
+    pass: &mut I,
+    tuple: &[Value],
+) -> Result<List<u32>, TableError>
+    requires { All (IsAtHand (I.list pass.old)) tuple.now }
+    ensures places { IfOk result (λ ps. AreOfTuple (I.list pass.new) tuple.now ps) }
+    ensures writes { Writes I.list I.made I.kept I.lent N.log.cap pass.old pass.new (length tuple.now) (has_no_room result) }
+{
+    let _ = pass.words();
+    let mut places = Vec::new(alloc);
+    for value in tuple {
+        let place = place_of(arena, pass, value)?;
+        places.push(place)?;
+    }
+    Ok(List::from_vec(places))
+}
+
+/// A table of one row.
+fn of_one_row(
+    alloc: Global,
+    columns: &List<Text>,
+    cells: List<u32>,
+    cond: u32,
+) -> Result<CTable, TableError>
+    ensures columns { IfOk result (λ t. t.columns ≡ columns.now) }
+    ensures rows { IfOk result (λ t. t.rows ≡ (record { cells = cells; cond = cond }) ∷ []) }
+    ensures room { has_no_room result ≡ false }
+{
+    let columns = columns.clone()?;
+    let mut rows = Vec::new(alloc);
+    rows.push(CRow { cells, cond })?;
+    Ok(CTable {
+        columns,
+        rows: List::from_vec(rows),
+    })
+}
+
+/// The condition of the first row; that of the word false where there is none.
+fn first_condition(rows: &[CRow]) -> u32
+    ensures { result ≡ condition_of rows.now }
+{
+    if rows.is_empty() {
+        return FALSE_PLACE;
+    }
+    rows[0].cond
+}
+
+/// The place of the condition that the global condition holds and a table is not worth a tuple: what `except` leaves of
+/// the tuple as a row under the global condition.
+fn root<N: Site, I: Interner<N>>(
+    alloc: Global,
+    arena: &Arena<N>,
+    pass: &mut I,
+    words: &[u64],
+    table: &CTable,
+    global: u32,
+    tuple: &[Value],
+) -> Result<u32, TableError>
+    requires { IsAskedOf words.now (I.list pass.old) global (length table.now.columns) table.now.rows tuple.now }
+    ensures root { IfOk result (λ p. IsRootOf words.now (I.list pass.new) global table.now.rows tuple.now p) }
+    ensures writes { Writes I.list I.made I.kept I.lent N.log.cap pass.old pass.new (length table.now.rows * (2 * length table.now.columns + 2) + length table.now.columns + 1) (has_no_room result) }
+{
+    let _ = words;
+    let cells = places(alloc, arena, pass, tuple)?;
+    let _ = pass.words();
+    let alone = of_one_row(alloc, &table.columns, cells, global)?;
+    let rest = except(alloc, arena, pass, &alone, table);
+    let _ = pass.words();
+    match rest {
+        Ok(left) => Ok(first_condition(left.rows.as_slice())),
+        Err(error) => Err(error),
+    }
+}
+
+/// A question about a tuple: its root, and a world in which the tuple is missing or a derivation that there is none.
+pub fn ask_tuple<N: Site, I: Interner<N>>(
+    alloc: Global,
+    arena: &Arena<N>,
+    pass: &mut I,
+    words: &[u64],
+    table: &CTable,
+    global: u32,
+    tuple: &[Value],
+) -> Result<(u32, Decision), CertainError>
+    requires { IsAskedOf words.now (I.list pass.old) global (length table.now.columns) table.now.rows tuple.now }
+    ensures root { IfOk result (λ a. IsRootOf words.now (I.list pass.new) global table.now.rows tuple.now a.0) }
+    ensures settled { IfOk result (λ a. IsSettled (I.list pass.new) a.0 a.1) }
+    ensures writes { Writes I.list I.made I.kept I.lent N.log.cap pass.old pass.new (length table.now.rows * (2 * length table.now.columns + 2) + length table.now.columns + 1) (is_full result) }
+    ensures many { IsErrOf result fault.TooManyTerms → IsPastTermsOfTuple words.now (I.list pass.new) global (length table.now.columns) table.now.rows }
+{
+    let place = root(alloc, arena, pass, words, table, global, tuple)?;
+    let now = pass.words();
+    let decision = settle(alloc, now, place)?;
+    Ok((place, decision))
+}

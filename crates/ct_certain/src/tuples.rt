@@ -1,0 +1,120 @@
+// The tuples that rows are worth in a world.
+
+ghost use Rattle.std.specs.Prelude.{◌≡◌, ◌<◌, ◌^◌, ◌++◌, [], ◌∷◌, length, map, All, IfOk, IsTrue, OnOk};
+ghost use Rattle.ct_word.specs.declared.kinds.Class.TheVariants as class;
+ghost use Rattle.ct_word.specs.Reading.{term_at};
+ghost use Rattle.ct_word.specs.Value.{at, same_tuple, tuple_at};
+ghost use Rattle.ct_word.specs.WellFormed.{IsWellFormed, is_place_of};
+ghost use Rattle.ct_condition.specs.Worth.{AreWorths};
+ghost use Rattle.ct_query.specs.Database.{has_tuple};
+ghost use Rattle.ct_table.specs.Tables.{IsRow, value_of_rows};
+ghost use Rattle.ct_certain.specs.Certain.{tuples_in};
+
+use crate::order::value_of;
+use ct_condition::{Worths, worths};
+use ct_rewrite::CertainRow;
+use ct_word::{CRow, List, Memory, Term, Value, World, term_at};
+use std::alloc::{AllocError, Global};
+
+/// The value of a term in a world.
+fn value_in(world: &World, term: Term) -> Result<Value, AllocError>
+    ensures { IfOk result (λ x. x ≡ at world.now [] term) }
+{
+    match term {
+        Term::Column(_) => Ok(Value::Other(0)),
+        Term::Null(null) => value_of(world.as_slice(), &null),
+        Term::Value(value) => Ok(value),
+    }
+}
+
+/// The values of cells in a world.
+fn tuple_in(
+    alloc: Global,
+    words: &[u64],
+    world: &World,
+    cells: &[u32],
+) -> Result<List<Value>, Memory>
+    requires formed { IsWellFormed words.now }
+    requires cells { All (λ p. IsTrue (is_place_of words.now class.Term p)) cells.now }
+    ensures { IfOk result (λ t. t ≡ tuple_at world.now (map (term_at words.now) cells.now)) }
+{
+    let mut tuple = Vec::new(alloc);
+    for cell in cells {
+        let term = term_at(alloc, words, *cell)?;
+        let value = value_in(world, term)?;
+        tuple.push(value)?;
+    }
+    Ok(List::from_vec(tuple))
+}
+
+/// Puts the tuple of a row last, where its condition holds.
+fn add_tuple(
+    alloc: Global,
+    words: &[u64],
+    world: &World,
+    worths: &Worths,
+    row: &CRow,
+    tuples: &mut Vec<List<Value>>,
+) -> Result<(), Memory>
+    requires formed { IsWellFormed words.now }
+    requires row { IsRow words.now (length row.now.cells) row.now }
+    requires worths { AreWorths words.now world.now worths.now }
+    ensures { OnOk result (tuples.new.items ≡ tuples.old.items ++ value_of_rows words.now world.now (row.now ∷ [])) }
+{
+    if !worths.holds(row.cond) {
+        return Ok(());
+    }
+    let tuple = tuple_in(alloc, words, world, row.cells.as_slice())?;
+    tuples.push(tuple)?;
+    Ok(())
+}
+
+/// The tuples that rows are worth in a world, in their order.
+pub fn tuples(
+    alloc: Global,
+    words: &[u64],
+    world: &World,
+    rows: &[CRow],
+) -> Result<Vec<List<Value>>, Memory>
+    requires formed { IsWellFormed words.now }
+    requires small { length words.now < 2 ^ 28 }
+    requires rows { All (λ r. IsRow words.now (length r.cells) r) rows.now }
+    ensures { IfOk result (λ ts. ts.items ≡ value_of_rows words.now world.now rows.now) }
+{
+    let worths = worths(alloc, words, world)?;
+    let mut tuples = Vec::new(alloc);
+    for row in rows {
+        add_tuple(alloc, words, world, &worths, row, &mut tuples)?;
+    }
+    Ok(tuples)
+}
+
+/// Whether two tuples are the same.
+fn is_same(left: &List<Value>, right: &List<Value>) -> bool
+    ensures { result ≡ same_tuple left.now right.now }
+{
+    left == right
+}
+
+/// Whether a tuple is listed.
+pub fn is_listed(list: &[CertainRow], tuple: &List<Value>) -> bool
+    ensures { result ≡ has_tuple (tuples_in list.now) tuple.now }
+{
+    for row in list {
+        if is_same(&row.tuple, tuple) {
+            return true;
+        }
+    }
+    false
+}
+
+/// A copy of a tuple.
+pub fn copied_tuple(alloc: Global, tuple: &List<Value>) -> Result<List<Value>, Memory>
+    ensures { IfOk result (λ copy. copy ≡ tuple.now) }
+{
+    let mut values = Vec::new(alloc);
+    for value in tuple.as_slice() {
+        values.push(value.clone()?)?;
+    }
+    Ok(List::from_vec(values))
+}
