@@ -73,3 +73,9 @@ returns-in-Err-clause-outcome g c =
     let offer = c.args.offer in
     subst (λ n. CommitOf g.N.Site.log.cap s.keeper.words s.pass.words c.leave-in-Err.result.words offer.changes s.history.items s.fresh offer.commit offer.fresh s.history.items s.fresh (reply.Refused n refusal.Full)) (sym (c.version-at.ensures ∙ ap (λ xs. length xs) c.as_slice.ensures.value))
     (filled (ap (λ p. length p.words) c.leave-in-Err.ensures.pass ∙ (c.in-Err.ensures.full.0 refl).0))
+
+pub returns-in-Err-clause-longer : goal.returns-in-Err-clause-longer
+returns-in-Err-clause-longer g c =
+    let words = c.args.session.pass.words in
+    subst (λ p. IsPrefix words p.words) (sym c.leave-in-Err.ensures.pass)
+    (prefix_of_prefix words c.enter-guest.new.self.words c.append_commit.new.self.words c.enter-guest.ensures.seen c.in-Err.ensures.longer)
