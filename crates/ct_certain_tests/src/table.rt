@@ -1,18 +1,17 @@
-// The possible rows and the certain tuples of tables whose rows have conditions.
+// The possible rows of a table whose rows have conditions.
 
 ghost use Rattle.std.specs.Prelude.{◌≡◌, true, [], length, All, IfOk, IsTrue};
 ghost use Rattle.ct_word.specs.Stands.{HasNoColumn};
 ghost use Rattle.ct_word.specs.WellFormed.{IsWellFormed, is_place_of};
 ghost use Rattle.ct_word.specs.declared.kinds.Class.TheVariants as class;
 ghost use Rattle.ct_table.specs.Tables.{IsRow, AreRows};
-ghost use Rattle.ct_certain.specs.Certain.{IsKeptWorld};
 
 use ct_arena::{Arena, Blank, Pass, Site};
-use ct_certain::{CertainRow, PossibleRow, certain, possible};
-use ct_condition::{and, eq, not, term, worths};
+use ct_certain::{PossibleRow, possible};
+use ct_condition::{and, eq, term};
 use ct_samples::{are_places, is_place, no_columns};
 use ct_table::{CRow, CTable, insert};
-use ct_word::{Class, List, Null, Term, Text, Value, World};
+use ct_word::{Class, List, Null, Term, Text, Value};
 use std::alloc::Global;
 use std::marker::Brand;
 use std::process::Abort;
@@ -57,17 +56,14 @@ fn filled<N: Site>(
     alloc: Global,
     arena: &Arena<N>,
     pass: &mut Pass<N>,
-    cells: &[(u32, u32)],
+    cells: [(u32, u32); 4],
 ) -> Result<CTable, Fail>
     ensures { IfOk result (λ t. AreRows pass.new.words (length t.columns) t.rows) }
 {
     let mut rows = Vec::new(alloc);
-    for pair in cells {
-        let cells = List::from_vec(Vec::from_array(alloc, [pair.0])?);
-        rows.push(CRow {
-            cells,
-            cond: pair.1,
-        })?;
+    for (cell, cond) in cells {
+        let cells = List::from_vec(Vec::from_array(alloc, [cell])?);
+        rows.push(CRow { cells, cond })?;
     }
     let none = empty(alloc)?;
     if !are_rows(pass.words(), 1, rows.as_slice()) {
@@ -136,7 +132,7 @@ fn list_rows<N: Site>(rt: &impl Abort, alloc: Global, blank: Blank) -> Result<()
     let is_two = equal(&arena, &mut pass, x, two)?;
     let never = both(&arena, &mut pass, is_one, is_two)?;
     let rows = [(x, is_two), (one, 0), (two, never), (three, is_two)];
-    let table = filled(alloc, &arena, &mut pass, &rows)?;
+    let table = filled(alloc, &arena, &mut pass, rows)?;
     let global = always(&pass)?;
     let list = possible(alloc, &arena, &mut pass, &table, global)?;
     let rows = list.as_slice();
@@ -145,73 +141,6 @@ fn list_rows<N: Site>(rt: &impl Abort, alloc: Global, blank: Blank) -> Result<()
     assert!(rt; rows[1].world.is_empty());
     assert!(rt; shows_number(&rows[2], 2));
     Ok(())
-}
-
-/// The place of the negation of a condition.
-fn opposite<N: Site>(arena: &Arena<N>, pass: &mut Pass<N>, c: u32) -> Result<u32, Fail> {
-    if !is_place(pass.words(), Class::Cond, c) {
-        return Err("no condition".into());
-    }
-    Ok(not(arena, pass, c)?)
-}
-
-/// The world in which each null is `@0`, if the global condition holds there.
-fn all_zero<N: Site>(alloc: Global, pass: &Pass<N>, global: u32) -> Result<World, Fail>
-    requires { IsTrue (is_place_of pass.now.words class.Cond global) }
-    ensures { IfOk result (λ v. IsKeptWorld pass.now.words global v) }
-{
-    let world = List::new(alloc);
-    let all = worths(alloc, pass.words(), &world)?;
-    if !all.holds(global) {
-        return Err("the global condition".into());
-    }
-    Ok(world)
-}
-
-/// The certain tuples of a table of one column with these cells, each under its condition.
-fn certain_of<N: Site>(
-    alloc: Global,
-    arena: &Arena<N>,
-    pass: &mut Pass<N>,
-    cells: &[(u32, u32)],
-) -> Result<List<CertainRow>, Fail> {
-    let table = filled(alloc, arena, pass, cells)?;
-    let global = always(pass)?;
-    let kept = all_zero(alloc, pass, global)?;
-    Ok(certain(alloc, arena, pass, &table, global, &kept)?)
-}
-
-/// Whether this is the tuple of one number.
-fn is_number(row: &CertainRow, number: i64) -> bool {
-    match row.tuple.as_slice() {
-        [Value::Int(n)] => *n == number,
-        _ => false,
-    }
-}
-
-/// Of (?x) if ?x = 1 and (1) if not ?x = 1, the tuple (1) is certain, and of (?x) alone none.
-fn list_tuples<N: Site>(rt: &impl Abort, alloc: Global, blank: Blank) -> Result<(), Fail>
-    requires { blank ≡ N.log }
-{
-    let (arena, mut keeper) = Arena::<N>::make(blank);
-    let mut pass = keeper.enrol(alloc, &arena)?;
-    let one = term(&arena, &mut pass, &Term::Value(Value::Int(1)))?;
-    let name = Text::from_str(alloc, "x")?;
-    let x = term(&arena, &mut pass, &Term::Null(Null::Named(name)))?;
-    let is_one = equal(&arena, &mut pass, x, one)?;
-    let is_not = opposite(&arena, &mut pass, is_one)?;
-    let list = certain_of(alloc, &arena, &mut pass, &[(x, is_one), (one, is_not)])?;
-    assert_eq!(rt; list.len(), 1);
-    assert!(rt; is_number(&list.as_slice()[0], 1));
-    let none = certain_of(alloc, &arena, &mut pass, &[(x, 0)])?;
-    assert!(rt; none.is_empty());
-    Ok(())
-}
-
-#[test]
-fn a_tuple_is_listed_where_each_world_has_it(rt: HostRuntime) -> Result<(), Fail> {
-    let blank = Blank::make(rt.alloc(), 64)?;
-    list_tuples::<Brand>(&rt, rt.alloc(), blank)
 }
 
 #[test]
