@@ -17,6 +17,6 @@ insert into part values (101, 9223372036854775808);
 -- This is no statement of the language.
 select number as from part;
 -- This is one, but it is not executed yet.
-certain select number from part;
+delete from part where number = 101;
 -- The table is empty still.
 select * from part;

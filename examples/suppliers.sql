@@ -27,3 +27,14 @@ select * from supplier where city = 'Paris';
 select city from supplier, supply where name = supplier and part = 'bolt';
 -- Who sent nothing? It depends on who sent the boxes.
 select name from supplier except select supplier from supply;
+-- Who may have sent nothing? Blake: the world behind his name is one in which he sent no box.
+possible select name from supplier except select supplier from supply;
+-- Who sent nothing in any case? Nobody.
+certain select name from supplier except select supplier from supply;
+-- Which parts may have come from Blake? Bolts and screws, if he sent a box. He sent no nuts.
+possible select part from supply where supplier = 'Blake';
+-- From which cities did bolts come in any case? From Paris, where Jones is.
+certain select city from supplier, supply where name = supplier and part = 'bolt';
+-- What did the sender of the van send in any case? Bolts and screws: they were in the van. Nuts only if he is Smith.
+certain select part from supply where supplier = ?sender;
+possible select part from supply where supplier = ?sender;

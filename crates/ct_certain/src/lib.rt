@@ -6,6 +6,7 @@
 #![tactic(auto)]
 
 mod cells;
+mod certainty;
 mod error;
 mod order;
 mod pool;
@@ -13,6 +14,7 @@ mod possibility;
 mod settling;
 mod showing;
 
+pub use certainty::certain;
 pub use ct_rewrite::{CertainRow, PossibleRow};
 pub use error::CertainError;
 pub use possibility::possible;

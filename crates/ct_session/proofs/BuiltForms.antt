@@ -29,7 +29,7 @@ use Rattle.ct_resolve.specs.Found.{Found, and_then, unless}
 use Rattle.ct_resolve.specs.Names.{table_in, is_table, are_distinct}
 use Rattle.ct_resolve.specs.Queries.{Named, query_at}
 use Rattle.ct_resolve.specs.Statements.{cells_of, row_terms, resolved}
-use Rattle.ct_session.specs.Built.{IsBuilt, create, insert, query, possible, IsPlainBuilt, creation, insertion, question, possibility}
+use Rattle.ct_session.specs.Built.{IsBuilt, create, insert, query, possible, certain, IsPlainBuilt, creation, insertion, question}
 
 -- the statements, by their trees
 pub create_is : (st : Statement) (n c : List ℕ) (cs : List (List ℕ)) → st ≡ statement.Create n c cs → IsBuilt st
@@ -44,6 +44,9 @@ query_is st q e = subst IsBuilt (sym e) query
 pub possible_is : (st : Statement) (q : Query) → st ≡ statement.Possible q → IsBuilt st
 possible_is st q e = subst IsBuilt (sym e) possible
 
+pub certain_is : (st : Statement) (q : Query) → st ≡ statement.Certain q → IsBuilt st
+certain_is st q e = subst IsBuilt (sym e) certain
+
 -- their forms
 pub always : {name : List ℕ} {rows : List (List Term)} {c : Condition} → IsPlainBuilt (plain.Act (plain.InsertRows name rows c)) → c ≡ True
 always insertion = refl
@@ -52,21 +55,16 @@ always insertion = refl
 abbrev HasForm : PlainStatement → Type 0
 HasForm (plain.Act (plain.Create name columns)) = Unit {0}
 HasForm (plain.Act (plain.InsertRows name rows c)) = Unit {0}
-HasForm (plain.Asks ask.Rows columns q) = Unit {0}
-HasForm (plain.Asks ask.Possible columns q) = Unit {0}
+HasForm (plain.Asks k columns q) = Unit {0}
 HasForm _ = ⊥
 
 has_form : {st : PlainStatement} → IsPlainBuilt st → HasForm st
 has_form creation = tt
 has_form insertion = tt
 has_form question = tt
-has_form possibility = tt
 
 at_form : (r r' : Resolved) → IsPlainBuilt (statement_of r) → r ≡ r' → HasForm (statement_of r')
 at_form r r' built e = has_form (subst (λ x. IsPlainBuilt (statement_of x)) e built)
-
-pub not_certain : (k : Ask) (columns : List (List ℕ)) (q : PlainQuery) → IsPlainBuilt (plain.Asks k columns q) → k ≡ ask.Certain → ⊥
-not_certain k columns q built e = has_form (subst (λ x. IsPlainBuilt (plain.Asks x columns q)) e built)
 
 pub not_insert_query : (r : Resolved) (a : Action) (n : List ℕ) (q : ActionQuery) → IsPlainBuilt (statement_of r) → r ≡ resolution.Act a → a ≡ action.InsertQuery n q → ⊥
 not_insert_query r a n q built e f = at_form r (resolution.Act (action.InsertQuery n q)) built (e ∙ ap resolution.Act f)
@@ -126,7 +124,8 @@ forms schema session fresh r (insert {n = n} {r = w} {rs = ws}) e =
     (Ok (plain.Act (plain.InsertRows n (row_terms session (fresh + 1) (w ∷ ws)) True))) r there.2))
     insertion
 forms schema session fresh r (query {q = q}) e = subst IsPlainBuilt (ok_same (and_then_ok (query_at schema.tables q) (asked ask.Rows) r e).2) question
-forms schema session fresh r (possible {q = q}) e = subst IsPlainBuilt (ok_same (and_then_ok (query_at schema.tables q) (asked ask.Possible) r e).2) possibility
+forms schema session fresh r (possible {q = q}) e = subst IsPlainBuilt (ok_same (and_then_ok (query_at schema.tables q) (asked ask.Possible) r e).2) question
+forms schema session fresh r (certain {q = q}) e = subst IsPlainBuilt (ok_same (and_then_ok (query_at schema.tables q) (asked ask.Certain) r e).2) question
 
 -- a statement that is built resolves to one of a built form
 pub plain_built : (schema : Schema) (session fresh : ℕ) (st : Statement) (r : PlainStatement) → IsBuilt st → resolved schema session fresh st ≡ Ok r → IsPlainBuilt r

@@ -8,6 +8,7 @@ use Rattle.ct_word.proofs.Prefixes.{prefix_same, prefix_of_prefix}
 use Rattle.ct_arena.specs.Seen.{Seen, Keeping}
 use Rattle.ct_arena.specs.Counts.{AreNumbered}
 use Rattle.ct_history.specs.Kept.{kept_of}
+use Rattle.ct_rewrite.specs.declared.answer.CertainRow.{CertainRow}
 use Rattle.ct_rewrite.specs.declared.answer.PossibleRow.{PossibleRow}
 use Rattle.ct_rewrite.specs.declared.history.Commit.{Commit}
 use Rattle.ct_table.specs.Denotes.{TableView}
@@ -24,7 +25,7 @@ use Rattle.ct_session.specs.Catalogue.{IsCatalogue, state_of, IsPreparedText, Is
 use Rattle.ct_session.proofs.Going.{state_at, prefix_short}
 use Rattle.ct_session.proofs.Own.{own_commits_stay}
 use Rattle.ct_session.proofs.Committing.{how_many}
-use Rattle.ct_session.proofs.ListReplies.{possible_answers}
+use Rattle.ct_session.proofs.ListReplies.{possible_answers, certain_answers}
 use Rattle.ct_session.proofs.Answering.{refused_answers, answer_answers, offer_committed, offer_filled}
 
 -- the state of a session whose number and count of commits are these
@@ -93,6 +94,12 @@ module _ (N : ℕ) (pass caught : Seen) (keeper : Keeping) (tables : List TableV
     possible_so columns list at e p =
         subst (λ n. Kept (reply.Possible n 0 columns list)) (count ∙ sym e)
         (between (reply.Possible (length h) 0 columns list) (possible_answers N pass.words caught.words now.words fresh x first grown room (own now grown s m new) columns list p))
+
+    pub certain_so : (columns : List (List ℕ)) (list : List CertainRow) (at : ℕ) → at ≡ length history → IsPreparedText h now.words fresh x (prepared.Certain columns list)
+        → Kept (reply.Certain at 0 columns list)
+    certain_so columns list at e p =
+        subst (λ n. Kept (reply.Certain n 0 columns list)) (count ∙ sym e)
+        (between (reply.Certain (length h) 0 columns list) (certain_answers N pass.words caught.words now.words fresh x first grown room (own now grown s m new) columns list p))
 
   -- after an offer
   pub offered_so : (numbered : AreNumbered caught.session caught.mine caught.words) (offer : Offer) (mid after : Seen) (keeper' : Keeping) (tables' : List TableView) (history' : List Commit) (fresh' : ℕ) (r : Reply)

@@ -118,3 +118,17 @@ module _ (N : ℕ) (words start now : List ℕ) (fresh : ℕ) (x : List ℕ) (fi
       by_asked plain.Begin resolves o = absurd o
       by_asked plain.Commit resolves o = absurd o
       by_asked plain.Rollback resolves o = absurd o
+
+    -- a text that asks for certain tuples
+    pub certain_answers : (columns : List (List ℕ)) (list : List CertainRow) → IsPreparedText h now fresh x (prepared.Certain columns list) → Answers N s s words now x (reply.Certain (length h) 0 columns list)
+    certain_answers columns list p = by_asked p.prepared.asked p.prepared.resolves p.prepared.prepared where
+      by_asked : (asked : PlainStatement) → resolved_at h fresh p.statement ≡ Ok asked → IsPrepared h now fresh asked (prepared.Certain columns list)
+          → Answers N s s words now x (reply.Certain (length h) 0 columns list)
+      by_asked (plain.Asks ask.Certain cs q) resolves o =
+          answers_certain p.statement columns q list p.reads p.prepared.built (resolves ∙ ap (λ c. Ok (plain.Asks ask.Certain c q)) (sym o.0)) o.1
+      by_asked (plain.Asks ask.Rows cs q) resolves o = absurd o
+      by_asked (plain.Asks ask.Possible cs q) resolves o = absurd o
+      by_asked (plain.Act a) resolves o = absurd o
+      by_asked plain.Begin resolves o = absurd o
+      by_asked plain.Commit resolves o = absurd o
+      by_asked plain.Rollback resolves o = absurd o

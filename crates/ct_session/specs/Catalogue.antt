@@ -36,6 +36,7 @@ use Rattle.ct_table.specs.Pending.{FitsGrowth, after}
 use Rattle.ct_transcript.specs.declared.reply.Answer.{Answer}
 use Rattle.ct_transcript.specs.Means.{IsAnswer, Means}
 use Rattle.ct_transcript.specs.Possible.{PossibleRight}
+use Rattle.ct_transcript.specs.Certain.{CertainRight}
 use Rattle.ct_transcript.specs.declared.reply.Reply.{Reply}
 use Rattle.ct_transcript.specs.declared.reply.Reply.TheVariants as reply
 use Rattle.ct_transcript.specs.declared.reply.Refusal.{Refusal}
@@ -181,6 +182,7 @@ abbrev pub IsPrepared : List PlainCommit → List ℕ → ℕ → PlainStatement
 IsPrepared h words fresh (plain.Act a) (prepared.Commit offer) = IsOfferFor h words fresh a offer.changes offer.fresh
 IsPrepared h words fresh (plain.Asks ask.Rows columns query) (prepared.Answer answer) = IsAnswerFor h columns query answer
 IsPrepared h words fresh (plain.Asks ask.Possible columns query) (prepared.Possible named list) = (named ≡ columns) × PossibleRight list query h []
+IsPrepared h words fresh (plain.Asks ask.Certain columns query) (prepared.Certain named list) = (named ≡ columns) × CertainRight list query h [] words
 IsPrepared h words fresh _ _ = ⊥
 
 -- a statement asks for this

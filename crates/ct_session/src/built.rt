@@ -5,8 +5,8 @@ ghost use Rattle.ct_session.specs.Built.{IsBuilt};
 
 use ct_parse::Statement;
 
-/// Whether a statement is built: CREATE; INSERT of rows, without IF; or a query, without CERTAIN.
-#[tactic(auto, using(crate::proofs::BuiltForms::create_is, crate::proofs::BuiltForms::insert_is, crate::proofs::BuiltForms::query_is, crate::proofs::BuiltForms::possible_is))]
+/// Whether a statement is built: CREATE; INSERT of rows, without IF; or a query, with POSSIBLE or CERTAIN too.
+#[tactic(auto, using(crate::proofs::BuiltForms::create_is, crate::proofs::BuiltForms::insert_is, crate::proofs::BuiltForms::query_is, crate::proofs::BuiltForms::possible_is, crate::proofs::BuiltForms::certain_is))]
 pub fn is_built(statement: &Statement) -> bool
     ensures built { IsTrue result → IsBuilt statement.now }
     ensures not_built { IsFalse result → IsBuilt statement.now → ⊥ }
@@ -16,6 +16,7 @@ pub fn is_built(statement: &Statement) -> bool
         Statement::InsertRows { condition, .. } => condition.is_none(),
         Statement::Rows(_) => true,
         Statement::Possible(_) => true,
+        Statement::Certain(_) => true,
         _ => false,
     }
 }

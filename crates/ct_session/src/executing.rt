@@ -181,7 +181,7 @@ fn prepare<N: Site>(
 ///
 /// The reply is
 /// - `Committed` where the text asks for a change, at the number of its commit, which is one more than those before;
-/// - `Rows` or `Possible` where it asks for an answer, at the number of commits so far;
+/// - `Rows`, `Possible` or `Certain` where it asks for an answer, at the number of commits so far;
 /// - `Refused`, at that number too, for the first cause that holds: `NumberRange`, `NotAStatement` or `TooDeep` where the
 ///   text is read as no statement, as `read` says; a name or a count that does not fit; `NotYet` where the statement is
 ///   of a form that is not built; `TooLarge` where a part of the query goes through too many rows; `Full` where the log
@@ -232,6 +232,17 @@ pub fn execute<N: Site>(
             let _words = session.pass.words();
             let plus = 0;
             let reply = Reply::Possible {
+                at,
+                plus,
+                columns,
+                rows: list,
+            };
+            (session, reply)
+        }
+        Ok(Prepared::Certain { columns, list }) => {
+            let _words = session.pass.words();
+            let plus = 0;
+            let reply = Reply::Certain {
                 at,
                 plus,
                 columns,

@@ -3,6 +3,7 @@
 
 mod asking;
 mod built;
+mod certainty;
 mod creating;
 mod executing;
 mod inserting;

@@ -9,10 +9,10 @@ ghost use Rattle.ct_query.specs.Schema.{schema};
 ghost use Rattle.ct_query.specs.Views.{query_of};
 ghost use Rattle.ct_history.specs.Kept.{kept_of};
 ghost use Rattle.ct_table.specs.Denotes.{Denotes};
-ghost use Rattle.ct_session.specs.Built.{IsPlainBuilt};
 ghost use Rattle.ct_session.specs.Catalogue.{IsAdmittedEverywhere, IsPrepared, IsReadied, IsUnmet};
 
 use crate::asking::possible_rows;
+use crate::certainty::certain_rows;
 use crate::selecting::answer_query;
 use crate::session::Prepared;
 use ct_arena::{Arena, Pass, Site};
@@ -22,13 +22,12 @@ use ct_transcript::Refusal;
 use ct_word::{List, Text};
 use std::alloc::Global;
 
-/// What a query with these names of its columns is answered: its rows, or the possible ones. The pass has the words of
-/// it.
+/// What a query with these names of its columns is answered: its rows, the possible ones, or the certain tuples. The pass
+/// has the words of it.
 ///
 /// # Errors
 /// `TooLarge` where a part of the query goes through more than 1,048,576 rows or pairs of rows, `Full` where the log
-/// has no room, `TooManyTerms` where a question about its rows has more than 64 terms, `Memory`.
-#[tactic(auto, using(crate::proofs::BuiltForms::not_certain))]
+/// has no room, `TooManyTerms` where a question about its rows or tuples has more than 64 terms, `Memory`.
 pub fn answer_to<N: Site>(
     alloc: Global,
     arena: &Arena<N>,
@@ -42,7 +41,6 @@ pub fn answer_to<N: Site>(
     requires everywhere { IsAdmittedEverywhere (commits_of pass.old.words) }
     requires fits { Fits (schema (commits_of pass.old.words) []).tables (query_of query.now) }
     requires named { length columns ≡ width (schema (commits_of pass.old.words) []).tables (query_of query.now) }
-    requires built { IsPlainBuilt (plain.Asks kind columns (query_of query.now)) }
     ensures longer { IsPrefix pass.old.words pass.new.words }
     ensures kept { kept_of pass.new ≡ kept_of pass.old }
     ensures ok { (fresh : ℕ) → IfOk result (IsPrepared (commits_of pass.old.words) pass.new.words fresh (plain.Asks kind columns (query_of query.now))) }
@@ -58,6 +56,9 @@ pub fn answer_to<N: Site>(
             Ok(list) => Ok(Prepared::Possible { columns, list }),
             Err(why) => Err(why),
         },
-        Ask::Certain => unreachable!(),
+        Ask::Certain => match certain_rows(alloc, arena, pass, tables, query) {
+            Ok(list) => Ok(Prepared::Certain { columns, list }),
+            Err(why) => Err(why),
+        },
     }
 }

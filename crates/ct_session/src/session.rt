@@ -9,7 +9,7 @@ ghost use Rattle.ct_table.specs.Pending.{FitsGrowth, after};
 ghost use Rattle.ct_session.specs.Catalogue.{IsCatalogue, IsReady, CommitOf, wanting};
 
 use ct_arena::{Arena, KeeperPass, Pass, Site};
-use ct_rewrite::{Commit, PossibleRow};
+use ct_rewrite::{CertainRow, Commit, PossibleRow};
 use ct_table::{Db, Growth, TableError};
 use ct_transcript::{Answer, Refusal, Reply};
 use ct_word::{List, Text};
@@ -43,8 +43,8 @@ pub struct Offer {
     pub fresh: u32,
 }
 
-/// What a statement asks for, ready to be given: an offer to be committed, an answer, or a list of rows under the names
-/// of its columns.
+/// What a statement asks for, ready to be given: an offer to be committed, an answer, or a list under the names of its
+/// columns.
 #[derive(Drop)]
 pub enum Prepared {
     Commit(Offer),
@@ -52,6 +52,10 @@ pub enum Prepared {
     Possible {
         columns: List<Text>,
         list: List<PossibleRow>,
+    },
+    Certain {
+        columns: List<Text>,
+        list: List<CertainRow>,
     },
 }
 

@@ -7,7 +7,7 @@ use Rattle.ct_transcript.specs.declared.reply.Refusal.TheVariants as refusal
 use Rattle.ct_session.specs.Catalogue.{IsAdmittedEverywhere, IsPreparedText, IsReady, IsReadied, CommitOf, wanting_memory}
 use Rattle.ct_session.specs.declared.session.Prepared.TheVariants as prepared
 use Rattle.ct_session.proofs.Committing.{how_many, catalogue_stays}
-use Rattle.ct_session.proofs.Caught.{session_kept, mine_kept, refused_so, answered_so, possible_so, offered_so, one_more_at_most, before_same, after_same}
+use Rattle.ct_session.proofs.Caught.{session_kept, mine_kept, refused_so, answered_so, possible_so, certain_so, offered_so, one_more_at_most, before_same, after_same}
 use Rattle.ct_session.proofs.executing.execute.Goals as goal
 
 pub prepare-requires-clause-version : goal.prepare-requires-clause-version
@@ -90,6 +90,25 @@ returns-in-Ok-Possible-clause-answers g c =
     c.prepare.new.pass c.in-Ok-Possible.ensures.longer (session_kept s.pass c.prepare.new.pass c.in-Ok-Possible.ensures.kept ∙ e.kept.session) (mine_kept s.pass c.prepare.new.pass c.in-Ok-Possible.ensures.kept ∙ e.kept.mine)
     words.room words.numbered c.in-Ok-Possible.columns c.in-Ok-Possible.list c.version-at.result at
     (subst (λ p. IsPreparedText (commits_of s.pass.words) c.prepare.new.pass.words s.fresh c.args.text.now p) c.in-Ok-Possible.field-0-is c.in-Ok-Possible.ensures.ok)))
+
+pub returns-in-Ok-Certain-clause-kept : goal.returns-in-Ok-Certain-clause-kept
+returns-in-Ok-Certain-clause-kept g c =
+    let s = c.caught_up-session.result in
+    catalogue_stays s.pass c.prepare.new.pass s.keeper s.tables s.history.items c.reserve.new.self.items c.caught_up-session.ensures.kept c.in-Ok-Certain.ensures.kept c.reserve.ensures.items
+
+pub returns-in-Ok-Certain-clause-answers : goal.returns-in-Ok-Certain-clause-answers
+returns-in-Ok-Certain-clause-answers g c =
+    let s = c.caught_up-session.result in
+    let e = c.caught_up-session.ensures in
+    let cap = g.N.Site.log.cap in
+    let at = c.version-at.ensures ∙ ap (λ xs. length xs) c.as_slice.ensures.value in
+    let words = c.words-words-in-Ok-Certain.ensures in
+    before_same cap c.args.session.pass s.history.items c.args.session.history.items s.fresh c.args.session.fresh _ _ _ _ _ e.history e.fresh
+    (after_same cap _ c.prepare.new.pass s.history.items c.reserve.new.self.items s.fresh _ _ _ _ c.reserve.ensures.items
+    (certain_so cap c.args.session.pass s.pass s.keeper s.tables s.history.items s.fresh c.args.text.now e.kept e.words e.longer e.pass c.words.ensures.numbered
+    c.prepare.new.pass c.in-Ok-Certain.ensures.longer (session_kept s.pass c.prepare.new.pass c.in-Ok-Certain.ensures.kept ∙ e.kept.session) (mine_kept s.pass c.prepare.new.pass c.in-Ok-Certain.ensures.kept ∙ e.kept.mine)
+    words.room words.numbered c.in-Ok-Certain.columns c.in-Ok-Certain.list c.version-at.result at
+    (subst (λ p. IsPreparedText (commits_of s.pass.words) c.prepare.new.pass.words s.fresh c.args.text.now p) c.in-Ok-Certain.field-0-is c.in-Ok-Certain.ensures.ok)))
 
 pub commit-session-requires-clause-kept : goal.commit-session-requires-clause-kept
 commit-session-requires-clause-kept g c =

@@ -46,9 +46,6 @@ returns-in_ok-offer-in-Act-InsertRows-clause-ok g c =
     (sym (always (subst (λ r. IsPlainBuilt (statement_of r)) is c.requires.built)))
     c.in_ok-offer-in-Act-InsertRows.ensures.ok)
 
-pub answer_to-answered-requires-clause-built : goal.answer_to-answered-requires-clause-built
-answer_to-answered-requires-clause-built g c = subst (λ r. IsPlainBuilt (statement_of r)) c.in-Ask.is c.requires.built
-
 pub returns-in-Ok-clause-ok : goal.returns-in-Ok-clause-ok
 returns-in-Ok-clause-ok g c =
     subst (λ r. IsPrepared (commits_of c.args.pass.now.words) c.answer_to-answered.new.pass.words c.args.fresh (statement_of r) c.in-Ok.prepared) (sym c.in-Ask.is) (c.in-Ok.ensures.ok c.args.fresh)
