@@ -27,7 +27,7 @@ use Rattle.ct_session.specs.Built.{IsBuilt}
 use Rattle.ct_session.specs.Answers.{commits_by, Answers}
 use Rattle.ct_session.specs.declared.session.Offer.{Offer}
 use Rattle.ct_session.specs.declared.session.Prepared.TheVariants as prepared
-use Rattle.ct_session.specs.Catalogue.{IsReady, IsOfferFor, IsPrepared, IsPreparedText, IsRefusedStatement, IsRefusedText, IsWant, IsUnmet, IsUnmetAt, unread, wanting_memory, refused, logged, resolved_at, name_refusal, unevaluated}
+use Rattle.ct_session.specs.Catalogue.{IsOfferFor, IsPrepared, IsPreparedText, IsRefusedStatement, IsRefusedText, IsWant, IsUnmet, IsUnmetAt, unread, wanting_memory, refused, logged, resolved_at, name_refusal, unevaluated}
 use Rattle.ct_session.proofs.Going.{state_at}
 use Rattle.ct_session.proofs.Offers.{answers_refused, is_unread, is_name_fault, is_not_yet, is_too_large, is_too_many, is_full_at, answers_rows, answers_committed, stays}
 use Rattle.ct_session.proofs.Weights.{action_makes_words}
@@ -189,19 +189,6 @@ module _ (N : ℕ) (words start now : List ℕ) (fresh : ℕ) (x : List ℕ) (fi
       by_asked plain.Begin resolves o = absurd o
       by_asked plain.Commit resolves o = absurd o
       by_asked plain.Rollback resolves o = absurd o
-
--- an offer that a text asks for is ready
-pub ready_of : (h : List PlainCommit) (words : List ℕ) (fresh : ℕ) (x : List ℕ) (offer : Offer) → IsPreparedText h words fresh x (prepared.Commit offer)
-    → IsReady h words offer.changes offer.commit offer.tables
-ready_of h words fresh x offer p = by_asked p.prepared.asked p.prepared.prepared where
-  by_asked : (asked : PlainStatement) → IsPrepared h words fresh asked (prepared.Commit offer) → IsReady h words offer.changes offer.commit offer.tables
-  by_asked (plain.Act a) o = o.ready
-  by_asked (plain.Asks ask.Rows cs q) o = absurd o
-  by_asked (plain.Asks ask.Possible cs q) o = absurd o
-  by_asked (plain.Asks ask.Certain cs q) o = absurd o
-  by_asked plain.Begin o = absurd o
-  by_asked plain.Commit o = absurd o
-  by_asked plain.Rollback o = absurd o
 
 -- an offer is answered by what its commit did
 module _ (N : ℕ) (words start mid now : List ℕ) (fresh : ℕ) (x : List ℕ) (first : IsPrefix words start) (grown : IsPrefix start now) (room : length now ≤ N)

@@ -21,7 +21,7 @@ use Rattle.ct_session.specs.declared.session.Offer.{Offer}
 use Rattle.ct_session.specs.declared.session.Prepared.TheVariants as prepared
 use Rattle.ct_session.specs.State.{SessionState}
 use Rattle.ct_session.specs.Answers.{commits_by, Answers}
-use Rattle.ct_session.specs.Catalogue.{IsCatalogue, state_of, IsPreparedText, IsRefusedText, CommitOf, committed, filled, logged}
+use Rattle.ct_session.specs.Catalogue.{IsCatalogue, state_of, IsPreparedText, IsRefusedText, CommitOf, committed, filled, short_of_memory, wanting_memory, logged}
 use Rattle.ct_session.proofs.Going.{state_at, prefix_short}
 use Rattle.ct_session.proofs.Own.{own_commits_stay}
 use Rattle.ct_session.proofs.Committing.{how_many}
@@ -123,12 +123,15 @@ module _ (N : ℕ) (pass caught : Seen) (keeper : Keeping) (tables : List TableV
       let grown = prefix_of_prefix caught.words mid.words after.words to_mid to_end in
       refused_so after grown k'.session k'.mine room new refusal.Full (length history) refl
       (offer_filled N pass.words caught.words mid.words after.words fresh x first grown room (own caught (prefix_same caught.words) k.session k.mine numbered) offer p full)
+  offered_so numbered offer mid after keeper' tables' history' fresh' r to_mid to_end k' room new p short_of_memory =
+      refused_so after (prefix_of_prefix caught.words mid.words after.words to_mid to_end) k'.session k'.mine room new refusal.Memory (length history) refl wanting_memory
 
 -- a commit adds at most one to what is printed
 pub one_more_at_most : (room : ℕ) (old words words' : List ℕ) (changes : ℕ) (history history' : List Commit) (fresh fresh' fresh'' : ℕ) (commit : Commit) (r : Reply)
     → CommitOf room old words words' changes history fresh commit fresh' history' fresh'' r → length history' ≤ length history + 1
 one_more_at_most room old words words' changes history history' fresh fresh' fresh'' commit r (committed more came) = omega (arith, length-append history (commit ∷ []))
 one_more_at_most room old words words' changes history history' fresh fresh' fresh'' commit r (filled full) = omega arith
+one_more_at_most room old words words' changes history history' fresh fresh' fresh'' commit r short_of_memory = omega arith
 
 -- a session that came out as it went in
 pub before_same : (N : ℕ) (pass : Seen) (history history' : List Commit) (fresh fresh' : ℕ) (next : SessionState) (words words' x : List ℕ) (r : Reply) → history ≡ history' → fresh ≡ fresh'

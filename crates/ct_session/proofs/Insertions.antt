@@ -32,6 +32,8 @@ use Rattle.ct_rewrite.specs.Nodes.{is_position}
 use Rattle.ct_rewrite.specs.History.{plain_row, plain_commit}
 use Rattle.ct_table.specs.Denotes.{TableView, IsKept, Denotes, find_table, with_table}
 use Rattle.ct_table.specs.Terms.{TermOfRows, RowsFrom}
+use Rattle.ct_table.specs.Growing.{Apart, entries_of, rows_after}
+use Rattle.ct_table.specs.Pending.{IsApart, put_into}
 use Rattle.ct_table.specs.Tables.{cells_of, value_of_rows, IsRow, AreRows}
 use Rattle.ct_table.proofs.Denoting.{with_rows, found_all}
 use Rattle.ct_table.proofs.Following.{one_more}
@@ -76,10 +78,14 @@ pub widths_of_found : (o : Option TableView) (t : TableView) (tss : List (List T
     → All (λ ts. length ts ≡ length t.columns) tss
 widths_of_found o t tss e some = subst (λ p. IfSome p (λ u. All (λ ts. length ts ≡ length u.columns) tss)) e some
 
--- the tables with a table put in, by its parts
-pub table_put : (db : List TableView) (name name' : List ℕ) (t : TableView) (columns : List (List ℕ)) (rows : List CRow) → name ≡ name' → columns ≡ t.columns
-    → with_table db (record { name = name; columns = columns; rows = rows }) ≡ with_table db (with_rows name' t rows)
-table_put db name name' t columns rows e f = λ i. with_table db (record { name = e i; columns = f i; rows = rows })
+-- the tables in which one that is found gets conditions at cells
+pub rows_put : (db : List TableView) (name name' : List ℕ) (t : TableView) (puts : List (List ℕ × ℕ)) → name ≡ name' → find_table db name' ≡ Some t
+    → put_into db name puts (find_table db name) ≡ with_table db (with_rows name' t (rows_after t.rows puts))
+rows_put db name name' t puts e found = (λ i. put_into db (e i) puts (find_table db (e i))) ∙ ap (put_into db name' puts) found
+
+-- a table that is found has rows of which no two have the same cells
+pub apart_put : (db : List TableView) (name name' : List ℕ) (t : TableView) → name ≡ name' → find_table db name' ≡ Some t → Apart (entries_of t.rows) → IsApart (find_table db name)
+apart_put db name name' t e found apart = subst IsApart (sym (ap (find_table db) e ∙ found)) apart
 
 -- the printed rows are rows under the condition true
 plain_rows : (tss : List (List Term)) → map (plain_row (node.True ∷ [])) (map row_under_first tss) ≡ map row_under_true tss
@@ -168,11 +174,10 @@ module _ (h : List PlainCommit) (old rowed merged listed words : List ℕ) (db :
         }
 
 -- rows are offered for their insertion where true, which draws their fresh nulls
-pub rows_offered : (h : List PlainCommit) (words : List ℕ) (fresh fresh' : ℕ) (name : List ℕ) (tss : List (List Term)) (changes : ℕ) (commit : Commit) (tables : List TableView)
-    → IsReady h words changes commit tables → change_list_at words changes ≡ Insert name (map row_under_true tss) ∷ [] → fresh' ≡ fresh + sum_by (count_by is_fresh) tss
-    → IsOfferFor h words fresh (plain.InsertRows name tss True) changes commit tables fresh'
-rows_offered h words fresh fresh' name tss changes commit tables ready listed draws = record {
-  ready = ready;
+pub rows_offered : (h : List PlainCommit) (words : List ℕ) (fresh fresh' : ℕ) (name : List ℕ) (tss : List (List Term)) (changes : ℕ)
+    → change_list_at words changes ≡ Insert name (map row_under_true tss) ∷ [] → fresh' ≡ fresh + sum_by (count_by is_fresh) tss
+    → IsOfferFor h words fresh (plain.InsertRows name tss True) changes fresh'
+rows_offered h words fresh fresh' name tss changes listed draws = record {
   draws = draws;
   agrees = subst (λ xs. Agrees h (plain.InsertRows name tss True ∷ []) xs) (sym listed) (rows_agree h name tss);
 }

@@ -124,9 +124,8 @@ new_table_is h old words db name columns list changes number tables d all writte
 
 -- a new table is offered for its creation, which draws no null
 pub creation_is : (h : List PlainCommit) (words : List ℕ) (fresh : ℕ) (name : List ℕ) (columns : List (List ℕ)) (changes : ℕ) (commit : Commit) (tables : List TableView)
-    → IsNewTable h words name columns changes commit tables → IsOfferFor h words fresh (plain.Create name columns) changes commit tables fresh
+    → IsNewTable h words name columns changes commit tables → IsOfferFor h words fresh (plain.Create name columns) changes fresh
 creation_is h words fresh name columns changes commit tables made = record {
-  ready = made.ready;
   draws = omega arith;
   agrees = subst (λ xs. Agrees h (plain.Create name columns ∷ []) xs) (sym made.change) ((refl, refl), tt);
 }

@@ -32,6 +32,7 @@ use Rattle.ct_arena.specs.Seen.{Seen, Keeping}
 use Rattle.ct_table.specs.declared.error.TableError.{TableError}
 use Rattle.ct_table.specs.declared.error.TableError.TheVariants as fault
 use Rattle.ct_table.specs.Denotes.{TableView, Denotes}
+use Rattle.ct_table.specs.Pending.{FitsGrowth, after}
 use Rattle.ct_transcript.specs.declared.reply.Answer.{Answer}
 use Rattle.ct_transcript.specs.Means.{IsAnswer, Means}
 use Rattle.ct_transcript.specs.Possible.{PossibleRight}
@@ -46,6 +47,7 @@ use Rattle.ct_resolve.specs.declared.error.ResolveError.TheVariants as name
 use Rattle.ct_resolve.specs.Found.{Found}
 use Rattle.ct_resolve.specs.Writing.{WritesStatement}
 use Rattle.ct_resolve.specs.Statements.{resolved}
+use Rattle.ct_session.specs.declared.session.Offer.{Offer}
 use Rattle.ct_session.specs.declared.session.Prepared.{Prepared}
 use Rattle.ct_session.specs.declared.session.Prepared.TheVariants as prepared
 use Rattle.ct_session.specs.Built.{IsBuilt}
@@ -88,10 +90,18 @@ pub record IsReady (h : List PlainCommit) (words : List ℕ) (changes : ℕ) (co
   pub denotes : Denotes words (h ++ logged h words changes ∷ []) [] tables
   pub everywhere : IsAdmittedEverywhere (h ++ logged h words changes ∷ [])
 
--- an offer for an action, with which its changes agree: its change list, the commit that prints it, the tables after it,
--- and the number of the last null that was drawn, in the place of the one before
-pub record IsOfferFor (h : List PlainCommit) (words : List ℕ) (fresh : ℕ) (action : PlainAction) (changes : ℕ) (commit : Commit) (tables : List TableView) (fresh' : ℕ) : Type 0 where
-  pub ready : IsReady h words changes commit tables
+-- an offer is ready for these tables: its growth fits them, and makes of them the tables after it
+abbrev pub IsReadyFor : List TableView → List PlainCommit → List ℕ → Offer → Type 0
+IsReadyFor db h words offer = IsReady h words offer.changes offer.commit (after db offer.growth) × FitsGrowth db offer.growth
+
+-- where a statement asks for a change, its offer is ready for these tables
+abbrev pub IsReadied : List TableView → List PlainCommit → List ℕ → Prepared → Type 0
+IsReadied db h words (prepared.Commit offer) = IsReadyFor db h words offer
+IsReadied db h words _ = Unit {0}
+
+-- an offer for an action, with which its changes agree: its change list, and the number of the last null that was drawn, in
+-- the place of the one before
+pub record IsOfferFor (h : List PlainCommit) (words : List ℕ) (fresh : ℕ) (action : PlainAction) (changes : ℕ) (fresh' : ℕ) : Type 0 where
   pub draws : fresh' ≡ fresh + drawn action
   pub agrees : Agrees h (action ∷ []) (change_list_at words changes)
 
@@ -102,11 +112,12 @@ pub record IsAnswerFor (h : List PlainCommit) (columns : List (List ℕ)) (query
   pub means : Means answer query h []
   pub in_pattern : IsSublist (map (λ row. row.cells) answer.rows) (pattern h [] query)
 
--- what a commit did: one commit more, and the nulls that it draws; or nothing, where the log is full
+-- what a commit did: one commit more, and the nulls that it draws; or nothing, where the log is full or memory is wanting
 pub data CommitOf (room : ℕ) (old words words' : List ℕ) (changes : ℕ) (history : List Commit) (fresh : ℕ) (commit : Commit) (fresh' : ℕ) : List Commit → ℕ → Reply → Type 0 where
   committed : length words < length words' → commits_of words' ≡ commits_of old ++ logged (commits_of old) words changes ∷ []
       → CommitOf room old words words' changes history fresh commit fresh' (history ++ commit ∷ []) fresh' (reply.Committed (length history + 1))
   filled : length words' ≡ room → CommitOf room old words words' changes history fresh commit fresh' history fresh (reply.Refused (length history) refusal.Full)
+  short_of_memory : CommitOf room old words words' changes history fresh commit fresh' history fresh (reply.Refused (length history) refusal.Memory)
 
 -- the offer of a new table
 pub record IsNewTable (h : List PlainCommit) (words : List ℕ) (name : List ℕ) (columns : List (List ℕ)) (changes : ℕ) (commit : Commit) (tables : List TableView) : Type 0 where
@@ -168,7 +179,7 @@ resolved_at h fresh st = resolved (schema h []) 1 fresh st
 
 -- what a statement with positions asks for, ready to be given
 abbrev pub IsPrepared : List PlainCommit → List ℕ → ℕ → PlainStatement → Prepared → Type 0
-IsPrepared h words fresh (plain.Act a) (prepared.Commit offer) = IsOfferFor h words fresh a offer.changes offer.commit offer.tables offer.fresh
+IsPrepared h words fresh (plain.Act a) (prepared.Commit offer) = IsOfferFor h words fresh a offer.changes offer.fresh
 IsPrepared h words fresh (plain.Asks ask.Rows columns query) (prepared.Answer answer) = IsAnswerFor h columns query answer
 IsPrepared h words fresh (plain.Asks ask.Possible columns query) (prepared.Possible named list) = (named ≡ columns) × PossibleRight list query h []
 IsPrepared h words fresh (plain.Asks ask.Certain columns query) (prepared.Certain named list) = (named ≡ columns) × CertainRight list query h [] words

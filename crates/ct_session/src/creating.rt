@@ -7,14 +7,14 @@ ghost use Rattle.ct_query.specs.Plain as plain;
 ghost use Rattle.ct_resolve.specs.Writing.{WritesAction};
 ghost use Rattle.ct_table.specs.Denotes.{Denotes, find_table};
 ghost use Rattle.ct_word.specs.Reading.{commits_of};
-ghost use Rattle.ct_session.specs.Catalogue.{IsAdmittedEverywhere, IsOfferFor, IsWant};
+ghost use Rattle.ct_session.specs.Catalogue.{IsAdmittedEverywhere, IsOfferFor, IsReadyFor, IsWant};
 
 use crate::lists::commit_of;
 use crate::session::Offer;
 use ct_arena::{Arena, Pass, Site};
 use ct_history::{create, no_changes};
 use ct_rewrite::Change;
-use ct_table::{CTable, Db};
+use ct_table::{CTable, Db, Growth};
 use ct_transcript::Refusal;
 use ct_word::{List, Text};
 use std::alloc::Global;
@@ -40,14 +40,18 @@ pub fn offer_table<N: Site>(
     requires absent { find_table tables.now name ≡ None }
     ensures longer { IsPrefix pass.old.words pass.new.words }
     ensures kept { kept_of pass.new ≡ kept_of pass.old }
-    ensures ok { IfOk result (λ offer. IsOfferFor (commits_of pass.old.words) pass.new.words fresh (plain.Create name columns) offer.changes offer.commit offer.tables offer.fresh) }
+    ensures ok { IfOk result (λ offer. IsOfferFor (commits_of pass.old.words) pass.new.words fresh (plain.Create name columns) offer.changes offer.fresh) }
+    ensures ready { IfOk result (IsReadyFor tables.now (commits_of pass.old.words) pass.new.words) }
     ensures err { IfErr result (λ why. IsWant N.log.cap pass.new.words why) }
 {
     let table = CTable {
         columns: columns.clone()?,
         rows: List::new(alloc),
     };
-    let tables = tables.with(alloc, name.clone()?, table)?;
+    let growth = Growth::Table {
+        name: name.clone()?,
+        table,
+    };
     let list = match no_changes(arena, pass) {
         Ok(list) => list,
         Err(_) => return Err(Refusal::Full),
@@ -67,7 +71,7 @@ pub fn offer_table<N: Site>(
     Ok(Offer {
         changes,
         commit,
-        tables,
+        growth,
         fresh,
     })
 }

@@ -9,7 +9,7 @@ ghost use Rattle.ct_table.specs.Denotes.{Denotes};
 ghost use Rattle.ct_word.specs.Reading.{commits_of};
 ghost use Rattle.ct_query.specs.Fits.{FitsStatement};
 ghost use Rattle.ct_session.specs.Built.{IsPlainBuilt};
-ghost use Rattle.ct_session.specs.Catalogue.{IsCatalogue, IsAdmittedEverywhere, state_of, IsPrepared, IsPreparedStatement, IsPreparedText, IsRefusedStatement, IsRefusedText, IsUnmet, IsWritable, name_refusal};
+ghost use Rattle.ct_session.specs.Catalogue.{IsCatalogue, IsAdmittedEverywhere, state_of, IsPrepared, IsReadied, IsPreparedStatement, IsPreparedText, IsRefusedStatement, IsRefusedText, IsUnmet, IsWritable, name_refusal};
 ghost use Rattle.ct_session.specs.Answers.{Answers};
 ghost use Rattle.ct_session.specs.Statements.{IsWritten};
 
@@ -65,6 +65,7 @@ fn perform<N: Site>(
     ensures longer { IsPrefix pass.old.words pass.new.words }
     ensures kept { kept_of pass.new ≡ kept_of pass.old }
     ensures ok { IfOk result (IsPrepared (commits_of pass.old.words) pass.new.words fresh (statement_of resolved)) }
+    ensures ready { IfOk result (IsReadied tables.now (commits_of pass.old.words) pass.new.words) }
     ensures err { IfErr result (λ why. IsUnmet (commits_of pass.old.words) N.log.cap pass.new.words (statement_of resolved) why) }
 {
     match resolved {
@@ -124,10 +125,10 @@ fn prepare_statement<N: Site>(
     ensures longer { IsPrefix pass.old.words pass.new.words }
     ensures kept { kept_of pass.new ≡ kept_of pass.old }
     ensures ok { IfOk result (IsPreparedStatement (commits_of pass.old.words) pass.new.words fresh statement.now) }
+    ensures ready { IfOk result (IsReadied tables.now (commits_of pass.old.words) pass.new.words) }
     ensures err { IfErr result (IsRefusedStatement (commits_of pass.old.words) N.log.cap pass.new.words fresh statement.now) }
 {
-    let schema = tables.schema(alloc)?;
-    let resolved = match resolve(alloc, &schema, SESSION, fresh, statement) {
+    let resolved = match resolve(alloc, tables.headings(), SESSION, fresh, statement) {
         Ok(resolved) => resolved,
         Err(e) => return Err(named(e)),
     };
@@ -160,6 +161,7 @@ fn prepare<N: Site>(
     ensures longer { IsPrefix pass.old.words pass.new.words }
     ensures kept { kept_of pass.new ≡ kept_of pass.old }
     ensures ok { IfOk result (IsPreparedText (commits_of pass.old.words) pass.new.words fresh text.now) }
+    ensures ready { IfOk result (IsReadied tables.now (commits_of pass.old.words) pass.new.words) }
     ensures err { IfErr result (IsRefusedText (commits_of pass.old.words) N.log.cap pass.new.words fresh text.now) }
 {
     match read(alloc, text) {
@@ -217,7 +219,7 @@ pub fn execute<N: Site>(
         text,
     ) {
         Ok(Prepared::Commit(offer)) => {
-            let (session, reply) = commit(arena, session, offer);
+            let (session, reply) = commit(alloc, arena, session, offer);
             let _words = session.pass.words();
             (session, reply)
         }

@@ -13,7 +13,7 @@ ghost use Rattle.ct_table.specs.Shared.{view_of};
 ghost use Rattle.ct_table.specs.Denotes.{Denotes, find_table};
 ghost use Rattle.ct_query.specs.Fits.{FitsCell};
 ghost use Rattle.ct_session.specs.State.{is_fresh};
-ghost use Rattle.ct_session.specs.Catalogue.{IsAdmittedEverywhere, IsReady, IsWant, IsOfferFor, row_under_true, row_under_first, rows_commit};
+ghost use Rattle.ct_session.specs.Catalogue.{IsAdmittedEverywhere, IsReadyFor, IsWant, IsOfferFor, row_under_true, row_under_first, rows_commit};
 
 use crate::lists::{commit_of, list_of_one};
 use crate::session::{Offer, wanting};
@@ -21,7 +21,7 @@ use ct_arena::{Arena, Pass, Site};
 use ct_condition::term as put_term;
 use ct_history::{insert as insert_change, no_changes};
 use ct_rewrite::{AnswerRow, Change, Commit, Node};
-use ct_table::{CRow, CTable, Db, insert};
+use ct_table::{CRow, Db, Growth, SharedTable, insertions};
 use ct_transcript::Refusal;
 use ct_word::{List, Memory, Null, Term, Text};
 use std::alloc::Global;
@@ -112,7 +112,7 @@ fn new_rows<N: Site>(
     arena: &Arena<N>,
     pass: &mut Pass<N>,
     tables: &Db,
-    table: &CTable,
+    table: &SharedTable,
     version: u32,
     fresh: u32,
     name: Text,
@@ -127,7 +127,7 @@ fn new_rows<N: Site>(
     requires written { WritesAction (plain.InsertRows name rows True) }
     ensures longer { IsPrefix pass.old.words pass.new.words }
     ensures kept { kept_of pass.new ≡ kept_of pass.old }
-    ensures ready { IfOk result (λ offer. IsReady (commits_of pass.old.words) pass.new.words offer.changes offer.commit offer.tables) }
+    ensures ready { IfOk result (IsReadyFor tables.now (commits_of pass.old.words) pass.new.words) }
     ensures changes { IfOk result (λ offer. change_list_at pass.new.words offer.changes ≡ Insert name (map row_under_true rows) ∷ []) }
     ensures fresh { IfOk result (λ offer. offer.fresh ≡ fresh) }
     ensures err { IfErr result (λ why. IsWant N.log.cap pass.new.words why) }
@@ -135,11 +135,14 @@ fn new_rows<N: Site>(
     let placed = rows_of(alloc, arena, pass, rows.as_slice())?;
     // The words are well formed, which keeps the tables' rows as words are added.
     let _ = pass.words();
-    let table = match insert(alloc, arena, pass, table, placed.as_slice()) {
-        Ok(table) => table,
+    let puts = match insertions(alloc, arena, pass, table, placed.as_slice()) {
+        Ok(puts) => puts,
         Err(e) => return Err(wanting(e)),
     };
-    let tables = tables.with(alloc, name.clone()?, table)?;
+    let growth = Growth::Rows {
+        name: name.clone()?,
+        puts,
+    };
     let list = match no_changes(arena, pass) {
         Ok(list) => list,
         Err(_) => return Err(Refusal::Full),
@@ -153,7 +156,7 @@ fn new_rows<N: Site>(
     Ok(Offer {
         changes,
         commit,
-        tables,
+        growth,
         fresh,
     })
 }
@@ -222,12 +225,13 @@ pub fn offer_rows<N: Site>(
     requires written { WritesAction (plain.InsertRows name rows True) }
     ensures longer { IsPrefix pass.old.words pass.new.words }
     ensures kept { kept_of pass.new ≡ kept_of pass.old }
-    ensures ok { IfOk result (λ offer. IsOfferFor (commits_of pass.old.words) pass.new.words fresh (plain.InsertRows name rows True) offer.changes offer.commit offer.tables offer.fresh) }
+    ensures ok { IfOk result (λ offer. IsOfferFor (commits_of pass.old.words) pass.new.words fresh (plain.InsertRows name rows True) offer.changes offer.fresh) }
+    ensures ready { IfOk result (IsReadyFor tables.now (commits_of pass.old.words) pass.new.words) }
     ensures err { IfErr result (λ why. IsWant N.log.cap pass.new.words why) }
 {
     let more = drawn(rows.as_slice())?;
     let fresh = after(fresh, more)?;
-    let Some(table) = tables.get(name.as_str()) else {
+    let Some(table) = tables.shared(&name) else {
         unreachable!()
     };
     new_rows(

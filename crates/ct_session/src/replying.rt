@@ -9,7 +9,7 @@ ghost use Rattle.ct_query.specs.Schema.{schema};
 ghost use Rattle.ct_query.specs.Views.{query_of};
 ghost use Rattle.ct_history.specs.Kept.{kept_of};
 ghost use Rattle.ct_table.specs.Denotes.{Denotes};
-ghost use Rattle.ct_session.specs.Catalogue.{IsAdmittedEverywhere, IsPrepared, IsUnmet};
+ghost use Rattle.ct_session.specs.Catalogue.{IsAdmittedEverywhere, IsPrepared, IsReadied, IsUnmet};
 
 use crate::asking::possible_rows;
 use crate::certainty::certain_rows;
@@ -44,6 +44,7 @@ pub fn answer_to<N: Site>(
     ensures longer { IsPrefix pass.old.words pass.new.words }
     ensures kept { kept_of pass.new ≡ kept_of pass.old }
     ensures ok { (fresh : ℕ) → IfOk result (IsPrepared (commits_of pass.old.words) pass.new.words fresh (plain.Asks kind columns (query_of query.now))) }
+    ensures ready { IfOk result (IsReadied tables.now (commits_of pass.old.words) pass.new.words) }
     ensures err { IfErr result (λ why. IsUnmet (commits_of pass.old.words) N.log.cap pass.new.words (plain.Asks kind columns (query_of query.now)) why) }
 {
     match kind {

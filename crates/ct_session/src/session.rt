@@ -5,13 +5,15 @@ ghost use mathlib.Core.List.{IsPrefix};
 ghost use Rattle.ct_arena.specs.Counts.{AreNumbered};
 ghost use Rattle.ct_history.specs.Kept.{kept_of};
 ghost use Rattle.ct_word.specs.Reading.{commits_of};
+ghost use Rattle.ct_table.specs.Pending.{FitsGrowth, after};
 ghost use Rattle.ct_session.specs.Catalogue.{IsCatalogue, IsReady, CommitOf, wanting};
 
 use ct_arena::{Arena, KeeperPass, Pass, Site};
 use ct_rewrite::{CertainRow, Commit, PossibleRow};
-use ct_table::{Db, TableError};
+use ct_table::{Db, Growth, TableError};
 use ct_transcript::{Answer, Refusal, Reply};
 use ct_word::{List, Text};
+use std::alloc::Global;
 
 /// The number of the one session.
 pub const SESSION: u32 = 1;
@@ -31,13 +33,13 @@ pub struct Session<N: Site> {
     pub fresh: u32,
 }
 
-/// A change that is ready to be committed: its change list in the log, the commit that prints it, and the tables and
-/// the number of the session's last null after it.
+/// A change that is ready to be committed: its change list in the log, the commit that prints it, how the tables grow
+/// by it, and the number of the session's last null after it.
 #[derive(Drop)]
 pub struct Offer {
     pub changes: u32,
     pub commit: Commit,
-    pub tables: Db,
+    pub growth: Growth,
     pub fresh: u32,
 }
 
@@ -107,12 +109,19 @@ pub fn caught_up<N: Site>(arena: &Arena<N>, session: Session<N>) -> Session<N>
     }
 }
 
-/// Commits an offer; where the log is full, nothing but its words is changed.
-pub fn commit<N: Site>(arena: &Arena<N>, session: Session<N>, offer: Offer) -> (Session<N>, Reply)
+/// Commits an offer; where the log is full or memory is wanting, nothing but the log's words is changed. All room for the
+/// tables is there before the commit's word, so that what follows it only moves.
+pub fn commit<N: Site>(
+    alloc: Global,
+    arena: &Arena<N>,
+    session: Session<N>,
+    offer: Offer,
+) -> (Session<N>, Reply)
     requires kept { IsCatalogue session.pass session.keeper session.tables session.history.items }
     requires few { length session.history.items < 2 ^ 16 }
     requires room { vec_len session.history < vec_capacity session.history }
-    requires ready { IsReady (commits_of session.keeper.words) session.pass.words offer.changes offer.commit offer.tables }
+    requires ready { IsReady (commits_of session.keeper.words) session.pass.words offer.changes offer.commit (after session.tables offer.growth) }
+    requires fits { FitsGrowth session.tables offer.growth }
     ensures kept { IsCatalogue result.0.pass result.0.keeper result.0.tables result.0.history.items }
     ensures longer { IsPrefix session.pass.words result.0.pass.words }
     ensures outcome { CommitOf N.log.cap session.keeper.words session.pass.words result.0.pass.words offer.changes session.history.items session.fresh offer.commit offer.fresh result.0.history.items result.0.fresh result.1 }
@@ -127,10 +136,24 @@ pub fn commit<N: Site>(arena: &Arena<N>, session: Session<N>, offer: Offer) -> (
     let Offer {
         changes,
         commit,
-        tables: after,
+        growth,
         fresh: drawn,
     } = offer;
     let at = version(history.as_slice());
+    let growing = match tables.growing(alloc, growth) {
+        Ok(growing) => growing,
+        Err(tables) => {
+            let session = Session {
+                pass,
+                keeper,
+                tables,
+                history,
+                fresh,
+            };
+            let why = Refusal::Memory;
+            return (session, Reply::Refused { at, why });
+        }
+    };
     let mut guest = keeper.enter(arena, pass);
     match keeper.append_commit(arena, &mut guest, changes) {
         Ok(_) => {
@@ -138,7 +161,7 @@ pub fn commit<N: Site>(arena: &Arena<N>, session: Session<N>, offer: Offer) -> (
             let session = Session {
                 pass: keeper.leave(arena, guest),
                 keeper,
-                tables: after,
+                tables: growing.done(alloc),
                 history,
                 fresh: drawn,
             };
@@ -148,7 +171,7 @@ pub fn commit<N: Site>(arena: &Arena<N>, session: Session<N>, offer: Offer) -> (
             let session = Session {
                 pass: keeper.leave(arena, guest),
                 keeper,
-                tables,
+                tables: growing.undone(alloc),
                 history,
                 fresh,
             };

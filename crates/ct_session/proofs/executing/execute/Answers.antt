@@ -2,10 +2,10 @@ use Rattle.std.proofs.Common.{◌≡◌, ◌+◌, ◌≤◌, [], ap, sym, subst,
 use Rattle.ct_word.specs.Reading.{commits_of}
 use Rattle.ct_word.proofs.Prefixes.{prefix_same}
 use Rattle.ct_table.specs.Denotes.{Denotes}
+use Rattle.ct_table.specs.Pending.{after}
 use Rattle.ct_transcript.specs.declared.reply.Refusal.TheVariants as refusal
-use Rattle.ct_session.specs.Catalogue.{IsAdmittedEverywhere, IsPreparedText, IsReady, CommitOf, wanting_memory}
+use Rattle.ct_session.specs.Catalogue.{IsAdmittedEverywhere, IsPreparedText, IsReady, IsReadied, CommitOf, wanting_memory}
 use Rattle.ct_session.specs.declared.session.Prepared.TheVariants as prepared
-use Rattle.ct_session.proofs.Answering.{ready_of}
 use Rattle.ct_session.proofs.Committing.{how_many, catalogue_stays}
 use Rattle.ct_session.proofs.Caught.{session_kept, mine_kept, refused_so, answered_so, possible_so, certain_so, offered_so, one_more_at_most, before_same, after_same}
 use Rattle.ct_session.proofs.executing.execute.Goals as goal
@@ -119,9 +119,13 @@ pub commit-session-requires-clause-ready : goal.commit-session-requires-clause-r
 commit-session-requires-clause-ready g c =
     let s = c.caught_up-session.result in
     let offer = c.in-Ok-Commit.offer in
-    subst (λ ws. IsReady (commits_of ws) c.prepare.new.pass.words offer.changes offer.commit offer.tables) c.caught_up-session.ensures.words
-    (ready_of (commits_of s.pass.words) c.prepare.new.pass.words s.fresh c.args.text.now offer
-    (subst (λ p. IsPreparedText (commits_of s.pass.words) c.prepare.new.pass.words s.fresh c.args.text.now p) c.in-Ok-Commit.field-0-is c.in-Ok-Commit.ensures.ok))
+    subst (λ ws. IsReady (commits_of ws) c.prepare.new.pass.words offer.changes offer.commit (after s.tables offer.growth)) c.caught_up-session.ensures.words
+    (subst (IsReadied s.tables (commits_of s.pass.words) c.prepare.new.pass.words) c.in-Ok-Commit.field-0-is c.in-Ok-Commit.ensures.ready).0
+
+pub commit-session-requires-clause-fits : goal.commit-session-requires-clause-fits
+commit-session-requires-clause-fits g c =
+    let s = c.caught_up-session.result in
+    (subst (IsReadied s.tables (commits_of s.pass.words) c.prepare.new.pass.words) c.in-Ok-Commit.field-0-is c.in-Ok-Commit.ensures.ready).1
 
 pub returns-in-Ok-Commit-clause-answers : goal.returns-in-Ok-Commit-clause-answers
 returns-in-Ok-Commit-clause-answers g c =

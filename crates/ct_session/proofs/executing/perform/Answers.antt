@@ -42,7 +42,7 @@ returns-in_ok-offer-in-Act-InsertRows-clause-ok g c =
     let offer = c.in_ok-offer-in-Act-InsertRows.offer in
     let is = c.in-Act-InsertRows.is ∙ ap resolved.Act c.in-Act-InsertRows.field-0-is in
     subst (λ r. IsPrepared h words c.args.fresh (statement_of r) (prepared.Commit offer)) (sym is)
-    (subst (λ p. IsOfferFor h words c.args.fresh (plain.InsertRows c.in-Act-InsertRows.name c.in-Act-InsertRows.rows p) offer.changes offer.commit offer.tables offer.fresh)
+    (subst (λ p. IsOfferFor h words c.args.fresh (plain.InsertRows c.in-Act-InsertRows.name c.in-Act-InsertRows.rows p) offer.changes offer.fresh)
     (sym (always (subst (λ r. IsPlainBuilt (statement_of r)) is c.requires.built)))
     c.in_ok-offer-in-Act-InsertRows.ensures.ok)
 
