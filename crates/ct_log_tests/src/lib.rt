@@ -12,6 +12,4 @@ mod conditions;
 #[cfg(test)]
 mod printed;
 #[cfg(test)]
-mod replies;
-#[cfg(test)]
 mod transcript;

@@ -3,7 +3,6 @@
 ghost use Rattle.std.specs.Prelude.{◌≡◌};
 
 use ct_arena::{Arena, Blank, Site};
-use ct_derivation::{Derivation, Proof};
 use ct_transcript::{
     Answer, AnswerRow, Change, Commit, Node, Refusal, Reply, SessionLog, Transcript, lines,
 };
@@ -13,26 +12,23 @@ use std::marker::Brand;
 use std::process::Abort;
 use std::test::Fail;
 
-pub(crate) fn text(alloc: Global, text: &str) -> Result<Text, AllocError> {
+fn text(alloc: Global, text: &str) -> Result<Text, AllocError> {
     Ok(Text::from_string(String::from_str(alloc, text)?))
 }
 
-pub(crate) fn list<T: Drop, const N: usize>(
-    alloc: Global,
-    items: [T; N],
-) -> Result<List<T>, AllocError> {
+fn list<T: Drop, const N: usize>(alloc: Global, items: [T; N]) -> Result<List<T>, AllocError> {
     Ok(List::from_vec(Vec::from_array(alloc, items)?))
 }
 
-pub(crate) fn int(i: i64) -> Term {
+fn int(i: i64) -> Term {
     Term::Value(Value::Int(i))
 }
 
-pub(crate) fn named(alloc: Global, name: &str) -> Result<Term, AllocError> {
+fn named(alloc: Global, name: &str) -> Result<Term, AllocError> {
     Ok(Term::Null(Null::Named(text(alloc, name)?)))
 }
 
-pub(crate) fn row<const N: usize>(
+fn row<const N: usize>(
     alloc: Global,
     cells: [Term; N],
     cond: u32,
@@ -43,7 +39,7 @@ pub(crate) fn row<const N: usize>(
     })
 }
 
-pub(crate) fn session(alloc: Global, replies: List<Reply>) -> Result<SessionLog, AllocError> {
+fn session(alloc: Global, replies: List<Reply>) -> Result<SessionLog, AllocError> {
     Ok(SessionLog {
         script: text(alloc, "")?,
         replies,
@@ -121,22 +117,11 @@ fn deep_answer(alloc: Global) -> Result<Answer, AllocError> {
     })
 }
 
-/// A proof of no step; no line shows its steps.
-pub(crate) fn proof(alloc: Global) -> Proof {
-    let steps = List::new(alloc);
-    Proof {
-        root: 1,
-        derivation: Derivation { steps },
-    }
-}
-
 fn refusals(alloc: Global) -> Result<List<Reply>, AllocError> {
     let reasons = [
         Refusal::NotAStatement,
         Refusal::TooDeep,
         Refusal::NumberRange,
-        Refusal::InTransaction,
-        Refusal::NoTransaction,
         Refusal::UnknownTable,
         Refusal::TableExists,
         Refusal::UnknownColumn,
@@ -146,10 +131,6 @@ fn refusals(alloc: Global) -> Result<List<Reply>, AllocError> {
         Refusal::NotYet,
         Refusal::TooLarge,
         Refusal::Full,
-        Refusal::TooManyTerms,
-        Refusal::Inconsistent {
-            proof: proof(alloc),
-        },
         Refusal::Memory,
     ];
     list(alloc, reasons.map(|why| Reply::Refused { at: 0, why }))
@@ -181,20 +162,16 @@ const EACH_FORM: &str = "session 1\n\
     1 refused NotAStatement\n\
     2 refused TooDeep\n\
     3 refused NumberRange\n\
-    4 refused InTransaction\n\
-    5 refused NoTransaction\n\
-    6 refused UnknownTable\n\
-    7 refused TableExists\n\
-    8 refused UnknownColumn\n\
-    9 refused AmbiguousColumn\n\
-    10 refused DuplicateName\n\
-    11 refused ColumnCount\n\
-    12 refused NotYet\n\
-    13 refused TooLarge\n\
-    14 refused Full\n\
-    15 refused TooManyTerms\n\
-    16 refused Inconsistent\n\
-    17 refused Memory\n\
+    4 refused UnknownTable\n\
+    5 refused TableExists\n\
+    6 refused UnknownColumn\n\
+    7 refused AmbiguousColumn\n\
+    8 refused DuplicateName\n\
+    9 refused ColumnCount\n\
+    10 refused NotYet\n\
+    11 refused TooLarge\n\
+    12 refused Full\n\
+    13 refused Memory\n\
     history\n\
     1 by 2\n  \
       insert into t ('') if false\n  \
@@ -219,46 +196,27 @@ fn history(alloc: Global) -> Result<List<Commit>, AllocError> {
     list(alloc, [commit(alloc, 2, nodes, changes(alloc)?)?])
 }
 
-fn print<N: Site>(
-    rt: &impl Abort,
-    alloc: Global,
-    blank: Blank,
-    sessions: List<SessionLog>,
-    history: List<Commit>,
-    expected: &str,
-) -> Result<(), Fail>
+fn print<N: Site>(rt: &impl Abort, alloc: Global, blank: Blank) -> Result<(), Fail>
     requires { blank ≡ N.log }
 {
     let (arena, mut keeper) = Arena::<N>::make(blank);
     let pass = keeper.enrol(alloc, &arena)?;
     let _ = keeper.end(&arena, pass);
     let transcript = Transcript {
-        sessions,
-        history,
+        sessions: sessions(alloc)?,
+        history: history(alloc)?,
         words: keeper.finish(arena),
     };
     let mut out = String::new(alloc);
     for line in &lines(alloc, &transcript)? {
         out.push_str(line.as_str())?;
     }
-    assert_eq!(rt; out.as_str(), expected);
+    assert_eq!(rt; out.as_str(), EACH_FORM);
     Ok(())
-}
-
-/// Compares the text of these sessions and this history with what is expected.
-pub(crate) fn expect(
-    rt: &impl Abort,
-    alloc: Global,
-    sessions: List<SessionLog>,
-    history: List<Commit>,
-    expected: &str,
-) -> Result<(), Fail> {
-    let blank = Blank::make(alloc, 64)?;
-    print::<Brand>(rt, alloc, blank, sessions, history, expected)
 }
 
 #[test]
 fn each_form_is_printed(rt: HostRuntime) -> Result<(), Fail> {
-    let alloc = rt.alloc();
-    expect(&rt, alloc, sessions(alloc)?, history(alloc)?, EACH_FORM)
+    let blank = Blank::make(rt.alloc(), 64)?;
+    print::<Brand>(&rt, rt.alloc(), blank)
 }
