@@ -1,6 +1,6 @@
 -- From what a text came to, to its reply.
-use Rattle.std.proofs.Common.{◌≡◌, ◌≢◌, ℕ, ◌+◌, ◌≤◌, ◌<◌, arith, List, [], ◌∷◌, ◌++◌, length, refl, ap, sym, subst, ◌∙◌}
-use Rattle.std.specs.Prelude.{Result, Some, Ok, Err, IfOk, IfErr}
+use Rattle.std.proofs.Common.{◌≡◌, ◌≢◌, ℕ, ◌+◌, ◌≤◌, ◌<◌, arith, List, [], ◌∷◌, ◌++◌, length, refl, ap, sym, ◌∙◌}
+use Rattle.std.specs.Prelude.{Result, Ok, Err, IfOk, IfErr}
 use mathlib.Core.List.{IsPrefix}
 use Rattle.ct_word.specs.Change.{PlainCommit}
 use Rattle.ct_word.specs.Reading.{commits_of}
@@ -16,9 +16,7 @@ use Rattle.ct_algebra.specs.declared.error.EvalError.TheVariants as eval
 use Rattle.ct_parse.specs.declared.tree.Statement.{Statement}
 use Rattle.ct_resolve.specs.declared.error.ResolveError.{ResolveError}
 use Rattle.ct_resolve.specs.declared.error.ResolveError.TheVariants as name
-use Rattle.ct_rewrite.specs.declared.history.Commit.{Commit}
 use Rattle.ct_transcript.specs.declared.reply.Answer.{Answer}
-use Rattle.ct_transcript.specs.declared.reply.Reply.{Reply}
 use Rattle.ct_transcript.specs.declared.reply.Reply.TheVariants as reply
 use Rattle.ct_transcript.specs.declared.reply.Refusal.{Refusal}
 use Rattle.ct_transcript.specs.declared.reply.Refusal.TheVariants as refusal
@@ -27,7 +25,7 @@ use Rattle.ct_session.specs.Built.{IsBuilt}
 use Rattle.ct_session.specs.Answers.{commits_by, Answers}
 use Rattle.ct_session.specs.declared.session.Offer.{Offer}
 use Rattle.ct_session.specs.declared.session.Prepared.TheVariants as prepared
-use Rattle.ct_session.specs.Catalogue.{IsReady, IsOfferFor, IsPrepared, IsPreparedText, IsRefusedStatement, IsRefusedText, IsWant, IsUnmet, IsUnmetAt, unread, wanting_memory, refused, logged, resolved_at, name_refusal, unevaluated}
+use Rattle.ct_session.specs.Catalogue.{IsReady, IsPrepared, IsPreparedText, IsRefusedStatement, IsRefusedText, IsWant, IsUnmet, unread, wanting_memory, refused, logged, resolved_at, name_refusal, unevaluated}
 use Rattle.ct_session.proofs.Going.{state_at}
 use Rattle.ct_session.proofs.Offers.{answers_refused, is_unread, is_name_fault, is_not_yet, is_too_large, is_too_many, is_full_at, answers_rows, answers_committed, stays}
 use Rattle.ct_session.proofs.Weights.{action_makes_words}

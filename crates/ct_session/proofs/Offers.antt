@@ -1,6 +1,6 @@
 -- What a statement is answered, when the session's pass has caught up with all commits: each reply is lawful as the words go on.
 use Rattle.std.proofs.Common.{◌≡◌, ℕ, ◌+◌, ◌-◌, ◌<◌, ◌≤◌, Bool, true, false, List, [], ◌∷◌, ◌++◌, length, take, map, refl, ap, sym, subst, inl, ◌∙◌, arith, length-append}
-use Rattle.std.specs.Prelude.{Option, slice_get, Some, None, IfSome, Ok, Err, IsTrue, max, if◌then◌else◌}
+use Rattle.std.specs.Prelude.{slice_get, Some, None, IfSome, Ok, Err, IsTrue, max, if◌then◌else◌}
 use Rattle.std.proofs.lemmas.Bool.{false≢true}
 use Rattle.std.proofs.lemmas.List.{append-nil}
 use mathlib.Core.List.{IsPrefix}
@@ -13,14 +13,13 @@ use Rattle.ct_query.specs.Plain as plain
 use Rattle.ct_query.specs.declared.action.Ask.TheVariants as ask
 use Rattle.ct_query.specs.Agrees.{Agrees}
 use Rattle.ct_query.specs.Schema.{schema}
-use Rattle.ct_query.specs.Patterns.{pattern, count}
+use Rattle.ct_query.specs.Patterns.{count}
 use Rattle.ct_query.specs.Size.{size}
 use Rattle.ct_query.specs.Terms.{term_count}
 use Rattle.ct_algebra.specs.Evaluates.{limit}
 use Rattle.ct_word.specs.Sublist.{IsSublist}
 use Rattle.ct_transcript.specs.declared.reply.Answer.{Answer}
 use Rattle.ct_transcript.specs.Means.{allowed, shown}
-use Rattle.ct_transcript.specs.declared.reply.Reply.{Reply}
 use Rattle.ct_transcript.specs.declared.reply.Reply.TheVariants as reply
 use Rattle.ct_transcript.specs.declared.reply.Refusal.{Refusal}
 use Rattle.ct_transcript.specs.declared.reply.Refusal.TheVariants as refusal
@@ -33,12 +32,12 @@ use Rattle.ct_session.specs.Built.{IsBuilt}
 use Rattle.ct_session.specs.State.{SessionState, carried, drawn}
 use Rattle.ct_session.specs.Seeing.{Sees, ResolvesTo}
 use Rattle.ct_session.specs.LawfulRefusal.{TERMS, IsUnread, IsNameFault, IsNotYet, IsTooLarge, IsFull, IsTooManyTerms, LawfulRefusal}
-use Rattle.ct_session.specs.LawfulReply.{IsRows, IsCommittedAlone, LawfulReply}
-use Rattle.ct_session.specs.Answers.{committed_of, version_of, is_full, is_of_text, commits_by, GoesOn, Answers}
-use Rattle.ct_session.specs.Catalogue.{logged, IsAnswerFor, IsPast, IsFilled, IsManyTerms, IsUnmetAt, resolved_at}
-use Rattle.ct_session.proofs.Going.{state_at, prefix_short, prefix_first, IsOnward, onward}
+use Rattle.ct_session.specs.LawfulReply.{IsRows, IsCommittedAlone}
+use Rattle.ct_session.specs.Answers.{is_full, is_of_text, commits_by, GoesOn, Answers}
+use Rattle.ct_session.specs.Catalogue.{logged, IsAnswerFor, IsUnmetAt, resolved_at}
+use Rattle.ct_session.proofs.Going.{state_at, prefix_short, IsOnward, onward}
 use Rattle.ct_session.proofs.Own.{commits_split, one_by}
-use Rattle.ct_session.proofs.Sameness.{commits_back, StandsAs, same_commit}
+use Rattle.ct_session.proofs.Sameness.{commits_back, same_commit}
 use Rattle.ct_session.proofs.Weights.{makes_words_still}
 
 last_of : (h : List PlainCommit) (c : PlainCommit) → slice_get (h ++ c ∷ []) (length h) ≡ Some c

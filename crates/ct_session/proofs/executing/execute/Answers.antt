@@ -1,10 +1,9 @@
-use Rattle.std.proofs.Common.{◌≡◌, ◌+◌, ◌≤◌, [], ap, sym, subst, ◌∙◌, length, arith}
+use Rattle.std.proofs.Common.{◌+◌, ◌≤◌, [], ap, sym, subst, ◌∙◌, length}
 use Rattle.ct_word.specs.Reading.{commits_of}
 use Rattle.ct_word.proofs.Prefixes.{prefix_same}
 use Rattle.ct_table.specs.Denotes.{Denotes}
 use Rattle.ct_transcript.specs.declared.reply.Refusal.TheVariants as refusal
 use Rattle.ct_session.specs.Catalogue.{IsAdmittedEverywhere, IsPreparedText, IsReady, CommitOf, wanting_memory}
-use Rattle.ct_session.specs.declared.session.Prepared.TheVariants as prepared
 use Rattle.ct_session.proofs.Answering.{ready_of}
 use Rattle.ct_session.proofs.Committing.{how_many, catalogue_stays}
 use Rattle.ct_session.proofs.Caught.{session_kept, mine_kept, refused_so, answered_so, offered_so, one_more_at_most, before_same, after_same}

@@ -1,4 +1,4 @@
-use Rattle.std.proofs.Common.{◌≡◌, ◌+◌, [], ◌∷◌, map, ap, sym, subst, ◌∙◌, length}
+use Rattle.std.proofs.Common.{◌≡◌, ◌+◌, [], ◌∷◌, map, ap, sym, subst, ◌∙◌}
 use Rattle.std.specs.Prelude.{Some, sum_by, count_by}
 use Rattle.ct_session.specs.State.{is_fresh}
 use Rattle.ct_table.specs.Denotes.{find_table}

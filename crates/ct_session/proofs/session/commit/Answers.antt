@@ -1,4 +1,4 @@
-use Rattle.std.proofs.Common.{◌≡◌, ◌+◌, ◌++◌, [], ◌∷◌, refl, ap, sym, subst, ◌∙◌, length}
+use Rattle.std.proofs.Common.{◌+◌, ◌++◌, [], ◌∷◌, refl, ap, sym, subst, ◌∙◌, length}
 use mathlib.Core.List.{IsPrefix}
 use Rattle.ct_arena.specs.Seen.{pass_of}
 use Rattle.ct_transcript.specs.declared.reply.Reply.TheVariants as reply
@@ -6,7 +6,7 @@ use Rattle.ct_transcript.specs.declared.reply.Refusal.TheVariants as refusal
 use Rattle.ct_word.specs.declared.kinds.Class.TheVariants as class
 use Rattle.ct_word.specs.Reading.{commits_of}
 use Rattle.ct_word.proofs.Prefixes.{place_in_prefix, prefix_of_prefix}
-use Rattle.ct_session.specs.Catalogue.{IsCatalogue, logged, CommitOf, committed, filled}
+use Rattle.ct_session.specs.Catalogue.{IsCatalogue, CommitOf, committed, filled}
 use Rattle.ct_session.proofs.Committing.{how_many, still, further, appended_is, more_words}
 use Rattle.ct_session.proofs.session.commit.Goals as goal
 
