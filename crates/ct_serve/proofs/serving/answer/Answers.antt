@@ -16,7 +16,7 @@ loop-statement-init g c =
       progress = subst (λ rs. Progress g.N.Site.log.cap (beginning 1) (state_of s.pass s.history.items s.fresh) opening s.pass.words [] rs) (sym c.in_ok-replies.ensures.items)
           (nothing_done g.N.Site.log.cap s.pass s.keeper s.tables s.history.items s.fresh c.requires.kept c.requires.begins c.requires.none_drawn c.requires.opens);
       count = ap (λ l. length l) c.in_ok-replies.ensures.items;
-      room = let cap = c.in_ok-replies.ensures.capacity in let n = c.len.ensures in omega (arith, cap, n);
+      room = let cap = c.in_ok-replies.ensures.capacity in omega (arith, cap);
     }
 
 pub loop-statement-preserved : goal.loop-statement-preserved
