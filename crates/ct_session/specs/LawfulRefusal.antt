@@ -21,21 +21,10 @@ use Rattle.ct_transcript.specs.declared.reply.Refusal.{Refusal}
 use Rattle.ct_transcript.specs.declared.reply.Refusal.TheVariants as refusal
 use Rattle.ct_resolve.specs.declared.error.ResolveError.{ResolveError}
 use Rattle.ct_resolve.specs.declared.error.ResolveError.TheVariants as name
-use Rattle.ct_session.specs.Built.{IsBuilt}
 use Rattle.ct_session.specs.Statements.{IsTextFault}
 use Rattle.ct_session.specs.State.{Transaction, SessionState, carried, own_actions, with_transaction}
-use Rattle.ct_session.specs.Seeing.{Sees, ResolvesTo, Asks, Orders, query_in}
-
--- whether a statement asks of all worlds at once, so that its terms are counted
-abbrev pub asks_of_worlds : PlainStatement → Bool
-asks_of_worlds (plain.Asks ask.Possible columns q) = true
-asks_of_worlds (plain.Asks ask.Certain columns q) = true
-asks_of_worlds (plain.Act (plain.Assert c)) = true
-asks_of_worlds _ = false
-
--- the most distinct terms that a statement may ask about
-abbrev pub TERMS : ℕ
-TERMS = 64
+use Rattle.ct_session.specs.Seeing.{Sees, ResolvesTo, Asks, Orders}
+use Rattle.ct_statement.specs.Unmet.{query_in, asks_of_worlds, TERMS}
 
 -- H is the run's history, W the words of its log, N their capacity
 module _ (H : List PlainCommit) (W : List ℕ) (N : ℕ) where
@@ -48,7 +37,6 @@ module _ (H : List PlainCommit) (W : List ℕ) (N : ℕ) where
   pub record IsInTransaction (s : SessionState) (x : List ℕ) (at : ℕ) : Type 0 where
     pub is_open : IsSome s.transaction
     pub asks : Orders H s x plain.Begin
-    pub built : IsBuilt asks.statement
     pub at_is : at ≡ s.seen
 
   -- COMMIT or ROLLBACK outside a transaction
@@ -57,7 +45,6 @@ module _ (H : List PlainCommit) (W : List ℕ) (N : ℕ) where
     pub statement : PlainStatement
     pub ends : (statement ≡ plain.Commit) ⊎ (statement ≡ plain.Rollback)
     pub asks : Orders H s x statement
-    pub built : IsBuilt asks.statement
     pub at_is : at ≡ s.seen
 
   -- the text is a statement with a name or a count that does not fit what it sees; this is its first fault
@@ -65,14 +52,6 @@ module _ (H : List PlainCommit) (W : List ℕ) (N : ℕ) where
     pub actions : List PlainAction
     pub sees : Sees H s at actions
     pub found : ResolvesTo H s x at actions (Err e)
-
-  -- the text is a statement without a fault, in a form that is not built
-  pub record IsNotYet (s : SessionState) (x : List ℕ) (at : ℕ) : Type 0 where
-    pub actions : List PlainAction
-    pub statement : PlainStatement
-    pub sees : Sees H s at actions
-    pub asks : Asks H s x at actions statement
-    pub not_built : IsBuilt asks.statement → ⊥
 
   -- a statement with a query whose greatest part goes through more rows, or pairs of rows, than a part may, by the counts
   -- of all rows that were ever inserted
@@ -82,7 +61,6 @@ module _ (H : List PlainCommit) (W : List ℕ) (N : ℕ) where
     pub query : PlainQuery
     pub sees : Sees H s at actions
     pub asks : Asks H s x at actions statement
-    pub built : IsBuilt asks.statement
     pub evaluates : query_in statement ≡ Some query
     pub past : limit < size (count (take at H) actions) query
 
@@ -92,7 +70,6 @@ module _ (H : List PlainCommit) (W : List ℕ) (N : ℕ) where
     pub statement : PlainStatement
     pub sees : Sees H s at actions
     pub asks : Asks H s x at actions statement
-    pub built : IsBuilt asks.statement
     pub full : length W ≡ N
     pub makes_words : 1 ≤ bound (count H actions) (own_actions s) statement
 
@@ -103,7 +80,6 @@ module _ (H : List PlainCommit) (W : List ℕ) (N : ℕ) where
     pub statement : PlainStatement
     pub sees : Sees H s at actions
     pub asks : Asks H s x at actions statement
-    pub built : IsBuilt asks.statement
     pub of_worlds : asks_of_worlds statement ≡ true
     pub past : TERMS < term_count (take at (commits_of W)) actions statement
 
@@ -113,7 +89,6 @@ module _ (H : List PlainCommit) (W : List ℕ) (N : ℕ) where
     pub condition : Condition
     pub sees : Sees H s at actions
     pub asks : Asks H s x at actions (plain.Act (plain.Assert condition))
-    pub built : IsBuilt asks.statement
     pub none_satisfies : (v : World) → admits v (take at H) (actions ++ plain.Assert condition ∷ []) ≡ false
     pub accepted : AcceptsProof W proof
     pub root : (v : World) → holds_at v (condition_at W proof.root) ≡ admits v (take at H) (actions ++ plain.Assert condition ∷ [])
@@ -123,7 +98,6 @@ module _ (H : List PlainCommit) (W : List ℕ) (N : ℕ) where
     pub transaction : Transaction
     pub is_open : s.transaction ≡ Some transaction
     pub asks : Orders H s x plain.Commit
-    pub built : IsBuilt asks.statement
     pub has_actions : 0 < length transaction.actions
     pub base_is : base ≡ transaction.base
     pub reads_are : reads ≡ transaction.reads
@@ -133,7 +107,6 @@ module _ (H : List PlainCommit) (W : List ℕ) (N : ℕ) where
     pub none_open : s.transaction ≡ None
     pub action : PlainAction
     pub asks : Asks H s x base [] (plain.Act action)
-    pub built : IsBuilt asks.statement
     pub from_seen : s.seen ≤ base
     pub reads_are : reads ≡ action_reads action
 
@@ -174,7 +147,6 @@ module _ (H : List PlainCommit) (W : List ℕ) (N : ℕ) where
   LawfulRefusal s x at refusal.AmbiguousColumn next = IsNameFault s x at name.AmbiguousColumn × Keeps s at next
   LawfulRefusal s x at refusal.DuplicateName next = IsNameFault s x at name.DuplicateName × Keeps s at next
   LawfulRefusal s x at refusal.ColumnCount next = IsNameFault s x at name.ColumnCount × Keeps s at next
-  LawfulRefusal s x at refusal.NotYet next = IsNotYet s x at × Keeps s at next
   LawfulRefusal s x at refusal.TooLarge next = IsTooLarge s x at × Keeps s at next
   LawfulRefusal s x at refusal.Full next = IsFull s x at × Keeps s at next
   LawfulRefusal s x at refusal.TooManyTerms next = IsTooManyTerms s x at × Keeps s at next

@@ -18,8 +18,8 @@ use Rattle.ct_transcript.specs.declared.reply.Reply.TheVariants as reply
 use Rattle.ct_transcript.specs.Means.{IsAnswer, Means}
 use Rattle.ct_transcript.specs.Possible.{PossibleRight}
 use Rattle.ct_transcript.specs.Certain.{CertainRight}
-use Rattle.ct_session.specs.Built.{IsBuilt}
-use Rattle.ct_session.specs.State.{Transaction, SessionState, carried, with_transaction, opened, drawn, extended}
+use Rattle.ct_session.specs.State.{Transaction, SessionState, carried, with_transaction, opened, extended}
+use Rattle.ct_statement.specs.Drawing.{drawn}
 use Rattle.ct_session.specs.Seeing.{Sees, Asks, Orders, IsCommit}
 use Rattle.ct_session.specs.LawfulRefusal.{LawfulRefusal}
 
@@ -29,7 +29,6 @@ module _ (H : List PlainCommit) (W : List ℕ) (N : ℕ) where
   pub record IsBegun (s : SessionState) (x : List ℕ) (at : ℕ) (next : SessionState) : Type 0 where
     pub none_open : s.transaction ≡ None
     pub asks : Orders H s x plain.Begin
-    pub built : IsBuilt asks.statement
     pub from_seen : s.seen ≤ at
     pub within : at ≤ length H
     pub next_is : next ≡ carried at (with_transaction (Some (opened at)) s)
@@ -38,7 +37,6 @@ module _ (H : List PlainCommit) (W : List ℕ) (N : ℕ) where
   pub record IsRolledBack (s : SessionState) (x : List ℕ) (next : SessionState) : Type 0 where
     pub is_open : IsSome s.transaction
     pub asks : Orders H s x plain.Rollback
-    pub built : IsBuilt asks.statement
     pub next_is : next ≡ with_transaction None s
 
   -- an action in a transaction, kept until COMMIT; some valuation is admitted after it
@@ -48,7 +46,6 @@ module _ (H : List PlainCommit) (W : List ℕ) (N : ℕ) where
     pub is_open : IsSome s.transaction
     pub sees : Sees H s at actions
     pub asks : Asks H s x at actions (plain.Act action)
-    pub built : IsBuilt asks.statement
     pub plus_is : plus ≡ length actions + 1
     pub leaves : (v : World) × IsTrue (admits v (take at H) (actions ++ action ∷ []))
     pub next_is : next ≡ carried at (extended (plain.Act action) s)
@@ -59,7 +56,6 @@ module _ (H : List PlainCommit) (W : List ℕ) (N : ℕ) where
     pub commit : PlainCommit
     pub none_open : s.transaction ≡ None
     pub asks : Asks H s x (m - 1) [] (plain.Act action)
-    pub built : IsBuilt asks.statement
     pub later : s.seen < m
     pub stands : IsCommit H m commit
     pub session : commit.session ≡ s.session
@@ -73,7 +69,6 @@ module _ (H : List PlainCommit) (W : List ℕ) (N : ℕ) where
     pub commit : PlainCommit
     pub is_open : s.transaction ≡ Some transaction
     pub asks : Orders H s x plain.Commit
-    pub built : IsBuilt asks.statement
     pub has_actions : 0 < length transaction.actions
     pub later : transaction.base < m
     pub unchanged : All (λ r. last (take (m - 1) H) r ≤ transaction.base) transaction.reads
@@ -88,7 +83,6 @@ module _ (H : List PlainCommit) (W : List ℕ) (N : ℕ) where
     pub transaction : Transaction
     pub is_open : s.transaction ≡ Some transaction
     pub asks : Orders H s x plain.Commit
-    pub built : IsBuilt asks.statement
     pub no_actions : transaction.actions ≡ []
     pub at_is : at ≡ transaction.base
     pub next_is : next ≡ carried at (with_transaction None s)
@@ -99,7 +93,6 @@ module _ (H : List PlainCommit) (W : List ℕ) (N : ℕ) where
     pub query : PlainQuery
     pub sees : Sees H s at actions
     pub asks : Asks H s x at actions (plain.Asks ask.Rows answer.columns query)
-    pub built : IsBuilt asks.statement
     pub plus_is : plus ≡ length actions
     pub formed : IsAnswer answer
     pub means : Means answer query (take at H) actions
@@ -112,7 +105,6 @@ module _ (H : List PlainCommit) (W : List ℕ) (N : ℕ) where
     pub query : PlainQuery
     pub sees : Sees H s at actions
     pub asks : Asks H s x at actions (plain.Asks ask.Possible columns query)
-    pub built : IsBuilt asks.statement
     pub plus_is : plus ≡ length actions
     pub right : PossibleRight list query (take at H) actions
     pub next_is : next ≡ carried at (extended (plain.Asks ask.Possible columns query) s)
@@ -123,7 +115,6 @@ module _ (H : List PlainCommit) (W : List ℕ) (N : ℕ) where
     pub query : PlainQuery
     pub sees : Sees H s at actions
     pub asks : Asks H s x at actions (plain.Asks ask.Certain columns query)
-    pub built : IsBuilt asks.statement
     pub plus_is : plus ≡ length actions
     pub right : CertainRight list query (take at H) actions W
     pub next_is : next ≡ carried at (extended (plain.Asks ask.Certain columns query) s)

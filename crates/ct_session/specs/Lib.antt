@@ -1,10 +1,11 @@
 pub mod Statements
-pub mod Built
 pub mod State
 pub mod Seeing
 pub mod LawfulRefusal
 pub mod LawfulReply
 pub mod Answers
-pub mod Printed
-pub mod Catalogue
-pub mod Asking
+pub mod Sessions
+pub mod Prepared
+pub mod Executes
+pub mod Orders
+pub mod Replying

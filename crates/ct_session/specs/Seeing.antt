@@ -10,12 +10,6 @@ use Rattle.ct_resolve.specs.Statements.{resolved}
 use Rattle.ct_session.specs.Statements.{ReadsAs}
 use Rattle.ct_session.specs.State.{Transaction, SessionState}
 
--- the query that a statement evaluates, if it evaluates one
-abbrev pub query_in : PlainStatement → Option PlainQuery
-query_in (plain.Asks k columns q) = Some q
-query_in (plain.Act (plain.InsertQuery name q)) = Some q
-query_in _ = None
-
 -- H is the run's history
 module _ (H : List PlainCommit) where
   -- the version and the actions that a statement sees: in a transaction its base and its own actions,

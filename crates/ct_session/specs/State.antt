@@ -1,13 +1,11 @@
 -- What a session keeps between its statements.
-use Rattle.std.specs.Prelude.{ℕ, ◌+◌, max, List, [], ◌∷◌, ◌++◌, Option, Some, None, option_map, sum_by, count_by, Bool, true, false}
-use Rattle.ct_word.specs.declared.values.Term.{Term}
-use Rattle.ct_word.specs.declared.values.Term.TheVariants as term
-use Rattle.ct_word.specs.declared.values.Null.TheVariants as null
+use Rattle.std.specs.Prelude.{ℕ, ◌+◌, max, List, [], ◌∷◌, ◌++◌, Option, Some, None, option_map, sum_by}
 use Rattle.ct_query.specs.Plain.{PlainAction}
 use Rattle.ct_query.specs.Plain as plain
 use Rattle.ct_query.specs.declared.action.Read.{Read}
 use Rattle.ct_query.specs.Plain.{PlainStatement}
 use Rattle.ct_query.specs.Reads.{reads_of, with_reads}
+use Rattle.ct_statement.specs.Drawing.{drawn}
 
 -- an open transaction: its base, its own actions, its reads
 pub record Transaction : Type 0 where
@@ -43,16 +41,6 @@ with_transaction t s = record s { transaction = t }
 -- the transaction as BEGIN opens it
 abbrev pub opened : ℕ → Transaction
 opened at = record { base = at; actions = []; reads = [] }
-
--- whether a term is a fresh null
-abbrev pub is_fresh : Term → Bool
-is_fresh (term.Null (null.Fresh s n)) = true
-is_fresh _ = false
-
--- how many numbers of fresh nulls an action draws
-abbrev pub drawn : PlainAction → ℕ
-drawn (plain.InsertRows name rs p) = sum_by (count_by is_fresh) rs
-drawn _ = 0
 
 -- the action that a statement is, if it is one
 abbrev pub actions_of : PlainStatement → List PlainAction

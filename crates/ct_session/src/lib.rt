@@ -1,20 +1,18 @@
 //! One statement of one session: from its text to what it does to the session, and the reply to it.
 #![tactic(auto)]
 
-mod asking;
-mod built;
-mod certainty;
-mod creating;
+mod alone;
+mod committing;
 mod executing;
-mod inserting;
-mod lists;
-mod printing;
+mod extending;
+mod offering;
+mod orders;
+mod preparing;
 mod reading;
 mod replying;
-mod selecting;
 mod session;
+mod within;
 
 pub use executing::execute;
-pub use lists::list_of_one;
 pub use reading::read;
-pub use session::Session;
+pub use session::{Open, Session};

@@ -1,7 +1,0 @@
-use Rattle.std.proofs.Common.{◌≡◌, take}
-use Rattle.std.specs.Prelude.{sum_by, count_by}
-use Rattle.ct_session.specs.State.{is_fresh}
-use Rattle.ct_session.proofs.inserting.drawn.Given as goal
-
-abbrev pub invariant-loop-terms : goal.invariant-loop-terms
-invariant-loop-terms l = l.count ≡ sum_by (count_by is_fresh) (take l.terms-index l.rows)

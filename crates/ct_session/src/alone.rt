@@ -1,0 +1,38 @@
+// A statement outside a transaction that is no order.
+
+ghost use Rattle.std.specs.Prelude.{◌≡◌, ◌<◌, ◌^◌, IsNone};
+ghost use Rattle.ct_session.specs.Executes.{Executes};
+ghost use Rattle.ct_session.specs.Prepared.{IsNoOrder};
+ghost use Rattle.ct_session.specs.Sessions.{IsSession, state_of};
+ghost use Rattle.ct_session.specs.Statements.{IsWritten};
+
+use crate::session::Session;
+use ct_arena::{Arena, Site};
+use ct_keeper::Keeper;
+use ct_parse::Statement;
+use ct_transcript::{Refusal, Reply};
+use std::alloc::Global;
+
+/// Executes a statement outside a transaction that is no BEGIN, COMMIT or ROLLBACK: it sees the newest version. An action
+/// is committed at once.
+pub(crate) fn alone<N: Site>(
+    alloc: Global,
+    arena: &Arena<N>,
+    keeper: &mut Keeper<N>,
+    session: Session<N>,
+    statement: &Statement,
+) -> (Session<N>, Reply)
+    requires session { IsSession session.pass.words session.seen session.open }
+    requires few { session.pass.mine < 2 ^ 18 }
+    requires none { IsNone session.open }
+    requires written { IsWritten statement.now }
+    requires plain { IsNoOrder statement.now }
+    ensures session { IsSession result.0.pass.words result.0.seen result.0.open }
+    ensures executes { Executes N.log.cap (state_of session.pass session.seen session.fresh session.open) (state_of result.0.pass result.0.seen result.0.fresh result.0.open) session.pass.words result.0.pass.words statement.now result.1 }
+{
+    let _words = session.pass.words();
+    let _ = (alloc, arena, keeper, statement);
+    let at = session.seen;
+    let why = Refusal::Memory;
+    (session, Reply::Refused { at, why })
+}

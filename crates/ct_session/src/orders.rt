@@ -1,0 +1,102 @@
+// BEGIN, ROLLBACK, and COMMIT or BEGIN in the wrong place.
+
+ghost use Rattle.std.specs.Prelude.{◌≡◌, IsNone, IsSome};
+ghost use Rattle.ct_parse.specs.declared.tree.Statement.TheVariants as tree;
+ghost use Rattle.ct_session.specs.Executes.{Executes};
+ghost use Rattle.ct_session.specs.Orders.{IsMisplaced};
+ghost use Rattle.ct_session.specs.Sessions.{IsSession, state_of};
+
+use crate::session::{Open, Session};
+use ct_arena::{Arena, Site};
+use ct_keeper::Keeper;
+use ct_parse::Statement;
+use ct_statement::Sight;
+use ct_transcript::{Refusal, Reply};
+use ct_word::List;
+use std::alloc::Global;
+
+/// BEGIN outside a transaction: opens one at the newest version.
+pub(crate) fn begin<N: Site>(
+    alloc: Global,
+    arena: &Arena<N>,
+    keeper: &mut Keeper<N>,
+    session: Session<N>,
+    statement: &Statement,
+) -> (Session<N>, Reply)
+    requires session { IsSession session.pass.words session.seen session.open }
+    requires none { IsNone session.open }
+    requires order { statement.now ≡ tree.Begin }
+    ensures session { IsSession result.0.pass.words result.0.seen result.0.open }
+    ensures executes { Executes N.log.cap (state_of session.pass session.seen session.fresh session.open) (state_of result.0.pass result.0.seen result.0.fresh result.0.open) session.pass.words result.0.pass.words statement.now result.1 }
+{
+    let Session {
+        pass, seen, fresh, ..
+    } = session;
+    let _ = pass.words();
+    let (pass, snapshot) = keeper.begin(alloc, arena, pass);
+    let _words = pass.words();
+    let Ok(snapshot) = snapshot else {
+        let open = None;
+        let session = Session {
+            pass,
+            seen,
+            fresh,
+            open,
+        };
+        let why = Refusal::Memory;
+        return (session, Reply::Refused { at: seen, why });
+    };
+    let at = snapshot.version;
+    let open = Open {
+        sight: Sight::of(alloc, snapshot),
+        changes: None,
+        reads: List::new(alloc),
+    };
+    let session = Session {
+        pass,
+        seen: at,
+        fresh,
+        open: Some(open),
+    };
+    (session, Reply::Begun { at })
+}
+
+/// ROLLBACK in a transaction: gives it up.
+pub(crate) fn roll_back<N: Site>(
+    session: Session<N>,
+    statement: &Statement,
+) -> (Session<N>, Reply)
+    requires session { IsSession session.pass.words session.seen session.open }
+    requires some { IsSome session.open }
+    requires order { statement.now ≡ tree.Rollback }
+    ensures session { IsSession result.0.pass.words result.0.seen result.0.open }
+    ensures executes { Executes N.log.cap (state_of session.pass session.seen session.fresh session.open) (state_of result.0.pass result.0.seen result.0.fresh result.0.open) session.pass.words result.0.pass.words statement.now result.1 }
+{
+    let Session {
+        pass, seen, fresh, ..
+    } = session;
+    let _words = pass.words();
+    let session = Session {
+        pass,
+        seen,
+        fresh,
+        open: None,
+    };
+    (session, Reply::RolledBack)
+}
+
+/// The refusal of BEGIN in a transaction, and of COMMIT or ROLLBACK outside one.
+pub(crate) fn refused_here<N: Site>(
+    session: Session<N>,
+    statement: &Statement,
+    why: Refusal,
+) -> (Session<N>, Reply)
+    requires session { IsSession session.pass.words session.seen session.open }
+    requires misplaced { IsMisplaced session.open statement.now why }
+    ensures session { IsSession result.0.pass.words result.0.seen result.0.open }
+    ensures executes { Executes N.log.cap (state_of session.pass session.seen session.fresh session.open) (state_of result.0.pass result.0.seen result.0.fresh result.0.open) session.pass.words result.0.pass.words statement.now result.1 }
+{
+    let _words = session.pass.words();
+    let at = session.seen;
+    (session, Reply::Refused { at, why })
+}

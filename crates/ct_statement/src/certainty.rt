@@ -1,0 +1,58 @@
+// Questions about a query: which of its tuples are certain.
+
+ghost use Rattle.std.specs.Prelude.{◌≡◌, List, ℕ, length, IfOk, IfErr};
+ghost use mathlib.Core.List.{IsPrefix};
+ghost use Rattle.ct_query.specs.Fits.{Fits, width};
+ghost use Rattle.ct_query.specs.Plain as plain;
+ghost use Rattle.ct_query.specs.Schema.{schema};
+ghost use Rattle.ct_query.specs.Views.{query_of};
+ghost use Rattle.ct_query.specs.declared.action.Ask.TheVariants as ask;
+ghost use Rattle.ct_history.specs.Kept.{kept_of};
+ghost use Rattle.ct_transcript.specs.Certain.{CertainRight};
+ghost use Rattle.ct_statement.specs.Sight.{IsSight, actions_before, history_of};
+ghost use Rattle.ct_statement.specs.Unmet.{IsUnmet};
+
+use crate::asking::answered;
+use crate::refusing::unlisted;
+use crate::sight::Sight;
+use ct_arena::{Arena, Pass, Site};
+use ct_certain::certain;
+use ct_query::Query;
+use ct_rewrite::CertainRow;
+use ct_transcript::Refusal;
+use ct_word::List;
+use std::alloc::Global;
+
+/// The tuples that a query has in every world, each with a refutation of its absence. The pass has the words of the
+/// questions, over which the refutations are accepted.
+///
+/// # Errors
+/// `TooLarge` where a part of the query goes through more than 1,048,576 rows or pairs of rows, `Full` where the log
+/// has no room, `TooManyTerms` where the statement asks about more than 64 terms, one more for each column counted,
+/// `Memory`.
+pub fn certain_rows<N: Site>(
+    alloc: Global,
+    arena: &Arena<N>,
+    pass: &mut Pass<N>,
+    sight: &Sight,
+    query: &Query,
+) -> Result<List<CertainRow>, Refusal>
+    requires sight { IsSight pass.old.words sight.now }
+    requires fits { Fits (schema (history_of pass.old.words sight.now) (actions_before sight.now)).tables (query_of query.now) }
+    ensures longer { IsPrefix pass.old.words pass.new.words }
+    ensures kept { kept_of pass.new ≡ kept_of pass.old }
+    ensures ok { IfOk result (λ list. CertainRight list (query_of query.now) (history_of pass.old.words sight.now) (actions_before sight.now) pass.new.words) }
+    ensures err { (columns : List (List ℕ)) → length columns ≡ width (schema (history_of pass.old.words sight.now) (actions_before sight.now)).tables (query_of query.now) → IfErr result (IsUnmet (history_of pass.old.words sight.now) (actions_before sight.now) N.log.cap pass.new.words (plain.Asks ask.Certain columns (query_of query.now))) }
+{
+    let table = match answered(alloc, arena, pass, sight, query) {
+        Ok(table) => table,
+        Err(why) => return Err(why),
+    };
+    let _ = pass.words();
+    let made = pass.made();
+    let list = match certain(alloc, arena, pass, &table, sight.global, &sight.kept) {
+        Ok(list) => list,
+        Err(e) => return Err(unlisted(e, made, pass.made())),
+    };
+    Ok(list)
+}

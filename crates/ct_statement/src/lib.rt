@@ -1,0 +1,20 @@
+//! What a statement asks for, at what it sees: the answer to a query, or a change that is proposed.
+#![tactic(auto)]
+
+mod advancing;
+mod asking;
+mod certainty;
+mod drawing;
+mod printing;
+mod proposing;
+mod refusing;
+mod replying;
+mod selecting;
+mod sight;
+mod stepping;
+
+pub use advancing::advance;
+pub use proposing::{Proposal, propose};
+pub use replying::{Answered, answer_to};
+pub use sight::Sight;
+pub use stepping::{Step, step_of};
