@@ -73,6 +73,24 @@ impl<N: Site> Keeper<N> {
         self.pass
     }
 
+    /// A snapshot of all commits.
+    ///
+    /// # Errors
+    /// `Memory` where there is none to share the tables.
+    fn snapshot(&mut self, alloc: Global) -> Result<Snapshot, Memory>
+        ensures snapshot { IfOk result (IsNewest self.new.words) }
+        ensures same { self.new ≡ self.old }
+    {
+        let db = self.tables.share(alloc)?;
+        let kept = Arc::try_clone(&self.kept)?;
+        Ok(Snapshot {
+            version: self.version,
+            db,
+            global: self.global,
+            kept,
+        })
+    }
+
     /// A snapshot of all commits, for the session of this pass, which then has all words that the keeper has.
     ///
     /// # Errors
@@ -89,8 +107,12 @@ impl<N: Site> Keeper<N> {
         ensures pass { tally_of result.0 ≡ tally_of pass }
         ensures stays { Stays self.old self.new }
     {
-        let _ = (alloc, arena);
-        (pass, Err(Memory))
+        let guest = self.pass.enter(arena, pass);
+        // The words are well formed, which keeps the tables as words come.
+        let _ = self.pass.words();
+        let pass = self.pass.leave(arena, guest);
+        let snapshot = self.snapshot(alloc);
+        (pass, snapshot)
     }
 
     /// Commits an offer of the session of this pass, which then has all words that the keeper has.
@@ -116,7 +138,12 @@ impl<N: Site> Keeper<N> {
         ensures longer { IsPrefix pass.words result.0.words }
         ensures session { result.0.session ≡ pass.session }
     {
-        let _ = (alloc, arena, offer);
+        let _ = alloc;
+        let _ = offer;
+        let guest = self.pass.enter(arena, pass);
+        // The words are well formed, which keeps the tables as words come.
+        let _ = self.pass.words();
+        let pass = self.pass.leave(arena, guest);
         (pass, Err(KeeperError::Memory))
     }
 }
