@@ -56,9 +56,16 @@ impl<N: Site> Keeper<N> {
         ensures words { IfOk result (λ k. k.words ≡ pass.words) }
         ensures ended { IfOk result (λ k. k.ended ≡ pass.ended) }
     {
-        let _ = alloc;
-        drop(pass);
-        Err(Memory)
+        // A log without commits begins with the word true, which is its global condition.
+        let _ = pass.words();
+        let kept = Arc::new(alloc, List::new(alloc))?;
+        Ok(Keeper {
+            pass,
+            tables: Tables::empty(alloc),
+            global: 0,
+            kept,
+            version: 0,
+        })
     }
 
     /// The log's keeper pass, with the keeper's words. It takes no memory. Some valuation is admitted by the commits in
