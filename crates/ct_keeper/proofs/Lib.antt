@@ -1,2 +1,4 @@
+pub mod Finding
 pub mod Doing
 pub mod Standing
+pub mod Walking
