@@ -2,3 +2,5 @@ pub mod Doing
 pub mod Standing
 pub mod Unchanged
 pub mod Interning
+pub mod Longer
+pub mod Making
