@@ -129,15 +129,26 @@ def tables_of(query):
     return [name for name, _ in query[2]]
 
 
+def is_plainly_true(condition):
+    """Tells whether a condition is the word true."""
+    return condition[0] == "true" or (condition[0] in ("and", "or") and all(map(is_plainly_true, condition[1])))
+
+
 def relevant(changes, tables):
-    """Returns the changes that these tables depend on, and all assertions."""
-    wanted, found = set(tables), []
+    """Returns the changes that these tables depend on, and all assertions. What a table had before all of its rows were
+    deleted is left out."""
+    wanted, emptied, found = set(tables), set(), []
     for change in reversed(changes):
         kind, name = change[0][:2]
-        if kind == "assert" or name in wanted:
+        if kind == "assert":
             found.append(change)
-        if kind == "insert query" and name in wanted:
-            wanted |= set(tables_of(change[0][2]))
+        elif kind == "create" and name in wanted or name in wanted - emptied:
+            found.append(change)
+            if kind == "insert query":
+                wanted |= set(tables_of(change[0][2]))
+                emptied -= set(tables_of(change[0][2]))
+            elif kind == "delete" and is_plainly_true(change[0][2]):
+                emptied.add(name)
     return found[::-1]
 
 
@@ -162,15 +173,18 @@ def valuations(trees):
 
 
 def pattern(query, patterns):
-    """Returns the rows that a query combines, in order, whatever their conditions: cells of terms. `patterns` has for each
-    table its columns and the rows that were ever inserted."""
+    """Gives one after another the rows that a query combines, in order, whatever their conditions: cells of terms.
+    `patterns` has for each table its columns and the rows that were ever inserted."""
     if query[0] in OPERATORS:
-        left = pattern(query[1], patterns)
-        return left + pattern(query[2], patterns) if query[0] == "union" else left
+        yield from pattern(query[1], patterns)
+        if query[0] == "union":
+            yield from pattern(query[2], patterns)
+        return
     _, items, tables, _ = query
     position = positions(tables, patterns)
-    joined = [sum(parts, ()) for parts in itertools.product(*(patterns[table][1] for table, _ in tables))]
-    return joined if items is None else [tuple(row[position[column[1]]] for column, _ in items) for row in joined]
+    for parts in itertools.product(*(patterns[table][1] for table, _ in tables)):
+        row = sum(parts, ())
+        yield row if items is None else tuple(row[position[column[1]]] for column, _ in items)
 
 
 def patterns_of(changes):
@@ -182,7 +196,7 @@ def patterns_of(changes):
         elif change[0] == "insert":
             found[change[1]][1].extend(change[2])
         elif change[0] == "insert query":
-            found[change[1]][1].extend(pattern(change[2], found))
+            found[change[1]][1].extend(list(pattern(change[2], found)))
     return found
 
 
