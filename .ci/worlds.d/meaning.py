@@ -214,6 +214,6 @@ def size(query, counts):
 
 
 def greatest_part(query, changes):
-    """Returns how many rows or pairs of rows the greatest part of a query goes through, by the rows that were ever inserted."""
+    """Returns how many rows or pairs of rows the greatest part of a query goes through, by all rows ever inserted."""
     counts = {name: len(set(found)) for name, (_, found) in patterns_of(changes).items()}
     return size(query, counts)[1]
