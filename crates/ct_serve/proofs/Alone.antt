@@ -1,9 +1,10 @@
 -- The session at its beginning, after one statement more, and the transcript at its end.
-use Rattle.std.proofs.Common.{◌≡◌, ℕ, zero, suc, ◌+◌, ◌<◌, ◌≤◌, List, [], ◌∷◌, ◌++◌, length, map, take, get_or, refl, ap, sym, subst, ◌∙◌, arith}
+use Rattle.std.proofs.Common.{◌≡◌, ℕ, zero, suc, ◌+◌, ◌<◌, ◌≤◌, List, [], ◌∷◌, ◌++◌, length, map, take, get_or, refl, ap, sym, subst, ◌∙◌, arith, length-append}
 use Rattle.std.specs.Prelude.{Option, Some, None, IsSome, IfSome, IsTrue, All, filter_map, is_some, nat_eq, if◌then◌else◌, Bool, true, false}
 use Rattle.std.proofs.lemmas.List.{append-nil, take_more, take-map, map-append}
+use Rattle.std.proofs.lemmas.List.FromFn.{length-range_with_len}
 use Rattle.std.proofs.lemmas.Bool.{false≢true}
-use Rattle.std.proofs.lemmas.List.Elements.{All-nil, All-head}
+use Rattle.std.proofs.lemmas.List.Elements.{All-head}
 use mathlib.Core.List.{IsPrefix}
 use Rattle.ct_word.specs.Value.{World}
 use Rattle.ct_word.specs.Word.{kind_with}
@@ -32,7 +33,7 @@ use Rattle.ct_session.specs.Answers.{Answers, commits_by, committed_of}
 use Rattle.ct_session.proofs.Own.{own_commits_stay, same_by}
 use Rattle.ct_session.proofs.Sameness.{sessions_same}
 use Rattle.ct_serve.specs.Progress.{IsAtBeginning, Progress}
-use Rattle.ct_serve.specs.Sessions.{AreLawful, AreLawfulSessions}
+use Rattle.ct_serve.specs.Sessions.{AreLawfulSessions}
 use Rattle.ct_serve.specs.Lawful.{Lawful}
 use Rattle.ct_serve.proofs.Progress.{progress_push}
 
@@ -76,16 +77,17 @@ is_session pass seen fresh open' b = record {
 -- how many commits of a session there are, by their numbers and by their places
 by_numbers : (s m : ℕ) (cs : List PlainCommit) → length (commits_by s m cs) ≡ length (numbers_by s cs)
 by_numbers s m [] = refl
-by_numbers s m (c ∷ cs) = by_test (nat_eq c.session s) where
-  by_test : (b : Bool) → length (if b then m ∷ commits_by s (m + 1) cs else commits_by s (m + 1) cs) ≡ length (if b then c.number ∷ numbers_by s cs else numbers_by s cs)
-  by_test true = ap suc (by_numbers s (m + 1) cs)
-  by_test false = by_numbers s (m + 1) cs
+by_numbers s m (c ∷ cs) = by_test (nat_eq c.session s) (by_numbers s (m + 1) cs) where
+  by_test : (b : Bool) → length (commits_by s (m + 1) cs) ≡ length (numbers_by s cs)
+      → length (if b then m ∷ commits_by s (m + 1) cs else commits_by s (m + 1) cs) ≡ length (if b then c.number ∷ numbers_by s cs else numbers_by s cs)
+  by_test true rest = ap suc rest
+  by_test false rest = rest
 
 -- a statement commits at most once
 pub one_more : (N : ℕ) (s next : SessionState) (words words' x : List ℕ) (r : Reply) → Answers N s next words words' x r → AreNumbered s.session s.commits words → AreNumbered next.session next.commits words' → next.commits ≤ s.commits + 1
 one_more N s next words words' x r a before after = by_reply (committed_of r) refl where
   counted : (n : ℕ) (k : ℕ) (ws : List ℕ) → AreNumbered n k ws → length (commits_by n 1 (commits_of ws)) ≡ k
-  counted n k ws e = by_numbers n 1 (commits_of ws) ∙ ap length e ∙ length-range k
+  counted n k ws e = by_numbers n 1 (commits_of ws) ∙ ap length e ∙ length-range_with_len 0 k
 
   same_length : length (commits_by s.session 1 (commits_of words')) ≡ next.commits
   same_length = subst (λ n. length (commits_by n 1 (commits_of words')) ≡ next.commits) a.same (counted next.session next.commits words' after)

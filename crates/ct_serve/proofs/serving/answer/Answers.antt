@@ -1,8 +1,8 @@
-use Rattle.std.proofs.Common.{◌≡◌, ◌<◌, ◌≤◌, ◌+◌, ◌∷◌, [], refl, ap, sym, subst, ◌∙◌, length, map, take, arith, length-append}
+use Rattle.std.proofs.Common.{◌≡◌, ◌<◌, ◌+◌, ◌∷◌, [], refl, ap, sym, subst, ◌∙◌, length, map, take, arith, length-append}
 use Rattle.std.proofs.lemmas.List.{take_all, length-map}
-use Rattle.ct_arena.specs.Counts.{opening, AreNumbered}
+use Rattle.ct_arena.specs.Counts.{opening}
 use Rattle.ct_session.specs.State.{beginning}
-use Rattle.ct_session.specs.Sessions.{IsSession, state_of}
+use Rattle.ct_session.specs.Sessions.{state_of}
 use Rattle.ct_serve.specs.Progress.{Progress}
 use Rattle.ct_serve.proofs.Alone.{nothing_done, is_session, answered, one_more}
 use Rattle.ct_serve.proofs.serving.answer.Goals as goal
@@ -33,9 +33,9 @@ loop-statement-preserved g c =
     let lt : at < length c.args.statements.now = omega arith in
     record {
       session = e.session;
-      numbered = c.words-words.ensures.numbered;
+      numbered = c.words-in-loop-statement.ensures.numbered;
       few =
-          let most = one_more g.N.Site.log.cap (state_of s.pass s.seen s.fresh s.open) (state_of n.pass n.seen n.fresh n.open) s.pass.words n.pass.words _ c.execute-next.result.1 e.answers i.numbered c.words-words.ensures.numbered in
+          let most = one_more g.N.Site.log.cap (state_of s.pass s.seen s.fresh s.open) (state_of n.pass n.seen n.fresh n.open) s.pass.words n.pass.words _ c.execute-next.result.1 e.answers i.numbered c.words-in-loop-statement.ensures.numbered in
           let few = i.few in omega (arith, most, few);
       ended = e.ended ∙ i.ended;
       progress = subst (λ rs. Progress g.N.Site.log.cap (beginning 1) (state_of n.pass n.seen n.fresh n.open) opening n.pass.words (take (at + 1) (map (λ t. t.now) c.args.statements.now)) rs) (sym push.items)

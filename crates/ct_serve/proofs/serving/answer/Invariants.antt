@@ -13,7 +13,7 @@ invariant-loop-statement g l =
       session : IsSession s.pass.words s.seen s.open;
       numbered : AreNumbered s.pass.session s.pass.mine s.pass.words;
       few : s.pass.mine ≤ l.statement-index;
-      ended : l.keeper.ended ≡ g.keeper.old.ended;
+      ended : l.keeper.ended ≡ l.fn.keeper.ended;
       progress : Progress g.N.Site.log.cap (beginning 1) (state_of s.pass s.seen s.fresh s.open) opening s.pass.words (take l.statement-index (map (λ t. t.now) l.statements)) l.replies.items;
       count : length l.replies.items ≡ l.statement-index;
       room : length l.statements ≤ vec_capacity l.replies;
