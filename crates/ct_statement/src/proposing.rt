@@ -70,7 +70,10 @@ fn begun<N: Site>(arena: &Arena<N>, pass: &mut Pass<N>, list: Option<u32>) -> Re
     ensures kept { kept_of pass.new ≡ kept_of pass.old }
 {
     match list {
-        None => no_changes(arena, pass),
+        None => match no_changes(arena, pass) {
+            Ok(place) => Ok(place),
+            Err(e) => Err(e),
+        },
         Some(place) => {
             // There are fewer than 2^28 words.
             let _ = pass.words();
