@@ -82,7 +82,7 @@ module _ (words : List ℕ) (root : ℕ) (ts : List ℕ) (are : AreTermsBelow wo
       subst (TermBelow words root) o.2 (o.0, b.below, stands_term words o.0 b.term)
 
 -- what has more than 64 terms, all of them among these, has more than 64 of these
-past_terms : (words : List ℕ) (source : Term → Type 0) (ts : List Term) → IsPastTerms words source → ((u : Term) → source u → Contains ts u) → 64 < length ts
+pub past_terms : (words : List ℕ) (source : Term → Type 0) (ts : List Term) → IsPastTerms words source → ((u : Term) → source u → Contains ts u) → 64 < length ts
 past_terms words source ts p among =
     let places = p.many.0 in
     let fewer = at_most (map (term_at words) places) ts (distinct_below words p.root places p.many.1) (λ u h. among u (p.from u (each_below words p.root places p.many.1 u h))) in
@@ -129,7 +129,7 @@ is_read q r h =
     (of_added (Contains (query_reads q)) [] all (recursion_from_All (Contains (query_reads q)) (query_reads q) (All-contains_itself (query_reads q)))).1) h
 
 -- leaving out what stands later again leaves out no term
-still_there : (ts : List Term) (u : Term) → Contains ts u → Contains (distinct_terms ts) u
+pub still_there : (ts : List Term) (u : Term) → Contains ts u → Contains (distinct_terms ts) u
 still_there [] u h = h
 still_there (t ∷ ts) u h = by_test (list_any (same_term t) ts) refl (first_or_behind t ts u h) (still_there ts u) where
   by_test : (b : Bool) → list_any (same_term t) ts ≡ b → (t ≡ u) ⊎ Contains ts u → (Contains ts u → Contains (distinct_terms ts) u)
