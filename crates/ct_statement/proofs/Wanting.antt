@@ -28,7 +28,6 @@ module _ (h : List PlainCommit) (before : List PlainAction) (room : ℕ) (words 
   unasked_unmet k columns q refusal.AmbiguousColumn w = absurd w
   unasked_unmet k columns q refusal.DuplicateName w = absurd w
   unasked_unmet k columns q refusal.ColumnCount w = absurd w
-  unasked_unmet k columns q refusal.NotYet w = absurd w
   unasked_unmet k columns q refusal.TooManyTerms w = absurd w
   unasked_unmet k columns q (refusal.Inconsistent proof) w = absurd w
   unasked_unmet k columns q (refusal.Conflict table was now at) w = absurd w
@@ -49,7 +48,6 @@ module _ (h : List PlainCommit) (before : List PlainAction) (room : ℕ) (words 
   unasked_insertion name q refusal.AmbiguousColumn w = absurd w
   unasked_insertion name q refusal.DuplicateName w = absurd w
   unasked_insertion name q refusal.ColumnCount w = absurd w
-  unasked_insertion name q refusal.NotYet w = absurd w
   unasked_insertion name q refusal.TooManyTerms w = absurd w
   unasked_insertion name q (refusal.Inconsistent proof) w = absurd w
   unasked_insertion name q (refusal.Conflict table was now at) w = absurd w
@@ -69,7 +67,6 @@ module _ (h : List PlainCommit) (before : List PlainAction) (room : ℕ) (words 
   want_unmet a refusal.AmbiguousColumn w = absurd w
   want_unmet a refusal.DuplicateName w = absurd w
   want_unmet a refusal.ColumnCount w = absurd w
-  want_unmet a refusal.NotYet w = absurd w
   want_unmet a refusal.TooLarge w = absurd w
   want_unmet a refusal.TooManyTerms w = absurd w
   want_unmet a (refusal.Inconsistent proof) w = absurd w
