@@ -109,9 +109,9 @@ row_writes r each =
 
 -- a term that is no column stands below each position
 pub plain_below : (n : ℕ) (t : Term) → IsNoColumn t → IsColumnBelow n t
-plain_below n (term.Column k) none = absurd (none k refl)
-plain_below n (term.Null u) none = tt
-plain_below n (term.Value x) none = tt
+plain_below n (term.Column k) bare = absurd (bare k refl)
+plain_below n (term.Null u) bare = tt
+plain_below n (term.Value x) bare = tt
 
 -- the terms of a query that can be written
 pub written_in_query : (q : PlainQuery) (t : Term) → WritesQuery q → Contains (query_terms q) t → WritesTerm t

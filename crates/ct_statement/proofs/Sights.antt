@@ -1,11 +1,12 @@
 -- What is seen stays so in longer words, and what is seen after a step.
 use Rattle.std.proofs.Common.{◌≡◌, ◌≤◌, ◌+◌, ℕ, List, [], ◌∷◌, ◌++◌, length, take, ap, sym, subst, ◌∙◌, arith, length-append}
-use Rattle.std.specs.Prelude.{All}
+use Rattle.std.specs.Prelude.{All, Option, Some, None, option_map, unwrap_or}
 use Rattle.std.specs.Arc.{arc_value}
 use Rattle.std.proofs.lemmas.List.{take-append-le}
 use Rattle.std.proofs.lemmas.List.Elements.{All-push}
 use mathlib.Core.List.{IsPrefix}
 use Rattle.ct_word.specs.Change.{PlainCommit}
+use Rattle.ct_word.specs.Value.{World}
 use Rattle.ct_word.specs.Reading.{commits_of}
 use Rattle.ct_word.specs.WellFormed.{IsWellFormed}
 use Rattle.ct_word.proofs.Prefixes.{commits_prefix}
@@ -57,6 +58,11 @@ same_sight words s next v a t g k is = record {
       (subst (λ xs. IsKeptWorld words (history_of words s) xs (arc_value next.kept)) (sym a) (subst (IsKeptWorld words (history_of words s) (actions_before s)) (sym k) is.world));
   written = subst (All WritesAction) (sym a) is.written;
 }
+
+-- another world where there is one, else the one before
+pub kept_is : {A : Type 0} (value : A → World) (kept : A) (o : Option A) (other : Option World) → option_map value o ≡ other → value (unwrap_or o kept) ≡ kept_after (value kept) other
+kept_is value kept None other e = ap (kept_after (value kept)) e
+kept_is value kept (Some next) other e = ap (kept_after (value kept)) e
 
 -- what is seen after a step
 pub sight_after : (words : List ℕ) (s next : Sight) (x : PlainAction) (step : Step) → next.version ≡ s.version → actions_before next ≡ actions_before s ++ x ∷ []

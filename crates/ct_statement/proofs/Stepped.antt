@@ -1,5 +1,5 @@
 -- The step of an action: what its effect leads to, the world that is kept then, and why there is none.
-use Rattle.std.proofs.Common.{◌≡◌, ◌<◌, ◌+◌, ℕ, true, false, List, [], ◌∷◌, ◌++◌, length, Option, Some, None, refl, ap, sym, subst, ◌∙◌, arith, inl, inr}
+use Rattle.std.proofs.Common.{◌≡◌, ◌<◌, ◌+◌, ℕ, true, false, List, [], ◌∷◌, ◌++◌, length, map, Option, Some, None, refl, ap, sym, subst, ◌∙◌, arith, inl, inr}
 use Rattle.std.specs.Prelude.{IsTrue, All}
 use Rattle.std.specs.Arc.{arc_value}
 use Rattle.std.specs.List.{Contains, AllByRecursion}
@@ -10,7 +10,7 @@ use Rattle.ct_word.specs.declared.values.Term.TheVariants as term
 use Rattle.ct_word.specs.declared.values.Value.{Value}
 use Rattle.ct_word.specs.Value.{World}
 use Rattle.ct_word.specs.Condition.{Condition, holds_at}
-use Rattle.ct_word.specs.Change.{PlainCommit}
+use Rattle.ct_word.specs.Change.{PlainChange, PlainCommit}
 use Rattle.ct_word.specs.Reading.{condition_at}
 use Rattle.ct_word.specs.WellFormed.{IsWellFormed}
 use Rattle.ct_derivation.specs.declared.steps.Derivation.{Derivation}
@@ -24,6 +24,8 @@ use Rattle.ct_query.specs.Plain as plain
 use Rattle.ct_query.specs.Plain.{PlainAction}
 use Rattle.ct_query.specs.Agrees.{AgreesWith}
 use Rattle.ct_query.specs.Worlds.{admits}
+use Rattle.ct_query.specs.Fits.{FitsChange}
+use Rattle.ct_query.specs.Schema.{schema}
 use Rattle.ct_query.specs.Terms.{terms_asked, term_count}
 use Rattle.ct_query.specs.declared.action.Read.TheVariants as read
 use Rattle.ct_cnf.specs.Encoding.{HasTermsPast}
@@ -31,14 +33,15 @@ use Rattle.ct_certain.specs.Asked.{IsPastTerms}
 use Rattle.ct_condition.proofs.Reached.{formed_before}
 use Rattle.ct_history.specs.declared.written.Written.{Written}
 use Rattle.ct_history.specs.declared.written.Written.TheVariants as written
-use Rattle.ct_history.specs.Written.{plain_written}
+use Rattle.ct_history.specs.Written.{IsWritten, plain_written}
 use Rattle.ct_resolve.specs.Writing.{WritesAction}
-use Rattle.ct_table.specs.Denotes.{IsTermFor, Denotes}
+use Rattle.ct_table.specs.Denotes.{IsTermFor, Denotes, heading_of}
 use Rattle.ct_table.specs.Snapshot.{IsGlobal, IsKeptValue, other, constant, IsKeptWorld}
 use Rattle.ct_table.proofs.Reaching.{foremost}
 use Rattle.ct_table.proofs.Snapshots.{kept_grows}
 use Rattle.ct_keeper.specs.declared.effects.Effect.{Effect}
 use Rattle.ct_keeper.specs.declared.effects.Effect.TheVariants as effect
+use Rattle.ct_keeper.specs.Doing.{HasTermsFor}
 use Rattle.ct_keeper.specs.Effects.{DoesChange, FitsEffect, tables_after, global_after}
 use Rattle.ct_keeper.proofs.Doing.{tables_do, global_does, world_does, world_narrows}
 use Rattle.ct_transcript.specs.declared.reply.Refusal.{Refusal}
@@ -46,7 +49,7 @@ use Rattle.ct_transcript.specs.declared.reply.Refusal.TheVariants as refusal
 use Rattle.ct_statement.specs.declared.sight.Sight.{Sight}
 use Rattle.ct_statement.specs.declared.stepping.Step.{Step}
 use Rattle.ct_statement.specs.Narrowing.{IsEffectFor, IsDecidable, CanNarrow, IsWorldFor, IsWorldless, IsKeptFor, IsUnkept, undecided}
-use Rattle.ct_statement.specs.Proposals.{IsStep, kept_after}
+use Rattle.ct_statement.specs.Proposals.{IsProposal, IsStep, kept_after}
 use Rattle.ct_statement.specs.Sight.{IsSight, actions_before, history_of}
 use Rattle.ct_statement.specs.Unmet.{IsUnmet}
 use Rattle.ct_statement.proofs.Sights.{history_stays}
@@ -91,22 +94,22 @@ module _ (old new : List ℕ) (longer : IsPrefix old new) (formed : IsWellFormed
     global_then : IsGlobal new h (actions ++ a ∷ []) (global_after s.global e)
     global_then = global_does old new longer formed s.tables s.global f.change f.placed e f.does h actions a f.agrees f.terms is.condition
 
-  world_then : (e : Effect) → IsEffectFor old new s a e → (other : Option World) → IsKeptFor new e (arc_value s.kept) other → IsKeptWorld new h (actions ++ a ∷ []) (kept_after (arc_value s.kept) other)
-  world_then (effect.Grows growth) f other k =
+  world_then : (e : Effect) → IsEffectFor old new s a e → (next : Option World) → IsKeptFor new e (arc_value s.kept) next → IsKeptWorld new h (actions ++ a ∷ []) (kept_after (arc_value s.kept) next)
+  world_then (effect.Grows growth) f next k =
       subst (λ o. IsKeptWorld new h (actions ++ a ∷ []) (kept_after (arc_value s.kept) o)) (sym k)
       (world_does old new longer formed s.tables s.global f.change f.placed (effect.Grows growth) f.does h actions a f.agrees f.terms growth (arc_value s.kept) refl is.world)
-  world_then (effect.Narrows place) f other k =
-      world_narrows old new longer formed s.tables s.global f.change f.placed (effect.Narrows place) f.does h actions a f.agrees f.terms place (kept_after (arc_value s.kept) other) refl is.condition
+  world_then (effect.Narrows place) f next k =
+      world_narrows old new longer formed s.tables s.global f.change f.placed (effect.Narrows place) f.does h actions a f.agrees f.terms place (kept_after (arc_value s.kept) next) refl is.condition
       k.holds (k.values (kept_grows old new longer formed h actions (arc_value s.kept) is.world).values)
 
   -- the step
-  pub step_made : (e : Effect) → IsEffectFor old new s a e → FitsEffect s.tables e → WritesAction a → (other : Option World) → IsKeptFor new e (arc_value s.kept) other
-      → IsStep new s a (record { effect = e; kept = other })
-  step_made e f fits own other k = record {
+  pub step_made : (e : Effect) → IsEffectFor old new s a e → FitsEffect s.tables e → WritesAction a → (next : Option World) → IsKeptFor new e (arc_value s.kept) next
+      → IsStep new s a (record { effect = e; kept = next })
+  step_made e f fits own next k = record {
     fits = fits;
     denotes = subst (λ g. Denotes new g (actions ++ a ∷ []) (tables_after s.tables e)) same_history (tables_then e f);
     condition = subst (λ g. IsGlobal new g (actions ++ a ∷ []) (global_after s.global e)) same_history (global_then e f);
-    world = subst (λ g. IsKeptWorld new g (actions ++ a ∷ []) (kept_after (arc_value s.kept) other)) same_history (world_then e f other k);
+    world = subst (λ g. IsKeptWorld new g (actions ++ a ∷ []) (kept_after (arc_value s.kept) next)) same_history (world_then e f next k);
     written = own;
   }
 
@@ -153,3 +156,19 @@ module _ (old new : List ℕ) (longer : IsPrefix old new) (formed : IsWellFormed
   unkept_unmet a (effect.Grows growth) f why w = absurd w
   unkept_unmet a (effect.Narrows place) f why w =
       of_assertion f.change a place f.does f.agrees (global_then old new longer formed s is a (effect.Narrows place) f) why w
+
+-- the last change of a proposal, over the words before its effect
+module _ (old : List ℕ) (s : Sight) (is : IsSight old s) (a : PlainAction) (list : List PlainChange) (changes : ℕ) (p : IsProposal old (history_of old s) (actions_before s) list a changes)
+    (w : Written) (same : plain_written old w ≡ p.change) where
+  pub fits_tables : FitsChange (map heading_of s.tables) (plain_written old w)
+  fits_tables = subst (λ hs. FitsChange hs (plain_written old w)) (sym is.denotes.worth.headings)
+      (subst (FitsChange (schema (history_of old s) (actions_before s)).tables) (sym same) p.fits)
+
+  pub effect_is : (new : List ℕ) (e : Effect) → IsWritten old w → DoesChange old new s.tables s.global w e → IsEffectFor old new s a e
+  effect_is new e placed does = record {
+    change = w;
+    placed = placed;
+    does = does;
+    agrees = subst (AgreesWith (history_of old s) (actions_before s) a) (sym same) p.agrees;
+    terms = subst (HasTermsFor (history_of old s) (actions_before s) a) (sym same) p.terms;
+  }
