@@ -275,7 +275,7 @@ pub count_grows : (h g : List PlainCommit) → IsPrefix h g → (actions : List 
 count_grows h g p actions t =
     subst (λ k. count h actions t ≤ count k actions t) p.1
     (distinct_grow (patterns h actions t) (patterns (h ++ p.0) actions t) (actions_part (patterns h []) (patterns (h ++ p.0) []) grown actions t)) where
-  grown : (n : List ℕ) → IsSublist (patterns h [] n) (patterns (h ++ p.0) [] n)
-  grown n =
-      subst (λ (f : Patterns). IsSublist (patterns h [] n) (f n)) (sym (ap (pattern_changes no_patterns) (changes_split h p.0) ∙ pattern_changes-append no_patterns (changes_of h) (changes_of p.0)))
-      (changes_kept (patterns h []) (changes_of p.0) n)
+      grown : (n : List ℕ) → IsSublist (patterns h [] n) (patterns (h ++ p.0) [] n)
+      grown n =
+          subst (λ (f : Patterns). IsSublist (patterns h [] n) (f n)) (sym (ap (pattern_changes no_patterns) (changes_split h p.0) ∙ pattern_changes-append no_patterns (changes_of h) (changes_of p.0)))
+          (changes_kept (patterns h []) (changes_of p.0) n)
