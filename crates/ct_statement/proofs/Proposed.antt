@@ -123,19 +123,19 @@ module _ (words : List ℕ) (formed : IsWellFormed words) (global : ℕ) (h : Li
   change_fits (plain.Create name columns) rs (Create name' columns') f is from t = subst (λ n. columns_in (schema h before).tables n ≡ None) (sym is.0) f
   change_fits (plain.InsertRows name lists c) rs (Insert name' rs') f is from t =
       subst (λ n. IsSome (columns_in (schema h before).tables n) × All (FitsRow (count_of (columns_in (schema h before).tables n))) rs') (sym is.0) (f.0, rows_fit) where
-        wide : ℕ
-        wide = width (schema h before).tables (plain.Table name)
+    wide : ℕ
+    wide = width (schema h before).tables (plain.Table name)
 
-        plain_term : (u : Term) → Contains (action_terms (plain.InsertRows name lists c)) u → IsColumnBelow 0 u
-        plain_term u i = elim (Contains-append_cases (flat_map (λ r. r) lists) (condition_terms c) u i) [
-          | inl l ↦ let r = unflat (λ r. r) lists u l in (All-contains FitsCell r.0 u (All-contains (All FitsCell) lists r.0 f.2 r.1) r.2).0
-          | inr p ↦ column_in 0 c u f.3.columns p
-        ]
+    plain_term : (u : Term) → Contains (action_terms (plain.InsertRows name lists c)) u → IsColumnBelow 0 u
+    plain_term u i = elim (Contains-append_cases (flat_map (λ r. r) lists) (condition_terms c) u i) [
+      | inl l ↦ let r = unflat (λ r. r) lists u l in (All-contains FitsCell r.0 u (All-contains (All FitsCell) lists r.0 f.2 r.1) r.2).0
+      | inr p ↦ column_in 0 c u f.3.columns p
+    ]
 
-        rows_fit : All (FitsRow wide) rs'
-        rows_fit = All-weaker (Contains rs') (FitsRow wide) (λ r i.
-            row_fits wide r (All-contains (λ l. length l ≡ wide) lists r.cells f.1 (subst (λ cs. Contains cs r.cells) is.1 (mapped (λ (x : PlainRow). x.cells) rs' r i)))
-            (λ u j. plain_term u (from u (given row_terms rs' r u i j)))) rs' (All-contains_itself rs')
+    rows_fit : All (FitsRow wide) rs'
+    rows_fit = All-weaker (Contains rs') (FitsRow wide) (λ r i.
+        row_fits wide r (All-contains (λ l. length l ≡ wide) lists r.cells f.1 (subst (λ cs. Contains cs r.cells) is.1 (mapped (λ (x : PlainRow). x.cells) rs' r i)))
+        (λ u j. plain_term u (from u (given row_terms rs' r u i j)))) rs' (All-contains_itself rs')
   change_fits (plain.Delete name p) rs (Delete name' c) f is from t =
       let s = (schema h before).tables in
       let n = width s (plain.Table name) in
