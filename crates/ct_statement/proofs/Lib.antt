@@ -1,0 +1,15 @@
+pub mod Weights
+pub mod Wanting
+pub mod TermCounts
+pub mod Evaluating
+pub mod Printed
+pub mod Meaning
+pub mod Questions
+pub mod KeptWorlds
+pub mod Members
+pub mod EachTerm
+pub mod TermSources
+pub mod Sights
+pub mod Proposed
+pub mod Stepped
+pub mod Listed

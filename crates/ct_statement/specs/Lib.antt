@@ -5,3 +5,5 @@ pub mod Asking
 pub mod Printed
 pub mod Answered
 pub mod Proposals
+pub mod Sources
+pub mod Narrowing

@@ -1,25 +1,37 @@
 // The change that a statement proposes.
 
-ghost use Rattle.std.specs.Prelude.{◌≡◌, ◌+◌, IfOk, IfErr, IfSome, IsTrue};
+ghost use Rattle.std.specs.Prelude.{◌≡◌, ◌+◌, ◌<◌, ◌^◌, map, length, IfOk, IfErr, IfSome, IsTrue, OnErr};
 ghost use mathlib.Core.List.{IsPrefix};
 ghost use Rattle.ct_word.specs.declared.kinds.Class.TheVariants as class;
+ghost use Rattle.ct_word.specs.Reading.{change_list_at};
 ghost use Rattle.ct_word.specs.WellFormed.{is_place_of};
 ghost use Rattle.ct_query.specs.Fits.{FitsAction};
 ghost use Rattle.ct_query.specs.Plain as plain;
 ghost use Rattle.ct_query.specs.Schema.{schema};
 ghost use Rattle.ct_query.specs.Views.{action_of};
+ghost use Rattle.ct_history.specs.Encodes.{IsEncodable};
 ghost use Rattle.ct_history.specs.Kept.{kept_of};
 ghost use Rattle.ct_resolve.specs.Writing.{WritesAction};
+ghost use Rattle.ct_table.specs.Denotes.{heading_of};
 ghost use Rattle.ct_statement.specs.Drawing.{drawn};
 ghost use Rattle.ct_statement.specs.Proposals.{IsProposal, listed};
 ghost use Rattle.ct_statement.specs.Sight.{IsSight, actions_before, history_of};
+ghost use Rattle.ct_statement.specs.Sources.{AreTakenFor};
 ghost use Rattle.ct_statement.specs.Unmet.{IsUnmet};
 
+use crate::asking::answered;
+use crate::drawing::after;
 use crate::sight::Sight;
-use ct_arena::{Arena, Pass, Site};
+use ct_arena::{Arena, Full, Pass, Site};
+use ct_history::{encode, no_changes};
 use ct_query::Action;
+use ct_table::{CTable, Db};
 use ct_transcript::Refusal;
+use ct_word::{CRow, List};
 use std::alloc::Global;
+
+/// How many columns a word can tell apart: the numbers of columns are below 2^28.
+const COLUMNS: usize = 1 << 28;
 
 /// An action with its change: the change list that has it last, and the number of the session's last null after it.
 #[derive(Drop)]
@@ -27,6 +39,119 @@ pub struct Proposal {
     pub action: Action,
     pub changes: u32,
     pub fresh: u32,
+}
+
+/// Whether each column that an action may name has a number that a word has room for. No clause says that a table has no
+/// more columns. It has not, since each of their names has a word, so this is true.
+fn is_encodable(tables: &Db, action: &Action) -> bool
+    requires fits { FitsAction (map heading_of tables.now) (action_of action.now) }
+    ensures { IsTrue result → IsEncodable (action_of action.now) }
+{
+    match action {
+        Action::Delete { name, .. } => match tables.get(name.as_str()) {
+            Some(table) => table.columns.len() <= COLUMNS,
+            None => unreachable!(),
+        },
+        _ => true,
+    }
+}
+
+/// The change list at a place, or a new one.
+///
+/// # Errors
+/// `Full` where the log has no room for the word of a new one.
+fn begun<N: Site>(arena: &Arena<N>, pass: &mut Pass<N>, list: Option<u32>) -> Result<u32, Full>
+    requires list { IfSome list (λ place. IsTrue (is_place_of pass.old.words class.ChangeList place)) }
+    ensures place { IfOk result (λ place. IsTrue (is_place_of pass.new.words class.ChangeList place)) }
+    ensures small { IfOk result (λ place. place < 2 ^ 28) }
+    ensures same { IfOk result (λ place. change_list_at pass.new.words place ≡ listed pass.old.words list) }
+    ensures longer { IsPrefix pass.old.words pass.new.words }
+    ensures full { OnErr result (length pass.new.words ≡ N.log.cap) }
+    ensures kept { kept_of pass.new ≡ kept_of pass.old }
+{
+    match list {
+        None => match no_changes(arena, pass) {
+            Ok(place) => Ok(place),
+            Err(e) => Err(e),
+        },
+        Some(place) => {
+            // There are fewer than 2^28 words.
+            let _ = pass.words();
+            Ok(place)
+        }
+    }
+}
+
+/// The rows that an action takes from its query; none where it has no query. The pass has the words of it.
+///
+/// # Errors
+/// `TooLarge` where a part of the query goes through too many rows, `Full` where the log has no room, `Memory`.
+fn taken_for<N: Site>(
+    alloc: Global,
+    arena: &Arena<N>,
+    pass: &mut Pass<N>,
+    sight: &Sight,
+    action: &Action,
+) -> Result<List<CRow>, Refusal>
+    requires sight { IsSight pass.old.words sight.now }
+    requires fits { FitsAction (schema (history_of pass.old.words sight.now) (actions_before sight.now)).tables (action_of action.now) }
+    ensures longer { IsPrefix pass.old.words pass.new.words }
+    ensures kept { kept_of pass.new ≡ kept_of pass.old }
+    ensures rows { IfOk result (AreTakenFor pass.new.words sight.now.global (history_of pass.old.words sight.now) (actions_before sight.now) (action_of action.now)) }
+    ensures err { IfErr result (IsUnmet (history_of pass.old.words sight.now) (actions_before sight.now) N.log.cap pass.new.words (plain.Act (action_of action.now))) }
+{
+    match action {
+        Action::InsertQuery { query, .. } => match answered(alloc, arena, pass, sight, query) {
+            Ok(table) => {
+                let CTable { columns: _, rows } = table;
+                Ok(rows)
+            }
+            Err(why) => Err(why),
+        },
+        _ => Ok(List::new(alloc)),
+    }
+}
+
+/// The change list at a place, or a new one, with the change of an action added. The pass has the words of it.
+///
+/// # Errors
+/// `TooLarge` where a part of the action's query goes through too many rows, `Full` where the log has no room, `Memory`.
+fn added<N: Site>(
+    alloc: Global,
+    arena: &Arena<N>,
+    pass: &mut Pass<N>,
+    sight: &Sight,
+    list: Option<u32>,
+    action: &Action,
+) -> Result<u32, Refusal>
+    requires sight { IsSight pass.old.words sight.now }
+    requires list { IfSome list (λ place. IsTrue (is_place_of pass.old.words class.ChangeList place)) }
+    requires fits { FitsAction (schema (history_of pass.old.words sight.now) (actions_before sight.now)).tables (action_of action.now) }
+    requires written { WritesAction (action_of action.now) }
+    ensures longer { IsPrefix pass.old.words pass.new.words }
+    ensures kept { kept_of pass.new ≡ kept_of pass.old }
+    ensures proposes { IfOk result (IsProposal pass.new.words (history_of pass.old.words sight.now) (actions_before sight.now) (listed pass.old.words list) (action_of action.now)) }
+    ensures err { IfErr result (IsUnmet (history_of pass.old.words sight.now) (actions_before sight.now) N.log.cap pass.new.words (plain.Act (action_of action.now))) }
+{
+    if !is_encodable(sight.tables.db(), action) {
+        return Err(Refusal::Memory);
+    }
+    let list = match begun(arena, pass, list) {
+        Ok(list) => list,
+        Err(_) => return Err(Refusal::Full),
+    };
+    // What is seen is seen in the longer words too, since they are well formed.
+    let _ = pass.words();
+    let rows = match taken_for(alloc, arena, pass, sight, action) {
+        Ok(rows) => rows,
+        Err(why) => return Err(why),
+    };
+    let changes = match encode(arena, pass, list, action, rows.as_slice()) {
+        Ok(changes) => changes,
+        Err(_) => return Err(Refusal::Full),
+    };
+    let _ = pass.words();
+    Ok(changes)
 }
 
 /// The change of an action, added to the list at a place, or to a new one. The pass has the words of it.
@@ -53,6 +178,22 @@ pub fn propose<N: Site>(
     ensures proposes { IfOk result (λ p. IsProposal pass.new.words (history_of pass.old.words sight.now) (actions_before sight.now) (listed pass.old.words list) (action_of action) p.changes) }
     ensures err { IfErr result (IsUnmet (history_of pass.old.words sight.now) (actions_before sight.now) N.log.cap pass.new.words (plain.Act (action_of action))) }
 {
-    drop(action);
-    Err(Refusal::Memory)
+    let fresh = match after(fresh, &action) {
+        Ok(fresh) => fresh,
+        Err(_) => {
+            drop(action);
+            return Err(Refusal::Memory);
+        }
+    };
+    match added(alloc, arena, pass, sight, list, &action) {
+        Ok(changes) => Ok(Proposal {
+            action,
+            changes,
+            fresh,
+        }),
+        Err(why) => {
+            drop(action);
+            Err(why)
+        }
+    }
 }

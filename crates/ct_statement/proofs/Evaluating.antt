@@ -1,0 +1,124 @@
+-- Queries over tables that denote a history and further actions: what answers them, and why they are refused.
+use Rattle.std.proofs.Common.{◌≡◌, ℕ, Bool, true, false, ◌+◌, ◌*◌, ◌<◌, ◌≤◌, List, [], ◌∷◌, map, length, refl, ap, sym, subst, ◌∙◌, arith}
+use Rattle.std.specs.Prelude.{None, nat_lt, if◌then◌else◌}
+use Rattle.std.specs.List.{Contains}
+use Rattle.std.proofs.lemmas.Nat.{mul-le}
+use Rattle.std.proofs.lemmas.Bool.{ltb-false}
+use Rattle.std.proofs.lemmas.List.Elements.{All-weaker}
+use mathlib.Core.List.{IsPrefix}
+use Rattle.ct_word.specs.declared.values.CRow.{CRow}
+use Rattle.ct_word.specs.Value.{same_text}
+use Rattle.ct_word.specs.Sublist.{IsSublist}
+use Rattle.ct_word.specs.Change.{PlainCommit}
+use Rattle.ct_word.specs.WellFormed.{IsWellFormed}
+use Rattle.ct_query.specs.Bounds as bounds
+use Rattle.ct_query.specs.Bounds.{nodes, bound}
+use Rattle.ct_query.specs.Plain as plain
+use Rattle.ct_query.specs.Plain.{PlainQuery, PlainAction, PlainStatement}
+use Rattle.ct_query.specs.Patterns.{query_pattern, count}
+use Rattle.ct_query.specs.Size.{size, rows_in, row_bound}
+use Rattle.ct_query.specs.Terms.{term_count}
+use Rattle.ct_query.specs.declared.action.Ask.{Ask}
+use Rattle.ct_query.specs.declared.action.Ask.TheVariants as ask
+use Rattle.ct_query.proofs.Sublists.{sublist_of_sublist}
+use Rattle.ct_table.specs.declared.table.CTable.{CTable}
+use Rattle.ct_table.specs.Counting.{count_of}
+use Rattle.ct_table.specs.Denotes.{TableView, IsKept, Denotes}
+use Rattle.ct_table.specs.Snapshot.{IsGlobal}
+use Rattle.ct_table.specs.Tables.{cells_of, value_of_rows, AreRows}
+use Rattle.ct_table.proofs.ByTables.{cells_found, found-cons, rows_in_found, tables_counted, answered_by_tables, pattern_by_tables}
+use Rattle.ct_table.proofs.QuerySizes.{size_grows}
+use Rattle.ct_table.proofs.Reaching.{rows_wider}
+use Rattle.ct_table.proofs.Snapshots.{global_grows}
+use Rattle.ct_algebra.specs.Evaluates.{limit, Evaluates}
+use Rattle.ct_algebra.specs.Operands.{AreTables, cells_in}
+use Rattle.ct_algebra.specs.Terms.{TermOfQuery}
+use Rattle.ct_algebra.specs.declared.error.EvalError.{EvalError}
+use Rattle.ct_algebra.specs.declared.error.EvalError.TheVariants as eval
+use Rattle.ct_certain.specs.declared.error.CertainError.{CertainError}
+use Rattle.ct_certain.specs.declared.error.CertainError.TheVariants as fault
+use Rattle.ct_transcript.specs.declared.reply.Refusal.TheVariants as refusal
+use Rattle.ct_statement.specs.Asking.{terms_of_query, AnswersQuery, IsUnasked, filled, unanswered, unlisted}
+use Rattle.ct_statement.specs.Unmet.{TERMS, IsUnmet}
+use Rattle.ct_statement.proofs.TermCounts.{of_query_asked}
+use Rattle.ct_statement.proofs.Weights.{nodes_grow, makes_words_still}
+
+-- the cells of the table with a name
+pub cells_by_name : (words : List ℕ) (db : List TableView) (name : List ℕ) → cells_in words db name ≡ cells_found words db name
+cells_by_name words [] name = refl
+cells_by_name words (t ∷ db) name =
+    ap (λ cs. if same_text t.name name then cells_of words t.rows else cs) (cells_by_name words db name)
+    ∙ sym (found-cons (λ x. cells_of words x.rows) [] t db name)
+
+module _ (old : List ℕ) (h : List PlainCommit) (actions : List PlainAction) (db : List TableView) (d : Denotes old h actions db) where
+  -- the rows of the tables are well formed
+  pub are_tables : AreTables old db
+  are_tables = All-weaker (IsKept old h actions) (λ t. AreRows old (length t.columns) t.rows) (λ t k. k.rows) db d.worth.kept
+
+  -- each table has at most as many rows as are counted in the history
+  pub rows_fewer : (name : List ℕ) → rows_in (map count_of db) name ≤ count h actions name
+  rows_fewer name = subst (λ n. n ≤ count h actions name) (sym (rows_in_found count_of (λ t. refl) (λ t. refl) db name)) (tables_counted old h actions db d.worth name)
+
+  module _ (new : List ℕ) (q : PlainQuery) where
+    -- a table that answers a query over the tables answers it after the history and the actions
+    pub answers_query : IsPrefix old new → IsWellFormed new → (global : ℕ) → IsGlobal old h actions global → (t : CTable) → Evaluates old new db q t
+        → AnswersQuery new global h actions q (length t.columns) t.rows
+    answers_query longer formed global g t e = record {
+      condition = global_grows old new longer formed h actions global g;
+      are = e.are;
+      tuples = λ v. answered_by_tables old h actions db d.worth v q (value_of_rows new v t.rows) (e.tuples v);
+      part = sublist_of_sublist _ _ _ (subst (λ p. IsSublist (cells_of new t.rows) (query_pattern p q)) (λ i name. cells_by_name old db name i) e.part) (pattern_by_tables old h actions db d.worth q);
+      from = rows_wider new (TermOfQuery old db q) (Contains (terms_of_query h actions q)) (of_query_asked h actions q old db d) t.rows e.from;
+    }
+
+    -- the errors of the evaluation are causes
+    pub evaluation_fails : (room made made' : ℕ) (e : EvalError) → (e ≡ eval.TooLarge → limit < size (rows_in (map count_of db)) q) → (e ≡ eval.Full → length new ≡ room)
+        → (e ≡ eval.Full → made' < made + nodes (rows_in (map count_of db)) q) → IsUnasked h actions room new q (unanswered e made made')
+    evaluation_fails room made made' eval.TooLarge past full fewer =
+        let over = past refl in let at_most = size_grows (rows_in (map count_of db)) (count h actions) rows_fewer q in omega (arith, over, at_most)
+    evaluation_fails room made made' eval.Full past full fewer = by_test (nat_lt made' made) refl where
+      by_test : (b : Bool) → nat_lt made' made ≡ b → IsUnasked h actions room new q (if b then refusal.Memory else refusal.Full)
+      by_test true e = tt
+      by_test false e =
+          let le = ltb-false made' made e in
+          let lt = fewer refl in
+          let more = nodes_grow (rows_in (map count_of db)) (count h actions) rows_fewer q in
+          (full refl, omega (arith, le, lt, more))
+    evaluation_fails room made made' eval.Memory past full fewer = tt
+
+    -- a full log is a cause, where the pass has made no fewer words than before, and so may make one
+    fails_full : (room : ℕ) (k : Ask) (columns : List (List ℕ)) (made made' : ℕ) → length new ≡ room
+        → (made ≤ made' → 1 ≤ bound (rows_in (map count_of db)) None (plain.Asks k columns q)) → IsUnmet h actions room new (plain.Asks k columns q) (filled made made')
+    fails_full room k columns made made' full makes = by_test (nat_lt made' made) refl where
+      st : PlainStatement
+      st = plain.Asks k columns q
+
+      by_test : (b : Bool) → nat_lt made' made ≡ b → IsUnmet h actions room new st (if b then refusal.Memory else refusal.Full)
+      by_test true e = tt
+      by_test false e = record { full = full; makes_words = λ own. makes_words_still (rows_in (map count_of db)) (count h actions) rows_fewer own st (makes (ltb-false made' made e)) }
+
+    -- the errors of the lists are causes
+    module _ (rs : List CRow) (few : length rs ≤ row_bound (rows_in (map count_of db)) q) where
+      pub possible_fails : (room : ℕ) (columns : List (List ℕ)) (made made' : ℕ) (e : CertainError) → (e ≡ fault.Full → length new ≡ room)
+          → (e ≡ fault.Full → made' < made + length rs) → (e ≡ fault.TooManyTerms → TERMS < term_count h actions (plain.Asks ask.Possible columns q))
+          → IsUnmet h actions room new (plain.Asks ask.Possible columns q) (unlisted e made made')
+      possible_fails room columns made made' fault.Full full fewer many =
+          let lt = fewer refl in
+          fails_full room ask.Possible columns made made' (full refl) (λ le. omega (arith, le, lt, few))
+      possible_fails room columns made made' fault.TooManyTerms full fewer many = record { of_worlds = refl; past = many refl }
+      possible_fails room columns made made' fault.Memory full fewer many = tt
+
+      pub certain_fails : (room : ℕ) (columns : List (List ℕ)) (made made' k : ℕ) (e : CertainError) → (e ≡ fault.Full → length new ≡ room)
+          → (e ≡ fault.Full → made' < made + length rs * (length rs * (2 * k + 2) + k + 1)) → (e ≡ fault.TooManyTerms → TERMS < term_count h actions (plain.Asks ask.Certain columns q))
+          → IsUnmet h actions room new (plain.Asks ask.Certain columns q) (unlisted e made made')
+      certain_fails room columns made made' k fault.Full full fewer many =
+          fails_full room ask.Certain columns made made' (full refl) (λ le. some_words (row_bound (rows_in (map count_of db)) q) (bounds.width q) (has_row rs le (fewer refl) few)) where
+            has_row : (rs : List CRow) → made ≤ made' → made' < made + length rs * (length rs * (2 * k + 2) + k + 1) → length rs ≤ row_bound (rows_in (map count_of db)) q
+                → 1 ≤ row_bound (rows_in (map count_of db)) q
+            has_row [] le lt few = absurd (omega (arith, le, lt))
+            has_row (r ∷ rs) le lt few = omega (arith, few)
+
+            some_words : (r w : ℕ) → 1 ≤ r → 1 ≤ nodes (rows_in (map count_of db)) q + r * (r * (2 * w + 2) + w + 1)
+            some_words r w le = let more = mul-le 1 1 r (r * (2 * w + 2) + w + 1) le (omega arith) in omega (arith, more)
+      certain_fails room columns made made' k fault.TooManyTerms full fewer many = record { of_worlds = refl; past = many refl }
+      certain_fails room columns made made' k fault.Memory full fewer many = tt

@@ -1,0 +1,98 @@
+-- Where the terms of a change come from, and that they can be written.
+use Rattle.std.proofs.Common.{◌≡◌, ℕ, Bool, true, false, List, [], ◌∷◌, ◌++◌, sym, subst, inl, inr}
+use Rattle.std.specs.Prelude.{All, IsTrue, flat_map, if◌then◌else◌}
+use Rattle.std.specs.List.{Contains, list_all, list_any}
+use Rattle.std.proofs.lemmas.List.Elements.{All-contains, All-push, Contains-push, Contains-push_cases, Contains-append_left, Contains-append_right, Contains-append_cases}
+use Rattle.ct_word.specs.declared.values.Term.{Term}
+use Rattle.ct_word.specs.Value.{same_term}
+use Rattle.ct_word.specs.Change.{PlainCommit}
+use Rattle.ct_word.specs.Writable.{is_writable}
+use Rattle.ct_query.specs.declared.action.Ask.TheVariants as ask
+use Rattle.ct_query.specs.declared.action.Read.{Read}
+use Rattle.ct_query.specs.Plain as plain
+use Rattle.ct_query.specs.Plain.{PlainQuery, PlainAction}
+use Rattle.ct_query.specs.Frame.{reads_of_actions}
+use Rattle.ct_query.specs.Reads.{action_reads, query_reads, writes}
+use Rattle.ct_query.specs.Terms.{change_terms, action_terms, query_terms, distinct_terms, changes_that_write, reads_with, terms_asked}
+use Rattle.ct_query.specs.Worlds.{changes_of}
+use Rattle.ct_resolve.specs.Writing.{WritesTerm, WritesAction}
+use Rattle.ct_table.specs.Denotes.{IsTermFor, by_change, by_action}
+use Rattle.ct_table.proofs.Asked.{term_is_asked}
+use Rattle.ct_table.proofs.Naming.{given}
+use Rattle.ct_table.proofs.Reaching.{behind, foremost, first_or_behind}
+use Rattle.ct_statement.specs.Asking.{terms_of_query}
+use Rattle.ct_statement.proofs.EachTerm.{written_in_action, written_in_change}
+use Rattle.ct_statement.proofs.Members.{unflat, passes, left_by, one_of}
+use Rattle.ct_statement.proofs.TermCounts.{still_there}
+
+-- what is left when each term stands but once was there
+of_distinct : (ts : List Term) (u : Term) → Contains (distinct_terms ts) u → Contains ts u
+of_distinct [] u h = h
+of_distinct (t ∷ ts) u h = by_test (list_any (same_term t) ts) h (of_distinct ts u) where
+  by_test : (b : Bool) → Contains (if b then distinct_terms ts else t ∷ distinct_terms ts) u → (Contains (distinct_terms ts) u → Contains ts u) → Contains (t ∷ ts) u
+  by_test true h rest = behind t ts u (rest h)
+  by_test false h rest = elim (first_or_behind t (distinct_terms ts) u h) [ inl e ↦ subst (Contains (t ∷ ts)) e (foremost t ts) | inr i ↦ behind t ts u (rest i) ]
+
+module _ (h : List PlainCommit) (before : List PlainAction) where
+  -- a term for an action can be written, where the history, the actions before and the action can
+  pub source_writes : (a : PlainAction) (r : Read) (u : Term) → IsTrue (list_all is_writable (changes_of h)) → All WritesAction before → WritesAction a
+      → IsTermFor h (before ++ a ∷ []) r u → WritesTerm u
+  source_writes a r u can earlier own (by_change x s among of written stands) = written_in_change x u (passes is_writable (changes_of h) x can among) stands
+  source_writes a r u can earlier own (by_action b among stands) =
+      written_in_action b u (All-contains WritesAction (before ++ a ∷ []) b (All-push WritesAction before a earlier own) among) stands
+
+  -- a term that is asked about by the query of an insertion is one for the insertion
+  module _ (name : List ℕ) (q : PlainQuery) where
+    abbrev inserts : PlainAction
+    inserts = plain.InsertQuery name q
+
+    abbrev reads : List Read
+    reads = reads_with before (plain.Asks ask.Rows [] q)
+
+    own_reads : (s : Read) → Contains reads s → Contains (reads_of_actions (before ++ inserts ∷ [])) s
+    own_reads s i = elim (Contains-append_cases (flat_map action_reads before) (query_reads q) s i) [
+      | inl l ↦ let b = unflat action_reads before s l in given action_reads (before ++ inserts ∷ []) b.0 s (Contains-append_left before (inserts ∷ []) b.0 b.1) b.2
+      | inr r ↦ given action_reads (before ++ inserts ∷ []) inserts s (Contains-push before inserts) r
+    ]
+
+    pub asked_source : (r : Read) (u : Term) → Contains (terms_of_query h before q) u → IsTermFor h (before ++ inserts ∷ []) r u
+    asked_source r u i =
+        let changed : List Term = flat_map change_terms (changes_that_write reads h) in
+        let acted : List Term = flat_map action_terms before in
+        elim (Contains-append_cases (changed ++ acted) (query_terms q) u (of_distinct (changed ++ acted ++ query_terms q) u i)) [
+          | inr own ↦ by_action inserts (Contains-push before inserts) own
+          | inl brought ↦ elim (Contains-append_cases changed acted u brought) [
+            | inr by ↦ let b = unflat action_terms before u by in by_action b.0 (Contains-append_left before (inserts ∷ []) b.0 b.1) b.2
+            | inl by ↦
+                let x = unflat change_terms (changes_that_write reads h) u by in
+                let left = left_by (λ z. list_any (writes z) reads) (changes_of h) x.0 x.1 in
+                let s = one_of (writes x.0) reads left.1 in
+                by_change x.0 s.0 left.0 (behind r (reads_of_actions (before ++ inserts ∷ [])) s.0 (own_reads s.0 s.1)) s.2 x.2
+          ]
+        ]
+
+  -- a term for what an action reads, after it, is one that its statement asks about
+  pub own_asked : (a : PlainAction) (r : Read) (u : Term) → Contains (action_reads a) r → IsTermFor h (before ++ a ∷ []) r u → Contains (terms_asked h before (plain.Act a)) u
+  own_asked a r u own t = by_source t where
+    read : Contains (reads_with before (plain.Act a)) r
+    read = Contains-append_right (flat_map action_reads before) (action_reads a) r own
+
+    reads_too : (s : Read) → Contains (r ∷ reads_of_actions (before ++ a ∷ [])) s → Contains (reads_with before (plain.Act a)) s
+    reads_too s i = elim (first_or_behind r (reads_of_actions (before ++ a ∷ [])) s i) [
+      | inl e ↦ subst (Contains (reads_with before (plain.Act a))) e read
+      | inr j ↦
+          let b = unflat action_reads (before ++ a ∷ []) s j in
+          elim (Contains-push_cases before a b.0 b.1) [
+            | inl l ↦ Contains-append_left (flat_map action_reads before) (action_reads a) s (given action_reads before b.0 s l b.2)
+            | inr e ↦ Contains-append_right (flat_map action_reads before) (action_reads a) s (subst (λ x. Contains (action_reads x) s) (sym e) b.2)
+          ]
+    ]
+
+    by_source : IsTermFor h (before ++ a ∷ []) r u → Contains (terms_asked h before (plain.Act a)) u
+    by_source (by_change y s among of written stands) = term_is_asked h before (plain.Act a) s u (reads_too s of) (by_change y s among (foremost s (reads_of_actions before)) written stands)
+    by_source (by_action b among stands) = elim (Contains-push_cases before a b among) [
+      | inl l ↦ term_is_asked h before (plain.Act a) r u read (by_action b l stands)
+      | inr e ↦
+          let brought : List Term = flat_map change_terms (changes_that_write (reads_with before (plain.Act a)) h) ++ flat_map action_terms before in
+          still_there (brought ++ action_terms a) u (Contains-append_right brought (action_terms a) u (subst (λ x. Contains (action_terms x) u) (sym e) stands))
+    ]

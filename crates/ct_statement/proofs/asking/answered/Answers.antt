@@ -1,0 +1,70 @@
+use Rattle.std.proofs.Common.{◌∙◌, ap, arith, length, map, subst, sym}
+use Rattle.std.specs.Prelude.{◌≤◌, Err}
+use Rattle.ct_query.specs.Fits.{Fits, width}
+use Rattle.ct_query.specs.Size.{rows_in, row_bound}
+use Rattle.ct_query.specs.Views.{query_of}
+use Rattle.ct_table.specs.Counting.{count_of}
+use Rattle.ct_table.specs.Denotes.{Denotes}
+use Rattle.ct_table.specs.Tables.{AreRows}
+use Rattle.ct_algebra.proofs.Counted.{rows_within}
+use Rattle.ct_statement.specs.Asking.{IsUnasked}
+use Rattle.ct_statement.specs.Sight.{actions_before, history_of}
+use Rattle.ct_statement.proofs.Evaluating.{are_tables, answers_query, evaluation_fails}
+use Rattle.ct_statement.proofs.asking.answered.Goals as goal
+
+pub eval-requires-clause-tables : goal.eval-requires-clause-tables
+eval-requires-clause-tables g c =
+    let old = c.args.pass.now.words in
+    let h = history_of old c.args.sight.now in
+    let actions = actions_before c.args.sight.now in
+    are_tables old h actions c.db.result.now (subst (Denotes old h actions) (sym c.db.ensures) c.requires.sight.denotes)
+
+pub eval-requires-clause-fits : goal.eval-requires-clause-fits
+eval-requires-clause-fits g c =
+    let old = c.args.pass.now.words in
+    let denotes = subst (Denotes old (history_of old c.args.sight.now) (actions_before c.args.sight.now)) (sym c.db.ensures) c.requires.sight.denotes in
+    subst (λ hs. Fits hs (query_of c.args.query.now)) (sym denotes.worth.headings) c.requires.fits
+
+pub returns-clause-width : goal.returns-clause-width
+returns-clause-width g c =
+    let old = c.args.pass.now.words in
+    let denotes = subst (Denotes old (history_of old c.args.sight.now) (actions_before c.args.sight.now)) (sym c.db.ensures) c.requires.sight.denotes in
+    c.in-Ok.ensures.columns ∙ ap (λ hs. width hs (query_of c.args.query.now)) denotes.worth.headings
+
+pub returns-clause-few : goal.returns-clause-few
+returns-clause-few g c =
+    subst (λ db. length c.in-Ok.table.rows ≤ row_bound (rows_in (map count_of db)) (query_of c.args.query.now)) c.db.ensures
+    (rows_within c.args.pass.now.words c.eval.new.pass.words c.db.result.now (query_of c.args.query.now) c.in-Ok.table (record {
+      names_are = c.in-Ok.ensures.names;
+      width_is = c.in-Ok.ensures.columns;
+      are = subst (λ n. AreRows c.eval.new.pass.words n c.in-Ok.table.rows) (sym c.in-Ok.ensures.columns) c.in-Ok.ensures.rows;
+      tuples = c.in-Ok.ensures.tuples;
+      part = c.in-Ok.ensures.part;
+      from = c.in-Ok.ensures.terms;
+    }))
+
+pub returns-clause-ok : goal.returns-clause-ok
+returns-clause-ok g c =
+    let old = c.args.pass.now.words in
+    let h = history_of old c.args.sight.now in
+    let actions = actions_before c.args.sight.now in
+    answers_query old h actions c.db.result.now (subst (Denotes old h actions) (sym c.db.ensures) c.requires.sight.denotes) c.eval.new.pass.words (query_of c.args.query.now)
+    c.eval.ensures.longer c.words.ensures.formed c.args.sight.now.global c.requires.sight.condition c.in-Ok.table (record {
+      names_are = c.in-Ok.ensures.names;
+      width_is = c.in-Ok.ensures.columns;
+      are = subst (λ n. AreRows c.eval.new.pass.words n c.in-Ok.table.rows) (sym c.in-Ok.ensures.columns) c.in-Ok.ensures.rows;
+      tuples = c.in-Ok.ensures.tuples;
+      part = c.in-Ok.ensures.part;
+      from = c.in-Ok.ensures.terms;
+    })
+
+pub returns-in-Err-clause-err : goal.returns-in-Err-clause-err
+returns-in-Err-clause-err g c =
+    let old = c.args.pass.now.words in
+    let h = history_of old c.args.sight.now in
+    let actions = actions_before c.args.sight.now in
+    let q = query_of c.args.query.now in
+    subst (IsUnasked h actions g.N.Site.log.cap c.eval.new.pass.words q) (sym c.unanswered.ensures)
+    (evaluation_fails old h actions c.db.result.now (subst (Denotes old h actions) (sym c.db.ensures) c.requires.sight.denotes) c.eval.new.pass.words q g.N.Site.log.cap c.made-made.result c.made.result c.in-Err.e
+    (λ e. c.in-Err.ensures.too_large (ap Err e)) (λ e. c.in-Err.ensures.full (ap Err e))
+    (λ e. let fewer = c.in-Err.ensures.fewer (ap Err e) in let before = c.made-made.ensures in let after = c.made.ensures in omega (arith, fewer, before, after)))

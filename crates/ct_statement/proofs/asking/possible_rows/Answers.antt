@@ -1,0 +1,45 @@
+use Rattle.std.proofs.Common.{ap, arith, length, subst, sym}
+use Rattle.std.specs.Prelude.{Err}
+use Rattle.ct_query.specs.Plain as plain
+use Rattle.ct_query.specs.declared.action.Ask.TheVariants as ask
+use Rattle.ct_query.specs.Views.{query_of}
+use Rattle.ct_statement.specs.Sight.{actions_before, history_of}
+use Rattle.ct_statement.specs.Unmet.{IsUnmet}
+use Rattle.ct_statement.proofs.Evaluating.{possible_fails}
+use Rattle.ct_statement.proofs.Questions.{possible_right}
+use Rattle.ct_statement.proofs.TermCounts.{past_of_row}
+use Rattle.ct_statement.proofs.Wanting.{unasked_unmet}
+use Rattle.ct_statement.proofs.asking.possible_rows.Goals as goal
+
+pub possible-requires-clause-global : goal.possible-requires-clause-global
+possible-requires-clause-global g c = c.in-Ok.ensures.ok.condition.place
+
+pub possible-requires-clause-plain : goal.possible-requires-clause-plain
+possible-requires-clause-plain g c = c.in-Ok.ensures.ok.condition.plain
+
+pub returns-in-Err-clause-err : goal.returns-in-Err-clause-err
+returns-in-Err-clause-err g c =
+    let old = c.args.pass.now.words in
+    λ columns.
+    unasked_unmet (history_of old c.args.sight.now) (actions_before c.args.sight.now) g.N.Site.log.cap c.answered.new.pass.words ask.Possible columns (query_of c.args.query.now) c.in-Err.why
+    c.in-Err.ensures.err
+
+pub returns-clause-ok : goal.returns-clause-ok
+returns-clause-ok g c =
+    let old = c.args.pass.now.words in
+    let table = c.in-Ok.table in
+    possible_right c.answered.new.pass.words c.args.sight.now.global (history_of old c.args.sight.now) (actions_before c.args.sight.now) (query_of c.args.query.now) (length table.columns) table.rows
+    c.in-Ok.ensures.ok c.in-Ok-possible.list c.in-Ok-possible.ensures.lists
+
+pub returns-in-Err-possible-clause-err : goal.returns-in-Err-possible-clause-err
+returns-in-Err-possible-clause-err g c =
+    let old = c.args.pass.now.words in
+    let h = history_of old c.args.sight.now in
+    let actions = actions_before c.args.sight.now in
+    let q = query_of c.args.query.now in
+    let table = c.in-Ok.table in
+    let new = c.possible.new.pass.words in
+    λ columns. subst (IsUnmet h actions g.N.Site.log.cap new (plain.Asks ask.Possible columns q)) (sym c.unlisted.ensures)
+    (possible_fails old h actions c.args.sight.now.tables c.requires.sight.denotes new q table.rows c.in-Ok.ensures.few g.N.Site.log.cap columns c.made-made.result c.made.result c.in-Err-possible.e
+    (λ e. c.in-Err-possible.ensures.full (ap Err e)) (λ e. let fewer = c.in-Err-possible.ensures.fewer (ap Err e) in let before = c.made-made.ensures in let after = c.made.ensures in omega (arith, fewer, before, after))
+    (λ e. past_of_row h actions q c.answered.new.pass.words c.args.sight.now.global (length table.columns) table.rows c.in-Ok.ensures.ok new columns (c.in-Err-possible.ensures.many (ap Err e))))

@@ -1,0 +1,14 @@
+-- The rows that an action takes from a query.
+use Rattle.std.specs.Prelude.{◌≡◌, ℕ, List, []}
+use Rattle.ct_word.specs.declared.values.CRow.{CRow}
+use Rattle.ct_word.specs.Change.{PlainCommit}
+use Rattle.ct_query.specs.Plain.{PlainAction}
+use Rattle.ct_query.specs.Plain as plain
+use Rattle.ct_query.specs.Fits.{width}
+use Rattle.ct_query.specs.Schema.{schema}
+use Rattle.ct_statement.specs.Asking.{AnswersQuery}
+
+-- rows are those that an action takes from its query; an action without a query takes none
+abbrev pub AreTakenFor : List ℕ → ℕ → List PlainCommit → List PlainAction → PlainAction → List CRow → Type 0
+AreTakenFor words global h before (plain.InsertQuery name q) rs = AnswersQuery words global h before q (width (schema h before).tables q) rs
+AreTakenFor words global h before a rs = rs ≡ []
