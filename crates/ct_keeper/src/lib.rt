@@ -8,7 +8,6 @@ mod effects;
 mod error;
 mod growing;
 mod keeper;
-mod latest;
 mod tables;
 
 pub use catalogue::{Offer, Outcome, Snapshot};

@@ -11,7 +11,7 @@ use Rattle.ct_word.specs.Value.{World, same_cells, tuple_at}
 use Rattle.ct_word.specs.Change.{PlainRow}
 use Rattle.ct_word.specs.Condition.{SameTruth, holds_at}
 use Rattle.ct_word.specs.Reading.{term_at, condition_at, plain_crow}
-use Rattle.ct_word.specs.WellFormed.{IsWellFormed, is_place_of}
+use Rattle.ct_word.specs.WellFormed.{is_place_of}
 use Rattle.ct_query.specs.Step.{shown_rows}
 use Rattle.ct_rewrite.specs.declared.answer.Node.{Node}
 use Rattle.ct_rewrite.specs.declared.answer.AnswerRow.{AnswerRow}

@@ -1,6 +1,6 @@
 -- How many terms a question has: at most as many as the statement asks about.
-use Rattle.std.proofs.Common.{◌≡◌, ℕ, ◌+◌, ◌<◌, ◌≤◌, Bool, true, false, ◌||◌, List, [], ◌∷◌, ◌++◌, map, length, get_or, refl, ap, sym, subst, ◌∙◌, arith, inl, inr}
-use Rattle.std.specs.Prelude.{◌⊎◌, All, flat_map, if◌then◌else◌}
+use Rattle.std.proofs.Common.{◌≡◌, ℕ, ◌<◌, ◌≤◌, Bool, true, false, List, [], ◌∷◌, ◌++◌, map, length, get_or, refl, ap, sym, subst, ◌∙◌, arith, inl, inr}
+use Rattle.std.specs.Prelude.{◌⊎◌, flat_map, if◌then◌else◌}
 use Rattle.std.specs.List.{Contains, IsDistinct, list_any}
 use Rattle.std.specs.Cmp.{IsEquivalence}
 use Rattle.std.proofs.lemmas.Bool.{cases_Bool}
@@ -13,7 +13,6 @@ use Rattle.std.proofs.lemmas.Map.Views.{list_any-from_Contains, Contains-from_an
 use Rattle.ct_word.specs.declared.values.Term.{Term}
 use Rattle.ct_word.specs.declared.values.Term.TheVariants as term
 use Rattle.ct_word.specs.declared.values.CRow.{CRow}
-use Rattle.ct_word.specs.declared.values.Value.{Value}
 use Rattle.ct_word.specs.Value.{same_term}
 use Rattle.ct_word.specs.Condition.{Condition, Conditions, True, False, Same, Not, And, Or, none, also}
 use Rattle.ct_word.specs.Change.{PlainCommit}
@@ -27,9 +26,9 @@ use Rattle.ct_query.specs.declared.action.Read.TheVariants as read
 use Rattle.ct_query.specs.Plain as plain
 use Rattle.ct_query.specs.Plain.{PlainQuery, PlainAction, PlainStatement, Table, Select, Project, Product, Union, Except, Intersect}
 use Rattle.ct_query.specs.Reads.{tables_of, query_reads, action_reads}
-use Rattle.ct_query.specs.Terms.{condition_terms, all_terms, query_terms, change_terms, action_terms, statement_terms, distinct_terms, changes_that_write, reads_with, terms_asked, term_count}
+use Rattle.ct_query.specs.Terms.{condition_terms, all_terms, query_terms, change_terms, action_terms, distinct_terms, changes_that_write, reads_with, term_count}
 use Rattle.ct_query.proofs.Within.{of_added}
-use Rattle.ct_cnf.specs.Encoding.{IsTermBelow, AreTermsBelow}
+use Rattle.ct_cnf.specs.Encoding.{AreTermsBelow}
 use Rattle.ct_condition.specs.Terms.{IsNamed, IsNamedInSome}
 use Rattle.ct_table.specs.Denotes.{TableView, IsTermFor, Denotes}
 use Rattle.ct_table.specs.Terms.{RowsFrom}

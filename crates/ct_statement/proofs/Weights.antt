@@ -1,5 +1,5 @@
 -- The bound on a statement's words grows with the counts of rows of the tables, and these grow with the history.
-use Rattle.std.proofs.Common.{◌≡◌, ℕ, ◌+◌, ◌*◌, ◌≤◌, Bool, true, false, ◌||◌, List, [], ◌∷◌, ◌++◌, length, map, max, refl, ap, sym, subst, ◌∙◌, arith}
+use Rattle.std.proofs.Common.{◌≡◌, ℕ, ◌+◌, ◌*◌, ◌≤◌, Bool, true, false, ◌||◌, List, [], ◌∷◌, ◌++◌, length, map, refl, ap, sym, subst, ◌∙◌, arith}
 use Rattle.std.specs.Prelude.{Option, Some, None, option_map, unwrap_or, if◌then◌else◌}
 use Rattle.std.specs.List.{AllByRecursion, IsDistinct, list_any}
 use Rattle.std.proofs.lemmas.List.{append_assoc}
@@ -19,7 +19,7 @@ use Rattle.ct_query.specs.Size.{row_bound, greatest}
 use Rattle.ct_query.specs.Bounds.{ops, terms, width, product_counts, partial_products, select_words, operator_words, side_words, query_words, nodes, list_words, change_words, own_words, bound}
 use Rattle.ct_query.specs.Worlds.{changes_of}
 use Rattle.ct_query.proofs.Laws.{pattern_changes-append}
-use Rattle.ct_query.proofs.Sublists.{all_of, nothing_of, sublist-append, sublist_of_sublist, pattern_part}
+use Rattle.ct_query.proofs.Sublists.{all_of, sublist-append, sublist_of_sublist, pattern_part}
 use Rattle.ct_table.proofs.Following.{first_part}
 use Rattle.ct_table.proofs.Counted.{rows_counted}
 use Rattle.ct_table.proofs.QuerySizes.{row_bound_grows}
@@ -275,7 +275,7 @@ pub count_grows : (h g : List PlainCommit) → IsPrefix h g → (actions : List 
 count_grows h g p actions t =
     subst (λ k. count h actions t ≤ count k actions t) p.1
     (distinct_grow (patterns h actions t) (patterns (h ++ p.0) actions t) (actions_part (patterns h []) (patterns (h ++ p.0) []) grown actions t)) where
-  grown : (n : List ℕ) → IsSublist (patterns h [] n) (patterns (h ++ p.0) [] n)
-  grown n =
-      subst (λ (f : Patterns). IsSublist (patterns h [] n) (f n)) (sym (ap (pattern_changes no_patterns) (changes_split h p.0) ∙ pattern_changes-append no_patterns (changes_of h) (changes_of p.0)))
-      (changes_kept (patterns h []) (changes_of p.0) n)
+      grown : (n : List ℕ) → IsSublist (patterns h [] n) (patterns (h ++ p.0) [] n)
+      grown n =
+          subst (λ (f : Patterns). IsSublist (patterns h [] n) (f n)) (sym (ap (pattern_changes no_patterns) (changes_split h p.0) ∙ pattern_changes-append no_patterns (changes_of h) (changes_of p.0)))
+          (changes_kept (patterns h []) (changes_of p.0) n)

@@ -21,8 +21,8 @@ pub returns-in-Err-clause-err : goal.returns-in-Err-clause-err
 returns-in-Err-clause-err g c =
     let old = c.args.pass.now.words in
     λ columns.
-        unasked_unmet (history_of old c.args.sight.now) (actions_before c.args.sight.now) g.N.Site.log.cap c.answered.new.pass.words ask.Possible columns (query_of c.args.query.now) c.in-Err.why
-        c.in-Err.ensures.err
+    unasked_unmet (history_of old c.args.sight.now) (actions_before c.args.sight.now) g.N.Site.log.cap c.answered.new.pass.words ask.Possible columns (query_of c.args.query.now) c.in-Err.why
+    c.in-Err.ensures.err
 
 pub returns-clause-ok : goal.returns-clause-ok
 returns-clause-ok g c =

@@ -5,6 +5,7 @@ use Rattle.ct_query.specs.Plain as plain
 use Rattle.ct_query.specs.declared.action.Ask.TheVariants as ask
 use Rattle.ct_query.specs.Views.{query_of}
 use Rattle.ct_table.proofs.Snapshots.{kept_grows}
+use Rattle.ct_certain.specs.Certain.{IsKeptWorld}
 use Rattle.ct_statement.specs.Sight.{actions_before, history_of}
 use Rattle.ct_statement.specs.Unmet.{IsUnmet}
 use Rattle.ct_statement.proofs.Evaluating.{certain_fails}
@@ -27,14 +28,15 @@ certain-requires-clause-kept g c =
     let h = history_of old c.args.sight.now in
     let actions = actions_before c.args.sight.now in
     let kept = arc_value c.args.sight.now.kept in
-    world_taken new h actions c.args.sight.now.global kept c.in-Ok.ensures.ok.condition (kept_grows old new c.answered.ensures.longer c.words.ensures.formed h actions kept c.requires.sight.world)
+    subst (IsKeptWorld new c.args.sight.now.global) (sym c.deref.ensures)
+    (world_taken new h actions c.args.sight.now.global kept c.in-Ok.ensures.ok.condition (kept_grows old new c.answered.ensures.longer c.words.ensures.formed h actions kept c.requires.sight.world))
 
 pub returns-in-Err-clause-err : goal.returns-in-Err-clause-err
 returns-in-Err-clause-err g c =
     let old = c.args.pass.now.words in
     λ columns named.
-        unasked_unmet (history_of old c.args.sight.now) (actions_before c.args.sight.now) g.N.Site.log.cap c.answered.new.pass.words ask.Certain columns (query_of c.args.query.now) c.in-Err.why
-        c.in-Err.ensures.err
+    unasked_unmet (history_of old c.args.sight.now) (actions_before c.args.sight.now) g.N.Site.log.cap c.answered.new.pass.words ask.Certain columns (query_of c.args.query.now) c.in-Err.why
+    c.in-Err.ensures.err
 
 pub returns-clause-ok : goal.returns-clause-ok
 returns-clause-ok g c =

@@ -16,8 +16,8 @@ answer_of-requires-clause-global g c = subst (λ ws. IsTrue (is_place_of ws clas
 
 pub answer_of-requires-clause-rows : goal.answer_of-requires-clause-rows
 answer_of-requires-clause-rows g c =
-    subst (λ ws. AreRows ws (length c.args.columns) c.as_slice.result.now) (sym c.words.ensures.words)
-    (subst (λ rs. AreRows c.answered.new.pass.words (length c.args.columns) rs) (sym c.as_slice.ensures)
+    subst (λ ws. AreRows ws (length c.args.columns) c.as_slice-rows.result.now) (sym c.words.ensures.words)
+    (subst (λ rs. AreRows c.answered.new.pass.words (length c.args.columns) rs) (sym c.as_slice-rows.ensures)
     (subst (λ n. AreRows c.answered.new.pass.words n c.in-Ok.table.rows) (c.in-Ok.ensures.width ∙ sym c.requires.named) c.in-Ok.ensures.ok.are))
 
 pub returns-clause-ok : goal.returns-clause-ok
@@ -28,7 +28,7 @@ returns-clause-ok g c =
     let global = c.args.sight.now.global in
     let answer = c.in_ok-answer_of.field-0 in
     answer_means new global (history_of old c.args.sight.now) (actions_before c.args.sight.now) (query_of c.args.query.now) (length table.columns) table.rows c.in-Ok.ensures.ok c.args.columns answer
-    (subst (λ ws. IsPrinted ws c.args.columns global table.rows answer) c.words.ensures.words (subst (λ rs. IsPrinted c.words.result.now c.args.columns global rs answer) c.as_slice.ensures c.in_ok-answer_of.ensures))
+    (subst (λ ws. IsPrinted ws c.args.columns global table.rows answer) c.words.ensures.words (subst (λ rs. IsPrinted c.words.result.now c.args.columns global rs answer) c.as_slice-rows.ensures c.in_ok-answer_of.ensures))
 
 pub returns-in-Err-clause-err : goal.returns-in-Err-clause-err
 returns-in-Err-clause-err g c =
