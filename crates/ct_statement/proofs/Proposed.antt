@@ -24,10 +24,6 @@ use Rattle.ct_query.specs.Plain.{PlainQuery, PlainAction}
 use Rattle.ct_query.specs.Schema.{schema}
 use Rattle.ct_query.specs.Terms.{condition_terms, action_terms, change_terms}
 use Rattle.ct_query.specs.Worlds.{changes_of}
-use Rattle.ct_query.specs.Views.{action_of}
-use Rattle.ct_query.specs.declared.action.Action.{Action}
-use Rattle.ct_query.specs.declared.action.Action.TheVariants as action
-use Rattle.ct_query.specs.declared.query.Pred.{Pred}
 use Rattle.ct_query.specs.declared.schema.Heading.{Heading}
 use Rattle.ct_query.proofs.Fitting.{condition_on, narrow_fits}
 use Rattle.ct_history.specs.Encodes.{IsEncodable, IsChangeFor, HasTermsOf}
@@ -50,15 +46,7 @@ use Rattle.ct_statement.proofs.TermSources.{source_writes, asked_source}
 pub deletion_encodable : (s : List Heading) (name : List ℕ) (c : Condition) → FitsAction s (plain.Delete name c) → count_of (columns_in s name) ≤ 2 ^ 28 → IsEncodable (plain.Delete name c)
 deletion_encodable s name c f few = condition_on 0 c (narrow_fits (count_of (columns_in s name)) c few f.1)
 
--- so have those of every other action
-pub others_encodable : (s : List Heading) (x : Action) → FitsAction s (action_of x) → ((name : List ℕ) (p : Pred) → x ≡ action.Delete name p → ⊥) → IsEncodable (action_of x)
-others_encodable s (action.Create name columns) f other = tt
-others_encodable s (action.InsertRows name rows p) f other = (f.2, f.3)
-others_encodable s (action.InsertQuery name q) f other = tt
-others_encodable s (action.Delete name p) f other = absurd (other name p refl)
-others_encodable s (action.Assert p) f other = f
-
-module _ (words : List ℕ) (formed : IsWellFormed words) (global : ℕ) (h : List PlainCommit) (before : List PlainAction) where
+module _ (words : List ℕ) (global : ℕ) (h : List PlainCommit) (before : List PlainAction) where
   -- rows that an action takes from its query have their places
   pub taken_placed : (a : PlainAction) (rs : List CRow) → AreTakenFor words global h before a rs → All (IsRowOf words) rs
   taken_placed (plain.InsertQuery name q) rs t =
@@ -69,6 +57,7 @@ module _ (words : List ℕ) (formed : IsWellFormed words) (global : ℕ) (h : Li
   taken_placed (plain.Delete name c) rs t = subst (All (IsRowOf words)) (sym t) (All-nil (IsRowOf words))
   taken_placed (plain.Assert c) rs t = subst (All (IsRowOf words)) (sym t) (All-nil (IsRowOf words))
 
+module _ (words : List ℕ) (formed : IsWellFormed words) (global : ℕ) (h : List PlainCommit) (before : List PlainAction) where
   -- the change agrees with its action
   pub agrees_then : (a : PlainAction) (rs : List CRow) (x : PlainChange) → IsChangeFor a (map (plain_crow words) rs) x → AreTakenFor words global h before a rs → AgreesWith h before a x
   agrees_then (plain.InsertQuery name q) rs x is t =

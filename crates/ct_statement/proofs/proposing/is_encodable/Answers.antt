@@ -1,0 +1,30 @@
+use Rattle.std.proofs.Common.{◌≡◌, ◌≤◌, ◌^◌, [], map, length, None, Some, arith, subst, sym}
+use Rattle.std.specs.Prelude.{IsSome}
+use Rattle.std.proofs.lemmas.Bool.{false≢true, leb-true}
+use Rattle.ct_query.specs.Fits.{FitsAction, columns_in, count_of}
+use Rattle.ct_query.specs.Pred.{condition_of}
+use Rattle.ct_query.specs.Views.{action_of}
+use Rattle.ct_history.specs.Encodes.{IsEncodable}
+use Rattle.ct_table.specs.Denotes.{heading_of, find_table}
+use Rattle.ct_table.specs.Shared.{view_of}
+use Rattle.ct_algebra.proofs.Found.{no_columns, stands_for}
+use Rattle.ct_statement.proofs.Proposed.{deletion_encodable}
+use Rattle.ct_statement.proofs.proposing.is_encodable.Goals as goal
+
+pub unreachable-requires : goal.unreachable-requires
+unreachable-requires c =
+    let db = c.args.tables.now in
+    let fits = subst (λ a. FitsAction (map heading_of db) (action_of a)) c.in-Delete.is c.requires.fits in
+    false≢true (subst IsSome (no_columns c.in-Delete.name db (subst (λ n. find_table db n ≡ None) c.as_str.ensures c.in-None.ensures)) fits.0)
+
+pub returns-in-Some : goal.returns-in-Some
+returns-in-Some c = λ few.
+    let db = c.args.tables.now in
+    let hs = map heading_of db in
+    let name = c.in-Delete.name in
+    let table = c.in-Some.table.now in
+    let fits = subst (λ a. FitsAction hs (action_of a)) c.in-Delete.is c.requires.fits in
+    let found = stands_for [] name (view_of name table) db (subst (λ n. find_table db n ≡ Some (view_of n table)) c.as_str.ensures c.in-Some.ensures) in
+    let short : length table.columns ≤ 2 ^ 28 = let at_most = leb-true c.len.result 268435456 few in omega (arith, at_most, c.len.ensures) in
+    subst (λ a. IsEncodable (action_of a)) (sym c.in-Delete.is)
+    (deletion_encodable hs name (condition_of c.in-Delete.pred) fits (subst (λ o. count_of o ≤ 2 ^ 28) (sym found.columns) short))
