@@ -1,6 +1,6 @@
 // A transaction after one more statement.
 
-ghost use Rattle.std.specs.Prelude.{◌≡◌, ◌+◌, ◌≤◌, ℕ, List, length, IfOk, IfErr, MatchResult, vec_len, vec_capacity};
+ghost use Rattle.std.specs.Prelude.{◌≡◌, ◌+◌, ◌<◌, ◌≤◌, ◌∷◌, [], ℕ, List, length, IfOk, IfErr, MatchResult, vec_len, vec_capacity};
 ghost use Rattle.ct_query.specs.Plain as plain;
 ghost use Rattle.ct_query.specs.Reads.{reads_of, with_reads};
 ghost use Rattle.ct_query.specs.Views.{action_of};
@@ -32,6 +32,18 @@ fn with_room(reads: List<Read>, more: usize) -> Result<Vec<Read>, List<Read>>
     }
 }
 
+/// Adds a read that is not there yet. There is room for it.
+fn add_reserved(reads: &mut Vec<Read>, read: Read)
+    requires room { vec_len reads.old < vec_capacity reads.old }
+    ensures items { reads.new.items ≡ with_reads reads.old.items (read ∷ []) }
+    ensures len { vec_len reads.new ≤ vec_len reads.old + 1 }
+    ensures capacity { vec_capacity reads.new ≡ vec_capacity reads.old }
+{
+    if !reads.contains(&read) {
+        reads.push_reserved(read);
+    }
+}
+
 /// The reads, and those of the second list that are not there yet, in order. There is room for all of them.
 fn with_reads(reads: Vec<Read>, more: List<Read>) -> List<Read>
     requires room { vec_len reads + length more ≤ vec_capacity reads }
@@ -39,9 +51,7 @@ fn with_reads(reads: Vec<Read>, more: List<Read>) -> List<Read>
 {
     let mut all = reads;
     for read in more.into_vec() {
-        if !all.contains(&read) {
-            all.push_reserved(read);
-        }
+        add_reserved(&mut all, read);
     }
     List::from_vec(all)
 }
