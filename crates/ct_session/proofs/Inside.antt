@@ -53,8 +53,8 @@ prepared_action words o session fresh st p step reads k = by_asked k.asked k.res
   by_asked : (asked : PlainStatement) → resolved (schema (history_of words o.sight) (actions_before o.sight)) session fresh st ≡ Ok asked
       → IsPreparedFor words (history_of words o.sight) (actions_before o.sight) (listed words o.changes) fresh o.sight asked (prepared.Change p step reads) → ForAction words o session fresh st p step reads
   by_asked (plain.Act a) r i = subst (λ b. resolved (schema (history_of words o.sight) (actions_before o.sight)) session fresh st ≡ Ok (plain.Act b)
-          → IsChange words (history_of words o.sight) (actions_before o.sight) (listed words o.changes) fresh o.sight b (action_of p.action) p.changes p.fresh step × (reads ≡ reads_of (plain.Act b))
-          → ForAction words o session fresh st p step reads) i.0.action (λ s j. record { resolves = s; change = j.0; reads_are = j.1 }) r i
+      → IsChange words (history_of words o.sight) (actions_before o.sight) (listed words o.changes) fresh o.sight b (action_of p.action) p.changes p.fresh step × (reads ≡ reads_of (plain.Act b))
+      → ForAction words o session fresh st p step reads) i.0.action (λ s j. record { resolves = s; change = j.0; reads_are = j.1 }) r i
   by_asked (plain.Asks k' columns query) r i = absurd i
   by_asked plain.Begin r i = absurd i
   by_asked plain.Commit r i = absurd i

@@ -70,16 +70,18 @@ pub(crate) fn after_query(open: Open, more: List<Read>) -> Result<Open, Open>
         changes,
         reads,
     } = open;
-    let (reads, is_read) = match with_room(reads, more.len()) {
-        Ok(room) => (with_reads(room, more), true),
-        Err(reads) => (reads, false),
-    };
-    let open = Open {
-        sight,
-        changes,
-        reads,
-    };
-    if is_read { Ok(open) } else { Err(open) }
+    match with_room(reads, more.len()) {
+        Ok(room) => Ok(Open {
+            sight,
+            changes,
+            reads: with_reads(room, more),
+        }),
+        Err(reads) => Err(Open {
+            sight,
+            changes,
+            reads,
+        }),
+    }
 }
 
 /// The transaction after one more action, whose change list and step these are, and what it reads.

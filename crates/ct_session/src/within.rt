@@ -30,11 +30,7 @@ struct Inside<N: Site> {
 }
 
 /// The refusal of a statement. The transaction stays.
-fn refused<N: Site>(
-    inside: Inside<N>,
-    statement: &Statement,
-    why: Refusal,
-) -> (Session<N>, Reply)
+fn refused<N: Site>(inside: Inside<N>, statement: &Statement, why: Refusal) -> (Session<N>, Reply)
     requires session { IsSession inside.pass.words inside.seen (Some inside.open) }
     requires refused { IsRefused (history_of inside.pass.words inside.open.sight) (actions_before inside.open.sight) N.log.cap inside.pass.words inside.pass.session inside.fresh statement.now why }
     ensures session { IsSession result.0.pass.words result.0.seen result.0.open }
@@ -186,7 +182,14 @@ pub(crate) fn within<N: Site>(
     let Some(open) = open else { unreachable!() };
     let _before = pass.words();
     let prepared = prepare(
-        alloc, arena, &mut pass, &open.sight, open.changes, fresh, true, statement,
+        alloc,
+        arena,
+        &mut pass,
+        &open.sight,
+        open.changes,
+        fresh,
+        true,
+        statement,
     );
     let _after = pass.words();
     let inside = Inside {
@@ -197,11 +200,13 @@ pub(crate) fn within<N: Site>(
     };
     match prepared {
         Ok(Prepared::Answer { answered, reads }) => answer(inside, statement, answered, reads),
-        Ok(Prepared::Change {
-            proposal,
-            step: Some(step),
-            reads,
-        }) => change(alloc, inside, statement, proposal, step, reads),
+        Ok(
+            Prepared::Change {
+                proposal,
+                step: Some(step),
+                reads,
+            },
+        ) => change(alloc, inside, statement, proposal, step, reads),
         Ok(Prepared::Change { .. }) => unreachable!(),
         Err(why) => refused(inside, statement, why),
     }
