@@ -60,16 +60,16 @@ fn with_reads(reads: Vec<Read>, more: List<Read>) -> List<Read>
 ///
 /// # Errors
 /// The transaction as it was, where there is no memory.
-pub(crate) fn after_query(open: Open, more: List<Read>) -> Result<Open, Open>
-    ensures open { (words : List ℕ) → IsOpen words open → IfOk result (IsOpen words) }
-    ensures same { (words : List ℕ) → IsOpen words open → IfErr result (IsOpen words) }
-    ensures transaction { MatchResult result (λ next. transaction_of next ≡ having_read more (transaction_of open)) (λ same. transaction_of same ≡ transaction_of open) }
+pub(crate) fn after_query(transaction: Open, more: List<Read>) -> Result<Open, Open>
+    ensures extended { (words : List ℕ) → IsOpen words transaction → IfOk result (IsOpen words) }
+    ensures same { (words : List ℕ) → IsOpen words transaction → IfErr result (IsOpen words) }
+    ensures state { MatchResult result (λ next. transaction_of next ≡ having_read more (transaction_of transaction)) (λ same. transaction_of same ≡ transaction_of transaction) }
 {
     let Open {
         sight,
         changes,
         reads,
-    } = open;
+    } = transaction;
     match with_room(reads, more.len()) {
         Ok(room) => Ok(Open {
             sight,
@@ -90,23 +90,23 @@ pub(crate) fn after_query(open: Open, more: List<Read>) -> Result<Open, Open>
 /// A transaction like the one before, where there is no memory.
 pub(crate) fn after_action(
     alloc: Global,
-    open: Open,
+    transaction: Open,
     action: Action,
     changes: u32,
     step: Step,
     more: List<Read>,
 ) -> Result<Open, Open>
-    requires fits { FitsEffect open.sight.tables step.effect }
+    requires fits { FitsEffect transaction.sight.tables step.effect }
     requires reads { more ≡ reads_of (plain.Act (action_of action)) }
-    ensures open { (words : List ℕ) → IsOpen words open → IsProposal words (history_of words open.sight) (actions_before open.sight) (listed words open.changes) (action_of action) changes → IsStep words open.sight (action_of action) step → IfOk result (IsOpen words) }
-    ensures same { (words : List ℕ) → IsOpen words open → IfErr result (IsOpen words) }
-    ensures transaction { MatchResult result (λ next. transaction_of next ≡ extended_by (plain.Act (action_of action)) (transaction_of open)) (λ same. transaction_of same ≡ transaction_of open) }
+    ensures extended { (words : List ℕ) → IsOpen words transaction → IsProposal words (history_of words transaction.sight) (actions_before transaction.sight) (listed words transaction.changes) (action_of action) changes → IsStep words transaction.sight (action_of action) step → IfOk result (IsOpen words) }
+    ensures same { (words : List ℕ) → IsOpen words transaction → IfErr result (IsOpen words) }
+    ensures state { MatchResult result (λ next. transaction_of next ≡ extended_by (plain.Act (action_of action)) (transaction_of transaction)) (λ same. transaction_of same ≡ transaction_of transaction) }
 {
     let Open {
         sight,
         changes: begun,
         reads,
-    } = open;
+    } = transaction;
     let room = match with_room(reads, more.len()) {
         Ok(room) => room,
         Err(reads) => {
