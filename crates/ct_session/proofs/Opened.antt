@@ -1,5 +1,5 @@
--- An open transaction: when it begins, as words are added, and after one more action.
-use Rattle.std.proofs.Common.{◌≡◌, ℕ, List, [], ◌∷◌, ◌++◌, refl, ap, sym, subst, ◌∙◌}
+-- An open transaction: when it begins, as words are added, and after one more statement.
+use Rattle.std.proofs.Common.{◌≡◌, ◌≤◌, ℕ, arith, max, List, [], ◌∷◌, ◌++◌, refl, ap, sym, subst, ◌∙◌}
 use Rattle.std.specs.Prelude.{Option, Some, None, All, IsTrue, IfSome}
 use Rattle.std.specs.List.{Contains, list_all}
 use Rattle.std.proofs.lemmas.List.Elements.{All-nil}
@@ -16,14 +16,22 @@ use Rattle.ct_query.specs.Agrees.{Agrees}
 use Rattle.ct_query.specs.Fits.{FitAfter}
 use Rattle.ct_query.specs.Reads.{with_reads, action_reads}
 use Rattle.ct_query.specs.Frame.{reads_of_actions}
+use Rattle.ct_arena.specs.Seen.{Seen}
+use Rattle.ct_history.specs.Kept.{kept_of}
 use Rattle.ct_table.specs.Snapshot.{commits_to}
+use Rattle.ct_parse.specs.declared.tree.Statement.{Statement}
+use Rattle.ct_transcript.specs.declared.reply.Refusal.{Refusal}
+use Rattle.ct_transcript.specs.declared.reply.Refusal.TheVariants as refusal
 use Rattle.ct_statement.specs.declared.sight.Sight.{Sight}
 use Rattle.ct_statement.specs.Proposals.{IsProposal, listed}
 use Rattle.ct_statement.specs.Sight.{actions_before, history_of, IsSight}
 use Rattle.ct_session.specs.declared.session.Open.{Open}
-use Rattle.ct_session.specs.Sessions.{IsBegunList, IsOpen}
+use Rattle.ct_session.specs.declared.preparing.Prepared.{Prepared}
+use Rattle.ct_session.specs.Prepared.{IsPrepared, IsRefused}
+use Rattle.ct_session.specs.Replying.{standing}
+use Rattle.ct_session.specs.Sessions.{IsBegunList, IsOpen, IsSession}
 use Rattle.ct_session.proofs.Extended.{agrees_push, fits_push, writable_push, reads_push, reads_kept}
-use Rattle.ct_session.proofs.Going.{version_stays}
+use Rattle.ct_session.proofs.Going.{version_stays, version_within}
 use Rattle.ct_session.proofs.Sights.{sight_grows}
 
 -- a transaction of changes that are listed nowhere, or at a place
@@ -102,3 +110,42 @@ module _ (words : List ℕ) (o : Open) (k : IsOpen words o) where
         open_from words sight (Some changes) (with_reads o.reads (action_reads a)) h (actions ++ a ∷ []) (xs ++ p.change ∷ []) (ap (commits_to words) version) grown p.list_is
         s p.place (agrees_push h actions xs a p.change k.agrees p.agrees) (fits_push h actions xs p.change k.agrees k.fits p.fits)
         (writable_push xs p.change k.writable p.writable) (reads_push o.reads actions a k.reads)
+
+-- a session over words is one over further ones
+pub session_grows : (old new : List ℕ) → IsPrefix old new → IsWellFormed new → (seen : ℕ) (open' : Option Open) → IsSession old seen open' → IsSession new seen open'
+session_grows old new longer formed seen open' k = record {
+  seen_is = version_within old new longer seen k.seen_is;
+  open_is = by_open open' k.open_is;
+} where
+  by_open : (o : Option Open) → IfSome o (IsOpen old) → IfSome o (IsOpen new)
+  by_open None i = tt
+  by_open (Some o) i = open_grows old new longer formed o i
+
+-- what was prepared for a statement of it, or why that was refused, is so over the further words
+module _ (old new : Seen) (longer : IsPrefix old.words new.words) (kept : kept_of new ≡ kept_of old) (o : Open) (k : IsOpen old.words o) (fresh : ℕ) (st : Statement) where
+  session_kept : old.session ≡ new.session
+  session_kept = cc
+
+  history_kept : history_of old.words o.sight ≡ history_of new.words o.sight
+  history_kept = sym (history_stays old.words new.words longer o.sight k.sight)
+
+  listed_kept : listed old.words o.changes ≡ listed new.words o.changes
+  listed_kept = sym (listed_stays old.words new.words longer o.changes (actions_before o.sight) k.list)
+
+  pub prepared_later : (p : Prepared) → IsPrepared new.words (history_of old.words o.sight) (actions_before o.sight) (listed old.words o.changes) old.session fresh o.sight st p
+      → IsPrepared new.words (history_of new.words o.sight) (actions_before o.sight) (listed new.words o.changes) new.session fresh o.sight st p
+  prepared_later p i =
+      subst (λ h. IsPrepared new.words h (actions_before o.sight) (listed new.words o.changes) new.session fresh o.sight st p) history_kept
+      (subst (λ l. IsPrepared new.words (history_of old.words o.sight) (actions_before o.sight) l new.session fresh o.sight st p) listed_kept
+      (subst (λ n. IsPrepared new.words (history_of old.words o.sight) (actions_before o.sight) (listed old.words o.changes) n fresh o.sight st p) session_kept i))
+
+  pub refused_later : (N : ℕ) (why : Refusal) → IsRefused (history_of old.words o.sight) (actions_before o.sight) N new.words old.session fresh st why
+      → IsRefused (history_of new.words o.sight) (actions_before o.sight) N new.words new.session fresh st why
+  refused_later N why i =
+      subst (λ h. IsRefused h (actions_before o.sight) N new.words new.session fresh st why) history_kept
+      (subst (λ n. IsRefused (history_of old.words o.sight) (actions_before o.sight) N new.words n fresh st why) session_kept i)
+
+-- no refusal stands past what was seen and what the statement saw
+pub standing_within : (seen version n : ℕ) (why : Refusal) → seen ≤ n → version ≤ n → max seen (standing seen version why) ≤ n
+standing_within seen version n refusal.Memory p q = omega arith
+standing_within seen version n _ p q = omega arith
