@@ -25,6 +25,7 @@ pub(crate) fn commit<N: Site>(
     requires some { IsSome session.open }
     requires order { statement.now ≡ tree.Commit }
     ensures session { IsSession result.0.pass.words result.0.seen result.0.open }
+    ensures ended { keeper.new.ended ≡ keeper.old.ended }
     ensures executes { Executes N.log.cap (state_of session.pass session.seen session.fresh session.open) (state_of result.0.pass result.0.seen result.0.fresh result.0.open) session.pass.words result.0.pass.words statement.now result.1 }
 {
     let _words = session.pass.words();
