@@ -1,4 +1,12 @@
 pub mod Own
 pub mod Sameness
+pub mod Weights
 pub mod Going
+pub mod Listed
+pub mod Replies
+pub mod Sights
+pub mod Extended
+pub mod Opened
+pub mod Ordered
+pub mod Inside
 pub mod Readings
