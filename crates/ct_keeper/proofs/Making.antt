@@ -12,6 +12,7 @@ use Rattle.ct_word.specs.Change.{PlainChange, PlainCommit}
 use Rattle.ct_word.specs.Reading.{commits_of}
 use Rattle.ct_word.specs.WellFormed.{IsWellFormed, is_place_of}
 use Rattle.ct_word.specs.Writable.{is_writable}
+use Rattle.ct_word.proofs.Prefixes.{prefix_same}
 use Rattle.ct_query.specs.Schema.{schema, created_by_change}
 use Rattle.ct_query.specs.Fits.{FitsChange, FitChanges, FitAfter}
 use Rattle.ct_query.specs.Worlds.{changes_of}
@@ -21,6 +22,9 @@ use Rattle.ct_history.specs.Written.{IsWritten, plain_written}
 use Rattle.ct_table.specs.Denotes.{IsKept, heading_of, Denotes}
 use Rattle.ct_table.specs.Tables.{AreRows}
 use Rattle.ct_table.specs.Snapshot.{IsGlobal}
+use Rattle.ct_condition.proofs.Reached.{formed_before}
+use Rattle.ct_table.proofs.Changing.{denotes_grows}
+use Rattle.ct_table.proofs.Snapshots.{global_grows}
 use Rattle.ct_table.proofs.Carrying.{same_changes_denote, same_changes_global}
 use Rattle.ct_table.proofs.Following.{change_follows}
 use Rattle.ct_keeper.specs.declared.latest.Content.{Content}
@@ -72,6 +76,13 @@ module _ (h : List PlainCommit) where
   pub one_fits : (xs : List PlainChange) (x : PlainChange) (rest : List PlainChange) → FitsNext h xs (x ∷ rest) → FitsNext h (xs ++ x ∷ []) rest
   one_fits xs x rest f = λ c is.
       subst (λ hs. FitChanges hs rest) (sym (change_follows (h ++ commit_by xs ∷ []) (h ++ c ∷ []) x (goes_on xs x c is)).headings) (f (commit_by xs) refl).1
+
+-- what was made is so in more words
+pub made_grows : (old new : List ℕ) → IsPrefix old new → IsWellFormed new → (h : List PlainCommit) (xs : List PlainChange) (content : Content) → IsMade old h xs content → IsMade new h xs content
+made_grows old new longer formed h xs content made = record {
+  denotes = λ c is. denotes_grows old new longer (formed_before old new longer formed) (h ++ c ∷ []) [] content.tables (made.denotes c is);
+  condition = λ c is. global_grows old new longer formed (h ++ c ∷ []) [] content.global (made.condition c is);
+}
 
 -- how far changes were applied
 pub record IsApplied (old mid : List ℕ) (was : Content) (changes : List Written) (i : ℕ) (content : Content) : Type 0 where
@@ -140,3 +151,23 @@ module _ (old : List ℕ) (was : Content) (changes : List Written) (can : CanApp
               (one_made h mid new grown formed done content is.made w next_written (subst (λ x. IsTrue (is_writable x)) (sym same) can') after does));
           fits = subst (λ xs. FitsNext h xs (map plain (drop (i + 1) changes))) (sym more) (subst (λ n. FitsNext h (done ++ plain w ∷ []) (map plain (drop n changes))) (sym (add-one i)) (one_fits h done (plain w) rest next));
         }
+
+-- the one change of a list
+module _ (old : List ℕ) (was : Content) (w : Written) (can : CanApply old was (w ∷ [])) where
+  first : IsApplied old old was (w ∷ []) 0 was
+  first = applied_none old was (w ∷ []) can was refl refl
+
+  pub one_rows : All (λ t. AreRows old (length t.columns) t.rows) was.tables
+  one_rows = next_rows old was (w ∷ []) can old (prefix_same old) 0 was first w refl (omega arith)
+
+  pub one_written : IsWritten old w
+  one_written = next_written old was (w ∷ []) can old (prefix_same old) 0 was first w refl (omega arith)
+
+  pub one_fitting : FitsChange (map heading_of was.tables) (plain_written old w)
+  one_fitting = next_fits old was (w ∷ []) can old (prefix_same old) 0 was first w refl (omega arith)
+
+  pub one_applied : (mid : List ℕ) → IsPrefix old mid → IsWellFormed mid → (after : Content) → IsAfter old mid was w after → (new : List ℕ) → IsPrefix mid new → IsWellFormed new
+      → IsMade new (commits_of old) (plain_written old w ∷ []) after
+  one_applied mid longer formed after does new grown formed' =
+      made_grows mid new grown formed' (commits_of old) (plain_written old w ∷ []) after
+      (applied_to_end old was (w ∷ []) can mid 1 after (omega arith) (applied_more old was (w ∷ []) can old (prefix_same old) 0 was first w refl (omega arith) mid longer formed after does))
