@@ -4,3 +4,4 @@ pub mod Unchanged
 pub mod Interning
 pub mod Longer
 pub mod Making
+pub mod Applying

@@ -190,7 +190,7 @@ fn grow<N: Site>(
 ///
 /// # Errors
 /// `Full` where the log has no room for a condition or for the commit word, `Memory`.
-fn commit_one<N: Site>(
+pub fn commit_one<N: Site>(
     alloc: Global,
     arena: &Arena<N>,
     keeper: &mut KeeperPass<N>,
@@ -229,7 +229,7 @@ fn commit_one<N: Site>(
 ///
 /// # Errors
 /// `Full` where the log has no room for a condition or for the commit word, `Memory`.
-fn commit_all<N: Site>(
+pub fn commit_all<N: Site>(
     alloc: Global,
     arena: &Arena<N>,
     keeper: &mut KeeperPass<N>,

@@ -1,0 +1,1 @@
+use Rattle.ct_keeper.proofs.offering.asserts.Goals as goal

@@ -1,0 +1,1 @@
+use Rattle.ct_keeper.proofs.offering.outcome_of.Goals as goal
