@@ -1,5 +1,5 @@
 -- An offer that is unchanged can be applied to all commits, and what its changes make is what stands after them.
-use Rattle.std.proofs.Common.{◌≡◌, ℕ, zero, suc, ◌+◌, ◌<◌, ◌≤◌, min, Bool, true, false, List, [], ◌∷◌, ◌++◌, length, map, take, drop, refl, ap, sym, subst, ◌∙◌, arith, length-append, take_all, filter_map}
+use Rattle.std.proofs.Common.{◌≡◌, ℕ, suc, ◌+◌, ◌≤◌, Bool, true, false, List, [], ◌∷◌, ◌++◌, length, map, take, drop, refl, ap, sym, subst, ◌∙◌, arith, length-append, take_all, filter_map}
 use Rattle.std.specs.Prelude.{Option, Some, None, IsTrue, All, is_some, option_and_then, if◌then◌else◌}
 use Rattle.std.specs.Arc.{arc_value}
 use Rattle.std.specs.List.{Contains, cons_option, list_any, list_all}
@@ -22,13 +22,13 @@ use Rattle.ct_query.specs.Step.{step_change}
 use Rattle.ct_query.specs.Reads.{writes, last}
 use Rattle.ct_query.specs.Worlds.{world, admits, after_changes, changes_of}
 use Rattle.ct_query.specs.Fits.{FitAfter}
-use Rattle.ct_query.specs.Frame.{AreOlder, creates}
+use Rattle.ct_query.specs.Frame.{creates}
 use Rattle.ct_query.proofs.Laws.{after_changes-append, world_commit}
 use Rattle.ct_query.proofs.Within.{Unwritten, later_unwritten, changes_admit}
 use Rattle.ct_query.proofs.Frame.{fit_later}
 use Rattle.ct_arena.specs.declared.tally.Tally.{Tally}
 use Rattle.ct_arena.specs.Counts.{commit_of}
-use Rattle.ct_arena.specs.Seen.{Seen, Keeping, pass_of}
+use Rattle.ct_arena.specs.Seen.{pass_of}
 use Rattle.ct_history.specs.declared.written.Written.{Written}
 use Rattle.ct_history.specs.declared.written.Written.TheVariants as written
 use Rattle.ct_history.specs.Written.{IsWritten, plain_written}
@@ -36,11 +36,10 @@ use Rattle.ct_table.specs.Denotes.{Denotes}
 use Rattle.ct_table.specs.Snapshot.{IsGlobal, IsKeptWorld, commits_to, IsSnapshot}
 use Rattle.ct_table.proofs.Snapshots.{kept_grows, snapshot_of_all}
 use Rattle.ct_keeper.specs.declared.catalogue.Offer.{Offer}
-use Rattle.ct_keeper.specs.declared.latest.Content.{Content}
 use Rattle.ct_keeper.specs.declared.latest.Latest.{Latest}
 use Rattle.ct_keeper.specs.Latest.{IsLatest}
-use Rattle.ct_keeper.specs.Offers.{IsOffer, Leaves, IsUnchanged, has_assertion, commit_for}
-use Rattle.ct_keeper.specs.Steps.{Appends, IsMade, CanApply, is_assertion}
+use Rattle.ct_keeper.specs.Offers.{IsOffer, Leaves, IsUnchanged}
+use Rattle.ct_keeper.specs.Steps.{IsMade, CanApply, is_assertion}
 
 -- there are no more commits than words
 few : (ms : List Meaning) → length (filter_map as_commit ms) ≤ length ms

@@ -53,7 +53,7 @@ interned_none k guest entered formed = record {
   mine = refl;
 }
 
-prefix_short : (old new : List ℕ) → IsPrefix old new → length old ≤ length new
+pub prefix_short : {A : Type 0} (old new : List A) → IsPrefix old new → length old ≤ length new
 prefix_short old new p = let all = ap length p.1 in omega (arith, all, length-append old p.0)
 
 same_commit : (old mid : List ℕ) (s t m n list : ℕ) → IsPrefix old mid → IsTrue (is_place_of old class.ChangeList list) → t ≡ s → n ≡ m → commit_of mid t n list ≡ commit_of old s m list

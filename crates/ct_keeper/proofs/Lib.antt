@@ -5,3 +5,4 @@ pub mod Interning
 pub mod Longer
 pub mod Making
 pub mod Applying
+pub mod Entering

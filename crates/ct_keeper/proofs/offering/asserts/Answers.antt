@@ -1,1 +1,0 @@
-use Rattle.ct_keeper.proofs.offering.asserts.Goals as goal
