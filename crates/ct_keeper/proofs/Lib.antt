@@ -1,3 +1,4 @@
+pub mod Finding
 pub mod Doing
 pub mod Standing
 pub mod Unchanged
@@ -6,3 +7,4 @@ pub mod Longer
 pub mod Making
 pub mod Applying
 pub mod Entering
+pub mod Walking
