@@ -1,8 +1,7 @@
 -- A commit in the making: what its changes so far make, and one more of them.
-use Rattle.std.proofs.Common.{◌≡◌, ℕ, ◌+◌, ◌<◌, ◌≤◌, suc, List, [], ◌∷◌, ◌++◌, length, map, take, drop, get_or, refl, ap, sym, subst, ◌∙◌, append-nil, append_assoc, take_all, drop-cons, add-one, zero, arith}
+use Rattle.std.proofs.Common.{◌≡◌, ℕ, ◌+◌, ◌<◌, ◌≤◌, suc, List, [], ◌∷◌, ◌++◌, length, map, take, drop, get_or, refl, ap, sym, subst, ◌∙◌, take_all, drop-cons, add-one, zero, arith}
 use Rattle.std.proofs.lemmas.Bool.{and_parts}
 use Rattle.std.proofs.lemmas.List.{map_more}
-use Rattle.std.proofs.lemmas.List.Elements.{All-weaker}
 use Rattle.std.specs.Prelude.{IsTrue, All, filter_map}
 use Rattle.std.specs.List.{list_all}
 use mathlib.Core.List.{IsPrefix}
@@ -14,11 +13,9 @@ use Rattle.ct_word.specs.Writable.{is_writable}
 use Rattle.ct_word.proofs.Prefixes.{prefix_same}
 use Rattle.ct_query.specs.Schema.{schema, created_by_change}
 use Rattle.ct_query.specs.Fits.{FitsChange, FitChanges, FitAfter}
-use Rattle.ct_query.specs.Worlds.{changes_of}
-use Rattle.ct_query.proofs.Laws.{changes_of-snoc}
 use Rattle.ct_history.specs.declared.written.Written.{Written}
 use Rattle.ct_history.specs.Written.{IsWritten, plain_written}
-use Rattle.ct_table.specs.Denotes.{IsKept, heading_of, Denotes}
+use Rattle.ct_table.specs.Denotes.{heading_of, Denotes}
 use Rattle.ct_table.specs.Tables.{AreRows}
 use Rattle.ct_table.specs.Snapshot.{IsGlobal}
 use Rattle.ct_condition.proofs.Reached.{formed_before}
@@ -28,7 +25,7 @@ use Rattle.ct_table.proofs.Carrying.{same_changes_denote, same_changes_global}
 use Rattle.ct_table.proofs.Following.{change_follows}
 use Rattle.ct_keeper.specs.declared.latest.Content.{Content}
 use Rattle.ct_keeper.specs.Steps.{IsMade, IsAfter, CanApply}
-use Rattle.ct_keeper.proofs.Longer.{written_grows, same_written}
+use Rattle.ct_keeper.proofs.Walking.{tables_formed, written_later, written_same, no_change_yet, one_change_more}
 use Rattle.ct_keeper.proofs.Doing.{tables_denote, global_holds}
 
 -- a commit of these changes, by no session
@@ -40,22 +37,15 @@ abbrev pub FitsNext : List PlainCommit → List PlainChange → List PlainChange
 FitsNext h done rest = (c : PlainCommit) → c.changes ≡ done → FitAfter (h ++ c ∷ []) rest
 
 module _ (h : List PlainCommit) where
-  nothing_more : (c : PlainCommit) → c.changes ≡ [] → changes_of (h ++ c ∷ []) ≡ changes_of h
-  nothing_more c is = changes_of-snoc h c ∙ ap (λ xs. changes_of h ++ xs) is ∙ append-nil (changes_of h)
-
-  goes_on : (xs : List PlainChange) (x : PlainChange) (c : PlainCommit) → c.changes ≡ xs ++ x ∷ [] → changes_of (h ++ c ∷ []) ≡ changes_of (h ++ commit_by xs ∷ []) ++ x ∷ []
-  goes_on xs x c is =
-      changes_of-snoc h c ∙ ap (λ ys. changes_of h ++ ys) is ∙ sym (append_assoc (changes_of h) xs (x ∷ [])) ∙ ap (λ ys. ys ++ x ∷ []) (sym (changes_of-snoc h (commit_by xs)))
-
   -- before the first change
   pub none_made : (words : List ℕ) (content : Content) → Denotes words h [] content.tables → IsGlobal words h [] content.global → IsMade words h [] content
   none_made words content d g = record {
-    denotes = λ c is. same_changes_denote h (h ++ c ∷ []) (nothing_more c is) words content.tables d;
-    condition = λ c is. same_changes_global h (h ++ c ∷ []) (nothing_more c is) words content.global g;
+    denotes = λ c is. same_changes_denote h (h ++ c ∷ []) (no_change_yet h c is) words content.tables d;
+    condition = λ c is. same_changes_global h (h ++ c ∷ []) (no_change_yet h c is) words content.global g;
   }
 
   pub none_fit : (xs : List PlainChange) → FitAfter h xs → FitsNext h [] xs
-  none_fit xs f = λ c is. subst (λ ys. FitChanges (ys ++ []) xs) (ap (filter_map created_by_change) (sym (nothing_more c is))) f
+  none_fit xs f = λ c is. subst (λ ys. FitChanges (ys ++ []) xs) (ap (filter_map created_by_change) (sym (no_change_yet h c is))) f
 
   -- after one change more
   module _ (old new : List ℕ) (longer : IsPrefix old new) (formed : IsWellFormed new) (xs : List PlainChange) (was : Content) (made : IsMade old h xs was)
@@ -64,17 +54,17 @@ module _ (h : List PlainCommit) where
     one_made = record {
       denotes = λ c is.
           subst (Denotes new (h ++ c ∷ []) []) (sym after.tables)
-          (tables_denote old new longer formed was.tables was.global w placed after.effect after.does (h ++ commit_by xs ∷ []) (h ++ c ∷ []) (goes_on xs (plain_written old w) c is)
+          (tables_denote old new longer formed was.tables was.global w placed after.effect after.does (h ++ commit_by xs ∷ []) (h ++ c ∷ []) (one_change_more h (commit_by xs) c (plain_written old w) is)
           (made.denotes (commit_by xs) refl) can);
       condition = λ c is.
           subst (IsGlobal new (h ++ c ∷ []) []) (sym after.global)
-          (global_holds old new longer formed was.tables was.global w placed after.effect after.does (h ++ commit_by xs ∷ []) (h ++ c ∷ []) (goes_on xs (plain_written old w) c is)
+          (global_holds old new longer formed was.tables was.global w placed after.effect after.does (h ++ commit_by xs ∷ []) (h ++ c ∷ []) (one_change_more h (commit_by xs) c (plain_written old w) is)
           (made.condition (commit_by xs) refl));
     }
 
   pub one_fits : (xs : List PlainChange) (x : PlainChange) (rest : List PlainChange) → FitsNext h xs (x ∷ rest) → FitsNext h (xs ++ x ∷ []) rest
   one_fits xs x rest f = λ c is.
-      subst (λ hs. FitChanges hs rest) (sym (change_follows (h ++ commit_by xs ∷ []) (h ++ c ∷ []) x (goes_on xs x c is)).headings) (f (commit_by xs) refl).1
+      subst (λ hs. FitChanges hs rest) (sym (change_follows (h ++ commit_by xs ∷ []) (h ++ c ∷ []) x (one_change_more h (commit_by xs) c x is)).headings) (f (commit_by xs) refl).1
 
 -- what was made is so in more words
 pub made_grows : (old new : List ℕ) → IsPrefix old new → IsWellFormed new → (h : List PlainCommit) (xs : List PlainChange) (content : Content) → IsMade old h xs content → IsMade new h xs content
@@ -120,19 +110,19 @@ module _ (old : List ℕ) (was : Content) (changes : List Written) (can : CanApp
     placed = subst (IsWritten old) (sym at) (can.written i w lt)
 
     same : plain_written mid w ≡ plain w
-    same = same_written old mid longer w placed
+    same = written_same old mid longer w placed
 
     next : FitsNext h done (plain w ∷ rest)
     next = subst (FitsNext h done) (ap (map plain) (drop-cons changes i w lt) ∙ ap (λ x. plain x ∷ rest) (sym at)) is.fits
 
     pub next_rows : All (λ t. AreRows mid (length t.columns) t.rows) content.tables
-    next_rows = All-weaker (IsKept mid (h ++ commit_by done ∷ []) []) (λ t. AreRows mid (length t.columns) t.rows) (λ t k. k.rows) content.tables (is.made.denotes (commit_by done) refl).worth.kept
+    next_rows = tables_formed mid (h ++ commit_by done ∷ []) [] content.tables (is.made.denotes (commit_by done) refl)
 
     pub next_global : IsTrue (is_place_of mid class.Cond content.global)
     next_global = (is.made.condition (commit_by done) refl).place
 
     pub next_written : IsWritten mid w
-    next_written = written_grows old mid longer w placed
+    next_written = written_later old mid longer w placed
 
     pub next_fits : FitsChange (map heading_of content.tables) (plain_written mid w)
     next_fits =
