@@ -4,5 +4,6 @@ pub mod Standing
 pub mod Walking
 pub mod Unchanged
 pub mod Interning
-pub mod Longer
 pub mod Making
+pub mod Applying
+pub mod Entering

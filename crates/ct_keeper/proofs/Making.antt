@@ -1,31 +1,31 @@
 -- A commit in the making: what its changes so far make, and one more of them.
-use Rattle.std.proofs.Common.{◌≡◌, ℕ, ◌+◌, ◌<◌, ◌≤◌, suc, List, [], ◌∷◌, ◌++◌, length, map, take, drop, get_or, refl, ap, sym, subst, ◌∙◌, append-nil, append_assoc, take_all, drop-cons, add-one, zero, arith}
+use Rattle.std.proofs.Common.{◌≡◌, ℕ, ◌+◌, ◌<◌, ◌≤◌, suc, List, [], ◌∷◌, ◌++◌, length, map, take, drop, get_or, refl, ap, sym, subst, ◌∙◌, take_all, drop-cons, add-one, zero, arith}
 use Rattle.std.proofs.lemmas.Bool.{and_parts}
 use Rattle.std.proofs.lemmas.List.{map_more}
-use Rattle.std.proofs.lemmas.List.Elements.{All-weaker}
 use Rattle.std.specs.Prelude.{IsTrue, All, filter_map}
 use Rattle.std.specs.List.{list_all}
-use Rattle.std.specs.Option.{option_to_list}
 use mathlib.Core.List.{IsPrefix}
 use Rattle.ct_word.specs.declared.kinds.Class.TheVariants as class
 use Rattle.ct_word.specs.Change.{PlainChange, PlainCommit}
 use Rattle.ct_word.specs.Reading.{commits_of}
 use Rattle.ct_word.specs.WellFormed.{IsWellFormed, is_place_of}
 use Rattle.ct_word.specs.Writable.{is_writable}
+use Rattle.ct_word.proofs.Prefixes.{prefix_same}
 use Rattle.ct_query.specs.Schema.{schema, created_by_change}
 use Rattle.ct_query.specs.Fits.{FitsChange, FitChanges, FitAfter}
-use Rattle.ct_query.specs.Worlds.{changes_of}
-use Rattle.ct_query.proofs.Laws.{changes_of-snoc}
 use Rattle.ct_history.specs.declared.written.Written.{Written}
 use Rattle.ct_history.specs.Written.{IsWritten, plain_written}
-use Rattle.ct_table.specs.Denotes.{IsKept, heading_of, Denotes}
+use Rattle.ct_table.specs.Denotes.{heading_of, Denotes}
 use Rattle.ct_table.specs.Tables.{AreRows}
 use Rattle.ct_table.specs.Snapshot.{IsGlobal}
+use Rattle.ct_condition.proofs.Reached.{formed_before}
+use Rattle.ct_table.proofs.Changing.{denotes_grows}
+use Rattle.ct_table.proofs.Snapshots.{global_grows}
 use Rattle.ct_table.proofs.Carrying.{same_changes_denote, same_changes_global}
 use Rattle.ct_table.proofs.Following.{change_follows}
 use Rattle.ct_keeper.specs.declared.latest.Content.{Content}
 use Rattle.ct_keeper.specs.Steps.{IsMade, IsAfter, CanApply}
-use Rattle.ct_keeper.proofs.Longer.{written_grows, same_written}
+use Rattle.ct_keeper.proofs.Walking.{tables_formed, written_later, written_same, no_change_yet, one_change_more}
 use Rattle.ct_keeper.proofs.Doing.{tables_denote, global_holds}
 
 -- a commit of these changes, by no session
@@ -37,22 +37,15 @@ abbrev pub FitsNext : List PlainCommit → List PlainChange → List PlainChange
 FitsNext h done rest = (c : PlainCommit) → c.changes ≡ done → FitAfter (h ++ c ∷ []) rest
 
 module _ (h : List PlainCommit) where
-  nothing_more : (c : PlainCommit) → c.changes ≡ [] → changes_of (h ++ c ∷ []) ≡ changes_of h
-  nothing_more c is = changes_of-snoc h c ∙ ap (λ xs. changes_of h ++ xs) is ∙ append-nil (changes_of h)
-
-  goes_on : (xs : List PlainChange) (x : PlainChange) (c : PlainCommit) → c.changes ≡ xs ++ x ∷ [] → changes_of (h ++ c ∷ []) ≡ changes_of (h ++ commit_by xs ∷ []) ++ x ∷ []
-  goes_on xs x c is =
-      changes_of-snoc h c ∙ ap (λ ys. changes_of h ++ ys) is ∙ sym (append_assoc (changes_of h) xs (x ∷ [])) ∙ ap (λ ys. ys ++ x ∷ []) (sym (changes_of-snoc h (commit_by xs)))
-
   -- before the first change
   pub none_made : (words : List ℕ) (content : Content) → Denotes words h [] content.tables → IsGlobal words h [] content.global → IsMade words h [] content
   none_made words content d g = record {
-    denotes = λ c is. same_changes_denote h (h ++ c ∷ []) (nothing_more c is) words content.tables d;
-    condition = λ c is. same_changes_global h (h ++ c ∷ []) (nothing_more c is) words content.global g;
+    denotes = λ c is. same_changes_denote h (h ++ c ∷ []) (no_change_yet h c is) words content.tables d;
+    condition = λ c is. same_changes_global h (h ++ c ∷ []) (no_change_yet h c is) words content.global g;
   }
 
   pub none_fit : (xs : List PlainChange) → FitAfter h xs → FitsNext h [] xs
-  none_fit xs f = λ c is. subst (λ ys. FitChanges (ys ++ []) xs) (ap (filter_map created_by_change) (sym (nothing_more c is))) f
+  none_fit xs f = λ c is. subst (λ ys. FitChanges (ys ++ []) xs) (ap (filter_map created_by_change) (sym (no_change_yet h c is))) f
 
   -- after one change more
   module _ (old new : List ℕ) (longer : IsPrefix old new) (formed : IsWellFormed new) (xs : List PlainChange) (was : Content) (made : IsMade old h xs was)
@@ -61,17 +54,24 @@ module _ (h : List PlainCommit) where
     one_made = record {
       denotes = λ c is.
           subst (Denotes new (h ++ c ∷ []) []) (sym after.tables)
-          (tables_denote old new longer formed was.tables was.global w placed after.effect after.does (h ++ commit_by xs ∷ []) (h ++ c ∷ []) (goes_on xs (plain_written old w) c is)
+          (tables_denote old new longer formed was.tables was.global w placed after.effect after.does (h ++ commit_by xs ∷ []) (h ++ c ∷ []) (one_change_more h (commit_by xs) c (plain_written old w) is)
           (made.denotes (commit_by xs) refl) can);
       condition = λ c is.
           subst (IsGlobal new (h ++ c ∷ []) []) (sym after.global)
-          (global_holds old new longer formed was.tables was.global w placed after.effect after.does (h ++ commit_by xs ∷ []) (h ++ c ∷ []) (goes_on xs (plain_written old w) c is)
+          (global_holds old new longer formed was.tables was.global w placed after.effect after.does (h ++ commit_by xs ∷ []) (h ++ c ∷ []) (one_change_more h (commit_by xs) c (plain_written old w) is)
           (made.condition (commit_by xs) refl));
     }
 
   pub one_fits : (xs : List PlainChange) (x : PlainChange) (rest : List PlainChange) → FitsNext h xs (x ∷ rest) → FitsNext h (xs ++ x ∷ []) rest
   one_fits xs x rest f = λ c is.
-      subst (λ hs. FitChanges hs rest) (sym (change_follows (h ++ commit_by xs ∷ []) (h ++ c ∷ []) x (goes_on xs x c is)).headings) (f (commit_by xs) refl).1
+      subst (λ hs. FitChanges hs rest) (sym (change_follows (h ++ commit_by xs ∷ []) (h ++ c ∷ []) x (one_change_more h (commit_by xs) c x is)).headings) (f (commit_by xs) refl).1
+
+-- what was made is so in more words
+pub made_grows : (old new : List ℕ) → IsPrefix old new → IsWellFormed new → (h : List PlainCommit) (xs : List PlainChange) (content : Content) → IsMade old h xs content → IsMade new h xs content
+made_grows old new longer formed h xs content made = record {
+  denotes = λ c is. denotes_grows old new longer (formed_before old new longer formed) (h ++ c ∷ []) [] content.tables (made.denotes c is);
+  condition = λ c is. global_grows old new longer formed (h ++ c ∷ []) [] content.global (made.condition c is);
+}
 
 -- how far changes were applied
 pub record IsApplied (old mid : List ℕ) (was : Content) (changes : List Written) (i : ℕ) (content : Content) : Type 0 where
@@ -110,19 +110,19 @@ module _ (old : List ℕ) (was : Content) (changes : List Written) (can : CanApp
     placed = subst (IsWritten old) (sym at) (can.written i w lt)
 
     same : plain_written mid w ≡ plain w
-    same = same_written old mid longer w placed
+    same = written_same old mid longer w placed
 
     next : FitsNext h done (plain w ∷ rest)
     next = subst (FitsNext h done) (ap (map plain) (drop-cons changes i w lt) ∙ ap (λ x. plain x ∷ rest) (sym at)) is.fits
 
     pub next_rows : All (λ t. AreRows mid (length t.columns) t.rows) content.tables
-    next_rows = All-weaker (IsKept mid (h ++ commit_by done ∷ []) []) (λ t. AreRows mid (length t.columns) t.rows) (λ t k. k.rows) content.tables (is.made.denotes (commit_by done) refl).worth.kept
+    next_rows = tables_formed mid (h ++ commit_by done ∷ []) [] content.tables (is.made.denotes (commit_by done) refl)
 
     pub next_global : IsTrue (is_place_of mid class.Cond content.global)
     next_global = (is.made.condition (commit_by done) refl).place
 
     pub next_written : IsWritten mid w
-    next_written = written_grows old mid longer w placed
+    next_written = written_later old mid longer w placed
 
     pub next_fits : FitsChange (map heading_of content.tables) (plain_written mid w)
     next_fits =
@@ -140,3 +140,23 @@ module _ (old : List ℕ) (was : Content) (changes : List Written) (can : CanApp
               (one_made h mid new grown formed done content is.made w next_written (subst (λ x. IsTrue (is_writable x)) (sym same) can') after does));
           fits = subst (λ xs. FitsNext h xs (map plain (drop (i + 1) changes))) (sym more) (subst (λ n. FitsNext h (done ++ plain w ∷ []) (map plain (drop n changes))) (sym (add-one i)) (one_fits h done (plain w) rest next));
         }
+
+-- the one change of a list
+module _ (old : List ℕ) (was : Content) (w : Written) (can : CanApply old was (w ∷ [])) where
+  first : IsApplied old old was (w ∷ []) 0 was
+  first = applied_none old was (w ∷ []) can was refl refl
+
+  pub one_rows : All (λ t. AreRows old (length t.columns) t.rows) was.tables
+  one_rows = next_rows old was (w ∷ []) can old (prefix_same old) 0 was first w refl (omega arith)
+
+  pub one_written : IsWritten old w
+  one_written = next_written old was (w ∷ []) can old (prefix_same old) 0 was first w refl (omega arith)
+
+  pub one_fitting : FitsChange (map heading_of was.tables) (plain_written old w)
+  one_fitting = next_fits old was (w ∷ []) can old (prefix_same old) 0 was first w refl (omega arith)
+
+  pub one_applied : (mid : List ℕ) → IsPrefix old mid → IsWellFormed mid → (after : Content) → IsAfter old mid was w after → (new : List ℕ) → IsPrefix mid new → IsWellFormed new
+      → IsMade new (commits_of old) (plain_written old w ∷ []) after
+  one_applied mid longer formed after does new grown formed' =
+      made_grows mid new grown formed' (commits_of old) (plain_written old w ∷ []) after
+      (applied_to_end old was (w ∷ []) can mid 1 after (omega arith) (applied_more old was (w ∷ []) can old (prefix_same old) 0 was first w refl (omega arith) mid longer formed after does))

@@ -1,17 +1,17 @@
 -- What the steps of a commit do to the keeper's pass and its guest, and to tables with their global condition.
-use Rattle.std.specs.Prelude.{◌≡◌, ◌<◌, ◌+◌, ℕ, List, [], ◌∷◌, ◌++◌, length, map, Some, All, IsTrue}
-use Rattle.std.specs.List.{list_any, list_all}
+use Rattle.std.specs.Prelude.{◌≡◌, ◌<◌, ◌+◌, ℕ, Bool, true, false, List, [], ◌∷◌, ◌++◌, length, map, Some, All, IsTrue}
+use Rattle.std.specs.List.{list_all}
 use mathlib.Core.List.{IsPrefix}
-use Rattle.ct_word.specs.declared.kinds.Class.TheVariants as class
 use Rattle.ct_word.specs.Change.{PlainChange, PlainCommit}
-use Rattle.ct_word.specs.Reading.{commits_of, change_list_at}
-use Rattle.ct_word.specs.WellFormed.{IsWellFormed, is_place_of}
+use Rattle.ct_word.specs.Reading.{commits_of}
+use Rattle.ct_word.specs.WellFormed.{IsWellFormed}
 use Rattle.ct_word.specs.Writable.{is_writable}
 use Rattle.ct_query.specs.Fits.{FitAfter}
 use Rattle.ct_arena.specs.declared.tally.Tally.{Tally}
 use Rattle.ct_arena.specs.Counts.{commit_of}
 use Rattle.ct_arena.specs.Seen.{Keeping}
 use Rattle.ct_history.specs.declared.written.Written.{Written}
+use Rattle.ct_history.specs.declared.written.Written.TheVariants as written
 use Rattle.ct_history.specs.Written.{IsWritten, plain_written}
 use Rattle.ct_table.specs.Denotes.{Denotes}
 use Rattle.ct_table.specs.Snapshot.{IsGlobal}
@@ -41,6 +41,11 @@ pub record Appends (list : ℕ) (old : Keeping) (guest : Tally) (new : Keeping) 
   pub session : guest'.session ≡ guest.session
   pub mine : guest'.mine ≡ guest.mine + 1
   pub grown : length old.words < length new.words
+
+-- whether a change is an assertion
+abbrev pub is_assertion : Written → Bool
+is_assertion (written.Assert cond) = true
+is_assertion _ = false
 
 -- tables and global condition denote a history and one commit more, of these changes
 pub record IsMade (words : List ℕ) (h : List PlainCommit) (xs : List PlainChange) (content : Content) : Type 0 where

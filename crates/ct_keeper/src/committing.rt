@@ -1,6 +1,6 @@
 // How changes are applied and committed: one in place, several on a copy of the list of the tables.
 
-ghost use Rattle.std.specs.Prelude.{◌≡◌, ◌<◌, ◌^◌, true, length, map, All, IfOk, IfErr, OnOk, OnErr, MatchResult, IsTrue, Some};
+ghost use Rattle.std.specs.Prelude.{◌≡◌, ◌<◌, ◌^◌, [], ◌∷◌, true, length, map, All, IfOk, IfErr, OnOk, OnErr, MatchResult, IsTrue, Some};
 ghost use Rattle.std.specs.Arc.{arc_value};
 ghost use Rattle.ct_word.specs.declared.kinds.Class.TheVariants as class;
 ghost use Rattle.ct_word.specs.Reading.{commits_of, change_list_at};
@@ -20,10 +20,10 @@ use crate::error::KeeperError;
 use crate::growing::grown;
 use crate::latest::Content;
 use crate::tables::Tables;
-use ct_arena::{Arena, Guest, KeeperPass, Site};
+use ct_arena::{Arena, Full, Guest, KeeperPass, Site};
 use ct_condition::Seated;
 use ct_history::Written;
-use ct_table::{Db, Growth, TableError};
+use ct_table::{Growth, TableError};
 use std::alloc::Global;
 use std::mem;
 
@@ -122,4 +122,134 @@ fn applied_all<N: Site>(
         made = applied(alloc, arena, keeper, guest, made, change)?;
     }
     Ok(made)
+}
+
+/// Appends the commit of a change list for the guest.
+///
+/// # Errors
+/// `Full` where the words are as many as the capacity.
+fn append<N: Site>(
+    arena: &Arena<N>,
+    keeper: &mut KeeperPass<N>,
+    guest: &mut Guest<N>,
+    list: u32,
+) -> Result<(), Full>
+    requires guest { keeper.old.guest ≡ Some guest.old }
+    requires few { guest.old.mine < 2 ^ 18 }
+    requires place { IsTrue (is_place_of keeper.old.words class.ChangeList list) }
+    ensures appends { OnOk result (Appends list keeper.old guest.old keeper.new guest.new) }
+    ensures interns { OnErr result (Interns keeper.old guest.old keeper.new guest.new) }
+    ensures full { OnErr result (length keeper.new.words ≡ N.log.cap) }
+{
+    match keeper.append_commit(arena, guest, list) {
+        Ok(_) => Ok(()),
+        Err(full) => Err(full),
+    }
+}
+
+/// Commits a growth of the tables. All room for it is made first, so that nothing but moves follows the commit word. The
+/// tables are those after the growth, or as they were where the commit is refused.
+///
+/// # Errors
+/// `Full` where the log has no room for the commit word, `Memory`.
+fn grow<N: Site>(
+    alloc: Global,
+    arena: &Arena<N>,
+    keeper: &mut KeeperPass<N>,
+    guest: &mut Guest<N>,
+    tables: Tables,
+    growth: Growth,
+    list: u32,
+) -> (Tables, Result<(), KeeperError>)
+    requires guest { keeper.old.guest ≡ Some guest.old }
+    requires few { guest.old.mine < 2 ^ 18 }
+    requires place { IsTrue (is_place_of keeper.old.words class.ChangeList list) }
+    requires fits { FitsGrowth tables growth }
+    ensures appends { OnOk result.1 (Appends list keeper.old guest.old keeper.new guest.new) }
+    ensures interns { OnErr result.1 (Interns keeper.old guest.old keeper.new guest.new) }
+    ensures tables { MatchResult result.1 (λ _. result.0 ≡ after tables growth) (λ _. result.0 ≡ tables) }
+    ensures full { is_full result.1 ≡ true → length keeper.new.words ≡ N.log.cap }
+{
+    // The words are well formed, also where the commit is not tried.
+    let _ = keeper.words();
+    let db = match tables.into_db(alloc) {
+        Ok(db) => db,
+        Err(same) => return (same, Err(KeeperError::Memory)),
+    };
+    let growing = match db.growing(alloc, growth) {
+        Ok(growing) => growing,
+        Err(same) => return (Tables::alone(same), Err(KeeperError::Memory)),
+    };
+    match append(arena, keeper, guest, list) {
+        Ok(()) => (Tables::alone(growing.done(alloc)), Ok(())),
+        Err(_) => (Tables::alone(growing.undone(alloc)), Err(KeeperError::Full)),
+    }
+}
+
+/// Commits the one change of a list. A table that grows does so in place, where nobody else holds it.
+///
+/// # Errors
+/// `Full` where the log has no room for a condition or for the commit word, `Memory`.
+pub fn commit_one<N: Site>(
+    alloc: Global,
+    arena: &Arena<N>,
+    keeper: &mut KeeperPass<N>,
+    guest: &mut Guest<N>,
+    content: &mut Content,
+    change: &Written,
+    list: u32,
+) -> Result<(), KeeperError>
+    requires guest { keeper.old.guest ≡ Some guest.old }
+    requires few { guest.old.mine < 2 ^ 18 }
+    requires place { IsTrue (is_place_of keeper.old.words class.ChangeList list) }
+    requires can { CanApply keeper.old.words content.old (change.now ∷ []) }
+    ensures appends { OnOk result (Appends list keeper.old guest.old keeper.new guest.new) }
+    ensures made { OnOk result (IsMade keeper.new.words (commits_of keeper.old.words) (plain_written keeper.old.words change.now ∷ []) content.new) }
+    ensures interns { OnErr result (Interns keeper.old guest.old keeper.new guest.new) }
+    ensures same { OnErr result (content.new ≡ content.old) }
+    ensures full { is_full result ≡ true → length keeper.new.words ≡ N.log.cap }
+{
+    let effect = effect_for(alloc, arena, keeper, guest, content, change)?;
+    match effect {
+        Effect::Grows(growth) => {
+            let tables = mem::replace(&mut content.tables, Tables::empty(alloc));
+            let (tables, committed) = grow(alloc, arena, keeper, guest, tables, growth, list);
+            content.tables = tables;
+            committed
+        }
+        Effect::Narrows(global) => {
+            append(arena, keeper, guest, list)?;
+            content.global = global;
+            Ok(())
+        }
+    }
+}
+
+/// Commits the changes of a list.
+///
+/// # Errors
+/// `Full` where the log has no room for a condition or for the commit word, `Memory`.
+pub fn commit_all<N: Site>(
+    alloc: Global,
+    arena: &Arena<N>,
+    keeper: &mut KeeperPass<N>,
+    guest: &mut Guest<N>,
+    content: &mut Content,
+    changes: &[Written],
+    list: u32,
+) -> Result<(), KeeperError>
+    requires guest { keeper.old.guest ≡ Some guest.old }
+    requires few { guest.old.mine < 2 ^ 18 }
+    requires place { IsTrue (is_place_of keeper.old.words class.ChangeList list) }
+    requires can { CanApply keeper.old.words content.old changes.now }
+    ensures appends { OnOk result (Appends list keeper.old guest.old keeper.new guest.new) }
+    ensures made { OnOk result (IsMade keeper.new.words (commits_of keeper.old.words) (map (plain_written keeper.old.words) changes.now) content.new) }
+    ensures interns { OnErr result (Interns keeper.old guest.old keeper.new guest.new) }
+    ensures same { OnErr result (content.new ≡ content.old) }
+    ensures full { is_full result ≡ true → length keeper.new.words ≡ N.log.cap }
+{
+    let made = applied_all(alloc, arena, keeper, guest, content, changes)?;
+    append(arena, keeper, guest, list)?;
+    *content = made;
+    Ok(())
 }

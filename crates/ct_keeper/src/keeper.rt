@@ -12,6 +12,7 @@ ghost use Rattle.ct_keeper.specs.Offers.{IsOffer, BecomesOf};
 use crate::catalogue::{Offer, Outcome, Snapshot};
 use crate::error::KeeperError;
 use crate::latest::Latest;
+use crate::offering::outcome_of;
 use ct_arena::{Arena, KeeperPass, Pass, Site};
 use ct_word::Memory;
 use std::alloc::Global;
@@ -114,12 +115,18 @@ impl<N: Site> Keeper<N> {
         ensures longer { IsPrefix pass.words result.0.words }
         ensures session { result.0.session ≡ pass.session }
     {
-        let _ = alloc;
-        let _ = offer;
-        let guest = self.pass.enter(arena, pass);
-        // The words are well formed, which keeps the tables as words come.
+        let mut guest = self.pass.enter(arena, pass);
+        // The words are well formed, which keeps what stands as words come.
         let _ = self.pass.words();
+        let outcome = outcome_of(
+            alloc,
+            arena,
+            &mut self.pass,
+            &mut guest,
+            &mut self.latest,
+            offer,
+        );
         let pass = self.pass.leave(arena, guest);
-        (pass, Err(KeeperError::Memory))
+        (pass, outcome)
     }
 }

@@ -9,6 +9,7 @@ mod error;
 mod growing;
 mod keeper;
 mod latest;
+mod offering;
 mod tables;
 
 pub use catalogue::{Offer, Outcome, Snapshot};

@@ -1,4 +1,4 @@
-use Rattle.std.proofs.Common.{◌≤◌, ◌<◌, length, take, ap, sym, subst, ◌∙◌, arith, take_all}
+use Rattle.std.proofs.Common.{ap, sym, subst, ◌∙◌, arith, take_all}
 use Rattle.std.proofs.lemmas.List.Elements.{All-nil}
 use Rattle.ct_word.specs.Reading.{commits_of}
 use Rattle.ct_query.specs.Reads.{last}

@@ -8,11 +8,13 @@ use Rattle.ct_keeper.proofs.keeper.Keeper.begin.Goals as goal
 pub invariant_of-self : goal.invariant_of-self
 invariant_of-self g c =
     let k = c.self.inside in
-    let left = c.leave-pass.ensures.left in
-    (ap (λ p. p.guest) left, ap (λ p. p.enrolled) left ∙ c.enter-guest.ensures.enrolled ∙ c.self.invariant.1,
-    subst (IsLatest c.leave-pass.new.self.words) (sym c.snapshot-snapshot.ensures.same)
-    (subst (λ ws. IsLatest ws k.latest) (sym (ap (λ p. p.words) left))
-    (still k.pass.words c.enter-guest.new.self.words k.latest c.self.invariant.2 c.enter-guest.ensures.longer c.words.ensures.formed c.enter-guest.ensures.commits)))
+    let left = c.leave-pass.ensures.left in (
+      ap (λ p. p.guest) left,
+      ap (λ p. p.enrolled) left ∙ c.enter-guest.ensures.enrolled ∙ c.self.invariant.1,
+      subst (IsLatest c.leave-pass.new.self.words) (sym c.snapshot-snapshot.ensures.same)
+          (subst (λ ws. IsLatest ws k.latest) (sym (ap (λ p. p.words) left))
+          (still k.pass.words c.enter-guest.new.self.words k.latest c.self.invariant.2 c.enter-guest.ensures.longer c.words.ensures.formed c.enter-guest.ensures.commits)),
+    )
 
 pub returns-clause-snapshot : goal.returns-clause-snapshot
 returns-clause-snapshot g c =

@@ -1,12 +1,43 @@
-use Rattle.std.proofs.Common.{ap, sym, subst, ◌∙◌}
-use Rattle.ct_keeper.specs.Latest.{IsLatest}
+use Rattle.std.proofs.Common.{refl, sym, subst}
+use Rattle.ct_arena.specs.Seen.{pass_of}
+use Rattle.ct_keeper.specs.Catalogue.{Stays}
+use Rattle.ct_keeper.specs.Latest.{catalogue_of}
+use Rattle.ct_keeper.specs.Offers.{IsOffer, BecomesOf}
 use Rattle.ct_keeper.proofs.Standing.{still}
+use Rattle.ct_keeper.proofs.Entering.{offer_grows, becomes_from}
 use Rattle.ct_keeper.proofs.keeper.Keeper.commit.Goals as goal
 
-pub invariant_of-self : goal.invariant_of-self
-invariant_of-self g c =
+pub outcome_of-outcome-requires-clause-latest : goal.outcome_of-outcome-requires-clause-latest
+outcome_of-outcome-requires-clause-latest g c =
+    still c.self.inside.pass.words c.enter-guest.new.self.words c.self.inside.latest c.self.invariant.2 c.enter-guest.ensures.longer c.words.ensures.formed c.enter-guest.ensures.commits
+
+pub outcome_of-outcome-requires-clause-offer : goal.outcome_of-outcome-requires-clause-offer
+outcome_of-outcome-requires-clause-offer g c =
+    let words = c.enter-guest.new.self.words in
+    subst (λ t. IsOffer (pass_of t words) c.args.offer.now) (sym c.enter-guest.ensures.guest)
+    (offer_grows c.args.pass words c.enter-guest.ensures.seen c.words.ensures.formed c.args.offer.now c.requires.offer)
+
+pub returns-clause-outcome : goal.returns-clause-outcome
+returns-clause-outcome g c =
+    let cap = g.N.Site.log.cap in
+    let pass = c.args.pass in
+    let offer = c.args.offer.now in
     let k = c.self.inside in
-    let left = c.leave-pass.ensures.left in
-    (ap (λ p. p.guest) left, ap (λ p. p.enrolled) left ∙ c.enter-guest.ensures.enrolled ∙ c.self.invariant.1,
-    subst (λ ws. IsLatest ws k.latest) (sym (ap (λ p. p.words) left))
-    (still k.pass.words c.enter-guest.new.self.words k.latest c.self.invariant.2 c.enter-guest.ensures.longer c.words.ensures.formed c.enter-guest.ensures.commits))
+    let words = c.enter-guest.new.self.words in
+    let mid = catalogue_of c.enter-guest.new.self k.latest in
+    let made = c.outcome_of-outcome in
+    let new = catalogue_of made.new.keeper made.new.latest in
+    let after = pass_of made.new.guest made.new.keeper.words in
+    let its = subst (λ t. BecomesOf cap mid new (pass_of t words) after offer made.result) c.enter-guest.ensures.guest made.ensures.outcome in
+    let stays : Stays (catalogue_of k.pass k.latest) mid = record {
+      longer = c.enter-guest.ensures.longer;
+      commits = c.enter-guest.ensures.commits;
+      ended = c.enter-guest.ensures.ended;
+      tables = refl;
+      global = refl;
+      kept = refl;
+    } in
+    subst (λ o. BecomesOf cap o (catalogue_of c.leave-pass.new.self made.new.latest) pass c.leave-pass.result offer made.result) c.self.view_is
+    (subst (λ p. BecomesOf cap (catalogue_of k.pass k.latest) (catalogue_of p made.new.latest) pass c.leave-pass.result offer made.result) (sym c.leave-pass.ensures.left)
+    (subst (λ p. BecomesOf cap (catalogue_of k.pass k.latest) new pass p offer made.result) (sym c.leave-pass.ensures.pass)
+    (becomes_from pass words c.enter-guest.ensures.seen c.words.ensures.formed offer c.requires.offer cap (catalogue_of k.pass k.latest) mid new refl stays after made.result its)))

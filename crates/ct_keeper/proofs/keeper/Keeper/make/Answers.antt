@@ -8,12 +8,15 @@ pub invariant_of-result : goal.invariant_of-result
 invariant_of-result g c =
     let words = c.args.pass.words in
     let l = c.in_ok-latest.latest in
-    let is = c.in_ok-latest.ensures in
-    (c.requires.guest, c.requires.enrolled, record {
-      version = is.version ∙ ap (λ h. length h) (sym c.requires.none);
-      is =
-          subst (λ v. IsSnapshot words v l.content.tables l.content.global (arc_value l.kept)) (sym is.version)
-          (subst (λ ts. IsSnapshot words 0 ts l.content.global (arc_value l.kept)) (sym is.tables)
-          (subst (λ n. IsSnapshot words 0 [] n (arc_value l.kept)) (sym is.global)
-          (subst (λ w. IsSnapshot words 0 [] 0 w) (sym is.kept) (first_snapshot words c.words.ensures.begins c.words.ensures.formed))));
-    })
+    let is = c.in_ok-latest.ensures in (
+      c.requires.guest,
+      c.requires.enrolled,
+      record {
+        version = is.version ∙ ap (λ h. length h) (sym c.requires.none);
+        is =
+            subst (λ v. IsSnapshot words v l.content.tables l.content.global (arc_value l.kept)) (sym is.version)
+            (subst (λ ts. IsSnapshot words 0 ts l.content.global (arc_value l.kept)) (sym is.tables)
+            (subst (λ n. IsSnapshot words 0 [] n (arc_value l.kept)) (sym is.global)
+            (subst (λ w. IsSnapshot words 0 [] 0 w) (sym is.kept) (first_snapshot words c.words.ensures.begins c.words.ensures.formed))));
+      },
+    )

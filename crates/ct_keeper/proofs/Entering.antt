@@ -1,0 +1,100 @@
+-- An offer, and what becomes of it, for a session that brings fewer words than the keeper then has.
+use Rattle.std.proofs.Common.{◌≡◌, ◌≢◌, ℕ, ◌+◌, List, [], ◌∷◌, ◌++◌, length, take, ap, sym, subst, ◌∙◌, arith}
+use Rattle.std.specs.Prelude.{IsTrue, All, Result, Ok, Err}
+use Rattle.std.specs.List.{Contains, list_all}
+use Rattle.std.proofs.lemmas.List.{take-append-le}
+use mathlib.Core.List.{IsPrefix}
+use Rattle.ct_word.specs.declared.kinds.Class.TheVariants as class
+use Rattle.ct_word.specs.Change.{PlainCommit}
+use Rattle.ct_word.specs.Reading.{commits_of, change_list_at}
+use Rattle.ct_word.specs.WellFormed.{IsWellFormed}
+use Rattle.ct_word.specs.Writable.{is_writable}
+use Rattle.ct_word.proofs.Prefixes.{place_within, place_in_prefix, prefix_of_prefix, change_list_in_prefix, commits_prefix}
+use Rattle.ct_query.specs.Fits.{FitAfter}
+use Rattle.ct_query.specs.Frame.{creates}
+use Rattle.ct_arena.specs.Seen.{Seen, tally_of, pass_of}
+use Rattle.ct_table.specs.Snapshot.{IsKeptWorld, commits_to}
+use Rattle.ct_table.proofs.Snapshots.{kept_grows}
+use Rattle.ct_keeper.specs.declared.catalogue.Offer.{Offer}
+use Rattle.ct_keeper.specs.declared.catalogue.Outcome.{Outcome}
+use Rattle.ct_keeper.specs.declared.catalogue.Outcome.TheVariants as outcome
+use Rattle.ct_keeper.specs.declared.error.KeeperError.{KeeperError}
+use Rattle.ct_keeper.specs.declared.error.KeeperError.TheVariants as fault
+use Rattle.ct_keeper.specs.Catalogue.{Catalogue, Stays}
+use Rattle.ct_keeper.specs.Offers.{changes_in, commit_for, has_assertion, IsOffer, AreUnchanged, IsUnchanged, IsCommitted, IsUncommitted, IsConflict, BecomesOf}
+use Rattle.ct_keeper.proofs.Interning.{prefix_short}
+
+module _ (pass : Seen) (words : List ℕ) (longer : IsPrefix pass.words words) (formed : IsWellFormed words) (offer : Offer) (is : IsOffer pass offer) where
+  abbrev entered : Seen
+  entered = pass_of (tally_of pass) words
+
+  same_list : change_list_at words offer.changes ≡ change_list_at pass.words offer.changes
+  same_list = change_list_in_prefix pass.words words offer.changes longer (place_within pass.words class.ChangeList offer.changes is.place)
+
+  same_base : commits_to words offer.base ≡ commits_to pass.words offer.base
+  same_base =
+      let p = commits_prefix pass.words words longer in
+      sym (ap (take offer.base) p.1) ∙ take-append-le offer.base (commits_of pass.words) p.0 is.seen
+
+  same_commit : commit_for entered offer ≡ commit_for pass offer
+  same_commit = λ i. record { session = pass.session; number = pass.mine; changes = same_list i }
+
+  pub offer_grows : IsOffer entered offer
+  offer_grows = record {
+    seen = let p = commits_prefix pass.words words longer in let short = prefix_short {A = PlainCommit} (commits_of pass.words) (commits_of words) p in omega (arith, short, is.seen);
+    place = place_in_prefix pass.words words class.ChangeList offer.changes longer is.place;
+    fits = subst (λ h. FitAfter h (change_list_at words offer.changes)) (sym same_base) (subst (FitAfter (commits_to pass.words offer.base)) (sym same_list) is.fits);
+    writable = subst (λ xs. IsTrue (list_all is_writable xs)) (sym same_list) is.writable;
+    creations = subst (λ xs. All (Contains offer.reads) (creates xs)) (sym same_list) is.creations;
+    leaves = λ has. let left = is.leaves (subst has_assertion same_list has) in record {
+      reads = left.reads;
+      world =
+          subst (λ h. IsKeptWorld words (h ++ commit_for entered offer ∷ []) [] offer.kept) (sym same_base)
+          (subst (λ c. IsKeptWorld words (commits_to pass.words offer.base ++ c ∷ []) [] offer.kept) (sym same_commit)
+          (kept_grows pass.words words longer formed (commits_to pass.words offer.base ++ commit_for pass offer ∷ []) [] offer.kept left.world));
+    };
+  }
+
+  module _ (cap : ℕ) (old mid new : Catalogue) (same_words : mid.words ≡ words) (come : Stays old mid) (after : Seen) where
+    same_history : commits_of mid.words ≡ commits_of old.words
+    same_history = come.commits
+
+    stays_from : Stays mid new → Stays old new
+    stays_from s = record {
+      longer = prefix_of_prefix old.words mid.words new.words come.longer s.longer;
+      commits = s.commits ∙ come.commits;
+      ended = s.ended ∙ come.ended;
+      tables = s.tables ∙ come.tables;
+      global = s.global ∙ come.global;
+      kept = s.kept ∙ come.kept;
+    }
+
+    none_from : IsUncommitted mid new entered after → IsUncommitted old new pass after
+    none_from u = record { stays = stays_from u.stays; mine = u.mine }
+
+    unchanged_from : IsUnchanged mid.words offer → IsUnchanged old.words offer
+    unchanged_from u = subst (λ h. AreUnchanged h offer.base offer.reads) come.commits u
+
+    some_from : changes_in words offer ≢ [] → changes_in pass.words offer ≢ []
+    some_from = subst (λ xs. xs ≢ []) same_list
+
+    committed_from : (m : ℕ) → IsCommitted mid new entered after offer m → IsCommitted old new pass after offer m
+    committed_from m c = record {
+      has_changes = some_from c.has_changes;
+      unchanged = unchanged_from c.unchanged;
+      number = c.number ∙ ap (λ h. length h + 1) come.commits;
+      commits = c.commits ∙ (λ i. come.commits i ++ same_commit i ∷ []);
+      ended = c.ended ∙ come.ended;
+      longer = prefix_of_prefix old.words mid.words new.words come.longer c.longer;
+      grown = let short = prefix_short {A = ℕ} pass.words words longer in omega (arith, short, c.grown);
+      mine = c.mine;
+    }
+
+    -- what becomes of the offer of the session that entered
+    pub becomes_from : (r : Result Outcome KeeperError) → BecomesOf cap mid new entered after offer r → BecomesOf cap old new pass after offer r
+    becomes_from (Ok (outcome.Committed m)) b = committed_from m b
+    becomes_from (Ok outcome.Nothing) b = (none_from b.0, sym same_list ∙ b.1)
+    becomes_from (Ok (outcome.Conflict table was now at)) b =
+        (none_from b.0, some_from b.1, subst (λ h. IsConflict h offer.base offer.reads table was now at) come.commits b.2)
+    becomes_from (Err fault.Full) b = (none_from b.0, some_from b.1, unchanged_from b.2, b.3)
+    becomes_from (Err fault.Memory) b = none_from b

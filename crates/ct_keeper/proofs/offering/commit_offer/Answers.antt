@@ -1,0 +1,19 @@
+use Rattle.std.proofs.Common.{◌+◌, refl, arith}
+use Rattle.ct_keeper.proofs.Applying.{few_commits, can_apply, latest_next}
+use Rattle.ct_keeper.proofs.offering.commit_offer.Goals as goal
+
+pub commit_list-requires-clause-can : goal.commit_list-requires-clause-can
+commit_list-requires-clause-can g c =
+    can_apply c.args.keeper.now.words c.args.guest.now c.args.offer.now c.args.changes.now c.requires.offer c.requires.unchanged c.requires.written c.requires.changes
+    c.args.latest.now c.requires.latest
+
+pub overflow_add-latest : goal.overflow_add-latest
+overflow_add-latest g c = omega (arith, few_commits c.args.keeper.now.words, c.requires.latest.version, c.words.ensures.small)
+
+pub returns-clause-latest : goal.returns-clause-latest
+returns-clause-latest g c =
+    let to = c.in_ok-commit_list.ensures.appends in
+    latest_next c.args.keeper.now.words c.args.guest.now c.args.offer.now c.args.changes.now c.requires.offer c.requires.unchanged c.requires.written c.requires.changes
+    c.args.latest.now c.requires.latest c.commit_list.new.keeper.words to.longer to.formed to.commits
+    (record { content = c.commit_list.new.content; kept = c.in_ok-kept.kept; version = c.args.latest.now.version + 1 })
+    c.in_ok-commit_list.ensures.made c.in_ok-kept.ensures refl
