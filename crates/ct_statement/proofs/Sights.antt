@@ -1,11 +1,10 @@
 -- What is seen stays so in longer words, and what is seen after a step.
-use Rattle.std.proofs.Common.{◌≡◌, ◌≤◌, ◌+◌, ℕ, List, [], ◌∷◌, ◌++◌, length, take, ap, sym, subst, ◌∙◌, arith, length-append}
+use Rattle.std.proofs.Common.{◌≡◌, ◌≤◌, ℕ, List, [], ◌∷◌, ◌++◌, length, take, ap, sym, subst, ◌∙◌, arith, length-append}
 use Rattle.std.specs.Prelude.{All, Option, Some, None, option_map, unwrap_or}
 use Rattle.std.specs.Arc.{arc_value}
 use Rattle.std.proofs.lemmas.List.{take-append-le}
 use Rattle.std.proofs.lemmas.List.Elements.{All-push}
 use mathlib.Core.List.{IsPrefix}
-use Rattle.ct_word.specs.Change.{PlainCommit}
 use Rattle.ct_word.specs.Value.{World}
 use Rattle.ct_word.specs.Reading.{commits_of}
 use Rattle.ct_word.specs.WellFormed.{IsWellFormed}

@@ -1,8 +1,7 @@
-use Rattle.std.proofs.Common.{◌≡◌, ◌++◌, ◌∷◌, [], ap, map, refl, sym, ◌∙◌}
+use Rattle.std.proofs.Common.{◌++◌, ◌∷◌, [], ap, map, refl, ◌∙◌}
 use Rattle.std.specs.Arc.{arc_value}
 use Rattle.std.proofs.lemmas.List.{map-append}
 use Rattle.ct_query.specs.Views.{action_of}
-use Rattle.ct_statement.specs.Sight.{actions_before}
 use Rattle.ct_statement.proofs.Sights.{sight_after, kept_is}
 use Rattle.ct_statement.proofs.advancing.advance.Goals as goal
 
