@@ -1,6 +1,6 @@
 -- The change of an action in a change list: it agrees with the action, fits the tables, can be written, and its terms are
 -- those of the action or of what its query asks about.
-use Rattle.std.proofs.Common.{◌≡◌, ◌≤◌, ◌^◌, ℕ, true, List, [], ◌∷◌, ◌++◌, length, map, None, refl, ap, sym, subst, ◌∙◌, arith, inl, inr}
+use Rattle.std.proofs.Common.{◌≡◌, ◌≤◌, ◌^◌, ℕ, true, List, ◌∷◌, length, map, None, refl, sym, subst, ◌∙◌, inl, inr}
 use Rattle.std.specs.Prelude.{All, IsSome, IsTrue, flat_map}
 use Rattle.std.specs.List.{Contains, list_all}
 use Rattle.std.proofs.lemmas.Bool.{and_from}
@@ -17,7 +17,7 @@ use Rattle.ct_word.specs.WellFormed.{IsWellFormed}
 use Rattle.ct_word.specs.Writable.{is_name, is_writable_condition, is_writable_row, is_writable}
 use Rattle.ct_word.proofs.Items.{unmapped_item}
 use Rattle.ct_query.specs.Agrees.{AgreesWith}
-use Rattle.ct_query.specs.Fits.{columns_in, count_of, width, IsColumnBelow, AreColumnsBelow, FitsCell, FitsRows, FitsRow, FitsAction, FitsChange}
+use Rattle.ct_query.specs.Fits.{columns_in, count_of, width, IsColumnBelow, AreColumnsBelow, FitsCell, FitsRow, FitsAction, FitsChange}
 use Rattle.ct_query.specs.Patterns.{pattern}
 use Rattle.ct_query.specs.Plain as plain
 use Rattle.ct_query.specs.Plain.{PlainQuery, PlainAction}
@@ -30,9 +30,9 @@ use Rattle.ct_history.specs.Encodes.{IsEncodable, IsChangeFor, HasTermsOf}
 use Rattle.ct_history.specs.Rows.{IsRowOf}
 use Rattle.ct_keeper.specs.Doing.{HasTermsFor, written_by}
 use Rattle.ct_resolve.specs.Writing.{IsNamed, WritesTerm, WritesAction}
-use Rattle.ct_table.specs.Denotes.{IsTermFor, by_action}
-use Rattle.ct_table.specs.Tables.{IsRow, cells_of}
-use Rattle.ct_table.specs.Terms.{IsNoColumn, TermOfRow}
+use Rattle.ct_table.specs.Denotes.{by_action}
+use Rattle.ct_table.specs.Tables.{IsRow}
+use Rattle.ct_table.specs.Terms.{TermOfRow}
 use Rattle.ct_table.proofs.Changing.{cells_listed}
 use Rattle.ct_table.proofs.Naming.{mapped, given, row_terms, row_reached}
 use Rattle.ct_table.proofs.Reaching.{from_rows, none_of_some}
@@ -112,19 +112,19 @@ module _ (words : List ℕ) (formed : IsWellFormed words) (global : ℕ) (h : Li
   change_fits (plain.Create name columns) rs (Create name' columns') f is from t = subst (λ n. columns_in (schema h before).tables n ≡ None) (sym is.0) f
   change_fits (plain.InsertRows name lists c) rs (Insert name' rs') f is from t =
       subst (λ n. IsSome (columns_in (schema h before).tables n) × All (FitsRow (count_of (columns_in (schema h before).tables n))) rs') (sym is.0) (f.0, rows_fit) where
-    wide : ℕ
-    wide = width (schema h before).tables (plain.Table name)
+        wide : ℕ
+        wide = width (schema h before).tables (plain.Table name)
 
-    plain_term : (u : Term) → Contains (action_terms (plain.InsertRows name lists c)) u → IsColumnBelow 0 u
-    plain_term u i = elim (Contains-append_cases (flat_map (λ r. r) lists) (condition_terms c) u i) [
-      | inl l ↦ let r = unflat (λ r. r) lists u l in (All-contains FitsCell r.0 u (All-contains (All FitsCell) lists r.0 f.2 r.1) r.2).0
-      | inr p ↦ column_in 0 c u f.3.columns p
-    ]
+        plain_term : (u : Term) → Contains (action_terms (plain.InsertRows name lists c)) u → IsColumnBelow 0 u
+        plain_term u i = elim (Contains-append_cases (flat_map (λ r. r) lists) (condition_terms c) u i) [
+          | inl l ↦ let r = unflat (λ r. r) lists u l in (All-contains FitsCell r.0 u (All-contains (All FitsCell) lists r.0 f.2 r.1) r.2).0
+          | inr p ↦ column_in 0 c u f.3.columns p
+        ]
 
-    rows_fit : All (FitsRow wide) rs'
-    rows_fit = All-weaker (Contains rs') (FitsRow wide) (λ r i.
-        row_fits wide r (All-contains (λ l. length l ≡ wide) lists r.cells f.1 (subst (λ cs. Contains cs r.cells) is.1 (mapped (λ (x : PlainRow). x.cells) rs' r i)))
-        (λ u j. plain_term u (from u (given row_terms rs' r u i j)))) rs' (All-contains_itself rs')
+        rows_fit : All (FitsRow wide) rs'
+        rows_fit = All-weaker (Contains rs') (FitsRow wide) (λ r i.
+            row_fits wide r (All-contains (λ l. length l ≡ wide) lists r.cells f.1 (subst (λ cs. Contains cs r.cells) is.1 (mapped (λ (x : PlainRow). x.cells) rs' r i)))
+            (λ u j. plain_term u (from u (given row_terms rs' r u i j)))) rs' (All-contains_itself rs')
   change_fits (plain.Delete name p) rs (Delete name' c) f is from t =
       let s = (schema h before).tables in
       let n = width s (plain.Table name) in

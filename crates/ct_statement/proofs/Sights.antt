@@ -1,16 +1,17 @@
 -- What is seen stays so in longer words, and what is seen after a step.
-use Rattle.std.proofs.Common.{◌≡◌, ◌≤◌, ◌+◌, ℕ, List, [], ◌∷◌, ◌++◌, length, take, ap, sym, subst, ◌∙◌, arith, length-append}
+use Rattle.std.proofs.Common.{◌≡◌, ◌≤◌, ℕ, List, [], ◌∷◌, ◌++◌, length, map, take, ap, sym, subst, ◌∙◌, arith, length-append}
 use Rattle.std.specs.Prelude.{All, Option, Some, None, option_map, unwrap_or}
 use Rattle.std.specs.Arc.{arc_value}
-use Rattle.std.proofs.lemmas.List.{take-append-le}
+use Rattle.std.proofs.lemmas.List.{map-append, take-append-le}
 use Rattle.std.proofs.lemmas.List.Elements.{All-push}
 use mathlib.Core.List.{IsPrefix}
-use Rattle.ct_word.specs.Change.{PlainCommit}
 use Rattle.ct_word.specs.Value.{World}
 use Rattle.ct_word.specs.Reading.{commits_of}
 use Rattle.ct_word.specs.WellFormed.{IsWellFormed}
 use Rattle.ct_word.proofs.Prefixes.{commits_prefix}
 use Rattle.ct_query.specs.Plain.{PlainAction}
+use Rattle.ct_query.specs.Views.{action_of}
+use Rattle.ct_query.specs.declared.action.Action.{Action}
 use Rattle.ct_resolve.specs.Writing.{WritesAction}
 use Rattle.ct_condition.proofs.Reached.{formed_before}
 use Rattle.ct_table.specs.Denotes.{Denotes}
@@ -60,9 +61,13 @@ same_sight words s next v a t g k is = record {
 }
 
 -- another world where there is one, else the one before
-pub kept_is : {A : Type 0} (value : A → World) (kept : A) (o : Option A) (other : Option World) → option_map value o ≡ other → value (unwrap_or o kept) ≡ kept_after (value kept) other
-kept_is value kept None other e = ap (kept_after (value kept)) e
-kept_is value kept (Some next) other e = ap (kept_after (value kept)) e
+pub kept_is : {A : Type 0} (value : A → World) (kept next : A) (o : Option A) (other : Option World) → option_map value o ≡ other → next ≡ unwrap_or o kept → value next ≡ kept_after (value kept) other
+kept_is value kept next None other e is = ap value is ∙ ap (kept_after (value kept)) e
+kept_is value kept next (Some x) other e is = ap value is ∙ ap (kept_after (value kept)) e
+
+-- one action more, in the room that was made for it
+pub one_more : (before room after : List Action) (a : Action) → room ≡ before → after ≡ room ++ a ∷ [] → map action_of after ≡ map action_of before ++ action_of a ∷ []
+one_more before room after a same pushed = ap (map action_of) (pushed ∙ ap (λ xs. xs ++ a ∷ []) same) ∙ map-append action_of before (a ∷ [])
 
 -- what is seen after a step
 pub sight_after : (words : List ℕ) (s next : Sight) (x : PlainAction) (step : Step) → next.version ≡ s.version → actions_before next ≡ actions_before s ++ x ∷ []

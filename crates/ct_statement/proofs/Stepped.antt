@@ -1,12 +1,8 @@
 -- The step of an action: what its effect leads to, the world that is kept then, and why there is none.
-use Rattle.std.proofs.Common.{◌≡◌, ◌<◌, ◌+◌, ℕ, true, false, List, [], ◌∷◌, ◌++◌, length, map, Option, Some, None, refl, ap, sym, subst, ◌∙◌, arith, inl, inr}
-use Rattle.std.specs.Prelude.{IsTrue, All}
+use Rattle.std.proofs.Common.{◌≡◌, ◌<◌, ℕ, List, [], ◌∷◌, ◌++◌, map, Option, Some, refl, ap, sym, subst, ◌∙◌, arith, inl, inr}
 use Rattle.std.specs.Arc.{arc_value}
-use Rattle.std.specs.List.{Contains, AllByRecursion}
 use Rattle.std.proofs.lemmas.List.Elements.{All-weaker, All-from_recursion}
 use mathlib.Core.List.{IsPrefix}
-use Rattle.ct_word.specs.declared.values.Term.{Term}
-use Rattle.ct_word.specs.declared.values.Term.TheVariants as term
 use Rattle.ct_word.specs.declared.values.Value.{Value}
 use Rattle.ct_word.specs.Value.{World}
 use Rattle.ct_word.specs.Condition.{Condition, holds_at}
@@ -16,21 +12,17 @@ use Rattle.ct_word.specs.WellFormed.{IsWellFormed}
 use Rattle.ct_derivation.specs.declared.steps.Derivation.{Derivation}
 use Rattle.ct_derivation.specs.Accepts.{Accepts}
 use Rattle.ct_derivation.proofs.Sound.{root_refuted}
-use Rattle.ct_equality.specs.Valued.{IsNumbered}
 use Rattle.ct_decide.specs.Decided.{IsValueOf, IsWorldAt}
 use Rattle.ct_decide.specs.declared.error.DecideError.{DecideError}
 use Rattle.ct_decide.specs.declared.error.DecideError.TheVariants as fault
 use Rattle.ct_query.specs.Plain as plain
 use Rattle.ct_query.specs.Plain.{PlainAction}
 use Rattle.ct_query.specs.Agrees.{AgreesWith}
-use Rattle.ct_query.specs.Worlds.{admits}
 use Rattle.ct_query.specs.Fits.{FitsChange}
 use Rattle.ct_query.specs.Schema.{schema}
 use Rattle.ct_query.specs.Terms.{terms_asked, term_count}
 use Rattle.ct_query.specs.declared.action.Read.TheVariants as read
 use Rattle.ct_cnf.specs.Encoding.{HasTermsPast}
-use Rattle.ct_certain.specs.Asked.{IsPastTerms}
-use Rattle.ct_condition.proofs.Reached.{formed_before}
 use Rattle.ct_history.specs.declared.written.Written.{Written}
 use Rattle.ct_history.specs.declared.written.Written.TheVariants as written
 use Rattle.ct_history.specs.Written.{IsWritten, plain_written}
@@ -47,8 +39,7 @@ use Rattle.ct_keeper.proofs.Doing.{tables_do, global_does, world_does, world_nar
 use Rattle.ct_transcript.specs.declared.reply.Refusal.{Refusal}
 use Rattle.ct_transcript.specs.declared.reply.Refusal.TheVariants as refusal
 use Rattle.ct_statement.specs.declared.sight.Sight.{Sight}
-use Rattle.ct_statement.specs.declared.stepping.Step.{Step}
-use Rattle.ct_statement.specs.Narrowing.{IsEffectFor, IsDecidable, CanNarrow, IsWorldFor, IsWorldless, IsKeptFor, IsUnkept, undecided}
+use Rattle.ct_statement.specs.Narrowing.{IsEffectFor, CanNarrow, IsWorldFor, IsWorldless, IsKeptFor, IsUnkept, undecided}
 use Rattle.ct_statement.specs.Proposals.{IsProposal, IsStep, kept_after}
 use Rattle.ct_statement.specs.Sight.{IsSight, actions_before, history_of}
 use Rattle.ct_statement.specs.Unmet.{IsUnmet}

@@ -1,5 +1,5 @@
 -- How many nulls an action draws.
-use Rattle.std.specs.Prelude.{ℕ, List, sum_by, count_by, Bool, true, false}
+use Rattle.std.specs.Prelude.{ℕ, sum_by, count_by, Bool, true, false}
 use Rattle.ct_word.specs.declared.values.Term.{Term}
 use Rattle.ct_word.specs.declared.values.Term.TheVariants as term
 use Rattle.ct_word.specs.declared.values.Null.TheVariants as null

@@ -136,14 +136,7 @@ fn effect_for<N: Site>(
     let Some(change) = last_change(alloc, pass.words(), proposal.changes)? else {
         unreachable!()
     };
-    match effect_of(
-        alloc,
-        arena,
-        pass,
-        sight.tables.db(),
-        sight.global,
-        &change,
-    ) {
+    match effect_of(alloc, arena, pass, sight.tables.db(), sight.global, &change) {
         Ok(effect) => Ok(effect),
         Err(e) => Err(unapplied(e)),
     }

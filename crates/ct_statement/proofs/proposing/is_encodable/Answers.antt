@@ -1,7 +1,7 @@
 use Rattle.std.proofs.Common.{◌≡◌, ◌≤◌, ◌^◌, [], map, length, None, Some, arith, subst, sym}
 use Rattle.std.specs.Prelude.{IsSome}
 use Rattle.std.proofs.lemmas.Bool.{false≢true, leb-true}
-use Rattle.ct_query.specs.Fits.{FitsAction, columns_in, count_of}
+use Rattle.ct_query.specs.Fits.{FitsAction, count_of}
 use Rattle.ct_query.specs.Pred.{condition_of}
 use Rattle.ct_query.specs.Views.{action_of}
 use Rattle.ct_history.specs.Encodes.{IsEncodable}
