@@ -15,7 +15,11 @@ pub fn grown(alloc: Global, tables: Tables, growth: Growth) -> Result<Tables, Ta
     requires fits { FitsGrowth tables growth }
     ensures { MatchResult result (λ after'. after' ≡ after tables growth) (λ same. same ≡ tables) }
 {
-    let _ = alloc;
-    drop(growth);
-    Err(tables)
+    match tables.into_db(alloc) {
+        Ok(db) => match db.growing(alloc, growth) {
+            Ok(pending) => Ok(Tables::alone(pending.done(alloc))),
+            Err(same) => Err(Tables::alone(same)),
+        },
+        Err(same) => Err(same),
+    }
 }

@@ -56,9 +56,16 @@ impl<N: Site> Keeper<N> {
         ensures words { IfOk result (λ k. k.words ≡ pass.words) }
         ensures ended { IfOk result (λ k. k.ended ≡ pass.ended) }
     {
-        let _ = alloc;
-        drop(pass);
-        Err(Memory)
+        // A log without commits begins with the word true, which is its global condition.
+        let _ = pass.words();
+        let kept = Arc::new(alloc, List::new(alloc))?;
+        Ok(Keeper {
+            pass,
+            tables: Tables::empty(alloc),
+            global: 0,
+            kept,
+            version: 0,
+        })
     }
 
     /// The log's keeper pass, with the keeper's words. It takes no memory. Some valuation is admitted by the commits in
@@ -71,6 +78,24 @@ impl<N: Site> Keeper<N> {
         ensures admitted { IsTrue (admits self.kept (commits_of result.words) []) }
     {
         self.pass
+    }
+
+    /// A snapshot of all commits.
+    ///
+    /// # Errors
+    /// `Memory` where there is none to share the tables.
+    fn snapshot(&mut self, alloc: Global) -> Result<Snapshot, Memory>
+        ensures snapshot { IfOk result (IsNewest self.new.words) }
+        ensures same { self.new ≡ self.old }
+    {
+        let db = self.tables.share(alloc)?;
+        let kept = Arc::try_clone(&self.kept)?;
+        Ok(Snapshot {
+            version: self.version,
+            db,
+            global: self.global,
+            kept,
+        })
     }
 
     /// A snapshot of all commits, for the session of this pass, which then has all words that the keeper has.
@@ -89,8 +114,12 @@ impl<N: Site> Keeper<N> {
         ensures pass { tally_of result.0 ≡ tally_of pass }
         ensures stays { Stays self.old self.new }
     {
-        let _ = (alloc, arena);
-        (pass, Err(Memory))
+        let guest = self.pass.enter(arena, pass);
+        // The words are well formed, which keeps the tables as words come.
+        let _ = self.pass.words();
+        let pass = self.pass.leave(arena, guest);
+        let snapshot = self.snapshot(alloc);
+        (pass, snapshot)
     }
 
     /// Commits an offer of the session of this pass, which then has all words that the keeper has.
@@ -116,7 +145,12 @@ impl<N: Site> Keeper<N> {
         ensures longer { IsPrefix pass.words result.0.words }
         ensures session { result.0.session ≡ pass.session }
     {
-        let _ = (alloc, arena, offer);
+        let _ = alloc;
+        let _ = offer;
+        let guest = self.pass.enter(arena, pass);
+        // The words are well formed, which keeps the tables as words come.
+        let _ = self.pass.words();
+        let pass = self.pass.leave(arena, guest);
         (pass, Err(KeeperError::Memory))
     }
 }

@@ -1,6 +1,7 @@
 // The tables of a version, held alone or shared with snapshots.
 
 ghost use Rattle.std.specs.Prelude.{◌≡◌, [], IfOk, MatchResult};
+ghost use Rattle.ct_keeper.specs.Held.{tables_in};
 
 use ct_table::Db;
 use ct_word::Memory;
@@ -64,6 +65,63 @@ impl Tables {
         match &self.held {
             Held::Own(db) => db,
             Held::Shared(db) => db,
+        }
+    }
+
+    /// The tables, for others to hold too. They stay here as they were.
+    ///
+    /// # Errors
+    /// `Memory` where there is none to share them.
+    pub fn share(&mut self, alloc: Global) -> Result<Arc<Db, Global>, Memory>
+        ensures same { self.new ≡ self.old }
+        ensures tables { IfOk result (λ shared. shared.value ≡ self.old) }
+    {
+        let held = std::mem::replace(&mut self.held, Held::Own(Db::empty(alloc)));
+        let (held, shared) = held.shared(alloc);
+        self.held = held;
+        shared
+    }
+
+    /// The tables for this owner alone: those that are here, where nobody else holds them, else a copy.
+    ///
+    /// # Errors
+    /// The tables as they were, where there is no memory for the copy.
+    pub fn into_db(self, alloc: Global) -> Result<Db, Tables>
+        ensures { MatchResult result (λ db. db ≡ self) (λ same. same ≡ self) }
+    {
+        let shared = match self.held {
+            Held::Own(db) => return Ok(db),
+            Held::Shared(shared) => shared,
+        };
+        match Arc::try_unwrap(shared) {
+            Ok(db) => Ok(db),
+            Err(shared) => match shared.copied(alloc) {
+                Ok(db) => Ok(db),
+                Err(_) => Err(Tables::shared(shared)),
+            },
+        }
+    }
+}
+
+impl Held {
+    /// The tables, held alone or shared, and one more hold of them, for which they are shared where they were not.
+    ///
+    /// # Errors
+    /// `Memory` where there is none to share them.
+    fn shared(self, alloc: Global) -> (Held, Result<Arc<Db, Global>, Memory>)
+        ensures same { tables_in result.0 ≡ tables_in self }
+        ensures tables { IfOk result.1 (λ shared. shared.value ≡ tables_in self) }
+    {
+        let first = match self {
+            Held::Shared(first) => first,
+            Held::Own(db) => match Arc::new(alloc, db) {
+                Ok(first) => first,
+                Err(failed) => return (Held::Own(failed.value), Err(Memory)),
+            },
+        };
+        match Arc::try_clone(&first) {
+            Ok(second) => (Held::Shared(first), Ok(second)),
+            Err(_) => (Held::Shared(first), Err(Memory)),
         }
     }
 }

@@ -50,7 +50,7 @@ nothing_inserted (r ∷ w) n = let rest = nothing_inserted w n in let first = by
   by_test false = refl
 
 -- what rows under one truth are worth
-rows_where : (words : List ℕ) (v : World) (c : Condition) (more : List CRow) (b : Bool) → holds_at v c ≡ b → AllByRecursion (λ r. SameTruthAlone (condition_at words r.cond) c) more
+pub rows_where : (words : List ℕ) (v : World) (c : Condition) (more : List CRow) (b : Bool) → holds_at v c ≡ b → AllByRecursion (λ r. SameTruthAlone (condition_at words r.cond) c) more
     → value_of_rows words v more ≡ (if b then map (tuple_at v) (cells_of words more) else [])
 rows_where words v c [] true e all = refl
 rows_where words v c [] false e all = refl
@@ -97,7 +97,7 @@ module _ (old new : List ℕ) (longer : IsPrefix old new) (formed : IsWellFormed
         by_test true = refl
         by_test false = ap (λ x. Some x) (sym (nothing_inserted w name))
 
-      rows_follow : Follows h actions h (actions ++ plain.InsertRows name lists c ∷ []) (λ v w. Some (inserted w name (if holds_at v c then map (tuple_at v) lists else []))) []
+      pub rows_follow : Follows h actions h (actions ++ plain.InsertRows name lists c ∷ []) (λ v w. Some (inserted w name (if holds_at v c then map (tuple_at v) lists else []))) []
       rows_follow =
           let f = action_follows h actions (plain.InsertRows name lists c) in
           record {

@@ -112,6 +112,19 @@ impl Db {
         })
     }
 
+    /// The same tables, in a list of their own. The tables are shared.
+    ///
+    /// # Errors
+    /// `Memory` where there is none for the list, or for the copies of the names and columns.
+    pub fn copied(&self, alloc: Global) -> Result<Db, Memory>
+        ensures { IfOk result (λ db. db ≡ self.now) }
+    {
+        Ok(Db {
+            tables: self.tables.clone()?,
+            headings: self.schema(alloc)?,
+        })
+    }
+
     /// The same tables with this one at its name's place, or last where the name is new. The others are shared.
     ///
     /// # Errors
@@ -119,11 +132,10 @@ impl Db {
     pub fn with(&self, alloc: Global, name: Text, table: CTable) -> Result<Db, Memory>
         ensures { IfOk result (λ db. db ≡ with_table self.now (view_of name table)) }
     {
-        let copy = Db {
-            tables: self.tables.clone()?,
-            headings: self.schema(alloc)?,
-        };
-        match copy.growing(alloc, Growth::Table { name, table }) {
+        match self
+            .copied(alloc)?
+            .growing(alloc, Growth::Table { name, table })
+        {
             Ok(pending) => Ok(pending.done(alloc)),
             Err(_) => Err(Memory),
         }
