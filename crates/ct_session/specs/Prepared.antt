@@ -79,6 +79,12 @@ IsNoOrder tree.Commit = ⊥
 IsNoOrder tree.Rollback = ⊥
 IsNoOrder _ = Unit {0}
 
+-- a statement with positions is no BEGIN, COMMIT or ROLLBACK
+abbrev pub IsNoPlainOrder : PlainStatement → Type 0
+IsNoPlainOrder (plain.Act a) = Unit {0}
+IsNoPlainOrder (plain.Asks k columns query) = Unit {0}
+IsNoPlainOrder _ = ⊥
+
 -- the step of an action was made, in a transaction and for an assertion
 abbrev pub needs_step : Bool → Prepared → Type 0
 needs_step true (prepared.Change proposal step reads) = IsSome step

@@ -1,15 +1,18 @@
 // COMMIT of an open transaction.
 
-ghost use Rattle.std.specs.Prelude.{◌≡◌, ◌<◌, ◌^◌, IsSome};
+ghost use Rattle.std.specs.Prelude.{◌≡◌, ◌<◌, ◌^◌, IsSome, Some};
 ghost use Rattle.ct_parse.specs.declared.tree.Statement.TheVariants as tree;
 ghost use Rattle.ct_session.specs.Executes.{Executes};
-ghost use Rattle.ct_session.specs.Sessions.{IsSession, state_of};
+ghost use Rattle.ct_session.specs.Sessions.{IsOpen, IsSession, state_of};
 
-use crate::session::Session;
-use ct_arena::{Arena, Site};
-use ct_keeper::Keeper;
+use crate::offering::copied;
+use crate::session::{Open, Session};
+use ct_arena::{Arena, Pass, Site};
+use ct_keeper::{Keeper, KeeperError, Offer, Outcome};
 use ct_parse::Statement;
+use ct_statement::Sight;
 use ct_transcript::{Refusal, Reply};
+use ct_word::List;
 use std::alloc::Global;
 
 /// COMMIT of the open transaction. One without actions commits nothing.
@@ -28,8 +31,21 @@ pub(crate) fn commit<N: Site>(
     ensures executes { Executes N.log.cap (state_of session.pass session.seen session.fresh session.open) (state_of result.0.pass result.0.seen result.0.fresh result.0.open) session.pass.words result.0.pass.words statement.now result.1 }
 {
     let _words = session.pass.words();
-    let _ = (alloc, arena, keeper);
-    let at = session.seen;
-    let why = Refusal::Memory;
-    (session, Reply::Refused { at, why })
+    let Session {
+        pass,
+        seen,
+        fresh,
+        open,
+    } = session;
+    let Some(open) = open else {
+        unreachable!();
+    };
+    let Open {
+        sight,
+        changes,
+        reads,
+    } = open;
+    let Some(changes) = changes else {
+        return ended(pass, seen, fresh, sight.version, Reply::Nothing { at: sight.version });
+    };
 }
