@@ -7,3 +7,8 @@ pub mod Replies
 pub mod Readings
 pub mod Sights
 pub mod Resolving
+pub mod Counted
+pub mod Called
+pub mod Offered
+pub mod Whole
+pub mod Acted

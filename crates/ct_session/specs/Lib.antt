@@ -9,3 +9,4 @@ pub mod Prepared
 pub mod Executes
 pub mod Orders
 pub mod Replying
+pub mod Outcomes

@@ -3,17 +3,132 @@
 ghost use Rattle.std.specs.Prelude.{◌≡◌, ◌<◌, ◌^◌, IsSome, Some};
 ghost use Rattle.ct_parse.specs.declared.tree.Statement.TheVariants as tree;
 ghost use Rattle.ct_session.specs.Executes.{Executes};
-ghost use Rattle.ct_session.specs.Sessions.{IsOpen, IsSession, state_of};
+ghost use Rattle.ct_session.specs.Outcomes.{outcome_reply, outcome_version, wanted};
+ghost use Rattle.ct_session.specs.Sessions.{IsSession, state_of};
 
 use crate::offering::copied;
+use crate::replying::standing;
 use crate::session::{Open, Session};
 use ct_arena::{Arena, Pass, Site};
 use ct_keeper::{Keeper, KeeperError, Offer, Outcome};
 use ct_parse::Statement;
-use ct_statement::Sight;
 use ct_transcript::{Refusal, Reply};
-use ct_word::List;
 use std::alloc::Global;
+
+/// The reply to an offer with this base, and the version that it carries.
+fn replied(base: u32, outcome: Outcome) -> (u32, Reply)
+    ensures version { result.0 ≡ outcome_version base outcome }
+    ensures reply { result.1 ≡ outcome_reply base outcome }
+{
+    match outcome {
+        Outcome::Committed(at) => (at, Reply::Committed { at }),
+        Outcome::Nothing => (base, Reply::Nothing { at: base }),
+        Outcome::Conflict {
+            table,
+            was,
+            now,
+            at,
+        } => {
+            let why = Refusal::Conflict {
+                table,
+                was,
+                now,
+                at,
+            };
+            (at, Reply::Refused { at, why })
+        }
+    }
+}
+
+/// The refusal of an offer for which something is wanting.
+pub(crate) fn wanted(e: KeeperError) -> Refusal
+    ensures { result ≡ wanted e }
+{
+    match e {
+        KeeperError::Full => Refusal::Full,
+        KeeperError::Memory => Refusal::Memory,
+    }
+}
+
+/// COMMIT of the open transaction, whose change list was begun at this place: it is offered to the keeper. Where something
+/// is wanting, the transaction stays.
+fn offered<N: Site>(
+    alloc: Global,
+    arena: &Arena<N>,
+    keeper: &mut Keeper<N>,
+    pass: Pass<N>,
+    seen: u32,
+    fresh: u32,
+    open: Open,
+    changes: u32,
+    statement: &Statement,
+) -> (Session<N>, Reply)
+    requires session { IsSession pass.words seen (Some open) }
+    requires few { pass.mine < 2 ^ 18 }
+    requires begun { open.changes ≡ Some changes }
+    requires order { statement.now ≡ tree.Commit }
+    ensures session { IsSession result.0.pass.words result.0.seen result.0.open }
+    ensures ended { keeper.new.ended ≡ keeper.old.ended }
+    ensures executes { Executes N.log.cap (state_of pass seen fresh (Some open)) (state_of result.0.pass result.0.seen result.0.fresh result.0.open) pass.words result.0.pass.words statement.now result.1 }
+{
+    let _words = pass.words();
+    let kept = match copied(alloc, &open.sight.kept) {
+        Ok(kept) => kept,
+        Err(_) => {
+            let session = Session {
+                pass,
+                seen,
+                fresh,
+                open: Some(open),
+            };
+            let why = Refusal::Memory;
+            return (session, Reply::Refused { at: seen, why });
+        }
+    };
+    let Open {
+        sight,
+        changes: list,
+        reads,
+    } = open;
+    let base = sight.version;
+    let offer = Offer {
+        base,
+        reads,
+        changes,
+        kept,
+    };
+    let (pass, outcome) = keeper.commit(alloc, arena, pass, &offer);
+    let _now = pass.words();
+    let Offer { reads, .. } = offer;
+    match outcome {
+        Ok(outcome) => {
+            let (at, reply) = replied(base, outcome);
+            let session = Session {
+                pass,
+                seen,
+                fresh,
+                open: None,
+            };
+            (session.carrying(at), reply)
+        }
+        Err(e) => {
+            let why = wanted(e);
+            let at = standing(seen, base, &why);
+            let open = Open {
+                sight,
+                changes: list,
+                reads,
+            };
+            let session = Session {
+                pass,
+                seen,
+                fresh,
+                open: Some(open),
+            };
+            (session.carrying(at), Reply::Refused { at, why })
+        }
+    }
+}
 
 /// COMMIT of the open transaction. One without actions commits nothing.
 pub(crate) fn commit<N: Site>(
@@ -28,6 +143,7 @@ pub(crate) fn commit<N: Site>(
     requires some { IsSome session.open }
     requires order { statement.now ≡ tree.Commit }
     ensures session { IsSession result.0.pass.words result.0.seen result.0.open }
+    ensures ended { keeper.new.ended ≡ keeper.old.ended }
     ensures executes { Executes N.log.cap (state_of session.pass session.seen session.fresh session.open) (state_of result.0.pass result.0.seen result.0.fresh result.0.open) session.pass.words result.0.pass.words statement.now result.1 }
 {
     let _words = session.pass.words();
@@ -40,12 +156,19 @@ pub(crate) fn commit<N: Site>(
     let Some(open) = open else {
         unreachable!();
     };
-    let Open {
-        sight,
-        changes,
-        reads,
-    } = open;
-    let Some(changes) = changes else {
-        return ended(pass, seen, fresh, sight.version, Reply::Nothing { at: sight.version });
-    };
+    match open.changes {
+        None => {
+            let at = open.sight.version;
+            let session = Session {
+                pass,
+                seen,
+                fresh,
+                open: None,
+            };
+            (session.carrying(at), Reply::Nothing { at })
+        }
+        Some(changes) => offered(
+            alloc, arena, keeper, pass, seen, fresh, open, changes, statement,
+        ),
+    }
 }
