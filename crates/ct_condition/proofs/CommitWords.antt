@@ -1,5 +1,5 @@
 -- Interning adds no commit word.
-use Rattle.std.proofs.Common.{◌≡◌, ℕ, ◌+◌, true, false, Bool, List, [], ◌∷◌, ◌++◌, length, append-nil, length-append, refl, ap, sym, ◌∙◌, Option, Some, None, arith}
+use Rattle.std.proofs.Common.{◌≡◌, ℕ, ◌+◌, List, [], ◌∷◌, ◌++◌, length, append-nil, length-append, refl, ap, sym, ◌∙◌, Option, Some, None, arith}
 use Rattle.std.specs.Prelude.{if◌then◌else◌, filter_map}
 use Rattle.std.proofs.lemmas.List.{nil_from_length}
 use Rattle.std.proofs.lemmas.List.Elements.{filter-append, filter_map-append}
@@ -10,6 +10,7 @@ use Rattle.ct_word.specs.declared.kinds.Class.TheVariants as class
 use Rattle.ct_word.specs.Word.{kind_of, left_of, right_of}
 use Rattle.ct_word.specs.Reading.{Meaning, as_commit, by_kind, meaning_of, read, commits_of}
 use Rattle.ct_word.specs.WellFormed.{has_class, is_commit_word}
+use Rattle.ct_word.proofs.Prefixes.{commits_prefix}
 use Rattle.ct_condition.specs.CommitWords.{commit_words}
 
 -- a word stands for a commit where its kind is a commit's
@@ -42,3 +43,11 @@ commits_stay old new p same =
     let none : commit_words p.0 ≡ [] =
     nil_from_length (commit_words p.0) (omega (arith, ap length same, counts [] new, counts [] old, ap length split, length-append (commit_words old) (commit_words p.0))) in
     split ∙ ap (λ l. commit_words old ++ l) none ∙ append-nil (commit_words old)
+
+-- and where no commit word came, no commit did
+pub commits_left : (old new : List ℕ) → IsPrefix old new → commit_words new ≡ commit_words old → commits_of new ≡ commits_of old
+commits_left old new p same =
+    let q = commits_prefix old new p in
+    let none : q.0 ≡ [] =
+    nil_from_length q.0 (omega (arith, ap length same, counts [] new, counts [] old, ap length q.1, length-append (commits_of old) q.0)) in
+    sym q.1 ∙ ap (λ l. commits_of old ++ l) none ∙ append-nil (commits_of old)

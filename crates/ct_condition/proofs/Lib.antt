@@ -19,3 +19,4 @@ pub mod Values
 pub mod Ops
 pub mod Writes
 pub mod CommitWords
+pub mod Seating

@@ -6,4 +6,5 @@ pub mod Folding
 pub mod Terms
 pub mod Writes
 pub mod CommitWords
+pub mod Tallies
 pub mod Worth

@@ -1,7 +1,8 @@
 // A keeper at work for its guest.
 
-ghost use Rattle.std.specs.Prelude.{◌≡◌, [], ◌∷◌, ◌++◌, Some};
+ghost use Rattle.std.specs.Prelude.{◌≡◌, [], ◌∷◌, ◌++◌, Some, length};
 ghost use Rattle.ct_condition.specs.CommitWords.{commit_words};
+ghost use Rattle.ct_condition.specs.Tallies.{numbers_in};
 
 use crate::interner::Interner;
 use ct_arena::{Arena, Full, Guest, KeeperPass, Site};
@@ -19,7 +20,7 @@ impl<N: Site> Interner<N> for Seated<'_, N> {
 
     ghost made = { λ s. s.guest.now.made };
 
-    ghost kept = { λ s. (s.guest.now.session ∷ s.guest.now.mine ∷ s.keeper.now.enrolled ∷ []) ++ commit_words s.keeper.now.words };
+    ghost kept = { λ s. s.guest.now.session ∷ s.guest.now.mine ∷ s.keeper.now.enrolled ∷ length s.keeper.now.ended ∷ (numbers_in s.keeper.now.ended ++ commit_words s.keeper.now.words) };
 
     ghost lent = { λ s. s.keeper.ghost_name ∷ s.guest.ghost_name ∷ [] };
 

@@ -1,2 +1,4 @@
 pub mod Doing
 pub mod Standing
+pub mod Unchanged
+pub mod Interning

@@ -49,16 +49,20 @@ pub record IsOffer (pass : Seen) (offer : Offer) : Type 0 where
   pub creations : All (Contains offer.reads) (creates (changes_in pass.words offer))
   pub leaves : has_assertion (changes_in pass.words offer) → Leaves pass offer
 
--- all that an offer read is as it was at its base, by the commits of these words
+-- no commit of a history after the base has changed what was read
+abbrev pub AreUnchanged : List PlainCommit → ℕ → List Read → Type 0
+AreUnchanged h base reads = All (λ r. last h r ≤ base) reads
+
+-- nor one of these words what an offer read
 abbrev pub IsUnchanged : List ℕ → Offer → Type 0
-IsUnchanged words offer = All (λ r. last (commits_of words) r ≤ offer.base) offer.reads
+IsUnchanged words offer = AreUnchanged (commits_of words) offer.base offer.reads
 
 -- the first of the reads that a commit after the base has written
 pub record IsFirstWritten (h : List PlainCommit) (base : ℕ) (reads : List Read) (table : Read) : Type 0 where
   pub before : List Read
   pub after : List Read
   pub place : reads ≡ before ++ table ∷ after
-  pub unchanged : All (λ r. last h r ≤ base) before
+  pub unchanged : AreUnchanged h base before
   pub written : base < last h table
 
 -- the offer is the next commit, and counted to its session
@@ -77,19 +81,19 @@ pub record IsUncommitted (old new : Catalogue) (pass pass' : Seen) : Type 0 wher
   pub stays : Stays old new
   pub mine : pass'.mine ≡ pass.mine
 
--- a commit after the base has changed what was read
-pub record IsConflict (old : Catalogue) (offer : Offer) (table : Read) (was now at : ℕ) : Type 0 where
-  pub first : IsFirstWritten (commits_of old.words) offer.base offer.reads table
-  pub at_is : at ≡ version_of old
-  pub now_is : now ≡ last (commits_of old.words) table
-  pub was_is : was ≡ last (take offer.base (commits_of old.words)) table
+-- a commit of a history after the base has changed what was read
+pub record IsConflict (h : List PlainCommit) (base : ℕ) (reads : List Read) (table : Read) (was now at : ℕ) : Type 0 where
+  pub first : IsFirstWritten h base reads table
+  pub at_is : at ≡ length h
+  pub now_is : now ≡ last h table
+  pub was_is : was ≡ last (take base h) table
 
 -- what becomes of an offer
 abbrev pub BecomesOf : ℕ → Catalogue → Catalogue → Seen → Seen → Offer → Result Outcome KeeperError → Type 0
 BecomesOf cap old new pass pass' offer (Ok (outcome.Committed m)) = IsCommitted old new pass pass' offer m
 BecomesOf cap old new pass pass' offer (Ok outcome.Nothing) = IsUncommitted old new pass pass' × (changes_in pass.words offer ≡ [])
 BecomesOf cap old new pass pass' offer (Ok (outcome.Conflict table was now at)) =
-    IsUncommitted old new pass pass' × (changes_in pass.words offer ≢ []) × IsConflict old offer table was now at
+    IsUncommitted old new pass pass' × (changes_in pass.words offer ≢ []) × IsConflict (commits_of old.words) offer.base offer.reads table was now at
 BecomesOf cap old new pass pass' offer (Err fault.Full) =
     IsUncommitted old new pass pass' × (changes_in pass.words offer ≢ []) × IsUnchanged old.words offer × (length new.words ≡ cap)
 BecomesOf cap old new pass pass' offer (Err fault.Memory) = IsUncommitted old new pass pass'

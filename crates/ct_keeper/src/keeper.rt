@@ -11,37 +11,30 @@ ghost use Rattle.ct_keeper.specs.Offers.{IsOffer, BecomesOf};
 
 use crate::catalogue::{Offer, Outcome, Snapshot};
 use crate::error::KeeperError;
-use crate::tables::Tables;
+use crate::latest::Latest;
 use ct_arena::{Arena, KeeperPass, Pass, Site};
-use ct_word::{List, Memory, World};
+use ct_word::Memory;
 use std::alloc::Global;
 use std::marker::Model;
-use std::sync::Arc;
 
 /// The tables after all commits of the log that N names, the place of the global condition, a world that the commits
 /// admit, and the log's keeper pass. All sessions of the site were enrolled, and no guest is entered.
 #[derive(Drop)]
 pub struct Keeper<N: Site> {
     pub(crate) pass: KeeperPass<N>,
-    pub(crate) tables: Tables,
-    pub(crate) global: u32,
-    pub(crate) kept: Arc<World, Global>,
-    pub(crate) version: u32,
+    pub(crate) latest: Latest,
 }
 
 impl<N: Site> Model for Keeper<N> {
-    ghost use Rattle.std.specs.Prelude.{◌≡◌, length, None};
-    ghost use Rattle.std.specs.Arc.{arc_value};
-    ghost use Rattle.ct_word.specs.Reading.{commits_of};
-    ghost use Rattle.ct_table.specs.Snapshot.{IsSnapshot};
+    ghost use Rattle.std.specs.Prelude.{◌≡◌, None};
     ghost use Rattle.ct_keeper.specs.Catalogue.{Catalogue};
+    ghost use Rattle.ct_keeper.specs.Latest.{IsLatest, catalogue_of};
 
     ghost Value = { Catalogue };
 
-    ghost view = { λ k. record { words = k.pass.words; ended = k.pass.ended; tables = k.tables; global = k.global; kept = arc_value k.kept } };
+    ghost view = { λ k. catalogue_of k.pass k.latest };
 
-    ghost invariant = { λ k. (k.pass.guest ≡ None) × (k.pass.enrolled ≡ N.sessions) × (k.version ≡ length (commits_of k.pass.words))
-        × IsSnapshot k.pass.words k.version k.tables k.global (arc_value k.kept) };
+    ghost invariant = { λ k. (k.pass.guest ≡ None) × (k.pass.enrolled ≡ N.sessions) × IsLatest k.pass.words k.latest };
 }
 
 impl<N: Site> Keeper<N> {
@@ -58,14 +51,8 @@ impl<N: Site> Keeper<N> {
     {
         // A log without commits begins with the word true, which is its global condition.
         let _ = pass.words();
-        let kept = Arc::new(alloc, List::new(alloc))?;
-        Ok(Keeper {
-            pass,
-            tables: Tables::empty(alloc),
-            global: 0,
-            kept,
-            version: 0,
-        })
+        let latest = Latest::first(alloc)?;
+        Ok(Keeper { pass, latest })
     }
 
     /// The log's keeper pass, with the keeper's words. It takes no memory. Some valuation is admitted by the commits in
@@ -78,24 +65,6 @@ impl<N: Site> Keeper<N> {
         ensures admitted { IsTrue (admits self.kept (commits_of result.words) []) }
     {
         self.pass
-    }
-
-    /// A snapshot of all commits.
-    ///
-    /// # Errors
-    /// `Memory` where there is none to share the tables.
-    fn snapshot(&mut self, alloc: Global) -> Result<Snapshot, Memory>
-        ensures snapshot { IfOk result (IsNewest self.new.words) }
-        ensures same { self.new ≡ self.old }
-    {
-        let db = self.tables.share(alloc)?;
-        let kept = Arc::try_clone(&self.kept)?;
-        Ok(Snapshot {
-            version: self.version,
-            db,
-            global: self.global,
-            kept,
-        })
     }
 
     /// A snapshot of all commits, for the session of this pass, which then has all words that the keeper has.
@@ -118,7 +87,7 @@ impl<N: Site> Keeper<N> {
         // The words are well formed, which keeps the tables as words come.
         let _ = self.pass.words();
         let pass = self.pass.leave(arena, guest);
-        let snapshot = self.snapshot(alloc);
+        let snapshot = self.latest.snapshot(alloc);
         (pass, snapshot)
     }
 

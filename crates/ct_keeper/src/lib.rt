@@ -8,6 +8,7 @@ mod effects;
 mod error;
 mod growing;
 mod keeper;
+mod latest;
 mod tables;
 
 pub use catalogue::{Offer, Outcome, Snapshot};

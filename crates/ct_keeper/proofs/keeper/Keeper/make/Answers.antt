@@ -1,4 +1,5 @@
 use Rattle.std.proofs.Common.{[], length, ap, sym, subst, ◌∙◌}
+use Rattle.std.specs.Arc.{arc_value}
 use Rattle.ct_table.specs.Snapshot.{IsSnapshot}
 use Rattle.ct_table.proofs.Snapshots.{first_snapshot}
 use Rattle.ct_keeper.proofs.keeper.Keeper.make.Goals as goal
@@ -6,10 +7,13 @@ use Rattle.ct_keeper.proofs.keeper.Keeper.make.Goals as goal
 pub invariant_of-result : goal.invariant_of-result
 invariant_of-result g c =
     let words = c.args.pass.words in
-    let first = first_snapshot words c.words.ensures.begins c.words.ensures.formed in (
-      c.requires.guest,
-      c.requires.enrolled,
-      ap (λ h. length h) (sym c.requires.none),
-      subst (λ ts. IsSnapshot words 0 ts 0 c.in_ok-kept.kept.value) (sym c.empty.ensures)
-          (subst (λ w. IsSnapshot words 0 [] 0 w) (sym (c.in_ok-kept.ensures.ok ∙ c.new.ensures)) first),
-    )
+    let l = c.in_ok-latest.latest in
+    let is = c.in_ok-latest.ensures in
+    (c.requires.guest, c.requires.enrolled, record {
+      version = is.version ∙ ap (λ h. length h) (sym c.requires.none);
+      is =
+          subst (λ v. IsSnapshot words v l.content.tables l.content.global (arc_value l.kept)) (sym is.version)
+          (subst (λ ts. IsSnapshot words 0 ts l.content.global (arc_value l.kept)) (sym is.tables)
+          (subst (λ n. IsSnapshot words 0 [] n (arc_value l.kept)) (sym is.global)
+          (subst (λ w. IsSnapshot words 0 [] 0 w) (sym is.kept) (first_snapshot words c.words.ensures.begins c.words.ensures.formed))));
+    })
