@@ -59,27 +59,27 @@ fn offered<N: Site>(
     pass: Pass<N>,
     seen: u32,
     fresh: u32,
-    open: Open,
+    transaction: Open,
     changes: u32,
     statement: &Statement,
 ) -> (Session<N>, Reply)
-    requires session { IsSession pass.words seen (Some open) }
+    requires session { IsSession pass.words seen (Some transaction) }
     requires few { pass.mine < 2 ^ 18 }
-    requires begun { open.changes ≡ Some changes }
+    requires begun { transaction.changes ≡ Some changes }
     requires order { statement.now ≡ tree.Commit }
     ensures session { IsSession result.0.pass.words result.0.seen result.0.open }
     ensures ended { keeper.new.ended ≡ keeper.old.ended }
-    ensures executes { Executes N.log.cap (state_of pass seen fresh (Some open)) (state_of result.0.pass result.0.seen result.0.fresh result.0.open) pass.words result.0.pass.words statement.now result.1 }
+    ensures executes { Executes N.log.cap (state_of pass seen fresh (Some transaction)) (state_of result.0.pass result.0.seen result.0.fresh result.0.open) pass.words result.0.pass.words statement.now result.1 }
 {
     let _words = pass.words();
-    let kept = match copied(alloc, &open.sight.kept) {
+    let kept = match copied(alloc, &transaction.sight.kept) {
         Ok(kept) => kept,
         Err(_) => {
             let session = Session {
                 pass,
                 seen,
                 fresh,
-                open: Some(open),
+                open: Some(transaction),
             };
             let why = Refusal::Memory;
             return (session, Reply::Refused { at: seen, why });
@@ -89,7 +89,7 @@ fn offered<N: Site>(
         sight,
         changes: list,
         reads,
-    } = open;
+    } = transaction;
     let base = sight.version;
     let offer = Offer {
         base,
@@ -114,7 +114,7 @@ fn offered<N: Site>(
         Err(e) => {
             let why = wanted(e);
             let at = standing(seen, base, &why);
-            let open = Open {
+            let transaction = Open {
                 sight,
                 changes: list,
                 reads,
@@ -123,7 +123,7 @@ fn offered<N: Site>(
                 pass,
                 seen,
                 fresh,
-                open: Some(open),
+                open: Some(transaction),
             };
             (session.carrying(at), Reply::Refused { at, why })
         }
@@ -153,12 +153,12 @@ pub(crate) fn commit<N: Site>(
         fresh,
         open,
     } = session;
-    let Some(open) = open else {
+    let Some(transaction) = open else {
         unreachable!();
     };
-    match open.changes {
+    match transaction.changes {
         None => {
-            let at = open.sight.version;
+            let at = transaction.sight.version;
             let session = Session {
                 pass,
                 seen,
@@ -168,7 +168,7 @@ pub(crate) fn commit<N: Site>(
             (session.carrying(at), Reply::Nothing { at })
         }
         Some(changes) => offered(
-            alloc, arena, keeper, pass, seen, fresh, open, changes, statement,
+            alloc, arena, keeper, pass, seen, fresh, transaction, changes, statement,
         ),
     }
 }
