@@ -4,6 +4,11 @@ pub mod Weights
 pub mod Going
 pub mod Listed
 pub mod Replies
+pub mod Sights
+pub mod Extended
+pub mod Opened
+pub mod Ordered
+pub mod Inside
 pub mod Readings
 pub mod Sights
 pub mod Resolving

@@ -12,7 +12,7 @@ use Rattle.ct_word.specs.Sublist.{IsSublist}
 use Rattle.ct_word.specs.Change.{PlainChange, PlainCommit}
 use Rattle.ct_word.specs.Reading.{commits_of}
 use Rattle.ct_word.specs.StandsFor.{StandsFor}
-use Rattle.ct_word.proofs.Prefixes.{condition_in_prefix, place_within}
+use Rattle.ct_word.proofs.Prefixes.{commits_prefix, condition_in_prefix, place_within, prefix_of_prefix, prefix_same}
 use Rattle.ct_derivation.specs.declared.steps.Proof.{Proof}
 use Rattle.ct_derivation.proofs.Longer.{accepted_longer}
 use Rattle.ct_arena.specs.Seen.{Seen}
@@ -99,6 +99,26 @@ answers_uncommitted N s next words now x r p same none full newest lawful = reco
   nothing : (o : Option ℕ) → o ≡ None → IsSome o → ⊥
   nothing None e some = false≢true some
   nothing (Some m) e some = cc
+
+-- words that stay proceed
+pub proceeds_same : (N session : ℕ) (words : List ℕ) → length words ≤ N → Proceeds N session words words
+proceeds_same N session words room = record { longer = prefix_same words; room = room; own = refl }
+
+-- where words went on before the statement was answered, it is answered so from the first ones too
+pub answers_later : (N : ℕ) (s next : SessionState) (words mid now x : List ℕ) (r : Reply) → Proceeds N s.session words mid → Answers N s next mid now x r → Answers N s next words now x r
+answers_later N s next words mid now x r p a = record {
+  lawful = a.lawful;
+  newest = λ none. at_least (version_of r) (a.newest none);
+  longer = prefix_of_prefix words mid now p.longer a.longer;
+  room = a.room;
+  same = a.same;
+  commits = a.commits ∙ ap (λ l. l ++ option_to_list (committed_of r)) p.own;
+  full = a.full;
+  not_full = λ some. let lt = a.not_full some in let short = prefix_short words mid p.longer in omega (arith, lt, short);
+} where
+  at_least : (o : Option ℕ) → IfSome o (λ at. length (commits_of mid) ≤ at) → IfSome o (λ at. length (commits_of words) ≤ at)
+  at_least None le = tt
+  at_least (Some at) le = let short = prefix_short (commits_of words) (commits_of mid) (commits_prefix words mid p.longer) in omega (arith, le, short)
 
 -- the state after a reply that carries what was seen
 pub carried_same : (s : SessionState) → carried s.seen s ≡ s

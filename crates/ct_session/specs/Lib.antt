@@ -10,3 +10,4 @@ pub mod Executes
 pub mod Orders
 pub mod Replying
 pub mod Outcomes
+pub mod Extending

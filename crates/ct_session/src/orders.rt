@@ -30,7 +30,10 @@ pub(crate) fn begin<N: Site>(
     ensures executes { Executes N.log.cap (state_of session.pass session.seen session.fresh session.open) (state_of result.0.pass result.0.seen result.0.fresh result.0.open) session.pass.words result.0.pass.words statement.now result.1 }
 {
     let Session {
-        pass, seen, fresh, ..
+        pass,
+        seen,
+        fresh,
+        ..
     } = session;
     let _ = pass.words();
     let (pass, snapshot) = keeper.begin(alloc, arena, pass);
@@ -62,10 +65,7 @@ pub(crate) fn begin<N: Site>(
 }
 
 /// ROLLBACK in a transaction: gives it up.
-pub(crate) fn roll_back<N: Site>(
-    session: Session<N>,
-    statement: &Statement,
-) -> (Session<N>, Reply)
+pub(crate) fn roll_back<N: Site>(session: Session<N>, statement: &Statement) -> (Session<N>, Reply)
     requires session { IsSession session.pass.words session.seen session.open }
     requires some { IsSome session.open }
     requires order { statement.now ≡ tree.Rollback }
@@ -73,7 +73,10 @@ pub(crate) fn roll_back<N: Site>(
     ensures executes { Executes N.log.cap (state_of session.pass session.seen session.fresh session.open) (state_of result.0.pass result.0.seen result.0.fresh result.0.open) session.pass.words result.0.pass.words statement.now result.1 }
 {
     let Session {
-        pass, seen, fresh, ..
+        pass,
+        seen,
+        fresh,
+        ..
     } = session;
     let _words = pass.words();
     let session = Session {

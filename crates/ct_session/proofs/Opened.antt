@@ -1,0 +1,151 @@
+-- An open transaction: when it begins, as words are added, and after one more statement.
+use Rattle.std.proofs.Common.{◌≡◌, ◌≤◌, ℕ, arith, max, List, [], ◌∷◌, ◌++◌, refl, ap, sym, subst, ◌∙◌}
+use Rattle.std.specs.Prelude.{Option, Some, None, All, IsTrue, IfSome}
+use Rattle.std.specs.List.{Contains, list_all}
+use Rattle.std.proofs.lemmas.List.Elements.{All-nil}
+use mathlib.Core.List.{IsPrefix}
+use Rattle.ct_word.specs.declared.kinds.Class.TheVariants as class
+use Rattle.ct_word.specs.Change.{PlainChange, PlainCommit}
+use Rattle.ct_word.specs.Reading.{change_list_at}
+use Rattle.ct_word.specs.WellFormed.{IsWellFormed, is_place_of}
+use Rattle.ct_word.specs.Writable.{is_writable}
+use Rattle.ct_word.proofs.Prefixes.{place_within, place_in_prefix, change_list_in_prefix}
+use Rattle.ct_query.specs.Plain.{PlainAction}
+use Rattle.ct_query.specs.declared.action.Read.{Read}
+use Rattle.ct_query.specs.Agrees.{Agrees}
+use Rattle.ct_query.specs.Fits.{FitAfter}
+use Rattle.ct_query.specs.Reads.{with_reads, action_reads}
+use Rattle.ct_query.specs.Frame.{reads_of_actions}
+use Rattle.ct_arena.specs.Seen.{Seen}
+use Rattle.ct_history.specs.Kept.{kept_of}
+use Rattle.ct_table.specs.Snapshot.{commits_to}
+use Rattle.ct_parse.specs.declared.tree.Statement.{Statement}
+use Rattle.ct_transcript.specs.declared.reply.Refusal.{Refusal}
+use Rattle.ct_transcript.specs.declared.reply.Refusal.TheVariants as refusal
+use Rattle.ct_statement.specs.declared.sight.Sight.{Sight}
+use Rattle.ct_statement.specs.Proposals.{IsProposal, listed}
+use Rattle.ct_statement.specs.Sight.{actions_before, history_of, IsSight}
+use Rattle.ct_session.specs.declared.session.Open.{Open}
+use Rattle.ct_session.specs.declared.preparing.Prepared.{Prepared}
+use Rattle.ct_session.specs.Prepared.{IsPrepared, IsRefused}
+use Rattle.ct_session.specs.Replying.{standing}
+use Rattle.ct_session.specs.Sessions.{IsBegunList, IsOpen, IsSession}
+use Rattle.ct_session.proofs.Extended.{agrees_push, fits_push, writable_push, reads_push, reads_kept}
+use Rattle.ct_session.proofs.Going.{version_stays, version_within}
+use Rattle.ct_session.proofs.Sights.{sight_grows}
+
+-- a transaction of changes that are listed nowhere, or at a place
+module _ (words : List ℕ) (sight : Sight) (changes : Option ℕ) (reads : List Read) (h : List PlainCommit) (actions : List PlainAction) (xs : List PlainChange)
+    (eh : history_of words sight ≡ h) (ea : actions_before sight ≡ actions) (ex : listed words changes ≡ xs) where
+  pub open_from : IsSight words sight → IsBegunList words changes actions → Agrees h actions xs → FitAfter h xs → IsTrue (list_all is_writable xs) → All (Contains reads) (reads_of_actions actions)
+      → IsOpen words (record { sight = sight; changes = changes; reads = reads })
+  open_from s b a f w r = record {
+    sight = s;
+    list = subst (IsBegunList words changes) (sym ea) b;
+    agrees =
+        subst (λ g. Agrees g (actions_before sight) (listed words changes)) (sym eh)
+        (subst (λ l. Agrees h l (listed words changes)) (sym ea) (subst (Agrees h actions) (sym ex) a));
+    fits = subst (λ g. FitAfter g (listed words changes)) (sym eh) (subst (FitAfter h) (sym ex) f);
+    writable = subst (λ l. IsTrue (list_all is_writable l)) (sym ex) w;
+    reads = subst (λ l. All (Contains reads) (reads_of_actions l)) (sym ea) r;
+  }
+
+-- a transaction without actions
+pub open_begun : (words : List ℕ) (sight : Sight) → IsSight words sight → actions_before sight ≡ [] → IsOpen words (record { sight = sight; changes = None; reads = [] })
+open_begun words sight s none = open_from words sight None [] (history_of words sight) [] [] refl none refl s refl tt tt refl (All-nil (Contains []))
+
+-- the place of its list, if it is begun
+pub begun_place : (words : List ℕ) (changes : Option ℕ) (actions : List PlainAction) → IsBegunList words changes actions → IfSome changes (λ place. IsTrue (is_place_of words class.ChangeList place))
+begun_place words None actions b = tt
+begun_place words (Some place) actions b = b
+
+module _ (old new : List ℕ) (longer : IsPrefix old new) where
+  begun_grows : (changes : Option ℕ) (actions : List PlainAction) → IsBegunList old changes actions → IsBegunList new changes actions
+  begun_grows None actions b = b
+  begun_grows (Some place) actions b = place_in_prefix old new class.ChangeList place longer b
+
+  -- its changes stay
+  pub listed_stays : (changes : Option ℕ) (actions : List PlainAction) → IsBegunList old changes actions → listed new changes ≡ listed old changes
+  listed_stays None actions b = refl
+  listed_stays (Some place) actions b = change_list_in_prefix old new place longer (place_within old class.ChangeList place b)
+
+  -- and so does the history that it sees
+  pub history_stays : (s : Sight) → IsSight old s → history_of new s ≡ history_of old s
+  history_stays s k = sym (version_stays old new longer s.version k.within)
+
+  -- an open transaction over words is one over further ones
+  pub open_grows : IsWellFormed new → (o : Open) → IsOpen old o → IsOpen new o
+  open_grows formed o k =
+      open_from new o.sight o.changes o.reads (history_of old o.sight) (actions_before o.sight) (listed old o.changes)
+      (history_stays o.sight k.sight) refl (listed_stays o.changes (actions_before o.sight) k.list)
+      (sight_grows old new longer formed o.sight k.sight) (begun_grows o.changes (actions_before o.sight) k.list) k.agrees k.fits k.writable k.reads
+
+module _ (words : List ℕ) (o : Open) (k : IsOpen words o) where
+  -- after a query
+  pub open_read : (more : List Read) → IsOpen words (record { sight = o.sight; changes = o.changes; reads = with_reads o.reads more })
+  open_read more = record {
+    sight = k.sight;
+    list = k.list;
+    agrees = k.agrees;
+    fits = k.fits;
+    writable = k.writable;
+    reads = reads_kept o.reads more (reads_of_actions (actions_before o.sight)) k.reads;
+  }
+
+  module _ (sight : Sight) (s : IsSight words sight) (version : sight.version ≡ o.sight.version) where
+    -- what is seen may be given back as another sight of the same
+    pub open_again : actions_before sight ≡ actions_before o.sight → IsOpen words (record { sight = sight; changes = o.changes; reads = o.reads })
+    open_again same =
+        open_from words sight o.changes o.reads (history_of words o.sight) (actions_before o.sight) (listed words o.changes) (ap (commits_to words) version) same refl
+        s k.list k.agrees k.fits k.writable k.reads
+
+    -- after one more action
+    pub open_acted : (a : PlainAction) (changes : ℕ) → actions_before sight ≡ actions_before o.sight ++ a ∷ []
+        → IsProposal words (history_of words o.sight) (actions_before o.sight) (listed words o.changes) a changes
+        → IsOpen words (record { sight = sight; changes = Some changes; reads = with_reads o.reads (action_reads a) })
+    open_acted a changes grown p =
+        let h = history_of words o.sight in
+        let actions = actions_before o.sight in
+        let xs = listed words o.changes in
+        open_from words sight (Some changes) (with_reads o.reads (action_reads a)) h (actions ++ a ∷ []) (xs ++ p.change ∷ []) (ap (commits_to words) version) grown p.list_is
+        s p.place (agrees_push h actions xs a p.change k.agrees p.agrees) (fits_push h actions xs p.change k.agrees k.fits p.fits)
+        (writable_push xs p.change k.writable p.writable) (reads_push o.reads actions a k.reads)
+
+-- a session over words is one over further ones
+pub session_grows : (old new : List ℕ) → IsPrefix old new → IsWellFormed new → (seen : ℕ) (open' : Option Open) → IsSession old seen open' → IsSession new seen open'
+session_grows old new longer formed seen open' k = record {
+  seen_is = version_within old new longer seen k.seen_is;
+  open_is = by_open open' k.open_is;
+} where
+  by_open : (o : Option Open) → IfSome o (IsOpen old) → IfSome o (IsOpen new)
+  by_open None i = tt
+  by_open (Some o) i = open_grows old new longer formed o i
+
+-- what was prepared for a statement of it, or why that was refused, is so over the further words
+module _ (old new : Seen) (longer : IsPrefix old.words new.words) (kept : kept_of new ≡ kept_of old) (o : Open) (k : IsOpen old.words o) (fresh : ℕ) (st : Statement) where
+  session_kept : old.session ≡ new.session
+  session_kept = cc
+
+  history_kept : history_of old.words o.sight ≡ history_of new.words o.sight
+  history_kept = sym (history_stays old.words new.words longer o.sight k.sight)
+
+  listed_kept : listed old.words o.changes ≡ listed new.words o.changes
+  listed_kept = sym (listed_stays old.words new.words longer o.changes (actions_before o.sight) k.list)
+
+  pub prepared_later : (p : Prepared) → IsPrepared new.words (history_of old.words o.sight) (actions_before o.sight) (listed old.words o.changes) old.session fresh o.sight st p
+      → IsPrepared new.words (history_of new.words o.sight) (actions_before o.sight) (listed new.words o.changes) new.session fresh o.sight st p
+  prepared_later p i =
+      subst (λ h. IsPrepared new.words h (actions_before o.sight) (listed new.words o.changes) new.session fresh o.sight st p) history_kept
+      (subst (λ l. IsPrepared new.words (history_of old.words o.sight) (actions_before o.sight) l new.session fresh o.sight st p) listed_kept
+      (subst (λ n. IsPrepared new.words (history_of old.words o.sight) (actions_before o.sight) (listed old.words o.changes) n fresh o.sight st p) session_kept i))
+
+  pub refused_later : (N : ℕ) (why : Refusal) → IsRefused (history_of old.words o.sight) (actions_before o.sight) N new.words old.session fresh st why
+      → IsRefused (history_of new.words o.sight) (actions_before o.sight) N new.words new.session fresh st why
+  refused_later N why i =
+      subst (λ h. IsRefused h (actions_before o.sight) N new.words new.session fresh st why) history_kept
+      (subst (λ n. IsRefused (history_of old.words o.sight) (actions_before o.sight) N new.words n fresh st why) session_kept i)
+
+-- no refusal stands past what was seen and what the statement saw
+pub standing_within : (seen version n : ℕ) (why : Refusal) → seen ≤ n → version ≤ n → max seen (standing seen version why) ≤ n
+standing_within seen version n refusal.Memory p q = omega arith
+standing_within seen version n _ p q = omega arith
