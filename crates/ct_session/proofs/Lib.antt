@@ -10,10 +10,10 @@ pub mod Opened
 pub mod Ordered
 pub mod Inside
 pub mod Readings
-pub mod Sights
 pub mod Resolving
 pub mod Counted
 pub mod Called
 pub mod Offered
 pub mod Whole
 pub mod Acted
+pub mod Unread

@@ -1,18 +1,16 @@
--- An open transaction whose change list was begun: its offer, and as words grow.
+-- The offer of an open transaction whose change list was begun.
 use Rattle.std.proofs.Common.{◌≡◌, ℕ, ◌<◌, ◌≤◌, Bool, true, false, List, [], ◌∷◌, ◌++◌, length, refl, ap, sym, subst, ◌∙◌, arith}
 use Rattle.std.specs.Prelude.{Option, Some, None, IsTrue, All}
 use Rattle.std.specs.Arc.{arc_value}
 use Rattle.std.specs.List.{AllByRecursion, Contains, list_all}
 use Rattle.std.proofs.lemmas.Bool.{false≢true}
 use Rattle.std.proofs.lemmas.List.Elements.{All-from_recursion, recursion_from_All}
-use mathlib.Core.List.{IsPrefix}
 use Rattle.ct_word.specs.declared.kinds.Class.TheVariants as class
 use Rattle.ct_word.specs.Value.{World}
 use Rattle.ct_word.specs.Change.{PlainChange, Create, Insert, Delete, Assert, PlainCommit}
-use Rattle.ct_word.specs.Reading.{commits_of, change_list_at}
-use Rattle.ct_word.specs.WellFormed.{IsWellFormed, is_place_of}
+use Rattle.ct_word.specs.Reading.{change_list_at}
+use Rattle.ct_word.specs.WellFormed.{is_place_of}
 use Rattle.ct_word.specs.Writable.{is_writable}
-use Rattle.ct_word.proofs.Prefixes.{place_within, place_in_prefix, change_list_in_prefix}
 use Rattle.ct_query.specs.Plain as plain
 use Rattle.ct_query.specs.Plain.{PlainAction}
 use Rattle.ct_query.specs.declared.action.Read.{Read}
@@ -33,7 +31,6 @@ use Rattle.ct_statement.specs.Proposals.{listed}
 use Rattle.ct_statement.specs.Sight.{actions_before, history_of, IsSight}
 use Rattle.ct_session.specs.declared.session.Open.{Open}
 use Rattle.ct_session.specs.Sessions.{IsBegunList, IsOpen}
-use Rattle.ct_session.proofs.Sights.{same_history, sight_grows}
 
 -- changes that agree with actions create what these read, and assert only where they read the worlds
 module _ (h : List PlainCommit) (P : Read → Type 0) where
@@ -119,26 +116,3 @@ is_offer pass sight changes reads kept b same =
     } where
       offered : Offer
       offered = record { base = sight.version; reads = reads; changes = changes; kept = kept }
-
--- a list keeps its changes as words grow
-pub list_grows : (old new : List ℕ) → IsPrefix old new → (list : Option ℕ) (actions : List PlainAction) → IsBegunList old list actions → listed old list ≡ listed new list
-list_grows old new longer None actions b = refl
-list_grows old new longer (Some place) actions b = sym (change_list_in_prefix old new place longer (place_within old class.ChangeList place b))
-
-begun_grows : (old new : List ℕ) → IsPrefix old new → (list : Option ℕ) (actions : List PlainAction) → IsBegunList old list actions → IsBegunList new list actions
-begun_grows old new longer None actions b = b
-begun_grows old new longer (Some place) actions b = place_in_prefix old new class.ChangeList place longer b
-
--- an open transaction is one in longer words
-pub open_grows : (old new : List ℕ) → IsPrefix old new → IsWellFormed new → (o : Open) → IsOpen old o → IsOpen new o
-open_grows old new longer formed o open' =
-    let same = same_history old new longer o.sight open'.sight.within in
-    let list = list_grows old new longer o.changes (actions_before o.sight) open'.list in
-    record {
-      sight = sight_grows old new longer formed o.sight open'.sight;
-      list = begun_grows old new longer o.changes (actions_before o.sight) open'.list;
-      agrees = subst (λ h. Agrees h (actions_before o.sight) (listed new o.changes)) same (subst (λ xs. Agrees (history_of old o.sight) (actions_before o.sight) xs) list open'.agrees);
-      fits = subst (λ h. FitAfter h (listed new o.changes)) same (subst (λ xs. FitAfter (history_of old o.sight) xs) list open'.fits);
-      writable = subst (λ xs. IsTrue (list_all is_writable xs)) list open'.writable;
-      reads = open'.reads;
-    }

@@ -34,10 +34,14 @@ fn world_of(alloc: Global, sight: &Sight, step: Option<Step>) -> Result<World, M
 {
     match step {
         None => Ok(List::new(alloc)),
-        Some(step) => match step.kept {
-            Some(world) => Ok(world),
-            None => copied(alloc, &sight.kept),
-        },
+        Some(step) => {
+            let Step { effect, kept } = step;
+            drop(effect);
+            match kept {
+                Some(world) => Ok(world),
+                None => copied(alloc, &sight.kept),
+            }
+        }
     }
 }
 
