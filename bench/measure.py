@@ -49,6 +49,18 @@ def fastest(script, times):
     return min((run([program()], script)[:4] for _ in range(times)), key=lambda ran: ran[0])
 
 
+def peak(script):
+    """Returns the greatest memory of a run of the program on the script, in KiB."""
+    with tempfile.TemporaryDirectory() as room:
+        path = os.path.join(room, "script.sql")
+        with open(path, "w", encoding="utf-8") as it:
+            it.write(script)
+        child = subprocess.Popen([program(), "run", path], stdout=subprocess.DEVNULL, stderr=subprocess.DEVNULL, cwd=room)
+        _, status, used = os.wait4(child.pid, 0)
+        child.returncode = os.waitstatus_to_exitcode(status)
+        return used.ru_maxrss
+
+
 def instructions(script):
     """Returns the number of instructions that the program executes on the script, as valgrind counts them."""
     words = ["valgrind", "--tool=callgrind", "--callgrind-out-file=/dev/null", program()]

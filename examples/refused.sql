@@ -16,7 +16,14 @@ select number from part, part as other;
 insert into part values (101, 9223372036854775808);
 -- This is no statement of the language.
 select number as from part;
--- This is one, but it is not executed yet.
-delete from part where number = 101;
+-- No transaction is open.
+commit;
+-- One is open already.
+begin;
+begin;
+-- No weight is two numbers.
+assert ?weight = 17 and ?weight = 18;
+-- Nothing was changed, so there is nothing to commit.
+commit;
 -- The table is empty still.
 select * from part;

@@ -38,3 +38,22 @@ certain select city from supplier, supply where name = supplier and part = 'bolt
 -- What did the sender of the van send in any case? Bolts and screws: they were in the van. Nuts only if he is Smith.
 certain select part from supply where supplier = ?sender;
 possible select part from supply where supplier = ?sender;
+
+-- The papers of the van turn up: its sender was Smith or Jones.
+assert ?sender = 'Smith' or ?sender = 'Jones';
+-- So Blake sent nothing, unless the last box is his.
+select name from supplier except select supplier from supply;
+-- If all that Smith sent is taken away, whichever boxes that are, what is left? The transaction is given up again.
+begin;
+delete from supply where supplier = 'Smith';
+select * from supply;
+rollback;
+-- The sender of the van calls: he is not Smith, and 500 nuts are on the way. Both are written down, or neither.
+begin;
+assert ?sender <> 'Smith';
+insert into supply values (?sender, 'nut', 500);
+commit;
+-- What did Jones send in any case? The boxes of the van are his, and so are the nuts.
+certain select part, quantity from supply where supplier = 'Jones';
+-- What may Smith have sent? His nuts, and the last box if that is his. The van is not.
+possible select part, quantity from supply where supplier = 'Smith';

@@ -1,4 +1,4 @@
--- Which texts are statements, and which of these nest too deep. A statement without fault, but not built, is NotYet.
+-- Which texts are statements, and which of these nest too deep.
 create table t (a, b, d);
 create table u (e, f, g);
 create table v (h, i, j);

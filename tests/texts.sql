@@ -192,7 +192,7 @@ select a, b from t union select a from t intersect select z from t;
 select z from t union select a, b from t;
 select a from t union select a, b from t except select z from t;
 
--- Statements without a fault in forms that are not built.
+-- Statements without a fault, after the deletions.
 select a from t;
 select a, b from t;
 select b as a, t.a as c from t;
@@ -216,7 +216,7 @@ begin;
 commit;
 rollback;
 
--- A statement that is not built draws no null either. A text may have a line end.
+-- A statement draws its nulls also under a condition. A text may have a line end.
 insert into t values (NULL, NULL) if ?x = 1;
 insert into n values (NULL);
 select * from n where a = 1;

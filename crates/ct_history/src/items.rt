@@ -8,7 +8,7 @@ use ct_word::{Kind, Memory, word_at};
 use std::alloc::Global;
 
 /// Whether a word of this kind puts one more item behind a list.
-fn is_longer(kind: Kind) -> bool
+pub(crate) fn is_longer(kind: Kind) -> bool
     ensures { result ≡ is_longer kind }
 {
     matches!(

@@ -15,4 +15,4 @@ pub use encoding::encode;
 pub use insertion::insert;
 pub use latest::last;
 pub use printing::commits;
-pub use written::{Written, changes_at};
+pub use written::{Written, changes_at, last_change};

@@ -1,14 +1,15 @@
 // Change lists, read as places.
 
-ghost use Rattle.std.specs.Prelude.{◌≡◌, map, All, IfOk, IsTrue};
+ghost use Rattle.std.specs.Prelude.{◌≡◌, List, [], ◌∷◌, ◌++◌, map, All, IfOk, IfSome, IsNone, MatchOption, IsTrue};
 ghost use Rattle.ct_word.specs.declared.kinds.Class.TheVariants as class;
+ghost use Rattle.ct_word.specs.Change.{PlainChange};
 ghost use Rattle.ct_word.specs.Reading.{change_list_at, plain_crow};
 ghost use Rattle.ct_word.specs.WellFormed.{IsWellFormed, is_place_of};
 ghost use Rattle.ct_history.specs.Places.{change_at, cond_row_at, names_at, rows_at};
 ghost use Rattle.ct_history.specs.Rows.{IsRowOf};
 ghost use Rattle.ct_history.specs.Written.{IsWritten, plain_written};
 
-use crate::items::items;
+use crate::items::{is_longer, items};
 use crate::words::{ChangeWord, change_word};
 use ct_word::{CRow, List, Memory, Text, text_at, word_at};
 use std::alloc::Global;
@@ -110,4 +111,23 @@ pub fn changes_at(alloc: Global, words: &[u64], list: u32) -> Result<List<Writte
         changes.push(next)?;
     }
     Ok(List::from_vec(changes))
+}
+
+/// The last change of the list at a place; none where the list has none.
+///
+/// # Errors
+/// `Memory` where there is none for the change.
+pub fn last_change(alloc: Global, words: &[u64], list: u32) -> Result<Option<Written>, Memory>
+    requires formed { IsWellFormed words.now }
+    requires list { IsTrue (is_place_of words.now class.ChangeList list) }
+    ensures none { change_list_at words.now list ≡ [] → IfOk result IsNone }
+    ensures last { (front : List PlainChange) (y : PlainChange) → change_list_at words.now list ≡ front ++ y ∷ [] → IfOk result (λ o. MatchOption o ⊥ (λ x. plain_written words.now x ≡ y)) }
+    ensures placed { IfOk result (λ o. IfSome o (IsWritten words.now)) }
+{
+    let word = word_at(words, list);
+    if !is_longer(word.kind) {
+        return Ok(None);
+    }
+    let change = written_change(alloc, words, word.right)?;
+    Ok(Some(change))
 }

@@ -65,7 +65,7 @@ truths_of words c (r ∷ more) all = (
 )
 
 -- other rows for the table that is found, which has the name that it was found by
-with_found : (db tables : List TableView) (name : List ℕ) (t : TableView) (rs : List CRow) → find_table db name ≡ Some t → tables ≡ with_table db (rows_of_table t rs)
+pub with_found : (db tables : List TableView) (name : List ℕ) (t : TableView) (rs : List CRow) → find_table db name ≡ Some t → tables ≡ with_table db (rows_of_table t rs)
     → with_table db (with_rows name t rs) ≡ tables
 with_found db tables name t rs found is = (λ i. with_table db (with_rows (sym (found_name name t db found) i) t rs)) ∙ sym is
 

@@ -54,12 +54,10 @@ pub record IsAfter (old new : List ℕ) (was : Content) (change : Written) (cont
   pub tables : content.tables ≡ tables_after was.tables effect
   pub global : content.global ≡ global_after was.global effect
 
--- the changes at a place, which can be applied to tables and global condition of all commits, one after another
-pub record CanApply (words : List ℕ) (content : Content) (changes : List Written) (list : ℕ) : Type 0 where
-  pub place : IsTrue (is_place_of words class.ChangeList list)
+-- changes that can be applied, one after another, to tables and global condition of all commits
+pub record CanApply (words : List ℕ) (content : Content) (changes : List Written) : Type 0 where
   pub written : All (IsWritten words) changes
-  pub same : map (plain_written words) changes ≡ change_list_at words list
-  pub fits : FitAfter (commits_of words) (change_list_at words list)
-  pub writable : IsTrue (list_all is_writable (change_list_at words list))
+  pub fits : FitAfter (commits_of words) (map (plain_written words) changes)
+  pub writable : IsTrue (list_all is_writable (map (plain_written words) changes))
   pub denotes : Denotes words (commits_of words) [] content.tables
   pub condition : IsGlobal words (commits_of words) [] content.global

@@ -59,3 +59,67 @@ fn effect_for<N: Site>(
         change,
     )
 }
+
+/// Tables and global condition after a change.
+///
+/// # Errors
+/// `Full` where the log has no room for a condition, `Memory`.
+fn applied<N: Site>(
+    alloc: Global,
+    arena: &Arena<N>,
+    keeper: &mut KeeperPass<N>,
+    guest: &mut Guest<N>,
+    content: Content,
+    change: &Written,
+) -> Result<Content, KeeperError>
+    requires guest { keeper.old.guest ≡ Some guest.old }
+    requires tables { All (λ t. AreRows keeper.old.words (length t.columns) t.rows) content.tables }
+    requires global { IsTrue (is_place_of keeper.old.words class.Cond content.global) }
+    requires written { IsWritten keeper.old.words change.now }
+    requires fitting { FitsChange (map heading_of content.tables) (plain_written keeper.old.words change.now) }
+    ensures after { IfOk result (IsAfter keeper.old.words keeper.new.words content change.now) }
+    ensures interns { Interns keeper.old guest.old keeper.new guest.new }
+    ensures full { is_full result ≡ true → length keeper.new.words ≡ N.log.cap }
+{
+    let effect = effect_for(alloc, arena, keeper, guest, &content, change)?;
+    let Content { tables, global } = content;
+    match effect {
+        Effect::Grows(growth) => match grown(alloc, tables, growth) {
+            Ok(tables) => Ok(Content { tables, global }),
+            Err(_) => Err(KeeperError::Memory),
+        },
+        Effect::Narrows(global) => Ok(Content { tables, global }),
+    }
+}
+
+/// Tables and global condition after these changes. The list of the tables is a copy, and the tables that do not change
+/// are shared.
+///
+/// # Errors
+/// `Full` where the log has no room for a condition, `Memory`.
+fn applied_all<N: Site>(
+    alloc: Global,
+    arena: &Arena<N>,
+    keeper: &mut KeeperPass<N>,
+    guest: &mut Guest<N>,
+    content: &Content,
+    changes: &[Written],
+) -> Result<Content, KeeperError>
+    requires guest { keeper.old.guest ≡ Some guest.old }
+    requires can { CanApply keeper.old.words content.now changes.now }
+    ensures made { IfOk result (IsMade keeper.new.words (commits_of keeper.old.words) (map (plain_written keeper.old.words) changes.now)) }
+    ensures interns { Interns keeper.old guest.old keeper.new guest.new }
+    ensures full { is_full result ≡ true → length keeper.new.words ≡ N.log.cap }
+{
+    // The words are well formed, also where there is no change.
+    let _ = keeper.words();
+    let tables = Tables::alone(content.tables.db().copied(alloc)?);
+    let mut made = Content {
+        tables,
+        global: content.global,
+    };
+    for change in changes {
+        made = applied(alloc, arena, keeper, guest, made, change)?;
+    }
+    Ok(made)
+}

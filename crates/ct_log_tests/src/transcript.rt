@@ -128,7 +128,6 @@ fn refusals(alloc: Global) -> Result<List<Reply>, AllocError> {
         Refusal::AmbiguousColumn,
         Refusal::DuplicateName,
         Refusal::ColumnCount,
-        Refusal::NotYet,
         Refusal::TooLarge,
         Refusal::Full,
         Refusal::Memory,
@@ -168,10 +167,9 @@ const EACH_FORM: &str = "session 1\n\
     7 refused AmbiguousColumn\n\
     8 refused DuplicateName\n\
     9 refused ColumnCount\n\
-    10 refused NotYet\n\
-    11 refused TooLarge\n\
-    12 refused Full\n\
-    13 refused Memory\n\
+    10 refused TooLarge\n\
+    11 refused Full\n\
+    12 refused Memory\n\
     history\n\
     1 by 2\n  \
       insert into t ('') if false\n  \

@@ -1,5 +1,5 @@
 -- A closed test: a session that creates a table, and one that commits a transaction, are lawful, whichever texts are read
--- so, and once their forms are built.
+-- so.
 use Rattle.std.proofs.Common.{ℕ, List, [], ◌∷◌, refl, arith, inl, inr}
 use Rattle.std.specs.Prelude.{pos, codes, Some, None}
 use Rattle.std.proofs.lemmas.List.Elements.{All-nil, All-cons}
@@ -12,7 +12,6 @@ use Rattle.ct_query.specs.Agrees.{SameTruthAlone}
 use Rattle.ct_query.specs.Plain.{PlainAction}
 use Rattle.ct_query.specs.Plain as plain
 use Rattle.ct_transcript.specs.declared.reply.Reply.TheVariants as reply
-use Rattle.ct_session.specs.Built.{IsBuilt}
 use Rattle.ct_session.specs.State.{Transaction, SessionState, beginning, carried, with_transaction, opened, extended}
 use Rattle.ct_session.specs.Seeing.{Asks, Orders}
 use Rattle.ct_serve.specs.Sessions.{AreLawful}
@@ -59,8 +58,7 @@ abbrev Holds : PlainRow → Type 0
 Holds r = SameTruthAlone r.condition True
 
 module _ (W : List ℕ) (N : ℕ) (create begin insert commit : List ℕ) (creates : Asks history (beginning 1) create 0 [] (plain.Act creation)) (begins : Orders history (beginning 2) begin plain.Begin)
-    (inserts : Asks history begun insert 1 [] (plain.Act insertion)) (commits : Orders history pending commit plain.Commit)
-    (create_built : IsBuilt creates.statement) (begin_built : IsBuilt begins.statement) (insert_built : IsBuilt inserts.statement) (commit_built : IsBuilt commits.statement) where
+    (inserts : Asks history begun insert 1 [] (plain.Act insertion)) (commits : Orders history pending commit plain.Commit) where
   first : AreLawful history W N (beginning 1) (create ∷ []) (reply.Committed 1 ∷ []) ended
   first = (
     ended,
@@ -69,7 +67,6 @@ module _ (W : List ℕ) (N : ℕ) (create begin insert commit : List ℕ) (creat
       commit = created;
       none_open = refl;
       asks = creates;
-      built = create_built;
       later = omega arith;
       stands = (omega arith, refl);
       session = refl;
@@ -83,7 +80,7 @@ module _ (W : List ℕ) (N : ℕ) (create begin insert commit : List ℕ) (creat
   second : AreLawful history W N (beginning 2) (begin ∷ insert ∷ commit ∷ []) (reply.Begun 1 ∷ reply.Pending 1 1 ∷ reply.Committed 2 ∷ []) committed
   second = (
     begun,
-    record { none_open = refl; asks = begins; built = begin_built; from_seen = omega arith; within = omega arith; next_is = refl },
+    record { none_open = refl; asks = begins; from_seen = omega arith; within = omega arith; next_is = refl },
     (
       pending,
       record {
@@ -92,7 +89,6 @@ module _ (W : List ℕ) (N : ℕ) (create begin insert commit : List ℕ) (creat
         is_open = refl;
         sees = (refl, refl);
         asks = inserts;
-        built = insert_built;
         plus_is = refl;
         leaves = ([], refl);
         next_is = refl;
@@ -104,7 +100,6 @@ module _ (W : List ℕ) (N : ℕ) (create begin insert commit : List ℕ) (creat
           commit = inserted;
           is_open = refl;
           asks = commits;
-          built = commit_built;
           has_actions = omega arith;
           later = omega arith;
           unchanged = λ k d lt. absurd (omega (arith, lt));

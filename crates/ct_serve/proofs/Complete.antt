@@ -57,7 +57,6 @@ module _ (H : List PlainCommit) (W : List ℕ) (N : ℕ) where
     refused at refusal.AmbiguousColumn next l = absurd (no_fault at _ l.0)
     refused at refusal.DuplicateName next l = absurd (no_fault at _ l.0)
     refused at refusal.ColumnCount next l = absurd (no_fault at _ l.0)
-    refused at refusal.NotYet next l = absurd (l.0.not_built (w.built at l.0.actions l.0.statement l.0.sees l.0.asks))
     refused at refusal.TooLarge next l =
         let le = w.small at l.0.actions l.0.statement l.0.query l.0.sees l.0.asks l.0.evaluates in
         let lt = l.0.past in absurd (omega (arith, le, lt))

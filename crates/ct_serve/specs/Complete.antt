@@ -22,11 +22,11 @@ use Rattle.ct_transcript.specs.declared.reply.Refusal.{Refusal}
 use Rattle.ct_transcript.specs.declared.reply.Refusal.TheVariants as refusal
 use Rattle.ct_transcript.specs.declared.reply.SessionLog.{SessionLog}
 use Rattle.ct_transcript.specs.declared.transcript.Transcript.{Transcript}
-use Rattle.ct_session.specs.Built.{IsBuilt}
 use Rattle.ct_session.specs.Statements.{IsTextFault}
 use Rattle.ct_session.specs.State.{SessionState, beginning}
-use Rattle.ct_session.specs.Seeing.{Sees, ResolvesTo, Asks, Orders, query_in}
-use Rattle.ct_session.specs.LawfulRefusal.{asks_of_worlds, TERMS, CommitsWhole, CommitsAlone}
+use Rattle.ct_session.specs.Seeing.{Sees, ResolvesTo, Asks, Orders}
+use Rattle.ct_statement.specs.Unmet.{query_in, asks_of_worlds, TERMS}
+use Rattle.ct_session.specs.LawfulRefusal.{CommitsWhole, CommitsAlone}
 use Rattle.ct_session.specs.LawfulReply.{LawfulReply}
 
 -- a reply is no refusal, or want of memory
@@ -42,9 +42,8 @@ module _ (H : List PlainCommit) (W : List ℕ) (N : ℕ) where
     pub read : (why : Refusal) → IsTextFault x why → ⊥
     pub begins_outside : Orders H s x plain.Begin → s.transaction ≡ None
     pub ends_inside : (st : PlainStatement) → (st ≡ plain.Commit) ⊎ (st ≡ plain.Rollback) → Orders H s x st → IsSome s.transaction
-    -- no fault of a name or a count, in a form that is built
+    -- no fault of a name or a count
     pub named : (at : ℕ) (actions : List PlainAction) (e : ResolveError) → Sees H s at actions → ResolvesTo H s x at actions (Err e) → ⊥
-    pub built : (at : ℕ) (actions : List PlainAction) (st : PlainStatement) → Sees H s at actions → (a : Asks H s x at actions st) → IsBuilt a.statement
     -- its query is not too large, the log is not full, and it has not too many terms
     pub small : (at : ℕ) (actions : List PlainAction) (st : PlainStatement) (q : PlainQuery) → Sees H s at actions → Asks H s x at actions st → query_in st ≡ Some q
         → size (count (take at H) actions) q ≤ limit

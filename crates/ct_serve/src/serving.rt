@@ -3,16 +3,17 @@
 ghost use Rattle.std.specs.Prelude.{All, ◌≡◌, ◌∷◌, ◌<◌, ◌≤◌, ◌^◌, [], map, length, IfOk};
 ghost use Rattle.ct_arena.specs.Counts.{opening};
 ghost use Rattle.ct_lex.specs.Texts.{texts};
-ghost use Rattle.ct_session.specs.Catalogue.{IsCatalogue, state_of};
+ghost use Rattle.ct_session.specs.Sessions.{state_of};
 ghost use Rattle.ct_session.specs.State.{beginning};
 ghost use Rattle.ct_serve.specs.Lawful.{Lawful};
-ghost use Rattle.ct_serve.specs.Progress.{Progress};
+ghost use Rattle.ct_serve.specs.Progress.{IsAtBeginning, Progress};
 
 use ct_arena::{Arena, Blank, Site};
+use ct_history::commits;
+use ct_keeper::Keeper;
 use ct_lex::split;
 use ct_outside::Gate;
-use ct_session::{Session, execute, list_of_one};
-use ct_table::Db;
+use ct_session::{Session, execute};
 use ct_transcript::{Reply, SessionLog, Transcript};
 use ct_word::{List, Memory, Text};
 use std::alloc::Global;
@@ -27,25 +28,25 @@ fn answer<N: Site, R: Wait, G: Gate + Sync>(
     rt: &R,
     alloc: Global,
     arena: &Arena<N>,
+    keeper: &mut Keeper<N>,
     mut session: Session<N>,
     statements: &[&str],
     gate: &G,
 ) -> Result<(Session<N>, Vec<Reply>), Memory>
-    requires kept { IsCatalogue session.pass session.keeper session.tables session.history.items }
-    requires begins { session.history.items ≡ [] }
-    requires none_drawn { session.fresh ≡ 0 }
-    requires opens { session.pass.words ≡ opening }
+    requires begins { IsAtBeginning session.pass session.seen session.fresh session.open }
     requires few { length statements.now < 2 ^ 16 }
-    ensures kept { IfOk result (λ r. IsCatalogue r.0.pass r.0.keeper r.0.tables r.0.history.items) }
-    ensures progress { IfOk result (λ r. Progress N.log.cap (beginning 1) (state_of r.0.pass r.0.history.items r.0.fresh) opening r.0.pass.words (map (λ t. t.now) statements.now) r.1.items) }
+    ensures ended { keeper.new.ended ≡ keeper.old.ended }
+    ensures progress { IfOk result (λ r. Progress N.log.cap (beginning 1) (state_of r.0.pass r.0.seen r.0.fresh r.0.open) opening r.0.pass.words (map (λ t. t.now) statements.now) r.1.items) }
 {
     let mut replies = Vec::with_capacity(alloc, statements.len())?;
+    let _ = session.pass.words();
     for statement in statements {
         let by = session.pass.session();
         let number = replies.len() as u32 + 1;
         gate.before(rt, by, number);
-        let (next, reply) = execute(alloc, arena, session, statement);
+        let (next, reply) = execute(alloc, arena, keeper, session, statement);
         gate.after(rt, by, number);
+        let _ = next.pass.words();
         session = next;
         replies.push_reserved(reply);
     }
@@ -60,76 +61,79 @@ fn execute_script<N: Site, R: Wait, G: Gate + Sync>(
     rt: &R,
     alloc: Global,
     arena: &Arena<N>,
+    keeper: &mut Keeper<N>,
     session: Session<N>,
     script: &str,
     gate: &G,
 ) -> Result<(Session<N>, Vec<Reply>), Memory>
-    requires kept { IsCatalogue session.pass session.keeper session.tables session.history.items }
-    requires begins { session.history.items ≡ [] }
-    requires none_drawn { session.fresh ≡ 0 }
-    requires opens { session.pass.words ≡ opening }
+    requires begins { IsAtBeginning session.pass session.seen session.fresh session.open }
     requires few { length (texts script.now) < 2 ^ 16 }
-    ensures kept { IfOk result (λ r. IsCatalogue r.0.pass r.0.keeper r.0.tables r.0.history.items) }
-    ensures progress { IfOk result (λ r. Progress N.log.cap (beginning 1) (state_of r.0.pass r.0.history.items r.0.fresh) opening r.0.pass.words (texts script.now) r.1.items) }
+    ensures ended { keeper.new.ended ≡ keeper.old.ended }
+    ensures progress { IfOk result (λ r. Progress N.log.cap (beginning 1) (state_of r.0.pass r.0.seen r.0.fresh r.0.open) opening r.0.pass.words (texts script.now) r.1.items) }
 {
     let statements = split(alloc, script)?;
-    answer(rt, alloc, arena, session, statements.as_slice(), gate)
+    answer(
+        rt,
+        alloc,
+        arena,
+        keeper,
+        session,
+        statements.as_slice(),
+        gate,
+    )
 }
 
-/// A session alone on the log that N names, before its first statement.
+/// A session alone on the log that N names, before its first statement, and the keeper of the log.
 ///
 /// # Errors
-/// `Memory` where there is none for its list of the log.
-fn begin<N: Site>(alloc: Global, blank: Blank) -> Result<(Arena<N>, Session<N>), Memory>
-    requires { blank ≡ N.log }
-    ensures kept { IfOk result (λ r. IsCatalogue r.1.pass r.1.keeper r.1.tables r.1.history.items) }
-    ensures begins { IfOk result (λ r. r.1.history.items ≡ []) }
-    ensures none_drawn { IfOk result (λ r. r.1.fresh ≡ 0) }
-    ensures opens { IfOk result (λ r. r.1.pass.words ≡ opening) }
+/// `Memory` where there is none for its list of the log, or for the keeper.
+fn begin<N: Site>(
+    alloc: Global,
+    blank: Blank,
+) -> Result<(Arena<N>, Keeper<N>, Session<N>), Memory>
+    requires name { blank ≡ N.log }
+    requires one { N.sessions ≡ 1 }
+    ensures begins { IfOk result (λ r. IsAtBeginning r.2.pass r.2.seen r.2.fresh r.2.open) }
+    ensures ended { IfOk result (λ r. r.1.ended ≡ []) }
 {
-    let (arena, mut keeper) = Arena::make(blank);
-    let pass = keeper.enrol(alloc, &arena)?;
-    let session = Session {
-        pass,
-        keeper,
-        tables: Db::empty(alloc),
-        history: Vec::new(alloc),
-        fresh: 0,
-    };
-    Ok((arena, session))
+    let (arena, mut pass) = Arena::make(blank);
+    let session = Session::make(pass.enrol(alloc, &arena)?);
+    let keeper = Keeper::make(alloc, pass)?;
+    Ok((arena, keeper, session))
 }
 
 /// Ends the session and the log, and gives the transcript.
 ///
 /// # Errors
-/// `Memory` where there is none for the list of sessions.
+/// `Memory` where there is none for the list of sessions, or for the history.
 fn end<N: Site>(
     alloc: Global,
     arena: Arena<N>,
+    keeper: Keeper<N>,
     session: Session<N>,
     script: Text,
     replies: Vec<Reply>,
 ) -> Result<Transcript, Memory>
-    requires kept { IsCatalogue session.pass session.keeper session.tables session.history.items }
-    requires progress { Progress N.log.cap (beginning 1) (state_of session.pass session.history.items session.fresh) opening session.pass.words (texts script) replies.items }
+    requires one { N.sessions ≡ 1 }
+    requires ended { keeper.ended ≡ [] }
+    requires progress { Progress N.log.cap (beginning 1) (state_of session.pass session.seen session.fresh session.open) opening session.pass.words (texts script) replies.items }
     ensures lawful { IfOk result (λ transcript. Lawful transcript N.log.cap) }
     ensures script { IfOk result (λ transcript. map (λ s. s.script) transcript.sessions ≡ script ∷ []) }
 {
-    let Session {
-        pass,
-        mut keeper,
-        history,
-        ..
-    } = session;
+    let pass = session.finish();
     // The commits of the session in its words are all that it made.
     let _ = pass.words();
-    let replies = List::from_vec(replies);
-    let sessions = list_of_one(alloc, SessionLog { script, replies })?;
+    let mut keeper = keeper.into_pass();
     keeper.end(&arena, pass);
+    let words = keeper.finish(arena);
+    let history = commits(alloc, words.words())?;
+    let replies = List::from_vec(replies);
+    let mut sessions = Vec::with_capacity(alloc, 1)?;
+    sessions.push_reserved(SessionLog { script, replies });
     Ok(Transcript {
-        sessions,
-        history: List::from_vec(history),
-        words: keeper.finish(arena),
+        sessions: List::from_vec(sessions),
+        history,
+        words,
     })
 }
 
@@ -141,13 +145,22 @@ fn serve_named<N: Site, R: Wait, G: Gate + Sync>(
     gate: &G,
 ) -> Result<Transcript, Memory>
     requires name { blank ≡ N.log }
+    requires one { N.sessions ≡ 1 }
     requires few { length (texts script) < 2 ^ 16 }
     ensures lawful { IfOk result (λ transcript. Lawful transcript N.log.cap) }
     ensures script { IfOk result (λ transcript. map (λ s. s.script) transcript.sessions ≡ script ∷ []) }
 {
-    let (arena, session) = begin::<N>(alloc, blank)?;
-    let (session, replies) = execute_script(rt, alloc, &arena, session, script.as_str(), gate)?;
-    end(alloc, arena, session, script, replies)
+    let (arena, mut keeper, session) = begin::<N>(alloc, blank)?;
+    let (session, replies) = execute_script(
+        rt,
+        alloc,
+        &arena,
+        &mut keeper,
+        session,
+        script.as_str(),
+        gate,
+    )?;
+    end(alloc, arena, keeper, session, script, replies)
 }
 
 /// Runs the session of the one script on a log of its own with room for `cap` words, from 64 to 4,194,304. The script

@@ -31,6 +31,7 @@ fn outside<N: Site>(
     requires none { IsNone session.open }
     requires written { IsWritten statement.now }
     ensures session { IsSession result.0.pass.words result.0.seen result.0.open }
+    ensures ended { keeper.new.ended ≡ keeper.old.ended }
     ensures executes { Executes N.log.cap (state_of session.pass session.seen session.fresh session.open) (state_of result.0.pass result.0.seen result.0.fresh result.0.open) session.pass.words result.0.pass.words statement.now result.1 }
 {
     match statement {
@@ -55,6 +56,7 @@ fn inside<N: Site>(
     requires some { IsSome session.open }
     requires written { IsWritten statement.now }
     ensures session { IsSession result.0.pass.words result.0.seen result.0.open }
+    ensures ended { keeper.new.ended ≡ keeper.old.ended }
     ensures executes { Executes N.log.cap (state_of session.pass session.seen session.fresh session.open) (state_of result.0.pass result.0.seen result.0.fresh result.0.open) session.pass.words result.0.pass.words statement.now result.1 }
 {
     match statement {
@@ -90,6 +92,7 @@ pub fn execute<N: Site>(
     requires session { IsSession session.pass.words session.seen session.open }
     requires few { session.pass.mine < 2 ^ 18 }
     ensures session { IsSession result.0.pass.words result.0.seen result.0.open }
+    ensures ended { keeper.new.ended ≡ keeper.old.ended }
     ensures answers { Answers N.log.cap (state_of session.pass session.seen session.fresh session.open) (state_of result.0.pass result.0.seen result.0.fresh result.0.open) session.pass.words result.0.pass.words text.now result.1 }
 {
     let _ = session.pass.words();

@@ -132,7 +132,7 @@ all_with_table P (x ∷ db) new all p = by_test (same_text x.name new.name) (all
   by_test false rest = (all.0, rest)
 
 -- a table that takes the place of one with the same name and columns leaves the headings
-headings_stay : (name : List ℕ) (t : TableView) (rows : List CRow) (db : List TableView) → find_table db name ≡ Some t
+pub headings_stay : (name : List ℕ) (t : TableView) (rows : List CRow) (db : List TableView) → find_table db name ≡ Some t
     → map heading_of (with_table db (with_rows name t rows)) ≡ map heading_of db
 headings_stay name t rows [] f = let bad : None ≡ Some t = f in cc
 headings_stay name t rows (x ∷ db) f = by_test (same_text x.name name) refl (headings_stay name t rows db) where

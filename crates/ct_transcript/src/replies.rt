@@ -135,7 +135,6 @@ fn refusal_name(refusal: &Refusal) -> &'static str
         Refusal::AmbiguousColumn => "AmbiguousColumn",
         Refusal::DuplicateName => "DuplicateName",
         Refusal::ColumnCount => "ColumnCount",
-        Refusal::NotYet => "NotYet",
         Refusal::TooLarge => "TooLarge",
         Refusal::Full => "Full",
         Refusal::TooManyTerms => "TooManyTerms",

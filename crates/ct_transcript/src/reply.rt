@@ -35,8 +35,6 @@ pub enum Refusal {
     DuplicateName,
     /// Numbers of columns differ.
     ColumnCount,
-    /// The statement has no fault, and is of a form that is not built yet.
-    NotYet,
     /// The size of the query, the rows or pairs of rows that its greatest part goes through, is past 1,048,576.
     TooLarge,
     /// The log has as many words as its capacity, and the statement needs another one.

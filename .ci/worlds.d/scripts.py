@@ -1,0 +1,87 @@
+"""Makes scripts by chance: changes, assertions, transactions and questions over three small tables and three nulls."""
+
+import random
+
+TABLES = {"t": ("a", "b"), "u": ("a",), "v": ("a",)}
+TERMS = ["1", "2", "'a'", "?x", "?y", "?z"]
+
+
+class Maker:
+    """Makes the parts of one script. A number of chance stands for one script."""
+
+    def __init__(self, number):
+        self.chance = random.Random(number)
+        self.nulls = 2
+
+    def pick(self, *given):
+        return self.chance.choice(given)
+
+    def term(self, columns):
+        return self.pick(*TERMS, *columns, *columns, *columns)
+
+    def condition(self, columns, depth=2):
+        """Returns a condition over these columns."""
+        form = self.chance.random()
+        if depth == 0 or form < 0.6:
+            return f"{self.pick('?x', '?y', '?z', *columns)} {self.pick('=', '=', '<>')} {self.term(columns)}"
+        if form < 0.7:
+            return f"not ({self.condition(columns, depth - 1)})"
+        if form < 0.72:
+            return self.pick("true", "false")
+        word = self.pick("and", "or")
+        return f"({self.condition(columns, depth - 1)} {word} {self.condition(columns, depth - 1)})"
+
+    def cell(self):
+        if self.nulls and self.chance.random() < 0.05:
+            self.nulls -= 1
+            return "NULL"
+        return self.pick(*TERMS)
+
+    def row(self, table):
+        return "(" + ", ".join(self.cell() for _ in TABLES[table]) + ")"
+
+    def select(self, count):
+        """Returns a SELECT of so many columns."""
+        tables = [self.pick("t", "u", "v"), *([self.pick("t", "u")] if self.chance.random() < 0.2 else [])]
+        seen = [f"{name} p{i}" for i, name in enumerate(tables)]
+        columns = [f"p{i}.{column}" for i, name in enumerate(tables) for column in TABLES[name]]
+        items = ", ".join(self.chance.choices(columns, k=count))
+        where = f" where {self.condition(columns)}" if self.chance.random() < 0.6 else ""
+        return f"select {items} from {', '.join(seen)}{where}"
+
+    def query(self, count):
+        left = self.select(count)
+        if self.chance.random() < 0.6:
+            return left
+        return f"{left} {self.pick('union', 'except', 'intersect')} {self.select(count)}"
+
+    def insertion(self):
+        table = self.pick(*TABLES)
+        if self.chance.random() < 0.35:
+            return f"insert into {table} {self.query(len(TABLES[table]))}"
+        rows = ", ".join(self.row(table) for _ in range(self.pick(1, 1, 2, 3)))
+        condition = f" if {self.condition(())}" if self.chance.random() < 0.5 else ""
+        return f"insert into {table} values {rows}{condition}"
+
+    def deletion(self):
+        table = self.pick(*TABLES)
+        return f"delete from {table}" + (f" where {self.condition(TABLES[table])}" if self.chance.random() < 0.97 else "")
+
+    def question(self):
+        return self.pick("", "", "possible ", "certain ") + self.query(self.pick(1, 1, 2))
+
+    def assertion(self):
+        return f"assert {self.condition(())}"
+
+    def moment(self):
+        """Returns the beginning or the end of a transaction, wherever it stands."""
+        return self.pick("begin", "begin", "commit", "rollback")
+
+    def statement(self):
+        kinds = [self.insertion] * 6 + [self.deletion] * 3 + [self.question] * 5 + [self.assertion] * 2 + [self.moment] * 4
+        return self.pick(*kinds)()
+
+    def script(self):
+        tables = [f"create table {name} ({', '.join(columns)})" for name, columns in TABLES.items()]
+        filled = [f"insert into {name} values {self.row(name)}, {self.row(name)}" for name in TABLES]
+        return ";\n".join(tables + filled + [self.statement() for _ in range(20)]) + ";\n"

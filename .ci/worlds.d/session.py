@@ -1,0 +1,148 @@
+"""Follows a script as one session, and judges each reply."""
+
+from judging import JUDGES, is_admitting, terms_of, wrong_commit
+from meaning import TooMany, greatest_part, tables_of
+from names import check, headed
+from reading import Refused, statement
+
+KINDS_OF_CHANGE = ("create", "insert", "insert query", "delete", "assert")
+MOST_TERMS = 64
+MOST_ROWS = 1_048_576
+
+
+class Session:
+    """The commits so far, the changes of the open transaction if there is one, and how many nulls were drawn."""
+
+    def __init__(self):
+        self.commits = []
+        self.own = None
+        self.drawn = 0
+
+    def changes(self):
+        """Returns the changes that a statement sees: those of the commits, and the transaction's own."""
+        return sum(self.commits, []) + (self.own or [])
+
+    def schema(self):
+        return {change[1]: change[2] for change, _ in self.changes() if change[0] == "create"}
+
+    def place(self):
+        """Returns what the head of an answer says of the version."""
+        return f"at {len(self.commits)}" + (f" plus {len(self.own)}" if self.own else "")
+
+    def named_nulls(self, change):
+        """Returns a change with nulls for its NULLs, and how many are drawn then."""
+        if change[0] != "insert":
+            return change, self.drawn
+        drawn, rows = self.drawn, []
+        for row in change[2]:
+            cells = []
+            for cell in row:
+                drawn += cell[0] == "fresh"
+                cells.append(("null", f"?1#{drawn}") if cell[0] == "fresh" else cell)
+            rows.append(tuple(cells))
+        return (*change[:2], rows, change[3]), drawn
+
+    def change(self, change):
+        """Makes a change. Returns the reply that is due."""
+        if change[0] == "assert" and not is_admitting(self.changes(), change[1]):
+            raise Refused("Inconsistent")
+        made, self.drawn = self.named_nulls(change)
+        if self.own is None:
+            self.commits.append([(made, {})])
+            return f"committed {len(self.commits)}"
+        self.own.append((made, {}))
+        return f"pending at {len(self.commits)} plus {len(self.own)}"
+
+    def begin(self):
+        if self.own is not None:
+            raise Refused("InTransaction")
+        self.own = []
+        return f"begun at {len(self.commits)}"
+
+    def end(self, kind):
+        """Ends the transaction. Returns the reply that is due."""
+        if self.own is None:
+            raise Refused("NoTransaction")
+        own, self.own = self.own, None
+        if kind == "rollback":
+            return "rolled back"
+        if not own:
+            return f"nothing to commit at {len(self.commits)}"
+        self.commits.append(own)
+        return f"committed {len(self.commits)}"
+
+    def head(self, tree):
+        """Returns the head of the answer that is due."""
+        return f"{tree[0]} ({', '.join(headed(tree[1], self.schema()))}) {self.place()}"
+
+    def due(self, tree):
+        """Returns the first line that is due to a statement, or refuses it. Changes what it changes."""
+        if tree[0] == "begin":
+            return self.begin()
+        if tree[0] in ("commit", "rollback"):
+            return self.end(tree[0])
+        check(tree, self.schema())
+        return self.change(tree) if tree[0] in KINDS_OF_CHANGE else self.head(tree)
+
+    def has_many_terms(self, tree):
+        """Tells whether a statement may be refused for the number of its terms."""
+        if tree[0] not in ("assert", "possible", "certain"):
+            return False
+        tables = [] if tree[0] == "assert" else tables_of(tree[1])
+        more = len(headed(tree[1], self.schema())) if tree[0] == "certain" else 0
+        return terms_of(tree[1], self.changes(), tables, more) > MOST_TERMS
+
+    def is_too_large(self, tree):
+        """Tells whether a statement may be refused for the size of its query."""
+        if tree[0] not in ("rows", "possible", "certain", "insert query"):
+            return False
+        return greatest_part(tree[-1], self.changes()) > MOST_ROWS
+
+    def wrong_limit(self, tree, name):
+        """Returns what is wrong with a refusal at a limit, or None."""
+        check(tree, self.schema())
+        is_right = self.is_too_large(tree) if name == "TooLarge" else self.has_many_terms(tree)
+        return None if is_right else f"{name} within the limit"
+
+
+def wrong_reply(session, text, lines):
+    """Returns what is wrong with the reply to a statement, or None."""
+    number, _, said = lines[0].partition(" ")
+    try:
+        tree = statement(text)
+        if said in ("refused TooLarge", "refused TooManyTerms"):
+            return session.wrong_limit(tree, said.removeprefix("refused "))
+        due = session.due(tree)
+    except Refused as refusal:
+        due = f"refused {refusal}"
+    if said != due:
+        return f"{number} {due} is due, and not: {lines[0]}"
+    if due.startswith(("rows ", "possible ", "certain ")):
+        return JUDGES[tree[0]](tree[1], session.changes(), lines[1:])
+    return "more than one line" if lines[1:] else None
+
+
+def wrong_statement(session, text, lines):
+    """Returns what is wrong with the reply to a statement, also where it can't be read or tried."""
+    if not lines:
+        return "no reply"
+    try:
+        return wrong_reply(session, text, lines)
+    except Refused:
+        return "lines that are not read"
+    except (ValueError, KeyError, TooMany) as fault:
+        return f"{type(fault).__name__}: {fault}"
+
+
+def wrong_history(session, written):
+    """Returns for each commit of the printed history what is wrong with it."""
+    if len(written) != len(session.commits):
+        return [f"{len(written)} commits are printed, and {len(session.commits)} were made"]
+    found = []
+    for m in range(1, len(written) + 1):
+        try:
+            wrong = wrong_commit(session.commits[:m], written[:m])
+        except (KeyError, TooMany) as fault:
+            wrong = f"{type(fault).__name__}: {fault}"
+        found.append(wrong and f"commit {m}: {wrong}")
+    return found

@@ -1,0 +1,100 @@
+-- What carries over as the changes of a list are taken one after another, and words are added.
+use Rattle.std.proofs.Common.{◌≡◌, ℕ, List, [], ◌∷◌, ◌++◌, length, map, refl, ap, sym, ◌∙◌}
+use Rattle.std.specs.Prelude.{All, IsTrue}
+use Rattle.std.specs.Option.{option_to_list}
+use Rattle.std.proofs.lemmas.List.{append-nil, append_assoc, map_push}
+use Rattle.std.proofs.lemmas.List.Elements.{All-head, All-tail, All-weaker}
+use mathlib.Core.List.{IsPrefix}
+use Rattle.ct_word.specs.declared.kinds.Class.TheVariants as class
+use Rattle.ct_word.specs.declared.values.CRow.{CRow}
+use Rattle.ct_word.specs.Change.{PlainChange, Insert, Delete, Assert, PlainCommit}
+use Rattle.ct_word.specs.Reading.{plain_crow}
+use Rattle.ct_word.specs.WellFormed.{is_place_of}
+use Rattle.ct_word.proofs.Prefixes.{place_within, place_in_prefix, condition_in_prefix}
+use Rattle.ct_query.specs.Plain.{PlainAction}
+use Rattle.ct_query.specs.Schema.{created_by_change}
+use Rattle.ct_query.specs.Worlds.{changes_of}
+use Rattle.ct_query.proofs.Laws.{changes_of-snoc}
+use Rattle.ct_history.specs.declared.written.Written.{Written}
+use Rattle.ct_history.specs.declared.written.Written.TheVariants as written
+use Rattle.ct_history.specs.Rows.{IsRowOf}
+use Rattle.ct_history.specs.Written.{IsWritten, plain_written}
+use Rattle.ct_table.specs.Denotes.{TableView, IsKept, Denotes, heading_of, find_table}
+use Rattle.ct_table.specs.Tables.{AreRows}
+use Rattle.ct_table.proofs.Denoting.{headings_stay}
+use Rattle.ct_table.proofs.Growing.{terms_grow}
+use Rattle.ct_keeper.specs.declared.effects.Effect.{Effect}
+use Rattle.ct_keeper.specs.declared.effects.Effect.TheVariants as effect
+use Rattle.ct_keeper.specs.Effects.{DoesChange, Gets, new_table, tables_after}
+use Rattle.ct_keeper.proofs.Doing.{with_found}
+
+module _ (old new : List ℕ) (longer : IsPrefix old new) where
+  row_later : (r : CRow) → IsRowOf old r → IsRowOf new r
+  row_later r is = record {
+    terms = All-weaker (λ p. IsTrue (is_place_of old class.Term p)) (λ p. IsTrue (is_place_of new class.Term p)) (λ p. place_in_prefix old new class.Term p longer) r.cells is.terms;
+    condition = place_in_prefix old new class.Cond r.cond longer is.condition;
+  }
+
+  rows_same : (rs : List CRow) → All (IsRowOf old) rs → map (plain_crow new) rs ≡ map (plain_crow old) rs
+  rows_same [] all = refl
+  rows_same (r ∷ rs) all =
+      let is = All-head (IsRowOf old) r rs all in
+      let first : plain_crow new r ≡ plain_crow old r = λ i. record {
+        cells = terms_grow old new longer r.cells is.terms i;
+        condition = condition_in_prefix old new r.cond longer (place_within old class.Cond r.cond is.condition) i;
+      } in
+      λ i. first i ∷ rows_same rs (All-tail (IsRowOf old) r rs all) i
+
+  -- the places of a change are of their classes in longer words
+  pub written_later : (w : Written) → IsWritten old w → IsWritten new w
+  written_later (written.Create name columns) placed = tt
+  written_later (written.Insert name rs) placed = All-weaker (IsRowOf old) (IsRowOf new) row_later rs placed
+  written_later (written.Delete name cond) placed = place_in_prefix old new class.Cond cond longer placed
+  written_later (written.Assert cond) placed = place_in_prefix old new class.Cond cond longer placed
+
+  -- and stand for the same change
+  pub written_same : (w : Written) → IsWritten old w → plain_written new w ≡ plain_written old w
+  written_same (written.Create name columns) placed = refl
+  written_same (written.Insert name rs) placed = ap (Insert name) (rows_same rs placed)
+  written_same (written.Delete name cond) placed = ap (Delete name) (condition_in_prefix old new cond longer (place_within old class.Cond cond placed))
+  written_same (written.Assert cond) placed = ap Assert (condition_in_prefix old new cond longer (place_within old class.Cond cond placed))
+
+  pub all_written_later : (ws : List Written) → All (IsWritten old) ws → All (IsWritten new) ws
+  all_written_later ws all = All-weaker (IsWritten old) (IsWritten new) written_later ws all
+
+  pub all_written_same : (ws : List Written) → All (IsWritten old) ws → map (plain_written new) ws ≡ map (plain_written old) ws
+  all_written_same [] all = refl
+  all_written_same (w ∷ ws) all = λ i. written_same w (All-head (IsWritten old) w ws all) i ∷ all_written_same ws (All-tail (IsWritten old) w ws all) i
+
+-- the rows of tables that denote something are well formed
+pub tables_formed : (words : List ℕ) (h : List PlainCommit) (actions : List PlainAction) (db : List TableView) → Denotes words h actions db → All (λ t. AreRows words (length t.columns) t.rows) db
+tables_formed words h actions db d = All-weaker (IsKept words h actions) (λ t. AreRows words (length t.columns) t.rows) (λ t k. k.rows) db d.worth.kept
+
+-- the names and columns of the tables after an effect: those before, and those of the table that its change creates
+pub headings_after : (old new : List ℕ) (db : List TableView) (global : ℕ) (w : Written) (e : Effect) → DoesChange old new db global w e
+    → map heading_of (tables_after db e) ≡ map heading_of db ++ option_to_list (created_by_change (plain_written old w))
+headings_after old new db global w e does = by_case w e does where
+  other_rows : (tables : List TableView) (name : List ℕ) (P : TableView → List CRow → Type 0) → Gets db tables (find_table db name) P → map heading_of tables ≡ map heading_of db ++ []
+  other_rows tables name P gets =
+      ap (map heading_of) (sym (with_found db tables name gets.table gets.rows gets.is_found gets.after_is))
+      ∙ headings_stay name gets.table gets.rows db gets.is_found
+      ∙ sym (append-nil (map heading_of db))
+
+  by_case : (w : Written) (e : Effect) → DoesChange old new db global w e → map heading_of (tables_after db e) ≡ map heading_of db ++ option_to_list (created_by_change (plain_written old w))
+  by_case (written.Create name columns) (effect.Grows growth) does = ap (map heading_of) does.1 ∙ map_push heading_of db (new_table name columns)
+  by_case (written.Insert name rs) (effect.Grows growth) does = other_rows (tables_after db (effect.Grows growth)) name _ does
+  by_case (written.Delete name cond) (effect.Grows growth) does = other_rows (tables_after db (effect.Grows growth)) name _ does
+  by_case (written.Assert cond) (effect.Narrows place) does = sym (append-nil (map heading_of db))
+  by_case (written.Create name columns) (effect.Narrows place) does = absurd does
+  by_case (written.Insert name rs) (effect.Narrows place) does = absurd does
+  by_case (written.Delete name cond) (effect.Narrows place) does = absurd does
+  by_case (written.Assert cond) (effect.Grows growth) does = absurd does
+
+-- a commit in the making that has no change yet
+pub no_change_yet : (h : List PlainCommit) (c : PlainCommit) → c.changes ≡ [] → changes_of (h ++ c ∷ []) ≡ changes_of h
+no_change_yet h c is = changes_of-snoc h c ∙ ap (λ xs. changes_of h ++ xs) is ∙ append-nil (changes_of h)
+
+-- the same with one change more
+pub one_change_more : (h : List PlainCommit) (c d : PlainCommit) (x : PlainChange) → d.changes ≡ c.changes ++ x ∷ [] → changes_of (h ++ d ∷ []) ≡ changes_of (h ++ c ∷ []) ++ x ∷ []
+one_change_more h c d x is =
+    changes_of-snoc h d ∙ ap (λ xs. changes_of h ++ xs) is ∙ sym (append_assoc (changes_of h) c.changes (x ∷ [])) ∙ ap (λ xs. xs ++ x ∷ []) (sym (changes_of-snoc h c))

@@ -1,0 +1,49 @@
+use Rattle.std.proofs.Common.{◌∙◌, length, subst, ap, sym}
+use Rattle.ct_query.specs.Fits.{AreColumnsBelow}
+use Rattle.ct_word.specs.Reading.{condition_at}
+use Rattle.ct_table.specs.Denotes.{with_table}
+use Rattle.ct_table.specs.Shared.{view_of}
+use Rattle.ct_table.specs.Tables.{AreRows}
+use Rattle.ct_table.specs.declared.table.CTable.{CTable}
+use Rattle.ct_keeper.specs.Effects.{AreSpared}
+use Rattle.ct_keeper.proofs.Finding.{not_missing, width_found, rows_of_found, column_below}
+use Rattle.ct_keeper.proofs.effects.deleted.Goals as goal
+
+pub unreachable-requires : goal.unreachable-requires
+unreachable-requires g c = not_missing c.args.db.now c.args.name.now c.requires.fitting.0 c.in_default.ensures
+
+pub delete-spared-requires-clause-rows : goal.delete-spared-requires-clause-rows
+delete-spared-requires-clause-rows g c =
+    let words = g.I.Interner.list c.args.pass.now in
+    subst (λ (t : CTable). AreRows words (length t.columns) t.rows) (sym c.table.ensures)
+    (rows_of_found words c.args.db.now c.args.name.now (view_of c.args.name.now c.in-Some.table.now) c.requires.tables c.in-Some.ensures)
+
+pub delete-spared-requires-clause-columns : goal.delete-spared-requires-clause-columns
+delete-spared-requires-clause-columns g c =
+    let words = g.I.Interner.list c.args.pass.now in
+    let t = view_of c.args.name.now c.in-Some.table.now in
+    let wide = width_found c.args.db.now c.args.name.now t c.in-Some.ensures ∙ ap (λ (x : CTable). length x.columns) (sym c.table.ensures) in
+    column_below words c.words.ensures.formed (length c.table.result.now.columns) c.args.cond c.requires.written
+    (subst (λ n. AreColumnsBelow n (condition_at words c.args.cond)) wide c.requires.fitting.1)
+
+pub returns-clause-gets : goal.returns-clause-gets
+returns-clause-gets g c =
+    let old = g.I.Interner.list c.args.pass.now in
+    let new = g.I.Interner.list c.delete-spared.new.pass in
+    let db = c.args.db.now in
+    let name = c.args.name.now in
+    let cond = c.args.cond in
+    let out = c.in_ok-spared.field-0 in
+    let columns = c.in_ok-spared.ensures.columns ∙ ap (λ (x : CTable). x.columns) c.table.ensures in
+    record {
+      table = view_of name c.in-Some.table.now;
+      rows = out.rows;
+      is_found = c.in-Some.ensures;
+      after_is = λ i. with_table db (record { name = c.in_ok-clone.ensures.cases i; columns = columns i; rows = out.rows });
+      true_of = subst (λ (x : CTable). AreSpared old new (length x.columns) cond x.rows out.rows) c.table.ensures (record {
+        are = c.in_ok-spared.ensures.rows;
+        tuples = c.in_ok-spared.ensures.tuples;
+        part = c.in_ok-spared.ensures.part;
+        terms = c.in_ok-spared.ensures.terms;
+      });
+    }

@@ -1,0 +1,22 @@
+-- How an assertion is printed. Each is taken back, so that the next one finds all worlds.
+begin; assert ?x = 1; commit;
+begin; assert 2 = ?y; select * from t; rollback;
+create table t (a);
+insert into t values (0);
+begin; assert ?y = ?a; select * from t; rollback;
+begin; assert 'b' <> ?y; select * from t; rollback;
+begin; assert not (?y = 1 or ?z = 2); select * from t; rollback;
+begin; assert not (?y = 1 and ?z = 2); select * from t; rollback;
+begin; assert ?y = 1 and (?z = 2 or ?z = 3); select * from t; rollback;
+begin; assert ?y = 1 or ?z = 2 and ?z <> ?y; select * from t; rollback;
+begin; assert ?z = 2 and ?y = 1 and ?z = 2; select * from t; rollback;
+begin; assert ?z = 2; assert ?y = 1; select * from t; rollback;
+begin; assert ?y = 1 or ?y <> 1; select * from t; rollback;
+begin; assert ?y <> 1 or ?y <> 2; select * from t; rollback;
+begin; assert (?y = 1 or ?z = 1) and (?y = 1 or ?z = 1); select * from t; rollback;
+begin; assert (?y = 1 or ?z = 1) and (?y = 2 or ?z = 2); select * from t; rollback;
+begin; assert ?y = NULL; rollback;
+begin; assert a = 1; assert t.a = 1; assert; assert ?y; assert ?y = 1 from t; select * from t; rollback;
+begin; assert ?y = ''; select * from t where a = ?y; rollback;
+begin; assert ?y = 'it''s' or ?y = -1; select * from t; certain select * from t; rollback;
+select * from t;

@@ -1,0 +1,24 @@
+-- Commits of several assertions, and assertions beside other changes of one commit.
+begin;
+create table t (a);
+assert ?x = 1 or ?y = 1;
+insert into t values (1), (2) if ?x = 1 or ?y = 1;
+select * from t;
+assert ?x = 2 or ?y = 2;
+select * from t;
+delete from t where a = ?x or ?x = 1 and ?y = 1;
+select * from t;
+certain select a from t;
+possible select a from t;
+commit;
+select * from t;
+begin;
+assert ?x = 1;
+certain select a from t;
+insert into t values (?y) if not (?x = 1 or ?y = 1);
+select * from t;
+assert ?y = 1;
+commit;
+assert ?y = 2;
+certain select a from t;
+select * from t;

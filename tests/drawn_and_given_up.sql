@@ -1,0 +1,20 @@
+-- What a transaction drew is not drawn again, also where it is taken back.
+create table t (a);
+begin;
+insert into t values (NULL);
+insert into nowhere values (NULL);
+insert into t values (NULL), (1, NULL);
+insert into t values (NULL);
+select * from t;
+rollback;
+insert into t values (NULL);
+begin;
+insert into t values (NULL);
+begin;
+insert into t values (NULL) if b = 1;
+insert into t values (NULL);
+commit;
+select * from t;
+begin;
+insert into t values (NULL);
+select * from t;

@@ -1,0 +1,2 @@
+-- The script ends behind its BEGIN.
+begin

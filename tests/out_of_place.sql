@@ -1,0 +1,24 @@
+-- BEGIN in a transaction, COMMIT and ROLLBACK outside one.
+commit;
+rollback;
+begin;
+begin;
+create table t (a);
+begin;
+insert into t values (1);
+begin;
+select * from t;
+commit;
+commit;
+rollback;
+begin;
+commit;
+commit;
+begin;
+rollback;
+rollback;
+begin;
+insert into t values (2);
+rollback;
+commit;
+select * from t;

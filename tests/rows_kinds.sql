@@ -1,0 +1,2 @@
+-- A number is no text.
+assert 1 = '1'

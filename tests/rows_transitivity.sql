@@ -1,0 +1,2 @@
+-- Equality is transitive.
+assert ?x = ?y; assert ?y = ?z; assert ?x <> ?z;
