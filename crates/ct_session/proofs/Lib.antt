@@ -17,3 +17,4 @@ pub mod Offered
 pub mod Whole
 pub mod Acted
 pub mod Unread
+pub mod Stepped

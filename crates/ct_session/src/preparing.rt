@@ -4,7 +4,6 @@ ghost use Rattle.std.specs.Prelude.{◌≡◌, List, length, IfOk, IfErr, IfSome
 ghost use mathlib.Core.List.{IsPrefix};
 ghost use Rattle.ct_word.specs.declared.kinds.Class.TheVariants as class;
 ghost use Rattle.ct_word.specs.Change.{PlainChange};
-ghost use Rattle.ct_word.specs.Condition.{Condition};
 ghost use Rattle.ct_word.specs.WellFormed.{is_place_of};
 ghost use Rattle.ct_history.specs.Kept.{kept_of};
 ghost use Rattle.ct_query.specs.Fits.{FitsAction, FitsStatement};
@@ -17,7 +16,7 @@ ghost use Rattle.ct_resolve.specs.Writing.{WritesAction, WritesStatement};
 ghost use Rattle.ct_statement.specs.Proposals.{IsProposal, listed};
 ghost use Rattle.ct_statement.specs.Sight.{IsSight, actions_before, history_of};
 ghost use Rattle.ct_statement.specs.Unmet.{IsUnmet};
-ghost use Rattle.ct_session.specs.Prepared.{IsNoOrder, IsNoPlainOrder, IsPrepared, IsPreparedFor, IsRefused, IsStepIf, name_refusal, needs_step};
+ghost use Rattle.ct_session.specs.Prepared.{IsNoOrder, IsNoPlainOrder, IsPrepared, IsPreparedFor, IsRefused, IsStepIf, is_assertion, name_refusal, needs_step};
 ghost use Rattle.ct_session.specs.Statements.{IsWritten};
 ghost use Rattle.ct_session.specs.declared.preparing.Prepared.TheVariants as prepared;
 
@@ -62,7 +61,7 @@ fn named(e: ResolveError) -> Refusal
 
 /// Whether an action is an assertion.
 fn is_assertion(action: &Action) -> bool
-    ensures { (c : Condition) → action_of action.now ≡ plain.Assert c → IsTrue result }
+    ensures { result ≡ is_assertion (action_of action.now) }
 {
     match action {
         Action::Assert { .. } => true,
