@@ -1,0 +1,9 @@
+use Rattle.ct_keeper.specs.Steps.{Interns}
+use Rattle.ct_keeper.proofs.Making.{IsApplied}
+use Rattle.ct_keeper.proofs.committing.applied_all.Given as goal
+
+abbrev pub invariant-loop-change : goal.invariant-loop-change
+invariant-loop-change g l = record {
+  interns : Interns l.fn.keeper l.fn.guest l.keeper l.guest;
+  applied : IsApplied l.fn.keeper.words l.keeper.words l.content l.changes l.change-index l.made;
+}
