@@ -18,3 +18,5 @@ pub mod Whole
 pub mod Acted
 pub mod Unread
 pub mod Stepped
+pub mod Carrying
+pub mod Proposed

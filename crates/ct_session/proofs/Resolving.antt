@@ -1,7 +1,8 @@
--- What resolves a statement that is no BEGIN, COMMIT or ROLLBACK is none either.
-use Rattle.std.proofs.Common.{◌≡◌, ℕ, Bool, true, false, not, List, [], ◌∷◌, length, subst}
+-- What a statement resolves to: what resolves one that is no BEGIN, COMMIT or ROLLBACK is none either; and a refusal of names.
+use Rattle.std.proofs.Common.{◌≡◌, ◌≢◌, ℕ, Bool, true, false, not, List, [], ◌∷◌, length, subst}
 use Rattle.std.specs.Prelude.{Ok, Err, IfOk, nat_eq}
 use Rattle.std.specs.List.{list_all}
+use Rattle.ct_word.specs.Change.{PlainCommit}
 use Rattle.ct_query.specs.declared.action.Ask.{Ask}
 use Rattle.ct_query.specs.declared.action.Ask.TheVariants as ask
 use Rattle.ct_query.specs.declared.action.Resolved.{Resolved}
@@ -9,7 +10,8 @@ use Rattle.ct_query.specs.declared.action.Resolved.TheVariants as resolution
 use Rattle.ct_query.specs.declared.schema.Heading.{Heading}
 use Rattle.ct_query.specs.declared.schema.Schema.{Schema}
 use Rattle.ct_query.specs.Plain as plain
-use Rattle.ct_query.specs.Plain.{PlainStatement}
+use Rattle.ct_query.specs.Plain.{PlainAction, PlainStatement}
+use Rattle.ct_query.specs.Schema.{schema}
 use Rattle.ct_query.specs.Views.{statement_of}
 use Rattle.ct_parse.specs.declared.tree.Statement.{Statement}
 use Rattle.ct_parse.specs.declared.tree.Statement.TheVariants as statement
@@ -20,7 +22,7 @@ use Rattle.ct_resolve.specs.Names.{table_in, is_table, are_distinct}
 use Rattle.ct_resolve.specs.Conditions.{condition_at, condition_or_true}
 use Rattle.ct_resolve.specs.Queries.{Named, query_at}
 use Rattle.ct_resolve.specs.Statements.{cells_of, resolved}
-use Rattle.ct_session.specs.Prepared.{IsNoOrder, IsNoPlainOrder}
+use Rattle.ct_session.specs.Prepared.{IsNoOrder, IsNoPlainOrder, IsRefused, by_name, wanting_memory, name_refusal}
 
 -- what is found is no order
 abbrev FindsNone : Found PlainStatement → Type 0
@@ -67,3 +69,14 @@ not_commit r n e = subst (λ x. IsNoPlainOrder (statement_of x)) e n
 
 pub not_rollback : (r : Resolved) → IsNoPlainOrder (statement_of r) → r ≡ resolution.Rollback → ⊥
 not_rollback r n e = subst (λ x. IsNoPlainOrder (statement_of x)) e n
+
+-- a name or a count that does not fit is refused so
+pub named_refuses : (h : List PlainCommit) (before : List PlainAction) (room : ℕ) (words : List ℕ) (session fresh : ℕ) (st : Statement) (e : ResolveError)
+    → (e ≢ fault.Memory → resolved (schema h before) session fresh st ≡ Err e) → IsRefused h before room words session fresh st (name_refusal e)
+named_refuses h before room words session fresh st fault.UnknownTable f = by_name fault.UnknownTable (λ p. cc) (f (λ p. cc))
+named_refuses h before room words session fresh st fault.TableExists f = by_name fault.TableExists (λ p. cc) (f (λ p. cc))
+named_refuses h before room words session fresh st fault.UnknownColumn f = by_name fault.UnknownColumn (λ p. cc) (f (λ p. cc))
+named_refuses h before room words session fresh st fault.AmbiguousColumn f = by_name fault.AmbiguousColumn (λ p. cc) (f (λ p. cc))
+named_refuses h before room words session fresh st fault.DuplicateName f = by_name fault.DuplicateName (λ p. cc) (f (λ p. cc))
+named_refuses h before room words session fresh st fault.ColumnCount f = by_name fault.ColumnCount (λ p. cc) (f (λ p. cc))
+named_refuses h before room words session fresh st fault.Memory f = wanting_memory

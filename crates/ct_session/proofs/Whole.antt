@@ -1,6 +1,6 @@
 -- What COMMIT of an open transaction is answered, by what became of its offer: each reply is lawful, however the words go on.
 use Rattle.std.proofs.Common.{◌≡◌, ℕ, zero, suc, ◌+◌, ◌-◌, ◌<◌, ◌≤◌, Bool, true, false, List, [], ◌∷◌, ◌++◌, length, take, drop, max, refl, ap, sym, subst, inl, inr, ◌∙◌, arith, length-take}
-use Rattle.std.specs.Prelude.{Option, Some, None, All, option_map}
+use Rattle.std.specs.Prelude.{Option, Some, None, Ok, Err, All, option_map}
 use Rattle.std.specs.List.{Contains}
 use Rattle.std.proofs.lemmas.Bool.{false≢true}
 use Rattle.std.proofs.lemmas.List.{append-nil, take_all, take-append-drop}
@@ -10,7 +10,6 @@ use Rattle.ct_word.specs.Change.{PlainChange, PlainCommit}
 use Rattle.ct_word.specs.Reading.{commits_of, change_list_at}
 use Rattle.ct_word.specs.StandsFor.{SameChanges, StandsFor}
 use Rattle.ct_word.proofs.Prefixes.{prefix_same}
-use Rattle.ct_word.specs.WellFormed.{IsWellFormed}
 use Rattle.ct_query.specs.Agrees.{Agrees}
 use Rattle.ct_query.specs.Frame.{AreOlder, reads_of_actions}
 use Rattle.ct_query.specs.Plain as plain
@@ -21,28 +20,37 @@ use Rattle.ct_query.proofs.Frame.{same_for_actions}
 use Rattle.ct_arena.specs.Seen.{Seen}
 use Rattle.ct_arena.specs.Counts.{AreNumbered}
 use Rattle.ct_keeper.specs.Catalogue.{Catalogue, version_of}
-use Rattle.ct_keeper.specs.Offers.{IsCommitted, IsUncommitted, IsConflict as MeetsLater, commit_for}
+use Rattle.ct_keeper.specs.Offers.{BecomesOf, IsCommitted, IsUncommitted, IsConflict as MeetsLater, changes_in, commit_for}
+use Rattle.ct_keeper.specs.declared.catalogue.Outcome.{Outcome}
+use Rattle.ct_keeper.specs.declared.catalogue.Outcome.TheVariants as outcome
+use Rattle.ct_keeper.specs.declared.error.KeeperError.{KeeperError}
+use Rattle.ct_keeper.specs.declared.error.KeeperError.TheVariants as fault
 use Rattle.ct_keeper.specs.declared.catalogue.Offer.{Offer}
 use Rattle.ct_parse.specs.declared.tree.Statement.{Statement}
 use Rattle.ct_parse.specs.declared.tree.Statement.TheVariants as tree
 use Rattle.ct_query.specs.Bounds.{bound}
 use Rattle.ct_query.specs.Patterns.{count}
+use Rattle.ct_transcript.specs.declared.reply.Reply.{Reply}
 use Rattle.ct_transcript.specs.declared.reply.Reply.TheVariants as reply
+use Rattle.ct_transcript.specs.declared.reply.Refusal.{Refusal}
 use Rattle.ct_transcript.specs.declared.reply.Refusal.TheVariants as refusal
 use Rattle.ct_statement.specs.Sight.{actions_before, history_of}
 use Rattle.ct_session.specs.declared.session.Open.{Open}
 use Rattle.ct_session.specs.Answers.{GoesOn, Answers, commits_by}
 use Rattle.ct_session.specs.LawfulRefusal.{CommitsWhole, IsFirstWritten, IsConflict, IsFull}
 use Rattle.ct_session.specs.LawfulReply.{IsCommittedWhole, IsNothing}
+use Rattle.ct_session.specs.Outcomes.{outcome_reply, outcome_version, wanted}
+use Rattle.ct_session.specs.Replying.{standing}
 use Rattle.ct_session.specs.Seeing.{Orders}
 use Rattle.ct_session.specs.Sessions.{IsBegunList, IsOpen, state_of, transaction_of}
 use Rattle.ct_session.specs.State.{Transaction, SessionState, carried, with_transaction}
 use Rattle.ct_session.specs.Statements.{ReadsAs}
 use Rattle.ct_session.proofs.Called.{IsCall, came, seen_before, comes, one_before, had_room, as_many_as, before, there, first_of, keeps_to, within_all, front_taken}
-use Rattle.ct_session.proofs.Going.{prefix_short}
+use Rattle.ct_session.proofs.Going.{prefix_short, version_within}
 use Rattle.ct_session.proofs.Offered.{IsBegun, none_agree, some_agree}
 use Rattle.ct_session.proofs.Own.{own_commits_stay}
-use Rattle.ct_session.proofs.Replies.{Proceeds, answers_uncommitted, memory_answers}
+use Rattle.ct_session.proofs.Opened.{standing_within}
+use Rattle.ct_session.proofs.Replies.{Proceeds, answers_uncommitted, carried_same, memory_answers}
 
 -- no commit after the last writes
 pub last_within : (h : List PlainCommit) (r : Read) → last h r ≤ length h
@@ -77,8 +85,8 @@ module _ (N : ℕ) (pass : Seen) (seen fresh : ℕ) (o : Open) (open' : IsOpen p
       (λ W g H stands. record { transaction = transaction_of o; is_open = refl; asks = orders H; no_actions = none; at_is = refl; next_is = refl }))
 
   -- the change list was not begun
-  pub not_begun_answers : IsWellFormed pass.words → length pass.words ≤ N → o.changes ≡ None → Answers N s (carried base (state_of pass seen fresh None)) pass.words pass.words x (reply.Nothing base)
-  not_begun_answers formed room e =
+  pub not_begun_answers : length pass.words ≤ N → o.changes ≡ None → Answers N s (carried base (state_of pass seen fresh None)) pass.words pass.words x (reply.Nothing base)
+  not_begun_answers room e =
       nothing pass.words (record { longer = prefix_same pass.words; room = room; own = refl }) pass refl refl (subst (λ l. IsBegunList pass.words l actions) e open'.list)
 
   -- the change list is offered to the keeper
@@ -159,14 +167,6 @@ module _ (N : ℕ) (pass : Seen) (seen fresh : ℕ) (o : Open) (open' : IsOpen p
       }) where
         some_open : Some (transaction_of o) ≡ None → ⊥
         some_open e = cc
-
-      -- the session has seen no version past it
-      pub whole_session : seen ≤ length (commits_of pass.words) → max seen m ≤ length (commits_of pass'.words)
-      whole_session le =
-          let all = as_many_as N pass.words old new pass pass' offer m k is in
-          let short = prefix_short (commits_of pass.words) g (seen_before N pass.words old new pass pass' offer m k is) in
-          let number = is.number in
-          omega (arith, le, all, short, number)
 
     -- nothing was committed
     module _ (u : IsUncommitted old new pass pass') where
@@ -270,3 +270,63 @@ module _ (N : ℕ) (pass : Seen) (seen fresh : ℕ) (o : Open) (open' : IsOpen p
           (λ e. absurd (some_open e)) (λ W goes H stands. (refl, conflicts W goes H stands))) where
             some_open : Some (transaction_of o) ≡ None → ⊥
             some_open e = cc
+
+    -- by what became of the offer
+    to_none : changes_in pass.words offer ≡ [] → xs ≡ []
+    to_none e = ap (change_list_at pass.words) (sym changes_are) ∙ e
+
+    to_some : (changes_in pass.words offer ≡ [] → ⊥) → xs ≡ [] → ⊥
+    to_some some e = some (ap (change_list_at pass.words) changes_are ∙ e)
+
+    outcome_answers : (out : Outcome) → BecomesOf N old new pass pass' offer (Ok out)
+        → Answers N s (carried (outcome_version base out) (state_of pass' seen fresh None)) pass.words pass'.words x (outcome_reply base out)
+    outcome_answers (outcome.Committed m) is = whole_answers m is
+    outcome_answers outcome.Nothing f = nothing_answers f.0 (to_none f.1)
+    outcome_answers (outcome.Conflict table was now at) f = conflict_answers f.0 (to_some f.1) table was now at f.2
+
+    pub replied_answers : (at : ℕ) (r : Reply) (out : Outcome) → at ≡ outcome_version base out → r ≡ outcome_reply base out → BecomesOf N old new pass pass' offer (Ok out)
+        → Answers N s (carried at (state_of pass' seen fresh None)) pass.words pass'.words x r
+    replied_answers at r out version same f =
+        subst (λ n. Answers N s (carried n (state_of pass' seen fresh None)) pass.words pass'.words x r) (sym version)
+        (subst (λ q. Answers N s (carried (outcome_version base out) (state_of pass' seen fresh None)) pass.words pass'.words x q) (sym same) (outcome_answers out f))
+
+    fault_answers : (e : KeeperError) → BecomesOf N old new pass pass' offer (Err e)
+        → Answers N s (carried (standing seen base (wanted e)) (state_of pass' seen fresh (Some o))) pass.words pass'.words x (reply.Refused (standing seen base (wanted e)) (wanted e))
+    fault_answers fault.Full f = full_answers f.0 (to_some f.1) f.3
+    fault_answers fault.Memory f =
+        subst (λ t. Answers N s t pass.words pass'.words x (reply.Refused seen refusal.Memory)) (sym (carried_same (state_of pass' seen fresh (Some o)))) (wanting_answers f)
+
+    pub refused_answers : (at : ℕ) (why : Refusal) (e : KeeperError) → why ≡ wanted e → at ≡ standing seen base why → BecomesOf N old new pass pass' offer (Err e)
+        → Answers N s (carried at (state_of pass' seen fresh (Some o))) pass.words pass'.words x (reply.Refused at why)
+    refused_answers at why e is at_is f =
+        subst (λ n. Answers N s (carried n (state_of pass' seen fresh (Some o))) pass.words pass'.words x (reply.Refused n why)) (sym at_is)
+        (subst (λ q. Answers N s (carried (standing seen base q) (state_of pass' seen fresh (Some o))) pass.words pass'.words x (reply.Refused (standing seen base q) q)) (sym is) (fault_answers e f))
+
+-- the session has seen no version past the commits of its words
+module _ (N : ℕ) (words : List ℕ) (pass : Seen) (seen base : ℕ) (seen_is : seen ≤ length (commits_of pass.words)) (base_is : base ≤ length (commits_of pass.words)) (old new : Catalogue) (pass' : Seen)
+    (k : IsCall N words new pass pass') where
+  seen_there : seen ≤ length (commits_of pass'.words)
+  seen_there = version_within pass.words pass'.words k.longer seen seen_is
+
+  base_there : base ≤ length (commits_of pass'.words)
+  base_there = version_within pass.words pass'.words k.longer base base_is
+
+  module _ (offer : Offer) where
+    pub committed_seen : (m : ℕ) → IsCommitted old new pass pass' offer m → max seen m ≤ length (commits_of pass'.words)
+    committed_seen m is = let all = as_many_as N words old new pass pass' offer m k is in let q = seen_there in omega (arith, all, q)
+
+    outcome_seen : (out : Outcome) → BecomesOf N old new pass pass' offer (Ok out) → max seen (outcome_version base out) ≤ length (commits_of pass'.words)
+    outcome_seen (outcome.Committed m) is = committed_seen m is
+    outcome_seen outcome.Nothing f = let p = base_there in let q = seen_there in omega (arith, p, q)
+    outcome_seen (outcome.Conflict table was now at) f =
+        let same : length (commits_of pass'.words) ≡ length (commits_of old.words) = ap (λ cs. length cs) (ap commits_of k.same ∙ f.0.stays.commits) in
+        let all = f.2.at_is in
+        let q = seen_there in
+        omega (arith, same, all, q)
+
+    pub replied_seen : (at : ℕ) (out : Outcome) → at ≡ outcome_version base out → BecomesOf N old new pass pass' offer (Ok out) → max seen at ≤ length (commits_of pass'.words)
+    replied_seen at out version f = subst (λ n. max seen n ≤ length (commits_of pass'.words)) (sym version) (outcome_seen out f)
+
+  pub refused_seen : (at : ℕ) (why : Refusal) → at ≡ standing seen base why → max seen at ≤ length (commits_of pass'.words)
+  refused_seen at why at_is =
+      subst (λ n. max seen n ≤ length (commits_of pass'.words)) (sym at_is) (standing_within seen base (length (commits_of pass'.words)) why seen_there base_there)
