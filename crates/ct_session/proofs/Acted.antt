@@ -1,6 +1,6 @@
 -- An action outside a transaction: its offer, and what it is answered, by what became of the offer.
 use Rattle.std.proofs.Common.{◌≡◌, ℕ, ◌+◌, ◌-◌, ◌<◌, ◌≤◌, Bool, true, false, ◌&&◌, List, [], ◌∷◌, ◌++◌, length, take, max, refl, ap, sym, subst, inl, ◌∙◌, arith}
-use Rattle.std.specs.Prelude.{Option, Some, None, IsTrue, IsSome, IfSome, All, Ok, option_map}
+use Rattle.std.specs.Prelude.{Option, Some, None, IsTrue, IsSome, Ok, Err}
 use Rattle.std.specs.Arc.{arc_value}
 use Rattle.std.specs.List.{AllByRecursion, Contains, list_all}
 use Rattle.std.proofs.lemmas.Bool.{false≢true}
@@ -30,12 +30,15 @@ use Rattle.ct_query.proofs.Committed.{commit_does}
 use Rattle.ct_arena.specs.Seen.{Seen}
 use Rattle.ct_arena.specs.Counts.{AreNumbered}
 use Rattle.ct_keeper.specs.Catalogue.{Catalogue, version_of}
-use Rattle.ct_keeper.specs.Offers.{IsOffer, IsCommitted, IsUncommitted, IsConflict as MeetsLater, commit_for, changes_in, has_assertion}
+use Rattle.ct_keeper.specs.declared.error.KeeperError.{KeeperError}
+use Rattle.ct_keeper.specs.declared.error.KeeperError.TheVariants as fault
+use Rattle.ct_keeper.specs.Offers.{BecomesOf, IsOffer, IsCommitted, IsUncommitted, IsConflict as MeetsLater, commit_for, changes_in, has_assertion}
 use Rattle.ct_keeper.specs.declared.catalogue.Offer.{Offer}
 use Rattle.ct_table.specs.Snapshot.{IsKeptWorld}
 use Rattle.ct_parse.specs.declared.tree.Statement.{Statement}
 use Rattle.ct_resolve.specs.Statements.{resolved}
 use Rattle.ct_transcript.specs.declared.reply.Reply.TheVariants as reply
+use Rattle.ct_transcript.specs.declared.reply.Refusal.{Refusal}
 use Rattle.ct_transcript.specs.declared.reply.Refusal.TheVariants as refusal
 use Rattle.ct_statement.specs.declared.proposing.Proposal.{Proposal}
 use Rattle.ct_statement.specs.declared.sight.Sight.{Sight}
@@ -45,7 +48,8 @@ use Rattle.ct_statement.specs.Proposals.{IsProposal}
 use Rattle.ct_statement.specs.Sight.{actions_before, history_of, IsSight}
 use Rattle.ct_session.specs.Answers.{GoesOn, Answers}
 use Rattle.ct_session.specs.LawfulReply.{IsCommittedAlone}
-use Rattle.ct_session.specs.Outcomes.{world_offered}
+use Rattle.ct_session.specs.Outcomes.{wanted, world_offered}
+use Rattle.ct_session.specs.Replying.{standing}
 use Rattle.ct_session.specs.Prepared.{IsChange, IsPrepared, IsPreparedFor, IsStepIf, needs_step}
 use Rattle.ct_session.specs.declared.preparing.Prepared.TheVariants as prepared
 use Rattle.ct_session.specs.Sessions.{state_of}
@@ -55,7 +59,7 @@ use Rattle.ct_session.proofs.Called.{IsCall, seen_before, comes, one_before, had
 use Rattle.ct_session.proofs.Going.{prefix_short, onward}
 use Rattle.ct_session.proofs.Offered.{creates_all, asserts_read}
 use Rattle.ct_session.proofs.Own.{own_commits_stay}
-use Rattle.ct_session.proofs.Replies.{Proceeds, answers_uncommitted, memory_answers}
+use Rattle.ct_session.proofs.Replies.{Proceeds, answers_uncommitted, carried_same, memory_answers}
 use Rattle.ct_session.proofs.Whole.{last_within}
 
 -- what an action outside a transaction was prepared for
@@ -221,26 +225,17 @@ module _ (N : ℕ) (pass : Seen) (seen fresh : ℕ) (sight : Sight) (within : si
 
       pub committed_answers : Answers N s (carried m (state_of pass' seen proposal.fresh None)) pass.words pass'.words x (reply.Committed m)
       committed_answers = subst (λ (t : SessionState). Answers N s (carried m t) pass.words pass'.words x (reply.Committed m))
-      (λ i. record { session = sym k.session i; seen = seen; fresh = sym f.draws i; commits = sym is.mine i; transaction = None })
-      (record {
-        lawful = λ W goes H stands. inl (committed_alone W goes H stands);
-        newest = λ e. let one = one_before N pass.words old new pass pass' offer m k is in let all = all_seen in omega (arith, one, all);
-        longer = k.longer;
-        room = k.room;
-        same = refl;
-        commits = comes N pass.words old new pass pass' offer m k is;
-        full = λ e. absurd (false≢true e);
-        not_full = λ e. had_room N pass.words old new pass pass' offer m k is;
-      })
-
-    -- the session has seen no version past it
-    pub committed_session : max seen m ≤ length (commits_of pass'.words)
-    committed_session =
-        let all = as_many_as N pass.words old new pass pass' offer m k is in
-        let number = is.number in
-        let same = newest in
-        let most = le in
-        omega (arith, all, number, same, most)
+          (λ i. record { session = sym k.session i; seen = seen; fresh = sym f.draws i; commits = sym is.mine i; transaction = None })
+          (record {
+            lawful = λ W goes H stands. inl (committed_alone W goes H stands);
+            newest = λ e. let one = one_before N pass.words old new pass pass' offer m k is in let all = all_seen in omega (arith, one, all);
+            longer = k.longer;
+            room = k.room;
+            same = refl;
+            commits = comes N pass.words old new pass pass' offer m k is;
+            full = λ e. absurd (false≢true e);
+            not_full = λ e. had_room N pass.words old new pass pass' offer m k is;
+          })
 
   -- nothing was committed
   module _ (u : IsUncommitted old new pass pass') where
@@ -270,24 +265,38 @@ module _ (N : ℕ) (pass : Seen) (seen fresh : ℕ) (sight : Sight) (within : si
 
       pub full_answers : length new.words ≡ N → Answers N s (carried base (state_of pass' seen fresh None)) pass.words pass'.words x (reply.Refused base refusal.Full)
       full_answers full = subst (λ (t : SessionState). Answers N s (carried base t) pass.words pass'.words x (reply.Refused base refusal.Full)) same_state
-      (answers_uncommitted N s (carried base s) pass.words pass'.words x (reply.Refused base refusal.Full) proceeds_on refl refl (λ e. ap length k.same ∙ full)
-      (λ e. let all = newest in let short = seen_all in omega (arith, all, short))
-      (λ W goes H stands.
-          let on = onward pass.words base within W (prefix_of_prefix pass.words pass'.words W k.longer goes.log) H stands in
-          (record {
-            actions = [];
-            statement = plain.Act f.action;
-            sees = (le, on.within, refl);
-            asks = record {
-              statement = st;
-              reads = read;
-              gives = ap (λ sch. resolved sch pass.session fresh st) (sym (on.keeps.schemas [])) ∙ f.resolves;
-            };
-            full = let short = prefix_short pass'.words W goes.log in let most = goes.room in let all = ap length k.same in omega (arith, short, most, all, full);
-            makes_words = makes_words (count H []) f.action;
-          }, refl))) where
-            seen_all : length (commits_of pass.words) ≤ version_of old
-            seen_all =
-                let short = prefix_short (commits_of pass.words) (commits_of pass'.words) (commits_prefix pass.words pass'.words k.longer) in
-                let same : length (commits_of pass'.words) ≡ version_of old = ap (λ ws. length (commits_of ws)) k.same ∙ ap length u.stays.commits in
-                omega (arith, short, same)
+          (answers_uncommitted N s (carried base s) pass.words pass'.words x (reply.Refused base refusal.Full) proceeds_on refl refl (λ e. ap length k.same ∙ full)
+          (λ e. let all = newest in let short = seen_all in omega (arith, all, short))
+          (λ W goes H stands.
+              let on = onward pass.words base within W (prefix_of_prefix pass.words pass'.words W k.longer goes.log) H stands in
+              (record {
+                actions = [];
+                statement = plain.Act f.action;
+                sees = (le, on.within, refl);
+                asks = record {
+                  statement = st;
+                  reads = read;
+                  gives = ap (λ sch. resolved sch pass.session fresh st) (sym (on.keeps.schemas [])) ∙ f.resolves;
+                };
+                full = let short = prefix_short pass'.words W goes.log in let most = goes.room in let all = ap length k.same in omega (arith, short, most, all, full);
+                makes_words = makes_words (count H []) f.action;
+              }, refl))) where
+                seen_all : length (commits_of pass.words) ≤ version_of old
+                seen_all =
+                    let short = prefix_short (commits_of pass.words) (commits_of pass'.words) (commits_prefix pass.words pass'.words k.longer) in
+                    let same : length (commits_of pass'.words) ≡ version_of old = ap (λ ws. length (commits_of ws)) k.same ∙ ap length u.stays.commits in
+                    omega (arith, short, same)
+
+  -- something was wanting
+  module _ (x : List ℕ) (read : ReadsAs x st) where
+    fault_answers : (e : KeeperError) → BecomesOf N old new pass pass' offer (Err e)
+        → Answers N s (carried (standing seen base (wanted e)) (state_of pass' seen fresh None)) pass.words pass'.words x (reply.Refused (standing seen base (wanted e)) (wanted e))
+    fault_answers fault.Full f' = full_answers f'.0 x read f'.3
+    fault_answers fault.Memory f' =
+        subst (λ t. Answers N s t pass.words pass'.words x (reply.Refused seen refusal.Memory)) (sym (carried_same (state_of pass' seen fresh None))) (wanting_answers f' x read)
+
+    pub refused_answers : (at : ℕ) (why : Refusal) (e : KeeperError) → why ≡ wanted e → at ≡ standing seen base why → BecomesOf N old new pass pass' offer (Err e)
+        → Answers N s (carried at (state_of pass' seen fresh None)) pass.words pass'.words x (reply.Refused at why)
+    refused_answers at why e is at_is f' =
+        subst (λ n. Answers N s (carried n (state_of pass' seen fresh None)) pass.words pass'.words x (reply.Refused n why)) (sym at_is)
+        (subst (λ q. Answers N s (carried (standing seen base q) (state_of pass' seen fresh None)) pass.words pass'.words x (reply.Refused (standing seen base q) q)) (sym is) (fault_answers e f'))

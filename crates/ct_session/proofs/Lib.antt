@@ -20,3 +20,4 @@ pub mod Unread
 pub mod Stepped
 pub mod Carrying
 pub mod Proposed
+pub mod Outside

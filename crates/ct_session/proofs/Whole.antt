@@ -154,19 +154,19 @@ module _ (N : ℕ) (pass : Seen) (seen fresh : ℕ) (o : Open) (open' : IsOpen p
 
       pub whole_answers : Answers N s (carried m (state_of pass' seen fresh None)) pass.words pass'.words x (reply.Committed m)
       whole_answers = subst (λ (t : SessionState). Answers N s (carried m t) pass.words pass'.words x (reply.Committed m))
-      (λ i. record { session = sym k.session i; seen = seen; fresh = fresh; commits = sym is.mine i; transaction = None })
-      (record {
-        lawful = λ W goes H stands. inr (whole W goes H stands);
-        newest = λ e. absurd (some_open e);
-        longer = k.longer;
-        room = k.room;
-        same = refl;
-        commits = comes N pass.words old new pass pass' offer m k is;
-        full = λ e. absurd (false≢true e);
-        not_full = λ e. had_room N pass.words old new pass pass' offer m k is;
-      }) where
-        some_open : Some (transaction_of o) ≡ None → ⊥
-        some_open e = cc
+          (λ i. record { session = sym k.session i; seen = seen; fresh = fresh; commits = sym is.mine i; transaction = None })
+          (record {
+            lawful = λ W goes H stands. inr (whole W goes H stands);
+            newest = λ e. absurd (some_open e);
+            longer = k.longer;
+            room = k.room;
+            same = refl;
+            commits = comes N pass.words old new pass pass' offer m k is;
+            full = λ e. absurd (false≢true e);
+            not_full = λ e. had_room N pass.words old new pass pass' offer m k is;
+          }) where
+            some_open : Some (transaction_of o) ≡ None → ⊥
+            some_open e = cc
 
     -- nothing was committed
     module _ (u : IsUncommitted old new pass pass') where
@@ -200,17 +200,17 @@ module _ (N : ℕ) (pass : Seen) (seen fresh : ℕ) (o : Open) (open' : IsOpen p
 
         pub full_answers : length new.words ≡ N → Answers N s (carried base (state_of pass' seen fresh (Some o))) pass.words pass'.words x (reply.Refused base refusal.Full)
         full_answers full = subst (λ (t : SessionState). Answers N s (carried base t) pass.words pass'.words x (reply.Refused base refusal.Full)) (same_state (Some o))
-        (answers_uncommitted N s (carried base s) pass.words pass'.words x (reply.Refused base refusal.Full) proceeds_on refl refl (λ e. ap length k.same ∙ full) (λ e. absurd (some_open e))
-        (λ W goes H stands. (record {
-          actions = actions;
-          statement = plain.Commit;
-          sees = (refl, refl);
-          asks = record { statement = tree.Commit; reads = subst (ReadsAs x) order reads; gives = refl };
-          full = let short = prefix_short pass'.words W goes.log in let le = goes.room in let all = ap length k.same in omega (arith, short, le, all, full);
-          makes_words = makes_words (count H actions) actions has_actions;
-        }, refl))) where
-          some_open : Some (transaction_of o) ≡ None → ⊥
-          some_open e = cc
+            (answers_uncommitted N s (carried base s) pass.words pass'.words x (reply.Refused base refusal.Full) proceeds_on refl refl (λ e. ap length k.same ∙ full) (λ e. absurd (some_open e))
+            (λ W goes H stands. (record {
+              actions = actions;
+              statement = plain.Commit;
+              sees = (refl, refl);
+              asks = record { statement = tree.Commit; reads = subst (ReadsAs x) order reads; gives = refl };
+              full = let short = prefix_short pass'.words W goes.log in let le = goes.room in let all = ap length k.same in omega (arith, short, le, all, full);
+              makes_words = makes_words (count H actions) actions has_actions;
+            }, refl))) where
+              some_open : Some (transaction_of o) ≡ None → ⊥
+              some_open e = cc
 
         -- a later commit has written what was read
         module _ (table : Read) (was now at : ℕ) (meets : MeetsLater old offer table was now at) where
@@ -266,10 +266,10 @@ module _ (N : ℕ) (pass : Seen) (seen fresh : ℕ) (o : Open) (open' : IsOpen p
 
           pub conflict_answers : Answers N s (carried at (state_of pass' seen fresh None)) pass.words pass'.words x (reply.Refused at (refusal.Conflict table was now at))
           conflict_answers = subst (λ (t : SessionState). Answers N s (carried at t) pass.words pass'.words x (reply.Refused at (refusal.Conflict table was now at))) (same_state None)
-          (answers_uncommitted N s (carried at (with_transaction None s)) pass.words pass'.words x (reply.Refused at (refusal.Conflict table was now at)) proceeds_on refl refl (λ e. absurd (false≢true e))
-          (λ e. absurd (some_open e)) (λ W goes H stands. (refl, conflicts W goes H stands))) where
-            some_open : Some (transaction_of o) ≡ None → ⊥
-            some_open e = cc
+              (answers_uncommitted N s (carried at (with_transaction None s)) pass.words pass'.words x (reply.Refused at (refusal.Conflict table was now at)) proceeds_on refl refl (λ e. absurd (false≢true e))
+              (λ e. absurd (some_open e)) (λ W goes H stands. (refl, conflicts W goes H stands))) where
+                some_open : Some (transaction_of o) ≡ None → ⊥
+                some_open e = cc
 
     -- by what became of the offer
     to_none : changes_in pass.words offer ≡ [] → xs ≡ []
