@@ -21,3 +21,4 @@ pub mod Stepped
 pub mod Carrying
 pub mod Proposed
 pub mod Outside
+pub mod Placed
