@@ -1,12 +1,13 @@
 -- BEGIN and ROLLBACK, and orders in the wrong place; want of memory for any statement.
-use Rattle.std.proofs.Common.{◌≡◌, ◌⊎◌, ℕ, ◌≤◌, List, [], length, take, max, refl, ap, sym, subst, inl, inr, arith}
+use Rattle.std.proofs.Common.{◌≡◌, ◌⊎◌, ℕ, ◌≤◌, List, [], ◌∷◌, length, take, max, refl, ap, sym, subst, inl, inr, arith}
 use Rattle.std.specs.Prelude.{Option, Some, None, Ok, IsNone, IsSome, option_map}
 use Rattle.std.proofs.lemmas.Bool.{false≢true}
 use Rattle.ct_word.specs.Change.{PlainCommit}
 use Rattle.ct_word.specs.Reading.{commits_of}
 use Rattle.ct_word.specs.StandsFor.{StandsFor}
 use Rattle.ct_word.proofs.Prefixes.{commits_prefix}
-use Rattle.ct_arena.specs.Seen.{Seen}
+use Rattle.ct_arena.specs.Seen.{Seen, tally_of}
+use Rattle.ct_arena.specs.declared.tally.Tally.{Tally}
 use Rattle.ct_history.specs.Kept.{kept_of}
 use Rattle.ct_query.specs.Plain.{PlainStatement}
 use Rattle.ct_query.specs.Plain as plain
@@ -40,6 +41,15 @@ state_same pass pass' seen fresh open' open'' kept same =
     let mine : pass'.mine ≡ pass.mine = cc in
     λ i. record { session = session i; seen = seen; fresh = fresh; commits = mine i; transaction = same i }
 
+-- a pass of the same tally has the same session and as many commits
+pub tally_kept : (p q : Seen) → tally_of p ≡ tally_of q → kept_of p ≡ kept_of q
+tally_kept p q e = ap (λ (t : Tally). t.session ∷ t.mine ∷ []) e
+
+-- none is open either way
+pub none_open : (open' : Option Open) → IsNone open' → option_map transaction_of None ≡ option_map transaction_of open'
+none_open None none = refl
+none_open (Some o) none = absurd (false≢true (sym none))
+
 -- where the words of a pass went on before the statement was answered, it is answered so from the first ones too
 pub executes_later : (N : ℕ) (pass mid : Seen) (seen fresh : ℕ) (open' : Option Open) (next : SessionState) (now : List ℕ) (st : Statement) (r : Reply) → Proceeds N pass.session pass.words mid.words
     → kept_of mid ≡ kept_of pass → Executes N (state_of mid seen fresh open') next mid.words now st r → Executes N (state_of pass seen fresh open') next pass.words now st r
@@ -65,7 +75,7 @@ pub begun_executes : (N : ℕ) (pass pass' : Seen) (seen fresh at : ℕ) (open' 
     → Proceeds N pass.session pass.words pass'.words → kept_of pass' ≡ kept_of pass → seen ≤ length (commits_of pass.words) → at ≡ length (commits_of pass'.words)
     → o.sight.version ≡ at → actions_before o.sight ≡ [] → o.reads ≡ []
     → Executes N (state_of pass seen fresh open') (state_of pass' at fresh (Some o)) pass.words pass'.words st (reply.Begun at)
-begun_executes N pass pass' seen fresh at (Some other) o st none order p kept known newest version actions reads = absurd (false≢true none)
+begun_executes N pass pass' seen fresh at (Some other) o st none order p kept known newest version actions reads = absurd (false≢true (sym none))
 begun_executes N pass pass' seen fresh at None o st none order p kept known newest version actions no_reads = λ x reads.
     answers_uncommitted N (state_of pass seen fresh None) (state_of pass' at fresh (Some o)) pass.words pass'.words x (reply.Begun at) p session refl (λ e. absurd (false≢true e)) (λ _. before)
     (λ W g H stands. is_begun x reads W g H stands) where
