@@ -79,6 +79,17 @@ IsNoOrder tree.Commit = ⊥
 IsNoOrder tree.Rollback = ⊥
 IsNoOrder _ = Unit {0}
 
+-- a statement with positions is no BEGIN, COMMIT or ROLLBACK
+abbrev pub IsNoPlainOrder : PlainStatement → Type 0
+IsNoPlainOrder (plain.Act a) = Unit {0}
+IsNoPlainOrder (plain.Asks k columns query) = Unit {0}
+IsNoPlainOrder _ = ⊥
+
+-- whether an action is an assertion
+abbrev pub is_assertion : PlainAction → Bool
+is_assertion (plain.Assert c) = true
+is_assertion _ = false
+
 -- the step of an action was made, in a transaction and for an assertion
 abbrev pub needs_step : Bool → Prepared → Type 0
 needs_step true (prepared.Change proposal step reads) = IsSome step
