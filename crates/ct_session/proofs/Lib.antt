@@ -10,3 +10,15 @@ pub mod Opened
 pub mod Ordered
 pub mod Inside
 pub mod Readings
+pub mod Resolving
+pub mod Counted
+pub mod Called
+pub mod Offered
+pub mod Whole
+pub mod Acted
+pub mod Unread
+pub mod Stepped
+pub mod Carrying
+pub mod Proposed
+pub mod Outside
+pub mod Placed

@@ -9,4 +9,5 @@ pub mod Prepared
 pub mod Executes
 pub mod Orders
 pub mod Replying
+pub mod Outcomes
 pub mod Extending

@@ -1,5 +1,5 @@
 -- What a statement asks for, ready to be given, and why it is refused.
-use Rattle.std.specs.Prelude.{◌≡◌, ◌≢◌, ◌+◌, ℕ, Bool, true, false, List, [], Option, Some, None, IsSome, Ok, Err}
+use Rattle.std.specs.Prelude.{◌≡◌, ◌≢◌, ◌+◌, ℕ, Bool, true, false, List, Option, Some, None, IsSome, Ok, Err}
 use Rattle.ct_word.specs.Change.{PlainChange, PlainCommit}
 use Rattle.ct_query.specs.Plain.{PlainAction, PlainStatement}
 use Rattle.ct_query.specs.Plain as plain
@@ -11,7 +11,6 @@ use Rattle.ct_parse.specs.declared.tree.Statement.TheVariants as tree
 use Rattle.ct_word.specs.Condition.{Condition}
 use Rattle.ct_resolve.specs.declared.error.ResolveError.{ResolveError}
 use Rattle.ct_resolve.specs.declared.error.ResolveError.TheVariants as name
-use Rattle.ct_resolve.specs.Found.{Found}
 use Rattle.ct_resolve.specs.Statements.{resolved}
 use Rattle.ct_transcript.specs.declared.reply.Refusal.{Refusal}
 use Rattle.ct_transcript.specs.declared.reply.Refusal.TheVariants as refusal
@@ -78,6 +77,17 @@ IsNoOrder tree.Begin = ⊥
 IsNoOrder tree.Commit = ⊥
 IsNoOrder tree.Rollback = ⊥
 IsNoOrder _ = Unit {0}
+
+-- a statement with positions is no BEGIN, COMMIT or ROLLBACK
+abbrev pub IsNoPlainOrder : PlainStatement → Type 0
+IsNoPlainOrder (plain.Act a) = Unit {0}
+IsNoPlainOrder (plain.Asks k columns query) = Unit {0}
+IsNoPlainOrder _ = ⊥
+
+-- whether an action is an assertion
+abbrev pub is_assertion : PlainAction → Bool
+is_assertion (plain.Assert c) = true
+is_assertion _ = false
 
 -- the step of an action was made, in a transaction and for an assertion
 abbrev pub needs_step : Bool → Prepared → Type 0

@@ -1,16 +1,134 @@
 // COMMIT of an open transaction.
 
-ghost use Rattle.std.specs.Prelude.{◌≡◌, ◌<◌, ◌^◌, IsSome};
+ghost use Rattle.std.specs.Prelude.{◌≡◌, ◌<◌, ◌^◌, IsSome, Some};
 ghost use Rattle.ct_parse.specs.declared.tree.Statement.TheVariants as tree;
 ghost use Rattle.ct_session.specs.Executes.{Executes};
+ghost use Rattle.ct_session.specs.Outcomes.{outcome_reply, outcome_version, wanted};
 ghost use Rattle.ct_session.specs.Sessions.{IsSession, state_of};
 
-use crate::session::Session;
-use ct_arena::{Arena, Site};
-use ct_keeper::Keeper;
+use crate::offering::copied;
+use crate::replying::standing;
+use crate::session::{Open, Session};
+use ct_arena::{Arena, Pass, Site};
+use ct_keeper::{Keeper, KeeperError, Offer, Outcome};
 use ct_parse::Statement;
 use ct_transcript::{Refusal, Reply};
 use std::alloc::Global;
+
+/// The reply to an offer with this base, and the version that it carries.
+fn replied(base: u32, outcome: Outcome) -> (u32, Reply)
+    ensures version { result.0 ≡ outcome_version base outcome }
+    ensures reply { result.1 ≡ outcome_reply base outcome }
+{
+    match outcome {
+        Outcome::Committed(at) => (at, Reply::Committed { at }),
+        Outcome::Nothing => (base, Reply::Nothing { at: base }),
+        Outcome::Conflict {
+            table,
+            was,
+            now,
+            at,
+        } => {
+            let why = Refusal::Conflict {
+                table,
+                was,
+                now,
+                at,
+            };
+            (at, Reply::Refused { at, why })
+        }
+    }
+}
+
+/// The refusal of an offer for which something is wanting.
+pub(crate) fn wanted(e: KeeperError) -> Refusal
+    ensures { result ≡ wanted e }
+{
+    match e {
+        KeeperError::Full => Refusal::Full,
+        KeeperError::Memory => Refusal::Memory,
+    }
+}
+
+/// COMMIT of the open transaction, whose change list was begun at this place: it is offered to the keeper. Where something
+/// is wanting, the transaction stays.
+fn offered<N: Site>(
+    alloc: Global,
+    arena: &Arena<N>,
+    keeper: &mut Keeper<N>,
+    pass: Pass<N>,
+    seen: u32,
+    fresh: u32,
+    transaction: Open,
+    changes: u32,
+    statement: &Statement,
+) -> (Session<N>, Reply)
+    requires session { IsSession pass.words seen (Some transaction) }
+    requires few { pass.mine < 2 ^ 18 }
+    requires begun { transaction.changes ≡ Some changes }
+    requires order { statement.now ≡ tree.Commit }
+    ensures session { IsSession result.0.pass.words result.0.seen result.0.open }
+    ensures ended { keeper.new.ended ≡ keeper.old.ended }
+    ensures executes { Executes N.log.cap (state_of pass seen fresh (Some transaction)) (state_of result.0.pass result.0.seen result.0.fresh result.0.open) pass.words result.0.pass.words statement.now result.1 }
+{
+    let _words = pass.words();
+    let kept = match copied(alloc, &transaction.sight.kept) {
+        Ok(kept) => kept,
+        Err(_) => {
+            let session = Session {
+                pass,
+                seen,
+                fresh,
+                open: Some(transaction),
+            };
+            let why = Refusal::Memory;
+            return (session, Reply::Refused { at: seen, why });
+        }
+    };
+    let Open {
+        sight,
+        changes: list,
+        reads,
+    } = transaction;
+    let base = sight.version;
+    let offer = Offer {
+        base,
+        reads,
+        changes,
+        kept,
+    };
+    let (pass, outcome) = keeper.commit(alloc, arena, pass, &offer);
+    let _now = pass.words();
+    let Offer { reads, .. } = offer;
+    match outcome {
+        Ok(outcome) => {
+            let (at, reply) = replied(base, outcome);
+            let session = Session {
+                pass,
+                seen,
+                fresh,
+                open: None,
+            };
+            (session.carrying(at), reply)
+        }
+        Err(e) => {
+            let why = wanted(e);
+            let at = standing(seen, base, &why);
+            let transaction = Open {
+                sight,
+                changes: list,
+                reads,
+            };
+            let session = Session {
+                pass,
+                seen,
+                fresh,
+                open: Some(transaction),
+            };
+            (session.carrying(at), Reply::Refused { at, why })
+        }
+    }
+}
 
 /// COMMIT of the open transaction. One without actions commits nothing.
 pub(crate) fn commit<N: Site>(
@@ -29,8 +147,28 @@ pub(crate) fn commit<N: Site>(
     ensures executes { Executes N.log.cap (state_of session.pass session.seen session.fresh session.open) (state_of result.0.pass result.0.seen result.0.fresh result.0.open) session.pass.words result.0.pass.words statement.now result.1 }
 {
     let _words = session.pass.words();
-    let _ = (alloc, arena, keeper);
-    let at = session.seen;
-    let why = Refusal::Memory;
-    (session, Reply::Refused { at, why })
+    let Session {
+        pass,
+        seen,
+        fresh,
+        open,
+    } = session;
+    let Some(transaction) = open else {
+        unreachable!();
+    };
+    match transaction.changes {
+        None => {
+            let at = transaction.sight.version;
+            let session = Session {
+                pass,
+                seen,
+                fresh,
+                open: None,
+            };
+            (session.carrying(at), Reply::Nothing { at })
+        }
+        Some(changes) => offered(
+            alloc, arena, keeper, pass, seen, fresh, transaction, changes, statement,
+        ),
+    }
 }

@@ -67,6 +67,27 @@ fn inside<N: Site>(
     }
 }
 
+/// Executes a statement, in a transaction or outside.
+fn executed<N: Site>(
+    alloc: Global,
+    arena: &Arena<N>,
+    keeper: &mut Keeper<N>,
+    session: Session<N>,
+    statement: &Statement,
+) -> (Session<N>, Reply)
+    requires session { IsSession session.pass.words session.seen session.open }
+    requires few { session.pass.mine < 2 ^ 18 }
+    requires written { IsWritten statement.now }
+    ensures session { IsSession result.0.pass.words result.0.seen result.0.open }
+    ensures ended { keeper.new.ended ≡ keeper.old.ended }
+    ensures executes { Executes N.log.cap (state_of session.pass session.seen session.fresh session.open) (state_of result.0.pass result.0.seen result.0.fresh result.0.open) session.pass.words result.0.pass.words statement.now result.1 }
+{
+    match session.open {
+        None => outside(alloc, arena, keeper, session, statement),
+        Some(_) => inside(alloc, arena, keeper, session, statement),
+    }
+}
+
 /// Executes one statement text, and gives the session after it and the reply. The session has fewer than 2^18 commits.
 ///
 /// The reply is
@@ -103,10 +124,7 @@ pub fn execute<N: Site>(
             return (session, Reply::Refused { at, why });
         }
     };
-    let done = match session.open {
-        None => outside(alloc, arena, keeper, session, &statement),
-        Some(_) => inside(alloc, arena, keeper, session, &statement),
-    };
+    let done = executed(alloc, arena, keeper, session, &statement);
     // By a call, since a tree that is let go at the end of its scope is proved variant by variant.
     drop(statement);
     done

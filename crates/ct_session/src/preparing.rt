@@ -1,19 +1,30 @@
 // What a statement asks for, at what it sees.
 
-ghost use Rattle.std.specs.Prelude.{◌≡◌, IfOk, IfErr, IfSome, IsTrue};
+ghost use Rattle.std.specs.Prelude.{◌≡◌, List, length, IfOk, IfErr, IfSome, IsTrue};
 ghost use mathlib.Core.List.{IsPrefix};
 ghost use Rattle.ct_word.specs.declared.kinds.Class.TheVariants as class;
+ghost use Rattle.ct_word.specs.Change.{PlainChange};
 ghost use Rattle.ct_word.specs.WellFormed.{is_place_of};
 ghost use Rattle.ct_history.specs.Kept.{kept_of};
-ghost use Rattle.ct_statement.specs.Proposals.{listed};
+ghost use Rattle.ct_query.specs.Fits.{FitsAction, FitsStatement};
+ghost use Rattle.ct_query.specs.Plain as plain;
+ghost use Rattle.ct_query.specs.Reads.{reads_of};
+ghost use Rattle.ct_query.specs.Schema.{schema};
+ghost use Rattle.ct_query.specs.Views.{action_of, query_of, statement_of};
+ghost use Rattle.ct_query.specs.declared.action.Read.{Read as ReadValue};
+ghost use Rattle.ct_resolve.specs.Writing.{WritesAction, WritesStatement};
+ghost use Rattle.ct_statement.specs.Proposals.{IsProposal, listed};
 ghost use Rattle.ct_statement.specs.Sight.{IsSight, actions_before, history_of};
-ghost use Rattle.ct_session.specs.Prepared.{IsNoOrder, IsPrepared, IsRefused, needs_step};
+ghost use Rattle.ct_statement.specs.Unmet.{IsUnmet};
+ghost use Rattle.ct_session.specs.Prepared.{IsNoOrder, IsNoPlainOrder, IsPrepared, IsPreparedFor, IsRefused, IsStepIf, is_assertion, name_refusal, needs_step};
 ghost use Rattle.ct_session.specs.Statements.{IsWritten};
+ghost use Rattle.ct_session.specs.declared.preparing.Prepared.TheVariants as prepared;
 
 use ct_arena::{Arena, Pass, Site};
 use ct_parse::Statement;
-use ct_query::Read;
-use ct_statement::{Answered, Proposal, Sight, Step};
+use ct_query::{Action, Read, Resolved, reads};
+use ct_resolve::{ResolveError, resolve};
+use ct_statement::{Answered, Proposal, Sight, Step, answer_to, propose, step_of};
 use ct_transcript::Refusal;
 use ct_word::List;
 use std::alloc::Global;
@@ -31,6 +42,167 @@ pub enum Prepared {
         answered: Answered,
         reads: List<Read>,
     },
+}
+
+/// The refusal of a name or a count that does not fit.
+fn named(e: ResolveError) -> Refusal
+    ensures { result ≡ name_refusal e }
+{
+    match e {
+        ResolveError::UnknownTable => Refusal::UnknownTable,
+        ResolveError::TableExists => Refusal::TableExists,
+        ResolveError::UnknownColumn => Refusal::UnknownColumn,
+        ResolveError::AmbiguousColumn => Refusal::AmbiguousColumn,
+        ResolveError::DuplicateName => Refusal::DuplicateName,
+        ResolveError::ColumnCount => Refusal::ColumnCount,
+        ResolveError::Memory => Refusal::Memory,
+    }
+}
+
+/// Whether an action is an assertion.
+fn is_assertion(action: &Action) -> bool
+    ensures { result ≡ is_assertion (action_of action.now) }
+{
+    match action {
+        Action::Assert { .. } => true,
+        Action::Create { .. } => false,
+        Action::InsertRows { .. } => false,
+        Action::InsertQuery { .. } => false,
+        Action::Delete { .. } => false,
+    }
+}
+
+/// The step of a proposed action, in a transaction and for an assertion. The pass has the words of it.
+///
+/// # Errors
+/// As `step_of` has them.
+fn step_where_needed<N: Site>(
+    alloc: Global,
+    arena: &Arena<N>,
+    pass: &mut Pass<N>,
+    sight: &Sight,
+    inside: bool,
+    proposal: &Proposal,
+) -> Result<Option<Step>, Refusal>
+    requires sight { IsSight pass.old.words sight.now }
+    requires proposal { (list : List PlainChange) × IsProposal pass.old.words (history_of pass.old.words sight.now) (actions_before sight.now) list (action_of proposal.now.action) proposal.now.changes }
+    ensures longer { IsPrefix pass.old.words pass.new.words }
+    ensures kept { kept_of pass.new ≡ kept_of pass.old }
+    ensures step { IfOk result (IsStepIf pass.new.words sight.now (action_of proposal.now.action)) }
+    ensures needs { (reads : List ReadValue) → IfOk result (λ step. needs_step inside (prepared.Change proposal.now step reads)) }
+    ensures err { IfErr result (IsUnmet (history_of pass.old.words sight.now) (actions_before sight.now) N.log.cap pass.new.words (plain.Act (action_of proposal.now.action))) }
+{
+    if !inside {
+        if !is_assertion(&proposal.action) {
+            return Ok(None);
+        }
+    }
+    match step_of(alloc, arena, pass, sight, proposal) {
+        Ok(step) => Ok(Some(step)),
+        Err(why) => Err(why),
+    }
+}
+
+/// An action with these reads, as it is proposed. The pass has the words of it.
+///
+/// # Errors
+/// As `propose` and `step_of` have them.
+fn change<N: Site>(
+    alloc: Global,
+    arena: &Arena<N>,
+    pass: &mut Pass<N>,
+    sight: &Sight,
+    list: Option<u32>,
+    fresh: u32,
+    inside: bool,
+    action: Action,
+    reads: List<Read>,
+) -> Result<Prepared, Refusal>
+    requires sight { IsSight pass.old.words sight.now }
+    requires list { IfSome list (λ place. IsTrue (is_place_of pass.old.words class.ChangeList place)) }
+    requires fits { FitsAction (schema (history_of pass.old.words sight.now) (actions_before sight.now)).tables (action_of action) }
+    requires written { WritesAction (action_of action) }
+    requires reads { reads ≡ reads_of (plain.Act (action_of action)) }
+    ensures longer { IsPrefix pass.old.words pass.new.words }
+    ensures kept { kept_of pass.new ≡ kept_of pass.old }
+    ensures ok { IfOk result (IsPreparedFor pass.new.words (history_of pass.old.words sight.now) (actions_before sight.now) (listed pass.old.words list) fresh sight.now (plain.Act (action_of action))) }
+    ensures steps { IfOk result (needs_step inside) }
+    ensures err { IfErr result (IsUnmet (history_of pass.old.words sight.now) (actions_before sight.now) N.log.cap pass.new.words (plain.Act (action_of action))) }
+{
+    let proposal = match propose(alloc, arena, pass, sight, list, fresh, action) {
+        Ok(proposal) => proposal,
+        Err(why) => return Err(why),
+    };
+    // The words are well formed, which keeps what is seen as words are added.
+    let _ = pass.words();
+    let step = step_where_needed(alloc, arena, pass, sight, inside, &proposal);
+    let _words = pass.words();
+    match step {
+        Ok(step) => Ok(Prepared::Change {
+            proposal,
+            step,
+            reads,
+        }),
+        Err(why) => {
+            drop(proposal);
+            Err(why)
+        }
+    }
+}
+
+/// What a statement with positions asks for that is no BEGIN, COMMIT or ROLLBACK. The pass has the words of it.
+///
+/// # Errors
+/// `TooLarge`; `Full`; `TooManyTerms`; `Inconsistent`; `Memory`.
+#[tactic(auto, using(crate::proofs::Resolving::not_begin, crate::proofs::Resolving::not_commit, crate::proofs::Resolving::not_rollback))]
+fn perform<N: Site>(
+    alloc: Global,
+    arena: &Arena<N>,
+    pass: &mut Pass<N>,
+    sight: &Sight,
+    list: Option<u32>,
+    fresh: u32,
+    inside: bool,
+    resolved: Resolved,
+) -> Result<Prepared, Refusal>
+    requires sight { IsSight pass.old.words sight.now }
+    requires list { IfSome list (λ place. IsTrue (is_place_of pass.old.words class.ChangeList place)) }
+    requires fits { FitsStatement (schema (history_of pass.old.words sight.now) (actions_before sight.now)).tables (statement_of resolved) }
+    requires written { WritesStatement (statement_of resolved) }
+    requires plain { IsNoPlainOrder (statement_of resolved) }
+    ensures longer { IsPrefix pass.old.words pass.new.words }
+    ensures kept { kept_of pass.new ≡ kept_of pass.old }
+    ensures ok { IfOk result (IsPreparedFor pass.new.words (history_of pass.old.words sight.now) (actions_before sight.now) (listed pass.old.words list) fresh sight.now (statement_of resolved)) }
+    ensures steps { IfOk result (needs_step inside) }
+    ensures err { IfErr result (IsUnmet (history_of pass.old.words sight.now) (actions_before sight.now) N.log.cap pass.new.words (statement_of resolved)) }
+{
+    let reads = match reads(alloc, &resolved) {
+        Ok(reads) => reads,
+        Err(_) => {
+            drop(resolved);
+            return Err(Refusal::Memory);
+        }
+    };
+    match resolved {
+        Resolved::Act(action) => change(
+            alloc, arena, pass, sight, list, fresh, inside, action, reads,
+        ),
+        Resolved::Ask {
+            ask,
+            columns,
+            query,
+        } => {
+            let answered = answer_to(alloc, arena, pass, sight, ask, columns, &query);
+            drop(query);
+            match answered {
+                Ok(answered) => Ok(Prepared::Answer { answered, reads }),
+                Err(why) => Err(why),
+            }
+        }
+        Resolved::Begin => unreachable!(),
+        Resolved::Commit => unreachable!(),
+        Resolved::Rollback => unreachable!(),
+    }
 }
 
 /// What a statement asks for that is no BEGIN, COMMIT or ROLLBACK. The step of an action is made in a transaction, and for
@@ -58,5 +230,16 @@ pub(crate) fn prepare<N: Site>(
     ensures steps { IfOk result (needs_step inside) }
     ensures err { IfErr result (IsRefused (history_of pass.old.words sight.now) (actions_before sight.now) N.log.cap pass.new.words pass.old.session fresh statement.now) }
 {
-    Err(Refusal::Memory)
+    let session = pass.session();
+    let headings = sight.tables.db().headings();
+    let resolved = match resolve(alloc, headings, session, fresh, statement) {
+        Ok(resolved) => resolved,
+        Err(e) => return Err(named(e)),
+    };
+    match perform(
+        alloc, arena, pass, sight, list, fresh, inside, resolved,
+    ) {
+        Ok(prepared) => Ok(prepared),
+        Err(why) => Err(why),
+    }
 }

@@ -1,0 +1,123 @@
+use Rattle.std.proofs.Common.{refl, subst}
+use Rattle.std.specs.Prelude.{Some, None, Ok, Err}
+use Rattle.ct_keeper.specs.Offers.{BecomesOf}
+use Rattle.ct_word.proofs.Prefixes.{prefix_same}
+use Rattle.ct_transcript.specs.declared.reply.Reply.TheVariants as reply
+use Rattle.ct_session.specs.Sessions.{state_of}
+use Rattle.ct_session.proofs.Called.{IsCall}
+use Rattle.ct_session.proofs.Carrying.{carried_answers, carried_session}
+use Rattle.ct_session.proofs.Offered.{is_begun, is_offer}
+use Rattle.ct_session.proofs.Opened.{open_grows}
+use Rattle.ct_session.proofs.Replies.{memory_answers, proceeds_same}
+use Rattle.ct_session.proofs.Whole.{replied_answers, refused_answers, replied_seen, refused_seen}
+use Rattle.ct_session.proofs.committing.offered.Goals as goal
+
+pub returns-in-Err-clause-executes : goal.returns-in-Err-clause-executes
+returns-in-Err-clause-executes g c = λ x reads.
+    let pass = c.args.pass in
+    memory_answers g.N.Site.log.cap (state_of pass c.args.seen c.args.fresh (Some c.args.transaction)) pass.words x (proceeds_same g.N.Site.log.cap pass.session pass.words c.words-words.ensures.room)
+
+pub commit-pass-requires-clause-offer : goal.commit-pass-requires-clause-offer
+commit-pass-requires-clause-offer g c =
+    let o = c.args.transaction in
+    is_offer c.args.pass o.sight c.args.changes o.reads c.in-Ok.kept (is_begun c.args.pass.words o c.args.changes c.requires.begun c.requires.session.open_is) c.in-Ok.ensures
+
+pub returns-in-Ok-outcome-clause-session : goal.returns-in-Ok-outcome-clause-session
+returns-in-Ok-outcome-clause-session g c =
+    let N = g.N.Site.log.cap in
+    let pass = c.args.pass in
+    let o = c.args.transaction in
+    let b = is_begun pass.words o c.args.changes c.requires.begun c.requires.session.open_is in
+    let after = c.commit-pass.result.0 in
+    let k : IsCall N c.args.pass.words c.commit-pass.new.self c.args.pass c.commit-pass.result.0 = record {
+      first = prefix_same c.args.pass.words;
+      numbered = c.words-words.ensures.numbered;
+      known = c.words-words.ensures.numbered;
+      same = c.commit-pass.ensures.words;
+      longer = c.commit-pass.ensures.longer;
+      session = c.commit-pass.ensures.session;
+      counted = c.words-now.ensures.numbered;
+      room = c.words-now.ensures.room;
+    } in
+    let left = c.carrying.result in
+    let becomes = subst (BecomesOf N c.args.keeper.now c.commit-pass.new.self pass after (record { base = o.sight.version; reads = o.reads; changes = c.args.changes; kept = c.in-Ok.kept })) c.in-Ok-outcome.is c.commit-pass.ensures.outcome in
+    carried_session after left.pass c.args.seen left.seen c.args.fresh left.fresh c.replied-at.result.0 None left.open c.carrying.ensures.pass c.carrying.ensures.seen c.carrying.ensures.open (record {
+      seen_is = replied_seen N pass.words pass c.args.seen o.sight.version c.requires.session.seen_is b.sight_is.within c.args.keeper.now c.commit-pass.new.self after k (record { base = o.sight.version; reads = o.reads; changes = c.args.changes; kept = c.in-Ok.kept })
+          c.replied-at.result.0 c.in-Ok-outcome.outcome c.replied-at.ensures.version becomes;
+      open_is = tt;
+    })
+
+pub returns-in-Ok-outcome-clause-executes : goal.returns-in-Ok-outcome-clause-executes
+returns-in-Ok-outcome-clause-executes g c = λ x reads.
+    let N = g.N.Site.log.cap in
+    let pass = c.args.pass in
+    let o = c.args.transaction in
+    let b = is_begun pass.words o c.args.changes c.requires.begun c.requires.session.open_is in
+    let after = c.commit-pass.result.0 in
+    let k : IsCall N c.args.pass.words c.commit-pass.new.self c.args.pass c.commit-pass.result.0 = record {
+      first = prefix_same c.args.pass.words;
+      numbered = c.words-words.ensures.numbered;
+      known = c.words-words.ensures.numbered;
+      same = c.commit-pass.ensures.words;
+      longer = c.commit-pass.ensures.longer;
+      session = c.commit-pass.ensures.session;
+      counted = c.words-now.ensures.numbered;
+      room = c.words-now.ensures.room;
+    } in
+    let left = c.carrying.result in
+    let becomes = subst (BecomesOf N c.args.keeper.now c.commit-pass.new.self pass after (record { base = o.sight.version; reads = o.reads; changes = c.args.changes; kept = c.in-Ok.kept })) c.in-Ok-outcome.is c.commit-pass.ensures.outcome in
+    carried_answers after left.pass c.args.seen left.seen c.args.fresh left.fresh c.replied-at.result.0 None left.open c.carrying.ensures.pass c.carrying.ensures.state
+    N (state_of pass c.args.seen c.args.fresh (Some o)) pass.words x c.replied-at.result.1
+    (replied_answers N pass c.args.seen c.args.fresh o c.requires.session.open_is c.args.statement.now c.requires.order x reads c.args.changes b c.args.keeper.now c.commit-pass.new.self after k (record { base = o.sight.version; reads = o.reads; changes = c.args.changes; kept = c.in-Ok.kept }) refl refl refl
+    c.replied-at.result.0 c.replied-at.result.1 c.in-Ok-outcome.outcome c.replied-at.ensures.version c.replied-at.ensures.reply becomes)
+
+pub returns-in-Err-outcome-clause-session : goal.returns-in-Err-outcome-clause-session
+returns-in-Err-outcome-clause-session g c =
+    let N = g.N.Site.log.cap in
+    let pass = c.args.pass in
+    let o = c.args.transaction in
+    let b = is_begun pass.words o c.args.changes c.requires.begun c.requires.session.open_is in
+    let after = c.commit-pass.result.0 in
+    let k : IsCall N c.args.pass.words c.commit-pass.new.self c.args.pass c.commit-pass.result.0 = record {
+      first = prefix_same c.args.pass.words;
+      numbered = c.words-words.ensures.numbered;
+      known = c.words-words.ensures.numbered;
+      same = c.commit-pass.ensures.words;
+      longer = c.commit-pass.ensures.longer;
+      session = c.commit-pass.ensures.session;
+      counted = c.words-now.ensures.numbered;
+      room = c.words-now.ensures.room;
+    } in
+    let left = c.carrying-in-Err-outcome.result in
+    let at = c.standing-at.result in
+    carried_session after left.pass c.args.seen left.seen c.args.fresh left.fresh at (Some o) left.open c.carrying-in-Err-outcome.ensures.pass c.carrying-in-Err-outcome.ensures.seen c.carrying-in-Err-outcome.ensures.open
+    (record {
+      seen_is = refused_seen N pass.words pass c.args.seen o.sight.version c.requires.session.seen_is b.sight_is.within c.args.keeper.now c.commit-pass.new.self after k
+          at c.wanted-why.result c.standing-at.ensures;
+      open_is = open_grows pass.words after.words c.commit-pass.ensures.longer c.words-now.ensures.formed o c.requires.session.open_is;
+    })
+
+pub returns-in-Err-outcome-clause-executes : goal.returns-in-Err-outcome-clause-executes
+returns-in-Err-outcome-clause-executes g c = λ x reads.
+    let N = g.N.Site.log.cap in
+    let pass = c.args.pass in
+    let o = c.args.transaction in
+    let b = is_begun pass.words o c.args.changes c.requires.begun c.requires.session.open_is in
+    let after = c.commit-pass.result.0 in
+    let k : IsCall N c.args.pass.words c.commit-pass.new.self c.args.pass c.commit-pass.result.0 = record {
+      first = prefix_same c.args.pass.words;
+      numbered = c.words-words.ensures.numbered;
+      known = c.words-words.ensures.numbered;
+      same = c.commit-pass.ensures.words;
+      longer = c.commit-pass.ensures.longer;
+      session = c.commit-pass.ensures.session;
+      counted = c.words-now.ensures.numbered;
+      room = c.words-now.ensures.room;
+    } in
+    let left = c.carrying-in-Err-outcome.result in
+    let at = c.standing-at.result in
+    let becomes = subst (BecomesOf N c.args.keeper.now c.commit-pass.new.self pass after (record { base = o.sight.version; reads = o.reads; changes = c.args.changes; kept = c.in-Ok.kept })) c.in-Err-outcome.is c.commit-pass.ensures.outcome in
+    carried_answers after left.pass c.args.seen left.seen c.args.fresh left.fresh at (Some o) left.open c.carrying-in-Err-outcome.ensures.pass c.carrying-in-Err-outcome.ensures.state
+    N (state_of pass c.args.seen c.args.fresh (Some o)) pass.words x (reply.Refused at c.wanted-why.result)
+    (refused_answers N pass c.args.seen c.args.fresh o c.requires.session.open_is c.args.statement.now c.requires.order x reads c.args.changes b c.args.keeper.now c.commit-pass.new.self after k (record { base = o.sight.version; reads = o.reads; changes = c.args.changes; kept = c.in-Ok.kept }) refl refl refl
+    at c.wanted-why.result c.in-Err-outcome.e c.wanted-why.ensures c.standing-at.ensures becomes)

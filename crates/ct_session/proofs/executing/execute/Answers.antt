@@ -1,0 +1,17 @@
+use Rattle.ct_session.specs.Sessions.{state_of}
+use Rattle.ct_session.proofs.Readings.{is_written}
+use Rattle.ct_session.proofs.Replies.{proceeds_same}
+use Rattle.ct_session.proofs.Unread.{unread_answers}
+use Rattle.ct_session.proofs.executing.execute.Goals as goal
+
+pub executed-done-requires-clause-written : goal.executed-done-requires-clause-written
+executed-done-requires-clause-written g c = is_written c.args.text.now c.in-Ok.statement c.in-Ok.ensures.ok
+
+pub returns-clause-answers : goal.returns-clause-answers
+returns-clause-answers g c = c.executed-done.ensures.executes c.args.text.now c.in-Ok.ensures.ok
+
+pub returns-in-Err-clause-answers : goal.returns-in-Err-clause-answers
+returns-in-Err-clause-answers g c =
+    let s = c.args.session in
+    let N = g.N.Site.log.cap in
+    unread_answers N (state_of s.pass s.seen s.fresh s.open) s.pass.words c.args.text.now (proceeds_same N s.pass.session s.pass.words c.words.ensures.room) c.in-Err.why c.in-Err.ensures.fault

@@ -1,0 +1,46 @@
+use Rattle.std.proofs.Common.{ap, sym, subst}
+use Rattle.ct_query.specs.Plain as plain
+use Rattle.ct_query.specs.Views.{action_of}
+use Rattle.ct_statement.specs.Proposals.{IsProposal, listed}
+use Rattle.ct_statement.specs.Sight.{actions_before, history_of}
+use Rattle.ct_statement.specs.Unmet.{IsUnmet}
+use Rattle.ct_session.specs.Prepared.{IsStepIf}
+use Rattle.ct_session.proofs.Proposed.{same_history, proposal_grows}
+use Rattle.ct_session.proofs.Sights.{sight_grows}
+use Rattle.ct_session.proofs.preparing.change.Goals as goal
+
+pub step_where_needed-step-requires-clause-sight : goal.step_where_needed-step-requires-clause-sight
+step_where_needed-step-requires-clause-sight g c =
+    sight_grows c.args.pass.now.words c.propose.new.pass.words c.propose.ensures.longer c.words.ensures.formed c.args.sight.now c.requires.sight
+
+pub step_where_needed-step-requires-clause-proposal : goal.step_where_needed-step-requires-clause-proposal
+step_where_needed-step-requires-clause-proposal g c =
+    let old = c.args.pass.now.words in
+    let new = c.propose.new.pass.words in
+    let s = c.args.sight.now in
+    let list = listed old c.args.list in
+    (list,
+    subst (λ h. IsProposal new h (actions_before s) list (action_of c.in-Ok.proposal.action) c.in-Ok.proposal.changes) (same_history old new c.propose.ensures.longer s c.requires.sight.within)
+    (subst (λ a. IsProposal new (history_of old s) (actions_before s) list a c.in-Ok.proposal.changes) (sym c.in-Ok.ensures.action) c.in-Ok.ensures.proposes))
+
+pub returns-in-Ok-step-clause-ok : goal.returns-in-Ok-step-clause-ok
+returns-in-Ok-step-clause-ok g c =
+    let old = c.args.pass.now.words in
+    let s = c.args.sight.now in
+    let new = c.step_where_needed-step.new.pass.words in
+    (record {
+      action = c.in-Ok.ensures.action;
+      proposes = proposal_grows c.propose.new.pass.words new c.step_where_needed-step.ensures.longer (history_of old s) (actions_before s) (listed old c.args.list) (action_of c.args.action)
+          c.in-Ok.proposal.changes c.in-Ok.ensures.proposes;
+      draws = c.in-Ok.ensures.fresh;
+      steps = subst (λ a. IsStepIf new s a c.in-Ok-step.step) c.in-Ok.ensures.action c.in-Ok-step.ensures.step;
+    }, c.requires.reads)
+
+pub returns-in-Err-step-clause-err : goal.returns-in-Err-step-clause-err
+returns-in-Err-step-clause-err g c =
+    let old = c.args.pass.now.words in
+    let mid = c.propose.new.pass.words in
+    let new = c.step_where_needed-step.new.pass.words in
+    let s = c.args.sight.now in
+    subst (λ h. IsUnmet h (actions_before s) g.N.Site.log.cap new (plain.Act (action_of c.args.action)) c.in-Err-step.why) (sym (same_history old mid c.propose.ensures.longer s c.requires.sight.within))
+    (subst (λ a. IsUnmet (history_of mid s) (actions_before s) g.N.Site.log.cap new (plain.Act a) c.in-Err-step.why) c.in-Ok.ensures.action c.in-Err-step.ensures.err)
