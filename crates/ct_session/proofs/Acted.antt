@@ -172,7 +172,7 @@ module _ (N : ℕ) (pass : Seen) (seen fresh : ℕ) (sight : Sight) (within : si
   not_nothing e = let bad = ap length (sym e ∙ one_change) in omega (arith, bad)
 
   -- no later commit has written what it read
-  pub not_conflict : (table : Read) (was now at : ℕ) → MeetsLater old offer table was now at → ⊥
+  pub not_conflict : (table : Read) (was now at : ℕ) → MeetsLater (commits_of old.words) offer.base offer.reads table was now at → ⊥
   not_conflict table was now at meets =
       let written = meets.first.written in
       let most = last_within (commits_of old.words) table in
