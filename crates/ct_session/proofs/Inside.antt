@@ -137,3 +137,9 @@ module _ (N : ℕ) (pass : Seen) (seen fresh : ℕ) (o : Open) (k : IsSession pa
               leaves = (kept, sym (on.keeps.admitted kept (actions_before o.sight ++ action_of p.action ∷ [])) ∙ left.admitted);
               next_is = λ i. record { session = pass.session; seen = max seen o.sight.version; fresh = draws i; commits = pass.mine; transaction = Some (e i) };
             }
+
+-- what is executed in a transaction is executed so in one of the same base, actions and reads
+pub executes_as : (N : ℕ) (pass : Seen) (seen fresh : ℕ) (o o' : Open) (next : SessionState) (words now : List ℕ) (st : Statement) (r : Reply) → transaction_of o' ≡ transaction_of o
+    → Executes N (state_of pass seen fresh (Some o')) next words now st r → Executes N (state_of pass seen fresh (Some o)) next words now st r
+executes_as N pass seen fresh o o' next words now st r e x =
+    subst (λ (s : SessionState). Executes N s next words now st r) (λ i. record { session = pass.session; seen = seen; fresh = fresh; commits = pass.mine; transaction = Some (e i) }) x

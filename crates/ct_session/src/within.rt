@@ -203,11 +203,13 @@ pub(crate) fn within<N: Site>(
         Ok(
             Prepared::Change {
                 proposal,
-                step: Some(step),
+                step,
                 reads,
             },
-        ) => change(alloc, inside, statement, proposal, step, reads),
-        Ok(Prepared::Change { .. }) => unreachable!(),
+        ) => {
+            let Some(step) = step else { unreachable!() };
+            change(alloc, inside, statement, proposal, step, reads)
+        }
         Err(why) => refused(inside, statement, why),
     }
 }
