@@ -141,7 +141,7 @@ module _ (pass : Seen) (fresh : ℕ) (sight : Sight) (sees : IsSight pass.words 
   left_by (Some s) some is = subst (λ before. IsKeptWorld pass.words h (before ++ f.action ∷ []) (world_offered (arc_value sight.kept) (Some s))) none is.world
 
   module _ (needs : needs_step false (prepared.Change proposal step reads)) (kept : World) (same : kept ≡ world_offered (arc_value sight.kept) step) where
-    offered : Offer
+    abbrev offered : Offer
     offered = record { base = sight.version; reads = reads; changes = proposal.changes; kept = kept }
 
     pub action_offer : IsOffer pass (record { base = sight.version; reads = reads; changes = proposal.changes; kept = kept })

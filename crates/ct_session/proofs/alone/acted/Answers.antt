@@ -71,8 +71,8 @@ number_of-at-requires g c =
     is_commit N pass c.args.seen c.args.fresh s c.requires.sight.within c.requires.seen st c.args.proposal c.args.step c.args.reads f c.args.keeper.now c.commit-pass.new.self c.requires.newest after k (record { base = s.version; reads = c.args.reads; changes = c.args.proposal.changes; kept = c.in-Ok.kept }) refl refl
     c.in-Ok-outcome.outcome becomes
 
-pub returns-in-Err-outcome-clause-executes : goal.returns-in-Err-outcome-clause-executes
-returns-in-Err-outcome-clause-executes g c = λ x reads.
+pub returns-clause-executes : goal.returns-clause-executes
+returns-clause-executes g c = λ x reads.
     let N = g.N.Site.log.cap in
     let pass = c.args.pass in
     let s = c.args.sight in
