@@ -34,6 +34,8 @@ use Rattle.ct_keeper.specs.declared.error.KeeperError.{KeeperError}
 use Rattle.ct_keeper.specs.declared.error.KeeperError.TheVariants as fault
 use Rattle.ct_keeper.specs.Offers.{BecomesOf, IsOffer, IsCommitted, IsUncommitted, IsConflict as MeetsLater, commit_for, changes_in, has_assertion}
 use Rattle.ct_keeper.specs.declared.catalogue.Offer.{Offer}
+use Rattle.ct_keeper.specs.declared.catalogue.Outcome.{Outcome}
+use Rattle.ct_keeper.specs.declared.catalogue.Outcome.TheVariants as outcome
 use Rattle.ct_table.specs.Snapshot.{IsKeptWorld}
 use Rattle.ct_parse.specs.declared.tree.Statement.{Statement}
 use Rattle.ct_resolve.specs.Statements.{resolved}
@@ -48,7 +50,7 @@ use Rattle.ct_statement.specs.Proposals.{IsProposal}
 use Rattle.ct_statement.specs.Sight.{actions_before, history_of, IsSight}
 use Rattle.ct_session.specs.Answers.{GoesOn, Answers}
 use Rattle.ct_session.specs.LawfulReply.{IsCommittedAlone}
-use Rattle.ct_session.specs.Outcomes.{wanted, world_offered}
+use Rattle.ct_session.specs.Outcomes.{IsCommit, wanted, world_offered}
 use Rattle.ct_session.specs.Replying.{standing}
 use Rattle.ct_session.specs.Prepared.{IsChange, IsPrepared, IsPreparedFor, IsStepIf, needs_step}
 use Rattle.ct_session.specs.declared.preparing.Prepared.TheVariants as prepared
@@ -61,6 +63,13 @@ use Rattle.ct_session.proofs.Offered.{creates_all, asserts_read}
 use Rattle.ct_session.proofs.Own.{own_commits_stay}
 use Rattle.ct_session.proofs.Replies.{Proceeds, answers_uncommitted, carried_same, memory_answers}
 use Rattle.ct_session.proofs.Whole.{last_within}
+
+-- an outcome that is a commit is no other one
+pub commit_not_nothing : (o : Outcome) → IsCommit o → o ≡ outcome.Nothing → ⊥
+commit_not_nothing o is e = subst IsCommit e is
+
+pub commit_not_conflict : (o : Outcome) (table : Read) (was now at : ℕ) → IsCommit o → o ≡ outcome.Conflict table was now at → ⊥
+commit_not_conflict o table was now at is e = subst IsCommit e is
 
 -- what an action outside a transaction was prepared for
 pub record ForAction (words : List ℕ) (session fresh : ℕ) (sight : Sight) (st : Statement) (proposal : Proposal) (step : Option Step) (reads : List Read) : Type 0 where
@@ -132,7 +141,7 @@ module _ (pass : Seen) (fresh : ℕ) (sight : Sight) (sees : IsSight pass.words 
   left_by (Some s) some is = subst (λ before. IsKeptWorld pass.words h (before ++ f.action ∷ []) (world_offered (arc_value sight.kept) (Some s))) none is.world
 
   module _ (needs : needs_step false (prepared.Change proposal step reads)) (kept : World) (same : kept ≡ world_offered (arc_value sight.kept) step) where
-    offered : Offer
+    abbrev offered : Offer
     offered = record { base = sight.version; reads = reads; changes = proposal.changes; kept = kept }
 
     pub action_offer : IsOffer pass (record { base = sight.version; reads = reads; changes = proposal.changes; kept = kept })
@@ -168,17 +177,23 @@ module _ (N : ℕ) (pass : Seen) (seen fresh : ℕ) (sight : Sight) (within : si
   one_change = ap (change_list_at pass.words) changes_are ∙ f.proposes.list_is
 
   -- it has changes
-  pub not_nothing : changes_in pass.words offer ≡ [] → ⊥
+  not_nothing : changes_in pass.words offer ≡ [] → ⊥
   not_nothing e = let bad = ap length (sym e ∙ one_change) in omega (arith, bad)
 
   -- no later commit has written what it read
-  pub not_conflict : (table : Read) (was now at : ℕ) → MeetsLater old offer table was now at → ⊥
+  not_conflict : (table : Read) (was now at : ℕ) → MeetsLater (commits_of old.words) offer.base offer.reads table was now at → ⊥
   not_conflict table was now at meets =
       let written = meets.first.written in
       let most = last_within (commits_of old.words) table in
       let same = base_is in
       let all = newest in
       omega (arith, written, most, same, all)
+
+  -- so it becomes a commit, where nothing is wanting
+  pub is_commit : (out : Outcome) → BecomesOf N old new pass pass' offer (Ok out) → IsCommit out
+  is_commit (outcome.Committed m) is = tt
+  is_commit outcome.Nothing f' = absurd (not_nothing f'.1)
+  is_commit (outcome.Conflict table was now at) f' = absurd (not_conflict table was now at f'.2)
 
   -- it has become a commit
   module _ (m : ℕ) (is : IsCommitted old new pass pass' offer m) where
@@ -193,7 +208,7 @@ module _ (N : ℕ) (pass : Seen) (seen fresh : ℕ) (sight : Sight) (within : si
     all_seen : length (commits_of pass.words) ≤ length g
     all_seen = prefix_short (commits_of pass.words) g (seen_before N pass.words old new pass pass' offer m k is)
 
-    after : SessionState
+    abbrev after : SessionState
     after = carried m (record s { fresh = s.fresh + drawn f.action; commits = s.commits + 1 })
 
     module _ (x : List ℕ) (read : ReadsAs x st) where

@@ -20,10 +20,10 @@ use Rattle.ct_session.proofs.Counted.{front_before, front_and_one}
 use Rattle.ct_session.proofs.Sameness.{StandsAs, commits_back, same_commit}
 
 -- a prefix is no longer, and its length takes it
-short_front : {A : Type 0} (xs ys : List A) → IsPrefix xs ys → length xs ≤ length ys
+pub short_front : {A : Type 0} (xs ys : List A) → IsPrefix xs ys → length xs ≤ length ys
 short_front xs ys p = let sum : length (xs ++ p.0) ≡ length ys = ap length p.1 in omega (arith, length-append xs p.0, sum)
 
-front_taken : {A : Type 0} (n : ℕ) (xs ys : List A) → IsPrefix xs ys → n ≤ length xs → take n ys ≡ take n xs
+pub front_taken : {A : Type 0} (n : ℕ) (xs ys : List A) → IsPrefix xs ys → n ≤ length xs → take n ys ≡ take n xs
 front_taken n xs ys p le = ap (take n) (sym p.1) ∙ take-append-le n xs p.0 le
 
 -- a call of the keeper's by a session: what it has seen before, these words at its statement's beginning, and after

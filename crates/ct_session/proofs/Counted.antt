@@ -9,32 +9,15 @@ use mathlib.Core.List.{IsPrefix}
 use Rattle.ct_word.specs.Change.{PlainCommit}
 use Rattle.ct_arena.specs.Counts.{numbers_by}
 use Rattle.ct_session.specs.Answers.{commits_by}
-use Rattle.ct_session.proofs.Own.{commits_split, one_by}
-
-numbers_both : (s : ℕ) (cs ds : List PlainCommit) → numbers_by s (cs ++ ds) ≡ numbers_by s cs ++ numbers_by s ds
-numbers_both s [] ds = refl
-numbers_both s (c ∷ cs) ds = by_test (nat_eq c.session s) (numbers_both s cs ds) where
-  by_test : (b : Bool) → numbers_by s (cs ++ ds) ≡ numbers_by s cs ++ numbers_by s ds
-      → (if b then c.number ∷ numbers_by s (cs ++ ds) else numbers_by s (cs ++ ds)) ≡ (if b then c.number ∷ numbers_by s cs else numbers_by s cs) ++ numbers_by s ds
-  by_test true rest = ap (λ l. c.number ∷ l) rest
-  by_test false rest = rest
-
--- a session without a number has no commit
-no_commit : (s m : ℕ) (cs : List PlainCommit) → length (numbers_by s cs) ≡ 0 → commits_by s m cs ≡ []
-no_commit s m [] e = refl
-no_commit s m (c ∷ cs) e = by_test (nat_eq c.session s) (no_commit s (m + 1) cs) e where
-  by_test : (b : Bool) → (length (numbers_by s cs) ≡ 0 → commits_by s (m + 1) cs ≡ []) → length (if b then c.number ∷ numbers_by s cs else numbers_by s cs) ≡ 0
-      → (if b then m ∷ commits_by s (m + 1) cs else commits_by s (m + 1) cs) ≡ []
-  by_test true rest none = absurd (let bad : length (c.number ∷ numbers_by s cs) ≡ 0 = none in omega (arith, bad))
-  by_test false rest none = rest none
+use Rattle.ct_session.proofs.Own.{numbers_split, commits_split, one_by, none_by}
 
 -- a history whose front has all commits of the session has the same ones
 pub front_same : (s : ℕ) (front whole : List PlainCommit) → IsPrefix front whole → length (numbers_by s whole) ≡ length (numbers_by s front) → commits_by s 1 whole ≡ commits_by s 1 front
 front_same s front whole p as_many =
-    ap (commits_by s 1) (sym p.1) ∙ commits_split s 1 front p.0 ∙ ap (λ l. commits_by s 1 front ++ l) (no_commit s (1 + length front) p.0 none) ∙ append-nil (commits_by s 1 front) where
+    ap (commits_by s 1) (sym p.1) ∙ commits_split s 1 front p.0 ∙ ap (λ l. commits_by s 1 front ++ l) (none_by s (1 + length front) p.0 none) ∙ append-nil (commits_by s 1 front) where
       none : length (numbers_by s p.0) ≡ 0
       none =
-          let both = ap length (sym (numbers_both s front p.0) ∙ ap (numbers_by s) p.1) in
+          let both = ap length (sym (numbers_split s front p.0) ∙ ap (numbers_by s) p.1) in
           omega (arith, length-append (numbers_by s front) (numbers_by s p.0), both, as_many)
 
 -- what is at the front of a history and one commit more, and has one commit of the session less, is at the front of the history
@@ -68,6 +51,6 @@ front_and_one s n front h c own p few all =
 
       as_many : length (numbers_by s h) ≡ length (numbers_by s front)
       as_many =
-          let both = ap length (sym (numbers_both s h (c ∷ [])) ∙ all) in
+          let both = ap length (sym (numbers_split s h (c ∷ [])) ∙ all) in
           let less = ap length few in
           omega (arith, length-append (numbers_by s h) (numbers_by s (c ∷ [])), one, both, less, length-range_with_len 0 n, length-range_with_len 0 (n + 1))

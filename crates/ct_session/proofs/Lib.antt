@@ -17,8 +17,6 @@ pub mod Offered
 pub mod Whole
 pub mod Acted
 pub mod Unread
-pub mod Stepped
 pub mod Carrying
 pub mod Proposed
 pub mod Outside
-pub mod Placed

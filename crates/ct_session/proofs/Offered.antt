@@ -34,7 +34,7 @@ use Rattle.ct_session.specs.Sessions.{IsBegunList, IsOpen}
 
 -- changes that agree with actions create what these read, and assert only where they read the worlds
 module _ (h : List PlainCommit) (P : Read → Type 0) where
-  creates_all : (before actions : List PlainAction) (xs : List PlainChange) → AgreesAfter h before actions xs → AllByRecursion P (reads_of_actions actions) → AllByRecursion P (creates xs)
+  pub creates_all : (before actions : List PlainAction) (xs : List PlainChange) → AgreesAfter h before actions xs → AllByRecursion P (reads_of_actions actions) → AllByRecursion P (creates xs)
   creates_all before [] [] f all = tt
   creates_all before (a ∷ actions) (x ∷ xs) f all =
       let parts = all_parts P (action_reads a) (reads_of_actions actions) all in
@@ -48,7 +48,7 @@ module _ (h : List PlainCommit) (P : Read → Type 0) where
         by_first _ _ g own rest = absurd g
   creates_all before _ _ f all = absurd f
 
-  asserts_read : (before actions : List PlainAction) (xs : List PlainChange) → AgreesAfter h before actions xs → AllByRecursion P (reads_of_actions actions) → has_assertion xs → P read.Worlds
+  pub asserts_read : (before actions : List PlainAction) (xs : List PlainChange) → AgreesAfter h before actions xs → AllByRecursion P (reads_of_actions actions) → has_assertion xs → P read.Worlds
   asserts_read before [] [] f all some = absurd (false≢true some)
   asserts_read before (a ∷ actions) (x ∷ xs) f all some =
       let parts = all_parts P (action_reads a) (reads_of_actions actions) all in

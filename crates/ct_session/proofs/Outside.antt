@@ -1,6 +1,7 @@
 -- A statement outside a transaction, at the newest version: what was prepared for it, over further words, and its reply.
 use Rattle.std.proofs.Common.{◌≡◌, ℕ, ◌≤◌, List, [], ◌∷◌, length, refl, ap, sym, subst, ◌∙◌}
-use Rattle.std.specs.Prelude.{None}
+use Rattle.std.specs.Prelude.{Option, Some, None, IsNone, Ok}
+use Rattle.std.proofs.lemmas.Bool.{false≢true}
 use mathlib.Core.List.{IsPrefix}
 use Rattle.ct_word.specs.Change.{PlainCommit}
 use Rattle.ct_word.specs.Reading.{commits_of}
@@ -16,6 +17,7 @@ use Rattle.ct_transcript.specs.declared.reply.Refusal.{Refusal}
 use Rattle.ct_statement.specs.declared.replying.Answered.{Answered}
 use Rattle.ct_statement.specs.declared.sight.Sight.{Sight}
 use Rattle.ct_statement.specs.Sight.{actions_before, history_of}
+use Rattle.ct_session.specs.declared.session.Open.{Open}
 use Rattle.ct_session.specs.Answers.{Answers}
 use Rattle.ct_session.specs.Prepared.{IsPrepared, IsRefused}
 use Rattle.ct_session.specs.Replying.{reply_of, standing}
@@ -28,6 +30,11 @@ use Rattle.ct_session.specs.declared.preparing.Prepared.TheVariants as prepared
 use Rattle.ct_session.proofs.Ordered.{state_same}
 use Rattle.ct_session.proofs.Proposed.{same_history}
 use Rattle.ct_session.proofs.Replies.{Proceeds, ForAnswer, prepared_answer, answered_answers, refused_answers}
+
+-- none is open
+pub none_open : (o : Option Open) → IsNone o → o ≡ None
+none_open None n = refl
+none_open (Some o) n = absurd (false≢true (sym n))
 
 -- a pass with the same tally is of the same session with as many commits
 pub kept_tally : (pass pass' : Seen) → tally_of pass' ≡ tally_of pass → kept_of pass' ≡ kept_of pass

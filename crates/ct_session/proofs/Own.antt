@@ -12,7 +12,7 @@ use Rattle.ct_word.proofs.Prefixes.{commits_prefix}
 use Rattle.ct_arena.specs.Counts.{numbers_by, AreNumbered}
 use Rattle.ct_session.specs.Answers.{commits_by}
 
-numbers_split : (s : ℕ) (cs ds : List PlainCommit) → numbers_by s (cs ++ ds) ≡ numbers_by s cs ++ numbers_by s ds
+pub numbers_split : (s : ℕ) (cs ds : List PlainCommit) → numbers_by s (cs ++ ds) ≡ numbers_by s cs ++ numbers_by s ds
 numbers_split s [] ds = refl
 numbers_split s (c ∷ cs) ds = by_test (nat_eq c.session s) (numbers_split s cs ds) where
   by_test : (b : Bool) → numbers_by s (cs ++ ds) ≡ numbers_by s cs ++ numbers_by s ds
@@ -38,7 +38,7 @@ pub one_by : (s m : ℕ) (c : PlainCommit) → c.session ≡ s → commits_by s 
 one_by s m c e = ap (λ b. if b then m ∷ [] else []) (eq-eqb c.session s e)
 
 -- a session without a number has no commit
-none_by : (s m : ℕ) (cs : List PlainCommit) → length (numbers_by s cs) ≡ 0 → commits_by s m cs ≡ []
+pub none_by : (s m : ℕ) (cs : List PlainCommit) → length (numbers_by s cs) ≡ 0 → commits_by s m cs ≡ []
 none_by s m [] e = refl
 none_by s m (c ∷ cs) e = by_test (nat_eq c.session s) (none_by s (m + 1) cs) e where
   by_test : (b : Bool) → (length (numbers_by s cs) ≡ 0 → commits_by s (m + 1) cs ≡ []) → length (if b then c.number ∷ numbers_by s cs else numbers_by s cs) ≡ 0

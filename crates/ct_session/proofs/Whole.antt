@@ -213,7 +213,7 @@ module _ (N : ℕ) (pass : Seen) (seen fresh : ℕ) (o : Open) (open' : IsOpen p
               some_open e = cc
 
         -- a later commit has written what was read
-        module _ (table : Read) (was now at : ℕ) (meets : MeetsLater old offer table was now at) where
+        module _ (table : Read) (was now at : ℕ) (meets : MeetsLater (commits_of old.words) offer.base offer.reads table was now at) where
           same_commits : commits_of old.words ≡ commits_of pass'.words
           same_commits = sym (ap commits_of k.same ∙ u.stays.commits)
 

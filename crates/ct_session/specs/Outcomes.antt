@@ -17,6 +17,11 @@ abbrev pub world_offered : World → Option Step → World
 world_offered kept None = []
 world_offered kept (Some step) = kept_after kept step.kept
 
+-- an offer has become a commit
+abbrev pub IsCommit : Outcome → Type 0
+IsCommit (outcome.Committed m) = Unit {0}
+IsCommit _ = ⊥
+
 -- the reply to an offer with this base
 abbrev pub outcome_reply : ℕ → Outcome → Reply
 outcome_reply base (outcome.Committed m) = reply.Committed m

@@ -1,10 +1,11 @@
 // A statement outside a transaction that is no order.
 
-ghost use Rattle.std.specs.Prelude.{◌≡◌, ◌<◌, ◌≤◌, ◌^◌, [], None, IfOk, IsNone};
+ghost use Rattle.std.specs.Prelude.{◌≡◌, ◌<◌, ◌≤◌, ◌^◌, [], None, false, IfOk, IsNone};
 ghost use Rattle.ct_keeper.specs.Catalogue.{version_of};
+ghost use Rattle.ct_keeper.specs.declared.catalogue.Outcome.TheVariants as became;
 ghost use Rattle.ct_statement.specs.Sight.{IsSight, actions_before, history_of};
 ghost use Rattle.ct_session.specs.Executes.{Executes};
-ghost use Rattle.ct_session.specs.Outcomes.{world_offered};
+ghost use Rattle.ct_session.specs.Outcomes.{IsCommit, world_offered};
 ghost use Rattle.ct_session.specs.Prepared.{IsNoOrder, IsPrepared, needs_step};
 ghost use Rattle.ct_session.specs.Sessions.{IsSession, state_of};
 ghost use Rattle.ct_session.specs.Statements.{IsWritten};
@@ -42,6 +43,19 @@ fn world_of(alloc: Global, sight: &Sight, step: Option<Step>) -> Result<World, M
                 None => copied(alloc, &sight.kept),
             }
         }
+    }
+}
+
+/// The number of the commit that an offer has become.
+#[tactic(auto, using(crate::proofs::Acted::commit_not_nothing, crate::proofs::Acted::commit_not_conflict))]
+fn number_of(outcome: Outcome) -> u32
+    requires { IsCommit outcome }
+    ensures { outcome ≡ became.Committed result }
+{
+    match outcome {
+        Outcome::Committed(at) => at,
+        Outcome::Nothing => unreachable!(),
+        Outcome::Conflict { .. } => unreachable!(),
     }
 }
 
@@ -100,7 +114,8 @@ fn acted<N: Site>(
     let (pass, outcome) = keeper.commit(alloc, arena, pass, &offer);
     let _now = pass.words();
     match outcome {
-        Ok(Outcome::Committed(at)) => {
+        Ok(outcome) => {
+            let at = number_of(outcome);
             let session = Session {
                 pass,
                 seen,
@@ -109,8 +124,6 @@ fn acted<N: Site>(
             };
             (session.carrying(at), Reply::Committed { at })
         }
-        Ok(Outcome::Nothing) => unreachable!(),
-        Ok(Outcome::Conflict { .. }) => unreachable!(),
         Err(e) => {
             let why = wanted(e);
             let at = standing(seen, base, &why);
@@ -174,7 +187,8 @@ pub(crate) fn alone<N: Site>(
     let _now = pass.words();
     let session = Session { pass, seen, fresh, open: None };
     match prepared {
-        Ok(Prepared::Answer { answered, .. }) => {
+        Ok(Prepared::Answer { answered, reads }) => {
+            drop(reads);
             (session.carrying(at), reply_of(at, 0, answered))
         }
         Ok(Prepared::Change { proposal, step, reads }) => acted(

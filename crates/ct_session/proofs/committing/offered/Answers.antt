@@ -1,4 +1,4 @@
-use Rattle.std.proofs.Common.{refl, subst}
+use Rattle.std.proofs.Common.{refl, subst, ◌∙◌}
 use Rattle.std.specs.Prelude.{Some, None, Ok, Err}
 use Rattle.ct_keeper.specs.Offers.{BecomesOf}
 use Rattle.ct_word.proofs.Prefixes.{prefix_same}
@@ -15,12 +15,12 @@ use Rattle.ct_session.proofs.committing.offered.Goals as goal
 pub returns-in-Err-clause-executes : goal.returns-in-Err-clause-executes
 returns-in-Err-clause-executes g c = λ x reads.
     let pass = c.args.pass in
-    memory_answers g.N.Site.log.cap (state_of pass c.args.seen c.args.fresh (Some c.args.transaction)) pass.words x (proceeds_same g.N.Site.log.cap pass.session pass.words c.words-words.ensures.room)
+    memory_answers g.N.Site.log.cap (state_of pass c.args.seen c.args.fresh (Some c.args.transaction)) pass.words pass.words x (proceeds_same g.N.Site.log.cap pass.session pass.words c.words-words.ensures.room)
 
 pub commit-pass-requires-clause-offer : goal.commit-pass-requires-clause-offer
 commit-pass-requires-clause-offer g c =
     let o = c.args.transaction in
-    is_offer c.args.pass o.sight c.args.changes o.reads c.in-Ok.kept (is_begun c.args.pass.words o c.args.changes c.requires.begun c.requires.session.open_is) c.in-Ok.ensures
+    is_offer c.args.pass o.sight c.args.changes o.reads c.in-Ok.kept (is_begun c.args.pass.words o c.args.changes c.requires.begun c.requires.session.open_is) (c.in-Ok.ensures ∙ c.deref.ensures)
 
 pub returns-in-Ok-outcome-clause-session : goal.returns-in-Ok-outcome-clause-session
 returns-in-Ok-outcome-clause-session g c =
