@@ -1,6 +1,6 @@
 -- The changes of a transaction and what it read, with those of one more action.
 use Rattle.std.proofs.Common.{◌≡◌, Bool, true, false, ◌&&◌, ◌||◌, List, [], ◌∷◌, ◌++◌, refl, ap, sym, subst, ◌∙◌}
-use Rattle.std.specs.Prelude.{Option, Some, None, All, IsTrue, flat_map, filter_map, if◌then◌else◌}
+use Rattle.std.specs.Prelude.{Option, Some, None, All, IsTrue, filter_map, if◌then◌else◌}
 use Rattle.std.specs.List.{Contains, cons_option, list_all, list_any}
 use Rattle.std.specs.Option.{option_to_list}
 use Rattle.std.proofs.lemmas.Bool.{false≢true}

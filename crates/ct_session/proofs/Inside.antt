@@ -1,6 +1,6 @@
 -- A statement of an open transaction that was refused, answered, or kept until COMMIT.
-use Rattle.std.proofs.Common.{◌≡◌, ℕ, ◌+◌, ◌≤◌, List, [], ◌∷◌, ◌++◌, length, take, max, refl, ap, sym, subst, ◌∙◌, arith}
-use Rattle.std.specs.Prelude.{Option, Some, None, Ok, IsTrue, sum_by}
+use Rattle.std.proofs.Common.{◌≡◌, ℕ, ◌+◌, ◌≤◌, List, [], ◌∷◌, ◌++◌, length, max, refl, sym, subst, ◌∙◌, arith}
+use Rattle.std.specs.Prelude.{Option, Some, None, Ok, sum_by}
 use Rattle.std.specs.Arc.{arc_value}
 use Rattle.std.proofs.lemmas.Bool.{false≢true}
 use Rattle.std.proofs.lemmas.List.{append-nil}
@@ -14,14 +14,13 @@ use Rattle.ct_query.specs.declared.action.Read.{Read}
 use Rattle.ct_query.specs.Reads.{reads_of, with_reads}
 use Rattle.ct_query.specs.Schema.{schema}
 use Rattle.ct_query.specs.Views.{action_of}
-use Rattle.ct_query.specs.Worlds.{admits}
 use Rattle.ct_parse.specs.declared.tree.Statement.{Statement}
 use Rattle.ct_resolve.specs.Statements.{resolved}
 use Rattle.ct_statement.specs.declared.proposing.Proposal.{Proposal}
 use Rattle.ct_statement.specs.declared.replying.Answered.{Answered}
 use Rattle.ct_statement.specs.declared.stepping.Step.{Step}
 use Rattle.ct_statement.specs.Drawing.{drawn}
-use Rattle.ct_statement.specs.Proposals.{IsProposal, IsStep, listed, kept_after}
+use Rattle.ct_statement.specs.Proposals.{listed, kept_after}
 use Rattle.ct_statement.specs.Sight.{actions_before, history_of}
 use Rattle.ct_transcript.specs.declared.reply.Reply.{Reply}
 use Rattle.ct_transcript.specs.declared.reply.Reply.TheVariants as reply
@@ -36,7 +35,7 @@ use Rattle.ct_session.specs.Prepared.{IsChange, IsPrepared, IsPreparedFor, IsRef
 use Rattle.ct_session.specs.Replying.{reply_of, standing}
 use Rattle.ct_session.specs.Seeing.{Sees}
 use Rattle.ct_session.specs.Sessions.{IsSession, state_of, transaction_of}
-use Rattle.ct_session.specs.State.{Transaction, SessionState, carried, extended, extended_by}
+use Rattle.ct_session.specs.State.{SessionState, carried, extended, extended_by}
 use Rattle.ct_session.specs.Statements.{ReadsAs}
 use Rattle.ct_session.proofs.Going.{onward}
 use Rattle.ct_session.proofs.Replies.{Proceeds, proceeds_same, answers_uncommitted, refused_answers, answered_answers, ForAnswer, prepared_answer, resolves_on}

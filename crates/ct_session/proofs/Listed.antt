@@ -1,16 +1,15 @@
 -- Lists of possible rows and of certain tuples stay right as the log goes on, and after every history of the same commits.
-use Rattle.std.proofs.Common.{◌≡◌, ℕ, ◌&&◌, List, [], ap, sym, subst, ◌∙◌}
-use Rattle.std.specs.Prelude.{IfSome, IsSomeAnd, IsTrue, All, map}
+use Rattle.std.proofs.Common.{ℕ, ◌&&◌, List, [], ap, sym, subst, ◌∙◌}
+use Rattle.std.specs.Prelude.{IfSome, IsSomeAnd, IsTrue, map}
 use Rattle.std.proofs.lemmas.Bool.{and_parts}
 use Rattle.std.proofs.lemmas.List.Elements.{All-weaker}
 use mathlib.Core.List.{IsPrefix}
 use Rattle.ct_word.specs.declared.kinds.Class.TheVariants as class
 use Rattle.ct_word.specs.declared.values.Value.{Value}
-use Rattle.ct_word.specs.Value.{World, tuple_at}
+use Rattle.ct_word.specs.Value.{tuple_at}
 use Rattle.ct_word.specs.Sublist.{IsSublist}
 use Rattle.ct_word.specs.Condition.{holds_at}
 use Rattle.ct_word.specs.Change.{PlainCommit}
-use Rattle.ct_word.specs.Reading.{condition_at}
 use Rattle.ct_word.specs.WellFormed.{is_place_of}
 use Rattle.ct_word.proofs.Prefixes.{condition_in_prefix, place_within}
 use Rattle.ct_derivation.specs.declared.steps.Proof.{Proof}
@@ -19,7 +18,6 @@ use Rattle.ct_derivation.proofs.Longer.{accepted_longer}
 use Rattle.ct_query.specs.Plain.{PlainQuery, PlainAction}
 use Rattle.ct_query.specs.Database.{has_tuple}
 use Rattle.ct_query.specs.Rows.{rows}
-use Rattle.ct_query.specs.Worlds.{world}
 use Rattle.ct_query.specs.Keeping.{Keeps}
 use Rattle.ct_rewrite.specs.declared.answer.PossibleRow.{PossibleRow}
 use Rattle.ct_rewrite.specs.declared.answer.CertainRow.{CertainRow}

@@ -1,12 +1,11 @@
 -- An open transaction: when it begins, as words are added, and after one more statement.
-use Rattle.std.proofs.Common.{◌≡◌, ◌≤◌, ℕ, arith, max, List, [], ◌∷◌, ◌++◌, refl, ap, sym, subst, ◌∙◌}
+use Rattle.std.proofs.Common.{◌≡◌, ◌≤◌, ℕ, arith, max, List, [], ◌∷◌, ◌++◌, refl, ap, sym, subst}
 use Rattle.std.specs.Prelude.{Option, Some, None, All, IsTrue, IfSome}
 use Rattle.std.specs.List.{Contains, list_all}
 use Rattle.std.proofs.lemmas.List.Elements.{All-nil}
 use mathlib.Core.List.{IsPrefix}
 use Rattle.ct_word.specs.declared.kinds.Class.TheVariants as class
 use Rattle.ct_word.specs.Change.{PlainChange, PlainCommit}
-use Rattle.ct_word.specs.Reading.{change_list_at}
 use Rattle.ct_word.specs.WellFormed.{IsWellFormed, is_place_of}
 use Rattle.ct_word.specs.Writable.{is_writable}
 use Rattle.ct_word.proofs.Prefixes.{place_within, place_in_prefix, change_list_in_prefix}

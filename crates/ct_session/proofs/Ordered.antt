@@ -28,7 +28,7 @@ use Rattle.ct_session.specs.LawfulReply.{IsBegun}
 use Rattle.ct_session.specs.Orders.{IsMisplaced}
 use Rattle.ct_session.specs.Seeing.{Orders}
 use Rattle.ct_session.specs.Sessions.{state_of, transaction_of}
-use Rattle.ct_session.specs.State.{Transaction, SessionState, carried, with_transaction, opened}
+use Rattle.ct_session.specs.State.{SessionState, carried, with_transaction, opened}
 use Rattle.ct_session.specs.Statements.{ReadsAs}
 use Rattle.ct_session.proofs.Going.{prefix_short, onward}
 use Rattle.ct_session.proofs.Replies.{Proceeds, answers_uncommitted, answers_later, memory_answers, carried_same}

@@ -1,6 +1,6 @@
 -- From what was prepared, or why a statement was refused, to the reply, however the words go on: for any state, in a
 -- transaction or outside.
-use Rattle.std.proofs.Common.{◌≡◌, ◌≢◌, ℕ, ◌+◌, ◌<◌, ◌≤◌, Bool, true, false, List, [], ◌∷◌, ◌++◌, length, take, map, max, refl, ap, sym, subst, ◌∙◌, arith}
+use Rattle.std.proofs.Common.{◌≡◌, ◌≢◌, ℕ, ◌<◌, ◌≤◌, List, [], ◌∷◌, ◌++◌, length, take, map, max, refl, ap, sym, subst, ◌∙◌, arith}
 use Rattle.std.specs.Prelude.{Option, Some, None, Ok, Err, IsTrue, IsSome, IfSome}
 use Rattle.std.specs.Option.{option_to_list}
 use Rattle.std.proofs.lemmas.Bool.{false≢true}
@@ -55,7 +55,7 @@ use Rattle.ct_session.specs.State.{Transaction, SessionState, carried, extended,
 use Rattle.ct_session.specs.Seeing.{Sees, ResolvesTo}
 use Rattle.ct_session.specs.LawfulRefusal.{IsNameFault, IsTooLarge, IsFull, IsTooManyTerms, IsInconsistent, LawfulRefusal}
 use Rattle.ct_session.specs.LawfulReply.{IsRows, IsPossible, IsCertain, LawfulReply}
-use Rattle.ct_session.specs.Answers.{committed_of, version_of, is_full, is_of_text, commits_by, GoesOn, Answers}
+use Rattle.ct_session.specs.Answers.{committed_of, version_of, is_full, commits_by, GoesOn, Answers}
 use Rattle.ct_session.specs.Prepared.{IsPrepared, IsPreparedFor, IsUnmetAt, IsRefused, by_name, unmet, wanting_memory, name_refusal}
 use Rattle.ct_session.specs.declared.preparing.Prepared.TheVariants as prepared
 use Rattle.ct_session.specs.Replying.{reply_of, standing}

@@ -1,5 +1,5 @@
 -- Which refusal may follow a text in a state, and the state after it.
-use Rattle.std.specs.Prelude.{◌≡◌, ℕ, ◌<◌, ◌≤◌, ◌⊎◌, Bool, true, false, List, [], ◌∷◌, ◌++◌, length, take, Some, None, Ok, Err, All, IsSome}
+use Rattle.std.specs.Prelude.{◌≡◌, ℕ, ◌<◌, ◌≤◌, ◌⊎◌, true, false, List, [], ◌∷◌, ◌++◌, length, take, Some, None, Err, All, IsSome}
 use Rattle.ct_word.specs.Value.{World}
 use Rattle.ct_word.specs.Condition.{Condition, holds_at}
 use Rattle.ct_word.specs.Change.{PlainCommit}
@@ -8,7 +8,6 @@ use Rattle.ct_derivation.specs.declared.steps.Proof.{Proof}
 use Rattle.ct_derivation.specs.Accepts.{AcceptsProof}
 use Rattle.ct_query.specs.Plain.{PlainQuery, PlainAction, PlainStatement}
 use Rattle.ct_query.specs.Plain as plain
-use Rattle.ct_query.specs.declared.action.Ask.TheVariants as ask
 use Rattle.ct_query.specs.declared.action.Read.{Read}
 use Rattle.ct_query.specs.Worlds.{admits}
 use Rattle.ct_query.specs.Reads.{last, action_reads}

@@ -1,5 +1,5 @@
 -- What a statement asks for, ready to be given, and why it is refused.
-use Rattle.std.specs.Prelude.{◌≡◌, ◌≢◌, ◌+◌, ℕ, Bool, true, false, List, [], Option, Some, None, IsSome, Ok, Err}
+use Rattle.std.specs.Prelude.{◌≡◌, ◌≢◌, ◌+◌, ℕ, Bool, true, false, List, Option, Some, None, IsSome, Ok, Err}
 use Rattle.ct_word.specs.Change.{PlainChange, PlainCommit}
 use Rattle.ct_query.specs.Plain.{PlainAction, PlainStatement}
 use Rattle.ct_query.specs.Plain as plain
@@ -11,7 +11,6 @@ use Rattle.ct_parse.specs.declared.tree.Statement.TheVariants as tree
 use Rattle.ct_word.specs.Condition.{Condition}
 use Rattle.ct_resolve.specs.declared.error.ResolveError.{ResolveError}
 use Rattle.ct_resolve.specs.declared.error.ResolveError.TheVariants as name
-use Rattle.ct_resolve.specs.Found.{Found}
 use Rattle.ct_resolve.specs.Statements.{resolved}
 use Rattle.ct_transcript.specs.declared.reply.Refusal.{Refusal}
 use Rattle.ct_transcript.specs.declared.reply.Refusal.TheVariants as refusal

@@ -1,8 +1,7 @@
 -- What a statement sees, and what a text asks for there.
 use Rattle.std.specs.Prelude.{◌≡◌, ℕ, ◌≤◌, ◌-◌, ◌<◌, List, [], length, take, Option, Some, None, Ok, slice_get}
 use Rattle.ct_word.specs.Change.{PlainCommit}
-use Rattle.ct_query.specs.Plain.{PlainQuery, PlainAction, PlainStatement}
-use Rattle.ct_query.specs.Plain as plain
+use Rattle.ct_query.specs.Plain.{PlainAction, PlainStatement}
 use Rattle.ct_query.specs.Schema.{schema}
 use Rattle.ct_parse.specs.declared.tree.Statement.{Statement}
 use Rattle.ct_resolve.specs.Found.{Found}

@@ -2,7 +2,7 @@
 use Rattle.std.specs.Prelude.{◌≡◌, ◌≤◌, ℕ, List, [], length, Option, Some, None, option_map, IfSome, IsTrue, All}
 use Rattle.std.specs.List.{Contains, list_all}
 use Rattle.ct_word.specs.declared.kinds.Class.TheVariants as class
-use Rattle.ct_word.specs.Reading.{commits_of, change_list_at}
+use Rattle.ct_word.specs.Reading.{commits_of}
 use Rattle.ct_word.specs.WellFormed.{is_place_of}
 use Rattle.ct_word.specs.Writable.{is_writable}
 use Rattle.ct_query.specs.Plain.{PlainAction}

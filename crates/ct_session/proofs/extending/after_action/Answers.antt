@@ -1,4 +1,4 @@
-use Rattle.std.proofs.Common.{ap, sym, subst, ◌∙◌, List}
+use Rattle.std.proofs.Common.{sym, subst, ◌∙◌, List}
 use Rattle.std.specs.Prelude.{Some}
 use Rattle.ct_query.specs.Views.{action_of}
 use Rattle.ct_query.specs.declared.action.Read.{Read}
