@@ -283,35 +283,31 @@ module _ (N : ℕ) (pass : Seen) (seen fresh : ℕ) (sight : Sight) (within : si
           (answers_uncommitted N s (carried base s) pass.words pass'.words x (reply.Refused base refusal.Full) proceeds_on refl refl (λ e. ap length k.same ∙ full)
           (λ e. let all = newest in let short = seen_all in omega (arith, all, short))
           (λ W goes H stands.
-              let on = onward pass.words base within W (prefix_of_prefix pass.words pass'.words W k.longer goes.log) H stands in
-              (record {
-                actions = [];
-                statement = plain.Act f.action;
-                sees = (le, on.within, refl);
-                asks = record {
-                  statement = st;
-                  reads = read;
-                  gives = ap (λ sch. resolved sch pass.session fresh st) (sym (on.keeps.schemas [])) ∙ f.resolves;
-                };
-                full = let short = prefix_short pass'.words W goes.log in let most = goes.room in let all = ap length k.same in omega (arith, short, most, all, full);
-                makes_words = makes_words (count H []) f.action;
-              }, refl))) where
-                seen_all : length (commits_of pass.words) ≤ version_of old
-                seen_all =
-                    let short = prefix_short (commits_of pass.words) (commits_of pass'.words) (commits_prefix pass.words pass'.words k.longer) in
-                    let same : length (commits_of pass'.words) ≡ version_of old = ap (λ ws. length (commits_of ws)) k.same ∙ ap length u.stays.commits in
-                    omega (arith, short, same)
+          let on = onward pass.words base within W (prefix_of_prefix pass.words pass'.words W k.longer goes.log) H stands in (
+            record {
+              actions = [];
+              statement = plain.Act f.action;
+              sees = (le, on.within, refl);
+              asks = record {
+                statement = st;
+                reads = read;
+                gives = ap (λ sch. resolved sch pass.session fresh st) (sym (on.keeps.schemas [])) ∙ f.resolves;
+              };
+              full = let short = prefix_short pass'.words W goes.log in let most = goes.room in let all = ap length k.same in omega (arith, short, most, all, full);
+              makes_words = makes_words (count H []) f.action;
+            },
+            refl,
+          ))) where
+            seen_all : length (commits_of pass.words) ≤ version_of old
+            seen_all =
+                let short = prefix_short (commits_of pass.words) (commits_of pass'.words) (commits_prefix pass.words pass'.words k.longer) in
+                let same : length (commits_of pass'.words) ≡ version_of old = ap (λ ws. length (commits_of ws)) k.same ∙ ap length u.stays.commits in
+                omega (arith, short, same)
 
   -- something was wanting
   module _ (x : List ℕ) (read : ReadsAs x st) where
-    fault_answers : (e : KeeperError) → BecomesOf N old new pass pass' offer (Err e)
+    pub fault_answers : (e : KeeperError) → BecomesOf N old new pass pass' offer (Err e)
         → Answers N s (carried (standing seen base (wanted e)) (state_of pass' seen fresh None)) pass.words pass'.words x (reply.Refused (standing seen base (wanted e)) (wanted e))
     fault_answers fault.Full f' = full_answers f'.0 x read f'.3
     fault_answers fault.Memory f' =
         subst (λ t. Answers N s t pass.words pass'.words x (reply.Refused seen refusal.Memory)) (sym (carried_same (state_of pass' seen fresh None))) (wanting_answers f' x read)
-
-    pub refused_answers : (at : ℕ) (why : Refusal) (e : KeeperError) → why ≡ wanted e → at ≡ standing seen base why → BecomesOf N old new pass pass' offer (Err e)
-        → Answers N s (carried at (state_of pass' seen fresh None)) pass.words pass'.words x (reply.Refused at why)
-    refused_answers at why e is at_is f' =
-        subst (λ n. Answers N s (carried n (state_of pass' seen fresh None)) pass.words pass'.words x (reply.Refused n why)) (sym at_is)
-        (subst (λ q. Answers N s (carried (standing seen base q) (state_of pass' seen fresh None)) pass.words pass'.words x (reply.Refused (standing seen base q) q)) (sym is) (fault_answers e f'))

@@ -32,7 +32,7 @@ front_before s n front h c p few all = by_rest p.0 p.1 where
       let as_long = ap length e in
       let short : length front ≤ length h = omega (arith, as_long, length-append front (d ∷ rest), length-append h (c ∷ [])) in
       let first : take (length front) h ≡ front =
-          sym (take-append-le (length front) h (c ∷ []) short) ∙ ap (take (length front)) (sym e) ∙ take-append-le (length front) front (d ∷ rest) (omega arith) ∙ take_all (length front) front (omega arith) in
+      sym (take-append-le (length front) h (c ∷ []) short) ∙ ap (take (length front)) (sym e) ∙ take-append-le (length front) front (d ∷ rest) (omega arith) ∙ take_all (length front) front (omega arith) in
       (drop (length front) h, ap (λ l. l ++ drop (length front) h) (sym first) ∙ take-append-drop (length front) h)
 
 -- one commit of the session more than at the front
