@@ -3,9 +3,8 @@ use Rattle.std.proofs.Common.{◌≡◌, ℕ, zero, suc, ◌+◌, ◌-◌, ◌<�
 use Rattle.std.specs.Prelude.{Option, Some, None, Ok, Err, All, option_map}
 use Rattle.std.specs.List.{Contains}
 use Rattle.std.proofs.lemmas.Bool.{false≢true}
-use Rattle.std.proofs.lemmas.List.{append-nil, take_all, take-append-drop}
+use Rattle.std.proofs.lemmas.List.{take_all, take-append-drop}
 use Rattle.std.proofs.lemmas.List.Elements.{All-weaker, All-contains}
-use mathlib.Core.List.{IsPrefix}
 use Rattle.ct_word.specs.Change.{PlainChange, PlainCommit}
 use Rattle.ct_word.specs.Reading.{commits_of, change_list_at}
 use Rattle.ct_word.specs.StandsFor.{SameChanges, StandsFor}
@@ -19,8 +18,8 @@ use Rattle.ct_query.specs.declared.action.Read.{Read}
 use Rattle.ct_query.proofs.Frame.{same_for_actions}
 use Rattle.ct_arena.specs.Seen.{Seen}
 use Rattle.ct_arena.specs.Counts.{AreNumbered}
-use Rattle.ct_keeper.specs.Catalogue.{Catalogue, version_of}
-use Rattle.ct_keeper.specs.Offers.{BecomesOf, IsCommitted, IsUncommitted, IsConflict as MeetsLater, changes_in, commit_for}
+use Rattle.ct_keeper.specs.Catalogue.{Catalogue}
+use Rattle.ct_keeper.specs.Offers.{BecomesOf, IsCommitted, IsUncommitted, IsConflict as MeetsLater, changes_in}
 use Rattle.ct_keeper.specs.declared.catalogue.Outcome.{Outcome}
 use Rattle.ct_keeper.specs.declared.catalogue.Outcome.TheVariants as outcome
 use Rattle.ct_keeper.specs.declared.error.KeeperError.{KeeperError}
@@ -32,20 +31,19 @@ use Rattle.ct_query.specs.Bounds.{bound}
 use Rattle.ct_query.specs.Patterns.{count}
 use Rattle.ct_transcript.specs.declared.reply.Reply.{Reply}
 use Rattle.ct_transcript.specs.declared.reply.Reply.TheVariants as reply
-use Rattle.ct_transcript.specs.declared.reply.Refusal.{Refusal}
 use Rattle.ct_transcript.specs.declared.reply.Refusal.TheVariants as refusal
 use Rattle.ct_statement.specs.Sight.{actions_before, history_of}
 use Rattle.ct_session.specs.declared.session.Open.{Open}
-use Rattle.ct_session.specs.Answers.{GoesOn, Answers, commits_by}
-use Rattle.ct_session.specs.LawfulRefusal.{CommitsWhole, IsFirstWritten, IsConflict, IsFull}
-use Rattle.ct_session.specs.LawfulReply.{IsCommittedWhole, IsNothing}
+use Rattle.ct_session.specs.Answers.{GoesOn, Answers}
+use Rattle.ct_session.specs.LawfulRefusal.{IsFirstWritten, IsConflict}
+use Rattle.ct_session.specs.LawfulReply.{IsCommittedWhole}
 use Rattle.ct_session.specs.Outcomes.{outcome_reply, outcome_version, wanted}
 use Rattle.ct_session.specs.Replying.{standing}
 use Rattle.ct_session.specs.Seeing.{Orders}
 use Rattle.ct_session.specs.Sessions.{IsBegunList, IsOpen, state_of, transaction_of}
-use Rattle.ct_session.specs.State.{Transaction, SessionState, carried, with_transaction}
+use Rattle.ct_session.specs.State.{SessionState, carried, with_transaction}
 use Rattle.ct_session.specs.Statements.{ReadsAs}
-use Rattle.ct_session.proofs.Called.{IsCall, came, seen_before, comes, one_before, had_room, as_many_as, before, there, first_of, keeps_to, within_all, front_taken}
+use Rattle.ct_session.proofs.Called.{IsCall, seen_before, comes, had_room, as_many_as, before, there, keeps_to, within_all, front_taken}
 use Rattle.ct_session.proofs.Going.{prefix_short, version_within}
 use Rattle.ct_session.proofs.Offered.{IsBegun, none_agree, some_agree}
 use Rattle.ct_session.proofs.Own.{own_commits_stay}

@@ -1,5 +1,5 @@
 use Rattle.std.proofs.Common.{refl, sym, subst}
-use Rattle.std.specs.Prelude.{None, Ok, Err}
+use Rattle.std.specs.Prelude.{None, Ok}
 use Rattle.ct_keeper.specs.Offers.{BecomesOf}
 use Rattle.ct_word.proofs.Prefixes.{prefix_same}
 use Rattle.ct_transcript.specs.declared.reply.Reply.TheVariants as reply
