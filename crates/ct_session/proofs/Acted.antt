@@ -1,12 +1,11 @@
 -- An action outside a transaction: its offer, and what it is answered, by what became of the offer.
-use Rattle.std.proofs.Common.{◌≡◌, ℕ, ◌+◌, ◌-◌, ◌<◌, ◌≤◌, Bool, true, false, ◌&&◌, List, [], ◌∷◌, ◌++◌, length, take, max, refl, ap, sym, subst, inl, ◌∙◌, arith}
+use Rattle.std.proofs.Common.{◌≡◌, ℕ, ◌+◌, ◌≤◌, Bool, true, false, ◌&&◌, List, [], ◌∷◌, ◌++◌, length, refl, ap, sym, subst, inl, ◌∙◌, arith}
 use Rattle.std.specs.Prelude.{Option, Some, None, IsTrue, IsSome, Ok, Err}
 use Rattle.std.specs.Arc.{arc_value}
 use Rattle.std.specs.List.{AllByRecursion, Contains, list_all}
 use Rattle.std.proofs.lemmas.Bool.{false≢true}
 use Rattle.std.proofs.lemmas.List.{append-nil, take_all}
 use Rattle.std.proofs.lemmas.List.Elements.{All-from_recursion, recursion_from_All, All-contains_itself}
-use mathlib.Core.List.{IsPrefix}
 use Rattle.ct_word.specs.Value.{World}
 use Rattle.ct_word.specs.Condition.{Condition}
 use Rattle.ct_word.specs.Change.{PlainChange, Create, Insert, Delete, Assert, PlainCommit}
@@ -15,16 +14,15 @@ use Rattle.ct_word.specs.StandsFor.{SameChanges, StandsFor}
 use Rattle.ct_word.specs.Writable.{is_writable}
 use Rattle.ct_word.proofs.Prefixes.{commits_prefix, prefix_of_prefix}
 use Rattle.ct_query.specs.Agrees.{AgreesWith, Agrees}
-use Rattle.ct_query.specs.Bounds.{bound, change_words}
+use Rattle.ct_query.specs.Bounds.{bound}
 use Rattle.ct_query.specs.Fits.{FitChanges}
 use Rattle.ct_query.specs.Frame.{creates, reads_of_actions}
 use Rattle.ct_query.specs.Patterns.{count}
 use Rattle.ct_query.specs.Plain as plain
 use Rattle.ct_query.specs.Plain.{PlainAction, PlainStatement}
-use Rattle.ct_query.specs.Reads.{action_reads, last, reads_of}
+use Rattle.ct_query.specs.Reads.{action_reads}
 use Rattle.ct_query.specs.Schema.{schema}
 use Rattle.ct_query.specs.Views.{action_of}
-use Rattle.ct_query.specs.Worlds.{admits}
 use Rattle.ct_query.specs.declared.action.Read.{Read}
 use Rattle.ct_query.proofs.Committed.{commit_does}
 use Rattle.ct_arena.specs.Seen.{Seen}
@@ -40,7 +38,6 @@ use Rattle.ct_table.specs.Snapshot.{IsKeptWorld}
 use Rattle.ct_parse.specs.declared.tree.Statement.{Statement}
 use Rattle.ct_resolve.specs.Statements.{resolved}
 use Rattle.ct_transcript.specs.declared.reply.Reply.TheVariants as reply
-use Rattle.ct_transcript.specs.declared.reply.Refusal.{Refusal}
 use Rattle.ct_transcript.specs.declared.reply.Refusal.TheVariants as refusal
 use Rattle.ct_statement.specs.declared.proposing.Proposal.{Proposal}
 use Rattle.ct_statement.specs.declared.sight.Sight.{Sight}
@@ -52,12 +49,12 @@ use Rattle.ct_session.specs.Answers.{GoesOn, Answers}
 use Rattle.ct_session.specs.LawfulReply.{IsCommittedAlone}
 use Rattle.ct_session.specs.Outcomes.{IsCommit, wanted, world_offered}
 use Rattle.ct_session.specs.Replying.{standing}
-use Rattle.ct_session.specs.Prepared.{IsChange, IsPrepared, IsPreparedFor, IsStepIf, needs_step}
+use Rattle.ct_session.specs.Prepared.{IsPrepared, IsPreparedFor, IsStepIf, needs_step}
 use Rattle.ct_session.specs.declared.preparing.Prepared.TheVariants as prepared
 use Rattle.ct_session.specs.Sessions.{state_of}
 use Rattle.ct_session.specs.State.{SessionState, carried}
 use Rattle.ct_session.specs.Statements.{ReadsAs}
-use Rattle.ct_session.proofs.Called.{IsCall, seen_before, comes, one_before, had_room, as_many_as, before, there, within_all, front_taken}
+use Rattle.ct_session.proofs.Called.{IsCall, seen_before, comes, one_before, had_room, before, there, front_taken}
 use Rattle.ct_session.proofs.Going.{prefix_short, onward}
 use Rattle.ct_session.proofs.Offered.{creates_all, asserts_read}
 use Rattle.ct_session.proofs.Own.{own_commits_stay}
@@ -283,35 +280,31 @@ module _ (N : ℕ) (pass : Seen) (seen fresh : ℕ) (sight : Sight) (within : si
           (answers_uncommitted N s (carried base s) pass.words pass'.words x (reply.Refused base refusal.Full) proceeds_on refl refl (λ e. ap length k.same ∙ full)
           (λ e. let all = newest in let short = seen_all in omega (arith, all, short))
           (λ W goes H stands.
-              let on = onward pass.words base within W (prefix_of_prefix pass.words pass'.words W k.longer goes.log) H stands in
-              (record {
-                actions = [];
-                statement = plain.Act f.action;
-                sees = (le, on.within, refl);
-                asks = record {
-                  statement = st;
-                  reads = read;
-                  gives = ap (λ sch. resolved sch pass.session fresh st) (sym (on.keeps.schemas [])) ∙ f.resolves;
-                };
-                full = let short = prefix_short pass'.words W goes.log in let most = goes.room in let all = ap length k.same in omega (arith, short, most, all, full);
-                makes_words = makes_words (count H []) f.action;
-              }, refl))) where
-                seen_all : length (commits_of pass.words) ≤ version_of old
-                seen_all =
-                    let short = prefix_short (commits_of pass.words) (commits_of pass'.words) (commits_prefix pass.words pass'.words k.longer) in
-                    let same : length (commits_of pass'.words) ≡ version_of old = ap (λ ws. length (commits_of ws)) k.same ∙ ap length u.stays.commits in
-                    omega (arith, short, same)
+          let on = onward pass.words base within W (prefix_of_prefix pass.words pass'.words W k.longer goes.log) H stands in (
+            record {
+              actions = [];
+              statement = plain.Act f.action;
+              sees = (le, on.within, refl);
+              asks = record {
+                statement = st;
+                reads = read;
+                gives = ap (λ sch. resolved sch pass.session fresh st) (sym (on.keeps.schemas [])) ∙ f.resolves;
+              };
+              full = let short = prefix_short pass'.words W goes.log in let most = goes.room in let all = ap length k.same in omega (arith, short, most, all, full);
+              makes_words = makes_words (count H []) f.action;
+            },
+            refl,
+          ))) where
+            seen_all : length (commits_of pass.words) ≤ version_of old
+            seen_all =
+                let short = prefix_short (commits_of pass.words) (commits_of pass'.words) (commits_prefix pass.words pass'.words k.longer) in
+                let same : length (commits_of pass'.words) ≡ version_of old = ap (λ ws. length (commits_of ws)) k.same ∙ ap length u.stays.commits in
+                omega (arith, short, same)
 
   -- something was wanting
   module _ (x : List ℕ) (read : ReadsAs x st) where
-    fault_answers : (e : KeeperError) → BecomesOf N old new pass pass' offer (Err e)
+    pub fault_answers : (e : KeeperError) → BecomesOf N old new pass pass' offer (Err e)
         → Answers N s (carried (standing seen base (wanted e)) (state_of pass' seen fresh None)) pass.words pass'.words x (reply.Refused (standing seen base (wanted e)) (wanted e))
     fault_answers fault.Full f' = full_answers f'.0 x read f'.3
     fault_answers fault.Memory f' =
         subst (λ t. Answers N s t pass.words pass'.words x (reply.Refused seen refusal.Memory)) (sym (carried_same (state_of pass' seen fresh None))) (wanting_answers f' x read)
-
-    pub refused_answers : (at : ℕ) (why : Refusal) (e : KeeperError) → why ≡ wanted e → at ≡ standing seen base why → BecomesOf N old new pass pass' offer (Err e)
-        → Answers N s (carried at (state_of pass' seen fresh None)) pass.words pass'.words x (reply.Refused at why)
-    refused_answers at why e is at_is f' =
-        subst (λ n. Answers N s (carried n (state_of pass' seen fresh None)) pass.words pass'.words x (reply.Refused n why)) (sym at_is)
-        (subst (λ q. Answers N s (carried (standing seen base q) (state_of pass' seen fresh None)) pass.words pass'.words x (reply.Refused (standing seen base q) q)) (sym is) (fault_answers e f'))

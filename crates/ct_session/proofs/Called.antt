@@ -12,7 +12,7 @@ use Rattle.ct_query.specs.Keeping.{Keeps, KeepsThroughout}
 use Rattle.ct_query.proofs.Keeping.{same_throughout}
 use Rattle.ct_arena.specs.Counts.{AreNumbered, numbers_by}
 use Rattle.ct_arena.specs.Seen.{Seen}
-use Rattle.ct_keeper.specs.Catalogue.{Catalogue, version_of}
+use Rattle.ct_keeper.specs.Catalogue.{Catalogue}
 use Rattle.ct_keeper.specs.Offers.{IsCommitted, commit_for}
 use Rattle.ct_keeper.specs.declared.catalogue.Offer.{Offer}
 use Rattle.ct_session.specs.Answers.{GoesOn, commits_by}

@@ -1,6 +1,6 @@
 -- The commits of one session in a history and at its front, by how many they are.
-use Rattle.std.proofs.Common.{◌≡◌, ℕ, ◌+◌, ◌≤◌, Bool, true, false, List, [], ◌∷◌, ◌++◌, length, take, drop, refl, ap, sym, subst, ◌∙◌, arith, length-append}
-use Rattle.std.specs.Prelude.{nat_eq, if◌then◌else◌}
+use Rattle.std.proofs.Common.{◌≡◌, ℕ, ◌+◌, ◌≤◌, List, [], ◌∷◌, ◌++◌, length, take, drop, ap, sym, ◌∙◌, arith, length-append}
+use Rattle.std.specs.Prelude.{if◌then◌else◌}
 use Rattle.std.specs.List.{range_with_len}
 use Rattle.std.proofs.lemmas.Bool.{eq-eqb}
 use Rattle.std.proofs.lemmas.List.{append-nil, take_all, take-append-drop, take-append-le}
@@ -32,7 +32,7 @@ front_before s n front h c p few all = by_rest p.0 p.1 where
       let as_long = ap length e in
       let short : length front ≤ length h = omega (arith, as_long, length-append front (d ∷ rest), length-append h (c ∷ [])) in
       let first : take (length front) h ≡ front =
-          sym (take-append-le (length front) h (c ∷ []) short) ∙ ap (take (length front)) (sym e) ∙ take-append-le (length front) front (d ∷ rest) (omega arith) ∙ take_all (length front) front (omega arith) in
+      sym (take-append-le (length front) h (c ∷ []) short) ∙ ap (take (length front)) (sym e) ∙ take-append-le (length front) front (d ∷ rest) (omega arith) ∙ take_all (length front) front (omega arith) in
       (drop (length front) h, ap (λ l. l ++ drop (length front) h) (sym first) ∙ take-append-drop (length front) h)
 
 -- one commit of the session more than at the front

@@ -1,6 +1,6 @@
 -- The offer of an open transaction whose change list was begun.
-use Rattle.std.proofs.Common.{◌≡◌, ℕ, ◌<◌, ◌≤◌, Bool, true, false, List, [], ◌∷◌, ◌++◌, length, refl, ap, sym, subst, ◌∙◌, arith}
-use Rattle.std.specs.Prelude.{Option, Some, None, IsTrue, All}
+use Rattle.std.proofs.Common.{◌≡◌, ℕ, ◌<◌, List, [], ◌∷◌, ◌++◌, length, refl, ap, sym, subst, ◌∙◌, arith}
+use Rattle.std.specs.Prelude.{Some, IsTrue, All}
 use Rattle.std.specs.Arc.{arc_value}
 use Rattle.std.specs.List.{AllByRecursion, Contains, list_all}
 use Rattle.std.proofs.lemmas.Bool.{false≢true}
@@ -24,7 +24,7 @@ use Rattle.ct_query.proofs.Committed.{commit_does}
 use Rattle.ct_query.proofs.Within.{all_parts}
 use Rattle.ct_arena.specs.Seen.{Seen}
 use Rattle.ct_table.specs.Snapshot.{IsKeptValue}
-use Rattle.ct_keeper.specs.Offers.{IsOffer, Leaves, commit_for, has_assertion}
+use Rattle.ct_keeper.specs.Offers.{IsOffer, commit_for, has_assertion}
 use Rattle.ct_keeper.specs.declared.catalogue.Offer.{Offer}
 use Rattle.ct_statement.specs.declared.sight.Sight.{Sight}
 use Rattle.ct_statement.specs.Proposals.{listed}

@@ -1,6 +1,6 @@
 -- A statement outside a transaction, at the newest version: what was prepared for it, over further words, and its reply.
 use Rattle.std.proofs.Common.{◌≡◌, ℕ, ◌≤◌, List, [], ◌∷◌, length, refl, ap, sym, subst, ◌∙◌}
-use Rattle.std.specs.Prelude.{Option, Some, None, IsNone, Ok}
+use Rattle.std.specs.Prelude.{Option, Some, None, IsNone}
 use Rattle.std.proofs.lemmas.Bool.{false≢true}
 use mathlib.Core.List.{IsPrefix}
 use Rattle.ct_word.specs.Change.{PlainCommit}

@@ -7,7 +7,6 @@ use Rattle.ct_query.specs.declared.action.Ask.{Ask}
 use Rattle.ct_query.specs.declared.action.Ask.TheVariants as ask
 use Rattle.ct_query.specs.declared.action.Resolved.{Resolved}
 use Rattle.ct_query.specs.declared.action.Resolved.TheVariants as resolution
-use Rattle.ct_query.specs.declared.schema.Heading.{Heading}
 use Rattle.ct_query.specs.declared.schema.Schema.{Schema}
 use Rattle.ct_query.specs.Plain as plain
 use Rattle.ct_query.specs.Plain.{PlainAction, PlainStatement}

@@ -1,5 +1,5 @@
 -- A text that is read as no statement is refused so, however the words go on.
-use Rattle.std.proofs.Common.{◌≡◌, ◌≢◌, ℕ, List, refl, sym}
+use Rattle.std.proofs.Common.{◌≢◌, ℕ, List, refl, sym}
 use Rattle.std.proofs.lemmas.Bool.{false≢true}
 use Rattle.ct_transcript.specs.declared.reply.Reply.TheVariants as reply
 use Rattle.ct_transcript.specs.declared.reply.Refusal.{Refusal}

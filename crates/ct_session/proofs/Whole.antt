@@ -3,9 +3,8 @@ use Rattle.std.proofs.Common.{◌≡◌, ℕ, zero, suc, ◌+◌, ◌-◌, ◌<�
 use Rattle.std.specs.Prelude.{Option, Some, None, Ok, Err, All, option_map}
 use Rattle.std.specs.List.{Contains}
 use Rattle.std.proofs.lemmas.Bool.{false≢true}
-use Rattle.std.proofs.lemmas.List.{append-nil, take_all, take-append-drop}
+use Rattle.std.proofs.lemmas.List.{take_all, take-append-drop}
 use Rattle.std.proofs.lemmas.List.Elements.{All-weaker, All-contains}
-use mathlib.Core.List.{IsPrefix}
 use Rattle.ct_word.specs.Change.{PlainChange, PlainCommit}
 use Rattle.ct_word.specs.Reading.{commits_of, change_list_at}
 use Rattle.ct_word.specs.StandsFor.{SameChanges, StandsFor}
@@ -19,8 +18,8 @@ use Rattle.ct_query.specs.declared.action.Read.{Read}
 use Rattle.ct_query.proofs.Frame.{same_for_actions}
 use Rattle.ct_arena.specs.Seen.{Seen}
 use Rattle.ct_arena.specs.Counts.{AreNumbered}
-use Rattle.ct_keeper.specs.Catalogue.{Catalogue, version_of}
-use Rattle.ct_keeper.specs.Offers.{BecomesOf, IsCommitted, IsUncommitted, IsConflict as MeetsLater, changes_in, commit_for}
+use Rattle.ct_keeper.specs.Catalogue.{Catalogue}
+use Rattle.ct_keeper.specs.Offers.{BecomesOf, IsCommitted, IsUncommitted, IsConflict as MeetsLater, changes_in}
 use Rattle.ct_keeper.specs.declared.catalogue.Outcome.{Outcome}
 use Rattle.ct_keeper.specs.declared.catalogue.Outcome.TheVariants as outcome
 use Rattle.ct_keeper.specs.declared.error.KeeperError.{KeeperError}
@@ -32,20 +31,19 @@ use Rattle.ct_query.specs.Bounds.{bound}
 use Rattle.ct_query.specs.Patterns.{count}
 use Rattle.ct_transcript.specs.declared.reply.Reply.{Reply}
 use Rattle.ct_transcript.specs.declared.reply.Reply.TheVariants as reply
-use Rattle.ct_transcript.specs.declared.reply.Refusal.{Refusal}
 use Rattle.ct_transcript.specs.declared.reply.Refusal.TheVariants as refusal
 use Rattle.ct_statement.specs.Sight.{actions_before, history_of}
 use Rattle.ct_session.specs.declared.session.Open.{Open}
-use Rattle.ct_session.specs.Answers.{GoesOn, Answers, commits_by}
-use Rattle.ct_session.specs.LawfulRefusal.{CommitsWhole, IsFirstWritten, IsConflict, IsFull}
-use Rattle.ct_session.specs.LawfulReply.{IsCommittedWhole, IsNothing}
+use Rattle.ct_session.specs.Answers.{GoesOn, Answers}
+use Rattle.ct_session.specs.LawfulRefusal.{IsFirstWritten, IsConflict}
+use Rattle.ct_session.specs.LawfulReply.{IsCommittedWhole}
 use Rattle.ct_session.specs.Outcomes.{outcome_reply, outcome_version, wanted}
 use Rattle.ct_session.specs.Replying.{standing}
 use Rattle.ct_session.specs.Seeing.{Orders}
 use Rattle.ct_session.specs.Sessions.{IsBegunList, IsOpen, state_of, transaction_of}
-use Rattle.ct_session.specs.State.{Transaction, SessionState, carried, with_transaction}
+use Rattle.ct_session.specs.State.{SessionState, carried, with_transaction}
 use Rattle.ct_session.specs.Statements.{ReadsAs}
-use Rattle.ct_session.proofs.Called.{IsCall, came, seen_before, comes, one_before, had_room, as_many_as, before, there, first_of, keeps_to, within_all, front_taken}
+use Rattle.ct_session.proofs.Called.{IsCall, seen_before, comes, had_room, as_many_as, before, there, keeps_to, within_all, front_taken}
 use Rattle.ct_session.proofs.Going.{prefix_short, version_within}
 use Rattle.ct_session.proofs.Offered.{IsBegun, none_agree, some_agree}
 use Rattle.ct_session.proofs.Own.{own_commits_stay}
@@ -201,14 +199,17 @@ module _ (N : ℕ) (pass : Seen) (seen fresh : ℕ) (o : Open) (open' : IsOpen p
         pub full_answers : length new.words ≡ N → Answers N s (carried base (state_of pass' seen fresh (Some o))) pass.words pass'.words x (reply.Refused base refusal.Full)
         full_answers full = subst (λ (t : SessionState). Answers N s (carried base t) pass.words pass'.words x (reply.Refused base refusal.Full)) (same_state (Some o))
             (answers_uncommitted N s (carried base s) pass.words pass'.words x (reply.Refused base refusal.Full) proceeds_on refl refl (λ e. ap length k.same ∙ full) (λ e. absurd (some_open e))
-            (λ W goes H stands. (record {
-              actions = actions;
-              statement = plain.Commit;
-              sees = (refl, refl);
-              asks = record { statement = tree.Commit; reads = subst (ReadsAs x) order reads; gives = refl };
-              full = let short = prefix_short pass'.words W goes.log in let le = goes.room in let all = ap length k.same in omega (arith, short, le, all, full);
-              makes_words = makes_words (count H actions) actions has_actions;
-            }, refl))) where
+            (λ W goes H stands. (
+              record {
+                actions = actions;
+                statement = plain.Commit;
+                sees = (refl, refl);
+                asks = record { statement = tree.Commit; reads = subst (ReadsAs x) order reads; gives = refl };
+                full = let short = prefix_short pass'.words W goes.log in let le = goes.room in let all = ap length k.same in omega (arith, short, le, all, full);
+                makes_words = makes_words (count H actions) actions has_actions;
+              },
+              refl,
+            ))) where
               some_open : Some (transaction_of o) ≡ None → ⊥
               some_open e = cc
 
@@ -290,17 +291,11 @@ module _ (N : ℕ) (pass : Seen) (seen fresh : ℕ) (o : Open) (open' : IsOpen p
         subst (λ n. Answers N s (carried n (state_of pass' seen fresh None)) pass.words pass'.words x r) (sym version)
         (subst (λ q. Answers N s (carried (outcome_version base out) (state_of pass' seen fresh None)) pass.words pass'.words x q) (sym same) (outcome_answers out f))
 
-    fault_answers : (e : KeeperError) → BecomesOf N old new pass pass' offer (Err e)
+    pub fault_answers : (e : KeeperError) → BecomesOf N old new pass pass' offer (Err e)
         → Answers N s (carried (standing seen base (wanted e)) (state_of pass' seen fresh (Some o))) pass.words pass'.words x (reply.Refused (standing seen base (wanted e)) (wanted e))
     fault_answers fault.Full f = full_answers f.0 (to_some f.1) f.3
     fault_answers fault.Memory f =
         subst (λ t. Answers N s t pass.words pass'.words x (reply.Refused seen refusal.Memory)) (sym (carried_same (state_of pass' seen fresh (Some o)))) (wanting_answers f)
-
-    pub refused_answers : (at : ℕ) (why : Refusal) (e : KeeperError) → why ≡ wanted e → at ≡ standing seen base why → BecomesOf N old new pass pass' offer (Err e)
-        → Answers N s (carried at (state_of pass' seen fresh (Some o))) pass.words pass'.words x (reply.Refused at why)
-    refused_answers at why e is at_is f =
-        subst (λ n. Answers N s (carried n (state_of pass' seen fresh (Some o))) pass.words pass'.words x (reply.Refused n why)) (sym at_is)
-        (subst (λ q. Answers N s (carried (standing seen base q) (state_of pass' seen fresh (Some o))) pass.words pass'.words x (reply.Refused (standing seen base q) q)) (sym is) (fault_answers e f))
 
 -- the session has seen no version past the commits of its words
 module _ (N : ℕ) (words : List ℕ) (pass : Seen) (seen base : ℕ) (seen_is : seen ≤ length (commits_of pass.words)) (base_is : base ≤ length (commits_of pass.words)) (old new : Catalogue) (pass' : Seen)
@@ -327,6 +322,5 @@ module _ (N : ℕ) (words : List ℕ) (pass : Seen) (seen base : ℕ) (seen_is :
     pub replied_seen : (at : ℕ) (out : Outcome) → at ≡ outcome_version base out → BecomesOf N old new pass pass' offer (Ok out) → max seen at ≤ length (commits_of pass'.words)
     replied_seen at out version f = subst (λ n. max seen n ≤ length (commits_of pass'.words)) (sym version) (outcome_seen out f)
 
-  pub refused_seen : (at : ℕ) (why : Refusal) → at ≡ standing seen base why → max seen at ≤ length (commits_of pass'.words)
-  refused_seen at why at_is =
-      subst (λ n. max seen n ≤ length (commits_of pass'.words)) (sym at_is) (standing_within seen base (length (commits_of pass'.words)) why seen_there base_there)
+  pub wanting_seen : (e : KeeperError) → max seen (standing seen base (wanted e)) ≤ length (commits_of pass'.words)
+  wanting_seen e = standing_within seen base (length (commits_of pass'.words)) (wanted e) seen_there base_there

@@ -11,7 +11,7 @@ ghost use Rattle.ct_session.specs.Sessions.{IsSession, state_of};
 ghost use Rattle.ct_session.specs.Statements.{IsWritten};
 ghost use Rattle.ct_session.specs.declared.preparing.Prepared.TheVariants as prepared;
 
-use crate::committing::wanted;
+use crate::committing::wanting;
 use crate::offering::copied;
 use crate::preparing::{Prepared, prepare};
 use crate::replying::{reply_of, standing};
@@ -124,17 +124,7 @@ fn acted<N: Site>(
             };
             (session.carrying(at), Reply::Committed { at })
         }
-        Err(e) => {
-            let why = wanted(e);
-            let at = standing(seen, base, &why);
-            let session = Session {
-                pass,
-                seen,
-                fresh,
-                open: None,
-            };
-            (session.carrying(at), Reply::Refused { at, why })
-        }
+        Err(e) => wanting(pass, seen, fresh, None, base, e),
     }
 }
 
@@ -185,14 +175,35 @@ pub(crate) fn alone<N: Site>(
         alloc, arena, &mut pass, &sight, None, fresh, false, statement,
     );
     let _now = pass.words();
-    let session = Session { pass, seen, fresh, open: None };
+    let session = Session {
+        pass,
+        seen,
+        fresh,
+        open: None,
+    };
     match prepared {
         Ok(Prepared::Answer { answered, reads }) => {
             drop(reads);
             (session.carrying(at), reply_of(at, 0, answered))
         }
-        Ok(Prepared::Change { proposal, step, reads }) => acted(
-            alloc, arena, keeper, session.pass, seen, fresh, sight, proposal, step, reads, statement,
+        Ok(
+            Prepared::Change {
+                proposal,
+                step,
+                reads,
+            },
+        ) => acted(
+            alloc,
+            arena,
+            keeper,
+            session.pass,
+            seen,
+            fresh,
+            sight,
+            proposal,
+            step,
+            reads,
+            statement,
         ),
         Err(why) => {
             let at = standing(seen, at, &why);

@@ -1,10 +1,13 @@
 // COMMIT of an open transaction.
 
-ghost use Rattle.std.specs.Prelude.{◌≡◌, ◌<◌, ◌^◌, IsSome, Some};
+ghost use Rattle.std.specs.Prelude.{◌≡◌, ◌<◌, ◌^◌, max, IsSome, Some};
 ghost use Rattle.ct_parse.specs.declared.tree.Statement.TheVariants as tree;
 ghost use Rattle.ct_session.specs.Executes.{Executes};
 ghost use Rattle.ct_session.specs.Outcomes.{outcome_reply, outcome_version, wanted};
+ghost use Rattle.ct_session.specs.Replying.{standing};
 ghost use Rattle.ct_session.specs.Sessions.{IsSession, state_of};
+ghost use Rattle.ct_session.specs.State.{carried};
+ghost use Rattle.ct_transcript.specs.declared.reply.Reply.TheVariants as reply;
 
 use crate::offering::copied;
 use crate::replying::standing;
@@ -41,13 +44,39 @@ fn replied(base: u32, outcome: Outcome) -> (u32, Reply)
 }
 
 /// The refusal of an offer for which something is wanting.
-pub(crate) fn wanted(e: KeeperError) -> Refusal
+fn wanted(e: KeeperError) -> Refusal
     ensures { result ≡ wanted e }
 {
     match e {
         KeeperError::Full => Refusal::Full,
         KeeperError::Memory => Refusal::Memory,
     }
+}
+
+/// The session and the reply to an offer with this base, for which something is wanting.
+pub(crate) fn wanting<N: Site>(
+    pass: Pass<N>,
+    seen: u32,
+    fresh: u32,
+    transaction: Option<Open>,
+    base: u32,
+    e: KeeperError,
+) -> (Session<N>, Reply)
+    ensures pass { result.0.pass ≡ pass }
+    ensures state { state_of result.0.pass result.0.seen result.0.fresh result.0.open ≡ carried (standing seen base (wanted e)) (state_of pass seen fresh transaction) }
+    ensures opened { result.0.open ≡ transaction }
+    ensures seen { result.0.seen ≡ max seen (standing seen base (wanted e)) }
+    ensures reply { result.1 ≡ reply.Refused (standing seen base (wanted e)) (wanted e) }
+{
+    let why = wanted(e);
+    let at = standing(seen, base, &why);
+    let session = Session {
+        pass,
+        seen,
+        fresh,
+        open: transaction,
+    };
+    (session.carrying(at), Reply::Refused { at, why })
 }
 
 /// COMMIT of the open transaction, whose change list was begun at this place: it is offered to the keeper. Where something
@@ -112,20 +141,12 @@ fn offered<N: Site>(
             (session.carrying(at), reply)
         }
         Err(e) => {
-            let why = wanted(e);
-            let at = standing(seen, base, &why);
             let transaction = Open {
                 sight,
                 changes: list,
                 reads,
             };
-            let session = Session {
-                pass,
-                seen,
-                fresh,
-                open: Some(transaction),
-            };
-            (session.carrying(at), Reply::Refused { at, why })
+            wanting(pass, seen, fresh, Some(transaction), base, e)
         }
     }
 }
@@ -168,7 +189,15 @@ pub(crate) fn commit<N: Site>(
             (session.carrying(at), Reply::Nothing { at })
         }
         Some(changes) => offered(
-            alloc, arena, keeper, pass, seen, fresh, transaction, changes, statement,
+            alloc,
+            arena,
+            keeper,
+            pass,
+            seen,
+            fresh,
+            transaction,
+            changes,
+            statement,
         ),
     }
 }

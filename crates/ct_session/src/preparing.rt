@@ -236,9 +236,7 @@ pub(crate) fn prepare<N: Site>(
         Ok(resolved) => resolved,
         Err(e) => return Err(named(e)),
     };
-    match perform(
-        alloc, arena, pass, sight, list, fresh, inside, resolved,
-    ) {
+    match perform(alloc, arena, pass, sight, list, fresh, inside, resolved) {
         Ok(prepared) => Ok(prepared),
         Err(why) => Err(why),
     }

@@ -1,10 +1,14 @@
-use Rattle.std.proofs.Common.{refl, subst}
-use Rattle.std.specs.Prelude.{None, Ok, Err}
+use Rattle.std.proofs.Common.{refl, sym, subst}
+use Rattle.std.specs.Prelude.{None, Ok}
 use Rattle.ct_keeper.specs.Offers.{BecomesOf}
 use Rattle.ct_word.proofs.Prefixes.{prefix_same}
 use Rattle.ct_transcript.specs.declared.reply.Reply.TheVariants as reply
+use Rattle.ct_session.specs.Answers.{Answers}
+use Rattle.ct_session.specs.Outcomes.{wanted}
+use Rattle.ct_session.specs.Replying.{standing}
 use Rattle.ct_session.specs.Sessions.{state_of}
-use Rattle.ct_session.proofs.Acted.{prepared_action, action_offer, is_commit, committed_answers, refused_answers}
+use Rattle.ct_session.specs.State.{carried}
+use Rattle.ct_session.proofs.Acted.{prepared_action, action_offer, is_commit, committed_answers, fault_answers}
 use Rattle.ct_session.proofs.Called.{IsCall}
 use Rattle.ct_session.proofs.Carrying.{carried_answers}
 use Rattle.ct_session.proofs.Replies.{memory_answers, proceeds_same}
@@ -42,7 +46,7 @@ returns-in-Ok-outcome-clause-executes g c = λ x reads.
       room = c.words-now.ensures.room;
     } in
     let becomes = subst (λ o. BecomesOf N c.args.keeper.now c.commit-pass.new.self pass after (record { base = s.version; reads = c.args.reads; changes = c.args.proposal.changes; kept = c.in-Ok.kept }) (Ok o)) c.number_of-at.ensures
-        (subst (BecomesOf N c.args.keeper.now c.commit-pass.new.self pass after (record { base = s.version; reads = c.args.reads; changes = c.args.proposal.changes; kept = c.in-Ok.kept })) c.in-Ok-outcome.is c.commit-pass.ensures.outcome) in
+    (subst (BecomesOf N c.args.keeper.now c.commit-pass.new.self pass after (record { base = s.version; reads = c.args.reads; changes = c.args.proposal.changes; kept = c.in-Ok.kept })) c.in-Ok-outcome.is c.commit-pass.ensures.outcome) in
     let left = c.carrying.result in
     let at = c.number_of-at.result in
     carried_answers after left.pass c.args.seen left.seen c.args.proposal.fresh left.fresh at None left.open c.carrying.ensures.pass c.carrying.ensures.state
@@ -90,8 +94,11 @@ returns-clause-executes g c = λ x reads.
       room = c.words-now.ensures.room;
     } in
     let becomes = subst (BecomesOf N c.args.keeper.now c.commit-pass.new.self pass after (record { base = s.version; reads = c.args.reads; changes = c.args.proposal.changes; kept = c.in-Ok.kept })) c.in-Err-outcome.is c.commit-pass.ensures.outcome in
-    let left = c.carrying-in-Err-outcome.result in
-    let at = c.standing-at.result in
-    carried_answers after left.pass c.args.seen left.seen c.args.fresh left.fresh at None left.open c.carrying-in-Err-outcome.ensures.pass c.carrying-in-Err-outcome.ensures.state
-    N (state_of pass c.args.seen c.args.fresh None) pass.words x (reply.Refused at c.wanted-why.result)
-    (refused_answers N pass c.args.seen c.args.fresh s c.requires.sight.within c.requires.seen st c.args.proposal c.args.step c.args.reads f c.args.keeper.now c.commit-pass.new.self c.requires.newest after k (record { base = s.version; reads = c.args.reads; changes = c.args.proposal.changes; kept = c.in-Ok.kept }) refl refl x reads at c.wanted-why.result c.in-Err-outcome.e c.wanted-why.ensures c.standing-at.ensures becomes)
+    let left = c.wanting.result.0 in
+    let e = c.in-Err-outcome.e in
+    let at = standing c.args.seen s.version (wanted e) in
+    carried_answers after left.pass c.args.seen left.seen c.args.fresh left.fresh at None left.open c.wanting.ensures.pass c.wanting.ensures.state
+    N (state_of pass c.args.seen c.args.fresh None) pass.words x c.wanting.result.1
+    (subst (λ r. Answers N (state_of pass c.args.seen c.args.fresh None) (carried at (state_of after c.args.seen c.args.fresh None)) pass.words after.words x r) (sym c.wanting.ensures.reply)
+    (fault_answers N pass c.args.seen c.args.fresh s c.requires.sight.within c.requires.seen st c.args.proposal c.args.step c.args.reads f c.args.keeper.now c.commit-pass.new.self c.requires.newest after k (record { base = s.version; reads = c.args.reads; changes = c.args.proposal.changes; kept = c.in-Ok.kept }) refl refl x reads
+    e becomes))

@@ -127,7 +127,7 @@ returns-in-Ok-Answer-clause-executes g c = λ x reads.
     let seen_is : seen ≤ s.version = let p = c.requires.session.seen_is in omega (arith, all_seen, p) in
     let kept = c.prepare-prepared.ensures.kept ∙ kept_tally first begun c.begin-pass.ensures.pass in
     let p = proceeds N first now (prefix_of_prefix first.words begun.words now.words c.begin-pass.ensures.longer c.prepare-prepared.ensures.longer) kept c.words-now.ensures.room
-        c.words-words.ensures.numbered c.words-now.ensures.numbered in
+    c.words-words.ensures.numbered c.words-now.ensures.numbered in
     let none = none_open c.args.session.open c.requires.none in
     let left = c.carrying.result in
     let given = c.in-Ok-Answer.answered in
@@ -152,7 +152,7 @@ returns-in-Ok-Change-clause-executes g c =
     let s = c.of-sight.result in
     let kept = c.prepare-prepared.ensures.kept ∙ kept_tally first begun c.begin-pass.ensures.pass in
     let p = proceeds N first now (prefix_of_prefix first.words begun.words now.words c.begin-pass.ensures.longer c.prepare-prepared.ensures.longer) kept c.words-now.ensures.room
-        c.words-words.ensures.numbered c.words-now.ensures.numbered in
+    c.words-words.ensures.numbered c.words-now.ensures.numbered in
     let none = none_open c.args.session.open c.requires.none in
     let after = c.acted.result.0 in
     let next = state_of after.pass after.seen after.fresh after.open in
@@ -203,7 +203,7 @@ returns-in-Err-prepared-clause-executes g c = λ x reads.
     let seen_is : seen ≤ s.version = let p = c.requires.session.seen_is in omega (arith, all_seen, p) in
     let kept = c.prepare-prepared.ensures.kept ∙ kept_tally first begun c.begin-pass.ensures.pass in
     let p = proceeds N first now (prefix_of_prefix first.words begun.words now.words c.begin-pass.ensures.longer c.prepare-prepared.ensures.longer) kept c.words-now.ensures.room
-        c.words-words.ensures.numbered c.words-now.ensures.numbered in
+    c.words-words.ensures.numbered c.words-now.ensures.numbered in
     let none = none_open c.args.session.open c.requires.none in
     let left = c.carrying-in-Err-prepared.result in
     let at = c.standing-at.result in

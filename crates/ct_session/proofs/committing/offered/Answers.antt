@@ -1,15 +1,18 @@
-use Rattle.std.proofs.Common.{refl, subst, ◌∙◌}
-use Rattle.std.specs.Prelude.{Some, None, Ok, Err}
+use Rattle.std.proofs.Common.{refl, sym, subst, ◌∙◌}
+use Rattle.std.specs.Prelude.{Some, None}
 use Rattle.ct_keeper.specs.Offers.{BecomesOf}
 use Rattle.ct_word.proofs.Prefixes.{prefix_same}
-use Rattle.ct_transcript.specs.declared.reply.Reply.TheVariants as reply
+use Rattle.ct_session.specs.Answers.{Answers}
+use Rattle.ct_session.specs.Outcomes.{wanted}
+use Rattle.ct_session.specs.Replying.{standing}
 use Rattle.ct_session.specs.Sessions.{state_of}
+use Rattle.ct_session.specs.State.{carried}
 use Rattle.ct_session.proofs.Called.{IsCall}
 use Rattle.ct_session.proofs.Carrying.{carried_answers, carried_session}
 use Rattle.ct_session.proofs.Offered.{is_begun, is_offer}
 use Rattle.ct_session.proofs.Opened.{open_grows}
 use Rattle.ct_session.proofs.Replies.{memory_answers, proceeds_same}
-use Rattle.ct_session.proofs.Whole.{replied_answers, refused_answers, replied_seen, refused_seen}
+use Rattle.ct_session.proofs.Whole.{replied_answers, fault_answers, replied_seen, wanting_seen}
 use Rattle.ct_session.proofs.committing.offered.Goals as goal
 
 pub returns-in-Err-clause-executes : goal.returns-in-Err-clause-executes
@@ -88,12 +91,10 @@ returns-in-Err-outcome-clause-session g c =
       counted = c.words-now.ensures.numbered;
       room = c.words-now.ensures.room;
     } in
-    let left = c.carrying-in-Err-outcome.result in
-    let at = c.standing-at.result in
-    carried_session after left.pass c.args.seen left.seen c.args.fresh left.fresh at (Some o) left.open c.carrying-in-Err-outcome.ensures.pass c.carrying-in-Err-outcome.ensures.seen c.carrying-in-Err-outcome.ensures.open
-    (record {
-      seen_is = refused_seen N pass.words pass c.args.seen o.sight.version c.requires.session.seen_is b.sight_is.within c.args.keeper.now c.commit-pass.new.self after k
-          at c.wanted-why.result c.standing-at.ensures;
+    let left = c.wanting.result.0 in
+    let e = c.in-Err-outcome.e in
+    carried_session after left.pass c.args.seen left.seen c.args.fresh left.fresh (standing c.args.seen o.sight.version (wanted e)) (Some o) left.open c.wanting.ensures.pass c.wanting.ensures.seen c.wanting.ensures.opened (record {
+      seen_is = wanting_seen N pass.words pass c.args.seen o.sight.version c.requires.session.seen_is b.sight_is.within c.args.keeper.now c.commit-pass.new.self after k e;
       open_is = open_grows pass.words after.words c.commit-pass.ensures.longer c.words-now.ensures.formed o c.requires.session.open_is;
     })
 
@@ -114,10 +115,12 @@ returns-in-Err-outcome-clause-executes g c = λ x reads.
       counted = c.words-now.ensures.numbered;
       room = c.words-now.ensures.room;
     } in
-    let left = c.carrying-in-Err-outcome.result in
-    let at = c.standing-at.result in
+    let left = c.wanting.result.0 in
+    let e = c.in-Err-outcome.e in
+    let at = standing c.args.seen o.sight.version (wanted e) in
     let becomes = subst (BecomesOf N c.args.keeper.now c.commit-pass.new.self pass after (record { base = o.sight.version; reads = o.reads; changes = c.args.changes; kept = c.in-Ok.kept })) c.in-Err-outcome.is c.commit-pass.ensures.outcome in
-    carried_answers after left.pass c.args.seen left.seen c.args.fresh left.fresh at (Some o) left.open c.carrying-in-Err-outcome.ensures.pass c.carrying-in-Err-outcome.ensures.state
-    N (state_of pass c.args.seen c.args.fresh (Some o)) pass.words x (reply.Refused at c.wanted-why.result)
-    (refused_answers N pass c.args.seen c.args.fresh o c.requires.session.open_is c.args.statement.now c.requires.order x reads c.args.changes b c.args.keeper.now c.commit-pass.new.self after k (record { base = o.sight.version; reads = o.reads; changes = c.args.changes; kept = c.in-Ok.kept }) refl refl refl
-    at c.wanted-why.result c.in-Err-outcome.e c.wanted-why.ensures c.standing-at.ensures becomes)
+    carried_answers after left.pass c.args.seen left.seen c.args.fresh left.fresh at (Some o) left.open c.wanting.ensures.pass c.wanting.ensures.state
+    N (state_of pass c.args.seen c.args.fresh (Some o)) pass.words x c.wanting.result.1
+    (subst (λ r. Answers N (state_of pass c.args.seen c.args.fresh (Some o)) (carried at (state_of after c.args.seen c.args.fresh (Some o))) pass.words after.words x r) (sym c.wanting.ensures.reply)
+    (fault_answers N pass c.args.seen c.args.fresh o c.requires.session.open_is c.args.statement.now c.requires.order x reads c.args.changes b c.args.keeper.now c.commit-pass.new.self after k (record { base = o.sight.version; reads = o.reads; changes = c.args.changes; kept = c.in-Ok.kept }) refl refl refl
+    e becomes))

@@ -1,4 +1,4 @@
-use Rattle.std.proofs.Common.{ap, sym, subst}
+use Rattle.std.proofs.Common.{sym, subst}
 use Rattle.ct_query.specs.Plain as plain
 use Rattle.ct_query.specs.Views.{action_of}
 use Rattle.ct_statement.specs.Proposals.{IsProposal, listed}
@@ -18,23 +18,26 @@ step_where_needed-step-requires-clause-proposal g c =
     let old = c.args.pass.now.words in
     let new = c.propose.new.pass.words in
     let s = c.args.sight.now in
-    let list = listed old c.args.list in
-    (list,
-    subst (λ h. IsProposal new h (actions_before s) list (action_of c.in-Ok.proposal.action) c.in-Ok.proposal.changes) (same_history old new c.propose.ensures.longer s c.requires.sight.within)
-    (subst (λ a. IsProposal new (history_of old s) (actions_before s) list a c.in-Ok.proposal.changes) (sym c.in-Ok.ensures.action) c.in-Ok.ensures.proposes))
+    let list = listed old c.args.list in (
+      list,
+      subst (λ h. IsProposal new h (actions_before s) list (action_of c.in-Ok.proposal.action) c.in-Ok.proposal.changes) (same_history old new c.propose.ensures.longer s c.requires.sight.within)
+          (subst (λ a. IsProposal new (history_of old s) (actions_before s) list a c.in-Ok.proposal.changes) (sym c.in-Ok.ensures.action) c.in-Ok.ensures.proposes),
+    )
 
 pub returns-in-Ok-step-clause-ok : goal.returns-in-Ok-step-clause-ok
 returns-in-Ok-step-clause-ok g c =
     let old = c.args.pass.now.words in
     let s = c.args.sight.now in
-    let new = c.step_where_needed-step.new.pass.words in
-    (record {
-      action = c.in-Ok.ensures.action;
-      proposes = proposal_grows c.propose.new.pass.words new c.step_where_needed-step.ensures.longer (history_of old s) (actions_before s) (listed old c.args.list) (action_of c.args.action)
-          c.in-Ok.proposal.changes c.in-Ok.ensures.proposes;
-      draws = c.in-Ok.ensures.fresh;
-      steps = subst (λ a. IsStepIf new s a c.in-Ok-step.step) c.in-Ok.ensures.action c.in-Ok-step.ensures.step;
-    }, c.requires.reads)
+    let new = c.step_where_needed-step.new.pass.words in (
+      record {
+        action = c.in-Ok.ensures.action;
+        proposes = proposal_grows c.propose.new.pass.words new c.step_where_needed-step.ensures.longer (history_of old s) (actions_before s) (listed old c.args.list) (action_of c.args.action)
+            c.in-Ok.proposal.changes c.in-Ok.ensures.proposes;
+        draws = c.in-Ok.ensures.fresh;
+        steps = subst (λ a. IsStepIf new s a c.in-Ok-step.step) c.in-Ok.ensures.action c.in-Ok-step.ensures.step;
+      },
+      c.requires.reads,
+    )
 
 pub returns-in-Err-step-clause-err : goal.returns-in-Err-step-clause-err
 returns-in-Err-step-clause-err g c =

@@ -14,7 +14,7 @@ returns-in-Err-clause-err g c =
     let s = c.args.sight.now in
     let st = c.args.statement.now in
     let same : c.headings-headings.result.now ≡ schema (history_of words s) (actions_before s) =
-        λ i. record { tables = (c.headings-headings.ensures ∙ ap (map heading_of) c.db.ensures ∙ c.requires.sight.denotes.worth.headings) i } in
+    λ i. record { tables = (c.headings-headings.ensures ∙ ap (map heading_of) c.db.ensures ∙ c.requires.sight.denotes.worth.headings) i } in
     subst (λ why. IsRefused (history_of words s) (actions_before s) g.N.Site.log.cap words c.args.pass.now.session c.args.fresh st why) (sym c.named.ensures)
     (named_refuses (history_of words s) (actions_before s) g.N.Site.log.cap words c.args.pass.now.session c.args.fresh st c.in-Err.e
     (λ n. (λ i. resolved (sym same i) (sym c.session-session.ensures.value i) c.args.fresh st) ∙ c.in-Err.ensures.err n))
@@ -24,7 +24,7 @@ returns-in-Ok-perform-clause-ok g c =
     let words = c.args.pass.now.words in
     let s = c.args.sight.now in
     let same : c.headings-headings.result.now ≡ schema (history_of words s) (actions_before s) =
-        λ i. record { tables = (c.headings-headings.ensures ∙ ap (map heading_of) c.db.ensures ∙ c.requires.sight.denotes.worth.headings) i } in
+    λ i. record { tables = (c.headings-headings.ensures ∙ ap (map heading_of) c.db.ensures ∙ c.requires.sight.denotes.worth.headings) i } in
     record {
       asked = statement_of c.in-Ok.resolved;
       resolves = (λ i. resolved (sym same i) (sym c.session-session.ensures.value i) c.args.fresh c.args.statement.now) ∙ c.in-Ok.ensures.ok;
@@ -36,7 +36,7 @@ returns-in-Err-perform-clause-err g c =
     let words = c.args.pass.now.words in
     let s = c.args.sight.now in
     let same : c.headings-headings.result.now ≡ schema (history_of words s) (actions_before s) =
-        λ i. record { tables = (c.headings-headings.ensures ∙ ap (map heading_of) c.db.ensures ∙ c.requires.sight.denotes.worth.headings) i } in
+    λ i. record { tables = (c.headings-headings.ensures ∙ ap (map heading_of) c.db.ensures ∙ c.requires.sight.denotes.worth.headings) i } in
     unmet c.in-Err-perform.why (record {
       asked = statement_of c.in-Ok.resolved;
       resolves = (λ i. resolved (sym same i) (sym c.session-session.ensures.value i) c.args.fresh c.args.statement.now) ∙ c.in-Ok.ensures.ok;
