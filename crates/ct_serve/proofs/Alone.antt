@@ -95,7 +95,7 @@ one_more N s next words words' x r a before after = by_reply (committed_of r) re
   by_reply : (o : Option ℕ) → committed_of r ≡ o → next.commits ≤ s.commits + 1
   by_reply o e =
       let sum : next.commits ≡ s.commits + length (option_to_list o) = sym same_length ∙ ap length a.commits ∙ length-append (commits_by s.session 1 (commits_of words)) (option_to_list (committed_of r))
-          ∙ ap (λ n. n + length (option_to_list (committed_of r))) (counted s.session s.commits words before) ∙ ap (λ p. s.commits + length (option_to_list p)) e in
+      ∙ ap (λ n. n + length (option_to_list (committed_of r))) (counted s.session s.commits words before) ∙ ap (λ p. s.commits + length (option_to_list p)) e in
       let most : length (option_to_list o) ≤ 1 = at_most_one o in omega (arith, sum, most) where
         at_most_one : (p : Option ℕ) → length (option_to_list p) ≤ 1
         at_most_one None = omega arith

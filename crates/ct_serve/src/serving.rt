@@ -87,10 +87,7 @@ fn execute_script<N: Site, R: Wait, G: Gate + Sync>(
 ///
 /// # Errors
 /// `Memory` where there is none for its list of the log, or for the keeper.
-fn begin<N: Site>(
-    alloc: Global,
-    blank: Blank,
-) -> Result<(Arena<N>, Keeper<N>, Session<N>), Memory>
+fn begin<N: Site>(alloc: Global, blank: Blank) -> Result<(Arena<N>, Keeper<N>, Session<N>), Memory>
     requires name { blank ≡ N.log }
     requires one { N.sessions ≡ 1 }
     ensures begins { IfOk result (λ r. IsAtBeginning r.2.pass r.2.seen r.2.fresh r.2.open) }
