@@ -12,6 +12,7 @@ use Rattle.ct_word.specs.Writable.{is_writable}
 use Rattle.ct_word.proofs.Prefixes.{place_within, place_in_prefix, prefix_of_prefix, change_list_in_prefix, commits_prefix}
 use Rattle.ct_query.specs.Fits.{FitAfter}
 use Rattle.ct_query.specs.Frame.{creates}
+use Rattle.ct_query.specs.Patterns.{count}
 use Rattle.ct_arena.specs.Seen.{Seen, tally_of, pass_of}
 use Rattle.ct_table.specs.Snapshot.{IsKeptWorld, commits_to}
 use Rattle.ct_table.proofs.Snapshots.{kept_grows}
@@ -20,6 +21,7 @@ use Rattle.ct_keeper.specs.declared.catalogue.Outcome.{Outcome}
 use Rattle.ct_keeper.specs.declared.catalogue.Outcome.TheVariants as outcome
 use Rattle.ct_keeper.specs.declared.error.KeeperError.{KeeperError}
 use Rattle.ct_keeper.specs.declared.error.KeeperError.TheVariants as fault
+use Rattle.ct_keeper.specs.Bounds.{commit_words, offer_words}
 use Rattle.ct_keeper.specs.Catalogue.{Catalogue, Stays}
 use Rattle.ct_keeper.specs.Offers.{changes_in, commit_for, has_assertion, IsOffer, AreUnchanged, IsUnchanged, IsCommitted, IsUncommitted, IsConflict, BecomesOf}
 use Rattle.ct_keeper.proofs.Interning.{prefix_short}
@@ -54,6 +56,10 @@ module _ (pass : Seen) (words : List ℕ) (longer : IsPrefix pass.words words) (
           (kept_grows pass.words words longer formed (commits_to pass.words offer.base ++ commit_for pass offer ∷ []) [] offer.kept left.world));
     };
   }
+
+  -- the words of the offer are bounded by the same counts once the session has entered
+  pub words_entered : (old : List ℕ) → commits_of words ≡ commits_of old → offer_words words entered offer ≡ offer_words old pass offer
+  words_entered old come = λ i. commit_words (count (come i ++ same_commit i ∷ []) []) (same_list i)
 
   module _ (cap : ℕ) (old mid new : Catalogue) (same_words : mid.words ≡ words) (come : Stays old mid) (after : Seen) where
     same_history : commits_of mid.words ≡ commits_of old.words

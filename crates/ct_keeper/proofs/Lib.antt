@@ -7,3 +7,4 @@ pub mod Interning
 pub mod Making
 pub mod Applying
 pub mod Entering
+pub mod Weighing

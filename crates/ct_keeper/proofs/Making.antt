@@ -1,8 +1,9 @@
 -- A commit in the making: what its changes so far make, and one more of them.
 use Rattle.std.proofs.Common.{◌≡◌, ℕ, ◌+◌, ◌<◌, ◌≤◌, suc, List, [], ◌∷◌, ◌++◌, length, map, take, drop, get_or, refl, ap, sym, subst, ◌∙◌, take_all, drop-cons, add-one, zero, arith}
 use Rattle.std.proofs.lemmas.Bool.{and_parts}
-use Rattle.std.proofs.lemmas.List.{map_more}
-use Rattle.std.specs.Prelude.{IsTrue, All, filter_map}
+use Rattle.std.proofs.lemmas.List.{map_more, map-append, take-append-drop}
+use Rattle.std.proofs.lemmas.List.Sums.{sum_by-append, sum_by_push}
+use Rattle.std.specs.Prelude.{IsTrue, All, filter_map, sum_by}
 use Rattle.std.specs.List.{list_all}
 use mathlib.Core.List.{IsPrefix}
 use Rattle.ct_word.specs.declared.kinds.Class.TheVariants as class
@@ -24,13 +25,12 @@ use Rattle.ct_table.proofs.Snapshots.{global_grows}
 use Rattle.ct_table.proofs.Carrying.{same_changes_denote, same_changes_global}
 use Rattle.ct_table.proofs.Following.{change_follows}
 use Rattle.ct_keeper.specs.declared.latest.Content.{Content}
+use Rattle.ct_keeper.specs.Bounds.{applied_words, commit_by, counts_with, first_words, all_words}
+use Rattle.ct_keeper.specs.Effects.{effect_words}
 use Rattle.ct_keeper.specs.Steps.{IsMade, IsAfter, CanApply}
 use Rattle.ct_keeper.proofs.Walking.{tables_formed, written_later, written_same, no_change_yet, one_change_more}
 use Rattle.ct_keeper.proofs.Doing.{tables_denote, global_holds}
-
--- a commit of these changes, by no session
-abbrev pub commit_by : List PlainChange → PlainCommit
-commit_by xs = record { session = 0; number = 0; changes = xs }
+use Rattle.ct_keeper.proofs.Weighing.{part_of_more, effect_within}
 
 -- further changes fit the tables after a history and a commit of these changes
 abbrev pub FitsNext : List PlainCommit → List PlainChange → List PlainChange → Type 0
@@ -99,6 +99,18 @@ module _ (old : List ℕ) (was : Content) (changes : List Written) (can : CanApp
   pub applied_to_end : (mid : List ℕ) (i : ℕ) (content : Content) → length changes ≤ i → IsApplied old mid was changes i content → IsMade mid h (map plain changes) content
   applied_to_end mid i content le is = subst (λ ws. IsMade mid h (map plain ws) content) (take_all i changes le) is.made
 
+  abbrev weigh : PlainChange → ℕ
+  weigh = applied_words (counts_with h (map plain changes))
+
+  parts : (i : ℕ) → map plain (take i changes) ++ map plain (drop i changes) ≡ map plain changes
+  parts i = sym (map-append plain (take i changes) (drop i changes)) ∙ ap (map plain) (take-append-drop i changes)
+
+  -- the first changes make no more words than all
+  pub first_fewer : (i : ℕ) → first_words old changes (take i changes) ≤ all_words old changes
+  first_fewer i =
+      let whole = sym (ap (sum_by weigh) (parts i)) ∙ sum_by-append weigh (map plain (take i changes)) (map plain (drop i changes)) in
+      omega (arith, whole)
+
   module _ (mid : List ℕ) (longer : IsPrefix old mid) (i : ℕ) (content : Content) (is : IsApplied old mid was changes i content) (w : Written) (at : w ≡ get_or changes i w) (lt : i < length changes) where
     abbrev done : List PlainChange
     done = map plain (take i changes)
@@ -129,6 +141,24 @@ module _ (old : List ℕ) (was : Content) (changes : List Written) (can : CanApp
         subst (λ hs. FitsChange hs (plain_written mid w)) (sym (is.made.denotes (commit_by done) refl).worth.headings)
         (subst (FitsChange (schema (h ++ commit_by done ∷ []) []).tables) (sym same) (next (commit_by done) refl).0)
 
+    -- what the next change makes
+    next_words : effect_words content.tables (plain_written mid w) ≤ weigh (plain w)
+    next_words =
+        subst (λ x. effect_words content.tables x ≤ weigh (plain w)) (sym same)
+        (subst (λ xs. effect_words content.tables (plain w) ≤ applied_words (counts_with h xs) (plain w)) (parts i)
+        (effect_within mid (h ++ commit_by done ∷ []) (h ++ commit_by (done ++ map plain (drop i changes)) ∷ []) content.tables (is.made.denotes (commit_by done) refl).worth
+        (part_of_more h done (map plain (drop i changes))) (plain w)))
+
+    -- with what was made before
+    pub words_on : (a b c : ℕ) → b ≤ a + first_words old changes (take i changes) → c ≤ b + effect_words content.tables (plain_written mid w) → c ≤ a + first_words old changes (take (i + 1) changes)
+    words_on a b c p q =
+        let more : first_words old changes (take (i + 1) changes) ≡ first_words old changes (take i changes) + weigh (plain w) =
+        ap (sum_by weigh) (map_more plain changes i w lt ∙ ap (λ x. done ++ plain x ∷ []) (sym at)) ∙ sum_by_push weigh done (plain w) in
+        omega (arith, p, q, next_words, more)
+
+    pub words_within : (a b c : ℕ) → b ≤ a + first_words old changes (take i changes) → c ≤ b + effect_words content.tables (plain_written mid w) → c ≤ a + all_words old changes
+    words_within a b c p q = let some = words_on a b c p q in let fewer = first_fewer (i + 1) in omega (arith, some, fewer)
+
     pub applied_more : (new : List ℕ) → IsPrefix mid new → IsWellFormed new → (after : Content) → IsAfter mid new content w after → IsApplied old new was changes (i + 1) after
     applied_more new grown formed after does =
         let more : map plain (take (i + 1) changes) ≡ done ++ plain w ∷ [] = map_more plain changes i w lt ∙ ap (λ x. done ++ plain x ∷ []) (sym at) in
@@ -154,6 +184,9 @@ module _ (old : List ℕ) (was : Content) (w : Written) (can : CanApply old was 
 
   pub one_fitting : FitsChange (map heading_of was.tables) (plain_written old w)
   one_fitting = next_fits old was (w ∷ []) can old (prefix_same old) 0 was first w refl (omega arith)
+
+  pub one_words : (a c : ℕ) → c ≤ a + effect_words was.tables (plain_written old w) → c ≤ a + all_words old (w ∷ [])
+  one_words a c = words_within old was (w ∷ []) can old (prefix_same old) 0 was first w refl (omega arith) a a c (omega arith)
 
   pub one_applied : (mid : List ℕ) → IsPrefix old mid → IsWellFormed mid → (after : Content) → IsAfter old mid was w after → (new : List ℕ) → IsPrefix mid new → IsWellFormed new
       → IsMade new (commits_of old) (plain_written old w ∷ []) after

@@ -1,6 +1,5 @@
 -- What one change does to tables and to the global condition.
-use Rattle.std.specs.Prelude.{◌≡◌, ◌⊎◌, ℕ, ◌+◌, ◌*◌, not, List, [], ◌∷◌, ◌++◌, length, map, filter, Option, Some, None, IsTrue, All}
-use Rattle.ct_word.specs.declared.kinds.Class.TheVariants as class
+use Rattle.std.specs.Prelude.{◌≡◌, ◌⊎◌, ℕ, ◌+◌, ◌*◌, not, List, [], ◌∷◌, ◌++◌, length, filter, Option, Some, None, All}
 use Rattle.ct_word.specs.declared.values.CRow.{CRow}
 use Rattle.ct_word.specs.Value.{World}
 use Rattle.ct_word.specs.Condition.{holds}
@@ -8,7 +7,6 @@ use Rattle.ct_word.specs.Sublist.{IsSublist}
 use Rattle.ct_word.specs.Change.{PlainChange, Create, Insert, Delete, Assert}
 use Rattle.ct_word.specs.Reading.{condition_at}
 use Rattle.ct_word.specs.Stands.{TermBelow, HasNoColumn}
-use Rattle.ct_word.specs.WellFormed.{is_place_of}
 use Rattle.ct_query.specs.Bounds.{ops}
 use Rattle.ct_query.specs.Database.{SameSet}
 use Rattle.ct_condition.specs.Truth.{HasTruth, and_at}

@@ -7,3 +7,4 @@ pub mod Latest
 pub mod Conflicting
 pub mod Faults
 pub mod Steps
+pub mod Bounds

@@ -1,17 +1,19 @@
 // How changes are applied and committed: one in place, several on a copy of the list of the tables.
 
-ghost use Rattle.std.specs.Prelude.{◌≡◌, ◌<◌, ◌^◌, [], ◌∷◌, true, length, map, All, IfOk, IfErr, OnOk, OnErr, MatchResult, IsTrue, Some};
+ghost use Rattle.std.specs.Prelude.{◌≡◌, ◌<◌, ◌≤◌, ◌+◌, ◌^◌, [], ◌∷◌, true, length, map, All, IfOk, IfErr, OnOk, OnErr, MatchResult, IsTrue, Some, is_err};
 ghost use Rattle.std.specs.Arc.{arc_value};
 ghost use Rattle.ct_word.specs.declared.kinds.Class.TheVariants as class;
 ghost use Rattle.ct_word.specs.Reading.{commits_of, change_list_at};
 ghost use Rattle.ct_word.specs.WellFormed.{is_place_of};
 ghost use Rattle.ct_query.specs.Fits.{FitsChange};
+ghost use Rattle.ct_condition.specs.Writes.{charge};
 ghost use Rattle.ct_history.specs.Written.{IsWritten, plain_written};
 ghost use Rattle.ct_table.specs.Denotes.{heading_of};
 ghost use Rattle.ct_table.specs.Pending.{FitsGrowth, after};
 ghost use Rattle.ct_table.specs.Refusals as refusals;
 ghost use Rattle.ct_table.specs.Tables.{AreRows};
-ghost use Rattle.ct_keeper.specs.Effects.{DoesChange, FitsEffect};
+ghost use Rattle.ct_keeper.specs.Bounds.{all_words};
+ghost use Rattle.ct_keeper.specs.Effects.{DoesChange, FitsEffect, effect_words};
 ghost use Rattle.ct_keeper.specs.Faults.{is_full};
 ghost use Rattle.ct_keeper.specs.Steps.{Interns, Appends, IsMade, IsAfter, CanApply};
 
@@ -48,6 +50,7 @@ fn effect_for<N: Site>(
     ensures does { IfOk result (DoesChange keeper.old.words keeper.new.words content.now.tables content.now.global change.now) }
     ensures interns { Interns keeper.old guest.old keeper.new guest.new }
     ensures full { refusals.is_full result ≡ true → length keeper.new.words ≡ N.log.cap }
+    ensures words { guest.new.made + charge (refusals.is_full result) ≤ guest.old.made + effect_words content.now.tables (plain_written keeper.old.words change.now) }
 {
     let mut seated = Seated { keeper, guest };
     effect_of(
@@ -80,6 +83,7 @@ fn applied<N: Site>(
     ensures after { IfOk result (IsAfter keeper.old.words keeper.new.words content change.now) }
     ensures interns { Interns keeper.old guest.old keeper.new guest.new }
     ensures full { is_full result ≡ true → length keeper.new.words ≡ N.log.cap }
+    ensures words { guest.new.made + charge (is_full result) ≤ guest.old.made + effect_words content.tables (plain_written keeper.old.words change.now) }
 {
     let effect = effect_for(alloc, arena, keeper, guest, &content, change)?;
     let Content { tables, global } = content;
@@ -110,6 +114,7 @@ fn applied_all<N: Site>(
     ensures made { IfOk result (IsMade keeper.new.words (commits_of keeper.old.words) (map (plain_written keeper.old.words) changes.now)) }
     ensures interns { Interns keeper.old guest.old keeper.new guest.new }
     ensures full { is_full result ≡ true → length keeper.new.words ≡ N.log.cap }
+    ensures words { guest.new.made + charge (is_full result) ≤ guest.old.made + all_words keeper.old.words changes.now }
 {
     // The words are well formed, also where there is no change.
     let _ = keeper.words();
@@ -140,6 +145,7 @@ fn append<N: Site>(
     ensures appends { OnOk result (Appends list keeper.old guest.old keeper.new guest.new) }
     ensures interns { OnErr result (Interns keeper.old guest.old keeper.new guest.new) }
     ensures full { OnErr result (length keeper.new.words ≡ N.log.cap) }
+    ensures words { guest.new.made + charge (is_err result) ≤ guest.old.made + 1 }
 {
     match keeper.append_commit(arena, guest, list) {
         Ok(_) => Ok(()),
@@ -169,6 +175,7 @@ fn grow<N: Site>(
     ensures interns { OnErr result.1 (Interns keeper.old guest.old keeper.new guest.new) }
     ensures tables { MatchResult result.1 (λ _. result.0 ≡ after tables growth) (λ _. result.0 ≡ tables) }
     ensures full { is_full result.1 ≡ true → length keeper.new.words ≡ N.log.cap }
+    ensures words { guest.new.made + charge (is_full result.1) ≤ guest.old.made + 1 }
 {
     // The words are well formed, also where the commit is not tried.
     let _ = keeper.words();
@@ -208,6 +215,7 @@ pub fn commit_one<N: Site>(
     ensures interns { OnErr result (Interns keeper.old guest.old keeper.new guest.new) }
     ensures same { OnErr result (content.new ≡ content.old) }
     ensures full { is_full result ≡ true → length keeper.new.words ≡ N.log.cap }
+    ensures words { guest.new.made + charge (is_full result) ≤ guest.old.made + (1 + all_words keeper.old.words (change.now ∷ [])) }
 {
     let effect = effect_for(alloc, arena, keeper, guest, content, change)?;
     match effect {
@@ -247,6 +255,7 @@ pub fn commit_all<N: Site>(
     ensures interns { OnErr result (Interns keeper.old guest.old keeper.new guest.new) }
     ensures same { OnErr result (content.new ≡ content.old) }
     ensures full { is_full result ≡ true → length keeper.new.words ≡ N.log.cap }
+    ensures words { guest.new.made + charge (is_full result) ≤ guest.old.made + (1 + all_words keeper.old.words changes.now) }
 {
     let made = applied_all(alloc, arena, keeper, guest, content, changes)?;
     append(arena, keeper, guest, list)?;

@@ -1,11 +1,13 @@
 // The keeper: what all sessions share besides the log.
 
-ghost use Rattle.std.specs.Prelude.{◌≡◌, ◌<◌, ◌^◌, [], length, IfOk, IfErr, OnOk, None, IsTrue};
+ghost use Rattle.std.specs.Prelude.{◌≡◌, ◌<◌, ◌≤◌, ◌+◌, ◌^◌, [], length, IfOk, IfErr, OnOk, None, IsTrue, IsErrOf};
 ghost use mathlib.Core.List.{IsPrefix};
 ghost use Rattle.ct_word.specs.Reading.{commits_of};
 ghost use Rattle.ct_word.specs.Value.{World};
 ghost use Rattle.ct_arena.specs.Seen.{tally_of};
 ghost use Rattle.ct_query.specs.Worlds.{admits};
+ghost use Rattle.ct_keeper.specs.declared.error.KeeperError.TheVariants as fault;
+ghost use Rattle.ct_keeper.specs.Bounds.{offer_words};
 ghost use Rattle.ct_keeper.specs.Catalogue.{Stays, IsNewest};
 ghost use Rattle.ct_keeper.specs.Offers.{IsOffer, BecomesOf};
 
@@ -98,6 +100,9 @@ impl<N: Site> Keeper<N> {
     /// commit after its base has changed what it read; else `Committed`, at the number of the new commit. All new tables
     /// are made first, and the commit word is appended last.
     ///
+    /// The words that are made are counted to the session: at most those of the commit and of applying its changes to
+    /// tables with as many rows as were ever inserted, and fewer where the log was full.
+    ///
     /// # Errors
     /// `Full` where the log has no room for a condition of the new tables or for the commit word, `Memory`. Where the
     /// answer is not `Committed`, commits, tables, global condition and kept world are as they were.
@@ -114,6 +119,8 @@ impl<N: Site> Keeper<N> {
         ensures words { result.0.words ≡ self.new.words }
         ensures longer { IsPrefix pass.words result.0.words }
         ensures session { result.0.session ≡ pass.session }
+        ensures made { result.0.made ≤ pass.made + offer_words self.old.words pass offer.now }
+        ensures fewer { IsErrOf result.1 fault.Full → result.0.made < pass.made + offer_words self.old.words pass offer.now }
     {
         let mut guest = self.pass.enter(arena, pass);
         // The words are well formed, which keeps what stands as words come.

@@ -1,13 +1,15 @@
 // What becomes of an offer.
 
-ghost use Rattle.std.specs.Prelude.{◌≡◌, ◌<◌, ◌^◌, true, if◌then◌else◌, length, map, All, IfOk, OnOk, OnErr, IsTrue, Some};
+ghost use Rattle.std.specs.Prelude.{◌≡◌, ◌<◌, ◌≤◌, ◌+◌, ◌^◌, true, if◌then◌else◌, length, map, All, IfOk, OnOk, OnErr, IsTrue, Some};
 ghost use Rattle.std.specs.List.{list_any};
 ghost use mathlib.Core.List.{IsPrefix};
 ghost use Rattle.ct_word.specs.declared.kinds.Class.TheVariants as class;
 ghost use Rattle.ct_word.specs.Reading.{commits_of, change_list_at};
 ghost use Rattle.ct_word.specs.WellFormed.{is_place_of};
 ghost use Rattle.ct_arena.specs.Seen.{pass_of};
+ghost use Rattle.ct_condition.specs.Writes.{charge};
 ghost use Rattle.ct_history.specs.Written.{IsWritten, plain_written};
+ghost use Rattle.ct_keeper.specs.Bounds.{all_words, offer_words};
 ghost use Rattle.ct_keeper.specs.Faults.{is_full};
 ghost use Rattle.ct_keeper.specs.Latest.{IsLatest, catalogue_of};
 ghost use Rattle.ct_keeper.specs.Offers.{IsOffer, IsUnchanged, BecomesOf};
@@ -95,6 +97,7 @@ fn commit_list<N: Site>(
     ensures interns { OnErr result (Interns keeper.old guest.old keeper.new guest.new) }
     ensures same { OnErr result (content.new ≡ content.old) }
     ensures full { is_full result ≡ true → length keeper.new.words ≡ N.log.cap }
+    ensures words { guest.new.made + charge (is_full result) ≤ guest.old.made + (1 + all_words keeper.old.words changes.now) }
 {
     match changes {
         [change] => commit_one(alloc, arena, keeper, guest, content, change, list),
@@ -127,6 +130,7 @@ fn commit_offer<N: Site>(
     ensures interns { OnErr result (Interns keeper.old guest.old keeper.new guest.new) }
     ensures same { OnErr result (latest.new ≡ latest.old) }
     ensures full { is_full result ≡ true → length keeper.new.words ≡ N.log.cap }
+    ensures words { guest.new.made + charge (is_full result) ≤ guest.old.made + (1 + all_words keeper.old.words changes.now) }
 {
     // There are fewer commits than words.
     let _ = keeper.words();
@@ -160,6 +164,7 @@ pub fn outcome_of<N: Site>(
     ensures enrolled { keeper.new.enrolled ≡ keeper.old.enrolled }
     ensures session { guest.new.session ≡ guest.old.session }
     ensures longer { IsPrefix keeper.old.words keeper.new.words }
+    ensures words { guest.new.made + charge (is_full result) ≤ guest.old.made + offer_words keeper.old.words (pass_of guest.old keeper.old.words) offer.now }
 {
     let changes = changes_at(alloc, keeper.words(), offer.changes)?;
     if changes.is_empty() {

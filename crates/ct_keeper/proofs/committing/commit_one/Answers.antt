@@ -1,13 +1,15 @@
-use Rattle.std.proofs.Common.{◌≡◌, refl, subst, ◌∙◌}
+use Rattle.std.proofs.Common.{◌≡◌, ◌+◌, arith, rules, refl, subst, ◌∙◌}
 use Rattle.std.specs.Prelude.{Result, Ok, Err, OnOk, MatchResult}
 use Rattle.std.proofs.lemmas.Result.{on_ok_weaker}
 use Rattle.ct_word.specs.declared.kinds.Class.TheVariants as class
 use Rattle.ct_word.proofs.Prefixes.{place_in_prefix}
+use Rattle.ct_condition.specs.Writes.{charge}
 use Rattle.ct_table.specs.Pending.{after}
 use Rattle.ct_keeper.specs.declared.effects.Effect.TheVariants as effect
 use Rattle.ct_keeper.specs.Effects.{DoesChange}
+use Rattle.ct_keeper.specs.Faults.{is_full}
 use Rattle.ct_keeper.proofs.Interning.{appended_on}
-use Rattle.ct_keeper.proofs.Making.{one_written, one_applied}
+use Rattle.ct_keeper.proofs.Making.{one_written, one_words, one_applied}
 use Rattle.ct_keeper.proofs.committing.commit_one.Goals as goal
 
 -- two facts of a call that was not refused
@@ -70,3 +72,16 @@ returns-in_ok-append-in-Narrows-clause-made g c =
       global = refl;
     })
     c.append.new.keeper.words to.longer to.formed
+
+pub returns-in-Grows-clause-words : goal.returns-in-Grows-clause-words
+returns-in-Grows-clause-words g c =
+    let some = c.in_ok-effect.ensures.words in
+    let all = one_words c.args.keeper.now.words c.args.content.now c.args.change.now c.requires.can c.args.guest.now.made c.effect_for.new.guest.made (omega (arith, some)) in
+    let more = c.grow-tables.ensures.words in
+    omega (arith, all, more)
+
+pub returns-in_err-effect-clause-words : goal.returns-in_err-effect-clause-words
+returns-in_err-effect-clause-words g c =
+    let all = one_words c.args.keeper.now.words c.args.content.now c.args.change.now c.requires.can c.args.guest.now.made
+    (c.effect_for.new.guest.made + charge (is_full c.from_residual.result)) (search rules) in
+    omega (arith, all)

@@ -1,10 +1,15 @@
-use Rattle.std.proofs.Common.{refl, sym, subst}
+use Rattle.std.proofs.Common.{ap, arith, refl, sym, subst, ◌∙◌}
+use mathlib.Core.List.{IsPrefix}
+use Rattle.ct_word.proofs.Prefixes.{prefix_of_prefix}
 use Rattle.ct_arena.specs.Seen.{pass_of}
+use Rattle.ct_condition.specs.Writes.{charge}
+use Rattle.ct_keeper.specs.Bounds.{offer_words}
 use Rattle.ct_keeper.specs.Catalogue.{Stays}
+use Rattle.ct_keeper.specs.Faults.{is_full}
 use Rattle.ct_keeper.specs.Latest.{catalogue_of}
 use Rattle.ct_keeper.specs.Offers.{IsOffer, BecomesOf}
 use Rattle.ct_keeper.proofs.Standing.{still}
-use Rattle.ct_keeper.proofs.Entering.{offer_grows, becomes_from}
+use Rattle.ct_keeper.proofs.Entering.{offer_grows, words_entered, becomes_from}
 use Rattle.ct_keeper.proofs.keeper.Keeper.commit.Goals as goal
 
 pub outcome_of-outcome-requires-clause-latest : goal.outcome_of-outcome-requires-clause-latest
@@ -41,3 +46,41 @@ returns-clause-outcome g c =
     (subst (λ p. BecomesOf cap (catalogue_of k.pass k.latest) (catalogue_of p made.new.latest) pass c.leave-pass.result offer made.result) (sym c.leave-pass.ensures.left)
     (subst (λ p. BecomesOf cap (catalogue_of k.pass k.latest) new pass p offer made.result) (sym c.leave-pass.ensures.pass)
     (becomes_from pass words c.enter-guest.ensures.seen c.words.ensures.formed offer c.requires.offer cap (catalogue_of k.pass k.latest) mid new refl stays after made.result its)))
+
+pub returns-clause-made : goal.returns-clause-made
+returns-clause-made g c =
+    let pass = c.args.pass in
+    let offer = c.args.offer.now in
+    let k = c.self.inside in
+    let words = c.enter-guest.new.self.words in
+    let entered = ap (λ t. t.made) c.enter-guest.ensures.guest in
+    let same =
+    ap (λ t. offer_words words (pass_of t words) offer) c.enter-guest.ensures.guest
+    ∙ words_entered pass words c.enter-guest.ensures.seen c.words.ensures.formed offer c.requires.offer k.pass.words c.enter-guest.ensures.commits
+    ∙ ap (λ o. offer_words o.words pass offer) c.self.view_is in
+    let left = ap (λ p. p.made) c.leave-pass.ensures.pass in
+    let made = c.outcome_of-outcome.ensures.words in
+    omega (arith, entered, same, left, made)
+
+pub returns-clause-fewer : goal.returns-clause-fewer
+returns-clause-fewer g c = λ refused.
+    let pass = c.args.pass in
+    let offer = c.args.offer.now in
+    let k = c.self.inside in
+    let words = c.enter-guest.new.self.words in
+    let entered = ap (λ t. t.made) c.enter-guest.ensures.guest in
+    let same =
+    ap (λ t. offer_words words (pass_of t words) offer) c.enter-guest.ensures.guest
+    ∙ words_entered pass words c.enter-guest.ensures.seen c.words.ensures.formed offer c.requires.offer k.pass.words c.enter-guest.ensures.commits
+    ∙ ap (λ o. offer_words o.words pass offer) c.self.view_is in
+    let left = ap (λ p. p.made) c.leave-pass.ensures.pass in
+    let made = c.outcome_of-outcome.ensures.words in
+    let one = ap (λ r. charge (is_full r)) refused in
+    omega (arith, entered, same, left, made, one)
+
+pub returns-clause-longer : goal.returns-clause-longer
+returns-clause-longer g c =
+    let pass = c.args.pass in
+    let made = c.outcome_of-outcome in
+    subst (λ p. IsPrefix pass.words p.words) (sym c.leave-pass.ensures.pass)
+    (prefix_of_prefix pass.words c.enter-guest.new.self.words made.new.keeper.words c.enter-guest.ensures.seen made.ensures.longer)
