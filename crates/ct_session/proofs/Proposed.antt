@@ -27,4 +27,5 @@ module _ (old new : List ℕ) (longer : IsPrefix old new) where
     fits = p.fits;
     writable = p.writable;
     terms = p.terms;
+    written = p.written;
   }

@@ -24,4 +24,5 @@ sight_grows old new longer formed s k =
       denotes = subst (λ g. Denotes new g before s.tables) same (denotes_grows old new longer was h before s.tables k.denotes);
       condition = subst (λ g. IsGlobal new g before s.global) same (global_grows old new longer formed h before s.global k.condition);
       world = subst (λ g. IsKeptWorld new g before (arc_value s.kept)) same (kept_grows old new longer formed h before (arc_value s.kept) k.world);
+      written = k.written;
     }
