@@ -8,3 +8,4 @@ pub mod Conflicting
 pub mod Faults
 pub mod Steps
 pub mod Bounds
+pub mod Served

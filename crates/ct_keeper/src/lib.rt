@@ -10,6 +10,7 @@ mod growing;
 mod keeper;
 mod latest;
 mod offering;
+mod server;
 mod tables;
 
 pub use catalogue::{Offer, Outcome, Snapshot};
@@ -17,4 +18,5 @@ pub use effects::{Effect, effect_of};
 pub use error::KeeperError;
 pub use growing::grown;
 pub use keeper::Keeper;
+pub use server::Server;
 pub use tables::Tables;

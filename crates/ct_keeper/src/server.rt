@@ -1,0 +1,122 @@
+// The keeper behind its lock, with the log: what the sessions of a run share.
+
+ghost use Rattle.std.specs.Prelude.{◌≡◌, ◌<◌, ◌≤◌, ◌+◌, ◌^◌, length, map, sum_by, All, IfOk, IsErrOf, IsTrue};
+ghost use Rattle.std.specs.List.{range_with_len};
+ghost use mathlib.Core.List.{IsPrefix};
+ghost use Rattle.ct_word.specs.Reading.{commits_of};
+ghost use Rattle.ct_word.specs.Value.{World};
+ghost use Rattle.ct_word.specs.WellFormed.{IsWellFormed};
+ghost use Rattle.ct_arena.specs.Counts.{opening, AreNumbered, AreOfSessions};
+ghost use Rattle.ct_arena.specs.Seen.{tally_of};
+ghost use Rattle.ct_query.specs.Worlds.{admits};
+ghost use Rattle.ct_keeper.specs.declared.error.KeeperError.TheVariants as fault;
+ghost use Rattle.ct_keeper.specs.Bounds.{offer_words};
+ghost use Rattle.ct_keeper.specs.Catalogue.{IsNewest};
+ghost use Rattle.ct_keeper.specs.Offers.{IsOffer};
+ghost use Rattle.ct_keeper.specs.Served.{first_pass, IsOutcome};
+
+use crate::catalogue::{Offer, Outcome, Snapshot};
+use crate::error::KeeperError;
+use crate::keeper::Keeper;
+use ct_arena::{Arena, Blank, KeeperPass, Log, Pass, Site};
+use ct_word::Memory;
+use std::alloc::Global;
+use std::sync::{Mutex, Wait};
+
+/// The log that N names, and its keeper behind a lock. Whoever takes the lock finds a keeper whose type holds, and nothing
+/// else is known there.
+#[derive(Drop)]
+pub struct Server<N: Site> {
+    arena: Arena<N>,
+    keeper: Mutex<Keeper<N>>,
+}
+
+impl<N: Site> Server<N> {
+    /// The server of a log without commits, and the passes of its sessions, in the order of their numbers from 1.
+    ///
+    /// # Errors
+    /// `Memory` where there is none for the keeper, for a pass or for the list of them.
+    pub fn make(
+        alloc: Global,
+        blank: Blank,
+        sessions: u32,
+    ) -> Result<(Server<N>, Vec<Pass<N>>), Memory>
+        requires name { blank ≡ N.log }
+        requires number { N.sessions ≡ sessions }
+        requires least { 1 ≤ sessions }
+        requires most { sessions ≤ 1023 }
+        ensures passes { IfOk result (λ r. r.1.items ≡ map first_pass (range_with_len 1 sessions)) }
+    {
+        Err(Memory)
+    }
+
+    /// The log, for a session's own words.
+    pub fn arena(&self) -> &Arena<N> {
+        &self.arena
+    }
+
+    /// A snapshot of all commits, for the session of this pass, which then has the words of all of them. It waits for the
+    /// lock. What others appended is read before the lock is asked for.
+    ///
+    /// # Errors
+    /// `Memory` where there is none to share the tables.
+    pub fn begin<R: Wait>(
+        &self,
+        rt: &R,
+        alloc: Global,
+        pass: Pass<N>,
+    ) -> (Pass<N>, Result<Snapshot, Memory>)
+        ensures snapshot { IfOk result.1 (IsNewest result.0.words) }
+        ensures longer { IsPrefix pass.words result.0.words }
+        ensures pass { tally_of result.0 ≡ tally_of pass }
+    {
+        (pass, Err(Memory))
+    }
+
+    /// Commits an offer of the session of this pass. It waits for the lock. What others appended is read before the lock is
+    /// asked for.
+    ///
+    /// The outcome is `Nothing` exactly where the offer has no changes; `Conflict` exactly where it has some, and a commit
+    /// after its base has changed what it read; else `Committed`: it is then the last commit of the pass's words.
+    ///
+    /// # Errors
+    /// `Full` where the log has no room for a condition of the new tables or for the commit word, `Memory`. Where the
+    /// answer is not `Committed`, the session has as many commits as before.
+    pub fn commit<R: Wait>(
+        &self,
+        rt: &R,
+        alloc: Global,
+        pass: Pass<N>,
+        offer: &Offer,
+    ) -> (Pass<N>, Result<Outcome, KeeperError>)
+        requires few { pass.mine < 2 ^ 18 }
+        requires offer { IsOffer pass offer.now }
+        ensures outcome { IsOutcome N.log.cap pass result.0 offer.now result.1 }
+        ensures longer { IsPrefix pass.words result.0.words }
+        ensures session { result.0.session ≡ pass.session }
+        ensures made { result.0.made ≤ pass.made + offer_words result.0.words pass offer.now }
+        ensures fewer { IsErrOf result.1 fault.Full → result.0.made < pass.made + offer_words result.0.words pass offer.now }
+    {
+        (pass, Err(KeeperError::Memory))
+    }
+
+    /// The whole log, once each session gave its pass back. It takes no memory and waits for nobody.
+    pub fn close(self, passes: Vec<Pass<N>>) -> Log
+        requires all { length passes.items ≡ N.sessions }
+        ensures whole { length result ≡ 2 + sum_by (λ p. p.made) passes.items }
+        ensures numbered { All (λ p. AreNumbered p.session p.mine result) passes.items }
+        ensures seen { All (λ p. IsPrefix p.words result) passes.items }
+        ensures known { AreOfSessions N.sessions result }
+        ensures formed { IsWellFormed result }
+        ensures room { length result ≤ N.log.cap }
+        ensures begins { IsPrefix opening result }
+        ensures admitted { (v : World) × IsTrue (admits v (commits_of result) []) }
+    {
+        let Server { arena, keeper } = self;
+        let mut keeper = keeper.into_inner().into_pass();
+        for pass in passes {
+            keeper.end(&arena, pass);
+        }
+        keeper.finish(arena)
+    }
+}
