@@ -30,7 +30,7 @@ module _ (pass : Seen) (words : List ℕ) (longer : IsPrefix pass.words words) (
   abbrev entered : Seen
   entered = pass_of (tally_of pass) words
 
-  same_list : change_list_at words offer.changes ≡ change_list_at pass.words offer.changes
+  pub same_list : change_list_at words offer.changes ≡ change_list_at pass.words offer.changes
   same_list = change_list_in_prefix pass.words words offer.changes longer (place_within pass.words class.ChangeList offer.changes is.place)
 
   same_base : commits_to words offer.base ≡ commits_to pass.words offer.base
@@ -38,7 +38,7 @@ module _ (pass : Seen) (words : List ℕ) (longer : IsPrefix pass.words words) (
       let p = commits_prefix pass.words words longer in
       sym (ap (take offer.base) p.1) ∙ take-append-le offer.base (commits_of pass.words) p.0 is.seen
 
-  same_commit : commit_for entered offer ≡ commit_for pass offer
+  pub same_commit : commit_for entered offer ≡ commit_for pass offer
   same_commit = λ i. record { session = pass.session; number = pass.mine; changes = same_list i }
 
   pub offer_grows : IsOffer entered offer
@@ -69,7 +69,6 @@ module _ (pass : Seen) (words : List ℕ) (longer : IsPrefix pass.words words) (
     stays_from s = record {
       longer = prefix_of_prefix old.words mid.words new.words come.longer s.longer;
       commits = s.commits ∙ come.commits;
-      ended = s.ended ∙ come.ended;
       tables = s.tables ∙ come.tables;
       global = s.global ∙ come.global;
       kept = s.kept ∙ come.kept;
@@ -90,7 +89,6 @@ module _ (pass : Seen) (words : List ℕ) (longer : IsPrefix pass.words words) (
       unchanged = unchanged_from c.unchanged;
       number = c.number ∙ ap (λ h. length h + 1) come.commits;
       commits = c.commits ∙ (λ i. come.commits i ++ same_commit i ∷ []);
-      ended = c.ended ∙ come.ended;
       longer = prefix_of_prefix old.words mid.words new.words come.longer c.longer;
       grown = let short = prefix_short {A = ℕ} pass.words words longer in omega (arith, short, c.grown);
       mine = c.mine;

@@ -8,3 +8,6 @@ pub mod Making
 pub mod Applying
 pub mod Entering
 pub mod Weighing
+pub mod Counting
+pub mod Serving
+pub mod Closing

@@ -3,17 +3,14 @@ use Rattle.std.specs.Prelude.{◌≡◌, ℕ, List, length}
 use mathlib.Core.List.{IsPrefix}
 use Rattle.ct_word.specs.Value.{World}
 use Rattle.ct_word.specs.Reading.{commits_of}
-use Rattle.ct_arena.specs.declared.tally.Tally.{Tally}
 use Rattle.ct_table.specs.Denotes.{TableView}
 use Rattle.ct_table.specs.Snapshot.{IsSnapshot}
 use Rattle.ct_keeper.specs.declared.catalogue.Snapshot.{Snapshot}
 use Rattle.std.specs.Arc.{arc_value}
 
--- a keeper: the words that it has seen, the tallies of the sessions that were ended, the tables after all commits, the place
--- of the global condition, and the kept world
+-- a keeper: the words that it has seen, the tables after all commits, the place of the global condition, and the kept world
 pub record Catalogue : Type 0 where
   pub words : List ℕ
-  pub ended : List Tally
   pub tables : List TableView
   pub global : ℕ
   pub kept : World
@@ -22,15 +19,10 @@ pub record Catalogue : Type 0 where
 abbrev pub version_of : Catalogue → ℕ
 version_of c = length (commits_of c.words)
 
--- tables, global condition and kept world are those of all commits
-abbrev pub IsCurrent : Catalogue → Type 0
-IsCurrent c = IsSnapshot c.words (version_of c) c.tables c.global c.kept
-
 -- no commit came; words may have come that are none
 pub record Stays (old new : Catalogue) : Type 0 where
   pub longer : IsPrefix old.words new.words
   pub commits : commits_of new.words ≡ commits_of old.words
-  pub ended : new.ended ≡ old.ended
   pub tables : new.tables ≡ old.tables
   pub global : new.global ≡ old.global
   pub kept : new.kept ≡ old.kept

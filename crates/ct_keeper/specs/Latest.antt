@@ -14,4 +14,4 @@ pub record IsLatest (words : List ℕ) (l : Latest) : Type 0 where
 
 -- the keeper of this pass and of what stands
 abbrev pub catalogue_of : Keeping → Latest → Catalogue
-catalogue_of pass l = record { words = pass.words; ended = pass.ended; tables = l.content.tables; global = l.content.global; kept = arc_value l.kept }
+catalogue_of pass l = record { words = pass.words; tables = l.content.tables; global = l.content.global; kept = arc_value l.kept }

@@ -71,7 +71,6 @@ pub record IsCommitted (old new : Catalogue) (pass pass' : Seen) (offer : Offer)
   pub unchanged : IsUnchanged old.words offer
   pub number : m ≡ version_of old + 1
   pub commits : commits_of new.words ≡ commits_of old.words ++ commit_for pass offer ∷ []
-  pub ended : new.ended ≡ old.ended
   pub longer : IsPrefix old.words new.words
   pub grown : length pass.words < length pass'.words
   pub mine : pass'.mine ≡ pass.mine + 1

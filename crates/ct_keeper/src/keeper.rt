@@ -21,7 +21,7 @@ use std::alloc::Global;
 use std::marker::Model;
 
 /// The tables after all commits of the log that N names, the place of the global condition, a world that the commits
-/// admit, and the log's keeper pass. All sessions of the site were enrolled, and no guest is entered.
+/// admit, and the log's keeper pass. All sessions of the site were enrolled and none was ended, and no guest is entered.
 #[derive(Drop)]
 pub struct Keeper<N: Site> {
     pub(crate) pass: KeeperPass<N>,
@@ -29,7 +29,7 @@ pub struct Keeper<N: Site> {
 }
 
 impl<N: Site> Model for Keeper<N> {
-    ghost use Rattle.std.specs.Prelude.{◌≡◌, None};
+    ghost use Rattle.std.specs.Prelude.{◌≡◌, [], None};
     ghost use Rattle.ct_keeper.specs.Catalogue.{Catalogue};
     ghost use Rattle.ct_keeper.specs.Latest.{IsLatest, catalogue_of};
 
@@ -37,7 +37,7 @@ impl<N: Site> Model for Keeper<N> {
 
     ghost view = { λ k. catalogue_of k.pass k.latest };
 
-    ghost invariant = { λ k. (k.pass.guest ≡ None) × (k.pass.enrolled ≡ N.sessions) × IsLatest k.pass.words k.latest };
+    ghost invariant = { λ k. (k.pass.guest ≡ None) × (k.pass.enrolled ≡ N.sessions) × (k.pass.ended ≡ []) × IsLatest k.pass.words k.latest };
 }
 
 impl<N: Site> Keeper<N> {
@@ -49,8 +49,8 @@ impl<N: Site> Keeper<N> {
         requires none { commits_of pass.words ≡ [] }
         requires guest { pass.guest ≡ None }
         requires enrolled { pass.enrolled ≡ N.sessions }
+        requires ended { pass.ended ≡ [] }
         ensures words { IfOk result (λ k. k.words ≡ pass.words) }
-        ensures ended { IfOk result (λ k. k.ended ≡ pass.ended) }
     {
         // A log without commits begins with the word true, which is its global condition.
         let _ = pass.words();
@@ -62,7 +62,7 @@ impl<N: Site> Keeper<N> {
     /// them.
     pub fn into_pass(self) -> KeeperPass<N>
         ensures words { result.words ≡ self.words }
-        ensures ended { result.ended ≡ self.ended }
+        ensures ended { result.ended ≡ [] }
         ensures guest { result.guest ≡ None }
         ensures enrolled { result.enrolled ≡ N.sessions }
         ensures admitted { IsTrue (admits self.kept (commits_of result.words) []) }
@@ -118,6 +118,7 @@ impl<N: Site> Keeper<N> {
         ensures outcome { BecomesOf N.log.cap self.old self.new pass result.0 offer.now result.1 }
         ensures words { result.0.words ≡ self.new.words }
         ensures longer { IsPrefix pass.words result.0.words }
+        ensures known { IsPrefix (commits_of pass.words) (commits_of self.old.words) }
         ensures session { result.0.session ≡ pass.session }
         ensures made { result.0.made ≤ pass.made + offer_words self.old.words pass offer.now }
         ensures fewer { IsErrOf result.1 fault.Full → result.0.made < pass.made + offer_words self.old.words pass offer.now }

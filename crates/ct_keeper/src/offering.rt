@@ -162,6 +162,7 @@ pub fn outcome_of<N: Site>(
     ensures latest { IsLatest keeper.new.words latest.new }
     ensures guest { keeper.new.guest ≡ Some guest.new }
     ensures enrolled { keeper.new.enrolled ≡ keeper.old.enrolled }
+    ensures ended { keeper.new.ended ≡ keeper.old.ended }
     ensures session { guest.new.session ≡ guest.old.session }
     ensures longer { IsPrefix keeper.old.words keeper.new.words }
     ensures words { guest.new.made + charge (is_full result) ≤ guest.old.made + offer_words keeper.old.words (pass_of guest.old keeper.old.words) offer.now }

@@ -1,6 +1,6 @@
 // The keeper behind its lock, with the log: what the sessions of a run share.
 
-ghost use Rattle.std.specs.Prelude.{◌≡◌, ◌<◌, ◌≤◌, ◌+◌, ◌^◌, length, map, sum_by, All, IfOk, IsErrOf, IsTrue};
+ghost use Rattle.std.specs.Prelude.{◌≡◌, ◌<◌, ◌≤◌, ◌+◌, ◌^◌, [], length, map, sum_by, All, IfOk, IsErrOf, IsTrue};
 ghost use Rattle.std.specs.List.{range_with_len};
 ghost use mathlib.Core.List.{IsPrefix};
 ghost use Rattle.ct_word.specs.Reading.{commits_of};
@@ -18,7 +18,7 @@ ghost use Rattle.ct_keeper.specs.Served.{first_pass, IsOutcome};
 use crate::catalogue::{Offer, Outcome, Snapshot};
 use crate::error::KeeperError;
 use crate::keeper::Keeper;
-use ct_arena::{Arena, Blank, KeeperPass, Log, Pass, Site};
+use ct_arena::{Arena, Blank, Log, Pass, Site};
 use ct_word::Memory;
 use std::alloc::Global;
 use std::sync::{Mutex, Wait};
@@ -47,7 +47,15 @@ impl<N: Site> Server<N> {
         requires most { sessions ≤ 1023 }
         ensures passes { IfOk result (λ r. r.1.items ≡ map first_pass (range_with_len 1 sessions)) }
     {
-        Err(Memory)
+        let (arena, mut keeper) = Arena::make(blank);
+        let mut passes = Vec::with_capacity(alloc, sessions as usize)?;
+        for _ in 0..sessions {
+            let pass = keeper.enrol(alloc, &arena)?;
+            passes.push_reserved(pass);
+        }
+        let keeper = Keeper::make(alloc, keeper)?;
+        let keeper = Mutex::new(keeper);
+        Ok((Server { arena, keeper }, passes))
     }
 
     /// The log, for a session's own words.
@@ -64,13 +72,14 @@ impl<N: Site> Server<N> {
         &self,
         rt: &R,
         alloc: Global,
-        pass: Pass<N>,
+        mut pass: Pass<N>,
     ) -> (Pass<N>, Result<Snapshot, Memory>)
         ensures snapshot { IfOk result.1 (IsNewest result.0.words) }
         ensures longer { IsPrefix pass.words result.0.words }
         ensures pass { tally_of result.0 ≡ tally_of pass }
     {
-        (pass, Err(Memory))
+        pass.catch_up(&self.arena);
+        self.keeper.lock(rt).begin(alloc, &self.arena, pass)
     }
 
     /// Commits an offer of the session of this pass. It waits for the lock. What others appended is read before the lock is
@@ -86,7 +95,7 @@ impl<N: Site> Server<N> {
         &self,
         rt: &R,
         alloc: Global,
-        pass: Pass<N>,
+        mut pass: Pass<N>,
         offer: &Offer,
     ) -> (Pass<N>, Result<Outcome, KeeperError>)
         requires few { pass.mine < 2 ^ 18 }
@@ -97,7 +106,8 @@ impl<N: Site> Server<N> {
         ensures made { result.0.made ≤ pass.made + offer_words result.0.words pass offer.now }
         ensures fewer { IsErrOf result.1 fault.Full → result.0.made < pass.made + offer_words result.0.words pass offer.now }
     {
-        (pass, Err(KeeperError::Memory))
+        pass.catch_up(&self.arena);
+        self.keeper.lock(rt).commit(alloc, &self.arena, pass, offer)
     }
 
     /// The whole log, once each session gave its pass back. It takes no memory and waits for nobody.

@@ -11,9 +11,10 @@ invariant_of-self g c =
     let left = c.leave-pass.ensures.left in (
       ap (λ p. p.guest) left,
       ap (λ p. p.enrolled) left ∙ c.enter-guest.ensures.enrolled ∙ c.self.invariant.1,
+      ap (λ p. p.ended) left ∙ c.enter-guest.ensures.ended ∙ c.self.invariant.2,
       subst (IsLatest c.leave-pass.new.self.words) (sym c.snapshot-snapshot.ensures.same)
           (subst (λ ws. IsLatest ws k.latest) (sym (ap (λ p. p.words) left))
-          (still k.pass.words c.enter-guest.new.self.words k.latest c.self.invariant.2 c.enter-guest.ensures.longer c.words.ensures.formed c.enter-guest.ensures.commits)),
+          (still k.pass.words c.enter-guest.new.self.words k.latest c.self.invariant.3 c.enter-guest.ensures.longer c.words.ensures.formed c.enter-guest.ensures.commits)),
     )
 
 pub returns-clause-snapshot : goal.returns-clause-snapshot
@@ -22,4 +23,4 @@ returns-clause-snapshot g c =
     let l = c.self.inside.latest in
     subst (λ p. IfOk c.snapshot-snapshot.result (IsNewest p.words)) (sym c.leave-pass.ensures.pass)
     (c.snapshot-snapshot.ensures.snapshot words
-    (still c.self.inside.pass.words words l c.self.invariant.2 c.enter-guest.ensures.longer c.words.ensures.formed c.enter-guest.ensures.commits))
+    (still c.self.inside.pass.words words l c.self.invariant.3 c.enter-guest.ensures.longer c.words.ensures.formed c.enter-guest.ensures.commits))

@@ -1,6 +1,7 @@
 use Rattle.std.proofs.Common.{ap, arith, refl, sym, subst, ◌∙◌}
 use mathlib.Core.List.{IsPrefix}
-use Rattle.ct_word.proofs.Prefixes.{prefix_of_prefix}
+use Rattle.ct_word.specs.Reading.{commits_of}
+use Rattle.ct_word.proofs.Prefixes.{prefix_of_prefix, commits_prefix}
 use Rattle.ct_arena.specs.Seen.{pass_of}
 use Rattle.ct_condition.specs.Writes.{charge}
 use Rattle.ct_keeper.specs.Bounds.{offer_words}
@@ -14,7 +15,7 @@ use Rattle.ct_keeper.proofs.keeper.Keeper.commit.Goals as goal
 
 pub outcome_of-outcome-requires-clause-latest : goal.outcome_of-outcome-requires-clause-latest
 outcome_of-outcome-requires-clause-latest g c =
-    still c.self.inside.pass.words c.enter-guest.new.self.words c.self.inside.latest c.self.invariant.2 c.enter-guest.ensures.longer c.words.ensures.formed c.enter-guest.ensures.commits
+    still c.self.inside.pass.words c.enter-guest.new.self.words c.self.inside.latest c.self.invariant.3 c.enter-guest.ensures.longer c.words.ensures.formed c.enter-guest.ensures.commits
 
 pub outcome_of-outcome-requires-clause-offer : goal.outcome_of-outcome-requires-clause-offer
 outcome_of-outcome-requires-clause-offer g c =
@@ -37,7 +38,6 @@ returns-clause-outcome g c =
     let stays : Stays (catalogue_of k.pass k.latest) mid = record {
       longer = c.enter-guest.ensures.longer;
       commits = c.enter-guest.ensures.commits;
-      ended = c.enter-guest.ensures.ended;
       tables = refl;
       global = refl;
       kept = refl;
@@ -84,3 +84,10 @@ returns-clause-longer g c =
     let made = c.outcome_of-outcome in
     subst (λ p. IsPrefix pass.words p.words) (sym c.leave-pass.ensures.pass)
     (prefix_of_prefix pass.words c.enter-guest.new.self.words made.new.keeper.words c.enter-guest.ensures.seen made.ensures.longer)
+
+pub returns-clause-known : goal.returns-clause-known
+returns-clause-known g c =
+    let pass = c.args.pass in
+    let words = c.enter-guest.new.self.words in
+    subst (IsPrefix (commits_of pass.words)) (c.enter-guest.ensures.commits ∙ ap (λ o. commits_of o.words) c.self.view_is)
+    (commits_prefix pass.words words c.enter-guest.ensures.seen)

@@ -11,6 +11,7 @@ invariant_of-result g c =
     let is = c.in_ok-latest.ensures in (
       c.requires.guest,
       c.requires.enrolled,
+      c.requires.ended,
       record {
         version = is.version ∙ ap (λ h. length h) (sym c.requires.none);
         is =
