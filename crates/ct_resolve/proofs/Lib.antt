@@ -10,3 +10,4 @@ pub mod Fitting
 pub mod WritingConditions
 pub mod WritingQueries
 pub mod Writing
+pub mod Growing

@@ -12,7 +12,7 @@ use Rattle.ct_session.specs.Answers.{commits_by}
 use Rattle.ct_session.proofs.Own.{numbers_split, commits_split, one_by, none_by}
 
 -- a history whose front has all commits of the session has the same ones
-pub front_same : (s : ℕ) (front whole : List PlainCommit) → IsPrefix front whole → length (numbers_by s whole) ≡ length (numbers_by s front) → commits_by s 1 whole ≡ commits_by s 1 front
+front_same : (s : ℕ) (front whole : List PlainCommit) → IsPrefix front whole → length (numbers_by s whole) ≡ length (numbers_by s front) → commits_by s 1 whole ≡ commits_by s 1 front
 front_same s front whole p as_many =
     ap (commits_by s 1) (sym p.1) ∙ commits_split s 1 front p.0 ∙ ap (λ l. commits_by s 1 front ++ l) (none_by s (1 + length front) p.0 none) ∙ append-nil (commits_by s 1 front) where
       none : length (numbers_by s p.0) ≡ 0
@@ -21,7 +21,7 @@ front_same s front whole p as_many =
           omega (arith, length-append (numbers_by s front) (numbers_by s p.0), both, as_many)
 
 -- what is at the front of a history and one commit more, and has one commit of the session less, is at the front of the history
-pub front_before : (s n : ℕ) (front h : List PlainCommit) (c : PlainCommit) → IsPrefix front (h ++ c ∷ []) → numbers_by s front ≡ range_with_len 0 n
+front_before : (s n : ℕ) (front h : List PlainCommit) (c : PlainCommit) → IsPrefix front (h ++ c ∷ []) → numbers_by s front ≡ range_with_len 0 n
     → numbers_by s (h ++ c ∷ []) ≡ range_with_len 0 (n + 1) → IsPrefix front h
 front_before s n front h c p few all = by_rest p.0 p.1 where
   by_rest : (rest : List PlainCommit) → front ++ rest ≡ h ++ c ∷ [] → IsPrefix front h

@@ -116,7 +116,7 @@ module _ (N : ℕ) (pass : Seen) (seen fresh : ℕ) (o : Open) (k : IsSession pa
   pending_inside p step more o' at plus ea ep e asked = λ x reads.
       subst (λ n. Answers N inside (state_of pass (max seen n) p.fresh (Some o')) pass.words pass.words x (reply.Pending n plus)) (sym ea)
       (answers_uncommitted N inside (state_of pass (max seen o.sight.version) p.fresh (Some o')) pass.words pass.words x (reply.Pending o.sight.version plus) its_own refl refl
-      (λ e'. absurd (false≢true e')) (λ _. tt) (is_pending x reads)) where
+      (λ e'. absurd (false≢true e')) (λ _. tt) (λ _. tt) (is_pending x reads)) where
         draws : p.fresh ≡ fresh + sum_by drawn (action_of p.action ∷ [])
         draws = let one = asked.change.draws in omega (arith, one)
 

@@ -13,6 +13,8 @@ pub mod Readings
 pub mod Resolving
 pub mod Counted
 pub mod Called
+pub mod Conflicting
+pub mod Unchanged
 pub mod Offered
 pub mod Whole
 pub mod Acted

@@ -50,12 +50,14 @@ pub none_open : (open' : Option Open) → IsNone open' → option_map transactio
 none_open None none = refl
 none_open (Some o) none = absurd (false≢true (sym none))
 
--- where the words of a pass went on before the statement was answered, it is answered so from the first ones too
-pub executes_later : (N : ℕ) (pass mid : Seen) (seen fresh : ℕ) (open' : Option Open) (next : SessionState) (now : List ℕ) (st : Statement) (r : Reply) → Proceeds N pass.session pass.words mid.words
-    → kept_of mid ≡ kept_of pass → Executes N (state_of mid seen fresh open') next mid.words now st r → Executes N (state_of pass seen fresh open') next pass.words now st r
-executes_later N pass mid seen fresh open' next now st r p kept e = λ x reads.
-    answers_later N (state_of pass seen fresh open') next pass.words mid.words now x r p
-    (subst (λ s. Answers N s next mid.words now x r) (state_same pass mid seen fresh open' open' kept refl) (e x reads))
+-- where the words of a pass went on before the statement of a transaction was answered, it is answered so from the first ones too
+pub executes_later : (N : ℕ) (pass mid : Seen) (seen fresh : ℕ) (o : Open) (next : SessionState) (now : List ℕ) (st : Statement) (r : Reply) → Proceeds N pass.session pass.words mid.words
+    → kept_of mid ≡ kept_of pass → Executes N (state_of mid seen fresh (Some o)) next mid.words now st r → Executes N (state_of pass seen fresh (Some o)) next pass.words now st r
+executes_later N pass mid seen fresh o next now st r p kept e = λ x reads.
+    answers_later N (state_of pass seen fresh (Some o)) next pass.words mid.words now x r is_open p
+    (subst (λ s. Answers N s next mid.words now x r) (state_same pass mid seen fresh (Some o) (Some o) kept refl) (e x reads)) where
+      is_open : Some (transaction_of o) ≡ None → ⊥
+      is_open e' = cc
 
 -- want of memory leaves the state
 pub memory_executes : (N : ℕ) (pass pass' : Seen) (seen fresh : ℕ) (open' open'' : Option Open) (st : Statement) → Proceeds N pass.session pass.words pass'.words → kept_of pass' ≡ kept_of pass
@@ -77,7 +79,7 @@ pub begun_executes : (N : ℕ) (pass pass' : Seen) (seen fresh at : ℕ) (open' 
     → Executes N (state_of pass seen fresh open') (state_of pass' at fresh (Some o)) pass.words pass'.words st (reply.Begun at)
 begun_executes N pass pass' seen fresh at (Some other) o st none order p kept known newest version actions reads = absurd (false≢true (sym none))
 begun_executes N pass pass' seen fresh at None o st none order p kept known newest version actions no_reads = λ x reads.
-    answers_uncommitted N (state_of pass seen fresh None) (state_of pass' at fresh (Some o)) pass.words pass'.words x (reply.Begun at) p session refl (λ e. absurd (false≢true e)) (λ _. before)
+    answers_uncommitted N (state_of pass seen fresh None) (state_of pass' at fresh (Some o)) pass.words pass'.words x (reply.Begun at) p session refl (λ e. absurd (false≢true e)) (λ _. before) (λ _. tt)
     (λ W g H stands. is_begun x reads W g H stands) where
       session : pass'.session ≡ pass.session
       session = cc
@@ -115,7 +117,7 @@ pub rolled_back_executes : (N : ℕ) (pass : Seen) (seen fresh : ℕ) (open' : O
     → Executes N (state_of pass seen fresh open') (state_of pass seen fresh None) pass.words pass.words st reply.RolledBack
 rolled_back_executes N pass seen fresh None st some order p = absurd (false≢true some)
 rolled_back_executes N pass seen fresh (Some o) st some order p = λ x reads.
-    answers_uncommitted N (state_of pass seen fresh (Some o)) (state_of pass seen fresh None) pass.words pass.words x reply.RolledBack p refl refl (λ e. absurd (false≢true e)) (λ _. tt)
+    answers_uncommitted N (state_of pass seen fresh (Some o)) (state_of pass seen fresh None) pass.words pass.words x reply.RolledBack p refl refl (λ e. absurd (false≢true e)) (λ _. tt) (λ _. tt)
     (λ W g H stands. record {
       is_open = refl;
       asks = order_asks H (state_of pass seen fresh (Some o)) x st plain.Rollback reads (λ sch a b. ap (resolved sch a b) order);
@@ -127,7 +129,7 @@ module _ (N : ℕ) (pass : Seen) (seen fresh : ℕ) (p : Proceeds N pass.session
   no_transaction : (st : Statement) (order : PlainStatement) → (order ≡ plain.Commit) ⊎ (order ≡ plain.Rollback) → ((sch : Schema) (session fresh' : ℕ) → resolved sch session fresh' st ≡ Ok order)
       → Executes N (state_of pass seen fresh None) (state_of pass seen fresh None) pass.words pass.words st (reply.Refused seen refusal.NoTransaction)
   no_transaction st order ends resolves = λ x reads.
-      answers_uncommitted N (state_of pass seen fresh None) (state_of pass seen fresh None) pass.words pass.words x (reply.Refused seen refusal.NoTransaction) p refl refl (λ e. absurd (false≢true e)) (λ _. tt)
+      answers_uncommitted N (state_of pass seen fresh None) (state_of pass seen fresh None) pass.words pass.words x (reply.Refused seen refusal.NoTransaction) p refl refl (λ e. absurd (false≢true e)) (λ _. tt) (λ _. tt)
       (λ W g H stands. (
         record {
           none_open = refl;
@@ -143,7 +145,7 @@ module _ (N : ℕ) (pass : Seen) (seen fresh : ℕ) (p : Proceeds N pass.session
       → Executes N (state_of pass seen fresh open') (state_of pass seen fresh open') pass.words pass.words st (reply.Refused seen why)
   misplaced_executes (Some o) tree.Begin refusal.InTransaction m = λ x reads.
       answers_uncommitted N (state_of pass seen fresh (Some o)) (state_of pass seen fresh (Some o)) pass.words pass.words x (reply.Refused seen refusal.InTransaction) p refl refl
-      (λ e. absurd (false≢true e)) (λ _. tt)
+      (λ e. absurd (false≢true e)) (λ _. tt) (λ _. tt)
       (λ W g H stands. (
         record { is_open = refl; asks = order_asks H (state_of pass seen fresh (Some o)) x tree.Begin plain.Begin reads (λ sch a b. refl); at_is = refl },
         sym (carried_same (state_of pass seen fresh (Some o))),

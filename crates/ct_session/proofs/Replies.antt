@@ -55,7 +55,7 @@ use Rattle.ct_session.specs.State.{Transaction, SessionState, carried, extended,
 use Rattle.ct_session.specs.Seeing.{Sees, ResolvesTo}
 use Rattle.ct_session.specs.LawfulRefusal.{IsNameFault, IsTooLarge, IsFull, IsTooManyTerms, IsInconsistent, LawfulRefusal}
 use Rattle.ct_session.specs.LawfulReply.{IsRows, IsPossible, IsCertain, LawfulReply}
-use Rattle.ct_session.specs.Answers.{committed_of, version_of, is_full, commits_by, GoesOn, Answers}
+use Rattle.ct_session.specs.Answers.{committed_of, version_of, is_full, commits_by, GoesOn, ConflictsLater, Answers}
 use Rattle.ct_session.specs.Prepared.{IsPrepared, IsPreparedFor, IsUnmetAt, IsRefused, by_name, unmet, wanting_memory, name_refusal}
 use Rattle.ct_session.specs.declared.preparing.Prepared.TheVariants as prepared
 use Rattle.ct_session.specs.Replying.{reply_of, standing}
@@ -84,11 +84,12 @@ proceeds N pass pass' longer kept room old new =
 
 -- a reply that commits nothing and is lawful however the words go on
 pub answers_uncommitted : (N : ℕ) (s next : SessionState) (words now x : List ℕ) (r : Reply) → Proceeds N s.session words now → next.session ≡ s.session → committed_of r ≡ None
-    → (IsTrue (is_full r) → length now ≡ N) → (s.transaction ≡ None → IfSome (version_of r) (λ at. length (commits_of words) ≤ at))
+    → (IsTrue (is_full r) → length now ≡ N) → (s.transaction ≡ None → IfSome (version_of r) (λ at. length (commits_of words) ≤ at)) → (s.transaction ≡ None → ConflictsLater N s next words now x r)
     → ((W : List ℕ) → GoesOn N now W → (H : List PlainCommit) → StandsFor H W → LawfulReply H W N s x r next) → Answers N s next words now x r
-answers_uncommitted N s next words now x r p same none full newest lawful = record {
+answers_uncommitted N s next words now x r p same none full newest later lawful = record {
   lawful = lawful;
   newest = newest;
+  later = later;
   longer = p.longer;
   room = p.room;
   same = same;
@@ -104,21 +105,19 @@ answers_uncommitted N s next words now x r p same none full newest lawful = reco
 pub proceeds_same : (N session : ℕ) (words : List ℕ) → length words ≤ N → Proceeds N session words words
 proceeds_same N session words room = record { longer = prefix_same words; room = room; own = refl }
 
--- where words went on before the statement was answered, it is answered so from the first ones too
-pub answers_later : (N : ℕ) (s next : SessionState) (words mid now x : List ℕ) (r : Reply) → Proceeds N s.session words mid → Answers N s next mid now x r → Answers N s next words now x r
-answers_later N s next words mid now x r p a = record {
+-- where words went on before the statement of a transaction was answered, it is answered so from the first ones too
+pub answers_later : (N : ℕ) (s next : SessionState) (words mid now x : List ℕ) (r : Reply) → (s.transaction ≡ None → ⊥) → Proceeds N s.session words mid → Answers N s next mid now x r → Answers N s next words now x r
+answers_later N s next words mid now x r is_open p a = record {
   lawful = a.lawful;
-  newest = λ none. at_least (version_of r) (a.newest none);
+  newest = λ none. absurd (is_open none);
+  later = λ none. absurd (is_open none);
   longer = prefix_of_prefix words mid now p.longer a.longer;
   room = a.room;
   same = a.same;
   commits = a.commits ∙ ap (λ l. l ++ option_to_list (committed_of r)) p.own;
   full = a.full;
   not_full = λ some. let lt = a.not_full some in let short = prefix_short words mid p.longer in omega (arith, lt, short);
-} where
-  at_least : (o : Option ℕ) → IfSome o (λ at. length (commits_of mid) ≤ at) → IfSome o (λ at. length (commits_of words) ≤ at)
-  at_least None le = tt
-  at_least (Some at) le = let short = prefix_short (commits_of words) (commits_of mid) (commits_prefix words mid p.longer) in omega (arith, le, short)
+}
 
 -- the state after a reply that carries what was seen
 pub carried_same : (s : SessionState) → carried s.seen s ≡ s
@@ -129,7 +128,7 @@ carried_same s = λ i. record s { seen = same i } where
 -- want of memory leaves the state
 pub memory_answers : (N : ℕ) (s : SessionState) (words now x : List ℕ) → Proceeds N s.session words now → Answers N s s words now x (reply.Refused s.seen refusal.Memory)
 memory_answers N s words now x p =
-    answers_uncommitted N s s words now x (reply.Refused s.seen refusal.Memory) p refl refl (λ e. absurd (false≢true e)) (λ none. tt)
+    answers_uncommitted N s s words now x (reply.Refused s.seen refusal.Memory) p refl refl (λ e. absurd (false≢true e)) (λ none. tt) (λ none. tt)
     (λ W g H stands. (refl, sym (carried_same s)))
 
 -- an extended state is of the same session
@@ -354,6 +353,30 @@ module _ (N : ℕ) (s : SessionState) (x : List ℕ) (st : Statement) (reads : R
   full_so why (unmet why' u) at e = full_unmet why' u at e
   full_so why wanting_memory at e = absurd (false≢true e)
 
+  -- it is no conflict
+  later_name : (e : ResolveError) (next : SessionState) (words : List ℕ) (at : ℕ) → ConflictsLater N s next words now x (reply.Refused at (name_refusal e))
+  later_name name.UnknownTable next words at = tt
+  later_name name.TableExists next words at = tt
+  later_name name.UnknownColumn next words at = tt
+  later_name name.AmbiguousColumn next words at = tt
+  later_name name.DuplicateName next words at = tt
+  later_name name.ColumnCount next words at = tt
+  later_name name.Memory next words at = tt
+
+  later_unmet : (why : Refusal) → IsUnmetAt seen_commits actions N now s.session s.fresh st why → (next : SessionState) (words : List ℕ) (at : ℕ) → ConflictsLater N s next words now x (reply.Refused at why)
+  later_unmet (refusal.Conflict table was now' at') u next words at = absurd u.unmet
+  later_unmet _ u next words at = tt
+
+  later_so : (why : Refusal) → IsRefused seen_commits actions N now s.session s.fresh st why → (next : SessionState) (words : List ℕ) (at : ℕ) → ConflictsLater N s next words now x (reply.Refused at why)
+  later_so why (by_name err n r) next words at = later_name err next words at
+  later_so why (unmet why' u) next words at = later_unmet why' u next words at
+  later_so why wanting_memory next words at = tt
+
+  later_answered : (given : Answered) (next : SessionState) (words : List ℕ) (at plus : ℕ) → ConflictsLater N s next words now x (reply_of at plus given)
+  later_answered (answered.Rows answer) next words at plus = tt
+  later_answered (answered.Possible columns list) next words at plus = tt
+  later_answered (answered.Certain columns list) next words at plus = tt
+
   -- it has seen all commits of the words before, where none is open
   module _ (words : List ℕ) (p : Proceeds N s.session words now) (newest : s.transaction ≡ None → length (commits_of words) ≤ version) where
     refused_newest : (why : Refusal) → s.transaction ≡ None → IfSome (version_of (reply.Refused (standing s.seen version why) why)) (λ at. length (commits_of words) ≤ at)
@@ -370,6 +393,7 @@ module _ (N : ℕ) (s : SessionState) (x : List ℕ) (st : Statement) (reads : R
         → Answers N s (carried (standing s.seen version why) s) words now x (reply.Refused (standing s.seen version why) why)
     refused_answers why r =
         answers_uncommitted N s (carried (standing s.seen version why) s) words now x (reply.Refused (standing s.seen version why) why) p refl refl (full_so why r (standing s.seen version why)) (refused_newest why)
+        (λ none. later_so why r (carried (standing s.seen version why) s) words (standing s.seen version why))
         (λ W g H stands. refused_lawful W g H stands why r)
 
     -- a query is answered so
@@ -379,5 +403,5 @@ module _ (N : ℕ) (s : SessionState) (x : List ℕ) (st : Statement) (reads : R
     answered_answers k columns query given r o =
         answers_uncommitted N s (carried version (extended (plain.Asks k columns query) s)) words now x (reply_of version (length actions) given) p
         (extended_session s.transaction (plain.Asks k columns query) s) (answered_uncommitted version (length actions) given) (λ e. absurd (answered_fits version (length actions) given e))
-        (λ none. answered_at version (length actions) (length (commits_of words)) given (newest none))
+        (λ none. answered_at version (length actions) (length (commits_of words)) given (newest none)) (λ none. later_answered given (carried version (extended (plain.Asks k columns query) s)) words version (length actions))
         (λ W g H stands. answered_lawful W g H stands k columns query given r o)

@@ -15,17 +15,17 @@ module _ (N : ℕ) (s : SessionState) (words x : List ℕ) (p : Proceeds N s.ses
 
   not_read : IsTextFault x refusal.NotAStatement → Refuses refusal.NotAStatement
   not_read f =
-      answers_uncommitted N s s words words x (reply.Refused s.seen refusal.NotAStatement) p refl refl (λ e. absurd (false≢true e)) (λ none. tt)
+      answers_uncommitted N s s words words x (reply.Refused s.seen refusal.NotAStatement) p refl refl (λ e. absurd (false≢true e)) (λ none. tt) (λ none. tt)
       (λ W g H stands. (record { found = f; at_is = refl }, sym (carried_same s)))
 
   text_refused : (why : Refusal) → IsTextFault x why → Refuses why
   text_refused why (number_range f) =
-      answers_uncommitted N s s words words x (reply.Refused s.seen refusal.NumberRange) p refl refl (λ e. absurd (false≢true e)) (λ none. tt)
+      answers_uncommitted N s s words words x (reply.Refused s.seen refusal.NumberRange) p refl refl (λ e. absurd (false≢true e)) (λ none. tt) (λ none. tt)
       (λ W g H stands. (record { found = number_range f; at_is = refl }, sym (carried_same s)))
   text_refused why (open_text f) = not_read (open_text f)
   text_refused why (stray_byte f) = not_read (stray_byte f)
   text_refused why (too_deep f) =
-      answers_uncommitted N s s words words x (reply.Refused s.seen refusal.TooDeep) p refl refl (λ e. absurd (false≢true e)) (λ none. tt)
+      answers_uncommitted N s s words words x (reply.Refused s.seen refusal.TooDeep) p refl refl (λ e. absurd (false≢true e)) (λ none. tt) (λ none. tt)
       (λ W g H stands. (record { found = too_deep f; at_is = refl }, sym (carried_same s)))
   text_refused why (unspelled f) = not_read (unspelled f)
 

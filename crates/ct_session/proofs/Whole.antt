@@ -1,25 +1,21 @@
 -- What COMMIT of an open transaction is answered, by what became of its offer: each reply is lawful, however the words go on.
 use Rattle.std.proofs.Common.{◌≡◌, ℕ, zero, suc, ◌+◌, ◌-◌, ◌<◌, ◌≤◌, Bool, true, false, List, [], ◌∷◌, ◌++◌, length, take, drop, max, refl, ap, sym, subst, inl, inr, ◌∙◌, arith, length-take}
 use Rattle.std.specs.Prelude.{Option, Some, None, Ok, Err, All, option_map}
-use Rattle.std.specs.List.{Contains}
 use Rattle.std.proofs.lemmas.Bool.{false≢true}
-use Rattle.std.proofs.lemmas.List.{take_all, take-append-drop}
-use Rattle.std.proofs.lemmas.List.Elements.{All-weaker, All-contains}
+use Rattle.std.proofs.lemmas.List.Elements.{All-weaker}
 use Rattle.ct_word.specs.Change.{PlainChange, PlainCommit}
 use Rattle.ct_word.specs.Reading.{commits_of, change_list_at}
 use Rattle.ct_word.specs.StandsFor.{SameChanges, StandsFor}
 use Rattle.ct_word.proofs.Prefixes.{prefix_same}
 use Rattle.ct_query.specs.Agrees.{Agrees}
-use Rattle.ct_query.specs.Frame.{AreOlder, reads_of_actions}
 use Rattle.ct_query.specs.Plain as plain
 use Rattle.ct_query.specs.Plain.{PlainAction}
-use Rattle.ct_query.specs.Reads.{last, commit_writes, one_earlier}
+use Rattle.ct_query.specs.Reads.{last}
 use Rattle.ct_query.specs.declared.action.Read.{Read}
-use Rattle.ct_query.proofs.Frame.{same_for_actions}
 use Rattle.ct_arena.specs.Seen.{Seen}
 use Rattle.ct_arena.specs.Counts.{AreNumbered}
-use Rattle.ct_keeper.specs.Catalogue.{Catalogue}
-use Rattle.ct_keeper.specs.Offers.{BecomesOf, IsCommitted, IsUncommitted, IsConflict as MeetsLater, changes_in}
+use Rattle.ct_keeper.specs.Offers.{IsConflict as MeetsLater, changes_in}
+use Rattle.ct_keeper.specs.Served.{IsLastCommit, IsOutcome}
 use Rattle.ct_keeper.specs.declared.catalogue.Outcome.{Outcome}
 use Rattle.ct_keeper.specs.declared.catalogue.Outcome.TheVariants as outcome
 use Rattle.ct_keeper.specs.declared.error.KeeperError.{KeeperError}
@@ -35,7 +31,7 @@ use Rattle.ct_transcript.specs.declared.reply.Refusal.TheVariants as refusal
 use Rattle.ct_statement.specs.Sight.{actions_before, history_of}
 use Rattle.ct_session.specs.declared.session.Open.{Open}
 use Rattle.ct_session.specs.Answers.{GoesOn, Answers}
-use Rattle.ct_session.specs.LawfulRefusal.{IsFirstWritten, IsConflict}
+use Rattle.ct_session.specs.LawfulRefusal.{IsConflict}
 use Rattle.ct_session.specs.LawfulReply.{IsCommittedWhole}
 use Rattle.ct_session.specs.Outcomes.{outcome_reply, outcome_version, wanted}
 use Rattle.ct_session.specs.Replying.{standing}
@@ -43,21 +39,14 @@ use Rattle.ct_session.specs.Seeing.{Orders}
 use Rattle.ct_session.specs.Sessions.{IsBegunList, IsOpen, state_of, transaction_of}
 use Rattle.ct_session.specs.State.{SessionState, carried, with_transaction}
 use Rattle.ct_session.specs.Statements.{ReadsAs}
-use Rattle.ct_session.proofs.Called.{IsCall, seen_before, comes, had_room, as_many_as, before, there, keeps_to, within_all, front_taken}
+use Rattle.ct_session.proofs.Called.{IsCall, comes, had_room, as_many_as, before, there, front_taken}
+use Rattle.ct_session.proofs.Conflicting.{later_than, at_within, first_written, was_there, latest_there}
 use Rattle.ct_session.proofs.Going.{prefix_short, version_within}
 use Rattle.ct_session.proofs.Offered.{IsBegun, none_agree, some_agree}
 use Rattle.ct_session.proofs.Own.{own_commits_stay}
 use Rattle.ct_session.proofs.Opened.{standing_within}
 use Rattle.ct_session.proofs.Replies.{Proceeds, answers_uncommitted, carried_same, memory_answers}
-
--- no commit after the last writes
-pub last_within : (h : List PlainCommit) (r : Read) → last h r ≤ length h
-last_within [] r = omega arith
-last_within (c ∷ h) r = by_last (last h r) (commit_writes c r) (last_within h r) where
-  by_last : (n : ℕ) (b : Bool) → n ≤ length h → one_earlier n b ≤ suc (length h)
-  by_last zero true le = omega arith
-  by_last zero false le = omega arith
-  by_last (suc n) b le = omega (arith, le)
+use Rattle.ct_session.proofs.Unchanged.{agrees_still}
 
 -- a session whose open transaction is ended by a text that is read as COMMIT
 module _ (N : ℕ) (pass : Seen) (seen fresh : ℕ) (o : Open) (open' : IsOpen pass.words o) (st : Statement) (order : st ≡ tree.Commit) (x : List ℕ) (reads : ReadsAs x st) where
@@ -79,7 +68,7 @@ module _ (N : ℕ) (pass : Seen) (seen fresh : ℕ) (o : Open) (open' : IsOpen p
   nothing now p pass' session mine none =
       subst (λ (t : SessionState). Answers N s (carried base t) pass.words now x (reply.Nothing base))
       (λ i. record { session = sym session i; seen = seen; fresh = fresh; commits = sym mine i; transaction = None })
-      (answers_uncommitted N s (carried base (with_transaction None s)) pass.words now x (reply.Nothing base) p refl refl (λ e. absurd (false≢true e)) (λ e. tt)
+      (answers_uncommitted N s (carried base (with_transaction None s)) pass.words now x (reply.Nothing base) p refl refl (λ e. absurd (false≢true e)) (λ e. tt) (λ e. tt)
       (λ W g H stands. record { transaction = transaction_of o; is_open = refl; asks = orders H; no_actions = none; at_is = refl; next_is = refl }))
 
   -- the change list was not begun
@@ -87,43 +76,29 @@ module _ (N : ℕ) (pass : Seen) (seen fresh : ℕ) (o : Open) (open' : IsOpen p
   not_begun_answers room e =
       nothing pass.words (record { longer = prefix_same pass.words; room = room; own = refl }) pass refl refl (subst (λ l. IsBegunList pass.words l actions) e open'.list)
 
-  -- the change list is offered to the keeper
-  module _ (changes : ℕ) (b : IsBegun pass.words o.sight changes o.reads) (old new : Catalogue) (pass' : Seen) (k : IsCall N pass.words new pass pass') (offer : Offer)
+  -- the change list is offered to the server
+  module _ (changes : ℕ) (b : IsBegun pass.words o.sight changes o.reads) (pass' : Seen) (k : IsCall N pass.words pass pass') (offer : Offer)
       (base_is : offer.base ≡ o.sight.version) (reads_are : offer.reads ≡ o.reads) (changes_are : offer.changes ≡ changes) where
     abbrev xs : List PlainChange
     xs = change_list_at pass.words changes
 
     -- it has become a commit
-    module _ (m : ℕ) (is : IsCommitted old new pass pass' offer m) where
+    module _ (m : ℕ) (is : IsLastCommit pass pass' offer m) where
       abbrev g : List PlainCommit
-      g = commits_of old.words
+      g = is.before
 
       within : base ≤ length g
-      within = let le = b.sight_is.within in let short = prefix_short (commits_of pass.words) g (seen_before N pass.words old new pass pass' offer m k is) in omega (arith, le, short)
+      within = let le = b.sight_is.within in let short = prefix_short (commits_of pass.words) g is.longer in omega (arith, le, short)
 
       -- its base is one of the versions before
       base_first : history_of pass.words o.sight ≡ take base g
-      base_first = sym (front_taken base (commits_of pass.words) g (seen_before N pass.words old new pass pass' offer m k is) b.sight_is.within)
+      base_first = sym (front_taken base (commits_of pass.words) g is.longer b.sight_is.within)
 
       unwritten : All (λ r. last g r ≤ base) o.reads
       unwritten = subst (λ rs. All (λ r. last g r ≤ base) rs) reads_are (subst (λ n. All (λ r. last g r ≤ n) offer.reads) base_is is.unchanged)
 
-      h_length : length (take base g) ≡ base
-      h_length = let le = within in simp length-take (omega (arith, le))
-
-      both : take base g ++ drop base g ≡ g
-      both = take-append-drop base g
-
-      older : AreOlder (take base g) (drop base g) (reads_of_actions actions)
-      older =
-          All-weaker (Contains o.reads) (λ r. last (take base g ++ drop base g) r ≤ length (take base g))
-          (λ r c. subst (λ n. last (take base g ++ drop base g) r ≤ n) (sym h_length) (subst (λ l. last l r ≤ base) (sym both) (All-contains (λ q. last g q ≤ base) o.reads r unwritten c)))
-          (reads_of_actions actions) b.reads_are
-
       agrees_before : Agrees g actions xs
-      agrees_before =
-          subst (λ l. Agrees l actions xs) both
-          ((same_for_actions (take base g) (drop base g) actions older).agreed xs (subst (λ l. Agrees l actions xs) base_first b.agrees))
+      agrees_before = agrees_still g base within o.reads unwritten actions xs b.reads_are (subst (λ l. Agrees l actions xs) base_first b.agrees)
 
       has_some : 0 < length actions
       has_some = some_agree (history_of pass.words o.sight) actions xs b.agrees (λ e. is.has_changes (ap (change_list_at pass.words) changes_are ∙ e))
@@ -131,8 +106,8 @@ module _ (N : ℕ) (pass : Seen) (seen fresh : ℕ) (o : Open) (open' : IsOpen p
       module _ (W : List ℕ) (goes : GoesOn N pass'.words W) (H : List PlainCommit) (stands : StandsFor H W) where
         whole : IsCommittedWhole H W N s x m (carried m (with_transaction None (record s { commits = s.commits + 1 })))
         whole =
-            let keeps = before N pass.words old new pass pass' offer m k is W goes H stands in
-            let stood = there N pass.words old new pass pass' offer m k is W goes H stands in
+            let keeps = before N pass.words pass pass' offer m k is W goes H stands in
+            let stood = there N pass.words pass pass' offer m k is W goes H stands in
             let number = is.number in
             let le = within in
             record {
@@ -156,32 +131,33 @@ module _ (N : ℕ) (pass : Seen) (seen fresh : ℕ) (o : Open) (open' : IsOpen p
           (record {
             lawful = λ W goes H stands. inr (whole W goes H stands);
             newest = λ e. absurd (some_open e);
+            later = λ e. tt;
             longer = k.longer;
             room = k.room;
             same = refl;
-            commits = comes N pass.words old new pass pass' offer m k is;
+            commits = comes N pass.words pass pass' offer m k is;
             full = λ e. absurd (false≢true e);
-            not_full = λ e. had_room N pass.words old new pass pass' offer m k is;
+            not_full = λ e. had_room N pass.words pass pass' offer m k is;
           }) where
             some_open : Some (transaction_of o) ≡ None → ⊥
             some_open e = cc
 
     -- nothing was committed
-    module _ (u : IsUncommitted old new pass pass') where
+    module _ (mine : pass'.mine ≡ pass.mine) where
       proceeds_on : Proceeds N pass.session pass.words pass'.words
       proceeds_on = record {
         longer = k.longer;
         room = k.room;
         own = own_commits_stay pass.session pass.mine pass.words pass'.words k.longer k.known
-            (subst (λ n. AreNumbered n pass.mine pass'.words) k.session (subst (λ n. AreNumbered pass'.session n pass'.words) u.mine k.counted));
+            (subst (λ n. AreNumbered n pass.mine pass'.words) k.session (subst (λ n. AreNumbered pass'.session n pass'.words) mine k.counted));
       }
 
       same_state : (t : Option Open) → state_of pass seen fresh t ≡ state_of pass' seen fresh t
-      same_state t = λ i. record { session = sym k.session i; seen = seen; fresh = fresh; commits = sym u.mine i; transaction = option_map transaction_of t }
+      same_state t = λ i. record { session = sym k.session i; seen = seen; fresh = fresh; commits = sym mine i; transaction = option_map transaction_of t }
 
       -- there were no changes
       pub nothing_answers : xs ≡ [] → Answers N s (carried base (state_of pass' seen fresh None)) pass.words pass'.words x (reply.Nothing base)
-      nothing_answers none = nothing pass'.words proceeds_on pass' k.session u.mine (none_agree (history_of pass.words o.sight) actions xs b.agrees none)
+      nothing_answers none = nothing pass'.words proceeds_on pass' k.session mine (none_agree (history_of pass.words o.sight) actions xs b.agrees none)
 
       -- memory was wanting
       pub wanting_answers : Answers N s (state_of pass' seen fresh (Some o)) pass.words pass'.words x (reply.Refused seen refusal.Memory)
@@ -196,16 +172,16 @@ module _ (N : ℕ) (pass : Seen) (seen fresh : ℕ) (o : Open) (open' : IsOpen p
         makes_words counts [] lt = absurd (omega (arith, lt))
         makes_words counts (a ∷ own) lt = omega arith
 
-        pub full_answers : length new.words ≡ N → Answers N s (carried base (state_of pass' seen fresh (Some o))) pass.words pass'.words x (reply.Refused base refusal.Full)
+        pub full_answers : length pass'.words ≡ N → Answers N s (carried base (state_of pass' seen fresh (Some o))) pass.words pass'.words x (reply.Refused base refusal.Full)
         full_answers full = subst (λ (t : SessionState). Answers N s (carried base t) pass.words pass'.words x (reply.Refused base refusal.Full)) (same_state (Some o))
-            (answers_uncommitted N s (carried base s) pass.words pass'.words x (reply.Refused base refusal.Full) proceeds_on refl refl (λ e. ap length k.same ∙ full) (λ e. absurd (some_open e))
+            (answers_uncommitted N s (carried base s) pass.words pass'.words x (reply.Refused base refusal.Full) proceeds_on refl refl (λ e. full) (λ e. absurd (some_open e)) (λ e. tt)
             (λ W goes H stands. (
               record {
                 actions = actions;
                 statement = plain.Commit;
                 sees = (refl, refl);
                 asks = record { statement = tree.Commit; reads = subst (ReadsAs x) order reads; gives = refl };
-                full = let short = prefix_short pass'.words W goes.log in let le = goes.room in let all = ap length k.same in omega (arith, short, le, all, full);
+                full = let short = prefix_short pass'.words W goes.log in let le = goes.room in omega (arith, short, le, full);
                 makes_words = makes_words (count H actions) actions has_actions;
               },
               refl,
@@ -214,61 +190,28 @@ module _ (N : ℕ) (pass : Seen) (seen fresh : ℕ) (o : Open) (open' : IsOpen p
               some_open e = cc
 
         -- a later commit has written what was read
-        module _ (table : Read) (was now at : ℕ) (meets : MeetsLater (commits_of old.words) offer.base offer.reads table was now at) where
-          same_commits : commits_of old.words ≡ commits_of pass'.words
-          same_commits = sym (ap commits_of k.same ∙ u.stays.commits)
-
-          later : base < at
-          later =
-              let written = meets.first.written in
-              let le = last_within (commits_of old.words) table in
-              let all = meets.at_is in
-              let same = base_is in
-              omega (arith, written, le, all, same)
-
-          at_all : at ≡ length (commits_of pass'.words)
-          at_all = meets.at_is ∙ ap (λ cs. length cs) same_commits
+        module _ (table : Read) (was now at : ℕ) (found : MeetsLater (commits_of pass'.words) offer.base offer.reads table was now at) where
+          meets : MeetsLater (commits_of pass'.words) base o.reads table was now at
+          meets = subst (λ n. MeetsLater (commits_of pass'.words) n o.reads table was now at) base_is (subst (λ rs. MeetsLater (commits_of pass'.words) offer.base rs table was now at) reads_are found)
 
           module _ (W : List ℕ) (goes : GoesOn N pass'.words W) (H : List PlainCommit) (stands : StandsFor H W) where
-            last_at : (r : Read) → last (commits_of old.words) r ≡ last (take at H) r
-            last_at r =
-                let le = at_all in
-                ap (λ l. last l r) (same_commits ∙ sym (take_all at (commits_of pass'.words) (omega (arith, le))))
-                ∙ (keeps_to pass'.words W goes.log H stands at (omega (arith, le))).last r
-
-            last_was : (r : Read) → last (take offer.base (commits_of old.words)) r ≡ last (take base H) r
-            last_was r =
-                let le = at_all in
-                let lt = later in
-                (λ i. last (take (base_is i) (same_commits i)) r) ∙ (keeps_to pass'.words W goes.log H stands base (omega (arith, le, lt))).last r
-
-            first_written : IsFirstWritten H W N o.reads base at table
-            first_written = record {
-              before = meets.first.before;
-              after = meets.first.after;
-              place = sym reads_are ∙ meets.first.place;
-              unchanged = All-weaker (λ r. last (commits_of old.words) r ≤ offer.base) (λ r. last (take at H) r ≤ base)
-                  (λ r p. let same = last_at r in let there = base_is in omega (arith, p, same, there)) meets.first.before meets.first.unchanged;
-              written = let p = meets.first.written in let same = last_at table in let there = base_is in omega (arith, p, same, there);
-            }
-
             conflicts : IsConflict H W N s x table was now at (carried at (with_transaction None s))
             conflicts = record {
               base = base;
               reads = o.reads;
               commits = inl (record { transaction = transaction_of o; is_open = refl; asks = orders H; has_actions = has_actions; base_is = refl; reads_are = refl });
-              later = later;
-              within = let le = within_all pass'.words W goes.log H stands in let all = at_all in omega (arith, le, all);
-              first = first_written;
-              was_is = meets.was_is ∙ last_was table;
-              now_is = meets.now_is ∙ last_at table;
+              later = later_than pass'.words base o.reads table was now at meets;
+              within = at_within pass'.words base o.reads table was now at meets W goes.log H stands;
+              first = first_written pass'.words base o.reads table was now at meets W goes.log H stands N;
+              was_is = was_there pass'.words base o.reads table was now at meets W goes.log H stands;
+              now_is = latest_there pass'.words base o.reads table was now at meets W goes.log H stands;
               next_is = refl;
             }
 
           pub conflict_answers : Answers N s (carried at (state_of pass' seen fresh None)) pass.words pass'.words x (reply.Refused at (refusal.Conflict table was now at))
           conflict_answers = subst (λ (t : SessionState). Answers N s (carried at t) pass.words pass'.words x (reply.Refused at (refusal.Conflict table was now at))) (same_state None)
               (answers_uncommitted N s (carried at (with_transaction None s)) pass.words pass'.words x (reply.Refused at (refusal.Conflict table was now at)) proceeds_on refl refl (λ e. absurd (false≢true e))
-              (λ e. absurd (some_open e)) (λ W goes H stands. (refl, conflicts W goes H stands))) where
+              (λ e. absurd (some_open e)) (λ e. absurd (some_open e)) (λ W goes H stands. (refl, conflicts W goes H stands))) where
                 some_open : Some (transaction_of o) ≡ None → ⊥
                 some_open e = cc
 
@@ -279,27 +222,26 @@ module _ (N : ℕ) (pass : Seen) (seen fresh : ℕ) (o : Open) (open' : IsOpen p
     to_some : (changes_in pass.words offer ≡ [] → ⊥) → xs ≡ [] → ⊥
     to_some some e = some (ap (change_list_at pass.words) changes_are ∙ e)
 
-    outcome_answers : (out : Outcome) → BecomesOf N old new pass pass' offer (Ok out)
+    outcome_answers : (out : Outcome) → IsOutcome N pass pass' offer (Ok out)
         → Answers N s (carried (outcome_version base out) (state_of pass' seen fresh None)) pass.words pass'.words x (outcome_reply base out)
     outcome_answers (outcome.Committed m) is = whole_answers m is
     outcome_answers outcome.Nothing f = nothing_answers f.0 (to_none f.1)
-    outcome_answers (outcome.Conflict table was now at) f = conflict_answers f.0 (to_some f.1) table was now at f.2
+    outcome_answers (outcome.Conflict table was now at) f = conflict_answers f.0.mine (to_some f.0.has_changes) table was now at f.1
 
-    pub replied_answers : (at : ℕ) (r : Reply) (out : Outcome) → at ≡ outcome_version base out → r ≡ outcome_reply base out → BecomesOf N old new pass pass' offer (Ok out)
+    pub replied_answers : (at : ℕ) (r : Reply) (out : Outcome) → at ≡ outcome_version base out → r ≡ outcome_reply base out → IsOutcome N pass pass' offer (Ok out)
         → Answers N s (carried at (state_of pass' seen fresh None)) pass.words pass'.words x r
     replied_answers at r out version same f =
         subst (λ n. Answers N s (carried n (state_of pass' seen fresh None)) pass.words pass'.words x r) (sym version)
         (subst (λ q. Answers N s (carried (outcome_version base out) (state_of pass' seen fresh None)) pass.words pass'.words x q) (sym same) (outcome_answers out f))
 
-    pub fault_answers : (e : KeeperError) → BecomesOf N old new pass pass' offer (Err e)
+    pub fault_answers : (e : KeeperError) → IsOutcome N pass pass' offer (Err e)
         → Answers N s (carried (standing seen base (wanted e)) (state_of pass' seen fresh (Some o))) pass.words pass'.words x (reply.Refused (standing seen base (wanted e)) (wanted e))
-    fault_answers fault.Full f = full_answers f.0 (to_some f.1) f.3
+    fault_answers fault.Full f = full_answers f.0.mine (to_some f.0.has_changes) f.2
     fault_answers fault.Memory f =
         subst (λ t. Answers N s t pass.words pass'.words x (reply.Refused seen refusal.Memory)) (sym (carried_same (state_of pass' seen fresh (Some o)))) (wanting_answers f)
 
 -- the session has seen no version past the commits of its words
-module _ (N : ℕ) (words : List ℕ) (pass : Seen) (seen base : ℕ) (seen_is : seen ≤ length (commits_of pass.words)) (base_is : base ≤ length (commits_of pass.words)) (old new : Catalogue) (pass' : Seen)
-    (k : IsCall N words new pass pass') where
+module _ (N : ℕ) (words : List ℕ) (pass : Seen) (seen base : ℕ) (seen_is : seen ≤ length (commits_of pass.words)) (base_is : base ≤ length (commits_of pass.words)) (pass' : Seen) (k : IsCall N words pass pass') where
   seen_there : seen ≤ length (commits_of pass'.words)
   seen_there = version_within pass.words pass'.words k.longer seen seen_is
 
@@ -307,19 +249,18 @@ module _ (N : ℕ) (words : List ℕ) (pass : Seen) (seen base : ℕ) (seen_is :
   base_there = version_within pass.words pass'.words k.longer base base_is
 
   module _ (offer : Offer) where
-    pub committed_seen : (m : ℕ) → IsCommitted old new pass pass' offer m → max seen m ≤ length (commits_of pass'.words)
-    committed_seen m is = let all = as_many_as N words old new pass pass' offer m k is in let q = seen_there in omega (arith, all, q)
+    pub committed_seen : (m : ℕ) → IsLastCommit pass pass' offer m → max seen m ≤ length (commits_of pass'.words)
+    committed_seen m is = let all = as_many_as N words pass pass' offer m k is in let q = seen_there in omega (arith, all, q)
 
-    outcome_seen : (out : Outcome) → BecomesOf N old new pass pass' offer (Ok out) → max seen (outcome_version base out) ≤ length (commits_of pass'.words)
+    outcome_seen : (out : Outcome) → IsOutcome N pass pass' offer (Ok out) → max seen (outcome_version base out) ≤ length (commits_of pass'.words)
     outcome_seen (outcome.Committed m) is = committed_seen m is
     outcome_seen outcome.Nothing f = let p = base_there in let q = seen_there in omega (arith, p, q)
     outcome_seen (outcome.Conflict table was now at) f =
-        let same : length (commits_of pass'.words) ≡ length (commits_of old.words) = ap (λ cs. length cs) (ap commits_of k.same ∙ f.0.stays.commits) in
-        let all = f.2.at_is in
+        let all = f.1.at_is in
         let q = seen_there in
-        omega (arith, same, all, q)
+        omega (arith, all, q)
 
-    pub replied_seen : (at : ℕ) (out : Outcome) → at ≡ outcome_version base out → BecomesOf N old new pass pass' offer (Ok out) → max seen at ≤ length (commits_of pass'.words)
+    pub replied_seen : (at : ℕ) (out : Outcome) → at ≡ outcome_version base out → IsOutcome N pass pass' offer (Ok out) → max seen at ≤ length (commits_of pass'.words)
     replied_seen at out version f = subst (λ n. max seen n ≤ length (commits_of pass'.words)) (sym version) (outcome_seen out f)
 
   pub wanting_seen : (e : KeeperError) → max seen (standing seen base (wanted e)) ≤ length (commits_of pass'.words)

@@ -1,5 +1,5 @@
 -- What one statement of a session does: its reply is lawful, however the log goes on.
-use Rattle.std.specs.Prelude.{◌≡◌, ◌≤◌, ◌<◌, ◌+◌, ◌-◌, ℕ, List, [], ◌∷◌, ◌++◌, length, Option, Some, None, Bool, true, false, IsTrue, IsSome, IfSome, nat_eq, if◌then◌else◌}
+use Rattle.std.specs.Prelude.{◌≡◌, ◌≤◌, ◌<◌, ◌+◌, ◌-◌, ℕ, max, List, [], ◌∷◌, ◌++◌, length, Option, Some, None, Bool, true, false, IsTrue, IsSome, IfSome, nat_eq, if◌then◌else◌}
 use Rattle.std.specs.Option.{option_to_list}
 use mathlib.Core.List.{IsPrefix}
 use Rattle.ct_word.specs.Change.{PlainCommit}
@@ -11,6 +11,7 @@ use Rattle.ct_transcript.specs.declared.reply.Reply.TheVariants as reply
 use Rattle.ct_transcript.specs.declared.reply.Refusal.{Refusal}
 use Rattle.ct_transcript.specs.declared.reply.Refusal.TheVariants as refusal
 use Rattle.ct_session.specs.State.{SessionState}
+use Rattle.ct_session.specs.LawfulRefusal.{IsConflict}
 use Rattle.ct_session.specs.LawfulReply.{LawfulReply}
 
 -- the version of a Committed reply
@@ -57,12 +58,24 @@ pub record GoesOn (N : ℕ) (words W : List ℕ) : Type 0 where
   pub formed : IsWellFormed W
   pub room : length W ≤ N
 
+-- the state, once the session has seen all commits of these words
+abbrev pub having_seen : List ℕ → SessionState → SessionState
+having_seen words s = record s { seen = max s.seen (length (commits_of words)) }
+
+-- a conflict is lawful, however the words go on, for a session that had seen all commits of the words before: so its base has
+-- all of them
+abbrev pub ConflictsLater : ℕ → SessionState → SessionState → List ℕ → List ℕ → List ℕ → Reply → Type 0
+ConflictsLater N s next words words' x (reply.Refused at (refusal.Conflict table was now at')) =
+    (W : List ℕ) → GoesOn N words' W → (H : List PlainCommit) → StandsFor H W → IsConflict H W N (having_seen words s) x table was now at' next
+ConflictsLater N s next words words' x _ = Unit {0}
+
 -- a statement leads a session from a state to the next, and its words to further ones: the reply is lawful however the words
 -- go on and for every history that stands for them; outside a transaction it rests on all commits of the words before; and
 -- one commit of the session comes to the words where the reply says so, and else none
 pub record Answers (N : ℕ) (s next : SessionState) (words words' : List ℕ) (x : List ℕ) (r : Reply) : Type 0 where
   pub lawful : (W : List ℕ) → GoesOn N words' W → (H : List PlainCommit) → StandsFor H W → LawfulReply H W N s x r next
   pub newest : s.transaction ≡ None → IfSome (version_of r) (λ at. length (commits_of words) ≤ at)
+  pub later : s.transaction ≡ None → ConflictsLater N s next words words' x r
   pub longer : IsPrefix words words'
   pub room : length words' ≤ N
   pub same : next.session ≡ s.session

@@ -11,3 +11,4 @@ pub mod Orders
 pub mod Replying
 pub mod Outcomes
 pub mod Extending
+pub mod Standing

@@ -1,5 +1,10 @@
--- The world that an offer has, and what is answered, by what became of it.
-use Rattle.std.specs.Prelude.{ℕ, [], Option, Some, None}
+-- The world that an offer has, and what is answered, by what became of it; how a statement goes on to its offer.
+use Rattle.std.specs.Prelude.{◌≡◌, ◌≤◌, ℕ, [], length, Option, Some, None}
+use mathlib.Core.List.{IsPrefix}
+use Rattle.ct_word.specs.Reading.{commits_of}
+use Rattle.ct_arena.specs.Counts.{AreNumbered}
+use Rattle.ct_arena.specs.Seen.{Seen}
+use Rattle.ct_history.specs.Kept.{kept_of}
 use Rattle.ct_word.specs.Value.{World}
 use Rattle.ct_statement.specs.Proposals.{kept_after}
 use Rattle.ct_statement.specs.declared.stepping.Step.{Step}
@@ -17,10 +22,18 @@ abbrev pub world_offered : World → Option Step → World
 world_offered kept None = []
 world_offered kept (Some step) = kept_after kept step.kept
 
--- an offer has become a commit
-abbrev pub IsCommit : Outcome → Type 0
-IsCommit (outcome.Committed m) = Unit {0}
-IsCommit _ = ⊥
+-- a statement that began with one pass goes on with another: its version has all commits of the words with which it began,
+-- the words only grew, and the session has as many commits
+pub record Begins (first pass : Seen) (version : ℕ) : Type 0 where
+  pub longer : IsPrefix first.words pass.words
+  pub kept : kept_of pass ≡ kept_of first
+  pub numbered : AreNumbered first.session first.mine first.words
+  pub all : length (commits_of first.words) ≤ version
+
+-- the number of the last null after an offer: those that an action drew are the session's once it is committed
+abbrev pub fresh_after : ℕ → ℕ → Outcome → ℕ
+fresh_after fresh drawn (outcome.Committed m) = drawn
+fresh_after fresh drawn _ = fresh
 
 -- the reply to an offer with this base
 abbrev pub outcome_reply : ℕ → Outcome → Reply

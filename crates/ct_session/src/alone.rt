@@ -1,29 +1,29 @@
 // A statement outside a transaction that is no order.
 
 ghost use Rattle.std.specs.Prelude.{◌≡◌, ◌<◌, ◌≤◌, ◌^◌, [], None, false, IfOk, IsNone};
-ghost use Rattle.ct_keeper.specs.Catalogue.{version_of};
-ghost use Rattle.ct_keeper.specs.declared.catalogue.Outcome.TheVariants as became;
+ghost use Rattle.ct_arena.specs.Seen.{Seen};
 ghost use Rattle.ct_statement.specs.Sight.{IsSight, actions_before, history_of};
 ghost use Rattle.ct_session.specs.Executes.{Executes};
-ghost use Rattle.ct_session.specs.Outcomes.{IsCommit, world_offered};
+ghost use Rattle.ct_session.specs.Outcomes.{Begins, fresh_after, world_offered};
 ghost use Rattle.ct_session.specs.Prepared.{IsNoOrder, IsPrepared, needs_step};
 ghost use Rattle.ct_session.specs.Sessions.{IsSession, state_of};
 ghost use Rattle.ct_session.specs.Statements.{IsWritten};
 ghost use Rattle.ct_session.specs.declared.preparing.Prepared.TheVariants as prepared;
 
-use crate::committing::wanting;
+use crate::committing::{replied, wanting};
 use crate::offering::copied;
 use crate::preparing::{Prepared, prepare};
 use crate::replying::{reply_of, standing};
-use crate::session::Session;
-use ct_arena::{Arena, Pass, Site};
-use ct_keeper::{Keeper, Offer, Outcome};
+use crate::session::State;
+use ct_arena::{Pass, Site};
+use ct_keeper::{Offer, Outcome, Server};
 use ct_parse::Statement;
 use ct_query::Read;
 use ct_statement::{Proposal, Sight, Step};
 use ct_transcript::{Refusal, Reply};
 use ct_word::{List, Memory, World};
 use std::alloc::Global;
+use std::sync::Wait;
 
 /// The world that the offer of an action has: the kept one after its step; where no step was made, the one that lists
 /// nothing.
@@ -46,24 +46,22 @@ fn world_of(alloc: Global, sight: &Sight, step: Option<Step>) -> Result<World, M
     }
 }
 
-/// The number of the commit that an offer has become.
-#[tactic(auto, using(crate::proofs::Acted::commit_not_nothing, crate::proofs::Acted::commit_not_conflict))]
-fn number_of(outcome: Outcome) -> u32
-    requires { IsCommit outcome }
-    ensures { outcome ≡ became.Committed result }
+/// The number of the last null after an offer: those that an action drew are the session's once it is committed.
+fn fresh_after(fresh: u32, drawn: u32, outcome: &Outcome) -> u32
+    ensures { result ≡ fresh_after fresh drawn outcome.now }
 {
     match outcome {
-        Outcome::Committed(at) => at,
-        Outcome::Nothing => unreachable!(),
-        Outcome::Conflict { .. } => unreachable!(),
+        Outcome::Committed(_) => drawn,
+        _ => fresh,
     }
 }
 
-/// Commits an action as it was prepared, on the version that it saw, which is the newest.
-fn acted<N: Site>(
+/// Commits an action as it was prepared, on the version that it saw. Its statement began with words that have no further
+/// commit.
+fn acted<N: Site, R: Wait>(
+    rt: &R,
     alloc: Global,
-    arena: &Arena<N>,
-    keeper: &mut Keeper<N>,
+    server: &Server<N>,
     pass: Pass<N>,
     seen: u32,
     fresh: u32,
@@ -72,17 +70,15 @@ fn acted<N: Site>(
     step: Option<Step>,
     reads: List<Read>,
     statement: &Statement,
-) -> (Session<N>, Reply)
+) -> (State<N>, Reply)
     requires few { pass.mine < 2 ^ 18 }
     requires seen { seen ≤ sight.version }
-    requires newest { sight.version ≡ version_of keeper.old }
     requires sight { IsSight pass.words sight }
     requires none { actions_before sight ≡ [] }
     requires prepared { IsPrepared pass.words (history_of pass.words sight) (actions_before sight) [] pass.session fresh sight statement.now (prepared.Change proposal step reads) }
     requires steps { needs_step false (prepared.Change proposal step reads) }
     ensures session { IsSession result.0.pass.words result.0.seen result.0.open }
-    ensures ended { keeper.new.ended ≡ keeper.old.ended }
-    ensures executes { Executes N.log.cap (state_of pass seen fresh None) (state_of result.0.pass result.0.seen result.0.fresh result.0.open) pass.words result.0.pass.words statement.now result.1 }
+    ensures executes { (first : Seen) → Begins first pass sight.version → Executes N.log.cap (state_of first seen fresh None) (state_of result.0.pass result.0.seen result.0.fresh result.0.open) first.words result.0.pass.words statement.now result.1 }
 {
     let _words = pass.words();
     let base = sight.version;
@@ -90,7 +86,7 @@ fn acted<N: Site>(
         Ok(kept) => kept,
         Err(_) => {
             drop(proposal);
-            let session = Session {
+            let session = State {
                 pass,
                 seen,
                 fresh,
@@ -111,55 +107,55 @@ fn acted<N: Site>(
         changes,
         kept,
     };
-    let (pass, outcome) = keeper.commit(alloc, arena, pass, &offer);
+    let (pass, outcome) = server.commit(rt, alloc, pass, &offer);
     let _now = pass.words();
     match outcome {
         Ok(outcome) => {
-            let at = number_of(outcome);
-            let session = Session {
+            let after = fresh_after(fresh, drawn, &outcome);
+            let (at, reply) = replied(base, outcome);
+            let session = State {
                 pass,
                 seen,
-                fresh: drawn,
+                fresh: after,
                 open: None,
             };
-            (session.carrying(at), Reply::Committed { at })
+            (session.carrying(at), reply)
         }
         Err(e) => wanting(pass, seen, fresh, None, base, e),
     }
 }
 
-/// Executes a statement outside a transaction that is no BEGIN, COMMIT or ROLLBACK: it sees the newest version. An action
-/// is committed at once.
-pub(crate) fn alone<N: Site>(
+/// Executes a statement outside a transaction that is no BEGIN, COMMIT or ROLLBACK: it sees a version that has all
+/// commits of the words before. An action is committed at once.
+pub(crate) fn alone<N: Site, R: Wait>(
+    rt: &R,
     alloc: Global,
-    arena: &Arena<N>,
-    keeper: &mut Keeper<N>,
-    session: Session<N>,
+    server: &Server<N>,
+    session: State<N>,
     statement: &Statement,
-) -> (Session<N>, Reply)
+) -> (State<N>, Reply)
     requires session { IsSession session.pass.words session.seen session.open }
     requires few { session.pass.mine < 2 ^ 18 }
     requires none { IsNone session.open }
     requires written { IsWritten statement.now }
     requires plain { IsNoOrder statement.now }
     ensures session { IsSession result.0.pass.words result.0.seen result.0.open }
-    ensures ended { keeper.new.ended ≡ keeper.old.ended }
     ensures executes { Executes N.log.cap (state_of session.pass session.seen session.fresh session.open) (state_of result.0.pass result.0.seen result.0.fresh result.0.open) session.pass.words result.0.pass.words statement.now result.1 }
 {
     let _words = session.pass.words();
-    let Session {
+    let State {
         pass,
         seen,
         fresh,
         open,
     } = session;
     drop(open);
-    let (mut pass, snapshot) = keeper.begin(alloc, arena, pass);
+    let (mut pass, snapshot) = server.begin(rt, alloc, pass);
     let _begun = pass.words();
     let snapshot = match snapshot {
         Ok(snapshot) => snapshot,
         Err(_) => {
-            let session = Session {
+            let session = State {
                 pass,
                 seen,
                 fresh,
@@ -172,10 +168,17 @@ pub(crate) fn alone<N: Site>(
     let sight = Sight::of(alloc, snapshot);
     let at = sight.version;
     let prepared = prepare(
-        alloc, arena, &mut pass, &sight, None, fresh, false, statement,
+        alloc,
+        server.arena(),
+        &mut pass,
+        &sight,
+        None,
+        fresh,
+        false,
+        statement,
     );
     let _now = pass.words();
-    let session = Session {
+    let session = State {
         pass,
         seen,
         fresh,
@@ -193,9 +196,9 @@ pub(crate) fn alone<N: Site>(
                 reads,
             },
         ) => acted(
+            rt,
             alloc,
-            arena,
-            keeper,
+            server,
             session.pass,
             seen,
             fresh,

@@ -11,15 +11,16 @@ ghost use Rattle.ct_transcript.specs.declared.reply.Reply.TheVariants as reply;
 
 use crate::offering::copied;
 use crate::replying::standing;
-use crate::session::{Open, Session};
-use ct_arena::{Arena, Pass, Site};
-use ct_keeper::{Keeper, KeeperError, Offer, Outcome};
+use crate::session::{Open, State};
+use ct_arena::{Pass, Site};
+use ct_keeper::{KeeperError, Offer, Outcome, Server};
 use ct_parse::Statement;
 use ct_transcript::{Refusal, Reply};
 use std::alloc::Global;
+use std::sync::Wait;
 
 /// The reply to an offer with this base, and the version that it carries.
-fn replied(base: u32, outcome: Outcome) -> (u32, Reply)
+pub(crate) fn replied(base: u32, outcome: Outcome) -> (u32, Reply)
     ensures version { result.0 ≡ outcome_version base outcome }
     ensures reply { result.1 ≡ outcome_reply base outcome }
 {
@@ -61,7 +62,7 @@ pub(crate) fn wanting<N: Site>(
     transaction: Option<Open>,
     base: u32,
     e: KeeperError,
-) -> (Session<N>, Reply)
+) -> (State<N>, Reply)
     ensures pass { result.0.pass ≡ pass }
     ensures state { state_of result.0.pass result.0.seen result.0.fresh result.0.open ≡ carried (standing seen base (wanted e)) (state_of pass seen fresh transaction) }
     ensures opened { result.0.open ≡ transaction }
@@ -70,7 +71,7 @@ pub(crate) fn wanting<N: Site>(
 {
     let why = wanted(e);
     let at = standing(seen, base, &why);
-    let session = Session {
+    let session = State {
         pass,
         seen,
         fresh,
@@ -79,32 +80,31 @@ pub(crate) fn wanting<N: Site>(
     (session.carrying(at), Reply::Refused { at, why })
 }
 
-/// COMMIT of the open transaction, whose change list was begun at this place: it is offered to the keeper. Where something
+/// COMMIT of the open transaction, whose change list was begun at this place: it is offered to the server. Where something
 /// is wanting, the transaction stays.
-fn offered<N: Site>(
+fn offered<N: Site, R: Wait>(
+    rt: &R,
     alloc: Global,
-    arena: &Arena<N>,
-    keeper: &mut Keeper<N>,
+    server: &Server<N>,
     pass: Pass<N>,
     seen: u32,
     fresh: u32,
     transaction: Open,
     changes: u32,
     statement: &Statement,
-) -> (Session<N>, Reply)
+) -> (State<N>, Reply)
     requires session { IsSession pass.words seen (Some transaction) }
     requires few { pass.mine < 2 ^ 18 }
     requires begun { transaction.changes ≡ Some changes }
     requires order { statement.now ≡ tree.Commit }
     ensures session { IsSession result.0.pass.words result.0.seen result.0.open }
-    ensures ended { keeper.new.ended ≡ keeper.old.ended }
     ensures executes { Executes N.log.cap (state_of pass seen fresh (Some transaction)) (state_of result.0.pass result.0.seen result.0.fresh result.0.open) pass.words result.0.pass.words statement.now result.1 }
 {
     let _words = pass.words();
     let kept = match copied(alloc, &transaction.sight.kept) {
         Ok(kept) => kept,
         Err(_) => {
-            let session = Session {
+            let session = State {
                 pass,
                 seen,
                 fresh,
@@ -126,13 +126,13 @@ fn offered<N: Site>(
         changes,
         kept,
     };
-    let (pass, outcome) = keeper.commit(alloc, arena, pass, &offer);
+    let (pass, outcome) = server.commit(rt, alloc, pass, &offer);
     let _now = pass.words();
     let Offer { reads, .. } = offer;
     match outcome {
         Ok(outcome) => {
             let (at, reply) = replied(base, outcome);
-            let session = Session {
+            let session = State {
                 pass,
                 seen,
                 fresh,
@@ -152,23 +152,22 @@ fn offered<N: Site>(
 }
 
 /// COMMIT of the open transaction. One without actions commits nothing.
-pub(crate) fn commit<N: Site>(
+pub(crate) fn commit<N: Site, R: Wait>(
+    rt: &R,
     alloc: Global,
-    arena: &Arena<N>,
-    keeper: &mut Keeper<N>,
-    session: Session<N>,
+    server: &Server<N>,
+    session: State<N>,
     statement: &Statement,
-) -> (Session<N>, Reply)
+) -> (State<N>, Reply)
     requires session { IsSession session.pass.words session.seen session.open }
     requires few { session.pass.mine < 2 ^ 18 }
     requires some { IsSome session.open }
     requires order { statement.now ≡ tree.Commit }
     ensures session { IsSession result.0.pass.words result.0.seen result.0.open }
-    ensures ended { keeper.new.ended ≡ keeper.old.ended }
     ensures executes { Executes N.log.cap (state_of session.pass session.seen session.fresh session.open) (state_of result.0.pass result.0.seen result.0.fresh result.0.open) session.pass.words result.0.pass.words statement.now result.1 }
 {
     let _words = session.pass.words();
-    let Session {
+    let State {
         pass,
         seen,
         fresh,
@@ -180,7 +179,7 @@ pub(crate) fn commit<N: Site>(
     match transaction.changes {
         None => {
             let at = transaction.sight.version;
-            let session = Session {
+            let session = State {
                 pass,
                 seen,
                 fresh,
@@ -189,9 +188,9 @@ pub(crate) fn commit<N: Site>(
             (session.carrying(at), Reply::Nothing { at })
         }
         Some(changes) => offered(
+            rt,
             alloc,
-            arena,
-            keeper,
+            server,
             pass,
             seen,
             fresh,

@@ -13,6 +13,5 @@ mod replying;
 mod session;
 mod within;
 
-pub use executing::execute;
 pub use reading::read;
 pub use session::{Open, Session};

@@ -6,42 +6,42 @@ ghost use Rattle.ct_session.specs.Executes.{Executes};
 ghost use Rattle.ct_session.specs.Orders.{IsMisplaced};
 ghost use Rattle.ct_session.specs.Sessions.{IsSession, state_of};
 
-use crate::session::{Open, Session};
-use ct_arena::{Arena, Site};
-use ct_keeper::Keeper;
+use crate::session::{Open, State};
+use ct_arena::Site;
+use ct_keeper::Server;
 use ct_parse::Statement;
 use ct_statement::Sight;
 use ct_transcript::{Refusal, Reply};
 use ct_word::List;
 use std::alloc::Global;
+use std::sync::Wait;
 
-/// BEGIN outside a transaction: opens one at the newest version.
-pub(crate) fn begin<N: Site>(
+/// BEGIN outside a transaction: opens one at a version that has all commits of the words before.
+pub(crate) fn begin<N: Site, R: Wait>(
+    rt: &R,
     alloc: Global,
-    arena: &Arena<N>,
-    keeper: &mut Keeper<N>,
-    session: Session<N>,
+    server: &Server<N>,
+    session: State<N>,
     statement: &Statement,
-) -> (Session<N>, Reply)
+) -> (State<N>, Reply)
     requires session { IsSession session.pass.words session.seen session.open }
     requires none { IsNone session.open }
     requires order { statement.now ≡ tree.Begin }
     ensures session { IsSession result.0.pass.words result.0.seen result.0.open }
-    ensures ended { keeper.new.ended ≡ keeper.old.ended }
     ensures executes { Executes N.log.cap (state_of session.pass session.seen session.fresh session.open) (state_of result.0.pass result.0.seen result.0.fresh result.0.open) session.pass.words result.0.pass.words statement.now result.1 }
 {
-    let Session {
+    let State {
         pass,
         seen,
         fresh,
         ..
     } = session;
     let _ = pass.words();
-    let (pass, snapshot) = keeper.begin(alloc, arena, pass);
+    let (pass, snapshot) = server.begin(rt, alloc, pass);
     let _words = pass.words();
     let Ok(snapshot) = snapshot else {
         let open = None;
-        let session = Session {
+        let session = State {
             pass,
             seen,
             fresh,
@@ -56,7 +56,7 @@ pub(crate) fn begin<N: Site>(
         changes: None,
         reads: List::new(alloc),
     };
-    let session = Session {
+    let session = State {
         pass,
         seen: at,
         fresh,
@@ -66,21 +66,21 @@ pub(crate) fn begin<N: Site>(
 }
 
 /// ROLLBACK in a transaction: gives it up.
-pub(crate) fn roll_back<N: Site>(session: Session<N>, statement: &Statement) -> (Session<N>, Reply)
+pub(crate) fn roll_back<N: Site>(session: State<N>, statement: &Statement) -> (State<N>, Reply)
     requires session { IsSession session.pass.words session.seen session.open }
     requires some { IsSome session.open }
     requires order { statement.now ≡ tree.Rollback }
     ensures session { IsSession result.0.pass.words result.0.seen result.0.open }
     ensures executes { Executes N.log.cap (state_of session.pass session.seen session.fresh session.open) (state_of result.0.pass result.0.seen result.0.fresh result.0.open) session.pass.words result.0.pass.words statement.now result.1 }
 {
-    let Session {
+    let State {
         pass,
         seen,
         fresh,
         ..
     } = session;
     let _words = pass.words();
-    let session = Session {
+    let session = State {
         pass,
         seen,
         fresh,
@@ -91,10 +91,10 @@ pub(crate) fn roll_back<N: Site>(session: Session<N>, statement: &Statement) -> 
 
 /// The refusal of BEGIN in a transaction, and of COMMIT or ROLLBACK outside one.
 pub(crate) fn refused_here<N: Site>(
-    session: Session<N>,
+    session: State<N>,
     statement: &Statement,
     why: Refusal,
-) -> (Session<N>, Reply)
+) -> (State<N>, Reply)
     requires session { IsSession session.pass.words session.seen session.open }
     requires misplaced { IsMisplaced session.open statement.now why }
     ensures session { IsSession result.0.pass.words result.0.seen result.0.open }

@@ -1,14 +1,21 @@
 // A session between its statements.
 
-ghost use Rattle.std.specs.Prelude.{◌≡◌, max, None};
+ghost use Rattle.std.specs.Prelude.{◌≡◌, ◌<◌, ◌^◌, max, None};
+ghost use Rattle.ct_session.specs.Answers.{Answers};
 ghost use Rattle.ct_session.specs.Sessions.{state_of};
+ghost use Rattle.ct_session.specs.Standing.{state_in};
 ghost use Rattle.ct_session.specs.State.{carried};
 
+use crate::executing::executed;
 use ct_arena::{Pass, Site};
+use ct_keeper::Server;
 use ct_query::Read;
 use ct_statement::Sight;
-use ct_transcript::{Refusal, Reply};
+use ct_transcript::Reply;
 use ct_word::List;
+use std::alloc::Global;
+use std::marker::Model;
+use std::sync::Wait;
 
 /// An open transaction: its base with its own actions done, the place of its change list, which is begun with its first
 /// action, and what it read.
@@ -19,60 +26,131 @@ pub struct Open {
     pub reads: List<Read>,
 }
 
-/// A session between its statements.
+/// What a session keeps between its statements.
 #[derive(Drop)]
-pub struct Session<N: Site> {
+pub(crate) struct State<N: Site> {
     /// The session's own pass, by which its statements read and add words.
-    pub pass: Pass<N>,
+    pub(crate) pass: Pass<N>,
     /// The greatest version that a reply carried.
-    pub seen: u32,
+    pub(crate) seen: u32,
     /// The number of the last null that the session drew, 0 before the first.
-    pub fresh: u32,
+    pub(crate) fresh: u32,
     /// The transaction that is open.
-    pub open: Option<Open>,
+    pub(crate) open: Option<Open>,
 }
 
-impl<N: Site> Session<N> {
-    /// A session before its first statement, on a pass without commits of its own.
-    pub fn make(pass: Pass<N>) -> Session<N>
-        ensures pass { result.pass ≡ pass }
-        ensures seen { result.seen ≡ 0 }
-        ensures fresh { result.fresh ≡ 0 }
-        ensures open { result.open ≡ None }
-    {
-        Session {
-            pass,
-            seen: 0,
-            fresh: 0,
-            open: None,
-        }
-    }
-
-    /// The session's pass. A transaction that is open is given up.
-    pub fn finish(self) -> Pass<N>
-        ensures { result ≡ self.pass }
-    {
-        self.pass
-    }
-
+impl<N: Site> State<N> {
     /// The session after a reply that carries a version.
-    pub(crate) fn carrying(self, version: u32) -> Session<N>
+    pub(crate) fn carrying(self, version: u32) -> State<N>
         ensures pass { result.pass ≡ self.pass }
         ensures state { state_of result.pass result.seen result.fresh result.open ≡ carried version (state_of self.pass self.seen self.fresh self.open) }
         ensures open { result.open ≡ self.open }
         ensures seen { result.seen ≡ max self.seen version }
     {
-        let Session {
+        let State {
             pass,
             seen,
             fresh,
             open,
         } = self;
-        Session {
+        State {
             pass,
             seen: seen.max(version),
             fresh,
             open,
         }
+    }
+}
+
+/// A session between its statements.
+#[derive(Drop)]
+pub struct Session<N: Site> {
+    // It is away only while a statement is executed.
+    state: Option<State<N>>,
+}
+
+impl<N: Site> Model for Session<N> {
+    ghost use Rattle.std.specs.Prelude.{option_map};
+    ghost use Rattle.std.specs.Coded.{codes};
+    ghost use Rattle.ct_session.specs.contracts.session.Open as held;
+    ghost use Rattle.ct_session.specs.Standing.{Standing, IsThere, standing_of};
+
+    ghost Value = { Standing };
+
+    ghost coded = { Prim.hlevel (codes, held.the_row.coded) };
+
+    ghost view = { λ s. standing_of (option_map (λ t. record { pass = t.pass; seen = t.seen; fresh = t.fresh; transaction = t.open }) s.state) };
+
+    ghost invariant = { λ s. IsThere (option_map (λ t. record { pass = t.pass; seen = t.seen; fresh = t.fresh; transaction = t.open }) s.state) };
+}
+
+impl<N: Site> Session<N> {
+    /// The session of a pass before its first statement. The pass has no commits of its own yet.
+    pub fn make(pass: Pass<N>) -> Session<N>
+        requires none { pass.mine ≡ 0 }
+        ensures { result ≡ record { pass = pass; seen = 0; fresh = 0; transaction = None } }
+    {
+        Session {
+            state: Some(State {
+                pass,
+                seen: 0,
+                fresh: 0,
+                open: None,
+            }),
+        }
+    }
+
+    /// The session's pass.
+    pub fn pass(&self) -> &Pass<N>
+        ensures { result.now ≡ self.now.pass }
+    {
+        let Some(state) = &self.state else {
+            unreachable!();
+        };
+        &state.pass
+    }
+
+    /// The session's pass, once there are no more statements. A transaction that is open is given up.
+    pub fn finish(self) -> Pass<N>
+        ensures { result ≡ self.pass }
+    {
+        let Some(state) = self.state else {
+            unreachable!();
+        };
+        state.pass
+    }
+
+    /// Executes one statement text, and gives the reply to it. It waits for nothing but the server's lock. The session has
+    /// fewer than 2^18 commits.
+    ///
+    /// The reply is
+    /// - `Begun`, `RolledBack`, `Nothing` or `Committed` for BEGIN, ROLLBACK and COMMIT in their places;
+    /// - `Committed` for an action outside a transaction, `Pending` for one inside;
+    /// - `Rows`, `Possible` or `Certain` for a query, at what it sees: a version that has all commits of the words before,
+    ///   or in a transaction its base with its own actions;
+    /// - `Refused` for the first cause that holds: `NumberRange`, `NotAStatement` or `TooDeep` where the text is read as no
+    ///   statement; `InTransaction` or `NoTransaction`; a name or a count that does not fit; `TooLarge` where a part of the
+    ///   query goes through too many rows; `Full` where the log has no room; `TooManyTerms`; `Inconsistent` for an assertion
+    ///   that no admitted valuation satisfies; `Conflict` where a commit after the base has changed what was read. By the
+    ///   contract `Memory` may come in place of any reply.
+    ///
+    /// A refused statement leaves the transaction and the number of the last null as they were, and commits nothing, though
+    /// words may have come to the log. There is one exception: `Conflict` ends the transaction.
+    pub fn execute<R: Wait>(
+        &mut self,
+        rt: &R,
+        alloc: Global,
+        server: &Server<N>,
+        text: &str,
+    ) -> Reply
+        requires few { self.old.pass.mine < 2 ^ 18 }
+        ensures answers { Answers N.log.cap (state_in self.old) (state_in self.new) self.old.pass.words self.new.pass.words text.now result }
+    {
+        let Some(state) = self.state.take() else {
+            unreachable!();
+        };
+        let (state, reply) = executed(rt, alloc, server, state, text);
+        self.state = Some(state);
+        reply
     }
 }

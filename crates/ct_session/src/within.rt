@@ -12,7 +12,7 @@ ghost use Rattle.ct_session.specs.declared.preparing.Prepared.TheVariants as pre
 use crate::extending::{after_action, after_query};
 use crate::preparing::{Prepared, prepare};
 use crate::replying::{reply_of, standing};
-use crate::session::{Open, Session};
+use crate::session::{Open, State};
 use ct_arena::{Arena, Pass, Site};
 use ct_parse::Statement;
 use ct_query::Read;
@@ -30,7 +30,7 @@ struct Inside<N: Site> {
 }
 
 /// The refusal of a statement. The transaction stays.
-fn refused<N: Site>(inside: Inside<N>, statement: &Statement, why: Refusal) -> (Session<N>, Reply)
+fn refused<N: Site>(inside: Inside<N>, statement: &Statement, why: Refusal) -> (State<N>, Reply)
     requires session { IsSession inside.pass.words inside.seen (Some inside.open) }
     requires refused { IsRefused (history_of inside.pass.words inside.open.sight) (actions_before inside.open.sight) N.log.cap inside.pass.words inside.pass.session inside.fresh statement.now why }
     ensures session { IsSession result.0.pass.words result.0.seen result.0.open }
@@ -44,7 +44,7 @@ fn refused<N: Site>(inside: Inside<N>, statement: &Statement, why: Refusal) -> (
     } = inside;
     let _words = pass.words();
     let at = standing(seen, open.sight.version, &why);
-    let session = Session {
+    let session = State {
         pass,
         seen: seen.max(at),
         fresh,
@@ -59,7 +59,7 @@ fn answer<N: Site>(
     statement: &Statement,
     answered: Answered,
     reads: List<Read>,
-) -> (Session<N>, Reply)
+) -> (State<N>, Reply)
     requires session { IsSession inside.pass.words inside.seen (Some inside.open) }
     requires prepared { IsPrepared inside.pass.words (history_of inside.pass.words inside.open.sight) (actions_before inside.open.sight) (listed inside.pass.words inside.open.changes) inside.pass.session inside.fresh inside.open.sight statement.now (prepared.Answer answered reads) }
     ensures session { IsSession result.0.pass.words result.0.seen result.0.open }
@@ -78,7 +78,7 @@ fn answer<N: Site>(
     let at = open.sight.version;
     match after_query(open, reads) {
         Ok(open) => {
-            let session = Session {
+            let session = State {
                 pass,
                 seen: seen.max(at),
                 fresh,
@@ -114,7 +114,7 @@ fn change<N: Site>(
     proposal: Proposal,
     step: Step,
     reads: List<Read>,
-) -> (Session<N>, Reply)
+) -> (State<N>, Reply)
     requires session { IsSession inside.pass.words inside.seen (Some inside.open) }
     requires prepared { IsPrepared inside.pass.words (history_of inside.pass.words inside.open.sight) (actions_before inside.open.sight) (listed inside.pass.words inside.open.changes) inside.pass.session inside.fresh inside.open.sight statement.now (prepared.Change proposal (Some step) reads) }
     ensures session { IsSession result.0.pass.words result.0.seen result.0.open }
@@ -138,7 +138,7 @@ fn change<N: Site>(
     } = proposal;
     match after_action(alloc, open, action, changes, step, reads) {
         Ok(open) => {
-            let session = Session {
+            let session = State {
                 pass,
                 seen: seen.max(at),
                 fresh: drawn,
@@ -163,9 +163,9 @@ fn change<N: Site>(
 pub(crate) fn within<N: Site>(
     alloc: Global,
     arena: &Arena<N>,
-    session: Session<N>,
+    session: State<N>,
     statement: &Statement,
-) -> (Session<N>, Reply)
+) -> (State<N>, Reply)
     requires session { IsSession session.pass.words session.seen session.open }
     requires some { IsSome session.open }
     requires written { IsWritten statement.now }
@@ -173,7 +173,7 @@ pub(crate) fn within<N: Site>(
     ensures session { IsSession result.0.pass.words result.0.seen result.0.open }
     ensures executes { Executes N.log.cap (state_of session.pass session.seen session.fresh session.open) (state_of result.0.pass result.0.seen result.0.fresh result.0.open) session.pass.words result.0.pass.words statement.now result.1 }
 {
-    let Session {
+    let State {
         mut pass,
         seen,
         fresh,

@@ -16,7 +16,7 @@ use Rattle.ct_session.specs.declared.preparing.Prepared.TheVariants as prepared
 use Rattle.ct_session.proofs.Carrying.{carried_answers, carried_session}
 use Rattle.ct_session.proofs.Going.{prefix_short, version_within}
 use Rattle.ct_session.proofs.Opened.{standing_within}
-use Rattle.ct_session.proofs.Ordered.{executes_later, memory_executes}
+use Rattle.ct_session.proofs.Ordered.{memory_executes}
 use Rattle.ct_session.proofs.Outside.{none_open, kept_tally, prepared_on, refused_on, answered_on, refused_outside, answered_outside}
 use Rattle.ct_session.proofs.Replies.{proceeds}
 use Rattle.ct_session.proofs.Sights.{sight_grows}
@@ -148,16 +148,20 @@ returns-in-Ok-Change-clause-executes g c =
     let fresh = c.args.session.fresh in
     let st = c.args.statement.now in
     let begun = c.begin-pass.result.0 in
-    let now = c.prepare-prepared.new.pass in
     let s = c.of-sight.result in
-    let kept = c.prepare-prepared.ensures.kept ∙ kept_tally first begun c.begin-pass.ensures.pass in
-    let p = proceeds N first now (prefix_of_prefix first.words begun.words now.words c.begin-pass.ensures.longer c.prepare-prepared.ensures.longer) kept c.words-now.ensures.room
-    c.words-words.ensures.numbered c.words-now.ensures.numbered in
+    let newest = IfOk-at_ok (IsNewest begun.words) c.in-Ok.is c.begin-pass.ensures.snapshot in
+    let version : s.version ≡ length (commits_of begun.words) = c.of-sight.ensures.version ∙ newest.version in
+    let before = prefix_short (commits_of first.words) (commits_of begun.words) (commits_prefix first.words begun.words c.begin-pass.ensures.longer) in
     let none = none_open c.args.session.open c.requires.none in
     let after = c.acted.result.0 in
     let next = state_of after.pass after.seen after.fresh after.open in
     subst (λ o. Executes N (state_of first seen fresh o) next first.words after.pass.words st c.acted.result.1) (sym none)
-    (executes_later N first now seen fresh None next after.pass.words st c.acted.result.1 p kept c.acted.ensures.executes)
+    (c.acted.ensures.executes first (record {
+      longer = prefix_of_prefix first.words begun.words c.prepare-prepared.new.pass.words c.begin-pass.ensures.longer c.prepare-prepared.ensures.longer;
+      kept = c.prepare-prepared.ensures.kept ∙ kept_tally first begun c.begin-pass.ensures.pass;
+      numbered = c.words-words.ensures.numbered;
+      all = omega (arith, before, version);
+    }))
 
 pub returns-in-Err-prepared-clause-session : goal.returns-in-Err-prepared-clause-session
 returns-in-Err-prepared-clause-session g c =

@@ -68,7 +68,7 @@ returns-in-Ok-Answer-clause-executes g c =
     let new = c.prepare-prepared.new.pass in
     let done = c.in-Ok-Answer.ensures in
     rw c.in-Some.is
-    (executes_later g.N.Site.log.cap s.pass new s.seen s.fresh (Some c.in-Some.open) _ _ c.args.statement.now c.answer.result.1
+    (executes_later g.N.Site.log.cap s.pass new s.seen s.fresh c.in-Some.open _ _ c.args.statement.now c.answer.result.1
     (proceeds g.N.Site.log.cap s.pass new done.longer done.kept c.words-after.ensures.room c.words-before.ensures.numbered c.words-after.ensures.numbered) done.kept c.answer.ensures.executes)
 
 pub returns-in-Some-step-clause-executes : goal.returns-in-Some-step-clause-executes
@@ -77,7 +77,7 @@ returns-in-Some-step-clause-executes g c =
     let new = c.prepare-prepared.new.pass in
     let done = c.in-Ok-Change.ensures in
     rw c.in-Some.is
-    (executes_later g.N.Site.log.cap s.pass new s.seen s.fresh (Some c.in-Some.open) _ _ c.args.statement.now c.change.result.1
+    (executes_later g.N.Site.log.cap s.pass new s.seen s.fresh c.in-Some.open _ _ c.args.statement.now c.change.result.1
     (proceeds g.N.Site.log.cap s.pass new done.longer done.kept c.words-after.ensures.room c.words-before.ensures.numbered c.words-after.ensures.numbered) done.kept c.change.ensures.executes)
 
 pub returns-in-Err-clause-executes : goal.returns-in-Err-clause-executes
@@ -86,5 +86,5 @@ returns-in-Err-clause-executes g c =
     let new = c.prepare-prepared.new.pass in
     let done = c.in-Err.ensures in
     rw c.in-Some.is
-    (executes_later g.N.Site.log.cap s.pass new s.seen s.fresh (Some c.in-Some.open) _ _ c.args.statement.now c.refused.result.1
+    (executes_later g.N.Site.log.cap s.pass new s.seen s.fresh c.in-Some.open _ _ c.args.statement.now c.refused.result.1
     (proceeds g.N.Site.log.cap s.pass new done.longer done.kept c.words-after.ensures.room c.words-before.ensures.numbered c.words-after.ensures.numbered) done.kept c.refused.ensures.executes)

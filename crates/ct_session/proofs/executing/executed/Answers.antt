@@ -2,13 +2,13 @@ use Rattle.ct_session.specs.Sessions.{state_of}
 use Rattle.ct_session.proofs.Readings.{is_written}
 use Rattle.ct_session.proofs.Replies.{proceeds_same}
 use Rattle.ct_session.proofs.Unread.{unread_answers}
-use Rattle.ct_session.proofs.executing.execute.Goals as goal
+use Rattle.ct_session.proofs.executing.executed.Goals as goal
 
-pub executed-done-requires-clause-written : goal.executed-done-requires-clause-written
-executed-done-requires-clause-written g c = is_written c.args.text.now c.in-Ok.statement c.in-Ok.ensures.ok
+pub placed-done-requires-clause-written : goal.placed-done-requires-clause-written
+placed-done-requires-clause-written g c = is_written c.args.text.now c.in-Ok.statement c.in-Ok.ensures.ok
 
 pub returns-clause-answers : goal.returns-clause-answers
-returns-clause-answers g c = c.executed-done.ensures.executes c.args.text.now c.in-Ok.ensures.ok
+returns-clause-answers g c = c.placed-done.ensures.executes c.args.text.now c.in-Ok.ensures.ok
 
 pub returns-in-Err-clause-answers : goal.returns-in-Err-clause-answers
 returns-in-Err-clause-answers g c =
