@@ -97,10 +97,7 @@ pub struct HoldGate {
 impl HoldGate {
     /// # Errors
     /// `Memory` where there is none for a mark for each pair.
-    pub fn make(
-        alloc: Global,
-        holds: List<((u32, u32), (u32, u32))>,
-    ) -> Result<HoldGate, Memory> {
+    pub fn make(alloc: Global, holds: List<((u32, u32), (u32, u32))>) -> Result<HoldGate, Memory> {
         let marks = no_marks(alloc, holds.len())?;
         Ok(HoldGate { holds, marks })
     }
