@@ -1,0 +1,298 @@
+// What sessions share: the names of nulls, the versions and the log. What each has for itself: its new nulls.
+
+use crate::played::{Played, ROOMY, play, play_on, scripts_of, text_of, transcript_of};
+use ct_outside::NoGate;
+use ct_serve::serve;
+use ct_transcript::{Refusal, Reply, Transcript};
+use std::alloc::{AllocError, Global};
+use std::test::Fail;
+
+/// A new null of one session differs in name from that of another one, and may have the same value.
+#[test]
+fn new_nulls_of_two_sessions(rt: HostRuntime) -> Result<(), Fail> {
+    let scripts = [
+        "create table t (a); insert into t values (NULL); select p.a, q.a from t p, t q where p.a = q.a;",
+        "insert into t values (NULL);",
+    ];
+    let first = "\
+session 1
+1 committed 1
+2 committed 2
+3 rows (a, a) at 3
+  (?1#1, ?1#1)
+  (?1#1, ?2#1) if ?1#1 = ?2#1
+  (?2#1, ?1#1) if ?1#1 = ?2#1
+  (?2#1, ?2#1)
+session 2
+1 committed 3
+history
+1 by 1
+  create table t (a)
+2 by 1
+  insert into t (?1#1)
+3 by 2
+  insert into t (?2#1)
+end
+";
+    let second = "\
+session 1
+1 committed 1
+2 committed 3
+3 rows (a, a) at 3
+  (?2#1, ?2#1)
+  (?2#1, ?1#1) if ?1#1 = ?2#1
+  (?1#1, ?2#1) if ?1#1 = ?2#1
+  (?1#1, ?1#1)
+session 2
+1 committed 2
+history
+1 by 1
+  create table t (a)
+2 by 2
+  insert into t (?2#1)
+3 by 1
+  insert into t (?1#1)
+end
+";
+    let orders: [Played<'_>; _] = [(&[1, 1, 2, 1], first), (&[1, 2, 1, 1], second)];
+    play(&rt, rt.alloc(), &scripts, &orders)
+}
+
+/// A named null is one null in all sessions, so that the same row comes twice.
+#[test]
+fn the_same_script_twice(rt: HostRuntime) -> Result<(), Fail> {
+    let text = "create table t (a); insert into t values (?x); select a from t;";
+    let first = "\
+session 1
+1 committed 1
+2 committed 2
+3 rows (a) at 3
+  (?x)
+session 2
+1 refused TableExists
+2 committed 3
+3 rows (a) at 3
+  (?x)
+history
+1 by 1
+  create table t (a)
+2 by 1
+  insert into t (?x)
+3 by 2
+  insert into t (?x)
+end
+";
+    let second = "\
+session 1
+1 refused TableExists
+2 committed 3
+3 rows (a) at 3
+  (?x)
+session 2
+1 committed 1
+2 committed 2
+3 rows (a) at 3
+  (?x)
+history
+1 by 2
+  create table t (a)
+2 by 2
+  insert into t (?x)
+3 by 1
+  insert into t (?x)
+end
+";
+    let orders: [Played<'_>; _] = [(&[1, 2, 1, 2, 1, 2], first), (&[2, 1, 2, 1, 2, 1], second)];
+    play(&rt, rt.alloc(), &[text, text], &orders)
+}
+
+/// Outside a transaction each statement sees all commits so far, and within one the base.
+#[test]
+fn versions_rise(rt: HostRuntime) -> Result<(), Fail> {
+    let scripts = [
+        "create table t (a); select * from t; begin; select * from t; commit; select * from t;",
+        "insert into t values (1); insert into t values (2); select * from t;",
+    ];
+    let expected = "\
+session 1
+1 committed 1
+2 rows (a) at 2
+  (1)
+3 begun at 2
+4 rows (a) at 2
+  (1)
+5 nothing to commit at 2
+6 rows (a) at 3
+  (1)
+  (2)
+session 2
+1 committed 2
+2 committed 3
+3 rows (a) at 3
+  (1)
+  (2)
+history
+1 by 1
+  create table t (a)
+2 by 2
+  insert into t (1)
+3 by 2
+  insert into t (2)
+end
+";
+    let orders: [Played<'_>; _] = [
+        (&[1, 2, 1, 1, 2, 1, 1, 1, 2], expected),
+        (&[1, 2, 1, 1, 1, 2, 2, 1, 1], expected),
+    ];
+    play(&rt, rt.alloc(), &scripts, &orders)
+}
+
+/// A statement of session 1 takes all words of a log of 64. From then on nobody commits: the open transaction stays
+/// open, and can be given up.
+#[test]
+fn one_session_fills_the_log(rt: HostRuntime) -> Result<(), Fail> {
+    let scripts = [
+        "create table t (a);
+         insert into t values ('xxxxxxxxxxxxxxxxxxxxxxxxxxxxxxxxxxxxxxxxxxxxxxxxxxxxxxxxxxxxxxxxxxxxxxxxxxxxxxxx');
+         select a from t;",
+        "begin; insert into t values (1); commit; rollback; insert into t values (1); select a from t;",
+    ];
+    let expected = "\
+session 1
+1 committed 1
+2 refused Full
+3 rows (a) at 1
+session 2
+1 begun at 1
+2 pending at 1 plus 1
+3 refused Full
+4 rolled back
+5 refused Full
+6 rows (a) at 1
+history
+1 by 1
+  create table t (a)
+end
+";
+    let orders: [Played<'_>; _] = [
+        (&[1, 2, 2, 1, 2, 2, 2, 2, 1], expected),
+        (&[1, 2, 2, 1, 1, 2, 2, 2, 2], expected),
+    ];
+    play_on(&rt, rt.alloc(), 64, &scripts, &orders)
+}
+
+/// What 64 sessions of one creation each print where the last session comes first.
+fn all_but_the_last_refused(alloc: Global) -> Result<String, AllocError> {
+    let mut text = String::new(alloc);
+    for session in 1..64 {
+        text.push_str(format!(in alloc; "session {session}\n1 refused TableExists\n")?.as_str())?;
+    }
+    text.push_str("session 64\n1 committed 1\nhistory\n1 by 64\n  create table t (a)\nend\n")?;
+    Ok(text)
+}
+
+#[test]
+fn sixty_four_sessions_from_the_last(rt: HostRuntime) -> Result<(), Fail> {
+    let mut order = Vec::new(rt.alloc());
+    for before in 0..64 {
+        order.push(64 - before)?;
+    }
+    let scripts = ["create table t (a)"; 64];
+    let transcript = transcript_of(&rt, rt.alloc(), ROOMY, &scripts, order.as_slice())?;
+    let text = text_of(rt.alloc(), &transcript)?;
+    let expected = all_but_the_last_refused(rt.alloc())?;
+    assert_eq!(rt; text.as_str(), expected.as_str());
+    Ok(())
+}
+
+/// How many of the creations that all sessions consist of were committed, and how many found that another one was.
+fn outcomes(transcript: &Transcript) -> (u32, u32) {
+    let (mut committed, mut late) = (0u32, 0u32);
+    for log in transcript.sessions.as_slice() {
+        for reply in log.replies.as_slice() {
+            match reply {
+                Reply::Committed { at: 1 } => committed = committed.saturating_add(1),
+                Reply::Refused {
+                    at: 1,
+                    why: Refusal::TableExists | Refusal::Conflict { .. },
+                } => late = late.saturating_add(1),
+                _ => {}
+            }
+        }
+    }
+    (committed, late)
+}
+
+/// Of 64 sessions that nothing orders one has its creation committed. Another one that began before that conflicts.
+#[test]
+fn sixty_four_sessions_at_once(rt: HostRuntime) -> Result<(), Fail> {
+    let scripts = scripts_of(&rt, rt.alloc(), &["create table t (a)"; 64])?;
+    assert!(rt; 1 <= scripts.len() && scripts.len() <= 64);
+    let transcript = serve(&rt, rt.alloc(), ROOMY, scripts.as_slice(), &NoGate)?;
+    assert_eq!(rt; outcomes(&transcript), (1, 63));
+    assert_eq!(rt; transcript.history.as_slice().len(), 1);
+    Ok(())
+}
+
+/// The version of a reply.
+fn version(reply: &Reply) -> Option<u32> {
+    match reply {
+        Reply::Begun { at }
+        | Reply::Pending { at, .. }
+        | Reply::Committed { at }
+        | Reply::Nothing { at }
+        | Reply::Rows { at, .. }
+        | Reply::Possible { at, .. }
+        | Reply::Certain { at, .. }
+        | Reply::Refused { at, .. } => Some(*at),
+        Reply::RolledBack => None,
+    }
+}
+
+/// Whether the versions never fall, from one reply to the next.
+fn never_fall(replies: &[Reply]) -> bool {
+    let mut seen = 0;
+    for reply in replies {
+        let at = version(reply).unwrap_or(seen);
+        if at < seen {
+            return false;
+        }
+        seen = at;
+    }
+    true
+}
+
+/// How many statements each of the sessions that run freely has after its first.
+const FREE: u32 = 20;
+
+/// Insertions and questions in turn, and transactions, all on one table.
+fn free_script(alloc: Global) -> Result<String, AllocError> {
+    let mut text = String::from_str(alloc, "create table t (a);")?;
+    for k in 0..FREE {
+        text.push_str(format!(in alloc; "insert into t values ({k}); select a from t;")?.as_str())?;
+        text.push_str("begin; select a from t; insert into t values (NULL); commit; rollback;")?;
+    }
+    Ok(text)
+}
+
+/// Four sessions run freely. The versions of each never fall, and each commit of the history is one reply's.
+#[test]
+fn versions_of_a_session_never_fall(rt: HostRuntime) -> Result<(), Fail> {
+    let text = free_script(rt.alloc())?;
+    let text = text.as_str();
+    let scripts = scripts_of(&rt, rt.alloc(), &[text; 4])?;
+    assert!(rt; 1 <= scripts.len() && scripts.len() <= 64);
+    let transcript = serve(&rt, rt.alloc(), ROOMY, scripts.as_slice(), &NoGate)?;
+    let mut committed = 0usize;
+    for log in transcript.sessions.as_slice() {
+        let replies = log.replies.as_slice();
+        assert!(rt; never_fall(replies));
+        let commits = replies
+            .iter()
+            .filter(|reply| matches!(reply, Reply::Committed { .. }))
+            .count();
+        committed = committed.saturating_add(commits);
+    }
+    assert_eq!(rt; transcript.history.as_slice().len(), committed);
+    Ok(())
+}
