@@ -195,6 +195,8 @@ def patterns_of(changes):
             found[change[1]] = (change[2], [])
         elif change[0] == "insert":
             found[change[1]][1].extend(change[2])
+        elif change[0] == "insert rows":
+            found[change[1]][1].extend(row for row, _ in change[2])
         elif change[0] == "insert query":
             found[change[1]][1].extend(list(pattern(change[2], found)))
     return found

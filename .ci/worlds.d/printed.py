@@ -1,4 +1,4 @@
-"""Reads transcripts: the replies of one session, and the history."""
+"""Reads transcripts: the replies of each session, and the history."""
 
 import re
 
@@ -19,18 +19,22 @@ def lines_of(text):
 
 
 def parts(text):
-    """Returns the lines of each reply, by its number, and those of the history."""
+    """Returns for each session the lines of each reply, by its number, and the lines of the history."""
     lines = lines_of(text)
     if lines[0] != "session 1" or lines[-2:] != ["end", ""] or "history" not in lines:
-        raise ValueError("no transcript of one session")
-    middle = lines.index("history")
-    replies = {}
-    for line in lines[1:middle]:
+        raise ValueError("no transcript")
+    middle, sessions, reply = lines.index("history"), [], None
+    for line in lines[:middle]:
+        if line == f"session {len(sessions) + 1}":
+            sessions.append({})
+            reply = None
+            continue
         if head := re.match(r"(\d+) ", line):
-            number = int(head[1])
-            replies[number] = []
-        replies[number].append(line)
-    return replies, lines[middle + 1 : -2]
+            reply = sessions[-1].setdefault(int(head[1]), [])
+        if reply is None:
+            raise ValueError(f"a line before the first reply: {line!r}")
+        reply.append(line)
+    return sessions, lines[middle + 1 : -2]
 
 
 def reader_of(line):
@@ -135,14 +139,15 @@ def change(line):
 
 
 def history(lines):
-    """Reads the commits: each as its changes, which come with the conditions that the commit names."""
-    heads = [i for i, line in enumerate(lines) if re.fullmatch(r"\d+ by 1", line)] + [len(lines)]
+    """Reads the commits: each as its session and its changes, which come with the conditions that the commit names."""
+    heads = [i for i, line in enumerate(lines) if re.fullmatch(r"\d+ by \d+", line)] + [len(lines)]
     if heads[0]:
         raise ValueError("a history that begins with no commit")
     found = []
     for number, (begin, end) in enumerate(zip(heads, heads[1:]), 1):
-        if lines[begin] != f"{number} by 1":
+        place, _, session = lines[begin].partition(" by ")
+        if place != str(number):
             raise ValueError(f"{lines[begin]} is not commit {number}")
         named, rest = names_of(lines[begin + 1 : end])
-        found.append([(change(line), named) for line in rest])
+        found.append((int(session), [(change(line), named) for line in rest]))
     return found

@@ -10,6 +10,41 @@ MOST_TERMS = 64
 MOST_ROWS = 1_048_576
 
 
+def schema_of(changes):
+    """Returns the columns of each table that changes create."""
+    return {change[1]: change[2] for change, _ in changes if change[0] == "create"}
+
+
+def with_nulls(change, session, drawn):
+    """Returns a change with nulls for its NULLs, and how many the session has drawn then; before it, it drew so many."""
+    if change[0] != "insert":
+        return change, drawn
+    rows = []
+    for row in change[2]:
+        cells = []
+        for cell in row:
+            drawn += cell[0] == "fresh"
+            cells.append(("null", f"?{session}#{drawn}") if cell[0] == "fresh" else cell)
+        rows.append(tuple(cells))
+    return (*change[:2], rows, change[3]), drawn
+
+
+def has_many_terms(tree, changes):
+    """Tells whether a statement may be refused for the number of its terms, where it sees these changes."""
+    if tree[0] not in ("assert", "possible", "certain"):
+        return False
+    tables = [] if tree[0] == "assert" else tables_of(tree[1])
+    more = len(headed(tree[1], schema_of(changes))) if tree[0] == "certain" else 0
+    return terms_of(tree[1], changes, tables, more) > MOST_TERMS
+
+
+def is_too_large(tree, changes):
+    """Tells whether a statement may be refused for the size of its query, where it sees these changes."""
+    if tree[0] not in ("rows", "possible", "certain", "insert query"):
+        return False
+    return greatest_part(tree[-1], changes) > MOST_ROWS
+
+
 class Session:
     """The commits so far, the changes of the open transaction if there is one, and how many nulls were drawn."""
 
@@ -23,30 +58,17 @@ class Session:
         return sum(self.commits, []) + (self.own or [])
 
     def schema(self):
-        return {change[1]: change[2] for change, _ in self.changes() if change[0] == "create"}
+        return schema_of(self.changes())
 
     def place(self):
         """Returns what the head of an answer says of the version."""
         return f"at {len(self.commits)}" + (f" plus {len(self.own)}" if self.own else "")
 
-    def named_nulls(self, change):
-        """Returns a change with nulls for its NULLs, and how many are drawn then."""
-        if change[0] != "insert":
-            return change, self.drawn
-        drawn, rows = self.drawn, []
-        for row in change[2]:
-            cells = []
-            for cell in row:
-                drawn += cell[0] == "fresh"
-                cells.append(("null", f"?1#{drawn}") if cell[0] == "fresh" else cell)
-            rows.append(tuple(cells))
-        return (*change[:2], rows, change[3]), drawn
-
     def change(self, change):
         """Makes a change. Returns the reply that is due."""
         if change[0] == "assert" and not is_admitting(self.changes(), change[1]):
             raise Refused("Inconsistent")
-        made, self.drawn = self.named_nulls(change)
+        made, self.drawn = with_nulls(change, 1, self.drawn)
         if self.own is None:
             self.commits.append([(made, {})])
             return f"committed {len(self.commits)}"
@@ -84,24 +106,11 @@ class Session:
         check(tree, self.schema())
         return self.change(tree) if tree[0] in KINDS_OF_CHANGE else self.head(tree)
 
-    def has_many_terms(self, tree):
-        """Tells whether a statement may be refused for the number of its terms."""
-        if tree[0] not in ("assert", "possible", "certain"):
-            return False
-        tables = [] if tree[0] == "assert" else tables_of(tree[1])
-        more = len(headed(tree[1], self.schema())) if tree[0] == "certain" else 0
-        return terms_of(tree[1], self.changes(), tables, more) > MOST_TERMS
-
-    def is_too_large(self, tree):
-        """Tells whether a statement may be refused for the size of its query."""
-        if tree[0] not in ("rows", "possible", "certain", "insert query"):
-            return False
-        return greatest_part(tree[-1], self.changes()) > MOST_ROWS
-
     def wrong_limit(self, tree, name):
         """Returns what is wrong with a refusal at a limit, or None."""
         check(tree, self.schema())
-        is_right = self.is_too_large(tree) if name == "TooLarge" else self.has_many_terms(tree)
+        is_past = is_too_large if name == "TooLarge" else has_many_terms
+        is_right = is_past(tree, self.changes())
         return None if is_right else f"{name} within the limit"
 
 
