@@ -3,27 +3,30 @@
 import random
 
 TABLES = {"t": ("a", "b"), "u": ("a",), "v": ("a",)}
-TERMS = ["1", "2", "'a'", "?x", "?y", "?z"]
+CONSTANTS = ("1", "2", "'a'")
+NULLS = ("?x", "?y", "?z")
 
 
 class Maker:
-    """Makes the parts of one script. A number of chance stands for one script."""
+    """Makes the parts of one script. A number of chance stands for one script, which may have so many NULLs."""
 
-    def __init__(self, number):
+    def __init__(self, number, constants=CONSTANTS, nulls=NULLS, fresh=2):
         self.chance = random.Random(number)
-        self.nulls = 2
+        self.terms = constants + nulls
+        self.nulls = nulls
+        self.fresh = fresh
 
     def pick(self, *given):
         return self.chance.choice(given)
 
     def term(self, columns):
-        return self.pick(*TERMS, *columns, *columns, *columns)
+        return self.pick(*self.terms, *columns, *columns, *columns)
 
     def condition(self, columns, depth=2):
         """Returns a condition over these columns."""
         form = self.chance.random()
         if depth == 0 or form < 0.6:
-            return f"{self.pick('?x', '?y', '?z', *columns)} {self.pick('=', '=', '<>')} {self.term(columns)}"
+            return f"{self.pick(*self.nulls, *columns)} {self.pick('=', '=', '<>')} {self.term(columns)}"
         if form < 0.7:
             return f"not ({self.condition(columns, depth - 1)})"
         if form < 0.72:
@@ -32,10 +35,10 @@ class Maker:
         return f"({self.condition(columns, depth - 1)} {word} {self.condition(columns, depth - 1)})"
 
     def cell(self):
-        if self.nulls and self.chance.random() < 0.05:
-            self.nulls -= 1
+        if self.fresh and self.chance.random() < 0.05:
+            self.fresh -= 1
             return "NULL"
-        return self.pick(*TERMS)
+        return self.pick(*self.terms)
 
     def row(self, table):
         return "(" + ", ".join(self.cell() for _ in TABLES[table]) + ")"
