@@ -1,10 +1,10 @@
-"""Compares transcripts of several sessions, whose versions depend on which session came first.
+"""Makes transcripts of several sessions comparable, whose versions depend on which session came first.
 
 usage: python3 .ci/versions.py WANTED < TRANSCRIPT
 
-Where a line of the transcript WANTED begins with a number or with #, each word # of it stands for a number: committed #, at #,
-# by 1. What is printed is the transcript, with the commits of session 1 first, then those of session 2, and so on; and with
-the lines of WANTED for those that they stand for, so that a diff of both shows what else differs.
+Where a line of the transcript WANTED begins with a number or with #, each word # of it stands for a number: committed #, at #.
+What is printed is the transcript with the commits of session 1 first, then those of session 2, and so on, and with the lines
+of WANTED for those that they stand for. So a diff of both shows what else differs.
 """
 
 import re
