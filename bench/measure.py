@@ -71,6 +71,30 @@ def instructions(script):
     return int(found[1])
 
 
+def called(script, functions):
+    """Returns how often the program calls the functions on the script, as callgrind counts the calls. One of them alone is
+    there where the compiler puts one into the other."""
+    with tempfile.TemporaryDirectory() as room:
+        counts = os.path.join(room, "counts")
+        said = run(["valgrind", "--tool=callgrind", f"--callgrind-out-file={counts}", program()], script)[4]
+        if not os.path.exists(counts):
+            sys.exit(f"valgrind counted nothing:\n{said.decode('utf-8', 'replace')}")
+        names, callee, found, there = {}, "", dict.fromkeys(functions, 0), set()
+        with open(counts, encoding="utf-8", errors="replace") as it:
+            for line in it:
+                named = re.match(r"c?fn=(\(\d+\))(?: (.*))?", line)
+                if named:
+                    names.setdefault(named[1], named[2])
+                    there.add(names[named[1]])
+                    callee = names[named[1]]
+                elif line.startswith("calls=") and callee in found:
+                    found[callee] += int(line[len("calls=") :].split()[0])
+        for function in functions:
+            if function in there:
+                return found[function]
+        return 0
+
+
 def built_tests(crate):
     """Proves and builds the tests of a crate. Returns the path of their program."""
     folder = os.path.join(ROOT, "crates", crate)

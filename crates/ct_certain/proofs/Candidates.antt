@@ -30,8 +30,9 @@ use Rattle.ct_query.specs.Database.{has_tuple}
 use Rattle.std.specs.Cmp.Lexicographic.{pointwise}
 use Rattle.ct_word.specs.contracts.values.ValuePartialEq.TheImpl as value_eq
 use Rattle.ct_word.specs.declared.values.Value.TheVariants as val
-use Rattle.ct_certain.specs.Certain.{IsKeptWorld, tuples_in}
-use Rattle.ct_certain.specs.Missing.{IsAskedOf, IsAtHand}
+use Rattle.ct_certain.specs.declared.striking.Seen.{Seen}
+use Rattle.ct_certain.specs.Certain.{IsInAll, IsKeptWorld, tuples_in}
+use Rattle.ct_certain.specs.Missing.{IsAskedOf, IsAtHand, IsSeen}
 use Rattle.ct_certain.proofs.Missing.{one_or_none, one_row}
 
 append_none : {X : Type 0} (xs : List X) → xs ++ [] ≡ xs
@@ -155,3 +156,21 @@ row_found list t i r lt e is so_far = ap (λ b. b || has_tuple (tuples_in (drop 
 pub row_passed : (list : List CertainRow) (t : List Value) (i : ℕ) (r : CertainRow) → i < length list → r ≡ get_or list i r → false ≡ same_tuple r.tuple t
     → has_tuple (tuples_in (drop i list)) t ≡ has_tuple (tuples_in list) t → has_tuple (tuples_in (drop (i + 1) list)) t ≡ has_tuple (tuples_in list) t
 row_passed list t i r lt e is so_far = ap (λ b. b || has_tuple (tuples_in (drop (i + 1) list)) t) is ∙ sym (from_row list t i r lt e) ∙ so_far
+
+-- the tuples from one on
+from_tuple : (ts : List (List Value)) (t : List Value) (i : ℕ) (x : List Value) → i < length ts → x ≡ get_or ts i x → has_tuple (drop i ts) t ≡ (same_tuple x t || has_tuple (drop (i + 1) ts) t)
+from_tuple ts t i x lt e =
+    let one : suc i ≡ i + 1 = omega arith in
+    ap (λ l. has_tuple l t) (drop-cons ts i x lt) ∙ (λ j. same_tuple (sym e j) t || has_tuple (drop (one j) ts) t)
+
+pub tuple_found : (ts : List (List Value)) (t : List Value) (i : ℕ) (x : List Value) → i < length ts → x ≡ get_or ts i x → true ≡ same_tuple x t
+    → has_tuple (drop i ts) t ≡ has_tuple ts t → true ≡ has_tuple ts t
+tuple_found ts t i x lt e is so_far = ap (λ b. b || has_tuple (drop (i + 1) ts) t) is ∙ sym (from_tuple ts t i x lt e) ∙ so_far
+
+pub tuple_passed : (ts : List (List Value)) (t : List Value) (i : ℕ) (x : List Value) → i < length ts → x ≡ get_or ts i x → false ≡ same_tuple x t
+    → has_tuple (drop i ts) t ≡ has_tuple ts t → has_tuple (drop (i + 1) ts) t ≡ has_tuple ts t
+tuple_passed ts t i x lt e is so_far = ap (λ b. b || has_tuple (drop (i + 1) ts) t) is ∙ sym (from_tuple ts t i x lt e) ∙ so_far
+
+-- a tuple that one world lacks is not certain
+pub lacking : (words : List ℕ) (global : ℕ) (rs : List CRow) (s : Seen) (t : List Value) → IsSeen words global rs s → false ≡ has_tuple s.tuples t → IsInAll words global rs t → ⊥
+lacking words global rs s t is lacks all = false≢true (lacks ∙ ap (λ ts. has_tuple ts t) is.tuples ∙ all is.world is.holds)

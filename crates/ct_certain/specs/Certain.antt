@@ -13,7 +13,7 @@ use Rattle.ct_condition.specs.Places.{has_place}
 use Rattle.ct_derivation.specs.Accepts.{AcceptsProof}
 use Rattle.ct_equality.specs.Valued.{IsNumbered}
 use Rattle.ct_rewrite.specs.declared.answer.CertainRow.{CertainRow}
-use Rattle.ct_table.specs.Tables.{value_of_rows}
+use Rattle.ct_table.specs.Tables.{firsts, value_of_rows}
 
 -- a world at which the global condition holds, and each of whose values is a constant of the words or `@k` with k below 2^28
 pub record IsKeptWorld (words : List ℕ) (global : ℕ) (v : World) : Type 0 where
@@ -37,10 +37,10 @@ pub record RefutesMissing (old now : List ℕ) (global : ℕ) (rs : List CRow) (
 abbrev pub tuples_in : List CertainRow → List (List Value)
 tuples_in list = map (λ r. r.tuple) list
 
--- exactly the tuples that the rows are worth at every valuation of the global condition, each once, in the order of
--- the rows at the kept world, each with a proof that it is missing at none
+-- exactly the tuples that the rows are worth at every valuation of the global condition, each once, in the order in
+-- which the rows at the kept world have them first, each with a proof that it is missing at none
 pub record ListsCertain (old now : List ℕ) (global : ℕ) (rs : List CRow) (kept : World) (list : List CertainRow) : Type 0 where
   pub distinct : IsDistinct same_tuple (tuples_in list)
   pub exact : (tuple : List Value) → IsTrue (has_tuple (tuples_in list) tuple) ↔ IsInAll old global rs tuple
   pub refuted : All (RefutesMissing old now global rs) list
-  pub ordered : IsSublist (tuples_in list) (value_of_rows old kept rs)
+  pub ordered : IsSublist (tuples_in list) (firsts same_tuple (value_of_rows old kept rs))

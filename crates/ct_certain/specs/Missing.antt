@@ -13,7 +13,8 @@ use Rattle.ct_word.specs.WellFormed.{IsWellFormed, is_place_of}
 use Rattle.ct_condition.specs.Places.{has_place}
 use Rattle.ct_condition.specs.Terms.{TermsFrom}
 use Rattle.ct_equality.specs.Valued.{IsNumbered}
-use Rattle.ct_table.specs.Tables.{AreRows}
+use Rattle.ct_table.specs.Tables.{AreRows, firsts, value_of_rows}
+use Rattle.ct_certain.specs.declared.striking.Seen.{Seen}
 use Rattle.ct_certain.specs.Asked.{IsOfTable, IsValueIn}
 use Rattle.ct_certain.specs.Certain.{is_missing, tuples_in, IsInAll, RefutesMissing}
 use Rattle.std.specs.List.{IsDistinct}
@@ -65,10 +66,16 @@ condition_of (r ∷ rs) = r.cond
 pub record AreListed (words now : List ℕ) (global : ℕ) (rs : List CRow) (done : List (List Value)) (list : List CertainRow) : Type 0 where
   pub distinct : IsDistinct same_tuple (tuples_in list)
   pub refuted : All (RefutesMissing words now global rs) list
-  pub ordered : IsSublist (tuples_in list) done
+  pub ordered : IsSublist (tuples_in list) (firsts same_tuple done)
   pub complete : (t : List Value) → IsTrue (has_tuple done t) → IsInAll words global rs t → IsTrue (has_tuple (tuples_in list) t)
 
 -- the list with a tuple and its proof; as it was where the tuple is listed already, or is not certain
 pub data Takes (words now : List ℕ) (global : ℕ) (rs : List CRow) (tuple : List Value) (old : List CertainRow) : List CertainRow → Type 0 where
   nothing : (IsInAll words global rs tuple → IsTrue (has_tuple (tuples_in old) tuple)) → Takes words now global rs tuple old old
   one : (r : CertainRow) → r.tuple ≡ tuple → has_tuple (tuples_in old) tuple ≡ false → RefutesMissing words now global rs r → Takes words now global rs tuple old (old ++ r ∷ [])
+
+-- the tuples that rows are worth in some world at which the global condition holds
+pub record IsSeen (words : List ℕ) (global : ℕ) (rs : List CRow) (s : Seen) : Type 0 where
+  pub world : World
+  pub holds : IsTrue (holds_at world (condition_at words global))
+  pub tuples : s.tuples ≡ value_of_rows words world rs

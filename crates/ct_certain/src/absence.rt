@@ -5,15 +5,18 @@ ghost use Rattle.ct_condition.specs.Writes.{Writes};
 ghost use Rattle.ct_table.specs.Refusals.{is_full as has_no_room};
 ghost use Rattle.ct_certain.specs.Answered.{IsSettled};
 ghost use Rattle.ct_certain.specs.Asked.{IsPastTermsOfTuple};
+ghost use Rattle.ct_certain.specs.Certain.{RefutesMissing};
 ghost use Rattle.ct_certain.specs.Faults.{is_full};
 ghost use Rattle.ct_certain.specs.Missing.{AreOfTuple, IsAtHand, IsAskedOf, IsOfValue, IsRootOf, condition_of};
 ghost use Rattle.ct_certain.specs.declared.error.CertainError.TheVariants as fault;
 
+use crate::derivations::known;
 use crate::error::CertainError;
 use crate::settling::settle;
 use ct_arena::{Arena, Site};
 use ct_condition::{Interner, term};
 use ct_decide::Decision;
+use ct_rewrite::CertainRow;
 use ct_table::{CTable, TableError, except};
 use ct_word::{CRow, FALSE_PLACE, List, Term, Text, Value};
 use std::alloc::Global;
@@ -116,7 +119,8 @@ fn root<N: Site, I: Interner<N>>(
     }
 }
 
-/// A question about a tuple: its root, and a world in which the tuple is missing or a derivation that there is none.
+/// A question about a tuple: its root, and a world in which the tuple is missing or a derivation that there is none. A
+/// root that stands in the list already is not asked again.
 pub fn ask_tuple<N: Site, I: Interner<N>>(
     alloc: Global,
     arena: &Arena<N>,
@@ -124,9 +128,11 @@ pub fn ask_tuple<N: Site, I: Interner<N>>(
     words: &[u64],
     table: &CTable,
     global: u32,
+    list: &[CertainRow],
     tuple: &[Value],
 ) -> Result<(u32, Decision), CertainError>
-    requires { IsAskedOf words.now (I.list pass.old) global (length table.now.columns) table.now.rows tuple.now }
+    requires asked { IsAskedOf words.now (I.list pass.old) global (length table.now.columns) table.now.rows tuple.now }
+    requires listed { All (RefutesMissing words.now (I.list pass.old) global table.now.rows) list.now }
     ensures root { IfOk result (λ a. IsRootOf words.now (I.list pass.new) global table.now.rows tuple.now a.0) }
     ensures settled { IfOk result (λ a. IsSettled (I.list pass.new) a.0 a.1) }
     ensures writes { Writes I.list I.made I.kept I.lent N.log.cap pass.old pass.new (length table.now.rows * (2 * length table.now.columns + 2) + length table.now.columns + 1) (is_full result) }
@@ -134,6 +140,10 @@ pub fn ask_tuple<N: Site, I: Interner<N>>(
 {
     let place = root(alloc, arena, pass, words, table, global, tuple)?;
     let now = pass.words();
+    let before = known(alloc, now, list, place)?;
+    if let Some(derivation) = before {
+        return Ok((place, Decision::Refuted(derivation)));
+    }
     let decision = settle(alloc, now, place)?;
     Ok((place, decision))
 }

@@ -6,18 +6,19 @@ ghost use Rattle.ct_word.specs.declared.kinds.Class.TheVariants as class;
 ghost use Rattle.ct_word.specs.Stands.{HasNoColumn};
 ghost use Rattle.ct_word.specs.WellFormed.{IsWellFormed, is_place_of};
 ghost use Rattle.ct_condition.specs.Writes.{Writes};
-ghost use Rattle.ct_table.specs.Tables.{AreRows};
+ghost use Rattle.ct_table.specs.Tables.{AreRows, IsRow};
 ghost use Rattle.ct_certain.specs.Asked.{IsPastTermsOfTuple};
-ghost use Rattle.ct_certain.specs.Certain.{IsKeptWorld, ListsCertain};
+ghost use Rattle.ct_certain.specs.Certain.{IsKeptWorld, ListsCertain, RefutesMissing};
 ghost use Rattle.ct_certain.specs.Faults.{is_full};
-ghost use Rattle.ct_certain.specs.Missing.{AreListed, IsAskedOf, Takes};
+ghost use Rattle.ct_certain.specs.Missing.{AreListed, IsAskedOf, IsSeen, Takes};
 ghost use Rattle.ct_certain.specs.declared.error.CertainError.TheVariants as fault;
 
 use crate::absence::ask_tuple;
 use crate::error::CertainError;
+use crate::striking::{Seen, first_worlds, is_everywhere, see};
 use crate::tuples::{copied_tuple, is_listed, tuples};
 use ct_arena::{Arena, Pass, Site};
-use ct_condition::Interner;
+use ct_condition::{Interner, worths};
 use ct_decide::Decision;
 use ct_derivation::{Derivation, Proof};
 use ct_rewrite::CertainRow;
@@ -43,7 +44,8 @@ fn list_tuple(
     Ok(())
 }
 
-/// Lists a tuple if it is certain and not listed.
+/// Lists a tuple if it is certain and not listed. It is asked for only where no known world lacks it; a world that lacks
+/// it is known from then on.
 fn try_tuple<N: Site, I: Interner<N>>(
     alloc: Global,
     arena: &Arena<N>,
@@ -51,10 +53,16 @@ fn try_tuple<N: Site, I: Interner<N>>(
     words: &[u64],
     table: &CTable,
     global: u32,
+    pool: &mut Vec<Seen>,
     list: &mut Vec<CertainRow>,
     tuple: &List<Value>,
 ) -> Result<(), CertainError>
-    requires { IsAskedOf words.now (I.list pass.old) global (length table.now.columns) table.now.rows tuple.now }
+    requires asked { IsAskedOf words.now (I.list pass.old) global (length table.now.columns) table.now.rows tuple.now }
+    requires small { length words.now < 2 ^ 28 }
+    requires rows { All (λ r. IsRow words.now (length r.cells) r) table.now.rows }
+    requires pool { All (IsSeen words.now global table.now.rows) pool.old.items }
+    requires listed { All (RefutesMissing words.now (I.list pass.old) global table.now.rows) list.old.items }
+    ensures pool { OnOk result (All (IsSeen words.now global table.now.rows) pool.new.items) }
     ensures takes { OnOk result (Takes words.now (I.list pass.new) global table.now.rows tuple.now list.old.items list.new.items) }
     ensures writes { Writes I.list I.made I.kept I.lent N.log.cap pass.old pass.new (length table.now.rows * (2 * length table.now.columns + 2) + length table.now.columns + 1) (is_full result) }
     ensures many { IsErrOf result fault.TooManyTerms → IsPastTermsOfTuple words.now (I.list pass.new) global (length table.now.columns) table.now.rows }
@@ -63,9 +71,25 @@ fn try_tuple<N: Site, I: Interner<N>>(
     if is_listed(list.as_slice(), tuple) {
         return Ok(());
     }
-    let (root, decision) = ask_tuple(alloc, arena, pass, words, table, global, tuple.as_slice())?;
+    let rows = table.rows.as_slice();
+    if !is_everywhere(words, global, rows, pool.as_slice(), tuple) {
+        return Ok(());
+    }
+    let (root, decision) = ask_tuple(
+        alloc,
+        arena,
+        pass,
+        words,
+        table,
+        global,
+        list.as_slice(),
+        tuple.as_slice(),
+    )?;
     match decision {
-        Decision::World(_) => Ok(()),
+        Decision::World(world) => {
+            see(alloc, words, global, rows, &world, pool)?;
+            Ok(())
+        }
         Decision::Refuted(derivation) => {
             list_tuple(alloc, list, tuple, root, derivation)?;
             Ok(())
@@ -81,9 +105,13 @@ fn each_certain<N: Site, I: Interner<N>>(
     words: &[u64],
     table: &CTable,
     global: u32,
+    pool: &mut Vec<Seen>,
     candidates: &[List<Value>],
 ) -> Result<Vec<CertainRow>, CertainError>
     requires same { words.now ≡ I.list pass.old }
+    requires small { length words.now < 2 ^ 28 }
+    requires rows { All (λ r. IsRow words.now (length r.cells) r) table.now.rows }
+    requires pool { All (IsSeen words.now global table.now.rows) pool.old.items }
     requires few { length candidates.now ≤ length table.now.rows }
     requires asked { All (IsAskedOf words.now words.now global (length table.now.columns) table.now.rows) candidates.now }
     ensures lists { IfOk result (λ list. AreListed words.now (I.list pass.new) global table.now.rows candidates.now list.items) }
@@ -93,7 +121,9 @@ fn each_certain<N: Site, I: Interner<N>>(
     let _ = pass.words();
     let mut list = Vec::new(alloc);
     for tuple in candidates {
-        try_tuple(alloc, arena, pass, words, table, global, &mut list, tuple)?;
+        try_tuple(
+            alloc, arena, pass, words, table, global, pool, &mut list, tuple,
+        )?;
     }
     Ok(list)
 }
@@ -129,14 +159,19 @@ pub fn certain<N: Site>(
     ensures mine { pass.new.mine ≡ pass.old.mine }
 {
     let words = pass.words().to_vec(alloc)?;
-    let candidates = tuples(alloc, words.as_slice(), kept, table.rows.as_slice())?;
+    let before = words.as_slice();
+    let rows = table.rows.as_slice();
+    let worths = worths(alloc, before, kept)?;
+    let candidates = tuples(alloc, before, kept, &worths, rows)?;
+    let mut pool = first_worlds(alloc, before, global, rows, kept)?;
     let list = each_certain(
         alloc,
         arena,
         pass,
-        words.as_slice(),
+        before,
         table,
         global,
+        &mut pool,
         candidates.as_slice(),
     )?;
     Ok(List::from_vec(list))

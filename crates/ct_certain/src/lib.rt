@@ -8,12 +8,15 @@
 mod absence;
 mod cells;
 mod certainty;
+mod derivations;
 mod error;
 mod order;
 mod pool;
 mod possibility;
 mod settling;
 mod showing;
+mod spread;
+mod striking;
 mod tuples;
 
 pub use certainty::certain;

@@ -1,6 +1,6 @@
 // The tuples that rows are worth in a world.
 
-ghost use Rattle.std.specs.Prelude.{◌≡◌, ◌<◌, ◌^◌, ◌++◌, [], ◌∷◌, length, map, All, IfOk, IsTrue, OnOk};
+ghost use Rattle.std.specs.Prelude.{◌≡◌, ◌++◌, [], ◌∷◌, length, map, All, IfOk, IsTrue, OnOk};
 ghost use Rattle.ct_word.specs.declared.kinds.Class.TheVariants as class;
 ghost use Rattle.ct_word.specs.Reading.{term_at};
 ghost use Rattle.ct_word.specs.Value.{at, same_tuple, tuple_at};
@@ -11,7 +11,7 @@ ghost use Rattle.ct_table.specs.Tables.{IsRow, value_of_rows};
 ghost use Rattle.ct_certain.specs.Certain.{tuples_in};
 
 use crate::order::value_of;
-use ct_condition::{Worths, worths};
+use ct_condition::Worths;
 use ct_rewrite::CertainRow;
 use ct_word::{CRow, List, Memory, Term, Value, World, term_at};
 use std::alloc::{AllocError, Global};
@@ -74,23 +74,23 @@ pub fn tuples(
     alloc: Global,
     words: &[u64],
     world: &World,
+    worths: &Worths,
     rows: &[CRow],
 ) -> Result<Vec<List<Value>>, Memory>
     requires formed { IsWellFormed words.now }
-    requires small { length words.now < 2 ^ 28 }
     requires rows { All (λ r. IsRow words.now (length r.cells) r) rows.now }
+    requires worths { AreWorths words.now world.now worths.now }
     ensures { IfOk result (λ ts. ts.items ≡ value_of_rows words.now world.now rows.now) }
 {
-    let worths = worths(alloc, words, world)?;
     let mut tuples = Vec::new(alloc);
     for row in rows {
-        add_tuple(alloc, words, world, &worths, row, &mut tuples)?;
+        add_tuple(alloc, words, world, worths, row, &mut tuples)?;
     }
     Ok(tuples)
 }
 
 /// Whether two tuples are the same.
-fn is_same(left: &List<Value>, right: &List<Value>) -> bool
+pub fn is_same(left: &List<Value>, right: &List<Value>) -> bool
     ensures { result ≡ same_tuple left.now right.now }
 {
     left == right

@@ -2,7 +2,7 @@ use Rattle.std.proofs.Common.{◌≡◌, ◌≤◌, length, sym, subst, rules}
 use Rattle.std.specs.Prelude.{All}
 use Rattle.ct_table.specs.Tables.{value_of_rows}
 use Rattle.ct_certain.specs.Certain.{ListsCertain}
-use Rattle.ct_certain.specs.Missing.{AreListed, IsAskedOf}
+use Rattle.ct_certain.specs.Missing.{AreListed, IsAskedOf, IsSeen}
 use Rattle.ct_certain.proofs.Candidates.{worth_asked, worth_fewer}
 use Rattle.ct_certain.proofs.Certainties.{listed_all}
 use Rattle.ct_certain.proofs.certainty.certain.Goals as goal
@@ -12,7 +12,7 @@ each_certain-requires-clause-few g c =
     let words = c.args.pass.now.words in
     let rows = c.args.table.now.rows in
     let kept = c.args.kept.now in
-    let worth : c.as_slice-4.result.now ≡ value_of_rows words kept rows = search rules in
+    let worth : c.as_slice.result.now ≡ value_of_rows words kept rows = search rules in
     subst (λ l. length l ≤ length rows) (sym worth) (worth_fewer words kept rows)
 
 pub each_certain-requires-clause-asked : goal.each_certain-requires-clause-asked
@@ -22,9 +22,9 @@ each_certain-requires-clause-asked g c =
     let kept = c.args.kept.now in
     let global = c.args.global in
     let width = length c.args.table.now.columns in
-    let same : c.as_slice-3.result.now ≡ words = search rules in
-    let worth : c.as_slice-4.result.now ≡ value_of_rows words kept rows = search rules in
-    subst (λ l. All (IsAskedOf c.as_slice-3.result.now c.as_slice-3.result.now global width rows) l) (sym worth)
+    let same : c.as_slice-before.result.now ≡ words = search rules in
+    let worth : c.as_slice.result.now ≡ value_of_rows words kept rows = search rules in
+    subst (λ l. All (IsAskedOf c.as_slice-before.result.now c.as_slice-before.result.now global width rows) l) (sym worth)
     (subst (λ ws. All (IsAskedOf ws ws global width rows) (value_of_rows words kept rows)) (sym same) (worth_asked words global width rows kept c.words.ensures.formed c.words.ensures.begins c.requires.global c.requires.plain c.requires.rows c.requires.kept))
 
 pub returns-clause-lists : goal.returns-clause-lists
@@ -35,8 +35,11 @@ returns-clause-lists g c =
     let kept = c.args.kept.now in
     let global = c.args.global in
     let list = c.in_ok-list.list.items in
-    let same : c.as_slice-3.result.now ≡ words = search rules in
-    let worth : c.as_slice-4.result.now ≡ value_of_rows words kept rows = search rules in
+    let same : c.as_slice-before.result.now ≡ words = search rules in
+    let worth : c.as_slice.result.now ≡ value_of_rows words kept rows = search rules in
     subst (ListsCertain words new global rows kept) (sym c.from_vec.ensures)
     (listed_all words global rows new c.in_ok-list.ensures.writes.formed kept c.requires.kept.holds list
-    (subst (λ ts. AreListed words new global rows ts list) worth (subst (λ ws. AreListed ws new global rows c.as_slice-4.result.now list) same c.in_ok-list.ensures.lists)))
+    (subst (λ ts. AreListed words new global rows ts list) worth (subst (λ ws. AreListed ws new global rows c.as_slice.result.now list) same c.in_ok-list.ensures.lists)))
+
+pub each_certain-requires-clause-pool : goal.each_certain-requires-clause-pool
+each_certain-requires-clause-pool g c = subst (λ rs. All (IsSeen c.as_slice-before.result.now c.args.global rs) c.in_ok-pool.pool.items) c.as_slice-rows.ensures c.in_ok-pool.ensures

@@ -13,10 +13,11 @@ pub loop-tuple-init : goal.loop-tuple-init
 loop-tuple-init g c = record {
   writes = writes_none _ c.words.ensures.formed c.words.ensures.room;
   lists = subst (AreListed c.args.words.now (g.I.Interner.list c.args.pass.now) c.args.global c.args.table.now.rows []) (sym c.new-list.ensures.items) (listed_none c.args.words.now c.args.global c.args.table.now.rows (g.I.Interner.list c.args.pass.now));
+  pool = c.requires.pool;
 }
 
-pub try_tuple-requires : goal.try_tuple-requires
-try_tuple-requires g c =
+pub try_tuple-requires-clause-asked : goal.try_tuple-requires-clause-asked
+try_tuple-requires-clause-asked g c =
     let words = c.args.words.now in
     let now = g.I.Interner.list c.loop-tuple.pass in
     let width = length c.args.table.now.columns in
@@ -27,8 +28,9 @@ try_tuple-requires g c =
 pub loop-tuple-preserved : goal.loop-tuple-preserved
 loop-tuple-preserved g c = record {
   writes = writes_more _ c.loop-tuple.tuple-index c.loop-tuple.invariant.writes c.in_ok-try_tuple.ensures.writes;
-  lists = listed_turn c.args.words.now c.args.global c.args.table.now.rows (g.I.Interner.list c.loop-tuple.pass) (g.I.Interner.list c.try_tuple.new.pass) c.args.candidates.now c.loop-tuple.tuple-index c.tuple-item.result
+  lists = listed_turn c.args.words.now c.args.global c.args.table.now.rows (g.I.Interner.list c.loop-tuple.pass) (g.I.Interner.list c.try_tuple.new.pass) c.in_ok-try_tuple.ensures.writes.formed c.args.candidates.now c.loop-tuple.tuple-index c.tuple-item.result
       c.loop-tuple.list.items c.try_tuple.new.list.items c.in_ok-try_tuple.ensures.writes.longer c.loop-tuple-test.true c.tuple-item.is c.loop-tuple.invariant.lists c.in_ok-try_tuple.ensures.takes;
+  pool = c.in_ok-try_tuple.ensures.pool;
 }
 
 pub returns-clause-lists : goal.returns-clause-lists
@@ -48,3 +50,6 @@ returns-in_err-try_tuple-clause-writes g c =
     let few : length c.args.candidates.now ≤ length c.args.table.now.rows = c.requires.few in
     let le : c.loop-tuple.tuple-index < length c.args.table.now.rows = omega (arith, lt, few) in
     rw (exit.1, exit.2) (writes_last _ _ c.loop-tuple.invariant.writes _ le c.in_err-try_tuple.ensures.writes)
+
+pub try_tuple-requires-clause-listed : goal.try_tuple-requires-clause-listed
+try_tuple-requires-clause-listed g c = c.loop-tuple.invariant.lists.refuted

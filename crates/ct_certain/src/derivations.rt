@@ -1,0 +1,66 @@
+// Derivations that are known, for questions with the same root.
+
+ghost use Rattle.std.specs.Prelude.{◌≡◌, All, IfOk, IfSome};
+ghost use Rattle.ct_derivation.specs.Accepts.{Accepts, AcceptsProof};
+
+use ct_derivation::{Derivation, Step, Why};
+use ct_rewrite::CertainRow;
+use ct_word::{List, Memory};
+use std::alloc::{AllocError, Global};
+
+/// A reason once more.
+fn copied_why(alloc: Global, why: &Why) -> Result<Why, AllocError>
+    ensures { IfOk result (λ w. w ≡ why.now) }
+{
+    Ok(match why {
+        Why::Root => Why::Root,
+        Why::Def(place, k) => Why::Def(*place, *k),
+        Why::Path(places) => Why::Path(List::from_vec(places.as_slice().to_vec(alloc)?)),
+        Why::Rup(hints) => Why::Rup(List::from_vec(hints.as_slice().to_vec(alloc)?)),
+    })
+}
+
+/// A step once more.
+fn copied_step(alloc: Global, step: &Step) -> Result<Step, AllocError>
+    ensures { IfOk result (λ s. s ≡ step.now) }
+{
+    let clause = step.clause.as_slice().to_vec(alloc)?;
+    let why = copied_why(alloc, &step.why)?;
+    Ok(Step {
+        clause: List::from_vec(clause),
+        why,
+    })
+}
+
+/// A derivation once more.
+fn copied(alloc: Global, derivation: &Derivation) -> Result<Derivation, Memory>
+    ensures { IfOk result (λ d. d ≡ derivation.now) }
+{
+    let mut steps = Vec::new(alloc);
+    for step in derivation.steps.as_slice() {
+        steps.push(copied_step(alloc, step)?)?;
+    }
+    Ok(Derivation {
+        steps: List::from_vec(steps),
+    })
+}
+
+/// A copy of the derivation that a list has for a root, if it has one.
+pub fn known(
+    alloc: Global,
+    words: &[u64],
+    list: &[CertainRow],
+    root: u32,
+) -> Result<Option<Derivation>, Memory>
+    requires { All (λ r. AcceptsProof words.now r.proof) list.now }
+    ensures { IfOk result (λ o. IfSome o (λ d. Accepts words.now root d)) }
+{
+    let _ = words;
+    for row in list {
+        if row.proof.root == root {
+            let derivation = copied(alloc, &row.proof.derivation)?;
+            return Ok(Some(derivation));
+        }
+    }
+    Ok(None)
+}

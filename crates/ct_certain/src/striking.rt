@@ -1,0 +1,113 @@
+// The worlds that strike candidates out.
+
+ghost use Rattle.std.specs.Prelude.{◌≡◌, ◌<◌, ◌^◌, false, length, All, IfOk, OnOk, IsTrue};
+ghost use Rattle.ct_word.specs.declared.kinds.Class.TheVariants as class;
+ghost use Rattle.ct_word.specs.WellFormed.{IsWellFormed, is_place_of};
+ghost use Rattle.ct_query.specs.Database.{has_tuple};
+ghost use Rattle.ct_table.specs.Tables.{IsRow};
+ghost use Rattle.ct_certain.specs.Certain.{IsInAll};
+ghost use Rattle.ct_certain.specs.Missing.{IsSeen};
+
+use crate::spread::spread;
+use crate::tuples::{is_same, tuples};
+use ct_condition::worths;
+use ct_word::{CRow, List, Memory, Value, World};
+use std::alloc::Global;
+
+/// The tuples that a table has in one world at which the global condition holds.
+#[derive(Drop)]
+pub struct Seen {
+    pub tuples: List<List<Value>>,
+}
+
+/// The most worlds whose tuples are kept.
+const MOST_WORLDS: usize = 16;
+
+/// Whether a tuple is among these.
+fn is_among(tuples: &[List<Value>], tuple: &List<Value>) -> bool
+    ensures { result ≡ has_tuple tuples.now tuple.now }
+{
+    for other in tuples {
+        if is_same(other, tuple) {
+            return true;
+        }
+    }
+    false
+}
+
+/// Whether a tuple is there in all of these worlds.
+pub fn is_everywhere(
+    words: &[u64],
+    global: u32,
+    rows: &[CRow],
+    pool: &[Seen],
+    tuple: &List<Value>,
+) -> bool
+    requires { All (IsSeen words.now global rows.now) pool.now }
+    ensures { result ≡ false → IsInAll words.now global rows.now tuple.now → ⊥ }
+{
+    let _ = words;
+    let _ = global;
+    let _ = rows;
+    for seen in pool {
+        if !is_among(seen.tuples.as_slice(), tuple) {
+            return false;
+        }
+    }
+    true
+}
+
+/// Keeps the tuples in a world, if the global condition holds there and there is room for one more.
+pub fn see(
+    alloc: Global,
+    words: &[u64],
+    global: u32,
+    rows: &[CRow],
+    world: &World,
+    pool: &mut Vec<Seen>,
+) -> Result<(), Memory>
+    requires formed { IsWellFormed words.now }
+    requires small { length words.now < 2 ^ 28 }
+    requires global { IsTrue (is_place_of words.now class.Cond global) }
+    requires rows { All (λ r. IsRow words.now (length r.cells) r) rows.now }
+    requires pool { All (IsSeen words.now global rows.now) pool.old.items }
+    ensures { OnOk result (All (IsSeen words.now global rows.now) pool.new.items) }
+{
+    if pool.len() >= MOST_WORLDS {
+        return Ok(());
+    }
+    let worths = worths(alloc, words, world)?;
+    if !worths.holds(global) {
+        return Ok(());
+    }
+    let tuples = tuples(alloc, words, world, &worths, rows)?;
+    pool.push(Seen {
+        tuples: List::from_vec(tuples),
+    })?;
+    Ok(())
+}
+
+/// The worlds before any tuple is asked for, besides the kept one: the one in which each null is `@0`, if it is another
+/// one, and one in which the nulls differ.
+pub fn first_worlds(
+    alloc: Global,
+    words: &[u64],
+    global: u32,
+    rows: &[CRow],
+    kept: &World,
+) -> Result<Vec<Seen>, Memory>
+    requires formed { IsWellFormed words.now }
+    requires small { length words.now < 2 ^ 28 }
+    requires global { IsTrue (is_place_of words.now class.Cond global) }
+    requires rows { All (λ r. IsRow words.now (length r.cells) r) rows.now }
+    ensures { IfOk result (λ pool. All (IsSeen words.now global rows.now) pool.items) }
+{
+    let mut pool = Vec::new(alloc);
+    if !kept.as_slice().is_empty() {
+        let empty = List::new(alloc);
+        see(alloc, words, global, rows, &empty, &mut pool)?;
+    }
+    let apart = spread(alloc, words, global, rows)?;
+    see(alloc, words, global, rows, &apart, &mut pool)?;
+    Ok(pool)
+}
