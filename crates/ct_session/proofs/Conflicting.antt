@@ -1,6 +1,5 @@
 -- A conflict that was found over some words: it is one in all words that follow, and in each history that stands for them.
 use Rattle.std.proofs.Common.{◌≡◌, ℕ, zero, suc, ◌<◌, ◌≤◌, Bool, true, false, List, [], ◌∷◌, length, take, ap, sym, ◌∙◌, arith}
-use Rattle.std.specs.Prelude.{All}
 use Rattle.std.proofs.lemmas.List.{take_all}
 use Rattle.std.proofs.lemmas.List.Elements.{All-weaker}
 use mathlib.Core.List.{IsPrefix}

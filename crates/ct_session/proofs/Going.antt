@@ -12,7 +12,7 @@ use Rattle.ct_query.specs.Plain.{PlainAction}
 use Rattle.ct_query.proofs.Keeping.{same_throughout}
 use Rattle.ct_table.specs.Snapshot.{commits_to}
 use Rattle.ct_session.proofs.Sameness.{commits_back}
-use Rattle.ct_session.proofs.Weights.{count_grows}
+use Rattle.ct_statement.proofs.Weights.{count_grows}
 
 -- a prefix is no longer
 pub prefix_short : {A : Type 0} (xs ys : List A) → IsPrefix xs ys → length xs ≤ length ys

@@ -8,7 +8,7 @@ use Rattle.ct_word.specs.Change.{PlainCommit}
 use Rattle.ct_word.specs.Reading.{commits_of}
 use Rattle.ct_word.specs.StandsFor.{StandsFor}
 use Rattle.ct_arena.specs.Seen.{Seen}
-use Rattle.ct_query.specs.Plain.{PlainAction, PlainStatement, PlainQuery}
+use Rattle.ct_query.specs.Plain.{PlainStatement}
 use Rattle.ct_query.specs.Plain as plain
 use Rattle.ct_query.specs.declared.action.Read.{Read}
 use Rattle.ct_query.specs.Reads.{reads_of, with_reads}

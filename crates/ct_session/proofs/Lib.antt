@@ -1,10 +1,8 @@
 pub mod Own
 pub mod Sameness
-pub mod Weights
 pub mod Going
 pub mod Listed
 pub mod Replies
-pub mod Sights
 pub mod Extended
 pub mod Opened
 pub mod Ordered

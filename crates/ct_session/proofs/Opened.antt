@@ -31,7 +31,7 @@ use Rattle.ct_session.specs.Replying.{standing}
 use Rattle.ct_session.specs.Sessions.{IsBegunList, IsOpen, IsSession}
 use Rattle.ct_session.proofs.Extended.{agrees_push, fits_push, writable_push, reads_push, reads_kept}
 use Rattle.ct_session.proofs.Going.{version_stays, version_within}
-use Rattle.ct_session.proofs.Sights.{sight_grows}
+use Rattle.ct_statement.proofs.Sights.{sight_grows}
 
 -- a transaction of changes that are listed nowhere, or at a place
 module _ (words : List ℕ) (sight : Sight) (changes : Option ℕ) (reads : List Read) (h : List PlainCommit) (actions : List PlainAction) (xs : List PlainChange)
@@ -77,7 +77,7 @@ module _ (old new : List ℕ) (longer : IsPrefix old new) where
   open_grows formed o k =
       open_from new o.sight o.changes o.reads (history_of old o.sight) (actions_before o.sight) (listed old o.changes)
       (history_stays o.sight k.sight) refl (listed_stays o.changes (actions_before o.sight) k.list)
-      (sight_grows old new longer formed o.sight k.sight) (begun_grows o.changes (actions_before o.sight) k.list) k.agrees k.fits k.writable k.reads
+      (sight_grows old new longer o.sight formed k.sight) (begun_grows o.changes (actions_before o.sight) k.list) k.agrees k.fits k.writable k.reads
 
 module _ (words : List ℕ) (o : Open) (k : IsOpen words o) where
   -- after a query

@@ -12,7 +12,7 @@ use Rattle.ct_word.specs.Sublist.{IsSublist}
 use Rattle.ct_word.specs.Change.{PlainChange, PlainCommit}
 use Rattle.ct_word.specs.Reading.{commits_of}
 use Rattle.ct_word.specs.StandsFor.{StandsFor}
-use Rattle.ct_word.proofs.Prefixes.{commits_prefix, condition_in_prefix, place_within, prefix_of_prefix, prefix_same}
+use Rattle.ct_word.proofs.Prefixes.{condition_in_prefix, place_within, prefix_of_prefix, prefix_same}
 use Rattle.ct_derivation.specs.declared.steps.Proof.{Proof}
 use Rattle.ct_derivation.proofs.Longer.{accepted_longer}
 use Rattle.ct_arena.specs.Seen.{Seen}
@@ -62,7 +62,7 @@ use Rattle.ct_session.specs.Replying.{reply_of, standing}
 use Rattle.ct_session.proofs.Going.{prefix_short, IsOnward, onward}
 use Rattle.ct_session.proofs.Listed.{root_place, possible_kept, certain_kept, certain_longer}
 use Rattle.ct_session.proofs.Own.{own_commits_stay}
-use Rattle.ct_session.proofs.Weights.{makes_words_still}
+use Rattle.ct_statement.proofs.Weights.{makes_words_still}
 
 -- words go on without a commit of the session
 pub record Proceeds (N session : ℕ) (words now : List ℕ) : Type 0 where
@@ -223,7 +223,7 @@ module _ (N : ℕ) (s : SessionState) (x : List ℕ) (st : Statement) (reads : R
       sees = sees_on;
       asks = resolves_on (Ok u.asked) u.resolves;
       full = let short = prefix_short now W g.log in let le = g.room in let all = u.unmet.full in omega (arith, short, le, all);
-      makes_words = makes_words_still (count seen_commits actions) (count H actions) (on.counts actions) (own_actions s) u.asked u.unmet.makes_words;
+      makes_words = makes_words_still (count seen_commits actions) (count H actions) (on.counts actions) (own_actions s) u.asked (u.unmet.makes_words (own_actions s));
     }
 
     -- it asks about too many terms

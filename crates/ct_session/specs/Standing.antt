@@ -1,5 +1,5 @@
 -- What contracts see of a session, and what is true of it between its statements.
-use Rattle.std.specs.Prelude.{◌≡◌, ℕ, [], Option, Some, None}
+use Rattle.std.specs.Prelude.{ℕ, [], Option, Some, None}
 use Rattle.ct_arena.specs.Seen.{Seen}
 use Rattle.ct_session.specs.declared.session.Open.{Open}
 use Rattle.ct_session.specs.Sessions.{IsSession, state_of}

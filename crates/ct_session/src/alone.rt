@@ -56,8 +56,8 @@ fn fresh_after(fresh: u32, drawn: u32, outcome: &Outcome) -> u32
     }
 }
 
-/// Commits an action as it was prepared, on the version that it saw. Its statement began with words that have no further
-/// commit.
+/// Commits an action as it was prepared, on the version that it saw, which has all commits of the words with which its
+/// statement began.
 fn acted<N: Site, R: Wait>(
     rt: &R,
     alloc: Global,
@@ -113,13 +113,7 @@ fn acted<N: Site, R: Wait>(
         Ok(outcome) => {
             let after = fresh_after(fresh, drawn, &outcome);
             let (at, reply) = replied(base, outcome);
-            let session = State {
-                pass,
-                seen,
-                fresh: after,
-                open: None,
-            };
-            (session.carrying(at), reply)
+            (State::carrying(pass, seen, after, None, at), reply)
         }
         Err(e) => wanting(pass, seen, fresh, None, base, e),
     }
@@ -178,16 +172,13 @@ pub(crate) fn alone<N: Site, R: Wait>(
         statement,
     );
     let _now = pass.words();
-    let session = State {
-        pass,
-        seen,
-        fresh,
-        open: None,
-    };
     match prepared {
         Ok(Prepared::Answer { answered, reads }) => {
             drop(reads);
-            (session.carrying(at), reply_of(at, 0, answered))
+            (
+                State::carrying(pass, seen, fresh, None, at),
+                reply_of(at, 0, answered),
+            )
         }
         Ok(
             Prepared::Change {
@@ -196,21 +187,14 @@ pub(crate) fn alone<N: Site, R: Wait>(
                 reads,
             },
         ) => acted(
-            rt,
-            alloc,
-            server,
-            session.pass,
-            seen,
-            fresh,
-            sight,
-            proposal,
-            step,
-            reads,
-            statement,
+            rt, alloc, server, pass, seen, fresh, sight, proposal, step, reads, statement,
         ),
         Err(why) => {
             let at = standing(seen, at, &why);
-            (session.carrying(at), Reply::Refused { at, why })
+            (
+                State::carrying(pass, seen, fresh, None, at),
+                Reply::Refused { at, why },
+            )
         }
     }
 }

@@ -71,13 +71,10 @@ pub(crate) fn wanting<N: Site>(
 {
     let why = wanted(e);
     let at = standing(seen, base, &why);
-    let session = State {
-        pass,
-        seen,
-        fresh,
-        open: transaction,
-    };
-    (session.carrying(at), Reply::Refused { at, why })
+    (
+        State::carrying(pass, seen, fresh, transaction, at),
+        Reply::Refused { at, why },
+    )
 }
 
 /// COMMIT of the open transaction, whose change list was begun at this place: it is offered to the server. Where something
@@ -132,13 +129,7 @@ fn offered<N: Site, R: Wait>(
     match outcome {
         Ok(outcome) => {
             let (at, reply) = replied(base, outcome);
-            let session = State {
-                pass,
-                seen,
-                fresh,
-                open: None,
-            };
-            (session.carrying(at), reply)
+            (State::carrying(pass, seen, fresh, None, at), reply)
         }
         Err(e) => {
             let transaction = Open {
@@ -179,13 +170,10 @@ pub(crate) fn commit<N: Site, R: Wait>(
     match transaction.changes {
         None => {
             let at = transaction.sight.version;
-            let session = State {
-                pass,
-                seen,
-                fresh,
-                open: None,
-            };
-            (session.carrying(at), Reply::Nothing { at })
+            (
+                State::carrying(pass, seen, fresh, None, at),
+                Reply::Nothing { at },
+            )
         }
         Some(changes) => offered(
             rt,

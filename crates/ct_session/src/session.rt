@@ -40,24 +40,24 @@ pub(crate) struct State<N: Site> {
 }
 
 impl<N: Site> State<N> {
-    /// The session after a reply that carries a version.
-    pub(crate) fn carrying(self, version: u32) -> State<N>
-        ensures pass { result.pass ≡ self.pass }
-        ensures state { state_of result.pass result.seen result.fresh result.open ≡ carried version (state_of self.pass self.seen self.fresh self.open) }
-        ensures open { result.open ≡ self.open }
-        ensures seen { result.seen ≡ max self.seen version }
+    /// The session of this pass, these numbers and this transaction, after a reply that carries a version.
+    pub(crate) fn carrying(
+        pass: Pass<N>,
+        seen: u32,
+        fresh: u32,
+        transaction: Option<Open>,
+        version: u32,
+    ) -> State<N>
+        ensures pass { result.pass ≡ pass }
+        ensures state { state_of result.pass result.seen result.fresh result.open ≡ carried version (state_of pass seen fresh transaction) }
+        ensures open { result.open ≡ transaction }
+        ensures seen { result.seen ≡ max seen version }
     {
-        let State {
-            pass,
-            seen,
-            fresh,
-            open,
-        } = self;
         State {
             pass,
             seen: seen.max(version),
             fresh,
-            open,
+            open: transaction,
         }
     }
 }

@@ -10,7 +10,6 @@ use Rattle.ct_session.specs.State.{carried}
 use Rattle.ct_session.proofs.Acted.{prepared_action, action_offer, acted_answers, acted_refused}
 use Rattle.ct_session.proofs.Called.{called}
 use Rattle.ct_session.proofs.Carrying.{carried_answers, carried_session}
-use Rattle.ct_session.proofs.Going.{version_within}
 use Rattle.ct_session.proofs.Ordered.{memory_executes}
 use Rattle.ct_session.proofs.Replies.{proceeds}
 use Rattle.ct_session.proofs.Whole.{replied_seen, wanting_seen}

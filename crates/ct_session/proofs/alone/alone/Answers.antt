@@ -19,7 +19,7 @@ use Rattle.ct_session.proofs.Opened.{standing_within}
 use Rattle.ct_session.proofs.Ordered.{memory_executes}
 use Rattle.ct_session.proofs.Outside.{none_open, kept_tally, prepared_on, refused_on, answered_on, refused_outside, answered_outside}
 use Rattle.ct_session.proofs.Replies.{proceeds}
-use Rattle.ct_session.proofs.Sights.{sight_grows}
+use Rattle.ct_statement.proofs.Sights.{sight_grows}
 use Rattle.ct_session.proofs.alone.alone.Goals as goal
 
 pub returns-in-Err-clause-session : goal.returns-in-Err-clause-session
@@ -67,7 +67,7 @@ acted-requires-clause-sight g c =
     let s = c.of-sight.result in
     let newest = IfOk-at_ok (IsNewest begun.words) c.in-Ok.is c.begin-pass.ensures.snapshot in
     let version : s.version ≡ length (commits_of begun.words) = c.of-sight.ensures.version ∙ newest.version in
-    sight_grows begun.words now.words c.prepare-prepared.ensures.longer c.words-now.ensures.formed s (c.of-sight.ensures.sight begun.words newest)
+    sight_grows begun.words now.words c.prepare-prepared.ensures.longer s c.words-now.ensures.formed (c.of-sight.ensures.sight begun.words newest)
 
 pub acted-requires-clause-prepared : goal.acted-requires-clause-prepared
 acted-requires-clause-prepared g c =

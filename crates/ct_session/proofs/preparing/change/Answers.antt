@@ -6,12 +6,12 @@ use Rattle.ct_statement.specs.Sight.{actions_before, history_of}
 use Rattle.ct_statement.specs.Unmet.{IsUnmet}
 use Rattle.ct_session.specs.Prepared.{IsStepIf}
 use Rattle.ct_session.proofs.Proposed.{same_history, proposal_grows}
-use Rattle.ct_session.proofs.Sights.{sight_grows}
+use Rattle.ct_statement.proofs.Sights.{sight_grows}
 use Rattle.ct_session.proofs.preparing.change.Goals as goal
 
 pub step_where_needed-step-requires-clause-sight : goal.step_where_needed-step-requires-clause-sight
 step_where_needed-step-requires-clause-sight g c =
-    sight_grows c.args.pass.now.words c.propose.new.pass.words c.propose.ensures.longer c.words.ensures.formed c.args.sight.now c.requires.sight
+    sight_grows c.args.pass.now.words c.propose.new.pass.words c.propose.ensures.longer c.args.sight.now c.words.ensures.formed c.requires.sight
 
 pub step_where_needed-step-requires-clause-proposal : goal.step_where_needed-step-requires-clause-proposal
 step_where_needed-step-requires-clause-proposal g c =
