@@ -1,0 +1,34 @@
+-- Closed tests: what the definition says of some words.
+use Rattle.std.proofs.Common.{◌≡◌, [], ◌∷◌, Some, None, codes, refl}
+use Rattle.clap.proofs.OnLiterals.{clap_on_literals}
+use Rattle.ct_words.specs.Numbers.{number_of}
+use Rattle.ct_words.specs.Commands.{run_app, fill_app, found}
+use Rattle.ct_words.specs.Asked.{run, fill, task}
+
+a_run : task (codes "run" ∷ codes "f" ∷ codes "g" ∷ []) ≡ Some (run 262144 (codes "f" ∷ codes "g" ∷ []))
+unfolding clap_on_literals number_of run_app found
+a_run = refl
+
+a_capacity : task (codes "run" ∷ codes "--arena" ∷ codes "0000064" ∷ codes "f" ∷ []) ≡ Some (run 64 (codes "f" ∷ []))
+unfolding clap_on_literals number_of run_app found
+a_capacity = refl
+
+a_fill : task (codes "fill" ∷ codes "2000" ∷ []) ≡ Some (fill 2000)
+unfolding clap_on_literals number_of fill_app found
+a_fill = refl
+
+small_capacity : task (codes "run" ∷ codes "--arena" ∷ codes "63" ∷ codes "f" ∷ []) ≡ None
+unfolding clap_on_literals number_of run_app found
+small_capacity = refl
+
+no_file : task (codes "run" ∷ []) ≡ None
+unfolding clap_on_literals number_of run_app found
+no_file = refl
+
+eight_digits : task (codes "fill" ∷ codes "00000003" ∷ []) ≡ None
+unfolding clap_on_literals number_of fill_app found
+eight_digits = refl
+
+a_flag : task (codes "run" ∷ codes "--help" ∷ codes "f" ∷ []) ≡ None
+unfolding clap_on_literals number_of run_app found
+a_flag = refl

@@ -1,0 +1,21 @@
+-- What words ask for, by their first word.
+use Rattle.std.proofs.Common.{◌≡◌, true, false, List, [], ◌∷◌, Option, None, codes, refl}
+use Rattle.std.specs.Borrow.{Bor}
+use Rattle.clap.specs.Words.{Text}
+use Rattle.ct_word.specs.Value.{same_text}
+use Rattle.ct_words.specs.Asked.{task, task_of_run, task_of_fill, texts_of}
+
+pub no_words : (all : List (Bor Text)) → all ≡ [] → None ≡ task (texts_of all)
+no_words all is = rw is refl
+
+module _ (all : List (Bor Text)) (word : Bor Text) (rest : List (Bor Text)) (is : all ≡ word ∷ rest) where
+  pub run_words : same_text word.now (codes "run") ≡ true → task_of_run (texts_of rest) ≡ task (texts_of all)
+  run_words run = rw (is, run) refl
+
+  pub fill_words : same_text word.now (codes "run") ≡ false → same_text word.now (codes "fill") ≡ true
+      → task_of_fill (texts_of rest) ≡ task (texts_of all)
+  fill_words run fill = rw (is, run, fill) refl
+
+  pub other_words : same_text word.now (codes "run") ≡ false → same_text word.now (codes "fill") ≡ false
+      → None ≡ task (texts_of all)
+  other_words run fill = rw (is, run, fill) refl

@@ -1,0 +1,9 @@
+use Rattle.std.proofs.Common.{ap₂, ◌∙◌}
+use Rattle.clap.specs.Words.{with_rule}
+use Rattle.ct_words.specs.Commands.{fill_app}
+use Rattle.ct_words.proofs.commands.fill_command.Goals as goal
+
+pub returns : goal.returns
+unfolding fill_app
+returns c =
+    c.in_ok-command.ensures.shape c.number_arg.ensures.local ∙ ap₂ with_rule c.plain_command-plain.ensures c.number_arg.ensures.rule

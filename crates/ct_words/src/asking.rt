@@ -1,0 +1,110 @@
+// What the words ask for.
+
+ghost use Rattle.std.specs.Prelude.{◌≡◌, IfOk, option_map};
+ghost use Rattle.clap.specs.Words.{rows_of, found_of};
+ghost use Rattle.ct_words.specs.Asked.{task, task_of, task_of_run, task_of_fill, texts_of, run_of, run_by, fill_of, fill_by};
+
+use crate::commands::{fill_command, found, run_command};
+use crate::numbers::number_within;
+use crate::task::Asked;
+use clap::ArgMatches;
+use ct_word::Memory;
+use std::alloc::Global;
+
+/// The fewest words of 64 bits that a log can have.
+const CAPACITY_LEAST: u32 = 64;
+
+/// The most words of 64 bits that a log can have.
+const CAPACITY_MOST: u32 = 1_048_576;
+
+/// The most files that one run can name.
+const FILES_MOST: usize = 64;
+
+/// The greatest number of `fill`.
+const FILL_MOST: u32 = 2_000;
+
+/// The run that these spell, or `None` where they spell none.
+///
+/// # Errors
+/// `Memory` where there is none for the list of files.
+fn run_of<'a>(
+    alloc: Global,
+    arena: Option<&str>,
+    files: Option<&[&'a str]>,
+) -> Result<Option<Asked<'a>>, Memory>
+    ensures { IfOk result (λ asked. option_map task_of asked ≡ run_of (option_map (λ s. s.now) arena.entry) (option_map (λ s. texts_of s.now) files.entry)) }
+{
+    let Some(arena) = arena else {
+        return Ok(None);
+    };
+    let Some(capacity) = number_within(arena, CAPACITY_LEAST, CAPACITY_MOST) else {
+        return Ok(None);
+    };
+    let Some(files) = files else {
+        return Ok(None);
+    };
+    if files.is_empty() || files.len() > FILES_MOST {
+        return Ok(None);
+    }
+    let files = Vec::from_slice(alloc, files)?;
+    Ok(Some(Asked::Run { capacity, files }))
+}
+
+/// The fill that this spells, or `None` where it spells none.
+fn fill_of<'a>(number: Option<&str>) -> Option<Asked<'a>>
+    ensures { option_map task_of result ≡ fill_of (option_map (λ s. s.now) number.entry) }
+{
+    let number = number_within(number?, 1, FILL_MOST)?;
+    Some(Asked::Fill { number })
+}
+
+fn run_by<'a>(alloc: Global, matches: &ArgMatches<'a>) -> Result<Option<Asked<'a>>, Memory>
+    ensures { IfOk result (λ asked. option_map task_of asked ≡ run_by (rows_of (found_of matches.now))) }
+{
+    run_of(alloc, matches.get_str("arena"), matches.get_strs("file"))
+}
+
+fn fill_by<'a>(matches: &ArgMatches<'a>) -> Option<Asked<'a>>
+    ensures { option_map task_of result ≡ fill_by (rows_of (found_of matches.now)) }
+{
+    fill_of(matches.get_str("n"))
+}
+
+/// What these words behind `run` ask for.
+fn asked_of_run<'a>(alloc: Global, words: &'a [&'a str]) -> Result<Option<Asked<'a>>, Memory>
+    ensures { IfOk result (λ asked. option_map task_of asked ≡ task_of_run (texts_of words.entry.now)) }
+{
+    match found(run_command(alloc)?, words)? {
+        Some(matches) => run_by(alloc, &matches),
+        None => Ok(None),
+    }
+}
+
+/// What these words behind `fill` ask for.
+fn asked_of_fill<'a>(alloc: Global, words: &'a [&'a str]) -> Result<Option<Asked<'a>>, Memory>
+    ensures { IfOk result (λ asked. option_map task_of asked ≡ task_of_fill (texts_of words.entry.now)) }
+{
+    match found(fill_command(alloc)?, words)? {
+        Some(matches) => Ok(fill_by(&matches)),
+        None => Ok(None),
+    }
+}
+
+/// What the words after the program's name ask for, or `None` where they are not understood.
+///
+/// # Errors
+/// `Memory` for want of memory.
+pub fn asked<'a>(alloc: Global, words: &'a [&'a str]) -> Result<Option<Asked<'a>>, Memory>
+    ensures { IfOk result (λ asked. option_map task_of asked ≡ task (texts_of words.entry.now)) }
+{
+    let Some((command, words)) = words.split_first() else {
+        return Ok(None);
+    };
+    if *command == "run" {
+        asked_of_run(alloc, words)
+    } else if *command == "fill" {
+        asked_of_fill(alloc, words)
+    } else {
+        Ok(None)
+    }
+}
