@@ -89,10 +89,9 @@ def called(script, functions):
                     callee = names[named[1]]
                 elif line.startswith("calls=") and callee in found:
                     found[callee] += int(line[len("calls=") :].split()[0])
-        for function in functions:
-            if function in there:
-                return found[function]
-        return 0
+        if not there:
+            sys.exit(f"valgrind counted nothing:\n{said.decode('utf-8', 'replace')}")
+        return next((found[function] for function in functions if function in there), 0)
 
 
 def built_tests(crate):
