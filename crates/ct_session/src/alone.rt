@@ -119,47 +119,28 @@ fn acted<N: Site, R: Wait>(
     }
 }
 
-/// Executes a statement outside a transaction that is no BEGIN, COMMIT or ROLLBACK: it sees a version that has all
-/// commits of the words before. An action is committed at once.
-pub(crate) fn alone<N: Site, R: Wait>(
+/// Executes a statement outside a transaction at what it sees, a version that has all commits of the words with which it
+/// began. An action is committed at once.
+fn asked<N: Site, R: Wait>(
     rt: &R,
     alloc: Global,
     server: &Server<N>,
-    session: State<N>,
+    mut pass: Pass<N>,
+    seen: u32,
+    fresh: u32,
+    sight: Sight,
     statement: &Statement,
 ) -> (State<N>, Reply)
-    requires session { IsSession session.pass.words session.seen session.open }
-    requires few { session.pass.mine < 2 ^ 18 }
-    requires none { IsNone session.open }
+    requires few { pass.mine < 2 ^ 18 }
+    requires seen { seen ≤ sight.version }
+    requires sight { IsSight pass.words sight }
+    requires none { actions_before sight ≡ [] }
     requires written { IsWritten statement.now }
     requires plain { IsNoOrder statement.now }
     ensures session { IsSession result.0.pass.words result.0.seen result.0.open }
-    ensures executes { Executes N.log.cap (state_of session.pass session.seen session.fresh session.open) (state_of result.0.pass result.0.seen result.0.fresh result.0.open) session.pass.words result.0.pass.words statement.now result.1 }
+    ensures executes { (first : Seen) → Begins first pass sight.version → Executes N.log.cap (state_of first seen fresh None) (state_of result.0.pass result.0.seen result.0.fresh result.0.open) first.words result.0.pass.words statement.now result.1 }
 {
-    let _words = session.pass.words();
-    let State {
-        pass,
-        seen,
-        fresh,
-        open,
-    } = session;
-    drop(open);
-    let (mut pass, snapshot) = server.begin(rt, alloc, pass);
     let _begun = pass.words();
-    let snapshot = match snapshot {
-        Ok(snapshot) => snapshot,
-        Err(_) => {
-            let session = State {
-                pass,
-                seen,
-                fresh,
-                open: None,
-            };
-            let why = Refusal::Memory;
-            return (session, Reply::Refused { at: seen, why });
-        }
-    };
-    let sight = Sight::of(alloc, snapshot);
     let at = sight.version;
     let prepared = prepare(
         alloc,
@@ -197,4 +178,48 @@ pub(crate) fn alone<N: Site, R: Wait>(
             )
         }
     }
+}
+
+/// Executes a statement outside a transaction that is no BEGIN, COMMIT or ROLLBACK: it sees a version that has all
+/// commits of the words before. An action is committed at once.
+pub(crate) fn alone<N: Site, R: Wait>(
+    rt: &R,
+    alloc: Global,
+    server: &Server<N>,
+    session: State<N>,
+    statement: &Statement,
+) -> (State<N>, Reply)
+    requires session { IsSession session.pass.words session.seen session.open }
+    requires few { session.pass.mine < 2 ^ 18 }
+    requires none { IsNone session.open }
+    requires written { IsWritten statement.now }
+    requires plain { IsNoOrder statement.now }
+    ensures session { IsSession result.0.pass.words result.0.seen result.0.open }
+    ensures executes { Executes N.log.cap (state_of session.pass session.seen session.fresh session.open) (state_of result.0.pass result.0.seen result.0.fresh result.0.open) session.pass.words result.0.pass.words statement.now result.1 }
+{
+    let _words = session.pass.words();
+    let State {
+        pass,
+        seen,
+        fresh,
+        open,
+    } = session;
+    drop(open);
+    let (pass, snapshot) = server.begin(rt, alloc, pass);
+    let _begun = pass.words();
+    let snapshot = match snapshot {
+        Ok(snapshot) => snapshot,
+        Err(_) => {
+            let session = State {
+                pass,
+                seen,
+                fresh,
+                open: None,
+            };
+            let why = Refusal::Memory;
+            return (session, Reply::Refused { at: seen, why });
+        }
+    };
+    let sight = Sight::of(alloc, snapshot);
+    asked(rt, alloc, server, pass, seen, fresh, sight, statement)
 }
