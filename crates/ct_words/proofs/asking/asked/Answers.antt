@@ -14,16 +14,16 @@ pub returns-then-eq : goal.returns-then-eq
 returns-then-eq c =
     let run : same_text c.in-Some.command.now.now (codes "run") ≡ true = search rules in
     IfOk-weaker c.asked_of_run.result _ _
-        (λ asked told. told ∙ run_words c.args.words.now c.in-Some.command.now c.in-Some.words.now c.in-Some.ensures.cases.0 run)
-        c.asked_of_run.ensures
+    (λ asked told. told ∙ run_words c.args.words.now c.in-Some.command.now c.in-Some.words.now c.in-Some.ensures.cases.0 run)
+    c.asked_of_run.ensures
 
 pub returns-then-eq-2 : goal.returns-then-eq-2
 returns-then-eq-2 c =
     let run : same_text c.in-Some.command.now.now (codes "run") ≡ false = search rules in
     let fill : same_text c.in-Some.command.now.now (codes "fill") ≡ true = search rules in
     IfOk-weaker c.asked_of_fill.result _ _
-        (λ asked told. told ∙ fill_words c.args.words.now c.in-Some.command.now c.in-Some.words.now c.in-Some.ensures.cases.0 run fill)
-        c.asked_of_fill.ensures
+    (λ asked told. told ∙ fill_words c.args.words.now c.in-Some.command.now c.in-Some.words.now c.in-Some.ensures.cases.0 run fill)
+    c.asked_of_fill.ensures
 
 pub returns-else-eq-2 : goal.returns-else-eq-2
 returns-else-eq-2 c =

@@ -9,4 +9,4 @@ pub returns : goal.returns
 returns c =
     let f = found_of c.args.matches.now in
     IfOk-weaker c.run_of.result _ _ (λ asked is. is ∙ ap₂ run_of
-        (c.get_str.ensures ∙ first_value-rows f (codes "arena")) (c.get_strs.ensures ∙ raw_values-rows f (codes "file"))) c.run_of.ensures
+    (c.get_str.ensures ∙ first_value-rows f (codes "arena")) (c.get_strs.ensures ∙ raw_values-rows f (codes "file"))) c.run_of.ensures

@@ -23,6 +23,7 @@ loop-digit-preserved c =
     let ds = c.args.digits.now in
     let here : i < length ds = omega arith in
     let digit = digit_at ds i (digits ds c.requires) here in
-    let nine : get_or ds i 0 - 48 ≤ 9 = omega (arith, digit.1) in
-    (value_more ds c.loop-digit.number i (digits ds c.requires) here c.loop-digit.invariant.0,
-     one_more c.loop-digit.number i (get_or ds i 0 - 48) c.loop-digit.invariant.1 nine)
+    let nine : get_or ds i 0 - 48 ≤ 9 = omega (arith, digit.1) in (
+      value_more ds c.loop-digit.number i (digits ds c.requires) here c.loop-digit.invariant.0,
+      one_more c.loop-digit.number i (get_or ds i 0 - 48) c.loop-digit.invariant.1 nine,
+    )
