@@ -31,11 +31,11 @@ pub fn script(rt: &impl Abort, alloc: Global, text: &str) -> Result<Text, Fail>
 }
 
 /// The scripts of these texts.
-pub fn scripts_of(rt: &impl Abort, alloc: Global, texts: &[&str]) -> Result<Vec<Text>, Fail>
+pub fn scripts_of(rt: &impl Abort, alloc: Global, all: &[&str]) -> Result<Vec<Text>, Fail>
     ensures { IfOk result (λ scripts. All (λ script. length (texts script) ≤ 65535) scripts.items) }
 {
     let mut scripts = Vec::new(alloc);
-    for text in texts {
+    for text in all {
         scripts.push(script(rt, alloc, text)?)?;
     }
     Ok(scripts)

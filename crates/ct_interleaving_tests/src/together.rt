@@ -262,13 +262,13 @@ fn never_fall(replies: &[Reply]) -> bool {
     true
 }
 
-/// How many statements each of the sessions that run freely has after its first.
-const FREE: u32 = 20;
+/// How many rounds of statements a session that runs freely has after its first statement.
+const ROUNDS: u32 = 20;
 
 /// Insertions and questions in turn, and transactions, all on one table.
 fn free_script(alloc: Global) -> Result<String, AllocError> {
     let mut text = String::from_str(alloc, "create table t (a);")?;
-    for k in 0..FREE {
+    for k in 0..ROUNDS {
         text.push_str(format!(in alloc; "insert into t values ({k}); select a from t;")?.as_str())?;
         text.push_str("begin; select a from t; insert into t values (NULL); commit; rollback;")?;
     }
