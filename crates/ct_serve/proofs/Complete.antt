@@ -1,10 +1,11 @@
 -- A statement within all limits is answered.
-use Rattle.std.proofs.Common.{◌≡◌, ℕ, ◌+◌, ◌≤◌, List, [], ◌∷◌, ◌++◌, take, refl, sym, subst, ◌∙◌, arith}
-use Rattle.std.specs.Prelude.{All, Option, Some, None, IsSome, IfSome, MatchOption}
+use Rattle.std.proofs.Common.{◌≡◌, ℕ, ◌+◌, ◌≤◌, List, [], ◌∷◌, ◌++◌, take, refl, sym, subst, ◌∙◌, ◌<◌, arith, inl, inr}
+use Rattle.std.specs.Prelude.{All, Option, Some, None, IsSome, IfSome, MatchOption, ◌⊎◌, filter_map}
 use Rattle.std.proofs.lemmas.Bool.{false≢true}
 use Rattle.std.proofs.lemmas.Option.{none-some}
 use Rattle.std.proofs.lemmas.List.Elements.{All-head, All-tail}
 use Rattle.ct_word.specs.Change.{PlainCommit}
+use Rattle.ct_query.specs.Plain.{PlainAction}
 use Rattle.ct_query.specs.declared.action.Read.{Read}
 use Rattle.ct_query.specs.Reads.{last}
 use Rattle.ct_rewrite.specs.History.{plain_history}
@@ -15,8 +16,10 @@ use Rattle.ct_transcript.specs.declared.reply.Refusal.TheVariants as refusal
 use Rattle.ct_transcript.specs.declared.reply.SessionLog.{SessionLog}
 use Rattle.ct_transcript.specs.declared.transcript.Transcript.{Transcript}
 use Rattle.ct_resolve.specs.declared.error.ResolveError.{ResolveError}
-use Rattle.ct_session.specs.State.{Transaction, SessionState}
-use Rattle.ct_session.specs.LawfulRefusal.{IsNameFault, IsFirstWritten, LawfulRefusal}
+use Rattle.ct_session.specs.Answers.{committed_of}
+use Rattle.ct_session.specs.Seeing.{Sees}
+use Rattle.ct_session.specs.State.{Transaction, SessionState, carried}
+use Rattle.ct_session.specs.LawfulRefusal.{IsNameFault, IsFirstWritten, CommitsWhole, CommitsAlone, LawfulRefusal}
 use Rattle.ct_session.specs.LawfulReply.{LawfulReply}
 use Rattle.ct_serve.specs.Sessions.{AreLawful, AreLawfulSessions}
 use Rattle.ct_serve.specs.Lawful.{Lawful}
@@ -24,7 +27,8 @@ use Rattle.ct_outside.specs.Outside.{Held}
 use Rattle.ct_serve.specs.declared.ending.Status.TheVariants as status
 use Rattle.ct_serve.specs.Scripts.{IsScript, HoldsScript, HoldsNoScript, IsNoScript}
 use Rattle.ct_serve.specs.Runs.{Outside, Promise}
-use Rattle.ct_serve.specs.Complete.{IsAnswered, IsWithinLimits, AreComplete, AreCompleteSessions, IsComplete}
+use Rattle.ct_serve.specs.Complete.{IsAnswered, IsCurrent, IsWithinLimits, AreComplete, AreCompleteSessions, IsComplete}
+use Rattle.ct_serve.proofs.Between.{ground, ground_inside, ground_outside, IsAmidst, amidst_next, amidst_first, steps, later_commits, seen_current, conflict_current}
 
 none_open : (t : Option Transaction) → IsSome t → t ≡ None → ⊥
 none_open None some e = false≢true some
@@ -41,56 +45,70 @@ module _ (H : List PlainCommit) (W : List ℕ) (N : ℕ) where
       let le : last (take at H) table ≤ base = of_one (λ r. last (take at H) r ≤ base) f.before f.after table (subst (All (λ r. last (take at H) r ≤ base)) f.place all) in
       let lt = f.written in absurd (omega (arith, le, lt))
 
-  module _ (s : SessionState) (x : List ℕ) (w : IsWithinLimits H W N s x) where
-    no_fault : (at : ℕ) (e : ResolveError) → IsNameFault H W N s x at e → ⊥
-    no_fault at e f = w.named at f.actions e f.sees f.found
+  module _ (s next : SessionState) (x : List ℕ) (r : Reply) (rs : List Reply) (a : IsAmidst H s (r ∷ rs)) (later : All (λ m. ground next < m) (filter_map committed_of rs)) (w : IsWithinLimits H W N s x) where
+    -- a refusal of a statement that saw these actions at this version
+    saw : (at : ℕ) (actions : List PlainAction) → committed_of r ≡ None → next ≡ carried at s → Sees H s at actions → IsCurrent H s at
+    saw at actions none = seen_current H s next r rs at actions a none later
 
-    refused : (at : ℕ) (why : Refusal) (next : SessionState) → LawfulRefusal H W N s x at why next → why ≡ refusal.Memory
-    refused at refusal.NotAStatement next l = absurd (w.read refusal.NotAStatement l.0.found)
-    refused at refusal.TooDeep next l = absurd (w.read refusal.TooDeep l.0.found)
-    refused at refusal.NumberRange next l = absurd (w.read refusal.NumberRange l.0.found)
-    refused at refusal.InTransaction next l = absurd (none_open s.transaction l.0.is_open (w.begins_outside l.0.asks))
-    refused at refusal.NoTransaction next l = absurd (none_open s.transaction (w.ends_inside l.0.statement l.0.ends l.0.asks) l.0.none_open)
-    refused at refusal.UnknownTable next l = absurd (no_fault at _ l.0)
-    refused at refusal.TableExists next l = absurd (no_fault at _ l.0)
-    refused at refusal.UnknownColumn next l = absurd (no_fault at _ l.0)
-    refused at refusal.AmbiguousColumn next l = absurd (no_fault at _ l.0)
-    refused at refusal.DuplicateName next l = absurd (no_fault at _ l.0)
-    refused at refusal.ColumnCount next l = absurd (no_fault at _ l.0)
-    refused at refusal.TooLarge next l =
-        let le = w.small at l.0.actions l.0.statement l.0.query l.0.sees l.0.asks l.0.evaluates in
+    no_fault : (at : ℕ) (e : ResolveError) → committed_of r ≡ None → next ≡ carried at s → IsNameFault H W N s x at e → ⊥
+    no_fault at e none keeps f = w.named at f.actions e (saw at f.actions none keeps f.sees) f.sees f.found
+
+    base_of : (base : ℕ) (reads : List Read) → CommitsWhole H W N s x base reads ⊎ CommitsAlone H W N s x base reads → ground s ≤ base
+    base_of base reads (inl c) = let is = ground_inside s c.transaction c.is_open in let e = c.base_is in omega (arith, is, e)
+    base_of base reads (inr c) = let is = ground_outside s c.none_open in let le = c.from_seen in omega (arith, is, le)
+
+    refused : (at : ℕ) (why : Refusal) → committed_of r ≡ None → LawfulRefusal H W N s x at why next → why ≡ refusal.Memory
+    refused at refusal.NotAStatement none l = absurd (w.read refusal.NotAStatement l.0.found)
+    refused at refusal.TooDeep none l = absurd (w.read refusal.TooDeep l.0.found)
+    refused at refusal.NumberRange none l = absurd (w.read refusal.NumberRange l.0.found)
+    refused at refusal.InTransaction none l = absurd (none_open s.transaction l.0.is_open (w.begins_outside l.0.asks))
+    refused at refusal.NoTransaction none l = absurd (none_open s.transaction (w.ends_inside l.0.statement l.0.ends l.0.asks) l.0.none_open)
+    refused at refusal.UnknownTable none l = absurd (no_fault at _ none l.1 l.0)
+    refused at refusal.TableExists none l = absurd (no_fault at _ none l.1 l.0)
+    refused at refusal.UnknownColumn none l = absurd (no_fault at _ none l.1 l.0)
+    refused at refusal.AmbiguousColumn none l = absurd (no_fault at _ none l.1 l.0)
+    refused at refusal.DuplicateName none l = absurd (no_fault at _ none l.1 l.0)
+    refused at refusal.ColumnCount none l = absurd (no_fault at _ none l.1 l.0)
+    refused at refusal.TooLarge none l =
+        let le = w.small at l.0.actions l.0.statement l.0.query (saw at l.0.actions none l.1 l.0.sees) l.0.sees l.0.asks l.0.evaluates in
         let lt = l.0.past in absurd (omega (arith, le, lt))
-    refused at refusal.Full next l = let lt = w.room in let e = l.0.full in absurd (omega (arith, lt, e))
-    refused at refusal.TooManyTerms next l =
-        let le = w.few_terms at l.0.actions l.0.statement l.0.sees l.0.asks l.0.of_worlds in
+    refused at refusal.Full none l = let lt = w.room in let e = l.0.full in absurd (omega (arith, lt, e))
+    refused at refusal.TooManyTerms none l =
+        let le = w.few_terms at l.0.actions l.0.statement (saw at l.0.actions none l.1 l.0.sees) l.0.sees l.0.asks l.0.of_worlds in
         let lt = l.0.past in absurd (omega (arith, le, lt))
-    refused at (refusal.Inconsistent proof) next l =
-        let v = w.satisfied at l.0.actions l.0.condition l.0.sees l.0.asks in
+    refused at (refusal.Inconsistent proof) none l =
+        let v = w.satisfied at l.0.actions l.0.condition (saw at l.0.actions none l.1 l.0.sees) l.0.sees l.0.asks in
         absurd (false≢true (sym (l.0.none_satisfies v.0) ∙ v.1))
-    refused at (refusal.Conflict table was now at') next l =
-        absurd (not_written l.1.reads l.1.base at table l.1.first (w.unwritten l.1.base at l.1.reads l.1.commits l.1.within))
-    refused at refusal.Memory next l = refl
+    refused at (refusal.Conflict table was now at') none l =
+        let c = l.1 in
+        let here = conflict_current H s next r rs c.base at a none later c.next_is (base_of c.base c.reads c.commits) c.later in
+        absurd (not_written c.reads c.base at table c.first (w.unwritten c.base at c.reads here c.commits c.within))
+    refused at refusal.Memory none l = refl
 
-    answered : (r : Reply) (next : SessionState) → LawfulReply H W N s x r next → IsAnswered r
-    answered (reply.Begun at) next l = tt
-    answered reply.RolledBack next l = tt
-    answered (reply.Pending at plus) next l = tt
-    answered (reply.Committed m) next l = tt
-    answered (reply.Nothing at) next l = tt
-    answered (reply.Rows at plus answer) next l = tt
-    answered (reply.Possible at plus columns rows) next l = tt
-    answered (reply.Certain at plus columns rows) next l = tt
-    answered (reply.Refused at why) next l = refused at why next l
+  answered : (s next : SessionState) (x : List ℕ) (r : Reply) (rs : List Reply) → IsAmidst H s (r ∷ rs) → All (λ m. ground next < m) (filter_map committed_of rs) → IsWithinLimits H W N s x
+      → LawfulReply H W N s x r next → IsAnswered r
+  answered s next x (reply.Begun at) rs a later w l = tt
+  answered s next x reply.RolledBack rs a later w l = tt
+  answered s next x (reply.Pending at plus) rs a later w l = tt
+  answered s next x (reply.Committed m) rs a later w l = tt
+  answered s next x (reply.Nothing at) rs a later w l = tt
+  answered s next x (reply.Rows at plus answer) rs a later w l = tt
+  answered s next x (reply.Possible at plus columns rows) rs a later w l = tt
+  answered s next x (reply.Certain at plus columns rows) rs a later w l = tt
+  answered s next x (reply.Refused at why) rs a later w l = refused s next x (reply.Refused at why) rs a later w at why refl l
 
-  complete : (s t : SessionState) (xs : List (List ℕ)) (rs : List Reply) → AreLawful H W N s xs rs t → AreComplete H W N s xs rs t
-  complete s t [] [] l = l
-  complete s t (x ∷ xs) (r ∷ rs) l = (l.0, l.1, (λ w. answered s x w r l.0 l.1), complete l.0 t xs rs l.2)
-  complete s t [] (r ∷ rs) l = absurd l
-  complete s t (x ∷ xs) [] l = absurd l
+  complete : (s t : SessionState) (xs : List (List ℕ)) (rs : List Reply) → IsAmidst H s rs → AreLawful H W N s xs rs t → AreComplete H W N s xs rs t
+  complete s t [] [] a l = l
+  complete s t (x ∷ xs) (r ∷ rs) a l =
+      let st = steps H W N s l.0 x a.within r l.1 in
+      let later = later_commits H W N l.0 t xs rs st.within l.2 in
+      (l.0, l.1, (λ w. answered s l.0 x r rs a later w l.1), complete l.0 t xs rs (amidst_next H s l.0 r rs a st) l.2)
+  complete s t [] (r ∷ rs) a l = absurd l
+  complete s t (x ∷ xs) [] a l = absurd l
 
   all_complete : (s : ℕ) (logs : List SessionLog) → AreLawfulSessions H W N s logs → AreCompleteSessions H W N s logs
   all_complete s [] l = tt
-  all_complete s (log ∷ logs) l = ((l.0.last, complete _ l.0.last _ log.replies l.0.replies), all_complete (s + 1) logs l.1)
+  all_complete s (log ∷ logs) l = ((l.0.last, complete _ l.0.last _ log.replies (amidst_first H s log.replies l.0.commits) l.0.replies), all_complete (s + 1) logs l.1)
 
 -- the replies of a lawful transcript are complete
 pub lawful_complete : (t : Transcript) (N : ℕ) → Lawful t N → IsComplete t N

@@ -1,6 +1,9 @@
 pub mod Progress
-pub mod Alone
+pub mod Answered
+pub mod Closed
+pub mod Clients
 pub mod Reached
+pub mod Between
 pub mod Complete
 pub mod Unlawful
 pub mod Accepted

@@ -28,33 +28,38 @@ use Rattle.ct_session.specs.Seeing.{Sees, ResolvesTo, Asks, Orders}
 use Rattle.ct_statement.specs.Unmet.{query_in, asks_of_worlds, TERMS}
 use Rattle.ct_session.specs.LawfulRefusal.{CommitsWhole, CommitsAlone}
 use Rattle.ct_session.specs.LawfulReply.{LawfulReply}
+use Rattle.ct_session.specs.Answers.{commits_by}
 
 -- a reply is no refusal, or want of memory
 abbrev pub IsAnswered : Reply → Type 0
 IsAnswered (reply.Refused at why) = why ≡ refusal.Memory
 IsAnswered _ = ⊤
 
+-- up to this version of the history the session has made as many commits as in its state: none that it makes later
+abbrev pub IsCurrent : List PlainCommit → SessionState → ℕ → Type 0
+IsCurrent H s at = length (commits_by s.session 1 (take at H)) ≡ s.commits
+
 -- H is the run's history, W the words of its log, N their capacity
 module _ (H : List PlainCommit) (W : List ℕ) (N : ℕ) where
-  -- a statement is within all limits in a state, wherever in the history it is answered
+  -- a statement is within all limits in a state, wherever before the session's next commit it is answered
   pub record IsWithinLimits (s : SessionState) (x : List ℕ) : Type 0 where
     -- no fault of the text, and in its place
     pub read : (why : Refusal) → IsTextFault x why → ⊥
     pub begins_outside : Orders H s x plain.Begin → s.transaction ≡ None
     pub ends_inside : (st : PlainStatement) → (st ≡ plain.Commit) ⊎ (st ≡ plain.Rollback) → Orders H s x st → IsSome s.transaction
     -- no fault of a name or a count
-    pub named : (at : ℕ) (actions : List PlainAction) (e : ResolveError) → Sees H s at actions → ResolvesTo H s x at actions (Err e) → ⊥
+    pub named : (at : ℕ) (actions : List PlainAction) (e : ResolveError) → IsCurrent H s at → Sees H s at actions → ResolvesTo H s x at actions (Err e) → ⊥
     -- its query is not too large, the log is not full, and it has not too many terms
-    pub small : (at : ℕ) (actions : List PlainAction) (st : PlainStatement) (q : PlainQuery) → Sees H s at actions → Asks H s x at actions st → query_in st ≡ Some q
+    pub small : (at : ℕ) (actions : List PlainAction) (st : PlainStatement) (q : PlainQuery) → IsCurrent H s at → Sees H s at actions → Asks H s x at actions st → query_in st ≡ Some q
         → size (count (take at H) actions) q ≤ limit
     pub room : length W < N
-    pub few_terms : (at : ℕ) (actions : List PlainAction) (st : PlainStatement) → Sees H s at actions → Asks H s x at actions st → asks_of_worlds st ≡ true
+    pub few_terms : (at : ℕ) (actions : List PlainAction) (st : PlainStatement) → IsCurrent H s at → Sees H s at actions → Asks H s x at actions st → asks_of_worlds st ≡ true
         → term_count (take at (commits_of W)) actions st ≤ TERMS
     -- where it asserts, some valuation satisfies it
-    pub satisfied : (at : ℕ) (actions : List PlainAction) (c : Condition) → Sees H s at actions → Asks H s x at actions (plain.Act (plain.Assert c))
+    pub satisfied : (at : ℕ) (actions : List PlainAction) (c : Condition) → IsCurrent H s at → Sees H s at actions → Asks H s x at actions (plain.Act (plain.Assert c))
         → (v : World) × IsTrue (admits v (take at H) (actions ++ plain.Assert c ∷ []))
     -- where it commits, no commit after its base has written what it reads
-    pub unwritten : (base at : ℕ) (reads : List Read) → CommitsWhole H W N s x base reads ⊎ CommitsAlone H W N s x base reads → at ≤ length H
+    pub unwritten : (base at : ℕ) (reads : List Read) → IsCurrent H s at → CommitsWhole H W N s x base reads ⊎ CommitsAlone H W N s x base reads → at ≤ length H
         → All (λ r. last (take at H) r ≤ base) reads
 
   -- each of these replies to these texts is lawful in the state that the one before it left, and one within all limits is

@@ -1,5 +1,5 @@
 -- Which files the words of a run name, what a script is, and which files were read.
-use Rattle.std.specs.Prelude.{◌≡◌, ℕ, ◌≤◌, List, [], ◌∷◌, ◌++◌, length, codes, All, Option, Some, None, IfSome, MatchOption, unwrap_or, if◌then◌else◌}
+use Rattle.std.specs.Prelude.{◌≡◌, ℕ, ◌≤◌, List, [], ◌∷◌, ◌++◌, length, codes, All, Option, Some, None, IfSome, MatchOption, unwrap_or, nat_le, ◌&&◌, if◌then◌else◌}
 use Rattle.std.specs.Borrow.{Bor}
 use Rattle.std.specs.Str.{IsUtf8}
 use Rattle.ct_word.specs.Value.{same_text}
@@ -14,10 +14,14 @@ SCRIPT_BYTES = 1048576
 abbrev pub SCRIPT_STATEMENTS : ℕ
 SCRIPT_STATEMENTS = 65535
 
--- the files that words name: one, after the word run
+-- the greatest number of files of a run
+abbrev pub FILES : ℕ
+FILES = 64
+
+-- the files that words name: one or more, at most FILES, after the word run
 abbrev pub files_of : List (List ℕ) → Option (List (List ℕ))
-files_of (command ∷ file ∷ []) = if same_text command (codes "run") then Some (file ∷ []) else None
-files_of _ = None
+files_of [] = None
+files_of (command ∷ files) = if same_text command (codes "run") && (nat_le 1 (length files) && nat_le (length files) FILES) then Some files else None
 
 -- the files that the words name to which references point
 abbrev pub files_named : List (Bor (List ℕ)) → Option (List (List ℕ))

@@ -22,6 +22,7 @@ use ct_transcript::{Refusal, Reply, SessionLog, Transcript, lines};
 use ct_word::List;
 use std::alloc::Global;
 use std::sync::Wait;
+use std::thread::Threads;
 
 /// How many words the log of a run has room for.
 const CAPACITY: u32 = 262_144;
@@ -31,7 +32,7 @@ const CAPACITY: u32 = 262_144;
 /// # Errors
 /// `Words` exactly where the words name no files. Of the others the first file at fault decides: `ReadFault` only where
 /// the source failed, `Script` only where the file is no script. `Memory` comes for want of memory.
-fn served<R: Wait, S: Scripts, G: Gate + Sync>(
+fn served<R: Threads + Wait + Sync, S: Scripts, G: Gate + Sync>(
     rt: &R,
     alloc: Global,
     words: &[&str],
@@ -144,8 +145,10 @@ fn status_of(e: Unserved) -> Status
 }
 
 /// Runs the sessions of the files that the words name, and writes their transcript with one write for each line. The
-/// words that are understood are `run` and the name of a file. The files are asked in their order, each once. The gate is
-/// called round each statement, and may wait.
+/// words that are understood are `run` and the names of 1 to 64 files; a file that is named twice has two sessions. The files are asked in
+/// their order, once for each name. The gate is
+/// called round each statement, on its session's thread, and may wait. Sessions run on threads, so their commits come in
+/// any order.
 ///
 /// A script has at most 1,048,576 bytes, is in UTF-8, and has at most 65,535 statements. The status is
 /// - `Words` exactly where the words are not understood; then no file is asked;
@@ -161,7 +164,7 @@ fn status_of(e: Unserved) -> Status
 ///
 /// With `Words`, `ReadFault` and `Script` the transcript is empty, and nothing was written. With every other status but
 /// `Memory` it is the lawful transcript of the scripts that the files hold; with `Memory` it is one of the two.
-pub fn run<R: Wait, S: Scripts, K: Sink, G: Gate + Sync>(
+pub fn run<R: Threads + Wait + Sync, S: Scripts, K: Sink, G: Gate + Sync>(
     rt: &R,
     alloc: Global,
     words: &[&str],

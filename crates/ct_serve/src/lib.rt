@@ -1,6 +1,7 @@
-//! One session on a log of its own: the statements of a script, one after another, and the transcript of them.
+//! The sessions of a run on one log: the statements of each script, one after another, and the transcript of all.
 #![tactic(auto)]
 
+mod client;
 mod driving;
 mod ending;
 mod reading;

@@ -17,6 +17,9 @@ const SCRIPT_BYTES: u32 = 0x10_0000;
 /// The greatest number of statements of a script.
 const SCRIPT_STATEMENTS: usize = 65_535;
 
+/// The greatest number of files of a run.
+const FILES: usize = 64;
+
 /// Why no session ran.
 pub(crate) enum Unserved {
     Words,
@@ -41,14 +44,17 @@ impl<T: Drop> From<AllocFailed<T>> for Unserved {
     }
 }
 
-/// The files that the words name.
+/// The files that the words name, from 1 to 64.
 pub(crate) fn files_named<'a, 'b>(words: &'a [&'b str]) -> Option<&'a [&'b str]>
     ensures files { option_map (λ files. names_of files.now) result ≡ files_named words.now }
-    ensures one { IfSome result (λ files. length files.now ≡ 1) }
+    ensures least { IfSome result (λ files. 1 ≤ length files.now) }
+    ensures most { IfSome result (λ files. length files.now ≤ 64) }
 {
-    match words {
-        [command, _] if *command == "run" => Some(&words[1..]),
-        _ => None,
+    let (command, files) = words.split_first()?;
+    if *command == "run" && 1 <= files.len() && files.len() <= FILES {
+        Some(files)
+    } else {
+        None
     }
 }
 

@@ -1,173 +1,164 @@
-// The session of a run.
+// The sessions of a run, each on a thread of its own, and their transcript.
 
-ghost use Rattle.std.specs.Prelude.{All, ◌≡◌, ◌∷◌, ◌<◌, ◌≤◌, ◌^◌, [], map, length, IfOk};
-ghost use Rattle.ct_arena.specs.Counts.{opening};
+ghost use Rattle.std.specs.Prelude.{All, ◌≡◌, ◌<◌, ◌≤◌, ◌+◌, ◌^◌, ℕ, map, length, IfOk, slice_index_or};
+ghost use Rattle.std.specs.List.{range_with_len, AllZip};
 ghost use Rattle.ct_lex.specs.Texts.{texts};
-ghost use Rattle.ct_session.specs.Sessions.{state_of};
-ghost use Rattle.ct_session.specs.State.{beginning};
+ghost use Rattle.ct_keeper.specs.Served.{first_pass};
 ghost use Rattle.ct_serve.specs.Lawful.{Lawful};
-ghost use Rattle.ct_serve.specs.Progress.{IsAtBeginning, Progress};
+ghost use Rattle.ct_serve.specs.Progress.{begun, HasExecuted, HasRun, HasEnded};
 
-use ct_arena::{Arena, Blank, Site};
+use crate::client::Client;
+use ct_arena::{Blank, Pass, Site};
 use ct_history::commits;
-use ct_keeper::Keeper;
-use ct_lex::split;
+use ct_keeper::Server;
 use ct_outside::Gate;
-use ct_session::{Session, execute};
-use ct_transcript::{Reply, SessionLog, Transcript};
+use ct_session::Session;
+use ct_transcript::{SessionLog, Transcript};
 use ct_word::{List, Memory, Text};
 use std::alloc::Global;
 use std::marker::Brand;
 use std::sync::Wait;
+use std::thread;
+use std::thread::Threads;
 
-/// The replies to statement texts, in their order. The gate is told of each text, numbered from 1.
+/// A client for each script, in their order, on the pass at the same place.
 ///
 /// # Errors
-/// `Memory` where there is none for the list of replies.
-fn answer<N: Site, R: Wait, G: Gate + Sync>(
-    rt: &R,
+/// `Memory` where there is none for a script or for the list of clients.
+fn clients_of<N: Site>(
     alloc: Global,
-    arena: &Arena<N>,
-    keeper: &mut Keeper<N>,
-    mut session: Session<N>,
-    statements: &[&str],
-    gate: &G,
-) -> Result<(Session<N>, Vec<Reply>), Memory>
-    requires begins { IsAtBeginning session.pass session.seen session.fresh session.open }
-    requires few { length statements.now < 2 ^ 16 }
-    ensures ended { keeper.new.ended ≡ keeper.old.ended }
-    ensures progress { IfOk result (λ r. Progress N.log.cap (beginning 1) (state_of r.0.pass r.0.seen r.0.fresh r.0.open) opening r.0.pass.words (map (λ t. t.now) statements.now) r.1.items) }
+    passes: Vec<Pass<N>>,
+    scripts: &[Text],
+) -> Result<Vec<Client<N>>, Memory>
+    requires none { All (λ pass. pass.mine ≡ 0) passes.items }
+    requires count { length passes.items ≡ length scripts.now }
+    ensures sessions { IfOk result (λ clients. map (λ c. c.session) clients.items ≡ map begun passes.items) }
+    ensures scripts { IfOk result (λ clients. map (λ c. c.script) clients.items ≡ scripts.now) }
 {
-    let mut replies = Vec::with_capacity(alloc, statements.len())?;
-    let _ = session.pass.words();
-    for statement in statements {
-        let by = session.pass.session();
-        let number = replies.len() as u32 + 1;
-        gate.before(rt, by, number);
-        let (next, reply) = execute(alloc, arena, keeper, session, statement);
-        gate.after(rt, by, number);
-        let _ = next.pass.words();
-        session = next;
-        replies.push_reserved(reply);
+    let mut clients = Vec::new(alloc);
+    for pass in passes {
+        let script = scripts[clients.len()].clone()?;
+        let session = Session::make(pass);
+        clients.push(Client {
+            session,
+            script,
+            replies: None,
+        })?;
     }
-    Ok((session, replies))
+    Ok(clients)
 }
 
-/// The session that executes a script from its beginning.
-///
-/// # Errors
-/// `Memory` where there is none for the lists of statements and replies.
-fn execute_script<N: Site, R: Wait, G: Gate + Sync>(
+/// Executes the script of each client on a thread of its own. Where no thread can be made, they are executed one after
+/// another.
+fn execute_all<N: Site + Send + Sync, R: Threads + Wait + Sync, G: Gate + Sync>(
     rt: &R,
     alloc: Global,
-    arena: &Arena<N>,
-    keeper: &mut Keeper<N>,
-    session: Session<N>,
-    script: &str,
+    server: &Server<N>,
     gate: &G,
-) -> Result<(Session<N>, Vec<Reply>), Memory>
-    requires begins { IsAtBeginning session.pass session.seen session.fresh session.open }
-    requires few { length (texts script.now) < 2 ^ 16 }
-    ensures ended { keeper.new.ended ≡ keeper.old.ended }
-    ensures progress { IfOk result (λ r. Progress N.log.cap (beginning 1) (state_of r.0.pass r.0.seen r.0.fresh r.0.open) opening r.0.pass.words (texts script.now) r.1.items) }
+    clients: &mut [Client<N>],
+)
+    requires some { 0 < length clients.old }
+    requires few { All (λ c. c.session.pass.mine + length (texts c.script) < 2 ^ 18) clients.old }
+    ensures count { length clients.new ≡ length clients.old }
+    ensures each { (k : ℕ) (d : Client N) → k < length clients.old → HasExecuted N.log.cap (slice_index_or clients.old k d).session (slice_index_or clients.new k d).session (slice_index_or clients.old k d).script (slice_index_or clients.new k d).script (slice_index_or clients.new k d).replies }
 {
-    let statements = split(alloc, script)?;
-    answer(
-        rt,
-        alloc,
-        arena,
-        keeper,
-        session,
-        statements.as_slice(),
-        gate,
-    )
+    let threads = clients.len();
+    let run = |_: usize, client: &mut Client<N>|
+        requires { client.old.session.pass.mine + length (texts client.old.script) < 2 ^ 18 }
+        ensures { HasExecuted N.log.cap client.old.session client.new.session client.old.script client.new.script client.new.replies }
+    { client.execute(rt, alloc, server, gate) };
+    thread::for_each_mut(rt, clients, threads, &run);
 }
 
-/// A session alone on the log that N names, before its first statement, and the keeper of the log.
+/// The passes and the logs of the sessions, in their order.
 ///
 /// # Errors
-/// `Memory` where there is none for its list of the log, or for the keeper.
-fn begin<N: Site>(alloc: Global, blank: Blank) -> Result<(Arena<N>, Keeper<N>, Session<N>), Memory>
-    requires name { blank ≡ N.log }
-    requires one { N.sessions ≡ 1 }
-    ensures begins { IfOk result (λ r. IsAtBeginning r.2.pass r.2.seen r.2.fresh r.2.open) }
-    ensures ended { IfOk result (λ r. r.1.ended ≡ []) }
+/// `Memory` where it was wanting in a client, or is for the lists.
+fn finished<N: Site>(
+    alloc: Global,
+    clients: Vec<Client<N>>,
+) -> Result<(Vec<Pass<N>>, List<SessionLog>), Memory>
+    requires run { All (λ c. HasRun N.log.cap c.session c.script c.replies) clients.items }
+    ensures ended { IfOk result (λ r. AllZip (HasEnded N.log.cap) r.0.items r.1) }
+    ensures numbers { IfOk result (λ r. map (λ p. p.session) r.0.items ≡ map (λ c. c.session.pass.session) clients.items) }
+    ensures scripts { IfOk result (λ r. map (λ l. l.script) r.1 ≡ map (λ c. c.script) clients.items) }
 {
-    let (arena, mut pass) = Arena::make(blank);
-    let session = Session::make(pass.enrol(alloc, &arena)?);
-    let keeper = Keeper::make(alloc, pass)?;
-    Ok((arena, keeper, session))
+    let mut passes = Vec::new(alloc);
+    let mut logs = Vec::new(alloc);
+    for client in clients {
+        let Client {
+            session,
+            script,
+            replies,
+        } = client;
+        let Some(replies) = replies else {
+            return Err(Memory);
+        };
+        let replies = List::from_vec(replies);
+        let pass = session.finish();
+        // The commits of the session in its words are all that it made.
+        let _ = pass.words();
+        passes.push(pass)?;
+        logs.push(SessionLog { script, replies })?;
+    }
+    Ok((passes, List::from_vec(logs)))
 }
 
-/// Ends the session and the log, and gives the transcript.
+/// Ends the sessions and the log, and gives the transcript.
 ///
 /// # Errors
-/// `Memory` where there is none for the list of sessions, or for the history.
+/// `Memory` where it was wanting in a client, or is for the history or the list of sessions.
 fn end<N: Site>(
     alloc: Global,
-    arena: Arena<N>,
-    keeper: Keeper<N>,
-    session: Session<N>,
-    script: Text,
-    replies: Vec<Reply>,
+    server: Server<N>,
+    clients: Vec<Client<N>>,
 ) -> Result<Transcript, Memory>
-    requires one { N.sessions ≡ 1 }
-    requires ended { keeper.ended ≡ [] }
-    requires progress { Progress N.log.cap (beginning 1) (state_of session.pass session.seen session.fresh session.open) opening session.pass.words (texts script) replies.items }
+    requires number { N.sessions ≡ length clients.items }
+    requires numbers { map (λ c. c.session.pass.session) clients.items ≡ range_with_len 1 (length clients.items) }
+    requires run { All (λ c. HasRun N.log.cap c.session c.script c.replies) clients.items }
     ensures lawful { IfOk result (λ transcript. Lawful transcript N.log.cap) }
-    ensures script { IfOk result (λ transcript. map (λ s. s.script) transcript.sessions ≡ script ∷ []) }
+    ensures scripts { IfOk result (λ transcript. map (λ s. s.script) transcript.sessions ≡ map (λ c. c.script) clients.items) }
 {
-    let pass = session.finish();
-    // The commits of the session in its words are all that it made.
-    let _ = pass.words();
-    let mut keeper = keeper.into_pass();
-    keeper.end(&arena, pass);
-    let words = keeper.finish(arena);
+    let (passes, sessions) = finished(alloc, clients)?;
+    let words = server.close(passes);
     let history = commits(alloc, words.words())?;
-    let replies = List::from_vec(replies);
-    let mut sessions = Vec::with_capacity(alloc, 1)?;
-    sessions.push_reserved(SessionLog { script, replies });
     Ok(Transcript {
-        sessions: List::from_vec(sessions),
+        sessions,
         history,
         words,
     })
 }
 
-fn serve_named<N: Site, R: Wait, G: Gate + Sync>(
+fn serve_named<N: Site + Send + Sync, R: Threads + Wait + Sync, G: Gate + Sync>(
     rt: &R,
     alloc: Global,
     blank: Blank,
-    script: Text,
+    scripts: &[Text],
     gate: &G,
 ) -> Result<Transcript, Memory>
     requires name { blank ≡ N.log }
-    requires one { N.sessions ≡ 1 }
-    requires few { length (texts script) < 2 ^ 16 }
+    requires number { N.sessions ≡ length scripts.now }
+    requires least { 1 ≤ length scripts.now }
+    requires most { length scripts.now ≤ 64 }
+    requires few { All (λ script. length (texts script) ≤ 65535) scripts.now }
     ensures lawful { IfOk result (λ transcript. Lawful transcript N.log.cap) }
-    ensures script { IfOk result (λ transcript. map (λ s. s.script) transcript.sessions ≡ script ∷ []) }
+    ensures scripts { IfOk result (λ transcript. map (λ s. s.script) transcript.sessions ≡ scripts.now) }
 {
-    let (arena, mut keeper, session) = begin::<N>(alloc, blank)?;
-    let (session, replies) = execute_script(
-        rt,
-        alloc,
-        &arena,
-        &mut keeper,
-        session,
-        script.as_str(),
-        gate,
-    )?;
-    end(alloc, arena, keeper, session, script, replies)
+    let (server, passes) = Server::<N>::make(alloc, blank, scripts.len() as u32)?;
+    let mut clients = clients_of(alloc, passes, scripts)?;
+    execute_all(rt, alloc, &server, gate, clients.as_mut_slice());
+    end(alloc, server, clients)
 }
 
-/// Runs the session of the one script on a log of its own with room for `cap` words, from 64 to 4,194,304. The script
-/// has at most 65,535 statements. The gate is called round each, with session 1 and the statement's number from 1; it
-/// may wait.
+/// Runs a session for each script, from 1 to 64 of them, each on a thread of its own. Their log has room for `cap` words,
+/// from 64 to 4,194,304. A script has at most 65,535 statements. The gate is called round each statement, on the session's
+/// thread, with the number of the session and of the statement, from 1; it may wait. Where no thread can be made, sessions
+/// run one after another, so gates that wait for one another may wait for ever.
 ///
 /// # Errors
 /// `Memory` where there is none for the log or for the lists of statements, replies and sessions. A statement that
 /// wants memory is refused, and the run goes on.
-pub fn serve<R: Wait, G: Gate + Sync>(
+pub fn serve<R: Threads + Wait + Sync, G: Gate + Sync>(
     rt: &R,
     alloc: Global,
     cap: u32,
@@ -176,12 +167,12 @@ pub fn serve<R: Wait, G: Gate + Sync>(
 ) -> Result<Transcript, Memory>
     requires least { 64 ≤ cap }
     requires most { cap ≤ 4194304 }
-    requires one { length scripts.now ≡ 1 }
+    requires some { 1 ≤ length scripts.now }
+    requires most_scripts { length scripts.now ≤ 64 }
     requires few { All (λ script. length (texts script) ≤ 65535) scripts.now }
     ensures lawful { IfOk result (λ transcript. Lawful transcript cap) }
     ensures scripts { IfOk result (λ transcript. map (λ s. s.script) transcript.sessions ≡ scripts.now) }
 {
-    let script = scripts[0].clone()?;
     let blank = Blank::make(alloc, cap)?;
-    serve_named::<Brand, R, G>(rt, alloc, blank, script, gate)
+    serve_named::<Brand, R, G>(rt, alloc, blank, scripts, gate)
 }

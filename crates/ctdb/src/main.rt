@@ -1,4 +1,4 @@
-//! `ctdb run FILE` runs the session of a script, and writes its transcript: every reply, then the history of commits.
+//! `ctdb run FILE ..` runs a session for each script, and writes their transcript: every reply, then the history of commits.
 #![tactic(auto)]
 
 use anyhow::Result;
@@ -10,9 +10,12 @@ use std::fs::Files;
 use std::io::{ErrorKind, Print};
 use std::process::ExitCode;
 use std::sync::Wait;
+use std::thread::Threads;
 
 /// Runs what the words of the command line ask for.
-fn run_words<R: Wait + AllocGlobal + Env + Files + Print>(rt: &R) -> Result<Status> {
+fn run_words<R: Threads + Wait + Sync + AllocGlobal + Env + Files + Print>(
+    rt: &R,
+) -> Result<Status> {
     let args = match env::args(rt) {
         Ok(args) => args,
         // A word that is not UTF-8 is none that is understood.
