@@ -19,7 +19,7 @@ loop-statement-preserved g c =
     let n = c.execute-reply.new.self in
     let lt : at < length xs = omega arith in
     let numbered : AreNumbered n.pass.session n.pass.mine n.pass.words =
-        subst (λ (p : Seen). AreNumbered p.session p.mine p.words) c.pass-in-loop-statement.ensures c.words-in-loop-statement.ensures.numbered in
+    subst (λ (p : Seen). AreNumbered p.session p.mine p.words) c.pass-in-loop-statement.ensures c.words-in-loop-statement.ensures.numbered in
     record {
       numbered = numbered;
       few =

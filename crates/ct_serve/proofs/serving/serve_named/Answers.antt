@@ -54,6 +54,6 @@ returns-clause-scripts g c =
     let back = written_back c.in_ok-clients.clients.len c.execute_all.new.clients c.in_ok-clients.clients.items (count ∙ ap length value) c.in_ok-clients.clients.ok.0 in
     IfOk-weaker c.end.result _ _
     (λ t e.
-        e ∙ ap (map (λ (x : Client g.row.N.Denot). x.script)) back
-        ∙ scripts_stay (λ (x : Client g.row.N.Denot). x.session) (λ (x : Client g.row.N.Denot). x.script) (λ (x : Client g.row.N.Denot). x.replies) g.N.Site.log.cap c.as_mut_slice.result.now c.execute_all.new.clients count c.execute_all.ensures.each
-        ∙ ap (map (λ (x : Client g.row.N.Denot). x.script)) value ∙ c.in_ok-clients.ensures.scripts) c.end.ensures.scripts
+    e ∙ ap (map (λ (x : Client g.row.N.Denot). x.script)) back
+    ∙ scripts_stay (λ (x : Client g.row.N.Denot). x.session) (λ (x : Client g.row.N.Denot). x.script) (λ (x : Client g.row.N.Denot). x.replies) g.N.Site.log.cap c.as_mut_slice.result.now c.execute_all.new.clients count c.execute_all.ensures.each
+    ∙ ap (map (λ (x : Client g.row.N.Denot). x.script)) value ∙ c.in_ok-clients.ensures.scripts) c.end.ensures.scripts
