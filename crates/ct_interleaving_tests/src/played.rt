@@ -4,7 +4,7 @@ ghost use Rattle.std.specs.Prelude.{All, ◌≤◌, IfOk, length};
 ghost use Rattle.ct_lex.specs.Texts.{texts};
 
 use ct_lex::split;
-use ct_outside::OrderGate;
+use ct_outside::{Gate, OrderGate};
 use ct_serve::serve;
 use ct_transcript::{Transcript, lines};
 use ct_word::{List, Text};
@@ -21,7 +21,7 @@ pub const ROOMY: u32 = 4_096;
 pub type Played<'a> = (&'a [u32], &'a str);
 
 /// A script, which has at most 65,535 statements.
-pub fn script(rt: &impl Abort, alloc: Global, text: &str) -> Result<Text, Fail>
+fn script(rt: &impl Abort, alloc: Global, text: &str) -> Result<Text, Fail>
     ensures { IfOk result (λ script. length (texts script) ≤ 65535) }
 {
     let script = Text::from_str(alloc, text)?;
@@ -31,7 +31,7 @@ pub fn script(rt: &impl Abort, alloc: Global, text: &str) -> Result<Text, Fail>
 }
 
 /// The scripts of these texts.
-pub fn scripts_of(rt: &impl Abort, alloc: Global, all: &[&str]) -> Result<Vec<Text>, Fail>
+fn scripts_of(rt: &impl Abort, alloc: Global, all: &[&str]) -> Result<Vec<Text>, Fail>
     ensures { IfOk result (λ scripts. All (λ script. length (texts script) ≤ 65535) scripts.items) }
 {
     let mut scripts = Vec::new(alloc);
@@ -61,6 +61,21 @@ pub fn text_of(alloc: Global, transcript: &Transcript) -> Result<String, Fail> {
     Ok(text)
 }
 
+/// The transcript of the scripts of these texts, on a log of this capacity, with this gate.
+pub fn served<R: Threads + Wait + Abort + Sync, G: Gate + Sync>(
+    rt: &R,
+    alloc: Global,
+    cap: u32,
+    texts: &[&str],
+    gate: &G,
+) -> Result<Transcript, Fail> {
+    assert!(rt; 64 <= cap && cap <= 4_194_304);
+    let scripts = scripts_of(rt, alloc, texts)?;
+    assert!(rt; 1 <= scripts.len() && scripts.len() <= 64);
+    let transcript = serve(rt, alloc, cap, scripts.as_slice(), gate)?;
+    Ok(transcript)
+}
+
 /// The transcript of the scripts, on a log of this capacity, whose statements come in this order.
 pub fn transcript_of<R: Threads + Wait + Abort + Sync>(
     rt: &R,
@@ -69,11 +84,8 @@ pub fn transcript_of<R: Threads + Wait + Abort + Sync>(
     texts: &[&str],
     order: &[u32],
 ) -> Result<Transcript, Fail> {
-    assert!(rt; 64 <= cap && cap <= 4_194_304);
-    let scripts = scripts_of(rt, alloc, texts)?;
-    assert!(rt; 1 <= scripts.len() && scripts.len() <= 64);
     let gate = OrderGate::make(alloc, statements(alloc, order)?)?;
-    let transcript = serve(rt, alloc, cap, scripts.as_slice(), &gate)?;
+    let transcript = served(rt, alloc, cap, texts, &gate)?;
     assert!(rt; !gate.late(rt), "a statement was let go before its turn");
     Ok(transcript)
 }

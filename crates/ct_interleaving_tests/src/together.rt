@@ -1,8 +1,7 @@
 // What sessions share: the names of nulls, the versions and the log. What each has for itself: its new nulls.
 
-use crate::played::{Played, ROOMY, play, play_on, scripts_of, text_of, transcript_of};
+use crate::played::{Played, ROOMY, play, play_on, served, text_of, transcript_of};
 use ct_outside::NoGate;
-use ct_serve::serve;
 use ct_transcript::{Refusal, Reply, Transcript};
 use std::alloc::{AllocError, Global};
 use std::test::Fail;
@@ -226,9 +225,8 @@ fn outcomes(transcript: &Transcript) -> (u32, u32) {
 /// Of 64 sessions that nothing orders one has its creation committed. Another one that began before that conflicts.
 #[test]
 fn sixty_four_sessions_at_once(rt: HostRuntime) -> Result<(), Fail> {
-    let scripts = scripts_of(&rt, rt.alloc(), &["create table t (a)"; 64])?;
-    assert!(rt; 1 <= scripts.len() && scripts.len() <= 64);
-    let transcript = serve(&rt, rt.alloc(), ROOMY, scripts.as_slice(), &NoGate)?;
+    let scripts = ["create table t (a)"; 64];
+    let transcript = served(&rt, rt.alloc(), ROOMY, &scripts, &NoGate)?;
     assert_eq!(rt; outcomes(&transcript), (1, 63));
     assert_eq!(rt; transcript.history.as_slice().len(), 1);
     Ok(())
@@ -262,6 +260,14 @@ fn never_fall(replies: &[Reply]) -> bool {
     true
 }
 
+/// How many of the replies are commits.
+fn commits(replies: &[Reply]) -> usize {
+    replies
+        .iter()
+        .filter(|reply| matches!(reply, Reply::Committed { .. }))
+        .count()
+}
+
 /// How many rounds of statements a session that runs freely has after its first statement.
 const ROUNDS: u32 = 20;
 
@@ -279,19 +285,12 @@ fn free_script(alloc: Global) -> Result<String, AllocError> {
 #[test]
 fn versions_of_a_session_never_fall(rt: HostRuntime) -> Result<(), Fail> {
     let text = free_script(rt.alloc())?;
-    let text = text.as_str();
-    let scripts = scripts_of(&rt, rt.alloc(), &[text; 4])?;
-    assert!(rt; 1 <= scripts.len() && scripts.len() <= 64);
-    let transcript = serve(&rt, rt.alloc(), ROOMY, scripts.as_slice(), &NoGate)?;
+    let transcript = served(&rt, rt.alloc(), ROOMY, &[text.as_str(); 4], &NoGate)?;
     let mut committed = 0usize;
     for log in transcript.sessions.as_slice() {
         let replies = log.replies.as_slice();
         assert!(rt; never_fall(replies));
-        let commits = replies
-            .iter()
-            .filter(|reply| matches!(reply, Reply::Committed { .. }))
-            .count();
-        committed = committed.saturating_add(commits);
+        committed = committed.saturating_add(commits(replies));
     }
     assert_eq!(rt; transcript.history.as_slice().len(), committed);
     Ok(())

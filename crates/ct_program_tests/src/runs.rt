@@ -13,6 +13,9 @@ use std::test::Fail;
 /// What the empty script writes.
 const EMPTY: &str = "session 1\nhistory\nend\n";
 
+/// What the empty script writes where it is named twice.
+const TWO: &str = "session 1\nsession 2\nhistory\nend\n";
+
 fn repeated(alloc: Global, bytes: &[u8], times: usize) -> Result<List<u8>, AllocError> {
     let mut all = Vec::new(alloc);
     for _ in 0..times {
@@ -37,15 +40,19 @@ fn sink(alloc: Global, fails: &[(u64, u32)]) -> Result<MemSink, Fail> {
 
 #[test]
 fn words_and_faults(rt: HostRuntime) -> Result<(), Fail> {
-    // The words, the reads and the writes that fail, and how the run of the empty script ends.
+    // The words, the reads and the writes that fail, and how the run ends. The file `f` is empty.
     let cases: [(&[&str], &[u64], &[(u64, u32)], Status, &str); _] = [
         (&["run", "f"], &[], &[], Status::Done, EMPTY),
         (&[], &[], &[], Status::Words, ""),
         (&["run"], &[], &[], Status::Words, ""),
-        (&["run", "f", "f"], &[], &[], Status::Words, ""),
+        (&["run"; 66], &[], &[], Status::Words, ""),
+        (&["run"; 65], &[], &[], Status::ReadFault, ""),
         (&["fill", "3"], &[], &[], Status::Words, ""),
         (&["run", "f"], &[1], &[], Status::ReadFault, ""),
         (&["run", "g"], &[], &[], Status::ReadFault, ""),
+        (&["run", "f", "f"], &[], &[], Status::Done, TWO),
+        (&["run", "f", "f"], &[2], &[], Status::ReadFault, ""),
+        (&["run", "f", "g"], &[], &[], Status::ReadFault, ""),
         (
             &["run", "f"],
             &[],

@@ -1,8 +1,7 @@
 -- What a session has done before its first statement, and after one statement more.
 use Rattle.std.proofs.Common.{◌≡◌, ℕ, suc, ◌+◌, ◌<◌, ◌≤◌, List, [], ◌∷◌, ◌++◌, length, map, take, get_or, refl, ap, sym, subst, ◌∙◌, arith, length-append}
-use Rattle.std.specs.Prelude.{Option, Some, None, IfSome, nat_eq, if◌then◌else◌, Bool, true, false, Vec}
+use Rattle.std.specs.Prelude.{Option, Some, None, IfSome, nat_eq, if◌then◌else◌, Bool, true, false}
 use Rattle.std.specs.Option.{option_to_list}
-use Rattle.std.specs.declared.alloc.Global.{Global}
 use Rattle.std.proofs.lemmas.List.{append-nil, take_more, take-map, map-append}
 use Rattle.std.proofs.lemmas.List.FromFn.{length-range_with_len}
 use Rattle.std.proofs.lemmas.Bool.{false≢true}
@@ -11,13 +10,10 @@ use Rattle.ct_word.specs.Change.{PlainCommit}
 use Rattle.ct_word.specs.Reading.{commits_of, meaning_of}
 use Rattle.ct_word.proofs.Prefixes.{prefix_same}
 use Rattle.ct_arena.specs.Counts.{opening, numbers_by, AreNumbered}
-use Rattle.ct_lex.specs.Texts.{texts}
 use Rattle.ct_transcript.specs.declared.reply.Reply.{Reply}
-use Rattle.ct_keeper.specs.Served.{first_pass}
-use Rattle.ct_session.specs.State.{SessionState, beginning}
-use Rattle.ct_session.specs.Standing.{Standing, state_in}
+use Rattle.ct_session.specs.State.{SessionState}
 use Rattle.ct_session.specs.Answers.{Answers, commits_by, committed_of}
-use Rattle.ct_serve.specs.Progress.{Progress, begun, HasExecuted, HasRun}
+use Rattle.ct_serve.specs.Progress.{Progress, ClientView, HasAnswered, HasExecuted, HasRun}
 use Rattle.ct_serve.proofs.Progress.{progress_push}
 
 pub no_commits : commits_of opening ≡ []
@@ -71,10 +67,9 @@ answered f xs i d N first s next words mid words' rs r lt p a =
       more : take (i + 1) (map f xs) ≡ take i (map f xs) ++ f (get_or xs i d) ∷ []
       more = take-map f (i + 1) xs ∙ ap (map f) (take_more xs i d lt) ∙ map-append f (take i xs) (get_or xs i d ∷ []) ∙ ap (λ l. l ++ f (get_or xs i d) ∷ []) (sym (take-map f i xs))
 
--- what a session did that executed its script from its beginning is all that it did
-pub has_run : (N n : ℕ) (before after : Standing) (script script' : List ℕ) (replies : Option (Vec Reply Global)) → before ≡ begun (first_pass n)
-    → HasExecuted N before after script script' replies → HasRun N after script' replies
-has_run N n before after script script' replies start done =
-    subst (λ k. IfSome replies (λ rs. Progress N (beginning k) (state_in after) opening after.pass.words (texts script') rs.items)) (sym (done.number ∙ ap (λ s. s.pass.session) start))
-    (subst (λ x. IfSome replies (λ rs. Progress N (beginning n) (state_in after) opening after.pass.words (texts x) rs.items)) (sym done.script_is)
-    (subst (λ s. IfSome replies (λ rs. Progress N (state_in s) (state_in after) s.pass.words after.pass.words (texts script) rs.items)) start done.progress))
+-- what a client did from the beginning of the log on is all that its session did
+pub has_run : (N : ℕ) (before after : ClientView) → before.pass.words ≡ opening → HasExecuted N before after → HasRun N after
+has_run N before after start done =
+    subst (λ k. IfSome after.replies (HasAnswered N k opening after.pass.words after.script)) (sym done.number)
+    (subst (λ x. IfSome after.replies (HasAnswered N before.pass.session opening after.pass.words x)) (sym done.script_is)
+    (subst (λ w. IfSome after.replies (HasAnswered N before.pass.session w after.pass.words before.script)) start done.answered))

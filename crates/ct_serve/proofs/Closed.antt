@@ -76,12 +76,12 @@ module _ (N : ℕ) (words : List ℕ) (formed : IsWellFormed words) (fits : leng
   -- a session whose commits in the log are as many as it made, and whose words the log begins with, is lawful
   lawful_one : (s : ℕ) (p : Seen) (l : SessionLog) → p.session ≡ s → HasEnded N p l → AreNumbered p.session p.mine words → IsPrefix p.words words → IsLawfulSession H words N s l
   lawful_one s p l number e numbered seen = subst (λ n. IsLawfulSession H words N n l) number (record {
-    last = e.last;
-    replies = e.progress.lawful words (record { log = seen; formed = formed; room = fits }) H stands;
+    last = e.answered.last;
+    replies = e.answered.progress.lawful words (record { log = seen; formed = formed; room = fits }) H stands;
     commits =
         same_by p.session 1 H (commits_of words) stands ∙ own_commits_stay p.session p.mine p.words words seen e.numbered numbered
-        ∙ e.progress.commits ∙ ap (λ cs. commits_by p.session 1 cs ++ filter_map committed_of l.replies) no_commits;
-    full = e.progress.full;
+        ∙ e.answered.progress.commits ∙ ap (λ cs. commits_by p.session 1 cs ++ filter_map committed_of l.replies) no_commits;
+    full = e.answered.progress.full;
   })
 
   lawful_all : (s : ℕ) (passes : List Seen) (logs : List SessionLog) → map (λ p. p.session) passes ≡ range_with_len s (length passes) → AllZip (HasEnded N) passes logs

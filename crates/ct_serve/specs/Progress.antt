@@ -1,7 +1,6 @@
 -- What a session has done so far: its replies are lawful, however the log goes on.
-use Rattle.std.specs.Prelude.{◌≡◌, ℕ, List, ◌++◌, length, filter_map, true, Option, None, IfSome, Vec}
+use Rattle.std.specs.Prelude.{◌≡◌, ◌<◌, ◌^◌, ℕ, List, [], ◌++◌, length, filter_map, true, Option, Some, None, IfSome}
 use Rattle.std.specs.List.{list_any}
-use Rattle.std.specs.declared.alloc.Global.{Global}
 use mathlib.Core.List.{IsPrefix}
 use Rattle.ct_word.specs.Reading.{commits_of}
 use Rattle.ct_word.specs.Change.{PlainCommit}
@@ -11,9 +10,7 @@ use Rattle.ct_transcript.specs.declared.reply.Reply.{Reply}
 use Rattle.ct_transcript.specs.declared.reply.SessionLog.{SessionLog}
 use Rattle.ct_arena.specs.Counts.{opening, AreNumbered}
 use Rattle.ct_arena.specs.Seen.{Seen}
-use Rattle.ct_keeper.specs.Served.{first_pass}
 use Rattle.ct_session.specs.State.{SessionState, beginning}
-use Rattle.ct_session.specs.Standing.{Standing, state_in}
 use Rattle.ct_session.specs.Answers.{committed_of, commits_by, is_full, GoesOn}
 use Rattle.ct_serve.specs.Sessions.{AreLawful, EndsAtFull}
 
@@ -27,23 +24,39 @@ pub record Progress (N : ℕ) (first last : SessionState) (words words' : List �
   pub full : EndsAtFull rs
   pub filled : list_any is_full rs ≡ true → length words' ≡ N
 
--- a session at its beginning, on the pass of its number
-abbrev pub begun : Seen → Standing
-begun pass = record { pass = pass; seen = 0; fresh = 0; transaction = None }
+-- what contracts see of a client: the pass of its session, its script, and the replies once the script was executed
+pub record ClientView : Type 0 where
+  pub pass : Seen
+  pub script : List ℕ
+  pub replies : Option (List Reply)
 
--- what a client's session did, and its script and replies: its replies to the script, if memory was not wanting for them,
--- are all that it did between the two
-pub record HasExecuted (N : ℕ) (before after : Standing) (script script' : List ℕ) (replies : Option (Vec Reply Global)) : Type 0 where
-  pub script_is : script' ≡ script
+-- the pass that is there; else one that has nothing
+abbrev pub seen_by : Option Seen → Seen
+seen_by (Some pass) = pass
+seen_by None = record { session = 0; words = []; made = 0; mine = 0 }
+
+-- a client before its script was executed: its session made no commit, and the script has not too many statements
+pub record IsReady (c : ClientView) : Type 0 where
+  pub none : c.pass.mine ≡ 0
+  pub few : length (texts c.script) < 2 ^ 18
+
+-- a session that was at its beginning, with these words, has these replies to a script
+pub record HasAnswered (N : ℕ) (session : ℕ) (words words' : List ℕ) (script : List ℕ) (rs : List Reply) : Type 0 where
+  pub last : SessionState
+  pub progress : Progress N (beginning session) last words words' (texts script) rs
+
+-- what a client has done between two looks at it: its replies, if memory was not wanting for them, are all that its session
+-- did from its beginning on
+pub record HasExecuted (N : ℕ) (before after : ClientView) : Type 0 where
+  pub script_is : after.script ≡ before.script
   pub number : after.pass.session ≡ before.pass.session
-  pub progress : IfSome replies (λ rs. Progress N (state_in before) (state_in after) before.pass.words after.pass.words (texts script) rs.items)
+  pub answered : IfSome after.replies (HasAnswered N before.pass.session before.pass.words after.pass.words before.script)
 
--- the replies of a client are all that its session did since its beginning
-abbrev pub HasRun : ℕ → Standing → List ℕ → Option (Vec Reply Global) → Type 0
-HasRun N s script replies = IfSome replies (λ rs. Progress N (beginning s.pass.session) (state_in s) opening s.pass.words (texts script) rs.items)
+-- the replies of a client are all that its session did on the log
+abbrev pub HasRun : ℕ → ClientView → Type 0
+HasRun N c = IfSome c.replies (HasAnswered N c.pass.session opening c.pass.words c.script)
 
 -- a session at its end, by its pass: its replies to its script are all that it did
 pub record HasEnded (N : ℕ) (pass : Seen) (log : SessionLog) : Type 0 where
-  pub last : SessionState
-  pub progress : Progress N (beginning pass.session) last opening pass.words (texts log.script) log.replies
+  pub answered : HasAnswered N pass.session opening pass.words log.script log.replies
   pub numbered : AreNumbered pass.session pass.mine pass.words

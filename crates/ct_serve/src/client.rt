@@ -1,28 +1,39 @@
-// A session and the script that it executes.
+// A script, and the session that executes it.
 
-ghost use Rattle.std.specs.Prelude.{◌≡◌, ◌<◌, ◌≤◌, ◌+◌, ◌^◌, map, length, IfOk};
+ghost use Rattle.std.specs.Prelude.{◌≡◌, ◌<◌, ◌≤◌, ◌+◌, ◌^◌, map, length, IfOk, IfSome, None};
 ghost use Rattle.ct_lex.specs.Texts.{texts};
 ghost use Rattle.ct_session.specs.Standing.{state_in};
-ghost use Rattle.ct_serve.specs.Progress.{Progress, HasExecuted};
+ghost use Rattle.ct_serve.specs.Progress.{Progress, IsReady, HasExecuted, HasRun, HasEnded};
 
-use ct_arena::Site;
+use ct_arena::{Pass, Site};
 use ct_keeper::Server;
 use ct_lex::split;
 use ct_outside::Gate;
 use ct_session::Session;
-use ct_transcript::Reply;
-use ct_word::{Memory, Text};
+use ct_transcript::{Reply, SessionLog};
+use ct_word::{List, Memory, Text};
 use std::alloc::Global;
+use std::marker::Model;
 use std::sync::Wait;
 
-/// A session and its script.
+/// A script, and the pass of the session that executes it.
 #[derive(Drop)]
 pub(crate) struct Client<N: Site> {
-    pub(crate) session: Session<N>,
-    pub(crate) script: Text,
-    /// The replies to the statements of the script, once it was executed; none where memory was wanting for the lists of
-    /// statements and replies.
-    pub(crate) replies: Option<Vec<Reply>>,
+    // It is away only while the script is executed.
+    pass: Option<Pass<N>>,
+    script: Text,
+    replies: Option<Vec<Reply>>,
+}
+
+impl<N: Site> Model for Client<N> {
+    ghost use Rattle.std.specs.Prelude.{IsSome, option_map};
+    ghost use Rattle.ct_serve.specs.Progress.{ClientView, seen_by};
+
+    ghost Value = { ClientView };
+
+    ghost view = { λ c. record { pass = seen_by c.pass; script = c.script; replies = option_map (λ r. r.items) c.replies } };
+
+    ghost invariant = { λ c. IsSome c.pass };
 }
 
 /// The replies to statement texts, in their order. The gate is told of each text, numbered from 1.
@@ -77,7 +88,18 @@ fn answer_script<N: Site, R: Wait, G: Gate>(
 }
 
 impl<N: Site> Client<N> {
-    /// Executes the script. The gate is told of each statement, numbered from 1.
+    /// A client whose script was not executed.
+    pub(crate) fn make(pass: Pass<N>, script: Text) -> Client<N>
+        ensures { result ≡ record { pass = pass; script = script; replies = None } }
+    {
+        Client {
+            pass: Some(pass),
+            script,
+            replies: None,
+        }
+    }
+
+    /// Executes the script by a session of its own. The gate is told of each statement, numbered from 1.
     pub(crate) fn execute<R: Wait, G: Gate>(
         &mut self,
         rt: &R,
@@ -85,14 +107,38 @@ impl<N: Site> Client<N> {
         server: &Server<N>,
         gate: &G,
     )
-        requires few { self.old.session.pass.mine + length (texts self.old.script) < 2 ^ 18 }
-        ensures { HasExecuted N.log.cap self.old.session self.new.session self.old.script self.new.script self.new.replies }
+        requires { IsReady self.old }
+        ensures { HasExecuted N.log.cap self.old self.new }
     {
+        let Some(pass) = self.pass.take() else {
+            unreachable!();
+        };
+        let mut session = Session::make(pass);
         let script = self.script.as_str();
-        let replies = answer_script(rt, alloc, server, &mut self.session, script, gate);
+        let replies = answer_script(rt, alloc, server, &mut session, script, gate);
+        self.pass = Some(session.finish());
         self.replies = match replies {
             Ok(replies) => Some(replies),
             Err(_) => None,
         };
+    }
+
+    /// The pass and what was said, or `None` where memory was wanting for the lists of statements and replies.
+    pub(crate) fn finish(self) -> Option<(Pass<N>, SessionLog)>
+        requires run { HasRun N.log.cap self }
+        ensures ended { IfSome result (λ r. HasEnded N.log.cap r.0 r.1) }
+        ensures number { IfSome result (λ r. r.0.session ≡ self.pass.session) }
+        ensures script { IfSome result (λ r. r.1.script ≡ self.script) }
+    {
+        let Client {
+            pass,
+            script,
+            replies,
+        } = self;
+        let Some(pass) = pass else { unreachable!() };
+        // The commits of the session in its words are all that it made.
+        let _ = pass.words();
+        let replies = List::from_vec(replies?);
+        Some((pass, SessionLog { script, replies }))
     }
 }

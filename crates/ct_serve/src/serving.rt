@@ -5,14 +5,13 @@ ghost use Rattle.std.specs.List.{range_with_len, AllZip};
 ghost use Rattle.ct_lex.specs.Texts.{texts};
 ghost use Rattle.ct_keeper.specs.Served.{first_pass};
 ghost use Rattle.ct_serve.specs.Lawful.{Lawful};
-ghost use Rattle.ct_serve.specs.Progress.{begun, HasExecuted, HasRun, HasEnded};
+ghost use Rattle.ct_serve.specs.Progress.{ClientView, IsReady, HasExecuted, HasRun, HasEnded};
 
 use crate::client::Client;
 use ct_arena::{Blank, Pass, Site};
 use ct_history::commits;
 use ct_keeper::Server;
 use ct_outside::Gate;
-use ct_session::Session;
 use ct_transcript::{SessionLog, Transcript};
 use ct_word::{List, Memory, Text};
 use std::alloc::Global;
@@ -30,20 +29,14 @@ fn clients_of<N: Site>(
     passes: Vec<Pass<N>>,
     scripts: &[Text],
 ) -> Result<Vec<Client<N>>, Memory>
-    requires none { All (λ pass. pass.mine ≡ 0) passes.items }
     requires count { length passes.items ≡ length scripts.now }
-    ensures sessions { IfOk result (λ clients. map (λ c. c.session) clients.items ≡ map begun passes.items) }
+    ensures passes { IfOk result (λ clients. map (λ c. c.pass) clients.items ≡ passes.items) }
     ensures scripts { IfOk result (λ clients. map (λ c. c.script) clients.items ≡ scripts.now) }
 {
     let mut clients = Vec::new(alloc);
     for pass in passes {
         let script = scripts[clients.len()].clone()?;
-        let session = Session::make(pass);
-        clients.push(Client {
-            session,
-            script,
-            replies: None,
-        })?;
+        clients.push(Client::make(pass, script))?;
     }
     Ok(clients)
 }
@@ -58,14 +51,14 @@ fn execute_all<N: Site + Send + Sync, R: Threads + Wait + Sync, G: Gate + Sync>(
     clients: &mut [Client<N>],
 )
     requires some { 0 < length clients.old }
-    requires few { All (λ c. c.session.pass.mine + length (texts c.script) < 2 ^ 18) clients.old }
+    requires ready { All IsReady clients.old }
     ensures count { length clients.new ≡ length clients.old }
-    ensures each { (k : ℕ) (d : Client N) → k < length clients.old → HasExecuted N.log.cap (slice_index_or clients.old k d).session (slice_index_or clients.new k d).session (slice_index_or clients.old k d).script (slice_index_or clients.new k d).script (slice_index_or clients.new k d).replies }
+    ensures each { (k : ℕ) (d : ClientView) → k < length clients.old → HasExecuted N.log.cap (slice_index_or clients.old k d) (slice_index_or clients.new k d) }
 {
     let threads = clients.len();
     let run = |_: usize, client: &mut Client<N>|
-        requires { client.old.session.pass.mine + length (texts client.old.script) < 2 ^ 18 }
-        ensures { HasExecuted N.log.cap client.old.session client.new.session client.old.script client.new.script client.new.replies }
+        requires { IsReady client.old }
+        ensures { HasExecuted N.log.cap client.old client.new }
     { client.execute(rt, alloc, server, gate) };
     thread::for_each_mut(rt, clients, threads, &run);
 }
@@ -78,28 +71,19 @@ fn finished<N: Site>(
     alloc: Global,
     clients: Vec<Client<N>>,
 ) -> Result<(Vec<Pass<N>>, List<SessionLog>), Memory>
-    requires run { All (λ c. HasRun N.log.cap c.session c.script c.replies) clients.items }
+    requires run { All (HasRun N.log.cap) clients.items }
     ensures ended { IfOk result (λ r. AllZip (HasEnded N.log.cap) r.0.items r.1) }
-    ensures numbers { IfOk result (λ r. map (λ p. p.session) r.0.items ≡ map (λ c. c.session.pass.session) clients.items) }
+    ensures numbers { IfOk result (λ r. map (λ p. p.session) r.0.items ≡ map (λ c. c.pass.session) clients.items) }
     ensures scripts { IfOk result (λ r. map (λ l. l.script) r.1 ≡ map (λ c. c.script) clients.items) }
 {
     let mut passes = Vec::new(alloc);
     let mut logs = Vec::new(alloc);
     for client in clients {
-        let Client {
-            session,
-            script,
-            replies,
-        } = client;
-        let Some(replies) = replies else {
+        let Some((pass, log)) = client.finish() else {
             return Err(Memory);
         };
-        let replies = List::from_vec(replies);
-        let pass = session.finish();
-        // The commits of the session in its words are all that it made.
-        let _ = pass.words();
         passes.push(pass)?;
-        logs.push(SessionLog { script, replies })?;
+        logs.push(log)?;
     }
     Ok((passes, List::from_vec(logs)))
 }
@@ -114,8 +98,8 @@ fn end<N: Site>(
     clients: Vec<Client<N>>,
 ) -> Result<Transcript, Memory>
     requires number { N.sessions ≡ length clients.items }
-    requires numbers { map (λ c. c.session.pass.session) clients.items ≡ range_with_len 1 (length clients.items) }
-    requires run { All (λ c. HasRun N.log.cap c.session c.script c.replies) clients.items }
+    requires numbers { map (λ c. c.pass.session) clients.items ≡ range_with_len 1 (length clients.items) }
+    requires run { All (HasRun N.log.cap) clients.items }
     ensures lawful { IfOk result (λ transcript. Lawful transcript N.log.cap) }
     ensures scripts { IfOk result (λ transcript. map (λ s. s.script) transcript.sessions ≡ map (λ c. c.script) clients.items) }
 {

@@ -1,9 +1,6 @@
 use Rattle.std.proofs.Common.{◌≡◌, ◌<◌, ◌+◌, ◌∷◌, [], ap, subst, ◌∙◌, length, get_or, arith, length-append}
-use Rattle.std.specs.Prelude.{All}
-use Rattle.std.specs.Vec.Iter.{into_iter_items}
-use Rattle.std.proofs.lemmas.List.Elements.{All-tail}
-use Rattle.ct_arena.specs.Seen.{Seen}
-use Rattle.ct_serve.proofs.Clients.{moved, more_scripts}
+use Rattle.ct_serve.specs.Progress.{ClientView}
+use Rattle.ct_serve.proofs.Clients.{moved_whole, more_scripts}
 use Rattle.ct_serve.proofs.serving.clients_of.Goals as goal
 
 pub loop-pass-preserved : goal.loop-pass-preserved
@@ -18,10 +15,9 @@ loop-pass-preserved g c =
     let shorter = ap length steps.0 in
     let lt : length xs < length scripts = let n = i.count in omega (arith, n, shorter) in
     record {
-      sessions = moved _ _ _ _ _ _ _ _ _ i.sessions steps.0 pushed c.make-session.ensures;
+      passes = moved_whole (λ (x : ClientView). x.pass) _ _ _ _ _ _ _ i.passes steps.0 pushed (ap (λ (x : ClientView). x.pass) c.make.ensures);
       scripts = more_scripts _ _ xs _ _ d i.scripts pushed lt
-          (c.in_ok-script.ensures.cases ∙ c.index-scripts-len.is ∙ ap (λ n. get_or scripts n d) (c.len.ensures ∙ c.loop-pass.clients.ok.0));
-      none = All-tail (λ (p : Seen). p.mine ≡ 0) c.in-Some.pass (into_iter_items c.next.new.self) (subst (All (λ (p : Seen). p.mine ≡ 0)) steps.0 i.none);
+          (ap (λ (x : ClientView). x.script) c.make.ensures ∙ c.in_ok-script.ensures.cases ∙ c.index-scripts-len.is ∙ ap (λ n. get_or scripts n d) (c.len.ensures ∙ c.loop-pass.clients.ok.0));
       count = let n = i.count in omega (arith, n, grown, shorter);
       len = let n = i.len in omega (arith, n, steps.1, shorter);
     }

@@ -11,8 +11,8 @@ invariant-loop-client g l =
     let rest = into_iter_items l.client-iterator in
     record {
       ended : AllZip (HasEnded N) l.passes.items l.logs.items;
-      numbers : map (λ p. p.session) l.passes.items ++ map (λ c. c.session.pass.session) rest ≡ map (λ c. c.session.pass.session) l.fn.clients.items;
+      numbers : map (λ p. p.session) l.passes.items ++ map (λ c. c.pass.session) rest ≡ map (λ c. c.pass.session) l.fn.clients.items;
       scripts : map (λ log. log.script) l.logs.items ++ map (λ c. c.script) rest ≡ map (λ c. c.script) l.fn.clients.items;
-      run : All (λ c. HasRun N c.session c.script c.replies) rest;
+      run : All (HasRun N) rest;
       len : into_iter_len l.client-iterator ≡ length rest;
     }
