@@ -3,15 +3,7 @@
 use crate::played::{Played, play};
 use std::test::Fail;
 
-/// Both transactions read the counter and add its successor: the second one is refused, reads again, and commits.
-#[test]
-fn lost_update(rt: HostRuntime) -> Result<(), Fail> {
-    let scripts = [
-        "create table t (n); insert into t values (1); begin; select n from t; insert into t values (2); commit;",
-        "begin; select n from t; insert into t values (2); commit;
-         begin; select n from t; insert into t values (3); commit;",
-    ];
-    let first = "\
+const LOST_UPDATE_FIRST: &str = "\
 session 1
 1 committed 1
 2 committed 2
@@ -43,7 +35,8 @@ history
   insert into t (3)
 end
 ";
-    let second = "\
+
+const LOST_UPDATE_SECOND: &str = "\
 session 1
 1 committed 1
 2 committed 2
@@ -75,21 +68,29 @@ history
   insert into t (3)
 end
 ";
+
+/// Both transactions read the counter and add its successor: the second one is refused, reads again, and commits.
+#[test]
+fn lost_update(rt: HostRuntime) -> Result<(), Fail> {
+    let scripts = [
+        "create table t (n); insert into t values (1); begin; select n from t; insert into t values (2); commit;",
+        "begin; select n from t; insert into t values (2); commit;
+         begin; select n from t; insert into t values (3); commit;",
+    ];
     let orders: [Played<'_>; _] = [
-        (&[1, 1, 1, 2, 1, 2, 1, 2, 1, 2, 2, 2, 2, 2], first),
-        (&[1, 1, 2, 1, 2, 1, 2, 1, 2, 1, 2, 2, 2, 2], second),
+        (
+            &[1, 1, 1, 2, 1, 2, 1, 2, 1, 2, 2, 2, 2, 2],
+            LOST_UPDATE_FIRST,
+        ),
+        (
+            &[1, 1, 2, 1, 2, 1, 2, 1, 2, 1, 2, 2, 2, 2],
+            LOST_UPDATE_SECOND,
+        ),
     ];
     play(&rt, rt.alloc(), &scripts, &orders)
 }
 
-/// Each of two transactions writes the table that the other one reads: one of them is refused.
-#[test]
-fn write_skew(rt: HostRuntime) -> Result<(), Fail> {
-    let scripts = [
-        "create table x (a); create table y (a); begin; select a from x; insert into y values (1); commit;",
-        "begin; select a from y; insert into x values (1); commit;",
-    ];
-    let first = "\
+const WRITE_SKEW_FIRST: &str = "\
 session 1
 1 committed 1
 2 committed 2
@@ -111,7 +112,8 @@ history
   insert into y (1)
 end
 ";
-    let second = "\
+
+const WRITE_SKEW_SECOND: &str = "\
 session 1
 1 committed 1
 2 committed 2
@@ -133,22 +135,22 @@ history
   insert into x (1)
 end
 ";
+
+/// Each of two transactions writes the table that the other one reads: one of them is refused.
+#[test]
+fn write_skew(rt: HostRuntime) -> Result<(), Fail> {
+    let scripts = [
+        "create table x (a); create table y (a); begin; select a from x; insert into y values (1); commit;",
+        "begin; select a from y; insert into x values (1); commit;",
+    ];
     let orders: [Played<'_>; _] = [
-        (&[1, 1, 1, 2, 1, 2, 1, 2, 1, 2], first),
-        (&[1, 1, 2, 1, 2, 1, 2, 1, 2, 1], second),
+        (&[1, 1, 1, 2, 1, 2, 1, 2, 1, 2], WRITE_SKEW_FIRST),
+        (&[1, 1, 2, 1, 2, 1, 2, 1, 2, 1], WRITE_SKEW_SECOND),
     ];
     play(&rt, rt.alloc(), &scripts, &orders)
 }
 
-/// A row that the predicate of a query would find comes meanwhile. The query had no row, and is a read all the same.
-#[test]
-fn phantom(rt: HostRuntime) -> Result<(), Fail> {
-    let scripts = [
-        "create table t (a); create table u (a); insert into t values (1);
-         begin; select a from t where a = 2; insert into u values (0); commit;",
-        "insert into t values (2);",
-    ];
-    let meanwhile = "\
+const PHANTOM_MEANWHILE: &str = "\
 session 1
 1 committed 1
 2 committed 2
@@ -170,7 +172,8 @@ history
   insert into t (2)
 end
 ";
-    let before = "\
+
+const PHANTOM_BEFORE: &str = "\
 session 1
 1 committed 1
 2 committed 2
@@ -195,23 +198,23 @@ history
   insert into u (0)
 end
 ";
+
+/// A row that the predicate of a query would find comes meanwhile. The query had no row, and is a read all the same.
+#[test]
+fn phantom(rt: HostRuntime) -> Result<(), Fail> {
+    let scripts = [
+        "create table t (a); create table u (a); insert into t values (1);
+         begin; select a from t where a = 2; insert into u values (0); commit;",
+        "insert into t values (2);",
+    ];
     let orders: [Played<'_>; _] = [
-        (&[1, 1, 1, 1, 1, 2, 1, 1], meanwhile),
-        (&[1, 1, 1, 2, 1, 1, 1, 1], before),
+        (&[1, 1, 1, 1, 1, 2, 1, 1], PHANTOM_MEANWHILE),
+        (&[1, 1, 1, 2, 1, 1, 1, 1], PHANTOM_BEFORE),
     ];
     play(&rt, rt.alloc(), &scripts, &orders)
 }
 
-/// Session 2 takes from `x` by what it saw of both accounts, session 1 pays into `y`, and session 3 only reads. Where
-/// session 3 sees the payment and no withdrawal, session 2 can't have come first, so it is refused.
-#[test]
-fn read_only_anomaly(rt: HostRuntime) -> Result<(), Fail> {
-    let scripts = [
-        "create table x (n); create table y (n); begin; select n from y; insert into y values (20); commit;",
-        "begin; select n from x; select n from y; insert into x values (-11); commit;",
-        "begin; select n from x; select n from y; commit;",
-    ];
-    let payment_first = "\
+const READ_ONLY_ANOMALY_PAYMENT_FIRST: &str = "\
 session 1
 1 committed 1
 2 committed 2
@@ -240,7 +243,8 @@ history
   insert into y (20)
 end
 ";
-    let withdrawal_first = "\
+
+const READ_ONLY_ANOMALY_WITHDRAWAL_FIRST: &str = "\
 session 1
 1 committed 1
 2 committed 2
@@ -271,27 +275,30 @@ history
   insert into y (20)
 end
 ";
+
+/// Session 2 takes from `x` by what it saw of both accounts, session 1 pays into `y`, and session 3 only reads. Where
+/// session 3 sees the payment and no withdrawal, session 2 can't have come first, so it is refused.
+#[test]
+fn read_only_anomaly(rt: HostRuntime) -> Result<(), Fail> {
+    let scripts = [
+        "create table x (n); create table y (n); begin; select n from y; insert into y values (20); commit;",
+        "begin; select n from x; select n from y; insert into x values (-11); commit;",
+        "begin; select n from x; select n from y; commit;",
+    ];
     let orders: [Played<'_>; _] = [
         (
             &[1, 1, 2, 2, 2, 1, 1, 1, 1, 3, 3, 3, 3, 2, 2],
-            payment_first,
+            READ_ONLY_ANOMALY_PAYMENT_FIRST,
         ),
         (
             &[1, 1, 2, 2, 2, 1, 1, 2, 2, 3, 3, 3, 3, 1, 1],
-            withdrawal_first,
+            READ_ONLY_ANOMALY_WITHDRAWAL_FIRST,
         ),
     ];
     play(&rt, rt.alloc(), &scripts, &orders)
 }
 
-/// Of two changes of one commit a transaction sees both or none, whichever table it asks before and after.
-#[test]
-fn read_skew(rt: HostRuntime) -> Result<(), Fail> {
-    let scripts = [
-        "create table x (a); create table y (a); begin; select a from x; select a from y; commit;",
-        "begin; insert into x values (1); insert into y values (2); commit;",
-    ];
-    let meanwhile = "\
+const READ_SKEW_MEANWHILE: &str = "\
 session 1
 1 committed 1
 2 committed 2
@@ -314,7 +321,8 @@ history
   insert into y (2)
 end
 ";
-    let before = "\
+
+const READ_SKEW_BEFORE: &str = "\
 session 1
 1 committed 1
 2 committed 2
@@ -339,21 +347,22 @@ history
   insert into y (2)
 end
 ";
+
+/// Of two changes of one commit a transaction sees both or none, whichever table it asks before and after.
+#[test]
+fn read_skew(rt: HostRuntime) -> Result<(), Fail> {
+    let scripts = [
+        "create table x (a); create table y (a); begin; select a from x; select a from y; commit;",
+        "begin; insert into x values (1); insert into y values (2); commit;",
+    ];
     let orders: [Played<'_>; _] = [
-        (&[1, 1, 1, 1, 2, 2, 2, 2, 1, 1], meanwhile),
-        (&[1, 1, 2, 2, 2, 2, 1, 1, 1, 1], before),
+        (&[1, 1, 1, 1, 2, 2, 2, 2, 1, 1], READ_SKEW_MEANWHILE),
+        (&[1, 1, 2, 2, 2, 2, 1, 1, 1, 1], READ_SKEW_BEFORE),
     ];
     play(&rt, rt.alloc(), &scripts, &orders)
 }
 
-/// Changes that are rolled back later are never seen.
-#[test]
-fn dirty_read(rt: HostRuntime) -> Result<(), Fail> {
-    let scripts = [
-        "create table t (a); select * from t; select * from t;",
-        "begin; insert into t values (1); rollback;",
-    ];
-    let expected = "\
+const DIRTY_READ_EXPECTED: &str = "\
 session 1
 1 committed 1
 2 rows (a) at 1
@@ -367,21 +376,22 @@ history
   create table t (a)
 end
 ";
+
+/// Changes that are rolled back later are never seen.
+#[test]
+fn dirty_read(rt: HostRuntime) -> Result<(), Fail> {
+    let scripts = [
+        "create table t (a); select * from t; select * from t;",
+        "begin; insert into t values (1); rollback;",
+    ];
     let orders: [Played<'_>; _] = [
-        (&[1, 2, 2, 1, 2, 1], expected),
-        (&[1, 1, 2, 2, 1, 2], expected),
+        (&[1, 2, 2, 1, 2, 1], DIRTY_READ_EXPECTED),
+        (&[1, 1, 2, 2, 1, 2], DIRTY_READ_EXPECTED),
     ];
     play(&rt, rt.alloc(), &scripts, &orders)
 }
 
-/// Changes that the same transaction replaces later are never seen, and its last ones only after its commit.
-#[test]
-fn intermediate_read(rt: HostRuntime) -> Result<(), Fail> {
-    let scripts = [
-        "create table t (a); select * from t; select * from t; select * from t;",
-        "begin; insert into t values (1); delete from t where a = 1; insert into t values (2); commit;",
-    ];
-    let expected = "\
+const INTERMEDIATE_READ_EXPECTED: &str = "\
 session 1
 1 committed 1
 2 rows (a) at 1
@@ -403,22 +413,22 @@ history
   insert into t (2)
 end
 ";
+
+/// Changes that the same transaction replaces later are never seen, and its last ones only after its commit.
+#[test]
+fn intermediate_read(rt: HostRuntime) -> Result<(), Fail> {
+    let scripts = [
+        "create table t (a); select * from t; select * from t; select * from t;",
+        "begin; insert into t values (1); delete from t where a = 1; insert into t values (2); commit;",
+    ];
     let orders: [Played<'_>; _] = [
-        (&[1, 2, 2, 1, 2, 1, 2, 2, 1], expected),
-        (&[1, 2, 2, 1, 2, 2, 1, 2, 1], expected),
+        (&[1, 2, 2, 1, 2, 1, 2, 2, 1], INTERMEDIATE_READ_EXPECTED),
+        (&[1, 2, 2, 1, 2, 2, 1, 2, 1], INTERMEDIATE_READ_EXPECTED),
     ];
     play(&rt, rt.alloc(), &scripts, &orders)
 }
 
-/// A query that is repeated in a transaction is answered alike, whatever is committed meanwhile.
-#[test]
-fn repeated_read(rt: HostRuntime) -> Result<(), Fail> {
-    let scripts = [
-        "create table t (a); insert into t values (1);
-         begin; select * from t; select * from t; select * from t; commit;",
-        "insert into t values (2); delete from t where a = 1;",
-    ];
-    let expected = "\
+const REPEATED_READ_EXPECTED: &str = "\
 session 1
 1 committed 1
 2 committed 2
@@ -444,9 +454,18 @@ history
   delete from t where $1 = 1
 end
 ";
+
+/// A query that is repeated in a transaction is answered alike, whatever is committed meanwhile.
+#[test]
+fn repeated_read(rt: HostRuntime) -> Result<(), Fail> {
+    let scripts = [
+        "create table t (a); insert into t values (1);
+         begin; select * from t; select * from t; select * from t; commit;",
+        "insert into t values (2); delete from t where a = 1;",
+    ];
     let orders: [Played<'_>; _] = [
-        (&[1, 1, 1, 1, 2, 1, 2, 1, 1], expected),
-        (&[1, 1, 1, 2, 2, 1, 1, 1, 1], expected),
+        (&[1, 1, 1, 1, 2, 1, 2, 1, 1], REPEATED_READ_EXPECTED),
+        (&[1, 1, 1, 2, 2, 1, 1, 1, 1], REPEATED_READ_EXPECTED),
     ];
     play(&rt, rt.alloc(), &scripts, &orders)
 }

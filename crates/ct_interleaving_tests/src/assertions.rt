@@ -3,15 +3,7 @@
 use crate::played::{Played, play};
 use std::test::Fail;
 
-/// Of two transactions with an assertion each the second to commit has read the worlds before the first one changed them.
-/// What its statements assert afterwards is judged by both.
-#[test]
-fn two_assertions(rt: HostRuntime) -> Result<(), Fail> {
-    let scripts = [
-        "begin; assert ?x = 1; commit;",
-        "begin; assert ?y = 2; commit; assert ?y = 2; assert ?x = 2;",
-    ];
-    let first = "\
+const TWO_ASSERTIONS_FIRST: &str = "\
 session 1
 1 begun at 0
 2 pending at 0 plus 1
@@ -29,7 +21,8 @@ history
   assert ?y = 2
 end
 ";
-    let second = "\
+
+const TWO_ASSERTIONS_SECOND: &str = "\
 session 1
 1 begun at 0
 2 pending at 0 plus 1
@@ -49,18 +42,23 @@ history
   assert ?x = 2
 end
 ";
+
+/// Of two transactions with an assertion each the second to commit has read the worlds before the first one changed them.
+/// What its statements assert afterwards is judged by both.
+#[test]
+fn two_assertions(rt: HostRuntime) -> Result<(), Fail> {
+    let scripts = [
+        "begin; assert ?x = 1; commit;",
+        "begin; assert ?y = 2; commit; assert ?y = 2; assert ?x = 2;",
+    ];
     let orders: [Played<'_>; _] = [
-        (&[1, 2, 1, 2, 1, 2, 2, 2], first),
-        (&[2, 1, 2, 1, 2, 1, 2, 2], second),
+        (&[1, 2, 1, 2, 1, 2, 2, 2], TWO_ASSERTIONS_FIRST),
+        (&[2, 1, 2, 1, 2, 1, 2, 2], TWO_ASSERTIONS_SECOND),
     ];
     play(&rt, rt.alloc(), &scripts, &orders)
 }
 
-/// An assertion outside a transaction contradicts one within a transaction: whichever comes first stays.
-#[test]
-fn contradicting_assertions(rt: HostRuntime) -> Result<(), Fail> {
-    let scripts = ["begin; assert ?x = 1; commit;", "assert ?x = 2;"];
-    let meanwhile = "\
+const CONTRADICTING_ASSERTIONS_MEANWHILE: &str = "\
 session 1
 1 begun at 0
 2 pending at 0 plus 1
@@ -72,7 +70,8 @@ history
   assert ?x = 2
 end
 ";
-    let before = "\
+
+const CONTRADICTING_ASSERTIONS_BEFORE: &str = "\
 session 1
 1 begun at 1
 2 refused Inconsistent
@@ -84,7 +83,8 @@ history
   assert ?x = 2
 end
 ";
-    let afterwards = "\
+
+const CONTRADICTING_ASSERTIONS_AFTERWARDS: &str = "\
 session 1
 1 begun at 0
 2 pending at 0 plus 1
@@ -96,19 +96,20 @@ history
   assert ?x = 1
 end
 ";
+
+/// An assertion outside a transaction contradicts one within a transaction: whichever comes first stays.
+#[test]
+fn contradicting_assertions(rt: HostRuntime) -> Result<(), Fail> {
+    let scripts = ["begin; assert ?x = 1; commit;", "assert ?x = 2;"];
     let orders: [Played<'_>; _] = [
-        (&[1, 1, 2, 1], meanwhile),
-        (&[2, 1, 1, 1], before),
-        (&[1, 1, 1, 2], afterwards),
+        (&[1, 1, 2, 1], CONTRADICTING_ASSERTIONS_MEANWHILE),
+        (&[2, 1, 1, 1], CONTRADICTING_ASSERTIONS_BEFORE),
+        (&[1, 1, 1, 2], CONTRADICTING_ASSERTIONS_AFTERWARDS),
     ];
     play(&rt, rt.alloc(), &scripts, &orders)
 }
 
-/// An assertion of what is true anyway is one all the same.
-#[test]
-fn assertion_that_says_nothing(rt: HostRuntime) -> Result<(), Fail> {
-    let scripts = ["begin; assert ?x = 1; commit;", "assert 1 = 1;"];
-    let meanwhile = "\
+const ASSERTION_THAT_SAYS_NOTHING_MEANWHILE: &str = "\
 session 1
 1 begun at 0
 2 pending at 0 plus 1
@@ -120,7 +121,8 @@ history
   assert true
 end
 ";
-    let afterwards = "\
+
+const ASSERTION_THAT_SAYS_NOTHING_AFTERWARDS: &str = "\
 session 1
 1 begun at 0
 2 pending at 0 plus 1
@@ -134,19 +136,19 @@ history
   assert true
 end
 ";
-    let orders: [Played<'_>; _] = [(&[1, 1, 2, 1], meanwhile), (&[1, 1, 1, 2], afterwards)];
+
+/// An assertion of what is true anyway is one all the same.
+#[test]
+fn assertion_that_says_nothing(rt: HostRuntime) -> Result<(), Fail> {
+    let scripts = ["begin; assert ?x = 1; commit;", "assert 1 = 1;"];
+    let orders: [Played<'_>; _] = [
+        (&[1, 1, 2, 1], ASSERTION_THAT_SAYS_NOTHING_MEANWHILE),
+        (&[1, 1, 1, 2], ASSERTION_THAT_SAYS_NOTHING_AFTERWARDS),
+    ];
     play(&rt, rt.alloc(), &scripts, &orders)
 }
 
-/// A transaction that only asks has nothing to commit, so it never conflicts. It sees no later assertion.
-#[test]
-fn a_transaction_that_only_asks(rt: HostRuntime) -> Result<(), Fail> {
-    let scripts = [
-        "create table t (a); insert into t values (?x);
-         begin; certain select a from t; commit; certain select a from t;",
-        "assert ?x = 1;",
-    ];
-    let meanwhile = "\
+const A_TRANSACTION_THAT_ONLY_ASKS_MEANWHILE: &str = "\
 session 1
 1 committed 1
 2 committed 2
@@ -166,7 +168,8 @@ history
   assert ?x = 1
 end
 ";
-    let before = "\
+
+const A_TRANSACTION_THAT_ONLY_ASKS_BEFORE: &str = "\
 session 1
 1 committed 1
 2 committed 2
@@ -187,23 +190,30 @@ history
   assert ?x = 1
 end
 ";
+
+/// A transaction that only asks has nothing to commit, so it never conflicts. It sees no later assertion.
+#[test]
+fn a_transaction_that_only_asks(rt: HostRuntime) -> Result<(), Fail> {
+    let scripts = [
+        "create table t (a); insert into t values (?x);
+         begin; certain select a from t; commit; certain select a from t;",
+        "assert ?x = 1;",
+    ];
     let orders: [Played<'_>; _] = [
-        (&[1, 1, 1, 1, 2, 1, 1], meanwhile),
-        (&[1, 1, 1, 2, 1, 1, 1], meanwhile),
-        (&[1, 1, 2, 1, 1, 1, 1], before),
+        (
+            &[1, 1, 1, 1, 2, 1, 1],
+            A_TRANSACTION_THAT_ONLY_ASKS_MEANWHILE,
+        ),
+        (
+            &[1, 1, 1, 2, 1, 1, 1],
+            A_TRANSACTION_THAT_ONLY_ASKS_MEANWHILE,
+        ),
+        (&[1, 1, 2, 1, 1, 1, 1], A_TRANSACTION_THAT_ONLY_ASKS_BEFORE),
     ];
     play(&rt, rt.alloc(), &scripts, &orders)
 }
 
-/// A query has read the worlds too, so a transaction that asks and then changes something conflicts with an assertion.
-#[test]
-fn a_transaction_that_asks_and_changes(rt: HostRuntime) -> Result<(), Fail> {
-    let scripts = [
-        "create table t (a); create table u (a); insert into t values (?x);
-         begin; select a from t; insert into u values (1); commit; select a from u;",
-        "assert ?x = 1;",
-    ];
-    let meanwhile = "\
+const A_TRANSACTION_THAT_ASKS_AND_CHANGES_MEANWHILE: &str = "\
 session 1
 1 committed 1
 2 committed 2
@@ -228,7 +238,8 @@ history
   assert ?x = 1
 end
 ";
-    let before = "\
+
+const A_TRANSACTION_THAT_ASKS_AND_CHANGES_BEFORE: &str = "\
 session 1
 1 committed 1
 2 committed 2
@@ -257,21 +268,29 @@ history
   insert into u (1)
 end
 ";
+
+/// A query has read the worlds too, so a transaction that asks and then changes something conflicts with an assertion.
+#[test]
+fn a_transaction_that_asks_and_changes(rt: HostRuntime) -> Result<(), Fail> {
+    let scripts = [
+        "create table t (a); create table u (a); insert into t values (?x);
+         begin; select a from t; insert into u values (1); commit; select a from u;",
+        "assert ?x = 1;",
+    ];
     let orders: [Played<'_>; _] = [
-        (&[1, 1, 1, 1, 1, 2, 1, 1, 1], meanwhile),
-        (&[1, 1, 1, 2, 1, 1, 1, 1, 1], before),
+        (
+            &[1, 1, 1, 1, 1, 2, 1, 1, 1],
+            A_TRANSACTION_THAT_ASKS_AND_CHANGES_MEANWHILE,
+        ),
+        (
+            &[1, 1, 1, 2, 1, 1, 1, 1, 1],
+            A_TRANSACTION_THAT_ASKS_AND_CHANGES_BEFORE,
+        ),
     ];
     play(&rt, rt.alloc(), &scripts, &orders)
 }
 
-/// A transaction that reads nothing commits beside an assertion, and the assertion beside it, in either order.
-#[test]
-fn a_transaction_that_reads_nothing(rt: HostRuntime) -> Result<(), Fail> {
-    let scripts = [
-        "create table t (a); begin; insert into t values (1); commit;",
-        "begin; assert ?x = 1; commit;",
-    ];
-    let first = "\
+const A_TRANSACTION_THAT_READS_NOTHING_FIRST: &str = "\
 session 1
 1 committed 1
 2 begun at 1
@@ -290,7 +309,8 @@ history
   assert ?x = 1
 end
 ";
-    let second = "\
+
+const A_TRANSACTION_THAT_READS_NOTHING_SECOND: &str = "\
 session 1
 1 committed 1
 2 begun at 1
@@ -309,9 +329,23 @@ history
   insert into t (1)
 end
 ";
+
+/// A transaction that reads nothing commits beside an assertion, and the assertion beside it, in either order.
+#[test]
+fn a_transaction_that_reads_nothing(rt: HostRuntime) -> Result<(), Fail> {
+    let scripts = [
+        "create table t (a); begin; insert into t values (1); commit;",
+        "begin; assert ?x = 1; commit;",
+    ];
     let orders: [Played<'_>; _] = [
-        (&[1, 1, 2, 1, 2, 1, 2], first),
-        (&[1, 1, 2, 1, 2, 2, 1], second),
+        (
+            &[1, 1, 2, 1, 2, 1, 2],
+            A_TRANSACTION_THAT_READS_NOTHING_FIRST,
+        ),
+        (
+            &[1, 1, 2, 1, 2, 2, 1],
+            A_TRANSACTION_THAT_READS_NOTHING_SECOND,
+        ),
     ];
     play(&rt, rt.alloc(), &scripts, &orders)
 }

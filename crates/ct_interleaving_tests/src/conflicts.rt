@@ -3,14 +3,7 @@
 use crate::played::{Played, play};
 use std::test::Fail;
 
-/// An insertion reads nothing, so two sessions that insert into one table both commit, in either order.
-#[test]
-fn insertions_never_conflict(rt: HostRuntime) -> Result<(), Fail> {
-    let scripts = [
-        "create table t (a); insert into t values (1); select * from t;",
-        "begin; insert into t values (2); commit;",
-    ];
-    let first = "\
+const INSERTIONS_NEVER_CONFLICT_FIRST: &str = "\
 session 1
 1 committed 1
 2 committed 2
@@ -30,7 +23,8 @@ history
   insert into t (2)
 end
 ";
-    let second = "\
+
+const INSERTIONS_NEVER_CONFLICT_SECOND: &str = "\
 session 1
 1 committed 1
 2 committed 3
@@ -50,19 +44,22 @@ history
   insert into t (1)
 end
 ";
-    let orders: [Played<'_>; _] = [(&[1, 2, 2, 1, 2, 1], first), (&[1, 2, 2, 2, 1, 1], second)];
+
+/// An insertion reads nothing, so two sessions that insert into one table both commit, in either order.
+#[test]
+fn insertions_never_conflict(rt: HostRuntime) -> Result<(), Fail> {
+    let scripts = [
+        "create table t (a); insert into t values (1); select * from t;",
+        "begin; insert into t values (2); commit;",
+    ];
+    let orders: [Played<'_>; _] = [
+        (&[1, 2, 2, 1, 2, 1], INSERTIONS_NEVER_CONFLICT_FIRST),
+        (&[1, 2, 2, 2, 1, 1], INSERTIONS_NEVER_CONFLICT_SECOND),
+    ];
     play(&rt, rt.alloc(), &scripts, &orders)
 }
 
-/// What a transaction sees is its base, and what it read may change only after its commit.
-#[test]
-fn a_table_that_was_read_changes(rt: HostRuntime) -> Result<(), Fail> {
-    let scripts = [
-        "create table t (a); create table u (a); begin; select * from t; insert into u values (1); commit;
-         select * from u;",
-        "insert into t values (5);",
-    ];
-    let meanwhile = "\
+const A_TABLE_THAT_WAS_READ_CHANGES_MEANWHILE: &str = "\
 session 1
 1 committed 1
 2 committed 2
@@ -82,7 +79,8 @@ history
   insert into t (5)
 end
 ";
-    let afterwards = "\
+
+const A_TABLE_THAT_WAS_READ_CHANGES_AFTERWARDS: &str = "\
 session 1
 1 committed 1
 2 committed 2
@@ -105,19 +103,33 @@ history
   insert into t (5)
 end
 ";
+
+/// What a transaction sees is its base, and what it read may change only after its commit.
+#[test]
+fn a_table_that_was_read_changes(rt: HostRuntime) -> Result<(), Fail> {
+    let scripts = [
+        "create table t (a); create table u (a); begin; select * from t; insert into u values (1); commit;
+         select * from u;",
+        "insert into t values (5);",
+    ];
     let orders: [Played<'_>; _] = [
-        (&[1, 1, 1, 1, 2, 1, 1, 1], meanwhile),
-        (&[1, 1, 1, 2, 1, 1, 1, 1], meanwhile),
-        (&[1, 1, 1, 1, 1, 1, 2, 1], afterwards),
+        (
+            &[1, 1, 1, 1, 2, 1, 1, 1],
+            A_TABLE_THAT_WAS_READ_CHANGES_MEANWHILE,
+        ),
+        (
+            &[1, 1, 1, 2, 1, 1, 1, 1],
+            A_TABLE_THAT_WAS_READ_CHANGES_MEANWHILE,
+        ),
+        (
+            &[1, 1, 1, 1, 1, 1, 2, 1],
+            A_TABLE_THAT_WAS_READ_CHANGES_AFTERWARDS,
+        ),
     ];
     play(&rt, rt.alloc(), &scripts, &orders)
 }
 
-/// Of one statement of two sessions the second finds the name taken.
-#[test]
-fn one_name_twice(rt: HostRuntime) -> Result<(), Fail> {
-    let scripts = ["create table t (a)", "create table t (a)"];
-    let first = "\
+const ONE_NAME_TWICE_FIRST: &str = "\
 session 1
 1 committed 1
 session 2
@@ -127,7 +139,8 @@ history
   create table t (a)
 end
 ";
-    let second = "\
+
+const ONE_NAME_TWICE_SECOND: &str = "\
 session 1
 1 refused TableExists
 session 2
@@ -137,18 +150,19 @@ history
   create table t (a)
 end
 ";
-    let orders: [Played<'_>; _] = [(&[1, 2], first), (&[2, 1], second)];
+
+/// Of one statement of two sessions the second finds the name taken.
+#[test]
+fn one_name_twice(rt: HostRuntime) -> Result<(), Fail> {
+    let scripts = ["create table t (a)", "create table t (a)"];
+    let orders: [Played<'_>; _] = [
+        (&[1, 2], ONE_NAME_TWICE_FIRST),
+        (&[2, 1], ONE_NAME_TWICE_SECOND),
+    ];
     play(&rt, rt.alloc(), &scripts, &orders)
 }
 
-/// Of two transactions that create one name the second to commit conflicts on the name.
-#[test]
-fn one_name_in_two_transactions(rt: HostRuntime) -> Result<(), Fail> {
-    let scripts = [
-        "begin; create table t (a); commit; select * from t;",
-        "begin; create table t (b); commit; select * from t;",
-    ];
-    let first = "\
+const ONE_NAME_IN_TWO_TRANSACTIONS_FIRST: &str = "\
 session 1
 1 begun at 0
 2 pending at 0 plus 1
@@ -164,7 +178,8 @@ history
   create table t (a)
 end
 ";
-    let second = "\
+
+const ONE_NAME_IN_TWO_TRANSACTIONS_SECOND: &str = "\
 session 1
 1 begun at 0
 2 pending at 0 plus 1
@@ -180,22 +195,28 @@ history
   create table t (b)
 end
 ";
+
+/// Of two transactions that create one name the second to commit conflicts on the name.
+#[test]
+fn one_name_in_two_transactions(rt: HostRuntime) -> Result<(), Fail> {
+    let scripts = [
+        "begin; create table t (a); commit; select * from t;",
+        "begin; create table t (b); commit; select * from t;",
+    ];
     let orders: [Played<'_>; _] = [
-        (&[1, 2, 1, 2, 1, 2, 2, 1], first),
-        (&[2, 1, 2, 1, 2, 1, 1, 2], second),
+        (
+            &[1, 2, 1, 2, 1, 2, 2, 1],
+            ONE_NAME_IN_TWO_TRANSACTIONS_FIRST,
+        ),
+        (
+            &[2, 1, 2, 1, 2, 1, 1, 2],
+            ONE_NAME_IN_TWO_TRANSACTIONS_SECOND,
+        ),
     ];
     play(&rt, rt.alloc(), &scripts, &orders)
 }
 
-/// Three transactions that change one table and read nothing all commit, whichever comes first.
-#[test]
-fn blind_writes_of_three_sessions(rt: HostRuntime) -> Result<(), Fail> {
-    let scripts = [
-        "create table t (a); begin; insert into t values (1); commit; select * from t;",
-        "begin; insert into t values (2); commit;",
-        "begin; delete from t where a = 1; insert into t values (3); commit;",
-    ];
-    let upwards = "\
+const BLIND_WRITES_OF_THREE_SESSIONS_UPWARDS: &str = "\
 session 1
 1 committed 1
 2 begun at 1
@@ -225,7 +246,8 @@ history
   insert into t (3)
 end
 ";
-    let downwards = "\
+
+const BLIND_WRITES_OF_THREE_SESSIONS_DOWNWARDS: &str = "\
 session 1
 1 committed 1
 2 begun at 1
@@ -256,21 +278,29 @@ history
   insert into t (1)
 end
 ";
+
+/// Three transactions that change one table and read nothing all commit, whichever comes first.
+#[test]
+fn blind_writes_of_three_sessions(rt: HostRuntime) -> Result<(), Fail> {
+    let scripts = [
+        "create table t (a); begin; insert into t values (1); commit; select * from t;",
+        "begin; insert into t values (2); commit;",
+        "begin; delete from t where a = 1; insert into t values (3); commit;",
+    ];
     let orders: [Played<'_>; _] = [
-        (&[1, 1, 2, 3, 1, 2, 3, 3, 1, 2, 3, 1], upwards),
-        (&[1, 3, 2, 1, 3, 3, 2, 1, 3, 2, 1, 1], downwards),
+        (
+            &[1, 1, 2, 3, 1, 2, 3, 3, 1, 2, 3, 1],
+            BLIND_WRITES_OF_THREE_SESSIONS_UPWARDS,
+        ),
+        (
+            &[1, 3, 2, 1, 3, 3, 2, 1, 3, 2, 1, 1],
+            BLIND_WRITES_OF_THREE_SESSIONS_DOWNWARDS,
+        ),
     ];
     play(&rt, rt.alloc(), &scripts, &orders)
 }
 
-/// Two transactions that read and change tables of their own both commit.
-#[test]
-fn disjoint_reads(rt: HostRuntime) -> Result<(), Fail> {
-    let scripts = [
-        "create table x (a); create table y (a); begin; select a from x; insert into x values (1); commit;",
-        "begin; select a from y; insert into y values (2); commit;",
-    ];
-    let first = "\
+const DISJOINT_READS_FIRST: &str = "\
 session 1
 1 committed 1
 2 committed 2
@@ -294,7 +324,8 @@ history
   insert into y (2)
 end
 ";
-    let second = "\
+
+const DISJOINT_READS_SECOND: &str = "\
 session 1
 1 committed 1
 2 committed 2
@@ -318,21 +349,22 @@ history
   insert into x (1)
 end
 ";
+
+/// Two transactions that read and change tables of their own both commit.
+#[test]
+fn disjoint_reads(rt: HostRuntime) -> Result<(), Fail> {
+    let scripts = [
+        "create table x (a); create table y (a); begin; select a from x; insert into x values (1); commit;",
+        "begin; select a from y; insert into y values (2); commit;",
+    ];
     let orders: [Played<'_>; _] = [
-        (&[1, 1, 1, 2, 1, 2, 1, 2, 1, 2], first),
-        (&[1, 1, 2, 1, 2, 1, 2, 1, 2, 1], second),
+        (&[1, 1, 1, 2, 1, 2, 1, 2, 1, 2], DISJOINT_READS_FIRST),
+        (&[1, 1, 2, 1, 2, 1, 2, 1, 2, 1], DISJOINT_READS_SECOND),
     ];
     play(&rt, rt.alloc(), &scripts, &orders)
 }
 
-/// An insertion from a query has read its source, and conflicts with what comes into the source meanwhile.
-#[test]
-fn insertion_from_a_query(rt: HostRuntime) -> Result<(), Fail> {
-    let scripts = [
-        "create table t (a); create table u (a); begin; insert into u select a from t; commit; select a from u;",
-        "insert into t values (1);",
-    ];
-    let meanwhile = "\
+const INSERTION_FROM_A_QUERY_MEANWHILE: &str = "\
 session 1
 1 committed 1
 2 committed 2
@@ -351,7 +383,8 @@ history
   insert into t (1)
 end
 ";
-    let before = "\
+
+const INSERTION_FROM_A_QUERY_BEFORE: &str = "\
 session 1
 1 committed 1
 2 committed 2
@@ -373,7 +406,8 @@ history
   insert into u (1)
 end
 ";
-    let afterwards = "\
+
+const INSERTION_FROM_A_QUERY_AFTERWARDS: &str = "\
 session 1
 1 committed 1
 2 committed 2
@@ -394,10 +428,18 @@ history
   insert into t (1)
 end
 ";
+
+/// An insertion from a query has read its source, and conflicts with what comes into the source meanwhile.
+#[test]
+fn insertion_from_a_query(rt: HostRuntime) -> Result<(), Fail> {
+    let scripts = [
+        "create table t (a); create table u (a); begin; insert into u select a from t; commit; select a from u;",
+        "insert into t values (1);",
+    ];
     let orders: [Played<'_>; _] = [
-        (&[1, 1, 1, 1, 2, 1, 1], meanwhile),
-        (&[1, 1, 2, 1, 1, 1, 1], before),
-        (&[1, 1, 1, 1, 1, 2, 1], afterwards),
+        (&[1, 1, 1, 1, 2, 1, 1], INSERTION_FROM_A_QUERY_MEANWHILE),
+        (&[1, 1, 2, 1, 1, 1, 1], INSERTION_FROM_A_QUERY_BEFORE),
+        (&[1, 1, 1, 1, 1, 2, 1], INSERTION_FROM_A_QUERY_AFTERWARDS),
     ];
     play(&rt, rt.alloc(), &scripts, &orders)
 }

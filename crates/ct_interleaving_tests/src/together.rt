@@ -6,14 +6,7 @@ use ct_transcript::{Refusal, Reply, Transcript};
 use std::alloc::{AllocError, Global};
 use std::test::Fail;
 
-/// A new null of one session differs in name from that of another one, and may have the same value.
-#[test]
-fn new_nulls_of_two_sessions(rt: HostRuntime) -> Result<(), Fail> {
-    let scripts = [
-        "create table t (a); insert into t values (NULL); select p.a, q.a from t p, t q where p.a = q.a;",
-        "insert into t values (NULL);",
-    ];
-    let first = "\
+const NEW_NULLS_OF_TWO_SESSIONS_FIRST: &str = "\
 session 1
 1 committed 1
 2 committed 2
@@ -33,7 +26,8 @@ history
   insert into t (?2#1)
 end
 ";
-    let second = "\
+
+const NEW_NULLS_OF_TWO_SESSIONS_SECOND: &str = "\
 session 1
 1 committed 1
 2 committed 3
@@ -53,15 +47,22 @@ history
   insert into t (?1#1)
 end
 ";
-    let orders: [Played<'_>; _] = [(&[1, 1, 2, 1], first), (&[1, 2, 1, 1], second)];
+
+/// A new null of one session differs in name from that of another one, and may have the same value.
+#[test]
+fn new_nulls_of_two_sessions(rt: HostRuntime) -> Result<(), Fail> {
+    let scripts = [
+        "create table t (a); insert into t values (NULL); select p.a, q.a from t p, t q where p.a = q.a;",
+        "insert into t values (NULL);",
+    ];
+    let orders: [Played<'_>; _] = [
+        (&[1, 1, 2, 1], NEW_NULLS_OF_TWO_SESSIONS_FIRST),
+        (&[1, 2, 1, 1], NEW_NULLS_OF_TWO_SESSIONS_SECOND),
+    ];
     play(&rt, rt.alloc(), &scripts, &orders)
 }
 
-/// A named null is one null in all sessions, so that the same row comes twice.
-#[test]
-fn the_same_script_twice(rt: HostRuntime) -> Result<(), Fail> {
-    let text = "create table t (a); insert into t values (?x); select a from t;";
-    let first = "\
+const THE_SAME_SCRIPT_TWICE_FIRST: &str = "\
 session 1
 1 committed 1
 2 committed 2
@@ -81,7 +82,8 @@ history
   insert into t (?x)
 end
 ";
-    let second = "\
+
+const THE_SAME_SCRIPT_TWICE_SECOND: &str = "\
 session 1
 1 refused TableExists
 2 committed 3
@@ -101,18 +103,19 @@ history
   insert into t (?x)
 end
 ";
-    let orders: [Played<'_>; _] = [(&[1, 2, 1, 2, 1, 2], first), (&[2, 1, 2, 1, 2, 1], second)];
+
+/// A named null is one null in all sessions, so that the same row comes twice.
+#[test]
+fn the_same_script_twice(rt: HostRuntime) -> Result<(), Fail> {
+    let text = "create table t (a); insert into t values (?x); select a from t;";
+    let orders: [Played<'_>; _] = [
+        (&[1, 2, 1, 2, 1, 2], THE_SAME_SCRIPT_TWICE_FIRST),
+        (&[2, 1, 2, 1, 2, 1], THE_SAME_SCRIPT_TWICE_SECOND),
+    ];
     play(&rt, rt.alloc(), &[text, text], &orders)
 }
 
-/// Outside a transaction each statement sees all commits so far, and within one the base.
-#[test]
-fn versions_rise(rt: HostRuntime) -> Result<(), Fail> {
-    let scripts = [
-        "create table t (a); select * from t; begin; select * from t; commit; select * from t;",
-        "insert into t values (1); insert into t values (2); select * from t;",
-    ];
-    let expected = "\
+const VERSIONS_RISE_EXPECTED: &str = "\
 session 1
 1 committed 1
 2 rows (a) at 2
@@ -139,24 +142,22 @@ history
   insert into t (2)
 end
 ";
+
+/// Outside a transaction each statement sees all commits so far, and within one the base.
+#[test]
+fn versions_rise(rt: HostRuntime) -> Result<(), Fail> {
+    let scripts = [
+        "create table t (a); select * from t; begin; select * from t; commit; select * from t;",
+        "insert into t values (1); insert into t values (2); select * from t;",
+    ];
     let orders: [Played<'_>; _] = [
-        (&[1, 2, 1, 1, 2, 1, 1, 1, 2], expected),
-        (&[1, 2, 1, 1, 1, 2, 2, 1, 1], expected),
+        (&[1, 2, 1, 1, 2, 1, 1, 1, 2], VERSIONS_RISE_EXPECTED),
+        (&[1, 2, 1, 1, 1, 2, 2, 1, 1], VERSIONS_RISE_EXPECTED),
     ];
     play(&rt, rt.alloc(), &scripts, &orders)
 }
 
-/// A statement of session 1 takes all words of a log of 64. From then on nobody commits: the open transaction stays
-/// open, and can be given up.
-#[test]
-fn one_session_fills_the_log(rt: HostRuntime) -> Result<(), Fail> {
-    let scripts = [
-        "create table t (a);
-         insert into t values ('xxxxxxxxxxxxxxxxxxxxxxxxxxxxxxxxxxxxxxxxxxxxxxxxxxxxxxxxxxxxxxxxxxxxxxxxxxxxxxxx');
-         select a from t;",
-        "begin; insert into t values (1); commit; rollback; insert into t values (1); select a from t;",
-    ];
-    let expected = "\
+const ONE_SESSION_FILLS_THE_LOG_EXPECTED: &str = "\
 session 1
 1 committed 1
 2 refused Full
@@ -173,9 +174,26 @@ history
   create table t (a)
 end
 ";
+
+/// A statement of session 1 takes all words of a log of 64. From then on nobody commits: the open transaction stays
+/// open, and can be given up.
+#[test]
+fn one_session_fills_the_log(rt: HostRuntime) -> Result<(), Fail> {
+    let scripts = [
+        "create table t (a);
+         insert into t values ('xxxxxxxxxxxxxxxxxxxxxxxxxxxxxxxxxxxxxxxxxxxxxxxxxxxxxxxxxxxxxxxxxxxxxxxxxxxxxxxx');
+         select a from t;",
+        "begin; insert into t values (1); commit; rollback; insert into t values (1); select a from t;",
+    ];
     let orders: [Played<'_>; _] = [
-        (&[1, 2, 2, 1, 2, 2, 2, 2, 1], expected),
-        (&[1, 2, 2, 1, 1, 2, 2, 2, 2], expected),
+        (
+            &[1, 2, 2, 1, 2, 2, 2, 2, 1],
+            ONE_SESSION_FILLS_THE_LOG_EXPECTED,
+        ),
+        (
+            &[1, 2, 2, 1, 1, 2, 2, 2, 2],
+            ONE_SESSION_FILLS_THE_LOG_EXPECTED,
+        ),
     ];
     play_on(&rt, rt.alloc(), 64, &scripts, &orders)
 }
