@@ -66,7 +66,7 @@ pub(crate) fn answer<N: Site>(
     ensures mine { pass.new.mine ≡ pass.old.mine }
 {
     match query {
-        Query::Table(name) => Ok(db.get(name.as_str()).unwrap().copied(alloc)?),
+        Query::Table(name) => Ok(db.get(name).unwrap().copied(alloc)?),
         Query::Select(p, inner) => {
             let table = answer(alloc, arena, pass, inner, db)?;
             select(alloc, arena, pass, p, &table)

@@ -188,8 +188,8 @@ fn grow<N: Site>(
         Err(same) => return (Tables::alone(same), Err(KeeperError::Memory)),
     };
     match append(arena, keeper, guest, list) {
-        Ok(()) => (Tables::alone(growing.done(alloc)), Ok(())),
-        Err(_) => (Tables::alone(growing.undone(alloc)), Err(KeeperError::Full)),
+        Ok(()) => (Tables::alone(growing.done()), Ok(())),
+        Err(_) => (Tables::alone(growing.undone()), Err(KeeperError::Full)),
     }
 }
 

@@ -68,7 +68,7 @@ fn inserted<N: Site, I: Interner<N>>(
     ensures writes { Writes I.list I.made I.kept I.lent N.log.cap pass.old pass.new (length rows.now) (is_full result) }
 {
     let _ = pass.words();
-    let Some(table) = db.shared(name) else {
+    let Some(table) = db.get(name) else {
         unreachable!()
     };
     let puts = insertions(alloc, arena, pass, table, rows)?;
@@ -98,10 +98,11 @@ fn deleted<N: Site, I: Interner<N>>(
     ensures writes { Writes I.list I.made I.kept I.lent N.log.cap pass.old pass.new (rows_found (find_table db.now name.now) * (ops (condition_at (I.list pass.old) cond) + 2)) (is_full result) }
 {
     let _ = pass.words();
-    let Some(table) = db.shared(name) else {
+    let Some(table) = db.get(name) else {
         unreachable!()
     };
-    let spared = delete(alloc, arena, pass, table.table(), cond);
+    let rows = table.copied(alloc)?;
+    let spared = delete(alloc, arena, pass, &rows, cond);
     // The words are well formed and within the capacity, also where no table was made.
     let _ = pass.words();
     Ok(Growth::Table {

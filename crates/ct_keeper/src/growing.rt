@@ -17,7 +17,7 @@ pub fn grown(alloc: Global, tables: Tables, growth: Growth) -> Result<Tables, Ta
 {
     match tables.into_db(alloc) {
         Ok(db) => match db.growing(alloc, growth) {
-            Ok(pending) => Ok(Tables::alone(pending.done(alloc))),
+            Ok(pending) => Ok(Tables::alone(pending.done())),
             Err(same) => Err(Tables::alone(same)),
         },
         Err(same) => Err(same),

@@ -48,8 +48,8 @@ fn is_encodable(tables: &Db, action: &Action) -> bool
     ensures { IsTrue result → IsEncodable (action_of action.now) }
 {
     match action {
-        Action::Delete { name, .. } => match tables.get(name.as_str()) {
-            Some(table) => table.columns.len() <= COLUMNS,
+        Action::Delete { name, .. } => match tables.get(name) {
+            Some(table) => table.columns().len() <= COLUMNS,
             None => unreachable!(),
         },
         _ => true,

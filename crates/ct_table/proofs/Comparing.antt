@@ -1,7 +1,7 @@
 -- Whether a row is worth the tuple of another, cell by cell and row by row.
-use Rattle.std.proofs.Common.{◌≡◌, ℕ, zero, suc, ◌+◌, ◌<◌, Bool, true, false, not, ◌&&◌, ◌||◌, List, [], ◌∷◌, ◌++◌, map, length, take, get_or, refl, ap, sym, subst, ◌∙◌, arith}
+use Rattle.std.proofs.Common.{◌≡◌, ℕ, zero, suc, ◌+◌, ◌<◌, Bool, true, false, not, ◌&&◌, ◌||◌, List, [], ◌∷◌, ◌++◌, map, length, take, drop, get_or, refl, ap, sym, subst, ◌∙◌, arith}
 use Rattle.std.specs.Prelude.{IsTrue, All}
-use Rattle.std.proofs.lemmas.List.{map_more, map-append, length-map, length-take-le}
+use Rattle.std.proofs.lemmas.List.{append-nil, append_assoc, take-append-drop, map_more, map-append, length-map, length-take-le}
 use Rattle.std.proofs.lemmas.List.Elements.{All-get_or}
 use mathlib.Core.List.{IsPrefix}
 use Rattle.ct_word.specs.declared.kinds.Class.TheVariants as class
@@ -114,6 +114,28 @@ pub and_not_or : (a b c : Bool) → ((a && not b) && not c) ≡ (a && not (b || 
 and_not_or true true c = refl
 and_not_or true false c = refl
 and_not_or false b c = refl
+
+-- what is false beside some rows is so beside more of them
+among_rest : (ws : List ℕ) (done rest : List CRow) (cells : List ℕ) (v : World) (a : Bool) → (a && not (is_among ws done cells v)) ≡ false
+    → (a && not (is_among ws (done ++ rest) cells v)) ≡ false
+among_rest ws done [] cells v a e = ap (λ l. a && not (is_among ws l cells v)) (append-nil done) ∙ e
+among_rest ws done (r ∷ rest) cells v a e =
+    ap (λ l. a && not (is_among ws l cells v)) (sym (append_assoc done (r ∷ []) rest))
+    ∙ among_rest ws (done ++ r ∷ []) rest cells v a
+    (ap (λ b. a && not b) (among_more ws done r cells v)
+    ∙ sym (and_not_or a (is_among ws done cells v) (holds_at v (condition_at ws r.cond) && same_worth ws r.cells cells v))
+    ∙ ap (λ b. b && not (holds_at v (condition_at ws r.cond) && same_worth ws r.cells cells v)) e)
+
+-- a row that is not shown, or is among the first rows, at every valuation
+pub alone_never : (old now : List ℕ) (others : List CRow) (n place : ℕ) (cells : List ℕ) (shown : World → Bool) → IsPrefix opening now → IsWellFormed now → place ≡ 1
+    → HoldsWhere now place (λ v. shown v && not (is_among old (take n others) cells v)) → HoldsWhere now place (λ v. shown v && not (is_among old others cells v))
+alone_never old now others n place cells shown begins formed is so_far =
+    let never = holds_false now begins formed in
+    subst (λ p. HoldsWhere now p (λ v. shown v && not (is_among old others cells v))) (sym is)
+    (holds_as now 1 (λ v. false) _
+    (λ v. sym (ap (λ l. shown v && not (is_among old l cells v)) (sym (take-append-drop n others))
+    ∙ among_rest old (take n others) (drop n others) cells v (shown v)
+    (sym (so_far.holds v) ∙ ap (λ p. holds_at v (condition_at now p)) is ∙ never.holds v))) never)
 
 -- none of no rows
 pub alone_none : (ws : List ℕ) (cells : List ℕ) (p : ℕ) → IsTrue (is_place_of ws class.Cond p) → HoldsWhere ws p (λ v. holds_at v (condition_at ws p) && not (is_among ws [] cells v))

@@ -1,6 +1,6 @@
 -- Conditions put at their cells, one after another.
-use Rattle.std.proofs.Common.{◌≡◌, ℕ, suc, ◌+◌, Bool, true, false, not, List, [], ◌∷◌, ◌++◌, Option, None, Some, cond, map, get_or, set, refl, ap, sym, subst, ◌∙◌, arith}
-use Rattle.std.specs.Prelude.{◌≢◌, nat_eq, if◌then◌else◌}
+use Rattle.std.proofs.Common.{◌≡◌, ℕ, zero, suc, ◌+◌, Bool, true, false, not, List, [], ◌∷◌, ◌++◌, Option, None, Some, cond, map, take, get_or, set, refl, ap, sym, subst, ◌∙◌, arith}
+use Rattle.std.specs.Prelude.{◌≢◌, nat_eq, if◌then◌else◌, slice_get}
 use Rattle.std.specs.List.{filter, position_or_len}
 use Rattle.std.proofs.lemmas.List.{append-nil, append_assoc}
 use Rattle.std.proofs.lemmas.Bool.{false≢true, eqb-true}
@@ -234,6 +234,16 @@ rows_set k c v x (e ∷ es) found is = by_test (same_text k e.0) refl (rows_set 
       ap (λ i. set (rows_of (e ∷ es)) i new) (at_miss k e es p)
       ∙ ap (λ l. record { cells = e.0; cond = e.1 } ∷ l) (later (sym (find_miss k e es p) ∙ found) (is ∙ ap (λ i. get_or (rows_of (e ∷ es)) i x) (at_miss k e es p)))
       ∙ sym (ap rows_of (put_miss k c e es p))
+
+-- the rows up to one more place
+pub rows_one_more : (es : List (List ℕ × ℕ)) (n : ℕ) (p : List ℕ × ℕ) → slice_get es n ≡ Some p → take n (rows_of es) ++ record { cells = p.0; cond = p.1 } ∷ [] ≡ take (n + 1) (rows_of es)
+rows_one_more [] n p is = absurd (none_is_not p is) where
+  none_is_not : (p : List ℕ × ℕ) → None ≡ Some p → ⊥
+  none_is_not p e = cc
+rows_one_more (e ∷ es) zero p is = let same : p ≡ e = cc in λ i. record { cells = (same i).0; cond = (same i).1 } ∷ []
+rows_one_more (e ∷ es) (suc n) p is =
+    let more : suc (n + 1) ≡ suc n + 1 = omega arith in
+    ap (λ l. record { cells = e.0; cond = e.1 } ∷ l) (rows_one_more es n p is) ∙ ap (λ k. take k (rows_of (e ∷ es))) more
 
 -- one more condition for the table
 pub grown_more : (p : List ℕ × ℕ) (ps es : List (List ℕ × ℕ)) → grown es (ps ++ p ∷ []) ≡ (if nat_eq p.1 1 then grown es ps else put (grown es ps) p.0 p.1)

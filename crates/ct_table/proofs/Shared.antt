@@ -234,32 +234,10 @@ entry_missing k es e = by_entry (entry_at k es) e where
   by_entry None p = refl
   by_entry (Some y) p = absurd (false≢true p)
 
--- a table that was taken out, or another of its name, put back
-module _ (k : List ℕ) (hole x : CTable) (es es' : List (List ℕ × CTable)) (left : es' ≡ with_entry es k hole) where
-  pub taken_other : (t : CTable) → with_table (map entry_of es') (view_of k t) ≡ with_table (map entry_of es) (view_of k t)
-  taken_other t =
-      ap (λ l. with_table (map entry_of l) (view_of k t)) left ∙ ap (λ l. with_table l (view_of k t)) (put_entry k hole es)
-      ∙ with_again (view_of k hole) (view_of k t) refl (map entry_of es)
-
-  pub taken_back : entry_at k es ≡ Some x → (t : CTable) → t ≡ x → with_table (map entry_of es') (view_of k t) ≡ map entry_of es
-  taken_back found t is =
-      taken_other t ∙ ap (λ y. with_table (map entry_of es) (view_of k y)) is
-      ∙ with_found k (view_of k x) (map entry_of es) (found_entry k es ∙ ap (its_view k) found)
-
-  pub taken_there : IsSome (entry_at k es')
-  taken_there = subst IsSome (sym (ap (entry_at k) left ∙ entry_there k hole es)) refl
-
 -- a table that is there has an entry
 pub entry_of_apart : (k : List ℕ) (o : Option CTable) → IsApart (its_view k o) → IsSome o
 entry_of_apart k None a = absurd a
 entry_of_apart k (Some x) a = refl
-
-pub not_some_none : {A : Type 0} (o : Option CTable) → IsSome o → o ≡ None → A
-not_some_none o there none = absurd (false≢true (subst IsSome none there))
-
--- an opened table is the one that it was
-pub opened_is : (x : CTable) (columns : List (List ℕ)) (es : List (List ℕ × ℕ)) → columns ≡ x.columns → es ≡ entries_of x.rows → table_with columns es ≡ x
-opened_is x columns es c e = (λ i. table_with (c i) (e i)) ∙ (λ i. record { columns = x.columns; rows = rows_back x.rows i })
 
 -- what is said of a table with a map of its rows is said of the table
 pub of_table : (columns : List (List ℕ)) (es : List (List ℕ × ℕ)) (t : CTable) → columns ≡ t.columns → rows_of es ≡ t.rows

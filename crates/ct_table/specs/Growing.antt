@@ -1,22 +1,11 @@
 -- Rows of a table that get conditions in place.
 use Rattle.std.specs.Prelude.{◌≡◌, ◌≢◌, ℕ, nat_eq, List, [], ◌∷◌, map, Option, None, Some, if◌then◌else◌}
-use Rattle.std.specs.Cmp.Lexicographic.{pointwise}
-use Rattle.std.specs.Map.{lookup}
-use Rattle.indexmap.specs.IndexMap.{insert_entry}
 use Rattle.ct_word.specs.declared.values.CRow.{CRow}
-use Rattle.ct_word.specs.Value.{same_text}
 use Rattle.ct_condition.specs.Truth.{HasTruth, or_at}
 use Rattle.ct_condition.specs.Terms.{TermsFrom, BelowEither}
 use Rattle.ct_table.specs.declared.table.CTable.{CTable}
 use Rattle.ct_table.specs.Merging.{rows_of}
-
--- the condition of the row with these cells, if there is one
-abbrev pub find : List ℕ → List (List ℕ × ℕ) → Option ℕ
-find cells es = lookup (same_text cells) es
-
--- rows with this condition at these cells: in the row that has them, or in a new one, which stands last
-abbrev pub put : List (List ℕ × ℕ) → List ℕ → ℕ → List (List ℕ × ℕ)
-put es cells cond = insert_entry (pointwise nat_eq) es cells cond
+pub use Rattle.ct_rows.specs.Entries.{find, put}
 
 -- rows with each of these conditions at its cells
 abbrev pub put_each : List (List ℕ × ℕ) → List (List ℕ × ℕ) → List (List ℕ × ℕ)
@@ -55,12 +44,6 @@ pub data Joins (old new : List ℕ) (es : List (List ℕ × ℕ)) (r : CRow) (co
 pub record Keyed : Type 0 where
   pub columns : List (List ℕ)
   pub entries : List (List ℕ × ℕ)
-
--- the same with room for so many more rows
-pub record Roomy : Type 0 where
-  pub columns : List (List ℕ)
-  pub entries : List (List ℕ × ℕ)
-  pub room : ℕ
 
 -- a table of these columns and entries
 abbrev pub table_with : List (List ℕ) → List (List ℕ × ℕ) → CTable

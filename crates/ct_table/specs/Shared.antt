@@ -1,11 +1,8 @@
 -- A table under its name, without where it is shared and whether it has a map.
 use Rattle.std.specs.Prelude.{ℕ, List}
-use Rattle.std.specs.Arc.{arc_value}
 use Rattle.ct_table.specs.declared.table.CTable.{CTable}
 use Rattle.ct_table.specs.declared.sharing.Body.{Body}
 use Rattle.ct_table.specs.declared.sharing.Body.TheVariants as body
-use Rattle.ct_table.specs.declared.sharing.Held.{Held}
-use Rattle.ct_table.specs.declared.sharing.Held.TheVariants as held
 use Rattle.ct_table.specs.Denotes.{TableView}
 use Rattle.ct_table.specs.Growing.{table_of}
 
@@ -21,8 +18,3 @@ entry_of e = view_of e.0 e.1
 abbrev pub body_of : Body → CTable
 body_of (body.Plain t) = t
 body_of (body.Keyed k) = table_of k
-
--- the table, whoever holds it
-abbrev pub table_in : Held → CTable
-table_in (held.Own alloc b) = body_of b
-table_in (held.Shared a) = body_of (arc_value a)

@@ -52,19 +52,7 @@ impl Db {
     }
 
     /// The table with this name; none where the name is not there.
-    pub fn get(&self, name: &str) -> Option<&CTable>
-        ensures { MatchOption result (find_table self.now name.now ≡ None) (λ t. find_table self.now name.now ≡ Some (view_of name.now t.now)) }
-    {
-        for (key, table) in self.tables.iter() {
-            if key.as_str() == name {
-                return Some(table.table());
-            }
-        }
-        None
-    }
-
-    /// The table with this name, shared; none where the name is not there. It is found by a map.
-    pub fn shared(&self, name: &Text) -> Option<&SharedTable>
+    pub fn get(&self, name: &Text) -> Option<&SharedTable>
         ensures { MatchOption result (find_table self.now name.now ≡ None) (λ t. find_table self.now name.now ≡ Some (view_of name.now t.now)) }
     {
         match self.tables.get(name) {
@@ -89,7 +77,7 @@ impl Db {
     {
         let mut headings = Vec::new(alloc);
         for (name, table) in self.tables.iter() {
-            headings.push(heading(name, table.table())?)?;
+            headings.push(heading(name, table)?)?;
         }
         Ok(Schema {
             tables: List::from_vec(headings),
@@ -105,7 +93,7 @@ impl Db {
     {
         let mut counts = Vec::new(alloc);
         for (name, table) in self.tables.iter() {
-            counts.push(count(name, table.table())?)?;
+            counts.push(count(name, table)?)?;
         }
         Ok(Counts {
             tables: List::from_vec(counts),
@@ -136,13 +124,12 @@ impl Db {
             .copied(alloc)?
             .growing(alloc, Growth::Table { name, table })
         {
-            Ok(pending) => Ok(pending.done(alloc)),
+            Ok(pending) => Ok(pending.done()),
             Err(_) => Err(Memory),
         }
     }
 
-    /// Makes all room for a growth. A table that gets rows is taken out for that: the one that is here, where nobody
-    /// else holds it, else a copy.
+    /// Makes all that a growth needs. A table that gets rows is made anew beside the old one, with which it shares most.
     ///
     /// # Errors
     /// The database as it was, where there is no memory.
@@ -165,23 +152,23 @@ impl Db {
 }
 
 /// The name and the columns of a table.
-pub(crate) fn heading(name: &Text, table: &CTable) -> Result<Heading, Memory>
+pub(crate) fn heading(name: &Text, table: &SharedTable) -> Result<Heading, Memory>
     ensures { IfOk result (λ h. h ≡ heading_of (view_of name.now table.now)) }
 {
     Ok(Heading {
         name: name.clone()?,
-        columns: table.columns.clone()?,
+        columns: table.columns().clone()?,
     })
 }
 
 /// The name of a table, and its numbers of rows and columns.
-fn count(name: &Text, table: &CTable) -> Result<Count, Memory>
+fn count(name: &Text, table: &SharedTable) -> Result<Count, Memory>
     ensures { IfOk result (λ c. c ≡ count_of (view_of name.now table.now)) }
 {
     Ok(Count {
         name: name.clone()?,
-        rows: table.rows.as_slice().len() as u64,
-        columns: stopped(table.columns.as_slice().len()),
+        rows: table.len() as u64,
+        columns: stopped(table.columns().len()),
     })
 }
 

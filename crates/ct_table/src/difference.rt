@@ -23,7 +23,7 @@ use crate::rows::{names, under};
 use crate::table::CTable;
 use ct_arena::{Arena, Full, Site};
 use ct_condition::{Interner, and, not};
-use ct_word::CRow;
+use ct_word::{CRow, FALSE_PLACE};
 use std::alloc::Global;
 
 /// The place of the condition that a row is shown, and none of the others is worth the same.
@@ -42,6 +42,10 @@ fn alone<N: Site, I: Interner<N>>(
     let _ = pass.words();
     let mut cond = row.cond;
     for other in others {
+        // No valuation satisfies the word false, whatever rows follow.
+        if cond == FALSE_PLACE {
+            return Ok(cond);
+        }
         let there = shown_as(arena, pass, row.cells.as_slice(), other)?;
         let absent = not(arena, pass, there)?;
         cond = and(arena, pass, cond, absent)?;

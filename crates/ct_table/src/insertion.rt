@@ -16,7 +16,7 @@ use crate::error::TableError;
 use crate::merging::merged;
 use crate::preparing::prepared;
 use crate::rows::{copy_rows, names};
-use crate::sharing::{SharedTable, keyed};
+use crate::sharing::SharedTable;
 use crate::stored::Put;
 use crate::table::CTable;
 use ct_arena::{Arena, Site};
@@ -62,10 +62,10 @@ pub fn insert<N: Site, I: Interner<N>>(
 }
 
 /// The conditions to put at cells so that a table of a database gets these rows, as `prepared` finds and makes them. A
-/// table without a map gets one for that, in a copy. The table stays as it is; `Db::growing` makes room for them.
+/// table whose rows are not found by their cells is copied for that. The table stays as it is.
 ///
 /// # Errors
-/// `Full` where the log has no room for a condition, `Memory` where there is none for the rows or the map.
+/// `Full` where the log has no room for a condition, `Memory` where there is none for the rows.
 pub fn insertions<N: Site, I: Interner<N>>(
     alloc: Global,
     arena: &Arena<N>,
@@ -87,7 +87,7 @@ pub fn insertions<N: Site, I: Interner<N>>(
     match table.keyed() {
         Some(stored) => prepared(alloc, arena, pass, stored, rows),
         None => {
-            let stored = keyed(alloc, table.table())?;
+            let stored = table.stored(alloc)?;
             prepared(alloc, arena, pass, &stored, rows)
         }
     }

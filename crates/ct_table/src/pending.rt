@@ -9,8 +9,8 @@ ghost use Rattle.ct_table.specs.Pending.{IsApart, put_into, turn_of};
 ghost use Rattle.ct_table.specs.Shared.{view_of, entry_of};
 
 use crate::db::{Db, heading};
-use crate::sharing::{Body, SharedTable};
-use crate::stored::{Opened, Put};
+use crate::sharing::SharedTable;
+use crate::stored::Put;
 use crate::table::CTable;
 use ct_query::{Heading, Schema};
 use ct_word::{List, Memory, Text};
@@ -52,34 +52,30 @@ impl Model for PendingTable {
         × (p.headings.items ≡ map heading_of (map entry_of p.tables.entries)) × (p.heading ≡ heading_of (view_of p.name p.table)) };
 }
 
-/// A database of which one table is taken out, with room for the conditions that it is about to get.
+/// A database of which one table is about to get conditions at cells: the table that then stands at its name.
 #[derive(Drop)]
 pub struct PendingRows {
     tables: IndexMap<Text, SharedTable>,
     headings: Schema,
     name: Text,
-    table: Opened,
-    puts: Vec<Put>,
+    table: SharedTable,
 }
 
 impl Model for PendingRows {
-    ghost use Rattle.std.specs.Prelude.{◌≡◌, ◌≤◌, map, length, nat_eq, IsSome};
+    ghost use Rattle.std.specs.Prelude.{◌≡◌, map, nat_eq, IsSome};
     ghost use Rattle.std.specs.Cmp.Lexicographic.{pointwise};
     ghost use Rattle.indexmap.specs.IndexMap.{IsUnique, get};
     ghost use Rattle.ct_table.specs.Denotes.{heading_of, with_table};
-    ghost use Rattle.ct_table.specs.Growing.{grown, table_with};
     ghost use Rattle.ct_table.specs.Turn.{Turn};
     ghost use Rattle.ct_table.specs.Shared.{view_of, entry_of};
 
     ghost Value = { Turn };
 
-    ghost view = { λ p. record {
-      before = with_table (map entry_of p.tables.entries) (view_of p.name (table_with p.table.columns p.table.entries));
-      after = with_table (map entry_of p.tables.entries) (view_of p.name (table_with p.table.columns (grown p.table.entries p.puts.items)));
-    } };
+    ghost view = { λ p. record { before = map entry_of p.tables.entries; after = with_table (map entry_of p.tables.entries) (view_of p.name p.table) } };
 
-    ghost invariant = { λ p. IsUnique (pointwise nat_eq) p.tables × IsSome (get (pointwise nat_eq) p.tables p.name) × (length p.puts.items ≤ p.table.room)
-        × (p.headings.tables ≡ map heading_of (with_table (map entry_of p.tables.entries) (view_of p.name (table_with p.table.columns p.table.entries)))) };
+    ghost invariant = { λ p. IsUnique (pointwise nat_eq) p.tables × IsSome (get (pointwise nat_eq) p.tables p.name)
+        × (p.headings.tables ≡ map heading_of (map entry_of p.tables.entries))
+        × (p.headings.tables ≡ map heading_of (with_table (map entry_of p.tables.entries) (view_of p.name p.table))) };
 }
 
 /// A growth for which all room is there, with its database. It is done, or left undone.
@@ -153,7 +149,7 @@ impl PendingTable {
 }
 
 impl PendingRows {
-    /// Takes the table of this name out, with room for the conditions.
+    /// Makes the table of this name with the conditions.
     ///
     /// # Errors
     /// The database as it was, where there is no memory.
@@ -162,83 +158,65 @@ impl PendingRows {
         ensures before { MatchResult result (λ p. p.before ≡ db) (λ same. same ≡ db) }
         ensures after { IfOk result (λ p. p.after ≡ put_into db name puts.items (find_table db name)) }
     {
-        let Db {
-            mut tables,
-            headings,
-        } = db;
-        let Some(table) = taken(alloc, &mut tables, &name) else {
-            return Err(Db { tables, headings });
+        let Some(old) = db.get(&name) else {
+            unreachable!();
         };
-        match table.opened(alloc, puts.as_slice().len()) {
-            Ok(table) => Ok(PendingRows {
-                tables,
-                headings,
-                name,
-                table,
-                puts,
-            }),
-            Err(table) => Err(put_back(tables, headings, name, table)),
-        }
+        let Ok(table) = old.grown(alloc, puts) else {
+            return Err(db);
+        };
+        let Db { tables, headings } = db;
+        Ok(PendingRows {
+            tables,
+            headings,
+            name,
+            table,
+        })
     }
 
     /// The database with the conditions in its table.
-    fn done(self, alloc: Global) -> Db
+    fn done(self) -> Db
         ensures { result ≡ self.after }
     {
         let PendingRows {
             tables,
             headings,
             name,
-            mut table,
-            puts,
+            table,
         } = self;
-        table.grow(puts);
-        put_back(
-            tables,
-            headings,
-            name,
-            SharedTable::held(alloc, Body::Keyed(table.close())),
-        )
+        put_back(tables, headings, name, table)
     }
 
     /// The database as it was.
-    fn undone(self, alloc: Global) -> Db
+    fn undone(self) -> Db
         ensures { result ≡ self.before }
     {
         let PendingRows {
             tables,
             headings,
-            name,
-            table,
             ..
         } = self;
-        put_back(
-            tables,
-            headings,
-            name,
-            SharedTable::held(alloc, Body::Keyed(table.close())),
-        )
+        Db { tables, headings }
     }
 }
 
 impl Pending {
-    /// The database after the growth. Memory may be asked for, and is not needed.
-    pub fn done(self, alloc: Global) -> Db
+    /// The database after the growth. It takes no memory.
+    pub fn done(self) -> Db
         ensures { result ≡ (turn_of self).after }
     {
         match self {
             Pending::Table(pending) => pending.done(),
-            Pending::Rows(pending) => pending.done(alloc),
+            Pending::Rows(pending) => pending.done(),
         }
     }
 
-    /// The database as it was before the growth. Memory may be asked for, and is not needed.
-    pub fn undone(self, alloc: Global) -> Db
+    /// The database as it was before the growth. It takes no memory.
+    pub fn undone(self) -> Db
         ensures { result ≡ (turn_of self).before }
     {
         match self {
             Pending::Table(pending) => pending.undone(),
-            Pending::Rows(pending) => pending.undone(alloc),
+            Pending::Rows(pending) => pending.undone(),
         }
     }
 }
@@ -260,30 +238,9 @@ fn parts(alloc: Global, name: &Text, table: CTable) -> Result<(SharedTable, Head
     ensures table { IfOk result (λ p. p.0 ≡ table) }
     ensures heading { IfOk result (λ p. p.1 ≡ heading_of (view_of name.now table)) }
 {
-    let heading = heading(name, &table)?;
     let table = SharedTable::make(alloc, table)?;
+    let heading = heading(name, &table)?;
     Ok((table, heading))
-}
-
-/// Takes the table of this name, and leaves one without columns and rows in its place.
-fn taken(
-    alloc: Global,
-    tables: &mut IndexMap<Text, SharedTable>,
-    name: &Text,
-) -> Option<SharedTable>
-    requires unique { IsUnique (pointwise nat_eq) tables.old }
-    requires there { IsSome (get (pointwise nat_eq) tables.old name.now) }
-    ensures unique { IsUnique (pointwise nat_eq) tables.new }
-    ensures found { MatchOption result (tables.new.entries ≡ tables.old.entries) (λ t. get (pointwise nat_eq) tables.old name.now ≡ Some t) }
-    ensures left { MatchOption result (tables.new.entries ≡ tables.old.entries) (λ t. tables.new.entries ≡ insert_entry (pointwise nat_eq) tables.old.entries name.now (record { columns = []; rows = [] })) }
-{
-    let Ok(key) = name.clone() else {
-        return None;
-    };
-    let Ok(old) = tables.insert(key, SharedTable::empty(alloc)) else {
-        return None;
-    };
-    old
 }
 
 /// The headings with that of a table of this name: at its name's place, or last. It takes no memory.

@@ -110,14 +110,14 @@ fn ready(alloc: Global, pending: IndexMap<List<u32>, u32>) -> Result<Vec<Put>, A
 {
     let mut puts = Vec::with_capacity(alloc, pending.len())?;
     for (cells, cond) in pending {
-        puts.push(Put::make(cells, cond)?)?;
+        puts.push(Put::new(cells, cond))?;
     }
     Ok(puts)
 }
 
 /// The conditions to put at cells so that a table gets these rows. A row whose cells are there already is merged into
 /// the first of them, by the disjunction of their conditions, and rows under the word false are left out. The table
-/// stays as it is; `Stored::reserve` makes room for them, and `Stored::grow` puts them in.
+/// stays as it is; `Stored::grown` puts them in.
 ///
 /// # Errors
 /// `Full` where the log has no room for a condition, `Memory` where there is none for the rows.

@@ -20,19 +20,18 @@ pub answer-unwrap-requires : goal.answer-unwrap-requires
 answer-unwrap-requires g t c =
     let hs = map heading_of c.args.db.now in
     let fits : Fits hs (Table c.in-Table.name) = subst (Fits hs) (ap query_of c.in-Table.is) c.requires.fits in
-    got_some c.get.result (λ t. find_table c.args.db.now c.as_str.result.now ≡ Some (view_of c.as_str.result.now t.now)) c.as_str.result.now c.args.db.now
-    (subst (λ n. IsSome (columns_in hs n)) (sym c.as_str.ensures) fits) c.get.ensures
+    got_some c.get.result (λ t. find_table c.args.db.now c.in-Table.name ≡ Some (view_of c.in-Table.name t.now)) c.in-Table.name c.args.db.now fits c.get.ensures
 
 pub answer-returns-in_ok-copied-in-Table-clause-evaluates : goal.answer-returns-in_ok-copied-in-Table-clause-evaluates
 answer-returns-in_ok-copied-in-Table-clause-evaluates g t c =
     let db = c.args.db.now in
     let ws = c.args.pass.now.words in
-    let found : find_table db c.as_str.result.now ≡ Some (view_of c.as_str.result.now c.unwrap.result.now) =
-    MatchOption-at_some (find_table db c.as_str.result.now ≡ None) (λ t. find_table db c.as_str.result.now ≡ Some (view_of c.as_str.result.now t.now)) c.unwrap.result c.unwrap.ensures c.get.ensures in
-    let is : Table c.as_str.result.now ≡ query_of c.args.query.now = ap Table c.as_str.ensures ∙ sym (ap query_of c.in-Table.is) in
-    subst (λ q. Evaluates ws ws db q c.in_ok-copied-in-Table.field-0) is
-    (subst (Evaluates ws ws db (Table c.as_str.result.now)) (sym c.in_ok-copied-in-Table.ensures)
-    (table_answers ws db c.as_str.result.now c.unwrap.result.now c.requires.tables found))
+    let name = c.in-Table.name in
+    let found : find_table db name ≡ Some (view_of name c.unwrap.result.now) =
+    MatchOption-at_some (find_table db name ≡ None) (λ t. find_table db name ≡ Some (view_of name t.now)) c.unwrap.result c.unwrap.ensures c.get.ensures in
+    subst (λ q. Evaluates ws ws db q c.in_ok-copied-in-Table.field-0) (sym (ap query_of c.in-Table.is))
+    (subst (Evaluates ws ws db (Table name)) (sym c.in_ok-copied-in-Table.ensures)
+    (table_answers ws db name c.unwrap.result.now c.requires.tables found))
 
 pub answer-answer-requires : goal.answer-answer-requires
 answer-answer-requires g t c κs within =

@@ -15,15 +15,15 @@ unreachable-requires g c = not_missing c.args.db.now c.args.name.now c.requires.
 pub delete-spared-requires-clause-rows : goal.delete-spared-requires-clause-rows
 delete-spared-requires-clause-rows g c =
     let words = g.I.Interner.list c.args.pass.now in
-    subst (λ (t : CTable). AreRows words (length t.columns) t.rows) (sym c.table.ensures)
+    subst (λ (t : CTable). AreRows words (length t.columns) t.rows) (sym c.in_ok-rows.ensures)
     (rows_of_found words c.args.db.now c.args.name.now (view_of c.args.name.now c.in-Some.table.now) c.requires.tables c.in-Some.ensures)
 
 pub delete-spared-requires-clause-columns : goal.delete-spared-requires-clause-columns
 delete-spared-requires-clause-columns g c =
     let words = g.I.Interner.list c.args.pass.now in
     let t = view_of c.args.name.now c.in-Some.table.now in
-    let wide = width_found c.args.db.now c.args.name.now t c.in-Some.ensures ∙ ap (λ (x : CTable). length x.columns) (sym c.table.ensures) in
-    column_below words c.words.ensures.formed (length c.table.result.now.columns) c.args.cond c.requires.written
+    let wide = width_found c.args.db.now c.args.name.now t c.in-Some.ensures ∙ ap (λ (x : CTable). length x.columns) (sym c.in_ok-rows.ensures) in
+    column_below words c.words.ensures.formed (length c.in_ok-rows.rows.columns) c.args.cond c.requires.written
     (subst (λ n. AreColumnsBelow n (condition_at words c.args.cond)) wide c.requires.fitting.1)
 
 pub returns-clause-gets : goal.returns-clause-gets
@@ -34,13 +34,13 @@ returns-clause-gets g c =
     let name = c.args.name.now in
     let cond = c.args.cond in
     let out = c.in_ok-spared.field-0 in
-    let columns = c.in_ok-spared.ensures.columns ∙ ap (λ (x : CTable). x.columns) c.table.ensures in
+    let columns = c.in_ok-spared.ensures.columns ∙ ap (λ (x : CTable). x.columns) c.in_ok-rows.ensures in
     record {
       table = view_of name c.in-Some.table.now;
       rows = out.rows;
       is_found = c.in-Some.ensures;
       after_is = λ i. with_table db (record { name = c.in_ok-clone.ensures.cases i; columns = columns i; rows = out.rows });
-      true_of = subst (λ (x : CTable). AreSpared old new (length x.columns) cond x.rows out.rows) c.table.ensures (record {
+      true_of = subst (λ (x : CTable). AreSpared old new (length x.columns) cond x.rows out.rows) c.in_ok-rows.ensures (record {
         are = c.in_ok-spared.ensures.rows;
         tuples = c.in_ok-spared.ensures.tuples;
         part = c.in_ok-spared.ensures.part;

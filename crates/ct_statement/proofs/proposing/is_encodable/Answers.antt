@@ -15,7 +15,7 @@ pub unreachable-requires : goal.unreachable-requires
 unreachable-requires c =
     let db = c.args.tables.now in
     let fits = subst (λ a. FitsAction (map heading_of db) (action_of a)) c.in-Delete.is c.requires.fits in
-    false≢true (subst IsSome (no_columns c.in-Delete.name db (subst (λ n. find_table db n ≡ None) c.as_str.ensures c.in-None.ensures)) fits.0)
+    false≢true (subst IsSome (no_columns c.in-Delete.name db c.in-None.ensures) fits.0)
 
 pub returns-in-Some : goal.returns-in-Some
 returns-in-Some c = λ few.
@@ -24,7 +24,7 @@ returns-in-Some c = λ few.
     let name = c.in-Delete.name in
     let table = c.in-Some.table.now in
     let fits = subst (λ a. FitsAction hs (action_of a)) c.in-Delete.is c.requires.fits in
-    let found = stands_for [] name (view_of name table) db (subst (λ n. find_table db n ≡ Some (view_of n table)) c.as_str.ensures c.in-Some.ensures) in
+    let found = stands_for [] name (view_of name table) db c.in-Some.ensures in
     let short : length table.columns ≤ 2 ^ 28 = let at_most = leb-true c.len.result 268435456 few in omega (arith, at_most, c.len.ensures) in
     subst (λ a. IsEncodable (action_of a)) (sym c.in-Delete.is)
     (deletion_encodable hs name (condition_of c.in-Delete.pred) fits (subst (λ o. count_of o ≤ 2 ^ 28) (sym found.columns) short))

@@ -12,7 +12,7 @@ use Rattle.ct_table.specs.Building.{HoldsWhere}
 use Rattle.ct_table.specs.Matching.{same_worth, is_among}
 use Rattle.ct_table.proofs.Selecting.{row_at}
 use Rattle.ct_table.proofs.Growing.{is_row_grows}
-use Rattle.ct_table.proofs.Comparing.{alone_none, alone_more}
+use Rattle.ct_table.proofs.Comparing.{alone_none, alone_more, alone_never}
 use Rattle.ct_condition.proofs.Writes.{writes_none, writes_both, writes_within, writes_more, writes_all, writes_last}
 use Rattle.std.proofs.lemmas.List.Elements.{All-head}
 use Rattle.ct_condition.specs.Terms.{TermsFrom, BelowSome}
@@ -93,6 +93,15 @@ loop-other-preserved g c =
           (subst (λ cs. TermsFrom m1 c.in_ok-there.there (BelowSome now (s.cond ∷ (s.cells ++ cs)))) c.as_slice.ensures c.in_ok-there.ensures.terms t (c.in_ok-absent.ensures.terms t h)))
           c.in_ok-cond.ensures.terms;
     }
+
+pub returns-then-cond-eq-FALSE_PLACE-clause-holds : goal.returns-then-cond-eq-FALSE_PLACE-clause-holds
+returns-then-cond-eq-FALSE_PLACE-clause-holds g c =
+    let old = g.I.Interner.list c.args.pass.now in
+    let now = g.I.Interner.list c.loop-other.pass in
+    let row = c.args.row.now in
+    alone_never old now c.args.others.now c.loop-other.other-index c.loop-other.cond row.cells (λ v. holds_at v (condition_at old row.cond))
+    (prefix_of_prefix _ old now c.words.ensures.begins c.loop-other.invariant.writes.longer) c.loop-other.invariant.writes.formed
+    c.if-cond-eq-FALSE_PLACE.true c.loop-other.invariant.holds
 
 pub returns-clause-holds : goal.returns-clause-holds
 returns-clause-holds g c =

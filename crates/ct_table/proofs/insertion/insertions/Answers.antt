@@ -13,6 +13,9 @@ use Rattle.ct_table.proofs.Putting.{rows_back}
 use Rattle.ct_table.proofs.Shared.{of_table}
 use Rattle.ct_table.proofs.insertion.insertions.Goals as goal
 
+pub stored-requires : goal.stored-requires
+stored-requires g c = record { apart = rows_apart (g.I.Interner.list c.args.pass.now) c.args.table.now.rows c.requires.table.distinct }
+
 pub returns-in_err-stored-in-None-clause-apart : goal.returns-in_err-stored-in-None-clause-apart
 returns-in_err-stored-in-None-clause-apart g c = rows_apart (g.I.Interner.list c.args.pass.now) c.args.table.now.rows c.requires.table.distinct
 
@@ -20,9 +23,8 @@ pub prepared-requires-in-None-clause-table : goal.prepared-requires-in-None-clau
 prepared-requires-in-None-clause-table g c =
     let t = c.args.table.now in
     let old = g.I.Interner.list c.args.pass.now in
-    let apart : Apart (entries_of c.table.result.now.rows) = subst (λ (x : CTable). Apart (entries_of x.rows)) (sym c.table.ensures) (rows_apart old t.rows c.requires.table.distinct) in
-    let columns = c.in_ok-stored-in-None.ensures.columns ∙ ap (λ (x : CTable). x.columns) c.table.ensures in
-    let rows = ap rows_of (c.in_ok-stored-in-None.ensures.entries apart) ∙ rows_back c.table.result.now.rows ∙ ap (λ (x : CTable). x.rows) c.table.ensures in
+    let columns = c.in_ok-stored-in-None.ensures.columns in
+    let rows = ap rows_of c.in_ok-stored-in-None.ensures.entries ∙ rows_back t.rows in
     subst (λ cs. AreRows old (length cs) (rows_of c.in_ok-stored-in-None.stored.entries)) (sym columns) (subst (AreRows old (length t.columns)) (sym rows) c.requires.table)
 
 pub returns-in-Some-clause-apart : goal.returns-in-Some-clause-apart
@@ -87,9 +89,8 @@ returns-in_ok-stored-in-None-clause-rows g c =
     let now = g.I.Interner.list c.prepared-in-None.new.pass in
     let t = c.args.table.now in
     let s = c.in_ok-stored-in-None.stored in
-    let apart : Apart (entries_of c.table.result.now.rows) = subst (λ (x : CTable). Apart (entries_of x.rows)) (sym c.table.ensures) (rows_apart old t.rows c.requires.table.distinct) in
-    let columns = c.in_ok-stored-in-None.ensures.columns ∙ ap (λ (x : CTable). x.columns) c.table.ensures in
-    let rows = ap rows_of (c.in_ok-stored-in-None.ensures.entries apart) ∙ rows_back c.table.result.now.rows ∙ ap (λ (x : CTable). x.rows) c.table.ensures in
+    let columns = c.in_ok-stored-in-None.ensures.columns in
+    let rows = ap rows_of c.in_ok-stored-in-None.ensures.entries ∙ rows_back t.rows in
     of_table s.columns s.entries t columns rows (λ cs rs after. IfOk c.prepared-in-None.result (λ out. AreRows now (length cs) (after out.items))) c.prepared-in-None.ensures.rows
 
 pub returns-in_ok-stored-in-None-clause-tuples : goal.returns-in_ok-stored-in-None-clause-tuples
@@ -98,9 +99,8 @@ returns-in_ok-stored-in-None-clause-tuples g c v =
     let now = g.I.Interner.list c.prepared-in-None.new.pass in
     let t = c.args.table.now in
     let s = c.in_ok-stored-in-None.stored in
-    let apart : Apart (entries_of c.table.result.now.rows) = subst (λ (x : CTable). Apart (entries_of x.rows)) (sym c.table.ensures) (rows_apart old t.rows c.requires.table.distinct) in
-    let columns = c.in_ok-stored-in-None.ensures.columns ∙ ap (λ (x : CTable). x.columns) c.table.ensures in
-    let rows = ap rows_of (c.in_ok-stored-in-None.ensures.entries apart) ∙ rows_back c.table.result.now.rows ∙ ap (λ (x : CTable). x.rows) c.table.ensures in
+    let columns = c.in_ok-stored-in-None.ensures.columns in
+    let rows = ap rows_of c.in_ok-stored-in-None.ensures.entries ∙ rows_back t.rows in
     of_table s.columns s.entries t columns rows (λ cs rs after. IfOk c.prepared-in-None.result (λ out. SameSet (value_of_rows now v (after out.items)) (value_of_rows old v rs ++ value_of_rows old v c.args.rows.now))) (c.prepared-in-None.ensures.tuples v)
 
 pub returns-in_ok-stored-in-None-clause-order : goal.returns-in_ok-stored-in-None-clause-order
@@ -109,9 +109,8 @@ returns-in_ok-stored-in-None-clause-order g c =
     let now = g.I.Interner.list c.prepared-in-None.new.pass in
     let t = c.args.table.now in
     let s = c.in_ok-stored-in-None.stored in
-    let apart : Apart (entries_of c.table.result.now.rows) = subst (λ (x : CTable). Apart (entries_of x.rows)) (sym c.table.ensures) (rows_apart old t.rows c.requires.table.distinct) in
-    let columns = c.in_ok-stored-in-None.ensures.columns ∙ ap (λ (x : CTable). x.columns) c.table.ensures in
-    let rows = ap rows_of (c.in_ok-stored-in-None.ensures.entries apart) ∙ rows_back c.table.result.now.rows ∙ ap (λ (x : CTable). x.rows) c.table.ensures in
+    let columns = c.in_ok-stored-in-None.ensures.columns in
+    let rows = ap rows_of c.in_ok-stored-in-None.ensures.entries ∙ rows_back t.rows in
     of_table s.columns s.entries t columns rows (λ cs rs after. IfOk c.prepared-in-None.result (λ out. IsSublist (cells_of now (after out.items)) (firsts same_cells (cells_of old rs ++ cells_of old c.args.rows.now)))) c.prepared-in-None.ensures.order
 
 pub returns-in_ok-stored-in-None-clause-part : goal.returns-in_ok-stored-in-None-clause-part
@@ -120,9 +119,8 @@ returns-in_ok-stored-in-None-clause-part g c =
     let now = g.I.Interner.list c.prepared-in-None.new.pass in
     let t = c.args.table.now in
     let s = c.in_ok-stored-in-None.stored in
-    let apart : Apart (entries_of c.table.result.now.rows) = subst (λ (x : CTable). Apart (entries_of x.rows)) (sym c.table.ensures) (rows_apart old t.rows c.requires.table.distinct) in
-    let columns = c.in_ok-stored-in-None.ensures.columns ∙ ap (λ (x : CTable). x.columns) c.table.ensures in
-    let rows = ap rows_of (c.in_ok-stored-in-None.ensures.entries apart) ∙ rows_back c.table.result.now.rows ∙ ap (λ (x : CTable). x.rows) c.table.ensures in
+    let columns = c.in_ok-stored-in-None.ensures.columns in
+    let rows = ap rows_of c.in_ok-stored-in-None.ensures.entries ∙ rows_back t.rows in
     of_table s.columns s.entries t columns rows (λ cs rs after. IfOk c.prepared-in-None.result (λ out. IsSublist (cells_of now (after out.items)) (cells_of old rs ++ cells_of old c.args.rows.now))) c.prepared-in-None.ensures.part
 
 pub returns-in_ok-stored-in-None-clause-terms : goal.returns-in_ok-stored-in-None-clause-terms
@@ -131,7 +129,6 @@ returns-in_ok-stored-in-None-clause-terms g c =
     let now = g.I.Interner.list c.prepared-in-None.new.pass in
     let t = c.args.table.now in
     let s = c.in_ok-stored-in-None.stored in
-    let apart : Apart (entries_of c.table.result.now.rows) = subst (λ (x : CTable). Apart (entries_of x.rows)) (sym c.table.ensures) (rows_apart old t.rows c.requires.table.distinct) in
-    let columns = c.in_ok-stored-in-None.ensures.columns ∙ ap (λ (x : CTable). x.columns) c.table.ensures in
-    let rows = ap rows_of (c.in_ok-stored-in-None.ensures.entries apart) ∙ rows_back c.table.result.now.rows ∙ ap (λ (x : CTable). x.rows) c.table.ensures in
+    let columns = c.in_ok-stored-in-None.ensures.columns in
+    let rows = ap rows_of c.in_ok-stored-in-None.ensures.entries ∙ rows_back t.rows in
     of_table s.columns s.entries t columns rows (λ cs rs after. IfOk c.prepared-in-None.result (λ out. RowsFrom now (after out.items) (TermOfRows old (rs ++ c.args.rows.now)))) c.prepared-in-None.ensures.terms

@@ -12,22 +12,18 @@ loop-row-preserved c =
     let rows = c.args.table.rows in
     let n = length c.loop-row.yielded in
     let r = c.in-Some.row in
-    let t = YieldsList-turn (YieldsList-from_vec c.into_vec-rows.result.items (search rules) (search rules)) c.loop-row.yielded _ c.loop-row.yielded_by _ c.next.new.self r c.in-Some.is c.next.ensures.steps in
-    let lt : n < length rows = subst (λ l. n < length l) c.into_vec-rows.ensures t.0 in
-    let is : r ≡ get_or rows n r = t.1 ∙ ap (λ l. get_or l n r) c.into_vec-rows.ensures in
+    let t = YieldsList-turn (YieldsList-from_vec c.into_vec-row-items.result.items (search rules) (search rules)) c.loop-row.yielded _ c.loop-row.yielded_by _ c.next.new.self r c.in-Some.is c.next.ensures.steps in
+    let lt : n < length rows = subst (λ l. n < length l) c.into_vec-row-items.ensures t.0 in
+    let is : r ≡ get_or rows n r = t.1 ∙ ap (λ l. get_or l n r) c.into_vec-row-items.ensures in
     let done : take n rows ++ r ∷ [] ≡ take (length (c.loop-row.yielded ++ r ∷ [])) rows =
     ap (λ x. take n rows ++ x ∷ []) is ∙ sym (take_more rows n r lt) ∙ ap (λ k. take k rows) (sym (length_push c.loop-row.yielded r)) in
     let p : List ℕ × ℕ = (r.cells, r.cond) in
-    record {
-      columns = c.put.ensures.columns ∙ c.loop-row.invariant.columns;
-      entries = c.put.ensures.entries ∙ (λ i. put (c.loop-row.invariant.entries i) (c.in_ok-make.ensures i).0 (c.in_ok-make.ensures i).1)
-          ∙ sym (put_one_more p (entries_of (take n rows)) []) ∙ ap (put_each []) (sym (map_push (λ (x : CRow). (x.cells, x.cond)) (take n rows) r) ∙ ap entries_of done);
-      room = let one = length_push c.loop-row.yielded r in omega (arith, one, c.loop-row.invariant.room, c.put.ensures.room);
-    }
+    c.in_ok-put.ensures.put ∙ ap (λ l. put l r.cells r.cond) c.loop-row.invariant
+    ∙ sym (put_one_more p (entries_of (take n rows)) []) ∙ ap (put_each []) (sym (map_push (λ (x : CRow). (x.cells, x.cond)) (take n rows) r) ∙ ap entries_of done)
 
 pub returns-clause-entries : goal.returns-clause-entries
 returns-clause-entries c apart =
     let rows = c.args.table.rows in
-    let e = YieldsList-end (YieldsList-from_vec c.into_vec-rows.result.items (search rules) (search rules)) c.loop-row.yielded _ c.loop-row.yielded_by _ c.next.new.self c.in-None.is c.next.ensures.steps in
-    let long : length c.into_vec-rows.result.items ≡ length rows = ap (λ l. length l) c.into_vec-rows.ensures in
-    c.close.ensures.entries ∙ c.loop-row.invariant.entries ∙ ap (λ l. put_each [] (entries_of l)) (take_all (length c.loop-row.yielded) rows (omega (arith, e.1, long))) ∙ put_apart [] (entries_of rows) apart
+    let e = YieldsList-end (YieldsList-from_vec c.into_vec-row-items.result.items (search rules) (search rules)) c.loop-row.yielded _ c.loop-row.yielded_by _ c.next.new.self c.in-None.is c.next.ensures.steps in
+    let long : length c.into_vec-row-items.result.items ≡ length rows = ap (λ l. length l) c.into_vec-row-items.ensures in
+    c.loop-row.invariant ∙ ap (λ l. put_each [] (entries_of l)) (take_all (length c.loop-row.yielded) rows (omega (arith, e.1, long))) ∙ put_apart [] (entries_of rows) apart

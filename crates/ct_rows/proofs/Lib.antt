@@ -1,0 +1,3 @@
+pub mod Entries
+pub mod Linking
+pub mod Writing

@@ -1,0 +1,98 @@
+// The rows of a table.
+
+ghost use Rattle.std.specs.Prelude.{◌≡◌, ◌<◌, [], ◌∷◌, ◌++◌, None, Some, length, slice_get, OnOk, OnErr};
+ghost use Rattle.ct_rows.specs.Entries as spec;
+
+use crate::links::Links;
+use ct_word::{CRow, List};
+use std::alloc::{AllocError, Global};
+use std::marker::Model;
+use std::sync::Arc;
+
+/// The rows of a table: the cells of each, and the place of its condition. Contracts see them as the list of these
+/// pairs, in the order in which the cells came.
+#[derive(Drop)]
+pub struct Rows {
+    links: Links,
+}
+
+impl Model for Rows {
+    ghost use Rattle.std.specs.Prelude.{ℕ, List};
+
+    ghost Value = { List (List ℕ × ℕ) };
+
+    ghost view = { λ r. r.links.entries };
+}
+
+impl Rows {
+    /// No rows. It takes no memory.
+    pub fn new(alloc: Global) -> Rows
+        ensures { result ≡ [] }
+    {
+        Rows {
+            links: Links::new(alloc),
+        }
+    }
+
+    /// How many rows there are.
+    pub fn len(&self) -> usize
+        ensures { result ≡ length self.now }
+    {
+        self.links.len() as usize
+    }
+
+    /// The row at a place.
+    pub fn at(&self, place: usize) -> &CRow
+        requires { place < length self.now }
+        ensures { slice_get self.now place ≡ Some (result.now.cells, result.now.cond) }
+    {
+        self.links.at(place)
+    }
+
+    /// The condition of the row with these cells.
+    pub fn find(&self, cells: &List<u32>) -> Option<u32>
+        ensures { result ≡ spec.find cells.now self.now }
+    {
+        let place = self.links.place_of(cells.as_slice())?;
+        Some(self.links.at(place as usize).cond)
+    }
+
+    /// Puts a row whose cells no row has last, in more slots where the rows are twice as many.
+    ///
+    /// # Errors
+    /// `AllocError` where there is no memory, or where there are 2^32 - 1 rows; the rows are as they were.
+    fn push(&mut self, alloc: Global, row: CRow) -> Result<(), AllocError>
+        requires new { spec.find row.cells self.old ≡ None }
+        ensures put { OnOk result (self.new ≡ self.old ++ (row.cells, row.cond) ∷ []) }
+        ensures same { OnErr result (self.new ≡ self.old) }
+    {
+        if self.links.slots() <= self.links.len() as usize / 2 {
+            self.links = self.links.spread(alloc)?;
+        }
+        self.links.push(alloc, Arc::new(alloc, row)?)
+    }
+
+    /// Puts a condition at cells: in the row that has them, or in a new one, which stands last.
+    ///
+    /// # Errors
+    /// `AllocError` where there is no memory, or where there are 2^32 - 1 rows; the rows are as they were.
+    pub fn put(&mut self, alloc: Global, cells: List<u32>, cond: u32) -> Result<(), AllocError>
+        ensures put { OnOk result (self.new ≡ spec.put self.old cells cond) }
+        ensures same { OnErr result (self.new ≡ self.old) }
+    {
+        match self.links.place_of(cells.as_slice()) {
+            Some(place) => self.links.replace(alloc, place, CRow { cells, cond }),
+            None => self.push(alloc, CRow { cells, cond }),
+        }
+    }
+}
+
+impl Clone for Rows {
+    ghost is_clone = { λ a b. b ≡ a };
+
+    fn clone(&self) -> Result<Rows, AllocError> {
+        Ok(Rows {
+            links: self.links.clone()?,
+        })
+    }
+}

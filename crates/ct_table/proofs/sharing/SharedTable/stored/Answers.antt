@@ -1,0 +1,18 @@
+use Rattle.std.proofs.Common.{◌≡◌, ap, sym, ◌∙◌}
+use Rattle.std.specs.Prelude.{Result, Ok, Err, IfOk, MatchResult}
+use Rattle.std.proofs.lemmas.Result.{IfOk-weaker}
+use Rattle.ct_table.specs.declared.table.CTable.{CTable}
+use Rattle.ct_table.specs.Growing.{Keyed, entries_of}
+use Rattle.ct_table.proofs.Putting.{entries_back}
+use Rattle.ct_table.proofs.sharing.SharedTable.stored.Goals as goal
+
+where_ok : {T E : Type 0} (r : Result T E) (P : T → Type 0) (Q : E → Type 0) → MatchResult r P Q → IfOk r P
+where_ok (Ok x) P Q m = m
+where_ok (Err e) P Q m = tt
+
+pub returns-in-Some-clause-entries : goal.returns-in-Some-clause-entries
+returns-in-Some-clause-entries c =
+    let old = c.in-Some.stored.now in
+    IfOk-weaker c.clone.result _ (λ s. s.entries ≡ entries_of c.args.self.now.rows)
+    (λ s e. ap (λ (k : Keyed). k.entries) e ∙ sym (entries_back old.entries) ∙ ap (λ (t : CTable). entries_of t.rows) c.in-Some.ensures)
+    (where_ok c.clone.result _ _ c.clone.ensures.cases)
