@@ -2,4 +2,6 @@
 #![tactic(auto)]
 
 #[cfg(test)]
+mod capacities;
+#[cfg(test)]
 mod runs;

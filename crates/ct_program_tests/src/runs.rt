@@ -11,12 +11,12 @@ use std::sync::atomic::{AtomicU64, Ordering};
 use std::test::Fail;
 
 /// What the empty script writes.
-const EMPTY: &str = "session 1\nhistory\nend\n";
+pub(crate) const EMPTY: &str = "session 1\nhistory\nend\n";
 
 /// What the empty script writes where it is named twice.
 const TWO: &str = "session 1\nsession 2\nhistory\nend\n";
 
-fn repeated(alloc: Global, bytes: &[u8], times: usize) -> Result<List<u8>, AllocError> {
+pub(crate) fn repeated(alloc: Global, bytes: &[u8], times: usize) -> Result<List<u8>, AllocError> {
     let mut all = Vec::new(alloc);
     for _ in 0..times {
         all.extend_from_slice(bytes)?;
@@ -25,7 +25,7 @@ fn repeated(alloc: Global, bytes: &[u8], times: usize) -> Result<List<u8>, Alloc
 }
 
 /// A source of one file, `f`, whose reads with these numbers fail.
-fn source(alloc: Global, script: List<u8>, fails: &[u64]) -> Result<MemScripts, Fail> {
+pub(crate) fn source(alloc: Global, script: List<u8>, fails: &[u64]) -> Result<MemScripts, Fail> {
     let mut held = Vec::new(alloc);
     held.push((Text::from_str(alloc, "f")?, script))?;
     let fails = Vec::from_slice(alloc, fails)?;
@@ -33,7 +33,7 @@ fn source(alloc: Global, script: List<u8>, fails: &[u64]) -> Result<MemScripts, 
 }
 
 /// A sink whose writes with these numbers fail, each after so many bytes.
-fn sink(alloc: Global, fails: &[(u64, u32)]) -> Result<MemSink, Fail> {
+pub(crate) fn sink(alloc: Global, fails: &[(u64, u32)]) -> Result<MemSink, Fail> {
     let fails = Vec::from_slice(alloc, fails)?;
     Ok(MemSink::make(alloc, List::from_vec(fails)))
 }
@@ -48,6 +48,14 @@ fn words_and_faults(rt: HostRuntime) -> Result<(), Fail> {
         (&["run"; 66], &[], &[], Status::Words, ""),
         (&["run"; 65], &[], &[], Status::ReadFault, ""),
         (&["fill", "3"], &[], &[], Status::Words, ""),
+        (&["run", "--arena", "63", "f"], &[], &[], Status::Words, ""),
+        (
+            &["run", "--arena", "64", "f"],
+            &[],
+            &[],
+            Status::Done,
+            EMPTY,
+        ),
         (&["run", "f"], &[1], &[], Status::ReadFault, ""),
         (&["run", "g"], &[], &[], Status::ReadFault, ""),
         (&["run", "f", "f"], &[], &[], Status::Done, TWO),

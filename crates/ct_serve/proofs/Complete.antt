@@ -1,6 +1,6 @@
 -- A statement within all limits is answered.
 use Rattle.std.proofs.Common.{◌≡◌, ℕ, ◌+◌, ◌≤◌, List, [], ◌∷◌, ◌++◌, take, refl, sym, subst, ◌∙◌, ◌<◌, arith, inl, inr}
-use Rattle.std.specs.Prelude.{All, Option, Some, None, IsSome, IfSome, MatchOption, ◌⊎◌, filter_map}
+use Rattle.std.specs.Prelude.{All, Option, Some, None, IsSome, MatchOption, ◌⊎◌, filter_map}
 use Rattle.std.proofs.lemmas.Bool.{false≢true}
 use Rattle.std.proofs.lemmas.Option.{none-some}
 use Rattle.std.proofs.lemmas.List.Elements.{All-head, All-tail}
@@ -26,7 +26,7 @@ use Rattle.ct_serve.specs.Lawful.{Lawful}
 use Rattle.ct_outside.specs.Outside.{Held}
 use Rattle.ct_serve.specs.declared.ending.Status.TheVariants as status
 use Rattle.ct_serve.specs.Scripts.{IsScript, HoldsScript, HoldsNoScript, IsNoScript}
-use Rattle.ct_serve.specs.Runs.{Outside, Promise}
+use Rattle.ct_serve.specs.Runs.{Asking, Taking, RunPromise}
 use Rattle.ct_serve.specs.Complete.{IsAnswered, IsCurrent, IsWithinLimits, AreComplete, AreCompleteSessions, IsComplete}
 use Rattle.ct_serve.proofs.Between.{ground, ground_inside, ground_outside, IsAmidst, amidst_next, amidst_first, steps, later_commits, seen_current, conflict_current}
 
@@ -120,9 +120,9 @@ not_both None a b = a
 not_both (Some bytes) a b = b a
 
 -- where all files are scripts, a run does not end for one that is none
-pub scripts_served : (N : ℕ) (o : Outside) (t : Transcript) (files : List (List ℕ)) (held : Held) → o.files ≡ Some files → o.held ≡ Some held → All (HoldsScript o.held) files → Promise N o status.Script t → ⊥
-scripts_served N o t files held named told all p =
-    let found : IsNoScript o.held o.asked o.asked' files = subst (λ fs. IfSome fs (IsNoScript o.held o.asked o.asked')) named p.1 in
+pub scripts_served : (N : ℕ) (files : List (List ℕ)) (a : Asking) (k : Taking) (t : Transcript) (held : Held) → a.held ≡ Some held → All (HoldsScript a.held) files → RunPromise N files a k status.Script t → ⊥
+scripts_served N files a k t held told all p =
+    let found : IsNoScript a.held a.asked a.asked' files = p.1 in
     let reached = found.2 in
-    let is : HoldsScript o.held found.0 = of_one (HoldsScript o.held) reached.before (found.1 ++ reached.after) found.0 (subst (All (HoldsScript o.held)) reached.split all) in
+    let is : HoldsScript a.held found.0 = of_one (HoldsScript a.held) reached.before (found.1 ++ reached.after) found.0 (subst (All (HoldsScript a.held)) reached.split all) in
     not_both (held found.0) (subst (λ h. HoldsScript h found.0) told is) (subst (λ h. HoldsNoScript h found.0) told found.3)

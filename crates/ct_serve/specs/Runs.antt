@@ -1,5 +1,5 @@
 -- What a run does.
-use Rattle.std.specs.Prelude.{◌≡◌, ℕ, ◌⊎◌, Bool, true, false, List, [], length, map, Option, IfSome}
+use Rattle.std.specs.Prelude.{◌≡◌, ℕ, ◌⊎◌, Bool, true, false, List, [], length, map, Option, Some, None}
 use Rattle.std.specs.List.{list_any}
 use Rattle.ct_outside.specs.Outside.{Held, Added, Called}
 use Rattle.ct_outside.specs.Writes.{joined, FailedAtCall}
@@ -9,16 +9,14 @@ use Rattle.ct_transcript.specs.declared.reply.Refusal.TheVariants as refusal
 use Rattle.ct_transcript.specs.declared.reply.SessionLog.{SessionLog}
 use Rattle.ct_transcript.specs.declared.transcript.Transcript.{Transcript}
 use Rattle.ct_transcript.specs.Text.{lines_of}
+use Rattle.ct_words.specs.Asked.{Task}
+use Rattle.ct_words.specs.Asked as task
 use Rattle.ct_serve.specs.declared.ending.Status.{Status}
 use Rattle.ct_serve.specs.declared.ending.Status.TheVariants as status
-use Rattle.ct_serve.specs.declared.driving.Sought.{Sought}
-use Rattle.ct_serve.specs.declared.driving.Sought.TheVariants as sought
+use Rattle.ct_serve.specs.declared.printing.Sought.{Sought}
+use Rattle.ct_serve.specs.declared.printing.Sought.TheVariants as sought
 use Rattle.ct_serve.specs.Lawful.{Lawful}
 use Rattle.ct_serve.specs.Scripts.{AreScriptsOf, IsUnread, IsNoScript}
-
--- how many words the log of a run has room for
-abbrev pub capacity : ℕ
-capacity = 262144
 
 -- the transcript without sessions, commits and words
 abbrev pub empty_transcript : Transcript
@@ -52,13 +50,14 @@ IsOutcome logs status.ReadFault = ⊥
 IsOutcome logs status.WriteFault = ⊥
 IsOutcome logs status.Script = ⊥
 
--- the files that the words name; what the source told before the call of the bytes that it holds, and before and after
--- it of the names that it was asked; what the sink told before and after it of its bytes and of its calls
-pub record Outside : Type 0 where
-  pub files : Option (List (List ℕ))
+-- what the source told before the call of the bytes that it holds, and before and after it of the names that it was asked
+pub record Asking : Type 0 where
   pub held : Option Held
   pub asked : Option (List (List ℕ))
   pub asked' : Option (List (List ℕ))
+
+-- what the sink told before and after the call of its bytes and of its calls
+pub record Taking : Type 0 where
   pub taken : Option (List ℕ)
   pub taken' : Option (List ℕ)
   pub calls : Option ℕ
@@ -66,53 +65,75 @@ pub record Outside : Type 0 where
 
 -- a lawful transcript with a session for each file, whose script is what the source tells under the file's name; each
 -- file was asked once, in their order
-pub record IsServed (N : ℕ) (o : Outside) (t : Transcript) : Type 0 where
+pub record IsServed (N : ℕ) (files : List (List ℕ)) (a : Asking) (t : Transcript) : Type 0 where
   pub lawful : Lawful t N
-  pub scripts : IfSome o.files (λ files. AreScriptsOf o.held files (map (λ s. s.script) t.sessions))
-  pub asked_all : IfSome o.files (Added o.asked o.asked')
+  pub scripts : AreScriptsOf a.held files (map (λ s. s.script) t.sessions)
+  pub asked_all : Added a.asked a.asked' files
 
--- exactly the lines of the transcript were added, one call a line
-pub record IsWritten (o : Outside) (t : Transcript) : Type 0 where
-  pub whole : Added o.taken o.taken' (joined (lines_of t.sessions t.history))
-  pub called : Called o.calls o.calls' (length (lines_of t.sessions t.history))
+-- exactly these lines were added, one call a line
+pub record IsWritten (k : Taking) (lines : List (List ℕ)) : Type 0 where
+  pub whole : Added k.taken k.taken' (joined lines)
+  pub called : Called k.calls k.calls' (length lines)
 
 -- a call failed: the lines before its own were added, and a prefix of its own
-pub record IsWriteFault (o : Outside) (t : Transcript) : Type 0 where
+pub record IsWriteFault (k : Taking) (lines : List (List ℕ)) : Type 0 where
   pub call : ℕ
-  pub failed : FailedAtCall o.taken o.taken' (lines_of t.sessions t.history) call
-  pub called : Called o.calls o.calls' call
+  pub failed : FailedAtCall k.taken k.taken' lines call
+  pub called : Called k.calls k.calls' call
 
 -- nothing was added, and no call was made
-pub record IsUntouched (o : Outside) : Type 0 where
-  pub nothing : Added o.taken o.taken' []
-  pub called : Called o.calls o.calls' 0
+pub record IsUntouched (k : Taking) : Type 0 where
+  pub nothing : Added k.taken k.taken' []
+  pub called : Called k.calls k.calls' 0
 
 -- all lines were written, and some reply is want of memory; or nothing was, for want of memory
-pub data IsCutShort (o : Outside) (t : Transcript) : Type 0 where
-  in_reply : IsWritten o t → some_reply is_memory t.sessions ≡ true → IsCutShort o t
-  in_lines : IsUntouched o → IsCutShort o t
+pub data IsCutShort (k : Taking) (lines : List (List ℕ)) (logs : List SessionLog) : Type 0 where
+  in_reply : IsWritten k lines → some_reply is_memory logs ≡ true → IsCutShort k lines logs
+  in_lines : IsUntouched k → IsCutShort k lines logs
 
--- how a transcript was printed
-abbrev pub Printed : Outside → Transcript → Status → Type 0
-Printed o t status.Done = IsWritten o t × IsOutcome t.sessions status.Done
-Printed o t status.Refused = IsWritten o t × IsOutcome t.sessions status.Refused
-Printed o t status.Memory = IsCutShort o t
-Printed o t status.WriteFault = IsWriteFault o t
-Printed o t status.Words = ⊥
-Printed o t status.ReadFault = ⊥
-Printed o t status.Script = ⊥
+-- how the lines of these sessions were printed
+abbrev pub Printed : Taking → List (List ℕ) → List SessionLog → Status → Type 0
+Printed k lines logs status.Done = IsWritten k lines × IsOutcome logs status.Done
+Printed k lines logs status.Refused = IsWritten k lines × IsOutcome logs status.Refused
+Printed k lines logs status.Memory = IsCutShort k lines logs
+Printed k lines logs status.WriteFault = IsWriteFault k lines
+Printed k lines logs status.Words = ⊥
+Printed k lines logs status.ReadFault = ⊥
+Printed k lines logs status.Script = ⊥
+
+-- how the lines of a transcript were printed
+abbrev pub PrintedWhole : Taking → Transcript → Status → Type 0
+PrintedWhole k t = Printed k (lines_of t.sessions t.history) t.sessions
 
 -- nothing was done: the transcript is empty, and the sink untouched
-pub record IsNothingDone (o : Outside) (t : Transcript) : Type 0 where
+pub record IsNothingDone (k : Taking) (t : Transcript) : Type 0 where
   pub empty : t ≡ empty_transcript
-  pub untouched : IsUntouched o
+  pub untouched : IsUntouched k
 
--- what a run with this status did
-abbrev pub Promise : ℕ → Outside → Status → Transcript → Type 0
-Promise N o status.Done t = IsServed N o t × Printed o t status.Done
-Promise N o status.Refused t = IsServed N o t × Printed o t status.Refused
-Promise N o status.WriteFault t = IsServed N o t × Printed o t status.WriteFault
-Promise N o status.Memory t = IsNothingDone o t ⊎ (IsServed N o t × Printed o t status.Memory)
-Promise N o status.Words t = IsNothingDone o t
-Promise N o status.ReadFault t = IsNothingDone o t × IfSome o.files (IsUnread o.held o.asked o.asked')
-Promise N o status.Script t = IsNothingDone o t × IfSome o.files (IsNoScript o.held o.asked o.asked')
+-- what was done for files on a log of N words
+abbrev pub RunPromise : ℕ → List (List ℕ) → Asking → Taking → Status → Transcript → Type 0
+RunPromise N files a k status.Done t = IsServed N files a t × PrintedWhole k t status.Done
+RunPromise N files a k status.Refused t = IsServed N files a t × PrintedWhole k t status.Refused
+RunPromise N files a k status.WriteFault t = IsServed N files a t × PrintedWhole k t status.WriteFault
+RunPromise N files a k status.Memory t = IsNothingDone k t ⊎ (IsServed N files a t × PrintedWhole k t status.Memory)
+RunPromise N files a k status.ReadFault t = IsNothingDone k t × IsUnread a.held a.asked a.asked' files
+RunPromise N files a k status.Script t = IsNothingDone k t × IsNoScript a.held a.asked a.asked' files
+RunPromise N files a k status.Words t = ⊥
+
+-- what was done for words that are not understood
+abbrev pub NothingPromise : Taking → Status → Transcript → Type 0
+NothingPromise k status.Words t = IsNothingDone k t
+NothingPromise k status.Memory t = IsNothingDone k t
+NothingPromise k _ t = ⊥
+
+-- what was done for words that ask for this, where they are understood
+abbrev pub Promise : Option Task → Asking → Taking → Status → Transcript → Type 0
+Promise None a k status t = NothingPromise k status t
+Promise (Some (task.run N files)) a k status t = RunPromise N files a k status t
+Promise (Some (task.fill n)) a k status t = NothingPromise k status t
+
+-- the files that are asked for
+abbrev pub files_in : Option Task → List (List ℕ)
+files_in None = []
+files_in (Some (task.run N files)) = files
+files_in (Some (task.fill n)) = []

@@ -1,11 +1,9 @@
--- Which files the words of a run name, what a script is, and which files were read.
-use Rattle.std.specs.Prelude.{◌≡◌, ℕ, ◌≤◌, List, [], ◌∷◌, ◌++◌, length, codes, All, Option, Some, None, IfSome, MatchOption, unwrap_or, nat_le, ◌&&◌, if◌then◌else◌}
-use Rattle.std.specs.Borrow.{Bor}
+-- What a script is, and which files were read.
+use Rattle.std.specs.Prelude.{◌≡◌, ℕ, ◌≤◌, List, [], ◌∷◌, ◌++◌, length, All, Option, IfSome, MatchOption}
 use Rattle.std.specs.Str.{IsUtf8}
-use Rattle.ct_word.specs.Value.{same_text}
 use Rattle.ct_lex.specs.Texts.{texts}
-use Rattle.ct_outside.specs.Outside.{Held, Added, AddedFront}
-use Rattle.ct_outside.specs.Reads.{HoldsAll, names_of}
+use Rattle.ct_outside.specs.Outside.{Held, Added}
+use Rattle.ct_outside.specs.Reads.{HoldsAll}
 
 -- the greatest number of bytes, and of statements, of a script
 abbrev pub SCRIPT_BYTES : ℕ
@@ -13,19 +11,6 @@ SCRIPT_BYTES = 1048576
 
 abbrev pub SCRIPT_STATEMENTS : ℕ
 SCRIPT_STATEMENTS = 65535
-
--- the greatest number of files of a run
-abbrev pub FILES : ℕ
-FILES = 64
-
--- the files that words name: one or more, at most FILES, after the word run
-abbrev pub files_of : List (List ℕ) → Option (List (List ℕ))
-files_of [] = None
-files_of (command ∷ files) = if same_text command (codes "run") && (nat_le 1 (length files) && nat_le (length files) FILES) then Some files else None
-
--- the files that the words name to which references point
-abbrev pub files_named : List (Bor (List ℕ)) → Option (List (List ℕ))
-files_named words = files_of (names_of words)
 
 -- bytes are a script: not too many, text in UTF-8, and not too many statements
 pub record IsScript (bytes : List ℕ) : Type 0 where
@@ -64,10 +49,6 @@ pub record IsReached (told : Option Held) (asked asked' : Option (List (List ℕ
   pub split : files ≡ before ++ file ∷ (ahead ++ after)
   pub scripts : All (HoldsScript told) before
   pub asked_in_order : Added asked asked' (before ++ file ∷ ahead)
-
--- where a source tells the names, those of the call are the first of the files, in their order; of none without files
-abbrev pub AsksInOrder : Option (List (List ℕ)) → Option (List (List ℕ)) → Option (List (List ℕ)) → Type 0
-AsksInOrder asked asked' files = AddedFront asked asked' (unwrap_or files [])
 
 -- a file was the last that was asked, and those before it are scripts
 abbrev pub IsUnread : Option Held → Option (List (List ℕ)) → Option (List (List ℕ)) → List (List ℕ) → Type 0

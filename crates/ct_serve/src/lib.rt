@@ -4,6 +4,7 @@
 mod client;
 mod driving;
 mod ending;
+mod printing;
 mod reading;
 mod serving;
 mod theorems;

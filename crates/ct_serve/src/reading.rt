@@ -1,9 +1,9 @@
 // The scripts of the files that a run names.
 
-ghost use Rattle.std.specs.Prelude.{◌≡◌, ◌≤◌, All, IfOk, IfErr, IfSome, OnOk, length, option_map};
+ghost use Rattle.std.specs.Prelude.{◌≡◌, ◌≤◌, All, IfOk, IfErr, OnOk, length};
 ghost use Rattle.ct_outside.specs.Outside.{Rose, Added, AddedFront};
 ghost use Rattle.ct_outside.specs.Reads.{names_of, bytes_in};
-ghost use Rattle.ct_serve.specs.Scripts.{SCRIPT_BYTES, files_named, IsScript, AreScriptsOf, HasNoScript, IsUnread, IsNoScript};
+ghost use Rattle.ct_serve.specs.Scripts.{SCRIPT_BYTES, IsScript, AreScriptsOf, HasNoScript, IsUnread, IsNoScript};
 ghost use Rattle.ct_serve.specs.declared.reading.Unserved.TheVariants as unserved;
 
 use ct_lex::split;
@@ -17,12 +17,8 @@ const SCRIPT_BYTES: u32 = 0x10_0000;
 /// The greatest number of statements of a script.
 const SCRIPT_STATEMENTS: usize = 65_535;
 
-/// The greatest number of files of a run.
-const FILES: usize = 64;
-
 /// Why no session ran.
 pub(crate) enum Unserved {
-    Words,
     ReadFault,
     Script,
     Memory,
@@ -44,20 +40,6 @@ impl<T: Drop> From<AllocFailed<T>> for Unserved {
     }
 }
 
-/// The files that the words name, from 1 to 64.
-pub(crate) fn files_named<'a, 'b>(words: &'a [&'b str]) -> Option<&'a [&'b str]>
-    ensures files { option_map (λ files. names_of files.now) result ≡ files_named words.now }
-    ensures least { IfSome result (λ files. 1 ≤ length files.now) }
-    ensures most { IfSome result (λ files. length files.now ≤ 64) }
-{
-    let (command, files) = words.split_first()?;
-    if *command == "run" && 1 <= files.len() && files.len() <= FILES {
-        Some(files)
-    } else {
-        None
-    }
-}
-
 /// The script that the bytes are.
 ///
 /// # Errors
@@ -67,7 +49,7 @@ fn as_script(alloc: Global, bytes: Vec<u8>) -> Result<Text, Unserved>
     ensures same { IfOk result (λ script. script ≡ bytes.items) }
     ensures script { IfOk result (λ script. IsScript script) }
     ensures no_script { IfErr result (λ e. e ≡ unserved.Script → IsScript bytes.items → ⊥) }
-    ensures others { IfErr result (λ e. (e ≡ unserved.Words → ⊥) × (e ≡ unserved.ReadFault → ⊥)) }
+    ensures no_fault { IfErr result (λ e. e ≡ unserved.ReadFault → ⊥) }
 {
     let Ok(text) = String::from_utf8(bytes) else {
         return Err(Unserved::Script);
@@ -89,7 +71,7 @@ fn as_scripts(alloc: Global, texts: Vec<Vec<u8>>) -> Result<Vec<Text>, Unserved>
     ensures same { IfOk result (λ scripts. scripts.items ≡ bytes_in texts.items) }
     ensures scripts { IfOk result (λ scripts. All IsScript scripts.items) }
     ensures no_script { IfErr result (λ e. e ≡ unserved.Script → HasNoScript (bytes_in texts.items)) }
-    ensures others { IfErr result (λ e. (e ≡ unserved.Words → ⊥) × (e ≡ unserved.ReadFault → ⊥)) }
+    ensures no_fault { IfErr result (λ e. e ≡ unserved.ReadFault → ⊥) }
 {
     let mut scripts = Vec::new(alloc);
     for bytes in texts {
@@ -114,7 +96,6 @@ pub(crate) fn scripts_of<S: Scripts>(
     ensures rose { IfErr result (λ e. e ≡ unserved.ReadFault → Rose (S.faults source.old) (S.faults source.new)) }
     ensures unread { IfErr result (λ e. e ≡ unserved.ReadFault → IsUnread (S.held source.old) (S.names source.old) (S.names source.new) (names_of files.now)) }
     ensures no_script { IfErr result (λ e. e ≡ unserved.Script → IsNoScript (S.held source.old) (S.names source.old) (S.names source.new) (names_of files.now)) }
-    ensures words { IfErr result (λ e. e ≡ unserved.Words → ⊥) }
 {
     let Unread { texts, fault } = match read_all(alloc, source, files, SCRIPT_BYTES) {
         Ok(texts) => return as_scripts(alloc, texts),

@@ -6,7 +6,7 @@ ghost use Rattle.ct_transcript.specs.declared.transcript.Transcript.{Transcript}
 ghost use Rattle.ct_serve.specs.Lawful.{Lawful};
 ghost use Rattle.ct_serve.specs.Complete.{IsComplete};
 ghost use Rattle.ct_serve.specs.Scripts.{HoldsScript};
-ghost use Rattle.ct_serve.specs.Runs.{Outside, Promise};
+ghost use Rattle.ct_serve.specs.Runs.{Asking, Taking, RunPromise};
 ghost use Rattle.ct_serve.specs.declared.ending.Status.TheVariants as status;
 
 /// Completeness: a lawful transcript refuses no statement that is within all limits, but for want of memory. So each
@@ -17,5 +17,5 @@ pub fn within_limits_is_answered()
 
 /// Where a source tells that all files are scripts, a run does not end for one that is none.
 pub fn scripts_are_served()
-    ensures { (N : ℕ) (o : Outside) (t : Transcript) (files : List (List ℕ)) (held : Held) → o.files ≡ Some files → o.held ≡ Some held → All (HoldsScript o.held) files → Promise N o status.Script t → ⊥ }
+    ensures { (N : ℕ) (files : List (List ℕ)) (a : Asking) (k : Taking) (t : Transcript) (held : Held) → a.held ≡ Some held → All (HoldsScript a.held) files → RunPromise N files a k status.Script t → ⊥ }
 {}

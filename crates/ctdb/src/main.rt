@@ -1,4 +1,5 @@
-//! `ctdb run FILE ..` runs a session for each script, and writes their transcript: every reply, then the history of commits.
+//! `ctdb run [--arena N] FILE...` runs a session for each script, and writes their transcript: every reply, then the history
+//! of commits.
 #![tactic(auto)]
 
 use anyhow::Result;

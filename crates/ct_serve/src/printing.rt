@@ -1,0 +1,88 @@
+// Writing lines, and how a run ends whose lines were written.
+
+ghost use Rattle.std.specs.Prelude.{◌≡◌};
+ghost use Rattle.std.specs.List.{list_any};
+ghost use Rattle.ct_outside.specs.Outside.{Rose};
+ghost use Rattle.ct_serve.specs.Runs.{is_sought, some_reply, IsOutcome, Taking, Printed, PrintedWhole};
+ghost use Rattle.ct_serve.specs.declared.ending.Status.TheVariants as status;
+
+use crate::ending::Status;
+use ct_outside::{Sink, write_all};
+use ct_transcript::{Refusal, Reply, SessionLog, Transcript, lines};
+use ct_word::Text;
+use std::alloc::Global;
+
+/// What is looked for among replies.
+#[derive(Clone, Copy)]
+enum Sought {
+    Refusal,
+    Memory,
+}
+
+fn is_sought(reply: &Reply, sought: Sought) -> bool
+    ensures { result ≡ is_sought sought reply.now }
+{
+    match (reply, sought) {
+        (Reply::Refused { .. }, Sought::Refusal) => true,
+        (
+            Reply::Refused {
+                why: Refusal::Memory,
+                ..
+            },
+            Sought::Memory,
+        ) => true,
+        _ => false,
+    }
+}
+
+fn has_reply(log: &SessionLog, sought: Sought) -> bool
+    ensures { result ≡ list_any (is_sought sought) log.now.replies }
+{
+    let mut replies = log.replies.as_slice().iter();
+    replies.any(|reply| is_sought(reply, sought))
+}
+
+fn some_reply(logs: &[SessionLog], sought: Sought) -> bool
+    ensures { result ≡ some_reply (is_sought sought) logs.now }
+{
+    logs.iter().any(|log| has_reply(log, sought))
+}
+
+/// How a run ends whose lines were written.
+fn outcome(logs: &[SessionLog]) -> Status
+    ensures { IsOutcome logs.now result }
+{
+    if some_reply(logs, Sought::Memory) {
+        return Status::Memory;
+    }
+    if some_reply(logs, Sought::Refusal) {
+        return Status::Refused;
+    }
+    Status::Done
+}
+
+/// Writes the lines of these sessions, with one call for each.
+fn print<K: Sink>(lines: &[Text], logs: &[SessionLog], out: &mut K) -> Status
+    ensures printed { Printed (record { taken = K.taken out.old; taken' = K.taken out.new; calls = K.calls out.old; calls' = K.calls out.new }) lines.now logs.now result }
+    ensures write { result ≡ status.WriteFault → Rose (K.faults out.old) (K.faults out.new) }
+{
+    match write_all(out, lines) {
+        Ok(()) => outcome(logs),
+        Err(_) => Status::WriteFault,
+    }
+}
+
+/// Writes the lines of a transcript, with one call for each.
+pub(crate) fn print_transcript<K: Sink>(
+    alloc: Global,
+    transcript: &Transcript,
+    out: &mut K,
+) -> Status
+    ensures printed { PrintedWhole (record { taken = K.taken out.old; taken' = K.taken out.new; calls = K.calls out.old; calls' = K.calls out.new }) transcript.now result }
+    ensures write { result ≡ status.WriteFault → Rose (K.faults out.old) (K.faults out.new) }
+{
+    let Ok(text) = lines(alloc, transcript) else {
+        return Status::Memory;
+    };
+    print(text.as_slice(), transcript.sessions.as_slice(), out)
+}
