@@ -1,11 +1,14 @@
 -- The tuples that rows are worth at a kept world: how many there are, and which values they have.
-use Rattle.std.proofs.Common.{◌≡◌, ◌≤◌, ◌<◌, ◌+◌, ℕ, zero, suc, Bool, true, false, List, [], ◌∷◌, ◌++◌, drop, get_or, map, length, take, refl, ap, sym, subst, ◌∙◌, arith, inl, inr, if◌then◌else◌}
+use Rattle.std.proofs.Common.{◌≡◌, ◌≤◌, ◌<◌, ◌+◌, ℕ, zero, suc, Bool, true, false, List, [], ◌∷◌, ◌++◌, get_or, map, length, take, refl, ap, sym, subst, ◌∙◌, arith, inl, inr, if◌then◌else◌}
 use Rattle.std.specs.Prelude.{◌&&◌, ◌||◌, All, IsTrue, filter}
+use Rattle.std.specs.List.{IsDistinct, list_any}
+use Rattle.std.specs.Cmp.{IsEquivalence}
+use Rattle.std.proofs.lemmas.Bool.Decides.{same_from_decides}
 use Rattle.std.proofs.lemmas.Bool.{false≢true}
 use Rattle.std.proofs.lemmas.List.{take_more}
-use Rattle.std.proofs.Math.Seq.{drop-cons}
 use Rattle.std.proofs.lemmas.List.Elements.{All-head, All-tail, All-nil, All-cons, All-weaker}
 use mathlib.Core.List.{IsPrefix}
+use Rattle.indexmap.specs.IndexSet.{insert_key}
 use Rattle.ct_word.specs.declared.kinds.Class.TheVariants as class
 use Rattle.ct_word.specs.declared.values.Value.{Value}
 use Rattle.ct_word.specs.declared.values.Null.{Null}
@@ -17,21 +20,23 @@ use Rattle.ct_word.specs.Condition.{holds_at}
 use Rattle.ct_word.specs.Reading.{IsTerm, condition_at, plain_crow, term_at}
 use Rattle.ct_word.specs.Stands.{HasNoColumn, StandsAt}
 use Rattle.ct_word.specs.WellFormed.{IsWellFormed, is_place_of}
+use Rattle.ct_word.specs.Sublist.{IsSublist, ended, left_out, taken}
+use Rattle.ct_word.proofs.Alike.{tuple_decides}
 use Rattle.ct_word.proofs.Places.{stands_term}
 use Rattle.ct_word.proofs.Prefixes.{prefix_of_prefix, prefix_same}
 use Rattle.ct_arena.specs.Counts.{opening}
 use Rattle.ct_condition.proofs.Placed.{place_from}
 use Rattle.ct_equality.specs.Valued.{IsNumbered}
-use Rattle.ct_table.specs.Tables.{AreRows, IsRow, value_of_rows}
+use Rattle.ct_table.specs.Tables.{AreRows, IsRow, firsts, value_of_rows}
+use Rattle.ct_table.proofs.Firsts.{any_first, firsts_known, firsts_long, firsts_new, firsts_part}
 use Rattle.ct_table.proofs.Holding.{holds_false}
 use Rattle.ct_table.proofs.Selecting.{value-push}
-use Rattle.ct_rewrite.specs.declared.answer.CertainRow.{CertainRow}
 use Rattle.ct_query.specs.Database.{has_tuple}
 use Rattle.std.specs.Cmp.Lexicographic.{pointwise}
 use Rattle.ct_word.specs.contracts.values.ValuePartialEq.TheImpl as value_eq
 use Rattle.ct_word.specs.declared.values.Value.TheVariants as val
 use Rattle.ct_certain.specs.declared.striking.Seen.{Seen}
-use Rattle.ct_certain.specs.Certain.{IsInAll, IsKeptWorld, tuples_in}
+use Rattle.ct_certain.specs.Certain.{IsInAll, IsKeptWorld}
 use Rattle.ct_certain.specs.Missing.{IsAskedOf, IsAtHand, IsSeen}
 use Rattle.ct_certain.proofs.Missing.{one_or_none, one_row}
 
@@ -142,35 +147,50 @@ tuples_compared (x ∷ a) (y ∷ b) = λ i. value_compared x y i && tuples_compa
 tuples_compared [] (y ∷ b) = refl
 tuples_compared (x ∷ a) [] = refl
 
--- the tuples from a row on
-pub from_row : (list : List CertainRow) (t : List Value) (i : ℕ) (r : CertainRow) → i < length list → r ≡ get_or list i r
-    → has_tuple (tuples_in (drop i list)) t ≡ (same_tuple r.tuple t || has_tuple (tuples_in (drop (i + 1) list)) t)
-from_row list t i r lt e =
-    let one : suc i ≡ i + 1 = omega arith in
-    ap (λ l. has_tuple (tuples_in l) t) (drop-cons list i r lt) ∙ (λ j. same_tuple (sym e j).tuple t || has_tuple (tuples_in (drop (one j) list)) t)
+compared : pointwise value_eq.ghosts.eq ≡ same_tuple
+compared i a b = tuples_compared a b i
 
-pub row_found : (list : List CertainRow) (t : List Value) (i : ℕ) (r : CertainRow) → i < length list → r ≡ get_or list i r → true ≡ same_tuple r.tuple t
-    → has_tuple (tuples_in (drop i list)) t ≡ has_tuple (tuples_in list) t → true ≡ has_tuple (tuples_in list) t
-row_found list t i r lt e is so_far = ap (λ b. b || has_tuple (tuples_in (drop (i + 1) list)) t) is ∙ sym (from_row list t i r lt e) ∙ so_far
+tuple_equiv : IsEquivalence same_tuple
+tuple_equiv = record {
+  refl = λ x. (tuple_decides x x).1 refl;
+  symm = λ x y. same_from_decides (same_tuple x y) (same_tuple y x) (tuple_decides x y) (λ e. sym ((tuple_decides y x).0 e), λ e. (tuple_decides y x).1 (sym e));
+  congr = λ x y z e. ap (λ w. same_tuple w z) ((tuple_decides x y).0 e);
+}
 
-pub row_passed : (list : List CertainRow) (t : List Value) (i : ℕ) (r : CertainRow) → i < length list → r ≡ get_or list i r → false ≡ same_tuple r.tuple t
-    → has_tuple (tuples_in (drop i list)) t ≡ has_tuple (tuples_in list) t → has_tuple (tuples_in (drop (i + 1) list)) t ≡ has_tuple (tuples_in list) t
-row_passed list t i r lt e is so_far = ap (λ b. b || has_tuple (tuples_in (drop (i + 1) list)) t) is ∙ sym (from_row list t i r lt e) ∙ so_far
+same_other : (ts : List (List Value)) (u : List Value) → list_any (same_tuple u) ts ≡ has_tuple ts u
+same_other [] u = refl
+same_other (x ∷ ts) u = λ i. tuple_equiv.symm u x i || same_other ts u i
 
--- the tuples from one on
-from_tuple : (ts : List (List Value)) (t : List Value) (i : ℕ) (x : List Value) → i < length ts → x ≡ get_or ts i x → has_tuple (drop i ts) t ≡ (same_tuple x t || has_tuple (drop (i + 1) ts) t)
-from_tuple ts t i x lt e =
-    let one : suc i ≡ i + 1 = omega arith in
-    ap (λ l. has_tuple l t) (drop-cons ts i x lt) ∙ (λ j. same_tuple (sym e j) t || has_tuple (drop (one j) ts) t)
+-- the tuples that stand first are all tuples
+pub has_first : (ts : List (List Value)) (u : List Value) → has_tuple (firsts same_tuple ts) u ≡ has_tuple ts u
+has_first ts u = sym (same_other (firsts same_tuple ts) u) ∙ any_first same_tuple tuple_equiv u ts ∙ same_other ts u
 
-pub tuple_found : (ts : List (List Value)) (t : List Value) (i : ℕ) (x : List Value) → i < length ts → x ≡ get_or ts i x → true ≡ same_tuple x t
-    → has_tuple (drop i ts) t ≡ has_tuple ts t → true ≡ has_tuple ts t
-tuple_found ts t i x lt e is so_far = ap (λ b. b || has_tuple (drop (i + 1) ts) t) is ∙ sym (from_tuple ts t i x lt e) ∙ so_far
+-- a tuple put into a set that has the first ones
+pub first_put : (before : List (List Value)) (u : List Value) (old new : List (List Value)) → old ≡ firsts same_tuple before → new ≡ insert_key (pointwise value_eq.ghosts.eq) old u → new ≡ firsts same_tuple (before ++ u ∷ [])
+first_put before u old new e put = put ∙ (λ i. insert_key (compared i) (e i) u) ∙ by (list_any (same_tuple u) before) refl where
+  by : (b : Bool) → list_any (same_tuple u) before ≡ b → insert_key same_tuple (firsts same_tuple before) u ≡ firsts same_tuple (before ++ u ∷ [])
+  by true q = ap (λ c. if c then firsts same_tuple before else firsts same_tuple before ++ u ∷ []) (any_first same_tuple tuple_equiv u before ∙ q) ∙ sym (firsts_known same_tuple tuple_equiv before u q)
+  by false q = ap (λ c. if c then firsts same_tuple before else firsts same_tuple before ++ u ∷ []) (any_first same_tuple tuple_equiv u before ∙ q) ∙ sym (firsts_new same_tuple tuple_equiv before u q)
 
-pub tuple_passed : (ts : List (List Value)) (t : List Value) (i : ℕ) (x : List Value) → i < length ts → x ≡ get_or ts i x → false ≡ same_tuple x t
-    → has_tuple (drop i ts) t ≡ has_tuple ts t → has_tuple (drop (i + 1) ts) t ≡ has_tuple ts t
-tuple_passed ts t i x lt e is so_far = ap (λ b. b || has_tuple (drop (i + 1) ts) t) is ∙ sym (from_tuple ts t i x lt e) ∙ so_far
+-- what a set has
+pub contained : (ts : List (List Value)) (u : List Value) → list_any (pointwise value_eq.ghosts.eq u) ts ≡ has_tuple ts u
+contained ts u = (λ i. list_any (compared i u) ts) ∙ same_other ts u
+
+-- the keys of a set are distinct
+pub distinct_keys : (ts : List (List Value)) → IsDistinct (pointwise value_eq.ghosts.eq) ts → IsDistinct same_tuple ts
+distinct_keys ts d = subst (λ e. IsDistinct e ts) compared d
+
+part_all : {X : Type 0} (P : X → Type 0) {xs ys : List X} → IsSublist xs ys → All P ys → All P xs
+part_all P ended all = all
+part_all P (left_out {y = y} {ys = ys} s) all = part_all P s (All-tail P y ys all)
+part_all P (taken {x = x} {xs = xs} {ys = ys} s) all = All-cons P x xs (All-head P x ys all) (part_all P s (All-tail P x ys all))
+
+pub first_all : (P : List Value → Type 0) (ts : List (List Value)) → All P ts → All P (firsts same_tuple ts)
+first_all P ts all = part_all P (firsts_part same_tuple ts) all
+
+pub first_fewer : (ts : List (List Value)) → length (firsts same_tuple ts) ≤ length ts
+first_fewer ts = let le = (firsts_long same_tuple tuple_equiv [] ts).1 in omega (arith, le)
 
 -- a tuple that one world lacks is not certain
-pub lacking : (words : List ℕ) (global : ℕ) (rs : List CRow) (s : Seen) (t : List Value) → IsSeen words global rs s → false ≡ has_tuple s.tuples t → IsInAll words global rs t → ⊥
-lacking words global rs s t is lacks all = false≢true (lacks ∙ ap (λ ts. has_tuple ts t) is.tuples ∙ all is.world is.holds)
+pub lacking : (words : List ℕ) (global : ℕ) (rs : List CRow) (s : Seen) (t : List Value) → IsSeen words global rs s → false ≡ has_tuple s.tuples.keys t → IsInAll words global rs t → ⊥
+lacking words global rs s t is lacks all = false≢true (lacks ∙ is.tuples t ∙ all is.world is.holds)

@@ -1,13 +1,10 @@
 -- Lists of certain tuples, one candidate after another.
 use Rattle.std.proofs.Common.{◌≡◌, ◌<◌, ◌+◌, ℕ, get_or, length, take, Bool, true, false, not, ◌&&◌, ◌||◌, List, [], ◌∷◌, ◌++◌, refl, ap, sym, subst, ◌∙◌, inl, inr}
 use Rattle.std.specs.Prelude.{◌⊎◌, All, IsTrue}
-use Rattle.std.specs.List.{AllByRecursion, IsDistinct, list_any}
-use Rattle.std.specs.Cmp.{IsEquivalence}
-use Rattle.std.proofs.lemmas.Bool.Decides.{same_from_decides}
-use Rattle.std.proofs.lemmas.Bool.{and_parts, cases_Bool, false≢true}
+use Rattle.std.specs.List.{IsDistinct}
+use Rattle.std.proofs.lemmas.Bool.{and_parts, false≢true}
 use Rattle.std.proofs.lemmas.List.{take_more}
 use Rattle.std.proofs.lemmas.List.Elements.{All-head, All-tail, All-nil, All-push, All-weaker}
-use Rattle.std.proofs.lemmas.Map.Keys.{IsDistinct-cons, IsDistinct-head, IsDistinct-tail}
 use mathlib.Core.List.{IsPrefix}
 use Rattle.ct_word.specs.declared.kinds.Class.TheVariants as class
 use Rattle.ct_word.specs.declared.values.Value.{Value}
@@ -25,12 +22,12 @@ use Rattle.ct_derivation.proofs.Longer.{accepted_longer}
 use Rattle.ct_derivation.proofs.Sound.{root_refuted}
 use Rattle.ct_rewrite.specs.declared.answer.CertainRow.{CertainRow}
 use Rattle.ct_table.specs.Tables.{firsts, value_of_rows}
-use Rattle.ct_table.proofs.Denoting.{none_distinct}
-use Rattle.ct_table.proofs.Firsts.{firsts_known, firsts_new}
+use Rattle.ct_table.proofs.Selecting.{distinct_part}
 use Rattle.ct_certain.specs.Certain.{tuples_in, IsInAll, RefutesMissing, ListsCertain}
 use Rattle.ct_decide.specs.declared.deciding.Decision.TheVariants as decision
 use Rattle.ct_certain.specs.Answered.{IsSettled}
 use Rattle.ct_certain.specs.Missing.{AreListed, IsRootOf, Takes, nothing, one}
+use Rattle.ct_certain.proofs.Candidates.{has_first}
 
 sub_left : {A : Type 0} {xs ys : List A} (y : A) → IsSublist xs ys → IsSublist xs (ys ++ y ∷ [])
 sub_left y ended = left_out ended
@@ -45,31 +42,6 @@ sub_more y (taken s) = taken (sub_more y s)
 tuples_push : (list : List CertainRow) (r : CertainRow) → tuples_in (list ++ r ∷ []) ≡ tuples_in list ++ r.tuple ∷ []
 tuples_push [] r = refl
 tuples_push (x ∷ list) r = ap (λ l. x.tuple ∷ l) (tuples_push list r)
-
-tuple_equiv : IsEquivalence same_tuple
-tuple_equiv = record {
-  refl = λ x. (tuple_decides x x).1 refl;
-  symm = λ x y. same_from_decides (same_tuple x y) (same_tuple y x) (tuple_decides x y) (λ e. sym ((tuple_decides y x).0 e), λ e. (tuple_decides y x).1 (sym e));
-  congr = λ x y z e. ap (λ w. same_tuple w z) ((tuple_decides x y).0 e);
-}
-
-same_other : (ts : List (List Value)) (u : List Value) → list_any (same_tuple u) ts ≡ has_tuple ts u
-same_other [] u = refl
-same_other (x ∷ ts) u = λ i. tuple_equiv.symm u x i || same_other ts u i
-
--- a part of the tuples that stand first, as there is one more tuple
-first_left : (ts us : List (List Value)) (u : List Value) → IsSublist us (firsts same_tuple ts) → IsSublist us (firsts same_tuple (ts ++ u ∷ []))
-first_left ts us u part = elim (cases_Bool (has_tuple ts u)) [
-  | inl t ↦ subst (IsSublist us) (sym (firsts_known same_tuple tuple_equiv ts u (same_other ts u ∙ t))) part
-  | inr f ↦ subst (IsSublist us) (sym (firsts_new same_tuple tuple_equiv ts u (same_other ts u ∙ f))) (sub_left u part)
-]
-
-first_more : (ts us : List (List Value)) (u : List Value) → has_tuple ts u ≡ false → IsSublist us (firsts same_tuple ts) → IsSublist (us ++ u ∷ []) (firsts same_tuple (ts ++ u ∷ []))
-first_more ts us u f part = subst (IsSublist (us ++ u ∷ [])) (sym (firsts_new same_tuple tuple_equiv ts u (same_other ts u ∙ f))) (sub_more u part)
-
-or_false : (a b : Bool) → (a || b) ≡ false → (a ≡ false) × (b ≡ false)
-or_false true b e = absurd (false≢true (sym e))
-or_false false b e = (refl, e)
 
 or_true : (a b : Bool) → (a || b) ≡ true → (a ≡ true) ⊎ (b ≡ true)
 or_true true b e = inl refl
@@ -91,16 +63,6 @@ has_push (x ∷ ts) u t = ap (λ b. same_tuple x t || b) (has_push ts u t) ∙ g
   grouped : (a b c : Bool) → (a || (b || c)) ≡ ((a || b) || c)
   grouped true b c = refl
   grouped false b c = refl
-
-others_differ : (x : List Value) (xs : List (List Value)) (t : List Value) → AllByRecursion (λ y. same_tuple x y ≡ false) xs → same_tuple x t ≡ false → AllByRecursion (λ y. same_tuple x y ≡ false) (xs ++ t ∷ [])
-others_differ x [] t all e = (e, tt)
-others_differ x (y ∷ xs) t all e = (all.0, others_differ x xs t all.1 e)
-
-distinct_more : (xs : List (List Value)) (t : List Value) → IsDistinct same_tuple xs → has_tuple xs t ≡ false → IsDistinct same_tuple (xs ++ t ∷ [])
-distinct_more [] t d e = IsDistinct-cons same_tuple t [] tt (none_distinct same_tuple)
-distinct_more (x ∷ xs) t d e =
-    let parts = or_false (same_tuple x t) (has_tuple xs t) e in
-    IsDistinct-cons same_tuple x (xs ++ t ∷ []) (others_differ x xs t (IsDistinct-head same_tuple x xs d) parts.0) (distinct_more xs t (IsDistinct-tail same_tuple x xs d) parts.1)
 
 root_there : (words : List ℕ) (root : ℕ) (d : _) → Accepts words root d → IsTrue (is_place_of words class.Cond root)
 unfolding accepts
@@ -124,27 +86,23 @@ module _ (words : List ℕ) (global : ℕ) (rs : List CRow) where
   }
 
   pub listed_none : (now : List ℕ) → AreListed words now global rs [] []
-  listed_none now = record { distinct = none_distinct same_tuple; refuted = All-nil _; ordered = ended; complete = λ t h all. h }
+  listed_none now = record { refuted = All-nil _; ordered = ended; complete = λ t h all. h }
 
   pub listed_later : (old new : List ℕ) (done : List (List Value)) (list : List CertainRow) → IsPrefix old new → AreListed words old global rs done list → AreListed words new global rs done list
   listed_later old new done list longer are = record {
-    distinct = are.distinct;
     refuted = All-weaker (RefutesMissing words old global rs) (RefutesMissing words new global rs) (refutes_later old new longer) list are.refuted;
     ordered = are.ordered;
     complete = are.complete;
   }
 
-  -- a candidate that is listed already, or is not certain
-  pub listed_skip : (now : List ℕ) (done : List (List Value)) (list : List CertainRow) (u : List Value) → (IsInAll words global rs u → IsTrue (has_tuple (tuples_in list) u)) → AreListed words now global rs done list → AreListed words now global rs (done ++ u ∷ []) list
-  listed_skip now done list u known are = record {
-    distinct = are.distinct;
+  -- a candidate that is not certain
+  pub listed_skip : (now : List ℕ) (done : List (List Value)) (list : List CertainRow) (u : List Value) → (IsInAll words global rs u → ⊥) → AreListed words now global rs done list → AreListed words now global rs (done ++ u ∷ []) list
+  listed_skip now done list u never are = record {
     refuted = are.refuted;
-    ordered = first_left done (tuples_in list) u are.ordered;
+    ordered = sub_left u are.ordered;
     complete = λ t h all. elim (or_true (has_tuple done t) (same_tuple u t) (sym (has_push done u t) ∙ h)) [
       | inl a ↦ are.complete t a all
-      | inr b ↦
-          let same : u ≡ t = (tuple_decides u t).0 b in
-          subst (λ x. IsTrue (has_tuple (tuples_in list) x)) same (known (subst (IsInAll words global rs) (sym same) all))
+      | inr b ↦ absurd (never (subst (IsInAll words global rs) (sym ((tuple_decides u t).0 b)) all))
     ];
   }
 
@@ -152,45 +110,38 @@ module _ (words : List ℕ) (global : ℕ) (rs : List CRow) where
   is_in_all now formed r is v holds = has_by (holds_at v (condition_at words global)) (has_tuple (value_of_rows words v rs) r.tuple) holds (sym (is.root v) ∙ root_refuted now r.proof.root r.proof.derivation formed is.accepted v)
 
   -- a candidate with its proof
-  pub listed_more : (now : List ℕ) → IsWellFormed now → (done : List (List Value)) (list : List CertainRow) (r : CertainRow) → has_tuple (tuples_in list) r.tuple ≡ false → RefutesMissing words now global rs r → AreListed words now global rs done list
-      → AreListed words now global rs (done ++ r.tuple ∷ []) (list ++ r ∷ [])
-  listed_more now formed done list r new is are = record {
-    distinct = subst (λ ts. IsDistinct same_tuple ts) (sym (tuples_push list r)) (distinct_more (tuples_in list) r.tuple are.distinct new);
+  pub listed_more : (now : List ℕ) (done : List (List Value)) (list : List CertainRow) (r : CertainRow) → RefutesMissing words now global rs r → AreListed words now global rs done list → AreListed words now global rs (done ++ r.tuple ∷ []) (list ++ r ∷ [])
+  listed_more now done list r is are = record {
     refuted = All-push (RefutesMissing words now global rs) list r are.refuted is;
-    ordered = subst (λ ts. IsSublist ts (firsts same_tuple (done ++ r.tuple ∷ []))) (sym (tuples_push list r)) (first_more done (tuples_in list) r.tuple unseen are.ordered);
+    ordered = subst (λ ts. IsSublist ts (done ++ r.tuple ∷ [])) (sym (tuples_push list r)) (sub_more r.tuple are.ordered);
     complete = λ t h all.
         ap (λ ts. has_tuple ts t) (tuples_push list r) ∙ has_push (tuples_in list) r.tuple t
         ∙ elim (or_true (has_tuple done t) (same_tuple r.tuple t) (sym (has_push done r.tuple t) ∙ h)) as (λ _. (has_tuple (tuples_in list) t || same_tuple r.tuple t) ≡ true) [
           | inl a ↦ true_first (has_tuple (tuples_in list) t) (same_tuple r.tuple t) (are.complete t a all)
           | inr b ↦ true_second (has_tuple (tuples_in list) t) (same_tuple r.tuple t) b
         ];
-  } where
-    unseen : has_tuple done r.tuple ≡ false
-    unseen = elim (cases_Bool (has_tuple done r.tuple)) [
-      | inl t ↦ absurd (false≢true (sym new ∙ are.complete r.tuple t (is_in_all now formed r is)))
-      | inr f ↦ f
-    ]
+  }
 
-  listed_by : (now : List ℕ) → IsWellFormed now → (done : List (List Value)) (t : List Value) (list out : List CertainRow) → AreListed words now global rs done list → Takes words now global rs t list out → AreListed words now global rs (done ++ t ∷ []) out
-  listed_by now formed done t list out are (nothing known) = listed_skip now done list t known are
-  listed_by now formed done t list out are (one r is new refutes) =
-      subst (λ x. AreListed words now global rs (done ++ x ∷ []) (list ++ r ∷ [])) is (listed_more now formed done list r (ap (has_tuple (tuples_in list)) is ∙ new) refutes are)
+  listed_by : (now : List ℕ) (done : List (List Value)) (t : List Value) (list out : List CertainRow) → AreListed words now global rs done list → Takes words now global rs t list out → AreListed words now global rs (done ++ t ∷ []) out
+  listed_by now done t list out are (nothing never) = listed_skip now done list t never are
+  listed_by now done t list out are (one r is refutes) =
+      subst (λ x. AreListed words now global rs (done ++ x ∷ []) (list ++ r ∷ [])) is (listed_more now done list r refutes are)
 
   -- one more candidate
-  pub listed_turn : (old new : List ℕ) → IsWellFormed new → (all : List (List Value)) (i : ℕ) (t : List Value) (list out : List CertainRow) → IsPrefix old new → i < length all → t ≡ get_or all i t
+  pub listed_turn : (old new : List ℕ) (all : List (List Value)) (i : ℕ) (t : List Value) (list out : List CertainRow) → IsPrefix old new → i < length all → t ≡ get_or all i t
       → AreListed words old global rs (take i all) list → Takes words new global rs t list out → AreListed words new global rs (take (i + 1) all) out
-  listed_turn old new formed all i t list out longer lt e are takes =
+  listed_turn old new all i t list out longer lt e are takes =
       let done : take i all ++ t ∷ [] ≡ take (i + 1) all = ap (λ x. take i all ++ x ∷ []) e ∙ sym (take_more all i t lt) in
-      subst (λ d. AreListed words new global rs d out) done (listed_by new formed (take i all) t list out (listed_later old new (take i all) list longer are) takes)
+      subst (λ d. AreListed words new global rs d out) done (listed_by new (take i all) t list out (listed_later old new (take i all) list longer are) takes)
 
   -- what the answer to a question says of a candidate
   pub takes_nothing : (now : List ℕ) (t : List Value) (list : List CertainRow) (root : ℕ) (w : World) → IsRootOf words now global rs t root → IsSettled now root (decision.World w) → Takes words now global rs t list list
   takes_nothing now t list root w is settled =
-      nothing (λ all. absurd (lacks (holds_at w (condition_at words global)) (has_tuple (value_of_rows words w rs) t) (sym (is.holds w) ∙ settled.1) (all w)))
+      nothing (λ all. lacks (holds_at w (condition_at words global)) (has_tuple (value_of_rows words w rs) t) (sym (is.holds w) ∙ settled.1) (all w))
 
-  pub takes_one : (now : List ℕ) (t : List Value) (list out : List CertainRow) (root : ℕ) (d : _) → IsRootOf words now global rs t root → IsSettled now root (decision.Refuted d) → has_tuple (tuples_in list) t ≡ false
+  pub takes_one : (now : List ℕ) (t : List Value) (list out : List CertainRow) (root : ℕ) (d : _) → IsRootOf words now global rs t root → IsSettled now root (decision.Refuted d)
       → out ≡ list ++ (record { tuple = t; proof = record { root = root; derivation = d } }) ∷ [] → Takes words now global rs t list out
-  takes_one now t list out root d is settled new e = subst (Takes words now global rs t list) (sym e) (one _ refl new (record { accepted = settled; root = is.holds }))
+  takes_one now t list out root d is settled e = subst (Takes words now global rs t list) (sym e) (one _ refl (record { accepted = settled; root = is.holds }))
 
   each_in_all : (now : List ℕ) → IsWellFormed now → (list : List CertainRow) → All (RefutesMissing words now global rs) list → (t : List Value) → IsTrue (has_tuple (tuples_in list) t) → IsInAll words global rs t
   each_in_all now formed [] all t h = absurd (false≢true h)
@@ -199,11 +150,12 @@ module _ (words : List ℕ) (global : ℕ) (rs : List CRow) where
     | inr b ↦ each_in_all now formed list (All-tail (RefutesMissing words now global rs) r list all) t b
   ]
 
-  -- all candidates, which are the tuples at a kept world
-  pub listed_all : (now : List ℕ) → IsWellFormed now → (kept : World) → IsTrue (holds_at kept (condition_at words global)) → (list : List CertainRow) → AreListed words now global rs (value_of_rows words kept rs) list → ListsCertain words now global rs kept list
-  listed_all now formed kept holds list are = record {
-    distinct = are.distinct;
-    exact = λ t. (each_in_all now formed list are.refuted t, λ all. are.complete t (all kept holds) all);
+  -- all candidates, which are the tuples at a kept world, each once
+  pub listed_all : (now : List ℕ) → IsWellFormed now → (kept : World) → IsTrue (holds_at kept (condition_at words global)) → (list : List CertainRow) → IsDistinct same_tuple (firsts same_tuple (value_of_rows words kept rs))
+      → AreListed words now global rs (firsts same_tuple (value_of_rows words kept rs)) list → ListsCertain words now global rs kept list
+  listed_all now formed kept holds list once are = record {
+    distinct = distinct_part same_tuple (tuples_in list) (firsts same_tuple (value_of_rows words kept rs)) are.ordered once;
+    exact = λ t. (each_in_all now formed list are.refuted t, λ all. are.complete t (has_first (value_of_rows words kept rs) t ∙ all kept holds) all);
     refuted = are.refuted;
     ordered = are.ordered;
   }

@@ -1,5 +1,5 @@
 -- The question whether a tuple is missing from a table.
-use Rattle.std.specs.Prelude.{◌≡◌, ◌≢◌, ◌⊎◌, ⊤, ℕ, false, List, [], ◌∷◌, ◌++◌, length, IsTrue, All}
+use Rattle.std.specs.Prelude.{◌≡◌, ◌≢◌, ◌⊎◌, ⊤, ℕ, List, [], ◌∷◌, ◌++◌, length, IsTrue, All}
 use mathlib.Core.List.{IsPrefix}
 use Rattle.ct_word.specs.declared.kinds.Class.TheVariants as class
 use Rattle.ct_word.specs.declared.values.Value.{Value}
@@ -13,14 +13,12 @@ use Rattle.ct_word.specs.WellFormed.{IsWellFormed, is_place_of}
 use Rattle.ct_condition.specs.Places.{has_place}
 use Rattle.ct_condition.specs.Terms.{TermsFrom}
 use Rattle.ct_equality.specs.Valued.{IsNumbered}
-use Rattle.ct_table.specs.Tables.{AreRows, firsts, value_of_rows}
+use Rattle.ct_table.specs.Tables.{AreRows, value_of_rows}
 use Rattle.ct_certain.specs.declared.striking.Seen.{Seen}
 use Rattle.ct_certain.specs.Asked.{IsOfTable, IsValueIn}
 use Rattle.ct_certain.specs.Certain.{is_missing, tuples_in, IsInAll, RefutesMissing}
-use Rattle.std.specs.List.{IsDistinct}
-use Rattle.ct_word.specs.Value.{same_tuple}
 use Rattle.ct_word.specs.Sublist.{IsSublist}
-use Rattle.ct_query.specs.Database.{has_tuple}
+use Rattle.ct_query.specs.Database.{has_tuple, SameSet}
 use Rattle.ct_rewrite.specs.declared.answer.CertainRow.{CertainRow}
 
 -- a place of the words has this value, or it is `@k` with k below 2^28
@@ -64,18 +62,17 @@ condition_of (r ∷ rs) = r.cond
 
 -- the certain tuples among these candidates are listed, each with a proof over the words now
 pub record AreListed (words now : List ℕ) (global : ℕ) (rs : List CRow) (done : List (List Value)) (list : List CertainRow) : Type 0 where
-  pub distinct : IsDistinct same_tuple (tuples_in list)
   pub refuted : All (RefutesMissing words now global rs) list
-  pub ordered : IsSublist (tuples_in list) (firsts same_tuple done)
+  pub ordered : IsSublist (tuples_in list) done
   pub complete : (t : List Value) → IsTrue (has_tuple done t) → IsInAll words global rs t → IsTrue (has_tuple (tuples_in list) t)
 
--- the list with a tuple and its proof; as it was where the tuple is listed already, or is not certain
+-- the list with a tuple and its proof; as it was where the tuple is not certain
 pub data Takes (words now : List ℕ) (global : ℕ) (rs : List CRow) (tuple : List Value) (old : List CertainRow) : List CertainRow → Type 0 where
-  nothing : (IsInAll words global rs tuple → IsTrue (has_tuple (tuples_in old) tuple)) → Takes words now global rs tuple old old
-  one : (r : CertainRow) → r.tuple ≡ tuple → has_tuple (tuples_in old) tuple ≡ false → RefutesMissing words now global rs r → Takes words now global rs tuple old (old ++ r ∷ [])
+  nothing : (IsInAll words global rs tuple → ⊥) → Takes words now global rs tuple old old
+  one : (r : CertainRow) → r.tuple ≡ tuple → RefutesMissing words now global rs r → Takes words now global rs tuple old (old ++ r ∷ [])
 
 -- the tuples that rows are worth in some world at which the global condition holds
 pub record IsSeen (words : List ℕ) (global : ℕ) (rs : List CRow) (s : Seen) : Type 0 where
   pub world : World
   pub holds : IsTrue (holds_at world (condition_at words global))
-  pub tuples : s.tuples ≡ value_of_rows words world rs
+  pub tuples : SameSet s.tuples.keys (value_of_rows words world rs)

@@ -10,13 +10,12 @@ ghost use Rattle.ct_certain.specs.Faults.{is_full};
 ghost use Rattle.ct_certain.specs.Missing.{AreOfTuple, IsAtHand, IsAskedOf, IsOfValue, IsRootOf, condition_of};
 ghost use Rattle.ct_certain.specs.declared.error.CertainError.TheVariants as fault;
 
-use crate::derivations::known;
+use crate::derivations::{Listed, known};
 use crate::error::CertainError;
 use crate::settling::settle;
 use ct_arena::{Arena, Site};
 use ct_condition::{Interner, term};
 use ct_decide::Decision;
-use ct_rewrite::CertainRow;
 use ct_table::{CTable, TableError, except};
 use ct_word::{CRow, FALSE_PLACE, List, Term, Text, Value};
 use std::alloc::Global;
@@ -128,11 +127,11 @@ pub fn ask_tuple<N: Site, I: Interner<N>>(
     words: &[u64],
     table: &CTable,
     global: u32,
-    list: &[CertainRow],
+    list: &Listed,
     tuple: &[Value],
 ) -> Result<(u32, Decision), CertainError>
     requires asked { IsAskedOf words.now (I.list pass.old) global (length table.now.columns) table.now.rows tuple.now }
-    requires listed { All (RefutesMissing words.now (I.list pass.old) global table.now.rows) list.now }
+    requires listed { All (RefutesMissing words.now (I.list pass.old) global table.now.rows) list.now.rows.items }
     ensures root { IfOk result (λ a. IsRootOf words.now (I.list pass.new) global table.now.rows tuple.now a.0) }
     ensures settled { IfOk result (λ a. IsSettled (I.list pass.new) a.0 a.1) }
     ensures writes { Writes I.list I.made I.kept I.lent N.log.cap pass.old pass.new (length table.now.rows * (2 * length table.now.columns + 2) + length table.now.columns + 1) (is_full result) }

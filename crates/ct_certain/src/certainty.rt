@@ -1,9 +1,11 @@
 // The certain tuples of a table.
 
 ghost use Rattle.std.specs.Prelude.{◌≡◌, ◌≤◌, ◌<◌, ◌+◌, ◌*◌, ◌^◌, ◌++◌, [], ◌∷◌, length, All, IfOk, OnOk, IsErrOf, IsTrue};
+ghost use Rattle.std.specs.List.{IsDistinct};
 ghost use mathlib.Core.List.{IsPrefix};
 ghost use Rattle.ct_word.specs.declared.kinds.Class.TheVariants as class;
 ghost use Rattle.ct_word.specs.Stands.{HasNoColumn};
+ghost use Rattle.ct_word.specs.Value.{same_tuple};
 ghost use Rattle.ct_word.specs.WellFormed.{IsWellFormed, is_place_of};
 ghost use Rattle.ct_condition.specs.Writes.{Writes};
 ghost use Rattle.ct_table.specs.Tables.{AreRows, IsRow};
@@ -14,9 +16,10 @@ ghost use Rattle.ct_certain.specs.Missing.{AreListed, IsAskedOf, IsSeen, Takes};
 ghost use Rattle.ct_certain.specs.declared.error.CertainError.TheVariants as fault;
 
 use crate::absence::ask_tuple;
+use crate::derivations::Listed;
 use crate::error::CertainError;
 use crate::striking::{Seen, first_worlds, is_everywhere, see};
-use crate::tuples::{copied_tuple, is_listed, tuples};
+use crate::tuples::{copied_tuple, tuples};
 use ct_arena::{Arena, Pass, Site};
 use ct_condition::{Interner, worths};
 use ct_decide::Decision;
@@ -24,27 +27,30 @@ use ct_derivation::{Derivation, Proof};
 use ct_rewrite::CertainRow;
 use ct_table::CTable;
 use ct_word::{List, Memory, Value, World};
+use indexmap::IndexMap;
 use std::alloc::Global;
 
 /// Puts a tuple with its proof last in a list.
 fn list_tuple(
     alloc: Global,
-    list: &mut Vec<CertainRow>,
+    list: &mut Listed,
     tuple: &List<Value>,
     root: u32,
     derivation: Derivation,
 ) -> Result<(), Memory>
-    ensures { OnOk result (list.new.items ≡ list.old.items ++ (record { tuple = tuple.now; proof = record { root = root; derivation = derivation } }) ∷ []) }
+    ensures { OnOk result (list.new.rows.items ≡ list.old.rows.items ++ (record { tuple = tuple.now; proof = record { root = root; derivation = derivation } }) ∷ []) }
 {
     let tuple = copied_tuple(alloc, tuple)?;
-    list.push(CertainRow {
+    let place = list.rows.len();
+    list.rows.push(CertainRow {
         tuple,
         proof: Proof { root, derivation },
     })?;
+    list.roots.insert(root, place)?;
     Ok(())
 }
 
-/// Lists a tuple if it is certain and not listed. It is asked for only where no known world lacks it; a world that lacks
+/// Lists a tuple if it is certain. It is asked for only where no known world lacks it; a world that lacks
 /// it is known from then on.
 fn try_tuple<N: Site, I: Interner<N>>(
     alloc: Global,
@@ -54,23 +60,20 @@ fn try_tuple<N: Site, I: Interner<N>>(
     table: &CTable,
     global: u32,
     pool: &mut Vec<Seen>,
-    list: &mut Vec<CertainRow>,
+    list: &mut Listed,
     tuple: &List<Value>,
 ) -> Result<(), CertainError>
     requires asked { IsAskedOf words.now (I.list pass.old) global (length table.now.columns) table.now.rows tuple.now }
     requires small { length words.now < 2 ^ 28 }
     requires rows { All (λ r. IsRow words.now (length r.cells) r) table.now.rows }
     requires pool { All (IsSeen words.now global table.now.rows) pool.old.items }
-    requires listed { All (RefutesMissing words.now (I.list pass.old) global table.now.rows) list.old.items }
+    requires listed { All (RefutesMissing words.now (I.list pass.old) global table.now.rows) list.old.rows.items }
     ensures pool { OnOk result (All (IsSeen words.now global table.now.rows) pool.new.items) }
-    ensures takes { OnOk result (Takes words.now (I.list pass.new) global table.now.rows tuple.now list.old.items list.new.items) }
+    ensures takes { OnOk result (Takes words.now (I.list pass.new) global table.now.rows tuple.now list.old.rows.items list.new.rows.items) }
     ensures writes { Writes I.list I.made I.kept I.lent N.log.cap pass.old pass.new (length table.now.rows * (2 * length table.now.columns + 2) + length table.now.columns + 1) (is_full result) }
     ensures many { IsErrOf result fault.TooManyTerms → IsPastTermsOfTuple words.now (I.list pass.new) global (length table.now.columns) table.now.rows }
 {
     let _ = pass.words();
-    if is_listed(list.as_slice(), tuple) {
-        return Ok(());
-    }
     let rows = table.rows.as_slice();
     if !is_everywhere(words, global, rows, pool.as_slice(), tuple) {
         return Ok(());
@@ -82,7 +85,7 @@ fn try_tuple<N: Site, I: Interner<N>>(
         words,
         table,
         global,
-        list.as_slice(),
+        list,
         tuple.as_slice(),
     )?;
     match decision {
@@ -97,7 +100,7 @@ fn try_tuple<N: Site, I: Interner<N>>(
     }
 }
 
-/// The certain tuples among candidates over the words that the pass had before, each once, in the order of these.
+/// The certain tuples among candidates over the words that the pass had before, in the order of these.
 fn each_certain<N: Site, I: Interner<N>>(
     alloc: Global,
     arena: &Arena<N>,
@@ -113,19 +116,23 @@ fn each_certain<N: Site, I: Interner<N>>(
     requires rows { All (λ r. IsRow words.now (length r.cells) r) table.now.rows }
     requires pool { All (IsSeen words.now global table.now.rows) pool.old.items }
     requires few { length candidates.now ≤ length table.now.rows }
+    requires once { IsDistinct same_tuple candidates.now }
     requires asked { All (IsAskedOf words.now words.now global (length table.now.columns) table.now.rows) candidates.now }
     ensures lists { IfOk result (λ list. AreListed words.now (I.list pass.new) global table.now.rows candidates.now list.items) }
     ensures writes { Writes I.list I.made I.kept I.lent N.log.cap pass.old pass.new (length table.now.rows * (length table.now.rows * (2 * length table.now.columns + 2) + length table.now.columns + 1)) (is_full result) }
     ensures many { IsErrOf result fault.TooManyTerms → IsPastTermsOfTuple words.now (I.list pass.new) global (length table.now.columns) table.now.rows }
 {
     let _ = pass.words();
-    let mut list = Vec::new(alloc);
+    let mut list = Listed {
+        rows: Vec::new(alloc),
+        roots: IndexMap::new(alloc),
+    };
     for tuple in candidates {
         try_tuple(
             alloc, arena, pass, words, table, global, pool, &mut list, tuple,
         )?;
     }
-    Ok(list)
+    Ok(list.rows)
 }
 
 /// The tuples that a table has at every valuation at which the global condition holds, each once, in the order of the

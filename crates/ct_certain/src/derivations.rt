@@ -6,7 +6,16 @@ ghost use Rattle.ct_derivation.specs.Accepts.{Accepts, AcceptsProof};
 use ct_derivation::{Derivation, Step, Why};
 use ct_rewrite::CertainRow;
 use ct_word::{List, Memory};
+use indexmap::IndexMap;
 use std::alloc::{AllocError, Global};
+
+/// Certain tuples with their proofs.
+#[derive(Drop)]
+pub struct Listed {
+    pub rows: Vec<CertainRow>,
+    /// Which row has the proof with this root; the last one, where several have it.
+    pub roots: IndexMap<u32, usize>,
+}
 
 /// A reason once more.
 fn copied_why(alloc: Global, why: &Why) -> Result<Why, AllocError>
@@ -49,18 +58,21 @@ fn copied(alloc: Global, derivation: &Derivation) -> Result<Derivation, Memory>
 pub fn known(
     alloc: Global,
     words: &[u64],
-    list: &[CertainRow],
+    list: &Listed,
     root: u32,
 ) -> Result<Option<Derivation>, Memory>
-    requires { All (λ r. AcceptsProof words.now r.proof) list.now }
+    requires { All (λ r. AcceptsProof words.now r.proof) list.now.rows.items }
     ensures { IfOk result (λ o. IfSome o (λ d. Accepts words.now root d)) }
 {
     let _ = words;
-    for row in list {
-        if row.proof.root == root {
+    let Some(place) = list.roots.get(&root) else {
+        return Ok(None);
+    };
+    match list.rows.get(*place) {
+        Some(row) if row.proof.root == root => {
             let derivation = copied(alloc, &row.proof.derivation)?;
-            return Ok(Some(derivation));
+            Ok(Some(derivation))
         }
+        _ => Ok(None),
     }
-    Ok(None)
 }

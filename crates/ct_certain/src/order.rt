@@ -88,7 +88,7 @@ fn slot(world: &[(Null, Value)], null: &Null) -> Option<usize>
 }
 
 /// Puts a pair where its null belongs. A null that is there already keeps its value.
-pub fn put(world: &mut Vec<(Null, Value)>, null: Null, value: Value) -> Result<(), Memory>
+fn put(world: &mut Vec<(Null, Value)>, null: Null, value: Value) -> Result<(), Memory>
     ensures { OnOk result (world.new.items ≡ spec.put world.old.items null value) }
 {
     match slot(world.as_slice(), &null) {

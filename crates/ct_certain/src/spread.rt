@@ -3,7 +3,6 @@
 ghost use Rattle.std.specs.Prelude.{◌<◌, ◌^◌, length};
 ghost use Rattle.ct_word.specs.WellFormed.{IsWellFormed};
 
-use crate::order::put;
 use ct_word::{CRow, Class, Kind, List, Memory, Null, Term, Value, World, class, term_at, word_at};
 use std::alloc::{AllocError, Global};
 
@@ -81,7 +80,10 @@ fn spread_at(
     }
     match class(word.kind) {
         Class::Term => match term_at(alloc, words, place)? {
-            Term::Null(null) => put(world, null, Value::Other(count as u32 + 1)),
+            Term::Null(null) => {
+                world.push((null, Value::Other(count as u32 + 1)))?;
+                Ok(())
+            }
             _ => Ok(()),
         },
         _ => Ok(()),

@@ -3,37 +3,25 @@
 ghost use Rattle.std.specs.Prelude.{◌≡◌, ◌<◌, ◌^◌, false, length, All, IfOk, OnOk, IsTrue};
 ghost use Rattle.ct_word.specs.declared.kinds.Class.TheVariants as class;
 ghost use Rattle.ct_word.specs.WellFormed.{IsWellFormed, is_place_of};
-ghost use Rattle.ct_query.specs.Database.{has_tuple};
 ghost use Rattle.ct_table.specs.Tables.{IsRow};
 ghost use Rattle.ct_certain.specs.Certain.{IsInAll};
 ghost use Rattle.ct_certain.specs.Missing.{IsSeen};
 
 use crate::spread::spread;
-use crate::tuples::{is_same, tuples};
+use crate::tuples::tuples;
 use ct_condition::worths;
 use ct_word::{CRow, List, Memory, Value, World};
+use indexmap::IndexSet;
 use std::alloc::Global;
 
 /// The tuples that a table has in one world at which the global condition holds.
 #[derive(Drop)]
 pub struct Seen {
-    pub tuples: List<List<Value>>,
+    pub tuples: IndexSet<List<Value>>,
 }
 
 /// The most worlds whose tuples are kept.
 const MOST_WORLDS: usize = 16;
-
-/// Whether a tuple is among these.
-fn is_among(tuples: &[List<Value>], tuple: &List<Value>) -> bool
-    ensures { result ≡ has_tuple tuples.now tuple.now }
-{
-    for other in tuples {
-        if is_same(other, tuple) {
-            return true;
-        }
-    }
-    false
-}
 
 /// Whether a tuple is there in all of these worlds.
 pub fn is_everywhere(
@@ -50,7 +38,7 @@ pub fn is_everywhere(
     let _ = global;
     let _ = rows;
     for seen in pool {
-        if !is_among(seen.tuples.as_slice(), tuple) {
+        if !seen.tuples.contains(tuple) {
             return false;
         }
     }
@@ -81,9 +69,7 @@ pub fn see(
         return Ok(());
     }
     let tuples = tuples(alloc, words, world, &worths, rows)?;
-    pool.push(Seen {
-        tuples: List::from_vec(tuples),
-    })?;
+    pool.push(Seen { tuples })?;
     Ok(())
 }
 

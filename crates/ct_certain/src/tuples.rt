@@ -1,19 +1,18 @@
 // The tuples that rows are worth in a world.
 
-ghost use Rattle.std.specs.Prelude.{◌≡◌, ◌++◌, [], ◌∷◌, length, map, All, IfOk, IsTrue, OnOk};
+ghost use Rattle.std.specs.Prelude.{◌≡◌, ◌++◌, [], ◌∷◌, List, length, map, All, IfOk, IsTrue, OnOk};
 ghost use Rattle.ct_word.specs.declared.kinds.Class.TheVariants as class;
 ghost use Rattle.ct_word.specs.Reading.{term_at};
+ghost use Rattle.ct_word.specs.declared.values.Value.{Value};
 ghost use Rattle.ct_word.specs.Value.{at, same_tuple, tuple_at};
 ghost use Rattle.ct_word.specs.WellFormed.{IsWellFormed, is_place_of};
 ghost use Rattle.ct_condition.specs.Worth.{AreWorths};
-ghost use Rattle.ct_query.specs.Database.{has_tuple};
-ghost use Rattle.ct_table.specs.Tables.{IsRow, value_of_rows};
-ghost use Rattle.ct_certain.specs.Certain.{tuples_in};
+ghost use Rattle.ct_table.specs.Tables.{IsRow, firsts, value_of_rows};
 
 use crate::order::value_of;
 use ct_condition::Worths;
-use ct_rewrite::CertainRow;
 use ct_word::{CRow, List, Memory, Term, Value, World, term_at};
+use indexmap::IndexSet;
 use std::alloc::{AllocError, Global};
 
 /// The value of a term in a world.
@@ -47,65 +46,46 @@ fn tuple_in(
     Ok(List::from_vec(tuple))
 }
 
-/// Puts the tuple of a row last, where its condition holds.
+/// Puts the tuple of a row in, where its condition holds.
 fn add_tuple(
     alloc: Global,
     words: &[u64],
     world: &World,
     worths: &Worths,
     row: &CRow,
-    tuples: &mut Vec<List<Value>>,
+    tuples: &mut IndexSet<List<Value>>,
 ) -> Result<(), Memory>
     requires formed { IsWellFormed words.now }
     requires row { IsRow words.now (length row.now.cells) row.now }
     requires worths { AreWorths words.now world.now worths.now }
-    ensures { OnOk result (tuples.new.items ≡ tuples.old.items ++ value_of_rows words.now world.now (row.now ∷ [])) }
+    ensures { (before : List (List Value)) → tuples.old.keys ≡ firsts same_tuple before → OnOk result (tuples.new.keys ≡ firsts same_tuple (before ++ value_of_rows words.now world.now (row.now ∷ []))) }
 {
     if !worths.holds(row.cond) {
         return Ok(());
     }
     let tuple = tuple_in(alloc, words, world, row.cells.as_slice())?;
-    tuples.push(tuple)?;
+    tuples.insert(tuple)?;
     Ok(())
 }
 
-/// The tuples that rows are worth in a world, in their order.
+/// The tuples that rows are worth in a world, each once, in their order.
 pub fn tuples(
     alloc: Global,
     words: &[u64],
     world: &World,
     worths: &Worths,
     rows: &[CRow],
-) -> Result<Vec<List<Value>>, Memory>
+) -> Result<IndexSet<List<Value>>, Memory>
     requires formed { IsWellFormed words.now }
     requires rows { All (λ r. IsRow words.now (length r.cells) r) rows.now }
     requires worths { AreWorths words.now world.now worths.now }
-    ensures { IfOk result (λ ts. ts.items ≡ value_of_rows words.now world.now rows.now) }
+    ensures { IfOk result (λ ts. ts.keys ≡ firsts same_tuple (value_of_rows words.now world.now rows.now)) }
 {
-    let mut tuples = Vec::new(alloc);
+    let mut tuples = IndexSet::new(alloc);
     for row in rows {
         add_tuple(alloc, words, world, worths, row, &mut tuples)?;
     }
     Ok(tuples)
-}
-
-/// Whether two tuples are the same.
-pub fn is_same(left: &List<Value>, right: &List<Value>) -> bool
-    ensures { result ≡ same_tuple left.now right.now }
-{
-    left == right
-}
-
-/// Whether a tuple is listed.
-pub fn is_listed(list: &[CertainRow], tuple: &List<Value>) -> bool
-    ensures { result ≡ has_tuple (tuples_in list.now) tuple.now }
-{
-    for row in list {
-        if is_same(&row.tuple, tuple) {
-            return true;
-        }
-    }
-    false
 }
 
 /// A copy of a tuple.

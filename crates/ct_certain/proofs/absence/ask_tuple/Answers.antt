@@ -49,6 +49,6 @@ pub known-requires : goal.known-requires
 known-requires g c =
     let old = g.I.Interner.list c.args.pass.now in
     let new = g.I.Interner.list c.root.new.pass in
-    subst (λ ws. All (λ r. AcceptsProof ws r.proof) c.args.list.now) (sym c.words-now.ensures.words)
+    subst (λ ws. All (λ r. AcceptsProof ws r.proof) c.args.list.now.rows.items) (sym c.words-now.ensures.words)
     (All-weaker (RefutesMissing c.args.words.now old c.args.global c.args.table.now.rows) (λ r. AcceptsProof new r.proof)
-    (λ r is. accepted_longer old new c.in_ok-place.ensures.writes.longer r.proof.root r.proof.derivation is.accepted) c.args.list.now c.requires.listed)
+    (λ r is. accepted_longer old new c.in_ok-place.ensures.writes.longer r.proof.root r.proof.derivation is.accepted) c.args.list.now.rows.items c.requires.listed)

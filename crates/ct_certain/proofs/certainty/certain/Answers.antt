@@ -1,9 +1,11 @@
-use Rattle.std.proofs.Common.{◌≡◌, ◌≤◌, length, sym, subst, rules}
+use Rattle.std.proofs.Common.{◌≡◌, ◌≤◌, length, ap, sym, subst, arith, ◌∙◌, rules}
 use Rattle.std.specs.Prelude.{All}
-use Rattle.ct_table.specs.Tables.{value_of_rows}
+use Rattle.std.specs.List.{IsDistinct}
+use Rattle.ct_word.specs.Value.{same_tuple}
+use Rattle.ct_table.specs.Tables.{firsts, value_of_rows}
 use Rattle.ct_certain.specs.Certain.{ListsCertain}
 use Rattle.ct_certain.specs.Missing.{AreListed, IsAskedOf, IsSeen}
-use Rattle.ct_certain.proofs.Candidates.{worth_asked, worth_fewer}
+use Rattle.ct_certain.proofs.Candidates.{distinct_keys, first_all, first_fewer, worth_asked, worth_fewer}
 use Rattle.ct_certain.proofs.Certainties.{listed_all}
 use Rattle.ct_certain.proofs.certainty.certain.Goals as goal
 
@@ -12,8 +14,13 @@ each_certain-requires-clause-few g c =
     let words = c.args.pass.now.words in
     let rows = c.args.table.now.rows in
     let kept = c.args.kept.now in
-    let worth : c.as_slice.result.now ≡ value_of_rows words kept rows = search rules in
-    subst (λ l. length l ≤ length rows) (sym worth) (worth_fewer words kept rows)
+    let worth : c.as_slice.result.now ≡ firsts same_tuple (value_of_rows words kept rows) = search rules in
+    let first = first_fewer (value_of_rows words kept rows) in
+    let all = worth_fewer words kept rows in
+    subst (λ l. length l ≤ length rows) (sym worth) (omega (arith, first, all))
+
+pub each_certain-requires-clause-once : goal.each_certain-requires-clause-once
+each_certain-requires-clause-once g c = subst (IsDistinct same_tuple) (sym c.as_slice.ensures.keys) (distinct_keys _ c.as_slice.ensures.unique)
 
 pub each_certain-requires-clause-asked : goal.each_certain-requires-clause-asked
 each_certain-requires-clause-asked g c =
@@ -23,9 +30,11 @@ each_certain-requires-clause-asked g c =
     let global = c.args.global in
     let width = length c.args.table.now.columns in
     let same : c.as_slice-before.result.now ≡ words = search rules in
-    let worth : c.as_slice.result.now ≡ value_of_rows words kept rows = search rules in
+    let worth : c.as_slice.result.now ≡ firsts same_tuple (value_of_rows words kept rows) = search rules in
     subst (λ l. All (IsAskedOf c.as_slice-before.result.now c.as_slice-before.result.now global width rows) l) (sym worth)
-    (subst (λ ws. All (IsAskedOf ws ws global width rows) (value_of_rows words kept rows)) (sym same) (worth_asked words global width rows kept c.words.ensures.formed c.words.ensures.begins c.requires.global c.requires.plain c.requires.rows c.requires.kept))
+    (subst (λ ws. All (IsAskedOf ws ws global width rows) (firsts same_tuple (value_of_rows words kept rows))) (sym same)
+    (first_all (IsAskedOf words words global width rows) (value_of_rows words kept rows)
+    (worth_asked words global width rows kept c.words.ensures.formed c.words.ensures.begins c.requires.global c.requires.plain c.requires.rows c.requires.kept)))
 
 pub returns-clause-lists : goal.returns-clause-lists
 returns-clause-lists g c =
@@ -36,9 +45,9 @@ returns-clause-lists g c =
     let global = c.args.global in
     let list = c.in_ok-list.list.items in
     let same : c.as_slice-before.result.now ≡ words = search rules in
-    let worth : c.as_slice.result.now ≡ value_of_rows words kept rows = search rules in
+    let worth : c.as_slice.result.now ≡ firsts same_tuple (value_of_rows words kept rows) = search rules in
     subst (ListsCertain words new global rows kept) (sym c.from_vec.ensures)
-    (listed_all words global rows new c.in_ok-list.ensures.writes.formed kept c.requires.kept.holds list
+    (listed_all words global rows new c.in_ok-list.ensures.writes.formed kept c.requires.kept.holds list (subst (IsDistinct same_tuple) (sym c.as_slice.ensures.keys ∙ worth) (distinct_keys _ c.as_slice.ensures.unique))
     (subst (λ ts. AreListed words new global rows ts list) worth (subst (λ ws. AreListed ws new global rows c.as_slice.result.now list) same c.in_ok-list.ensures.lists)))
 
 pub each_certain-requires-clause-pool : goal.each_certain-requires-clause-pool

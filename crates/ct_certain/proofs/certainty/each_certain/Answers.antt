@@ -12,7 +12,7 @@ use Rattle.ct_certain.proofs.certainty.each_certain.Goals as goal
 pub loop-tuple-init : goal.loop-tuple-init
 loop-tuple-init g c = record {
   writes = writes_none _ c.words.ensures.formed c.words.ensures.room;
-  lists = subst (AreListed c.args.words.now (g.I.Interner.list c.args.pass.now) c.args.global c.args.table.now.rows []) (sym c.new-list.ensures.items) (listed_none c.args.words.now c.args.global c.args.table.now.rows (g.I.Interner.list c.args.pass.now));
+  lists = subst (AreListed c.args.words.now (g.I.Interner.list c.args.pass.now) c.args.global c.args.table.now.rows []) (sym c.new.ensures.items) (listed_none c.args.words.now c.args.global c.args.table.now.rows (g.I.Interner.list c.args.pass.now));
   pool = c.requires.pool;
 }
 
@@ -28,13 +28,13 @@ try_tuple-requires-clause-asked g c =
 pub loop-tuple-preserved : goal.loop-tuple-preserved
 loop-tuple-preserved g c = record {
   writes = writes_more _ c.loop-tuple.tuple-index c.loop-tuple.invariant.writes c.in_ok-try_tuple.ensures.writes;
-  lists = listed_turn c.args.words.now c.args.global c.args.table.now.rows (g.I.Interner.list c.loop-tuple.pass) (g.I.Interner.list c.try_tuple.new.pass) c.in_ok-try_tuple.ensures.writes.formed c.args.candidates.now c.loop-tuple.tuple-index c.tuple-item.result
-      c.loop-tuple.list.items c.try_tuple.new.list.items c.in_ok-try_tuple.ensures.writes.longer c.loop-tuple-test.true c.tuple-item.is c.loop-tuple.invariant.lists c.in_ok-try_tuple.ensures.takes;
+  lists = listed_turn c.args.words.now c.args.global c.args.table.now.rows (g.I.Interner.list c.loop-tuple.pass) (g.I.Interner.list c.try_tuple.new.pass) c.args.candidates.now c.loop-tuple.tuple-index c.tuple-item.result
+      c.loop-tuple.list.rows.items c.try_tuple.new.list.rows.items c.in_ok-try_tuple.ensures.writes.longer c.loop-tuple-test.true c.tuple-item.is c.loop-tuple.invariant.lists c.in_ok-try_tuple.ensures.takes;
   pool = c.in_ok-try_tuple.ensures.pool;
 }
 
 pub returns-clause-lists : goal.returns-clause-lists
-returns-clause-lists g c = subst (λ d. AreListed c.args.words.now (g.I.Interner.list c.loop-tuple.pass) c.args.global c.args.table.now.rows d c.loop-tuple.list.items) (take_all c.loop-tuple.tuple-index c.args.candidates.now c.loop-tuple-test.false) c.loop-tuple.invariant.lists
+returns-clause-lists g c = subst (λ d. AreListed c.args.words.now (g.I.Interner.list c.loop-tuple.pass) c.args.global c.args.table.now.rows d c.loop-tuple.list.rows.items) (take_all c.loop-tuple.tuple-index c.args.candidates.now c.loop-tuple-test.false) c.loop-tuple.invariant.lists
 
 pub returns-clause-writes : goal.returns-clause-writes
 returns-clause-writes g c =

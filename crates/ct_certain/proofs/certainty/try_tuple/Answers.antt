@@ -1,30 +1,25 @@
-use Rattle.std.proofs.Common.{ap, sym, subst, ◌∙◌}
-use Rattle.ct_query.specs.Database.{has_tuple}
+use Rattle.std.proofs.Common.{sym, subst}
 use Rattle.ct_certain.specs.Answered.{IsSettled}
-use Rattle.ct_certain.specs.Certain.{tuples_in, IsInAll}
+use Rattle.ct_certain.specs.Certain.{IsInAll}
 use Rattle.ct_certain.specs.Missing.{IsRootOf, nothing}
 use Rattle.ct_certain.proofs.Certainties.{takes_nothing, takes_one}
 use Rattle.ct_certain.proofs.certainty.try_tuple.Goals as goal
 
-pub returns-then-is_listed-clause-takes : goal.returns-then-is_listed-clause-takes
-returns-then-is_listed-clause-takes g c = nothing (λ all. ap (λ l. has_tuple (tuples_in l) c.args.tuple.now) (sym c.as_slice.ensures.value) ∙ sym c.if-is_listed.ensures)
-
 pub returns-then-not-is_everywhere-clause-takes : goal.returns-then-not-is_everywhere-clause-takes
 returns-then-not-is_everywhere-clause-takes g c =
-    nothing (λ all. absurd (c.is_everywhere.ensures c.if-not-is_everywhere.true (subst (λ rs. IsInAll c.args.words.now c.args.global rs c.args.tuple.now) (sym c.as_slice-rows.ensures) all)))
+    nothing (λ all. c.is_everywhere.ensures c.if-not-is_everywhere.true (subst (λ rs. IsInAll c.args.words.now c.args.global rs c.args.tuple.now) (sym c.as_slice-rows.ensures) all))
 
 pub returns-in_ok-see-in-World-clause-takes : goal.returns-in_ok-see-in-World-clause-takes
 returns-in_ok-see-in-World-clause-takes g c =
     let new = g.I.Interner.list c.ask_tuple.new.pass in
-    takes_nothing c.args.words.now c.args.global c.args.table.now.rows new c.args.tuple.now c.args.list.now.items c.in_ok-root.root c.in-World.world
-    (subst (λ t. IsRootOf c.args.words.now new c.args.global c.args.table.now.rows t c.in_ok-root.root) c.as_slice-4.ensures c.in_ok-root.ensures.root)
+    takes_nothing c.args.words.now c.args.global c.args.table.now.rows new c.args.tuple.now c.args.list.now.rows.items c.in_ok-root.root c.in-World.world
+    (subst (λ t. IsRootOf c.args.words.now new c.args.global c.args.table.now.rows t c.in_ok-root.root) c.as_slice-2.ensures c.in_ok-root.ensures.root)
     (subst (IsSettled new c.in_ok-root.root) c.in-World.is c.in_ok-root.ensures.settled)
 
 pub returns-in_ok-list_tuple-in-Refuted-clause-takes : goal.returns-in_ok-list_tuple-in-Refuted-clause-takes
 returns-in_ok-list_tuple-in-Refuted-clause-takes g c =
     let new = g.I.Interner.list c.ask_tuple.new.pass in
-    takes_one c.args.words.now c.args.global c.args.table.now.rows new c.args.tuple.now c.args.list.now.items c.list_tuple.new.list.items c.in_ok-root.root c.in-Refuted.derivation
-    (subst (λ t. IsRootOf c.args.words.now new c.args.global c.args.table.now.rows t c.in_ok-root.root) c.as_slice-4.ensures c.in_ok-root.ensures.root)
+    takes_one c.args.words.now c.args.global c.args.table.now.rows new c.args.tuple.now c.args.list.now.rows.items c.list_tuple.new.list.rows.items c.in_ok-root.root c.in-Refuted.derivation
+    (subst (λ t. IsRootOf c.args.words.now new c.args.global c.args.table.now.rows t c.in_ok-root.root) c.as_slice-2.ensures c.in_ok-root.ensures.root)
     (subst (IsSettled new c.in_ok-root.root) c.in-Refuted.is c.in_ok-root.ensures.settled)
-    (ap (λ l. has_tuple (tuples_in l) c.args.tuple.now) (sym c.as_slice.ensures.value) ∙ sym c.if-is_listed.ensures)
     c.in_ok-list_tuple-in-Refuted.ensures
