@@ -19,7 +19,7 @@ use Rattle.ct_resolve.specs.declared.error.ResolveError.{ResolveError}
 use Rattle.ct_session.specs.Answers.{committed_of}
 use Rattle.ct_session.specs.Seeing.{Sees}
 use Rattle.ct_session.specs.State.{Transaction, SessionState, carried}
-use Rattle.ct_session.specs.LawfulRefusal.{IsNameFault, IsFirstWritten, CommitsWhole, CommitsAlone, LawfulRefusal}
+use Rattle.ct_session.specs.LawfulRefusal.{IsNameFault, IsFirstWritten, CommitsWhole, CommitsAlone, IsConflict, LawfulRefusal}
 use Rattle.ct_session.specs.LawfulReply.{LawfulReply}
 use Rattle.ct_serve.specs.Sessions.{AreLawful, AreLawfulSessions}
 use Rattle.ct_serve.specs.Lawful.{Lawful}
@@ -27,7 +27,7 @@ use Rattle.ct_outside.specs.Outside.{Held}
 use Rattle.ct_serve.specs.declared.ending.Status.TheVariants as status
 use Rattle.ct_serve.specs.Scripts.{IsScript, HoldsScript, HoldsNoScript, IsNoScript}
 use Rattle.ct_serve.specs.Runs.{Asking, Taking, RunPromise}
-use Rattle.ct_serve.specs.Complete.{IsAnswered, IsCurrent, IsWithinLimits, AreComplete, AreCompleteSessions, IsComplete}
+use Rattle.ct_serve.specs.Complete.{IsAnswered, IsCurrent, IsWithinLimitsWhere, IsWithinLimits, HasCause, AreComplete, AreCompleteSessions, IsComplete}
 use Rattle.ct_serve.proofs.Between.{ground, ground_inside, ground_outside, IsAmidst, amidst_next, amidst_first, steps, later_commits, seen_current, conflict_current}
 
 none_open : (t : Option Transaction) → IsSome t → t ≡ None → ⊥
@@ -45,45 +45,60 @@ module _ (H : List PlainCommit) (W : List ℕ) (N : ℕ) where
       let le : last (take at H) table ≤ base = of_one (λ r. last (take at H) r ≤ base) f.before f.after table (subst (All (λ r. last (take at H) r ≤ base)) f.place all) in
       let lt = f.written in absurd (omega (arith, le, lt))
 
+  -- a refusal of a statement that is within all limits at some versions, among them that which it carries where the
+  -- statement saw it, and where it met a commit after its base
+  module _ (At : ℕ → Type 0) (s next : SessionState) (x : List ℕ) (at : ℕ) (w : IsWithinLimitsWhere H W N At s x) (saw : (actions : List PlainAction) → next ≡ carried at s → Sees H s at actions → At at)
+      (met : (table : Read) (was now : ℕ) → IsConflict H W N s x table was now at next → At at) where
+    no_fault : (e : ResolveError) → next ≡ carried at s → IsNameFault H W N s x at e → ⊥
+    no_fault e keeps f = w.named at f.actions e (saw f.actions keeps f.sees) f.sees f.found
+
+    of_memory : (why : Refusal) → LawfulRefusal H W N s x at why next → why ≡ refusal.Memory
+    of_memory refusal.NotAStatement l = absurd (w.read refusal.NotAStatement l.0.found)
+    of_memory refusal.TooDeep l = absurd (w.read refusal.TooDeep l.0.found)
+    of_memory refusal.NumberRange l = absurd (w.read refusal.NumberRange l.0.found)
+    of_memory refusal.InTransaction l = absurd (none_open s.transaction l.0.is_open (w.begins_outside l.0.asks))
+    of_memory refusal.NoTransaction l = absurd (none_open s.transaction (w.ends_inside l.0.statement l.0.ends l.0.asks) l.0.none_open)
+    of_memory refusal.UnknownTable l = absurd (no_fault _ l.1 l.0)
+    of_memory refusal.TableExists l = absurd (no_fault _ l.1 l.0)
+    of_memory refusal.UnknownColumn l = absurd (no_fault _ l.1 l.0)
+    of_memory refusal.AmbiguousColumn l = absurd (no_fault _ l.1 l.0)
+    of_memory refusal.DuplicateName l = absurd (no_fault _ l.1 l.0)
+    of_memory refusal.ColumnCount l = absurd (no_fault _ l.1 l.0)
+    of_memory refusal.TooLarge l =
+        let le = w.small at l.0.actions l.0.statement l.0.query (saw l.0.actions l.1 l.0.sees) l.0.sees l.0.asks l.0.evaluates in
+        let lt = l.0.past in absurd (omega (arith, le, lt))
+    of_memory refusal.Full l = let lt = w.room in let e = l.0.full in absurd (omega (arith, lt, e))
+    of_memory refusal.TooManyTerms l =
+        let le = w.few_terms at l.0.actions l.0.statement (saw l.0.actions l.1 l.0.sees) l.0.sees l.0.asks l.0.of_worlds in
+        let lt = l.0.past in absurd (omega (arith, le, lt))
+    of_memory (refusal.Inconsistent proof) l =
+        let v = w.satisfied at l.0.actions l.0.condition (saw l.0.actions l.1 l.0.sees) l.0.sees l.0.asks in
+        absurd (false≢true (sym (l.0.none_satisfies v.0) ∙ v.1))
+    of_memory (refusal.Conflict table was now at') l =
+        let c = l.1 in
+        absurd (not_written c.reads c.base at table c.first (w.unwritten c.base at c.reads (met table was now c) c.commits c.within))
+    of_memory refusal.Memory l = refl
+
   module _ (s next : SessionState) (x : List ℕ) (r : Reply) (rs : List Reply) (a : IsAmidst H s (r ∷ rs)) (later : All (λ m. ground next < m) (filter_map committed_of rs)) (w : IsWithinLimits H W N s x) where
-    -- a refusal of a statement that saw these actions at this version
-    saw : (at : ℕ) (actions : List PlainAction) → committed_of r ≡ None → next ≡ carried at s → Sees H s at actions → IsCurrent H s at
-    saw at actions none = seen_current H s next r rs at actions a none later
-
-    no_fault : (at : ℕ) (e : ResolveError) → committed_of r ≡ None → next ≡ carried at s → IsNameFault H W N s x at e → ⊥
-    no_fault at e none keeps f = w.named at f.actions e (saw at f.actions none keeps f.sees) f.sees f.found
-
     base_of : (base : ℕ) (reads : List Read) → CommitsWhole H W N s x base reads ⊎ CommitsAlone H W N s x base reads → ground s ≤ base
     base_of base reads (inl c) = let is = ground_inside s c.transaction c.is_open in let e = c.base_is in omega (arith, is, e)
     base_of base reads (inr c) = let is = ground_outside s c.none_open in let le = c.from_seen in omega (arith, is, le)
 
     refused : (at : ℕ) (why : Refusal) → committed_of r ≡ None → LawfulRefusal H W N s x at why next → why ≡ refusal.Memory
-    refused at refusal.NotAStatement none l = absurd (w.read refusal.NotAStatement l.0.found)
-    refused at refusal.TooDeep none l = absurd (w.read refusal.TooDeep l.0.found)
-    refused at refusal.NumberRange none l = absurd (w.read refusal.NumberRange l.0.found)
-    refused at refusal.InTransaction none l = absurd (none_open s.transaction l.0.is_open (w.begins_outside l.0.asks))
-    refused at refusal.NoTransaction none l = absurd (none_open s.transaction (w.ends_inside l.0.statement l.0.ends l.0.asks) l.0.none_open)
-    refused at refusal.UnknownTable none l = absurd (no_fault at _ none l.1 l.0)
-    refused at refusal.TableExists none l = absurd (no_fault at _ none l.1 l.0)
-    refused at refusal.UnknownColumn none l = absurd (no_fault at _ none l.1 l.0)
-    refused at refusal.AmbiguousColumn none l = absurd (no_fault at _ none l.1 l.0)
-    refused at refusal.DuplicateName none l = absurd (no_fault at _ none l.1 l.0)
-    refused at refusal.ColumnCount none l = absurd (no_fault at _ none l.1 l.0)
-    refused at refusal.TooLarge none l =
-        let le = w.small at l.0.actions l.0.statement l.0.query (saw at l.0.actions none l.1 l.0.sees) l.0.sees l.0.asks l.0.evaluates in
-        let lt = l.0.past in absurd (omega (arith, le, lt))
-    refused at refusal.Full none l = let lt = w.room in let e = l.0.full in absurd (omega (arith, lt, e))
-    refused at refusal.TooManyTerms none l =
-        let le = w.few_terms at l.0.actions l.0.statement (saw at l.0.actions none l.1 l.0.sees) l.0.sees l.0.asks l.0.of_worlds in
-        let lt = l.0.past in absurd (omega (arith, le, lt))
-    refused at (refusal.Inconsistent proof) none l =
-        let v = w.satisfied at l.0.actions l.0.condition (saw at l.0.actions none l.1 l.0.sees) l.0.sees l.0.asks in
-        absurd (false≢true (sym (l.0.none_satisfies v.0) ∙ v.1))
-    refused at (refusal.Conflict table was now at') none l =
-        let c = l.1 in
-        let here = conflict_current H s next r rs c.base at a none later c.next_is (base_of c.base c.reads c.commits) c.later in
-        absurd (not_written c.reads c.base at table c.first (w.unwritten c.base at c.reads here c.commits c.within))
-    refused at refusal.Memory none l = refl
+    refused at why none l =
+        of_memory (IsCurrent H s) s next x at w (λ actions. seen_current H s next r rs at actions a none later)
+        (λ table was now c. conflict_current H s next r rs c.base at a none later c.next_is (base_of c.base c.reads c.commits) c.later) why l
+
+  has_cause : (s next : SessionState) (x : List ℕ) (r : Reply) → LawfulReply H W N s x r next → HasCause H W N s x r
+  has_cause s next x (reply.Refused at why) l = λ w. of_memory (λ v. v ≡ at) s next x at w (λ actions keeps sees. refl) (λ table was now c. refl) why l
+  has_cause s next x (reply.Begun at) l = tt
+  has_cause s next x reply.RolledBack l = tt
+  has_cause s next x (reply.Pending at plus) l = tt
+  has_cause s next x (reply.Committed m) l = tt
+  has_cause s next x (reply.Nothing at) l = tt
+  has_cause s next x (reply.Rows at plus answer) l = tt
+  has_cause s next x (reply.Possible at plus columns rows) l = tt
+  has_cause s next x (reply.Certain at plus columns rows) l = tt
 
   answered : (s next : SessionState) (x : List ℕ) (r : Reply) (rs : List Reply) → IsAmidst H s (r ∷ rs) → All (λ m. ground next < m) (filter_map committed_of rs) → IsWithinLimits H W N s x
       → LawfulReply H W N s x r next → IsAnswered r
@@ -102,7 +117,7 @@ module _ (H : List PlainCommit) (W : List ℕ) (N : ℕ) where
   complete s t (x ∷ xs) (r ∷ rs) a l =
       let st = steps H W N s l.0 x a.within r l.1 in
       let later = later_commits H W N l.0 t xs rs st.within l.2 in
-      (l.0, l.1, (λ w. answered s l.0 x r rs a later w l.1), complete l.0 t xs rs (amidst_next H s l.0 r rs a st) l.2)
+      (l.0, l.1, (λ w. answered s l.0 x r rs a later w l.1), has_cause s l.0 x r l.1, complete l.0 t xs rs (amidst_next H s l.0 r rs a st) l.2)
   complete s t [] (r ∷ rs) a l = absurd l
   complete s t (x ∷ xs) [] a l = absurd l
 

@@ -41,33 +41,47 @@ IsCurrent H s at = length (commits_by s.session 1 (take at H)) ≡ s.commits
 
 -- H is the run's history, W the words of its log, N their capacity
 module _ (H : List PlainCommit) (W : List ℕ) (N : ℕ) where
-  -- a statement is within all limits in a state, wherever before the session's next commit it is answered
-  pub record IsWithinLimits (s : SessionState) (x : List ℕ) : Type 0 where
+  -- a statement is within all limits in a state, wherever it is answered among some versions
+  pub record IsWithinLimitsWhere (At : ℕ → Type 0) (s : SessionState) (x : List ℕ) : Type 0 where
     -- no fault of the text, and in its place
     pub read : (why : Refusal) → IsTextFault x why → ⊥
     pub begins_outside : Orders H s x plain.Begin → s.transaction ≡ None
     pub ends_inside : (st : PlainStatement) → (st ≡ plain.Commit) ⊎ (st ≡ plain.Rollback) → Orders H s x st → IsSome s.transaction
     -- no fault of a name or a count
-    pub named : (at : ℕ) (actions : List PlainAction) (e : ResolveError) → IsCurrent H s at → Sees H s at actions → ResolvesTo H s x at actions (Err e) → ⊥
+    pub named : (at : ℕ) (actions : List PlainAction) (e : ResolveError) → At at → Sees H s at actions → ResolvesTo H s x at actions (Err e) → ⊥
     -- its query is not too large, the log is not full, and it has not too many terms
-    pub small : (at : ℕ) (actions : List PlainAction) (st : PlainStatement) (q : PlainQuery) → IsCurrent H s at → Sees H s at actions → Asks H s x at actions st → query_in st ≡ Some q
+    pub small : (at : ℕ) (actions : List PlainAction) (st : PlainStatement) (q : PlainQuery) → At at → Sees H s at actions → Asks H s x at actions st → query_in st ≡ Some q
         → size (count (take at H) actions) q ≤ limit
     pub room : length W < N
-    pub few_terms : (at : ℕ) (actions : List PlainAction) (st : PlainStatement) → IsCurrent H s at → Sees H s at actions → Asks H s x at actions st → asks_of_worlds st ≡ true
+    pub few_terms : (at : ℕ) (actions : List PlainAction) (st : PlainStatement) → At at → Sees H s at actions → Asks H s x at actions st → asks_of_worlds st ≡ true
         → term_count (take at (commits_of W)) actions st ≤ TERMS
     -- where it asserts, some valuation satisfies it
-    pub satisfied : (at : ℕ) (actions : List PlainAction) (c : Condition) → IsCurrent H s at → Sees H s at actions → Asks H s x at actions (plain.Act (plain.Assert c))
+    pub satisfied : (at : ℕ) (actions : List PlainAction) (c : Condition) → At at → Sees H s at actions → Asks H s x at actions (plain.Act (plain.Assert c))
         → (v : World) × IsTrue (admits v (take at H) (actions ++ plain.Assert c ∷ []))
     -- where it commits, no commit after its base has written what it reads
-    pub unwritten : (base at : ℕ) (reads : List Read) → IsCurrent H s at → CommitsWhole H W N s x base reads ⊎ CommitsAlone H W N s x base reads → at ≤ length H
+    pub unwritten : (base at : ℕ) (reads : List Read) → At at → CommitsWhole H W N s x base reads ⊎ CommitsAlone H W N s x base reads → at ≤ length H
         → All (λ r. last (take at H) r ≤ base) reads
 
-  -- each of these replies to these texts is lawful in the state that the one before it left, and one within all limits is
-  -- no refusal but want of memory
+  -- it is, wherever before the session's next commit it is answered
+  abbrev pub IsWithinLimits : SessionState → List ℕ → Type 0
+  IsWithinLimits s x = IsWithinLimitsWhere (IsCurrent H s) s x
+
+  -- it is at one version
+  abbrev pub IsWithinLimitsAt : ℕ → SessionState → List ℕ → Type 0
+  IsWithinLimitsAt at s x = IsWithinLimitsWhere (λ v. v ≡ at) s x
+
+  -- a refusal, other than for want of memory, is of a statement that is not within all limits at the version that the
+  -- refusal carries
+  abbrev pub HasCause : SessionState → List ℕ → Reply → Type 0
+  HasCause s x (reply.Refused at why) = IsWithinLimitsAt at s x → why ≡ refusal.Memory
+  HasCause s x _ = ⊤
+
+  -- each of these replies to these texts is lawful in the state that the one before it left; one to a statement within all
+  -- limits is no refusal but want of memory, and each refusal has its cause at the version that it carries
   abbrev pub AreComplete : SessionState → List (List ℕ) → List Reply → SessionState → Type 0
   AreComplete s [] [] last = s ≡ last
   AreComplete s (x ∷ xs) (r ∷ rs) last =
-      (next : SessionState) × LawfulReply H W N s x r next × (IsWithinLimits s x → IsAnswered r) × AreComplete next xs rs last
+      (next : SessionState) × LawfulReply H W N s x r next × (IsWithinLimits s x → IsAnswered r) × HasCause s x r × AreComplete next xs rs last
   AreComplete s _ _ last = ⊥
 
   -- the replies of a session are complete

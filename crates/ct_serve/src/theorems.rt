@@ -9,8 +9,8 @@ ghost use Rattle.ct_serve.specs.Scripts.{HoldsScript};
 ghost use Rattle.ct_serve.specs.Runs.{Asking, Taking, RunPromise};
 ghost use Rattle.ct_serve.specs.declared.ending.Status.TheVariants as status;
 
-/// Completeness: a lawful transcript refuses no statement that is within all limits, but for want of memory. So each
-/// refusal has one of the causes that `IsWithinLimits` lists.
+/// Completeness: a lawful transcript refuses no statement that is within all limits, but for want of memory. Each refusal
+/// has one of the causes that `IsWithinLimitsAt` lists, at the version that it carries.
 pub fn within_limits_is_answered()
     ensures { (t : Transcript) (N : ℕ) → Lawful t N → IsComplete t N }
 {}
