@@ -1,4 +1,4 @@
-// How changes are applied and committed: one in place, several on a copy of the list of the tables.
+// How changes are applied and committed: one on the list of the tables that is there, several on a copy of it.
 
 ghost use Rattle.std.specs.Prelude.{◌≡◌, ◌<◌, ◌≤◌, ◌+◌, ◌^◌, [], ◌∷◌, true, length, map, All, IfOk, IfErr, OnOk, OnErr, MatchResult, IsTrue, Some, is_err};
 ghost use Rattle.std.specs.Arc.{arc_value};
@@ -193,7 +193,8 @@ fn grow<N: Site>(
     }
 }
 
-/// Commits the one change of a list. A table that grows does so in place, where nobody else holds it.
+/// Commits the one change of a list. The table that it makes is put into the list of the tables, in place where nobody else
+/// holds the list.
 ///
 /// # Errors
 /// `Full` where the log has no room for a condition or for the commit word, `Memory`.

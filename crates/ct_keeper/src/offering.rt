@@ -75,7 +75,7 @@ fn next_kept(
     }
 }
 
-/// Commits the changes of a list: one in place, several on a copy of the list of the tables.
+/// Commits the changes of a list: one on the list of the tables that is there, several on a copy of it.
 ///
 /// # Errors
 /// `Full` where the log has no room for a condition or for the commit word, `Memory`.

@@ -96,7 +96,7 @@ fn acted<N: Site, R: Wait>(
             return (session, Reply::Refused { at: seen, why });
         }
     };
-    // Where nobody else holds the keeper's tables, they are changed in place.
+    // Where nobody else holds the keeper's list of tables, it is changed in place.
     drop(sight);
     let changes = proposal.changes;
     let drawn = proposal.fresh;

@@ -54,7 +54,8 @@ fn reached(
     }
 }
 
-/// What is seen after one more action, whose step this is. The tables change in place where nobody else holds them.
+/// What is seen after one more action, whose step this is. The list of the tables
+/// changes in place where nobody else holds it.
 ///
 /// # Errors
 /// What was seen before, where there is no memory.
