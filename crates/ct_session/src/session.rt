@@ -128,11 +128,12 @@ impl<N: Site> Session<N> {
     /// - `Committed` for an action outside a transaction, `Pending` for one inside;
     /// - `Rows`, `Possible` or `Certain` for a query, at what it sees: a version that has all commits of the words before,
     ///   or in a transaction its base with its own actions;
-    /// - `Refused` for the first cause that holds: `NumberRange`, `NotAStatement` or `TooDeep` where the text is read as no
-    ///   statement; `InTransaction` or `NoTransaction`; a name or a count that does not fit; `TooLarge` where a part of the
-    ///   query goes through too many rows; `Full` where the log has no room; `TooManyTerms`; `Inconsistent` for an assertion
-    ///   that no admitted valuation satisfies; `Conflict` where a commit after the base has changed what was read. By the
-    ///   contract `Memory` may come in place of any reply.
+    /// - `Refused` for the first of these three that holds: `NumberRange`, `NotAStatement` or `TooDeep` where the text is
+    ///   read as no statement; `InTransaction` or `NoTransaction`; a name or a count that does not fit. Else only for a
+    ///   cause that holds, in an order that the contract leaves free: `TooLarge` where a part of the query goes through too
+    ///   many rows; `Full` where the log has no room; `TooManyTerms`; `Inconsistent` for an assertion that no admitted
+    ///   valuation satisfies; `Conflict` where a commit after the base has changed what was read. By the contract `Memory`
+    ///   may come in place of any reply.
     ///
     /// A refused statement leaves the transaction and the number of the last null as they were, and commits nothing, though
     /// words may have come to the log. There is one exception: `Conflict` ends the transaction.
