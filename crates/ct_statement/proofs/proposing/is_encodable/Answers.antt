@@ -1,4 +1,4 @@
-use Rattle.std.proofs.Common.{◌≡◌, ◌≤◌, ◌^◌, [], map, length, None, Some, arith, subst, sym}
+use Rattle.std.proofs.Common.{◌≡◌, ◌≤◌, ◌^◌, [], map, length, None, Some, arith, ap, subst, sym}
 use Rattle.std.specs.Prelude.{IsSome}
 use Rattle.std.proofs.lemmas.Bool.{false≢true, leb-true}
 use Rattle.ct_query.specs.Fits.{FitsAction, count_of}
@@ -25,6 +25,6 @@ returns-in-Some c = λ few.
     let table = c.in-Some.table.now in
     let fits = subst (λ a. FitsAction hs (action_of a)) c.in-Delete.is c.requires.fits in
     let found = stands_for [] name (view_of name table) db c.in-Some.ensures in
-    let short : length table.columns ≤ 2 ^ 28 = let at_most = leb-true c.len.result 268435456 few in omega (arith, at_most, c.len.ensures) in
+    let short : length table.columns ≤ 2 ^ 28 = let at_most = leb-true c.len.result 268435456 few in let same : length c.columns.result.now ≡ length table.columns = ap (λ l. length l) c.columns.ensures in omega (arith, at_most, c.len.ensures, same) in
     subst (λ a. IsEncodable (action_of a)) (sym c.in-Delete.is)
     (deletion_encodable hs name (condition_of c.in-Delete.pred) fits (subst (λ o. count_of o ≤ 2 ^ 28) (sym found.columns) short))
