@@ -1,7 +1,9 @@
-//! Tests of a whole run: its faults, its gate, and a log that fills up.
+//! Tests of a whole run: its faults, its gate, a log that fills up, and generated scripts.
 #![tactic(auto)]
 
 #[cfg(test)]
 mod capacities;
+#[cfg(test)]
+mod fills;
 #[cfg(test)]
 mod runs;

@@ -47,7 +47,6 @@ fn words_and_faults(rt: HostRuntime) -> Result<(), Fail> {
         (&["run"], &[], &[], Status::Words, ""),
         (&["run"; 66], &[], &[], Status::Words, ""),
         (&["run"; 65], &[], &[], Status::ReadFault, ""),
-        (&["fill", "3"], &[], &[], Status::Words, ""),
         (&["run", "--arena", "63", "f"], &[], &[], Status::Words, ""),
         (
             &["run", "--arena", "64", "f"],

@@ -3,7 +3,7 @@ pub mod Answered
 pub mod Closed
 pub mod Clients
 pub mod Reached
-pub mod Tasks
+pub mod Generated
 pub mod Between
 pub mod Complete
 pub mod Unlawful

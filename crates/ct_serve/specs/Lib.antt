@@ -4,3 +4,5 @@ pub mod Lawful
 pub mod Complete
 pub mod Scripts
 pub mod Runs
+pub mod Summary
+pub mod Promise

@@ -1,5 +1,5 @@
 -- What a run does.
-use Rattle.std.specs.Prelude.{◌≡◌, ℕ, ◌⊎◌, Bool, true, false, List, [], length, map, Option, Some, None}
+use Rattle.std.specs.Prelude.{◌≡◌, ℕ, ◌⊎◌, Bool, true, false, List, [], length, map, Option}
 use Rattle.std.specs.List.{list_any}
 use Rattle.ct_outside.specs.Outside.{Held, Added, Called}
 use Rattle.ct_outside.specs.Writes.{joined, FailedAtCall}
@@ -9,8 +9,6 @@ use Rattle.ct_transcript.specs.declared.reply.Refusal.TheVariants as refusal
 use Rattle.ct_transcript.specs.declared.reply.SessionLog.{SessionLog}
 use Rattle.ct_transcript.specs.declared.transcript.Transcript.{Transcript}
 use Rattle.ct_transcript.specs.Text.{lines_of}
-use Rattle.ct_words.specs.Asked.{Task}
-use Rattle.ct_words.specs.Asked as task
 use Rattle.ct_serve.specs.declared.ending.Status.{Status}
 use Rattle.ct_serve.specs.declared.ending.Status.TheVariants as status
 use Rattle.ct_serve.specs.declared.printing.Sought.{Sought}
@@ -119,21 +117,3 @@ RunPromise N files a k status.Memory t = IsNothingDone k t ⊎ (IsServed N files
 RunPromise N files a k status.ReadFault t = IsNothingDone k t × IsUnread a.held a.asked a.asked' files
 RunPromise N files a k status.Script t = IsNothingDone k t × IsNoScript a.held a.asked a.asked' files
 RunPromise N files a k status.Words t = ⊥
-
--- what was done for words that are not understood
-abbrev pub NothingPromise : Taking → Status → Transcript → Type 0
-NothingPromise k status.Words t = IsNothingDone k t
-NothingPromise k status.Memory t = IsNothingDone k t
-NothingPromise k _ t = ⊥
-
--- what was done for words that ask for this, where they are understood
-abbrev pub Promise : Option Task → Asking → Taking → Status → Transcript → Type 0
-Promise None a k status t = NothingPromise k status t
-Promise (Some (task.run N files)) a k status t = RunPromise N files a k status t
-Promise (Some (task.fill n)) a k status t = NothingPromise k status t
-
--- the files that are asked for
-abbrev pub files_in : Option Task → List (List ℕ)
-files_in None = []
-files_in (Some (task.run N files)) = files
-files_in (Some (task.fill n)) = []

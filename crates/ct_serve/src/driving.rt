@@ -1,23 +1,23 @@
 // The top call.
 
-ghost use Rattle.std.specs.Prelude.{List, Err, ◌≡◌, ◌≤◌, ◌↔◌, length, map, None, IfOk, IfErr, OnOk, ◌⊎◌};
+ghost use Rattle.std.specs.Prelude.{◌≡◌, ◌≤◌, ◌↔◌, length, map, IfOk, IfErr, OnOk};
 ghost use Rattle.ct_outside.specs.Outside.{Rose, Added, AddedFront};
 ghost use Rattle.ct_outside.specs.Reads.{names_of};
 ghost use Rattle.ct_words.specs.Asked.{task, texts_of};
 ghost use Rattle.ct_serve.specs.Lawful.{Lawful};
 ghost use Rattle.ct_serve.specs.Scripts.{AreScriptsOf, IsUnread, IsNoScript};
-ghost use Rattle.ct_serve.specs.Runs.{Promise, RunPromise, files_in, empty_transcript};
+ghost use Rattle.ct_serve.specs.Runs.{RunPromise};
+ghost use Rattle.ct_serve.specs.Promise.{Promise, files_in};
 ghost use Rattle.ct_serve.specs.declared.ending.Status.TheVariants as status;
 ghost use Rattle.ct_serve.specs.declared.reading.Unserved.TheVariants as unserved;
 
-use crate::ending::{Run, Status};
+use crate::ending::{Run, Status, no_run};
+use crate::filling::fill;
 use crate::printing::print_transcript;
 use crate::reading::{Unserved, scripts_of};
 use crate::serving::serve;
-use ct_arena::Log;
 use ct_outside::{Gate, Scripts, Sink};
 use ct_transcript::Transcript;
-use ct_word::List;
 use ct_words::{Asked, asked};
 use std::alloc::Global;
 use std::sync::Wait;
@@ -65,19 +65,6 @@ fn status_of(e: Unserved) -> Status
     }
 }
 
-/// A run without a session. It takes no memory.
-fn no_run(alloc: Global, status: Status) -> Run
-    ensures status { result.status ≡ status }
-    ensures empty { result.transcript ≡ empty_transcript }
-{
-    let transcript = Transcript {
-        sessions: List::new(alloc),
-        history: List::new(alloc),
-        words: Log::empty(alloc),
-    };
-    Run { status, transcript }
-}
-
 /// Runs the sessions of files on a log of this many words, and writes their transcript.
 fn run_files<R: Threads + Wait + Sync, S: Scripts, K: Sink, G: Gate + Sync>(
     rt: &R,
@@ -105,14 +92,19 @@ fn run_files<R: Threads + Wait + Sync, S: Scripts, K: Sink, G: Gate + Sync>(
     Run { status, transcript }
 }
 
-/// Runs the sessions of the files that the words name, and writes their transcript with one write for each line. The
-/// words that are understood are those of `run [--arena N] FILE...`: a log of N words of 64 bits, from 64 to 1,048,576, or
-/// of 262,144 without `--arena`, and the names of 1 to 64 files; a file that is named twice has two sessions. The files
-/// are asked in their order, once for each name. The gate is called round each statement, on its session's thread, and
-/// may wait. Sessions run on threads, so their commits come in any order.
+/// Runs what the words ask for, as `asked` of `ct_words` understands them:
+/// - `run [--arena N] FILE...` runs a session for each of 1 to 64 files, on a log of N words of 64 bits, from 64 to
+///   1,048,576, or of 262,144 without `--arena`, and writes their transcript. A file that is named twice has two sessions.
+///   The files are asked in their order, once for each name;
+/// - `fill N`, with N from 1 to 2,000, runs the sessions of the four scripts that `ct_fill` makes with N, on a log of
+///   262,144 words, and writes the summary of their transcript. The source is not asked, so neither `ReadFault` nor
+///   `Script` comes.
+///
+/// There is one write for each line. The gate is called round each statement, on its session's thread, and may wait.
+/// Sessions run on threads, so their commits come in any order.
 ///
 /// A script has at most 1,048,576 bytes, is in UTF-8, and has at most 65,535 statements. The status is
-/// - `Words` exactly where the words ask for no run; then the source is not asked;
+/// - `Words` exactly where the words are not understood; then the source is not asked;
 /// - `ReadFault` only where the source failed, and counted it: at the last file that was asked. Where the source tells
 ///   what it holds, the files before that one are scripts;
 /// - `Script` only where, if the source tells what it holds, one of the files is no script, and those before it are;
@@ -124,7 +116,8 @@ fn run_files<R: Threads + Wait + Sync, S: Scripts, K: Sink, G: Gate + Sync>(
 ///   some reply is for want of memory.
 ///
 /// With `Words`, `ReadFault` and `Script` the transcript is empty, and nothing was written. With every other status but
-/// `Memory` it is the lawful transcript of the scripts that the files hold; with `Memory` it is one of the two.
+/// `Memory` it is the lawful transcript of the scripts that the files hold, or that were made; with `Memory` it is one of
+/// the two.
 pub fn run<R: Threads + Wait + Sync, S: Scripts, K: Sink, G: Gate + Sync>(
     rt: &R,
     alloc: Global,
@@ -142,7 +135,8 @@ pub fn run<R: Threads + Wait + Sync, S: Scripts, K: Sink, G: Gate + Sync>(
         Ok(Some(Asked::Run { capacity, files })) => {
             run_files(rt, alloc, capacity, files.as_slice(), scripts, out, gate)
         }
-        Ok(_) => no_run(alloc, Status::Words),
+        Ok(Some(Asked::Fill { number })) => fill(rt, alloc, number, out, gate),
+        Ok(None) => no_run(alloc, Status::Words),
         Err(_) => no_run(alloc, Status::Memory),
     }
 }

@@ -1,6 +1,12 @@
 // How a run ends.
 
+ghost use Rattle.std.specs.Prelude.{◌≡◌};
+ghost use Rattle.ct_serve.specs.Runs.{empty_transcript};
+
+use ct_arena::Log;
 use ct_transcript::Transcript;
+use ct_word::List;
+use std::alloc::Global;
 
 /// How a run ended; `run` says when each comes.
 #[derive(Clone, Copy, Debug, PartialEq, Eq)]
@@ -26,4 +32,17 @@ pub enum Status {
 pub struct Run {
     pub status: Status,
     pub transcript: Transcript,
+}
+
+/// A run without a session. It takes no memory.
+pub(crate) fn no_run(alloc: Global, status: Status) -> Run
+    ensures status { result.status ≡ status }
+    ensures empty { result.transcript ≡ empty_transcript }
+{
+    let transcript = Transcript {
+        sessions: List::new(alloc),
+        history: List::new(alloc),
+        words: Log::empty(alloc),
+    };
+    Run { status, transcript }
 }

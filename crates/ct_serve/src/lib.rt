@@ -4,9 +4,11 @@
 mod client;
 mod driving;
 mod ending;
+mod filling;
 mod printing;
 mod reading;
 mod serving;
+mod summary;
 mod theorems;
 
 pub use driving::run;

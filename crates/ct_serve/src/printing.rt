@@ -14,12 +14,12 @@ use std::alloc::Global;
 
 /// What is looked for among replies.
 #[derive(Clone, Copy)]
-enum Sought {
+pub(crate) enum Sought {
     Refusal,
     Memory,
 }
 
-fn is_sought(reply: &Reply, sought: Sought) -> bool
+pub(crate) fn is_sought(reply: &Reply, sought: Sought) -> bool
     ensures { result ≡ is_sought sought reply.now }
 {
     match (reply, sought) {
@@ -62,7 +62,7 @@ fn outcome(logs: &[SessionLog]) -> Status
 }
 
 /// Writes the lines of these sessions, with one call for each.
-fn print<K: Sink>(lines: &[Text], logs: &[SessionLog], out: &mut K) -> Status
+pub(crate) fn print<K: Sink>(lines: &[Text], logs: &[SessionLog], out: &mut K) -> Status
     ensures printed { Printed (record { taken = K.taken out.old; taken' = K.taken out.new; calls = K.calls out.old; calls' = K.calls out.new }) lines.now logs.now result }
     ensures write { result ≡ status.WriteFault → Rose (K.faults out.old) (K.faults out.new) }
 {

@@ -1,5 +1,5 @@
 //! `ctdb run [--arena N] FILE...` runs a session for each script, and writes their transcript: every reply, then the history
-//! of commits.
+//! of commits. `ctdb fill N` runs four scripts that it makes, and writes what their sessions were answered in one line each.
 #![tactic(auto)]
 
 use anyhow::Result;
