@@ -1,6 +1,6 @@
 -- A generated script has few statement texts: each needs a semicolon, and each statement has one.
-use Rattle.std.proofs.Common.{◌≡◌, ℕ, ◌+◌, ◌*◌, ◌≤◌, ◌<◌, ◌%◌, ◌/◌, ◌^◌, List, [], ◌∷◌, ◌++◌, length, map, refl, sym, ap, ap₂, subst, cond, true, false, zero, suc, ◌∙◌, arith, codes, length-append}
-use Rattle.std.specs.Prelude.{All, Bool, nat_eq, count_by, filter, flat_map, decimal}
+use Rattle.std.proofs.Common.{◌≡◌, ℕ, ◌+◌, ◌≤◌, ◌<◌, ◌%◌, ◌^◌, List, [], ◌∷◌, ◌++◌, length, refl, sym, ap, ap₂, subst, cond, true, false, zero, suc, ◌∙◌, arith, codes, length-append}
+use Rattle.std.specs.Prelude.{All, Bool, nat_eq, count_by, flat_map, decimal}
 use Rattle.std.specs.List.{range_with_len, AllByRecursion}
 use Rattle.std.proofs.lemmas.Bool.{false≢true, eqb-true, ne_eqb}
 use Rattle.std.proofs.lemmas.Fmt.{decimal_by_steps}
@@ -10,7 +10,7 @@ use Rattle.std.proofs.lemmas.List.Sums.{sum_by-cons, sum_by-append, length-filte
 use Rattle.ct_lex.specs.declared.splitting.Place.{Place}
 use Rattle.ct_lex.specs.declared.splitting.Place.TheVariants.{Plain, InText, InComment}
 use Rattle.ct_lex.specs.Texts.{texts, pieces, pieces_from, ends_piece, place_after, onto_first, has_token}
-use Rattle.ct_fill.specs.Script.{creation, insertion, ending, insertions, statements, ended, script_of}
+use Rattle.ct_fill.specs.Script.{insertion, ending, insertions, statements, ended, script_of}
 use Rattle.ct_serve.specs.Promise.{generated}
 
 -- how many semicolons bytes have
