@@ -23,10 +23,11 @@ use Rattle.ct_session.specs.LawfulRefusal.{IsNameFault, IsFirstWritten, CommitsW
 use Rattle.ct_session.specs.LawfulReply.{LawfulReply}
 use Rattle.ct_serve.specs.Sessions.{AreLawful, AreLawfulSessions}
 use Rattle.ct_serve.specs.Lawful.{Lawful}
-use Rattle.ct_outside.specs.Outside.{Held}
+use Rattle.ct_outside.specs.Outside.{Held, Rose}
+use Rattle.ct_serve.specs.declared.ending.Status.{Status}
 use Rattle.ct_serve.specs.declared.ending.Status.TheVariants as status
 use Rattle.ct_serve.specs.Scripts.{IsScript, HoldsScript, HoldsNoScript, IsNoScript}
-use Rattle.ct_serve.specs.Runs.{Asking, Taking, RunPromise}
+use Rattle.ct_serve.specs.Runs.{Asking, Taking, RunPromise, IsServedEnd}
 use Rattle.ct_serve.specs.Complete.{IsAnswered, IsCurrent, IsWithinLimitsWhere, IsWithinLimits, HasCause, AreComplete, AreCompleteSessions, IsComplete}
 use Rattle.ct_serve.proofs.Between.{ground, ground_inside, ground_outside, IsAmidst, amidst_next, amidst_first, steps, later_commits, seen_current, conflict_current}
 
@@ -141,3 +142,14 @@ scripts_served N files a k t held told all p =
     let reached = found.2 in
     let is : HoldsScript a.held found.0 = of_one (HoldsScript a.held) reached.before (found.1 ++ reached.after) found.0 (subst (All (HoldsScript a.held)) reached.split all) in
     not_both (held found.0) (subst (λ h. HoldsScript h found.0) told is) (subst (λ h. HoldsNoScript h found.0) told found.3)
+
+-- without a failure of source and sink, a run of files that are scripts ends with its transcript, or for want of memory
+pub faultless_served : (N : ℕ) (files : List (List ℕ)) (a : Asking) (k : Taking) (s : Status) (t : Transcript) (held : Held) → a.held ≡ Some held → All (HoldsScript a.held) files
+    → (Rose a.faults a.faults' → ⊥) → (Rose k.faults k.faults' → ⊥) → RunPromise N files a k s t → IsServedEnd s
+faultless_served N files a k status.Done t held told all read write p = tt
+faultless_served N files a k status.Refused t held told all read write p = tt
+faultless_served N files a k status.Memory t held told all read write p = tt
+faultless_served N files a k status.Words t held told all read write p = p
+faultless_served N files a k status.ReadFault t held told all read write p = read p.2
+faultless_served N files a k status.WriteFault t held told all read write p = write p.1.rose
+faultless_served N files a k status.Script t held told all read write p = scripts_served N files a k t held told all p

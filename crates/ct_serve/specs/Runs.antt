@@ -1,7 +1,7 @@
 -- What a run does.
-use Rattle.std.specs.Prelude.{◌≡◌, ℕ, ◌⊎◌, Bool, true, false, List, [], length, map, Option}
+use Rattle.std.specs.Prelude.{◌≡◌, ℕ, ◌⊎◌, Bool, true, false, List, [], length, map, Option, ⊤}
 use Rattle.std.specs.List.{list_any}
-use Rattle.ct_outside.specs.Outside.{Held, Added, Called}
+use Rattle.ct_outside.specs.Outside.{Held, Rose, Added, Called}
 use Rattle.ct_outside.specs.Writes.{joined, FailedAtCall}
 use Rattle.ct_transcript.specs.declared.reply.Reply.{Reply}
 use Rattle.ct_transcript.specs.declared.reply.Reply.TheVariants as reply
@@ -48,14 +48,19 @@ IsOutcome logs status.ReadFault = ⊥
 IsOutcome logs status.WriteFault = ⊥
 IsOutcome logs status.Script = ⊥
 
--- what the source told before the call of the bytes that it holds, and before and after it of the names that it was asked
+-- what the source told before the call of the bytes that it holds, and before and after it of its failures and of the
+-- names that it was asked
 pub record Asking : Type 0 where
   pub held : Option Held
+  pub faults : ℕ
+  pub faults' : ℕ
   pub asked : Option (List (List ℕ))
   pub asked' : Option (List (List ℕ))
 
--- what the sink told before and after the call of its bytes and of its calls
+-- what the sink told before and after the call of its failures, of its bytes and of its calls
 pub record Taking : Type 0 where
+  pub faults : ℕ
+  pub faults' : ℕ
   pub taken : Option (List ℕ)
   pub taken' : Option (List ℕ)
   pub calls : Option ℕ
@@ -73,8 +78,9 @@ pub record IsWritten (k : Taking) (lines : List (List ℕ)) : Type 0 where
   pub whole : Added k.taken k.taken' (joined lines)
   pub called : Called k.calls k.calls' (length lines)
 
--- a call failed: the lines before its own were added, and a prefix of its own
+-- a call failed, which the sink counted: the lines before its own were added, and a prefix of its own
 pub record IsWriteFault (k : Taking) (lines : List (List ℕ)) : Type 0 where
+  pub rose : Rose k.faults k.faults'
   pub call : ℕ
   pub failed : FailedAtCall k.taken k.taken' lines call
   pub called : Called k.calls k.calls' call
@@ -114,6 +120,13 @@ RunPromise N files a k status.Done t = IsServed N files a t × PrintedWhole k t 
 RunPromise N files a k status.Refused t = IsServed N files a t × PrintedWhole k t status.Refused
 RunPromise N files a k status.WriteFault t = IsServed N files a t × PrintedWhole k t status.WriteFault
 RunPromise N files a k status.Memory t = IsNothingDone k t ⊎ (IsServed N files a t × PrintedWhole k t status.Memory)
-RunPromise N files a k status.ReadFault t = IsNothingDone k t × IsUnread a.held a.asked a.asked' files
+RunPromise N files a k status.ReadFault t = IsNothingDone k t × IsUnread a.held a.asked a.asked' files × Rose a.faults a.faults'
 RunPromise N files a k status.Script t = IsNothingDone k t × IsNoScript a.held a.asked a.asked' files
 RunPromise N files a k status.Words t = ⊥
+
+-- a status that comes where all was served: with the whole text, or for want of memory
+abbrev pub IsServedEnd : Status → Type 0
+IsServedEnd status.Done = ⊤
+IsServedEnd status.Refused = ⊤
+IsServedEnd status.Memory = ⊤
+IsServedEnd _ = ⊥

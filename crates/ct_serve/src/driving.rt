@@ -79,10 +79,8 @@ fn run_files<R: Threads + Wait + Sync, S: Scripts, K: Sink, G: Gate + Sync>(
     requires most { capacity ≤ 1048576 }
     requires some { 1 ≤ length files.now }
     requires most_files { length files.now ≤ 64 }
-    ensures promise { RunPromise capacity (names_of files.now) (record { held = S.held scripts.old; asked = S.names scripts.old; asked' = S.names scripts.new }) (record { taken = K.taken out.old; taken' = K.taken out.new; calls = K.calls out.old; calls' = K.calls out.new }) result.status result.transcript }
+    ensures promise { RunPromise capacity (names_of files.now) (record { held = S.held scripts.old; faults = S.faults scripts.old; faults' = S.faults scripts.new; asked = S.names scripts.old; asked' = S.names scripts.new }) (record { faults = K.faults out.old; faults' = K.faults out.new; taken = K.taken out.old; taken' = K.taken out.new; calls = K.calls out.old; calls' = K.calls out.new }) result.status result.transcript }
     ensures names { AddedFront (S.names scripts.old) (S.names scripts.new) (names_of files.now) }
-    ensures read { result.status ≡ status.ReadFault → Rose (S.faults scripts.old) (S.faults scripts.new) }
-    ensures write { result.status ≡ status.WriteFault → Rose (K.faults out.old) (K.faults out.new) }
 {
     let transcript = match served(rt, alloc, capacity, files, scripts, gate) {
         Ok(transcript) => transcript,
@@ -126,10 +124,8 @@ pub fn run<R: Threads + Wait + Sync, S: Scripts, K: Sink, G: Gate + Sync>(
     out: &mut K,
     gate: &G,
 ) -> Run
-    ensures promise { Promise (task (texts_of words.now)) (record { held = S.held scripts.old; asked = S.names scripts.old; asked' = S.names scripts.new }) (record { taken = K.taken out.old; taken' = K.taken out.new; calls = K.calls out.old; calls' = K.calls out.new }) result.status result.transcript }
+    ensures promise { Promise (task (texts_of words.now)) (record { held = S.held scripts.old; faults = S.faults scripts.old; faults' = S.faults scripts.new; asked = S.names scripts.old; asked' = S.names scripts.new }) (record { faults = K.faults out.old; faults' = K.faults out.new; taken = K.taken out.old; taken' = K.taken out.new; calls = K.calls out.old; calls' = K.calls out.new }) result.status result.transcript }
     ensures names { AddedFront (S.names scripts.old) (S.names scripts.new) (files_in (task (texts_of words.now))) }
-    ensures read { result.status ≡ status.ReadFault → Rose (S.faults scripts.old) (S.faults scripts.new) }
-    ensures write { result.status ≡ status.WriteFault → Rose (K.faults out.old) (K.faults out.new) }
 {
     match asked(alloc, words) {
         Ok(Some(Asked::Run { capacity, files })) => {

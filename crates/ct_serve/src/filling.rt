@@ -1,11 +1,9 @@
 // The command `fill`: sessions of generated scripts, and their summary.
 
 ghost use Rattle.std.specs.Prelude.{◌≡◌, ◌≤◌, IfOk};
-ghost use Rattle.ct_outside.specs.Outside.{Rose};
 ghost use Rattle.ct_serve.specs.Promise.{generated, IsGenerated, FillPromise};
 ghost use Rattle.ct_serve.specs.Runs.{Taking, Printed};
 ghost use Rattle.ct_serve.specs.Summary.{summary};
-ghost use Rattle.ct_serve.specs.declared.ending.Status.TheVariants as status;
 
 use crate::ending::{Run, Status, no_run};
 use crate::printing::print;
@@ -49,8 +47,7 @@ fn filled<R: Threads + Wait + Sync, G: Gate + Sync>(
 
 /// Writes the summary of a transcript, with one call for each line.
 fn print_summary<K: Sink>(alloc: Global, n: u32, transcript: &Transcript, out: &mut K) -> Status
-    ensures printed { Printed (record { taken = K.taken out.old; taken' = K.taken out.new; calls = K.calls out.old; calls' = K.calls out.new }) (summary n transcript.now) transcript.now.sessions result }
-    ensures write { result ≡ status.WriteFault → Rose (K.faults out.old) (K.faults out.new) }
+    ensures printed { Printed (record { faults = K.faults out.old; faults' = K.faults out.new; taken = K.taken out.old; taken' = K.taken out.new; calls = K.calls out.old; calls' = K.calls out.new }) (summary n transcript.now) transcript.now.sessions result }
 {
     let Ok(text) = summary(alloc, n, transcript) else {
         return Status::Memory;
@@ -67,8 +64,7 @@ pub(crate) fn fill<R: Threads + Wait + Sync, K: Sink, G: Gate + Sync>(
     gate: &G,
 ) -> Run
     requires { n ≤ 2000 }
-    ensures promise { FillPromise n (record { taken = K.taken out.old; taken' = K.taken out.new; calls = K.calls out.old; calls' = K.calls out.new }) result.status result.transcript }
-    ensures write { result.status ≡ status.WriteFault → Rose (K.faults out.old) (K.faults out.new) }
+    ensures promise { FillPromise n (record { faults = K.faults out.old; faults' = K.faults out.new; taken = K.taken out.old; taken' = K.taken out.new; calls = K.calls out.old; calls' = K.calls out.new }) result.status result.transcript }
 {
     let Ok(transcript) = filled(rt, alloc, n, gate) else {
         return no_run(alloc, Status::Memory);

@@ -2,9 +2,7 @@
 
 ghost use Rattle.std.specs.Prelude.{◌≡◌};
 ghost use Rattle.std.specs.List.{list_any};
-ghost use Rattle.ct_outside.specs.Outside.{Rose};
 ghost use Rattle.ct_serve.specs.Runs.{is_sought, some_reply, IsOutcome, Taking, Printed, PrintedWhole};
-ghost use Rattle.ct_serve.specs.declared.ending.Status.TheVariants as status;
 
 use crate::ending::Status;
 use ct_outside::{Sink, write_all};
@@ -63,8 +61,7 @@ fn outcome(logs: &[SessionLog]) -> Status
 
 /// Writes the lines of these sessions, with one call for each.
 pub(crate) fn print<K: Sink>(lines: &[Text], logs: &[SessionLog], out: &mut K) -> Status
-    ensures printed { Printed (record { taken = K.taken out.old; taken' = K.taken out.new; calls = K.calls out.old; calls' = K.calls out.new }) lines.now logs.now result }
-    ensures write { result ≡ status.WriteFault → Rose (K.faults out.old) (K.faults out.new) }
+    ensures printed { Printed (record { faults = K.faults out.old; faults' = K.faults out.new; taken = K.taken out.old; taken' = K.taken out.new; calls = K.calls out.old; calls' = K.calls out.new }) lines.now logs.now result }
 {
     match write_all(out, lines) {
         Ok(()) => outcome(logs),
@@ -78,8 +75,7 @@ pub(crate) fn print_transcript<K: Sink>(
     transcript: &Transcript,
     out: &mut K,
 ) -> Status
-    ensures printed { PrintedWhole (record { taken = K.taken out.old; taken' = K.taken out.new; calls = K.calls out.old; calls' = K.calls out.new }) transcript.now result }
-    ensures write { result ≡ status.WriteFault → Rose (K.faults out.old) (K.faults out.new) }
+    ensures printed { PrintedWhole (record { faults = K.faults out.old; faults' = K.faults out.new; taken = K.taken out.old; taken' = K.taken out.new; calls = K.calls out.old; calls' = K.calls out.new }) transcript.now result }
 {
     let Ok(text) = lines(alloc, transcript) else {
         return Status::Memory;

@@ -1,18 +1,25 @@
 // Laws of the definitions: what a lawful transcript answers, and what a run serves.
 
 ghost use Rattle.std.specs.Prelude.{◌≡◌, ℕ, List, All, Some};
-ghost use Rattle.ct_outside.specs.Outside.{Held};
+ghost use Rattle.ct_outside.specs.Outside.{Held, Rose};
 ghost use Rattle.ct_transcript.specs.declared.transcript.Transcript.{Transcript};
 ghost use Rattle.ct_serve.specs.Lawful.{Lawful};
 ghost use Rattle.ct_serve.specs.Complete.{IsComplete};
 ghost use Rattle.ct_serve.specs.Scripts.{HoldsScript};
-ghost use Rattle.ct_serve.specs.Runs.{Asking, Taking, RunPromise};
+ghost use Rattle.ct_serve.specs.Runs.{Asking, Taking, RunPromise, IsServedEnd};
+ghost use Rattle.ct_serve.specs.declared.ending.Status.{Status};
 ghost use Rattle.ct_serve.specs.declared.ending.Status.TheVariants as status;
 
 /// Completeness: a lawful transcript refuses no statement that is within all limits, but for want of memory. Each refusal
 /// has one of the causes that `IsWithinLimitsAt` lists, at the version that it carries.
 pub fn within_limits_is_answered()
     ensures { (t : Transcript) (N : ℕ) → Lawful t N → IsComplete t N }
+{}
+
+/// Words that are understood, files that the source tells to be scripts, and no failure of source and sink give a
+/// transcript and its whole text, or want of memory.
+pub fn faultless_runs_are_served()
+    ensures { (N : ℕ) (files : List (List ℕ)) (a : Asking) (k : Taking) (s : Status) (t : Transcript) (held : Held) → a.held ≡ Some held → All (HoldsScript a.held) files → (Rose a.faults a.faults' → ⊥) → (Rose k.faults k.faults' → ⊥) → RunPromise N files a k s t → IsServedEnd s }
 {}
 
 /// Where a source tells that all files are scripts, a run does not end for one that is none.
