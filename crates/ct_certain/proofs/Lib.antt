@@ -2,6 +2,8 @@ pub mod Slots
 pub mod Ordered
 pub mod Agreed
 pub mod Asking
+pub mod Own
+pub mod Short
 pub mod Listing
 pub mod Missing
 pub mod Values

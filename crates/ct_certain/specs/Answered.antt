@@ -5,7 +5,7 @@ use Rattle.ct_word.specs.declared.values.CRow.{CRow}
 use Rattle.ct_word.specs.Value.{World}
 use Rattle.ct_word.specs.Condition.{holds_at}
 use Rattle.ct_word.specs.Reading.{condition_at}
-use Rattle.ct_word.specs.Stands.{HasNoColumn}
+use Rattle.ct_word.specs.Stands.{HasNoColumn, TermBelow}
 use Rattle.ct_word.specs.WellFormed.{is_place_of}
 use Rattle.ct_derivation.specs.Accepts.{Accepts}
 use Rattle.ct_decide.specs.declared.deciding.Decision.{Decision}
@@ -13,6 +13,7 @@ use Rattle.ct_decide.specs.declared.deciding.Decision.TheVariants as decision
 use Rattle.ct_condition.specs.Worth.{AreWorths}
 use Rattle.ct_rewrite.specs.Tidy.{IsTidy}
 use Rattle.ct_rewrite.specs.declared.answer.PossibleRow.{PossibleRow}
+use Rattle.ct_certain.specs.Own.{AreNullsOf}
 use Rattle.ct_certain.specs.Possible.{is_shown, shown_row}
 use Rattle.ct_certain.specs.declared.pool.Known.{Known}
 use Rattle.ct_certain.specs.declared.pool.Pool.{Pool}
@@ -45,10 +46,11 @@ pub record IsKnown (words : List ℕ) (global : ℕ) (k : Known) : Type 0 where
 abbrev pub IsNever : List ℕ → ℕ → ℕ → Type 0
 IsNever words global c = (v : World) → (holds_at v (condition_at words global) && holds_at v (condition_at words c)) ≡ false
 
--- worlds that are known, and conditions that hold at none
+-- worlds that are known, conditions that hold at none, and the nulls below the global condition
 pub record IsPool (words : List ℕ) (global : ℕ) (p : Pool) : Type 0 where
   pub worlds : All (IsKnown words global) p.worlds.items
-  pub never : All (IsNever words global) p.never.items
+  pub never : All (IsNever words global) p.never.keys
+  pub nulls : AreNullsOf (TermBelow words global) p.nulls.keys
 
 -- the list with a row where some world shows it, as it was where none does
 pub data Adds (words : List ℕ) (global : ℕ) (r : CRow) (old : List PossibleRow) : List PossibleRow → Type 0 where

@@ -6,6 +6,7 @@
 #![tactic(auto)]
 
 mod absence;
+mod below;
 mod cells;
 mod certainty;
 mod derivations;

@@ -3,7 +3,6 @@
 ghost use Rattle.std.specs.Prelude.{◌≡◌, ◌≤◌, [], length, map, IfOk, IfSome, OnOk};
 ghost use Rattle.ct_word.specs.Value.{same_null, value_of_null};
 ghost use Rattle.ct_rewrite.specs.Order.{null_class, null_order};
-ghost use Rattle.ct_rewrite.specs.Tidy.{IsTidy};
 ghost use Rattle.ct_certain.specs.Order as spec;
 ghost use Rattle.ct_certain.specs.Order.{with_null};
 

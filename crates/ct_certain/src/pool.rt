@@ -1,15 +1,19 @@
 // The worlds that are known, each at which the global condition holds.
 
-ghost use Rattle.std.specs.Prelude.{◌≡◌, ◌<◌, ◌^◌, length, All, IfOk, IfSome, OnOk, IsTrue, None};
+ghost use Rattle.std.specs.Prelude.{◌<◌, ◌^◌, length, All, IfOk, IfSome, OnOk, IsTrue, None};
 ghost use Rattle.ct_word.specs.declared.kinds.Class.TheVariants as class;
+ghost use Rattle.ct_word.specs.Stands.{TermBelow};
 ghost use Rattle.ct_word.specs.WellFormed.{IsWellFormed, is_place_of};
 ghost use Rattle.ct_certain.specs.Answered.{AreOf, IsAnswer, IsKnown, IsNever, IsPool};
+ghost use Rattle.ct_certain.specs.Own.{AreNullsOf, IsShownBy};
 ghost use Rattle.ct_certain.specs.Possible.{is_shown};
 ghost use Rattle.ct_rewrite.specs.Tidy.{IsTidy};
 
-use crate::cells::copied;
+use crate::below::nulls_below;
+use crate::cells::cut;
 use ct_condition::{Worths, worths};
-use ct_word::{CRow, List, Memory, World};
+use ct_word::{CRow, List, Memory, Null, World};
+use indexmap::IndexSet;
 use std::alloc::Global;
 
 /// A world, with what the places of the words are worth there.
@@ -25,7 +29,9 @@ pub struct Pool {
     /// Worlds at which the global condition holds.
     pub worlds: Vec<Known>,
     /// Conditions of rows that hold at no valuation together with the global one.
-    pub never: Vec<u32>,
+    pub never: IndexSet<u32>,
+    /// The nulls below the global condition.
+    pub nulls: IndexSet<Null>,
 }
 
 /// The world in which each null is `@0`, if the global condition holds there.
@@ -53,71 +59,90 @@ pub fn start(alloc: Global, words: &[u64], global: u32) -> Result<Pool, Memory>
     ensures { IfOk result (λ pool. IsPool words.now global pool) }
 {
     let worlds = first(alloc, words, global)?;
+    let nulls = nulls_below(alloc, words, global, &[])?;
     Ok(Pool {
         worlds,
-        never: Vec::new(alloc),
+        never: IndexSet::new(alloc),
+        nulls,
     })
 }
 
 /// Whether it is known that no world shows a row.
-pub fn is_never(words: &[u64], global: u32, never: &[u32], row: &CRow) -> bool
-    requires { All (IsNever words.now global) never.now }
+pub fn is_never(words: &[u64], global: u32, never: &IndexSet<u32>, row: &CRow) -> bool
+    requires { All (IsNever words.now global) never.now.keys }
     ensures { IsTrue result → IsAnswer words.now global row.now None }
 {
     let _ = words;
     let _ = global;
-    for cond in never {
-        if *cond == row.cond {
-            return true;
-        }
-    }
-    false
+    never.contains(&row.cond)
 }
 
-/// A known world that shows a row.
+/// The part of a world that the global condition and a row need, of which the nulls of the first are given.
+fn own_part(
+    alloc: Global,
+    words: &[u64],
+    global: u32,
+    nulls: &IndexSet<Null>,
+    row: &CRow,
+    world: &World,
+) -> Result<World, Memory>
+    requires formed { IsWellFormed words.now }
+    requires asked { AreOf words.now global row.now }
+    requires nulls { AreNullsOf (TermBelow words.now global) nulls.now.keys }
+    requires tidy { IsTidy world.now }
+    requires shown { IsTrue (is_shown words.now global row.now world.now) }
+    ensures { IfOk result (λ part. IsShownBy words.now global row.now part) }
+{
+    let _ = global;
+    if world.is_empty() {
+        return Ok(List::new(alloc));
+    }
+    let own = nulls_below(alloc, words, row.cond, row.cells.as_slice())?;
+    cut(alloc, world, nulls, &own)
+}
+
+/// The part that a row needs of a known world that shows it.
 pub fn look(
     alloc: Global,
     words: &[u64],
     global: u32,
-    pool: &[Known],
+    pool: &Pool,
     row: &CRow,
 ) -> Result<Option<World>, Memory>
+    requires formed { IsWellFormed words.now }
     requires asked { AreOf words.now global row.now }
-    requires pool { All (IsKnown words.now global) pool.now }
-    ensures { IfOk result (λ o. IfSome o (λ v. IsTidy v × IsTrue (is_shown words.now global row.now v))) }
+    requires pool { IsPool words.now global pool.now }
+    ensures { IfOk result (λ o. IfSome o (IsShownBy words.now global row.now)) }
 {
-    let _ = words;
-    let _ = global;
-    for known in pool {
+    for known in &pool.worlds {
         if known.worths.holds(row.cond) {
-            let world = copied(alloc, &known.world)?;
-            return Ok(Some(world));
+            let part = own_part(alloc, words, global, &pool.nulls, row, &known.world)?;
+            return Ok(Some(part));
         }
     }
     Ok(None)
 }
 
-/// Puts a world into the pool, and gives a copy of it.
+/// Puts a world into the pool, and gives the part of it that a row needs.
 pub fn learn(
     alloc: Global,
     words: &[u64],
     global: u32,
-    pool: &mut Vec<Known>,
+    pool: &mut Pool,
     row: &CRow,
     world: World,
 ) -> Result<World, Memory>
     requires formed { IsWellFormed words.now }
     requires small { length words.now < 2 ^ 28 }
-    requires pool { All (IsKnown words.now global) pool.old.items }
+    requires asked { AreOf words.now global row.now }
+    requires pool { IsPool words.now global pool.old }
     requires tidy { IsTidy world }
     requires shown { IsTrue (is_shown words.now global row.now world) }
-    ensures copy { IfOk result (λ copy. copy ≡ world) }
-    ensures pool { OnOk result (All (IsKnown words.now global) pool.new.items) }
+    ensures part { IfOk result (λ part. IsShownBy words.now global row.now part) }
+    ensures pool { OnOk result (IsPool words.now global pool.new) }
 {
-    let _ = global;
-    let _ = row;
-    let copy = copied(alloc, &world)?;
+    let part = own_part(alloc, words, global, &pool.nulls, row, &world)?;
     let worths = worths(alloc, words, &world)?;
-    pool.push(Known { world, worths })?;
-    Ok(copy)
+    pool.worlds.push(Known { world, worths })?;
+    Ok(part)
 }

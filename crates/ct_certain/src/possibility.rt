@@ -10,6 +10,7 @@ ghost use Rattle.ct_table.specs.Tables.{AreRows};
 ghost use Rattle.ct_certain.specs.Answered.{AreOf};
 ghost use Rattle.ct_certain.specs.Asked.{IsOfTable, IsPastTerms};
 ghost use Rattle.ct_certain.specs.Faults.{is_full};
+ghost use Rattle.ct_certain.specs.Own.{IsOwn};
 ghost use Rattle.ct_certain.specs.Possible.{ListsPossible};
 ghost use Rattle.ct_certain.specs.declared.error.CertainError.TheVariants as fault;
 
@@ -38,6 +39,7 @@ fn each_possible<N: Site, I: Interner<N>>(
     requires global { IsTrue (is_place_of words.now class.Cond global) }
     requires rows { All (AreOf words.now global) rows.now }
     ensures lists { IfOk result (λ list. ListsPossible words.now global rows.now list.items) }
+    ensures own { IfOk result (λ list. All (IsOwn words.now global rows.now) list.items) }
     ensures writes { Writes I.list I.made I.kept I.lent N.log.cap pass.old pass.new (length rows.now) (is_full result) }
     ensures many { IsErrOf result fault.TooManyTerms → IsPastTerms (I.list pass.new) (IsOfTable words.now global rows.now) }
 {
@@ -52,7 +54,7 @@ fn each_possible<N: Site, I: Interner<N>>(
 }
 
 /// The rows of a table that are shown at some valuation at which the global condition holds, in their order, each with
-/// such a valuation. At most one word is made for each row.
+/// such a valuation, whose nulls stand below the global condition or the row. At most one word is made for each row.
 ///
 /// # Errors
 /// `Full` where the log has no room for the root of a question, `TooManyTerms` where a question has more than 64
@@ -68,6 +70,7 @@ pub fn possible<N: Site>(
     requires plain { HasNoColumn pass.old.words global }
     requires rows { AreRows pass.old.words (length table.now.columns) table.now.rows }
     ensures lists { IfOk result (λ list. ListsPossible pass.old.words global table.now.rows list) }
+    ensures own { IfOk result (λ list. All (IsOwn pass.old.words global table.now.rows) list) }
     ensures longer { IsPrefix pass.old.words pass.new.words }
     ensures formed { IsWellFormed pass.new.words }
     ensures room { length pass.new.words ≤ N.log.cap }

@@ -1,13 +1,15 @@
 // One row of the possible ones.
 
-ghost use Rattle.std.specs.Prelude.{◌≡◌, ◌<◌, ◌^◌, length, IfOk, OnOk, IsErrOf};
+ghost use Rattle.std.specs.Prelude.{◌<◌, ◌^◌, List, length, All, Contains, IfOk, OnOk, IsErrOf};
 ghost use mathlib.Core.List.{IsPrefix};
 ghost use Rattle.ct_word.specs.WellFormed.{IsWellFormed};
 ghost use Rattle.ct_condition.specs.Terms.{BelowEither};
 ghost use Rattle.ct_condition.specs.Writes.{Writes};
-ghost use Rattle.ct_certain.specs.Answered.{AreOf, IsAnswer, IsPool, Adds};
+ghost use Rattle.ct_word.specs.declared.values.CRow.{CRow};
+ghost use Rattle.ct_certain.specs.Answered.{AreOf, IsPool, Adds};
 ghost use Rattle.ct_certain.specs.Asked.{IsPastTerms};
 ghost use Rattle.ct_certain.specs.Faults.{is_full};
+ghost use Rattle.ct_certain.specs.Own.{IsOwn, IsOwnAnswer};
 ghost use Rattle.ct_certain.specs.declared.error.CertainError.TheVariants as fault;
 
 use crate::cells::terms;
@@ -20,7 +22,7 @@ use ct_rewrite::PossibleRow;
 use ct_word::{CRow, Memory, World};
 use std::alloc::Global;
 
-/// A world that shows a row, if there is one: a known one, or one that is asked for, and known from then on.
+/// What a row needs of a world that shows it, if there is one: a known one, or one that is asked for, and known from then on.
 pub fn show<N: Site, I: Interner<N>>(
     alloc: Global,
     arena: &Arena<N>,
@@ -35,28 +37,28 @@ pub fn show<N: Site, I: Interner<N>>(
     requires longer { IsPrefix words.now (I.list pass.old) }
     requires asked { AreOf words.now global row.now }
     requires pool { IsPool words.now global pool.old }
-    ensures answer { IfOk result (λ o. IsAnswer words.now global row.now o) }
+    ensures answer { IfOk result (λ o. IsOwnAnswer words.now global row.now o) }
     ensures pool { OnOk result (IsPool words.now global pool.new) }
     ensures writes { Writes I.list I.made I.kept I.lent N.log.cap pass.old pass.new 1 (is_full result) }
     ensures many { IsErrOf result fault.TooManyTerms → IsPastTerms (I.list pass.new) (BelowEither words.now global row.now.cond) }
 {
     let _ = pass.words();
-    if is_never(words, global, pool.never.as_slice(), row) {
+    if is_never(words, global, &pool.never, row) {
         return Ok(None);
     }
-    let known = look(alloc, words, global, pool.worlds.as_slice(), row)?;
-    if let Some(world) = known {
-        return Ok(Some(world));
+    let known = look(alloc, words, global, pool, row)?;
+    if let Some(part) = known {
+        return Ok(Some(part));
     }
     let found = ask(alloc, arena, pass, words, global, row)?;
     match found {
         None => {
-            pool.never.push(row.cond)?;
+            pool.never.insert(row.cond)?;
             Ok(None)
         }
         Some(world) => {
-            let copy = learn(alloc, words, global, &mut pool.worlds, row, world)?;
-            Ok(Some(copy))
+            let part = learn(alloc, words, global, pool, row, world)?;
+            Ok(Some(part))
         }
     }
 }
@@ -72,8 +74,9 @@ pub fn list_row(
 ) -> Result<(), Memory>
     requires formed { IsWellFormed words.now }
     requires asked { AreOf words.now global row.now }
-    requires answer { IsAnswer words.now global row.now found }
-    ensures { OnOk result (Adds words.now global row.now list.old.items list.new.items) }
+    requires answer { IsOwnAnswer words.now global row.now found }
+    ensures adds { OnOk result (Adds words.now global row.now list.old.items list.new.items) }
+    ensures own { OnOk result ((rows : List CRow) → Contains rows row.now → All (IsOwn words.now global rows) list.old.items → All (IsOwn words.now global rows) list.new.items) }
 {
     let _ = global;
     match found {

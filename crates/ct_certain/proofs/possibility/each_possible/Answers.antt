@@ -1,9 +1,12 @@
 use Rattle.std.proofs.Common.{◌≡◌, ◌≤◌, ◌*◌, Err, [], length, ap, sym, subst, arith, ◌∙◌}
+use Rattle.std.specs.Prelude.{All}
 use mathlib.Core.List.{IsPrefix}
 use Rattle.std.proofs.lemmas.List.{take_all}
+use Rattle.std.proofs.lemmas.List.Elements.{All-nil}
 use Rattle.std.proofs.lemmas.Result.{err_from_is_err_and}
 use Rattle.ct_condition.proofs.Writes.{writes_none, writes_within, writes_as, writes_more, writes_last}
 use Rattle.ct_table.proofs.Adding.{passed}
+use Rattle.ct_certain.specs.Own.{IsOwn}
 use Rattle.ct_certain.specs.Possible.{ListsPossible, ended}
 use Rattle.ct_certain.proofs.Listing.{lists_turn, row_of, past_row}
 use Rattle.ct_certain.proofs.possibility.each_possible.Goals as goal
@@ -12,6 +15,7 @@ pub loop-row-init : goal.loop-row-init
 loop-row-init g c = record {
   writes = writes_none _ c.words.ensures.formed c.words.ensures.room;
   lists = subst (ListsPossible c.args.words.now c.args.global []) (sym c.new-list.ensures.items) ended;
+  own = subst (All (IsOwn c.args.words.now c.args.global c.args.rows.now)) (sym c.new-list.ensures.items) (All-nil _);
   pool = c.in_ok-pool.ensures;
 }
 
@@ -27,7 +31,8 @@ list_row-requires-clause-asked g c = row_of c.args.words.now c.args.global c.arg
 pub loop-row-preserved : goal.loop-row-preserved
 loop-row-preserved g c = record {
   writes = writes_more _ c.loop-row.row-index c.loop-row.invariant.writes c.in_ok-found.ensures.writes;
-  lists = lists_turn c.args.words.now c.args.global c.args.rows.now c.loop-row.row-index c.row-item.result c.loop-row.list.items c.list_row.new.list.items c.loop-row-test.true c.row-item.is c.loop-row.invariant.lists c.in_ok-list_row.ensures;
+  lists = lists_turn c.args.words.now c.args.global c.args.rows.now c.loop-row.row-index c.row-item.result c.loop-row.list.items c.list_row.new.list.items c.loop-row-test.true c.row-item.is c.loop-row.invariant.lists c.in_ok-list_row.ensures.adds;
+  own = c.in_ok-list_row.ensures.own c.args.rows.now (c.loop-row.row-index, c.loop-row-test.true, sym c.row-item.is) c.loop-row.invariant.own;
   pool = c.in_ok-found.ensures.pool;
 }
 

@@ -1,6 +1,8 @@
 use Rattle.std.proofs.Common.{false, take, ◌*◌}
+use Rattle.std.specs.Prelude.{All}
 use Rattle.ct_condition.specs.Writes.{Writes}
 use Rattle.ct_certain.specs.Answered.{IsPool}
+use Rattle.ct_certain.specs.Own.{IsOwn}
 use Rattle.ct_certain.specs.Possible.{ListsPossible}
 use Rattle.ct_certain.proofs.possibility.each_possible.Given as goal
 
@@ -8,5 +10,6 @@ abbrev pub invariant-loop-row : goal.invariant-loop-row
 invariant-loop-row g l = record {
   writes : Writes g.I.Interner.list g.I.Interner.made g.I.Interner.kept g.I.Interner.lent g.N.Site.log.cap l.fn.pass l.pass (l.row-index * 1) false;
   lists : ListsPossible l.words l.global (take l.row-index l.rows) l.list.items;
+  own : All (IsOwn l.words l.global l.rows) l.list.items;
   pool : IsPool l.words l.global l.pool;
 }

@@ -1,0 +1,11 @@
+use Rattle.std.proofs.Common.{sym, ◌∙◌}
+use Rattle.std.proofs.lemmas.Bool.{eqb-true}
+use Rattle.std.specs.Prelude.{nat_eq}
+use Rattle.std.proofs.lemmas.List.Elements.{All-contains}
+use Rattle.indexmap.proofs.CallerLemmas.{Contains-list_any}
+use Rattle.ct_certain.specs.Answered.{IsNever}
+use Rattle.ct_certain.proofs.pool.is_never.Goals as goal
+
+pub returns : goal.returns
+returns c = λ e. All-contains (IsNever c.args.words.now c.args.global) c.args.never.now.keys c.args.row.now.cond c.requires
+    (Contains-list_any nat_eq eqb-true c.args.never.now.keys c.args.row.now.cond (sym c.contains.ensures ∙ e))

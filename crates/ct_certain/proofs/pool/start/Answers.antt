@@ -1,0 +1,13 @@
+use Rattle.std.proofs.Common.{sym, subst}
+use Rattle.std.specs.Prelude.{All}
+use Rattle.std.proofs.lemmas.List.Elements.{All-nil}
+use Rattle.ct_certain.specs.Answered.{IsNever}
+use Rattle.ct_certain.proofs.Short.{one_root}
+use Rattle.ct_certain.proofs.pool.start.Goals as goal
+
+pub returns : goal.returns
+returns c = record {
+  worlds = c.in_ok-worlds.ensures;
+  never = subst (All (IsNever c.args.words.now c.args.global)) (sym c.new.ensures.empty) (All-nil _);
+  nulls = one_root c.args.words.now c.args.global c.in_ok-nulls.nulls.keys c.in_ok-nulls.ensures;
+}
