@@ -1,4 +1,4 @@
-//! Tests of possible rows: what the program has no statement for yet.
+//! Tests of possible rows and certain tuples: what the program has no statement for yet.
 #![tactic(auto)]
 
 #[cfg(test)]
