@@ -1,0 +1,10 @@
+use Rattle.std.proofs.Common.{◌≡◌, []}
+use Rattle.std.specs.Prelude.{None}
+use Rattle.ct_sharing_tests.proofs.committing.commit_often.Given as goal
+
+abbrev pub invariant-loop : goal.invariant-loop
+invariant-loop g l = record {
+  free : l.keeper.guest ≡ None;
+  enrolled : l.keeper.enrolled ≡ 4;
+  ended : l.keeper.ended ≡ [];
+}

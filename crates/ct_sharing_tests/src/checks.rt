@@ -1,0 +1,30 @@
+// What tests look for in a whole log.
+
+use std::alloc::{AllocError, Global};
+use std::process::Abort;
+use std::test::Fail;
+
+/// Whether a word stands at a place.
+pub fn stands(words: &[u64], place: u32, w: u64) -> bool {
+    words.get(place as usize) == Some(&w)
+}
+
+fn sorted(alloc: Global, words: &[u64]) -> Result<Vec<u64>, AllocError> {
+    let mut all = Vec::new(alloc);
+    for w in words {
+        all.push(*w)?;
+    }
+    all.sort_unstable();
+    Ok(all)
+}
+
+/// The log begins with the words true and false, and has no word twice.
+pub fn no_word_twice(rt: &impl Abort, alloc: Global, words: &[u64]) -> Result<(), Fail> {
+    assert!(rt; stands(words, 0, 0x0a_0000000_0000000));
+    assert!(rt; stands(words, 1, 0x0b_0000000_0000000));
+    let all = sorted(alloc, words)?;
+    for k in 1..all.len() {
+        assert!(rt; all[k - 1] < all[k]);
+    }
+    Ok(())
+}

@@ -1,0 +1,144 @@
+// Many words of one log, for the measurements.
+
+ghost use Rattle.std.specs.Prelude.{◌≡◌, ◌<◌, None};
+
+use crate::puts::{commit, put};
+use crate::threads::{Job, Words, by_threads, made};
+use ct_arena::{Arena, Blank, KeeperPass, Pass, Site};
+use ct_word::Kind;
+use std::alloc::Global;
+use std::marker::Brand;
+use std::process::Abort;
+use std::test::Fail;
+
+/// Interns the parts of numbers from one on, so many, and answers for how many there was room.
+fn intern_from<N: Site>(arena: &Arena<N>, pass: &mut Pass<N>, from: u32, count: u32) -> u32
+    requires from { from < 2000000 }
+    requires count { count < 1000000 }
+{
+    for k in 0..count {
+        if put(arena, pass, Kind::NumberHigh, 0, from + k).is_err() {
+            return k;
+        }
+    }
+    count
+}
+
+/// Interns words that are new, and the same words again.
+fn intern_twice<N: Site>(
+    rt: &impl Abort,
+    alloc: Global,
+    blank: Blank,
+    count: u32,
+) -> Result<(), Fail>
+    requires blank { blank ≡ N.log }
+    requires count { count < 1000000 }
+{
+    let (arena, mut keeper) = Arena::<N>::make(blank);
+    let mut pass = keeper.enrol(alloc, &arena)?;
+    assert_eq!(rt; intern_from(&arena, &mut pass, 0, count), count);
+    assert_eq!(rt; pass.made(), count);
+    assert_eq!(rt; intern_from(&arena, &mut pass, 0, count), count);
+    assert_eq!(rt; pass.made(), count);
+    Ok(())
+}
+
+#[test]
+fn new_and_known_words(rt: HostRuntime) -> Result<(), Fail> {
+    for count in [10_000, 20_000, 100_000, 200_000] {
+        let blank = Blank::make(rt.alloc(), 262_144)?;
+        intern_twice::<Brand>(&rt, rt.alloc(), blank, count)?;
+    }
+    Ok(())
+}
+
+/// Commits after others have put words, for the measurement alone.
+fn commit_late<N: Site>(arena: &Arena<N>, keeper: &mut KeeperPass<N>, pass: Pass<N>) -> Pass<N>
+    requires { keeper.old.guest ≡ None }
+    ensures { keeper.new.guest ≡ None }
+{
+    commit(arena, keeper, pass).0
+}
+
+/// A session commits in a log with so many words, and again once another one has put more.
+fn commit_twice<N: Site>(
+    rt: &impl Abort,
+    alloc: Global,
+    blank: Blank,
+    before: u32,
+    more: u32,
+) -> Result<(), Fail>
+    requires blank { blank ≡ N.log }
+    requires before { before < 1000000 }
+    requires more { more < 1000000 }
+{
+    let (arena, mut keeper) = Arena::<N>::make(blank);
+    let a = keeper.enrol(alloc, &arena)?;
+    let mut b = keeper.enrol(alloc, &arena)?;
+    assert_eq!(rt; intern_from(&arena, &mut b, 0, before), before);
+    let (a, place) = commit(&arena, &mut keeper, a);
+    assert!(rt; place.is_ok());
+    assert_eq!(rt; intern_from(&arena, &mut b, before, more), more);
+    let a = commit_late(&arena, &mut keeper, a);
+    assert_eq!(rt; a.mine(), 2);
+    Ok(())
+}
+
+#[test]
+fn commits_after_others(rt: HostRuntime) -> Result<(), Fail> {
+    for before in [10_000, 100_000] {
+        for more in [0, 1_000, 2_000, 10_000, 20_000] {
+            let blank = Blank::make(rt.alloc(), 131_072)?;
+            commit_twice::<Brand>(&rt, rt.alloc(), blank, before, more)?;
+        }
+    }
+    Ok(())
+}
+
+#[test]
+fn one_thread(rt: HostRuntime) -> Result<(), Fail> {
+    let blank = Blank::make(rt.alloc(), 400_002)?;
+    let job = Job {
+        count: 400_000,
+        words: Words::Own,
+    };
+    let (did, _) = by_threads::<Brand>(&rt, rt.alloc(), blank, 1, &job)?;
+    assert_eq!(rt; made(&did), 400_000);
+    Ok(())
+}
+
+#[test]
+fn two_threads(rt: HostRuntime) -> Result<(), Fail> {
+    let blank = Blank::make(rt.alloc(), 400_002)?;
+    let job = Job {
+        count: 200_000,
+        words: Words::Own,
+    };
+    let (did, _) = by_threads::<Brand>(&rt, rt.alloc(), blank, 2, &job)?;
+    assert_eq!(rt; made(&did), 400_000);
+    Ok(())
+}
+
+#[test]
+fn four_threads(rt: HostRuntime) -> Result<(), Fail> {
+    let blank = Blank::make(rt.alloc(), 400_002)?;
+    let job = Job {
+        count: 100_000,
+        words: Words::Own,
+    };
+    let (did, _) = by_threads::<Brand>(&rt, rt.alloc(), blank, 4, &job)?;
+    assert_eq!(rt; made(&did), 400_000);
+    Ok(())
+}
+
+#[test]
+fn four_threads_same(rt: HostRuntime) -> Result<(), Fail> {
+    let blank = Blank::make(rt.alloc(), 400_002)?;
+    let job = Job {
+        count: 400_000,
+        words: Words::Same,
+    };
+    let (did, _) = by_threads::<Brand>(&rt, rt.alloc(), blank, 4, &job)?;
+    assert_eq!(rt; made(&did), 400_000);
+    Ok(())
+}
