@@ -12,6 +12,7 @@ use std::process::Abort;
 use std::test::Fail;
 
 /// Interns the parts of numbers from one on, so many, and answers for how many there was room.
+#[inline(never)]
 fn intern_from<N: Site>(arena: &Arena<N>, pass: &mut Pass<N>, from: u32, count: u32) -> u32
     requires from { from < 2000000 }
     requires count { count < 1000000 }
@@ -52,7 +53,8 @@ fn new_and_known_words(rt: HostRuntime) -> Result<(), Fail> {
     Ok(())
 }
 
-/// Commits after others have put words, for the measurement alone.
+/// Commits once others have put words. It stands alone so that its instructions can be counted.
+#[inline(never)]
 fn commit_late<N: Site>(arena: &Arena<N>, keeper: &mut KeeperPass<N>, pass: Pass<N>) -> Pass<N>
     requires { keeper.old.guest ≡ None }
     ensures { keeper.new.guest ≡ None }
