@@ -21,7 +21,12 @@ use crate::keeper::Keeper;
 use ct_arena::{Arena, Blank, Log, Pass, Site};
 use ct_word::Memory;
 use std::alloc::Global;
-use std::sync::{Mutex, Wait};
+use std::hint::spin_loop;
+use std::sync::{Mutex, MutexGuard, Wait};
+
+/// How often a session looks for the lock before it sleeps. The lock is held for some microseconds, and to be woken takes
+/// many times as long.
+const LOOKS: u32 = 1_000;
 
 /// The log that N names, and its keeper behind a lock. Whoever takes the lock finds a keeper whose type holds, and nothing
 /// else is known there.
@@ -63,6 +68,17 @@ impl<N: Site> Server<N> {
         &self.arena
     }
 
+    /// The keeper, once the lock is free.
+    fn locked<R: Wait>(&self, rt: &R) -> MutexGuard<'_, Keeper<N>> {
+        for _ in 0..LOOKS {
+            if let Some(keeper) = self.keeper.try_lock() {
+                return keeper;
+            }
+            spin_loop();
+        }
+        self.keeper.lock(rt)
+    }
+
     /// A snapshot of all commits, for the session of this pass, which then has the words of all of them. It waits for the
     /// lock. What others appended is read before the lock is asked for.
     ///
@@ -79,7 +95,7 @@ impl<N: Site> Server<N> {
         ensures pass { tally_of result.0 ≡ tally_of pass }
     {
         pass.catch_up(&self.arena);
-        self.keeper.lock(rt).begin(alloc, &self.arena, pass)
+        self.locked(rt).begin(alloc, &self.arena, pass)
     }
 
     /// Commits an offer of the session of this pass. It waits for the lock. What others appended is read before the lock is
@@ -107,7 +123,7 @@ impl<N: Site> Server<N> {
         ensures fewer { IsErrOf result.1 fault.Full → result.0.made < pass.made + offer_words result.0.words pass offer.now }
     {
         pass.catch_up(&self.arena);
-        self.keeper.lock(rt).commit(alloc, &self.arena, pass, offer)
+        self.locked(rt).commit(alloc, &self.arena, pass, offer)
     }
 
     /// The whole log, once each session gave its pass back. It takes no memory and waits for nobody.
