@@ -14,4 +14,4 @@ mod theorems;
 pub use driving::run;
 pub use ending::{Run, Status};
 pub use serving::serve;
-pub use theorems::{scripts_are_served, within_limits_is_answered};
+pub use theorems::{faultless_runs_are_served, scripts_are_served, within_limits_is_answered};

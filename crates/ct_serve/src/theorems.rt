@@ -16,8 +16,8 @@ pub fn within_limits_is_answered()
     ensures { (t : Transcript) (N : ℕ) → Lawful t N → IsComplete t N }
 {}
 
-/// Words that are understood, files that the source tells to be scripts, and no failure of source and sink give a
-/// transcript and its whole text, or want of memory.
+/// Where a source tells that all files are scripts, and neither source nor sink counted a fault, a run of these files ends
+/// in `Done` or `Refused`, which come with the whole text of its transcript, or in `Memory`.
 pub fn faultless_runs_are_served()
     ensures { (N : ℕ) (files : List (List ℕ)) (a : Asking) (k : Taking) (s : Status) (t : Transcript) (held : Held) → a.held ≡ Some held → All (HoldsScript a.held) files → (Rose a.faults a.faults' → ⊥) → (Rose k.faults k.faults' → ⊥) → RunPromise N files a k s t → IsServedEnd s }
 {}
