@@ -7,9 +7,9 @@ select * from t1 where b = 2;
 create table t2 (a, b);
 select * from t2;
 
-create table t3 (a, b);
-insert into t3 values (1, 2);
-SELECT * FROM T3 WHERE B = 2;
+create table folded (a, b);
+insert into folded values (1, 2);
+SELECT * FROM FOLDED WHERE B = 2;
 
 create table t4 (a, b);
 insert into t4 values (1, 2);
