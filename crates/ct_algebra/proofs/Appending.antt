@@ -8,9 +8,9 @@ use Rattle.ct_query.specs.Bounds.{literal_words, terms, ops}
 use Rattle.ct_query.specs.Fits.{width}
 use Rattle.ct_condition.specs.Places.{has_place, new_literal_words, new_terms}
 use Rattle.ct_condition.proofs.Placed.{over_less}
-use Rattle.ct_table.specs.declared.table.CTable.{CTable}
-use Rattle.ct_table.specs.declared.error.TableError.{TableError}
-use Rattle.ct_table.specs.declared.error.TableError.TheVariants as fault
+use Rattle.ct_operators.specs.declared.table.CTable.{CTable}
+use Rattle.ct_operators.specs.declared.error.TableError.{TableError}
+use Rattle.ct_operators.specs.declared.error.TableError.TheVariants as fault
 use Rattle.ct_table.specs.Denotes.{TableView, heading_of}
 use Rattle.ct_algebra.specs.Evaluates.{Evaluates}
 use Rattle.ct_algebra.specs.Words.{most_rows, most_words, GrowsWithin}

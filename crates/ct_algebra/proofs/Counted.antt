@@ -9,11 +9,11 @@ use Rattle.ct_word.specs.Sublist.{IsSublist, ended, left_out, taken}
 use Rattle.ct_query.specs.Plain.{PlainQuery, Table, Select, Project, Product, Union, Except, Intersect}
 use Rattle.ct_query.specs.Patterns.{Patterns, picked, query_pattern}
 use Rattle.ct_query.specs.Size.{rows_in, row_bound}
-use Rattle.ct_table.specs.declared.table.CTable.{CTable}
+use Rattle.ct_operators.specs.declared.table.CTable.{CTable}
 use Rattle.ct_query.specs.Rows.{joins}
 use Rattle.ct_table.specs.Counting.{count_of}
 use Rattle.ct_table.specs.Denotes.{TableView}
-use Rattle.ct_table.specs.Tables.{cells_of}
+use Rattle.ct_operators.specs.Tables.{cells_of}
 use Rattle.ct_algebra.specs.Operands.{cells_in}
 use Rattle.ct_algebra.specs.Evaluates.{Evaluates}
 use Rattle.ct_algebra.specs.Words.{most_rows}

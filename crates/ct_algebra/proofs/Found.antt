@@ -6,7 +6,7 @@ use Rattle.std.proofs.lemmas.List.Elements.{All-nil, All-cons, All-head, All-tai
 use Rattle.ct_word.specs.Value.{World, same_text}
 use Rattle.ct_query.specs.Database.{tuples_of}
 use Rattle.ct_query.specs.Fits.{columns_in}
-use Rattle.ct_table.specs.Tables.{cells_of, value_of_rows}
+use Rattle.ct_operators.specs.Tables.{cells_of, value_of_rows}
 use Rattle.ct_table.specs.Denotes.{TableView, heading_of, find_table, value_of_tables, with_table}
 use Rattle.ct_algebra.specs.Operands.{cells_in}
 

@@ -11,12 +11,12 @@ use Rattle.ct_query.specs.Plain.{PlainQuery}
 use Rattle.ct_query.specs.Database.{SameSet}
 use Rattle.ct_query.specs.Rows.{rows}
 use Rattle.ct_query.specs.Patterns.{query_pattern}
-use Rattle.ct_table.specs.declared.table.CTable.{CTable}
-use Rattle.ct_table.specs.Tables.{cells_of, value_of_rows, AreRows}
+use Rattle.ct_operators.specs.declared.table.CTable.{CTable}
+use Rattle.ct_operators.specs.Tables.{cells_of, value_of_rows, AreRows}
 use Rattle.ct_table.specs.Denotes.{TableView, value_of_tables}
 use Rattle.ct_table.proofs.Denoting.{found_all}
-use Rattle.ct_table.proofs.Growing.{cells_grow, value_grows, rows_grow}
-use Rattle.ct_table.proofs.Reaching.{rows_wider, rows_later, rows_before}
+use Rattle.ct_operators.proofs.Growing.{cells_grow, value_grows, rows_grow}
+use Rattle.ct_operators.proofs.Reaching.{rows_wider, rows_later, rows_before}
 use Rattle.ct_algebra.specs.Operands.{AreTables, cells_in}
 use Rattle.ct_algebra.specs.Evaluates.{Evaluates}
 use Rattle.ct_algebra.specs.Terms.{TermOfQuery}

@@ -8,7 +8,7 @@ use Rattle.ct_query.specs.Bounds.{terms, ops, product_counts, partial_products, 
 use Rattle.ct_query.specs.Fits.{width}
 use Rattle.ct_query.specs.Size.{rows_in, greatest}
 use Rattle.ct_query.proofs.Products.{product_from, product_last, partial_last}
-use Rattle.ct_table.specs.declared.error.TableError.{TableError}
+use Rattle.ct_operators.specs.declared.error.TableError.{TableError}
 use Rattle.ct_table.specs.Counting.{count_of}
 use Rattle.ct_table.specs.Denotes.{TableView, heading_of}
 use Rattle.ct_algebra.specs.Words.{most_rows, most_words, GrowsWithin}

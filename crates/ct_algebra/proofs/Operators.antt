@@ -16,11 +16,11 @@ use Rattle.ct_query.specs.Rows.{rows}
 use Rattle.ct_query.specs.Patterns.{picked, query_pattern}
 use Rattle.ct_query.specs.Fits.{width, count_of}
 use Rattle.ct_condition.specs.Terms.{IsNamed}
-use Rattle.ct_table.specs.declared.table.CTable.{CTable}
-use Rattle.ct_table.specs.declared.error.TableError.{TableError}
-use Rattle.ct_table.specs.Tables.{cells_of, value_of_rows, AreRows}
+use Rattle.ct_operators.specs.declared.table.CTable.{CTable}
+use Rattle.ct_operators.specs.declared.error.TableError.{TableError}
+use Rattle.ct_operators.specs.Tables.{cells_of, value_of_rows, AreRows}
 use Rattle.ct_query.specs.Rows.{joins}
-use Rattle.ct_table.specs.Terms.{TermOfRows, RowsFrom, IsNoColumn}
+use Rattle.ct_operators.specs.Terms.{TermOfRows, RowsFrom, IsNoColumn}
 use Rattle.ct_table.specs.Shared.{view_of}
 use Rattle.ct_table.specs.Denotes.{TableView, heading_of, find_table, value_of_tables}
 use Rattle.ct_query.proofs.Sublists.{all_of, sublist-append, sublist_of_sublist}
@@ -34,7 +34,7 @@ use Rattle.ct_algebra.proofs.Found.{stands_for}
 use Rattle.ct_query.proofs.SameRows.{same_set_filter, same_set_without, same_set_within, same_set_map, same_set_joins}
 use Rattle.ct_query.proofs.Sublists.{sublist_joins}
 use Rattle.ct_query.proofs.Sublists.{sublist-map}
-use Rattle.ct_table.proofs.Reaching.{foremost, row_itself, rows_wider, from_rows}
+use Rattle.ct_operators.proofs.Reaching.{foremost, row_itself, rows_wider, from_rows}
 
 -- the terms of a query are those of one that reads what it reads, and names what it names
 widened : (ws : List ℕ) (db : List TableView) (q whole : PlainQuery) (t : Term) → ((n : List ℕ) → Contains (tables_of q) n → Contains (tables_of whole) n)

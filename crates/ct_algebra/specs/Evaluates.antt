@@ -7,10 +7,10 @@ use Rattle.ct_query.specs.Database.{SameSet}
 use Rattle.ct_query.specs.Rows.{rows}
 use Rattle.ct_query.specs.Patterns.{query_pattern}
 use Rattle.ct_query.specs.Fits.{width}
-use Rattle.ct_table.specs.declared.table.CTable.{CTable}
-use Rattle.ct_table.specs.Tables.{cells_of, value_of_rows, AreRows}
+use Rattle.ct_operators.specs.declared.table.CTable.{CTable}
+use Rattle.ct_operators.specs.Tables.{cells_of, value_of_rows, AreRows}
 use Rattle.ct_table.specs.Denotes.{TableView, heading_of, value_of_tables}
-use Rattle.ct_table.specs.Terms.{RowsFrom}
+use Rattle.ct_operators.specs.Terms.{RowsFrom}
 use Rattle.ct_algebra.specs.Operands.{cells_in}
 use Rattle.ct_algebra.specs.Names.{names}
 use Rattle.ct_algebra.specs.Terms.{TermOfQuery}

@@ -2,7 +2,7 @@
 use Rattle.std.specs.Prelude.{ℕ, List, [], ◌∷◌, length, All, if◌then◌else◌}
 use Rattle.ct_word.specs.Value.{same_text}
 use Rattle.ct_query.specs.Patterns.{Patterns}
-use Rattle.ct_table.specs.Tables.{cells_of, AreRows}
+use Rattle.ct_operators.specs.Tables.{cells_of, AreRows}
 use Rattle.ct_table.specs.Denotes.{TableView}
 
 -- the rows of each table are well formed

@@ -1,6 +1,6 @@
 -- What the evaluation of a query refuses where an operator refuses.
-use Rattle.ct_table.specs.declared.error.TableError.{TableError}
-use Rattle.ct_table.specs.declared.error.TableError.TheVariants as fault
+use Rattle.ct_operators.specs.declared.error.TableError.{TableError}
+use Rattle.ct_operators.specs.declared.error.TableError.TheVariants as fault
 use Rattle.ct_algebra.specs.declared.error.EvalError.{EvalError}
 use Rattle.ct_algebra.specs.declared.error.EvalError.TheVariants as refusal
 

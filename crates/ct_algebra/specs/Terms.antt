@@ -6,7 +6,7 @@ use Rattle.ct_query.specs.Plain.{PlainQuery, Table, Select, Project, Product, Un
 use Rattle.ct_query.specs.Reads.{tables_of}
 use Rattle.ct_condition.specs.Terms.{IsNamed}
 use Rattle.ct_table.specs.Denotes.{TableView, find_table}
-use Rattle.ct_table.specs.Terms.{TermOfRows, IsNoColumn}
+use Rattle.ct_operators.specs.Terms.{TermOfRows, IsNoColumn}
 
 -- a term stands below the rows of a table that a query reads
 pub record TermOfTables (words : List ℕ) (db : List TableView) (q : PlainQuery) (t : Term) : Type 0 where

@@ -6,8 +6,8 @@ use Rattle.ct_query.specs.Fits.{width}
 use Rattle.ct_query.specs.Size.{rows_in, row_bound}
 use Rattle.ct_table.specs.Counting.{count_of}
 use Rattle.ct_table.specs.Denotes.{TableView, heading_of}
-use Rattle.ct_table.specs.declared.error.TableError.{TableError}
-use Rattle.ct_table.specs.declared.error.TableError.TheVariants as fault
+use Rattle.ct_operators.specs.declared.error.TableError.{TableError}
+use Rattle.ct_operators.specs.declared.error.TableError.TheVariants as fault
 
 -- a bound on the rows of a query over tables
 abbrev pub most_rows : List TableView → PlainQuery → ℕ

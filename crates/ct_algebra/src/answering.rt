@@ -5,7 +5,7 @@ ghost use mathlib.Core.List.{IsPrefix};
 ghost use Rattle.ct_query.specs.Fits.{Fits};
 ghost use Rattle.ct_query.specs.Views.{query_of};
 ghost use Rattle.ct_table.specs.Denotes.{heading_of};
-ghost use Rattle.ct_table.specs.declared.error.TableError.TheVariants as fault;
+ghost use Rattle.ct_operators.specs.declared.error.TableError.TheVariants as fault;
 ghost use Rattle.ct_algebra.specs.Operands.{AreTables};
 ghost use Rattle.ct_algebra.specs.Evaluates.{Evaluates};
 ghost use Rattle.ct_algebra.specs.Words.{most_words, GrowsWithin};

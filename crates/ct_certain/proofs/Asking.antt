@@ -20,7 +20,7 @@ use Rattle.ct_condition.proofs.Reached.{either_before}
 use Rattle.ct_decide.specs.declared.deciding.Decision.TheVariants as decision
 use Rattle.ct_decide.specs.Decided.{DecisionOf}
 use Rattle.ct_certain.specs.Answered.{AreOf, IsAnswer, IsSettled}
-use Rattle.ct_certain.specs.Asked.{IsPastTerms}
+use Rattle.ct_certain.specs.Asked.{IsPastTermsOfRow}
 use Rattle.ct_certain.specs.Order.{with_nulls}
 use Rattle.ct_certain.specs.Possible.{is_shown}
 use Rattle.ct_certain.proofs.Agreed.{truth_agreed}
@@ -46,8 +46,8 @@ module _ (words old new : List ℕ) (grown : IsPrefix words old) (formed : IsWel
     | inr b ↦ are.plain k b
   ]
 
-  pub root_past : TermsFrom new root (BelowEither old global r.cond) → HasTermsPast 64 new root → IsPastTerms new (BelowEither words global r.cond)
-  root_past from many = record { root = root; many = many; from = root_terms from }
+  pub root_past : HasTruth new root (and_at old global r.cond) → TermsFrom new root (BelowEither old global r.cond) → HasTermsPast 64 new root → IsPastTermsOfRow words new global r
+  root_past truth from many = record { root = root; question = record { class = truth.class; holds = root_shows truth; terms = root_terms from }; many = many }
 
   pub shown_answer : HasTruth new root (and_at old global r.cond) → (v : World) → IsSettled new root (decision.World v) → IsAnswer words global r (Some v)
   shown_answer truth v is = (is.0, sym (root_shows truth v) ∙ is.1)

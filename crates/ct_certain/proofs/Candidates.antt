@@ -27,10 +27,10 @@ use Rattle.ct_word.proofs.Prefixes.{prefix_of_prefix, prefix_same}
 use Rattle.ct_arena.specs.Counts.{opening}
 use Rattle.ct_condition.proofs.Placed.{place_from}
 use Rattle.ct_equality.specs.Valued.{IsNumbered}
-use Rattle.ct_table.specs.Tables.{AreRows, IsRow, firsts, value_of_rows}
-use Rattle.ct_table.proofs.Firsts.{any_first, firsts_known, firsts_long, firsts_new, firsts_part}
-use Rattle.ct_table.proofs.Holding.{holds_false}
-use Rattle.ct_table.proofs.Selecting.{value-push}
+use Rattle.ct_operators.specs.Tables.{AreRows, IsRow, firsts, value_of_rows}
+use Rattle.ct_operators.proofs.Firsts.{any_first, firsts_known, firsts_long, firsts_new, firsts_part}
+use Rattle.ct_operators.proofs.Holding.{holds_false}
+use Rattle.ct_operators.proofs.Selecting.{value-push}
 use Rattle.ct_query.specs.Database.{has_tuple}
 use Rattle.std.specs.Cmp.Lexicographic.{pointwise}
 use Rattle.ct_word.specs.contracts.values.ValuePartialEq.TheImpl as value_eq

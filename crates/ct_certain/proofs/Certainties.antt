@@ -21,13 +21,14 @@ use Rattle.ct_derivation.specs.Accepts.{Accepts, accepts}
 use Rattle.ct_derivation.proofs.Longer.{accepted_longer}
 use Rattle.ct_derivation.proofs.Sound.{root_refuted}
 use Rattle.ct_rewrite.specs.declared.answer.CertainRow.{CertainRow}
-use Rattle.ct_table.specs.Tables.{firsts, value_of_rows}
-use Rattle.ct_table.proofs.Selecting.{distinct_part}
-use Rattle.ct_certain.specs.Certain.{tuples_in, IsInAll, RefutesMissing, ListsCertain}
+use Rattle.ct_operators.specs.Tables.{firsts, value_of_rows}
+use Rattle.ct_operators.proofs.Selecting.{distinct_part}
+use Rattle.ct_certain.specs.Certain.{tuples_in, IsCutProof, IsInAll, RefutesMissing, ListsCertain}
 use Rattle.ct_decide.specs.declared.deciding.Decision.TheVariants as decision
 use Rattle.ct_certain.specs.Answered.{IsSettled}
-use Rattle.ct_certain.specs.Missing.{AreListed, IsRootOf, Takes, nothing, one}
+use Rattle.ct_certain.specs.Missing.{AreListed, IsRefuted, IsRootOf, Takes, nothing, one}
 use Rattle.ct_certain.proofs.Candidates.{has_first}
+use Rattle.ct_certain.proofs.Cuts.{cut_longer}
 
 sub_left : {A : Type 0} {xs ys : List A} (y : A) → IsSublist xs ys → IsSublist xs (ys ++ y ∷ [])
 sub_left y ended = left_out ended
@@ -85,12 +86,18 @@ module _ (words : List ℕ) (global : ℕ) (rs : List CRow) where
     root = λ v. ap (holds_at v) (condition_in_prefix old new r.proof.root longer (place_within old class.Cond r.proof.root (root_there old r.proof.root r.proof.derivation is.accepted))) ∙ is.root v;
   }
 
+  refuted_later : (old new : List ℕ) → IsPrefix old new → (r : CertainRow) → IsRefuted words old global rs r → IsRefuted words new global rs r
+  refuted_later old new longer r is = record {
+    refutes = refutes_later old new longer r is.refutes;
+    cut = cut_longer old new longer r.proof.root r.proof.derivation is.cut;
+  }
+
   pub listed_none : (now : List ℕ) → AreListed words now global rs [] []
   listed_none now = record { refuted = All-nil _; ordered = ended; complete = λ t h all. h }
 
   pub listed_later : (old new : List ℕ) (done : List (List Value)) (list : List CertainRow) → IsPrefix old new → AreListed words old global rs done list → AreListed words new global rs done list
   listed_later old new done list longer are = record {
-    refuted = All-weaker (RefutesMissing words old global rs) (RefutesMissing words new global rs) (refutes_later old new longer) list are.refuted;
+    refuted = All-weaker (IsRefuted words old global rs) (IsRefuted words new global rs) (refuted_later old new longer) list are.refuted;
     ordered = are.ordered;
     complete = are.complete;
   }
@@ -110,9 +117,9 @@ module _ (words : List ℕ) (global : ℕ) (rs : List CRow) where
   is_in_all now formed r is v holds = has_by (holds_at v (condition_at words global)) (has_tuple (value_of_rows words v rs) r.tuple) holds (sym (is.root v) ∙ root_refuted now r.proof.root r.proof.derivation formed is.accepted v)
 
   -- a candidate with its proof
-  pub listed_more : (now : List ℕ) (done : List (List Value)) (list : List CertainRow) (r : CertainRow) → RefutesMissing words now global rs r → AreListed words now global rs done list → AreListed words now global rs (done ++ r.tuple ∷ []) (list ++ r ∷ [])
+  pub listed_more : (now : List ℕ) (done : List (List Value)) (list : List CertainRow) (r : CertainRow) → IsRefuted words now global rs r → AreListed words now global rs done list → AreListed words now global rs (done ++ r.tuple ∷ []) (list ++ r ∷ [])
   listed_more now done list r is are = record {
-    refuted = All-push (RefutesMissing words now global rs) list r are.refuted is;
+    refuted = All-push (IsRefuted words now global rs) list r are.refuted is;
     ordered = subst (λ ts. IsSublist ts (done ++ r.tuple ∷ [])) (sym (tuples_push list r)) (sub_more r.tuple are.ordered);
     complete = λ t h all.
         ap (λ ts. has_tuple ts t) (tuples_push list r) ∙ has_push (tuples_in list) r.tuple t
@@ -141,7 +148,7 @@ module _ (words : List ℕ) (global : ℕ) (rs : List CRow) where
 
   pub takes_one : (now : List ℕ) (t : List Value) (list out : List CertainRow) (root : ℕ) (d : _) → IsRootOf words now global rs t root → IsSettled now root (decision.Refuted d)
       → out ≡ list ++ (record { tuple = t; proof = record { root = root; derivation = d } }) ∷ [] → Takes words now global rs t list out
-  takes_one now t list out root d is settled e = subst (Takes words now global rs t list) (sym e) (one _ refl (record { accepted = settled; root = is.holds }))
+  takes_one now t list out root d is settled e = subst (Takes words now global rs t list) (sym e) (one _ refl (record { refutes = record { accepted = settled.0; root = is.holds }; cut = settled.1 }))
 
   each_in_all : (now : List ℕ) → IsWellFormed now → (list : List CertainRow) → All (RefutesMissing words now global rs) list → (t : List Value) → IsTrue (has_tuple (tuples_in list) t) → IsInAll words global rs t
   each_in_all now formed [] all t h = absurd (false≢true h)
@@ -155,7 +162,13 @@ module _ (words : List ℕ) (global : ℕ) (rs : List CRow) where
       → AreListed words now global rs (firsts same_tuple (value_of_rows words kept rs)) list → ListsCertain words now global rs kept list
   listed_all now formed kept holds list once are = record {
     distinct = distinct_part same_tuple (tuples_in list) (firsts same_tuple (value_of_rows words kept rs)) are.ordered once;
-    exact = λ t. (each_in_all now formed list are.refuted t, λ all. are.complete t (has_first (value_of_rows words kept rs) t ∙ all kept holds) all);
-    refuted = are.refuted;
+    exact = λ t. (each_in_all now formed list refuting t, λ all. are.complete t (has_first (value_of_rows words kept rs) t ∙ all kept holds) all);
+    refuted = refuting;
     ordered = are.ordered;
-  }
+  } where
+    refuting : All (RefutesMissing words now global rs) list
+    refuting = All-weaker (IsRefuted words now global rs) (RefutesMissing words now global rs) (λ r is. is.refutes) list are.refuted
+
+  -- each with a proof that is cut
+  pub all_cut : (now : List ℕ) (list : List CertainRow) → All (IsRefuted words now global rs) list → All (λ r. IsCutProof now r.proof) list
+  all_cut now list refuted = All-weaker (IsRefuted words now global rs) (λ r. IsCutProof now r.proof) (λ r is. is.cut) list refuted

@@ -2,11 +2,13 @@ pub mod Slots
 pub mod Ordered
 pub mod Agreed
 pub mod Asking
+pub mod Cuts
 pub mod Own
 pub mod Short
 pub mod Listing
 pub mod Missing
 pub mod Values
+pub mod Valued
 pub mod Roots
 pub mod Certainties
 pub mod Candidates

@@ -10,8 +10,8 @@ use Rattle.ct_word.specs.Reading.{as_term, condition_at, term_at, plain_crow}
 use Rattle.ct_word.specs.Sublist.{IsSublist, ended, left_out, taken}
 use Rattle.ct_word.proofs.Alike.{tuple_decides}
 use Rattle.ct_query.specs.Database.{has_tuple, SameSet}
-use Rattle.ct_table.specs.Tables.{value_of_rows, cells_of}
-use Rattle.ct_table.specs.Building.{HoldsWhere}
+use Rattle.ct_operators.specs.Tables.{value_of_rows, cells_of}
+use Rattle.ct_operators.specs.Building.{HoldsWhere}
 use Rattle.ct_certain.specs.Missing.{AreOfTuple, condition_of}
 
 terms_of : (words : List ℕ) (xs : List Value) (ps : List ℕ) → AreOfTuple words xs ps → map (term_at words) ps ≡ map (λ x. term.Value x) xs

@@ -29,9 +29,9 @@ use Rattle.ct_word.proofs.Places.{stands_term, stands_condition}
 use Rattle.ct_word.proofs.Prefixes.{prefix_of_prefix, prefix_same}
 use Rattle.ct_word.proofs.Splits.{place_within, some-injective}
 use Rattle.ct_condition.specs.Terms.{BelowSome}
-use Rattle.ct_table.specs.Placing as placing
-use Rattle.ct_table.proofs.Placed.{parts_are}
-use Rattle.ct_table.proofs.Reaching.{term_alone}
+use Rattle.ct_operators.specs.Placing as placing
+use Rattle.ct_operators.proofs.Placed.{parts_are}
+use Rattle.ct_operators.proofs.Reaching.{term_alone}
 use Rattle.ct_certain.specs.Own.{IsPart, names_left, names_right, parts_in, parts_of, ArePut, IsReached, AreGathered, has_null, with_term, AreNullsOf, IsTermAtSome}
 
 contains_longer : {X : Type 0} (xs ys : List X) (x : X) → IsPrefix xs ys → Contains xs x → Contains ys x

@@ -4,7 +4,7 @@ use Rattle.std.specs.Prelude.{◌⊎◌, All, Contains, IsTrue, filter}
 use Rattle.std.specs.Prelude.{IsErrOf}
 use Rattle.std.specs.Borrow.{GName}
 use Rattle.std.proofs.lemmas.Bool.{false≢true}
-use Rattle.std.proofs.lemmas.List.Elements.{All-head, All-nil, All-cons}
+use Rattle.std.proofs.lemmas.List.Elements.{All-contains, All-head, All-nil, All-cons}
 use Rattle.std.proofs.lemmas.Map.Keys.{IsDistinct-cons}
 use mathlib.Core.List.{IsPrefix}
 use Rattle.ct_word.specs.declared.kinds.Class.TheVariants as class
@@ -24,22 +24,21 @@ use Rattle.ct_condition.specs.Terms.{TermsFrom}
 use Rattle.ct_condition.specs.Writes.{charge, Writes}
 use Rattle.ct_condition.proofs.Denied.{below_literal}
 use Rattle.ct_condition.proofs.Reached.{terms_before}
-use Rattle.ct_table.specs.declared.error.TableError.{TableError}
-use Rattle.ct_table.specs.declared.error.TableError.TheVariants as table
-use Rattle.ct_table.specs.Refusals as refusals
-use Rattle.ct_table.specs.Tables.{IsRow, AreRows, value_of_rows, cells_of}
-use Rattle.ct_table.specs.Terms.{TermOfRows, RowsFrom, RowFrom}
-use Rattle.ct_table.proofs.Denoting.{none_distinct}
-use Rattle.ct_table.proofs.Growing.{value_grows, rows_grow}
-use Rattle.ct_table.proofs.Holding.{holds_false}
-use Rattle.ct_table.proofs.Reaching.{behind, from_rows, rows_before, rows_itself, rows_wider}
-use Rattle.ct_cnf.specs.Encoding.{HasTermsPast}
+use Rattle.ct_operators.specs.declared.error.TableError.{TableError}
+use Rattle.ct_operators.specs.declared.error.TableError.TheVariants as table
+use Rattle.ct_operators.specs.Refusals as refusals
+use Rattle.ct_operators.specs.Tables.{IsRow, AreRows, value_of_rows, cells_of}
+use Rattle.ct_operators.specs.Terms.{TermOfRows, RowsFrom, RowFrom}
+use Rattle.ct_operators.proofs.Firsts.{none_distinct}
+use Rattle.ct_operators.proofs.Growing.{value_grows, rows_grow}
+use Rattle.ct_operators.proofs.Holding.{holds_false}
+use Rattle.ct_operators.proofs.Reaching.{behind, from_rows, rows_before, rows_itself, rows_wider}
 use Rattle.ct_certain.specs.Asked.{IsOfTable, IsPastTermsOfTuple, IsValueIn}
 use Rattle.ct_decide.specs.declared.deciding.Decision.{Decision}
 use Rattle.ct_certain.specs.Faults as faults
 use Rattle.ct_certain.specs.declared.error.CertainError.{CertainError}
 use Rattle.ct_certain.specs.declared.error.CertainError.TheVariants as fault
-use Rattle.ct_certain.specs.Missing.{AreOfTuple, IsAskedOf, IsRootOf, condition_of}
+use Rattle.ct_certain.specs.Missing.{AreOfTuple, IsAskedOf, IsPastTermsOfSomeTuple, IsRootOf, condition_of}
 use Rattle.ct_certain.proofs.Missing.{left_truth, tuple_worth}
 
 -- what an operator does to the words
@@ -168,10 +167,14 @@ module _ (words mid new : List ℕ) (global width : ℕ) (rs : List CRow) (tuple
       (λ v. subst (λ l. SameSet (value_of_rows new v out) (filter (λ t. not (has_tuple (value_of_rows mid v rs) t)) (value_of_rows mid v l))) is (same v))
       (subst (λ l. RowsFrom new out (TermOfRows mid (l ++ rs))) is from)
 
--- what is asked for when a question has too many terms
-pub past_tuple : (words mid now : List ℕ) (global width : ℕ) (rs : List CRow) (tuple : List Value) (root : ℕ) → IsAskedOf words mid global width rs tuple → IsRootOf words now global rs tuple root → HasTermsPast 64 now root
+-- a question about one of some tuples, which have so many values, has terms of the table and of such a tuple alone
+pub past_width : (words now : List ℕ) (global width : ℕ) (rs : List CRow) (tuples : List (List Value)) → All (IsAskedOf words words global width rs) tuples → IsPastTermsOfSomeTuple words now global rs tuples
     → IsPastTermsOfTuple words now global width rs
-past_tuple words mid now global width rs tuple root asked is many = record { tuple = tuple; width_is = asked.width_is; past = record { root = root; many = many; from = is.terms } }
+past_width words now global width rs tuples asked p = record {
+  tuple = p.tuple;
+  width_is = (All-contains (IsAskedOf words words global width rs) tuples p.tuple asked p.among).width_is;
+  past = record { root = p.past.root; many = p.past.many; from = p.past.question.terms };
+}
 
 one_times : (r : ℕ) → 1 * r ≡ r
 one_times r = omega arith

@@ -23,8 +23,8 @@ use Rattle.ct_word.proofs.Items.{first_item, later_item}
 use Rattle.ct_query.specs.Terms.{condition_terms, all_terms}
 use Rattle.ct_condition.specs.Terms.{BelowSome}
 use Rattle.ct_condition.proofs.Reached.{under_one}
-use Rattle.ct_table.specs.Terms.{TermOfRow}
-use Rattle.ct_table.proofs.Naming.{condition_reached}
+use Rattle.ct_operators.specs.Terms.{TermOfRow}
+use Rattle.ct_operators.proofs.Naming.{condition_reached}
 use Rattle.ct_rewrite.specs.Tidy.{IsTidy, null_before, are_ascending, has_no_zero}
 use Rattle.ct_rewrite.specs.declared.answer.PossibleRow.{PossibleRow}
 use Rattle.ct_certain.specs.Answered.{AreOf}

@@ -8,6 +8,8 @@ use Rattle.ct_word.specs.Reading.{condition_at}
 use Rattle.ct_word.specs.Stands.{HasNoColumn, TermBelow}
 use Rattle.ct_word.specs.WellFormed.{is_place_of}
 use Rattle.ct_derivation.specs.Accepts.{Accepts}
+use Rattle.ct_derivation.specs.declared.steps.Derivation.{Derivation}
+use Rattle.ct_decide.specs.Cut.{IsCut}
 use Rattle.ct_decide.specs.declared.deciding.Decision.{Decision}
 use Rattle.ct_decide.specs.declared.deciding.Decision.TheVariants as decision
 use Rattle.ct_condition.specs.Worth.{AreWorths}
@@ -18,10 +20,14 @@ use Rattle.ct_certain.specs.Possible.{is_shown, shown_row}
 use Rattle.ct_certain.specs.declared.pool.Known.{Known}
 use Rattle.ct_certain.specs.declared.pool.Pool.{Pool}
 
--- a tidy world at which a condition holds, or a derivation that is accepted, so that it holds at none
+-- a derivation is accepted, so that a condition holds at no valuation, and is cut
+abbrev pub IsRefutation : List ℕ → ℕ → Derivation → Type 0
+IsRefutation words root d = Accepts words root d × IsCut words root d
+
+-- a tidy world at which a condition holds, or such a derivation
 abbrev pub IsSettled : List ℕ → ℕ → Decision → Type 0
 IsSettled words root (decision.World v) = IsTidy v × (holds_at v (condition_at words root) ≡ true)
-IsSettled words root (decision.Refuted d) = Accepts words root d
+IsSettled words root (decision.Refuted d) = IsRefutation words root d
 
 -- a global condition and a row are of these words, and no column stands below the conditions
 pub record AreOf (words : List ℕ) (global : ℕ) (r : CRow) : Type 0 where

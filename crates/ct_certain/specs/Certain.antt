@@ -10,10 +10,12 @@ use Rattle.ct_word.specs.Reading.{condition_at}
 use Rattle.ct_word.specs.Sublist.{IsSublist}
 use Rattle.ct_query.specs.Database.{has_tuple}
 use Rattle.ct_condition.specs.Places.{has_place}
+use Rattle.ct_decide.specs.Cut.{IsCut}
 use Rattle.ct_derivation.specs.Accepts.{AcceptsProof}
+use Rattle.ct_derivation.specs.declared.steps.Proof.{Proof}
 use Rattle.ct_equality.specs.Valued.{IsNumbered}
 use Rattle.ct_rewrite.specs.declared.answer.CertainRow.{CertainRow}
-use Rattle.ct_table.specs.Tables.{firsts, value_of_rows}
+use Rattle.ct_operators.specs.Tables.{firsts, value_of_rows}
 
 -- a world at which the global condition holds, and each of whose values is a constant of the words or `@k` with k below 2^28
 pub record IsKeptWorld (words : List ℕ) (global : ℕ) (v : World) : Type 0 where
@@ -32,6 +34,10 @@ is_missing words global rs tuple v = holds_at v (condition_at words global) && n
 pub record RefutesMissing (old now : List ℕ) (global : ℕ) (rs : List CRow) (r : CertainRow) : Type 0 where
   pub accepted : AcceptsProof now r.proof
   pub root : (v : World) → holds_at v (condition_at now r.proof.root) ≡ is_missing old global rs r.tuple v
+
+-- the atoms of a proof are of its root and of what stands below it, and each step but the last is a hint of a later one
+abbrev pub IsCutProof : List ℕ → Proof → Type 0
+IsCutProof words p = IsCut words p.root p.derivation
 
 -- the tuples of a list
 abbrev pub tuples_in : List CertainRow → List (List Value)

@@ -2,8 +2,8 @@
 use Rattle.std.specs.Prelude.{Bool, true, false, Result, Err}
 use Rattle.ct_decide.specs.declared.error.DecideError.{DecideError}
 use Rattle.ct_decide.specs.declared.error.DecideError.TheVariants as decide
-use Rattle.ct_table.specs.declared.error.TableError.{TableError}
-use Rattle.ct_table.specs.declared.error.TableError.TheVariants as table
+use Rattle.ct_operators.specs.declared.error.TableError.{TableError}
+use Rattle.ct_operators.specs.declared.error.TableError.TheVariants as table
 use Rattle.ct_certain.specs.declared.error.CertainError.{CertainError}
 use Rattle.ct_certain.specs.declared.error.CertainError.TheVariants as fault
 

@@ -1,5 +1,5 @@
 -- The question whether a tuple is missing from a table.
-use Rattle.std.specs.Prelude.{◌≡◌, ◌≢◌, ◌⊎◌, ⊤, ℕ, List, [], ◌∷◌, ◌++◌, length, IsTrue, All}
+use Rattle.std.specs.Prelude.{◌≡◌, ◌≢◌, ◌⊎◌, ⊤, ℕ, List, [], ◌∷◌, ◌++◌, length, Contains, IsTrue, All}
 use mathlib.Core.List.{IsPrefix}
 use Rattle.ct_word.specs.declared.kinds.Class.TheVariants as class
 use Rattle.ct_word.specs.declared.values.Value.{Value}
@@ -10,13 +10,14 @@ use Rattle.ct_word.specs.Condition.{holds_at}
 use Rattle.ct_word.specs.Reading.{IsTerm, condition_at}
 use Rattle.ct_word.specs.Stands.{StandsAt, HasNoColumn}
 use Rattle.ct_word.specs.WellFormed.{IsWellFormed, is_place_of}
+use Rattle.ct_cnf.specs.Encoding.{HasTermsPast}
 use Rattle.ct_condition.specs.Places.{has_place}
 use Rattle.ct_condition.specs.Terms.{TermsFrom}
 use Rattle.ct_equality.specs.Valued.{IsNumbered}
-use Rattle.ct_table.specs.Tables.{AreRows, value_of_rows}
+use Rattle.ct_operators.specs.Tables.{AreRows, value_of_rows}
 use Rattle.ct_certain.specs.declared.striking.Seen.{Seen}
 use Rattle.ct_certain.specs.Asked.{IsOfTable, IsValueIn}
-use Rattle.ct_certain.specs.Certain.{is_missing, tuples_in, IsInAll, RefutesMissing}
+use Rattle.ct_certain.specs.Certain.{is_missing, tuples_in, IsCutProof, IsInAll, RefutesMissing}
 use Rattle.ct_word.specs.Sublist.{IsSublist}
 use Rattle.ct_query.specs.Database.{has_tuple, SameSet}
 use Rattle.ct_rewrite.specs.declared.answer.CertainRow.{CertainRow}
@@ -55,21 +56,38 @@ pub record IsRootOf (words now : List ℕ) (global : ℕ) (rs : List CRow) (tupl
   pub holds : (v : World) → holds_at v (condition_at now root) ≡ is_missing words global rs tuple v
   pub terms : TermsFrom now root (λ t. IsOfTable words global rs t ⊎ IsValueIn tuple t)
 
+-- the question whether a tuple is missing has more than 64 distinct terms
+pub record IsPastTermsOfAbsence (words now : List ℕ) (global : ℕ) (rs : List CRow) (tuple : List Value) : Type 0 where
+  pub root : ℕ
+  pub question : IsRootOf words now global rs tuple root
+  pub many : HasTermsPast 64 now root
+
+-- the question about one of these tuples has
+pub record IsPastTermsOfSomeTuple (words now : List ℕ) (global : ℕ) (rs : List CRow) (tuples : List (List Value)) : Type 0 where
+  pub tuple : List Value
+  pub among : Contains tuples tuple
+  pub past : IsPastTermsOfAbsence words now global rs tuple
+
 -- the place of the condition of the first of these rows, that of the word false where there is none
 abbrev pub condition_of : List CRow → ℕ
 condition_of [] = 1
 condition_of (r ∷ rs) = r.cond
 
+-- a proof refutes that a tuple is missing, and has a step besides the last only where a later one has it as a hint
+pub record IsRefuted (words now : List ℕ) (global : ℕ) (rs : List CRow) (r : CertainRow) : Type 0 where
+  pub refutes : RefutesMissing words now global rs r
+  pub cut : IsCutProof now r.proof
+
 -- the certain tuples among these candidates are listed, each with a proof over the words now
 pub record AreListed (words now : List ℕ) (global : ℕ) (rs : List CRow) (done : List (List Value)) (list : List CertainRow) : Type 0 where
-  pub refuted : All (RefutesMissing words now global rs) list
+  pub refuted : All (IsRefuted words now global rs) list
   pub ordered : IsSublist (tuples_in list) done
   pub complete : (t : List Value) → IsTrue (has_tuple done t) → IsInAll words global rs t → IsTrue (has_tuple (tuples_in list) t)
 
 -- the list with a tuple and its proof; as it was where the tuple is not certain
 pub data Takes (words now : List ℕ) (global : ℕ) (rs : List CRow) (tuple : List Value) (old : List CertainRow) : List CertainRow → Type 0 where
   nothing : (IsInAll words global rs tuple → ⊥) → Takes words now global rs tuple old old
-  one : (r : CertainRow) → r.tuple ≡ tuple → RefutesMissing words now global rs r → Takes words now global rs tuple old (old ++ r ∷ [])
+  one : (r : CertainRow) → r.tuple ≡ tuple → IsRefuted words now global rs r → Takes words now global rs tuple old (old ++ r ∷ [])
 
 -- the tuples that rows are worth in some world at which the global condition holds
 pub record IsSeen (words : List ℕ) (global : ℕ) (rs : List CRow) (s : Seen) : Type 0 where

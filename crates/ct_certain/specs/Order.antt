@@ -1,11 +1,21 @@
 -- A world put into order.
-use Rattle.std.specs.Prelude.{ℕ, suc, List, [], ◌∷◌, Option, Some, None, if◌then◌else◌}
+use Rattle.std.specs.Prelude.{◌≡◌, ℕ, suc, List, [], ◌∷◌, Option, Some, None, if◌then◌else◌}
 use Rattle.std.specs.declared.cmp.Ordering.{Ordering}
 use Rattle.std.specs.declared.cmp.Ordering.TheVariants.{Less, Equal, Greater}
+use Rattle.std.specs.Map.{lookup}
 use Rattle.ct_word.specs.declared.values.Value.{Value}
 use Rattle.ct_word.specs.declared.values.Null.{Null}
-use Rattle.ct_word.specs.Value.{World, same_value, other_zero, value_of_null}
+use Rattle.ct_word.specs.Value.{World, same_null, same_value, other_zero, value_of_null}
 use Rattle.ct_rewrite.specs.Order.{null_order}
+
+-- the value of the first pair with a null, none where there is none
+abbrev pub listed : World → Null → Option Value
+listed [] n = None
+listed (p ∷ v) n = if same_null p.0 n then Some p.1 else listed v n
+
+-- the entries of a map have the values that a world lists
+abbrev pub IsMapOf : World → World → Type 0
+IsMapOf entries v = (n : Null) → lookup (same_null n) entries ≡ listed v n
 
 -- one of three, by an order
 abbrev pub by_order : {X : Type 0} → Ordering → X → X → X → X

@@ -2,12 +2,10 @@
 
 ghost use Rattle.std.specs.Prelude.{◌≡◌, ◌*◌, ◌+◌, [], ◌∷◌, false, length, All, IfOk, IsErrOf};
 ghost use Rattle.ct_condition.specs.Writes.{Writes};
-ghost use Rattle.ct_table.specs.Refusals.{is_full as has_no_room};
+ghost use Rattle.ct_operators.specs.Refusals.{is_full as has_no_room};
 ghost use Rattle.ct_certain.specs.Answered.{IsSettled};
-ghost use Rattle.ct_certain.specs.Asked.{IsPastTermsOfTuple};
-ghost use Rattle.ct_certain.specs.Certain.{RefutesMissing};
 ghost use Rattle.ct_certain.specs.Faults.{is_full};
-ghost use Rattle.ct_certain.specs.Missing.{AreOfTuple, IsAtHand, IsAskedOf, IsOfValue, IsRootOf, condition_of};
+ghost use Rattle.ct_certain.specs.Missing.{AreOfTuple, IsAtHand, IsAskedOf, IsOfValue, IsPastTermsOfAbsence, IsRefuted, IsRootOf, condition_of};
 ghost use Rattle.ct_certain.specs.declared.error.CertainError.TheVariants as fault;
 
 use crate::derivations::{Listed, known};
@@ -16,7 +14,7 @@ use crate::settling::settle;
 use ct_arena::{Arena, Site};
 use ct_condition::{Interner, term};
 use ct_decide::Decision;
-use ct_table::{CTable, TableError, except};
+use ct_operators::{CTable, TableError, except};
 use ct_word::{CRow, FALSE_PLACE, List, Term, Text, Value};
 use std::alloc::Global;
 
@@ -131,11 +129,11 @@ pub fn ask_tuple<N: Site, I: Interner<N>>(
     tuple: &[Value],
 ) -> Result<(u32, Decision), CertainError>
     requires asked { IsAskedOf words.now (I.list pass.old) global (length table.now.columns) table.now.rows tuple.now }
-    requires listed { All (RefutesMissing words.now (I.list pass.old) global table.now.rows) list.now.rows.items }
+    requires listed { All (IsRefuted words.now (I.list pass.old) global table.now.rows) list.now.rows.items }
     ensures root { IfOk result (λ a. IsRootOf words.now (I.list pass.new) global table.now.rows tuple.now a.0) }
     ensures settled { IfOk result (λ a. IsSettled (I.list pass.new) a.0 a.1) }
     ensures writes { Writes I.list I.made I.kept I.lent N.log.cap pass.old pass.new (length table.now.rows * (2 * length table.now.columns + 2) + length table.now.columns + 1) (is_full result) }
-    ensures many { IsErrOf result fault.TooManyTerms → IsPastTermsOfTuple words.now (I.list pass.new) global (length table.now.columns) table.now.rows }
+    ensures many { IsErrOf result fault.TooManyTerms → IsPastTermsOfAbsence words.now (I.list pass.new) global table.now.rows tuple.now }
 {
     let place = root(alloc, arena, pass, words, table, global, tuple)?;
     let now = pass.words();

@@ -8,11 +8,11 @@ ghost use Rattle.ct_word.specs.Stands.{HasNoColumn};
 ghost use Rattle.ct_word.specs.Value.{same_tuple};
 ghost use Rattle.ct_word.specs.WellFormed.{IsWellFormed, is_place_of};
 ghost use Rattle.ct_condition.specs.Writes.{Writes};
-ghost use Rattle.ct_table.specs.Tables.{AreRows, IsRow};
+ghost use Rattle.ct_operators.specs.Tables.{AreRows, IsRow, firsts, value_of_rows};
 ghost use Rattle.ct_certain.specs.Asked.{IsPastTermsOfTuple};
-ghost use Rattle.ct_certain.specs.Certain.{IsKeptWorld, ListsCertain, RefutesMissing};
+ghost use Rattle.ct_certain.specs.Certain.{IsCutProof, IsKeptWorld, ListsCertain};
 ghost use Rattle.ct_certain.specs.Faults.{is_full};
-ghost use Rattle.ct_certain.specs.Missing.{AreListed, IsAskedOf, IsSeen, Takes};
+ghost use Rattle.ct_certain.specs.Missing.{AreListed, IsAskedOf, IsPastTermsOfAbsence, IsPastTermsOfSomeTuple, IsRefuted, IsSeen, Takes};
 ghost use Rattle.ct_certain.specs.declared.error.CertainError.TheVariants as fault;
 
 use crate::absence::ask_tuple;
@@ -24,8 +24,8 @@ use ct_arena::{Arena, Pass, Site};
 use ct_condition::{Interner, worths};
 use ct_decide::Decision;
 use ct_derivation::{Derivation, Proof};
+use ct_operators::CTable;
 use ct_rewrite::CertainRow;
-use ct_table::CTable;
 use ct_word::{List, Memory, Value, World};
 use indexmap::IndexMap;
 use std::alloc::Global;
@@ -50,8 +50,8 @@ fn list_tuple(
     Ok(())
 }
 
-/// Lists a tuple if it is certain. It is asked for only where no known world lacks it; a world that lacks
-/// it is known from then on.
+/// Lists a tuple if it is certain. It is asked for only where no known world lacks it; a world that lacks it is known
+/// from then on, while there is room for it.
 fn try_tuple<N: Site, I: Interner<N>>(
     alloc: Global,
     arena: &Arena<N>,
@@ -67,11 +67,11 @@ fn try_tuple<N: Site, I: Interner<N>>(
     requires small { length words.now < 2 ^ 28 }
     requires rows { All (λ r. IsRow words.now (length r.cells) r) table.now.rows }
     requires pool { All (IsSeen words.now global table.now.rows) pool.old.items }
-    requires listed { All (RefutesMissing words.now (I.list pass.old) global table.now.rows) list.old.rows.items }
+    requires listed { All (IsRefuted words.now (I.list pass.old) global table.now.rows) list.old.rows.items }
     ensures pool { OnOk result (All (IsSeen words.now global table.now.rows) pool.new.items) }
     ensures takes { OnOk result (Takes words.now (I.list pass.new) global table.now.rows tuple.now list.old.rows.items list.new.rows.items) }
     ensures writes { Writes I.list I.made I.kept I.lent N.log.cap pass.old pass.new (length table.now.rows * (2 * length table.now.columns + 2) + length table.now.columns + 1) (is_full result) }
-    ensures many { IsErrOf result fault.TooManyTerms → IsPastTermsOfTuple words.now (I.list pass.new) global (length table.now.columns) table.now.rows }
+    ensures many { IsErrOf result fault.TooManyTerms → IsPastTermsOfAbsence words.now (I.list pass.new) global table.now.rows tuple.now }
 {
     let _ = pass.words();
     let rows = table.rows.as_slice();
@@ -120,7 +120,7 @@ fn each_certain<N: Site, I: Interner<N>>(
     requires asked { All (IsAskedOf words.now words.now global (length table.now.columns) table.now.rows) candidates.now }
     ensures lists { IfOk result (λ list. AreListed words.now (I.list pass.new) global table.now.rows candidates.now list.items) }
     ensures writes { Writes I.list I.made I.kept I.lent N.log.cap pass.old pass.new (length table.now.rows * (length table.now.rows * (2 * length table.now.columns + 2) + length table.now.columns + 1)) (is_full result) }
-    ensures many { IsErrOf result fault.TooManyTerms → IsPastTermsOfTuple words.now (I.list pass.new) global (length table.now.columns) table.now.rows }
+    ensures many { IsErrOf result fault.TooManyTerms → IsPastTermsOfSomeTuple words.now (I.list pass.new) global table.now.rows candidates.now }
 {
     let _ = pass.words();
     let mut list = Listed {
@@ -136,12 +136,12 @@ fn each_certain<N: Site, I: Interner<N>>(
 }
 
 /// The tuples that a table has at every valuation at which the global condition holds, each once, in the order of the
-/// rows at a valuation that is kept, each with a proof that it is missing at none. For each row of the table at most
-/// `r (2k + 2) + k + 1` words are made, where the table has r rows and k columns.
+/// rows at a valuation that is kept, each with a proof that it is missing at none, which is cut. At most
+/// `r (r (2k + 2) + k + 1)` words are made, where the table has r rows and k columns.
 ///
 /// # Errors
-/// `Full` where the log has no room for the root of a question, `TooManyTerms` where a question has more than 64
-/// distinct terms, `Memory` where there is none for the list or a question.
+/// `Full` where the log has no room for the root of a question, `TooManyTerms` where the question whether a tuple is
+/// missing has more than 64 distinct terms, `Memory` where there is none for the list or a question.
 pub fn certain<N: Site>(
     alloc: Global,
     arena: &Arena<N>,
@@ -155,10 +155,12 @@ pub fn certain<N: Site>(
     requires rows { AreRows pass.old.words (length table.now.columns) table.now.rows }
     requires kept { IsKeptWorld pass.old.words global kept.now }
     ensures lists { IfOk result (λ list. ListsCertain pass.old.words pass.new.words global table.now.rows kept.now list) }
+    ensures cut { IfOk result (λ list. All (λ r. IsCutProof pass.new.words r.proof) list) }
     ensures longer { IsPrefix pass.old.words pass.new.words }
     ensures formed { IsWellFormed pass.new.words }
     ensures room { length pass.new.words ≤ N.log.cap }
     ensures full { IsErrOf result fault.Full → length pass.new.words ≡ N.log.cap }
+    ensures question { IsErrOf result fault.TooManyTerms → IsPastTermsOfSomeTuple pass.old.words pass.new.words global table.now.rows (firsts same_tuple (value_of_rows pass.old.words kept.now table.now.rows)) }
     ensures many { IsErrOf result fault.TooManyTerms → IsPastTermsOfTuple pass.old.words pass.new.words global (length table.now.columns) table.now.rows }
     ensures made { pass.new.made ≤ pass.old.made + length table.now.rows * (length table.now.rows * (2 * length table.now.columns + 2) + length table.now.columns + 1) }
     ensures fewer { IsErrOf result fault.Full → pass.new.made < pass.old.made + length table.now.rows * (length table.now.rows * (2 * length table.now.columns + 2) + length table.now.columns + 1) }

@@ -1,7 +1,7 @@
 // Derivations that are known, for questions with the same root.
 
 ghost use Rattle.std.specs.Prelude.{◌≡◌, All, IfOk, IfSome};
-ghost use Rattle.ct_derivation.specs.Accepts.{Accepts, AcceptsProof};
+ghost use Rattle.ct_certain.specs.Answered.{IsRefutation};
 
 use ct_derivation::{Derivation, Step, Why};
 use ct_rewrite::CertainRow;
@@ -61,8 +61,8 @@ pub fn known(
     list: &Listed,
     root: u32,
 ) -> Result<Option<Derivation>, Memory>
-    requires { All (λ r. AcceptsProof words.now r.proof) list.now.rows.items }
-    ensures { IfOk result (λ o. IfSome o (λ d. Accepts words.now root d)) }
+    requires { All (λ r. IsRefutation words.now r.proof.root r.proof.derivation) list.now.rows.items }
+    ensures { IfOk result (λ o. IfSome o (λ d. IsRefutation words.now root d)) }
 {
     let _ = words;
     let Some(place) = list.roots.get(&root) else {

@@ -7,7 +7,7 @@ ghost use Rattle.ct_certain.specs.declared.error.CertainError.TheVariants as fau
 
 use ct_arena::Full;
 use ct_decide::DecideError;
-use ct_table::TableError;
+use ct_operators::TableError;
 use ct_word::Memory;
 use std::alloc::{AllocError, AllocFailed};
 use thiserror::Error;

@@ -1,8 +1,8 @@
 //! Which rows of a conditional table are possible, and which of its tuples are certain.
 //!
 //! A row is possible where it is shown at some valuation at which the global condition holds, and a tuple is certain
-//! where the table has it at all of these. `ct_decide` answers for each row, and for each tuple, whether a condition can
-//! hold, and a valuation that was found once is used for all rows.
+//! where the table has it at all of these. Whether a condition can hold is a question to `ct_decide`. A row is asked for
+//! where no known valuation shows it, and a tuple where none of up to 16 known valuations lacks it.
 #![tactic(auto)]
 
 mod absence;
@@ -11,6 +11,7 @@ mod cells;
 mod certainty;
 mod derivations;
 mod error;
+mod mapped;
 mod order;
 mod pool;
 mod possibility;

@@ -1,13 +1,15 @@
 // Worlds in the order of their nulls.
 
 ghost use Rattle.std.specs.Prelude.{◌≡◌, ◌≤◌, [], length, map, IfOk, IfSome, OnOk};
-ghost use Rattle.ct_word.specs.Value.{same_null, value_of_null};
 ghost use Rattle.ct_rewrite.specs.Order.{null_class, null_order};
+ghost use Rattle.ct_rewrite.specs.Tidy.{IsTidy};
 ghost use Rattle.ct_certain.specs.Order as spec;
-ghost use Rattle.ct_certain.specs.Order.{with_null};
+ghost use Rattle.ct_certain.specs.Order.{IsMapOf, with_null};
 
+use crate::mapped::{by_null, value_of};
 use ct_word::{List, Memory, Null, Value, World};
-use std::alloc::{AllocError, Global};
+use indexmap::IndexMap;
+use std::alloc::Global;
 use std::cmp::Ordering;
 
 /// The order of nulls: named ones by the bytes of their names, then fresh ones by session and number.
@@ -39,38 +41,6 @@ fn class_of(n: &Null) -> u8
     }
 }
 
-/// Whether two nulls are the same.
-fn are_same(m: &Null, n: &Null) -> bool
-    ensures { result ≡ same_null m.now n.now }
-{
-    match (m, n) {
-        (Null::Named(t), Null::Named(u)) => t.as_str() == u.as_str(),
-        (
-            Null::Fresh {
-                session: s,
-                number: j,
-            },
-            Null::Fresh {
-                session: t,
-                number: k,
-            },
-        ) => s == t && j == k,
-        _ => false,
-    }
-}
-
-/// The value of a null in a world; `@0` where it is not listed.
-pub fn value_of(world: &[(Null, Value)], null: &Null) -> Result<Value, AllocError>
-    ensures { IfOk result (λ x. x ≡ value_of_null world.now null.now) }
-{
-    for pair in world {
-        if are_same(&pair.0, null) {
-            return pair.1.clone();
-        }
-    }
-    Ok(Value::Other(0))
-}
-
 /// Where a null belongs among ascending ones; none where it is there already.
 fn slot(world: &[(Null, Value)], null: &Null) -> Option<usize>
     ensures value { result ≡ spec.slot world.now null.now }
@@ -100,10 +70,16 @@ fn put(world: &mut Vec<(Null, Value)>, null: Null, value: Value) -> Result<(), M
 }
 
 /// Puts a null in with the value that a world gives it, but for `@0`.
-fn add(to: &mut Vec<(Null, Value)>, world: &World, null: &Null) -> Result<(), Memory>
+fn add(
+    to: &mut Vec<(Null, Value)>,
+    world: &World,
+    values: &IndexMap<Null, Value>,
+    null: &Null,
+) -> Result<(), Memory>
+    requires { IsMapOf values.now.entries world.now }
     ensures { OnOk result (to.new.items ≡ with_null world.now to.old.items null.now) }
 {
-    let value = value_of(world.as_slice(), null)?;
+    let value = value_of(world, values, null)?;
     match value {
         Value::Other(0) => Ok(()),
         _ => put(to, null.clone()?, value),
@@ -113,10 +89,12 @@ fn add(to: &mut Vec<(Null, Value)>, world: &World, null: &Null) -> Result<(), Me
 /// The same world, with its nulls in order, and without those that have `@0`.
 pub fn tidy(alloc: Global, world: &World) -> Result<World, Memory>
     ensures value { IfOk result (λ w. w ≡ spec.with_nulls world.now [] (map (λ p. p.0) world.now)) }
+    ensures tidy { IfOk result IsTidy }
 {
+    let values = by_null(alloc, world)?;
     let mut out = Vec::new(alloc);
     for pair in world.as_slice() {
-        add(&mut out, world, &pair.0)?;
+        add(&mut out, world, &values, &pair.0)?;
     }
     Ok(List::from_vec(out))
 }

@@ -11,6 +11,8 @@ ghost use Rattle.ct_rewrite.specs.Tidy.{IsTidy};
 
 use crate::below::nulls_below;
 use crate::cells::cut;
+use crate::order::tidy;
+use crate::spread::spread;
 use ct_condition::{Worths, worths};
 use ct_word::{CRow, List, Memory, Null, World};
 use indexmap::IndexSet;
@@ -32,6 +34,8 @@ pub struct Pool {
     pub never: IndexSet<u32>,
     /// The nulls below the global condition.
     pub nulls: IndexSet<Null>,
+    /// Whether the world in which the nulls of the table differ was tried.
+    pub is_spread: bool,
 }
 
 /// The world in which each null is `@0`, if the global condition holds there.
@@ -64,6 +68,7 @@ pub fn start(alloc: Global, words: &[u64], global: u32) -> Result<Pool, Memory>
         worlds,
         never: IndexSet::new(alloc),
         nulls,
+        is_spread: false,
     })
 }
 
@@ -102,7 +107,7 @@ fn own_part(
 }
 
 /// The part that a row needs of a known world that shows it.
-pub fn look(
+fn look(
     alloc: Global,
     words: &[u64],
     global: u32,
@@ -121,6 +126,56 @@ pub fn look(
         }
     }
     Ok(None)
+}
+
+/// Puts a world in which the nulls of the table differ into the pool, if the global condition holds there.
+fn spread_out(
+    alloc: Global,
+    words: &[u64],
+    global: u32,
+    rows: &[CRow],
+    pool: &mut Pool,
+) -> Result<(), Memory>
+    requires formed { IsWellFormed words.now }
+    requires small { length words.now < 2 ^ 28 }
+    requires global { IsTrue (is_place_of words.now class.Cond global) }
+    requires pool { IsPool words.now global pool.old }
+    ensures { OnOk result (IsPool words.now global pool.new) }
+{
+    pool.is_spread = true;
+    let apart = spread(alloc, words, global, rows)?;
+    let world = tidy(alloc, &apart)?;
+    let worths = worths(alloc, words, &world)?;
+    if !worths.holds(global) {
+        return Ok(());
+    }
+    pool.worlds.push(Known { world, worths })?;
+    Ok(())
+}
+
+/// The part that a row needs of a known world that shows it. The world in which the nulls of the table differ is made
+/// for the first row that the one without pairs does not show.
+pub fn find(
+    alloc: Global,
+    words: &[u64],
+    global: u32,
+    rows: &[CRow],
+    pool: &mut Pool,
+    row: &CRow,
+) -> Result<Option<World>, Memory>
+    requires formed { IsWellFormed words.now }
+    requires small { length words.now < 2 ^ 28 }
+    requires asked { AreOf words.now global row.now }
+    requires pool { IsPool words.now global pool.old }
+    ensures part { IfOk result (λ o. IfSome o (IsShownBy words.now global row.now)) }
+    ensures pool { OnOk result (IsPool words.now global pool.new) }
+{
+    let known = look(alloc, words, global, pool, row)?;
+    if known.is_some() || pool.is_spread {
+        return Ok(known);
+    }
+    spread_out(alloc, words, global, rows, pool)?;
+    look(alloc, words, global, pool, row)
 }
 
 /// Puts a world into the pool, and gives the part of it that a row needs.

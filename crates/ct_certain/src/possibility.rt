@@ -6,9 +6,9 @@ ghost use Rattle.ct_word.specs.declared.kinds.Class.TheVariants as class;
 ghost use Rattle.ct_word.specs.Stands.{HasNoColumn};
 ghost use Rattle.ct_word.specs.WellFormed.{IsWellFormed, is_place_of};
 ghost use Rattle.ct_condition.specs.Writes.{Writes};
-ghost use Rattle.ct_table.specs.Tables.{AreRows};
+ghost use Rattle.ct_operators.specs.Tables.{AreRows};
 ghost use Rattle.ct_certain.specs.Answered.{AreOf};
-ghost use Rattle.ct_certain.specs.Asked.{IsOfTable, IsPastTerms};
+ghost use Rattle.ct_certain.specs.Asked.{IsOfTable, IsPastTerms, IsPastTermsOfSomeRow};
 ghost use Rattle.ct_certain.specs.Faults.{is_full};
 ghost use Rattle.ct_certain.specs.Own.{IsOwn};
 ghost use Rattle.ct_certain.specs.Possible.{ListsPossible};
@@ -19,8 +19,8 @@ use crate::pool::start;
 use crate::showing::{list_row, show};
 use ct_arena::{Arena, Pass, Site};
 use ct_condition::Interner;
+use ct_operators::CTable;
 use ct_rewrite::PossibleRow;
-use ct_table::CTable;
 use ct_word::{CRow, List};
 use std::alloc::Global;
 
@@ -41,24 +41,25 @@ fn each_possible<N: Site, I: Interner<N>>(
     ensures lists { IfOk result (λ list. ListsPossible words.now global rows.now list.items) }
     ensures own { IfOk result (λ list. All (IsOwn words.now global rows.now) list.items) }
     ensures writes { Writes I.list I.made I.kept I.lent N.log.cap pass.old pass.new (length rows.now) (is_full result) }
-    ensures many { IsErrOf result fault.TooManyTerms → IsPastTerms (I.list pass.new) (IsOfTable words.now global rows.now) }
+    ensures many { IsErrOf result fault.TooManyTerms → IsPastTermsOfSomeRow words.now (I.list pass.new) global rows.now }
 {
     let _ = pass.words();
     let mut pool = start(alloc, words, global)?;
     let mut list = Vec::new(alloc);
     for row in rows {
-        let found = show(alloc, arena, pass, words, global, &mut pool, row)?;
+        let found = show(alloc, arena, pass, words, global, rows, &mut pool, row)?;
         list_row(alloc, words, &mut list, row, found, global)?;
     }
     Ok(list)
 }
 
 /// The rows of a table that are shown at some valuation at which the global condition holds, in their order, each with
-/// such a valuation, whose nulls stand below the global condition or the row. At most one word is made for each row.
+/// such a valuation, whose nulls stand below the global condition or the row. At most as many words are made as there
+/// are rows.
 ///
 /// # Errors
-/// `Full` where the log has no room for the root of a question, `TooManyTerms` where a question has more than 64
-/// distinct terms, `Memory` where there is none for the list or a question.
+/// `Full` where the log has no room for the root of a question, `TooManyTerms` where the question whether a row is shown
+/// has more than 64 distinct terms, `Memory` where there is none for the list or a question.
 pub fn possible<N: Site>(
     alloc: Global,
     arena: &Arena<N>,
@@ -75,6 +76,7 @@ pub fn possible<N: Site>(
     ensures formed { IsWellFormed pass.new.words }
     ensures room { length pass.new.words ≤ N.log.cap }
     ensures full { IsErrOf result fault.Full → length pass.new.words ≡ N.log.cap }
+    ensures question { IsErrOf result fault.TooManyTerms → IsPastTermsOfSomeRow pass.old.words pass.new.words global table.now.rows }
     ensures many { IsErrOf result fault.TooManyTerms → IsPastTerms pass.new.words (IsOfTable pass.old.words global table.now.rows) }
     ensures made { pass.new.made ≤ pass.old.made + length table.now.rows }
     ensures fewer { IsErrOf result fault.Full → pass.new.made < pass.old.made + length table.now.rows }

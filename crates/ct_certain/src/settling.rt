@@ -6,10 +6,9 @@ ghost use Rattle.ct_word.specs.declared.kinds.Class.TheVariants as class;
 ghost use Rattle.ct_word.specs.Stands.{HasNoColumn};
 ghost use Rattle.ct_word.specs.WellFormed.{IsWellFormed, is_place_of};
 ghost use Rattle.ct_cnf.specs.Encoding.{HasTermsPast};
-ghost use Rattle.ct_condition.specs.Terms.{BelowEither};
 ghost use Rattle.ct_condition.specs.Writes.{Writes};
 ghost use Rattle.ct_certain.specs.Answered.{AreOf, IsAnswer, IsSettled};
-ghost use Rattle.ct_certain.specs.Asked.{IsPastTerms};
+ghost use Rattle.ct_certain.specs.Asked.{IsPastTermsOfRow};
 ghost use Rattle.ct_certain.specs.Faults.{is_full};
 ghost use Rattle.ct_certain.specs.declared.error.CertainError.TheVariants as fault;
 
@@ -54,7 +53,7 @@ pub fn ask<N: Site, I: Interner<N>>(
     requires asked { AreOf words.now global row.now }
     ensures answer { IfOk result (λ o. IsAnswer words.now global row.now o) }
     ensures writes { Writes I.list I.made I.kept I.lent N.log.cap pass.old pass.new 1 (is_full result) }
-    ensures many { IsErrOf result fault.TooManyTerms → IsPastTerms (I.list pass.new) (BelowEither words.now global row.now.cond) }
+    ensures many { IsErrOf result fault.TooManyTerms → IsPastTermsOfRow words.now (I.list pass.new) global row.now }
 {
     let _ = words;
     let _ = pass.words();

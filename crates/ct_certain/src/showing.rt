@@ -3,18 +3,17 @@
 ghost use Rattle.std.specs.Prelude.{◌<◌, ◌^◌, List, length, All, Contains, IfOk, OnOk, IsErrOf};
 ghost use mathlib.Core.List.{IsPrefix};
 ghost use Rattle.ct_word.specs.WellFormed.{IsWellFormed};
-ghost use Rattle.ct_condition.specs.Terms.{BelowEither};
 ghost use Rattle.ct_condition.specs.Writes.{Writes};
 ghost use Rattle.ct_word.specs.declared.values.CRow.{CRow};
 ghost use Rattle.ct_certain.specs.Answered.{AreOf, IsPool, Adds};
-ghost use Rattle.ct_certain.specs.Asked.{IsPastTerms};
+ghost use Rattle.ct_certain.specs.Asked.{IsPastTermsOfRow};
 ghost use Rattle.ct_certain.specs.Faults.{is_full};
 ghost use Rattle.ct_certain.specs.Own.{IsOwn, IsOwnAnswer};
 ghost use Rattle.ct_certain.specs.declared.error.CertainError.TheVariants as fault;
 
 use crate::cells::terms;
 use crate::error::CertainError;
-use crate::pool::{Pool, is_never, learn, look};
+use crate::pool::{Pool, find, is_never, learn};
 use crate::settling::ask;
 use ct_arena::{Arena, Site};
 use ct_condition::Interner;
@@ -29,6 +28,7 @@ pub fn show<N: Site, I: Interner<N>>(
     pass: &mut I,
     words: &[u64],
     global: u32,
+    rows: &[CRow],
     pool: &mut Pool,
     row: &CRow,
 ) -> Result<Option<World>, CertainError>
@@ -40,13 +40,13 @@ pub fn show<N: Site, I: Interner<N>>(
     ensures answer { IfOk result (λ o. IsOwnAnswer words.now global row.now o) }
     ensures pool { OnOk result (IsPool words.now global pool.new) }
     ensures writes { Writes I.list I.made I.kept I.lent N.log.cap pass.old pass.new 1 (is_full result) }
-    ensures many { IsErrOf result fault.TooManyTerms → IsPastTerms (I.list pass.new) (BelowEither words.now global row.now.cond) }
+    ensures many { IsErrOf result fault.TooManyTerms → IsPastTermsOfRow words.now (I.list pass.new) global row.now }
 {
     let _ = pass.words();
     if is_never(words, global, &pool.never, row) {
         return Ok(None);
     }
-    let known = look(alloc, words, global, pool, row)?;
+    let known = find(alloc, words, global, rows, pool, row)?;
     if let Some(part) = known {
         return Ok(Some(part));
     }

@@ -91,7 +91,7 @@ fn spread_at(
 }
 
 /// A world in which the nulls below a global condition and rows have values `@k` that differ, but for those that it has
-/// no room for.
+/// no room for. No clause says so.
 pub fn spread(alloc: Global, words: &[u64], global: u32, rows: &[CRow]) -> Result<World, Memory>
     requires formed { IsWellFormed words.now }
     requires small { length words.now < 2 ^ 28 }

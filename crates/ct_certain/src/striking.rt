@@ -3,7 +3,7 @@
 ghost use Rattle.std.specs.Prelude.{◌≡◌, ◌<◌, ◌^◌, false, length, All, IfOk, OnOk, IsTrue};
 ghost use Rattle.ct_word.specs.declared.kinds.Class.TheVariants as class;
 ghost use Rattle.ct_word.specs.WellFormed.{IsWellFormed, is_place_of};
-ghost use Rattle.ct_table.specs.Tables.{IsRow};
+ghost use Rattle.ct_operators.specs.Tables.{IsRow};
 ghost use Rattle.ct_certain.specs.Certain.{IsInAll};
 ghost use Rattle.ct_certain.specs.Missing.{IsSeen};
 
@@ -20,7 +20,8 @@ pub struct Seen {
     pub tuples: IndexSet<List<Value>>,
 }
 
-/// The most worlds whose tuples are kept.
+/// The most worlds whose tuples are kept, besides the kept one: each is a set that may be as large as the table. The first
+/// two count.
 const MOST_WORLDS: usize = 16;
 
 /// Whether a tuple is there in all of these worlds.
@@ -73,8 +74,8 @@ pub fn see(
     Ok(())
 }
 
-/// The worlds before any tuple is asked for, besides the kept one: the one in which each null is `@0`, if it is another
-/// one, and one in which the nulls differ.
+/// The worlds before any tuple is asked for, besides the kept one: the one in which each null is `@0`, if the kept one
+/// has pairs, and one in which the nulls differ.
 pub fn first_worlds(
     alloc: Global,
     words: &[u64],

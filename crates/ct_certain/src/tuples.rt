@@ -7,21 +7,23 @@ ghost use Rattle.ct_word.specs.declared.values.Value.{Value};
 ghost use Rattle.ct_word.specs.Value.{at, same_tuple, tuple_at};
 ghost use Rattle.ct_word.specs.WellFormed.{IsWellFormed, is_place_of};
 ghost use Rattle.ct_condition.specs.Worth.{AreWorths};
-ghost use Rattle.ct_table.specs.Tables.{IsRow, firsts, value_of_rows};
+ghost use Rattle.ct_operators.specs.Tables.{IsRow, firsts, value_of_rows};
+ghost use Rattle.ct_certain.specs.Order.{IsMapOf};
 
-use crate::order::value_of;
+use crate::mapped::{by_null, value_of};
 use ct_condition::Worths;
-use ct_word::{CRow, List, Memory, Term, Value, World, term_at};
-use indexmap::IndexSet;
+use ct_word::{CRow, List, Memory, Null, Term, Value, World, term_at};
+use indexmap::{IndexMap, IndexSet};
 use std::alloc::{AllocError, Global};
 
 /// The value of a term in a world.
-fn value_in(world: &World, term: Term) -> Result<Value, AllocError>
+fn value_in(world: &World, values: &IndexMap<Null, Value>, term: Term) -> Result<Value, AllocError>
+    requires { IsMapOf values.now.entries world.now }
     ensures { IfOk result (λ x. x ≡ at world.now [] term) }
 {
     match term {
         Term::Column(_) => Ok(Value::Other(0)),
-        Term::Null(null) => value_of(world.as_slice(), &null),
+        Term::Null(null) => value_of(world, values, &null),
         Term::Value(value) => Ok(value),
     }
 }
@@ -31,8 +33,10 @@ fn tuple_in(
     alloc: Global,
     words: &[u64],
     world: &World,
+    values: &IndexMap<Null, Value>,
     cells: &[u32],
 ) -> Result<List<Value>, Memory>
+    requires values { IsMapOf values.now.entries world.now }
     requires formed { IsWellFormed words.now }
     requires cells { All (λ p. IsTrue (is_place_of words.now class.Term p)) cells.now }
     ensures { IfOk result (λ t. t ≡ tuple_at world.now (map (term_at words.now) cells.now)) }
@@ -40,7 +44,7 @@ fn tuple_in(
     let mut tuple = Vec::new(alloc);
     for cell in cells {
         let term = term_at(alloc, words, *cell)?;
-        let value = value_in(world, term)?;
+        let value = value_in(world, values, term)?;
         tuple.push(value)?;
     }
     Ok(List::from_vec(tuple))
@@ -51,11 +55,13 @@ fn add_tuple(
     alloc: Global,
     words: &[u64],
     world: &World,
+    values: &IndexMap<Null, Value>,
     worths: &Worths,
     row: &CRow,
     tuples: &mut IndexSet<List<Value>>,
 ) -> Result<(), Memory>
     requires formed { IsWellFormed words.now }
+    requires values { IsMapOf values.now.entries world.now }
     requires row { IsRow words.now (length row.now.cells) row.now }
     requires worths { AreWorths words.now world.now worths.now }
     ensures { (before : List (List Value)) → tuples.old.keys ≡ firsts same_tuple before → OnOk result (tuples.new.keys ≡ firsts same_tuple (before ++ value_of_rows words.now world.now (row.now ∷ []))) }
@@ -63,7 +69,7 @@ fn add_tuple(
     if !worths.holds(row.cond) {
         return Ok(());
     }
-    let tuple = tuple_in(alloc, words, world, row.cells.as_slice())?;
+    let tuple = tuple_in(alloc, words, world, values, row.cells.as_slice())?;
     tuples.insert(tuple)?;
     Ok(())
 }
@@ -81,9 +87,10 @@ pub fn tuples(
     requires worths { AreWorths words.now world.now worths.now }
     ensures { IfOk result (λ ts. ts.keys ≡ firsts same_tuple (value_of_rows words.now world.now rows.now)) }
 {
+    let values = by_null(alloc, world)?;
     let mut tuples = IndexSet::new(alloc);
     for row in rows {
-        add_tuple(alloc, words, world, worths, row, &mut tuples)?;
+        add_tuple(alloc, words, world, &values, worths, row, &mut tuples)?;
     }
     Ok(tuples)
 }

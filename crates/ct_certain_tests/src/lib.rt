@@ -1,4 +1,4 @@
-//! Tests of possible rows and certain tuples: what the program has no statement for yet.
+//! Tests of possible rows and certain tuples of made tables, and of the proofs that come with certain ones.
 #![tactic(auto)]
 
 #[cfg(test)]

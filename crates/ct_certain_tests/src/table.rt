@@ -4,7 +4,7 @@ ghost use Rattle.std.specs.Prelude.{◌≡◌, true, [], length, All, IfOk, IsTr
 ghost use Rattle.ct_word.specs.Stands.{HasNoColumn};
 ghost use Rattle.ct_word.specs.WellFormed.{IsWellFormed, is_place_of};
 ghost use Rattle.ct_word.specs.declared.kinds.Class.TheVariants as class;
-ghost use Rattle.ct_table.specs.Tables.{IsRow, AreRows};
+ghost use Rattle.ct_operators.specs.Tables.{IsRow, AreRows};
 ghost use Rattle.ct_certain.specs.Certain.{IsKeptWorld};
 
 use ct_arena::{Arena, Blank, Pass, Site};
@@ -12,8 +12,8 @@ use ct_certain::{CertainRow, PossibleRow, certain, possible};
 use ct_checker::{Marks, check, widest};
 use ct_condition::{and, eq, not, term, worths};
 use ct_derivation::Proof;
+use ct_operators::{CRow, CTable, insert};
 use ct_samples::{are_places, is_place, no_columns};
-use ct_table::{CRow, CTable, insert};
 use ct_word::{Class, List, Memory, Null, Term, Text, Value, World};
 use std::alloc::Global;
 use std::marker::Brand;

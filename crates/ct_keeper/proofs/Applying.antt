@@ -23,7 +23,7 @@ use Rattle.ct_query.specs.Reads.{writes, last}
 use Rattle.ct_query.specs.Worlds.{world, admits, after_changes, changes_of}
 use Rattle.ct_query.specs.Fits.{FitAfter}
 use Rattle.ct_query.specs.Frame.{creates}
-use Rattle.ct_query.proofs.Laws.{after_changes-append, world_commit}
+use Rattle.ct_query.proofs.Laws.{after_changes-append, last_commit, world_commit}
 use Rattle.ct_query.proofs.Within.{Unwritten, later_unwritten, changes_admit}
 use Rattle.ct_query.proofs.Frame.{fit_later}
 use Rattle.ct_arena.specs.declared.tally.Tally.{Tally}
@@ -38,8 +38,10 @@ use Rattle.ct_table.proofs.Snapshots.{kept_grows, snapshot_of_all}
 use Rattle.ct_keeper.specs.declared.catalogue.Offer.{Offer}
 use Rattle.ct_keeper.specs.declared.latest.Latest.{Latest}
 use Rattle.ct_keeper.specs.Latest.{IsLatest}
+use Rattle.ct_keeper.specs.Writers.{last_in}
 use Rattle.ct_keeper.specs.Offers.{IsOffer, Leaves, IsUnchanged}
 use Rattle.ct_keeper.specs.Steps.{IsMade, CanApply, is_assertion}
+use Rattle.ct_keeper.proofs.Noting.{asserted_same}
 
 -- there are no more commits than words
 few : (ms : List Meaning) → length (filter_map as_commit ms) ≤ length ms
@@ -84,17 +86,6 @@ module _ (v : World) where
     commit_admits : (c : PlainCommit) → admits v ((h ++ k) ++ c ∷ []) [] ≡ admits v (h ++ c ∷ []) []
     commit_admits c =
         ap is_some (world_commit v (h ++ k) c) ∙ all_admit c.changes (world v (h ++ k) []) (world v h []) later_admit ∙ ap is_some (sym (world_commit v h c))
-
--- an assertion among the changes is one that writes the worlds
-asserted_same : (words : List ℕ) (ws : List Written) → list_any (λ x. writes x read.Worlds) (map (plain_written words) ws) ≡ list_any is_assertion ws
-asserted_same words [] = refl
-asserted_same words (w ∷ ws) = by_first w (asserted_same words ws) where
-  by_first : (w : Written) → list_any (λ x. writes x read.Worlds) (map (plain_written words) ws) ≡ list_any is_assertion ws
-      → list_any (λ x. writes x read.Worlds) (map (plain_written words) (w ∷ ws)) ≡ list_any is_assertion (w ∷ ws)
-  by_first (written.Create name columns) e = e
-  by_first (written.Insert name rows) e = e
-  by_first (written.Delete name cond) e = e
-  by_first (written.Assert cond) e = refl
 
 module _ (old : List ℕ) (guest : Tally) (offer : Offer) (changes : List Written) (is : IsOffer (pass_of guest old) offer) (unchanged : IsUnchanged old offer)
     (placed : All (IsWritten old) changes) (same : map (plain_written old) changes ≡ change_list_at old offer.changes) where
@@ -162,14 +153,17 @@ module _ (old : List ℕ) (guest : Tally) (offer : Offer) (changes : List Writte
     -- after the commit
     module _ (new : List ℕ) (longer : IsPrefix old new) (formed : IsWellFormed new) (commits : commits_of new ≡ h ++ c ∷ []) (next : Latest)
         (made : IsMade new h (map (plain_written old) changes) next.content) (kept : arc_value next.kept ≡ (if list_any is_assertion changes then offer.kept else arc_value l.kept))
-        (version : next.version ≡ l.version + 1) where
+        (version : next.version ≡ l.version + 1)
+        (noted : (r : Read) → last_in next.writers r ≡ (if list_any (λ x. writes x r) (map (plain_written old) changes) then next.version else last_in l.writers r)) where
       pub latest_next : IsLatest new next
       latest_next =
+          let one_more : next.version ≡ suc (length h) = omega (arith, version, latest.version) in
           let number : length (commits_of new) ≡ next.version = ap (λ g. length g) commits ∙ length-append h (c ∷ []) ∙ ap (λ n. n + 1) (sym latest.version) ∙ sym version in
           let world = subst (λ g. IsKeptWorld new g [] (arc_value next.kept)) (sym commits)
           (kept_grows old new longer formed (h ++ c ∷ []) [] (arc_value next.kept) (subst (IsKeptWorld old (h ++ c ∷ []) []) (sym kept) (kept_next (list_any is_assertion changes) refl))) in
           record {
             version = sym number;
+            writers = λ r. noted r ∙ (λ i. if list_any (λ x. writes x r) (same i) then one_more i else latest.writers r i) ∙ sym (ap (λ g. last g r) commits ∙ last_commit h c r);
             is =
                 subst (λ n. IsSnapshot new n next.content.tables next.content.global (arc_value next.kept)) number
                 (snapshot_of_all new next.content.tables next.content.global (arc_value next.kept)

@@ -37,11 +37,11 @@ use Rattle.ct_table.specs.declared.pending.Growth.{Growth}
 use Rattle.ct_table.specs.Following.{Follows}
 use Rattle.ct_table.specs.Denotes.{TableView, Denotes, IsTermFor, find_table, with_table}
 use Rattle.ct_table.specs.Snapshot.{IsGlobal, IsKeptValue, IsKeptWorld}
-use Rattle.ct_table.specs.Tables.{cells_of, value_of_rows}
-use Rattle.ct_table.specs.Terms.{TermOfRows, IsNoColumn}
-use Rattle.ct_table.proofs.Reaching.{none_of_rows, plain_rows}
+use Rattle.ct_operators.specs.Tables.{cells_of, value_of_rows}
+use Rattle.ct_operators.specs.Terms.{TermOfRows, IsNoColumn}
+use Rattle.ct_operators.proofs.Reaching.{none_of_rows, plain_rows}
 use Rattle.ct_table.proofs.Following.{change_follows, action_follows, lines_here}
-use Rattle.ct_table.proofs.Naming.{condition_named, rows_named}
+use Rattle.ct_operators.proofs.Naming.{condition_named, rows_named}
 use Rattle.ct_table.proofs.Denoting.{with_rows, found_name}
 use Rattle.ct_table.proofs.Changing.{cells_listed, inserted_after, deleted_after, created_denotes, inserted_denotes, deleted_denotes, asserted_denotes}
 use Rattle.ct_table.proofs.Acting.{created_by, asserted_by, rows_where, rows_follow}

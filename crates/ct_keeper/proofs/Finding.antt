@@ -22,10 +22,10 @@ use Rattle.ct_table.specs.declared.pending.Growth.{Growth}
 use Rattle.ct_table.specs.declared.pending.Growth.TheVariants as growth
 use Rattle.ct_table.specs.Pending.{after, put_into}
 use Rattle.ct_table.specs.Growing.{rows_after}
-use Rattle.ct_table.specs.Tables.{IsRow, AreRows}
+use Rattle.ct_operators.specs.Tables.{IsRow, AreRows}
 use Rattle.ct_table.proofs.Denoting.{found_all}
-use Rattle.ct_table.proofs.Naming.{condition_named}
-use Rattle.ct_table.proofs.Reaching.{first_or_behind, term_alone}
+use Rattle.ct_operators.proofs.Naming.{condition_named}
+use Rattle.ct_operators.proofs.Reaching.{first_or_behind, term_alone}
 use Rattle.ct_history.specs.declared.written.Written.TheVariants as written
 use Rattle.ct_keeper.specs.declared.effects.Effect.TheVariants as effect
 use Rattle.ct_keeper.specs.Effects.{DoesChange, new_table, rows_of_table}

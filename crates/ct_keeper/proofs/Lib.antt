@@ -5,9 +5,11 @@ pub mod Walking
 pub mod Unchanged
 pub mod Interning
 pub mod Making
+pub mod Noting
 pub mod Applying
 pub mod Entering
 pub mod Weighing
 pub mod Counting
+pub mod Judging
 pub mod Serving
 pub mod Closing

@@ -17,7 +17,7 @@ use Rattle.ct_query.specs.Fits.{FitsChange, FitChanges, FitAfter}
 use Rattle.ct_history.specs.declared.written.Written.{Written}
 use Rattle.ct_history.specs.Written.{IsWritten, plain_written}
 use Rattle.ct_table.specs.Denotes.{heading_of, Denotes}
-use Rattle.ct_table.specs.Tables.{AreRows}
+use Rattle.ct_operators.specs.Tables.{AreRows}
 use Rattle.ct_table.specs.Snapshot.{IsGlobal}
 use Rattle.ct_condition.proofs.Reached.{formed_before}
 use Rattle.ct_table.proofs.Changing.{denotes_grows}

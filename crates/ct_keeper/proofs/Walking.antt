@@ -20,9 +20,9 @@ use Rattle.ct_history.specs.declared.written.Written.TheVariants as written
 use Rattle.ct_history.specs.Rows.{IsRowOf}
 use Rattle.ct_history.specs.Written.{IsWritten, plain_written}
 use Rattle.ct_table.specs.Denotes.{TableView, IsKept, Denotes, heading_of, find_table}
-use Rattle.ct_table.specs.Tables.{AreRows}
+use Rattle.ct_operators.specs.Tables.{AreRows}
 use Rattle.ct_table.proofs.Denoting.{headings_stay}
-use Rattle.ct_table.proofs.Growing.{terms_grow}
+use Rattle.ct_operators.proofs.Growing.{terms_grow}
 use Rattle.ct_keeper.specs.declared.effects.Effect.{Effect}
 use Rattle.ct_keeper.specs.declared.effects.Effect.TheVariants as effect
 use Rattle.ct_keeper.specs.Effects.{DoesChange, Gets, new_table, tables_after}

@@ -19,11 +19,11 @@ use Rattle.ct_arena.specs.Seen.{pass_of}
 use Rattle.ct_condition.specs.Writes.{charge}
 use Rattle.ct_history.specs.declared.written.Written.{Written}
 use Rattle.ct_history.specs.Written.{plain_written}
-use Rattle.ct_table.specs.declared.error.TableError.{TableError}
-use Rattle.ct_table.specs.declared.error.TableError.TheVariants as table
-use Rattle.ct_table.specs.Refusals as refusals
+use Rattle.ct_operators.specs.declared.error.TableError.{TableError}
+use Rattle.ct_operators.specs.declared.error.TableError.TheVariants as table
+use Rattle.ct_operators.specs.Refusals as refusals
 use Rattle.ct_table.specs.Denotes.{TableView, IsKept, AreWorth, find_table}
-use Rattle.ct_table.specs.Tables.{cells_of}
+use Rattle.ct_operators.specs.Tables.{cells_of}
 use Rattle.ct_table.proofs.Counted.{rows_counted}
 use Rattle.ct_table.proofs.Denoting.{found_all, found_pattern}
 use Rattle.ct_table.proofs.Following.{change_follows}

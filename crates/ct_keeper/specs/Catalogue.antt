@@ -27,6 +27,12 @@ pub record Stays (old new : Catalogue) : Type 0 where
   pub global : new.global ≡ old.global
   pub kept : new.kept ≡ old.kept
 
+-- a snapshot has these very tables, this global condition and this kept world
+pub record HasOwn (tables : List TableView) (global : ℕ) (kept : World) (s : Snapshot) : Type 0 where
+  pub tables_are : arc_value s.db ≡ tables
+  pub global_is : s.global ≡ global
+  pub kept_is : arc_value s.kept ≡ kept
+
 -- a snapshot is that of all commits of these words
 pub record IsNewest (words : List ℕ) (s : Snapshot) : Type 0 where
   pub version : s.version ≡ length (commits_of words)

@@ -8,7 +8,7 @@ use Rattle.ct_query.specs.declared.action.Read.{Read}
 use Rattle.ct_query.specs.declared.action.Read.TheVariants as read
 use Rattle.ct_query.specs.Terms.{change_terms}
 use Rattle.ct_table.specs.Denotes.{IsTermFor}
-use Rattle.ct_table.specs.Terms.{IsNoColumn}
+use Rattle.ct_operators.specs.Terms.{IsNoColumn}
 
 -- what a change writes
 abbrev pub written_by : PlainChange → Read

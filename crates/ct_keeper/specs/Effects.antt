@@ -15,8 +15,8 @@ use Rattle.ct_history.specs.declared.written.Written.{Written}
 use Rattle.ct_history.specs.declared.written.Written.TheVariants as written
 use Rattle.ct_table.specs.Denotes.{TableView, find_table, with_table}
 use Rattle.ct_table.specs.Pending.{FitsGrowth, after}
-use Rattle.ct_table.specs.Tables.{IsRow, AreRows, cells_of, value_of_rows}
-use Rattle.ct_table.specs.Terms.{TermOfRows, RowsFrom, IsNoColumn}
+use Rattle.ct_operators.specs.Tables.{IsRow, AreRows, cells_of, value_of_rows}
+use Rattle.ct_operators.specs.Terms.{TermOfRows, RowsFrom, IsNoColumn}
 use Rattle.ct_keeper.specs.declared.effects.Effect.{Effect}
 use Rattle.ct_keeper.specs.declared.effects.Effect.TheVariants as effect
 

@@ -1,7 +1,7 @@
 -- Why the keeper made no commit.
 use Rattle.std.specs.Prelude.{Bool, true, false, Result, Err}
-use Rattle.ct_table.specs.declared.error.TableError.{TableError}
-use Rattle.ct_table.specs.declared.error.TableError.TheVariants as table
+use Rattle.ct_operators.specs.declared.error.TableError.{TableError}
+use Rattle.ct_operators.specs.declared.error.TableError.TheVariants as table
 use Rattle.ct_keeper.specs.declared.error.KeeperError.{KeeperError}
 use Rattle.ct_keeper.specs.declared.error.KeeperError.TheVariants as fault
 

@@ -3,6 +3,7 @@ pub mod Effects
 pub mod Doing
 pub mod Catalogue
 pub mod Offers
+pub mod Writers
 pub mod Latest
 pub mod Conflicting
 pub mod Faults

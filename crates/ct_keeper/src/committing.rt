@@ -10,8 +10,8 @@ ghost use Rattle.ct_condition.specs.Writes.{charge};
 ghost use Rattle.ct_history.specs.Written.{IsWritten, plain_written};
 ghost use Rattle.ct_table.specs.Denotes.{heading_of};
 ghost use Rattle.ct_table.specs.Pending.{FitsGrowth, after};
-ghost use Rattle.ct_table.specs.Refusals as refusals;
-ghost use Rattle.ct_table.specs.Tables.{AreRows};
+ghost use Rattle.ct_operators.specs.Refusals as refusals;
+ghost use Rattle.ct_operators.specs.Tables.{AreRows};
 ghost use Rattle.ct_keeper.specs.Bounds.{all_words};
 ghost use Rattle.ct_keeper.specs.Effects.{DoesChange, FitsEffect, effect_words};
 ghost use Rattle.ct_keeper.specs.Faults.{is_full};
@@ -193,8 +193,7 @@ fn grow<N: Site>(
     }
 }
 
-/// Commits the one change of a list. The table that it makes is put into the list of the tables, in place where nobody else
-/// holds the list.
+/// Commits the one change of a list.
 ///
 /// # Errors
 /// `Full` where the log has no room for a condition or for the commit word, `Memory`.

@@ -1,13 +1,13 @@
 // Whether a commit after the base of an offer has changed what it read.
 
-ghost use Rattle.std.specs.Prelude.{◌≡◌, ◌<◌, ◌^◌, length, IfOk, MatchOption};
+ghost use Rattle.std.specs.Prelude.{◌≡◌, ℕ, List, IfOk, MatchOption};
 ghost use Rattle.ct_word.specs.Reading.{commits_of};
-ghost use Rattle.ct_word.specs.WellFormed.{IsWellFormed};
 ghost use Rattle.ct_keeper.specs.Conflicting.{IsConflictAfter};
+ghost use Rattle.ct_keeper.specs.Latest.{IsLatest};
 ghost use Rattle.ct_keeper.specs.Offers.{AreUnchanged};
 
-use crate::catalogue::Outcome;
-use ct_history::last;
+use crate::latest::Latest;
+use crate::verdict::Verdict;
 use ct_query::Read;
 use ct_word::Memory;
 
@@ -24,36 +24,26 @@ fn copied(read: &Read) -> Result<Read, Memory>
     }
 }
 
-/// The conflict with the first of these reads that a commit after the base has changed, if there is one. So many
-/// commits as `version` says stand in the words.
+/// The conflict with the first of these reads that a commit after the base has changed, if there is one. The words are
+/// not gone over.
 ///
 /// # Errors
 /// `Memory` where there is none for a copy of the read.
-pub fn conflict_of(
-    words: &[u64],
-    version: u32,
-    base: u32,
-    reads: &[Read],
-) -> Result<Option<Outcome>, Memory>
-    requires formed { IsWellFormed words.now }
-    requires short { length words.now < 2 ^ 28 }
-    requires version { version ≡ length (commits_of words.now) }
-    ensures { IfOk result (λ found. MatchOption found (AreUnchanged (commits_of words.now) base reads.now) (IsConflictAfter (commits_of words.now) base reads.now)) }
+pub fn conflict_of(latest: &Latest, base: u32, reads: &[Read]) -> Result<Option<Verdict>, Memory>
+    ensures { (words : List ℕ) → IsLatest words latest.now → IfOk result (λ found. MatchOption found (AreUnchanged (commits_of words) base reads.now) (IsConflictAfter (commits_of words) base reads.now)) }
 {
     // A commit after the base is wanted, and there is none: nothing that was read can have changed.
-    if base == version {
+    if base == latest.version {
         return Ok(None);
     }
     for read in reads {
-        let now = last(words, version, read);
+        let now = latest.writers.last(read);
         if base < now {
             let table = copied(read)?;
-            let was = last(words, base, read);
-            return Ok(Some(Outcome::Conflict {
+            return Ok(Some(Verdict::Conflict {
                 table,
-                was,
                 now,
-                at: version,
+                at: latest.version,
             }));
         }
     }

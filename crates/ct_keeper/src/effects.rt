@@ -12,8 +12,8 @@ ghost use Rattle.ct_history.specs.Rows.{IsRowOf};
 ghost use Rattle.ct_history.specs.Written.{IsWritten, plain_written};
 ghost use Rattle.ct_table.specs.Denotes.{find_table, heading_of};
 ghost use Rattle.ct_table.specs.Pending.{FitsGrowth, after};
-ghost use Rattle.ct_table.specs.Refusals.{is_full};
-ghost use Rattle.ct_table.specs.Tables.{AreRows};
+ghost use Rattle.ct_operators.specs.Refusals.{is_full};
+ghost use Rattle.ct_operators.specs.Tables.{AreRows};
 ghost use Rattle.ct_table.specs.declared.pending.Growth.TheVariants as growth;
 ghost use Rattle.ct_keeper.specs.Effects.{AreInserted, AreSpared, DoesChange, FitsEffect, Gets, IsNarrowed, effect_words, rows_found};
 

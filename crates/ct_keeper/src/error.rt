@@ -10,7 +10,7 @@ use ct_word::Memory;
 use std::alloc::{AllocError, AllocFailed};
 use thiserror::Error;
 
-/// Why the keeper made no commit, though nothing that was read has changed.
+/// Why the keeper made no commit.
 #[derive(Clone, Copy, Debug, PartialEq, Eq, Error)]
 pub enum KeeperError {
     /// The log has as many words as its capacity.

@@ -7,7 +7,7 @@ use crate::tables::Tables;
 use ct_table::Growth;
 use std::alloc::Global;
 
-/// The tables after a growth. Their list changes in place where nobody else holds it.
+/// The tables after a growth.
 ///
 /// # Errors
 /// The tables as they were, where there is no memory.

@@ -12,6 +12,8 @@ mod latest;
 mod offering;
 mod server;
 mod tables;
+mod verdict;
+mod writers;
 
 pub use catalogue::{Offer, Outcome, Snapshot};
 pub use effects::{Effect, effect_of};

@@ -9,34 +9,29 @@ ghost use Rattle.ct_word.specs.WellFormed.{is_place_of};
 ghost use Rattle.ct_arena.specs.Seen.{pass_of};
 ghost use Rattle.ct_condition.specs.Writes.{charge};
 ghost use Rattle.ct_history.specs.Written.{IsWritten, plain_written};
+ghost use Rattle.indexmap.specs.IndexMap.{spare};
+ghost use Rattle.ct_query.specs.Reads.{writes};
+ghost use Rattle.ct_query.specs.declared.action.Read.{Read};
 ghost use Rattle.ct_keeper.specs.Bounds.{all_words, offer_words};
+ghost use Rattle.ct_keeper.specs.Conflicting.{told_or};
 ghost use Rattle.ct_keeper.specs.Faults.{is_full};
 ghost use Rattle.ct_keeper.specs.Latest.{IsLatest, catalogue_of};
 ghost use Rattle.ct_keeper.specs.Offers.{IsOffer, IsUnchanged, BecomesOf};
 ghost use Rattle.ct_keeper.specs.Steps.{Interns, Appends, IsMade, CanApply, is_assertion};
+ghost use Rattle.ct_keeper.specs.Writers.{is_written};
 
-use crate::catalogue::{Offer, Outcome};
+use crate::catalogue::Offer;
 use crate::committing::{commit_all, commit_one};
 use crate::conflicts::conflict_of;
 use crate::error::KeeperError;
 use crate::latest::{Content, Latest};
+use crate::verdict::Verdict;
+use crate::writers::{asserts, written_names};
 use ct_arena::{Arena, Guest, KeeperPass, Site};
-use ct_history::{Written, changes_at};
-use ct_word::{List, Memory, World};
+use ct_history::Written;
+use ct_word::{List, Memory, Text, World};
 use std::alloc::Global;
 use std::sync::Arc;
-
-/// Whether one of these changes is an assertion.
-fn asserts(changes: &[Written]) -> bool
-    ensures { result ≡ list_any is_assertion changes.now }
-{
-    for change in changes {
-        if let Written::Assert { .. } = change {
-            return true;
-        }
-    }
-    false
-}
 
 /// A copy of a world.
 ///
@@ -75,7 +70,7 @@ fn next_kept(
     }
 }
 
-/// Commits the changes of a list: one on the list of the tables that is there, several on a copy of it.
+/// Commits the changes of a list.
 ///
 /// # Errors
 /// `Full` where the log has no room for a condition or for the commit word, `Memory`.
@@ -105,7 +100,7 @@ fn commit_list<N: Site>(
     }
 }
 
-/// Commits an offer of which no read has changed.
+/// Commits an offer of which no read has changed, and notes it for the tables that it changes, whose names these are.
 ///
 /// # Errors
 /// `Full` where the log has no room for a condition or for the commit word, `Memory`.
@@ -117,6 +112,7 @@ fn commit_offer<N: Site>(
     latest: &mut Latest,
     offer: &Offer,
     changes: &[Written],
+    names: Vec<Text>,
 ) -> Result<(), KeeperError>
     requires guest { keeper.old.guest ≡ Some guest.old }
     requires few { guest.old.mine < 2 ^ 18 }
@@ -125,6 +121,8 @@ fn commit_offer<N: Site>(
     requires unchanged { IsUnchanged keeper.old.words offer.now }
     requires written { All (IsWritten keeper.old.words) changes.now }
     requires changes { map (plain_written keeper.old.words) changes.now ≡ change_list_at keeper.old.words offer.now.changes }
+    requires names { (r : Read) → is_written names.items (list_any is_assertion changes.now) r ≡ list_any (λ x. writes x r) (map (plain_written keeper.old.words) changes.now) }
+    requires room { length names.items ≤ spare latest.old.writers.tables }
     ensures appends { OnOk result (Appends offer.now.changes keeper.old guest.old keeper.new guest.new) }
     ensures latest { OnOk result (IsLatest keeper.new.words latest.new) }
     ensures interns { OnErr result (Interns keeper.old guest.old keeper.new guest.new) }
@@ -139,26 +137,30 @@ fn commit_offer<N: Site>(
     commit_list(alloc, arena, keeper, guest, content, changes, offer.changes)?;
     latest.kept = kept;
     latest.version += 1;
+    latest.writers.note(names, asserts(changes), latest.version);
     Ok(())
 }
 
-/// What becomes of an offer of the guest.
+/// What becomes of an offer of the guest, whose changes these are.
 ///
 /// # Errors
 /// `Full` where the log has no room for a condition of the new tables or for the commit word, `Memory`.
-pub fn outcome_of<N: Site>(
+pub fn verdict_on<N: Site>(
     alloc: Global,
     arena: &Arena<N>,
     keeper: &mut KeeperPass<N>,
     guest: &mut Guest<N>,
     latest: &mut Latest,
     offer: &Offer,
-) -> Result<Outcome, KeeperError>
+    changes: &[Written],
+) -> Result<Verdict, KeeperError>
     requires guest { keeper.old.guest ≡ Some guest.old }
     requires few { guest.old.mine < 2 ^ 18 }
     requires latest { IsLatest keeper.old.words latest.old }
     requires offer { IsOffer (pass_of guest.old keeper.old.words) offer.now }
-    ensures outcome { BecomesOf N.log.cap (catalogue_of keeper.old latest.old) (catalogue_of keeper.new latest.new) (pass_of guest.old keeper.old.words) (pass_of guest.new keeper.new.words) offer.now result }
+    requires written { All (IsWritten keeper.old.words) changes.now }
+    requires changes { map (plain_written keeper.old.words) changes.now ≡ change_list_at keeper.old.words offer.now.changes }
+    ensures verdict { BecomesOf N.log.cap (catalogue_of keeper.old latest.old) (catalogue_of keeper.new latest.new) (pass_of guest.old keeper.old.words) (pass_of guest.new keeper.new.words) offer.now (told_or (commits_of keeper.old.words) offer.now.base result) }
     ensures latest { IsLatest keeper.new.words latest.new }
     ensures guest { keeper.new.guest ≡ Some guest.new }
     ensures enrolled { keeper.new.enrolled ≡ keeper.old.enrolled }
@@ -167,15 +169,16 @@ pub fn outcome_of<N: Site>(
     ensures longer { IsPrefix keeper.old.words keeper.new.words }
     ensures words { guest.new.made + charge (is_full result) ≤ guest.old.made + offer_words keeper.old.words (pass_of guest.old keeper.old.words) offer.now }
 {
-    let changes = changes_at(alloc, keeper.words(), offer.changes)?;
+    // The words are well formed, also where nothing is committed.
+    let _ = keeper.words();
     if changes.is_empty() {
-        return Ok(Outcome::Nothing);
+        return Ok(Verdict::Nothing);
     }
-    let reads = offer.reads.as_slice();
-    if let Some(conflict) = conflict_of(keeper.words(), latest.version, offer.base, reads)? {
+    if let Some(conflict) = conflict_of(latest, offer.base, offer.reads.as_slice())? {
         return Ok(conflict);
     }
-    let changes = changes.as_slice();
-    commit_offer(alloc, arena, keeper, guest, latest, offer, changes)?;
-    Ok(Outcome::Committed(latest.version))
+    let names = written_names(alloc, changes)?;
+    latest.writers.reserve(names.len())?;
+    commit_offer(alloc, arena, keeper, guest, latest, offer, changes, names)?;
+    Ok(Verdict::Committed(latest.version))
 }

@@ -18,14 +18,16 @@ ghost use Rattle.ct_keeper.specs.Served.{first_pass, IsOutcome};
 use crate::catalogue::{Offer, Outcome, Snapshot};
 use crate::error::KeeperError;
 use crate::keeper::Keeper;
+use crate::verdict::outcome_of;
 use ct_arena::{Arena, Blank, Log, Pass, Site};
+use ct_history::changes_at;
 use ct_word::Memory;
 use std::alloc::Global;
 use std::hint::spin_loop;
 use std::sync::{Mutex, MutexGuard, Wait};
 
-/// How often a session looks for the lock before it sleeps. The lock is held for some microseconds, and to be woken takes
-/// many times as long.
+/// How often a session looks for the lock before it sleeps. It was measured to be held for some microseconds, and to be
+/// woken takes many times as long.
 const LOOKS: u32 = 1_000;
 
 /// The log that N names, and its keeper behind a lock. Whoever takes the lock finds a keeper whose type holds, and nothing
@@ -98,8 +100,8 @@ impl<N: Site> Server<N> {
         self.locked(rt).begin(alloc, &self.arena, pass)
     }
 
-    /// Commits an offer of the session of this pass. It waits for the lock. What others appended is read before the lock is
-    /// asked for.
+    /// Commits an offer of the session of this pass. It waits for the lock. What others appended and the list of changes are
+    /// read before the lock is asked for, and a conflict's last writer at the base is looked for once it is free again.
     ///
     /// The outcome is `Nothing` exactly where the offer has no changes; `Conflict` exactly where it has some, and a commit
     /// after its base has changed what it read; else `Committed`: it is then the last commit of the pass's words.
@@ -123,7 +125,16 @@ impl<N: Site> Server<N> {
         ensures fewer { IsErrOf result.1 fault.Full → result.0.made < pass.made + offer_words result.0.words pass offer.now }
     {
         pass.catch_up(&self.arena);
-        self.locked(rt).commit(alloc, &self.arena, pass, offer)
+        let changes = match changes_at(alloc, pass.words(), offer.changes) {
+            Ok(changes) => changes,
+            Err(_) => return (pass, Err(KeeperError::Memory)),
+        };
+        let changes = changes.as_slice();
+        let (pass, verdict) = self
+            .locked(rt)
+            .judge(alloc, &self.arena, pass, offer, changes);
+        let outcome = outcome_of(verdict, pass.words(), offer.base);
+        (pass, outcome)
     }
 
     /// The whole log, once each session gave its pass back. It takes no memory and waits for nobody.

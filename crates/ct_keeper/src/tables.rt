@@ -82,7 +82,7 @@ impl Tables {
         shared
     }
 
-    /// The tables for this owner alone: those that are here, where nobody else holds them, else a copy.
+    /// The tables for this owner alone. They are copied where somebody else holds them.
     ///
     /// # Errors
     /// The tables as they were, where there is no memory for the copy.
@@ -104,7 +104,7 @@ impl Tables {
 }
 
 impl Held {
-    /// The tables, held alone or shared, and one more hold of them, for which they are shared where they were not.
+    /// The tables, and one more hold of them.
     ///
     /// # Errors
     /// `Memory` where there is none to share them.

@@ -128,14 +128,19 @@ impl Links {
     ///
     /// # Errors
     /// `AllocError` where there is no memory; the rows are as they were.
-    pub(crate) fn replace(&mut self, alloc: Global, place: u32, row: CRow) -> Result<(), AllocError>
+    pub(crate) fn replace(
+        &mut self,
+        alloc: Global,
+        place: u32,
+        row: Arc<CRow, Global>,
+    ) -> Result<(), AllocError>
         requires place { place < length self.old.entries }
-        requires cells { get_or (keys_of self.old.entries) place [] ≡ row.cells }
-        ensures put { OnOk result (self.new ≡ record { slots = self.old.slots; entries = set self.old.entries place (row.cells, row.cond) }) }
+        requires cells { get_or (keys_of self.old.entries) place [] ≡ row.value.cells }
+        ensures put { OnOk result (self.new ≡ record { slots = self.old.slots; entries = set self.old.entries place (row.value.cells, row.value.cond) }) }
         ensures same { OnErr result (self.new ≡ self.old) }
     {
         let below = self.nodes.at(place as usize).below();
-        let node = Node::new(Arc::new(alloc, row)?, below);
+        let node = Node::new(row, below);
         self.nodes.set(alloc, place as usize, node)?;
         Ok(())
     }

@@ -61,28 +61,28 @@ impl Rows {
     ///
     /// # Errors
     /// `AllocError` where there is no memory, or where there are 2^32 - 1 rows; the rows are as they were.
-    fn push(&mut self, alloc: Global, row: CRow) -> Result<(), AllocError>
-        requires new { spec.find row.cells self.old ≡ None }
-        ensures put { OnOk result (self.new ≡ self.old ++ (row.cells, row.cond) ∷ []) }
+    pub fn push(&mut self, alloc: Global, row: Arc<CRow, Global>) -> Result<(), AllocError>
+        requires new { spec.find row.value.cells self.old ≡ None }
+        ensures put { OnOk result (self.new ≡ self.old ++ (row.value.cells, row.value.cond) ∷ []) }
         ensures same { OnErr result (self.new ≡ self.old) }
     {
         if self.links.slots() <= self.links.len() as usize / 2 {
             self.links = self.links.spread(alloc)?;
         }
-        self.links.push(alloc, Arc::new(alloc, row)?)
+        self.links.push(alloc, row)
     }
 
-    /// Puts a condition at cells: in the row that has them, or in a new one, which stands last.
+    /// Puts a row in the place of the one that has its cells, or last where none has them.
     ///
     /// # Errors
     /// `AllocError` where there is no memory, or where there are 2^32 - 1 rows; the rows are as they were.
-    pub fn put(&mut self, alloc: Global, cells: List<u32>, cond: u32) -> Result<(), AllocError>
-        ensures put { OnOk result (self.new ≡ spec.put self.old cells cond) }
+    pub fn put(&mut self, alloc: Global, row: Arc<CRow, Global>) -> Result<(), AllocError>
+        ensures put { OnOk result (self.new ≡ spec.put self.old row.value.cells row.value.cond) }
         ensures same { OnErr result (self.new ≡ self.old) }
     {
-        match self.links.place_of(cells.as_slice()) {
-            Some(place) => self.links.replace(alloc, place, CRow { cells, cond }),
-            None => self.push(alloc, CRow { cells, cond }),
+        match self.links.place_of(row.cells.as_slice()) {
+            Some(place) => self.links.replace(alloc, place, row),
+            None => self.push(alloc, row),
         }
     }
 }

@@ -8,3 +8,5 @@ pub mod Between
 pub mod Complete
 pub mod Unlawful
 pub mod Accepted
+pub mod SmallLog
+pub mod AcceptedAnswers

@@ -1,35 +1,45 @@
 -- Closed tests: replies that no log makes lawful. A text may be read as any statement of the reply's kind.
 use Rattle.std.proofs.Common.{◌≡◌, ℕ, ◌≤◌, List, [], ◌∷◌, refl, sym, subst, ap, ◌∙◌, arith, inl, inr}
-use Rattle.std.specs.Prelude.{Bool, true, false, pos, codes, All, Some, None, if◌then◌else◌}
+use Rattle.std.specs.Prelude.{◌<◌, ◌++◌, Bool, true, false, pos, codes, All, Some, None, Ok, Err, is_ok, slice_get, if◌then◌else◌}
 use Rattle.std.proofs.lemmas.Bool.{false≢true}
 use Rattle.std.proofs.lemmas.Option.{none-some}
 use Rattle.ct_word.specs.declared.values.Value.TheVariants as val
 use Rattle.ct_word.specs.declared.values.Null.TheVariants as null
 use Rattle.ct_word.specs.declared.values.Term.{Term}
 use Rattle.ct_word.specs.declared.values.Term.TheVariants as term
-use Rattle.ct_word.specs.Value.{same_text}
+use Rattle.ct_word.specs.Value.{World, same_text}
 use Rattle.ct_word.specs.Condition.{True, Same}
 use Rattle.ct_word.specs.Sublist.{IsSublist, ended, left_out, taken}
-use Rattle.ct_word.specs.Change.{PlainChange, PlainCommit, Create, Assert}
+use Rattle.ct_word.specs.Change.{PlainChange, PlainCommit, Create, Insert, Assert}
 use Rattle.ct_word.proofs.Splits.{some-injective}
 use Rattle.ct_query.specs.Plain.{PlainQuery, PlainAction, PlainStatement}
 use Rattle.ct_query.specs.Plain as plain
+use Rattle.ct_query.specs.declared.action.Ask.TheVariants as ask
 use Rattle.ct_query.specs.declared.action.Read.TheVariants as read
 use Rattle.ct_query.specs.Database.{Database, has_tuple}
 use Rattle.ct_query.specs.Reads.{last as last_of}
 use Rattle.ct_query.specs.Bounds.{bound}
 use Rattle.ct_query.specs.Rows.{rows}
+use Rattle.ct_query.specs.Schema.{schema}
+use Rattle.ct_query.specs.Worlds.{admits}
 use Rattle.ct_query.specs.Patterns.{query_pattern, no_patterns, pattern, count}
+use Rattle.ct_parse.specs.declared.tree.Statement.{Statement}
+use Rattle.ct_parse.specs.declared.tree.Statement.TheVariants as statement
+use Rattle.ct_resolve.specs.declared.error.ResolveError.TheVariants as name
+use Rattle.ct_resolve.specs.Statements.{resolved}
 use Rattle.ct_derivation.specs.declared.steps.Proof.{Proof}
 use Rattle.ct_rewrite.specs.declared.answer.Node.TheVariants as node
 use Rattle.ct_rewrite.specs.declared.answer.PossibleRow.{PossibleRow}
 use Rattle.ct_rewrite.specs.declared.answer.CertainRow.{CertainRow}
+use Rattle.ct_transcript.specs.Means.{Means}
 use Rattle.ct_transcript.specs.Possible.{PossibleRight}
 use Rattle.ct_transcript.specs.Certain.{CertainRight}
 use Rattle.ct_transcript.specs.declared.reply.Answer.{Answer}
 use Rattle.ct_transcript.specs.declared.reply.Reply.TheVariants as reply
 use Rattle.ct_transcript.specs.declared.reply.Refusal.TheVariants as refusal
-use Rattle.ct_session.specs.State.{SessionState, beginning}
+use Rattle.ct_statement.specs.Unmet.{query_in}
+use Rattle.ct_session.specs.Statements.{ReadsAs}
+use Rattle.ct_session.specs.State.{SessionState, beginning, actions_of}
 use Rattle.ct_session.specs.Seeing.{Asks, Sees}
 use Rattle.ct_serve.specs.Sessions.{AreLawful}
 
@@ -157,3 +167,66 @@ module _ (W : List ℕ) (N : ℕ) (text more : List ℕ) (last : SessionState) w
   full_for_begin only l =
       let f = l.1.0 in
       let le : 1 ≤ 0 = subst (λ st. 1 ≤ bound (count [] f.actions) None st) (only 0 f.actions f.statement f.asks) f.makes_words in omega (arith, le)
+
+  -- a conflict without a cause: nothing of the history wrote the worlds
+  no_cause : (s : SessionState) → AreLawful created W N s (text ∷ []) (reply.Refused 1 (refusal.Conflict read.Worlds 0 1 1) ∷ []) last → ⊥
+  no_cause s l =
+      let c = l.1.1 in
+      let lt : c.base < 0 = c.first.written in omega (arith, lt)
+
+  -- an assertion that a world satisfies is not inconsistent: ?x = 1, after it was asserted
+  abbrev asserted : List PlainCommit
+  asserted = by 1 (x_is 1) ∷ []
+
+  abbrev x_is_one : PlainStatement
+  x_is_one = plain.Act (plain.Assert (Same (term.Null (null.Named (codes "x"))) one))
+
+  abbrev in_one : World
+  in_one = (null.Named (codes "x"), val.Int (pos 1)) ∷ []
+
+  not_inconsistent : (proof : Proof) → ((actions : List PlainAction) (st : PlainStatement) → Asks asserted (beginning 2) text 1 actions st → st ≡ x_is_one)
+      → AreLawful asserted W N (beginning 2) (text ∷ []) (reply.Refused 1 (refusal.Inconsistent proof) ∷ []) last → ⊥
+  not_inconsistent proof only l =
+      let r = l.1.0 in
+      let none = subst (λ st. admits in_one asserted (r.actions ++ actions_of st) ≡ false) (only r.actions _ r.asks) (r.none_satisfies in_one) in
+      false≢true (sym (subst (λ a. admits in_one asserted (a ++ actions_of x_is_one) ≡ false) r.sees.2 none))
+
+  -- a table that is there is not unknown: `delete from t`, after t was created
+  abbrev deletion : Statement
+  deletion = statement.Delete (codes "t") None
+
+  not_unknown : ((st : Statement) → ReadsAs text st → st ≡ deletion) → AreLawful created W N (beginning 2) (text ∷ []) (reply.Refused 1 refusal.UnknownTable ∷ []) last → ⊥
+  not_unknown only l =
+      let r = l.1.0 in
+      let gives = subst (λ st. resolved (schema created r.actions) 2 0 st ≡ Err name.UnknownTable) (only r.found.statement r.found.reads) r.found.gives in
+      let found : Ok (plain.Act (plain.Delete (codes "t") True)) ≡ Err name.UnknownTable = subst (λ a. resolved (schema created a) 2 0 deletion ≡ Err name.UnknownTable) r.sees.2 gives in
+      false≢true (sym (ap is_ok found))
+
+  -- possible rows without one of them: `possible select a from t`, after (?x) was inserted
+  abbrev filled : List PlainCommit
+  filled = by 1 (Create (codes "t") (codes "a" ∷ [])) ∷ by 2 (Insert (codes "t") (record { cells = term.Null (null.Named (codes "x")) ∷ []; condition = True } ∷ [])) ∷ []
+
+  abbrev all_of_t : PlainQuery
+  all_of_t = plain.Project (0 ∷ []) (plain.Select True (plain.Table (codes "t")))
+
+  row_left_out : ((actions : List PlainAction) (st : PlainStatement) → Asks filled (beginning 3) text 2 actions st → st ≡ plain.Asks ask.Possible (codes "a" ∷ []) all_of_t)
+      → AreLawful filled W N (beginning 3) (text ∷ []) (reply.Possible 2 0 (codes "a" ∷ []) [] ∷ []) last → ⊥
+  row_left_out only l =
+      let r = l.1 in
+      let query = some-injective _ _ (ap query_in (only r.actions _ r.asks)) in
+      let right = subst (λ a. PossibleRight [] all_of_t filled a) r.sees.2 (subst (λ q. PossibleRight [] q filled r.actions) query r.right) in
+      false≢true (right.complete [] (val.Other 0 ∷ []) refl)
+
+  -- an answer that every valuation is allowed for, after ?x = 1 was asserted
+  all_worlds : AreLawful asserted W N (beginning 2) (text ∷ []) (reply.Rows 1 0 no_rows ∷ []) last → ⊥
+  all_worlds l =
+      let r = l.1 in
+      let means = subst (λ a. Means no_rows r.query asserted a) r.sees.2 r.means in
+      false≢true (sym (means []).worlds)
+
+  -- another session's commit
+  not_own : AreLawful asserted W N (beginning 2) (text ∷ []) (reply.Committed 1 ∷ []) last → ⊥
+  not_own (next, inl r, rest) = of_one r.commit r.stands.1 r.session where
+    of_one : (c : PlainCommit) → slice_get asserted 0 ≡ Some c → c.session ≡ 2 → ⊥
+    of_one c s e = let two : 1 ≡ 2 = ap (λ d. d.session) (some-injective _ _ s) ∙ e in omega (arith, two)
+  not_own (next, inr r, rest) = none-some r.transaction r.is_open

@@ -26,8 +26,8 @@ use std::thread::Threads;
 /// The transcript of the sessions of files, on a log of this many words.
 ///
 /// # Errors
-/// The first file at fault decides: `ReadFault` only where the source failed, `Script` only where the file is no script.
-/// `Memory` comes for want of memory.
+/// `ReadFault` only where the source failed. Where the source tells what it holds, the first file at fault decides, and
+/// `Script` comes only where it is no script. `Memory` comes for want of memory.
 fn served<R: Threads + Wait + Sync, S: Scripts, G: Gate + Sync>(
     rt: &R,
     alloc: Global,
@@ -93,19 +93,22 @@ fn run_files<R: Threads + Wait + Sync, S: Scripts, K: Sink, G: Gate + Sync>(
 /// Runs what the words ask for, as `asked` of `ct_words` understands them:
 /// - `run [--arena N] FILE...` runs a session for each of 1 to 64 files, on a log of N words of 64 bits, from 64 to
 ///   1,048,576, or of 262,144 without `--arena`, and writes their transcript. A file that is named twice has two sessions.
-///   The files are asked in their order, once for each name;
+///   The source is asked for the files in their order, once for each name;
 /// - `fill N`, with N from 1 to 2,000, runs the sessions of the four scripts that `ct_fill` makes with N, on a log of
 ///   262,144 words, and writes the summary of their transcript. The source is not asked, so neither `ReadFault` nor
 ///   `Script` comes.
 ///
-/// There is one write for each line. The gate is called round each statement, on its session's thread, and may wait.
-/// Sessions run on threads, so their commits come in any order.
+/// There is one write for each line. What is said here of what the source holds and was asked is promised where it tells
+/// this, and so with what the sink took.
+///
+/// Sessions run on threads, so their commits come in any order. The gate is called round each statement, on its session's
+/// thread, and may wait. No clause is on the threads and on the gate.
 ///
 /// A script has at most 1,048,576 bytes, is in UTF-8, and has at most 65,535 statements. The status is
 /// - `Words` exactly where the words are not understood; then the source is not asked;
-/// - `ReadFault` only where the source failed, and counted it: at the last file that was asked. Where the source tells
-///   what it holds, the files before that one are scripts;
-/// - `Script` only where, if the source tells what it holds, one of the files is no script, and those before it are;
+/// - `ReadFault` only where the source failed, and counted it: at the last file that was asked. The files before that one
+///   are scripts;
+/// - `Script` only where one of the files is no script, and those before it are;
 /// - `WriteFault` only where the sink failed, and counted it: the lines before the one at fault were written, and a
 ///   prefix of that one;
 /// - `Done` where every reply was made and every line written, and no reply is a refusal;

@@ -83,8 +83,8 @@ fn as_scripts(alloc: Global, texts: Vec<Vec<u8>>) -> Result<Vec<Text>, Unserved>
 /// The scripts of the files, in their order.
 ///
 /// # Errors
-/// The first file at fault decides: `ReadFault` only where the source failed, and `Script` only where the file is no
-/// script. `Memory` comes for want of memory.
+/// `ReadFault` only where the source failed. Where the source tells what it holds, the first file at fault decides, and
+/// `Script` comes only where it is no script. `Memory` comes for want of memory.
 pub(crate) fn scripts_of<S: Scripts>(
     alloc: Global,
     source: &mut S,

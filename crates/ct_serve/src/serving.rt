@@ -41,8 +41,7 @@ fn clients_of<N: Site>(
     Ok(clients)
 }
 
-/// Executes the script of each client on a thread of its own. Where no thread can be made, they are executed one after
-/// another.
+/// Executes the script of each client, on a thread of its own where threads can be made, and else one after another.
 fn execute_all<N: Site + Send + Sync, R: Threads + Wait + Sync, G: Gate + Sync>(
     rt: &R,
     alloc: Global,
@@ -137,7 +136,7 @@ fn serve_named<N: Site + Send + Sync, R: Threads + Wait + Sync, G: Gate + Sync>(
 /// Runs a session for each script, from 1 to 64 of them, each on a thread of its own. Their log has room for `cap` words,
 /// from 64 to 4,194,304. A script has at most 65,535 statements. The gate is called round each statement, on the session's
 /// thread, with the number of the session and of the statement, from 1; it may wait. Where no thread can be made, sessions
-/// run one after another, so gates that wait for one another may wait for ever.
+/// run one after another, so gates that wait for one another may wait for ever. No clause is on the threads and on the gate.
 ///
 /// # Errors
 /// `Memory` where there is none for the log or for the lists of statements, replies and sessions. A statement that

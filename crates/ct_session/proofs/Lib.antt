@@ -2,6 +2,7 @@ pub mod Own
 pub mod Sameness
 pub mod Going
 pub mod Listed
+pub mod Literal
 pub mod Replies
 pub mod Extended
 pub mod Opened

@@ -10,5 +10,6 @@ pub mod Executes
 pub mod Orders
 pub mod Replying
 pub mod Outcomes
+pub mod Offering
 pub mod Extending
 pub mod Standing

@@ -18,7 +18,9 @@ use Rattle.ct_statement.specs.declared.sight.Sight.{Sight}
 use Rattle.ct_statement.specs.Answered.{Answers}
 use Rattle.ct_statement.specs.Drawing.{drawn}
 use Rattle.ct_statement.specs.Proposals.{IsProposal, IsStep}
+use Rattle.ct_statement.specs.Sources.{is_literal}
 use Rattle.ct_statement.specs.Unmet.{IsUnmet}
+use Rattle.ct_history.specs.Encodes.{IsEncodable}
 use Rattle.ct_session.specs.declared.preparing.Prepared.{Prepared}
 use Rattle.ct_session.specs.declared.preparing.Prepared.TheVariants as prepared
 use Rattle.ct_statement.specs.declared.stepping.Step.{Step}
@@ -83,6 +85,16 @@ abbrev pub IsNoPlainOrder : PlainStatement → Type 0
 IsNoPlainOrder (plain.Act a) = Unit {0}
 IsNoPlainOrder (plain.Asks k columns query) = Unit {0}
 IsNoPlainOrder _ = ⊥
+
+-- a statement with positions is an action whose change is all in its text
+abbrev pub IsLiteralAct : PlainStatement → Type 0
+IsLiteralAct (plain.Act a) = is_literal a ≡ true
+IsLiteralAct _ = ⊥
+
+-- a word has room for each number of a statement's action
+abbrev pub IsEncodableAct : PlainStatement → Type 0
+IsEncodableAct (plain.Act a) = IsEncodable a
+IsEncodableAct _ = ⊥
 
 -- whether an action is an assertion
 abbrev pub is_assertion : PlainAction → Bool

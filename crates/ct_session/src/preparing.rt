@@ -1,6 +1,6 @@
 // What a statement asks for, at what it sees.
 
-ghost use Rattle.std.specs.Prelude.{◌≡◌, List, length, IfOk, IfErr, IfSome, IsTrue};
+ghost use Rattle.std.specs.Prelude.{◌≡◌, List, [], None, Ok, length, IfOk, IfErr, IfSome, IsTrue};
 ghost use mathlib.Core.List.{IsPrefix};
 ghost use Rattle.ct_word.specs.declared.kinds.Class.TheVariants as class;
 ghost use Rattle.ct_word.specs.Change.{PlainChange};
@@ -12,11 +12,13 @@ ghost use Rattle.ct_query.specs.Reads.{reads_of};
 ghost use Rattle.ct_query.specs.Schema.{schema};
 ghost use Rattle.ct_query.specs.Views.{action_of, query_of, statement_of};
 ghost use Rattle.ct_query.specs.declared.action.Read.{Read as ReadValue};
+ghost use Rattle.ct_resolve.specs.Statements.{resolved};
 ghost use Rattle.ct_resolve.specs.Writing.{WritesAction, WritesStatement};
 ghost use Rattle.ct_statement.specs.Proposals.{IsProposal, listed};
 ghost use Rattle.ct_statement.specs.Sight.{IsSight, actions_before, history_of};
-ghost use Rattle.ct_statement.specs.Unmet.{IsUnmet};
-ghost use Rattle.ct_session.specs.Prepared.{IsNoOrder, IsNoPlainOrder, IsPrepared, IsPreparedFor, IsRefused, IsStepIf, is_assertion, name_refusal, needs_step};
+ghost use Rattle.ct_statement.specs.Unmet.{IsUnmet, IsWant};
+ghost use Rattle.ct_statement.specs.declared.sight.Sight.{Sight as SightValue};
+ghost use Rattle.ct_session.specs.Prepared.{IsEncodableAct, IsLiteralAct, IsNoOrder, IsNoPlainOrder, IsPrepared, IsPreparedFor, IsRefused, IsStepIf, is_assertion, name_refusal, needs_step};
 ghost use Rattle.ct_session.specs.Statements.{IsWritten};
 ghost use Rattle.ct_session.specs.declared.preparing.Prepared.TheVariants as prepared;
 
@@ -24,7 +26,7 @@ use ct_arena::{Arena, Pass, Site};
 use ct_parse::Statement;
 use ct_query::{Action, Read, Resolved, reads};
 use ct_resolve::{ResolveError, resolve};
-use ct_statement::{Answered, Proposal, Sight, Step, answer_to, propose, step_of};
+use ct_statement::{Answered, Proposal, Sight, Step, answer_to, propose, propose_literal, step_of};
 use ct_transcript::Refusal;
 use ct_word::List;
 use std::alloc::Global;
@@ -153,9 +155,9 @@ fn change<N: Site>(
 /// What a statement with positions asks for that is no BEGIN, COMMIT or ROLLBACK. The pass has the words of it.
 ///
 /// # Errors
-/// `TooLarge`; `Full`; `TooManyTerms`; `Inconsistent`; `Memory`.
+/// One of `TooLarge`, `Full`, `TooManyTerms`, `Inconsistent` and `Memory`, only where its cause holds.
 #[tactic(auto, using(crate::proofs::Resolving::not_begin, crate::proofs::Resolving::not_commit, crate::proofs::Resolving::not_rollback))]
-fn perform<N: Site>(
+pub(crate) fn perform<N: Site>(
     alloc: Global,
     arena: &Arena<N>,
     pass: &mut Pass<N>,
@@ -205,11 +207,82 @@ fn perform<N: Site>(
     }
 }
 
+/// The change of an action that is all in its text, with what it reads. The pass has the words of it.
+///
+/// # Errors
+/// `Full` where the log has no room, `Memory`.
+pub(crate) fn prepare_literal<N: Site>(
+    alloc: Global,
+    arena: &Arena<N>,
+    pass: &mut Pass<N>,
+    fresh: u32,
+    resolved: Resolved,
+) -> Result<(Proposal, List<Read>), Refusal>
+    requires literal { IsLiteralAct (statement_of resolved) }
+    requires encodable { IsEncodableAct (statement_of resolved) }
+    requires writes { WritesStatement (statement_of resolved) }
+    ensures longer { IsPrefix pass.old.words pass.new.words }
+    ensures kept { kept_of pass.new ≡ kept_of pass.old }
+    ensures ok { (s : SightValue) → IsSight pass.old.words s → FitsStatement (schema (history_of pass.old.words s) (actions_before s)).tables (statement_of resolved) → IfOk result (λ p. IsPreparedFor pass.new.words (history_of pass.old.words s) (actions_before s) [] fresh s (statement_of resolved) (prepared.Change p.0 None p.1)) }
+    ensures err { IfErr result (IsWant N.log.cap pass.new.words) }
+{
+    let reads = match reads(alloc, &resolved) {
+        Ok(reads) => reads,
+        Err(_) => {
+            drop(resolved);
+            return Err(Refusal::Memory);
+        }
+    };
+    match resolved {
+        Resolved::Act(action) => match propose_literal(arena, pass, fresh, action) {
+            Ok(proposal) => Ok((proposal, reads)),
+            Err(why) => Err(why),
+        },
+        Resolved::Ask {
+            ask: _ask,
+            columns: _columns,
+            query: _query,
+        } => unreachable!(),
+        Resolved::Begin => unreachable!(),
+        Resolved::Commit => unreachable!(),
+        Resolved::Rollback => unreachable!(),
+    }
+}
+
+/// A statement with positions for its names, at what it sees; it is no BEGIN, COMMIT or ROLLBACK.
+///
+/// # Errors
+/// The first fault of its names and counts; `Memory`.
+pub(crate) fn resolved_at<N: Site>(
+    alloc: Global,
+    pass: &Pass<N>,
+    sight: &Sight,
+    fresh: u32,
+    statement: &Statement,
+) -> Result<Resolved, Refusal>
+    requires sight { IsSight pass.now.words sight.now }
+    requires written { IsWritten statement.now }
+    requires plain { IsNoOrder statement.now }
+    ensures resolves { IfOk result (λ r. resolved (schema (history_of pass.now.words sight.now) (actions_before sight.now)) pass.now.session fresh statement.now ≡ Ok (statement_of r)) }
+    ensures fits { IfOk result (λ r. FitsStatement (schema (history_of pass.now.words sight.now) (actions_before sight.now)).tables (statement_of r)) }
+    ensures writes { IfOk result (λ r. WritesStatement (statement_of r)) }
+    ensures plain { IfOk result (λ r. IsNoPlainOrder (statement_of r)) }
+    ensures err { IfErr result (IsRefused (history_of pass.now.words sight.now) (actions_before sight.now) N.log.cap pass.now.words pass.now.session fresh statement.now) }
+{
+    let session = pass.session();
+    let headings = sight.tables.db().headings();
+    match resolve(alloc, headings, session, fresh, statement) {
+        Ok(resolved) => Ok(resolved),
+        Err(e) => Err(named(e)),
+    }
+}
+
 /// What a statement asks for that is no BEGIN, COMMIT or ROLLBACK. The step of an action is made in a transaction, and for
 /// an assertion. The pass has the words of it.
 ///
 /// # Errors
-/// The first fault of its names and counts; `TooLarge`; `Full`; `TooManyTerms`; `Inconsistent`; `Memory`.
+/// The first fault of its names and counts. Else one of `TooLarge`, `Full`, `TooManyTerms`, `Inconsistent` and `Memory`,
+/// only where its cause holds.
 pub(crate) fn prepare<N: Site>(
     alloc: Global,
     arena: &Arena<N>,
@@ -230,11 +303,9 @@ pub(crate) fn prepare<N: Site>(
     ensures steps { IfOk result (needs_step inside) }
     ensures err { IfErr result (IsRefused (history_of pass.old.words sight.now) (actions_before sight.now) N.log.cap pass.new.words pass.old.session fresh statement.now) }
 {
-    let session = pass.session();
-    let headings = sight.tables.db().headings();
-    let resolved = match resolve(alloc, headings, session, fresh, statement) {
+    let resolved = match resolved_at(alloc, pass, sight, fresh, statement) {
         Ok(resolved) => resolved,
-        Err(e) => return Err(named(e)),
+        Err(why) => return Err(why),
     };
     match perform(alloc, arena, pass, sight, list, fresh, inside, resolved) {
         Ok(prepared) => Ok(prepared),

@@ -120,8 +120,8 @@ impl<N: Site> Session<N> {
         state.pass
     }
 
-    /// Executes one statement text, and gives the reply to it. It waits for nothing but the server's lock. The session has
-    /// fewer than 2^18 commits.
+    /// Executes one statement text, and gives the reply to it. It waits for the server's lock. The session has fewer than
+    /// 2^18 commits.
     ///
     /// The reply is
     /// - `Begun`, `RolledBack`, `Nothing` or `Committed` for BEGIN, ROLLBACK and COMMIT in their places;
@@ -130,10 +130,11 @@ impl<N: Site> Session<N> {
     ///   or in a transaction its base with its own actions;
     /// - `Refused` for the first of these three that holds: `NumberRange`, `NotAStatement` or `TooDeep` where the text is
     ///   read as no statement; `InTransaction` or `NoTransaction`; a name or a count that does not fit. Else only for a
-    ///   cause that holds, in an order that the contract leaves free: `TooLarge` where a part of the query goes through too
-    ///   many rows; `Full` where the log has no room; `TooManyTerms`; `Inconsistent` for an assertion that no admitted
-    ///   valuation satisfies; `Conflict` where a commit after the base has changed what was read. By the contract `Memory`
-    ///   may come in place of any reply.
+    ///   cause that holds, in an order that the contract leaves free: `TooLarge` where the query's size, by the counts of
+    ///   all rows that were ever inserted, is above 1,048,576; `Full` where the log has no room; `TooManyTerms` where the
+    ///   statement asks about more than 64 terms; `Inconsistent` for an assertion that no admitted valuation satisfies;
+    ///   `Conflict` where a commit after the base has changed what was read. By the contract `Memory` may come in place of
+    ///   any reply.
     ///
     /// A refused statement leaves the transaction and the number of the last null as they were, and commits nothing, though
     /// words may have come to the log. There is one exception: `Conflict` ends the transaction.

@@ -14,9 +14,9 @@ use Rattle.ct_query.specs.Plain.{PlainQuery, PlainAction}
 use Rattle.ct_query.specs.Fits.{IsColumnBelow, AreColumnsBelow, AreAllColumnsBelow, FitsRow}
 use Rattle.ct_query.specs.Terms.{condition_terms, all_terms, query_terms, action_terms, change_terms}
 use Rattle.ct_resolve.specs.Writing.{WritesTerm, Writes, WritesQuery, WritesAction}
-use Rattle.ct_table.specs.Terms.{IsNoColumn}
-use Rattle.ct_table.proofs.Reaching.{behind, foremost, first_or_behind}
-use Rattle.ct_table.proofs.Naming.{row_terms}
+use Rattle.ct_operators.specs.Terms.{IsNoColumn}
+use Rattle.ct_operators.proofs.Reaching.{behind, foremost, first_or_behind}
+use Rattle.ct_operators.proofs.Naming.{row_terms}
 use Rattle.ct_statement.proofs.Members.{unflat, passes, all_pass}
 
 -- a condition whose terms are no columns but those below a position

@@ -21,14 +21,14 @@ use Rattle.ct_query.specs.Terms.{term_count}
 use Rattle.ct_query.specs.declared.action.Ask.{Ask}
 use Rattle.ct_query.specs.declared.action.Ask.TheVariants as ask
 use Rattle.ct_query.proofs.Sublists.{sublist_of_sublist}
-use Rattle.ct_table.specs.declared.table.CTable.{CTable}
+use Rattle.ct_operators.specs.declared.table.CTable.{CTable}
 use Rattle.ct_table.specs.Counting.{count_of}
 use Rattle.ct_table.specs.Denotes.{TableView, IsKept, Denotes}
 use Rattle.ct_table.specs.Snapshot.{IsGlobal}
-use Rattle.ct_table.specs.Tables.{cells_of, value_of_rows, AreRows}
+use Rattle.ct_operators.specs.Tables.{cells_of, value_of_rows, AreRows}
 use Rattle.ct_table.proofs.ByTables.{cells_found, found-cons, rows_in_found, tables_counted, answered_by_tables, pattern_by_tables}
 use Rattle.ct_table.proofs.QuerySizes.{size_grows}
-use Rattle.ct_table.proofs.Reaching.{rows_wider}
+use Rattle.ct_operators.proofs.Reaching.{rows_wider}
 use Rattle.ct_table.proofs.Snapshots.{global_grows}
 use Rattle.ct_algebra.specs.Evaluates.{limit, Evaluates}
 use Rattle.ct_algebra.specs.Operands.{AreTables, cells_in}

@@ -12,4 +12,5 @@ pub mod TermSources
 pub mod Sights
 pub mod Proposed
 pub mod Stepped
+pub mod Literal
 pub mod Listed

@@ -4,7 +4,7 @@ use Rattle.std.specs.Prelude.{filter, flat_map}
 use Rattle.std.specs.List.{Contains, list_all, list_any}
 use Rattle.std.proofs.lemmas.Bool.{and_parts, and_from, cases_Bool, false≢true}
 use Rattle.std.proofs.lemmas.List.Elements.{Contains-append_cases}
-use Rattle.ct_table.proofs.Reaching.{behind, foremost, first_or_behind}
+use Rattle.ct_operators.proofs.Reaching.{behind, foremost, first_or_behind}
 
 -- what gives an item
 pub unflat : {X Y : Type 0} (f : X → List Y) (xs : List X) (y : Y) → Contains (flat_map f xs) y → (x : X) × Contains xs x × Contains (f x) y

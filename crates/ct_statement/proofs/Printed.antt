@@ -17,7 +17,7 @@ use Rattle.ct_rewrite.specs.declared.answer.Node.{Node}
 use Rattle.ct_rewrite.specs.declared.answer.AnswerRow.{AnswerRow}
 use Rattle.ct_rewrite.specs.Nodes.{node_condition, IsOrdered, is_position}
 use Rattle.ct_rewrite.specs.History.{plain_row}
-use Rattle.ct_table.specs.Tables.{cells_of, value_of_rows, IsRow, AreRows}
+use Rattle.ct_operators.specs.Tables.{cells_of, value_of_rows, IsRow, AreRows}
 use Rattle.ct_statement.specs.Printed.{printed_row, printed_rows, IsPrinted}
 
 module _ (words : List ℕ) where

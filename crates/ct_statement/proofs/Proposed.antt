@@ -31,11 +31,11 @@ use Rattle.ct_history.specs.Rows.{IsRowOf}
 use Rattle.ct_keeper.specs.Doing.{HasTermsFor, written_by}
 use Rattle.ct_resolve.specs.Writing.{IsNamed, WritesTerm, WritesAction}
 use Rattle.ct_table.specs.Denotes.{by_action}
-use Rattle.ct_table.specs.Tables.{IsRow}
-use Rattle.ct_table.specs.Terms.{TermOfRow}
+use Rattle.ct_operators.specs.Tables.{IsRow}
+use Rattle.ct_operators.specs.Terms.{TermOfRow}
 use Rattle.ct_table.proofs.Changing.{cells_listed}
-use Rattle.ct_table.proofs.Naming.{mapped, given, row_terms, row_reached}
-use Rattle.ct_table.proofs.Reaching.{from_rows, none_of_some}
+use Rattle.ct_operators.proofs.Naming.{mapped, given, row_terms, row_reached}
+use Rattle.ct_operators.proofs.Reaching.{from_rows, none_of_some}
 use Rattle.ct_statement.specs.Asking.{terms_of_query, AnswersQuery}
 use Rattle.ct_statement.specs.Sources.{AreTakenFor}
 use Rattle.ct_statement.proofs.EachTerm.{columns_of, column_in, writes_of, row_fits, row_writes, plain_below}

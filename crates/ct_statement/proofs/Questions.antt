@@ -21,7 +21,7 @@ use Rattle.ct_query.proofs.Sublists.{sublist_of_sublist}
 use Rattle.ct_rewrite.specs.declared.answer.PossibleRow.{PossibleRow}
 use Rattle.ct_rewrite.specs.declared.answer.CertainRow.{CertainRow}
 use Rattle.ct_rewrite.specs.Tidy.{IsTidy}
-use Rattle.ct_table.specs.Tables.{cells_of, value_of_rows}
+use Rattle.ct_operators.specs.Tables.{cells_of, value_of_rows}
 use Rattle.ct_transcript.specs.Possible.{ShowsRow, PossibleRight}
 use Rattle.ct_transcript.specs.Certain.{IsCertain, is_absent, RefutesAbsence, CertainRight}
 use Rattle.ct_certain.specs.Possible as lists

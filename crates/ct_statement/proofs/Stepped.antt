@@ -29,7 +29,7 @@ use Rattle.ct_history.specs.Written.{IsWritten, plain_written}
 use Rattle.ct_resolve.specs.Writing.{WritesAction}
 use Rattle.ct_table.specs.Denotes.{IsTermFor, Denotes, heading_of}
 use Rattle.ct_table.specs.Snapshot.{IsGlobal, IsKeptValue, other, constant, IsKeptWorld}
-use Rattle.ct_table.proofs.Reaching.{foremost}
+use Rattle.ct_operators.proofs.Reaching.{foremost}
 use Rattle.ct_table.proofs.Snapshots.{kept_grows}
 use Rattle.ct_keeper.specs.declared.effects.Effect.{Effect}
 use Rattle.ct_keeper.specs.declared.effects.Effect.TheVariants as effect

@@ -31,9 +31,9 @@ use Rattle.ct_query.proofs.Within.{of_added}
 use Rattle.ct_cnf.specs.Encoding.{AreTermsBelow}
 use Rattle.ct_condition.specs.Terms.{IsNamed, IsNamedInSome}
 use Rattle.ct_table.specs.Denotes.{TableView, IsTermFor, Denotes}
-use Rattle.ct_table.specs.Terms.{RowsFrom}
-use Rattle.ct_table.proofs.Reaching.{behind, foremost, first_or_behind, from_rows}
-use Rattle.ct_table.proofs.Naming.{mapped}
+use Rattle.ct_operators.specs.Terms.{RowsFrom}
+use Rattle.ct_operators.proofs.Reaching.{behind, foremost, first_or_behind, from_rows}
+use Rattle.ct_operators.proofs.Naming.{mapped}
 use Rattle.ct_table.proofs.Denoting.{found_all, found_name}
 use Rattle.ct_table.proofs.Asked.{term_is_asked}
 use Rattle.ct_algebra.specs.Terms.{IsNamedIn, TermOfQuery}

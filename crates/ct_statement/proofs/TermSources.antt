@@ -18,8 +18,8 @@ use Rattle.ct_query.specs.Worlds.{changes_of}
 use Rattle.ct_resolve.specs.Writing.{WritesTerm, WritesAction}
 use Rattle.ct_table.specs.Denotes.{IsTermFor, by_change, by_action}
 use Rattle.ct_table.proofs.Asked.{term_is_asked}
-use Rattle.ct_table.proofs.Naming.{given}
-use Rattle.ct_table.proofs.Reaching.{behind, foremost, first_or_behind}
+use Rattle.ct_operators.proofs.Naming.{given}
+use Rattle.ct_operators.proofs.Reaching.{behind, foremost, first_or_behind}
 use Rattle.ct_statement.specs.Asking.{terms_of_query}
 use Rattle.ct_statement.proofs.EachTerm.{written_in_action, written_in_change}
 use Rattle.ct_statement.proofs.Members.{unflat, passes, left_by, one_of}

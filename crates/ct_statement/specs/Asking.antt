@@ -17,8 +17,8 @@ use Rattle.ct_query.specs.Size.{size}
 use Rattle.ct_query.specs.Bounds.{nodes}
 use Rattle.ct_algebra.specs.Evaluates.{limit}
 use Rattle.ct_query.specs.Terms.{terms_asked}
-use Rattle.ct_table.specs.Tables.{cells_of, value_of_rows, AreRows}
-use Rattle.ct_table.specs.Terms.{RowsFrom}
+use Rattle.ct_operators.specs.Tables.{cells_of, value_of_rows, AreRows}
+use Rattle.ct_operators.specs.Terms.{RowsFrom}
 use Rattle.ct_table.specs.Snapshot.{IsGlobal}
 use Rattle.ct_algebra.specs.declared.error.EvalError.{EvalError}
 use Rattle.ct_algebra.specs.declared.error.EvalError.TheVariants as eval

@@ -5,7 +5,7 @@ use Rattle.ct_word.specs.Value.{World}
 use Rattle.ct_word.specs.Condition.{holds_at}
 use Rattle.ct_word.specs.Reading.{term_at, condition_at}
 use Rattle.ct_rewrite.specs.declared.answer.AnswerRow.{AnswerRow}
-use Rattle.ct_table.specs.Tables.{cells_of, value_of_rows}
+use Rattle.ct_operators.specs.Tables.{cells_of, value_of_rows}
 use Rattle.ct_transcript.specs.declared.reply.Answer.{Answer}
 use Rattle.ct_transcript.specs.Means.{allowed, shown, IsAnswer}
 

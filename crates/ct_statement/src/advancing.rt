@@ -1,6 +1,6 @@
 // What is seen after an action of a transaction.
 
-ghost use Rattle.std.specs.Prelude.{◌≡◌, ◌++◌, ◌∷◌, [], ℕ, List, Option, Some, None, IfOk, IfErr, MatchOption, MatchResult, option_map};
+ghost use Rattle.std.specs.Prelude.{◌≡◌, ◌<◌, ◌++◌, ◌∷◌, [], ℕ, List, Option, Some, None, IfOk, IfErr, MatchOption, MatchResult, option_map, vec_len, vec_capacity};
 ghost use Rattle.std.specs.Arc.{arc_value};
 ghost use Rattle.ct_query.specs.Views.{action_of};
 ghost use Rattle.ct_keeper.specs.Effects.{FitsEffect, global_after, tables_after};
@@ -15,19 +15,24 @@ use ct_word::{Memory, World};
 use std::alloc::Global;
 use std::sync::Arc;
 
-/// A world to be shared, where there is one.
+/// What one more action takes of memory beside the tables: room in the list, and its world, where it has one, to be
+/// shared.
 ///
 /// # Errors
-/// `Memory` where there is none to share it.
-fn shared(alloc: Global, world: Option<World>) -> Result<Option<Arc<World, Global>>, Memory>
-    ensures { IfOk result (λ other. option_map arc_value other ≡ world) }
+/// `Memory` where there is none for both.
+fn provided(
+    alloc: Global,
+    actions: &mut Vec<Action>,
+    world: Option<World>,
+) -> Result<Option<Arc<World, Global>>, Memory>
+    ensures items { actions.new.items ≡ actions.old.items }
+    ensures room { IfOk result (λ other. vec_len actions.new < vec_capacity actions.new) }
+    ensures world { IfOk result (λ other. option_map arc_value other ≡ world) }
 {
+    actions.reserve(1)?;
     match world {
         None => Ok(None),
-        Some(world) => match Arc::new(alloc, world) {
-            Ok(other) => Ok(Some(other)),
-            Err(_) => Err(Memory),
-        },
+        Some(world) => Ok(Some(Arc::new(alloc, world)?)),
     }
 }
 
@@ -54,8 +59,7 @@ fn reached(
     }
 }
 
-/// What is seen after one more action, whose step this is. The list of the tables
-/// changes in place where nobody else holds it.
+/// What is seen after one more action, whose step this is.
 ///
 /// # Errors
 /// What was seen before, where there is no memory.
@@ -67,20 +71,13 @@ pub fn advance(alloc: Global, sight: Sight, action: Action, step: Step) -> Resul
     ensures actions { MatchResult result (λ next. actions_before next ≡ actions_before sight ++ action_of action ∷ []) (λ same. actions_before same ≡ actions_before sight) }
 {
     let mut sight = sight;
-    if sight.actions.reserve(1).is_err() {
-        drop(action);
-        return Err(sight);
-    }
     let Step {
         effect,
         kept: other,
     } = step;
-    let other = match shared(alloc, other) {
-        Ok(other) => other,
-        Err(_) => {
-            drop(action);
-            return Err(sight);
-        }
+    let Ok(other) = provided(alloc, &mut sight.actions, other) else {
+        drop(action);
+        return Err(sight);
     };
     let Sight {
         version,

@@ -30,8 +30,8 @@ use std::alloc::Global;
 /// The table that answers a query under the global condition. The pass has the words of it.
 ///
 /// # Errors
-/// `TooLarge` where a part of the query goes through more than 1,048,576 rows or pairs of rows, `Full` where the log
-/// has no room, `Memory`.
+/// `TooLarge` only where the query's size, by the counts of all rows that were ever inserted, is above 1,048,576; `Full`
+/// only where the log has no room; `Memory`.
 pub(crate) fn answered<N: Site>(
     alloc: Global,
     arena: &Arena<N>,
@@ -61,8 +61,8 @@ pub(crate) fn answered<N: Site>(
 /// The rows that a query has in some world, each with a world that shows it. The pass has the words of the questions.
 ///
 /// # Errors
-/// `TooLarge` where a part of the query goes through more than 1,048,576 rows or pairs of rows, `Full` where the log
-/// has no room, `TooManyTerms` where the statement asks about more than 64 terms, `Memory`.
+/// `TooLarge` only where the query's size, by the counts of all rows that were ever inserted, is above 1,048,576; `Full`
+/// only where the log has no room; `TooManyTerms` only where the statement asks about more than 64 terms; `Memory`.
 pub fn possible_rows<N: Site>(
     alloc: Global,
     arena: &Arena<N>,

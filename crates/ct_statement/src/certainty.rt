@@ -27,9 +27,9 @@ use std::alloc::Global;
 /// questions, over which the refutations are accepted.
 ///
 /// # Errors
-/// `TooLarge` where a part of the query goes through more than 1,048,576 rows or pairs of rows, `Full` where the log
-/// has no room, `TooManyTerms` where the statement asks about more than 64 terms, one more for each column counted,
-/// `Memory`.
+/// `TooLarge` only where the query's size, by the counts of all rows that were ever inserted, is above 1,048,576; `Full`
+/// only where the log has no room; `TooManyTerms` only where the statement asks about more than 64 terms, one more for
+/// each column counted; `Memory`.
 pub fn certain_rows<N: Site>(
     alloc: Global,
     arena: &Arena<N>,

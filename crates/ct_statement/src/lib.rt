@@ -14,7 +14,7 @@ mod sight;
 mod stepping;
 
 pub use advancing::advance;
-pub use proposing::{Proposal, propose};
+pub use proposing::{Proposal, is_literal, propose, propose_literal};
 pub use replying::{Answered, answer_to};
 pub use sight::Sight;
 pub use stepping::{Step, step_of};

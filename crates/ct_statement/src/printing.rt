@@ -4,7 +4,7 @@ ghost use Rattle.std.specs.Prelude.{◌≡◌, ◌<◌, ◌^◌, ◌∷◌, leng
 ghost use Rattle.ct_word.specs.declared.kinds.Class.TheVariants as class;
 ghost use Rattle.ct_word.specs.WellFormed.{IsWellFormed, is_place_of};
 ghost use Rattle.ct_word.specs.Reading.{term_at};
-ghost use Rattle.ct_table.specs.Tables.{AreRows};
+ghost use Rattle.ct_operators.specs.Tables.{AreRows};
 ghost use Rattle.ct_statement.specs.Printed.{printed_rows, IsPrinted};
 
 use ct_rewrite::{AnswerRow, Normal, normal};

@@ -1,6 +1,6 @@
 // The change that a statement proposes.
 
-ghost use Rattle.std.specs.Prelude.{◌≡◌, ◌+◌, ◌<◌, ◌^◌, map, length, IfOk, IfErr, IfSome, IsTrue, OnErr};
+ghost use Rattle.std.specs.Prelude.{◌≡◌, ◌+◌, ◌<◌, ◌^◌, [], true, map, length, IfOk, IfErr, IfSome, IsTrue, OnErr};
 ghost use mathlib.Core.List.{IsPrefix};
 ghost use Rattle.ct_word.specs.declared.kinds.Class.TheVariants as class;
 ghost use Rattle.ct_word.specs.Reading.{change_list_at};
@@ -16,8 +16,9 @@ ghost use Rattle.ct_table.specs.Denotes.{heading_of};
 ghost use Rattle.ct_statement.specs.Drawing.{drawn};
 ghost use Rattle.ct_statement.specs.Proposals.{IsProposal, listed};
 ghost use Rattle.ct_statement.specs.Sight.{IsSight, actions_before, history_of};
-ghost use Rattle.ct_statement.specs.Sources.{AreTakenFor};
-ghost use Rattle.ct_statement.specs.Unmet.{IsUnmet};
+ghost use Rattle.ct_statement.specs.Sources.{AreTakenFor, is_literal};
+ghost use Rattle.ct_statement.specs.Unmet.{IsUnmet, IsWant};
+ghost use Rattle.ct_statement.specs.declared.sight.Sight.{Sight as SightValue};
 
 use crate::asking::answered;
 use crate::drawing::after;
@@ -85,7 +86,8 @@ fn begun<N: Site>(arena: &Arena<N>, pass: &mut Pass<N>, list: Option<u32>) -> Re
 /// The rows that an action takes from its query; none where it has no query. The pass has the words of it.
 ///
 /// # Errors
-/// `TooLarge` where a part of the query goes through too many rows, `Full` where the log has no room, `Memory`.
+/// `TooLarge` only where the query's size, by the counts of all rows that were ever inserted, is above 1,048,576; `Full`
+/// only where the log has no room; `Memory`.
 fn taken_for<N: Site>(
     alloc: Global,
     arena: &Arena<N>,
@@ -115,7 +117,8 @@ fn taken_for<N: Site>(
 /// The change list at a place, or a new one, with the change of an action added. The pass has the words of it.
 ///
 /// # Errors
-/// `TooLarge` where a part of the action's query goes through too many rows, `Full` where the log has no room, `Memory`.
+/// `TooLarge` only where the size of the action's query, by the counts of all rows that were ever inserted, is above
+/// 1,048,576; `Full` only where the log has no room; `Memory`.
 fn added<N: Site>(
     alloc: Global,
     arena: &Arena<N>,
@@ -157,7 +160,8 @@ fn added<N: Site>(
 /// The change of an action, added to the list at a place, or to a new one. The pass has the words of it.
 ///
 /// # Errors
-/// `TooLarge` where a part of its query goes through too many rows, `Full` where the log has no room, `Memory`.
+/// `TooLarge` only where the size of its query, by the counts of all rows that were ever inserted, is above 1,048,576;
+/// `Full` only where the log has no room; `Memory`.
 pub fn propose<N: Site>(
     alloc: Global,
     arena: &Arena<N>,
@@ -186,6 +190,90 @@ pub fn propose<N: Site>(
         }
     };
     match added(alloc, arena, pass, sight, list, &action) {
+        Ok(changes) => Ok(Proposal {
+            action,
+            changes,
+            fresh,
+        }),
+        Err(why) => {
+            drop(action);
+            Err(why)
+        }
+    }
+}
+
+/// Whether the change of an action is all in its text: a new table, or rows that are written out.
+pub fn is_literal(action: &Action) -> bool
+    ensures { result ≡ is_literal (action_of action.now) }
+{
+    match action {
+        Action::Create { .. } => true,
+        Action::InsertRows { .. } => true,
+        Action::InsertQuery { .. } => false,
+        Action::Delete { .. } => false,
+        Action::Assert { .. } => false,
+    }
+}
+
+/// A new change list that has the change of an action, which is all in its text. The pass has the words of it.
+///
+/// # Errors
+/// `Full` where the log has no room.
+fn added_literal<N: Site>(
+    arena: &Arena<N>,
+    pass: &mut Pass<N>,
+    action: &Action,
+) -> Result<u32, Refusal>
+    requires literal { is_literal (action_of action.now) ≡ true }
+    requires encodable { IsEncodable (action_of action.now) }
+    requires written { WritesAction (action_of action.now) }
+    ensures longer { IsPrefix pass.old.words pass.new.words }
+    ensures kept { kept_of pass.new ≡ kept_of pass.old }
+    ensures proposes { (s : SightValue) → IsSight pass.old.words s → FitsAction (schema (history_of pass.old.words s) (actions_before s)).tables (action_of action.now) → IfOk result (IsProposal pass.new.words (history_of pass.old.words s) (actions_before s) [] (action_of action.now)) }
+    ensures err { IfErr result (IsWant N.log.cap pass.new.words) }
+{
+    let list = match begun(arena, pass, None) {
+        Ok(list) => list,
+        Err(_) => return Err(Refusal::Full),
+    };
+    let _ = pass.words();
+    let changes = match encode(arena, pass, list, action, &[]) {
+        Ok(changes) => changes,
+        Err(_) => return Err(Refusal::Full),
+    };
+    let _ = pass.words();
+    Ok(changes)
+}
+
+/// The change of an action that is all in its text, in a new list. The pass has the words of it. What its statement saw may
+/// have been let go.
+///
+/// # Errors
+/// `Full` where the log has no room, `Memory`.
+pub fn propose_literal<N: Site>(
+    arena: &Arena<N>,
+    pass: &mut Pass<N>,
+    fresh: u32,
+    action: Action,
+) -> Result<Proposal, Refusal>
+    requires literal { is_literal (action_of action) ≡ true }
+    requires encodable { IsEncodable (action_of action) }
+    requires written { WritesAction (action_of action) }
+    ensures longer { IsPrefix pass.old.words pass.new.words }
+    ensures kept { kept_of pass.new ≡ kept_of pass.old }
+    ensures action { IfOk result (λ p. action_of p.action ≡ action_of action) }
+    ensures fresh { IfOk result (λ p. p.fresh ≡ fresh + drawn (action_of action)) }
+    ensures proposes { (s : SightValue) → IsSight pass.old.words s → FitsAction (schema (history_of pass.old.words s) (actions_before s)).tables (action_of action) → IfOk result (λ p. IsProposal pass.new.words (history_of pass.old.words s) (actions_before s) [] (action_of action) p.changes) }
+    ensures err { IfErr result (IsWant N.log.cap pass.new.words) }
+{
+    let fresh = match after(fresh, &action) {
+        Ok(fresh) => fresh,
+        Err(_) => {
+            drop(action);
+            return Err(Refusal::Memory);
+        }
+    };
+    match added_literal(arena, pass, &action) {
         Ok(changes) => Ok(Proposal {
             action,
             changes,

@@ -40,8 +40,9 @@ pub enum Answered {
 /// has the words of it.
 ///
 /// # Errors
-/// `TooLarge` where a part of the query goes through more than 1,048,576 rows or pairs of rows, `Full` where the log
-/// has no room, `TooManyTerms` where a question about its rows or tuples has more than 64 terms, `Memory`.
+/// `TooLarge` only where the query's size, by the counts of all rows that were ever inserted, is above 1,048,576; `Full`
+/// only where the log has no room; `TooManyTerms` only for a list, where the statement asks about more than 64 terms, one
+/// more for each column of certain tuples counted; `Memory`.
 pub fn answer_to<N: Site>(
     alloc: Global,
     arena: &Arena<N>,

@@ -24,8 +24,8 @@ use std::alloc::Global;
 /// The answer to a query, with these names of its columns. The pass has the words of it.
 ///
 /// # Errors
-/// `TooLarge` where a part of the query goes through more than 1,048,576 rows or pairs of rows, `Full` where the log
-/// has no room, `Memory`.
+/// `TooLarge` only where the query's size, by the counts of all rows that were ever inserted, is above 1,048,576; `Full`
+/// only where the log has no room; `Memory`.
 pub fn answer_query<N: Site>(
     alloc: Global,
     arena: &Arena<N>,

@@ -117,7 +117,7 @@ fn unapplied(e: TableError) -> Refusal
 /// The effect of a proposed change on what its statement sees. The pass has the words of it.
 ///
 /// # Errors
-/// `Full` where the log has no room, `Memory`.
+/// `Full` only where the log has no room; `Memory`.
 fn effect_for<N: Site>(
     alloc: Global,
     arena: &Arena<N>,
@@ -145,8 +145,8 @@ fn effect_for<N: Site>(
 /// What a proposed change does to what its statement sees. The pass has the words of it.
 ///
 /// # Errors
-/// `Full` where the log has no room. For an assertion `TooManyTerms` where its question has more than 64 terms, and
-/// `Inconsistent` where no admitted valuation satisfies it. `Memory`.
+/// `Full` only where the log has no room. For an assertion `TooManyTerms`, only where the statement asks about more than
+/// 64 terms, and `Inconsistent`, only where no admitted valuation satisfies it. `Memory`.
 pub fn step_of<N: Site>(
     alloc: Global,
     arena: &Arena<N>,

@@ -30,15 +30,15 @@ use Rattle.ct_query.proofs.Laws.{patterns_action}
 use Rattle.ct_query.proofs.Sets.{same_set_itself, same_set_on}
 use Rattle.ct_query.proofs.Sublists.{all_of, sublist_of_sublist}
 use Rattle.ct_query.proofs.Within.{of_added}
-use Rattle.ct_table.specs.Tables.{cells_of, value_of_rows, AreRows}
-use Rattle.ct_table.specs.Terms.{TermOfRows, RowsFrom, IsNoColumn}
+use Rattle.ct_operators.specs.Tables.{cells_of, value_of_rows, AreRows}
+use Rattle.ct_operators.specs.Terms.{TermOfRows, RowsFrom, IsNoColumn}
 use Rattle.ct_table.specs.Denotes.{TableView, value_of_tables, IsTermFor, by_change, by_action, Denotes, find_table, with_table}
 use Rattle.ct_table.specs.Following.{Follows}
-use Rattle.ct_table.proofs.Reaching.{first_or_behind, from_rows, behind}
+use Rattle.ct_operators.proofs.Reaching.{first_or_behind, from_rows, behind}
 use Rattle.ct_table.proofs.Following.{action_follows, more_read, lines_here}
 use Rattle.ct_table.proofs.Denoting.{empty_table, with_rows}
 use Rattle.ct_table.proofs.ByTables.{cells_found, means_by_tables, pattern_by_tables}
-use Rattle.ct_table.proofs.Naming.{mapped, given}
+use Rattle.ct_operators.proofs.Naming.{mapped, given}
 use Rattle.ct_table.proofs.Changing.{found_from, created_after, inserted_after, deleted_after, asserted_after}
 
 -- nothing is inserted

@@ -15,8 +15,8 @@ use Rattle.ct_query.specs.Reads.{reads_of, writes}
 use Rattle.ct_query.specs.Frame.{reads_of_actions}
 use Rattle.ct_query.specs.Terms.{change_terms, action_terms, statement_terms, distinct_terms, changes_that_write, reads_with, terms_asked}
 use Rattle.ct_table.specs.Denotes.{IsTermFor, by_change, by_action}
-use Rattle.ct_table.proofs.Reaching.{behind, foremost, first_or_behind}
-use Rattle.ct_table.proofs.Naming.{given}
+use Rattle.ct_operators.proofs.Reaching.{behind, foremost, first_or_behind}
+use Rattle.ct_operators.proofs.Naming.{given}
 
 module _ {A : Type 0} (p : A → Bool) where
   in_filter : (xs : List A) (x : A) → Contains xs x → p x ≡ true → Contains (filter p xs) x

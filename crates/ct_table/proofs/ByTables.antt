@@ -17,7 +17,7 @@ use Rattle.ct_query.specs.Rows.{rows}
 use Rattle.ct_query.specs.Worlds.{world}
 use Rattle.ct_query.specs.Patterns.{Patterns, patterns, pattern, query_pattern, count}
 use Rattle.ct_query.specs.Size.{size, rows_in}
-use Rattle.ct_table.specs.Tables.{cells_of}
+use Rattle.ct_operators.specs.Tables.{cells_of}
 use Rattle.ct_table.specs.Denotes.{TableView, value_of_tables, IsKept, AreWorth, find_table}
 use Rattle.ct_query.proofs.Sublists.{nothing_of}
 use Rattle.ct_table.proofs.Denoting.{found_name, found_all}

@@ -25,7 +25,7 @@ use Rattle.ct_query.proofs.Committed.{commit_does}
 use Rattle.ct_query.proofs.Sets.{same_set_on}
 use Rattle.ct_query.proofs.Sublists.{all_of}
 use Rattle.ct_condition.specs.Terms.{TermsFrom}
-use Rattle.ct_table.specs.Tables.{cells_of}
+use Rattle.ct_operators.specs.Tables.{cells_of}
 use Rattle.ct_table.specs.Denotes.{TableView, value_of_tables, IsKept, AreWorth, IsTermFor, by_change, by_action, Denotes}
 use Rattle.ct_table.specs.Snapshot.{IsGlobal, IsKeptWorld}
 use Rattle.ct_table.specs.Following.{Follows}

@@ -30,15 +30,15 @@ use Rattle.ct_query.proofs.Sets.{same_set_itself, same_set_on, same_set-append}
 use Rattle.ct_query.proofs.SameRows.{same_set_filter}
 use Rattle.ct_query.proofs.Sublists.{all_of, sublist_of_sublist}
 use Rattle.ct_condition.proofs.Reached.{formed_before}
-use Rattle.ct_table.specs.Tables.{cells_of, value_of_rows, IsRow, AreRows}
-use Rattle.ct_table.specs.Terms.{TermOfRows, RowsFrom, IsNoColumn}
+use Rattle.ct_operators.specs.Tables.{cells_of, value_of_rows, IsRow, AreRows}
+use Rattle.ct_operators.specs.Terms.{TermOfRows, RowsFrom, IsNoColumn}
 use Rattle.ct_table.specs.Denotes.{TableView, IsKept, AreWorth, IsTermFor, by_change, Denotes, find_table, with_table}
 use Rattle.ct_table.specs.Following.{Follows}
-use Rattle.ct_table.proofs.Reaching.{both_all, foremost, rows_wider, from_rows, rows_later}
-use Rattle.ct_table.proofs.Growing.{value_grows, cells_grow}
+use Rattle.ct_operators.proofs.Reaching.{both_all, foremost, rows_wider, from_rows, rows_later}
+use Rattle.ct_operators.proofs.Growing.{value_grows, cells_grow}
 use Rattle.ct_table.proofs.Following.{change_follows, lines_follow}
 use Rattle.ct_table.proofs.Denoting.{empty_table, with_rows, found_name, found_all, all_with_table, found_pattern, part_after, created_worth, changed_worth, inserted_worth, asserted_worth, worth_grows}
-use Rattle.ct_table.proofs.Naming.{condition_named, rows_named}
+use Rattle.ct_operators.proofs.Naming.{condition_named, rows_named}
 
 -- the terms below a table come from where the definition says
 abbrev ComesFrom : List ℕ → List PlainCommit → List PlainAction → TableView → Type 0

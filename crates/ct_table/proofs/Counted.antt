@@ -10,7 +10,7 @@ use Rattle.ct_word.specs.Value.{same_cells}
 use Rattle.ct_word.specs.Sublist.{IsSublist, ended, left_out, taken}
 use Rattle.ct_word.proofs.Alike.{cells_decide}
 use Rattle.ct_query.specs.Patterns.{distinct_count}
-use Rattle.ct_table.proofs.Merges.{cells_equiv}
+use Rattle.ct_operators.proofs.Merges.{cells_equiv}
 
 -- what passes in a part passes in the list
 part_any : {A : Type 0} (test : A → Bool) (xs ys : List A) → IsSublist xs ys → list_any test xs ≡ true → list_any test ys ≡ true

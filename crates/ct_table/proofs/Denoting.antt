@@ -22,11 +22,12 @@ use Rattle.ct_query.specs.Database.{Relation, Database, SameSet, with_tuples, Sa
 use Rattle.ct_query.specs.Step.{created, inserted, asserted, shown_rows}
 use Rattle.ct_query.specs.Worlds.{world, changes_of}
 use Rattle.ct_query.specs.Patterns.{patterns}
-use Rattle.ct_table.specs.Tables.{cells_of, value_of_rows, AreRows}
+use Rattle.ct_operators.specs.Tables.{cells_of, value_of_rows, AreRows}
 use Rattle.ct_table.specs.Denotes.{TableView, value_of_tables, IsKept, heading_of, AreWorth, find_table, with_table}
 use Rattle.ct_table.specs.Following.{Follows}
+use Rattle.ct_operators.proofs.Firsts.{none_distinct}
 use Rattle.ct_table.proofs.Following.{change_follows, lines_follow}
-use Rattle.ct_table.proofs.Growing.{value_grows, cells_grow, rows_grow}
+use Rattle.ct_operators.proofs.Growing.{value_grows, cells_grow, rows_grow}
 use Rattle.ct_query.proofs.Sets.{same_set_itself, same_set_on, same_set-append}
 use Rattle.ct_query.proofs.SameRows.{same_database_append}
 use Rattle.ct_query.proofs.Sublists.{nothing_of, all_of, sublist-append, sublist_of_sublist}
@@ -48,11 +49,6 @@ absent_any name (t ∷ db) e = by_test (same_text t.name name) refl (absent_any 
       ap (λ b. b || list_any (same_text name) (map (λ t. t.name) db)) (unalike t.name name p)
       ∙ rest (sym (ap (λ b. if b then Some t else find_table db name) p) ∙ e)
   by_test true p rest = let bad : Some t ≡ None = sym (ap (λ b. if b then Some t else find_table db name) p) ∙ e in cc
-
--- no items are distinct
-pub none_distinct : {K : Type 0} (same : K → K → Bool) → IsDistinct same []
-unfolding IsDistinct
-none_distinct same = tt
 
 -- the relation that a table is worth
 abbrev pub relation_of : List ℕ → World → TableView → Relation

@@ -22,14 +22,14 @@ use Rattle.ct_word.specs.Reading.{term_at}
 use Rattle.ct_word.proofs.Prefixes.{prefix_same}
 use Rattle.ct_query.specs.Database.{SameSet}
 use Rattle.ct_query.proofs.Sets.{same_set_itself}
-use Rattle.ct_table.specs.Tables.{AreRows, cells_of, value_of_rows, firsts}
-use Rattle.ct_table.specs.Terms.{TermOfRows, RowsFrom}
-use Rattle.ct_table.proofs.Firsts.{firsts_distinct, part_of_firsts}
-use Rattle.ct_table.proofs.Reaching.{rows_itself}
-use Rattle.ct_table.proofs.Selecting.{value-append}
-use Rattle.ct_table.specs.Merging.{rows_of, Merged, Gathers, is_possible}
+use Rattle.ct_operators.specs.Tables.{AreRows, cells_of, value_of_rows, firsts}
+use Rattle.ct_operators.specs.Terms.{TermOfRows, RowsFrom}
+use Rattle.ct_operators.proofs.Firsts.{firsts_distinct, part_of_firsts}
+use Rattle.ct_operators.proofs.Reaching.{rows_itself}
+use Rattle.ct_operators.proofs.Selecting.{value-append}
+use Rattle.ct_operators.specs.Merging.{rows_of, Merged, Gathers, is_possible}
 use Rattle.ct_table.specs.Growing.{find, put, put_each, grown, entries_of, Apart, Fits, Joins, alone, with_first}
-use Rattle.ct_table.proofs.Merges.{entry_merged, entry_put, kept_rows, kept_values, kept_order, kept_from}
+use Rattle.ct_operators.proofs.Merges.{entry_merged, entry_put, kept_rows, kept_values, kept_order, kept_from}
 use Rattle.ct_table.proofs.Putting.{find_hit, find_miss, none_some, find_among, find_after, put_more, fits_more, kept_of, keep, isnt, rows_grown}
 
 or_false : (a b : Bool) → (a || b) ≡ false → a ≡ (a || b)

@@ -1,13 +1,13 @@
 -- Conditions put at their cells, one after another.
-use Rattle.std.proofs.Common.{◌≡◌, ℕ, zero, suc, ◌+◌, Bool, true, false, not, List, [], ◌∷◌, ◌++◌, Option, None, Some, cond, map, take, get_or, set, refl, ap, sym, subst, ◌∙◌, arith}
-use Rattle.std.specs.Prelude.{◌≢◌, nat_eq, if◌then◌else◌, slice_get}
+use Rattle.std.proofs.Common.{◌≡◌, ℕ, zero, suc, ◌+◌, ◌<◌, Bool, true, false, not, List, [], ◌∷◌, ◌++◌, Option, None, Some, cond, length, map, take, get_or, set, refl, ap, sym, subst, ◌∙◌, arith}
+use Rattle.std.specs.Prelude.{◌≢◌, is_some, nat_eq, if◌then◌else◌, slice_get}
 use Rattle.std.specs.List.{filter, position_or_len}
-use Rattle.std.proofs.lemmas.List.{append-nil, append_assoc}
+use Rattle.std.proofs.lemmas.List.{append-nil, append_assoc, take_more}
 use Rattle.std.proofs.lemmas.Bool.{false≢true, eqb-true}
 use Rattle.ct_word.specs.declared.values.CRow.{CRow}
 use Rattle.ct_word.specs.Value.{same_text}
 use Rattle.ct_word.proofs.Alike.{text_decides}
-use Rattle.ct_table.specs.Merging.{rows_of, is_possible}
+use Rattle.ct_operators.specs.Merging.{rows_of, is_possible}
 use Rattle.ct_table.specs.Growing.{find, put, put_each, grown, entries_of, Apart, Fits}
 use Rattle.ct_table.proofs.Denoting.{unalike}
 
@@ -32,6 +32,10 @@ pub none_some : {A : Type 0} (c : ℕ) (o : Option ℕ) → o ≡ None → o ≡
 none_some c o n s = let bad : None ≡ Some c = sym n ∙ s in absurd (none_is_not c bad) where
   none_is_not : (c : ℕ) → None ≡ Some c → ⊥
   none_is_not c e = cc
+
+pub missing : (o : Option ℕ) → is_some o ≡ false → o ≡ None
+missing None e = refl
+missing (Some c) e = absurd (false≢true (sym e))
 
 -- what was put is found
 pub find_put : (k : List ℕ) (c : ℕ) (es : List (List ℕ × ℕ)) → find k (put es k c) ≡ Some c
@@ -250,12 +254,24 @@ pub grown_more : (p : List ℕ × ℕ) (ps es : List (List ℕ × ℕ)) → grow
 grown_more p [] es = refl
 grown_more p (q ∷ ps) es = grown_more p ps (if nat_eq q.1 1 then es else put es q.0 q.1)
 
+module _ (es all : List (List ℕ × ℕ)) (i : ℕ) (p : List ℕ × ℕ) (lt : i < length all) (is : p ≡ get_or all i p) where
+  grown_next : grown es (take (i + 1) all) ≡ (if nat_eq p.1 1 then grown es (take i all) else put (grown es (take i all)) p.0 p.1)
+  grown_next = ap (grown es) (take_more all i p lt ∙ ap (λ x. take i all ++ x ∷ []) (sym is)) ∙ grown_more p (take i all) es
+
+  -- the next condition is the word false
+  pub grown_void : nat_eq p.1 1 ≡ true → grown es (take i all) ≡ grown es (take (i + 1) all)
+  grown_void void = sym (grown_next ∙ ap (λ b. if b then grown es (take i all) else put (grown es (take i all)) p.0 p.1) void)
+
+  -- or it is another one
+  pub grown_real : nat_eq p.1 1 ≡ false → put (grown es (take i all)) p.0 p.1 ≡ grown es (take (i + 1) all)
+  grown_real real = sym (grown_next ∙ ap (λ b. if b then grown es (take i all) else put (grown es (take i all)) p.0 p.1) real)
+
 -- one more condition put
 pub put_one_more : (p : List ℕ × ℕ) (ps es : List (List ℕ × ℕ)) → put_each es (ps ++ p ∷ []) ≡ put (put_each es ps) p.0 p.1
 put_one_more p [] es = refl
 put_one_more p (q ∷ ps) es = put_one_more p ps (put es q.0 q.1)
 
-entry_last : (k : List ℕ) (c : ℕ) (es : List (List ℕ × ℕ)) → find k es ≡ None → put es k c ≡ es ++ (k, c) ∷ []
+pub entry_last : (k : List ℕ) (c : ℕ) (es : List (List ℕ × ℕ)) → find k es ≡ None → put es k c ≡ es ++ (k, c) ∷ []
 entry_last k c [] none = refl
 entry_last k c (e ∷ es) none = put_miss k c e es (not_first k e es none) ∙ ap (λ l. e ∷ l) (entry_last k c es (not_later k e es none))
 

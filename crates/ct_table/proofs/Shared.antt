@@ -3,20 +3,20 @@ use Rattle.std.proofs.Common.{◌≡◌, ℕ, suc, ◌+◌, Bool, true, false, n
 use Rattle.std.specs.Prelude.{nat_eq, nat_lt, if◌then◌else◌, position, Option, Some, None, IsSome, is_some, Result, Ok, Err, OnOk, OnErr, IsOk}
 use Rattle.std.proofs.lemmas.Bool.{false≢true}
 use Rattle.std.specs.List.{AllZip, position_or_len}
-use Rattle.std.specs.Map.{lookup}
+use Rattle.std.specs.Map.{lookup, set_value}
 use Rattle.ct_query.specs.declared.schema.Heading.{Heading}
 use Rattle.std.specs.Cmp.Lexicographic.{pointwise}
 use Rattle.indexmap.specs.IndexMap.{insert_entry}
 use Rattle.ct_word.specs.Value.{same_text}
 use Rattle.ct_word.proofs.Alike.{text_decides}
 use Rattle.ct_word.specs.declared.values.CRow.{CRow}
-use Rattle.ct_table.specs.Merging.{rows_of}
-use Rattle.ct_table.specs.declared.table.CTable.{CTable}
+use Rattle.ct_operators.specs.Merging.{rows_of}
+use Rattle.ct_operators.specs.declared.table.CTable.{CTable}
 use Rattle.ct_table.specs.Denotes.{TableView, heading_of, find_table, with_table}
 use Rattle.ct_table.specs.Shared.{view_of, entry_of}
-use Rattle.ct_table.specs.Pending.{IsApart}
-use Rattle.ct_table.specs.Growing.{entries_of, grown, rows_after, table_with}
-use Rattle.ct_table.proofs.Putting.{rows_back, entries_back}
+use Rattle.ct_table.specs.Pending.{IsApart, put_into}
+use Rattle.ct_table.specs.Growing.{grown, rows_after}
+use Rattle.ct_table.proofs.Putting.{entries_back}
 use Rattle.ct_table.proofs.Denoting.{unalike}
 
 -- copies of entries are the same tables
@@ -177,6 +177,10 @@ pub done_of : {A E : Type 0} {P Q : Type 0} (r : Result A E) → OnOk r P → On
 done_of (Ok a) p q right = p
 done_of (Err e) p q right = absurd (false≢true (right q))
 
+pub on_ok_both : {A E P Q R : Type 0} (r : Result A E) → (P → Q → R) → OnOk r P → OnOk r Q → OnOk r R
+on_ok_both (Ok a) f p q = f p q
+on_ok_both (Err e) f p q = tt
+
 module _ (t new : TableView) (db : List TableView) where
   with_hit : same_text t.name new.name ≡ true → with_table (t ∷ db) new ≡ new ∷ db
   with_hit p = ap (λ b. if b then new ∷ db else t ∷ with_table db new) p
@@ -226,6 +230,49 @@ same_headings a b n c (t ∷ db) = by_test (same_text t.name a.name) refl (same_
       ap (map heading_of) (with_hit t a db p) ∙ (λ i. record { name = n i; columns = c i } ∷ map heading_of db) ∙ sym (ap (map heading_of) (with_hit t b db (there true p)))
   by_test false p rest =
       ap (map heading_of) (with_miss t a db p) ∙ ap (λ hs. heading_of t ∷ hs) rest ∙ sym (ap (map heading_of) (with_miss t b db (there false p)))
+
+-- a value that is written at a name that is there
+set_entry : (k : List ℕ) (t w : CTable) (es : List (List ℕ × CTable)) → entry_at k es ≡ Some t → set_value (same_text k) es w ≡ with_entry es k w
+set_entry k t w [] found = none_some (entry_at k []) refl found
+set_entry k t w (e ∷ es) found = by_test (same_text k e.0) refl (set_entry k t w es) where
+  by_test : (b : Bool) → same_text k e.0 ≡ b → (entry_at k es ≡ Some t → set_value (same_text k) es w ≡ with_entry es k w)
+      → set_value (same_text k) (e ∷ es) w ≡ with_entry (e ∷ es) k w
+  by_test true p rest = ap (λ b. cond b ((e.0, w) ∷ es) (e ∷ set_value (same_text k) es w)) p ∙ sym (put_hit k w e es p)
+  by_test false p rest =
+      ap (λ b. cond b ((e.0, w) ∷ es) (e ∷ set_value (same_text k) es w)) p ∙ ap (λ l. e ∷ l) (rest (sym (at_miss k e es p) ∙ found)) ∙ sym (put_miss k w e es p)
+
+-- another table is written in the place of one that is there
+module _ (k : List ℕ) (t w : CTable) (es fs : List (List ℕ × CTable)) (found : entry_at k es ≡ Some t) (written : fs ≡ set_value (same_text k) es w) where
+  seen : find_table (map entry_of es) k ≡ Some (view_of k t)
+  seen = found_entry k es ∙ ap (its_view k) found
+
+  same : with_table (map entry_of es) (view_of k t) ≡ map entry_of es
+  same = with_found k (view_of k t) (map entry_of es) seen
+
+  written_is : map entry_of fs ≡ with_table (map entry_of es) (view_of k w)
+  written_is = ap (map entry_of) (written ∙ set_entry k t w es found) ∙ put_entry k w es
+
+  -- one with conditions put at their cells
+  pub grown_put : (puts : List (List ℕ × ℕ)) → w.columns ≡ t.columns → w.rows ≡ rows_after t.rows puts → map entry_of fs ≡ put_into (map entry_of es) k puts (find_table (map entry_of es) k)
+  grown_put puts columns rows =
+      written_is ∙ (λ i. with_table (map entry_of es) (record { name = k; columns = columns i; rows = rows i }))
+      ∙ sym (ap (put_into (map entry_of es) k puts) seen)
+
+  pub grown_headings : w.columns ≡ t.columns → map heading_of (map entry_of fs) ≡ map heading_of (map entry_of es)
+  grown_headings columns =
+      ap (map heading_of) written_is ∙ same_headings (view_of k w) (view_of k t) refl columns (map entry_of es) ∙ ap (map heading_of) same
+
+  -- the old table at the name again
+  pub grown_back : (old : CTable) → old ≡ t → with_table (map entry_of fs) (view_of k old) ≡ map entry_of es
+  grown_back old is =
+      ap (λ db. with_table db (view_of k old)) written_is ∙ with_again (view_of k w) (view_of k old) refl (map entry_of es)
+      ∙ ap (λ x. with_table (map entry_of es) (view_of k x)) is ∙ same
+
+  pub grown_same : w ≡ t → map entry_of fs ≡ map entry_of es
+  grown_same is = written_is ∙ ap (λ x. with_table (map entry_of es) (view_of k x)) is ∙ same
+
+  pub grown_there : IsSome (entry_at k fs)
+  grown_there = ap is_some (ap (entry_at k) (written ∙ set_entry k t w es found) ∙ entry_there k w es)
 
 -- a table that nobody put in has no entry
 pub entry_missing : (k : List ℕ) (es : List (List ℕ × CTable)) → false ≡ is_some (entry_at k es) → entry_at k es ≡ None

@@ -37,10 +37,10 @@ use Rattle.ct_arena.specs.Counts.{opening}
 use Rattle.ct_table.specs.Denotes.{TableView, IsTermFor, by_change, by_action, Denotes}
 use Rattle.ct_table.specs.Snapshot.{IsGlobal, IsKeptValue, other, constant, IsKeptWorld, commits_to, IsSnapshot}
 use Rattle.ct_table.specs.Following.{Follows}
-use Rattle.ct_table.proofs.Reaching.{below_before, foremost}
+use Rattle.ct_operators.proofs.Reaching.{below_before, foremost}
 use Rattle.ct_table.proofs.Following.{change_follows, action_follows}
-use Rattle.ct_table.proofs.Naming.{condition_named}
-use Rattle.ct_table.proofs.Denoting.{none_distinct}
+use Rattle.ct_operators.proofs.Naming.{condition_named}
+use Rattle.ct_operators.proofs.Firsts.{none_distinct}
 use Rattle.ct_table.proofs.Changing.{denotes_grows}
 
 module _ (old new : List ℕ) (longer : IsPrefix old new) (formed : IsWellFormed new) (h : List PlainCommit) (actions : List PlainAction) where

@@ -18,8 +18,8 @@ use Rattle.ct_query.specs.Schema.{schema}
 use Rattle.ct_query.specs.Reads.{writes}
 use Rattle.ct_query.specs.Frame.{reads_of_actions}
 use Rattle.ct_query.specs.Terms.{change_terms, action_terms}
-use Rattle.ct_table.specs.Tables.{cells_of, value_of_rows, AreRows}
-use Rattle.ct_table.specs.Terms.{RowsFrom}
+use Rattle.ct_operators.specs.Tables.{cells_of, value_of_rows, AreRows}
+use Rattle.ct_operators.specs.Terms.{RowsFrom}
 
 -- a table with its name
 pub record TableView : Type 0 where

@@ -1,10 +1,10 @@
 -- Rows of a table that get conditions in place.
-use Rattle.std.specs.Prelude.{◌≡◌, ◌≢◌, ℕ, nat_eq, List, [], ◌∷◌, map, Option, None, Some, if◌then◌else◌}
+use Rattle.std.specs.Prelude.{◌≡◌, ◌≢◌, ℕ, nat_eq, List, [], ◌∷◌, map, None, Some, if◌then◌else◌}
 use Rattle.ct_word.specs.declared.values.CRow.{CRow}
 use Rattle.ct_condition.specs.Truth.{HasTruth, or_at}
 use Rattle.ct_condition.specs.Terms.{TermsFrom, BelowEither}
-use Rattle.ct_table.specs.declared.table.CTable.{CTable}
-use Rattle.ct_table.specs.Merging.{rows_of}
+use Rattle.ct_operators.specs.declared.table.CTable.{CTable}
+use Rattle.ct_operators.specs.Merging.{rows_of}
 pub use Rattle.ct_rows.specs.Entries.{find, put}
 
 -- rows with each of these conditions at its cells

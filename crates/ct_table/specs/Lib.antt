@@ -1,16 +1,8 @@
-pub mod Tables
-pub mod Terms
 pub mod Denotes
 pub mod Snapshot
 pub mod Following
-pub mod Merging
-pub mod Projection
-pub mod Building
-pub mod Matching
-pub mod Placing
 pub mod Shared
 pub mod Counting
-pub mod Refusals
 pub mod Growing
 pub mod Turn
 pub mod Pending

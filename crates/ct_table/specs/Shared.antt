@@ -1,6 +1,7 @@
 -- A table under its name, without where it is shared and whether it has a map.
 use Rattle.std.specs.Prelude.{ℕ, List}
-use Rattle.ct_table.specs.declared.table.CTable.{CTable}
+use Rattle.std.specs.Arc.{arc_value}
+use Rattle.ct_operators.specs.declared.table.CTable.{CTable}
 use Rattle.ct_table.specs.declared.sharing.Body.{Body}
 use Rattle.ct_table.specs.declared.sharing.Body.TheVariants as body
 use Rattle.ct_table.specs.Denotes.{TableView}
@@ -16,5 +17,5 @@ entry_of e = view_of e.0 e.1
 
 -- the table, with a map or without
 abbrev pub body_of : Body → CTable
-body_of (body.Plain t) = t
+body_of (body.Plain t) = arc_value t
 body_of (body.Keyed k) = table_of k

@@ -8,7 +8,7 @@ ghost use Rattle.ct_table.specs.Counting.{count_of};
 
 use crate::pending::{Growth, Pending, PendingRows, PendingTable};
 use crate::sharing::SharedTable;
-use crate::table::CTable;
+use ct_operators::CTable;
 use ct_query::{Count, Counts, Heading, Schema};
 use ct_word::{List, Memory, Text};
 use indexmap::IndexMap;
@@ -129,7 +129,8 @@ impl Db {
         }
     }
 
-    /// Makes all that a growth needs. A table that gets rows is made anew beside the old one, with which it shares most.
+    /// Makes all that a growth needs, or a growth that can be left undone: a table gets rows in place where nobody else
+    /// holds it and they have new cells, else it is made anew beside the old one, with which it shares most.
     ///
     /// # Errors
     /// The database as it was, where there is no memory.

@@ -1,7 +1,7 @@
-// Growths of a database: a table that is put in, or rows that one gets. All room is there before, so that what
+// Growths of a database: a table that is put in, or rows that one gets. All that can fail comes first, so that what
 // follows only moves.
 
-ghost use Rattle.std.specs.Prelude.{◌≡◌, ◌<◌, ◌≤◌, [], nat_eq, map, None, Some, IsSome, MatchOption, MatchResult, IfOk, vec_len, vec_capacity};
+ghost use Rattle.std.specs.Prelude.{◌≡◌, ◌<◌, ◌≤◌, [], nat_eq, map, None, Some, IsSome, MatchOption, MatchResult, IfOk, OnErr, OnOk, vec_len, vec_capacity};
 ghost use Rattle.std.specs.Cmp.Lexicographic.{pointwise};
 ghost use Rattle.indexmap.specs.IndexMap.{IsUnique, get, insert_entry, spare};
 ghost use Rattle.ct_table.specs.Denotes.{TableView, heading_of, with_table, find_table};
@@ -11,11 +11,11 @@ ghost use Rattle.ct_table.specs.Shared.{view_of, entry_of};
 use crate::db::{Db, heading};
 use crate::sharing::SharedTable;
 use crate::stored::Put;
-use crate::table::CTable;
+use ct_operators::CTable;
 use ct_query::{Heading, Schema};
 use ct_word::{List, Memory, Text};
 use indexmap::IndexMap;
-use std::alloc::Global;
+use std::alloc::{AllocError, Global};
 use std::marker::Model;
 
 /// How the tables of a database grow: by a table, at its name's place or last, or by conditions that the table of this
@@ -52,13 +52,13 @@ impl Model for PendingTable {
         × (p.headings.items ≡ map heading_of (map entry_of p.tables.entries)) × (p.heading ≡ heading_of (view_of p.name p.table)) };
 }
 
-/// A database of which one table is about to get conditions at cells: the table that then stands at its name.
+/// A database of which one table has got conditions at cells, and the table that stood at its name before.
 #[derive(Drop)]
 pub struct PendingRows {
     tables: IndexMap<Text, SharedTable>,
     headings: Schema,
     name: Text,
-    table: SharedTable,
+    before: SharedTable,
 }
 
 impl Model for PendingRows {
@@ -71,14 +71,14 @@ impl Model for PendingRows {
 
     ghost Value = { Turn };
 
-    ghost view = { λ p. record { before = map entry_of p.tables.entries; after = with_table (map entry_of p.tables.entries) (view_of p.name p.table) } };
+    ghost view = { λ p. record { before = with_table (map entry_of p.tables.entries) (view_of p.name p.before); after = map entry_of p.tables.entries } };
 
     ghost invariant = { λ p. IsUnique (pointwise nat_eq) p.tables × IsSome (get (pointwise nat_eq) p.tables p.name)
         × (p.headings.tables ≡ map heading_of (map entry_of p.tables.entries))
-        × (p.headings.tables ≡ map heading_of (with_table (map entry_of p.tables.entries) (view_of p.name p.table))) };
+        × (p.headings.tables ≡ map heading_of (with_table (map entry_of p.tables.entries) (view_of p.name p.before))) };
 }
 
-/// A growth for which all room is there, with its database. It is done, or left undone.
+/// A growth that is made, or for which all room is there, with its database. It is done, or left undone.
 #[derive(Drop)]
 pub enum Pending {
     Table(PendingTable),
@@ -149,7 +149,7 @@ impl PendingTable {
 }
 
 impl PendingRows {
-    /// Makes the table of this name with the conditions.
+    /// Puts the conditions into the table of this name.
     ///
     /// # Errors
     /// The database as it was, where there is no memory.
@@ -158,19 +158,19 @@ impl PendingRows {
         ensures before { MatchResult result (λ p. p.before ≡ db) (λ same. same ≡ db) }
         ensures after { IfOk result (λ p. p.after ≡ put_into db name puts.items (find_table db name)) }
     {
-        let Some(old) = db.get(&name) else {
-            unreachable!();
-        };
-        let Ok(table) = old.grown(alloc, puts) else {
-            return Err(db);
-        };
-        let Db { tables, headings } = db;
-        Ok(PendingRows {
-            tables,
+        let Db {
+            mut tables,
             headings,
-            name,
-            table,
-        })
+        } = db;
+        match grow_at(alloc, &mut tables, &name, puts.as_slice()) {
+            Ok(before) => Ok(PendingRows {
+                tables,
+                headings,
+                name,
+                before,
+            }),
+            Err(_) => Err(Db { tables, headings }),
+        }
     }
 
     /// The database with the conditions in its table.
@@ -180,10 +180,9 @@ impl PendingRows {
         let PendingRows {
             tables,
             headings,
-            name,
-            table,
+            ..
         } = self;
-        put_back(tables, headings, name, table)
+        Db { tables, headings }
     }
 
     /// The database as it was.
@@ -193,9 +192,10 @@ impl PendingRows {
         let PendingRows {
             tables,
             headings,
-            ..
+            name,
+            before,
         } = self;
-        Db { tables, headings }
+        put_back(tables, headings, name, before)
     }
 }
 
@@ -257,6 +257,30 @@ fn headed(
     match tables.get_index_of(name) {
         Some(place) => headings[place] = heading,
         None => headings.push_reserved(heading),
+    }
+}
+
+/// Puts conditions at their cells in the table of a name. The table as it was.
+///
+/// # Errors
+/// `AllocError` where there is no memory; the tables are as they were.
+fn grow_at(
+    alloc: Global,
+    tables: &mut IndexMap<Text, SharedTable>,
+    name: &Text,
+    puts: &[Put],
+) -> Result<SharedTable, AllocError>
+    requires apart { IsApart (find_table (map entry_of tables.old.entries) name.now) }
+    ensures after { OnOk result (map entry_of tables.new.entries ≡ put_into (map entry_of tables.old.entries) name.now puts.now (find_table (map entry_of tables.old.entries) name.now)) }
+    ensures before { IfOk result (λ before. with_table (map entry_of tables.new.entries) (view_of name.now before) ≡ map entry_of tables.old.entries) }
+    ensures headings { OnOk result (map heading_of (map entry_of tables.new.entries) ≡ map heading_of (map entry_of tables.old.entries)) }
+    ensures there { IsSome (get (pointwise nat_eq) tables.new name.now) }
+    ensures unique { IsUnique (pointwise nat_eq) tables.new }
+    ensures same { OnErr result (map entry_of tables.new.entries ≡ map entry_of tables.old.entries) }
+{
+    match tables.get_mut(name) {
+        Some(table) => table.grow(alloc, puts),
+        None => unreachable!(),
     }
 }
 

@@ -1,4 +1,4 @@
-// What rows are to be inserted into a table that changes in place: found and made before it is touched.
+// What rows are to be inserted into a table: found and made before it is touched.
 
 ghost use Rattle.std.specs.Prelude.{◌≡◌, ◌≢◌, ◌≤◌, ◌<◌, ◌+◌, ◌++◌, length, All, IfOk, OnOk, IsErrOf, IsTrue, is_err};
 ghost use mathlib.Core.List.{IsPrefix};
@@ -10,18 +10,17 @@ ghost use Rattle.ct_query.specs.Database.{SameSet};
 ghost use Rattle.ct_condition.specs.Truth.{HasTruth, or_at};
 ghost use Rattle.ct_condition.specs.Terms.{TermsFrom, BelowEither};
 ghost use Rattle.ct_condition.specs.Writes.{Writes};
-ghost use Rattle.ct_table.specs.Tables.{IsRow, AreRows, value_of_rows, cells_of, firsts};
-ghost use Rattle.ct_table.specs.Merging.{rows_of, Merged};
-ghost use Rattle.ct_table.specs.Terms.{TermOfRows, RowsFrom};
-ghost use Rattle.ct_table.specs.Refusals.{is_full};
+ghost use Rattle.ct_operators.specs.Tables.{IsRow, AreRows, value_of_rows, cells_of, firsts};
+ghost use Rattle.ct_operators.specs.Merging.{rows_of, Merged};
+ghost use Rattle.ct_operators.specs.Terms.{TermOfRows, RowsFrom};
+ghost use Rattle.ct_operators.specs.Refusals.{is_full};
 ghost use Rattle.ct_table.specs.Growing.{find, put_each, grown, Apart, Fits, Joins};
-ghost use Rattle.ct_table.specs.declared.error.TableError.TheVariants as fault;
+ghost use Rattle.ct_operators.specs.declared.error.TableError.TheVariants as fault;
 
-use crate::error::TableError;
-use crate::rows::under;
 use crate::stored::{Put, Stored};
 use ct_arena::{Arena, Full, Site};
 use ct_condition::{Interner, or};
+use ct_operators::{TableError, under};
 use ct_word::{CRow, FALSE_PLACE, List};
 use indexmap::IndexMap;
 use std::alloc::{AllocError, Global};
@@ -110,14 +109,14 @@ fn ready(alloc: Global, pending: IndexMap<List<u32>, u32>) -> Result<Vec<Put>, A
 {
     let mut puts = Vec::with_capacity(alloc, pending.len())?;
     for (cells, cond) in pending {
-        puts.push(Put::new(cells, cond))?;
+        puts.push(Put::new(alloc, cells, cond)?)?;
     }
     Ok(puts)
 }
 
 /// The conditions to put at cells so that a table gets these rows. A row whose cells are there already is merged into
 /// the first of them, by the disjunction of their conditions, and rows under the word false are left out. The table
-/// stays as it is; `Stored::grown` puts them in.
+/// stays as it is; `Db::growing` puts them in.
 ///
 /// # Errors
 /// `Full` where the log has no room for a condition, `Memory` where there is none for the rows.

@@ -1,38 +1,165 @@
 // The tables of a database: each is shared, and most have their rows found by their cells.
 
-ghost use Rattle.std.specs.Prelude.{◌≡◌, length, IfOk, IfSome};
+ghost use Rattle.std.specs.Prelude.{◌≡◌, ◌≤◌, Ok, length, true, IfOk, IfSome, MatchOption, OnErr, OnOk, OnSome};
 ghost use Rattle.std.specs.Arc.{arc_value};
-ghost use Rattle.ct_table.specs.Growing.{Apart, entries_of, rows_after, table_of};
+ghost use mathlib.Core.List.{IsPrefix};
+ghost use Rattle.ct_table.specs.Growing.{Apart, entries_of, grown, rows_after, table_of};
 ghost use Rattle.ct_table.specs.Shared.{body_of};
 
 use crate::stored::{Put, Stored};
-use crate::table::CTable;
+use ct_operators::CTable;
 use ct_word::{List, Text};
 use std::alloc::{AllocError, Global};
 use std::marker::Model;
+use std::mem::replace;
 use std::sync::Arc;
+
+/// The first rows of a table whose rows are found by their cells. Those past them are none of its rows: they stand there
+/// where the table has grown since, or a growth was taken back. Contracts see the columns, and the first entries.
+#[derive(Drop)]
+pub struct Front {
+    stored: Arc<Stored, Global>,
+    len: usize,
+}
+
+impl Model for Front {
+    ghost use Rattle.std.specs.Prelude.{◌≤◌, length, take};
+    ghost use Rattle.std.specs.Arc.{arc_value};
+    ghost use Rattle.ct_table.specs.Growing.{Keyed};
+
+    ghost Value = { Keyed };
+
+    ghost view = { λ f. record { columns = (arc_value f.stored).columns; entries = take f.len (arc_value f.stored).entries } };
+
+    ghost invariant = { λ f. f.len ≤ length (arc_value f.stored).entries };
+}
 
 /// A table, as its rows alone or with them found by their cells.
 #[derive(Drop)]
 pub enum Body {
-    Plain(CTable),
-    Keyed(Stored),
+    Plain(Arc<CTable, Global>),
+    Keyed(Front),
 }
 
 /// A table of a database, shared with the databases that were made from it. Contracts see it as the table.
 #[derive(Drop)]
 pub struct SharedTable {
-    body: Arc<Body, Global>,
+    body: Body,
 }
 
 impl Model for SharedTable {
-    ghost use Rattle.std.specs.Arc.{arc_value};
-    ghost use Rattle.ct_table.specs.declared.table.CTable.{CTable};
+    ghost use Rattle.ct_operators.specs.declared.table.CTable.{CTable};
     ghost use Rattle.ct_table.specs.Shared.{body_of};
 
     ghost Value = { CTable };
 
-    ghost view = { λ s. body_of (arc_value s.body) };
+    ghost view = { λ s. body_of s.body };
+}
+
+/// Puts conditions at their cells in rows that stand last, where nobody else holds the table, it has so many rows, and
+/// none of them has the cells. Whether all are put; rows that were there stay as they were.
+///
+/// # Errors
+/// `AllocError` where there is no memory for a row. Some rows may stand last then.
+fn extend(
+    stored: &mut Arc<Stored, Global>,
+    len: usize,
+    alloc: Global,
+    puts: &[Put],
+) -> Result<bool, AllocError>
+    ensures columns { (arc_value stored.new).columns ≡ (arc_value stored.old).columns }
+    ensures front { IsPrefix (arc_value stored.old).entries (arc_value stored.new).entries }
+    ensures whole { result ≡ Ok true → length (arc_value stored.old).entries ≡ len }
+    ensures entries { result ≡ Ok true → (arc_value stored.new).entries ≡ grown (arc_value stored.old).entries puts.now }
+{
+    let Some(stored) = Arc::get_mut(stored) else {
+        return Ok(false);
+    };
+    if stored.len() != len || !stored.has_none(puts) {
+        return Ok(false);
+    }
+    stored.extend(alloc, puts)
+}
+
+impl Front {
+    /// All rows of a table.
+    ///
+    /// # Errors
+    /// `AllocError` where there is no memory to share it.
+    fn of(alloc: Global, stored: Stored) -> Result<Front, AllocError>
+        ensures { IfOk result (λ f. f ≡ stored) }
+    {
+        let len = stored.len();
+        Ok(Front {
+            stored: Arc::new(alloc, stored)?,
+            len,
+        })
+    }
+
+    /// The table; none where it has rows past the first ones.
+    fn whole(&self) -> Option<&Stored>
+        ensures { IfSome result (λ s. s.now ≡ self.now) }
+    {
+        if self.stored.len() == self.len {
+            Some(&self.stored)
+        } else {
+            None
+        }
+    }
+
+    /// The names of the columns.
+    fn columns(&self) -> &List<Text>
+        ensures { result.now ≡ self.now.columns }
+    {
+        self.stored.columns()
+    }
+
+    /// How many rows there are.
+    fn len(&self) -> usize
+        ensures { result ≡ length self.now.entries }
+    {
+        self.len
+    }
+
+    /// The table, in a copy that shares nothing.
+    ///
+    /// # Errors
+    /// `AllocError` where there is no memory for it.
+    fn copied(&self, alloc: Global) -> Result<CTable, AllocError>
+        ensures { IfOk result (λ copy. copy ≡ table_of self.now) }
+    {
+        self.stored.copied(alloc, self.len)
+    }
+
+    /// Puts conditions at their cells in rows that stand last, as `extend` does. The table as it was, which it shares
+    /// them with; none where they are not put.
+    ///
+    /// # Errors
+    /// `AllocError` where there is no memory for a row; the table is as it was.
+    fn extend(&mut self, alloc: Global, puts: &[Put]) -> Result<Option<Front>, AllocError>
+        ensures columns { self.new.columns ≡ self.old.columns }
+        ensures entries { IfOk result (λ o. OnSome o (self.new.entries ≡ grown self.old.entries puts.now)) }
+        ensures before { IfOk result (λ o. MatchOption o (self.new ≡ self.old) (λ before. before ≡ self.old)) }
+        ensures same { OnErr result (self.new ≡ self.old) }
+    {
+        if !extend(&mut self.stored, self.len, alloc, puts)? {
+            return Ok(None);
+        }
+        let before = self.clone()?;
+        self.len = self.stored.len();
+        Ok(Some(before))
+    }
+}
+
+impl Clone for Front {
+    ghost is_clone = { λ a b. b ≡ a };
+
+    fn clone(&self) -> Result<Front, AllocError> {
+        Ok(Front {
+            stored: Arc::try_clone(&self.stored)?,
+            len: self.len,
+        })
+    }
 }
 
 impl SharedTable {
@@ -44,22 +171,20 @@ impl SharedTable {
         ensures { IfOk result (λ s. s ≡ table) }
     {
         let body = if table.rows.is_empty() {
-            Body::Keyed(Stored::make(alloc, table)?)
+            Body::Keyed(Front::of(alloc, Stored::make(alloc, table)?)?)
         } else {
-            Body::Plain(table)
+            Body::Plain(Arc::new(alloc, table)?)
         };
-        Ok(SharedTable {
-            body: Arc::new(alloc, body)?,
-        })
+        Ok(SharedTable { body })
     }
 
     /// The names of the columns.
     pub fn columns(&self) -> &List<Text>
         ensures { result.now ≡ self.now.columns }
     {
-        match &*self.body {
+        match &self.body {
             Body::Plain(table) => &table.columns,
-            Body::Keyed(stored) => stored.columns(),
+            Body::Keyed(front) => front.columns(),
         }
     }
 
@@ -67,9 +192,9 @@ impl SharedTable {
     pub fn len(&self) -> usize
         ensures { result ≡ length self.now.rows }
     {
-        match &*self.body {
+        match &self.body {
             Body::Plain(table) => table.rows.len(),
-            Body::Keyed(stored) => stored.len(),
+            Body::Keyed(front) => front.len(),
         }
     }
 
@@ -80,9 +205,9 @@ impl SharedTable {
     pub fn copied(&self, alloc: Global) -> Result<CTable, AllocError>
         ensures { IfOk result (λ copy. copy ≡ self.now) }
     {
-        match &*self.body {
+        match &self.body {
             Body::Plain(table) => table.copied(alloc),
-            Body::Keyed(stored) => stored.copied(alloc),
+            Body::Keyed(front) => front.copied(alloc),
         }
     }
 
@@ -90,9 +215,9 @@ impl SharedTable {
     pub(crate) fn keyed(&self) -> Option<&Stored>
         ensures { IfSome result (λ s. table_of s.now ≡ self.now) }
     {
-        match &*self.body {
+        match &self.body {
             Body::Plain(_) => None,
-            Body::Keyed(stored) => Some(stored),
+            Body::Keyed(front) => front.whole(),
         }
     }
 
@@ -111,19 +236,47 @@ impl SharedTable {
         }
     }
 
-    /// The table with conditions put at their cells, those that are not the word false. This one stays as it is.
+    /// Puts conditions at their cells in place, as `extend` does. The table as it was; none where they are not put.
     ///
     /// # Errors
-    /// `AllocError` where there is no memory for what is not shared.
-    pub(crate) fn grown(&self, alloc: Global, puts: Vec<Put>) -> Result<SharedTable, AllocError>
-        requires apart { Apart (entries_of self.now.rows) }
-        ensures columns { IfOk result (λ s. s.columns ≡ self.now.columns) }
-        ensures rows { IfOk result (λ s. s.rows ≡ rows_after self.now.rows puts.items) }
+    /// `AllocError` where there is no memory for a row; the table is as it was.
+    fn extend(&mut self, alloc: Global, puts: &[Put]) -> Result<Option<SharedTable>, AllocError>
+        ensures columns { self.new.columns ≡ self.old.columns }
+        ensures rows { IfOk result (λ o. OnSome o (self.new.rows ≡ rows_after self.old.rows puts.now)) }
+        ensures before { IfOk result (λ o. MatchOption o (self.new ≡ self.old) (λ before. before ≡ self.old)) }
+        ensures same { OnErr result (self.new ≡ self.old) }
     {
+        let Body::Keyed(front) = &mut self.body else {
+            return Ok(None);
+        };
+        let Some(before) = front.extend(alloc, puts)? else {
+            return Ok(None);
+        };
+        Ok(Some(SharedTable {
+            body: Body::Keyed(before),
+        }))
+    }
+
+    /// Puts conditions at their cells, those that are not the word false: in place where nobody else holds the table and
+    /// none of its rows has the cells, else in a table that is made beside it. The table as it was.
+    ///
+    /// # Errors
+    /// `AllocError` where there is no memory; the table is as it was.
+    pub(crate) fn grow(&mut self, alloc: Global, puts: &[Put]) -> Result<SharedTable, AllocError>
+        requires apart { Apart (entries_of self.old.rows) }
+        ensures columns { OnOk result (self.new.columns ≡ self.old.columns) }
+        ensures rows { OnOk result (self.new.rows ≡ rows_after self.old.rows puts.now) }
+        ensures before { IfOk result (λ before. before ≡ self.old) }
+        ensures same { OnErr result (self.new ≡ self.old) }
+    {
+        if let Some(before) = self.extend(alloc, puts)? {
+            return Ok(before);
+        }
         let stored = self.stored(alloc)?.grown(alloc, puts)?;
-        Ok(SharedTable {
-            body: Arc::new(alloc, Body::Keyed(stored))?,
-        })
+        let grown = SharedTable {
+            body: Body::Keyed(Front::of(alloc, stored)?),
+        };
+        Ok(replace(self, grown))
     }
 }
 
@@ -131,8 +284,10 @@ impl Clone for SharedTable {
     ghost is_clone = { λ a b. b ≡ a };
 
     fn clone(&self) -> Result<SharedTable, AllocError> {
-        Ok(SharedTable {
-            body: Arc::try_clone(&self.body)?,
-        })
+        let body = match &self.body {
+            Body::Plain(table) => Body::Plain(Arc::try_clone(table)?),
+            Body::Keyed(front) => Body::Keyed(front.clone()?),
+        };
+        Ok(SharedTable { body })
     }
 }

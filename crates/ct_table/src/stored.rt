@@ -1,23 +1,23 @@
 // Tables whose rows are found by their cells, and which share them with their copies.
 
-ghost use Rattle.std.specs.Prelude.{◌≡◌, ◌<◌, length, nat_eq, IfOk, OnOk, Some, slice_get};
+ghost use Rattle.std.specs.Prelude.{◌≡◌, ◌<◌, ◌≤◌, ◌||◌, None, Some, is_none, length, nat_eq, slice_get, take, IfOk, IsTrue, OnOk};
+ghost use Rattle.std.specs.List.{list_all};
+ghost use mathlib.Core.List.{IsPrefix};
 ghost use Rattle.std.specs.Arc.{arc_value};
 ghost use Rattle.ct_table.specs.Growing as spec;
-ghost use Rattle.ct_table.specs.Growing.{Keyed, Apart, entries_of, grown, table_of};
+ghost use Rattle.ct_table.specs.Growing.{Keyed, Apart, entries_of, grown, table_with};
 
-use crate::rows::{names, under};
-use crate::table::CTable;
+use ct_operators::{CTable, names, under};
 use ct_rows::Rows;
 use ct_word::{CRow, FALSE_PLACE, List, Text};
 use std::alloc::{AllocError, Global};
 use std::marker::Model;
 use std::sync::Arc;
 
-/// A condition that a table gets at some cells. Contracts see it as the pair of both.
+/// A condition that a table gets at some cells, as the row that the table then has. Contracts see it as the pair of both.
 #[derive(Drop)]
 pub struct Put {
-    cells: List<u32>,
-    cond: u32,
+    row: Arc<CRow, Global>,
 }
 
 impl Model for Put {
@@ -25,27 +25,49 @@ impl Model for Put {
 
     ghost Value = { List ℕ × ℕ };
 
-    ghost view = { λ p. (p.cells, p.cond) };
+    ghost view = { λ p. (p.row.value.cells, p.row.value.cond) };
 }
 
 impl Put {
     /// The condition at these cells.
-    pub(crate) fn new(cells: List<u32>, cond: u32) -> Put
-        ensures { result ≡ (cells, cond) }
+    ///
+    /// # Errors
+    /// `AllocError` where there is no memory for the row.
+    pub(crate) fn new(alloc: Global, cells: List<u32>, cond: u32) -> Result<Put, AllocError>
+        ensures { IfOk result (λ p. p ≡ (cells, cond)) }
     {
-        Put { cells, cond }
+        Ok(Put {
+            row: Arc::new(alloc, CRow { cells, cond })?,
+        })
     }
 
     /// Whether the condition is the word false.
     fn is_void(&self) -> bool
         ensures { result ≡ nat_eq self.now.1 1 }
     {
-        self.cond == FALSE_PLACE
+        self.row.cond == FALSE_PLACE
+    }
+
+    /// The cells.
+    fn cells(&self) -> &List<u32>
+        ensures { result.now ≡ self.now.0 }
+    {
+        &self.row.cells
+    }
+
+    /// The row, held once more.
+    ///
+    /// # Errors
+    /// `AllocError` where it cannot be held once more.
+    fn row(&self) -> Result<Arc<CRow, Global>, AllocError>
+        ensures { IfOk result (λ row. (row.value.cells, row.value.cond) ≡ self.now) }
+    {
+        Arc::try_clone(&self.row)
     }
 }
 
 /// A table whose rows are found by their cells. Contracts see its columns, and the cells and conditions of its rows. A
-/// table that is made from it shares its columns, and the rows that stay.
+/// copy shares its columns, and the rows that stay.
 #[derive(Drop)]
 pub struct Stored {
     columns: Arc<List<Text>, Global>,
@@ -74,8 +96,7 @@ impl Stored {
         let CTable { columns, rows } = table;
         let mut stored = Rows::new(alloc);
         for row in rows.into_vec() {
-            let CRow { cells, cond } = row;
-            stored.put(alloc, cells, cond)?;
+            stored.put(alloc, Arc::new(alloc, row)?)?;
         }
         let columns = Arc::new(alloc, columns)?;
         Ok(Stored {
@@ -105,15 +126,16 @@ impl Stored {
         self.rows.find(cells)
     }
 
-    /// The table, in a copy that shares nothing.
+    /// The first rows of the table, in a copy that shares nothing.
     ///
     /// # Errors
     /// `AllocError` where there is no memory for it.
-    pub(crate) fn copied(&self, alloc: Global) -> Result<CTable, AllocError>
-        ensures { IfOk result (λ table. table ≡ table_of self.now) }
+    pub(crate) fn copied(&self, alloc: Global, len: usize) -> Result<CTable, AllocError>
+        requires within { len ≤ length self.now.entries }
+        ensures { IfOk result (λ table. table ≡ table_with self.now.columns (take len self.now.entries)) }
     {
         let mut rows = Vec::new(alloc);
-        for place in 0..self.rows.len() {
+        for place in 0..len {
             let row = self.rows.at(place);
             rows.push(under(row, row.cond)?)?;
         }
@@ -128,18 +150,48 @@ impl Stored {
     ///
     /// # Errors
     /// `AllocError` where there is no memory for what is not shared.
-    pub(crate) fn grown(self, alloc: Global, puts: Vec<Put>) -> Result<Stored, AllocError>
+    pub(crate) fn grown(self, alloc: Global, puts: &[Put]) -> Result<Stored, AllocError>
         ensures columns { IfOk result (λ s. s.columns ≡ self.columns) }
-        ensures entries { IfOk result (λ s. s.entries ≡ grown self.entries puts.items) }
+        ensures entries { IfOk result (λ s. s.entries ≡ grown self.entries puts.now) }
     {
         let Stored { columns, mut rows } = self;
         for put in puts {
-            if !put.is_void() {
-                let Put { cells, cond } = put;
-                rows.put(alloc, cells, cond)?;
+            if put.is_void() {
+                continue;
             }
+            rows.put(alloc, put.row()?)?;
         }
         Ok(Stored { columns, rows })
+    }
+
+    /// Whether no row has the cells of these conditions, but for those that are the word false.
+    pub(crate) fn has_none(&self, puts: &[Put]) -> bool
+        ensures { result ≡ list_all (λ p. nat_eq p.1 1 || is_none (spec.find p.0 self.now.entries)) puts.now }
+    {
+        puts.iter()
+            .all(|put| put.is_void() || self.find(put.cells()).is_none())
+    }
+
+    /// Puts conditions at their cells, those that are not the word false, in rows that stand last. Whether all are put:
+    /// it stops at cells that a row has. The rows that were there stay as they were.
+    ///
+    /// # Errors
+    /// `AllocError` where there is no memory for a row. Some rows may stand last then.
+    pub(crate) fn extend(&mut self, alloc: Global, puts: &[Put]) -> Result<bool, AllocError>
+        ensures columns { self.new.columns ≡ self.old.columns }
+        ensures front { IsPrefix self.old.entries self.new.entries }
+        ensures entries { IfOk result (λ all. IsTrue all → self.new.entries ≡ grown self.old.entries puts.now) }
+    {
+        for put in puts {
+            if put.is_void() {
+                continue;
+            }
+            if self.find(put.cells()).is_some() {
+                return Ok(false);
+            }
+            self.rows.push(alloc, put.row()?)?;
+        }
+        Ok(true)
     }
 }
 

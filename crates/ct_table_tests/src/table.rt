@@ -3,7 +3,7 @@
 ghost use Rattle.std.specs.Prelude.{◌≡◌, true, [], length, All, IfOk, IsTrue};
 ghost use Rattle.ct_word.specs.WellFormed.{IsWellFormed, is_place_of};
 ghost use Rattle.ct_word.specs.declared.kinds.Class.TheVariants as class;
-ghost use Rattle.ct_table.specs.Tables.{IsRow, AreRows};
+ghost use Rattle.ct_operators.specs.Tables.{IsRow, AreRows};
 
 use ct_arena::{Arena, Blank, Pass, Site};
 use ct_condition::{eq, term};

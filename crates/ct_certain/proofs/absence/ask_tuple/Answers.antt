@@ -7,12 +7,12 @@ use Rattle.ct_word.specs.Stands.{HasNoColumn}
 use Rattle.ct_word.specs.WellFormed.{is_place_of}
 use Rattle.ct_cnf.specs.Encoding.{HasTermsPast}
 use Rattle.ct_condition.specs.Writes.{Writes}
-use Rattle.ct_table.proofs.Adding.{passed}
-use Rattle.ct_derivation.specs.Accepts.{AcceptsProof}
+use Rattle.ct_operators.proofs.Adding.{passed}
 use Rattle.ct_derivation.proofs.Longer.{accepted_longer}
-use Rattle.ct_certain.specs.Answered.{IsSettled}
-use Rattle.ct_certain.specs.Certain.{RefutesMissing}
-use Rattle.ct_certain.proofs.Roots.{handed_on, never_many, past_tuple}
+use Rattle.ct_certain.specs.Answered.{IsRefutation, IsSettled}
+use Rattle.ct_certain.specs.Missing.{IsRefuted}
+use Rattle.ct_certain.proofs.Cuts.{cut_longer}
+use Rattle.ct_certain.proofs.Roots.{handed_on, never_many}
 use Rattle.ct_certain.proofs.absence.ask_tuple.Goals as goal
 
 pub settle-requires-clause-condition : goal.settle-requires-clause-condition
@@ -38,17 +38,18 @@ returns-in_err-place-clause-many g c e =
 
 pub returns-in_err-decision-clause-many : goal.returns-in_err-decision-clause-many
 returns-in_err-decision-clause-many g c e =
-    let words = c.args.words.now in
-    let old = g.I.Interner.list c.args.pass.now in
-    let new = g.I.Interner.list c.root.new.pass in
     let exit = err_from_is_err_and c.from_residual-in_err-decision.result c.from_residual-in_err-decision.ensures.1 in
-    past_tuple words old new c.args.global (length c.args.table.now.columns) c.args.table.now.rows c.args.tuple.now c.in_ok-place.place c.requires.asked c.in_ok-place.ensures.root
-    (subst (λ ws. HasTermsPast 64 ws c.in_ok-place.place) c.words-now.ensures.words (c.in_err-decision.ensures.many (passed _ _ _ (exit.1 ∙ ap Err exit.2) e)))
+    record {
+      root = c.in_ok-place.place;
+      question = c.in_ok-place.ensures.root;
+      many = subst (λ ws. HasTermsPast 64 ws c.in_ok-place.place) c.words-now.ensures.words (c.in_err-decision.ensures.many (passed _ _ _ (exit.1 ∙ ap Err exit.2) e));
+    }
 
 pub known-requires : goal.known-requires
 known-requires g c =
     let old = g.I.Interner.list c.args.pass.now in
     let new = g.I.Interner.list c.root.new.pass in
-    subst (λ ws. All (λ r. AcceptsProof ws r.proof) c.args.list.now.rows.items) (sym c.words-now.ensures.words)
-    (All-weaker (RefutesMissing c.args.words.now old c.args.global c.args.table.now.rows) (λ r. AcceptsProof new r.proof)
-    (λ r is. accepted_longer old new c.in_ok-place.ensures.writes.longer r.proof.root r.proof.derivation is.accepted) c.args.list.now.rows.items c.requires.listed)
+    let longer = c.in_ok-place.ensures.writes.longer in
+    subst (λ ws. All (λ r. IsRefutation ws r.proof.root r.proof.derivation) c.args.list.now.rows.items) (sym c.words-now.ensures.words)
+    (All-weaker (IsRefuted c.args.words.now old c.args.global c.args.table.now.rows) (λ r. IsRefutation new r.proof.root r.proof.derivation)
+    (λ r is. (accepted_longer old new longer r.proof.root r.proof.derivation is.refutes.accepted, cut_longer old new longer r.proof.root r.proof.derivation is.cut)) c.args.list.now.rows.items c.requires.listed)

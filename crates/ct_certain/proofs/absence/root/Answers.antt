@@ -6,9 +6,9 @@ use Rattle.ct_word.specs.Sublist.{IsSublist}
 use Rattle.ct_query.specs.Database.{has_tuple, SameSet}
 use Rattle.ct_condition.specs.Writes.{Writes}
 use Rattle.ct_condition.proofs.Writes.{writes_both, writes_within, writes_as}
-use Rattle.ct_table.specs.Refusals.{is_full}
-use Rattle.ct_table.specs.Tables.{AreRows, value_of_rows, cells_of}
-use Rattle.ct_table.specs.Terms.{TermOfRows, RowsFrom}
+use Rattle.ct_operators.specs.Refusals.{is_full}
+use Rattle.ct_operators.specs.Tables.{AreRows, value_of_rows, cells_of}
+use Rattle.ct_operators.specs.Terms.{TermOfRows, RowsFrom}
 use Rattle.ct_certain.specs.Missing.{IsAtHand, IsRootOf, condition_of}
 use Rattle.ct_certain.proofs.Candidates.{asked_later}
 use Rattle.ct_certain.proofs.Values.{at_hand_grows}

@@ -1,12 +1,15 @@
-use Rattle.std.proofs.Common.{◌≡◌, ◌≤◌, length, sym, subst, arith, ◌∙◌, rules}
+use Rattle.std.proofs.Common.{◌≡◌, ◌≤◌, Err, length, ap, sym, subst, arith, ◌∙◌, rules}
 use Rattle.std.specs.Prelude.{All}
 use Rattle.std.specs.List.{IsDistinct}
+use Rattle.std.proofs.lemmas.Result.{err_from_is_err_and}
 use Rattle.ct_word.specs.Value.{same_tuple}
-use Rattle.ct_table.specs.Tables.{firsts, value_of_rows}
-use Rattle.ct_certain.specs.Certain.{ListsCertain}
-use Rattle.ct_certain.specs.Missing.{AreListed, IsAskedOf, IsSeen}
+use Rattle.ct_operators.specs.Tables.{firsts, value_of_rows}
+use Rattle.ct_operators.proofs.Adding.{passed}
+use Rattle.ct_certain.specs.Certain.{IsCutProof, ListsCertain}
+use Rattle.ct_certain.specs.Missing.{AreListed, IsAskedOf, IsPastTermsOfSomeTuple, IsSeen}
 use Rattle.ct_certain.proofs.Candidates.{distinct_keys, first_all, first_fewer, worth_asked, worth_fewer}
-use Rattle.ct_certain.proofs.Certainties.{listed_all}
+use Rattle.ct_certain.proofs.Certainties.{all_cut, listed_all}
+use Rattle.ct_certain.proofs.Roots.{past_width}
 use Rattle.ct_certain.proofs.certainty.certain.Goals as goal
 
 pub each_certain-requires-clause-few : goal.each_certain-requires-clause-few
@@ -52,3 +55,34 @@ returns-clause-lists g c =
 
 pub each_certain-requires-clause-pool : goal.each_certain-requires-clause-pool
 each_certain-requires-clause-pool g c = subst (λ rs. All (IsSeen c.as_slice-before.result.now c.args.global rs) c.in_ok-pool.pool.items) c.as_slice-rows.ensures c.in_ok-pool.ensures
+
+pub returns-clause-cut : goal.returns-clause-cut
+returns-clause-cut g c =
+    let new = c.each_certain.new.pass.words in
+    let list = c.in_ok-list.list.items in
+    subst (All (λ r. IsCutProof new r.proof)) (sym c.from_vec.ensures) (all_cut c.as_slice-before.result.now c.args.global c.args.table.now.rows new list c.in_ok-list.ensures.lists.refuted)
+
+pub returns-in_err-list-clause-question : goal.returns-in_err-list-clause-question
+returns-in_err-list-clause-question g c e =
+    let words = c.args.pass.now.words in
+    let new = c.each_certain.new.pass.words in
+    let rows = c.args.table.now.rows in
+    let kept = c.args.kept.now in
+    let global = c.args.global in
+    let same : c.as_slice-before.result.now ≡ words = search rules in
+    let worth : c.as_slice.result.now ≡ firsts same_tuple (value_of_rows words kept rows) = search rules in
+    let exit = err_from_is_err_and c.from_residual-in_err-list.result c.from_residual-in_err-list.ensures.1 in
+    subst (IsPastTermsOfSomeTuple words new global rows) worth
+    (subst (λ ws. IsPastTermsOfSomeTuple ws new global rows c.as_slice.result.now) same (c.in_err-list.ensures.many (passed _ _ _ (exit.1 ∙ ap Err exit.2) e)))
+
+pub returns-in_err-list-clause-many : goal.returns-in_err-list-clause-many
+returns-in_err-list-clause-many g c e =
+    let words = c.args.pass.now.words in
+    let rows = c.args.table.now.rows in
+    let kept = c.args.kept.now in
+    let global = c.args.global in
+    let width = length c.args.table.now.columns in
+    past_width words c.each_certain.new.pass.words global width rows (firsts same_tuple (value_of_rows words kept rows))
+    (first_all (IsAskedOf words words global width rows) (value_of_rows words kept rows)
+    (worth_asked words global width rows kept c.words.ensures.formed c.words.ensures.begins c.requires.global c.requires.plain c.requires.rows c.requires.kept))
+    (returns-in_err-list-clause-question g c e)

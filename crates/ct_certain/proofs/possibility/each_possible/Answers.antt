@@ -5,7 +5,7 @@ use Rattle.std.proofs.lemmas.List.{take_all}
 use Rattle.std.proofs.lemmas.List.Elements.{All-nil}
 use Rattle.std.proofs.lemmas.Result.{err_from_is_err_and}
 use Rattle.ct_condition.proofs.Writes.{writes_none, writes_within, writes_as, writes_more, writes_last}
-use Rattle.ct_table.proofs.Adding.{passed}
+use Rattle.ct_operators.proofs.Adding.{passed}
 use Rattle.ct_certain.specs.Own.{IsOwn}
 use Rattle.ct_certain.specs.Possible.{ListsPossible, ended}
 use Rattle.ct_certain.proofs.Listing.{lists_turn, row_of, past_row}

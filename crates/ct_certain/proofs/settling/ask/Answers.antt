@@ -2,7 +2,7 @@ use Rattle.std.proofs.Common.{Err, ap, sym, subst, ◌∙◌}
 use Rattle.std.proofs.lemmas.Result.{err_from_is_err_and}
 use Rattle.ct_word.specs.Stands.{HasNoColumn}
 use Rattle.ct_cnf.specs.Encoding.{HasTermsPast}
-use Rattle.ct_table.proofs.Adding.{passed}
+use Rattle.ct_operators.proofs.Adding.{passed}
 use Rattle.ct_decide.specs.declared.deciding.Decision.TheVariants as decision
 use Rattle.ct_certain.specs.Answered.{IsSettled}
 use Rattle.ct_certain.proofs.Asking.{root_plain, root_past, shown_answer, none_answer}
@@ -20,7 +20,7 @@ returns-in_err-decision-clause-many g c e =
     let old = g.I.Interner.list c.args.pass.now in
     let new = g.I.Interner.list c.and.new.pass in
     let exit = err_from_is_err_and c.from_residual-in_err-decision.result c.from_residual-in_err-decision.ensures.1 in
-    root_past c.args.words.now old new c.requires.longer c.words.ensures.formed c.args.global c.args.row.now c.requires.asked c.in_ok-root.root c.in_ok-root.ensures.terms
+    root_past c.args.words.now old new c.requires.longer c.words.ensures.formed c.args.global c.args.row.now c.requires.asked c.in_ok-root.root c.in_ok-root.ensures.truth c.in_ok-root.ensures.terms
     (subst (λ ws. HasTermsPast 64 ws c.in_ok-root.root) c.words-now.ensures.words (c.in_err-decision.ensures.many (passed _ _ _ (exit.1 ∙ ap Err exit.2) e)))
 
 pub returns-in-World-clause-answer : goal.returns-in-World-clause-answer
@@ -35,4 +35,4 @@ returns-clause-answer g c =
     let old = g.I.Interner.list c.args.pass.now in
     let new = g.I.Interner.list c.and.new.pass in
     none_answer c.args.words.now old new c.requires.longer c.words.ensures.formed c.args.global c.args.row.now c.requires.asked c.in_ok-root.root c.in_ok-root.ensures.truth c.words-now.ensures.formed c.in-Refuted.field-0
-    (subst (λ ws. IsSettled ws c.in_ok-root.root (decision.Refuted c.in-Refuted.field-0)) c.words-now.ensures.words (subst (IsSettled c.words-now.result.now c.in_ok-root.root) c.in-Refuted.is c.in_ok-decision.ensures.settled))
+    (subst (λ ws. IsSettled ws c.in_ok-root.root (decision.Refuted c.in-Refuted.field-0)) c.words-now.ensures.words (subst (IsSettled c.words-now.result.now c.in_ok-root.root) c.in-Refuted.is c.in_ok-decision.ensures.settled)).0

@@ -1,6 +1,6 @@
 use Rattle.std.proofs.Common.{◌≡◌, take}
 use Rattle.ct_word.specs.Value.{same_tuple}
-use Rattle.ct_table.specs.Tables.{firsts, value_of_rows}
+use Rattle.ct_operators.specs.Tables.{firsts, value_of_rows}
 use Rattle.ct_certain.proofs.tuples.tuples.Given as goal
 
 abbrev pub invariant-loop-row : goal.invariant-loop-row

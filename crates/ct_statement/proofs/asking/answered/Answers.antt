@@ -5,7 +5,7 @@ use Rattle.ct_query.specs.Size.{rows_in, row_bound}
 use Rattle.ct_query.specs.Views.{query_of}
 use Rattle.ct_table.specs.Counting.{count_of}
 use Rattle.ct_table.specs.Denotes.{Denotes}
-use Rattle.ct_table.specs.Tables.{AreRows}
+use Rattle.ct_operators.specs.Tables.{AreRows}
 use Rattle.ct_algebra.proofs.Counted.{rows_within}
 use Rattle.ct_statement.specs.Asking.{IsUnasked}
 use Rattle.ct_statement.specs.Sight.{actions_before, history_of}

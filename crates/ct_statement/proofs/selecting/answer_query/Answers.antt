@@ -4,7 +4,7 @@ use Rattle.ct_word.specs.declared.kinds.Class.TheVariants as class
 use Rattle.ct_word.specs.WellFormed.{is_place_of}
 use Rattle.ct_query.specs.Views.{query_of}
 use Rattle.ct_query.specs.declared.action.Ask.TheVariants as ask
-use Rattle.ct_table.specs.Tables.{AreRows}
+use Rattle.ct_operators.specs.Tables.{AreRows}
 use Rattle.ct_statement.specs.Printed.{IsPrinted}
 use Rattle.ct_statement.specs.Sight.{actions_before, history_of}
 use Rattle.ct_statement.proofs.Meaning.{answer_means}

@@ -3,11 +3,10 @@ use Rattle.std.specs.Prelude.{IfOk}
 use Rattle.ct_word.specs.Value.{same_cells}
 use Rattle.ct_word.specs.Sublist.{IsSublist}
 use Rattle.ct_query.specs.Database.{SameSet}
-use Rattle.ct_table.specs.declared.table.CTable.{CTable}
-use Rattle.ct_table.specs.Tables.{AreRows, value_of_rows, cells_of, firsts}
-use Rattle.ct_table.specs.Terms.{TermOfRows, RowsFrom}
-use Rattle.ct_table.specs.Merging.{rows_of}
-use Rattle.ct_table.specs.Growing.{Apart, entries_of}
+use Rattle.ct_operators.specs.declared.table.CTable.{CTable}
+use Rattle.ct_operators.specs.Tables.{AreRows, value_of_rows, cells_of, firsts}
+use Rattle.ct_operators.specs.Terms.{TermOfRows, RowsFrom}
+use Rattle.ct_operators.specs.Merging.{rows_of}
 use Rattle.ct_table.proofs.Joining.{rows_apart}
 use Rattle.ct_table.proofs.Putting.{rows_back}
 use Rattle.ct_table.proofs.Shared.{of_table}

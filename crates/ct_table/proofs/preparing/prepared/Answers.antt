@@ -5,13 +5,13 @@ use Rattle.ct_word.specs.Value.{same_cells}
 use Rattle.ct_word.specs.Sublist.{IsSublist}
 use Rattle.ct_query.specs.Database.{SameSet}
 use Rattle.ct_condition.proofs.Writes.{writes_none, writes_as, writes_more, writes_last}
-use Rattle.ct_table.specs.Tables.{AreRows, value_of_rows, cells_of, firsts}
-use Rattle.ct_table.specs.Merging.{rows_of, Gathers}
+use Rattle.ct_operators.specs.Tables.{AreRows, value_of_rows, cells_of, firsts}
+use Rattle.ct_operators.specs.Merging.{rows_of, Gathers}
 use Rattle.ct_table.specs.Growing.{put_each, grown, Apart, Fits}
-use Rattle.ct_table.specs.Terms.{TermOfRows, RowsFrom}
-use Rattle.ct_table.proofs.Adding.{mul_one}
-use Rattle.ct_table.proofs.Selecting.{row_at}
-use Rattle.ct_table.proofs.Merges.{gathers_more}
+use Rattle.ct_operators.specs.Terms.{TermOfRows, RowsFrom}
+use Rattle.ct_operators.proofs.Adding.{mul_one}
+use Rattle.ct_operators.proofs.Selecting.{row_at}
+use Rattle.ct_operators.proofs.Merges.{gathers_more}
 use Rattle.ct_table.proofs.Joining.{gathers_rows, grown_rows, grown_values, grown_order, grown_part, grown_from}
 use Rattle.ct_table.proofs.preparing.prepared.Goals as goal
 

@@ -1,6 +1,6 @@
 use Rattle.std.proofs.Common.{false, take, ◌*◌, ◌++◌, length}
 use Rattle.ct_condition.specs.Writes.{Writes}
-use Rattle.ct_table.specs.Merging.{rows_of, Gathers}
+use Rattle.ct_operators.specs.Merging.{rows_of, Gathers}
 use Rattle.ct_table.specs.Growing.{put_each, Apart, Fits}
 use Rattle.ct_table.proofs.preparing.prepared.Given as goal
 

@@ -4,7 +4,7 @@ use Rattle.std.specs.List.{Contains}
 use Rattle.std.proofs.lemmas.List.{take_all}
 use Rattle.std.proofs.lemmas.List.Elements.{All-more, All-weaker, All-contains_itself}
 use Rattle.ct_word.specs.Stands.{HasNoColumn}
-use Rattle.ct_table.specs.Tables.{IsRow}
+use Rattle.ct_operators.specs.Tables.{IsRow}
 use Rattle.ct_table_tests.proofs.table.are_rows.Goals as goal
 
 pub loop-row-preserved : goal.loop-row-preserved

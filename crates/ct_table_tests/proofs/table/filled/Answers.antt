@@ -1,8 +1,8 @@
 use Rattle.std.proofs.Common.{length, subst, sym}
 use Rattle.std.proofs.lemmas.List.Elements.{All-nil}
 use Rattle.ct_word.specs.Value.{same_cells}
-use Rattle.ct_table.specs.Tables.{AreRows}
-use Rattle.ct_table.proofs.Denoting.{none_distinct}
+use Rattle.ct_operators.specs.Tables.{AreRows}
+use Rattle.ct_operators.proofs.Firsts.{none_distinct}
 use Rattle.ct_table_tests.proofs.table.filled.Goals as goal
 
 pub insert-requires-clause-table : goal.insert-requires-clause-table

@@ -1,5 +1,6 @@
 use Rattle.std.proofs.Common.{[], length, ap, sym, subst, ◌∙◌}
 use Rattle.std.specs.Arc.{arc_value}
+use Rattle.ct_query.specs.Reads.{last}
 use Rattle.ct_table.specs.Snapshot.{IsSnapshot}
 use Rattle.ct_table.proofs.Snapshots.{first_snapshot}
 use Rattle.ct_keeper.proofs.keeper.Keeper.make.Goals as goal
@@ -14,6 +15,7 @@ invariant_of-result g c =
       c.requires.ended,
       record {
         version = is.version ∙ ap (λ h. length h) (sym c.requires.none);
+        writers = λ r. is.writers r ∙ ap (λ h. last h r) (sym c.requires.none);
         is =
             subst (λ v. IsSnapshot words v l.content.tables l.content.global (arc_value l.kept)) (sym is.version)
             (subst (λ ts. IsSnapshot words 0 ts l.content.global (arc_value l.kept)) (sym is.tables)

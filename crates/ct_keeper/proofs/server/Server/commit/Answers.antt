@@ -1,13 +1,19 @@
 use Rattle.std.proofs.Common.{◌≡◌, ◌≤◌, ap, sym, subst, ◌∙◌, arith}
+use Rattle.ct_word.specs.Reading.{commits_of}
 use Rattle.ct_word.proofs.Prefixes.{prefix_of_prefix}
+use Rattle.ct_arena.specs.Seen.{tally_of, pass_of}
 use Rattle.ct_keeper.specs.Bounds.{offer_words}
+use Rattle.ct_keeper.specs.declared.error.KeeperError.TheVariants as fault
+use Rattle.ct_keeper.specs.Conflicting.{told_or}
 use Rattle.ct_keeper.specs.Offers.{IsOffer, BecomesOf}
+use Rattle.ct_keeper.specs.Served.{IsOutcome}
 use Rattle.ct_keeper.proofs.Entering.{offer_grows}
+use Rattle.ct_keeper.proofs.Judging.{told_err, told_later}
 use Rattle.ct_keeper.proofs.Serving.{read_on, keeper_grows, outcome_is, words_are}
 use Rattle.ct_keeper.proofs.server.Server.commit.Goals as goal
 
-pub commit-requires-clause-offer : goal.commit-requires-clause-offer
-commit-requires-clause-offer g c =
+pub judge-pass-requires-clause-offer : goal.judge-pass-requires-clause-offer
+judge-pass-requires-clause-offer g c =
     let pass = c.args.pass in
     let now = c.catch_up.new.self in
     let came = c.catch_up.ensures in
@@ -22,14 +28,17 @@ returns-clause-outcome g c =
     let now = c.catch_up.new.self in
     let came = c.catch_up.ensures in
     let old = c.deref_mut.result.now in
-    let new = c.commit.new.self in
-    let after = c.commit.result.0 in
-    let r = c.commit.result.1 in
-    outcome_is pass now.words came.longer came.formed offer c.requires.offer old new after c.commit.ensures.words c.commit.ensures.known cap r
-    (subst (λ p. BecomesOf cap old new p after offer r) (read_on pass now came.session came.made came.mine) c.commit.ensures.outcome)
+    let new = c.judge-pass.new.self in
+    let after = c.judge-pass.result.0 in
+    let v = c.judge-pass.result.1 in
+    let told : told_or (commits_of after.words) offer.base v ≡ c.outcome_of-outcome.result = ap (λ ws. told_or (commits_of ws) offer.base v) (sym c.words-2.ensures.words) ∙ sym c.outcome_of-outcome.ensures in
+    subst (IsOutcome cap pass after offer) told
+    (outcome_is pass now.words came.longer came.formed offer c.requires.offer old new after c.judge-pass.ensures.words c.judge-pass.ensures.known cap (told_or (commits_of after.words) offer.base v)
+    (told_later cap old new (pass_of (tally_of pass) now.words) after offer after.words c.judge-pass.ensures.words v
+    (subst (λ p. BecomesOf cap old new p after offer (told_or (commits_of old.words) offer.base v)) (read_on pass now came.session came.made came.mine) c.judge-pass.ensures.verdict)))
 
 pub returns-clause-longer : goal.returns-clause-longer
-returns-clause-longer g c = prefix_of_prefix c.args.pass.words c.catch_up.new.self.words c.commit.result.0.words c.catch_up.ensures.longer c.commit.ensures.longer
+returns-clause-longer g c = prefix_of_prefix c.args.pass.words c.catch_up.new.self.words c.judge-pass.result.0.words c.catch_up.ensures.longer c.judge-pass.ensures.longer
 
 pub returns-clause-made : goal.returns-clause-made
 returns-clause-made g c =
@@ -38,13 +47,13 @@ returns-clause-made g c =
     let now = c.catch_up.new.self in
     let came = c.catch_up.ensures in
     let old = c.deref_mut.result.now in
-    let new = c.commit.new.self in
-    let after = c.commit.result.0 in
+    let new = c.judge-pass.new.self in
+    let after = c.judge-pass.result.0 in
     let same = ap (λ p. offer_words old.words p offer) (read_on pass now came.session came.made came.mine) in
-    let goes = keeper_grows g.N.Site.log.cap old new now after offer c.commit.result.1 c.commit.ensures.outcome in
-    let are = words_are pass now.words came.longer came.formed offer c.requires.offer old new after c.commit.ensures.words goes in
+    let goes = keeper_grows g.N.Site.log.cap old new now after offer (told_or (commits_of old.words) offer.base c.judge-pass.result.1) c.judge-pass.ensures.verdict in
+    let are = words_are pass now.words came.longer came.formed offer c.requires.offer old new after c.judge-pass.ensures.words goes in
     let was = came.made in
-    let made = c.commit.ensures.made in
+    let made = c.judge-pass.ensures.made in
     omega (arith, same, are, was, made)
 
 pub returns-clause-fewer : goal.returns-clause-fewer
@@ -54,11 +63,11 @@ returns-clause-fewer g c = λ refused.
     let now = c.catch_up.new.self in
     let came = c.catch_up.ensures in
     let old = c.deref_mut.result.now in
-    let new = c.commit.new.self in
-    let after = c.commit.result.0 in
+    let new = c.judge-pass.new.self in
+    let after = c.judge-pass.result.0 in
     let same = ap (λ p. offer_words old.words p offer) (read_on pass now came.session came.made came.mine) in
-    let goes = keeper_grows g.N.Site.log.cap old new now after offer c.commit.result.1 c.commit.ensures.outcome in
-    let are = words_are pass now.words came.longer came.formed offer c.requires.offer old new after c.commit.ensures.words goes in
+    let goes = keeper_grows g.N.Site.log.cap old new now after offer (told_or (commits_of old.words) offer.base c.judge-pass.result.1) c.judge-pass.ensures.verdict in
+    let are = words_are pass now.words came.longer came.formed offer c.requires.offer old new after c.judge-pass.ensures.words goes in
     let was = came.made in
-    let fewer = c.commit.ensures.fewer refused in
+    let fewer = c.judge-pass.ensures.fewer (told_err (commits_of c.words-2.result.now) offer.base c.judge-pass.result.1 fault.Full (sym c.outcome_of-outcome.ensures ∙ refused)) in
     omega (arith, same, are, was, fewer)

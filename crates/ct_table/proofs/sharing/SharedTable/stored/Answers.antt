@@ -1,7 +1,7 @@
 use Rattle.std.proofs.Common.{◌≡◌, ap, sym, ◌∙◌}
 use Rattle.std.specs.Prelude.{Result, Ok, Err, IfOk, MatchResult}
 use Rattle.std.proofs.lemmas.Result.{IfOk-weaker}
-use Rattle.ct_table.specs.declared.table.CTable.{CTable}
+use Rattle.ct_operators.specs.declared.table.CTable.{CTable}
 use Rattle.ct_table.specs.Growing.{Keyed, entries_of}
 use Rattle.ct_table.proofs.Putting.{entries_back}
 use Rattle.ct_table.proofs.sharing.SharedTable.stored.Goals as goal

@@ -18,7 +18,7 @@ loop-row-preserved c =
     let done : take n rows ++ r ∷ [] ≡ take (length (c.loop-row.yielded ++ r ∷ [])) rows =
     ap (λ x. take n rows ++ x ∷ []) is ∙ sym (take_more rows n r lt) ∙ ap (λ k. take k rows) (sym (length_push c.loop-row.yielded r)) in
     let p : List ℕ × ℕ = (r.cells, r.cond) in
-    c.in_ok-put.ensures.put ∙ ap (λ l. put l r.cells r.cond) c.loop-row.invariant
+    c.in_ok-put.ensures.put ∙ (λ i. put (c.loop-row.invariant i) (c.in_ok-new.ensures.ok i).cells (c.in_ok-new.ensures.ok i).cond)
     ∙ sym (put_one_more p (entries_of (take n rows)) []) ∙ ap (put_each []) (sym (map_push (λ (x : CRow). (x.cells, x.cond)) (take n rows) r) ∙ ap entries_of done)
 
 pub returns-clause-entries : goal.returns-clause-entries

@@ -1,0 +1,108 @@
+use Rattle.std.proofs.Common.{ap, arith, refl, sym, subst, ◌∙◌}
+use mathlib.Core.List.{IsPrefix}
+use Rattle.ct_word.specs.Reading.{commits_of}
+use Rattle.ct_word.proofs.Prefixes.{prefix_of_prefix, commits_prefix}
+use Rattle.ct_arena.specs.Seen.{tally_of, pass_of}
+use Rattle.ct_condition.specs.Writes.{charge}
+use Rattle.ct_keeper.specs.Bounds.{offer_words}
+use Rattle.ct_keeper.specs.Catalogue.{Stays}
+use Rattle.ct_keeper.specs.Conflicting.{told_or}
+use Rattle.ct_keeper.specs.Faults.{is_full}
+use Rattle.ct_keeper.specs.Latest.{catalogue_of}
+use Rattle.ct_keeper.specs.Offers.{IsOffer, BecomesOf}
+use Rattle.ct_keeper.proofs.Standing.{still}
+use Rattle.ct_keeper.proofs.Entering.{offer_grows, same_list, words_entered, becomes_from}
+use Rattle.ct_keeper.proofs.Walking.{all_written_later, all_written_same}
+use Rattle.ct_keeper.proofs.keeper.Keeper.judge.Goals as goal
+
+pub verdict_on-verdict-requires-clause-latest : goal.verdict_on-verdict-requires-clause-latest
+verdict_on-verdict-requires-clause-latest g c =
+    still c.self.inside.pass.words c.enter-guest.new.self.words c.self.inside.latest c.self.invariant.3 c.enter-guest.ensures.longer c.words.ensures.formed c.enter-guest.ensures.commits
+
+pub verdict_on-verdict-requires-clause-offer : goal.verdict_on-verdict-requires-clause-offer
+verdict_on-verdict-requires-clause-offer g c =
+    let words = c.enter-guest.new.self.words in
+    subst (λ t. IsOffer (pass_of t words) c.args.offer.now) (sym c.enter-guest.ensures.guest)
+    (offer_grows c.args.pass words c.enter-guest.ensures.seen c.words.ensures.formed c.args.offer.now c.requires.offer)
+
+pub verdict_on-verdict-requires-clause-written : goal.verdict_on-verdict-requires-clause-written
+verdict_on-verdict-requires-clause-written g c =
+    all_written_later c.args.pass.words c.enter-guest.new.self.words c.enter-guest.ensures.seen c.args.changes.now c.requires.written
+
+pub verdict_on-verdict-requires-clause-changes : goal.verdict_on-verdict-requires-clause-changes
+verdict_on-verdict-requires-clause-changes g c =
+    let words = c.enter-guest.new.self.words in
+    all_written_same c.args.pass.words words c.enter-guest.ensures.seen c.args.changes.now c.requires.written ∙ c.requires.changes
+    ∙ sym (same_list c.args.pass words c.enter-guest.ensures.seen c.words.ensures.formed c.args.offer.now c.requires.offer)
+
+pub returns-clause-verdict : goal.returns-clause-verdict
+returns-clause-verdict g c =
+    let cap = g.N.Site.log.cap in
+    let pass = c.args.pass in
+    let offer = c.args.offer.now in
+    let k = c.self.inside in
+    let words = c.enter-guest.new.self.words in
+    let mid = catalogue_of c.enter-guest.new.self k.latest in
+    let made = c.verdict_on-verdict in
+    let new = catalogue_of made.new.keeper made.new.latest in
+    let after = pass_of made.new.guest made.new.keeper.words in
+    let told = told_or (commits_of k.pass.words) offer.base made.result in
+    let its : BecomesOf cap mid new (pass_of (tally_of pass) words) after offer told =
+    subst (λ h. BecomesOf cap mid new (pass_of (tally_of pass) words) after offer (told_or h offer.base made.result)) c.enter-guest.ensures.commits
+    (subst (λ t. BecomesOf cap mid new (pass_of t words) after offer (told_or (commits_of words) offer.base made.result)) c.enter-guest.ensures.guest made.ensures.verdict) in
+    let stays : Stays (catalogue_of k.pass k.latest) mid = record {
+      longer = c.enter-guest.ensures.longer;
+      commits = c.enter-guest.ensures.commits;
+      tables = refl;
+      global = refl;
+      kept = refl;
+    } in
+    subst (λ o. BecomesOf cap o (catalogue_of c.leave-pass.new.self made.new.latest) pass c.leave-pass.result offer (told_or (commits_of o.words) offer.base made.result)) c.self.view_is
+    (subst (λ p. BecomesOf cap (catalogue_of k.pass k.latest) (catalogue_of p made.new.latest) pass c.leave-pass.result offer told) (sym c.leave-pass.ensures.left)
+    (subst (λ p. BecomesOf cap (catalogue_of k.pass k.latest) new pass p offer told) (sym c.leave-pass.ensures.pass)
+    (becomes_from pass words c.enter-guest.ensures.seen c.words.ensures.formed offer c.requires.offer cap (catalogue_of k.pass k.latest) mid new refl stays after told its)))
+
+pub returns-clause-made : goal.returns-clause-made
+returns-clause-made g c =
+    let pass = c.args.pass in
+    let offer = c.args.offer.now in
+    let k = c.self.inside in
+    let words = c.enter-guest.new.self.words in
+    let entered = ap (λ t. t.made) c.enter-guest.ensures.guest in
+    let same =
+    ap (λ t. offer_words words (pass_of t words) offer) c.enter-guest.ensures.guest
+    ∙ words_entered pass words c.enter-guest.ensures.seen c.words.ensures.formed offer c.requires.offer k.pass.words c.enter-guest.ensures.commits
+    ∙ ap (λ o. offer_words o.words pass offer) c.self.view_is in
+    let left = ap (λ p. p.made) c.leave-pass.ensures.pass in
+    let made = c.verdict_on-verdict.ensures.words in
+    omega (arith, entered, same, left, made)
+
+pub returns-clause-fewer : goal.returns-clause-fewer
+returns-clause-fewer g c = λ refused.
+    let pass = c.args.pass in
+    let offer = c.args.offer.now in
+    let k = c.self.inside in
+    let words = c.enter-guest.new.self.words in
+    let entered = ap (λ t. t.made) c.enter-guest.ensures.guest in
+    let same =
+    ap (λ t. offer_words words (pass_of t words) offer) c.enter-guest.ensures.guest
+    ∙ words_entered pass words c.enter-guest.ensures.seen c.words.ensures.formed offer c.requires.offer k.pass.words c.enter-guest.ensures.commits
+    ∙ ap (λ o. offer_words o.words pass offer) c.self.view_is in
+    let left = ap (λ p. p.made) c.leave-pass.ensures.pass in
+    let made = c.verdict_on-verdict.ensures.words in
+    let one = ap (λ r. charge (is_full r)) refused in
+    omega (arith, entered, same, left, made, one)
+
+pub returns-clause-longer : goal.returns-clause-longer
+returns-clause-longer g c =
+    let pass = c.args.pass in
+    let made = c.verdict_on-verdict in
+    subst (λ p. IsPrefix pass.words p.words) (sym c.leave-pass.ensures.pass)
+    (prefix_of_prefix pass.words c.enter-guest.new.self.words made.new.keeper.words c.enter-guest.ensures.seen made.ensures.longer)
+
+pub returns-clause-known : goal.returns-clause-known
+returns-clause-known g c =
+    let pass = c.args.pass in
+    let words = c.enter-guest.new.self.words in
+    subst (IsPrefix (commits_of pass.words)) (c.enter-guest.ensures.commits ∙ ap (λ o. commits_of o.words) c.self.view_is)
+    (commits_prefix pass.words words c.enter-guest.ensures.seen)

@@ -1,7 +1,0 @@
-use Rattle.std.proofs.Common.{◌≡◌, false, take}
-use Rattle.std.specs.List.{list_any}
-use Rattle.ct_keeper.specs.Steps.{is_assertion}
-use Rattle.ct_keeper.proofs.offering.asserts.Given as goal
-
-abbrev pub invariant-loop-change : goal.invariant-loop-change
-invariant-loop-change l = list_any is_assertion (take l.change-index l.changes) ≡ false

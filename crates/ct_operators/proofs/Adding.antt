@@ -1,0 +1,139 @@
+-- Sums of the words that rows are put by.
+use Rattle.std.proofs.Common.{◌≡◌, ℕ, zero, suc, ◌+◌, ◌-◌, ◌*◌, ◌≤◌, ◌<◌, Bool, true, false, ◌||◌, List, ◌++◌, map, length, take, refl, ap, sym, subst, ◌∙◌, Ok, Err, arith}
+use Rattle.std.specs.Prelude.{Result, is_err, IsErrOf, Option, Some, None, nat_eq, if◌then◌else◌}
+use Rattle.std.specs.Borrow.{GName}
+use Rattle.std.specs.Option.{IsSome}
+use Rattle.ct_operators.specs.declared.error.TableError.{TableError}
+use Rattle.ct_operators.specs.declared.error.TableError.TheVariants as fault
+use Rattle.ct_operators.specs.Refusals.{is_full}
+use Rattle.ct_condition.specs.Writes.{Writes, charge}
+use Rattle.ct_condition.proofs.Writes.{writes_both}
+use Rattle.std.specs.List.{IsDistinct}
+use Rattle.std.proofs.Math.Nat.{mul-le-mul_right, mul_assoc, mul-add}
+use Rattle.std.proofs.lemmas.List.{length-take-le, length-map, map-append}
+use Rattle.ct_word.specs.declared.values.Value.{Value}
+use Rattle.ct_word.specs.declared.values.Term.{Term}
+use Rattle.ct_word.specs.declared.values.CRow.{CRow}
+use Rattle.ct_word.specs.Value.{World, same_cells}
+use Rattle.ct_word.specs.Reading.{term_at}
+use Rattle.ct_condition.specs.Folding.{folded_and, FoldsTo}
+use Rattle.ct_operators.specs.Tables.{cells_of, firsts}
+use Rattle.ct_operators.specs.Building.{Builds}
+use Rattle.ct_operators.proofs.Firsts.{firsts_distinct, firsts_long}
+use Rattle.ct_operators.proofs.Merges.{cells_equiv}
+
+-- the words for the rows so far, and for one more
+module _ (each : ℕ) (rows : List CRow) (i : ℕ) (lt : i < length rows) (m now new : ℕ) (before : now ≤ m + length (take i rows) * each) where
+  so_many : now ≤ m + i * each
+  so_many = subst (λ n. now ≤ m + n * each) (length-take-le i rows (omega arith)) before
+
+  pub made_more : new ≤ now + each → new ≤ m + length (take (i + 1) rows) * each
+  made_more more = subst (λ n. new ≤ m + n * each) (sym (length-take-le (i + 1) rows (omega arith))) (omega (arith, so_many))
+
+  pub made_within : new ≤ now + each → new ≤ m + length rows * each
+  made_within more = let all : (i + 1) * each ≤ length rows * each = mul-le-mul_right each (omega arith) in omega (arith, so_many)
+
+  -- a row for which there is no room
+  pub made_fewer : new < now + each → new < m + length rows * each
+  made_fewer fewer = let all : (i + 1) * each ≤ length rows * each = mul-le-mul_right each (omega arith) in omega (arith, so_many)
+
+  -- where one more word is to come after all rows
+  pub within_one : new ≤ now + each → new ≤ m + (length rows * each + 1)
+  within_one more = let all = made_within more in omega (arith, all)
+
+  pub fewer_one : new < now + each → new < m + (length rows * each + 1)
+  fewer_one fewer = let all = made_fewer fewer in omega (arith, all)
+
+pub one_after : (m now new n : ℕ) → now ≤ m + n → new ≤ now + 1 → new ≤ m + (n + 1)
+one_after m now new n a b = omega arith
+
+pub none_after : (m now new n : ℕ) → now ≤ m + n → new ≡ now → new < m + (n + 1)
+none_after m now new n a e = omega (arith, e)
+
+-- the error of a call that `?` hands on
+abbrev error_of : {T E : Type 0} → E → Result T E → E
+error_of e (Ok x) = e
+error_of e (Err d) = d
+
+pub passed : {T U E : Type 0} (r : Result T E) (a f : E) → r ≡ Err a → IsErrOf r f → IsErrOf {T = U} (Err a) f
+passed r a f p e = ap Err (ap (error_of a) (sym p ∙ e))
+
+-- fewer words where the log was full
+pub fewer_full : {S : Type 0} {words_of : S → List ℕ} {made_of : S → ℕ} {kept_of : S → List ℕ} {lent_of : S → List GName} {cap : ℕ} {old new : S} {most : ℕ} {T : Type 0} (r : Result T TableError) → IsErrOf r fault.Full
+    → Writes words_of made_of kept_of lent_of cap old new most (is_full r) → made_of new < made_of old + most
+fewer_full {words_of = words_of} {made_of} {kept_of} {lent_of} {cap} {old} {new} {most} r e w =
+    let h : made_of new + 1 ≤ made_of old + most = (subst (λ x. Writes words_of made_of kept_of lent_of cap old new most (is_full x)) e w).made in omega (arith, h)
+
+-- a conjunction that begins or ends with true is folded
+pub true_first : (words : List ℕ) (d : ℕ) → IsSome (folded_and words 0 d)
+true_first words d = by_case (nat_eq d 1) where
+  by_case : (b : Bool) → IsSome (if b then Some 1 else Some d)
+  by_case true = refl
+  by_case false = refl
+
+pub true_last : (words : List ℕ) (c : ℕ) → IsSome (folded_and words c 0)
+true_last words c = by_case (nat_eq c 1) (nat_eq c 0) where
+  by_case : (b e : Bool) → IsSome (if b || false then Some 1 else if e then Some 0 else Some c)
+  by_case true e = refl
+  by_case false true = refl
+  by_case false false = refl
+
+-- what is folded is no error
+folded_free : {E : Type 0} (o : Option ℕ) (w : ℕ) (old new : List ℕ) (r : Result ℕ E) → IsSome o → FoldsTo o w old new r → charge (is_err r) ≡ 0
+folded_free (Some p) w old new r is f = ap (λ x. charge (is_err x)) f.0
+folded_free None w old new r is f = let bad : false ≡ true = is in cc
+
+-- a pair of cells compared after others, of which the first is not joined to any
+pub pair_more : (n m now mid new : ℕ) → now ≤ m + (2 * n - 1) → mid ≤ now + 1 → new ≤ mid + 1 → (n ≡ 0 → new ≡ mid) → new ≤ m + (2 * (n + 1) - 1)
+pair_more zero m now mid new a b c first = let same : new ≡ mid = first refl in omega (arith, same)
+pair_more (suc n) m now mid new a b c first = omega arith
+
+-- cells compared, and the condition of their row with that
+pub pairs_and_one : {S : Type 0} {words_of : S → List ℕ} {made_of : S → ℕ} {kept_of : S → List ℕ} {lent_of : S → List GName} {cap : ℕ} {old mid new : S} {m : ℕ} {E : Type 0} (r : Result ℕ E) (o : Option ℕ) (w k : ℕ)
+    → Writes words_of made_of kept_of lent_of cap old mid m false → m ≤ 2 * k → made_of mid ≤ made_of old + (2 * k - 1) → Writes words_of made_of kept_of lent_of cap mid new 1 (is_err r)
+    → (k ≡ 0 → IsSome o) → (IsSome o → made_of new ≡ made_of mid) → FoldsTo o w (words_of mid) (words_of new) r → Writes words_of made_of kept_of lent_of cap old new (2 * k) (is_err r)
+pairs_and_one {words_of = words_of} {made_of} {kept_of} {lent_of} {cap} {old} {mid} {new} {m} r o w k a le spare b folds unmade to = record {
+  longer = all.longer;
+  formed = all.formed;
+  room = all.room;
+  full = all.full;
+  made = by_width k spare folds;
+  kept = all.kept;
+  lent = all.lent;
+} where
+  all : Writes words_of made_of kept_of lent_of cap old new (m + 1) (is_err r)
+  all = writes_both a b
+
+  by_width : (k : ℕ) → made_of mid ≤ made_of old + (2 * k - 1) → (k ≡ 0 → IsSome o) → made_of new + charge (is_err r) ≤ made_of old + 2 * k
+  by_width zero spare folds =
+      let same : made_of new ≡ made_of mid = unmade (folds refl) in
+      let free : charge (is_err r) ≡ 0 = folded_free o w (words_of mid) (words_of new) r (folds refl) to in
+      omega (arith, same, free)
+  by_width (suc k) spare folds = let one : made_of new + charge (is_err r) ≤ made_of mid + 1 = b.made in omega (arith, one)
+
+-- the sums of the operators
+pub mul_one : (n : ℕ) → n * 1 ≡ n
+mul_one n = omega arith
+
+pub in_all : (l r w : ℕ) → l * (r * w) ≡ l * r * w
+in_all l r w = sym (mul_assoc l r w)
+
+pub in_all_and_one : (l r w : ℕ) → l * (r * w + 1) ≡ l * r * w + l
+in_all_and_one l r w =
+    mul-add l (r * w) 1 ∙ (λ i. in_all l r w i + mul_one l i)
+
+-- rows in the making are as many as their cells
+pub built_long : (old now : List ℕ) (width : ℕ) (rows out : List CRow) (worth : World → List (List Value)) (source : Term → Type 0) → Builds old now width (cells_of old rows) worth source out → length out ≡ length rows
+built_long old now width rows out worth source s =
+    sym (length-map out (λ (r : CRow). map (term_at now) r.cells)) ∙ ap (λ l. length l) s.cells_are ∙ length-map rows (λ (r : CRow). map (term_at old) r.cells)
+
+-- rows of distinct cells are all first ones
+pub all_first : (ws : List ℕ) (rows : List CRow) → IsDistinct same_cells (cells_of ws rows) → length (firsts same_cells (cells_of ws rows)) ≡ length rows
+all_first ws rows d = ap (λ l. length l) (firsts_distinct same_cells (cells_of ws rows) d) ∙ length-map rows (λ (r : CRow). map (term_at ws) r.cells)
+
+-- they are that with further rows behind them
+pub rows_stay_first : (ws : List ℕ) (rows more : List CRow) → IsDistinct same_cells (cells_of ws rows) → length rows ≤ length (firsts same_cells (cells_of ws (rows ++ more)))
+rows_stay_first ws rows more d =
+    let same = all_first ws rows d in
+    let longer = (firsts_long same_cells cells_equiv (cells_of ws rows) (cells_of ws more)).0 in
+    subst (λ cs. length rows ≤ length (firsts same_cells cs)) (sym (map-append (λ (r : CRow). map (term_at ws) r.cells) rows more)) (omega (arith, same, longer))

@@ -1,0 +1,14 @@
+pub mod Reaching
+pub mod Growing
+pub mod Selecting
+pub mod Firsts
+pub mod Merges
+pub mod Projecting
+pub mod Building
+pub mod Pairing
+pub mod Holding
+pub mod Comparing
+pub mod Placed
+pub mod Adding
+pub mod Choosing
+pub mod Naming

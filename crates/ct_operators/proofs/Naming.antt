@@ -1,0 +1,207 @@
+-- A term stands below a place exactly where it is one of the terms of what the place stands for.
+use Rattle.std.proofs.Common.{◌≡◌, ℕ, zero, suc, ◌<◌, true, List, [], ◌∷◌, ◌++◌, map, Option, Some, refl, ap, sym, subst, arith, inl, inr}
+use Rattle.std.specs.Prelude.{IsTrue, All, slice_get, flat_map}
+use Rattle.std.specs.List.{Contains}
+use Rattle.std.proofs.lemmas.Bool.{false≢true}
+use Rattle.std.proofs.lemmas.List.Elements.{All-contains, Contains-append_left, Contains-append_right, Contains-append_cases}
+use Rattle.ct_word.specs.declared.kinds.Kind.{Kind}
+use Rattle.ct_word.specs.declared.kinds.Kind.TheVariants as kind
+use Rattle.ct_word.specs.declared.kinds.Class.TheVariants as class
+use Rattle.ct_word.specs.declared.values.Term.{Term}
+use Rattle.ct_word.specs.declared.values.CRow.{CRow}
+use Rattle.ct_word.specs.Word.{kind_of, left_of, right_of}
+use Rattle.ct_word.specs.Change.{PlainRow}
+use Rattle.ct_word.specs.Condition.{Condition, True, False, Same, Not, And, Or, none, also}
+use Rattle.ct_word.specs.WellFormed.{IsWellFormed, has_class, is_place_of}
+use Rattle.ct_word.specs.Reading.{as_cond, condition_at, term_at, plain_crow}
+use Rattle.ct_word.specs.Stands.{itself, TermBelow, places_in}
+use Rattle.ct_word.proofs.Items.{unmapped_item}
+use Rattle.ct_word.proofs.Places.{stands_term}
+use Rattle.ct_word.proofs.WordAt.{word_is}
+use Rattle.ct_query.specs.Terms.{condition_terms}
+use Rattle.ct_condition.specs.Terms.{BelowEither, BelowSome}
+use Rattle.ct_condition.proofs.Reached.{no_term_at}
+use Rattle.ct_operators.specs.Tables.{IsRow}
+use Rattle.ct_operators.specs.Terms.{TermOfRow, TermOfRows}
+use Rattle.ct_operators.specs.Placing.{parts_of, IsEarlier, AreParts}
+use Rattle.ct_operators.proofs.Reaching.{behind, foremost, first_or_behind, at_or_under, word_of_place, named_by, one_named, term_alone}
+use Rattle.ct_operators.proofs.Placed.{parts_are}
+
+-- the image of an item
+pub mapped : {A B : Type 0} (f : A → B) (xs : List A) (x : A) → Contains xs x → Contains (map f xs) (f x)
+mapped f [] x h = absurd (omega (arith, h.1))
+mapped f (y ∷ ys) x h = elim (first_or_behind y ys x h) [
+  | inl e ↦ subst (λ z. Contains (f y ∷ map f ys) (f z)) e (foremost (f y) (map f ys))
+  | inr b ↦ behind (f y) (map f ys) (f x) (mapped f ys x b)
+]
+
+-- what an item gives
+pub given : {A B : Type 0} (f : A → List B) (xs : List A) (x : A) (y : B) → Contains xs x → Contains (f x) y → Contains (flat_map f xs) y
+given f [] x y h g = absurd (omega (arith, h.1))
+given f (z ∷ xs) x y h g = elim (first_or_behind z xs x h) [
+  | inl e ↦ Contains-append_left (f z) (flat_map f xs) y (subst (λ u. Contains (f u) y) (sym e) g)
+  | inr b ↦ Contains-append_right (f z) (flat_map f xs) y (given f xs x y b g)
+]
+
+-- the terms of a row
+abbrev pub row_terms : PlainRow → List Term
+row_terms r = r.cells ++ condition_terms r.condition
+
+-- the cells of a row are places of terms, and its condition is a place of a condition
+abbrev pub HasPlaces : List ℕ → CRow → Type 0
+HasPlaces ws r = All (λ p. IsTrue (is_place_of ws class.Term p)) r.cells × IsTrue (is_place_of ws class.Cond r.cond)
+
+module _ (ws : List ℕ) (formed : IsWellFormed ws) where
+  -- a term below the condition at a place is one of the condition's
+  named_within : (n p : ℕ) (t : Term) → p < n → IsTrue (is_place_of ws class.Cond p) → TermBelow ws p t → Contains (condition_terms (condition_at ws p)) t
+  named_within zero p t lt e h = absurd (omega (arith, lt))
+  named_within (suc n) p t lt e h = by_kind (kind_of word.0) refl word.2 (parts_are ws formed p word.0 word.1 e) (λ c less at below. named_within n c t (omega (arith, less, lt)) at below) where
+    word : (w : ℕ) × (slice_get ws p ≡ Some w) × (has_class (kind_of w) class.Cond ≡ true)
+    word = word_of_place ws formed class.Cond p e
+
+    under : (k : Kind) → kind_of word.0 ≡ Some k → BelowSome ws (places_in (Some k) (left_of word.0) (right_of word.0)) t
+    under k is = elim (at_or_under ws p h.0 word.0 t word.1 h.1 h.2) [
+      | inl s ↦ absurd (no_term_at ws class.Cond p t e (λ q. cc) s)
+      | inr b ↦ named_by ws formed word.0 k is t b
+    ]
+
+    of_two : (a b : ℕ) → IsTrue (is_place_of ws class.Cond a) × (a < p) → IsTrue (is_place_of ws class.Cond b) × (b < p)
+        → ((c : ℕ) → c < p → IsTrue (is_place_of ws class.Cond c) → TermBelow ws c t → Contains (condition_terms (condition_at ws c)) t)
+        → BelowSome ws (a ∷ b ∷ []) t → Contains (condition_terms (condition_at ws a) ++ (condition_terms (condition_at ws b) ++ [])) t
+    of_two a b left right before u = elim (first_or_behind a (b ∷ []) u.place u.among) [
+      | inl q ↦
+          Contains-append_left (condition_terms (condition_at ws a)) (condition_terms (condition_at ws b) ++ []) t
+          (before a left.1 left.0 (subst (λ x. TermBelow ws x t) (sym q) u.below))
+      | inr i ↦
+          Contains-append_right (condition_terms (condition_at ws a)) (condition_terms (condition_at ws b) ++ []) t
+          (Contains-append_left (condition_terms (condition_at ws b)) [] t (before b right.1 right.0 (one_named ws formed b t (record { place = u.place; among = i; below = u.below }))))
+    ]
+
+    by_kind : (o : Option Kind) → kind_of word.0 ≡ o → has_class o class.Cond ≡ true → AreParts ws p (parts_of o (left_of word.0) (right_of word.0))
+        → ((c : ℕ) → c < p → IsTrue (is_place_of ws class.Cond c) → TermBelow ws c t → Contains (condition_terms (condition_at ws c)) t)
+        → Contains (condition_terms (condition_at ws p)) t
+    by_kind (Some kind.True) is c parts before = absurd (parts.1 t h)
+    by_kind (Some kind.False) is c parts before = absurd (parts.1 t h)
+    by_kind (Some kind.Equal) is c parts before =
+        let a = left_of word.0 in
+        let b = right_of word.0 in
+        let u = under kind.Equal is in
+        subst (λ d. Contains (condition_terms d) t) (sym parts.2) (elim (first_or_behind a (b ∷ []) u.place u.among) [
+          | inl q ↦
+              subst (λ x. Contains (term_at ws a ∷ term_at ws b ∷ []) x) (sym (term_alone ws formed a t parts.0 (subst (λ x. TermBelow ws x t) (sym q) u.below)))
+              (foremost (term_at ws a) (term_at ws b ∷ []))
+          | inr i ↦
+              subst (λ x. Contains (term_at ws a ∷ term_at ws b ∷ []) x)
+              (sym (term_alone ws formed b t parts.1 (one_named ws formed b t (record { place = u.place; among = i; below = u.below }))))
+              (behind (term_at ws a) (term_at ws b ∷ []) (term_at ws b) (foremost (term_at ws b) []))
+        ])
+    by_kind (Some kind.Not) is c parts before =
+        subst (λ d. Contains (condition_terms d) t) (sym parts.1) (before (left_of word.0) parts.0.1 parts.0.0 (one_named ws formed (left_of word.0) t (under kind.Not is)))
+    by_kind (Some kind.And) is c parts before =
+        subst (λ d. Contains (condition_terms d) t) (sym parts.2) (of_two (left_of word.0) (right_of word.0) parts.0 parts.1 before (under kind.And is))
+    by_kind (Some kind.Or) is c parts before =
+        subst (λ d. Contains (condition_terms d) t) (sym parts.2) (of_two (left_of word.0) (right_of word.0) parts.0 parts.1 before (under kind.Or is))
+    by_kind _ is c parts before = absurd (false≢true c)
+
+  pub condition_named : (p : ℕ) (t : Term) → IsTrue (is_place_of ws class.Cond p) → TermBelow ws p t → Contains (condition_terms (condition_at ws p)) t
+  condition_named p t e h = named_within (suc p) p t (omega arith) e h
+
+  -- a term of the condition at a place stands below the place
+  reached_within : (n p : ℕ) (t : Term) → p < n → IsTrue (is_place_of ws class.Cond p) → Contains (condition_terms (condition_at ws p)) t → TermBelow ws p t
+  reached_within zero p t lt e h = absurd (omega (arith, lt))
+  reached_within (suc n) p t lt e h = by_kind (kind_of word.0) refl word.2 (parts_are ws formed p word.0 word.1 e) (λ c less at among. reached_within n c t (omega (arith, less, lt)) at among) where
+    word : (w : ℕ) × (slice_get ws p ≡ Some w) × (has_class (kind_of w) class.Cond ≡ true)
+    word = word_of_place ws formed class.Cond p e
+
+    shaped : (c : Condition) → condition_at ws p ≡ c → Contains (condition_terms c) t
+    shaped c is = subst (λ d. Contains (condition_terms d) t) is h
+
+    named_at : (a : ℕ) → IsTrue (is_place_of ws class.Term a) → term_at ws a ≡ t → TermBelow ws a t
+    named_at a is_a q = subst (TermBelow ws a) q (a, itself, stands_term ws a is_a)
+
+    Before : Type 0
+    Before = (c : ℕ) → c < p → IsTrue (is_place_of ws class.Cond c) → Contains (condition_terms (condition_at ws c)) t → TermBelow ws c t
+
+    of_two : (a b : ℕ) → IsEarlier ws p a → IsEarlier ws p b → ((u : Term) → BelowEither ws a b u → TermBelow ws p u) → Before
+        → Contains (condition_terms (condition_at ws a) ++ (condition_terms (condition_at ws b) ++ [])) t → TermBelow ws p t
+    of_two a b left right up before c =
+        elim (Contains-append_cases (condition_terms (condition_at ws a)) (condition_terms (condition_at ws b) ++ []) t c) [
+          | inl l ↦ up t (inl (before a left.1 left.0 l))
+          | inr r ↦ elim (Contains-append_cases (condition_terms (condition_at ws b)) [] t r) [
+            | inl l ↦ up t (inr (before b right.1 right.0 l))
+            | inr z ↦ absurd (omega (arith, z.1))
+          ]
+        ]
+
+    by_kind : (o : Option Kind) → kind_of word.0 ≡ o → has_class o class.Cond ≡ true → AreParts ws p (parts_of o (left_of word.0) (right_of word.0)) → Before → TermBelow ws p t
+    by_kind (Some kind.True) is c parts before =
+        absurd (omega (arith, (shaped True (ap as_cond (word_is ws p word.0 word.1 formed kind.True is (omega arith) (omega arith)).meaning)).1))
+    by_kind (Some kind.False) is c parts before =
+        absurd (omega (arith, (shaped False (ap as_cond (word_is ws p word.0 word.1 formed kind.False is (omega arith) (omega arith)).meaning)).1))
+    by_kind (Some kind.Equal) is c parts before =
+        let a = left_of word.0 in
+        let b = right_of word.0 in
+        elim (first_or_behind (term_at ws a) (term_at ws b ∷ []) t (shaped (Same (term_at ws a) (term_at ws b)) parts.2)) [
+          | inl q ↦ parts.3 t (inl (named_at a parts.0 q))
+          | inr r ↦ elim (first_or_behind (term_at ws b) [] t r) [
+            | inl q ↦ parts.3 t (inr (named_at b parts.1 q))
+            | inr z ↦ absurd (omega (arith, z.1))
+          ]
+        ]
+    by_kind (Some kind.Not) is c parts before =
+        let a = left_of word.0 in
+        parts.2 t (before a parts.0.1 parts.0.0 (shaped (Not (condition_at ws a)) parts.1))
+    by_kind (Some kind.And) is c parts before =
+        let a = left_of word.0 in
+        let b = right_of word.0 in
+        of_two a b parts.0 parts.1 parts.3 before (shaped (And (also (condition_at ws a) (also (condition_at ws b) none))) parts.2)
+    by_kind (Some kind.Or) is c parts before =
+        let a = left_of word.0 in
+        let b = right_of word.0 in
+        of_two a b parts.0 parts.1 parts.3 before (shaped (Or (also (condition_at ws a) (also (condition_at ws b) none))) parts.2)
+    by_kind _ is c parts before = absurd (false≢true c)
+
+  pub condition_reached : (p : ℕ) (t : Term) → IsTrue (is_place_of ws class.Cond p) → Contains (condition_terms (condition_at ws p)) t → TermBelow ws p t
+  condition_reached p t e h = reached_within (suc p) p t (omega arith) e h
+
+  -- a term below a row is one of the row's
+  pub row_named : (r : CRow) (t : Term) → HasPlaces ws r → TermOfRow ws r t → Contains (row_terms (plain_crow ws r)) t
+  row_named r t has b = elim (first_or_behind r.cond r.cells b.place b.among) [
+    | inl e ↦
+        Contains-append_right (map (term_at ws) r.cells) (condition_terms (condition_at ws r.cond)) t
+        (condition_named r.cond t has.1 (subst (λ p. TermBelow ws p t) (sym e) b.below))
+    | inr i ↦
+        Contains-append_left (map (term_at ws) r.cells) (condition_terms (condition_at ws r.cond)) t
+        (subst (Contains (map (term_at ws) r.cells)) (sym (term_alone ws formed b.place t (All-contains (λ p. IsTrue (is_place_of ws class.Term p)) r.cells b.place has.0 i) b.below))
+        (mapped (term_at ws) r.cells b.place i))
+  ]
+
+  -- and a term of a row stands below it
+  pub row_reached : (r : CRow) (t : Term) → HasPlaces ws r → Contains (row_terms (plain_crow ws r)) t → TermOfRow ws r t
+  row_reached r t has h = elim (Contains-append_cases (map (term_at ws) r.cells) (condition_terms (condition_at ws r.cond)) t h) [
+    | inl l ↦
+        let cell = unmapped_item (term_at ws) r.cells t l in
+        record {
+          place = cell.0;
+          among = behind r.cond r.cells cell.0 cell.1;
+          below = subst (TermBelow ws cell.0) cell.2 (cell.0, itself, stands_term ws cell.0 (All-contains (λ p. IsTrue (is_place_of ws class.Term p)) r.cells cell.0 has.0 cell.1));
+        }
+    | inr c ↦ record { place = r.cond; among = foremost r.cond r.cells; below = condition_reached r.cond t has.1 c }
+  ]
+
+  -- a term below one of some rows is one of those of their list
+  pub rows_named : (n : ℕ) (rs : List CRow) (t : Term) → All (IsRow ws n) rs → TermOfRows ws rs t → Contains (flat_map row_terms (map (plain_crow ws) rs)) t
+  rows_named n rs t each h =
+      let is = All-contains (IsRow ws n) rs h.row each h.among in
+      given row_terms (map (plain_crow ws) rs) (plain_crow ws h.row) t (mapped (plain_crow ws) rs h.row h.among) (row_named h.row t (is.terms, is.condition) h.below)
+
+  -- the same terms stand below rows of places that stand for the same rows
+  pub rows_alike : (a b : List CRow) → All (HasPlaces ws) a → All (HasPlaces ws) b → map (plain_crow ws) a ≡ map (plain_crow ws) b → (u : Term) → TermOfRows ws a u → TermOfRows ws b u
+  rows_alike a b first second e u h =
+      let named = row_named h.row u (All-contains (HasPlaces ws) a h.row first h.among) h.below in
+      let other = unmapped_item (plain_crow ws) b (plain_crow ws h.row) (subst (λ rs. Contains rs (plain_crow ws h.row)) e (mapped (plain_crow ws) a h.row h.among)) in
+      record {
+        row = other.0;
+        among = other.1;
+        below = row_reached other.0 u (All-contains (HasPlaces ws) b other.0 second other.1) (subst (λ r. Contains (row_terms r) u) (sym other.2) named);
+      }

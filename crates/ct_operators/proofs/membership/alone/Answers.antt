@@ -1,0 +1,129 @@
+use Rattle.std.proofs.Common.{◌≡◌, ◌+◌, ◌∙◌, not, ◌&&◌, [], ◌∷◌, ◌++◌, length, take, ap, sym, subst, arith}
+use Rattle.std.specs.Prelude.{All, IsTrue}
+use Rattle.std.proofs.lemmas.List.{take_more, take_all}
+use Rattle.std.proofs.lemmas.Result.{err_from_is_err_and}
+use Rattle.ct_word.specs.declared.kinds.Class.TheVariants as class
+use Rattle.ct_word.specs.Condition.{holds_at}
+use Rattle.ct_word.specs.Reading.{condition_at}
+use Rattle.ct_word.specs.WellFormed.{is_place_of}
+use Rattle.ct_word.proofs.Prefixes.{prefix_of_prefix, place_in_prefix, place_within}
+use Rattle.ct_operators.specs.Tables.{IsRow}
+use Rattle.ct_operators.specs.Building.{HoldsWhere}
+use Rattle.ct_operators.specs.Matching.{same_worth, is_among}
+use Rattle.ct_operators.proofs.Selecting.{row_at}
+use Rattle.ct_operators.proofs.Growing.{is_row_grows}
+use Rattle.ct_operators.proofs.Comparing.{alone_none, alone_more, alone_never}
+use Rattle.ct_condition.proofs.Writes.{writes_none, writes_both, writes_within, writes_more, writes_all, writes_last}
+use Rattle.std.proofs.lemmas.List.Elements.{All-head}
+use Rattle.ct_condition.specs.Terms.{TermsFrom, BelowSome}
+use Rattle.ct_operators.specs.Terms.{TermOfRows}
+use Rattle.ct_operators.proofs.Reaching.{from_two, from_later, shown_from, row_itself, foremost}
+use Rattle.ct_operators.proofs.membership.alone.Goals as goal
+
+pub loop-other-init : goal.loop-other-init
+loop-other-init g c =
+    let old = g.I.Interner.list c.args.pass.now in
+    let row = c.args.row.now in
+    let source = TermOfRows old (row ∷ c.args.others.now) in
+    record {
+      writes = writes_none _ c.words.ensures.formed c.words.ensures.room;
+      holds = alone_none _ c.args.row.now.cells c.args.row.now.cond c.requires.row.condition;
+      from = All-head (λ p. TermsFrom old p source) row.cond row.cells (row_itself old (row ∷ c.args.others.now) row (foremost row c.args.others.now));
+    }
+
+pub shown_as-requires-clause-cells : goal.shown_as-requires-clause-cells
+shown_as-requires-clause-cells g c =
+    let old = g.I.Interner.list c.args.pass.now in
+    let now = g.I.Interner.list c.loop-other.pass in
+    let row = c.args.row.now in
+    subst (All (λ p. IsTrue (is_place_of now class.Term p))) (sym c.as_slice.ensures) (is_row_grows old now c.loop-other.invariant.writes.longer c.words.ensures.formed (length row.cells) row c.requires.row).terms
+
+pub shown_as-requires-clause-other : goal.shown_as-requires-clause-other
+shown_as-requires-clause-other g c =
+    let old = g.I.Interner.list c.args.pass.now in
+    let now = g.I.Interner.list c.loop-other.pass in
+    let width = length c.args.row.now.cells in
+    let grown = c.loop-other.invariant.writes.longer in
+    let s = c.other-item.result in
+    subst (λ cs. IsRow now (length cs) s) (sym c.as_slice.ensures)
+    (is_row_grows old now grown c.words.ensures.formed width s (row_at old now width c.args.others.now c.loop-other.other-index s grown c.words.ensures.formed c.requires.others c.loop-other-test.true c.other-item.is).0)
+
+pub not-requires : goal.not-requires
+not-requires g c = record { condition = c.in_ok-there.ensures.holds.class }
+
+pub and-requires-clause-left : goal.and-requires-clause-left
+and-requires-clause-left g c =
+    let now = g.I.Interner.list c.loop-other.pass in
+    let there = g.I.Interner.list c.shown_as.new.pass in
+    let absent = g.I.Interner.list c.not.new.pass in
+    place_in_prefix now absent class.Cond c.loop-other.cond (prefix_of_prefix now there absent c.in_ok-there.ensures.writes.longer c.not.ensures.longer) c.loop-other.invariant.holds.class
+
+pub and-requires-clause-right : goal.and-requires-clause-right
+and-requires-clause-right g c = c.in_ok-absent.ensures.truth.class
+
+pub loop-other-preserved : goal.loop-other-preserved
+loop-other-preserved g c =
+    let old = g.I.Interner.list c.args.pass.now in
+    let now = g.I.Interner.list c.loop-other.pass in
+    let m1 = g.I.Interner.list c.shown_as.new.pass in
+    let m2 = g.I.Interner.list c.not.new.pass in
+    let new = g.I.Interner.list c.and.new.pass in
+    let row = c.args.row.now in
+    let width = length row.cells in
+    let others = c.args.others.now in
+    let i = c.loop-other.other-index in
+    let s = c.other-item.result in
+    let grown = c.loop-other.invariant.writes.longer in
+    let is = (row_at old now width others i s grown c.words.ensures.formed c.requires.others c.loop-other-test.true c.other-item.is).0 in
+    let done : take i others ++ s ∷ [] ≡ take (i + 1) others = ap (λ x. take i others ++ x ∷ []) c.other-item.is ∙ sym (take_more others i s c.loop-other-test.true) in
+    let source = TermOfRows old (row ∷ others) in
+    record {
+      holds = subst (λ d. HoldsWhere new c.in_ok-cond.cond (λ v. holds_at v (condition_at old row.cond) && not (is_among old d row.cells v))) done
+          (alone_more old now width grown (take i others) s is row.cells c.requires.row.terms m1 m2 new (λ v. holds_at v (condition_at old row.cond)) c.in_ok-there.ensures.writes.longer c.not.ensures.longer
+          c.loop-other.cond c.in_ok-there.there c.in_ok-absent.absent c.in_ok-cond.cond c.loop-other.invariant.holds
+          (subst (λ cs. HoldsWhere m1 c.in_ok-there.there (λ v. holds_at v (condition_at now s.cond) && same_worth now s.cells cs v)) c.as_slice.ensures c.in_ok-there.ensures.holds)
+          c.in_ok-absent.ensures.truth c.in_ok-cond.ensures.truth);
+      writes =
+          let wide : length c.as_slice.result.now ≡ length row.cells = ap (λ l. length l) c.as_slice.ensures in
+          writes_more _ i c.loop-other.invariant.writes (writes_within _ (omega (arith, wide)) (writes_both c.in_ok-there.ensures.writes (writes_both c.in_ok-absent.ensures.writes c.in_ok-cond.ensures.writes)));
+      from = from_two m2 new c.loop-other.cond c.in_ok-absent.absent c.in_ok-cond.cond source
+          (from_later now m2 (prefix_of_prefix now m1 m2 c.in_ok-there.ensures.writes.longer c.not.ensures.longer) c.loop-other.invariant.writes.formed c.loop-other.cond source
+          (place_within now class.Cond c.loop-other.cond c.loop-other.invariant.holds.class) c.loop-other.invariant.from)
+          (λ t h. shown_from old now grown c.words.ensures.formed width width row s others c.requires.row is (i, c.loop-other-test.true, sym c.other-item.is) t
+          (subst (λ cs. TermsFrom m1 c.in_ok-there.there (BelowSome now (s.cond ∷ (s.cells ++ cs)))) c.as_slice.ensures c.in_ok-there.ensures.terms t (c.in_ok-absent.ensures.terms t h)))
+          c.in_ok-cond.ensures.terms;
+    }
+
+pub returns-then-cond-eq-FALSE_PLACE-clause-holds : goal.returns-then-cond-eq-FALSE_PLACE-clause-holds
+returns-then-cond-eq-FALSE_PLACE-clause-holds g c =
+    let old = g.I.Interner.list c.args.pass.now in
+    let now = g.I.Interner.list c.loop-other.pass in
+    let row = c.args.row.now in
+    alone_never old now c.args.others.now c.loop-other.other-index c.loop-other.cond row.cells (λ v. holds_at v (condition_at old row.cond))
+    (prefix_of_prefix _ old now c.words.ensures.begins c.loop-other.invariant.writes.longer) c.loop-other.invariant.writes.formed
+    c.if-cond-eq-FALSE_PLACE.true c.loop-other.invariant.holds
+
+pub returns-clause-holds : goal.returns-clause-holds
+returns-clause-holds g c =
+    let old = g.I.Interner.list c.args.pass.now in
+    let row = c.args.row.now in
+    subst (λ d. HoldsWhere (g.I.Interner.list c.loop-other.pass) c.loop-other.cond (λ v. holds_at v (condition_at old row.cond) && not (is_among old d row.cells v)))
+    (take_all c.loop-other.other-index c.args.others.now c.loop-other-test.false) c.loop-other.invariant.holds
+
+pub returns-in_err-there-clause-writes : goal.returns-in_err-there-clause-writes
+returns-in_err-there-clause-writes g c =
+    let wide : length c.as_slice.result.now ≡ length c.args.row.now.cells = ap (λ l. length l) c.as_slice.ensures in
+    rw (err_from_is_err_and c.from_residual.result c.from_residual.ensures.1).1 (writes_last _ _ c.loop-other.invariant.writes _ c.loop-other-test.true (writes_within _ (omega (arith, wide)) c.in_err-there.ensures.writes))
+
+pub returns-in_err-absent-clause-writes : goal.returns-in_err-absent-clause-writes
+returns-in_err-absent-clause-writes g c =
+    let wide : length c.as_slice.result.now ≡ length c.args.row.now.cells = ap (λ l. length l) c.as_slice.ensures in
+    rw (err_from_is_err_and c.from_residual-in_err-absent.result c.from_residual-in_err-absent.ensures.1).1 (writes_last _ _ c.loop-other.invariant.writes _ c.loop-other-test.true (writes_within _ (omega (arith, wide)) (writes_both c.in_ok-there.ensures.writes c.in_err-absent.ensures.writes)))
+
+pub returns-in_err-cond-clause-writes : goal.returns-in_err-cond-clause-writes
+returns-in_err-cond-clause-writes g c =
+    let wide : length c.as_slice.result.now ≡ length c.args.row.now.cells = ap (λ l. length l) c.as_slice.ensures in
+    rw (err_from_is_err_and c.from_residual-in_err-cond.result c.from_residual-in_err-cond.ensures.1).1 (writes_last _ _ c.loop-other.invariant.writes _ c.loop-other-test.true (writes_within _ (omega (arith, wide)) (writes_both c.in_ok-there.ensures.writes (writes_both c.in_ok-absent.ensures.writes c.in_err-cond.ensures.writes))))
+
+pub returns-clause-writes : goal.returns-clause-writes
+returns-clause-writes g c = writes_all _ _ c.loop-other.invariant.writes _ c.loop-other.auto.other-index-end

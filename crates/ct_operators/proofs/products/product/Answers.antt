@@ -1,0 +1,71 @@
+use Rattle.std.proofs.Common.{◌∙◌, length, ap, sym, subst, ◌≡◌, arith, ◌++◌}
+use Rattle.std.specs.Prelude.{All, IfOk}
+use Rattle.std.specs.List.{IsDistinct}
+use Rattle.std.proofs.lemmas.List.{length-append}
+use Rattle.std.proofs.lemmas.Result.{IfOk-weaker}
+use Rattle.ct_word.specs.Value.{same_cells}
+use Rattle.ct_word.specs.Sublist.{IsSublist}
+use Rattle.ct_query.specs.Database.{SameSet}
+use Rattle.ct_operators.specs.Tables.{IsRow, AreRows, value_of_rows, cells_of, firsts}
+use Rattle.ct_query.specs.Rows.{joins}
+use Rattle.ct_operators.proofs.Firsts.{part_of_firsts}
+use Rattle.ct_operators.proofs.Adding.{all_first}
+use Rattle.ct_operators.proofs.Pairing.{joined_apart}
+use Rattle.ct_operators.specs.Terms.{TermOfRows, RowsFrom}
+use Rattle.ct_operators.proofs.Reaching.{rows_wider, from_rows}
+use Rattle.ct_operators.proofs.products.product.Goals as goal
+
+pub merged-requires : goal.merged-requires
+merged-requires g c =
+    let mid = g.I.Interner.list c.pairs.new.pass in
+    record {
+      rows = subst (λ n. All (IsRow mid n) c.in_ok-pairs.pairs.items)
+          (sym (ap (λ cs. length cs) c.in_ok-names.ensures ∙ length-append c.args.left.now.columns c.args.right.now.columns)) c.in_ok-pairs.ensures.pairs.each;
+    }
+
+pub returns-clause-rows : goal.returns-clause-rows
+returns-clause-rows g c =
+    subst (λ n. IfOk c.merged.result (λ out. AreRows (g.I.Interner.list c.merged.new.pass) n out.rows))
+    (ap (λ cs. length cs) c.in_ok-names.ensures ∙ length-append c.args.left.now.columns c.args.right.now.columns) c.merged.ensures.rows
+
+pub returns-clause-tuples : goal.returns-clause-tuples
+returns-clause-tuples g c v =
+    subst (λ l. IfOk c.merged.result (λ out. SameSet (value_of_rows (g.I.Interner.list c.merged.new.pass) v out.rows) l)) (c.in_ok-pairs.ensures.pairs.worth_is v) (c.merged.ensures.tuples v)
+
+pub returns-clause-part : goal.returns-clause-part
+returns-clause-part g c =
+    let old = g.I.Interner.list c.args.pass.now in
+    let new = g.I.Interner.list c.merged.new.pass in
+    let all = joins (cells_of old c.args.left.now.rows) (cells_of old c.args.right.now.rows) in
+    IfOk-weaker c.merged.result (λ out. IsSublist (cells_of new out.rows) (firsts same_cells all)) (λ out. IsSublist (cells_of new out.rows) all)
+    (λ out. part_of_firsts same_cells (cells_of new out.rows) all)
+    (subst (λ l. IfOk c.merged.result (λ out. IsSublist (cells_of new out.rows) (firsts same_cells l))) c.in_ok-pairs.ensures.pairs.cells_are c.merged.ensures.order)
+
+pub returns-clause-made : goal.returns-clause-made
+returns-clause-made g c =
+    let old = g.I.Interner.list c.args.pass.now in
+    let mid = g.I.Interner.list c.pairs.new.pass in
+    let out = c.in_ok-pairs.pairs.items in
+    let apart : length (firsts same_cells (cells_of mid out)) ≡ length out =
+    all_first mid out (subst (IsDistinct same_cells) (sym c.in_ok-pairs.ensures.pairs.cells_are)
+    (joined_apart old (length c.args.left.now.columns) (length c.args.right.now.columns) c.args.left.now.rows c.args.right.now.rows c.requires.left c.requires.right)) in
+    omega (arith, apart, c.pairs.ensures.made, c.merged.ensures.made)
+
+pub returns-clause-fewer : goal.returns-clause-fewer
+returns-clause-fewer g c e =
+    let old = g.I.Interner.list c.args.pass.now in
+    let mid = g.I.Interner.list c.pairs.new.pass in
+    let out = c.in_ok-pairs.pairs.items in
+    let apart : length (firsts same_cells (cells_of mid out)) ≡ length out =
+    all_first mid out (subst (IsDistinct same_cells) (sym c.in_ok-pairs.ensures.pairs.cells_are)
+    (joined_apart old (length c.args.left.now.columns) (length c.args.right.now.columns) c.args.left.now.rows c.args.right.now.rows c.requires.left c.requires.right)) in
+    omega (arith, apart, c.pairs.ensures.made, c.merged.ensures.fewer e)
+
+pub returns-clause-terms : goal.returns-clause-terms
+returns-clause-terms g c =
+    let mid = g.I.Interner.list c.pairs.new.pass in
+    let new = g.I.Interner.list c.merged.new.pass in
+    let source = TermOfRows (g.I.Interner.list c.args.pass.now) (c.args.left.now.rows ++ c.args.right.now.rows) in
+    IfOk-weaker c.merged.result (λ out. RowsFrom new out.rows (TermOfRows mid c.in_ok-pairs.pairs.items)) (λ out. RowsFrom new out.rows source)
+    (λ out. rows_wider new (TermOfRows mid c.in_ok-pairs.pairs.items) source (from_rows mid c.in_ok-pairs.pairs.items source c.in_ok-pairs.ensures.pairs.from) out.rows)
+    c.merged.ensures.terms

@@ -1,0 +1,90 @@
+use Rattle.std.proofs.Common.{◌<◌, ◌∙◌, length, map, ap, sym, subst, ◌≡◌, arith}
+use Rattle.std.specs.Prelude.{All, IfOk}
+use Rattle.std.proofs.lemmas.List.{length-map}
+use Rattle.std.proofs.lemmas.Result.{IfOk-weaker}
+use Rattle.ct_word.specs.Value.{same_cells}
+use Rattle.ct_word.specs.Sublist.{IsSublist}
+use Rattle.ct_query.specs.Database.{SameSet}
+use Rattle.ct_query.specs.Patterns.{picked}
+use Rattle.ct_operators.specs.Tables.{IsRow, AreRows, value_of_rows, cells_of, firsts}
+use Rattle.ct_operators.specs.Projection.{picked_row}
+use Rattle.ct_operators.proofs.Firsts.{part_of_firsts}
+use Rattle.ct_operators.proofs.Projecting.{all_within, picked_rows, cells_picked, value_picked, picked_from}
+use Rattle.ct_operators.specs.Terms.{TermOfRows, RowsFrom}
+use Rattle.ct_operators.proofs.Reaching.{rows_itself, rows_wider, from_rows}
+use Rattle.ct_operators.proofs.projection.project.Goals as goal
+
+pub pick_each-requires : goal.pick_each-requires
+pick_each-requires g c =
+    subst (All (λ r. All (λ k. k < length r.cells) c.args.columns.now)) (sym c.as_slice.ensures)
+    (all_within (g.I.Interner.list c.args.pass.now) (length c.args.table.now.columns) c.args.columns.now c.requires.columns c.args.table.now.rows c.requires.rows.each)
+
+pub merged-requires : goal.merged-requires
+merged-requires g c =
+    let old = g.I.Interner.list c.args.pass.now in
+    let rows = c.args.table.now.rows in
+    let ks = c.args.columns.now in
+    record {
+      rows = subst (λ n. All (IsRow old n) c.in_ok-rows.rows.items) (sym (ap (λ cs. length cs) c.in_ok-names.ensures ∙ length-map ks _))
+          (subst (All (IsRow old (length ks))) (sym (c.in_ok-rows.ensures ∙ ap (map _) c.as_slice.ensures))
+          (picked_rows old (length c.args.table.now.columns) ks c.requires.columns rows c.requires.rows.each));
+    }
+
+pub returns-clause-rows : goal.returns-clause-rows
+returns-clause-rows g c =
+    subst (λ n. IfOk c.merged.result (λ out. AreRows (g.I.Interner.list c.merged.new.pass) n out.rows))
+    (ap (λ cs. length cs) c.in_ok-names.ensures ∙ length-map c.args.columns.now _) c.merged.ensures.rows
+
+pub returns-clause-tuples : goal.returns-clause-tuples
+returns-clause-tuples g c v =
+    let old = g.I.Interner.list c.args.pass.now in
+    let new = g.I.Interner.list c.merged.new.pass in
+    let rows = c.args.table.now.rows in
+    let ks = c.args.columns.now in
+    subst (λ l. IfOk c.merged.result (λ out. SameSet (value_of_rows new v out.rows) l))
+    (ap (value_of_rows old v) (c.in_ok-rows.ensures ∙ ap (map _) c.as_slice.ensures)
+    ∙ value_picked old (length c.args.table.now.columns) ks c.requires.columns v rows c.requires.rows.each)
+    (c.merged.ensures.tuples v)
+
+pub returns-clause-order : goal.returns-clause-order
+returns-clause-order g c =
+    let old = g.I.Interner.list c.args.pass.now in
+    let new = g.I.Interner.list c.merged.new.pass in
+    let rows = c.args.table.now.rows in
+    let ks = c.args.columns.now in
+    subst (λ l. IfOk c.merged.result (λ out. IsSublist (cells_of new out.rows) (firsts same_cells l)))
+    (ap (cells_of old) (c.in_ok-rows.ensures ∙ ap (map _) c.as_slice.ensures)
+    ∙ cells_picked old (length c.args.table.now.columns) ks c.requires.columns rows c.requires.rows.each)
+    c.merged.ensures.order
+
+pub returns-clause-part : goal.returns-clause-part
+returns-clause-part g c =
+    let old = g.I.Interner.list c.args.pass.now in
+    let new = g.I.Interner.list c.merged.new.pass in
+    let all = map (picked c.args.columns.now) (cells_of old c.args.table.now.rows) in
+    IfOk-weaker c.merged.result (λ out. IsSublist (cells_of new out.rows) (firsts same_cells all)) (λ out. IsSublist (cells_of new out.rows) all)
+    (λ out. part_of_firsts same_cells (cells_of new out.rows) all) (returns-clause-order g c)
+
+pub returns-clause-made : goal.returns-clause-made
+returns-clause-made g c =
+    let long : length c.in_ok-rows.rows.items ≡ length c.args.table.now.rows =
+    ap (λ l. length l) (c.in_ok-rows.ensures ∙ ap (map _) c.as_slice.ensures) ∙ length-map c.args.table.now.rows (picked_row c.args.columns.now) in
+    omega (arith, long, c.merged.ensures.made)
+
+pub returns-clause-fewer : goal.returns-clause-fewer
+returns-clause-fewer g c e =
+    let long : length c.in_ok-rows.rows.items ≡ length c.args.table.now.rows =
+    ap (λ l. length l) (c.in_ok-rows.ensures ∙ ap (map _) c.as_slice.ensures) ∙ length-map c.args.table.now.rows (picked_row c.args.columns.now) in
+    omega (arith, long, c.merged.ensures.fewer e)
+
+pub returns-clause-terms : goal.returns-clause-terms
+returns-clause-terms g c =
+    let old = g.I.Interner.list c.args.pass.now in
+    let new = g.I.Interner.list c.merged.new.pass in
+    let rows = c.args.table.now.rows in
+    let ks = c.args.columns.now in
+    let source = TermOfRows old rows in
+    let from = picked_from old (length c.args.table.now.columns) ks c.requires.columns source rows c.requires.rows.each (rows_itself old rows) in
+    IfOk-weaker c.merged.result (λ out. RowsFrom new out.rows (TermOfRows old (map (picked_row ks) rows))) (λ out. RowsFrom new out.rows source)
+    (λ out. rows_wider new (TermOfRows old (map (picked_row ks) rows)) source (from_rows old (map (picked_row ks) rows) source from) out.rows)
+    (subst (λ l. IfOk c.merged.result (λ out. RowsFrom new out.rows (TermOfRows old l))) (c.in_ok-rows.ensures ∙ ap (map _) c.as_slice.ensures) c.merged.ensures.terms)

@@ -1,0 +1,9 @@
+pub mod Tables
+pub mod Terms
+pub mod Merging
+pub mod Projection
+pub mod Building
+pub mod Matching
+pub mod Placing
+pub mod Refusals
+pub mod Membership

@@ -1,0 +1,28 @@
+//! Conditional tables over places of the log, and the operators of relational algebra on them.
+#![tactic(auto)]
+
+mod deletion;
+mod error;
+mod insertion;
+mod matching;
+mod membership;
+mod merging;
+mod placing;
+mod products;
+mod projection;
+mod rows;
+mod selection;
+mod table;
+mod unions;
+
+pub use ct_word::CRow;
+pub use deletion::delete;
+pub use error::TableError;
+pub use insertion::insert;
+pub use membership::{except, intersect};
+pub use products::product;
+pub use projection::project;
+pub use rows::{names, under};
+pub use selection::select;
+pub use table::CTable;
+pub use unions::union;

@@ -1,0 +1,132 @@
+// The product of two tables.
+
+ghost use Rattle.std.specs.Prelude.{◌≡◌, ◌≤◌, ◌<◌, ◌+◌, ◌*◌, [], ◌∷◌, ◌++◌, length, map, IfOk, IsErrOf};
+ghost use mathlib.Core.List.{IsPrefix};
+ghost use Rattle.ct_word.specs.Value.{World};
+ghost use Rattle.ct_word.specs.Reading.{term_at};
+ghost use Rattle.ct_word.specs.Sublist.{IsSublist};
+ghost use Rattle.ct_query.specs.Database.{SameSet};
+ghost use Rattle.ct_operators.specs.Tables.{IsRow, AreRows, value_of_rows, cells_of};
+ghost use Rattle.ct_query.specs.Rows.{joins};
+ghost use Rattle.ct_operators.specs.Building.{Builds};
+ghost use Rattle.ct_operators.specs.Terms.{TermOfRows, RowsFrom};
+ghost use Rattle.ct_operators.specs.declared.error.TableError.TheVariants as fault;
+
+use crate::error::TableError;
+use crate::merging::merged;
+use crate::rows::names;
+use crate::table::CTable;
+use ct_arena::{Arena, Site};
+use ct_condition::{Interner, and};
+use ct_word::{CRow, List, Text};
+use std::alloc::{AllocError, Global};
+
+/// The cells of two rows, one after the other, under a condition.
+fn joined(left: &CRow, right: &CRow, cond: u32) -> Result<CRow, AllocError>
+    ensures { IfOk result (λ r. r ≡ record { cells = left.now.cells ++ right.now.cells; cond = cond }) }
+{
+    let mut cells = left.cells.clone()?.into_vec();
+    cells.extend_from_slice(right.cells.as_slice())?;
+    Ok(CRow {
+        cells: List::from_vec(cells),
+        cond,
+    })
+}
+
+/// The names of both, one after the other.
+fn joined_names(left: &List<Text>, right: &List<Text>) -> Result<List<Text>, AllocError>
+    ensures { IfOk result (λ out. out ≡ left.now ++ right.now) }
+{
+    let mut joined = names(left)?.into_vec();
+    for name in right.as_slice() {
+        joined.push(name.clone()?)?;
+    }
+    Ok(List::from_vec(joined))
+}
+
+/// A row joined with each row of a table, each under both conditions.
+fn pair_row<N: Site, I: Interner<N>>(
+    alloc: Global,
+    arena: &Arena<N>,
+    pass: &mut I,
+    row: &CRow,
+    right: &CTable,
+) -> Result<Vec<CRow>, TableError>
+    requires row { IsRow (I.list pass.old) (length row.now.cells) row.now }
+    requires right { AreRows (I.list pass.old) (length right.now.columns) right.now.rows }
+    ensures pairs { IfOk result (λ out. Builds (I.list pass.old) (I.list pass.new) (length row.now.cells + length right.now.columns) (map (λ c. map (term_at (I.list pass.old)) row.now.cells ++ c) (cells_of (I.list pass.old) right.now.rows)) (λ v. joins (value_of_rows (I.list pass.old) v (row.now ∷ [])) (value_of_rows (I.list pass.old) v right.now.rows)) (TermOfRows (I.list pass.old) (row.now ∷ right.now.rows)) out.items) }
+    ensures longer { IsPrefix (I.list pass.old) (I.list pass.new) }
+    ensures full { IsErrOf result fault.Full → length (I.list pass.new) ≡ N.log.cap }
+    ensures made { I.made pass.new ≤ I.made pass.old + length right.now.rows }
+    ensures fewer { IsErrOf result fault.Full → I.made pass.new < I.made pass.old + length right.now.rows }
+    ensures kept { I.kept pass.new ≡ I.kept pass.old }
+    ensures lent { I.lent pass.new ≡ I.lent pass.old }
+{
+    let _ = pass.words();
+    let mut pairs = Vec::new(alloc);
+    for other in right.rows.as_slice() {
+        let _ = pass.words();
+        let cond = and(arena, pass, row.cond, other.cond)?;
+        pairs.push(joined(row, other, cond)?)?;
+    }
+    Ok(pairs)
+}
+
+/// Each row of the left table joined with each of the right one.
+fn pairs<N: Site, I: Interner<N>>(
+    alloc: Global,
+    arena: &Arena<N>,
+    pass: &mut I,
+    left: &CTable,
+    right: &CTable,
+) -> Result<Vec<CRow>, TableError>
+    requires left { AreRows (I.list pass.old) (length left.now.columns) left.now.rows }
+    requires right { AreRows (I.list pass.old) (length right.now.columns) right.now.rows }
+    ensures pairs { IfOk result (λ out. Builds (I.list pass.old) (I.list pass.new) (length left.now.columns + length right.now.columns) (joins (cells_of (I.list pass.old) left.now.rows) (cells_of (I.list pass.old) right.now.rows)) (λ v. joins (value_of_rows (I.list pass.old) v left.now.rows) (value_of_rows (I.list pass.old) v right.now.rows)) (TermOfRows (I.list pass.old) (left.now.rows ++ right.now.rows)) out.items) }
+    ensures longer { IsPrefix (I.list pass.old) (I.list pass.new) }
+    ensures full { IsErrOf result fault.Full → length (I.list pass.new) ≡ N.log.cap }
+    ensures made { I.made pass.new ≤ I.made pass.old + length left.now.rows * length right.now.rows }
+    ensures fewer { IsErrOf result fault.Full → I.made pass.new < I.made pass.old + length left.now.rows * length right.now.rows }
+    ensures kept { I.kept pass.new ≡ I.kept pass.old }
+    ensures lent { I.lent pass.new ≡ I.lent pass.old }
+{
+    let _ = pass.words();
+    let mut pairs = Vec::new(alloc);
+    for row in left.rows.as_slice() {
+        let _ = pass.words();
+        let mut more = pair_row(alloc, arena, pass, row, right)?;
+        pairs.append(&mut more)?;
+    }
+    Ok(pairs)
+}
+
+/// Each row of the left table joined with each of the right one, in the order of the left rows, under the names of
+/// both.
+///
+/// # Errors
+/// `Full` where the log has no room for a condition, `Memory` where there is none for the rows.
+pub fn product<N: Site, I: Interner<N>>(
+    alloc: Global,
+    arena: &Arena<N>,
+    pass: &mut I,
+    left: &CTable,
+    right: &CTable,
+) -> Result<CTable, TableError>
+    requires left { AreRows (I.list pass.old) (length left.now.columns) left.now.rows }
+    requires right { AreRows (I.list pass.old) (length right.now.columns) right.now.rows }
+    ensures columns { IfOk result (λ out. out.columns ≡ left.now.columns ++ right.now.columns) }
+    ensures rows { IfOk result (λ out. AreRows (I.list pass.new) (length left.now.columns + length right.now.columns) out.rows) }
+    ensures tuples { (v : World) → IfOk result (λ out. SameSet (value_of_rows (I.list pass.new) v out.rows) (joins (value_of_rows (I.list pass.old) v left.now.rows) (value_of_rows (I.list pass.old) v right.now.rows))) }
+    ensures part { IfOk result (λ out. IsSublist (cells_of (I.list pass.new) out.rows) (joins (cells_of (I.list pass.old) left.now.rows) (cells_of (I.list pass.old) right.now.rows))) }
+    ensures terms { IfOk result (λ out. RowsFrom (I.list pass.new) out.rows (TermOfRows (I.list pass.old) (left.now.rows ++ right.now.rows))) }
+    ensures longer { IsPrefix (I.list pass.old) (I.list pass.new) }
+    ensures full { IsErrOf result fault.Full → length (I.list pass.new) ≡ N.log.cap }
+    ensures made { I.made pass.new ≤ I.made pass.old + length left.now.rows * length right.now.rows }
+    ensures fewer { IsErrOf result fault.Full → I.made pass.new < I.made pass.old + length left.now.rows * length right.now.rows }
+    ensures kept { I.kept pass.new ≡ I.kept pass.old }
+    ensures lent { I.lent pass.new ≡ I.lent pass.old }
+{
+    let names = joined_names(&left.columns, &right.columns)?;
+    let pairs = pairs(alloc, arena, pass, left, right)?;
+    merged(alloc, arena, pass, names, pairs)
+}

@@ -1,0 +1,90 @@
+// Projection to some of the columns.
+
+ghost use Rattle.std.specs.Prelude.{◌≡◌, ◌≤◌, ◌<◌, ◌+◌, [], length, map, slice_index_or, All, IfOk, IsErrOf};
+ghost use mathlib.Core.List.{IsPrefix};
+ghost use Rattle.ct_word.specs.Value.{World, same_cells, cell_at};
+ghost use Rattle.ct_word.specs.Sublist.{IsSublist};
+ghost use Rattle.ct_query.specs.Database.{SameSet};
+ghost use Rattle.ct_query.specs.Patterns.{picked};
+ghost use Rattle.ct_operators.specs.Tables.{AreRows, value_of_rows, cells_of, firsts};
+ghost use Rattle.ct_operators.specs.Projection.{picked_row};
+ghost use Rattle.ct_operators.specs.Terms.{TermOfRows, RowsFrom};
+ghost use Rattle.ct_operators.specs.declared.error.TableError.TheVariants as fault;
+
+use crate::error::TableError;
+use crate::merging::merged;
+use crate::table::CTable;
+use ct_arena::{Arena, Site};
+use ct_condition::Interner;
+use ct_word::{CRow, List, Text};
+use std::alloc::{AllocError, Global};
+
+/// The cells of a row at these positions, under the row's condition.
+fn pick(alloc: Global, columns: &[u32], row: &CRow) -> Result<CRow, AllocError>
+    requires { All (λ k. k < length row.now.cells) columns.now }
+    ensures { IfOk result (λ r. r ≡ picked_row columns.now row.now) }
+{
+    let mut cells = Vec::new(alloc);
+    for column in columns {
+        cells.push(row.cells.as_slice()[*column as usize])?;
+    }
+    Ok(CRow {
+        cells: List::from_vec(cells),
+        cond: row.cond,
+    })
+}
+
+/// The rows with these of their cells.
+fn pick_each(alloc: Global, columns: &[u32], rows: &[CRow]) -> Result<Vec<CRow>, AllocError>
+    requires { All (λ r. All (λ k. k < length r.cells) columns.now) rows.now }
+    ensures { IfOk result (λ out. out.items ≡ map (picked_row columns.now) rows.now) }
+{
+    let mut out = Vec::new(alloc);
+    for row in rows {
+        out.push(pick(alloc, columns, row)?)?;
+    }
+    Ok(out)
+}
+
+/// The names at these positions.
+fn pick_names(alloc: Global, columns: &[u32], names: &List<Text>) -> Result<List<Text>, AllocError>
+    requires { All (λ k. k < length names.now) columns.now }
+    ensures { IfOk result (λ out. out ≡ map (λ k. slice_index_or names.now k []) columns.now) }
+{
+    let mut out = Vec::new(alloc);
+    for column in columns {
+        out.push(names.as_slice()[*column as usize].clone()?)?;
+    }
+    Ok(List::from_vec(out))
+}
+
+/// The columns at these positions, in this order. Rows that no longer differ are merged into the first of them.
+///
+/// # Errors
+/// `Full` where the log has no room for a condition, `Memory` where there is none for the rows.
+pub fn project<N: Site, I: Interner<N>>(
+    alloc: Global,
+    arena: &Arena<N>,
+    pass: &mut I,
+    columns: &[u32],
+    table: &CTable,
+) -> Result<CTable, TableError>
+    requires rows { AreRows (I.list pass.old) (length table.now.columns) table.now.rows }
+    requires columns { All (λ k. k < length table.now.columns) columns.now }
+    ensures columns { IfOk result (λ out. out.columns ≡ map (λ k. slice_index_or table.now.columns k []) columns.now) }
+    ensures rows { IfOk result (λ out. AreRows (I.list pass.new) (length columns.now) out.rows) }
+    ensures tuples { (v : World) → IfOk result (λ out. SameSet (value_of_rows (I.list pass.new) v out.rows) (map (λ t. map (cell_at t) columns.now) (value_of_rows (I.list pass.old) v table.now.rows))) }
+    ensures part { IfOk result (λ out. IsSublist (cells_of (I.list pass.new) out.rows) (map (picked columns.now) (cells_of (I.list pass.old) table.now.rows))) }
+    ensures order { IfOk result (λ out. IsSublist (cells_of (I.list pass.new) out.rows) (firsts same_cells (map (picked columns.now) (cells_of (I.list pass.old) table.now.rows)))) }
+    ensures terms { IfOk result (λ out. RowsFrom (I.list pass.new) out.rows (TermOfRows (I.list pass.old) table.now.rows)) }
+    ensures longer { IsPrefix (I.list pass.old) (I.list pass.new) }
+    ensures full { IsErrOf result fault.Full → length (I.list pass.new) ≡ N.log.cap }
+    ensures made { I.made pass.new ≤ I.made pass.old + length table.now.rows }
+    ensures fewer { IsErrOf result fault.Full → I.made pass.new < I.made pass.old + length table.now.rows }
+    ensures kept { I.kept pass.new ≡ I.kept pass.old }
+    ensures lent { I.lent pass.new ≡ I.lent pass.old }
+{
+    let names = pick_names(alloc, columns, &table.columns)?;
+    let rows = pick_each(alloc, columns, table.rows.as_slice())?;
+    merged(alloc, arena, pass, names, rows)
+}

@@ -1,0 +1,27 @@
+use Rattle.std.proofs.Common.{◌≡◌, map, ap, sym, subst, ◌∙◌}
+use Rattle.ct_query.specs.Schema.{schema}
+use Rattle.ct_resolve.specs.Statements.{resolved}
+use Rattle.ct_table.specs.Denotes.{heading_of}
+use Rattle.ct_statement.specs.Sight.{actions_before, history_of}
+use Rattle.ct_session.specs.Prepared.{IsRefused}
+use Rattle.ct_session.proofs.Resolving.{named_refuses}
+use Rattle.ct_session.proofs.preparing.resolved_at.Goals as goal
+
+pub returns-in-Ok-clause-resolves : goal.returns-in-Ok-clause-resolves
+returns-in-Ok-clause-resolves g c =
+    let words = c.args.pass.now.words in
+    let s = c.args.sight.now in
+    let same : c.headings-headings.result.now ≡ schema (history_of words s) (actions_before s) =
+    λ i. record { tables = (c.headings-headings.ensures ∙ ap (map heading_of) c.db.ensures ∙ c.requires.sight.denotes.worth.headings) i } in
+    (λ i. resolved (sym same i) (sym c.session-session.ensures.value i) c.args.fresh c.args.statement.now) ∙ c.in-Ok.ensures.ok
+
+pub returns-in-Err-clause-err : goal.returns-in-Err-clause-err
+returns-in-Err-clause-err g c =
+    let words = c.args.pass.now.words in
+    let s = c.args.sight.now in
+    let st = c.args.statement.now in
+    let same : c.headings-headings.result.now ≡ schema (history_of words s) (actions_before s) =
+    λ i. record { tables = (c.headings-headings.ensures ∙ ap (map heading_of) c.db.ensures ∙ c.requires.sight.denotes.worth.headings) i } in
+    subst (λ why. IsRefused (history_of words s) (actions_before s) g.N.Site.log.cap words c.args.pass.now.session c.args.fresh st why) (sym c.named.ensures)
+    (named_refuses (history_of words s) (actions_before s) g.N.Site.log.cap words c.args.pass.now.session c.args.fresh st c.in-Err.e
+    (λ n. (λ i. resolved (sym same i) (sym c.session-session.ensures.value i) c.args.fresh st) ∙ c.in-Err.ensures.err n))

@@ -1,7 +1,0 @@
-use Rattle.std.proofs.Common.{◌≡◌, ◌++◌}
-use Rattle.std.specs.List.{filter}
-use Rattle.ct_table.specs.Merging.{rows_of, is_possible}
-use Rattle.ct_table.proofs.merging.possible.Given as goal
-
-abbrev pub invariant-loop-cells : goal.invariant-loop-cells
-invariant-loop-cells l = l.out.items ++ filter is_possible (rows_of l.cells-iterator) ≡ filter is_possible (rows_of l.fn.rows.entries)
