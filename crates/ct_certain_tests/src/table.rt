@@ -134,28 +134,81 @@ fn always<N: Site>(pass: &Pass<N>) -> Result<u32, Fail>
     Ok(0)
 }
 
+/// What the tables here are made of: the null x, the numbers 1 and 2, and that x is each of them.
+#[derive(Clone, Copy)]
+struct Parts {
+    x: u32,
+    one: u32,
+    two: u32,
+    is_one: u32,
+    is_two: u32,
+}
+
+/// The places of a number, and of the equality of a term and it.
+fn number<N: Site>(
+    arena: &Arena<N>,
+    pass: &mut Pass<N>,
+    x: u32,
+    number: i64,
+) -> Result<(u32, u32), Fail> {
+    let number = term(arena, pass, &Term::Value(Value::Int(number)))?;
+    let is = equal(arena, pass, x, number)?;
+    Ok((number, is))
+}
+
+fn parts_of<N: Site>(alloc: Global, arena: &Arena<N>, pass: &mut Pass<N>) -> Result<Parts, Fail> {
+    let x = named(alloc, arena, pass, "x")?;
+    let (one, is_one) = number(arena, pass, x, 1)?;
+    let (two, is_two) = number(arena, pass, x, 2)?;
+    Ok(Parts {
+        x,
+        one,
+        two,
+        is_one,
+        is_two,
+    })
+}
+
+/// The possible rows of a table of one column with these cells, each under its condition.
+fn possible_of<N: Site>(
+    alloc: Global,
+    arena: &Arena<N>,
+    pass: &mut Pass<N>,
+    cells: &[(u32, u32)],
+) -> Result<List<PossibleRow>, Fail> {
+    let table = filled(alloc, arena, pass, cells)?;
+    let global = always(pass)?;
+    Ok(possible(alloc, arena, pass, &table, global)?)
+}
+
+/// Whether there are three rows, the first and the last in the world in which x is 2, and the second in the one without
+/// pairs.
+fn are_shown(rows: &[PossibleRow]) -> bool {
+    match rows {
+        [first, second, third] => {
+            shows_number(first, 2) && second.world.is_empty() && shows_number(third, 2)
+        }
+        _ => false,
+    }
+}
+
 /// Of the rows (?x) if ?x = 2, (1), (2) if ?x = 1 and ?x = 2 and (3) if ?x = 2, all but the third one are possible.
 fn list_rows<N: Site>(rt: &impl Abort, alloc: Global, blank: Blank) -> Result<(), Fail>
     requires { blank ≡ N.log }
 {
     let (arena, mut keeper) = Arena::<N>::make(blank);
     let mut pass = keeper.enrol(alloc, &arena)?;
-    let one = term(&arena, &mut pass, &Term::Value(Value::Int(1)))?;
-    let two = term(&arena, &mut pass, &Term::Value(Value::Int(2)))?;
+    let p = parts_of(alloc, &arena, &mut pass)?;
+    let never = both(&arena, &mut pass, p.is_one, p.is_two)?;
     let three = term(&arena, &mut pass, &Term::Value(Value::Int(3)))?;
-    let x = named(alloc, &arena, &mut pass, "x")?;
-    let is_one = equal(&arena, &mut pass, x, one)?;
-    let is_two = equal(&arena, &mut pass, x, two)?;
-    let never = both(&arena, &mut pass, is_one, is_two)?;
-    let rows = [(x, is_two), (one, 0), (two, never), (three, is_two)];
-    let table = filled(alloc, &arena, &mut pass, &rows)?;
-    let global = always(&pass)?;
-    let list = possible(alloc, &arena, &mut pass, &table, global)?;
-    let rows = list.as_slice();
-    assert_eq!(rt; rows.len(), 3);
-    assert!(rt; shows_number(&rows[0], 2));
-    assert!(rt; rows[1].world.is_empty());
-    assert!(rt; shows_number(&rows[2], 2));
+    let cells = [
+        (p.x, p.is_two),
+        (p.one, 0),
+        (p.two, never),
+        (three, p.is_two),
+    ];
+    let list = possible_of(alloc, &arena, &mut pass, &cells)?;
+    assert!(rt; are_shown(list.as_slice()));
     Ok(())
 }
 
@@ -227,6 +280,27 @@ fn is_number(row: &CertainRow, number: i64) -> bool {
     }
 }
 
+/// Whether these are the tuples of these numbers.
+fn are_numbers(list: &[CertainRow], numbers: &[i64]) -> bool {
+    if list.len() != numbers.len() {
+        return false;
+    }
+    for place in 0..numbers.len() {
+        if !is_number(&list[place], numbers[place]) {
+            return false;
+        }
+    }
+    true
+}
+
+/// Whether two tuples are certain by the same question.
+fn have_one_question(list: &[CertainRow]) -> bool {
+    match list {
+        [first, second] => first.proof.root == second.proof.root,
+        _ => false,
+    }
+}
+
 /// Of (?x) if ?x = 1 and (1) if not ?x = 1, the tuple (1) is certain, and of (?x) alone none. Of (1) and (2), each if
 /// ?x = 1 and if not, both are certain, by the same question.
 fn list_tuples<N: Site>(rt: &impl Abort, alloc: Global, blank: Blank) -> Result<(), Fail>
@@ -234,25 +308,22 @@ fn list_tuples<N: Site>(rt: &impl Abort, alloc: Global, blank: Blank) -> Result<
 {
     let (arena, mut keeper) = Arena::<N>::make(blank);
     let mut pass = keeper.enrol(alloc, &arena)?;
-    let one = term(&arena, &mut pass, &Term::Value(Value::Int(1)))?;
-    let x = named(alloc, &arena, &mut pass, "x")?;
-    let is_one = equal(&arena, &mut pass, x, one)?;
-    let is_not = opposite(&arena, &mut pass, is_one)?;
-    let list = certain_of(alloc, &arena, &mut pass, &[(x, is_one), (one, is_not)])?;
-    assert_eq!(rt; list.len(), 1);
-    assert!(rt; is_number(&list.as_slice()[0], 1));
-    let none = certain_of(alloc, &arena, &mut pass, &[(x, 0)])?;
+    let p = parts_of(alloc, &arena, &mut pass)?;
+    let is_not = opposite(&arena, &mut pass, p.is_one)?;
+    let cells = [(p.x, p.is_one), (p.one, is_not)];
+    let one = certain_of(alloc, &arena, &mut pass, &cells)?;
+    assert!(rt; are_numbers(one.as_slice(), &[1]));
+    let none = certain_of(alloc, &arena, &mut pass, &[(p.x, 0)])?;
     assert!(rt; none.is_empty());
-    let two = term(&arena, &mut pass, &Term::Value(Value::Int(2)))?;
-    let cells = [(one, is_one), (one, is_not), (two, is_one), (two, is_not)];
+    let cells = [
+        (p.one, p.is_one),
+        (p.one, is_not),
+        (p.two, p.is_one),
+        (p.two, is_not),
+    ];
     let both = certain_of(alloc, &arena, &mut pass, &cells)?;
-    assert_eq!(rt; both.len(), 2);
-    assert!(rt; is_number(&both.as_slice()[0], 1));
-    assert!(rt; is_number(&both.as_slice()[1], 2));
-    assert_eq!(rt;
-        both.as_slice()[0].proof.root,
-        both.as_slice()[1].proof.root
-    );
+    assert!(rt; are_numbers(both.as_slice(), &[1, 2]));
+    assert!(rt; have_one_question(both.as_slice()));
     Ok(())
 }
 
@@ -262,26 +333,27 @@ fn a_tuple_is_listed_where_each_world_has_it(rt: HostRuntime) -> Result<(), Fail
     list_tuples::<Brand>(&rt, rt.alloc(), blank)
 }
 
+/// Whether there are two rows, the first in a world of two nulls, and the second in the one in which x is 1.
+fn is_second_shorter(rows: &[PossibleRow]) -> bool {
+    match rows {
+        [first, second] => first.world.len() == 2 && shows_number(second, 1),
+        _ => false,
+    }
+}
+
 /// Of (1) if ?x = 1 and ?y = 1 and (2) if ?x = 1, both are possible, the second one in a world without ?y.
 fn list_short_worlds<N: Site>(rt: &impl Abort, alloc: Global, blank: Blank) -> Result<(), Fail>
     requires { blank ≡ N.log }
 {
     let (arena, mut keeper) = Arena::<N>::make(blank);
     let mut pass = keeper.enrol(alloc, &arena)?;
-    let one = term(&arena, &mut pass, &Term::Value(Value::Int(1)))?;
-    let two = term(&arena, &mut pass, &Term::Value(Value::Int(2)))?;
-    let x = named(alloc, &arena, &mut pass, "x")?;
+    let p = parts_of(alloc, &arena, &mut pass)?;
     let y = named(alloc, &arena, &mut pass, "y")?;
-    let first = equal(&arena, &mut pass, x, one)?;
-    let second = equal(&arena, &mut pass, y, one)?;
-    let all = both(&arena, &mut pass, first, second)?;
-    let table = filled(alloc, &arena, &mut pass, &[(one, all), (two, first)])?;
-    let global = always(&pass)?;
-    let list = possible(alloc, &arena, &mut pass, &table, global)?;
-    let rows = list.as_slice();
-    assert_eq!(rt; rows.len(), 2);
-    assert_eq!(rt; rows[0].world.len(), 2);
-    assert!(rt; shows_number(&rows[1], 1));
+    let other = equal(&arena, &mut pass, y, p.one)?;
+    let all = both(&arena, &mut pass, p.is_one, other)?;
+    let cells = [(p.one, all), (p.two, p.is_one)];
+    let list = possible_of(alloc, &arena, &mut pass, &cells)?;
+    assert!(rt; is_second_shorter(list.as_slice()));
     Ok(())
 }
 
