@@ -1,18 +1,18 @@
 -- Sessions come to the keeper and leave it.
-use Rattle.std.proofs.Common.{◌≡◌, ◌≢◌, ℕ, suc, ◌+◌, ◌<◌, ◌≤◌, ◌⊎◌, List, [], ◌∷◌, ◌++◌, length, Bool, true, false, Option, Some, None, refl, sym, ap, ◌∙◌, subst, inl, inr, arith, ne_eqb}
-use Rattle.std.specs.Prelude.{All, nat_lt, if◌then◌else◌}
+use Rattle.std.proofs.Common.{◌≡◌, ◌≢◌, ℕ, zero, suc, ◌+◌, ◌<◌, ◌≤◌, ◌⊎◌, List, [], ◌∷◌, ◌++◌, length, take, Bool, true, false, Option, Some, None, refl, sym, ap, ◌∙◌, subst, inl, inr, arith, ne_eqb}
+use Rattle.std.specs.Prelude.{All, Contains, nat_lt, slice_index_or, if◌then◌else◌}
 use mathlib.Core.List.{IsPrefix}
 use Rattle.atomic_table.specs.Table.{Me}
-use Rattle.ct_chain.specs.Seen.{Chained}
 use Rattle.ct_word.specs.Change.{PlainCommit}
 use Rattle.ct_word.specs.Reading.{commits_of}
 use Rattle.ct_arena.specs.Counts.{opening, IsLog, AreOfSessions, numbers_by}
 use Rattle.ct_arena.specs.declared.sharing.View.{View}
 use Rattle.ct_arena.specs.declared.tally.Tally.{Tally}
-use Rattle.ct_arena.specs.Kept.{IsBehind}
 use Rattle.ct_arena.specs.Sharing.{session_view, keeper_view, newcomer, enrolled, enrolled_by, kept, given, joined, longer, IsKept, IsMoment, IsSettled, IsLaidBy}
 use Rattle.ct_arena.specs.Own.{IsOwn}
-use Rattle.ct_arena.proofs.Fronts.{prefix_length, commits_between, numbers_between}
+use Rattle.std.proofs.lemmas.Bool.{ltb-true}
+use Rattle.ct_word.specs.WellFormed.{IsWellFormed}
+use Rattle.ct_arena.proofs.Fronts.{prefix_length, prefix_whole, commits_between, numbers_between, formed_front, last_new}
 use Rattle.ct_arena.proofs.Told.{owner_guest, was_enrolled, both_fronts}
 use Rattle.ct_arena.proofs.Opening.{two}
 
@@ -111,18 +111,30 @@ enters cap e t ended words other me pass me' is there settled_ log own =
     let done : P (keeper_view cap words e None ended, []) (session_view other (Some t), []) = (λ s. (s.is, took cap e t ended words other s.moment log own)) in
     (subst (λ y. P me y) (sym there) (subst (λ x. P x (session_view other (Some t), [])) (sym is) done)) settled_
 
--- the shorter list is a front of the one that is kept
-pub laid_aside : (cap : ℕ) (seen other now shorter : Chained) → seen.room ≡ cap → other.room ≡ cap → IsPrefix seen.words now.words → IsPrefix other.words now.words → ((now ≡ other) × (shorter ≡ seen)) ⊎ ((now ≡ seen) × (shorter ≡ other))
-    → IsBehind shorter now × (now.room ≡ cap)
-laid_aside cap seen other now shorter a b p q (inl x) =
-    (subst (λ s. IsBehind s now) (sym x.1) (record { room = a ∙ sym (ap (λ c. c.room) x.0 ∙ b); longer = p }), ap (λ c. c.room) x.0 ∙ b)
-laid_aside cap seen other now shorter a b p q (inr x) =
-    (subst (λ s. IsBehind s now) (sym x.1) (record { room = b ∙ sym (ap (λ c. c.room) x.0 ∙ a); longer = q }), ap (λ c. c.room) x.0 ∙ a)
+-- the longer of two lists, by their lengths
+pub longer_first : (xs ys : List ℕ) → length ys ≤ length xs → longer xs ys ≡ xs
+longer_first xs ys le = by (nat_lt (length xs) (length ys)) refl where
+  by : (b : Bool) → nat_lt (length xs) (length ys) ≡ b → (if b then ys else xs) ≡ xs
+  by true e = absurd (let lt = ltb-true (length xs) (length ys) e in omega arith)
+  by false e = refl
 
-pub kept_either : (seen other now shorter : Chained) → ((now ≡ other) × (shorter ≡ seen)) ⊎ ((now ≡ seen) × (shorter ≡ other)) → (now.words ≡ seen.words) ⊎ (now.words ≡ other.words)
-kept_either seen other now shorter (inl x) = inr (ap (λ c. c.words) x.0)
-kept_either seen other now shorter (inr x) = inl (ap (λ c. c.words) x.0)
+pub longer_second : (xs ys : List ℕ) → IsPrefix ys (longer xs ys) → length xs ≤ length ys → longer xs ys ≡ ys
+longer_second xs ys p le = sym (prefix_whole ys (longer xs ys) p (by (nat_lt (length xs) (length ys)))) where
+  by : (b : Bool) → length (if b then ys else xs) ≤ length ys
+  by true = omega arith
+  by false = le
 
--- a list of no words is a front of any
-pub empty_behind : (short long : Chained) → short.room ≡ long.room → short.words ≡ [] → IsBehind short long
-empty_behind short long room empty = record { room = room; longer = (long.words, ap (λ words. words ++ long.words) empty) }
+pub longer_either : (xs ys now : List ℕ) → now ≡ longer xs ys → (now ≡ xs) ⊎ (now ≡ ys)
+longer_either xs ys now is = by (nat_lt (length xs) (length ys)) is where
+  by : (b : Bool) → now ≡ (if b then ys else xs) → (now ≡ xs) ⊎ (now ≡ ys)
+  by true e = inr e
+  by false e = inl e
+
+-- no word of a well formed list stands among those before it
+front_at : (words : List ℕ) (i : ℕ) → i < length words → IsPrefix (take i words ++ slice_index_or words i 0 ∷ []) words
+front_at [] i lt = absurd (omega arith)
+front_at (x ∷ xs) zero lt = (xs, refl)
+front_at (x ∷ xs) (suc i) lt = let rest = front_at xs i (omega arith) in (rest.0, ap (λ l. x ∷ l) rest.1)
+
+pub new_at : (words : List ℕ) (i : ℕ) → IsWellFormed words → i < length words → Contains (take i words) (slice_index_or words i 0) → ⊥
+new_at words i formed lt = last_new (take i words) (slice_index_or words i 0) (formed_front (take i words ++ slice_index_or words i 0 ∷ []) words (front_at words i lt) formed)

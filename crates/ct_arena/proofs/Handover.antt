@@ -9,12 +9,12 @@ use Rattle.atomic_table.specs.Seated.{TableId}
 use Rattle.ct_word.specs.Reading.{commits_of}
 use Rattle.ct_word.proofs.Splits.{some-injective}
 use Rattle.ct_chain.specs.Seen.{Chained}
-use Rattle.ct_arena.proofs.Sole.{prefix_trans, commits_grow}
+use Rattle.ct_arena.proofs.Sole.{commits_grow}
 use Rattle.ct_arena.specs.Name.{LogName}
 use Rattle.ct_arena.specs.Counts.{opening, AreOfSessions, commit_word, commit_of}
 use Rattle.ct_arena.specs.declared.sharing.View.{View}
 use Rattle.ct_arena.specs.declared.tally.Tally.{Tally}
-use Rattle.ct_arena.specs.Kept.{IsNamed, IsPass, IsKeeper, IsSpare}
+use Rattle.ct_arena.specs.Kept.{IsNamed, IsPass, IsKeeper, IsLent, list_of}
 use Rattle.ct_arena.specs.Sharing.{first_view, session_view, keeper_view, newcomer, enrolled, enrolled_by, kept, given, joined, longer, counts_word, IsSettled, IsLaidBy}
 use Rattle.ct_arena.specs.Own.{IsOwn, IsOutcome, with_seen, with_guest}
 use Rattle.ct_arena.proofs.Opening.{opening_log, none_of}
@@ -112,11 +112,34 @@ keeper_laid log table table' me me' words e t k same laid =
       ap (λ m. m.0.ended) seat,
     )
 
--- the list that was laid by stays a front of the keeper's as that one grows
-pub spare_put : (seen seen' : Chained) (guest : Option Tally) (spare : Option Chained) (t t' : Tally) → guest ≡ Some t → IsSpare seen guest spare → seen'.room ≡ seen.room → IsPrefix seen.words seen'.words → IsSpare seen' (Some t') spare
-spare_put seen seen' None spare t t' e is room grows = absurd (cc)
-spare_put seen seen' (Some u) None t t' e is room grows = absurd is
-spare_put seen seen' (Some u) (Some list) t t' e is room grows = record { room = is.room ∙ sym room; longer = prefix_trans list.words seen.words seen'.words is.longer grows }
+-- while a guest is entered, the keeper's list is the guest's
+pub keeper_with : (log : LogName) (table : TableId) (me : Me ℕ View) (own : List ℕ) (o : Option Chained) (list : Chained) (e : ℕ) (guest : Option Tally) → o ≡ Some list → IsKeeper log table me (list_of own o) e guest → IsKeeper log table me list.words e guest
+keeper_with log table me own o list e guest is k = subst (λ x. IsKeeper log table me (list_of own x) e guest) is k
+
+pub words_with : (own : List ℕ) (o : Option Chained) (list : Chained) (words : List ℕ) → o ≡ Some list → list_of own o ≡ words → list.words ≡ words
+words_with own o list words is e = sym (ap (list_of own) is) ∙ e
+
+pub lent_with : (cap : ℕ) (own : List ℕ) (o : Option Chained) (list : Chained) (guest : Option Tally) → o ≡ Some list → IsLent cap own guest o → (list.room ≡ cap) × IsPrefix own list.words
+lent_with cap own o list guest is l = by guest (subst (λ x. IsLent cap own guest x) is l) where
+  by : (g : Option Tally) → IsLent cap own g (Some list) → (list.room ≡ cap) × IsPrefix own list.words
+  by (Some t) l = l
+  by None l = absurd l
+
+-- while none is entered, it is its own
+own_list : (cap : ℕ) (own : List ℕ) (o : Option Chained) (guest : Option Tally) → guest ≡ None → IsLent cap own guest o → list_of own o ≡ own
+own_list cap own None None e l = refl
+own_list cap own (Some list) None e l = absurd l
+own_list cap own o (Some t) e l = absurd (cc)
+
+pub words_alone : (cap : ℕ) (own : List ℕ) (o : Option Chained) (guest : Option Tally) (words : List ℕ) → guest ≡ None → IsLent cap own guest o → list_of own o ≡ words → own ≡ words
+words_alone cap own o guest words none l e = sym (own_list cap own o guest none l) ∙ e
+
+pub keeper_alone : (log : LogName) (table : TableId) (me : Me ℕ View) (own : List ℕ) (o : Option Chained) (e : ℕ) (guest : Option Tally) → guest ≡ None → IsLent log.cap own guest o → IsKeeper log table me (list_of own o) e guest → IsKeeper log table me own e guest
+keeper_alone log table me own o e guest none l k = subst (λ words. IsKeeper log table me words e guest) (own_list log.cap own o guest none l) k
+
+pub keeper_alone_as : (log : LogName) (table : TableId) (me : Me ℕ View) (own words : List ℕ) (o : Option Chained) (e : ℕ) (guest : Option Tally) → words ≡ own → guest ≡ None → IsLent log.cap own guest o → IsKeeper log table me (list_of own o) e guest
+    → IsKeeper log table me words e guest
+keeper_alone_as log table me own words o e guest is none l k = subst (λ ws. IsKeeper log table me ws e guest) (sym is) (keeper_alone log table me own o e guest none l k)
 
 pub known_put : (e : ℕ) (keeps : Bool) (t t' : Tally) (old new : List ℕ) (w b : ℕ) → keeps ≡ true → t.session ≤ 1023 → t.mine < 2 ^ 18 → b < 2 ^ 28 → w ≡ commit_word t.session t.mine b → 1 ≤ t.session → t.session ≤ e → IsOutcome keeps t t' old new w
     → AreOfSessions e old → AreOfSessions e new

@@ -32,13 +32,13 @@ pub record IsKeeper (log : LogName) (table : TableId) (me : Me ℕ View) (words 
   pub known : AreOfSessions enrolled words
   pub own : (t : Tally) → guest ≡ Some t → IsOwn log.cap t words × (t.session ≤ enrolled)
 
--- a list has as much room as another and is a front of it
-pub record IsBehind (short long : Chained) : Type 0 where
-  pub room : short.room ≡ long.room
-  pub longer : IsPrefix short.words long.words
+-- the keeper's list: that of its guest while one is entered, else its own
+abbrev pub list_of : List ℕ → Option Chained → List ℕ
+list_of own None = own
+list_of own (Some list) = list.words
 
--- while a guest is entered, the keeper has a list laid by
-abbrev pub IsSpare : Chained → Option Tally → Option Chained → Type 0
-IsSpare seen (Some _) (Some list) = IsBehind list seen
-IsSpare seen (Some _) None = ⊥
-IsSpare seen None _ = Unit {0}
+-- the guest's list is there while a guest is entered, and the keeper's own list is a front of it
+abbrev pub IsLent : ℕ → List ℕ → Option Tally → Option Chained → Type 0
+IsLent cap own (Some _) (Some list) = (list.room ≡ cap) × IsPrefix own list.words
+IsLent cap own None None = Unit {0}
+IsLent cap own _ _ = ⊥

@@ -4,10 +4,9 @@ ghost use Rattle.std.specs.Prelude.{◌≡◌, [], ◌≤◌, ◌<◌, IfOk, Non
 ghost use Rattle.ct_arena.specs.Counts.{opening};
 
 use crate::keepers::KeeperPass;
-use crate::sharing::{Token, Words, table};
+use crate::sharing::{Token, Words, begin_words, table};
 use crate::sites::Site;
-use ct_chain::Chain;
-use ct_word::{Kind, Memory, pack};
+use ct_word::Memory;
 use std::alloc::Global;
 use std::marker::{Model, PhantomData};
 
@@ -17,11 +16,11 @@ pub struct Blank {
     cap: u32,
     words: Words,
     token: Token,
-    seen: Chain,
+    seen: Vec<u64>,
 }
 
 impl Model for Blank {
-    ghost use Rattle.std.specs.Prelude.{◌≡◌, ℕ, [], ◌≤◌, ◌<◌};
+    ghost use Rattle.std.specs.Prelude.{◌≡◌, ℕ, [], ◌≤◌, ◌<◌, vec_capacity};
     ghost use Rattle.ct_arena.specs.Name.{LogName, log_name_coded};
     ghost use Rattle.ct_arena.specs.Counts.{opening};
     ghost use Rattle.ct_arena.specs.Sharing.{first_view};
@@ -32,7 +31,7 @@ impl Model for Blank {
 
     ghost view = { λ b. record { cap = b.cap; table = b.words.shared.table_id } };
 
-    ghost invariant = { λ b. (b.token.table_id ≡ b.words.shared.table_id) × (b.token.me ≡ (first_view b.cap, [])) × (b.words.shared.table_id.words ≡ b.words.shared.key) × (b.cap ≡ b.words.shared.key) × (b.seen.words ≡ opening) × (b.seen.room ≡ b.cap) × (64 ≤ b.cap) × (b.cap ≤ 4194304) };
+    ghost invariant = { λ b. (b.token.table_id ≡ b.words.shared.table_id) × (b.token.me ≡ (first_view b.cap, [])) × (b.words.shared.table_id.words ≡ b.words.shared.key) × (b.cap ≡ b.words.shared.key) × (b.seen.items ≡ opening) × (b.cap ≤ vec_capacity b.seen) × (64 ≤ b.cap) × (b.cap ≤ 4194304) };
 }
 
 impl Blank {
@@ -40,15 +39,12 @@ impl Blank {
     ///
     /// # Errors
     /// `Memory` where there is none for the log or for the keeper's list of it.
-    #[tactic(auto, unfolding(crate::specs::Counts::opening))]
     pub fn make(alloc: Global, cap: u32) -> Result<Blank, Memory>
         requires least { 64 ≤ cap }
         requires most { cap ≤ 4194304 }
         ensures { IfOk result (λ blank. blank.cap ≡ cap) }
     {
-        let mut seen = Chain::make(alloc, cap)?;
-        seen.push(pack(Kind::True, 0, 0));
-        seen.push(pack(Kind::False, 0, 0));
+        let seen = begin_words(alloc, cap as usize)?;
         let (words, token) = table(alloc, cap)?;
         Ok(Blank {
             cap,

@@ -1,6 +1,6 @@
 // Reading on in the shared log, and putting words at its end.
 
-ghost use Rattle.std.specs.Prelude.{◌≡◌, ◌+◌, ◌<◌, ◌≤◌, ◌^◌, ◌↔◌, ◌⊎◌, [], true, length, if◌then◌else◌, Some, IfOk, OnErr, IsOk, IsErr, slice_get, Contains};
+ghost use Rattle.std.specs.Prelude.{◌≡◌, ◌+◌, ◌<◌, ◌≤◌, ◌^◌, ◌↔◌, ◌⊎◌, [], true, length, if◌then◌else◌, Some, IfOk, OnErr, IsOk, IsErr, slice_get, vec_capacity, Contains};
 ghost use mathlib.Core.List.{IsPrefix};
 ghost use Rattle.ct_word.specs.Reading.{commits_of};
 ghost use Rattle.ct_word.specs.WellFormed.{is_commit_word};
@@ -36,6 +36,30 @@ pub fn read_on(words: &Words, cap: u32, token: &mut Token, seen: &mut Chain)
             return;
         }
         seen.push(found);
+    }
+    look(words, token);
+}
+
+/// Reads on to the end of the log, into a plain list.
+pub fn read_rest(words: &Words, cap: u32, token: &mut Token, seen: &mut Vec<u64>)
+    requires table { token.old.table_id ≡ words.now.shared.table_id }
+    requires room { words.now.shared.table_id.words ≡ words.now.shared.key }
+    requires cap { cap ≡ words.now.shared.key }
+    requires some { 0 < cap }
+    requires list { cap ≤ vec_capacity seen.old }
+    requires seat { token.old.me ≡ (with_seen token.old.me.0 seen.old.items, []) }
+    requires log { IsLog cap seen.old.items }
+    ensures longer { IsPrefix seen.old.items seen.new.items }
+    ensures log { IsLog cap seen.new.items }
+    ensures commits { token.old.me.0.keeps ≡ true → commits_of seen.new.items ≡ commits_of seen.old.items }
+    ensures whole { token.old.me.0.keeps ≡ true → token.old.me.0.room ≡ cap → IsWhole token.old.me.0 seen.new.items }
+{
+    for place in seen.len() as u32..cap {
+        let found = read(words, token, place as usize);
+        if found == 0 {
+            return;
+        }
+        seen.push_reserved(found);
     }
     look(words, token);
 }

@@ -1,20 +1,20 @@
 // The keeper's pass: sessions are enrolled and ended by it, and commit through it.
 
-ghost use Rattle.std.specs.Prelude.{◌≡◌, ◌+◌, ◌<◌, ◌≤◌, ◌^◌, ◌↔◌, ◌⊎◌, [], ◌∷◌, ◌++◌, length, All, sum_by, IfOk, OnOk, OnErr, IsErr, IsOk, IsTrue, Some, None, slice_get, Contains, IfSome, IsSome};
+ghost use Rattle.std.specs.Prelude.{◌≡◌, ◌+◌, ◌<◌, ◌≤◌, ◌^◌, ◌↔◌, ◌⊎◌, [], ◌∷◌, ◌++◌, length, All, sum_by, IfOk, OnOk, OnErr, IsErr, IsOk, IsTrue, Some, None, slice_get, Contains, IfSome, vec_capacity};
 ghost use mathlib.Core.List.{IsPrefix};
 ghost use Rattle.ct_word.specs.WellFormed.{IsWellFormed, is_plain_word, is_place_of};
 ghost use Rattle.ct_word.specs.Reading.{commits_of};
 ghost use Rattle.ct_arena.specs.Counts.{opening, commit_word, commit_of, numbers_by, AreNumbered, AreOfSessions};
-ghost use Rattle.ct_arena.specs.Kept.{IsNamed, IsKeeper, IsBehind};
-ghost use Rattle.ct_arena.specs.Sharing.{first_view, longer};
+ghost use Rattle.ct_arena.specs.Kept.{IsNamed};
+ghost use Rattle.ct_arena.specs.Sharing.{first_view};
 ghost use Rattle.ct_arena.specs.Seen.{CountsWord, StandsLast, tally_of, pass_of};
 ghost use Rattle.ct_word.specs.declared.kinds.Class.TheVariants as class;
 ghost use Rattle.std.specs.List.{range_with_len};
 
 use crate::arenas::Arena;
-use crate::following::{put, read_on};
+use crate::following::{put, read_rest};
 use crate::full::Full;
-use crate::interning::follow;
+use crate::interning::{follow, note, take_longer};
 use crate::logs::Log;
 use crate::passes::Pass;
 use crate::sharing::{Token, enrol_seat, lay_by, leave_seat, take_in};
@@ -24,7 +24,6 @@ use ct_chain::Chain;
 use ct_word::{Kind, Memory, pack};
 use std::alloc::Global;
 use std::marker::{Model, PhantomData};
-use std::mem;
 
 /// How many numbers the commits of one session have.
 const COMMITS_OF_SESSION: u32 = 0x4_0000;
@@ -54,76 +53,54 @@ impl<N: Site> Model for Guest<N> {
 
 /// What the keeper has seen of the log that N names, and where it stands with each session.
 ///
-/// A guest brings its list. The keeper takes the longer one for both, and lays the shorter one by until the guest leaves.
+/// A guest brings its list, which the keeper works with while the guest is entered. The keeper's own list is a plain one,
+/// in which no word is sought; it catches up as the guest leaves.
 #[derive(Drop)]
 pub struct KeeperPass<N: Site> {
     token: Token,
-    seen: Chain,
-    spare: Option<Chain>,
+    words: Vec<u64>,
+    /// The guest's list, while one is entered.
+    list: Option<Chain>,
     guest: Option<Tally>,
     enrolled: u32,
     site: PhantomData<N>,
 }
 
 impl<N: Site> Model for KeeperPass<N> {
-    ghost use Rattle.std.specs.Prelude.{◌≡◌};
+    ghost use Rattle.std.specs.Prelude.{◌≤◌, vec_capacity};
     ghost use Rattle.ct_arena.specs.Seen.{Keeping};
-    ghost use Rattle.ct_arena.specs.Kept.{IsKeeper, IsSpare};
+    ghost use Rattle.ct_arena.specs.Kept.{IsKeeper, IsLent, list_of};
 
     ghost Value = { Keeping };
 
-    ghost view = { λ k. record { words = k.seen.words; enrolled = k.enrolled; guest = k.guest; ended = k.token.me.0.ended } };
+    ghost view = { λ k. record { words = list_of k.words.items k.list; enrolled = k.enrolled; guest = k.guest; ended = k.token.me.0.ended } };
 
-    ghost invariant = { λ k. IsKeeper N.log k.token.table_id k.token.me k.seen.words k.enrolled k.guest × (k.seen.room ≡ N.log.cap) × IsSpare k.seen k.guest k.spare };
+    ghost invariant = { λ k. IsKeeper N.log k.token.table_id k.token.me (list_of k.words.items k.list) k.enrolled k.guest × (N.log.cap ≤ vec_capacity k.words) × IsLent N.log.cap k.words.items k.guest k.list };
 }
 
-// Another list of these words, with as much room.
-fn copied(alloc: Global, cap: u32, seen: &Chain) -> Result<Chain, Memory>
-    requires { seen.now.room ≡ cap }
-    ensures { IfOk result (λ copy. copy ≡ seen.now) }
+/// A list of these words, in which a word is found, with room for so many.
+fn listed(alloc: Global, cap: u32, words: &[u64]) -> Result<Chain, Memory>
+    requires room { length words.now ≤ cap }
+    requires formed { IsWellFormed words.now }
+    ensures { IfOk result (λ list. list ≡ record { room = cap; words = words.now }) }
 {
-    let mut copy = Chain::make(alloc, cap)?;
-    follow(&mut copy, seen);
-    Ok(copy)
-}
-
-// The list that was laid by, with what came since.
-fn caught_up(spare: Option<Chain>, seen: &Chain) -> Chain
-    requires behind { IfSome spare (λ c. IsBehind c seen.now) }
-    requires there { IsSome spare }
-    ensures { result ≡ seen.now }
-{
-    let Some(mut list) = spare else {
-        unreachable!()
-    };
-    follow(&mut list, seen);
-    list
-}
-
-// Keeps the longer of two lists, and gives the shorter one.
-fn keep_longer(seen: &mut Chain, other: Chain) -> Chain
-    ensures kept { seen.new.words ≡ longer seen.old.words other.words }
-    ensures rooms { ((seen.new ≡ other) × (result ≡ seen.old)) ⊎ ((seen.new ≡ seen.old) × (result ≡ other)) }
-{
-    if seen.words().len() < other.words().len() {
-        mem::replace(seen, other)
-    } else {
-        other
-    }
+    let mut list = Chain::make(alloc, cap)?;
+    follow(&mut list, words);
+    Ok(list)
 }
 
 impl<N: Site> KeeperPass<N> {
-    pub(crate) fn from_parts(token: Token, seen: Chain) -> KeeperPass<N>
+    pub(crate) fn from_parts(token: Token, words: Vec<u64>) -> KeeperPass<N>
         requires seat { token.me ≡ (first_view N.log.cap, []) }
         requires named { IsNamed N.log token.table_id }
-        requires words { seen.words ≡ opening }
-        requires room { seen.room ≡ N.log.cap }
-        ensures { result ≡ record { words = seen.words; enrolled = 0; guest = None; ended = [] } }
+        requires words { words.items ≡ opening }
+        requires room { N.log.cap ≤ vec_capacity words }
+        ensures { result ≡ record { words = words.items; enrolled = 0; guest = None; ended = [] } }
     {
         KeeperPass {
             token,
-            seen,
-            spare: None,
+            words,
+            list: None,
             guest: None,
             enrolled: 0,
             site: PhantomData,
@@ -141,7 +118,7 @@ impl<N: Site> KeeperPass<N> {
         ensures ok { OnOk result (self.new ≡ record { words = self.old.words; enrolled = self.old.enrolled + 1; guest = None; ended = self.old.ended }) }
         ensures err { OnErr result (self.new ≡ self.old) }
     {
-        let seen = copied(alloc, arena.cap, &self.seen)?;
+        let seen = listed(alloc, arena.cap, self.words.as_slice())?;
         let token = enrol_seat(&arena.words, &mut self.token);
         self.enrolled += 1;
         let tally = Tally {
@@ -162,7 +139,10 @@ impl<N: Site> KeeperPass<N> {
         ensures known { AreOfSessions self.now.enrolled self.now.words }
         ensures guest { IfSome self.now.guest (λ t. AreNumbered t.session t.mine self.now.words) }
     {
-        self.seen.words()
+        match &self.list {
+            Some(list) => list.words(),
+            None => self.words.as_slice(),
+        }
     }
 
     /// Takes a pass as guest. Keeper and guest have the longer of their lists.
@@ -180,12 +160,12 @@ impl<N: Site> KeeperPass<N> {
         let Pass {
             token,
             tally,
-            seen,
+            seen: mut list,
             site: _,
         } = pass;
         take_in(&arena.words, &mut self.token, token);
-        let shorter = keep_longer(&mut self.seen, seen);
-        self.spare = Some(shorter);
+        take_longer(&mut list, self.words.as_slice());
+        self.list = Some(list);
         self.guest = Some(tally);
         Guest {
             tally,
@@ -200,10 +180,13 @@ impl<N: Site> KeeperPass<N> {
         ensures left { self.new ≡ record { words = self.old.words; enrolled = self.old.enrolled; guest = None; ended = self.old.ended } }
     {
         let Guest { tally, site: _ } = guest;
-        let spare = caught_up(self.spare.take(), &self.seen);
+        let Some(list) = self.list.take() else {
+            unreachable!()
+        };
+        note(&mut self.words, list.words());
         let token = leave_seat(&arena.words, &mut self.token);
         self.guest = None;
-        Pass::from_parts(token, tally, spare)
+        Pass::from_parts(token, tally, list)
     }
 
     /// The place of a word, which is appended for the guest where it does not stand in the log.
@@ -228,11 +211,14 @@ impl<N: Site> KeeperPass<N> {
         ensures full { IsErr result ↔ ((length self.new.words ≡ N.log.cap) × ¬ Contains self.new.words w) }
         ensures err { OnErr result (guest.new ≡ guest.old) }
     {
+        let Some(list) = &mut self.list else {
+            unreachable!()
+        };
         let result = put(
             &arena.words,
             arena.cap,
             &mut self.token,
-            &mut self.seen,
+            list,
             &mut guest.tally,
             0,
             w,
@@ -269,14 +255,16 @@ impl<N: Site> KeeperPass<N> {
         ensures grows { OnOk result (length self.old.words < length self.new.words) }
     {
         // What the pass keeps of its guest bounds the number.
-        let _ = &self.seen;
+        let Some(list) = &mut self.list else {
+            unreachable!()
+        };
         let numbered = guest.tally.session * COMMITS_OF_SESSION + guest.tally.mine;
         let w = pack(Kind::Commit, numbered, changes);
         let result = put(
             &arena.words,
             arena.cap,
             &mut self.token,
-            &mut self.seen,
+            list,
             &mut guest.tally,
             1,
             w,
@@ -298,8 +286,11 @@ impl<N: Site> KeeperPass<N> {
         ensures guest { self.new.guest ≡ None }
     {
         let Guest { tally, .. } = self.enter(arena, pass);
+        let Some(list) = self.list.take() else {
+            unreachable!()
+        };
+        note(&mut self.words, list.words());
         lay_by(&arena.words, &mut self.token);
-        self.spare = None;
         self.guest = None;
         Ended {
             session: tally.session,
@@ -323,10 +314,10 @@ impl<N: Site> KeeperPass<N> {
     {
         let KeeperPass {
             mut token,
-            mut seen,
+            mut words,
             ..
         } = self;
-        read_on(&arena.words, arena.cap, &mut token, &mut seen);
-        Log::from_parts(seen.into_words())
+        read_rest(&arena.words, arena.cap, &mut token, &mut words);
+        Log::from_parts(words)
     }
 }

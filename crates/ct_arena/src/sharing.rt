@@ -206,7 +206,7 @@ pub fn lay_by(words: &Words, keeper: &mut Token)
 
 /// The words that each log begins with, with room for so many.
 #[tactic(auto, unfolding(crate::specs::Counts::opening))]
-fn begin_words(alloc: Global, cap: usize) -> Result<Vec<u64>, Memory>
+pub fn begin_words(alloc: Global, cap: usize) -> Result<Vec<u64>, Memory>
     requires { 2 ≤ cap }
     ensures words { IfOk result (λ v. v.items ≡ opening) }
     ensures count { IfOk result (λ v. vec_len v ≡ 2) }

@@ -30,7 +30,6 @@ use Rattle.ct_arena.specs.declared.tally.Tally.{Tally}
 use Rattle.ct_arena.specs.Counts.{commit_of}
 use Rattle.ct_arena.specs.Seen.{pass_of}
 use Rattle.ct_history.specs.declared.written.Written.{Written}
-use Rattle.ct_history.specs.declared.written.Written.TheVariants as written
 use Rattle.ct_history.specs.Written.{IsWritten, plain_written}
 use Rattle.ct_table.specs.Denotes.{Denotes}
 use Rattle.ct_table.specs.Snapshot.{IsGlobal, IsKeptWorld, commits_to, IsSnapshot}

@@ -70,12 +70,21 @@ impl<N: Site> Server<N> {
         &self.arena
     }
 
-    /// The keeper, once the lock is free.
-    fn locked<R: Wait>(&self, rt: &R) -> MutexGuard<'_, Keeper<N>> {
+    /// The keeper, once the lock is free. The pass reads on before it asks for the lock, and while others hold it, so that
+    /// little is left to be read once the session has it.
+    fn locked<R: Wait>(&self, rt: &R, pass: &mut Pass<N>) -> MutexGuard<'_, Keeper<N>>
+        ensures longer { IsPrefix pass.old.words pass.new.words }
+        ensures formed { IsWellFormed pass.new.words }
+        ensures session { pass.new.session ≡ pass.old.session }
+        ensures made { pass.new.made ≡ pass.old.made }
+        ensures mine { pass.new.mine ≡ pass.old.mine }
+    {
+        pass.catch_up(&self.arena);
         for _ in 0..LOOKS {
             if let Some(keeper) = self.keeper.try_lock() {
                 return keeper;
             }
+            pass.catch_up(&self.arena);
             spin_loop();
         }
         self.keeper.lock(rt)
@@ -96,8 +105,8 @@ impl<N: Site> Server<N> {
         ensures longer { IsPrefix pass.words result.0.words }
         ensures pass { tally_of result.0 ≡ tally_of pass }
     {
-        pass.catch_up(&self.arena);
-        self.locked(rt).begin(alloc, &self.arena, pass)
+        let mut keeper = self.locked(rt, &mut pass);
+        keeper.begin(alloc, &self.arena, pass)
     }
 
     /// Commits an offer of the session of this pass. It waits for the lock. What others appended and the list of changes are
@@ -124,15 +133,14 @@ impl<N: Site> Server<N> {
         ensures made { result.0.made ≤ pass.made + offer_words result.0.words pass offer.now }
         ensures fewer { IsErrOf result.1 fault.Full → result.0.made < pass.made + offer_words result.0.words pass offer.now }
     {
-        pass.catch_up(&self.arena);
         let changes = match changes_at(alloc, pass.words(), offer.changes) {
             Ok(changes) => changes,
             Err(_) => return (pass, Err(KeeperError::Memory)),
         };
         let changes = changes.as_slice();
-        let (pass, verdict) = self
-            .locked(rt)
-            .judge(alloc, &self.arena, pass, offer, changes);
+        let mut keeper = self.locked(rt, &mut pass);
+        let (pass, verdict) = keeper.judge(alloc, &self.arena, pass, offer, changes);
+        drop(keeper);
         let outcome = outcome_of(verdict, pass.words(), offer.base);
         (pass, outcome)
     }

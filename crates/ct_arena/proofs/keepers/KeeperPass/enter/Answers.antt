@@ -1,8 +1,9 @@
-use Rattle.std.proofs.Common.{◌≡◌, ap, subst, ◌∙◌, None, inl, inr, ⊎_elim}
+use Rattle.std.proofs.Common.{◌≡◌, ap, subst, ◌∙◌, None, inl, inr, ⊎_elim, refl, arith}
 use mathlib.Core.List.{IsPrefix}
 use Rattle.ct_word.specs.Reading.{commits_of}
-use Rattle.ct_arena.proofs.Entering.{laid_aside, kept_either}
-use Rattle.ct_arena.proofs.Handover.{keeper_entered}
+use Rattle.ct_arena.proofs.Entering.{longer_either}
+use Rattle.ct_arena.proofs.Handover.{keeper_entered, keeper_alone_as, words_alone}
+use Rattle.ct_arena.specs.Sharing.{longer}
 use Rattle.ct_arena.proofs.keepers.KeeperPass.enter.Goals as goal
 
 pub take_in-requires-clause-guest : goal.take_in-requires-clause-guest
@@ -11,40 +12,62 @@ take_in-requires-clause-guest g c = ap (λ m. m.0.guest) c.self.invariant.0.seat
 pub take_in-requires-clause-bare : goal.take_in-requires-clause-bare
 take_in-requires-clause-bare g c = ap (λ m. m.0.ended) c.pass.invariant.0.seat
 
+pub take_longer-requires-clause-room : goal.take_longer-requires-clause-room
+take_longer-requires-clause-room g c =
+    let none : c.self.inside.guest ≡ None = ap (λ v. v.guest) c.self.view_is ∙ c.requires in
+    let keeper = keeper_alone_as g.N.Site.log c.self.inside.token.table_id c.self.inside.token.me c.self.inside.words.items c.as_slice.result.now c.self.inside.list c.self.inside.enrolled c.self.inside.guest c.as_slice.ensures.value none c.self.invariant.2 c.self.invariant.0 in
+    let most = keeper.list.room in
+    omega (arith, most, c.pass.invariant.1)
+
+pub take_longer-requires-clause-formed : goal.take_longer-requires-clause-formed
+take_longer-requires-clause-formed g c =
+    let none : c.self.inside.guest ≡ None = ap (λ v. v.guest) c.self.view_is ∙ c.requires in
+    let keeper = keeper_alone_as g.N.Site.log c.self.inside.token.table_id c.self.inside.token.me c.self.inside.words.items c.as_slice.result.now c.self.inside.list c.self.inside.enrolled c.self.inside.guest c.as_slice.ensures.value none c.self.invariant.2 c.self.invariant.0 in
+    keeper.list.formed
+
+pub take_longer-requires-clause-front : goal.take_longer-requires-clause-front
+take_longer-requires-clause-front g c =
+    let none : c.self.inside.guest ≡ None = ap (λ v. v.guest) c.self.view_is ∙ c.requires in
+    let keeper = keeper_alone_as g.N.Site.log c.self.inside.token.table_id c.self.inside.token.me c.self.inside.words.items c.as_slice.result.now c.self.inside.list c.self.inside.enrolled c.self.inside.guest c.as_slice.ensures.value none c.self.invariant.2 c.self.invariant.0 in
+    (keeper_entered g.N.Site.log c.self.inside.token.table_id c.take_in.new.keeper.table_id c.pass.inside.token.table_id c.self.inside.token.me c.pass.inside.token.me c.take_in.new.keeper.me c.as_slice.result.now c.pass.inside.seen.words
+    (longer c.as_slice.result.now c.pass.inside.seen.words) c.self.inside.enrolled c.self.inside.guest c.pass.inside.tally keeper none c.pass.invariant.0 c.take_in.ensures.taken c.take_in.ensures.table refl).1.seen
+
 pub invariant_of-self : goal.invariant_of-self
 invariant_of-self g c =
     let none : c.self.inside.guest ≡ None = ap (λ v. v.guest) c.self.view_is ∙ c.requires in
-    let done = keeper_entered g.N.Site.log c.self.inside.token.table_id c.take_in.new.keeper.table_id c.pass.inside.token.table_id c.self.inside.token.me c.pass.inside.token.me c.take_in.new.keeper.me c.self.inside.seen.words c.pass.inside.seen.words
-    c.keep_longer-shorter.new.seen.words c.self.inside.enrolled c.self.inside.guest c.pass.inside.tally c.self.invariant.0 none c.pass.invariant.0 c.take_in.ensures.taken c.take_in.ensures.table c.keep_longer-shorter.ensures.kept in
-    let aside =
-    laid_aside g.N.Site.log.cap c.self.inside.seen c.pass.inside.seen c.keep_longer-shorter.new.seen c.keep_longer-shorter.result c.self.invariant.1 c.pass.invariant.1 done.1.longer done.1.seen c.keep_longer-shorter.ensures.rooms in
-    (done.0, aside.1, aside.0)
+    let keeper = keeper_alone_as g.N.Site.log c.self.inside.token.table_id c.self.inside.token.me c.self.inside.words.items c.as_slice.result.now c.self.inside.list c.self.inside.enrolled c.self.inside.guest c.as_slice.ensures.value none c.self.invariant.2 c.self.invariant.0 in
+    let done = keeper_entered g.N.Site.log c.self.inside.token.table_id c.take_in.new.keeper.table_id c.pass.inside.token.table_id c.self.inside.token.me c.pass.inside.token.me c.take_in.new.keeper.me c.as_slice.result.now c.pass.inside.seen.words
+    c.take_longer.new.list.words c.self.inside.enrolled c.self.inside.guest c.pass.inside.tally keeper none c.pass.invariant.0 c.take_in.ensures.taken c.take_in.ensures.table c.take_longer.ensures.words in
+    (done.0, c.self.invariant.1, (c.take_longer.ensures.room ∙ c.pass.invariant.1, subst (λ l. IsPrefix l c.take_longer.new.list.words) c.as_slice.ensures.value done.1.longer))
 
 pub returns-clause-longer : goal.returns-clause-longer
 returns-clause-longer g c =
     let none : c.self.inside.guest ≡ None = ap (λ v. v.guest) c.self.view_is ∙ c.requires in
-    let done = keeper_entered g.N.Site.log c.self.inside.token.table_id c.take_in.new.keeper.table_id c.pass.inside.token.table_id c.self.inside.token.me c.pass.inside.token.me c.take_in.new.keeper.me c.self.inside.seen.words c.pass.inside.seen.words
-    c.keep_longer-shorter.new.seen.words c.self.inside.enrolled c.self.inside.guest c.pass.inside.tally c.self.invariant.0 none c.pass.invariant.0 c.take_in.ensures.taken c.take_in.ensures.table c.keep_longer-shorter.ensures.kept in
-    subst (λ l. IsPrefix l c.keep_longer-shorter.new.seen.words) (ap (λ v. v.words) c.self.view_is) done.1.longer
+    let keeper = keeper_alone_as g.N.Site.log c.self.inside.token.table_id c.self.inside.token.me c.self.inside.words.items c.as_slice.result.now c.self.inside.list c.self.inside.enrolled c.self.inside.guest c.as_slice.ensures.value none c.self.invariant.2 c.self.invariant.0 in
+    let done = keeper_entered g.N.Site.log c.self.inside.token.table_id c.take_in.new.keeper.table_id c.pass.inside.token.table_id c.self.inside.token.me c.pass.inside.token.me c.take_in.new.keeper.me c.as_slice.result.now c.pass.inside.seen.words
+    c.take_longer.new.list.words c.self.inside.enrolled c.self.inside.guest c.pass.inside.tally keeper none c.pass.invariant.0 c.take_in.ensures.taken c.take_in.ensures.table c.take_longer.ensures.words in
+    subst (λ l. IsPrefix l c.take_longer.new.list.words) (c.as_slice.ensures.value ∙ words_alone g.N.Site.log.cap c.self.inside.words.items c.self.inside.list c.self.inside.guest c.args.self.now.words none c.self.invariant.2 (ap (λ v. v.words) c.self.view_is)) done.1.longer
 
 pub returns-clause-seen : goal.returns-clause-seen
 returns-clause-seen g c =
     let none : c.self.inside.guest ≡ None = ap (λ v. v.guest) c.self.view_is ∙ c.requires in
-    let done = keeper_entered g.N.Site.log c.self.inside.token.table_id c.take_in.new.keeper.table_id c.pass.inside.token.table_id c.self.inside.token.me c.pass.inside.token.me c.take_in.new.keeper.me c.self.inside.seen.words c.pass.inside.seen.words
-    c.keep_longer-shorter.new.seen.words c.self.inside.enrolled c.self.inside.guest c.pass.inside.tally c.self.invariant.0 none c.pass.invariant.0 c.take_in.ensures.taken c.take_in.ensures.table c.keep_longer-shorter.ensures.kept in
-    subst (λ l. IsPrefix l c.keep_longer-shorter.new.seen.words) (ap (λ v. v.words) c.pass.view_is) done.1.seen
+    let keeper = keeper_alone_as g.N.Site.log c.self.inside.token.table_id c.self.inside.token.me c.self.inside.words.items c.as_slice.result.now c.self.inside.list c.self.inside.enrolled c.self.inside.guest c.as_slice.ensures.value none c.self.invariant.2 c.self.invariant.0 in
+    let done = keeper_entered g.N.Site.log c.self.inside.token.table_id c.take_in.new.keeper.table_id c.pass.inside.token.table_id c.self.inside.token.me c.pass.inside.token.me c.take_in.new.keeper.me c.as_slice.result.now c.pass.inside.seen.words
+    c.take_longer.new.list.words c.self.inside.enrolled c.self.inside.guest c.pass.inside.tally keeper none c.pass.invariant.0 c.take_in.ensures.taken c.take_in.ensures.table c.take_longer.ensures.words in
+    subst (λ l. IsPrefix l c.take_longer.new.list.words) (ap (λ v. v.words) c.pass.view_is) done.1.seen
 
 pub returns-clause-commits : goal.returns-clause-commits
 returns-clause-commits g c =
     let none : c.self.inside.guest ≡ None = ap (λ v. v.guest) c.self.view_is ∙ c.requires in
-    let done = keeper_entered g.N.Site.log c.self.inside.token.table_id c.take_in.new.keeper.table_id c.pass.inside.token.table_id c.self.inside.token.me c.pass.inside.token.me c.take_in.new.keeper.me c.self.inside.seen.words c.pass.inside.seen.words
-    c.keep_longer-shorter.new.seen.words c.self.inside.enrolled c.self.inside.guest c.pass.inside.tally c.self.invariant.0 none c.pass.invariant.0 c.take_in.ensures.taken c.take_in.ensures.table c.keep_longer-shorter.ensures.kept in
-    done.1.commits ∙ ap (λ v. commits_of v.words) c.self.view_is
+    let keeper = keeper_alone_as g.N.Site.log c.self.inside.token.table_id c.self.inside.token.me c.self.inside.words.items c.as_slice.result.now c.self.inside.list c.self.inside.enrolled c.self.inside.guest c.as_slice.ensures.value none c.self.invariant.2 c.self.invariant.0 in
+    let done = keeper_entered g.N.Site.log c.self.inside.token.table_id c.take_in.new.keeper.table_id c.pass.inside.token.table_id c.self.inside.token.me c.pass.inside.token.me c.take_in.new.keeper.me c.as_slice.result.now c.pass.inside.seen.words
+    c.take_longer.new.list.words c.self.inside.enrolled c.self.inside.guest c.pass.inside.tally keeper none c.pass.invariant.0 c.take_in.ensures.taken c.take_in.ensures.table c.take_longer.ensures.words in
+    done.1.commits ∙ ap commits_of (c.as_slice.ensures.value ∙ words_alone g.N.Site.log.cap c.self.inside.words.items c.self.inside.list c.self.inside.guest c.args.self.now.words none c.self.invariant.2 (ap (λ v. v.words) c.self.view_is))
 
 pub returns-clause-ended : goal.returns-clause-ended
 returns-clause-ended g c = ap (λ m. m.0.ended) c.take_in.ensures.taken.is ∙ ap (λ v. v.ended) c.self.view_is
 
 pub returns-clause-either : goal.returns-clause-either
 returns-clause-either g c =
-    ⊎_elim (λ e. inl (e ∙ ap (λ v. v.words) c.self.view_is)) (λ e. inr (e ∙ ap (λ v. v.words) c.pass.view_is))
-    (kept_either c.self.inside.seen c.pass.inside.seen c.keep_longer-shorter.new.seen c.keep_longer-shorter.result c.keep_longer-shorter.ensures.rooms)
+    let none : c.self.inside.guest ≡ None = ap (λ v. v.guest) c.self.view_is ∙ c.requires in
+    ⊎_elim (λ e. inl (e ∙ c.as_slice.ensures.value ∙ words_alone g.N.Site.log.cap c.self.inside.words.items c.self.inside.list c.self.inside.guest c.args.self.now.words none c.self.invariant.2 (ap (λ v. v.words) c.self.view_is))) (λ e. inr (e ∙ ap (λ v. v.words) c.pass.view_is)) (longer_either c.as_slice.result.now c.pass.inside.seen.words c.take_longer.new.list.words c.take_longer.ensures.words)

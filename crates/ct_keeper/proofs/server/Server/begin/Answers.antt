@@ -4,10 +4,10 @@ use Rattle.ct_arena.specs.Seen.{tally_of}
 use Rattle.ct_keeper.proofs.server.Server.begin.Goals as goal
 
 pub returns-clause-longer : goal.returns-clause-longer
-returns-clause-longer g c = prefix_of_prefix c.args.pass.words c.catch_up.new.self.words c.begin.result.0.words c.catch_up.ensures.longer c.begin.ensures.longer
+returns-clause-longer g c = prefix_of_prefix c.args.pass.words c.locked-keeper.new.pass.words c.begin.result.0.words c.locked-keeper.ensures.longer c.begin.ensures.longer
 
 pub returns-clause-pass : goal.returns-clause-pass
 returns-clause-pass g c =
-    let now = c.catch_up.ensures in
-    let same : tally_of c.catch_up.new.self ≡ tally_of c.args.pass = λ i. record { session = now.session i; made = now.made i; mine = now.mine i } in
+    let now = c.locked-keeper.ensures in
+    let same : tally_of c.locked-keeper.new.pass ≡ tally_of c.args.pass = λ i. record { session = now.session i; made = now.made i; mine = now.mine i } in
     c.begin.ensures.pass ∙ same

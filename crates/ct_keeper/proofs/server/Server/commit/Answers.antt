@@ -1,13 +1,16 @@
-use Rattle.std.proofs.Common.{◌≡◌, ◌≤◌, ap, sym, subst, ◌∙◌, arith}
+use Rattle.std.proofs.Common.{◌≡◌, map, ap, sym, subst, ◌∙◌, arith}
+use Rattle.std.specs.Prelude.{All}
 use Rattle.ct_word.specs.Reading.{commits_of}
 use Rattle.ct_word.proofs.Prefixes.{prefix_of_prefix}
 use Rattle.ct_arena.specs.Seen.{tally_of, pass_of}
 use Rattle.ct_keeper.specs.Bounds.{offer_words}
 use Rattle.ct_keeper.specs.declared.error.KeeperError.TheVariants as fault
 use Rattle.ct_keeper.specs.Conflicting.{told_or}
-use Rattle.ct_keeper.specs.Offers.{IsOffer, BecomesOf}
+use Rattle.ct_history.specs.Written.{IsWritten, plain_written}
+use Rattle.ct_keeper.specs.Offers.{changes_in, IsOffer, BecomesOf}
 use Rattle.ct_keeper.specs.Served.{IsOutcome}
-use Rattle.ct_keeper.proofs.Entering.{offer_grows}
+use Rattle.ct_keeper.proofs.Entering.{offer_grows, same_list}
+use Rattle.ct_keeper.proofs.Walking.{all_written_later, all_written_same}
 use Rattle.ct_keeper.proofs.Judging.{told_err, told_later}
 use Rattle.ct_keeper.proofs.Serving.{read_on, keeper_grows, outcome_is, words_are}
 use Rattle.ct_keeper.proofs.server.Server.commit.Goals as goal
@@ -15,8 +18,8 @@ use Rattle.ct_keeper.proofs.server.Server.commit.Goals as goal
 pub judge-pass-requires-clause-offer : goal.judge-pass-requires-clause-offer
 judge-pass-requires-clause-offer g c =
     let pass = c.args.pass in
-    let now = c.catch_up.new.self in
-    let came = c.catch_up.ensures in
+    let now = c.locked-keeper.new.pass in
+    let came = c.locked-keeper.ensures in
     subst (λ p. IsOffer p c.args.offer.now) (sym (read_on pass now came.session came.made came.mine))
     (offer_grows pass now.words came.longer came.formed c.args.offer.now c.requires.offer)
 
@@ -25,8 +28,8 @@ returns-clause-outcome g c =
     let cap = g.N.Site.log.cap in
     let pass = c.args.pass in
     let offer = c.args.offer.now in
-    let now = c.catch_up.new.self in
-    let came = c.catch_up.ensures in
+    let now = c.locked-keeper.new.pass in
+    let came = c.locked-keeper.ensures in
     let old = c.deref_mut.result.now in
     let new = c.judge-pass.new.self in
     let after = c.judge-pass.result.0 in
@@ -38,14 +41,14 @@ returns-clause-outcome g c =
     (subst (λ p. BecomesOf cap old new p after offer (told_or (commits_of old.words) offer.base v)) (read_on pass now came.session came.made came.mine) c.judge-pass.ensures.verdict)))
 
 pub returns-clause-longer : goal.returns-clause-longer
-returns-clause-longer g c = prefix_of_prefix c.args.pass.words c.catch_up.new.self.words c.judge-pass.result.0.words c.catch_up.ensures.longer c.judge-pass.ensures.longer
+returns-clause-longer g c = prefix_of_prefix c.args.pass.words c.locked-keeper.new.pass.words c.judge-pass.result.0.words c.locked-keeper.ensures.longer c.judge-pass.ensures.longer
 
 pub returns-clause-made : goal.returns-clause-made
 returns-clause-made g c =
     let pass = c.args.pass in
     let offer = c.args.offer.now in
-    let now = c.catch_up.new.self in
-    let came = c.catch_up.ensures in
+    let now = c.locked-keeper.new.pass in
+    let came = c.locked-keeper.ensures in
     let old = c.deref_mut.result.now in
     let new = c.judge-pass.new.self in
     let after = c.judge-pass.result.0 in
@@ -60,8 +63,8 @@ pub returns-clause-fewer : goal.returns-clause-fewer
 returns-clause-fewer g c = λ refused.
     let pass = c.args.pass in
     let offer = c.args.offer.now in
-    let now = c.catch_up.new.self in
-    let came = c.catch_up.ensures in
+    let now = c.locked-keeper.new.pass in
+    let came = c.locked-keeper.ensures in
     let old = c.deref_mut.result.now in
     let new = c.judge-pass.new.self in
     let after = c.judge-pass.result.0 in
@@ -71,3 +74,19 @@ returns-clause-fewer g c = λ refused.
     let was = came.made in
     let fewer = c.judge-pass.ensures.fewer (told_err (commits_of c.words-2.result.now) offer.base c.judge-pass.result.1 fault.Full (sym c.outcome_of-outcome.ensures ∙ refused)) in
     omega (arith, same, are, was, fewer)
+
+pub judge-pass-requires-clause-written : goal.judge-pass-requires-clause-written
+judge-pass-requires-clause-written g c =
+    let now = c.locked-keeper.new.pass in
+    let placed : All (IsWritten c.args.pass.words) c.in-Ok.changes = subst (λ ws. All (IsWritten ws) c.in-Ok.changes) c.words.ensures.words c.in-Ok.ensures.placed in
+    subst (All (IsWritten now.words)) (sym c.as_slice-changes.ensures) (all_written_later c.args.pass.words now.words c.locked-keeper.ensures.longer c.in-Ok.changes placed)
+
+pub judge-pass-requires-clause-changes : goal.judge-pass-requires-clause-changes
+judge-pass-requires-clause-changes g c =
+    let pass = c.args.pass in
+    let now = c.locked-keeper.new.pass in
+    let came = c.locked-keeper.ensures in
+    let placed : All (IsWritten pass.words) c.in-Ok.changes = subst (λ ws. All (IsWritten ws) c.in-Ok.changes) c.words.ensures.words c.in-Ok.ensures.placed in
+    let same : map (plain_written pass.words) c.in-Ok.changes ≡ changes_in pass.words c.args.offer.now =
+    subst (λ ws. map (plain_written ws) c.in-Ok.changes ≡ changes_in ws c.args.offer.now) c.words.ensures.words c.in-Ok.ensures.same in
+    ap (map (plain_written now.words)) c.as_slice-changes.ensures ∙ all_written_same pass.words now.words came.longer c.in-Ok.changes placed ∙ same ∙ sym (same_list pass now.words came.longer came.formed c.args.offer.now c.requires.offer)
