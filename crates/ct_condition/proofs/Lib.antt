@@ -15,6 +15,7 @@ pub mod Named
 pub mod Chains
 pub mod Known
 pub mod Placed
+pub mod Marks
 pub mod Values
 pub mod Ops
 pub mod Writes

@@ -7,4 +7,5 @@ pub mod Terms
 pub mod Writes
 pub mod CommitWords
 pub mod Tallies
+pub mod Nulls
 pub mod Worth

@@ -7,6 +7,7 @@
 mod conditions;
 mod folding;
 mod interner;
+mod nulls;
 mod one_world;
 mod packed;
 mod predicates;

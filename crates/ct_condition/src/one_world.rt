@@ -8,35 +8,36 @@ ghost use Rattle.ct_word.specs.Value.{World};
 ghost use Rattle.ct_word.specs.WellFormed.{is_place_of};
 ghost use Rattle.ct_condition.specs.Worth.{AreWorths};
 
-use crate::valued::{Worth, holds};
 use std::marker::Model;
 
-/// What each place is worth in one world: the value of a term, the truth of a condition.
+/// Whether the condition at each place holds in one world. Other places have an entry, too, which tells nothing.
 #[derive(Drop)]
 pub struct Worths {
-    worths: Vec<Worth>,
+    truths: Vec<bool>,
 }
 
 impl Model for Worths {
-    ghost use Rattle.std.specs.Prelude.{List};
-    ghost use Rattle.ct_condition.specs.declared.valued.Worth.{Worth};
+    ghost use Rattle.std.specs.Prelude.{Bool, List};
 
-    ghost Value = { List Worth };
+    ghost Value = { List Bool };
 
-    ghost view = { λ w. w.worths.items };
+    ghost view = { λ w. w.truths.items };
 }
 
 impl Worths {
-    pub(crate) fn from_list(worths: Vec<Worth>) -> Worths
-        ensures { result ≡ worths.items }
+    pub(crate) fn from_list(truths: Vec<bool>) -> Worths
+        ensures { result ≡ truths.items }
     {
-        Worths { worths }
+        Worths { truths }
     }
 
     /// Whether the condition at a place holds. It takes constant time.
     pub fn holds(&self, place: u32) -> bool
         ensures { (words : List ℕ) (v : World) → AreWorths words v self.now → IsTrue (is_place_of words class.Cond place) → result ≡ holds_at v (condition_at words place) }
     {
-        holds(self.worths.as_slice(), place)
+        match self.truths.get(place as usize) {
+            Some(truth) => *truth,
+            None => false,
+        }
     }
 }

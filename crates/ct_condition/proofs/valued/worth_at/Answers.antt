@@ -1,29 +1,49 @@
-use Rattle.std.proofs.Common.{get_or, sym, ◌∙◌, ap}
-use Rattle.std.proofs.lemmas.Option.{slice_get-get_or}
+use Rattle.std.proofs.Common.{◌∙◌, subst, sym}
+use Rattle.std.specs.Prelude.{slice_get}
+use Rattle.ct_word.specs.Reading.{meanings}
+use Rattle.ct_condition.specs.Worth.{IsWorth}
 use Rattle.ct_condition.specs.declared.valued.Worth.TheVariants as worth
-use Rattle.ct_condition.specs.Worth.{truth_by}
-use Rattle.ct_condition.proofs.Values.{condition_worth, other_worth, none_worth, term_placed}
+use Rattle.ct_condition.proofs.Values.{text_is, term_is, condition_is, equal_terms}
 use Rattle.ct_condition.proofs.valued.worth_at.Goals as goal
 
-pub returns-in_default : goal.returns-in_default
-returns-in_default c =
-    none_worth c.args.words.now c.requires.formed c.args.world.now c.args.worths.now c.args.place (get_or c.args.words.now c.args.place 0)
-    (slice_get-get_or c.args.words.now c.args.place 0 c.requires.within) c.requires.earlier c.requires.worths (sym c.kind.ensures ∙ c.in_default.is)
+pub returns-in-Text : goal.returns-in-Text
+returns-in-Text c =
+    let ws = c.args.words.now in
+    let steps = c.args.nulls.now.steps.keys in
+    let pairs = c.args.nulls.now.pairs.entries in
+    let v = c.args.world.now in
+    let word = c.word_at-word.result in
+    subst (IsWorth steps v (slice_get (meanings ws) c.args.place)) (sym c.text_worth.ensures)
+    (text_is ws steps pairs v c.requires.nulls c.args.worths.now c.requires.worths c.args.place c.requires.earlier word.kind word.left word.right c.word_at-word.ensures (sym c.class.ensures ∙ c.in-Text.is))
 
-pub term_worth-requires-clause-term : goal.term_worth-requires-clause-term
-term_worth-requires-clause-term c =
-    term_placed c.args.words.now c.args.place (get_or c.args.words.now c.args.place 0) c.in-Some.kind
-    (slice_get-get_or c.args.words.now c.args.place 0 c.requires.within) (sym c.kind.ensures ∙ c.in-Some.is) (sym c.class.ensures ∙ c.in-Term.is)
+pub returns-in-Term : goal.returns-in-Term
+returns-in-Term c =
+    let ws = c.args.words.now in
+    let steps = c.args.nulls.now.steps.keys in
+    let pairs = c.args.nulls.now.pairs.entries in
+    let v = c.args.world.now in
+    let word = c.word_at-word.result in
+    subst (IsWorth steps v (slice_get (meanings ws) c.args.place)) (sym c.term_worth.ensures)
+    (term_is ws steps pairs v c.requires.nulls c.args.worths.now c.requires.worths c.args.place c.requires.earlier word.kind word.left word.right c.word_at-word.ensures (sym c.class.ensures ∙ c.in-Term.is))
 
-pub returns-in-Cond : goal.returns-in-Cond
-returns-in-Cond c =
-    ap (λ b. worth.Truth b) (c.truth.ensures ∙ (λ i. truth_by c.in-Some.kind c.args.worths.now (c.left.ensures.value i) (c.right.ensures.value i)))
-    ∙ condition_worth c.args.words.now c.requires.formed c.args.world.now c.args.worths.now c.args.place (get_or c.args.words.now c.args.place 0)
-    (slice_get-get_or c.args.words.now c.args.place 0 c.requires.within) c.requires.earlier c.requires.worths c.in-Some.kind (sym c.kind.ensures ∙ c.in-Some.is)
-    (sym c.class.ensures ∙ c.in-Cond.is)
+pub truth-requires-clause-first : goal.truth-requires-clause-first
+truth-requires-clause-first c = λ e.
+    let word = c.word_at-word.result in
+    (equal_terms c.args.words.now c.args.nulls.now.steps.keys c.args.nulls.now.pairs.entries c.args.world.now c.requires.nulls c.args.worths.now c.requires.worths c.args.place c.requires.earlier
+    word.kind word.left word.right c.word_at-word.ensures e).0
 
-pub returns-in_default-class : goal.returns-in_default-class
-returns-in_default-class c =
-    other_worth c.args.words.now c.requires.formed c.args.world.now c.args.worths.now c.args.place (get_or c.args.words.now c.args.place 0)
-    (slice_get-get_or c.args.words.now c.args.place 0 c.requires.within) c.requires.earlier c.requires.worths c.in-Some.kind (sym c.kind.ensures ∙ c.in-Some.is)
-    (λ e. c.in_default-class.not-Term (c.class.ensures ∙ e)) (λ e. c.in_default-class.not-Cond (c.class.ensures ∙ e))
+pub truth-requires-clause-second : goal.truth-requires-clause-second
+truth-requires-clause-second c = λ e.
+    let word = c.word_at-word.result in
+    (equal_terms c.args.words.now c.args.nulls.now.steps.keys c.args.nulls.now.pairs.entries c.args.world.now c.requires.nulls c.args.worths.now c.requires.worths c.args.place c.requires.earlier
+    word.kind word.left word.right c.word_at-word.ensures e).1
+
+pub returns-in_ok-truth-in-Cond : goal.returns-in_ok-truth-in-Cond
+returns-in_ok-truth-in-Cond c =
+    let ws = c.args.words.now in
+    let steps = c.args.nulls.now.steps.keys in
+    let pairs = c.args.nulls.now.pairs.entries in
+    let v = c.args.world.now in
+    let word = c.word_at-word.result in
+    subst (λ b. IsWorth steps v (slice_get (meanings ws) c.args.place) (worth.Truth b)) (sym c.in_ok-truth-in-Cond.ensures)
+    (condition_is ws steps pairs v c.requires.nulls c.args.worths.now c.requires.worths c.args.place c.requires.earlier word.kind word.left word.right c.word_at-word.ensures (sym c.class.ensures ∙ c.in-Cond.is))
