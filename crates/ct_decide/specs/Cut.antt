@@ -28,7 +28,7 @@ pub record IsHintOfLater (steps : List Step) (k : ℕ) : Type 0 where
   pub later : k < place
   pub hint : Contains (hints_of step.why) k
 
--- a derivation has no more than it needs: its atoms are of the root and of what stands below it, and each step but the last is a hint of a later one
+-- the atoms of a derivation are of the root and of what stands below it, and each step but the last is a hint of a later one
 pub record IsCut (words : List ℕ) (root : ℕ) (d : Derivation) : Type 0 where
   pub below : (s : Step) (l : Lit) → Contains d.steps s → Contains s.clause l → IsAtomBelow words root l.atom
   pub used : (k : ℕ) → suc k < length d.steps → IsHintOfLater d.steps k

@@ -23,7 +23,8 @@ pub record IsWorldAt (words : List ℕ) (root : ℕ) (v : World) : Type 0 where
   pub values : AllByRecursion (λ p. IsValueOf words root p.1) v
   pub once : IsDistinct same_null (map (λ p. p.0) v)
 
--- a valuation at which the root holds, or a derivation that is accepted over the words and the root and has no more than it needs
+-- a valuation at which the root holds, or a derivation that is accepted over the words and the root, whose atoms are of what
+-- stands below the root, and each of whose steps but the last is a hint of a later one
 abbrev pub DecisionOf : List ℕ → ℕ → Decision → Type 0
 DecisionOf words root (decision.World v) = IsWorldAt words root v
 DecisionOf words root (decision.Refuted d) = Accepts words root d × IsCut words root d

@@ -73,8 +73,8 @@ fn settle(alloc: Global, words: &[u64], root: u32, encoded: &Encoded) -> Result<
 
 /// Whether the condition at `root` holds at some valuation: such a valuation, each of whose values
 /// is a constant that stands below the root or `@k` with k below 2^28, or a derivation that it is
-/// false at every valuation, which is accepted over the words and the root and has no step that
-/// its last one does not need. No column may stand below the root.
+/// false at every valuation, which is accepted over the words and the root, and each of whose
+/// steps but the last is a hint of a later one. No column may stand below the root.
 ///
 /// # Errors
 ///

@@ -99,24 +99,6 @@ module _ (ws : List ℕ) where
       by kind.RowEnd q of e = absurd (false≢true e)
       by _ q of e = absurd (false≢true of)
 
-  pub rows_read : Read class.RowList class.CondRow (rows_at ws) (cond_row_at ws)
-  rows_read = read_items ws class.RowList class.CondRow (rows_at ws) (cond_row_at ws) none more where
-    none : (p : ℕ) (w : Word) → IsWordAt ws p w → IsTrue (is_place_of ws class.RowList p) → is_longer w.kind ≡ false → rows_at ws p ≡ []
-    none p w is placed e = by w.kind refl (sym (is.class class.RowList) ∙ placed) e where
-      by : (k : Kind) → w.kind ≡ k → same_class (class_of k) class.RowList ≡ true → is_longer k ≡ false → rows_at ws p ≡ []
-      by kind.RowsEnd q of e = ap as_row_list (of_kind ws p w kind.RowsEnd q is).meaning
-      by kind.Rows q of e = absurd (false≢true (sym e))
-      by _ q of e = absurd (false≢true of)
-
-    more : (p : ℕ) (w : Word) → IsWordAt ws p w → IsTrue (is_place_of ws class.RowList p) → is_longer w.kind ≡ true
-        → (rows_at ws p ≡ rows_at ws w.left ++ cond_row_at ws w.right ∷ []) × IsTrue (is_place_of ws class.RowList w.left) × IsTrue (is_place_of ws class.CondRow w.right)
-    more p w is placed e = by w.kind refl (sym (is.class class.RowList) ∙ placed) e where
-      by : (k : Kind) → w.kind ≡ k → same_class (class_of k) class.RowList ≡ true → is_longer k ≡ true
-          → (rows_at ws p ≡ rows_at ws w.left ++ cond_row_at ws w.right ∷ []) × IsTrue (is_place_of ws class.RowList w.left) × IsTrue (is_place_of ws class.CondRow w.right)
-      by kind.Rows q of e = let h = of_kind ws p w kind.Rows q is in (ap as_row_list h.meaning, h.left.1, h.right.1)
-      by kind.RowsEnd q of e = absurd (false≢true e)
-      by _ q of e = absurd (false≢true of)
-
   pub names_read : Read class.NameList class.Text (names_at ws) (text_at ws)
   names_read = read_items ws class.NameList class.Text (names_at ws) (text_at ws) none more where
     none : (p : ℕ) (w : Word) → IsWordAt ws p w → IsTrue (is_place_of ws class.NameList p) → is_longer w.kind ≡ false → names_at ws p ≡ []
@@ -135,23 +117,54 @@ module _ (ws : List ℕ) where
       by kind.NamesEnd q of e = absurd (false≢true e)
       by _ q of e = absurd (false≢true of)
 
-  pub changes_read : Read class.ChangeList class.Change (change_list_at ws) (change_at ws)
-  changes_read = read_items ws class.ChangeList class.Change (change_list_at ws) (change_at ws) none more where
-    none : (p : ℕ) (w : Word) → IsWordAt ws p w → IsTrue (is_place_of ws class.ChangeList p) → is_longer w.kind ≡ false → change_list_at ws p ≡ []
-    none p w is placed e = by w.kind refl (sym (is.class class.ChangeList) ∙ placed) e where
-      by : (k : Kind) → w.kind ≡ k → same_class (class_of k) class.ChangeList ≡ true → is_longer k ≡ false → change_list_at ws p ≡ []
-      by kind.ChangesEnd q of e = ap as_change_list (of_kind ws p w kind.ChangesEnd q is).meaning
-      by kind.Changes q of e = absurd (false≢true (sym e))
-      by _ q of e = absurd (false≢true of)
+-- what the word of a list of rows says
+module _ (ws : List ℕ) (p : ℕ) (w : Word) (is : IsWordAt ws p w) (placed : IsTrue (is_place_of ws class.RowList p)) where
+  pub no_row : is_longer w.kind ≡ false → rows_at ws p ≡ []
+  no_row e = by w.kind refl (sym (is.class class.RowList) ∙ placed) e where
+    by : (k : Kind) → w.kind ≡ k → same_class (class_of k) class.RowList ≡ true → is_longer k ≡ false → rows_at ws p ≡ []
+    by kind.RowsEnd q of e = ap as_row_list (of_kind ws p w kind.RowsEnd q is).meaning
+    by kind.Rows q of e = absurd (false≢true (sym e))
+    by _ q of e = absurd (false≢true of)
 
-    more : (p : ℕ) (w : Word) → IsWordAt ws p w → IsTrue (is_place_of ws class.ChangeList p) → is_longer w.kind ≡ true
-        → (change_list_at ws p ≡ change_list_at ws w.left ++ change_at ws w.right ∷ []) × IsTrue (is_place_of ws class.ChangeList w.left) × IsTrue (is_place_of ws class.Change w.right)
-    more p w is placed e = by w.kind refl (sym (is.class class.ChangeList) ∙ placed) e where
-      by : (k : Kind) → w.kind ≡ k → same_class (class_of k) class.ChangeList ≡ true → is_longer k ≡ true
-          → (change_list_at ws p ≡ change_list_at ws w.left ++ change_at ws w.right ∷ []) × IsTrue (is_place_of ws class.ChangeList w.left) × IsTrue (is_place_of ws class.Change w.right)
-      by kind.Changes q of e = let h = of_kind ws p w kind.Changes q is in (ap as_change_list h.meaning, h.left.1, h.right.1)
-      by kind.ChangesEnd q of e = absurd (false≢true e)
-      by _ q of e = absurd (false≢true of)
+  pub last_row : is_longer w.kind ≡ true
+      → (rows_at ws p ≡ rows_at ws w.left ++ cond_row_at ws w.right ∷ []) × IsTrue (is_place_of ws class.RowList w.left) × IsTrue (is_place_of ws class.CondRow w.right) × (w.left < p)
+  last_row e = by w.kind refl (sym (is.class class.RowList) ∙ placed) e where
+    by : (k : Kind) → w.kind ≡ k → same_class (class_of k) class.RowList ≡ true → is_longer k ≡ true
+        → (rows_at ws p ≡ rows_at ws w.left ++ cond_row_at ws w.right ∷ []) × IsTrue (is_place_of ws class.RowList w.left) × IsTrue (is_place_of ws class.CondRow w.right) × (w.left < p)
+    by kind.Rows q of e = let h = of_kind ws p w kind.Rows q is in (ap as_row_list h.meaning, h.left.1, h.right.1, h.left.0)
+    by kind.RowsEnd q of e = absurd (false≢true e)
+    by _ q of e = absurd (false≢true of)
+
+-- what the word of a list of changes says
+module _ (ws : List ℕ) (p : ℕ) (w : Word) (is : IsWordAt ws p w) (placed : IsTrue (is_place_of ws class.ChangeList p)) where
+  pub no_change : is_longer w.kind ≡ false → change_list_at ws p ≡ []
+  no_change e = by w.kind refl (sym (is.class class.ChangeList) ∙ placed) e where
+    by : (k : Kind) → w.kind ≡ k → same_class (class_of k) class.ChangeList ≡ true → is_longer k ≡ false → change_list_at ws p ≡ []
+    by kind.ChangesEnd q of e = ap as_change_list (of_kind ws p w kind.ChangesEnd q is).meaning
+    by kind.Changes q of e = absurd (false≢true (sym e))
+    by _ q of e = absurd (false≢true of)
+
+  pub last_change : is_longer w.kind ≡ true
+      → (change_list_at ws p ≡ change_list_at ws w.left ++ change_at ws w.right ∷ []) × IsTrue (is_place_of ws class.ChangeList w.left) × IsTrue (is_place_of ws class.Change w.right) × (w.left < p)
+  last_change e = by w.kind refl (sym (is.class class.ChangeList) ∙ placed) e where
+    by : (k : Kind) → w.kind ≡ k → same_class (class_of k) class.ChangeList ≡ true → is_longer k ≡ true
+        → (change_list_at ws p ≡ change_list_at ws w.left ++ change_at ws w.right ∷ []) × IsTrue (is_place_of ws class.ChangeList w.left) × IsTrue (is_place_of ws class.Change w.right) × (w.left < p)
+    by kind.Changes q of e = let h = of_kind ws p w kind.Changes q is in (ap as_change_list h.meaning, h.left.1, h.right.1, h.left.0)
+    by kind.ChangesEnd q of e = absurd (false≢true e)
+    by _ q of e = absurd (false≢true of)
+
+-- one more item, read from the end of a list, comes before those read so far
+pub one_before : {X Y : Type 0} (f : X → Y) (all before after : List Y) (items : List X) (x : X) (y : Y)
+    → all ≡ before ++ map f (reverse items) → before ≡ after ++ y ∷ [] → f x ≡ y → all ≡ after ++ map f (reverse (items ++ x ∷ []))
+one_before f all before after items x y same is e =
+    same ∙ ap (λ l. l ++ map f (reverse items)) is ∙ append_assoc after (y ∷ []) (map f (reverse items))
+    ∙ ap (λ z. after ++ z ∷ map f (reverse items)) (sym e) ∙ ap (λ l. after ++ map f l) (sym (reverse-append items (x ∷ [])))
+
+pub all_before : {X : Type 0} (P : X → Type 0) (items : List X) (x : X) → All P (reverse items) → P x → All P (reverse (items ++ x ∷ []))
+all_before P items x all p = subst (All P) (sym (reverse-append items (x ∷ []))) first where
+  first : All P (x ∷ reverse items)
+  first zero d lt = p
+  first (suc k) d lt = all k d (omega (arith, lt))
 
 -- what the word of a row under its condition says
 pub row_word : (ws : List ℕ) (p : ℕ) (w : Word) → IsWordAt ws p w → IsTrue (is_place_of ws class.CondRow p)

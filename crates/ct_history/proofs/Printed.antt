@@ -1,8 +1,9 @@
 -- Printed changes stand for those of the log.
-use Rattle.std.proofs.Common.{◌≡◌, ℕ, suc, Bool, true, List, [], ◌∷◌, ◌++◌, map, length, take, drop, refl, ap, sym, ◌∙◌}
+use Rattle.std.proofs.Common.{◌≡◌, ◌+◌, ℕ, suc, Bool, true, List, [], ◌∷◌, ◌++◌, map, length, take, drop, refl, ap, sym, ◌∙◌, arith, length-append}
 use Rattle.std.specs.Prelude.{IsTrue, All, flat_map}
 use Rattle.std.specs.List.{AllZip, list_all}
 use Rattle.std.proofs.lemmas.Bool.{false≢true, and_parts, and_from}
+use Rattle.std.proofs.lemmas.List.{append_assoc}
 use Rattle.std.proofs.lemmas.List.Elements.{All-head, All-tail}
 use Rattle.ct_word.specs.declared.kinds.Kind.{Kind}
 use Rattle.ct_word.specs.declared.kinds.Kind.TheVariants as kind
@@ -17,6 +18,7 @@ use Rattle.ct_word.specs.WellFormed.{is_place_of, same_class, class_of}
 use Rattle.ct_word.specs.WordAt.{IsWordAt}
 use Rattle.ct_rewrite.specs.declared.answer.Node.{Node}
 use Rattle.ct_rewrite.specs.Nodes.{node_condition, is_position}
+use Rattle.ct_rewrite.specs.declared.history.Change.{Change}
 use Rattle.ct_rewrite.specs.History.{plain_row, plain_change, is_change_placed}
 use Rattle.ct_history.specs.Printed.{conds_of, rows_with, change_with, changes_with}
 use Rattle.ct_history.specs.Rows.{IsRowOf}
@@ -118,6 +120,22 @@ module _ (ws : List ℕ) where
   all_conds [] all = refl
   all_conds (x ∷ xs) all =
       list_all_both (is_place_of ws class.Cond) (conds_of x) (flat_map conds_of xs) (change_conds x (All-head (IsWritten ws) x xs all)) (all_conds xs (All-tail (IsWritten ws) x xs all))
+
+-- one more change is printed, of those that are left
+pub one_printed : (ws : List ℕ) (all out : List Change) (x : Written) (items rest : List Written) (ks own later : List ℕ) (y : Change)
+    → out ++ changes_with ws items ks ≡ all → items ≡ x ∷ rest → own ≡ take (length (conds_of x)) ks → later ≡ drop (length (conds_of x)) ks → y ≡ change_with ws x own
+    → (out ++ y ∷ []) ++ changes_with ws rest later ≡ all
+one_printed ws all out x items rest ks own later y same is first others e =
+    append_assoc out (y ∷ []) (changes_with ws rest later) ∙ (λ i. out ++ (e ∙ ap (change_with ws x) first) i ∷ changes_with ws rest (others i))
+    ∙ ap (λ xs. out ++ changes_with ws xs ks) (sym is) ∙ same
+
+-- and as many positions are left as the others have conditions
+pub fewer_left : (x : Written) (items rest : List Written) (ks later : List ℕ) (n : ℕ) → length ks ≡ length (flat_map conds_of items) → items ≡ x ∷ rest → n ≡ length (conds_of x)
+    → length later + n ≡ length ks → length later ≡ length (flat_map conds_of rest)
+fewer_left x items rest ks later n long is count back =
+    let split : length (flat_map conds_of items) ≡ length (conds_of x) + length (flat_map conds_of rest) =
+    ap (λ l. length (flat_map conds_of l)) is ∙ length-append (conds_of x) (flat_map conds_of rest) in
+    omega (arith, long, split, count, back)
 
 -- the word of a commit
 pub commit_word : (ws : List ℕ) (p : ℕ) (w : Word) → IsWordAt ws p w → IsTrue (is_place_of ws class.Commit p) → w.kind ≡ kind.Commit

@@ -30,7 +30,7 @@ fn add_conditions(roots: &mut Vec<u32>, rows: &[CRow]) -> Result<(), Memory>
 fn conditions(alloc: Global, changes: &[Written]) -> Result<Vec<u32>, Memory>
     ensures { IfOk result (λ v. v.items ≡ flat_map conds_of changes.now) }
 {
-    let mut roots = Vec::new(alloc);
+    let mut roots = Vec::with_capacity(alloc, changes.len())?;
     for change in changes {
         match change {
             Written::Create { .. } => {}
@@ -47,7 +47,7 @@ fn terms(alloc: Global, words: &[u64], places: &[u32]) -> Result<List<Term>, Mem
     requires places { AreTerms words.now places.now }
     ensures { IfOk result (λ ts. ts ≡ map (term_at words.now) places.now) }
 {
-    let mut terms = Vec::new(alloc);
+    let mut terms = Vec::with_capacity(alloc, places.len())?;
     for place in places {
         terms.push(term_at(alloc, words, *place)?)?;
     }
@@ -65,7 +65,7 @@ fn rows(
     requires rows { All (IsRowOf words.now) rows.now }
     ensures { IfOk result (λ out. out ≡ rows_with words.now rows.now positions.now) }
 {
-    let mut out = Vec::new(alloc);
+    let mut out = Vec::with_capacity(alloc, rows.len())?;
     let mut rest = positions;
     for row in rows {
         let Some((cond, later)) = rest.split_first() else {
@@ -82,28 +82,25 @@ fn rows(
 fn change(
     alloc: Global,
     words: &[u64],
-    change: &Written,
+    change: Written,
     positions: &[u32],
 ) -> Result<Change, Memory>
     requires formed { IsWellFormed words.now }
-    requires change { IsWritten words.now change.now }
-    requires positions { length positions.now ≡ length (conds_of change.now) }
-    ensures { IfOk result (λ x. x ≡ change_with words.now change.now positions.now) }
+    requires change { IsWritten words.now change }
+    requires positions { length positions.now ≡ length (conds_of change) }
+    ensures { IfOk result (λ x. x ≡ change_with words.now change positions.now) }
 {
     match change {
-        Written::Create { name, columns } => Ok(Change::Create {
-            name: name.clone()?,
-            columns: columns.clone()?,
-        }),
+        Written::Create { name, columns } => Ok(Change::Create { name, columns }),
         Written::Insert { name, rows: list } => Ok(Change::Insert {
-            name: name.clone()?,
+            name,
             rows: rows(alloc, words, list.as_slice(), positions)?,
         }),
-        Written::Delete { name, .. } => Ok(Change::Delete {
-            name: name.clone()?,
+        Written::Delete { name, cond: _ } => Ok(Change::Delete {
+            name,
             cond: positions[0],
         }),
-        Written::Assert { .. } => Ok(Change::Assert { cond: positions[0] }),
+        Written::Assert { cond: _ } => Ok(Change::Assert { cond: positions[0] }),
     }
 }
 
@@ -122,18 +119,18 @@ fn count(change: &Written) -> usize
 fn changes(
     alloc: Global,
     words: &[u64],
-    changes: &[Written],
+    changes: List<Written>,
     positions: &[u32],
 ) -> Result<List<Change>, Memory>
     requires formed { IsWellFormed words.now }
-    requires changes { All (IsWritten words.now) changes.now }
-    requires positions { length positions.now ≡ length (flat_map conds_of changes.now) }
-    ensures { IfOk result (λ xs. xs ≡ changes_with words.now changes.now positions.now) }
+    requires changes { All (IsWritten words.now) changes }
+    requires positions { length positions.now ≡ length (flat_map conds_of changes) }
+    ensures { IfOk result (λ xs. xs ≡ changes_with words.now changes positions.now) }
 {
-    let mut out = Vec::new(alloc);
+    let mut out = Vec::with_capacity(alloc, changes.len())?;
     let mut rest = positions;
-    for item in changes {
-        let (own, later) = rest.split_at(count(item));
+    for item in changes.into_vec() {
+        let (own, later) = rest.split_at(count(&item));
         out.push(change(alloc, words, item, own)?)?;
         rest = later;
     }
@@ -152,7 +149,7 @@ fn commit(alloc: Global, words: &[u64], place: u32) -> Result<Commit, Memory>
     let written = changes_at(alloc, words, word.right)?;
     let roots = conditions(alloc, written.as_slice())?;
     let forms = normal(alloc, words, roots.as_slice())?;
-    let changes = changes(alloc, words, written.as_slice(), forms.roots.as_slice())?;
+    let changes = changes(alloc, words, written, forms.roots.as_slice())?;
     Ok(Commit {
         session: word.left / 0x4_0000,
         number: word.left % 0x4_0000,

@@ -29,8 +29,8 @@ fn names(alloc: Global, words: &[u64], place: u32) -> Result<List<Text>, Memory>
     requires place { IsTrue (is_place_of words.now class.NameList place) }
     ensures { IfOk result (λ names. names ≡ names_at words.now place) }
 {
-    let mut names = Vec::new(alloc);
     let places = items(alloc, words, place)?;
+    let mut names = Vec::with_capacity(alloc, places.len())?;
     for item in places.as_slice() {
         let name = text_at(alloc, words, *item)?;
         names.push(name)?;
@@ -61,11 +61,17 @@ fn rows(alloc: Global, words: &[u64], place: u32) -> Result<List<CRow>, Memory>
     ensures placed { IfOk result (λ rows. All (IsRowOf words.now) rows) }
 {
     let mut rows = Vec::new(alloc);
-    let places = items(alloc, words, place)?;
-    for item in places.as_slice() {
-        let next = row(alloc, words, *item)?;
+    let mut rest = place;
+    loop {
+        let word = word_at(words, rest);
+        if !is_longer(word.kind) {
+            break;
+        }
+        let next = row(alloc, words, word.right)?;
         rows.push(next)?;
+        rest = word.left;
     }
+    rows.reverse();
     Ok(List::from_vec(rows))
 }
 
@@ -105,11 +111,17 @@ pub fn changes_at(alloc: Global, words: &[u64], list: u32) -> Result<List<Writte
     ensures placed { IfOk result (λ xs. All (IsWritten words.now) xs) }
 {
     let mut changes = Vec::new(alloc);
-    let places = items(alloc, words, list)?;
-    for item in places.as_slice() {
-        let next = written_change(alloc, words, *item)?;
+    let mut rest = list;
+    loop {
+        let word = word_at(words, rest);
+        if !is_longer(word.kind) {
+            break;
+        }
+        let next = written_change(alloc, words, word.right)?;
         changes.push(next)?;
+        rest = word.left;
     }
+    changes.reverse();
     Ok(List::from_vec(changes))
 }
 

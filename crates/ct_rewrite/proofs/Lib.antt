@@ -12,3 +12,4 @@ pub mod Moving
 pub mod Sides
 pub mod Rules
 pub mod Literals
+pub mod AllTrue

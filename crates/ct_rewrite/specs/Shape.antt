@@ -1,5 +1,5 @@
 -- What the word of a condition says, and which conditions it names.
-use Rattle.std.specs.Prelude.{◌≡◌, ℕ, ◌<◌, true, false, List, [], ◌∷◌, Option, Some, None, IsTrue, slice_get}
+use Rattle.std.specs.Prelude.{◌≡◌, ℕ, ◌<◌, Bool, true, false, List, [], ◌∷◌, Option, Some, None, IsTrue, slice_get}
 use Rattle.std.specs.List.{AllByRecursion}
 use Rattle.ct_word.specs.declared.kinds.Kind.{Kind}
 use Rattle.ct_word.specs.declared.kinds.Kind.TheVariants as kind
@@ -31,6 +31,15 @@ shape_of_word None = shape.Literal false
 -- what the word at a place says
 abbrev pub shape_at : List ℕ → ℕ → Shape
 shape_at words place = shape_of_word (slice_get words place)
+
+-- whether a shape is that of the word true
+abbrev pub is_true_shape : Shape → Bool
+is_true_shape (shape.Literal b) = b
+is_true_shape _ = false
+
+-- whether the word at a place is the word true
+abbrev pub is_true_at : List ℕ → ℕ → Bool
+is_true_at words place = is_true_shape (shape_at words place)
 
 -- the places of the conditions that a shape names
 abbrev pub parts_of : Shape → List ℕ

@@ -36,14 +36,16 @@ pub struct AnswerRow {
     pub cond: u32,
 }
 
-/// A row that is in a table in some world, and such a world.
+/// Cells, and a world. Where a query is asked for possible rows, each of the reply has a world of the history in which
+/// the query has the cells, with the world's values for their nulls.
 #[derive(Drop)]
 pub struct PossibleRow {
     pub cells: List<Term>,
     pub world: World,
 }
 
-/// A tuple that is in a table in every world, and a proof that it is absent in none.
+/// A tuple, and a proof. Where a query is asked for certain tuples, each of the reply has a proof that the query lacks it
+/// in no world of the history.
 #[derive(Drop)]
 pub struct CertainRow {
     pub tuple: List<Value>,

@@ -1,25 +1,28 @@
 // The printed form of conditions.
 
-ghost use Rattle.std.specs.Prelude.{◌≡◌, ℕ, List, [], ◌<◌, ◌≤◌, ◌^◌, length, map, IfOk, IsTrue};
+ghost use Rattle.std.specs.Prelude.{◌≡◌, ℕ, List, [], ◌∷◌, ◌<◌, ◌≤◌, ◌^◌, length, map, replicate, IfOk, IsTrue};
 ghost use Rattle.std.specs.List.{AllZip, IsDistinct, list_all};
 ghost use Rattle.ct_word.specs.declared.kinds.Class.TheVariants as class;
 ghost use Rattle.ct_word.specs.declared.values.Term.{Term};
 ghost use Rattle.ct_word.specs.Condition.{SameTruth};
 ghost use Rattle.ct_word.specs.WellFormed.{IsWellFormed, is_place_of};
 ghost use Rattle.ct_word.specs.Reading.{condition_at};
+ghost use Rattle.ct_rewrite.specs.declared.answer.Node.TheVariants as node;
 ghost use Rattle.ct_rewrite.specs.Nodes.{IsOrdered, is_position, node_condition, read_nodes, same_node};
 ghost use Rattle.ct_rewrite.specs.Rules.{are_children_distinct, are_children_within, are_sides_in_order, has_no_literals, is_unsettled};
 ghost use Rattle.ct_rewrite.specs.Below.{has_at};
+ghost use Rattle.ct_rewrite.specs.Shape.{is_true_at};
 ghost use Rattle.ct_rewrite.specs.Signs.{plus_at};
 ghost use Rattle.ct_rewrite.specs.Sizes.{NoneIsEmpty, deep, nest_of, text_of, wide};
 
+use crate::answer::Node;
 use crate::below::below;
 use crate::builder::Builder;
 use crate::form::Normal;
 use crate::forms::{Form, forms};
 use crate::kept::kept;
-use crate::shape::Conditions;
-use ct_word::Memory;
+use crate::shape::{Conditions, are_true};
+use ct_word::{List, Memory};
 use std::alloc::Global;
 use std::collections::BTreeMap;
 
@@ -35,10 +38,31 @@ fn positions(alloc: Global, forms: &BTreeMap<u32, Form>, places: &[u32]) -> Resu
     Ok(positions)
 }
 
+/// Whether there are roots, each of them a place of the word true.
+fn is_plain(words: &[u64], roots: &[u32]) -> bool
+    ensures { IsTrue result → IsTrue (list_all (is_true_at words.now) roots.now) }
+{
+    !roots.is_empty() && are_true(words, roots)
+}
+
+/// The printed form of so many conditions, each of them true.
+fn all_true(alloc: Global, count: usize) -> Result<Normal, Memory>
+    ensures nodes { IfOk result (λ n. n.nodes ≡ node.True ∷ []) }
+    ensures roots { IfOk result (λ n. n.roots ≡ replicate count 0) }
+{
+    let nodes = vec![in alloc; Node::True]?;
+    let roots = vec![in alloc; 0; count]?;
+    Ok(Normal {
+        nodes: List::from_vec(nodes),
+        roots: List::from_vec(roots),
+    })
+}
+
 /// The printed form of the conditions at these places of a log.
 ///
 /// Each condition that a root leads to gets its form once for each sign, so that what conditions
-/// share is not unfolded. No other word of the log is looked at.
+/// share is not unfolded. No other word of the log is looked at. Where each root is the word true,
+/// as that of most rows is, no forms are made.
 ///
 /// # Errors
 /// `Memory` where there is none for the nodes.
@@ -71,6 +95,9 @@ pub fn normal(alloc: Global, words: &[u64], roots: &[u32]) -> Result<Normal, Mem
     ensures sides { IfOk result (λ n. IsTrue (list_all are_sides_in_order n.nodes)) }
     ensures unsettled { IfOk result (λ n. IsTrue (list_all is_unsettled n.nodes)) }
 {
+    if is_plain(words, roots) {
+        return all_true(alloc, roots.len());
+    }
     let places = below(alloc, &Conditions { words }, words.len() as u32, roots)?;
     let mut builder = Builder::new(alloc);
     let forms = forms(alloc, &mut builder, words, &places)?;

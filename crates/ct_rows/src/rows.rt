@@ -57,7 +57,8 @@ impl Rows {
         Some(self.links.at(place as usize).cond)
     }
 
-    /// Puts a row whose cells no row has last, in more slots where the rows are twice as many.
+    /// Puts a row whose cells no row has last. Where there are twice as many rows as slots, all are linked anew first, in
+    /// twice as many slots.
     ///
     /// # Errors
     /// `AllocError` where there is no memory, or where there are 2^32 - 1 rows; the rows are as they were.

@@ -1,4 +1,4 @@
--- Rows of a table that get conditions in place.
+-- Rows of a table that get conditions at their cells.
 use Rattle.std.specs.Prelude.{◌≡◌, ◌≢◌, ℕ, nat_eq, List, [], ◌∷◌, map, None, Some, if◌then◌else◌}
 use Rattle.ct_word.specs.declared.values.CRow.{CRow}
 use Rattle.ct_condition.specs.Truth.{HasTruth, or_at}

@@ -100,7 +100,7 @@ impl Db {
         })
     }
 
-    /// The same tables, in a list of their own. The tables are shared.
+    /// The same tables, in a list of their own. The tables are shared, until one of them grows.
     ///
     /// # Errors
     /// `Memory` where there is none for the list, or for the copies of the names and columns.
@@ -113,7 +113,8 @@ impl Db {
         })
     }
 
-    /// The same tables with this one at its name's place, or last where the name is new. The others are shared.
+    /// The same tables with this one at its name's place, or last where the name is new. The others are shared, until
+    /// one of them grows.
     ///
     /// # Errors
     /// `Memory` where there is none for the list of the tables.
@@ -129,8 +130,9 @@ impl Db {
         }
     }
 
-    /// Makes all that a growth needs, or a growth that can be left undone: a table gets rows in place where nobody else
-    /// holds it and they have new cells, else it is made anew beside the old one, with which it shares most.
+    /// Makes all that a growth needs, or a growth that can be left undone. A table gets rows in place where nobody else
+    /// holds it and they have new cells. Else the new table is made beside the old one, with which it shares the parts of
+    /// its rows that do not change, if the old one's rows are found by their cells and no others stand past them.
     ///
     /// # Errors
     /// The database as it was, where there is no memory.

@@ -67,7 +67,7 @@ impl Put {
 }
 
 /// A table whose rows are found by their cells. Contracts see its columns, and the cells and conditions of its rows. A
-/// copy shares its columns, and the rows that stay.
+/// copy shares its columns and rows, until one of them changes: then it copies the parts of the rows that it changes.
 #[derive(Drop)]
 pub struct Stored {
     columns: Arc<List<Text>, Global>,

@@ -35,18 +35,22 @@ pub enum Refusal {
     DuplicateName,
     /// Numbers of columns differ.
     ColumnCount,
-    /// The size of the query, the rows or pairs of rows that its greatest part goes through, is past 1,048,576.
+    /// By the counts of all rows that were ever inserted, the greatest part of the query goes through more than
+    /// 1,048,576 rows or pairs of rows.
     TooLarge,
-    /// The log has as many words as its capacity, and the statement needs another one.
+    /// The log has as many words as its capacity, and the statement may need a word.
     Full,
-    /// The question has more than 64 distinct terms.
+    /// The statement asks of all worlds, and about more than 64 terms: the distinct ones of the changes of the log that
+    /// assert or name a table that is read, of the transaction's actions and of the statement, and one more for each
+    /// column of certain tuples.
     TooManyTerms,
     /// No world that the commits and the transaction's changes admit satisfies the assertion: the proof refutes it.
     Inconsistent {
         proof: Proof,
     },
-    /// Another session has changed what the transaction reads: `table` was last changed by commit `was` when the
-    /// transaction began, and by commit `now` at version `at`. A count of 0 is no commit.
+    /// A commit after the version that the transaction saw, or the action outside one, has changed what it reads:
+    /// `table`, the first such, was last changed by commit `was` up to that version, and by commit `now` up to version
+    /// `at`. Where `was` is 0, no commit had.
     Conflict {
         table: Read,
         was: u32,
@@ -145,7 +149,8 @@ pub enum Reply {
         columns: List<Text>,
         rows: List<CertainRow>,
     },
-    /// Nothing was changed. `at` is the version that the refusal rests on, or the last one that was seen.
+    /// The statement has no effect, but that a transaction with a conflict has ended. `at` is the version that the
+    /// refusal rests on, or the last one that was seen.
     Refused {
         at: u32,
         why: Refusal,

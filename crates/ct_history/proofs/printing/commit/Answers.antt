@@ -20,8 +20,8 @@ normal-requires-clause-roots c =
 
 pub changes-requires-clause-positions : goal.changes-requires-clause-positions
 changes-requires-clause-positions c =
-    ap length c.as_slice-4.ensures ∙ zip_length (Prints c.args.words.now c.in_ok-forms.forms.nodes) c.in_ok-forms.forms.roots c.as_slice-2.result.now c.in_ok-forms.ensures.truth
-    ∙ ap length (c.as_slice-2.ensures.value ∙ c.in_ok-roots.ensures ∙ ap (flat_map conds_of) (c.as_slice.ensures ∙ sym c.as_slice-3.ensures))
+    ap length c.as_slice-3.ensures ∙ zip_length (Prints c.args.words.now c.in_ok-forms.forms.nodes) c.in_ok-forms.forms.roots c.as_slice-2.result.now c.in_ok-forms.ensures.truth
+    ∙ ap length (c.as_slice-2.ensures.value ∙ c.in_ok-roots.ensures ∙ ap (flat_map conds_of) c.as_slice.ensures)
 
 pub returns : goal.returns
 returns c =
@@ -32,7 +32,7 @@ returns c =
     let xs = c.in_ok-written.written in
     let truth : AllZip (Prints words nodes) ks (flat_map conds_of xs) =
     subst (AllZip (Prints words nodes) ks) (c.as_slice-2.ensures.value ∙ c.in_ok-roots.ensures ∙ ap (flat_map conds_of) c.as_slice.ensures) c.in_ok-forms.ensures.truth in
-    let printed : c.in_ok-changes.changes ≡ changes_with words xs ks = c.in_ok-changes.ensures ∙ (λ i. changes_with words (c.as_slice-3.ensures i) (c.as_slice-4.ensures i)) in
+    let printed : c.in_ok-changes.changes ≡ changes_with words xs ks = c.in_ok-changes.ensures ∙ ap (changes_with words xs) c.as_slice-3.ensures in
     record {
       commit = record { session = word.left / 262144; number = word.left % 262144; changes = change_list_at words word.right };
       stands = (of_kind words c.args.place word kind.Commit (commit_word words c.args.place word c.word_at-word.ensures c.requires.place) c.word_at-word.ensures).meaning;

@@ -1,9 +1,16 @@
-use Rattle.std.proofs.Common.{◌∙◌, refl}
+use Rattle.std.proofs.Common.{◌∙◌, ◌≤◌, List, length, refl, subst, sym, arith}
+use Rattle.std.specs.List.{IsDistinct}
 use Rattle.std.proofs.lemmas.Result.{IfOk-weaker}
 use Rattle.ct_word.proofs.Items.{all_implied}
+use Rattle.ct_word.specs.Condition.{SameTruth}
+use Rattle.ct_rewrite.specs.declared.answer.Node.{Node}
+use Rattle.ct_rewrite.specs.Nodes.{same_node}
 use Rattle.ct_rewrite.specs.Rules.{is_proper}
 use Rattle.ct_rewrite.specs.Below.{has}
 use Rattle.ct_rewrite.specs.Signs.{IsFormAt}
+use Rattle.ct_rewrite.specs.Sizes.{deep, nest_of, text_of, wide}
+use Rattle.ct_rewrite.proofs.AllTrue.{one_distinct, zeros_are, zeros_are_placed}
+use Rattle.ct_rewrite.proofs.Results.{IfOk-both}
 use Rattle.ct_rewrite.proofs.Shaped.{conditions_downward}
 use Rattle.ct_rewrite.proofs.Closing.{there_have, all_have}
 use Rattle.ct_rewrite.proofs.Conditions.{roots_placed, normal_truth, normal_wide, normal_deep, kept_placed}
@@ -23,6 +30,34 @@ kept-requires-clause-roots c =
     roots_placed c.args.words.now _ c.nodes.result.now c.in_ok-forms.forms c.args.roots.now c.as_slice.result.now
     (there_have (IsFormAt c.args.words.now _) c.in_ok-forms.forms (has c.in_ok-places.places) c.in_ok-forms.ensures.forms c.args.roots.now c.in_ok-places.ensures.roots)
     c.nodes.ensures.value (c.as_slice.ensures.value ∙ c.in_ok-positions.ensures)
+
+pub returns-then-is_plain-clause-truth : goal.returns-then-is_plain-clause-truth
+returns-then-is_plain-clause-truth c =
+    IfOk-both c.all_true.result _ _ _
+    (λ n. zeros_are c.args.words.now c.requires.formed SameTruth (λ v row. refl) c.args.roots.now c.requires.roots (c.is_plain.ensures c.if-is_plain.true) n.nodes n.roots)
+    c.all_true.ensures.nodes c.all_true.ensures.roots
+
+pub returns-then-is_plain-clause-wide : goal.returns-then-is_plain-clause-wide
+returns-then-is_plain-clause-wide c =
+    IfOk-both c.all_true.result _ _ _
+    (λ n nodes roots texts some. zeros_are c.args.words.now c.requires.formed (λ x d. length (text_of texts x) ≤ wide (λ t. length (texts t)) d) (omega arith)
+    c.args.roots.now c.requires.roots (c.is_plain.ensures c.if-is_plain.true) n.nodes n.roots nodes roots)
+    c.all_true.ensures.nodes c.all_true.ensures.roots
+
+pub returns-then-is_plain-clause-deep : goal.returns-then-is_plain-clause-deep
+returns-then-is_plain-clause-deep c =
+    IfOk-both c.all_true.result _ _ _
+    (λ n. zeros_are c.args.words.now c.requires.formed (λ x d. nest_of x ≤ deep d) (omega arith)
+    c.args.roots.now c.requires.roots (c.is_plain.ensures c.if-is_plain.true) n.nodes n.roots)
+    c.all_true.ensures.nodes c.all_true.ensures.roots
+
+pub returns-then-is_plain-clause-placed : goal.returns-then-is_plain-clause-placed
+returns-then-is_plain-clause-placed c =
+    IfOk-both c.all_true.result _ _ _ (λ n. zeros_are_placed (length c.args.roots.now) n.nodes n.roots) c.all_true.ensures.nodes c.all_true.ensures.roots
+
+pub returns-then-is_plain-clause-distinct : goal.returns-then-is_plain-clause-distinct
+returns-then-is_plain-clause-distinct c =
+    IfOk-weaker c.all_true.result _ _ (λ n e. subst (λ (ns : List Node). IsDistinct same_node ns) (sym e) one_distinct) c.all_true.ensures.nodes
 
 pub returns-clause-truth : goal.returns-clause-truth
 returns-clause-truth c =
