@@ -19,3 +19,9 @@ module _ (pass pass' : Seen) (seen seen' fresh fresh' version : ℕ) (open' open
   carried_session as_seen as_open k =
       subst (λ o. IsSession pass'.words seen' o) (sym as_open)
       (subst (λ n. IsSession pass'.words n open') (sym as_seen) (subst (λ p. IsSession p.words (max seen version) open') (sym same) k))
+
+  -- with its reply
+  pub given_answers : state_of pass' seen' fresh' open'' ≡ carried version (state_of pass seen fresh open') → (N : ℕ) (s : SessionState) (words x : List ℕ) (r r' : Reply) → r' ≡ r
+      → Answers N s (carried version (state_of pass seen fresh open')) words pass.words x r → Answers N s (state_of pass' seen' fresh' open'') words pass'.words x r'
+  given_answers state N s words x r r' is a =
+      subst (λ q. Answers N s (state_of pass' seen' fresh' open'') words pass'.words x q) (sym is) (carried_answers state N s words x r a)

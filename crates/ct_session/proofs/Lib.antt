@@ -16,8 +16,12 @@ pub mod Conflicting
 pub mod Unchanged
 pub mod Offered
 pub mod Whole
+pub mod Actions
+pub mod Committed
 pub mod Acted
 pub mod Unread
 pub mod Carrying
 pub mod Proposed
 pub mod Outside
+pub mod StillKnown
+pub mod Again

@@ -1,8 +1,14 @@
 -- Actions whose change is all in their text.
-use Rattle.std.proofs.Common.{ℕ, false, List, ap, sym, ◌∙◌}
+use Rattle.std.proofs.Common.{◌≡◌, ℕ, false, List, [], refl, ap, sym, ◌∙◌}
 use Rattle.std.specs.Prelude.{None}
 use Rattle.std.proofs.lemmas.Bool.{false≢true}
+use mathlib.Core.List.{IsPrefix}
 use Rattle.ct_word.specs.Change.{PlainChange, PlainCommit}
+use Rattle.ct_word.specs.Value.{World}
+use Rattle.ct_word.specs.WellFormed.{IsWellFormed}
+use Rattle.ct_arena.specs.Seen.{Seen}
+use Rattle.ct_history.specs.Kept.{kept_of}
+use Rattle.ct_parse.specs.declared.tree.Statement.{Statement}
 use Rattle.ct_query.specs.Fits.{FitsStatement}
 use Rattle.ct_query.specs.Plain.{PlainAction, PlainStatement}
 use Rattle.ct_query.specs.Plain as plain
@@ -11,12 +17,17 @@ use Rattle.ct_statement.proofs.Literal.{literal_encodable}
 use Rattle.ct_query.specs.declared.action.Read.{Read}
 use Rattle.ct_statement.specs.declared.proposing.Proposal.{Proposal}
 use Rattle.ct_statement.specs.declared.sight.Sight.{Sight}
+use Rattle.ct_statement.specs.Sight.{actions_before, history_of}
+use Rattle.ct_statement.proofs.Sights.{sight_grows}
 use Rattle.ct_statement.specs.Sources.{is_literal}
 use Rattle.ct_statement.specs.Unmet.{IsUnmet, IsWant}
 use Rattle.ct_statement.proofs.Wanting.{want_unmet}
 use Rattle.ct_transcript.specs.declared.reply.Refusal.{Refusal}
 use Rattle.ct_session.specs.declared.preparing.Prepared.TheVariants as prepared
-use Rattle.ct_session.specs.Prepared.{IsEncodableAct, IsLiteralAct, IsPreparedFor, needs_step}
+use Rattle.ct_session.specs.Known.{SeesAlone}
+use Rattle.ct_session.specs.Offering.{IsReadyToOffer}
+use Rattle.ct_session.specs.Prepared.{IsEncodableAct, IsLiteralAct, IsPreparedFor, IsResolved, needs_step}
+use Rattle.ct_session.proofs.Outside.{prepared_on}
 
 -- where one fits some tables, a word has room for each of its numbers
 pub encodable_act : (tables : List Heading) (st : PlainStatement) → FitsStatement tables st → IsLiteralAct st → IsEncodableAct st
@@ -43,3 +54,19 @@ literal_steps words h before list fresh s (plain.Asks k columns q) proposal read
 literal_steps words h before list fresh s plain.Begin proposal reads is made = absurd is
 literal_steps words h before list fresh s plain.Commit proposal reads is made = absurd is
 literal_steps words h before list fresh s plain.Rollback proposal reads is made = absurd is
+
+-- where one is prepared by what is seen, it is ready to be offered
+pub literal_ready : (begun now : Seen) → IsPrefix begun.words now.words → kept_of now ≡ kept_of begun → IsWellFormed now.words → (fresh : ℕ) (s : Sight) (st : Statement) (asked : PlainStatement) (proposal : Proposal) (reads : List Read)
+    → (kept : World) → kept ≡ [] → SeesAlone begun.words s → IsResolved (history_of begun.words s) (actions_before s) begun.session fresh st asked → IsLiteralAct asked
+    → IsPreparedFor now.words (history_of begun.words s) (actions_before s) [] fresh s asked (prepared.Change proposal None reads)
+    → IsReadyToOffer now.words now.session fresh s.version kept proposal reads st
+literal_ready begun now longer same formed fresh s st asked proposal reads kept empty sees resolved literal made = record {
+  sight = s;
+  step = None;
+  base_is = refl;
+  is = sight_grows begun.words now.words longer s formed sees.sight;
+  none = sees.none;
+  prepared = prepared_on begun now longer same s sees.sight.within sees.none fresh st (prepared.Change proposal None reads) (record { asked = asked; resolves = resolved.resolves; prepared = made });
+  steps = literal_steps now.words (history_of begun.words s) (actions_before s) [] fresh s asked proposal reads literal made;
+  kept_is = empty;
+}

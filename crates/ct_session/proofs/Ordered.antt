@@ -67,6 +67,14 @@ memory_executes N pass pass' seen fresh open' open'' st p kept same = λ x reads
     subst (λ next. Answers N (state_of pass seen fresh open') next pass.words pass'.words x (reply.Refused seen refusal.Memory)) (sym (state_same pass pass' seen fresh open' open'' kept same))
     (memory_answers N (state_of pass seen fresh open') pass.words pass'.words x p)
 
+-- and so it does where it carries what was seen
+pub memory_carried : (N : ℕ) (pass pass' : Seen) (seen fresh : ℕ) (open' open'' : Option Open) (st : Statement) → Proceeds N pass.session pass.words pass'.words → kept_of pass' ≡ kept_of pass
+    → option_map transaction_of open'' ≡ option_map transaction_of open'
+    → Executes N (state_of pass seen fresh open') (carried seen (state_of pass' seen fresh open'')) pass.words pass'.words st (reply.Refused seen refusal.Memory)
+memory_carried N pass pass' seen fresh open' open'' st p kept same = λ x reads.
+    subst (λ next. Answers N (state_of pass seen fresh open') next pass.words pass'.words x (reply.Refused seen refusal.Memory)) (sym (carried_same (state_of pass' seen fresh open'')))
+    (memory_executes N pass pass' seen fresh open' open'' st p kept same x reads)
+
 -- a text that is read as an order asks for it
 pub order_asks : (H : List PlainCommit) (s : SessionState) (x : List ℕ) (st : Statement) (order : PlainStatement) → ReadsAs x st
     → ((sch : Schema) (session fresh : ℕ) → resolved sch session fresh st ≡ Ok order) → Orders H s x order
@@ -76,10 +84,10 @@ order_asks H s x st order reads resolves = record { statement = st; reads = read
 pub begun_executes : (N : ℕ) (pass pass' : Seen) (seen fresh at : ℕ) (open' : Option Open) (o : Open) (st : Statement) → IsNone open' → st ≡ tree.Begin
     → Proceeds N pass.session pass.words pass'.words → kept_of pass' ≡ kept_of pass → seen ≤ length (commits_of pass.words) → at ≡ length (commits_of pass'.words)
     → o.sight.version ≡ at → actions_before o.sight ≡ [] → o.reads ≡ []
-    → Executes N (state_of pass seen fresh open') (state_of pass' at fresh (Some o)) pass.words pass'.words st (reply.Begun at)
+    → Executes N (state_of pass seen fresh open') (carried at (state_of pass' seen fresh (Some o))) pass.words pass'.words st (reply.Begun at)
 begun_executes N pass pass' seen fresh at (Some other) o st none order p kept known newest version actions reads = absurd (false≢true (sym none))
 begun_executes N pass pass' seen fresh at None o st none order p kept known newest version actions no_reads = λ x reads.
-    answers_uncommitted N (state_of pass seen fresh None) (state_of pass' at fresh (Some o)) pass.words pass'.words x (reply.Begun at) p session refl (λ e. absurd (false≢true e)) (λ _. before) (λ _. tt)
+    answers_uncommitted N (state_of pass seen fresh None) (carried at (state_of pass' seen fresh (Some o))) pass.words pass'.words x (reply.Begun at) p session refl (λ e. absurd (false≢true e)) (λ _. before) (λ _. tt)
     (λ W g H stands. is_begun x reads W g H stands) where
       session : pass'.session ≡ pass.session
       session = cc
@@ -90,20 +98,17 @@ begun_executes N pass pass' seen fresh at None o st none order p kept known newe
       before : length (commits_of pass.words) ≤ at
       before = let short = prefix_short (commits_of pass.words) (commits_of pass'.words) (commits_prefix pass.words pass'.words p.longer) in omega (arith, short, newest)
 
-      top : at ≡ max seen at
-      top = omega (arith, known, before)
-
-      next_is : state_of pass' at fresh (Some o) ≡ carried at (with_transaction (Some (opened at)) (state_of pass seen fresh None))
+      next_is : carried at (state_of pass' seen fresh (Some o)) ≡ carried at (with_transaction (Some (opened at)) (state_of pass seen fresh None))
       next_is = λ i. record {
         session = session i;
-        seen = top i;
+        seen = max seen at;
         fresh = fresh;
         commits = mine i;
         transaction = Some (record { base = version i; actions = actions i; reads = no_reads i });
       }
 
       is_begun : (x : List ℕ) → ReadsAs x st → (W : List ℕ) → GoesOn N pass'.words W → (H : List PlainCommit) → StandsFor H W
-          → IsBegun H W N (state_of pass seen fresh None) x at (state_of pass' at fresh (Some o))
+          → IsBegun H W N (state_of pass seen fresh None) x at (carried at (state_of pass' seen fresh (Some o)))
       is_begun x reads W g H stands = record {
         none_open = refl;
         asks = order_asks H (state_of pass seen fresh None) x st plain.Begin reads (λ sch a b. ap (resolved sch a b) order);

@@ -13,3 +13,4 @@ pub mod Outcomes
 pub mod Offering
 pub mod Extending
 pub mod Standing
+pub mod Known

@@ -1,5 +1,5 @@
 -- The world that an offer has, and what is answered, by what became of it; how a statement goes on to its offer.
-use Rattle.std.specs.Prelude.{◌≡◌, ◌≤◌, ℕ, [], length, Option, Some, None}
+use Rattle.std.specs.Prelude.{◌≡◌, ◌≤◌, ℕ, [], length, Option, Some, None, Result, Ok}
 use mathlib.Core.List.{IsPrefix}
 use Rattle.ct_word.specs.Reading.{commits_of}
 use Rattle.ct_arena.specs.Counts.{AreNumbered}
@@ -34,6 +34,11 @@ pub record Begins (first pass : Seen) (version : ℕ) : Type 0 where
 abbrev pub fresh_after : ℕ → ℕ → Outcome → ℕ
 fresh_after fresh drawn (outcome.Committed m) = drawn
 fresh_after fresh drawn _ = fresh
+
+-- the number of the commit that an offer became, where it became one
+abbrev pub committed_as : Result Outcome KeeperError → Option ℕ
+committed_as (Ok (outcome.Committed m)) = Some m
+committed_as _ = None
 
 -- the reply to an offer with this base
 abbrev pub outcome_reply : ℕ → Outcome → Reply

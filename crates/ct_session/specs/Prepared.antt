@@ -5,6 +5,7 @@ use Rattle.ct_query.specs.Plain.{PlainAction, PlainStatement}
 use Rattle.ct_query.specs.Plain as plain
 use Rattle.ct_query.specs.Views.{action_of}
 use Rattle.ct_query.specs.Reads.{reads_of}
+use Rattle.ct_query.specs.Fits.{FitsStatement}
 use Rattle.ct_query.specs.Schema.{schema}
 use Rattle.ct_parse.specs.declared.tree.Statement.{Statement}
 use Rattle.ct_parse.specs.declared.tree.Statement.TheVariants as tree
@@ -12,6 +13,7 @@ use Rattle.ct_word.specs.Condition.{Condition}
 use Rattle.ct_resolve.specs.declared.error.ResolveError.{ResolveError}
 use Rattle.ct_resolve.specs.declared.error.ResolveError.TheVariants as name
 use Rattle.ct_resolve.specs.Statements.{resolved}
+use Rattle.ct_resolve.specs.Writing.{WritesStatement}
 use Rattle.ct_transcript.specs.declared.reply.Refusal.{Refusal}
 use Rattle.ct_transcript.specs.declared.reply.Refusal.TheVariants as refusal
 use Rattle.ct_statement.specs.declared.sight.Sight.{Sight}
@@ -85,6 +87,13 @@ abbrev pub IsNoPlainOrder : PlainStatement → Type 0
 IsNoPlainOrder (plain.Act a) = Unit {0}
 IsNoPlainOrder (plain.Asks k columns query) = Unit {0}
 IsNoPlainOrder _ = ⊥
+
+-- a statement resolves to this one with positions, which fits the tables and can be written, and is no order
+pub record IsResolved (h : List PlainCommit) (before : List PlainAction) (session fresh : ℕ) (st : Statement) (asked : PlainStatement) : Type 0 where
+  pub resolves : resolved (schema h before) session fresh st ≡ Ok asked
+  pub fits : FitsStatement (schema h before).tables asked
+  pub writes : WritesStatement asked
+  pub plain : IsNoPlainOrder asked
 
 -- a statement with positions is an action whose change is all in its text
 abbrev pub IsLiteralAct : PlainStatement → Type 0

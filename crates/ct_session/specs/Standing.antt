@@ -1,7 +1,9 @@
 -- What contracts see of a session, and what is true of it between its statements.
 use Rattle.std.specs.Prelude.{ℕ, [], Option, Some, None}
 use Rattle.ct_arena.specs.Seen.{Seen}
+use Rattle.ct_session.specs.declared.knowing.Known.{Known}
 use Rattle.ct_session.specs.declared.session.Open.{Open}
+use Rattle.ct_session.specs.Known.{IsKnown}
 use Rattle.ct_session.specs.Sessions.{IsSession, state_of}
 use Rattle.ct_session.specs.State.{SessionState}
 
@@ -22,7 +24,7 @@ abbrev pub standing_of : Option Standing → Standing
 standing_of (Some s) = s
 standing_of None = record { pass = record { session = 0; words = []; made = 0; mine = 0 }; seen = 0; fresh = 0; transaction = None }
 
--- the state is there, and true of a session
-abbrev pub IsThere : Option Standing → Type 0
-IsThere (Some s) = IsSession s.pass.words s.seen s.transaction
-IsThere None = ⊥
+-- the state is there, and true of a session, and so is what is known beside it
+abbrev pub IsThere : Option Standing → Known → Type 0
+IsThere (Some s) known = IsSession s.pass.words s.seen s.transaction × IsKnown s.pass.words known
+IsThere None known = ⊥

@@ -1,31 +1,29 @@
 // A statement outside a transaction that is no order.
 
-ghost use Rattle.std.specs.Prelude.{◌≡◌, ◌<◌, ◌≤◌, ◌^◌, [], None, Ok, true, false, IfOk, IsNone};
+ghost use Rattle.std.specs.Prelude.{◌≡◌, ◌<◌, ◌≤◌, ◌^◌, [], None, false, IfOk, IsNone};
 ghost use Rattle.ct_arena.specs.Seen.{Seen};
-ghost use Rattle.ct_query.specs.Fits.{FitsStatement};
-ghost use Rattle.ct_query.specs.Schema.{schema};
 ghost use Rattle.ct_query.specs.Views.{statement_of};
-ghost use Rattle.ct_resolve.specs.Statements.{resolved};
-ghost use Rattle.ct_resolve.specs.Writing.{WritesStatement};
-ghost use Rattle.ct_statement.specs.Sight.{IsSight, actions_before, history_of};
+ghost use Rattle.ct_statement.specs.Sight.{actions_before, history_of};
 ghost use Rattle.ct_session.specs.Executes.{Executes};
+ghost use Rattle.ct_session.specs.Known.{IsKnown, SeesAlone, StillSeen};
 ghost use Rattle.ct_session.specs.Outcomes.{Begins, fresh_after, world_offered};
 ghost use Rattle.ct_session.specs.Offering.{IsReadyToOffer};
-ghost use Rattle.ct_session.specs.Prepared.{IsLiteralAct, IsNoOrder, IsNoPlainOrder, IsPrepared, needs_step};
+ghost use Rattle.ct_session.specs.Prepared.{IsLiteralAct, IsNoOrder, IsPrepared, IsResolved, needs_step};
 ghost use Rattle.ct_session.specs.Sessions.{IsSession, state_of};
 ghost use Rattle.ct_session.specs.Statements.{IsWritten};
 ghost use Rattle.ct_session.specs.declared.preparing.Prepared.TheVariants as prepared;
 
-use crate::committing::{replied, wanting};
+use crate::committing::{replied, wanted};
+use crate::knowing::{Known, insert_known};
 use crate::offering::copied;
-use crate::preparing::{Prepared, perform, prepare_literal, resolved_at};
-use crate::replying::{reply_of, standing};
+use crate::preparing::{Prepared, is_literal_act, perform, prepare_literal, resolved_at};
+use crate::replying::{refusal, reply_of};
 use crate::session::State;
 use ct_arena::{Pass, Site};
 use ct_keeper::{Offer, Outcome, Server};
 use ct_parse::Statement;
 use ct_query::{Read, Resolved};
-use ct_statement::{Proposal, Sight, Step, is_literal};
+use ct_statement::{Proposal, Sight, Step};
 use ct_transcript::{Refusal, Reply};
 use ct_word::{List, Memory, World};
 use std::alloc::Global;
@@ -81,6 +79,7 @@ fn offered<N: Site, R: Wait>(
     requires seen { seen ≤ base }
     requires ready { IsReadyToOffer pass.words pass.session fresh base kept proposal reads statement.now }
     ensures session { IsSession result.0.pass.words result.0.seen result.0.open }
+    ensures stays { StillSeen pass.words result.0.pass.words }
     ensures executes { (first : Seen) → Begins first pass base → Executes N.log.cap (state_of first seen fresh None) (state_of result.0.pass result.0.seen result.0.fresh result.0.open) first.words result.0.pass.words statement.now result.1 }
 {
     let _words = pass.words();
@@ -101,7 +100,7 @@ fn offered<N: Site, R: Wait>(
             let (at, reply) = replied(base, outcome);
             (State::carrying(pass, seen, after, None, at), reply)
         }
-        Err(e) => wanting(pass, seen, fresh, None, base, e),
+        Err(e) => refusal(pass, seen, fresh, None, base, wanted(e)),
     }
 }
 
@@ -122,8 +121,7 @@ fn acted<N: Site, R: Wait>(
 ) -> (State<N>, Reply)
     requires few { pass.mine < 2 ^ 18 }
     requires seen { seen ≤ sight.version }
-    requires sight { IsSight pass.words sight }
-    requires none { actions_before sight ≡ [] }
+    requires sees { SeesAlone pass.words sight }
     requires prepared { IsPrepared pass.words (history_of pass.words sight) (actions_before sight) [] pass.session fresh sight statement.now (prepared.Change proposal step reads) }
     requires steps { needs_step false (prepared.Change proposal step reads) }
     ensures session { IsSession result.0.pass.words result.0.seen result.0.open }
@@ -131,19 +129,9 @@ fn acted<N: Site, R: Wait>(
 {
     let _words = pass.words();
     let base = sight.version;
-    let kept = match world_of(alloc, &sight, step) {
-        Ok(kept) => kept,
-        Err(_) => {
-            drop(proposal);
-            let session = State {
-                pass,
-                seen,
-                fresh,
-                open: None,
-            };
-            let why = Refusal::Memory;
-            return (session, Reply::Refused { at: seen, why });
-        }
+    let Ok(kept) = world_of(alloc, &sight, step) else {
+        drop(proposal);
+        return refusal(pass, seen, fresh, None, base, Refusal::Memory);
     };
     // Let go before the commit, so that nobody but the keeper need hold its list of tables.
     drop(sight);
@@ -152,18 +140,9 @@ fn acted<N: Site, R: Wait>(
     )
 }
 
-/// Whether what a statement does is an action whose change is all in its text.
-fn is_literal_act(resolved: &Resolved) -> bool
-    ensures { result ≡ true → IsLiteralAct (statement_of resolved.now) }
-{
-    match resolved {
-        Resolved::Act(action) => is_literal(action),
-        _ => false,
-    }
-}
-
 /// Commits an action whose change is all in its text, on the version that it saw. Once its names are found, nothing of
-/// what it saw is wanted, so that is let go: while others hold it, the keeper has to change its tables in copies.
+/// what it saw is wanted, so that is let go: while others hold it, the keeper has to change its tables in copies. Or it is
+/// kept for the insertions that follow.
 fn literal<N: Site, R: Wait>(
     rt: &R,
     alloc: Global,
@@ -172,46 +151,33 @@ fn literal<N: Site, R: Wait>(
     seen: u32,
     fresh: u32,
     sight: Sight,
+    known: &mut Known,
     found: Resolved,
     statement: &Statement,
 ) -> (State<N>, Reply)
     requires few { pass.mine < 2 ^ 18 }
     requires seen { seen ≤ sight.version }
-    requires sight { IsSight pass.words sight }
-    requires none { actions_before sight ≡ [] }
-    requires resolves { resolved (schema (history_of pass.words sight) (actions_before sight)) pass.session fresh statement.now ≡ Ok (statement_of found) }
-    requires fits { FitsStatement (schema (history_of pass.words sight) (actions_before sight)).tables (statement_of found) }
-    requires writes { WritesStatement (statement_of found) }
+    requires sees { SeesAlone pass.words sight }
+    requires known { IsNone known.old.sight }
+    requires resolved { IsResolved (history_of pass.words sight) (actions_before sight) pass.session fresh statement.now (statement_of found) }
     requires literal { IsLiteralAct (statement_of found) }
     ensures session { IsSession result.0.pass.words result.0.seen result.0.open }
+    ensures known { IsKnown result.0.pass.words known.new }
     ensures executes { (first : Seen) → Begins first pass sight.version → Executes N.log.cap (state_of first seen fresh None) (state_of result.0.pass result.0.seen result.0.fresh result.0.open) first.words result.0.pass.words statement.now result.1 }
 {
     let _begun = pass.words();
     let base = sight.version;
-    drop(sight);
+    known.note(sight, statement);
     let prepared = prepare_literal(alloc, server.arena(), &mut pass, fresh, found);
     let _now = pass.words();
     match prepared {
-        Ok((proposal, reads)) => offered(
-            rt,
-            alloc,
-            server,
-            pass,
-            seen,
-            fresh,
-            base,
-            List::new(alloc),
-            proposal,
-            reads,
-            statement,
-        ),
-        Err(why) => {
-            let at = standing(seen, base, &why);
-            (
-                State::carrying(pass, seen, fresh, None, at),
-                Reply::Refused { at, why },
+        Ok((proposal, reads)) => {
+            let kept = List::new(alloc);
+            offered(
+                rt, alloc, server, pass, seen, fresh, base, kept, proposal, reads, statement,
             )
         }
+        Err(why) => refusal(pass, seen, fresh, None, base, why),
     }
 }
 
@@ -230,12 +196,8 @@ fn performed<N: Site, R: Wait>(
 ) -> (State<N>, Reply)
     requires few { pass.mine < 2 ^ 18 }
     requires seen { seen ≤ sight.version }
-    requires sight { IsSight pass.words sight }
-    requires none { actions_before sight ≡ [] }
-    requires resolves { resolved (schema (history_of pass.words sight) (actions_before sight)) pass.session fresh statement.now ≡ Ok (statement_of found) }
-    requires fits { FitsStatement (schema (history_of pass.words sight) (actions_before sight)).tables (statement_of found) }
-    requires writes { WritesStatement (statement_of found) }
-    requires plain { IsNoPlainOrder (statement_of found) }
+    requires sees { SeesAlone pass.words sight }
+    requires resolved { IsResolved (history_of pass.words sight) (actions_before sight) pass.session fresh statement.now (statement_of found) }
     ensures session { IsSession result.0.pass.words result.0.seen result.0.open }
     ensures executes { (first : Seen) → Begins first pass sight.version → Executes N.log.cap (state_of first seen fresh None) (state_of result.0.pass result.0.seen result.0.fresh result.0.open) first.words result.0.pass.words statement.now result.1 }
 {
@@ -269,13 +231,7 @@ fn performed<N: Site, R: Wait>(
         ) => acted(
             rt, alloc, server, pass, seen, fresh, sight, proposal, step, reads, statement,
         ),
-        Err(why) => {
-            let at = standing(seen, at, &why);
-            (
-                State::carrying(pass, seen, fresh, None, at),
-                Reply::Refused { at, why },
-            )
-        }
+        Err(why) => refusal(pass, seen, fresh, None, at, why),
     }
 }
 
@@ -289,15 +245,17 @@ fn asked<N: Site, R: Wait>(
     seen: u32,
     fresh: u32,
     sight: Sight,
+    known: &mut Known,
     statement: &Statement,
 ) -> (State<N>, Reply)
     requires few { pass.mine < 2 ^ 18 }
     requires seen { seen ≤ sight.version }
-    requires sight { IsSight pass.words sight }
-    requires none { actions_before sight ≡ [] }
+    requires sees { SeesAlone pass.words sight }
+    requires known { IsNone known.old.sight }
     requires written { IsWritten statement.now }
     requires plain { IsNoOrder statement.now }
     ensures session { IsSession result.0.pass.words result.0.seen result.0.open }
+    ensures known { IsKnown result.0.pass.words known.new }
     ensures executes { (first : Seen) → Begins first pass sight.version → Executes N.log.cap (state_of first seen fresh None) (state_of result.0.pass result.0.seen result.0.fresh result.0.open) first.words result.0.pass.words statement.now result.1 }
 {
     let _begun = pass.words();
@@ -305,7 +263,7 @@ fn asked<N: Site, R: Wait>(
         Ok(resolved) => {
             if is_literal_act(&resolved) {
                 literal(
-                    rt, alloc, server, pass, seen, fresh, sight, resolved, statement,
+                    rt, alloc, server, pass, seen, fresh, sight, known, resolved, statement,
                 )
             } else {
                 performed(
@@ -313,31 +271,28 @@ fn asked<N: Site, R: Wait>(
                 )
             }
         }
-        Err(why) => {
-            let at = standing(seen, sight.version, &why);
-            (
-                State::carrying(pass, seen, fresh, None, at),
-                Reply::Refused { at, why },
-            )
-        }
+        Err(why) => refusal(pass, seen, fresh, None, sight.version, why),
     }
 }
 
 /// Executes a statement outside a transaction that is no BEGIN, COMMIT or ROLLBACK: it sees a version that has all
-/// commits of the words before. An action is committed at once.
+/// commits of the words before. An action is committed at once. Only of an insertion of written rows something is known.
 pub(crate) fn alone<N: Site, R: Wait>(
     rt: &R,
     alloc: Global,
     server: &Server<N>,
     session: State<N>,
+    known: &mut Known,
     statement: &Statement,
 ) -> (State<N>, Reply)
     requires session { IsSession session.pass.words session.seen session.open }
     requires few { session.pass.mine < 2 ^ 18 }
     requires none { IsNone session.open }
+    requires known { IsKnown session.pass.words known.old }
     requires written { IsWritten statement.now }
     requires plain { IsNoOrder statement.now }
     ensures session { IsSession result.0.pass.words result.0.seen result.0.open }
+    ensures known { IsKnown result.0.pass.words known.new }
     ensures executes { Executes N.log.cap (state_of session.pass session.seen session.fresh session.open) (state_of result.0.pass result.0.seen result.0.fresh result.0.open) session.pass.words result.0.pass.words statement.now result.1 }
 {
     let _words = session.pass.words();
@@ -348,21 +303,17 @@ pub(crate) fn alone<N: Site, R: Wait>(
         open,
     } = session;
     drop(open);
+    let pass = match insert_known(rt, alloc, server, pass, seen, fresh, known, statement) {
+        Ok(done) => return done,
+        Err(pass) => pass,
+    };
     let (pass, snapshot) = server.begin(rt, alloc, pass);
     let _begun = pass.words();
-    let snapshot = match snapshot {
-        Ok(snapshot) => snapshot,
-        Err(_) => {
-            let session = State {
-                pass,
-                seen,
-                fresh,
-                open: None,
-            };
-            let why = Refusal::Memory;
-            return (session, Reply::Refused { at: seen, why });
-        }
+    let Ok(snapshot) = snapshot else {
+        return refusal(pass, seen, fresh, None, seen, Refusal::Memory);
     };
     let sight = Sight::of(alloc, snapshot);
-    asked(rt, alloc, server, pass, seen, fresh, sight, statement)
+    asked(
+        rt, alloc, server, pass, seen, fresh, sight, known, statement,
+    )
 }

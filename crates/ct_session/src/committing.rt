@@ -1,16 +1,13 @@
 // COMMIT of an open transaction.
 
-ghost use Rattle.std.specs.Prelude.{◌≡◌, ◌<◌, ◌^◌, max, IsSome, Some};
+ghost use Rattle.std.specs.Prelude.{◌≡◌, ◌<◌, ◌^◌, IsSome, Some};
 ghost use Rattle.ct_parse.specs.declared.tree.Statement.TheVariants as tree;
 ghost use Rattle.ct_session.specs.Executes.{Executes};
 ghost use Rattle.ct_session.specs.Outcomes.{outcome_reply, outcome_version, wanted};
-ghost use Rattle.ct_session.specs.Replying.{standing};
 ghost use Rattle.ct_session.specs.Sessions.{IsSession, state_of};
-ghost use Rattle.ct_session.specs.State.{carried};
-ghost use Rattle.ct_transcript.specs.declared.reply.Reply.TheVariants as reply;
 
 use crate::offering::copied;
-use crate::replying::standing;
+use crate::replying::refusal;
 use crate::session::{Open, State};
 use ct_arena::{Pass, Site};
 use ct_keeper::{KeeperError, Offer, Outcome, Server};
@@ -45,36 +42,13 @@ pub(crate) fn replied(base: u32, outcome: Outcome) -> (u32, Reply)
 }
 
 /// The refusal of an offer for which something is wanting.
-fn wanted(e: KeeperError) -> Refusal
+pub(crate) fn wanted(e: KeeperError) -> Refusal
     ensures { result ≡ wanted e }
 {
     match e {
         KeeperError::Full => Refusal::Full,
         KeeperError::Memory => Refusal::Memory,
     }
-}
-
-/// The session and the reply to an offer with this base, for which something is wanting.
-pub(crate) fn wanting<N: Site>(
-    pass: Pass<N>,
-    seen: u32,
-    fresh: u32,
-    transaction: Option<Open>,
-    base: u32,
-    e: KeeperError,
-) -> (State<N>, Reply)
-    ensures pass { result.0.pass ≡ pass }
-    ensures state { state_of result.0.pass result.0.seen result.0.fresh result.0.open ≡ carried (standing seen base (wanted e)) (state_of pass seen fresh transaction) }
-    ensures opened { result.0.open ≡ transaction }
-    ensures seen { result.0.seen ≡ max seen (standing seen base (wanted e)) }
-    ensures reply { result.1 ≡ reply.Refused (standing seen base (wanted e)) (wanted e) }
-{
-    let why = wanted(e);
-    let at = standing(seen, base, &why);
-    (
-        State::carrying(pass, seen, fresh, transaction, at),
-        Reply::Refused { at, why },
-    )
 }
 
 /// COMMIT of the open transaction, whose change list was begun at this place: it is offered to the server. Where something
@@ -98,18 +72,8 @@ fn offered<N: Site, R: Wait>(
     ensures executes { Executes N.log.cap (state_of pass seen fresh (Some transaction)) (state_of result.0.pass result.0.seen result.0.fresh result.0.open) pass.words result.0.pass.words statement.now result.1 }
 {
     let _words = pass.words();
-    let kept = match copied(alloc, &transaction.sight.kept) {
-        Ok(kept) => kept,
-        Err(_) => {
-            let session = State {
-                pass,
-                seen,
-                fresh,
-                open: Some(transaction),
-            };
-            let why = Refusal::Memory;
-            return (session, Reply::Refused { at: seen, why });
-        }
+    let Ok(kept) = copied(alloc, &transaction.sight.kept) else {
+        return refusal(pass, seen, fresh, Some(transaction), seen, Refusal::Memory);
     };
     let Open {
         sight,
@@ -137,7 +101,7 @@ fn offered<N: Site, R: Wait>(
                 changes: list,
                 reads,
             };
-            wanting(pass, seen, fresh, Some(transaction), base, e)
+            refusal(pass, seen, fresh, Some(transaction), base, wanted(e))
         }
     }
 }
@@ -164,27 +128,17 @@ pub(crate) fn commit<N: Site, R: Wait>(
         fresh,
         open,
     } = session;
-    let Some(transaction) = open else {
-        unreachable!();
-    };
-    match transaction.changes {
+    let Some(open) = open else { unreachable!() };
+    match open.changes {
         None => {
-            let at = transaction.sight.version;
+            let at = open.sight.version;
             (
                 State::carrying(pass, seen, fresh, None, at),
                 Reply::Nothing { at },
             )
         }
         Some(changes) => offered(
-            rt,
-            alloc,
-            server,
-            pass,
-            seen,
-            fresh,
-            transaction,
-            changes,
-            statement,
+            rt, alloc, server, pass, seen, fresh, open, changes, statement,
         ),
     }
 }

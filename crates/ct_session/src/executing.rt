@@ -1,13 +1,15 @@
 // One statement of a session.
 
-ghost use Rattle.std.specs.Prelude.{◌≡◌, ◌<◌, ◌^◌, IsNone, IsSome};
+ghost use Rattle.std.specs.Prelude.{◌<◌, ◌^◌};
 ghost use Rattle.ct_session.specs.Answers.{Answers};
 ghost use Rattle.ct_session.specs.Executes.{Executes};
+ghost use Rattle.ct_session.specs.Known.{IsKnown};
 ghost use Rattle.ct_session.specs.Sessions.{IsSession, state_of};
 ghost use Rattle.ct_session.specs.Statements.{IsWritten};
 
 use crate::alone::alone;
 use crate::committing::commit;
+use crate::knowing::Known;
 use crate::orders::{begin, refused_here, roll_back};
 use crate::reading::read;
 use crate::session::State;
@@ -19,70 +21,38 @@ use ct_transcript::{Refusal, Reply};
 use std::alloc::Global;
 use std::sync::Wait;
 
-/// Executes a statement outside a transaction.
-fn outside<N: Site, R: Wait>(
-    rt: &R,
-    alloc: Global,
-    server: &Server<N>,
-    session: State<N>,
-    statement: &Statement,
-) -> (State<N>, Reply)
-    requires session { IsSession session.pass.words session.seen session.open }
-    requires few { session.pass.mine < 2 ^ 18 }
-    requires none { IsNone session.open }
-    requires written { IsWritten statement.now }
-    ensures session { IsSession result.0.pass.words result.0.seen result.0.open }
-    ensures executes { Executes N.log.cap (state_of session.pass session.seen session.fresh session.open) (state_of result.0.pass result.0.seen result.0.fresh result.0.open) session.pass.words result.0.pass.words statement.now result.1 }
-{
-    match statement {
-        Statement::Begin => begin(rt, alloc, server, session, statement),
-        Statement::Commit | Statement::Rollback => {
-            refused_here(session, statement, Refusal::NoTransaction)
-        }
-        _ => alone(rt, alloc, server, session, statement),
-    }
-}
-
-/// Executes a statement in a transaction.
-fn inside<N: Site, R: Wait>(
-    rt: &R,
-    alloc: Global,
-    server: &Server<N>,
-    session: State<N>,
-    statement: &Statement,
-) -> (State<N>, Reply)
-    requires session { IsSession session.pass.words session.seen session.open }
-    requires few { session.pass.mine < 2 ^ 18 }
-    requires some { IsSome session.open }
-    requires written { IsWritten statement.now }
-    ensures session { IsSession result.0.pass.words result.0.seen result.0.open }
-    ensures executes { Executes N.log.cap (state_of session.pass session.seen session.fresh session.open) (state_of result.0.pass result.0.seen result.0.fresh result.0.open) session.pass.words result.0.pass.words statement.now result.1 }
-{
-    match statement {
-        Statement::Begin => refused_here(session, statement, Refusal::InTransaction),
-        Statement::Commit => commit(rt, alloc, server, session, statement),
-        Statement::Rollback => roll_back(session, statement),
-        _ => within(alloc, server.arena(), session, statement),
-    }
-}
-
-/// Executes a statement, in a transaction or outside.
+/// Executes a statement, in a transaction or outside. What is known is let go, but for an insertion outside.
 fn placed<N: Site, R: Wait>(
     rt: &R,
     alloc: Global,
     server: &Server<N>,
     session: State<N>,
+    known: &mut Known,
     statement: &Statement,
 ) -> (State<N>, Reply)
     requires session { IsSession session.pass.words session.seen session.open }
     requires few { session.pass.mine < 2 ^ 18 }
+    requires known { IsKnown session.pass.words known.old }
     requires written { IsWritten statement.now }
     ensures session { IsSession result.0.pass.words result.0.seen result.0.open }
+    ensures known { IsKnown result.0.pass.words known.new }
     ensures executes { Executes N.log.cap (state_of session.pass session.seen session.fresh session.open) (state_of result.0.pass result.0.seen result.0.fresh result.0.open) session.pass.words result.0.pass.words statement.now result.1 }
 {
-    match session.open {
-        None => outside(rt, alloc, server, session, statement),
-        Some(_) => inside(rt, alloc, server, session, statement),
+    let is_open = session.open.is_some();
+    if let (Statement::InsertRows { .. }, false) = (statement, is_open) {
+        return alone(rt, alloc, server, session, known, statement);
+    }
+    *known = Known::nothing();
+    match (statement, is_open) {
+        (Statement::Begin, false) => begin(rt, alloc, server, session, statement),
+        (Statement::Begin, true) => refused_here(session, statement, Refusal::InTransaction),
+        (Statement::Commit, true) => commit(rt, alloc, server, session, statement),
+        (Statement::Rollback, true) => roll_back(session, statement),
+        (Statement::Commit | Statement::Rollback, false) => {
+            refused_here(session, statement, Refusal::NoTransaction)
+        }
+        (_, true) => within(alloc, server.arena(), session, statement),
+        (_, false) => alone(rt, alloc, server, session, known, statement),
     }
 }
 
@@ -92,11 +62,14 @@ pub(crate) fn executed<N: Site, R: Wait>(
     alloc: Global,
     server: &Server<N>,
     session: State<N>,
+    known: &mut Known,
     text: &str,
 ) -> (State<N>, Reply)
     requires session { IsSession session.pass.words session.seen session.open }
     requires few { session.pass.mine < 2 ^ 18 }
+    requires known { IsKnown session.pass.words known.old }
     ensures session { IsSession result.0.pass.words result.0.seen result.0.open }
+    ensures known { IsKnown result.0.pass.words known.new }
     ensures answers { Answers N.log.cap (state_of session.pass session.seen session.fresh session.open) (state_of result.0.pass result.0.seen result.0.fresh result.0.open) session.pass.words result.0.pass.words text.now result.1 }
 {
     let _ = session.pass.words();
@@ -107,7 +80,7 @@ pub(crate) fn executed<N: Site, R: Wait>(
             return (session, Reply::Refused { at, why });
         }
     };
-    let done = placed(rt, alloc, server, session, &statement);
+    let done = placed(rt, alloc, server, session, known, &statement);
     // By a call, since a tree that is let go at the end of its scope is proved variant by variant.
     drop(statement);
     done

@@ -5,6 +5,7 @@ mod alone;
 mod committing;
 mod executing;
 mod extending;
+mod knowing;
 mod offering;
 mod orders;
 mod preparing;

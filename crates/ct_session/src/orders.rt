@@ -6,6 +6,7 @@ ghost use Rattle.ct_session.specs.Executes.{Executes};
 ghost use Rattle.ct_session.specs.Orders.{IsMisplaced};
 ghost use Rattle.ct_session.specs.Sessions.{IsSession, state_of};
 
+use crate::replying::refusal;
 use crate::session::{Open, State};
 use ct_arena::Site;
 use ct_keeper::Server;
@@ -40,15 +41,7 @@ pub(crate) fn begin<N: Site, R: Wait>(
     let (pass, snapshot) = server.begin(rt, alloc, pass);
     let _words = pass.words();
     let Ok(snapshot) = snapshot else {
-        let open = None;
-        let session = State {
-            pass,
-            seen,
-            fresh,
-            open,
-        };
-        let why = Refusal::Memory;
-        return (session, Reply::Refused { at: seen, why });
+        return refusal(pass, seen, fresh, None, seen, Refusal::Memory);
     };
     let at = snapshot.version;
     let open = Open {
@@ -56,36 +49,20 @@ pub(crate) fn begin<N: Site, R: Wait>(
         changes: None,
         reads: List::new(alloc),
     };
-    let session = State {
-        pass,
-        seen: at,
-        fresh,
-        open: Some(open),
-    };
+    let session = State::carrying(pass, seen, fresh, Some(open), at);
     (session, Reply::Begun { at })
 }
 
 /// ROLLBACK in a transaction: gives it up.
-pub(crate) fn roll_back<N: Site>(session: State<N>, statement: &Statement) -> (State<N>, Reply)
+pub(crate) fn roll_back<N: Site>(mut session: State<N>, statement: &Statement) -> (State<N>, Reply)
     requires session { IsSession session.pass.words session.seen session.open }
     requires some { IsSome session.open }
     requires order { statement.now ≡ tree.Rollback }
     ensures session { IsSession result.0.pass.words result.0.seen result.0.open }
     ensures executes { Executes N.log.cap (state_of session.pass session.seen session.fresh session.open) (state_of result.0.pass result.0.seen result.0.fresh result.0.open) session.pass.words result.0.pass.words statement.now result.1 }
 {
-    let State {
-        pass,
-        seen,
-        fresh,
-        ..
-    } = session;
-    let _words = pass.words();
-    let session = State {
-        pass,
-        seen,
-        fresh,
-        open: None,
-    };
+    let _words = session.pass.words();
+    session.open = None;
     (session, Reply::RolledBack)
 }
 

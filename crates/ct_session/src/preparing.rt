@@ -1,6 +1,6 @@
 // What a statement asks for, at what it sees.
 
-ghost use Rattle.std.specs.Prelude.{◌≡◌, List, [], None, Ok, length, IfOk, IfErr, IfSome, IsTrue};
+ghost use Rattle.std.specs.Prelude.{◌≡◌, List, [], None, Ok, true, length, IfOk, IfErr, IfSome, IsTrue};
 ghost use mathlib.Core.List.{IsPrefix};
 ghost use Rattle.ct_word.specs.declared.kinds.Class.TheVariants as class;
 ghost use Rattle.ct_word.specs.Change.{PlainChange};
@@ -12,13 +12,12 @@ ghost use Rattle.ct_query.specs.Reads.{reads_of};
 ghost use Rattle.ct_query.specs.Schema.{schema};
 ghost use Rattle.ct_query.specs.Views.{action_of, query_of, statement_of};
 ghost use Rattle.ct_query.specs.declared.action.Read.{Read as ReadValue};
-ghost use Rattle.ct_resolve.specs.Statements.{resolved};
 ghost use Rattle.ct_resolve.specs.Writing.{WritesAction, WritesStatement};
 ghost use Rattle.ct_statement.specs.Proposals.{IsProposal, listed};
 ghost use Rattle.ct_statement.specs.Sight.{IsSight, actions_before, history_of};
 ghost use Rattle.ct_statement.specs.Unmet.{IsUnmet, IsWant};
 ghost use Rattle.ct_statement.specs.declared.sight.Sight.{Sight as SightValue};
-ghost use Rattle.ct_session.specs.Prepared.{IsEncodableAct, IsLiteralAct, IsNoOrder, IsNoPlainOrder, IsPrepared, IsPreparedFor, IsRefused, IsStepIf, is_assertion, name_refusal, needs_step};
+ghost use Rattle.ct_session.specs.Prepared.{IsEncodableAct, IsLiteralAct, IsNoOrder, IsNoPlainOrder, IsPrepared, IsPreparedFor, IsRefused, IsResolved, IsStepIf, is_assertion, name_refusal, needs_step};
 ghost use Rattle.ct_session.specs.Statements.{IsWritten};
 ghost use Rattle.ct_session.specs.declared.preparing.Prepared.TheVariants as prepared;
 
@@ -26,7 +25,9 @@ use ct_arena::{Arena, Pass, Site};
 use ct_parse::Statement;
 use ct_query::{Action, Read, Resolved, reads};
 use ct_resolve::{ResolveError, resolve};
-use ct_statement::{Answered, Proposal, Sight, Step, answer_to, propose, propose_literal, step_of};
+use ct_statement::{
+    Answered, Proposal, Sight, Step, answer_to, is_literal, propose, propose_literal, step_of,
+};
 use ct_transcript::Refusal;
 use ct_word::List;
 use std::alloc::Global;
@@ -67,10 +68,7 @@ fn is_assertion(action: &Action) -> bool
 {
     match action {
         Action::Assert { .. } => true,
-        Action::Create { .. } => false,
-        Action::InsertRows { .. } => false,
-        Action::InsertQuery { .. } => false,
-        Action::Delete { .. } => false,
+        _ => false,
     }
 }
 
@@ -207,6 +205,16 @@ pub(crate) fn perform<N: Site>(
     }
 }
 
+/// Whether what a statement does is an action whose change is all in its text.
+pub(crate) fn is_literal_act(resolved: &Resolved) -> bool
+    ensures { result ≡ true → IsLiteralAct (statement_of resolved.now) }
+{
+    match resolved {
+        Resolved::Act(action) => is_literal(action),
+        _ => false,
+    }
+}
+
 /// The change of an action that is all in its text, with what it reads. The pass has the words of it.
 ///
 /// # Errors
@@ -263,10 +271,7 @@ pub(crate) fn resolved_at<N: Site>(
     requires sight { IsSight pass.now.words sight.now }
     requires written { IsWritten statement.now }
     requires plain { IsNoOrder statement.now }
-    ensures resolves { IfOk result (λ r. resolved (schema (history_of pass.now.words sight.now) (actions_before sight.now)) pass.now.session fresh statement.now ≡ Ok (statement_of r)) }
-    ensures fits { IfOk result (λ r. FitsStatement (schema (history_of pass.now.words sight.now) (actions_before sight.now)).tables (statement_of r)) }
-    ensures writes { IfOk result (λ r. WritesStatement (statement_of r)) }
-    ensures plain { IfOk result (λ r. IsNoPlainOrder (statement_of r)) }
+    ensures ok { IfOk result (λ r. IsResolved (history_of pass.now.words sight.now) (actions_before sight.now) pass.now.session fresh statement.now (statement_of r)) }
     ensures err { IfErr result (IsRefused (history_of pass.now.words sight.now) (actions_before sight.now) N.log.cap pass.now.words pass.now.session fresh statement.now) }
 {
     let session = pass.session();

@@ -1,8 +1,13 @@
-// Replies that give an answer, and where a refusal stands.
+// Replies that give an answer, and those that refuse a statement.
 
-ghost use Rattle.std.specs.Prelude.{◌≡◌};
+ghost use Rattle.std.specs.Prelude.{◌≡◌, max};
 ghost use Rattle.ct_session.specs.Replying.{reply_of, standing};
+ghost use Rattle.ct_session.specs.Sessions.{state_of};
+ghost use Rattle.ct_session.specs.State.{carried};
+ghost use Rattle.ct_transcript.specs.declared.reply.Reply.TheVariants as reply;
 
+use crate::session::{Open, State};
+use ct_arena::{Pass, Site};
 use ct_statement::Answered;
 use ct_transcript::{Refusal, Reply};
 
@@ -29,11 +34,33 @@ pub(crate) fn reply_of(at: u32, plus: u32, answered: Answered) -> Reply
 
 /// The version that a refusal stands at: the one that the statement saw. Want of memory rests on no version, so it
 /// stands at the one that was seen before.
-pub(crate) fn standing(seen: u32, version: u32, why: &Refusal) -> u32
+fn standing(seen: u32, version: u32, why: &Refusal) -> u32
     ensures { result ≡ standing seen version why.now }
 {
     match why {
         Refusal::Memory => seen,
         _ => version,
     }
+}
+
+/// The session and the reply where a statement that saw this version is refused.
+pub(crate) fn refusal<N: Site>(
+    pass: Pass<N>,
+    seen: u32,
+    fresh: u32,
+    transaction: Option<Open>,
+    version: u32,
+    why: Refusal,
+) -> (State<N>, Reply)
+    ensures pass { result.0.pass ≡ pass }
+    ensures state { state_of result.0.pass result.0.seen result.0.fresh result.0.open ≡ carried (standing seen version why) (state_of pass seen fresh transaction) }
+    ensures opened { result.0.open ≡ transaction }
+    ensures seen { result.0.seen ≡ max seen (standing seen version why) }
+    ensures reply { result.1 ≡ reply.Refused (standing seen version why) why }
+{
+    let at = standing(seen, version, &why);
+    (
+        State::carrying(pass, seen, fresh, transaction, at),
+        Reply::Refused { at, why },
+    )
 }

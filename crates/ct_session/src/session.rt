@@ -7,6 +7,7 @@ ghost use Rattle.ct_session.specs.Standing.{state_in};
 ghost use Rattle.ct_session.specs.State.{carried};
 
 use crate::executing::executed;
+use crate::knowing::Known;
 use ct_arena::{Pass, Site};
 use ct_keeper::Server;
 use ct_query::Read;
@@ -67,6 +68,8 @@ impl<N: Site> State<N> {
 pub struct Session<N: Site> {
     // It is away only while a statement is executed.
     state: Option<State<N>>,
+    // What it knows for its next insertion of written rows.
+    known: Known,
 }
 
 impl<N: Site> Model for Session<N> {
@@ -81,7 +84,7 @@ impl<N: Site> Model for Session<N> {
 
     ghost view = { λ s. standing_of (option_map (λ t. record { pass = t.pass; seen = t.seen; fresh = t.fresh; transaction = t.open }) s.state) };
 
-    ghost invariant = { λ s. IsThere (option_map (λ t. record { pass = t.pass; seen = t.seen; fresh = t.fresh; transaction = t.open }) s.state) };
+    ghost invariant = { λ s. IsThere (option_map (λ t. record { pass = t.pass; seen = t.seen; fresh = t.fresh; transaction = t.open }) s.state) s.known };
 }
 
 impl<N: Site> Session<N> {
@@ -97,6 +100,7 @@ impl<N: Site> Session<N> {
                 fresh: 0,
                 open: None,
             }),
+            known: Known::nothing(),
         }
     }
 
@@ -114,9 +118,9 @@ impl<N: Site> Session<N> {
     pub fn finish(self) -> Pass<N>
         ensures { result ≡ self.pass }
     {
-        let Some(state) = self.state else {
-            unreachable!();
-        };
+        let Session { state, known } = self;
+        drop(known);
+        let Some(state) = state else { unreachable!() };
         state.pass
     }
 
@@ -151,7 +155,7 @@ impl<N: Site> Session<N> {
         let Some(state) = self.state.take() else {
             unreachable!();
         };
-        let (state, reply) = executed(rt, alloc, server, state, text);
+        let (state, reply) = executed(rt, alloc, server, state, &mut self.known, text);
         self.state = Some(state);
         reply
     }

@@ -11,7 +11,7 @@ ghost use Rattle.ct_session.specs.declared.preparing.Prepared.TheVariants as pre
 
 use crate::extending::{after_action, after_query};
 use crate::preparing::{Prepared, prepare};
-use crate::replying::{reply_of, standing};
+use crate::replying::{refusal, reply_of};
 use crate::session::{Open, State};
 use ct_arena::{Arena, Pass, Site};
 use ct_parse::Statement;
@@ -21,80 +21,51 @@ use ct_transcript::{Refusal, Reply};
 use ct_word::List;
 use std::alloc::Global;
 
-/// A session in a transaction.
-struct Inside<N: Site> {
+/// The refusal of a statement. The transaction stays.
+fn refused<N: Site>(
     pass: Pass<N>,
     seen: u32,
     fresh: u32,
-    open: Open,
-}
-
-/// The refusal of a statement. The transaction stays.
-fn refused<N: Site>(inside: Inside<N>, statement: &Statement, why: Refusal) -> (State<N>, Reply)
-    requires session { IsSession inside.pass.words inside.seen (Some inside.open) }
-    requires refused { IsRefused (history_of inside.pass.words inside.open.sight) (actions_before inside.open.sight) N.log.cap inside.pass.words inside.pass.session inside.fresh statement.now why }
+    transaction: Open,
+    statement: &Statement,
+    why: Refusal,
+) -> (State<N>, Reply)
+    requires session { IsSession pass.words seen (Some transaction) }
+    requires refused { IsRefused (history_of pass.words transaction.sight) (actions_before transaction.sight) N.log.cap pass.words pass.session fresh statement.now why }
     ensures session { IsSession result.0.pass.words result.0.seen result.0.open }
-    ensures executes { Executes N.log.cap (state_of inside.pass inside.seen inside.fresh (Some inside.open)) (state_of result.0.pass result.0.seen result.0.fresh result.0.open) inside.pass.words result.0.pass.words statement.now result.1 }
+    ensures executes { Executes N.log.cap (state_of pass seen fresh (Some transaction)) (state_of result.0.pass result.0.seen result.0.fresh result.0.open) pass.words result.0.pass.words statement.now result.1 }
 {
-    let Inside {
-        pass,
-        seen,
-        fresh,
-        open,
-    } = inside;
     let _words = pass.words();
-    let at = standing(seen, open.sight.version, &why);
-    let session = State {
-        pass,
-        seen: seen.max(at),
-        fresh,
-        open: Some(open),
-    };
-    (session, Reply::Refused { at, why })
+    let version = transaction.sight.version;
+    refusal(pass, seen, fresh, Some(transaction), version, why)
 }
 
 /// The reply to a query, at the transaction's base and after its actions.
 fn answer<N: Site>(
-    inside: Inside<N>,
+    pass: Pass<N>,
+    seen: u32,
+    fresh: u32,
+    transaction: Open,
     statement: &Statement,
     answered: Answered,
     reads: List<Read>,
 ) -> (State<N>, Reply)
-    requires session { IsSession inside.pass.words inside.seen (Some inside.open) }
-    requires prepared { IsPrepared inside.pass.words (history_of inside.pass.words inside.open.sight) (actions_before inside.open.sight) (listed inside.pass.words inside.open.changes) inside.pass.session inside.fresh inside.open.sight statement.now (prepared.Answer answered reads) }
+    requires session { IsSession pass.words seen (Some transaction) }
+    requires prepared { IsPrepared pass.words (history_of pass.words transaction.sight) (actions_before transaction.sight) (listed pass.words transaction.changes) pass.session fresh transaction.sight statement.now (prepared.Answer answered reads) }
     ensures session { IsSession result.0.pass.words result.0.seen result.0.open }
-    ensures executes { Executes N.log.cap (state_of inside.pass inside.seen inside.fresh (Some inside.open)) (state_of result.0.pass result.0.seen result.0.fresh result.0.open) inside.pass.words result.0.pass.words statement.now result.1 }
+    ensures executes { Executes N.log.cap (state_of pass seen fresh (Some transaction)) (state_of result.0.pass result.0.seen result.0.fresh result.0.open) pass.words result.0.pass.words statement.now result.1 }
 {
-    let Ok(plus) = u32::try_from(inside.open.sight.actions.len()) else {
-        return refused(inside, statement, Refusal::Memory);
+    let Ok(plus) = u32::try_from(transaction.sight.actions.len()) else {
+        return refused(pass, seen, fresh, transaction, statement, Refusal::Memory);
     };
-    let Inside {
-        pass,
-        seen,
-        fresh,
-        open,
-    } = inside;
     let _words = pass.words();
-    let at = open.sight.version;
-    match after_query(open, reads) {
+    let at = transaction.sight.version;
+    match after_query(transaction, reads) {
         Ok(open) => {
-            let session = State {
-                pass,
-                seen: seen.max(at),
-                fresh,
-                open: Some(open),
-            };
+            let session = State::carrying(pass, seen, fresh, Some(open), at);
             (session, reply_of(at, plus, answered))
         }
-        Err(open) => {
-            let inside = Inside {
-                pass,
-                seen,
-                fresh,
-                open,
-            };
-            refused(inside, statement, Refusal::Memory)
-        }
+        Err(open) => refused(pass, seen, fresh, open, statement, Refusal::Memory),
     }
 }
 
@@ -109,52 +80,36 @@ fn one_more(count: usize) -> Option<u32>
 /// The reply to an action, which is kept until COMMIT.
 fn change<N: Site>(
     alloc: Global,
-    inside: Inside<N>,
+    pass: Pass<N>,
+    seen: u32,
+    fresh: u32,
+    transaction: Open,
     statement: &Statement,
     proposal: Proposal,
     step: Step,
     reads: List<Read>,
 ) -> (State<N>, Reply)
-    requires session { IsSession inside.pass.words inside.seen (Some inside.open) }
-    requires prepared { IsPrepared inside.pass.words (history_of inside.pass.words inside.open.sight) (actions_before inside.open.sight) (listed inside.pass.words inside.open.changes) inside.pass.session inside.fresh inside.open.sight statement.now (prepared.Change proposal (Some step) reads) }
+    requires session { IsSession pass.words seen (Some transaction) }
+    requires prepared { IsPrepared pass.words (history_of pass.words transaction.sight) (actions_before transaction.sight) (listed pass.words transaction.changes) pass.session fresh transaction.sight statement.now (prepared.Change proposal (Some step) reads) }
     ensures session { IsSession result.0.pass.words result.0.seen result.0.open }
-    ensures executes { Executes N.log.cap (state_of inside.pass inside.seen inside.fresh (Some inside.open)) (state_of result.0.pass result.0.seen result.0.fresh result.0.open) inside.pass.words result.0.pass.words statement.now result.1 }
+    ensures executes { Executes N.log.cap (state_of pass seen fresh (Some transaction)) (state_of result.0.pass result.0.seen result.0.fresh result.0.open) pass.words result.0.pass.words statement.now result.1 }
 {
-    let Some(plus) = one_more(inside.open.sight.actions.len()) else {
-        return refused(inside, statement, Refusal::Memory);
+    let Some(plus) = one_more(transaction.sight.actions.len()) else {
+        return refused(pass, seen, fresh, transaction, statement, Refusal::Memory);
     };
-    let Inside {
-        pass,
-        seen,
-        fresh,
-        open,
-    } = inside;
     let _words = pass.words();
-    let at = open.sight.version;
+    let at = transaction.sight.version;
     let Proposal {
         action,
         changes,
         fresh: drawn,
     } = proposal;
-    match after_action(alloc, open, action, changes, step, reads) {
+    match after_action(alloc, transaction, action, changes, step, reads) {
         Ok(open) => {
-            let session = State {
-                pass,
-                seen: seen.max(at),
-                fresh: drawn,
-                open: Some(open),
-            };
+            let session = State::carrying(pass, seen, drawn, Some(open), at);
             (session, Reply::Pending { at, plus })
         }
-        Err(open) => {
-            let inside = Inside {
-                pass,
-                seen,
-                fresh,
-                open,
-            };
-            refused(inside, statement, Refusal::Memory)
-        }
+        Err(open) => refused(pass, seen, fresh, open, statement, Refusal::Memory),
     }
 }
 
@@ -192,14 +147,10 @@ pub(crate) fn within<N: Site>(
         statement,
     );
     let _after = pass.words();
-    let inside = Inside {
-        pass,
-        seen,
-        fresh,
-        open,
-    };
     match prepared {
-        Ok(Prepared::Answer { answered, reads }) => answer(inside, statement, answered, reads),
+        Ok(Prepared::Answer { answered, reads }) => answer(
+            pass, seen, fresh, open, statement, answered, reads,
+        ),
         Ok(
             Prepared::Change {
                 proposal,
@@ -208,8 +159,10 @@ pub(crate) fn within<N: Site>(
             },
         ) => {
             let Some(step) = step else { unreachable!() };
-            change(alloc, inside, statement, proposal, step, reads)
+            change(
+                alloc, pass, seen, fresh, open, statement, proposal, step, reads,
+            )
         }
-        Err(why) => refused(inside, statement, why),
+        Err(why) => refused(pass, seen, fresh, open, statement, why),
     }
 }

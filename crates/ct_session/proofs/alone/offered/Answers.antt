@@ -10,9 +10,12 @@ use Rattle.ct_transcript.specs.declared.reply.Reply.TheVariants as reply
 use Rattle.ct_session.specs.Replying.{standing}
 use Rattle.ct_session.specs.Sessions.{state_of}
 use Rattle.ct_session.specs.State.{carried}
-use Rattle.ct_session.proofs.Acted.{prepared_action, action_offer, acted_answers, acted_refused}
+use Rattle.ct_session.proofs.Actions.{prepared_action, action_offer}
+use Rattle.ct_session.proofs.Acted.{acted_answers, acted_refused}
 use Rattle.ct_session.proofs.Called.{called}
-use Rattle.ct_session.proofs.Carrying.{carried_answers, carried_session}
+use Rattle.ct_session.proofs.Carrying.{carried_answers, given_answers, carried_session}
+use Rattle.ct_statement.specs.Sight.{IsSight}
+use Rattle.ct_statement.proofs.Sights.{sight_grows}
 use Rattle.ct_session.proofs.Whole.{replied_seen, wanting_seen}
 use Rattle.ct_session.proofs.alone.offered.Goals as goal
 
@@ -68,6 +71,14 @@ returns-in-Ok-clause-executes g c = λ start began x reads.
     at number c.replied-at.result.1 c.in-Ok.outcome (c.replied-at.ensures.version ∙ ap (λ b. outcome_version b c.in-Ok.outcome) r.base_is) c.fresh_after-after.ensures
     (c.replied-at.ensures.reply ∙ ap (λ b. outcome_reply b c.in-Ok.outcome) r.base_is) is)
 
+pub returns-in-Ok-clause-stays : goal.returns-in-Ok-clause-stays
+returns-in-Ok-clause-stays g c = λ s is.
+    subst (λ p. IsSight p.words s) (sym c.carrying.ensures.pass) (sight_grows c.args.pass.words c.commit-pass.result.0.words c.commit-pass.ensures.longer s c.words-now.ensures.formed is)
+
+pub returns-clause-stays : goal.returns-clause-stays
+returns-clause-stays g c = λ s is.
+    subst (λ p. IsSight p.words s) (sym c.refusal.ensures.pass) (sight_grows c.args.pass.words c.commit-pass.result.0.words c.commit-pass.ensures.longer s c.words-now.ensures.formed is)
+
 pub returns-clause-session : goal.returns-clause-session
 returns-clause-session g c =
     let N = g.N.Site.log.cap in
@@ -77,12 +88,13 @@ returns-clause-session g c =
     let seen : c.args.seen ≤ s.version = subst (λ b. c.args.seen ≤ b) r.base_is c.requires.seen in
     let after = c.commit-pass.result.0 in
     let k = called N pass pass after (prefix_same pass.words) refl c.words-words.ensures.numbered c.words-words.ensures.numbered c.commit-pass.ensures.longer c.commit-pass.ensures.session c.words-now.ensures.numbered c.words-now.ensures.room in
-    let left = c.wanting.result.0 in
+    let left = c.refusal.result.0 in
     let e = c.in-Err.e in
-    carried_session after left.pass c.args.seen left.seen c.args.fresh left.fresh (standing c.args.seen c.args.base (wanted e)) None left.open c.wanting.ensures.pass c.wanting.ensures.seen c.wanting.ensures.opened (record {
+    carried_session after left.pass c.args.seen left.seen c.args.fresh left.fresh (standing c.args.seen c.args.base c.wanted.result) None left.open c.refusal.ensures.pass c.refusal.ensures.seen c.refusal.ensures.opened (record {
       seen_is =
-          subst (λ b. max c.args.seen (standing c.args.seen b (wanted e)) ≤ length (commits_of after.words)) (sym r.base_is)
-          (wanting_seen N pass.words pass c.args.seen s.version (let within = r.is.within in omega (arith, seen, within)) r.is.within after k e);
+          subst (λ why. max c.args.seen (standing c.args.seen c.args.base why) ≤ length (commits_of after.words)) (sym c.wanted.ensures)
+          (subst (λ b. max c.args.seen (standing c.args.seen b (wanted e)) ≤ length (commits_of after.words)) (sym r.base_is)
+          (wanting_seen N pass.words pass c.args.seen s.version (let within = r.is.within in omega (arith, seen, within)) r.is.within after k e));
       open_is = tt;
     })
 
@@ -100,11 +112,12 @@ returns-clause-executes g c = λ start began x reads.
     let k = called N start pass after began.longer began.kept began.numbered c.words-words.ensures.numbered c.commit-pass.ensures.longer c.commit-pass.ensures.session c.words-now.ensures.numbered c.words-now.ensures.room in
     let is = subst (λ b. IsOutcome N pass after (record { base = b; reads = c.args.reads; changes = c.args.proposal.changes; kept = c.args.kept }) (Err c.in-Err.e)) r.base_is
     (subst (IsOutcome N pass after (record { base = c.args.base; reads = c.args.reads; changes = c.args.proposal.changes; kept = c.args.kept })) c.in-Err.is c.commit-pass.ensures.outcome) in
-    let left = c.wanting.result.0 in
+    let left = c.refusal.result.0 in
     let e = c.in-Err.e in
-    let at = standing c.args.seen c.args.base (wanted e) in
-    carried_answers after left.pass c.args.seen left.seen c.args.fresh left.fresh at None left.open c.wanting.ensures.pass c.wanting.ensures.state
-    N (state_of start c.args.seen c.args.fresh None) start.words x c.wanting.result.1
-    (subst (λ q. Answers N (state_of start c.args.seen c.args.fresh None) (carried at (state_of after c.args.seen c.args.fresh None)) start.words after.words x q) (sym c.wanting.ensures.reply)
+    let why = c.wanted.result in
+    let at = standing c.args.seen c.args.base why in
+    given_answers after left.pass c.args.seen left.seen c.args.fresh left.fresh at None left.open c.refusal.ensures.pass c.refusal.ensures.state
+    N (state_of start c.args.seen c.args.fresh None) start.words x (reply.Refused at why) c.refusal.result.1 c.refusal.ensures.reply
+    (subst (λ q. Answers N (state_of start c.args.seen c.args.fresh None) (carried (standing c.args.seen c.args.base q) (state_of after c.args.seen c.args.fresh None)) start.words after.words x (reply.Refused (standing c.args.seen c.args.base q) q)) (sym c.wanted.ensures)
     (subst (λ b. Answers N (state_of start c.args.seen c.args.fresh None) (carried (standing c.args.seen b (wanted e)) (state_of after c.args.seen c.args.fresh None)) start.words after.words x (reply.Refused (standing c.args.seen b (wanted e)) (wanted e))) (sym r.base_is)
     (acted_refused N pass c.args.seen c.args.fresh s r.is.within seen st c.args.proposal r.step c.args.reads f start begins after k c.args.kept x reads e is)))

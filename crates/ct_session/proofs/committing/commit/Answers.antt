@@ -13,7 +13,7 @@ pub returns-in-None-clause-executes : goal.returns-in-None-clause-executes
 returns-in-None-clause-executes g c = λ x reads.
     let N = g.N.Site.log.cap in
     let s = c.args.session in
-    let o = c.in-Some.transaction in
+    let o = c.in-Some.open in
     let left = c.carrying.result in
     let base = o.sight.version in
     carried_answers s.pass left.pass s.seen left.seen s.fresh left.fresh base None left.open c.carrying.ensures.pass c.carrying.ensures.state

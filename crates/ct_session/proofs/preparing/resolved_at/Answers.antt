@@ -1,19 +1,31 @@
 use Rattle.std.proofs.Common.{◌≡◌, map, ap, sym, subst, ◌∙◌}
+use Rattle.ct_query.specs.Fits.{FitsStatement}
 use Rattle.ct_query.specs.Schema.{schema}
+use Rattle.ct_query.specs.Views.{statement_of}
+use Rattle.ct_query.specs.declared.schema.Schema.{Schema}
 use Rattle.ct_resolve.specs.Statements.{resolved}
 use Rattle.ct_table.specs.Denotes.{heading_of}
 use Rattle.ct_statement.specs.Sight.{actions_before, history_of}
 use Rattle.ct_session.specs.Prepared.{IsRefused}
-use Rattle.ct_session.proofs.Resolving.{named_refuses}
+use Rattle.ct_session.proofs.Resolving.{named_refuses, no_order}
 use Rattle.ct_session.proofs.preparing.resolved_at.Goals as goal
 
-pub returns-in-Ok-clause-resolves : goal.returns-in-Ok-clause-resolves
-returns-in-Ok-clause-resolves g c =
+pub returns-in-Ok-clause-ok : goal.returns-in-Ok-clause-ok
+returns-in-Ok-clause-ok g c =
     let words = c.args.pass.now.words in
     let s = c.args.sight.now in
+    let st = c.args.statement.now in
+    let asked = statement_of c.in-Ok.resolved in
+    let w = c.requires.written in
     let same : c.headings-headings.result.now ≡ schema (history_of words s) (actions_before s) =
     λ i. record { tables = (c.headings-headings.ensures ∙ ap (map heading_of) c.db.ensures ∙ c.requires.sight.denotes.worth.headings) i } in
-    (λ i. resolved (sym same i) (sym c.session-session.ensures.value i) c.args.fresh c.args.statement.now) ∙ c.in-Ok.ensures.ok
+    let found = (λ i. resolved (sym same i) (sym c.session-session.ensures.value i) c.args.fresh st) ∙ c.in-Ok.ensures.ok in
+    record {
+      resolves = found;
+      fits = subst (λ (sch : Schema). FitsStatement sch.tables asked) same (c.in-Ok.ensures.fits c.session-session.ensures.least c.session-session.ensures.most);
+      writes = c.in-Ok.ensures.writable w.lexemes w.written w.spells;
+      plain = no_order (schema (history_of words s) (actions_before s)) c.args.pass.now.session c.args.fresh st asked c.requires.plain found;
+    }
 
 pub returns-in-Err-clause-err : goal.returns-in-Err-clause-err
 returns-in-Err-clause-err g c =

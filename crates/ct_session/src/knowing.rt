@@ -1,0 +1,135 @@
+// What a session knows for its next insertion, so that this need not ask for the lock only to find its names.
+
+ghost use Rattle.std.specs.Prelude.{◌≡◌, ◌<◌, ◌≤◌, ◌^◌, ℕ, List, None, length, IfOk, IfErr, IsNone};
+ghost use mathlib.Core.List.{IsPrefix};
+ghost use Rattle.ct_word.specs.Reading.{commits_of};
+ghost use Rattle.ct_history.specs.Kept.{kept_of};
+ghost use Rattle.ct_session.specs.Executes.{Executes};
+ghost use Rattle.ct_session.specs.Known.{IsKnown, SeesAlone};
+ghost use Rattle.ct_session.specs.Outcomes.{committed_as};
+ghost use Rattle.ct_session.specs.Prepared.{IsNoOrder};
+ghost use Rattle.ct_session.specs.Sessions.{IsSession, state_of};
+ghost use Rattle.ct_session.specs.Statements.{IsWritten};
+
+use crate::preparing::{is_literal_act, prepare_literal, resolved_at};
+use crate::session::State;
+use ct_arena::{Pass, Site};
+use ct_keeper::{KeeperError, Offer, Outcome, Server};
+use ct_parse::Statement;
+use ct_statement::Sight;
+use ct_transcript::Reply;
+use ct_word::List;
+use std::alloc::Global;
+use std::sync::Wait;
+
+/// What an earlier insertion of written rows saw, and how many of them began anew since that was kept.
+#[derive(Drop)]
+pub struct Known {
+    pub sight: Option<Sight>,
+    pub since: usize,
+}
+
+impl Known {
+    /// Nothing is known.
+    pub(crate) fn nothing() -> Known
+        ensures { result ≡ record { sight = None; since = 0 } }
+    {
+        Known {
+            sight: None,
+            since: 0,
+        }
+    }
+
+    /// Keeps what a statement saw that began anew, or lets it go. While it is kept, the keeper cannot change its list of
+    /// tables in place, and copies it once. So it is kept only of an insertion of written rows, and only once there were
+    /// as many of these in a row as there are tables: then they have paid for the copy.
+    pub(crate) fn note(&mut self, sight: Sight, statement: &Statement)
+        ensures known { (words : List ℕ) → SeesAlone words sight → IsKnown words self.old → IsKnown words self.new }
+    {
+        match statement {
+            Statement::InsertRows { .. } => self.since = self.since.saturating_add(1),
+            _ => return drop(sight),
+        }
+        if sight.tables.db().headings().tables.len() <= self.since {
+            self.sight = Some(sight);
+            self.since = 0;
+        } else {
+            drop(sight);
+        }
+    }
+}
+
+/// The number of the commit that an offer became, where it became one.
+fn committed_as(outcome: &Result<Outcome, KeeperError>) -> Option<u32>
+    ensures { result ≡ committed_as outcome.now }
+{
+    match outcome {
+        Ok(Outcome::Committed(at)) => Some(*at),
+        _ => None,
+    }
+}
+
+/// Commits an insertion of written rows by what an earlier one saw, where that is known and has its names. It reads
+/// nothing, so that the version it is offered on may be any whose commits the session has seen.
+///
+/// # Errors
+/// The pass, where nothing was committed. There may be more words, nothing is known any more, and the statement can begin
+/// anew.
+pub(crate) fn insert_known<N: Site, R: Wait>(
+    rt: &R,
+    alloc: Global,
+    server: &Server<N>,
+    mut pass: Pass<N>,
+    seen: u32,
+    fresh: u32,
+    known: &mut Known,
+    statement: &Statement,
+) -> Result<(State<N>, Reply), Pass<N>>
+    requires few { pass.mine < 2 ^ 18 }
+    requires seen { seen ≤ length (commits_of pass.words) }
+    requires known { IsKnown pass.words known.old }
+    requires written { IsWritten statement.now }
+    requires plain { IsNoOrder statement.now }
+    ensures session { IfOk result (λ done. IsSession done.0.pass.words done.0.seen done.0.open) }
+    ensures executes { IfOk result (λ done. Executes N.log.cap (state_of pass seen fresh None) (state_of done.0.pass done.0.seen done.0.fresh done.0.open) pass.words done.0.pass.words statement.now done.1) }
+    ensures known { IfOk result (λ done. IsKnown done.0.pass.words known.new) }
+    ensures longer { IfErr result (λ same. IsPrefix pass.words same.words) }
+    ensures kept { IfErr result (λ same. kept_of same ≡ kept_of pass) }
+    ensures gone { IfErr result (λ _. IsNone known.new.sight) }
+{
+    let _begun = pass.words();
+    let Some(sight) = known.sight.take() else {
+        return Err(pass);
+    };
+    let Ok(found) = resolved_at(alloc, &pass, &sight, fresh, statement) else {
+        return Err(pass);
+    };
+    if !is_literal_act(&found) {
+        drop(found);
+        return Err(pass);
+    }
+    let prepared = prepare_literal(alloc, server.arena(), &mut pass, fresh, found);
+    let _now = pass.words();
+    let Ok((proposal, reads)) = prepared else {
+        return Err(pass);
+    };
+    let changes = proposal.changes;
+    let drawn = proposal.fresh;
+    drop(proposal);
+    let offer = Offer {
+        base: sight.version,
+        reads,
+        changes,
+        kept: List::new(alloc),
+    };
+    let (pass, outcome) = server.commit(rt, alloc, pass, &offer);
+    let _after = pass.words();
+    match committed_as(&outcome) {
+        Some(at) => {
+            known.sight = Some(sight);
+            let session = State::carrying(pass, seen, drawn, None, at);
+            Ok((session, Reply::Committed { at }))
+        }
+        None => Err(pass),
+    }
+}
