@@ -17,8 +17,23 @@ use std::thread::Threads;
 /// The capacity of the log of most runs.
 pub const ROOMY: u32 = 4_096;
 
-/// An order of statements, which names the session of each, and the transcript that comes of it.
-pub type Played<'a> = (&'a [u32], &'a str);
+/// Scripts, and what comes of them where their statements come in given orders.
+#[derive(Clone, Copy)]
+pub struct Case<'a> {
+    pub scripts: &'a [&'a str],
+    pub outcomes: &'a [Outcome<'a>],
+}
+
+/// Orders of statements, each of which names the session of each statement, and the transcript that comes of any of them.
+///
+/// Of the transcript it has the replies to each session, and the commits of the history, without their numbers: `; `
+/// stands between two of them, and ` / ` between two lines of one.
+#[derive(Clone, Copy)]
+pub struct Outcome<'a> {
+    pub orders: &'a [&'a [u32]],
+    pub replies: &'a [&'a str],
+    pub history: &'a str,
+}
 
 /// A script, which has at most 65,535 statements.
 fn script(rt: &impl Abort, alloc: Global, text: &str) -> Result<Text, Fail>
@@ -90,28 +105,78 @@ pub fn transcript_of<R: Threads + Wait + Abort + Sync>(
     Ok(transcript)
 }
 
-/// Plays the scripts in each of these orders on a log of this capacity, and compares the transcripts.
-pub fn play_on<R: Threads + Wait + Abort + Sync>(
-    rt: &R,
-    alloc: Global,
-    cap: u32,
-    scripts: &[&str],
-    orders: &[Played<'_>],
-) -> Result<(), Fail> {
-    for (order, expected) in orders {
-        let transcript = transcript_of(rt, alloc, cap, scripts, order)?;
-        let text = text_of(alloc, &transcript)?;
-        assert_eq!(rt; text.as_str(), *expected, "{order:?}");
+/// Adds the lines of a reply or of a commit.
+fn push_lines(text: &mut String, entry: &str) -> Result<(), AllocError> {
+    for (before, line) in entry.split(" / ").enumerate() {
+        text.push_str(if before > 0 { "  " } else { "" })?;
+        text.push_str(line)?;
+        text.push_str("\n")?;
     }
     Ok(())
 }
 
-/// Plays the scripts in each of these orders on a roomy log, and compares the transcripts.
+/// Adds a part of a transcript: a line of its own, and then its replies or commits, numbered from 1.
+fn push_part(
+    alloc: Global,
+    text: &mut String,
+    head: &str,
+    entries: &str,
+) -> Result<(), AllocError> {
+    text.push_str(head)?;
+    for (before, entry) in entries.split("; ").enumerate() {
+        text.push_str(format!(in alloc; "{} ", before.saturating_add(1))?.as_str())?;
+        push_lines(text, entry)?;
+    }
+    Ok(())
+}
+
+/// The text of the transcript of an outcome.
+fn expected(alloc: Global, outcome: &Outcome<'_>) -> Result<String, AllocError> {
+    let mut text = String::new(alloc);
+    for (before, replies) in outcome.replies.iter().enumerate() {
+        let head = format!(in alloc; "session {}\n", before.saturating_add(1))?;
+        push_part(alloc, &mut text, head.as_str(), replies)?;
+    }
+    push_part(alloc, &mut text, "history\n", outcome.history)?;
+    text.push_str("end\n")?;
+    Ok(text)
+}
+
+/// Plays scripts in each of the orders of an outcome, and compares the transcripts.
+fn play_orders<R: Threads + Wait + Abort + Sync>(
+    rt: &R,
+    alloc: Global,
+    cap: u32,
+    scripts: &[&str],
+    outcome: &Outcome<'_>,
+) -> Result<(), Fail> {
+    let wanted = expected(alloc, outcome)?;
+    for order in outcome.orders {
+        let transcript = transcript_of(rt, alloc, cap, scripts, order)?;
+        let text = text_of(alloc, &transcript)?;
+        assert_eq!(rt; text.as_str(), wanted.as_str(), "{order:?}");
+    }
+    Ok(())
+}
+
+/// Plays the scripts of a case in each of its orders on a log of this capacity, and compares the transcripts.
+pub fn play_on<R: Threads + Wait + Abort + Sync>(
+    rt: &R,
+    alloc: Global,
+    cap: u32,
+    case: &Case<'_>,
+) -> Result<(), Fail> {
+    for outcome in case.outcomes {
+        play_orders(rt, alloc, cap, case.scripts, outcome)?;
+    }
+    Ok(())
+}
+
+/// Plays the scripts of a case in each of its orders on a roomy log, and compares the transcripts.
 pub fn play<R: Threads + Wait + Abort + Sync>(
     rt: &R,
     alloc: Global,
-    scripts: &[&str],
-    orders: &[Played<'_>],
+    case: &Case<'_>,
 ) -> Result<(), Fail> {
-    play_on(rt, alloc, ROOMY, scripts, orders)
+    play_on(rt, alloc, ROOMY, case)
 }

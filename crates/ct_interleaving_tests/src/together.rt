@@ -1,201 +1,122 @@
 // What sessions share: the names of nulls, the versions and the log. What each has for itself: its new nulls.
 
-use crate::played::{Played, ROOMY, play, play_on, served, text_of, transcript_of};
+use crate::played::{Case, Outcome, ROOMY, play, play_on, served, text_of, transcript_of};
 use ct_outside::NoGate;
 use ct_transcript::{Refusal, Reply, Transcript};
 use std::alloc::{AllocError, Global};
 use std::test::Fail;
 
-const NEW_NULLS_OF_TWO_SESSIONS_FIRST: &str = "\
-session 1
-1 committed 1
-2 committed 2
-3 rows (a, a) at 3
-  (?1#1, ?1#1)
-  (?1#1, ?2#1) if ?1#1 = ?2#1
-  (?2#1, ?1#1) if ?1#1 = ?2#1
-  (?2#1, ?2#1)
-session 2
-1 committed 3
-history
-1 by 1
-  create table t (a)
-2 by 1
-  insert into t (?1#1)
-3 by 2
-  insert into t (?2#1)
-end
-";
-
-const NEW_NULLS_OF_TWO_SESSIONS_SECOND: &str = "\
-session 1
-1 committed 1
-2 committed 3
-3 rows (a, a) at 3
-  (?2#1, ?2#1)
-  (?2#1, ?1#1) if ?1#1 = ?2#1
-  (?1#1, ?2#1) if ?1#1 = ?2#1
-  (?1#1, ?1#1)
-session 2
-1 committed 2
-history
-1 by 1
-  create table t (a)
-2 by 2
-  insert into t (?2#1)
-3 by 1
-  insert into t (?1#1)
-end
-";
+const NEW_NULLS_OF_TWO_SESSIONS: Case<'_> = Case {
+    scripts: &[
+        "create table t (a); insert into t values (NULL); select p.a, q.a from t p, t q where p.a = q.a;",
+        "insert into t values (NULL);",
+    ],
+    outcomes: &[
+        Outcome {
+            orders: &[&[1, 1, 2, 1]],
+            replies: &[
+                "committed 1; committed 2; \
+                 rows (a, a) at 3 / (?1#1, ?1#1) / (?1#1, ?2#1) if ?1#1 = ?2#1 / \
+                 (?2#1, ?1#1) if ?1#1 = ?2#1 / (?2#1, ?2#1)",
+                "committed 3",
+            ],
+            history: "by 1 / create table t (a); by 1 / insert into t (?1#1); by 2 / insert into t (?2#1)",
+        },
+        Outcome {
+            orders: &[&[1, 2, 1, 1]],
+            replies: &[
+                "committed 1; committed 3; \
+                 rows (a, a) at 3 / (?2#1, ?2#1) / (?2#1, ?1#1) if ?1#1 = ?2#1 / \
+                 (?1#1, ?2#1) if ?1#1 = ?2#1 / (?1#1, ?1#1)",
+                "committed 2",
+            ],
+            history: "by 1 / create table t (a); by 2 / insert into t (?2#1); by 1 / insert into t (?1#1)",
+        },
+    ],
+};
 
 /// A new null of one session differs in name from that of another one, and may have the same value.
 #[test]
 fn new_nulls_of_two_sessions(rt: HostRuntime) -> Result<(), Fail> {
-    let scripts = [
-        "create table t (a); insert into t values (NULL); select p.a, q.a from t p, t q where p.a = q.a;",
-        "insert into t values (NULL);",
-    ];
-    let orders: [Played<'_>; _] = [
-        (&[1, 1, 2, 1], NEW_NULLS_OF_TWO_SESSIONS_FIRST),
-        (&[1, 2, 1, 1], NEW_NULLS_OF_TWO_SESSIONS_SECOND),
-    ];
-    play(&rt, rt.alloc(), &scripts, &orders)
+    play(&rt, rt.alloc(), &NEW_NULLS_OF_TWO_SESSIONS)
 }
 
-const THE_SAME_SCRIPT_TWICE_FIRST: &str = "\
-session 1
-1 committed 1
-2 committed 2
-3 rows (a) at 3
-  (?x)
-session 2
-1 refused TableExists
-2 committed 3
-3 rows (a) at 3
-  (?x)
-history
-1 by 1
-  create table t (a)
-2 by 1
-  insert into t (?x)
-3 by 2
-  insert into t (?x)
-end
-";
-
-const THE_SAME_SCRIPT_TWICE_SECOND: &str = "\
-session 1
-1 refused TableExists
-2 committed 3
-3 rows (a) at 3
-  (?x)
-session 2
-1 committed 1
-2 committed 2
-3 rows (a) at 3
-  (?x)
-history
-1 by 2
-  create table t (a)
-2 by 2
-  insert into t (?x)
-3 by 1
-  insert into t (?x)
-end
-";
+const THE_SAME_SCRIPT_TWICE: Case<'_> = Case {
+    scripts: &[
+        "create table t (a); insert into t values (?x); select a from t;",
+        "create table t (a); insert into t values (?x); select a from t;",
+    ],
+    outcomes: &[
+        Outcome {
+            orders: &[&[1, 2, 1, 2, 1, 2]],
+            replies: &[
+                "committed 1; committed 2; rows (a) at 3 / (?x)",
+                "refused TableExists; committed 3; rows (a) at 3 / (?x)",
+            ],
+            history: "by 1 / create table t (a); by 1 / insert into t (?x); by 2 / insert into t (?x)",
+        },
+        Outcome {
+            orders: &[&[2, 1, 2, 1, 2, 1]],
+            replies: &[
+                "refused TableExists; committed 3; rows (a) at 3 / (?x)",
+                "committed 1; committed 2; rows (a) at 3 / (?x)",
+            ],
+            history: "by 2 / create table t (a); by 2 / insert into t (?x); by 1 / insert into t (?x)",
+        },
+    ],
+};
 
 /// A named null is one null in all sessions, so that the same row comes twice.
 #[test]
 fn the_same_script_twice(rt: HostRuntime) -> Result<(), Fail> {
-    let text = "create table t (a); insert into t values (?x); select a from t;";
-    let orders: [Played<'_>; _] = [
-        (&[1, 2, 1, 2, 1, 2], THE_SAME_SCRIPT_TWICE_FIRST),
-        (&[2, 1, 2, 1, 2, 1], THE_SAME_SCRIPT_TWICE_SECOND),
-    ];
-    play(&rt, rt.alloc(), &[text, text], &orders)
+    play(&rt, rt.alloc(), &THE_SAME_SCRIPT_TWICE)
 }
 
-const VERSIONS_RISE_EXPECTED: &str = "\
-session 1
-1 committed 1
-2 rows (a) at 2
-  (1)
-3 begun at 2
-4 rows (a) at 2
-  (1)
-5 nothing to commit at 2
-6 rows (a) at 3
-  (1)
-  (2)
-session 2
-1 committed 2
-2 committed 3
-3 rows (a) at 3
-  (1)
-  (2)
-history
-1 by 1
-  create table t (a)
-2 by 2
-  insert into t (1)
-3 by 2
-  insert into t (2)
-end
-";
+const VERSIONS_RISE: Case<'_> = Case {
+    scripts: &[
+        "create table t (a); select * from t; begin; select * from t; commit; select * from t;",
+        "insert into t values (1); insert into t values (2); select * from t;",
+    ],
+    outcomes: &[Outcome {
+        orders: &[&[1, 2, 1, 1, 2, 1, 1, 1, 2], &[1, 2, 1, 1, 1, 2, 2, 1, 1]],
+        replies: &[
+            "committed 1; rows (a) at 2 / (1); begun at 2; rows (a) at 2 / (1); \
+             nothing to commit at 2; rows (a) at 3 / (1) / (2)",
+            "committed 2; committed 3; rows (a) at 3 / (1) / (2)",
+        ],
+        history: "by 1 / create table t (a); by 2 / insert into t (1); by 2 / insert into t (2)",
+    }],
+};
 
 /// Outside a transaction each statement sees all commits so far, and within one the base.
 #[test]
 fn versions_rise(rt: HostRuntime) -> Result<(), Fail> {
-    let scripts = [
-        "create table t (a); select * from t; begin; select * from t; commit; select * from t;",
-        "insert into t values (1); insert into t values (2); select * from t;",
-    ];
-    let orders: [Played<'_>; _] = [
-        (&[1, 2, 1, 1, 2, 1, 1, 1, 2], VERSIONS_RISE_EXPECTED),
-        (&[1, 2, 1, 1, 1, 2, 2, 1, 1], VERSIONS_RISE_EXPECTED),
-    ];
-    play(&rt, rt.alloc(), &scripts, &orders)
+    play(&rt, rt.alloc(), &VERSIONS_RISE)
 }
 
-const ONE_SESSION_FILLS_THE_LOG_EXPECTED: &str = "\
-session 1
-1 committed 1
-2 refused Full
-3 rows (a) at 1
-session 2
-1 begun at 1
-2 pending at 1 plus 1
-3 refused Full
-4 rolled back
-5 refused Full
-6 rows (a) at 1
-history
-1 by 1
-  create table t (a)
-end
-";
+const ONE_SESSION_FILLS_THE_LOG: Case<'_> = Case {
+    scripts: &[
+        "create table t (a);
+         insert into t values ('xxxxxxxxxxxxxxxxxxxxxxxxxxxxxxxxxxxxxxxxxxxxxxxxxxxxxxxxxxxxxxxxxxxxxxxxxxxxxxxx');
+         select a from t;",
+        "begin; insert into t values (1); commit; rollback; insert into t values (1); select a from t;",
+    ],
+    outcomes: &[Outcome {
+        orders: &[&[1, 2, 2, 1, 2, 2, 2, 2, 1], &[1, 2, 2, 1, 1, 2, 2, 2, 2]],
+        replies: &[
+            "committed 1; refused Full; rows (a) at 1",
+            "begun at 1; pending at 1 plus 1; refused Full; rolled back; refused Full; \
+             rows (a) at 1",
+        ],
+        history: "by 1 / create table t (a)",
+    }],
+};
 
 /// A statement of session 1 takes all words of a log of 64. From then on nobody commits: the open transaction stays
 /// open, and can be given up.
 #[test]
 fn one_session_fills_the_log(rt: HostRuntime) -> Result<(), Fail> {
-    let scripts = [
-        "create table t (a);
-         insert into t values ('xxxxxxxxxxxxxxxxxxxxxxxxxxxxxxxxxxxxxxxxxxxxxxxxxxxxxxxxxxxxxxxxxxxxxxxxxxxxxxxx');
-         select a from t;",
-        "begin; insert into t values (1); commit; rollback; insert into t values (1); select a from t;",
-    ];
-    let orders: [Played<'_>; _] = [
-        (
-            &[1, 2, 2, 1, 2, 2, 2, 2, 1],
-            ONE_SESSION_FILLS_THE_LOG_EXPECTED,
-        ),
-        (
-            &[1, 2, 2, 1, 1, 2, 2, 2, 2],
-            ONE_SESSION_FILLS_THE_LOG_EXPECTED,
-        ),
-    ];
-    play_on(&rt, rt.alloc(), 64, &scripts, &orders)
+    play_on(&rt, rt.alloc(), 64, &ONE_SESSION_FILLS_THE_LOG)
 }
 
 /// What 64 sessions of one creation each print where the last session comes first.

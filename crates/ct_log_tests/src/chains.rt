@@ -3,6 +3,8 @@
 ghost use Rattle.std.specs.Prelude.{◌≡◌};
 
 use ct_chain::{Chain, KeyChain};
+use std::alloc::Global;
+use std::process::Abort;
 use std::test::Fail;
 
 /// Puts the products of all numbers below this one with themselves into a list, as far as there is room.
@@ -18,50 +20,76 @@ fn fill(chain: &mut Chain, room: u32, count: u32)
     }
 }
 
-#[test]
-fn words_are_found(rt: HostRuntime) -> Result<(), Fail> {
-    for room in [0, 1, 63, 64, 65, 2000] {
-        let mut chain = Chain::make(rt.alloc(), room)?;
-        fill(&mut chain, room, 2000);
-        let count = chain.words().len();
-        assert_eq!(rt; count, room as usize);
-        for k in 0..2000u64 {
-            let place = (k < room as u64).then_some(k as u32);
-            assert_eq!(rt; chain.find(k * k), place);
+/// Whether each of these words is found where it was put, and those are not for which there was no room.
+fn are_found(chain: &Chain, room: u32, count: u32) -> bool {
+    for k in 0..count {
+        let place = (k < room).then_some(k);
+        if chain.find(k as u64 * k as u64) != place {
+            return false;
         }
-        assert_eq!(rt; chain.find(2), None);
-        if count > 0 {
-            assert_eq!(rt;
-                chain.at(count as u32 - 1),
-                (count as u64 - 1) * (count as u64 - 1)
-            );
-        }
-        let words = chain.into_words();
-        assert_eq!(rt; words.len(), count);
     }
+    true
+}
+
+/// Whether the word at the last place of a list with this room is the last one that was put.
+fn has_last(chain: &Chain, room: u32) -> bool {
+    let Some(last) = room.checked_sub(1) else {
+        return true;
+    };
+    (last as usize) < chain.words().len() && chain.at(last) == last as u64 * last as u64
+}
+
+/// A list with this room has the first words, and no others.
+fn keeps(rt: &impl Abort, alloc: Global, room: u32) -> Result<(), Fail> {
+    let mut chain = Chain::make(alloc, room)?;
+    fill(&mut chain, room, 2000);
+    assert_eq!(rt; chain.words().len(), room as usize);
+    assert!(rt; are_found(&chain, room, 2000));
+    assert_eq!(rt; chain.find(2), None);
+    assert!(rt; has_last(&chain, room));
+    assert_eq!(rt; chain.into_words().len(), room as usize);
     Ok(())
 }
 
 #[test]
-fn places_of_a_key_come_in_order(rt: HostRuntime) -> Result<(), Fail> {
-    let mut keys = KeyChain::make(rt.alloc(), 5)?;
+fn words_are_found(rt: HostRuntime) -> Result<(), Fail> {
+    for room in [0, 1, 63, 64, 65, 2000] {
+        keeps(&rt, rt.alloc(), room)?;
+    }
+    Ok(())
+}
+
+/// The key 7 at the places 0, 2 and 4, and two other keys.
+fn keys(alloc: Global) -> Result<KeyChain, Fail> {
+    let mut keys = KeyChain::make(alloc, 5)?;
     keys.push(7);
     keys.push(u32::MAX);
     keys.push(7);
     keys.push(3);
     keys.push(7);
-    assert_eq!(rt;
-        [
-            keys.next_from(7, 0),
-            keys.next_from(7, 1),
-            keys.next_from(7, 3),
-            keys.next_from(7, 5)
-        ],
-        [Some(0), Some(2), Some(4), None]
-    );
+    Ok(keys)
+}
+
+/// The next places of the key 7 from some places on.
+fn places_of_seven(keys: &KeyChain) -> [Option<u32>; 4] {
+    [
+        keys.next_from(7, 0),
+        keys.next_from(7, 1),
+        keys.next_from(7, 3),
+        keys.next_from(7, 5),
+    ]
+}
+
+fn come_in_order(rt: &impl Abort, keys: &KeyChain) {
+    assert_eq!(rt; places_of_seven(keys), [Some(0), Some(2), Some(4), None]);
     assert_eq!(rt; keys.next_from(u32::MAX, 1), Some(1));
     assert_eq!(rt; keys.next_from(u32::MAX, 2), None);
     assert_eq!(rt; keys.next_from(4, 0), None);
     assert_eq!(rt; keys.next_from(7, u32::MAX), None);
+}
+
+#[test]
+fn places_of_a_key_come_in_order(rt: HostRuntime) -> Result<(), Fail> {
+    come_in_order(&rt, &keys(rt.alloc())?);
     Ok(())
 }

@@ -14,14 +14,56 @@ use std::marker::Brand;
 use std::process::Abort;
 use std::test::Fail;
 
+/// The place of the equality of a term with itself.
+fn same<N: Site>(arena: &Arena<N>, pass: &mut Pass<N>, place: u32) -> Result<u32, Fail> {
+    if is_place(pass.words(), Class::Term, place) {
+        return Ok(eq(arena, pass, place, place)?);
+    }
+    Err("no term".into())
+}
+
+/// The place of the negation of a condition.
+fn negated<N: Site>(arena: &Arena<N>, pass: &mut Pass<N>, place: u32) -> Result<u32, Fail> {
+    if is_place(pass.words(), Class::Cond, place) {
+        return Ok(not(arena, pass, place)?);
+    }
+    Err("no condition to negate".into())
+}
+
+/// The place of the conjunction of a condition with itself.
+fn and_itself<N: Site>(arena: &Arena<N>, pass: &mut Pass<N>, place: u32) -> Result<u32, Fail> {
+    if is_place(pass.words(), Class::Cond, place) {
+        return Ok(and(arena, pass, place, place)?);
+    }
+    Err("no condition for an and".into())
+}
+
+/// The place of the disjunction of a condition with itself.
+fn or_itself<N: Site>(arena: &Arena<N>, pass: &mut Pass<N>, place: u32) -> Result<u32, Fail> {
+    if is_place(pass.words(), Class::Cond, place) {
+        return Ok(or(arena, pass, place, place)?);
+    }
+    Err("no condition for an or".into())
+}
+
+/// The place of a number.
+fn number<N: Site>(arena: &Arena<N>, pass: &mut Pass<N>, x: i64) -> Result<u32, Fail> {
+    Ok(term(arena, pass, &Term::Value(Value::Int(x)))?)
+}
+
+/// The place of the conjunction of no conditions.
+fn none<N: Site>(arena: &Arena<N>, pass: &mut Pass<N>) -> Result<u32, Fail> {
+    Ok(all(arena, pass, &[])?)
+}
+
 /// The places of a number, of its equality with itself, of its negation, and of what those two give together.
 fn fold<N: Site>(arena: &Arena<N>, pass: &mut Pass<N>, x: i64) -> Result<[u32; 6], Fail> {
-    let number = term(arena, pass, &Term::Value(Value::Int(x)))?;
-    let same = eq(arena, pass, number, number)?;
-    let never = not(arena, pass, same)?;
-    let both = and(arena, pass, never, never)?;
-    let either = or(arena, pass, both, both)?;
-    let none = all(arena, pass, &[])?;
+    let number = number(arena, pass, x)?;
+    let same = same(arena, pass, number)?;
+    let never = negated(arena, pass, same)?;
+    let both = and_itself(arena, pass, never)?;
+    let either = or_itself(arena, pass, both)?;
+    let none = none(arena, pass)?;
     Ok([number, same, never, both, either, none])
 }
 

@@ -1,13 +1,15 @@
 // Conditions and their printed forms.
 
-ghost use Rattle.std.specs.Prelude.{IsTrue};
+ghost use Rattle.std.specs.Prelude.{◌≡◌, IsTrue, IfOk};
 ghost use Rattle.std.specs.List.{list_all};
 ghost use Rattle.ct_word.specs.declared.kinds.Class.TheVariants as class;
-ghost use Rattle.ct_word.specs.WellFormed.{is_place_of};
+ghost use Rattle.ct_word.specs.WellFormed.{is_place_of, IsWellFormed};
 
 use ct_rewrite::{Node, Normal, normal};
-use ct_word::{Memory, Null, Term, Value};
+use ct_samples::{add, is_place};
+use ct_word::{Class, Kind, Memory, Null, Term, Value, kind, left, right};
 use std::alloc::{AllocError, Global};
+use std::process::Abort;
 use std::test::Fail;
 
 /// A log in which each rule of the printed form has its conditions.
@@ -220,357 +222,151 @@ const TEXTS: [&str; 65] = [
     "?x <> 1 or ?x = 2",
 ];
 
-/// Equalities of 12 columns; at place 141 the Or of 64 of them, at place 142 that of 65. At places 143 and 145 the Or of
-/// those 64 and one of them, and of those 64 and an And. At place 146 an And of the last two equalities, at place 147 the
-/// Or of those 64 and that And.
-const WIDE: [u64; 148] = [
-    0x0a_0000000_0000000,
-    0x0b_0000000_0000000,
-    0x09_0000000_0000000,
-    0x09_0000001_0000000,
-    0x09_0000002_0000000,
-    0x09_0000003_0000000,
-    0x09_0000004_0000000,
-    0x09_0000005_0000000,
-    0x09_0000006_0000000,
-    0x09_0000007_0000000,
-    0x09_0000008_0000000,
-    0x09_0000009_0000000,
-    0x09_000000a_0000000,
-    0x09_000000b_0000000,
-    0x0c_0000002_0000003,
-    0x0c_0000002_0000004,
-    0x0c_0000002_0000005,
-    0x0c_0000002_0000006,
-    0x0c_0000002_0000007,
-    0x0c_0000002_0000008,
-    0x0c_0000002_0000009,
-    0x0c_0000002_000000a,
-    0x0c_0000002_000000b,
-    0x0c_0000002_000000c,
-    0x0c_0000002_000000d,
-    0x0c_0000003_0000004,
-    0x0c_0000003_0000005,
-    0x0c_0000003_0000006,
-    0x0c_0000003_0000007,
-    0x0c_0000003_0000008,
-    0x0c_0000003_0000009,
-    0x0c_0000003_000000a,
-    0x0c_0000003_000000b,
-    0x0c_0000003_000000c,
-    0x0c_0000003_000000d,
-    0x0c_0000004_0000005,
-    0x0c_0000004_0000006,
-    0x0c_0000004_0000007,
-    0x0c_0000004_0000008,
-    0x0c_0000004_0000009,
-    0x0c_0000004_000000a,
-    0x0c_0000004_000000b,
-    0x0c_0000004_000000c,
-    0x0c_0000004_000000d,
-    0x0c_0000005_0000006,
-    0x0c_0000005_0000007,
-    0x0c_0000005_0000008,
-    0x0c_0000005_0000009,
-    0x0c_0000005_000000a,
-    0x0c_0000005_000000b,
-    0x0c_0000005_000000c,
-    0x0c_0000005_000000d,
-    0x0c_0000006_0000007,
-    0x0c_0000006_0000008,
-    0x0c_0000006_0000009,
-    0x0c_0000006_000000a,
-    0x0c_0000006_000000b,
-    0x0c_0000006_000000c,
-    0x0c_0000006_000000d,
-    0x0c_0000007_0000008,
-    0x0c_0000007_0000009,
-    0x0c_0000007_000000a,
-    0x0c_0000007_000000b,
-    0x0c_0000007_000000c,
-    0x0c_0000007_000000d,
-    0x0c_0000008_0000009,
-    0x0c_0000008_000000a,
-    0x0c_0000008_000000b,
-    0x0c_0000008_000000c,
-    0x0c_0000008_000000d,
-    0x0c_0000009_000000a,
-    0x0c_0000009_000000b,
-    0x0c_0000009_000000c,
-    0x0c_0000009_000000d,
-    0x0c_000000a_000000b,
-    0x0c_000000a_000000c,
-    0x0c_000000a_000000d,
-    0x0c_000000b_000000c,
-    0x0c_000000b_000000d,
-    0x0f_000000e_000000f,
-    0x0f_0000010_000004f,
-    0x0f_0000011_0000050,
-    0x0f_0000012_0000051,
-    0x0f_0000013_0000052,
-    0x0f_0000014_0000053,
-    0x0f_0000015_0000054,
-    0x0f_0000016_0000055,
-    0x0f_0000017_0000056,
-    0x0f_0000018_0000057,
-    0x0f_0000019_0000058,
-    0x0f_000001a_0000059,
-    0x0f_000001b_000005a,
-    0x0f_000001c_000005b,
-    0x0f_000001d_000005c,
-    0x0f_000001e_000005d,
-    0x0f_000001f_000005e,
-    0x0f_0000020_000005f,
-    0x0f_0000021_0000060,
-    0x0f_0000022_0000061,
-    0x0f_0000023_0000062,
-    0x0f_0000024_0000063,
-    0x0f_0000025_0000064,
-    0x0f_0000026_0000065,
-    0x0f_0000027_0000066,
-    0x0f_0000028_0000067,
-    0x0f_0000029_0000068,
-    0x0f_000002a_0000069,
-    0x0f_000002b_000006a,
-    0x0f_000002c_000006b,
-    0x0f_000002d_000006c,
-    0x0f_000002e_000006d,
-    0x0f_000002f_000006e,
-    0x0f_0000030_000006f,
-    0x0f_0000031_0000070,
-    0x0f_0000032_0000071,
-    0x0f_0000033_0000072,
-    0x0f_0000034_0000073,
-    0x0f_0000035_0000074,
-    0x0f_0000036_0000075,
-    0x0f_0000037_0000076,
-    0x0f_0000038_0000077,
-    0x0f_0000039_0000078,
-    0x0f_000003a_0000079,
-    0x0f_000003b_000007a,
-    0x0f_000003c_000007b,
-    0x0f_000003d_000007c,
-    0x0f_000003e_000007d,
-    0x0f_000003f_000007e,
-    0x0f_0000040_000007f,
-    0x0f_0000041_0000080,
-    0x0f_0000042_0000081,
-    0x0f_0000043_0000082,
-    0x0f_0000044_0000083,
-    0x0f_0000045_0000084,
-    0x0f_0000046_0000085,
-    0x0f_0000047_0000086,
-    0x0f_0000048_0000087,
-    0x0f_0000049_0000088,
-    0x0f_000004a_0000089,
-    0x0f_000004b_000008a,
-    0x0f_000004c_000008b,
-    0x0f_000004d_000008c,
-    0x0f_000004e_000008d,
-    0x0f_000000e_000008d,
-    0x0e_000000e_000000f,
-    0x0f_000008d_0000090,
-    0x0e_000004d_000004e,
-    0x0f_000008d_0000092,
-];
+/// The log of these words.
+fn log_of(alloc: Global, words: &[u64]) -> Result<Vec<u64>, Fail>
+    ensures { IfOk result (λ log. IsWellFormed log.items) }
+{
+    let mut log = Vec::new(alloc);
+    for word in words {
+        let Some(of) = kind(*word) else {
+            return Err("a word of no kind".into());
+        };
+        add(&mut log, of, left(*word), right(*word))?;
+    }
+    if log.as_slice() != words {
+        return Err("no log".into());
+    }
+    Ok(log)
+}
 
-/// `?x = 1`, `?y = 1` and `?z = 1`, and on them 60 conditions, each an And of two Ors that have the one below in common.
-const TOWER: [u64; 194] = [
-    0x0a_0000000_0000000,
-    0x0b_0000000_0000000,
-    0x01_0000000_0000000,
-    0x02_0000002_0000078,
-    0x06_0000003_0000000,
-    0x02_0000002_0000079,
-    0x06_0000005_0000000,
-    0x02_0000002_000007a,
-    0x06_0000007_0000000,
-    0x03_0000000_0000000,
-    0x04_0000009_0000001,
-    0x0c_0000004_000000a,
-    0x0c_0000006_000000a,
-    0x0c_0000008_000000a,
-    0x0f_000000b_000000d,
-    0x0f_000000c_000000d,
-    0x0e_000000e_000000f,
-    0x0f_000000b_0000010,
-    0x0f_000000c_0000010,
-    0x0e_0000011_0000012,
-    0x0f_000000b_0000013,
-    0x0f_000000c_0000013,
-    0x0e_0000014_0000015,
-    0x0f_000000b_0000016,
-    0x0f_000000c_0000016,
-    0x0e_0000017_0000018,
-    0x0f_000000b_0000019,
-    0x0f_000000c_0000019,
-    0x0e_000001a_000001b,
-    0x0f_000000b_000001c,
-    0x0f_000000c_000001c,
-    0x0e_000001d_000001e,
-    0x0f_000000b_000001f,
-    0x0f_000000c_000001f,
-    0x0e_0000020_0000021,
-    0x0f_000000b_0000022,
-    0x0f_000000c_0000022,
-    0x0e_0000023_0000024,
-    0x0f_000000b_0000025,
-    0x0f_000000c_0000025,
-    0x0e_0000026_0000027,
-    0x0f_000000b_0000028,
-    0x0f_000000c_0000028,
-    0x0e_0000029_000002a,
-    0x0f_000000b_000002b,
-    0x0f_000000c_000002b,
-    0x0e_000002c_000002d,
-    0x0f_000000b_000002e,
-    0x0f_000000c_000002e,
-    0x0e_000002f_0000030,
-    0x0f_000000b_0000031,
-    0x0f_000000c_0000031,
-    0x0e_0000032_0000033,
-    0x0f_000000b_0000034,
-    0x0f_000000c_0000034,
-    0x0e_0000035_0000036,
-    0x0f_000000b_0000037,
-    0x0f_000000c_0000037,
-    0x0e_0000038_0000039,
-    0x0f_000000b_000003a,
-    0x0f_000000c_000003a,
-    0x0e_000003b_000003c,
-    0x0f_000000b_000003d,
-    0x0f_000000c_000003d,
-    0x0e_000003e_000003f,
-    0x0f_000000b_0000040,
-    0x0f_000000c_0000040,
-    0x0e_0000041_0000042,
-    0x0f_000000b_0000043,
-    0x0f_000000c_0000043,
-    0x0e_0000044_0000045,
-    0x0f_000000b_0000046,
-    0x0f_000000c_0000046,
-    0x0e_0000047_0000048,
-    0x0f_000000b_0000049,
-    0x0f_000000c_0000049,
-    0x0e_000004a_000004b,
-    0x0f_000000b_000004c,
-    0x0f_000000c_000004c,
-    0x0e_000004d_000004e,
-    0x0f_000000b_000004f,
-    0x0f_000000c_000004f,
-    0x0e_0000050_0000051,
-    0x0f_000000b_0000052,
-    0x0f_000000c_0000052,
-    0x0e_0000053_0000054,
-    0x0f_000000b_0000055,
-    0x0f_000000c_0000055,
-    0x0e_0000056_0000057,
-    0x0f_000000b_0000058,
-    0x0f_000000c_0000058,
-    0x0e_0000059_000005a,
-    0x0f_000000b_000005b,
-    0x0f_000000c_000005b,
-    0x0e_000005c_000005d,
-    0x0f_000000b_000005e,
-    0x0f_000000c_000005e,
-    0x0e_000005f_0000060,
-    0x0f_000000b_0000061,
-    0x0f_000000c_0000061,
-    0x0e_0000062_0000063,
-    0x0f_000000b_0000064,
-    0x0f_000000c_0000064,
-    0x0e_0000065_0000066,
-    0x0f_000000b_0000067,
-    0x0f_000000c_0000067,
-    0x0e_0000068_0000069,
-    0x0f_000000b_000006a,
-    0x0f_000000c_000006a,
-    0x0e_000006b_000006c,
-    0x0f_000000b_000006d,
-    0x0f_000000c_000006d,
-    0x0e_000006e_000006f,
-    0x0f_000000b_0000070,
-    0x0f_000000c_0000070,
-    0x0e_0000071_0000072,
-    0x0f_000000b_0000073,
-    0x0f_000000c_0000073,
-    0x0e_0000074_0000075,
-    0x0f_000000b_0000076,
-    0x0f_000000c_0000076,
-    0x0e_0000077_0000078,
-    0x0f_000000b_0000079,
-    0x0f_000000c_0000079,
-    0x0e_000007a_000007b,
-    0x0f_000000b_000007c,
-    0x0f_000000c_000007c,
-    0x0e_000007d_000007e,
-    0x0f_000000b_000007f,
-    0x0f_000000c_000007f,
-    0x0e_0000080_0000081,
-    0x0f_000000b_0000082,
-    0x0f_000000c_0000082,
-    0x0e_0000083_0000084,
-    0x0f_000000b_0000085,
-    0x0f_000000c_0000085,
-    0x0e_0000086_0000087,
-    0x0f_000000b_0000088,
-    0x0f_000000c_0000088,
-    0x0e_0000089_000008a,
-    0x0f_000000b_000008b,
-    0x0f_000000c_000008b,
-    0x0e_000008c_000008d,
-    0x0f_000000b_000008e,
-    0x0f_000000c_000008e,
-    0x0e_000008f_0000090,
-    0x0f_000000b_0000091,
-    0x0f_000000c_0000091,
-    0x0e_0000092_0000093,
-    0x0f_000000b_0000094,
-    0x0f_000000c_0000094,
-    0x0e_0000095_0000096,
-    0x0f_000000b_0000097,
-    0x0f_000000c_0000097,
-    0x0e_0000098_0000099,
-    0x0f_000000b_000009a,
-    0x0f_000000c_000009a,
-    0x0e_000009b_000009c,
-    0x0f_000000b_000009d,
-    0x0f_000000c_000009d,
-    0x0e_000009e_000009f,
-    0x0f_000000b_00000a0,
-    0x0f_000000c_00000a0,
-    0x0e_00000a1_00000a2,
-    0x0f_000000b_00000a3,
-    0x0f_000000c_00000a3,
-    0x0e_00000a4_00000a5,
-    0x0f_000000b_00000a6,
-    0x0f_000000c_00000a6,
-    0x0e_00000a7_00000a8,
-    0x0f_000000b_00000a9,
-    0x0f_000000c_00000a9,
-    0x0e_00000aa_00000ab,
-    0x0f_000000b_00000ac,
-    0x0f_000000c_00000ac,
-    0x0e_00000ad_00000ae,
-    0x0f_000000b_00000af,
-    0x0f_000000c_00000af,
-    0x0e_00000b0_00000b1,
-    0x0f_000000b_00000b2,
-    0x0f_000000c_00000b2,
-    0x0e_00000b3_00000b4,
-    0x0f_000000b_00000b5,
-    0x0f_000000c_00000b5,
-    0x0e_00000b6_00000b7,
-    0x0f_000000b_00000b8,
-    0x0f_000000c_00000b8,
-    0x0e_00000b9_00000ba,
-    0x0f_000000b_00000bb,
-    0x0f_000000c_00000bb,
-    0x0e_00000bc_00000bd,
-    0x0f_000000b_00000be,
-    0x0f_000000c_00000be,
-    0x0e_00000bf_00000c0,
-];
+/// Twelve columns, from place 2 on.
+fn columns(alloc: Global) -> Result<Vec<u64>, AllocError>
+    ensures { IfOk result (λ words. IsWellFormed words.items) }
+{
+    let mut words = Vec::new(alloc);
+    add(&mut words, Kind::True, 0, 0)?;
+    add(&mut words, Kind::False, 0, 0)?;
+    for column in 0..12 {
+        add(&mut words, Kind::Column, column, 0)?;
+    }
+    Ok(words)
+}
+
+/// Adds the equality of the column at a place and each later one.
+fn add_equalities(words: &mut Vec<u64>, place: u32) -> Result<(), AllocError>
+    requires { IsWellFormed words.old.items }
+    ensures { IsWellFormed words.new.items }
+{
+    for later in place.saturating_add(1)..14 {
+        add(words, Kind::Equal, place, later)?;
+    }
+    Ok(())
+}
+
+/// The columns, and the equality of any two but the last two: 65 equalities, from place 14 on.
+fn equalities(alloc: Global) -> Result<Vec<u64>, AllocError>
+    ensures { IfOk result (λ words. IsWellFormed words.items) }
+{
+    let mut words = columns(alloc)?;
+    for place in 2..12 {
+        add_equalities(&mut words, place)?;
+    }
+    Ok(words)
+}
+
+/// Adds the Or of the equalities at the places from 14 to this one, one after the other.
+fn add_or(words: &mut Vec<u64>, end: u32) -> Result<(), AllocError>
+    requires { IsWellFormed words.old.items }
+    ensures { IsWellFormed words.new.items }
+{
+    let mut all = 14;
+    for place in 15..end {
+        all = add(words, Kind::Or, place.min(all), place.max(all))?;
+    }
+    Ok(())
+}
+
+/// The equalities; at place 141 the Or of 64 of them, at place 142 that of 65. At places 143 and 145 the Or of those 64
+/// and one of them, and of those 64 and an And. At place 146 an And of the last two equalities, at place 147 the Or of
+/// those 64 and that And.
+fn wide(alloc: Global) -> Result<Vec<u64>, AllocError>
+    ensures { IfOk result (λ words. IsWellFormed words.items) }
+{
+    let mut words = equalities(alloc)?;
+    add_or(&mut words, 79)?;
+    add(&mut words, Kind::Or, 14, 141)?;
+    add(&mut words, Kind::And, 14, 15)?;
+    add(&mut words, Kind::Or, 141, 144)?;
+    add(&mut words, Kind::And, 77, 78)?;
+    add(&mut words, Kind::Or, 141, 146)?;
+    Ok(words)
+}
+
+/// Adds the null whose name is this letter.
+fn add_null(words: &mut Vec<u64>, letter: u32) -> Result<u32, AllocError>
+    requires { IsWellFormed words.old.items }
+    ensures { IsWellFormed words.new.items }
+{
+    let end = add(words, Kind::TextEnd, 0, 0)?;
+    let name = add(words, Kind::TextCharacter, end, letter)?;
+    add(words, Kind::NamedNull, name, 0)
+}
+
+/// `?x = 1`, `?y = 1` and `?z = 1` at the places 11 to 13.
+fn ground(alloc: Global) -> Result<Vec<u64>, AllocError>
+    ensures { IfOk result (λ words. IsWellFormed words.items) }
+{
+    let mut words = Vec::new(alloc);
+    add(&mut words, Kind::True, 0, 0)?;
+    add(&mut words, Kind::False, 0, 0)?;
+    let nulls = [
+        add_null(&mut words, 0x78)?,
+        add_null(&mut words, 0x79)?,
+        add_null(&mut words, 0x7a)?,
+    ];
+    let high = add(&mut words, Kind::NumberHigh, 0, 0)?;
+    let one = add(&mut words, Kind::Number, high, 1)?;
+    for null in nulls {
+        add(&mut words, Kind::Equal, null, one)?;
+    }
+    Ok(words)
+}
+
+/// On those three so many conditions, each an And of two Ors that have the one below in common, and the last one's place.
+fn tower(alloc: Global, levels: u32) -> Result<(Vec<u64>, u32), AllocError>
+    ensures { IfOk result (λ r. IsWellFormed r.0.items) }
+{
+    let mut words = ground(alloc)?;
+    let mut below = 13;
+    for _ in 0..levels {
+        let first = add(&mut words, Kind::Or, 11, below)?;
+        let second = add(&mut words, Kind::Or, 12, below)?;
+        below = add(&mut words, Kind::And, first, second)?;
+    }
+    Ok((words, below))
+}
+
+/// Whether these are places of conditions.
+fn are_conditions(words: &[u64], roots: &[u32]) -> bool
+    ensures { result ≡ list_all (is_place_of words.now class.Cond) roots.now }
+{
+    for root in roots {
+        if !is_place(words, Class::Cond, *root) {
+            return false;
+        }
+    }
+    true
+}
+
+/// The printed form of conditions of a short log. Nothing is said of it, which keeps the tests short to prove.
+fn printed(alloc: Global, words: &[u64], roots: &[u32]) -> Result<Normal, Fail>
+    requires { IsWellFormed words.now }
+{
+    if words.len() > 1000 || !are_conditions(words, roots) {
+        return Err("no conditions".into());
+    }
+    Ok(normal(alloc, words, roots)?)
+}
 
 fn text_of_term(alloc: Global, term: &Term) -> Result<String, AllocError> {
     match term {
@@ -581,6 +377,22 @@ fn text_of_term(alloc: Global, term: &Term) -> Result<String, AllocError> {
         Term::Value(Value::Text(text)) => format!(in alloc; "'{}'", text.as_str()),
         Term::Value(Value::Other(k)) => format!(in alloc; "@{k}"),
     }
+}
+
+/// Adds the text of a node's child, in parentheses where it is an And or an Or.
+fn push_child(
+    text: &mut String,
+    nodes: &[Node],
+    texts: &[String],
+    child: u32,
+) -> Result<(), AllocError> {
+    if let Some(own) = texts.get(child as usize) {
+        let nested = matches!(nodes.get(child as usize), Some(Node::And(_) | Node::Or(_)));
+        text.push_str(if nested { "(" } else { "" })?;
+        text.push_str(own.as_str())?;
+        text.push_str(if nested { ")" } else { "" })?;
+    }
+    Ok(())
 }
 
 fn text_of_children(
@@ -595,71 +407,85 @@ fn text_of_children(
         if i > 0 {
             text.push_str(between)?;
         }
-        if let Some(own) = texts.get(*child as usize) {
-            let nested = matches!(nodes.get(*child as usize), Some(Node::And(_) | Node::Or(_)));
-            text.push_str(if nested { "(" } else { "" })?;
-            text.push_str(own.as_str())?;
-            text.push_str(if nested { ")" } else { "" })?;
-        }
+        push_child(&mut text, nodes, texts, *child)?;
     }
     Ok(text)
 }
 
+/// The text of the comparison of two terms.
+fn text_of_terms(alloc: Global, s: &Term, between: &str, t: &Term) -> Result<String, AllocError> {
+    let mut text = text_of_term(alloc, s)?;
+    text.push_str(between)?;
+    text.push_str(text_of_term(alloc, t)?.as_str())?;
+    Ok(text)
+}
+
+/// The text of a node whose children have these texts.
+fn text_of(
+    alloc: Global,
+    nodes: &[Node],
+    texts: &[String],
+    node: &Node,
+) -> Result<String, AllocError> {
+    match node {
+        Node::True => String::from_str(alloc, "true"),
+        Node::False => String::from_str(alloc, "false"),
+        Node::Eq(s, t) => text_of_terms(alloc, s, " = ", t),
+        Node::Ne(s, t) => text_of_terms(alloc, s, " <> ", t),
+        Node::And(children) => text_of_children(alloc, nodes, texts, children.as_slice(), " and "),
+        Node::Or(children) => text_of_children(alloc, nodes, texts, children.as_slice(), " or "),
+    }
+}
+
 /// The text of each node, no node having a name.
-fn texts_of(alloc: Global, nodes: &[Node]) -> Result<Vec<String>, Memory> {
+fn texts_of(alloc: Global, nodes: &[Node]) -> Result<Vec<String>, AllocError> {
     let mut texts = Vec::new(alloc);
     for node in nodes {
-        let text = match node {
-            Node::True => String::from_str(alloc, "true")?,
-            Node::False => String::from_str(alloc, "false")?,
-            Node::Eq(s, t) => {
-                format!(in alloc; "{} = {}", text_of_term(alloc, s)?, text_of_term(alloc, t)?)?
-            }
-            Node::Ne(s, t) => {
-                format!(in alloc;
-                    "{} <> {}",
-                    text_of_term(alloc, s)?,
-                    text_of_term(alloc, t)?
-                )?
-            }
-            Node::And(children) => {
-                text_of_children(alloc, nodes, texts.as_slice(), children.as_slice(), " and ")?
-            }
-            Node::Or(children) => {
-                text_of_children(alloc, nodes, texts.as_slice(), children.as_slice(), " or ")?
-            }
-        };
+        let text = text_of(alloc, nodes, texts.as_slice(), node)?;
         texts.push(text)?;
     }
     Ok(texts)
 }
 
 /// The printed form of conditions of the first log.
-fn rules(alloc: Global, roots: &[u32]) -> Result<Normal, Memory>
-    requires { IsTrue (list_all (is_place_of RULES class.Cond) roots.now) }
-{
-    normal(alloc, &RULES, roots)
+fn rules(alloc: Global, roots: &[u32]) -> Result<Normal, Fail> {
+    let log = log_of(alloc, &RULES)?;
+    printed(alloc, log.as_slice(), roots)
 }
 
-#[test]
-fn each_rule_gives_its_form(rt: HostRuntime) -> Result<(), Fail> {
-    let form = rules(rt.alloc(), &ROOTS)?;
-    let texts = texts_of(rt.alloc(), form.nodes.as_slice())?;
-    for (root, expected) in form.roots.as_slice().iter().zip(TEXTS.iter()) {
-        let text = texts.get(*root as usize).ok_or("no node")?;
+/// The node at each of these positions has its text.
+fn have_texts(
+    rt: &impl Abort,
+    texts: &[String],
+    positions: &[u32],
+    expected: &[&str],
+) -> Result<(), Fail> {
+    for (position, expected) in positions.iter().zip(expected.iter()) {
+        let text = texts.get(*position as usize).ok_or("no node")?;
         assert_eq!(rt; text.as_str(), *expected);
     }
     Ok(())
 }
 
 #[test]
-fn only_nodes_of_the_roots_are_kept(rt: HostRuntime) -> Result<(), Fail> {
-    let form = rules(rt.alloc(), &[37])?;
+fn each_rule_gives_its_form(rt: HostRuntime) -> Result<(), Fail> {
+    let form = rules(rt.alloc(), &ROOTS)?;
+    let texts = texts_of(rt.alloc(), form.nodes.as_slice())?;
+    have_texts(&rt, texts.as_slice(), form.roots.as_slice(), &TEXTS)
+}
+
+/// A root that leads to five nodes, and one that is settled.
+fn keep_nodes(rt: &impl Abort, alloc: Global) -> Result<(), Fail> {
+    let form = rules(alloc, &[37])?;
     assert_eq!(rt; form.nodes.len(), 5);
     assert_eq!(rt; form.roots.as_slice(), [4].as_slice());
-    let settled = rules(rt.alloc(), &[58])?;
-    assert_eq!(rt; settled.nodes.len(), 1);
+    assert_eq!(rt; rules(alloc, &[58])?.nodes.len(), 1);
     Ok(())
+}
+
+#[test]
+fn only_nodes_of_the_roots_are_kept(rt: HostRuntime) -> Result<(), Fail> {
+    keep_nodes(&rt, rt.alloc())
 }
 
 /// The children of the node at a position.
@@ -670,53 +496,72 @@ fn children_at(form: &Normal, position: u32) -> &[u32] {
     }
 }
 
-/// The printed form of conditions of the log with many equalities.
-fn wide(alloc: Global, roots: &[u32]) -> Result<Normal, Memory>
-    requires { IsTrue (list_all (is_place_of WIDE class.Cond) roots.now) }
-{
-    normal(alloc, &WIDE, roots)
+/// How many children each root of a form has.
+fn widths(alloc: Global, form: &Normal) -> Result<Vec<usize>, AllocError> {
+    let mut counts = Vec::new(alloc);
+    for root in form.roots.as_slice() {
+        counts.push(children_at(form, *root).len())?;
+    }
+    Ok(counts)
 }
 
 // The children of two forms are counted before equal ones are kept once.
 #[test]
 fn at_most_64_children_are_merged(rt: HostRuntime) -> Result<(), Fail> {
-    let form = wide(rt.alloc(), &[141, 142, 143, 145])?;
-    let mut counts = Vec::new(rt.alloc());
-    for root in form.roots.as_slice() {
-        counts.push(children_at(&form, *root).len())?;
-    }
+    let words = wide(rt.alloc())?;
+    let form = printed(rt.alloc(), words.as_slice(), &[141, 142, 143, 145])?;
+    let counts = widths(rt.alloc(), &form)?;
     assert_eq!(rt; counts.as_slice(), [64, 2, 2, 2].as_slice());
     Ok(())
 }
 
+/// How many nodes the Or of the equalities before a place has, or where there is no Or the last equality.
+fn nodes_of_or(alloc: Global, end: u32, root: u32) -> Result<usize, Fail> {
+    let mut words = equalities(alloc)?;
+    add_or(&mut words, end)?;
+    Ok(printed(alloc, words.as_slice(), &[root])?.nodes.len())
+}
+
 #[test]
 fn equalities_are_one_or(rt: HostRuntime) -> Result<(), Fail> {
-    let one = normal(rt.alloc(), &WIDE[..79], &[78])?;
-    let half = normal(rt.alloc(), &WIDE[..110], &[109])?;
-    let whole = normal(rt.alloc(), &WIDE[..142], &[141])?;
-    let counts = [one.nodes.len(), half.nodes.len(), whole.nodes.len()];
-    assert_eq!(rt; counts, [1, 33, 65]);
+    let one = nodes_of_or(rt.alloc(), 15, 78)?;
+    let half = nodes_of_or(rt.alloc(), 46, 109)?;
+    let whole = nodes_of_or(rt.alloc(), 78, 141)?;
+    assert_eq!(rt; [one, half, whole], [1, 33, 65]);
     Ok(())
+}
+
+/// Whether of five roots the fourth is the second and the first, and the fifth the third and the first.
+fn have_and_before_or(form: &Normal) -> bool {
+    match form.roots.as_slice() {
+        [or, first, last, one, other] => {
+            children_at(form, *one) == [*first, *or].as_slice()
+                && children_at(form, *other) == [*last, *or].as_slice()
+        }
+        _ => false,
+    }
 }
 
 #[test]
 fn an_and_stands_before_an_or(rt: HostRuntime) -> Result<(), Fail> {
-    let form = wide(rt.alloc(), &[141, 144, 146, 145, 147])?;
-    let [or, first, last, one, other] = form.roots.as_slice() else {
-        return Err("other roots".into());
-    };
-    assert_eq!(rt; children_at(&form, *one), [*first, *or].as_slice());
-    assert_eq!(rt; children_at(&form, *other), [*last, *or].as_slice());
+    let words = wide(rt.alloc())?;
+    let form = printed(rt.alloc(), words.as_slice(), &[141, 144, 146, 145, 147])?;
+    assert!(rt; have_and_before_or(&form));
     Ok(())
+}
+
+/// How many nodes the last condition of a tower has.
+fn nodes_of_tower(alloc: Global, levels: u32) -> Result<usize, Fail> {
+    let (words, root) = tower(alloc, levels)?;
+    Ok(printed(alloc, words.as_slice(), &[root])?.nodes.len())
 }
 
 // Each level has three nodes; written out, 60 levels have 2^60 times `?z = 1`.
 #[test]
 fn shared_conditions_are_not_unfolded(rt: HostRuntime) -> Result<(), Fail> {
-    let low = normal(rt.alloc(), &TOWER[..59], &[58])?;
-    let half = normal(rt.alloc(), &TOWER[..104], &[103])?;
-    let whole = normal(rt.alloc(), &TOWER, &[193])?;
-    let counts = [low.nodes.len(), half.nodes.len(), whole.nodes.len()];
-    assert_eq!(rt; counts, [48, 93, 183]);
+    let low = nodes_of_tower(rt.alloc(), 15)?;
+    let half = nodes_of_tower(rt.alloc(), 30)?;
+    let whole = nodes_of_tower(rt.alloc(), 60)?;
+    assert_eq!(rt; [low, half, whole], [48, 93, 183]);
     Ok(())
 }

@@ -6,4 +6,6 @@ mod capacities;
 #[cfg(test)]
 mod fills;
 #[cfg(test)]
+mod memory;
+#[cfg(test)]
 mod runs;

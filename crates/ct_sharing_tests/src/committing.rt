@@ -4,11 +4,12 @@ ghost use Rattle.std.specs.Prelude.{◌≡◌, None, [], IfOk, vec_len};
 
 use crate::checks::no_word_twice;
 use crate::puts::commit;
-use crate::threads::{Did, Job, Words, Worker, end_all, enrol_all, has_all, made};
+use crate::threads::{Did, Job, Words, Worker, end_all, enrol_all, have_own, made};
 use ct_arena::{Arena, Blank, KeeperPass, Pass, Site};
 use ct_word::List;
-use std::alloc::Global;
+use std::alloc::{AllocError, Global};
 use std::marker::Brand;
+use std::process::Abort;
 use std::test::Fail;
 use std::thread;
 use std::thread::Threads;
@@ -69,6 +70,19 @@ fn seats_of<N: Site>(
     Ok(seats)
 }
 
+/// Puts who sat in a seat with the keeper or with the sessions.
+fn leave<N: Site>(
+    seat: Seat<N>,
+    office: &mut Option<Office<N>>,
+    workers: &mut Vec<Worker<N>>,
+) -> Result<(), AllocError> {
+    match seat {
+        Seat::Session(worker) => workers.push(worker)?,
+        Seat::Keeper(keeper) => *office = Some(keeper),
+    }
+    Ok(())
+}
+
 /// The keeper and the sessions, from their seats.
 fn left<N: Site>(
     alloc: Global,
@@ -77,10 +91,7 @@ fn left<N: Site>(
     let mut office = None;
     let mut workers = Vec::new(alloc);
     for seat in seats {
-        match seat {
-            Seat::Session(worker) => workers.push(worker)?,
-            Seat::Keeper(keeper) => office = Some(keeper),
-        }
+        leave(seat, &mut office, &mut workers)?;
     }
     Ok((office, workers))
 }
@@ -137,26 +148,38 @@ fn place_of(words: &[u64], w: u64) -> Option<usize> {
     words.iter().position(|x| *x == w)
 }
 
-#[test]
-fn threads_intern_beside_commits(rt: HostRuntime) -> Result<(), Fail> {
-    let blank = Blank::make(rt.alloc(), 8192)?;
-    let job = Job {
-        count: 2000,
-        words: Words::Own,
-    };
-    let (did, fourth, words) = beside_commits::<Brand>(&rt, rt.alloc(), blank, &job)?;
-    let words = words.as_slice();
-    assert_eq!(rt; words.len(), 6203);
-    no_word_twice(&rt, rt.alloc(), words)?;
-    assert_eq!(rt; [made(&did), fourth as u64], [6000, 201]);
-    for each in &did {
-        let first = 0x03_0000000_0000000 ^ ((each.session as u64 & 0xffff) << 28);
-        has_all(&rt, words, each, first);
-    }
+/// The log has each commit of session 4.
+fn has_commits(rt: &impl Abort, words: &[u64]) {
     let changes = place_of(words, 0x1b_0000000_0000000);
     for n in 0..COMMITS {
         let w = commit_word(n, changes.unwrap_or(0) as u64);
         assert!(rt; place_of(words, w).is_some());
     }
+}
+
+/// Three sessions intern 2,000 words each, and the fourth makes its commits and their change list.
+fn intern_beside_commits<N: Site + Send + Sync>(
+    rt: &(impl Threads + Abort + Sync),
+    alloc: Global,
+    blank: Blank,
+) -> Result<(), Fail>
+    requires { blank ≡ N.log }
+{
+    let job = Job {
+        count: 2000,
+        words: Words::Own,
+    };
+    let (did, fourth, words) = beside_commits::<N>(rt, alloc, blank, &job)?;
+    assert_eq!(rt; words.as_slice().len(), 6203);
+    no_word_twice(rt, alloc, words.as_slice())?;
+    assert_eq!(rt; [made(&did), fourth as u64], [6000, 201]);
+    have_own(rt, words.as_slice(), &did);
+    has_commits(rt, words.as_slice());
     Ok(())
+}
+
+#[test]
+fn threads_intern_beside_commits(rt: HostRuntime) -> Result<(), Fail> {
+    let blank = Blank::make(rt.alloc(), 8192)?;
+    intern_beside_commits::<Brand>(&rt, rt.alloc(), blank)
 }

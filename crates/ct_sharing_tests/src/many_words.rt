@@ -3,13 +3,21 @@
 ghost use Rattle.std.specs.Prelude.{◌≡◌, ◌<◌, None};
 
 use crate::puts::{commit, put};
-use crate::threads::{Job, Words, by_threads, made};
+use crate::threads::{Job, Words, made, run_job};
 use ct_arena::{Arena, Blank, KeeperPass, Pass, Site};
 use ct_word::Kind;
 use std::alloc::Global;
 use std::marker::Brand;
 use std::process::Abort;
 use std::test::Fail;
+use std::thread::Threads;
+
+/// Whether the log has the word of a part of a number, or room for it.
+fn takes<N: Site>(arena: &Arena<N>, pass: &mut Pass<N>, part: u32) -> bool
+    requires { part < 3000000 }
+{
+    put(arena, pass, Kind::NumberHigh, 0, part).is_ok()
+}
 
 /// Interns the parts of numbers from one on, so many, and answers for how many there was room.
 #[inline(never)]
@@ -18,7 +26,7 @@ fn intern_from<N: Site>(arena: &Arena<N>, pass: &mut Pass<N>, from: u32, count: 
     requires count { count < 1000000 }
 {
     for k in 0..count {
-        if put(arena, pass, Kind::NumberHigh, 0, from + k).is_err() {
+        if !takes(arena, pass, from + k) {
             return k;
         }
     }
@@ -97,50 +105,53 @@ fn commits_after_others(rt: HostRuntime) -> Result<(), Fail> {
     Ok(())
 }
 
+/// So many sessions make 400,000 words as they do a job on threads of their own.
+fn make_all(
+    rt: &(impl Threads + Abort + Sync),
+    alloc: Global,
+    count: u32,
+    job: &Job,
+) -> Result<(), Fail>
+    requires some { 0 < count }
+    requires few { count < 5 }
+{
+    let (did, _) = run_job(rt, alloc, 400_002, count, job)?;
+    assert_eq!(rt; made(&did), 400_000);
+    Ok(())
+}
+
 #[test]
 fn one_thread(rt: HostRuntime) -> Result<(), Fail> {
-    let blank = Blank::make(rt.alloc(), 400_002)?;
     let job = Job {
         count: 400_000,
         words: Words::Own,
     };
-    let (did, _) = by_threads::<Brand>(&rt, rt.alloc(), blank, 1, &job)?;
-    assert_eq!(rt; made(&did), 400_000);
-    Ok(())
+    make_all(&rt, rt.alloc(), 1, &job)
 }
 
 #[test]
 fn two_threads(rt: HostRuntime) -> Result<(), Fail> {
-    let blank = Blank::make(rt.alloc(), 400_002)?;
     let job = Job {
         count: 200_000,
         words: Words::Own,
     };
-    let (did, _) = by_threads::<Brand>(&rt, rt.alloc(), blank, 2, &job)?;
-    assert_eq!(rt; made(&did), 400_000);
-    Ok(())
+    make_all(&rt, rt.alloc(), 2, &job)
 }
 
 #[test]
 fn four_threads(rt: HostRuntime) -> Result<(), Fail> {
-    let blank = Blank::make(rt.alloc(), 400_002)?;
     let job = Job {
         count: 100_000,
         words: Words::Own,
     };
-    let (did, _) = by_threads::<Brand>(&rt, rt.alloc(), blank, 4, &job)?;
-    assert_eq!(rt; made(&did), 400_000);
-    Ok(())
+    make_all(&rt, rt.alloc(), 4, &job)
 }
 
 #[test]
 fn four_threads_same(rt: HostRuntime) -> Result<(), Fail> {
-    let blank = Blank::make(rt.alloc(), 400_002)?;
     let job = Job {
         count: 400_000,
         words: Words::Same,
     };
-    let (did, _) = by_threads::<Brand>(&rt, rt.alloc(), blank, 4, &job)?;
-    assert_eq!(rt; made(&did), 400_000);
-    Ok(())
+    make_all(&rt, rt.alloc(), 4, &job)
 }

@@ -1,6 +1,8 @@
 // Sessions that intern on threads of their own.
 
-ghost use Rattle.std.specs.Prelude.{◌≡◌, ◌<◌, ◌≤◌, ◌+◌, ◌^◌, None, IfOk, OnOk, length, vec_len};
+ghost use Rattle.std.specs.Prelude.{◌≡◌, ◌<◌, ◌≤◌, ◌+◌, ◌^◌, None, IfOk, OnOk, IsTrue, length, vec_len};
+ghost use Rattle.ct_word.specs.declared.kinds.Class.TheVariants as class;
+ghost use Rattle.ct_word.specs.WellFormed.{is_place_of};
 
 use crate::checks::{no_word_twice, stands};
 use crate::puts::put;
@@ -87,14 +89,23 @@ impl<N: Site> Worker<N> {
         }
     }
 
+    /// Interns the n-th character on the end of a text, which stays at its place.
+    fn intern_character(&mut self, arena: &Arena<N>, end: u32, n: u32) -> Result<(), Full>
+        requires place { IsTrue (is_place_of self.old.pass.words class.Text end) }
+        requires small { end < 2 ^ 28 }
+        ensures { IsTrue (is_place_of self.new.pass.words class.Text end) }
+    {
+        let place = put(arena, &mut self.pass, Kind::TextCharacter, end, n % 128)?;
+        keep(&mut self.places, n, place);
+        Ok(())
+    }
+
     /// Interns the end of a text, and then so many characters on it, each in its turn.
     fn intern_text(&mut self, arena: &Arena<N>, job: &Job) -> Result<(), Full> {
         let session = self.pass.session();
         let end = put(arena, &mut self.pass, Kind::TextEnd, 0, 0)?;
         for k in 0..job.count {
-            let n = turn(session, k, job.count);
-            let place = put(arena, &mut self.pass, Kind::TextCharacter, end, n % 128)?;
-            keep(&mut self.places, n, place);
+            self.intern_character(arena, end, turn(session, k, job.count))?;
         }
         Ok(())
     }
@@ -203,7 +214,7 @@ fn run_all<N: Site + Send + Sync>(
 }
 
 /// So many sessions do a job on threads of their own. Answers what each did, and the log.
-pub fn by_threads<N: Site + Send + Sync>(
+fn by_threads<N: Site + Send + Sync>(
     rt: &(impl Threads + Sync),
     alloc: Global,
     blank: Blank,
@@ -221,6 +232,23 @@ pub fn by_threads<N: Site + Send + Sync>(
     Ok((did, keeper.finish(arena).into_words()))
 }
 
+/// The same on a log of this capacity. Nothing is said of the answer, which keeps the tests short to prove.
+pub fn run_job(
+    rt: &(impl Threads + Sync),
+    alloc: Global,
+    cap: u32,
+    count: u32,
+    job: &Job,
+) -> Result<(Vec<Did>, List<u64>), Fail>
+    requires least { 64 ≤ cap }
+    requires most { cap ≤ 4194304 }
+    requires some { 0 < count }
+    requires few { count < 5 }
+{
+    let blank = Blank::make(alloc, cap)?;
+    by_threads::<Brand>(rt, alloc, blank, count, job)
+}
+
 /// The sum of the words that sessions made.
 pub fn made(did: &[Did]) -> u64 {
     let mut sum = 0u64;
@@ -230,8 +258,28 @@ pub fn made(did: &[Did]) -> u64 {
     sum
 }
 
+/// Whether each session made so many words.
+fn have_made(did: &[Did], count: u32) -> bool {
+    for each in did {
+        if each.made != count {
+            return false;
+        }
+    }
+    true
+}
+
+/// Whether each session had seen so many words as it was told that the log is full.
+fn have_filled(did: &[Did], count: usize) -> bool {
+    for each in did {
+        if each.full_at != count {
+            return false;
+        }
+    }
+    true
+}
+
 /// Each word of a session stands in the log, at the place that it was answered.
-pub fn has_all(rt: &impl Abort, words: &[u64], did: &Did, first: u64) {
+fn has_all(rt: &impl Abort, words: &[u64], did: &Did, first: u64) {
     let mut w = first;
     for place in &did.places {
         assert!(rt; stands(words, *place, w));
@@ -239,74 +287,99 @@ pub fn has_all(rt: &impl Abort, words: &[u64], did: &Did, first: u64) {
     }
 }
 
-#[test]
-fn threads_intern_the_same_text(rt: HostRuntime) -> Result<(), Fail> {
-    let blank = Blank::make(rt.alloc(), 64)?;
+/// The sessions have the same words, of which this is the first.
+fn have_same(rt: &impl Abort, words: &[u64], did: &[Did], first: u64) {
+    for each in did {
+        has_all(rt, words, each, first);
+    }
+}
+
+/// Each session has words of its own.
+pub fn have_own(rt: &impl Abort, words: &[u64], did: &[Did]) {
+    for each in did {
+        let first = 0x03_0000000_0000000 ^ ((each.session as u64 & 0xffff) << 28);
+        has_all(rt, words, each, first);
+    }
+}
+
+/// Four sessions do a job on a log of this capacity, which has so many words in the end. Answers what each did, and the log.
+fn run_four(
+    rt: &(impl Threads + Abort + Sync),
+    alloc: Global,
+    cap: u32,
+    job: &Job,
+    count: usize,
+) -> Result<(Vec<Did>, List<u64>), Fail>
+    requires least { 64 ≤ cap }
+    requires most { cap ≤ 4194304 }
+{
+    let (did, words) = run_job(rt, alloc, cap, 4, job)?;
+    assert_eq!(rt; words.as_slice().len(), count);
+    no_word_twice(rt, alloc, words.as_slice())?;
+    assert_eq!(rt; made(&did), (count as u64).saturating_sub(2));
+    Ok((did, words))
+}
+
+/// The end of a text and 39 characters on it, after true and false.
+fn intern_a_text(rt: &(impl Threads + Abort + Sync), alloc: Global) -> Result<(), Fail> {
     let job = Job {
         count: 39,
         words: Words::Text,
     };
-    let (did, words) = by_threads::<Brand>(&rt, rt.alloc(), blank, 4, &job)?;
-    assert_eq!(rt; words.as_slice().len(), 42);
+    let (did, words) = run_four(rt, alloc, 64, &job, 42)?;
     assert!(rt; stands(words.as_slice(), 2, 0x01_0000000_0000000));
-    no_word_twice(&rt, rt.alloc(), words.as_slice())?;
-    assert_eq!(rt; made(&did), 40);
-    for each in &did {
-        has_all(&rt, words.as_slice(), each, 0x02_0000002_0000000);
-    }
+    have_same(rt, words.as_slice(), &did, 0x02_0000002_0000000);
+    Ok(())
+}
+
+#[test]
+fn threads_intern_the_same_text(rt: HostRuntime) -> Result<(), Fail> {
+    intern_a_text(&rt, rt.alloc())
+}
+
+fn intern_the_same_words(rt: &(impl Threads + Abort + Sync), alloc: Global) -> Result<(), Fail> {
+    let job = Job {
+        count: 2000,
+        words: Words::Same,
+    };
+    let (did, words) = run_four(rt, alloc, 4000, &job, 2002)?;
+    have_same(rt, words.as_slice(), &did, 0x03_0000000_0000000);
     Ok(())
 }
 
 #[test]
 fn threads_intern_the_same_words(rt: HostRuntime) -> Result<(), Fail> {
-    let blank = Blank::make(rt.alloc(), 4000)?;
+    intern_the_same_words(&rt, rt.alloc())
+}
+
+fn intern_own_words(rt: &(impl Threads + Abort + Sync), alloc: Global) -> Result<(), Fail> {
     let job = Job {
         count: 2000,
-        words: Words::Same,
+        words: Words::Own,
     };
-    let (did, words) = by_threads::<Brand>(&rt, rt.alloc(), blank, 4, &job)?;
-    assert_eq!(rt; words.as_slice().len(), 2002);
-    no_word_twice(&rt, rt.alloc(), words.as_slice())?;
-    assert_eq!(rt; made(&did), 2000);
-    for each in &did {
-        has_all(&rt, words.as_slice(), each, 0x03_0000000_0000000);
-    }
+    let (did, words) = run_four(rt, alloc, 8192, &job, 8002)?;
+    assert!(rt; have_made(&did, 2000));
+    have_own(rt, words.as_slice(), &did);
     Ok(())
 }
 
 #[test]
 fn threads_intern_their_own_words(rt: HostRuntime) -> Result<(), Fail> {
-    let blank = Blank::make(rt.alloc(), 8192)?;
+    intern_own_words(&rt, rt.alloc())
+}
+
+/// Each session is told that the log is full, and none before it is.
+fn fill_a_log(rt: &(impl Threads + Abort + Sync), alloc: Global) -> Result<(), Fail> {
     let job = Job {
-        count: 2000,
+        count: 100,
         words: Words::Own,
     };
-    let (did, words) = by_threads::<Brand>(&rt, rt.alloc(), blank, 4, &job)?;
-    assert_eq!(rt; words.as_slice().len(), 8002);
-    no_word_twice(&rt, rt.alloc(), words.as_slice())?;
-    assert_eq!(rt; made(&did), 8000);
-    for each in &did {
-        assert_eq!(rt; each.made, 2000);
-        let first = 0x03_0000000_0000000 ^ ((each.session as u64 & 0xffff) << 28);
-        has_all(&rt, words.as_slice(), each, first);
-    }
+    let (did, _) = run_four(rt, alloc, 64, &job, 64)?;
+    assert!(rt; have_filled(&did, 64));
     Ok(())
 }
 
 #[test]
 fn threads_fill_a_log(rt: HostRuntime) -> Result<(), Fail> {
-    let blank = Blank::make(rt.alloc(), 64)?;
-    let job = Job {
-        count: 100,
-        words: Words::Own,
-    };
-    let (did, words) = by_threads::<Brand>(&rt, rt.alloc(), blank, 4, &job)?;
-    assert_eq!(rt; words.as_slice().len(), 64);
-    no_word_twice(&rt, rt.alloc(), words.as_slice())?;
-    assert_eq!(rt; made(&did), 62);
-    // Each was told that the log is full, and none before it was.
-    for each in &did {
-        assert_eq!(rt; each.full_at, 64);
-    }
-    Ok(())
+    fill_a_log(&rt, rt.alloc())
 }

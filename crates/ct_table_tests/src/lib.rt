@@ -1,5 +1,9 @@
-//! Tests of conditional tables: what the program has no statement for yet.
+//! Tests of conditional tables: a deletion, possible rows and certain tuples, and the proofs that come with certain ones.
 #![tactic(auto)]
 
 #[cfg(test)]
-mod table;
+mod deletion;
+#[cfg(test)]
+mod listing;
+#[cfg(test)]
+mod tables;
