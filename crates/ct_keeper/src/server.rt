@@ -19,6 +19,7 @@ use crate::catalogue::{Offer, Outcome, Snapshot};
 use crate::error::KeeperError;
 use crate::keeper::Keeper;
 use crate::verdict::outcome_of;
+use crossbeam_utils::CachePadded;
 use ct_arena::{Arena, Blank, Log, Pass, Site};
 use ct_history::changes_at;
 use ct_word::Memory;
@@ -32,10 +33,13 @@ const LOOKS: u32 = 1_000;
 
 /// The log that N names, and its keeper behind a lock. Whoever takes the lock finds a keeper whose type holds, and nothing
 /// else is known there.
+///
+/// The lock stands on a cache line of its own: those that look for it take that line from one another, while all sessions
+/// read where the log is, and the one that has the lock changes the keeper.
 #[derive(Drop)]
 pub struct Server<N: Site> {
     arena: Arena<N>,
-    keeper: Mutex<Keeper<N>>,
+    keeper: CachePadded<Mutex<CachePadded<Keeper<N>>>>,
 }
 
 impl<N: Site> Server<N> {
@@ -61,7 +65,7 @@ impl<N: Site> Server<N> {
             passes.push_reserved(pass);
         }
         let keeper = Keeper::make(alloc, keeper)?;
-        let keeper = Mutex::new(keeper);
+        let keeper = CachePadded::new(Mutex::new(CachePadded::new(keeper)));
         Ok((Server { arena, keeper }, passes))
     }
 
@@ -72,7 +76,7 @@ impl<N: Site> Server<N> {
 
     /// The keeper, once the lock is free. The pass reads on before it asks for the lock, and while others hold it, so that
     /// little is left to be read once the session has it.
-    fn locked<R: Wait>(&self, rt: &R, pass: &mut Pass<N>) -> MutexGuard<'_, Keeper<N>>
+    fn locked<R: Wait>(&self, rt: &R, pass: &mut Pass<N>) -> MutexGuard<'_, CachePadded<Keeper<N>>>
         ensures longer { IsPrefix pass.old.words pass.new.words }
         ensures formed { IsWellFormed pass.new.words }
         ensures session { pass.new.session ≡ pass.old.session }
@@ -158,7 +162,7 @@ impl<N: Site> Server<N> {
         ensures admitted { (v : World) × IsTrue (admits v (commits_of result) []) }
     {
         let Server { arena, keeper } = self;
-        let mut keeper = keeper.into_inner().into_pass();
+        let mut keeper = keeper.into_inner().into_inner().into_inner().into_pass();
         for pass in passes {
             keeper.end(&arena, pass);
         }

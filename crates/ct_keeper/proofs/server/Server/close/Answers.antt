@@ -61,5 +61,5 @@ returns-clause-known g c = subst (λ n. AreOfSessions n c.finish.result) c.loop-
 
 pub returns-clause-admitted : goal.returns-clause-admitted
 returns-clause-admitted g c =
-    let kept = c.into_inner.result.kept in
+    let kept = c.into_inner-3.result.kept in
     (kept, subst (λ h. IsTrue (admits kept h [])) (sym (c.finish.ensures.commits ∙ c.loop-pass.invariant.commits)) c.into_pass-keeper.ensures.admitted)
