@@ -147,6 +147,11 @@ pub fn exchange(words: &Words, token: &mut Token, place: usize, w: u64) -> u64
     ensures table { token.new.table_id ≡ token.old.table_id }
     ensures put { IsPut token.old.me.0 w result token.new.me }
 {
+    // Words that others put are loaded, since an exchange takes the line from the threads that read it.
+    let found = read(words, token, place);
+    if found != 0 {
+        return found;
+    }
     words.shared.compare_exchange::<Puts>(token, place, 0, w)
 }
 
