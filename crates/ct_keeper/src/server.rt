@@ -95,7 +95,7 @@ impl<N: Site> Server<N> {
     }
 
     /// A snapshot of all commits, for the session of this pass, which then has the words of all of them. It waits for the
-    /// lock. What others appended is read before the lock is asked for.
+    /// lock. What others appended is read before the lock is asked for, and while they hold it.
     ///
     /// # Errors
     /// `Memory` where there is none to share the tables.
@@ -113,8 +113,9 @@ impl<N: Site> Server<N> {
         keeper.begin(alloc, &self.arena, pass)
     }
 
-    /// Commits an offer of the session of this pass. It waits for the lock. What others appended and the list of changes are
-    /// read before the lock is asked for, and a conflict's last writer at the base is looked for once it is free again.
+    /// Commits an offer of the session of this pass. It waits for the lock. The list of changes is read before the lock is
+    /// asked for. What others appended is read then too, and while they hold the lock. A conflict's last writer at the base
+    /// is looked for once the lock is free again.
     ///
     /// The outcome is `Nothing` exactly where the offer has no changes; `Conflict` exactly where it has some, and a commit
     /// after its base has changed what it read; else `Committed`: it is then the last commit of the pass's words.

@@ -28,7 +28,7 @@ use Rattle.ct_operators.proofs.Firsts.{firsts_distinct, part_of_firsts}
 use Rattle.ct_operators.proofs.Reaching.{rows_itself}
 use Rattle.ct_operators.proofs.Selecting.{value-append}
 use Rattle.ct_operators.specs.Merging.{rows_of, Merged, Gathers, is_possible}
-use Rattle.ct_table.specs.Growing.{find, put, put_each, grown, entries_of, Apart, Fits, Joins, alone, with_first}
+use Rattle.ct_table.specs.Growing.{find, put, put_each, grown, entries_of, Apart, Fits, Joins, alone, with_first, AreInserted}
 use Rattle.ct_operators.proofs.Merges.{entry_merged, entry_put, kept_rows, kept_values, kept_order, kept_from}
 use Rattle.ct_table.proofs.Putting.{find_hit, find_miss, none_some, find_among, find_after, put_more, fits_more, kept_of, keep, isnt, rows_grown}
 
@@ -111,26 +111,29 @@ module _ (old now : List ℕ) (width : ℕ) (es ps : List (List ℕ × ℕ)) (mo
   left : filter is_possible (rows_of (put_each es ps)) ≡ rows_of (grown es ps)
   left = rows_grown ps es a fits (all_kept es all)
 
-  pub grown_rows : AreRows now width (rows_of (grown es ps))
+  grown_rows : AreRows now width (rows_of (grown es ps))
   grown_rows = subst (AreRows now width) left (kept_rows old now width (rows_of es ++ more) (rows_of (put_each es ps)) begins wf s)
 
-  pub grown_values : (v : World) → SameSet (value_of_rows now v (rows_of (grown es ps))) (value_of_rows old v (rows_of es) ++ value_of_rows old v more)
+  grown_values : (v : World) → SameSet (value_of_rows now v (rows_of (grown es ps))) (value_of_rows old v (rows_of es) ++ value_of_rows old v more)
   grown_values v =
       subst (λ l. SameSet (value_of_rows now v l) (value_of_rows old v (rows_of es) ++ value_of_rows old v more)) left
       (subst (SameSet (value_of_rows now v (filter is_possible (rows_of (put_each es ps))))) (value-append old v (rows_of es) more)
       (kept_values old now width (rows_of es ++ more) (rows_of (put_each es ps)) begins wf s v))
 
-  pub grown_order : IsSublist (cells_of now (rows_of (grown es ps))) (firsts same_cells (cells_of old (rows_of es) ++ cells_of old more))
+  grown_order : IsSublist (cells_of now (rows_of (grown es ps))) (firsts same_cells (cells_of old (rows_of es) ++ cells_of old more))
   grown_order =
       subst (λ l. IsSublist (cells_of now l) (firsts same_cells (cells_of old (rows_of es) ++ cells_of old more))) left
       (subst (λ l. IsSublist (cells_of now (filter is_possible (rows_of (put_each es ps)))) (firsts same_cells l)) (map-append (λ (r : CRow). map (term_at old) r.cells) (rows_of es) more)
       (kept_order old now width (rows_of es ++ more) (rows_of (put_each es ps)) begins wf s))
 
-  pub grown_part : IsSublist (cells_of now (rows_of (grown es ps))) (cells_of old (rows_of es) ++ cells_of old more)
+  grown_part : IsSublist (cells_of now (rows_of (grown es ps))) (cells_of old (rows_of es) ++ cells_of old more)
   grown_part = part_of_firsts same_cells _ _ grown_order
 
-  pub grown_from : RowsFrom now (rows_of (grown es ps)) (TermOfRows old (rows_of es ++ more))
+  grown_from : RowsFrom now (rows_of (grown es ps)) (TermOfRows old (rows_of es ++ more))
   grown_from = subst (λ l. RowsFrom now l (TermOfRows old (rows_of es ++ more))) left (kept_from old now width (rows_of es ++ more) (rows_of (put_each es ps)) begins wf s)
+
+  pub grown_inserted : AreInserted old now width (rows_of es) more (rows_of (grown es ps))
+  grown_inserted = record { are = grown_rows; tuples = grown_values; order = grown_order; part = grown_part; terms = grown_from }
 
 -- the rows of a table differ in their cells
 pub rows_apart : (ws : List ℕ) (rows : List CRow) → IsDistinct same_cells (cells_of ws rows) → Apart (entries_of rows)

@@ -1,10 +1,15 @@
 -- Rows of a table that get conditions at their cells.
-use Rattle.std.specs.Prelude.{◌≡◌, ◌≢◌, ℕ, nat_eq, List, [], ◌∷◌, map, None, Some, if◌then◌else◌}
+use Rattle.std.specs.Prelude.{◌≡◌, ◌≢◌, ℕ, nat_eq, List, [], ◌∷◌, ◌++◌, map, None, Some, if◌then◌else◌}
 use Rattle.ct_word.specs.declared.values.CRow.{CRow}
+use Rattle.ct_word.specs.Sublist.{IsSublist}
+use Rattle.ct_word.specs.Value.{World, same_cells}
+use Rattle.ct_query.specs.Database.{SameSet}
 use Rattle.ct_condition.specs.Truth.{HasTruth, or_at}
 use Rattle.ct_condition.specs.Terms.{TermsFrom, BelowEither}
 use Rattle.ct_operators.specs.declared.table.CTable.{CTable}
-use Rattle.ct_operators.specs.Merging.{rows_of}
+use Rattle.ct_operators.specs.Merging.{rows_of, Gathers}
+use Rattle.ct_operators.specs.Tables.{AreRows, value_of_rows, cells_of, firsts}
+use Rattle.ct_operators.specs.Terms.{TermOfRows, RowsFrom}
 pub use Rattle.ct_rows.specs.Entries.{find, put}
 
 -- rows with each of these conditions at its cells
@@ -39,6 +44,20 @@ pub data Joins (old new : List ℕ) (es : List (List ℕ × ℕ)) (r : CRow) (co
   alone : find r.cells es ≡ None → cond ≡ r.cond → Joins old new es r cond
   with_first : (first : ℕ) → find r.cells es ≡ Some first → HasTruth new cond (or_at old first r.cond) → TermsFrom new cond (BelowEither old first r.cond)
       → (first ≢ 1 → cond ≢ 1) → Joins old new es r cond
+
+-- these conditions, put at their cells in a table, gather the rows that it is to get
+pub record AreGathered (old new : List ℕ) (width : ℕ) (es : List (List ℕ × ℕ)) (rows : List CRow) (ps : List (List ℕ × ℕ)) : Type 0 where
+  pub gathers : Gathers old new width (rows_of es ++ rows) (rows_of (put_each es ps))
+  pub apart : Apart ps
+  pub fits : Fits es ps
+
+-- rows and further ones, rows of the same cells being one: where they first stood
+pub record AreInserted (old new : List ℕ) (width : ℕ) (rows more after : List CRow) : Type 0 where
+  pub are : AreRows new width after
+  pub tuples : (v : World) → SameSet (value_of_rows new v after) (value_of_rows old v rows ++ value_of_rows old v more)
+  pub order : IsSublist (cells_of new after) (firsts same_cells (cells_of old rows ++ cells_of old more))
+  pub part : IsSublist (cells_of new after) (cells_of old rows ++ cells_of old more)
+  pub terms : RowsFrom new after (TermOfRows old (rows ++ more))
 
 -- a table whose rows stand in a map from their cells to their conditions
 pub record Keyed : Type 0 where

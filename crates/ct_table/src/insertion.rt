@@ -1,14 +1,10 @@
 // Insertion of rows into a table of a database.
 
-ghost use Rattle.std.specs.Prelude.{◌≡◌, ◌++◌, length, All, IfOk};
-ghost use Rattle.ct_word.specs.Value.{World, same_cells};
-ghost use Rattle.ct_word.specs.Sublist.{IsSublist};
-ghost use Rattle.ct_query.specs.Database.{SameSet};
+ghost use Rattle.std.specs.Prelude.{◌≡◌, length, All, IfOk};
 ghost use Rattle.ct_condition.specs.Writes.{Writes};
-ghost use Rattle.ct_operators.specs.Tables.{IsRow, AreRows, value_of_rows, cells_of, firsts};
-ghost use Rattle.ct_operators.specs.Terms.{TermOfRows, RowsFrom};
+ghost use Rattle.ct_operators.specs.Tables.{IsRow, AreRows};
 ghost use Rattle.ct_operators.specs.Refusals.{is_full};
-ghost use Rattle.ct_table.specs.Growing.{Apart, entries_of, rows_after};
+ghost use Rattle.ct_table.specs.Growing.{Apart, entries_of, rows_after, AreInserted};
 
 use crate::preparing::prepared;
 use crate::sharing::SharedTable;
@@ -34,11 +30,7 @@ pub fn insertions<N: Site, I: Interner<N>>(
     requires table { AreRows (I.list pass.old) (length table.now.columns) table.now.rows }
     requires rows { All (IsRow (I.list pass.old) (length table.now.columns)) rows.now }
     ensures apart { Apart (entries_of table.now.rows) }
-    ensures rows { IfOk result (λ out. AreRows (I.list pass.new) (length table.now.columns) (rows_after table.now.rows out.items)) }
-    ensures tuples { (v : World) → IfOk result (λ out. SameSet (value_of_rows (I.list pass.new) v (rows_after table.now.rows out.items)) (value_of_rows (I.list pass.old) v table.now.rows ++ value_of_rows (I.list pass.old) v rows.now)) }
-    ensures order { IfOk result (λ out. IsSublist (cells_of (I.list pass.new) (rows_after table.now.rows out.items)) (firsts same_cells (cells_of (I.list pass.old) table.now.rows ++ cells_of (I.list pass.old) rows.now))) }
-    ensures part { IfOk result (λ out. IsSublist (cells_of (I.list pass.new) (rows_after table.now.rows out.items)) (cells_of (I.list pass.old) table.now.rows ++ cells_of (I.list pass.old) rows.now)) }
-    ensures terms { IfOk result (λ out. RowsFrom (I.list pass.new) (rows_after table.now.rows out.items) (TermOfRows (I.list pass.old) (table.now.rows ++ rows.now))) }
+    ensures inserted { IfOk result (λ out. AreInserted (I.list pass.old) (I.list pass.new) (length table.now.columns) table.now.rows rows.now (rows_after table.now.rows out.items)) }
     ensures writes { Writes I.list I.made I.kept I.lent N.log.cap pass.old pass.new (length rows.now) (is_full result) }
 {
     let _ = pass.words();

@@ -14,6 +14,5 @@ pub use ct_operators::{
 pub use db::Db;
 pub use insertion::insertions;
 pub use pending::{Growth, Pending};
-pub use preparing::prepared;
 pub use sharing::SharedTable;
 pub use stored::{Put, Stored};

@@ -1,21 +1,15 @@
 // What rows are to be inserted into a table: found and made before it is touched.
 
-ghost use Rattle.std.specs.Prelude.{◌≡◌, ◌≢◌, ◌≤◌, ◌<◌, ◌+◌, ◌++◌, length, All, IfOk, OnOk, IsErrOf, IsTrue, is_err};
-ghost use mathlib.Core.List.{IsPrefix};
+ghost use Rattle.std.specs.Prelude.{◌≡◌, ◌≢◌, ◌≤◌, ◌<◌, ◌+◌, ◌++◌, [], ◌∷◌, length, All, IfOk, OnOk, IsTrue, is_err};
 ghost use Rattle.ct_word.specs.declared.kinds.Class.TheVariants as class;
-ghost use Rattle.ct_word.specs.Value.{World, same_cells};
-ghost use Rattle.ct_word.specs.Sublist.{IsSublist};
-ghost use Rattle.ct_word.specs.WellFormed.{IsWellFormed, is_place_of};
-ghost use Rattle.ct_query.specs.Database.{SameSet};
+ghost use Rattle.ct_word.specs.WellFormed.{is_place_of};
 ghost use Rattle.ct_condition.specs.Truth.{HasTruth, or_at};
 ghost use Rattle.ct_condition.specs.Terms.{TermsFrom, BelowEither};
 ghost use Rattle.ct_condition.specs.Writes.{Writes};
-ghost use Rattle.ct_operators.specs.Tables.{IsRow, AreRows, value_of_rows, cells_of, firsts};
+ghost use Rattle.ct_operators.specs.Tables.{IsRow, AreRows};
 ghost use Rattle.ct_operators.specs.Merging.{rows_of, Merged};
-ghost use Rattle.ct_operators.specs.Terms.{TermOfRows, RowsFrom};
 ghost use Rattle.ct_operators.specs.Refusals.{is_full};
-ghost use Rattle.ct_table.specs.Growing.{find, put_each, grown, Apart, Fits, Joins};
-ghost use Rattle.ct_operators.specs.declared.error.TableError.TheVariants as fault;
+ghost use Rattle.ct_table.specs.Growing.{find, put_each, grown, Apart, Fits, Joins, AreGathered, AreInserted};
 
 use crate::stored::{Put, Stored};
 use ct_arena::{Arena, Full, Site};
@@ -114,13 +108,39 @@ fn ready(alloc: Global, pending: IndexMap<List<u32>, u32>) -> Result<Vec<Put>, A
     Ok(puts)
 }
 
-/// The conditions to put at cells so that a table gets these rows. A row whose cells are there already is merged into
-/// the first of them, by the disjunction of their conditions, and rows under the word false are left out. The table
-/// stays as it is; `Db::growing` puts them in.
+/// The condition of the only row that is to be inserted, joined to the one that its cells have, ready to be moved into the
+/// table. Most insertions have one row, and commits wait for one another here: no map is made for it.
 ///
 /// # Errors
-/// `Full` where the log has no room for a condition, `Memory` where there is none for the rows.
-pub fn prepared<N: Site, I: Interner<N>>(
+/// As `prepared` has them.
+fn gathered_one<N: Site, I: Interner<N>>(
+    alloc: Global,
+    arena: &Arena<N>,
+    pass: &mut I,
+    stored: &Stored,
+    row: &CRow,
+) -> Result<Vec<Put>, TableError>
+    requires table { AreRows (I.list pass.old) (length stored.now.columns) (rows_of stored.now.entries) }
+    requires row { IsRow (I.list pass.old) (length stored.now.columns) row.now }
+    ensures gathered { IfOk result (λ out. AreGathered (I.list pass.old) (I.list pass.new) (length stored.now.columns) stored.now.entries (row.now ∷ []) out.items) }
+    ensures writes { Writes I.list I.made I.kept I.lent N.log.cap pass.old pass.new 1 (is_full result) }
+{
+    let _ = pass.words();
+    let none = IndexMap::new(alloc);
+    let cond = joint(&none, arena, pass, stored, row)?;
+    let new = under(row, cond)?;
+    let put = Put::new(alloc, new.cells, new.cond)?;
+    let mut puts = Vec::with_capacity(alloc, 1)?;
+    puts.push_reserved(put);
+    Ok(puts)
+}
+
+/// The conditions of the rows that are to be inserted, each joined to the one that its cells have, ready to be moved into
+/// the table.
+///
+/// # Errors
+/// As `prepared` has them.
+fn gathered<N: Site, I: Interner<N>>(
     alloc: Global,
     arena: &Arena<N>,
     pass: &mut I,
@@ -129,18 +149,40 @@ pub fn prepared<N: Site, I: Interner<N>>(
 ) -> Result<Vec<Put>, TableError>
     requires table { AreRows (I.list pass.old) (length stored.now.columns) (rows_of stored.now.entries) }
     requires rows { All (IsRow (I.list pass.old) (length stored.now.columns)) rows.now }
-    ensures rows { IfOk result (λ out. AreRows (I.list pass.new) (length stored.now.columns) (rows_of (grown stored.now.entries out.items))) }
-    ensures tuples { (v : World) → IfOk result (λ out. SameSet (value_of_rows (I.list pass.new) v (rows_of (grown stored.now.entries out.items))) (value_of_rows (I.list pass.old) v (rows_of stored.now.entries) ++ value_of_rows (I.list pass.old) v rows.now)) }
-    ensures order { IfOk result (λ out. IsSublist (cells_of (I.list pass.new) (rows_of (grown stored.now.entries out.items))) (firsts same_cells (cells_of (I.list pass.old) (rows_of stored.now.entries) ++ cells_of (I.list pass.old) rows.now))) }
-    ensures part { IfOk result (λ out. IsSublist (cells_of (I.list pass.new) (rows_of (grown stored.now.entries out.items))) (cells_of (I.list pass.old) (rows_of stored.now.entries) ++ cells_of (I.list pass.old) rows.now)) }
-    ensures terms { IfOk result (λ out. RowsFrom (I.list pass.new) (rows_of (grown stored.now.entries out.items)) (TermOfRows (I.list pass.old) (rows_of stored.now.entries ++ rows.now))) }
+    ensures gathered { IfOk result (λ out. AreGathered (I.list pass.old) (I.list pass.new) (length stored.now.columns) stored.now.entries rows.now out.items) }
     ensures writes { Writes I.list I.made I.kept I.lent N.log.cap pass.old pass.new (length rows.now) (is_full result) }
 {
     let _ = pass.words();
+    if let [row] = rows {
+        return gathered_one(alloc, arena, pass, stored, row);
+    }
     let mut pending = IndexMap::new(alloc);
     for row in rows {
         insert_row(&mut pending, arena, pass, stored, row)?;
     }
-    let _ = pass.words();
     Ok(ready(alloc, pending)?)
+}
+
+/// The conditions to put at cells so that a table gets these rows. A row whose cells are there already is merged into
+/// the first of them, by the disjunction of their conditions, and rows under the word false are left out. The table
+/// stays as it is; `Db::growing` puts them in.
+///
+/// # Errors
+/// `Full` where the log has no room for a condition, `Memory` where there is none for the rows.
+pub(crate) fn prepared<N: Site, I: Interner<N>>(
+    alloc: Global,
+    arena: &Arena<N>,
+    pass: &mut I,
+    stored: &Stored,
+    rows: &[CRow],
+) -> Result<Vec<Put>, TableError>
+    requires table { AreRows (I.list pass.old) (length stored.now.columns) (rows_of stored.now.entries) }
+    requires rows { All (IsRow (I.list pass.old) (length stored.now.columns)) rows.now }
+    ensures inserted { IfOk result (λ out. AreInserted (I.list pass.old) (I.list pass.new) (length stored.now.columns) (rows_of stored.now.entries) rows.now (rows_of (grown stored.now.entries out.items))) }
+    ensures writes { Writes I.list I.made I.kept I.lent N.log.cap pass.old pass.new (length rows.now) (is_full result) }
+{
+    let _ = pass.words();
+    let puts = gathered(alloc, arena, pass, stored, rows)?;
+    let _ = pass.words();
+    Ok(puts)
 }

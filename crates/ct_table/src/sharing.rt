@@ -75,7 +75,11 @@ fn extend(
     let Some(stored) = Arc::get_mut(stored) else {
         return Ok(false);
     };
-    if stored.len() != len || !stored.has_none(puts) {
+    if stored.len() != len {
+        return Ok(false);
+    }
+    // A row that comes first stands last alone, where the cells of the next one are there already.
+    if puts.len() > 1 && !stored.has_none(puts) {
         return Ok(false);
     }
     stored.extend(alloc, puts)

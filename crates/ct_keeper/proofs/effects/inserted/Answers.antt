@@ -41,9 +41,9 @@ returns-clause-gets g c =
       true_of = record {
         each = rows_fit old c.words.ensures.formed (length t.columns) more c.requires.written
             (subst (λ n. All (FitsRow n) (map (plain_crow old) more)) (width_found db name t c.in-Some.ensures) c.requires.fitting.1);
-        are = c.in_ok-puts.ensures.rows;
-        tuples = c.in_ok-puts.ensures.tuples;
-        part = c.in_ok-puts.ensures.part;
-        terms = c.in_ok-puts.ensures.terms;
+        are = c.in_ok-puts.ensures.inserted.are;
+        tuples = c.in_ok-puts.ensures.inserted.tuples;
+        part = c.in_ok-puts.ensures.inserted.part;
+        terms = c.in_ok-puts.ensures.inserted.terms;
       };
     })

@@ -2,7 +2,7 @@ use Rattle.std.proofs.Common.{false, take, ◌*◌, ◌++◌, length}
 use Rattle.ct_condition.specs.Writes.{Writes}
 use Rattle.ct_operators.specs.Merging.{rows_of, Gathers}
 use Rattle.ct_table.specs.Growing.{put_each, Apart, Fits}
-use Rattle.ct_table.proofs.preparing.prepared.Given as goal
+use Rattle.ct_table.proofs.preparing.gathered.Given as goal
 
 abbrev pub invariant-loop-row : goal.invariant-loop-row
 invariant-loop-row g l = record {

@@ -1,0 +1,68 @@
+use Rattle.std.proofs.Common.{◌≡◌, ◌+◌, ◌∷◌, [], ◌++◌, None, Some, length, take, ap, sym, subst, ◌∙◌}
+use Rattle.std.proofs.lemmas.List.{take_more, take_all, append_assoc, append-nil}
+use Rattle.std.proofs.lemmas.Result.{err_from_is_err_and}
+use Rattle.ct_condition.proofs.Writes.{writes_none, writes_as, writes_more, writes_last}
+use Rattle.ct_operators.specs.Merging.{rows_of, Gathers}
+use Rattle.ct_table.specs.Growing.{put_each, Apart, Fits, AreGathered}
+use Rattle.ct_operators.proofs.Adding.{mul_one}
+use Rattle.ct_operators.proofs.Selecting.{row_at}
+use Rattle.ct_operators.proofs.Merges.{gathers_more}
+use Rattle.ct_table.proofs.Joining.{gathers_rows}
+use Rattle.ct_table.proofs.preparing.gathered.Goals as goal
+
+pub loop-row-init : goal.loop-row-init
+loop-row-init g c =
+    let old = g.I.Interner.list c.args.pass.now in
+    let width = length c.args.stored.now.columns in
+    let es = c.args.stored.now.entries in
+    record {
+      writes = writes_none _ c.words.ensures.formed c.words.ensures.room;
+      gathers = subst (λ l. Gathers old old width (rows_of es ++ []) (rows_of (put_each es l))) (sym c.new-pending.ensures.empty)
+          (subst (λ l. Gathers old old width l (rows_of es)) (sym (append-nil (rows_of es))) (gathers_rows old width (rows_of es) c.requires.table));
+      apart = subst Apart (sym c.new-pending.ensures.empty) tt;
+      fits = subst (Fits es) (sym c.new-pending.ensures.empty) (λ k x d found there. let bad : None ≡ Some x = found in cc);
+    }
+
+pub insert_row-requires-clause-row : goal.insert_row-requires-clause-row
+insert_row-requires-clause-row g c =
+    (row_at (g.I.Interner.list c.args.pass.now) (g.I.Interner.list c.loop-row.pass) (length c.args.stored.now.columns) c.args.rows.now c.loop-row.row-index c.row-item-in-loop-row.result c.loop-row.invariant.writes.longer c.words.ensures.formed c.requires.rows
+    c.loop-row-test.true c.row-item-in-loop-row.is).1
+
+pub loop-row-preserved : goal.loop-row-preserved
+loop-row-preserved g c =
+    let old = g.I.Interner.list c.args.pass.now in
+    let now = g.I.Interner.list c.loop-row.pass in
+    let new = g.I.Interner.list c.insert_row.new.pass in
+    let width = length c.args.stored.now.columns in
+    let es = c.args.stored.now.entries in
+    let all = c.args.rows.now in
+    let i = c.loop-row.row-index in
+    let r = c.row-item-in-loop-row.result in
+    let so_far = c.loop-row.invariant in
+    let is = (row_at old now width all i r so_far.writes.longer c.words.ensures.formed c.requires.rows c.loop-row-test.true c.row-item-in-loop-row.is).0 in
+    let done : (rows_of es ++ take i all) ++ r ∷ [] ≡ rows_of es ++ take (i + 1) all =
+    append_assoc (rows_of es) (take i all) (r ∷ []) ∙ ap (λ l. rows_of es ++ l) (ap (λ x. take i all ++ x ∷ []) c.row-item-in-loop-row.is ∙ sym (take_more all i r c.loop-row-test.true)) in
+    record {
+      writes = writes_more _ i so_far.writes c.in_ok-insert_row.ensures.writes;
+      gathers = subst (λ d. Gathers old new width d (rows_of (put_each es c.insert_row.new.pending.entries))) done
+          (gathers_more old now new width (rows_of es ++ take i all) (rows_of (put_each es c.loop-row.pending.entries)) so_far.gathers c.in_ok-insert_row.ensures.writes.longer so_far.writes.formed r is
+          (rows_of (put_each es c.insert_row.new.pending.entries)) c.in_ok-insert_row.ensures.merged);
+      apart = c.in_ok-insert_row.ensures.apart;
+      fits = c.in_ok-insert_row.ensures.fits;
+    }
+
+pub returns-in_err-insert_row-clause-writes : goal.returns-in_err-insert_row-clause-writes
+returns-in_err-insert_row-clause-writes g c =
+    let exit = err_from_is_err_and c.from_residual.result c.from_residual.ensures.1 in
+    rw (exit.1, exit.2) (writes_as (mul_one (length c.args.rows.now)) (writes_last _ _ c.loop-row.invariant.writes _ c.loop-row-test.true c.in_err-insert_row.ensures.writes))
+
+pub returns-clause-gathered : goal.returns-clause-gathered
+returns-clause-gathered g c =
+    let es = c.args.stored.now.entries in
+    let ps = c.loop-row.pending.entries in
+    let old = g.I.Interner.list c.args.pass.now in
+    let new = g.I.Interner.list c.loop-row.pass in
+    let width = length c.args.stored.now.columns in
+    let all : take c.loop-row.row-index c.args.rows.now ≡ c.args.rows.now = take_all c.loop-row.row-index c.args.rows.now c.loop-row-test.false in
+    subst (AreGathered old new width es c.args.rows.now) (sym c.in_ok-ready.ensures)
+    (record { gathers = subst (λ d. Gathers old new width (rows_of es ++ d) (rows_of (put_each es ps))) all c.loop-row.invariant.gathers; apart = c.loop-row.invariant.apart; fits = c.loop-row.invariant.fits })
