@@ -21,6 +21,7 @@ use Rattle.std.proofs.lemmas.Bool.{false≢true}
 use Rattle.ct_query.specs.declared.action.Read.{Read}
 use Rattle.ct_query.specs.Reads.{writes, commit_writes, last}
 use Rattle.ct_query.proofs.Laws.{last_commit}
+use Rattle.ct_history.specs.Commits.{commits_before}
 use Rattle.ct_history.specs.Places.{change_at}
 
 -- tests that say the same are the same
@@ -115,29 +116,25 @@ emptied ws p w is e ne = by w.kind (sym (is.class class.Text) ∙ e) ne is where
   by kind.TextEnd of ne h = ap as_text h.meaning
   by _ of ne h = absurd (false≢true of)
 
--- the commits up to a place
-abbrev pub commits_to : List ℕ → ℕ → List PlainCommit
-commits_to ws p = filter_map as_commit (take p (meanings ws))
-
 -- one more commit, and whether it writes what is read
 pub record Next (ws : List ℕ) (p changes : ℕ) (r : Read) : Type 0 where
-  pub count : length (commits_to ws (p + 1)) ≡ length (commits_to ws p) + 1
+  pub count : length (commits_before ws (p + 1)) ≡ length (commits_before ws p) + 1
   pub list : IsTrue (is_place_of ws class.ChangeList changes)
-  pub last_is : last (commits_to ws (p + 1)) r ≡ (if list_any (λ x. writes x r) (change_list_at ws changes) then length (commits_to ws p) + 1 else last (commits_to ws p) r)
+  pub last_is : last (commits_before ws (p + 1)) r ≡ (if list_any (λ x. writes x r) (change_list_at ws changes) then length (commits_before ws p) + 1 else last (commits_before ws p) r)
 
 pub next_commit : (ws : List ℕ) (p : ℕ) (w : Word) (r : Read) → IsWordAt ws p w → w.kind ≡ kind.Commit → Next ws p w.right r
 next_commit ws p w r is e =
     let h = of_kind ws p w kind.Commit e is in
     let c : PlainCommit = record { session = w.left / 262144; number = w.left % 262144; changes = change_list_at ws w.right } in
-    let more : commits_to ws (p + 1) ≡ commits_to ws p ++ c ∷ [] = commits_more (meanings ws) p (IsCommit c) h.meaning in
+    let more : commits_before ws (p + 1) ≡ commits_before ws p ++ c ∷ [] = commits_more (meanings ws) p (IsCommit c) h.meaning in
     record {
-      count = ap length more ∙ omega (arith, length-append (commits_to ws p) (c ∷ []));
+      count = ap length more ∙ omega (arith, length-append (commits_before ws p) (c ∷ []));
       list = h.right.1;
-      last_is = ap (λ xs. last xs r) more ∙ last_commit (commits_to ws p) c r ∙ ap (λ n. if commit_writes c r then n else last (commits_to ws p) r) (omega arith);
+      last_is = ap (λ xs. last xs r) more ∙ last_commit (commits_before ws p) c r ∙ ap (λ n. if commit_writes c r then n else last (commits_before ws p) r) (omega arith);
     }
 
 -- a word of another kind adds none
-pub no_next : (ws : List ℕ) (p : ℕ) (w : Word) → IsWordAt ws p w → w.kind ≢ kind.Commit → commits_to ws (p + 1) ≡ commits_to ws p
+pub no_next : (ws : List ℕ) (p : ℕ) (w : Word) → IsWordAt ws p w → w.kind ≢ kind.Commit → commits_before ws (p + 1) ≡ commits_before ws p
 no_next ws p w is ne =
     commits_more (meanings ws) p (by_kind (Some w.kind) (meanings ws) w.left w.right) is.meaning
-    ∙ ap (λ xs. commits_to ws p ++ xs) (no_commit (meanings ws) w.kind w.left w.right ne) ∙ append-nil (commits_to ws p)
+    ∙ ap (λ xs. commits_before ws p ++ xs) (no_commit (meanings ws) w.kind w.left w.right ne) ∙ append-nil (commits_before ws p)

@@ -14,5 +14,5 @@ pub use changes::{create, no_changes};
 pub use encoding::encode;
 pub use insertion::insert;
 pub use latest::last;
-pub use printing::commits;
+pub use printing::{commits, commits_between};
 pub use written::{Written, changes_at, last_change};

@@ -7,7 +7,7 @@ ghost use Rattle.ct_word.specs.StandsFor.{StandsFor};
 ghost use Rattle.ct_word.specs.WellFormed.{IsWellFormed, is_place_of};
 ghost use Rattle.ct_rewrite.specs.History.{IsCommitFormed, plain_history};
 ghost use Rattle.ct_history.specs.Printed.{change_with, changes_with, conds_of, rows_with};
-ghost use Rattle.ct_history.specs.Commits.{IsCommitAt};
+ghost use Rattle.ct_history.specs.Commits.{IsCommitAt, StandsBetween};
 ghost use Rattle.ct_history.specs.Rows.{AreTerms, IsRowOf};
 ghost use Rattle.ct_history.specs.Written.{IsWritten};
 
@@ -158,6 +158,37 @@ fn commit(alloc: Global, words: &[u64], place: u32) -> Result<Commit, Memory>
     })
 }
 
+/// The commits of a log whose words stand at the places from `from` up to `upto`, as `commits` gives them.
+///
+/// # Errors
+/// `Memory` where there is none for the commits.
+pub fn commits_between(
+    alloc: Global,
+    words: &[u64],
+    from: u32,
+    upto: u32,
+) -> Result<Vec<Commit>, Memory>
+    requires formed { IsWellFormed words.now }
+    requires short { length words.now < 2 ^ 28 }
+    requires order { from ≤ upto }
+    requires within { upto ≤ length words.now }
+    ensures stands { IfOk result (λ h. StandsBetween words.now from upto h.items) }
+    ensures formed { IfOk result (λ h. All IsCommitFormed h.items) }
+{
+    let mut commits = Vec::new(alloc);
+    for place in from..upto {
+        let word = word_at(words, place);
+        match word.kind {
+            Kind::Commit => {
+                let next = commit(alloc, words, place)?;
+                commits.push(next)?;
+            }
+            _ => {}
+        }
+    }
+    Ok(commits)
+}
+
 /// The commits of a log, in order, their conditions as they are printed. In each commit the
 /// children of a node stand before it.
 ///
@@ -169,16 +200,6 @@ pub fn commits(alloc: Global, words: &[u64]) -> Result<List<Commit>, Memory>
     ensures stands { IfOk result (λ h. StandsFor (plain_history h) words.now) }
     ensures formed { IfOk result (λ h. All IsCommitFormed h) }
 {
-    let mut commits = Vec::new(alloc);
-    for place in 0..words.len() as u32 {
-        let word = word_at(words, place);
-        match word.kind {
-            Kind::Commit => {
-                let next = commit(alloc, words, place)?;
-                commits.push(next)?;
-            }
-            _ => {}
-        }
-    }
+    let commits = commits_between(alloc, words, 0, words.len() as u32)?;
     Ok(List::from_vec(commits))
 }

@@ -10,3 +10,4 @@ pub mod Unlawful
 pub mod Accepted
 pub mod SmallLog
 pub mod AcceptedAnswers
+pub mod InParts

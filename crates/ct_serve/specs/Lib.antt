@@ -1,5 +1,6 @@
 pub mod Sessions
 pub mod Progress
+pub mod Joined
 pub mod Lawful
 pub mod Complete
 pub mod Scripts

@@ -86,7 +86,7 @@ fn run_files<R: Threads + Wait + Sync, S: Scripts, K: Sink, G: Gate + Sync>(
         Ok(transcript) => transcript,
         Err(e) => return no_run(alloc, status_of(e)),
     };
-    let status = print_transcript(alloc, &transcript, out);
+    let status = print_transcript(rt, alloc, &transcript, out);
     Run { status, transcript }
 }
 

@@ -5,10 +5,12 @@ ghost use Rattle.std.specs.List.{list_any};
 ghost use Rattle.ct_serve.specs.Runs.{is_sought, some_reply, IsOutcome, Taking, Printed, PrintedWhole};
 
 use crate::ending::Status;
+use crate::lines::all_lines;
 use ct_outside::{Sink, write_all};
-use ct_transcript::{Refusal, Reply, SessionLog, Transcript, lines};
+use ct_transcript::{Refusal, Reply, SessionLog, Transcript};
 use ct_word::Text;
 use std::alloc::Global;
+use std::thread::Threads;
 
 /// What is looked for among replies.
 #[derive(Clone, Copy)]
@@ -69,15 +71,16 @@ pub(crate) fn print<K: Sink>(lines: &[Text], logs: &[SessionLog], out: &mut K) -
     }
 }
 
-/// Writes the lines of a transcript, with one call for each.
-pub(crate) fn print_transcript<K: Sink>(
+/// Writes the lines of a transcript, which are made on threads, with one call for each.
+pub(crate) fn print_transcript<R: Threads + Sync, K: Sink>(
+    rt: &R,
     alloc: Global,
     transcript: &Transcript,
     out: &mut K,
 ) -> Status
     ensures printed { PrintedWhole (record { faults = K.faults out.old; faults' = K.faults out.new; taken = K.taken out.old; taken' = K.taken out.new; calls = K.calls out.old; calls' = K.calls out.new }) transcript.now result }
 {
-    let Ok(text) = lines(alloc, transcript) else {
+    let Ok(text) = all_lines(rt, alloc, transcript) else {
         return Status::Memory;
     };
     print(text.as_slice(), transcript.sessions.as_slice(), out)

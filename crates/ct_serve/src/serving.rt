@@ -8,8 +8,9 @@ ghost use Rattle.ct_serve.specs.Lawful.{Lawful};
 ghost use Rattle.ct_serve.specs.Progress.{ClientView, IsReady, HasExecuted, HasRun, HasEnded};
 
 use crate::client::Client;
+use crate::history::history_of;
+use crate::parts::parts_for;
 use ct_arena::{Blank, Pass, Site};
-use ct_history::commits;
 use ct_keeper::Server;
 use ct_outside::Gate;
 use ct_transcript::{SessionLog, Transcript};
@@ -87,26 +88,31 @@ fn finished<N: Site>(
     Ok((passes, List::from_vec(logs)))
 }
 
-/// Ends the sessions and the log, and gives the transcript.
+/// Ends the sessions and the log, and gives the transcript. The history is read on threads.
 ///
 /// # Errors
 /// `Memory` where it was wanting in a client, or is for the history or the list of sessions.
-fn end<N: Site>(
+fn end<N: Site, R: Threads + Sync>(
+    rt: &R,
     alloc: Global,
     server: Server<N>,
     clients: Vec<Client<N>>,
 ) -> Result<Transcript, Memory>
+    requires some { 0 < length clients.items }
     requires number { N.sessions ≡ length clients.items }
     requires numbers { map (λ c. c.pass.session) clients.items ≡ range_with_len 1 (length clients.items) }
     requires run { All (HasRun N.log.cap) clients.items }
     ensures lawful { IfOk result (λ transcript. Lawful transcript N.log.cap) }
     ensures scripts { IfOk result (λ transcript. map (λ s. s.script) transcript.sessions ≡ map (λ c. c.script) clients.items) }
 {
-    let (passes, sessions) = finished(alloc, clients)?;
+    let sessions = clients.len();
+    let (passes, logs) = finished(alloc, clients)?;
     let words = server.close(passes);
-    let history = commits(alloc, words.words())?;
+    let listed = words.words();
+    let parts = parts_for(sessions, listed.len());
+    let history = history_of(rt, alloc, listed, parts)?;
     Ok(Transcript {
-        sessions,
+        sessions: logs,
         history,
         words,
     })
@@ -130,7 +136,7 @@ fn serve_named<N: Site + Send + Sync, R: Threads + Wait + Sync, G: Gate + Sync>(
     let (server, passes) = Server::<N>::make(alloc, blank, scripts.len() as u32)?;
     let mut clients = clients_of(alloc, passes, scripts)?;
     execute_all(rt, alloc, &server, gate, clients.as_mut_slice());
-    end(alloc, server, clients)
+    end(rt, alloc, server, clients)
 }
 
 /// Runs a session for each script, from 1 to 64 of them, each on a thread of its own. Their log has room for `cap` words,

@@ -1,4 +1,6 @@
 // A statement outside a transaction that is no order.
+//
+// A pass's words are read, here and there, for what their type keeps: that they are well formed, and few.
 
 ghost use Rattle.std.specs.Prelude.{◌≡◌, ◌<◌, ◌≤◌, ◌^◌, [], None, false, IfOk, IsNone};
 ghost use Rattle.ct_arena.specs.Seen.{Seen};
@@ -276,7 +278,8 @@ fn asked<N: Site, R: Wait>(
 }
 
 /// Executes a statement outside a transaction that is no BEGIN, COMMIT or ROLLBACK: it sees a version that has all
-/// commits of the words before. An action is committed at once. Only of an insertion of written rows something is known.
+/// commits of the words before. An insertion of written rows may find its names at an earlier one, of which something is
+/// known; its commit comes after all of these. An action is committed at once.
 pub(crate) fn alone<N: Site, R: Wait>(
     rt: &R,
     alloc: Global,

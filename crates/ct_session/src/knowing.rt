@@ -1,4 +1,6 @@
 // What a session knows for its next insertion, so that this need not ask for the lock only to find its names.
+//
+// A pass's words are read, here and there, for what their type keeps: that they are well formed, and few.
 
 ghost use Rattle.std.specs.Prelude.{◌≡◌, ◌<◌, ◌≤◌, ◌^◌, ℕ, List, None, length, IfOk, IfErr, IsNone};
 ghost use mathlib.Core.List.{IsPrefix};

@@ -3,3 +3,4 @@ pub mod Joins
 pub mod Names
 pub mod Prints
 pub mod Lists
+pub mod Counted

@@ -1,6 +1,6 @@
 // Commits as they are printed.
 
-ghost use Rattle.std.specs.Prelude.{◌≡◌, List, [], ◌∷◌, ◌++◌, map, flat_map, codes, IfOk};
+ghost use Rattle.std.specs.Prelude.{◌≡◌, ◌+◌, ◌^◌, ◌≤◌, List, [], ◌∷◌, ◌++◌, map, flat_map, length, codes, IfOk};
 ghost use Rattle.ct_transcript.specs.NodeText.{line};
 ghost use Rattle.ct_transcript.specs.Text.{references_of, change_text, change_lines, printed_commit, commit_lines, commits_from};
 ghost use Rattle.ct_transcript.specs.Written.{Appends, Adds};
@@ -141,16 +141,21 @@ fn push_commit(
     push_commit_lines(alloc, lines, m, commit, &printed)
 }
 
-/// Adds the lines of the commits, which count from 1.
-pub(crate) fn push_commits(
+/// The lines of these commits, which are numbered from `first` on.
+///
+/// # Errors
+/// `Memory` where there is none for the lines.
+pub fn lines_of_commits(
     alloc: Global,
-    lines: &mut Vec<Text>,
+    first: usize,
     commits: &[Commit],
-) -> Result<(), Memory>
-    ensures { Adds result lines.old lines.new (commits_from 1 commits.now) }
+) -> Result<Vec<Text>, Memory>
+    requires numbers { first + length commits.now ≤ 2 ^ 64 }
+    ensures { IfOk result (λ ls. ls.items ≡ commits_from first commits.now) }
 {
+    let mut lines = Vec::new(alloc);
     for (i, commit) in commits.iter().enumerate() {
-        push_commit(alloc, lines, i + 1, commit)?;
+        push_commit(alloc, &mut lines, first + i, commit)?;
     }
-    Ok(())
+    Ok(lines)
 }

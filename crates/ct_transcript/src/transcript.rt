@@ -1,10 +1,13 @@
 // A whole transcript.
 
-ghost use Rattle.std.specs.Prelude.{◌≡◌, IfOk};
+ghost use Rattle.std.specs.Prelude.{◌≡◌, [], ◌∷◌, ◌++◌, codes, IfOk};
+ghost use Rattle.ct_transcript.specs.NodeText.{line};
 ghost use Rattle.ct_transcript.specs.Text.{lines_of};
 
+use crate::history::lines_of_commits;
 use crate::reply::SessionLog;
-use crate::sessions::lines_of_parts;
+use crate::rows::push_line;
+use crate::sessions::lines_of_sessions;
 use ct_arena::Log;
 use ct_rewrite::Commit;
 use ct_word::{List, Memory, Text};
@@ -19,6 +22,24 @@ pub struct Transcript {
     pub words: Log,
 }
 
+/// The text of a transcript, from the lines of its sessions and those of its commits.
+///
+/// # Errors
+/// `Memory` where there is none for the text.
+pub fn lines_of_parts(
+    alloc: Global,
+    sessions: Vec<Text>,
+    mut commits: Vec<Text>,
+) -> Result<Vec<Text>, Memory>
+    ensures { IfOk result (λ ls. ls.items ≡ sessions.items ++ line (codes "history") ∷ commits.items ++ line (codes "end") ∷ []) }
+{
+    let mut lines = sessions;
+    push_line(&mut lines, String::from_str(alloc, "history")?)?;
+    lines.append(&mut commits)?;
+    push_line(&mut lines, String::from_str(alloc, "end")?)?;
+    Ok(lines)
+}
+
 /// The text of a transcript, one entry a line with its line end.
 ///
 /// # Errors
@@ -26,9 +47,7 @@ pub struct Transcript {
 pub fn lines(alloc: Global, transcript: &Transcript) -> Result<Vec<Text>, Memory>
     ensures { IfOk result (λ ls. ls.items ≡ lines_of transcript.now.sessions transcript.now.history) }
 {
-    lines_of_parts(
-        alloc,
-        transcript.sessions.as_slice(),
-        transcript.history.as_slice(),
-    )
+    let sessions = lines_of_sessions(alloc, 1, transcript.sessions.as_slice())?;
+    let commits = lines_of_commits(alloc, 1, transcript.history.as_slice())?;
+    lines_of_parts(alloc, sessions, commits)
 }

@@ -3,7 +3,8 @@ use Rattle.std.specs.Prelude.{if◌then◌else◌}
 use Rattle.ct_word.specs.Reading.{meanings}
 use Rattle.ct_word.proofs.Growth.{length-read}
 use Rattle.ct_query.specs.Reads.{last}
-use Rattle.ct_history.proofs.Writers.{first_commits, all_commits, commits_to, next_commit, no_next}
+use Rattle.ct_history.specs.Commits.{commits_before}
+use Rattle.ct_history.proofs.Writers.{first_commits, all_commits, next_commit, no_next}
 use Rattle.ct_history.proofs.latest.last.Goals.{in-Commit+then-list_writes, in-Commit+else-list_writes, in_default}
 use Rattle.ct_history.proofs.latest.last.Goals as goal
 
@@ -12,8 +13,8 @@ loop-place-preserved c =
     let words = c.args.words.now in
     let word = c.word_at-word.result in
     let inv = c.loop-place.invariant in
-    let n = length (commits_to words c.loop-place.place) in
-    let before = last (commits_to words c.loop-place.place) c.args.table.now in
+    let n = length (commits_before words c.loop-place.place) in
+    let before = last (commits_before words c.loop-place.place) c.args.table.now in
     elim c.match-word.branch [
       | in-Commit+then-list_writes w ↦
           let next = next_commit words c.loop-place.place word c.args.table.now c.word_at-word.ensures w.in-Commit.is in

@@ -16,6 +16,6 @@ returns-clause-lawful g c =
     let w = c.close-words.ensures in
     let h = c.in_ok-history in
     let p = c.in_ok-passes in
-    lawful_closed g.N.Site.log.cap words w.formed w.room h.history (subst (StandsFor (plain_history h.history)) c.words-2.ensures h.ensures.stands)
-    p.passes.items p.sessions (length c.args.clients.items) w.begins h.ensures.formed (p.ensures.numbers ∙ c.requires.numbers) p.ensures.ended w.numbered w.seen
+    lawful_closed g.N.Site.log.cap words w.formed w.room h.history (subst (StandsFor (plain_history h.history)) c.words-listed.ensures h.ensures.0)
+    p.passes.items p.logs (length c.args.clients.items) w.begins h.ensures.1 (p.ensures.numbers ∙ c.requires.numbers) p.ensures.ended w.numbered w.seen
     (subst (λ n. AreOfSessions n words) c.requires.number w.known) w.admitted

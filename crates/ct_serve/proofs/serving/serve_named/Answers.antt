@@ -20,7 +20,7 @@ execute_all-requires-clause-ready g c κs within =
     (ap (map (λ (x : ClientView). x.script)) value ∙ c.in_ok-clients.ensures.scripts) c.requires.few
 
 pub end-requires-clause-numbers : goal.end-requires-clause-numbers
-end-requires-clause-numbers g c =
+end-requires-clause-numbers g c κs within =
     let now = c.as_mut_slice.result.now in
     let new = c.execute_all.new.clients in
     let value = c.as_mut_slice.ensures.value in
@@ -34,7 +34,7 @@ end-requires-clause-numbers g c =
     ∙ ap (range_with_len 1) many)
 
 pub end-requires-clause-run : goal.end-requires-clause-run
-end-requires-clause-run g c =
+end-requires-clause-run g c κs within =
     let value = c.as_mut_slice.ensures.value in
     let count = c.execute_all.ensures.count in
     let back = written_back c.in_ok-clients.clients.len c.execute_all.new.clients c.in_ok-clients.clients.items (count ∙ ap length value) c.in_ok-clients.clients.ok.0 in

@@ -1,0 +1,17 @@
+use Rattle.std.proofs.Common.{◌≡◌, ◌+◌, length, IfOk, refl, subst, arith}
+use Rattle.std.specs.Prelude.{Ok}
+use Rattle.std.proofs.lemmas.Result.{IfOk-weaker}
+use Rattle.ct_transcript.specs.Text.{commits_from}
+use Rattle.ct_transcript.proofs.Counted.{commits_after}
+use Rattle.ct_serve.specs.Joined.{bound_of, part_of}
+use Rattle.ct_serve.proofs.InParts.{numbered_in_parts}
+use Rattle.ct_serve.proofs.lines.commit_lines.Goals as goal
+
+pub returns : goal.returns
+returns g c =
+    let xs = c.args.commits.now in
+    let parts = c.args.parts in
+    let count = c.in_ok-made.ensures.len in
+    IfOk-weaker c.joined.result _ _
+    (λ all joined. numbered_in_parts (λ v. v.items) commits_from commits_after refl xs parts c.requires.some c.in_ok-made.made.items all.items joined (omega (arith, count))
+    (λ k part lt is. subst (λ r. IfOk r (λ p. p.items ≡ commits_from (bound_of (length xs) parts k + 1) (part_of parts k xs))) is ((c.in_ok-made.ensures.each k (Ok part) lt).1.met))) c.joined.ensures
