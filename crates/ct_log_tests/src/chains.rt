@@ -2,6 +2,7 @@
 
 ghost use Rattle.std.specs.Prelude.{◌≡◌};
 
+use crate::checks::is_found;
 use ct_chain::{Chain, KeyChain};
 use std::alloc::Global;
 use std::process::Abort;
@@ -39,15 +40,25 @@ fn has_last(chain: &Chain, room: u32) -> bool {
     (last as usize) < chain.words().len() && chain.at(last) == last as u64 * last as u64
 }
 
+/// A list has this room, which is full.
+fn is_full(rt: &impl Abort, words: &[u64], room: u32) {
+    assert_eq!(rt; words.len(), room as usize);
+}
+
 /// A list with this room has the first words, and no others.
+fn has_first(rt: &impl Abort, chain: &Chain, room: u32) {
+    is_full(rt, chain.words(), room);
+    assert!(rt; are_found(chain, room, 2000));
+    is_found(rt, chain.find(2), None);
+    assert!(rt; has_last(chain, room));
+}
+
+/// A list with this room is filled, and is as it should be.
 fn keeps(rt: &impl Abort, alloc: Global, room: u32) -> Result<(), Fail> {
     let mut chain = Chain::make(alloc, room)?;
     fill(&mut chain, room, 2000);
-    assert_eq!(rt; chain.words().len(), room as usize);
-    assert!(rt; are_found(&chain, room, 2000));
-    assert_eq!(rt; chain.find(2), None);
-    assert!(rt; has_last(&chain, room));
-    assert_eq!(rt; chain.into_words().len(), room as usize);
+    has_first(rt, &chain, room);
+    is_full(rt, chain.into_words().as_slice(), room);
     Ok(())
 }
 
@@ -70,22 +81,22 @@ fn keys(alloc: Global) -> Result<KeyChain, Fail> {
     Ok(keys)
 }
 
-/// The next places of the key 7 from some places on.
-fn places_of_seven(keys: &KeyChain) -> [Option<u32>; 4] {
-    [
-        keys.next_from(7, 0),
-        keys.next_from(7, 1),
-        keys.next_from(7, 3),
-        keys.next_from(7, 5),
-    ]
-}
+/// Keys, places from which each is looked for, and its next place from there on.
+const NEXT: [(u32, u32, Option<u32>); 8] = [
+    (7, 0, Some(0)),
+    (7, 1, Some(2)),
+    (7, 3, Some(4)),
+    (7, 5, None),
+    (u32::MAX, 1, Some(1)),
+    (u32::MAX, 2, None),
+    (4, 0, None),
+    (7, u32::MAX, None),
+];
 
 fn come_in_order(rt: &impl Abort, keys: &KeyChain) {
-    assert_eq!(rt; places_of_seven(keys), [Some(0), Some(2), Some(4), None]);
-    assert_eq!(rt; keys.next_from(u32::MAX, 1), Some(1));
-    assert_eq!(rt; keys.next_from(u32::MAX, 2), None);
-    assert_eq!(rt; keys.next_from(4, 0), None);
-    assert_eq!(rt; keys.next_from(7, u32::MAX), None);
+    for (key, from, place) in NEXT {
+        is_found(rt, keys.next_from(key, from), place);
+    }
 }
 
 #[test]

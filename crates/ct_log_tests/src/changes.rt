@@ -1,9 +1,12 @@
 // The words of a change list.
 
-ghost use Rattle.std.specs.Prelude.{◌≡◌, IfOk};
+ghost use Rattle.std.specs.Prelude.{◌≡◌, IfOk, IsTrue};
 ghost use mathlib.Core.List.{IsPrefix};
+ghost use Rattle.ct_word.specs.declared.kinds.Class.TheVariants as class;
+ghost use Rattle.ct_word.specs.WellFormed.{is_place_of};
 ghost use Rattle.ct_history.specs.Rows.{IsRowOf};
 
+use crate::checks::{has_seen, is};
 use ct_arena::{Arena, Blank, Pass, Site};
 use ct_condition::{eq, term};
 use ct_history::{create, insert, no_changes};
@@ -27,17 +30,40 @@ const CREATED: [u64; 10] = [
     0x1c_0000002_0000008,
 ];
 
+/// The places of a list without changes, and of that list with a creation. Nothing is said of them, which keeps the test
+/// short to prove.
+fn created<N: Site>(
+    arena: &Arena<N>,
+    pass: &mut Pass<N>,
+    name: &str,
+    columns: &[Text],
+) -> Result<[u32; 2], Fail> {
+    let list = no_changes(arena, pass)?;
+    let extended = create(arena, pass, list, name, columns)?;
+    Ok([list, extended])
+}
+
+/// The change list of `create table t (a);` is put at these places.
+fn create_table<N: Site>(
+    rt: &impl Abort,
+    alloc: Global,
+    arena: &Arena<N>,
+    pass: &mut Pass<N>,
+) -> Result<(), Fail> {
+    let columns = [Text::from_string(String::from_str(alloc, "a")?)];
+    let [list, extended] = created(arena, pass, "t", &columns)?;
+    is(rt, list, 2);
+    is(rt, extended, 9);
+    Ok(())
+}
+
 fn put_creation<N: Site>(rt: &impl Abort, alloc: Global, blank: Blank) -> Result<(), Fail>
     requires { blank ≡ N.log }
 {
     let (arena, mut keeper) = Arena::<N>::make(blank);
     let mut pass = keeper.enrol(alloc, &arena)?;
-    let columns = [Text::from_string(String::from_str(alloc, "a")?)];
-    let list = no_changes(&arena, &mut pass)?;
-    assert_eq!(rt; list, 2);
-    let extended = create(&arena, &mut pass, list, "t", &columns)?;
-    assert_eq!(rt; extended, 9);
-    assert_eq!(rt; pass.words(), CREATED.as_slice());
+    create_table(rt, alloc, &arena, &mut pass)?;
+    has_seen(rt, &pass, &CREATED);
     Ok(())
 }
 
@@ -68,31 +94,64 @@ const INSERTED: [u64; 17] = [
     0x1c_0000002_000000f,
 ];
 
+/// The place of a number.
+fn known<N: Site>(arena: &Arena<N>, pass: &mut Pass<N>, n: i64) -> Result<u32, Fail>
+    ensures place { IfOk result (λ place. IsTrue (is_place_of pass.new.words class.Term place)) }
+    ensures longer { IsPrefix pass.old.words pass.new.words }
+{
+    Ok(term(arena, pass, &Term::Value(Value::Int(n)))?)
+}
+
+/// The place of the null with a name.
+fn unknown<N: Site>(
+    alloc: Global,
+    arena: &Arena<N>,
+    pass: &mut Pass<N>,
+    name: &str,
+) -> Result<u32, Fail>
+    ensures place { IfOk result (λ place. IsTrue (is_place_of pass.new.words class.Term place)) }
+    ensures longer { IsPrefix pass.old.words pass.new.words }
+{
+    let null = Term::Null(Null::Named(Text::from_string(String::from_str(alloc, name)?)));
+    let place = term(arena, pass, &null);
+    // What a term is dropped by is read off its every variant, unless a call takes it.
+    drop(null);
+    Ok(place?)
+}
+
 /// The row (1, ?x) under an equality that folds to true.
 fn row<N: Site>(alloc: Global, arena: &Arena<N>, pass: &mut Pass<N>) -> Result<CRow, Fail>
     ensures row { IfOk result (λ r. IsRowOf pass.new.words r) }
     ensures longer { IsPrefix pass.old.words pass.new.words }
 {
-    let known = Term::Value(Value::Int(1));
-    let one = term(arena, pass, &known)?;
-    let unknown = Term::Null(Null::Named(Text::from_string(String::from_str(alloc, "x")?)));
-    let x = term(arena, pass, &unknown)?;
+    let one = known(arena, pass, 1)?;
+    let x = unknown(alloc, arena, pass, "x")?;
     let cond = eq(arena, pass, x, x)?;
     let cells = List::from_vec(Vec::from_array(alloc, [one, x])?);
     Ok(CRow { cells, cond })
 }
 
+/// The place of a list with the insertion of that row alone.
 #[tactic(auto, using(ct_word::proofs::Prefixes::place_in_prefix))]
+fn inserted<N: Site>(
+    alloc: Global,
+    arena: &Arena<N>,
+    pass: &mut Pass<N>,
+    name: &str,
+) -> Result<u32, Fail> {
+    let list = no_changes(arena, pass)?;
+    let rows = [row(alloc, arena, pass)?];
+    Ok(insert(arena, pass, list, name, &rows)?)
+}
+
 fn put_insertion<N: Site>(rt: &impl Abort, alloc: Global, blank: Blank) -> Result<(), Fail>
     requires { blank ≡ N.log }
 {
     let (arena, mut keeper) = Arena::<N>::make(blank);
     let mut pass = keeper.enrol(alloc, &arena)?;
-    let list = no_changes(&arena, &mut pass)?;
-    let rows = [row(alloc, &arena, &mut pass)?];
-    let extended = insert(&arena, &mut pass, list, "t", &rows)?;
-    assert_eq!(rt; extended, 16);
-    assert_eq!(rt; pass.words(), INSERTED.as_slice());
+    let place = inserted(alloc, &arena, &mut pass, "t");
+    has_seen(rt, &pass, &INSERTED);
+    is(rt, place?, 16);
     Ok(())
 }
 

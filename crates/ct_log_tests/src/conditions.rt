@@ -4,6 +4,7 @@ ghost use Rattle.std.specs.Prelude.{◌≡◌};
 ghost use Rattle.ct_query.specs.Pred.{condition_of};
 ghost use Rattle.ct_query.specs.Fields.{AreFittingOn};
 
+use crate::checks::is;
 use ct_arena::{Arena, Blank, Pass, Site};
 use ct_condition::{all, and, eq, not, or, pred, put, term, text, value_at};
 use ct_query::Pred;
@@ -74,18 +75,42 @@ fn is_one() -> Pred
     Pred::Same(Term::Column(0), Term::Value(Value::Int(1)))
 }
 
+/// The place of that condition. Without a row the column is a term of its own.
+fn first_is_one<N: Site>(arena: &Arena<N>, pass: &mut Pass<N>) -> Result<u32, Fail> {
+    Ok(pred(arena, pass, &is_one(), &[])?)
+}
+
+/// The place of the first column.
+fn column<N: Site>(arena: &Arena<N>, pass: &mut Pass<N>) -> Result<u32, Fail> {
+    Ok(put(arena, pass, Kind::Column, 0, 0)?)
+}
+
+/// The place of a text.
+fn spelled<N: Site>(arena: &Arena<N>, pass: &mut Pass<N>, name: &str) -> Result<u32, Fail> {
+    Ok(text(arena, pass, name)?)
+}
+
+/// The places of folded conditions.
+fn are_folded(rt: &impl Abort, found: [u32; 6], wanted: [u32; 6]) {
+    assert_eq!(rt; found, wanted);
+}
+
+/// The session puts eight words in all.
+fn put_all<N: Site>(rt: &impl Abort, arena: &Arena<N>, pass: &mut Pass<N>) -> Result<(), Fail> {
+    are_folded(rt, fold(arena, pass, 1)?, [3, 0, 1, 1, 1, 0]);
+    is(rt, spelled(arena, pass, "x")?, 5);
+    is(rt, column(arena, pass)?, 6);
+    is(rt, first_is_one(arena, pass)?, 7);
+    assert_eq!(rt; pass.words().len(), 8);
+    Ok(())
+}
+
 fn put_folded<N: Site>(rt: &impl Abort, alloc: Global, blank: Blank) -> Result<(), Fail>
     requires { blank ≡ N.log }
 {
     let (arena, mut keeper) = Arena::<N>::make(blank);
     let mut pass = keeper.enrol(alloc, &arena)?;
-    assert_eq!(rt; fold(&arena, &mut pass, 1)?, [3, 0, 1, 1, 1, 0]);
-    assert_eq!(rt; text(&arena, &mut pass, "x")?, 5);
-    assert_eq!(rt; put(&arena, &mut pass, Kind::Column, 0, 0)?, 6);
-    // Without a row the column is a term of its own.
-    assert_eq!(rt; pred(&arena, &mut pass, &is_one(), &[])?, 7);
-    assert_eq!(rt; pass.words().len(), 8);
-    Ok(())
+    put_all(rt, &arena, &mut pass)
 }
 
 #[test]

@@ -8,6 +8,8 @@ mod chains;
 #[cfg(test)]
 mod changes;
 #[cfg(test)]
+mod checks;
+#[cfg(test)]
 mod conditions;
 #[cfg(test)]
 mod printed;

@@ -1,8 +1,24 @@
 // What tests look for in a whole log.
 
+use ct_arena::{Full, Pass, Site};
 use std::alloc::{AllocError, Global};
 use std::process::Abort;
 use std::test::Fail;
+
+/// A call was answered this place. Comparisons stand in functions of their own, which keeps the tests short to prove.
+pub fn has_place(rt: &impl Abort, found: Result<u32, Full>, place: u32) {
+    assert_eq!(rt; found, Ok(place));
+}
+
+/// A number is this one.
+pub fn is(rt: &impl Abort, found: u64, wanted: u64) {
+    assert_eq!(rt; found, wanted);
+}
+
+/// A session has made so many words, and so many commits.
+pub fn has_made<N: Site>(rt: &impl Abort, pass: &Pass<N>, words: u32, commits: u32) {
+    assert_eq!(rt; [pass.made(), pass.mine()], [words, commits]);
+}
 
 /// Whether a word stands at a place.
 pub fn stands(words: &[u64], place: u32, w: u64) -> bool {

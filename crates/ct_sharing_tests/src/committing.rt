@@ -7,7 +7,7 @@ use crate::puts::commit;
 use crate::threads::{Did, Job, Words, Worker, end_all, enrol_all, have_own, made};
 use ct_arena::{Arena, Blank, KeeperPass, Pass, Site};
 use ct_word::List;
-use std::alloc::{AllocError, Global};
+use std::alloc::Global;
 use std::marker::Brand;
 use std::process::Abort;
 use std::test::Fail;
@@ -56,44 +56,49 @@ fn work<N: Site>(arena: &Arena<N>, seat: Seat<N>, job: &Job) -> Seat<N> {
     }
 }
 
-/// The keeper's seat, and one for each session.
+/// A seat for each session, and the keeper's.
 fn seats_of<N: Site>(
     alloc: Global,
     office: Office<N>,
     workers: Vec<Worker<N>>,
 ) -> Result<Vec<Seat<N>>, Fail> {
     let mut seats = Vec::new(alloc);
-    seats.push(Seat::Keeper(office))?;
     for worker in workers {
         seats.push(Seat::Session(worker))?;
     }
+    seats.push(Seat::Keeper(office))?;
     Ok(seats)
 }
 
-/// Puts who sat in a seat with the keeper or with the sessions.
-fn leave<N: Site>(
-    seat: Seat<N>,
-    office: &mut Option<Office<N>>,
-    workers: &mut Vec<Worker<N>>,
-) -> Result<(), AllocError> {
+/// The keeper, from its seat.
+fn office_of<N: Site>(seat: Option<Seat<N>>) -> Result<Office<N>, Fail> {
     match seat {
-        Seat::Session(worker) => workers.push(worker)?,
-        Seat::Keeper(keeper) => *office = Some(keeper),
+        Some(Seat::Keeper(office)) => Ok(office),
+        other => {
+            drop(other);
+            Err("no keeper".into())
+        }
     }
-    Ok(())
 }
 
-/// The keeper and the sessions, from their seats.
-fn left<N: Site>(
-    alloc: Global,
-    seats: Vec<Seat<N>>,
-) -> Result<(Option<Office<N>>, Vec<Worker<N>>), Fail> {
-    let mut office = None;
+/// A session, from its seat.
+fn worker_of<N: Site>(seat: Seat<N>) -> Result<Worker<N>, Fail> {
+    match seat {
+        Seat::Session(worker) => Ok(worker),
+        other => {
+            drop(other);
+            Err("no session".into())
+        }
+    }
+}
+
+/// The sessions, from their seats.
+fn workers_of<N: Site>(alloc: Global, seats: Vec<Seat<N>>) -> Result<Vec<Worker<N>>, Fail> {
     let mut workers = Vec::new(alloc);
     for seat in seats {
-        leave(seat, &mut office, &mut workers)?;
+        workers.push(worker_of(seat)?)?;
     }
-    Ok((office, workers))
+    Ok(workers)
 }
 
 /// Each thread does what its seat has to do.
@@ -107,11 +112,9 @@ fn run_all<N: Site + Send + Sync>(
     ensures { IfOk result (λ r. vec_len r.1 ≡ 3) }
 {
     let run = |seat: Seat<N>| work(arena, seat, job);
-    let seats = thread::map_vec(rt, seats, &run)?;
-    let (office, workers) = left(alloc, seats)?;
-    let Some(office) = office else {
-        return Err("no keeper".into());
-    };
+    let mut seats = thread::map_vec(rt, seats, &run)?;
+    let office = office_of(seats.pop())?;
+    let workers = workers_of(alloc, seats)?;
     if workers.len() != 3 {
         return Err("not three sessions".into());
     }

@@ -2,35 +2,36 @@
 
 ghost use Rattle.std.specs.Prelude.{◌≡◌, ◌<◌, None};
 
-use crate::puts::{commit, put};
+use crate::checks::is;
+use crate::puts::{commit, put_part};
 use crate::threads::{Job, Words, made, run_job};
 use ct_arena::{Arena, Blank, KeeperPass, Pass, Site};
-use ct_word::Kind;
 use std::alloc::Global;
 use std::marker::Brand;
 use std::process::Abort;
 use std::test::Fail;
 use std::thread::Threads;
 
-/// Whether the log has the word of a part of a number, or room for it.
-fn takes<N: Site>(arena: &Arena<N>, pass: &mut Pass<N>, part: u32) -> bool
-    requires { part < 3000000 }
-{
-    put(arena, pass, Kind::NumberHigh, 0, part).is_ok()
-}
+/// How many parts of numbers there are for a session.
+const PARTS: u32 = 0x1000_0000;
 
-/// Interns the parts of numbers from one on, so many, and answers for how many there was room.
+/// Interns the parts of numbers from one on up to another one, and answers the first for which there was no room, or else
+/// the other one.
 #[inline(never)]
-fn intern_from<N: Site>(arena: &Arena<N>, pass: &mut Pass<N>, from: u32, count: u32) -> u32
-    requires from { from < 2000000 }
-    requires count { count < 1000000 }
-{
-    for k in 0..count {
-        if !takes(arena, pass, from + k) {
-            return k;
+fn intern_from<N: Site>(arena: &Arena<N>, pass: &mut Pass<N>, from: u32, end: u32) -> u32 {
+    let end = end.min(PARTS);
+    for part in from..end {
+        if put_part(arena, pass, 0, part).is_err() {
+            return part;
         }
     }
-    count
+    end
+}
+
+/// A session interns the parts below one, and has made as many words then.
+fn intern_below<N: Site>(rt: &impl Abort, arena: &Arena<N>, pass: &mut Pass<N>, end: u32) {
+    is(rt, intern_from(arena, pass, 0, end) as u64, end as u64);
+    is(rt, pass.made() as u64, end as u64);
 }
 
 /// Interns words that are new, and the same words again.
@@ -40,15 +41,12 @@ fn intern_twice<N: Site>(
     blank: Blank,
     count: u32,
 ) -> Result<(), Fail>
-    requires blank { blank ≡ N.log }
-    requires count { count < 1000000 }
+    requires { blank ≡ N.log }
 {
     let (arena, mut keeper) = Arena::<N>::make(blank);
     let mut pass = keeper.enrol(alloc, &arena)?;
-    assert_eq!(rt; intern_from(&arena, &mut pass, 0, count), count);
-    assert_eq!(rt; pass.made(), count);
-    assert_eq!(rt; intern_from(&arena, &mut pass, 0, count), count);
-    assert_eq!(rt; pass.made(), count);
+    intern_below(rt, &arena, &mut pass, count);
+    intern_below(rt, &arena, &mut pass, count);
     Ok(())
 }
 
@@ -71,6 +69,31 @@ fn commit_late<N: Site>(arena: &Arena<N>, keeper: &mut KeeperPass<N>, pass: Pass
 }
 
 /// A session commits in a log with so many words, and again once another one has put more.
+fn commit_between<N: Site>(
+    rt: &impl Abort,
+    arena: &Arena<N>,
+    keeper: &mut KeeperPass<N>,
+    a: Pass<N>,
+    b: &mut Pass<N>,
+    before: u32,
+    more: u32,
+)
+    requires { keeper.old.guest ≡ None }
+{
+    let after = before.saturating_add(more);
+    is(rt, intern_from(arena, b, 0, before) as u64, before as u64);
+    let (a, place) = commit(arena, keeper, a);
+    assert!(rt; place.is_ok());
+    is(
+        rt,
+        intern_from(arena, b, before, after) as u64,
+        after as u64,
+    );
+    let a = commit_late(arena, keeper, a);
+    is(rt, a.mine() as u64, 2);
+}
+
+/// The same of two new sessions.
 fn commit_twice<N: Site>(
     rt: &impl Abort,
     alloc: Global,
@@ -78,19 +101,12 @@ fn commit_twice<N: Site>(
     before: u32,
     more: u32,
 ) -> Result<(), Fail>
-    requires blank { blank ≡ N.log }
-    requires before { before < 1000000 }
-    requires more { more < 1000000 }
+    requires { blank ≡ N.log }
 {
     let (arena, mut keeper) = Arena::<N>::make(blank);
     let a = keeper.enrol(alloc, &arena)?;
     let mut b = keeper.enrol(alloc, &arena)?;
-    assert_eq!(rt; intern_from(&arena, &mut b, 0, before), before);
-    let (a, place) = commit(&arena, &mut keeper, a);
-    assert!(rt; place.is_ok());
-    assert_eq!(rt; intern_from(&arena, &mut b, before, more), more);
-    let a = commit_late(&arena, &mut keeper, a);
-    assert_eq!(rt; a.mine(), 2);
+    commit_between(rt, &arena, &mut keeper, a, &mut b, before, more);
     Ok(())
 }
 

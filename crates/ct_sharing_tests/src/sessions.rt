@@ -2,8 +2,9 @@
 
 ghost use Rattle.std.specs.Prelude.{◌≡◌, ◌+◌, [], None, vec_len};
 
+use crate::checks::{has_made, has_place, is};
 use crate::puts::{commit, put};
-use crate::threads::{Did, Job, Words, Worker, end_all, enrol_all, made};
+use crate::threads::{Job, Words, Worker, end_all, enrol_all, made};
 use ct_arena::{Arena, Blank, Full, KeeperPass, Pass, Site};
 use ct_word::{Kind, List};
 use std::alloc::Global;
@@ -33,15 +34,38 @@ fn changes_end<N: Site>(arena: &Arena<N>, pass: &mut Pass<N>) -> Result<u32, Ful
     put(arena, pass, Kind::ChangesEnd, 0, 0)
 }
 
+/// A session sees so many words once it has caught up.
+fn sees<N: Site>(rt: &impl Abort, arena: &Arena<N>, pass: &mut Pass<N>, count: usize) {
+    pass.catch_up(arena);
+    assert_eq!(rt; pass.words().len(), count);
+}
+
 /// Two sessions intern, and each sees what the other put.
 fn intern_in_turn<N: Site>(rt: &impl Abort, arena: &Arena<N>, a: &mut Pass<N>, b: &mut Pass<N>) {
-    assert_eq!(rt; text_end(arena, a), Ok(2));
-    assert_eq!(rt; text_end(arena, b), Ok(2));
-    assert_eq!(rt; b.made(), 0);
-    assert_eq!(rt; row_end(arena, b), Ok(3));
-    a.catch_up(arena);
-    assert_eq!(rt; a.words().len(), 4);
-    assert_eq!(rt; changes_end(arena, a), Ok(4));
+    has_place(rt, text_end(arena, a), 2);
+    has_place(rt, text_end(arena, b), 2);
+    is(rt, b.made() as u64, 0);
+    has_place(rt, row_end(arena, b), 3);
+    sees(rt, arena, a, 4);
+    has_place(rt, changes_end(arena, a), 4);
+}
+
+/// A session commits, and its commit stands at this place.
+fn commit_at<N: Site>(
+    rt: &impl Abort,
+    arena: &Arena<N>,
+    keeper: &mut KeeperPass<N>,
+    pass: Pass<N>,
+    place: u32,
+) -> Pass<N>
+    requires guest { keeper.old.guest ≡ None }
+    ensures enrolled { keeper.new.enrolled ≡ keeper.old.enrolled }
+    ensures ended { keeper.new.ended ≡ keeper.old.ended }
+    ensures guest { keeper.new.guest ≡ None }
+{
+    let (pass, found) = commit(arena, keeper, pass);
+    has_place(rt, found, place);
+    pass
 }
 
 /// One session commits, and the other sees it.
@@ -57,31 +81,16 @@ fn commit_and_see<N: Site>(
     ensures ended { keeper.new.ended ≡ keeper.old.ended }
     ensures guest { keeper.new.guest ≡ None }
 {
-    let (a, place) = commit(arena, keeper, a);
-    assert_eq!(rt; place, Ok(5));
-    assert_eq!(rt; [a.made(), a.mine()], [3, 1]);
-    b.catch_up(arena);
-    assert_eq!(rt; [b.words().len(), b.made() as usize], [6, 1]);
+    let a = commit_at(rt, arena, keeper, a, 5);
+    has_made(rt, &a, 3, 1);
+    sees(rt, arena, b, 6);
+    is(rt, b.made() as u64, 1);
     a
 }
 
-/// Ends all sessions, of which two are given first and last. Answers what the others did, and the log.
-fn close<N: Site>(
-    alloc: Global,
-    arena: Arena<N>,
-    mut keeper: KeeperPass<N>,
-    first: Pass<N>,
-    others: Vec<Worker<N>>,
-    last: Pass<N>,
-) -> Result<(Vec<Did>, List<u64>), Fail>
-    requires guest { keeper.guest ≡ None }
-    requires enrolled { keeper.enrolled ≡ vec_len others + 2 }
-    requires ended { keeper.ended ≡ [] }
-{
-    let did = end_all(alloc, &arena, &mut keeper, others)?;
-    let _ = keeper.end(&arena, first);
-    let _ = keeper.end(&arena, last);
-    Ok((did, keeper.finish(arena).into_words()))
+/// The log has these words.
+fn has_words(rt: &impl Abort, words: &List<u64>, wanted: &[u64]) {
+    assert_eq!(rt; words.as_slice(), wanted);
 }
 
 /// Two sessions intern, one commits, and the other sees it.
@@ -93,8 +102,9 @@ fn share<N: Site>(rt: &impl Abort, alloc: Global, blank: Blank) -> Result<(), Fa
     let mut b = keeper.enrol(alloc, &arena)?;
     intern_in_turn(rt, &arena, &mut a, &mut b);
     let a = commit_and_see(rt, &arena, &mut keeper, a, &mut b);
-    let (_, words) = close(alloc, arena, keeper, a, Vec::new(alloc), b)?;
-    assert_eq!(rt; words.as_slice(), SHARED.as_slice());
+    let _ = keeper.end(&arena, a);
+    let _ = keeper.end(&arena, b);
+    has_words(rt, &keeper.finish(arena).into_words(), &SHARED);
     Ok(())
 }
 
@@ -132,35 +142,57 @@ fn commit_both<N: Site>(
     ensures ended { keeper.new.ended ≡ keeper.old.ended }
     ensures guest { keeper.new.guest ≡ None }
 {
-    assert_eq!(rt; [first.session(), last.session()], [1, 1023]);
-    let (first, place) = commit(arena, keeper, first);
-    assert_eq!(rt; place, Ok(3));
-    let (last, place) = commit(arena, keeper, last);
-    assert_eq!(rt; place, Ok(4));
-    assert_eq!(rt;
-        [first.made(), first.mine(), last.made(), last.mine()],
-        [2, 1, 1, 1]
-    );
+    is(rt, first.session() as u64, 1);
+    is(rt, last.session() as u64, 1023);
+    let first = commit_at(rt, arena, keeper, first, 3);
+    let last = commit_at(rt, arena, keeper, last, 4);
+    has_made(rt, &first, 2, 1);
+    has_made(rt, &last, 1, 1);
     (first, last)
 }
 
-/// 1,023 sessions are enrolled, and the first and the last commit.
-fn commit_two<N: Site>(rt: &impl Abort, alloc: Global, blank: Blank) -> Result<(), Fail>
+/// The first and the last session commit, and all are ended.
+fn commit_and_close<N: Site>(
+    rt: &impl Abort,
+    alloc: Global,
+    arena: Arena<N>,
+    mut keeper: KeeperPass<N>,
+    first: Pass<N>,
+    others: Vec<Worker<N>>,
+    last: Pass<N>,
+) -> Result<(), Fail>
+    requires guest { keeper.guest ≡ None }
+    requires enrolled { keeper.enrolled ≡ vec_len others + 2 }
+    requires ended { keeper.ended ≡ [] }
+{
+    let (first, last) = commit_both(rt, &arena, &mut keeper, first, last);
+    let _ = keeper.end(&arena, first);
+    let _ = keeper.end(&arena, last);
+    let did = end_all(alloc, &arena, &mut keeper, others)?;
+    is(rt, made(&did), 0);
+    has_words(rt, &keeper.finish(arena).into_words(), &COMMITTED);
+    Ok(())
+}
+
+/// The first and the last of all sessions commit, with so many between them.
+fn commit_two<N: Site>(
+    rt: &impl Abort,
+    alloc: Global,
+    blank: Blank,
+    between: u32,
+) -> Result<(), Fail>
     requires { blank ≡ N.log }
 {
+    assert!(rt; between <= 1021);
     let (arena, mut keeper) = Arena::<N>::make(blank);
     let first = keeper.enrol(alloc, &arena)?;
-    let others = enrol_all(alloc, &arena, &mut keeper, 1021, &NOTHING)?;
+    let others = enrol_all(alloc, &arena, &mut keeper, between, &NOTHING)?;
     let last = keeper.enrol(alloc, &arena)?;
-    let (first, last) = commit_both(rt, &arena, &mut keeper, first, last);
-    let (did, words) = close(alloc, arena, keeper, first, others, last)?;
-    assert_eq!(rt; made(&did), 0);
-    assert_eq!(rt; words.as_slice(), COMMITTED.as_slice());
-    Ok(())
+    commit_and_close(rt, alloc, arena, keeper, first, others, last)
 }
 
 #[test]
 fn two_of_1023_sessions_commit(rt: HostRuntime) -> Result<(), Fail> {
     let blank = Blank::make(rt.alloc(), 64)?;
-    commit_two::<Brand>(&rt, rt.alloc(), blank)
+    commit_two::<Brand>(&rt, rt.alloc(), blank, 1021)
 }

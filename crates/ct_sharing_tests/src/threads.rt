@@ -5,7 +5,7 @@ ghost use Rattle.ct_word.specs.declared.kinds.Class.TheVariants as class;
 ghost use Rattle.ct_word.specs.WellFormed.{is_place_of};
 
 use crate::checks::{no_word_twice, stands};
-use crate::puts::put;
+use crate::puts::{put, put_character, put_part};
 use ct_arena::{Arena, Blank, Full, KeeperPass, Pass, Site};
 use ct_word::{Kind, List};
 use std::alloc::Global;
@@ -81,7 +81,7 @@ impl<N: Site> Worker<N> {
         let upper = owner(&job.words, session) % 1024;
         for k in 0..job.count {
             let n = turn(session, k, job.count);
-            let Ok(place) = put(arena, &mut self.pass, Kind::NumberHigh, upper, n) else {
+            let Ok(place) = put_part(arena, &mut self.pass, upper, n) else {
                 self.full_at = self.pass.words().len();
                 return;
             };
@@ -95,7 +95,7 @@ impl<N: Site> Worker<N> {
         requires small { end < 2 ^ 28 }
         ensures { IsTrue (is_place_of self.new.pass.words class.Text end) }
     {
-        let place = put(arena, &mut self.pass, Kind::TextCharacter, end, n % 128)?;
+        let place = put_character(arena, &mut self.pass, end, n % 128)?;
         keep(&mut self.places, n, place);
         Ok(())
     }
@@ -302,6 +302,20 @@ pub fn have_own(rt: &impl Abort, words: &[u64], did: &[Did]) {
     }
 }
 
+/// The log has so many words, none of them twice, and the sessions made all but the first two.
+fn are_made(
+    rt: &impl Abort,
+    alloc: Global,
+    words: &[u64],
+    did: &[Did],
+    count: usize,
+) -> Result<(), Fail> {
+    assert_eq!(rt; words.len(), count);
+    no_word_twice(rt, alloc, words)?;
+    assert_eq!(rt; made(did), (count as u64).saturating_sub(2));
+    Ok(())
+}
+
 /// Four sessions do a job on a log of this capacity, which has so many words in the end. Answers what each did, and the log.
 fn run_four(
     rt: &(impl Threads + Abort + Sync),
@@ -314,9 +328,7 @@ fn run_four(
     requires most { cap ≤ 4194304 }
 {
     let (did, words) = run_job(rt, alloc, cap, 4, job)?;
-    assert_eq!(rt; words.as_slice().len(), count);
-    no_word_twice(rt, alloc, words.as_slice())?;
-    assert_eq!(rt; made(&did), (count as u64).saturating_sub(2));
+    are_made(rt, alloc, words.as_slice(), &did, count)?;
     Ok((did, words))
 }
 

@@ -2,12 +2,11 @@
 
 ghost use Rattle.std.specs.Prelude.{◌≡◌};
 
-use crate::tables::{equal, filled, named};
+use crate::tables::{equal, filled, named, number};
 use ct_arena::{Arena, Blank, Pass, Site};
-use ct_condition::term;
 use ct_operators::{CRow, delete};
 use ct_samples::{is_place, no_columns};
-use ct_word::{Class, List, Term, Value};
+use ct_word::{Class, List};
 use std::alloc::Global;
 use std::marker::Brand;
 use std::process::Abort;
@@ -33,18 +32,28 @@ fn left<N: Site>(
 }
 
 /// Deletes the rows of 1 and of ?x where ?x is 1.
+fn delete_where_one<N: Site>(
+    rt: &impl Abort,
+    alloc: Global,
+    arena: &Arena<N>,
+    pass: &mut Pass<N>,
+) -> Result<(), Fail> {
+    let one = number(arena, pass, 1)?;
+    let x = named(alloc, arena, pass, "x")?;
+    let cond = equal(arena, pass, x, one)?;
+    let rows = left(alloc, arena, pass, [one, x], cond)?;
+    assert_eq!(rt; rows.len(), 2);
+    assert!(rt; rows.as_slice().iter().all(|row| row.cond > cond));
+    Ok(())
+}
+
+/// The same in a log of its own.
 fn delete_rows<N: Site>(rt: &impl Abort, alloc: Global, blank: Blank) -> Result<(), Fail>
     requires { blank ≡ N.log }
 {
     let (arena, mut keeper) = Arena::<N>::make(blank);
     let mut pass = keeper.enrol(alloc, &arena)?;
-    let one = term(&arena, &mut pass, &Term::Value(Value::Int(1)))?;
-    let x = named(alloc, &arena, &mut pass, "x")?;
-    let cond = equal(&arena, &mut pass, x, one)?;
-    let rows = left(alloc, &arena, &mut pass, [one, x], cond)?;
-    assert_eq!(rt; rows.len(), 2);
-    assert!(rt; rows.as_slice().iter().all(|row| row.cond > cond));
-    Ok(())
+    delete_where_one(rt, alloc, &arena, &mut pass)
 }
 
 #[test]

@@ -6,14 +6,14 @@ ghost use Rattle.ct_word.specs.WellFormed.{is_place_of};
 ghost use Rattle.ct_word.specs.declared.kinds.Class.TheVariants as class;
 ghost use Rattle.ct_certain.specs.Certain.{IsKeptWorld};
 
-use crate::tables::{equal, filled, named};
+use crate::tables::{equal, filled, named, number};
 use ct_arena::{Arena, Blank, Pass, Site};
 use ct_certain::{CertainRow, PossibleRow, certain, possible};
 use ct_checker::{Marks, check, widest};
-use ct_condition::{and, not, term, worths};
+use ct_condition::{and, not, worths};
 use ct_derivation::Proof;
 use ct_samples::{is_place, no_columns};
-use ct_word::{Class, List, Memory, Null, Term, Value, World};
+use ct_word::{Class, List, Memory, Null, Value, World};
 use std::alloc::Global;
 use std::marker::Brand;
 use std::process::Abort;
@@ -64,21 +64,21 @@ struct Parts {
 }
 
 /// The places of a number, and of the equality of a term and it.
-fn number<N: Site>(
+fn equal_to<N: Site>(
     arena: &Arena<N>,
     pass: &mut Pass<N>,
     x: u32,
-    number: i64,
+    n: i64,
 ) -> Result<(u32, u32), Fail> {
-    let number = term(arena, pass, &Term::Value(Value::Int(number)))?;
+    let number = number(arena, pass, n)?;
     let is = equal(arena, pass, x, number)?;
     Ok((number, is))
 }
 
 fn parts_of<N: Site>(alloc: Global, arena: &Arena<N>, pass: &mut Pass<N>) -> Result<Parts, Fail> {
     let x = named(alloc, arena, pass, "x")?;
-    let (one, is_one) = number(arena, pass, x, 1)?;
-    let (two, is_two) = number(arena, pass, x, 2)?;
+    let (one, is_one) = equal_to(arena, pass, x, 1)?;
+    let (two, is_two) = equal_to(arena, pass, x, 2)?;
     Ok(Parts {
         x,
         one,
@@ -112,23 +112,33 @@ fn are_shown(rows: &[PossibleRow]) -> bool {
 }
 
 /// Of the rows (?x) if ?x = 2, (1), (2) if ?x = 1 and ?x = 2 and (3) if ?x = 2, all but the third one are possible.
-fn list_rows<N: Site>(rt: &impl Abort, alloc: Global, blank: Blank) -> Result<(), Fail>
-    requires { blank ≡ N.log }
-{
-    let (arena, mut keeper) = Arena::<N>::make(blank);
-    let mut pass = keeper.enrol(alloc, &arena)?;
-    let p = parts_of(alloc, &arena, &mut pass)?;
-    let never = both(&arena, &mut pass, p.is_one, p.is_two)?;
-    let three = term(&arena, &mut pass, &Term::Value(Value::Int(3)))?;
+fn show_rows<N: Site>(
+    rt: &impl Abort,
+    alloc: Global,
+    arena: &Arena<N>,
+    pass: &mut Pass<N>,
+) -> Result<(), Fail> {
+    let p = parts_of(alloc, arena, pass)?;
+    let never = both(arena, pass, p.is_one, p.is_two)?;
+    let three = number(arena, pass, 3)?;
     let cells = [
         (p.x, p.is_two),
         (p.one, 0),
         (p.two, never),
         (three, p.is_two),
     ];
-    let list = possible_of(alloc, &arena, &mut pass, &cells)?;
+    let list = possible_of(alloc, arena, pass, &cells)?;
     assert!(rt; are_shown(list.as_slice()));
     Ok(())
+}
+
+/// The same in a log of its own.
+fn list_rows<N: Site>(rt: &impl Abort, alloc: Global, blank: Blank) -> Result<(), Fail>
+    requires { blank ≡ N.log }
+{
+    let (arena, mut keeper) = Arena::<N>::make(blank);
+    let mut pass = keeper.enrol(alloc, &arena)?;
+    show_rows(rt, alloc, &arena, &mut pass)
 }
 
 /// The place of the negation of a condition.
@@ -220,30 +230,52 @@ fn have_one_question(list: &[CertainRow]) -> bool {
     }
 }
 
+/// A table of one column with these cells, each under its condition, has the certain tuples of these numbers.
+fn has_tuples<N: Site>(
+    rt: &impl Abort,
+    alloc: Global,
+    arena: &Arena<N>,
+    pass: &mut Pass<N>,
+    cells: &[(u32, u32)],
+    numbers: &[i64],
+) -> Result<(), Fail> {
+    let list = certain_of(alloc, arena, pass, cells)?;
+    assert!(rt; are_numbers(list.as_slice(), numbers));
+    Ok(())
+}
+
 /// Of (?x) if ?x = 1 and (1) if not ?x = 1, the tuple (1) is certain, and of (?x) alone none. Of (1) and (2), each if
 /// ?x = 1 and if not, both are certain, by the same question.
-fn list_tuples<N: Site>(rt: &impl Abort, alloc: Global, blank: Blank) -> Result<(), Fail>
-    requires { blank ≡ N.log }
-{
-    let (arena, mut keeper) = Arena::<N>::make(blank);
-    let mut pass = keeper.enrol(alloc, &arena)?;
-    let p = parts_of(alloc, &arena, &mut pass)?;
-    let is_not = opposite(&arena, &mut pass, p.is_one)?;
+fn show_tuples<N: Site>(
+    rt: &impl Abort,
+    alloc: Global,
+    arena: &Arena<N>,
+    pass: &mut Pass<N>,
+) -> Result<(), Fail> {
+    let p = parts_of(alloc, arena, pass)?;
+    let is_not = opposite(arena, pass, p.is_one)?;
     let cells = [(p.x, p.is_one), (p.one, is_not)];
-    let one = certain_of(alloc, &arena, &mut pass, &cells)?;
-    assert!(rt; are_numbers(one.as_slice(), &[1]));
-    let none = certain_of(alloc, &arena, &mut pass, &[(p.x, 0)])?;
-    assert!(rt; none.is_empty());
+    has_tuples(rt, alloc, arena, pass, &cells, &[1])?;
+    has_tuples(rt, alloc, arena, pass, &[(p.x, 0)], &[])?;
     let cells = [
         (p.one, p.is_one),
         (p.one, is_not),
         (p.two, p.is_one),
         (p.two, is_not),
     ];
-    let both = certain_of(alloc, &arena, &mut pass, &cells)?;
+    let both = certain_of(alloc, arena, pass, &cells)?;
     assert!(rt; are_numbers(both.as_slice(), &[1, 2]));
     assert!(rt; have_one_question(both.as_slice()));
     Ok(())
+}
+
+/// The same in a log of its own.
+fn list_tuples<N: Site>(rt: &impl Abort, alloc: Global, blank: Blank) -> Result<(), Fail>
+    requires { blank ≡ N.log }
+{
+    let (arena, mut keeper) = Arena::<N>::make(blank);
+    let mut pass = keeper.enrol(alloc, &arena)?;
+    show_tuples(rt, alloc, &arena, &mut pass)
 }
 
 #[test]
@@ -261,19 +293,29 @@ fn is_second_shorter(rows: &[PossibleRow]) -> bool {
 }
 
 /// Of (1) if ?x = 1 and ?y = 1 and (2) if ?x = 1, both are possible, the second one in a world without ?y.
+fn show_short_worlds<N: Site>(
+    rt: &impl Abort,
+    alloc: Global,
+    arena: &Arena<N>,
+    pass: &mut Pass<N>,
+) -> Result<(), Fail> {
+    let p = parts_of(alloc, arena, pass)?;
+    let y = named(alloc, arena, pass, "y")?;
+    let other = equal(arena, pass, y, p.one)?;
+    let all = both(arena, pass, p.is_one, other)?;
+    let cells = [(p.one, all), (p.two, p.is_one)];
+    let list = possible_of(alloc, arena, pass, &cells)?;
+    assert!(rt; is_second_shorter(list.as_slice()));
+    Ok(())
+}
+
+/// The same in a log of its own.
 fn list_short_worlds<N: Site>(rt: &impl Abort, alloc: Global, blank: Blank) -> Result<(), Fail>
     requires { blank ≡ N.log }
 {
     let (arena, mut keeper) = Arena::<N>::make(blank);
     let mut pass = keeper.enrol(alloc, &arena)?;
-    let p = parts_of(alloc, &arena, &mut pass)?;
-    let y = named(alloc, &arena, &mut pass, "y")?;
-    let other = equal(&arena, &mut pass, y, p.one)?;
-    let all = both(&arena, &mut pass, p.is_one, other)?;
-    let cells = [(p.one, all), (p.two, p.is_one)];
-    let list = possible_of(alloc, &arena, &mut pass, &cells)?;
-    assert!(rt; is_second_shorter(list.as_slice()));
-    Ok(())
+    show_short_worlds(rt, alloc, &arena, &mut pass)
 }
 
 #[test]

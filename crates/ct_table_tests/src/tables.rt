@@ -9,7 +9,7 @@ use ct_arena::{Arena, Pass, Site};
 use ct_condition::{eq, term};
 use ct_operators::{CRow, CTable, insert};
 use ct_samples::{are_places, is_place, no_columns};
-use ct_word::{Class, List, Null, Term, Text};
+use ct_word::{Class, List, Null, Term, Text, Value};
 use std::alloc::Global;
 use std::test::Fail;
 
@@ -22,6 +22,11 @@ pub fn named<N: Site>(
 ) -> Result<u32, Fail> {
     let name = Text::from_str(alloc, name)?;
     Ok(term(arena, pass, &Term::Null(Null::Named(name)))?)
+}
+
+/// The place of a number. Nothing is said of it, which keeps the tests short to prove.
+pub fn number<N: Site>(arena: &Arena<N>, pass: &mut Pass<N>, n: i64) -> Result<u32, Fail> {
+    Ok(term(arena, pass, &Term::Value(Value::Int(n)))?)
 }
 
 /// The place of the equality of two terms.

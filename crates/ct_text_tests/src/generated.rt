@@ -1,6 +1,8 @@
 // Generated scripts, with lines worked from their description.
 
 use ct_fill::script;
+use ct_word::Text;
+use std::alloc::Global;
 use std::test::Fail;
 
 /// The script of session 2 with nine rows, after which the nulls come round again.
@@ -31,16 +33,21 @@ possible select a from f4 where b = 1;
 certain select a from f4;
 ";
 
+/// A script. Nothing is said of it, which keeps the tests short to prove.
+fn made(alloc: Global, session: u32, rows: u32) -> Result<Text, Fail> {
+    Ok(script(alloc, session, rows)?)
+}
+
 #[test]
 fn a_script_is_as_described(rt: HostRuntime) -> Result<(), Fail> {
-    let made = script(rt.alloc(), 2, 9)?;
+    let made = made(rt.alloc(), 2, 9)?;
     assert_eq!(rt; made.as_str(), NINE);
     Ok(())
 }
 
 #[test]
 fn the_longest_script_has_all_rows(rt: HostRuntime) -> Result<(), Fail> {
-    let made = script(rt.alloc(), 4, 2000)?;
+    let made = made(rt.alloc(), 4, 2000)?;
     assert_eq!(rt; made.as_str().len(), 73_070);
     assert!(rt; made.as_str().ends_with(LAST));
     Ok(())

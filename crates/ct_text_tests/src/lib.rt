@@ -1,6 +1,9 @@
-//! Tests of the crates from words up to statements with positions for names, and of scripts and sinks.
+//! Tests of the crates from words up to statements with positions for names, of scripts and sinks, and of the words of
+//! the command line.
 #![tactic(auto)]
 
+#[cfg(test)]
+mod command_line;
 #[cfg(test)]
 mod generated;
 #[cfg(test)]

@@ -13,76 +13,116 @@ fn bytes_of(alloc: Global, text: &str) -> Result<List<u8>, AllocError> {
     Ok(List::from_vec(Vec::from_slice(alloc, text.as_bytes())?))
 }
 
+fn list<T: Drop, const N: usize>(alloc: Global, items: [T; N]) -> Result<List<T>, AllocError> {
+    Ok(List::from_vec(Vec::from_array(alloc, items)?))
+}
+
+// A script with its name.
+fn named(alloc: Global, name: &str, text: &str) -> Result<(Text, List<u8>), Fail> {
+    Ok((Text::from_str(alloc, name)?, bytes_of(alloc, text)?))
+}
+
 // A source of two scripts whose third call fails.
 fn two_scripts(alloc: Global) -> Result<MemScripts, Fail> {
-    let mut held = Vec::new(alloc);
-    for (name, text) in [("a", "xyz"), ("b", "")] {
-        held.push((Text::from_str(alloc, name)?, bytes_of(alloc, text)?))?;
+    let held = list(alloc, [named(alloc, "a", "xyz")?, named(alloc, "b", "")?])?;
+    Ok(MemScripts::make(alloc, held, list(alloc, [3])?))
+}
+
+/// Whether a script is read as this text, or where a fault is expected, with this fault.
+fn is_read_as(
+    alloc: Global,
+    scripts: &mut MemScripts,
+    (name, limit): (&str, u32),
+    text: &str,
+    fault: Option<ReadError>,
+) -> bool {
+    match scripts.read(alloc, name, limit) {
+        Ok(found) => fault.is_none() && found.as_slice() == text.as_bytes(),
+        Err(found) => fault == Some(found),
     }
-    let fails = Vec::from_slice(alloc, &[3])?;
-    Ok(MemScripts::make(alloc, List::from_vec(held), List::from_vec(fails)))
 }
 
 #[test]
 fn reads_within_the_limit(rt: HostRuntime) -> Result<(), Fail> {
     let mut scripts = two_scripts(rt.alloc())?;
     let cases = [
-        ("a", 3, Ok("xyz")),
-        ("a", 2, Err(ReadError::TooLong)),
-        ("a", 3, Err(ReadError::Failed)),
-        ("c", 3, Err(ReadError::Failed)),
-        ("b", 0, Ok("")),
+        (("a", 3), "xyz", None),
+        (("a", 2), "", Some(ReadError::TooLong)),
+        (("a", 3), "", Some(ReadError::Failed)),
+        (("c", 3), "", Some(ReadError::Failed)),
+        (("b", 0), "", None),
     ];
-    for (name, limit, expected) in cases {
-        match (scripts.read(rt.alloc(), name, limit), expected) {
-            (Ok(text), Ok(wanted)) => assert!(rt; text.as_slice() == wanted.as_bytes()),
-            (Err(fault), Err(wanted)) => assert!(rt; fault == wanted),
-            _ => assert!(rt; false),
-        }
+    for (call, text, fault) in cases {
+        assert!(rt; is_read_as(rt.alloc(), &mut scripts, call, text, fault));
     }
     Ok(())
+}
+
+/// A sink whose calls of these numbers fail, each after so many bytes.
+fn sink(alloc: Global, fails: &[(u64, u32)]) -> Result<MemSink, AllocError> {
+    Ok(MemSink::make(alloc, List::from_vec(Vec::from_slice(alloc, fails)?)))
+}
+
+/// Whether bytes are written. Nothing is said of the sink, which keeps the tests short to prove.
+fn is_written(out: &mut MemSink, bytes: &str) -> bool {
+    out.write(bytes.as_bytes()).is_ok()
 }
 
 #[test]
 fn a_failing_write_takes_a_prefix(rt: HostRuntime) -> Result<(), Fail> {
-    let fails = Vec::from_slice(rt.alloc(), &[(2, 1), (3, 9)])?;
-    let mut out = MemSink::make(rt.alloc(), List::from_vec(fails));
-    assert!(rt; out.write(b"ab").is_ok());
-    assert!(rt; out.write(b"cd").is_err());
-    assert!(rt; out.write(b"ef").is_err());
-    assert!(rt; out.write(b"gh").is_ok());
+    let mut out = sink(rt.alloc(), &[(2, 1), (3, 9)])?;
+    let writes = [("ab", true), ("cd", false), ("ef", false), ("gh", true)];
+    for (bytes, is_ok) in writes {
+        assert!(rt; is_written(&mut out, bytes) == is_ok);
+    }
     assert!(rt; out.bytes() == "abcefgh".as_bytes());
     Ok(())
 }
 
+/// Whether lines are written. Nothing is said of the sink here either.
+fn are_written(out: &mut MemSink, lines: &[Text]) -> bool {
+    write_all(out, lines).is_ok()
+}
+
+/// Two lines of four bytes.
+fn two_lines(alloc: Global) -> Result<List<Text>, Fail> {
+    let lines = [
+        Text::from_str(alloc, "one\n")?,
+        Text::from_str(alloc, "two\n")?,
+    ];
+    Ok(list(alloc, lines)?)
+}
+
 #[test]
 fn lines_up_to_the_failing_one(rt: HostRuntime) -> Result<(), Fail> {
-    let fails = Vec::from_slice(rt.alloc(), &[(3, 2)])?;
-    let mut out = MemSink::make(rt.alloc(), List::from_vec(fails));
-    let mut lines = Vec::new(rt.alloc());
-    for line in ["one\n", "two\n"] {
-        lines.push(Text::from_str(rt.alloc(), line)?)?;
-    }
-    assert!(rt; write_all(&mut out, lines.as_slice()).is_ok());
-    assert!(rt; write_all(&mut out, lines.as_slice()).is_err());
+    let mut out = sink(rt.alloc(), &[(3, 2)])?;
+    let lines = two_lines(rt.alloc())?;
+    assert!(rt; are_written(&mut out, lines.as_slice()));
+    assert!(rt; !are_written(&mut out, lines.as_slice()));
     assert!(rt; out.bytes() == "one\ntwo\non".as_bytes());
     Ok(())
+}
+
+/// How many files are read, and the fault of the next one.
+fn all_read(
+    alloc: Global,
+    scripts: &mut MemScripts,
+    files: &[&str],
+    limit: u32,
+) -> (usize, Option<ReadError>) {
+    match read_all(alloc, scripts, files, limit) {
+        Ok(texts) => (texts.len(), None),
+        Err(unread) => (unread.texts.len(), Some(unread.fault)),
+    }
 }
 
 #[test]
 fn files_up_to_the_one_at_fault(rt: HostRuntime) -> Result<(), Fail> {
     let mut scripts = two_scripts(rt.alloc())?;
-    match read_all(rt.alloc(), &mut scripts, &["b", "a"], 3) {
-        Ok(texts) => assert!(rt; texts.len() == 2),
-        Err(_) => assert!(rt; false),
-    }
-    match read_all(rt.alloc(), &mut scripts, &["a", "c"], 3) {
-        Ok(_) => assert!(rt; false),
-        Err(unread) => {
-            assert!(rt; unread.texts.is_empty());
-            assert!(rt; unread.fault == ReadError::Failed);
-        }
-    }
+    let whole = all_read(rt.alloc(), &mut scripts, &["b", "a"], 3);
+    assert_eq!(rt; whole, (2, None));
+    let none = all_read(rt.alloc(), &mut scripts, &["a", "c"], 3);
+    assert_eq!(rt; none, (0, Some(ReadError::Failed)));
     Ok(())
 }
 

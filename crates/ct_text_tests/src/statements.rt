@@ -1,7 +1,7 @@
 // One script, from its texts to statements with positions for names. What texts are refused for, and what others ask
 // for, is in the scripts of tests/.
 
-use ct_lex::{split, tokens};
+use ct_lex::{Token, split, tokens};
 use ct_parse::{ParseError, condition, statement};
 use ct_query::{Heading, Schema};
 use ct_resolve::resolve;
@@ -22,14 +22,29 @@ const SPANS: [(&str, &[(u64, u64)]); 9] = [
     ("= <> !=", &[(0, 1), (2, 4), (5, 7)]),
 ];
 
+/// Whether tokens start and end at these places.
+fn stand_at(found: &[Token], spans: &[(u64, u64)]) -> bool {
+    if found.len() != spans.len() {
+        return false;
+    }
+    for (token, span) in found.iter().zip(spans) {
+        if token.start != span.0 || token.end != span.1 {
+            return false;
+        }
+    }
+    true
+}
+
+/// Whether the tokens of a text start and end at these places.
+fn are_spelled(alloc: Global, text: &str, spans: &[(u64, u64)]) -> Result<bool, Fail> {
+    let found = tokens(alloc, text)?;
+    Ok(stand_at(found.as_slice(), spans))
+}
+
 #[test]
 fn tokens_stand_where_they_are_spelled(rt: HostRuntime) -> Result<(), Fail> {
     for (text, spans) in SPANS {
-        let found = tokens(rt.alloc(), text)?;
-        assert_eq!(rt; found.len(), spans.len(), "{text}");
-        for (token, (start, end)) in found.iter().zip(spans) {
-            assert_eq!(rt; (token.start, token.end), (*start, *end), "{text}");
-        }
+        assert!(rt; are_spelled(rt.alloc(), text, spans)?, "{text}");
     }
     Ok(())
 }
@@ -59,21 +74,25 @@ fn is_resolved(alloc: Global, fresh: u32, text: &str) -> Result<bool, Fail> {
     Ok(is_found)
 }
 
+/// Whether a script has these texts.
+fn are_its_texts(alloc: Global, script: &str, wanted: &[&str]) -> Result<bool, Fail> {
+    let texts = split(alloc, script)?;
+    Ok(texts.as_slice() == wanted)
+}
+
+/// The texts of `begin; select b as c from t; -- no text;`, and of a line after it.
+const TEXTS: [&str; 3] = [
+    "begin",
+    " select b as c from t",
+    "insert into t values (null, ';')",
+];
+
 #[test]
 fn a_script_is_read_text_by_text(rt: HostRuntime) -> Result<(), Fail> {
-    let alloc = rt.alloc();
-    let texts = split(
-        alloc,
-        "begin; select b as c from t; -- no text;\n;insert into t values (null, ';')",
-    )?;
-    let wanted = [
-        "begin",
-        " select b as c from t",
-        "insert into t values (null, ';')",
-    ];
-    assert_eq!(rt; texts.as_slice(), wanted.as_slice());
-    for text in texts {
-        assert!(rt; is_resolved(alloc, 0, text)?);
+    let script = "begin; select b as c from t; -- no text;\n;insert into t values (null, ';')";
+    assert!(rt; are_its_texts(rt.alloc(), script, &TEXTS)?);
+    for text in TEXTS {
+        assert!(rt; is_resolved(rt.alloc(), 0, text)?);
     }
     Ok(())
 }
@@ -87,9 +106,14 @@ fn the_last_null_has_its_number(rt: HostRuntime) -> Result<(), Fail> {
     Ok(())
 }
 
+/// The tokens of a text. Nothing is said of them, which keeps a test of one text short to prove.
+fn tokens_of(alloc: Global, text: &str) -> Result<Vec<Token>, Fail> {
+    Ok(tokens(alloc, text)?)
+}
+
 #[test]
 fn a_condition_is_read_to_its_end(rt: HostRuntime) -> Result<(), Fail> {
-    let words = tokens(rt.alloc(), "a = 1 or not (b = 'x' and c <> d)")?;
+    let words = tokens_of(rt.alloc(), "a = 1 or not (b = 'x' and c <> d)")?;
     drop(condition(rt.alloc(), words.as_slice())?);
     let part = words.as_slice().get(..4).unwrap_or(&[]);
     assert!(rt; condition(rt.alloc(), part).err() == Some(ParseError::NotAStatement));
