@@ -2,10 +2,7 @@
 use Rattle.std.proofs.Common.{◌≡◌, ◌≢◌, ◌⊎◌, ℕ, ◌+◌, ◌-◌, ◌<◌, ◌≤◌, ◌^◌, List, [], ◌∷◌, ◌++◌, length, get_or, set, replicate, refl, sym, ap, ◌∙◌, subst, arith, length-set, inl, inr}
 use Rattle.std.proofs.lemmas.Bool.{cases_eq, cases_lt}
 use Rattle.std.proofs.lemmas.List.{get_or_append_left, get_or_push, get_or-set_same, get_or-set_other, get_or-replicate, length_push}
-use Rattle.ct_chain.specs.Bucket.{bucket_of}
-use Rattle.ct_chain.specs.Linked.{IsLast}
-use Rattle.ct_chain.specs.Keys.{IsFirst, AreKeysLinked}
-use Rattle.ct_chain.proofs.Mixing.{bucket_below}
+use Rattle.ct_chain.{specs.Bucket.bucket_of, specs.Linked.IsLast, specs.Keys.{IsFirst, AreKeysLinked}, proofs.Mixing.bucket_below}
 use Rattle.ct_chain.proofs.Steps.{own, last_of_none, last_grows, head_step}
 
 pub no_keys : (n : ℕ) (heads tails : List ℕ) → 0 < n → n ≤ 2 ^ 32 → heads ≡ replicate n (2 ^ 32 - 1) → tails ≡ replicate n 0 → length heads ≡ n → length tails ≡ n → AreKeysLinked n [] heads tails []

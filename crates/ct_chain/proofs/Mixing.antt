@@ -1,6 +1,5 @@
 -- A bucket is one of those that there are.
-use Rattle.std.proofs.Common.{ℕ, ◌*◌, ◌/◌, ◌<◌, ◌≤◌, ◌^◌, arith}
-use Rattle.std.proofs.lemmas.Nat.{div_below, mul-le}
+use Rattle.std.{proofs.Common.{ℕ, ◌*◌, ◌/◌, ◌<◌, ◌≤◌, ◌^◌, arith}, proofs.lemmas.Nat.{div_below, mul-le}}
 use Rattle.ct_chain.specs.Bucket.{bucket_of, fold_mul}
 
 scaled_below : (half n : ℕ) → half < 2 ^ 32 → 0 < n → half * n / 2 ^ 32 < n

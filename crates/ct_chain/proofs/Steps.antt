@@ -1,15 +1,8 @@
 -- One place more is linked.
 use Rattle.std.proofs.Common.{◌≡◌, ◌≢◌, ◌⊎◌, ℕ, ◌+◌, ◌<◌, ◌≤◌, ◌^◌, List, [], ◌∷◌, ◌++◌, length, get_or, set, replicate, sym, ap, ◌∙◌, subst, arith, length-set, inl, inr}
-use Rattle.std.specs.Prelude.{Contains}
-use Rattle.std.proofs.lemmas.Bool.{cases_eq, cases_lt}
-use Rattle.std.proofs.lemmas.Grind.{get_or_default_zero}
-use Rattle.std.proofs.lemmas.List.{get_or_append_left, get_or-set_same, get_or-set_other, get_or-replicate}
-use Rattle.std.proofs.lemmas.List.Quantifiers.{all_pairs_push}
-use Rattle.std.proofs.lemmas.List.Elements.{Contains-get_or}
-use Rattle.ct_chain.specs.Bucket.{bucket_of}
-use Rattle.ct_chain.specs.Seen.{AreDistinct}
-use Rattle.ct_chain.specs.Linked.{IsLast, IsLinked, IsSought}
-use Rattle.ct_chain.proofs.Mixing.{bucket_below}
+use Rattle.std.{specs.Prelude.Contains, proofs.lemmas.Bool.{cases_eq, cases_lt}, proofs.lemmas.List.Quantifiers.all_pairs_push}
+use Rattle.std.{proofs.lemmas.List.{get_or_append_left, get_or-set_same, get_or-set_other, get_or-replicate}, proofs.lemmas.List.Elements.Contains-get_or}
+use Rattle.ct_chain.{specs.Bucket.bucket_of, specs.Seen.AreDistinct, specs.Linked.{IsLast, IsLinked, IsSought}, proofs.Mixing.bucket_below}
 
 -- no place is of any bucket yet
 pub last_of_none : (n : ℕ) (numbers : List ℕ) (b at : ℕ) → at ≡ 0 → IsLast n numbers b at 0
@@ -101,10 +94,6 @@ sought_next n numbers heads next number at p linked sought e other =
       passed q from below same (inl before) _ last bucket = last.none q from before (ap (bucket_of n) same ∙ sym bucket)
       passed q from below same (inr past) (inl here) last bucket = other (ap (λ k. get_or numbers k 0) (sym here) ∙ same)
       passed q from below same (inr past) (inr there) last bucket = sought.none q (omega arith) below same
-
--- a number that was sought to the end stands nowhere
-pub sought_last : (n : ℕ) (numbers : List ℕ) (number : ℕ) → IsSought n numbers number 0 → Contains numbers number → ⊥
-sought_last n numbers number sought there = sought.none there.0 (omega arith) there.1 (sym (get_or_default_zero numbers there.0 number there.1) ∙ there.2)
 
 -- what is known of the places before `upto` stays as numbers are put at the end
 pub last_grows : (n : ℕ) (numbers more : List ℕ) (b at upto : ℕ) → upto ≤ length numbers → IsLast n numbers b at upto → IsLast n (numbers ++ more) b at upto

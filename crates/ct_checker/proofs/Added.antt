@@ -1,18 +1,9 @@
 -- Literals that are put into a list once have the members of the others, and are no more than a clause with them.
-use Rattle.std.proofs.Common.{◌≡◌, ℕ, ◌+◌, ◌≤◌, Bool, true, false, ◌&&◌, ◌||◌, cond, List, [], ◌∷◌, ◌++◌, length, nat_eq, length-append, refl, ap, sym, ◌∙◌, subst, arith, inl, inr}
-use Rattle.std.specs.Cmp.{IsEquivalence, nat_eq_equiv}
-use Rattle.std.specs.List.{list_all, IsDistinct}
-use Rattle.std.proofs.Math.Bool.{or_assoc, or-false}
-use Rattle.std.proofs.lemmas.Bool.{and_parts, or_cases, false≢true}
-use Rattle.std.proofs.lemmas.Map.Keys.{IsDistinct-push}
-use Rattle.std.proofs.lemmas.Map.Made.{length-le_from_is_member}
-use Rattle.ct_derivation.specs.declared.literals.Atom.{Atom}
-use Rattle.ct_derivation.specs.declared.literals.Atom.TheVariants as atom
-use Rattle.ct_derivation.specs.declared.literals.Lit.{Lit}
-use Rattle.ct_derivation.specs.Literal.{same_lit, has}
-use Rattle.ct_derivation.proofs.Members.{same_lit_is, lit_laws}
-use Rattle.ct_checker.specs.Added.{added, added_all}
-use Rattle.ct_checker.proofs.Members.{has_append}
+use Rattle.std.proofs.Common.{◌≡◌, ◌+◌, ◌≤◌, Bool, true, false, ◌&&◌, ◌||◌, cond, List, [], ◌∷◌, ◌++◌, length, length-append, refl, ap, sym, ◌∙◌, subst, arith, inl, inr}
+use Rattle.std.{specs.List.{list_all, IsDistinct}, proofs.Math.Bool.{or_assoc, or-false}, proofs.lemmas.Bool.{and_parts, or_cases, false≢true}}
+use Rattle.std.{proofs.lemmas.Map.Keys.IsDistinct-push, proofs.lemmas.Map.Made.length-le_from_is_member}
+use Rattle.ct_derivation.{specs.declared.literals.Lit.Lit, specs.Literal.{same_lit, has}, proofs.Members.{same_lit_is, lit_laws}}
+use Rattle.ct_checker.{specs.Added.{added, added_all}, proofs.Members.has_append}
 
 -- a test that holds only where another does adds nothing to it
 held : (a b : Bool) → (b ≡ true → a ≡ true) → a ≡ (a || b)

@@ -1,9 +1,7 @@
 -- Walking the chains of a marks table, and adding to them.
 use Rattle.std.proofs.Common.{◌≡◌, ◌≢◌, ℕ, zero, suc, ◌+◌, ◌<◌, ◌≤◌, true, false, List, [], ◌∷◌, ◌++◌, length, get_or, set, refl, ap, sym, ◌∙◌, subst, arith, inl, inr, length-append, length-set, get_or-set_other, get_or-set_same}
 use Rattle.std.proofs.lemmas.Bool.{or_from, both_ways, cases_Bool, cases_eq, cases_lt}
-use Rattle.ct_derivation.specs.declared.literals.Lit.{Lit}
-use Rattle.ct_derivation.specs.Literal.{same_lit, has}
-use Rattle.ct_derivation.proofs.Members.{same_lit_is}
+use Rattle.ct_derivation.{specs.declared.literals.Lit.Lit, specs.Literal.{same_lit, has}, proofs.Members.same_lit_is}
 use Rattle.ct_checker.specs.Linked.{bucket_of, Reaches, here, down, Linked, IsHead}
 
 get_or_any : {X : Type 0} (xs : List X) (i : ℕ) (d e : X) → i < length xs → get_or xs i d ≡ get_or xs i e

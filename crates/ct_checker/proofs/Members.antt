@@ -1,12 +1,7 @@
 -- Members of a list in two parts, and the width of one step.
 use Rattle.std.proofs.Common.{◌≡◌, ℕ, zero, suc, ◌<◌, ◌≤◌, ◌||◌, List, [], ◌∷◌, ◌++◌, length, get_or, arith, ◌-◌, ◌==◌, Option, Some, None, refl, ap, sym, ◌∙◌}
-use Rattle.std.specs.Prelude.{slice_get}
-use Rattle.std.proofs.lemmas.Option.{none-some}
-use Rattle.std.proofs.lemmas.Bool.{ne_eqb}
-use Rattle.std.proofs.lemmas.List.Folds.{list_any-append}
-use Rattle.ct_derivation.specs.declared.literals.Lit.{Lit}
-use Rattle.ct_derivation.specs.declared.steps.Step.{Step}
-use Rattle.ct_derivation.specs.Literal.{same_lit, has}
+use Rattle.std.{specs.Prelude.slice_get, proofs.lemmas.Option.none-some, proofs.lemmas.Bool.ne_eqb, proofs.lemmas.List.Folds.list_any-append}
+use Rattle.ct_derivation.{specs.declared.literals.Lit.Lit, specs.declared.steps.Step.Step, specs.Literal.{same_lit, has}}
 use Rattle.ct_derivation.specs.Accepts.{width, widest_of, ends_empty, is_empty}
 
 pub has_append : (l : Lit) (ls ms : List Lit) → has (ls ++ ms) l ≡ (has ls l || has ms l)

@@ -1,9 +1,6 @@
 -- A translation of literals that keeps sameness and opposites keeps each answer of reverse unit propagation.
 use Rattle.std.proofs.Common.{◌≡◌, ℕ, Bool, true, false, ◌&&◌, ◌||◌, List, [], ◌∷◌, ◌++◌, map, Option, Some, None, nat_lt, refl, ap, ◌∙◌, sym, if◌then◌else◌}
-use Rattle.std.specs.Prelude.{slice_get, option_map}
-use Rattle.std.specs.List.{list_all}
-use Rattle.std.proofs.lemmas.List.{map-append, length-map}
-use Rattle.std.proofs.lemmas.Option.{slice_get-map}
+use Rattle.std.{specs.Prelude.{slice_get, option_map}, specs.List.list_all, proofs.lemmas.List.{map-append, length-map}, proofs.lemmas.Option.slice_get-map}
 use Rattle.ct_derivation.specs.Propagation.{Literals, Look, Unfit, Falsified, Forces, is_among, by_rest, look, look_at, meets, are_hints, follows, Carries}
 
 module _ (from to : Literals) (f : from.literal → to.literal) (c : Carries from to f) where

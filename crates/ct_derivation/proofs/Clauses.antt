@@ -1,27 +1,15 @@
 -- The clause of a definition or a path holds at every valuation.
 use Rattle.std.proofs.Common.{◌≡◌, ℕ, zero, suc, Bool, true, false, not, ◌&&◌, ◌||◌, List, [], ◌∷◌, ◌++◌, Option, Some, None, nat_eq, nat_lt, refl, ap, ◌∙◌, sym, inl, inr, ◌⊎◌}
-use Rattle.std.specs.Prelude.{slice_get}
-use Rattle.std.proofs.lemmas.List.Folds.{list_any-append}
+use Rattle.std.{specs.Prelude.slice_get, proofs.lemmas.List.Folds.list_any-append}
 use Rattle.std.proofs.lemmas.Bool.{and_parts, or_left, or_right, eqb-false, false≢true, not-true, false_from_ne_true, cond_both, cases_Bool}
-use Rattle.ct_word.specs.declared.kinds.Kind.{Kind}
+use Rattle.ct_word.{specs.declared.kinds.Kind.Kind, specs.declared.values.Value.Value, specs.Word.{kind_of, left_of, right_of}, specs.Condition.holds_at}
+use Rattle.ct_word.{specs.Value.{World, at, same_value}, specs.Reading.{by_kind, meanings, as_cond, condition_at, term_at}, specs.WellFormed.IsWellFormed}
+use Rattle.ct_word.{proofs.Alike.value_decides, proofs.Splits.meaning_at, proofs.Constants.one_constant}
+use Rattle.ct_derivation.{specs.declared.literals.Lit.Lit, specs.Literal.{Clause, yes_of, no_of}, specs.Definition.{defining, definition}}
+use Rattle.ct_derivation.{specs.Path.{pair_of, is_constant, end_of, no_links, moves, ends_clause, is_path, path_clause}, specs.Accepts.is_clause}
+use Rattle.ct_derivation.{specs.Truth.{lit_holds, clause_holds}, proofs.Members.same_members_hold}
 use Rattle.ct_word.specs.declared.kinds.Kind.TheVariants as kind
-use Rattle.ct_word.specs.declared.values.Value.{Value}
-use Rattle.ct_word.specs.Word.{kind_of, left_of, right_of}
-use Rattle.ct_word.specs.Value.{World, at, same_value}
-use Rattle.ct_word.specs.Condition.{holds_at}
-use Rattle.ct_word.specs.Reading.{by_kind, meanings, as_cond, condition_at, term_at}
-use Rattle.ct_word.specs.WellFormed.{IsWellFormed}
 use Rattle.ct_derivation.specs.declared.literals.Atom.TheVariants as atom
-use Rattle.ct_derivation.specs.declared.literals.Lit.{Lit}
-use Rattle.ct_derivation.specs.Literal.{Clause, yes_of, no_of}
-use Rattle.ct_derivation.specs.Definition.{defining, definition}
-use Rattle.ct_derivation.specs.Path.{pair_of, is_constant, end_of, no_links, moves, ends_clause, is_path, path_clause}
-use Rattle.ct_derivation.specs.Accepts.{is_clause}
-use Rattle.ct_derivation.specs.Truth.{lit_holds, clause_holds}
-use Rattle.ct_word.proofs.Alike.{value_decides}
-use Rattle.ct_word.proofs.Splits.{meaning_at}
-use Rattle.ct_word.proofs.Constants.{one_constant}
-use Rattle.ct_derivation.proofs.Members.{same_members_hold}
 
 -- the clauses of a condition, where p is its truth and a and b those of its fields
 excluded : (p : Bool) → (p || (not p || false)) ≡ true

@@ -1,25 +1,16 @@
 -- An accepted derivation is accepted over every longer list of words.
 use Rattle.std.proofs.Common.{◌≡◌, ℕ, Bool, true, not, ◌&&◌, List, [], ◌∷◌, ◌++◌, Option, Some, None, nat_lt, nat_eq, refl, ap, sym, ◌∙◌, inl, inr, if◌then◌else◌}
-use Rattle.std.specs.Prelude.{slice_get}
-use Rattle.std.specs.List.{list_all}
-use Rattle.std.proofs.lemmas.Bool.{and_parts, and_from, false≢true, cases_Bool}
-use mathlib.Core.List.{IsPrefix}
-use Rattle.ct_word.specs.declared.kinds.Class.TheVariants as class
-use Rattle.ct_word.specs.WellFormed.{is_place_of}
-use Rattle.ct_word.specs.Constant.{is_constant_word}
-use Rattle.ct_word.proofs.Items.{get_append, all_implied}
+use Rattle.std.{specs.Prelude.slice_get, specs.List.list_all, proofs.lemmas.Bool.{and_parts, and_from, false≢true, cases_Bool}}
+use Rattle.ct_word.{specs.WellFormed.is_place_of, specs.Constant.is_constant_word, proofs.Items.{get_append, all_implied}}
 use Rattle.ct_word.proofs.Prefixes.{get_in_prefix, place_in_prefix, place_within}
-use Rattle.ct_derivation.specs.declared.literals.Atom.{Atom}
-use Rattle.ct_derivation.specs.declared.literals.Atom.TheVariants as atom
-use Rattle.ct_derivation.specs.declared.literals.Lit.{Lit}
-use Rattle.ct_derivation.specs.declared.steps.Why.{Why}
-use Rattle.ct_derivation.specs.declared.steps.Why.TheVariants as why
-use Rattle.ct_derivation.specs.declared.steps.Step.{Step}
-use Rattle.ct_derivation.specs.declared.steps.Derivation.{Derivation}
-use Rattle.ct_derivation.specs.Literal.{Clause}
-use Rattle.ct_derivation.specs.Definition.{definition}
+use Rattle.ct_derivation.{specs.declared.literals.Atom.Atom, specs.declared.literals.Lit.Lit, specs.declared.steps.Why.Why, specs.declared.steps.Step.Step}
+use Rattle.ct_derivation.{specs.declared.steps.Derivation.Derivation, specs.Literal.Clause, specs.Definition.definition}
 use Rattle.ct_derivation.specs.Path.{is_constant, end_of, no_links, moves, ends_clause, is_path, path_clause}
 use Rattle.ct_derivation.specs.Accepts.{fits_atom, fits_lit, is_clause, gives, is_right, all_right, ends_empty, accepts, Accepts}
+use mathlib.Core.List.{IsPrefix}
+use Rattle.ct_word.specs.declared.kinds.Class.TheVariants as class
+use Rattle.ct_derivation.specs.declared.literals.Atom.TheVariants as atom
+use Rattle.ct_derivation.specs.declared.steps.Why.TheVariants as why
 
 module _ (ws xs : List ℕ) (longer : IsPrefix ws xs) where
   atom_longer : (a : Atom) → fits_atom ws a ≡ true → fits_atom xs a ≡ true

@@ -1,15 +1,11 @@
 -- Literals that are written alike are one, and clauses with the same members have one truth.
-use Rattle.std.proofs.Common.{◌≡◌, ℕ, Bool, true, false, not, List, [], ◌∷◌, nat_eq, refl, ap, sym, ◌∙◌, subst, if◌then◌else◌, inl, inr}
-use Rattle.std.specs.List.{list_all}
-use Rattle.std.specs.Bool.{Decides}
-use Rattle.std.specs.Cmp.{IsEquivalence}
+use Rattle.std.{proofs.Common.{◌≡◌, ℕ, Bool, true, false, not, List, [], ◌∷◌, nat_eq, refl, ap, sym, ◌∙◌, subst, if◌then◌else◌, inl, inr}, specs.List.list_all}
+use Rattle.std.{specs.Bool.Decides, specs.Cmp.IsEquivalence}
 use Rattle.std.proofs.lemmas.Bool.{eqb-true, eq-eqb, and_from, and_parts, or_cases, or_parts, false≢true, both_ways, cases_Bool}
 use Rattle.ct_word.specs.Value.{World}
-use Rattle.ct_derivation.specs.declared.literals.Atom.{Atom}
-use Rattle.ct_derivation.specs.declared.literals.Atom.TheVariants as atom
-use Rattle.ct_derivation.specs.declared.literals.Lit.{Lit}
+use Rattle.ct_derivation.{specs.declared.literals.Atom.Atom, specs.declared.literals.Lit.Lit, specs.Truth.{atom_holds, lit_holds, clause_holds}}
 use Rattle.ct_derivation.specs.Literal.{same_sign, same_atom, same_lit, has, same_members, negated}
-use Rattle.ct_derivation.specs.Truth.{atom_holds, lit_holds, clause_holds}
+use Rattle.ct_derivation.specs.declared.literals.Atom.TheVariants as atom
 
 same_sign_is : (a b : Bool) → same_sign a b ≡ true → a ≡ b
 same_sign_is true true e = refl

@@ -1,22 +1,14 @@
 -- An assignment that satisfies the defining clauses gives each condition its truth, by induction on places.
 use Rattle.std.proofs.Common.{◌≡◌, ℕ, zero, suc, ◌<◌, Bool, true, false, not, ◌&&◌, ◌||◌, List, length, Option, Some, None, refl, ap, ◌∙◌, sym, arith}
-use Rattle.std.specs.Prelude.{slice_get}
-use Rattle.std.proofs.lemmas.Bool.{false≢true}
-use Rattle.ct_word.specs.declared.kinds.Kind.{Kind}
+use Rattle.std.{specs.Prelude.slice_get, proofs.lemmas.Bool.false≢true}
+use Rattle.ct_word.{specs.declared.kinds.Kind.Kind, specs.Word.{kind_of, left_of, right_of}, specs.Value.World, specs.Condition.holds_at}
+use Rattle.ct_word.{specs.Reading.{by_kind, meanings, as_cond, condition_at}, specs.WellFormed.{has_class, is_word_of, is_formed_as, IsWellFormed}}
+use Rattle.ct_word.proofs.Splits.{meaning_at, formed_at, formed_fields, split_at, place_within}
+use Rattle.ct_derivation.{specs.declared.literals.Atom.Atom, specs.Literal.Clause, specs.Definition.{defining, definition}, specs.Truth.atom_holds}
+use Rattle.ct_derivation.specs.Models.{IsModel, is_satisfied, AreFieldsBelow}
 use Rattle.ct_word.specs.declared.kinds.Kind.TheVariants as kind
 use Rattle.ct_word.specs.declared.kinds.Class.TheVariants as class
-use Rattle.ct_word.specs.Word.{kind_of, left_of, right_of}
-use Rattle.ct_word.specs.Value.{World}
-use Rattle.ct_word.specs.Condition.{holds_at}
-use Rattle.ct_word.specs.Reading.{by_kind, meanings, as_cond, condition_at}
-use Rattle.ct_word.specs.WellFormed.{has_class, is_word_of, is_formed_as, IsWellFormed}
-use Rattle.ct_derivation.specs.declared.literals.Atom.{Atom}
 use Rattle.ct_derivation.specs.declared.literals.Atom.TheVariants as atom
-use Rattle.ct_derivation.specs.Literal.{Clause}
-use Rattle.ct_derivation.specs.Definition.{defining, definition}
-use Rattle.ct_derivation.specs.Truth.{atom_holds}
-use Rattle.ct_derivation.specs.Models.{IsModel, is_satisfied, AreFieldsBelow}
-use Rattle.ct_word.proofs.Splits.{meaning_at, formed_at, formed_fields, split_at, place_within}
 
 -- the truth that the clauses leave
 is_true : (p : Bool) → (p || false) ≡ true → p ≡ true

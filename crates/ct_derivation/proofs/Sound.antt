@@ -1,26 +1,15 @@
 -- Each step of an accepted derivation holds wherever its root does.
-use Rattle.std.proofs.Common.{◌≡◌, ℕ, zero, suc, true, ◌&&◌, List, [], ◌∷◌, ◌++◌, refl, ap, inl, inr}
-use Rattle.std.specs.Prelude.{slice_get}
-use Rattle.std.specs.List.{list_all}
+use Rattle.std.{proofs.Common.{◌≡◌, ℕ, zero, suc, true, ◌&&◌, List, [], ◌∷◌, ◌++◌, refl, ap, inl, inr}, specs.Prelude.slice_get, specs.List.list_all}
 use Rattle.std.proofs.lemmas.Bool.{and_parts, false≢true, cases_Bool}
-use Rattle.ct_word.specs.declared.kinds.Class.TheVariants as class
-use Rattle.ct_word.specs.Value.{World}
-use Rattle.ct_word.specs.Condition.{holds_at}
-use Rattle.ct_word.specs.Reading.{condition_at}
-use Rattle.ct_word.specs.WellFormed.{is_place_of, IsWellFormed}
-use Rattle.ct_derivation.specs.declared.literals.Atom.TheVariants as atom
-use Rattle.ct_derivation.specs.declared.steps.Why.{Why}
-use Rattle.ct_derivation.specs.declared.steps.Why.TheVariants as why
-use Rattle.ct_derivation.specs.declared.steps.Step.{Step}
-use Rattle.ct_derivation.specs.declared.steps.Derivation.{Derivation}
-use Rattle.ct_derivation.specs.Literal.{Clause, yes_of}
-use Rattle.ct_derivation.specs.Definition.{definition}
-use Rattle.ct_derivation.specs.Path.{path_clause}
+use Rattle.ct_word.{specs.Value.World, specs.Condition.holds_at, specs.Reading.condition_at, specs.WellFormed.{is_place_of, IsWellFormed}}
+use Rattle.ct_derivation.{specs.declared.steps.Why.Why, specs.declared.steps.Step.Step, specs.declared.steps.Derivation.Derivation, specs.Definition.definition}
+use Rattle.ct_derivation.{specs.Literal.{Clause, yes_of}, specs.Path.path_clause, specs.Truth.{lit_holds, clause_holds, IsRefuted}}
 use Rattle.ct_derivation.specs.Accepts.{over_atoms, clauses_of, fits_lit, gives, is_right, all_right, is_empty, ends_empty, accepts, Accepts}
-use Rattle.ct_derivation.specs.Truth.{lit_holds, clause_holds, IsRefuted}
-use Rattle.ct_derivation.proofs.Members.{same_lit_is, negated_holds, same_members_hold}
-use Rattle.ct_derivation.proofs.Units.{IsAssignment, AllHold, follows_holds}
+use Rattle.ct_derivation.{proofs.Members.{same_lit_is, negated_holds, same_members_hold}, proofs.Units.{IsAssignment, AllHold, follows_holds}}
 use Rattle.ct_derivation.proofs.Clauses.{single, told_clause, definition_told, path_told}
+use Rattle.ct_word.specs.declared.kinds.Class.TheVariants as class
+use Rattle.ct_derivation.specs.declared.literals.Atom.TheVariants as atom
+use Rattle.ct_derivation.specs.declared.steps.Why.TheVariants as why
 
 module _ (ws : List ℕ) (v : World) where
   truths : IsAssignment over_atoms (lit_holds ws v)

@@ -1,18 +1,12 @@
 -- Closed tests: what the definitions say of small derivations.
-use Rattle.std.proofs.Common.{◌≡◌, ℕ, Bool, true, false, List, [], ◌∷◌, ◌++◌, refl}
-use Rattle.ct_word.specs.declared.kinds.Kind.TheVariants as kind
+use Rattle.std.{proofs.Common.{◌≡◌, ℕ, Bool, true, false, List, [], ◌∷◌, ◌++◌, refl}, specs.Prelude.{pos, negsuc, map}}
 use Rattle.ct_word.specs.Word.{word_of, kind_with}
+use Rattle.ct_derivation.{specs.declared.literals.Lit.Lit, specs.declared.steps.Why.Why, specs.declared.steps.Step.Step, specs.Propagation.follows}
+use Rattle.ct_derivation.{specs.Literal.{Clause, yes_of, no_of, same_lit, has, same_members}, specs.Variables.{signed, over_variables, is_literal}}
+use Rattle.ct_derivation.{specs.Path.{is_constant, ends_clause, is_path}, specs.Accepts.{fits_atom, fits_lit, gives, is_right, accepts, widest}}
+use Rattle.ct_word.specs.declared.kinds.Kind.TheVariants as kind
 use Rattle.ct_derivation.specs.declared.literals.Atom.TheVariants as atom
-use Rattle.ct_derivation.specs.declared.literals.Lit.{Lit}
-use Rattle.ct_derivation.specs.declared.steps.Why.{Why}
 use Rattle.ct_derivation.specs.declared.steps.Why.TheVariants as why
-use Rattle.ct_derivation.specs.declared.steps.Step.{Step}
-use Rattle.ct_derivation.specs.Literal.{Clause, yes_of, no_of, same_lit, has, same_members}
-use Rattle.std.specs.Prelude.{pos, negsuc, map}
-use Rattle.ct_derivation.specs.Propagation.{follows}
-use Rattle.ct_derivation.specs.Variables.{signed, over_variables, is_literal}
-use Rattle.ct_derivation.specs.Path.{is_constant, ends_clause, is_path}
-use Rattle.ct_derivation.specs.Accepts.{fits_atom, fits_lit, gives, is_right, accepts, widest}
 
 -- (?x = ?y and ?y = ?z) and not ?x = ?z, at place 14
 chain_words : List ℕ

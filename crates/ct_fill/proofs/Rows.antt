@@ -1,6 +1,5 @@
 -- The rows, one after another.
-use Rattle.std.proofs.Common.{◌≡◌, ℕ, ◌+◌, List, [], ◌∷◌, ◌++◌, ap, ap₂, sym, ◌∙◌, arith, append_assoc}
-use Rattle.std.proofs.lemmas.List.FromFn.{map-range_with_len_more}
+use Rattle.std.{proofs.Common.{◌≡◌, ℕ, ◌+◌, List, [], ◌∷◌, ◌++◌, ap, ap₂, sym, ◌∙◌, arith, append_assoc}, proofs.lemmas.List.FromFn.map-range_with_len_more}
 use Rattle.ct_fill.specs.Script.{insertion, insertions}
 
 pub one_more : (s k : ℕ) (old : List (List ℕ)) {now next : List (List ℕ)} → now ≡ old ++ insertions s k → next ≡ now ++ insertion s (k + 1) ∷ [] → next ≡ old ++ insertions s (k + 1)

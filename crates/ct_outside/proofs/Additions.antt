@@ -1,15 +1,8 @@
 -- What was added and how many calls were made, step after step.
-use Rattle.std.proofs.Common.{◌≡◌, ◌<◌, ◌+◌, ◌-◌, ℕ, zero, suc, List, [], ◌∷◌, ◌++◌, length, take, drop, get_or, Option, Some, None, refl, sym, ap, ◌∙◌, subst, inl, inr, append_assoc, append-nil, arith}
-use Rattle.std.specs.Prelude.{Result, Ok, Err, OnErr}
-use Rattle.std.proofs.lemmas.List.{get_or_default, take-append-drop, length-append}
+use Rattle.std.proofs.Common.{◌≡◌, ◌<◌, ◌+◌, ◌-◌, ℕ, zero, suc, List, [], ◌∷◌, ◌++◌, length, take, drop, get_or, Option, Some, None, sym, ap, ◌∙◌, subst, inl, inr, append_assoc, arith}
+use Rattle.std.{specs.Prelude.{Result, Ok, Err, OnErr}, proofs.lemmas.List.{get_or_default, take-append-drop, length-append}}
 use Rattle.std.proofs.Math.Seq.{take-append_seam, take-append-add}
-use Rattle.ct_outside.specs.Outside.{Added, AddedFront, Called}
-use Rattle.ct_outside.specs.Writes.{joined, FailedAtCall}
-
--- nothing was added yet
-pub added_nothing : {A : Type 0} (told : Option (List A)) → Added told told []
-added_nothing None = tt
-added_nothing (Some old) = sym (ap Some (append-nil old))
+use Rattle.ct_outside.{specs.Outside.{Added, AddedFront, Called}, specs.Writes.{joined, FailedAtCall}}
 
 -- additions one after the other
 pub added_more : {A : Type 0} (told mid now : Option (List A)) (first second : List A) → Added told mid first → Added mid now second → Added told now (first ++ second)
@@ -17,11 +10,6 @@ added_more None mid now first second a b = tt
 added_more (Some old) mid now first second a b =
     let b' : Added (Some (old ++ first)) now second = subst (λ m. Added m now second) a b in
     b' ∙ ap Some (append_assoc old first second)
-
--- no call was made yet
-pub called_nothing : (told : Option ℕ) → Called told told 0
-called_nothing None = refl
-called_nothing (Some before) = inl (ap Some (omega arith))
 
 -- one more call
 pub called_more : (told mid now : Option ℕ) (k : ℕ) → Called told mid k → Called mid now 1 → Called told now (k + 1)

@@ -1,14 +1,10 @@
 -- One more text of a list of files, as the loop that reads them goes on.
 use Rattle.std.proofs.Common.{◌≡◌, ◌≤◌, ◌<◌, ◌+◌, ℕ, zero, suc, List, [], ◌∷◌, ◌++◌, length, map, take, get_or, Option, Some, None, refl, sym, ap, ◌∙◌, subst, append-nil, arith}
-use Rattle.std.specs.Prelude.{All, ◌≢◌, Err, Vec}
-use Rattle.std.specs.declared.alloc.Global.{Global}
+use Rattle.std.{specs.Prelude.{All, ◌≢◌, Err, Vec}, specs.declared.alloc.Global.Global, proofs.lemmas.List.Elements.All-push}
 use Rattle.std.proofs.lemmas.List.{take_more, take_all, take-map, map-append, length-append, length-map}
-use Rattle.std.proofs.lemmas.List.Elements.{All-push}
-use Rattle.ct_outside.specs.Outside.{Held, StillHolds, Holds, Added, AddedFront}
-use Rattle.ct_outside.specs.Reads.{UnlessMemory, HoldsAll, bytes_in, IsOneMore}
-use Rattle.ct_outside.specs.declared.scripts.ReadError.{ReadError}
+use Rattle.ct_outside.{specs.Outside.{Held, StillHolds, Holds, Added, AddedFront}, specs.Reads.{UnlessMemory, HoldsAll, bytes_in, IsOneMore}}
+use Rattle.ct_outside.{specs.declared.scripts.ReadError.ReadError, proofs.Additions.added_more}
 use Rattle.ct_outside.specs.declared.scripts.ReadError.TheVariants as fault
-use Rattle.ct_outside.proofs.Additions.{added_more}
 
 -- the first i + 1 names
 pub take_map_more : {A B : Type 0} (f : A → B) (xs : List A) (i : ℕ) (d : A) → i < length xs → take (i + 1) (map f xs) ≡ take i (map f xs) ++ f (get_or xs i d) ∷ []

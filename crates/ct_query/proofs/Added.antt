@@ -1,17 +1,11 @@
 -- Reads that are added to a list one after another.
-use Rattle.std.proofs.Common.{◌≡◌, ℕ, Bool, true, false, List, [], ◌∷◌, ◌++◌, map, refl, ap, sym, ◌∙◌, subst}
-use Rattle.std.specs.Prelude.{if◌then◌else◌}
-use Rattle.std.specs.List.{list_any, IsDistinct}
-use Rattle.std.specs.Cmp.{IsEquivalence}
-use Rattle.std.proofs.lemmas.Cmp.{nat_list_eq_equiv}
-use Rattle.std.proofs.lemmas.Bool.{false≢true}
-use Rattle.std.proofs.lemmas.List.{map-append}
-use Rattle.std.proofs.lemmas.Map.Keys.{IsDistinct-push}
-use Rattle.ct_query.specs.Plain as plain
-use Rattle.ct_query.specs.Plain.{PlainQuery, PlainAction, PlainStatement}
-use Rattle.ct_query.specs.declared.action.Read.{Read}
-use Rattle.ct_query.specs.declared.action.Read.TheVariants as read
+use Rattle.std.{proofs.Common.{◌≡◌, ℕ, Bool, true, false, List, [], ◌∷◌, ◌++◌, map, refl, ap, sym, ◌∙◌, subst}, specs.Prelude.if◌then◌else◌}
+use Rattle.std.{specs.List.{list_any, IsDistinct}, specs.Cmp.IsEquivalence, proofs.lemmas.Cmp.nat_list_eq_equiv, proofs.lemmas.Bool.false≢true}
+use Rattle.std.{proofs.lemmas.List.map-append, proofs.lemmas.Map.Keys.IsDistinct-push}
+use Rattle.ct_query.{specs.Plain.{PlainQuery, PlainAction, PlainStatement}, specs.declared.action.Read.Read}
 use Rattle.ct_query.specs.Reads.{same_read, with_reads, tables_of, query_reads, action_reads, reads_of}
+use Rattle.ct_query.specs.Plain as plain
+use Rattle.ct_query.specs.declared.action.Read.TheVariants as read
 
 with_reads-append : (a xs ys : List Read) → with_reads a (xs ++ ys) ≡ with_reads (with_reads a xs) ys
 with_reads-append a [] ys = refl

@@ -1,15 +1,9 @@
 -- A query has no more rows than its bound says.
-use Rattle.std.proofs.Common.{◌≡◌, ℕ, ◌*◌, ◌≤◌, Bool, List, [], ◌∷◌, ◌++◌, length, map, refl, ◌∙◌, arith, length-append}
-use Rattle.std.specs.Prelude.{not, filter, flat_map}
-use Rattle.std.proofs.lemmas.List.{length-map}
-use Rattle.std.proofs.lemmas.Nat.{mul-le}
-use Rattle.std.proofs.lemmas.List.Filters.{length-filter_both}
+use Rattle.std.{proofs.Common.{◌≡◌, ℕ, ◌*◌, ◌≤◌, Bool, List, [], ◌∷◌, ◌++◌, length, map, refl, ◌∙◌, arith, length-append}, proofs.lemmas.List.length-map}
+use Rattle.std.{specs.Prelude.{not, filter, flat_map}, proofs.lemmas.Nat.mul-le, proofs.lemmas.List.Filters.length-filter_both}
 use Rattle.ct_word.specs.Value.{World, cell_at}
+use Rattle.ct_query.{specs.Plain.PlainQuery, specs.Database.{Database, tuples_of}, specs.Rows.rows, specs.Size.row_bound}
 use Rattle.ct_query.specs.Plain as plain
-use Rattle.ct_query.specs.Plain.{PlainQuery}
-use Rattle.ct_query.specs.Database.{Database, tuples_of}
-use Rattle.ct_query.specs.Rows.{rows}
-use Rattle.ct_query.specs.Size.{row_bound}
 
 filter_within : {X : Type 0} (p : X → Bool) (xs : List X) (n : ℕ) → length xs ≤ n → length (filter p xs) ≤ n
 filter_within p xs n h = omega (arith, h, length-filter_both p (λ x. not (p x)) (λ x. refl) xs)

@@ -1,25 +1,15 @@
 -- Closed tests: what the definitions say of small histories, queries and actions.
-use Rattle.std.proofs.Common.{◌≡◌, ℕ, List, [], ◌∷◌, refl, arith}
-use Rattle.std.specs.Prelude.{true, false, Option, Some, None, pos, codes, option_map, if◌then◌else◌}
-use Rattle.ct_word.specs.declared.values.Value.{Value}
+use Rattle.std.{proofs.Common.{◌≡◌, ℕ, List, [], ◌∷◌, refl, arith}, specs.Prelude.{true, false, Option, Some, None, pos, codes, option_map, if◌then◌else◌}}
+use Rattle.ct_word.{specs.declared.values.Value.Value, specs.declared.values.Term.Term, specs.Value.{World, same_text}, specs.Condition.{True, Same, Not}}
+use Rattle.ct_word.specs.Change.{PlainRow, PlainChange, PlainCommit, Create, Insert, Delete, Assert}
+use Rattle.ct_query.{specs.Plain.{PlainQuery, Table, Select, Project, Product, Except}, specs.Rows.rows, specs.Worlds.{world, admits}, specs.Size.size}
+use Rattle.ct_query.{specs.Reads.{last, query_reads}, specs.Patterns.{pattern, count}, specs.declared.schema.Heading.Heading, specs.Fits.Fits}
+use Rattle.ct_query.specs.Bounds.{bound, nodes}
 use Rattle.ct_word.specs.declared.values.Value.TheVariants as val
 use Rattle.ct_word.specs.declared.values.Null.TheVariants as null
-use Rattle.ct_word.specs.declared.values.Term.{Term}
 use Rattle.ct_word.specs.declared.values.Term.TheVariants as term
-use Rattle.ct_word.specs.Value.{World, same_text}
-use Rattle.ct_word.specs.Condition.{True, Same, Not}
-use Rattle.ct_word.specs.Change.{PlainRow, PlainChange, PlainCommit, Create, Insert, Delete, Assert}
-use Rattle.ct_query.specs.Plain.{PlainQuery, Table, Select, Project, Product, Except}
 use Rattle.ct_query.specs.Plain as plain
 use Rattle.ct_query.specs.declared.action.Read.TheVariants as read
-use Rattle.ct_query.specs.Rows.{rows}
-use Rattle.ct_query.specs.Worlds.{world, admits}
-use Rattle.ct_query.specs.Reads.{last, query_reads}
-use Rattle.ct_query.specs.Patterns.{pattern, count}
-use Rattle.ct_query.specs.Size.{size}
-use Rattle.ct_query.specs.declared.schema.Heading.{Heading}
-use Rattle.ct_query.specs.Fits.{Fits}
-use Rattle.ct_query.specs.Bounds.{bound, nodes}
 
 abbrev int : ℕ → Value
 int n = val.Int (pos n)

@@ -1,29 +1,17 @@
 -- A commit of changes that agree with actions does what these do.
-use Rattle.std.proofs.Common.{◌≡◌, ℕ, Bool, true, false, not, List, [], ◌∷◌, ◌++◌, map, refl, ap, sym, subst, ◌∙◌}
-use Rattle.std.proofs.lemmas.List.{append-nil}
-use Rattle.std.proofs.lemmas.List.Elements.{recursion_from_All, filter_map-append}
+use Rattle.std.{proofs.Common.{◌≡◌, ℕ, Bool, true, false, not, List, [], ◌∷◌, ◌++◌, map, refl, ap, sym, subst, ◌∙◌}, proofs.lemmas.List.append-nil}
+use Rattle.std.{proofs.lemmas.List.Elements.{recursion_from_All, filter_map-append}, specs.List.{AllByRecursion, cons_option}}
 use Rattle.std.specs.Prelude.{Option, Some, None, IfSome, is_some, option_and_then, filter, filter_map, if◌then◌else◌}
-use Rattle.std.specs.List.{AllByRecursion, cons_option}
-use Rattle.ct_word.specs.declared.values.Value.{Value}
-use Rattle.ct_word.specs.declared.values.Term.{Term}
-use Rattle.ct_word.specs.Value.{World, tuple_at, same_text}
-use Rattle.ct_word.specs.Condition.{Condition, holds, holds_at}
-use Rattle.ct_word.specs.Sublist.{IsSublist}
-use Rattle.ct_word.specs.Change.{PlainRow, PlainChange, Create, Insert, Delete, Assert, PlainCommit}
-use Rattle.ct_query.specs.Plain as plain
-use Rattle.ct_query.specs.Plain.{PlainAction}
-use Rattle.ct_query.specs.Database.{Relation, Database, SameSet, SameRelation, SameDatabase, changed, with_tuples}
-use Rattle.ct_query.specs.Rows.{rows}
-use Rattle.ct_query.specs.Step.{inserted, deleted, asserted, shown_rows, step_change, step_action}
-use Rattle.ct_query.specs.Worlds.{world, after_changes, after_actions, changes_of}
-use Rattle.ct_query.specs.Schema.{created_by_change, created_by_action}
+use Rattle.ct_word.{specs.declared.values.Value.Value, specs.declared.values.Term.Term, specs.Value.{World, tuple_at, same_text}, specs.Sublist.IsSublist}
+use Rattle.ct_word.{specs.Condition.{Condition, holds, holds_at}, specs.Change.{PlainRow, PlainChange, Create, Insert, Delete, Assert, PlainCommit}}
+use Rattle.ct_query.{specs.Plain.PlainAction, specs.Database.{Relation, Database, SameSet, SameRelation, SameDatabase, changed, with_tuples}, specs.Rows.rows}
+use Rattle.ct_query.{specs.Step.{inserted, deleted, asserted, shown_rows, step_change, step_action}, specs.Schema.{created_by_change, created_by_action}}
+use Rattle.ct_query.{specs.Worlds.{world, after_changes, after_actions, changes_of}, specs.Agrees.{AgreesWith, AgreesAfter, Agrees, SameTruthAlone}}
 use Rattle.ct_query.specs.Patterns.{Patterns, patterns, pattern, pattern_change, pattern_changes, pattern_action, pattern_actions, with_lines}
-use Rattle.ct_query.specs.Agrees.{AgreesWith, AgreesAfter, Agrees, SameTruthAlone}
-use Rattle.ct_query.specs.Committed.{SameWorld, Does}
-use Rattle.ct_query.proofs.Laws.{world_commit, world_action, patterns_commit, patterns_action, changes_of-snoc}
-use Rattle.ct_query.proofs.Sets.{same_set_itself, same_set-append}
-use Rattle.ct_query.proofs.SameRows.{same_set_filter, same_database_append}
+use Rattle.ct_query.{specs.Committed.{SameWorld, Does}, proofs.Laws.{world_commit, world_action, patterns_commit, patterns_action, changes_of-snoc}}
+use Rattle.ct_query.{proofs.Sets.{same_set_itself, same_set-append}, proofs.SameRows.{same_set_filter, same_database_append}}
 use Rattle.ct_query.proofs.Sublists.{all_of, sublist-append, pattern_part}
+use Rattle.ct_query.specs.Plain as plain
 
 -- the same tables
 database_itself : (w : Database) → SameDatabase w w

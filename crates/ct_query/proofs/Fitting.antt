@@ -1,10 +1,9 @@
 -- When the numbers of a condition on a row are as the fields of words ask.
 use Rattle.std.proofs.Common.{◌≤◌, ◌^◌, ℕ, arith}
-use Rattle.ct_word.specs.declared.values.Term.{Term}
-use Rattle.ct_word.specs.declared.values.Term.TheVariants as term
-use Rattle.ct_word.specs.Condition.{Condition, Conditions, True, False, Same, Not, And, Or, none, also}
+use Rattle.ct_word.{specs.declared.values.Term.Term, specs.Condition.{Condition, Conditions, True, False, Same, Not, And, Or, none, also}}
 use Rattle.ct_query.specs.Fields.{FitsFields, AreFitting, AreAllFitting, FitsFieldsOn, AreFittingOn, AreAllFittingOn}
 use Rattle.ct_query.specs.Fits.{IsColumnBelow, AreColumnsBelow, AreAllColumnsBelow, FitsRows}
+use Rattle.ct_word.specs.declared.values.Term.TheVariants as term
 
 -- numbers that fit do so on every row
 pub term_on : (n : ℕ) (t : Term) → FitsFields t → FitsFieldsOn n t

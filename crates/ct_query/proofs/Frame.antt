@@ -1,31 +1,20 @@
 -- Commits that write nothing of what is read change nothing for the reader.
-use Rattle.std.proofs.Common.{◌≡◌, ℕ, ◌≤◌, Bool, true, false, List, [], ◌∷◌, ◌++◌, map, length, refl, ap, sym, subst, ◌∙◌}
-use Rattle.std.specs.Prelude.{Option, Some, None, IfSome, IsSome, All, is_some, option_map, filter_map, if◌then◌else◌}
-use Rattle.std.specs.Option.{option_to_list}
-use Rattle.std.specs.List.{AllByRecursion, cons_option, list_any}
-use Rattle.std.proofs.lemmas.Bool.{false≢true}
-use Rattle.std.proofs.lemmas.List.Elements.{All-contains, recursion_from_All, filter_map-append}
+use Rattle.std.{proofs.Common.{◌≡◌, ℕ, ◌≤◌, Bool, true, false, List, [], ◌∷◌, ◌++◌, map, length, refl, ap, sym, subst, ◌∙◌}, specs.Option.option_to_list}
+use Rattle.std.{specs.Prelude.{Option, Some, None, IfSome, IsSome, All, is_some, option_map, filter_map, if◌then◌else◌}, proofs.lemmas.Bool.false≢true}
+use Rattle.std.{specs.List.{AllByRecursion, cons_option, list_any}, proofs.lemmas.List.Elements.{All-contains, recursion_from_All, filter_map-append}}
 use Rattle.std.proofs.lemmas.Grind.{flat_map-append}
-use Rattle.ct_word.specs.declared.values.Value.{Value}
-use Rattle.ct_word.specs.Value.{World, same_text}
-use Rattle.ct_word.specs.Change.{PlainChange, Create, Insert, Delete, Assert, PlainCommit}
+use Rattle.ct_word.{specs.declared.values.Value.Value, specs.Value.{World, same_text}, specs.Change.{PlainChange, Create, Insert, Delete, Assert, PlainCommit}}
 use Rattle.ct_word.proofs.Alike.{text_decides}
-use Rattle.ct_query.specs.declared.schema.Heading.{Heading}
-use Rattle.ct_query.specs.Plain as plain
-use Rattle.ct_query.specs.Plain.{PlainQuery, PlainAction}
-use Rattle.ct_query.specs.declared.action.Read.{Read}
-use Rattle.ct_query.specs.declared.action.Read.TheVariants as read
-use Rattle.ct_query.specs.Database.{Database, SameSet}
-use Rattle.ct_query.specs.Rows.{rows}
-use Rattle.ct_query.specs.Worlds.{world, admits, after_changes, after_actions, changes_of}
-use Rattle.ct_query.specs.Schema.{schema, created_by_change, created_by_action}
-use Rattle.ct_query.specs.Patterns.{patterns, pattern, pattern_changes, no_patterns}
-use Rattle.ct_query.specs.Reads.{tables_of, query_reads, action_reads, writes, last}
+use Rattle.ct_query.{specs.declared.schema.Heading.Heading, specs.Plain.{PlainQuery, PlainAction}, specs.declared.action.Read.Read, specs.Rows.rows}
+use Rattle.ct_query.{specs.Database.{Database, SameSet}, specs.Worlds.{world, admits, after_changes, after_actions, changes_of}}
+use Rattle.ct_query.{specs.Schema.{schema, created_by_change, created_by_action}, specs.Patterns.{patterns, pattern, pattern_changes, no_patterns}}
+use Rattle.ct_query.{specs.Reads.{tables_of, query_reads, action_reads, writes, last}, proofs.Laws.{after_changes-append, pattern_changes-append}}
 use Rattle.ct_query.specs.Fits.{columns_in, count_of, AreColumnsBelow, FitsRow, FitsChange, FitChanges, FitAfter}
 use Rattle.ct_query.specs.Frame.{AreOlder, reads_of_actions, creates, SameForActions, SameForQuery}
-use Rattle.ct_query.proofs.Laws.{after_changes-append, pattern_changes-append}
 use Rattle.ct_query.proofs.Keeping.{Finds, FindAll, all_agree, changes_themselves}
 use Rattle.ct_query.proofs.Within.{Unwritten, or_false, later_unwritten, all_parts, all_push, of_added, Within, ReadsWithin, within_tables, Below, below_itself, below_changes, rows_within, below_actions, changes_admit, actions_admit, lines_unwritten, pattern_within, actions_within}
+use Rattle.ct_query.specs.Plain as plain
+use Rattle.ct_query.specs.declared.action.Read.TheVariants as read
 
 -- the first of two, or else the second
 abbrev or_else : {A : Type 0} → Option A → Option A → Option A

@@ -1,27 +1,17 @@
 -- Histories of the same commits are alike in all that is said of a history.
 use Rattle.std.proofs.Common.{◌≡◌, ℕ, zero, suc, Bool, true, false, not, cond, List, [], ◌∷◌, ◌++◌, map, length, take, refl, ap, sym, subst, ◌∙◌}
 use Rattle.std.specs.Prelude.{Option, Some, None, IfSome, ⊤, ◌||◌, is_some, option_and_then, filter, filter_map, if◌then◌else◌}
-use Rattle.std.specs.List.{AllByRecursion, cons_option, list_any}
-use Rattle.std.proofs.lemmas.List.Elements.{All-from_recursion, recursion_from_All}
-use Rattle.ct_word.specs.declared.values.Value.{Value}
-use Rattle.ct_word.specs.Value.{World, tuple_at, same_text}
-use Rattle.ct_word.specs.Condition.{Condition, holds_at, SameTruth}
-use Rattle.ct_word.specs.Sublist.{IsSublist}
-use Rattle.ct_word.specs.Change.{PlainRow, PlainChange, Create, Insert, Delete, Assert, PlainCommit}
+use Rattle.std.{specs.List.{AllByRecursion, cons_option, list_any}, proofs.lemmas.List.Elements.{All-from_recursion, recursion_from_All}}
+use Rattle.ct_word.{specs.declared.values.Value.Value, specs.Value.{World, tuple_at, same_text}, specs.Condition.{Condition, holds_at, SameTruth}}
+use Rattle.ct_word.{specs.Sublist.IsSublist, specs.Change.{PlainRow, PlainChange, Create, Insert, Delete, Assert, PlainCommit}}
 use Rattle.ct_word.specs.StandsFor.{SameRows, SameChange, SameChanges, SameCommits}
-use Rattle.ct_query.specs.Plain as plain
-use Rattle.ct_query.specs.Plain.{PlainAction}
-use Rattle.ct_query.specs.declared.action.Read.{Read}
-use Rattle.ct_query.specs.declared.action.Read.TheVariants as read
-use Rattle.ct_query.specs.Database.{Database, SameSet, changed}
-use Rattle.ct_query.specs.Rows.{rows}
-use Rattle.ct_query.specs.Step.{created, inserted, shown_rows, step_change}
-use Rattle.ct_query.specs.Worlds.{world, after_changes, after_actions, changes_of}
-use Rattle.ct_query.specs.Schema.{created_by_change, created_by_action}
+use Rattle.ct_query.{specs.Plain.PlainAction, specs.declared.action.Read.Read, specs.Database.{Database, SameSet, changed}, specs.Rows.rows}
+use Rattle.ct_query.{specs.Step.{created, inserted, shown_rows, step_change}, specs.Worlds.{world, after_changes, after_actions, changes_of}}
+use Rattle.ct_query.{specs.Schema.{created_by_change, created_by_action}, specs.Reads.{writes, one_earlier, last}, specs.Keeping.{Keeps, KeepsThroughout}}
 use Rattle.ct_query.specs.Patterns.{Patterns, patterns, pattern, query_pattern, pattern_change, pattern_changes, pattern_actions, no_patterns, with_lines, distinct_count}
-use Rattle.ct_query.specs.Reads.{writes, one_earlier, last}
 use Rattle.ct_query.specs.Agrees.{AgreesWith, AgreesAfter, SameTruthAlone}
-use Rattle.ct_query.specs.Keeping.{Keeps, KeepsThroughout}
+use Rattle.ct_query.specs.Plain as plain
+use Rattle.ct_query.specs.declared.action.Read.TheVariants as read
 
 -- one change
 module _ (v : World) where

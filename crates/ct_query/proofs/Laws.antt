@@ -1,15 +1,9 @@
 -- One more commit, one more action.
-use Rattle.std.proofs.Common.{◌≡◌, suc, Bool, true, false, List, [], ◌∷◌, ◌++◌, length, refl, ap, ◌∙◌, sym}
-use Rattle.std.proofs.lemmas.List.{append-nil, append_assoc}
+use Rattle.std.{proofs.Common.{◌≡◌, suc, Bool, true, false, List, [], ◌∷◌, ◌++◌, length, refl, ap, ◌∙◌, sym}, proofs.lemmas.List.{append-nil, append_assoc}}
 use Rattle.std.specs.Prelude.{Option, Some, option_and_then, if◌then◌else◌}
-use Rattle.ct_word.specs.Value.{World}
-use Rattle.ct_word.specs.Change.{PlainChange, PlainCommit}
-use Rattle.ct_query.specs.declared.action.Read.{Read}
-use Rattle.ct_query.specs.Plain.{PlainAction}
-use Rattle.ct_query.specs.Database.{Database}
-use Rattle.ct_query.specs.Step.{step_change, step_action}
-use Rattle.ct_query.specs.Worlds.{world, after_changes, after_actions, changes_of}
-use Rattle.ct_query.specs.Reads.{last, commit_writes, one_earlier}
+use Rattle.ct_word.{specs.Value.World, specs.Change.{PlainChange, PlainCommit}}
+use Rattle.ct_query.{specs.declared.action.Read.Read, specs.Plain.PlainAction, specs.Database.Database, specs.Step.{step_change, step_action}}
+use Rattle.ct_query.{specs.Worlds.{world, after_changes, after_actions, changes_of}, specs.Reads.{last, commit_writes, one_earlier}}
 use Rattle.ct_query.specs.Patterns.{Patterns, patterns, pattern_changes, pattern_actions, pattern_change, pattern_action, no_patterns}
 
 pub changes_of-snoc : (h : List PlainCommit) (c : PlainCommit) → changes_of (h ++ c ∷ []) ≡ changes_of h ++ c.changes

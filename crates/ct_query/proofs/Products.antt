@@ -1,9 +1,6 @@
 -- Sums over the tables of a product, and over the sides of a set operator, as they stop.
-use Rattle.std.proofs.Common.{◌≡◌, ℕ, ◌+◌, ◌*◌, List, [], ◌∷◌, ◌++◌, refl, ap, ◌∙◌, arith}
-use Rattle.std.specs.Prelude.{Option, Some, None, option_map, unwrap_or, IfSome}
-use Rattle.ct_query.specs.Plain.{PlainQuery, Table, Product}
-use Rattle.ct_query.specs.Size.{row_bound, greatest, stopped}
-use Rattle.ct_query.specs.Bounds.{product_counts, partial_products}
+use Rattle.std.{proofs.Common.{◌≡◌, ℕ, ◌+◌, ◌*◌, List, [], ◌∷◌, ◌++◌, refl, ap, ◌∙◌, arith}, specs.Prelude.{Option, Some, None, option_map, unwrap_or, IfSome}}
+use Rattle.ct_query.{specs.Plain.{PlainQuery, Table, Product}, specs.Size.{row_bound, greatest, stopped}, specs.Bounds.{product_counts, partial_products}}
 
 -- the product of p and these numbers
 abbrev pub product_from : ℕ → List ℕ → ℕ

@@ -1,18 +1,11 @@
 -- The tuples of a query are the same set over the same tables, as those of each operator are over the same sets.
-use Rattle.std.proofs.Common.{◌≡◌, Bool, true, false, not, ◌&&◌, ◌||◌, List, [], ◌∷◌, ◌++◌, map, cond, refl, ap, sym, subst, ◌∙◌}
-use Rattle.std.specs.Prelude.{ℕ, filter, flat_map, if◌then◌else◌}
-use Rattle.std.specs.Cmp.{both_ways}
-use Rattle.std.proofs.lemmas.Bool.{false≢true, or_left, or_right}
+use Rattle.std.{proofs.Common.{◌≡◌, Bool, true, false, not, ◌&&◌, ◌||◌, List, [], ◌∷◌, ◌++◌, map, cond, refl, ap, sym, subst, ◌∙◌}, specs.Cmp.both_ways}
+use Rattle.std.{specs.Prelude.{ℕ, filter, flat_map, if◌then◌else◌}, proofs.lemmas.Bool.{false≢true, or_left, or_right}}
 use Rattle.std.proofs.lemmas.List.Concat.{flat_map_single}
-use Rattle.ct_word.specs.declared.values.Value.{Value}
-use Rattle.ct_word.specs.Value.{World, cell_at, same_text, same_tuple}
-use Rattle.ct_word.specs.Condition.{holds}
-use Rattle.ct_word.proofs.Alike.{tuple_decides}
-use Rattle.ct_query.specs.Plain as plain
-use Rattle.ct_query.specs.Plain.{PlainQuery}
-use Rattle.ct_query.specs.Database.{Database, tuples_of, has_tuple, SameSet, SameDatabase}
-use Rattle.ct_query.specs.Rows.{rows, joins}
+use Rattle.ct_word.{specs.declared.values.Value.Value, specs.Value.{World, cell_at, same_text, same_tuple}, specs.Condition.holds, proofs.Alike.tuple_decides}
+use Rattle.ct_query.{specs.Plain.PlainQuery, specs.Database.{Database, tuples_of, has_tuple, SameSet, SameDatabase}, specs.Rows.{rows, joins}}
 use Rattle.ct_query.proofs.Sets.{has_tuple-append, same_set_on, same_set-append}
+use Rattle.ct_query.specs.Plain as plain
 
 -- a test of the tuples
 module _ (h : List Value → Bool) where

@@ -1,14 +1,10 @@
 -- Sets of tuples: equality, union, selection.
 use Rattle.std.proofs.Common.{◌≡◌, Bool, true, false, ◌||◌, List, [], ◌∷◌, ◌++◌, refl, ap, sym, ◌∙◌}
-use Rattle.ct_word.specs.declared.values.Value.{Value}
-use Rattle.ct_word.specs.Value.{same_tuple}
+use Rattle.ct_word.{specs.declared.values.Value.Value, specs.Value.same_tuple}
 use Rattle.ct_query.specs.Database.{has_tuple, SameSet}
 
 pub same_set_itself : (a : List (List Value)) → SameSet a a
 same_set_itself a t = refl
-
-pub same_set_back : (a b : List (List Value)) → SameSet a b → SameSet b a
-same_set_back a b s t = sym (s t)
 
 pub same_set_on : (a b c : List (List Value)) → SameSet a b → SameSet b c → SameSet a c
 same_set_on a b c s r t = s t ∙ r t

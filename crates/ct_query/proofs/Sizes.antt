@@ -1,9 +1,6 @@
 -- The greatest number of a query and of its parts.
-use Rattle.std.proofs.Common.{◌≡◌, ℕ, List, [], ◌∷◌, ◌++◌, map, max, ap, sym, ◌∙◌, arith}
-use Rattle.std.specs.List.{fold}
-use Rattle.std.proofs.lemmas.List.{map-append}
-use Rattle.ct_query.specs.Plain.{PlainQuery}
-use Rattle.ct_query.specs.Size.{number, parts, size, stopped}
+use Rattle.std.{proofs.Common.{◌≡◌, ℕ, List, [], ◌∷◌, ◌++◌, map, max, ap, sym, ◌∙◌, arith}, specs.List.fold, proofs.lemmas.List.map-append}
+use Rattle.ct_query.{specs.Plain.PlainQuery, specs.Size.{number, parts, size, stopped}}
 
 greatest_from : (n : ℕ) (xs : List ℕ) → fold max n xs ≡ max n (fold max 0 xs)
 greatest_from n [] = omega arith

@@ -1,10 +1,8 @@
 -- Parts of lists, and that the pattern of a query over parts of the tables' patterns is a part of its pattern over these.
 use Rattle.std.proofs.Common.{ℕ, List, [], ◌∷◌, ◌++◌, map}
 use Rattle.ct_word.specs.Sublist.{IsSublist, ended, left_out, taken}
+use Rattle.ct_query.{specs.Plain.PlainQuery, specs.Rows.joins, specs.Patterns.{Patterns, picked, query_pattern}}
 use Rattle.ct_query.specs.Plain as plain
-use Rattle.ct_query.specs.Plain.{PlainQuery}
-use Rattle.ct_query.specs.Rows.{joins}
-use Rattle.ct_query.specs.Patterns.{Patterns, picked, query_pattern}
 
 -- nothing is a part of every list
 pub nothing_of : {A : Type 0} (ys : List A) → IsSublist [] ys

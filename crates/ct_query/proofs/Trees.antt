@@ -1,14 +1,10 @@
 -- What a predicate over a list of predicates is, and what it means, said of the list.
-use Rattle.std.proofs.Common.{◌≡◌, ◌+◌, ◌-◌, ◌&&◌, ◌||◌, List, [], ◌∷◌, map, length, refl, ap, ◌∙◌, arith}
-use Rattle.std.specs.List.{list_all, list_any}
-use mathlib.Core.Former.{Count}
-use Rattle.ct_word.specs.declared.values.Value.{Value}
-use Rattle.ct_word.specs.Value.{World}
-use Rattle.ct_word.specs.Condition as condition
-use Rattle.ct_word.specs.Condition.{holds, all_hold, any_holds, listed, also}
+use Rattle.std.{proofs.Common.{◌≡◌, ◌+◌, ◌-◌, ◌&&◌, ◌||◌, List, [], ◌∷◌, map, length, refl, ap, ◌∙◌, arith}, specs.List.{list_all, list_any}}
+use Rattle.ct_word.{specs.declared.values.Value.Value, specs.Value.World, specs.Condition.{holds, all_hold, any_holds, listed, also}}
 use Rattle.ct_query.specs.declared.query.Pred.{Pred, And, Or, And', Row_of-Pred, end_of-Pred, more_of-Pred, items-the_row-Pred, items_hidden-the_row-Pred-0}
-use Rattle.ct_query.specs.Pred.{condition_of, conditions_of}
-use Rattle.ct_query.specs.Bounds.{connectives}
+use Rattle.ct_query.{specs.Pred.{condition_of, conditions_of}, specs.Bounds.connectives}
+use mathlib.Core.Former.{Count}
+use Rattle.ct_word.specs.Condition as condition
 
 -- the items of an And, as the type has them
 abbrev pub row_of : Pred → (n : Count) × Row_of-Pred n

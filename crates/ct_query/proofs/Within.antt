@@ -1,28 +1,18 @@
 -- What reads a set of tables alone finds the same where these are the same.
 use Rattle.std.proofs.Common.{◌≡◌, ℕ, zero, suc, ◌≤◌, Bool, true, false, ◌||◌, cond, List, [], ◌∷◌, ◌++◌, map, length, refl, ap, sym, subst, ◌∙◌, arith}
-use Rattle.std.specs.Prelude.{Option, Some, None, ⊤, is_some, option_and_then, filter, not, if◌then◌else◌}
-use Rattle.std.specs.List.{AllByRecursion, list_any}
-use Rattle.std.proofs.lemmas.Bool.{false≢true}
-use Rattle.std.proofs.lemmas.Cmp.{nat_list_eq_equiv}
-use Rattle.std.proofs.lemmas.List.{append-nil}
-use Rattle.std.proofs.lemmas.List.Elements.{All-weaker, filter_passes, filter-append}
-use Rattle.std.proofs.lemmas.List.Folds.{list_any-append, map_fixed}
-use Rattle.ct_word.specs.declared.values.Value.{Value}
-use Rattle.ct_word.specs.declared.values.Term.{Term}
-use Rattle.ct_word.specs.Value.{World, tuple_at, cell_at, same_text}
-use Rattle.ct_word.specs.Condition.{holds, holds_at}
-use Rattle.ct_word.specs.Change.{PlainRow, PlainChange, Create, Insert, Delete, Assert, PlainCommit}
+use Rattle.std.{specs.Prelude.{Option, Some, None, ⊤, is_some, option_and_then, filter, not, if◌then◌else◌}, specs.List.{AllByRecursion, list_any}}
+use Rattle.std.{proofs.lemmas.Bool.false≢true, proofs.lemmas.Cmp.nat_list_eq_equiv, proofs.lemmas.List.append-nil}
+use Rattle.std.{proofs.lemmas.List.Elements.{All-weaker, filter_passes, filter-append}, proofs.lemmas.List.Folds.{list_any-append, map_fixed}}
+use Rattle.ct_word.{specs.declared.values.Value.Value, specs.declared.values.Term.Term, specs.Value.{World, tuple_at, cell_at, same_text}}
+use Rattle.ct_word.{specs.Condition.{holds, holds_at}, specs.Change.{PlainRow, PlainChange, Create, Insert, Delete, Assert, PlainCommit}}
 use Rattle.ct_word.proofs.Alike.{text_decides}
-use Rattle.ct_query.specs.Plain as plain
-use Rattle.ct_query.specs.Plain.{PlainQuery, PlainAction}
-use Rattle.ct_query.specs.declared.action.Read.{Read}
-use Rattle.ct_query.specs.declared.action.Read.TheVariants as read
-use Rattle.ct_query.specs.Database.{Relation, Database, tuples_of, with_tuples, changed, has_tuple}
-use Rattle.ct_query.specs.Rows.{rows, joins}
+use Rattle.ct_query.{specs.Plain.{PlainQuery, PlainAction}, specs.declared.action.Read.Read, specs.Rows.{rows, joins}}
+use Rattle.ct_query.{specs.Database.{Relation, Database, tuples_of, with_tuples, changed, has_tuple}, specs.Worlds.{after_changes, after_actions, changes_of}}
 use Rattle.ct_query.specs.Step.{created, inserted, shown_rows, step_change, step_action}
-use Rattle.ct_query.specs.Worlds.{after_changes, after_actions, changes_of}
 use Rattle.ct_query.specs.Patterns.{Patterns, query_pattern, picked, pattern_change, pattern_changes, pattern_action, pattern_actions, with_lines}
 use Rattle.ct_query.specs.Reads.{same_read, with_reads, tables_of, writes, commit_writes, one_earlier, last}
+use Rattle.ct_query.specs.Plain as plain
+use Rattle.ct_query.specs.declared.action.Read.TheVariants as read
 
 -- no change writes what is read
 abbrev pub Unwritten : List PlainChange → Read → Type 0

@@ -1,13 +1,8 @@
 -- Rows found by their cells, and conditions put at cells.
 use Rattle.std.proofs.Common.{◌≡◌, ◌≢◌, ℕ, zero, suc, ◌<◌, Bool, true, false, List, [], ◌∷◌, ◌++◌, Option, None, Some, cond, length, get_or, set, refl, ap, sym, ◌∙◌, arith}
-use Rattle.std.specs.Prelude.{slice_get, if◌then◌else◌}
-use Rattle.std.specs.Map.{keys_of}
-use Rattle.std.proofs.lemmas.Bool.{false≢true}
-use Rattle.std.proofs.lemmas.Option.{get_or_from_slice_get}
-use Rattle.ct_word.specs.Value.{same_text}
-use Rattle.ct_word.proofs.Alike.{text_decides}
-use Rattle.ct_rows.specs.Entries.{find, put}
-use Rattle.ct_rows.specs.Links.{IsFirst}
+use Rattle.std.{specs.Prelude.{slice_get, if◌then◌else◌}, specs.Map.keys_of, proofs.lemmas.Bool.false≢true, proofs.lemmas.Option.get_or_from_slice_get}
+use Rattle.ct_word.{specs.Value.same_text, proofs.Alike.text_decides}
+use Rattle.ct_rows.{specs.Entries.{find, put}, specs.Links.IsFirst}
 
 module _ (k : List ℕ) (c : ℕ) (e : List ℕ × ℕ) (es : List (List ℕ × ℕ)) where
   pub put_hit : same_text k e.0 ≡ true → put (e ∷ es) k c ≡ (e.0, c) ∷ es

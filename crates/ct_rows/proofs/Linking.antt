@@ -1,10 +1,8 @@
 -- One list of cells more is linked, and cells are sought along their slot.
 use Rattle.std.proofs.Common.{◌≡◌, ◌≢◌, ◌⊎◌, ℕ, ◌+◌, ◌<◌, ◌≤◌, List, [], ◌∷◌, ◌++◌, length, get_or, set, replicate, sym, ap, ◌∙◌, subst, arith, inl, inr}
-use Rattle.std.proofs.lemmas.Bool.{cases_eq, cases_lt}
+use Rattle.std.{proofs.lemmas.Bool.{cases_eq, cases_lt}, proofs.lemmas.List.Quantifiers.all_pairs_push}
 use Rattle.std.proofs.lemmas.List.{get_or_append_left, get_or_push, get_or-set_same, get_or-set_other, get_or-replicate, length_push}
-use Rattle.std.proofs.lemmas.List.Quantifiers.{all_pairs_push}
-use Rattle.ct_rows.specs.Slots.{slot_of}
-use Rattle.ct_rows.specs.Links.{IsLast, AreLinked, IsSought}
+use Rattle.ct_rows.{specs.Slots.slot_of, specs.Links.{IsLast, AreLinked, IsSought}}
 
 -- the slot of the cells at a place
 abbrev own : ℕ → List (List ℕ) → ℕ → ℕ

@@ -1,15 +1,10 @@
 -- Nodes that are written: one row more, or another in the place of one.
 use Rattle.std.proofs.Common.{◌≡◌, ◌≢◌, ℕ, ◌+◌, ◌<◌, ◌≤◌, List, [], ◌∷◌, ◌++◌, None, Some, length, get_or, set, take, drop, map, replicate, sym, ap, refl, ◌∙◌, subst, arith, append_assoc, length-set}
-use Rattle.std.specs.Prelude.{Result, Ok, Err, OnErr, slice_get}
-use Rattle.std.specs.Map.{keys_of}
-use Rattle.std.proofs.Math.Seq.{take-set-lt, map-set_same}
+use Rattle.std.{specs.Prelude.{Result, Ok, Err, OnErr, slice_get}, specs.Map.keys_of, proofs.Math.Seq.{take-set-lt, map-set_same}}
 use Rattle.std.proofs.lemmas.List.{take-append-drop, take_at, length-take-le, length-map, length-replicate, map-append, map-set, get_or-map, get_or-take, take-map}
 use Rattle.std.proofs.lemmas.Option.{get_or_from_slice_get}
-use Rattle.ct_rows.specs.Entries.{find}
-use Rattle.ct_rows.specs.Slots.{slot_of}
-use Rattle.ct_rows.specs.Links.{Link, entries_of, belows_of, AreLinked, AreRows, IsSought, IsFirst}
-use Rattle.ct_rows.proofs.Entries.{nowhere, find_none}
-use Rattle.ct_rows.proofs.Linking.{none_linked, linked_push, sought_first, sought_next}
+use Rattle.ct_rows.{specs.Entries.find, specs.Slots.slot_of, specs.Links.{Link, entries_of, belows_of, AreLinked, AreRows, IsSought, IsFirst}}
+use Rattle.ct_rows.{proofs.Entries.{nowhere, find_none}, proofs.Linking.{none_linked, linked_push, sought_first, sought_next}}
 
 -- a node that is written past the front leaves the front as it was
 pub front_stays : (n : ℕ) (old new : List Link) (x : Link) → n ≤ length old → take (n + 1) new ≡ take n old ++ x ∷ [] → take n new ≡ take n old

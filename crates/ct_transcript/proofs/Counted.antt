@@ -1,9 +1,7 @@
 -- The lines of two lists of sessions, or of commits, one after the other.
-use Rattle.std.proofs.Common.{◌≡◌, ℕ, ◌+◌, List, [], ◌∷◌, ◌++◌, length, ap, sym, ◌∙◌, append_assoc, arith}
-use Rattle.std.specs.Prelude.{codes, decimal}
+use Rattle.std.{proofs.Common.{◌≡◌, ℕ, ◌+◌, List, [], ◌∷◌, ◌++◌, length, ap, sym, ◌∙◌, append_assoc, arith}, specs.Prelude.{codes, decimal}}
 use Rattle.ct_rewrite.specs.declared.history.Commit.{Commit}
-use Rattle.ct_transcript.specs.declared.reply.SessionLog.{SessionLog}
-use Rattle.ct_transcript.specs.NodeText.{line}
+use Rattle.ct_transcript.{specs.declared.reply.SessionLog.SessionLog, specs.NodeText.line}
 use Rattle.ct_transcript.specs.Text.{replies_from, sessions_from, printed_commit, commit_lines, commits_from}
 
 pub sessions_after : (m : ℕ) (front back : List SessionLog) → sessions_from m (front ++ back) ≡ sessions_from m front ++ sessions_from (m + length front) back

@@ -1,31 +1,20 @@
 -- Closed tests: lists of possible rows and of certain tuples.
-use Rattle.std.proofs.Common.{◌≡◌, ℕ, zero, suc, ◌<◌, List, [], ◌∷◌, refl, arith, sym, true≢false}
-use Rattle.std.specs.Prelude.{true, false, pos, codes, slice_index_or}
+use Rattle.std.{proofs.Common.{◌≡◌, ℕ, zero, suc, ◌<◌, List, [], ◌∷◌, refl, arith, sym, true≢false}, specs.Prelude.{true, false, pos, codes, slice_index_or}}
 use Rattle.std.specs.List.{IsDistinct}
-use Rattle.ct_word.specs.declared.values.Value.{Value}
-use Rattle.ct_word.specs.declared.values.Value.TheVariants as val
-use Rattle.ct_word.specs.declared.values.Null.{Null}
-use Rattle.ct_word.specs.declared.values.Null.TheVariants as null
-use Rattle.ct_word.specs.declared.values.Term.{Term}
-use Rattle.ct_word.specs.declared.values.Term.TheVariants as term
-use Rattle.ct_word.specs.declared.kinds.Kind.TheVariants as kind
-use Rattle.ct_word.specs.Value.{World}
-use Rattle.ct_word.specs.Condition.{True}
-use Rattle.ct_word.specs.Word.{word_of, kind_with}
-use Rattle.ct_word.specs.Reading.{meaning_of}
-use Rattle.ct_word.specs.Sublist.{ended, taken}
+use Rattle.ct_word.{specs.declared.values.Value.Value, specs.declared.values.Null.Null, specs.declared.values.Term.Term, specs.Value.World}
+use Rattle.ct_word.{specs.Condition.True, specs.Word.{word_of, kind_with}, specs.Reading.meaning_of, specs.Sublist.{ended, taken}}
 use Rattle.ct_word.specs.Change.{PlainRow, PlainChange, PlainCommit, Create, Insert}
 use Rattle.ct_query.specs.Plain.{PlainQuery, Table}
-use Rattle.ct_rewrite.specs.declared.answer.PossibleRow.{PossibleRow}
+use Rattle.ct_rewrite.{specs.declared.answer.PossibleRow.PossibleRow, specs.declared.answer.CertainRow.CertainRow, specs.Tidy.{IsTidy, are_ascending}}
+use Rattle.ct_derivation.{specs.declared.steps.Proof.Proof, specs.Literal.{yes_of, no_of, same_lit, has, same_members}}
+use Rattle.ct_derivation.specs.Accepts.{fits_atom, fits_lit, gives, is_right, accepts}
+use Rattle.ct_transcript.{specs.Possible.{PossibleRight, ShowsRow}, specs.Certain.{CertainRight, RefutesAbsence}}
+use Rattle.ct_word.specs.declared.values.Value.TheVariants as val
+use Rattle.ct_word.specs.declared.values.Null.TheVariants as null
+use Rattle.ct_word.specs.declared.values.Term.TheVariants as term
+use Rattle.ct_word.specs.declared.kinds.Kind.TheVariants as kind
 use Rattle.ct_derivation.specs.declared.literals.Atom.TheVariants as atom
 use Rattle.ct_derivation.specs.declared.steps.Why.TheVariants as why
-use Rattle.ct_derivation.specs.declared.steps.Proof.{Proof}
-use Rattle.ct_derivation.specs.Literal.{yes_of, no_of, same_lit, has, same_members}
-use Rattle.ct_derivation.specs.Accepts.{fits_atom, fits_lit, gives, is_right, accepts}
-use Rattle.ct_rewrite.specs.declared.answer.CertainRow.{CertainRow}
-use Rattle.ct_rewrite.specs.Tidy.{IsTidy, are_ascending}
-use Rattle.ct_transcript.specs.Possible.{PossibleRight, ShowsRow}
-use Rattle.ct_transcript.specs.Certain.{CertainRight, RefutesAbsence}
 
 abbrev int : ℕ → Value
 int n = val.Int (pos n)

@@ -2,9 +2,7 @@
 use Rattle.std.proofs.Common.{◌≡◌, ℕ, ◌+◌, ◌<◌, ◌≤◌, Bool, List, [], ◌∷◌, ◌++◌, length, get_or, drop, Option, refl, sym, ap, ap₂, ◌∙◌}
 use Rattle.std.proofs.lemmas.List.{at_drop_all}
 use Rattle.ct_rewrite.specs.declared.answer.Node.{Node}
-use Rattle.ct_transcript.specs.declared.nodes.Printed.{Printed}
-use Rattle.ct_transcript.specs.NodeText.{is_run, node_text, printed_after}
-use Rattle.ct_transcript.proofs.Names.{from_here}
+use Rattle.ct_transcript.{specs.declared.nodes.Printed.Printed, specs.NodeText.{is_run, node_text, printed_after}, proofs.Names.from_here}
 
 pub same_printed : (name : Option ℕ) {r r' : Bool} {t t' : List ℕ} → r ≡ r' → t ≡ t' → let A : Type 0 = Printed in ◌≡◌ {A = A} (record { name = name; is_run = r; text = t }) (record { name = name; is_run = r'; text = t' })
 same_printed name p q = ap₂ (λ r t. record { name = name; is_run = r; text = t }) p q

@@ -1,11 +1,8 @@
 -- A text written character by character, its quotes twice.
 use Rattle.std.proofs.Common.{◌≡◌, ◌≢◌, ℕ, suc, ◌<◌, List, [], ◌∷◌, ◌++◌, length, get_or, refl, sym, ap₂, ◌∙◌, arith, append_assoc, append-nil}
-use Rattle.std.specs.Prelude.{flat_map}
-use Rattle.std.proofs.lemmas.Bool.Decides.{nat_tests}
-use Rattle.std.proofs.lemmas.Grind.{flat_map-append}
-use Rattle.std.proofs.lemmas.Str.{encode_ascii, inside_one}
-use lib.Utf8.{encode}
+use Rattle.std.{specs.Prelude.flat_map, proofs.lemmas.Bool.Decides.nat_tests, proofs.lemmas.Grind.flat_map-append, proofs.lemmas.Str.{encode_ascii, inside_one}}
 use Rattle.ct_transcript.specs.TermText.{quoted_byte}
+use lib.Utf8.{encode}
 
 other_byte : (b : ℕ) → b ≢ 39 → quoted_byte b ≡ b ∷ []
 other_byte b h = grind (arith, nat_tests)

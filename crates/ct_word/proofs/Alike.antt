@@ -1,17 +1,11 @@
 -- What is written alike is equal, and the other way round.
-use Rattle.std.proofs.Common.{◌≡◌, ℕ, true, List, refl, ap, subst}
-use Rattle.std.specs.Bool.{Decides}
-use Rattle.std.proofs.lemmas.Bool.{and_parts, and_from, eqb-true, eq-eqb, false≢true}
-use Rattle.std.proofs.lemmas.Bool.Decides.{Decides-int_eq, Decides-eqb}
-use Rattle.std.proofs.lemmas.Slice.Eq.{slice_eq-Decides}
-use Rattle.std.specs.Prelude.{nat_eq}
-use Rattle.ct_word.specs.declared.values.Value.{Value}
-use Rattle.ct_word.specs.declared.values.Value.TheVariants as val
-use Rattle.ct_word.specs.declared.values.Null.{Null}
-use Rattle.ct_word.specs.declared.values.Null.TheVariants as null
-use Rattle.ct_word.specs.declared.values.Term.{Term}
-use Rattle.ct_word.specs.declared.values.Term.TheVariants as term
+use Rattle.std.{proofs.Common.{◌≡◌, ℕ, true, List, refl, ap, subst}, specs.Bool.Decides, proofs.lemmas.Bool.{and_parts, and_from, eqb-true, eq-eqb, false≢true}}
+use Rattle.std.{proofs.lemmas.Bool.Decides.{Decides-int_eq, Decides-eqb}, proofs.lemmas.Slice.Eq.slice_eq-Decides, specs.Prelude.nat_eq}
+use Rattle.ct_word.{specs.declared.values.Value.Value, specs.declared.values.Null.Null, specs.declared.values.Term.Term}
 use Rattle.ct_word.specs.Value.{same_text, same_value, same_null, same_term, same_cells, same_tuple}
+use Rattle.ct_word.specs.declared.values.Value.TheVariants as val
+use Rattle.ct_word.specs.declared.values.Null.TheVariants as null
+use Rattle.ct_word.specs.declared.values.Term.TheVariants as term
 
 pub text_decides : (a b : List ℕ) → Decides (same_text a b) (a ≡ b)
 text_decides a b = slice_eq-Decides Decides-eqb a b (same_text a b) refl

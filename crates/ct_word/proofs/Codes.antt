@@ -1,11 +1,7 @@
 -- The code of a word's kind.
 use Rattle.std.proofs.Common.{◌≡◌, ℕ, ◌+◌, ◌-◌, Bool, true, ◌&&◌, List, [], ◌∷◌, Some, None, nat_eq, refl, ap, ◌∙◌, sym, arith, suc, zero}
-use Rattle.std.specs.Prelude.{slice_get}
-use Rattle.std.proofs.lemmas.Option.{none-some}
-use Rattle.std.proofs.lemmas.Bool.{and_parts, eqb-true, eqb-false, cond_both}
-use Rattle.ct_word.specs.declared.kinds.Kind.{Kind}
-use Rattle.ct_word.specs.Word.{code_of, all_kinds, kind_with}
-use Rattle.ct_word.proofs.Splits.{some-injective}
+use Rattle.std.{specs.Prelude.slice_get, proofs.lemmas.Option.none-some, proofs.lemmas.Bool.{and_parts, eqb-true, eqb-false, cond_both}}
+use Rattle.ct_word.{specs.declared.kinds.Kind.Kind, specs.Word.{code_of, all_kinds, kind_with}, proofs.Splits.some-injective}
 
 -- whether the codes of these kinds go up from n by one
 abbrev are_numbered : ℕ → List Kind → Bool

@@ -1,18 +1,13 @@
 -- Which commits the words of a log hold, as words are added.
 use Rattle.std.proofs.Common.{◌≡◌, ℕ, zero, suc, ◌/◌, ◌%◌, ◌<◌, ◌^◌, List, [], ◌∷◌, ◌++◌, length, get_or, Option, Some, None, Bool, true, false, refl, sym, ap, ◌∙◌, arith, true≢false}
-use Rattle.std.specs.Prelude.{not, IsTrue, filter_map, slice_get, Contains}
-use Rattle.std.proofs.lemmas.List.{append-nil, append_assoc}
-use Rattle.std.proofs.lemmas.List.Elements.{filter_map-append}
-use Rattle.std.proofs.lemmas.Map.Views.{Contains-from_any}
-use Rattle.std.proofs.lemmas.Bool.{eqb-true}
-use Rattle.ct_word.specs.declared.kinds.Kind.{Kind}
-use Rattle.ct_word.specs.declared.kinds.Kind.TheVariants as kind
-use Rattle.ct_word.specs.declared.kinds.Class.TheVariants as class
-use Rattle.ct_word.specs.Word.{code_of, word_of, kind_of, left_of, right_of}
-use Rattle.ct_word.specs.Change.{PlainCommit}
+use Rattle.std.{specs.Prelude.{not, IsTrue, filter_map, slice_get, Contains}, proofs.lemmas.List.{append-nil, append_assoc}, proofs.lemmas.Bool.eqb-true}
+use Rattle.std.{proofs.lemmas.List.Elements.filter_map-append, proofs.lemmas.Map.Views.Contains-from_any}
+use Rattle.ct_word.{specs.declared.kinds.Kind.Kind, specs.Word.{code_of, word_of, kind_of, left_of, right_of}, specs.Change.PlainCommit}
 use Rattle.ct_word.specs.Reading.{Meaning, IsCommit, as_commit, as_change_list, meaning_of, by_kind, read, meanings, commits_of, change_list_at}
 use Rattle.ct_word.specs.WellFormed.{has_class, is_formed_as, is_place_of, is_word_over, is_commit_word, is_plain_word, is_word_after}
 use Rattle.ct_word.proofs.Packed.{true_left, true_right, true_both, kind_of_parts, left_of_parts, right_of_parts, meaning_packed, meanings_snoc}
+use Rattle.ct_word.specs.declared.kinds.Kind.TheVariants as kind
+use Rattle.ct_word.specs.declared.kinds.Class.TheVariants as class
 
 -- a word of another class than commits stands for no commit
 no_commit : (k : Option Kind) (ms : List Meaning) (a b : ℕ) → has_class k class.Commit ≡ false → as_commit (by_kind k ms a b) ≡ None

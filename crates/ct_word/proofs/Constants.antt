@@ -1,28 +1,16 @@
 -- No two places of constants stand for one value, and no two places of terms for one term: a term says what its word is.
 use Rattle.std.proofs.Common.{◌≡◌, ℕ, zero, suc, ◌+◌, ◌-◌, ◌*◌, ◌/◌, ◌%◌, ◌<◌, true, List, [], ◌∷◌, ◌++◌, length, Option, Some, nat_lt, refl, ap, ◌∙◌, sym, subst, arith, inl, inr, ◌⊎◌}
-use Rattle.std.specs.Prelude.{ℤ, pos, negsuc, slice_get, encode_utf8}
-use Rattle.std.proofs.Math.Utf8.{encodes}
-use Rattle.std.proofs.lemmas.Str.{encodes-append, encodes_same}
-use Rattle.std.proofs.lemmas.List.{append-nil, same_from_push, length-append}
-use Rattle.std.proofs.lemmas.Bool.{eqb-true, ltb-true, false≢true, cond_both}
-use Rattle.ct_word.specs.declared.kinds.Kind.{Kind}
+use Rattle.std.{specs.Prelude.{ℤ, pos, negsuc, slice_get, encode_utf8}, proofs.Math.Utf8.encodes, proofs.lemmas.Str.{encodes-append, encodes_same}}
+use Rattle.std.{proofs.lemmas.List.{append-nil, same_from_push, length-append}, proofs.lemmas.Bool.{eqb-true, ltb-true, false≢true, cond_both}}
+use Rattle.ct_word.{specs.declared.kinds.Kind.Kind, specs.declared.values.Value.Value, specs.declared.values.Term.Term, specs.Value.{World, at}}
+use Rattle.ct_word.{specs.Word.{code_of, kind_of, left_of, right_of}, specs.Reading.{by_kind, meanings, as_text, as_high, as_term, int_of_bits, term_at}}
+use Rattle.ct_word.{specs.WellFormed.{has_class, is_word_of, is_place_of, IsWellFormed}, specs.Constant.{is_constant_word, is_constant_kind}}
+use Rattle.ct_word.{specs.WordAt.{IsWordAt, text_at}, proofs.Codes.code_by, proofs.Places.is_word, proofs.Splits.{meaning_at, one_place}, proofs.WordAt.word_is}
 use Rattle.ct_word.specs.declared.kinds.Kind.TheVariants as kind
 use Rattle.ct_word.specs.declared.kinds.Class.TheVariants as class
-use Rattle.ct_word.specs.declared.values.Value.{Value}
 use Rattle.ct_word.specs.declared.values.Value.TheVariants as val
 use Rattle.ct_word.specs.declared.values.Null.TheVariants as null
-use Rattle.ct_word.specs.declared.values.Term.{Term}
 use Rattle.ct_word.specs.declared.values.Term.TheVariants as term
-use Rattle.ct_word.specs.Word.{code_of, kind_of, left_of, right_of}
-use Rattle.ct_word.specs.Value.{World, at}
-use Rattle.ct_word.specs.Reading.{by_kind, meanings, as_text, as_high, as_term, int_of_bits, term_at}
-use Rattle.ct_word.specs.WellFormed.{has_class, is_word_of, is_place_of, IsWellFormed}
-use Rattle.ct_word.specs.Constant.{is_constant_word, is_constant_kind}
-use Rattle.ct_word.specs.WordAt.{IsWordAt, text_at}
-use Rattle.ct_word.proofs.Codes.{code_by}
-use Rattle.ct_word.proofs.Places.{is_word}
-use Rattle.ct_word.proofs.Splits.{meaning_at, one_place}
-use Rattle.ct_word.proofs.WordAt.{word_is}
 
 words_by : (w x c : ℕ) → c ≡ w / 72057594037927936 → c ≡ x / 72057594037927936 → left_of w ≡ left_of x → right_of w ≡ right_of x → w ≡ x
 words_by w x c d e l r = omega arith

@@ -1,13 +1,9 @@
 -- The fields of a word of a well formed list name earlier places.
-use Rattle.std.proofs.Common.{◌≡◌, ℕ, ◌<◌, ◌≤◌, true, List, length, Option, Some, None, subst, arith, inl, inr}
-use Rattle.std.specs.Prelude.{slice_get, Contains}
+use Rattle.std.{proofs.Common.{◌≡◌, ℕ, ◌<◌, ◌≤◌, true, List, length, Option, Some, None, subst, arith, inl, inr}, specs.Prelude.{slice_get, Contains}}
 use Rattle.std.proofs.lemmas.List.Elements.{Contains-append_cases}
-use Rattle.ct_word.specs.declared.kinds.Kind.{Kind}
-use Rattle.ct_word.specs.Word.{kind_of, left_of, right_of}
+use Rattle.ct_word.{specs.declared.kinds.Kind.Kind, specs.Word.{kind_of, left_of, right_of}, proofs.Items.{no_item, sole_item}}
 use Rattle.ct_word.specs.WellFormed.{Field, PlaceOf, IsWellFormed, fields_of, fits, is_formed_as}
-use Rattle.ct_word.specs.Stands.{Below, itself, through, place_in, places_in, places_of}
-use Rattle.ct_word.proofs.Items.{no_item, sole_item}
-use Rattle.ct_word.proofs.Splits.{split_at, formed_at, formed_fields, place_within}
+use Rattle.ct_word.{specs.Stands.{Below, itself, through, place_in, places_in, places_of}, proofs.Splits.{split_at, formed_at, formed_fields, place_within}}
 
 -- a place that a field names stands among the words before
 field_before : (front : List ℕ) (f : Field) (n q : ℕ) → fits front f n ≡ true → Contains (place_in f n) q → q < length front

@@ -1,13 +1,9 @@
 -- A place goes on standing for what it stood for when words are added.
-use Rattle.std.proofs.Common.{◌≡◌, true≢false, Option, Some, None, sym, ℕ, zero, suc, ◌+◌, ◌<◌, List, [], ◌∷◌, ◌++◌, length, refl, ap, ◌∙◌, arith, length-append}
+use Rattle.std.proofs.Common.{◌≡◌, true≢false, Option, Some, None, sym, ℕ, zero, suc, ◌+◌, ◌<◌, List, [], ◌∷◌, ◌++◌, length, refl, ◌∙◌, arith, length-append}
 use Rattle.std.specs.Prelude.{◌&&◌, ◌||◌, not, IsTrue, nat_lt, slice_get}
-use Rattle.ct_word.specs.declared.kinds.Kind.{Kind}
-use Rattle.ct_word.specs.declared.kinds.Class.{Class}
+use Rattle.ct_word.{specs.declared.kinds.Kind.Kind, specs.declared.kinds.Class.Class, specs.Word.{kind_of, left_of, right_of}, proofs.Items.get_front}
 use Rattle.ct_word.specs.WellFormed.{Field, PlaceOf, fields_of, is_ordered, is_place_of, fits, is_formed_as, is_word_over}
-use Rattle.ct_word.specs.Word.{kind_of, left_of, right_of}
-use Rattle.ct_word.proofs.Items.{get_front}
-use Rattle.ct_word.proofs.Packed.{true_left, true_right, true_both}
-use Rattle.ct_word.specs.Reading.{Meaning, meaning_of, read, meanings, as_cond, condition_at}
+use Rattle.ct_word.{proofs.Packed.{true_left, true_right, true_both}, specs.Reading.{Meaning, meaning_of, read}}
 
 pub read-append : (ms : List Meaning) (ws xs : List ℕ) → read ms (ws ++ xs) ≡ read (read ms ws) xs
 read-append ms [] xs = refl
@@ -22,14 +18,6 @@ stays ms (w ∷ ws) k lt =
 pub length-read : (ms : List Meaning) (ws : List ℕ) → length (read ms ws) ≡ length ms + length ws
 length-read ms [] = omega arith
 length-read ms (w ∷ ws) = length-read (ms ++ meaning_of ms w ∷ []) ws ∙ omega (arith, length-append ms (meaning_of ms w ∷ []))
-
--- a place keeps its meaning
-pub meaning_grows : (ws xs : List ℕ) (k : ℕ) → k < length ws → slice_get (meanings (ws ++ xs)) k ≡ slice_get (meanings ws) k
-meaning_grows ws xs k lt =
-    ap (λ ms. slice_get ms k) (read-append [] ws xs) ∙ stays (meanings ws) xs k (omega (arith, length-read [] ws))
-
-pub condition_grows : (ws xs : List ℕ) (k : ℕ) → k < length ws → condition_at (ws ++ xs) k ≡ condition_at ws k
-condition_grows ws xs k lt = ap as_cond (meaning_grows ws xs k lt)
 
 -- a place keeps its class
 pub place_grows : (ws xs : List ℕ) (c : Class) (k : ℕ) → IsTrue (is_place_of ws c k) → IsTrue (is_place_of (ws ++ xs) c k)

@@ -1,10 +1,7 @@
 -- Items of lists, by where they stand and as members.
 use Rattle.std.proofs.Common.{◌≡◌, ℕ, zero, suc, ◌<◌, Bool, true, List, [], ◌∷◌, ◌++◌, length, map, get_or, Some, refl, sym, ◌∙◌, subst, arith, inl, inr, ◌⊎◌}
-use Rattle.std.specs.Prelude.{slice_get, Contains}
-use Rattle.std.specs.List.{flat_map, list_all}
-use Rattle.std.proofs.lemmas.Bool.{and_parts, and_from}
-use Rattle.std.proofs.lemmas.Option.{slice_get_within, get_or_from_slice_get}
-use Rattle.std.proofs.lemmas.List.Elements.{Contains-append_left, Contains-append_right}
+use Rattle.std.{specs.Prelude.{slice_get, Contains}, specs.List.{flat_map, list_all}, proofs.lemmas.Bool.{and_parts, and_from}}
+use Rattle.std.{proofs.lemmas.Option.{slice_get_within, get_or_from_slice_get}, proofs.lemmas.List.Elements.{Contains-append_left, Contains-append_right}}
 
 pub get_front : {X : Type 0} (xs ys : List X) (k : ℕ) → k < length xs → slice_get (xs ++ ys) k ≡ slice_get xs k
 get_front [] ys k lt = absurd (omega arith)

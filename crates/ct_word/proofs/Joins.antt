@@ -1,11 +1,8 @@
 -- Two conditions under a connective.
 use Rattle.std.proofs.Common.{◌≡◌, Bool, true, false, not, ◌&&◌, ◌||◌, List, refl}
-use Rattle.ct_word.specs.declared.values.Value.{Value}
-use Rattle.ct_word.specs.declared.connectives.Connective.{Connective}
-use Rattle.ct_word.specs.declared.connectives.Connective.TheVariants as connective
-use Rattle.ct_word.specs.Value.{World}
-use Rattle.ct_word.specs.Condition.{Condition, holds}
+use Rattle.ct_word.{specs.declared.values.Value.Value, specs.declared.connectives.Connective.Connective, specs.Value.World, specs.Condition.{Condition, holds}}
 use Rattle.ct_word.specs.Connective.{joined, join, dual, unit}
+use Rattle.ct_word.specs.declared.connectives.Connective.TheVariants as connective
 
 and_with_true : (a b : Bool) → (a && (b && true)) ≡ (a && b)
 and_with_true true true = refl

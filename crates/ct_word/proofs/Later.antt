@@ -1,13 +1,9 @@
 -- Facts of places that hold in every longer list of words.
-use Rattle.std.proofs.Common.{◌≡◌, ℕ, ◌<◌, List, length, ◌∙◌}
-use Rattle.std.specs.Prelude.{IsTrue, Some, slice_get}
-use mathlib.Core.List.{IsPrefix}
-use Rattle.ct_word.specs.declared.kinds.Class.{Class}
-use Rattle.ct_word.specs.WellFormed.{IsWellFormed, is_place_of}
-use Rattle.ct_word.specs.Reading.{Meaning, term_at, condition_at}
-use Rattle.ct_word.specs.Stands.{StandsAt}
-use Rattle.ct_word.specs.Later.{Later}
+use Rattle.std.{proofs.Common.{◌≡◌, ℕ, ◌<◌, List, length, ◌∙◌}, specs.Prelude.{IsTrue, Some, slice_get}}
+use Rattle.ct_word.{specs.declared.kinds.Class.Class, specs.WellFormed.{IsWellFormed, is_place_of}, specs.Reading.{Meaning, term_at, condition_at}}
+use Rattle.ct_word.{specs.Stands.StandsAt, specs.Later.Later}
 use Rattle.ct_word.proofs.Prefixes.{prefix_same, prefix_of_prefix, get_in_prefix, place_in_prefix, stands_in_prefix, term_in_prefix, condition_in_prefix}
+use mathlib.Core.List.{IsPrefix}
 
 -- the fact holds of these words too, where they are well formed
 pub later_now : (P : List ℕ → Type 0) (ws : List ℕ) → IsWellFormed ws → Later ws P → P ws

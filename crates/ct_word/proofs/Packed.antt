@@ -1,14 +1,9 @@
 -- A packed word gives its kind back.
-use Rattle.std.proofs.Common.{◌≡◌, ℕ, ◌+◌, ◌*◌, ◌/◌, ◌<◌, ◌^◌, Some, refl, arith, ap, ◌∙◌}
-use Rattle.ct_word.specs.declared.kinds.Kind.{Kind}
+use Rattle.std.proofs.Common.{◌≡◌, ℕ, ◌+◌, ◌*◌, ◌/◌, ◌<◌, ◌^◌, Some, refl, arith, ap, ◌∙◌, Bool, true, false, ◌&&◌, sym, subst, true≢false}
+use Rattle.std.{proofs.lemmas.List.{append-nil, append_assoc}, specs.Prelude.{List, [], ◌∷◌, ◌++◌, ◌-◌, slice_get, IsTrue}, proofs.lemmas.Bool.ne_eqb}
+use Rattle.ct_word.{specs.declared.kinds.Kind.Kind, specs.Word.{code_of, word_of, all_kinds, kind_with, kind_of, left_of, right_of}}
+use Rattle.ct_word.{specs.Reading.{Meaning, meaning_of, by_kind, read, meanings}, specs.WellFormed.{IsWellFormed, each_follows, is_word_after}}
 use Rattle.ct_word.specs.declared.kinds.Kind.TheVariants as kind
-use Rattle.std.proofs.Common.{Bool, true, false, ◌&&◌, sym, subst, true≢false}
-use Rattle.std.proofs.lemmas.List.{append-nil, append_assoc}
-use Rattle.std.specs.Prelude.{List, [], ◌∷◌, ◌++◌, ◌-◌, slice_get, IsTrue}
-use Rattle.ct_word.specs.Word.{code_of, word_of, all_kinds, kind_with, kind_of, left_of, right_of}
-use Rattle.std.proofs.lemmas.Bool.{ne_eqb}
-use Rattle.ct_word.specs.Reading.{Meaning, meaning_of, by_kind, read, meanings}
-use Rattle.ct_word.specs.WellFormed.{IsWellFormed, each_follows, is_word_after}
 
 pub kind_with_code : (k : Kind) → kind_with (code_of k) ≡ Some k
 unfolding kind_with

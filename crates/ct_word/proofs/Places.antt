@@ -1,16 +1,12 @@
 -- A place of a class stands for something of that class.
 use Rattle.std.proofs.Common.{◌≡◌, ℕ, zero, suc, ◌+◌, List, [], ◌∷◌, ◌++◌, length, Option, Some, None, refl, ap, sym, ◌∙◌, arith, length-append, take}
 use Rattle.std.specs.Prelude.{slice_get, IsTrue}
-use Rattle.ct_word.specs.declared.kinds.Kind.{Kind}
-use Rattle.ct_word.specs.declared.kinds.Kind.TheVariants as kind
-use Rattle.ct_word.specs.declared.kinds.Class.{Class}
-use Rattle.ct_word.specs.declared.kinds.Class.TheVariants as class
-use Rattle.ct_word.specs.Word.{kind_of, left_of, right_of}
-use Rattle.ct_word.specs.WellFormed.{class_of, same_class, has_class, is_word_of, is_place_of}
-use Rattle.ct_word.specs.Reading.{Meaning, IsTerm, IsCond, IsChangeList, meaning_of, by_kind, read, meanings, term_at, condition_at, as_cond, as_term, as_change_list, change_list_at}
-use Rattle.ct_word.specs.Stands.{StandsAt, class_of_meaning}
-use Rattle.ct_word.proofs.Growth.{stays}
+use Rattle.ct_word.{specs.declared.kinds.Kind.Kind, specs.declared.kinds.Class.Class, specs.Word.{kind_of, left_of, right_of}, proofs.Growth.stays}
+use Rattle.ct_word.{specs.WellFormed.{class_of, same_class, has_class, is_word_of, is_place_of}, specs.Stands.{StandsAt, class_of_meaning}}
+use Rattle.ct_word.specs.Reading.{Meaning, IsTerm, IsCond, meaning_of, by_kind, read, meanings, term_at, condition_at, as_cond, as_term}
 use Rattle.ct_word.proofs.Items.{get_last}
+use Rattle.ct_word.specs.declared.kinds.Kind.TheVariants as kind
+use Rattle.ct_word.specs.declared.kinds.Class.TheVariants as class
 
 -- what the word at a place stands for, over the words before it
 read_at : (ms : List Meaning) (ws : List ℕ) (k w : ℕ) → slice_get ws k ≡ Some w
@@ -88,13 +84,3 @@ pub stands_term : (words : List ℕ) (p : ℕ) → IsTrue (is_place_of words cla
 stands_term words p e =
     let m = meaning_of_class words class.Term p e in
     m.1 ∙ ap (λ x. Some x) (is_term m.0 m.2) ∙ ap (λ o. Some (IsTerm (as_term o))) (sym m.1)
-
-is_change_list : (m : Meaning) → class_of_meaning m ≡ Some class.ChangeList → m ≡ IsChangeList (as_change_list (Some m))
-is_change_list (IsChangeList xs) e = refl
-is_change_list _ e = cc
-
--- a place of class ChangeList stands for its changes
-pub stands_change_list : (words : List ℕ) (p : ℕ) → IsTrue (is_place_of words class.ChangeList p) → StandsAt words p (IsChangeList (change_list_at words p))
-stands_change_list words p e =
-    let m = meaning_of_class words class.ChangeList p e in
-    m.1 ∙ ap (λ x. Some x) (is_change_list m.0 m.2) ∙ ap (λ o. Some (IsChangeList (as_change_list o))) (sym m.1)

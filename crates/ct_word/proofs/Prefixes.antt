@@ -1,16 +1,11 @@
 -- What stays when words are added: what each place stands for, the commits, and the classes of places.
-use Rattle.std.proofs.Common.{◌≡◌, ℕ, ◌<◌, List, [], ◌∷◌, ◌++◌, length, ap, sym, ◌∙◌, arith}
-use Rattle.std.specs.Prelude.{slice_get, IsTrue, filter_map}
-use Rattle.std.proofs.lemmas.List.{append-nil, append_assoc}
-use Rattle.std.proofs.lemmas.List.Elements.{filter_map-append}
-use mathlib.Core.List.{IsPrefix}
-use Rattle.ct_word.specs.declared.kinds.Class.{Class}
-use Rattle.ct_word.specs.WellFormed.{is_word_of, is_place_of}
+use Rattle.std.{proofs.Common.{◌≡◌, ℕ, ◌<◌, List, [], ◌∷◌, ◌++◌, length, ap, sym, ◌∙◌, arith}, specs.Prelude.{slice_get, IsTrue, filter_map}}
+use Rattle.std.{proofs.lemmas.List.{append-nil, append_assoc}, proofs.lemmas.List.Elements.filter_map-append}
+use Rattle.ct_word.{specs.declared.kinds.Class.Class, specs.WellFormed.{is_word_of, is_place_of}, specs.Stands.StandsAt, proofs.Items.get_front}
 use Rattle.ct_word.specs.Reading.{Meaning, meaning_of, read, meanings, as_term, as_cond, as_change_list, as_commit, term_at, condition_at, change_list_at, commits_of}
-use Rattle.ct_word.specs.Stands.{StandsAt}
-pub use Rattle.ct_word.proofs.Growth.{place_within}
 use Rattle.ct_word.proofs.Growth.{read-append, length-read}
-use Rattle.ct_word.proofs.Items.{get_front}
+use mathlib.Core.List.{IsPrefix}
+pub use Rattle.ct_word.proofs.Growth.{place_within}
 
 -- a list is a prefix of itself
 pub prefix_same : {A : Type 0} (xs : List A) → IsPrefix xs xs

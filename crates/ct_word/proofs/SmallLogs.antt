@@ -1,15 +1,10 @@
 -- Closed tests: what the definitions say of small logs.
-use Rattle.std.proofs.Common.{◌≡◌, ℕ, List, [], ◌∷◌, refl}
+use Rattle.std.{proofs.Common.{◌≡◌, ℕ, List, [], ◌∷◌, refl}, specs.Prelude.{negsuc, codes, true, false}}
+use Rattle.ct_word.{specs.Word.kind_with, specs.Condition.True, specs.Change.{Create, Insert}, specs.Reading.{meaning_of, commits_of, int_of_bits}}
+use Rattle.ct_word.{specs.Writable.is_writable, specs.WellFormed.{is_word_after, each_follows, IsWellFormed}}
 use lib.Utf8.{encode}
-use Rattle.std.specs.Prelude.{negsuc, codes, true, false}
 use Rattle.ct_word.specs.declared.values.Value.TheVariants as val
 use Rattle.ct_word.specs.declared.values.Term.TheVariants as term
-use Rattle.ct_word.specs.Word.{kind_with}
-use Rattle.ct_word.specs.Condition.{True}
-use Rattle.ct_word.specs.Change.{Create, Insert}
-use Rattle.ct_word.specs.Reading.{meaning_of, commits_of, int_of_bits}
-use Rattle.ct_word.specs.Writable.{is_writable}
-use Rattle.ct_word.specs.WellFormed.{is_word_after, each_follows, IsWellFormed}
 
 -- the log after `create table t (a);`
 first_log : List ℕ

@@ -1,16 +1,11 @@
 -- What the words of texts and numbers stand for.
 use Rattle.std.proofs.Common.{◌≡◌, ℕ, ℤ, pos, suc, ◌+◌, ◌-◌, ◌*◌, ◌<◌, ◌^◌, cond, nat_lt, arith, w64, to_z, of_z, Bool, true, false, List, [], ◌∷◌, ◌++◌, refl, ap, sym, ◌∙◌, subst, append_assoc, append-nil}
-use Rattle.std.specs.Prelude.{slice_get, IsTrue, encode_utf8, negsuc}
+use Rattle.std.{specs.Prelude.{slice_get, IsTrue, encode_utf8, negsuc}, proofs.lemmas.Int.of_z-to_z, proofs.lemmas.Bool.false≢true}
+use Rattle.ct_word.{specs.declared.kinds.Kind.Kind, specs.WellFormed.{Scalar, fits, is_place_of, same_class, class_of}, specs.declared.reading.Word.Word}
+use Rattle.ct_word.{specs.Reading.{meanings, as_text, as_high, int_of_bits}, specs.WordAt.{IsWordAt, text_at, backwards}}
 use mir.Val.{sel}
-use Rattle.std.proofs.lemmas.Int.{of_z-to_z}
-use Rattle.std.proofs.lemmas.Bool.{false≢true}
-use Rattle.ct_word.specs.declared.kinds.Kind.{Kind}
 use Rattle.ct_word.specs.declared.kinds.Kind.TheVariants as kind
 use Rattle.ct_word.specs.declared.kinds.Class.TheVariants as class
-use Rattle.ct_word.specs.WellFormed.{Scalar, fits, is_place_of, same_class, class_of}
-use Rattle.ct_word.specs.Reading.{meanings, as_text, as_high, int_of_bits}
-use Rattle.ct_word.specs.declared.reading.Word.{Word}
-use Rattle.ct_word.specs.WordAt.{IsWordAt, text_at, backwards}
 
 -- the only kind of its class
 high_kind : (k : Kind) → IsTrue (same_class (class_of k) class.High) → k ≡ kind.NumberHigh

@@ -1,16 +1,11 @@
 -- What the place of a well formed word stands for.
 use Rattle.std.proofs.Common.{◌≡◌, ℕ, zero, suc, ◌<◌, true, false, ◌&&◌, List, [], ◌∷◌, ◌++◌, length, Option, Some, None, nat_eq, refl, ap, ◌∙◌, sym, arith, append_assoc, append-nil, inl, inr}
-use Rattle.std.specs.Prelude.{slice_get}
-use Rattle.std.specs.List.{list_any}
-use Rattle.std.proofs.lemmas.Option.{none-some}
+use Rattle.std.{specs.Prelude.slice_get, specs.List.list_any, proofs.lemmas.Option.none-some}
 use Rattle.std.proofs.lemmas.Bool.{and_parts, or_left, or_right, both_ways, eq-eqb, not-true, cases_order}
-use Rattle.ct_word.specs.declared.kinds.Kind.{Kind}
-use Rattle.ct_word.specs.Word.{kind_of, left_of, right_of}
-use Rattle.ct_word.specs.Reading.{meaning_of, by_kind, meanings}
-use Rattle.ct_word.specs.WellFormed.{fields_of, fits, is_formed_as, is_word_after, each_follows, IsWellFormed}
+use Rattle.ct_word.{specs.declared.kinds.Kind.Kind, specs.Word.{kind_of, left_of, right_of}, specs.Reading.{meaning_of, by_kind, meanings}}
+use Rattle.ct_word.{specs.WellFormed.{fields_of, fits, is_formed_as, is_word_after, each_follows, IsWellFormed}, proofs.Stands.stands_for_word}
 pub use Rattle.ct_word.proofs.Growth.{place_within}
 pub use Rattle.ct_word.proofs.Items.{get_front}
-use Rattle.ct_word.proofs.Stands.{stands_for_word}
 
 abbrev value_in : {X : Type 0} → X → Option X → X
 value_in d None = d

@@ -1,20 +1,13 @@
 -- A place stands for what its word says over all words: fields name earlier places, and these keep their meaning.
 use Rattle.std.proofs.Common.{◌≡◌, ℕ, zero, suc, ◌<◌, List, [], ◌∷◌, ◌++◌, take, Option, Some, None, ◌&&◌, refl, ap, sym, subst, ◌∙◌, ◌^◌}
-use Rattle.std.proofs.lemmas.List.{append-nil, append_assoc}
-use Rattle.std.specs.Prelude.{slice_get, IsTrue}
-use mathlib.Core.List.{IsPrefix}
-use Rattle.ct_word.specs.declared.kinds.Kind.{Kind}
-use Rattle.ct_word.specs.declared.kinds.Kind.TheVariants as kind
-use Rattle.ct_word.specs.declared.kinds.Class.{Class}
-use Rattle.ct_word.specs.declared.kinds.Class.TheVariants as class
-use Rattle.ct_word.specs.Word.{code_of, word_of, kind_of, left_of, right_of}
+use Rattle.std.{proofs.lemmas.List.{append-nil, append_assoc}, specs.Prelude.{slice_get, IsTrue}}
+use Rattle.ct_word.{specs.declared.kinds.Kind.Kind, specs.declared.kinds.Class.Class, specs.Word.{code_of, word_of, kind_of, left_of, right_of}}
 use Rattle.ct_word.specs.WellFormed.{Field, PlaceOf, fields_of, fits, class_of, same_class, has_class, is_word_of, is_place_of, is_formed_as, is_word_after, each_follows, IsWellFormed}
-use Rattle.ct_word.specs.Reading.{Meaning, by_kind, meaning_of, meanings}
-use Rattle.ct_word.specs.Stands.{StandsAt}
-use Rattle.ct_word.proofs.Packed.{true_left, true_right, meaning_packed, kind_of_parts}
-use Rattle.ct_word.proofs.Prefixes.{meaning_in_prefix}
-use Rattle.ct_word.proofs.Growth.{place_within}
-use Rattle.ct_word.proofs.Places.{meaning_at}
+use Rattle.ct_word.{specs.Reading.{Meaning, by_kind, meaning_of, meanings}, specs.Stands.StandsAt, proofs.Prefixes.meaning_in_prefix, proofs.Places.meaning_at}
+use Rattle.ct_word.{proofs.Packed.{true_left, true_right, meaning_packed, kind_of_parts}, proofs.Growth.place_within}
+use mathlib.Core.List.{IsPrefix}
+use Rattle.ct_word.specs.declared.kinds.Kind.TheVariants as kind
+use Rattle.ct_word.specs.declared.kinds.Class.TheVariants as class
 
 -- two lists of meanings agree at the place that a field names
 abbrev Agrees : List Meaning → List Meaning → Field → ℕ → Type 0

@@ -1,15 +1,10 @@
 -- What a well formed list says of the word at a place.
-use Rattle.std.proofs.Common.{◌≡◌, ℕ, ◌<◌, ◌^◌, List, length, Some, None, ap, sym, ◌∙◌, subst, arith}
-use Rattle.std.specs.Prelude.{slice_get, IsTrue}
+use Rattle.std.{proofs.Common.{◌≡◌, ℕ, ◌<◌, ◌^◌, List, length, Some, None, ap, sym, ◌∙◌, subst, arith}, specs.Prelude.{slice_get, IsTrue}}
 use Rattle.std.proofs.lemmas.Bool.{false≢true}
-use mathlib.Core.List.{IsPrefix}
-use Rattle.ct_word.specs.declared.kinds.Kind.{Kind}
-use Rattle.ct_word.specs.Word.{kind_of, left_of, right_of}
-use Rattle.ct_word.specs.WellFormed.{IsWellFormed, is_formed_as, Field, PlaceOf, fields_of, fits, is_word_of, has_class}
-use Rattle.ct_word.specs.Reading.{by_kind, meanings}
-use Rattle.ct_word.specs.WordAt.{IsFieldAt, IsWordAt}
-use Rattle.ct_word.proofs.Prefixes.{place_in_prefix}
+use Rattle.ct_word.{specs.declared.kinds.Kind.Kind, specs.Word.{kind_of, left_of, right_of}, specs.Reading.{by_kind, meanings}, proofs.Prefixes.place_in_prefix}
+use Rattle.ct_word.{specs.WellFormed.{IsWellFormed, is_formed_as, Field, PlaceOf, fields_of, fits, is_word_of, has_class}, specs.WordAt.{IsFieldAt, IsWordAt}}
 use Rattle.ct_word.proofs.Splits.{split_at, place_within, formed_fields, formed_at, meaning_at}
+use mathlib.Core.List.{IsPrefix}
 
 -- a field that fits the words before a place names an earlier place of the words, if it names one
 field_at : (ws front : List ℕ) (k : ℕ) → IsPrefix front ws → length front ≡ k → (f : Field) (n : ℕ) → IsTrue (fits front f n) → IsFieldAt ws k f n

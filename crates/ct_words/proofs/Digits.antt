@@ -1,12 +1,7 @@
 -- Steps of reading a number, digit by digit.
-use Rattle.std.proofs.Common.{◌≡◌, ℕ, ◌+◌, ◌-◌, ◌*◌, ◌^◌, ◌<◌, ◌≤◌, Bool, true, List, [], ◌∷◌, length, get_or, take, ap, ◌∙◌, arith, suc, zero}
-use Rattle.std.specs.List.{list_all}
-use Rattle.std.specs.Char.{digit_value}
-use Rattle.std.specs.Str.Parse.{digits_value}
-use Rattle.std.proofs.lemmas.Bool.Decides.{nat_tests}
-use Rattle.std.proofs.lemmas.Int.Digits.{digits_value_more}
-use Rattle.std.proofs.Math.Nat.{pow-le-pow_right, pow-succ'}
-use Rattle.std.proofs.Math.Numerals.{add-one}
+use Rattle.std.{proofs.Common.{◌≡◌, ℕ, ◌+◌, ◌-◌, ◌*◌, ◌^◌, ◌<◌, ◌≤◌, true, List, [], ◌∷◌, length, get_or, take, ap, ◌∙◌, arith, suc, zero}, specs.List.list_all}
+use Rattle.std.{specs.Char.digit_value, specs.Str.Parse.digits_value, proofs.lemmas.Bool.Decides.nat_tests, proofs.Math.Numerals.add-one}
+use Rattle.std.{proofs.lemmas.Int.Digits.digits_value_more, proofs.Math.Nat.{pow-le-pow_right, pow-succ'}}
 use Rattle.ct_word.specs.Names.{is_digit}
 use Rattle.ct_words.specs.Numbers.{is_number}
 

@@ -1,12 +1,9 @@
 -- What a command finds, by what clap says of its result.
-use Rattle.std.proofs.Common.{◌≡◌, ◌∙◌, ◌&&◌, Bool, true, false, List, [], ◌∷◌, Option, Some, None, ap, sym, refl, inl, inr}
-use Rattle.std.specs.Prelude.{option_and_then}
+use Rattle.std.{proofs.Common.{◌≡◌, ◌∙◌, ◌&&◌, Bool, true, false, List, [], ◌∷◌, Option, Some, None, ap, sym, refl, inl, inr}, specs.Prelude.option_and_then}
 use Rattle.clap.specs.Words.{App, Row, Text, HasKind, Kinds, IsAmong, fault_of, is_simple, is_simple_and_free, kind_of, matches_of}
-use Rattle.clap.specs.declared.parser.matches.ArgMatches.{ArgMatches}
-use Rattle.clap.specs.declared.error.Error.{Error}
+use Rattle.clap.{specs.declared.parser.matches.ArgMatches.ArgMatches, specs.declared.error.Error.Error}
+use Rattle.ct_words.{specs.Commands.{found, rows_in}, specs.Asked.Task}
 use Rattle.clap.specs.declared.error.kind.ErrorKind.TheVariants as kind
-use Rattle.ct_words.specs.Commands.{found, rows_in}
-use Rattle.ct_words.specs.Asked.{Task}
 
 both_left : (a b : Bool) → (a && b) ≡ true → a ≡ true
 both_left true b h = refl

@@ -1,7 +1,6 @@
 -- What clap asks of the commands before it says what they find.
 use Rattle.std.proofs.Common.{◌≡◌, true, refl}
-use Rattle.clap.specs.Words.{is_simple_and_free}
-use Rattle.clap.proofs.OnLiterals.{clap_on_literals}
+use Rattle.clap.{specs.Words.is_simple_and_free, proofs.OnLiterals.clap_on_literals}
 use Rattle.ct_words.specs.Commands.{run_app, fill_app}
 
 pub run_is_plain : is_simple_and_free run_app ≡ true

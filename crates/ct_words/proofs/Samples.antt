@@ -1,9 +1,7 @@
 -- Closed tests: what the definition says of some words.
 use Rattle.std.proofs.Common.{◌≡◌, [], ◌∷◌, Some, None, codes, refl}
 use Rattle.clap.proofs.OnLiterals.{clap_on_literals}
-use Rattle.ct_words.specs.Numbers.{number_of}
-use Rattle.ct_words.specs.Commands.{run_app, fill_app, found}
-use Rattle.ct_words.specs.Asked.{run, fill, task}
+use Rattle.ct_words.{specs.Numbers.number_of, specs.Commands.{run_app, fill_app, found}, specs.Asked.{run, fill, task}}
 
 a_run : task (codes "run" ∷ codes "f" ∷ codes "g" ∷ []) ≡ Some (run 262144 (codes "f" ∷ codes "g" ∷ []))
 unfolding clap_on_literals number_of run_app found

@@ -1,6 +1,5 @@
 -- What words ask for, by their first word.
-use Rattle.std.proofs.Common.{◌≡◌, true, false, List, [], ◌∷◌, Option, None, codes, refl}
-use Rattle.std.specs.Borrow.{Bor}
+use Rattle.std.{proofs.Common.{◌≡◌, true, false, List, [], ◌∷◌, None, codes, refl}, specs.Borrow.Bor}
 use Rattle.clap.specs.Words.{Text}
 use Rattle.ct_word.specs.Value.{same_text}
 use Rattle.ct_words.specs.Asked.{task, task_of_run, task_of_fill, texts_of}

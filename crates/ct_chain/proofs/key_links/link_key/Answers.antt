@@ -1,7 +1,5 @@
-use Rattle.std.proofs.Common.{◌∙◌, ap, arith, vec_len}
-use Rattle.std.proofs.lemmas.Grind.{get_or_default_zero}
-use Rattle.ct_chain.specs.Bucket.{bucket_of}
-use Rattle.ct_chain.proofs.Keys.{key_later}
+use Rattle.std.{proofs.Common.{◌∙◌, ap, arith, vec_len}, proofs.lemmas.Grind.get_or_default_zero}
+use Rattle.ct_chain.{specs.Bucket.bucket_of, proofs.Keys.key_later}
 use Rattle.ct_chain.proofs.key_links.link_key.Goals as goal
 
 pub returns-clause-linked : goal.returns-clause-linked

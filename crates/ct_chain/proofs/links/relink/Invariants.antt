@@ -1,5 +1,4 @@
-use Rattle.std.proofs.Common.{◌≡◌}
-use Rattle.std.specs.Prelude.{vec_capacity, vec_len}
+use Rattle.std.{proofs.Common.{◌≡◌}, specs.Prelude.{vec_capacity, vec_len}}
 use Rattle.ct_chain.specs.Linked.{IsLinked}
 use Rattle.ct_chain.proofs.links.relink.Given as goal
 

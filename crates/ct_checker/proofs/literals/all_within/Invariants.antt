@@ -1,5 +1,4 @@
-use Rattle.std.proofs.Common.{◌≡◌, take, true}
-use Rattle.std.specs.List.{list_all}
+use Rattle.std.{proofs.Common.{◌≡◌, take, true}, specs.List.list_all}
 use Rattle.ct_derivation.specs.Literal.{has}
 use Rattle.ct_checker.proofs.literals.all_within.Given as goal
 

@@ -1,5 +1,4 @@
-use Rattle.std.proofs.Common.{◌≡◌, take, false}
-use Rattle.std.specs.List.{list_any}
+use Rattle.std.{proofs.Common.{◌≡◌, take, false}, specs.List.list_any}
 use Rattle.ct_derivation.specs.Literal.{same_lit}
 use Rattle.ct_checker.proofs.literals.contains.Given as goal
 

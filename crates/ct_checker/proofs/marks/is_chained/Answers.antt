@@ -1,5 +1,4 @@
-use Rattle.std.proofs.Common.{sym}
-use Rattle.std.proofs.lemmas.List.Folds.{list_any_at}
+use Rattle.std.{proofs.Common.sym, proofs.lemmas.List.Folds.list_any_at}
 use Rattle.ct_derivation.specs.Literal.{same_lit, has}
 use Rattle.ct_checker.proofs.Chains.{past, goes_on, ends}
 use Rattle.ct_checker.proofs.marks.is_chained.Goals as goal

@@ -1,7 +1,5 @@
-use Rattle.std.proofs.Common.{◌≡◌, take, true, ◌++◌}
-use Rattle.std.specs.List.{list_all}
-use Rattle.ct_derivation.specs.Literal.{has}
-use Rattle.ct_derivation.specs.Path.{ends_clause}
+use Rattle.std.{proofs.Common.{◌≡◌, take, true, ◌++◌}, specs.List.list_all}
+use Rattle.ct_derivation.{specs.Literal.has, specs.Path.ends_clause}
 use Rattle.ct_checker.proofs.paths.all_in_path.Given as goal
 
 abbrev pub invariant-loop-literal : goal.invariant-loop-literal

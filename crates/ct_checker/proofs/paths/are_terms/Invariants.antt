@@ -1,7 +1,6 @@
-use Rattle.std.proofs.Common.{◌≡◌, take, true}
-use Rattle.std.specs.List.{list_all}
-use Rattle.ct_word.specs.declared.kinds.Class.TheVariants as class
+use Rattle.std.{proofs.Common.{◌≡◌, take, true}, specs.List.list_all}
 use Rattle.ct_word.specs.WellFormed.{is_place_of}
+use Rattle.ct_word.specs.declared.kinds.Class.TheVariants as class
 use Rattle.ct_checker.proofs.paths.are_terms.Given as goal
 
 abbrev pub invariant-loop-place : goal.invariant-loop-place

@@ -1,7 +1,5 @@
-use Rattle.std.proofs.Common.{◌≡◌, drop}
-use Rattle.std.specs.List.{list_all}
-use Rattle.ct_derivation.specs.Literal.{has}
-use Rattle.ct_derivation.specs.Path.{no_links}
+use Rattle.std.{proofs.Common.{◌≡◌, drop}, specs.List.list_all}
+use Rattle.ct_derivation.{specs.Literal.has, specs.Path.no_links}
 use Rattle.ct_checker.proofs.paths.has_links.Given as goal
 
 abbrev pub invariant-loop-place : goal.invariant-loop-place

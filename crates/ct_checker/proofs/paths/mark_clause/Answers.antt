@@ -1,8 +1,7 @@
-use Rattle.std.proofs.Common.{◌≡◌, ℕ, suc, ◌<◌, ◌≤◌, false, List, length, get_or, drop, drop-cons, ap, sym, subst, arith}
-use Rattle.ct_derivation.specs.declared.literals.Atom.TheVariants as atom
+use Rattle.std.proofs.Common.{ℕ, suc, ◌<◌, ◌≤◌, false, List, length, get_or, drop, drop-cons, ap, sym, subst, arith}
 use Rattle.ct_derivation.specs.declared.literals.Lit.{Lit}
-use Rattle.ct_checker.specs.Added.{added, added_all}
-use Rattle.ct_checker.proofs.Added.{grows}
+use Rattle.ct_checker.{specs.Added.{added, added_all}, proofs.Added.grows}
+use Rattle.ct_derivation.specs.declared.literals.Atom.TheVariants as atom
 use Rattle.ct_checker.proofs.paths.mark_clause.Goals as goal
 
 next_fits : (ls clause : List Lit) (i : ℕ) (d : Lit) → i < length clause → length (added ls (get_or clause i d)) ≤ length (added_all ls (drop i clause))

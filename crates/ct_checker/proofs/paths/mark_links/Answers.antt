@@ -1,9 +1,6 @@
 use Rattle.std.proofs.Common.{◌≡◌, ℕ, suc, ◌<◌, ◌≤◌, List, length, get_or, drop, drop-cons, ap, sym, ◌∙◌, subst, arith}
-use Rattle.ct_derivation.specs.declared.literals.Lit.{Lit}
-use Rattle.ct_derivation.specs.Literal.{no_of}
-use Rattle.ct_derivation.specs.Path.{pair_of, no_links}
-use Rattle.ct_checker.specs.Added.{added, added_all}
-use Rattle.ct_checker.proofs.Added.{grows}
+use Rattle.ct_derivation.{specs.declared.literals.Lit.Lit, specs.Literal.no_of, specs.Path.{pair_of, no_links}}
+use Rattle.ct_checker.{specs.Added.{added, added_all}, proofs.Added.grows}
 use Rattle.ct_checker.proofs.paths.mark_links.Goals as goal
 
 next_fits : (ls : List Lit) (l : Lit) (last : ℕ) (rest : List ℕ) (i : ℕ) → i < length rest → l ≡ no_of (pair_of last (get_or rest i 0))

@@ -1,6 +1,5 @@
 use Rattle.std.proofs.Common.{◌≡◌, drop, None}
-use Rattle.ct_derivation.specs.Propagation.{look}
-use Rattle.ct_derivation.specs.Accepts.{over_atoms}
+use Rattle.ct_derivation.{specs.Propagation.look, specs.Accepts.over_atoms}
 use Rattle.ct_checker.proofs.propagation.examine.Given as goal
 
 -- what is left of the clause decides

@@ -1,6 +1,5 @@
 use Rattle.std.proofs.Common.{◌≡◌, drop, length, ◌+◌}
-use Rattle.ct_derivation.specs.Propagation.{meets}
-use Rattle.ct_derivation.specs.Accepts.{over_atoms, clauses_of}
+use Rattle.ct_derivation.{specs.Propagation.meets, specs.Accepts.{over_atoms, clauses_of}}
 use Rattle.ct_checker.proofs.propagation.meets.Given as goal
 
 -- what is left of the hints decides

@@ -1,5 +1,4 @@
-use Rattle.std.proofs.Common.{◌≡◌, take}
-use Rattle.std.specs.Prelude.{flat_map, string_bytes}
+use Rattle.std.{proofs.Common.{◌≡◌, take}, specs.Prelude.{flat_map, string_bytes}}
 use Rattle.ct_fill.specs.Script.{ended}
 use Rattle.ct_fill.proofs.scripts.script.Given as goal
 

@@ -1,7 +1,5 @@
-use Rattle.std.proofs.Common.{◌≡◌, ◌≤◌, length, map, take}
-use Rattle.std.specs.Prelude.{All}
-use Rattle.ct_outside.specs.Outside.{StillHolds, Added}
-use Rattle.ct_outside.specs.Reads.{HoldsAll, bytes_in}
+use Rattle.std.{proofs.Common.{◌≡◌, ◌≤◌, length, map, take}, specs.Prelude.All}
+use Rattle.ct_outside.{specs.Outside.{StillHolds, Added}, specs.Reads.{HoldsAll, bytes_in}}
 use Rattle.ct_outside.proofs.drive.read_all.Given as goal
 
 abbrev pub invariant-loop-name : goal.invariant-loop-name

@@ -1,6 +1,5 @@
 use Rattle.std.proofs.Common.{◌∙◌, subst, arith}
-use Rattle.ct_outside.specs.Outside.{AddedFront}
-use Rattle.ct_outside.proofs.Additions.{failed_at, on_err}
+use Rattle.ct_outside.{specs.Outside.AddedFront, proofs.Additions.{failed_at, on_err}}
 use Rattle.ct_outside.proofs.drive.write_all.Goals as goal
 
 pub returns-in_err-write-clause-err : goal.returns-in_err-write-clause-err

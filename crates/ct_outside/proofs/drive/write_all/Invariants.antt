@@ -1,6 +1,5 @@
 use Rattle.std.proofs.Common.{◌≤◌, take}
-use Rattle.ct_outside.specs.Outside.{Added, Called}
-use Rattle.ct_outside.specs.Writes.{joined}
+use Rattle.ct_outside.{specs.Outside.{Added, Called}, specs.Writes.joined}
 use Rattle.ct_outside.proofs.drive.write_all.Given as goal
 
 abbrev pub invariant-loop-line : goal.invariant-loop-line

@@ -1,5 +1,4 @@
-use Rattle.std.proofs.Common.{arith}
-use Rattle.std.proofs.lemmas.Result.{on_ok_weaker}
+use Rattle.std.{proofs.Common.arith, proofs.lemmas.Result.on_ok_weaker}
 use Rattle.ct_parts.proofs.Cut.{in_new_part, last_part, in_last_part}
 use Rattle.ct_parts.proofs.parts.push_last.Goals as goal
 

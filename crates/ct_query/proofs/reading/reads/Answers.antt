@@ -1,6 +1,5 @@
 use Rattle.std.proofs.Common.{◌∙◌}
-use Rattle.ct_query.specs.Views.{statement_of}
-use Rattle.ct_query.proofs.Added.{once_each}
+use Rattle.ct_query.{specs.Views.statement_of, proofs.Added.once_each}
 use Rattle.ct_query.proofs.reading.reads.Goals as goal
 
 pub returns-clause-once : goal.returns-clause-once

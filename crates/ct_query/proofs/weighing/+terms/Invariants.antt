@@ -1,7 +1,6 @@
 use Rattle.std.proofs.Common.{◌≡◌, ◌≤◌, ◌+◌, map, drop}
 use Rattle.ct_word.specs.Condition.{And, listed}
-use Rattle.ct_query.specs.Pred.{condition_of}
-use Rattle.ct_query.specs.Size.{greatest, stopped}
+use Rattle.ct_query.{specs.Pred.condition_of, specs.Size.{greatest, stopped}}
 use Rattle.ct_query.specs.Bounds as spec
 use Rattle.ct_query.proofs.weighing.+terms.Given as goal
 

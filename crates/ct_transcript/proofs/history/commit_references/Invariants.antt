@@ -1,5 +1,4 @@
-use Rattle.std.proofs.Common.{◌≡◌, take}
-use Rattle.std.specs.Prelude.{flat_map}
+use Rattle.std.{proofs.Common.{◌≡◌, take}, specs.Prelude.flat_map}
 use Rattle.ct_transcript.specs.Text.{references_of}
 use Rattle.ct_transcript.proofs.history.commit_references.Given as goal
 

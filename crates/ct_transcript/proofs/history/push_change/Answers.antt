@@ -1,8 +1,5 @@
-use Rattle.std.proofs.Common.{◌++◌, ◌∙◌, ap}
-use Rattle.std.specs.Prelude.{codes, string_bytes}
-use Rattle.ct_transcript.specs.TermText.{in_parentheses, with_commas}
-use Rattle.ct_transcript.specs.Text.{rows_text}
-use Rattle.ct_transcript.proofs.Joins.{both_written}
+use Rattle.std.{proofs.Common.{◌++◌, ◌∙◌, ap}, specs.Prelude.{codes, string_bytes}}
+use Rattle.ct_transcript.{specs.TermText.{in_parentheses, with_commas}, specs.Text.rows_text, proofs.Joins.both_written}
 use Rattle.ct_transcript.proofs.history.push_change.Goals as goal
 
 pub returns-in_ok-push_names-in-Create : goal.returns-in_ok-push_names-in-Create

@@ -1,5 +1,4 @@
-use Rattle.std.proofs.Common.{◌≡◌, ℕ, ◌+◌, ◌<◌, length, take, get_or}
-use Rattle.std.specs.Prelude.{min}
+use Rattle.std.{proofs.Common.{◌≡◌, ℕ, ◌+◌, ◌<◌, length, take, get_or}, specs.Prelude.min}
 use Rattle.ct_transcript.specs.NodeText.{references_to}
 use Rattle.ct_transcript.proofs.nodes.add_references.Given as goal
 

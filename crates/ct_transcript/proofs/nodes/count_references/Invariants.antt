@@ -1,5 +1,4 @@
-use Rattle.std.proofs.Common.{◌≡◌, ℕ, ◌<◌, length, take, get_or}
-use Rattle.std.specs.Prelude.{flat_map, min}
+use Rattle.std.{proofs.Common.{◌≡◌, ℕ, ◌<◌, length, take, get_or}, specs.Prelude.{flat_map, min}}
 use Rattle.ct_rewrite.specs.Nodes.{children_of}
 use Rattle.ct_transcript.specs.NodeText.{references_to}
 use Rattle.ct_transcript.proofs.nodes.count_references.Given as goal

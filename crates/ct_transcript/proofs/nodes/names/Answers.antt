@@ -1,9 +1,6 @@
-use Rattle.std.proofs.Common.{◌≡◌, ◌++◌, ◌∙◌, ap, arith}
-use Rattle.std.specs.Prelude.{ℕ, flat_map, min}
-use Rattle.std.proofs.lemmas.List.{get_or_default}
+use Rattle.std.{proofs.Common.{◌≡◌, ◌++◌, ◌∙◌, ap, arith}, specs.Prelude.{ℕ, flat_map, min}, proofs.lemmas.List.get_or_default}
 use Rattle.ct_rewrite.specs.Nodes.{children_of}
-use Rattle.ct_transcript.specs.NodeText.{references_to}
-use Rattle.ct_transcript.proofs.Names.{name_written, named_bound}
+use Rattle.ct_transcript.{specs.NodeText.references_to, proofs.Names.{name_written, named_bound}}
 use Rattle.ct_transcript.proofs.nodes.names.Goals as goal
 
 pub loop-i-preserved : goal.loop-i-preserved

@@ -1,5 +1,4 @@
-use Rattle.std.proofs.Common.{◌≡◌, ◌+◌, ◌≤◌, ◌++◌, drop}
-use Rattle.std.specs.Prelude.{flat_map}
+use Rattle.std.{proofs.Common.{◌≡◌, ◌+◌, ◌≤◌, ◌++◌, drop}, specs.Prelude.flat_map}
 use Rattle.ct_rewrite.specs.Nodes.{children_of}
 use Rattle.ct_transcript.specs.NodeText.{names_from, names_of}
 use Rattle.ct_transcript.proofs.nodes.names.Given as goal

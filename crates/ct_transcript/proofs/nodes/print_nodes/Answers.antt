@@ -1,9 +1,6 @@
-use Rattle.std.proofs.Common.{◌++◌, length, get_or, ap, ◌∙◌, arith}
-use Rattle.std.specs.Prelude.{flat_map}
+use Rattle.std.{proofs.Common.{◌++◌, length, get_or, ap, ◌∙◌, arith}, specs.Prelude.flat_map}
 use Rattle.ct_rewrite.specs.Nodes.{children_of}
-use Rattle.ct_transcript.specs.NodeText.{names_of, node_text}
-use Rattle.ct_transcript.proofs.Names.{length_names}
-use Rattle.ct_transcript.proofs.Prints.{same_printed, node_printed, all_printed}
+use Rattle.ct_transcript.{specs.NodeText.{names_of, node_text}, proofs.Names.length_names, proofs.Prints.{same_printed, node_printed, all_printed}}
 use Rattle.ct_transcript.proofs.nodes.print_nodes.Goals as goal
 
 pub index-requires : goal.index-requires

@@ -1,7 +1,5 @@
-use Rattle.std.proofs.Common.{get_or, refl, arith}
-use Rattle.std.specs.Prelude.{slice_get}
-use Rattle.ct_transcript.specs.NodeText.{as_child}
-use Rattle.ct_transcript.proofs.Joins.{join_written}
+use Rattle.std.{proofs.Common.{get_or, refl, arith}, specs.Prelude.slice_get}
+use Rattle.ct_transcript.{specs.NodeText.as_child, proofs.Joins.join_written}
 use Rattle.ct_transcript.proofs.nodes.push_children.Goals as goal
 
 pub loop-i-preserved : goal.loop-i-preserved

@@ -1,6 +1,4 @@
-use Rattle.std.proofs.Common.{◌≡◌, ◌++◌, take}
-use Rattle.std.specs.Prelude.{slice_get, string_bytes}
-use Rattle.std.specs.List.{join_by}
+use Rattle.std.{proofs.Common.{◌≡◌, ◌++◌, take}, specs.Prelude.{slice_get, string_bytes}, specs.List.join_by}
 use Rattle.ct_transcript.specs.NodeText.{as_child}
 use Rattle.ct_transcript.proofs.nodes.push_children.Given as goal
 

@@ -1,5 +1,4 @@
-use Rattle.std.proofs.Common.{◌++◌, ◌∙◌, ap, sym, append_assoc}
-use Rattle.std.specs.Prelude.{codes, decimal, string_bytes}
+use Rattle.std.{proofs.Common.{◌++◌, ◌∙◌, ap, sym, append_assoc}, specs.Prelude.{codes, decimal, string_bytes}}
 use Rattle.ct_transcript.proofs.replies.push_first.Goals as goal
 
 pub returns-in_ok-write-in-Pending : goal.returns-in_ok-write-in-Pending

@@ -1,7 +1,5 @@
-use Rattle.std.proofs.Common.{arith}
-use Rattle.std.specs.Prelude.{codes}
-use Rattle.ct_transcript.specs.TermText.{term_text}
-use Rattle.ct_transcript.proofs.Joins.{join_written}
+use Rattle.std.{proofs.Common.arith, specs.Prelude.codes}
+use Rattle.ct_transcript.{specs.TermText.term_text, proofs.Joins.join_written}
 use Rattle.ct_transcript.proofs.terms.push_cells.Goals as goal
 
 pub loop-i-preserved : goal.loop-i-preserved

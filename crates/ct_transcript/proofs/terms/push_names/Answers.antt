@@ -1,5 +1,4 @@
-use Rattle.std.proofs.Common.{◌++◌, ◌∙◌, ap, arith}
-use Rattle.std.specs.Prelude.{codes, string_bytes}
+use Rattle.std.{proofs.Common.{◌++◌, ◌∙◌, ap, arith}, specs.Prelude.{codes, string_bytes}}
 use Rattle.ct_transcript.proofs.Joins.{join_written}
 use Rattle.ct_transcript.proofs.terms.push_names.Goals as goal
 

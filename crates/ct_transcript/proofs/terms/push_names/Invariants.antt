@@ -1,6 +1,4 @@
-use Rattle.std.proofs.Common.{◌≡◌, ◌++◌, take}
-use Rattle.std.specs.Prelude.{codes, string_bytes}
-use Rattle.std.specs.List.{join_by}
+use Rattle.std.{proofs.Common.{◌≡◌, ◌++◌, take}, specs.Prelude.{codes, string_bytes}, specs.List.join_by}
 use Rattle.ct_transcript.proofs.terms.push_names.Given as goal
 
 abbrev pub invariant-loop-i : goal.invariant-loop-i

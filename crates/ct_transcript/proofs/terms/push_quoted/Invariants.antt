@@ -1,5 +1,4 @@
-use Rattle.std.proofs.Common.{◌≡◌, ◌++◌}
-use Rattle.std.specs.Prelude.{flat_map, string_bytes}
+use Rattle.std.{proofs.Common.{◌≡◌, ◌++◌}, specs.Prelude.{flat_map, string_bytes}}
 use Rattle.ct_transcript.specs.TermText.{quoted_byte}
 use Rattle.ct_transcript.proofs.terms.push_quoted.Given as goal
 

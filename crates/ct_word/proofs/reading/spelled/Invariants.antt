@@ -1,5 +1,4 @@
-use Rattle.std.proofs.Common.{◌≡◌, ◌++◌, vec_len}
-use Rattle.std.specs.Prelude.{string_bytes}
+use Rattle.std.{proofs.Common.{◌≡◌, ◌++◌, vec_len}, specs.Prelude.string_bytes}
 use Rattle.ct_word.specs.WordAt.{backwards}
 use Rattle.ct_word.proofs.reading.spelled.Given as goal
 

@@ -1,6 +1,5 @@
 use Rattle.std.proofs.Common.{◌++◌, ◌∙◌, ap}
-use Rattle.ct_word.specs.WordAt.{text_at, backwards}
-use Rattle.ct_word.proofs.Spelling.{longer, taken_off}
+use Rattle.ct_word.{specs.WordAt.{text_at, backwards}, proofs.Spelling.{longer, taken_off}}
 use Rattle.ct_word.proofs.reading.text_at.Goals as goal
 
 pub loop-characters-preserved : goal.loop-characters-preserved

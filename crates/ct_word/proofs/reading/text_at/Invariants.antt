@@ -1,8 +1,6 @@
-use Rattle.std.proofs.Common.{◌≡◌, ◌++◌}
-use Rattle.std.specs.Prelude.{IsTrue}
+use Rattle.std.{proofs.Common.{◌≡◌, ◌++◌}, specs.Prelude.IsTrue}
+use Rattle.ct_word.{specs.WellFormed.is_place_of, specs.WordAt.{text_at, backwards}}
 use Rattle.ct_word.specs.declared.kinds.Class.TheVariants as class
-use Rattle.ct_word.specs.WellFormed.{is_place_of}
-use Rattle.ct_word.specs.WordAt.{text_at, backwards}
 use Rattle.ct_word.proofs.reading.text_at.Given as goal
 
 abbrev pub invariant-loop-characters : goal.invariant-loop-characters

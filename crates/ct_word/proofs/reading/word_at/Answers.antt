@@ -1,5 +1,4 @@
-use Rattle.std.proofs.Common.{sym, ◌∙◌, arith}
-use Rattle.std.proofs.lemmas.Option.{slice_get-get_or}
+use Rattle.std.{proofs.Common.{sym, ◌∙◌, arith}, proofs.lemmas.Option.slice_get-get_or}
 use Rattle.ct_word.proofs.WordAt.{has_kind, word_is}
 use Rattle.ct_word.proofs.reading.word_at.Goals as goal
 

@@ -1,6 +1,5 @@
 use Rattle.std.proofs.Common.{◌∙◌}
-use Rattle.ct_word.specs.Word.{kind_with}
-use Rattle.ct_word.proofs.Packed.{kind_at}
+use Rattle.ct_word.{specs.Word.kind_with, proofs.Packed.kind_at}
 use Rattle.ct_word.proofs.words.kind.Goals as goal
 
 pub returns-then-code-eq0 : goal.returns-then-code-eq0

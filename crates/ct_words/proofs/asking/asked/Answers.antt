@@ -1,6 +1,4 @@
-use Rattle.std.proofs.Common.{◌≡◌, true, false, rules, codes, ◌∙◌}
-use Rattle.std.proofs.lemmas.List.{nil_from_length}
-use Rattle.std.proofs.lemmas.Option.{MatchOption-at_none}
+use Rattle.std.{proofs.Common.{◌≡◌, true, false, rules, codes, ◌∙◌}, proofs.lemmas.List.nil_from_length, proofs.lemmas.Option.MatchOption-at_none}
 use Rattle.std.proofs.lemmas.Result.{IfOk-weaker}
 use Rattle.ct_word.specs.Value.{same_text}
 use Rattle.ct_words.proofs.Tasks.{no_words, run_words, fill_words, other_words}

@@ -1,8 +1,6 @@
 use Rattle.std.proofs.Common.{ap, ◌∙◌}
 use Rattle.clap.specs.Words.{is_simple_and_free}
-use Rattle.ct_words.specs.Asked.{fill_by}
-use Rattle.ct_words.proofs.Plain.{fill_is_plain}
-use Rattle.ct_words.proofs.Found.{made_of_found}
+use Rattle.ct_words.{specs.Asked.fill_by, proofs.Plain.fill_is_plain, proofs.Found.made_of_found}
 use Rattle.ct_words.proofs.asking.asked_of_fill.Goals as goal
 
 pub found-requires : goal.found-requires

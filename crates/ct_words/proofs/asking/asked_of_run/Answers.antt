@@ -1,9 +1,6 @@
-use Rattle.std.proofs.Common.{ap, ◌∙◌}
-use Rattle.std.proofs.lemmas.Result.{IfOk-weaker}
+use Rattle.std.{proofs.Common.{ap, ◌∙◌}, proofs.lemmas.Result.IfOk-weaker}
 use Rattle.clap.specs.Words.{is_simple_and_free}
-use Rattle.ct_words.specs.Asked.{run_by}
-use Rattle.ct_words.proofs.Plain.{run_is_plain}
-use Rattle.ct_words.proofs.Found.{made_of_found}
+use Rattle.ct_words.{specs.Asked.run_by, proofs.Plain.run_is_plain, proofs.Found.made_of_found}
 use Rattle.ct_words.proofs.asking.asked_of_run.Goals as goal
 
 pub found-requires : goal.found-requires

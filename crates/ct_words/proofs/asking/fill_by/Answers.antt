@@ -1,6 +1,5 @@
 use Rattle.std.proofs.Common.{ap, ◌∙◌, codes}
-use Rattle.clap.specs.Words.{found_of}
-use Rattle.clap.proofs.WalkLemmas.{first_value-rows}
+use Rattle.clap.{specs.Words.found_of, proofs.WalkLemmas.first_value-rows}
 use Rattle.ct_words.specs.Asked.{fill_of}
 use Rattle.ct_words.proofs.asking.fill_by.Goals as goal
 

@@ -1,7 +1,5 @@
-use Rattle.std.proofs.Common.{ap₂, ◌∙◌, codes}
-use Rattle.std.proofs.lemmas.Result.{IfOk-weaker}
-use Rattle.clap.specs.Words.{found_of}
-use Rattle.clap.proofs.WalkLemmas.{first_value-rows, raw_values-rows}
+use Rattle.std.{proofs.Common.{ap₂, ◌∙◌, codes}, proofs.lemmas.Result.IfOk-weaker}
+use Rattle.clap.{specs.Words.found_of, proofs.WalkLemmas.{first_value-rows, raw_values-rows}}
 use Rattle.ct_words.specs.Asked.{run_of}
 use Rattle.ct_words.proofs.asking.run_by.Goals as goal
 

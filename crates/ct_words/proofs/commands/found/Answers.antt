@@ -1,7 +1,6 @@
 use Rattle.std.proofs.Common.{◌∙◌}
 use Rattle.clap.specs.Words.{app_of}
-use Rattle.ct_words.specs.Asked.{texts_of}
-use Rattle.ct_words.proofs.Found.{simple, found_rows, found_fault}
+use Rattle.ct_words.{specs.Asked.texts_of, proofs.Found.{simple, found_rows, found_fault}}
 use Rattle.ct_words.proofs.commands.found.Goals as goal
 
 pub returns-in-Ok : goal.returns-in-Ok

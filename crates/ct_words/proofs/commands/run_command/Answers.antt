@@ -1,4 +1,4 @@
-use Rattle.std.proofs.Common.{rules, ap₂, ◌∙◌}
+use Rattle.std.proofs.Common.{ap₂, ◌∙◌}
 use Rattle.clap.specs.Words.{with_rule}
 use Rattle.ct_words.specs.Commands.{run_app}
 use Rattle.ct_words.proofs.commands.run_command.Goals as goal

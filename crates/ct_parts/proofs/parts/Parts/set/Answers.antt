@@ -1,7 +1,5 @@
-use Rattle.std.proofs.Common.{arith, sym, ◌∙◌, ap, set, ◌/◌}
-use Rattle.std.proofs.lemmas.Result.{on_ok_weaker}
-use Rattle.ct_parts.specs.Cut.{joined}
-use Rattle.ct_parts.proofs.Cut.{in_part, in_place, write, same_cut}
+use Rattle.std.{proofs.Common.{arith, sym, ◌∙◌, ap, set, ◌/◌}, proofs.lemmas.Result.on_ok_weaker}
+use Rattle.ct_parts.{specs.Cut.joined, proofs.Cut.{in_part, in_place, write, same_cut}}
 use Rattle.ct_parts.proofs.parts.Parts.set.Goals as goal
 
 pub index_mut-requires : goal.index_mut-requires

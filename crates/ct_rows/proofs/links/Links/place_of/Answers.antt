@@ -1,10 +1,6 @@
-use Rattle.std.proofs.Common.{◌≡◌, ◌+◌, ◌-◌, ℕ, List, None, length, take, ap, sym, subst, ◌∙◌, arith}
-use Rattle.std.specs.Map.{keys_of}
-use Rattle.std.proofs.lemmas.Bool.{false≢true}
+use Rattle.std.{proofs.Common.{◌≡◌, ◌+◌, ◌-◌, ℕ, List, None, length, take, ap, sym, subst, ◌∙◌, arith}, specs.Map.keys_of, proofs.lemmas.Bool.false≢true}
 use Rattle.ct_word.proofs.Alike.{text_decides}
-use Rattle.ct_rows.specs.Entries.{find}
-use Rattle.ct_rows.specs.Links.{Slotted, IsFirst, IsSought, entries_of}
-use Rattle.ct_rows.proofs.Writing.{rows_below, rows_next, rows_found, rows_none}
+use Rattle.ct_rows.{specs.Entries.find, specs.Links.{Slotted, IsFirst, IsSought, entries_of}, proofs.Writing.{rows_below, rows_next, rows_found, rows_none}}
 use Rattle.ct_rows.proofs.links.Links.place_of.Goals as goal
 
 pub returns-then-eq : goal.returns-then-eq

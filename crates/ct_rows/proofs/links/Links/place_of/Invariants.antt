@@ -1,5 +1,4 @@
-use Rattle.std.proofs.Common.{length, take}
-use Rattle.std.specs.Map.{keys_of}
+use Rattle.std.{proofs.Common.{length, take}, specs.Map.keys_of}
 use Rattle.ct_rows.specs.Links.{IsSought, entries_of}
 use Rattle.ct_rows.proofs.links.Links.place_of.Given as goal
 

@@ -1,9 +1,6 @@
-use Rattle.std.proofs.Common.{◌≡◌, ◌+◌, length, set, take, ap, sym, subst, ◌∙◌, arith}
-use Rattle.std.proofs.lemmas.Option.{get_or_from_slice_get}
+use Rattle.std.{proofs.Common.{◌≡◌, ◌+◌, length, set, take, ap, sym, subst, ◌∙◌, arith}, proofs.lemmas.Option.get_or_from_slice_get}
 use Rattle.ct_word.specs.declared.values.CRow.{CRow}
-use Rattle.ct_rows.specs.Entries.{find}
-use Rattle.ct_rows.specs.Slots.{slot_of}
-use Rattle.ct_rows.specs.Links.{Link, Slotted, AreRows, entries_of}
+use Rattle.ct_rows.{specs.Entries.find, specs.Slots.slot_of, specs.Links.{Link, Slotted, AreRows, entries_of}}
 use Rattle.ct_rows.proofs.Writing.{on_err, front_stays, rows_stay, rows_push}
 use Rattle.ct_rows.proofs.links.Links.push.Goals as goal
 

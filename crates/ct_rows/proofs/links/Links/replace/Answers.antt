@@ -1,7 +1,5 @@
-use Rattle.std.proofs.Common.{◌<◌, [], length, get_or, set, take, ap, sym, subst, ◌∙◌, arith}
-use Rattle.std.specs.Map.{keys_of}
-use Rattle.ct_rows.specs.Links.{Link, Slotted, AreRows, entries_of}
-use Rattle.ct_rows.proofs.Writing.{many, key_at, rows_set, entries_set}
+use Rattle.std.{proofs.Common.{◌<◌, [], length, get_or, set, take, ap, sym, subst, ◌∙◌, arith}, specs.Map.keys_of}
+use Rattle.ct_rows.{specs.Links.{Link, Slotted, AreRows, entries_of}, proofs.Writing.{many, key_at, rows_set, entries_set}}
 use Rattle.ct_rows.proofs.links.Links.replace.Goals as goal
 
 pub invariant_of-self-2 : goal.invariant_of-self-2

@@ -1,8 +1,5 @@
-use Rattle.std.proofs.Common.{◌<◌, ℕ, List, [], ◌∷◌, ◌++◌, length, get_or, take, ap, sym, ◌∙◌, arith}
-use Rattle.std.proofs.lemmas.List.{take_more}
-use Rattle.ct_rows.specs.Entries.{find}
-use Rattle.ct_rows.specs.Links.{Slotted}
-use Rattle.ct_rows.proofs.Writing.{many, link_at, rows_new}
+use Rattle.std.{proofs.Common.{◌<◌, ℕ, List, [], ◌∷◌, ◌++◌, length, get_or, take, ap, sym, ◌∙◌, arith}, proofs.lemmas.List.take_more}
+use Rattle.ct_rows.{specs.Entries.find, specs.Links.Slotted, proofs.Writing.{many, link_at, rows_new}}
 use Rattle.ct_rows.proofs.links.Links.spread.Goals as goal
 
 pub push-requires-clause-new : goal.push-requires-clause-new

@@ -1,6 +1,5 @@
 use Rattle.std.proofs.Common.{ap, sym, ◌∙◌}
-use Rattle.ct_rows.specs.Entries.{find}
-use Rattle.ct_rows.proofs.Entries.{find_first}
+use Rattle.ct_rows.{specs.Entries.find, proofs.Entries.find_first}
 use Rattle.ct_rows.proofs.rows.Rows.find.Goals as goal
 
 pub returns : goal.returns

@@ -1,9 +1,6 @@
-use Rattle.std.proofs.Common.{ap, sym, subst, ◌∙◌}
-use Rattle.std.proofs.lemmas.Result.{on_ok_weaker}
+use Rattle.std.{proofs.Common.{ap, sym, subst, ◌∙◌}, proofs.lemmas.Result.on_ok_weaker}
 use Rattle.ct_word.specs.declared.values.CRow.{CRow}
-use Rattle.ct_rows.specs.Entries.{find, put}
-use Rattle.ct_rows.specs.Links.{Slotted, IsFirst}
-use Rattle.ct_rows.proofs.Entries.{put_first, entry_last}
+use Rattle.ct_rows.{specs.Entries.{find, put}, specs.Links.{Slotted, IsFirst}, proofs.Entries.{put_first, entry_last}}
 use Rattle.ct_rows.proofs.rows.Rows.put.Goals as goal
 
 pub returns-in-Some-clause-put : goal.returns-in-Some-clause-put
