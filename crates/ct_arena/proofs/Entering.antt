@@ -1,20 +1,13 @@
 -- Sessions come to the keeper and leave it.
 use Rattle.std.proofs.Common.{◌≡◌, ◌≢◌, ℕ, zero, suc, ◌+◌, ◌<◌, ◌≤◌, ◌⊎◌, List, [], ◌∷◌, ◌++◌, length, take, Bool, true, false, Option, Some, None, refl, sym, ap, ◌∙◌, subst, inl, inr, arith, ne_eqb}
-use Rattle.std.specs.Prelude.{All, Contains, nat_lt, slice_index_or, if◌then◌else◌}
-use mathlib.Core.List.{IsPrefix}
+use Rattle.std.{specs.Prelude.{All, Contains, nat_lt, slice_index_or, if◌then◌else◌}, proofs.lemmas.Bool.ltb-true}
 use Rattle.atomic_table.specs.Table.{Me}
-use Rattle.ct_word.specs.Change.{PlainCommit}
-use Rattle.ct_word.specs.Reading.{commits_of}
-use Rattle.ct_arena.specs.Counts.{opening, IsLog, AreOfSessions, numbers_by}
-use Rattle.ct_arena.specs.declared.sharing.View.{View}
-use Rattle.ct_arena.specs.declared.tally.Tally.{Tally}
-use Rattle.ct_arena.specs.Sharing.{session_view, keeper_view, newcomer, enrolled, enrolled_by, kept, given, joined, longer, IsKept, IsMoment, IsSettled, IsLaidBy}
-use Rattle.ct_arena.specs.Own.{IsOwn}
-use Rattle.std.proofs.lemmas.Bool.{ltb-true}
-use Rattle.ct_word.specs.WellFormed.{IsWellFormed}
-use Rattle.ct_arena.proofs.Fronts.{prefix_length, prefix_whole, commits_between, numbers_between, formed_front, last_new}
+use Rattle.ct_word.{specs.Change.PlainCommit, specs.Reading.commits_of, specs.WellFormed.IsWellFormed}
+use Rattle.ct_arena.{specs.Counts.{opening, IsLog, AreOfSessions, numbers_by}, specs.declared.sharing.View.View, specs.declared.tally.Tally.Tally}
+use Rattle.ct_arena.specs.Sharing.{session_view, keeper_view, newcomer, enrolled, enrolled_by, kept, given, joined, longer, IsKept, IsMoment, IsSettled}
+use Rattle.ct_arena.{specs.Own.IsOwn, proofs.Fronts.{prefix_length, prefix_whole, commits_between, numbers_between, formed_front, last_new}, proofs.Opening.two}
 use Rattle.ct_arena.proofs.Told.{owner_guest, was_enrolled, both_fronts}
-use Rattle.ct_arena.proofs.Opening.{two}
+use mathlib.Core.List.{IsPrefix}
 
 pub enrolled_seat : (me me' : Me ℕ View) (room e : ℕ) (guest : Option Tally) (ended : List Tally) (words : List ℕ) → me ≡ (keeper_view room words e guest ended, []) → me' ≡ (enrolled me.0, []) → me' ≡ (session_view words (Some (newcomer (e + 1))), [])
 enrolled_seat me me' room e guest ended words is =
@@ -34,11 +27,6 @@ left_seat me me' room e guest ended words is =
 pub left_keeper : (me me' : Me ℕ View) (room e : ℕ) (guest : Option Tally) (ended : List Tally) (words : List ℕ) → me ≡ (keeper_view room words e guest ended, []) → me' ≡ (kept me.0, me.1) → me' ≡ (keeper_view room words e None ended, [])
 left_keeper me me' room e guest ended words is =
     let P : Me ℕ View → Type 0 = λ x. me' ≡ (kept x.0, x.1) → me' ≡ (keeper_view room words e None ended, []) in
-    subst P (sym is) (λ h. h)
-
-pub laid_keeper : (me me' : Me ℕ View) (room e : ℕ) (t : Tally) (ended : List Tally) (words : List ℕ) → me ≡ (keeper_view room words e (Some t) ended, []) → IsLaidBy me.0 me' → me' ≡ (keeper_view room words e None (ended ++ t ∷ []), [])
-laid_keeper me me' room e t ended words is =
-    let P : Me ℕ View → Type 0 = λ x. IsLaidBy x.0 me' → me' ≡ (keeper_view room words e None (ended ++ t ∷ []), []) in
     subst P (sym is) (λ h. h)
 
 -- no commit of a session that was not enrolled

@@ -1,18 +1,11 @@
 -- Fronts of a log: what they keep of it, and which word comes next.
 use Rattle.std.proofs.Common.{◌≡◌, ◌≢◌, ℕ, zero, suc, ◌<◌, ◌≤◌, List, [], ◌∷◌, ◌++◌, length, get_or, eq-eqb, true, refl, sym, ap, ◌∙◌, subst, arith, length-append, append_assoc, append-nil, true≢false}
-use Rattle.std.specs.Prelude.{IsTrue, Contains, not, ◌||◌, nat_eq, replicate, slice_index, slice_set}
-use Rattle.std.specs.List.{list_any}
-use Rattle.std.proofs.Math.Bool.{or-true}
+use Rattle.std.{specs.Prelude.{IsTrue, Contains, not, ◌||◌, nat_eq, replicate, slice_index, slice_set}, specs.List.list_any, proofs.Math.Bool.or-true}
 use Rattle.std.proofs.lemmas.List.{nil_from_length}
+use Rattle.ct_word.{specs.Reading.commits_of, specs.Word.{kind_of, kind_with, left_of, right_of}, specs.Change.PlainCommit, proofs.Prefixes.commits_prefix}
+use Rattle.ct_word.{specs.WellFormed.{IsWellFormed, each_follows, is_word_after, is_formed_as}, proofs.Packed.{true_left, true_right, true_both}}
+use Rattle.ct_arena.{specs.Counts.numbers_by, proofs.Sole.numbers_append}
 use mathlib.Core.List.{IsPrefix}
-use Rattle.ct_word.specs.Reading.{commits_of}
-use Rattle.ct_word.specs.Word.{kind_of, kind_with, left_of, right_of}
-use Rattle.ct_word.specs.WellFormed.{IsWellFormed, each_follows, is_word_after, is_formed_as}
-use Rattle.ct_word.specs.Change.{PlainCommit}
-use Rattle.ct_word.proofs.Packed.{true_left, true_right, true_both}
-use Rattle.ct_word.proofs.Prefixes.{commits_prefix}
-use Rattle.ct_arena.specs.Counts.{numbers_by}
-use Rattle.ct_arena.proofs.Sole.{numbers_append}
 
 -- the rest of a list that is no longer than its front is nothing
 no_rest : {A : Type 0} (xs ys : List A) → length (xs ++ ys) ≤ length xs → ys ≡ []

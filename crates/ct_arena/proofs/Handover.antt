@@ -1,25 +1,16 @@
 -- What the keeper's pass keeps of its fields, from call to call.
 use Rattle.std.proofs.Common.{◌≡◌, ℕ, ◌+◌, ◌<◌, ◌≤◌, ◌^◌, ◌⊎◌, Bool, true, inl, inr, List, [], ◌∷◌, ◌++◌, Option, Some, None, refl, sym, ap, ◌∙◌, subst, arith}
-use Rattle.std.specs.Prelude.{All, Result, Ok, Err, IfOk, OnOk, OnErr, IsErr}
-use Rattle.std.proofs.lemmas.List.Elements.{All-push}
-use Rattle.ct_word.specs.Change.{PlainCommit}
-use mathlib.Core.List.{IsPrefix}
-use Rattle.atomic_table.specs.Table.{Me}
-use Rattle.atomic_table.specs.Seated.{TableId}
-use Rattle.ct_word.specs.Reading.{commits_of}
-use Rattle.ct_word.proofs.Splits.{some-injective}
+use Rattle.std.{specs.Prelude.{All, Result, Ok, Err, IfOk, OnOk, OnErr, IsErr}, proofs.lemmas.List.Elements.All-push}
+use Rattle.atomic_table.{specs.Table.Me, specs.Seated.TableId}
+use Rattle.ct_word.{specs.Change.PlainCommit, specs.Reading.commits_of, proofs.Splits.some-injective}
 use Rattle.ct_chain.specs.Seen.{Chained}
-use Rattle.ct_arena.proofs.Sole.{commits_grow}
-use Rattle.ct_arena.specs.Name.{LogName}
-use Rattle.ct_arena.specs.Counts.{opening, AreOfSessions, commit_word, commit_of}
-use Rattle.ct_arena.specs.declared.sharing.View.{View}
-use Rattle.ct_arena.specs.declared.tally.Tally.{Tally}
-use Rattle.ct_arena.specs.Kept.{IsNamed, IsPass, IsKeeper, IsLent, list_of}
-use Rattle.ct_arena.specs.Sharing.{first_view, session_view, keeper_view, newcomer, enrolled, enrolled_by, kept, given, joined, longer, counts_word, IsSettled, IsLaidBy}
-use Rattle.ct_arena.specs.Own.{IsOwn, IsOutcome, with_seen, with_guest}
-use Rattle.ct_arena.proofs.Opening.{opening_log, none_of}
-use Rattle.ct_arena.proofs.Keeping.{keeper_own, keeper_after, known_stays}
-use Rattle.ct_arena.proofs.Entering.{IsEntered, enters, enrolled_seat, enrolled_keeper, left_seat, left_keeper, laid_keeper, newcomer_own, known_more}
+use Rattle.ct_arena.{proofs.Sole.{commits_grow, prefix_trans}, specs.Name.LogName, specs.Counts.{opening, AreOfSessions, commit_word, commit_of}}
+use Rattle.ct_arena.{specs.declared.sharing.View.View, specs.declared.tally.Tally.Tally, specs.Kept.{IsNamed, IsPass, IsKeeper, IsLent, list_of}}
+use Rattle.ct_arena.specs.Sharing.{first_view, session_view, keeper_view, newcomer, enrolled, enrolled_by, kept, given, joined, longer, counts_word, IsSettled}
+use Rattle.ct_arena.{specs.Own.{IsOwn, IsOutcome, with_seen, with_guest}, proofs.Opening.{opening_log, none_of}}
+use Rattle.ct_arena.proofs.Keeping.{keeper_own, keeper_seat, keeper_after, known_stays, outcome_longer, outcome_session}
+use Rattle.ct_arena.proofs.Entering.{IsEntered, enters, enrolled_seat, enrolled_keeper, left_seat, left_keeper, newcomer_own, known_more}
+use mathlib.Core.List.{IsPrefix}
 
 named_as : (log : LogName) (table table' : TableId) → IsNamed log table → table' ≡ table → IsNamed log table'
 named_as log table table' named same = record { least = named.least; most = named.most; table = same ∙ named.table }
@@ -98,20 +89,6 @@ keeper_put log table table' me me' words words' e guest t t' k there same seat o
       own = λ u is. subst (λ x. IsOwn log.cap x words' × (x.session ≤ e)) (some-injective t' u is) (own, (let s = session in omega arith));
     }
 
-pub keeper_laid : (log : LogName) (table table' : TableId) (me me' : Me ℕ View) (words : List ℕ) (e : ℕ) (t : Tally) → IsKeeper log table me words e (Some t) → table' ≡ table → IsLaidBy me.0 me' → IsKeeper log table' me' words e None × (me'.0.ended ≡ me.0.ended ++ t ∷ [])
-keeper_laid log table table' me me' words e t k same laid =
-    let seat = laid_keeper me me' log.cap e t me.0.ended words k.seat laid in (
-      record {
-        named = named_as log table table' k.named same;
-        seat = keeper_own me' log.cap e None (me.0.ended ++ t ∷ []) words seat;
-        list = k.list;
-        most = k.most;
-        known = k.known;
-        own = λ u is. absurd (cc);
-      },
-      ap (λ m. m.0.ended) seat,
-    )
-
 -- while a guest is entered, the keeper's list is the guest's
 pub keeper_with : (log : LogName) (table : TableId) (me : Me ℕ View) (own : List ℕ) (o : Option Chained) (list : Chained) (e : ℕ) (guest : Option Tally) → o ≡ Some list → IsKeeper log table me (list_of own o) e guest → IsKeeper log table me list.words e guest
 keeper_with log table me own o list e guest is k = subst (λ x. IsKeeper log table me (list_of own x) e guest) is k
@@ -124,6 +101,39 @@ lent_with cap own o list guest is l = by guest (subst (λ x. IsLent cap own gues
   by : (g : Option Tally) → IsLent cap own g (Some list) → (list.room ≡ cap) × IsPrefix own list.words
   by (Some t) l = l
   by None l = absurd l
+
+-- the keeper at work for the guest that is entered
+pub record IsAtWork (log : LogName) (table : TableId) (me : Me ℕ View) (plain words : List ℕ) (e : ℕ) (guest : Option Tally) (t : Tally) : Type 0 where
+  pub keeper : IsKeeper log table me words e guest
+  pub entered : guest ≡ Some t
+  pub keeps : me.0.keeps ≡ true
+  pub seat : me ≡ (with_seen (with_guest me.0 t) words, [])
+  pub own : IsOwn log.cap t words
+  pub enrolled : t.session ≤ e
+  pub behind : IsPrefix plain words
+
+pub at_work : (log : LogName) (table : TableId) (me : Me ℕ View) (plain : List ℕ) (o : Option Chained) (list : Chained) (e : ℕ) (guest : Option Tally) (t : Tally) → o ≡ Some list → guest ≡ Some t
+    → IsKeeper log table me (list_of plain o) e guest → IsLent log.cap plain guest o → IsAtWork log table me plain list.words e guest t
+at_work log table me plain o list e guest t is entered k lent =
+    let keeper = keeper_with log table me plain o list e guest is k in
+    let own = keeper.own t entered in
+    record {
+      keeper = keeper;
+      entered = entered;
+      keeps = ap (λ m. m.0.keeps) keeper.seat;
+      seat = keeper_seat me log.cap e t me.0.ended list.words (subst (λ g. me ≡ (keeper_view log.cap list.words e g me.0.ended, [])) entered keeper.seat);
+      own = own.0;
+      enrolled = own.1;
+      behind = (lent_with log.cap plain o list guest is lent).1;
+    }
+
+-- and once a word was put for the guest
+pub work_put : {log : LogName} {table table' : TableId} {me me' : Me ℕ View} {plain words words' : List ℕ} {e cap w : ℕ} {guest : Option Tally} {t t' : Tally} → IsAtWork log table me plain words e guest t → cap ≡ log.cap → table' ≡ table
+    → me' ≡ (with_seen (with_guest me.0 t') words', []) → IsOwn cap t' words' → IsOutcome me.0.keeps t t' words words' w → AreOfSessions e words' → IsKeeper log table' me' words' e (Some t') × IsPrefix plain words'
+work_put {log} {table} {table'} {me} {me'} {plain} {words} {words'} {e} {cap} {w} {guest} {t} {t'} work room same seat own outcome known = (
+  keeper_put log table table' me me' words words' e guest t t' work.keeper work.entered same seat (subst (λ n. IsOwn n t' words') room own) (outcome_session me.0.keeps t t' words words' w outcome) known,
+  prefix_trans plain words words' work.behind (outcome_longer me.0.keeps t t' words words' w outcome),
+)
 
 -- while none is entered, it is its own
 own_list : (cap : ℕ) (own : List ℕ) (o : Option Chained) (guest : Option Tally) → guest ≡ None → IsLent cap own guest o → list_of own o ≡ own

@@ -1,24 +1,15 @@
 -- The seats of passes and of the keeper, and what a word put for them tells.
 use Rattle.std.proofs.Common.{◌≡◌, ℕ, ◌+◌, ◌<◌, ◌≤◌, ◌^◌, ◌⊎◌, not, List, [], ◌∷◌, ◌++◌, length, Bool, true, Option, Some, refl, sym, ap, ◌∙◌, subst, inl, inr, arith, length-append}
 use Rattle.std.specs.Prelude.{IsTrue, Contains, slice_get, All, if◌then◌else◌}
-use mathlib.Core.List.{IsPrefix}
 use Rattle.atomic_table.specs.Table.{Me}
-use Rattle.ct_word.specs.Reading.{commits_of, change_list_at}
-use Rattle.ct_word.specs.WellFormed.{is_plain_word, is_commit_word, is_word_over}
-use Rattle.ct_word.proofs.Packed.{true_left, true_right, true_both}
-use Rattle.ct_word.proofs.Growth.{word_over_grows}
-use Rattle.ct_word.proofs.Commits.{commits_plain}
-use Rattle.ct_word.proofs.Prefixes.{change_list_in_prefix}
-use Rattle.ct_arena.specs.Counts.{AreOfSessions, commit_word, commit_of}
-use Rattle.ct_arena.specs.declared.sharing.View.{View}
-use Rattle.ct_arena.specs.declared.tally.Tally.{Tally}
-use Rattle.ct_arena.specs.Seen.{CountsWord, StandsLast}
-use Rattle.ct_arena.specs.Sharing.{session_view, keeper_view, counts_word}
-use Rattle.ct_arena.specs.Own.{IsOwn, with_seen, with_guest, IsOutcome}
-use Rattle.ct_arena.proofs.Putting.{plain_kind, commit_kind}
-use Rattle.ct_arena.proofs.Lookup.{contains_of_get, get_last}
-use Rattle.ct_arena.proofs.Fronts.{prefix_length}
+use Rattle.ct_word.{specs.Reading.{commits_of, change_list_at}, specs.WellFormed.{is_plain_word, is_commit_word, is_word_over}, proofs.Growth.word_over_grows}
+use Rattle.ct_word.{proofs.Packed.{true_left, true_right, true_both}, proofs.Commits.commits_plain, proofs.Prefixes.change_list_in_prefix}
+use Rattle.ct_word.proofs.Items.{contains_of_get, get_last}
+use Rattle.ct_arena.{specs.Counts.{AreOfSessions, commit_word, commit_of}, specs.declared.sharing.View.View, specs.declared.tally.Tally.Tally}
+use Rattle.ct_arena.{specs.Seen.{CountsWord, StandsLast}, specs.Sharing.{session_view, keeper_view, counts_word}, proofs.Putting.{plain_kind, commit_kind}}
+use Rattle.ct_arena.{specs.Own.{IsOwn, with_seen, with_guest, IsOutcome}, proofs.Fronts.prefix_length}
 use Rattle.ct_arena.proofs.Sole.{prefix_push, stands_last, commits_grow, fresh}
+use mathlib.Core.List.{IsPrefix}
 
 pub session_seat : (me : Me ℕ View) (t : Tally) (words : List ℕ) → me ≡ (session_view words (Some t), []) → me ≡ (with_seen (with_guest me.0 t) words, [])
 session_seat me t words e = let P : Me ℕ View → Type 0 = λ x. x ≡ (with_seen (with_guest x.0 t) words, []) in subst P (sym e) refl

@@ -1,4 +1,3 @@
-pub mod Lookup
 pub mod Sole
 pub mod Totals
 pub mod Fronts

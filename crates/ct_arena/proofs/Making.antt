@@ -1,14 +1,10 @@
 -- The table of a log as it is made.
 use Rattle.std.proofs.Common.{◌≡◌, ℕ, zero, suc, ◌+◌, ◌-◌, ◌≤◌, List, [], ◌∷◌, ◌++◌, length, refl, sym, ap, ◌∙◌, subst, arith, length-append, append-nil, append_assoc}
-use Rattle.std.specs.Prelude.{replicate}
-use Rattle.std.proofs.lemmas.List.{length-replicate, replicate-append-replicate}
+use Rattle.std.{specs.Prelude.replicate, proofs.lemmas.List.{length-replicate, replicate-append-replicate}}
+use Rattle.ct_arena.{specs.Counts.{opening, numbers_by}, specs.declared.sharing.View.View, specs.Sharing.{first_view, IsKept, IsShared}, proofs.Tied.Sees}
+use Rattle.ct_arena.proofs.Opening.{opening_formed, no_commits, two}
 use mathlib.Core.Option.{some, some-injective, some-ne-none}
 use lib.ListN.{get_elem?}
-use Rattle.ct_arena.specs.Counts.{opening, numbers_by}
-use Rattle.ct_arena.specs.declared.sharing.View.{View}
-use Rattle.ct_arena.specs.Sharing.{first_view, IsKept, IsShared}
-use Rattle.ct_arena.proofs.Opening.{opening_formed, no_commits, two}
-use Rattle.ct_arena.proofs.Tied.{Sees}
 
 pub more_zeros : (xs : List ℕ) (k n : ℕ) → n ≡ k + 1 → (xs ++ replicate k 0) ++ 0 ∷ [] ≡ xs ++ replicate n 0
 more_zeros xs k n e = append_assoc xs (replicate k 0) (0 ∷ []) ∙ ap (λ l. xs ++ l) (replicate-append-replicate k 1 0) ∙ ap (λ m. xs ++ replicate m 0) (sym e)

@@ -1,10 +1,6 @@
 -- The words that each log begins with.
-use Rattle.std.proofs.Common.{◌≡◌, ℕ, ◌≤◌, [], length, refl, sym, subst, arith}
-use Rattle.std.specs.Prelude.{All}
-use Rattle.std.proofs.lemmas.List.{append-nil}
-use Rattle.ct_word.specs.Word.{kind_with}
-use Rattle.ct_word.specs.Reading.{commits_of, meaning_of}
-use Rattle.ct_word.specs.WellFormed.{IsWellFormed, is_word_after}
+use Rattle.std.{proofs.Common.{◌≡◌, ℕ, ◌≤◌, [], length, refl, sym, subst, arith}, specs.Prelude.All, proofs.lemmas.List.append-nil}
+use Rattle.ct_word.{specs.Word.kind_with, specs.Reading.{commits_of, meaning_of}, specs.WellFormed.{IsWellFormed, is_word_after}}
 use Rattle.ct_arena.specs.Counts.{opening, IsLog, AreOfSessions}
 
 pub opening_formed : IsWellFormed opening

@@ -1,23 +1,16 @@
 -- Putting a word at the end of the log, as a seat knows it of its own list.
 use Rattle.std.proofs.Common.{◌≡◌, ◌≢◌, ℕ, ◌+◌, ◌*◌, ◌<◌, ◌^◌, ◌⊎◌, not, List, [], ◌∷◌, ◌++◌, length, Bool, refl, sym, ap, ◌∙◌, subst, inl, inr, arith, length-append}
 use Rattle.std.specs.Prelude.{IsTrue, Contains, if◌then◌else◌}
-use mathlib.Core.List.{IsPrefix}
 use Rattle.atomic_table.specs.Table.{Me}
-use Rattle.ct_word.specs.declared.kinds.Class.TheVariants as class
-use Rattle.ct_word.specs.Reading.{commits_of}
-use Rattle.ct_word.specs.WellFormed.{is_plain_word, is_commit_word, is_word_over, is_word_after}
-use Rattle.ct_word.proofs.Packed.{true_left, true_right, true_both}
-use Rattle.ct_word.proofs.Growth.{word_over_grows}
-use Rattle.ct_word.proofs.Prefixes.{place_in_prefix}
+use Rattle.ct_word.{specs.Reading.commits_of, specs.WellFormed.{is_plain_word, is_commit_word, is_word_over, is_word_after}, proofs.Growth.word_over_grows}
+use Rattle.ct_word.{proofs.Packed.{true_left, true_right, true_both}, proofs.Prefixes.place_in_prefix}
 use Rattle.ct_word.proofs.Commits.{commits_plain, plain_follows, commit_follows}
-use Rattle.ct_arena.specs.Counts.{AreNumbered, numbers_by, commit_of}
-use Rattle.ct_arena.specs.declared.sharing.View.{View}
-use Rattle.ct_arena.specs.declared.tally.Tally.{Tally}
-use Rattle.ct_arena.specs.Sharing.{counts_word, MayPut, IsNextCommit, IsPut}
-use Rattle.ct_arena.specs.Own.{IsOwn, with_seen, with_guest, IsNextWord}
-use Rattle.ct_arena.proofs.Putting.{plain_kind, commit_kind}
-use Rattle.ct_arena.proofs.Told.{IsGrown, reads_one}
+use Rattle.ct_arena.{specs.Counts.{AreNumbered, numbers_by, commit_of}, specs.declared.sharing.View.View, specs.declared.tally.Tally.Tally}
+use Rattle.ct_arena.{specs.Sharing.{counts_word, MayPut, IsNextCommit, IsPut}, specs.Own.{IsOwn, with_seen, with_guest, IsNextWord}}
+use Rattle.ct_arena.{proofs.Putting.{plain_kind, commit_kind}, proofs.Told.{IsGrown, reads_one}}
 use Rattle.ct_arena.proofs.Sole.{log_push, commits_grow, numbers_append, numbers_own, range_next}
+use mathlib.Core.List.{IsPrefix}
+use Rattle.ct_word.specs.declared.kinds.Class.TheVariants as class
 
 -- a word that may be put may be after more words
 pub next_grows : (keeps : Bool) (t : Tally) (words more : List ℕ) (w : ℕ) → IsPrefix words more → IsNextWord keeps t words w → IsNextWord keeps t more w

@@ -1,26 +1,17 @@
 -- The log and the views stay tied as a word is put at the end of the log.
 use Rattle.std.proofs.Common.{◌≡◌, ◌≢◌, ℕ, ◌+◌, ◌*◌, ◌<◌, ◌≤◌, ◌^◌, ◌⊎◌, not, List, [], ◌∷◌, ◌++◌, length, set, Bool, true, false, Some, refl, sym, ap, ◌∙◌, subst, inl, inr, arith, length-append, append-nil, true≢false, eq-eqb, ne_eqb}
-use Rattle.std.specs.Prelude.{nat_eq, if◌then◌else◌, IsTrue}
-use Rattle.std.specs.List.{range_with_len}
-use Rattle.std.proofs.lemmas.List.FromFn.{length-range_with_len}
-use mathlib.Core.Option.{some}
-use mathlib.Core.Logic.{dite}
+use Rattle.std.{specs.Prelude.{nat_eq, if◌then◌else◌, IsTrue}, specs.List.range_with_len, proofs.lemmas.List.FromFn.length-range_with_len}
+use Rattle.ct_word.{specs.Change.PlainCommit, specs.Reading.commits_of, specs.WellFormed.{is_commit_word, is_plain_word, is_word_over, has_class}}
+use Rattle.ct_word.{proofs.Packed.{true_right, kind_of_parts}, proofs.Commits.commits_plain}
+use Rattle.ct_arena.{specs.Counts.{numbers_by, AreNumbered, commit_word, commit_of}, specs.declared.sharing.View.View, specs.declared.tally.Tally.Tally}
+use Rattle.ct_arena.specs.Sharing.{total, as_list, weight, is_of, mine_of, counts_word, guest_after, put_on, IsCounted, IsTied, IsNextCommit}
+use Rattle.ct_arena.{proofs.Totals.total_set, proofs.Tied.{load_of, set_fronted}}
+use Rattle.ct_arena.proofs.Sole.{prefix_push, numbers_append, numbers_own, range_next, commits_grow}
+use mathlib.{Core.Option.some, Core.Logic.dite}
 use native.Mathlib.Decide.{ℕ_discrete}
 use lib.ListN.{get_elem?}
 use Rattle.ct_word.specs.declared.kinds.Kind.TheVariants as kind
 use Rattle.ct_word.specs.declared.kinds.Class.TheVariants as class
-use Rattle.ct_word.specs.Change.{PlainCommit}
-use Rattle.ct_word.specs.Reading.{commits_of}
-use Rattle.ct_word.specs.WellFormed.{is_commit_word, is_plain_word, is_word_over, has_class}
-use Rattle.ct_word.proofs.Packed.{true_right, kind_of_parts}
-use Rattle.ct_word.proofs.Commits.{commits_plain}
-use Rattle.ct_arena.specs.Counts.{numbers_by, AreNumbered, commit_word, commit_of}
-use Rattle.ct_arena.specs.declared.sharing.View.{View}
-use Rattle.ct_arena.specs.declared.tally.Tally.{Tally}
-use Rattle.ct_arena.specs.Sharing.{total, as_list, weight, is_of, mine_of, counts_word, guest_after, put_on, IsCounted, IsTied, IsNextCommit}
-use Rattle.ct_arena.proofs.Totals.{total_set}
-use Rattle.ct_arena.proofs.Tied.{load_of, set_fronted}
-use Rattle.ct_arena.proofs.Sole.{prefix_push, numbers_append, numbers_own, range_next, commits_grow}
 
 pub plain_kind : (ws : List ℕ) (w : ℕ) → IsTrue (is_plain_word ws w) → is_commit_word w ≡ false
 plain_kind ws w plain = none (is_commit_word w) (true_right (is_word_over ws w) (not (is_commit_word w)) plain) where

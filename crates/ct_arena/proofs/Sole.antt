@@ -1,17 +1,10 @@
 -- What is true of the words of a log stays true as words are put at their end.
 use Rattle.std.proofs.Common.{◌≡◌, ℕ, zero, suc, ◌+◌, ◌*◌, ◌/◌, ◌%◌, ◌<◌, ◌≤◌, ◌^◌, List, [], ◌∷◌, ◌++◌, length, Bool, true, false, refl, sym, ap, ◌∙◌, arith, length-append, add-zero, eq-eqb}
-use Rattle.std.specs.Prelude.{IsTrue, Contains, nat_eq, if◌then◌else◌}
-use Rattle.std.specs.List.{range_with_len}
-use Rattle.std.proofs.lemmas.List.{append_assoc}
+use Rattle.std.{specs.Prelude.{IsTrue, Contains, nat_eq, if◌then◌else◌}, specs.List.range_with_len, proofs.lemmas.List.append_assoc}
+use Rattle.ct_word.{specs.Change.PlainCommit, specs.Reading.{commits_of, change_list_at}, specs.WellFormed.is_word_after, proofs.Packed.formed_snoc}
+use Rattle.ct_word.{proofs.Commits.{commits_commit, commit_stands}, proofs.Items.get_last}
+use Rattle.ct_arena.{specs.Counts.{opening, IsLog, AreNumbered, numbers_by, commit_word, commit_of}, specs.Seen.StandsLast}
 use mathlib.Core.List.{IsPrefix}
-use Rattle.ct_word.specs.Change.{PlainCommit}
-use Rattle.ct_word.specs.Reading.{commits_of, change_list_at}
-use Rattle.ct_word.specs.WellFormed.{is_word_after}
-use Rattle.ct_word.proofs.Packed.{formed_snoc}
-use Rattle.ct_word.proofs.Commits.{commits_commit, commit_stands}
-use Rattle.ct_arena.specs.Counts.{opening, IsLog, AreNumbered, numbers_by, commit_word, commit_of}
-use Rattle.ct_arena.specs.Seen.{StandsLast}
-use Rattle.ct_arena.proofs.Lookup.{get_last}
 
 pub prefix_push : (xs ys : List ℕ) (w : ℕ) → IsPrefix xs ys → IsPrefix xs (ys ++ w ∷ [])
 prefix_push xs ys w p = (p.0 ++ w ∷ [], sym (append_assoc xs p.0 (w ∷ [])) ∙ ap (λ l. l ++ w ∷ []) p.1)

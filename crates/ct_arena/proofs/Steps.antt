@@ -1,26 +1,17 @@
 -- Each step on the table keeps the rule of the shared log.
 use Rattle.std.proofs.Common.{◌≡◌, ℕ, ◌<◌, List, [], ◌∷◌, ◌++◌, length, set, Bool, true, false, None, refl, sym, ap, ◌∙◌, subst, arith, length-append, eqb, eq-eqb, ne_eqb}
-use Rattle.std.specs.Prelude.{slice_index, slice_set, replicate, nat_lt, IsTrue, if◌then◌else◌}
-use Rattle.std.proofs.lemmas.Bool.{ltb-true}
+use Rattle.std.{specs.Prelude.{slice_index, slice_set, replicate, nat_lt, IsTrue, if◌then◌else◌}, proofs.lemmas.Bool.ltb-true}
 use Rattle.std.proofs.lemmas.List.{length-replicate}
-use mathlib.Core.Option.{some}
-use mathlib.Core.List.{IsPrefix}
-use prog.Atomic.{either}
-use lib.ListN.{get_elem?}
-use Rattle.atomic_table.specs.Table.{State, Me, keeps, Allows, Splits, Joins}
-use Rattle.atomic_table.specs.Table as table
-use Rattle.atomic_table.proofs.Lists.{set_again}
-use Rattle.ct_word.specs.Reading.{commits_of}
-use Rattle.ct_word.specs.WellFormed.{is_word_after}
-use Rattle.ct_word.proofs.Packed.{formed_snoc}
-use Rattle.ct_arena.specs.Counts.{opening}
-use Rattle.ct_arena.specs.declared.sharing.View.{View}
+use Rattle.atomic_table.{specs.Table.{State, Me, keeps, Allows, Splits, Joins}, proofs.Lists.set_again}
+use Rattle.ct_word.{specs.Reading.commits_of, specs.WellFormed.is_word_after, proofs.Packed.formed_snoc}
+use Rattle.ct_arena.{specs.Counts.opening, specs.declared.sharing.View.View, proofs.Totals.total_append, proofs.Putting.puts_word, proofs.Sole.prefix_push}
 use Rattle.ct_arena.specs.Sharing.{as_list, grown, put_on, settled, laid_by, joined, spent, kept, given, enrolled_by, enrolled, IsTied, IsShared, IsMoment, IsRead, IsPut, IsSeen, IsSettled, IsLaidBy, MayPut}
-use Rattle.ct_arena.proofs.Totals.{total_append}
 use Rattle.ct_arena.proofs.Fronts.{IsNext, Ends, Goes, next, set_same, shorter_front, commits_between}
 use Rattle.ct_arena.proofs.Tied.{Sees, changes_view, cuts_guest, cuts_new, joins_views}
-use Rattle.ct_arena.proofs.Putting.{puts_word}
-use Rattle.ct_arena.proofs.Sole.{prefix_push}
+use mathlib.{Core.Option.some, Core.List.IsPrefix}
+use prog.Atomic.{either}
+use lib.ListN.{get_elem?}
+use Rattle.atomic_table.specs.Table as table
 
 -- the rule, as a fact of a state
 abbrev pub Rule : ℕ → State ℕ View → Type 0
@@ -118,16 +109,21 @@ module _ (cap slots id : ℕ) (me : Me ℕ View) (free : me.1 ≡ []) where
           record { none = λ z. absurd (nonzero z); some = λ _. (alone (grown me.0 n), (moment cap s.words s.views id me.0 shared at, more)) },
         )
 
-  -- a load that changes nothing
-  pub looks : 0 < cap → Allows (Rule cap) slots id me 0 (λ n. n) (λ found after. IsSeen me.0 after)
-  looks lt s shared homes at bound =
+  -- a load of the first word, after which the seat has this view
+  loads : (v : View) (Q : Me ℕ View → Type 0) → 0 < cap → ((log : List ℕ) (views : List View) → IsTied cap log views → get_elem? views id ≡ some me.0 → IsTied cap log (set views id v)) → (IsMoment me.0 → Q (seat v me.1))
+      → Allows (Rule cap) slots id me 0 (λ n. n) (λ found after. Q after)
+  loads v Q lt tied after s shared homes at bound =
       let same : slice_set s.words 0 (slice_index s.words 0) ≡ s.words = set_same s.words 0 (omega (arith, lt, shared.size)) in (
-        me.0,
+        v,
         keeps,
         tt,
-        again cap s.words _ s.views _ shared same (subst (λ vs. IsTied cap shared.log vs) (sym (set_again s.views id me.0 at)) shared.tied),
-        (alone me.0, moment cap s.words s.views id me.0 shared at),
+        again cap s.words _ s.views _ shared same (tied shared.log s.views shared.tied at),
+        after (moment cap s.words s.views id me.0 shared at),
       )
+
+  -- a load that changes nothing
+  pub looks : 0 < cap → Allows (Rule cap) slots id me 0 (λ n. n) (λ found after. IsSeen me.0 after)
+  looks lt = loads me.0 (IsSeen me.0) lt (λ log views tied at. subst (λ vs. IsTied cap log vs) (sym (set_again views id me.0 at)) tied) (λ m. (alone me.0, m))
 
   longer_tied : (log : List ℕ) (views : List View) → IsTied cap log views → get_elem? views id ≡ some me.0 → IsTied cap log (set views id (settled me.0))
   longer_tied log views tied at =
@@ -149,28 +145,17 @@ module _ (cap slots id : ℕ) (me : Me ℕ View) (free : me.1 ≡ []) where
 
   -- the keeper takes the longer of its lists
   pub settles : 0 < cap → Allows (Rule cap) slots id me 0 (λ n. n) (λ found after. IsSettled me.0 after)
-  settles lt s shared homes at bound =
-      let same : slice_set s.words 0 (slice_index s.words 0) ≡ s.words = set_same s.words 0 (omega (arith, lt, shared.size)) in (
-        settled me.0,
-        keeps,
-        tt,
-        again cap s.words _ s.views (set s.views id (settled me.0)) shared same (longer_tied shared.log s.views shared.tied at),
-        record { is = alone (settled me.0); moment = moment cap s.words s.views id me.0 shared at },
-      )
+  settles lt = loads (settled me.0) (IsSettled me.0) lt longer_tied (λ m. record { is = alone (settled me.0); moment = m })
 
   -- the guest is ended
   pub lays_by : 0 < cap → Allows (Rule cap) slots id me 0 (λ n. n) (λ found after. IsLaidBy me.0 after)
-  lays_by lt s shared homes at bound =
-      let same : slice_set s.words 0 (slice_index s.words 0) ≡ s.words = set_same s.words 0 (omega (arith, lt, shared.size)) in (
-        laid_by me.0,
-        keeps,
-        tt,
-        again cap s.words _ s.views (set s.views id (laid_by me.0)) shared same
-            (changes_view cap shared.log s.views id me.0 (laid_by me.0) shared.tied at (shared.tied.fronted.fronts id me.0 at)
-            (λ g. omega (arith, total_append g me.0.ended (as_list me.0.guest), total_append g (as_list me.0.guest) me.0.ended))
-            (λ e own k. let was = own k in (was.0, record { commits = was.1.commits; many = was.1.many; room = was.1.room }))),
-        alone (laid_by me.0),
-      )
+  lays_by lt =
+      loads (laid_by me.0) (IsLaidBy me.0) lt
+      (λ log views tied at.
+      changes_view cap log views id me.0 (laid_by me.0) tied at (tied.fronted.fronts id me.0 at)
+      (λ g. omega (arith, total_append g me.0.ended (as_list me.0.guest), total_append g (as_list me.0.guest) me.0.ended))
+      (λ e own k. let was = own k in (was.0, record { commits = was.1.commits; many = was.1.many; room = was.1.room })))
+      (λ m. alone (laid_by me.0))
 
 -- the guest leaves
 pub leaves : (cap id : ℕ) (v : View) → Splits (Rule cap) id v (kept v) (given v)

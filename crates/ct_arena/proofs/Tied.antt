@@ -1,17 +1,12 @@
 -- The log and the views stay tied as one view changes, is cut in two or takes in another, and as a word is put.
 use Rattle.std.proofs.Common.{◌≡◌, ◌≢◌, ℕ, ◌+◌, List, [], ◌∷◌, ◌++◌, set, Bool, true, false, None, refl, sym, ap, ◌∙◌, subst, ⊎_elim, arith, eq-eqb, ne_eqb, true≢false}
 use Rattle.std.specs.Prelude.{nat_eq, if◌then◌else◌}
-use mathlib.Core.Option.{some}
-use mathlib.Core.List.{IsPrefix}
-use mathlib.Core.Logic.{dite}
+use Rattle.atomic_table.proofs.Lists.{at_set, at_snoc}
+use Rattle.ct_arena.{specs.Counts.AreNumbered, specs.declared.sharing.View.View, specs.declared.tally.Tally.Tally, proofs.Totals.{total_append, total_set}}
+use Rattle.ct_arena.specs.Sharing.{total, held, as_list, weight, is_of, mine_of, IsCounted, IsKept, IsFronted, IsTied, spent, newcomer, joined, kept, given, enrolled_by, enrolled}
+use mathlib.{Core.Option.some, Core.List.IsPrefix, Core.Logic.dite}
 use native.Mathlib.Decide.{ℕ_discrete}
 use lib.ListN.{get_elem?}
-use Rattle.atomic_table.proofs.Lists.{at_set, at_snoc}
-use Rattle.ct_arena.specs.Counts.{AreNumbered}
-use Rattle.ct_arena.specs.declared.sharing.View.{View}
-use Rattle.ct_arena.specs.declared.tally.Tally.{Tally}
-use Rattle.ct_arena.specs.Sharing.{total, held, as_list, weight, is_of, mine_of, IsCounted, IsKept, IsFronted, IsTied, spent, newcomer, joined, kept, given, enrolled_by, enrolled}
-use Rattle.ct_arena.proofs.Totals.{total_append, total_set}
 
 -- what a view weighs
 abbrev pub load_of : (Tally → ℕ) → View → ℕ

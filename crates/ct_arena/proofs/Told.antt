@@ -1,24 +1,15 @@
 -- What a moment of the shared log tells a seat of its own list.
 use Rattle.std.proofs.Common.{◌≡◌, ◌≢◌, ℕ, zero, suc, ◌<◌, ◌≤◌, List, [], ◌∷◌, ◌++◌, length, get_or, Bool, true, false, Some, refl, sym, ap, ◌∙◌, subst, arith, length-append, eq-eqb, lt_of_not-le}
-use Rattle.std.specs.Prelude.{nat_eq, nat_lt, if◌then◌else◌, Contains, sum_by}
-use mathlib.Core.Option.{some}
-use mathlib.Core.List.{IsPrefix}
-use mathlib.Core.Logic.{dite}
+use Rattle.std.{specs.Prelude.{nat_eq, nat_lt, if◌then◌else◌, Contains, sum_by}, proofs.lemmas.Bool.{ltb-true, ltb-false}}
+use Rattle.atomic_table.specs.Table.{Me}
+use Rattle.ct_word.{specs.Reading.commits_of, proofs.Prefixes.prefix_same}
+use Rattle.ct_arena.{specs.Counts.{opening, IsLog, AreNumbered}, specs.declared.sharing.View.View, specs.declared.tally.Tally.Tally, proofs.Tied.load_of}
+use Rattle.ct_arena.{specs.Sharing.{total, held, as_list, weight, is_of, mine_of, longer, IsMoment, IsRead, IsSeen}, specs.Own.{IsOwn, IsWhole, with_seen}}
+use Rattle.ct_arena.{proofs.Totals.{total_one, total_by, term_le, nothing, whole_weight}, proofs.Sole.prefix_trans}
+use Rattle.ct_arena.proofs.Fronts.{prefix_length, prefix_whole, shorter_front, commits_between, numbers_between, formed_front, last_new}
+use mathlib.{Core.Option.some, Core.List.IsPrefix, Core.Logic.dite}
 use native.Mathlib.Decide.{dec_le}
 use lib.ListN.{get_elem?}
-use Rattle.atomic_table.specs.Table.{Me}
-use Rattle.ct_word.specs.Reading.{commits_of}
-use Rattle.ct_arena.specs.Counts.{opening, IsLog, AreNumbered}
-use Rattle.ct_arena.specs.declared.sharing.View.{View}
-use Rattle.ct_arena.specs.declared.tally.Tally.{Tally}
-use Rattle.ct_arena.specs.Sharing.{total, held, as_list, weight, is_of, mine_of, longer, IsMoment, IsRead, IsSeen}
-use Rattle.ct_arena.specs.Own.{IsOwn, IsWhole, with_seen}
-use Rattle.ct_arena.proofs.Totals.{total_one, total_by, term_le, nothing, whole_weight}
-use Rattle.ct_arena.proofs.Fronts.{prefix_length, prefix_whole, shorter_front, commits_between, numbers_between, formed_front, last_new}
-use Rattle.ct_arena.proofs.Tied.{load_of}
-use Rattle.ct_arena.proofs.Sole.{prefix_trans}
-use Rattle.std.proofs.lemmas.Bool.{ltb-true, ltb-false}
-use Rattle.ct_word.proofs.Prefixes.{prefix_same}
 
 none_mine : (s : ℕ) (t : Tally) → is_of s t ≡ 0 → mine_of s t ≡ 0
 none_mine s t e = by (nat_eq t.session s) t.mine e where

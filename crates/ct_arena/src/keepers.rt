@@ -14,7 +14,7 @@ ghost use Rattle.std.specs.List.{range_with_len};
 use crate::arenas::Arena;
 use crate::following::{put, read_rest};
 use crate::full::Full;
-use crate::interning::{follow, note, take_longer};
+use crate::lists::{follow, note, take_longer};
 use crate::logs::Log;
 use crate::passes::Pass;
 use crate::sharing::{Token, enrol_seat, lay_by, leave_seat, take_in};
@@ -36,7 +36,7 @@ pub struct Ended {
     pub commits: u32,
 }
 
-/// A session's pass while it is entered at the keeper. Its words are the keeper's list.
+/// A session's pass while it is entered at the keeper, without its list, which the keeper has then.
 #[derive(Drop)]
 pub struct Guest<N: Site> {
     tally: Tally,

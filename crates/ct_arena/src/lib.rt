@@ -8,8 +8,8 @@
 mod arenas;
 mod following;
 mod full;
-mod interning;
 mod keepers;
+mod lists;
 mod logs;
 mod passes;
 mod sharing;

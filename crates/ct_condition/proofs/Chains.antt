@@ -1,27 +1,14 @@
 -- The words of a text that stands already, from its end word on.
-use Rattle.std.proofs.Common.{◌≡◌, ℕ, zero, suc, ◌<◌, ◌^◌, true, List, [], ◌∷◌, ◌++◌, length, get_or, Option, Some, None, refl, ap, ◌∙◌, sym, subst, arith, inl, inr, ◌⊎◌}
-use Rattle.std.specs.Prelude.{slice_get, encode_utf8, Contains}
-use Rattle.std.proofs.Math.Utf8.{encode, encodes}
-use Rattle.std.proofs.lemmas.Str.{encodes-append, encodes_same, cons_from_encodes}
-use Rattle.std.proofs.lemmas.List.{append-nil, append_assoc}
-use Rattle.std.proofs.lemmas.List.Elements.{Contains-get_or}
-use Rattle.std.proofs.lemmas.Option.{slice_get_within, get_or_from_slice_get, slice_get-get_or, same_Some}
+use Rattle.std.proofs.Common.{◌≡◌, ℕ, zero, suc, ◌<◌, ◌^◌, true, List, [], ◌∷◌, ◌++◌, length, get_or, Option, Some, None, refl, ap, ◌∙◌, sym, subst, arith, inl, inr}
+use Rattle.std.{specs.Prelude.{slice_get, encode_utf8, Contains}, proofs.Math.Utf8.{encode, encodes}, proofs.lemmas.List.{append-nil, append_assoc}}
+use Rattle.std.{proofs.lemmas.Str.{encodes-append, encodes_same, cons_from_encodes}, proofs.lemmas.Option.{slice_get_within, slice_get-get_or, same_Some}}
 use Rattle.std.proofs.lemmas.Bool.{eqb-true, false≢true}
-use Rattle.ct_word.specs.declared.kinds.Kind.{Kind}
+use Rattle.ct_word.{specs.declared.kinds.Kind.Kind, specs.Word.{word_of, kind_of, left_of, right_of}, specs.Stands.StandsAt, proofs.Codes.code_by}
+use Rattle.ct_word.{specs.Reading.{Meaning, IsText, as_text, by_kind, meanings}, proofs.Growth.length-read, proofs.Stands.stands_for_packed}
+use Rattle.ct_word.{specs.WellFormed.{has_class, is_word_of, is_place_of, fields_of, fits, is_formed_as, IsWellFormed}, proofs.Constants.text_kinds}
+use Rattle.ct_word.{proofs.Splits.{split_at, formed_at, formed_fields, meaning_at, one_place, get_front, place_within}, proofs.Items.contains_of_get}
 use Rattle.ct_word.specs.declared.kinds.Kind.TheVariants as kind
 use Rattle.ct_word.specs.declared.kinds.Class.TheVariants as class
-use Rattle.ct_word.specs.Word.{word_of, kind_of, left_of, right_of}
-use Rattle.ct_word.specs.Reading.{Meaning, IsText, as_text, by_kind, meanings}
-use Rattle.ct_word.specs.Stands.{StandsAt}
-use Rattle.ct_word.specs.WellFormed.{has_class, is_word_of, is_place_of, fields_of, fits, is_formed_as, IsWellFormed}
-use Rattle.ct_word.proofs.Codes.{code_by}
-use Rattle.ct_word.proofs.Splits.{split_at, formed_at, formed_fields, meaning_at, one_place, get_front, place_within}
-use Rattle.ct_word.proofs.Growth.{length-read}
-use Rattle.ct_word.proofs.Stands.{stands_for_packed}
-
--- what stands at a place of a list is in it
-pub there : (ws : List ℕ) (p w : ℕ) → slice_get ws p ≡ Some w → Contains ws w
-there ws p w e = subst (λ x. Contains ws x) (get_or_from_slice_get ws p w w e) (Contains-get_or ws p w (slice_get_within ws p w e))
 
 -- a word is its kind's code and its fields
 pub packed : (w : ℕ) (k : Kind) → kind_of w ≡ Some k → w ≡ word_of k (left_of w) (right_of w)
@@ -40,11 +27,6 @@ begin_with (d ∷ ds) cs rest e =
     let first = cons_from_encodes cs (encodes ds ++ rest) d (e ∙ append_assoc (encode d) (encodes ds) rest) in
     let others = begin_with ds first.0 rest first.2 in
     (others.0, first.1 ∙ ap (λ l. d ∷ l) others.1, others.2)
-
-text_kinds : (o : Option Kind) → has_class o class.Text ≡ true → (o ≡ Some kind.TextEnd) ⊎ (o ≡ Some kind.TextCharacter)
-text_kinds (Some kind.TextEnd) e = inl refl
-text_kinds (Some kind.TextCharacter) e = inr refl
-text_kinds _ e = absurd (false≢true e)
 
 module _ (ws : List ℕ) (wf : IsWellFormed ws) where
   -- the fields of a word fit the words before it
@@ -170,7 +152,7 @@ module _ (ws : List ℕ) (wf : IsWellFormed ws) where
 
   -- the end word stands
   pub ends_there : (p : ℕ) (t : List ℕ) → StandsAt ws p (IsText t) → Contains ws (word_of kind.TextEnd 0 0)
-  ends_there p t e = let s = spell p (text_class p t e) in there ws s.start (word_of kind.TextEnd 0 0) s.ends
+  ends_there p t e = let s = spell p (text_class p t e) in contains_of_get ws s.start (word_of kind.TextEnd 0 0) s.ends
 
   -- two places that stand for these characters are one
   one_spelled : (p q : ℕ) (s : Spelled p) (t : Spelled q) → encodes s.chars ≡ encodes t.chars → p ≡ q
@@ -201,4 +183,4 @@ module _ (ws : List ℕ) (wf : IsWellFormed ws) where
       let chars : u.chars ≡ ds = encodes_same u.chars ds (text_of q (encodes ds) u sq) in
       let here : split.0 ≡ q =
       chain_same ds s.start split.0 q split.1 (subst (λ b. Chain ds b q) start (subst (λ cs. Chain cs u.start q) chars u.chain)) in
-      there ws split.2.0 (word_of kind.TextCharacter q c) (split.2.1 ∙ ap (λ x. Some (word_of kind.TextCharacter x c)) here)
+      contains_of_get ws split.2.0 (word_of kind.TextCharacter q c) (split.2.1 ∙ ap (λ x. Some (word_of kind.TextCharacter x c)) here)

@@ -1,11 +1,9 @@
 -- How many characters a text has.
 use Rattle.std.proofs.Common.{◌≡◌, ℕ, ◌+◌, ◌≤◌, ◌<◌, ◌/◌, ◌%◌, Bool, true, false, not, ◌&&◌, List, [], ◌∷◌, ◌++◌, cond, length, refl, ap, sym, ◌∙◌, arith, nat_lt, append_assoc, length-append}
-use Rattle.std.specs.Prelude.{nat_le}
-use Rattle.std.proofs.lemmas.Bool.{cond_both, le-leb, lt-ltb, le-ltb, leb-true, ltb-true}
+use Rattle.std.{specs.Prelude.nat_le, proofs.lemmas.Bool.{cond_both, le-leb, lt-ltb, le-ltb, leb-true, ltb-true}, proofs.lemmas.Str.encodes-append}
 use Rattle.std.proofs.lemmas.List.Sums.{sum_by-cons, sum_by-append}
-use Rattle.std.proofs.lemmas.Str.{encodes-append}
-use lib.Utf8.{encode, encodes}
 use Rattle.ct_query.specs.Bounds.{characters}
+use lib.Utf8.{encode, encodes}
 
 abbrev one_if : Bool → ℕ
 one_if b = cond b 1 0

@@ -1,17 +1,12 @@
 -- Interning adds no commit word.
 use Rattle.std.proofs.Common.{◌≡◌, ℕ, ◌+◌, List, [], ◌∷◌, ◌++◌, length, append-nil, length-append, refl, ap, sym, ◌∙◌, Option, Some, None, arith}
-use Rattle.std.specs.Prelude.{if◌then◌else◌, filter_map}
-use Rattle.std.proofs.lemmas.List.{nil_from_length}
-use Rattle.std.proofs.lemmas.List.Elements.{filter-append, filter_map-append}
+use Rattle.std.{specs.Prelude.{if◌then◌else◌, filter_map}, proofs.lemmas.List.nil_from_length, proofs.lemmas.List.Elements.{filter-append, filter_map-append}}
+use Rattle.ct_word.{specs.declared.kinds.Kind.Kind, specs.Word.{kind_of, left_of, right_of}, specs.WellFormed.{has_class, is_commit_word}}
+use Rattle.ct_word.{specs.Reading.{Meaning, as_commit, by_kind, meaning_of, read, commits_of}, proofs.Prefixes.commits_prefix}
+use Rattle.ct_condition.specs.CommitWords.{commit_words}
 use mathlib.Core.List.{IsPrefix}
-use Rattle.ct_word.specs.declared.kinds.Kind.{Kind}
 use Rattle.ct_word.specs.declared.kinds.Kind.TheVariants as kind
 use Rattle.ct_word.specs.declared.kinds.Class.TheVariants as class
-use Rattle.ct_word.specs.Word.{kind_of, left_of, right_of}
-use Rattle.ct_word.specs.Reading.{Meaning, as_commit, by_kind, meaning_of, read, commits_of}
-use Rattle.ct_word.specs.WellFormed.{has_class, is_commit_word}
-use Rattle.ct_word.proofs.Prefixes.{commits_prefix}
-use Rattle.ct_condition.specs.CommitWords.{commit_words}
 
 -- a word stands for a commit where its kind is a commit's
 by_kinds : (k : Option Kind) (ms : List Meaning) (a b w : ℕ) → length (filter_map as_commit (by_kind k ms a b ∷ [])) ≡ length (if has_class k class.Commit then w ∷ [] else [])

@@ -1,20 +1,14 @@
 -- How many words a predicate is put by.
 use Rattle.std.proofs.Common.{◌≡◌, ℕ, ◌+◌, ◌-◌, ◌≤◌, ◌<◌, Bool, true, false, List, [], ◌∷◌, Option, Some, None, Result, Ok, Err, length, take, get_or, nat_eq, inl, inr, refl, ap, sym, ◌∙◌, arith}
-use Rattle.std.specs.Prelude.{is_some, sum_by}
-use Rattle.std.proofs.lemmas.Bool.{cases_eq}
-use Rattle.std.proofs.lemmas.List.{length-take-le}
+use Rattle.std.{specs.Prelude.{is_some, sum_by}, proofs.lemmas.Bool.{cases_eq, eqb-true}, proofs.lemmas.List.length-take-le}
 use Rattle.std.proofs.lemmas.List.Sums.{sum_by-cons, sum_by_more, sum_by-take-le}
-use Rattle.ct_word.specs.declared.values.Term.{Term}
-use Rattle.ct_query.specs.declared.query.Pred.{Pred, And, Or, Row_of-Pred, end_of-Pred, more_of-Pred, items-the_row-Pred, items_hidden-the_row-Pred-0}
-use Rattle.ct_query.specs.Pred.{condition_of, conditions_of}
-use Rattle.ct_query.specs.Bounds.{connectives, over_all_equalities, all_ops}
-use Rattle.ct_condition.specs.Folding.{FoldsTo, folded_and, folded_or}
-use Rattle.ct_condition.specs.Rows.{term_words, new_words, words_on}
-use Rattle.ct_condition.specs.Runs.{run_words, run_new_words}
+use Rattle.ct_word.{specs.declared.values.Term.Term, proofs.Prefixes.prefix_of_prefix, specs.declared.connectives.Connective.Connective}
+use Rattle.ct_query.specs.declared.query.Pred.{Pred, And, Row_of-Pred, end_of-Pred, more_of-Pred, items-the_row-Pred, items_hidden-the_row-Pred-0}
+use Rattle.ct_query.{specs.Pred.{condition_of, conditions_of}, specs.Bounds.{connectives, over_all_equalities, all_ops}, proofs.Trees.row_of}
+use Rattle.ct_condition.{specs.Folding.{FoldsTo, folded_join, unit_place, settling_place}, specs.Rows.{term_words, new_words, words_on}}
+use Rattle.ct_condition.{specs.Runs.{run_words, run_new_words, under}, proofs.Placed.{new_fewer, words_fewer}}
 use mathlib.Core.List.{IsPrefix}
-use Rattle.ct_word.proofs.Prefixes.{prefix_of_prefix}
-use Rattle.ct_condition.proofs.Placed.{new_fewer, words_fewer}
-use Rattle.ct_query.proofs.Trees.{row_of}
+use Rattle.ct_word.specs.declared.connectives.Connective.TheVariants as connective
 
 module _ (words cells : List ℕ) where
   abbrev of_terms : Term → Term → ℕ
@@ -49,19 +43,14 @@ module _ (words cells : List ℕ) where
   new_list : (cs : List Pred) → new_words words cells (condition_of (And cs)) ≡ run_new_words words cells cs
   new_list cs = let row = row_of (And cs) in new_row row.0 row.1 ∙ ap (run_new_words words cells) (items_hidden-the_row-Pred-0 cs)
 
-  -- an And is put by the words of its run, and so is an Or
-  pub words_and : (p : Pred) (cs : List Pred) → p ≡ And cs → words_on words cells (condition_of p) ≡ run_words words cells cs
-  words_and p cs e = ap of_one e ∙ of_list cs
+  -- a list under a connective is put by the words of its run, and its terms by those of the run's
+  pub words_under : (j : Connective) (cs : List Pred) → words_on words cells (condition_of (under j cs)) ≡ run_words words cells cs
+  words_under connective.And cs = of_list cs
+  words_under connective.Or cs = of_list cs
 
-  pub words_or : (p : Pred) (cs : List Pred) → p ≡ Or cs → words_on words cells (condition_of p) ≡ run_words words cells cs
-  words_or p cs e = ap of_one e ∙ of_list cs
-
-  -- its terms by those of the run's
-  pub new_and : (p : Pred) (cs : List Pred) → p ≡ And cs → new_words words cells (condition_of p) ≡ run_new_words words cells cs
-  new_and p cs e = ap new_of_one e ∙ new_list cs
-
-  pub new_or : (p : Pred) (cs : List Pred) → p ≡ Or cs → new_words words cells (condition_of p) ≡ run_new_words words cells cs
-  new_or p cs e = ap new_of_one e ∙ new_list cs
+  pub new_under : (j : Connective) (cs : List Pred) → new_words words cells (condition_of (under j cs)) ≡ run_new_words words cells cs
+  new_under connective.And cs = new_list cs
+  new_under connective.Or cs = new_list cs
 
 -- the terms of a run are put by no more words where words were added before
 run_fewer : (old new cells : List ℕ) → IsPrefix old new → (ps : List Pred) → run_new_words new cells ps ≤ run_new_words old cells ps
@@ -110,20 +99,15 @@ module _ (words now cells : List ℕ) (longer : IsPrefix words now) (ps : List P
   pub run_ends : (i ≡ 0 → ⊥) → m2 ≤ m1 + of_one now cells p → m3 ≡ m2 → m3 < m + run_words words cells ps
   run_ends ne item same = omega (arith, more, all, fewer, length-take-le i ps (omega arith))
 
--- an And with true folds, and an Or with false
-true_first : (words : List ℕ) (d : ℕ) (b : Bool) → nat_eq d 1 ≡ b → is_some (folded_and words 0 d) ≡ true
-true_first words d true e = rw e refl
-true_first words d false e = rw e refl
+-- what is put with the unit of a connective folds to the other condition
+unit_first : (j : Connective) (words : List ℕ) (d : ℕ) (b : Bool) → nat_eq d (settling_place j) ≡ b → folded_join j words (unit_place j) d ≡ Some d
+unit_first connective.And words d true e = rw e (ap (λ x. Some x) (sym (eqb-true d 1 e)))
+unit_first connective.And words d false e = rw e refl
+unit_first connective.Or words d true e = rw e (ap (λ x. Some x) (sym (eqb-true d 0 e)))
+unit_first connective.Or words d false e = rw e refl
 
-pub and_folds : (words : List ℕ) (c d : ℕ) → c ≡ 0 → is_some (folded_and words c d) ≡ true
-and_folds words c d e = ap (λ p. is_some (folded_and words p d)) e ∙ true_first words d (nat_eq d 1) refl
-
-false_first : (words : List ℕ) (d : ℕ) (b : Bool) → nat_eq d 0 ≡ b → is_some (folded_or words 1 d) ≡ true
-false_first words d true e = rw e refl
-false_first words d false e = rw e refl
-
-pub or_folds : (words : List ℕ) (c d : ℕ) → c ≡ 1 → is_some (folded_or words c d) ≡ true
-or_folds words c d e = ap (λ p. is_some (folded_or words p d)) e ∙ false_first words d (nat_eq d 0) refl
+pub unit_folds : (j : Connective) (words : List ℕ) (c d : ℕ) → c ≡ unit_place j → folded_join j words c d ≡ Some d
+unit_folds j words c d e = ap (λ p. folded_join j words p d) e ∙ unit_first j words d (nat_eq d (settling_place j)) refl
 
 -- what folds is no error
 pub folds_ok : {E : Type 0} (fold : Option ℕ) (w : ℕ) (old new : List ℕ) (r : Result ℕ E) (e : E) → is_some fold ≡ true → FoldsTo fold w old new r → r ≡ Err e → ⊥

@@ -1,22 +1,16 @@
 -- Which terms stand below the place that a condition folds to.
-use Rattle.std.proofs.Common.{◌≡◌, ℕ, Bool, true, false, ◌||◌, List, [], ◌∷◌, Option, Some, None, nat_eq, refl, sym, subst, arith, inl, inr}
-use Rattle.std.specs.Prelude.{◌⊎◌, Contains, slice_get, if◌then◌else◌}
-use Rattle.std.proofs.lemmas.Option.{none-some}
+use Rattle.std.proofs.Common.{◌≡◌, ℕ, Bool, true, false, not, ◌||◌, List, [], ◌∷◌, Option, Some, None, nat_eq, refl, sym, subst, arith, inl, inr}
+use Rattle.std.{specs.Prelude.{◌⊎◌, Contains, slice_get, if◌then◌else◌}, proofs.lemmas.Option.none-some}
+use Rattle.ct_word.{specs.declared.kinds.Kind.Kind, specs.declared.values.Term.Term, specs.Word.{kind_of, left_of, right_of}, specs.WellFormed.IsWellFormed}
+use Rattle.ct_word.{specs.Stands.{TermBelow, through, places_in, places_of}, proofs.Prefixes.get_in_prefix, proofs.Splits.some-injective, specs.Connective.unit}
+use Rattle.ct_word.specs.declared.connectives.Connective.{Connective}
+use Rattle.ct_arena.specs.Counts.{opening}
+use Rattle.ct_condition.specs.Folding.{denied_by, denied_in, denied, are_constants, are_opposite, folded_eq, folded_not, folded_join, literal_place, unit_place, settling_place}
+use Rattle.ct_condition.{specs.Terms.{TermsFrom, BelowEither}, proofs.Reached.{first_item, no_term_at, under_word, under_none}}
+use Rattle.ct_condition.proofs.Truths.{true_at, false_at}
 use mathlib.Core.List.{IsPrefix}
-use Rattle.ct_word.specs.declared.kinds.Kind.{Kind}
 use Rattle.ct_word.specs.declared.kinds.Kind.TheVariants as kind
 use Rattle.ct_word.specs.declared.kinds.Class.TheVariants as class
-use Rattle.ct_word.specs.declared.values.Term.{Term}
-use Rattle.ct_word.specs.Word.{kind_of, left_of, right_of}
-use Rattle.ct_word.specs.Stands.{TermBelow, through, places_in, places_of}
-use Rattle.ct_word.specs.WellFormed.{IsWellFormed}
-use Rattle.ct_word.proofs.Prefixes.{get_in_prefix}
-use Rattle.ct_word.proofs.Splits.{some-injective}
-use Rattle.ct_arena.specs.Counts.{opening}
-use Rattle.ct_condition.specs.Folding.{denied_by, denied_in, denied, are_constants, are_opposite, folded_eq, folded_not, folded_and, folded_or}
-use Rattle.ct_condition.specs.Terms.{TermsFrom, BelowEither}
-use Rattle.ct_condition.proofs.Reached.{first_item, no_term_at, under_word, under_none}
-use Rattle.ct_condition.proofs.Truths.{true_at, false_at}
 
 -- the place that a Not denies is one of its fields
 field_denied : (o : Option Kind) (a b d : ℕ) → denied_by o a ≡ Some d → Contains (places_in o a b) d
@@ -44,12 +38,20 @@ not_tests true c o p e = inl (inr (sym (some-injective 1 p e)))
 not_tests false true o p e = inl (inl (sym (some-injective 0 p e)))
 not_tests false false o p e = inr e
 
-pub pair_tests : (b1 b2 b3 b4 : Bool) (q c d p : ℕ) → (if b1 then Some q else if b2 then Some d else if b3 then Some c else if b4 then Some q else None) ≡ Some p → (p ≡ q) ⊎ ((p ≡ c) ⊎ (p ≡ d))
+pair_tests : (b1 b2 b3 b4 : Bool) (q c d p : ℕ) → (if b1 then Some q else if b2 then Some d else if b3 then Some c else if b4 then Some q else None) ≡ Some p → (p ≡ q) ⊎ ((p ≡ c) ⊎ (p ≡ d))
 pair_tests true b2 b3 b4 q c d p e = inl (sym (some-injective q p e))
 pair_tests false true b3 b4 q c d p e = inr (inr (sym (some-injective d p e)))
 pair_tests false false true b4 q c d p e = inr (inl (sym (some-injective c p e)))
 pair_tests false false false true q c d p e = inl (sym (some-injective q p e))
 pair_tests false false false false q c d p e = absurd (none-some p e)
+
+pub is_literal : (b : Bool) → (literal_place b ≡ 0) ⊎ (literal_place b ≡ 1)
+is_literal true = inl refl
+is_literal false = inr refl
+
+pub join_tests : (j : Connective) (ws : List ℕ) (c d p : ℕ) → folded_join j ws c d ≡ Some p → (p ≡ settling_place j) ⊎ ((p ≡ c) ⊎ (p ≡ d))
+join_tests j ws c d p e =
+    pair_tests (nat_eq c (settling_place j) || nat_eq d (settling_place j)) (nat_eq c (unit_place j)) (nat_eq d (unit_place j) || nat_eq c d) (are_opposite ws c d) (settling_place j) c d p e
 
 module _ (ws : List ℕ) (formed : IsWellFormed ws) (begins : IsPrefix opening ws) where
   below_true : (t : Term) → TermBelow ws 0 t → ⊥
@@ -86,10 +88,5 @@ module _ (ws : List ℕ) (formed : IsWellFormed ws) (begins : IsPrefix opening w
     | inr d ↦ below_denied ws c p d t h
   ]
 
-  pub below_folded_and : (c d p : ℕ) → folded_and ws c d ≡ Some p → TermsFrom ws p (BelowEither ws c d)
-  below_folded_and c d p e =
-      below_pair 1 c d p (inr refl) (pair_tests (nat_eq c 1 || nat_eq d 1) (nat_eq c 0) (nat_eq d 0 || nat_eq c d) (are_opposite ws c d) 1 c d p e)
-
-  pub below_folded_or : (c d p : ℕ) → folded_or ws c d ≡ Some p → TermsFrom ws p (BelowEither ws c d)
-  below_folded_or c d p e =
-      below_pair 0 c d p (inl refl) (pair_tests (nat_eq c 0 || nat_eq d 0) (nat_eq c 1) (nat_eq d 1 || nat_eq c d) (are_opposite ws c d) 0 c d p e)
+  pub below_folded_join : (j : Connective) (c d p : ℕ) → folded_join j ws c d ≡ Some p → TermsFrom ws p (BelowEither ws c d)
+  below_folded_join j c d p e = below_pair (settling_place j) c d p (is_literal (not (unit j))) (join_tests j ws c d p e)

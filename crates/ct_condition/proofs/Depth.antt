@@ -1,12 +1,11 @@
 -- How many parts a predicate has, which a recursion over it goes down.
-use Rattle.std.proofs.Common.{◌≡◌, ℕ, ◌+◌, List, refl, ap, sym, ◌∙◌}
-use Rattle.std.specs.Prelude.{sum_by}
-use Rattle.std.proofs.lemmas.List.Sums.{sum_by-cons}
-use Rattle.ct_word.specs.Condition.{Condition, Conditions, True, False, Same, Not, And, Or, none, also}
-use Rattle.ct_query.specs.declared.query.Pred as pred
+use Rattle.std.{proofs.Common.{◌≡◌, ℕ, ◌+◌, List, refl, ap, sym, ◌∙◌}, specs.Prelude.sum_by, proofs.lemmas.List.Sums.sum_by-cons}
+use Rattle.ct_word.{specs.Condition.{Condition, Conditions, True, False, Same, Not, And, Or, none, also}, specs.declared.connectives.Connective.Connective}
 use Rattle.ct_query.specs.declared.query.Pred.{Pred, Row_of-Pred, end_of-Pred, more_of-Pred, items-the_row-Pred, items_hidden-the_row-Pred-0}
-use Rattle.ct_query.specs.Pred.{condition_of, conditions_of}
-use Rattle.ct_query.proofs.Trees.{row_of}
+use Rattle.ct_query.{specs.Pred.{condition_of, conditions_of}, proofs.Trees.row_of}
+use Rattle.ct_condition.specs.Runs.{under}
+use Rattle.ct_query.specs.declared.query.Pred as pred
+use Rattle.ct_word.specs.declared.connectives.Connective.TheVariants as connective
 
 abbrev mutual
   pub parts : Condition → ℕ
@@ -36,8 +35,6 @@ of_list : (cs : List Pred) → all_parts (conditions_of (row_of (pred.And cs)).1
 of_list cs = let row = row_of (pred.And cs) in of_row row.0 row.1 ∙ ap parts_of_all (items_hidden-the_row-Pred-0 cs)
 
 -- an And and an Or have one part more than their lists
-pub parts_and : (p : Pred) (cs : List Pred) → p ≡ pred.And cs → parts_of p ≡ parts_of_all cs + 1
-parts_and p cs e = ap parts_of e ∙ ap (λ k. k + 1) (of_list cs)
-
-pub parts_or : (p : Pred) (cs : List Pred) → p ≡ pred.Or cs → parts_of p ≡ parts_of_all cs + 1
-parts_or p cs e = ap parts_of e ∙ ap (λ k. k + 1) (of_list cs)
+pub parts_under : (j : Connective) (p : Pred) (cs : List Pred) → p ≡ under j cs → parts_of p ≡ parts_of_all cs + 1
+parts_under connective.And p cs e = ap parts_of e ∙ ap (λ k. k + 1) (of_list cs)
+parts_under connective.Or p cs e = ap parts_of e ∙ ap (λ k. k + 1) (of_list cs)

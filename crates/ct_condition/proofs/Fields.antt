@@ -1,16 +1,10 @@
 -- What the words of terms stand for, by their fields.
 use Rattle.std.proofs.Common.{◌≡◌, ℕ, ◌+◌, ◌*◌, ◌-◌, ◌<◌, ◌≤◌, ◌/◌, ◌%◌, suc, List, ap, sym, ◌∙◌, arith, to_z, of_z, w64, FitsSigned}
-use Rattle.std.specs.Prelude.{ℤ, pos, negsuc, IsTrue, nat_lt}
-use Rattle.std.proofs.lemmas.Bool.{cond_both, ltb-true, ltb-false}
-use Rattle.std.proofs.lemmas.Int.{to_z-of_z, to_z_pos}
+use Rattle.std.{specs.Prelude.{ℤ, pos, negsuc, IsTrue, nat_lt}, proofs.lemmas.Bool.{cond_both, ltb-true, ltb-false}, proofs.lemmas.Int.{to_z-of_z, to_z_pos}}
 use Rattle.std.proofs.Math.Facts.{to_z-neg}
+use Rattle.ct_word.{specs.declared.kinds.Class.Class, specs.Reading.{Meaning, int_of_bits}, specs.Stands.StandsAt, specs.WellFormed.is_place_of}
+use Rattle.ct_word.{proofs.Prefixes.stands_in_prefix, proofs.Growth.place_within}
 use mathlib.Core.List.{IsPrefix}
-use Rattle.ct_word.specs.declared.kinds.Class.{Class}
-use Rattle.ct_word.specs.Reading.{Meaning, int_of_bits}
-use Rattle.ct_word.specs.Stands.{StandsAt}
-use Rattle.ct_word.specs.WellFormed.{is_place_of}
-use Rattle.ct_word.proofs.Prefixes.{stands_in_prefix}
-use Rattle.ct_word.proofs.Growth.{place_within}
 
 -- what stands at a place of a class stands there still
 pub kept : (old new : List ℕ) (c : Class) (p : ℕ) (m : Meaning) → IsPrefix old new → IsTrue (is_place_of old c p) → StandsAt old p m → StandsAt new p m

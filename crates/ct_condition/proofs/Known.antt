@@ -1,38 +1,29 @@
 -- The words of a term that has a place already: each of them stands.
-use Rattle.std.proofs.Common.{◌≡◌, ℕ, ◌+◌, ◌-◌, ◌*◌, ◌/◌, ◌%◌, ◌<◌, true, List, Option, Some, None, refl, ap, ◌∙◌, sym, subst, arith}
-use Rattle.std.specs.Prelude.{ℤ, pos, negsuc, nat_lt, slice_get, Contains}
-use Rattle.std.proofs.lemmas.Option.{same_Some}
-use Rattle.std.proofs.lemmas.Bool.{cond_both, eqb-true, ltb-true, false≢true}
-use Rattle.ct_word.specs.declared.kinds.Kind.{Kind}
+use Rattle.std.proofs.Common.{◌≡◌, ℕ, ◌+◌, ◌*◌, ◌/◌, ◌%◌, ◌<◌, true, false, List, [], ◌∷◌, Option, Some, None, refl, ap, ◌∙◌, sym, subst, arith, rules}
+use Rattle.std.{specs.Prelude.{ℤ, slice_get, Contains, IsTrue}, proofs.lemmas.Option.same_Some, proofs.lemmas.Bool.{eqb-true, ltb-true, false≢true}}
+use Rattle.ct_word.{specs.declared.kinds.Kind.Kind, specs.declared.values.Term.Term, specs.Word.{word_of, kind_of, left_of, right_of}}
+use Rattle.ct_word.{specs.Stands.{StandsAt, places_in}, specs.Reading.{Meaning, IsText, IsTerm, as_text, as_high, as_term, int_of_bits, by_kind, meanings}}
+use Rattle.ct_word.{proofs.Splits.{meaning_at, one_place}, specs.WellFormed.{class_of, has_class, is_word_of, is_place_of, is_formed_as, IsWellFormed}}
+use Rattle.ct_word.{proofs.Stands.stands_for_packed, proofs.Constants.{bits_of, bits_back, high_kind}, proofs.Items.contains_of_get}
+use Rattle.ct_condition.specs.Terms.{is_text_kind, text_term}
+use Rattle.ct_condition.proofs.Chains.{packed, small_left, small_right, fit_before, place_there, word_under, one_text, text_at_class}
 use Rattle.ct_word.specs.declared.kinds.Kind.TheVariants as kind
 use Rattle.ct_word.specs.declared.kinds.Class.TheVariants as class
 use Rattle.ct_word.specs.declared.values.Value.TheVariants as val
 use Rattle.ct_word.specs.declared.values.Null.TheVariants as null
-use Rattle.ct_word.specs.declared.values.Term.{Term}
 use Rattle.ct_word.specs.declared.values.Term.TheVariants as term
-use Rattle.ct_word.specs.Word.{word_of, kind_of, left_of, right_of}
-use Rattle.ct_word.specs.Reading.{IsText, IsTerm, as_text, as_high, as_term, int_of_bits, by_kind, meanings}
-use Rattle.ct_word.specs.Stands.{StandsAt}
-use Rattle.ct_word.specs.WellFormed.{has_class, is_word_of, is_place_of, IsWellFormed}
-use Rattle.ct_word.proofs.Splits.{meaning_at, one_place}
-use Rattle.ct_word.proofs.Stands.{stands_for_packed}
-use Rattle.ct_condition.proofs.Chains.{there, packed, small_left, small_right, fit_before, place_there, word_under, one_text, text_at_class}
 
--- the 64 bits of a number
-abbrev bits_of : ℤ → ℕ
-bits_of (pos n) = n
-bits_of (negsuc k) = 18446744073709551615 - k
-
-bits_back : (n : ℕ) → n < 18446744073709551616 → bits_of (int_of_bits n) ≡ n
-bits_back n lt = cond_both (nat_lt n 9223372036854775808) (pos n) (negsuc (18446744073709551615 - n)) (λ z. bits_of z ≡ n) (λ _. refl) (λ _. omega arith)
-
-high_kind : (o : Option Kind) → has_class o class.High ≡ true → o ≡ Some kind.NumberHigh
-high_kind (Some kind.NumberHigh) e = refl
-high_kind _ e = absurd (false≢true e)
+-- what the table of kinds says of a word over a text
+pub text_word : (k : Kind) → IsTrue (is_text_kind k) → (class_of k ≡ class.Term) × (has_class (Some k) class.Commit ≡ false) × ((ws : List ℕ) (a : ℕ) → IsTrue (is_place_of ws class.Text a) → IsTrue (is_formed_as (Some k) ws a 0))
+    × ((ms : List Meaning) (a b : ℕ) → by_kind (Some k) ms a b ≡ IsTerm (text_term k (as_text (slice_get ms a))))
+    × ((a : ℕ) → places_in (Some k) a 0 ≡ a ∷ [])
+text_word kind.NamedNull e = (refl, refl, (λ ws a is. Prim.search rules), (λ ms a b. refl), (λ a. refl))
+text_word kind.TextConstant e = (refl, refl, (λ ws a is. Prim.search rules), (λ ms a b. refl), (λ a. refl))
+text_word _ e = absurd (false≢true e)
 
 module _ (ws : List ℕ) (wf : IsWellFormed ws) where
   -- the word of this kind over a text
-  abbrev OverText : Kind → List ℕ → Type 0
+  abbrev pub OverText : Kind → List ℕ → Type 0
   OverText k t = (a : ℕ) × StandsAt ws a (IsText t) × Contains ws (word_of k a 0)
 
   -- the two words of a number
@@ -60,7 +51,7 @@ module _ (ws : List ℕ) (wf : IsWellFormed ws) where
   module _ (p w : ℕ) (at : slice_get ws p ≡ Some w) where
     -- a word whose right field is 0
     with_zero : (k : Kind) → kind_of w ≡ Some k → right_of w ≡ 0 → Contains ws (word_of k (left_of w) 0)
-    with_zero k e z = there ws p (word_of k (left_of w) 0) (at ∙ ap (λ x. Some x) (packed w k e) ∙ ap (λ b. Some (word_of k (left_of w) b)) z)
+    with_zero k e z = contains_of_get ws p (word_of k (left_of w) 0) (at ∙ ap (λ x. Some x) (packed w k e) ∙ ap (λ b. Some (word_of k (left_of w) b)) z)
 
     over_text : (k : Kind) → kind_of w ≡ Some k → right_of w ≡ 0 → is_place_of ws class.Text (left_of w) ≡ true
         → OverText k (as_text (slice_get (meanings ws) (left_of w)))
@@ -84,7 +75,7 @@ module _ (ws : List ℕ) (wf : IsWellFormed ws) where
           middle = right_of h.0;
           low = right_of w;
           high_word = h.1;
-          low_word = there ws p (word_of kind.Number (left_of w) (right_of w)) (at ∙ ap (λ x. Some x) (packed w kind.Number e));
+          low_word = contains_of_get ws p (word_of kind.Number (left_of w) (right_of w)) (at ∙ ap (λ x. Some x) (packed w kind.Number e));
           upper_small = small_left h.0;
           middle_small = small_right h.0;
           low_small = ltb-true (right_of w) 256 f.5;
@@ -103,7 +94,7 @@ module _ (ws : List ℕ) (wf : IsWellFormed ws) where
         let f = fit_before ws wf p w kind.NamedNull at k in
         by_term t _ e (over_text kind.NamedNull k (eqb-true _ _ f.5) (place_there ws wf f.0 f.1 w f.2 (left_of w) class.Text f.4))
     by_kinds (Some kind.FreshNull) t k e =
-        by_term t _ e (there ws p (word_of kind.FreshNull (left_of w) (right_of w)) (at ∙ ap (λ x. Some x) (packed w kind.FreshNull k)))
+        by_term t _ e (contains_of_get ws p (word_of kind.FreshNull (left_of w) (right_of w)) (at ∙ ap (λ x. Some x) (packed w kind.FreshNull k)))
     by_kinds (Some kind.OtherValue) t k e =
         by_term t _ e (with_zero kind.OtherValue k (eqb-true _ _ (fit_before ws wf p w kind.OtherValue at k).5))
     by_kinds (Some kind.Column) t k e =
@@ -125,22 +116,15 @@ module _ (ws : List ℕ) (wf : IsWellFormed ws) where
   pub fresh_there : (p s n : ℕ) → StandsAt ws p (IsTerm (term.Null (null.Fresh s n))) → Contains ws (word_of kind.FreshNull s n)
   fresh_there p s n is = words_there p (term.Null (null.Fresh s n)) is
 
-  -- the text of a text constant, and of a named null
-  pub constant_text : (p : ℕ) (t : List ℕ) → StandsAt ws p (IsTerm (term.Value (val.Text t))) → (a : ℕ) × StandsAt ws a (IsText t)
-  constant_text p t s = let o = words_there p (term.Value (val.Text t)) s in (o.0, o.1)
+  -- the words of a text constant, and of a named null
+  pub text_there : (k : Kind) → IsTrue (is_text_kind k) → (p : ℕ) (t : List ℕ) → StandsAt ws p (IsTerm (text_term k t)) → OverText k t
+  text_there kind.NamedNull e p t = words_there p (term.Null (null.Named t))
+  text_there kind.TextConstant e p t = words_there p (term.Value (val.Text t))
+  text_there _ e p t = absurd (false≢true e)
 
-  pub name_text : (p : ℕ) (t : List ℕ) → StandsAt ws p (IsTerm (term.Null (null.Named t))) → (a : ℕ) × StandsAt ws a (IsText t)
-  name_text p t s = let o = words_there p (term.Null (null.Named t)) s in (o.0, o.1)
-
-  over_there : (k : Kind) (t : List ℕ) (q : ℕ) → OverText k t → StandsAt ws q (IsText t) → Contains ws (word_of k q 0)
+  -- the last word over any place of the text
+  pub over_there : (k : Kind) (t : List ℕ) (q : ℕ) → OverText k t → StandsAt ws q (IsText t) → Contains ws (word_of k q 0)
   over_there k t q o s = subst (λ a. Contains ws (word_of k a 0)) (one_text ws wf o.0 q t o.1 s) o.2
-
-  -- the last word of each, over any place of its text
-  pub constant_there : (p q : ℕ) (t : List ℕ) → StandsAt ws p (IsTerm (term.Value (val.Text t))) → StandsAt ws q (IsText t) → Contains ws (word_of kind.TextConstant q 0)
-  constant_there p q t s at = over_there kind.TextConstant t q (words_there p (term.Value (val.Text t)) s) at
-
-  pub named_there : (p q : ℕ) (t : List ℕ) → StandsAt ws p (IsTerm (term.Null (null.Named t))) → StandsAt ws q (IsText t) → Contains ws (word_of kind.NamedNull q 0)
-  named_there p q t s at = over_there kind.NamedNull t q (words_there p (term.Null (null.Named t)) s) at
 
   -- of a number with these bits
   module _ (p n : ℕ) (z : ℤ) (small : n < 18446744073709551616) (is : int_of_bits n ≡ z) (s : StandsAt ws p (IsTerm (term.Value (val.Int z)))) where
@@ -166,7 +150,7 @@ module _ (ws : List ℕ) (wf : IsWellFormed ws) where
     high_is = number.high_word ∙ (λ i. Some (word_of kind.NumberHigh (parts.0 i) (parts.1 i)))
 
     pub high_there : Contains ws (word_of kind.NumberHigh (n / 68719476736) (n / 256 % 268435456))
-    high_there = there ws number.high _ high_is
+    high_there = contains_of_get ws number.high _ high_is
 
     pub number_there : (q : ℕ) → slice_get ws q ≡ Some (word_of kind.NumberHigh (n / 68719476736) (n / 256 % 268435456)) → Contains ws (word_of kind.Number q (n % 256))
     number_there q at =

@@ -1,24 +1,13 @@
 -- The marks of the nulls of a world: one for each null, and of one null each.
 use Rattle.std.proofs.Common.{◌≡◌, ℕ, suc, pred, ◌+◌, ◌<◌, Bool, true, false, cond, List, [], ◌∷◌, ◌++◌, length, drop, get_or, nat_eq, nat_lt, eqb, option_map, position, Option, Some, None, refl, ap, sym, subst, ◌∙◌, arith, length-append, if◌then◌else◌}
-use Rattle.std.specs.Prelude.{encode_utf8}
-use Rattle.std.specs.List.{position_or_len, list_any}
-use Rattle.std.specs.Map.{lookup}
-use Rattle.std.proofs.Math.Seq.{drop-cons}
-use Rattle.std.proofs.lemmas.Bool.{and_parts, and_from, cond_both, eqb-true, eq-eqb, false≢true, lt-ltb}
-use Rattle.std.proofs.lemmas.List.{append-nil, same_from_push}
-use Rattle.std.proofs.lemmas.List.Folds.{position_or_len_push}
-use Rattle.std.proofs.lemmas.List.Quantifiers.{position-Some}
-use Rattle.std.proofs.lemmas.Option.{none-some}
-use Rattle.std.proofs.lemmas.Str.{encodes-append, encodes_same}
+use Rattle.std.{specs.Prelude.encode_utf8, specs.List.{position_or_len, list_any}, specs.Map.lookup, proofs.Math.Seq.drop-cons, proofs.lemmas.Option.none-some}
+use Rattle.std.{proofs.lemmas.Bool.{and_parts, and_from, cond_both, eqb-true, eq-eqb, false≢true, lt-ltb}, proofs.lemmas.List.{append-nil, same_from_push}}
+use Rattle.std.{proofs.lemmas.List.Folds.position_or_len_push, proofs.lemmas.List.Quantifiers.position-Some, proofs.lemmas.Str.{encodes-append, encodes_same}}
 use Rattle.std.proofs.Math.Utf8.{encodes}
-use Rattle.ct_word.specs.declared.values.Value.{Value}
-use Rattle.ct_word.specs.declared.values.Null.{Null}
-use Rattle.ct_word.specs.declared.values.Null.TheVariants as null
-use Rattle.ct_word.specs.Value.{World, same_null, other_zero, value_of_null}
-use Rattle.ct_word.specs.WordAt.{backwards}
-use Rattle.ct_word.proofs.Alike.{null_decides}
-use Rattle.ct_word.proofs.Splits.{some-injective}
+use Rattle.ct_word.{specs.declared.values.Value.Value, specs.declared.values.Null.Null, specs.Value.{World, same_null, other_zero, value_of_null}}
+use Rattle.ct_word.{specs.WordAt.backwards, proofs.Alike.null_decides, proofs.Splits.some-injective}
 use Rattle.ct_condition.specs.Nulls.{same_pair, longer, beginning, Grows, HasMark, pair_from, AreNulls, or_past, value_with}
+use Rattle.ct_word.specs.declared.values.Null.TheVariants as null
 
 pair_is : (a b : ℕ × ℕ) → same_pair a b ≡ true → a ≡ b
 pair_is a b e = let parts = and_parts (nat_eq a.0 b.0) (nat_eq a.1 b.1) e in λ i. (eqb-true a.0 b.0 parts.0 i, eqb-true a.1 b.1 parts.1 i)
@@ -87,9 +76,6 @@ grows old new stay [] k e = e
 grows old new stay (c ∷ cs) k e =
     let s = step old (beginning old cs) c k e in
     longer_there new cs s.from c s.at (grows old new stay cs s.from s.is) (stay _ s.at s.found) ∙ ap Some s.next
-
-pub grows_itself : (steps : List (ℕ × ℕ)) → Grows steps steps
-grows_itself steps cs k e = e
 
 -- one more step of a name
 pub grows_put : (old new : List (ℕ × ℕ)) (x : ℕ × ℕ) → new ≡ (if list_any (same_pair x) old then old else old ++ x ∷ []) → Grows old new

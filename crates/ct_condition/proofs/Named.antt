@@ -1,21 +1,16 @@
 -- Which terms stand below a predicate that was put on a row.
 use Rattle.std.proofs.Common.{◌≡◌, ◌<◌, ℕ, zero, suc, List, [], ◌∷◌, length, Some, None, get_or, ap, sym, subst, ◌∙◌, arith, inl, inr}
-use Rattle.std.specs.Prelude.{Contains, slice_get}
-use Rattle.std.proofs.lemmas.Option.{none-some}
+use Rattle.std.{specs.Prelude.{Contains, slice_get}, proofs.lemmas.Option.none-some}
+use Rattle.ct_word.{specs.declared.values.Term.Term, specs.Condition.{Condition, Same, Not}, specs.Stands.TermBelow, specs.WellFormed.IsWellFormed}
+use Rattle.ct_word.specs.declared.connectives.Connective.{Connective}
+use Rattle.ct_query.specs.declared.query.Pred.{Pred, And, Row_of-Pred, end_of-Pred, more_of-Pred, items-the_row-Pred, items_hidden-the_row-Pred-0}
+use Rattle.ct_query.{specs.Pred.{condition_of, conditions_of}, proofs.Trees.row_of}
+use Rattle.ct_condition.{specs.Runs.under, specs.Rows.cell_for, proofs.OnRows.ArePlaces, proofs.Reached.{formed_before, terms_before, some_before}}
+use Rattle.ct_condition.specs.Terms.{TermsFrom, BelowEither, IsNamed, IsNamedInSome, IsNamedBySome, IsOnRow, IsOnRowOfSome, IsTermOnRow}
 use mathlib.Core.List.{IsPrefix}
 use Rattle.ct_word.specs.declared.kinds.Class.TheVariants as class
-use Rattle.ct_word.specs.declared.values.Term.{Term}
 use Rattle.ct_word.specs.declared.values.Term.TheVariants as term
-use Rattle.ct_word.specs.Condition.{Condition, Same, Not}
-use Rattle.ct_word.specs.Stands.{TermBelow}
-use Rattle.ct_word.specs.WellFormed.{IsWellFormed}
-use Rattle.ct_query.specs.declared.query.Pred.{Pred, And, Or, Row_of-Pred, end_of-Pred, more_of-Pred, items-the_row-Pred, items_hidden-the_row-Pred-0}
-use Rattle.ct_query.specs.Pred.{condition_of, conditions_of}
-use Rattle.ct_condition.specs.Rows.{cell_for}
-use Rattle.ct_condition.specs.Terms.{TermsFrom, BelowEither, IsNamed, IsNamedInSome, IsNamedBySome, IsOnRow, IsOnRowOfSome, IsTermOnRow}
-use Rattle.ct_condition.proofs.OnRows.{ArePlaces}
-use Rattle.ct_condition.proofs.Reached.{formed_before, terms_before, some_before}
-use Rattle.ct_query.proofs.Trees.{row_of}
+use Rattle.ct_word.specs.declared.connectives.Connective.TheVariants as connective
 
 among_at : (cells : List ℕ) (k place : ℕ) → slice_get cells k ≡ Some place → Contains cells place
 among_at [] k place e = absurd (none-some place e)
@@ -73,19 +68,16 @@ named_list cs t h =
     let row = row_of (And cs) in
     named_row row.0 row.1 t (subst (λ ps. IsNamedBySome ps t) (sym (items_hidden-the_row-Pred-0 cs)) h)
 
--- below a run that is an And or an Or
-module _ (old new cells : List ℕ) (place : ℕ) (p : Pred) (cs : List Pred) where
-  pub and_terms : p ≡ And cs → TermsFrom new place (IsOnRowOfSome old cells cs) → TermsFrom new place (IsOnRow old cells (condition_of p))
-  and_terms e from t h = elim (from t h) [
-    | inl b ↦ inl b
-    | inr n ↦ inr (subst (λ q. IsNamed (condition_of q) t) (sym e) (named_list cs t n.0), n.1)
-  ]
+named_under : (j : Connective) (cs : List Pred) (t : Term) → IsNamedBySome cs t → IsNamed (condition_of (under j cs)) t
+named_under connective.And cs t h = named_list cs t h
+named_under connective.Or cs t h = named_list cs t h
 
-  pub or_terms : p ≡ Or cs → TermsFrom new place (IsOnRowOfSome old cells cs) → TermsFrom new place (IsOnRow old cells (condition_of p))
-  or_terms e from t h = elim (from t h) [
-    | inl b ↦ inl b
-    | inr n ↦ inr (subst (λ q. IsNamed (condition_of q) t) (sym e) (named_list cs t n.0), n.1)
-  ]
+-- below a list under a connective
+pub under_terms : (j : Connective) (old new cells : List ℕ) (place : ℕ) (cs : List Pred) → TermsFrom new place (IsOnRowOfSome old cells cs) → TermsFrom new place (IsOnRow old cells (condition_of (under j cs)))
+under_terms j old new cells place cs from t h = elim (from t h) [
+  | inl b ↦ inl b
+  | inr n ↦ inr (named_under j cs t n.0, n.1)
+]
 
 -- below a run with one item more: place stands for the items before it, next for the item, q for both
 module _ (first old mid new cells : List ℕ) (longer : IsPrefix first old) (on : IsPrefix old mid) (formed : IsWellFormed mid) (places : ArePlaces first cells)

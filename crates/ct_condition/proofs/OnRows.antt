@@ -1,24 +1,14 @@
 -- Terms and conditions with the cells of a row put for their columns.
-use Rattle.std.proofs.Common.{◌≡◌, ℕ, zero, suc, List, [], ◌∷◌, ◌++◌, map, length, drop, Some, None, refl, ap, sym, ◌∙◌}
-use Rattle.std.specs.Prelude.{All, IsTrue, slice_get}
-use Rattle.std.proofs.Math.Seq.{drop-nil}
-use Rattle.std.proofs.lemmas.Option.{none-some}
-use Rattle.std.proofs.lemmas.List.{append-nil}
+use Rattle.std.{proofs.Common.{◌≡◌, ℕ, zero, suc, List, [], ◌∷◌, ◌++◌, map, length, drop, Some, None, refl, ap, sym, ◌∙◌}, proofs.Math.Seq.drop-nil}
+use Rattle.std.{specs.Prelude.{All, IsTrue, slice_get}, proofs.lemmas.Option.none-some, proofs.lemmas.List.append-nil}
 use Rattle.std.proofs.lemmas.List.Elements.{All-head, All-tail, All-weaker}
+use Rattle.ct_word.{specs.declared.values.Value.Value, specs.declared.values.Term.Term, specs.Value.{World, at, cell_at, same_value}, specs.Stands.StandsAt}
+use Rattle.ct_word.{specs.Condition.{Condition, Same, holds}, specs.Reading.{IsTerm, as_term, term_at}, specs.WellFormed.is_place_of}
+use Rattle.ct_word.proofs.Prefixes.{place_within, place_in_prefix, term_in_prefix}
+use Rattle.ct_condition.{specs.Truth.{HasTruth, equal_at}, specs.Rows.{cell_for, values_on, on_row, WorthOn}, proofs.Truths.in_place}
 use mathlib.Core.List.{IsPrefix}
 use Rattle.ct_word.specs.declared.kinds.Class.TheVariants as class
-use Rattle.ct_word.specs.declared.values.Value.{Value}
-use Rattle.ct_word.specs.declared.values.Term.{Term}
 use Rattle.ct_word.specs.declared.values.Term.TheVariants as term
-use Rattle.ct_word.specs.Value.{World, at, cell_at, same_value}
-use Rattle.ct_word.specs.Condition.{Condition, Same, holds}
-use Rattle.ct_word.specs.Reading.{IsTerm, as_term, term_at}
-use Rattle.ct_word.specs.Stands.{StandsAt}
-use Rattle.ct_word.specs.WellFormed.{is_place_of}
-use Rattle.ct_word.proofs.Prefixes.{place_within, place_in_prefix, term_in_prefix}
-use Rattle.ct_condition.specs.Truth.{HasTruth, equal_at}
-use Rattle.ct_condition.specs.Rows.{cell_for, values_on, on_row, WorthOn}
-use Rattle.ct_condition.proofs.Truths.{in_place}
 
 abbrev pub ArePlaces : List ℕ → List ℕ → Type 0
 ArePlaces ws cells = All (λ s. IsTrue (is_place_of ws class.Term s)) cells

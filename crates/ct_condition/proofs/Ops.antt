@@ -1,31 +1,19 @@
 -- How many equalities, NOTs and connectives the condition at a place has.
-use Rattle.std.proofs.Common.{◌≡◌, ℕ, ◌+◌, ◌≤◌, ◌<◌, Bool, true, false, ◌||◌, List, [], Option, Some, None, Result, Ok, length, take, get_or, nat_eq, inl, inr, refl, ap, sym, ◌∙◌, arith}
-use Rattle.std.specs.Prelude.{◌⊎◌, sum_by, slice_get}
-use Rattle.std.proofs.lemmas.Bool.{cases_eq, eqb-true}
-use Rattle.std.proofs.lemmas.List.{length-take-le}
+use Rattle.std.proofs.Common.{◌≡◌, ℕ, ◌+◌, ◌≤◌, ◌<◌, not, List, [], Option, Some, None, Result, Ok, length, take, get_or, nat_eq, inl, inr, refl, ap, sym, ◌∙◌, arith}
+use Rattle.std.{specs.Prelude.{◌⊎◌, sum_by, slice_get}, proofs.lemmas.Bool.cases_eq, proofs.lemmas.List.length-take-le, proofs.lemmas.Option.none-some}
 use Rattle.std.proofs.lemmas.List.Sums.{sum_by-cons, sum_by_more}
-use Rattle.std.proofs.lemmas.Option.{none-some}
-use mathlib.Core.List.{IsPrefix}
-use Rattle.ct_word.specs.declared.kinds.Kind.{Kind}
-use Rattle.ct_word.specs.declared.kinds.Kind.TheVariants as kind
-use Rattle.ct_word.specs.Word.{kind_of, left_of, right_of}
-use Rattle.ct_word.specs.Condition.{Not}
-use Rattle.ct_word.specs.Reading.{Meaning, IsCond, as_cond, by_kind, meanings}
-use Rattle.ct_word.specs.Stands.{StandsAt}
-use Rattle.ct_word.specs.WellFormed.{IsWellFormed}
-use Rattle.ct_word.proofs.Prefixes.{get_in_prefix, condition_in_prefix}
-use Rattle.ct_word.proofs.Splits.{meaning_at, some-injective}
-use Rattle.ct_word.proofs.Stands.{stands_for_packed}
+use Rattle.ct_word.{specs.declared.kinds.Kind.Kind, specs.Word.{kind_of, left_of, right_of}, specs.Condition.Not, specs.Stands.StandsAt, specs.Connective.unit}
+use Rattle.ct_word.{specs.Reading.{Meaning, IsCond, as_cond, by_kind, meanings}, specs.WellFormed.IsWellFormed, proofs.Splits.{meaning_at, some-injective}}
+use Rattle.ct_word.{proofs.Prefixes.{get_in_prefix, condition_in_prefix}, proofs.Stands.stands_for_packed, specs.declared.connectives.Connective.Connective}
 use Rattle.ct_arena.specs.Counts.{opening}
-use Rattle.ct_query.specs.declared.query.Pred.{Pred, And, Or, Row_of-Pred, end_of-Pred, more_of-Pred, items-the_row-Pred, items_hidden-the_row-Pred-0}
-use Rattle.ct_query.specs.Pred.{condition_of, conditions_of}
-use Rattle.ct_query.specs.Bounds.{ops, all_ops}
-use Rattle.ct_condition.specs.Folding.{FoldsTo, denied_by, denied_in, denied, are_constants, are_opposite, folded_eq, folded_not, folded_and, folded_or}
-use Rattle.ct_condition.specs.Truth.{ops_at}
-use Rattle.ct_condition.specs.Runs.{run_ops}
-use Rattle.ct_condition.proofs.Counted.{joined}
-use Rattle.ct_condition.proofs.Denied.{equal_tests, not_tests, pair_tests}
-use Rattle.ct_query.proofs.Trees.{row_of}
+use Rattle.ct_query.specs.declared.query.Pred.{Pred, And, Row_of-Pred, end_of-Pred, more_of-Pred, items-the_row-Pred, items_hidden-the_row-Pred-0}
+use Rattle.ct_query.{specs.Pred.{condition_of, conditions_of}, specs.Bounds.{ops, all_ops}, proofs.Trees.row_of}
+use Rattle.ct_condition.specs.Folding.{FoldsTo, denied_by, denied_in, denied, are_constants, folded_eq, folded_not, folded_join, kind_under, unit_place, settling_place}
+use Rattle.ct_condition.{specs.Truth.ops_at, specs.Runs.{run_ops, under}, proofs.Counted.{joined, unit_folds}}
+use Rattle.ct_condition.proofs.Denied.{equal_tests, not_tests, join_tests, is_literal}
+use mathlib.Core.List.{IsPrefix}
+use Rattle.ct_word.specs.declared.kinds.Kind.TheVariants as kind
+use Rattle.ct_word.specs.declared.connectives.Connective.TheVariants as connective
 
 -- a word Not stands for the negation of the place that it denies
 by_denied : (o : Option Kind) (ms : List Meaning) (a b d : ℕ) → denied_by o a ≡ Some d → by_kind o ms a b ≡ IsCond (Not (as_cond (slice_get ms d)))
@@ -67,13 +55,13 @@ module _ (ws : List ℕ) (formed : IsWellFormed ws) where
     pair_folded q c d p l (inr (inl e)) = let z : ops_at ws p ≡ ops_at ws c = ap (ops_at ws) e in omega arith
     pair_folded q c d p l (inr (inr e)) = let z : ops_at ws p ≡ ops_at ws d = ap (ops_at ws) e in omega arith
 
-    pub and_folded : (c d p : ℕ) → folded_and ws c d ≡ Some p → ops_at ws p ≤ ops_at ws c + ops_at ws d + 1
-    and_folded c d p e =
-        pair_folded 1 c d p (inr refl) (pair_tests (nat_eq c 1 || nat_eq d 1) (nat_eq c 0) (nat_eq d 0 || nat_eq c d) (are_opposite ws c d) 1 c d p e)
+    pub join_folded : (j : Connective) (c d p : ℕ) → folded_join j ws c d ≡ Some p → ops_at ws p ≤ ops_at ws c + ops_at ws d + 1
+    join_folded j c d p e = pair_folded (settling_place j) c d p (is_literal (not (unit j))) (join_tests j ws c d p e)
 
-    pub or_folded : (c d p : ℕ) → folded_or ws c d ≡ Some p → ops_at ws p ≤ ops_at ws c + ops_at ws d + 1
-    or_folded c d p e =
-        pair_folded 0 c d p (inl refl) (pair_tests (nat_eq c 0 || nat_eq d 0) (nat_eq c 1) (nat_eq d 1 || nat_eq c d) (are_opposite ws c d) 0 c d p e)
+-- two conditions under a connective
+join_ops : (j : Connective) (ws : List ℕ) (place a b : ℕ) → StandsAt ws place (by_kind (Some (kind_under j)) (meanings ws) a b) → ops_at ws place ≡ ops_at ws a + (ops_at ws b + 0) + (0 + 1)
+join_ops connective.And ws place a b h = ap (λ o. ops (as_cond o)) h
+join_ops connective.Or ws place a b h = ap (λ o. ops (as_cond o)) h
 
 -- of the place of a word that was put
 module _ (old new : List ℕ) (longer : IsPrefix old new) where
@@ -91,33 +79,11 @@ module _ (old new : List ℕ) (longer : IsPrefix old new) where
       let k = ops_kept c lt in
       omega arith
 
-  module _ (place c d : ℕ) (left : c < length old) (right : d < length old) where
-    pub put_and : StandsAt new place (by_kind (Some kind.And) (meanings new) c d) ⊎ StandsAt new place (by_kind (Some kind.And) (meanings new) d c)
+  module _ (j : Connective) (place c d : ℕ) (left : c < length old) (right : d < length old) where
+    pub put_join : StandsAt new place (by_kind (Some (kind_under j)) (meanings new) c d) ⊎ StandsAt new place (by_kind (Some (kind_under j)) (meanings new) d c)
         → ops_at new place ≤ ops_at old c + ops_at old d + 1
-    put_and (inl h) =
-        let z : ops_at new place ≡ ops_at new c + (ops_at new d + 0) + (0 + 1) = ap (λ o. ops (as_cond o)) h in
-        omega (arith, ops_kept c left, ops_kept d right)
-    put_and (inr h) =
-        let z : ops_at new place ≡ ops_at new d + (ops_at new c + 0) + (0 + 1) = ap (λ o. ops (as_cond o)) h in
-        omega (arith, ops_kept c left, ops_kept d right)
-
-    pub put_or : StandsAt new place (by_kind (Some kind.Or) (meanings new) c d) ⊎ StandsAt new place (by_kind (Some kind.Or) (meanings new) d c)
-        → ops_at new place ≤ ops_at old c + ops_at old d + 1
-    put_or (inl h) =
-        let z : ops_at new place ≡ ops_at new c + (ops_at new d + 0) + (0 + 1) = ap (λ o. ops (as_cond o)) h in
-        omega (arith, ops_kept c left, ops_kept d right)
-    put_or (inr h) =
-        let z : ops_at new place ≡ ops_at new d + (ops_at new c + 0) + (0 + 1) = ap (λ o. ops (as_cond o)) h in
-        omega (arith, ops_kept c left, ops_kept d right)
-
--- an And with true is the other condition, and an Or with false
-true_first : (words : List ℕ) (d : ℕ) (b : Bool) → nat_eq d 1 ≡ b → folded_and words 0 d ≡ Some d
-true_first words d true e = rw e (ap (λ x. Some x) (sym (eqb-true d 1 e)))
-true_first words d false e = rw e refl
-
-false_first : (words : List ℕ) (d : ℕ) (b : Bool) → nat_eq d 0 ≡ b → folded_or words 1 d ≡ Some d
-false_first words d true e = rw e (ap (λ x. Some x) (sym (eqb-true d 0 e)))
-false_first words d false e = rw e refl
+    put_join (inl h) = omega (arith, join_ops j new place c d h, ops_kept c left, ops_kept d right)
+    put_join (inr h) = omega (arith, join_ops j new place d c h, ops_kept c left, ops_kept d right)
 
 other_of : {E : Type 0} (fold : Option ℕ) (w : ℕ) (old new : List ℕ) (d q : ℕ) (r : Result ℕ E) → fold ≡ Some d → r ≡ Ok q → FoldsTo fold w old new r → ops_at new q ≡ ops_at old d
 other_of (Some p) w old new d q r e is h =
@@ -126,11 +92,9 @@ other_of (Some p) w old new d q r e is h =
     λ i. ops_at (h.1 i) (same i)
 other_of None w old new d q r e is h = absurd (none-some d e)
 
-pub and_first : {E : Type 0} (w : ℕ) (old new : List ℕ) (c d q : ℕ) (r : Result ℕ E) → c ≡ 0 → r ≡ Ok q → FoldsTo (folded_and old c d) w old new r → ops_at new q ≡ ops_at old d
-and_first w old new c d q r e is h = other_of (folded_and old c d) w old new d q r (ap (λ x. folded_and old x d) e ∙ true_first old d (nat_eq d 1) refl) is h
-
-pub or_first : {E : Type 0} (w : ℕ) (old new : List ℕ) (c d q : ℕ) (r : Result ℕ E) → c ≡ 1 → r ≡ Ok q → FoldsTo (folded_or old c d) w old new r → ops_at new q ≡ ops_at old d
-or_first w old new c d q r e is h = other_of (folded_or old c d) w old new d q r (ap (λ x. folded_or old x d) e ∙ false_first old d (nat_eq d 0) refl) is h
+-- the first connective of a run is with its unit
+pub join_first : {E : Type 0} (j : Connective) (w : ℕ) (old new : List ℕ) (c d q : ℕ) (r : Result ℕ E) → c ≡ unit_place j → r ≡ Ok q → FoldsTo (folded_join j old c d) w old new r → ops_at new q ≡ ops_at old d
+join_first j w old new c d q r e is h = other_of (folded_join j old c d) w old new d q r (unit_folds j old c d e) is h
 
 abbrev of_one : Pred → ℕ
 of_one p = ops (condition_of p)
@@ -146,12 +110,10 @@ of_list cs =
     let j = joined [] [] row.0 row.1 in
     omega arith ∙ ap run_ops (items_hidden-the_row-Pred-0 cs)
 
--- an And has those of its run, and so has an Or
-pub ops_and : (p : Pred) (cs : List Pred) → p ≡ And cs → ops (condition_of p) ≡ run_ops cs
-ops_and p cs e = ap of_one e ∙ of_list cs
-
-pub ops_or : (p : Pred) (cs : List Pred) → p ≡ Or cs → ops (condition_of p) ≡ run_ops cs
-ops_or p cs e = ap of_one e ∙ of_list cs
+-- a list under a connective has those of its run
+pub ops_under : (j : Connective) (cs : List Pred) → ops (condition_of (under j cs)) ≡ run_ops cs
+ops_under connective.And cs = of_list cs
+ops_under connective.Or cs = of_list cs
 
 -- a run by its items: k for the run before an item, n for the item, m for the run with it
 module _ (ps : List Pred) (i : ℕ) (p : Pred) (within : i < length ps) (is : p ≡ get_or ps i p) (k n m : ℕ) where

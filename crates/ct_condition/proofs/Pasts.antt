@@ -1,10 +1,9 @@
 -- Terms for which no cell of a row stands.
-use Rattle.std.proofs.Common.{◌≡◌, ◌≤◌, ℕ, zero, suc, List, [], ◌∷◌, length, arith}
-use Rattle.std.specs.Prelude.{None, slice_get}
+use Rattle.std.{proofs.Common.{◌≡◌, ◌≤◌, ℕ, zero, suc, List, [], ◌∷◌, length, arith}, specs.Prelude.{None, slice_get}}
 use Rattle.ct_word.specs.declared.values.Term.{Term}
-use Rattle.ct_word.specs.declared.values.Term.TheVariants as term
 use Rattle.ct_query.specs.Fields.{FitsFields, FitsFieldsOn}
 use Rattle.ct_condition.specs.Rows.{cell_for}
+use Rattle.ct_word.specs.declared.values.Term.TheVariants as term
 
 past_end : (cells : List ℕ) (k : ℕ) → slice_get cells k ≡ None → length cells ≤ k
 past_end [] k e = omega arith

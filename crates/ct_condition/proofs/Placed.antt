@@ -1,21 +1,12 @@
 -- Which terms have a place, as words are added, and the words that a condition is put by.
 use Rattle.std.proofs.Common.{◌≡◌, ℕ, suc, ◌+◌, ◌≤◌, ◌<◌, Bool, true, false, List, [], ◌∷◌, Option, Some, None, Result, Ok, Err, refl, ap, ◌∙◌, sym, arith}
-use Rattle.std.specs.Prelude.{◌||◌, slice_get, is_some, IsOk, OnOk, OnErr, if◌then◌else◌}
-use Rattle.std.specs.List.{list_any}
-use Rattle.std.proofs.lemmas.Bool.{false≢true, or_left}
-use Rattle.std.proofs.lemmas.List.Folds.{list_any-append}
-use Rattle.std.proofs.lemmas.Option.{none-some}
-use Rattle.std.proofs.lemmas.Map.Keys.{any_passes_from_place}
-use mathlib.Core.List.{IsPrefix}
-use Rattle.ct_word.specs.declared.values.Term.{Term}
-use Rattle.ct_word.specs.Condition.{Condition, Conditions, True, False, Same, Not, And, Or, none, also}
-use Rattle.ct_word.specs.Reading.{Meaning, IsTerm, meanings}
-use Rattle.ct_word.specs.Stands.{StandsAt}
-use Rattle.ct_word.proofs.Alike.{term_decides}
-use Rattle.ct_word.proofs.Prefixes.{meanings_prefix}
+use Rattle.std.{specs.Prelude.{◌||◌, slice_get, is_some, IsOk, OnOk, OnErr, if◌then◌else◌}, specs.List.list_any, proofs.lemmas.Bool.{false≢true, or_left}}
+use Rattle.std.{proofs.lemmas.List.Folds.list_any-append, proofs.lemmas.Option.none-some, proofs.lemmas.Map.Keys.any_passes_from_place}
+use Rattle.ct_word.{specs.declared.values.Term.Term, specs.Condition.{Condition, Conditions, True, False, Same, Not, And, Or, none, also}}
+use Rattle.ct_word.{specs.Reading.{Meaning, IsTerm, meanings}, specs.Stands.StandsAt, proofs.Alike.term_decides, proofs.Prefixes.meanings_prefix}
 use Rattle.ct_query.specs.Bounds.{literal_words, column_words, over_equalities, over_all_equalities}
-use Rattle.ct_condition.specs.Places.{is_of_term, has_place, new_literal_words, new_terms}
-use Rattle.ct_condition.specs.Rows.{cell_for, term_words, new_words, words_on}
+use Rattle.ct_condition.{specs.Places.{is_of_term, has_place, new_literal_words, new_terms}, specs.Rows.{cell_for, term_words, new_words, words_on}}
+use mathlib.Core.List.{IsPrefix}
 
 found : (f : Meaning → Bool) (ms : List Meaning) → list_any f ms ≡ true → (k : ℕ) × (m : Meaning) × (slice_get ms k ≡ Some m) × (f m ≡ true)
 found f [] e = absurd (false≢true e)

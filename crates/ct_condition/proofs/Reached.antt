@@ -1,90 +1,27 @@
 -- Which terms are reached from a place, as words are added.
-use Rattle.std.proofs.Common.{◌≡◌, ◌≤◌, ◌<◌, ◌^◌, ℕ, zero, suc, true, List, [], ◌∷◌, ◌++◌, length, Option, Some, None, Result, Ok, Err, get_or, refl, ap, sym, subst, ◌∙◌, arith, inl, inr}
-use Rattle.std.specs.Prelude.{◌⊎◌, All, Contains, IfOk, IsTrue, slice_get}
-use Rattle.std.proofs.lemmas.Option.{slice_get_within}
+use Rattle.std.proofs.Common.{◌≡◌, ◌<◌, ◌^◌, ℕ, List, [], ◌∷◌, length, Some, Result, Ok, Err, get_or, refl, ap, sym, subst, ◌∙◌, arith, inl, inr}
+use Rattle.std.{specs.Prelude.{◌⊎◌, All, Contains, IfOk, IsTrue, slice_get}, proofs.lemmas.Option.slice_get_within}
 use Rattle.std.proofs.lemmas.List.Elements.{All-contains, All-get_or, Contains-append_cases, Contains-get_or}
-use mathlib.Core.List.{IsPrefix}
-use Rattle.ct_word.specs.declared.kinds.Kind.{Kind}
-use Rattle.ct_word.specs.declared.kinds.Kind.TheVariants as kind
-use Rattle.ct_word.specs.declared.kinds.Class.{Class}
-use Rattle.ct_word.specs.declared.kinds.Class.TheVariants as class
-use Rattle.ct_word.specs.declared.values.Term.{Term}
-use Rattle.ct_word.specs.Word.{word_of, code_of, kind_of, left_of, right_of}
-use Rattle.ct_word.specs.Reading.{IsTerm}
-use Rattle.ct_word.specs.Stands.{StandsAt, Below, itself, through, TermBelow, class_of_meaning, place_in, places_in, places_of}
-use Rattle.ct_word.specs.WellFormed.{Field, Zero, Any, Byte, Scalar, Session, Positive, PlaceOf, IsWellFormed, each_follows, fields_of, fits, is_formed_as, is_place_of, is_word_after}
-use Rattle.ct_word.proofs.Packed.{true_left, true_right, true_both, kind_of_parts, left_of_parts, right_of_parts}
-use Rattle.ct_word.proofs.Places.{meaning_of_class}
-use Rattle.ct_word.proofs.Prefixes.{get_in_prefix, meaning_in_prefix, place_within}
-use Rattle.ct_word.proofs.Splits.{split_at, formed_at, formed_fields, some-injective}
+use Rattle.ct_word.{specs.declared.kinds.Kind.Kind, specs.declared.kinds.Class.Class, specs.declared.values.Term.Term, specs.Reading.IsTerm}
+use Rattle.ct_word.{specs.Word.{word_of, code_of}, proofs.Places.meaning_of_class, specs.WellFormed.{Field, PlaceOf, IsWellFormed, fields_of, is_place_of}}
+use Rattle.ct_word.{specs.Stands.{StandsAt, Below, itself, through, TermBelow, class_of_meaning, place_in, places_in, places_of}, proofs.Splits.some-injective}
+use Rattle.ct_word.{proofs.Packed.{kind_of_parts, left_of_parts, right_of_parts}, proofs.Prefixes.{get_in_prefix, meaning_in_prefix, place_within}}
+use Rattle.ct_arena.proofs.Fronts.{formed_front}
 use Rattle.ct_condition.specs.Terms.{TermsFrom, BelowEither, BelowSome, AtOrUnder}
-
-pub no_item : {X : Type 0} (x : X) → Contains [] x → ⊥
-no_item x h = omega (arith, h.1)
-
-pub first_item : {X : Type 0} (xs : List X) (x : X) → Contains (x ∷ xs) x
-first_item xs x = (zero, omega arith, refl)
-
-by_place : {X : Type 0} (xs : List X) (y x : X) (k : ℕ) → k < length (y ∷ xs) → get_or (y ∷ xs) k x ≡ x → (y ≡ x) ⊎ Contains xs x
-by_place xs y x zero lt e = inl e
-by_place xs y x (suc k) lt e = inr (k, omega (arith, lt), e)
-
-sole_item : {X : Type 0} (y x : X) → Contains (y ∷ []) x → y ≡ x
-sole_item y x h = elim (by_place [] y x h.0 h.1 h.2) [ inl e ↦ e | inr n ↦ absurd (no_item x n) ]
+use mathlib.Core.List.{IsPrefix}
+pub use Rattle.ct_word.proofs.Items.{first_item, no_item, sole_item}
+pub use Rattle.ct_word.proofs.Fields.{named_earlier, reached_earlier}
+use Rattle.ct_word.specs.declared.kinds.Kind.TheVariants as kind
+use Rattle.ct_word.specs.declared.kinds.Class.TheVariants as class
 
 -- the first words of a well formed list are one
-follow_before : (seen ws xs : List ℕ) → IsTrue (each_follows seen (ws ++ xs)) → IsTrue (each_follows seen ws)
-follow_before seen [] xs e = refl
-follow_before seen (w ∷ ws) xs e =
-    true_both _ _ (true_left (is_word_after seen w) _ e) (follow_before (seen ++ w ∷ []) ws xs (true_right (is_word_after seen w) _ e))
-
 pub formed_before : (old new : List ℕ) → IsPrefix old new → IsWellFormed new → IsWellFormed old
-formed_before old new longer formed = follow_before [] old longer.0 (subst IsWellFormed (sym longer.1) formed)
+formed_before old new longer formed = formed_front old new longer formed
 
 -- the place that a field names is the field
 field_names : (f : Field) (n q : ℕ) → Contains (place_in f n) q → n ≡ q
 field_names (PlaceOf c) n q h = sole_item n q h
-field_names Zero n q h = absurd (no_item q h)
-field_names Any n q h = absurd (no_item q h)
-field_names Byte n q h = absurd (no_item q h)
-field_names Scalar n q h = absurd (no_item q h)
-field_names Session n q h = absurd (no_item q h)
-field_names Positive n q h = absurd (no_item q h)
-
--- and stands among the words before
-field_before : (front : List ℕ) (f : Field) (n q : ℕ) → fits front f n ≡ true → Contains (place_in f n) q → q < length front
-field_before front (PlaceOf c) n q e h = subst (λ p. p < length front) (sole_item n q h) (place_within front c n e)
-field_before front Zero n q e h = absurd (no_item q h)
-field_before front Any n q e h = absurd (no_item q h)
-field_before front Byte n q e h = absurd (no_item q h)
-field_before front Scalar n q e h = absurd (no_item q h)
-field_before front Session n q e h = absurd (no_item q h)
-field_before front Positive n q e h = absurd (no_item q h)
-
-fields_before : (front : List ℕ) (o : Option Kind) (a b q : ℕ) → is_formed_as o front a b ≡ true → Contains (places_in o a b) q → q < length front
-fields_before front (Some k) a b q e h =
-    let fields = formed_fields front k a b e in
-    elim (Contains-append_cases (place_in (fields_of k).0 a) (place_in (fields_of k).1 b) q h) [
-      | inl l ↦ field_before front (fields_of k).0 a q fields.0 l
-      | inr r ↦ field_before front (fields_of k).1 b q fields.1 r
-    ]
-fields_before front None a b q e h = absurd (no_item q h)
-
--- the fields of a word of a well formed list name earlier places
-pub named_earlier : (ws : List ℕ) → IsWellFormed ws → (p w q : ℕ) → slice_get ws p ≡ Some w → Contains (places_of w) q → q < p
-unfolding places_of
-named_earlier ws formed p w q there h =
-    let s = split_at ws p w there in
-    let lt = fields_before s.front (kind_of w) (left_of w) (right_of w) q (formed_at ws formed p w there s) h in
-    omega (arith, s.long, lt)
-
--- what stands below a place is no later
-pub reached_earlier : (ws : List ℕ) → IsWellFormed ws → (p r : ℕ) → Below ws p r → r ≤ p
-reached_earlier ws formed p r itself = omega arith
-reached_earlier ws formed p r (through w q there among rest) =
-    let lt = named_earlier ws formed p w q there among in
-    let le = reached_earlier ws formed q r rest in
-    omega (arith, lt, le)
+field_names _ n q h = absurd (no_item q h)
 
 -- no term stands at a place of another class
 pub no_term_at : (ws : List ℕ) (c : Class) (p : ℕ) (t : Term) → IsTrue (is_place_of ws c p) → (class.Term ≡ c → ⊥) → StandsAt ws p (IsTerm t) → ⊥

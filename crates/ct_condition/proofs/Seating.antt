@@ -1,12 +1,9 @@
 -- What interning for a guest leaves as it was, read from the numbers that say it.
 use Rattle.std.proofs.Common.{◌≡◌, ℕ, List, [], ◌∷◌, ◌++◌, length, refl}
-use mathlib.Core.List.{IsPrefix}
 use Rattle.ct_word.specs.Reading.{commits_of}
-use Rattle.ct_arena.specs.declared.tally.Tally.{Tally}
-use Rattle.ct_arena.specs.Seen.{Keeping}
-use Rattle.ct_condition.specs.CommitWords.{commit_words}
-use Rattle.ct_condition.specs.Tallies.{numbers_in}
-use Rattle.ct_condition.proofs.CommitWords.{commits_left}
+use Rattle.ct_arena.{specs.declared.tally.Tally.Tally, specs.Seen.Keeping}
+use Rattle.ct_condition.{specs.CommitWords.commit_words, specs.Tallies.numbers_in, proofs.CommitWords.commits_left}
+use mathlib.Core.List.{IsPrefix}
 
 tally_is : (s t m n a b : ℕ) → s ≡ t → m ≡ n → a ≡ b → (let x : Tally = record { session = s; made = m; mine = a } in x) ≡ record { session = t; made = n; mine = b }
 tally_is s t m n a b p q r = λ i. record { session = p i; made = q i; mine = r i }

@@ -1,19 +1,14 @@
 -- Predicates over lists of predicates, on the cells of a row.
-use Rattle.std.proofs.Common.{◌≡◌, ℕ, List, ap, sym, ◌∙◌, subst}
-use Rattle.std.specs.Prelude.{All, IsTrue}
-use Rattle.std.specs.List.{list_all, list_any}
-use Rattle.std.proofs.lemmas.List.Elements.{All-nil, All-cons, All-same}
+use Rattle.std.{proofs.Common.{◌≡◌, ℕ, List, ap, sym, ◌∙◌, subst}, specs.Prelude.{All, IsTrue}, proofs.lemmas.List.Elements.{All-nil, All-cons, All-same}}
+use Rattle.ct_word.{specs.WellFormed.is_place_of, specs.declared.values.Value.Value, specs.Value.World, specs.Condition.holds}
+use Rattle.ct_word.specs.declared.connectives.Connective.{Connective}
+use Rattle.ct_query.specs.declared.query.Pred.{Pred, And, Row_of-Pred, end_of-Pred, more_of-Pred, items-the_row-Pred, items_hidden-the_row-Pred-0}
+use Rattle.ct_query.{specs.Pred.{condition_of, conditions_of}, proofs.Trees.{row_of, holds_and, holds_or}, specs.Fields.{AreFittingOn, AreAllFittingOn}}
+use Rattle.ct_condition.{specs.Truth.HasTruth, specs.Rows.{values_on, on_row}, specs.Runs.under, proofs.Runs.list_under, proofs.Truths.in_place}
+use Rattle.ct_condition.proofs.OnRows.{on_row_in_prefix}
 use mathlib.Core.List.{IsPrefix}
 use Rattle.ct_word.specs.declared.kinds.Class.TheVariants as class
-use Rattle.ct_word.specs.WellFormed.{is_place_of}
-use Rattle.ct_query.specs.declared.query.Pred.{Pred, And, Or, Row_of-Pred, end_of-Pred, more_of-Pred, items-the_row-Pred, items_hidden-the_row-Pred-0}
-use Rattle.ct_query.specs.Pred.{condition_of, conditions_of}
-use Rattle.ct_query.proofs.Trees.{row_of, holds_and, holds_or}
-use Rattle.ct_condition.specs.Truth.{HasTruth}
-use Rattle.ct_query.specs.Fields.{AreFittingOn, AreAllFittingOn}
-use Rattle.ct_condition.specs.Rows.{values_on, on_row}
-use Rattle.ct_condition.proofs.Truths.{in_place}
-use Rattle.ct_condition.proofs.OnRows.{on_row_in_prefix}
+use Rattle.ct_word.specs.declared.connectives.Connective.TheVariants as connective
 
 -- over rows of so many cells
 module _ (width : ℕ) where
@@ -30,22 +25,18 @@ module _ (width : ℕ) where
       All-same Fitting cs (items-the_row-Pred row.0 row.1) (sym (items_hidden-the_row-Pred-0 cs)) (fit_row row.0 row.1 fit)
 
   -- each part of an And fits, and each part of an Or
-  pub fit_and : (p : Pred) (cs : List Pred) → p ≡ And cs → Fitting p → All Fitting cs
-  fit_and p cs e fit = fit_list cs (subst Fitting e fit)
+  pub fit_under : (j : Connective) (p : Pred) (cs : List Pred) → p ≡ under j cs → Fitting p → All Fitting cs
+  fit_under connective.And p cs e fit = fit_list cs (subst Fitting e fit)
+  fit_under connective.Or p cs e fit = fit_list cs (subst Fitting e fit)
 
-  pub fit_or : (p : Pred) (cs : List Pred) → p ≡ Or cs → Fitting p → All Fitting cs
-  fit_or p cs e fit = fit_list cs (subst Fitting e fit)
+holds_under : (j : Connective) (v : World) (row : List Value) (cs : List Pred) → holds v row (condition_of (under j cs)) ≡ list_under j (λ c. holds v row (condition_of c)) cs
+holds_under connective.And v row cs = holds_and v row cs
+holds_under connective.Or v row cs = holds_or v row cs
 
-module _ (ws new : List ℕ) (place : ℕ) (p : Pred) (cs : List Pred) (cells : List ℕ) where
-  pub and_on_row : p ≡ And cs → HasTruth new place (λ v row. list_all (λ c. on_row ws (condition_of c) cells v row) cs) → HasTruth new place (on_row ws (condition_of p) cells)
-  and_on_row e h =
-      in_place new place (λ v row. list_all (λ c. on_row ws (condition_of c) cells v row) cs) (on_row ws (condition_of p) cells) h
-      (λ v row. sym (holds_and v (values_on ws cells v row) cs) ∙ ap (λ q. on_row ws (condition_of q) cells v row) (sym e))
-
-  pub or_on_row : p ≡ Or cs → HasTruth new place (λ v row. list_any (λ c. on_row ws (condition_of c) cells v row) cs) → HasTruth new place (on_row ws (condition_of p) cells)
-  or_on_row e h =
-      in_place new place (λ v row. list_any (λ c. on_row ws (condition_of c) cells v row) cs) (on_row ws (condition_of p) cells) h
-      (λ v row. sym (holds_or v (values_on ws cells v row) cs) ∙ ap (λ q. on_row ws (condition_of q) cells v row) (sym e))
+pub under_on_row : (j : Connective) (ws new : List ℕ) (place : ℕ) (cs : List Pred) (cells : List ℕ) → HasTruth new place (λ v row. list_under j (λ c. on_row ws (condition_of c) cells v row) cs) → HasTruth new place (on_row ws (condition_of (under j cs)) cells)
+under_on_row j ws new place cs cells h =
+    in_place new place (λ v row. list_under j (λ c. on_row ws (condition_of c) cells v row) cs) (on_row ws (condition_of (under j cs)) cells) h
+    (λ v row. sym (holds_under j v (values_on ws cells v row) cs))
 
 -- the truth of an item, said of the words at the beginning
 pub item_on_row : (first old mid : List ℕ) (next : ℕ) (cells : List ℕ) (p q : Pred) → IsPrefix first old → All (λ s. IsTrue (is_place_of first class.Term s)) cells → p ≡ q

@@ -1,27 +1,16 @@
 -- The truth of the conditions at places: of true and false, of two constants, of a negation.
 use Rattle.std.proofs.Common.{◌≡◌, ℕ, [], ◌∷◌, ◌<◌, ◌^◌, Bool, true, false, not, List, Option, Some, None, refl, ap, sym, ◌∙◌, arith, length}
-use Rattle.std.specs.Prelude.{◌≢◌, nat_eq, slice_get, IsTrue}
-use Rattle.std.proofs.lemmas.Bool.{false≢true, and_parts, eq-eqb}
+use Rattle.std.{specs.Prelude.{◌≢◌, nat_eq, slice_get, IsTrue}, proofs.lemmas.Bool.{false≢true, and_parts, eq-eqb}}
+use Rattle.ct_word.{specs.declared.kinds.Kind.Kind, specs.declared.values.Value.Value, specs.Constant.{is_constant_kind, is_constant_word}}
+use Rattle.ct_word.{specs.Value.{World, at}, specs.Word.{kind_of, left_of, right_of}, specs.Condition.holds, proofs.Alike.value_decides}
+use Rattle.ct_word.{specs.Reading.{Meaning, by_kind, meanings, as_term, as_cond, term_at}, specs.WellFormed.{IsWellFormed, is_place_of, is_formed_as}}
+use Rattle.ct_word.{proofs.Constants.one_constant, proofs.Growth.{place_within, place_grows}, proofs.Prefixes.get_in_prefix}
+use Rattle.ct_word.{proofs.Splits.{split_at, formed_at, formed_fields, meaning_at}, proofs.Stands.{stands_for_packed, class_of_packed}}
+use Rattle.ct_arena.specs.Counts.{opening}
+use Rattle.ct_condition.{specs.Folding.{are_apart, are_constants}, specs.Truth.{Truth, HasTruth, Negates, truth_at, equal_at}}
 use mathlib.Core.List.{IsPrefix}
-use Rattle.ct_word.specs.declared.kinds.Kind.{Kind}
 use Rattle.ct_word.specs.declared.kinds.Kind.TheVariants as kind
 use Rattle.ct_word.specs.declared.kinds.Class.TheVariants as class
-use Rattle.ct_word.specs.declared.values.Value.{Value}
-use Rattle.ct_word.specs.Constant.{is_constant_kind, is_constant_word}
-use Rattle.ct_word.specs.Value.{World, at}
-use Rattle.ct_word.specs.Word.{kind_of, left_of, right_of}
-use Rattle.ct_word.specs.Condition.{holds}
-use Rattle.ct_word.specs.Reading.{Meaning, by_kind, meanings, as_term, as_cond, term_at}
-use Rattle.ct_word.specs.WellFormed.{IsWellFormed, is_place_of, is_formed_as}
-use Rattle.ct_word.proofs.Alike.{value_decides}
-use Rattle.ct_word.proofs.Constants.{one_constant}
-use Rattle.ct_word.proofs.Growth.{place_within, place_grows}
-use Rattle.ct_word.proofs.Prefixes.{get_in_prefix}
-use Rattle.ct_word.proofs.Splits.{split_at, formed_at, formed_fields, meaning_at}
-use Rattle.ct_word.proofs.Stands.{stands_for_packed, class_of_packed}
-use Rattle.ct_arena.specs.Counts.{opening}
-use Rattle.ct_condition.specs.Folding.{are_apart, are_constants}
-use Rattle.ct_condition.specs.Truth.{Truth, HasTruth, Negates, truth_at, equal_at}
 
 -- what a place is worth by itself
 pub itself : (ws : List ℕ) (c : ℕ) → length ws < 2 ^ 28 → IsTrue (is_place_of ws class.Cond c) → HasTruth ws c (truth_at ws c)

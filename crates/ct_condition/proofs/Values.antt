@@ -1,40 +1,21 @@
 -- What a place is worth, by its word and by what the earlier places are worth.
-use Rattle.std.proofs.Common.{◌≡◌, ℕ, zero, suc, ◌+◌, ◌<◌, Bool, true, false, not, ◌&&◌, ◌||◌, List, [], ◌∷◌, ◌++◌, length, map, option_map, nat_eq, Option, Some, None, refl, ap, sym, subst, ◌∙◌, arith, inl, inr, length-append}
-use Rattle.std.specs.Prelude.{slice_get, IsTrue, encode_utf8}
-use Rattle.std.proofs.lemmas.Bool.{cases_lt, eqb-true, eq-eqb}
-use Rattle.std.proofs.lemmas.List.{length-map}
+use Rattle.std.proofs.Common.{◌≡◌, ℕ, ◌+◌, ◌<◌, Bool, true, false, not, ◌&&◌, ◌||◌, List, [], ◌∷◌, ◌++◌, length, map, option_map, nat_eq, Option, Some, None, refl, ap, sym, subst, ◌∙◌, arith, inl, inr, length-append}
+use Rattle.std.{specs.Prelude.{slice_get, IsTrue, encode_utf8}, proofs.lemmas.Bool.{cases_lt, eqb-true, eq-eqb}, proofs.lemmas.List.length-map}
 use Rattle.std.proofs.lemmas.Option.{none-some, slice_get-map}
-use Rattle.ct_word.specs.declared.kinds.Kind.{Kind}
-use Rattle.ct_word.specs.declared.kinds.Kind.TheVariants as kind
-use Rattle.ct_word.specs.declared.kinds.Class.TheVariants as class
-use Rattle.ct_word.specs.declared.values.Value.{Value}
-use Rattle.ct_word.specs.declared.values.Null.{Null}
-use Rattle.ct_word.specs.declared.values.Null.TheVariants as null
-use Rattle.ct_word.specs.declared.values.Term.{Term}
-use Rattle.ct_word.specs.declared.values.Term.TheVariants as term
-use Rattle.ct_word.specs.Value.{World, at, same_value}
-use Rattle.ct_word.specs.Condition.{holds_at}
-use Rattle.ct_word.specs.Reading.{Meaning, IsText, IsTerm, meanings, as_text, condition_at, term_at}
-use Rattle.ct_word.specs.Stands.{class_of_meaning}
-use Rattle.ct_word.specs.WellFormed.{IsWellFormed, class_of, is_place_of}
-use Rattle.ct_word.specs.WordAt.{IsWordAt, backwards}
-use Rattle.ct_word.proofs.Alike.{value_decides}
-use Rattle.ct_word.proofs.Constants.{one_term}
-use Rattle.ct_word.proofs.Growth.{place_within}
-use Rattle.ct_word.proofs.Places.{meaning_of_class, stands_term, stands_condition}
-use Rattle.ct_word.proofs.Splits.{get_front, some-injective}
-use Rattle.ct_word.proofs.Spelling.{of_kind}
-use Rattle.ct_condition.specs.Nulls.{AreNulls, beginning, longer, or_past, pair_from, value_with}
-use Rattle.ct_condition.specs.declared.valued.Worth.{Worth}
-use Rattle.ct_condition.specs.declared.valued.Worth.TheVariants as worth
+use Rattle.ct_word.{specs.declared.kinds.Kind.Kind, specs.declared.values.Value.Value, specs.declared.values.Term.Term, specs.Value.{World, at, same_value}}
+use Rattle.ct_word.{specs.Condition.holds_at, specs.Stands.class_of_meaning, specs.WordAt.{IsWordAt, backwards}, proofs.Alike.value_decides}
+use Rattle.ct_word.{specs.Reading.{Meaning, IsText, IsTerm, meanings, as_text, condition_at, term_at}, specs.WellFormed.{IsWellFormed, class_of, is_place_of}}
+use Rattle.ct_word.{proofs.Constants.one_term, proofs.Growth.place_within, proofs.Splits.{get_front, some-injective}, proofs.Spelling.of_kind}
+use Rattle.ct_word.{proofs.Places.{meaning_of_class, stands_term, stands_condition}, proofs.Items.get_last, proofs.Joins.joined_holds}
+use Rattle.ct_condition.{specs.Nulls.{AreNulls, beginning, longer, or_past, pair_from, value_with}, specs.declared.valued.Worth.Worth}
 use Rattle.ct_condition.specs.Worth.{AreWorths, HaveWorths, IsConstant, IsTermAt, IsWorth, is_true, is_true_at, number_in, pair_in, pair_named, term_by, term_worth, text_by, text_worth, truth_by}
 use Rattle.ct_condition.proofs.Marks.{mark_found, name_lacking, value_listed, value_past}
-
-get_last : {A : Type 0} (xs : List A) (x : A) (k : ℕ) → k ≡ length xs → slice_get (xs ++ x ∷ []) k ≡ Some x
-get_last [] x zero e = refl
-get_last [] x (suc k) e = absurd (omega arith)
-get_last (y ∷ xs) x zero e = absurd (omega arith)
-get_last (y ∷ xs) x (suc k) e = get_last xs x k (omega arith)
+use Rattle.ct_word.specs.declared.connectives.Connective.TheVariants as connective
+use Rattle.ct_word.specs.declared.kinds.Kind.TheVariants as kind
+use Rattle.ct_word.specs.declared.kinds.Class.TheVariants as class
+use Rattle.ct_word.specs.declared.values.Null.TheVariants as null
+use Rattle.ct_word.specs.declared.values.Term.TheVariants as term
+use Rattle.ct_condition.specs.declared.valued.Worth.TheVariants as worth
 
 -- one more place has its worth
 pub have_more : (ws : List ℕ) (steps : List (ℕ × ℕ)) (v : World) (xs : List Worth) (x : Worth) (k : ℕ) → length xs ≡ k → HaveWorths ws steps v xs → IsWorth steps v (slice_get (meanings ws) k) x
@@ -112,16 +93,6 @@ constants_same ws formed v s t es et cs ct =
     let same : cs.0 ≡ ct.0 = sym (ap (at v []) cs.1) ∙ (value_decides _ _).0 e ∙ ap (at v []) ct.1 in
     eq-eqb s t (one_term ws formed s t es et (cs.1 ∙ ap term.Value same ∙ sym ct.1)))
 
-and_same : (a b : Bool) → (a && (b && true)) ≡ (a && b)
-and_same true true = refl
-and_same true false = refl
-and_same false b = refl
-
-or_same : (a b : Bool) → (a || (b || false)) ≡ (a || b)
-or_same true b = refl
-or_same false true = refl
-or_same false false = refl
-
 module _ (ws : List ℕ) (steps : List (ℕ × ℕ)) (pairs : List ((ℕ × ℕ) × ℕ)) (v : World) (all : AreNulls steps pairs 0 v) (xs : List Worth) (have : HaveWorths ws steps v xs) (p : ℕ) (long : length xs ≡ p) where
   abbrev At : Kind → ℕ → ℕ → Type 0
   At k a b = IsWordAt ws p (record { kind = k; left = a; right = b })
@@ -190,8 +161,8 @@ module _ (ws : List ℕ) (steps : List (ℕ × ℕ)) (pairs : List ((ℕ × ℕ)
   condition_is kind.Not a b is c = by_meaning _ _ is.meaning (ap (λ x. worth.Truth (not x)) (truth_at a is.left.0 is.left.1))
   condition_is kind.And a b is c =
       by_meaning _ _ is.meaning
-      (ap (λ x. worth.Truth x) ((λ i. truth_at a is.left.0 is.left.1 i && truth_at b is.right.0 is.right.1 i) ∙ sym (and_same (holds_at v (condition_at ws a)) (holds_at v (condition_at ws b)))))
+      (ap (λ x. worth.Truth x) ((λ i. truth_at a is.left.0 is.left.1 i && truth_at b is.right.0 is.right.1 i) ∙ sym (joined_holds connective.And v [] (condition_at ws a) (condition_at ws b))))
   condition_is kind.Or a b is c =
       by_meaning _ _ is.meaning
-      (ap (λ x. worth.Truth x) ((λ i. truth_at a is.left.0 is.left.1 i || truth_at b is.right.0 is.right.1 i) ∙ sym (or_same (holds_at v (condition_at ws a)) (holds_at v (condition_at ws b)))))
+      (ap (λ x. worth.Truth x) ((λ i. truth_at a is.left.0 is.left.1 i || truth_at b is.right.0 is.right.1 i) ∙ sym (joined_holds connective.Or v [] (condition_at ws a) (condition_at ws b))))
   condition_is _ a b is c = cc

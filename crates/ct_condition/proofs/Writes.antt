@@ -1,10 +1,7 @@
 -- What calls do to the words, one after another.
-use Rattle.std.proofs.Common.{◌≡◌, ℕ, ◌+◌, ◌*◌, ◌≤◌, ◌<◌, Bool, true, false, List, length, refl, sym, subst, ◌∙◌, arith}
-use Rattle.std.specs.Prelude.{Result, IsErr, is_err}
-use Rattle.std.specs.Borrow.{GName}
+use Rattle.std.{proofs.Common.{◌≡◌, ℕ, ◌+◌, ◌*◌, ◌≤◌, ◌<◌, Bool, true, false, List, length, refl, subst, ◌∙◌, arith}, specs.Borrow.GName}
 use Rattle.std.proofs.Math.Nat.{mul-le-mul_right}
-use Rattle.ct_word.specs.WellFormed.{IsWellFormed}
-use Rattle.ct_word.proofs.Prefixes.{prefix_same, prefix_of_prefix}
+use Rattle.ct_word.{specs.WellFormed.IsWellFormed, proofs.Prefixes.{prefix_same, prefix_of_prefix}}
 use Rattle.ct_condition.specs.Writes.{charge, Writes}
 
 module _ {S : Type 0} {words_of : S → List ℕ} {made_of : S → ℕ} {kept_of : S → List ℕ} {lent_of : S → List GName} {cap : ℕ} where
@@ -53,8 +50,3 @@ module _ {S : Type 0} {words_of : S → List ℕ} {made_of : S → ℕ} {kept_of
     -- a turn that ends it
     pub writes_last : {refused : Bool} (n : ℕ) → i < n → Writes words_of made_of kept_of lent_of cap now new each refused → Writes words_of made_of kept_of lent_of cap old new (n * each) refused
     writes_last n lt one = let all : (i + 1) * each ≤ n * each = mul-le-mul_right each (omega arith) in writes_within (n * each) (omega (arith, all)) (writes_both so_far one)
-
--- the refusal that `?` hands on
-pub writes_refused : {S : Type 0} {words_of : S → List ℕ} {made_of : S → ℕ} {kept_of : S → List ℕ} {lent_of : S → List GName} {cap : ℕ} {old new : S} {most : ℕ} {T U E : Type 0} (r : Result T E) (s : Result U E)
-    → IsErr r → IsErr s → Writes words_of made_of kept_of lent_of cap old new most (is_err r) → Writes words_of made_of kept_of lent_of cap old new most (is_err s)
-writes_refused {words_of = words_of} {made_of} {kept_of} {lent_of} {cap} {old} {new} {most} r s e f = subst (λ b. Writes words_of made_of kept_of lent_of cap old new most b) (e ∙ sym f)

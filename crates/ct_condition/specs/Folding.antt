@@ -4,6 +4,9 @@ use Rattle.ct_word.specs.declared.kinds.Kind.{Kind}
 use Rattle.ct_word.specs.declared.kinds.Kind.TheVariants as kind
 use Rattle.ct_word.specs.Constant.{is_constant_word}
 use Rattle.ct_word.specs.Word.{kind_of, left_of}
+use Rattle.ct_word.specs.declared.connectives.Connective.{Connective}
+use Rattle.ct_word.specs.declared.connectives.Connective.TheVariants as connective
+use Rattle.ct_word.specs.Connective.{unit}
 
 -- the place of the word true or false, with which the words begin
 abbrev pub literal_place : Bool → ℕ
@@ -51,21 +54,33 @@ folded_not words c =
     if nat_eq c 0 then Some 1 else
     if nat_eq c 1 then Some 0 else denied words c
 
+-- the place of the truth that says nothing under a connective, and of the one that settles it
+abbrev pub unit_place : Connective → ℕ
+unit_place j = literal_place (unit j)
+
+abbrev pub settling_place : Connective → ℕ
+settling_place j = literal_place (not (unit j))
+
+-- of two conditions under a connective
+abbrev pub folded_join : Connective → List ℕ → ℕ → ℕ → Option ℕ
+folded_join j words c d =
+    if nat_eq c (settling_place j) || nat_eq d (settling_place j) then Some (settling_place j) else
+    if nat_eq c (unit_place j) then Some d else
+    if nat_eq d (unit_place j) || nat_eq c d then Some c else
+    if are_opposite words c d then Some (settling_place j) else None
+
 -- of an And
 abbrev pub folded_and : List ℕ → ℕ → ℕ → Option ℕ
-folded_and words c d =
-    if nat_eq c 1 || nat_eq d 1 then Some 1 else
-    if nat_eq c 0 then Some d else
-    if nat_eq d 0 || nat_eq c d then Some c else
-    if are_opposite words c d then Some 1 else None
+folded_and words c d = folded_join connective.And words c d
 
 -- of an Or
 abbrev pub folded_or : List ℕ → ℕ → ℕ → Option ℕ
-folded_or words c d =
-    if nat_eq c 0 || nat_eq d 0 then Some 0 else
-    if nat_eq c 1 then Some d else
-    if nat_eq d 1 || nat_eq c d then Some c else
-    if are_opposite words c d then Some 0 else None
+folded_or words c d = folded_join connective.Or words c d
+
+-- the kind of the word of two conditions under a connective
+abbrev pub kind_under : Connective → Kind
+kind_under connective.And = kind.And
+kind_under connective.Or = kind.Or
 
 -- the answer of a call: the place that is folded to, the words as they were; else the place of this word
 abbrev pub FoldsTo : {E : Type 0} → Option ℕ → ℕ → List ℕ → List ℕ → Result ℕ E → Type 0

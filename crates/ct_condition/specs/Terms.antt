@@ -1,5 +1,5 @@
 -- Which terms stand below a place.
-use Rattle.std.specs.Prelude.{◌≡◌, ◌⊎◌, ℕ, List, [], ◌∷◌, Some, None}
+use Rattle.std.specs.Prelude.{◌≡◌, ◌⊎◌, ℕ, Bool, true, false, List, [], ◌∷◌, Some, None}
 use Rattle.std.specs.List.{Contains}
 use Rattle.ct_word.specs.declared.kinds.Kind.{Kind}
 use Rattle.ct_word.specs.declared.values.Term.{Term}
@@ -9,6 +9,10 @@ use Rattle.ct_word.specs.Reading.{IsTerm}
 use Rattle.ct_word.specs.Stands.{StandsAt, TermBelow, places_in}
 use Rattle.ct_query.specs.declared.query.Pred.{Pred}
 use Rattle.ct_query.specs.Pred.{condition_of}
+use Rattle.ct_word.specs.declared.kinds.Kind.TheVariants as kind
+use Rattle.ct_word.specs.declared.values.Value.TheVariants as val
+use Rattle.ct_word.specs.declared.values.Null.TheVariants as null
+use Rattle.ct_word.specs.declared.values.Term.TheVariants as term
 use Rattle.ct_condition.specs.Rows.{cell_for}
 
 -- each term that stands below a place is one of these
@@ -45,3 +49,13 @@ IsOnRowOfSome words cells ps t = BelowSome words cells t ⊎ (IsNamedBySome ps t
 -- a term below a place put for a term on a row
 abbrev pub IsTermOnRow : List ℕ → List ℕ → Term → Term → Type 0
 IsTermOnRow words cells u t = BelowSome words cells t ⊎ ((t ≡ u) × (cell_for cells t ≡ None))
+
+-- whether a word of this kind is a term over a text, and the term that it stands for
+abbrev pub is_text_kind : Kind → Bool
+is_text_kind kind.NamedNull = true
+is_text_kind kind.TextConstant = true
+is_text_kind _ = false
+
+abbrev pub text_term : Kind → List ℕ → Term
+text_term kind.NamedNull t = term.Null (null.Named t)
+text_term _ t = term.Value (val.Text t)

@@ -3,6 +3,8 @@ use Rattle.std.specs.Prelude.{◌≡◌, ◌<◌, ◌^◌, ℕ, Bool, not, ◌&&
 use Rattle.std.specs.List.{list_all}
 use Rattle.ct_word.specs.declared.kinds.Class.TheVariants as class
 use Rattle.ct_word.specs.declared.values.Value.{Value}
+use Rattle.ct_word.specs.declared.connectives.Connective.{Connective}
+use Rattle.ct_word.specs.Connective.{join}
 use Rattle.ct_word.specs.Value.{World, at, same_value}
 use Rattle.ct_word.specs.Condition.{holds}
 use Rattle.ct_word.specs.Reading.{condition_at, term_at}
@@ -38,6 +40,10 @@ and_at words c d = λ v row. truth_at words c v row && truth_at words d v row
 -- that one of the conditions at two places holds
 abbrev pub or_at : List ℕ → ℕ → ℕ → Truth
 or_at words c d = λ v row. truth_at words c v row || truth_at words d v row
+
+-- the truth of the conditions at two places under a connective
+abbrev pub join_at : Connective → List ℕ → ℕ → ℕ → Truth
+join_at j words c d = λ v row. join j (truth_at words c v row) (truth_at words d v row)
 
 -- that each of the conditions at these places holds
 abbrev pub all_at : List ℕ → List ℕ → Truth

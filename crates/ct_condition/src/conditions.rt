@@ -10,15 +10,15 @@ ghost use Rattle.ct_word.specs.declared.kinds.Kind.TheVariants as kind;
 ghost use Rattle.ct_word.specs.Word.{word_of};
 ghost use Rattle.ct_condition.specs.Folding as spec;
 ghost use Rattle.ct_condition.specs.Folding.{FoldsTo};
-ghost use Rattle.ct_condition.specs.Truth.{HasTruth, equal_at, not_at, and_at, or_at, all_at, ops_at};
+ghost use Rattle.ct_condition.specs.Truth.{HasTruth, equal_at, not_at, and_at, or_at, join_at, all_at, ops_at};
 ghost use Rattle.ct_condition.specs.Terms.{TermsFrom, BelowEither, BelowSome};
 ghost use Rattle.ct_condition.specs.Writes.{Writes};
 
-use crate::folding::{folded_and, folded_eq, folded_not, folded_or, literal};
+use crate::folding::{folded_eq, folded_join, folded_not, literal};
 use crate::interner::Interner;
 use crate::packed::put;
 use ct_arena::{Arena, Full, Site};
-use ct_word::Kind;
+use ct_word::{Connective, Kind};
 
 /// The place of the word of two different places, the smaller one first.
 fn pair<N: Site, I: Interner<N>>(
@@ -115,6 +115,47 @@ pub fn not<N: Site, I: Interner<N>>(arena: &Arena<N>, pass: &mut I, c: u32) -> R
     }
 }
 
+/// The kind of the word of two conditions under a connective.
+fn kind_under(connective: Connective) -> Kind
+    ensures kind { result ≡ spec.kind_under connective }
+    ensures class { class_of result ≡ class.Cond }
+    ensures plain { has_class (Some result) class.Commit ≡ false }
+{
+    match connective {
+        Connective::And => Kind::And,
+        Connective::Or => Kind::Or,
+    }
+}
+
+/// The place of two conditions under a connective.
+///
+/// # Errors
+/// `Full` where the log has no room for its word.
+pub fn join<N: Site, I: Interner<N>>(
+    arena: &Arena<N>,
+    pass: &mut I,
+    connective: Connective,
+    c: u32,
+    d: u32,
+) -> Result<u32, Full>
+    requires left { IsTrue (is_place_of (I.list pass.old) class.Cond c) }
+    requires right { IsTrue (is_place_of (I.list pass.old) class.Cond d) }
+    ensures truth { IfOk result (λ place. HasTruth (I.list pass.new) place (join_at connective (I.list pass.old) c d)) }
+    ensures terms { IfOk result (λ place. TermsFrom (I.list pass.new) place (BelowEither (I.list pass.old) c d)) }
+    ensures ops { IfOk result (λ place. ops_at (I.list pass.new) place ≤ ops_at (I.list pass.old) c + ops_at (I.list pass.old) d + 1) }
+    ensures folds { FoldsTo (spec.folded_join connective (I.list pass.old) c d) (word_of (spec.kind_under connective) (min c d) (max c d)) (I.list pass.old) (I.list pass.new) result }
+    ensures writes { Writes I.list I.made I.kept I.lent N.log.cap pass.old pass.new 1 (is_err result) }
+    ensures full { IsErr result ↔ (IsNone (spec.folded_join connective (I.list pass.old) c d) × (length (I.list pass.new) ≡ N.log.cap) × ¬ Contains (I.list pass.new) (word_of (spec.kind_under connective) (min c d) (max c d))) }
+    ensures known { Contains (I.list pass.old) (word_of (spec.kind_under connective) (min c d) (max c d)) → IsOk result × (I.list pass.new ≡ I.list pass.old) × (I.made pass.new ≡ I.made pass.old) }
+    ensures unmade { IsSome (spec.folded_join connective (I.list pass.old) c d) → I.made pass.new ≡ I.made pass.old }
+    ensures err { OnErr result (I.made pass.new ≡ I.made pass.old) }
+{
+    match folded_join(pass.words(), connective, c, d) {
+        Some(place) => Ok(place),
+        None => pair(arena, pass, kind_under(connective), c, d),
+    }
+}
+
 /// The place of the conjunction of two conditions.
 ///
 /// # Errors
@@ -142,10 +183,7 @@ pub fn and<N: Site, I: Interner<N>>(
     ensures kept { I.kept pass.new ≡ I.kept pass.old }
     ensures lent { I.lent pass.new ≡ I.lent pass.old }
 {
-    match folded_and(pass.words(), c, d) {
-        Some(place) => Ok(place),
-        None => pair(arena, pass, Kind::And, c, d),
-    }
+    join(arena, pass, Connective::And, c, d)
 }
 
 /// The place of the disjunction of two conditions.
@@ -175,10 +213,7 @@ pub fn or<N: Site, I: Interner<N>>(
     ensures kept { I.kept pass.new ≡ I.kept pass.old }
     ensures lent { I.lent pass.new ≡ I.lent pass.old }
 {
-    match folded_or(pass.words(), c, d) {
-        Some(place) => Ok(place),
-        None => pair(arena, pass, Kind::Or, c, d),
-    }
+    join(arena, pass, Connective::Or, c, d)
 }
 
 /// The place of the conjunction of conditions, taken from the left; true where there are none.

@@ -7,9 +7,9 @@ ghost use Rattle.ct_word.specs.WellFormed.{IsWellFormed, is_place_of};
 ghost use Rattle.ct_word.specs.declared.kinds.Class.TheVariants as class;
 ghost use Rattle.ct_condition.specs.Folding as spec;
 ghost use Rattle.ct_condition.specs.Folding.{are_apart, denied, is_place, literal_place};
-ghost use Rattle.ct_condition.specs.Truth.{HasTruth, Negates, equal_at, not_at, and_at, or_at};
+ghost use Rattle.ct_condition.specs.Truth.{HasTruth, Negates, equal_at, not_at, join_at};
 
-use ct_word::{FALSE_PLACE, Kind, TRUE_PLACE, is_constant, kind, left};
+use ct_word::{Connective, FALSE_PLACE, Kind, TRUE_PLACE, is_constant, kind, left};
 
 /// The place of the word true or of the word false, where the words begin as every log does.
 pub fn literal(words: &[u64], truth: bool) -> u32
@@ -94,54 +94,30 @@ fn negates(words: &[u64], c: u32, d: u32) -> bool
     }
 }
 
-/// The place that the conjunction of two conditions folds to.
-pub fn folded_and(words: &[u64], c: u32, d: u32) -> Option<u32>
+/// The place that two conditions under a connective fold to.
+pub fn folded_join(words: &[u64], connective: Connective, c: u32, d: u32) -> Option<u32>
     requires formed { IsWellFormed words.now }
     requires begins { IsPrefix opening words.now }
     requires small { length words.now < 2 ^ 28 }
     requires left { IsTrue (is_place_of words.now class.Cond c) }
     requires right { IsTrue (is_place_of words.now class.Cond d) }
-    ensures value { result ≡ spec.folded_and words.now c d }
-    ensures truth { IfSome result (λ place. HasTruth words.now place (and_at words.now c d)) }
+    ensures value { result ≡ spec.folded_join connective words.now c d }
+    ensures truth { IfSome result (λ place. HasTruth words.now place (join_at connective words.now c d)) }
     ensures apart { result ≡ None → c ≢ d }
 {
-    if c == FALSE_PLACE || d == FALSE_PLACE {
-        return Some(FALSE_PLACE);
+    let unit = literal(words, connective.unit());
+    let settled = literal(words, !connective.unit());
+    if c == settled || d == settled {
+        return Some(settled);
     }
-    if c == TRUE_PLACE {
+    if c == unit {
         return Some(d);
     }
-    if d == TRUE_PLACE || c == d {
+    if d == unit || c == d {
         return Some(c);
     }
     if negates(words, c, d) || negates(words, d, c) {
-        return Some(FALSE_PLACE);
-    }
-    None
-}
-
-/// The place that the disjunction of two conditions folds to.
-pub fn folded_or(words: &[u64], c: u32, d: u32) -> Option<u32>
-    requires formed { IsWellFormed words.now }
-    requires begins { IsPrefix opening words.now }
-    requires small { length words.now < 2 ^ 28 }
-    requires left { IsTrue (is_place_of words.now class.Cond c) }
-    requires right { IsTrue (is_place_of words.now class.Cond d) }
-    ensures value { result ≡ spec.folded_or words.now c d }
-    ensures truth { IfSome result (λ place. HasTruth words.now place (or_at words.now c d)) }
-    ensures apart { result ≡ None → c ≢ d }
-{
-    if c == TRUE_PLACE || d == TRUE_PLACE {
-        return Some(TRUE_PLACE);
-    }
-    if c == FALSE_PLACE {
-        return Some(d);
-    }
-    if d == FALSE_PLACE || c == d {
-        return Some(c);
-    }
-    if negates(words, c, d) || negates(words, d, c) {
-        return Some(TRUE_PLACE);
+        return Some(settled);
     }
     None
 }

@@ -17,7 +17,7 @@ mod texts;
 mod valued;
 mod worlds;
 
-pub use conditions::{all, and, eq, not, or};
+pub use conditions::{all, and, eq, join, not, or};
 pub use folding::are_apart;
 pub use interner::Interner;
 pub use one_world::Worths;

@@ -57,6 +57,7 @@ fn number(steps: &mut IndexSet<(usize, u32)>, name: &str) -> Result<usize, Memor
     let mut last = 0;
     for character in name.chars() {
         let (at, _) = steps.insert_full((last, character as u32))?;
+        // As there are fewer than 2^63 of them, one more is a number, too.
         let _ = steps.len();
         last = at + 1;
     }

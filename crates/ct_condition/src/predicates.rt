@@ -1,7 +1,6 @@
 // Predicates on rows.
 
 ghost use Rattle.std.specs.Prelude.{◌≡◌, ◌≤◌, ◌+◌, ◌<◌, ◌^◌, length, All, IfOk, OnErr, OnOk, IsTrue};
-ghost use Rattle.std.specs.List.{list_all, list_any};
 ghost use mathlib.Core.List.{IsPrefix};
 ghost use Rattle.ct_word.specs.Condition.{Same};
 ghost use Rattle.ct_word.specs.WellFormed.{is_place_of};
@@ -9,18 +8,18 @@ ghost use Rattle.ct_word.specs.declared.kinds.Class.TheVariants as class;
 ghost use Rattle.ct_query.specs.Pred.{condition_of};
 ghost use Rattle.ct_condition.specs.Truth.{HasTruth, ops_at};
 ghost use Rattle.ct_query.specs.Fields.{FitsFieldsOn, AreFittingOn};
-ghost use Rattle.ct_condition.specs.Runs.{run_words, run_new_words, run_ops};
+ghost use Rattle.ct_condition.specs.Runs.{under};
 ghost use Rattle.ct_condition.specs.Rows.{cell_for, WorthOn, on_row, term_words, words_on, new_words};
 ghost use Rattle.ct_query.specs.Bounds.{ops};
-ghost use Rattle.ct_condition.specs.Terms.{TermsFrom, IsOnRow, IsOnRowOfSome, IsTermOnRow};
+ghost use Rattle.ct_condition.specs.Terms.{TermsFrom, IsOnRow, IsTermOnRow};
 
-use crate::conditions::{and, eq, not, or};
+use crate::conditions::{eq, join, not};
 use crate::folding::literal;
 use crate::interner::Interner;
 use crate::terms::term;
 use ct_arena::{Arena, Full, Site};
 use ct_query::Pred;
-use ct_word::Term;
+use ct_word::{Connective, Term};
 
 /// The row's cell for a column; none for another term and for a column past the row's end.
 fn cell(row: &[u32], t: &Term) -> Option<u32>
@@ -85,60 +84,32 @@ fn same<N: Site, I: Interner<N>>(
     eq(arena, pass, left, right)
 }
 
-/// The place of the conjunction of predicates on a row, taken from the left.
+/// The place of a list of predicates under a connective on a row, taken from the left.
 #[cycle(pred)]
-fn every<N: Site, I: Interner<N>>(
+fn run<N: Site, I: Interner<N>>(
     arena: &Arena<N>,
     pass: &mut I,
+    connective: Connective,
     list: &[Pred],
     row: &[u32],
 ) -> Result<u32, Full>
     requires fields { All (λ p. AreFittingOn (length row.now) (condition_of p)) list.now }
     requires row { All (λ s. IsTrue (is_place_of (I.list pass.old) class.Term s)) row.now }
-    ensures truth { IfOk result (λ place. HasTruth (I.list pass.new) place (λ v r. list_all (λ p. on_row (I.list pass.old) (condition_of p) row.now v r) list.now)) }
-    ensures terms { IfOk result (λ place. TermsFrom (I.list pass.new) place (IsOnRowOfSome (I.list pass.old) row.now list.now)) }
-    ensures ops { IfOk result (λ place. ops_at (I.list pass.new) place ≤ run_ops list.now) }
+    ensures truth { IfOk result (λ place. HasTruth (I.list pass.new) place (on_row (I.list pass.old) (condition_of (under connective list.now)) row.now)) }
+    ensures terms { IfOk result (λ place. TermsFrom (I.list pass.new) place (IsOnRow (I.list pass.old) row.now (condition_of (under connective list.now)))) }
+    ensures ops { IfOk result (λ place. ops_at (I.list pass.new) place ≤ ops (condition_of (under connective list.now))) }
     ensures longer { IsPrefix (I.list pass.old) (I.list pass.new) }
     ensures full { OnErr result (length (I.list pass.new) ≡ N.log.cap) }
-    ensures made { I.made pass.new ≤ I.made pass.old + run_words (I.list pass.old) row.now list.now }
-    ensures err { OnErr result (I.made pass.new < I.made pass.old + run_words (I.list pass.old) row.now list.now) }
-    ensures placed { OnOk result (run_new_words (I.list pass.new) row.now list.now ≡ 0) }
+    ensures made { I.made pass.new ≤ I.made pass.old + words_on (I.list pass.old) row.now (condition_of (under connective list.now)) }
+    ensures err { OnErr result (I.made pass.new < I.made pass.old + words_on (I.list pass.old) row.now (condition_of (under connective list.now))) }
+    ensures placed { OnOk result (new_words (I.list pass.new) row.now (condition_of (under connective list.now)) ≡ 0) }
     ensures kept { I.kept pass.new ≡ I.kept pass.old }
     ensures lent { I.lent pass.new ≡ I.lent pass.old }
 {
-    let mut place = literal(pass.words(), true);
+    let mut place = literal(pass.words(), connective.unit());
     for p in list {
         let next = pred(arena, pass, p, row)?;
-        place = and(arena, pass, place, next)?;
-    }
-    Ok(place)
-}
-
-/// The place of the disjunction of predicates on a row, taken from the left.
-#[cycle(pred)]
-fn some<N: Site, I: Interner<N>>(
-    arena: &Arena<N>,
-    pass: &mut I,
-    list: &[Pred],
-    row: &[u32],
-) -> Result<u32, Full>
-    requires fields { All (λ p. AreFittingOn (length row.now) (condition_of p)) list.now }
-    requires row { All (λ s. IsTrue (is_place_of (I.list pass.old) class.Term s)) row.now }
-    ensures truth { IfOk result (λ place. HasTruth (I.list pass.new) place (λ v r. list_any (λ p. on_row (I.list pass.old) (condition_of p) row.now v r) list.now)) }
-    ensures terms { IfOk result (λ place. TermsFrom (I.list pass.new) place (IsOnRowOfSome (I.list pass.old) row.now list.now)) }
-    ensures ops { IfOk result (λ place. ops_at (I.list pass.new) place ≤ run_ops list.now) }
-    ensures longer { IsPrefix (I.list pass.old) (I.list pass.new) }
-    ensures full { OnErr result (length (I.list pass.new) ≡ N.log.cap) }
-    ensures made { I.made pass.new ≤ I.made pass.old + run_words (I.list pass.old) row.now list.now }
-    ensures err { OnErr result (I.made pass.new < I.made pass.old + run_words (I.list pass.old) row.now list.now) }
-    ensures placed { OnOk result (run_new_words (I.list pass.new) row.now list.now ≡ 0) }
-    ensures kept { I.kept pass.new ≡ I.kept pass.old }
-    ensures lent { I.lent pass.new ≡ I.lent pass.old }
-{
-    let mut place = literal(pass.words(), false);
-    for p in list {
-        let next = pred(arena, pass, p, row)?;
-        place = or(arena, pass, place, next)?;
+        place = join(arena, pass, connective, place, next)?;
     }
     Ok(place)
 }
@@ -176,7 +147,7 @@ pub fn pred<N: Site, I: Interner<N>>(
             let place = pred(arena, pass, c, row)?;
             not(arena, pass, place)
         }
-        Pred::And(list) => every(arena, pass, list.as_slice(), row),
-        Pred::Or(list) => some(arena, pass, list.as_slice(), row),
+        Pred::And(list) => run(arena, pass, Connective::And, list.as_slice(), row),
+        Pred::Or(list) => run(arena, pass, Connective::Or, list.as_slice(), row),
     }
 }

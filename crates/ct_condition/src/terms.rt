@@ -11,7 +11,7 @@ ghost use Rattle.ct_word.specs.declared.values.Null.TheVariants as null;
 ghost use Rattle.ct_word.specs.declared.values.Term.TheVariants as term;
 ghost use Rattle.ct_query.specs.Bounds.{characters, literal_words, column_words};
 ghost use Rattle.ct_query.specs.Fields.{FitsFields};
-ghost use Rattle.ct_condition.specs.Terms.{TermsFrom};
+ghost use Rattle.ct_condition.specs.Terms.{TermsFrom, is_text_kind, text_term};
 ghost use Rattle.ct_condition.specs.Places.{has_place};
 
 use crate::interner::Interner;
@@ -61,51 +61,33 @@ fn value<N: Site, I: Interner<N>>(
 {
     match value {
         Value::Int(n) => number(arena, pass, *n),
-        Value::Text(t) => text_constant(arena, pass, t.as_str()),
+        Value::Text(t) => over_text(arena, pass, Kind::TextConstant, t.as_str()),
         Value::Other(k) => put(arena, pass, Kind::OtherValue, *k, 0),
     }
 }
 
-fn text_constant<N: Site, I: Interner<N>>(
+/// The place of a named null or of a text constant, whose word is over the place of its text.
+fn over_text<N: Site, I: Interner<N>>(
     arena: &Arena<N>,
     pass: &mut I,
+    kind: Kind,
     t: &str,
 ) -> Result<u32, Full>
-    ensures stands { IfOk result (λ place. StandsAt (I.list pass.new) place (IsTerm (term.Value (val.Text t.now)))) }
+    requires { IsTrue (is_text_kind kind) }
+    ensures stands { IfOk result (λ place. StandsAt (I.list pass.new) place (IsTerm (text_term kind t.now))) }
     ensures place { IfOk result (λ place. IsTrue (is_place_of (I.list pass.new) class.Term place)) }
     ensures small { IfOk result (λ place. place < 2 ^ 28) }
-    ensures terms { IfOk result (λ place. TermsFrom (I.list pass.new) place (λ u. u ≡ term.Value (val.Text t.now))) }
+    ensures terms { IfOk result (λ place. TermsFrom (I.list pass.new) place (λ u. u ≡ text_term kind t.now)) }
     ensures longer { IsPrefix (I.list pass.old) (I.list pass.new) }
     ensures full { OnErr result (length (I.list pass.new) ≡ N.log.cap) }
-    ensures known { (p : ℕ) → StandsAt (I.list pass.old) p (IsTerm (term.Value (val.Text t.now))) → IsOk result × (I.list pass.new ≡ I.list pass.old) × (I.made pass.new ≡ I.made pass.old) }
+    ensures known { (p : ℕ) → StandsAt (I.list pass.old) p (IsTerm (text_term kind t.now)) → IsOk result × (I.list pass.new ≡ I.list pass.old) × (I.made pass.new ≡ I.made pass.old) }
     ensures made { I.made pass.new ≤ I.made pass.old + (characters t.now + 2) }
     ensures err { OnErr result (I.made pass.new < I.made pass.old + (characters t.now + 2)) }
     ensures kept { I.kept pass.new ≡ I.kept pass.old }
     ensures lent { I.lent pass.new ≡ I.lent pass.old }
 {
     let place = text(arena, pass, t)?;
-    put(arena, pass, Kind::TextConstant, place, 0)
-}
-
-fn named_null<N: Site, I: Interner<N>>(
-    arena: &Arena<N>,
-    pass: &mut I,
-    name: &str,
-) -> Result<u32, Full>
-    ensures stands { IfOk result (λ place. StandsAt (I.list pass.new) place (IsTerm (term.Null (null.Named name.now)))) }
-    ensures place { IfOk result (λ place. IsTrue (is_place_of (I.list pass.new) class.Term place)) }
-    ensures small { IfOk result (λ place. place < 2 ^ 28) }
-    ensures terms { IfOk result (λ place. TermsFrom (I.list pass.new) place (λ t. t ≡ term.Null (null.Named name.now))) }
-    ensures longer { IsPrefix (I.list pass.old) (I.list pass.new) }
-    ensures full { OnErr result (length (I.list pass.new) ≡ N.log.cap) }
-    ensures known { (p : ℕ) → StandsAt (I.list pass.old) p (IsTerm (term.Null (null.Named name.now))) → IsOk result × (I.list pass.new ≡ I.list pass.old) × (I.made pass.new ≡ I.made pass.old) }
-    ensures made { I.made pass.new ≤ I.made pass.old + (characters name.now + 2) }
-    ensures err { OnErr result (I.made pass.new < I.made pass.old + (characters name.now + 2)) }
-    ensures kept { I.kept pass.new ≡ I.kept pass.old }
-    ensures lent { I.lent pass.new ≡ I.lent pass.old }
-{
-    let place = text(arena, pass, name)?;
-    put(arena, pass, Kind::NamedNull, place, 0)
+    put(arena, pass, kind, place, 0)
 }
 
 fn marked_null<N: Site, I: Interner<N>>(
@@ -127,7 +109,7 @@ fn marked_null<N: Site, I: Interner<N>>(
     ensures lent { I.lent pass.new ≡ I.lent pass.old }
 {
     match marked {
-        Null::Named(name) => named_null(arena, pass, name.as_str()),
+        Null::Named(name) => over_text(arena, pass, Kind::NamedNull, name.as_str()),
         Null::Fresh { session, number } => { put(arena, pass, Kind::FreshNull, *session, *number) }
     }
 }

@@ -306,8 +306,8 @@ pub fn value_at(alloc: Global, words: &[u64], place: u32, world: &World) -> Resu
     Ok(is_true(&worth))
 }
 
-/// What all places are worth in a world, where a column is worth `@0`. It goes over the pairs of the world and over the
-/// words once.
+/// Which places of conditions hold in a world, where a column is worth `@0`. It goes over the pairs of the world and over
+/// the words once, and keeps of each place only whether it holds.
 ///
 /// # Errors
 /// `Memory` where there is none for what the places are worth.

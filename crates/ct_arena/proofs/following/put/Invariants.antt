@@ -1,8 +1,7 @@
-use Rattle.std.proofs.Common.{◌≡◌, length, true, []}
-use Rattle.std.specs.Prelude.{Contains}
-use mathlib.Core.List.{IsPrefix}
+use Rattle.std.{proofs.Common.{◌≡◌, length, true, []}, specs.Prelude.Contains}
 use Rattle.ct_word.specs.Reading.{commits_of}
 use Rattle.ct_arena.specs.Own.{IsOwn, with_seen, with_guest}
+use mathlib.Core.List.{IsPrefix}
 use Rattle.ct_arena.proofs.following.put.Given as goal
 
 abbrev pub invariant-loop-place : goal.invariant-loop-place

@@ -1,10 +1,7 @@
 use Rattle.std.proofs.Common.{◌≡◌, ◌<◌, ◌≤◌, [], ◌∷◌, ◌++◌, length, ap, sym, subst, ◌∙◌, arith, length-append}
-use mathlib.Core.List.{IsPrefix}
 use Rattle.ct_word.specs.Reading.{commits_of}
-use Rattle.ct_arena.specs.Counts.{IsLog}
-use Rattle.ct_arena.specs.Own.{IsOwn, with_seen}
-use Rattle.ct_arena.proofs.Sole.{prefix_push}
-use Rattle.ct_arena.proofs.Told.{IsGrown, read_found, read_none, looked_full}
+use Rattle.ct_arena.{specs.Counts.IsLog, specs.Own.{IsOwn, with_seen}, proofs.Sole.prefix_push, proofs.Told.{IsGrown, read_found, read_none, looked_full}}
+use mathlib.Core.List.{IsPrefix}
 use Rattle.ct_arena.proofs.following.read_on.Goals as goal
 
 pub returns-then-found-eq0-clause-whole : goal.returns-then-found-eq0-clause-whole

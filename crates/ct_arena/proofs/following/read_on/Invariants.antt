@@ -1,10 +1,7 @@
-use Rattle.std.proofs.Common.{◌≡◌, length, true, Some}
-use Rattle.std.specs.Prelude.{[]}
-use mathlib.Core.List.{IsPrefix}
+use Rattle.std.{proofs.Common.{◌≡◌, length, true, Some}, specs.Prelude.{[]}}
 use Rattle.ct_word.specs.Reading.{commits_of}
-use Rattle.ct_arena.specs.Counts.{IsLog}
-use Rattle.ct_arena.specs.declared.tally.Tally.{Tally}
-use Rattle.ct_arena.specs.Own.{IsOwn, with_seen}
+use Rattle.ct_arena.{specs.Counts.IsLog, specs.declared.tally.Tally.Tally, specs.Own.{IsOwn, with_seen}}
+use mathlib.Core.List.{IsPrefix}
 use Rattle.ct_arena.proofs.following.read_on.Given as goal
 
 abbrev pub invariant-loop-place : goal.invariant-loop-place

@@ -1,9 +1,7 @@
-use Rattle.std.proofs.Common.{◌≡◌, length, true}
-use Rattle.std.specs.Prelude.{[], vec_capacity}
-use mathlib.Core.List.{IsPrefix}
+use Rattle.std.{proofs.Common.{◌≡◌, length, true}, specs.Prelude.{[], vec_capacity}}
 use Rattle.ct_word.specs.Reading.{commits_of}
-use Rattle.ct_arena.specs.Counts.{IsLog}
-use Rattle.ct_arena.specs.Own.{with_seen}
+use Rattle.ct_arena.{specs.Counts.IsLog, specs.Own.with_seen}
+use mathlib.Core.List.{IsPrefix}
 use Rattle.ct_arena.proofs.following.read_rest.Given as goal
 
 abbrev pub invariant-loop-place : goal.invariant-loop-place

@@ -1,6 +1,5 @@
 use Rattle.std.proofs.Common.{◌≡◌, [], length, ap, sym, subst, ◌∙◌}
-use Rattle.ct_arena.specs.Sharing.{MayPut}
-use Rattle.ct_arena.proofs.Steps.{puts}
+use Rattle.ct_arena.{specs.Sharing.MayPut, proofs.Steps.puts}
 use Rattle.ct_arena.proofs.sharing.exchange.Goals as goal
 
 pub compare_exchange-requires : goal.compare_exchange-requires

@@ -1,5 +1,4 @@
-use Rattle.std.proofs.Common.{◌≡◌, ◌++◌, replicate}
-use Rattle.std.specs.Prelude.{vec_capacity}
+use Rattle.std.{proofs.Common.{◌≡◌, ◌++◌, replicate}, specs.Prelude.vec_capacity}
 use Rattle.ct_arena.proofs.sharing.fill_words.Given as goal
 
 abbrev pub invariant-loop : goal.invariant-loop

@@ -1,6 +1,5 @@
 use Rattle.std.proofs.Common.{◌≡◌, ◌++◌, ◌-◌, replicate, ap, ◌∙◌, arith}
-use Rattle.ct_arena.specs.Counts.{opening}
-use Rattle.ct_arena.proofs.Making.{makes}
+use Rattle.ct_arena.{specs.Counts.opening, proofs.Making.makes}
 use Rattle.ct_arena.proofs.sharing.table.Goals as goal
 
 pub of_words-requires : goal.of_words-requires

@@ -1,6 +1,5 @@
 use Rattle.std.proofs.Common.{◌<◌, ap, ◌∙◌, subst}
-use Rattle.ct_arena.specs.Sharing.{IsSettled}
-use Rattle.ct_arena.proofs.Steps.{enters, settles}
+use Rattle.ct_arena.{specs.Sharing.IsSettled, proofs.Steps.{enters, settles}}
 use Rattle.ct_arena.proofs.sharing.take_in.Goals as goal
 
 pub join_seat-requires : goal.join_seat-requires

@@ -1,14 +1,9 @@
-use Rattle.std.proofs.Common.{◌∙◌, true, arith, get_or, refl, subst, inl}
-use Rattle.std.specs.Prelude.{IsTrue}
-use Rattle.std.proofs.lemmas.List.Elements.{All-get_or}
-use Rattle.ct_word.specs.declared.kinds.Class.TheVariants as class
-use Rattle.ct_word.specs.WellFormed.{is_place_of}
-use Rattle.ct_word.proofs.Prefixes.{prefix_same, prefix_of_prefix}
-use Rattle.ct_condition.specs.Truth.{HasTruth, truth_at}
-use Rattle.ct_condition.proofs.Truths.{itself}
-use Rattle.ct_condition.proofs.Runs.{truth_in_prefix, all_more}
-use Rattle.ct_condition.proofs.Denied.{below_literal}
+use Rattle.std.{proofs.Common.{◌∙◌, true, arith, get_or, refl, subst, inl}, specs.Prelude.IsTrue, proofs.lemmas.List.Elements.All-get_or}
+use Rattle.ct_word.{specs.WellFormed.is_place_of, proofs.Prefixes.{prefix_same, prefix_of_prefix}}
+use Rattle.ct_condition.{specs.Truth.{HasTruth, truth_at}, proofs.Truths.itself, proofs.Runs.{truth_in_prefix, one_more}, proofs.Denied.below_literal}
 use Rattle.ct_condition.proofs.Reached.{all_below}
+use Rattle.ct_word.specs.declared.kinds.Class.TheVariants as class
+use Rattle.ct_word.specs.declared.connectives.Connective.TheVariants as connective
 use Rattle.ct_condition.proofs.conditions.all.Goals as goal
 
 pub loop-c-preserved : goal.loop-c-preserved
@@ -20,7 +15,7 @@ loop-c-preserved g c =
     let place = All-get_or (λ p. IsTrue (is_place_of first class.Cond p)) c.args.list.now c.loop-c.c-index 0 c.loop-c-test.true c.requires in
     record {
       truth =
-          all_more (truth_at first) c.args.list.now c.loop-c.c-index 0 c.loop-c-test.true old old new c.loop-c.place item c.in_ok-place.place (prefix_same old)
+          one_more connective.And (truth_at first) c.args.list.now c.loop-c.c-index 0 c.loop-c-test.true old old new c.loop-c.place item c.in_ok-place.place (prefix_same old)
           (truth_in_prefix first old item (truth_at first item) c.loop-c.invariant.longer (itself first item c.words.ensures.small place))
           c.loop-c.invariant.truth c.in_ok-place.ensures.truth;
       terms =

@@ -1,8 +1,7 @@
 use Rattle.std.proofs.Common.{◌≡◌, ◌≤◌, ◌+◌, take}
-use mathlib.Core.List.{IsPrefix}
-use Rattle.ct_condition.specs.Truth.{HasTruth, all_at}
+use Rattle.ct_condition.{specs.Truth.{HasTruth, all_at}, specs.Terms.{TermsFrom, BelowSome}}
 use Rattle.ct_word.specs.WellFormed.{IsWellFormed}
-use Rattle.ct_condition.specs.Terms.{TermsFrom, BelowSome}
+use mathlib.Core.List.{IsPrefix}
 use Rattle.ct_condition.proofs.conditions.all.Given as goal
 
 abbrev pub invariant-loop-c : goal.invariant-loop-c

@@ -1,38 +1,21 @@
-use Rattle.std.proofs.Common.{◌<◌, ◌≤◌, ◌^◌, ◌∙◌, Some, ap, sym}
-use Rattle.std.proofs.lemmas.Result.{IfOk-weaker}
-use Rattle.std.specs.Prelude.{IsTrue, ◌⊎◌}
-use Rattle.ct_word.specs.declared.kinds.Kind.TheVariants as kind
-use Rattle.ct_word.specs.declared.kinds.Class.TheVariants as class
-use Rattle.ct_word.specs.Reading.{IsTerm, by_kind, meanings}
-use Rattle.ct_word.specs.Stands.{StandsAt}
-use Rattle.ct_word.specs.WellFormed.{is_place_of}
-use Rattle.ct_condition.specs.Terms.{TermsFrom, BelowEither}
+use Rattle.std.{proofs.Common.{◌∙◌, ap, sym}, proofs.lemmas.Result.IfOk-weaker}
 use Rattle.ct_word.proofs.Prefixes.{place_within}
-use Rattle.ct_condition.specs.Folding.{folded_eq}
-use Rattle.ct_condition.specs.Truth.{HasTruth, equal_at, ops_at}
-use Rattle.ct_condition.proofs.Pairs.{together, equal_put}
-use Rattle.ct_condition.proofs.Reached.{both_of, put_either}
-use Rattle.ct_condition.proofs.Denied.{below_folded_eq}
+use Rattle.ct_condition.{specs.Folding.folded_eq, proofs.Denied.below_folded_eq, proofs.Pairs.{together, equal_put}, proofs.Reached.{both_of, put_either}}
 use Rattle.ct_condition.proofs.Ops.{put_eq, eq_folded}
+use Rattle.ct_word.specs.declared.kinds.Class.TheVariants as class
 use Rattle.ct_condition.proofs.conditions.eq.Goals as goal
 
 pub returns-in-None-clause-truth : goal.returns-in-None-clause-truth
 returns-in-None-clause-truth g c =
-    let old = g.I.Interner.list c.args.pass.now in
-    let new = g.I.Interner.list c.pair.new.pass in
-    together c.pair.result
-    (λ place. StandsAt new place (by_kind (Some kind.Equal) (meanings new) c.args.s c.args.t) ⊎ StandsAt new place (by_kind (Some kind.Equal) (meanings new) c.args.t c.args.s))
-    (λ place. IsTrue (is_place_of new class.Cond place)) (λ place. place < 2 ^ 28) (λ place. HasTruth new place (equal_at old c.args.s c.args.t))
-    (λ place stands is small. equal_put old new c.pair.ensures.longer place is small c.args.s c.args.t c.requires.left c.requires.right stands)
+    together c.pair.result _ _ _ _
+    (λ place stands is small. equal_put (g.I.Interner.list c.args.pass.now) (g.I.Interner.list c.pair.new.pass) c.pair.ensures.longer place is small c.args.s c.args.t c.requires.left c.requires.right stands)
     c.pair.ensures.stands c.pair.ensures.place c.pair.ensures.small
 
 pub returns-in-None-clause-terms : goal.returns-in-None-clause-terms
 returns-in-None-clause-terms g c =
     let old = g.I.Interner.list c.args.pass.now in
-    let new = g.I.Interner.list c.pair.new.pass in
-    both_of c.pair.result (λ place. IsTrue (is_place_of new class.Cond place)) (λ place. TermsFrom new place (λ t. StandsAt new place (IsTerm t) ⊎ BelowEither new c.args.s c.args.t t))
-    (λ place. TermsFrom new place (BelowEither old c.args.s c.args.t))
-    (λ place is from. put_either old new c.pair.ensures.longer c.pair.ensures.formed place is c.args.s c.args.t
+    both_of c.pair.result _ _ _
+    (λ place is from. put_either old (g.I.Interner.list c.pair.new.pass) c.pair.ensures.longer c.pair.ensures.formed place is c.args.s c.args.t
     (place_within old class.Term c.args.s c.requires.left) (place_within old class.Term c.args.t c.requires.right) from)
     c.pair.ensures.place c.pair.ensures.terms
 
@@ -43,11 +26,8 @@ returns-in-Some-clause-terms g c =
 
 pub returns-in-None-clause-ops : goal.returns-in-None-clause-ops
 returns-in-None-clause-ops g c =
-    let old = g.I.Interner.list c.args.pass.now in
-    let new = g.I.Interner.list c.pair.new.pass in
-    IfOk-weaker c.pair.result
-    (λ place. StandsAt new place (by_kind (Some kind.Equal) (meanings new) c.args.s c.args.t) ⊎ StandsAt new place (by_kind (Some kind.Equal) (meanings new) c.args.t c.args.s))
-    (λ place. ops_at new place ≤ 1) (λ place stands. put_eq old new c.pair.ensures.longer place c.args.s c.args.t stands) c.pair.ensures.stands
+    IfOk-weaker c.pair.result _ _
+    (λ place stands. put_eq (g.I.Interner.list c.args.pass.now) (g.I.Interner.list c.pair.new.pass) c.pair.ensures.longer place c.args.s c.args.t stands) c.pair.ensures.stands
 
 pub returns-in-Some-clause-ops : goal.returns-in-Some-clause-ops
 returns-in-Some-clause-ops g c =

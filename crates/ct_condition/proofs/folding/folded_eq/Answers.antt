@@ -1,6 +1,5 @@
 use Rattle.std.proofs.Common.{sym, true, false}
-use Rattle.ct_condition.specs.Truth.{equal_at}
-use Rattle.ct_condition.proofs.Truths.{in_place, true_at, false_at, equal_itself, constants_differ}
+use Rattle.ct_condition.{specs.Truth.equal_at, proofs.Truths.{in_place, true_at, false_at, equal_itself, constants_differ}}
 use Rattle.ct_condition.proofs.folding.folded_eq.Goals as goal
 
 pub returns-then-s-t-clause-truth : goal.returns-then-s-t-clause-truth

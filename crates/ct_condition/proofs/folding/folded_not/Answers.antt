@@ -1,7 +1,5 @@
-use Rattle.std.proofs.Common.{not}
-use Rattle.std.proofs.lemmas.Option.{IfSome_then}
-use Rattle.ct_condition.specs.Truth.{HasTruth, Negates, truth_at}
-use Rattle.ct_condition.proofs.Truths.{not_true_at, not_false_at, negation_back}
+use Rattle.std.{proofs.Common.not, proofs.lemmas.Option.IfSome_then}
+use Rattle.ct_condition.{specs.Truth.{HasTruth, Negates, truth_at}, proofs.Truths.{not_true_at, not_false_at, negation_back}}
 use Rattle.ct_condition.proofs.folding.folded_not.Goals as goal
 
 pub returns-then-c-eq-TRUE_PLACE-clause-truth : goal.returns-then-c-eq-TRUE_PLACE-clause-truth

@@ -1,6 +1,5 @@
 use Rattle.std.proofs.Common.{sym, ◌∙◌, ap, subst, Some}
-use Rattle.ct_condition.specs.Truth.{Negates}
-use Rattle.ct_condition.proofs.Truths.{negation}
+use Rattle.ct_condition.{specs.Truth.Negates, proofs.Truths.negation}
 use Rattle.ct_condition.proofs.folding.negated.Goals as goal
 
 pub returns-in-Not-clause-negates : goal.returns-in-Not-clause-negates

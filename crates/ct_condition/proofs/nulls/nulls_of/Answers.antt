@@ -1,6 +1,5 @@
 use Rattle.std.proofs.Common.{◌≡◌, ◌-◌, suc, drop, subst, arith}
-use Rattle.ct_condition.specs.Nulls.{AreNulls}
-use Rattle.ct_condition.proofs.Marks.{nulls_turn}
+use Rattle.ct_condition.{specs.Nulls.AreNulls, proofs.Marks.nulls_turn}
 use Rattle.ct_condition.proofs.nulls.nulls_of.Goals as goal
 
 pub loop-next-preserved : goal.loop-next-preserved

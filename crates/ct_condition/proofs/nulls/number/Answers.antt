@@ -1,5 +1,4 @@
-use Rattle.std.proofs.Common.{◌≡◌, ◌+◌, ◌++◌, ◌∷◌, ℕ, suc, Some, ap, sym, ◌∙◌, arith, append_assoc}
-use Rattle.std.specs.Prelude.{encode_utf8}
+use Rattle.std.{proofs.Common.{◌≡◌, ◌+◌, ◌++◌, ◌∷◌, ℕ, suc, Some, ap, sym, ◌∙◌, arith, append_assoc}, specs.Prelude.encode_utf8}
 use Rattle.ct_word.specs.WordAt.{backwards}
 use Rattle.ct_condition.proofs.Marks.{grows_put, longer_there, put_found}
 use Rattle.ct_condition.proofs.nulls.number.Goals as goal

@@ -1,9 +1,5 @@
-use Rattle.std.proofs.Common.{◌∙◌, ap, subst, sym, arith}
-use Rattle.std.specs.Prelude.{IsTrue, Some}
-use Rattle.std.proofs.lemmas.Option.{slice_get_within}
-use Rattle.ct_word.specs.WellFormed.{is_plain_word}
-use Rattle.ct_word.proofs.Commits.{packed_plain}
-use Rattle.ct_word.proofs.Stands.{stands_for_packed, class_of_packed}
+use Rattle.std.{proofs.Common.{◌∙◌, ap, subst, sym, arith}, specs.Prelude.{IsTrue, Some}, proofs.lemmas.Option.slice_get_within}
+use Rattle.ct_word.{specs.WellFormed.is_plain_word, proofs.Commits.packed_plain, proofs.Stands.{stands_for_packed, class_of_packed}}
 use Rattle.ct_condition.proofs.Reached.{under_word}
 use Rattle.ct_condition.proofs.packed.put.Goals as goal
 

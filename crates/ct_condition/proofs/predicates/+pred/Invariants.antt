@@ -1,36 +1,19 @@
 use Rattle.std.proofs.Common.{◌≡◌, ◌≤◌, ◌+◌, ◌*◌, take}
-use Rattle.std.specs.List.{list_all, list_any}
-use mathlib.Core.List.{IsPrefix}
 use Rattle.ct_query.specs.Pred.{condition_of}
-use Rattle.ct_condition.specs.Truth.{HasTruth, ops_at}
-use Rattle.ct_condition.specs.Rows.{on_row}
-use Rattle.ct_condition.specs.Runs.{run_words, run_new_words, run_ops}
-use Rattle.ct_condition.proofs.Depth.{parts_of, parts_of_all}
-use Rattle.ct_condition.specs.Terms.{TermsFrom, IsOnRowOfSome}
+use Rattle.ct_condition.{specs.Truth.{HasTruth, ops_at}, specs.Rows.on_row, specs.Runs.{run_words, run_new_words, run_ops}, specs.Folding.unit_place}
+use Rattle.ct_condition.{proofs.Runs.list_under, proofs.Depth.{parts_of, parts_of_all}, specs.Terms.{TermsFrom, IsOnRowOfSome}}
+use mathlib.Core.List.{IsPrefix}
 use Rattle.ct_condition.proofs.predicates.+pred.Given as goal
 
-abbrev pub invariant-every-loop-p : goal.invariant-every-loop-p
-invariant-every-loop-p g l = record {
-  truth : HasTruth (g.I.Interner.list l.pass) l.place (λ v r. list_all (λ p. on_row (g.I.Interner.list l.fn.pass) (condition_of p) l.row v r) (take l.p-index l.list));
+abbrev pub invariant-run-loop-p : goal.invariant-run-loop-p
+invariant-run-loop-p g l = record {
+  truth : HasTruth (g.I.Interner.list l.pass) l.place (λ v r. list_under l.connective (λ p. on_row (g.I.Interner.list l.fn.pass) (condition_of p) l.row v r) (take l.p-index l.list));
   terms : TermsFrom (g.I.Interner.list l.pass) l.place (IsOnRowOfSome (g.I.Interner.list l.fn.pass) l.row l.list);
   ops : ops_at (g.I.Interner.list l.pass) l.place ≤ run_ops (take l.p-index l.list);
   longer : IsPrefix (g.I.Interner.list l.fn.pass) (g.I.Interner.list l.pass);
   made : g.I.Interner.made l.pass ≤ g.I.Interner.made l.fn.pass + run_words (g.I.Interner.list l.fn.pass) l.row (take l.p-index l.list);
   placed : run_new_words (g.I.Interner.list l.pass) l.row (take l.p-index l.list) ≡ 0;
-  first : l.p-index ≡ 0 → l.place ≡ 0;
-  kept : g.I.Interner.kept l.pass ≡ g.I.Interner.kept l.fn.pass;
-  lent : g.I.Interner.lent l.pass ≡ g.I.Interner.lent l.fn.pass;
-}
-
-abbrev pub invariant-some-loop-p : goal.invariant-some-loop-p
-invariant-some-loop-p g l = record {
-  truth : HasTruth (g.I.Interner.list l.pass) l.place (λ v r. list_any (λ p. on_row (g.I.Interner.list l.fn.pass) (condition_of p) l.row v r) (take l.p-index l.list));
-  terms : TermsFrom (g.I.Interner.list l.pass) l.place (IsOnRowOfSome (g.I.Interner.list l.fn.pass) l.row l.list);
-  ops : ops_at (g.I.Interner.list l.pass) l.place ≤ run_ops (take l.p-index l.list);
-  longer : IsPrefix (g.I.Interner.list l.fn.pass) (g.I.Interner.list l.pass);
-  made : g.I.Interner.made l.pass ≤ g.I.Interner.made l.fn.pass + run_words (g.I.Interner.list l.fn.pass) l.row (take l.p-index l.list);
-  placed : run_new_words (g.I.Interner.list l.pass) l.row (take l.p-index l.list) ≡ 0;
-  first : l.p-index ≡ 0 → l.place ≡ 1;
+  first : l.p-index ≡ 0 → l.place ≡ unit_place l.connective;
   kept : g.I.Interner.kept l.pass ≡ g.I.Interner.kept l.fn.pass;
   lent : g.I.Interner.lent l.pass ≡ g.I.Interner.lent l.fn.pass;
 }
@@ -38,8 +21,5 @@ invariant-some-loop-p g l = record {
 abbrev pub decreases-pred : goal.decreases-pred
 decreases-pred g l = 2 * parts_of l.p.now
 
-abbrev pub decreases-every : goal.decreases-every
-decreases-every g l = 2 * parts_of_all l.list.now + 1
-
-abbrev pub decreases-some : goal.decreases-some
-decreases-some g l = 2 * parts_of_all l.list.now + 1
+abbrev pub decreases-run : goal.decreases-run
+decreases-run g l = 2 * parts_of_all l.list.now + 1

@@ -1,13 +1,6 @@
-use Rattle.std.proofs.Common.{◌≡◌, sym, arith}
-use Rattle.std.proofs.lemmas.Result.{IfOk-weaker}
-use Rattle.ct_word.specs.Reading.{IsTerm}
-use Rattle.ct_word.specs.Stands.{StandsAt}
-use Rattle.ct_condition.specs.Rows.{WorthOn, term_words}
-use Rattle.ct_condition.proofs.OnRows.{cell_worth, cell_place, term_worth}
+use Rattle.std.{proofs.Common.{sym, arith}, proofs.lemmas.Result.IfOk-weaker}
+use Rattle.ct_condition.{proofs.OnRows.{cell_worth, cell_place, term_worth}, proofs.Pasts.past_fits, proofs.Named.{cell_terms, own_terms}}
 use Rattle.ct_condition.proofs.Placed.{cell_zero, placed_zero, place_from, term_made, term_less}
-use Rattle.ct_condition.proofs.Pasts.{past_fits}
-use Rattle.ct_condition.specs.Terms.{TermsFrom, IsTermOnRow}
-use Rattle.ct_condition.proofs.Named.{cell_terms, own_terms}
 use Rattle.ct_condition.proofs.predicates.place_on.Goals as goal
 
 pub returns-in-Some-clause-worth : goal.returns-in-Some-clause-worth
@@ -18,10 +11,8 @@ returns-in-Some-clause-place g c = cell_place (g.I.Interner.list c.args.pass.now
 
 pub returns-in-None-clause-worth : goal.returns-in-None-clause-worth
 returns-in-None-clause-worth g c =
-    let old = g.I.Interner.list c.args.pass.now in
-    let new = g.I.Interner.list c.term.new.pass in
-    IfOk-weaker c.term.result (λ place. StandsAt new place (IsTerm c.args.t.now)) (λ place. WorthOn old new c.args.t.now c.args.row.now place)
-    (λ place stands. term_worth old new c.args.row.now c.args.t.now place (sym c.in-None.ensures) stands) c.term.ensures.stands
+    IfOk-weaker c.term.result _ _
+    (λ place stands. term_worth (g.I.Interner.list c.args.pass.now) (g.I.Interner.list c.term.new.pass) c.args.row.now c.args.t.now place (sym c.in-None.ensures) stands) c.term.ensures.stands
 
 pub term-requires : goal.term-requires
 term-requires g c = record { fields = past_fits c.args.row.now c.args.t.now (sym c.in-None.ensures) c.requires.fields }
@@ -31,10 +22,8 @@ returns-in-Some-clause-terms g c = cell_terms (g.I.Interner.list c.args.pass.now
 
 pub returns-in-None-clause-terms : goal.returns-in-None-clause-terms
 returns-in-None-clause-terms g c =
-    let old = g.I.Interner.list c.args.pass.now in
-    let new = g.I.Interner.list c.term.new.pass in
-    IfOk-weaker c.term.result (λ place. TermsFrom new place (λ t. t ≡ c.args.t.now)) (λ place. TermsFrom new place (IsTermOnRow old c.args.row.now c.args.t.now))
-    (λ place from. own_terms old new c.args.row.now c.args.t.now place (sym c.in-None.ensures) from) c.term.ensures.terms
+    IfOk-weaker c.term.result _ _
+    (λ place from. own_terms (g.I.Interner.list c.args.pass.now) (g.I.Interner.list c.term.new.pass) c.args.row.now c.args.t.now place (sym c.in-None.ensures) from) c.term.ensures.terms
 
 pub returns-in-Some-clause-made : goal.returns-in-Some-clause-made
 returns-in-Some-clause-made g c = omega arith
@@ -55,6 +44,4 @@ returns-in-None-clause-err g c =
 pub returns-in-None-clause-placed : goal.returns-in-None-clause-placed
 returns-in-None-clause-placed g c =
     let new = g.I.Interner.list c.term.new.pass in
-    let t = c.args.t.now in
-    IfOk-weaker c.term.result (λ place. StandsAt new place (IsTerm t)) (λ place. term_words new c.args.row.now t ≡ 0)
-    (λ place stands. placed_zero new c.args.row.now t (place_from new place t stands)) c.term.ensures.stands
+    IfOk-weaker c.term.result _ _ (λ place stands. placed_zero new c.args.row.now c.args.t.now (place_from new place c.args.t.now stands)) c.term.ensures.stands

@@ -1,40 +1,25 @@
-use Rattle.std.proofs.lemmas.Result.{IfOk-weaker, on_err_weaker, err_from_is_err_and}
-use Rattle.std.proofs.Common.{◌≡◌, arith}
+use Rattle.std.{proofs.lemmas.Result.{IfOk-weaker, on_err_weaker, err_from_is_err_and}, proofs.Common.{◌≡◌, arith}}
 use Rattle.ct_word.proofs.Prefixes.{prefix_of_prefix, place_in_prefix, place_within}
-use Rattle.ct_condition.proofs.Placed.{term_fewer, on_ok}
-use Rattle.ct_word.specs.Condition.{Same}
-use Rattle.ct_condition.specs.Truth.{HasTruth, equal_at}
-use Rattle.ct_condition.specs.Rows.{on_row}
-use Rattle.ct_condition.proofs.OnRows.{equal_on_row}
+use Rattle.ct_condition.{proofs.Placed.{term_fewer, on_ok}, proofs.OnRows.equal_on_row, proofs.Reached.formed_before, proofs.Named.equal_terms}
 use Rattle.ct_word.specs.declared.kinds.Class.TheVariants as class
-use Rattle.ct_condition.specs.Terms.{TermsFrom, BelowEither, IsOnRow}
-use Rattle.ct_condition.proofs.Reached.{formed_before}
-use Rattle.ct_condition.proofs.Named.{equal_terms}
 use Rattle.ct_condition.proofs.predicates.same.Goals as goal
 
 pub returns-clause-truth : goal.returns-clause-truth
 returns-clause-truth g c =
-    let first = g.I.Interner.list c.args.pass.now in
-    let mid = g.I.Interner.list c.place_on.new.pass in
-    let last = g.I.Interner.list c.place_on-2.new.pass in
-    let new = g.I.Interner.list c.eq.new.pass in
-    let left = c.in_ok-left.left in
-    let right = c.in_ok-right.right in
-    IfOk-weaker c.eq.result (λ place. HasTruth new place (equal_at last left right)) (λ place. HasTruth new place (on_row first (Same c.args.s.now c.args.t.now) c.args.row.now))
-    (λ place h. equal_on_row first mid last new c.args.row.now c.args.s.now c.args.t.now left right place c.in_ok-left.ensures.longer c.in_ok-right.ensures.longer c.requires.row
+    IfOk-weaker c.eq.result _ _
+    (λ place h. equal_on_row (g.I.Interner.list c.args.pass.now) (g.I.Interner.list c.place_on.new.pass) (g.I.Interner.list c.place_on-2.new.pass) (g.I.Interner.list c.eq.new.pass)
+    c.args.row.now c.args.s.now c.args.t.now c.in_ok-left.left c.in_ok-right.right place c.in_ok-left.ensures.longer c.in_ok-right.ensures.longer c.requires.row
     c.in_ok-left.ensures.worth c.in_ok-left.ensures.place c.in_ok-right.ensures.worth h) c.eq.ensures.truth
 
 pub returns-clause-terms : goal.returns-clause-terms
 returns-clause-terms g c =
-    let first = g.I.Interner.list c.args.pass.now in
     let mid = g.I.Interner.list c.place_on.new.pass in
     let last = g.I.Interner.list c.place_on-2.new.pass in
     let new = g.I.Interner.list c.eq.new.pass in
     let left = c.in_ok-left.left in
-    let right = c.in_ok-right.right in
-    IfOk-weaker c.eq.result (λ place. TermsFrom new place (BelowEither last left right)) (λ place. TermsFrom new place (IsOnRow first c.args.row.now (Same c.args.s.now c.args.t.now)))
-    (λ place from. equal_terms first mid last new c.args.row.now c.in_ok-left.ensures.longer c.in_ok-right.ensures.longer (formed_before last new c.eq.ensures.longer c.eq.ensures.formed)
-    c.requires.row c.args.s.now c.args.t.now left right place (place_within mid class.Term left c.in_ok-left.ensures.place) c.in_ok-left.ensures.terms c.in_ok-right.ensures.terms from) c.eq.ensures.terms
+    IfOk-weaker c.eq.result _ _
+    (λ place from. equal_terms (g.I.Interner.list c.args.pass.now) mid last new c.args.row.now c.in_ok-left.ensures.longer c.in_ok-right.ensures.longer (formed_before last new c.eq.ensures.longer c.eq.ensures.formed)
+    c.requires.row c.args.s.now c.args.t.now left c.in_ok-right.right place (place_within mid class.Term left c.in_ok-left.ensures.place) c.in_ok-left.ensures.terms c.in_ok-right.ensures.terms from) c.eq.ensures.terms
 
 pub eq-requires-clause-left : goal.eq-requires-clause-left
 eq-requires-clause-left g c =

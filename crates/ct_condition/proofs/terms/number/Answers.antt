@@ -1,18 +1,12 @@
-use Rattle.std.proofs.Common.{◌≡◌, ◌+◌, ◌*◌, ◌/◌, ◌%◌, ◌∙◌, ap, sym, subst, Some, arith, of_z, w64}
-use Rattle.std.proofs.lemmas.Int.{to_z-of_z}
-use Rattle.std.proofs.lemmas.Result.{IfOk-weaker}
+use Rattle.std.{proofs.Common.{◌≡◌, ◌+◌, ◌*◌, ◌/◌, ◌%◌, ◌∙◌, ap, sym, subst, Some, arith, of_z, w64}, proofs.lemmas.Int.to_z-of_z}
+use Rattle.std.{proofs.lemmas.Result.IfOk-weaker, proofs.lemmas.Bool.false≢true}
+use Rattle.ct_word.{specs.Reading.{IsHigh, IsTerm, as_high, int_of_bits}, specs.Stands.StandsAt, proofs.Prefixes.place_within}
+use Rattle.ct_condition.{proofs.Known.{high_there, number_there}, proofs.Fields.{kept, bits_of_number, pieces}, specs.Terms.TermsFrom}
+use Rattle.ct_condition.proofs.Reached.{formed_before, both_of, only_term, under_none, under_one, none_under, terms_before}
 use Rattle.ct_word.specs.declared.kinds.Class.TheVariants as class
 use Rattle.ct_word.specs.declared.values.Value.TheVariants as val
 use Rattle.ct_word.specs.declared.values.Term.TheVariants as term
-use Rattle.ct_word.specs.Reading.{IsHigh, IsTerm, as_high, int_of_bits}
-use Rattle.ct_word.specs.Stands.{StandsAt}
-use Rattle.std.proofs.lemmas.Bool.{false≢true}
-use Rattle.ct_condition.proofs.Known.{high_there, number_there}
-use Rattle.ct_condition.proofs.Fields.{kept, bits_of_number, pieces}
 use Rattle.ct_word.specs.declared.kinds.Kind.TheVariants as kind
-use Rattle.ct_word.proofs.Prefixes.{place_within}
-use Rattle.ct_condition.specs.Terms.{TermsFrom}
-use Rattle.ct_condition.proofs.Reached.{formed_before, both_of, only_term, under_none, under_one, none_under, terms_before}
 use Rattle.ct_condition.proofs.terms.number.Goals as goal
 
 pub returns-clause-stands : goal.returns-clause-stands

@@ -1,12 +1,8 @@
 use Rattle.std.proofs.Common.{◌≡◌, rules, subst}
+use Rattle.ct_word.{specs.Reading.IsTerm, specs.Stands.StandsAt}
+use Rattle.ct_condition.{proofs.Reached.{formed_before, as_named, both_of, only_term, under_none}, proofs.Known.column_there, proofs.Placed.place_found}
 use Rattle.ct_word.specs.declared.kinds.Kind.TheVariants as kind
 use Rattle.ct_word.specs.declared.values.Term.TheVariants as term
-use Rattle.ct_word.specs.Reading.{IsTerm}
-use Rattle.ct_word.specs.Stands.{StandsAt}
-use Rattle.ct_condition.specs.Terms.{TermsFrom}
-use Rattle.ct_condition.proofs.Reached.{formed_before, as_named, both_of, only_term, under_none}
-use Rattle.ct_condition.proofs.Known.{column_there}
-use Rattle.ct_condition.proofs.Placed.{place_found}
 use Rattle.ct_condition.proofs.terms.term.Goals as goal
 
 pub returns-in-Null-clause-terms : goal.returns-in-Null-clause-terms
@@ -18,9 +14,7 @@ returns-in-Value-clause-terms g c = as_named (g.I.Interner.list c.value.new.pass
 pub returns-in-Column-clause-terms : goal.returns-in-Column-clause-terms
 returns-in-Column-clause-terms g c =
     let new = g.I.Interner.list c.put.new.pass in
-    let t = c.args.term.now in
-    both_of c.put.result (λ p. StandsAt new p (IsTerm t)) _ (λ p. TermsFrom new p (λ u. u ≡ t))
-    (λ p stands from. only_term new p kind.Column 0 0 t (under_none new) stands from) (Prim.search rules) c.put.ensures.terms
+    both_of c.put.result _ _ _ (λ p stands from. only_term new p kind.Column 0 0 (c.args.term.now) (under_none new) stands from) (Prim.search rules) c.put.ensures.terms
 
 pub returns-in-Column-clause-known : goal.returns-in-Column-clause-known
 returns-in-Column-clause-known g c e =

@@ -1,12 +1,9 @@
 use Rattle.std.proofs.Common.{◌≡◌, rules, subst}
+use Rattle.ct_word.{specs.Reading.IsTerm, specs.Stands.StandsAt}
+use Rattle.ct_condition.{proofs.Reached.{formed_before, as_named, as_stands, both_of, only_term, under_none}, proofs.Known.other_there}
 use Rattle.ct_word.specs.declared.kinds.Kind.TheVariants as kind
 use Rattle.ct_word.specs.declared.values.Value.TheVariants as val
 use Rattle.ct_word.specs.declared.values.Term.TheVariants as term
-use Rattle.ct_word.specs.Reading.{IsTerm}
-use Rattle.ct_word.specs.Stands.{StandsAt}
-use Rattle.ct_condition.specs.Terms.{TermsFrom}
-use Rattle.ct_condition.proofs.Reached.{formed_before, as_named, as_stands, both_of, only_term, under_none}
-use Rattle.ct_condition.proofs.Known.{other_there}
 use Rattle.ct_condition.proofs.terms.value.Goals as goal
 
 pub returns-in-Int-clause-terms : goal.returns-in-Int-clause-terms
@@ -14,14 +11,12 @@ returns-in-Int-clause-terms g c =
     as_stands (g.I.Interner.list c.number.new.pass) c.number.result _ (term.Value c.args.value.now) c.number.ensures.stands (Prim.search rules) c.number.ensures.terms
 
 pub returns-in-Text-clause-terms : goal.returns-in-Text-clause-terms
-returns-in-Text-clause-terms g c = as_named (g.I.Interner.list c.text_constant.new.pass) c.text_constant.result _ (term.Value c.args.value.now) c.text_constant.ensures.terms cc
+returns-in-Text-clause-terms g c = as_named (g.I.Interner.list c.over_text.new.pass) c.over_text.result _ (term.Value c.args.value.now) c.over_text.ensures.terms cc
 
 pub returns-in-Other-clause-terms : goal.returns-in-Other-clause-terms
 returns-in-Other-clause-terms g c =
     let new = g.I.Interner.list c.put.new.pass in
-    let t = term.Value c.args.value.now in
-    both_of c.put.result (λ p. StandsAt new p (IsTerm t)) _ (λ p. TermsFrom new p (λ u. u ≡ t))
-    (λ p stands from. only_term new p kind.OtherValue 0 0 t (under_none new) stands from) (Prim.search rules) c.put.ensures.terms
+    both_of c.put.result _ _ _ (λ p stands from. only_term new p kind.OtherValue 0 0 (term.Value c.args.value.now) (under_none new) stands from) (Prim.search rules) c.put.ensures.terms
 
 pub returns-in-Other-clause-known : goal.returns-in-Other-clause-known
 returns-in-Other-clause-known g c p s =

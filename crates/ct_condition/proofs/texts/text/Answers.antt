@@ -1,20 +1,24 @@
-use Rattle.std.proofs.Common.{◌++◌, [], ◌∷◌, ap, sym, ◌∙◌, subst, Some, arith}
-use Rattle.std.specs.Prelude.{encode_utf8, encode_utf8_all, Contains}
-use Rattle.std.proofs.lemmas.Bool.{false≢true}
-use Rattle.ct_word.specs.declared.kinds.Kind.TheVariants as kind
-use Rattle.ct_word.specs.Word.{word_of}
-use Rattle.ct_condition.proofs.Chains.{ends_there, next_there}
-use Rattle.std.proofs.lemmas.Str.{encodes-append}
-use Rattle.std.proofs.lemmas.List.{append-nil, length-append}
-use Rattle.ct_word.specs.declared.kinds.Class.TheVariants as class
-use Rattle.ct_word.specs.Reading.{IsText, as_text}
-use Rattle.ct_word.specs.Stands.{StandsAt}
-use Rattle.ct_word.proofs.Prefixes.{stands_in_prefix, prefix_of_prefix}
-use Rattle.ct_word.proofs.Growth.{place_within}
+use Rattle.std.{proofs.Common.{◌++◌, [], ◌∷◌, ap, sym, ◌∙◌, subst, Some, arith, ℕ}, specs.Prelude.{encode_utf8, encode_utf8_all, Contains}}
+use Rattle.std.{proofs.lemmas.Bool.false≢true, proofs.lemmas.Str.encodes-append, proofs.lemmas.List.{append-nil, length-append}}
 use Rattle.std.proofs.lemmas.Result.{err_from_is_err_and}
-use Rattle.ct_condition.proofs.Characters.{spelled_more, spelled_before, spelled_so_far}
-use Rattle.ct_condition.proofs.Reached.{formed_before, none_under, under_none, under_one, terms_before}
+use Rattle.ct_word.{specs.Word.word_of, specs.Reading.{IsText, as_text}, specs.Stands.StandsAt, proofs.Prefixes.{stands_in_prefix, prefix_of_prefix}}
+use Rattle.ct_word.proofs.Growth.{place_within}
+use Rattle.ct_condition.{proofs.Chains.{ends_there, next_there}, proofs.Characters.{spelled_more, spelled_before, spelled_so_far}}
+use Rattle.ct_condition.{proofs.Reached.{formed_before, none_under, under_none, under_one, terms_before}, proofs.texts.text.Goals.In-Some}
+use Rattle.ct_word.specs.declared.kinds.Kind.TheVariants as kind
+use Rattle.ct_word.specs.declared.kinds.Class.TheVariants as class
+use Rattle.ct_condition.proofs.texts.text.Given as given
 use Rattle.ct_condition.proofs.texts.text.Goals as goal
+
+-- the next word of a text that has a place
+next : (g : given.Over) (c : In-Some g) (p : ℕ) → StandsAt (g.I.Interner.list c.args.pass.now) p (IsText c.args.text.now) → Contains (g.I.Interner.list c.loop-character.pass) (word_of kind.TextCharacter c.loop-character.place c.in-Some.character)
+next g c p is =
+    let first = g.I.Interner.list c.args.pass.now in
+    let same = (c.loop-character.invariant.known p is).0 in
+    subst (λ ws. Contains ws (word_of kind.TextCharacter c.loop-character.place c.in-Some.character)) (sym same)
+    (next_there first (formed_before first (g.I.Interner.list c.loop-character.pass) c.loop-character.invariant.longer c.loop-character.invariant.formed) p c.loop-character.place c.args.text.now c.loop-character.yielded c.next.new.self.rest.now c.in-Some.character is
+    (subst (λ ws. StandsAt ws c.loop-character.place (IsText (encode_utf8_all c.loop-character.yielded))) same c.loop-character.invariant.stands)
+    (ap (λ r. encode_utf8_all c.loop-character.yielded ++ r) (sym c.in-Some.ensures.steps.0) ∙ c.loop-character.invariant.spelled))
 
 pub loop-character-init : goal.loop-character-init
 loop-character-init g c = record {
@@ -63,14 +67,8 @@ loop-character-preserved g c =
           spelled_more c.loop-character.yielded c.loop-character.character-iterator.rest.now c.next.new.self.rest.now c.args.text.now c.in-Some.character
           c.loop-character.invariant.spelled c.in-Some.ensures.steps.0;
       known = λ p is.
-          let first = g.I.Interner.list c.args.pass.now in
           let before = c.loop-character.invariant.known p is in
-          let wf = formed_before first new
-          (prefix_of_prefix first old new c.loop-character.invariant.longer c.in_ok-place-2.ensures.longer) c.in_ok-place-2.ensures.formed in
-          let next = next_there first wf p c.loop-character.place c.args.text.now c.loop-character.yielded c.next.new.self.rest.now c.in-Some.character is
-          (subst (λ ws. StandsAt ws c.loop-character.place (IsText (encode_utf8_all c.loop-character.yielded))) before.0 c.loop-character.invariant.stands)
-          (ap (λ r. encode_utf8_all c.loop-character.yielded ++ r) (sym c.in-Some.ensures.steps.0) ∙ c.loop-character.invariant.spelled) in
-          let after = c.in_ok-place-2.ensures.known (subst (λ ws. Contains ws (word_of kind.TextCharacter c.loop-character.place c.in-Some.character)) (sym before.0) next) in
+          let after = c.in_ok-place-2.ensures.known (next g (goal.at.loop-character-preserved g c).In-Some p is) in
           (after.1 ∙ before.0, after.2 ∙ before.1);
       made = omega (arith, length-append c.loop-character.yielded (c.in-Some.character ∷ []));
       kept = c.in_ok-place-2.ensures.kept ∙ c.loop-character.invariant.kept;
@@ -86,17 +84,7 @@ returns-in_err-place-clause-known g c p is =
 
 pub returns-in_err-place-2-clause-known : goal.returns-in_err-place-2-clause-known
 returns-in_err-place-2-clause-known g c p is =
-    let first = g.I.Interner.list c.args.pass.now in
-    let old = g.I.Interner.list c.loop-character.pass in
-    let new = g.I.Interner.list c.put-in-loop-character.new.pass in
-    let before = c.loop-character.invariant.known p is in
-    let wf = formed_before first new
-    (prefix_of_prefix first old new c.loop-character.invariant.longer c.in_err-place-2.ensures.longer) c.in_err-place-2.ensures.formed in
-    let next = next_there first wf p c.loop-character.place c.args.text.now c.loop-character.yielded c.next.new.self.rest.now c.in-Some.character is
-    (subst (λ ws. StandsAt ws c.loop-character.place (IsText (encode_utf8_all c.loop-character.yielded))) before.0 c.loop-character.invariant.stands)
-    (ap (λ r. encode_utf8_all c.loop-character.yielded ++ r) (sym c.in-Some.ensures.steps.0) ∙ c.loop-character.invariant.spelled) in
-    let after = c.in_err-place-2.ensures.known (subst (λ ws. Contains ws (word_of kind.TextCharacter c.loop-character.place c.in-Some.character)) (sym before.0) next) in
-    absurd (false≢true after.0)
+    absurd (false≢true (c.in_err-place-2.ensures.known (next g (goal.at.returns-in_err-place-2-clause-known g c).In-Some p is)).0)
 
 pub returns-in_err-place-2-clause-made : goal.returns-in_err-place-2-clause-made
 returns-in_err-place-2-clause-made g c =

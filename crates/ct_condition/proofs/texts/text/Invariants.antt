@@ -1,11 +1,8 @@
-use Rattle.std.proofs.Common.{ℕ, ◌≡◌, ◌≤◌, ◌+◌, ◌<◌, ◌^◌, ◌++◌, length}
-use Rattle.std.specs.Prelude.{IsTrue, encode_utf8_all}
+use Rattle.std.{proofs.Common.{ℕ, ◌≡◌, ◌≤◌, ◌+◌, ◌<◌, ◌^◌, ◌++◌, length}, specs.Prelude.{IsTrue, encode_utf8_all}}
+use Rattle.ct_word.{specs.Reading.IsText, specs.Stands.StandsAt, specs.WellFormed.{is_place_of, IsWellFormed}}
+use Rattle.ct_condition.specs.Terms.{TermsFrom}
 use mathlib.Core.List.{IsPrefix}
 use Rattle.ct_word.specs.declared.kinds.Class.TheVariants as class
-use Rattle.ct_word.specs.Reading.{IsText}
-use Rattle.ct_word.specs.Stands.{StandsAt}
-use Rattle.ct_word.specs.WellFormed.{is_place_of, IsWellFormed}
-use Rattle.ct_condition.specs.Terms.{TermsFrom}
 use Rattle.ct_condition.proofs.texts.text.Given as goal
 
 abbrev pub invariant-loop-character : goal.invariant-loop-character

@@ -1,6 +1,5 @@
 use Rattle.std.proofs.Common.{◌≡◌, ◌∷◌, ◌∙◌, [], ap, sym, arith, length, length-append, rules, subst}
-use Rattle.ct_condition.specs.Worth.{HaveWorths}
-use Rattle.ct_condition.proofs.Values.{have_more}
+use Rattle.ct_condition.{specs.Worth.HaveWorths, proofs.Values.have_more}
 use Rattle.ct_condition.proofs.valued.first_worths.Goals as goal
 
 pub loop-earlier-preserved : goal.loop-earlier-preserved

@@ -1,5 +1,4 @@
-use Rattle.std.proofs.Common.{◌≡◌, ◌≤◌, length}
-use Rattle.std.specs.Prelude.{vec_capacity}
+use Rattle.std.{proofs.Common.{◌≡◌, ◌≤◌, length}, specs.Prelude.vec_capacity}
 use Rattle.ct_condition.specs.Worth.{HaveWorths}
 use Rattle.ct_condition.proofs.valued.first_worths.Given as goal
 

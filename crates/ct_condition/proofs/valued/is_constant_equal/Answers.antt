@@ -1,7 +1,5 @@
-use Rattle.std.proofs.Common.{◌≡◌, ◌∙◌, [], ap, subst}
-use Rattle.std.specs.Prelude.{IfOk}
-use Rattle.ct_word.specs.Value.{at, same_value}
-use Rattle.ct_word.specs.Reading.{term_at}
+use Rattle.std.{proofs.Common.{◌≡◌, ◌∙◌, [], ap, subst}, specs.Prelude.IfOk}
+use Rattle.ct_word.{specs.Value.{at, same_value}, specs.Reading.term_at}
 use Rattle.ct_condition.proofs.Values.{constant_there, constants_same, pair_value, same_turned}
 use Rattle.ct_condition.proofs.valued.is_constant_equal.Goals as goal
 

@@ -1,5 +1,4 @@
-use Rattle.std.proofs.Common.{◌≡◌, ◌≤◌, length, map, take}
-use Rattle.std.specs.Prelude.{vec_capacity, vec_len}
+use Rattle.std.{proofs.Common.{◌≡◌, ◌≤◌, length, map, take}, specs.Prelude.{vec_capacity, vec_len}}
 use Rattle.ct_condition.specs.Worth.{is_true}
 use Rattle.ct_condition.proofs.valued.truths.Given as goal
 

@@ -1,10 +1,7 @@
 use Rattle.std.proofs.Common.{◌≡◌, ◌<◌, ◌∙◌, ap, length, arith, rules, subst}
-use Rattle.ct_word.proofs.Growth.{place_within}
-use Rattle.ct_word.specs.Condition.{holds_at}
-use Rattle.ct_word.specs.Reading.{condition_at}
+use Rattle.ct_word.{proofs.Growth.place_within, specs.Condition.holds_at, specs.Reading.condition_at}
+use Rattle.ct_condition.{specs.Worth.HaveWorths, proofs.Values.truth_there}
 use Rattle.ct_word.specs.declared.kinds.Class.TheVariants as class
-use Rattle.ct_condition.specs.Worth.{HaveWorths}
-use Rattle.ct_condition.proofs.Values.{truth_there}
 use Rattle.ct_condition.proofs.valued.value_at.Goals as goal
 
 pub first_worths-requires-clause-within : goal.first_worths-requires-clause-within

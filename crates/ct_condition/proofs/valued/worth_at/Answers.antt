@@ -1,9 +1,7 @@
-use Rattle.std.proofs.Common.{◌∙◌, subst, sym}
-use Rattle.std.specs.Prelude.{slice_get}
+use Rattle.std.{proofs.Common.{◌∙◌, subst, sym}, specs.Prelude.slice_get}
 use Rattle.ct_word.specs.Reading.{meanings}
-use Rattle.ct_condition.specs.Worth.{IsWorth}
+use Rattle.ct_condition.{specs.Worth.IsWorth, proofs.Values.{text_is, term_is, condition_is, equal_terms}}
 use Rattle.ct_condition.specs.declared.valued.Worth.TheVariants as worth
-use Rattle.ct_condition.proofs.Values.{text_is, term_is, condition_is, equal_terms}
 use Rattle.ct_condition.proofs.valued.worth_at.Goals as goal
 
 pub returns-in-Text : goal.returns-in-Text

@@ -1,6 +1,5 @@
 use Rattle.std.proofs.Common.{◌≡◌, ◌∙◌, ap, arith, length, map, subst}
-use Rattle.ct_condition.specs.Worth.{AreWorths, is_true}
-use Rattle.ct_condition.proofs.Values.{truths_are}
+use Rattle.ct_condition.{specs.Worth.{AreWorths, is_true}, proofs.Values.truths_are}
 use Rattle.ct_condition.proofs.valued.worths.Goals as goal
 
 pub returns : goal.returns

@@ -1,6 +1,5 @@
 use Rattle.std.proofs.Common.{◌<◌, ap, ◌∙◌, refl}
-use Rattle.ct_arena.proofs.Handover.{keeper_enrolled, pass_enrolled, words_alone}
-use Rattle.ct_arena.specs.Kept.{list_of}
+use Rattle.ct_arena.{proofs.Handover.{keeper_enrolled, pass_enrolled, words_alone}, specs.Kept.list_of}
 use Rattle.ct_arena.proofs.keepers.KeeperPass.enrol.Goals as goal
 
 pub from_parts-requires : goal.from_parts-requires

@@ -1,6 +1,5 @@
 use Rattle.std.proofs.Common.{◌≡◌, ◌≤◌, ap, ◌∙◌, sym, subst, Some, None, refl}
-use Rattle.ct_arena.specs.Kept.{IsKeeper, IsLent, list_of}
-use Rattle.ct_arena.proofs.Handover.{keeper_left, keeper_with, lent_with, pass_left}
+use Rattle.ct_arena.{specs.Kept.{IsKeeper, IsLent, list_of}, proofs.Handover.{keeper_left, keeper_with, lent_with, pass_left}}
 use Rattle.ct_arena.proofs.keepers.KeeperPass.leave.Goals as goal
 
 pub from_parts-requires : goal.from_parts-requires

@@ -1,7 +1,5 @@
 use Rattle.std.proofs.Common.{◌∙◌, ap, sym, subst}
-use Rattle.ct_arena.specs.Counts.{IsLog}
-use Rattle.ct_arena.specs.Own.{IsOwn}
-use Rattle.ct_arena.proofs.Keeping.{session_seen, session_read}
+use Rattle.ct_arena.{specs.Counts.IsLog, specs.Own.IsOwn, proofs.Keeping.{session_seen, session_read}}
 use Rattle.ct_arena.proofs.passes.Pass.catch_up.Goals as goal
 
 pub read_on-requires-clause-seat : goal.read_on-requires-clause-seat

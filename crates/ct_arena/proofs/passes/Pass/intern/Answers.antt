@@ -1,10 +1,8 @@
-use Rattle.std.proofs.Common.{◌∙◌, ap, sym, subst, inl, refl}
-use Rattle.std.specs.Prelude.{IsTrue}
-use mathlib.Core.List.{IsPrefix}
+use Rattle.std.{proofs.Common.{◌∙◌, ap, sym, subst, inl, refl}, specs.Prelude.IsTrue}
 use Rattle.ct_word.specs.WellFormed.{is_plain_word}
-use Rattle.ct_arena.specs.Own.{IsOwn}
-use Rattle.ct_arena.specs.Seen.{CountsWord}
+use Rattle.ct_arena.{specs.Own.IsOwn, specs.Seen.CountsWord}
 use Rattle.ct_arena.proofs.Keeping.{session_seat, session_after, plain_counts, outcome_longer, outcome_counts, outcome_session, outcome_mine}
+use mathlib.Core.List.{IsPrefix}
 use Rattle.ct_arena.proofs.passes.Pass.intern.Goals as goal
 
 pub put-requires-clause-seat : goal.put-requires-clause-seat

@@ -1,6 +1,5 @@
 use Rattle.std.proofs.Common.{◌∷◌, ◌++◌, length}
-use Rattle.ct_condition.specs.Tallies.{numbers_in}
-use Rattle.ct_condition.proofs.CommitWords.{commits_stay}
+use Rattle.ct_condition.{specs.Tallies.numbers_in, proofs.CommitWords.commits_stay}
 use Rattle.ct_condition.proofs.seated.SeatedInterner.intern.Goals as goal
 
 pub returns-clause-kept : goal.returns-clause-kept

@@ -1,7 +1,6 @@
-use Rattle.std.proofs.Common.{ap, subst}
-use Rattle.std.specs.Prelude.{Contains, slice_index_or}
+use Rattle.std.{proofs.Common.{ap, subst}, specs.Prelude.{Contains, slice_index_or}}
 use Rattle.ct_arena.proofs.Entering.{new_at}
-use Rattle.ct_arena.proofs.interning.follow.Goals as goal
+use Rattle.ct_arena.proofs.lists.follow.Goals as goal
 
 pub push-requires-clause-new : goal.push-requires-clause-new
 push-requires-clause-new c =

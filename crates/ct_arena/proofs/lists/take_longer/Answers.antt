@@ -1,7 +1,7 @@
 use Rattle.std.proofs.Common.{length, sym, ap, ◌∙◌, ◌≤◌, subst, arith}
-use mathlib.Core.List.{IsPrefix}
 use Rattle.ct_arena.proofs.Entering.{longer_first, longer_second}
-use Rattle.ct_arena.proofs.interning.take_longer.Goals as goal
+use mathlib.Core.List.{IsPrefix}
+use Rattle.ct_arena.proofs.lists.take_longer.Goals as goal
 
 pub follow-requires-clause-longer : goal.follow-requires-clause-longer
 follow-requires-clause-longer c =

@@ -1,6 +1,5 @@
-use Rattle.std.proofs.Common.{◌≡◌, take}
-use Rattle.std.specs.Prelude.{vec_capacity}
-use Rattle.ct_arena.proofs.interning.note.Given as goal
+use Rattle.std.{proofs.Common.{◌≡◌, take}, specs.Prelude.vec_capacity}
+use Rattle.ct_arena.proofs.lists.note.Given as goal
 
 abbrev pub invariant-loop-place : goal.invariant-loop-place
 invariant-loop-place l = record {
