@@ -1,28 +1,13 @@
 -- How many words each operator appends on answers to the parts of a query.
-use Rattle.std.proofs.Common.{◌≡◌, ℕ, ◌+◌, ◌*◌, ◌≤◌, ◌<◌, Bool, true, false, List, length, map, Result, Ok, Err, ap, sym, subst, ◌∙◌, arith}
-use Rattle.std.specs.Prelude.{IsErrOf, if◌then◌else◌}
+use Rattle.std.{proofs.Common.{◌≡◌, ℕ, ◌+◌, ◌*◌, ◌≤◌, ◌<◌, Bool, true, false, List, length, map, Result, ap, arith}, specs.Prelude.{IsErrOf, if◌then◌else◌}}
 use Rattle.std.proofs.lemmas.Nat.{mul-le}
 use Rattle.ct_word.specs.Condition.{Condition}
-use Rattle.ct_query.specs.Plain.{PlainQuery, Table, Select, Project, Product, Union, Except, Intersect}
-use Rattle.ct_query.specs.Bounds.{literal_words, terms, ops}
-use Rattle.ct_query.specs.Fits.{width}
-use Rattle.ct_condition.specs.Places.{has_place, new_literal_words, new_terms}
-use Rattle.ct_condition.proofs.Placed.{over_less}
-use Rattle.ct_operators.specs.declared.table.CTable.{CTable}
-use Rattle.ct_operators.specs.declared.error.TableError.{TableError}
-use Rattle.ct_operators.specs.declared.error.TableError.TheVariants as fault
+use Rattle.ct_query.{specs.Plain.{PlainQuery, Select, Project, Product, Union, Except, Intersect}, specs.Bounds.{literal_words, terms, ops}, specs.Fits.width}
+use Rattle.ct_condition.{specs.Places.{has_place, new_literal_words, new_terms}, proofs.Placed.over_less}
+use Rattle.ct_operators.{specs.declared.table.CTable.CTable, specs.declared.error.TableError.TableError}
 use Rattle.ct_table.specs.Denotes.{TableView, heading_of}
-use Rattle.ct_algebra.specs.Evaluates.{Evaluates}
-use Rattle.ct_algebra.specs.Words.{most_rows, most_words, GrowsWithin}
-use Rattle.ct_algebra.proofs.Counted.{rows_within}
-
--- where a part is refused, so is the whole
-pub refused_within : {A B : Type 0} (out : Result A TableError) (whole : Result B TableError) (old new n m : ℕ) → n ≤ m → (IsErrOf whole fault.Full → IsErrOf out fault.Full)
-    → GrowsWithin out old new n → GrowsWithin whole old new m
-refused_within out whole old new n m le same w = record {
-  made = omega (arith, le, w.made);
-  fewer = λ full. omega (arith, le, w.fewer (same full));
-}
+use Rattle.ct_algebra.{specs.Evaluates.Evaluates, specs.Words.{most_rows, most_words, GrowsWithin}, proofs.Counted.rows_within}
+use Rattle.ct_operators.specs.declared.error.TableError.TheVariants as fault
 
 -- one step after another
 onward : {A : Type 0} (out : Result A TableError) (old now new a b m : ℕ) → now ≤ old + a → b ≤ m → new ≤ now + b → (IsErrOf out fault.Full → new < now + b)

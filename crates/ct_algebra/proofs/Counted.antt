@@ -1,22 +1,12 @@
 -- An answer has no more rows than its query's bound says.
-use Rattle.std.proofs.Common.{◌≡◌, ℕ, ◌+◌, ◌*◌, ◌≤◌, Bool, true, false, List, [], ◌∷◌, ◌++◌, length, map, refl, sym, ◌∙◌, arith}
-use Rattle.std.specs.Prelude.{if◌then◌else◌}
+use Rattle.std.{proofs.Common.{◌≡◌, ℕ, ◌+◌, ◌*◌, ◌≤◌, Bool, true, false, List, [], ◌∷◌, ◌++◌, length, map, refl, sym, ◌∙◌, arith}, specs.Prelude.if◌then◌else◌}
 use Rattle.std.proofs.lemmas.List.{length-append, length-map}
-use Rattle.ct_word.specs.declared.values.CRow.{CRow}
-use Rattle.ct_word.specs.Value.{same_text}
-use Rattle.ct_word.specs.Reading.{term_at}
-use Rattle.ct_word.specs.Sublist.{IsSublist, ended, left_out, taken}
-use Rattle.ct_query.specs.Plain.{PlainQuery, Table, Select, Project, Product, Union, Except, Intersect}
-use Rattle.ct_query.specs.Patterns.{Patterns, picked, query_pattern}
-use Rattle.ct_query.specs.Size.{rows_in, row_bound}
-use Rattle.ct_operators.specs.declared.table.CTable.{CTable}
-use Rattle.ct_query.specs.Rows.{joins}
-use Rattle.ct_table.specs.Counting.{count_of}
-use Rattle.ct_table.specs.Denotes.{TableView}
-use Rattle.ct_operators.specs.Tables.{cells_of}
-use Rattle.ct_algebra.specs.Operands.{cells_in}
-use Rattle.ct_algebra.specs.Evaluates.{Evaluates}
-use Rattle.ct_algebra.specs.Words.{most_rows}
+use Rattle.ct_word.{specs.declared.values.CRow.CRow, specs.Value.same_text, specs.Reading.term_at, specs.Sublist.{IsSublist, ended, left_out, taken}}
+use Rattle.ct_query.{specs.Plain.{PlainQuery, Table, Select, Project, Product, Union, Except, Intersect}, specs.Patterns.{Patterns, picked, query_pattern}}
+use Rattle.ct_query.{specs.Size.{rows_in, row_bound}, specs.Rows.joins}
+use Rattle.ct_operators.{specs.declared.table.CTable.CTable, specs.Tables.cells_of}
+use Rattle.ct_table.{specs.Counting.count_of, specs.Denotes.TableView}
+use Rattle.ct_algebra.{specs.Operands.cells_in, specs.Evaluates.Evaluates, specs.Words.most_rows}
 
 -- a part is no longer than the whole
 part_length : {A : Type 0} (xs ys : List A) → IsSublist xs ys → length xs ≤ length ys

@@ -1,13 +1,10 @@
 -- The table with a name.
-use Rattle.std.proofs.Common.{◌≡◌, ℕ, Bool, true, false, List, [], ◌∷◌, map, refl, ap, sym, ◌∙◌}
-use Rattle.std.specs.Prelude.{Option, Some, None, IsSome, MatchOption, is_some, if◌then◌else◌, All}
-use Rattle.std.proofs.lemmas.Bool.{false≢true}
-use Rattle.std.proofs.lemmas.List.Elements.{All-nil, All-cons, All-head, All-tail}
+use Rattle.std.{proofs.Common.{◌≡◌, ℕ, Bool, true, false, List, [], ◌∷◌, map, refl, ap, sym, ◌∙◌}, proofs.lemmas.Bool.false≢true}
+use Rattle.std.specs.Prelude.{Option, Some, None, IsSome, MatchOption, is_some, if◌then◌else◌}
 use Rattle.ct_word.specs.Value.{World, same_text}
-use Rattle.ct_query.specs.Database.{tuples_of}
-use Rattle.ct_query.specs.Fits.{columns_in}
+use Rattle.ct_query.{specs.Database.tuples_of, specs.Fits.columns_in}
 use Rattle.ct_operators.specs.Tables.{cells_of, value_of_rows}
-use Rattle.ct_table.specs.Denotes.{TableView, heading_of, find_table, value_of_tables, with_table}
+use Rattle.ct_table.specs.Denotes.{TableView, heading_of, find_table, value_of_tables}
 use Rattle.ct_algebra.specs.Operands.{cells_in}
 
 -- what a name stands for where a table is found by it
@@ -49,11 +46,3 @@ no_columns name (x ∷ db) f = by_test (same_text x.name name) refl (no_columns 
 pub got_some : {A : Type 0} (o : Option A) (P : A → Type 0) (name : List ℕ) (db : List TableView) → IsSome (columns_in (map heading_of db) name) → MatchOption o (find_table db name ≡ None) P → IsSome o
 got_some (Some x) P name db there got = refl
 got_some None P name db there got = absurd (false≢true (sym (ap (λ (o : Option (List (List ℕ))). is_some o) (no_columns name db got)) ∙ there))
-
--- what holds of each table and of a new one holds of each with it
-pub all_with : (P : TableView → Type 0) (db : List TableView) (new : TableView) → All P db → P new → All P (with_table db new)
-all_with P [] new all h = All-cons P new [] h (All-nil P)
-all_with P (t ∷ db) new all h = by_test (same_text t.name new.name) (all_with P db new (All-tail P t db all) h) where
-  by_test : (b : Bool) → All P (with_table db new) → All P (if b then new ∷ db else t ∷ with_table db new)
-  by_test true rest = All-cons P new db h (All-tail P t db all)
-  by_test false rest = All-cons P t (with_table db new) (All-head P t db all) rest

@@ -1,25 +1,13 @@
 -- Answers and the tables that they are over stay what they are as words are added.
-use Rattle.std.proofs.Common.{◌≡◌, ℕ, List, [], ◌∷◌, length, refl, sym, subst, inl, inr}
-use Rattle.std.specs.Prelude.{if◌then◌else◌}
+use Rattle.std.{proofs.Common.{◌≡◌, ℕ, List, [], ◌∷◌, length, refl, sym, subst, inl, inr}, specs.Prelude.if◌then◌else◌}
 use Rattle.std.proofs.lemmas.List.Elements.{All-head, All-tail, All-weaker, recursion_from_All}
+use Rattle.ct_word.{specs.declared.values.Term.Term, specs.Value.{World, same_text}, specs.WellFormed.IsWellFormed, specs.Sublist.IsSublist}
+use Rattle.ct_query.{specs.Plain.PlainQuery, specs.Database.SameSet, specs.Rows.rows, specs.Patterns.query_pattern}
+use Rattle.ct_operators.{specs.declared.table.CTable.CTable, specs.Tables.{cells_of, value_of_rows, AreRows}}
+use Rattle.ct_operators.{proofs.Growing.{cells_grow, value_grows, rows_grow}, proofs.Reaching.{rows_wider, rows_later, rows_before}}
+use Rattle.ct_table.{specs.Denotes.{TableView, value_of_tables}, proofs.Denoting.found_all}
+use Rattle.ct_algebra.{specs.Operands.{AreTables, cells_in}, specs.Evaluates.Evaluates, specs.Terms.TermOfQuery}
 use mathlib.Core.List.{IsPrefix}
-use Rattle.ct_word.specs.declared.values.Term.{Term}
-use Rattle.ct_word.specs.Value.{World, same_text}
-use Rattle.ct_word.specs.WellFormed.{IsWellFormed}
-use Rattle.ct_word.specs.Sublist.{IsSublist}
-use Rattle.ct_query.specs.Plain.{PlainQuery}
-use Rattle.ct_query.specs.Database.{SameSet}
-use Rattle.ct_query.specs.Rows.{rows}
-use Rattle.ct_query.specs.Patterns.{query_pattern}
-use Rattle.ct_operators.specs.declared.table.CTable.{CTable}
-use Rattle.ct_operators.specs.Tables.{cells_of, value_of_rows, AreRows}
-use Rattle.ct_table.specs.Denotes.{TableView, value_of_tables}
-use Rattle.ct_table.proofs.Denoting.{found_all}
-use Rattle.ct_operators.proofs.Growing.{cells_grow, value_grows, rows_grow}
-use Rattle.ct_operators.proofs.Reaching.{rows_wider, rows_later, rows_before}
-use Rattle.ct_algebra.specs.Operands.{AreTables, cells_in}
-use Rattle.ct_algebra.specs.Evaluates.{Evaluates}
-use Rattle.ct_algebra.specs.Terms.{TermOfQuery}
 
 module _ (old now : List ℕ) (grown : IsPrefix old now) where
   pub tables_grow : IsWellFormed old → (db : List TableView) → AreTables old db → AreTables now db

@@ -1,17 +1,13 @@
 -- The words of a query are within the number that is computed from the counts of rows.
-use Rattle.std.proofs.Common.{◌≡◌, ℕ, ◌+◌, ◌*◌, ◌≤◌, ◌<◌, ◌^◌, List, [], ◌∷◌, ◌++◌, length, map, Result, refl, ap, ◌∙◌, arith}
+use Rattle.std.{proofs.Common.{◌≡◌, ℕ, ◌+◌, ◌*◌, ◌≤◌, ◌<◌, ◌^◌, List, [], ◌∷◌, ◌++◌, length, map, Result, refl, ap, ◌∙◌, arith}, proofs.lemmas.Nat.mul-le}
 use Rattle.std.specs.Prelude.{Option, Some, None, option_map, unwrap_or, IfSome}
-use Rattle.std.proofs.lemmas.Nat.{mul-le}
-use Rattle.ct_query.specs.Plain.{PlainQuery, Table, Select, Project, Product, Union, Except, Intersect}
-use Rattle.ct_query.specs.Bounds as bounds
-use Rattle.ct_query.specs.Bounds.{terms, ops, product_counts, partial_products, select_words, operator_words, side_words, query_words, nodes}
-use Rattle.ct_query.specs.Fits.{width}
-use Rattle.ct_query.specs.Size.{rows_in, greatest}
+use Rattle.ct_query.{specs.Plain.{PlainQuery, Table, Select, Project, Product, Union, Except, Intersect}, specs.Fits.width, specs.Size.{rows_in, greatest}}
+use Rattle.ct_query.specs.Bounds.{terms, ops, product_counts, partial_products, select_words, side_words, query_words, nodes}
 use Rattle.ct_query.proofs.Products.{product_from, product_last, partial_last}
 use Rattle.ct_operators.specs.declared.error.TableError.{TableError}
-use Rattle.ct_table.specs.Counting.{count_of}
-use Rattle.ct_table.specs.Denotes.{TableView, heading_of}
+use Rattle.ct_table.{specs.Counting.count_of, specs.Denotes.{TableView, heading_of}}
 use Rattle.ct_algebra.specs.Words.{most_rows, most_words, GrowsWithin}
+use Rattle.ct_query.specs.Bounds as bounds
 
 -- the rows of a product of tables with these counts, and bounds on them and on its words
 abbrev Counts : List ℕ → ℕ → ℕ → Type 0

@@ -1,40 +1,19 @@
 -- What each operator makes of answers to the parts of a query answers the query.
 use Rattle.std.proofs.Common.{◌≡◌, ℕ, ◌+◌, not, List, [], ◌++◌, length, map, Result, Ok, Err, Some, get_or, refl, ap, sym, subst, ◌∙◌, inl, inr}
-use Rattle.std.specs.Prelude.{◌⊎◌, IfOk, filter, slice_index_or}
-use Rattle.std.specs.List.{Contains}
-use Rattle.std.proofs.lemmas.List.{length-append, length-map}
+use Rattle.std.{specs.Prelude.{◌⊎◌, IfOk, filter, slice_index_or}, specs.List.Contains, proofs.lemmas.List.{length-append, length-map}}
 use Rattle.std.proofs.lemmas.List.Elements.{recursion_from_All, Contains-get_or, Contains-append_cases, Contains-append_left, Contains-append_right}
-use Rattle.ct_word.specs.declared.values.Value.{Value}
-use Rattle.ct_word.specs.declared.values.Term.{Term}
-use Rattle.ct_word.specs.Value.{World, cell_at}
-use Rattle.ct_word.specs.Sublist.{IsSublist}
+use Rattle.ct_word.{specs.declared.values.Value.Value, specs.declared.values.Term.Term, specs.Value.{World, cell_at}, specs.Sublist.IsSublist}
 use Rattle.ct_word.specs.Condition.{Condition, holds}
-use Rattle.ct_query.specs.Plain.{PlainQuery, Table, Select, Project, Product, Union, Except, Intersect}
-use Rattle.ct_query.specs.Database.{has_tuple, SameSet}
-use Rattle.ct_query.specs.Reads.{tables_of}
-use Rattle.ct_query.specs.Rows.{rows}
-use Rattle.ct_query.specs.Patterns.{picked, query_pattern}
-use Rattle.ct_query.specs.Fits.{width, count_of}
-use Rattle.ct_condition.specs.Terms.{IsNamed}
-use Rattle.ct_operators.specs.declared.table.CTable.{CTable}
-use Rattle.ct_operators.specs.declared.error.TableError.{TableError}
-use Rattle.ct_operators.specs.Tables.{cells_of, value_of_rows, AreRows}
-use Rattle.ct_query.specs.Rows.{joins}
-use Rattle.ct_operators.specs.Terms.{TermOfRows, RowsFrom, IsNoColumn}
-use Rattle.ct_table.specs.Shared.{view_of}
-use Rattle.ct_table.specs.Denotes.{TableView, heading_of, find_table, value_of_tables}
-use Rattle.ct_query.proofs.Sublists.{all_of, sublist-append, sublist_of_sublist}
-use Rattle.ct_table.proofs.Denoting.{found_all}
-use Rattle.ct_query.proofs.Sets.{same_set_on, same_set-append}
-use Rattle.ct_algebra.specs.Operands.{AreTables, cells_in}
-use Rattle.ct_algebra.specs.Evaluates.{Evaluates}
-use Rattle.ct_algebra.specs.Names.{names, names_of}
-use Rattle.ct_algebra.specs.Terms.{IsNamedIn, TermOfQuery}
-use Rattle.ct_algebra.proofs.Found.{stands_for}
+use Rattle.ct_query.{specs.Plain.{PlainQuery, Table, Select, Project, Product, Union, Except, Intersect}, specs.Database.{has_tuple, SameSet}}
+use Rattle.ct_query.{specs.Reads.tables_of, specs.Rows.{rows, joins}, specs.Patterns.{picked, query_pattern}, specs.Fits.{width, count_of}}
+use Rattle.ct_query.{proofs.Sublists.{all_of, sublist-append, sublist_of_sublist, sublist_joins, sublist-map}, proofs.Sets.{same_set_on, same_set-append}}
 use Rattle.ct_query.proofs.SameRows.{same_set_filter, same_set_without, same_set_within, same_set_map, same_set_joins}
-use Rattle.ct_query.proofs.Sublists.{sublist_joins}
-use Rattle.ct_query.proofs.Sublists.{sublist-map}
-use Rattle.ct_operators.proofs.Reaching.{foremost, row_itself, rows_wider, from_rows}
+use Rattle.ct_condition.specs.Terms.{IsNamed}
+use Rattle.ct_operators.{specs.declared.table.CTable.CTable, specs.declared.error.TableError.TableError, specs.Tables.{cells_of, value_of_rows, AreRows}}
+use Rattle.ct_operators.{specs.Terms.{TermOfRows, RowsFrom, IsNoColumn}, proofs.Reaching.{foremost, row_itself, rows_wider, from_rows}}
+use Rattle.ct_table.{specs.Shared.view_of, specs.Denotes.{TableView, heading_of, find_table, value_of_tables}, proofs.Denoting.found_all}
+use Rattle.ct_algebra.{specs.Operands.{AreTables, cells_in}, specs.Evaluates.Evaluates, specs.Names.{names, names_of}, specs.Terms.{IsNamedIn, TermOfQuery}}
+use Rattle.ct_algebra.proofs.Found.{stands_for}
 
 -- the terms of a query are those of one that reads what it reads, and names what it names
 widened : (ws : List ℕ) (db : List TableView) (q whole : PlainQuery) (t : Term) → ((n : List ℕ) → Contains (tables_of q) n → Contains (tables_of whole) n)

@@ -1,26 +1,10 @@
 -- Sums of the words that rows are put by.
 use Rattle.std.proofs.Common.{◌≡◌, ℕ, zero, suc, ◌+◌, ◌-◌, ◌*◌, ◌≤◌, ◌<◌, Bool, true, false, ◌||◌, List, ◌++◌, map, length, take, refl, ap, sym, subst, ◌∙◌, Ok, Err, arith}
-use Rattle.std.specs.Prelude.{Result, is_err, IsErrOf, Option, Some, None, nat_eq, if◌then◌else◌}
-use Rattle.std.specs.Borrow.{GName}
-use Rattle.std.specs.Option.{IsSome}
-use Rattle.ct_operators.specs.declared.error.TableError.{TableError}
-use Rattle.ct_operators.specs.declared.error.TableError.TheVariants as fault
-use Rattle.ct_operators.specs.Refusals.{is_full}
-use Rattle.ct_condition.specs.Writes.{Writes, charge}
-use Rattle.ct_condition.proofs.Writes.{writes_both}
-use Rattle.std.specs.List.{IsDistinct}
-use Rattle.std.proofs.Math.Nat.{mul-le-mul_right, mul_assoc, mul-add}
-use Rattle.std.proofs.lemmas.List.{length-take-le, length-map, map-append}
-use Rattle.ct_word.specs.declared.values.Value.{Value}
-use Rattle.ct_word.specs.declared.values.Term.{Term}
-use Rattle.ct_word.specs.declared.values.CRow.{CRow}
-use Rattle.ct_word.specs.Value.{World, same_cells}
-use Rattle.ct_word.specs.Reading.{term_at}
-use Rattle.ct_condition.specs.Folding.{folded_and, FoldsTo}
-use Rattle.ct_operators.specs.Tables.{cells_of, firsts}
-use Rattle.ct_operators.specs.Building.{Builds}
-use Rattle.ct_operators.proofs.Firsts.{firsts_distinct, firsts_long}
-use Rattle.ct_operators.proofs.Merges.{cells_equiv}
+use Rattle.std.{specs.Prelude.{Result, is_err, IsErrOf, Option, Some, None, nat_eq, if◌then◌else◌}, specs.Borrow.GName, specs.Option.IsSome}
+use Rattle.std.{specs.List.IsDistinct, proofs.Math.Nat.{mul-le-mul_right, mul_assoc, mul-add}, proofs.lemmas.List.{length-take-le, length-map, map-append}}
+use Rattle.ct_operators.{specs.Tables.{cells_of, firsts}, proofs.Firsts.{firsts_distinct, firsts_long}, proofs.Merges.cells_equiv}
+use Rattle.ct_condition.{specs.Writes.{Writes, charge}, proofs.Writes.writes_both, specs.Folding.{folded_and, FoldsTo}}
+use Rattle.ct_word.{specs.declared.values.CRow.CRow, specs.Value.same_cells, specs.Reading.term_at}
 
 -- the words for the rows so far, and for one more
 module _ (each : ℕ) (rows : List CRow) (i : ℕ) (lt : i < length rows) (m now new : ℕ) (before : now ≤ m + length (take i rows) * each) where
@@ -37,19 +21,6 @@ module _ (each : ℕ) (rows : List CRow) (i : ℕ) (lt : i < length rows) (m now
   pub made_fewer : new < now + each → new < m + length rows * each
   made_fewer fewer = let all : (i + 1) * each ≤ length rows * each = mul-le-mul_right each (omega arith) in omega (arith, so_many)
 
-  -- where one more word is to come after all rows
-  pub within_one : new ≤ now + each → new ≤ m + (length rows * each + 1)
-  within_one more = let all = made_within more in omega (arith, all)
-
-  pub fewer_one : new < now + each → new < m + (length rows * each + 1)
-  fewer_one fewer = let all = made_fewer fewer in omega (arith, all)
-
-pub one_after : (m now new n : ℕ) → now ≤ m + n → new ≤ now + 1 → new ≤ m + (n + 1)
-one_after m now new n a b = omega arith
-
-pub none_after : (m now new n : ℕ) → now ≤ m + n → new ≡ now → new < m + (n + 1)
-none_after m now new n a e = omega (arith, e)
-
 -- the error of a call that `?` hands on
 abbrev error_of : {T E : Type 0} → E → Result T E → E
 error_of e (Ok x) = e
@@ -57,12 +28,6 @@ error_of e (Err d) = d
 
 pub passed : {T U E : Type 0} (r : Result T E) (a f : E) → r ≡ Err a → IsErrOf r f → IsErrOf {T = U} (Err a) f
 passed r a f p e = ap Err (ap (error_of a) (sym p ∙ e))
-
--- fewer words where the log was full
-pub fewer_full : {S : Type 0} {words_of : S → List ℕ} {made_of : S → ℕ} {kept_of : S → List ℕ} {lent_of : S → List GName} {cap : ℕ} {old new : S} {most : ℕ} {T : Type 0} (r : Result T TableError) → IsErrOf r fault.Full
-    → Writes words_of made_of kept_of lent_of cap old new most (is_full r) → made_of new < made_of old + most
-fewer_full {words_of = words_of} {made_of} {kept_of} {lent_of} {cap} {old} {new} {most} r e w =
-    let h : made_of new + 1 ≤ made_of old + most = (subst (λ x. Writes words_of made_of kept_of lent_of cap old new most (is_full x)) e w).made in omega (arith, h)
 
 -- a conjunction that begins or ends with true is folded
 pub true_first : (words : List ℕ) (d : ℕ) → IsSome (folded_and words 0 d)
@@ -121,11 +86,6 @@ in_all l r w = sym (mul_assoc l r w)
 pub in_all_and_one : (l r w : ℕ) → l * (r * w + 1) ≡ l * r * w + l
 in_all_and_one l r w =
     mul-add l (r * w) 1 ∙ (λ i. in_all l r w i + mul_one l i)
-
--- rows in the making are as many as their cells
-pub built_long : (old now : List ℕ) (width : ℕ) (rows out : List CRow) (worth : World → List (List Value)) (source : Term → Type 0) → Builds old now width (cells_of old rows) worth source out → length out ≡ length rows
-built_long old now width rows out worth source s =
-    sym (length-map out (λ (r : CRow). map (term_at now) r.cells)) ∙ ap (λ l. length l) s.cells_are ∙ length-map rows (λ (r : CRow). map (term_at old) r.cells)
 
 -- rows of distinct cells are all first ones
 pub all_first : (ws : List ℕ) (rows : List CRow) → IsDistinct same_cells (cells_of ws rows) → length (firsts same_cells (cells_of ws rows)) ≡ length rows

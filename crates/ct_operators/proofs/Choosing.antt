@@ -1,40 +1,11 @@
 -- Predicates on the rows of a table.
-use Rattle.std.proofs.Common.{◌≡◌, ℕ, zero, suc, ◌+◌, ◌<◌, Bool, true, false, ◌&&◌, List, [], ◌∷◌, map, length, subst, refl, ap, sym, ◌∙◌, arith, inl, inr}
+use Rattle.std.proofs.Common.{◌≡◌, ℕ, zero, suc, ◌+◌, ◌<◌, Bool, true, false, List, [], ◌∷◌, length, subst, refl, ap, sym, ◌∙◌, arith, inl, inr}
 use Rattle.std.specs.Prelude.{is_some, slice_get, if◌then◌else◌}
-use mathlib.Core.List.{IsPrefix}
-use Rattle.ct_word.specs.declared.kinds.Class.TheVariants as class
-use Rattle.ct_word.specs.declared.values.CRow.{CRow}
-use Rattle.ct_word.specs.declared.values.Term.{Term}
+use Rattle.ct_word.{specs.declared.values.Term.Term, specs.Condition.{Condition, Conditions, True, False, Same, Not, And, Or, none, also}}
+use Rattle.ct_query.{specs.Bounds.{literal_words, over_equalities, over_all_equalities, ops}, specs.Fits.{IsColumnBelow, AreColumnsBelow, AreAllColumnsBelow}}
+use Rattle.ct_condition.{specs.Terms.{IsNamed, IsNamedInSome}, specs.Places.{has_place, new_literal_words, new_terms}}
+use Rattle.ct_condition.specs.Rows.{term_words, new_words, words_on}
 use Rattle.ct_word.specs.declared.values.Term.TheVariants as term
-use Rattle.ct_word.specs.Value.{tuple_at}
-use Rattle.ct_word.specs.Condition.{Condition, Conditions, True, False, Same, Not, And, Or, none, also, holds, holds_at}
-use Rattle.ct_word.specs.Reading.{term_at, condition_at}
-use Rattle.ct_word.proofs.Prefixes.{place_within, condition_in_prefix}
-use Rattle.ct_query.specs.Bounds.{literal_words, over_equalities, over_all_equalities, ops}
-use Rattle.ct_query.specs.Fits.{IsColumnBelow, AreColumnsBelow, AreAllColumnsBelow}
-use Rattle.ct_condition.specs.Terms.{IsNamed, IsNamedInSome}
-use Rattle.ct_condition.specs.Truth.{HasTruth}
-use Rattle.ct_condition.specs.Places.{has_place, new_literal_words, new_terms}
-use Rattle.ct_condition.specs.Rows.{on_row, term_words, new_words, words_on}
-use Rattle.ct_condition.proofs.OnRows.{on_cells}
-use Rattle.ct_operators.specs.Tables.{IsRow}
-use Rattle.ct_operators.specs.Building.{HoldsWhere}
-use Rattle.ct_operators.specs.Placing.{tuple_of}
-use Rattle.ct_operators.proofs.Growing.{terms_grow}
-use Rattle.ct_operators.proofs.Holding.{holds_as}
-
--- a condition with the cells put for its columns holds where it holds for what they are worth
-pub on_row_holds : (old new : List ℕ) (c : Condition) (cells : List ℕ) (p : ℕ) → HasTruth new p (on_row old c cells) → HoldsWhere new p (λ v. holds v (tuple_of old cells v) c)
-on_row_holds old new c cells p h = record { class = h.class; holds = λ v. h.truth_is v [] ∙ on_cells old c cells v }
-
--- what a row is chosen by, over the words before
-pub chosen_before : (old now new : List ℕ) (width : ℕ) (c : Condition) (r : CRow) (p : ℕ) → IsPrefix old now → IsRow old width r
-    → HoldsWhere new p (λ v. holds_at v (condition_at now r.cond) && holds v (tuple_of now r.cells v) c)
-    → HoldsWhere new p (λ v. holds_at v (condition_at old r.cond) && holds v (tuple_at v (map (term_at old) r.cells)) c)
-chosen_before old now new width c r p grown is h =
-    holds_as new p _ _
-    (λ v i. holds_at v (condition_in_prefix old now r.cond grown (place_within old class.Cond r.cond is.condition) i) && holds v (tuple_at v (terms_grow old now grown r.cells is.terms i)) c)
-    h
 
 -- a row has a cell for each column below its width
 has_cell : (cells : List ℕ) (k : ℕ) → k < length cells → is_some (slice_get cells k) ≡ true

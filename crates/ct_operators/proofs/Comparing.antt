@@ -1,28 +1,18 @@
 -- Whether a row is worth the tuple of another, cell by cell and row by row.
 use Rattle.std.proofs.Common.{◌≡◌, ℕ, zero, suc, ◌+◌, ◌<◌, Bool, true, false, not, ◌&&◌, ◌||◌, List, [], ◌∷◌, ◌++◌, map, length, take, drop, get_or, refl, ap, sym, subst, ◌∙◌, arith}
-use Rattle.std.specs.Prelude.{IsTrue, All}
-use Rattle.std.proofs.lemmas.List.{append-nil, append_assoc, take-append-drop, map_more, map-append, length-map, length-take-le}
-use Rattle.std.proofs.lemmas.List.Elements.{All-get_or}
+use Rattle.std.{specs.Prelude.{IsTrue, All}, proofs.lemmas.List.{append-nil, append_assoc, take-append-drop, map_more, map-append, length-map, length-take-le}}
+use Rattle.std.{proofs.lemmas.List.Elements.All-get_or, proofs.lemmas.Bool.and_right}
+use Rattle.ct_word.{specs.declared.values.Value.Value, specs.declared.values.CRow.CRow, specs.Value.{World, at, same_value, same_tuple, tuple_at}}
+use Rattle.ct_word.{specs.Condition.holds_at, specs.WellFormed.{IsWellFormed, is_place_of}, specs.Reading.{term_at, condition_at}}
+use Rattle.ct_word.proofs.Prefixes.{prefix_of_prefix, term_in_prefix, condition_in_prefix, place_within}
+use Rattle.ct_arena.specs.Counts.{opening}
+use Rattle.ct_query.{specs.Database.has_tuple, proofs.Sets.has_tuple-append}
+use Rattle.ct_condition.specs.Truth.{HasTruth, equal_at, not_at, and_at, or_at}
+use Rattle.ct_operators.{specs.Tables.{value_of_rows, IsRow}, specs.Matching.{same_worth, is_among}, specs.Building.HoldsWhere, proofs.Selecting.value-push}
+use Rattle.ct_operators.{proofs.Merges.has_one, proofs.Growing.terms_grow}
+use Rattle.ct_operators.proofs.Holding.{holds_as, holds_false, holds_itself, holds_later, holds_equal, holds_not, holds_and, holds_or}
 use mathlib.Core.List.{IsPrefix}
 use Rattle.ct_word.specs.declared.kinds.Class.TheVariants as class
-use Rattle.ct_word.specs.declared.values.Value.{Value}
-use Rattle.ct_word.specs.declared.values.CRow.{CRow}
-use Rattle.ct_word.specs.Value.{World, at, same_value, same_tuple, tuple_at}
-use Rattle.ct_word.specs.Condition.{holds_at}
-use Rattle.ct_word.specs.WellFormed.{IsWellFormed, is_place_of}
-use Rattle.ct_arena.specs.Counts.{opening}
-use Rattle.ct_word.specs.Reading.{term_at, condition_at}
-use Rattle.ct_word.proofs.Prefixes.{prefix_of_prefix, term_in_prefix, condition_in_prefix, place_within}
-use Rattle.ct_query.specs.Database.{has_tuple}
-use Rattle.ct_condition.specs.Truth.{HasTruth, equal_at, not_at, and_at, or_at}
-use Rattle.ct_operators.specs.Tables.{value_of_rows, IsRow}
-use Rattle.ct_operators.specs.Matching.{same_worth, is_among}
-use Rattle.ct_operators.specs.Building.{HoldsWhere}
-use Rattle.ct_query.proofs.Sets.{has_tuple-append}
-use Rattle.ct_operators.proofs.Selecting.{value-push}
-use Rattle.ct_operators.proofs.Merges.{has_one}
-use Rattle.ct_operators.proofs.Growing.{terms_grow, value_grows}
-use Rattle.ct_operators.proofs.Holding.{holds_as, holds_false, holds_itself, holds_later, holds_equal, holds_not, holds_and, holds_or}
 
 and_true : (b : Bool) → (true && b) ≡ (b && true)
 and_true true = refl
@@ -57,10 +47,6 @@ same_worth_more ws ps qs n p q v lp lq ep eq =
     (long_tuple ws v ps n lp ∙ sym (long_tuple ws v qs n lq)))
     ∙ sym (λ i. same_tuple (worth_more ws v ps n p lp ep i) (worth_more ws v qs n q lq eq i))
 
-and_false : (b : Bool) → (b && false) ≡ false
-and_false true = refl
-and_false false = refl
-
 -- cells of which two are worth different values
 pub worth_apart : (ws : List ℕ) (v : World) (ps qs : List ℕ) (n p q : ℕ) → n < length ps → n < length qs → p ≡ get_or ps n p → q ≡ get_or qs n q
     → same_value (at v [] (term_at ws p)) (at v [] (term_at ws q)) ≡ false → same_worth ws ps qs v ≡ false
@@ -69,14 +55,13 @@ worth_apart ws v (x ∷ ps) [] n p q lp lq ep eq e = absurd (omega (arith, lq))
 worth_apart ws v (x ∷ ps) (y ∷ qs) zero p q lp lq ep eq e =
     (λ i. same_value (at v [] (term_at ws (sym ep i))) (at v [] (term_at ws (sym eq i))) && same_worth ws ps qs v) ∙ ap (λ b. b && same_worth ws ps qs v) e
 worth_apart ws v (x ∷ ps) (y ∷ qs) (suc n) p q lp lq ep eq e =
-    ap (λ b. same_value (at v [] (term_at ws x)) (at v [] (term_at ws y)) && b) (worth_apart ws v ps qs n p q (omega (arith, lp)) (omega (arith, lq)) ep eq e)
-    ∙ and_false (same_value (at v [] (term_at ws x)) (at v [] (term_at ws y)))
+    and_right (same_value (at v [] (term_at ws x)) (at v [] (term_at ws y))) (same_worth ws ps qs v) (worth_apart ws v ps qs n p q (omega (arith, lp)) (omega (arith, lq)) ep eq e)
 
 -- a row that is shown and worth the same, where its cells can't be
 pub shown_never : (ws qs cs : List ℕ) (c : ℕ) → IsPrefix opening ws → IsWellFormed ws → ((v : World) → same_worth ws qs cs v ≡ false)
     → HoldsWhere ws 1 (λ v. holds_at v (condition_at ws c) && same_worth ws qs cs v)
 shown_never ws qs cs c begins formed never =
-    holds_as ws 1 (λ v. false) _ (λ v. sym (ap (λ b. holds_at v (condition_at ws c) && b) (never v) ∙ and_false (holds_at v (condition_at ws c)))) (holds_false ws begins formed)
+    holds_as ws 1 (λ v. false) _ (λ v. sym (and_right (holds_at v (condition_at ws c)) (same_worth ws qs cs v) (never v))) (holds_false ws begins formed)
 
 -- cells compared so far, and two more
 pub equal_more : (old now mid new : List ℕ) (ps qs : List ℕ) (n p q all same place : ℕ) → IsPrefix old now → IsPrefix now mid
@@ -99,11 +84,6 @@ among_more ws rs r cells v =
     ap (λ l. has_tuple l (tuple_at v (map (term_at ws) cells))) (value-push ws v rs r)
     ∙ has_tuple-append (value_of_rows ws v rs) (value_of_rows ws v (r ∷ [])) (tuple_at v (map (term_at ws) cells))
     ∙ ap (λ b. is_among ws rs cells v || b) (has_one ws v r (tuple_at v (map (term_at ws) cells)))
-
-pub among_grows : (old now : List ℕ) (width : ℕ) (rs : List CRow) (cells : List ℕ) (v : World) → IsPrefix old now → All (IsRow old width) rs
-    → All (λ p. IsTrue (is_place_of old class.Term p)) cells → is_among now rs cells v ≡ is_among old rs cells v
-among_grows old now width rs cells v grown each terms =
-    λ i. has_tuple (value_grows old now grown v width rs each i) (tuple_at v (terms_grow old now grown cells terms i))
 
 pub same_worth_grows : (old now : List ℕ) (ps qs : List ℕ) (v : World) → IsPrefix old now → All (λ p. IsTrue (is_place_of old class.Term p)) ps
     → All (λ p. IsTrue (is_place_of old class.Term p)) qs → same_worth now ps qs v ≡ same_worth old ps qs v

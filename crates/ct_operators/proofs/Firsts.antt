@@ -1,12 +1,10 @@
 -- The items of a list, each once, where it stands first.
-use Rattle.std.proofs.Common.{◌≡◌, ◌+◌, ◌≤◌, Bool, true, false, not, ◌||◌, List, [], ◌∷◌, ◌++◌, length, cond, filter, refl, ap, sym, ◌∙◌, arith}
-use Rattle.std.specs.List.{list_any, IsDistinct, AllByRecursion}
-use Rattle.std.specs.Cmp.{IsEquivalence}
-use Rattle.std.proofs.lemmas.List.{append-nil, append_assoc, length_push}
-use Rattle.std.proofs.lemmas.List.Elements.{filter-append}
-use Rattle.std.proofs.lemmas.Map.Keys.{IsDistinct-head, IsDistinct-tail}
-use Rattle.ct_word.specs.Sublist.{IsSublist, ended, left_out, taken}
-use Rattle.ct_operators.specs.Tables.{firsts}
+use Rattle.std.proofs.Common.{◌≡◌, ℕ, ◌+◌, ◌≤◌, Bool, true, false, not, ◌||◌, List, [], ◌∷◌, ◌++◌, length, cond, filter, refl, ap, sym, ◌∙◌, arith}
+use Rattle.std.{specs.List.{list_any, IsDistinct, AllByRecursion}, specs.Cmp.IsEquivalence, proofs.lemmas.List.{append-nil, append_assoc, length_push}}
+use Rattle.std.{proofs.lemmas.List.Elements.filter-append, proofs.lemmas.Map.Keys.{IsDistinct-head, IsDistinct-tail}, specs.Prelude.{Result, IfOk}}
+use Rattle.std.proofs.lemmas.Result.{IfOk-weaker}
+use Rattle.ct_word.{specs.Sublist.{IsSublist, ended, left_out, taken}, specs.Value.same_cells, specs.declared.values.Term.Term}
+use Rattle.ct_operators.{specs.Tables.{cells_of, firsts}, specs.declared.table.CTable.CTable}
 use Rattle.ct_query.proofs.Sublists.{sublist_of_sublist}
 
 -- no items are distinct
@@ -111,3 +109,9 @@ module _ {A : Type 0} (same : A → A → Bool) (laws : IsEquivalence same) wher
       let rest = firsts_long (xs ++ y ∷ []) ys in
       let e : length (firsts same ((xs ++ y ∷ []) ++ ys)) ≡ length (firsts same (xs ++ y ∷ ys)) = ap (λ l. length (firsts same l)) (append_assoc xs (y ∷ []) ys) in
       (omega (arith, one.0, rest.0, e), omega (arith, one.1, rest.1, e))
+
+-- the rows of an answer are among those that were merged
+pub part_of_merged : (ws : List ℕ) {E : Type 0} (r : Result CTable E) (all : List (List Term)) → IfOk r (λ out. IsSublist (cells_of ws out.rows) (firsts same_cells all))
+    → IfOk r (λ out. IsSublist (cells_of ws out.rows) all)
+part_of_merged ws r all =
+    IfOk-weaker r (λ out. IsSublist (cells_of ws out.rows) (firsts same_cells all)) (λ out. IsSublist (cells_of ws out.rows) all) (λ out. part_of_firsts same_cells (cells_of ws out.rows) all)

@@ -1,18 +1,12 @@
 -- Tables keep what they are worth when words are added.
-use Rattle.std.proofs.Common.{◌≡◌, ℕ, List, [], ◌∷◌, map, refl, ap, sym, subst}
-use Rattle.std.specs.Prelude.{IsTrue, All}
-use Rattle.std.specs.List.{IsDistinct}
+use Rattle.std.{proofs.Common.{◌≡◌, ℕ, List, [], ◌∷◌, map, refl, ap, sym, subst}, specs.Prelude.{IsTrue, All}, specs.List.IsDistinct}
 use Rattle.std.proofs.lemmas.List.Elements.{All-head, All-tail, All-weaker}
+use Rattle.ct_word.{specs.declared.values.CRow.CRow, specs.Value.{World, same_cells}, specs.WellFormed.{IsWellFormed, is_place_of}}
+use Rattle.ct_word.{specs.Reading.{plain_crow, term_at}, proofs.Prefixes.{term_in_prefix, condition_in_prefix, place_in_prefix, place_within}}
+use Rattle.ct_query.specs.Step.{shown_rows}
+use Rattle.ct_operators.{specs.Tables.{cells_of, value_of_rows, IsRow, AreRows}, proofs.Reaching.{none_later, row_within}}
 use mathlib.Core.List.{IsPrefix}
 use Rattle.ct_word.specs.declared.kinds.Class.TheVariants as class
-use Rattle.ct_word.specs.declared.values.CRow.{CRow}
-use Rattle.ct_word.specs.Value.{World, same_cells}
-use Rattle.ct_word.specs.WellFormed.{IsWellFormed, is_place_of}
-use Rattle.ct_word.specs.Reading.{plain_crow, term_at}
-use Rattle.ct_query.specs.Step.{shown_rows}
-use Rattle.ct_word.proofs.Prefixes.{term_in_prefix, condition_in_prefix, place_in_prefix, place_within}
-use Rattle.ct_operators.specs.Tables.{cells_of, value_of_rows, IsRow, AreRows}
-use Rattle.ct_operators.proofs.Reaching.{none_later, row_within}
 
 module _ (ws xs : List ℕ) (grown : IsPrefix ws xs) where
   -- places of terms stand for the same terms

@@ -11,4 +11,5 @@ pub mod Comparing
 pub mod Placed
 pub mod Adding
 pub mod Choosing
+pub mod Tests
 pub mod Naming

@@ -1,46 +1,27 @@
 -- Rows put last, or merged by their cells.
 use Rattle.std.proofs.Common.{◌≡◌, ℕ, zero, suc, ◌+◌, ◌<◌, ◌≤◌, Bool, true, false, not, ◌&&◌, ◌||◌, List, [], ◌∷◌, ◌++◌, Some, None, map, length, cond, get_or, set, take, drop, refl, ap, sym, subst, ◌∙◌, arith, inl, inr}
-use Rattle.std.specs.Prelude.{◌≢◌, IsTrue, All, nat_eq, is_some, Option, if◌then◌else◌}
-use Rattle.std.specs.List.{IsDistinct, list_any, filter}
-use Rattle.std.specs.Cmp.{IsEquivalence}
-use Rattle.std.specs.Cmp.Lexicographic.{pointwise}
-use Rattle.std.specs.Map.{lookup}
-use Rattle.std.proofs.lemmas.Bool.Decides.{same_from_decides}
+use Rattle.std.{specs.Prelude.{◌≢◌, IsTrue, All, nat_eq, is_some, Option, if◌then◌else◌}, specs.List.{IsDistinct, list_any, filter}, specs.Cmp.IsEquivalence}
+use Rattle.std.{specs.Cmp.Lexicographic.pointwise, specs.Map.lookup, proofs.lemmas.Bool.Decides.same_from_decides, proofs.lemmas.Map.Keys.IsDistinct-push}
 use Rattle.std.proofs.lemmas.Bool.{false≢true, eqb-true, eq-eqb}
 use Rattle.std.proofs.lemmas.List.{map_push, map-append, take_all, take-append-drop, length-append, length_push, length-map}
 use Rattle.std.proofs.lemmas.List.Elements.{All-head, All-tail, All-cons, All-nil, All-push, All-weaker, All-get_or, All-filter, Contains-append_left, Contains-push}
-use Rattle.std.proofs.lemmas.Map.Keys.{IsDistinct-push}
-use mathlib.Core.List.{IsPrefix}
 use Rattle.indexmap.specs.IndexMap.{insert_entry}
-use Rattle.ct_word.specs.declared.kinds.Class.TheVariants as class
-use Rattle.ct_word.specs.declared.values.Value.{Value}
-use Rattle.ct_word.specs.declared.values.Term.{Term}
-use Rattle.ct_word.specs.declared.values.Term.TheVariants as term
-use Rattle.ct_word.specs.declared.values.CRow.{CRow}
-use Rattle.ct_word.specs.Value.{World, same_text, same_cells, same_tuple, tuple_at}
-use Rattle.ct_word.specs.Sublist.{IsSublist}
-use Rattle.ct_word.specs.Condition.{holds_at}
-use Rattle.ct_word.specs.WellFormed.{IsWellFormed, is_place_of}
-use Rattle.ct_word.specs.Stands.{HasNoColumn}
-use Rattle.ct_word.specs.Reading.{term_at, condition_at, plain_crow}
-use Rattle.ct_word.proofs.Alike.{text_decides, cells_decide}
-use Rattle.ct_word.proofs.Constants.{one_term}
-use Rattle.ct_word.proofs.Prefixes.{prefix_of_prefix, prefix_same, condition_in_prefix, place_within}
-use Rattle.ct_query.specs.Database.{SameSet, has_tuple}
+use Rattle.ct_word.{specs.declared.values.Value.Value, specs.declared.values.Term.Term, specs.declared.values.CRow.CRow, specs.Sublist.IsSublist}
+use Rattle.ct_word.{specs.Value.{World, same_text, same_cells, same_tuple, tuple_at}, specs.Condition.holds_at, specs.WellFormed.{IsWellFormed, is_place_of}}
+use Rattle.ct_word.{specs.Stands.HasNoColumn, specs.Reading.{term_at, condition_at, plain_crow}, proofs.Alike.{text_decides, cells_decide}}
+use Rattle.ct_word.{proofs.Constants.one_term, proofs.Prefixes.{prefix_of_prefix, prefix_same, condition_in_prefix, place_within}}
+use Rattle.ct_query.{specs.Database.{SameSet, has_tuple}, proofs.Sublists.sublist-map, proofs.Sets.{same_set-append, has_tuple-append, same_set_itself}}
 use Rattle.ct_arena.specs.Counts.{opening}
-use Rattle.ct_condition.specs.Truth.{HasTruth, or_at}
-use Rattle.ct_condition.specs.Terms.{TermsFrom, BelowEither}
-use Rattle.ct_condition.proofs.Reached.{formed_before}
-use Rattle.ct_condition.proofs.Truths.{false_at}
-use Rattle.ct_operators.specs.Tables.{cells_of, value_of_rows, IsRow, AreRows, firsts}
-use Rattle.ct_operators.specs.Terms.{TermOfRows, RowFrom, RowsFrom}
+use Rattle.ct_condition.{specs.Truth.{HasTruth, or_at}, specs.Terms.{TermsFrom, BelowEither}, proofs.Reached.formed_before, proofs.Truths.false_at}
+use Rattle.ct_operators.{specs.Tables.{cells_of, value_of_rows, IsRow, AreRows, firsts}, specs.Terms.{TermOfRows, RowFrom, RowsFrom}}
 use Rattle.ct_operators.specs.Merging.{rows_of, Merged, put_last, into, Gathers, is_possible, known}
 use Rattle.ct_operators.proofs.Reaching.{row_itself, rows_among, rows_wider, row_later, rows_later, under_from, from_two}
-use Rattle.ct_query.proofs.Sublists.{sublist-map}
-use Rattle.ct_query.proofs.Sets.{same_set-append, has_tuple-append, same_set_itself}
 use Rattle.ct_operators.proofs.Selecting.{distinct_part, value-push, shown-append, one_shown}
 use Rattle.ct_operators.proofs.Growing.{terms_grow, is_row_grows, cells_grow, value_grows}
 use Rattle.ct_operators.proofs.Firsts.{filtered_part, any_first, firsts_known, firsts_new, firsts_long, or_with_true}
+use mathlib.Core.List.{IsPrefix}
+use Rattle.ct_word.specs.declared.kinds.Class.TheVariants as class
+use Rattle.ct_word.specs.declared.values.Term.TheVariants as term
 
 pub cells_equiv : IsEquivalence same_cells
 cells_equiv = record {
@@ -86,22 +67,16 @@ has_cons ws v r rs t =
 
 -- a disjunction goes into one of the rows
 spread : (a b e q : Bool) → (((a || b) && e) || q) ≡ (((a && e) || q) || (b && e))
-spread true true true true = refl
-spread true true true false = refl
-spread true true false true = refl
+spread true b true q = refl
+spread true b false true = refl
 spread true true false false = refl
-spread true false true true = refl
-spread true false true false = refl
-spread true false false true = refl
 spread true false false false = refl
+spread false false e true = refl
+spread false false e false = refl
 spread false true true true = refl
 spread false true true false = refl
 spread false true false true = refl
 spread false true false false = refl
-spread false false true true = refl
-spread false false true false = refl
-spread false false false true = refl
-spread false false false false = refl
 
 or_later : (a q b : Bool) → (a || (q || b)) ≡ ((a || q) || b)
 or_later true q b = refl

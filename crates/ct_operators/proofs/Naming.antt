@@ -1,31 +1,17 @@
 -- A term stands below a place exactly where it is one of the terms of what the place stands for.
 use Rattle.std.proofs.Common.{◌≡◌, ℕ, zero, suc, ◌<◌, true, List, [], ◌∷◌, ◌++◌, map, Option, Some, refl, ap, sym, subst, arith, inl, inr}
-use Rattle.std.specs.Prelude.{IsTrue, All, slice_get, flat_map}
-use Rattle.std.specs.List.{Contains}
-use Rattle.std.proofs.lemmas.Bool.{false≢true}
+use Rattle.std.{specs.Prelude.{IsTrue, All, slice_get, flat_map}, specs.List.Contains, proofs.lemmas.Bool.false≢true}
 use Rattle.std.proofs.lemmas.List.Elements.{All-contains, Contains-append_left, Contains-append_right, Contains-append_cases}
-use Rattle.ct_word.specs.declared.kinds.Kind.{Kind}
+use Rattle.ct_word.{specs.declared.kinds.Kind.Kind, specs.declared.values.Term.Term, specs.declared.values.CRow.CRow, specs.Word.{kind_of, left_of, right_of}}
+use Rattle.ct_word.{specs.Change.PlainRow, specs.Condition.{Condition, True, False, Same}, proofs.Items.unmapped_item, proofs.WordAt.word_is}
+use Rattle.ct_word.{specs.WellFormed.{IsWellFormed, has_class, is_place_of}, specs.Reading.{as_cond, condition_at, term_at, plain_crow}}
+use Rattle.ct_word.{specs.Stands.{itself, TermBelow, places_in}, proofs.Places.stands_term}
+use Rattle.ct_query.specs.Terms.{condition_terms}
+use Rattle.ct_condition.{specs.Terms.{BelowEither, BelowSome}, proofs.Reached.no_term_at}
+use Rattle.ct_operators.{specs.Tables.IsRow, specs.Terms.{TermOfRow, TermOfRows}, specs.Placing.{parts_of, IsEarlier, AreParts}, proofs.Placed.parts_are}
+use Rattle.ct_operators.proofs.Reaching.{behind, foremost, first_or_behind, at_or_under, word_of_place, named_by, one_named, term_alone}
 use Rattle.ct_word.specs.declared.kinds.Kind.TheVariants as kind
 use Rattle.ct_word.specs.declared.kinds.Class.TheVariants as class
-use Rattle.ct_word.specs.declared.values.Term.{Term}
-use Rattle.ct_word.specs.declared.values.CRow.{CRow}
-use Rattle.ct_word.specs.Word.{kind_of, left_of, right_of}
-use Rattle.ct_word.specs.Change.{PlainRow}
-use Rattle.ct_word.specs.Condition.{Condition, True, False, Same, Not, And, Or, none, also}
-use Rattle.ct_word.specs.WellFormed.{IsWellFormed, has_class, is_place_of}
-use Rattle.ct_word.specs.Reading.{as_cond, condition_at, term_at, plain_crow}
-use Rattle.ct_word.specs.Stands.{itself, TermBelow, places_in}
-use Rattle.ct_word.proofs.Items.{unmapped_item}
-use Rattle.ct_word.proofs.Places.{stands_term}
-use Rattle.ct_word.proofs.WordAt.{word_is}
-use Rattle.ct_query.specs.Terms.{condition_terms}
-use Rattle.ct_condition.specs.Terms.{BelowEither, BelowSome}
-use Rattle.ct_condition.proofs.Reached.{no_term_at}
-use Rattle.ct_operators.specs.Tables.{IsRow}
-use Rattle.ct_operators.specs.Terms.{TermOfRow, TermOfRows}
-use Rattle.ct_operators.specs.Placing.{parts_of, IsEarlier, AreParts}
-use Rattle.ct_operators.proofs.Reaching.{behind, foremost, first_or_behind, at_or_under, word_of_place, named_by, one_named, term_alone}
-use Rattle.ct_operators.proofs.Placed.{parts_are}
 
 -- the image of an item
 pub mapped : {A B : Type 0} (f : A → B) (xs : List A) (x : A) → Contains xs x → Contains (map f xs) (f x)
@@ -148,17 +134,9 @@ module _ (ws : List ℕ) (formed : IsWellFormed ws) where
             | inr z ↦ absurd (omega (arith, z.1))
           ]
         ]
-    by_kind (Some kind.Not) is c parts before =
-        let a = left_of word.0 in
-        parts.2 t (before a parts.0.1 parts.0.0 (shaped (Not (condition_at ws a)) parts.1))
-    by_kind (Some kind.And) is c parts before =
-        let a = left_of word.0 in
-        let b = right_of word.0 in
-        of_two a b parts.0 parts.1 parts.3 before (shaped (And (also (condition_at ws a) (also (condition_at ws b) none))) parts.2)
-    by_kind (Some kind.Or) is c parts before =
-        let a = left_of word.0 in
-        let b = right_of word.0 in
-        of_two a b parts.0 parts.1 parts.3 before (shaped (Or (also (condition_at ws a) (also (condition_at ws b) none))) parts.2)
+    by_kind (Some kind.Not) is c parts before = parts.2 t (before (left_of word.0) parts.0.1 parts.0.0 (shaped _ parts.1))
+    by_kind (Some kind.And) is c parts before = of_two (left_of word.0) (right_of word.0) parts.0 parts.1 parts.3 before (shaped _ parts.2)
+    by_kind (Some kind.Or) is c parts before = of_two (left_of word.0) (right_of word.0) parts.0 parts.1 parts.3 before (shaped _ parts.2)
     by_kind _ is c parts before = absurd (false≢true c)
 
   pub condition_reached : (p : ℕ) (t : Term) → IsTrue (is_place_of ws class.Cond p) → Contains (condition_terms (condition_at ws p)) t → TermBelow ws p t

@@ -1,38 +1,22 @@
 -- Rows joined with rows.
 use Rattle.std.proofs.Common.{◌≡◌, ℕ, ◌+◌, Bool, true, false, ◌&&◌, List, [], ◌∷◌, ◌++◌, map, length, take, cond, refl, ap, sym, ◌∙◌}
-use Rattle.std.specs.Prelude.{◌≢◌, IsTrue, All}
-use Rattle.std.specs.List.{IsDistinct, AllByRecursion}
-use Rattle.std.proofs.Math.Seq.{take-append_seam}
-use Rattle.std.proofs.lemmas.Bool.{false≢true}
-use Rattle.std.proofs.lemmas.List.{append-nil, map_push, map-append, length-append, length-map, append_cancel_left}
-use Rattle.std.proofs.lemmas.List.Concat.{flat_map-append}
+use Rattle.std.{specs.Prelude.{◌≢◌, IsTrue, All}, specs.List.{IsDistinct, AllByRecursion}, proofs.Math.Seq.take-append_seam, proofs.lemmas.Bool.false≢true}
+use Rattle.std.{proofs.lemmas.List.{append-nil, map_push, map-append, length-append, length-map, append_cancel_left}, proofs.lemmas.List.Concat.flat_map-append}
 use Rattle.std.proofs.lemmas.List.Elements.{All-append, All-cons, All-nil, All-head, All-tail, All-map, All-weaker}
 use Rattle.std.proofs.lemmas.Map.Keys.{IsDistinct-head, IsDistinct-tail, IsDistinct-cons}
-use mathlib.Core.List.{IsPrefix}
-use Rattle.ct_word.specs.declared.kinds.Class.TheVariants as class
-use Rattle.ct_word.specs.declared.values.Value.{Value}
-use Rattle.ct_word.specs.declared.values.Term.{Term}
-use Rattle.ct_word.specs.declared.values.Term.TheVariants as term
-use Rattle.ct_word.specs.declared.values.CRow.{CRow}
-use Rattle.ct_word.specs.Value.{World, at, tuple_at, same_cells}
-use Rattle.ct_word.specs.Condition.{holds_at}
-use Rattle.ct_word.specs.WellFormed.{IsWellFormed, is_place_of}
-use Rattle.ct_word.specs.Stands.{HasNoColumn}
-use Rattle.ct_word.specs.Reading.{term_at, condition_at, plain_crow}
-use Rattle.ct_word.proofs.Alike.{cells_decide}
+use Rattle.ct_word.{specs.declared.values.Value.Value, specs.declared.values.Term.Term, specs.declared.values.CRow.CRow, specs.Condition.holds_at}
+use Rattle.ct_word.{specs.Value.{World, at, tuple_at, same_cells}, specs.WellFormed.{IsWellFormed, is_place_of}, specs.Stands.HasNoColumn}
+use Rattle.ct_word.{specs.Reading.{term_at, condition_at, plain_crow}, proofs.Alike.cells_decide}
 use Rattle.ct_word.proofs.Prefixes.{prefix_of_prefix, condition_in_prefix, place_within}
-use Rattle.ct_condition.specs.Truth.{HasTruth, and_at}
-use Rattle.ct_condition.specs.Terms.{TermsFrom, BelowEither}
-use Rattle.ct_condition.proofs.Reached.{formed_before}
-use Rattle.ct_operators.specs.Tables.{cells_of, value_of_rows, IsRow, AreRows}
-use Rattle.ct_operators.specs.Terms.{RowFrom}
-use Rattle.ct_query.specs.Rows.{joins}
-use Rattle.ct_operators.specs.Building.{Builds}
-use Rattle.ct_operators.proofs.Firsts.{none_distinct}
-use Rattle.ct_operators.proofs.Reaching.{none_from, row_later, from_two}
-use Rattle.ct_operators.proofs.Selecting.{value-push, one_shown}
+use Rattle.ct_condition.{specs.Truth.{HasTruth, and_at}, specs.Terms.{TermsFrom, BelowEither}, proofs.Reached.formed_before}
+use Rattle.ct_operators.{specs.Tables.{cells_of, value_of_rows, IsRow, AreRows}, specs.Terms.RowFrom, specs.Building.Builds, proofs.Firsts.none_distinct}
+use Rattle.ct_operators.{proofs.Reaching.{none_from, row_later, from_two}, proofs.Selecting.{value-push, one_shown}}
 use Rattle.ct_operators.proofs.Growing.{terms_grow, is_row_grows, cells_grow, value_grows}
 use Rattle.ct_operators.proofs.Building.{builds_none, builds_as, builds_append, builds_one}
+use Rattle.ct_query.specs.Rows.{joins}
+use mathlib.Core.List.{IsPrefix}
+use Rattle.ct_word.specs.declared.kinds.Class.TheVariants as class
+use Rattle.ct_word.specs.declared.values.Term.TheVariants as term
 
 -- one tuple or none, joined with one or none
 one_join : (c d : Bool) (l r : List Value) → cond (c && d) ((l ++ r) ∷ []) [] ≡ joins (cond c (l ∷ []) []) (cond d (r ∷ []) [])

@@ -1,37 +1,25 @@
 -- Conditions by their parts, with the cells of a row put for their columns.
-use Rattle.std.proofs.Common.{◌≡◌, ℕ, zero, suc, ◌+◌, ◌<◌, ◌≤◌, Bool, true, false, not, ◌&&◌, ◌||◌, List, [], ◌∷◌, Option, Some, None, map, length, get_or, refl, ap, sym, subst, ◌∙◌, arith, inl, inr}
-use Rattle.std.specs.Prelude.{IsTrue, All, slice_get}
-use Rattle.std.specs.List.{Contains}
-use Rattle.std.proofs.lemmas.Bool.{false≢true}
-use Rattle.std.proofs.lemmas.List.{length-map, get_or_past}
+use Rattle.std.proofs.Common.{◌≡◌, ℕ, zero, suc, ◌+◌, ◌<◌, ◌≤◌, true, not, List, [], ◌∷◌, Option, Some, None, map, length, get_or, refl, ap, sym, subst, ◌∙◌, arith, inl, inr}
+use Rattle.std.{specs.Prelude.{IsTrue, All, slice_get}, specs.List.Contains, proofs.lemmas.Bool.false≢true, proofs.lemmas.List.{length-map, get_or_past}}
 use Rattle.std.proofs.lemmas.List.Elements.{All-get_or, All-weaker, Contains-get_or}
-use mathlib.Core.List.{IsPrefix}
-use Rattle.ct_word.specs.declared.kinds.Kind.{Kind}
-use Rattle.ct_word.specs.declared.kinds.Kind.TheVariants as kind
-use Rattle.ct_word.specs.declared.kinds.Class.TheVariants as class
-use Rattle.ct_word.specs.declared.values.Value.{Value}
-use Rattle.ct_word.specs.declared.values.Term.{Term}
-use Rattle.ct_word.specs.declared.values.Term.TheVariants as term
-use Rattle.ct_word.specs.Value.{World, at, other_zero, same_value, tuple_at}
-use Rattle.ct_word.specs.Word.{kind_of, left_of, right_of}
-use Rattle.ct_word.specs.Condition.{Condition, Not, both, either, holds}
-use Rattle.ct_word.specs.Stands.{TermBelow, places_in}
-use Rattle.ct_word.specs.Reading.{by_kind, meanings, as_cond, as_term, condition_at, term_at}
+use Rattle.ct_word.{specs.declared.kinds.Kind.Kind, specs.declared.values.Value.Value, specs.declared.values.Term.Term, specs.Word.{kind_of, left_of, right_of}}
+use Rattle.ct_word.{specs.Value.{World, at, other_zero, tuple_at}, specs.Condition.{Condition, Not, holds}, specs.Connective.{joined, join}}
+use Rattle.ct_word.{proofs.Growth.place_grows, proofs.Joins.joined_holds, specs.declared.connectives.Connective.Connective, specs.Stands.{TermBelow, places_in}}
+use Rattle.ct_word.{specs.Reading.{by_kind, meanings, as_cond, as_term, condition_at, term_at}, proofs.Prefixes.{place_within, condition_in_prefix}}
 use Rattle.ct_word.specs.WellFormed.{IsWellFormed, is_place_of, is_word_of, has_class, fits, fields_of, is_formed_as}
-use Rattle.ct_word.proofs.Growth.{place_grows}
-use Rattle.ct_word.proofs.Prefixes.{place_within, condition_in_prefix}
 use Rattle.ct_word.proofs.Splits.{Split, split_at, formed_at, formed_fields, meaning_at}
 use Rattle.ct_query.specs.Bounds.{ops}
-use Rattle.ct_condition.specs.Rows.{cell_for}
-use Rattle.ct_condition.specs.Terms.{BelowEither}
-use Rattle.ct_condition.specs.Truth.{HasTruth, equal_at, not_at, and_at, or_at}
-use Rattle.ct_operators.specs.Terms.{IsPlaced}
-use Rattle.ct_operators.specs.Building.{HoldsWhere}
-use Rattle.ct_operators.specs.Placing.{tuple_of, holds_for, equal_for, parts_of, IsEarlier, AreParts, column_of, IsCellFor}
+use Rattle.ct_condition.{specs.Rows.cell_for, specs.Terms.BelowEither, specs.Truth.{HasTruth, not_at, join_at}}
+use Rattle.ct_operators.{specs.Terms.IsPlaced, specs.Building.HoldsWhere, proofs.Selecting.cell_of_tuple, proofs.Growing.terms_grow}
+use Rattle.ct_operators.specs.Placing.{tuple_of, holds_for, parts_of, IsEarlier, AreParts, column_of, IsCellFor}
 use Rattle.ct_operators.proofs.Reaching.{foremost, behind, under_named, none_under_condition, term_alone, below_before, some_below_before}
-use Rattle.ct_operators.proofs.Selecting.{cell_of_tuple}
-use Rattle.ct_operators.proofs.Growing.{terms_grow}
-use Rattle.ct_operators.proofs.Holding.{holds_as, holds_later, holds_not, holds_and, holds_or}
+use Rattle.ct_operators.proofs.Holding.{holds_as, holds_later, holds_not}
+use mathlib.Core.List.{IsPrefix}
+use Rattle.ct_word.specs.declared.kinds.Kind.TheVariants as kind
+use Rattle.ct_word.specs.declared.kinds.Class.TheVariants as class
+use Rattle.ct_word.specs.declared.values.Term.TheVariants as term
+use Rattle.ct_word.specs.declared.connectives.Connective.TheVariants as connective
+use Rattle.ct_operators.specs.declared.placing.Parts.TheVariants as parts
 
 -- there is no cell past the cells' end
 past_end : (cells : List ℕ) (k : ℕ) → length cells ≤ k → slice_get cells k ≡ None
@@ -64,11 +52,11 @@ module _ (ws : List ℕ) (wf : IsWellFormed ws) (place w : ℕ) (there : slice_g
   term_is : (k : Kind) → kind_of w ≡ Some k → term_at ws place ≡ as_term (Some (by_kind (Some k) (meanings ws) (left_of w) (right_of w)))
   term_is k is = ap as_term (stands_for k is)
 
-  -- a term below one of two places that the word names
-  under_either : (k : Kind) → kind_of w ≡ Some k → (a b : ℕ) → Contains (places_in (Some k) (left_of w) (right_of w)) a → Contains (places_in (Some k) (left_of w) (right_of w)) b
-      → (u : Term) → BelowEither ws a b u → TermBelow ws place u
-  under_either k is a b left right u (inl h) = under_named ws wf place w a k there is left u h
-  under_either k is a b left right u (inr h) = under_named ws wf place w b k there is right u h
+  -- a term below one of the two places that the word names
+  under_both : (k : Kind) → kind_of w ≡ Some k → places_in (Some k) (left_of w) (right_of w) ≡ left_of w ∷ right_of w ∷ [] → (u : Term) → BelowEither ws (left_of w) (right_of w) u → TermBelow ws place u
+  under_both k is two u (inl h) = under_named ws wf place w (left_of w) k there is (subst (λ ps. Contains ps (left_of w)) (sym two) (foremost (left_of w) (right_of w ∷ []))) u h
+  under_both k is two u (inr h) =
+      under_named ws wf place w (right_of w) k there is (subst (λ ps. Contains ps (right_of w)) (sym two) (behind (left_of w) (right_of w ∷ []) (right_of w) (foremost (right_of w) []))) u h
 
   -- the parts of a condition, by the kind of its word
   pub parts_by_kind : (o : Option Kind) → kind_of w ≡ o → has_class o class.Cond ≡ true → AreParts ws place (parts_of o (left_of w) (right_of w))
@@ -81,37 +69,29 @@ module _ (ws : List ℕ) (wf : IsWellFormed ws) (place w : ℕ) (there : slice_g
     none_under_condition ws wf place w kind.False there is refl (ap (λ o. is_word_of o class.Cond) there ∙ ap (λ o. has_class o class.Cond) is),
   )
   parts_by_kind (Some kind.Equal) is e =
-      (a_term (left_of w) (fields_at kind.Equal is).0, a_term (right_of w) (fields_at kind.Equal is).1, condition_is kind.Equal is, under_either kind.Equal is (left_of w) (right_of w) (foremost (left_of w) (right_of w ∷ [])) (behind (left_of w) (right_of w ∷ []) (right_of w) (foremost (right_of w) [])))
+      (a_term (left_of w) (fields_at kind.Equal is).0, a_term (right_of w) (fields_at kind.Equal is).1, condition_is kind.Equal is, under_both kind.Equal is refl)
   parts_by_kind (Some kind.Not) is e = (earlier (left_of w) (fields_at kind.Not is).0, condition_is kind.Not is, under_named ws wf place w (left_of w) kind.Not there is (foremost (left_of w) []))
-  parts_by_kind (Some kind.And) is e =
-      (earlier (left_of w) (fields_at kind.And is).0, earlier (right_of w) (fields_at kind.And is).1, condition_is kind.And is, under_either kind.And is (left_of w) (right_of w) (foremost (left_of w) (right_of w ∷ [])) (behind (left_of w) (right_of w ∷ []) (right_of w) (foremost (right_of w) [])))
-  parts_by_kind (Some kind.Or) is e =
-      (earlier (left_of w) (fields_at kind.Or is).0, earlier (right_of w) (fields_at kind.Or is).1, condition_is kind.Or is, under_either kind.Or is (left_of w) (right_of w) (foremost (left_of w) (right_of w ∷ [])) (behind (left_of w) (right_of w ∷ []) (right_of w) (foremost (right_of w) [])))
+  parts_by_kind (Some kind.And) is e = (earlier (left_of w) (fields_at kind.And is).0, earlier (right_of w) (fields_at kind.And is).1, condition_is kind.And is, under_both kind.And is refl)
+  parts_by_kind (Some kind.Or) is e = (earlier (left_of w) (fields_at kind.Or is).0, earlier (right_of w) (fields_at kind.Or is).1, condition_is kind.Or is, under_both kind.Or is refl)
   parts_by_kind _ is e = absurd (false≢true e)
 
   pub parts_are : IsTrue (is_place_of ws class.Cond place) → AreParts ws place (parts_of (kind_of w) (left_of w) (right_of w))
   parts_are e = parts_by_kind (kind_of w) refl (sym (ap (λ o. is_word_of o class.Cond) there) ∙ e)
 
-  -- a term that is no column is worth the same on each row
-  alone_by_kind : (o : Option Kind) → kind_of w ≡ o → has_class o class.Term ≡ true → column_of o (left_of w) ≡ None → (v : World) (row : List Value)
-      → at v [] (term_at ws place) ≡ at v row (term_at ws place)
-  alone_by_kind (Some kind.Number) is e n v row = ap (at v []) (term_is kind.Number is) ∙ sym (ap (at v row) (term_is kind.Number is))
-  alone_by_kind (Some kind.TextConstant) is e n v row = ap (at v []) (term_is kind.TextConstant is) ∙ sym (ap (at v row) (term_is kind.TextConstant is))
-  alone_by_kind (Some kind.NamedNull) is e n v row = ap (at v []) (term_is kind.NamedNull is) ∙ sym (ap (at v row) (term_is kind.NamedNull is))
-  alone_by_kind (Some kind.FreshNull) is e n v row = ap (at v []) (term_is kind.FreshNull is) ∙ sym (ap (at v row) (term_is kind.FreshNull is))
-  alone_by_kind (Some kind.OtherValue) is e n v row = ap (at v []) (term_is kind.OtherValue is) ∙ sym (ap (at v row) (term_is kind.OtherValue is))
-  alone_by_kind (Some kind.Column) is e n v row = let bad : Some (left_of w) ≡ None = n in cc
-  alone_by_kind _ is e n v row = absurd (false≢true e)
+  -- a term that is no column is worth the same on each row, and no cell is put for it
+  plain : (t : Term) → term_at ws place ≡ t → ((v : World) (row : List Value) → at v [] t ≡ at v row t) → ((cells : List ℕ) → cell_for cells t ≡ None)
+      → ((v : World) (row : List Value) → at v [] (term_at ws place) ≡ at v row (term_at ws place)) × ((cells : List ℕ) → cell_for cells (term_at ws place) ≡ None)
+  plain t is same none = (λ v row. ap (at v []) is ∙ same v row ∙ sym (ap (at v row) is), λ cells. ap (cell_for cells) is ∙ none cells)
 
-  -- and no cell is put for it
-  uncolumned : (cells : List ℕ) (o : Option Kind) → kind_of w ≡ o → has_class o class.Term ≡ true → column_of o (left_of w) ≡ None → cell_for cells (term_at ws place) ≡ None
-  uncolumned cells (Some kind.Number) is e n = ap (cell_for cells) (term_is kind.Number is)
-  uncolumned cells (Some kind.TextConstant) is e n = ap (cell_for cells) (term_is kind.TextConstant is)
-  uncolumned cells (Some kind.NamedNull) is e n = ap (cell_for cells) (term_is kind.NamedNull is)
-  uncolumned cells (Some kind.FreshNull) is e n = ap (cell_for cells) (term_is kind.FreshNull is)
-  uncolumned cells (Some kind.OtherValue) is e n = ap (cell_for cells) (term_is kind.OtherValue is)
-  uncolumned cells (Some kind.Column) is e n = let bad : Some (left_of w) ≡ None = n in cc
-  uncolumned cells _ is e n = absurd (false≢true e)
+  uncolumned : (o : Option Kind) → kind_of w ≡ o → has_class o class.Term ≡ true → column_of o (left_of w) ≡ None
+      → ((v : World) (row : List Value) → at v [] (term_at ws place) ≡ at v row (term_at ws place)) × ((cells : List ℕ) → cell_for cells (term_at ws place) ≡ None)
+  uncolumned (Some kind.Number) is e n = plain _ (term_is kind.Number is) (λ v row. refl) (λ cells. refl)
+  uncolumned (Some kind.TextConstant) is e n = plain _ (term_is kind.TextConstant is) (λ v row. refl) (λ cells. refl)
+  uncolumned (Some kind.NamedNull) is e n = plain _ (term_is kind.NamedNull is) (λ v row. refl) (λ cells. refl)
+  uncolumned (Some kind.FreshNull) is e n = plain _ (term_is kind.FreshNull is) (λ v row. refl) (λ cells. refl)
+  uncolumned (Some kind.OtherValue) is e n = plain _ (term_is kind.OtherValue is) (λ v row. refl) (λ cells. refl)
+  uncolumned (Some kind.Column) is e n = let bad : Some (left_of w) ≡ None = n in cc
+  uncolumned _ is e n = absurd (false≢true e)
 
   column_by_kind : (o : Option Kind) → kind_of w ≡ o → (k : ℕ) → column_of o (left_of w) ≡ Some k → term_at ws place ≡ term.Column k
   column_by_kind (Some kind.Column) is k e =
@@ -123,15 +103,13 @@ module _ (ws : List ℕ) (wf : IsWellFormed ws) (place w : ℕ) (there : slice_g
   module _ (cells : List ℕ) (class_is : IsTrue (is_place_of ws class.Term place)) where
     -- no column
     pub term_itself : column_of (kind_of w) (left_of w) ≡ None → IsCellFor ws cells place place
-    term_itself n = record {
-      class = class_is;
-      worth = λ v. alone_by_kind (kind_of w) refl (sym (ap (λ o. is_word_of o class.Term) there) ∙ class_is) n v (tuple_of ws cells v);
-      from = λ u h. inr (
-        h,
-        ap (cell_for cells) (term_alone ws wf place u class_is h)
-            ∙ uncolumned cells (kind_of w) refl (sym (ap (λ o. is_word_of o class.Term) there) ∙ class_is) n,
-      );
-    }
+    term_itself n =
+        let alone = uncolumned (kind_of w) refl (sym (ap (λ o. is_word_of o class.Term) there) ∙ class_is) n in
+        record {
+          class = class_is;
+          worth = λ v. alone.0 v (tuple_of ws cells v);
+          from = λ u h. inr (h, ap (cell_for cells) (term_alone ws wf place u class_is h) ∙ alone.1 cells);
+        }
 
     -- a column of the row
     pub cell_itself : (k cell : ℕ) → column_of (kind_of w) (left_of w) ≡ Some k → get_or cells k 0 ≡ cell → k < length cells
@@ -157,11 +135,16 @@ module _ (ws : List ℕ) (wf : IsWellFormed ws) (place w : ℕ) (there : slice_g
     }
 
 -- the equalities, NOTs and connectives of two conditions joined
-pub ops_both : (c d : Condition) → ops (both c d) ≡ ops c + ops d + 1
-ops_both c d = omega arith
+ops_joined : (j : Connective) (c d : Condition) → ops (joined j c d) ≡ ops c + ops d + 1
+ops_joined connective.And c d = omega arith
+ops_joined connective.Or c d = omega arith
 
-pub ops_either : (c d : Condition) → ops (either c d) ≡ ops c + ops d + 1
-ops_either c d = omega arith
+-- and where the second is put over more words
+pub ops_of_parts : (old now : List ℕ) (cond c d : ℕ) (j : Connective) → IsPrefix old now → AreParts old cond (parts.Joined j c d)
+    → ops (condition_at old cond) ≡ ops (condition_at old c) + ops (condition_at now d) + 1
+ops_of_parts old now cond c d j grown made =
+    ap ops made.2 ∙ ops_joined j (condition_at old c) (condition_at old d)
+    ∙ ap (λ x. ops (condition_at old c) + ops x + 1) (sym (condition_in_prefix old now d grown (place_within old class.Cond d made.1.0)))
 
 -- terms below what is placed for a part, said of the whole
 pub placed_up : (old : List ℕ) (c cond : ℕ) (cells : List ℕ) → ((u : Term) → TermBelow old c u → TermBelow old cond u) → (u : Term) → IsPlaced old c cells u → IsPlaced old cond cells u
@@ -175,27 +158,11 @@ placed_before old now grown formed c cells e terms u (inl b) =
     inl (some_below_before old now grown formed cells u (All-weaker (λ p. IsTrue (is_place_of old class.Term p)) (λ p. p < length old) (λ p. place_within old class.Term p) cells terms) b)
 placed_before old now grown formed c cells e terms u (inr x) = inr (below_before old now grown formed c u (place_within old class.Cond c e) x.0, x.1)
 
--- the equality of the cells that stand for two terms
-pub equal_placed : (old new : List ℕ) (s t a b place : ℕ) (cells : List ℕ) → IsCellFor old cells s a → IsCellFor old cells t b
-    → HasTruth new place (equal_at old a b) → HoldsWhere new place (equal_for old s t cells)
-equal_placed old new s t a b place cells x y h =
-    record { class = h.class; holds = λ v. h.truth_is v [] ∙ (λ i. same_value (x.worth v i) (y.worth v i)) }
-
 -- what a condition is for a tuple, as words are added
 pub holds_for_grows : (old now : List ℕ) (c : ℕ) (cells : List ℕ) (v : World) → IsPrefix old now → IsTrue (is_place_of old class.Cond c)
     → All (λ p. IsTrue (is_place_of old class.Term p)) cells → holds_for now c cells v ≡ holds_for old c cells v
 holds_for_grows old now c cells v grown e terms =
     λ i. holds v (tuple_at v (terms_grow old now grown cells terms i)) (condition_in_prefix old now c grown (place_within old class.Cond c e) i)
-
-and_alone : (a b : Bool) → (a && b) ≡ (a && (b && true))
-and_alone true true = refl
-and_alone true false = refl
-and_alone false b = refl
-
-or_alone : (a b : Bool) → (a || b) ≡ (a || (b || false))
-or_alone true b = refl
-or_alone false true = refl
-or_alone false false = refl
 
 module _ (old : List ℕ) (cond : ℕ) (cells : List ℕ) where
   pub not_placed : (mid new : List ℕ) (c placed place : ℕ) → condition_at old cond ≡ Not (condition_at old c) → HoldsWhere mid placed (holds_for old c cells)
@@ -208,14 +175,13 @@ module _ (old : List ℕ) (cond : ℕ) (cells : List ℕ) where
     other_too : HoldsWhere m2 second (holds_for old d cells)
     other_too = holds_as m2 second _ _ (λ v. holds_for_grows old m1 d cells v grown right terms) other
 
-    pub both_placed : condition_at old cond ≡ both (condition_at old c) (condition_at old d) → HasTruth new place (and_at m2 first second) → HoldsWhere new place (holds_for old cond cells)
-    both_placed is h =
-        holds_as new place (λ v. holds_for old c cells v && holds_for old d cells v) (holds_for old cond cells)
-        (λ v. and_alone (holds_for old c cells v) (holds_for old d cells v) ∙ sym (ap (holds v (tuple_of old cells v)) is))
-        (holds_and m2 new first second place _ _ (holds_later m1 m2 first _ longer one) other_too h)
-
-    pub either_placed : condition_at old cond ≡ either (condition_at old c) (condition_at old d) → HasTruth new place (or_at m2 first second) → HoldsWhere new place (holds_for old cond cells)
-    either_placed is h =
-        holds_as new place (λ v. holds_for old c cells v || holds_for old d cells v) (holds_for old cond cells)
-        (λ v. or_alone (holds_for old c cells v) (holds_for old d cells v) ∙ sym (ap (holds v (tuple_of old cells v)) is))
-        (holds_or m2 new first second place _ _ (holds_later m1 m2 first _ longer one) other_too h)
+    pub joined_placed : (j : Connective) → condition_at old cond ≡ joined j (condition_at old c) (condition_at old d) → HasTruth new place (join_at j m2 first second) → HoldsWhere new place (holds_for old cond cells)
+    joined_placed j is h =
+        let here : HoldsWhere m2 first (holds_for old c cells) = holds_later m1 m2 first _ longer one in
+        record {
+          class = h.class;
+          holds = λ v.
+              h.truth_is v []
+              ∙ (λ i. join j (here.holds v i) (other_too.holds v i))
+              ∙ sym (ap (holds v (tuple_of old cells v)) is ∙ joined_holds j v (tuple_of old cells v) (condition_at old c) (condition_at old d));
+        }

@@ -1,24 +1,14 @@
 -- Rows with some of their cells.
 use Rattle.std.proofs.Common.{◌≡◌, ℕ, zero, suc, ◌<◌, Bool, true, false, List, [], ◌∷◌, map, length, cond, get_or, Some, refl, ap, sym, subst, ◌∙◌, arith}
-use Rattle.std.specs.Prelude.{IsTrue, All, slice_get}
-use Rattle.std.specs.List.{filter, cons_option}
-use Rattle.std.proofs.lemmas.List.{length-map}
+use Rattle.std.{specs.Prelude.{IsTrue, All, slice_get}, specs.List.{filter, cons_option}, proofs.lemmas.List.length-map}
 use Rattle.std.proofs.lemmas.List.Elements.{All-nil, All-cons, All-head, All-tail, All-map, All-weaker, All-get_or}
-use Rattle.ct_word.specs.declared.kinds.Class.TheVariants as class
-use Rattle.ct_word.specs.declared.values.Term.{Term}
-use Rattle.ct_word.specs.declared.values.CRow.{CRow}
-use Rattle.ct_word.specs.Value.{World, cell_at, tuple_at}
-use Rattle.ct_word.specs.Change.{PlainRow}
-use Rattle.ct_word.specs.Condition.{holds_at}
-use Rattle.ct_word.specs.WellFormed.{is_place_of}
-use Rattle.ct_word.specs.Stands.{HasNoColumn}
-use Rattle.ct_word.specs.Reading.{term_at, condition_at, plain_crow}
+use Rattle.ct_word.{specs.declared.values.Term.Term, specs.declared.values.CRow.CRow, specs.Value.{World, cell_at, tuple_at}, specs.Change.PlainRow}
+use Rattle.ct_word.{specs.Condition.holds_at, specs.WellFormed.is_place_of, specs.Stands.HasNoColumn, specs.Reading.{term_at, condition_at, plain_crow}}
 use Rattle.ct_query.specs.Patterns.{picked}
 use Rattle.ct_condition.specs.Terms.{TermsFrom}
-use Rattle.ct_operators.specs.Terms.{RowFrom, RowsFrom}
-use Rattle.ct_operators.specs.Tables.{cells_of, value_of_rows, IsRow}
-use Rattle.ct_operators.specs.Projection.{picked_row}
+use Rattle.ct_operators.{specs.Terms.{RowFrom, RowsFrom}, specs.Tables.{cells_of, value_of_rows, IsRow}, specs.Projection.picked_row}
 use Rattle.ct_operators.proofs.Selecting.{cell_of_tuple}
+use Rattle.ct_word.specs.declared.kinds.Class.TheVariants as class
 
 -- the item at a position, item by item
 got : (f : ℕ → Term) (xs : List ℕ) (k : ℕ) → k < length xs → slice_get (map f xs) k ≡ Some (f (get_or xs k 0))

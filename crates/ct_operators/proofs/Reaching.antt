@@ -1,29 +1,19 @@
 -- Which terms are reached from rows, as words are added.
 use Rattle.std.proofs.Common.{◌≡◌, ℕ, zero, suc, true, Option, ◌<◌, List, [], ◌∷◌, ◌++◌, Some, None, length, refl, ap, sym, subst, ◌∙◌, arith, inl, inr}
-use Rattle.std.specs.Prelude.{◌≢◌, ◌⊎◌, IsTrue, All, slice_get}
-use Rattle.std.specs.List.{Contains}
-use Rattle.std.proofs.lemmas.List.Elements.{All-head, All-tail, All-cons, All-nil, All-push, All-append, All-weaker, All-contains, Contains-append_left, Contains-append_right, Contains-append_cases, Contains-push_cases, All-contains_itself}
+use Rattle.std.{specs.Prelude.{◌≢◌, ◌⊎◌, Result, IfOk, IsTrue, All, slice_get}, proofs.lemmas.Result.IfOk-weaker, specs.List.Contains}
 use Rattle.std.proofs.lemmas.Bool.{false≢true}
-use mathlib.Core.List.{IsPrefix}
-use Rattle.ct_word.specs.declared.kinds.Kind.{Kind}
-use Rattle.ct_word.specs.declared.kinds.Kind.TheVariants as kind
-use Rattle.ct_word.specs.declared.kinds.Class.{Class}
-use Rattle.ct_word.specs.declared.kinds.Class.TheVariants as class
-use Rattle.ct_word.specs.declared.values.Term.{Term}
-use Rattle.ct_word.specs.declared.values.Term.TheVariants as term
-use Rattle.ct_word.specs.declared.values.CRow.{CRow}
-use Rattle.ct_word.specs.Word.{kind_of, left_of, right_of}
+use Rattle.std.proofs.lemmas.List.Elements.{All-head, All-tail, All-cons, All-nil, All-weaker, All-contains, Contains-append_left, Contains-append_right, Contains-append_cases, Contains-push_cases, All-contains_itself}
+use Rattle.ct_word.{specs.declared.kinds.Kind.Kind, specs.declared.kinds.Class.Class, specs.declared.values.Term.Term, specs.declared.values.CRow.CRow}
+use Rattle.ct_word.{specs.Word.{kind_of, left_of, right_of}, specs.Reading.{IsTerm, as_term, term_at}, proofs.Growth.place_grows}
 use Rattle.ct_word.specs.WellFormed.{PlaceOf, IsWellFormed, fields_of, fits, has_class, is_formed_as, is_place_of, is_word_of}
-use Rattle.ct_word.specs.Reading.{IsTerm, as_term, term_at}
 use Rattle.ct_word.specs.Stands.{StandsAt, Below, itself, through, TermBelow, HasNoColumn, places_in, places_of}
-use Rattle.ct_word.proofs.Growth.{place_grows}
-use Rattle.ct_word.proofs.Splits.{split_at, formed_at, formed_fields, some-injective}
-use Rattle.ct_word.proofs.Prefixes.{get_in_prefix, meaning_in_prefix, place_within}
-use Rattle.ct_condition.specs.Rows.{cell_for}
-use Rattle.ct_condition.specs.Terms.{TermsFrom, BelowEither, BelowSome}
-use Rattle.ct_condition.proofs.Reached.{named_earlier, reached_earlier, no_term_at}
-use Rattle.ct_operators.specs.Tables.{IsRow}
-use Rattle.ct_operators.specs.Terms.{TermOfRow, TermOfRows, RowFrom, RowsFrom, IsNoColumn}
+use Rattle.ct_word.{proofs.Splits.{split_at, formed_at, formed_fields, some-injective}, proofs.Prefixes.{get_in_prefix, meaning_in_prefix, place_within}}
+use Rattle.ct_condition.{specs.Rows.cell_for, specs.Terms.{TermsFrom, BelowEither, BelowSome}, proofs.Reached.{named_earlier, reached_earlier, no_term_at}}
+use Rattle.ct_operators.{specs.Tables.IsRow, specs.Terms.{TermOfRow, TermOfRows, RowFrom, RowsFrom, IsNoColumn}}
+use mathlib.Core.List.{IsPrefix}
+use Rattle.ct_word.specs.declared.kinds.Kind.TheVariants as kind
+use Rattle.ct_word.specs.declared.kinds.Class.TheVariants as class
+use Rattle.ct_word.specs.declared.values.Term.TheVariants as term
 
 pub both_all : {X : Type 0} (P Q R : X → Type 0) → ((x : X) → P x → Q x → R x) → (xs : List X) → All P xs → All Q xs → All R xs
 both_all P Q R f [] ps qs = All-nil R
@@ -94,16 +84,6 @@ none_of_rows ws rs each k h = none_of_some ws (h.row.cond ∷ h.row.cells) (All-
 pub plain_rows : (ws : List ℕ) (n : ℕ) (rs : List CRow) → All (IsRow ws n) rs → All (λ r. All (HasNoColumn ws) (r.cond ∷ r.cells)) rs
 plain_rows ws n rs = All-weaker (IsRow ws n) (λ r. All (HasNoColumn ws) (r.cond ∷ r.cells)) (λ r is. is.plain) rs
 
--- nor below those of two tables
-pub none_of_both : (ws : List ℕ) (m n : ℕ) (ls rs : List CRow) → All (IsRow ws m) ls → All (IsRow ws n) rs → (k : ℕ) → TermOfRows ws (ls ++ rs) (term.Column k) → ⊥
-none_of_both ws m n ls rs left right =
-    none_of_rows ws (ls ++ rs) (All-append (λ r. All (HasNoColumn ws) (r.cond ∷ r.cells)) ls rs (plain_rows ws m ls left) (plain_rows ws n rs right))
-
--- nor where what is further named has none
-pub none_of_either : (ws : List ℕ) (rs : List CRow) (n : ℕ) → All (IsRow ws n) rs → (named : Term → Type 0) → (k : ℕ) → TermOfRows ws rs (term.Column k) ⊎ (named (term.Column k) × IsNoColumn (term.Column k)) → ⊥
-none_of_either ws rs n each named k (inl h) = none_of_rows ws rs (plain_rows ws n rs each) k h
-none_of_either ws rs n each named k (inr x) = x.1 k refl
-
 cell_there : (cells : List ℕ) (k : ℕ) → k < length cells → slice_get cells k ≢ None
 cell_there [] k lt e = omega (arith, lt)
 cell_there (s ∷ cells) zero lt e = let bad : Some s ≡ None = e in cc
@@ -155,10 +135,6 @@ module _ (old new : List ℕ) (longer : IsPrefix old new) (formed : IsWellFormed
   pub rows_before : (rs : List CRow) (t : Term) → All (IsRow old n) rs → TermOfRows new rs t → TermOfRows old rs t
   rows_before rs t each h = record { row = h.row; among = h.among; below = row_before h.row t (All-contains (IsRow old n) rs h.row each h.among) h.below }
 
-  -- rows in the making, with one more
-  pub rows_push : (source : Term → Type 0) (out : List CRow) (r : CRow) → All (IsRow old n) out → RowsFrom old out source → RowFrom new source r → RowsFrom new (out ++ r ∷ []) source
-  rows_push source out r each from one = All-push (RowFrom new source) out r (rows_later source out each from) one
-
   -- a row under another condition
   pub under_from : (source : Term → Type 0) (r : CRow) (place : ℕ) → IsRow old n r → RowFrom old source r → TermsFrom new place source → RowFrom new source (record { cells = r.cells; cond = place })
   under_from source r place is from one =
@@ -167,6 +143,13 @@ module _ (old new : List ℕ) (longer : IsPrefix old new) (formed : IsWellFormed
 -- the word of two places
 pub from_two : (now new : List ℕ) (c d place : ℕ) (source : Term → Type 0) → TermsFrom now c source → TermsFrom now d source → TermsFrom new place (BelowEither now c d) → TermsFrom new place source
 from_two now new c d place source left right from t h = elim (from t h) [ inl a ↦ left t a | inr b ↦ right t b ]
+
+-- the word of a place that stands there already and of one over more words
+pub from_beside : (old mid new : List ℕ) (c d : ℕ) (source : Term → Type 0) {E : Type 0} (r : Result ℕ E) → IsPrefix old mid → IsWellFormed old → IsTrue (is_place_of old class.Cond c)
+    → TermsFrom old c source → TermsFrom mid d source → IfOk r (λ p. TermsFrom new p (BelowEither mid c d)) → IfOk r (λ p. TermsFrom new p source)
+from_beside old mid new c d source r longer formed e left right =
+    IfOk-weaker r (λ p. TermsFrom new p (BelowEither mid c d)) (λ p. TermsFrom new p source)
+    (λ p. from_two mid new c d p source (from_later old mid longer formed c source (place_within old class.Cond c e) left) right)
 
 -- a term below a row of one table, or below the other table
 pub of_either : (old now : List ℕ) (grown : IsPrefix old now) (formed : IsWellFormed old) (m n : ℕ) (ls rs : List CRow) (l : CRow) → IsRow old m l → Contains ls l → All (IsRow old n) rs
@@ -187,23 +170,20 @@ module _ (old now : List ℕ) (grown : IsPrefix old now) (formed : IsWellFormed 
   pair_below ps qs p q left right l r t (inl a) = record { place = p; among = Contains-append_left ps qs p left; below = below_before old now grown formed p t l a }
   pair_below ps qs p q left right l r t (inr b) = record { place = q; among = Contains-append_right ps qs q right; below = below_before old now grown formed q t r b }
 
-  -- a term below a row, or below the cells of another
-  pub shown_from : (m n : ℕ) (row s : CRow) (others : List CRow) → IsRow old m row → IsRow old n s → Contains others s
-      → (t : Term) → BelowSome now (s.cond ∷ (s.cells ++ row.cells)) t → TermOfRows old (row ∷ others) t
-  shown_from m n row s others is_row is among t b = elim (first_or_behind s.cond (s.cells ++ row.cells) b.place b.among) [
+  -- a term below a row, or below further cells
+  pub shown_from : (n : ℕ) (s : CRow) (others : List CRow) (cells : List ℕ) → All (λ p. IsTrue (is_place_of old class.Term p)) cells → IsRow old n s → Contains others s
+      → (t : Term) → BelowSome now (s.cond ∷ (s.cells ++ cells)) t → BelowSome old cells t ⊎ TermOfRows old others t
+  shown_from n s others cells terms is among t b = elim (first_or_behind s.cond (s.cells ++ cells) b.place b.among) [
     | inl e ↦ of_other (record { place = s.cond; among = foremost s.cond s.cells; below = subst (λ p. TermBelow now p t) (sym e) b.below })
-    | inr x ↦ elim (Contains-append_cases s.cells row.cells b.place x) [
+    | inr x ↦ elim (Contains-append_cases s.cells cells b.place x) [
       | inl a ↦ of_other (record { place = b.place; among = behind s.cond s.cells b.place a; below = b.below })
       | inr a ↦
-          record {
-            row = row;
-            among = foremost row others;
-            below = row_before old now grown formed m row t is_row (record { place = b.place; among = behind row.cond row.cells b.place a; below = b.below });
-          }
+          inl (some_below_before old now grown formed cells t (All-weaker (λ p. IsTrue (is_place_of old class.Term p)) (λ p. p < length old) (λ p. place_within old class.Term p) cells terms)
+          (record { place = b.place; among = a; below = b.below }))
     ]
   ] where
-    of_other : TermOfRow now s t → TermOfRows old (row ∷ others) t
-    of_other h = record { row = s; among = behind row others s among; below = row_before old now grown formed n s t is h }
+    of_other : TermOfRow now s t → BelowSome old cells t ⊎ TermOfRows old others t
+    of_other h = inr (record { row = s; among = among; below = row_before old now grown formed n s t is h })
 
 -- a term below a place stands there, or below a place that its word names
 pub at_or_under : (ws : List ℕ) (p r w : ℕ) (t : Term) → slice_get ws p ≡ Some w → Below ws p r → StandsAt ws r (IsTerm t) → StandsAt ws p (IsTerm t) ⊎ BelowSome ws (places_of w) t

@@ -1,33 +1,19 @@
 -- A selection, row by row.
-use Rattle.std.proofs.Common.{◌≡◌, ℕ, ◌<◌, Bool, true, false, ◌&&◌, List, [], ◌∷◌, ◌++◌, map, length, cond, get_or, refl, ap, sym, subst, ◌∙◌}
-use Rattle.std.specs.Prelude.{◌≢◌, All, slice_index_or}
-use Rattle.std.specs.List.{IsDistinct, AllByRecursion, filter}
-use Rattle.std.proofs.lemmas.List.{append-nil, map_push, map-append, get_or-map, length-map}
+use Rattle.std.proofs.Common.{◌≡◌, ℕ, ◌<◌, Bool, true, false, ◌&&◌, List, [], ◌∷◌, ◌++◌, ◌+◌, map, length, take, cond, get_or, refl, ap, sym, subst, ◌∙◌}
+use Rattle.std.{specs.Prelude.{◌≢◌, All, slice_index_or}, specs.List.{IsDistinct, AllByRecursion, Contains, filter}}
+use Rattle.std.proofs.lemmas.List.{append-nil, take_more, map_push, map-append, get_or-map, length-map}
 use Rattle.std.proofs.lemmas.List.Elements.{All-cons, All-tail, All-push, All-weaker, All-get_or, All-nil, filter-append}
 use Rattle.std.proofs.lemmas.Map.Keys.{IsDistinct-head, IsDistinct-tail, IsDistinct-cons}
-use mathlib.Core.List.{IsPrefix}
-use Rattle.ct_word.specs.declared.values.Value.{Value}
-use Rattle.ct_word.specs.declared.values.Term.{Term}
-use Rattle.ct_word.specs.declared.values.Term.TheVariants as term
-use Rattle.ct_word.specs.declared.values.CRow.{CRow}
-use Rattle.ct_word.specs.Value.{World, at, cell_at, other_zero, same_cells, tuple_at}
-use Rattle.ct_word.specs.Sublist.{IsSublist, ended, left_out, taken}
-use Rattle.ct_word.specs.Change.{PlainRow}
-use Rattle.ct_word.specs.Condition.{holds_at}
-use Rattle.ct_word.specs.WellFormed.{IsWellFormed}
-use Rattle.ct_word.specs.Stands.{HasNoColumn}
-use Rattle.ct_word.specs.Reading.{term_at, condition_at, plain_crow}
+use Rattle.ct_word.{specs.declared.values.Value.Value, specs.declared.values.Term.Term, specs.declared.values.CRow.CRow, specs.Change.PlainRow}
+use Rattle.ct_word.{specs.Value.{World, at, cell_at, other_zero, same_cells, tuple_at}, specs.Sublist.{IsSublist, ended, left_out, taken}}
+use Rattle.ct_word.{specs.Condition.holds_at, specs.WellFormed.IsWellFormed, specs.Stands.HasNoColumn, specs.Reading.{term_at, condition_at, plain_crow}}
 use Rattle.ct_word.proofs.Prefixes.{prefix_of_prefix, prefix_same}
-use Rattle.ct_query.specs.Database.{SameSet, has_tuple}
-use Rattle.ct_query.specs.Step.{shown_rows}
-use Rattle.ct_condition.specs.Terms.{TermsFrom}
-use Rattle.ct_condition.proofs.Reached.{formed_before}
-use Rattle.ct_operators.specs.Tables.{cells_of, value_of_rows, IsRow, AreRows}
-use Rattle.ct_operators.specs.Terms.{RowFrom, RowsFrom}
-use Rattle.ct_operators.specs.Building.{HoldsWhere}
-use Rattle.ct_operators.proofs.Reaching.{none_from, rows_later, under_from}
-use Rattle.ct_operators.proofs.Growing.{terms_grow, is_row_grows, cells_grow, value_grows}
-use Rattle.ct_query.proofs.Sublists.{sublist-append, nothing_of, all_of}
+use Rattle.ct_query.{specs.Database.{SameSet, has_tuple}, specs.Step.shown_rows, proofs.Sublists.{sublist-append, nothing_of, all_of}}
+use Rattle.ct_condition.{specs.Terms.TermsFrom, proofs.Reached.formed_before}
+use Rattle.ct_operators.{specs.Tables.{cells_of, value_of_rows, IsRow, AreRows}, specs.Terms.{RowFrom, RowsFrom}, specs.Building.HoldsWhere}
+use Rattle.ct_operators.{proofs.Reaching.{none_from, rows_later, under_from}, proofs.Growing.{terms_grow, is_row_grows, cells_grow, value_grows}}
+use mathlib.Core.List.{IsPrefix}
+use Rattle.ct_word.specs.declared.values.Term.TheVariants as term
 
 -- the cell of the tuple that a row stands for
 pub cell_of_tuple : (ws : List ℕ) (v : World) (cells : List ℕ) (column : ℕ) → column < length cells
@@ -180,3 +166,27 @@ row_at old now width rows i r grown formed each lt e =
     let is : IsRow old width r = subst (IsRow old width) (sym e) (All-get_or (IsRow old width) rows i r lt each) in
     let on = is_row_grows old now grown formed width r is in
     (is, record { terms = on.terms; condition = on.condition; width_is = refl; plain = on.plain })
+
+-- a row in a turn over rows
+pub record Turn (old now : List ℕ) (width : ℕ) (rows : List CRow) (i : ℕ) (r : CRow) : Type 0 where
+  pub within : i < length rows
+  pub among : Contains rows r
+  pub was : IsRow old width r
+  pub is : IsRow now width r
+  pub itself : IsRow now (length r.cells) r
+  pub done : take i rows ++ r ∷ [] ≡ take (i + 1) rows
+
+pub turn : (old now : List ℕ) (width : ℕ) (rows : List CRow) (i : ℕ) (r : CRow) → IsPrefix old now → IsWellFormed old → All (IsRow old width) rows
+    → (items : List CRow) → items ≡ rows → i < length items → r ≡ get_or items i r → Turn old now width rows i r
+turn old now width rows i r grown formed each items same lt e =
+    let within : i < length rows = subst (λ l. i < length l) same lt in
+    let found : r ≡ get_or rows i r = e ∙ ap (λ l. get_or l i r) same in
+    let is = row_at old now width rows i r grown formed each within found in
+    record {
+      within = within;
+      among = (i, within, sym found);
+      was = is.0;
+      is = is_row_grows old now grown formed width r is.0;
+      itself = is.1;
+      done = ap (λ x. take i rows ++ x ∷ []) found ∙ sym (take_more rows i r within);
+    }

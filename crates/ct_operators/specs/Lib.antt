@@ -6,4 +6,4 @@ pub mod Building
 pub mod Matching
 pub mod Placing
 pub mod Refusals
-pub mod Membership
+pub mod Judging

@@ -5,7 +5,10 @@ use Rattle.ct_word.specs.declared.kinds.Kind.TheVariants as kind
 use Rattle.ct_word.specs.declared.kinds.Class.TheVariants as class
 use Rattle.ct_word.specs.declared.values.Value.{Value}
 use Rattle.ct_word.specs.Value.{World, at, same_value, tuple_at}
-use Rattle.ct_word.specs.Condition.{Same, Not, both, either, holds}
+use Rattle.ct_word.specs.Condition.{Same, Not, holds}
+use Rattle.ct_word.specs.Connective.{joined}
+use Rattle.ct_word.specs.declared.connectives.Connective.{Connective}
+use Rattle.ct_word.specs.declared.connectives.Connective.TheVariants as connective
 use Rattle.ct_word.specs.declared.values.Term.{Term}
 use Rattle.ct_word.specs.Stands.{TermBelow}
 use Rattle.ct_word.specs.Reading.{condition_at, term_at}
@@ -31,8 +34,8 @@ equal_for words s t cells v = same_value (at v (tuple_of words cells v) (term_at
 abbrev pub parts_of : Option Kind → ℕ → ℕ → Parts
 parts_of (Some kind.Equal) a b = parts.Equal a b
 parts_of (Some kind.Not) a b = parts.Not a
-parts_of (Some kind.And) a b = parts.And a b
-parts_of (Some kind.Or) a b = parts.Or a b
+parts_of (Some kind.And) a b = parts.Joined connective.And a b
+parts_of (Some kind.Or) a b = parts.Joined connective.Or a b
 parts_of _ a b = parts.Nothing
 
 -- a condition at an earlier place
@@ -46,11 +49,8 @@ AreParts words place (parts.Equal s t) =
     IsTrue (is_place_of words class.Term s) × IsTrue (is_place_of words class.Term t) × (condition_at words place ≡ Same (term_at words s) (term_at words t))
     × ((u : Term) → BelowEither words s t u → TermBelow words place u)
 AreParts words place (parts.Not c) = IsEarlier words place c × (condition_at words place ≡ Not (condition_at words c)) × ((u : Term) → TermBelow words c u → TermBelow words place u)
-AreParts words place (parts.And c d) =
-    IsEarlier words place c × IsEarlier words place d × (condition_at words place ≡ both (condition_at words c) (condition_at words d))
-    × ((u : Term) → BelowEither words c d u → TermBelow words place u)
-AreParts words place (parts.Or c d) =
-    IsEarlier words place c × IsEarlier words place d × (condition_at words place ≡ either (condition_at words c) (condition_at words d))
+AreParts words place (parts.Joined j c d) =
+    IsEarlier words place c × IsEarlier words place d × (condition_at words place ≡ joined j (condition_at words c) (condition_at words d))
     × ((u : Term) → BelowEither words c d u → TermBelow words place u)
 
 -- the position of a word of this kind, if it is a column

@@ -4,6 +4,7 @@
 mod deletion;
 mod error;
 mod insertion;
+mod judging;
 mod matching;
 mod membership;
 mod merging;

@@ -12,8 +12,8 @@ ghost use Rattle.ct_operators.specs.Building.{HoldsWhere};
 ghost use Rattle.ct_operators.specs.Placing.{parts_of, AreParts, column_of, IsCellFor, holds_for, equal_for};
 
 use ct_arena::{Arena, Full, Site};
-use ct_condition::{Interner, and, eq, not, or};
-use ct_word::{Kind, kind, left, right};
+use ct_condition::{Interner, eq, join, not};
+use ct_word::{Connective, Kind, kind, left, right};
 
 /// What a condition is made of: terms or other conditions, by their places.
 #[derive(Clone, Copy)]
@@ -22,8 +22,7 @@ pub(crate) enum Parts {
     Nothing,
     Equal(u32, u32),
     Not(u32),
-    And(u32, u32),
-    Or(u32, u32),
+    Joined(Connective, u32, u32),
 }
 
 fn parts_of(kind: Option<Kind>, left: u32, right: u32) -> Parts
@@ -32,8 +31,8 @@ fn parts_of(kind: Option<Kind>, left: u32, right: u32) -> Parts
     match kind {
         Some(Kind::Equal) => Parts::Equal(left, right),
         Some(Kind::Not) => Parts::Not(left),
-        Some(Kind::And) => Parts::And(left, right),
-        Some(Kind::Or) => Parts::Or(left, right),
+        Some(Kind::And) => Parts::Joined(Connective::And, left, right),
+        Some(Kind::Or) => Parts::Joined(Connective::Or, left, right),
         _ => Parts::Nothing,
     }
 }
@@ -46,12 +45,12 @@ fn word_at(words: &[u64], place: u32) -> u64
 }
 
 /// The parts of the condition at a place.
-fn made_of(words: &[u64], place: u32) -> Parts
-    requires formed { IsWellFormed words.now }
-    requires place { IsTrue (is_place_of words.now class.Cond place) }
-    ensures { AreParts words.now place result }
+fn made_of<N: Site, I: Interner<N>>(pass: &I, place: u32) -> Parts
+    requires { IsTrue (is_place_of (I.list pass.now) class.Cond place) }
+    ensures formed { IsWellFormed (I.list pass.now) }
+    ensures parts { AreParts (I.list pass.now) place result }
 {
-    let word = word_at(words, place);
+    let word = word_at(pass.words(), place);
     parts_of(kind(word), left(word), right(word))
 }
 
@@ -128,24 +127,18 @@ pub(crate) fn on_row<N: Site, I: Interner<N>>(
     ensures kept { I.kept pass.new ≡ I.kept pass.old }
     ensures lent { I.lent pass.new ≡ I.lent pass.old }
 {
-    match made_of(pass.words(), cond) {
+    match made_of(pass, cond) {
         Parts::Nothing => Ok(cond),
         Parts::Equal(s, t) => equal_on(arena, pass, s, t, cells),
         Parts::Not(c) => {
             let placed = on_row(arena, pass, c, cells)?;
             not(arena, pass, placed)
         }
-        Parts::And(c, d) => {
+        Parts::Joined(connective, c, d) => {
             let first = on_row(arena, pass, c, cells)?;
             let second = on_row(arena, pass, d, cells)?;
             let _ = pass.words();
-            and(arena, pass, first, second)
-        }
-        Parts::Or(c, d) => {
-            let first = on_row(arena, pass, c, cells)?;
-            let second = on_row(arena, pass, d, cells)?;
-            let _ = pass.words();
-            or(arena, pass, first, second)
+            join(arena, pass, connective, first, second)
         }
     }
 }

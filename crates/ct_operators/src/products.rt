@@ -10,6 +10,8 @@ ghost use Rattle.ct_operators.specs.Tables.{IsRow, AreRows, value_of_rows, cells
 ghost use Rattle.ct_query.specs.Rows.{joins};
 ghost use Rattle.ct_operators.specs.Building.{Builds};
 ghost use Rattle.ct_operators.specs.Terms.{TermOfRows, RowsFrom};
+ghost use Rattle.ct_operators.specs.Refusals.{is_full};
+ghost use Rattle.ct_condition.specs.Writes.{Writes};
 ghost use Rattle.ct_operators.specs.declared.error.TableError.TheVariants as fault;
 
 use crate::error::TableError;
@@ -55,12 +57,7 @@ fn pair_row<N: Site, I: Interner<N>>(
     requires row { IsRow (I.list pass.old) (length row.now.cells) row.now }
     requires right { AreRows (I.list pass.old) (length right.now.columns) right.now.rows }
     ensures pairs { IfOk result (λ out. Builds (I.list pass.old) (I.list pass.new) (length row.now.cells + length right.now.columns) (map (λ c. map (term_at (I.list pass.old)) row.now.cells ++ c) (cells_of (I.list pass.old) right.now.rows)) (λ v. joins (value_of_rows (I.list pass.old) v (row.now ∷ [])) (value_of_rows (I.list pass.old) v right.now.rows)) (TermOfRows (I.list pass.old) (row.now ∷ right.now.rows)) out.items) }
-    ensures longer { IsPrefix (I.list pass.old) (I.list pass.new) }
-    ensures full { IsErrOf result fault.Full → length (I.list pass.new) ≡ N.log.cap }
-    ensures made { I.made pass.new ≤ I.made pass.old + length right.now.rows }
-    ensures fewer { IsErrOf result fault.Full → I.made pass.new < I.made pass.old + length right.now.rows }
-    ensures kept { I.kept pass.new ≡ I.kept pass.old }
-    ensures lent { I.lent pass.new ≡ I.lent pass.old }
+    ensures writes { Writes I.list I.made I.kept I.lent N.log.cap pass.old pass.new (length right.now.rows) (is_full result) }
 {
     let _ = pass.words();
     let mut pairs = Vec::new(alloc);
@@ -83,12 +80,7 @@ fn pairs<N: Site, I: Interner<N>>(
     requires left { AreRows (I.list pass.old) (length left.now.columns) left.now.rows }
     requires right { AreRows (I.list pass.old) (length right.now.columns) right.now.rows }
     ensures pairs { IfOk result (λ out. Builds (I.list pass.old) (I.list pass.new) (length left.now.columns + length right.now.columns) (joins (cells_of (I.list pass.old) left.now.rows) (cells_of (I.list pass.old) right.now.rows)) (λ v. joins (value_of_rows (I.list pass.old) v left.now.rows) (value_of_rows (I.list pass.old) v right.now.rows)) (TermOfRows (I.list pass.old) (left.now.rows ++ right.now.rows)) out.items) }
-    ensures longer { IsPrefix (I.list pass.old) (I.list pass.new) }
-    ensures full { IsErrOf result fault.Full → length (I.list pass.new) ≡ N.log.cap }
-    ensures made { I.made pass.new ≤ I.made pass.old + length left.now.rows * length right.now.rows }
-    ensures fewer { IsErrOf result fault.Full → I.made pass.new < I.made pass.old + length left.now.rows * length right.now.rows }
-    ensures kept { I.kept pass.new ≡ I.kept pass.old }
-    ensures lent { I.lent pass.new ≡ I.lent pass.old }
+    ensures writes { Writes I.list I.made I.kept I.lent N.log.cap pass.old pass.new (length left.now.rows * length right.now.rows) (is_full result) }
 {
     let _ = pass.words();
     let mut pairs = Vec::new(alloc);

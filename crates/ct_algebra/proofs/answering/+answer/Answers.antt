@@ -1,19 +1,10 @@
-use Rattle.std.proofs.Common.{◌≡◌, Some, None, map, ap, sym, subst, ◌∙◌, arith}
-use Rattle.std.specs.Prelude.{IsSome, IfOk}
-use Rattle.std.proofs.lemmas.Option.{MatchOption-at_some}
-use Rattle.ct_query.specs.Plain.{Table, Select, Project, Product, Union, Except, Intersect}
-use Rattle.ct_query.specs.Pred.{condition_of}
-use Rattle.ct_query.specs.Views.{query_of}
-use Rattle.ct_query.specs.Fits.{Fits, columns_in}
-use Rattle.ct_table.specs.Denotes.{heading_of, find_table}
-use Rattle.ct_table.specs.Shared.{view_of}
-use Rattle.ct_algebra.specs.Evaluates.{Evaluates}
-use Rattle.ct_algebra.specs.Words.{most_words, GrowsWithin}
-use Rattle.ct_algebra.proofs.Growing.{tables_grow, answer_grows, answer_before}
-use Rattle.ct_algebra.proofs.Found.{got_some}
+use Rattle.std.{proofs.Common.{◌≡◌, Some, None, map, ap, sym, subst, ◌∙◌, arith}, specs.Prelude.IfOk, proofs.lemmas.Option.MatchOption-at_some}
+use Rattle.ct_query.{specs.Plain.{Table, Select, Project, Product, Union, Except, Intersect}, specs.Pred.condition_of, specs.Views.query_of, specs.Fits.Fits}
+use Rattle.ct_table.{specs.Denotes.{heading_of, find_table}, specs.Shared.view_of}
+use Rattle.ct_algebra.{specs.Evaluates.Evaluates, specs.Words.{most_words, GrowsWithin}, proofs.Growing.{tables_grow, answer_grows, answer_before}}
+use Rattle.ct_algebra.{proofs.Found.got_some, proofs.Appending.{select_within, project_within, product_within, union_within, except_within, intersect_within}}
 use Rattle.ct_algebra.proofs.Operators.{table_answers, select_answers, project_answers, product_answers, union_answers, except_answers, intersect_answers}
-use Rattle.ct_algebra.proofs.Appending.{select_within, project_within, product_within, union_within, except_within, intersect_within}
-use Rattle.ct_algebra.proofs.Parts.{count_parts}
+use Rattle.ct_algebra.proofs.Parts.{count_parts, one_part, two_parts}
 use Rattle.ct_algebra.proofs.answering.+answer.Goals as goal
 
 pub answer-unwrap-requires : goal.answer-unwrap-requires
@@ -36,9 +27,7 @@ answer-returns-in_ok-copied-in-Table-clause-evaluates g t c =
 pub answer-answer-requires : goal.answer-answer-requires
 answer-answer-requires g t c κs within =
     let hs = map heading_of c.args.db.now in
-    let p : c.deref.result.now ≡ c.in-Select.inner.value = c.deref.ensures in
-    let is : Select (condition_of c.in-Select.p) (query_of c.deref.result.now) ≡ query_of c.args.query.now =
-    ap (λ x. Select (condition_of c.in-Select.p) (query_of x)) p ∙ sym (ap query_of c.in-Select.is) in
+    let is = one_part (Select (condition_of c.in-Select.p)) c.deref.result.now _ _ c.deref.ensures (sym (ap query_of c.in-Select.is)) in
     let less = ap count_parts is in
     let fits : Fits hs (Select (condition_of c.in-Select.p) (query_of c.deref.result.now)) = subst (Fits hs) (sym is) c.requires.fits in
     (omega (arith, less, c.decreases), (within, (c.requires.tables, fits.1)))
@@ -47,9 +36,7 @@ pub answer-returns-in_ok-table-in-Select-clause-evaluates : goal.answer-returns-
 answer-returns-in_ok-table-in-Select-clause-evaluates g t c =
     let old = c.args.pass.now.words in
     let new = c.select.new.pass.words in
-    let p : c.deref.result.now ≡ c.in-Select.inner.value = c.deref.ensures in
-    let is : Select (condition_of c.in-Select.p) (query_of c.deref.result.now) ≡ query_of c.args.query.now =
-    ap (λ x. Select (condition_of c.in-Select.p) (query_of x)) p ∙ sym (ap query_of c.in-Select.is) in
+    let is = one_part (Select (condition_of c.in-Select.p)) c.deref.result.now _ _ c.deref.ensures (sym (ap query_of c.in-Select.is)) in
     subst (λ q. IfOk c.select.result (Evaluates old new c.args.db.now q)) is
     (select_answers old c.answer.new.pass.words new c.args.db.now (query_of c.deref.result.now)
     c.in_ok-table-in-Select.table c.in_ok-table-in-Select.ensures.evaluates (condition_of c.in-Select.p) c.select.result
@@ -58,9 +45,7 @@ answer-returns-in_ok-table-in-Select-clause-evaluates g t c =
 pub answer-answer-requires-in-Project : goal.answer-answer-requires-in-Project
 answer-answer-requires-in-Project g t c κs within =
     let hs = map heading_of c.args.db.now in
-    let p : c.deref-in-Project.result.now ≡ c.in-Project.inner.value = c.deref-in-Project.ensures in
-    let is : Project c.in-Project.columns (query_of c.deref-in-Project.result.now) ≡ query_of c.args.query.now =
-    ap (λ x. Project c.in-Project.columns (query_of x)) p ∙ sym (ap query_of c.in-Project.is) in
+    let is = one_part (Project c.in-Project.columns) c.deref-in-Project.result.now _ _ c.deref-in-Project.ensures (sym (ap query_of c.in-Project.is)) in
     let less = ap count_parts is in
     let fits : Fits hs (Project c.in-Project.columns (query_of c.deref-in-Project.result.now)) = subst (Fits hs) (sym is) c.requires.fits in
     (omega (arith, less, c.decreases), (within, (c.requires.tables, fits.1)))
@@ -80,10 +65,7 @@ answer-returns-in_ok-table-in-Project-clause-evaluates g t c =
 pub answer-sides-requires : goal.answer-sides-requires
 answer-sides-requires g t c κs within =
     let hs = map heading_of c.args.db.now in
-    let p : c.deref-in-Product.result.now ≡ c.in-Product.left.value = c.deref-in-Product.ensures in
-    let r : c.deref-in-Product-2.result.now ≡ c.in-Product.right.value = c.deref-in-Product-2.ensures in
-    let is : Product (query_of c.deref-in-Product.result.now) (query_of c.deref-in-Product-2.result.now) ≡ query_of c.args.query.now =
-    (λ i. Product (query_of (p i)) (query_of (r i))) ∙ sym (ap query_of c.in-Product.is) in
+    let is = two_parts Product c.deref-in-Product.result.now c.deref-in-Product-2.result.now _ _ _ c.deref-in-Product.ensures c.deref-in-Product-2.ensures (sym (ap query_of c.in-Product.is)) in
     let less = ap count_parts is in
     let fits : Fits hs (Product (query_of c.deref-in-Product.result.now) (query_of c.deref-in-Product-2.result.now)) = subst (Fits hs) (sym is) c.requires.fits in
     (omega (arith, less, c.decreases), (within, (c.requires.tables, (fits.0, fits.1))))
@@ -92,10 +74,7 @@ pub answer-returns-in_ok-left-in-Product-clause-evaluates : goal.answer-returns-
 answer-returns-in_ok-left-in-Product-clause-evaluates g t c =
     let old = c.args.pass.now.words in
     let new = c.product.new.pass.words in
-    let p : c.deref-in-Product.result.now ≡ c.in-Product.left.value = c.deref-in-Product.ensures in
-    let r : c.deref-in-Product-2.result.now ≡ c.in-Product.right.value = c.deref-in-Product-2.ensures in
-    let is : Product (query_of c.deref-in-Product.result.now) (query_of c.deref-in-Product-2.result.now) ≡ query_of c.args.query.now =
-    (λ i. Product (query_of (p i)) (query_of (r i))) ∙ sym (ap query_of c.in-Product.is) in
+    let is = two_parts Product c.deref-in-Product.result.now c.deref-in-Product-2.result.now _ _ _ c.deref-in-Product.ensures c.deref-in-Product-2.ensures (sym (ap query_of c.in-Product.is)) in
     subst (λ q. IfOk c.product.result (Evaluates old new c.args.db.now q)) is
     (product_answers old c.sides.new.pass.words new c.args.db.now (query_of c.deref-in-Product.result.now) (query_of c.deref-in-Product-2.result.now)
     c.in_ok-left-in-Product.left c.in_ok-left-in-Product.right c.in_ok-left-in-Product.ensures.left c.in_ok-left-in-Product.ensures.right
@@ -104,10 +83,7 @@ answer-returns-in_ok-left-in-Product-clause-evaluates g t c =
 pub answer-sides-requires-in-Union : goal.answer-sides-requires-in-Union
 answer-sides-requires-in-Union g t c κs within =
     let hs = map heading_of c.args.db.now in
-    let p : c.deref-in-Union.result.now ≡ c.in-Union.left.value = c.deref-in-Union.ensures in
-    let r : c.deref-in-Union-2.result.now ≡ c.in-Union.right.value = c.deref-in-Union-2.ensures in
-    let is : Union (query_of c.deref-in-Union.result.now) (query_of c.deref-in-Union-2.result.now) ≡ query_of c.args.query.now =
-    (λ i. Union (query_of (p i)) (query_of (r i))) ∙ sym (ap query_of c.in-Union.is) in
+    let is = two_parts Union c.deref-in-Union.result.now c.deref-in-Union-2.result.now _ _ _ c.deref-in-Union.ensures c.deref-in-Union-2.ensures (sym (ap query_of c.in-Union.is)) in
     let less = ap count_parts is in
     let fits : Fits hs (Union (query_of c.deref-in-Union.result.now) (query_of c.deref-in-Union-2.result.now)) = subst (Fits hs) (sym is) c.requires.fits in
     (omega (arith, less, c.decreases), (within, (c.requires.tables, (fits.1, fits.2))))
@@ -116,10 +92,7 @@ pub answer-returns-in_ok-left-in-Union-clause-evaluates : goal.answer-returns-in
 answer-returns-in_ok-left-in-Union-clause-evaluates g t c =
     let old = c.args.pass.now.words in
     let new = c.union.new.pass.words in
-    let p : c.deref-in-Union.result.now ≡ c.in-Union.left.value = c.deref-in-Union.ensures in
-    let r : c.deref-in-Union-2.result.now ≡ c.in-Union.right.value = c.deref-in-Union-2.ensures in
-    let is : Union (query_of c.deref-in-Union.result.now) (query_of c.deref-in-Union-2.result.now) ≡ query_of c.args.query.now =
-    (λ i. Union (query_of (p i)) (query_of (r i))) ∙ sym (ap query_of c.in-Union.is) in
+    let is = two_parts Union c.deref-in-Union.result.now c.deref-in-Union-2.result.now _ _ _ c.deref-in-Union.ensures c.deref-in-Union-2.ensures (sym (ap query_of c.in-Union.is)) in
     subst (λ q. IfOk c.union.result (Evaluates old new c.args.db.now q)) is
     (union_answers old c.sides-in-Union.new.pass.words new c.args.db.now (query_of c.deref-in-Union.result.now) (query_of c.deref-in-Union-2.result.now)
     c.in_ok-left-in-Union.left c.in_ok-left-in-Union.right c.in_ok-left-in-Union.ensures.left c.in_ok-left-in-Union.ensures.right
@@ -128,10 +101,7 @@ answer-returns-in_ok-left-in-Union-clause-evaluates g t c =
 pub answer-sides-requires-in-Except : goal.answer-sides-requires-in-Except
 answer-sides-requires-in-Except g t c κs within =
     let hs = map heading_of c.args.db.now in
-    let p : c.deref-in-Except.result.now ≡ c.in-Except.left.value = c.deref-in-Except.ensures in
-    let r : c.deref-in-Except-2.result.now ≡ c.in-Except.right.value = c.deref-in-Except-2.ensures in
-    let is : Except (query_of c.deref-in-Except.result.now) (query_of c.deref-in-Except-2.result.now) ≡ query_of c.args.query.now =
-    (λ i. Except (query_of (p i)) (query_of (r i))) ∙ sym (ap query_of c.in-Except.is) in
+    let is = two_parts Except c.deref-in-Except.result.now c.deref-in-Except-2.result.now _ _ _ c.deref-in-Except.ensures c.deref-in-Except-2.ensures (sym (ap query_of c.in-Except.is)) in
     let less = ap count_parts is in
     let fits : Fits hs (Except (query_of c.deref-in-Except.result.now) (query_of c.deref-in-Except-2.result.now)) = subst (Fits hs) (sym is) c.requires.fits in
     (omega (arith, less, c.decreases), (within, (c.requires.tables, (fits.1, fits.2))))
@@ -140,10 +110,7 @@ pub answer-returns-in_ok-left-in-Except-clause-evaluates : goal.answer-returns-i
 answer-returns-in_ok-left-in-Except-clause-evaluates g t c =
     let old = c.args.pass.now.words in
     let new = c.except.new.pass.words in
-    let p : c.deref-in-Except.result.now ≡ c.in-Except.left.value = c.deref-in-Except.ensures in
-    let r : c.deref-in-Except-2.result.now ≡ c.in-Except.right.value = c.deref-in-Except-2.ensures in
-    let is : Except (query_of c.deref-in-Except.result.now) (query_of c.deref-in-Except-2.result.now) ≡ query_of c.args.query.now =
-    (λ i. Except (query_of (p i)) (query_of (r i))) ∙ sym (ap query_of c.in-Except.is) in
+    let is = two_parts Except c.deref-in-Except.result.now c.deref-in-Except-2.result.now _ _ _ c.deref-in-Except.ensures c.deref-in-Except-2.ensures (sym (ap query_of c.in-Except.is)) in
     subst (λ q. IfOk c.except.result (Evaluates old new c.args.db.now q)) is
     (except_answers old c.sides-in-Except.new.pass.words new c.args.db.now (query_of c.deref-in-Except.result.now) (query_of c.deref-in-Except-2.result.now)
     c.in_ok-left-in-Except.left c.in_ok-left-in-Except.right c.in_ok-left-in-Except.ensures.left c.in_ok-left-in-Except.ensures.right
@@ -152,10 +119,7 @@ answer-returns-in_ok-left-in-Except-clause-evaluates g t c =
 pub answer-sides-requires-in-Intersect : goal.answer-sides-requires-in-Intersect
 answer-sides-requires-in-Intersect g t c κs within =
     let hs = map heading_of c.args.db.now in
-    let p : c.deref-in-Intersect.result.now ≡ c.in-Intersect.left.value = c.deref-in-Intersect.ensures in
-    let r : c.deref-in-Intersect-2.result.now ≡ c.in-Intersect.right.value = c.deref-in-Intersect-2.ensures in
-    let is : Intersect (query_of c.deref-in-Intersect.result.now) (query_of c.deref-in-Intersect-2.result.now) ≡ query_of c.args.query.now =
-    (λ i. Intersect (query_of (p i)) (query_of (r i))) ∙ sym (ap query_of c.in-Intersect.is) in
+    let is = two_parts Intersect c.deref-in-Intersect.result.now c.deref-in-Intersect-2.result.now _ _ _ c.deref-in-Intersect.ensures c.deref-in-Intersect-2.ensures (sym (ap query_of c.in-Intersect.is)) in
     let less = ap count_parts is in
     let fits : Fits hs (Intersect (query_of c.deref-in-Intersect.result.now) (query_of c.deref-in-Intersect-2.result.now)) = subst (Fits hs) (sym is) c.requires.fits in
     (omega (arith, less, c.decreases), (within, (c.requires.tables, (fits.1, fits.2))))
@@ -164,10 +128,7 @@ pub answer-returns-in_ok-left-in-Intersect-clause-evaluates : goal.answer-return
 answer-returns-in_ok-left-in-Intersect-clause-evaluates g t c =
     let old = c.args.pass.now.words in
     let new = c.intersect.new.pass.words in
-    let p : c.deref-in-Intersect.result.now ≡ c.in-Intersect.left.value = c.deref-in-Intersect.ensures in
-    let r : c.deref-in-Intersect-2.result.now ≡ c.in-Intersect.right.value = c.deref-in-Intersect-2.ensures in
-    let is : Intersect (query_of c.deref-in-Intersect.result.now) (query_of c.deref-in-Intersect-2.result.now) ≡ query_of c.args.query.now =
-    (λ i. Intersect (query_of (p i)) (query_of (r i))) ∙ sym (ap query_of c.in-Intersect.is) in
+    let is = two_parts Intersect c.deref-in-Intersect.result.now c.deref-in-Intersect-2.result.now _ _ _ c.deref-in-Intersect.ensures c.deref-in-Intersect-2.ensures (sym (ap query_of c.in-Intersect.is)) in
     subst (λ q. IfOk c.intersect.result (Evaluates old new c.args.db.now q)) is
     (intersect_answers old c.sides-in-Intersect.new.pass.words new c.args.db.now (query_of c.deref-in-Intersect.result.now) (query_of c.deref-in-Intersect-2.result.now)
     c.in_ok-left-in-Intersect.left c.in_ok-left-in-Intersect.right c.in_ok-left-in-Intersect.ensures.left c.in_ok-left-in-Intersect.ensures.right
@@ -190,9 +151,7 @@ sides-returns-clause-right g t c =
 
 pub answer-returns-in_ok-table-in-Select-clause-made : goal.answer-returns-in_ok-table-in-Select-clause-made
 answer-returns-in_ok-table-in-Select-clause-made g t c =
-    let p : c.deref.result.now ≡ c.in-Select.inner.value = c.deref.ensures in
-    let is : Select (condition_of c.in-Select.p) (query_of c.deref.result.now) ≡ query_of c.args.query.now =
-    ap (λ x. Select (condition_of c.in-Select.p) (query_of x)) p ∙ sym (ap query_of c.in-Select.is) in
+    let is = one_part (Select (condition_of c.in-Select.p)) c.deref.result.now _ _ c.deref.ensures (sym (ap query_of c.in-Select.is)) in
     let old = c.args.pass.now.made in
     let mid = c.answer.new.pass.made in
     let new = c.select.new.pass.made in
@@ -203,9 +162,7 @@ answer-returns-in_ok-table-in-Select-clause-made g t c =
 
 pub answer-returns-in_ok-table-in-Project-clause-made : goal.answer-returns-in_ok-table-in-Project-clause-made
 answer-returns-in_ok-table-in-Project-clause-made g t c =
-    let p : c.deref-in-Project.result.now ≡ c.in-Project.inner.value = c.deref-in-Project.ensures in
-    let is : Project c.in-Project.columns (query_of c.deref-in-Project.result.now) ≡ query_of c.args.query.now =
-    ap (λ x. Project c.in-Project.columns (query_of x)) p ∙ sym (ap query_of c.in-Project.is) in
+    let is = one_part (Project c.in-Project.columns) c.deref-in-Project.result.now _ _ c.deref-in-Project.ensures (sym (ap query_of c.in-Project.is)) in
     let old = c.args.pass.now.made in
     let mid = c.answer-in-Project.new.pass.made in
     let new = c.project.new.pass.made in
@@ -216,10 +173,7 @@ answer-returns-in_ok-table-in-Project-clause-made g t c =
 
 pub answer-returns-in_ok-left-in-Product-clause-made : goal.answer-returns-in_ok-left-in-Product-clause-made
 answer-returns-in_ok-left-in-Product-clause-made g t c =
-    let p : c.deref-in-Product.result.now ≡ c.in-Product.left.value = c.deref-in-Product.ensures in
-    let r : c.deref-in-Product-2.result.now ≡ c.in-Product.right.value = c.deref-in-Product-2.ensures in
-    let is : Product (query_of c.deref-in-Product.result.now) (query_of c.deref-in-Product-2.result.now) ≡ query_of c.args.query.now =
-    (λ i. Product (query_of (p i)) (query_of (r i))) ∙ sym (ap query_of c.in-Product.is) in
+    let is = two_parts Product c.deref-in-Product.result.now c.deref-in-Product-2.result.now _ _ _ c.deref-in-Product.ensures c.deref-in-Product-2.ensures (sym (ap query_of c.in-Product.is)) in
     let old = c.args.pass.now.made in
     let mid = c.sides.new.pass.made in
     let new = c.product.new.pass.made in
@@ -230,10 +184,7 @@ answer-returns-in_ok-left-in-Product-clause-made g t c =
 
 pub answer-returns-in_ok-left-in-Union-clause-made : goal.answer-returns-in_ok-left-in-Union-clause-made
 answer-returns-in_ok-left-in-Union-clause-made g t c =
-    let p : c.deref-in-Union.result.now ≡ c.in-Union.left.value = c.deref-in-Union.ensures in
-    let r : c.deref-in-Union-2.result.now ≡ c.in-Union.right.value = c.deref-in-Union-2.ensures in
-    let is : Union (query_of c.deref-in-Union.result.now) (query_of c.deref-in-Union-2.result.now) ≡ query_of c.args.query.now =
-    (λ i. Union (query_of (p i)) (query_of (r i))) ∙ sym (ap query_of c.in-Union.is) in
+    let is = two_parts Union c.deref-in-Union.result.now c.deref-in-Union-2.result.now _ _ _ c.deref-in-Union.ensures c.deref-in-Union-2.ensures (sym (ap query_of c.in-Union.is)) in
     let old = c.args.pass.now.made in
     let mid = c.sides-in-Union.new.pass.made in
     let new = c.union.new.pass.made in
@@ -244,10 +195,7 @@ answer-returns-in_ok-left-in-Union-clause-made g t c =
 
 pub answer-returns-in_ok-left-in-Except-clause-made : goal.answer-returns-in_ok-left-in-Except-clause-made
 answer-returns-in_ok-left-in-Except-clause-made g t c =
-    let p : c.deref-in-Except.result.now ≡ c.in-Except.left.value = c.deref-in-Except.ensures in
-    let r : c.deref-in-Except-2.result.now ≡ c.in-Except.right.value = c.deref-in-Except-2.ensures in
-    let is : Except (query_of c.deref-in-Except.result.now) (query_of c.deref-in-Except-2.result.now) ≡ query_of c.args.query.now =
-    (λ i. Except (query_of (p i)) (query_of (r i))) ∙ sym (ap query_of c.in-Except.is) in
+    let is = two_parts Except c.deref-in-Except.result.now c.deref-in-Except-2.result.now _ _ _ c.deref-in-Except.ensures c.deref-in-Except-2.ensures (sym (ap query_of c.in-Except.is)) in
     let old = c.args.pass.now.made in
     let mid = c.sides-in-Except.new.pass.made in
     let new = c.except.new.pass.made in
@@ -258,10 +206,7 @@ answer-returns-in_ok-left-in-Except-clause-made g t c =
 
 pub answer-returns-in_ok-left-in-Intersect-clause-made : goal.answer-returns-in_ok-left-in-Intersect-clause-made
 answer-returns-in_ok-left-in-Intersect-clause-made g t c =
-    let p : c.deref-in-Intersect.result.now ≡ c.in-Intersect.left.value = c.deref-in-Intersect.ensures in
-    let r : c.deref-in-Intersect-2.result.now ≡ c.in-Intersect.right.value = c.deref-in-Intersect-2.ensures in
-    let is : Intersect (query_of c.deref-in-Intersect.result.now) (query_of c.deref-in-Intersect-2.result.now) ≡ query_of c.args.query.now =
-    (λ i. Intersect (query_of (p i)) (query_of (r i))) ∙ sym (ap query_of c.in-Intersect.is) in
+    let is = two_parts Intersect c.deref-in-Intersect.result.now c.deref-in-Intersect-2.result.now _ _ _ c.deref-in-Intersect.ensures c.deref-in-Intersect-2.ensures (sym (ap query_of c.in-Intersect.is)) in
     let old = c.args.pass.now.made in
     let mid = c.sides-in-Intersect.new.pass.made in
     let new = c.intersect.new.pass.made in

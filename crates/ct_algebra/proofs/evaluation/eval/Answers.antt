@@ -1,10 +1,8 @@
 use Rattle.std.proofs.Common.{map, ap, arith, rules}
-use Rattle.ct_query.specs.Size as spec
-use Rattle.ct_query.specs.Size.{rows_in}
-use Rattle.ct_query.specs.Views.{query_of}
+use Rattle.ct_query.{specs.Size.rows_in, specs.Views.query_of}
 use Rattle.ct_table.specs.Counting.{count_of}
-use Rattle.ct_algebra.proofs.Limits.{not_above}
-use Rattle.ct_algebra.proofs.Nodes.{nodes_within}
+use Rattle.ct_algebra.{proofs.Limits.not_above, proofs.Nodes.nodes_within}
+use Rattle.ct_query.specs.Size as spec
 use Rattle.ct_algebra.proofs.evaluation.eval.Goals as goal
 
 pub returns-in_err-answered-clause-refused : goal.returns-in_err-answered-clause-refused

@@ -1,24 +1,24 @@
-use Rattle.std.proofs.Common.{◌≤◌, length, take, sym, subst, refl, rules, arith, ◌+◌, ◌-◌, ◌*◌, ◌++◌, inl}
-use Rattle.std.specs.Prelude.{IsTrue}
-use Rattle.std.specs.Option.{IsSome}
-use Rattle.std.proofs.lemmas.List.{take_all, length_push}
-use Rattle.std.proofs.lemmas.List.Elements.{All-get_or, All-contains}
-use Rattle.std.proofs.lemmas.Result.{err_from_is_err_and}
-use Rattle.std.proofs.lemmas.Slice.Zip.{zip_turn, zip_end}
+use Rattle.std.{proofs.Common.{◌≡◌, ◌≤◌, ◌<◌, ℕ, length, take, get_or, sym, subst, refl, rules, arith, ◌+◌, ◌-◌, ◌*◌, ◌++◌, inl}, specs.Prelude.IsTrue}
+use Rattle.std.{specs.Option.IsSome, proofs.lemmas.List.{take_all, length_push}, proofs.lemmas.List.Elements.{All-get_or, All-contains}}
+use Rattle.std.{proofs.lemmas.Result.err_from_is_err_and, proofs.lemmas.Slice.Zip.{zip_turn, zip_end}}
+use Rattle.ct_word.{specs.WellFormed.is_place_of, proofs.Prefixes.{place_in_prefix, place_within}}
+use Rattle.ct_condition.{specs.Folding.folded_and, specs.Terms.BelowSome, proofs.Denied.below_literal, proofs.Writes.{writes_none, writes_both, writes_within}}
+use Rattle.ct_operators.{specs.Building.HoldsWhere, specs.Matching.same_worth, proofs.Holding.holds_true, proofs.Comparing.equal_more}
+use Rattle.ct_operators.{proofs.Adding.{true_first, pair_more}, proofs.Reaching.{from_two, from_later, pair_below}}
+use Rattle.ct_operators.proofs.matching.cells_equal.Goals.{In-Some, In-None}
 use Rattle.ct_word.specs.declared.kinds.Class.TheVariants as class
-use Rattle.ct_word.specs.WellFormed.{is_place_of}
-use Rattle.ct_word.proofs.Prefixes.{place_in_prefix, place_within}
-use Rattle.ct_condition.specs.Folding.{folded_and}
-use Rattle.ct_operators.specs.Building.{HoldsWhere}
-use Rattle.ct_operators.specs.Matching.{same_worth}
-use Rattle.ct_operators.proofs.Holding.{holds_true}
-use Rattle.ct_operators.proofs.Comparing.{equal_more}
-use Rattle.ct_operators.proofs.Adding.{true_first, pair_more}
-use Rattle.ct_condition.specs.Terms.{BelowSome}
-use Rattle.ct_condition.proofs.Denied.{below_literal}
-use Rattle.ct_condition.proofs.Writes.{writes_none, writes_both, writes_within}
-use Rattle.ct_operators.proofs.Reaching.{from_two, from_later, pair_below}
 use Rattle.ct_operators.proofs.matching.cells_equal.Goals as goal
+
+-- the cells of a turn
+turn : (g : _) (c : In-Some g) → (length c.loop-s.yielded < length c.args.left.now) × (length c.loop-s.yielded < length c.args.right.now)
+    × ((d : ℕ) → c.in-Some.s.now ≡ get_or c.args.left.now (length c.loop-s.yielded) d) × ((d : ℕ) → c.in-Some.t.now ≡ get_or c.args.right.now (length c.loop-s.yielded) d)
+turn g c = zip_turn c.args.left.now c.args.right.now c.loop-s.yielded _ _ c.next.new.self _ (search rules) (search rules) c.loop-s.yielded_by (c.in-Some.s, c.in-Some.t) c.in-Some.is c.next.ensures.steps
+
+-- all cells were gone over
+ended : (g : _) (c : In-None g) → (length c.loop-s.yielded ≡ length c.args.left.now) × (length c.loop-s.yielded ≡ length c.args.right.now)
+ended g c =
+    let e = zip_end c.args.left.now c.args.right.now c.loop-s.yielded _ _ c.next.new.self _ (search rules) (search rules) c.loop-s.yielded_by c.in-None.is c.next.ensures.steps in
+    (omega (arith, e, c.requires.lengths), omega (arith, e, c.requires.lengths))
 
 pub loop-s-init : goal.loop-s-init
 loop-s-init g c = record {
@@ -33,7 +33,7 @@ pub eq-requires-clause-left : goal.eq-requires-clause-left
 eq-requires-clause-left g c =
     let old = g.I.Interner.list c.args.pass.now in
     let p = c.in-Some.s.now in
-    let t = zip_turn c.args.left.now c.args.right.now c.loop-s.yielded _ _ c.next.new.self _ (search rules) (search rules) c.loop-s.yielded_by (c.in-Some.s, c.in-Some.t) c.in-Some.is c.next.ensures.steps in
+    let t = turn g (goal.at.eq-requires-clause-left g c).In-Some in
     place_in_prefix old (g.I.Interner.list c.loop-s.pass) class.Term p c.loop-s.invariant.writes.longer
     (subst (λ q. IsTrue (is_place_of old class.Term q)) (sym (t.2 p)) (All-get_or (λ q. IsTrue (is_place_of old class.Term q)) c.args.left.now (length c.loop-s.yielded) p t.0 c.requires.left))
 
@@ -41,7 +41,7 @@ pub eq-requires-clause-right : goal.eq-requires-clause-right
 eq-requires-clause-right g c =
     let old = g.I.Interner.list c.args.pass.now in
     let p = c.in-Some.t.now in
-    let t = zip_turn c.args.left.now c.args.right.now c.loop-s.yielded _ _ c.next.new.self _ (search rules) (search rules) c.loop-s.yielded_by (c.in-Some.s, c.in-Some.t) c.in-Some.is c.next.ensures.steps in
+    let t = turn g (goal.at.eq-requires-clause-right g c).In-Some in
     place_in_prefix old (g.I.Interner.list c.loop-s.pass) class.Term p c.loop-s.invariant.writes.longer
     (subst (λ q. IsTrue (is_place_of old class.Term q)) (sym (t.3 p)) (All-get_or (λ q. IsTrue (is_place_of old class.Term q)) c.args.right.now (length c.loop-s.yielded) p t.1 c.requires.right))
 
@@ -63,7 +63,7 @@ loop-s-preserved g c =
     let n = length c.loop-s.yielded in
     let p = c.in-Some.s.now in
     let q = c.in-Some.t.now in
-    let t = zip_turn c.args.left.now c.args.right.now c.loop-s.yielded _ _ c.next.new.self _ (search rules) (search rules) c.loop-s.yielded_by (c.in-Some.s, c.in-Some.t) c.in-Some.is c.next.ensures.steps in
+    let t = turn g (goal.at.loop-s-preserved g c).In-Some in
     let source = BelowSome old (ps ++ qs) in
     record {
       holds = subst (λ k. HoldsWhere new c.in_ok-all.all (same_worth old (take k ps) (take k qs))) (sym (length_push c.loop-s.yielded (c.in-Some.s, c.in-Some.t)))
@@ -90,33 +90,33 @@ returns-clause-holds g c =
     let ps = c.args.left.now in
     let qs = c.args.right.now in
     let n = length c.loop-s.yielded in
-    let e = zip_end ps qs c.loop-s.yielded _ _ c.next.new.self _ (search rules) (search rules) c.loop-s.yielded_by c.in-None.is c.next.ensures.steps in
+    let e = ended g (goal.at.returns-clause-holds g c).In-None in
     let long : length ps ≤ n = omega (arith, e, c.requires.lengths) in
     subst (λ xs. HoldsWhere new c.loop-s.all (same_worth old xs qs)) (take_all n ps long)
     (subst (λ ys. HoldsWhere new c.loop-s.all (same_worth old (take n ps) ys)) (take_all n qs (omega (arith, e, c.requires.lengths))) c.loop-s.invariant.holds)
 
 pub returns-clause-writes : goal.returns-clause-writes
 returns-clause-writes g c =
-    let e = zip_end c.args.left.now c.args.right.now c.loop-s.yielded _ _ c.next.new.self _ (search rules) (search rules) c.loop-s.yielded_by c.in-None.is c.next.ensures.steps in
+    let e = ended g (goal.at.returns-clause-writes g c).In-None in
     writes_within _ (omega (arith, e, c.requires.lengths)) c.loop-s.invariant.writes
 
 pub returns-clause-spare : goal.returns-clause-spare
 returns-clause-spare g c =
-    let e = zip_end c.args.left.now c.args.right.now c.loop-s.yielded _ _ c.next.new.self _ (search rules) (search rules) c.loop-s.yielded_by c.in-None.is c.next.ensures.steps in
+    let e = ended g (goal.at.returns-clause-spare g c).In-None in
     omega (arith, e, c.requires.lengths, c.loop-s.invariant.spare)
 
 pub returns-clause-none : goal.returns-clause-none
 returns-clause-none g c z =
-    let e = zip_end c.args.left.now c.args.right.now c.loop-s.yielded _ _ c.next.new.self _ (search rules) (search rules) c.loop-s.yielded_by c.in-None.is c.next.ensures.steps in
+    let e = ended g (goal.at.returns-clause-none g c).In-None in
     c.loop-s.invariant.none (omega (arith, e, c.requires.lengths, z))
 
 pub returns-in_err-same-clause-writes : goal.returns-in_err-same-clause-writes
 returns-in_err-same-clause-writes g c =
-    let t = zip_turn c.args.left.now c.args.right.now c.loop-s.yielded _ _ c.next.new.self _ (search rules) (search rules) c.loop-s.yielded_by (c.in-Some.s, c.in-Some.t) c.in-Some.is c.next.ensures.steps in
+    let t = turn g (goal.at.returns-in_err-same-clause-writes g c).In-Some in
     rw (err_from_is_err_and c.from_residual.result c.from_residual.ensures.1).1 (writes_within _ (omega (arith, t.0)) (writes_both c.loop-s.invariant.writes c.in_err-same.ensures.writes))
 
 pub returns-in_err-all-clause-writes : goal.returns-in_err-all-clause-writes
 returns-in_err-all-clause-writes g c =
-    let t = zip_turn c.args.left.now c.args.right.now c.loop-s.yielded _ _ c.next.new.self _ (search rules) (search rules) c.loop-s.yielded_by (c.in-Some.s, c.in-Some.t) c.in-Some.is c.next.ensures.steps in
+    let t = turn g (goal.at.returns-in_err-all-clause-writes g c).In-Some in
     rw (err_from_is_err_and c.from_residual-in_err-all.result c.from_residual-in_err-all.ensures.1).1
     (writes_within _ (omega (arith, t.0)) (writes_both c.loop-s.invariant.writes (writes_both c.in_ok-same.ensures.writes c.in_err-all.ensures.writes)))

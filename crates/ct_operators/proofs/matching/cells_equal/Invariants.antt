@@ -1,8 +1,6 @@
 use Rattle.std.proofs.Common.{false, ◌≡◌, take, length, ◌≤◌, ◌+◌, ◌-◌, ◌*◌, ◌++◌}
-use Rattle.ct_condition.specs.Writes.{Writes}
-use Rattle.ct_operators.specs.Building.{HoldsWhere}
-use Rattle.ct_operators.specs.Matching.{same_worth}
-use Rattle.ct_condition.specs.Terms.{TermsFrom, BelowSome}
+use Rattle.ct_condition.{specs.Writes.Writes, specs.Terms.{TermsFrom, BelowSome}}
+use Rattle.ct_operators.{specs.Building.HoldsWhere, specs.Matching.same_worth}
 use Rattle.ct_operators.proofs.matching.cells_equal.Given as goal
 
 abbrev pub invariant-loop-s : goal.invariant-loop-s

@@ -1,5 +1,4 @@
-use Rattle.std.proofs.Common.{[], ◌∙◌, length, sym, rules}
-use Rattle.std.proofs.lemmas.Slice.Zip.{zip_turn}
+use Rattle.std.{proofs.Common.{[], ◌∙◌, length, sym, rules}, proofs.lemmas.Slice.Zip.zip_turn}
 use Rattle.ct_condition.proofs.Truths.{apart_differ}
 use Rattle.ct_operators.proofs.Comparing.{worth_apart}
 use Rattle.ct_operators.proofs.matching.differ.Goals as goal

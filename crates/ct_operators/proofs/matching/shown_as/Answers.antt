@@ -1,21 +1,8 @@
-use Rattle.std.proofs.Common.{false, refl, inr, ◌&&◌, subst, ◌≡◌, ◌∙◌, length, ap, sym, arith, ◌∷◌, ◌++◌}
-use Rattle.std.specs.Option.{IsSome}
-use Rattle.std.proofs.lemmas.Result.{IfOk-weaker, err_from_is_err_and}
-use Rattle.ct_word.specs.Condition.{holds_at}
-use Rattle.ct_word.specs.Reading.{condition_at}
-use Rattle.ct_condition.specs.Folding.{folded_and}
-use Rattle.ct_condition.specs.Truth.{HasTruth, and_at}
-use Rattle.ct_operators.specs.Building.{HoldsWhere}
-use Rattle.ct_operators.specs.Matching.{same_worth}
-use Rattle.ct_operators.proofs.Holding.{holds_itself, holds_later, holds_and}
-use Rattle.ct_operators.proofs.Adding.{true_last, pairs_and_one}
-use Rattle.ct_condition.proofs.Writes.{writes_none, writes_within}
-use Rattle.ct_condition.proofs.Denied.{below_literal}
-use Rattle.ct_operators.proofs.Comparing.{shown_never}
-use Rattle.ct_word.specs.declared.kinds.Class.TheVariants as class
-use Rattle.ct_word.proofs.Prefixes.{place_within}
-use Rattle.ct_condition.specs.Terms.{TermsFrom, BelowEither, BelowSome}
-use Rattle.ct_operators.proofs.Reaching.{from_two, below_before, some_among, foremost, behind}
+use Rattle.std.{proofs.Common.{false, refl, inr, subst, ◌≡◌, ◌∙◌, length, ap, sym, arith, ◌∷◌, ◌++◌}, specs.Option.IsSome}
+use Rattle.std.proofs.lemmas.Result.{err_from_is_err_and}
+use Rattle.ct_condition.{specs.Folding.folded_and, proofs.Writes.{writes_none, writes_within}, proofs.Denied.below_literal, specs.Terms.{TermsFrom, BelowSome}}
+use Rattle.ct_operators.{specs.Building.HoldsWhere, specs.Matching.same_worth, proofs.Holding.holds_beside, proofs.Adding.{true_last, pairs_and_one}}
+use Rattle.ct_operators.{proofs.Comparing.shown_never, proofs.Reaching.{from_beside, some_among, foremost, behind}}
 use Rattle.ct_operators.proofs.matching.shown_as.Goals as goal
 
 pub returns-then-differ-clause-holds : goal.returns-then-differ-clause-holds
@@ -35,15 +22,9 @@ pub returns-clause-holds : goal.returns-clause-holds
 returns-clause-holds g c =
     let old = g.I.Interner.list c.args.pass.now in
     let mid = g.I.Interner.list c.cells_equal.new.pass in
-    let new = g.I.Interner.list c.and.new.pass in
     let other = c.args.other.now in
-    let cells = c.args.cells.now in
-    IfOk-weaker c.and.result (λ place. HasTruth new place (and_at mid other.cond c.in_ok-same.same))
-    (λ place. HoldsWhere new place (λ v. holds_at v (condition_at old other.cond) && same_worth old other.cells cells v))
-    (λ place. holds_and mid new other.cond c.in_ok-same.same place (λ v. holds_at v (condition_at old other.cond)) (same_worth old other.cells cells)
-    (holds_later old mid other.cond _ c.in_ok-same.ensures.writes.longer (holds_itself old other.cond c.requires.other.condition))
-    (subst (λ ps. HoldsWhere mid c.in_ok-same.same (same_worth old ps cells)) c.as_slice-theirs.ensures c.in_ok-same.ensures.holds))
-    c.and.ensures.truth
+    holds_beside old mid (g.I.Interner.list c.and.new.pass) other.cond c.in_ok-same.same (same_worth old other.cells c.args.cells.now) c.and.result c.in_ok-same.ensures.writes.longer c.requires.other.condition
+    (subst (λ ps. HoldsWhere mid c.in_ok-same.same (same_worth old ps c.args.cells.now)) c.as_slice-theirs.ensures c.in_ok-same.ensures.holds) c.and.ensures.truth
 
 pub returns-clause-writes : goal.returns-clause-writes
 returns-clause-writes g c =
@@ -61,18 +42,11 @@ pub returns-clause-terms : goal.returns-clause-terms
 returns-clause-terms g c =
     let old = g.I.Interner.list c.args.pass.now in
     let mid = g.I.Interner.list c.cells_equal.new.pass in
-    let new = g.I.Interner.list c.and.new.pass in
     let other = c.args.other.now in
     let cells = c.args.cells.now in
     let same = c.in_ok-same.same in
-    let source = BelowSome old (other.cond ∷ (other.cells ++ cells)) in
-    IfOk-weaker c.and.result (λ place. TermsFrom new place (BelowEither mid other.cond same)) (λ place. TermsFrom new place source)
-    (λ place. from_two mid new other.cond same place source
-    (λ t h. record {
-      place = other.cond;
-      among = foremost other.cond (other.cells ++ cells);
-      below = below_before old mid c.in_ok-same.ensures.writes.longer c.words.ensures.formed other.cond t (place_within old class.Cond other.cond c.requires.other.condition) h;
-    })
+    from_beside old mid (g.I.Interner.list c.and.new.pass) other.cond same (BelowSome old (other.cond ∷ (other.cells ++ cells))) c.and.result c.in_ok-same.ensures.writes.longer c.words.ensures.formed c.requires.other.condition
+    (λ t h. record { place = other.cond; among = foremost other.cond (other.cells ++ cells); below = h })
     (λ t h. some_among old (other.cells ++ cells) (other.cond ∷ (other.cells ++ cells)) t (behind other.cond (other.cells ++ cells))
-    (subst (λ ps. TermsFrom mid same (BelowSome old (ps ++ cells))) c.as_slice-theirs.ensures c.in_ok-same.ensures.terms t h)))
+    (subst (λ ps. TermsFrom mid same (BelowSome old (ps ++ cells))) c.as_slice-theirs.ensures c.in_ok-same.ensures.terms t h))
     c.and.ensures.terms

@@ -1,7 +1,6 @@
-use Rattle.std.proofs.Common.{◌≡◌, length, subst, sym, ap, arith}
-use Rattle.std.specs.Prelude.{is_some, if◌then◌else◌}
-use Rattle.ct_operators.specs.Merging.{rows_of, Merged, known}
-use Rattle.ct_operators.proofs.Merges.{found_condition, entry_merged, entry_put}
+use Rattle.std.{proofs.Common.{◌≡◌, length, subst, sym, ap, arith}, specs.Prelude.{is_some, if◌then◌else◌}}
+use Rattle.ct_operators.{specs.Merging.{rows_of, Merged, known}, proofs.Merges.{found_condition, entry_merged, entry_put}}
+use Rattle.ct_operators.proofs.merging.merge_row.Goals.{After-or}
 use Rattle.ct_operators.proofs.merging.merge_row.Goals as goal
 
 pub or-requires-clause-left : goal.or-requires-clause-left
@@ -25,22 +24,18 @@ returns-in_ok-insert-in-None-clause-merged g c =
     subst (λ l. Merged old old (rows_of es) r (rows_of l)) (sym c.in_ok-insert-in-None.ensures.entries)
     (entry_put old old r.cells r.cond es (sym c.in-None.ensures.value))
 
+-- the cells have an entry
+one : (g : _) (c : After-or g) → known c.args.row.cells c.args.rows.now.entries ≡ 1
+one g c = ap (λ o. if is_some o then 1 else 0) (sym c.in-Some.ensures.value)
+
 pub returns-in_ok-insert-in-Some-clause-made : goal.returns-in_ok-insert-in-Some-clause-made
-returns-in_ok-insert-in-Some-clause-made g c =
-    let one : known c.args.row.cells c.args.rows.now.entries ≡ 1 = ap (λ o. if is_some o then 1 else 0) (sym c.in-Some.ensures.value) in
-    omega (arith, one, c.or.ensures.made)
+returns-in_ok-insert-in-Some-clause-made g c = omega (arith, one g (goal.at.returns-in_ok-insert-in-Some-clause-made g c).After-or, c.or.ensures.made)
 
 pub returns-in_err-insert-in-Some-clause-made : goal.returns-in_err-insert-in-Some-clause-made
-returns-in_err-insert-in-Some-clause-made g c =
-    let one : known c.args.row.cells c.args.rows.now.entries ≡ 1 = ap (λ o. if is_some o then 1 else 0) (sym c.in-Some.ensures.value) in
-    omega (arith, one, c.or.ensures.made)
+returns-in_err-insert-in-Some-clause-made g c = omega (arith, one g (goal.at.returns-in_err-insert-in-Some-clause-made g c).After-or, c.or.ensures.made)
 
 pub returns-in_err-both-in-Some-clause-made : goal.returns-in_err-both-in-Some-clause-made
-returns-in_err-both-in-Some-clause-made g c =
-    let one : known c.args.row.cells c.args.rows.now.entries ≡ 1 = ap (λ o. if is_some o then 1 else 0) (sym c.in-Some.ensures.value) in
-    omega (arith, one, c.or.ensures.made)
+returns-in_err-both-in-Some-clause-made g c = omega (arith, one g (goal.at.returns-in_err-both-in-Some-clause-made g c).After-or, c.or.ensures.made)
 
 pub returns-in_err-both-in-Some-clause-fewer : goal.returns-in_err-both-in-Some-clause-fewer
-returns-in_err-both-in-Some-clause-fewer g c e =
-    let one : known c.args.row.cells c.args.rows.now.entries ≡ 1 = ap (λ o. if is_some o then 1 else 0) (sym c.in-Some.ensures.value) in
-    omega (arith, one, c.in_err-both-in-Some.ensures.err)
+returns-in_err-both-in-Some-clause-fewer g c e = omega (arith, one g (goal.at.returns-in_err-both-in-Some-clause-fewer g c).After-or, c.in_err-both-in-Some.ensures.err)

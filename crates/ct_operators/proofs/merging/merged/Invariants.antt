@@ -1,7 +1,6 @@
 use Rattle.std.proofs.Common.{◌≡◌, ◌≤◌, ◌+◌, take, length}
 use Rattle.ct_word.specs.Value.{same_cells}
-use Rattle.ct_operators.specs.Tables.{cells_of, firsts}
-use Rattle.ct_operators.specs.Merging.{rows_of, Gathers}
+use Rattle.ct_operators.{specs.Tables.{cells_of, firsts}, specs.Merging.{rows_of, Gathers}}
 use Rattle.ct_operators.proofs.merging.merged.Given as goal
 
 abbrev pub invariant-loop-row : goal.invariant-loop-row

@@ -1,5 +1,4 @@
-use Rattle.std.proofs.Common.{◌≡◌, ◌++◌}
-use Rattle.std.specs.List.{filter}
+use Rattle.std.{proofs.Common.{◌≡◌, ◌++◌}, specs.List.filter}
 use Rattle.ct_operators.specs.Merging.{rows_of, is_possible}
 use Rattle.ct_operators.proofs.merging.possible.Given as goal
 

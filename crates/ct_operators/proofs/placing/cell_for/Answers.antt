@@ -1,8 +1,7 @@
 use Rattle.std.proofs.Common.{sym, ◌∙◌}
-use Rattle.ct_word.specs.declared.kinds.Class.TheVariants as class
 use Rattle.ct_word.proofs.Prefixes.{place_within}
-use Rattle.ct_operators.specs.Placing.{column_of}
-use Rattle.ct_operators.proofs.Placed.{term_itself, cell_itself, column_itself}
+use Rattle.ct_operators.{specs.Placing.column_of, proofs.Placed.{term_itself, cell_itself, column_itself}}
+use Rattle.ct_word.specs.declared.kinds.Class.TheVariants as class
 use Rattle.ct_operators.proofs.placing.cell_for.Goals as goal
 
 pub word_at-word-requires : goal.word_at-word-requires

@@ -1,10 +1,6 @@
-use Rattle.std.proofs.Common.{subst, inl, inr}
-use Rattle.std.specs.Prelude.{◌⊎◌}
-use Rattle.std.proofs.lemmas.Result.{IfOk-weaker}
+use Rattle.std.{proofs.Common.{subst, inl, inr}, specs.Prelude.{◌⊎◌}, proofs.lemmas.Result.IfOk-weaker}
 use Rattle.ct_condition.specs.Terms.{TermsFrom, BelowEither}
-use Rattle.ct_operators.specs.Terms.{IsPlaced}
-use Rattle.ct_operators.specs.Placing.{IsCellFor}
-use Rattle.ct_operators.proofs.Reaching.{from_two}
+use Rattle.ct_operators.{specs.Terms.IsPlaced, specs.Placing.IsCellFor, proofs.Reaching.from_two}
 use Rattle.ct_word.specs.declared.values.Term.{Term}
 use Rattle.ct_operators.proofs.placing.equal_on.Goals as goal
 

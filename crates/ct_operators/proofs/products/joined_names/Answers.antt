@@ -1,5 +1,4 @@
-use Rattle.std.proofs.Common.{◌∙◌, sym}
-use Rattle.std.proofs.lemmas.List.{append-nil}
+use Rattle.std.{proofs.Common.{◌∙◌, sym}, proofs.lemmas.List.append-nil}
 use Rattle.ct_operators.proofs.products.joined_names.Goals as goal
 
 pub loop-name-init : goal.loop-name-init

@@ -1,9 +1,8 @@
-use Rattle.std.proofs.Common.{◌≡◌, ◌+◌, [], ◌∷◌, ◌++◌, take, map, length, ◌≤◌, ◌*◌}
+use Rattle.std.proofs.Common.{false, ◌+◌, [], ◌∷◌, ◌++◌, take, map, length, ◌*◌}
 use Rattle.ct_word.specs.Reading.{term_at}
-use Rattle.ct_operators.specs.Tables.{cells_of, value_of_rows}
+use Rattle.ct_condition.specs.Writes.{Writes}
+use Rattle.ct_operators.{specs.Tables.{cells_of, value_of_rows}, specs.Building.Builds, specs.Terms.TermOfRows}
 use Rattle.ct_query.specs.Rows.{joins}
-use Rattle.ct_operators.specs.Building.{Builds}
-use Rattle.ct_operators.specs.Terms.{TermOfRows}
 use Rattle.ct_operators.proofs.products.pair_row.Given as goal
 
 abbrev pub invariant-loop-other : goal.invariant-loop-other
@@ -11,7 +10,5 @@ invariant-loop-other g l = record {
   builds : Builds (g.I.Interner.list l.fn.pass) (g.I.Interner.list l.pass) (length l.row.cells + length l.right.columns)
       (map (λ c. map (term_at (g.I.Interner.list l.fn.pass)) l.row.cells ++ c) (cells_of (g.I.Interner.list l.fn.pass) (take l.other-index l.right.rows)))
       (λ v. joins (value_of_rows (g.I.Interner.list l.fn.pass) v (l.row ∷ [])) (value_of_rows (g.I.Interner.list l.fn.pass) v (take l.other-index l.right.rows))) (TermOfRows (g.I.Interner.list l.fn.pass) (l.row ∷ l.right.rows)) l.pairs.items;
-  made : g.I.Interner.made l.pass ≤ g.I.Interner.made l.fn.pass + length (take l.other-index l.right.rows) * 1;
-  kept : g.I.Interner.kept l.pass ≡ g.I.Interner.kept l.fn.pass;
-  lent : g.I.Interner.lent l.pass ≡ g.I.Interner.lent l.fn.pass;
+  writes : Writes g.I.Interner.list g.I.Interner.made g.I.Interner.kept g.I.Interner.lent g.N.Site.log.cap l.fn.pass l.pass (l.other-index * 1) false;
 }

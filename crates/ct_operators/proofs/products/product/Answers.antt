@@ -1,18 +1,10 @@
-use Rattle.std.proofs.Common.{◌∙◌, length, ap, sym, subst, ◌≡◌, arith, ◌++◌}
-use Rattle.std.specs.Prelude.{All, IfOk}
-use Rattle.std.specs.List.{IsDistinct}
-use Rattle.std.proofs.lemmas.List.{length-append}
-use Rattle.std.proofs.lemmas.Result.{IfOk-weaker}
-use Rattle.ct_word.specs.Value.{same_cells}
-use Rattle.ct_word.specs.Sublist.{IsSublist}
-use Rattle.ct_query.specs.Database.{SameSet}
-use Rattle.ct_operators.specs.Tables.{IsRow, AreRows, value_of_rows, cells_of, firsts}
-use Rattle.ct_query.specs.Rows.{joins}
-use Rattle.ct_operators.proofs.Firsts.{part_of_firsts}
-use Rattle.ct_operators.proofs.Adding.{all_first}
-use Rattle.ct_operators.proofs.Pairing.{joined_apart}
-use Rattle.ct_operators.specs.Terms.{TermOfRows, RowsFrom}
-use Rattle.ct_operators.proofs.Reaching.{rows_wider, from_rows}
+use Rattle.std.{proofs.Common.{◌∙◌, length, ap, sym, subst, ◌≡◌, arith, ◌++◌}, specs.Prelude.{All, IfOk}, specs.List.IsDistinct}
+use Rattle.std.{proofs.lemmas.List.length-append, proofs.lemmas.Result.IfOk-weaker}
+use Rattle.ct_word.{specs.Value.same_cells, specs.Sublist.IsSublist}
+use Rattle.ct_query.{specs.Database.SameSet, specs.Rows.joins}
+use Rattle.ct_operators.{specs.Tables.{IsRow, AreRows, value_of_rows, cells_of, firsts}, proofs.Firsts.part_of_merged, proofs.Adding.all_first}
+use Rattle.ct_operators.{proofs.Pairing.joined_apart, specs.Terms.{TermOfRows, RowsFrom}, proofs.Reaching.{rows_wider, from_rows}}
+use Rattle.ct_operators.proofs.products.product.Goals.{After-merged}
 use Rattle.ct_operators.proofs.products.product.Goals as goal
 
 pub merged-requires : goal.merged-requires
@@ -36,30 +28,21 @@ pub returns-clause-part : goal.returns-clause-part
 returns-clause-part g c =
     let old = g.I.Interner.list c.args.pass.now in
     let new = g.I.Interner.list c.merged.new.pass in
-    let all = joins (cells_of old c.args.left.now.rows) (cells_of old c.args.right.now.rows) in
-    IfOk-weaker c.merged.result (λ out. IsSublist (cells_of new out.rows) (firsts same_cells all)) (λ out. IsSublist (cells_of new out.rows) all)
-    (λ out. part_of_firsts same_cells (cells_of new out.rows) all)
+    part_of_merged new c.merged.result (joins (cells_of old c.args.left.now.rows) (cells_of old c.args.right.now.rows))
     (subst (λ l. IfOk c.merged.result (λ out. IsSublist (cells_of new out.rows) (firsts same_cells l))) c.in_ok-pairs.ensures.pairs.cells_are c.merged.ensures.order)
 
-pub returns-clause-made : goal.returns-clause-made
-returns-clause-made g c =
+-- pairs of rows of distinct cells have distinct cells
+apart : (g : _) (c : After-merged g) → length (firsts same_cells (cells_of (g.I.Interner.list c.pairs.new.pass) c.in_ok-pairs.pairs.items)) ≡ length c.in_ok-pairs.pairs.items
+apart g c =
     let old = g.I.Interner.list c.args.pass.now in
-    let mid = g.I.Interner.list c.pairs.new.pass in
-    let out = c.in_ok-pairs.pairs.items in
-    let apart : length (firsts same_cells (cells_of mid out)) ≡ length out =
-    all_first mid out (subst (IsDistinct same_cells) (sym c.in_ok-pairs.ensures.pairs.cells_are)
-    (joined_apart old (length c.args.left.now.columns) (length c.args.right.now.columns) c.args.left.now.rows c.args.right.now.rows c.requires.left c.requires.right)) in
-    omega (arith, apart, c.pairs.ensures.made, c.merged.ensures.made)
+    all_first (g.I.Interner.list c.pairs.new.pass) c.in_ok-pairs.pairs.items (subst (IsDistinct same_cells) (sym c.in_ok-pairs.ensures.pairs.cells_are)
+    (joined_apart old (length c.args.left.now.columns) (length c.args.right.now.columns) c.args.left.now.rows c.args.right.now.rows c.requires.left c.requires.right))
+
+pub returns-clause-made : goal.returns-clause-made
+returns-clause-made g c = omega (arith, apart g (goal.at.returns-clause-made g c).After-merged, c.in_ok-pairs.ensures.writes.made, c.merged.ensures.made)
 
 pub returns-clause-fewer : goal.returns-clause-fewer
-returns-clause-fewer g c e =
-    let old = g.I.Interner.list c.args.pass.now in
-    let mid = g.I.Interner.list c.pairs.new.pass in
-    let out = c.in_ok-pairs.pairs.items in
-    let apart : length (firsts same_cells (cells_of mid out)) ≡ length out =
-    all_first mid out (subst (IsDistinct same_cells) (sym c.in_ok-pairs.ensures.pairs.cells_are)
-    (joined_apart old (length c.args.left.now.columns) (length c.args.right.now.columns) c.args.left.now.rows c.args.right.now.rows c.requires.left c.requires.right)) in
-    omega (arith, apart, c.pairs.ensures.made, c.merged.ensures.fewer e)
+returns-clause-fewer g c e = omega (arith, apart g (goal.at.returns-clause-fewer g c).After-merged, c.in_ok-pairs.ensures.writes.made, c.merged.ensures.fewer e)
 
 pub returns-clause-terms : goal.returns-clause-terms
 returns-clause-terms g c =

@@ -1,5 +1,4 @@
-use Rattle.std.proofs.Common.{◌≡◌, [], take, map}
-use Rattle.std.specs.Prelude.{slice_index_or}
+use Rattle.std.{proofs.Common.{◌≡◌, [], take, map}, specs.Prelude.slice_index_or}
 use Rattle.ct_operators.proofs.projection.pick_names.Given as goal
 
 abbrev pub invariant-loop-column : goal.invariant-loop-column

@@ -1,16 +1,9 @@
-use Rattle.std.proofs.Common.{◌<◌, ◌∙◌, length, map, ap, sym, subst, ◌≡◌, arith}
-use Rattle.std.specs.Prelude.{All, IfOk}
-use Rattle.std.proofs.lemmas.List.{length-map}
+use Rattle.std.{proofs.Common.{◌<◌, ◌∙◌, length, map, ap, sym, subst, ◌≡◌, arith}, specs.Prelude.{All, IfOk}, proofs.lemmas.List.length-map}
 use Rattle.std.proofs.lemmas.Result.{IfOk-weaker}
-use Rattle.ct_word.specs.Value.{same_cells}
-use Rattle.ct_word.specs.Sublist.{IsSublist}
-use Rattle.ct_query.specs.Database.{SameSet}
-use Rattle.ct_query.specs.Patterns.{picked}
-use Rattle.ct_operators.specs.Tables.{IsRow, AreRows, value_of_rows, cells_of, firsts}
-use Rattle.ct_operators.specs.Projection.{picked_row}
-use Rattle.ct_operators.proofs.Firsts.{part_of_firsts}
-use Rattle.ct_operators.proofs.Projecting.{all_within, picked_rows, cells_picked, value_picked, picked_from}
-use Rattle.ct_operators.specs.Terms.{TermOfRows, RowsFrom}
+use Rattle.ct_word.{specs.Value.same_cells, specs.Sublist.IsSublist}
+use Rattle.ct_query.{specs.Database.SameSet, specs.Patterns.picked}
+use Rattle.ct_operators.{specs.Tables.{IsRow, AreRows, value_of_rows, cells_of, firsts}, specs.Projection.picked_row, proofs.Firsts.part_of_merged}
+use Rattle.ct_operators.{proofs.Projecting.{all_within, picked_rows, cells_picked, value_picked, picked_from}, specs.Terms.{TermOfRows, RowsFrom}}
 use Rattle.ct_operators.proofs.Reaching.{rows_itself, rows_wider, from_rows}
 use Rattle.ct_operators.proofs.projection.project.Goals as goal
 
@@ -60,10 +53,7 @@ returns-clause-order g c =
 pub returns-clause-part : goal.returns-clause-part
 returns-clause-part g c =
     let old = g.I.Interner.list c.args.pass.now in
-    let new = g.I.Interner.list c.merged.new.pass in
-    let all = map (picked c.args.columns.now) (cells_of old c.args.table.now.rows) in
-    IfOk-weaker c.merged.result (λ out. IsSublist (cells_of new out.rows) (firsts same_cells all)) (λ out. IsSublist (cells_of new out.rows) all)
-    (λ out. part_of_firsts same_cells (cells_of new out.rows) all) (returns-clause-order g c)
+    part_of_merged (g.I.Interner.list c.merged.new.pass) c.merged.result (map (picked c.args.columns.now) (cells_of old c.args.table.now.rows)) (returns-clause-order g c)
 
 pub returns-clause-made : goal.returns-clause-made
 returns-clause-made g c =

@@ -1,7 +1,5 @@
-use Rattle.std.proofs.Common.{◌∙◌, ap, []}
-use Rattle.std.proofs.lemmas.Bool.{eqb-true}
-use Rattle.ct_word.specs.Condition.{holds_at}
-use Rattle.ct_word.specs.Reading.{condition_at}
+use Rattle.std.{proofs.Common.{◌∙◌, ap, []}, proofs.lemmas.Bool.eqb-true}
+use Rattle.ct_word.{specs.Condition.holds_at, specs.Reading.condition_at}
 use Rattle.ct_condition.proofs.Truths.{false_at}
 use Rattle.ct_operators.proofs.selection.is_false.Goals as goal
 

@@ -1,5 +1,4 @@
-use Rattle.std.proofs.Common.{◌++◌, subst}
-use Rattle.std.specs.Prelude.{IfOk}
+use Rattle.std.{proofs.Common.{◌++◌, subst}, specs.Prelude.IfOk}
 use Rattle.ct_operators.specs.Terms.{TermOfRows, RowsFrom}
 use Rattle.ct_operators.proofs.unions.union.Goals as goal
 

@@ -1,34 +1,27 @@
-use Rattle.std.proofs.Common.{◌≡◌, ◌+◌, ◌∙◌, not, ◌&&◌, [], ◌∷◌, ◌++◌, length, take, ap, sym, subst, arith}
-use Rattle.std.specs.Prelude.{All, IsTrue}
-use Rattle.std.proofs.lemmas.List.{take_more, take_all}
-use Rattle.std.proofs.lemmas.Result.{err_from_is_err_and}
-use Rattle.ct_word.specs.declared.kinds.Class.TheVariants as class
-use Rattle.ct_word.specs.Condition.{holds_at}
-use Rattle.ct_word.specs.Reading.{condition_at}
-use Rattle.ct_word.specs.WellFormed.{is_place_of}
+use Rattle.std.{proofs.Common.{◌≡◌, not, ◌&&◌, ◌∷◌, ◌++◌, length, take, ap, sym, subst, refl, arith, inl, inr}, specs.Prelude.{All, IsTrue, ◌⊎◌}}
+use Rattle.std.{proofs.lemmas.List.take_all, proofs.lemmas.Result.err_from_is_err_and}
+use Rattle.ct_word.{specs.Condition.holds_at, specs.Reading.condition_at, specs.WellFormed.is_place_of, specs.declared.values.Term.Term}
 use Rattle.ct_word.proofs.Prefixes.{prefix_of_prefix, place_in_prefix, place_within}
-use Rattle.ct_operators.specs.Tables.{IsRow}
-use Rattle.ct_operators.specs.Building.{HoldsWhere}
-use Rattle.ct_operators.specs.Matching.{same_worth, is_among}
-use Rattle.ct_operators.proofs.Selecting.{row_at}
-use Rattle.ct_operators.proofs.Growing.{is_row_grows}
-use Rattle.ct_operators.proofs.Comparing.{alone_none, alone_more, alone_never}
-use Rattle.ct_condition.proofs.Writes.{writes_none, writes_both, writes_within, writes_more, writes_all, writes_last}
-use Rattle.std.proofs.lemmas.List.Elements.{All-head}
-use Rattle.ct_condition.specs.Terms.{TermsFrom, BelowSome}
-use Rattle.ct_operators.specs.Terms.{TermOfRows}
-use Rattle.ct_operators.proofs.Reaching.{from_two, from_later, shown_from, row_itself, foremost}
-use Rattle.ct_operators.proofs.membership.alone.Goals as goal
+use Rattle.ct_operators.{specs.Tables.IsRow, specs.Building.HoldsWhere, specs.Matching.{same_worth, is_among}, proofs.Selecting.{Turn, turn}}
+use Rattle.ct_operators.{specs.Terms.{TermOfRow, TermOfRows}, proofs.Growing.is_row_grows, proofs.Comparing.{alone_none, alone_more, alone_never}}
+use Rattle.ct_operators.{proofs.Reaching.{from_two, from_later, shown_from, some_among, foremost, behind}, proofs.judging.alone.Goals.After-as_slice}
+use Rattle.ct_condition.{proofs.Writes.{writes_none, writes_both, writes_within, writes_more, writes_all, writes_last}, specs.Terms.{TermsFrom, BelowSome}}
+use Rattle.ct_word.specs.declared.kinds.Class.TheVariants as class
+use Rattle.ct_operators.proofs.judging.alone.Goals as goal
+
+-- the other row of a turn
+this : (g : _) (c : After-as_slice g)
+    → Turn (g.I.Interner.list c.args.pass.now) (g.I.Interner.list c.loop-other.pass) (length c.args.row.now.cells) c.args.others.now c.loop-other.other-index c.other-item.result
+this g c =
+    turn _ _ _ _ _ _ c.loop-other.invariant.writes.longer c.words.ensures.formed c.requires.others c.args.others.now refl c.loop-other-test.true c.other-item.is
 
 pub loop-other-init : goal.loop-other-init
 loop-other-init g c =
-    let old = g.I.Interner.list c.args.pass.now in
     let row = c.args.row.now in
-    let source = TermOfRows old (row ∷ c.args.others.now) in
     record {
       writes = writes_none _ c.words.ensures.formed c.words.ensures.room;
-      holds = alone_none _ c.args.row.now.cells c.args.row.now.cond c.requires.row.condition;
-      from = All-head (λ p. TermsFrom old p source) row.cond row.cells (row_itself old (row ∷ c.args.others.now) row (foremost row c.args.others.now));
+      holds = alone_none _ row.cells row.cond c.requires.row.condition;
+      from = λ t h. inl (record { place = row.cond; among = foremost row.cond row.cells; below = h });
     }
 
 pub shown_as-requires-clause-cells : goal.shown_as-requires-clause-cells
@@ -40,13 +33,7 @@ shown_as-requires-clause-cells g c =
 
 pub shown_as-requires-clause-other : goal.shown_as-requires-clause-other
 shown_as-requires-clause-other g c =
-    let old = g.I.Interner.list c.args.pass.now in
-    let now = g.I.Interner.list c.loop-other.pass in
-    let width = length c.args.row.now.cells in
-    let grown = c.loop-other.invariant.writes.longer in
-    let s = c.other-item.result in
-    subst (λ cs. IsRow now (length cs) s) (sym c.as_slice.ensures)
-    (is_row_grows old now grown c.words.ensures.formed width s (row_at old now width c.args.others.now c.loop-other.other-index s grown c.words.ensures.formed c.requires.others c.loop-other-test.true c.other-item.is).0)
+    subst (λ cs. IsRow (g.I.Interner.list c.loop-other.pass) (length cs) c.other-item.result) (sym c.as_slice.ensures) (this g (goal.at.shown_as-requires-clause-other g c).After-as_slice).is
 
 pub not-requires : goal.not-requires
 not-requires g c = record { condition = c.in_ok-there.ensures.holds.class }
@@ -74,12 +61,11 @@ loop-other-preserved g c =
     let i = c.loop-other.other-index in
     let s = c.other-item.result in
     let grown = c.loop-other.invariant.writes.longer in
-    let is = (row_at old now width others i s grown c.words.ensures.formed c.requires.others c.loop-other-test.true c.other-item.is).0 in
-    let done : take i others ++ s ∷ [] ≡ take (i + 1) others = ap (λ x. take i others ++ x ∷ []) c.other-item.is ∙ sym (take_more others i s c.loop-other-test.true) in
-    let source = TermOfRows old (row ∷ others) in
+    let t = this g (goal.at.loop-other-preserved g c).After-as_slice in
+    let source : Term → Type 0 = λ t. TermOfRow old row t ⊎ TermOfRows old others t in
     record {
-      holds = subst (λ d. HoldsWhere new c.in_ok-cond.cond (λ v. holds_at v (condition_at old row.cond) && not (is_among old d row.cells v))) done
-          (alone_more old now width grown (take i others) s is row.cells c.requires.row.terms m1 m2 new (λ v. holds_at v (condition_at old row.cond)) c.in_ok-there.ensures.writes.longer c.not.ensures.longer
+      holds = subst (λ d. HoldsWhere new c.in_ok-cond.cond (λ v. holds_at v (condition_at old row.cond) && not (is_among old d row.cells v))) t.done
+          (alone_more old now width grown (take i others) s t.was row.cells c.requires.row.terms m1 m2 new (λ v. holds_at v (condition_at old row.cond)) c.in_ok-there.ensures.writes.longer c.not.ensures.longer
           c.loop-other.cond c.in_ok-there.there c.in_ok-absent.absent c.in_ok-cond.cond c.loop-other.invariant.holds
           (subst (λ cs. HoldsWhere m1 c.in_ok-there.there (λ v. holds_at v (condition_at now s.cond) && same_worth now s.cells cs v)) c.as_slice.ensures c.in_ok-there.ensures.holds)
           c.in_ok-absent.ensures.truth c.in_ok-cond.ensures.truth);
@@ -89,8 +75,11 @@ loop-other-preserved g c =
       from = from_two m2 new c.loop-other.cond c.in_ok-absent.absent c.in_ok-cond.cond source
           (from_later now m2 (prefix_of_prefix now m1 m2 c.in_ok-there.ensures.writes.longer c.not.ensures.longer) c.loop-other.invariant.writes.formed c.loop-other.cond source
           (place_within now class.Cond c.loop-other.cond c.loop-other.invariant.holds.class) c.loop-other.invariant.from)
-          (λ t h. shown_from old now grown c.words.ensures.formed width width row s others c.requires.row is (i, c.loop-other-test.true, sym c.other-item.is) t
-          (subst (λ cs. TermsFrom m1 c.in_ok-there.there (BelowSome now (s.cond ∷ (s.cells ++ cs)))) c.as_slice.ensures c.in_ok-there.ensures.terms t (c.in_ok-absent.ensures.terms t h)))
+          (λ u h. elim (shown_from old now grown c.words.ensures.formed width s others row.cells c.requires.row.terms t.was t.among u
+          (subst (λ cs. TermsFrom m1 c.in_ok-there.there (BelowSome now (s.cond ∷ (s.cells ++ cs)))) c.as_slice.ensures c.in_ok-there.ensures.terms u (c.in_ok-absent.ensures.terms u h))) [
+            | inl b ↦ inl (some_among old row.cells (row.cond ∷ row.cells) u (behind row.cond row.cells) b)
+            | inr x ↦ inr x
+          ])
           c.in_ok-cond.ensures.terms;
     }
 
