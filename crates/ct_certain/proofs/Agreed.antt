@@ -1,12 +1,9 @@
 -- Two worlds that give the nulls of a condition the same values give it one truth.
 use Rattle.std.proofs.Common.{◌≡◌, not, ◌&&◌, ◌||◌, List, refl, ap, inl, inr}
-use Rattle.ct_word.specs.declared.values.Value.{Value}
-use Rattle.ct_word.specs.declared.values.Null.{Null}
-use Rattle.ct_word.specs.declared.values.Term.{Term}
-use Rattle.ct_word.specs.declared.values.Term.TheVariants as term
+use Rattle.ct_word.{specs.declared.values.Value.Value, specs.declared.values.Null.Null, specs.declared.values.Term.Term, specs.Named.{IsNamed, IsNamedInSome}}
 use Rattle.ct_word.specs.Value.{World, at, same_value, value_of_null}
 use Rattle.ct_word.specs.Condition.{Condition, Conditions, True, False, Same, Not, And, Or, none, also, holds, all_hold, any_holds}
-use Rattle.ct_word.specs.Named.{IsNamed, IsNamedInSome}
+use Rattle.ct_word.specs.declared.values.Term.TheVariants as term
 
 module _ (v w : World) (row : List Value) where
   at_agreed : (t : Term) → ((n : Null) → term.Null n ≡ t → value_of_null v n ≡ value_of_null w n) → at v row t ≡ at w row t

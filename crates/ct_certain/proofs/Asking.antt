@@ -1,30 +1,17 @@
 -- Questions and their answers.
-use Rattle.std.proofs.Common.{◌≡◌, ℕ, ◌&&◌, List, [], map, sym, subst, ◌∙◌, inl, inr}
-use Rattle.std.specs.Prelude.{Some, None}
+use Rattle.std.{proofs.Common.{◌≡◌, ℕ, ◌&&◌, List, [], map, sym, subst, ◌∙◌, inl, inr}, specs.Prelude.{Some, None}}
+use Rattle.ct_word.{specs.declared.values.CRow.CRow, specs.Value.World, specs.Condition.{holds, holds_at}, specs.Reading.condition_at, specs.Stands.HasNoColumn}
+use Rattle.ct_word.{specs.WellFormed.IsWellFormed, proofs.Prefixes.{condition_in_prefix, place_within}}
+use Rattle.ct_cnf.specs.Encoding.{HasTermsPast}
+use Rattle.ct_derivation.{specs.Accepts.Accepts, proofs.Sound.root_refuted}
+use Rattle.ct_condition.{specs.Truth.{HasTruth, and_at}, specs.Terms.{TermsFrom, BelowEither}, proofs.Reached.either_before}
+use Rattle.ct_decide.specs.Decided.{DecisionOf}
+use Rattle.ct_certain.{specs.Answered.{AreOf, IsAnswer, IsSettled}, specs.Asked.IsPastTermsOfRow, specs.Order.with_nulls, specs.Possible.is_shown}
+use Rattle.ct_certain.{proofs.Agreed.truth_agreed, proofs.Ordered.{some_tidy, all_as_they_were}}
 use mathlib.Core.List.{IsPrefix}
 use Rattle.ct_word.specs.declared.kinds.Class.TheVariants as class
-use Rattle.ct_word.specs.declared.values.CRow.{CRow}
 use Rattle.ct_word.specs.declared.values.Term.TheVariants as term
-use Rattle.ct_word.specs.Value.{World}
-use Rattle.ct_word.specs.Condition.{holds, holds_at}
-use Rattle.ct_word.specs.Reading.{condition_at}
-use Rattle.ct_word.specs.Stands.{HasNoColumn}
-use Rattle.ct_word.specs.WellFormed.{IsWellFormed}
-use Rattle.ct_word.proofs.Prefixes.{condition_in_prefix, place_within}
-use Rattle.ct_cnf.specs.Encoding.{HasTermsPast}
-use Rattle.ct_derivation.specs.Accepts.{Accepts}
-use Rattle.ct_derivation.proofs.Sound.{root_refuted}
-use Rattle.ct_condition.specs.Truth.{HasTruth, and_at}
-use Rattle.ct_condition.specs.Terms.{TermsFrom, BelowEither}
-use Rattle.ct_condition.proofs.Reached.{either_before}
 use Rattle.ct_decide.specs.declared.deciding.Decision.TheVariants as decision
-use Rattle.ct_decide.specs.Decided.{DecisionOf}
-use Rattle.ct_certain.specs.Answered.{AreOf, IsAnswer, IsSettled}
-use Rattle.ct_certain.specs.Asked.{IsPastTermsOfRow}
-use Rattle.ct_certain.specs.Order.{with_nulls}
-use Rattle.ct_certain.specs.Possible.{is_shown}
-use Rattle.ct_certain.proofs.Agreed.{truth_agreed}
-use Rattle.ct_certain.proofs.Ordered.{some_tidy, all_as_they_were}
 
 -- a world that was found, in order
 pub settled_world : (words : List ℕ) (root : ℕ) (found world : World) → DecisionOf words root (decision.World found) → world ≡ with_nulls found [] (map (λ p. p.0) found) → IsSettled words root (decision.World world)

@@ -1,44 +1,27 @@
 -- The tuples that rows are worth at a kept world: how many there are, and which values they have.
-use Rattle.std.proofs.Common.{◌≡◌, ◌≤◌, ◌<◌, ◌+◌, ℕ, zero, suc, Bool, true, false, List, [], ◌∷◌, ◌++◌, get_or, map, length, take, refl, ap, sym, subst, ◌∙◌, arith, inl, inr, if◌then◌else◌}
-use Rattle.std.specs.Prelude.{◌&&◌, ◌||◌, All, IsTrue, filter}
-use Rattle.std.specs.List.{IsDistinct, list_any}
-use Rattle.std.specs.Cmp.{IsEquivalence}
-use Rattle.std.proofs.lemmas.Bool.Decides.{same_from_decides}
-use Rattle.std.proofs.lemmas.Bool.{false≢true}
-use Rattle.std.proofs.lemmas.List.{take_more}
+use Rattle.std.proofs.Common.{◌≡◌, ◌≤◌, ℕ, zero, suc, Bool, true, false, List, [], ◌∷◌, ◌++◌, map, length, refl, ap, sym, subst, ◌∙◌, arith, inl, inr, if◌then◌else◌}
+use Rattle.std.{specs.Prelude.{◌&&◌, ◌||◌, All, IsTrue, filter}, specs.List.{IsDistinct, list_any}, specs.Cmp.IsEquivalence, proofs.lemmas.Bool.false≢true}
+use Rattle.std.{proofs.lemmas.Bool.Decides.same_from_decides, specs.Cmp.Lexicographic.pointwise}
 use Rattle.std.proofs.lemmas.List.Elements.{All-head, All-tail, All-nil, All-cons, All-weaker}
-use mathlib.Core.List.{IsPrefix}
 use Rattle.indexmap.specs.IndexSet.{insert_key}
-use Rattle.ct_word.specs.declared.kinds.Class.TheVariants as class
-use Rattle.ct_word.specs.declared.values.Value.{Value}
-use Rattle.ct_word.specs.declared.values.Null.{Null}
-use Rattle.ct_word.specs.declared.values.Term.{Term}
-use Rattle.ct_word.specs.declared.values.Term.TheVariants as term
-use Rattle.ct_word.specs.declared.values.CRow.{CRow}
-use Rattle.ct_word.specs.Value.{World, at, cell_at, other_zero, same_null, same_tuple, same_value, tuple_at, value_of_null}
-use Rattle.ct_word.specs.Condition.{holds_at}
-use Rattle.ct_word.specs.Reading.{IsTerm, condition_at, plain_crow, term_at}
-use Rattle.ct_word.specs.Stands.{HasNoColumn, StandsAt}
-use Rattle.ct_word.specs.WellFormed.{IsWellFormed, is_place_of}
-use Rattle.ct_word.specs.Sublist.{IsSublist, ended, left_out, taken}
-use Rattle.ct_word.proofs.Alike.{tuple_decides}
-use Rattle.ct_word.proofs.Places.{stands_term}
+use Rattle.ct_word.{specs.declared.values.Value.Value, specs.declared.values.Null.Null, specs.declared.values.Term.Term, specs.declared.values.CRow.CRow}
+use Rattle.ct_word.{specs.Value.{World, at, cell_at, other_zero, same_null, same_tuple, same_value, tuple_at, value_of_null}, specs.Condition.holds_at}
+use Rattle.ct_word.{specs.Reading.{IsTerm, condition_at, plain_crow, term_at}, specs.Stands.{HasNoColumn, StandsAt}, proofs.Alike.tuple_decides}
+use Rattle.ct_word.{specs.WellFormed.{IsWellFormed, is_place_of}, specs.Sublist.{IsSublist, ended, left_out, taken}, proofs.Places.stands_term}
 use Rattle.ct_word.proofs.Prefixes.{prefix_of_prefix, prefix_same}
 use Rattle.ct_arena.specs.Counts.{opening}
 use Rattle.ct_condition.proofs.Placed.{place_from}
 use Rattle.ct_equality.specs.Valued.{IsNumbered}
-use Rattle.ct_operators.specs.Tables.{AreRows, IsRow, firsts, value_of_rows}
-use Rattle.ct_operators.proofs.Firsts.{any_first, firsts_known, firsts_long, firsts_new, firsts_part}
+use Rattle.ct_operators.{specs.Tables.{AreRows, IsRow, firsts, value_of_rows}, proofs.Firsts.{any_first, firsts_known, firsts_long, firsts_new, firsts_part}}
 use Rattle.ct_operators.proofs.Holding.{holds_false}
-use Rattle.ct_operators.proofs.Selecting.{value-push}
 use Rattle.ct_query.specs.Database.{has_tuple}
-use Rattle.std.specs.Cmp.Lexicographic.{pointwise}
+use Rattle.ct_certain.{specs.declared.striking.Seen.Seen, specs.Certain.{IsInAll, IsKeptWorld}, specs.Missing.{IsAskedOf, IsAtHand, IsSeen}}
+use Rattle.ct_certain.proofs.Missing.{one_or_none, one_row}
+use mathlib.Core.List.{IsPrefix}
+use Rattle.ct_word.specs.declared.kinds.Class.TheVariants as class
+use Rattle.ct_word.specs.declared.values.Term.TheVariants as term
 use Rattle.ct_word.specs.contracts.values.ValuePartialEq.TheImpl as value_eq
 use Rattle.ct_word.specs.declared.values.Value.TheVariants as val
-use Rattle.ct_certain.specs.declared.striking.Seen.{Seen}
-use Rattle.ct_certain.specs.Certain.{IsInAll, IsKeptWorld}
-use Rattle.ct_certain.specs.Missing.{IsAskedOf, IsAtHand, IsSeen}
-use Rattle.ct_certain.proofs.Missing.{one_or_none, one_row}
 
 append_none : {X : Type 0} (xs : List X) → xs ++ [] ≡ xs
 append_none [] = refl
@@ -127,10 +110,6 @@ worth_none words v r ts e = sym (append_none ts) ∙ ap (λ l. ts ++ l) (ap (λ 
 
 pub worth_one : (words : List ℕ) (v : World) (r : CRow) (ts : List (List Value)) → true ≡ holds_at v (condition_at words r.cond) → ts ++ tuple_at v (map (term_at words) r.cells) ∷ [] ≡ ts ++ value_of_rows words v (r ∷ [])
 worth_one words v r ts e = ap (λ l. ts ++ l) (ap (λ b. one_or_none b (tuple_at v (map (term_at words) r.cells))) e ∙ sym (one_row v words r))
-
--- one more row
-pub worth_turn : (words : List ℕ) (v : World) (rows : List CRow) (i : ℕ) (r : CRow) → i < length rows → r ≡ get_or rows i r → value_of_rows words v (take i rows) ++ value_of_rows words v (r ∷ []) ≡ value_of_rows words v (take (i + 1) rows)
-worth_turn words v rows i r lt e = sym (value-push words v (take i rows) r) ∙ ap (value_of_rows words v) (ap (λ x. take i rows ++ x ∷ []) e ∙ sym (take_more rows i r lt))
 
 value_compared : (a b : Value) → value_eq.ghosts.eq a b ≡ same_value a b
 value_compared (val.Int a) (val.Int b) = refl

@@ -1,34 +1,19 @@
 -- Lists of certain tuples, one candidate after another.
 use Rattle.std.proofs.Common.{◌≡◌, ◌<◌, ◌+◌, ℕ, get_or, length, take, Bool, true, false, not, ◌&&◌, ◌||◌, List, [], ◌∷◌, ◌++◌, refl, ap, sym, subst, ◌∙◌, inl, inr}
-use Rattle.std.specs.Prelude.{◌⊎◌, All, IsTrue}
-use Rattle.std.specs.List.{IsDistinct}
-use Rattle.std.proofs.lemmas.Bool.{and_parts, false≢true}
-use Rattle.std.proofs.lemmas.List.{take_more}
+use Rattle.std.{specs.Prelude.{◌⊎◌, All, IsTrue}, specs.List.IsDistinct, proofs.lemmas.Bool.{and_parts, false≢true}, proofs.lemmas.List.take_more}
 use Rattle.std.proofs.lemmas.List.Elements.{All-head, All-tail, All-nil, All-push, All-weaker}
+use Rattle.ct_word.{specs.declared.values.Value.Value, specs.declared.values.CRow.CRow, specs.Value.{World, same_tuple}, specs.Condition.holds_at}
+use Rattle.ct_word.{specs.Reading.condition_at, specs.Sublist.{IsSublist, ended, left_out, taken}, specs.WellFormed.{IsWellFormed, is_place_of}}
+use Rattle.ct_word.{proofs.Alike.tuple_decides, proofs.Prefixes.{condition_in_prefix, place_within}}
+use Rattle.ct_query.specs.Database.{has_tuple}
+use Rattle.ct_derivation.{specs.Accepts.{Accepts, accepts}, proofs.Longer.accepted_longer, proofs.Sound.root_refuted}
+use Rattle.ct_rewrite.specs.declared.answer.CertainRow.{CertainRow}
+use Rattle.ct_operators.{specs.Tables.{firsts, value_of_rows}, proofs.Selecting.distinct_part}
+use Rattle.ct_certain.{specs.Certain.{tuples_in, IsCutProof, IsInAll, RefutesMissing, ListsCertain}, specs.Answered.IsSettled, proofs.Candidates.has_first}
+use Rattle.ct_certain.{specs.Missing.{AreListed, IsRefuted, IsRootOf, Takes, nothing, one}, proofs.Cuts.cut_longer}
 use mathlib.Core.List.{IsPrefix}
 use Rattle.ct_word.specs.declared.kinds.Class.TheVariants as class
-use Rattle.ct_word.specs.declared.values.Value.{Value}
-use Rattle.ct_word.specs.declared.values.CRow.{CRow}
-use Rattle.ct_word.specs.Value.{World, same_tuple}
-use Rattle.ct_word.specs.Condition.{holds_at}
-use Rattle.ct_word.specs.Reading.{condition_at}
-use Rattle.ct_word.specs.Sublist.{IsSublist, ended, left_out, taken}
-use Rattle.ct_word.specs.WellFormed.{IsWellFormed, is_place_of}
-use Rattle.ct_word.proofs.Alike.{tuple_decides}
-use Rattle.ct_word.proofs.Prefixes.{condition_in_prefix, place_within}
-use Rattle.ct_query.specs.Database.{has_tuple}
-use Rattle.ct_derivation.specs.Accepts.{Accepts, accepts}
-use Rattle.ct_derivation.proofs.Longer.{accepted_longer}
-use Rattle.ct_derivation.proofs.Sound.{root_refuted}
-use Rattle.ct_rewrite.specs.declared.answer.CertainRow.{CertainRow}
-use Rattle.ct_operators.specs.Tables.{firsts, value_of_rows}
-use Rattle.ct_operators.proofs.Selecting.{distinct_part}
-use Rattle.ct_certain.specs.Certain.{tuples_in, IsCutProof, IsInAll, RefutesMissing, ListsCertain}
 use Rattle.ct_decide.specs.declared.deciding.Decision.TheVariants as decision
-use Rattle.ct_certain.specs.Answered.{IsSettled}
-use Rattle.ct_certain.specs.Missing.{AreListed, IsRefuted, IsRootOf, Takes, nothing, one}
-use Rattle.ct_certain.proofs.Candidates.{has_first}
-use Rattle.ct_certain.proofs.Cuts.{cut_longer}
 
 sub_left : {A : Type 0} {xs ys : List A} (y : A) → IsSublist xs ys → IsSublist xs (ys ++ y ∷ [])
 sub_left y ended = left_out ended

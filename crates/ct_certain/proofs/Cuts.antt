@@ -1,13 +1,10 @@
 -- A derivation that is cut over words is cut over all longer ones.
-use Rattle.std.proofs.Common.{ℕ, List, ap, sym, ◌∙◌}
-use Rattle.std.specs.Prelude.{slice_get}
-use mathlib.Core.List.{IsPrefix}
-use Rattle.ct_word.specs.Stands.{Below, itself, through}
-use Rattle.ct_word.proofs.Items.{get_append}
-use Rattle.ct_derivation.specs.declared.literals.Atom.{Atom}
-use Rattle.ct_derivation.specs.declared.literals.Atom.TheVariants as atom
-use Rattle.ct_derivation.specs.declared.steps.Derivation.{Derivation}
+use Rattle.std.{proofs.Common.{ℕ, List, ap, sym, ◌∙◌}, specs.Prelude.slice_get}
+use Rattle.ct_word.{specs.Stands.{Below, itself, through}, proofs.Items.get_append}
+use Rattle.ct_derivation.{specs.declared.literals.Atom.Atom, specs.declared.steps.Derivation.Derivation}
 use Rattle.ct_decide.specs.Cut.{IsAtomBelow, IsCut}
+use mathlib.Core.List.{IsPrefix}
+use Rattle.ct_derivation.specs.declared.literals.Atom.TheVariants as atom
 
 module _ (old new : List ℕ) (longer : IsPrefix old new) where
   below_longer : (p r : ℕ) → Below old p r → Below new p r

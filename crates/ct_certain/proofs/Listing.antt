@@ -1,17 +1,12 @@
 -- Lists of possible rows, one row after another.
 use Rattle.std.proofs.Common.{◌≡◌, ◌<◌, ◌+◌, ℕ, List, [], ◌∷◌, ◌++◌, get_or, length, take, refl, ap, sym, subst, ◌∙◌, arith, inl, inr}
-use Rattle.std.specs.Prelude.{All, IsTrue}
-use Rattle.std.proofs.lemmas.List.{take_more}
-use Rattle.std.proofs.lemmas.List.Elements.{All-get_or, All-head, All-weaker}
-use Rattle.ct_word.specs.declared.values.CRow.{CRow}
-use Rattle.ct_word.specs.declared.kinds.Class.TheVariants as class
-use Rattle.ct_word.specs.Stands.{HasNoColumn}
-use Rattle.ct_word.specs.WellFormed.{is_place_of}
+use Rattle.std.{specs.Prelude.{All, IsTrue}, proofs.lemmas.List.take_more, proofs.lemmas.List.Elements.{All-get_or, All-head, All-weaker}}
+use Rattle.ct_word.{specs.declared.values.CRow.CRow, specs.Stands.HasNoColumn, specs.WellFormed.is_place_of}
 use Rattle.ct_operators.specs.Tables.{IsRow}
 use Rattle.ct_rewrite.specs.declared.answer.PossibleRow.{PossibleRow}
-use Rattle.ct_certain.specs.Answered.{AreOf, Adds, nothing, one}
-use Rattle.ct_certain.specs.Asked.{IsOfTable, IsPastTerms, IsPastTermsOfRow, IsPastTermsOfSomeRow}
+use Rattle.ct_certain.{specs.Answered.{AreOf, Adds, nothing, one}, specs.Asked.{IsOfTable, IsPastTerms, IsPastTermsOfRow, IsPastTermsOfSomeRow}}
 use Rattle.ct_certain.specs.Possible.{ListsPossible, ended, left_out, taken}
+use Rattle.ct_word.specs.declared.kinds.Class.TheVariants as class
 
 module _ (words : List ℕ) (global : ℕ) where
   pub lists_more : (rs : List CRow) (list : List PossibleRow) (r : CRow) (new : List PossibleRow) → ListsPossible words global rs list → Adds words global r list new → ListsPossible words global (rs ++ r ∷ []) new

@@ -1,18 +1,12 @@
 -- The root of the question whether a tuple is missing, by what `except` leaves of it.
 use Rattle.std.proofs.Common.{◌≡◌, ◌≤◌, ℕ, Bool, true, false, ◌&&◌, ◌||◌, List, [], ◌∷◌, map, length, refl, ap, sym, ◌∙◌, arith, if◌then◌else◌}
 use Rattle.std.specs.Prelude.{filter}
-use Rattle.ct_word.specs.declared.values.Value.{Value}
-use Rattle.ct_word.specs.declared.values.Term.TheVariants as term
-use Rattle.ct_word.specs.declared.values.CRow.{CRow}
-use Rattle.ct_word.specs.Value.{World, tuple_at}
-use Rattle.ct_word.specs.Condition.{holds_at}
-use Rattle.ct_word.specs.Reading.{as_term, condition_at, term_at, plain_crow}
-use Rattle.ct_word.specs.Sublist.{IsSublist, ended, left_out, taken}
-use Rattle.ct_word.proofs.Alike.{tuple_decides}
+use Rattle.ct_word.{specs.declared.values.Value.Value, specs.declared.values.CRow.CRow, specs.Value.{World, tuple_at}, specs.Condition.holds_at}
+use Rattle.ct_word.{specs.Reading.{as_term, condition_at, term_at, plain_crow}, specs.Sublist.{IsSublist, ended, left_out, taken}, proofs.Alike.tuple_decides}
 use Rattle.ct_query.specs.Database.{has_tuple, SameSet}
-use Rattle.ct_operators.specs.Tables.{value_of_rows, cells_of}
-use Rattle.ct_operators.specs.Building.{HoldsWhere}
+use Rattle.ct_operators.{specs.Tables.{value_of_rows, cells_of}, specs.Building.HoldsWhere}
 use Rattle.ct_certain.specs.Missing.{AreOfTuple, condition_of}
+use Rattle.ct_word.specs.declared.values.Term.TheVariants as term
 
 terms_of : (words : List ℕ) (xs : List Value) (ps : List ℕ) → AreOfTuple words xs ps → map (term_at words) ps ≡ map (λ x. term.Value x) xs
 terms_of words [] [] are = refl

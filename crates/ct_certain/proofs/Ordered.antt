@@ -1,38 +1,13 @@
 -- A world put into order is tidy, and gives each null the value that it had.
 use Rattle.std.proofs.Common.{◌≡◌, ◌<◌, ◌+◌, ◌++◌, take, ℕ, zero, suc, Bool, true, false, not, ◌&&◌, List, [], ◌∷◌, length, map, get_or, refl, ap, sym, ◌∙◌, arith, inl, inr, if◌then◌else◌}
-use Rattle.std.specs.Prelude.{Contains}
-use Rattle.std.specs.List.{list_all}
-use Rattle.std.specs.declared.cmp.Ordering.{Ordering}
-use Rattle.std.specs.declared.cmp.Ordering.TheVariants.{Less, Equal, Greater}
-use Rattle.std.specs.Ordering.{nat_cmp, on, ordering_then, ordering_reverse, then_cmp, is_lt, is_eq}
-use Rattle.std.specs.Cmp.{then_flip}
-use Rattle.std.proofs.lemmas.Bool.{and_parts, and_from, cases_Bool, false≢true}
-use Rattle.std.proofs.lemmas.List.{take_more}
-use Rattle.std.proofs.lemmas.Cmp.{nat_cmp_total, nat_list_cmp_total, on_total, then_total}
-use Rattle.std.proofs.lemmas.Map.Lookups.{exact_unsigned, exact_bytes}
-use Rattle.ct_word.specs.declared.values.Value.{Value}
-use Rattle.ct_word.specs.declared.values.Null.{Null}
-use Rattle.ct_word.specs.declared.values.Null.TheVariants as null
-use Rattle.ct_word.specs.Value.{World, same_null, same_value, other_zero, value_of_null}
+use Rattle.std.{specs.Prelude.Contains, specs.List.list_all, specs.declared.cmp.Ordering.Ordering, proofs.lemmas.List.take_more}
+use Rattle.std.{specs.declared.cmp.Ordering.TheVariants.{Less, Equal, Greater}, proofs.lemmas.Bool.{and_parts, and_from, cases_Bool, false≢true}}
+use Rattle.std.{specs.Ordering.{nat_cmp, on, ordering_reverse, then_cmp, is_lt}, proofs.lemmas.Cmp.{nat_cmp_total, nat_list_cmp_total, on_total, then_total}}
+use Rattle.ct_word.{specs.declared.values.Value.Value, specs.declared.values.Null.Null, specs.Value.{World, same_null, same_value, other_zero, value_of_null}}
 use Rattle.ct_word.proofs.Alike.{null_decides, value_decides}
-use Rattle.ct_rewrite.specs.Order.{null_order}
-use Rattle.ct_rewrite.specs.Tidy.{IsTidy, null_before, are_ascending, has_no_zero}
+use Rattle.ct_rewrite.{specs.Order.null_order, specs.Tidy.{IsTidy, null_before, are_ascending, has_no_zero}, proofs.Sides.{null_turned, exact_null}}
 use Rattle.ct_certain.specs.Order.{by_order, put, with_null, with_nulls}
-
-null_turned : (m n : Null) → null_order m n ≡ ordering_reverse (null_order n m)
-null_turned (null.Named t) (null.Named u) = nat_list_cmp_total.antisymm t u
-null_turned (null.Fresh s m) (null.Fresh t n) = (λ i. ordering_then (nat_cmp_total.antisymm s t i) (nat_cmp_total.antisymm m n i)) ∙ then_flip _ _
-null_turned _ _ = refl
-
-both_equal : (a b : Ordering) → ordering_then a b ≡ Equal → (a ≡ Equal) × (b ≡ Equal)
-both_equal Equal b e = (refl, e)
-both_equal Less b e = absurd (false≢true (ap is_eq e))
-both_equal Greater b e = absurd (false≢true (ap is_eq e))
-
-exact_null : (m n : Null) → null_order m n ≡ Equal → m ≡ n
-exact_null (null.Named t) (null.Named u) e = ap null.Named (exact_bytes t u e)
-exact_null (null.Fresh s m) (null.Fresh t n) e = let p = both_equal _ _ e in λ i. null.Fresh (exact_unsigned s t p.0 i) (exact_unsigned m n p.1 i)
-exact_null _ _ e = absurd (false≢true (ap is_eq e))
+use Rattle.ct_word.specs.declared.values.Null.TheVariants as null
 
 -- the order of pairs of numbers
 pairs_through : (a b c : ℕ × ℕ) → then_cmp (on (λ p. p.0) nat_cmp) (on (λ p. p.1) nat_cmp) a b ≡ Less → then_cmp (on (λ p. p.0) nat_cmp) (on (λ p. p.1) nat_cmp) b c ≡ Less

@@ -1,38 +1,25 @@
 -- The nulls below a row and the global condition, and worlds cut to them.
 use Rattle.std.proofs.Common.{◌≡◌, ◌≤◌, ◌<◌, ◌+◌, ℕ, Bool, true, false, ◌||◌, List, [], ◌∷◌, ◌++◌, length, take, get_or, Option, Some, refl, ap, sym, subst, ◌∙◌, arith, inl, inr, if◌then◌else◌}
-use Rattle.std.specs.Prelude.{◌⊎◌, All, IsTrue, slice_get, nat_eq}
-use Rattle.std.specs.List.{Contains, list_any}
-use Rattle.std.proofs.lemmas.Bool.{cases_lt, eqb-true, false≢true}
-use Rattle.std.proofs.lemmas.List.{get_or_append_left, get_or_default, take_more}
+use Rattle.std.{specs.Prelude.{◌⊎◌, All, IsTrue, slice_get, nat_eq}, specs.List.{Contains, list_any}, proofs.lemmas.Bool.{cases_lt, eqb-true, false≢true}}
+use Rattle.std.{proofs.lemmas.List.{get_or_append_left, get_or_default, take_more}, proofs.lemmas.List.Folds.list_any-append}
 use Rattle.std.proofs.lemmas.List.Elements.{All-append, All-cons, All-contains, All-contains_itself, All-get_or, All-nil, All-push, All-weaker, Contains-append_left, Contains-append_right, Contains-push, Contains-push_cases}
-use Rattle.std.proofs.lemmas.List.Folds.{list_any-append}
 use Rattle.std.proofs.lemmas.Option.{slice_get-get_or, slice_get_within}
+use Rattle.indexmap.{specs.IndexSet.insert_key, proofs.CallerLemmas.Contains-list_any}
+use Rattle.ct_word.{specs.declared.kinds.Kind.Kind, specs.declared.values.Null.Null, specs.declared.values.Term.Term, specs.Word.{kind_of, left_of, right_of}}
+use Rattle.ct_word.{specs.Value.same_null, specs.WellFormed.{IsWellFormed, has_class, is_place_of, is_word_of}, specs.Reading.{IsTerm, as_term, term_at}}
+use Rattle.ct_word.{specs.Stands.{Below, itself, through, StandsAt, places_in, places_of}, proofs.Alike.null_decides}
+use Rattle.ct_word.{proofs.Items.{no_item, sole_item, item_cases}, proofs.Places.{stands_term, stands_condition}, proofs.Splits.{place_within, some-injective}}
+use Rattle.ct_word.proofs.Prefixes.{prefix_of_prefix, prefix_same}
+use Rattle.ct_condition.specs.Terms.{BelowSome}
+use Rattle.ct_operators.{proofs.Placed.parts_are, proofs.Reaching.term_alone}
+use Rattle.ct_certain.specs.Own.{IsPart, names_left, names_right, parts_in, parts_of, ArePut, IsReached, AreGathered, has_null, with_term, AreNullsOf, IsTermAtSome}
 use mathlib.Core.List.{IsPrefix}
-use Rattle.indexmap.specs.IndexSet.{insert_key}
-use Rattle.indexmap.proofs.CallerLemmas.{Contains-list_any}
-use Rattle.ct_word.specs.declared.kinds.Kind.{Kind}
 use Rattle.ct_word.specs.declared.kinds.Kind.TheVariants as kind
 use Rattle.ct_word.specs.declared.kinds.Class.TheVariants as class
-use Rattle.ct_word.specs.declared.values.Null.{Null}
 use Rattle.ct_word.specs.declared.values.Null.TheVariants as null
-use Rattle.ct_word.specs.declared.values.Term.{Term}
 use Rattle.ct_word.specs.declared.values.Term.TheVariants as term
 use Rattle.ct_word.specs.contracts.values.NullPartialEq.TheImpl as null_code
-use Rattle.ct_word.specs.Word.{kind_of, left_of, right_of}
-use Rattle.ct_word.specs.Value.{same_null}
-use Rattle.ct_word.specs.WellFormed.{IsWellFormed, has_class, is_place_of, is_word_of}
-use Rattle.ct_word.specs.Reading.{IsTerm, as_term, term_at}
-use Rattle.ct_word.specs.Stands.{Below, itself, through, StandsAt, places_in, places_of}
-use Rattle.ct_word.proofs.Alike.{null_decides}
-use Rattle.ct_word.proofs.Items.{no_item, sole_item, item_cases}
-use Rattle.ct_word.proofs.Places.{stands_term, stands_condition}
-use Rattle.ct_word.proofs.Prefixes.{prefix_of_prefix, prefix_same}
-use Rattle.ct_word.proofs.Splits.{place_within, some-injective}
-use Rattle.ct_condition.specs.Terms.{BelowSome}
 use Rattle.ct_operators.specs.Placing as placing
-use Rattle.ct_operators.proofs.Placed.{parts_are}
-use Rattle.ct_operators.proofs.Reaching.{term_alone}
-use Rattle.ct_certain.specs.Own.{IsPart, names_left, names_right, parts_in, parts_of, ArePut, IsReached, AreGathered, has_null, with_term, AreNullsOf, IsTermAtSome}
 
 contains_longer : {X : Type 0} (xs ys : List X) (x : X) → IsPrefix xs ys → Contains xs x → Contains ys x
 contains_longer xs ys x p h = subst (λ l. Contains l x) p.1 (Contains-append_left xs p.0 x h)
@@ -64,13 +51,6 @@ put_one old p new e = subst (ArePut old (p ∷ [])) (sym e) (by (list_any (nat_e
     put = All-cons (Contains (old ++ p ∷ [])) p [] (Contains-push old p) (All-nil (Contains (old ++ p ∷ [])));
     only = All-push (λ q. Contains old q ⊎ Contains (p ∷ []) q) old p (All-weaker (Contains old) (λ q. Contains old q ⊎ Contains (p ∷ []) q) (λ q h. inl h) old (All-contains_itself old)) (inr (Contains-push [] p));
   }
-
--- what holds of all keys, one more put in
-pub keys_all : (P : ℕ → Type 0) (old : List ℕ) (p : ℕ) (new : List ℕ) → new ≡ insert_key nat_eq old p → P p → All P old → All P new
-keys_all P old p new e is all = subst (All P) (sym e) (by (list_any (nat_eq p) old)) where
-  by : (b : Bool) → All P (if b then old else old ++ p ∷ [])
-  by true = all
-  by false = All-push P old p all is
 
 either_among : (as' bs : List ℕ) (q : ℕ) → Contains as' q ⊎ Contains bs q → Contains (as' ++ bs) q
 either_among as' bs q (inl h) = Contains-append_left as' bs q h
@@ -269,9 +249,6 @@ keyed_all P ns n p all = by (list_any (same_null n) ns) where
   by false = All-push P ns n all p
 
 module _ (ws : List ℕ) where
-  pub nulls_none : AreNullsOf (IsTermAtSome ws []) []
-  nulls_none = record { each = All-nil _; all = λ n h. absurd (no_item h.0 h.1) }
-
   stands_null : (p : ℕ) (n : Null) → IsPart ws p → term_at ws p ≡ term.Null n → StandsAt ws p (IsTerm (term.Null n))
   stands_null p n (inr e) is = subst (λ t. StandsAt ws p (IsTerm t)) is (stands_term ws p e)
   stands_null p n (inl c) is = let value : term_at ws p ≡ _ = ap as_term (stands_condition ws p c) in absurd (no_value (sym value ∙ is)) where
@@ -303,21 +280,14 @@ module _ (ws : List ℕ) where
       each = keyed_all (λ n. IsTermAtSome ws (done ++ p ∷ []) (term.Null n)) old m (p, Contains-push done p, stands_null p m part is) older;
       all = λ n h. elim (split n h) [
         | inl o ↦ keyed old m n o
-        | inr this ↦ subst (λ k. IsTrue (has_null (insert_key same_null old m) k)) (null_injective m n (sym is ∙ this)) (keyed_itself old m)
+        | inr this ↦
+            let both : term.Null m ≡ term.Null n = sym is ∙ this in
+            let same : m ≡ n = cc in
+            subst (λ k. IsTrue (has_null (insert_key same_null old m) k)) same (keyed_itself old m)
       ];
-    } where
-      null_of : Term → Null
-      null_of (term.Null k) = k
-      null_of _ = m
-
-      null_injective : (a b : Null) → term.Null a ≡ term.Null b → a ≡ b
-      null_injective a b e = ap null_of e
-    by (term.Column k) is = record { each = older; all = λ n h. elim (split n h) [ inl o ↦ o | inr this ↦ absurd (no_null (sym is ∙ this)) ] } where
-      no_null : {n : Null} → term.Column k ≡ term.Null n → ⊥
-      no_null e = cc
-    by (term.Value x) is = record { each = older; all = λ n h. elim (split n h) [ inl o ↦ o | inr this ↦ absurd (no_null (sym is ∙ this)) ] } where
-      no_null : {n : Null} → term.Value x ≡ term.Null n → ⊥
-      no_null e = cc
+    }
+    by (term.Column k) is = record { each = older; all = λ n h. elim (split n h) [ inl o ↦ o | inr this ↦ let bad : term.Column k ≡ term.Null n = sym is ∙ this in cc ] }
+    by (term.Value x) is = record { each = older; all = λ n h. elim (split n h) [ inl o ↦ o | inr this ↦ let bad : term.Value x ≡ term.Null n = sym is ∙ this in cc ] }
 
   pub nulls_turn : (places : List ℕ) (i : ℕ) (old new : List Null) → i < length places → IsPart ws (get_or places i 0) → new ≡ with_term (term_at ws (get_or places i 0)) old → AreNullsOf (IsTermAtSome ws (take i places)) old
       → AreNullsOf (IsTermAtSome ws (take (i + 1) places)) new

@@ -1,45 +1,26 @@
 -- The root of the question whether a tuple is missing.
 use Rattle.std.proofs.Common.{◌≡◌, ◌≢◌, ◌≤◌, ◌<◌, ◌+◌, ◌*◌, ℕ, true, not, ◌&&◌, List, [], ◌∷◌, ◌++◌, length, Result, Ok, Err, refl, ap, sym, subst, ◌∙◌, arith, inl, inr}
-use Rattle.std.specs.Prelude.{◌⊎◌, All, Contains, IsTrue, filter}
-use Rattle.std.specs.Prelude.{IsErrOf}
-use Rattle.std.specs.Borrow.{GName}
-use Rattle.std.proofs.lemmas.Bool.{false≢true}
-use Rattle.std.proofs.lemmas.List.Elements.{All-contains, All-head, All-nil, All-cons}
-use Rattle.std.proofs.lemmas.Map.Keys.{IsDistinct-cons}
-use mathlib.Core.List.{IsPrefix}
-use Rattle.ct_word.specs.declared.kinds.Class.TheVariants as class
-use Rattle.ct_word.specs.declared.values.Value.{Value}
-use Rattle.ct_word.specs.declared.values.Term.{Term}
-use Rattle.ct_word.specs.declared.values.Term.TheVariants as term
-use Rattle.ct_word.specs.declared.values.CRow.{CRow}
-use Rattle.ct_word.specs.Value.{World, same_cells}
-use Rattle.ct_word.specs.Condition.{holds_at}
-use Rattle.ct_word.specs.Stands.{HasNoColumn, TermBelow}
-use Rattle.ct_word.specs.Sublist.{IsSublist}
-use Rattle.ct_word.specs.WellFormed.{IsWellFormed, is_place_of}
+use Rattle.std.{specs.Prelude.{◌⊎◌, All, Contains, IsTrue, filter, IsErrOf}, specs.Borrow.GName, proofs.lemmas.Bool.false≢true}
+use Rattle.std.{proofs.lemmas.List.Elements.{All-contains, All-head, All-nil, All-cons}, proofs.lemmas.Map.Keys.IsDistinct-cons}
+use Rattle.ct_word.{specs.declared.values.Value.Value, specs.declared.values.Term.Term, specs.declared.values.CRow.CRow, specs.Value.{World, same_cells}}
+use Rattle.ct_word.{specs.Condition.holds_at, specs.Stands.{HasNoColumn, TermBelow}, specs.Sublist.IsSublist, specs.WellFormed.{IsWellFormed, is_place_of}}
 use Rattle.ct_word.proofs.Prefixes.{condition_in_prefix, place_in_prefix, place_within}
 use Rattle.ct_query.specs.Database.{has_tuple, SameSet}
 use Rattle.ct_arena.specs.Counts.{opening}
-use Rattle.ct_condition.specs.Terms.{TermsFrom}
-use Rattle.ct_condition.specs.Writes.{charge, Writes}
-use Rattle.ct_condition.proofs.Denied.{below_literal}
-use Rattle.ct_condition.proofs.Reached.{terms_before}
-use Rattle.ct_operators.specs.declared.error.TableError.{TableError}
+use Rattle.ct_condition.{specs.Terms.TermsFrom, specs.Writes.{charge, Writes}, proofs.Denied.below_literal, proofs.Reached.terms_before}
+use Rattle.ct_operators.{specs.declared.error.TableError.TableError, specs.Tables.{IsRow, AreRows, value_of_rows, cells_of}, proofs.Firsts.none_distinct}
+use Rattle.ct_operators.{specs.Terms.{TermOfRows, RowsFrom, RowFrom}, proofs.Growing.{value_grows, rows_grow}, proofs.Holding.holds_false}
+use Rattle.ct_operators.proofs.Reaching.{behind, from_rows, rows_before, rows_itself, rows_wider}
+use Rattle.ct_certain.{specs.Asked.{IsOfTable, IsPastTermsOfTuple, IsValueIn}, specs.declared.error.CertainError.CertainError}
+use Rattle.ct_certain.{specs.Missing.{AreOfTuple, IsAskedOf, IsPastTermsOfSomeTuple, IsRootOf, condition_of}, proofs.Missing.{left_truth, tuple_worth}}
+use Rattle.ct_decide.specs.declared.deciding.Decision.{Decision}
+use mathlib.Core.List.{IsPrefix}
+use Rattle.ct_word.specs.declared.kinds.Class.TheVariants as class
+use Rattle.ct_word.specs.declared.values.Term.TheVariants as term
 use Rattle.ct_operators.specs.declared.error.TableError.TheVariants as table
 use Rattle.ct_operators.specs.Refusals as refusals
-use Rattle.ct_operators.specs.Tables.{IsRow, AreRows, value_of_rows, cells_of}
-use Rattle.ct_operators.specs.Terms.{TermOfRows, RowsFrom, RowFrom}
-use Rattle.ct_operators.proofs.Firsts.{none_distinct}
-use Rattle.ct_operators.proofs.Growing.{value_grows, rows_grow}
-use Rattle.ct_operators.proofs.Holding.{holds_false}
-use Rattle.ct_operators.proofs.Reaching.{behind, from_rows, rows_before, rows_itself, rows_wider}
-use Rattle.ct_certain.specs.Asked.{IsOfTable, IsPastTermsOfTuple, IsValueIn}
-use Rattle.ct_decide.specs.declared.deciding.Decision.{Decision}
 use Rattle.ct_certain.specs.Faults as faults
-use Rattle.ct_certain.specs.declared.error.CertainError.{CertainError}
 use Rattle.ct_certain.specs.declared.error.CertainError.TheVariants as fault
-use Rattle.ct_certain.specs.Missing.{AreOfTuple, IsAskedOf, IsPastTermsOfSomeTuple, IsRootOf, condition_of}
-use Rattle.ct_certain.proofs.Missing.{left_truth, tuple_worth}
 
 -- what an operator does to the words
 module _ {S : Type 0} {words_of : S → List ℕ} {made_of : S → ℕ} {kept_of : S → List ℕ} {lent_of : S → List GName} {cap : ℕ} {T : Type 0} (old new : S) where

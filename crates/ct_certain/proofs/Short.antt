@@ -1,37 +1,20 @@
 -- A world cut to the nulls of a row and the global condition still shows the row.
-use Rattle.std.proofs.Common.{◌≡◌, ℕ, Bool, true, false, not, ◌&&◌, ◌||◌, List, [], ◌∷◌, ◌++◌, ◌+◌, ◌<◌, length, take, get_or, filter, cond, refl, ap, sym, subst, ◌∙◌, inl, inr, if◌then◌else◌}
-use Rattle.std.specs.Prelude.{All, IsTrue}
-use Rattle.std.specs.List.{Contains, list_all}
-use Rattle.std.proofs.lemmas.Bool.{and_from, and_parts, cases_Bool, false≢true}
-use Rattle.std.proofs.lemmas.List.{append-nil, take_more}
-use Rattle.std.proofs.lemmas.List.Elements.{All-cons, All-contains, All-nil, All-push, All-weaker, Contains-append_left, Contains-append_right, filter-append}
+use Rattle.std.proofs.Common.{◌≡◌, ℕ, Bool, true, false, not, ◌&&◌, ◌||◌, List, [], ◌∷◌, ◌++◌, filter, cond, refl, ap, sym, subst, ◌∙◌, inl, inr, if◌then◌else◌}
+use Rattle.std.{specs.Prelude.{All, IsTrue}, specs.List.{Contains, list_all}, proofs.lemmas.Bool.{and_from, and_parts, cases_Bool, false≢true}}
+use Rattle.std.proofs.lemmas.List.Elements.{All-cons, All-contains, All-nil, All-push, All-weaker, Contains-append_left, Contains-append_right}
 use Rattle.indexmap.proofs.CallerLemmas.{Contains-list_any}
-use Rattle.ct_word.specs.declared.kinds.Class.TheVariants as class
-use Rattle.ct_word.specs.declared.values.CRow.{CRow}
-use Rattle.ct_word.specs.declared.values.Value.{Value}
-use Rattle.ct_word.specs.declared.values.Null.{Null}
-use Rattle.ct_word.specs.declared.values.Term.{Term}
-use Rattle.ct_word.specs.declared.values.Term.TheVariants as term
-use Rattle.ct_word.specs.Value.{World, same_null, same_value, other_zero, value_of_null}
-use Rattle.ct_word.specs.Condition.{Condition, Conditions, True, False, Same, Not, And, Or, none, also, holds_at}
-use Rattle.ct_word.specs.Named.{IsNamed, IsNamedInSome}
-use Rattle.ct_word.specs.Reading.{condition_at}
-use Rattle.ct_word.specs.Stands.{TermBelow}
-use Rattle.ct_word.specs.WellFormed.{IsWellFormed, is_place_of}
-use Rattle.ct_word.proofs.Alike.{null_decides}
-use Rattle.ct_word.proofs.Items.{first_item, later_item}
+use Rattle.ct_word.{specs.declared.values.CRow.CRow, specs.declared.values.Value.Value, specs.declared.values.Null.Null, specs.declared.values.Term.Term}
+use Rattle.ct_word.{specs.Value.{World, same_null, same_value, other_zero, value_of_null}, specs.Named.{IsNamed, IsNamedInSome}, specs.Reading.condition_at}
+use Rattle.ct_word.{specs.Condition.{Condition, Conditions, True, False, Same, Not, And, Or, none, also, holds_at}, specs.Stands.TermBelow}
+use Rattle.ct_word.{specs.WellFormed.{IsWellFormed, is_place_of}, proofs.Alike.null_decides, proofs.Items.{first_item, later_item}}
 use Rattle.ct_query.specs.Terms.{condition_terms, all_terms}
-use Rattle.ct_condition.specs.Terms.{BelowSome}
-use Rattle.ct_condition.proofs.Reached.{under_one}
-use Rattle.ct_operators.specs.Terms.{TermOfRow}
-use Rattle.ct_operators.proofs.Naming.{condition_reached}
-use Rattle.ct_rewrite.specs.Tidy.{IsTidy, null_before, are_ascending, has_no_zero}
-use Rattle.ct_rewrite.specs.declared.answer.PossibleRow.{PossibleRow}
-use Rattle.ct_certain.specs.Answered.{AreOf}
-use Rattle.ct_certain.specs.Asked.{IsOfTable}
-use Rattle.ct_certain.specs.Own.{has_null, AreNullsOf, cut_to, IsOwn, IsOwnWorld, IsShownBy}
-use Rattle.ct_certain.specs.Possible.{is_shown, shown_row}
-use Rattle.ct_certain.proofs.Agreed.{truth_agreed}
+use Rattle.ct_condition.{specs.Terms.BelowSome, proofs.Reached.under_one}
+use Rattle.ct_operators.{specs.Terms.TermOfRow, proofs.Naming.condition_reached}
+use Rattle.ct_rewrite.{specs.Tidy.{IsTidy, null_before, are_ascending, has_no_zero}, specs.declared.answer.PossibleRow.PossibleRow}
+use Rattle.ct_certain.{specs.Answered.AreOf, specs.Asked.IsOfTable, specs.Own.{has_null, AreNullsOf, cut_to, IsOwn, IsOwnWorld, IsShownBy}}
+use Rattle.ct_certain.{specs.Possible.{is_shown, shown_row}, proofs.Agreed.truth_agreed}
+use Rattle.ct_word.specs.declared.kinds.Class.TheVariants as class
+use Rattle.ct_word.specs.declared.values.Term.TheVariants as term
 
 mutual
   named_in : (c : Condition) (t : Term) → IsNamed c t → Contains (condition_terms c) t
@@ -135,17 +118,6 @@ one_root words p ns are = record {
 -- the world without pairs
 pub empty_shows : (words : List ℕ) (global : ℕ) (r : CRow) (v : World) → v ≡ [] → IsTrue (is_shown words global r v) → IsShownBy words global r []
 empty_shows words global r v e shown = record { tidy = refl; shown = subst (λ w. IsTrue (is_shown words global r w)) e shown; own = All-nil _ }
-
--- one more pair of a world that is cut
-cut_turn : (ms ns : List Null) (v : World) (i : ℕ) (p : Null × Value) → i < length v → p ≡ get_or v i p → cut_to ms ns (take i v) ++ cut_to ms ns (p ∷ []) ≡ cut_to ms ns (take (i + 1) v)
-cut_turn ms ns v i p lt e =
-    sym (filter-append (λ q. has_null ms q.0 || has_null ns q.0) (take i v) (p ∷ [])) ∙ ap (cut_to ms ns) (ap (λ x. take i v ++ x ∷ []) e ∙ sym (take_more v i p lt))
-
-pub cut_kept : (ms ns : List Null) (v : World) (i : ℕ) (p : Null × Value) (pairs : World) → i < length v → p ≡ get_or v i p → (has_null ms p.0 || has_null ns p.0) ≡ true → pairs ≡ cut_to ms ns (take i v) → pairs ++ p ∷ [] ≡ cut_to ms ns (take (i + 1) v)
-cut_kept ms ns v i p pairs lt e kept so_far = ap (λ l. l ++ p ∷ []) so_far ∙ ap (λ b. cut_to ms ns (take i v) ++ cond b (p ∷ []) []) (sym kept) ∙ cut_turn ms ns v i p lt e
-
-pub cut_left_out : (ms ns : List Null) (v : World) (i : ℕ) (p : Null × Value) (pairs : World) → i < length v → p ≡ get_or v i p → (has_null ms p.0 || has_null ns p.0) ≡ false → pairs ≡ cut_to ms ns (take i v) → pairs ≡ cut_to ms ns (take (i + 1) v)
-cut_left_out ms ns v i p pairs lt e left so_far = so_far ∙ sym (append-nil (cut_to ms ns (take i v))) ∙ ap (λ b. cut_to ms ns (take i v) ++ cond b (p ∷ []) []) (sym left) ∙ cut_turn ms ns v i p lt e
 
 -- a row listed with a world of its own
 pub own_listed : (words : List ℕ) (global : ℕ) (rs : List CRow) (r : CRow) (list : List PossibleRow) (v : World) → Contains rs r → IsOwnWorld words global r v → All (IsOwn words global rs) list → All (IsOwn words global rs) (list ++ shown_row words r v ∷ [])

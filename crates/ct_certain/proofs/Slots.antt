@@ -1,12 +1,7 @@
 -- Where a null belongs in a world in order.
-use Rattle.std.proofs.Common.{◌≡◌, ◌<◌, ◌≤◌, ◌+◌, ℕ, zero, suc, [], ◌∷◌, ◌++◌, length, take, drop, get_or, Option, Some, None, refl, ap, sym, ◌∙◌, arith}
-use Rattle.std.specs.Prelude.{IfSome}
-use Rattle.std.specs.declared.cmp.Ordering.{Ordering}
-use Rattle.std.specs.declared.cmp.Ordering.TheVariants.{Less, Equal, Greater}
-use Rattle.std.proofs.Math.Seq.{drop-cons}
-use Rattle.ct_word.specs.declared.values.Value.{Value}
-use Rattle.ct_word.specs.declared.values.Null.{Null}
-use Rattle.ct_word.specs.Value.{World}
+use Rattle.std.proofs.Common.{◌≡◌, ◌<◌, ◌+◌, ℕ, zero, suc, [], ◌∷◌, ◌++◌, length, take, drop, get_or, Option, Some, None, refl, ap, sym, ◌∙◌, arith}
+use Rattle.std.{specs.declared.cmp.Ordering.Ordering, specs.declared.cmp.Ordering.TheVariants.{Less, Equal, Greater}, proofs.Math.Seq.drop-cons}
+use Rattle.ct_word.{specs.declared.values.Value.Value, specs.declared.values.Null.Null, specs.Value.World}
 use Rattle.ct_rewrite.specs.Order.{null_order}
 use Rattle.ct_certain.specs.Order.{by_order, further, slot, put}
 
@@ -51,16 +46,6 @@ slot_last v n k e so_far = sym (so_far ∙ ap (λ l. past k (slot l n)) (none_le
   none_left [] (suc j) e = refl
   none_left (p ∷ w) zero e = absurd (omega arith)
   none_left (p ∷ w) (suc j) e = none_left w j (omega arith)
-
-slot_cases : (o : Ordering) (k : ℕ) (rest : Option ℕ) → IfSome rest (λ j. j ≤ k) → IfSome (by_order o (Some 0) None (further rest)) (λ j. j ≤ suc k)
-slot_cases Less k rest h = omega arith
-slot_cases Equal k rest h = tt
-slot_cases Greater k (Some j) h = omega (arith, h)
-slot_cases Greater k None h = tt
-
-pub slot_within : (v : World) (n : Null) → IfSome (slot v n) (λ k. k ≤ length v)
-slot_within [] n = omega arith
-slot_within (p ∷ v) n = slot_cases (null_order n p.0) (length v) (slot v n) (slot_within v n)
 
 -- what putting a pair at its place, or nowhere, makes of a world
 abbrev placed : World → Null × Value → Option ℕ → World

@@ -1,31 +1,19 @@
 -- Places of values.
 use Rattle.std.proofs.Common.{◌≡◌, ◌<◌, ◌≤◌, ◌+◌, ◌^◌, ℕ, Bool, true, false, List, [], ◌∷◌, ◌++◌, length, Option, Some, None, Result, Ok, Err, get_or, take, ap, sym, subst, ◌∙◌, arith, inl, inr}
-use Rattle.std.specs.Prelude.{IsOk, IsTrue, OnErr, is_err}
-use Rattle.std.proofs.lemmas.Bool.{false≢true}
+use Rattle.std.{specs.Prelude.{IsOk, IsTrue, OnErr, is_err}, proofs.lemmas.Bool.false≢true, specs.Borrow.GName}
+use Rattle.std.proofs.lemmas.Option.{slice_get-get_or, slice_get_within}
+use Rattle.ct_word.{specs.declared.kinds.Kind.Kind, specs.declared.values.Value.Value, specs.Reading.{Meaning, IsTerm, by_kind, meanings}}
+use Rattle.ct_word.{specs.WellFormed.IsWellFormed, proofs.Prefixes.{place_in_prefix, place_within, stands_in_prefix}, specs.Word.{kind_of, left_of, right_of}}
+use Rattle.ct_word.{specs.Stands.StandsAt, proofs.Growth.length-read, proofs.Splits.{meaning_at, some-injective}}
+use Rattle.ct_condition.{proofs.Placed.{place_found, place_stays}, proofs.Reached.terms_before, specs.Places.has_place, specs.Writes.{charge, Writes}}
+use Rattle.ct_equality.specs.Valued.{IsNumbered}
+use Rattle.ct_query.{specs.Bounds.{literal_words, column_words}, specs.Fields.FitsFields}
+use Rattle.ct_certain.specs.Missing.{IsAtHand, IsOfValue, AreOfTuple}
 use mathlib.Core.List.{IsPrefix}
-use Rattle.ct_word.specs.declared.kinds.Kind.{Kind}
 use Rattle.ct_word.specs.declared.kinds.Kind.TheVariants as kind
 use Rattle.ct_word.specs.declared.kinds.Class.TheVariants as class
-use Rattle.ct_word.specs.declared.values.Value.{Value}
 use Rattle.ct_word.specs.declared.values.Value.TheVariants as val
 use Rattle.ct_word.specs.declared.values.Term.TheVariants as term
-use Rattle.ct_word.specs.Reading.{Meaning, IsTerm, by_kind, meanings}
-use Rattle.ct_word.specs.WellFormed.{IsWellFormed}
-use Rattle.ct_word.proofs.Prefixes.{place_in_prefix, place_within, stands_in_prefix}
-use Rattle.ct_condition.proofs.Placed.{place_found, place_stays}
-use Rattle.ct_condition.proofs.Reached.{terms_before}
-use Rattle.ct_equality.specs.Valued.{IsNumbered}
-use Rattle.std.specs.Borrow.{GName}
-use Rattle.std.proofs.lemmas.Option.{slice_get-get_or, slice_get_within}
-use Rattle.ct_word.specs.Word.{kind_of, left_of, right_of}
-use Rattle.ct_word.specs.Stands.{StandsAt}
-use Rattle.ct_word.proofs.Growth.{length-read}
-use Rattle.ct_word.proofs.Splits.{meaning_at, some-injective}
-use Rattle.ct_query.specs.Bounds.{literal_words, column_words}
-use Rattle.ct_query.specs.Fields.{FitsFields}
-use Rattle.ct_condition.specs.Places.{has_place}
-use Rattle.ct_condition.specs.Writes.{charge, Writes}
-use Rattle.ct_certain.specs.Missing.{IsAtHand, IsOfValue, AreOfTuple}
 
 pub at_hand_grows : (old new : List ℕ) (x : Value) → IsPrefix old new → IsAtHand old x → IsAtHand new x
 at_hand_grows old new x longer (inl e) = inl (place_stays old new (term.Value x) longer e)

@@ -1,45 +1,16 @@
 // Worlds in the order of their nulls.
 
 ghost use Rattle.std.specs.Prelude.{◌≡◌, ◌≤◌, [], length, map, IfOk, IfSome, OnOk};
-ghost use Rattle.ct_rewrite.specs.Order.{null_class, null_order};
 ghost use Rattle.ct_rewrite.specs.Tidy.{IsTidy};
 ghost use Rattle.ct_certain.specs.Order as spec;
 ghost use Rattle.ct_certain.specs.Order.{IsMapOf, with_null};
 
 use crate::mapped::{by_null, value_of};
+use ct_rewrite::compare_nulls;
 use ct_word::{List, Memory, Null, Value, World};
 use indexmap::IndexMap;
 use std::alloc::Global;
 use std::cmp::Ordering;
-
-/// The order of nulls: named ones by the bytes of their names, then fresh ones by session and number.
-fn compare(m: &Null, n: &Null) -> Ordering
-    ensures { result ≡ null_order m.now n.now }
-{
-    match (m, n) {
-        (Null::Named(a), Null::Named(b)) => a.as_str().cmp(b.as_str()),
-        (
-            Null::Fresh {
-                session: s,
-                number: j,
-            },
-            Null::Fresh {
-                session: t,
-                number: k,
-            },
-        ) => s.cmp(t).then(j.cmp(k)),
-        _ => class_of(m).cmp(&class_of(n)),
-    }
-}
-
-fn class_of(n: &Null) -> u8
-    ensures { result ≡ null_class n.now }
-{
-    match n {
-        Null::Named(_) => 0,
-        Null::Fresh { .. } => 1,
-    }
-}
 
 /// Where a null belongs among ascending ones; none where it is there already.
 fn slot(world: &[(Null, Value)], null: &Null) -> Option<usize>
@@ -47,7 +18,7 @@ fn slot(world: &[(Null, Value)], null: &Null) -> Option<usize>
     ensures within { IfSome result (λ k. k ≤ length world.now) }
 {
     for (place, pair) in world.iter().enumerate() {
-        match compare(null, &pair.0) {
+        match compare_nulls(null, &pair.0) {
             Ordering::Less => return Some(place),
             Ordering::Equal => return None,
             Ordering::Greater => {}

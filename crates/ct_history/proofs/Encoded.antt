@@ -1,32 +1,19 @@
--- The changes of actions: predicates as conditions of the log, deletions, assertions, rows of terms under one condition.
+-- The changes of actions: predicates as conditions of the log, rows of terms under one condition.
 use Rattle.std.proofs.Common.{◌≡◌, ◌≤◌, ◌<◌, ◌+◌, ℕ, zero, suc, List, [], ◌∷◌, ◌++◌, Some, map, length, get_or, refl, ap, sym, subst, ◌∙◌, arith, inl, inr}
-use Rattle.std.specs.Prelude.{◌⊎◌, IsTrue, All, flat_map, sum_by}
-use Rattle.std.specs.List.{Contains}
+use Rattle.std.{specs.Prelude.{◌⊎◌, IsTrue, All, flat_map, sum_by}, specs.List.Contains, proofs.lemmas.List.Sums.sum_by-cons}
 use Rattle.std.proofs.lemmas.List.Elements.{All-get_or, Contains-append_left, Contains-append_right, Contains-append_cases}
-use Rattle.std.proofs.lemmas.List.Sums.{sum_by-cons}
+use Rattle.ct_word.{specs.declared.values.CRow.CRow, specs.declared.values.Term.Term, specs.Condition.{Condition, holds}, specs.Stands.StandsAt}
+use Rattle.ct_word.{specs.Change.{PlainRow, Insert}, specs.WellFormed.{IsWellFormed, is_place_of}}
+use Rattle.ct_word.specs.Reading.{IsTerm, IsRow, as_row, as_term, by_kind, meanings, condition_at}
+use Rattle.ct_word.proofs.Prefixes.{stands_in_prefix, condition_in_prefix, place_in_prefix, place_within}
+use Rattle.ct_query.{specs.Agrees.SameTruthAlone, specs.Bounds.{ops, literal_words, column_words}, specs.Fits.FitsCell, specs.Terms.condition_terms}
+use Rattle.ct_condition.{specs.Rows.on_row, specs.Terms.{TermsFrom, IsOnRow}, specs.Truth.{HasTruth, ops_at}, proofs.Reached.under_none}
+use Rattle.ct_history.{specs.Encodes.{Adds, IsConditionOf, IsChangeFor, HasTermsOf, HasOpsOf, term_row_words}, specs.Rows.row_under}
+use Rattle.ct_history.proofs.Named.{named_in, no_column, term_reached}
 use mathlib.Core.List.{IsPrefix}
 use Rattle.ct_word.specs.declared.kinds.Class.TheVariants as class
 use Rattle.ct_word.specs.declared.kinds.Kind.TheVariants as kind
-use Rattle.ct_word.specs.declared.values.CRow.{CRow}
-use Rattle.ct_word.specs.declared.values.Term.{Term}
-use Rattle.ct_word.specs.Condition.{Condition, holds}
-use Rattle.ct_word.specs.Change.{PlainRow, Insert, Delete, Assert}
-use Rattle.ct_word.specs.Reading.{IsText, IsTerm, IsRow, IsCondRow, IsChange, as_text, as_row, as_term, by_kind, meanings, condition_at}
-use Rattle.ct_word.specs.Stands.{StandsAt}
-use Rattle.ct_word.specs.WellFormed.{IsWellFormed, is_place_of}
-use Rattle.ct_word.proofs.Prefixes.{stands_in_prefix, condition_in_prefix, place_in_prefix, place_within}
 use Rattle.ct_query.specs.Plain as plain
-use Rattle.ct_query.specs.Agrees.{SameTruthAlone}
-use Rattle.ct_query.specs.Bounds.{ops, literal_words, column_words}
-use Rattle.ct_query.specs.Fits.{FitsCell}
-use Rattle.ct_query.specs.Terms.{condition_terms}
-use Rattle.ct_condition.specs.Rows.{on_row}
-use Rattle.ct_condition.specs.Terms.{TermsFrom, IsOnRow}
-use Rattle.ct_condition.specs.Truth.{HasTruth, ops_at}
-use Rattle.ct_condition.proofs.Reached.{under_none}
-use Rattle.ct_history.specs.Encodes.{Adds, IsConditionOf, IsChangeFor, HasTermsOf, HasOpsOf, term_row_words}
-use Rattle.ct_history.specs.Rows.{row_under}
-use Rattle.ct_history.proofs.Named.{named_in, no_column, term_reached}
 
 -- a predicate that was put without a row
 pub condition_is : (old new : List ℕ) (p : Condition) (place : ℕ) → IsWellFormed new → HasTruth new place (on_row old p []) → TermsFrom new place (IsOnRow old [] p) → ops_at new place ≤ ops p
@@ -54,24 +41,6 @@ condition_later old new p place longer is =
       few = subst (λ c. ops c ≤ ops p) (sym same) is.few;
     }
 
--- a deletion
-pub deleted : (cs ts ms : List ℕ) (name : List ℕ) (cond table new : ℕ)
-    → IsTrue (is_place_of cs class.Cond cond) → IsPrefix cs ms
-    → StandsAt ts table (IsText name) → IsTrue (is_place_of ts class.Text table) → IsPrefix ts ms
-    → StandsAt ms new (by_kind (Some kind.Delete) (meanings ms) table cond)
-    → StandsAt ms new (IsChange (Delete name (condition_at cs cond)))
-deleted cs ts ms name cond table new p grown s q grown' stands =
-    stands ∙ (λ i. Some (IsChange (Delete (as_text (stands_in_prefix ts ms table _ grown' (place_within ts class.Text table q) s i))
-    (condition_in_prefix cs ms cond grown (place_within cs class.Cond cond p) i))))
-
--- an assertion
-pub asserted : (cs ms : List ℕ) (cond new : ℕ)
-    → IsTrue (is_place_of cs class.Cond cond) → IsPrefix cs ms
-    → StandsAt ms new (by_kind (Some kind.Assert) (meanings ms) cond 0)
-    → StandsAt ms new (IsChange (Assert (condition_at cs cond)))
-asserted cs ms cond new p grown stands =
-    stands ∙ (λ i. Some (IsChange (Assert (condition_in_prefix cs ms cond grown (place_within cs class.Cond cond p) i))))
-
 -- a term that is put behind cells
 pub term_added : (ws xs ys : List ℕ) (cells : List Term) (t : Term) (place cell new : ℕ)
     → StandsAt ws place (IsRow cells) → IsTrue (is_place_of ws class.Row place) → IsPrefix ws ys
@@ -81,18 +50,6 @@ pub term_added : (ws xs ys : List ℕ) (cells : List Term) (t : Term) (place cel
 term_added ws xs ys cells t place cell new s p grown u q grown' stands =
     stands ∙ (λ i. Some (IsRow (as_row (stands_in_prefix ws ys place _ grown (place_within ws class.Row place p) s i)
     ++ as_term (stands_in_prefix xs ys cell _ grown' (place_within xs class.Term cell q) u i) ∷ [])))
-
--- terms under a condition
-pub terms_put : (ws xs ys : List ℕ) (cells : List Term) (place cond new : ℕ)
-    → IsTrue (is_place_of ws class.Cond cond) → IsPrefix ws ys
-    → StandsAt xs place (IsRow cells) → IsTrue (is_place_of xs class.Row place) → IsPrefix xs ys
-    → StandsAt ys new (by_kind (Some kind.ConditionalRow) (meanings ys) place cond)
-    → StandsAt ys new (IsCondRow (row_under (condition_at ws cond) cells))
-terms_put ws xs ys cells place cond new q grown s p grown' stands =
-    stands ∙ (λ i. Some (IsCondRow (record {
-      cells = as_row (stands_in_prefix xs ys place _ grown' (place_within xs class.Row place p) s i);
-      condition = condition_in_prefix ws ys cond grown (place_within ws class.Cond cond q) i;
-    })))
 
 module _ (c : Condition) where
   cells_kept : (rows : List (List Term)) → map (λ r. r.cells) (map (row_under c) rows) ≡ rows

@@ -1,16 +1,14 @@
 -- One more item of a list in the log.
-use Rattle.std.proofs.Common.{◌≡◌, ◌<◌, ◌+◌, ℕ, List, [], ◌∷◌, ◌++◌, Some, take, length, get_or, ap, sym, ◌∙◌}
-use Rattle.std.proofs.lemmas.List.{take_more}
-use Rattle.std.specs.Prelude.{IsTrue}
+use Rattle.std.{proofs.Common.{◌≡◌, ◌<◌, ◌+◌, ℕ, List, [], ◌∷◌, ◌++◌, Some, take, length, get_or, ap, sym, ◌∙◌}, proofs.lemmas.List.take_more}
+use Rattle.std.{specs.Prelude.{IsTrue, slice_get}, proofs.lemmas.Bool.false≢true}
+use Rattle.ct_word.{specs.declared.kinds.Kind.Kind, specs.declared.kinds.Class.Class, specs.Change.{PlainChange, Create, Insert, Delete, Assert}}
+use Rattle.ct_word.{specs.Stands.StandsAt, specs.WellFormed.{class_of, is_formed_as, is_place_of, same_class}, proofs.Growth.place_within}
+use Rattle.ct_word.{proofs.Splits.formed_fields, proofs.Prefixes.{prefix_of_prefix, stands_in_prefix, meaning_in_prefix}}
+use Rattle.ct_word.specs.Reading.{IsText, IsNameList, IsChangeList, as_text, as_cond, as_row_list, as_name_list, as_change, as_change_list, by_kind, meanings, change_list_at}
+use Rattle.ct_history.specs.Places.{change_of}
 use mathlib.Core.List.{IsPrefix}
 use Rattle.ct_word.specs.declared.kinds.Class.TheVariants as class
 use Rattle.ct_word.specs.declared.kinds.Kind.TheVariants as kind
-use Rattle.ct_word.specs.Change.{PlainChange, Create}
-use Rattle.ct_word.specs.Reading.{IsText, IsNameList, IsChange, IsChangeList, as_text, as_name_list, as_change, as_change_list, by_kind, meanings, change_list_at}
-use Rattle.ct_word.specs.Stands.{StandsAt}
-use Rattle.ct_word.specs.WellFormed.{is_place_of}
-use Rattle.ct_word.proofs.Prefixes.{stands_in_prefix, meaning_in_prefix}
-use Rattle.ct_word.proofs.Growth.{place_within}
 
 -- a name that is put behind names
 pub name_added : (ws xs ys : List ℕ) (names : List (List ℕ)) (name : List ℕ) (place text new : ℕ)
@@ -22,25 +20,39 @@ name_added ws xs ys names name place text new s p grown t q grown' stands =
     stands ∙ (λ i. Some (IsNameList (as_name_list (stands_in_prefix ws ys place _ grown (place_within ws class.NameList place p) s i)
     ++ as_text (stands_in_prefix xs ys text _ grown' (place_within xs class.Text text q) t i) ∷ [])))
 
--- a change that is put behind changes
-pub change_added : (ws xs ys : List ℕ) (change : PlainChange) (list place new : ℕ)
-    → IsTrue (is_place_of ws class.ChangeList list) → IsPrefix ws ys
-    → StandsAt xs place (IsChange change) → IsTrue (is_place_of xs class.Change place) → IsPrefix xs ys
-    → StandsAt ys new (by_kind (Some kind.Changes) (meanings ys) list place)
-    → StandsAt ys new (IsChangeList (change_list_at ws list ++ change ∷ []))
-change_added ws xs ys change list place new p grown t q grown' stands =
-    stands ∙ (λ i. Some (IsChangeList (as_change_list (meaning_in_prefix ws ys list grown (place_within ws class.ChangeList list p) i)
-    ++ as_change (stands_in_prefix xs ys place _ grown' (place_within xs class.Change place q) t i) ∷ [])))
+-- a place stands for the same in more words
+pub meaning_kept : (ws xs : List ℕ) (c : Class) (p : ℕ) → IsPrefix ws xs → IsTrue (is_place_of ws c p) → slice_get (meanings xs) p ≡ slice_get (meanings ws) p
+meaning_kept ws xs c p grown is = meaning_in_prefix ws xs p grown (place_within ws c p is)
 
--- the creation of a table
-pub created : (ws xs ys : List ℕ) (name : List ℕ) (columns : List (List ℕ)) (table names new : ℕ)
-    → StandsAt ws table (IsText name) → IsTrue (is_place_of ws class.Text table) → IsPrefix ws ys
-    → StandsAt xs names (IsNameList columns) → IsTrue (is_place_of xs class.NameList names) → IsPrefix xs ys
-    → StandsAt ys new (by_kind (Some kind.Create) (meanings ys) table names)
-    → StandsAt ys new (IsChange (Create name columns))
-created ws xs ys name columns table names new s p grown t q grown' stands =
-    stands ∙ (λ i. Some (IsChange (Create (as_text (stands_in_prefix ws ys table _ grown (place_within ws class.Text table p) s i))
-    (as_name_list (stands_in_prefix xs ys names _ grown' (place_within xs class.NameList names q) t i)))))
+-- so does the word of a change
+change_kept : (k : Kind) (ws xs : List ℕ) (a b : ℕ) → IsPrefix ws xs → class_of k ≡ class.Change → IsTrue (is_formed_as (Some k) ws a b) → change_of xs k a b ≡ change_of ws k a b
+change_kept kind.Create ws xs a b grown is formed =
+    let fits = formed_fields ws kind.Create a b formed in
+    λ i. Create (as_text (meaning_kept ws xs class.Text a grown fits.0 i)) (as_name_list (meaning_kept ws xs class.NameList b grown fits.1 i))
+change_kept kind.Insert ws xs a b grown is formed =
+    let fits = formed_fields ws kind.Insert a b formed in
+    λ i. Insert (as_text (meaning_kept ws xs class.Text a grown fits.0 i)) (as_row_list (meaning_kept ws xs class.RowList b grown fits.1 i))
+change_kept kind.Delete ws xs a b grown is formed =
+    let fits = formed_fields ws kind.Delete a b formed in
+    λ i. Delete (as_text (meaning_kept ws xs class.Text a grown fits.0 i)) (as_cond (meaning_kept ws xs class.Cond b grown fits.1 i))
+change_kept kind.Assert ws xs a b grown is formed = λ i. Assert (as_cond (meaning_kept ws xs class.Cond a grown (formed_fields ws kind.Assert a b formed).0 i))
+change_kept _ ws xs a b grown is formed = absurd (false≢true (ap (λ c. same_class c class.Change) is))
+
+-- a change that is put behind changes
+pub change_added : (old mid new : List ℕ) (k : Kind) (a b list change place : ℕ) → IsPrefix old mid → IsPrefix mid new
+    → IsTrue (is_place_of old class.ChangeList list) → class_of k ≡ class.Change → IsTrue (is_formed_as (Some k) old a b)
+    → StandsAt mid change (by_kind (Some k) (meanings mid) a b) → IsTrue (is_place_of mid (class_of k) change)
+    → StandsAt new place (by_kind (Some kind.Changes) (meanings new) list change)
+    → StandsAt new place (IsChangeList (change_list_at old list ++ change_of old k a b ∷ []))
+change_added old mid new k a b list change place grown later p is formed t q stands =
+    let said : as_change (slice_get (meanings new) change) ≡ change_of old k a b =
+    ap as_change (meaning_kept mid new (class_of k) change later q ∙ t) ∙ change_kept k old mid a b grown is formed in
+    stands ∙ (λ i. Some (IsChangeList (as_change_list (meaning_kept old new class.ChangeList list (prefix_of_prefix old mid new grown later) p i) ++ said i ∷ [])))
+
+-- a change list as it was before, with a change as it is said
+pub list_said : (old mid : List ℕ) (list : ℕ) (x y : PlainChange) → IsPrefix old mid → IsTrue (is_place_of old class.ChangeList list) → x ≡ y
+    → change_list_at mid list ++ x ∷ [] ≡ change_list_at old list ++ y ∷ []
+list_said old mid list x y grown p same = λ i. as_change_list (meaning_kept old mid class.ChangeList list grown p i) ++ same i ∷ []
 
 -- the first items and the next one
 pub take_one : (xs : List (List ℕ)) (i : ℕ) (x y : List ℕ) → i < length xs → x ≡ y → y ≡ get_or xs i y → take (i + 1) xs ≡ take i xs ++ x ∷ []

@@ -1,30 +1,18 @@
 -- The terms that a condition in the log names, and the words that a predicate without a row is put by.
 use Rattle.std.proofs.Common.{◌≡◌, ℕ, zero, suc, ◌+◌, ◌<◌, ◌≤◌, Bool, true, false, List, [], ◌∷◌, ◌++◌, Option, Some, None, refl, ap, sym, subst, arith, inl, inr}
-use Rattle.std.specs.Prelude.{IsTrue, slice_get, is_some, if◌then◌else◌}
-use Rattle.std.specs.List.{Contains}
-use Rattle.std.proofs.lemmas.Bool.{false≢true}
+use Rattle.std.{specs.Prelude.{IsTrue, slice_get, is_some, if◌then◌else◌}, specs.List.Contains, proofs.lemmas.Bool.false≢true}
 use Rattle.std.proofs.lemmas.List.Elements.{Contains-append_left, Contains-append_right, Contains-append_cases}
-use Rattle.ct_word.specs.declared.kinds.Kind.{Kind}
+use Rattle.ct_word.{specs.declared.kinds.Kind.Kind, specs.declared.values.Term.Term, specs.Named.{IsNamed, IsNamedInSome}, proofs.Places.stands_term}
+use Rattle.ct_word.{specs.Condition.{Condition, Conditions, True, False, Same, Not, And, Or, none, also}, specs.Reading.{as_cond, condition_at, term_at}}
+use Rattle.ct_word.{specs.Stands.{itself, through, TermBelow, places_in, places_of}, specs.Word.{kind_of, left_of, right_of}, proofs.WordAt.word_is}
+use Rattle.ct_word.{specs.WellFormed.{IsWellFormed, is_place_of, is_word_of, has_class}, proofs.Items.{first_item, later_item, item_cases, no_item}}
+use Rattle.ct_query.{specs.Bounds.{columns_named, literal_words, column_words, over_equalities, over_all_equalities}, specs.Terms.{condition_terms, all_terms}}
+use Rattle.ct_query.specs.Fits.{IsColumnBelow, AreColumnsBelow, AreAllColumnsBelow}
+use Rattle.ct_condition.{specs.Places.has_place, specs.Rows.{cell_for, term_words, words_on}, proofs.Placed.over_less}
+use Rattle.ct_history.specs.Encodes.{condition_words}
 use Rattle.ct_word.specs.declared.kinds.Kind.TheVariants as kind
 use Rattle.ct_word.specs.declared.kinds.Class.TheVariants as class
-use Rattle.ct_word.specs.declared.values.Term.{Term}
 use Rattle.ct_word.specs.declared.values.Term.TheVariants as term
-use Rattle.ct_word.specs.Condition.{Condition, Conditions, True, False, Same, Not, And, Or, none, also}
-use Rattle.ct_word.specs.Named.{IsNamed, IsNamedInSome}
-use Rattle.ct_word.specs.Reading.{as_cond, condition_at, term_at}
-use Rattle.ct_word.specs.Stands.{itself, through, TermBelow, places_in, places_of}
-use Rattle.ct_word.specs.Word.{kind_of, left_of, right_of}
-use Rattle.ct_word.specs.WellFormed.{IsWellFormed, is_place_of, is_word_of, has_class}
-use Rattle.ct_word.proofs.Items.{first_item, later_item, item_cases, no_item}
-use Rattle.ct_word.proofs.Places.{stands_term}
-use Rattle.ct_word.proofs.WordAt.{word_is}
-use Rattle.ct_query.specs.Bounds.{columns_named, literal_words, column_words, over_equalities, over_all_equalities}
-use Rattle.ct_query.specs.Fits.{IsColumnBelow, AreColumnsBelow, AreAllColumnsBelow}
-use Rattle.ct_query.specs.Terms.{condition_terms, all_terms}
-use Rattle.ct_condition.specs.Places.{has_place}
-use Rattle.ct_condition.specs.Rows.{cell_for, term_words, words_on}
-use Rattle.ct_condition.proofs.Placed.{over_less}
-use Rattle.ct_history.specs.Encodes.{condition_words}
 
 -- a term that is named is one of the terms
 mutual

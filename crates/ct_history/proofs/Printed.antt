@@ -1,29 +1,16 @@
 -- Printed changes stand for those of the log.
-use Rattle.std.proofs.Common.{◌≡◌, ◌+◌, ℕ, suc, Bool, true, List, [], ◌∷◌, ◌++◌, map, length, take, drop, refl, ap, sym, ◌∙◌, arith, length-append}
-use Rattle.std.specs.Prelude.{IsTrue, All, flat_map}
-use Rattle.std.specs.List.{AllZip, list_all}
-use Rattle.std.proofs.lemmas.Bool.{false≢true, and_parts, and_from}
-use Rattle.std.proofs.lemmas.List.{append_assoc}
-use Rattle.std.proofs.lemmas.List.Elements.{All-head, All-tail}
-use Rattle.ct_word.specs.declared.kinds.Kind.{Kind}
+use Rattle.std.proofs.Common.{◌≡◌, ◌+◌, ℕ, Bool, true, List, [], ◌∷◌, ◌++◌, map, length, take, drop, refl, ap, sym, ◌∙◌, arith, length-append}
+use Rattle.std.{specs.Prelude.{IsTrue, All, flat_map}, specs.List.{AllZip, list_all}, proofs.lemmas.Bool.{false≢true, and_parts, and_from}}
+use Rattle.std.{proofs.lemmas.List.append_assoc, proofs.lemmas.List.Elements.{All-head, All-tail}}
+use Rattle.ct_word.{specs.declared.kinds.Kind.Kind, specs.declared.values.CRow.CRow, specs.declared.reading.Word.Word, specs.Condition.SameTruth}
+use Rattle.ct_word.{specs.Change.PlainCommit, specs.Reading.{condition_at, plain_crow}, specs.StandsFor.{SameRows, SameChange, SameChanges, SameCommits}}
+use Rattle.ct_word.{specs.WellFormed.{is_place_of, same_class, class_of}, specs.WordAt.IsWordAt}
+use Rattle.ct_rewrite.{specs.declared.answer.Node.Node, specs.Nodes.{node_condition, is_position}, specs.declared.history.Change.Change}
+use Rattle.ct_rewrite.specs.History.{plain_row, plain_change, is_change_placed}
+use Rattle.ct_history.{specs.Printed.{conds_of, rows_with, change_with, changes_with}, specs.Rows.IsRowOf, specs.Written.{plain_written, IsWritten}}
+use Rattle.ct_history.specs.declared.written.Written.{Written}
 use Rattle.ct_word.specs.declared.kinds.Kind.TheVariants as kind
 use Rattle.ct_word.specs.declared.kinds.Class.TheVariants as class
-use Rattle.ct_word.specs.declared.values.CRow.{CRow}
-use Rattle.ct_word.specs.declared.reading.Word.{Word}
-use Rattle.ct_word.specs.Condition.{SameTruth}
-use Rattle.ct_word.specs.Change.{PlainCommit}
-use Rattle.ct_word.specs.Reading.{condition_at, plain_crow}
-use Rattle.ct_word.specs.StandsFor.{SameRows, SameChange, SameChanges, SameCommits}
-use Rattle.ct_word.specs.WellFormed.{is_place_of, same_class, class_of}
-use Rattle.ct_word.specs.WordAt.{IsWordAt}
-use Rattle.ct_rewrite.specs.declared.answer.Node.{Node}
-use Rattle.ct_rewrite.specs.Nodes.{node_condition, is_position}
-use Rattle.ct_rewrite.specs.declared.history.Change.{Change}
-use Rattle.ct_rewrite.specs.History.{plain_row, plain_change, is_change_placed}
-use Rattle.ct_history.specs.Printed.{conds_of, rows_with, change_with, changes_with}
-use Rattle.ct_history.specs.Rows.{IsRowOf}
-use Rattle.ct_history.specs.Written.{plain_written, IsWritten}
-use Rattle.ct_history.specs.declared.written.Written.{Written}
 use Rattle.ct_history.specs.declared.written.Written.TheVariants as written
 
 module _ {A B : Type 0} (R : A → B → Type 0) where
@@ -36,12 +23,6 @@ module _ {A B : Type 0} (R : A → B → Type 0) where
   zip_back [] b ks h = h
   zip_back (x ∷ a) b [] h = absurd h
   zip_back (x ∷ a) b (k ∷ ks) h = zip_back a b ks h.1
-
-  pub zip_length : (ks : List A) (cs : List B) → AllZip R ks cs → length ks ≡ length cs
-  zip_length [] [] h = refl
-  zip_length [] (c ∷ cs) h = absurd h
-  zip_length (k ∷ ks) [] h = absurd h
-  zip_length (k ∷ ks) (c ∷ cs) h = ap suc (zip_length ks cs h.1)
 
   zip_passed : (p : A → Bool) (ks : List A) (cs : List B) → AllZip R ks cs → IsTrue (list_all p ks) → AllZip (λ k c. R k c × IsTrue (p k)) ks cs
   zip_passed p [] [] h e = tt
@@ -143,10 +124,6 @@ commit_word ws p w is e = by w.kind (sym (is.class class.Commit) ∙ e) where
   by : (k : Kind) → same_class (class_of k) class.Commit ≡ true → k ≡ kind.Commit
   by kind.Commit of = refl
   by _ of = absurd (false≢true of)
-
--- and the other way round
-pub is_commit_place : (ws : List ℕ) (p : ℕ) (w : Word) → IsWordAt ws p w → w.kind ≡ kind.Commit → IsTrue (is_place_of ws class.Commit p)
-is_commit_place ws p w is e = is.class class.Commit ∙ ap (λ k. same_class (class_of k) class.Commit) e
 
 -- one more commit
 pub commits_longer : (g h : List PlainCommit) (c d : PlainCommit) → SameCommits g h → c.session ≡ d.session → c.number ≡ d.number → SameChanges c.changes d.changes

@@ -1,20 +1,14 @@
--- Rows of the log: one more cell, one more row, a condition over cells, the insertion of rows.
+-- Rows of the log: one more cell, one more row.
 use Rattle.std.proofs.Common.{◌≡◌, ◌<◌, ◌≤◌, ◌+◌, arith, inl, inr, ℕ, List, [], ◌∷◌, ◌++◌, Some, map, take, length, get_or, refl, ap, sym, subst, ◌∙◌}
-use Rattle.std.proofs.lemmas.List.{map_more}
-use Rattle.std.proofs.lemmas.List.Elements.{All-head, All-tail, All-get_or, All-weaker}
-use Rattle.std.specs.Prelude.{IsTrue, All}
+use Rattle.std.{proofs.lemmas.List.map_more, proofs.lemmas.List.Elements.{All-head, All-tail, All-get_or, All-weaker}, specs.Prelude.{IsTrue, All, slice_get}}
+use Rattle.ct_word.{specs.declared.values.CRow.CRow, specs.declared.values.Term.Term, specs.Stands.StandsAt, specs.WellFormed.is_place_of}
+use Rattle.ct_word.specs.Reading.{IsRow, IsRowList, as_cond, as_row, as_cond_row, as_row_list, by_kind, meanings, condition_at, term_at, plain_crow}
+use Rattle.ct_word.proofs.Prefixes.{prefix_of_prefix, stands_in_prefix, term_in_prefix, condition_in_prefix, place_in_prefix, place_within}
+use Rattle.ct_arena.specs.Seen.{CountsWord}
+use Rattle.ct_history.{specs.Places.{cells_at, rows_at}, specs.Rows.{AreTerms, IsNoRow, IsRowOf, row_under}, proofs.Lists.meaning_kept}
 use mathlib.Core.List.{IsPrefix}
 use Rattle.ct_word.specs.declared.kinds.Class.TheVariants as class
 use Rattle.ct_word.specs.declared.kinds.Kind.TheVariants as kind
-use Rattle.ct_word.specs.declared.values.CRow.{CRow}
-use Rattle.ct_word.specs.declared.values.Term.{Term}
-use Rattle.ct_word.specs.Change.{PlainRow, Insert}
-use Rattle.ct_word.specs.Reading.{IsText, IsRow, IsCondRow, IsRowList, IsChange, as_text, as_row, as_cond_row, as_row_list, by_kind, meanings, term_at, plain_crow}
-use Rattle.ct_word.specs.Stands.{StandsAt}
-use Rattle.ct_word.specs.WellFormed.{is_place_of}
-use Rattle.ct_word.proofs.Prefixes.{stands_in_prefix, term_in_prefix, condition_in_prefix, place_in_prefix, place_within}
-use Rattle.ct_arena.specs.Seen.{CountsWord}
-use Rattle.ct_history.specs.Rows.{AreTerms, IsNoRow, IsRowOf}
 
 -- places of terms stand for the same terms in more words
 terms_grow : (ws xs : List ℕ) → IsPrefix ws xs → (ps : List ℕ) → AreTerms ws ps → map (term_at xs) ps ≡ map (term_at ws) ps
@@ -41,37 +35,17 @@ cell_added ws xs ys cells place cell new s p grown q grown' stands =
     stands ∙ (λ i. Some (IsRow (as_row (stands_in_prefix xs ys place _ grown (place_within xs class.Row place p) s i)
     ++ term_in_prefix ws ys cell grown' (place_within ws class.Term cell q) i ∷ [])))
 
--- cells under a condition
-pub row_put : (ws xs ys : List ℕ) (r : CRow) (place new : ℕ)
-    → IsTrue (is_place_of ws class.Cond r.cond) → IsPrefix ws ys
-    → StandsAt xs place (IsRow (map (term_at ws) r.cells)) → IsTrue (is_place_of xs class.Row place) → IsPrefix xs ys
-    → StandsAt ys new (by_kind (Some kind.ConditionalRow) (meanings ys) place r.cond)
-    → StandsAt ys new (IsCondRow (plain_crow ws r))
-row_put ws xs ys r place new q grown s p grown' stands =
-    stands ∙ (λ i. Some (IsCondRow (record {
-      cells = as_row (stands_in_prefix xs ys place _ grown' (place_within xs class.Row place p) s i);
-      condition = condition_in_prefix ws ys r.cond grown (place_within ws class.Cond r.cond q) i;
-    })))
-
 -- a row that is put behind rows
-pub row_added : (ws xs ys : List ℕ) (rows : List PlainRow) (row : PlainRow) (place item new : ℕ)
-    → StandsAt ws place (IsRowList rows) → IsTrue (is_place_of ws class.RowList place) → IsPrefix ws ys
-    → StandsAt xs item (IsCondRow row) → IsTrue (is_place_of xs class.CondRow item) → IsPrefix xs ys
-    → StandsAt ys new (by_kind (Some kind.Rows) (meanings ys) place item)
-    → StandsAt ys new (IsRowList (rows ++ row ∷ []))
-row_added ws xs ys rows row place item new s p grown t q grown' stands =
-    stands ∙ (λ i. Some (IsRowList (as_row_list (stands_in_prefix ws ys place _ grown (place_within ws class.RowList place p) s i)
-    ++ as_cond_row (stands_in_prefix xs ys item _ grown' (place_within xs class.CondRow item q) t i) ∷ [])))
-
--- the insertion of rows into a table
-pub inserted : (ws xs ys : List ℕ) (name : List ℕ) (rows : List PlainRow) (list table new : ℕ)
-    → StandsAt ws list (IsRowList rows) → IsTrue (is_place_of ws class.RowList list) → IsPrefix ws ys
-    → StandsAt xs table (IsText name) → IsTrue (is_place_of xs class.Text table) → IsPrefix xs ys
-    → StandsAt ys new (by_kind (Some kind.Insert) (meanings ys) table list)
-    → StandsAt ys new (IsChange (Insert name rows))
-inserted ws xs ys name rows list table new s p grown t q grown' stands =
-    stands ∙ (λ i. Some (IsChange (Insert (as_text (stands_in_prefix xs ys table _ grown' (place_within xs class.Text table q) t i))
-    (as_row_list (stands_in_prefix ws ys list _ grown (place_within ws class.RowList list p) s i)))))
+pub row_added : (old mid new : List ℕ) (list cells cond row place : ℕ) → IsPrefix old mid → IsPrefix mid new
+    → IsTrue (is_place_of old class.RowList list) → IsTrue (is_place_of old class.Row cells) → IsTrue (is_place_of old class.Cond cond)
+    → StandsAt mid row (by_kind (Some kind.ConditionalRow) (meanings mid) cells cond) → IsTrue (is_place_of mid class.CondRow row)
+    → StandsAt new place (by_kind (Some kind.Rows) (meanings new) list row)
+    → StandsAt new place (IsRowList (rows_at old list ++ row_under (condition_at old cond) (cells_at old cells) ∷ []))
+row_added old mid new list cells cond row place grown later p q r t is stands =
+    let said : as_cond_row (slice_get (meanings new) row) ≡ row_under (condition_at old cond) (cells_at old cells) =
+    ap as_cond_row (meaning_kept mid new class.CondRow row later is ∙ t)
+    ∙ (λ i. row_under (as_cond (meaning_kept old mid class.Cond cond grown r i)) (as_row (meaning_kept old mid class.Row cells grown q i))) in
+    stands ∙ (λ i. Some (IsRowList (as_row_list (meaning_kept old new class.RowList list (prefix_of_prefix old mid new grown later) p i) ++ said i ∷ [])))
 
 -- the first rows and the next one, read over more words
 pub rows_one : (ws xs : List ℕ) (rows : List CRow) (i : ℕ) (r : CRow) → IsPrefix ws xs → All (IsRowOf ws) rows → i < length rows → r ≡ get_or rows i r

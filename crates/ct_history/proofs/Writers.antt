@@ -1,28 +1,15 @@
 -- Texts compared from their ends, and the last commit that writes what is read.
-use Rattle.std.proofs.Common.{◌≡◌, ◌≢◌, ℕ, ◌+◌, ◌≤◌, ◌<◌, Bool, true, false, List, [], ◌∷◌, ◌++◌, length, take, Some, rules, refl, ap, sym, ◌∙◌, arith, drop, subst, length-append, ◌/◌, ◌%◌}
-use Rattle.std.specs.Prelude.{slice_get, filter_map, IsTrue, ◌||◌, if◌then◌else◌}
-use Rattle.std.specs.Bool.{◌==◌}
-use Rattle.std.specs.List.{list_any}
+use Rattle.std.proofs.Common.{◌≡◌, ◌≢◌, ℕ, ◌+◌, ◌≤◌, Bool, true, false, List, [], ◌∷◌, ◌++◌, length, take, Some, rules, refl, ap, sym, ◌∙◌, arith, drop, subst, length-append, ◌/◌, ◌%◌}
+use Rattle.std.{specs.Prelude.{slice_get, filter_map, IsTrue, ◌||◌, if◌then◌else◌}, specs.Bool.{◌==◌}, specs.List.list_any, proofs.lemmas.Bool.false≢true}
 use Rattle.std.proofs.lemmas.List.{append_cancel_right, append-nil, take_more, take-append-drop, take-append-le, take_all}
-use Rattle.std.proofs.lemmas.List.Elements.{filter_map-append}
-use Rattle.std.proofs.lemmas.Option.{slice_get_within, get_or_from_slice_get}
-use Rattle.ct_word.specs.declared.kinds.Kind.{Kind}
+use Rattle.std.{proofs.lemmas.List.Elements.filter_map-append, proofs.lemmas.Option.{slice_get_within, get_or_from_slice_get}}
+use Rattle.ct_word.{specs.declared.kinds.Kind.Kind, specs.declared.reading.Word.Word, specs.Change.PlainCommit, specs.Value.same_text, proofs.Spelling.of_kind}
+use Rattle.ct_word.{specs.Reading.{Meaning, IsCommit, meanings, as_commit, as_text, by_kind, change_list_at}, specs.WordAt.{IsWordAt, text_at}}
+use Rattle.ct_word.{specs.WellFormed.{is_place_of, same_class, class_of}, proofs.Alike.text_decides}
+use Rattle.ct_query.{specs.declared.action.Read.Read, specs.Reads.{writes, commit_writes, last}, proofs.Laws.last_commit}
+use Rattle.ct_history.specs.Commits.{commits_before}
 use Rattle.ct_word.specs.declared.kinds.Kind.TheVariants as kind
 use Rattle.ct_word.specs.declared.kinds.Class.TheVariants as class
-use Rattle.ct_word.specs.declared.reading.Word.{Word}
-use Rattle.ct_word.specs.Change.{PlainCommit}
-use Rattle.ct_word.specs.Reading.{Meaning, IsCommit, meanings, as_commit, as_text, as_change_list, by_kind, change_list_at}
-use Rattle.ct_word.specs.Value.{same_text}
-use Rattle.ct_word.specs.WellFormed.{is_place_of, same_class, class_of}
-use Rattle.ct_word.specs.WordAt.{IsWordAt, text_at}
-use Rattle.ct_word.proofs.Alike.{text_decides}
-use Rattle.ct_word.proofs.Spelling.{of_kind}
-use Rattle.std.proofs.lemmas.Bool.{false≢true}
-use Rattle.ct_query.specs.declared.action.Read.{Read}
-use Rattle.ct_query.specs.Reads.{writes, commit_writes, last}
-use Rattle.ct_query.proofs.Laws.{last_commit}
-use Rattle.ct_history.specs.Commits.{commits_before}
-use Rattle.ct_history.specs.Places.{change_at}
 
 -- tests that say the same are the same
 alike : (p q : Bool) → (p ≡ true → q ≡ true) → (q ≡ true → p ≡ true) → p ≡ q
@@ -49,13 +36,17 @@ no_text [] r e = sym e
 no_text (x ∷ b) r e = sym (e ∙ first_of (search rules, search arith, grind arith))
 
 -- a test of the items of a list and one more
-pub any_more : {X : Type 0} (p : X → Bool) (xs : List X) (x : X) → list_any p (xs ++ x ∷ []) ≡ (p x || list_any p xs)
+any_more : {X : Type 0} (p : X → Bool) (xs : List X) (x : X) → list_any p (xs ++ x ∷ []) ≡ (p x || list_any p xs)
 any_more p [] x = refl
 any_more p (y ∷ xs) x = by (p y) (p x) (list_any p xs) (list_any p (xs ++ x ∷ [])) (any_more p xs x) where
   by : (a b c d : Bool) → d ≡ (b || c) → (a || d) ≡ (b || (a || c))
   by true true c d e = refl
   by true false c d e = refl
   by false b c d e = e
+
+-- the test of a list, by its last item and those before
+pub any_last : {X : Type 0} (p : X → Bool) (all r : Bool) (items before : List X) (x : X) → all ≡ list_any p items → items ≡ before ++ x ∷ [] → r ≡ p x → all ≡ (r || list_any p before)
+any_last p all r items before x same is e = same ∙ ap (list_any p) is ∙ any_more p before x ∙ ap (λ b. b || list_any p before) (sym e)
 
 -- the commits among one more meaning
 pub commits_more : (ms : List Meaning) (i : ℕ) (m : Meaning) → slice_get ms i ≡ Some m
@@ -87,26 +78,6 @@ pub all_commits : (ms : List Meaning) (i upto : ℕ) → length ms ≤ i → len
 all_commits ms i upto long few =
     let whole : take i ms ≡ ms = take_all i ms long in
     take_all upto (filter_map as_commit ms) (subst (λ xs. length (filter_map as_commit xs) ≤ upto) whole few) ∙ ap (filter_map as_commit) (sym whole)
-
--- the change list before the last change of a list, and that change
-pub record Longer (ws : List ℕ) (p before item : ℕ) : Type 0 where
-  pub below : before < p
-  pub list : IsTrue (is_place_of ws class.ChangeList before)
-  pub change : IsTrue (is_place_of ws class.Change item)
-  pub is : change_list_at ws p ≡ change_list_at ws before ++ change_at ws item ∷ []
-
-pub longer : (ws : List ℕ) (p : ℕ) (w : Word) → IsWordAt ws p w → w.kind ≡ kind.Changes → Longer ws p w.left w.right
-longer ws p w is e =
-    let h = of_kind ws p w kind.Changes e is in
-    record { below = h.left.0; list = h.left.1; change = h.right.1; is = ap as_change_list h.meaning }
-
--- a list of another kind has no changes
-pub ended : (ws : List ℕ) (p : ℕ) (w : Word) → IsWordAt ws p w → IsTrue (is_place_of ws class.ChangeList p) → w.kind ≢ kind.Changes → change_list_at ws p ≡ []
-ended ws p w is e ne = by w.kind (sym (is.class class.ChangeList) ∙ e) ne is where
-  by : (k : Kind) → IsTrue (same_class (class_of k) class.ChangeList) → k ≢ kind.Changes → IsWordAt ws p (record { kind = k; left = w.left; right = w.right }) → change_list_at ws p ≡ []
-  by kind.Changes of ne h = absurd (ne refl)
-  by kind.ChangesEnd of ne h = ap as_change_list h.meaning
-  by _ of ne h = absurd (false≢true of)
 
 -- a text of another kind is empty
 pub emptied : (ws : List ℕ) (p : ℕ) (w : Word) → IsWordAt ws p w → IsTrue (is_place_of ws class.Text p) → w.kind ≢ kind.TextCharacter → text_at ws p ≡ []

@@ -1,17 +1,19 @@
 -- What places of changes and of their parts stand for.
-use Rattle.std.specs.Prelude.{◌≡◌, ℕ, List, IsTrue, slice_get}
-use Rattle.ct_word.specs.declared.kinds.Class.TheVariants as class
-use Rattle.ct_word.specs.declared.values.Term.{Term}
-use Rattle.ct_word.specs.Change.{PlainRow, PlainChange, Create, Insert, Delete, Assert}
-use Rattle.ct_word.specs.Reading.{meanings, as_row, as_cond_row, as_row_list, as_name_list, as_change, condition_at}
-use Rattle.ct_word.specs.WellFormed.{is_place_of}
+use Rattle.std.specs.Prelude.{◌≡◌, ℕ, List, Some, IsTrue, slice_get}
+use Rattle.ct_word.{specs.declared.kinds.Kind.Kind, specs.declared.values.Term.Term, specs.Change.{PlainRow, PlainChange, Create, Insert, Delete, Assert}}
+use Rattle.ct_word.{specs.Reading.{meanings, as_row, as_cond_row, as_row_list, as_name_list, as_change, by_kind, condition_at}, specs.WellFormed.is_place_of}
 use Rattle.ct_word.specs.WordAt.{text_at}
 use Rattle.ct_history.specs.declared.words.ChangeWord.{ChangeWord}
+use Rattle.ct_word.specs.declared.kinds.Class.TheVariants as class
 use Rattle.ct_history.specs.declared.words.ChangeWord.TheVariants as parts
 
 -- the change that a place stands for
 abbrev pub change_at : List ℕ → ℕ → PlainChange
 change_at words place = as_change (slice_get (meanings words) place)
+
+-- the change that the word of a kind with these fields stands for, put behind the words
+abbrev pub change_of : List ℕ → Kind → ℕ → ℕ → PlainChange
+change_of words k a b = as_change (Some (by_kind (Some k) (meanings words) a b))
 
 -- the names that a place stands for
 abbrev pub names_at : List ℕ → ℕ → List (List ℕ)

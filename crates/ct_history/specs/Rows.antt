@@ -1,13 +1,8 @@
 -- Rows of places that can be put into the log.
 use Rattle.std.specs.Prelude.{◌<◌, ◌^◌, ℕ, List, [], All, IsTrue}
+use Rattle.ct_word.{specs.declared.values.CRow.CRow, specs.declared.values.Term.Term, specs.Condition.Condition, specs.Change.PlainRow, specs.Stands.StandsAt}
+use Rattle.ct_word.{specs.Reading.{IsRow, IsRowList}, specs.WellFormed.is_place_of}
 use Rattle.ct_word.specs.declared.kinds.Class.TheVariants as class
-use Rattle.ct_word.specs.declared.values.CRow.{CRow}
-use Rattle.ct_word.specs.declared.values.Term.{Term}
-use Rattle.ct_word.specs.Condition.{Condition}
-use Rattle.ct_word.specs.Change.{PlainRow}
-use Rattle.ct_word.specs.Reading.{IsRow}
-use Rattle.ct_word.specs.Stands.{StandsAt}
-use Rattle.ct_word.specs.WellFormed.{is_place_of}
 
 -- these are places of terms
 abbrev pub AreTerms : List ℕ → List ℕ → Type 0
@@ -23,6 +18,12 @@ pub record IsNoRow (words : List ℕ) (start : ℕ) : Type 0 where
   pub stands : StandsAt words start (IsRow [])
   pub class : IsTrue (is_place_of words class.Row start)
   pub small : start < 2 ^ 28
+
+-- a place stands for these rows
+pub record AreRowsAt (words : List ℕ) (place : ℕ) (rows : List PlainRow) : Type 0 where
+  pub stands : StandsAt words place (IsRowList rows)
+  pub class : IsTrue (is_place_of words class.RowList place)
+  pub small : place < 2 ^ 28
 
 -- a row of terms under a condition
 abbrev pub row_under : Condition → List Term → PlainRow

@@ -3,7 +3,7 @@
 ghost use Rattle.std.specs.Prelude.{◌≡◌, ◌≤◌, ◌<◌, ◌+◌, ◌^◌, [], ◌∷◌, ◌++◌, map, length, sum_by, All, IfOk, OnErr, IsTrue};
 ghost use mathlib.Core.List.{IsPrefix};
 ghost use Rattle.ct_word.specs.declared.kinds.Class.TheVariants as class;
-ghost use Rattle.ct_word.specs.Reading.{IsRow, IsCondRow, IsRowList, condition_at};
+ghost use Rattle.ct_word.specs.Reading.{IsRow, condition_at};
 ghost use Rattle.ct_word.specs.Stands.{StandsAt};
 ghost use Rattle.ct_word.specs.WellFormed.{is_place_of};
 ghost use Rattle.ct_query.specs.Bounds.{characters, literal_words};
@@ -14,16 +14,18 @@ ghost use Rattle.ct_query.specs.Pred.{condition_of};
 ghost use Rattle.ct_query.specs.Views.{action_of};
 ghost use Rattle.ct_history.specs.Encodes.{Adds, IsConditionOf, IsEncodable, condition_words, encode_words, term_row_words};
 ghost use Rattle.ct_history.specs.Kept.{kept_of};
-ghost use Rattle.ct_history.specs.Rows.{IsNoRow, IsRowOf, row_under};
+ghost use Rattle.ct_history.specs.Places.{rows_at};
+ghost use Rattle.ct_history.specs.Rows.{AreRowsAt, IsNoRow, IsRowOf, row_under};
 
-use crate::changes::create;
-use crate::insertion::insert;
+use crate::changes::{add, create};
+use crate::insertion::{insert, insert_list, no_rows, put_row};
 use ct_arena::{Arena, Full, Pass, Site};
 use ct_condition::{pred, put, term, text};
 use ct_query::{Action, Pred};
 use ct_word::{CRow, Kind, List, Term};
 
 /// The place of a predicate, whose columns stay columns.
+#[tactic(auto, using(crate::proofs::Named::words_written))]
 fn condition<N: Site>(arena: &Arena<N>, pass: &mut Pass<N>, p: &Pred) -> Result<u32, Full>
     requires fields { AreFittingOn 0 (condition_of p.now) }
     ensures is { IfOk result (λ place. IsConditionOf pass.new.words place (condition_of p.now)) }
@@ -39,6 +41,7 @@ fn condition<N: Site>(arena: &Arena<N>, pass: &mut Pass<N>, p: &Pred) -> Result<
 }
 
 /// The place of a row of terms, put behind the row without cells.
+#[tactic(auto, using(std::proofs::lemmas::List::Sums::sum_by_more_le, crate::proofs::Encoded::cell_counted))]
 fn term_cells<N: Site>(
     arena: &Arena<N>,
     pass: &mut Pass<N>,
@@ -64,32 +67,35 @@ fn term_cells<N: Site>(
     Ok(place)
 }
 
-/// The place of a row of terms under a condition.
-fn term_row<N: Site>(
+/// The place of a list of rows with a row of terms under a condition added.
+#[tactic(auto, using(ct_word::proofs::Prefixes::place_in_prefix))]
+fn add_terms<N: Site>(
     arena: &Arena<N>,
     pass: &mut Pass<N>,
+    list: u32,
     start: u32,
     cells: &[Term],
     cond: u32,
 ) -> Result<u32, Full>
+    requires list { IsTrue (is_place_of pass.old.words class.RowList list) }
+    requires short { list < 2 ^ 28 }
     requires start { IsNoRow pass.old.words start }
     requires cells { All FitsCell cells.now }
     requires cond { IsTrue (is_place_of pass.old.words class.Cond cond) }
     requires small { cond < 2 ^ 28 }
-    ensures stands { IfOk result (λ place. StandsAt pass.new.words place (IsCondRow (row_under (condition_at pass.old.words cond) cells.now))) }
-    ensures place { IfOk result (λ place. IsTrue (is_place_of pass.new.words class.CondRow place)) }
-    ensures small { IfOk result (λ place. place < 2 ^ 28) }
+    ensures rows { IfOk result (λ place. AreRowsAt pass.new.words place (rows_at pass.old.words list ++ row_under (condition_at pass.old.words cond) cells.now ∷ [])) }
     ensures longer { IsPrefix pass.old.words pass.new.words }
     ensures full { OnErr result (length pass.new.words ≡ N.log.cap) }
-    ensures made { pass.new.made ≤ pass.old.made + (sum_by literal_words cells.now + length cells.now + 1) }
-    ensures err { OnErr result (pass.new.made < pass.old.made + (sum_by literal_words cells.now + length cells.now + 1)) }
+    ensures made { pass.new.made ≤ pass.old.made + term_row_words cells.now }
+    ensures err { OnErr result (pass.new.made < pass.old.made + term_row_words cells.now) }
     ensures kept { kept_of pass.new ≡ kept_of pass.old }
 {
     let row = term_cells(arena, pass, start, cells)?;
-    put(arena, pass, Kind::ConditionalRow, row, cond)
+    put_row(arena, pass, list, row, cond)
 }
 
 /// The place of a list of rows of terms, each under the same condition.
+#[tactic(auto, using(ct_word::proofs::Prefixes::place_in_prefix, std::proofs::lemmas::List::Sums::sum_by_more_le))]
 fn term_rows<N: Site>(
     arena: &Arena<N>,
     pass: &mut Pass<N>,
@@ -99,25 +105,22 @@ fn term_rows<N: Site>(
     requires rows { All (All FitsCell) rows.now }
     requires cond { IsTrue (is_place_of pass.old.words class.Cond cond) }
     requires small { cond < 2 ^ 28 }
-    ensures stands { IfOk result (λ place. StandsAt pass.new.words place (IsRowList (map (row_under (condition_at pass.old.words cond)) rows.now))) }
-    ensures place { IfOk result (λ place. IsTrue (is_place_of pass.new.words class.RowList place)) }
-    ensures small { IfOk result (λ place. place < 2 ^ 28) }
+    ensures rows { IfOk result (λ place. AreRowsAt pass.new.words place (map (row_under (condition_at pass.old.words cond)) rows.now)) }
     ensures longer { IsPrefix pass.old.words pass.new.words }
     ensures full { OnErr result (length pass.new.words ≡ N.log.cap) }
     ensures made { pass.new.made ≤ pass.old.made + (sum_by term_row_words rows.now + 2) }
     ensures err { OnErr result (pass.new.made < pass.old.made + (sum_by term_row_words rows.now + 2)) }
     ensures kept { kept_of pass.new ≡ kept_of pass.old }
 {
-    let mut place = put(arena, pass, Kind::RowsEnd, 0, 0)?;
-    let start = put(arena, pass, Kind::RowEnd, 0, 0)?;
+    let (mut place, start) = no_rows(arena, pass)?;
     for row in rows {
-        let item = term_row(arena, pass, start, row.as_slice(), cond)?;
-        place = put(arena, pass, Kind::Rows, place, item)?;
+        place = add_terms(arena, pass, place, start, row.as_slice(), cond)?;
     }
     Ok(place)
 }
 
 /// The place of a change list with the insertion of rows under a condition added.
+#[tactic(auto, using(ct_word::proofs::Prefixes::place_in_prefix, crate::proofs::Named::no_columns, crate::proofs::Encoded::rows_words))]
 fn insert_rows<N: Site>(
     arena: &Arena<N>,
     pass: &mut Pass<N>,
@@ -141,12 +144,11 @@ fn insert_rows<N: Site>(
 {
     let cond = condition(arena, pass, p)?;
     let list_of_rows = term_rows(arena, pass, rows, cond)?;
-    let table = text(arena, pass, name)?;
-    let change = put(arena, pass, Kind::Insert, table, list_of_rows)?;
-    put(arena, pass, Kind::Changes, list, change)
+    insert_list(arena, pass, list, name, list_of_rows)
 }
 
 /// The place of a change list with a deletion added.
+#[tactic(auto, using(ct_word::proofs::Prefixes::place_in_prefix))]
 fn delete<N: Site>(
     arena: &Arena<N>,
     pass: &mut Pass<N>,
@@ -168,11 +170,11 @@ fn delete<N: Site>(
 {
     let cond = condition(arena, pass, p)?;
     let table = text(arena, pass, name)?;
-    let change = put(arena, pass, Kind::Delete, table, cond)?;
-    put(arena, pass, Kind::Changes, list, change)
+    add(arena, pass, list, Kind::Delete, table, cond)
 }
 
 /// The place of a change list with an assertion added.
+#[tactic(auto, using(ct_word::proofs::Prefixes::place_in_prefix, crate::proofs::Named::no_columns))]
 fn assert_that<N: Site>(
     arena: &Arena<N>,
     pass: &mut Pass<N>,
@@ -192,8 +194,7 @@ fn assert_that<N: Site>(
     ensures kept { kept_of pass.new ≡ kept_of pass.old }
 {
     let cond = condition(arena, pass, p)?;
-    let change = put(arena, pass, Kind::Assert, cond, 0)?;
-    put(arena, pass, Kind::Changes, list, change)
+    add(arena, pass, list, Kind::Assert, cond, 0)
 }
 
 /// The place of a change list with the change of an action added. `rows` are those of a query: an

@@ -4,14 +4,16 @@ ghost use Rattle.std.specs.Prelude.{◌≡◌, ◌≤◌, ◌<◌, ◌+◌, ◌^
 ghost use mathlib.Core.List.{IsPrefix};
 ghost use Rattle.ct_word.specs.declared.kinds.Class.TheVariants as class;
 ghost use Rattle.ct_word.specs.Change.{Insert};
-ghost use Rattle.ct_word.specs.Reading.{IsRow, IsCondRow, IsRowList, IsChangeList, term_at, plain_crow, change_list_at};
+ghost use Rattle.ct_word.specs.Reading.{IsRow, IsChangeList, term_at, condition_at, plain_crow, change_list_at};
 ghost use Rattle.ct_word.specs.Stands.{StandsAt};
 ghost use Rattle.ct_word.specs.WellFormed.{is_place_of};
 ghost use Rattle.ct_query.specs.Bounds.{characters};
 ghost use Rattle.ct_history.specs.Encodes.{row_words};
 ghost use Rattle.ct_history.specs.Kept.{kept_of};
-ghost use Rattle.ct_history.specs.Rows.{AreTerms, IsNoRow, IsRowOf};
+ghost use Rattle.ct_history.specs.Places.{cells_at, rows_at};
+ghost use Rattle.ct_history.specs.Rows.{AreRowsAt, AreTerms, IsNoRow, IsRowOf, row_under};
 
+use crate::changes::add;
 use ct_arena::{Arena, Full, Pass, Site};
 use ct_condition::{put, text};
 use ct_word::{CRow, Kind};
@@ -43,56 +45,123 @@ fn cells<N: Site>(
     Ok(place)
 }
 
-/// The place of a row under its condition.
-fn conditional_row<N: Site>(
+/// The places of the list without rows and of the row without cells.
+pub(crate) fn no_rows<N: Site>(arena: &Arena<N>, pass: &mut Pass<N>) -> Result<(u32, u32), Full>
+    ensures rows { IfOk result (λ places. AreRowsAt pass.new.words places.0 []) }
+    ensures start { IfOk result (λ places. IsNoRow pass.new.words places.1) }
+    ensures longer { IsPrefix pass.old.words pass.new.words }
+    ensures full { OnErr result (length pass.new.words ≡ N.log.cap) }
+    ensures made { pass.new.made ≤ pass.old.made + 2 }
+    ensures err { OnErr result (pass.new.made < pass.old.made + 2) }
+    ensures kept { kept_of pass.new ≡ kept_of pass.old }
+{
+    let list = put(arena, pass, Kind::RowsEnd, 0, 0)?;
+    let start = put(arena, pass, Kind::RowEnd, 0, 0)?;
+    Ok((list, start))
+}
+
+/// The place of a list of rows with the row of these cells under a condition added.
+#[tactic(auto, using(ct_word::proofs::Prefixes::place_in_prefix))]
+pub(crate) fn put_row<N: Site>(
     arena: &Arena<N>,
     pass: &mut Pass<N>,
+    list: u32,
+    cells: u32,
+    cond: u32,
+) -> Result<u32, Full>
+    requires list { IsTrue (is_place_of pass.old.words class.RowList list) }
+    requires small { list < 2 ^ 28 }
+    requires cells { IsTrue (is_place_of pass.old.words class.Row cells) }
+    requires short { cells < 2 ^ 28 }
+    requires cond { IsTrue (is_place_of pass.old.words class.Cond cond) }
+    requires within { cond < 2 ^ 28 }
+    ensures rows { IfOk result (λ place. AreRowsAt pass.new.words place (rows_at pass.old.words list ++ row_under (condition_at pass.old.words cond) (cells_at pass.old.words cells) ∷ [])) }
+    ensures longer { IsPrefix pass.old.words pass.new.words }
+    ensures full { OnErr result (length pass.new.words ≡ N.log.cap) }
+    ensures made { pass.new.made ≤ pass.old.made + 2 }
+    ensures err { OnErr result (pass.new.made < pass.old.made + 2) }
+    ensures kept { kept_of pass.new ≡ kept_of pass.old }
+{
+    let row = put(arena, pass, Kind::ConditionalRow, cells, cond)?;
+    let place = put(arena, pass, Kind::Rows, list, row)?;
+    Ok(place)
+}
+
+/// The place of a list of rows with a row added.
+#[tactic(auto, using(ct_word::proofs::Prefixes::place_in_prefix))]
+fn add_row<N: Site>(
+    arena: &Arena<N>,
+    pass: &mut Pass<N>,
+    list: u32,
     start: u32,
     row: &CRow,
 ) -> Result<u32, Full>
+    requires list { IsTrue (is_place_of pass.old.words class.RowList list) }
+    requires small { list < 2 ^ 28 }
     requires start { IsNoRow pass.old.words start }
     requires row { IsRowOf pass.old.words row.now }
-    ensures stands { IfOk result (λ place. StandsAt pass.new.words place (IsCondRow (plain_crow pass.old.words row.now))) }
-    ensures place { IfOk result (λ place. IsTrue (is_place_of pass.new.words class.CondRow place)) }
-    ensures small { IfOk result (λ place. place < 2 ^ 28) }
+    ensures rows { IfOk result (λ place. AreRowsAt pass.new.words place (rows_at pass.old.words list ++ plain_crow pass.old.words row.now ∷ [])) }
     ensures longer { IsPrefix pass.old.words pass.new.words }
     ensures full { OnErr result (length pass.new.words ≡ N.log.cap) }
-    ensures made { pass.new.made ≤ pass.old.made + (length row.now.cells + 1) }
-    ensures err { OnErr result (pass.new.made < pass.old.made + (row_words row.now)) }
+    ensures made { pass.new.made ≤ pass.old.made + row_words row.now }
+    ensures err { OnErr result (pass.new.made < pass.old.made + row_words row.now) }
     ensures kept { kept_of pass.new ≡ kept_of pass.old }
 {
     // As for the cells, the condition fits a field.
     let _ = pass.words();
     let row_of_cells = cells(arena, pass, start, row.cells.as_slice())?;
-    let under = put(arena, pass, Kind::ConditionalRow, row_of_cells, row.cond)?;
-    Ok(under)
+    put_row(arena, pass, list, row_of_cells, row.cond)
 }
 
 /// The place of a list of rows.
+#[tactic(auto, using(std::proofs::lemmas::List::Sums::sum_by_more_le))]
 fn row_list<N: Site>(arena: &Arena<N>, pass: &mut Pass<N>, rows: &[CRow]) -> Result<u32, Full>
     requires rows { All (IsRowOf pass.old.words) rows.now }
-    ensures stands { IfOk result (λ place. StandsAt pass.new.words place (IsRowList (map (plain_crow pass.old.words) rows.now))) }
-    ensures place { IfOk result (λ place. IsTrue (is_place_of pass.new.words class.RowList place)) }
-    ensures small { IfOk result (λ place. place < 2 ^ 28) }
+    ensures rows { IfOk result (λ place. AreRowsAt pass.new.words place (map (plain_crow pass.old.words) rows.now)) }
     ensures longer { IsPrefix pass.old.words pass.new.words }
     ensures full { OnErr result (length pass.new.words ≡ N.log.cap) }
     ensures made { pass.new.made ≤ pass.old.made + (sum_by row_words rows.now + 2) }
     ensures err { OnErr result (pass.new.made < pass.old.made + (sum_by row_words rows.now + 2)) }
     ensures kept { kept_of pass.new ≡ kept_of pass.old }
 {
-    let mut place = put(arena, pass, Kind::RowsEnd, 0, 0)?;
-    let start = put(arena, pass, Kind::RowEnd, 0, 0)?;
+    let (mut place, start) = no_rows(arena, pass)?;
     for row in rows {
-        let item = conditional_row(arena, pass, start, row)?;
-        place = put(arena, pass, Kind::Rows, place, item)?;
+        place = add_row(arena, pass, place, start, row)?;
     }
     Ok(place)
+}
+
+/// The place of a change list with the insertion of the rows at a place added.
+#[tactic(auto, using(ct_word::proofs::Prefixes::place_in_prefix))]
+pub(crate) fn insert_list<N: Site>(
+    arena: &Arena<N>,
+    pass: &mut Pass<N>,
+    list: u32,
+    name: &str,
+    rows: u32,
+) -> Result<u32, Full>
+    requires small { list < 2 ^ 28 }
+    requires list { IsTrue (is_place_of pass.old.words class.ChangeList list) }
+    requires rows { IsTrue (is_place_of pass.old.words class.RowList rows) }
+    requires short { rows < 2 ^ 28 }
+    ensures stands { IfOk result (λ place. StandsAt pass.new.words place (IsChangeList (change_list_at pass.old.words list ++ Insert name.now (rows_at pass.old.words rows) ∷ []))) }
+    ensures place { IfOk result (λ place. IsTrue (is_place_of pass.new.words class.ChangeList place)) }
+    ensures small { IfOk result (λ place. place < 2 ^ 28) }
+    ensures longer { IsPrefix pass.old.words pass.new.words }
+    ensures full { OnErr result (length pass.new.words ≡ N.log.cap) }
+    ensures made { pass.new.made ≤ pass.old.made + (characters name.now + 3) }
+    ensures err { OnErr result (pass.new.made < pass.old.made + (characters name.now + 3)) }
+    ensures kept { kept_of pass.new ≡ kept_of pass.old }
+{
+    let table = text(arena, pass, name)?;
+    add(arena, pass, list, Kind::Insert, table, rows)
 }
 
 /// The place of a change list with the insertion of rows into a table added.
 ///
 /// # Errors
 /// `Full` where the log has no room for a word of it.
+#[tactic(auto, using(ct_word::proofs::Prefixes::place_in_prefix))]
 pub fn insert<N: Site>(
     arena: &Arena<N>,
     pass: &mut Pass<N>,
@@ -113,8 +182,5 @@ pub fn insert<N: Site>(
     ensures kept { kept_of pass.new ≡ kept_of pass.old }
 {
     let list_of_rows = row_list(arena, pass, rows)?;
-    let table = text(arena, pass, name)?;
-    let change = put(arena, pass, Kind::Insert, table, list_of_rows)?;
-    let extended = put(arena, pass, Kind::Changes, list, change)?;
-    Ok(extended)
+    insert_list(arena, pass, list, name, list_of_rows)
 }

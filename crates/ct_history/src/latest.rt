@@ -10,6 +10,7 @@ ghost use Rattle.ct_word.specs.WordAt.{text_at};
 ghost use Rattle.ct_query.specs.Reads.{writes, last};
 ghost use Rattle.ct_history.specs.Places.{change_at};
 
+use crate::items::is_longer;
 use crate::words::{ChangeWord, change_word};
 use ct_query::Read;
 use ct_word::{Kind, word_at};
@@ -74,13 +75,11 @@ fn list_writes(words: &[u64], place: u32, read: &Read) -> bool
     let mut rest = place;
     loop {
         let word = word_at(words, rest);
-        match word.kind {
-            Kind::Changes => {
-                if change_writes(words, word.right, read) {
-                    return true;
-                }
-            }
-            _ => return false,
+        if !is_longer(word.kind) {
+            return false;
+        }
+        if change_writes(words, word.right, read) {
+            return true;
         }
         rest = word.left;
     }

@@ -1,15 +1,10 @@
 -- What putting a node into a list of distinct nodes does.
-use Rattle.std.proofs.Common.{◌≡◌, ℕ, Bool, true, List, [], ◌∷◌, ◌++◌, length, Some, refl, ap, sym, ◌∙◌, subst}
-use Rattle.std.specs.Prelude.{slice_get, IsTrue}
-use Rattle.std.specs.List.{list_all, list_any, IsDistinct}
-use Rattle.std.proofs.lemmas.Bool.{cond_both, and_from}
-use Rattle.std.proofs.lemmas.List.Folds.{list_all-append}
+use Rattle.std.{proofs.Common.{◌≡◌, ℕ, Bool, true, List, [], ◌∷◌, ◌++◌, length, Some, refl, ap, sym, ◌∙◌, subst}, specs.Prelude.{slice_get, IsTrue}}
+use Rattle.std.{specs.List.{list_all, list_any, IsDistinct}, proofs.lemmas.Bool.{cond_both, and_from}, proofs.lemmas.List.Folds.list_all-append}
 use Rattle.indexmap.specs.IndexSet.{insert_key}
-use Rattle.ct_rewrite.specs.declared.answer.Node.{Node}
-use Rattle.ct_rewrite.specs.contracts.answer.NodePartialEq.TheImpl as node_eq
-use Rattle.ct_rewrite.specs.Nodes.{node_value, node_condition, stands_over, IsOrdered, same_node}
-use Rattle.ct_rewrite.specs.Rules.{is_proper}
+use Rattle.ct_rewrite.{specs.declared.answer.Node.Node, specs.Nodes.{node_value, node_condition, stands_over, IsOrdered, same_node}, specs.Rules.is_proper}
 use Rattle.ct_rewrite.proofs.Nodes.{ordered_push, value_stays, condition_of_position, node_compared, same_node_is}
+use Rattle.ct_rewrite.specs.contracts.answer.NodePartialEq.TheImpl as node_eq
 
 abbrev pub compared : Node → Node → Bool
 compared = node_eq.ghosts.eq

@@ -1,13 +1,8 @@
 -- What adding places to those that are there keeps, and values for them.
 use Rattle.std.proofs.Common.{◌≡◌, ℕ, ◌+◌, ◌<◌, ◌≤◌, Bool, true, false, List, [], ◌∷◌, ◌++◌, length, map, take, get_or, nat_eq, nat_lt, Some, refl, ap, sym, ◌∙◌, subst, arith, inl, inr}
-use Rattle.std.specs.Prelude.{IsTrue, is_some}
-use Rattle.std.specs.List.{AllByRecursion, list_all, list_any}
-use Rattle.std.specs.declared.cmp.Ordering.TheVariants.{Greater}
-use Rattle.std.specs.Ordering.{nat_cmp, is_eq}
-use Rattle.std.specs.Cmp.{nat_cmp_is}
-use Rattle.std.specs.BTreeMap.{BTreeMap, Updates, get}
+use Rattle.std.{specs.Prelude.{IsTrue, is_some}, specs.List.{AllByRecursion, list_all, list_any}, specs.declared.cmp.Ordering.TheVariants.Greater}
+use Rattle.std.{specs.Ordering.{nat_cmp, is_eq}, specs.Cmp.nat_cmp_is, specs.BTreeMap.{BTreeMap, Updates, get}, proofs.lemmas.List.map_more}
 use Rattle.std.proofs.lemmas.Bool.{and_parts, and_from, or_left, or_right, or_cases, ltb-true, eqb-true, eq-eqb, false≢true, cases_lt}
-use Rattle.std.proofs.lemmas.List.{map_more}
 use Rattle.ct_word.proofs.Items.{all_implied}
 use Rattle.ct_rewrite.specs.Below.{AreAdded, IsClosedFrom, HasAt, has_at}
 

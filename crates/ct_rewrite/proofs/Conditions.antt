@@ -1,21 +1,10 @@
 -- What the positions of conditions stand for.
-use Rattle.std.proofs.Common.{◌≡◌, ℕ, ◌≤◌, List, [], ◌∷◌, length, map, refl, ap, sym, subst, arith}
-use Rattle.std.specs.Prelude.{IsTrue}
-use Rattle.std.specs.BTreeMap.{BTreeMap}
-use Rattle.std.specs.List.{AllByRecursion, list_all, AllZip}
-use Rattle.std.proofs.lemmas.Bool.{and_from, lt-ltb}
-use Rattle.ct_word.specs.declared.values.Term.{Term}
-use Rattle.ct_word.specs.Condition.{Condition, SameTruth}
-use Rattle.ct_word.specs.Reading.{condition_at}
-use Rattle.ct_rewrite.specs.declared.answer.Node.{Node}
-use Rattle.ct_rewrite.specs.declared.forms.Form.{Form}
-use Rattle.ct_rewrite.specs.Nodes.{node_condition, is_position}
-use Rattle.ct_rewrite.specs.Moving.{IsKept}
-use Rattle.ct_rewrite.specs.Building.{Says}
-use Rattle.ct_rewrite.specs.Below.{HasAt}
-use Rattle.ct_rewrite.specs.Signs.{IsFormAt, plus_of, plus_at}
+use Rattle.std.{proofs.Common.{◌≡◌, ℕ, ◌≤◌, List, [], ◌∷◌, length, map, refl, ap, sym, subst, arith}, specs.Prelude.IsTrue, specs.BTreeMap.BTreeMap}
+use Rattle.std.{specs.List.{AllByRecursion, list_all, AllZip}, proofs.lemmas.Bool.{and_from, lt-ltb}}
+use Rattle.ct_word.{specs.declared.values.Term.Term, specs.Condition.{Condition, SameTruth}, specs.Reading.condition_at}
+use Rattle.ct_rewrite.{specs.declared.answer.Node.Node, specs.declared.forms.Form.Form, specs.Nodes.{node_condition, is_position}, specs.Moving.IsKept}
+use Rattle.ct_rewrite.{specs.Building.Says, specs.Below.HasAt, specs.Signs.{IsFormAt, plus_of, plus_at}, proofs.Sizes.{nest_lower, text_shorter}}
 use Rattle.ct_rewrite.specs.Sizes.{Fits, NoneIsEmpty, deep, nest_of, text_of, wide}
-use Rattle.ct_rewrite.proofs.Sizes.{nest_lower, text_shorter}
 
 -- a position says a condition and keeps to its bounds
 record Stands (ns : List Node) (k : ℕ) (c : Condition) : Type 0 where

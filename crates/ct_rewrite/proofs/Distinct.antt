@@ -1,19 +1,13 @@
 -- Positions that stand once in a list, and positions that have a condition of their own.
 use Rattle.std.proofs.Common.{◌≡◌, ℕ, zero, suc, ◌<◌, ◌≤◌, Bool, true, false, not, List, [], ◌∷◌, ◌++◌, length, map, take, drop, get_or, insert, nat_eq, nat_lt, Some, refl, ap, sym, ◌∙◌, subst, arith, inl, inr}
-use Rattle.std.specs.Prelude.{IsTrue, slice_get}
-use Rattle.std.specs.List.{AllByRecursion, list_all, list_any, IsDistinct}
+use Rattle.std.{specs.Prelude.{IsTrue, slice_get}, specs.List.{AllByRecursion, list_all, list_any, IsDistinct}, proofs.lemmas.List.take-append-drop}
 use Rattle.std.proofs.lemmas.Bool.{and_parts, and_from, or_parts, both_ways, ltb-true, eqb-false, ne_eqb, not-true, not_from_false, cases_order}
-use Rattle.std.proofs.lemmas.List.{take-append-drop}
-use Rattle.std.proofs.lemmas.List.Folds.{list_all-append}
-use Rattle.std.proofs.lemmas.Map.Keys.{apart_from_distinct}
+use Rattle.std.{proofs.lemmas.List.Folds.list_all-append, proofs.lemmas.Map.Keys.apart_from_distinct}
 use Rattle.std.proofs.lemmas.Option.{slice_get-get_or, get_or_from_slice_get}
-use Rattle.ct_word.specs.Condition.{listed}
-use Rattle.ct_word.proofs.Alike.{text_decides, term_decides}
-use Rattle.ct_rewrite.specs.declared.answer.Node.{Node}
+use Rattle.ct_word.{specs.Condition.listed, proofs.Alike.{text_decides, term_decides}}
+use Rattle.ct_rewrite.{specs.declared.answer.Node.Node, specs.Nodes.{nth, read_nodes, node_value, node_condition, stands_over, IsOrdered, same_node}}
+use Rattle.ct_rewrite.{specs.Rules.{is_none_of, are_distinct}, proofs.Nodes.{IsNodeAt, node_read}}
 use Rattle.ct_rewrite.specs.declared.answer.Node.TheVariants as node
-use Rattle.ct_rewrite.specs.Nodes.{nth, read_nodes, node_value, node_condition, stands_over, IsOrdered, same_node}
-use Rattle.ct_rewrite.specs.Rules.{is_none_of, are_distinct}
-use Rattle.ct_rewrite.proofs.Nodes.{IsNodeAt, node_read}
 
 flipped : (a b : ℕ) → IsTrue (not (nat_eq a b)) → IsTrue (not (nat_eq b a))
 flipped a b e = not_from_false _ (ne_eqb b a (λ f. eqb-false a b (not-true _ e) (sym f)))

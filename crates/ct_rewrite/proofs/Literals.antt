@@ -1,20 +1,12 @@
 -- No child of a node is True or False.
-use Rattle.std.proofs.Common.{◌≡◌, ℕ, zero, suc, true, not, ◌&&◌, List, [], ◌∷◌, ◌++◌, map, refl, ap, sym, ◌∙◌, subst}
-use Rattle.std.specs.Prelude.{IsTrue}
-use Rattle.std.specs.List.{list_all, list_any}
-use Rattle.std.proofs.lemmas.Bool.{cond_both, and_parts, and_from}
-use Rattle.std.proofs.lemmas.List.Folds.{list_all-append}
+use Rattle.std.{proofs.Common.{◌≡◌, ℕ, zero, suc, true, not, ◌&&◌, List, [], ◌∷◌, ◌++◌, map, refl, ap, sym, ◌∙◌, subst}, specs.Prelude.IsTrue}
+use Rattle.std.{specs.List.{list_all, list_any}, proofs.lemmas.Bool.{cond_both, and_parts, and_from}, proofs.lemmas.List.Folds.list_all-append}
 use Rattle.indexmap.specs.IndexSet.{insert_key}
-use Rattle.ct_word.specs.Condition.{Condition, listed}
-use Rattle.ct_rewrite.specs.declared.answer.Node.{Node}
-use Rattle.ct_word.specs.declared.connectives.Connective.{Connective}
-use Rattle.ct_word.specs.declared.connectives.Connective.TheVariants as connective
-use Rattle.ct_rewrite.specs.Nodes.{nth, read_nodes, node_value, node_condition}
-use Rattle.ct_rewrite.specs.Building.{joint_node}
-use Rattle.ct_rewrite.specs.Joining.{is_no_literal}
-use Rattle.ct_rewrite.specs.Rules.{is_literal, are_no_literals, has_no_literals}
-use Rattle.ct_rewrite.proofs.Nodes.{read-append}
+use Rattle.ct_word.{specs.Condition.{Condition, listed}, specs.declared.connectives.Connective.Connective}
+use Rattle.ct_rewrite.{specs.declared.answer.Node.Node, specs.Nodes.{nth, read_nodes, node_value, node_condition}, specs.Building.joint_node}
+use Rattle.ct_rewrite.{specs.Joining.is_no_literal, specs.Rules.{is_literal, are_no_literals, has_no_literals}, proofs.Nodes.read-append}
 use Rattle.ct_rewrite.proofs.Building.{compared}
+use Rattle.ct_word.specs.declared.connectives.Connective.TheVariants as connective
 
 -- a node that was put behind the others
 pub inserted_literals : (ns : List Node) (n : Node) → IsTrue (list_all has_no_literals (read_nodes [] ns)) → IsTrue (has_no_literals (node_value ns n))

@@ -1,31 +1,17 @@
 -- What keeping nodes at new positions keeps.
 use Rattle.std.proofs.Common.{◌≡◌, ℕ, ◌+◌, ◌<◌, ◌≤◌, Bool, List, [], ◌∷◌, length, map, get_or, nat_lt, Some, None, refl, ap, sym, ◌∙◌, subst, arith, length-append}
-use Rattle.std.specs.Prelude.{IsTrue, Option, slice_get, unwrap_or}
-use Rattle.std.specs.List.{AllByRecursion, list_all, AllZip, IsDistinct}
-use Rattle.std.specs.Ordering.{nat_cmp}
-use Rattle.std.specs.BTreeMap.{BTreeMap, Updates}
-use Rattle.std.proofs.lemmas.Bool.{and_parts, and_from, ltb-true, lt-ltb}
-use Rattle.std.proofs.lemmas.Option.{slice_get-get_or}
+use Rattle.std.{specs.Prelude.{IsTrue, Option, slice_get, unwrap_or}, specs.List.{AllByRecursion, list_all, AllZip, IsDistinct}, specs.Ordering.nat_cmp}
+use Rattle.std.{specs.BTreeMap.{BTreeMap, Updates}, proofs.lemmas.Bool.{and_parts, and_from, ltb-true, lt-ltb}, proofs.lemmas.Option.slice_get-get_or}
 use Rattle.ct_word.specs.Condition.{And, Or, listed}
-use Rattle.ct_rewrite.specs.declared.answer.Node.{Node}
-use Rattle.ct_rewrite.specs.declared.answer.Node.TheVariants as node
+use Rattle.ct_rewrite.{specs.declared.answer.Node.Node, specs.Below.{IsClosedFrom, IsDownward, IsFirstFrom, HasAt, has_at}, specs.Building.Grows}
 use Rattle.ct_rewrite.specs.Nodes.{IsOrdered, children_of, is_position, stands_over, nth, read_nodes, node_value, node_condition, same_node}
-use Rattle.ct_rewrite.specs.Below.{IsClosedFrom, IsDownward, IsFirstFrom, HasAt, has_at}
-use Rattle.ct_rewrite.specs.Building.{Grows}
-use Rattle.ct_rewrite.specs.Moving.{children_of_one, children_at, moved_to, moved_node, IsKept}
-use Rattle.ct_rewrite.specs.Rules.{has_no_literals, is_proper, are_distinct}
-use Rattle.ct_rewrite.proofs.Nodes.{condition_of_position, condition_stays, stands_at, below_more}
-use Rattle.ct_rewrite.proofs.Closing.{all_have, have_parts, have_more}
-use Rattle.ct_rewrite.proofs.Literals.{literals_at}
-use Rattle.ct_rewrite.proofs.Rules.{proper_at, moved_proper, children_distinct}
-use Rattle.ct_rewrite.proofs.Distinct.{distinct_mapped, one_condition}
+use Rattle.ct_rewrite.{specs.Moving.{children_of_one, children_at, moved_to, moved_node, IsKept}, specs.Rules.{has_no_literals, is_proper, are_distinct}}
+use Rattle.ct_rewrite.{proofs.Nodes.{condition_of_position, condition_stays, stands_at, below_more}, proofs.Closing.{all_have, have_parts, have_more}}
+use Rattle.ct_rewrite.{proofs.Literals.literals_at, proofs.Rules.{proper_at, moved_proper, children_distinct}, proofs.Distinct.{distinct_mapped, one_condition}}
+use Rattle.ct_rewrite.specs.declared.answer.Node.TheVariants as node
 
 pub node_there : (nodes : List Node) (i : ℕ) (n : Node) → i < length nodes → n ≡ get_or nodes i n → slice_get nodes i ≡ Some n
 node_there nodes i n lt e = slice_get-get_or nodes i n lt ∙ ap Some (sym e)
-
--- the children of the node that was read at a position
-pub children_read : (nodes : List Node) (i : ℕ) (n : Node) (ks : List ℕ) → i < length nodes → n ≡ get_or nodes i n → ks ≡ children_of n → children_at nodes i ≡ ks
-children_read nodes i n ks lt is e = ap children_of_one (node_there nodes i n lt is) ∙ sym e
 
 -- nodes name lower ones
 pub nodes_downward : (nodes : List Node) (count : ℕ) → IsOrdered nodes → count ≡ length nodes → IsDownward (is_position nodes) (children_at nodes) count

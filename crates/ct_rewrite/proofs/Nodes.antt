@@ -1,28 +1,20 @@
 -- A node list keeps what its positions are when nodes are put at its end.
 use Rattle.std.proofs.Common.{◌≡◌, ℕ, zero, suc, ◌+◌, ◌<◌, ◌≤◌, true, ◌&&◌, List, [], ◌∷◌, ◌++◌, length, map, get_or, take, drop, Some, nat_lt, refl, ap, sym, ◌∙◌, subst, arith, length-append}
-use Rattle.std.specs.Prelude.{slice_get, IsTrue}
-use Rattle.std.specs.List.{list_all}
-use Rattle.std.specs.Cmp.Lexicographic.{same_text}
-use Rattle.std.proofs.lemmas.Bool.{and_parts, and_from, ltb-true, lt-ltb, false≢true}
-use Rattle.std.proofs.lemmas.List.{take-append-drop}
-use Rattle.std.proofs.lemmas.Option.{slice_get-get_or}
-use Rattle.ct_word.specs.declared.values.Value.{Value}
+use Rattle.std.{specs.Prelude.{slice_get, IsTrue}, specs.List.list_all, specs.Cmp.Lexicographic.same_text, proofs.lemmas.List.take-append-drop}
+use Rattle.std.{proofs.lemmas.Bool.{and_parts, and_from, ltb-true, lt-ltb, false≢true}, proofs.lemmas.Option.slice_get-get_or}
+use Rattle.ct_word.{specs.declared.values.Value.Value, specs.declared.values.Null.Null, specs.declared.values.Term.Term, proofs.Alike.term_decides}
+use Rattle.ct_word.{specs.Condition.{Condition, And, Or, listed}, proofs.Items.all_implied}
+use Rattle.ct_rewrite.specs.declared.answer.Node.{Node}
+use Rattle.ct_rewrite.specs.Nodes.{nth, condition_of_node, read_nodes, node_value, node_condition, stands_over, are_ordered_from, IsOrdered, same_node}
 use Rattle.ct_word.specs.declared.values.Value.TheVariants as val
-use Rattle.ct_word.specs.declared.values.Null.{Null}
 use Rattle.ct_word.specs.declared.values.Null.TheVariants as null
-use Rattle.ct_word.specs.declared.values.Term.{Term}
 use Rattle.ct_word.specs.declared.values.Term.TheVariants as term
 use Rattle.ct_word.specs.Value as word
-use Rattle.ct_word.specs.Condition.{Condition, And, Or, listed}
-use Rattle.ct_rewrite.specs.declared.answer.Node.{Node}
 use Rattle.ct_rewrite.specs.declared.answer.Node.TheVariants as node
 use Rattle.ct_rewrite.specs.contracts.answer.NodePartialEq.TheImpl as node_eq
 use Rattle.ct_word.specs.contracts.values.TermPartialEq.TheImpl as term_eq
 use Rattle.ct_word.specs.contracts.values.NullPartialEq.TheImpl as null_eq
 use Rattle.ct_word.specs.contracts.values.ValuePartialEq.TheImpl as value_eq
-use Rattle.ct_word.proofs.Alike.{term_decides}
-use Rattle.ct_word.proofs.Items.{all_implied}
-use Rattle.ct_rewrite.specs.Nodes.{nth, condition_of_node, read_nodes, node_value, node_condition, stands_over, are_ordered_from, IsOrdered, same_node}
 
 pub read-append : (cs : List Condition) (ns ms : List Node) → read_nodes cs (ns ++ ms) ≡ read_nodes (read_nodes cs ns) ms
 read-append cs [] ms = refl

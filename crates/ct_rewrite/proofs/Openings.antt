@@ -1,22 +1,14 @@
 -- When conditions leave a connective open.
 use Rattle.std.proofs.Common.{◌≡◌, ℕ, zero, suc, ◌+◌, ◌<◌, Bool, true, false, not, ◌&&◌, ◌||◌, List, [], ◌∷◌, length, map, take, drop, get_or, nat_lt, nat_eq, insert, refl, ap, sym, ◌∙◌, subst, arith}
-use Rattle.std.specs.Prelude.{IsTrue}
-use Rattle.std.specs.List.{list_all, list_any}
+use Rattle.std.{specs.Prelude.IsTrue, specs.List.{list_all, list_any}, proofs.lemmas.List.take-append-drop}
 use Rattle.std.proofs.lemmas.Bool.{and_parts, and_from, ltb-true, eqb-true, false≢true, false_from_ne_true, both_ways}
-use Rattle.std.proofs.lemmas.List.{take-append-drop}
 use Rattle.std.proofs.lemmas.List.Folds.{list_all-append, list_all_more}
-use Rattle.ct_word.specs.declared.values.Value.{Value}
-use Rattle.ct_word.specs.Value.{World}
-use Rattle.ct_word.specs.Condition.{Condition, holds, all_hold, any_holds, listed}
-use Rattle.ct_rewrite.specs.declared.answer.Node.{Node}
-use Rattle.ct_word.specs.declared.connectives.Connective.{Connective}
-use Rattle.ct_word.specs.declared.connectives.Connective.TheVariants as connective
-use Rattle.ct_rewrite.specs.Nodes.{nth, node_condition, node_value, stands_over, is_position, children_of}
-use Rattle.ct_rewrite.specs.Building.{Says, joint_node}
-use Rattle.ct_word.specs.Connective.{joined, join, open_by}
-use Rattle.ct_word.proofs.Joins.{joined_holds}
-use Rattle.ct_rewrite.proofs.Nodes.{below_more}
+use Rattle.ct_word.{specs.declared.values.Value.Value, specs.Value.World, specs.Condition.{Condition, holds, all_hold, any_holds, listed}}
+use Rattle.ct_word.{specs.declared.connectives.Connective.Connective, specs.Connective.{joined, join, open_by}, proofs.Joins.joined_holds}
+use Rattle.ct_rewrite.{specs.declared.answer.Node.Node, specs.Nodes.{nth, node_condition, node_value, stands_over, is_position, children_of}}
+use Rattle.ct_rewrite.{specs.Building.{Says, joint_node}, proofs.Nodes.below_more}
 use Rattle.ct_rewrite.specs.Joining.{leaves_open, all_open, node_open, NeverBothOpen, StandFor, Settle, HasMembersOf}
+use Rattle.ct_word.specs.declared.connectives.Connective.TheVariants as connective
 
 module _ (v : World) (row : List Value) (f : ℕ → Condition) where
   all_hold_is : (ks : List ℕ) → all_hold v row (listed (map f ks)) ≡ list_all (λ k. holds v row (f k)) ks

@@ -1,20 +1,13 @@
 -- What is kept of the nodes that the printed form allows.
-use Rattle.std.proofs.Common.{◌≡◌, ℕ, zero, suc, ◌+◌, ◌≤◌, true, ◌&&◌, List, [], ◌∷◌, length, map, Some, refl, sym, subst, arith}
-use Rattle.std.specs.Prelude.{IsTrue, slice_get, sum_by}
-use Rattle.std.specs.List.{list_all}
-use Rattle.std.specs.BTreeMap.{BTreeMap}
-use Rattle.std.proofs.lemmas.Bool.{and_parts, and_from}
-use Rattle.std.proofs.lemmas.List.{length-map}
+use Rattle.std.{proofs.Common.{◌≡◌, ℕ, zero, suc, ◌+◌, ◌≤◌, true, ◌&&◌, List, [], ◌∷◌, length, map, Some, refl, sym, subst, arith}, specs.List.list_all}
+use Rattle.std.{specs.Prelude.{IsTrue, slice_get, sum_by}, specs.BTreeMap.BTreeMap, proofs.lemmas.Bool.{and_parts, and_from}, proofs.lemmas.List.length-map}
 use Rattle.std.proofs.lemmas.List.Sums.{sum_by-cons}
-use Rattle.ct_rewrite.specs.declared.answer.Node.{Node}
-use Rattle.ct_rewrite.specs.declared.answer.Node.TheVariants as node
-use Rattle.ct_word.specs.declared.connectives.Connective.{Connective}
-use Rattle.ct_word.specs.declared.connectives.Connective.TheVariants as connective
-use Rattle.ct_rewrite.specs.Nodes.{children_of}
-use Rattle.ct_rewrite.specs.Building.{joint_node}
-use Rattle.ct_rewrite.specs.Joining.{HasNoMoreThan}
+use Rattle.ct_rewrite.{specs.declared.answer.Node.Node, specs.Nodes.children_of, specs.Building.joint_node, specs.Joining.HasNoMoreThan}
 use Rattle.ct_rewrite.specs.Moving.{moved_to, moved_node}
 use Rattle.ct_rewrite.specs.Rules.{is_count_of_children, is_proper, are_children_within, are_sides_in_order, is_unsettled, are_distinct, are_children_distinct}
+use Rattle.ct_word.specs.declared.connectives.Connective.{Connective}
+use Rattle.ct_rewrite.specs.declared.answer.Node.TheVariants as node
+use Rattle.ct_word.specs.declared.connectives.Connective.TheVariants as connective
 
 counted : (xs : List ℕ) → sum_by (λ x. 1) xs ≡ length xs
 counted [] = refl

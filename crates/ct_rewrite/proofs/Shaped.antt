@@ -1,19 +1,12 @@
 -- What the words of conditions stand for.
-use Rattle.std.proofs.Common.{◌≡◌, ℕ, ◌<◌, List, [], ◌∷◌, length, nat_lt, Some, None, refl, ap, arith}
-use Rattle.std.specs.Prelude.{IsTrue, slice_get, Option}
-use Rattle.std.specs.List.{AllByRecursion, list_all}
-use Rattle.std.proofs.lemmas.Bool.{false≢true, and_from, lt-ltb}
-use Rattle.ct_word.specs.declared.kinds.Kind.{Kind}
+use Rattle.std.{proofs.Common.{◌≡◌, ℕ, ◌<◌, List, [], ◌∷◌, length, nat_lt, Some, None, refl, ap, arith}, specs.Prelude.{IsTrue, slice_get, Option}}
+use Rattle.std.{specs.List.{AllByRecursion, list_all}, proofs.lemmas.Bool.{false≢true, and_from, lt-ltb}}
+use Rattle.ct_word.{specs.declared.kinds.Kind.Kind, specs.Word.{kind_of, left_of, right_of}, specs.Reading.as_cond, specs.WordAt.IsWordAt}
+use Rattle.ct_word.{specs.WellFormed.{IsWellFormed, is_place_of, is_word_of, has_class, same_class, class_of}, proofs.Growth.place_within}
+use Rattle.ct_word.proofs.WordAt.{word_is}
+use Rattle.ct_rewrite.{specs.Shape.{shape_of, shape_of_word, shape_at, parts_at, IsEarlier, IsShaped}, specs.Below.IsDownward}
 use Rattle.ct_word.specs.declared.kinds.Kind.TheVariants as kind
 use Rattle.ct_word.specs.declared.kinds.Class.TheVariants as class
-use Rattle.ct_word.specs.Word.{kind_of, left_of, right_of}
-use Rattle.ct_word.specs.WellFormed.{IsWellFormed, is_place_of, is_word_of, has_class, same_class, class_of}
-use Rattle.ct_word.specs.Reading.{as_cond}
-use Rattle.ct_word.specs.WordAt.{IsWordAt}
-use Rattle.ct_rewrite.specs.Shape.{shape_of, shape_of_word, shape_at, parts_at, IsEarlier, IsShaped}
-use Rattle.ct_rewrite.specs.Below.{IsDownward}
-use Rattle.ct_word.proofs.Growth.{place_within}
-use Rattle.ct_word.proofs.WordAt.{word_is}
 
 module _ (ws : List ℕ) (p : ℕ) where
   earlier : (a : ℕ) → (a < p) × IsTrue (is_place_of ws class.Cond a) → IsEarlier ws p a

@@ -1,22 +1,15 @@
 -- The order of terms: two that differ stand in it one way.
-use Rattle.std.proofs.Common.{◌≡◌, Bool, true, false, ◌&&◌, ◌||◌, nat_eq, nat_lt, refl, ap, sym, ◌∙◌}
-use Rattle.std.specs.Prelude.{IsTrue, cond, ℕ, int_lt}
-use Rattle.std.specs.declared.cmp.Ordering.{Ordering}
-use Rattle.std.specs.declared.cmp.Ordering.TheVariants.{Less, Equal, Greater}
-use Rattle.std.specs.Ordering.{nat_cmp, int_cmp, ordering_then, ordering_reverse, is_lt, is_eq}
-use Rattle.std.specs.Cmp.{then_flip}
-use Rattle.std.proofs.lemmas.Bool.{false≢true}
-use Rattle.std.proofs.lemmas.Cmp.{nat_cmp_total, int_cmp_total, nat_list_cmp_total}
-use Rattle.std.proofs.lemmas.Map.Lookups.{exact_unsigned, exact_signed, exact_bytes}
-use Rattle.ct_word.specs.declared.values.Value.{Value}
-use Rattle.ct_word.specs.declared.values.Value.TheVariants as val
-use Rattle.ct_word.specs.declared.values.Null.{Null}
-use Rattle.ct_word.specs.declared.values.Null.TheVariants as null
-use Rattle.ct_word.specs.declared.values.Term.{Term}
-use Rattle.ct_word.specs.declared.values.Term.TheVariants as term
+use Rattle.std.{proofs.Common.{◌≡◌, Bool, true, false, ◌&&◌, ◌||◌, nat_eq, nat_lt, refl, ap, sym, ◌∙◌}, specs.Prelude.{IsTrue, cond, ℕ, int_lt}}
+use Rattle.std.{specs.declared.cmp.Ordering.Ordering, specs.declared.cmp.Ordering.TheVariants.{Less, Equal, Greater}, specs.Cmp.then_flip}
+use Rattle.std.{specs.Ordering.{nat_cmp, int_cmp, ordering_then, ordering_reverse, is_lt, is_eq}, proofs.lemmas.Bool.false≢true}
+use Rattle.std.{proofs.lemmas.Cmp.{nat_cmp_total, int_cmp_total, nat_list_cmp_total}, proofs.lemmas.Map.Lookups.{exact_unsigned, exact_signed, exact_bytes}}
+use Rattle.ct_word.{specs.declared.values.Value.Value, specs.declared.values.Null.Null, specs.declared.values.Term.Term}
 use Rattle.ct_rewrite.specs.Order.{null_order, value_order, term_order, is_before}
+use Rattle.ct_word.specs.declared.values.Value.TheVariants as val
+use Rattle.ct_word.specs.declared.values.Null.TheVariants as null
+use Rattle.ct_word.specs.declared.values.Term.TheVariants as term
 
-null_turned : (m n : Null) → null_order m n ≡ ordering_reverse (null_order n m)
+pub null_turned : (m n : Null) → null_order m n ≡ ordering_reverse (null_order n m)
 null_turned (null.Named t) (null.Named u) = nat_list_cmp_total.antisymm t u
 null_turned (null.Fresh s m) (null.Fresh t n) = (λ i. ordering_then (nat_cmp_total.antisymm s t i) (nat_cmp_total.antisymm m n i)) ∙ then_flip _ _
 null_turned _ _ = refl
@@ -38,7 +31,7 @@ both_equal Equal b e = (refl, e)
 both_equal Less b e = absurd (false≢true (ap is_eq e))
 both_equal Greater b e = absurd (false≢true (ap is_eq e))
 
-exact_null : (m n : Null) → null_order m n ≡ Equal → m ≡ n
+pub exact_null : (m n : Null) → null_order m n ≡ Equal → m ≡ n
 exact_null (null.Named t) (null.Named u) e = ap null.Named (exact_bytes t u e)
 exact_null (null.Fresh s m) (null.Fresh t n) e = let p = both_equal _ _ e in λ i. null.Fresh (exact_unsigned s t p.0 i) (exact_unsigned m n p.1 i)
 exact_null _ _ e = absurd (false≢true (ap is_eq e))

@@ -1,21 +1,10 @@
 -- What the forms of conditions say.
 use Rattle.std.proofs.Common.{◌≡◌, ℕ, ◌<◌, Bool, true, false, not, List, ◌++◌, length, refl, ap, sym, ◌∙◌, subst, arith, length-append}
-use Rattle.ct_word.specs.declared.values.Value.{Value}
-use Rattle.ct_word.specs.declared.values.Term.{Term}
-use Rattle.ct_word.specs.Value.{World}
-use Rattle.ct_word.specs.Condition.{Condition, Same, Not, holds, SameTruth}
-use Rattle.ct_rewrite.specs.declared.answer.Node.{Node}
-use Rattle.ct_word.specs.declared.connectives.Connective.{Connective}
+use Rattle.ct_word.{specs.declared.values.Value.Value, specs.declared.values.Term.Term, specs.Value.World, specs.declared.connectives.Connective.Connective}
+use Rattle.ct_word.{specs.Condition.{Condition, Same, Not, holds, SameTruth}, specs.Connective.{joined, join, dual}, proofs.Joins.{joined_holds, denied_join}}
+use Rattle.ct_rewrite.{specs.declared.answer.Node.Node, specs.declared.forms.Form.Form, specs.Nodes.node_condition, specs.Building.{Grows, Says, literal}}
+use Rattle.ct_rewrite.{specs.Signs.IsForm, specs.Sizes.Fits, proofs.Nodes.condition_stays, proofs.Sizes.{fits_as, literal_fits}}
 use Rattle.ct_word.specs.declared.connectives.Connective.TheVariants as connective
-use Rattle.ct_rewrite.specs.declared.forms.Form.{Form}
-use Rattle.ct_rewrite.specs.Nodes.{node_condition}
-use Rattle.ct_rewrite.specs.Building.{Grows, Says, literal}
-use Rattle.ct_word.specs.Connective.{joined, join, dual}
-use Rattle.ct_word.proofs.Joins.{joined_holds, denied_join}
-use Rattle.ct_rewrite.specs.Signs.{IsForm}
-use Rattle.ct_rewrite.specs.Sizes.{Fits}
-use Rattle.ct_rewrite.proofs.Nodes.{condition_stays}
-use Rattle.ct_rewrite.proofs.Sizes.{fits_as, literal_fits}
 
 longer : (ns ms added : List Node) (k : ℕ) → ms ≡ ns ++ added → k < length ns → k < length ms
 longer ns ms added k e lt = subst (λ (xs : List Node). k < length xs) (sym e) (omega (arith, length-append ns added))

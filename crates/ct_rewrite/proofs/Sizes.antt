@@ -1,20 +1,14 @@
 -- How long and how deep the conditions of nodes are.
 use Rattle.std.proofs.Common.{◌≡◌, ℕ, ◌+◌, ◌≤◌, Bool, true, false, ◌&&◌, List, [], ◌∷◌, ◌++◌, length, map, nat_le, insert, refl, ap, sym, ◌∙◌, subst, arith, length-append}
-use Rattle.std.specs.Prelude.{IsTrue, codes, max, sum_by}
-use Rattle.std.specs.List.{list_all}
-use Rattle.std.proofs.lemmas.Bool.{and_parts, and_from, le-leb, leb-true}
+use Rattle.std.{specs.Prelude.{IsTrue, codes, max, sum_by}, specs.List.list_all, proofs.lemmas.Bool.{and_parts, and_from, le-leb, leb-true}}
 use Rattle.std.proofs.lemmas.List.Sums.{sum_by-cons, sum_by-insert}
-use Rattle.ct_word.specs.declared.values.Term.{Term}
-use Rattle.ct_word.specs.Condition.{Condition, True, False, Same, Not, And, Or, listed}
-use Rattle.ct_rewrite.specs.declared.answer.Node.{Node}
-use Rattle.ct_word.specs.declared.connectives.Connective.{Connective}
-use Rattle.ct_word.specs.declared.connectives.Connective.TheVariants as connective
-use Rattle.ct_rewrite.specs.Nodes.{nth, condition_of_node, read_nodes, node_condition, node_value}
+use Rattle.ct_word.{specs.declared.values.Term.Term, specs.Condition.{Condition, True, False, Same, Not, And, Or, listed}, specs.Connective.joined}
+use Rattle.ct_word.{specs.declared.connectives.Connective.Connective, proofs.Items.all_implied}
+use Rattle.ct_rewrite.{specs.declared.answer.Node.Node, specs.Nodes.{nth, condition_of_node, read_nodes, node_condition, node_value}}
 use Rattle.ct_rewrite.specs.Building.{literal, joint_node}
-use Rattle.ct_word.specs.Connective.{joined}
-use Rattle.ct_word.proofs.Items.{all_implied}
 use Rattle.ct_rewrite.specs.Joining.{HasMembersOf, HasNoMoreThan, AreNoLarger, IsNoLarger, bytes_under, gap, nests_within}
 use Rattle.ct_rewrite.specs.Sizes.{as_part, text_of, text_of_parts, text_of_others, nest_of, nest_of_parts, wide, deep, part_length, part_nest, Fits}
+use Rattle.ct_word.specs.declared.connectives.Connective.TheVariants as connective
 
 three_texts : (a b c : List ℕ) → length (a ++ b ++ c) ≡ length a + length b + length c
 three_texts a b c = omega (arith, length-append (a ++ b) c, length-append a b)
@@ -40,10 +34,6 @@ literal_fits true true = record { short = λ texts some. omega arith; shallow = 
 literal_fits true false = record { short = λ texts some. omega arith; shallow = omega arith }
 literal_fits false true = record { short = λ texts some. omega arith; shallow = omega arith }
 literal_fits false false = record { short = λ texts some. omega arith; shallow = omega arith }
-
-pub literal_fits_equal : (b : Bool) (s t : Term) → Fits (literal b) (Same s t)
-literal_fits_equal true s t = record { short = λ texts some. omega (arith, some s, some t); shallow = omega arith }
-literal_fits_equal false s t = record { short = λ texts some. omega (arith, some s, some t); shallow = omega arith }
 
 module _ (s t u w : Term) (both : (f : Term → ℕ) → f u + f w ≡ f s + f t) where
   pub equal_fits : Fits (Same u w) (Same s t)
@@ -124,29 +114,9 @@ children_no_larger j ns k n ks value e =
       shallow = nests_down (node_condition ns) _ ks (omega (arith, ap part_nest whole, joint_nest j (read_nodes [] ns) ks));
     }
 
-pub alone_no_larger : (j : Connective) (ns : List Node) (k : ℕ) → AreNoLarger j ns (k ∷ []) k
-alone_no_larger j ns k = record {
-  short = λ texts. omega (arith, sum_by-cons (λ i. part_length texts (node_condition ns i) + gap j) k []);
-  shallow = and_from _ true (le-leb (part_nest (node_condition ns k)) _ (omega arith)) refl;
-}
-
-pub nothing_no_larger : (j : Connective) (ns : List Node) (k : ℕ) → AreNoLarger j ns [] k
-nothing_no_larger j ns k = record { short = λ texts. omega arith; shallow = refl }
-
 -- items of lists of children
 pub no_more_than_inserted : (ks : List ℕ) (i c : ℕ) → HasNoMoreThan (insert ks i c) ks (c ∷ [])
 no_more_than_inserted ks i c f = omega (arith, sum_by-insert f ks i c, sum_by-cons f c [])
-
--- the position of no children, of one, and of more
-pub none_no_larger : (j : Connective) (old new : List Node) (k : ℕ) (b : Bool) → node_condition new k ≡ literal b → IsNoLarger j old new k []
-none_no_larger j old new k true e = record { short = λ texts most five le. omega (arith, five, ap (part_length texts) e); shallow = λ most h. omega (arith, ap part_nest e) }
-none_no_larger j old new k false e = record { short = λ texts most five le. omega (arith, five, ap (part_length texts) e); shallow = λ most h. omega (arith, ap part_nest e) }
-
-pub only_no_larger : (j : Connective) (ns : List Node) (k : ℕ) → IsNoLarger j ns ns k (k ∷ [])
-only_no_larger j ns k = record {
-  short = λ texts most five le. omega (arith, le, sum_by-cons (λ i. part_length texts (node_condition ns i) + gap j) k []);
-  shallow = λ most h. omega (arith, leb-true (part_nest (node_condition ns k)) most (and_parts (nests_within ns most k) true h).0);
-}
 
 pub joint_no_larger : (j : Connective) (old new : List Node) (ks read : List ℕ) (n : Node) (k : ℕ) → read ≡ ks → n ≡ joint_node j read → node_condition new k ≡ node_value old n → IsNoLarger j old new k ks
 joint_no_larger j old new ks read n k e f value =
@@ -167,11 +137,6 @@ deep_joined connective.Or c d = refl
 small_gap : (j : Connective) → gap j ≤ 5
 small_gap connective.And = omega arith
 small_gap connective.Or = omega arith
-
--- a truth that settles a connective
-pub literal_fits_joined : (b : Bool) (j : Connective) (c d : Condition) → Fits (literal b) (joined j c d)
-literal_fits_joined true j c d = record { short = λ texts some. omega (arith, wide_joined (λ t. length (texts t)) j c d); shallow = omega arith }
-literal_fits_joined false j c d = record { short = λ texts some. omega (arith, wide_joined (λ t. length (texts t)) j c d); shallow = omega arith }
 
 -- what two forms bring, together
 pub joined_fits : (j : Connective) (old new : List Node) (a b k : ℕ) (left right read all : List ℕ) → read ≡ right → AreNoLarger j old left a → AreNoLarger j old right b

@@ -20,4 +20,5 @@ mod terms;
 pub use answer::{AnswerRow, CertainRow, Node, PossibleRow};
 pub use form::Normal;
 pub use history::{Change, Commit};
+pub use order::compare_nulls;
 pub use printed::normal;

@@ -33,7 +33,7 @@ fn class_of_value(x: &Value) -> u8
 }
 
 /// The order of nulls: named ones by the bytes of their names, then fresh ones by session and number.
-fn compare_nulls(m: &Null, n: &Null) -> Ordering
+pub fn compare_nulls(m: &Null, n: &Null) -> Ordering
     ensures { result ≡ null_order m.now n.now }
 {
     match (m, n) {

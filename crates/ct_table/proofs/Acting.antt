@@ -1,45 +1,25 @@
 -- Tables go on denoting a history and further actions, by the operator's contract, as one action more is done.
 use Rattle.std.proofs.Common.{◌≡◌, ℕ, Bool, true, false, not, List, [], ◌∷◌, ◌++◌, map, length, refl, ap, sym, subst, ◌∙◌, inl, inr}
-use Rattle.std.specs.Prelude.{◌⊎◌, Option, Some, None, All, filter, option_and_then, if◌then◌else◌}
-use Rattle.std.specs.List.{Contains, AllByRecursion}
+use Rattle.std.{specs.Prelude.{◌⊎◌, Option, Some, None, All, filter, option_and_then, if◌then◌else◌}, specs.List.{Contains, AllByRecursion}}
 use Rattle.std.proofs.lemmas.List.{append-nil}
 use Rattle.std.proofs.lemmas.List.Elements.{All-contains, All-contains_itself, All-from_recursion, recursion_from_All, Contains-push, Contains-append_left}
-use mathlib.Core.List.{IsPrefix}
-use Rattle.ct_word.specs.declared.values.Term.{Term}
-use Rattle.ct_word.specs.declared.values.CRow.{CRow}
-use Rattle.ct_word.specs.Value.{World, same_text, tuple_at}
-use Rattle.ct_word.specs.Condition.{Condition, SameTruth, holds, holds_at}
-use Rattle.ct_word.specs.Sublist.{IsSublist}
-use Rattle.ct_word.specs.WellFormed.{IsWellFormed}
-use Rattle.ct_word.specs.Change.{PlainRow, PlainCommit}
-use Rattle.ct_word.specs.Reading.{condition_at, term_at, plain_crow}
-use Rattle.ct_word.specs.Stands.{TermBelow}
-use Rattle.ct_query.specs.Plain as plain
-use Rattle.ct_query.specs.Plain.{PlainQuery, PlainAction}
-use Rattle.ct_query.specs.declared.action.Read.TheVariants as read
-use Rattle.ct_query.specs.Database.{Database, SameSet, with_tuples}
-use Rattle.ct_query.specs.Rows.{rows}
-use Rattle.ct_query.specs.Step.{inserted, step_action}
-use Rattle.ct_query.specs.Worlds.{world}
-use Rattle.ct_query.specs.Patterns.{patterns, pattern, query_pattern}
-use Rattle.ct_query.specs.Reads.{tables_of, query_reads, action_reads}
-use Rattle.ct_query.specs.Agrees.{SameTruthAlone}
-use Rattle.ct_query.specs.Terms.{condition_terms, query_terms, action_terms}
-use Rattle.ct_query.specs.Frame.{reads_of_actions}
-use Rattle.ct_query.proofs.Laws.{patterns_action}
-use Rattle.ct_query.proofs.Sets.{same_set_itself, same_set_on}
-use Rattle.ct_query.proofs.Sublists.{all_of, sublist_of_sublist}
+use Rattle.ct_word.{specs.declared.values.Term.Term, specs.declared.values.CRow.CRow, specs.Value.{World, same_text, tuple_at}, specs.Sublist.IsSublist}
+use Rattle.ct_word.{specs.Condition.{Condition, SameTruth, holds, holds_at}, specs.WellFormed.IsWellFormed, specs.Change.{PlainRow, PlainCommit}}
+use Rattle.ct_word.{specs.Reading.{condition_at, term_at, plain_crow}, specs.Stands.TermBelow}
+use Rattle.ct_query.{specs.Plain.{PlainQuery, PlainAction}, specs.Database.{Database, SameSet, with_tuples}, specs.Rows.rows, specs.Worlds.world}
+use Rattle.ct_query.{specs.Step.{inserted, step_action}, specs.Patterns.{patterns, pattern, query_pattern}, specs.Reads.{tables_of, query_reads, action_reads}}
+use Rattle.ct_query.{specs.Agrees.SameTruthAlone, specs.Terms.{condition_terms, query_terms, action_terms}, specs.Frame.reads_of_actions}
+use Rattle.ct_query.{proofs.Laws.patterns_action, proofs.Sets.{same_set_itself, same_set_on}, proofs.Sublists.{all_of, sublist_of_sublist}}
 use Rattle.ct_query.proofs.Within.{of_added}
-use Rattle.ct_operators.specs.Tables.{cells_of, value_of_rows, AreRows}
-use Rattle.ct_operators.specs.Terms.{TermOfRows, RowsFrom, IsNoColumn}
-use Rattle.ct_table.specs.Denotes.{TableView, value_of_tables, IsTermFor, by_change, by_action, Denotes, find_table, with_table}
-use Rattle.ct_table.specs.Following.{Follows}
+use Rattle.ct_operators.{specs.Tables.{cells_of, value_of_rows, AreRows}, specs.Terms.{TermOfRows, RowsFrom, IsNoColumn}, proofs.Naming.{mapped, given}}
 use Rattle.ct_operators.proofs.Reaching.{first_or_behind, from_rows, behind}
-use Rattle.ct_table.proofs.Following.{action_follows, more_read, lines_here}
-use Rattle.ct_table.proofs.Denoting.{empty_table, with_rows}
+use Rattle.ct_table.{specs.Denotes.{TableView, value_of_tables, IsTermFor, by_change, by_action, Denotes, find_table, with_table}, specs.Following.Follows}
+use Rattle.ct_table.{proofs.Following.{action_follows, more_read, lines_here}, proofs.Denoting.{empty_table, with_rows}}
 use Rattle.ct_table.proofs.ByTables.{cells_found, means_by_tables, pattern_by_tables}
-use Rattle.ct_operators.proofs.Naming.{mapped, given}
 use Rattle.ct_table.proofs.Changing.{found_from, created_after, inserted_after, deleted_after, asserted_after}
+use mathlib.Core.List.{IsPrefix}
+use Rattle.ct_query.specs.Plain as plain
+use Rattle.ct_query.specs.declared.action.Read.TheVariants as read
 
 -- nothing is inserted
 nothing_inserted : (w : Database) (n : List ℕ) → inserted w n [] ≡ w

@@ -1,22 +1,13 @@
 -- The terms that tables and the global condition bring are among those that a statement asks about.
 use Rattle.std.proofs.Common.{◌≡◌, Bool, true, false, ◌||◌, List, [], ◌∷◌, ◌++◌, cond, refl, ap, sym, subst, ◌∙◌, arith, inl, inr}
-use Rattle.std.specs.Prelude.{◌⊎◌, filter, flat_map, if◌then◌else◌}
-use Rattle.std.specs.List.{Contains, list_any}
-use Rattle.std.proofs.lemmas.Bool.{false≢true, or_left, or_right}
+use Rattle.std.{specs.Prelude.{◌⊎◌, filter, flat_map, if◌then◌else◌}, specs.List.{Contains, list_any}, proofs.lemmas.Bool.{false≢true, or_left, or_right}}
 use Rattle.std.proofs.lemmas.List.Elements.{Contains-append_left, Contains-append_right}
-use Rattle.ct_word.specs.declared.values.Term.{Term}
-use Rattle.ct_word.specs.Value.{same_term}
-use Rattle.ct_word.specs.Change.{PlainCommit}
-use Rattle.ct_word.proofs.Alike.{term_decides}
-use Rattle.ct_query.specs.Plain.{PlainAction, PlainStatement}
-use Rattle.ct_query.specs.declared.action.Read.{Read}
-use Rattle.ct_query.specs.Worlds.{changes_of}
-use Rattle.ct_query.specs.Reads.{reads_of, writes}
+use Rattle.ct_word.{specs.declared.values.Term.Term, specs.Value.same_term, specs.Change.PlainCommit, proofs.Alike.term_decides}
+use Rattle.ct_query.{specs.Plain.{PlainAction, PlainStatement}, specs.declared.action.Read.Read, specs.Worlds.changes_of, specs.Reads.{reads_of, writes}}
 use Rattle.ct_query.specs.Frame.{reads_of_actions}
 use Rattle.ct_query.specs.Terms.{change_terms, action_terms, statement_terms, distinct_terms, changes_that_write, reads_with, terms_asked}
-use Rattle.ct_table.specs.Denotes.{IsTermFor, by_change, by_action}
-use Rattle.ct_operators.proofs.Reaching.{behind, foremost, first_or_behind}
-use Rattle.ct_operators.proofs.Naming.{given}
+use Rattle.ct_table.{specs.Denotes.{IsTermFor, by_change, by_action}, proofs.Entries.cases}
+use Rattle.ct_operators.{proofs.Reaching.{behind, foremost, first_or_behind}, proofs.Naming.given}
 
 module _ {A : Type 0} (p : A → Bool) where
   in_filter : (xs : List A) (x : A) → Contains xs x → p x ≡ true → Contains (filter p xs) x
@@ -39,10 +30,9 @@ module _ {A : Type 0} (p : A → Bool) where
 -- a term that is written alike is among them
 found_alike : (t : Term) (ts : List Term) → list_any (same_term t) ts ≡ true → Contains ts t
 found_alike t [] e = absurd (false≢true e)
-found_alike t (y ∷ ts) e = by_test (same_term t y) refl (found_alike t ts) where
-  by_test : (b : Bool) → same_term t y ≡ b → (list_any (same_term t) ts ≡ true → Contains ts t) → Contains (y ∷ ts) t
-  by_test true q rest = subst (Contains (y ∷ ts)) (sym ((term_decides t y).0 q)) (foremost y ts)
-  by_test false q rest = behind y ts t (rest (sym (ap (λ b. b || list_any (same_term t) ts) q) ∙ e))
+found_alike t (y ∷ ts) e = cases (same_term t y)
+    (λ q. subst (Contains (y ∷ ts)) (sym ((term_decides t y).0 q)) (foremost y ts))
+    (λ q. behind y ts t (found_alike t ts (sym (ap (λ b. b || list_any (same_term t) ts) q) ∙ e)))
 
 in_distinct : (ts : List Term) (u : Term) → Contains ts u → Contains (distinct_terms ts) u
 in_distinct [] u h = h

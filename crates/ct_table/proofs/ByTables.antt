@@ -1,31 +1,14 @@
 -- Queries over tables that are worth what a history and further actions make, and over these.
-use Rattle.std.proofs.Common.{◌≡◌, ℕ, ◌≤◌, Bool, true, false, List, [], ◌∷◌, map, length, refl, sym, subst, ◌∙◌, arith}
-use Rattle.std.specs.Prelude.{Option, Some, None, IfSome, if◌then◌else◌}
-use Rattle.std.specs.Option.{option_map_or}
-use Rattle.std.proofs.lemmas.List.{length-map}
-use Rattle.std.proofs.lemmas.List.Elements.{recursion_from_All}
-use Rattle.ct_word.specs.declared.values.Value.{Value}
-use Rattle.ct_word.specs.declared.values.CRow.{CRow}
-use Rattle.ct_word.specs.Value.{World, same_text}
-use Rattle.ct_word.specs.Sublist.{IsSublist}
-use Rattle.ct_word.specs.Change.{PlainCommit}
-use Rattle.ct_word.specs.Reading.{term_at}
-use Rattle.ct_query.specs.declared.schema.Count.{Count}
-use Rattle.ct_query.specs.Plain.{PlainQuery, PlainAction}
-use Rattle.ct_query.specs.Database.{Database, SameSet, SameDatabase}
-use Rattle.ct_query.specs.Rows.{rows}
-use Rattle.ct_query.specs.Worlds.{world}
-use Rattle.ct_query.specs.Patterns.{Patterns, patterns, pattern, query_pattern, count}
-use Rattle.ct_query.specs.Size.{size, rows_in}
+use Rattle.std.{proofs.Common.{◌≡◌, ℕ, ◌≤◌, Bool, true, false, List, [], ◌∷◌, map, length, refl, sym, subst, ◌∙◌, arith}, specs.Option.option_map_or}
+use Rattle.std.{specs.Prelude.{Option, Some, None, IfSome, if◌then◌else◌}, proofs.lemmas.List.length-map, proofs.lemmas.List.Elements.recursion_from_All}
+use Rattle.ct_word.{specs.declared.values.Value.Value, specs.declared.values.CRow.CRow, specs.Value.{World, same_text}, specs.Sublist.IsSublist}
+use Rattle.ct_word.{specs.Change.PlainCommit, specs.Reading.term_at}
+use Rattle.ct_query.{specs.declared.schema.Count.Count, specs.Plain.{PlainQuery, PlainAction}, specs.Database.{Database, SameSet, SameDatabase}}
+use Rattle.ct_query.{specs.Rows.rows, specs.Worlds.world, specs.Patterns.{Patterns, patterns, pattern, query_pattern, count}, specs.Size.{size, rows_in}}
+use Rattle.ct_query.{proofs.Sublists.{nothing_of, pattern_part}, proofs.Sets.same_set_on, proofs.SameRows.rows_same}
 use Rattle.ct_operators.specs.Tables.{cells_of}
-use Rattle.ct_table.specs.Denotes.{TableView, value_of_tables, IsKept, AreWorth, find_table}
-use Rattle.ct_query.proofs.Sublists.{nothing_of}
-use Rattle.ct_table.proofs.Denoting.{found_name, found_all}
-use Rattle.ct_query.proofs.Sets.{same_set_on}
-use Rattle.ct_query.proofs.SameRows.{rows_same}
-use Rattle.ct_query.proofs.Sublists.{pattern_part}
-use Rattle.ct_table.proofs.QuerySizes.{size_grows}
-use Rattle.ct_table.proofs.Counted.{rows_counted}
+use Rattle.ct_table.{specs.Denotes.{TableView, value_of_tables, IsKept, AreWorth, find_table}, proofs.Denoting.{found_name, found_all}}
+use Rattle.ct_table.{proofs.QuerySizes.size_grows, proofs.Counted.rows_counted}
 
 -- the cells of the rows of the table with a name; none for a name without a table
 abbrev pub cells_found : List ℕ → List TableView → Patterns

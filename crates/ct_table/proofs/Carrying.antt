@@ -1,36 +1,16 @@
 -- What tables denote, carried to other histories that say the same: of the same changes, of the same commits, or with a commit
 -- of changes that agree with the actions.
-use Rattle.std.proofs.Common.{◌≡◌, ℕ, List, [], ◌∷◌, ◌++◌, refl, ap, sym, subst, ◌∙◌}
-use Rattle.std.specs.Prelude.{Option, Some, None, IfSome, IsTrue, All, filter_map, option_and_then}
-use Rattle.std.specs.List.{Contains, list_all}
-use Rattle.std.proofs.lemmas.List.{append-nil}
-use Rattle.std.proofs.lemmas.List.Elements.{All-weaker}
-use Rattle.ct_word.specs.declared.values.Term.{Term}
-use Rattle.ct_word.specs.Value.{World}
-use Rattle.ct_word.specs.Sublist.{IsSublist}
-use Rattle.ct_word.specs.Writable.{is_writable}
-use Rattle.ct_word.specs.StandsFor.{SameCommits}
+use Rattle.std.{proofs.Common.{◌≡◌, ℕ, List, [], ◌∷◌, ◌++◌, refl, ap, sym, subst, ◌∙◌}, specs.List.{Contains, list_all}, proofs.lemmas.List.append-nil}
+use Rattle.std.{specs.Prelude.{Option, Some, None, IfSome, IsTrue, All, filter_map, option_and_then}, proofs.lemmas.List.Elements.All-weaker}
+use Rattle.ct_word.{specs.declared.values.Term.Term, specs.Value.World, specs.Sublist.IsSublist, specs.Writable.is_writable, specs.StandsFor.SameCommits}
 use Rattle.ct_word.specs.Change.{PlainCommit}
-use Rattle.ct_query.specs.Plain.{PlainAction, Table}
-use Rattle.ct_query.specs.declared.action.Read.{Read}
-use Rattle.ct_query.specs.declared.action.Read.TheVariants as read
-use Rattle.ct_query.specs.Database.{Database, Relation, SameRelation, SameDatabase}
-use Rattle.ct_query.specs.Worlds.{world, after_changes, changes_of}
-use Rattle.ct_query.specs.Patterns.{no_patterns, patterns, pattern_changes}
-use Rattle.ct_query.specs.Schema.{created_by_change}
-use Rattle.ct_query.specs.Agrees.{Agrees}
-use Rattle.ct_query.specs.Committed.{SameWorld}
-use Rattle.ct_query.proofs.Keeping.{same_keeps}
-use Rattle.ct_query.proofs.Committed.{commit_does}
-use Rattle.ct_query.proofs.Sets.{same_set_on}
+use Rattle.ct_query.{specs.Plain.{PlainAction, Table}, specs.declared.action.Read.Read, specs.Database.{Database, Relation, SameRelation, SameDatabase}}
+use Rattle.ct_query.{specs.Worlds.{world, after_changes, changes_of}, specs.Patterns.{no_patterns, patterns, pattern_changes}, specs.Schema.created_by_change}
+use Rattle.ct_query.{specs.Agrees.Agrees, specs.Committed.SameWorld, proofs.Keeping.same_keeps, proofs.Committed.commit_does, proofs.Sets.same_set_on}
 use Rattle.ct_query.proofs.Sublists.{all_of}
-use Rattle.ct_condition.specs.Terms.{TermsFrom}
 use Rattle.ct_operators.specs.Tables.{cells_of}
-use Rattle.ct_table.specs.Denotes.{TableView, value_of_tables, IsKept, AreWorth, IsTermFor, by_change, by_action, Denotes}
-use Rattle.ct_table.specs.Snapshot.{IsGlobal, IsKeptWorld}
-use Rattle.ct_table.specs.Following.{Follows}
-use Rattle.ct_table.proofs.Denoting.{worth_after, kept_on}
-use Rattle.ct_table.proofs.Changing.{as_before}
+use Rattle.ct_table.{specs.Denotes.{TableView, value_of_tables, IsKept, AreWorth, IsTermFor, by_change, by_action, Denotes}, specs.Following.Follows}
+use Rattle.ct_table.{specs.Snapshot.{IsGlobal, IsKeptWorld}, proofs.Denoting.{worth_after, kept_on}, proofs.Changing.as_before}
 use Rattle.ct_table.proofs.Snapshots.{global_stays, kept_stays}
 
 -- histories of the same changes: such as that before a commit, and with the commit in the making, before its first change
@@ -107,10 +87,3 @@ worth_of_agreed words h actions c db agrees d kept =
       by_world v None None same s = tt
       by_world v (Some w) (Some w') same s = same_database_on (value_of_tables words v db) w w' s same
       by_world v _ _ same s = absurd same
-
--- so is the global condition, where its terms are those of assertions
-pub global_of_agreed : (words : List ℕ) (h : List PlainCommit) (actions : List PlainAction) (c : PlainCommit) (global : ℕ) → Agrees h actions c.changes → IsGlobal words h actions global
-    → TermsFrom words global (IsTermFor (h ++ c ∷ []) [] read.Worlds) → IsGlobal words (h ++ c ∷ []) [] global
-global_of_agreed words h actions c global agrees g from =
-    let does = commit_does h actions c agrees in
-    record { place = g.place; holds = λ v. g.holds v ∙ does.admitted v; plain = g.plain; from = from }

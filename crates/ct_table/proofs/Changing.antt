@@ -1,44 +1,24 @@
 -- Tables go on denoting a history and further actions, by the contract of the operator that changes them.
-use Rattle.std.proofs.Common.{◌≡◌, ℕ, Bool, true, not, List, [], ◌∷◌, ◌++◌, map, length, refl, ap, sym, subst, inl, inr}
+use Rattle.std.{proofs.Common.{◌≡◌, ℕ, Bool, true, not, List, [], ◌∷◌, ◌++◌, map, length, refl, ap, sym, subst, inl, inr}, specs.List.{Contains, list_all}}
 use Rattle.std.specs.Prelude.{◌⊎◌, Some, None, IsTrue, All, filter}
-use Rattle.std.specs.List.{Contains, list_all}
 use Rattle.std.proofs.lemmas.List.Elements.{All-nil, All-weaker, All-push, All-from_recursion, recursion_from_All, Contains-push, Contains-append_cases}
-use mathlib.Core.List.{IsPrefix}
-use Rattle.ct_word.specs.declared.kinds.Class.TheVariants as class
-use Rattle.ct_word.specs.declared.values.Value.{Value}
-use Rattle.ct_word.specs.declared.values.Term.{Term}
-use Rattle.ct_word.specs.declared.values.CRow.{CRow}
-use Rattle.ct_word.specs.Value.{World, same_text}
-use Rattle.ct_word.specs.Condition.{Condition, SameTruth, holds}
-use Rattle.ct_word.specs.Sublist.{IsSublist}
-use Rattle.ct_word.specs.WellFormed.{IsWellFormed, is_place_of}
-use Rattle.ct_word.specs.Writable.{is_writable}
-use Rattle.ct_word.specs.Change.{PlainRow, PlainChange, Create, Insert, Delete, Assert, PlainCommit}
-use Rattle.ct_word.specs.Reading.{condition_at, term_at, plain_crow}
-use Rattle.ct_word.specs.Stands.{TermBelow}
-use Rattle.ct_word.proofs.Alike.{text_decides}
-use Rattle.ct_word.proofs.Packed.{true_left, true_right, true_both}
-use Rattle.ct_query.specs.Plain.{PlainAction}
-use Rattle.ct_query.specs.declared.action.Read.{Read}
-use Rattle.ct_query.specs.declared.action.Read.TheVariants as read
-use Rattle.ct_query.specs.Database.{Database, SameSet}
-use Rattle.ct_query.specs.Rows.{rows}
-use Rattle.ct_query.specs.Step.{created, inserted, deleted, asserted, shown_rows}
-use Rattle.ct_query.specs.Worlds.{world, changes_of}
-use Rattle.ct_query.specs.Patterns.{patterns}
-use Rattle.ct_query.proofs.Sets.{same_set_itself, same_set_on, same_set-append}
-use Rattle.ct_query.proofs.SameRows.{same_set_filter}
-use Rattle.ct_query.proofs.Sublists.{all_of, sublist_of_sublist}
+use Rattle.ct_word.{specs.declared.values.Value.Value, specs.declared.values.Term.Term, specs.declared.values.CRow.CRow, specs.Value.{World, same_text}}
+use Rattle.ct_word.{specs.Condition.{Condition, SameTruth, holds}, specs.Sublist.IsSublist, specs.WellFormed.{IsWellFormed, is_place_of}}
+use Rattle.ct_word.{specs.Writable.is_writable, specs.Change.{PlainRow, PlainChange, Create, Insert, Delete, Assert, PlainCommit}, specs.Stands.TermBelow}
+use Rattle.ct_word.{specs.Reading.{condition_at, term_at, plain_crow}, proofs.Alike.text_decides, proofs.Packed.{true_left, true_right, true_both}}
+use Rattle.ct_query.{specs.Plain.PlainAction, specs.declared.action.Read.Read, specs.Database.{Database, SameSet}, specs.Rows.rows, specs.Patterns.patterns}
+use Rattle.ct_query.{specs.Step.{created, inserted, deleted, asserted, shown_rows}, specs.Worlds.{world, changes_of}, proofs.SameRows.same_set_filter}
+use Rattle.ct_query.{proofs.Sets.{same_set_itself, same_set_on, same_set-append}, proofs.Sublists.{all_of, sublist_of_sublist}}
 use Rattle.ct_condition.proofs.Reached.{formed_before}
-use Rattle.ct_operators.specs.Tables.{cells_of, value_of_rows, IsRow, AreRows}
-use Rattle.ct_operators.specs.Terms.{TermOfRows, RowsFrom, IsNoColumn}
-use Rattle.ct_table.specs.Denotes.{TableView, IsKept, AreWorth, IsTermFor, by_change, Denotes, find_table, with_table}
-use Rattle.ct_table.specs.Following.{Follows}
-use Rattle.ct_operators.proofs.Reaching.{both_all, foremost, rows_wider, from_rows, rows_later}
-use Rattle.ct_operators.proofs.Growing.{value_grows, cells_grow}
+use Rattle.ct_operators.{specs.Tables.{cells_of, value_of_rows, IsRow, AreRows}, specs.Terms.{TermOfRows, RowsFrom, IsNoColumn}}
+use Rattle.ct_operators.{proofs.Reaching.{both_all, foremost, rows_wider, from_rows, rows_later}, proofs.Growing.{value_grows, cells_grow}}
+use Rattle.ct_operators.proofs.Naming.{condition_named, rows_named}
+use Rattle.ct_table.{specs.Denotes.{TableView, IsKept, AreWorth, IsTermFor, by_change, Denotes, find_table, with_table}, specs.Following.Follows}
 use Rattle.ct_table.proofs.Following.{change_follows, lines_follow}
 use Rattle.ct_table.proofs.Denoting.{empty_table, with_rows, found_name, found_all, all_with_table, found_pattern, part_after, created_worth, changed_worth, inserted_worth, asserted_worth, worth_grows}
-use Rattle.ct_operators.proofs.Naming.{condition_named, rows_named}
+use mathlib.Core.List.{IsPrefix}
+use Rattle.ct_word.specs.declared.kinds.Class.TheVariants as class
+use Rattle.ct_query.specs.declared.action.Read.TheVariants as read
 
 -- the terms below a table come from where the definition says
 abbrev ComesFrom : List ℕ → List PlainCommit → List PlainAction → TableView → Type 0

@@ -1,25 +1,19 @@
 -- Rows of different cells are at most as many as the distinct cells of a pattern that they are a part of.
-use Rattle.std.proofs.Common.{◌≡◌, ◌+◌, ◌≤◌, Bool, true, false, ◌||◌, List, [], ◌∷◌, length, cond, refl, ap, sym, subst, ◌∙◌, arith}
-use Rattle.std.specs.Prelude.{if◌then◌else◌}
-use Rattle.std.specs.List.{IsDistinct, list_any}
-use Rattle.std.specs.Set.{unique_keys}
-use Rattle.std.proofs.lemmas.Bool.{or_left, or_right}
+use Rattle.std.{proofs.Common.{◌≡◌, ◌+◌, ◌≤◌, Bool, true, false, ◌||◌, List, [], ◌∷◌, length, cond, refl, ap, sym, subst, ◌∙◌, arith}, specs.Set.unique_keys}
+use Rattle.std.{specs.Prelude.if◌then◌else◌, specs.List.{IsDistinct, list_any}, proofs.lemmas.Bool.{or_left, or_right}}
 use Rattle.std.proofs.lemmas.Map.Made.{length-le_from_is_member}
-use Rattle.ct_word.specs.declared.values.Term.{Term}
-use Rattle.ct_word.specs.Value.{same_cells}
-use Rattle.ct_word.specs.Sublist.{IsSublist, ended, left_out, taken}
-use Rattle.ct_word.proofs.Alike.{cells_decide}
+use Rattle.ct_word.{specs.declared.values.Term.Term, specs.Value.same_cells, specs.Sublist.{IsSublist, ended, left_out, taken}, proofs.Alike.cells_decide}
 use Rattle.ct_query.specs.Patterns.{distinct_count}
 use Rattle.ct_operators.proofs.Merges.{cells_equiv}
+use Rattle.ct_table.proofs.Entries.{cases}
 
 -- what passes in a part passes in the list
 part_any : {A : Type 0} (test : A → Bool) (xs ys : List A) → IsSublist xs ys → list_any test xs ≡ true → list_any test ys ≡ true
 part_any test xs ys ended e = e
 part_any test xs (y ∷ ys) (left_out p) e = or_right (test y) (list_any test ys) (part_any test xs ys p e)
-part_any test (x ∷ xs) (x' ∷ ys) (taken p) e = by_test (test x) refl (part_any test xs ys p) where
-  by_test : (b : Bool) → test x ≡ b → (list_any test xs ≡ true → list_any test ys ≡ true) → (test x || list_any test ys) ≡ true
-  by_test true q rest = or_left (test x) (list_any test ys) q
-  by_test false q rest = or_right (test x) (list_any test ys) (rest (sym (ap (λ b. b || list_any test xs) q) ∙ e))
+part_any test (x ∷ xs) (x' ∷ ys) (taken p) e = cases (test x)
+    (λ q. or_left (test x) (list_any test ys) q)
+    (λ q. or_right (test x) (list_any test ys) (part_any test xs ys p (sym (ap (λ b. b || list_any test xs) q) ∙ e)))
 
 -- cells that are there are there where each stands once
 once_any : (c : List Term) (ls : List (List Term)) → list_any (same_cells c) ls ≡ true → list_any (same_cells c) (unique_keys same_cells ls) ≡ true

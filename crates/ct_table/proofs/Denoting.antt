@@ -1,54 +1,36 @@
 -- Tables go on being worth what a history and further actions make, as these grow by one step and the tables by the same.
-use Rattle.std.proofs.Common.{◌≡◌, ℕ, Bool, true, false, ◌||◌, List, [], ◌∷◌, ◌++◌, map, refl, ap, sym, subst, ◌∙◌}
-use Rattle.std.specs.Prelude.{Option, Some, None, option_and_then, IfSome, length, if◌then◌else◌}
-use Rattle.std.specs.List.{IsDistinct, AllByRecursion, list_any}
-use Rattle.std.proofs.lemmas.Bool.{false≢true}
-use Rattle.std.proofs.lemmas.List.{append-nil, map_push}
-use Rattle.std.proofs.lemmas.Map.Keys.{IsDistinct-push, IsDistinct-head, IsDistinct-tail}
-use Rattle.std.proofs.lemmas.Cmp.{nat_list_eq_equiv}
+use Rattle.std.{proofs.Common.{◌≡◌, ℕ, Bool, true, false, ◌||◌, List, [], ◌∷◌, ◌++◌, map, refl, ap, sym, subst, ◌∙◌}, proofs.lemmas.List.{append-nil, map_push}}
+use Rattle.std.{specs.Prelude.{Option, Some, None, option_and_then, IfSome, length, if◌then◌else◌}, specs.List.{IsDistinct, AllByRecursion, list_any}}
+use Rattle.std.{proofs.lemmas.Map.Keys.{IsDistinct-push, IsDistinct-head, IsDistinct-tail}, proofs.lemmas.Cmp.nat_list_eq_equiv}
 use Rattle.std.proofs.lemmas.List.Elements.{All-nil, All-weaker, All-push, All-from_recursion, recursion_from_All}
+use Rattle.ct_word.{specs.declared.values.Value.Value, specs.declared.values.Term.Term, specs.declared.values.CRow.CRow, specs.Condition.{Condition, holds_at}}
+use Rattle.ct_word.{specs.Value.{World, same_text, same_cells}, specs.Sublist.IsSublist, specs.WellFormed.IsWellFormed, proofs.Alike.text_decides}
+use Rattle.ct_word.specs.Change.{PlainCommit}
+use Rattle.ct_query.{specs.Plain.PlainAction, specs.Database.{Relation, Database, SameSet, with_tuples, SameRelation, SameDatabase, changed}}
+use Rattle.ct_query.{specs.Step.{created, inserted, asserted}, specs.Worlds.world, specs.Patterns.patterns, proofs.SameRows.same_database_append}
+use Rattle.ct_query.{proofs.Sets.{same_set_itself, same_set_on, same_set-append}, proofs.Sublists.{nothing_of, sublist-append, sublist_of_sublist}}
+use Rattle.ct_operators.{specs.Tables.{cells_of, value_of_rows, AreRows}, proofs.Firsts.none_distinct, proofs.Growing.{value_grows, cells_grow, rows_grow}}
+use Rattle.ct_table.{specs.Denotes.{TableView, value_of_tables, IsKept, heading_of, AreWorth, find_table, with_table}, specs.Following.Follows}
+use Rattle.ct_table.proofs.Entries.{cases, unalike}
 use mathlib.Core.List.{IsPrefix}
-use Rattle.ct_word.specs.declared.values.Value.{Value}
-use Rattle.ct_word.specs.declared.values.Term.{Term}
-use Rattle.ct_word.specs.declared.values.CRow.{CRow}
-use Rattle.ct_word.specs.Value.{World, same_text, same_cells}
-use Rattle.ct_word.specs.Condition.{Condition, holds_at}
-use Rattle.ct_word.specs.Sublist.{IsSublist}
-use Rattle.ct_word.specs.WellFormed.{IsWellFormed}
-use Rattle.ct_word.specs.Change.{PlainRow, Insert, PlainCommit}
-use Rattle.ct_word.proofs.Alike.{text_decides}
-use Rattle.ct_query.specs.Plain.{PlainAction}
-use Rattle.ct_query.specs.Database.{Relation, Database, SameSet, with_tuples, SameRelation, SameDatabase, changed}
-use Rattle.ct_query.specs.Step.{created, inserted, asserted, shown_rows}
-use Rattle.ct_query.specs.Worlds.{world, changes_of}
-use Rattle.ct_query.specs.Patterns.{patterns}
-use Rattle.ct_operators.specs.Tables.{cells_of, value_of_rows, AreRows}
-use Rattle.ct_table.specs.Denotes.{TableView, value_of_tables, IsKept, heading_of, AreWorth, find_table, with_table}
-use Rattle.ct_table.specs.Following.{Follows}
-use Rattle.ct_operators.proofs.Firsts.{none_distinct}
-use Rattle.ct_table.proofs.Following.{change_follows, lines_follow}
-use Rattle.ct_operators.proofs.Growing.{value_grows, cells_grow, rows_grow}
-use Rattle.ct_query.proofs.Sets.{same_set_itself, same_set_on, same_set-append}
-use Rattle.ct_query.proofs.SameRows.{same_database_append}
-use Rattle.ct_query.proofs.Sublists.{nothing_of, all_of, sublist-append, sublist_of_sublist}
 
--- a text that is not written as another: nor the other as it
-pub unalike : (a b : List ℕ) → same_text a b ≡ false → same_text b a ≡ false
-unalike a b e = by_test (same_text b a) refl where
-  by_test : (r : Bool) → same_text b a ≡ r → same_text b a ≡ false
-  by_test false p = p
-  by_test true p = absurd (false≢true (sym e ∙ (text_decides a b).1 (sym ((text_decides b a).0 p))))
+-- a table that is found is the first of the tables or is found among the others
+found_by : {P : Type 0} (name : List ℕ) (t x : TableView) (db : List TableView) → find_table (x ∷ db) name ≡ Some t
+    → (same_text x.name name ≡ true → x ≡ t → x.name ≡ name → P) → (same_text x.name name ≡ false → find_table db name ≡ Some t → P) → P
+found_by name t x db f first later = cases (same_text x.name name)
+    (λ p.
+    let same : Some x ≡ Some t = sym (ap (λ b. if b then Some x else find_table db name) p) ∙ f in
+    let is : x ≡ t = cc in
+    first p is ((text_decides x.name name).0 p))
+    (λ p. later p (sym (ap (λ b. if b then Some x else find_table db name) p) ∙ f))
 
 -- a name that no table has
 absent_any : (name : List ℕ) (db : List TableView) → find_table db name ≡ None → list_any (same_text name) (map (λ t. t.name) db) ≡ false
 absent_any name [] e = refl
-absent_any name (t ∷ db) e = by_test (same_text t.name name) refl (absent_any name db) where
-  by_test : (r : Bool) → same_text t.name name ≡ r → (find_table db name ≡ None → list_any (same_text name) (map (λ t. t.name) db) ≡ false)
-      → list_any (same_text name) (map (λ t. t.name) (t ∷ db)) ≡ false
-  by_test false p rest =
-      ap (λ b. b || list_any (same_text name) (map (λ t. t.name) db)) (unalike t.name name p)
-      ∙ rest (sym (ap (λ b. if b then Some t else find_table db name) p) ∙ e)
-  by_test true p rest = let bad : Some t ≡ None = sym (ap (λ b. if b then Some t else find_table db name) p) ∙ e in cc
+absent_any name (t ∷ db) e = cases (same_text t.name name)
+    (λ p. let bad : Some t ≡ None = sym (ap (λ b. if b then Some t else find_table db name) p) ∙ e in cc)
+    (λ p. ap (λ b. b || list_any (same_text name) (map (λ t. t.name) db)) (unalike t.name name p)
+    ∙ absent_any name db (sym (ap (λ b. if b then Some t else find_table db name) p) ∙ e))
 
 -- the relation that a table is worth
 abbrev pub relation_of : List ℕ → World → TableView → Relation
@@ -96,28 +78,22 @@ module _ (v : World) (words : List ℕ) (name : List ℕ) (change : List (List V
       → SameDatabase (value_of_tables words v db) w → SameDatabase (value_of_tables words v (with_table db (with_rows name t rows))) (changed w name change)
   changed_same [] w f d s = let bad : None ≡ Some t = f in cc
   changed_same (x ∷ db) [] f d s = absurd s
-  changed_same (x ∷ db) (r ∷ w) f d s = by_test (same_text x.name name) refl (changed_same db w) where
-    here : (b : Bool) → same_text x.name name ≡ b → same_text r.name name ≡ b
-    here b p = ap (λ n. same_text n name) (sym s.0.name) ∙ p
-
-    by_test : (b : Bool) → same_text x.name name ≡ b
-        → (find_table db name ≡ Some t → IsDistinct same_text (map (λ x. x.name) db) → SameDatabase (value_of_tables words v db) w
-        → SameDatabase (value_of_tables words v (with_table db (with_rows name t rows))) (changed w name change))
-        → SameDatabase (value_of_tables words v (with_table (x ∷ db) (with_rows name t rows))) (changed (r ∷ w) name change)
-    by_test true p rest =
-        let same : Some x ≡ Some t = sym (ap (λ b. if b then Some x else find_table db name) p) ∙ f in
-        let is : x ≡ t = cc in
-        let n : x.name ≡ name = (text_decides x.name name).0 p in
-        subst (λ a. SameDatabase (value_of_tables words v a) (changed (r ∷ w) name change)) (sym (ap (λ b. if b then with_rows name t rows ∷ db else x ∷ with_table db (with_rows name t rows)) p)) (
-          subst (λ a. SameRelation (relation_of words v (with_rows name t rows)) a) (sym (ap (λ b. if b then with_tuples r (change r.tuples) else r) (here true p)))
-              (first_changed x r is n s.0),
-          others_stay name change v words db w (others_of name (map (λ x. x.name) db) x.name n d) s.1,
-        )
-    by_test false p rest =
-        subst (λ a. SameDatabase (value_of_tables words v a) (changed (r ∷ w) name change)) (sym (ap (λ b. if b then with_rows name t rows ∷ db else x ∷ with_table db (with_rows name t rows)) p)) (
-          subst (λ a. SameRelation (relation_of words v x) a) (sym (ap (λ b. if b then with_tuples r (change r.tuples) else r) (here false p))) s.0,
-          rest (sym (ap (λ b. if b then Some x else find_table db name) p) ∙ f) (IsDistinct-tail same_text x.name (map (λ x. x.name) db) d) s.1,
-        )
+  changed_same (x ∷ db) (r ∷ w) f d s =
+      let here : same_text r.name name ≡ same_text x.name name = ap (λ n. same_text n name) (sym s.0.name) in
+      let new = with_rows name t rows in
+      let table = λ (b : Bool). if b then new ∷ db else x ∷ with_table db new in
+      let relation = λ (b : Bool). if b then with_tuples r (change r.tuples) else r in
+      found_by name t x db f
+      (λ p is n.
+      subst (λ a. SameDatabase (value_of_tables words v a) (changed (r ∷ w) name change)) (sym (ap table p)) (
+        subst (λ a. SameRelation (relation_of words v new) a) (sym (ap relation (here ∙ p))) (first_changed x r is n s.0),
+        others_stay name change v words db w (others_of name (map (λ x. x.name) db) x.name n d) s.1,
+      ))
+      (λ p later.
+      subst (λ a. SameDatabase (value_of_tables words v a) (changed (r ∷ w) name change)) (sym (ap table p)) (
+        subst (λ a. SameRelation (relation_of words v x) a) (sym (ap relation (here ∙ p))) s.0,
+        changed_same db w later (IsDistinct-tail same_text x.name (map (λ x. x.name) db) d) s.1,
+      ))
 
 -- what is true of each table and of a new one is true of each after the new one took its place
 pub all_with_table : (P : TableView → Type 0) (db : List TableView) (new : TableView) → AllByRecursion P db → P new → AllByRecursion P (with_table db new)
@@ -131,19 +107,11 @@ all_with_table P (x ∷ db) new all p = by_test (same_text x.name new.name) (all
 pub headings_stay : (name : List ℕ) (t : TableView) (rows : List CRow) (db : List TableView) → find_table db name ≡ Some t
     → map heading_of (with_table db (with_rows name t rows)) ≡ map heading_of db
 headings_stay name t rows [] f = let bad : None ≡ Some t = f in cc
-headings_stay name t rows (x ∷ db) f = by_test (same_text x.name name) refl (headings_stay name t rows db) where
-  by_test : (b : Bool) → same_text x.name name ≡ b
-      → (find_table db name ≡ Some t → map heading_of (with_table db (with_rows name t rows)) ≡ map heading_of db)
-      → map heading_of (with_table (x ∷ db) (with_rows name t rows)) ≡ map heading_of (x ∷ db)
-  by_test true p rest =
-      let same : Some x ≡ Some t = sym (ap (λ b. if b then Some x else find_table db name) p) ∙ f in
-      let is : x ≡ t = cc in
-      let n : x.name ≡ name = (text_decides x.name name).0 p in
-      ap (λ b. map heading_of (if b then with_rows name t rows ∷ db else x ∷ with_table db (with_rows name t rows))) p
-      ∙ (λ i. record { name = sym n i; columns = (sym is i).columns } ∷ map heading_of db)
-  by_test false p rest =
-      ap (λ b. map heading_of (if b then with_rows name t rows ∷ db else x ∷ with_table db (with_rows name t rows))) p
-      ∙ ap (λ hs. heading_of x ∷ hs) (rest (sym (ap (λ b. if b then Some x else find_table db name) p) ∙ f))
+headings_stay name t rows (x ∷ db) f =
+    let headings = λ (b : Bool). map heading_of (if b then with_rows name t rows ∷ db else x ∷ with_table db (with_rows name t rows)) in
+    found_by name t x db f
+    (λ p is n. ap headings p ∙ (λ i. record { name = sym n i; columns = (sym is i).columns } ∷ map heading_of db))
+    (λ p later. ap headings p ∙ ap (λ hs. heading_of x ∷ hs) (headings_stay name t rows db later))
 
 -- the names of tables are those of their headings
 names_by_headings : (db : List TableView) → map (λ x. x.name) (map heading_of db) ≡ map (λ x. x.name) db
@@ -153,24 +121,12 @@ names_by_headings (x ∷ db) = ap (λ ns. x.name ∷ ns) (names_by_headings db)
 -- the first table of a name has that name
 pub found_name : (name : List ℕ) (t : TableView) (db : List TableView) → find_table db name ≡ Some t → t.name ≡ name
 found_name name t [] f = let bad : None ≡ Some t = f in cc
-found_name name t (x ∷ db) f = by_test (same_text x.name name) refl (found_name name t db) where
-  by_test : (b : Bool) → same_text x.name name ≡ b → (find_table db name ≡ Some t → t.name ≡ name) → t.name ≡ name
-  by_test true p rest =
-      let same : Some x ≡ Some t = sym (ap (λ b. if b then Some x else find_table db name) p) ∙ f in
-      let is : x ≡ t = cc in
-      ap (λ y. y.name) (sym is) ∙ (text_decides x.name name).0 p
-  by_test false p rest = rest (sym (ap (λ b. if b then Some x else find_table db name) p) ∙ f)
+found_name name t (x ∷ db) f = found_by name t x db f (λ p is n. ap (λ y. y.name) (sym is) ∙ n) (λ p. found_name name t db)
 
 -- what is true of each table is true of the one that is found
 pub found_all : (P : TableView → Type 0) (name : List ℕ) (t : TableView) (db : List TableView) → AllByRecursion P db → find_table db name ≡ Some t → P t
 found_all P name t [] all f = let bad : None ≡ Some t = f in cc
-found_all P name t (x ∷ db) all f = by_test (same_text x.name name) refl (found_all P name t db all.1) where
-  by_test : (b : Bool) → same_text x.name name ≡ b → (find_table db name ≡ Some t → P t) → P t
-  by_test true p rest =
-      let same : Some x ≡ Some t = sym (ap (λ b. if b then Some x else find_table db name) p) ∙ f in
-      let is : x ≡ t = cc in
-      subst P is all.0
-  by_test false p rest = rest (sym (ap (λ b. if b then Some x else find_table db name) p) ∙ f)
+found_all P name t (x ∷ db) all f = found_by name t x db f (λ p is n. subst P is all.0) (λ p. found_all P name t db all.1)
 
 module _ (words : List ℕ) (h : List PlainCommit) (actions : List PlainAction) (h' : List PlainCommit) (actions' : List PlainAction)
     (db : List TableView) (d : AreWorth words h actions db) where
@@ -253,15 +209,6 @@ module _ (words : List ℕ) (h : List PlainCommit) (actions : List PlainAction) 
     where_holds : (v : World) (w : Database) (b : Bool) → SameDatabase (value_of_tables words v db) w → IfSome (if b then Some w else None) (λ u. SameDatabase (value_of_tables words v db) u)
     where_holds v w true s = s
     where_holds v w false s = tt
-
--- after an insertion in a history
-pub rows_worth : (words : List ℕ) (h g : List PlainCommit) (db : List TableView) → AreWorth words h [] db
-    → (name : List ℕ) (rs : List PlainRow) → changes_of g ≡ changes_of h ++ Insert name rs ∷ [] → (t : TableView) (rows : List CRow) → find_table db name ≡ Some t
-    → ((v : World) → SameSet (value_of_rows words v rows) (value_of_rows words v t.rows ++ shown_rows v rs))
-    → AreRows words (length t.columns) rows → IsSublist (cells_of words rows) (cells_of words t.rows ++ map (λ r. r.cells) rs) → AreWorth words g [] (with_table db (with_rows name t rows))
-rows_worth words h g db d name rs is t rows found tuples are part =
-    inserted_worth words h [] g [] db d name (λ v w. shown_rows v rs) (change_follows h g (Insert name rs) is) t rows found (λ v w e. tuples v) are
-    (part_after words h [] g [] db d name t found (cells_of words rows) (map (λ r. r.cells) rs) (map (λ r. r.cells) rs) part (all_of _) (lines_follow h g name rs is))
 
 module _ (ws xs : List ℕ) (grown : IsPrefix ws xs) (formed : IsWellFormed ws) (h : List PlainCommit) (actions : List PlainAction) where
   relation_grows : (v : World) (t : TableView) → IsKept ws h actions t → relation_of xs v t ≡ relation_of ws v t

@@ -1,43 +1,29 @@
 -- What follows a history and further actions: one change more, or one action more.
-use Rattle.std.proofs.Common.{◌≡◌, ℕ, Bool, true, false, List, [], ◌∷◌, ◌++◌, map, refl, ap, sym, subst, ◌∙◌}
-use Rattle.std.specs.Prelude.{Option, Some, None, filter_map, if◌then◌else◌}
-use Rattle.std.specs.List.{cons_option, Contains}
-use Rattle.std.specs.Option.{option_to_list}
-use Rattle.std.proofs.lemmas.List.{append-nil, append_assoc}
-use Rattle.std.proofs.lemmas.List.Concat.{flat_map-append}
-use Rattle.std.proofs.lemmas.List.Elements.{filter_map-append, Contains-append_left}
-use Rattle.ct_word.specs.declared.values.Term.{Term}
-use Rattle.ct_word.specs.Value.{same_text}
-use Rattle.ct_word.specs.Sublist.{IsSublist}
-use Rattle.ct_word.proofs.Alike.{text_decides}
+use Rattle.std.{proofs.Common.{◌≡◌, ℕ, Bool, true, false, List, [], ◌∷◌, ◌++◌, map, refl, ap, sym, subst, ◌∙◌}, specs.List.{cons_option, Contains}}
+use Rattle.std.{specs.Prelude.{Option, Some, None, filter_map, if◌then◌else◌}, specs.Option.option_to_list, proofs.lemmas.List.{append-nil, append_assoc}}
+use Rattle.std.{proofs.lemmas.List.Concat.flat_map-append, proofs.lemmas.List.Elements.{filter_map-append, Contains-append_left}}
+use Rattle.ct_word.{specs.declared.values.Term.Term, specs.Value.same_text, specs.Sublist.IsSublist, proofs.Alike.text_decides}
 use Rattle.ct_word.specs.Change.{PlainRow, PlainChange, Create, Insert, Delete, Assert, PlainCommit}
-use Rattle.ct_query.specs.Plain as plain
-use Rattle.ct_query.specs.Plain.{PlainAction}
-use Rattle.ct_query.specs.declared.schema.Heading.{Heading}
-use Rattle.ct_query.specs.declared.action.Read.{Read}
-use Rattle.ct_query.specs.Step.{step_change, step_action}
-use Rattle.ct_query.specs.Worlds.{after_changes, changes_of}
+use Rattle.ct_query.{specs.Plain.PlainAction, specs.declared.schema.Heading.Heading, specs.declared.action.Read.Read, specs.Step.{step_change, step_action}}
+use Rattle.ct_query.{specs.Worlds.{after_changes, changes_of}, specs.Schema.{created_by_change, created_by_action}, specs.Reads.action_reads}
 use Rattle.ct_query.specs.Patterns.{Patterns, no_patterns, patterns, pattern_change, pattern_changes, pattern_action, with_lines, query_pattern}
-use Rattle.ct_query.specs.Schema.{created_by_change, created_by_action}
-use Rattle.ct_query.specs.Reads.{action_reads}
-use Rattle.ct_query.specs.Frame.{reads_of_actions}
-use Rattle.ct_query.proofs.Laws.{after_changes-append, world_action, pattern_changes-append, patterns_action, changes_of-snoc}
+use Rattle.ct_query.{specs.Frame.reads_of_actions, proofs.Laws.{after_changes-append, world_action, pattern_changes-append, patterns_action, changes_of-snoc}}
 use Rattle.ct_query.proofs.Sublists.{nothing_of, all_of, sublist-append}
-use Rattle.ct_table.specs.Denotes.{IsTermFor, by_change, by_action}
-use Rattle.ct_table.specs.Following.{Follows}
+use Rattle.ct_table.{specs.Denotes.{IsTermFor, by_change, by_action}, specs.Following.Follows}
+use Rattle.ct_query.specs.Plain as plain
 
 -- a list is the first part of a longer one
 pub first_part : {A : Type 0} (xs ys : List A) → IsSublist xs (xs ++ ys)
 first_part xs ys = subst (λ l. IsSublist l (xs ++ ys)) (append-nil xs) (sublist-append xs xs [] ys (all_of xs) (nothing_of ys))
 
 -- patterns only grow
-lines_kept : (p : Patterns) (name : List ℕ) (lines : List (List Term)) (n : List ℕ) → IsSublist (p n) (with_lines p name lines n)
+pub lines_kept : (p : Patterns) (name : List ℕ) (lines : List (List Term)) (n : List ℕ) → IsSublist (p n) (with_lines p name lines n)
 lines_kept p name lines n = by_test (same_text name n) where
   by_test : (b : Bool) → IsSublist (p n) (if b then p n ++ lines else p n)
   by_test true = first_part (p n) lines
   by_test false = all_of (p n)
 
-change_kept : (p : Patterns) (x : PlainChange) (n : List ℕ) → IsSublist (p n) (pattern_change p x n)
+pub change_kept : (p : Patterns) (x : PlainChange) (n : List ℕ) → IsSublist (p n) (pattern_change p x n)
 change_kept p (Create name columns) n = all_of (p n)
 change_kept p (Insert name rs) n = lines_kept p name (map (λ r. r.cells) rs) n
 change_kept p (Delete name c) n = all_of (p n)

@@ -1,36 +1,21 @@
 -- Conditions joined to those that rows have already.
 use Rattle.std.proofs.Common.{◌≡◌, ℕ, Bool, true, false, ◌||◌, ◌<◌, List, [], ◌∷◌, ◌++◌, map, Option, None, Some, Ok, Err, length, refl, ap, sym, subst, ◌∙◌, arith}
-use Rattle.std.specs.Prelude.{◌≢◌, IsTrue, ◌^◌, All, Result, IfOk}
-use Rattle.std.proofs.lemmas.List.Elements.{All-head, All-tail}
+use Rattle.std.{specs.Prelude.{◌≢◌, IsTrue, ◌^◌, All, Result, IfOk}, proofs.lemmas.List.Elements.{All-head, All-tail}, proofs.lemmas.Bool.false≢true}
+use Rattle.std.{specs.List.{filter, IsDistinct, AllByRecursion}, proofs.lemmas.Map.Keys.{IsDistinct-head, IsDistinct-tail}, proofs.lemmas.List.map-append}
+use Rattle.ct_word.{specs.Condition.holds, specs.WellFormed.{IsWellFormed, is_place_of}, specs.declared.values.CRow.CRow, specs.Sublist.IsSublist}
+use Rattle.ct_word.{proofs.Prefixes.{place_in_prefix, place_within, condition_in_prefix, prefix_same}, proofs.Alike.{text_decides, cells_decide}}
+use Rattle.ct_word.{specs.Value.{World, same_text, same_cells}, specs.Reading.term_at}
+use Rattle.ct_arena.specs.Counts.{opening}
+use Rattle.ct_condition.{specs.Truth.{HasTruth, or_at, truth_at}, proofs.Truths.false_at}
+use Rattle.ct_query.{specs.Database.SameSet, proofs.Sets.same_set_itself}
+use Rattle.ct_operators.{specs.Tables.{AreRows, cells_of, value_of_rows, firsts}, specs.Terms.{TermOfRows, RowsFrom}, proofs.Reaching.rows_itself}
+use Rattle.ct_operators.{proofs.Firsts.{firsts_distinct, part_of_firsts}, proofs.Selecting.value-append, specs.Merging.{rows_of, Merged, Gathers, is_possible}}
+use Rattle.ct_operators.proofs.Merges.{entry_merged, entry_put, kept_rows, kept_values, kept_order, kept_from}
+use Rattle.ct_table.specs.Growing.{find, put, put_each, grown, entries_of, Apart, Fits, Joins, alone, with_first, AreInserted}
+use Rattle.ct_table.proofs.Entries.{cases, find_hit, find_miss, none_some}
+use Rattle.ct_table.proofs.Putting.{find_among, find_after, put_more, fits_more, kept_of, keep, isnt, rows_grown}
 use mathlib.Core.List.{IsPrefix}
 use Rattle.ct_word.specs.declared.kinds.Class.TheVariants as class
-use Rattle.ct_word.specs.Condition.{holds}
-use Rattle.ct_word.specs.WellFormed.{IsWellFormed, is_place_of}
-use Rattle.ct_word.proofs.Prefixes.{place_in_prefix, place_within, condition_in_prefix}
-use Rattle.ct_arena.specs.Counts.{opening}
-use Rattle.ct_condition.specs.Truth.{HasTruth, or_at, truth_at}
-use Rattle.ct_condition.proofs.Truths.{false_at}
-use Rattle.ct_word.specs.declared.values.CRow.{CRow}
-use Rattle.std.specs.List.{filter, IsDistinct, AllByRecursion}
-use Rattle.std.proofs.lemmas.Bool.{false≢true}
-use Rattle.std.proofs.lemmas.Map.Keys.{IsDistinct-head, IsDistinct-tail}
-use Rattle.ct_word.proofs.Alike.{text_decides, cells_decide}
-use Rattle.std.proofs.lemmas.List.{map-append}
-use Rattle.ct_word.specs.Value.{World, same_text, same_cells}
-use Rattle.ct_word.specs.Sublist.{IsSublist}
-use Rattle.ct_word.specs.Reading.{term_at}
-use Rattle.ct_word.proofs.Prefixes.{prefix_same}
-use Rattle.ct_query.specs.Database.{SameSet}
-use Rattle.ct_query.proofs.Sets.{same_set_itself}
-use Rattle.ct_operators.specs.Tables.{AreRows, cells_of, value_of_rows, firsts}
-use Rattle.ct_operators.specs.Terms.{TermOfRows, RowsFrom}
-use Rattle.ct_operators.proofs.Firsts.{firsts_distinct, part_of_firsts}
-use Rattle.ct_operators.proofs.Reaching.{rows_itself}
-use Rattle.ct_operators.proofs.Selecting.{value-append}
-use Rattle.ct_operators.specs.Merging.{rows_of, Merged, Gathers, is_possible}
-use Rattle.ct_table.specs.Growing.{find, put, put_each, grown, entries_of, Apart, Fits, Joins, alone, with_first, AreInserted}
-use Rattle.ct_operators.proofs.Merges.{entry_merged, entry_put, kept_rows, kept_values, kept_order, kept_from}
-use Rattle.ct_table.proofs.Putting.{find_hit, find_miss, none_some, find_among, find_after, put_more, fits_more, kept_of, keep, isnt, rows_grown}
 
 or_false : (a b : Bool) → (a || b) ≡ false → a ≡ (a || b)
 or_false true b e = e ∙ sym e
@@ -56,13 +41,12 @@ if_ok_all P Q R S (Err e) p q s f = tt
 -- the condition of a row that was found is not the word false
 found_possible : (k : List ℕ) (d : ℕ) (es : List (List ℕ × ℕ)) → find k es ≡ Some d → All (λ r. r.cond ≢ 1) (rows_of es) → d ≢ 1
 found_possible k d [] found all = none_some d (find k []) refl found
-found_possible k d (e ∷ es) found all = by_test (same_text k e.0) refl (found_possible k d es) where
-  by_test : (b : Bool) → same_text k e.0 ≡ b → (find k es ≡ Some d → All (λ r. r.cond ≢ 1) (rows_of es) → d ≢ 1) → d ≢ 1
-  by_test true p later =
-      let same : Some e.1 ≡ Some d = sym (find_hit k e es p) ∙ found in
-      let is : e.1 ≡ d = cc in
-      λ one. All-head (λ r. r.cond ≢ 1) (record { cells = e.0; cond = e.1 }) (rows_of es) all (is ∙ one)
-  by_test false p later = later (sym (find_miss k e es p) ∙ found) (All-tail (λ r. r.cond ≢ 1) (record { cells = e.0; cond = e.1 }) (rows_of es) all)
+found_possible k d (e ∷ es) found all = cases (same_text k e.0)
+    (λ p.
+    let same : Some e.1 ≡ Some d = sym (find_hit k e es p) ∙ found in
+    let is : e.1 ≡ d = cc in
+    λ one. All-head (λ r. r.cond ≢ 1) (record { cells = e.0; cond = e.1 }) (rows_of es) all (is ∙ one))
+    (λ p. found_possible k d es (sym (find_miss k e es p) ∙ found) (All-tail (λ r. r.cond ≢ 1) (record { cells = e.0; cond = e.1 }) (rows_of es) all))
 
 -- no row is under the word false
 pub all_kept : (es : List (List ℕ × ℕ)) → All (λ r. r.cond ≢ 1) (rows_of es) → kept_of es ≡ es
@@ -141,9 +125,8 @@ rows_apart ws [] d = tt
 rows_apart ws (r ∷ rows) d = (none rows (IsDistinct-head same_cells (map (term_at ws) r.cells) (cells_of ws rows) d), rows_apart ws rows (IsDistinct-tail same_cells (map (term_at ws) r.cells) (cells_of ws rows) d)) where
   none : (rs : List CRow) → AllByRecursion (λ y. same_cells (map (term_at ws) r.cells) y ≡ false) (cells_of ws rs) → find r.cells (entries_of rs) ≡ None
   none [] a = refl
-  none (x ∷ rs) a = by_test (same_text r.cells x.cells) refl (none rs a.1) where
-    by_test : (b : Bool) → same_text r.cells x.cells ≡ b → find r.cells (entries_of rs) ≡ None → find r.cells (entries_of (x ∷ rs)) ≡ None
-    by_test true p later =
-        let same : map (term_at ws) r.cells ≡ map (term_at ws) x.cells = ap (map (term_at ws)) ((text_decides r.cells x.cells).0 p) in
-        absurd (false≢true (sym a.0 ∙ (cells_decide (map (term_at ws) r.cells) (map (term_at ws) x.cells)).1 same))
-    by_test false p later = find_miss r.cells (x.cells, x.cond) (entries_of rs) p ∙ later
+  none (x ∷ rs) a = cases (same_text r.cells x.cells)
+      (λ p.
+      let same : map (term_at ws) r.cells ≡ map (term_at ws) x.cells = ap (map (term_at ws)) ((text_decides r.cells x.cells).0 p) in
+      absurd (false≢true (sym a.0 ∙ (cells_decide (map (term_at ws) r.cells) (map (term_at ws) x.cells)).1 same)))
+      (λ p. find_miss r.cells (x.cells, x.cond) (entries_of rs) p ∙ none rs a.1)

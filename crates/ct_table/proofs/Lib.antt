@@ -1,3 +1,4 @@
+pub mod Entries
 pub mod Following
 pub mod Denoting
 pub mod Putting

@@ -1,94 +1,47 @@
 -- Conditions put at their cells, one after another.
-use Rattle.std.proofs.Common.{◌≡◌, ℕ, zero, suc, ◌+◌, ◌<◌, Bool, true, false, not, List, [], ◌∷◌, ◌++◌, Option, None, Some, cond, length, map, take, get_or, set, refl, ap, sym, subst, ◌∙◌, arith}
-use Rattle.std.specs.Prelude.{◌≢◌, is_some, nat_eq, if◌then◌else◌, slice_get}
-use Rattle.std.specs.List.{filter, position_or_len}
+use Rattle.std.proofs.Common.{◌≡◌, ℕ, zero, suc, ◌+◌, ◌<◌, Bool, true, false, not, List, [], ◌∷◌, ◌++◌, None, Some, cond, length, take, get_or, set, refl, ap, sym, subst, ◌∙◌, arith}
+use Rattle.std.{specs.Prelude.{◌≢◌, nat_eq, if◌then◌else◌, slice_get}, specs.List.filter, proofs.lemmas.Bool.eqb-true}
 use Rattle.std.proofs.lemmas.List.{append-nil, append_assoc, take_more}
-use Rattle.std.proofs.lemmas.Bool.{false≢true, eqb-true}
-use Rattle.ct_word.specs.declared.values.CRow.{CRow}
-use Rattle.ct_word.specs.Value.{same_text}
-use Rattle.ct_word.proofs.Alike.{text_decides}
+use Rattle.ct_word.{specs.declared.values.CRow.CRow, specs.Value.same_text, proofs.Alike.text_decides}
 use Rattle.ct_operators.specs.Merging.{rows_of, is_possible}
 use Rattle.ct_table.specs.Growing.{find, put, put_each, grown, entries_of, Apart, Fits}
-use Rattle.ct_table.proofs.Denoting.{unalike}
-
-module _ (k : List ℕ) (c : ℕ) (e : List ℕ × ℕ) (es : List (List ℕ × ℕ)) where
-  put_hit : same_text k e.0 ≡ true → put (e ∷ es) k c ≡ (e.0, c) ∷ es
-  put_hit p = ap (λ b. if b then (e.0, c) ∷ es else e ∷ put es k c) p
-
-  put_miss : same_text k e.0 ≡ false → put (e ∷ es) k c ≡ e ∷ put es k c
-  put_miss p = ap (λ b. if b then (e.0, c) ∷ es else e ∷ put es k c) p
-
-module _ (k : List ℕ) (e : List ℕ × ℕ) (es : List (List ℕ × ℕ)) where
-  pub find_hit : same_text k e.0 ≡ true → find k (e ∷ es) ≡ Some e.1
-  find_hit p = ap (λ b. cond b (Some e.1) (find k es)) p
-
-  pub find_miss : same_text k e.0 ≡ false → find k (e ∷ es) ≡ find k es
-  find_miss p = ap (λ b. cond b (Some e.1) (find k es)) p
-
-same_self : (k : List ℕ) → same_text k k ≡ true
-same_self k = (text_decides k k).1 refl
-
-pub none_some : {A : Type 0} (c : ℕ) (o : Option ℕ) → o ≡ None → o ≡ Some c → A
-none_some c o n s = let bad : None ≡ Some c = sym n ∙ s in absurd (none_is_not c bad) where
-  none_is_not : (c : ℕ) → None ≡ Some c → ⊥
-  none_is_not c e = cc
-
-pub missing : (o : Option ℕ) → is_some o ≡ false → o ≡ None
-missing None e = refl
-missing (Some c) e = absurd (false≢true (sym e))
-
--- what was put is found
-pub find_put : (k : List ℕ) (c : ℕ) (es : List (List ℕ × ℕ)) → find k (put es k c) ≡ Some c
-find_put k c [] = find_hit k (k, c) [] (same_self k)
-find_put k c (e ∷ es) = by_test (same_text k e.0) refl (find_put k c es) where
-  by_test : (b : Bool) → same_text k e.0 ≡ b → find k (put es k c) ≡ Some c → find k (put (e ∷ es) k c) ≡ Some c
-  by_test true p later = ap (find k) (put_hit k c e es p) ∙ find_hit k (e.0, c) es p
-  by_test false p later = ap (find k) (put_miss k c e es p) ∙ find_miss k e (put es k c) p ∙ later
+use Rattle.ct_table.proofs.Entries.{cases, unalike, same_self, none_some, place_of, put_hit, put_miss, find_hit, find_miss, at_hit, at_miss, find_put}
 
 -- other cells keep their condition
 pub find_other : (k q : List ℕ) (d : ℕ) → same_text k q ≡ false → (es : List (List ℕ × ℕ)) → find k (put es q d) ≡ find k es
 find_other k q d ne [] = find_miss k (q, d) [] ne
-find_other k q d ne (e ∷ es) = by_test (same_text q e.0) refl (find_other k q d ne es) where
-  by_test : (b : Bool) → same_text q e.0 ≡ b → find k (put es q d) ≡ find k es → find k (put (e ∷ es) q d) ≡ find k (e ∷ es)
-  by_test true p later =
-      let n : same_text k e.0 ≡ false = ap (same_text k) (sym ((text_decides q e.0).0 p)) ∙ ne in
-      ap (find k) (put_hit q d e es p) ∙ find_miss k (e.0, d) es n ∙ sym (find_miss k e es n)
-  by_test false p later = ap (find k) (put_miss q d e es p) ∙ ap (λ o. cond (same_text k e.0) (Some e.1) o) later
+find_other k q d ne (e ∷ es) = cases (same_text q e.0)
+    (λ p.
+    let n : same_text k e.0 ≡ false = ap (same_text k) (sym ((text_decides q e.0).0 p)) ∙ ne in
+    ap (find k) (put_hit q d e es p) ∙ find_miss k (e.0, d) es n ∙ sym (find_miss k e es n))
+    (λ p. ap (find k) (put_miss q d e es p) ∙ ap (λ o. cond (same_text k e.0) (Some e.1) o) (find_other k q d ne es))
 
 -- the later of two conditions at the same cells stays
 put_again : (k : List ℕ) (a c : ℕ) (es : List (List ℕ × ℕ)) → put (put es k a) k c ≡ put es k c
 put_again k a c [] = put_hit k c (k, a) [] (same_self k)
-put_again k a c (e ∷ es) = by_test (same_text k e.0) refl (put_again k a c es) where
-  by_test : (b : Bool) → same_text k e.0 ≡ b → put (put es k a) k c ≡ put es k c → put (put (e ∷ es) k a) k c ≡ put (e ∷ es) k c
-  by_test true p later = ap (λ l. put l k c) (put_hit k a e es p) ∙ put_hit k c (e.0, a) es p ∙ sym (put_hit k c e es p)
-  by_test false p later =
-      ap (λ l. put l k c) (put_miss k a e es p) ∙ put_miss k c e (put es k a) p ∙ ap (λ l. e ∷ l) later ∙ sym (put_miss k c e es p)
+put_again k a c (e ∷ es) = cases (same_text k e.0)
+    (λ p. ap (λ l. put l k c) (put_hit k a e es p) ∙ put_hit k c (e.0, a) es p ∙ sym (put_hit k c e es p))
+    (λ p. ap (λ l. put l k c) (put_miss k a e es p) ∙ put_miss k c e (put es k a) p ∙ ap (λ l. e ∷ l) (put_again k a c es) ∙ sym (put_miss k c e es p))
 
 -- cells that are there can get their condition before other cells or after them
 put_swap : (k q : List ℕ) (c d v : ℕ) → same_text k q ≡ false → (es : List (List ℕ × ℕ)) → find k es ≡ Some v → put (put es q d) k c ≡ put (put es k c) q d
 put_swap k q c d v ne [] found = none_some v (find k []) refl found
-put_swap k q c d v ne (e ∷ es) found = by_tests (same_text k e.0) refl (same_text q e.0) refl (put_swap k q c d v ne es) where
-  by_tests : (a : Bool) → same_text k e.0 ≡ a → (b : Bool) → same_text q e.0 ≡ b → (find k es ≡ Some v → put (put es q d) k c ≡ put (put es k c) q d)
-      → put (put (e ∷ es) q d) k c ≡ put (put (e ∷ es) k c) q d
-  by_tests true p true r later = absurd (false≢true (sym ne ∙ ap (same_text k) ((text_decides q e.0).0 r) ∙ p))
-  by_tests true p false r later =
-      ap (λ l. put l k c) (put_miss q d e es r) ∙ put_hit k c e (put es q d) p
-      ∙ sym (ap (λ l. put l q d) (put_hit k c e es p) ∙ put_miss q d (e.0, c) es r)
-  by_tests false p true r later =
-      ap (λ l. put l k c) (put_hit q d e es r) ∙ put_miss k c (e.0, d) es p
-      ∙ sym (ap (λ l. put l q d) (put_miss k c e es p) ∙ put_hit q d e (put es k c) r)
-  by_tests false p false r later =
-      ap (λ l. put l k c) (put_miss q d e es r) ∙ put_miss k c e (put es q d) p
-      ∙ ap (λ l. e ∷ l) (later (sym (find_miss k e es p) ∙ found))
-      ∙ sym (ap (λ l. put l q d) (put_miss k c e es p) ∙ put_miss q d e (put es k c) r)
+put_swap k q c d v ne (e ∷ es) found = cases (same_text k e.0)
+    (λ p.
+    let r : same_text q e.0 ≡ false = ap (same_text q) (sym ((text_decides k e.0).0 p)) ∙ unalike k q ne in
+    ap (λ l. put l k c) (put_miss q d e es r) ∙ put_hit k c e (put es q d) p
+    ∙ sym (ap (λ l. put l q d) (put_hit k c e es p) ∙ put_miss q d (e.0, c) es r))
+    (λ p. cases (same_text q e.0)
+    (λ r. ap (λ l. put l k c) (put_hit q d e es r) ∙ put_miss k c (e.0, d) es p
+    ∙ sym (ap (λ l. put l q d) (put_miss k c e es p) ∙ put_hit q d e (put es k c) r))
+    (λ r. ap (λ l. put l k c) (put_miss q d e es r) ∙ put_miss k c e (put es q d) p
+    ∙ ap (λ l. e ∷ l) (put_swap k q c d v ne es (sym (find_miss k e es p) ∙ found))
+    ∙ sym (ap (λ l. put l q d) (put_miss k c e es p) ∙ put_miss q d e (put es k c) r)))
 
 -- cells that are not among those of the entries
 module _ (k : List ℕ) (p : List ℕ × ℕ) (ps : List (List ℕ × ℕ)) (none : find k (p ∷ ps) ≡ None) where
   not_first : same_text k p.0 ≡ false
-  not_first = by_test (same_text k p.0) refl where
-    by_test : (b : Bool) → same_text k p.0 ≡ b → same_text k p.0 ≡ false
-    by_test true e = none_some p.1 (find k (p ∷ ps)) none (find_hit k p ps e)
-    by_test false e = e
+  not_first = cases (same_text k p.0) (λ e. none_some p.1 (find k (p ∷ ps)) none (find_hit k p ps e)) (λ e. e)
 
   not_later : find k ps ≡ None
   not_later = sym (find_miss k p ps not_first) ∙ none
@@ -99,12 +52,11 @@ find_after k (p ∷ ps) es none = find_after k ps (put es p.0 p.1) (not_later k 
 
 pub find_among : (k : List ℕ) (c : ℕ) (ps es : List (List ℕ × ℕ)) → Apart ps → find k ps ≡ Some c → find k (put_each es ps) ≡ Some c
 find_among k c [] es a found = none_some c (find k []) refl found
-find_among k c (p ∷ ps) es a found = by_test (same_text k p.0) refl (find_among k c ps (put es p.0 p.1) a.1) where
-  by_test : (b : Bool) → same_text k p.0 ≡ b → (find k ps ≡ Some c → find k (put_each (put es p.0 p.1) ps) ≡ Some c) → find k (put_each (put es p.0 p.1) ps) ≡ Some c
-  by_test true e later =
-      let n : k ≡ p.0 = (text_decides k p.0).0 e in
-      ap (λ x. find x (put_each (put es p.0 p.1) ps)) n ∙ find_after p.0 ps (put es p.0 p.1) a.0 ∙ find_put p.0 p.1 es ∙ sym (find_hit k p ps e) ∙ found
-  by_test false e later = later (sym (find_miss k p ps e) ∙ found)
+find_among k c (p ∷ ps) es a found = cases (same_text k p.0)
+    (λ e.
+    let n : k ≡ p.0 = (text_decides k p.0).0 e in
+    ap (λ x. find x (put_each (put es p.0 p.1) ps)) n ∙ find_after p.0 ps (put es p.0 p.1) a.0 ∙ find_put p.0 p.1 es ∙ sym (find_hit k p ps e) ∙ found)
+    (λ e. find_among k c ps (put es p.0 p.1) a.1 (sym (find_miss k p ps e) ∙ found))
 
 put_before : (k : List ℕ) (c v : ℕ) (ps es : List (List ℕ × ℕ)) → find k ps ≡ None → find k es ≡ Some v → put (put_each es ps) k c ≡ put_each (put es k c) ps
 put_before k c v [] es none found = refl
@@ -116,31 +68,28 @@ put_before k c v (p ∷ ps) es none found =
 -- one more condition among those that are put
 pub put_more : (k : List ℕ) (c : ℕ) (ps es : List (List ℕ × ℕ)) → Apart ps → put_each es (put ps k c) ≡ put (put_each es ps) k c
 put_more k c [] es a = refl
-put_more k c (p ∷ ps) es a = by_test (same_text k p.0) refl (put_more k c ps (put es p.0 p.1) a.1) where
-  by_test : (b : Bool) → same_text k p.0 ≡ b → put_each (put es p.0 p.1) (put ps k c) ≡ put (put_each (put es p.0 p.1) ps) k c → put_each es (put (p ∷ ps) k c) ≡ put (put_each (put es p.0 p.1) ps) k c
-  by_test true e later =
-      let n : k ≡ p.0 = (text_decides k p.0).0 e in
-      ap (put_each es) (put_hit k c p ps e)
-      ∙ sym (ap (λ x. put (put_each (put es p.0 p.1) ps) x c) n ∙ put_before p.0 c p.1 ps (put es p.0 p.1) a.0 (find_put p.0 p.1 es) ∙ ap (λ l. put_each l ps) (put_again p.0 p.1 c es))
-  by_test false e later = ap (put_each es) (put_miss k c p ps e) ∙ later
+put_more k c (p ∷ ps) es a = cases (same_text k p.0)
+    (λ e.
+    let n : k ≡ p.0 = (text_decides k p.0).0 e in
+    ap (put_each es) (put_hit k c p ps e)
+    ∙ sym (ap (λ x. put (put_each (put es p.0 p.1) ps) x c) n ∙ put_before p.0 c p.1 ps (put es p.0 p.1) a.0 (find_put p.0 p.1 es) ∙ ap (λ l. put_each l ps) (put_again p.0 p.1 c es)))
+    (λ e. ap (put_each es) (put_miss k c p ps e) ∙ put_more k c ps (put es p.0 p.1) a.1)
 
 pub apart_more : (k : List ℕ) (c : ℕ) (ps : List (List ℕ × ℕ)) → Apart ps → Apart (put ps k c)
 apart_more k c [] a = (refl, tt)
-apart_more k c (p ∷ ps) a = by_test (same_text k p.0) refl (apart_more k c ps a.1) where
-  by_test : (b : Bool) → same_text k p.0 ≡ b → Apart (put ps k c) → Apart (put (p ∷ ps) k c)
-  by_test true e later = subst Apart (sym (put_hit k c p ps e)) (a.0, a.1)
-  by_test false e later = subst Apart (sym (put_miss k c p ps e)) (find_other p.0 k c (unalike k p.0 e) ps ∙ a.0, later)
+apart_more k c (p ∷ ps) a = cases (same_text k p.0)
+    (λ e. subst Apart (sym (put_hit k c p ps e)) (a.0, a.1))
+    (λ e. subst Apart (sym (put_miss k c p ps e)) (find_other p.0 k c (unalike k p.0 e) ps ∙ a.0, apart_more k c ps a.1))
 
 pub fits_more : (k : List ℕ) (c : ℕ) (es ps : List (List ℕ × ℕ)) → Fits es ps → ((d : ℕ) → find k es ≡ Some d → (d ≢ 1) × (c ≢ 1)) → Fits es (put ps k c)
-fits_more k c es ps fits one = λ q x d found there. by_test q x d found there (same_text q k) refl where
-  by_test : (q : List ℕ) (x d : ℕ) → find q (put ps k c) ≡ Some x → find q es ≡ Some d → (b : Bool) → same_text q k ≡ b → (d ≢ 1) × (x ≢ 1)
-  by_test q x d found there true e =
-      let n : q ≡ k = (text_decides q k).0 e in
-      let same : Some c ≡ Some x = sym (find_put k c ps) ∙ ap (λ y. find y (put ps k c)) (sym n) ∙ found in
-      let is : c ≡ x = cc in
-      let both = one d (ap (λ y. find y es) (sym n) ∙ there) in
-      (both.0, λ i. both.1 (is ∙ i))
-  by_test q x d found there false e = fits q x d (sym (find_other q k c e ps) ∙ found) there
+fits_more k c es ps fits one = λ q x d found there. cases (same_text q k)
+    (λ e.
+    let n : q ≡ k = (text_decides q k).0 e in
+    let same : Some c ≡ Some x = sym (find_put k c ps) ∙ ap (λ y. find y (put ps k c)) (sym n) ∙ found in
+    let is : c ≡ x = cc in
+    let both = one d (ap (λ y. find y es) (sym n) ∙ there) in
+    (both.0, λ i. both.1 (is ∙ i)))
+    (λ e. fits q x d (sym (find_other q k c e ps) ∙ found) there)
 
 -- rows without those under the word false
 abbrev pub kept_of : List (List ℕ × ℕ) → List (List ℕ × ℕ)
@@ -151,46 +100,35 @@ keep e es true p = ap (λ b. cond (not b) (e ∷ kept_of es) (kept_of es)) p
 keep e es false p = ap (λ b. cond (not b) (e ∷ kept_of es) (kept_of es)) p
 
 pub isnt : (n : ℕ) → n ≢ 1 → nat_eq n 1 ≡ false
-isnt n ne = by_test (nat_eq n 1) refl where
-  by_test : (b : Bool) → nat_eq n 1 ≡ b → nat_eq n 1 ≡ false
-  by_test true p = absurd (ne (eqb-true n 1 p))
-  by_test false p = p
+isnt n ne = cases (nat_eq n 1) (λ p. absurd (ne (eqb-true n 1 p))) (λ p. p)
 
 kept_put : (k : List ℕ) (c : ℕ) (es : List (List ℕ × ℕ)) → ((d : ℕ) → find k es ≡ Some d → (d ≢ 1) × (c ≢ 1)) → kept_of (put es k c) ≡ (if nat_eq c 1 then kept_of es else put (kept_of es) k c)
-kept_put k c [] fit = by_test (nat_eq c 1) refl where
-  by_test : (b : Bool) → nat_eq c 1 ≡ b → kept_of ((k, c) ∷ []) ≡ (if nat_eq c 1 then [] else (k, c) ∷ [])
-  by_test true p = keep (k, c) [] true p ∙ sym (ap (λ b. if b then [] else (k, c) ∷ []) p)
-  by_test false p = keep (k, c) [] false p ∙ sym (ap (λ b. if b then [] else (k, c) ∷ []) p)
-kept_put k c (e ∷ es) fit = by_test (same_text k e.0) refl (kept_put k c es) where
-  by_test : (b : Bool) → same_text k e.0 ≡ b
-      → (((d : ℕ) → find k es ≡ Some d → (d ≢ 1) × (c ≢ 1)) → kept_of (put es k c) ≡ (if nat_eq c 1 then kept_of es else put (kept_of es) k c)) → kept_of (put (e ∷ es) k c) ≡ (if nat_eq c 1 then kept_of (e ∷ es) else put (kept_of (e ∷ es)) k c)
-  by_test true p later =
-      let both = fit e.1 (find_hit k e es p) in
-      ap kept_of (put_hit k c e es p) ∙ keep (e.0, c) es false (isnt c both.1)
-      ∙ sym (ap (λ b. if b then kept_of (e ∷ es) else put (kept_of (e ∷ es)) k c) (isnt c both.1)
-      ∙ ap (λ l. put l k c) (keep e es false (isnt e.1 both.0)) ∙ put_hit k c e (kept_of es) p)
-  by_test false p later = by_first (nat_eq e.1 1) refl (later (λ d there. fit d (find_miss k e es p ∙ there))) where
-    by_first : (b : Bool) → nat_eq e.1 1 ≡ b → kept_of (put es k c) ≡ (if nat_eq c 1 then kept_of es else put (kept_of es) k c)
-        → kept_of (put (e ∷ es) k c) ≡ (if nat_eq c 1 then kept_of (e ∷ es) else put (kept_of (e ∷ es)) k c)
-    by_first true r later =
-        ap kept_of (put_miss k c e es p) ∙ keep e (put es k c) true r ∙ later
-        ∙ ap (λ l. if nat_eq c 1 then l else put l k c) (sym (keep e es true r))
-    by_first false r later =
-        ap kept_of (put_miss k c e es p) ∙ keep e (put es k c) false r ∙ ap (λ l. e ∷ l) later
-        ∙ by_new (nat_eq c 1)
-        ∙ ap (λ l. if nat_eq c 1 then l else put l k c) (sym (keep e es false r)) where
-          by_new : (b : Bool) → e ∷ (if b then kept_of es else put (kept_of es) k c) ≡ (if b then e ∷ kept_of es else put (e ∷ kept_of es) k c)
-          by_new true = refl
-          by_new false = sym (put_miss k c e (kept_of es) p)
+kept_put k c [] fit = keep (k, c) [] (nat_eq c 1) refl
+kept_put k c (e ∷ es) fit = cases (same_text k e.0)
+    (λ p.
+    let both = fit e.1 (find_hit k e es p) in
+    ap kept_of (put_hit k c e es p) ∙ keep (e.0, c) es false (isnt c both.1)
+    ∙ sym (ap (λ b. if b then kept_of (e ∷ es) else put (kept_of (e ∷ es)) k c) (isnt c both.1)
+    ∙ ap (λ l. put l k c) (keep e es false (isnt e.1 both.0)) ∙ put_hit k c e (kept_of es) p))
+    (λ p.
+    let later = kept_put k c es (λ d there. fit d (find_miss k e es p ∙ there)) in
+    cases (nat_eq e.1 1)
+    (λ r. ap kept_of (put_miss k c e es p) ∙ keep e (put es k c) true r ∙ later
+    ∙ ap (λ l. if nat_eq c 1 then l else put l k c) (sym (keep e es true r)))
+    (λ r. ap kept_of (put_miss k c e es p) ∙ keep e (put es k c) false r ∙ ap (λ l. e ∷ l) later
+    ∙ by_new p (nat_eq c 1)
+    ∙ ap (λ l. if nat_eq c 1 then l else put l k c) (sym (keep e es false r)))) where
+      by_new : same_text k e.0 ≡ false → (b : Bool) → e ∷ (if b then kept_of es else put (kept_of es) k c) ≡ (if b then e ∷ kept_of es else put (e ∷ kept_of es) k c)
+      by_new p true = refl
+      by_new p false = sym (put_miss k c e (kept_of es) p)
 
 kept_grown : (ps es : List (List ℕ × ℕ)) → Apart ps → Fits es ps → kept_of (put_each es ps) ≡ grown (kept_of es) ps
 kept_grown [] es a fits = refl
 kept_grown (p ∷ ps) es a fits =
-    kept_grown ps (put es p.0 p.1) a.1 (λ k c d found there. by_test k c d found there (same_text k p.0) refl)
-    ∙ ap (λ l. grown l ps) (kept_put p.0 p.1 es (λ d there. fits p.0 p.1 d (find_hit p.0 p ps (same_self p.0)) there)) where
-      by_test : (k : List ℕ) (c d : ℕ) → find k ps ≡ Some c → find k (put es p.0 p.1) ≡ Some d → (b : Bool) → same_text k p.0 ≡ b → (d ≢ 1) × (c ≢ 1)
-      by_test k c d found there true e = none_some c (find k ps) (ap (λ x. find x ps) ((text_decides k p.0).0 e) ∙ a.0) found
-      by_test k c d found there false e = fits k c d (find_miss k p ps e ∙ found) (sym (find_other k p.0 p.1 e es) ∙ there)
+    kept_grown ps (put es p.0 p.1) a.1 (λ k c d found there. cases (same_text k p.0)
+    (λ e. none_some c (find k ps) (ap (λ x. find x ps) ((text_decides k p.0).0 e) ∙ a.0) found)
+    (λ e. fits k c d (find_miss k p ps e ∙ found) (sym (find_other k p.0 p.1 e es) ∙ there)))
+    ∙ ap (λ l. grown l ps) (kept_put p.0 p.1 es (λ d there. fits p.0 p.1 d (find_hit p.0 p ps (same_self p.0)) there))
 
 rows_kept : (es : List (List ℕ × ℕ)) → filter is_possible (rows_of es) ≡ rows_of (kept_of es)
 rows_kept [] = refl
@@ -203,41 +141,22 @@ rows_kept (e ∷ es) = ap (λ l. cond (not (nat_eq e.1 1)) (record { cells = e.0
 pub rows_grown : (ps es : List (List ℕ × ℕ)) → Apart ps → Fits es ps → kept_of es ≡ es → filter is_possible (rows_of (put_each es ps)) ≡ rows_of (grown es ps)
 rows_grown ps es a fits all = rows_kept (put_each es ps) ∙ ap rows_of (kept_grown ps es a fits ∙ ap (λ l. grown l ps) all)
 
--- new cells get a row of their own, which stands last
-pub rows_last : (k : List ℕ) (c : ℕ) (es : List (List ℕ × ℕ)) → find k es ≡ None → rows_of es ++ record { cells = k; cond = c } ∷ [] ≡ rows_of (put es k c)
-rows_last k c [] none = refl
-rows_last k c (e ∷ es) none =
-    ap (λ l. record { cells = e.0; cond = e.1 } ∷ l) (rows_last k c es (not_later k e es none)) ∙ sym (ap rows_of (put_miss k c e es (not_first k e es none)))
-
--- where the row of these cells stands
-abbrev at : List ℕ → List (List ℕ × ℕ) → ℕ
-at k es = position_or_len (same_text k) (map (λ e. e.0) es)
-
-at_hit : (k : List ℕ) (e : List ℕ × ℕ) (es : List (List ℕ × ℕ)) → same_text k e.0 ≡ true → at k (e ∷ es) ≡ 0
-at_hit k e es p = ap (λ b. cond (not b) (1 + at k es) 0) p
-
-at_miss : (k : List ℕ) (e : List ℕ × ℕ) (es : List (List ℕ × ℕ)) → same_text k e.0 ≡ false → at k (e ∷ es) ≡ suc (at k es)
-at_miss k e es p = let one : 1 + at k es ≡ suc (at k es) = omega arith in ap (λ b. cond (not b) (1 + at k es) 0) p ∙ one
-
 -- cells that are there get their condition in their row
-pub rows_set : (k : List ℕ) (c v : ℕ) (x : CRow) (es : List (List ℕ × ℕ)) → find k es ≡ Some v → x ≡ get_or (rows_of es) (at k es) x
-    → set (rows_of es) (at k es) (record { cells = x.cells; cond = c }) ≡ rows_of (put es k c)
+pub rows_set : (k : List ℕ) (c v : ℕ) (x : CRow) (es : List (List ℕ × ℕ)) → find k es ≡ Some v → x ≡ get_or (rows_of es) (place_of k es) x
+    → set (rows_of es) (place_of k es) (record { cells = x.cells; cond = c }) ≡ rows_of (put es k c)
 rows_set k c v x [] found is = none_some v (find k []) refl found
-rows_set k c v x (e ∷ es) found is = by_test (same_text k e.0) refl (rows_set k c v x es) where
-  new : CRow
-  new = record { cells = x.cells; cond = c }
-
-  by_test : (b : Bool) → same_text k e.0 ≡ b → (find k es ≡ Some v → x ≡ get_or (rows_of es) (at k es) x → set (rows_of es) (at k es) new ≡ rows_of (put es k c))
-      → set (rows_of (e ∷ es)) (at k (e ∷ es)) new ≡ rows_of (put (e ∷ es) k c)
-  by_test true p later =
-      let cells : x.cells ≡ e.0 = ap (λ (r : CRow). r.cells) (is ∙ ap (λ i. get_or (rows_of (e ∷ es)) i x) (at_hit k e es p)) in
-      ap (λ i. set (rows_of (e ∷ es)) i new) (at_hit k e es p)
-      ∙ (λ i. record { cells = cells i; cond = c } ∷ rows_of es)
-      ∙ sym (ap rows_of (put_hit k c e es p))
-  by_test false p later =
-      ap (λ i. set (rows_of (e ∷ es)) i new) (at_miss k e es p)
-      ∙ ap (λ l. record { cells = e.0; cond = e.1 } ∷ l) (later (sym (find_miss k e es p) ∙ found) (is ∙ ap (λ i. get_or (rows_of (e ∷ es)) i x) (at_miss k e es p)))
-      ∙ sym (ap rows_of (put_miss k c e es p))
+rows_set k c v x (e ∷ es) found is =
+    let new : CRow = record { cells = x.cells; cond = c } in
+    cases (same_text k e.0)
+    (λ p.
+    let cells : x.cells ≡ e.0 = ap (λ (r : CRow). r.cells) (is ∙ ap (λ i. get_or (rows_of (e ∷ es)) i x) (at_hit k e es p)) in
+    ap (λ i. set (rows_of (e ∷ es)) i new) (at_hit k e es p)
+    ∙ (λ i. record { cells = cells i; cond = c } ∷ rows_of es)
+    ∙ sym (ap rows_of (put_hit k c e es p)))
+    (λ p.
+    ap (λ i. set (rows_of (e ∷ es)) i new) (at_miss k e es p)
+    ∙ ap (λ l. record { cells = e.0; cond = e.1 } ∷ l) (rows_set k c v x es (sym (find_miss k e es p) ∙ found) (is ∙ ap (λ i. get_or (rows_of (e ∷ es)) i x) (at_miss k e es p)))
+    ∙ sym (ap rows_of (put_miss k c e es p)))
 
 -- the rows up to one more place
 pub rows_one_more : (es : List (List ℕ × ℕ)) (n : ℕ) (p : List ℕ × ℕ) → slice_get es n ≡ Some p → take n (rows_of es) ++ record { cells = p.0; cond = p.1 } ∷ [] ≡ take (n + 1) (rows_of es)

@@ -1,10 +1,7 @@
 -- The size of a query grows with the counts of rows of the tables.
-use Rattle.std.proofs.Common.{ℕ, ◌+◌, ◌*◌, ◌≤◌, List, [], ◌∷◌, map, max, arith}
-use Rattle.std.specs.List.{fold}
-use Rattle.std.proofs.lemmas.Nat.{mul-le}
+use Rattle.std.{proofs.Common.{ℕ, ◌+◌, ◌*◌, ◌≤◌, List, [], ◌∷◌, map, max, arith}, specs.List.fold, proofs.lemmas.Nat.mul-le}
+use Rattle.ct_query.{specs.Plain.PlainQuery, specs.Size.{row_bound, number, parts, size}}
 use Rattle.ct_query.specs.Plain as plain
-use Rattle.ct_query.specs.Plain.{PlainQuery}
-use Rattle.ct_query.specs.Size.{row_bound, number, parts, size}
 
 add_le : (a b m n : ℕ) → a ≤ m → b ≤ n → a + b ≤ m + n
 add_le a b m n p q = omega arith

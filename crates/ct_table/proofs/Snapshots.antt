@@ -1,47 +1,25 @@
 -- The global condition, the kept world and the whole of a snapshot: as words grow, and after one step.
 use Rattle.std.proofs.Common.{◌≡◌, ◌≤◌, ℕ, Bool, true, false, ◌&&◌, List, [], ◌∷◌, ◌++◌, length, take, refl, ap, sym, subst, ◌∙◌, ◌+◌, arith, inl, inr, take_all, length-append}
-use Rattle.std.specs.Prelude.{Option, Some, None, IsSome, IsTrue, is_some, option_and_then, if◌then◌else◌}
-use Rattle.std.specs.List.{Contains}
-use Rattle.std.proofs.lemmas.List.{take-append-le}
-use Rattle.std.proofs.lemmas.Option.{slice_get_within}
-use Rattle.std.proofs.lemmas.List.Elements.{All-nil, All-weaker, Contains-push}
-use mathlib.Core.List.{IsPrefix}
-use Rattle.ct_word.specs.declared.kinds.Class.TheVariants as class
-use Rattle.ct_word.specs.declared.values.Value.{Value}
-use Rattle.ct_word.specs.declared.values.Term.{Term}
-use Rattle.ct_word.specs.declared.values.Term.TheVariants as term
-use Rattle.ct_word.specs.Value.{World}
-use Rattle.ct_word.specs.Condition.{Condition, holds_at}
-use Rattle.ct_word.specs.Change.{Assert, PlainCommit}
-use Rattle.ct_word.specs.WellFormed.{IsWellFormed, is_place_of}
-use Rattle.ct_word.specs.Reading.{IsTerm, meanings, condition_at, commits_of}
-use Rattle.ct_word.specs.Stands.{TermBelow, HasNoColumn}
-use Rattle.ct_word.specs.Later.{Later}
-use Rattle.ct_word.proofs.Growth.{length-read}
+use Rattle.std.{specs.Prelude.{Option, Some, None, IsSome, IsTrue, is_some, option_and_then, if◌then◌else◌}, specs.List.Contains}
+use Rattle.std.{proofs.lemmas.List.take-append-le, proofs.lemmas.Option.slice_get_within, proofs.lemmas.List.Elements.{All-nil, All-weaker, Contains-push}}
+use Rattle.ct_word.{specs.declared.values.Value.Value, specs.declared.values.Term.Term, specs.Value.World, specs.Condition.{Condition, holds_at}}
+use Rattle.ct_word.{specs.Change.{Assert, PlainCommit}, specs.WellFormed.{IsWellFormed, is_place_of}, specs.Stands.{TermBelow, HasNoColumn}, specs.Later.Later}
+use Rattle.ct_word.{specs.Reading.{IsTerm, meanings, condition_at, commits_of}, proofs.Growth.length-read}
 use Rattle.ct_word.proofs.Prefixes.{place_within, place_in_prefix, stands_in_prefix, condition_in_prefix, commits_prefix}
-use Rattle.ct_query.specs.Plain as plain
-use Rattle.ct_query.specs.Plain.{PlainAction}
-use Rattle.ct_query.specs.declared.schema.Heading.{Heading}
-use Rattle.ct_query.specs.declared.action.Read.TheVariants as read
-use Rattle.ct_query.specs.Database.{Database}
-use Rattle.ct_query.specs.Step.{asserted}
-use Rattle.ct_query.specs.Worlds.{world, admits, changes_of}
-use Rattle.ct_query.specs.Agrees.{SameTruthAlone}
-use Rattle.ct_query.specs.Terms.{condition_terms}
-use Rattle.ct_condition.specs.Terms.{TermsFrom, BelowEither}
-use Rattle.ct_condition.specs.Truth.{HasTruth, and_at}
-use Rattle.ct_condition.proofs.Reached.{formed_before}
-use Rattle.ct_condition.proofs.Truths.{true_at}
+use Rattle.ct_query.{specs.Plain.PlainAction, specs.declared.schema.Heading.Heading, specs.Database.Database, specs.Step.asserted, specs.Agrees.SameTruthAlone}
+use Rattle.ct_query.{specs.Worlds.{world, admits, changes_of}, specs.Terms.condition_terms}
+use Rattle.ct_condition.{specs.Terms.{TermsFrom, BelowEither}, specs.Truth.{HasTruth, and_at}, proofs.Reached.formed_before, proofs.Truths.true_at}
 use Rattle.ct_condition.proofs.Denied.{below_literal}
 use Rattle.ct_arena.specs.Counts.{opening}
-use Rattle.ct_table.specs.Denotes.{TableView, IsTermFor, by_change, by_action, Denotes}
+use Rattle.ct_table.{specs.Denotes.{TableView, IsTermFor, by_change, by_action, Denotes}, specs.Following.Follows, proofs.Changing.denotes_grows}
 use Rattle.ct_table.specs.Snapshot.{IsGlobal, IsKeptValue, other, constant, IsKeptWorld, commits_to, IsSnapshot}
-use Rattle.ct_table.specs.Following.{Follows}
-use Rattle.ct_operators.proofs.Reaching.{below_before, foremost}
 use Rattle.ct_table.proofs.Following.{change_follows, action_follows}
-use Rattle.ct_operators.proofs.Naming.{condition_named}
-use Rattle.ct_operators.proofs.Firsts.{none_distinct}
-use Rattle.ct_table.proofs.Changing.{denotes_grows}
+use Rattle.ct_operators.{proofs.Reaching.{below_before, foremost}, proofs.Naming.condition_named, proofs.Firsts.none_distinct}
+use mathlib.Core.List.{IsPrefix}
+use Rattle.ct_word.specs.declared.kinds.Class.TheVariants as class
+use Rattle.ct_word.specs.declared.values.Term.TheVariants as term
+use Rattle.ct_query.specs.Plain as plain
+use Rattle.ct_query.specs.declared.action.Read.TheVariants as read
 
 module _ (old new : List ℕ) (longer : IsPrefix old new) (formed : IsWellFormed new) (h : List PlainCommit) (actions : List PlainAction) where
   -- a term below a place stood below it before

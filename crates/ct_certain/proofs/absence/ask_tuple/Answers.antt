@@ -1,18 +1,12 @@
-use Rattle.std.proofs.Common.{◌≡◌, ◌*◌, ◌+◌, true, Err, length, ap, sym, subst, ◌∙◌}
-use Rattle.std.specs.Prelude.{All}
-use Rattle.std.proofs.lemmas.List.Elements.{All-weaker}
+use Rattle.std.{proofs.Common.{◌≡◌, ◌*◌, ◌+◌, true, Err, length, ap, sym, subst, ◌∙◌}, specs.Prelude.All, proofs.lemmas.List.Elements.All-weaker}
 use Rattle.std.proofs.lemmas.Result.{err_from_is_err_and}
-use Rattle.ct_word.specs.declared.kinds.Class.TheVariants as class
-use Rattle.ct_word.specs.Stands.{HasNoColumn}
-use Rattle.ct_word.specs.WellFormed.{is_place_of}
+use Rattle.ct_word.{specs.Stands.HasNoColumn, specs.WellFormed.is_place_of}
 use Rattle.ct_cnf.specs.Encoding.{HasTermsPast}
 use Rattle.ct_condition.specs.Writes.{Writes}
 use Rattle.ct_operators.proofs.Adding.{passed}
 use Rattle.ct_derivation.proofs.Longer.{accepted_longer}
-use Rattle.ct_certain.specs.Answered.{IsRefutation, IsSettled}
-use Rattle.ct_certain.specs.Missing.{IsRefuted}
-use Rattle.ct_certain.proofs.Cuts.{cut_longer}
-use Rattle.ct_certain.proofs.Roots.{handed_on, never_many}
+use Rattle.ct_certain.{specs.Answered.{IsRefutation, IsSettled}, specs.Missing.IsRefuted, proofs.Cuts.cut_longer, proofs.Roots.{handed_on, never_many}}
+use Rattle.ct_word.specs.declared.kinds.Class.TheVariants as class
 use Rattle.ct_certain.proofs.absence.ask_tuple.Goals as goal
 
 pub settle-requires-clause-condition : goal.settle-requires-clause-condition

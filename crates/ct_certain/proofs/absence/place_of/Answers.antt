@@ -1,18 +1,10 @@
-use Rattle.std.proofs.Common.{◌≡◌, sym, subst}
-use Rattle.std.specs.Prelude.{is_err}
-use Rattle.std.proofs.lemmas.Result.{IfOk-at_ok, err_from_is_err_and}
+use Rattle.std.{proofs.Common.{◌≡◌, sym, subst}, specs.Prelude.{is_err, IsTrue}, proofs.lemmas.Result.{IfOk-at_ok, err_from_is_err_and}}
+use Rattle.ct_word.{specs.Reading.IsTerm, specs.Stands.StandsAt, specs.WellFormed.is_place_of}
+use Rattle.ct_query.specs.Fields.{FitsFields}
+use Rattle.ct_condition.{specs.Terms.TermsFrom, specs.Writes.Writes, proofs.Writes.writes_none}
+use Rattle.ct_certain.{specs.Missing.{IsAtHand, IsOfValue}, proofs.Values.{value_fits, value_writes}}
 use Rattle.ct_word.specs.declared.kinds.Class.TheVariants as class
 use Rattle.ct_word.specs.declared.values.Term.TheVariants as term
-use Rattle.ct_word.specs.Reading.{IsTerm}
-use Rattle.ct_word.specs.Stands.{StandsAt}
-use Rattle.ct_word.specs.WellFormed.{is_place_of}
-use Rattle.std.specs.Prelude.{IsTrue}
-use Rattle.ct_query.specs.Fields.{FitsFields}
-use Rattle.ct_condition.specs.Terms.{TermsFrom}
-use Rattle.ct_condition.specs.Writes.{Writes}
-use Rattle.ct_condition.proofs.Writes.{writes_none}
-use Rattle.ct_certain.specs.Missing.{IsAtHand, IsOfValue}
-use Rattle.ct_certain.proofs.Values.{value_fits, value_writes}
 use Rattle.ct_certain.proofs.absence.place_of.Goals as goal
 
 pub term-found-requires : goal.term-found-requires

@@ -1,10 +1,7 @@
-use Rattle.std.proofs.Common.{◌≡◌, ◌≤◌, ◌*◌, ◌+◌, ◌++◌, ◌∷◌, ◌∙◌, [], length, take, ap, sym, subst, arith}
-use Rattle.std.proofs.lemmas.List.{take_more}
-use Rattle.std.proofs.lemmas.List.Elements.{All-get_or}
-use Rattle.std.proofs.lemmas.Result.{err_from_is_err_and}
+use Rattle.std.{proofs.Common.{◌≡◌, ◌≤◌, ◌*◌, ◌+◌, ◌++◌, ◌∷◌, ◌∙◌, [], length, take, ap, sym, subst, arith}, proofs.lemmas.List.take_more}
+use Rattle.std.{proofs.lemmas.List.Elements.All-get_or, proofs.lemmas.Result.err_from_is_err_and}
 use Rattle.ct_condition.proofs.Writes.{writes_none, writes_within, writes_as, writes_more, writes_last}
-use Rattle.ct_certain.specs.Missing.{AreOfTuple, IsAtHand}
-use Rattle.ct_certain.proofs.Values.{at_hand_grows, are_turn}
+use Rattle.ct_certain.{specs.Missing.{AreOfTuple, IsAtHand}, proofs.Values.{at_hand_grows, are_turn}}
 use Rattle.ct_certain.proofs.absence.places.Goals as goal
 
 pub loop-value-init : goal.loop-value-init

@@ -1,17 +1,10 @@
-use Rattle.std.proofs.Common.{◌*◌, ◌+◌, ◌++◌, not, length, ap, sym, subst, ◌∙◌}
-use Rattle.std.specs.Prelude.{filter}
-use Rattle.std.proofs.lemmas.List.Elements.{All-weaker}
+use Rattle.std.{proofs.Common.{◌*◌, ◌+◌, ◌++◌, not, length, ap, sym, subst, ◌∙◌}, specs.Prelude.filter, proofs.lemmas.List.Elements.All-weaker}
 use Rattle.std.proofs.lemmas.Result.{IfOk-at_ok, err_from_is_err_and}
 use Rattle.ct_word.specs.Sublist.{IsSublist}
 use Rattle.ct_query.specs.Database.{has_tuple, SameSet}
-use Rattle.ct_condition.specs.Writes.{Writes}
-use Rattle.ct_condition.proofs.Writes.{writes_both, writes_within, writes_as}
-use Rattle.ct_operators.specs.Refusals.{is_full}
-use Rattle.ct_operators.specs.Tables.{AreRows, value_of_rows, cells_of}
-use Rattle.ct_operators.specs.Terms.{TermOfRows, RowsFrom}
-use Rattle.ct_certain.specs.Missing.{IsAtHand, IsRootOf, condition_of}
-use Rattle.ct_certain.proofs.Candidates.{asked_later}
-use Rattle.ct_certain.proofs.Values.{at_hand_grows}
+use Rattle.ct_condition.{specs.Writes.Writes, proofs.Writes.{writes_both, writes_within, writes_as}}
+use Rattle.ct_operators.{specs.Refusals.is_full, specs.Tables.{AreRows, value_of_rows, cells_of}, specs.Terms.{TermOfRows, RowsFrom}}
+use Rattle.ct_certain.{specs.Missing.{IsAtHand, IsRootOf, condition_of}, proofs.Candidates.asked_later, proofs.Values.at_hand_grows}
 use Rattle.ct_certain.proofs.Roots.{alone_by, table_rows, table_writes, root_by, root_most, root_begun}
 use Rattle.ct_certain.proofs.absence.root.Goals as goal
 
@@ -21,29 +14,21 @@ places-requires g c =
     let old = g.I.Interner.list c.args.pass.now in
     All-weaker (IsAtHand words) (IsAtHand old) (λ x. at_hand_grows words old x c.requires.grown) c.args.tuple.now c.requires.values
 
-pub except-rest-requires-clause-left : goal.except-rest-requires-clause-left
-except-rest-requires-clause-left g c =
+pub except-rest-requires : goal.except-rest-requires
+except-rest-requires g c =
     let words = c.args.words.now in
     let old = g.I.Interner.list c.args.pass.now in
     let mid = g.I.Interner.list c.places.new.pass in
     let width = length c.args.table.now.columns in
     let rows = c.args.table.now.rows in
     let tuple = c.args.tuple.now in
-    alone_by words mid mid c.args.global width rows tuple (asked_later words old mid c.args.global width rows tuple c.in_ok-cells.ensures.writes.longer c.requires) c.words.ensures.formed c.in_ok-cells.cells c.in_ok-cells.ensures.places
-    c.in_ok-alone.alone.rows (length c.in_ok-alone.alone.columns) c.in_ok-alone.ensures.rows (ap length c.in_ok-alone.ensures.columns)
-
-pub except-rest-requires-clause-right : goal.except-rest-requires-clause-right
-except-rest-requires-clause-right g c =
-    let words = c.args.words.now in
-    let old = g.I.Interner.list c.args.pass.now in
-    let mid = g.I.Interner.list c.places.new.pass in
-    let width = length c.args.table.now.columns in
-    let rows = c.args.table.now.rows in
-    let tuple = c.args.tuple.now in
-    table_rows words mid mid c.args.global width rows tuple (asked_later words old mid c.args.global width rows tuple c.in_ok-cells.ensures.writes.longer c.requires) c.words.ensures.formed c.in_ok-cells.cells c.in_ok-cells.ensures.places
-
-pub except-rest-requires-clause-columns : goal.except-rest-requires-clause-columns
-except-rest-requires-clause-columns g c = sym (ap length c.in_ok-alone.ensures.columns)
+    let asked = asked_later words old mid c.args.global width rows tuple c.in_ok-cells.ensures.writes.longer c.requires in
+    record {
+      left = alone_by words mid mid c.args.global width rows tuple asked c.words.ensures.formed c.in_ok-cells.cells c.in_ok-cells.ensures.places
+          c.in_ok-alone.alone.rows (length c.in_ok-alone.alone.columns) c.in_ok-alone.ensures.rows (ap length c.in_ok-alone.ensures.columns);
+      right = table_rows words mid mid c.args.global width rows tuple asked c.words.ensures.formed c.in_ok-cells.cells c.in_ok-cells.ensures.places;
+      columns = sym (ap length c.in_ok-alone.ensures.columns);
+    }
 
 pub returns-in-Ok-clause-root : goal.returns-in-Ok-clause-root
 returns-in-Ok-clause-root g c =

@@ -1,7 +1,5 @@
-use Rattle.std.proofs.Common.{◌∷◌, get_or, subst, arith}
-use Rattle.std.proofs.lemmas.Option.{slice_get-get_or}
-use Rattle.ct_certain.specs.Own.{ArePut}
-use Rattle.ct_certain.proofs.Own.{at_place, gathered_all, gathered_first, gathered_turn, part_within}
+use Rattle.std.{proofs.Common.{◌∷◌, get_or, subst, arith}, proofs.lemmas.Option.slice_get-get_or}
+use Rattle.ct_certain.{specs.Own.ArePut, proofs.Own.{at_place, gathered_all, gathered_first, gathered_turn, part_within}}
 use Rattle.ct_certain.proofs.below.gather.Goals as goal
 
 pub loop-next-init : goal.loop-next-init

@@ -1,6 +1,5 @@
 use Rattle.std.proofs.lemmas.List.Elements.{All-get_or}
-use Rattle.ct_certain.specs.Own.{IsPart}
-use Rattle.ct_certain.proofs.Own.{nulls_turn}
+use Rattle.ct_certain.{specs.Own.IsPart, proofs.Own.nulls_turn}
 use Rattle.ct_certain.proofs.below.nulls_at.Goals as goal
 
 pub loop-place-preserved : goal.loop-place-preserved

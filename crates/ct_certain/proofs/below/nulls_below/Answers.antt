@@ -1,6 +1,5 @@
 use Rattle.std.proofs.Common.{◌∷◌, subst}
-use Rattle.ct_certain.specs.Own.{AreNullsOf, IsTermAtSome}
-use Rattle.ct_certain.proofs.Own.{nulls_gathered}
+use Rattle.ct_certain.{specs.Own.{AreNullsOf, IsTermAtSome}, proofs.Own.nulls_gathered}
 use Rattle.ct_certain.proofs.below.nulls_below.Goals as goal
 
 pub returns : goal.returns

@@ -1,7 +1,6 @@
 use Rattle.std.proofs.Common.{ap, sym, ◌∙◌}
 use Rattle.indexmap.specs.IndexSet.{insert_key}
-use Rattle.ct_certain.specs.Own.{with_term}
-use Rattle.ct_certain.proofs.Own.{compared}
+use Rattle.ct_certain.{specs.Own.with_term, proofs.Own.compared}
 use Rattle.ct_certain.proofs.below.put_null.Goals as goal
 
 pub returns-in_ok-insert : goal.returns-in_ok-insert

@@ -1,7 +1,6 @@
 use Rattle.std.proofs.Common.{[], ◌∷◌, sym, subst, ◌∙◌}
 use Rattle.ct_word.specs.Word.{left_of, right_of}
-use Rattle.ct_certain.specs.Own.{ArePut, parts_in}
-use Rattle.ct_certain.proofs.Own.{both_parts, left_part, no_parts, put_more, put_none, put_one}
+use Rattle.ct_certain.{specs.Own.{ArePut, parts_in}, proofs.Own.{both_parts, left_part, no_parts, put_more, put_none, put_one}}
 use Rattle.ct_certain.proofs.below.put_parts.Goals as goal
 
 pub returns-in_default : goal.returns-in_default

@@ -1,15 +1,9 @@
-use Rattle.std.proofs.Common.{◌≡◌, ◌≤◌, Err, length, ap, sym, subst, arith, ◌∙◌, rules}
-use Rattle.std.specs.Prelude.{All}
-use Rattle.std.specs.List.{IsDistinct}
+use Rattle.std.{proofs.Common.{◌≡◌, ◌≤◌, Err, length, ap, sym, subst, arith, ◌∙◌, rules}, specs.Prelude.All, specs.List.IsDistinct}
 use Rattle.std.proofs.lemmas.Result.{err_from_is_err_and}
 use Rattle.ct_word.specs.Value.{same_tuple}
-use Rattle.ct_operators.specs.Tables.{firsts, value_of_rows}
-use Rattle.ct_operators.proofs.Adding.{passed}
-use Rattle.ct_certain.specs.Certain.{IsCutProof, ListsCertain}
-use Rattle.ct_certain.specs.Missing.{AreListed, IsAskedOf, IsPastTermsOfSomeTuple, IsSeen}
-use Rattle.ct_certain.proofs.Candidates.{distinct_keys, first_all, first_fewer, worth_asked, worth_fewer}
-use Rattle.ct_certain.proofs.Certainties.{all_cut, listed_all}
-use Rattle.ct_certain.proofs.Roots.{past_width}
+use Rattle.ct_operators.{specs.Tables.{firsts, value_of_rows}, proofs.Adding.passed}
+use Rattle.ct_certain.{specs.Certain.{IsCutProof, ListsCertain}, specs.Missing.{AreListed, IsAskedOf, IsPastTermsOfSomeTuple, IsSeen}, proofs.Roots.past_width}
+use Rattle.ct_certain.{proofs.Candidates.{distinct_keys, first_all, first_fewer, worth_asked, worth_fewer}, proofs.Certainties.{all_cut, listed_all}}
 use Rattle.ct_certain.proofs.certainty.certain.Goals as goal
 
 pub each_certain-requires-clause-few : goal.each_certain-requires-clause-few

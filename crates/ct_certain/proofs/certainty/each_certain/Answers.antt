@@ -1,13 +1,9 @@
-use Rattle.std.proofs.Common.{◌≤◌, ◌<◌, Err, [], length, ap, sym, subst, arith, ◌∙◌}
-use mathlib.Core.List.{IsPrefix}
-use Rattle.std.proofs.lemmas.List.{take_all}
-use Rattle.std.proofs.lemmas.List.Elements.{All-get_or}
+use Rattle.std.{proofs.Common.{◌≤◌, ◌<◌, Err, [], length, ap, sym, subst, arith, ◌∙◌}, proofs.lemmas.List.take_all, proofs.lemmas.List.Elements.All-get_or}
 use Rattle.std.proofs.lemmas.Result.{err_from_is_err_and}
 use Rattle.ct_condition.proofs.Writes.{writes_none, writes_all, writes_more, writes_last}
 use Rattle.ct_operators.proofs.Adding.{passed}
-use Rattle.ct_certain.specs.Missing.{AreListed, IsAskedOf}
-use Rattle.ct_certain.proofs.Candidates.{asked_later}
-use Rattle.ct_certain.proofs.Certainties.{listed_none, listed_turn}
+use Rattle.ct_certain.{specs.Missing.{AreListed, IsAskedOf}, proofs.Candidates.asked_later, proofs.Certainties.{listed_none, listed_turn}}
+use mathlib.Core.List.{IsPrefix}
 use Rattle.ct_certain.proofs.certainty.each_certain.Goals as goal
 
 pub loop-tuple-init : goal.loop-tuple-init

@@ -1,5 +1,4 @@
-use Rattle.std.proofs.Common.{◌*◌, ◌+◌, false, length, take}
-use Rattle.std.specs.Prelude.{All}
+use Rattle.std.{proofs.Common.{◌*◌, ◌+◌, false, length, take}, specs.Prelude.All}
 use Rattle.ct_condition.specs.Writes.{Writes}
 use Rattle.ct_certain.specs.Missing.{AreListed, IsSeen}
 use Rattle.ct_certain.proofs.certainty.each_certain.Given as goal

@@ -1,9 +1,6 @@
-use Rattle.std.proofs.Common.{Err, ap, sym, subst, ◌∙◌}
-use Rattle.std.proofs.lemmas.Result.{err_from_is_err_and}
+use Rattle.std.{proofs.Common.{Err, ap, sym, subst, ◌∙◌}, proofs.lemmas.Result.err_from_is_err_and}
 use Rattle.ct_operators.proofs.Adding.{passed}
-use Rattle.ct_certain.specs.Answered.{IsSettled}
-use Rattle.ct_certain.specs.Certain.{IsInAll}
-use Rattle.ct_certain.specs.Missing.{IsPastTermsOfAbsence, IsRootOf, nothing}
+use Rattle.ct_certain.{specs.Answered.IsSettled, specs.Certain.IsInAll, specs.Missing.{IsPastTermsOfAbsence, IsRootOf, nothing}}
 use Rattle.ct_certain.proofs.Certainties.{takes_nothing, takes_one}
 use Rattle.ct_certain.proofs.certainty.try_tuple.Goals as goal
 

@@ -1,6 +1,5 @@
 use Rattle.std.proofs.Common.{ap, ◌∙◌}
-use Rattle.ct_certain.specs.Order.{slot}
-use Rattle.ct_certain.proofs.Slots.{put_at, put_nowhere}
+use Rattle.ct_certain.{specs.Order.slot, proofs.Slots.{put_at, put_nowhere}}
 use Rattle.ct_certain.proofs.order.put.Goals as goal
 
 pub returns-in-None : goal.returns-in-None

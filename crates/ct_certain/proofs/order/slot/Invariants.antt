@@ -1,6 +1,5 @@
 use Rattle.std.proofs.Common.{◌≡◌, drop}
-use Rattle.ct_certain.specs.Order.{slot}
-use Rattle.ct_certain.proofs.Slots.{past}
+use Rattle.ct_certain.{specs.Order.slot, proofs.Slots.past}
 use Rattle.ct_certain.proofs.order.slot.Given as goal
 
 abbrev pub invariant-loop-place : goal.invariant-loop-place

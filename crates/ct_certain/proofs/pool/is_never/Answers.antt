@@ -1,7 +1,4 @@
-use Rattle.std.proofs.Common.{sym, ◌∙◌}
-use Rattle.std.proofs.lemmas.Bool.{eqb-true}
-use Rattle.std.specs.Prelude.{nat_eq}
-use Rattle.std.proofs.lemmas.List.Elements.{All-contains}
+use Rattle.std.{proofs.Common.{sym, ◌∙◌}, proofs.lemmas.Bool.eqb-true, specs.Prelude.nat_eq, proofs.lemmas.List.Elements.All-contains}
 use Rattle.indexmap.proofs.CallerLemmas.{Contains-list_any}
 use Rattle.ct_certain.specs.Answered.{IsNever}
 use Rattle.ct_certain.proofs.pool.is_never.Goals as goal

@@ -1,8 +1,6 @@
-use Rattle.std.proofs.Common.{◌≡◌, ◌∷◌, sym, subst}
-use Rattle.std.proofs.lemmas.Result.{IfOk-weaker}
+use Rattle.std.{proofs.Common.{◌≡◌, ◌∷◌, sym, subst}, proofs.lemmas.Result.IfOk-weaker}
 use Rattle.ct_condition.specs.Terms.{BelowSome}
-use Rattle.ct_certain.specs.Own.{AreNullsOf, IsShownBy, cut_to}
-use Rattle.ct_certain.proofs.Short.{cut_shows, empty_shows}
+use Rattle.ct_certain.{specs.Own.{AreNullsOf, IsShownBy, cut_to}, proofs.Short.{cut_shows, empty_shows}}
 use Rattle.ct_certain.proofs.pool.own_part.Goals as goal
 
 pub returns-then-is_empty : goal.returns-then-is_empty

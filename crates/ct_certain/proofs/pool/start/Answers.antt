@@ -1,8 +1,5 @@
-use Rattle.std.proofs.Common.{sym, subst}
-use Rattle.std.specs.Prelude.{All}
-use Rattle.std.proofs.lemmas.List.Elements.{All-nil}
-use Rattle.ct_certain.specs.Answered.{IsNever}
-use Rattle.ct_certain.proofs.Short.{one_root}
+use Rattle.std.{proofs.Common.{sym, subst}, specs.Prelude.All, proofs.lemmas.List.Elements.All-nil}
+use Rattle.ct_certain.{specs.Answered.IsNever, proofs.Short.one_root}
 use Rattle.ct_certain.proofs.pool.start.Goals as goal
 
 pub returns : goal.returns

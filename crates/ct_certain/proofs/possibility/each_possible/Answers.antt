@@ -1,14 +1,9 @@
-use Rattle.std.proofs.Common.{◌≡◌, ◌≤◌, ◌*◌, Err, [], length, ap, sym, subst, arith, ◌∙◌}
-use Rattle.std.specs.Prelude.{All}
-use mathlib.Core.List.{IsPrefix}
-use Rattle.std.proofs.lemmas.List.{take_all}
-use Rattle.std.proofs.lemmas.List.Elements.{All-nil}
-use Rattle.std.proofs.lemmas.Result.{err_from_is_err_and}
+use Rattle.std.{proofs.Common.{◌≡◌, ◌≤◌, ◌*◌, Err, [], length, ap, sym, subst, arith, ◌∙◌}, specs.Prelude.All, proofs.lemmas.List.take_all}
+use Rattle.std.{proofs.lemmas.List.Elements.All-nil, proofs.lemmas.Result.err_from_is_err_and}
 use Rattle.ct_condition.proofs.Writes.{writes_none, writes_within, writes_as, writes_more, writes_last}
 use Rattle.ct_operators.proofs.Adding.{passed}
-use Rattle.ct_certain.specs.Own.{IsOwn}
-use Rattle.ct_certain.specs.Possible.{ListsPossible, ended}
-use Rattle.ct_certain.proofs.Listing.{lists_turn, row_of, past_row}
+use Rattle.ct_certain.{specs.Own.IsOwn, specs.Possible.{ListsPossible, ended}, proofs.Listing.{lists_turn, row_of, past_row}}
+use mathlib.Core.List.{IsPrefix}
 use Rattle.ct_certain.proofs.possibility.each_possible.Goals as goal
 
 pub loop-row-init : goal.loop-row-init

@@ -1,9 +1,6 @@
-use Rattle.std.proofs.Common.{false, take, ◌*◌}
-use Rattle.std.specs.Prelude.{All}
+use Rattle.std.{proofs.Common.{false, take, ◌*◌}, specs.Prelude.All}
 use Rattle.ct_condition.specs.Writes.{Writes}
-use Rattle.ct_certain.specs.Answered.{IsPool}
-use Rattle.ct_certain.specs.Own.{IsOwn}
-use Rattle.ct_certain.specs.Possible.{ListsPossible}
+use Rattle.ct_certain.{specs.Answered.IsPool, specs.Own.IsOwn, specs.Possible.ListsPossible}
 use Rattle.ct_certain.proofs.possibility.each_possible.Given as goal
 
 abbrev pub invariant-loop-row : goal.invariant-loop-row

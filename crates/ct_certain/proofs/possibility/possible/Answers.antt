@@ -1,10 +1,6 @@
-use Rattle.std.proofs.Common.{◌≡◌, Err, length, ap, sym, subst, ◌∙◌, rules}
-use Rattle.std.specs.Prelude.{All}
-use Rattle.std.proofs.lemmas.Result.{err_from_is_err_and}
+use Rattle.std.{proofs.Common.{◌≡◌, Err, length, ap, sym, subst, ◌∙◌, rules}, specs.Prelude.All, proofs.lemmas.Result.err_from_is_err_and}
 use Rattle.ct_operators.proofs.Adding.{passed}
-use Rattle.ct_certain.specs.Answered.{AreOf}
-use Rattle.ct_certain.specs.Asked.{IsPastTermsOfSomeRow}
-use Rattle.ct_certain.proofs.Listing.{all_of, past_table}
+use Rattle.ct_certain.{specs.Answered.AreOf, specs.Asked.IsPastTermsOfSomeRow, proofs.Listing.{all_of, past_table}}
 use Rattle.ct_certain.proofs.possibility.possible.Goals as goal
 
 pub each_possible-requires-clause-rows : goal.each_possible-requires-clause-rows

@@ -1,11 +1,9 @@
-use Rattle.std.proofs.Common.{Err, ap, sym, subst, ◌∙◌}
-use Rattle.std.proofs.lemmas.Result.{err_from_is_err_and}
+use Rattle.std.{proofs.Common.{Err, ap, sym, subst, ◌∙◌}, proofs.lemmas.Result.err_from_is_err_and}
 use Rattle.ct_word.specs.Stands.{HasNoColumn}
 use Rattle.ct_cnf.specs.Encoding.{HasTermsPast}
 use Rattle.ct_operators.proofs.Adding.{passed}
+use Rattle.ct_certain.{specs.Answered.IsSettled, proofs.Asking.{root_plain, root_past, shown_answer, none_answer}}
 use Rattle.ct_decide.specs.declared.deciding.Decision.TheVariants as decision
-use Rattle.ct_certain.specs.Answered.{IsSettled}
-use Rattle.ct_certain.proofs.Asking.{root_plain, root_past, shown_answer, none_answer}
 use Rattle.ct_certain.proofs.settling.ask.Goals as goal
 
 pub settle-requires-clause-columns : goal.settle-requires-clause-columns

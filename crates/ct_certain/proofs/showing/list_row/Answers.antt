@@ -1,9 +1,6 @@
-use Rattle.std.proofs.Common.{[], ◌∷◌, ◌++◌, map, ap, sym, subst, ◌∙◌}
-use Rattle.std.specs.Prelude.{All}
+use Rattle.std.{proofs.Common.{[], ◌∷◌, ◌++◌, map, ap, sym, subst, ◌∙◌}, specs.Prelude.All}
 use Rattle.ct_word.specs.Reading.{term_at}
-use Rattle.ct_certain.specs.Answered.{Adds, nothing, one}
-use Rattle.ct_certain.specs.Own.{IsOwn, IsOwnAnswer}
-use Rattle.ct_certain.proofs.Short.{own_listed}
+use Rattle.ct_certain.{specs.Answered.{Adds, nothing, one}, specs.Own.{IsOwn, IsOwnAnswer}, proofs.Short.own_listed}
 use Rattle.ct_certain.proofs.showing.list_row.Goals as goal
 
 pub returns-in-None-clause-adds : goal.returns-in-None-clause-adds

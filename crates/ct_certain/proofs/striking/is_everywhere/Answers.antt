@@ -1,7 +1,5 @@
-use Rattle.std.proofs.Common.{sym, subst, ◌∙◌}
-use Rattle.std.proofs.lemmas.List.Elements.{All-get_or}
-use Rattle.ct_certain.specs.Missing.{IsSeen}
-use Rattle.ct_certain.proofs.Candidates.{contained, lacking}
+use Rattle.std.{proofs.Common.{sym, subst, ◌∙◌}, proofs.lemmas.List.Elements.All-get_or}
+use Rattle.ct_certain.{specs.Missing.IsSeen, proofs.Candidates.{contained, lacking}}
 use Rattle.ct_certain.proofs.striking.is_everywhere.Goals as goal
 
 pub returns-then-not-contains : goal.returns-then-not-contains

@@ -1,10 +1,7 @@
-use Rattle.std.proofs.Common.{sym, subst, ap, ◌∙◌}
-use Rattle.std.specs.Prelude.{All}
-use Rattle.std.proofs.lemmas.List.Elements.{All-push}
+use Rattle.std.{proofs.Common.{sym, subst, ap, ◌∙◌}, specs.Prelude.All, proofs.lemmas.List.Elements.All-push}
 use Rattle.ct_query.specs.Database.{has_tuple}
 use Rattle.ct_operators.specs.Tables.{value_of_rows}
-use Rattle.ct_certain.specs.Missing.{IsSeen}
-use Rattle.ct_certain.proofs.Candidates.{has_first}
+use Rattle.ct_certain.{specs.Missing.IsSeen, proofs.Candidates.has_first}
 use Rattle.ct_certain.proofs.striking.see.Goals as goal
 
 pub returns : goal.returns

@@ -1,6 +1,5 @@
 use Rattle.std.proofs.Common.{[], ◌∷◌, ◌++◌, map, ap, sym, ◌∙◌}
-use Rattle.ct_word.specs.Reading.{term_at}
-use Rattle.ct_word.specs.Value.{same_tuple, tuple_at}
+use Rattle.ct_word.{specs.Reading.term_at, specs.Value.{same_tuple, tuple_at}}
 use Rattle.ct_operators.specs.Tables.{firsts}
 use Rattle.ct_certain.proofs.Candidates.{first_put, worth_none, worth_one}
 use Rattle.ct_certain.proofs.tuples.add_tuple.Goals as goal

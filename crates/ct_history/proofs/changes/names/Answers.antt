@@ -1,22 +1,7 @@
-use Rattle.std.proofs.Common.{arith, take, ap, sym, refl, ◌∙◌, Some}
-use Rattle.std.proofs.lemmas.List.Sums.{sum_by_more, sum_by_more_le}
-use Rattle.std.proofs.lemmas.Result.{err_from_is_err_and}
-use Rattle.ct_word.specs.Reading.{IsNameList}
-use Rattle.ct_word.proofs.Packed.{true_both}
-use Rattle.ct_word.proofs.Prefixes.{prefix_of_prefix, place_in_prefix}
-use Rattle.ct_word.specs.declared.kinds.Class.TheVariants as class
-use Rattle.ct_history.specs.Encodes.{name_words}
-use Rattle.ct_history.proofs.Rows.{counted}
-use Rattle.ct_history.proofs.Lists.{name_added, take_one}
+use Rattle.std.{proofs.Common.{arith, take, ap, sym, ◌∙◌, Some}, proofs.lemmas.List.Sums.sum_by_more}
+use Rattle.ct_word.{specs.Reading.IsNameList, proofs.Prefixes.prefix_of_prefix}
+use Rattle.ct_history.{specs.Encodes.name_words, proofs.Rows.counted, proofs.Lists.{name_added, take_one}}
 use Rattle.ct_history.proofs.changes.names.Goals as goal
-
-pub put-requires-in-loop-name : goal.put-requires-in-loop-name
-put-requires-in-loop-name g c = record {
-  left = c.loop-name.invariant.small;
-  right = c.in_ok-word.ensures.small;
-  formed = true_both _ _ (true_both _ _ (place_in_prefix c.loop-name.pass.words c.text.new.pass.words class.NameList c.loop-name.place c.in_ok-word.ensures.longer c.loop-name.invariant.class) c.in_ok-word.ensures.place) refl;
-  plain = refl;
-}
 
 pub loop-name-preserved : goal.loop-name-preserved
 loop-name-preserved g c =
@@ -39,10 +24,3 @@ loop-name-preserved g c =
           omega (arith, more, same, one, c.in_ok-word.ensures.made, c.loop-name.invariant.made));
       kept = c.in_ok-place-2.ensures.kept ∙ c.in_ok-word.ensures.kept ∙ c.loop-name.invariant.kept;
     }
-
-pub returns-in_err-place-2-clause-err : goal.returns-in_err-place-2-clause-err
-returns-in_err-place-2-clause-err g c =
-    let more = sum_by_more_le name_words c.args.names.now c.loop-name.name-index c.name-item.result c.loop-name-test.true in
-    let same = ap name_words (c.as_str.ensures ∙ c.name-item.is) in
-    rw (err_from_is_err_and c.from_residual-in_err-place-2.result c.from_residual-in_err-place-2.ensures.1).1
-    (omega (arith, more, same, c.in_err-place-2.ensures.err, c.in_ok-word.ensures.made, c.loop-name.invariant.made))

@@ -1,12 +1,8 @@
-use Rattle.std.proofs.Common.{◌≡◌, ◌<◌, ◌^◌, ◌≤◌, ◌+◌, take}
-use Rattle.std.specs.Prelude.{IsTrue, sum_by}
+use Rattle.std.{proofs.Common.{◌≡◌, ◌<◌, ◌^◌, ◌≤◌, ◌+◌, take}, specs.Prelude.{IsTrue, sum_by}}
+use Rattle.ct_word.{specs.Reading.IsNameList, specs.Stands.StandsAt, specs.WellFormed.is_place_of}
+use Rattle.ct_history.{specs.Encodes.name_words, specs.Kept.kept_of}
 use mathlib.Core.List.{IsPrefix}
 use Rattle.ct_word.specs.declared.kinds.Class.TheVariants as class
-use Rattle.ct_word.specs.Reading.{IsNameList}
-use Rattle.ct_word.specs.Stands.{StandsAt}
-use Rattle.ct_word.specs.WellFormed.{is_place_of}
-use Rattle.ct_history.specs.Encodes.{name_words}
-use Rattle.ct_history.specs.Kept.{kept_of}
 use Rattle.ct_history.proofs.changes.names.Given as goal
 
 abbrev pub invariant-loop-name : goal.invariant-loop-name

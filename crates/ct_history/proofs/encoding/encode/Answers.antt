@@ -1,10 +1,7 @@
-use Rattle.std.proofs.Common.{◌∙◌, ap, sym, subst, []}
-use Rattle.std.proofs.lemmas.Result.{IfOk-weaker}
+use Rattle.std.{proofs.Common.{◌∙◌, ap, sym, subst, []}, proofs.lemmas.Result.IfOk-weaker}
+use Rattle.ct_query.{specs.Pred.condition_of, specs.Views.action_of}
+use Rattle.ct_history.{specs.Encodes.Adds, proofs.Encoded.{adds_rows, adds_deletion}}
 use Rattle.ct_query.specs.Plain as plain
-use Rattle.ct_query.specs.Pred.{condition_of}
-use Rattle.ct_query.specs.Views.{action_of}
-use Rattle.ct_history.specs.Encodes.{Adds}
-use Rattle.ct_history.proofs.Encoded.{adds_rows, adds_deletion}
 use Rattle.ct_history.proofs.encoding.encode.Goals as goal
 
 pub returns-in-InsertRows-clause-adds : goal.returns-in-InsertRows-clause-adds

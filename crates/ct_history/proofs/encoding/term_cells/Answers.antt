@@ -1,12 +1,7 @@
-use Rattle.std.proofs.Common.{◌∙◌, arith, ap, sym, take, Some, ◌++◌, ◌∷◌, []}
-use Rattle.std.proofs.lemmas.List.{take_more}
-use Rattle.std.proofs.lemmas.List.Sums.{sum_by_more, sum_by_more_le}
-use Rattle.std.proofs.lemmas.Result.{err_from_is_err_and}
-use Rattle.ct_word.specs.Reading.{IsRow}
-use Rattle.ct_word.proofs.Prefixes.{prefix_of_prefix}
+use Rattle.std.{proofs.Common.{◌∙◌, arith, ap, sym, take, Some, ◌++◌, ◌∷◌, []}, proofs.lemmas.List.take_more, proofs.lemmas.List.Sums.sum_by_more}
+use Rattle.ct_word.{specs.Reading.IsRow, proofs.Prefixes.prefix_of_prefix}
 use Rattle.ct_query.specs.Bounds.{literal_words}
-use Rattle.ct_history.proofs.Encoded.{term_added, cell_counted}
-use Rattle.ct_history.proofs.Rows.{counted}
+use Rattle.ct_history.{proofs.Encoded.{term_added, cell_counted}, proofs.Rows.counted}
 use Rattle.ct_history.proofs.encoding.term_cells.Goals as goal
 
 pub loop-cell-preserved : goal.loop-cell-preserved
@@ -35,13 +30,3 @@ loop-cell-preserved g c =
           omega (arith, more, one, words, c.in_ok-item.ensures.made, c.loop-cell.invariant.made));
       kept = c.in_ok-place.ensures.kept ∙ c.in_ok-item.ensures.kept ∙ c.loop-cell.invariant.kept;
     }
-
-pub returns-in_err-place-clause-err : goal.returns-in_err-place-clause-err
-returns-in_err-place-clause-err g c =
-    let cells = c.args.cells.now in
-    let at = c.loop-cell.cell-index in
-    let cell = c.cell-item.result in
-    let more = sum_by_more_le literal_words cells at cell c.loop-cell-test.true in
-    let words = cell_counted cells at cell c.loop-cell-test.true c.cell-item.is c.requires.cells in
-    rw (err_from_is_err_and c.from_residual-in_err-place.result c.from_residual-in_err-place.ensures.1).1
-    (omega (arith, more, words, c.in_err-place.ensures.err, c.in_ok-item.ensures.made, c.loop-cell.invariant.made, c.loop-cell-test.true))

@@ -1,12 +1,9 @@
-use Rattle.std.proofs.Common.{◌≡◌, ◌≤◌, ◌<◌, ◌+◌, ◌^◌, take}
-use Rattle.std.specs.Prelude.{IsTrue, sum_by}
-use mathlib.Core.List.{IsPrefix}
-use Rattle.ct_word.specs.declared.kinds.Class.TheVariants as class
-use Rattle.ct_word.specs.Reading.{IsRow}
-use Rattle.ct_word.specs.Stands.{StandsAt}
-use Rattle.ct_word.specs.WellFormed.{is_place_of}
+use Rattle.std.{proofs.Common.{◌≡◌, ◌≤◌, ◌<◌, ◌+◌, ◌^◌, take}, specs.Prelude.{IsTrue, sum_by}}
+use Rattle.ct_word.{specs.Reading.IsRow, specs.Stands.StandsAt, specs.WellFormed.is_place_of}
 use Rattle.ct_query.specs.Bounds.{literal_words}
 use Rattle.ct_history.specs.Kept.{kept_of}
+use mathlib.Core.List.{IsPrefix}
+use Rattle.ct_word.specs.declared.kinds.Class.TheVariants as class
 use Rattle.ct_history.proofs.encoding.term_cells.Given as goal
 
 abbrev pub invariant-loop-cell : goal.invariant-loop-cell

@@ -1,100 +1,30 @@
-use Rattle.std.proofs.Common.{◌∙◌, ◌&&◌, ap, sym, refl, arith, true, map, take, Some, ◌++◌, ◌∷◌, []}
-use Rattle.std.proofs.lemmas.Bool.{and_from}
-use Rattle.std.proofs.lemmas.List.{map_more}
-use Rattle.std.proofs.lemmas.List.Sums.{sum_by_more, sum_by_more_le}
-use Rattle.std.proofs.lemmas.Result.{err_from_is_err_and}
+use Rattle.std.{proofs.Common.{◌++◌, ◌∷◌, [], ◌∙◌, ap, arith, subst, sym}, proofs.lemmas.List.map_more, proofs.lemmas.List.Sums.sum_by_more}
+use Rattle.ct_word.{specs.Reading.{as_cond, as_row_list, condition_at}, proofs.Prefixes.prefix_of_prefix}
+use Rattle.ct_history.{specs.Encodes.term_row_words, specs.Rows.{AreRowsAt, row_under}, proofs.Lists.meaning_kept, proofs.Rows.no_row_later}
 use Rattle.ct_word.specs.declared.kinds.Class.TheVariants as class
-use Rattle.ct_word.specs.Change.{PlainRow}
-use Rattle.ct_word.specs.Reading.{IsRowList, condition_at}
-use Rattle.ct_word.specs.WellFormed.{is_place_of}
-use Rattle.ct_word.proofs.Prefixes.{prefix_of_prefix, place_in_prefix, condition_in_prefix, place_within, stands_in_prefix}
-use Rattle.ct_history.specs.Encodes.{term_row_words}
-use Rattle.ct_history.specs.Rows.{row_under}
-use Rattle.ct_history.proofs.Rows.{counted, no_row_later, row_added}
 use Rattle.ct_history.proofs.encoding.term_rows.Goals as goal
-
-pub put-requires-in-loop-row-clause-formed : goal.put-requires-in-loop-row-clause-formed
-put-requires-in-loop-row-clause-formed g c =
-    let old = c.loop-row.pass.words in
-    let mid = c.term_row.new.pass.words in
-    let list = is_place_of mid class.RowList c.loop-row.place in
-    let item = is_place_of mid class.CondRow c.in_ok-item.item in
-    let still = place_in_prefix old mid class.RowList c.loop-row.place c.in_ok-item.ensures.longer c.loop-row.invariant.class in
-    and_from (list && item) true (and_from list item still c.in_ok-item.ensures.place) refl
 
 pub loop-row-preserved : goal.loop-row-preserved
 loop-row-preserved g c =
     let first = c.args.pass.now.words in
     let old = c.loop-row.pass.words in
-    let mid = c.term_row.new.pass.words in
-    let new = c.put-in-loop-row.new.pass.words in
+    let new = c.add_terms.new.pass.words in
     let rows = c.args.rows.now in
     let at = c.loop-row.row-index in
     let row = c.row-item.result in
     let under = row_under (condition_at first c.args.cond) in
-    let grown = prefix_of_prefix old mid new c.in_ok-item.ensures.longer c.in_ok-place-2.ensures.longer in
-    let same = condition_in_prefix first old c.args.cond c.loop-row.invariant.longer (place_within first class.Cond c.args.cond c.requires.cond) in
+    let so_far = c.loop-row.invariant in
+    let added = c.in_ok-place-2.ensures in
+    let cells = c.as_slice.ensures ∙ c.row-item.is in
     record {
-      stands =
-          row_added old mid new (map under (take at rows)) (row_under (condition_at old c.args.cond) c.as_slice.result.now) c.loop-row.place c.in_ok-item.item c.in_ok-place-2.place
-          c.loop-row.invariant.stands c.loop-row.invariant.class grown
-          c.in_ok-item.ensures.stands c.in_ok-item.ensures.place c.in_ok-place-2.ensures.longer c.in_ok-place-2.ensures.stands
-          ∙ ap (λ rs. Some (IsRowList rs))
-          (ap (λ (r : PlainRow). map under (take at rows) ++ r ∷ []) ((λ i. row_under (same i) ((c.as_slice.ensures ∙ c.row-item.is) i)))
-          ∙ sym (map_more under rows at row c.loop-row-test.true));
-      class = c.in_ok-place-2.ensures.place;
-      small = c.in_ok-place-2.ensures.small;
-      start = no_row_later old new c.in_ok-start.start grown c.loop-row.invariant.start;
-      longer = prefix_of_prefix first old new c.loop-row.invariant.longer grown;
+      rows = subst (AreRowsAt new c.in_ok-place-2.place)
+          ((λ i. as_row_list (so_far.rows.stands i) ++ row_under (as_cond (meaning_kept first old class.Cond c.args.cond so_far.longer c.requires.cond i)) (cells i) ∷ [])
+          ∙ sym (map_more under rows at row c.loop-row-test.true)) added.rows;
+      start = no_row_later old new c.in_ok-place.start added.longer so_far.start;
+      longer = prefix_of_prefix first old new so_far.longer added.longer;
       made =
           (let more = sum_by_more term_row_words rows at row c.loop-row-test.true in
-          let words = ap term_row_words (c.as_slice.ensures ∙ c.row-item.is) in
-          let one = counted _ _ _ _ c.in_ok-place-2.ensures.made in
-          omega (arith, more, words, one, c.in_ok-item.ensures.made, c.loop-row.invariant.made));
-      kept = c.in_ok-place-2.ensures.kept ∙ c.in_ok-item.ensures.kept ∙ c.loop-row.invariant.kept;
+          let same = ap term_row_words cells in
+          omega (arith, more, same, added.made, so_far.made));
+      kept = added.kept ∙ so_far.kept;
     }
-
-pub loop-row-init : goal.loop-row-init
-loop-row-init g c =
-    let first = c.args.pass.now.words in
-    let ends = c.put.new.pass.words in
-    let now = c.put-2.new.pass.words in
-    let one = counted _ _ _ _ c.in_ok-place.ensures.made in
-    let two = counted _ _ _ _ c.in_ok-start.ensures.made in
-    record {
-      stands = stands_in_prefix ends now c.in_ok-place.place _ c.in_ok-start.ensures.longer (place_within ends class.RowList c.in_ok-place.place c.in_ok-place.ensures.place) c.in_ok-place.ensures.stands;
-      class = place_in_prefix ends now class.RowList c.in_ok-place.place c.in_ok-start.ensures.longer c.in_ok-place.ensures.place;
-      small = c.in_ok-place.ensures.small;
-      start = record { stands = c.in_ok-start.ensures.stands; class = c.in_ok-start.ensures.place; small = c.in_ok-start.ensures.small };
-      longer = prefix_of_prefix first ends now c.in_ok-place.ensures.longer c.in_ok-start.ensures.longer;
-      made = omega (arith, one, two);
-      kept = c.in_ok-start.ensures.kept ∙ c.in_ok-place.ensures.kept;
-    }
-
-pub term_row-requires-clause-cond : goal.term_row-requires-clause-cond
-term_row-requires-clause-cond g c = place_in_prefix c.args.pass.now.words c.loop-row.pass.words class.Cond c.args.cond c.loop-row.invariant.longer c.requires.cond
-
-pub returns-in_err-item-clause-made : goal.returns-in_err-item-clause-made
-returns-in_err-item-clause-made g c =
-    let more = sum_by_more_le term_row_words c.args.rows.now c.loop-row.row-index c.row-item.result c.loop-row-test.true in
-    let same = ap term_row_words (c.as_slice.ensures ∙ c.row-item.is) in
-    omega (arith, more, same, c.in_err-item.ensures.made, c.loop-row.invariant.made)
-
-pub returns-in_err-item-clause-err : goal.returns-in_err-item-clause-err
-returns-in_err-item-clause-err g c =
-    let more = sum_by_more_le term_row_words c.args.rows.now c.loop-row.row-index c.row-item.result c.loop-row-test.true in
-    let same = ap term_row_words (c.as_slice.ensures ∙ c.row-item.is) in
-    rw (err_from_is_err_and c.from_residual-in_err-item.result c.from_residual-in_err-item.ensures.1).1 (omega (arith, more, same, c.in_err-item.ensures.err, c.loop-row.invariant.made))
-
-pub returns-in_err-place-2-clause-made : goal.returns-in_err-place-2-clause-made
-returns-in_err-place-2-clause-made g c =
-    let more = sum_by_more_le term_row_words c.args.rows.now c.loop-row.row-index c.row-item.result c.loop-row-test.true in
-    let same = ap term_row_words (c.as_slice.ensures ∙ c.row-item.is) in
-    omega (arith, more, same, c.in_err-place-2.ensures.err, c.in_ok-item.ensures.made, c.loop-row.invariant.made)
-
-pub returns-in_err-place-2-clause-err : goal.returns-in_err-place-2-clause-err
-returns-in_err-place-2-clause-err g c =
-    let more = sum_by_more_le term_row_words c.args.rows.now c.loop-row.row-index c.row-item.result c.loop-row-test.true in
-    let same = ap term_row_words (c.as_slice.ensures ∙ c.row-item.is) in
-    rw (err_from_is_err_and c.from_residual-in_err-place-2.result c.from_residual-in_err-place-2.ensures.1).1
-    (omega (arith, more, same, c.in_err-place-2.ensures.err, c.in_ok-item.ensures.made, c.loop-row.invariant.made))

@@ -1,12 +1,8 @@
-use Rattle.std.proofs.Common.{arith, ◌∙◌, ap, sym, map, take, get_or, Some}
-use Rattle.std.proofs.lemmas.List.{map_more}
-use Rattle.std.proofs.lemmas.List.Elements.{All-get_or}
+use Rattle.std.{proofs.Common.{arith, ◌∙◌, ap, sym, map, take, get_or, Some}, proofs.lemmas.List.map_more, proofs.lemmas.List.Elements.All-get_or}
 use Rattle.std.specs.Prelude.{IsTrue}
-use Rattle.ct_word.specs.declared.kinds.Class.TheVariants as class
-use Rattle.ct_word.specs.Reading.{IsRow, term_at}
-use Rattle.ct_word.specs.WellFormed.{is_place_of}
-use Rattle.ct_word.proofs.Prefixes.{prefix_of_prefix}
+use Rattle.ct_word.{specs.Reading.{IsRow, term_at}, specs.WellFormed.is_place_of, proofs.Prefixes.prefix_of_prefix}
 use Rattle.ct_history.proofs.Rows.{cell_added, counted}
+use Rattle.ct_word.specs.declared.kinds.Class.TheVariants as class
 use Rattle.ct_history.proofs.insertion.cells.Goals as goal
 
 pub loop-cell-preserved : goal.loop-cell-preserved

@@ -1,11 +1,8 @@
-use Rattle.std.proofs.Common.{◌≡◌, ◌<◌, ◌^◌, ◌≤◌, ◌+◌, take, map}
-use Rattle.std.specs.Prelude.{IsTrue}
+use Rattle.std.{proofs.Common.{◌≡◌, ◌<◌, ◌^◌, ◌≤◌, ◌+◌, take, map}, specs.Prelude.IsTrue}
+use Rattle.ct_word.{specs.Reading.{IsRow, term_at}, specs.Stands.StandsAt, specs.WellFormed.is_place_of}
+use Rattle.ct_history.specs.Kept.{kept_of}
 use mathlib.Core.List.{IsPrefix}
 use Rattle.ct_word.specs.declared.kinds.Class.TheVariants as class
-use Rattle.ct_word.specs.Reading.{IsRow, term_at}
-use Rattle.ct_word.specs.Stands.{StandsAt}
-use Rattle.ct_word.specs.WellFormed.{is_place_of}
-use Rattle.ct_history.specs.Kept.{kept_of}
 use Rattle.ct_history.proofs.insertion.cells.Given as goal
 
 abbrev pub invariant-loop-cell : goal.invariant-loop-cell

@@ -1,6 +1,5 @@
 use Rattle.std.proofs.Common.{[], sym, subst, ◌∙◌}
-use Rattle.ct_history.specs.Items.{AreItems, ended}
-use Rattle.ct_history.proofs.ItemLists.{behind, items_behind}
+use Rattle.ct_history.{specs.Items.{AreItems, ended}, proofs.ItemLists.{behind, items_behind}}
 use Rattle.ct_history.proofs.items.items.Goals as goal
 
 pub loop-word-preserved : goal.loop-word-preserved

@@ -1,5 +1,4 @@
-use Rattle.std.proofs.Common.{List, ℕ, ◌++◌}
-use Rattle.std.specs.Prelude.{IsTrue, reverse}
+use Rattle.std.{proofs.Common.{List, ℕ, ◌++◌}, specs.Prelude.{IsTrue, reverse}}
 use Rattle.ct_history.specs.Items.{AreItems, is_place_of_list}
 use Rattle.ct_history.proofs.items.items.Given as goal
 

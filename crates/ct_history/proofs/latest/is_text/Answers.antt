@@ -1,8 +1,5 @@
-use Rattle.std.proofs.Common.{sym, ◌∙◌, ap, ◌++◌, rules}
-use Rattle.std.specs.Prelude.{encode_utf8}
-use Rattle.ct_word.specs.Value.{same_text}
-use Rattle.ct_word.specs.WordAt.{text_at}
-use Rattle.ct_word.proofs.Spelling.{longer}
+use Rattle.std.{proofs.Common.{sym, ◌∙◌, ap, ◌++◌, rules}, specs.Prelude.encode_utf8}
+use Rattle.ct_word.{specs.Value.same_text, specs.WordAt.text_at, proofs.Spelling.longer}
 use Rattle.ct_history.proofs.Writers.{same_front, other_end, emptied, no_text}
 use Rattle.ct_history.proofs.latest.is_text.Goals as goal
 

@@ -1,11 +1,7 @@
-use Rattle.std.proofs.Common.{◌≡◌}
-use Rattle.std.specs.Prelude.{IsTrue}
-use denote.Shadow.{shadow}
-use denote.Text.{Utf8}
+use Rattle.std.{proofs.Common.{◌≡◌}, specs.Prelude.IsTrue}
+use Rattle.ct_word.{specs.Value.same_text, specs.WellFormed.is_place_of, specs.WordAt.text_at}
+use denote.{Shadow.shadow, Text.Utf8}
 use Rattle.ct_word.specs.declared.kinds.Class.TheVariants as class
-use Rattle.ct_word.specs.Value.{same_text}
-use Rattle.ct_word.specs.WellFormed.{is_place_of}
-use Rattle.ct_word.specs.WordAt.{text_at}
 use Rattle.ct_history.proofs.latest.is_text.Given as goal
 
 abbrev pub invariant-loop-front : goal.invariant-loop-front

@@ -1,10 +1,7 @@
-use Rattle.std.proofs.Common.{sym, ◌∙◌, ap, ◌+◌, arith, length, []}
-use Rattle.std.specs.Prelude.{if◌then◌else◌}
-use Rattle.ct_word.specs.Reading.{meanings}
-use Rattle.ct_word.proofs.Growth.{length-read}
+use Rattle.std.{proofs.Common.{sym, ◌∙◌, ap, ◌+◌, arith, length, []}, specs.Prelude.if◌then◌else◌}
+use Rattle.ct_word.{specs.Reading.meanings, proofs.Growth.length-read}
 use Rattle.ct_query.specs.Reads.{last}
-use Rattle.ct_history.specs.Commits.{commits_before}
-use Rattle.ct_history.proofs.Writers.{first_commits, all_commits, next_commit, no_next}
+use Rattle.ct_history.{specs.Commits.commits_before, proofs.Writers.{first_commits, all_commits, next_commit, no_next}}
 use Rattle.ct_history.proofs.latest.last.Goals.{in-Commit+then-list_writes, in-Commit+else-list_writes, in_default}
 use Rattle.ct_history.proofs.latest.last.Goals as goal
 

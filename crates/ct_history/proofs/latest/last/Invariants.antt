@@ -1,5 +1,4 @@
-use Rattle.std.proofs.Common.{◌≡◌, ◌≤◌, length, take}
-use Rattle.std.specs.Prelude.{filter_map}
+use Rattle.std.{proofs.Common.{◌≡◌, ◌≤◌, length, take}, specs.Prelude.filter_map}
 use Rattle.ct_word.specs.Reading.{as_commit, meanings}
 use Rattle.ct_query.specs.Reads.{last}
 use Rattle.ct_history.proofs.latest.last.Given as goal

@@ -1,8 +1,5 @@
-use Rattle.std.proofs.Common.{◌∙◌, ap, drop, length, subst, take, arith}
-use Rattle.std.specs.Prelude.{All}
-use Rattle.std.proofs.lemmas.List.Elements.{All-tail}
-use Rattle.ct_history.specs.Written.{IsWritten}
-use Rattle.ct_history.proofs.Printed.{fewer_left, one_printed}
+use Rattle.std.{proofs.Common.{◌∙◌, ap, drop, length, subst, take, arith}, specs.Prelude.All, proofs.lemmas.List.Elements.All-tail}
+use Rattle.ct_history.{specs.Written.IsWritten, proofs.Printed.{fewer_left, one_printed}}
 use Rattle.ct_history.proofs.printing.changes.Goals as goal
 
 pub loop-item-preserved : goal.loop-item-preserved

@@ -1,8 +1,5 @@
-use Rattle.std.proofs.Common.{◌≡◌, ◌++◌, length}
-use Rattle.std.specs.Prelude.{All, flat_map}
-use Rattle.std.specs.Vec.Iter.{into_iter_items, into_iter_len}
-use Rattle.ct_history.specs.Printed.{changes_with, conds_of}
-use Rattle.ct_history.specs.Written.{IsWritten}
+use Rattle.std.{proofs.Common.{◌≡◌, ◌++◌, length}, specs.Prelude.{All, flat_map}, specs.Vec.Iter.{into_iter_items, into_iter_len}}
+use Rattle.ct_history.{specs.Printed.{changes_with, conds_of}, specs.Written.IsWritten}
 use Rattle.ct_history.proofs.printing.changes.Given as goal
 
 abbrev pub invariant-loop-item : goal.invariant-loop-item

@@ -1,15 +1,10 @@
-use Rattle.std.proofs.Common.{◌≡◌, ◌∙◌, ◌/◌, ◌%◌, ap, map, sym, subst, refl, length}
-use Rattle.std.specs.Prelude.{IsTrue, flat_map}
-use Rattle.std.specs.List.{AllZip, list_all}
+use Rattle.std.{proofs.Common.{◌≡◌, ◌∙◌, ◌/◌, ◌%◌, ap, map, sym, subst, refl, length}, specs.Prelude.{IsTrue, flat_map}, specs.List.{AllZip, list_all}}
+use Rattle.std.proofs.lemmas.List.Elements.{length_all_zip}
+use Rattle.ct_word.{specs.Reading.change_list_at, specs.StandsFor.SameChanges, specs.WellFormed.is_place_of, proofs.Spelling.of_kind}
+use Rattle.ct_rewrite.specs.History.{plain_change, is_change_placed}
+use Rattle.ct_history.{specs.Printed.{changes_with, conds_of}, proofs.Printed.{Prints, all_conds, changes_same, changes_placed, commit_word}}
 use Rattle.ct_word.specs.declared.kinds.Kind.TheVariants as kind
 use Rattle.ct_word.specs.declared.kinds.Class.TheVariants as class
-use Rattle.ct_word.specs.Reading.{change_list_at}
-use Rattle.ct_word.specs.StandsFor.{SameChanges}
-use Rattle.ct_word.specs.WellFormed.{is_place_of}
-use Rattle.ct_word.proofs.Spelling.{of_kind}
-use Rattle.ct_rewrite.specs.History.{plain_change, is_change_placed}
-use Rattle.ct_history.specs.Printed.{changes_with, conds_of}
-use Rattle.ct_history.proofs.Printed.{Prints, all_conds, changes_same, changes_placed, commit_word, zip_length}
 use Rattle.ct_history.proofs.printing.commit.Goals as goal
 
 pub normal-requires-clause-roots : goal.normal-requires-clause-roots
@@ -20,7 +15,7 @@ normal-requires-clause-roots c =
 
 pub changes-requires-clause-positions : goal.changes-requires-clause-positions
 changes-requires-clause-positions c =
-    ap length c.as_slice-3.ensures ∙ zip_length (Prints c.args.words.now c.in_ok-forms.forms.nodes) c.in_ok-forms.forms.roots c.as_slice-2.result.now c.in_ok-forms.ensures.truth
+    ap length c.as_slice-3.ensures ∙ length_all_zip (Prints c.args.words.now c.in_ok-forms.forms.nodes) c.in_ok-forms.forms.roots c.as_slice-2.result.now c.in_ok-forms.ensures.truth
     ∙ ap length (c.as_slice-2.ensures.value ∙ c.in_ok-roots.ensures ∙ ap (flat_map conds_of) c.as_slice.ensures)
 
 pub returns : goal.returns

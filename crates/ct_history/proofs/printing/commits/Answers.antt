@@ -1,9 +1,5 @@
-use Rattle.std.proofs.Common.{[], length, map, sym, subst, arith}
-use Rattle.std.specs.Prelude.{filter_map}
-use Rattle.std.proofs.lemmas.List.{take_all}
-use Rattle.ct_word.specs.Reading.{as_commit, meanings}
-use Rattle.ct_word.specs.StandsFor.{SameCommits}
-use Rattle.ct_word.proofs.Growth.{length-read}
+use Rattle.std.{proofs.Common.{[], length, map, sym, subst, arith}, specs.Prelude.filter_map, proofs.lemmas.List.take_all}
+use Rattle.ct_word.{specs.Reading.{as_commit, meanings}, specs.StandsFor.SameCommits, proofs.Growth.length-read}
 use Rattle.ct_rewrite.specs.History.{plain_commit}
 use Rattle.ct_history.proofs.printing.commits.Goals as goal
 

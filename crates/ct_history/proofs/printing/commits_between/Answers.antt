@@ -1,13 +1,8 @@
-use Rattle.std.proofs.Common.{◌+◌, ◌∙◌, ◌++◌, ◌∷◌, [], ap, map, sym, subst}
-use Rattle.std.proofs.lemmas.List.{append_assoc, append-nil}
-use Rattle.std.proofs.lemmas.List.Elements.{All-nil}
-use Rattle.ct_word.specs.Reading.{IsCommit, meanings}
-use Rattle.ct_word.specs.StandsFor.{SameCommits}
+use Rattle.std.{proofs.Common.{◌+◌, ◌∙◌, ◌++◌, ◌∷◌, [], ap, map, sym, subst}, proofs.lemmas.List.{append_assoc, append-nil, map_push}}
+use Rattle.std.proofs.lemmas.List.Elements.{All-nil, All-push}
+use Rattle.ct_word.{specs.Reading.{IsCommit, meanings}, specs.StandsFor.SameCommits}
 use Rattle.ct_rewrite.specs.History.{IsCommitFormed, plain_commit}
-use Rattle.ct_history.specs.Commits.{commits_before}
-use Rattle.ct_history.proofs.ItemLists.{all_last, map_last}
-use Rattle.ct_history.proofs.Printed.{commits_longer}
-use Rattle.ct_history.proofs.Writers.{commits_more, no_next}
+use Rattle.ct_history.{specs.Commits.commits_before, proofs.Printed.commits_longer, proofs.Writers.{commits_more, no_next}}
 use Rattle.ct_history.proofs.printing.commits_between.Goals.{in-Commit+in_ok-next-in-Commit+in_ok-push-in-Commit, in_default}
 use Rattle.ct_history.proofs.printing.commits_between.Goals as goal
 
@@ -34,11 +29,11 @@ loop-place-preserved c =
           rw (ap (λ v. v.items) w.commits-is ∙ w.in_ok-push-in-Commit.ensures.items)
           record {
             stands = λ xs same.
-                let last = append_assoc xs (map plain_commit before) (plain_commit next ∷ []) ∙ ap (λ l. xs ++ l) (sym (map_last plain_commit before next)) in
+                let last = append_assoc xs (map plain_commit before) (plain_commit next ∷ []) ∙ ap (λ l. xs ++ l) (sym (map_push plain_commit before next)) in
                 subst (λ l. SameCommits l (commits_before words (p + 1))) last
                 (subst (SameCommits ((xs ++ map plain_commit before) ++ plain_commit next ∷ [])) (sym more)
                 (commits_longer (xs ++ map plain_commit before) (commits_before words p) (plain_commit next) is.commit (inv.stands xs same) is.session is.number is.changes));
-            formed = all_last IsCommitFormed before next inv.formed is.formed;
+            formed = All-push IsCommitFormed before next inv.formed is.formed;
           }
       | in_default w ↦
           rw (ap (λ v. v.items) w.commits-is)

@@ -1,4 +1,3 @@
-use Rattle.std.proofs.Common.{take}
 use Rattle.std.specs.Prelude.{All}
 use Rattle.ct_history.specs.Commits.{StandsBetween}
 use Rattle.ct_rewrite.specs.History.{IsCommitFormed}

@@ -1,5 +1,4 @@
-use Rattle.std.proofs.Common.{◌≡◌, take}
-use Rattle.std.specs.Prelude.{flat_map}
+use Rattle.std.{proofs.Common.{◌≡◌, take}, specs.Prelude.flat_map}
 use Rattle.ct_history.specs.Printed.{conds_of}
 use Rattle.ct_history.proofs.printing.conditions.Given as goal
 

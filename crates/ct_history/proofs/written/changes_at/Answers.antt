@@ -1,7 +1,5 @@
-use Rattle.std.proofs.Common.{◌∙◌, ◌++◌, ap, map, sym, subst}
-use Rattle.std.specs.Prelude.{All, reverse}
-use Rattle.ct_history.specs.Written.{IsWritten, plain_written}
-use Rattle.ct_history.proofs.ItemLists.{no_change, last_change, one_before, all_before}
+use Rattle.std.{proofs.Common.{◌∙◌, ◌++◌, ap, map, sym, subst}, specs.Prelude.{All, reverse}}
+use Rattle.ct_history.{specs.Written.{IsWritten, plain_written}, proofs.ItemLists.{no_change, last_change, one_before, all_before}}
 use Rattle.ct_history.proofs.written.changes_at.Goals as goal
 
 pub written_change-requires-clause-place : goal.written_change-requires-clause-place

@@ -1,9 +1,7 @@
-use Rattle.std.proofs.Common.{◌≡◌, ◌++◌, map}
-use Rattle.std.specs.Prelude.{All, IsTrue, reverse}
-use Rattle.ct_word.specs.declared.kinds.Class.TheVariants as class
-use Rattle.ct_word.specs.Reading.{change_list_at}
-use Rattle.ct_word.specs.WellFormed.{is_place_of}
+use Rattle.std.{proofs.Common.{◌≡◌, ◌++◌, map}, specs.Prelude.{All, IsTrue, reverse}}
+use Rattle.ct_word.{specs.Reading.change_list_at, specs.WellFormed.is_place_of}
 use Rattle.ct_history.specs.Written.{IsWritten, plain_written}
+use Rattle.ct_word.specs.declared.kinds.Class.TheVariants as class
 use Rattle.ct_history.proofs.written.changes_at.Given as goal
 
 abbrev pub invariant-loop-alloc : goal.invariant-loop-alloc

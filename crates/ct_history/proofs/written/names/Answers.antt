@@ -1,12 +1,7 @@
-use Rattle.std.proofs.Common.{◌∙◌, ap, map, sym, subst}
-use Rattle.std.specs.Prelude.{IsTrue}
-use Rattle.std.proofs.lemmas.List.{take_all}
-use Rattle.std.proofs.lemmas.List.Elements.{All-get_or}
+use Rattle.std.{proofs.Common.{◌∙◌, ap, map, sym, subst}, specs.Prelude.IsTrue, proofs.lemmas.List.take_all, proofs.lemmas.List.Elements.All-get_or}
+use Rattle.ct_word.{specs.WellFormed.is_place_of, specs.WordAt.text_at}
+use Rattle.ct_history.{specs.Items.AreItems, proofs.ItemLists.names_read}
 use Rattle.ct_word.specs.declared.kinds.Class.TheVariants as class
-use Rattle.ct_word.specs.WellFormed.{is_place_of}
-use Rattle.ct_history.specs.Items.{AreItems}
-use Rattle.ct_word.specs.WordAt.{text_at}
-use Rattle.ct_history.proofs.ItemLists.{names_read}
 use Rattle.ct_history.proofs.written.names.Goals as goal
 
 pub text_at-requires-clause-text : goal.text_at-requires-clause-text

@@ -1,7 +1,6 @@
 use Rattle.std.proofs.Common.{◌∙◌, ap, map, sym, subst}
 use Rattle.ct_word.specs.Reading.{condition_at, term_at}
-use Rattle.ct_history.specs.Rows.{AreTerms}
-use Rattle.ct_history.proofs.ItemLists.{cells_read, row_word, row_is_list}
+use Rattle.ct_history.{specs.Rows.AreTerms, proofs.ItemLists.{cells_read, row_word, row_is_list}}
 use Rattle.ct_history.proofs.written.row.Goals as goal
 
 pub items-requires-clause-list : goal.items-requires-clause-list

@@ -1,8 +1,6 @@
-use Rattle.std.proofs.Common.{◌∙◌, ◌++◌, ap, map, sym, subst}
-use Rattle.std.specs.Prelude.{All, reverse}
+use Rattle.std.{proofs.Common.{◌∙◌, ◌++◌, ap, map, sym, subst}, specs.Prelude.{All, reverse}}
 use Rattle.ct_word.specs.Reading.{plain_crow}
-use Rattle.ct_history.specs.Rows.{IsRowOf}
-use Rattle.ct_history.proofs.ItemLists.{no_row, last_row, one_before, all_before}
+use Rattle.ct_history.{specs.Rows.IsRowOf, proofs.ItemLists.{no_row, last_row, one_before, all_before}}
 use Rattle.ct_history.proofs.written.rows.Goals as goal
 
 pub row-requires-clause-place : goal.row-requires-clause-place

@@ -1,10 +1,7 @@
-use Rattle.std.proofs.Common.{◌≡◌, ◌++◌, map}
-use Rattle.std.specs.Prelude.{All, IsTrue, reverse}
+use Rattle.std.{proofs.Common.{◌≡◌, ◌++◌, map}, specs.Prelude.{All, IsTrue, reverse}}
+use Rattle.ct_word.{specs.Reading.plain_crow, specs.WellFormed.is_place_of}
+use Rattle.ct_history.{specs.Places.rows_at, specs.Rows.IsRowOf}
 use Rattle.ct_word.specs.declared.kinds.Class.TheVariants as class
-use Rattle.ct_word.specs.Reading.{plain_crow}
-use Rattle.ct_word.specs.WellFormed.{is_place_of}
-use Rattle.ct_history.specs.Places.{rows_at}
-use Rattle.ct_history.specs.Rows.{IsRowOf}
 use Rattle.ct_history.proofs.written.rows.Given as goal
 
 abbrev pub invariant-loop-alloc : goal.invariant-loop-alloc

@@ -1,5 +1,4 @@
-use Rattle.std.proofs.Common.{arith}
-use Rattle.std.proofs.lemmas.Grind.{common_steps}
+use Rattle.std.{proofs.Common.arith, proofs.lemmas.Grind.common_steps}
 use Rattle.ct_rewrite.proofs.below.add.Goals as goal
 
 pub loop-place-preserved : goal.loop-place-preserved

@@ -1,10 +1,5 @@
-use Rattle.std.proofs.Common.{arith, sym, ap, ◌∙◌}
-use Rattle.std.specs.List.{list_any}
-use Rattle.std.specs.Ordering.{nat_cmp}
-use Rattle.std.specs.BTreeMap.{is_at}
-use Rattle.std.proofs.lemmas.Bool.{false≢true}
-use Rattle.ct_rewrite.specs.Below.{has}
-use Rattle.ct_rewrite.proofs.Closing.{added_there, still_there, all_there, closed_more}
+use Rattle.std.{proofs.Common.{arith, sym, ap, ◌∙◌}, specs.List.list_any, specs.Ordering.nat_cmp, specs.BTreeMap.is_at, proofs.lemmas.Bool.false≢true}
+use Rattle.ct_rewrite.{specs.Below.has, proofs.Closing.{added_there, still_there, all_there, closed_more}}
 use Rattle.ct_rewrite.proofs.below.below.Goals as goal
 
 pub loop-place-init : goal.loop-place-init

@@ -1,6 +1,4 @@
-use Rattle.std.proofs.Common.{ℕ}
-use Rattle.std.specs.Prelude.{IsTrue}
-use Rattle.std.specs.List.{list_all}
+use Rattle.std.{proofs.Common.{ℕ}, specs.Prelude.IsTrue, specs.List.list_all}
 use Rattle.ct_rewrite.specs.Below.{has, IsClosedFrom}
 use Rattle.ct_rewrite.proofs.below.below.Given as goal
 

@@ -1,7 +1,4 @@
-use Rattle.std.proofs.Common.{sym}
-use Rattle.std.specs.declared.cmp.Ordering.TheVariants.{Less}
-use Rattle.std.specs.Cmp.{nat_cmp_is}
-use Rattle.std.proofs.lemmas.Cmp.{ranked}
+use Rattle.std.{proofs.Common.sym, specs.declared.cmp.Ordering.TheVariants.Less, specs.Cmp.nat_cmp_is, proofs.lemmas.Cmp.ranked}
 use Rattle.std.proofs.lemmas.Map.Keys.{ge_from_not_lt}
 use Rattle.ct_rewrite.proofs.below.last_below.Goals as goal
 

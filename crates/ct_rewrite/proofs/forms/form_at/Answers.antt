@@ -1,12 +1,6 @@
-use Rattle.std.proofs.Common.{sym, subst, ◌∙◌}
-use Rattle.std.specs.Prelude.{IfOk}
-use Rattle.std.specs.List.{AllByRecursion}
+use Rattle.std.{proofs.Common.{sym, subst, ◌∙◌}, specs.Prelude.IfOk, specs.List.AllByRecursion}
 use Rattle.ct_word.specs.Condition.{Condition}
-use Rattle.ct_rewrite.specs.Shape.{IsShaped, parts_of}
-use Rattle.ct_rewrite.specs.Below.{HasAt}
-use Rattle.ct_rewrite.specs.Signs.{IsForm, IsFormAt}
-use Rattle.ct_rewrite.proofs.Shaped.{shaped}
-use Rattle.ct_rewrite.proofs.Closing.{found_at}
+use Rattle.ct_rewrite.{specs.Shape.{IsShaped, parts_of}, specs.Below.HasAt, specs.Signs.{IsForm, IsFormAt}, proofs.Shaped.shaped, proofs.Closing.found_at}
 use Rattle.ct_rewrite.proofs.forms.form_at.Goals as goal
 
 pub equal_form-requires-clause-left : goal.equal_form-requires-clause-left

@@ -1,12 +1,8 @@
 use Rattle.std.proofs.Common.{arith}
-use Rattle.ct_word.specs.declared.kinds.Class.TheVariants as class
-use Rattle.ct_word.specs.Reading.{condition_at}
-use Rattle.ct_word.proofs.Growth.{place_within}
-use Rattle.ct_rewrite.specs.Below.{has}
-use Rattle.ct_rewrite.specs.Signs.{IsFormAt}
-use Rattle.ct_rewrite.proofs.Shaped.{shaped, named_below}
-use Rattle.ct_rewrite.proofs.Closing.{have_parts, have_more}
+use Rattle.ct_word.{specs.Reading.condition_at, proofs.Growth.place_within}
+use Rattle.ct_rewrite.{specs.Below.has, specs.Signs.IsFormAt, proofs.Shaped.{shaped, named_below}, proofs.Closing.{have_parts, have_more}}
 use Rattle.ct_rewrite.proofs.Signs.{still_form}
+use Rattle.ct_word.specs.declared.kinds.Class.TheVariants as class
 use Rattle.ct_rewrite.proofs.forms.forms.Goals as goal
 
 pub form_at-requires-clause-parts : goal.form_at-requires-clause-parts

@@ -1,7 +1,5 @@
-use Rattle.std.proofs.Common.{ℕ, ◌<◌, ◌≤◌, ◌*◌, ◌-◌, length}
-use Rattle.std.specs.Prelude.{IsTrue}
-use Rattle.ct_rewrite.specs.Below.{has, HasAt}
-use Rattle.ct_rewrite.specs.Signs.{IsFormAt}
+use Rattle.std.{proofs.Common.{ℕ, ◌<◌, ◌≤◌, ◌*◌, ◌-◌, length}, specs.Prelude.IsTrue}
+use Rattle.ct_rewrite.{specs.Below.{has, HasAt}, specs.Signs.IsFormAt}
 use Rattle.ct_rewrite.proofs.forms.forms.Given as goal
 
 abbrev pub invariant-loop-place : goal.invariant-loop-place

@@ -1,7 +1,5 @@
 use Rattle.std.proofs.Common.{arith, refl}
-use Rattle.ct_rewrite.specs.Below.{has}
-use Rattle.ct_rewrite.specs.Moving.{IsKept}
-use Rattle.ct_rewrite.proofs.Closing.{have_all, there_have, all_have}
+use Rattle.ct_rewrite.{specs.Below.has, specs.Moving.IsKept, proofs.Closing.{have_all, there_have, all_have}}
 use Rattle.ct_rewrite.proofs.Moving.{nodes_downward, step_within, step_has, step_over, step_proper, step_literals, step_kept, roots_kept}
 use Rattle.ct_rewrite.proofs.kept.kept.Goals as goal
 

@@ -1,7 +1,5 @@
-use Rattle.std.proofs.Common.{ℕ, ◌<◌, ◌≤◌, ◌-◌, length}
-use Rattle.std.specs.Prelude.{IsTrue}
-use Rattle.ct_rewrite.specs.Below.{has, HasAt}
-use Rattle.ct_rewrite.specs.Moving.{IsKept}
+use Rattle.std.{proofs.Common.{ℕ, ◌<◌, ◌≤◌, ◌-◌, length}, specs.Prelude.IsTrue}
+use Rattle.ct_rewrite.{specs.Below.{has, HasAt}, specs.Moving.IsKept}
 use Rattle.ct_rewrite.proofs.kept.kept.Given as goal
 
 abbrev pub invariant-loop-position : goal.invariant-loop-position

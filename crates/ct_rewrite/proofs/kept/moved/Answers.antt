@@ -1,9 +1,5 @@
-use Rattle.std.proofs.Common.{ap}
-use Rattle.std.specs.Prelude.{unwrap_or}
-use Rattle.std.proofs.lemmas.List.Sums.{AllPass-from_list_all}
-use Rattle.ct_rewrite.specs.Below.{has_at}
-use Rattle.ct_rewrite.specs.Moving.{moved_to}
-use Rattle.ct_rewrite.proofs.Closing.{more_at}
+use Rattle.std.{proofs.Common.ap, specs.Prelude.unwrap_or, proofs.lemmas.List.Sums.AllPass-from_list_all}
+use Rattle.ct_rewrite.{specs.Below.has_at, specs.Moving.moved_to, proofs.Closing.more_at}
 use Rattle.ct_rewrite.proofs.kept.moved.Goals as goal
 
 pub index-requires : goal.index-requires

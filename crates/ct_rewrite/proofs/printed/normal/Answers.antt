@@ -1,18 +1,8 @@
-use Rattle.std.proofs.Common.{◌∙◌, ◌≤◌, List, length, refl, subst, sym, arith}
-use Rattle.std.specs.List.{IsDistinct}
-use Rattle.std.proofs.lemmas.Result.{IfOk-weaker}
-use Rattle.ct_word.proofs.Items.{all_implied}
-use Rattle.ct_word.specs.Condition.{SameTruth}
-use Rattle.ct_rewrite.specs.declared.answer.Node.{Node}
-use Rattle.ct_rewrite.specs.Nodes.{same_node}
-use Rattle.ct_rewrite.specs.Rules.{is_proper}
-use Rattle.ct_rewrite.specs.Below.{has}
-use Rattle.ct_rewrite.specs.Signs.{IsFormAt}
-use Rattle.ct_rewrite.specs.Sizes.{deep, nest_of, text_of, wide}
-use Rattle.ct_rewrite.proofs.AllTrue.{one_distinct, zeros_are, zeros_are_placed}
-use Rattle.ct_rewrite.proofs.Results.{IfOk-both}
-use Rattle.ct_rewrite.proofs.Shaped.{conditions_downward}
-use Rattle.ct_rewrite.proofs.Closing.{there_have, all_have}
+use Rattle.std.{proofs.Common.{◌∙◌, ◌≤◌, List, length, refl, subst, sym, arith}, specs.List.IsDistinct, proofs.lemmas.Result.IfOk-weaker}
+use Rattle.ct_word.{proofs.Items.all_implied, specs.Condition.SameTruth}
+use Rattle.ct_rewrite.{specs.declared.answer.Node.Node, specs.Nodes.same_node, specs.Rules.is_proper, specs.Below.has, specs.Signs.IsFormAt}
+use Rattle.ct_rewrite.{specs.Sizes.{deep, nest_of, text_of, wide}, proofs.AllTrue.{one_distinct, zeros_are, zeros_are_placed}, proofs.Results.IfOk-both}
+use Rattle.ct_rewrite.{proofs.Shaped.conditions_downward, proofs.Closing.{there_have, all_have}}
 use Rattle.ct_rewrite.proofs.Conditions.{roots_placed, normal_truth, normal_wide, normal_deep, kept_placed}
 use Rattle.ct_rewrite.proofs.Rules.{children_within, children_distinct, sides_in_order, unsettled}
 use Rattle.ct_rewrite.proofs.printed.normal.Goals as goal

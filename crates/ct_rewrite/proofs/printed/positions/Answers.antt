@@ -1,8 +1,5 @@
-use Rattle.std.proofs.Common.{ap}
-use Rattle.std.proofs.lemmas.List.Sums.{AllPass-from_list_all}
-use Rattle.ct_rewrite.specs.Below.{has_at}
-use Rattle.ct_rewrite.specs.Signs.{plus_of, plus_at}
-use Rattle.ct_rewrite.proofs.Closing.{more_at}
+use Rattle.std.{proofs.Common.ap, proofs.lemmas.List.Sums.AllPass-from_list_all}
+use Rattle.ct_rewrite.{specs.Below.has_at, specs.Signs.{plus_of, plus_at}, proofs.Closing.more_at}
 use Rattle.ct_rewrite.proofs.printed.positions.Goals as goal
 
 pub index-requires : goal.index-requires

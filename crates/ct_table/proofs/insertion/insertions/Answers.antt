@@ -1,12 +1,6 @@
-use Rattle.std.proofs.Common.{length, ap, sym, subst, ◌∙◌}
-use Rattle.std.specs.Prelude.{IfOk}
-use Rattle.ct_operators.specs.declared.table.CTable.{CTable}
-use Rattle.ct_operators.specs.Tables.{AreRows}
-use Rattle.ct_operators.specs.Merging.{rows_of}
-use Rattle.ct_table.specs.Growing.{AreInserted}
-use Rattle.ct_table.proofs.Joining.{rows_apart}
-use Rattle.ct_table.proofs.Putting.{rows_back}
-use Rattle.ct_table.proofs.Shared.{of_table}
+use Rattle.std.{proofs.Common.{length, ap, sym, subst, ◌∙◌}, specs.Prelude.IfOk}
+use Rattle.ct_operators.{specs.declared.table.CTable.CTable, specs.Tables.AreRows, specs.Merging.rows_of}
+use Rattle.ct_table.{specs.Growing.AreInserted, proofs.Joining.rows_apart, proofs.Putting.rows_back, proofs.Shared.of_table}
 use Rattle.ct_table.proofs.insertion.insertions.Goals as goal
 
 pub stored-requires : goal.stored-requires

@@ -1,8 +1,5 @@
-use Rattle.std.proofs.Common.{◌≡◌, map, ap, sym, subst, ◌∙◌}
-use Rattle.std.proofs.lemmas.Result.{IfOk-weaker, on_ok_weaker, on_err_weaker}
-use Rattle.ct_table.specs.Denotes.{with_table}
-use Rattle.ct_table.specs.Pending.{IsApart}
-use Rattle.ct_table.specs.Shared.{view_of, entry_of}
+use Rattle.std.{proofs.Common.{◌≡◌, map, ap, sym, subst, ◌∙◌}, proofs.lemmas.Result.{IfOk-weaker, on_ok_weaker, on_err_weaker}}
+use Rattle.ct_table.{specs.Denotes.with_table, specs.Pending.IsApart, specs.Shared.{view_of, entry_of}}
 use Rattle.ct_table.proofs.Shared.{found_entry, its_view, on_ok_both, grown_put, grown_headings, grown_back, grown_same}
 use Rattle.ct_table.proofs.pending.grow_at.Goals as goal
 

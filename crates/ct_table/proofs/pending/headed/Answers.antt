@@ -1,6 +1,6 @@
 use Rattle.std.proofs.Common.{◌++◌, ◌∷◌, [], map, set, ap, sym, ◌∙◌}
 use Rattle.ct_word.specs.Value.{same_text}
-use Rattle.ct_table.proofs.Shared.{headed_last, headed_set, position_is, entry_missing}
+use Rattle.ct_table.{proofs.Entries.missing, proofs.Shared.{headed_last, headed_set, position_is}}
 use Rattle.ct_table.proofs.pending.headed.Goals as goal
 
 pub returns-in-Some : goal.returns-in-Some
@@ -14,4 +14,4 @@ pub returns-in-None : goal.returns-in-None
 returns-in-None c t n is =
     let es = c.args.tables.now.entries in
     c.push_reserved.ensures.items ∙ ap (λ l. l ++ c.args.heading ∷ []) c.requires.headings
-    ∙ headed_last c.args.name.now t c.args.heading n is es (entry_missing c.args.name.now es c.in-None.ensures.found)
+    ∙ headed_last c.args.name.now t c.args.heading n is es (missing _ (sym c.in-None.ensures.found))

@@ -1,7 +1,5 @@
 use Rattle.std.proofs.Common.{map, ap, sym, ◌∙◌}
-use Rattle.ct_table.specs.Denotes.{heading_of}
-use Rattle.ct_table.specs.Shared.{entry_of}
-use Rattle.ct_table.proofs.Shared.{put_entry, done_of}
+use Rattle.ct_table.{specs.Denotes.heading_of, specs.Shared.entry_of, proofs.Shared.{put_entry, done_of}}
 use Rattle.ct_table.proofs.pending.put_back.Goals as goal
 
 pub invariant_of-result : goal.invariant_of-result

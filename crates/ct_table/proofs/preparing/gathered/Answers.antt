@@ -1,13 +1,8 @@
-use Rattle.std.proofs.Common.{◌≡◌, ◌+◌, ◌∷◌, [], ◌++◌, None, Some, length, take, ap, sym, subst, ◌∙◌}
+use Rattle.std.{proofs.Common.{◌≡◌, ◌+◌, ◌∷◌, [], ◌++◌, None, Some, length, take, ap, sym, subst, ◌∙◌}, proofs.lemmas.Result.err_from_is_err_and}
 use Rattle.std.proofs.lemmas.List.{take_more, take_all, append_assoc, append-nil}
-use Rattle.std.proofs.lemmas.Result.{err_from_is_err_and}
 use Rattle.ct_condition.proofs.Writes.{writes_none, writes_as, writes_more, writes_last}
-use Rattle.ct_operators.specs.Merging.{rows_of, Gathers}
-use Rattle.ct_table.specs.Growing.{put_each, Apart, Fits, AreGathered}
-use Rattle.ct_operators.proofs.Adding.{mul_one}
-use Rattle.ct_operators.proofs.Selecting.{row_at}
-use Rattle.ct_operators.proofs.Merges.{gathers_more}
-use Rattle.ct_table.proofs.Joining.{gathers_rows}
+use Rattle.ct_operators.{specs.Merging.{rows_of, Gathers}, proofs.Adding.mul_one, proofs.Selecting.row_at, proofs.Merges.gathers_more}
+use Rattle.ct_table.{specs.Growing.{put_each, Apart, Fits, AreGathered}, proofs.Joining.gathers_rows}
 use Rattle.ct_table.proofs.preparing.gathered.Goals as goal
 
 pub loop-row-init : goal.loop-row-init

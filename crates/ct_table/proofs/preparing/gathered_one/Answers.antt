@@ -1,9 +1,7 @@
 use Rattle.std.proofs.Common.{◌≡◌, ◌∷◌, [], ◌++◌, None, Some, refl, ap, sym, subst, ◌∙◌, length}
 use Rattle.ct_word.specs.declared.values.CRow.{CRow}
-use Rattle.ct_operators.specs.Merging.{rows_of}
-use Rattle.ct_operators.proofs.Merges.{gathers_more}
-use Rattle.ct_table.specs.Growing.{put_each, Joins, AreGathered}
-use Rattle.ct_table.proofs.Joining.{gathers_rows, joins_merged, joins_fits}
+use Rattle.ct_operators.{specs.Merging.rows_of, proofs.Merges.gathers_more}
+use Rattle.ct_table.{specs.Growing.{put_each, Joins, AreGathered}, proofs.Joining.{gathers_rows, joins_merged, joins_fits}}
 use Rattle.ct_table.proofs.preparing.gathered_one.Goals as goal
 
 pub returns-clause-gathered : goal.returns-clause-gathered

@@ -1,9 +1,7 @@
 use Rattle.std.proofs.Common.{ap, sym, subst, ◌∙◌}
 use Rattle.ct_word.specs.declared.values.CRow.{CRow}
 use Rattle.ct_operators.specs.Merging.{rows_of, Merged}
-use Rattle.ct_table.specs.Growing.{put, put_each, Apart, Fits}
-use Rattle.ct_table.proofs.Joining.{joins_merged, joins_fits}
-use Rattle.ct_table.proofs.Putting.{apart_more}
+use Rattle.ct_table.{specs.Growing.{put, put_each, Apart, Fits}, proofs.Joining.{joins_merged, joins_fits}, proofs.Putting.apart_more}
 use Rattle.ct_table.proofs.preparing.insert_row.Goals as goal
 
 pub returns-clause-merged : goal.returns-clause-merged

@@ -1,10 +1,9 @@
 use Rattle.std.proofs.Common.{subst, inl}
-use Rattle.ct_word.specs.declared.kinds.Class.TheVariants as class
 use Rattle.ct_word.proofs.Prefixes.{place_within}
-use Rattle.ct_condition.specs.Truth.{HasTruth, or_at}
-use Rattle.ct_condition.proofs.Reached.{formed_before}
+use Rattle.ct_condition.{specs.Truth.{HasTruth, or_at}, proofs.Reached.formed_before}
 use Rattle.ct_table.proofs.Joining.{first_false}
 use Rattle.ct_operators.proofs.Reaching.{below_before}
+use Rattle.ct_word.specs.declared.kinds.Class.TheVariants as class
 use Rattle.ct_table.proofs.preparing.joined.Goals as goal
 
 pub returns-then-both-eq-FALSE_PLACE-clause-truth : goal.returns-then-both-eq-FALSE_PLACE-clause-truth

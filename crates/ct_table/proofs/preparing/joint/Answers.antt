@@ -1,9 +1,6 @@
-use Rattle.std.proofs.Common.{ℕ, length, sym, ◌∙◌}
-use Rattle.std.specs.Prelude.{◌≢◌}
-use Rattle.ct_condition.specs.Truth.{HasTruth, or_at}
-use Rattle.ct_condition.specs.Terms.{TermsFrom, BelowEither}
-use Rattle.ct_table.specs.Growing.{put_each, Joins, with_first}
-use Rattle.ct_table.proofs.Joining.{if_ok_all}
+use Rattle.std.{proofs.Common.{ℕ, length, sym, ◌∙◌}, specs.Prelude.{◌≢◌}}
+use Rattle.ct_condition.{specs.Truth.{HasTruth, or_at}, specs.Terms.{TermsFrom, BelowEither}}
+use Rattle.ct_table.{specs.Growing.{put_each, Joins, with_first}, proofs.Joining.if_ok_all}
 use Rattle.ct_operators.proofs.Merges.{found_condition}
 use Rattle.ct_table.proofs.preparing.joint.Goals as goal
 

@@ -1,6 +1,4 @@
-use Rattle.ct_rewrite.proofs.Openings.{child_is_there, inserted_child}
-use Rattle.ct_rewrite.proofs.Distinct.{child_put_in}
-use Rattle.ct_rewrite.proofs.Sizes.{no_more_than_inserted}
+use Rattle.ct_rewrite.{proofs.Openings.{child_is_there, inserted_child}, proofs.Distinct.child_put_in, proofs.Sizes.no_more_than_inserted}
 use Rattle.ct_rewrite.proofs.builder.Builder.add.Goals as goal
 
 pub returns-then-contains-clause-members : goal.returns-then-contains-clause-members

@@ -1,7 +1,5 @@
 use Rattle.std.proofs.lemmas.Result.{IfOk-weaker}
-use Rattle.ct_rewrite.proofs.Openings.{joint_stands}
-use Rattle.ct_rewrite.proofs.Sizes.{joint_no_larger}
-use Rattle.ct_rewrite.proofs.Literals.{gathered_literals}
+use Rattle.ct_rewrite.{proofs.Openings.joint_stands, proofs.Sizes.joint_no_larger, proofs.Literals.gathered_literals}
 use Rattle.ct_rewrite.proofs.builder.Builder.gathered.Goals as goal
 
 pub returns-in_default-clause-truth : goal.returns-in_default-clause-truth

@@ -1,8 +1,5 @@
 use Rattle.std.proofs.lemmas.Result.{IfOk-weaker}
-use Rattle.ct_rewrite.proofs.Results.{IfOk-both}
-use Rattle.ct_rewrite.proofs.Openings.{joined_says}
-use Rattle.ct_rewrite.proofs.Sizes.{joined_fits}
-use Rattle.ct_rewrite.proofs.Rules.{no_longer}
+use Rattle.ct_rewrite.{proofs.Results.IfOk-both, proofs.Openings.joined_says, proofs.Sizes.joined_fits, proofs.Rules.no_longer}
 use Rattle.ct_rewrite.proofs.builder.Builder.joined.Goals as goal
 
 pub gathered-requires-clause-few : goal.gathered-requires-clause-few

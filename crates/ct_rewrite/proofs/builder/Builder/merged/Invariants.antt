@@ -1,9 +1,5 @@
-use Rattle.std.proofs.Common.{take}
-use Rattle.std.specs.Prelude.{IsTrue}
-use Rattle.std.specs.List.{list_all}
-use Rattle.ct_rewrite.specs.Nodes.{is_position}
-use Rattle.ct_rewrite.specs.Rules.{are_distinct}
-use Rattle.ct_rewrite.specs.Joining.{HasMembersOf, HasNoMoreThan}
+use Rattle.std.{proofs.Common.take, specs.Prelude.IsTrue, specs.List.list_all}
+use Rattle.ct_rewrite.{specs.Nodes.is_position, specs.Rules.are_distinct, specs.Joining.{HasMembersOf, HasNoMoreThan}}
 use Rattle.ct_rewrite.proofs.builder.Builder.merged.Given as goal
 
 abbrev pub invariant-loop-child : goal.invariant-loop-child

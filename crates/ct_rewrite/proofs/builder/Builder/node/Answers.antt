@@ -1,10 +1,5 @@
-use Rattle.std.proofs.Common.{List, [], subst}
-use Rattle.std.specs.Prelude.{IsTrue}
-use Rattle.std.specs.List.{list_all}
-use Rattle.ct_rewrite.specs.declared.answer.Node.{Node}
-use Rattle.ct_rewrite.specs.Nodes.{read_nodes}
-use Rattle.ct_rewrite.specs.Rules.{has_no_literals}
-use Rattle.ct_rewrite.proofs.Nodes.{node_read}
+use Rattle.std.{proofs.Common.{List, [], subst}, specs.Prelude.IsTrue, specs.List.list_all}
+use Rattle.ct_rewrite.{specs.declared.answer.Node.Node, specs.Nodes.read_nodes, specs.Rules.has_no_literals, proofs.Nodes.node_read}
 use Rattle.ct_rewrite.proofs.Literals.{node_literals}
 use Rattle.ct_rewrite.proofs.builder.Builder.node.Goals as goal
 

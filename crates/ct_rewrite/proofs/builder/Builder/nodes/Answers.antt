@@ -1,8 +1,5 @@
-use Rattle.std.proofs.Common.{List, subst}
-use Rattle.std.specs.List.{IsDistinct}
-use Rattle.ct_rewrite.specs.declared.answer.Node.{Node}
-use Rattle.ct_rewrite.specs.Nodes.{same_node}
-use Rattle.ct_rewrite.proofs.Building.{distinct_nodes}
+use Rattle.std.{proofs.Common.{List, subst}, specs.List.IsDistinct}
+use Rattle.ct_rewrite.{specs.declared.answer.Node.Node, specs.Nodes.same_node, proofs.Building.distinct_nodes}
 use Rattle.ct_rewrite.proofs.builder.Builder.nodes.Goals as goal
 
 pub returns-clause-distinct : goal.returns-clause-distinct

@@ -1,6 +1,4 @@
-use Rattle.ct_rewrite.proofs.Openings.{children_stand, children_placed}
-use Rattle.ct_rewrite.proofs.Sizes.{children_no_larger}
-use Rattle.ct_rewrite.proofs.Literals.{children_literals}
+use Rattle.ct_rewrite.{proofs.Openings.{children_stand, children_placed}, proofs.Sizes.children_no_larger, proofs.Literals.children_literals}
 use Rattle.ct_rewrite.proofs.Rules.{brought_distinct}
 use Rattle.ct_rewrite.proofs.builder.Builder.parts.Goals as goal
 

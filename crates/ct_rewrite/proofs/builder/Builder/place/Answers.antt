@@ -1,10 +1,6 @@
-use Rattle.std.proofs.Common.{List, length, sym, subst, ap, ◌∙◌}
-use Rattle.std.specs.Prelude.{IsTrue}
-use Rattle.ct_rewrite.specs.declared.answer.Node.{Node}
-use Rattle.ct_rewrite.specs.Nodes.{stands_over, node_value}
-use Rattle.ct_rewrite.specs.Rules.{has_no_literals}
+use Rattle.std.{proofs.Common.{List, length, sym, subst, ap, ◌∙◌}, specs.Prelude.IsTrue}
+use Rattle.ct_rewrite.{specs.declared.answer.Node.Node, specs.Nodes.{stands_over, node_value}, specs.Rules.has_no_literals, proofs.Literals.inserted_literals}
 use Rattle.ct_rewrite.proofs.Building.{inserted_ordered, inserted_proper, inserted_value}
-use Rattle.ct_rewrite.proofs.Literals.{inserted_literals}
 use Rattle.ct_rewrite.proofs.builder.Builder.place.Goals as goal
 
 pub invariant_of-self-2 : goal.invariant_of-self-2

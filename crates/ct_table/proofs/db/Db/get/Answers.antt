@@ -1,6 +1,5 @@
 use Rattle.std.proofs.Common.{ap, sym, ◌∙◌}
-use Rattle.ct_table.specs.Denotes.{find_table}
-use Rattle.ct_table.proofs.Shared.{found_entry, its_view}
+use Rattle.ct_table.{specs.Denotes.find_table, proofs.Shared.{found_entry, its_view}}
 use Rattle.ct_table.proofs.db.Db.get.Goals as goal
 
 pub returns-in-Some : goal.returns-in-Some

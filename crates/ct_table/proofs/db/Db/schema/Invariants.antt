@@ -1,6 +1,5 @@
 use Rattle.std.proofs.Common.{◌≡◌, ◌++◌, map}
-use Rattle.ct_table.specs.Denotes.{heading_of}
-use Rattle.ct_table.specs.Shared.{entry_of}
+use Rattle.ct_table.{specs.Denotes.heading_of, specs.Shared.entry_of}
 use Rattle.ct_table.proofs.db.Db.schema.Given as goal
 
 abbrev pub invariant-loop-name : goal.invariant-loop-name

@@ -1,10 +1,6 @@
-use Rattle.std.proofs.Common.{◌≡◌, ap, sym, subst, ◌∙◌}
-use Rattle.std.specs.Prelude.{OnSome}
-use Rattle.ct_operators.specs.declared.table.CTable.{CTable}
-use Rattle.ct_table.specs.Growing.{rows_after, grown, table_of}
-use Rattle.ct_operators.specs.Merging.{rows_of}
-use Rattle.ct_table.specs.Shared.{body_of}
-use Rattle.ct_table.proofs.Putting.{entries_back}
+use Rattle.std.{proofs.Common.{◌≡◌, ap, sym, subst, ◌∙◌}, specs.Prelude.OnSome}
+use Rattle.ct_operators.{specs.declared.table.CTable.CTable, specs.Merging.rows_of}
+use Rattle.ct_table.{specs.Growing.{rows_after, grown, table_of}, specs.Shared.body_of, proofs.Putting.entries_back}
 use Rattle.ct_table.proofs.sharing.SharedTable.extend.Goals as goal
 
 pub returns-clause-rows : goal.returns-clause-rows

@@ -1,9 +1,6 @@
-use Rattle.std.proofs.Common.{◌≡◌, ap, sym, ◌∙◌}
-use Rattle.std.specs.Prelude.{Result, Ok, Err, IfOk, MatchResult}
-use Rattle.std.proofs.lemmas.Result.{IfOk-weaker}
+use Rattle.std.{proofs.Common.{◌≡◌, ap, sym, ◌∙◌}, specs.Prelude.{Result, Ok, Err, IfOk, MatchResult}, proofs.lemmas.Result.IfOk-weaker}
 use Rattle.ct_operators.specs.declared.table.CTable.{CTable}
-use Rattle.ct_table.specs.Growing.{Keyed, entries_of}
-use Rattle.ct_table.proofs.Putting.{entries_back}
+use Rattle.ct_table.{specs.Growing.{Keyed, entries_of}, proofs.Putting.entries_back}
 use Rattle.ct_table.proofs.sharing.SharedTable.stored.Goals as goal
 
 where_ok : {T E : Type 0} (r : Result T E) (P : T → Type 0) (Q : E → Type 0) → MatchResult r P Q → IfOk r P

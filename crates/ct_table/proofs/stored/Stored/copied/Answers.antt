@@ -1,9 +1,6 @@
-use Rattle.std.proofs.Common.{◌≡◌, ◌++◌, ◌∷◌, [], ap, sym, ◌∙◌, take, arith}
-use Rattle.std.specs.Prelude.{slice_get}
-use Rattle.std.proofs.lemmas.List.{take-map}
-use Rattle.ct_table.specs.Growing.{Keyed}
+use Rattle.std.{proofs.Common.{◌≡◌, ◌++◌, ◌∷◌, [], ap, sym, ◌∙◌, take, arith}, specs.Prelude.slice_get, proofs.lemmas.List.take-map}
+use Rattle.ct_table.{specs.Growing.Keyed, proofs.Putting.rows_one_more}
 use Rattle.ct_operators.specs.Merging.{rows_of}
-use Rattle.ct_table.proofs.Putting.{rows_one_more}
 use Rattle.ct_table.proofs.stored.Stored.copied.Goals as goal
 
 pub loop-place-preserved : goal.loop-place-preserved

@@ -1,6 +1,6 @@
 use Rattle.std.proofs.Common.{◌≡◌, take}
-use mathlib.Core.List.{IsPrefix}
 use Rattle.ct_table.specs.Growing.{grown}
+use mathlib.Core.List.{IsPrefix}
 use Rattle.ct_table.proofs.stored.Stored.extend.Given as goal
 
 abbrev pub invariant-loop-put : goal.invariant-loop-put

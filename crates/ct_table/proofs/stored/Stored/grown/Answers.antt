@@ -1,6 +1,5 @@
 use Rattle.std.proofs.Common.{sym, ◌∙◌}
-use Rattle.ct_table.specs.Growing.{put}
-use Rattle.ct_table.proofs.Putting.{grown_void, grown_real}
+use Rattle.ct_table.{specs.Growing.put, proofs.Putting.{grown_void, grown_real}}
 use Rattle.ct_table.proofs.stored.Stored.grown.Goals as goal
 
 pub loop-put-preserved-then-is_void : goal.loop-put-preserved-then-is_void

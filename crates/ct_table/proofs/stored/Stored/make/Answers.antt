@@ -1,10 +1,8 @@
 use Rattle.std.proofs.Common.{◌≡◌, ◌<◌, ℕ, List, ◌∷◌, [], ◌++◌, length, take, get_or, ap, sym, subst, ◌∙◌, rules, arith}
-use Rattle.std.proofs.lemmas.List.{take_more, take_all, length_push, map_push}
-use Rattle.std.proofs.lemmas.Iterator.Adapters.{YieldsList-from_vec}
+use Rattle.std.{proofs.lemmas.List.{take_more, take_all, length_push, map_push}, proofs.lemmas.Iterator.Adapters.YieldsList-from_vec}
 use Rattle.std.proofs.lemmas.Iterator.Consumers.{YieldsList-turn, YieldsList-end}
 use Rattle.ct_word.specs.declared.values.CRow.{CRow}
-use Rattle.ct_table.specs.Growing.{put, put_each, entries_of}
-use Rattle.ct_table.proofs.Putting.{put_one_more, put_apart}
+use Rattle.ct_table.{specs.Growing.{put, put_each, entries_of}, proofs.Putting.{put_one_more, put_apart}}
 use Rattle.ct_table.proofs.stored.Stored.make.Goals as goal
 
 pub loop-row-preserved : goal.loop-row-preserved

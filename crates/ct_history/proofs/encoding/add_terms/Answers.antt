@@ -1,0 +1,14 @@
+use Rattle.std.{proofs.Common.{◌++◌, ◌∷◌, [], subst}, specs.Prelude.IfOk}
+use Rattle.ct_word.specs.Reading.{as_cond, as_row, as_row_list}
+use Rattle.ct_history.{specs.Rows.{AreRowsAt, row_under}, proofs.Lists.meaning_kept}
+use Rattle.ct_word.specs.declared.kinds.Class.TheVariants as class
+use Rattle.ct_history.proofs.encoding.add_terms.Goals as goal
+
+pub returns-clause-rows : goal.returns-clause-rows
+returns-clause-rows g c =
+    let old = c.args.pass.now.words in
+    let now = c.term_cells.new.pass.words in
+    let longer = c.in_ok-row.ensures.longer in
+    subst (λ rs. IfOk c.put_row.result (λ place. AreRowsAt c.put_row.new.pass.words place rs))
+    (λ i. as_row_list (meaning_kept old now class.RowList c.args.list longer c.requires.list i) ++ row_under (as_cond (meaning_kept old now class.Cond c.args.cond longer c.requires.cond i)) (as_row (c.in_ok-row.ensures.stands i)) ∷ [])
+    c.put_row.ensures.rows

@@ -1,0 +1,15 @@
+use Rattle.std.{proofs.Common.{◌++◌, ◌∷◌, [], ap, map, subst, ◌∙◌}, specs.Prelude.IfOk}
+use Rattle.ct_word.specs.Reading.{as_cond, as_row, as_row_list, term_at}
+use Rattle.ct_history.{specs.Rows.{AreRowsAt, row_under}, proofs.Lists.meaning_kept}
+use Rattle.ct_word.specs.declared.kinds.Class.TheVariants as class
+use Rattle.ct_history.proofs.insertion.add_row.Goals as goal
+
+pub returns-clause-rows : goal.returns-clause-rows
+returns-clause-rows g c =
+    let old = c.args.pass.now.words in
+    let now = c.cells.new.pass.words in
+    let longer = c.in_ok-row_of_cells.ensures.longer in
+    let cells = ap as_row c.in_ok-row_of_cells.ensures.stands ∙ ap (map (term_at old)) c.as_slice.ensures in
+    subst (λ rs. IfOk c.put_row.result (λ place. AreRowsAt c.put_row.new.pass.words place rs))
+    (λ i. as_row_list (meaning_kept old now class.RowList c.args.list longer c.requires.list i) ++ row_under (as_cond (meaning_kept old now class.Cond c.args.row.now.cond longer c.requires.row.condition i)) (cells i) ∷ [])
+    c.put_row.ensures.rows
