@@ -1,10 +1,7 @@
 -- A piece has more than blanks and comments exactly where it does not lex to no tokens.
 use Rattle.std.proofs.Common.{◌≡◌, ℕ, ◌+◌, Bool, true, false, not, ◌||◌, List, [], ◌∷◌, ◌++◌, refl, sym, subst, ◌∙◌, ap, arith, Option, None}
-use Rattle.std.specs.Prelude.{nat_eq}
-use Rattle.std.specs.List.{list_all}
-use Rattle.std.proofs.lemmas.Bool.Decides.{nat_tests}
-use Rattle.ct_lex.specs.Spelling.{Spells, blank, comment, starts, is_blank, is_comment_byte}
-use Rattle.ct_lex.specs.Texts.{begins_comment, has_token_from, has_token}
+use Rattle.std.{specs.Prelude.nat_eq, specs.List.list_all, proofs.lemmas.Bool.Decides.nat_tests}
+use Rattle.ct_lex.{specs.Spelling.{Spells, blank, comment, starts, is_blank, is_comment_byte}, specs.Texts.{begins_comment, has_token_from, has_token}}
 use Rattle.ct_lex.specs.Tokens.{LexesFrom, ended, skipped, Lexes}
 
 blank_in_comment : (c r : List ℕ) → list_all is_comment_byte c ≡ true → has_token_from true (c ++ r) ≡ has_token_from true r

@@ -1,24 +1,16 @@
 -- What the byte tests and runs of `front` say of a text as a list.
 use Rattle.std.proofs.Common.{◌≡◌, ℕ, zero, suc, ◌+◌, ◌<◌, ◌≢◌, Bool, true, false, List, [], ◌∷◌, ◌++◌, length, get_or, take, drop, refl, sym, subst, ◌∙◌, ap, arith, Option, Some, None, take-append-drop, get_or-drop, add-zero}
-use Rattle.std.specs.Prelude.{nat_eq, ℤ, Result, Ok, Err}
-use Rattle.std.specs.Str.Parse.{ParsesSigned, digits_value}
-use mir.Syntax.{w64}
-use mir.Val.{of_z, to_z}
-use Rattle.std.proofs.lemmas.Int.{to_z-of_z}
-use Rattle.std.specs.List.{list_all}
-use Rattle.std.specs.Str.{IsUtf8, IsCharBoundary}
-use Rattle.std.proofs.lemmas.Bool.Decides.{nat_tests}
-use Rattle.std.proofs.lemmas.List.{drop-drop}
+use Rattle.std.{specs.Prelude.{nat_eq, ℤ, Result, Ok, Err}, specs.Str.Parse.{ParsesSigned, digits_value}, proofs.lemmas.Int.to_z-of_z, specs.List.list_all}
+use Rattle.std.{specs.Str.{IsUtf8, IsCharBoundary}, proofs.lemmas.Bool.Decides.nat_tests, proofs.lemmas.List.drop-drop}
 use Rattle.std.proofs.lemmas.Str.{IsCharBoundary-after_ascii, IsCharBoundary-from_rest}
-use Rattle.ct_lex.specs.declared.token.Lexeme.{Lexeme}
+use Rattle.ct_lex.{specs.declared.token.Lexeme.Lexeme, specs.Scan.IsFront, specs.Tokens.{FaultsHere, stray_byte, number_range}}
+use Rattle.ct_lex.specs.Spelling.{Spells, blank, comment, word, null, number, left_paren, right_paren, comma, dot, star, equal, unequal, not_equal, sign_text, signed, are_digits, starts, lowered, begins_word, begins_symbol, is_blank, is_word_byte, is_comment_byte, is_spelling}
+use Rattle.ct_lex.proofs.Numbers.{parsed, not_parsed}
+use Rattle.ct_word.specs.Writable.{is_digit}
+use mir.{Syntax.w64, Val.{of_z, to_z}}
 use Rattle.ct_lex.specs.declared.token.Lexeme.TheVariants as lexeme
 use Rattle.ct_lex.specs.declared.token.Symbol.TheVariants as symbol
 use Rattle.ct_lex.specs.declared.token.LexError.TheVariants as fault
-use Rattle.ct_lex.specs.Spelling.{Spells, blank, comment, word, null, number, left_paren, right_paren, comma, dot, star, equal, unequal, not_equal, sign_text, signed, are_digits, starts, lowered, begins_word, begins_symbol, is_blank, is_word_byte, is_comment_byte, is_spelling}
-use Rattle.ct_lex.specs.Scan.{IsFront}
-use Rattle.ct_lex.specs.Tokens.{FaultsHere, stray_byte, number_range}
-use Rattle.ct_lex.proofs.Numbers.{parsed, not_parsed}
-use Rattle.ct_word.specs.Writable.{is_digit}
 
 -- one ASCII byte that is a token of its own
 pub one : (x : List ℕ) (b : ℕ) (o : Option Lexeme) → IsUtf8 x → get_or x 0 0 ≡ b → 0 < b → b < 128 → ((r : List ℕ) → Spells (b ∷ []) o r) → IsFront x 1 o
@@ -141,33 +133,40 @@ digits_begin n [] first all stops = absurd (grind (arith, nat_tests))
 digits_begin zero (d ∷ y) first all stops = absurd (grind arith)
 digits_begin (suc n) (d ∷ y) first all stops = let rest : list_all is_digit (take n y) ≡ true = grind arith in rw (first, rest)
 
-pub are_digits_at : (x : List ℕ) (sign n : ℕ) → is_digit (get_or x sign 0) ≡ true → list_all is_digit (take n (drop sign x)) ≡ true → starts is_digit (drop n (drop sign x)) ≡ false
-    → are_digits (take n (drop sign x)) ≡ true
-are_digits_at x sign n first all stops =
-    digits_begin n (drop sign x) (let at : get_or (drop sign x) 0 0 ≡ get_or x sign 0 = rw (get_or-drop sign x 0 0, add-zero) in rw at first) all stops
+-- behind the sign there are these digits, and no more
+pub record HasDigits (x : List ℕ) (sign n : ℕ) : Type 0 where
+  pub digits : are_digits (take n (drop sign x)) ≡ true
+  pub stops : starts is_digit (drop n (drop sign x)) ≡ false
+
+pub has_digits : (x : List ℕ) (sign n : ℕ) → is_digit (get_or x sign 0) ≡ true → list_all is_digit (take n (drop sign x)) ≡ true → starts is_digit (drop n (drop sign x)) ≡ false
+    → HasDigits x sign n
+has_digits x sign n first all stops = record {
+  digits = digits_begin n (drop sign x) (let at : get_or (drop sign x) 0 0 ≡ get_or x sign 0 = rw (get_or-drop sign x 0 0, add-zero) in rw at first) all stops;
+  stops = stops;
+}
 
 some_digits : (n : ℕ) (y : List ℕ) → are_digits (take n y) ≡ true → 0 < n
 some_digits zero y h = absurd (grind arith)
 some_digits (suc n) y h = omega arith
 
 pub number_front : {E : Type 0} (x : List ℕ) (sign n : ℕ) (minus : Bool) (z : ℤ) (r : Result ℤ E) → take sign x ≡ sign_text minus
-    → are_digits (take n (drop sign x)) ≡ true → starts is_digit (drop n (drop sign x)) ≡ false → IsCharBoundary x (sign + n) → r ≡ Ok z
+    → HasDigits x sign n → IsCharBoundary x (sign + n) → r ≡ Ok z
     → ParsesSigned w64 10 (take (sign + n) x) r → IsFront x (sign + n) (Some (lexeme.Number (to_z w64 (of_z w64 z))))
-number_front x sign n minus z r signs digits stops cut is parses =
+number_front x sign n minus z r signs has cut is parses =
     let ds = take n (drop sign x) in
     let w : take (sign + n) x ≡ sign_text minus ++ ds = take_add sign n x ∙ ap (λ t. t ++ ds) signs in
-    let known = parsed minus ds z r digits is (subst (λ t. ParsesSigned w64 10 t r) w parses) in
+    let known = parsed minus ds z r has.digits is (subst (λ t. ParsesSigned w64 10 t r) w parses) in
     let value : signed minus (digits_value 10 ds) ≡ to_z w64 (of_z w64 z) = sym (to_z-of_z w64 z known.2 ∙ known.0) in record {
-      some = omega (arith, some_digits n (drop sign x) digits);
+      some = omega (arith, some_digits n (drop sign x) has.digits);
       cut = cut;
-      spells = subst (λ v. Spells (take (sign + n) x) (Some (lexeme.Number v)) (drop (sign + n) x)) value (number minus ds w digits (rw (← drop-drop n sign x) stops) known.1);
+      spells = subst (λ v. Spells (take (sign + n) x) (Some (lexeme.Number v)) (drop (sign + n) x)) value (number minus ds w has.digits (rw (← drop-drop n sign x) has.stops) known.1);
     }
 
 pub range_front : {E : Type 0} (x : List ℕ) (sign n : ℕ) (minus : Bool) (e : E) (r : Result ℤ E) → take sign x ≡ sign_text minus
-    → are_digits (take n (drop sign x)) ≡ true → starts is_digit (drop n (drop sign x)) ≡ false → r ≡ Err e
+    → HasDigits x sign n → r ≡ Err e
     → ParsesSigned w64 10 (take (sign + n) x) r → FaultsHere x fault.NumberRange
-range_front x sign n minus e r signs digits stops is parses =
+range_front x sign n minus e r signs has is parses =
     let ds = take n (drop sign x) in
     let w : take (sign + n) x ≡ sign_text minus ++ ds = take_add sign n x ∙ ap (λ t. t ++ ds) signs in
     let whole : x ≡ (sign_text minus ++ ds) ++ drop (sign + n) x = sym (take-append-drop (sign + n) x) ∙ ap (λ t. t ++ drop (sign + n) x) w in
-    number_range minus ds (drop (sign + n) x) whole digits (rw (← drop-drop n sign x) stops) (not_parsed minus ds e r digits is (subst (λ t. ParsesSigned w64 10 t r) w parses))
+    number_range minus ds (drop (sign + n) x) whole has.digits (rw (← drop-drop n sign x) has.stops) (not_parsed minus ds e r has.digits is (subst (λ t. ParsesSigned w64 10 t r) w parses))

@@ -1,20 +1,12 @@
 -- What stands between the quotes of a text literal.
 use Rattle.std.proofs.Common.{◌≡◌, ◌≢◌, ℕ, ◌+◌, ◌<◌, true, false, List, [], ◌∷◌, ◌++◌, length, get_or, take, drop, refl, sym, subst, ◌∙◌, ap, arith, inl, inr, append_assoc, Some}
-use Rattle.std.specs.Prelude.{nat_eq}
-use Rattle.std.specs.List.{list_all}
-use Rattle.std.specs.Str.{IsUtf8, IsCharBoundary}
-use Rattle.std.proofs.lemmas.Bool.{cases_lt}
-use Rattle.std.proofs.lemmas.Bool.Decides.{nat_tests}
-use Rattle.std.proofs.lemmas.Grind.{flat_map-append}
-use Rattle.std.proofs.lemmas.List.{take_more, take_all, drop_more, drop_all, get_or_past}
+use Rattle.std.{specs.Prelude.nat_eq, specs.List.list_all, specs.Str.{IsUtf8, IsCharBoundary}, proofs.lemmas.Bool.cases_lt, proofs.lemmas.Grind.flat_map-append}
+use Rattle.std.{proofs.lemmas.Bool.Decides.nat_tests, proofs.lemmas.List.{take_more, take_all, drop_more, drop_all, get_or_past}}
 use Rattle.std.proofs.lemmas.Str.{IsCharBoundary-after_ascii}
+use Rattle.ct_lex.{specs.declared.scan.Class.TheVariants.NotQuote, specs.Spelling.{text, starts, written, doubled}, specs.Scan.{IsFront, class_test}}
+use Rattle.ct_lex.{specs.Tokens.{FaultsHere, open_text}, proofs.Fronts.take_add}
 use Rattle.ct_lex.specs.declared.token.Lexeme.TheVariants as lexeme
 use Rattle.ct_lex.specs.declared.token.LexError.TheVariants as fault
-use Rattle.ct_lex.specs.declared.scan.Class.TheVariants.{NotQuote}
-use Rattle.ct_lex.specs.Spelling.{text, starts, written, doubled}
-use Rattle.ct_lex.specs.Scan.{IsFront, class_test}
-use Rattle.ct_lex.specs.Tokens.{FaultsHere, open_text}
-use Rattle.ct_lex.proofs.Fronts.{take_add}
 
 -- bytes without a quote are written as they are
 plain : (t : List ℕ) → list_all (class_test NotQuote) t ≡ true → doubled t ≡ t
@@ -48,25 +40,29 @@ no_quote x k other =
       | inr past ↦ rw (drop_all k x past)
     ]
 
+-- the text t is read up to the quote at k
+pub record AtQuote (x t : List ℕ) (k : ℕ) : Type 0 where
+  pub before : take k x ≡ 39 ∷ doubled t
+  pub quote : get_or x k 0 ≡ 39
+  pub within : k < length x
+
+-- the quote is read too
+quote_read : (x t : List ℕ) (k : ℕ) → AtQuote x t k → take (k + 1) x ≡ 39 ∷ doubled t ++ 39 ∷ []
+quote_read x t k at = take_more x k 0 at.within ∙ rw (at.before, at.quote)
+
 -- a quote alone ends the text
-pub closed : (x t : List ℕ) (k : ℕ) → IsUtf8 x → take k x ≡ 39 ∷ doubled t → get_or x k 0 ≡ 39 → k < length x → get_or x (k + 1) 0 ≢ 39
-    → IsFront x (k + 1) (Some (lexeme.Text t))
-closed x t k utf8 before quote within other = record {
+pub closed : (x t : List ℕ) (k : ℕ) → IsUtf8 x → AtQuote x t k → get_or x (k + 1) 0 ≢ 39 → IsFront x (k + 1) (Some (lexeme.Text t))
+closed x t k utf8 at other = record {
   some = omega arith;
-  cut = IsCharBoundary-after_ascii x k utf8 within (omega arith);
-  spells = text t (take_more x k 0 within ∙ ap (λ u. u ++ get_or x k 0 ∷ []) before ∙ ap (λ b. 39 ∷ doubled t ++ b ∷ []) quote) (no_quote x (k + 1) other);
+  cut = IsCharBoundary-after_ascii x k utf8 at.within (omega (arith, at.quote));
+  spells = text t (quote_read x t k at) (no_quote x (k + 1) other);
 }
 
 -- two quotes are one of the text
-pub quote_kept : (x t : List ℕ) (k : ℕ) → IsUtf8 x → take k x ≡ 39 ∷ doubled t → get_or x k 0 ≡ 39 → get_or x (k + 1) 0 ≡ 39
-    → (take (k + 2) x ≡ 39 ∷ doubled (t ++ 39 ∷ [])) × IsCharBoundary x (k + 2)
-quote_kept x t k utf8 before one two =
+pub quote_kept : (x t : List ℕ) (k : ℕ) → IsUtf8 x → AtQuote x t k → get_or x (k + 1) 0 ≡ 39 → (take (k + 2) x ≡ 39 ∷ doubled (t ++ 39 ∷ [])) × IsCharBoundary x (k + 2)
+quote_kept x t k utf8 at two =
     let within : k + 1 < length x = elim (cases_lt (k + 1) (length x)) [ inl lt ↦ lt | inr past ↦ absurd (omega (arith, get_or_past x (k + 1) 0 past)) ] in
-    let more : (k + 1) + 1 ≡ k + 2 = omega arith in
-    let first : take (k + 1) x ≡ 39 ∷ doubled t ++ 39 ∷ [] =
-    take_more x k 0 (omega arith) ∙ ap (λ u. u ++ get_or x k 0 ∷ []) before ∙ ap (λ b. 39 ∷ doubled t ++ b ∷ []) one in
-    let both : take ((k + 1) + 1) x ≡ (39 ∷ doubled t ++ 39 ∷ []) ++ 39 ∷ [] =
-    take_more x (k + 1) 0 within ∙ ap (λ u. u ++ get_or x (k + 1) 0 ∷ []) first ∙ ap (λ b. (39 ∷ doubled t ++ 39 ∷ []) ++ b ∷ []) two in (
-      ap (λ j. take j x) (sym more) ∙ both ∙ append_assoc (39 ∷ doubled t) (39 ∷ []) (39 ∷ []) ∙ ap (λ u. 39 ∷ u) (sym (flat_map-append written t (39 ∷ []))),
+    let more : (k + 1) + 1 ≡ k + 2 = omega arith in (
+      ap (λ j. take j x) (sym more) ∙ take_more x (k + 1) 0 within ∙ rw (quote_read x t k at, two, flat_map-append written t (39 ∷ [])) (append_assoc (39 ∷ doubled t) (39 ∷ []) (39 ∷ [])),
       subst (IsCharBoundary x) more (IsCharBoundary-after_ascii x (k + 1) utf8 within (omega arith)),
     )

@@ -1,13 +1,10 @@
 -- What `parse` reads of a sign and digits.
-use Rattle.std.proofs.Common.{◌≡◌, ℕ, zero, suc, ◌<◌, ◌≤◌, Bool, true, false, List, [], ◌∷◌, ◌++◌, refl, arith, sym, subst, ◌∙◌}
-use Rattle.std.specs.Prelude.{ℤ, nat_eq, Result, Ok, Err}
-use Rattle.std.specs.List.{list_all}
+use Rattle.std.{proofs.Common.{◌≡◌, ℕ, zero, suc, ◌<◌, ◌≤◌, Bool, true, false, List, [], ◌∷◌, ◌++◌, refl, arith, sym, subst, ◌∙◌}, specs.List.list_all}
+use Rattle.std.{specs.Prelude.{ℤ, nat_eq, Result, Ok, Err}, proofs.lemmas.Bool.Decides.nat_tests}
 use Rattle.std.specs.Str.Parse.{AllDigits, IsNumeral, ParsesSigned, digits_value, without_leading_sign, signed_digits_value}
-use Rattle.std.proofs.lemmas.Bool.Decides.{nat_tests}
-use mir.Syntax.{w64}
-use mir.Val.{SFits}
 use Rattle.ct_word.specs.Writable.{is_digit}
 use Rattle.ct_lex.specs.Spelling.{are_digits, sign_text, signed, greatest}
+use mir.{Syntax.w64, Val.SFits}
 
 -- digits are digits to `parse`
 digits_all : (ds : List ℕ) → list_all is_digit ds ≡ true → AllDigits 10 ds

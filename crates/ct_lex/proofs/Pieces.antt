@@ -1,13 +1,8 @@
 -- How the pieces of a script go on, byte by byte.
 use Rattle.std.proofs.Common.{◌≡◌, ℕ, ◌+◌, ◌<◌, false, true, List, [], ◌∷◌, ◌++◌, length, get_or, take, drop, refl, sym, ◌∙◌, ap, arith, add-zero, get_or-drop, length-drop}
-use Rattle.std.proofs.lemmas.Bool.Decides.{nat_tests}
-use Rattle.std.proofs.lemmas.List.{take_more, drop_more, drop_all, at_drop_more}
-use Rattle.std.proofs.lemmas.Str.{IsUtf8-drop}
-use Rattle.std.specs.Str.{IsUtf8, IsCharBoundary}
-use Rattle.ct_lex.specs.declared.splitting.Place.{Place}
-use Rattle.ct_lex.specs.declared.splitting.Place.TheVariants.{Plain, InText, InComment}
+use Rattle.std.{proofs.lemmas.List.{take_more, drop_more, drop_all, at_drop_more}, proofs.lemmas.Str.IsUtf8-drop, specs.Str.{IsUtf8, IsCharBoundary}}
+use Rattle.ct_lex.{specs.declared.splitting.Place.Place, specs.declared.splitting.Place.TheVariants.{Plain, InText, InComment}, proofs.Fronts.first_byte}
 use Rattle.ct_lex.specs.Texts.{place_after, ends_piece, begins_comment, pieces_from, pieces, pieces_behind, onto_first, onto}
-use Rattle.ct_lex.proofs.Fronts.{first_byte}
 
 pub onto-append : (v w : List ℕ) (others : List (List ℕ)) → onto (v ++ w) others ≡ onto v (onto w others)
 onto-append [] w others = refl
@@ -58,11 +53,6 @@ pub ends_at_end : (x : List ℕ) (at : ℕ) (place : Place) → at ≡ length x 
 ends_at_end x at place end before =
     let none : drop (length x) x ≡ [] = drop_all (length x) x (omega arith) in
     before ∙ ap (λ n. onto (take n x) (pieces_from place (drop n x))) end ∙ ap (λ y. onto (take (length x) x) (pieces_from place y)) none ∙ onto_end (take (length x) x) [] ∙ ap (λ y. take (length x) x ∷ pieces_behind y) (sym none)
-
-pub ends_is : (place : Place) (b : ℕ) → ends_piece place b ≡ true → b ≡ 59
-ends_is Plain b h = grind (arith, nat_tests)
-ends_is InText b h = absurd (grind arith)
-ends_is InComment b h = absurd (grind arith)
 
 -- a semicolon may be cut off
 pub behind_cut : (x behind : List ℕ) (n : ℕ) → IsUtf8 x → IsCharBoundary x n → (n < length x → get_or x n 0 ≡ 59) → behind ≡ drop n x → 0 < length behind → IsCharBoundary behind 1

@@ -1,19 +1,13 @@
 -- What bytes spell is what they are read as, so they have one reading: one list of tokens, or one leftmost fault.
 use Rattle.std.proofs.Common.{◌≡◌, ℕ, suc, ◌+◌, ◌-◌, ◌≤◌, Bool, true, false, List, [], ◌∷◌, ◌++◌, length, refl, sym, ◌∙◌, ap, arith, append_assoc, Option, Some, None, Ok, Err}
-use Rattle.std.specs.Prelude.{nat_eq, nat_le}
-use Rattle.std.specs.List.{list_all}
-use Rattle.std.specs.Str.Parse.{digits_value}
-use Rattle.std.proofs.lemmas.Bool.Decides.{nat_tests}
+use Rattle.std.{specs.Prelude.{nat_eq, nat_le}, specs.List.list_all, specs.Str.Parse.digits_value, proofs.lemmas.Bool.Decides.nat_tests}
 use Rattle.ct_word.specs.Writable.{is_digit}
-use Rattle.ct_lex.specs.declared.token.Lexeme.{Lexeme}
-use Rattle.ct_lex.specs.declared.token.Lexeme.TheVariants as lexeme
-use Rattle.ct_lex.specs.declared.token.LexError.{LexError}
-use Rattle.ct_lex.specs.declared.token.LexError.TheVariants as fault
-use Rattle.ct_lex.specs.Spelling.{Spells, blank, comment, word, number, text, null, left_paren, right_paren, comma, dot, star, equal, unequal, not_equal, starts, doubled, signed, sign_text, greatest, begins_word, is_blank, is_word_byte, is_comment_byte, is_spelling, are_digits}
-use Rattle.ct_lex.specs.declared.token.Token.{Token}
+use Rattle.ct_lex.{specs.declared.token.Lexeme.Lexeme, specs.declared.token.LexError.LexError, specs.declared.token.Token.Token, proofs.Steps.some_spelled}
+use Rattle.ct_lex.specs.Spelling.{Spells, blank, comment, word, number, text, null, starts, doubled, signed, sign_text, greatest, begins_word, is_blank, is_word_byte, is_comment_byte, is_spelling, are_digits}
 use Rattle.ct_lex.specs.Tokens.{LexesFrom, ended, skipped, taken, FaultsFrom, here, later, FaultsHere, open_text, number_range, stray_byte}
 use Rattle.ct_lex.specs.Reading.{Read, Found, Fault, Nothing, span, consed, close, word_of, null_of, comment_of, number_of, literal_of, step, with_front, with_step, bytes_behind, read_from}
-use Rattle.ct_lex.proofs.Steps.{some_spelled}
+use Rattle.ct_lex.specs.declared.token.Lexeme.TheVariants as lexeme
+use Rattle.ct_lex.specs.declared.token.LexError.TheVariants as fault
 
 span_stops : (p : ℕ → Bool) (r : List ℕ) → starts p r ≡ false → span p r ≡ ([], r)
 span_stops p [] h = refl
@@ -98,14 +92,7 @@ found (word {w} {r} spelled stops) = word_at w r spelled stops
 found (number {w} {r} minus ds is digits stops within) = rw is (number_at minus ds r digits stops ∙ number_found minus ds r within)
 found (text {w} {r} t is stops) = rw (is, append_assoc (doubled t) (39 ∷ []) r) (ap literal_of (closed t r stops))
 found (null {w} {r} spelled stops) = null_at w r spelled stops
-found left_paren = refl
-found right_paren = refl
-found comma = refl
-found dot = refl
-found star = refl
-found equal = refl
-found unequal = refl
-found not_equal = refl
+found _ = refl
 
 -- the fault at the front is found
 faulty : {x : List ℕ} {e : LexError} → FaultsHere x e → step x ≡ Fault e

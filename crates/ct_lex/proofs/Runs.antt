@@ -1,17 +1,11 @@
 -- Runs of bytes of a class.
 use Rattle.std.proofs.Common.{◌≡◌, ℕ, zero, suc, ◌+◌, ◌<◌, Bool, true, false, not, List, [], ◌∷◌, length, take, drop, refl, subst, arith, inl, inr, add-one}
-use Rattle.std.specs.Prelude.{nat_eq}
-use Rattle.std.specs.List.{list_all, prefix_len}
-use Rattle.std.specs.Str.{IsUtf8, IsCharBoundary}
-use Rattle.std.proofs.lemmas.Bool.{cases_lt}
-use Rattle.std.proofs.lemmas.Bool.Decides.{nat_tests}
-use Rattle.std.proofs.lemmas.List.Sums.{prefix_len-le-length, prefix_len_passes, prefix_len_stops}
+use Rattle.std.{specs.Prelude.nat_eq, specs.List.{list_all, prefix_len}, specs.Str.{IsUtf8, IsCharBoundary}, proofs.lemmas.Bool.cases_lt}
+use Rattle.std.{proofs.lemmas.Bool.Decides.nat_tests, proofs.lemmas.List.Sums.{prefix_len-le-length, prefix_len_passes, prefix_len_stops}}
 use Rattle.std.proofs.lemmas.Str.{IsCharBoundary-start, IsCharBoundary-after_ascii, IsCharBoundary-before_ascii, IsCharBoundary-end}
-use Rattle.ct_lex.specs.declared.scan.Class.{Class}
-use Rattle.ct_lex.specs.declared.scan.Class.TheVariants.{Word, Digit, NotQuote, Comment}
-use Rattle.ct_word.specs.Writable.{is_digit}
+use Rattle.ct_lex.{specs.declared.scan.Class.Class, specs.declared.scan.Class.TheVariants.{Word, Digit, NotQuote, Comment}, specs.Scan.class_test}
 use Rattle.ct_lex.specs.Spelling.{starts, is_word_byte, is_comment_byte}
-use Rattle.ct_lex.specs.Scan.{class_test}
+use Rattle.ct_word.specs.Writable.{is_digit}
 
 run_passes_at : (p : ℕ → Bool) (x : ℕ) (xs : List ℕ) (b : Bool) → p x ≡ b → list_all p (take (prefix_len p xs) xs) ≡ true
     → list_all p (take (prefix_len p (x ∷ xs)) (x ∷ xs)) ≡ true

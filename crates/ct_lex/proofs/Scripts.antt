@@ -1,17 +1,10 @@
 -- The statement texts by the relation are those by the definition.
 use Rattle.std.proofs.Common.{◌≡◌, ℕ, zero, suc, ◌<◌, Bool, true, false, ◌||◌, List, [], ◌∷◌, ◌++◌, length, refl, sym, subst, ◌∙◌, ap, arith, cond, append_assoc, length-append}
-use Rattle.std.specs.Prelude.{nat_eq, filter}
-use Rattle.std.specs.List.{list_all}
-use Rattle.std.proofs.lemmas.Bool.Decides.{nat_tests}
-use Rattle.std.proofs.lemmas.List.{append-nil}
-use Rattle.ct_lex.specs.Spelling.{starts, is_comment_byte}
-use Rattle.ct_lex.specs.declared.splitting.Place.{Place}
-use Rattle.ct_lex.specs.declared.splitting.Place.TheVariants.{Plain, InText, InComment}
+use Rattle.std.{specs.Prelude.{nat_eq, filter}, specs.List.list_all, proofs.lemmas.Bool.Decides.nat_tests, proofs.lemmas.List.append-nil}
+use Rattle.ct_lex.{specs.Spelling.{starts, is_comment_byte}, specs.declared.splitting.Place.Place, specs.Tokens.Lexes, proofs.Pieces.{onto-append, onto_end}}
+use Rattle.ct_lex.{specs.declared.splitting.Place.TheVariants.{Plain, InText, InComment}, proofs.Blanks.{no_tokens, none_read}}
 use Rattle.ct_lex.specs.Texts.{pieces_from, pieces, onto_first, onto, begins_comment, has_token, texts}
 use Rattle.ct_lex.specs.Splitting.{is_no_quote, IsPiece, ended, literal, open_literal, comment, other, Keeps, kept, skipped, Splits, last, cut}
-use Rattle.ct_lex.specs.Tokens.{Lexes}
-use Rattle.ct_lex.proofs.Pieces.{onto-append, onto_end}
-use Rattle.ct_lex.proofs.Blanks.{no_tokens, none_read}
 
 in_text : (t r : List ℕ) → list_all (is_no_quote) t ≡ true → pieces_from InText (t ++ r) ≡ onto t (pieces_from InText r)
 in_text [] r h = refl

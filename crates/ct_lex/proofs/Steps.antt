@@ -1,12 +1,8 @@
 -- The steps of the loop over a text's tokens.
 use Rattle.std.proofs.Common.{◌≡◌, ℕ, true, false, ◌+◌, ◌-◌, ◌<◌, ◌≤◌, List, [], ◌∷◌, ◌++◌, length, take, drop, refl, sym, subst, ◌∙◌, ap, arith, append_assoc, Option, Some, None, take-append-drop, length-append}
-use Rattle.std.specs.Prelude.{slice_range}
-use Rattle.std.proofs.lemmas.List.{take_at, drop_at, drop-drop, length-take-le, drop_all}
-use Rattle.ct_lex.specs.declared.token.Lexeme.{Lexeme}
-use Rattle.ct_lex.specs.declared.token.LexError.{LexError}
-use Rattle.ct_lex.specs.declared.token.Token.{Token}
-use Rattle.ct_lex.specs.Spelling.{Spells, blank, comment, word, number, text as literal, null, left_paren, right_paren, comma, dot, star, equal, unequal, not_equal, is_spelling, are_digits}
-use Rattle.ct_lex.specs.Scan.{IsFront}
+use Rattle.std.{specs.Prelude.slice_range, proofs.lemmas.List.{take_at, drop_at, drop-drop, length-take-le, drop_all}}
+use Rattle.ct_lex.{specs.declared.token.Lexeme.Lexeme, specs.declared.token.LexError.LexError, specs.declared.token.Token.Token, specs.Scan.IsFront}
+use Rattle.ct_lex.specs.Spelling.{Spells, word, number, text as literal, is_spelling, are_digits}
 use Rattle.ct_lex.specs.Tokens.{LexesFrom, ended, skipped, taken, AreSlicesFrom, FaultsFrom, later}
 
 -- the token of a front, if it is one, before the others
@@ -47,21 +43,11 @@ pub end_lexes : (text : List ℕ) (n : ℕ) → length text ≤ n → LexesFrom 
 end_lexes text n past = rw (drop_all n text past) ended
 
 pub some_spelled : {w r : List ℕ} {o : Option Lexeme} → Spells w o r → 0 < length w
-some_spelled (blank h) = omega arith
-some_spelled (comment all stops) = omega arith
 some_spelled (word {w} spelled stops) = elim w as (λ v. is_spelling v ≡ true → 0 < length v) [ [] ↦ λ h. absurd (grind arith) | ◌∷◌ b v ↦ λ h. omega arith ] spelled
 some_spelled (number true ds is digits stops within) = rw is (omega arith)
 some_spelled (number false ds is digits stops within) = rw is (elim ds as (λ v. are_digits v ≡ true → 0 < length v) [ [] ↦ λ h. absurd (grind arith) | ◌∷◌ b v ↦ λ h. omega arith ] digits)
 some_spelled (literal t is stops) = rw is (omega arith)
-some_spelled (null spelled stops) = omega arith
-some_spelled left_paren = omega arith
-some_spelled right_paren = omega arith
-some_spelled comma = omega arith
-some_spelled dot = omega arith
-some_spelled star = omega arith
-some_spelled equal = omega arith
-some_spelled unequal = omega arith
-some_spelled not_equal = omega arith
+some_spelled _ = omega arith
 
 slice_there : (before w r : List ℕ) (n : ℕ) → length before ≡ n → slice_range ((before ++ w) ++ r) n (n + length w) ≡ w
 slice_there before w r n at =

@@ -1,14 +1,9 @@
 -- Words and nulls of a text's tokens have names that are spelled as words.
-use Rattle.std.proofs.Common.{◌≡◌, ℕ, true, ◌||◌, List, [], ◌∷◌, map, refl, arith, Option, Some, None}
-use Rattle.std.specs.List.{list_all}
-use Rattle.std.specs.Char.{to_ascii_lowercase}
+use Rattle.std.{proofs.Common.{◌≡◌, ℕ, true, ◌||◌, List, [], ◌∷◌, map, refl, arith, Option, Some, None}, specs.List.list_all, specs.Char.to_ascii_lowercase}
 use Rattle.std.proofs.lemmas.Bool.Decides.{nat_tests}
 use Rattle.ct_word.specs.Writable.{is_letter, is_digit, is_word}
-use Rattle.ct_lex.specs.declared.token.Lexeme.{Lexeme}
-use Rattle.ct_lex.specs.declared.token.Token.{Token}
-use Rattle.ct_lex.specs.Spelling.{is_spelling, is_word_byte, lowered, Spells, blank, comment, word, number, text, null, left_paren, right_paren, comma, dot, star, equal, unequal, not_equal}
-use Rattle.ct_lex.specs.Tokens.{LexesFrom, ended, skipped, taken}
-use Rattle.ct_lex.specs.Written.{IsWritten, AreWritten}
+use Rattle.ct_lex.{specs.declared.token.Lexeme.Lexeme, specs.declared.token.Token.Token, specs.Tokens.{LexesFrom, ended, skipped, taken}}
+use Rattle.ct_lex.{specs.Spelling.{is_spelling, is_word_byte, lowered, Spells, word, null}, specs.Written.{IsWritten, AreWritten}}
 
 byte_lowered : (b : ℕ) → is_word_byte b ≡ true → (is_letter (to_ascii_lowercase b) || is_digit (to_ascii_lowercase b)) ≡ true
 byte_lowered b h = grind (arith, nat_tests)
@@ -37,18 +32,7 @@ IsFound (Some l) = IsWritten l
 spelled : {w r : List ℕ} {o : Option Lexeme} → Spells w o r → IsFound o
 spelled (word {w} h stops) = lowered_is_word w h
 spelled (null {w} h stops) = lowered_is_word w h
-spelled (blank h) = tt
-spelled (comment all stops) = tt
-spelled (number minus ds is digits stops within) = tt
-spelled (text t is stops) = tt
-spelled left_paren = tt
-spelled right_paren = tt
-spelled comma = tt
-spelled dot = tt
-spelled star = tt
-spelled equal = tt
-spelled unequal = tt
-spelled not_equal = tt
+spelled _ = tt
 
 pub tokens_written : {n : ℕ} {x : List ℕ} {ts : List Token} → LexesFrom n x ts → AreWritten (map (λ t. t.word) ts)
 tokens_written ended = tt

@@ -1,19 +1,14 @@
 -- Parts that are joined, renamed, or followed by a lexeme; lists behind commas; conditions behind words.
 use Rattle.std.proofs.Common.{◌≡◌, ℕ, Bool, true, false, List, [], ◌∷◌, length, Option, Some, None, refl, ap, sym, subst, ◌∙◌, arith, rules}
-use Rattle.std.specs.Prelude.{IsTrue, nat_eq}
-use Rattle.std.specs.Cmp.Lexicographic.{same_text as same_bytes}
-use Rattle.std.proofs.lemmas.Bool.{false≢true}
-use Rattle.ct_word.specs.Writable.{is_name}
-use Rattle.ct_word.specs.Value.{same_text}
+use Rattle.std.{specs.Prelude.{IsTrue, nat_eq}, specs.Cmp.Lexicographic.{same_text as same_bytes}, proofs.lemmas.Bool.false≢true}
+use Rattle.ct_word.{specs.Writable.is_name, specs.Value.same_text}
 use Rattle.ct_lex.specs.declared.token.Lexeme.{Lexeme}
+use Rattle.ct_parse.{specs.declared.tree.Condition.Condition, specs.Ends.{Fails, at_word, EndsAnyhow, EndsList, EndsCondition, EndsBehind}}
+use Rattle.ct_parse.specs.Grammar.{IsName, name, AreMore, no_more, one_more, IsClosed, closed, IsCondition, HasCondition, no_condition, a_condition}
+use Rattle.ct_parse.{specs.Reads.{Reads, Never}, proofs.Fronts.{Same, tail, moved}, proofs.TermSteps.{reads_at, never_at}}
+use Rattle.ct_parse.proofs.Listed.{Behind, Cases, ended, split, Lists, Parts, parts, Pairs}
 use Rattle.ct_lex.specs.declared.token.Lexeme.TheVariants as lexeme
 use Rattle.ct_lex.specs.declared.token.Symbol.TheVariants as symbol
-use Rattle.ct_parse.specs.declared.tree.Condition.{Condition}
-use Rattle.ct_parse.specs.Grammar.{IsName, name, AreMore, no_more, one_more, IsClosed, closed, IsCondition, HasCondition, no_condition, a_condition}
-use Rattle.ct_parse.specs.Ends.{Fails, at_word, EndsAnyhow, EndsList, EndsCondition, EndsBehind}
-use Rattle.ct_parse.specs.Reads.{Reads, Never}
-use Rattle.ct_parse.proofs.Fronts.{Same, tail, moved}
-use Rattle.ct_parse.proofs.Listed.{Behind, Cases, ended, split, Lists, Parts, parts, Pairs}
 
 -- a word stands at itself
 same_self : (n : ℕ) → nat_eq n n ≡ true
@@ -33,6 +28,10 @@ not_keyword w n k p false e = tt
 
 pub name_apart : (w : List ℕ) → is_name w ≡ false → {ws r : List Lexeme} {n : List ℕ} → IsName ws n r → Fails (at_word w ws)
 name_apart w k (name {n = n} p) = not_keyword w n k p (same_text n w) refl
+
+-- the lexeme that closes parentheses
+abbrev pub CLOSE : Lexeme
+CLOSE = lexeme.Symbol symbol.RightParen
 
 -- a part, and this lexeme behind it
 abbrev pub Then : {T : Type 0} → (List Lexeme → T → List Lexeme → Type 0) → Lexeme → List Lexeme → T → List Lexeme → Type 0
@@ -74,6 +73,27 @@ module _ {S T : Type 0} {X : List Lexeme → S → List Lexeme → Type 0} {f : 
 
   pub no_renamed : Never X E ws → Never C E ws
   no_renamed never = λ t r e c. none_image never e (k.back c)
+
+-- behind the lexeme w, R is X under another name
+pub record Led {S T : Type 0} (w : Lexeme) (X : List Lexeme → S → List Lexeme → Type 0) (EX : List Lexeme → Type 0) (f : S → T) (R : List Lexeme → T → List Lexeme → Type 0)
+    (ER : List Lexeme → Type 0) : Type 0 where
+  pub into : {ws r : List Lexeme} {x : S} → X ws x r → R (w ∷ ws) (f x) r
+  pub back : {ws r : List Lexeme} {t : T} → R (w ∷ ws) t r → ER r → Image X f ws t r
+  pub ends : (r : List Lexeme) → ER r → EX r
+
+module _ {S T : Type 0} {w : Lexeme} {X : List Lexeme → S → List Lexeme → Type 0} {EX : List Lexeme → Type 0} {f : S → T} {R : List Lexeme → T → List Lexeme → Type 0} {ER : List Lexeme → Type 0}
+    (k : Led w X EX f R ER) where
+  led_only : {ws r r' : List Lexeme} {x : S} {t : T} → Reads X EX ws x r → ER r' → Image X f ws t r' → Same t (f x) r' r
+  led_only h e (image y) = let s = h.only _ _ (k.ends _ e) y in (ap f s.0, s.1)
+
+  pub led_read : {ws rest r : List Lexeme} {x : S} → ws ≡ w ∷ rest → Reads X EX rest x r → Reads R ER ws (f x) r
+  led_read e h = reads_at e (record { is = k.into h.is; only = λ t r' a y. led_only h a (k.back y a); within = omega (arith, h.within) })
+
+  none_led : {ws r : List Lexeme} {t : T} → Never X EX ws → ER r → Image X f ws t r → ⊥
+  none_led never e (image y) = never _ _ (k.ends _ e) y
+
+  pub led_never : {ws rest : List Lexeme} → ws ≡ w ∷ rest → Never X EX rest → Never R ER ws
+  led_never e never = never_at R ER e (λ t r a y. none_led never a (k.back y a))
 
 -- two parts as a pair
 abbrev pub Both : {S T : Type 0} → (List Lexeme → S → List Lexeme → Type 0) → (List Lexeme → T → List Lexeme → Type 0) → List Lexeme → S × T → List Lexeme → Type 0
@@ -135,17 +155,12 @@ pub closed_is : {T : Type 0} (X : List Lexeme → T → List Lexeme → Type 0) 
 closed_is X ws = record { into = λ b. moved (IsClosed X) (sym b.1) (into_closed X b.2); back = λ c. back_closed X c }
 
 -- a condition behind a word, or none
-has_only : {w : List ℕ} {ws rest r r' : List Lexeme} {c : Condition} {o : Option Condition} → ws ≡ lexeme.Word w ∷ rest → Reads IsCondition EndsCondition rest c r → EndsBehind w r' → HasCondition w ws o r'
-    → Same o (Some c) r' r
-has_only {w = w} f h e no_condition = absurd (not_word w e.0 _ f)
-has_only f h e (a_condition x) = let s = h.only _ _ e.1 (moved IsCondition (ap tail f) x) in (ap (λ c. Some c) s.0, s.1)
+back_has : {w : List ℕ} {ws rest r : List Lexeme} {o : Option Condition} → ws ≡ lexeme.Word w ∷ rest → HasCondition w ws o r → EndsBehind w r → Image IsCondition (λ c. Some c) rest o r
+back_has {w = w} f no_condition e = absurd (not_word w e.0 _ f)
+back_has f (a_condition x) e = image (moved IsCondition (ap tail f) x)
 
-pub has_read : {w : List ℕ} {ws rest r : List Lexeme} {c : Condition} → ws ≡ lexeme.Word w ∷ rest → Reads IsCondition EndsCondition rest c r → Reads (HasCondition w) (EndsBehind w) ws (Some c) r
-has_read {w = w} f h = record {
-  is = moved (HasCondition w) (sym f) (a_condition h.is);
-  only = λ t r' e x. has_only f h e x;
-  within = omega (arith, h.within, ap length f);
-}
+pub condition_led : (w : List ℕ) → Led (lexeme.Word w) IsCondition EndsCondition (λ c. Some c) (HasCondition w) (EndsBehind w)
+condition_led w = record { into = λ c. a_condition c; back = λ o e. back_has refl o e; ends = λ r e. e.1 }
 
 has_none_only : {w : List ℕ} {ws r : List Lexeme} {o : Option Condition} → Fails (at_word w ws) → HasCondition w ws o r → Same o None r ws
 has_none_only fails no_condition = (refl, refl)
@@ -153,10 +168,3 @@ has_none_only {w = w} fails (a_condition {ws = ws} x) = absurd (not_word w fails
 
 pub has_none_read : {w : List ℕ} {ws : List Lexeme} → Fails (at_word w ws) → Reads (HasCondition w) (EndsBehind w) ws None ws
 has_none_read fails = record { is = no_condition; only = λ t r e x. has_none_only fails x; within = omega arith }
-
-none_has : {w : List ℕ} {ws rest r : List Lexeme} {o : Option Condition} → ws ≡ lexeme.Word w ∷ rest → Never IsCondition EndsCondition rest → EndsBehind w r → HasCondition w ws o r → ⊥
-none_has {w = w} f never e no_condition = not_word w e.0 _ f
-none_has f never e (a_condition x) = never _ _ e.1 (moved IsCondition (ap tail f) x)
-
-pub no_has : {w : List ℕ} {ws rest : List Lexeme} → ws ≡ lexeme.Word w ∷ rest → Never IsCondition EndsCondition rest → Never (HasCondition w) (EndsBehind w) ws
-no_has f never = λ o r e x. none_has f never e x

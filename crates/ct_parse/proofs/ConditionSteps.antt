@@ -1,65 +1,34 @@
 -- What the steps of the readers of conditions show.
-use Rattle.std.proofs.Common.{◌≡◌, List, ◌∷◌, refl, ap, sym, subst, arith}
-use Rattle.std.specs.Prelude.{codes}
-use Rattle.std.proofs.lemmas.Bool.{false≢true}
+use Rattle.std.{proofs.Common.{◌≡◌, List, ◌∷◌, refl, sym, subst, arith}, specs.Prelude.codes, proofs.lemmas.Bool.false≢true}
 use Rattle.ct_lex.specs.declared.token.Lexeme.{Lexeme}
+use Rattle.ct_parse.{specs.declared.tree.Term.Term, specs.declared.tree.Comparison.Comparison, specs.declared.tree.Factor.Factor, specs.Reads.{Reads, Never}}
+use Rattle.ct_parse.{specs.declared.tree.Conjunction.Conjunction, specs.declared.tree.Condition.Condition, proofs.TermSteps.reads_at}
+use Rattle.ct_parse.specs.Grammar.{condition_of, IsTerm, IsComparison, IsFactor, negated, nested, true_factor, false_factor, compared, AreFactors, no_factor, and_factor, IsConjunction, conjunction, AreConjunctions, no_conjunction, or_conjunction, IsCondition, condition}
+use Rattle.ct_parse.{specs.Ends.{Fails, at_word, EndsAnyhow, EndsColumn, EndsConjunction, EndsCondition}, proofs.Combined.{CLOSE, Then, Image, image, Led}}
+use Rattle.ct_parse.proofs.Fronts.{Same, moved, ap₃, symbol_term, word_term, before_comparison, before_factors, before_conjunctions}
+use Rattle.ct_parse.proofs.Listed.{Behind, Cases, ended, split, Lists, Parts, parts, Pairs}
 use Rattle.ct_lex.specs.declared.token.Lexeme.TheVariants as lexeme
 use Rattle.ct_lex.specs.declared.token.Symbol.TheVariants as symbol
-use Rattle.ct_parse.specs.declared.tree.Term.{Term}
-use Rattle.ct_parse.specs.declared.tree.Comparison.{Comparison}
-use Rattle.ct_parse.specs.declared.tree.Factor.{Factor}
 use Rattle.ct_parse.specs.declared.tree.Factor.TheVariants as factor
-use Rattle.ct_parse.specs.declared.tree.Conjunction.{Conjunction}
-use Rattle.ct_parse.specs.declared.tree.Condition.{Condition}
-use Rattle.ct_parse.specs.Grammar.{condition_of, IsTerm, IsComparison, IsFactor, negated, nested, true_factor, false_factor, compared, AreFactors, no_factor, and_factor, IsConjunction, conjunction, AreConjunctions, no_conjunction, or_conjunction, IsCondition, condition}
-use Rattle.ct_parse.specs.Ends.{Fails, at_word, EndsAnyhow, EndsColumn, EndsConjunction, EndsCondition}
-use Rattle.ct_parse.specs.Reads.{Reads, Never}
-use Rattle.ct_parse.proofs.Fronts.{Same, tail, moved, ap₃, symbol_term, word_term, before_comparison, before_factors, before_conjunctions}
-use Rattle.ct_parse.proofs.TermSteps.{reads_at, never_at}
-use Rattle.ct_parse.proofs.Listed.{Behind, Cases, ended, split, Lists, Parts, parts, Pairs}
 
 -- NOT
-negated_only : {ws r r' : List Lexeme} {f f' : Factor} → Reads IsFactor EndsColumn ws f r → EndsColumn r' → IsFactor (lexeme.Word (codes "not") ∷ ws) f' r' → Same f' (factor.Not f) r' r
-negated_only h e (negated f) = let s = h.only _ _ e f in (ap factor.Not s.0, s.1)
-negated_only h e (compared s o t) = absurd (false≢true (word_term s))
+back_negated : {ws r : List Lexeme} {f : Factor} → IsFactor (lexeme.Word (codes "not") ∷ ws) f r → Image IsFactor factor.Not ws f r
+back_negated (negated f) = image f
+back_negated (compared s o t) = absurd (false≢true (word_term s))
 
-pub negated_read : {ws tail r : List Lexeme} {f : Factor} → ws ≡ lexeme.Word (codes "not") ∷ tail → Reads IsFactor EndsColumn tail f r → Reads IsFactor EndsColumn ws (factor.Not f) r
-negated_read e h = reads_at e (record { is = negated h.is; only = λ t r ends x. negated_only h ends x; within = omega (arith, h.within) })
-
-none_negated : {ws r : List Lexeme} {f : Factor} → Never IsFactor EndsColumn ws → EndsColumn r → IsFactor (lexeme.Word (codes "not") ∷ ws) f r → ⊥
-none_negated never e (negated f) = never _ _ e f
-none_negated never e (compared s o t) = false≢true (word_term s)
-
-pub no_negated : {ws tail : List Lexeme} → ws ≡ lexeme.Word (codes "not") ∷ tail → Never IsFactor EndsColumn tail → Never IsFactor EndsColumn ws
-no_negated e never = never_at IsFactor EndsColumn e (λ t r ends x. none_negated never ends x)
+pub negation : Led (lexeme.Word (codes "not")) IsFactor EndsColumn factor.Not IsFactor EndsColumn
+negation = record { into = λ f. negated f; back = λ f e. back_negated f; ends = λ r e. e }
 
 -- parentheses
-nested_only : {ws r r' : List Lexeme} {c : Condition} {f : Factor} → Reads IsCondition EndsCondition ws c (lexeme.Symbol symbol.RightParen ∷ r)
-    → IsFactor (lexeme.Symbol symbol.LeftParen ∷ ws) f r' → Same f (factor.Nested c) r' r
-nested_only h (nested c) = let s = h.only _ _ (tt, (tt, tt)) c in (ap factor.Nested s.0, ap tail s.1)
-nested_only h (compared s o t) = absurd (symbol_term s)
+back_nested : {ws r : List Lexeme} {f : Factor} → IsFactor (lexeme.Symbol symbol.LeftParen ∷ ws) f r → Image (Then IsCondition CLOSE) factor.Nested ws f r
+back_nested (nested c) = image c
+back_nested (compared s o t) = absurd (symbol_term s)
 
-pub nested_read : {ws tail m r : List Lexeme} {c : Condition} → ws ≡ lexeme.Symbol symbol.LeftParen ∷ tail → Reads IsCondition EndsCondition tail c m → m ≡ lexeme.Symbol symbol.RightParen ∷ r
-    → Reads IsFactor EndsColumn ws (factor.Nested c) r
-nested_read {tail = tail} {c = c} e h f =
-    let h' = subst (λ x. Reads IsCondition EndsCondition tail c x) f h in
-    reads_at e (record { is = nested h'.is; only = λ t r ends x. nested_only h' x; within = omega (arith, h'.within) })
+pub nesting : Led (lexeme.Symbol symbol.LeftParen) (Then IsCondition CLOSE) EndsAnyhow factor.Nested IsFactor EndsColumn
+nesting = record { into = λ c. nested c; back = λ f e. back_nested f; ends = λ r e. tt }
 
-none_nested : {ws r : List Lexeme} {f : Factor} → Never IsCondition EndsCondition ws → IsFactor (lexeme.Symbol symbol.LeftParen ∷ ws) f r → ⊥
-none_nested never (nested c) = never _ _ (tt, (tt, tt)) c
-none_nested never (compared s o t) = symbol_term s
-
-pub no_nested : {ws tail : List Lexeme} → ws ≡ lexeme.Symbol symbol.LeftParen ∷ tail → Never IsCondition EndsCondition tail → Never IsFactor EndsColumn ws
-no_nested e never = never_at IsFactor EndsColumn e (λ t r ends x. none_nested never x)
-
-none_closed : {ws m r : List Lexeme} {c : Condition} {f : Factor} → Reads IsCondition EndsCondition ws c m → ((x : List Lexeme) → m ≡ lexeme.Symbol symbol.RightParen ∷ x → ⊥)
-    → IsFactor (lexeme.Symbol symbol.LeftParen ∷ ws) f r → ⊥
-none_closed h never (nested c) = never _ (sym (h.only _ _ (tt, (tt, tt)) c).1)
-none_closed h never (compared s o t) = symbol_term s
-
-pub not_closed : {ws tail m : List Lexeme} {c : Condition} → ws ≡ lexeme.Symbol symbol.LeftParen ∷ tail → Reads IsCondition EndsCondition tail c m
-    → ((x : List Lexeme) → m ≡ lexeme.Symbol symbol.RightParen ∷ x → ⊥) → Never IsFactor EndsColumn ws
-not_closed e h never = never_at IsFactor EndsColumn e (λ t r ends x. none_closed h never x)
+pub ends_at_close : (r : List Lexeme) → EndsCondition (CLOSE ∷ r)
+ends_at_close r = (tt, (tt, tt))
 
 -- TRUE and FALSE
 true_only : {r r' : List Lexeme} {f : Factor} → IsFactor (lexeme.Word (codes "true") ∷ r) f r' → Same f factor.True r' r

@@ -1,6 +1,5 @@
 -- What the walk over nests shows.
-use Rattle.std.proofs.Common.{◌≡◌, ◌<◌, ℕ, true, List, [], ◌∷◌, nat_lt, arith}
-use Rattle.std.proofs.lemmas.Bool.{lt-ltb}
+use Rattle.std.{proofs.Common.{◌≡◌, ◌<◌, ℕ, true, List, [], ◌∷◌, nat_lt, arith}, proofs.lemmas.Bool.lt-ltb}
 use Rattle.ct_lex.specs.declared.token.Lexeme.{Lexeme}
 use Rattle.ct_parse.specs.Nest.{DEPTH, nest_from, count_after, opened_after, turn_of}
 

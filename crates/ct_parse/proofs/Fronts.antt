@@ -1,17 +1,11 @@
 -- What stands at the front of lexemes that spell a part, and what may stand behind it.
-use Rattle.std.proofs.Common.{◌≡◌, ℕ, List, [], ◌∷◌, refl, ap, ap₂, subst, ◌∙◌}
-use Rattle.std.specs.Prelude.{IsTrue}
+use Rattle.std.{proofs.Common.{◌≡◌, ℕ, List, [], ◌∷◌, refl, ap, ap₂, subst, ◌∙◌}, specs.Prelude.IsTrue}
 use Rattle.ct_word.specs.Writable.{is_name}
-use Rattle.ct_lex.specs.declared.token.Lexeme.{Lexeme}
-use Rattle.ct_lex.specs.declared.token.Lexeme.TheVariants as lexeme
-use Rattle.ct_lex.specs.declared.token.Symbol.{Symbol}
-use Rattle.ct_parse.specs.declared.tree.Column.{Column}
-use Rattle.ct_parse.specs.declared.tree.Term.{Term}
-use Rattle.ct_parse.specs.declared.tree.Comparison.{Comparison}
-use Rattle.ct_parse.specs.declared.tree.Factor.{Factor}
-use Rattle.ct_parse.specs.declared.tree.Conjunction.{Conjunction}
+use Rattle.ct_lex.{specs.declared.token.Lexeme.Lexeme, specs.declared.token.Symbol.Symbol}
+use Rattle.ct_parse.{specs.declared.tree.Column.Column, specs.declared.tree.Term.Term, specs.declared.tree.Comparison.Comparison}
+use Rattle.ct_parse.{specs.declared.tree.Factor.Factor, specs.declared.tree.Conjunction.Conjunction, specs.Ends.{EndsColumn, EndsConjunction, EndsCondition}}
 use Rattle.ct_parse.specs.Grammar.{IsName, name, IsColumn, plain, qualified, IsTerm, column_term, IsComparison, equal, unequal, AreFactors, no_factor, and_factor, AreConjunctions, no_conjunction, or_conjunction}
-use Rattle.ct_parse.specs.Ends.{EndsColumn, EndsConjunction, EndsCondition}
+use Rattle.ct_lex.specs.declared.token.Lexeme.TheVariants as lexeme
 
 -- two readings give the same, and leave the same
 abbrev pub Same : {T : Type 0} → T → T → List Lexeme → List Lexeme → Type 0

@@ -1,9 +1,7 @@
 -- Lists of parts, each read in its turn, and pairs of parts: what loops keep, and what their ends show.
-use Rattle.std.proofs.Common.{◌≡◌, ◌≤◌, List, [], ◌∷◌, ◌++◌, length, refl, ap, ap₂, sym, subst, ◌∙◌, arith, append_assoc}
-use Rattle.std.proofs.lemmas.List.{append-nil}
+use Rattle.std.{proofs.Common.{◌≡◌, ◌≤◌, List, [], ◌∷◌, ◌++◌, length, refl, ap, ap₂, sym, subst, ◌∙◌, arith, append_assoc}, proofs.lemmas.List.append-nil}
 use Rattle.ct_lex.specs.declared.token.Lexeme.{Lexeme}
-use Rattle.ct_parse.specs.Reads.{Reads, Never}
-use Rattle.ct_parse.proofs.Fronts.{Same, tail, moved}
+use Rattle.ct_parse.{specs.Reads.{Reads, Never}, proofs.Fronts.{Same, tail, moved}}
 
 -- a part behind a lexeme
 abbrev pub Behind : {T : Type 0} → Lexeme → (List Lexeme → T → List Lexeme → Type 0) → List Lexeme → T → List Lexeme → Type 0

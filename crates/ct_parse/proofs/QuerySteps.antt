@@ -1,27 +1,18 @@
 -- What the steps of the readers of queries show.
-use Rattle.std.proofs.Common.{◌≡◌, Bool, true, false, List, ◌∷◌, Option, refl, sym, subst, arith}
-use Rattle.std.specs.Prelude.{codes}
+use Rattle.std.{proofs.Common.{◌≡◌, Bool, true, false, List, ◌∷◌, Option, refl, sym, subst, arith}, specs.Prelude.codes}
 use Rattle.ct_lex.specs.declared.token.Lexeme.{Lexeme}
-use Rattle.ct_lex.specs.declared.token.Lexeme.TheVariants as lexeme
-use Rattle.ct_lex.specs.declared.token.Symbol.TheVariants as symbol
-use Rattle.ct_parse.specs.declared.tree.Column.{Column}
-use Rattle.ct_parse.specs.declared.tree.Condition.{Condition}
-use Rattle.ct_parse.specs.declared.tree.Items.{Items}
-use Rattle.ct_parse.specs.declared.tree.Tables.{Tables}
-use Rattle.ct_parse.specs.declared.tree.Select.{Select}
-use Rattle.ct_parse.specs.declared.tree.SetOperator.{SetOperator}
-use Rattle.ct_parse.specs.declared.tree.SetOperator.TheVariants as operator
-use Rattle.ct_parse.specs.declared.tree.QueryPrimary.{QueryPrimary}
-use Rattle.ct_parse.specs.declared.tree.QueryPrimary.TheVariants as primary
-use Rattle.ct_parse.specs.declared.tree.QueryTerm.{QueryTerm}
-use Rattle.ct_parse.specs.declared.tree.Query.{Query}
+use Rattle.ct_parse.{specs.declared.tree.Column.Column, specs.declared.tree.Condition.Condition, specs.declared.tree.Items.Items, specs.Reads.{Reads, Never}}
+use Rattle.ct_parse.{specs.declared.tree.Tables.Tables, specs.declared.tree.Select.Select, specs.declared.tree.SetOperator.SetOperator}
+use Rattle.ct_parse.{specs.declared.tree.QueryPrimary.QueryPrimary, specs.declared.tree.QueryTerm.QueryTerm, specs.declared.tree.Query.Query}
 use Rattle.ct_parse.specs.Grammar.{HasCondition, no_condition, a_condition, item, IsColumn, plain, qualified, AreItems, star, listed, AreTables, IsDistinct, not_distinct, distinct, IsSelect, select, IsSetOperator, union, except, query_of, IsPrimary, nested_query, select_query, ArePrimaries, no_primary, intersect, IsQueryTerm, query_term, AreTerms, no_term, combined, IsQuery, query}
 use Rattle.ct_parse.specs.Ends.{Fails, at_word, at_operator, EndsAnyhow, EndsBehind, EndsItems, EndsTables, EndsDistinct, EndsSelect, EndsQueryTerm, EndsQuery}
-use Rattle.ct_parse.specs.Reads.{Reads, Never}
-use Rattle.ct_parse.proofs.Fronts.{Same, moved}
-use Rattle.ct_parse.proofs.TermSteps.{reads_at, never_at}
+use Rattle.ct_parse.{proofs.Fronts.{Same, moved}, proofs.TermSteps.reads_at}
 use Rattle.ct_parse.proofs.Listed.{Behind, behind_reads, behind_never, Cases, ended, split, Lists, Parts, parts, Pairs, both_read, no_first, no_second}
-use Rattle.ct_parse.proofs.Combined.{not_word, name_apart, Then, then_read, no_then, not_then, Both, pair_of, Image, image, Renames, renamed, no_renamed}
+use Rattle.ct_parse.proofs.Combined.{not_word, name_apart, CLOSE, Then, then_read, no_then, not_then, Both, pair_of, Image, image, Renames, renamed, no_renamed, Led}
+use Rattle.ct_lex.specs.declared.token.Lexeme.TheVariants as lexeme
+use Rattle.ct_lex.specs.declared.token.Symbol.TheVariants as symbol
+use Rattle.ct_parse.specs.declared.tree.SetOperator.TheVariants as operator
+use Rattle.ct_parse.specs.declared.tree.QueryPrimary.TheVariants as primary
 
 -- [DISTINCT]
 distinct_only : {r r' : List Lexeme} {b : Bool} → EndsDistinct r' → IsDistinct (lexeme.Word (codes "distinct") ∷ r) b r' → Same b true r' r
@@ -153,34 +144,15 @@ stands_operator except fails = fails
 pub ends_at_paren : (r : List Lexeme) → EndsQuery (lexeme.Symbol symbol.RightParen ∷ r)
 ends_at_paren r = (tt, (tt, (tt, (tt, ((tt, tt), (tt, (tt, tt)))))))
 
-abbrev Parens : List Lexeme → Query → List Lexeme → Type 0
-Parens = Behind (lexeme.Symbol symbol.LeftParen) (Then IsQuery (lexeme.Symbol symbol.RightParen))
-
 pub paren_select : {ws r : List Lexeme} {s : Select} → IsSelect (lexeme.Symbol symbol.LeftParen ∷ ws) s r → ⊥
 paren_select s = elim s [ ]
 
-back_nested : {ws r : List Lexeme} {p : QueryPrimary} → IsPrimary (lexeme.Symbol symbol.LeftParen ∷ ws) p r → Image Parens primary.Nested (lexeme.Symbol symbol.LeftParen ∷ ws) p r
-back_nested (nested_query q) = image (_, refl, q)
+back_nested : {ws r : List Lexeme} {p : QueryPrimary} → IsPrimary (lexeme.Symbol symbol.LeftParen ∷ ws) p r → Image (Then IsQuery CLOSE) primary.Nested ws p r
+back_nested (nested_query q) = image q
 back_nested (select_query s) = absurd (paren_select s)
 
-nested_is : (ws : List Lexeme) → Renames Parens primary.Nested IsPrimary (lexeme.Symbol symbol.LeftParen ∷ ws)
-nested_is ws = record { into = λ b. moved IsPrimary (sym b.1) (nested_query b.2); back = λ p. back_nested p }
-
-pub nested_read : {ws rest m r : List Lexeme} {q : Query} → ws ≡ lexeme.Symbol symbol.LeftParen ∷ rest → Reads IsQuery EndsQuery rest q m → m ≡ lexeme.Symbol symbol.RightParen ∷ r
-    → Reads IsPrimary EndsSelect ws (primary.Nested q) r
-nested_read {rest = rest} f h g = reads_at f (widened (renamed (nested_is rest) (behind_reads refl (then_read (lexeme.Symbol symbol.RightParen) ends_at_paren h g))))
-  where
-    widened : {ws r : List Lexeme} {p : QueryPrimary} → Reads IsPrimary EndsAnyhow ws p r → Reads IsPrimary EndsSelect ws p r
-    widened h = record { is = h.is; only = λ t r e x. h.only t r tt x; within = h.within }
-
-pub no_nested : {ws rest : List Lexeme} → ws ≡ lexeme.Symbol symbol.LeftParen ∷ rest → Never IsQuery EndsQuery rest → Never IsPrimary EndsSelect ws
-no_nested {rest = rest} f never = never_at IsPrimary EndsSelect f (λ t r e x. no_renamed (nested_is rest)
-    (behind_never (Then IsQuery (lexeme.Symbol symbol.RightParen)) {E = EndsAnyhow} refl (no_then IsQuery (lexeme.Symbol symbol.RightParen) ends_at_paren never)) t r tt x)
-
-pub nested_open : {ws rest m : List Lexeme} {q : Query} → ws ≡ lexeme.Symbol symbol.LeftParen ∷ rest → Reads IsQuery EndsQuery rest q m
-    → ((x : List Lexeme) → m ≡ lexeme.Symbol symbol.RightParen ∷ x → ⊥) → Never IsPrimary EndsSelect ws
-nested_open {rest = rest} f h never = never_at IsPrimary EndsSelect f (λ t r e x. no_renamed (nested_is rest)
-    (behind_never (Then IsQuery (lexeme.Symbol symbol.RightParen)) {E = EndsAnyhow} refl (not_then {X = IsQuery} (lexeme.Symbol symbol.RightParen) ends_at_paren h never)) t r tt x)
+pub nesting : Led (lexeme.Symbol symbol.LeftParen) (Then IsQuery CLOSE) EndsAnyhow primary.Nested IsPrimary EndsSelect
+nesting = record { into = λ q. nested_query q; back = λ p e. back_nested p; ends = λ r e. tt }
 
 back_primary : {ws r : List Lexeme} {p : QueryPrimary} → ((x : List Lexeme) → ws ≡ lexeme.Symbol symbol.LeftParen ∷ x → ⊥) → IsPrimary ws p r → Image IsSelect primary.Select ws p r
 back_primary no_paren (nested_query q) = absurd (no_paren _ refl)

@@ -1,44 +1,25 @@
 -- Lexemes have one reading: whatever is spelled is what a reader would find, and nothing else.
-use Rattle.std.proofs.Common.{◌≡◌, ℕ, List, [], refl, sym, subst}
-use Rattle.std.proofs.lemmas.Bool.{not-true}
+use Rattle.std.{proofs.Common.{◌≡◌, ℕ, List, [], refl, sym, subst}, proofs.lemmas.Bool.not-true, specs.Prelude.{Bool, Option, codes}}
 use Rattle.ct_lex.specs.declared.token.Lexeme.{Lexeme}
-use Rattle.ct_lex.specs.declared.token.Lexeme.TheVariants as lexeme
-use Rattle.ct_lex.specs.declared.token.Symbol.TheVariants as symbol
-use Rattle.ct_parse.specs.declared.tree.Column.{Column}
-use Rattle.ct_parse.specs.declared.tree.Term.{Term}
-use Rattle.ct_parse.specs.declared.tree.Comparison.{Comparison}
-use Rattle.ct_parse.specs.declared.tree.Factor.{Factor}
-use Rattle.ct_parse.specs.declared.tree.Conjunction.{Conjunction}
-use Rattle.ct_parse.specs.declared.tree.Condition.{Condition}
-use Rattle.ct_parse.specs.declared.tree.Cell.{Cell}
-use Rattle.ct_parse.specs.declared.tree.Row.{Row}
-use Rattle.ct_parse.specs.declared.tree.Item.{Item}
-use Rattle.ct_parse.specs.declared.tree.Items.{Items}
-use Rattle.ct_parse.specs.declared.tree.Table.{Table}
-use Rattle.ct_parse.specs.declared.tree.Joined.{Joined}
-use Rattle.ct_parse.specs.declared.tree.Tables.{Tables}
-use Rattle.ct_parse.specs.declared.tree.Select.{Select}
-use Rattle.ct_parse.specs.declared.tree.SetOperator.{SetOperator}
-use Rattle.ct_parse.specs.declared.tree.QueryPrimary.{QueryPrimary}
-use Rattle.ct_parse.specs.declared.tree.QueryTerm.{QueryTerm}
-use Rattle.ct_parse.specs.declared.tree.Query.{Query}
-use Rattle.ct_parse.specs.declared.tree.Statement.{Statement}
-use Rattle.std.specs.Prelude.{Bool, Option, codes}
+use Rattle.ct_parse.{specs.declared.tree.Column.Column, specs.declared.tree.Term.Term, specs.declared.tree.Comparison.Comparison, specs.declared.tree.Cell.Cell}
+use Rattle.ct_parse.{specs.declared.tree.Factor.Factor, specs.declared.tree.Conjunction.Conjunction, specs.declared.tree.Condition.Condition, specs.Reads.Reads}
+use Rattle.ct_parse.{specs.declared.tree.Row.Row, specs.declared.tree.Item.Item, specs.declared.tree.Items.Items, specs.declared.tree.Table.Table}
+use Rattle.ct_parse.{specs.declared.tree.Joined.Joined, specs.declared.tree.Tables.Tables, specs.declared.tree.Select.Select, specs.declared.tree.Query.Query}
+use Rattle.ct_parse.{specs.declared.tree.SetOperator.SetOperator, specs.declared.tree.QueryPrimary.QueryPrimary, specs.declared.tree.QueryTerm.QueryTerm}
+use Rattle.ct_parse.{specs.declared.tree.Statement.Statement, specs.Parses.{Spells, SpellsCondition}, proofs.Fronts.{moved, before_comparison}}
 use Rattle.ct_parse.specs.Grammar.{IsName, name, IsColumn, plain, qualified, IsTerm, number_term, text_term, null_term, column_term, IsComparison, equal, unequal, IsFactor, negated, nested, true_factor, false_factor, compared, AreFactors, no_factor, and_factor, IsConjunction, conjunction, AreConjunctions, no_conjunction, or_conjunction, IsCondition, condition, AreMore, no_more, one_more, IsClosed, closed, IsCell, number_cell, text_cell, null_cell, new_null, IsRow, row, HasCondition, no_condition, a_condition, HasName, no_name, as_name, IsItem, item, AreItems, star, listed, IsBareAlias, bare_alias, HasAlias, no_alias, alias, as_alias, IsTable, table, IsTableOn, table_on, IsJoined, comma, join, inner_join, AreJoined, none_joined, more_joined, AreTables, tables, IsDistinct, not_distinct, distinct, IsSelect, select, IsSetOperator, union, except, IsPrimary, nested_query, select_query, ArePrimaries, no_primary, intersect, IsQueryTerm, query_term, AreTerms, no_term, combined, IsQuery, query, IsStatement, create, insert_rows, insert_query, delete, assert, rows, possible, certain, begin, commit, rollback}
 use Rattle.ct_parse.specs.Ends.{Fails, at_word, EndsAnyhow, EndsColumn, EndsConjunction, EndsCondition, EndsList, EndsBehind, EndsItem, EndsItems, EndsTable, EndsJoined, EndsTables, EndsDistinct, EndsSelect, EndsQueryTerm, EndsQuery, EndsStatement}
-use Rattle.ct_parse.specs.Reads.{Reads}
-use Rattle.ct_parse.specs.Parses.{Spells, SpellsCondition}
-use Rattle.ct_parse.proofs.Fronts.{moved, before_comparison}
 use Rattle.ct_parse.proofs.TermSteps.{name_reads, plain_reads, qualified_reads, number_reads, text_reads, null_reads, column_reads, equal_reads, unequal_reads}
-use Rattle.ct_parse.proofs.Listed.{Behind, behind_reads, Lists, none_read, more_read, both_read}
-use Rattle.ct_parse.proofs.ConditionSteps.{negated_read, nested_read, true_read, false_read, compared_read, factors, conjunctions, conjunction_pair, condition_pair}
-use Rattle.ct_parse.proofs.Combined.{then_read, renamed, plain_list, has_read, has_none_read}
-use Rattle.ct_parse.proofs.RowSteps.{closed_read, row_is, new_null_reads}
-use Rattle.ct_parse.proofs.RowSteps as cells
-use Rattle.ct_parse.proofs.TableSteps.{as_read, no_as_read, item_pair, item_list, symbol_item, star_read, listed_pair, listed_is, bare_read, as_alias_read, alias_stands, alias_read, no_alias_read, table_pair, ON, on_pair, on_is, ends_at_on, comma_read, join_read, inner_read, joined_list, tables_read}
+use Rattle.ct_parse.{proofs.Listed.{Behind, behind_reads, Lists, none_read, more_read, both_read}, proofs.RowSteps.{closed_read, row_is, new_null_reads}}
+use Rattle.ct_parse.proofs.ConditionSteps.{negation, nesting, ends_at_close, true_read, false_read, compared_read, factors, conjunctions, conjunction_pair, condition_pair}
+use Rattle.ct_parse.proofs.Combined.{CLOSE, then_read, renamed, led_read, plain_list, condition_led, has_none_read}
+use Rattle.ct_parse.proofs.TableSteps.{naming, no_as_read, item_pair, item_list, symbol_item, star_read, listed_pair, listed_is, bare_read, aliasing, alias_stands, alias_read, no_alias_read, table_pair, ON, on_pair, on_is, ends_at_on, comma_led, join_led, inner_led, joined_list, tables_read}
 use Rattle.ct_parse.proofs.QuerySteps.{distinct_read, not_distinct_read, items_apart, before_filter, select_read, union_read, except_read, ends_at_paren, paren_select, primary_is, primary_list, term_pair, combined_pair, term_list, query_pair}
+use Rattle.ct_parse.proofs.StatementSteps.{query_at_end, condition_at_end, behind_at_end, before_if, create_read, delete_read, insert_rows_read, insert_query_read, asserting, asking_possible, asking_certain, begin_read, commit_read, rollback_read, OnlyQuery, rows_read}
+use Rattle.ct_lex.specs.declared.token.Lexeme.TheVariants as lexeme
+use Rattle.ct_lex.specs.declared.token.Symbol.TheVariants as symbol
+use Rattle.ct_parse.proofs.RowSteps as cells
 use Rattle.ct_parse.proofs.QuerySteps as queries
-use Rattle.ct_parse.proofs.StatementSteps.{query_at_end, condition_at_end, behind_at_end, before_if, create_read, delete_read, insert_rows_read, insert_query_read, assert_read, possible_read, certain_read, begin_read, commit_read, rollback_read, OnlyQuery, rows_read}
 
 -- names, columns, terms
 reads_name : {ws r : List Lexeme} {n : List ℕ} → IsName ws n r → Reads IsName EndsAnyhow ws n r
@@ -60,8 +41,8 @@ reads_comparison unequal = unequal_reads refl refl
 
 mutual
   reads_factor : {ws r : List Lexeme} {f : Factor} → IsFactor ws f r → EndsColumn r → Reads IsFactor EndsColumn ws f r
-  reads_factor (negated f) e = negated_read refl (reads_factor f e)
-  reads_factor (nested c) e = nested_read refl (reads_condition c (tt, (tt, tt))) refl
+  reads_factor (negated f) e = led_read negation refl (reads_factor f e)
+  reads_factor (nested c) e = led_read nesting refl (then_read CLOSE ends_at_close (reads_condition c (tt, (tt, tt))) refl)
   reads_factor true_factor e = true_read refl
   reads_factor false_factor e = false_read refl
   reads_factor (compared s o t) e = compared_read (reads_term s (before_comparison o)) (reads_comparison o) (reads_term t e)
@@ -101,12 +82,12 @@ reads_row (row c) = renamed (row_is _) (reads_closed IsCell (λ ws r x c e. read
 
 reads_has : {w : List ℕ} {ws r : List Lexeme} {o : Option Condition} → HasCondition w ws o r → EndsBehind w r → Reads (HasCondition w) (EndsBehind w) ws o r
 reads_has no_condition e = has_none_read e.0
-reads_has (a_condition c) e = has_read refl (reads_condition c e.1)
+reads_has (a_condition c) e = led_read (condition_led _) refl (reads_condition c e.1)
 
 -- items
 reads_as : {ws r : List Lexeme} {o : Option (List ℕ)} → HasName ws o r → EndsItem r → Reads HasName EndsItem ws o r
 reads_as no_name e = no_as_read e.0
-reads_as (as_name n) e = as_read refl (reads_name n)
+reads_as (as_name n) e = led_read naming refl (reads_name n)
 
 reads_item : {ws r : List Lexeme} {i : Item} → IsItem ws i r → EndsItem r → Reads IsItem EndsItem ws i r
 reads_item (item c a) e = both_read item_pair (reads_column c (item_pair.before a e)) (reads_as a e)
@@ -124,7 +105,7 @@ reads_bare (bare_alias n p) = bare_read (reads_name n) (not-true _ p)
 reads_alias : {ws r : List Lexeme} {o : _} → HasAlias ws o r → EndsTable r → Reads HasAlias EndsTable ws o r
 reads_alias no_alias e = no_alias_read e.1 (λ n r any x. alias_stands x e.0)
 reads_alias (alias n) e = alias_read (reads_bare n)
-reads_alias (as_alias n) e = as_alias_read refl (reads_name n)
+reads_alias (as_alias n) e = led_read aliasing refl (reads_name n)
 
 reads_table : {ws r : List Lexeme} {t : Table} → IsTable ws t r → EndsTable r → Reads IsTable EndsTable ws t r
 reads_table (table n a) e = both_read table_pair (reads_name n) (reads_alias a e)
@@ -133,9 +114,9 @@ reads_on : {ws r : List Lexeme} {p : Table × Condition} → IsTableOn ws p r �
 reads_on (table_on t c) e = renamed (on_is _) (both_read on_pair (then_read ON ends_at_on (reads_table t (tt, tt)) refl) (reads_condition c e))
 
 reads_joined : {ws r : List Lexeme} {j : Joined} → IsJoined ws j r → EndsJoined r → Reads IsJoined EndsJoined ws j r
-reads_joined (comma t) e = comma_read refl (reads_table t e.0)
-reads_joined (join p) e = join_read refl (reads_on p e.1)
-reads_joined (inner_join p) e = inner_read refl refl (reads_on p e.1)
+reads_joined (comma t) e = led_read comma_led refl (reads_table t e.0)
+reads_joined (join p) e = led_read join_led refl (reads_on p e.1)
+reads_joined (inner_join p) e = led_read inner_led refl (behind_reads refl (reads_on p e.1))
 
 reads_all_joined : {ws r : List Lexeme} {js : List Joined} → AreJoined ws js r → EndsTables r → Reads AreJoined EndsTables ws js r
 reads_all_joined none_joined e = none_read joined_list e
@@ -159,7 +140,7 @@ reads_operator except = except_read refl
 
 mutual
   reads_primary : {ws r : List Lexeme} {p : QueryPrimary} → IsPrimary ws p r → EndsSelect r → Reads IsPrimary EndsSelect ws p r
-  reads_primary (nested_query {r = r} q) e = queries.nested_read refl (reads_query q (ends_at_paren r)) refl
+  reads_primary (nested_query {r = r} q) e = led_read queries.nesting refl (then_read CLOSE ends_at_paren (reads_query q (ends_at_paren r)) refl)
   reads_primary (select_query s) e = renamed (primary_is (λ x f. paren_select (moved IsSelect f s))) (reads_select s e)
 
   reads_primaries : {ws r : List Lexeme} {ps : List QueryPrimary} → ArePrimaries ws ps r → EndsQueryTerm r → Reads ArePrimaries EndsQueryTerm ws ps r
@@ -200,10 +181,10 @@ reads_statement (insert_rows n w vs c) e =
     (reads_has c (subst (EndsBehind (codes "if")) (sym e) (behind_at_end (codes "if"))))
 reads_statement (insert_query n q) e = insert_query_read refl (reads_name n) (query_only q).1 (reads_query q (at_end e))
 reads_statement (delete n c) e = delete_read refl (reads_name n) (reads_has c (subst (EndsBehind (codes "where")) (sym e) (behind_at_end (codes "where"))))
-reads_statement (assert c) e = assert_read refl (reads_condition c (condition_end e))
+reads_statement (assert c) e = led_read asserting refl (reads_condition c (condition_end e))
 reads_statement (rows q) e = rows_read (query_only q).0 (reads_query q (at_end e))
-reads_statement (possible q) e = possible_read refl (reads_query q (at_end e))
-reads_statement (certain q) e = certain_read refl (reads_query q (at_end e))
+reads_statement (possible q) e = led_read asking_possible refl (reads_query q (at_end e))
+reads_statement (certain q) e = led_read asking_certain refl (reads_query q (at_end e))
 reads_statement begin e = begin_read refl
 reads_statement commit e = commit_read refl
 reads_statement rollback e = rollback_read refl

@@ -1,19 +1,13 @@
 -- What the steps of the readers of rows show.
-use Rattle.std.proofs.Common.{◌≡◌, ℕ, List, [], ◌∷◌, refl, ap, subst, ◌∙◌, arith}
-use Rattle.std.specs.Prelude.{codes}
+use Rattle.std.{proofs.Common.{◌≡◌, ℕ, List, ◌∷◌, refl, ap, ◌∙◌, arith}, specs.Prelude.codes}
 use Rattle.ct_lex.specs.declared.token.Lexeme.{Lexeme}
+use Rattle.ct_parse.{specs.declared.tree.Cell.Cell, specs.declared.tree.Row.Row, specs.Ends.{EndsAnyhow, EndsList}, specs.Reads.{Reads, Never}}
+use Rattle.ct_parse.{specs.Grammar.{AreMore, IsClosed, IsCell, number_cell, text_cell, null_cell, new_null, IsRow, row}, proofs.Fronts.Same}
+use Rattle.ct_parse.{proofs.TermSteps.reads_at, proofs.Listed.{behind_reads, behind_never, both_read, no_first, no_second}}
+use Rattle.ct_parse.proofs.Combined.{Then, then_read, no_then, not_then, Both, inside_pair, closed_is, Image, image, Renames, renamed, no_renamed}
 use Rattle.ct_lex.specs.declared.token.Lexeme.TheVariants as lexeme
 use Rattle.ct_lex.specs.declared.token.Symbol.TheVariants as symbol
-use Rattle.ct_parse.specs.declared.tree.Cell.{Cell}
 use Rattle.ct_parse.specs.declared.tree.Cell.TheVariants as cell
-use Rattle.ct_parse.specs.declared.tree.Row.{Row}
-use Rattle.ct_parse.specs.Grammar.{AreMore, IsClosed, IsCell, number_cell, text_cell, null_cell, new_null, IsRow, row}
-use Rattle.ct_parse.specs.Ends.{Fails, at_word, EndsAnyhow, EndsList}
-use Rattle.ct_parse.specs.Reads.{Reads, Never}
-use Rattle.ct_parse.proofs.Fronts.{Same}
-use Rattle.ct_parse.proofs.TermSteps.{reads_at, never_at}
-use Rattle.ct_parse.proofs.Listed.{behind_reads, behind_never, both_read, no_first, no_second}
-use Rattle.ct_parse.proofs.Combined.{Then, then_read, no_then, not_then, Both, inside_pair, closed_is, Image, image, Renames, renamed, no_renamed}
 
 module _ {T : Type 0} (X : List Lexeme → T → List Lexeme → Type 0) {ws : List Lexeme} where
   pub closed_read : {rest m l r : List Lexeme} {x : T} {xs : List T} → ws ≡ lexeme.Symbol symbol.LeftParen ∷ rest → Reads X EndsAnyhow rest x m → Reads (AreMore X) EndsList m xs l
@@ -57,23 +51,6 @@ null_reads {r = r} e f = cell_reads (e ∙ ap (λ x. x ∷ r) f) null_cell
 
 pub new_null_reads : {ws r : List Lexeme} → ws ≡ lexeme.Word (codes "null") ∷ r → Reads IsCell EndsAnyhow ws cell.NewNull r
 new_null_reads e = cell_reads e new_null
-
-no_cell_at : {w : Lexeme} {ws r : List Lexeme} {c : Cell} → ((n : List ℕ) → w ≡ lexeme.Text n → ⊥) → ((n : List ℕ) → w ≡ lexeme.Null n → ⊥) → ((i : _) → w ≡ lexeme.Number i → ⊥)
-    → Fails (at_word (codes "null") (w ∷ ws)) → IsCell (w ∷ ws) c r → ⊥
-no_cell_at text null number fresh number_cell = number _ refl
-no_cell_at text null number fresh text_cell = text _ refl
-no_cell_at text null number fresh null_cell = null _ refl
-no_cell_at text null number fresh new_null = fresh
-
-pub no_cell : {w : Lexeme} {ws r : List Lexeme} → ws ≡ w ∷ r → ((n : List ℕ) → w ≡ lexeme.Text n → ⊥) → ((n : List ℕ) → w ≡ lexeme.Null n → ⊥) → ((i : _) → w ≡ lexeme.Number i → ⊥)
-    → Fails (at_word (codes "null") ws) → Never IsCell EndsAnyhow ws
-no_cell e text null number fresh = never_at IsCell EndsAnyhow e (λ t r ends x. no_cell_at text null number (subst (λ x. Fails (at_word (codes "null") x)) e fresh) x)
-
-nothing_cell : {r : List Lexeme} {c : Cell} → IsCell [] c r → ⊥
-nothing_cell c = elim c [ ]
-
-pub no_cell_left : {ws : List Lexeme} → ws ≡ [] → Never IsCell EndsAnyhow ws
-no_cell_left e = never_at IsCell EndsAnyhow e (λ t r ends x. nothing_cell x)
 
 -- rows
 abbrev pub row_of : Cell × List Cell → Row

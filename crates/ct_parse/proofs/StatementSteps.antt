@@ -1,24 +1,16 @@
 -- What the steps of the readers of statements show.
-use Rattle.std.proofs.Common.{◌≡◌, ℕ, List, [], ◌∷◌, Option, refl, ap, sym, subst, ◌∙◌, arith}
-use Rattle.std.specs.Prelude.{IsTrue, codes}
-use Rattle.std.proofs.lemmas.Bool.{false≢true}
+use Rattle.std.{proofs.Common.{◌≡◌, ℕ, List, [], ◌∷◌, Option, refl, ap, sym, subst, ◌∙◌, arith}, specs.Prelude.{IsTrue, codes}, proofs.lemmas.Bool.false≢true}
 use Rattle.ct_word.specs.Value.{same_text}
 use Rattle.ct_lex.specs.declared.token.Lexeme.{Lexeme}
-use Rattle.ct_lex.specs.declared.token.Lexeme.TheVariants as lexeme
-use Rattle.ct_parse.specs.declared.tree.Condition.{Condition}
-use Rattle.ct_parse.specs.declared.tree.Row.{Row}
-use Rattle.ct_parse.specs.declared.tree.QueryPrimary.{QueryPrimary}
-use Rattle.ct_parse.specs.declared.tree.QueryTerm.{QueryTerm}
-use Rattle.ct_parse.specs.declared.tree.Query.{Query}
-use Rattle.ct_parse.specs.declared.tree.Statement.{Statement}
-use Rattle.ct_parse.specs.declared.tree.Statement.TheVariants as statement
+use Rattle.ct_parse.{specs.declared.tree.Condition.Condition, specs.declared.tree.Row.Row, specs.declared.tree.QueryPrimary.QueryPrimary}
+use Rattle.ct_parse.{specs.declared.tree.QueryTerm.QueryTerm, specs.declared.tree.Query.Query, specs.declared.tree.Statement.Statement}
 use Rattle.ct_parse.specs.Grammar.{IsName, AreMore, IsClosed, IsRow, IsCondition, HasCondition, no_condition, a_condition, select, IsPrimary, select_query, IsQueryTerm, query_term, IsQuery, query, IsStatement, create, insert_rows, insert_query, delete, assert, rows, possible, certain, begin, commit, rollback}
-use Rattle.ct_parse.specs.Ends.{Fails, at_word, EndsAnyhow, EndsList, EndsCondition, EndsBehind, EndsQuery, EndsStatement}
-use Rattle.ct_parse.specs.Reads.{Reads, Never}
-use Rattle.ct_parse.proofs.Fronts.{Same, moved}
-use Rattle.ct_parse.proofs.TermSteps.{reads_at, never_at}
+use Rattle.ct_parse.{specs.Ends.{Fails, at_word, EndsAnyhow, EndsList, EndsCondition, EndsBehind, EndsQuery, EndsStatement}, specs.Reads.{Reads, Never}}
+use Rattle.ct_parse.{proofs.Fronts.{Same, moved}, proofs.TermSteps.{reads_at, never_at}}
 use Rattle.ct_parse.proofs.Listed.{Behind, behind_reads, behind_never, parts, Pairs, both_read, no_first, no_second}
-use Rattle.ct_parse.proofs.Combined.{not_word, Then, then_read, Both, pair_of, Image, image, Renames, renamed, no_renamed}
+use Rattle.ct_parse.proofs.Combined.{not_word, Then, then_read, Both, pair_of, Image, image, Renames, renamed, no_renamed, Led, led_read, led_never}
+use Rattle.ct_lex.specs.declared.token.Lexeme.TheVariants as lexeme
+use Rattle.ct_parse.specs.declared.tree.Statement.TheVariants as statement
 
 -- what ends a statement ends all else
 narrowed : {T : Type 0} {X : List Lexeme → T → List Lexeme → Type 0} {E : List Lexeme → Type 0} → E [] → {ws r : List Lexeme} {t : T} → Reads X E ws t r → Reads X EndsStatement ws t r
@@ -65,21 +57,18 @@ created_pair = pair_of IsName EndsAnyhow (IsClosed IsName) EndsStatement (λ ws 
 into_create : {ws r : List Lexeme} {p : List ℕ × Names} → Created ws p r → IsStatement (CREATE ∷ TABLE ∷ ws) (create_of p) r
 into_create (parts n c) = create n c
 
-back_create : {m r : List Lexeme} {st : Statement} → IsStatement (CREATE ∷ m) st r → Image (Behind CREATE (Behind TABLE Created)) create_of (CREATE ∷ m) st r
-back_create (create n c) = image (_, refl, (_, refl, parts n c))
+back_create : {ws r : List Lexeme} {st : Statement} → IsStatement (CREATE ∷ ws) st r → Image (Behind TABLE Created) create_of ws st r
+back_create (create n c) = image (_, refl, parts n c)
 back_create (rows q) = absurd (false≢true (word_query q))
 
-create_is : (m : List Lexeme) → Renames (Behind CREATE (Behind TABLE Created)) create_of IsStatement (CREATE ∷ m)
-create_is m = record {
-  into = λ b. moved IsStatement (sym (b.1 ∙ ap (λ x. CREATE ∷ x) b.2.1)) (into_create b.2.2);
-  back = λ s. back_create s;
-}
+pub creating : Led CREATE (Behind TABLE Created) EndsStatement create_of IsStatement EndsStatement
+creating = record { into = λ b. moved IsStatement (ap (λ m. CREATE ∷ m) (sym b.1)) (into_create b.2); back = λ st e. back_create st; ends = λ r e. e }
 
 pub no_table_word : {m : List Lexeme} → Fails (at_word (codes "table") m) → Never IsStatement EndsStatement (CREATE ∷ m)
-no_table_word {m = m} fails = no_renamed (create_is m) (behind_never (Behind TABLE Created) refl (λ t r e b. not_word (codes "table") fails _ b.1))
+no_table_word fails = led_never creating refl (λ t r e b. not_word (codes "table") fails _ b.1)
 
 inside_create : {m rest : List Lexeme} → m ≡ TABLE ∷ rest → Never Created EndsStatement rest → Never IsStatement EndsStatement (CREATE ∷ m)
-inside_create {m = m} f never = no_renamed (create_is m) (behind_never (Behind TABLE Created) {E = EndsStatement} refl (behind_never Created f never))
+inside_create f never = led_never creating refl (behind_never Created f never)
 
 pub no_create_name : {m rest : List Lexeme} → m ≡ TABLE ∷ rest → Never IsName EndsAnyhow rest → Never IsStatement EndsStatement (CREATE ∷ m)
 no_create_name f never = inside_create f (no_first created_pair never)
@@ -89,7 +78,7 @@ no_columns f h never = inside_create f (no_second created_pair h (narrowed_never
 
 pub create_read : {m rest l r : List Lexeme} {n : List ℕ} {p : Names} → m ≡ TABLE ∷ rest → Reads IsName EndsAnyhow rest n l → Reads (IsClosed IsName) EndsAnyhow l p r
     → Reads IsStatement EndsStatement (CREATE ∷ m) (create_of (n, p)) r
-create_read {m = m} f h i = renamed (create_is m) (behind_reads refl (behind_reads f (both_read created_pair h (narrowed {E = EndsAnyhow} tt i))))
+create_read f h i = led_read creating refl (behind_reads f (both_read created_pair h (narrowed {E = EndsAnyhow} tt i)))
 
 -- DELETE FROM name [WHERE cond]
 abbrev DELETE : Lexeme
@@ -113,21 +102,18 @@ deleted_pair = pair_of IsName EndsAnyhow Filter EndsStatement (λ ws r y c e. tt
 into_delete : {ws r : List Lexeme} {p : List ℕ × Option Condition} → Deleted ws p r → IsStatement (DELETE ∷ FROM ∷ ws) (delete_of p) r
 into_delete (parts n c) = delete n c
 
-back_delete : {m r : List Lexeme} {st : Statement} → IsStatement (DELETE ∷ m) st r → Image (Behind DELETE (Behind FROM Deleted)) delete_of (DELETE ∷ m) st r
-back_delete (delete n c) = image (_, refl, (_, refl, parts n c))
+back_delete : {ws r : List Lexeme} {st : Statement} → IsStatement (DELETE ∷ ws) st r → Image (Behind FROM Deleted) delete_of ws st r
+back_delete (delete n c) = image (_, refl, parts n c)
 back_delete (rows q) = absurd (false≢true (word_query q))
 
-delete_is : (m : List Lexeme) → Renames (Behind DELETE (Behind FROM Deleted)) delete_of IsStatement (DELETE ∷ m)
-delete_is m = record {
-  into = λ b. moved IsStatement (sym (b.1 ∙ ap (λ x. DELETE ∷ x) b.2.1)) (into_delete b.2.2);
-  back = λ s. back_delete s;
-}
+pub deleting : Led DELETE (Behind FROM Deleted) EndsStatement delete_of IsStatement EndsStatement
+deleting = record { into = λ b. moved IsStatement (ap (λ m. DELETE ∷ m) (sym b.1)) (into_delete b.2); back = λ st e. back_delete st; ends = λ r e. e }
 
 pub no_delete_from : {m : List Lexeme} → Fails (at_word (codes "from") m) → Never IsStatement EndsStatement (DELETE ∷ m)
-no_delete_from {m = m} fails = no_renamed (delete_is m) (behind_never (Behind FROM Deleted) refl (λ t r e b. not_word (codes "from") fails _ b.1))
+no_delete_from fails = led_never deleting refl (λ t r e b. not_word (codes "from") fails _ b.1)
 
 inside_delete : {m rest : List Lexeme} → m ≡ FROM ∷ rest → Never Deleted EndsStatement rest → Never IsStatement EndsStatement (DELETE ∷ m)
-inside_delete {m = m} f never = no_renamed (delete_is m) (behind_never (Behind FROM Deleted) {E = EndsStatement} refl (behind_never Deleted f never))
+inside_delete f never = led_never deleting refl (behind_never Deleted f never)
 
 pub no_delete_name : {m rest : List Lexeme} → m ≡ FROM ∷ rest → Never IsName EndsAnyhow rest → Never IsStatement EndsStatement (DELETE ∷ m)
 no_delete_name f never = inside_delete f (no_first deleted_pair never)
@@ -141,8 +127,7 @@ no_delete_condition f h never = inside_delete f (no_second deleted_pair h (narro
 
 pub delete_read : {m rest l r : List Lexeme} {n : List ℕ} {o : Option Condition} → m ≡ FROM ∷ rest → Reads IsName EndsAnyhow rest n l → Reads Filter (EndsBehind (codes "where")) l o r
     → Reads IsStatement EndsStatement (DELETE ∷ m) (statement.Delete n o) r
-delete_read {m = m} f h i =
-    renamed (delete_is m) (behind_reads refl (behind_reads f (both_read deleted_pair h (narrowed {E = EndsBehind (codes "where")} (behind_at_end (codes "where")) i))))
+delete_read f h i = led_read deleting refl (behind_reads f (both_read deleted_pair h (narrowed {E = EndsBehind (codes "where")} (behind_at_end (codes "where")) i)))
 
 -- INSERT INTO name VALUES row {"," row} [IF cond], INSERT INTO name query
 abbrev INSERT : Lexeme
@@ -272,55 +257,28 @@ insert_rows_read f h g i o c =
     (both_read others_pair o (narrowed {E = EndsBehind (codes "if")} (behind_at_end (codes "if")) c)))))
 
 -- ASSERT cond
-abbrev ASSERT : Lexeme
-ASSERT = lexeme.Word (codes "assert")
-
-back_assert : {m r : List Lexeme} {st : Statement} → IsStatement (ASSERT ∷ m) st r → Image (Behind ASSERT IsCondition) statement.Assert (ASSERT ∷ m) st r
-back_assert (assert c) = image (_, refl, c)
+back_assert : {ws r : List Lexeme} {st : Statement} → IsStatement (lexeme.Word (codes "assert") ∷ ws) st r → Image IsCondition statement.Assert ws st r
+back_assert (assert c) = image c
 back_assert (rows q) = absurd (false≢true (word_query q))
 
-assert_is : (m : List Lexeme) → Renames (Behind ASSERT IsCondition) statement.Assert IsStatement (ASSERT ∷ m)
-assert_is m = record { into = λ b. moved IsStatement (sym b.1) (assert b.2); back = λ s. back_assert s }
-
-pub assert_read : {ws m r : List Lexeme} {c : Condition} → ws ≡ ASSERT ∷ m → Reads IsCondition EndsCondition m c r → Reads IsStatement EndsStatement ws (statement.Assert c) r
-assert_read {m = m} f h = reads_at f (renamed (assert_is m) (behind_reads refl (narrowed {E = EndsCondition} condition_at_end h)))
-
-pub no_assert : {ws m : List Lexeme} → ws ≡ ASSERT ∷ m → Never IsCondition EndsCondition m → Never IsStatement EndsStatement ws
-no_assert {m = m} f never = never_at IsStatement EndsStatement f (no_renamed (assert_is m) (behind_never IsCondition refl (narrowed_never IsCondition EndsCondition condition_at_end never)))
+pub asserting : Led (lexeme.Word (codes "assert")) IsCondition EndsCondition statement.Assert IsStatement EndsStatement
+asserting = record { into = λ c. assert c; back = λ st e. back_assert st; ends = λ r e. subst EndsCondition (sym e) condition_at_end }
 
 -- POSSIBLE query
-abbrev POSSIBLE : Lexeme
-POSSIBLE = lexeme.Word (codes "possible")
-
-back_possible : {m r : List Lexeme} {st : Statement} → IsStatement (POSSIBLE ∷ m) st r → Image (Behind POSSIBLE IsQuery) statement.Possible (POSSIBLE ∷ m) st r
-back_possible (possible q) = image (_, refl, q)
+back_possible : {ws r : List Lexeme} {st : Statement} → IsStatement (lexeme.Word (codes "possible") ∷ ws) st r → Image IsQuery statement.Possible ws st r
+back_possible (possible q) = image q
 back_possible (rows q) = absurd (false≢true (word_query q))
 
-possible_is : (m : List Lexeme) → Renames (Behind POSSIBLE IsQuery) statement.Possible IsStatement (POSSIBLE ∷ m)
-possible_is m = record { into = λ b. moved IsStatement (sym b.1) (possible b.2); back = λ s. back_possible s }
-
-pub possible_read : {ws m r : List Lexeme} {q : Query} → ws ≡ POSSIBLE ∷ m → Reads IsQuery EndsQuery m q r → Reads IsStatement EndsStatement ws (statement.Possible q) r
-possible_read {m = m} f h = reads_at f (renamed (possible_is m) (behind_reads refl (narrowed {E = EndsQuery} query_at_end h)))
-
-pub no_possible : {ws m : List Lexeme} → ws ≡ POSSIBLE ∷ m → Never IsQuery EndsQuery m → Never IsStatement EndsStatement ws
-no_possible {m = m} f never = never_at IsStatement EndsStatement f (no_renamed (possible_is m) (behind_never IsQuery refl (narrowed_never IsQuery EndsQuery query_at_end never)))
+pub asking_possible : Led (lexeme.Word (codes "possible")) IsQuery EndsQuery statement.Possible IsStatement EndsStatement
+asking_possible = record { into = λ q. possible q; back = λ st e. back_possible st; ends = λ r e. subst EndsQuery (sym e) query_at_end }
 
 -- CERTAIN query
-abbrev CERTAIN : Lexeme
-CERTAIN = lexeme.Word (codes "certain")
-
-back_certain : {m r : List Lexeme} {st : Statement} → IsStatement (CERTAIN ∷ m) st r → Image (Behind CERTAIN IsQuery) statement.Certain (CERTAIN ∷ m) st r
-back_certain (certain q) = image (_, refl, q)
+back_certain : {ws r : List Lexeme} {st : Statement} → IsStatement (lexeme.Word (codes "certain") ∷ ws) st r → Image IsQuery statement.Certain ws st r
+back_certain (certain q) = image q
 back_certain (rows q) = absurd (false≢true (word_query q))
 
-certain_is : (m : List Lexeme) → Renames (Behind CERTAIN IsQuery) statement.Certain IsStatement (CERTAIN ∷ m)
-certain_is m = record { into = λ b. moved IsStatement (sym b.1) (certain b.2); back = λ s. back_certain s }
-
-pub certain_read : {ws m r : List Lexeme} {q : Query} → ws ≡ CERTAIN ∷ m → Reads IsQuery EndsQuery m q r → Reads IsStatement EndsStatement ws (statement.Certain q) r
-certain_read {m = m} f h = reads_at f (renamed (certain_is m) (behind_reads refl (narrowed {E = EndsQuery} query_at_end h)))
-
-pub no_certain : {ws m : List Lexeme} → ws ≡ CERTAIN ∷ m → Never IsQuery EndsQuery m → Never IsStatement EndsStatement ws
-no_certain {m = m} f never = never_at IsStatement EndsStatement f (no_renamed (certain_is m) (behind_never IsQuery refl (narrowed_never IsQuery EndsQuery query_at_end never)))
+pub asking_certain : Led (lexeme.Word (codes "certain")) IsQuery EndsQuery statement.Certain IsStatement EndsStatement
+asking_certain = record { into = λ q. certain q; back = λ st e. back_certain st; ends = λ r e. subst EndsQuery (sym e) query_at_end }
 
 -- BEGIN, COMMIT, ROLLBACK
 begin_only : {r r' : List Lexeme} {st : Statement} → IsStatement (lexeme.Word (codes "begin") ∷ r) st r' → Same st statement.Begin r' r

@@ -1,35 +1,26 @@
 -- What the steps of the readers of items and tables show.
 use Rattle.std.proofs.Common.{◌≡◌, ◌≤◌, ◌<◌, ℕ, Bool, true, false, List, ◌∷◌, length, Option, Some, None, refl, ap, sym, subst, ◌∙◌, arith}
-use Rattle.std.specs.Prelude.{codes}
-use Rattle.std.proofs.lemmas.Bool.{false≢true, not_from_true, not_from_false, and_from}
+use Rattle.std.{specs.Prelude.codes, proofs.lemmas.Bool.{false≢true, not_from_true, not_from_false, and_from}}
 use Rattle.ct_lex.specs.declared.token.Lexeme.{Lexeme}
-use Rattle.ct_lex.specs.declared.token.Lexeme.TheVariants as lexeme
-use Rattle.ct_lex.specs.declared.token.Symbol.TheVariants as symbol
-use Rattle.ct_parse.specs.declared.tree.Column.{Column}
-use Rattle.ct_parse.specs.declared.tree.Condition.{Condition}
-use Rattle.ct_parse.specs.declared.tree.Item.{Item}
-use Rattle.ct_parse.specs.declared.tree.Items.{Items}
-use Rattle.ct_parse.specs.declared.tree.Items.TheVariants as items
-use Rattle.ct_parse.specs.declared.tree.Alias.{Alias}
-use Rattle.ct_parse.specs.declared.tree.Table.{Table}
-use Rattle.ct_parse.specs.declared.tree.Joined.{Joined}
-use Rattle.ct_parse.specs.declared.tree.Joined.TheVariants as joined
-use Rattle.ct_parse.specs.declared.tree.Tables.{Tables}
+use Rattle.ct_parse.{specs.declared.tree.Column.Column, specs.declared.tree.Condition.Condition, specs.declared.tree.Item.Item, specs.declared.tree.Items.Items}
+use Rattle.ct_parse.{specs.declared.tree.Alias.Alias, specs.declared.tree.Table.Table, specs.declared.tree.Joined.Joined, specs.declared.tree.Tables.Tables}
 use Rattle.ct_parse.specs.Grammar.{IsName, name, IsColumn, plain, qualified, IsCondition, AreMore, HasName, no_name, as_name, IsItem, item, AreItems, star, listed, is_clause_word, IsBareAlias, bare_alias, HasAlias, no_alias, alias, as_alias, IsTable, table, IsTableOn, table_on, IsJoined, comma, join, inner_join, AreJoined, none_joined, more_joined, MORE_TABLES, AreTables, tables}
 use Rattle.ct_parse.specs.Ends.{Fails, at_word, at_bare_alias, at_joined, EndsAnyhow, EndsColumn, EndsItem, EndsItems, EndsTable, EndsCondition, EndsJoined, EndsTables}
-use Rattle.ct_parse.specs.Reads.{Reads, Never}
-use Rattle.ct_parse.proofs.Fronts.{Same, moved, symbol_name, word_name}
-use Rattle.ct_parse.proofs.TermSteps.{reads_at, never_at}
+use Rattle.ct_parse.{specs.Reads.{Reads, Never}, proofs.Fronts.{Same, moved, symbol_name, word_name}, proofs.TermSteps.reads_at}
 use Rattle.ct_parse.proofs.Listed.{Behind, Cases, ended, split, Lists, Parts, parts, Pairs}
-use Rattle.ct_parse.proofs.Combined.{Then, Both, pair_of, comma_list, Image, image, Renames}
+use Rattle.ct_parse.proofs.Combined.{Then, Both, pair_of, comma_list, Image, image, Renames, Led}
+use Rattle.ct_lex.specs.declared.token.Lexeme.TheVariants as lexeme
+use Rattle.ct_lex.specs.declared.token.Symbol.TheVariants as symbol
+use Rattle.ct_parse.specs.declared.tree.Items.TheVariants as items
+use Rattle.ct_parse.specs.declared.tree.Joined.TheVariants as joined
 
 -- [AS name]
-as_only : {rest r r' : List Lexeme} {n : List ℕ} {o : Option (List ℕ)} → Reads IsName EndsAnyhow rest n r → EndsItem r' → HasName (lexeme.Word (codes "as") ∷ rest) o r' → Same o (Some n) r' r
-as_only h e no_name = absurd e.0
-as_only h e (as_name x) = let s = h.only _ _ tt x in (ap (λ n. Some n) s.0, s.1)
+back_as : {ws r : List Lexeme} {o : Option (List ℕ)} → HasName (lexeme.Word (codes "as") ∷ ws) o r → EndsItem r → Image IsName (λ n. Some n) ws o r
+back_as no_name e = absurd e.0
+back_as (as_name x) e = image x
 
-pub as_read : {ws rest r : List Lexeme} {n : List ℕ} → ws ≡ lexeme.Word (codes "as") ∷ rest → Reads IsName EndsAnyhow rest n r → Reads HasName EndsItem ws (Some n) r
-as_read f h = reads_at f (record { is = as_name h.is; only = λ t r' e x. as_only h e x; within = omega (arith, h.within) })
+pub naming : Led (lexeme.Word (codes "as")) IsName EndsAnyhow (λ n. Some n) HasName EndsItem
+naming = record { into = λ n. as_name n; back = λ o e. back_as o e; ends = λ r e. tt }
 
 no_as_only : {ws r : List Lexeme} {o : Option (List ℕ)} → Fails (at_word (codes "as") ws) → HasName ws o r → Same o None r ws
 no_as_only fails no_name = (refl, refl)
@@ -37,13 +28,6 @@ no_as_only fails (as_name x) = absurd fails
 
 pub no_as_read : {ws : List Lexeme} → Fails (at_word (codes "as") ws) → Reads HasName EndsItem ws None ws
 no_as_read fails = record { is = no_name; only = λ t r e x. no_as_only fails x; within = omega arith }
-
-none_as : {rest r : List Lexeme} {o : Option (List ℕ)} → Never IsName EndsAnyhow rest → EndsItem r → HasName (lexeme.Word (codes "as") ∷ rest) o r → ⊥
-none_as never e no_name = e.0
-none_as never e (as_name x) = never _ _ tt x
-
-pub no_as_name : {ws rest : List Lexeme} → ws ≡ lexeme.Word (codes "as") ∷ rest → Never IsName EndsAnyhow rest → Never HasName EndsItem ws
-no_as_name f never = never_at HasName EndsItem f (λ t r e x. none_as never e x)
 
 -- items
 before_as : {ws r : List Lexeme} {o : Option (List ℕ)} → HasName ws o r → EndsItem r → EndsColumn ws
@@ -108,14 +92,13 @@ no_bare_name never n r e x = never _ _ tt (bare_name x)
 pub no_bare_word : {ws r : List Lexeme} {n : List ℕ} → Reads IsName EndsAnyhow ws n r → is_clause_word n ≡ true → Never IsBareAlias EndsAnyhow ws
 no_bare_word h p n' r' e (bare_alias x q) = false≢true (sym (not_from_true _ (ap is_clause_word (h.only _ _ tt x).0 ∙ p)) ∙ q)
 
-as_alias_only : {rest r r' : List Lexeme} {n : List ℕ} {o : Option Alias} → Reads IsName EndsAnyhow rest n r → EndsTable r' → HasAlias (lexeme.Word (codes "as") ∷ rest) o r'
-    → Same o (alias_of true n) r' r
-as_alias_only h e no_alias = absurd e.1
-as_alias_only h e (alias x) = absurd (false≢true (word_name (bare_name x)))
-as_alias_only h e (as_alias x) = let s = h.only _ _ tt x in (ap (alias_of true) s.0, s.1)
+back_as_alias : {ws r : List Lexeme} {o : Option Alias} → HasAlias (lexeme.Word (codes "as") ∷ ws) o r → EndsTable r → Image IsName (alias_of true) ws o r
+back_as_alias no_alias e = absurd e.1
+back_as_alias (alias x) e = absurd (false≢true (word_name (bare_name x)))
+back_as_alias (as_alias x) e = image x
 
-pub as_alias_read : {ws rest r : List Lexeme} {n : List ℕ} → ws ≡ lexeme.Word (codes "as") ∷ rest → Reads IsName EndsAnyhow rest n r → Reads HasAlias EndsTable ws (alias_of true n) r
-as_alias_read f h = reads_at f (record { is = as_alias h.is; only = λ t r' e x. as_alias_only h e x; within = omega (arith, h.within) })
+pub aliasing : Led (lexeme.Word (codes "as")) IsName EndsAnyhow (alias_of true) HasAlias EndsTable
+aliasing = record { into = λ n. as_alias n; back = λ o e. back_as_alias o e; ends = λ r e. tt }
 
 pub alias_stands : {ws r : List Lexeme} {n : List ℕ} → IsBareAlias ws n r → Fails (at_bare_alias ws) → ⊥
 alias_stands (bare_alias (name p) q) fails = subst Fails (and_from _ _ p q) fails
@@ -135,14 +118,6 @@ no_alias_only fails never (as_alias x) = absurd fails
 
 pub no_alias_read : {ws : List Lexeme} → Fails (at_word (codes "as") ws) → Never IsBareAlias EndsAnyhow ws → Reads HasAlias EndsTable ws None ws
 no_alias_read fails never = record { is = no_alias; only = λ t r e x. no_alias_only fails never x; within = omega arith }
-
-none_alias : {rest r : List Lexeme} {o : Option Alias} → Never IsName EndsAnyhow rest → EndsTable r → HasAlias (lexeme.Word (codes "as") ∷ rest) o r → ⊥
-none_alias never e no_alias = e.1
-none_alias never e (alias x) = false≢true (word_name (bare_name x))
-none_alias never e (as_alias x) = never _ _ tt x
-
-pub no_alias_name : {ws rest : List Lexeme} → ws ≡ lexeme.Word (codes "as") ∷ rest → Never IsName EndsAnyhow rest → Never HasAlias EndsTable ws
-no_alias_name f never = never_at HasAlias EndsTable f (λ t r e x. none_alias never e x)
 
 -- tables
 abbrev pub table_of : List ℕ → Option Alias → Table
@@ -174,60 +149,29 @@ pub ends_at_on : (r : List Lexeme) → EndsTable (ON ∷ r)
 ends_at_on r = (tt, tt)
 
 -- "," table | [INNER] JOIN table ON cond
-comma_only : {rest r r' : List Lexeme} {t : Table} {j : Joined} → Reads IsTable EndsTable rest t r → EndsJoined r' → IsJoined (lexeme.Symbol symbol.Comma ∷ rest) j r' → Same j (joined.Comma t) r' r
-comma_only h e (comma x) = let s = h.only _ _ e.0 x in (ap joined.Comma s.0, s.1)
+back_comma : {ws r : List Lexeme} {j : Joined} → IsJoined (lexeme.Symbol symbol.Comma ∷ ws) j r → Image IsTable joined.Comma ws j r
+back_comma (comma x) = image x
 
-pub comma_read : {ws rest r : List Lexeme} {t : Table} → ws ≡ lexeme.Symbol symbol.Comma ∷ rest → Reads IsTable EndsTable rest t r → Reads IsJoined EndsJoined ws (joined.Comma t) r
-comma_read f h = reads_at f (record { is = comma h.is; only = λ t r' e x. comma_only h e x; within = omega (arith, h.within) })
-
-none_comma : {rest r : List Lexeme} {j : Joined} → Never IsTable EndsTable rest → EndsJoined r → IsJoined (lexeme.Symbol symbol.Comma ∷ rest) j r → ⊥
-none_comma never e (comma x) = never _ _ e.0 x
-
-pub no_comma_table : {ws rest : List Lexeme} → ws ≡ lexeme.Symbol symbol.Comma ∷ rest → Never IsTable EndsTable rest → Never IsJoined EndsJoined ws
-no_comma_table f never = never_at IsJoined EndsJoined f (λ t r e x. none_comma never e x)
+pub comma_led : Led (lexeme.Symbol symbol.Comma) IsTable EndsTable joined.Comma IsJoined EndsJoined
+comma_led = record { into = λ t. comma t; back = λ j e. back_comma j; ends = λ r e. e.0 }
 
 abbrev pub join_of : Bool → Table × Condition → Joined
 join_of b p = joined.Join b p.0 p.1
 
-join_only : {rest r r' : List Lexeme} {p : Table × Condition} {j : Joined} → Reads IsTableOn EndsCondition rest p r → EndsJoined r' → IsJoined (lexeme.Word (codes "join") ∷ rest) j r'
-    → Same j (join_of false p) r' r
-join_only h e (join x) = let s = h.only _ _ e.1 x in (ap (join_of false) s.0, s.1)
+abbrev JOIN : Lexeme
+JOIN = lexeme.Word (codes "join")
 
-pub join_read : {ws rest r : List Lexeme} {p : Table × Condition} → ws ≡ lexeme.Word (codes "join") ∷ rest → Reads IsTableOn EndsCondition rest p r → Reads IsJoined EndsJoined ws (join_of false p) r
-join_read f h = reads_at f (record { is = join h.is; only = λ t r' e x. join_only h e x; within = omega (arith, h.within) })
+back_join : {ws r : List Lexeme} {j : Joined} → IsJoined (JOIN ∷ ws) j r → Image IsTableOn (join_of false) ws j r
+back_join (join x) = image x
 
-none_join : {rest r : List Lexeme} {j : Joined} → Never IsTableOn EndsCondition rest → EndsJoined r → IsJoined (lexeme.Word (codes "join") ∷ rest) j r → ⊥
-none_join never e (join x) = never _ _ e.1 x
+pub join_led : Led JOIN IsTableOn EndsCondition (join_of false) IsJoined EndsJoined
+join_led = record { into = λ p. join p; back = λ j e. back_join j; ends = λ r e. e.1 }
 
-pub no_join : {ws rest : List Lexeme} → ws ≡ lexeme.Word (codes "join") ∷ rest → Never IsTableOn EndsCondition rest → Never IsJoined EndsJoined ws
-no_join f never = never_at IsJoined EndsJoined f (λ t r e x. none_join never e x)
+back_inner : {ws r : List Lexeme} {j : Joined} → IsJoined (lexeme.Word (codes "inner") ∷ ws) j r → Image (Behind JOIN IsTableOn) (join_of true) ws j r
+back_inner (inner_join x) = image (_, refl, x)
 
-inner_only : {rest r r' : List Lexeme} {p : Table × Condition} {j : Joined} → Reads IsTableOn EndsCondition rest p r → EndsJoined r'
-    → IsJoined (lexeme.Word (codes "inner") ∷ lexeme.Word (codes "join") ∷ rest) j r' → Same j (join_of true p) r' r
-inner_only h e (inner_join x) = let s = h.only _ _ e.1 x in (ap (join_of true) s.0, s.1)
-
-pub inner_read : {ws m rest r : List Lexeme} {p : Table × Condition} → ws ≡ lexeme.Word (codes "inner") ∷ m → m ≡ lexeme.Word (codes "join") ∷ rest → Reads IsTableOn EndsCondition rest p r
-    → Reads IsJoined EndsJoined ws (join_of true p) r
-inner_read f g h =
-    reads_at (f ∙ ap (λ x. lexeme.Word (codes "inner") ∷ x) g)
-    (record { is = inner_join h.is; only = λ t r' e x. inner_only h e x; within = omega (arith, h.within) })
-
-none_inner : {rest r : List Lexeme} {j : Joined} → Never IsTableOn EndsCondition rest → EndsJoined r → IsJoined (lexeme.Word (codes "inner") ∷ lexeme.Word (codes "join") ∷ rest) j r → ⊥
-none_inner never e (inner_join x) = never _ _ e.1 x
-
-pub no_inner : {ws m rest : List Lexeme} → ws ≡ lexeme.Word (codes "inner") ∷ m → m ≡ lexeme.Word (codes "join") ∷ rest → Never IsTableOn EndsCondition rest → Never IsJoined EndsJoined ws
-no_inner f g never = never_at IsJoined EndsJoined (f ∙ ap (λ x. lexeme.Word (codes "inner") ∷ x) g) (λ t r e x. none_inner never e x)
-
-none_inner_join : {m r : List Lexeme} {j : Joined} → Fails (at_word (codes "join") m) → IsJoined (lexeme.Word (codes "inner") ∷ m) j r → ⊥
-none_inner_join fails (inner_join x) = fails
-
-pub no_inner_join : {ws m : List Lexeme} → ws ≡ lexeme.Word (codes "inner") ∷ m → Fails (at_word (codes "join") m) → Never IsJoined EndsJoined ws
-no_inner_join f fails = never_at IsJoined EndsJoined f (λ t r e x. none_inner_join fails x)
-
-pub no_joined : {ws : List Lexeme} → ((r : List Lexeme) → ws ≡ lexeme.Symbol symbol.Comma ∷ r → ⊥) → Fails (at_word (codes "join") ws) → Fails (at_word (codes "inner") ws) → Never IsJoined EndsJoined ws
-no_joined no_comma no_join no_inner t r e (comma x) = no_comma _ refl
-no_joined no_comma no_join no_inner t r e (join x) = no_join
-no_joined no_comma no_join no_inner t r e (inner_join x) = no_inner
+pub inner_led : Led (lexeme.Word (codes "inner")) (Behind JOIN IsTableOn) EndsCondition (join_of true) IsJoined EndsJoined
+inner_led = record { into = λ b. moved IsJoined (ap (λ m. lexeme.Word (codes "inner") ∷ m) (sym b.1)) (inner_join b.2); back = λ j e. back_inner j; ends = λ r e. e.1 }
 
 -- the tables behind the first
 before_more : {ws r : List Lexeme} {js : List Joined} → AreJoined ws js r → EndsTables r → EndsJoined ws

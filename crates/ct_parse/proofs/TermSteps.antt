@@ -1,21 +1,17 @@
 -- What the steps of the readers of names, columns and terms show.
-use Rattle.std.proofs.Common.{◌≡◌, ℕ, List, [], ◌∷◌, refl, ap, ap₂, sym, subst, ◌∙◌, arith}
-use Rattle.std.specs.Prelude.{◌≢◌, IsTrue, Result, Ok, Err, IfErr, IsErrAnd}
+use Rattle.std.{proofs.Common.{◌≡◌, ℕ, List, [], ◌∷◌, refl, ap, ap₂, sym, subst, ◌∙◌, arith}, specs.Prelude.{◌≢◌, IsTrue, Result, Ok, Err, IfErr, IsErrAnd}}
 use Rattle.ct_word.specs.Writable.{is_name}
 use Rattle.ct_lex.specs.declared.token.Lexeme.{Lexeme}
+use Rattle.ct_parse.{specs.declared.tree.Column.Column, specs.declared.tree.Term.Term, specs.declared.error.Unread.Unread, specs.Reads.{Reads, Never}}
+use Rattle.ct_parse.specs.Grammar.{IsName, name, IsColumn, plain, qualified, IsTerm, number_term, text_term, null_term, column_term, IsComparison, equal, unequal}
+use Rattle.ct_parse.specs.Ends.{Fails, at_dot, EndsAnyhow, EndsColumn}
+use Rattle.ct_parse.proofs.Fronts.{Same, tail, moved, one_name, number_column, text_column, null_column, one_comparison}
 use Rattle.ct_lex.specs.declared.token.Lexeme.TheVariants as lexeme
 use Rattle.ct_lex.specs.declared.token.Symbol.TheVariants as symbol
-use Rattle.ct_parse.specs.declared.tree.Column.{Column}
 use Rattle.ct_parse.specs.declared.tree.Column.TheVariants as column
-use Rattle.ct_parse.specs.declared.tree.Term.{Term}
 use Rattle.ct_parse.specs.declared.tree.Term.TheVariants as term
 use Rattle.ct_parse.specs.declared.tree.Comparison.TheVariants as comparison
-use Rattle.ct_parse.specs.declared.error.Unread.{Unread}
 use Rattle.ct_parse.specs.declared.error.Unread.TheVariants as unread
-use Rattle.ct_parse.specs.Grammar.{IsName, name, IsColumn, plain, qualified, IsTerm, number_term, text_term, null_term, column_term, IsComparison, equal, unequal}
-use Rattle.ct_parse.specs.Ends.{Fails, at_dot, at_comma, EndsAnyhow, EndsColumn}
-use Rattle.ct_parse.specs.Reads.{Reads, Never}
-use Rattle.ct_parse.proofs.Fronts.{Same, tail, moved, one_name, number_column, text_column, null_column, one_comparison}
 
 -- what reads the same lexemes
 pub reads_at : {T : Type 0} {R : List Lexeme → T → List Lexeme → Type 0} {E : List Lexeme → Type 0} {ws ws' r : List Lexeme} {t : T} → ws ≡ ws' → Reads R E ws' t r → Reads R E ws t r
@@ -25,32 +21,8 @@ pub never_at : {T : Type 0} (R : List Lexeme → T → List Lexeme → Type 0) (
 never_at R E e never = λ t r ends x. never t r ends (moved R e x)
 
 pub no_dot : (ws : List Lexeme) → ((r : List Lexeme) → ws ≡ lexeme.Symbol symbol.Dot ∷ r → ⊥) → Fails (at_dot ws)
-no_dot [] no_r = tt
-no_dot (lexeme.Word n ∷ r) no_r = tt
-no_dot (lexeme.Number n ∷ r) no_r = tt
-no_dot (lexeme.Text n ∷ r) no_r = tt
-no_dot (lexeme.Null n ∷ r) no_r = tt
-no_dot (lexeme.Symbol symbol.LeftParen ∷ r) no_r = tt
-no_dot (lexeme.Symbol symbol.RightParen ∷ r) no_r = tt
-no_dot (lexeme.Symbol symbol.Comma ∷ r) no_r = tt
 no_dot (lexeme.Symbol symbol.Dot ∷ r) no_r = absurd (no_r r refl)
-no_dot (lexeme.Symbol symbol.Star ∷ r) no_r = tt
-no_dot (lexeme.Symbol symbol.Equal ∷ r) no_r = tt
-no_dot (lexeme.Symbol symbol.Unequal ∷ r) no_r = tt
-
-pub no_comma : (ws : List Lexeme) → ((r : List Lexeme) → ws ≡ lexeme.Symbol symbol.Comma ∷ r → ⊥) → Fails (at_comma ws)
-no_comma [] no_r = tt
-no_comma (lexeme.Word n ∷ r) no_r = tt
-no_comma (lexeme.Number n ∷ r) no_r = tt
-no_comma (lexeme.Text n ∷ r) no_r = tt
-no_comma (lexeme.Null n ∷ r) no_r = tt
-no_comma (lexeme.Symbol symbol.LeftParen ∷ r) no_r = tt
-no_comma (lexeme.Symbol symbol.RightParen ∷ r) no_r = tt
-no_comma (lexeme.Symbol symbol.Comma ∷ r) no_r = absurd (no_r r refl)
-no_comma (lexeme.Symbol symbol.Dot ∷ r) no_r = tt
-no_comma (lexeme.Symbol symbol.Star ∷ r) no_r = tt
-no_comma (lexeme.Symbol symbol.Equal ∷ r) no_r = tt
-no_comma (lexeme.Symbol symbol.Unequal ∷ r) no_r = tt
+no_dot _ no_r = tt
 
 pub name_reads : {w : Lexeme} {ws r : List Lexeme} {n : List ℕ} → IsTrue (is_name n) → ws ≡ w ∷ r → w ≡ lexeme.Word n → Reads IsName EndsAnyhow ws n r
 name_reads {r = r} {n = n} p e f = reads_at (e ∙ ap (λ x. x ∷ r) f) (record {

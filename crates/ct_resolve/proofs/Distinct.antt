@@ -1,12 +1,10 @@
 -- Names that are put into a set one by one are new each time exactly where no name stands twice.
 use Rattle.std.proofs.Common.{◌≡◌, ℕ, Bool, true, false, not, ◌&&◌, ◌||◌, List, [], ◌∷◌, ◌++◌, ◌+◌, ◌<◌, length, get_or, drop, drop-cons, add-one, refl, ap, sym, ◌∙◌}
-use native.Mathlib.Omega.{arith}
-use Rattle.std.specs.List.{list_any, list_all}
-use Rattle.std.proofs.lemmas.List.Folds.{list_any-append}
-use Rattle.std.proofs.lemmas.Cmp.{nat_list_eq_equiv}
+use Rattle.std.{specs.List.{list_any, list_all}, proofs.lemmas.List.Folds.list_any-append, proofs.lemmas.Cmp.nat_list_eq_equiv}
 use Rattle.indexmap.specs.IndexSet.{insert_key}
 use Rattle.ct_word.specs.Value.{same_text}
 use Rattle.ct_resolve.specs.Names.{are_distinct}
+use native.Mathlib.Omega.{arith}
 
 -- whether each name is new when it is put into a set with these keys
 abbrev pub are_new : List (List ℕ) → List (List ℕ) → Bool

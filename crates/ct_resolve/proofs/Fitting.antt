@@ -1,35 +1,22 @@
 -- What a statement is resolved to fits the schema.
 use Rattle.std.proofs.Common.{◌≡◌, ◌+◌, ◌≤◌, ◌^◌, ℕ, suc, Bool, true, false, not, List, [], ◌∷◌, ◌++◌, length, refl, ap, sym, subst, ◌∙◌, arith}
-use Rattle.std.proofs.lemmas.Bool.{not-true, or_parts, and_parts, eqb-true}
-use Rattle.std.proofs.lemmas.List.{append-nil}
-use Rattle.std.proofs.lemmas.List.Elements.{All-nil, All-cons}
-use Rattle.std.proofs.lemmas.Result.{IfOk-at_ok}
-use Rattle.std.specs.List.{list_all}
-use Rattle.std.specs.Prelude.{All, nat_eq, Option, Some, None, Ok, IfOk, if◌then◌else◌}
+use Rattle.std.{proofs.lemmas.Bool.{not-true, or_parts, and_parts, eqb-true}, proofs.lemmas.List.append-nil, proofs.lemmas.List.Elements.{All-nil, All-cons}}
+use Rattle.std.{proofs.lemmas.Result.IfOk-at_ok, specs.List.list_all, specs.Prelude.{All, nat_eq, Option, Some, None, Ok, IfOk, if◌then◌else◌}}
 use Rattle.ct_word.specs.Value.{same_text}
-use Rattle.ct_query.specs.declared.action.Ask.{Ask}
-use Rattle.ct_query.specs.declared.action.Ask.TheVariants as ask
-use Rattle.ct_query.specs.declared.schema.Heading.{Heading}
-use Rattle.ct_query.specs.declared.schema.Schema.{Schema}
+use Rattle.ct_query.{specs.declared.action.Ask.Ask, specs.declared.schema.Heading.Heading, specs.declared.schema.Schema.Schema, specs.Plain.PlainStatement}
 use Rattle.ct_query.specs.Fits.{columns_in, FitsCell, FitsRows, FitsStatement}
-use Rattle.ct_query.specs.Plain as plain
-use Rattle.ct_query.specs.Plain.{PlainStatement}
-use Rattle.ct_parse.specs.declared.tree.Cell.{Cell}
-use Rattle.ct_parse.specs.declared.tree.Cell.TheVariants as cell
-use Rattle.ct_parse.specs.declared.tree.Condition as tree
-use Rattle.ct_parse.specs.declared.tree.Query.{Query}
-use Rattle.ct_parse.specs.declared.tree.Row.{Row}
-use Rattle.ct_parse.specs.declared.tree.Statement.{Statement}
-use Rattle.ct_parse.specs.declared.tree.Statement.TheVariants as statement
-use Rattle.ct_resolve.specs.declared.error.ResolveError.TheVariants as fault
-use Rattle.ct_resolve.specs.Conditions.{condition_at, condition_or_true}
-use Rattle.ct_resolve.specs.Found.{Found, and_then, unless}
-use Rattle.ct_resolve.specs.Names.{table_in, is_table, are_distinct}
-use Rattle.ct_resolve.specs.Queries.{Named, query_at}
+use Rattle.ct_parse.{specs.declared.tree.Cell.Cell, specs.declared.tree.Query.Query, specs.declared.tree.Row.Row, specs.declared.tree.Statement.Statement}
+use Rattle.ct_resolve.{specs.Conditions.{condition_at, condition_or_true}, specs.Found.{Found, and_then, unless}, specs.Queries.{Named, query_at}}
+use Rattle.ct_resolve.{specs.Names.{table_in, is_table, are_distinct}, proofs.FoundParts.{and_then_has, unless_has}}
 use Rattle.ct_resolve.specs.Statements.{cell_term, next_after, next_after_all, next_after_rows, cell_terms, cells_of, row_terms, HasRoom, resolved}
-use Rattle.ct_resolve.proofs.FoundParts.{and_then_has, unless_has}
 use Rattle.ct_resolve.proofs.FittingConditions.{condition_fits, condition_or_true_fits}
 use Rattle.ct_resolve.proofs.FittingQueries.{table_columns, is_there, width_there, FitsNamed, query_fits}
+use Rattle.ct_query.specs.declared.action.Ask.TheVariants as ask
+use Rattle.ct_query.specs.Plain as plain
+use Rattle.ct_parse.specs.declared.tree.Cell.TheVariants as cell
+use Rattle.ct_parse.specs.declared.tree.Condition as tree
+use Rattle.ct_parse.specs.declared.tree.Statement.TheVariants as statement
+use Rattle.ct_resolve.specs.declared.error.ResolveError.TheVariants as fault
 
 -- a table that is not there has no columns
 not_first : (b : Bool) (h : Heading) (o : Option (List (List ℕ))) → b ≡ false → o ≡ None → (if b then Some h.columns else o) ≡ None

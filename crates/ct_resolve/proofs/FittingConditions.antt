@@ -1,31 +1,23 @@
 -- What a condition is resolved to fits the rows of the tables in scope.
-use Rattle.std.proofs.Common.{◌≡◌, ◌+◌, ◌<◌, ℕ, suc, Bool, true, false, List, [], ◌∷◌, length, refl, arith}
-use Rattle.std.proofs.lemmas.List.{length-append}
-use Rattle.std.proofs.lemmas.List.Elements.{All-nil, All-cons, All-head, All-tail, All-append, All-weaker}
-use Rattle.std.proofs.lemmas.Option.{none-some, same_Some}
+use Rattle.std.{proofs.Common.{◌≡◌, ◌+◌, ◌<◌, ℕ, suc, Bool, true, false, List, [], ◌∷◌, length, refl, arith}, proofs.lemmas.List.length-append}
+use Rattle.std.{proofs.lemmas.List.Elements.{All-nil, All-cons, All-head, All-tail, All-append, All-weaker}, proofs.lemmas.Option.{none-some, same_Some}}
 use Rattle.std.specs.Prelude.{All, Option, Some, None, Ok, IfOk, if◌then◌else◌}
-use Rattle.ct_word.specs.declared.values.Term.{Term}
-use Rattle.ct_word.specs.declared.values.Term.TheVariants as term
-use Rattle.ct_word.specs.Value.{same_text}
-use Rattle.ct_word.specs.Condition as plain
-use Rattle.ct_word.specs.Condition.{Condition, listed}
-use Rattle.ct_query.specs.declared.schema.Heading.{Heading}
-use Rattle.ct_query.specs.Fields.{FitsFieldsOn, AreAllFittingOn}
+use Rattle.ct_word.{specs.declared.values.Term.Term, specs.Value.same_text, specs.Condition.{Condition, listed}}
+use Rattle.ct_query.{specs.declared.schema.Heading.Heading, specs.Fields.{FitsFieldsOn, AreAllFittingOn}}
 use Rattle.ct_query.specs.Fits.{IsColumnBelow, AreAllColumnsBelow, FitsRows}
-use Rattle.ct_parse.specs.declared.tree.Column.{Column}
-use Rattle.ct_parse.specs.declared.tree.Comparison.{Comparison}
-use Rattle.ct_parse.specs.declared.tree.Comparison.TheVariants as comparison
-use Rattle.ct_parse.specs.declared.tree.Condition as tree
+use Rattle.ct_parse.{specs.declared.tree.Column.Column, specs.declared.tree.Comparison.Comparison}
 use Rattle.ct_parse.specs.declared.tree.Condition.{Condition', Row_of-Conjunction, end_of-Conjunction, more_of-Conjunction}
-use Rattle.ct_parse.specs.declared.tree.Factor as factor
 use Rattle.ct_parse.specs.declared.tree.Factor.{Factor, Row_of-Factor, end_of-Factor, more_of-Factor, more_of-Condition}
-use Rattle.ct_parse.specs.declared.tree.Term as parsed
-use Rattle.ct_parse.specs.declared.tree.Term.TheVariants as written
-use Rattle.ct_resolve.specs.Found.{Found, and_then, in_front}
+use Rattle.ct_resolve.{specs.Found.{Found, and_then, in_front}, specs.Queries.columns_of, proofs.FoundParts.{and_then_has, in_front_has}}
 use Rattle.ct_resolve.specs.Names.{may_be_of, own_name, place_from, place_in, position_of, positions_from, only, column_at}
 use Rattle.ct_resolve.specs.Conditions.{term_at, compared, comparison_of, negated, and_of, or_of, all_found, any_found, factor_at, factors_at, conjunctions_at, condition_at, condition_or_true}
-use Rattle.ct_resolve.specs.Queries.{columns_of}
-use Rattle.ct_resolve.proofs.FoundParts.{and_then_has, in_front_has}
+use Rattle.ct_word.specs.declared.values.Term.TheVariants as term
+use Rattle.ct_word.specs.Condition as plain
+use Rattle.ct_parse.specs.declared.tree.Comparison.TheVariants as comparison
+use Rattle.ct_parse.specs.declared.tree.Condition as tree
+use Rattle.ct_parse.specs.declared.tree.Factor as factor
+use Rattle.ct_parse.specs.declared.tree.Term as parsed
+use Rattle.ct_parse.specs.declared.tree.Term.TheVariants as written
 
 -- how many columns the tables in scope have
 abbrev pub width_of : List Heading → ℕ

@@ -1,33 +1,22 @@
 -- What a query is resolved to fits the schema, and has a name for each of its columns.
-use Rattle.std.proofs.Common.{◌≡◌, ◌+◌, ◌<◌, ℕ, Bool, true, false, List, [], ◌∷◌, length, refl, ap, sym, subst, ◌∙◌, arith}
-use Rattle.std.proofs.lemmas.Bool.{eqb-true}
-use Rattle.std.proofs.lemmas.List.{length-append, length-map}
-use Rattle.std.proofs.lemmas.List.Elements.{All-nil, All-cons, All-map, All-weaker}
+use Rattle.std.{proofs.Common.{◌≡◌, ◌+◌, ◌<◌, ℕ, Bool, true, false, List, [], ◌∷◌, length, refl, ap, sym, subst, ◌∙◌, arith}, proofs.lemmas.Bool.eqb-true}
+use Rattle.std.{proofs.lemmas.List.{length-append, length-map}, proofs.lemmas.List.Elements.{All-nil, All-cons, All-map, All-weaker}}
 use Rattle.std.specs.Prelude.{All, map, nat_eq, Option, Some, Ok, IfOk, IsSome, is_some, if◌then◌else◌}
-use Rattle.ct_word.specs.Value.{same_text}
-use Rattle.ct_word.specs.Condition.{Condition}
-use Rattle.ct_query.specs.declared.schema.Heading.{Heading}
-use Rattle.ct_query.specs.Fits.{columns_in, count_of, width, FitsRows, Fits}
-use Rattle.ct_query.specs.Plain as plain
-use Rattle.ct_query.specs.Plain.{PlainQuery}
-use Rattle.ct_parse.specs.declared.tree.Item.{Item}
-use Rattle.ct_parse.specs.declared.tree.Items.{Items}
-use Rattle.ct_parse.specs.declared.tree.Items.TheVariants as items
+use Rattle.ct_word.{specs.Value.same_text, specs.Condition.Condition}
+use Rattle.ct_query.{specs.declared.schema.Heading.Heading, specs.Fits.{columns_in, count_of, width, FitsRows, Fits}, specs.Plain.PlainQuery}
+use Rattle.ct_parse.{specs.declared.tree.Item.Item, specs.declared.tree.Items.Items, specs.declared.tree.QueryPrimary.{QueryPrimary, more_of-Query}}
 use Rattle.ct_parse.specs.declared.tree.Query.{Query, Query', Row_of-QueryPrimary, end_of-QueryPrimary, more_of-QueryPrimary, Row_of-Query-rest-2, end_of-Query-rest-2, more_of-Query-rest-2}
-use Rattle.ct_parse.specs.declared.tree.QueryPrimary as primary
-use Rattle.ct_parse.specs.declared.tree.QueryPrimary.{QueryPrimary, more_of-Query}
-use Rattle.ct_parse.specs.declared.tree.Select.{Select}
-use Rattle.ct_parse.specs.declared.tree.SetOperator.{SetOperator}
-use Rattle.ct_parse.specs.declared.tree.SetOperator.TheVariants as operator
-use Rattle.ct_parse.specs.declared.tree.Table.{Table}
+use Rattle.ct_parse.{specs.declared.tree.Select.Select, specs.declared.tree.SetOperator.SetOperator, specs.declared.tree.Table.Table}
 use Rattle.ct_parse.specs.declared.tree.Tables.{Tables}
-use Rattle.ct_resolve.specs.declared.error.ResolveError.TheVariants as fault
-use Rattle.ct_resolve.specs.Conditions.{condition_at, all_found}
-use Rattle.ct_resolve.specs.Found.{Found, and_then, unless, each}
-use Rattle.ct_resolve.specs.Names.{table_in, are_distinct, own_name, column_at}
+use Rattle.ct_resolve.{specs.Conditions.{condition_at, all_found}, specs.Found.{Found, and_then, unless, each}}
+use Rattle.ct_resolve.{specs.Names.{table_in, are_distinct, own_name, column_at}, proofs.FoundParts.{and_then_has, unless_has, each_has}}
 use Rattle.ct_resolve.specs.Queries.{name_or, visible, table_of, tables_of, seen_table, Picked, numbered, columns_of, item_at, items_at, product_onto, product_of, Named, conditions_of, selected, select_at, operation, sides, primary_at, primaries_at, terms_at, query_at}
-use Rattle.ct_resolve.proofs.FoundParts.{and_then_has, unless_has, each_has}
 use Rattle.ct_resolve.proofs.FittingConditions.{width_of, column_below, all_found_fits, condition_fits}
+use Rattle.ct_query.specs.Plain as plain
+use Rattle.ct_parse.specs.declared.tree.Items.TheVariants as items
+use Rattle.ct_parse.specs.declared.tree.QueryPrimary as primary
+use Rattle.ct_parse.specs.declared.tree.SetOperator.TheVariants as operator
+use Rattle.ct_resolve.specs.declared.error.ResolveError.TheVariants as fault
 
 -- a table that is found has its columns in the schema
 found_first : (b : Bool) (h : Heading) (r : Found Heading) (o : Option (List (List ℕ))) → IfOk r (λ x. o ≡ Some x.columns)

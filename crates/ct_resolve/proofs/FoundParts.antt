@@ -1,9 +1,7 @@
 -- What holds of what is found, by what holds of its parts.
-use Rattle.std.proofs.Common.{◌≡◌, Bool, true, false, List, [], ◌∷◌, refl}
-use Rattle.std.proofs.lemmas.List.Elements.{All-nil, All-cons}
+use Rattle.std.{proofs.Common.{◌≡◌, Bool, true, false, List, [], ◌∷◌, refl}, proofs.lemmas.List.Elements.{All-nil, All-cons}}
 use Rattle.std.specs.Prelude.{All, Ok, Err, IfOk}
-use Rattle.ct_resolve.specs.declared.error.ResolveError.{ResolveError}
-use Rattle.ct_resolve.specs.Found.{Found, and_then, unless, in_front, each}
+use Rattle.ct_resolve.{specs.declared.error.ResolveError.ResolveError, specs.Found.{Found, and_then, unless, in_front, each}}
 
 module _ {A B : Type 0} (P : A → Type 0) (Q : B → Type 0) where
   pub and_then_has : (m : Found A) (f : A → Found B) → IfOk m P → ((a : A) → P a → IfOk (f a) Q) → IfOk (and_then m f) Q

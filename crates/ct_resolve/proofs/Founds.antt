@@ -1,10 +1,8 @@
 -- Items that are found one after another.
-use Rattle.std.proofs.lemmas.List.{drop_more}
+use Rattle.std.{proofs.lemmas.List.drop_more, specs.Prelude.{Result, Ok, Err, IfErr, IsErrAnd}}
 use Rattle.std.proofs.Common.{◌≡◌, ◌≢◌, ◌+◌, ◌<◌, ℕ, length, drop, slice_index_or, List, [], ◌∷◌, ◌++◌, refl, ap, sym, ◌∙◌, subst}
-use Rattle.std.specs.Prelude.{Result, Ok, Err, IfErr, IsErrAnd}
-use Rattle.ct_resolve.specs.declared.error.ResolveError.{ResolveError}
+use Rattle.ct_resolve.{specs.declared.error.ResolveError.ResolveError, specs.Found.{Found, and_then, in_front, each}}
 use Rattle.ct_resolve.specs.declared.error.ResolveError.TheVariants as fault
-use Rattle.ct_resolve.specs.Found.{Found, and_then, in_front, each}
 
 -- these are found already
 abbrev pub behind : {A : Type 0} → List A → Found (List A) → Found (List A)

@@ -1,34 +1,21 @@
 -- What is resolved is resolved to the same where further tables come behind the others.
-use Rattle.std.proofs.Common.{◌≡◌, ℕ, ◌+◌, Bool, true, false, List, [], ◌∷◌, ◌++◌, map, length, refl, ap, sym, subst, ◌∙◌}
-use Rattle.std.specs.Prelude.{Some, None, Ok, Err, not, nat_eq, filter_map, ◌||◌, if◌then◌else◌}
-use Rattle.std.specs.List.{list_all}
-use Rattle.std.proofs.lemmas.List.{append-nil}
-use Rattle.std.proofs.lemmas.List.Elements.{filter_map-append}
-use Rattle.std.proofs.lemmas.Grind.{flat_map-append}
-use Rattle.ct_word.specs.Value.{same_text}
-use Rattle.ct_word.specs.Change.{PlainCommit}
-use Rattle.ct_query.specs.declared.schema.Heading.{Heading}
-use Rattle.ct_query.specs.declared.schema.Schema.{Schema}
-use Rattle.ct_query.specs.Fits.{columns_in}
-use Rattle.ct_query.specs.declared.action.Ask.TheVariants as ask
-use Rattle.ct_query.specs.Plain as plain
-use Rattle.ct_query.specs.Plain.{PlainAction, PlainStatement}
-use Rattle.ct_query.specs.Schema.{schema, created_by_change}
-use Rattle.ct_query.specs.Worlds.{changes_of}
-use Rattle.ct_parse.specs.declared.tree.Statement.{Statement}
-use Rattle.ct_parse.specs.declared.tree.Statement.TheVariants as statement
-use Rattle.ct_parse.specs.declared.tree.Table.{Table}
-use Rattle.ct_parse.specs.declared.tree.Select.{Select}
-use Rattle.ct_parse.specs.declared.tree.QueryPrimary as primary
+use Rattle.std.{proofs.Common.{◌≡◌, ℕ, ◌+◌, Bool, true, false, List, [], ◌∷◌, ◌++◌, map, length, refl, ap, sym, subst, ◌∙◌}, specs.List.list_all}
+use Rattle.std.{specs.Prelude.{Some, None, Ok, Err, not, nat_eq, filter_map, ◌||◌, if◌then◌else◌}, proofs.lemmas.List.append-nil}
+use Rattle.std.{proofs.lemmas.List.Elements.filter_map-append, proofs.lemmas.Grind.flat_map-append}
+use Rattle.ct_word.{specs.Value.same_text, specs.Change.PlainCommit}
+use Rattle.ct_query.{specs.declared.schema.Heading.Heading, specs.declared.schema.Schema.Schema, specs.Fits.columns_in, specs.Worlds.changes_of}
+use Rattle.ct_query.{specs.Plain.{PlainAction, PlainStatement}, specs.Schema.{schema, created_by_change}}
+use Rattle.ct_parse.{specs.declared.tree.Statement.Statement, specs.declared.tree.Table.Table, specs.declared.tree.Select.Select}
 use Rattle.ct_parse.specs.declared.tree.QueryPrimary.{QueryPrimary, more_of-Query}
 use Rattle.ct_parse.specs.declared.tree.Query.{Query, Query', Row_of-QueryPrimary, end_of-QueryPrimary, more_of-QueryPrimary, Row_of-Query-rest-2, end_of-Query-rest-2, more_of-Query-rest-2}
-use Rattle.ct_resolve.specs.declared.error.ResolveError.{ResolveError}
-use Rattle.ct_resolve.specs.declared.error.ResolveError.TheVariants as fault
-use Rattle.ct_resolve.specs.Found.{Found, and_then, unless, each}
-use Rattle.ct_resolve.specs.Names.{table_in, is_table, are_distinct}
-use Rattle.ct_resolve.specs.Conditions.{condition_or_true}
-use Rattle.ct_resolve.specs.Queries.{Named, visible, tables_of, seen_table, selected, select_at, sides, operation, primary_at, primaries_at, terms_at, query_at}
+use Rattle.ct_resolve.{specs.Found.{Found, and_then, unless, each}, specs.Conditions.condition_or_true, specs.Names.{table_in, is_table, are_distinct}}
 use Rattle.ct_resolve.specs.Statements.{resolved, row_terms, cells_of}
+use Rattle.ct_resolve.specs.Queries.{Named, visible, tables_of, seen_table, selected, select_at, sides, operation, primary_at, primaries_at, terms_at, query_at}
+use Rattle.ct_query.specs.declared.action.Ask.TheVariants as ask
+use Rattle.ct_query.specs.Plain as plain
+use Rattle.ct_parse.specs.declared.tree.Statement.TheVariants as statement
+use Rattle.ct_parse.specs.declared.tree.QueryPrimary as primary
+use Rattle.ct_resolve.specs.declared.error.ResolveError.TheVariants as fault
 
 -- what is found first is found the second time too
 abbrev Follows : {A : Type 0} → Found A → Found A → Type 0
@@ -42,10 +29,6 @@ follows_same (Err e) = tt
 follows_then : {A B : Type 0} (r r' : Found A) (f f' : A → Found B) → Follows r r' → ((a : A) → Follows (f a) (f' a)) → Follows (and_then r f) (and_then r' f')
 follows_then (Ok a) r' f f' p q = subst (λ s. Follows (f a) (and_then s f')) (sym p) (q a)
 follows_then (Err e) r' f f' p q = tt
-
-follows_unless : {A : Type 0} (b : Bool) (e : ResolveError) (r r' : Found A) → Follows r r' → Follows (unless b e r) (unless b e r')
-follows_unless true e r r' p = p
-follows_unless false e r r' p = tt
 
 follows_each : {A B : Type 0} (f f' : A → Found B) → ((x : A) → Follows (f x) (f' x)) → (xs : List A) → Follows (each f xs) (each f' xs)
 follows_each f f' p [] = refl

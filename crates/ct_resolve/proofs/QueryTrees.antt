@@ -1,15 +1,11 @@
 -- What is said of the rows of a query's tree, said of its lists.
-use Rattle.std.proofs.Common.{◌≡◌, List, [], ◌∷◌, refl, ap, sym, ◌∙◌}
-use Rattle.std.specs.Prelude.{Ok, Err}
+use Rattle.std.{proofs.Common.{◌≡◌, List, [], ◌∷◌, refl, ap, sym, ◌∙◌}, specs.Prelude.{Ok, Err}}
 use Rattle.ct_query.specs.declared.schema.Heading.{Heading}
-use Rattle.ct_parse.specs.declared.tree.SetOperator.{SetOperator}
-use Rattle.ct_parse.specs.declared.tree.QueryPrimary as primary
-use Rattle.ct_parse.specs.declared.tree.QueryPrimary.{QueryPrimary}
-use Rattle.ct_parse.specs.declared.tree.QueryTerm.{QueryTerm}
+use Rattle.ct_parse.{specs.declared.tree.SetOperator.SetOperator, specs.declared.tree.QueryPrimary.QueryPrimary, specs.declared.tree.QueryTerm.QueryTerm}
 use Rattle.ct_parse.specs.declared.tree.Query.{Query, Query', out-Query, outs-Query', Row_of-QueryPrimary, end_of-QueryPrimary, more_of-QueryPrimary, Row_of-Query-rest-2, end_of-Query-rest-2, more_of-Query-rest-2, items-the_row-QueryPrimary, items_shown-the_row-QueryPrimary-1, items-the_row-Query-rest-2, items_shown-the_row-Query-rest-2-2}
-use Rattle.ct_resolve.specs.declared.error.ResolveError.{ResolveError}
-use Rattle.ct_resolve.specs.Found.{Found, and_then}
+use Rattle.ct_resolve.{specs.declared.error.ResolveError.ResolveError, specs.Found.{Found, and_then}}
 use Rattle.ct_resolve.specs.Queries.{Named, sides, operation, primary_at, primaries_at, terms_at, query_at, with_primary, with_primaries, term_at, with_term, with_terms}
+use Rattle.ct_parse.specs.declared.tree.QueryPrimary as primary
 
 -- a refusal stays
 pub primaries_refused : (schema : List Heading) (e : ResolveError) (ps : List QueryPrimary) → with_primaries schema (Err e) ps ≡ Err e

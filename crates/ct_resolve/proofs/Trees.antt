@@ -1,18 +1,13 @@
 -- What is said of the rows of a tree, said of its lists.
-use Rattle.std.proofs.Common.{◌≡◌, ◌<◌, List, [], ◌∷◌, refl, ap, sym, ◌∙◌, map, length, arith}
-use Rattle.ct_query.specs.declared.schema.Heading.{Heading}
-use Rattle.ct_query.specs.declared.query.Pred as pred
-use Rattle.ct_query.specs.declared.query.Pred.{Pred}
-use Rattle.ct_query.specs.Pred.{condition_of}
-use Rattle.ct_query.proofs.Trees.{and_is, or_is}
-use Rattle.ct_parse.specs.declared.tree.Factor as factor
+use Rattle.std.{proofs.Common.{◌≡◌, ◌<◌, List, [], ◌∷◌, refl, ap, sym, ◌∙◌, map, length, arith}, specs.Prelude.Err}
+use Rattle.ct_query.{specs.declared.schema.Heading.Heading, specs.declared.query.Pred.Pred, specs.Pred.condition_of, proofs.Trees.{and_is, or_is}}
 use Rattle.ct_parse.specs.declared.tree.Factor.{Factor, Row_of-Factor, end_of-Factor, more_of-Factor, items-the_row-Factor, items_shown-the_row-Factor-2}
-use Rattle.ct_parse.specs.declared.tree.Condition as tree
 use Rattle.ct_parse.specs.declared.tree.Condition.{Condition', Row_of-Conjunction, end_of-Conjunction, more_of-Conjunction, items-the_row-Conjunction, out-Condition, items_shown-the_row-Conjunction-3, outs-Condition'}
-use Rattle.std.specs.Prelude.{Err}
-use Rattle.ct_resolve.specs.declared.error.ResolveError.{ResolveError}
-use Rattle.ct_resolve.specs.Found.{in_front, each}
+use Rattle.ct_resolve.{specs.declared.error.ResolveError.ResolveError, specs.Found.{in_front, each}}
 use Rattle.ct_resolve.specs.Conditions.{negated, and_of, or_of, all_found, any_found, factor_at, factors_at, conjunctions_at, conjunction_at, condition_at}
+use Rattle.ct_query.specs.declared.query.Pred as pred
+use Rattle.ct_parse.specs.declared.tree.Factor as factor
+use Rattle.ct_parse.specs.declared.tree.Condition as tree
 
 -- a run of two or more is one node
 pub and_long : (cs : List Pred) → 1 < length cs → condition_of (pred.And cs) ≡ and_of (map condition_of cs)

@@ -1,33 +1,19 @@
 -- What a statement that is spelled by lexemes as a text writes them is resolved to can be written.
-use Rattle.std.proofs.Common.{◌≡◌, ◌+◌, ℕ, not, List, [], ◌∷◌, length, refl}
-use Rattle.std.proofs.lemmas.List.Elements.{All-nil, All-cons, All-head, All-tail}
-use Rattle.std.proofs.lemmas.Result.{IfOk-at_ok}
-use Rattle.std.specs.List.{list_all}
-use Rattle.std.specs.Prelude.{All, nat_eq, Ok, Option, Some, None, IfOk}
-use Rattle.ct_query.specs.declared.action.Ask.{Ask}
-use Rattle.ct_query.specs.declared.action.Ask.TheVariants as ask
-use Rattle.ct_query.specs.declared.schema.Heading.{Heading}
-use Rattle.ct_query.specs.declared.schema.Schema.{Schema}
-use Rattle.ct_query.specs.Plain as plain
-use Rattle.ct_query.specs.Plain.{PlainStatement}
-use Rattle.ct_lex.specs.declared.token.Lexeme.{Lexeme}
-use Rattle.ct_lex.specs.Written.{AreWritten}
-use Rattle.ct_parse.specs.declared.tree.Cell.{Cell}
-use Rattle.ct_parse.specs.declared.tree.Condition as tree
-use Rattle.ct_parse.specs.declared.tree.Query.{Query}
-use Rattle.ct_parse.specs.declared.tree.Row.{Row}
-use Rattle.ct_parse.specs.declared.tree.Statement.{Statement}
+use Rattle.std.{proofs.Common.{◌≡◌, ◌+◌, ℕ, not, List, [], ◌∷◌, length, refl}, proofs.lemmas.List.Elements.{All-nil, All-cons, All-head, All-tail}}
+use Rattle.std.{proofs.lemmas.Result.IfOk-at_ok, specs.List.list_all, specs.Prelude.{All, nat_eq, Ok, Option, Some, None, IfOk}}
+use Rattle.ct_query.{specs.declared.action.Ask.Ask, specs.declared.schema.Heading.Heading, specs.declared.schema.Schema.Schema, specs.Plain.PlainStatement}
+use Rattle.ct_lex.{specs.declared.token.Lexeme.Lexeme, specs.Written.AreWritten}
+use Rattle.ct_parse.{specs.declared.tree.Cell.Cell, specs.declared.tree.Query.Query, specs.declared.tree.Row.Row, specs.declared.tree.Statement.Statement}
 use Rattle.ct_parse.specs.Grammar.{IsCell, number_cell, text_cell, null_cell, new_null, IsRow, row, IsQuery, IsStatement, create, insert_rows, insert_query, delete, assert, rows, possible, certain, begin, commit, rollback}
-use Rattle.ct_resolve.specs.declared.error.ResolveError.TheVariants as fault
-use Rattle.ct_resolve.specs.Conditions.{condition_at, condition_or_true}
-use Rattle.ct_resolve.specs.Found.{Found, and_then, unless}
-use Rattle.ct_resolve.specs.Names.{table_in, is_table, are_distinct}
-use Rattle.ct_resolve.specs.Queries.{Named, query_at, where_of}
+use Rattle.ct_resolve.{specs.Conditions.{condition_at, condition_or_true}, specs.Found.{Found, and_then, unless}, specs.Queries.{Named, query_at, where_of}}
+use Rattle.ct_resolve.{specs.Names.{table_in, is_table, are_distinct}, specs.Writing.{IsNamed, WritesTerm, Writes, WritesStatement, NamesColumns}}
 use Rattle.ct_resolve.specs.Statements.{cell_term, next_after, next_after_all, cell_terms, cells_of, row_terms, resolved}
-use Rattle.ct_resolve.specs.Writing.{IsNamed, WritesTerm, Writes, WritesStatement, NamesColumns}
-use Rattle.ct_resolve.proofs.FoundParts.{and_then_has, unless_has}
-use Rattle.ct_resolve.proofs.WritingConditions.{any_found_at_all, name_writes, Good, good}
+use Rattle.ct_resolve.{proofs.FoundParts.{and_then_has, unless_has}, proofs.WritingConditions.{any_found_at_all, name_writes, Good, good}}
 use Rattle.ct_resolve.proofs.WritingQueries.{more_write, closed_write, behind_writes, WritesNamed, query_writes}
+use Rattle.ct_query.specs.declared.action.Ask.TheVariants as ask
+use Rattle.ct_query.specs.Plain as plain
+use Rattle.ct_parse.specs.declared.tree.Condition as tree
+use Rattle.ct_resolve.specs.declared.error.ResolveError.TheVariants as fault
 
 -- cells and rows
 abbrev WritesCell : Cell → Type 0

@@ -1,30 +1,21 @@
 -- What a condition that is spelled by lexemes as a text writes them is resolved to can be written.
-use Rattle.std.proofs.Common.{◌≡◌, ℕ, Bool, true, ◌&&◌, List, [], ◌∷◌, refl, ap, sym, subst, ◌∙◌}
-use Rattle.std.proofs.lemmas.List.Elements.{All-nil, All-head, All-tail}
+use Rattle.std.{proofs.Common.{◌≡◌, ℕ, Bool, true, ◌&&◌, List, [], ◌∷◌, refl, ap, sym, subst, ◌∙◌}, proofs.lemmas.List.Elements.{All-nil, All-head, All-tail}}
 use Rattle.std.specs.Prelude.{All, Ok, Err, IfOk}
-use Rattle.ct_word.specs.declared.values.Term.{Term}
-use Rattle.ct_word.specs.declared.values.Term.TheVariants as term
-use Rattle.ct_word.specs.Condition as plain
-use Rattle.ct_word.specs.Condition.{Condition, listed}
+use Rattle.ct_word.{specs.declared.values.Term.Term, specs.Condition.{Condition, listed}}
 use Rattle.ct_word.specs.Writable.{is_writable_term, is_writable_condition, are_writable_conditions}
 use Rattle.ct_query.specs.declared.schema.Heading.{Heading}
-use Rattle.ct_lex.specs.declared.token.Lexeme.{Lexeme}
-use Rattle.ct_lex.specs.Written.{AreWritten}
-use Rattle.ct_parse.specs.declared.tree.Column.{Column}
-use Rattle.ct_parse.specs.declared.tree.Comparison.{Comparison}
+use Rattle.ct_lex.{specs.declared.token.Lexeme.Lexeme, specs.Written.AreWritten}
+use Rattle.ct_parse.{specs.declared.tree.Column.Column, specs.declared.tree.Comparison.Comparison, specs.declared.tree.Conjunction.Conjunction}
+use Rattle.ct_parse.{specs.declared.tree.Condition.out-roll-Condition, specs.declared.tree.Factor.Factor}
+use Rattle.ct_parse.specs.Grammar.{IsName, name, IsColumn, plain as plain_column, qualified, IsTerm, number_term, text_term, null_term, column_term, IsComparison, equal, unequal, condition_of, IsFactor, negated as not_factor, nested, true_factor, false_factor, compared as compared_terms, AreFactors, no_factor, and_factor, IsConjunction, conjunction, AreConjunctions, no_conjunction, or_conjunction, IsCondition, condition}
+use Rattle.ct_resolve.{specs.Found.{Found, and_then, in_front, each}, specs.Names.{own_name, column_at}, specs.Writing.{IsNamed, WritesTerm, Writes}}
+use Rattle.ct_resolve.specs.Conditions.{term_at, compared, comparison_of, and_of, or_of, all_found, any_found, factor_at, conjunction_at, condition_at}
+use Rattle.ct_resolve.{proofs.FoundParts.{and_then_has, in_front_has}, proofs.Trees.{not_is, nested_is, condition_is}}
+use Rattle.ct_word.specs.declared.values.Term.TheVariants as term
+use Rattle.ct_word.specs.Condition as plain
 use Rattle.ct_parse.specs.declared.tree.Comparison.TheVariants as comparison
 use Rattle.ct_parse.specs.declared.tree.Condition as tree
-use Rattle.ct_parse.specs.declared.tree.Condition.{out-Condition, out-roll-Condition}
-use Rattle.ct_parse.specs.declared.tree.Conjunction.{Conjunction}
-use Rattle.ct_parse.specs.declared.tree.Factor.{Factor}
 use Rattle.ct_parse.specs.declared.tree.Term as parsed
-use Rattle.ct_parse.specs.Grammar.{IsName, name, IsColumn, plain as plain_column, qualified, IsTerm, number_term, text_term, null_term, column_term, IsComparison, equal, unequal, condition_of, IsFactor, negated as not_factor, nested, true_factor, false_factor, compared as compared_terms, AreFactors, no_factor, and_factor, IsConjunction, conjunction, AreConjunctions, no_conjunction, or_conjunction, IsCondition, condition}
-use Rattle.ct_resolve.specs.Found.{Found, and_then, in_front, each}
-use Rattle.ct_resolve.specs.Names.{own_name, column_at}
-use Rattle.ct_resolve.specs.Conditions.{term_at, compared, comparison_of, and_of, or_of, all_found, any_found, factor_at, conjunction_at, condition_at}
-use Rattle.ct_resolve.specs.Writing.{IsNamed, WritesTerm, Writes}
-use Rattle.ct_resolve.proofs.FoundParts.{and_then_has, in_front_has}
-use Rattle.ct_resolve.proofs.Trees.{not_is, nested_is, condition_is}
 
 both : (a b : Bool) → a ≡ true → b ≡ true → (a && b) ≡ true
 both a b p q = rw (p, q)

@@ -2,37 +2,24 @@
 use Rattle.std.proofs.Common.{◌+◌, ℕ, Bool, true, false, List, [], ◌∷◌, map, length, ap, sym, subst, ◌∙◌}
 use Rattle.std.proofs.lemmas.List.Elements.{All-nil, All-cons, All-head, All-tail, All-append, All-map}
 use Rattle.std.specs.Prelude.{All, Ok, Err, Option, IfOk, nat_eq, if◌then◌else◌}
-use Rattle.ct_word.specs.Value.{same_text}
-use Rattle.ct_word.specs.Condition.{Condition}
-use Rattle.ct_query.specs.declared.schema.Heading.{Heading}
-use Rattle.ct_query.specs.Plain as plain
-use Rattle.ct_query.specs.Plain.{PlainQuery}
-use Rattle.ct_lex.specs.declared.token.Lexeme.{Lexeme}
-use Rattle.ct_lex.specs.Written.{AreWritten}
-use Rattle.ct_parse.specs.declared.tree.Alias.{Alias}
-use Rattle.ct_parse.specs.declared.tree.Condition as tree
-use Rattle.ct_parse.specs.declared.tree.Item.{Item}
-use Rattle.ct_parse.specs.declared.tree.Items.{Items}
-use Rattle.ct_parse.specs.declared.tree.Items.TheVariants as items
-use Rattle.ct_parse.specs.declared.tree.Joined.{Joined}
-use Rattle.ct_parse.specs.declared.tree.Table.{Table}
-use Rattle.ct_parse.specs.declared.tree.Tables.{Tables}
-use Rattle.ct_parse.specs.declared.tree.Select.{Select}
-use Rattle.ct_parse.specs.declared.tree.SetOperator.{SetOperator}
-use Rattle.ct_parse.specs.declared.tree.SetOperator.TheVariants as operator
-use Rattle.ct_parse.specs.declared.tree.QueryPrimary.{QueryPrimary}
-use Rattle.ct_parse.specs.declared.tree.QueryTerm.{QueryTerm}
+use Rattle.ct_word.{specs.Value.same_text, specs.Condition.Condition}
+use Rattle.ct_query.{specs.declared.schema.Heading.Heading, specs.Plain.PlainQuery}
+use Rattle.ct_lex.{specs.declared.token.Lexeme.Lexeme, specs.Written.AreWritten}
+use Rattle.ct_parse.{specs.declared.tree.Alias.Alias, specs.declared.tree.Item.Item, specs.declared.tree.Items.Items, specs.declared.tree.Joined.Joined}
+use Rattle.ct_parse.{specs.declared.tree.Table.Table, specs.declared.tree.Tables.Tables, specs.declared.tree.Select.Select}
+use Rattle.ct_parse.{specs.declared.tree.SetOperator.SetOperator, specs.declared.tree.QueryPrimary.QueryPrimary, specs.declared.tree.QueryTerm.QueryTerm}
 use Rattle.ct_parse.specs.declared.tree.Query.{Query, out-roll-Query}
 use Rattle.ct_parse.specs.Grammar.{AreMore, no_more, one_more, IsClosed, closed, HasCondition, no_condition, a_condition, no_name, as_name, IsItem, item, AreItems, star, listed, bare_alias, HasAlias, no_alias, alias, as_alias, IsTable, table, IsTableOn, table_on, IsJoined, comma, join, inner_join, AreJoined, none_joined, more_joined, AreTables, tables, IsDistinct, not_distinct, distinct, IsSelect, select, IsSetOperator, union, except, query_of, IsPrimary, nested_query, select_query, ArePrimaries, no_primary, intersect, IsQueryTerm, query_term, AreTerms, no_term, combined, IsQuery, query}
-use Rattle.ct_resolve.specs.declared.error.ResolveError.TheVariants as fault
-use Rattle.ct_resolve.specs.Found.{Found, and_then, unless, each}
-use Rattle.ct_resolve.specs.Names.{table_in, are_distinct, own_name, column_at}
-use Rattle.ct_resolve.specs.Conditions.{condition_at, all_found}
+use Rattle.ct_resolve.{specs.Found.{Found, and_then, unless, each}, specs.Names.{table_in, are_distinct, own_name, column_at}}
+use Rattle.ct_resolve.{specs.Conditions.{condition_at, all_found}, specs.Writing.{IsNamed, HasNames, Writes, WritesQuery}}
 use Rattle.ct_resolve.specs.Queries.{name_or, visible, table_of, on_of, tables_of, ons_of, where_of, seen_table, Picked, numbered, columns_of, item_at, items_at, product_onto, product_of, Named, conditions_of, selected, select_at, operation, sides, primary_at, query_at, with_primary, with_primaries, term_at, with_term, with_terms}
-use Rattle.ct_resolve.specs.Writing.{IsNamed, HasNames, Writes, WritesQuery}
-use Rattle.ct_resolve.proofs.FoundParts.{and_then_has, unless_has, in_front_has}
-use Rattle.ct_resolve.proofs.QueryTrees.{nested_is, query_is}
+use Rattle.ct_resolve.{proofs.FoundParts.{and_then_has, unless_has, in_front_has}, proofs.QueryTrees.{nested_is, query_is}}
 use Rattle.ct_resolve.proofs.WritingConditions.{any_found_at_all, name_writes, column_writes, all_found_writes, Good, good, each_good}
+use Rattle.ct_query.specs.Plain as plain
+use Rattle.ct_parse.specs.declared.tree.Condition as tree
+use Rattle.ct_parse.specs.declared.tree.Items.TheVariants as items
+use Rattle.ct_parse.specs.declared.tree.SetOperator.TheVariants as operator
+use Rattle.ct_resolve.specs.declared.error.ResolveError.TheVariants as fault
 
 -- each behind a comma, and in parentheses
 module _ {T : Type 0} {X : List Lexeme → T → List Lexeme → Type 0} (P : T → Type 0) (one : (ws r : List Lexeme) (x : T) → X ws x r → AreWritten ws → P x × AreWritten r) where

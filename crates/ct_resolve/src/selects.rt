@@ -3,8 +3,9 @@
 ghost use Rattle.std.specs.Prelude.{◌≡◌, ◌≢◌, map, IfOk, IfErr, Ok, Err};
 ghost use Rattle.ct_query.specs.Plain as plain;
 ghost use Rattle.ct_query.specs.Pred.{condition_of};
-ghost use Rattle.ct_resolve.specs.Found.{each};
-ghost use Rattle.ct_resolve.specs.Conditions.{condition_at};
+ghost use Rattle.ct_query.specs.Views.{query_of};
+ghost use Rattle.ct_resolve.specs.Found.{each, and_then};
+ghost use Rattle.ct_resolve.specs.Conditions.{all_found, condition_at};
 ghost use Rattle.ct_resolve.specs.Queries as spec;
 ghost use Rattle.ct_resolve.specs.Views.{named_of};
 ghost use Rattle.ct_resolve.specs.declared.error.ResolveError.TheVariants as fault;
@@ -12,7 +13,7 @@ ghost use Rattle.ct_resolve.specs.declared.error.ResolveError.TheVariants as fau
 use crate::conditions::{all_of, condition};
 use crate::error::ResolveError;
 use crate::rows::are_distinct;
-use crate::tables::{picked, product, scope_of, visible_names};
+use crate::tables::{boxed, picked, product, scope_of, visible_names};
 use ct_parse::{Joined, Select, SetOperator};
 use ct_query::{Heading, Pred, Query};
 use ct_word::{List, Text};
@@ -64,6 +65,19 @@ fn conditions(alloc: Global, scope: &[Heading], select: &Select) -> Result<Vec<P
     Ok(found)
 }
 
+/// The rows of the tables of a SELECT that its conditions hold on.
+///
+/// # Errors
+/// The first refusal of the conditions; `Memory` where there is none for the query.
+fn selection(alloc: Global, scope: &[Heading], select: &Select) -> Result<Query, ResolveError>
+    ensures ok { IfOk result (λ q. and_then (all_found (each (condition_at scope.now) (spec.conditions_of select.now))) (λ c. Ok (plain.Select c (spec.product_of select.now.tables))) ≡ Ok (query_of q)) }
+    ensures err { IfErr result (λ e. e ≢ fault.Memory → and_then (all_found (each (condition_at scope.now) (spec.conditions_of select.now))) (λ c. Ok (plain.Select c (spec.product_of select.now.tables))) ≡ Err e) }
+{
+    let pred = all_of(conditions(alloc, scope, select)?);
+    let product = product(alloc, &select.tables)?;
+    Ok(Query::Select(pred, Box::new(alloc, product)?))
+}
+
 /// A SELECT whose tables are in scope.
 ///
 /// # Errors
@@ -74,13 +88,11 @@ fn selected(alloc: Global, scope: &[Heading], select: &Select) -> Result<Named, 
     ensures err { IfErr result (λ e. e ≢ fault.Memory → spec.selected scope.now select.now ≡ Err e) }
 {
     let picked = picked(alloc, scope, &select.items)?;
-    let pred = all_of(conditions(alloc, scope, select)?);
+    let selection = Box::new(alloc, selection(alloc, scope, select)?)?;
     let (positions, columns) = unzipped(alloc, picked.as_slice())?;
-    let product = product(alloc, &select.tables)?;
-    let selection = Query::Select(pred, Box::new(alloc, product)?);
     Ok(Named {
         columns,
-        query: Query::Project(positions, Box::new(alloc, selection)?),
+        query: Query::Project(positions, selection),
     })
 }
 
@@ -114,10 +126,10 @@ pub fn intersection(alloc: Global, left: Named, right: Named) -> Result<Named, R
     if left.columns.len() != right.columns.len() {
         return Err(ResolveError::ColumnCount);
     }
-    let query = Query::Intersect(Box::new(alloc, left.query)?, Box::new(alloc, right.query)?);
+    let (first, second) = boxed(alloc, left.query, right.query)?;
     Ok(Named {
         columns: left.columns,
-        query,
+        query: Query::Intersect(first, second),
     })
 }
 
@@ -138,8 +150,7 @@ pub fn combination(
     if left.columns.len() != right.columns.len() {
         return Err(ResolveError::ColumnCount);
     }
-    let first = Box::new(alloc, left.query)?;
-    let second = Box::new(alloc, right.query)?;
+    let (first, second) = boxed(alloc, left.query, right.query)?;
     let query = match operator {
         SetOperator::Union => Query::Union(first, second),
         SetOperator::Except => Query::Except(first, second),

@@ -15,6 +15,7 @@ use crate::error::ResolveError;
 use crate::names::{is_named, table_named};
 use crate::queries::query;
 use crate::rows::{all_fit, are_distinct, listed, terms_of_rows};
+use crate::selects::Named;
 use ct_parse::{Condition, Query, Row};
 use ct_query::{Action, Heading, Pred, Schema};
 use ct_word::{List, Text};
@@ -149,12 +150,13 @@ pub fn insert_query(
     ensures err { IfErr result (λ e. e ≢ fault.Memory → resolved schema.now 0 0 (tree.InsertQuery name.now written.now) ≡ Err e) }
 {
     let heading = table_named(schema.tables.as_slice(), name.as_str())?;
-    let found = query(alloc, schema.tables.as_slice(), written)?;
-    if found.columns.len() != heading.columns.len() {
+    let Named { columns, query } = query(alloc, schema.tables.as_slice(), written)?;
+    if columns.len() != heading.columns.len() {
         return Err(ResolveError::ColumnCount);
     }
+    drop(columns);
     Ok(Action::InsertQuery {
         name: name.clone()?,
-        query: found.query,
+        query,
     })
 }

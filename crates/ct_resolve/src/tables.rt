@@ -1,6 +1,6 @@
 // The tables of a FROM, and what a SELECT picks of their columns.
 
-ghost use Rattle.std.specs.Prelude.{◌≡◌, ◌≢◌, ◌+◌, ◌++◌, ◌∷◌, map, length, IfOk, IfErr, OnOk, Ok, Err};
+ghost use Rattle.std.specs.Prelude.{◌≡◌, ◌≢◌, ◌+◌, ◌++◌, ◌∷◌, map, length, IfOk, IfErr, OnOk, Ok, Err, box_value};
 ghost use Rattle.ct_query.specs.Views.{query_of};
 ghost use Rattle.ct_resolve.specs.Found.{each};
 ghost use Rattle.ct_resolve.specs.Names as naming;
@@ -12,7 +12,7 @@ use crate::names::{column_position, further, table_named};
 use ct_parse::{Column, Item, Items, Joined, Table, Tables};
 use ct_query::{Heading, Query};
 use ct_word::Text;
-use std::alloc::Global;
+use std::alloc::{AllocError, Global};
 
 /// The name under which a table is seen: its alias, or else its own.
 fn visible_name(table: &Table) -> &Text
@@ -95,6 +95,18 @@ pub fn visible_names(alloc: Global, tables: &Tables) -> Result<Vec<Text>, Resolv
     Ok(names)
 }
 
+/// Two queries, each in a box.
+pub fn boxed(
+    alloc: Global,
+    left: Query,
+    right: Query,
+) -> Result<(Box<Query>, Box<Query>), AllocError>
+    ensures { IfOk result (λ b. (box_value b.0 ≡ left) × (box_value b.1 ≡ right)) }
+{
+    let first = Box::new(alloc, left)?;
+    Ok((first, Box::new(alloc, right)?))
+}
+
 /// The product of the tables of a FROM, taken from the left.
 ///
 /// # Errors
@@ -106,7 +118,8 @@ pub fn product(alloc: Global, tables: &Tables) -> Result<Query, ResolveError>
     let mut query = Query::Table(tables.first.name.clone()?);
     for joined in tables.rest.as_slice() {
         let right = Query::Table(table_of(joined).name.clone()?);
-        query = Query::Product(Box::new(alloc, query)?, Box::new(alloc, right)?);
+        let (first, second) = boxed(alloc, query, right)?;
+        query = Query::Product(first, second);
     }
     Ok(query)
 }

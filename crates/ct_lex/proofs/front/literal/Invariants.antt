@@ -1,6 +1,4 @@
-use Rattle.std.proofs.Common.{◌≡◌, ◌∷◌, ◌-◌, length, take}
-use Rattle.std.specs.Prelude.{string_bytes}
-use Rattle.std.specs.Str.{IsCharBoundary}
+use Rattle.std.{proofs.Common.{◌≡◌, ◌∷◌, ◌-◌, length, take}, specs.Prelude.string_bytes, specs.Str.IsCharBoundary}
 use Rattle.ct_lex.specs.Spelling.{doubled}
 use Rattle.ct_lex.proofs.front.literal.Given as goal
 

@@ -1,14 +1,8 @@
-use Rattle.std.proofs.Common.{◌≢◌, ◌≤◌, IfErr, [], length, drop, Some, None, refl, subst, arith, append_assoc}
-use Rattle.std.proofs.lemmas.List.{append-nil}
-use Rattle.std.proofs.lemmas.Result.{err_from_is_err_and}
-use Rattle.std.proofs.lemmas.Str.{IsCharBoundary-start, IsCharBoundary-from_rest}
-use Rattle.ct_lex.specs.declared.token.LexError.{LexError}
+use Rattle.std.{proofs.Common.{◌≢◌, ◌≤◌, IfErr, [], length, drop, Some, None, refl, subst, arith, append_assoc}, proofs.lemmas.List.append-nil}
+use Rattle.std.{proofs.lemmas.Result.err_from_is_err_and, proofs.lemmas.Str.{IsCharBoundary-start, IsCharBoundary-from_rest}}
+use Rattle.ct_lex.{specs.declared.token.LexError.LexError, specs.Scan.IsFront, specs.Tokens.{Lexes, FaultsAt, here}, proofs.Written.tokens_written}
+use Rattle.ct_lex.{proofs.Readings.{read_tokens, read_fault, same_tokens, same_fault, never_both}, proofs.Steps.{front_lexes, front_faults, end_lexes, slices}}
 use Rattle.ct_lex.specs.declared.token.LexError.TheVariants as fault
-use Rattle.ct_lex.specs.Scan.{IsFront}
-use Rattle.ct_lex.specs.Tokens.{Lexes, FaultsAt, here}
-use Rattle.ct_lex.proofs.Readings.{read_tokens, read_fault, same_tokens, same_fault, never_both}
-use Rattle.ct_lex.proofs.Steps.{front_lexes, front_faults, end_lexes, slices}
-use Rattle.ct_lex.proofs.Written.{tokens_written}
 use Rattle.ct_lex.proofs.lexing.tokens.Goals as goal
 
 -- the fault that `front` found, in the text

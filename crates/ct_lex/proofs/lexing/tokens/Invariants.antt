@@ -1,8 +1,5 @@
-use Rattle.std.proofs.Common.{ℕ, ◌-◌, ◌++◌, List, length, drop}
-use Rattle.std.specs.Str.{IsCharBoundary}
-use Rattle.ct_lex.specs.declared.token.LexError.{LexError}
-use Rattle.ct_lex.specs.declared.token.Token.{Token}
-use Rattle.ct_lex.specs.Tokens.{LexesFrom, Lexes, FaultsFrom, FaultsAt}
+use Rattle.std.{proofs.Common.{ℕ, ◌-◌, ◌++◌, List, length, drop}, specs.Str.IsCharBoundary}
+use Rattle.ct_lex.{specs.declared.token.LexError.LexError, specs.declared.token.Token.Token, specs.Tokens.{LexesFrom, Lexes, FaultsFrom, FaultsAt}}
 use Rattle.ct_lex.proofs.lexing.tokens.Given as goal
 
 abbrev pub invariant-loop-start : goal.invariant-loop-start

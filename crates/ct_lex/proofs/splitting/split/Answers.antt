@@ -1,8 +1,5 @@
-use Rattle.std.proofs.Common.{arith, rules, sym, subst, ◌∙◌}
-use Rattle.std.proofs.lemmas.Grind.{common_steps}
-use Rattle.ct_lex.specs.Splitting.{Splits}
-use Rattle.ct_lex.proofs.Pieces.{behind_cut}
-use Rattle.ct_lex.proofs.Scripts.{splits_texts, splits_only}
+use Rattle.std.{proofs.Common.{arith, rules, sym, subst, ◌∙◌}, proofs.lemmas.Grind.common_steps}
+use Rattle.ct_lex.{specs.Splitting.Splits, proofs.Pieces.behind_cut, proofs.Scripts.{splits_texts, splits_only}}
 use Rattle.ct_lex.proofs.splitting.split.Goals as goal
 
 pub range_from-rest-requires : goal.range_from-rest-requires

@@ -1,7 +1,6 @@
 use Rattle.std.proofs.Common.{◌≡◌, ◌++◌, length, map}
-use denote.Text.{Utf8}
-use denote.Shadow.{shadow}
 use Rattle.ct_lex.specs.Texts.{texts}
+use denote.{Text.Utf8, Shadow.shadow}
 use Rattle.ct_lex.proofs.splitting.split.Given as goal
 
 abbrev pub invariant-loop-texts : goal.invariant-loop-texts

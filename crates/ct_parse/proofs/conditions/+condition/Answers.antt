@@ -1,10 +1,8 @@
-use Rattle.ct_parse.proofs.TermSteps.{passed}
-use Rattle.ct_parse.proofs.Listed.{one_more, at_end, no_list, behind_reads, behind_never, both_read, no_first, no_second}
-use Rattle.ct_parse.proofs.ConditionSteps.{negated_read, no_negated, nested_read, no_nested, not_closed, true_read, false_read, compared_read, no_left, no_sign, no_right, factors, no_and, conjunctions, no_or, conjunction_pair, condition_pair}
 use Rattle.std.proofs.Common.{sym, subst}
-use Rattle.ct_parse.specs.Grammar.{said, IsFactor, IsConjunction, AreFactors, AreConjunctions}
-use Rattle.ct_parse.specs.Ends.{EndsConjunction, EndsCondition}
-use Rattle.ct_parse.proofs.Listed.{SoFar}
+use Rattle.ct_parse.{proofs.TermSteps.passed, proofs.Listed.{one_more, at_end, no_list, behind_reads, behind_never, both_read, no_first, no_second, SoFar}}
+use Rattle.ct_parse.proofs.ConditionSteps.{negation, nesting, ends_at_close, true_read, false_read, compared_read, no_left, no_sign, no_right, factors, no_and, conjunctions, no_or, conjunction_pair, condition_pair}
+use Rattle.ct_parse.{specs.Grammar.{said, IsFactor, IsConjunction, IsCondition, AreFactors, AreConjunctions}, specs.Ends.{EndsConjunction, EndsCondition}}
+use Rattle.ct_parse.proofs.Combined.{CLOSE, led_read, led_never, then_read, no_then, not_then}
 use Rattle.ct_parse.proofs.conditions.+condition.Goals as goal
 
 pub condition-returns-in_err-first-clause-none : goal.condition-returns-in_err-first-clause-none
@@ -28,23 +26,23 @@ pub conjunction-returns-clause-ok : goal.conjunction-returns-clause-ok
 conjunction-returns-clause-ok t c = both_read conjunction_pair c.in_ok-first.ensures.ok c.in_ok-others.ensures.ok
 
 pub factor-returns-in_err-inner-clause-none : goal.factor-returns-in_err-inner-clause-none
-factor-returns-in_err-inner-clause-none t c = passed _ c.from_residual.ensures.1 (λ memory. no_negated c.in-Some.ensures.some (c.in_err-inner.ensures.none memory))
+factor-returns-in_err-inner-clause-none t c = passed _ c.from_residual.ensures.1 (λ memory. led_never negation c.in-Some.ensures.some (c.in_err-inner.ensures.none memory))
 
 pub factor-returns-in-Some-clause-ok : goal.factor-returns-in-Some-clause-ok
 factor-returns-in-Some-clause-ok t c =
-    rw c.in_ok-new.ensures (negated_read c.in-Some.ensures.some c.in_ok-inner.ensures.ok)
+    rw c.in_ok-new.ensures (led_read negation c.in-Some.ensures.some c.in_ok-inner.ensures.ok)
 
 pub factor-returns-in_err-inner-2-clause-none : goal.factor-returns-in_err-inner-2-clause-none
 factor-returns-in_err-inner-2-clause-none t c =
-    passed _ c.from_residual-in_err-inner-2.ensures.1 (λ memory. no_nested c.in-Some-behind_symbol.ensures.some (c.in_err-inner-2.ensures.none memory))
+    passed _ c.from_residual-in_err-inner-2.ensures.1 (λ memory. led_never nesting c.in-Some-behind_symbol.ensures.some (no_then IsCondition CLOSE ends_at_close (c.in_err-inner-2.ensures.none memory)))
 
 pub factor-returns-in_err-rest-clause-none : goal.factor-returns-in_err-rest-clause-none
 factor-returns-in_err-rest-clause-none t c =
-    passed _ c.from_residual-in_err-rest.ensures.1 (λ memory. not_closed c.in-Some-behind_symbol.ensures.some c.in_ok-inner-2.ensures.ok (c.in_err-rest.ensures.none memory))
+    passed _ c.from_residual-in_err-rest.ensures.1 (λ memory. led_never nesting c.in-Some-behind_symbol.ensures.some (not_then {X = IsCondition} CLOSE ends_at_close c.in_ok-inner-2.ensures.ok (c.in_err-rest.ensures.none memory)))
 
 pub factor-returns-in-Some-behind_symbol-clause-ok : goal.factor-returns-in-Some-behind_symbol-clause-ok
 factor-returns-in-Some-behind_symbol-clause-ok t c =
-    rw c.in_ok-new-2.ensures (nested_read c.in-Some-behind_symbol.ensures.some c.in_ok-inner-2.ensures.ok c.in_ok-rest.ensures.ok)
+    rw c.in_ok-new-2.ensures (led_read nesting c.in-Some-behind_symbol.ensures.some (then_read CLOSE ends_at_close c.in_ok-inner-2.ensures.ok c.in_ok-rest.ensures.ok))
 
 pub factor-returns-in-Some-behind_word-clause-ok : goal.factor-returns-in-Some-behind_word-clause-ok
 factor-returns-in-Some-behind_word-clause-ok t c = true_read c.in-Some-behind_word.ensures.some

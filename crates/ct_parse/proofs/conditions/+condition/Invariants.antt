@@ -1,7 +1,5 @@
 use Rattle.std.proofs.Common.{◌+◌, ◌*◌, length}
-use Rattle.ct_parse.specs.Grammar.{said, AreFactors, AreConjunctions}
-use Rattle.ct_parse.specs.Ends.{EndsConjunction, EndsCondition}
-use Rattle.ct_parse.proofs.Listed.{SoFar}
+use Rattle.ct_parse.{specs.Grammar.{said, AreFactors, AreConjunctions}, specs.Ends.{EndsConjunction, EndsCondition}, proofs.Listed.SoFar}
 use Rattle.ct_parse.proofs.conditions.+condition.Given as goal
 
 abbrev pub decreases-factor : goal.decreases-factor

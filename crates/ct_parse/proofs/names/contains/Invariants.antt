@@ -1,5 +1,4 @@
-use Rattle.std.proofs.Common.{◌≡◌, length, map}
-use Rattle.std.specs.List.{list_any}
+use Rattle.std.{proofs.Common.{◌≡◌, length, map}, specs.List.list_any}
 use Rattle.ct_word.specs.Value.{same_text}
 use Rattle.ct_parse.proofs.names.contains.Given as goal
 

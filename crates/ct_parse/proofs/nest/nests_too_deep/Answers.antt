@@ -1,7 +1,5 @@
 use Rattle.std.proofs.Common.{◌<◌, sym, subst, ◌∙◌, ap, nat_lt, reverse}
-use Rattle.ct_parse.specs.Grammar.{said}
-use Rattle.ct_parse.specs.Nest.{DEPTH, nest_from, count_after}
-use Rattle.ct_parse.proofs.Deep.{deep_behind}
+use Rattle.ct_parse.{specs.Grammar.said, specs.Nest.{DEPTH, nest_from, count_after}, proofs.Deep.deep_behind}
 use Rattle.ct_parse.proofs.nest.nests_too_deep.Goals as goal
 
 pub returns-then-count-gt-DEPTH-clause-ok : goal.returns-then-count-gt-DEPTH-clause-ok

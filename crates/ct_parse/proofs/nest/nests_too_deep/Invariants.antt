@@ -1,6 +1,5 @@
 use Rattle.std.proofs.Common.{◌≡◌, ◌≤◌, length, nat_lt, reverse}
-use Rattle.ct_parse.specs.Grammar.{said}
-use Rattle.ct_parse.specs.Nest.{DEPTH, AreShallow, nest, nest_from}
+use Rattle.ct_parse.{specs.Grammar.said, specs.Nest.{DEPTH, AreShallow, nest, nest_from}}
 use Rattle.ct_parse.proofs.nest.nests_too_deep.Given as goal
 
 abbrev pub invariant-loop-first : goal.invariant-loop-first

@@ -1,10 +1,8 @@
 use Rattle.std.proofs.Common.{sym, subst}
-use Rattle.ct_parse.specs.Grammar.{said, IsPrimary, ArePrimaries, AreTerms}
-use Rattle.ct_parse.specs.Ends.{EndsQueryTerm, EndsQuery}
-use Rattle.ct_parse.proofs.TermSteps.{passed}
+use Rattle.ct_parse.{specs.Grammar.{said, IsPrimary, IsQuery, ArePrimaries, AreTerms}, specs.Ends.{EndsQueryTerm, EndsQuery}, proofs.TermSteps.passed}
 use Rattle.ct_parse.proofs.Listed.{SoFar, one_more, at_end, no_list, behind_reads, behind_never, both_read, no_first, no_second}
-use Rattle.ct_parse.proofs.Combined.{renamed, no_renamed}
-use Rattle.ct_parse.proofs.QuerySteps.{primary_is, nested_read, no_nested, nested_open, primary_list, no_intersect, term_pair, combined_pair, term_list, no_operator, query_pair, stands_operator}
+use Rattle.ct_parse.proofs.Combined.{CLOSE, renamed, no_renamed, led_read, led_never, then_read, no_then, not_then}
+use Rattle.ct_parse.proofs.QuerySteps.{primary_is, nesting, ends_at_paren, primary_list, no_intersect, term_pair, combined_pair, term_list, no_operator, query_pair, stands_operator}
 use Rattle.ct_parse.proofs.queries.+query.Goals as goal
 
 pub query-returns-in_err-first-clause-none : goal.query-returns-in_err-first-clause-none
@@ -34,14 +32,14 @@ pub primary-returns-in_default-clause-ok : goal.primary-returns-in_default-claus
 primary-returns-in_default-clause-ok t c = renamed (primary_is c.in_default.ensures.none) c.in_ok-select.ensures.ok
 
 pub primary-returns-in_err-inner-clause-none : goal.primary-returns-in_err-inner-clause-none
-primary-returns-in_err-inner-clause-none t c = passed _ c.from_residual-in_err-inner.ensures.1 (λ memory. no_nested c.in-Some.ensures.some (c.in_err-inner.ensures.none memory))
+primary-returns-in_err-inner-clause-none t c = passed _ c.from_residual-in_err-inner.ensures.1 (λ memory. led_never nesting c.in-Some.ensures.some (no_then IsQuery CLOSE ends_at_paren (c.in_err-inner.ensures.none memory)))
 
 pub primary-returns-in_err-rest-clause-none : goal.primary-returns-in_err-rest-clause-none
 primary-returns-in_err-rest-clause-none t c =
-    passed _ c.from_residual-in_err-rest.ensures.1 (λ memory. nested_open c.in-Some.ensures.some c.in_ok-inner.ensures.ok (c.in_err-rest.ensures.none memory))
+    passed _ c.from_residual-in_err-rest.ensures.1 (λ memory. led_never nesting c.in-Some.ensures.some (not_then {X = IsQuery} CLOSE ends_at_paren c.in_ok-inner.ensures.ok (c.in_err-rest.ensures.none memory)))
 
 pub primary-returns-clause-ok : goal.primary-returns-clause-ok
-primary-returns-clause-ok t c = rw c.in_ok-new.ensures (nested_read c.in-Some.ensures.some c.in_ok-inner.ensures.ok c.in_ok-rest.ensures.ok)
+primary-returns-clause-ok t c = rw c.in_ok-new.ensures (led_read nesting c.in-Some.ensures.some (then_read CLOSE ends_at_paren c.in_ok-inner.ensures.ok c.in_ok-rest.ensures.ok))
 
 pub primaries-returns-in_err-next-clause-none : goal.primaries-returns-in_err-next-clause-none
 primaries-returns-in_err-next-clause-none t c =

@@ -1,7 +1,5 @@
 use Rattle.std.proofs.Common.{◌+◌, ◌*◌, length}
-use Rattle.ct_parse.specs.Grammar.{said, ArePrimaries, AreTerms}
-use Rattle.ct_parse.specs.Ends.{EndsQueryTerm, EndsQuery}
-use Rattle.ct_parse.proofs.Listed.{SoFar}
+use Rattle.ct_parse.{specs.Grammar.{said, ArePrimaries, AreTerms}, specs.Ends.{EndsQueryTerm, EndsQuery}, proofs.Listed.SoFar}
 use Rattle.ct_parse.proofs.queries.+query.Given as goal
 
 abbrev pub decreases-primary : goal.decreases-primary

@@ -1,5 +1,4 @@
-use Rattle.ct_parse.proofs.TermSteps.{passed}
-use Rattle.ct_parse.proofs.QuerySteps.{no_select, no_items, no_from, no_tables, no_where, select_read}
+use Rattle.ct_parse.{proofs.TermSteps.passed, proofs.QuerySteps.{no_select, no_items, no_from, no_tables, no_where, select_read}}
 use Rattle.ct_parse.proofs.queries.select.Goals as goal
 
 pub returns-in_err-tail-clause-none : goal.returns-in_err-tail-clause-none

@@ -1,7 +1,5 @@
 use Rattle.std.proofs.Common.{length}
-use Rattle.ct_parse.specs.Grammar.{said, IsCell, AreMore}
-use Rattle.ct_parse.specs.Ends.{EndsList}
-use Rattle.ct_parse.proofs.Listed.{SoFar}
+use Rattle.ct_parse.{specs.Grammar.{said, IsCell, AreMore}, specs.Ends.EndsList, proofs.Listed.SoFar}
 use Rattle.ct_parse.proofs.rows.cells.Given as goal
 
 abbrev pub invariant-loop-tail : goal.invariant-loop-tail

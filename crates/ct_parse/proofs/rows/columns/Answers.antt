@@ -1,6 +1,4 @@
-use Rattle.ct_parse.specs.Grammar.{IsName}
-use Rattle.ct_parse.proofs.TermSteps.{passed}
-use Rattle.ct_parse.proofs.RowSteps.{closed_read, no_open, no_first_inside, no_more_inside, not_closed}
+use Rattle.ct_parse.{specs.Grammar.IsName, proofs.TermSteps.passed, proofs.RowSteps.{closed_read, no_open, no_first_inside, no_more_inside, not_closed}}
 use Rattle.ct_parse.proofs.rows.columns.Goals as goal
 
 pub returns-in_err-tail-clause-none : goal.returns-in_err-tail-clause-none

@@ -1,9 +1,6 @@
 use Rattle.std.proofs.Common.{sym, subst}
-use Rattle.ct_parse.specs.Grammar.{said, IsName, AreMore}
-use Rattle.ct_parse.specs.Ends.{EndsList}
-use Rattle.ct_parse.proofs.TermSteps.{passed}
+use Rattle.ct_parse.{specs.Grammar.{said, IsName, AreMore}, specs.Ends.EndsList, proofs.TermSteps.passed, proofs.Combined.{plain_list, no_comma_part}}
 use Rattle.ct_parse.proofs.Listed.{SoFar, one_more, at_end, no_list, behind_reads, behind_never}
-use Rattle.ct_parse.proofs.Combined.{plain_list, no_comma_part}
 use Rattle.ct_parse.proofs.rows.names.Goals as goal
 
 pub returns-in_err-next-clause-none : goal.returns-in_err-next-clause-none

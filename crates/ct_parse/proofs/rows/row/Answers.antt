@@ -1,6 +1,4 @@
-use Rattle.ct_parse.specs.Grammar.{IsCell}
-use Rattle.ct_parse.proofs.TermSteps.{passed}
-use Rattle.ct_parse.proofs.Combined.{renamed, no_renamed}
+use Rattle.ct_parse.{specs.Grammar.IsCell, proofs.TermSteps.passed, proofs.Combined.{renamed, no_renamed}}
 use Rattle.ct_parse.proofs.RowSteps.{closed_read, no_open, no_first_inside, no_more_inside, not_closed, row_is}
 use Rattle.ct_parse.proofs.rows.row.Goals as goal
 

@@ -1,5 +1,4 @@
-use Rattle.ct_parse.proofs.TermSteps.{passed}
-use Rattle.ct_parse.proofs.StatementSteps.{no_table_word, no_create_name, no_columns, create_read}
+use Rattle.ct_parse.{proofs.TermSteps.passed, proofs.StatementSteps.{no_table_word, no_create_name, no_columns, create_read}}
 use Rattle.ct_parse.proofs.statements.create.Goals as goal
 
 pub returns-in_err-tail-clause-none : goal.returns-in_err-tail-clause-none

@@ -1,5 +1,4 @@
-use Rattle.ct_parse.proofs.TermSteps.{passed}
-use Rattle.ct_parse.proofs.StatementSteps.{no_delete_from, no_delete_name, no_delete_condition, delete_read}
+use Rattle.ct_parse.{proofs.TermSteps.passed, proofs.StatementSteps.{no_delete_from, no_delete_name, no_delete_condition, delete_read}}
 use Rattle.ct_parse.proofs.statements.delete.Goals as goal
 
 pub returns-in_err-tail-clause-none : goal.returns-in_err-tail-clause-none

@@ -1,7 +1,5 @@
 use Rattle.std.proofs.Common.{ap, sym, ◌∙◌}
-use Rattle.ct_parse.specs.Grammar.{is_clause_word}
-use Rattle.ct_parse.proofs.TermSteps.{passed}
-use Rattle.ct_parse.proofs.TableSteps.{bare_read, no_bare_name, no_bare_word}
+use Rattle.ct_parse.{specs.Grammar.is_clause_word, proofs.TermSteps.passed, proofs.TableSteps.{bare_read, no_bare_name, no_bare_word}}
 use Rattle.ct_parse.proofs.tables.bare_alias.Goals as goal
 
 pub returns-in_err-found-clause-none : goal.returns-in_err-found-clause-none

@@ -1,6 +1,4 @@
-use Rattle.ct_parse.proofs.TermSteps.{passed}
-use Rattle.ct_parse.proofs.Listed.{both_read, no_first, no_second}
-use Rattle.ct_parse.proofs.TableSteps.{item_pair}
+use Rattle.ct_parse.{proofs.TermSteps.passed, proofs.Listed.{both_read, no_first, no_second}, proofs.TableSteps.item_pair}
 use Rattle.ct_parse.proofs.tables.item.Goals as goal
 
 pub returns-in_err-column-clause-none : goal.returns-in_err-column-clause-none

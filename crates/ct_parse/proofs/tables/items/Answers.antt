@@ -1,6 +1,4 @@
-use Rattle.ct_parse.proofs.TermSteps.{passed}
-use Rattle.ct_parse.proofs.Listed.{both_read, no_first, no_second}
-use Rattle.ct_parse.proofs.Combined.{renamed, no_renamed}
+use Rattle.ct_parse.{proofs.TermSteps.passed, proofs.Listed.{both_read, no_first, no_second}, proofs.Combined.{renamed, no_renamed}}
 use Rattle.ct_parse.proofs.TableSteps.{star_read, listed_pair, listed_is}
 use Rattle.ct_parse.proofs.tables.items.Goals as goal
 

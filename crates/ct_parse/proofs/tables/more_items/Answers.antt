@@ -1,10 +1,6 @@
 use Rattle.std.proofs.Common.{sym, subst}
-use Rattle.ct_parse.specs.Grammar.{said, IsItem, AreMore}
-use Rattle.ct_parse.specs.Ends.{EndsItems}
-use Rattle.ct_parse.proofs.TermSteps.{passed}
-use Rattle.ct_parse.proofs.Listed.{SoFar, one_more, at_end, no_list, behind_reads, behind_never}
-use Rattle.ct_parse.proofs.TableSteps.{item_list}
-use Rattle.ct_parse.proofs.Combined.{no_comma_part}
+use Rattle.ct_parse.{specs.Grammar.{said, IsItem, AreMore}, specs.Ends.EndsItems, proofs.TermSteps.passed, proofs.TableSteps.item_list}
+use Rattle.ct_parse.{proofs.Listed.{SoFar, one_more, at_end, no_list, behind_reads, behind_never}, proofs.Combined.no_comma_part}
 use Rattle.ct_parse.proofs.tables.more_items.Goals as goal
 
 pub returns-in_err-next-clause-none : goal.returns-in_err-next-clause-none

@@ -1,7 +1,5 @@
 use Rattle.std.proofs.Common.{length}
-use Rattle.ct_parse.specs.Grammar.{said, IsItem, AreMore}
-use Rattle.ct_parse.specs.Ends.{EndsItems}
-use Rattle.ct_parse.proofs.Listed.{SoFar}
+use Rattle.ct_parse.{specs.Grammar.{said, IsItem, AreMore}, specs.Ends.EndsItems, proofs.Listed.SoFar}
 use Rattle.ct_parse.proofs.tables.more_items.Given as goal
 
 abbrev pub invariant-loop-tail : goal.invariant-loop-tail

@@ -1,8 +1,5 @@
 use Rattle.std.proofs.Common.{sym, subst}
-use Rattle.ct_parse.specs.Grammar.{said, AreJoined}
-use Rattle.ct_parse.specs.Ends.{Fails, EndsTables}
-use Rattle.ct_parse.proofs.TermSteps.{passed}
-use Rattle.ct_parse.proofs.Listed.{SoFar, one_more, at_end, no_list}
+use Rattle.ct_parse.{specs.Grammar.{said, AreJoined}, specs.Ends.{Fails, EndsTables}, proofs.TermSteps.passed, proofs.Listed.{SoFar, one_more, at_end, no_list}}
 use Rattle.ct_parse.proofs.TableSteps.{joined_list, stands_joined}
 use Rattle.ct_parse.proofs.tables.more_joined.Goals as goal
 

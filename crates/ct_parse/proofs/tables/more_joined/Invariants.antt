@@ -1,7 +1,5 @@
 use Rattle.std.proofs.Common.{length}
-use Rattle.ct_parse.specs.Grammar.{said, AreJoined}
-use Rattle.ct_parse.specs.Ends.{EndsTables}
-use Rattle.ct_parse.proofs.Listed.{SoFar}
+use Rattle.ct_parse.{specs.Grammar.{said, AreJoined}, specs.Ends.EndsTables, proofs.Listed.SoFar}
 use Rattle.ct_parse.proofs.tables.more_joined.Given as goal
 
 abbrev pub invariant-loop-alloc : goal.invariant-loop-alloc

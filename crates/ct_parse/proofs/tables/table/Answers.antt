@@ -1,6 +1,4 @@
-use Rattle.ct_parse.proofs.TermSteps.{passed}
-use Rattle.ct_parse.proofs.Listed.{both_read, no_first, no_second}
-use Rattle.ct_parse.proofs.TableSteps.{table_pair}
+use Rattle.ct_parse.{proofs.TermSteps.passed, proofs.Listed.{both_read, no_first, no_second}, proofs.TableSteps.table_pair}
 use Rattle.ct_parse.proofs.tables.table.Goals as goal
 
 pub returns-in_err-name-clause-none : goal.returns-in_err-name-clause-none

@@ -1,9 +1,6 @@
 use Rattle.std.specs.Prelude.{codes}
-use Rattle.ct_parse.specs.Grammar.{IsTable}
-use Rattle.ct_parse.proofs.TermSteps.{passed}
-use Rattle.ct_parse.proofs.Listed.{both_read, no_first, no_second}
-use Rattle.ct_parse.proofs.Combined.{not_word, then_read, no_then, not_then, renamed, no_renamed}
-use Rattle.ct_parse.proofs.TableSteps.{ON, on_pair, on_is, ends_at_on}
+use Rattle.ct_parse.{specs.Grammar.IsTable, proofs.TermSteps.passed, proofs.Listed.{both_read, no_first, no_second}}
+use Rattle.ct_parse.{proofs.Combined.{not_word, then_read, no_then, not_then, renamed, no_renamed}, proofs.TableSteps.{ON, on_pair, on_is, ends_at_on}}
 use Rattle.ct_parse.proofs.tables.table_on.Goals as goal
 
 pub returns-in_err-table-clause-none : goal.returns-in_err-table-clause-none

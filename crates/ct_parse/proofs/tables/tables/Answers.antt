@@ -1,6 +1,5 @@
 use Rattle.std.proofs.Common.{arith}
-use Rattle.ct_parse.proofs.TermSteps.{passed}
-use Rattle.ct_parse.proofs.TableSteps.{tables_read, too_many, no_first_table, no_more_tables}
+use Rattle.ct_parse.{proofs.TermSteps.passed, proofs.TableSteps.{tables_read, too_many, no_first_table, no_more_tables}}
 use Rattle.ct_parse.proofs.tables.tables.Goals as goal
 
 pub returns-in_err-first-clause-none : goal.returns-in_err-first-clause-none

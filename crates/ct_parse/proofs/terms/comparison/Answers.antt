@@ -1,6 +1,6 @@
 use Rattle.std.proofs.Common.{◌∙◌, ap}
-use Rattle.ct_lex.specs.declared.token.Lexeme.TheVariants as lexeme
 use Rattle.ct_parse.proofs.TermSteps.{equal_reads, unequal_reads}
+use Rattle.ct_lex.specs.declared.token.Lexeme.TheVariants as lexeme
 use Rattle.ct_parse.proofs.terms.comparison.Goals as goal
 
 pub returns-in-Some-Symbol-Equal-default-clause-ok : goal.returns-in-Some-Symbol-Equal-default-clause-ok

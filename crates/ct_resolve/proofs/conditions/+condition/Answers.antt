@@ -1,9 +1,7 @@
 use Rattle.std.proofs.Common.{◌≡◌, IfOk, IfErr, ◌≢◌, Ok, Err, sym, ap, ◌∙◌, subst}
 use Rattle.ct_query.specs.Pred.{condition_of}
-use Rattle.ct_resolve.specs.Conditions.{any_found}
+use Rattle.ct_resolve.{specs.Conditions.any_found, proofs.Founds.passed, proofs.Trees.{condition_is, not_refused, nested_same}}
 use Rattle.ct_resolve.specs.declared.error.ResolveError.TheVariants as fault
-use Rattle.ct_resolve.proofs.Founds.{passed}
-use Rattle.ct_resolve.proofs.Trees.{condition_is, not_refused, nested_same}
 use Rattle.ct_resolve.proofs.conditions.+condition.Goals as goal
 
 pub condition-returns-in_err-found-clause-err : goal.condition-returns-in_err-found-clause-err

@@ -1,9 +1,7 @@
 use Rattle.std.proofs.Common.{◌≡◌, ◌∷◌, map, drop}
 use Rattle.ct_query.specs.Pred.{condition_of}
 use Rattle.ct_parse.specs.declared.tree.Condition.{out-Condition}
-use Rattle.ct_resolve.specs.Found.{each}
-use Rattle.ct_resolve.specs.Conditions.{factor_at, conjunction_at}
-use Rattle.ct_resolve.proofs.Founds.{behind}
+use Rattle.ct_resolve.{specs.Found.each, specs.Conditions.{factor_at, conjunction_at}, proofs.Founds.behind}
 use Rattle.ct_resolve.proofs.conditions.+condition.Given as goal
 
 abbrev pub invariant-conjunction-loop-next : goal.invariant-conjunction-loop-next

@@ -1,9 +1,7 @@
 use Rattle.std.proofs.Common.{◌≡◌, ◌+◌, drop, IfOk, IfErr, ◌≢◌, Ok, Err, sym, ap, ◌∙◌, subst}
-use Rattle.ct_resolve.specs.Queries.{with_primaries, with_terms}
-use Rattle.ct_resolve.specs.Views.{named_of}
-use Rattle.ct_resolve.specs.declared.error.ResolveError.TheVariants as fault
-use Rattle.ct_resolve.proofs.Founds.{passed, read_next}
+use Rattle.ct_resolve.{specs.Queries.{with_primaries, with_terms}, specs.Views.named_of, proofs.Founds.{passed, read_next}}
 use Rattle.ct_resolve.proofs.QueryTrees.{query_is, nested_same, primaries_stop, terms_stop}
+use Rattle.ct_resolve.specs.declared.error.ResolveError.TheVariants as fault
 use Rattle.ct_resolve.proofs.queries.+query.Goals as goal
 
 pub query-returns-in_err-found-clause-err : goal.query-returns-in_err-found-clause-err

@@ -1,7 +1,6 @@
 use Rattle.std.proofs.Common.{◌≡◌, Ok, drop}
 use Rattle.ct_parse.specs.declared.tree.Query.{out-Query}
-use Rattle.ct_resolve.specs.Queries.{with_primaries, term_at, with_terms}
-use Rattle.ct_resolve.specs.Views.{named_of}
+use Rattle.ct_resolve.{specs.Queries.{with_primaries, term_at, with_terms}, specs.Views.named_of}
 use Rattle.ct_resolve.proofs.queries.+query.Given as goal
 
 abbrev pub invariant-query_term-loop-next : goal.invariant-query_term-loop-next

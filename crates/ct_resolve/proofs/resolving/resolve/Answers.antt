@@ -1,5 +1,4 @@
-use Rattle.ct_resolve.proofs.Fitting.{resolved_fits}
-use Rattle.ct_resolve.proofs.Writing.{resolved_writes}
+use Rattle.ct_resolve.{proofs.Fitting.resolved_fits, proofs.Writing.resolved_writes}
 use Rattle.ct_resolve.proofs.resolving.resolve.Goals as goal
 
 pub returns-clause-fits : goal.returns-clause-fits

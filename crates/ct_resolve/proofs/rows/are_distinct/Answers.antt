@@ -1,5 +1,4 @@
-use Rattle.std.proofs.Common.{true, false, ap, sym, ◌∙◌, arith}
-use Rattle.std.proofs.lemmas.List.{drop_all}
+use Rattle.std.{proofs.Common.{true, false, ap, sym, ◌∙◌, arith}, proofs.lemmas.List.drop_all}
 use Rattle.ct_resolve.proofs.Distinct.{are_new, distinct_is, is_new_if}
 use Rattle.ct_resolve.proofs.rows.are_distinct.Goals as goal
 

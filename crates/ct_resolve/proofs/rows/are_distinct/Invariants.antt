@@ -1,6 +1,6 @@
 use Rattle.std.proofs.Common.{◌≡◌, drop}
-use Rattle.ct_resolve.specs.Names as naming
 use Rattle.ct_resolve.proofs.Distinct.{are_new}
+use Rattle.ct_resolve.specs.Names as naming
 use Rattle.ct_resolve.proofs.rows.are_distinct.Given as goal
 
 -- the names are distinct exactly where those that are left are new to the set

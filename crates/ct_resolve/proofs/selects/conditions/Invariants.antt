@@ -1,9 +1,6 @@
 use Rattle.std.proofs.Common.{◌≡◌, ◌++◌, map, drop}
 use Rattle.ct_query.specs.Pred.{condition_of}
-use Rattle.ct_resolve.specs.Found.{each}
-use Rattle.ct_resolve.specs.Conditions.{condition_at}
-use Rattle.ct_resolve.specs.Queries.{ons_of, where_of, conditions_of}
-use Rattle.ct_resolve.proofs.Founds.{behind}
+use Rattle.ct_resolve.{specs.Found.each, specs.Conditions.condition_at, specs.Queries.{ons_of, where_of, conditions_of}, proofs.Founds.behind}
 use Rattle.ct_resolve.proofs.selects.conditions.Given as goal
 
 abbrev pub invariant-loop-joined : goal.invariant-loop-joined

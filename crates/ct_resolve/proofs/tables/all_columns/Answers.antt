@@ -1,7 +1,5 @@
 use Rattle.std.proofs.Common.{◌+◌, ◌++◌, drop, sym, ap, ◌∙◌}
-use Rattle.ct_resolve.specs.Queries.{numbered, columns_of}
-use Rattle.ct_resolve.proofs.Founds.{read_next}
-use Rattle.ct_resolve.proofs.Picked.{table_picked}
+use Rattle.ct_resolve.{specs.Queries.{numbered, columns_of}, proofs.Founds.read_next, proofs.Picked.table_picked}
 use Rattle.ct_resolve.proofs.tables.all_columns.Goals as goal
 
 pub loop-table-preserved : goal.loop-table-preserved

@@ -1,7 +1,5 @@
 use Rattle.std.proofs.Common.{◌≡◌, ◌∷◌, drop}
-use Rattle.ct_resolve.specs.Found.{each}
-use Rattle.ct_resolve.specs.Queries.{item_at}
-use Rattle.ct_resolve.proofs.Founds.{behind}
+use Rattle.ct_resolve.{specs.Found.each, specs.Queries.item_at, proofs.Founds.behind}
 use Rattle.ct_resolve.proofs.tables.picked_items.Given as goal
 
 abbrev pub invariant-loop-item : goal.invariant-loop-item

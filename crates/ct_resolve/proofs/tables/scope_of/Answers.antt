@@ -1,7 +1,5 @@
 use Rattle.std.proofs.Common.{◌+◌, map, drop, sym, ap, ◌∙◌}
-use Rattle.ct_resolve.specs.Found.{each}
-use Rattle.ct_resolve.specs.Queries.{seen_table, table_of}
-use Rattle.ct_resolve.proofs.Founds.{behind, one_more, read_next}
+use Rattle.ct_resolve.{specs.Found.each, specs.Queries.{seen_table, table_of}, proofs.Founds.{behind, one_more, read_next}}
 use Rattle.ct_resolve.proofs.tables.scope_of.Goals as goal
 
 pub loop-joined-preserved : goal.loop-joined-preserved

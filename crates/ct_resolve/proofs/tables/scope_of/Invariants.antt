@@ -1,7 +1,5 @@
 use Rattle.std.proofs.Common.{◌≡◌, map, drop}
-use Rattle.ct_resolve.specs.Found.{each}
-use Rattle.ct_resolve.specs.Queries.{seen_table, table_of, tables_of}
-use Rattle.ct_resolve.proofs.Founds.{behind}
+use Rattle.ct_resolve.{specs.Found.each, specs.Queries.{seen_table, table_of, tables_of}, proofs.Founds.behind}
 use Rattle.ct_resolve.proofs.tables.scope_of.Given as goal
 
 abbrev pub invariant-loop-joined : goal.invariant-loop-joined
