@@ -1,19 +1,14 @@
 -- The atom of each variable, and the variable of each atom.
-use Rattle.std.proofs.Common.{◌≡◌, ◌≢◌, ℕ, suc, ◌+◌, ◌-◌, ◌*◌, ◌<◌, ◌≤◌, ◌^◌, Bool, true, false, List, [], ◌∷◌, ◌++◌, length, map, get_or, refl, ap, ◌∙◌, sym, subst, arith, inl, inr, ◌⊎◌, if◌then◌else◌, length-append}
-use Rattle.std.specs.Prelude.{Contains}
-use Rattle.std.proofs.lemmas.Bool.{cases_lt, lt-ltb, le-ltb, false≢true}
+use Rattle.std.proofs.Common.{◌≡◌, ◌≢◌, ℕ, suc, ◌+◌, ◌-◌, ◌*◌, ◌<◌, ◌≤◌, ◌^◌, List, [], ◌∷◌, ◌++◌, length, map, get_or, refl, ap, ◌∙◌, sym, subst, arith, inl, inr, ◌⊎◌, if◌then◌else◌, length-append}
+use Rattle.std.{specs.Prelude.Contains, proofs.lemmas.Bool.{cases_lt, lt-ltb, le-ltb}, proofs.lemmas.Nat.mul-le}
 use Rattle.std.proofs.lemmas.List.{length-map, length_push, get_or_append_left, get_or-append_right, get_or-map, get_or_default}
 use Rattle.std.proofs.lemmas.List.Elements.{Contains-get_or, Contains-append_left, Contains-append_right, Contains-append_cases}
-use Rattle.std.proofs.lemmas.Nat.{mul-le}
-use Rattle.ct_derivation.specs.declared.literals.Atom.{Atom}
-use Rattle.ct_derivation.specs.declared.literals.Atom.TheVariants as atom
-use Rattle.ct_derivation.specs.Path.{pair_of}
-use Rattle.ct_cnf.specs.declared.numbers.Numbers.{Numbers}
-use Rattle.ct_cnf.specs.Encoding.{atom_of, AreDistinct, HasNodesBelow, HasPairsBelow, HasAllPairs}
-use Rattle.ct_cnf.specs.Lists.{pairs_with, pairs_after, pairs_of, atoms_of, rank_of, node_of, pair_variable, same_of, AreNumbers}
-use Rattle.ct_cnf.specs.Making.{IsNumbering}
-use Rattle.ct_word.proofs.Items.{mapped_item, unmapped_item}
+use Rattle.ct_derivation.{specs.declared.literals.Atom.Atom, specs.Path.pair_of}
+use Rattle.ct_cnf.{specs.declared.numbers.Numbers.Numbers, specs.Encoding.{atom_of, AreDistinct, HasNodesBelow, HasPairsBelow, HasAllPairs}}
+use Rattle.ct_cnf.{specs.Lists.{pairs_with, pairs_after, pairs_of, atoms_of, rank_of, node_of, pair_variable, same_of, AreNumbers}, specs.Making.IsNumbering}
 use Rattle.ct_cnf.proofs.Pairs.{pairs_more, pair_place, pair_stands, pair_listed, IsListedPair, listed_pair}
+use Rattle.ct_word.proofs.Items.{mapped_item, unmapped_item}
+use Rattle.ct_derivation.specs.declared.literals.Atom.TheVariants as atom
 
 -- how many atoms there are
 length_pairs : (es ts : List ℕ) → pairs_of (length es) + length (pairs_after es ts) ≡ pairs_of (length es + length ts)
@@ -160,38 +155,21 @@ module _ (n : Numbers) (are : AreNumbers n) where
             )
       ]
 
--- the place that an atom of a condition names
-abbrev node_place : Atom → ℕ
-node_place (atom.Node p) = p
-node_place (atom.Same s t) = 0
-
-abbrev first_place : Atom → ℕ
-first_place (atom.Node p) = 0
-first_place (atom.Same s t) = s
-
-abbrev second_place : Atom → ℕ
-second_place (atom.Node p) = 0
-second_place (atom.Same s t) = t
-
-abbrev is_pair : Atom → Bool
-is_pair (atom.Node p) = false
-is_pair (atom.Same s t) = true
-
 module _ (ws : List ℕ) (root : ℕ) (n : Numbers) (num : IsNumbering ws root n) where
   pub nodes_below : HasNodesBelow ws root (atoms_of n.conditions n.terms)
   nodes_below p h =
       elim (atom_cases n num.numbers (atom.Node p) h) [
-        | inl c ↦ num.conditions_below p (subst (Contains n.conditions) (sym (ap node_place c.2)) c.1)
-        | inr c ↦ absurd (false≢true (ap is_pair c.5))
+        | inl c ↦ let same : c.0 ≡ p = cc in num.conditions_below p (subst (Contains n.conditions) same c.1)
+        | inr c ↦ cc
       ]
 
   pub pairs_below : HasPairsBelow ws root (atoms_of n.conditions n.terms)
   pairs_below s t h =
       elim (atom_cases n num.numbers (atom.Same s t) h) [
-        | inl c ↦ absurd (false≢true (sym (ap is_pair c.2)))
+        | inl c ↦ cc
         | inr c ↦
-            let es : s ≡ c.0 = ap first_place c.5 in
-            let et : t ≡ c.1 = ap second_place c.5 in
+            let es : s ≡ c.0 = cc in
+            let et : t ≡ c.1 = cc in
             record {
               first = num.terms_below s (subst (Contains n.terms) (sym es) c.2);
               second = num.terms_below t (subst (Contains n.terms) (sym et) c.3);

@@ -1,20 +1,14 @@
 -- The numbers below a bound that pass a test, and their ranks.
 use Rattle.std.proofs.Common.{◌≡◌, ℕ, zero, suc, ◌+◌, ◌<◌, ◌≤◌, Bool, true, false, List, [], ◌∷◌, ◌++◌, length, get_or, refl, ap, ◌∙◌, sym, subst, arith, inl, inr, ◌⊎◌}
-use Rattle.std.specs.Prelude.{Contains}
-use Rattle.std.proofs.lemmas.Bool.{cases_lt, cases_eq}
-use Rattle.std.proofs.lemmas.List.{length_push, get_or_push, get_or_append_left}
+use Rattle.std.{specs.Prelude.Contains, proofs.lemmas.Bool.{cases_lt, cases_eq}, proofs.lemmas.List.{length_push, get_or_push, get_or_append_left}}
 use Rattle.std.proofs.lemmas.List.Elements.{Contains-push, Contains-push_cases, Contains-append_left}
-use Rattle.ct_word.specs.declared.kinds.Class.TheVariants as class
 use Rattle.ct_cnf.specs.Lists.{is_kept, with_next, picked, AreCounted}
 use Rattle.ct_word.proofs.Items.{no_item}
-
-length_next : (b : Bool) (n : ℕ) (ps : List ℕ) → length ps ≤ n → length (with_next b n ps) ≤ suc n
-length_next true n ps le = omega (arith, length_push ps n, le)
-length_next false n ps le = omega (arith, le)
+use Rattle.ct_word.specs.declared.kinds.Class.TheVariants as class
 
 pub length_picked : (test : ℕ → Bool) (n : ℕ) → length (picked test n) ≤ n
 length_picked test zero = omega arith
-length_picked test (suc n) = length_next (test n) n (picked test n) (length_picked test n)
+length_picked test (suc n) = grind (arith, length_picked test n, length_push (picked test n) n)
 
 one_more : (n : ℕ) → n + 1 ≡ suc n
 one_more n = omega arith
@@ -75,68 +69,26 @@ module _ (test : ℕ → Bool) where
         | inr other ↦ next_keeps (test n) n p (picked test n) (picks n p (omega (arith, lt, other)) t)
       ]
 
-  next_length : (b : Bool) (n : ℕ) (ps : List ℕ) → length ps ≤ length (with_next b n ps)
-  next_length true n ps = omega (arith, length_push ps n)
-  next_length false n ps = omega arith
-
-  next_longer : (b : Bool) (n : ℕ) (ps : List ℕ) → b ≡ true → length ps < length (with_next b n ps)
-  next_longer true n ps e = omega (arith, length_push ps n)
-  next_longer false n ps e = cc
-
-  next_front : (b : Bool) (n k d : ℕ) (ps : List ℕ) → k < length ps → get_or (with_next b n ps) k d ≡ get_or ps k d
-  next_front true n k d ps lt = get_or_append_left ps (n ∷ []) d k lt
-  next_front false n k d ps lt = refl
-
-  next_last : (b : Bool) (n d : ℕ) (ps : List ℕ) → b ≡ true → get_or (with_next b n ps) (length ps) d ≡ n
-  next_last true n d ps e = get_or_push ps n d (length ps) refl
-  next_last false n d ps e = cc
-
   -- how many were picked before a place is where it stands
   pub rank_below : (n p : ℕ) → p < n → test p ≡ true → length (picked test p) < length (picked test n)
   rank_below zero p lt t = absurd (omega (arith, lt))
-  rank_below (suc n) p lt t =
-      elim (cases_eq p n) [
-        | inl same ↦ subst (λ q. length (picked test q) < length (picked test (suc n))) (sym same) (next_longer (test n) n (picked test n) (subst (λ q. test q ≡ true) same t))
-        | inr other ↦ omega (arith, rank_below n p (omega (arith, lt, other)) t, next_length (test n) n (picked test n))
-      ]
+  rank_below (suc n) p lt t = grind (arith, cases_eq p n, rank_below n p, length_push (picked test n) n)
 
   pub rank_there : (n p d : ℕ) → p < n → test p ≡ true → get_or (picked test n) (length (picked test p)) d ≡ p
   rank_there zero p d lt t = absurd (omega (arith, lt))
   rank_there (suc n) p d lt t =
-      elim (cases_eq p n) [
-        | inl same ↦
-            subst (λ q. get_or (picked test (suc n)) (length (picked test q)) d ≡ q) (sym same) (next_last (test n) n d (picked test n) (subst (λ q. test q ≡ true) same t))
-        | inr other ↦
-            let below : p < n = omega (arith, lt, other) in
-            next_front (test n) n (length (picked test p)) d (picked test n) (rank_below n p below t) ∙ rank_there n p d below t
-      ]
+      let k = length (picked test p) in
+      grind (arith, cases_eq p n, rank_below n p, rank_there n p d, get_or_append_left (picked test n) (n ∷ []) d k, get_or_push (picked test n) n d k)
 
   -- the rank of the item at a place is the place
-  next_rank : (n k d : ℕ) → (b : Bool) → test n ≡ b → k < length (with_next b n (picked test n)) → (k < length (picked test n) → length (picked test (get_or (picked test n) k d)) ≡ k)
-      → length (picked test (get_or (with_next b n (picked test n)) k d)) ≡ k
-  next_rank n k d false e lt old = old lt
-  next_rank n k d true e lt old =
-      elim (cases_lt k (length (picked test n))) [
-        | inl below ↦ ap (λ p. length (picked test p)) (get_or_append_left (picked test n) (n ∷ []) d k below) ∙ old below
-        | inr not_below ↦
-            let same : length (picked test n) ≡ k = omega (arith, length_push (picked test n) n, lt, not_below) in
-            ap (λ p. length (picked test p)) (get_or_push (picked test n) n d k same) ∙ same
-      ]
-
   pub rank_of_item : (n k d : ℕ) → k < length (picked test n) → length (picked test (get_or (picked test n) k d)) ≡ k
   rank_of_item zero k d lt = absurd (omega (arith, lt))
-  rank_of_item (suc n) k d lt = next_rank n k d (test n) refl lt (rank_of_item n k d)
+  rank_of_item (suc n) k d lt =
+      grind (arith, cases_lt k (length (picked test n)), rank_of_item n k d, get_or_append_left (picked test n) (n ∷ []) d k, get_or_push (picked test n) n d k, length_push (picked test n) n)
 
   pub rank_grows : (m n : ℕ) → m ≤ n → length (picked test m) ≤ length (picked test n)
-  rank_grows m zero le = ap_zero m (omega (arith, le))
-    where
-      ap_zero : (m : ℕ) → m ≡ 0 → length (picked test m) ≤ 0
-      ap_zero m e = subst (λ q. length (picked test q) ≤ 0) (sym e) (omega arith)
-  rank_grows m (suc n) le =
-      elim (cases_eq m (suc n)) [
-        | inl same ↦ subst (λ q. length (picked test q) ≤ length (picked test (suc n))) (sym same) (omega arith)
-        | inr other ↦ omega (arith, rank_grows m n (omega (arith, le, other)), next_length (test n) n (picked test n))
-      ]
+  rank_grows m zero le = let none : m ≡ 0 = omega (arith, le) in rw none (omega arith)
+  rank_grows m (suc n) le = grind (arith, cases_eq m (suc n), rank_grows m n, length_push (picked test n) n)
 
   -- items go up
   pub items_rise : (n i j d : ℕ) → i < j → j < length (picked test n) → get_or (picked test n) i d < get_or (picked test n) j d

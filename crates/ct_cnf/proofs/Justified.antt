@@ -1,32 +1,21 @@
 -- Each clause is that of its origin.
-use Rattle.std.proofs.Common.{◌≡◌, ◌≢◌, ℕ, zero, suc, ◌+◌, ◌<◌, ◌≤◌, ℤ, Bool, true, false, ◌&&◌, ◌||◌, List, [], ◌∷◌, ◌++◌, length, map, get_or, Option, Some, None, nat_eq, refl, ap, ◌∙◌, sym, subst, arith, inl, inr, if◌then◌else◌, append_assoc, length-append}
-use Rattle.std.specs.Prelude.{slice_get, Contains}
-use Rattle.std.specs.List.{flat_map, list_all}
-use Rattle.std.proofs.lemmas.Bool.{and_from, or_parts, lt-ltb, eqb-false}
-use Rattle.std.proofs.lemmas.List.{get_or_append_left, get_or_at, get_or_default}
+use Rattle.std.proofs.Common.{◌≡◌, ◌≢◌, ℕ, zero, suc, ◌+◌, ◌<◌, ℤ, Bool, true, false, ◌&&◌, ◌||◌, List, [], ◌∷◌, ◌++◌, length, map, get_or, Option, Some, nat_eq, refl, ap, ◌∙◌, sym, subst, arith, inl, inr, if◌then◌else◌, append_assoc, length-append}
+use Rattle.std.{specs.Prelude.{slice_get, Contains}, specs.List.{flat_map, list_all}, proofs.lemmas.Bool.{and_from, or_parts, lt-ltb, eqb-false}}
+use Rattle.std.{proofs.lemmas.Option.slice_get-get_or, proofs.lemmas.List.{get_or_append_left, get_or_at, get_or_default}}
 use Rattle.std.proofs.lemmas.List.Elements.{Contains-append_left, Contains-append_right, Contains-append_cases}
-use Rattle.ct_word.specs.declared.kinds.Kind.{Kind}
+use Rattle.ct_word.{specs.declared.kinds.Kind.Kind, specs.Word.{kind_of, left_of, right_of}, specs.WellFormed.is_place_of}
+use Rattle.ct_word.proofs.Items.{no_item, item_cases, first_item, later_item}
+use Rattle.ct_derivation.{specs.declared.literals.Atom.Atom, specs.declared.literals.Lit.Lit, specs.declared.steps.Why.Why}
+use Rattle.ct_derivation.{specs.Definition.{defining, definition}, specs.Path.{is_constant, pair_of, ends_clause}, specs.Variables.{signed, is_literal}}
+use Rattle.ct_cnf.{specs.declared.entries.Entry.Entry, specs.declared.numbers.Numbers.Numbers, specs.Making.IsNumbering}
+use Rattle.ct_cnf.{specs.Encoding.{atom_of, named, through, origin_clause, AreOrigins}, proofs.Shapes.{path_of_two, path_of_three, two_clause, three_clause}}
+use Rattle.ct_cnf.specs.Lists.{yes_of, no_of, clause_of, why_of, entry, node_of, same_of, atoms_of, equal_entries, not_entries, and_entries, or_entries, defining_entries, definition_entries, path_entry, over_entries, apart_entries, between_entries, into_entries, paths_after, all_entries, AreFieldsNumbered}
+use Rattle.ct_cnf.proofs.Atoms.{IsAtomOf, node_found, same_found}
 use Rattle.ct_word.specs.declared.kinds.Kind.TheVariants as kind
 use Rattle.ct_word.specs.declared.kinds.Class.TheVariants as class
-use Rattle.ct_word.specs.Word.{kind_of, left_of, right_of}
-use Rattle.ct_word.specs.WellFormed.{is_place_of}
-use Rattle.ct_derivation.specs.declared.literals.Atom.{Atom}
 use Rattle.ct_derivation.specs.declared.literals.Atom.TheVariants as atom
-use Rattle.ct_derivation.specs.declared.literals.Lit.{Lit}
-use Rattle.ct_derivation.specs.declared.steps.Why.{Why}
 use Rattle.ct_derivation.specs.declared.steps.Why.TheVariants as why
 use Rattle.ct_derivation.specs.Literal as literal
-use Rattle.ct_derivation.specs.Definition.{defining, definition}
-use Rattle.ct_derivation.specs.Path.{is_constant, pair_of, ends_clause}
-use Rattle.ct_derivation.specs.Variables.{signed, is_literal}
-use Rattle.ct_cnf.specs.declared.entries.Entry.{Entry}
-use Rattle.ct_cnf.specs.declared.numbers.Numbers.{Numbers}
-use Rattle.ct_cnf.specs.Encoding.{atom_of, named, through, origin_clause, AreOrigins}
-use Rattle.ct_cnf.specs.Lists.{yes_of, no_of, clause_of, why_of, entry, node_of, same_of, atoms_of, equal_entries, not_entries, and_entries, or_entries, defining_entries, word_entries, definition_entries, path_entry, over_entries, apart_entries, between_entries, into_entries, paths_after, all_entries, AreFieldsNumbered}
-use Rattle.ct_cnf.specs.Making.{IsNumbering}
-use Rattle.ct_word.proofs.Items.{no_item, item_cases, first_item, later_item}
-use Rattle.ct_cnf.proofs.Shapes.{path_of_two, path_of_three, two_clause, three_clause}
-use Rattle.ct_cnf.proofs.Atoms.{IsAtomOf, node_found, same_found}
 
 -- something holds of each item
 abbrev Each : {X : Type 0} → (X → Type 0) → List X → Type 0
@@ -151,13 +140,9 @@ module _ (ws : List ℕ) (root : ℕ) (n : Numbers) (num : IsNumbering ws root n
         (just_two _ _ _ _ (why.Def p 2) (yes_is _ _ (node p listed)) (no_is _ _ b) (def_clause (Some kind.Or) 2 e))
     just_defining _ e f = each_nil IsJust
 
-  just_word : (p : ℕ) (o : Option ℕ) → Contains n.conditions p → slice_get ws p ≡ o → Each IsJust (word_entries n p o)
-  just_word p None h at = each_nil IsJust
-  just_word p (Some w) h at = just_defining p w h at (kind_of w) refl (num.fields p w h at)
-
   just_definition : (p : ℕ) → Contains n.conditions p → Each IsJust (definition_entries ws n p)
   unfolding definition_entries
-  just_definition p h = just_word p (slice_get ws p) h refl
+  just_definition p h = just_defining p (get_or ws p 0) h (slice_get-get_or ws p 0 (num.within p h)) (kind_of (get_or ws p 0)) refl (num.fields p h)
 
   -- paths
   is_term : (s : ℕ) → Contains n.terms s → is_place_of ws class.Term s ≡ true

@@ -1,19 +1,14 @@
 -- An assignment that satisfies the paths of three and of two satisfies each path.
 use Rattle.std.proofs.Common.{◌≡◌, ◌≢◌, ℕ, ◌<◌, Bool, true, false, not, ◌&&◌, ◌||◌, List, [], ◌∷◌, ◌++◌, Some, None, nat_eq, refl, ap, ◌∙◌, sym, subst, arith, inl, inr, ◌⊎◌, if◌then◌else◌}
-use Rattle.std.specs.Prelude.{Contains}
+use Rattle.std.{specs.Prelude.Contains, proofs.lemmas.Option.none-some}
 use Rattle.std.proofs.lemmas.Bool.{and_from, and_parts, or_parts, or_left, or_right, cases_Bool, cases_lt, cases_eq, lt-ltb, le-ltb, eqb-false, not-true, false≢true}
-use Rattle.std.proofs.lemmas.Option.{none-some}
-use Rattle.ct_word.proofs.Splits.{some-injective}
-use Rattle.ct_derivation.specs.declared.literals.Atom.{Atom}
-use Rattle.ct_derivation.specs.declared.literals.Atom.TheVariants as atom
-use Rattle.ct_derivation.specs.declared.steps.Why.{Why}
-use Rattle.ct_derivation.specs.declared.steps.Why.TheVariants as why
-use Rattle.ct_derivation.specs.Literal.{Clause, yes_of}
-use Rattle.ct_derivation.specs.Models.{is_satisfied}
+use Rattle.ct_word.{proofs.Splits.some-injective, proofs.Items.{first_item, later_item}}
+use Rattle.ct_derivation.{specs.declared.literals.Atom.Atom, specs.declared.steps.Why.Why, specs.Literal.{Clause, yes_of}, specs.Models.is_satisfied}
 use Rattle.ct_derivation.specs.Path.{is_constant, is_path, pair_of, end_of, no_links, moves, ends_clause}
 use Rattle.ct_cnf.specs.Encoding.{IsTermBelow, HasPaths, HasConstants, SatisfiesOrigins, SatisfiesPaths}
-use Rattle.ct_word.proofs.Items.{first_item, later_item}
 use Rattle.ct_cnf.proofs.Shapes.{path_of_two, path_of_three, two_clause, three_clause}
+use Rattle.ct_derivation.specs.declared.literals.Atom.TheVariants as atom
+use Rattle.ct_derivation.specs.declared.steps.Why.TheVariants as why
 
 -- two links that hold leave the ends
 left_ends : (a b e : Bool) → (not a || (not b || e)) ≡ true → a ≡ true → b ≡ true → e ≡ true

@@ -1,26 +1,16 @@
 -- The numbers of what stands below a root.
-use Rattle.std.proofs.Common.{◌≡◌, ℕ, ◌<◌, ◌≤◌, ◌^◌, Bool, true, not, ◌&&◌, ◌||◌, List, [], ◌∷◌, ◌++◌, length, get_or, Option, Some, nat_lt, refl, ap, ◌∙◌, sym, subst, arith}
-use Rattle.std.specs.Prelude.{slice_get, Contains}
-use Rattle.std.proofs.lemmas.List.Elements.{Contains-get_or}
+use Rattle.std.proofs.Common.{◌≡◌, ℕ, ◌<◌, ◌≤◌, ◌^◌, Bool, true, not, ◌&&◌, ◌||◌, List, ◌∷◌, ◌++◌, length, get_or, Option, Some, nat_lt, refl, ap, ◌∙◌, sym, subst, arith}
+use Rattle.std.{specs.Prelude.{slice_get, Contains}, proofs.lemmas.Option.slice_get-get_or, proofs.lemmas.List.Elements.Contains-get_or}
 use Rattle.std.proofs.lemmas.Bool.{and_parts, and_from, ltb-true}
-use Rattle.ct_word.specs.declared.kinds.Kind.{Kind}
-use Rattle.ct_word.specs.declared.kinds.Kind.TheVariants as kind
-use Rattle.ct_word.specs.declared.kinds.Class.{Class}
-use Rattle.ct_word.specs.declared.kinds.Class.TheVariants as class
-use Rattle.ct_word.specs.Word.{kind_of, left_of, right_of}
-use Rattle.ct_word.specs.WellFormed.{is_place_of, is_formed_as, is_ordered, fits, fields_of, IsWellFormed}
-use Rattle.ct_word.specs.Stands.{Below, itself, places_in, places_of}
-use Rattle.ct_word.proofs.Splits.{Split, split_at, formed_at, formed_fields, place_within}
-use Rattle.ct_word.proofs.Constants.{one_term}
-use Rattle.ct_word.proofs.Growth.{place_grows}
-use Rattle.ct_cnf.specs.declared.numbers.Numbers.{Numbers}
-use Rattle.ct_cnf.specs.Encoding.{IsConditionBelow, IsTermBelow, AreTermsBelow}
-use Rattle.ct_cnf.specs.Marks.{is_marked, AreBelow}
-use Rattle.ct_cnf.specs.Lists.{is_kept, picked, rank_of, AreCounted, IsRanked, AreNumbers, AreFieldsNumbered}
-use Rattle.ct_cnf.specs.Making.{IsNumbering}
-use Rattle.ct_word.proofs.Items.{first_item, later_item}
-use Rattle.ct_cnf.proofs.Walks.{marked_within, below_more}
+use Rattle.ct_word.{specs.declared.kinds.Kind.Kind, specs.declared.kinds.Class.Class, specs.Word.{kind_of, left_of, right_of}, proofs.Constants.one_term}
+use Rattle.ct_word.{specs.WellFormed.{is_place_of, is_formed_as, is_ordered, fits, fields_of, IsWellFormed}, specs.Stands.{Below, itself, places_of}}
+use Rattle.ct_word.{proofs.Splits.{Split, split_at, formed_at, formed_fields, place_within}, proofs.Growth.place_grows}
+use Rattle.ct_cnf.{specs.declared.numbers.Numbers.Numbers, specs.Encoding.{IsConditionBelow, IsTermBelow, AreTermsBelow}, specs.Marks.{is_marked, AreBelow}}
+use Rattle.ct_cnf.{specs.Lists.{is_kept, picked, rank_of, AreCounted, IsRanked, AreNumbers, AreFieldsNumbered}, specs.Making.IsNumbering}
+use Rattle.ct_cnf.proofs.Walks.{marked_within, below_more, left_named, right_named}
 use Rattle.ct_cnf.proofs.Counting.{length_picked, picked_passes, picks, rank_below, rank_there, rank_of_item, items_rise}
+use Rattle.ct_word.specs.declared.kinds.Kind.TheVariants as kind
+use Rattle.ct_word.specs.declared.kinds.Class.TheVariants as class
 
 or_second : (a : Bool) → (not true || a) ≡ true → a ≡ true
 or_second a e = e
@@ -93,36 +83,28 @@ module _ (ws : List ℕ) (wf : IsWellFormed ws) (root : ℕ) (ms : List Bool) (b
   field_place : (front back : List ℕ) (w : ℕ) (c : Class) (a : ℕ) → ws ≡ front ++ w ∷ back → is_place_of front c a ≡ true → is_place_of ws c a ≡ true
   field_place front back w c a is e = ap (λ xs. is_place_of xs c a) is ∙ place_grows front (w ∷ back) c a e
 
-  fields_numbered : (p w : ℕ) → Below ws root p → slice_get ws p ≡ Some w → (s : Split ws p w) → (o : Option Kind) → kind_of w ≡ o
-      → is_formed_as o s.front (left_of w) (right_of w) ≡ true → AreFieldsNumbered n o (left_of w) (right_of w)
-  unfolding places_of
-  fields_numbered p w b at s (Some kind.Equal) e f =
-      let c = formed_fields s.front kind.Equal (left_of w) (right_of w) f in
-      let l : Contains (places_of w) (left_of w) = subst (λ o. Contains (places_in o (left_of w) (right_of w)) (left_of w)) (sym e) (first_item (right_of w ∷ []) (left_of w)) in
-      let r : Contains (places_of w) (right_of w) = subst (λ o. Contains (places_in o (left_of w) (right_of w)) (right_of w)) (sym e) (later_item (right_of w ∷ []) (left_of w) (right_of w) (first_item [] (right_of w))) in (
-        all_terms (left_of w) (record { below = below_more ws root p (left_of w) w b at l; term = field_place s.front s.back w class.Term (left_of w) s.is c.0 }),
-        all_terms (right_of w) (record { below = below_more ws root p (right_of w) w b at r; term = field_place s.front s.back w class.Term (right_of w) s.is c.1 }),
-        ltb-true (left_of w) (right_of w) (or_second (nat_lt (left_of w) (right_of w)) (and_parts (fits s.front (fields_of kind.Equal).0 (left_of w) && fits s.front (fields_of kind.Equal).1 (right_of w)) (not (is_ordered kind.Equal) || nat_lt (left_of w) (right_of w)) f).1),
-      )
-  fields_numbered p w b at s (Some kind.Not) e f =
-      let c = formed_fields s.front kind.Not (left_of w) (right_of w) f in
-      let l : Contains (places_of w) (left_of w) = subst (λ o. Contains (places_in o (left_of w) (right_of w)) (left_of w)) (sym e) (first_item [] (left_of w)) in
-      all_conditions (left_of w) (record { below = below_more ws root p (left_of w) w b at l; condition = field_place s.front s.back w class.Cond (left_of w) s.is c.0 })
-  fields_numbered p w b at s (Some kind.And) e f =
-      let c = formed_fields s.front kind.And (left_of w) (right_of w) f in
-      let l : Contains (places_of w) (left_of w) = subst (λ o. Contains (places_in o (left_of w) (right_of w)) (left_of w)) (sym e) (first_item (right_of w ∷ []) (left_of w)) in
-      let r : Contains (places_of w) (right_of w) = subst (λ o. Contains (places_in o (left_of w) (right_of w)) (right_of w)) (sym e) (later_item (right_of w ∷ []) (left_of w) (right_of w) (first_item [] (right_of w))) in (
-        all_conditions (left_of w) (record { below = below_more ws root p (left_of w) w b at l; condition = field_place s.front s.back w class.Cond (left_of w) s.is c.0 }),
-        all_conditions (right_of w) (record { below = below_more ws root p (right_of w) w b at r; condition = field_place s.front s.back w class.Cond (right_of w) s.is c.1 }),
-      )
-  fields_numbered p w b at s (Some kind.Or) e f =
-      let c = formed_fields s.front kind.Or (left_of w) (right_of w) f in
-      let l : Contains (places_of w) (left_of w) = subst (λ o. Contains (places_in o (left_of w) (right_of w)) (left_of w)) (sym e) (first_item (right_of w ∷ []) (left_of w)) in
-      let r : Contains (places_of w) (right_of w) = subst (λ o. Contains (places_in o (left_of w) (right_of w)) (right_of w)) (sym e) (later_item (right_of w ∷ []) (left_of w) (right_of w) (first_item [] (right_of w))) in (
-        all_conditions (left_of w) (record { below = below_more ws root p (left_of w) w b at l; condition = field_place s.front s.back w class.Cond (left_of w) s.is c.0 }),
-        all_conditions (right_of w) (record { below = below_more ws root p (right_of w) w b at r; condition = field_place s.front s.back w class.Cond (right_of w) s.is c.1 }),
-      )
-  fields_numbered p w b at s _ e f = tt
+  module _ (p w : ℕ) (b : Below ws root p) (at : slice_get ws p ≡ Some w) (s : Split ws p w) where
+    named_condition : (q : ℕ) → Contains (places_of w) q → is_place_of s.front class.Cond q ≡ true → Contains n.conditions q
+    named_condition q h c = all_conditions q (record { below = below_more ws root p q w b at h; condition = field_place s.front s.back w class.Cond q s.is c })
+
+    named_term : (q : ℕ) → Contains (places_of w) q → is_place_of s.front class.Term q ≡ true → Contains n.terms q
+    named_term q h c = all_terms q (record { below = below_more ws root p q w b at h; term = field_place s.front s.back w class.Term q s.is c })
+
+    fields_numbered : (o : Option Kind) → kind_of w ≡ o → is_formed_as o s.front (left_of w) (right_of w) ≡ true → AreFieldsNumbered n o (left_of w) (right_of w)
+    fields_numbered (Some kind.Equal) e f =
+        let c = formed_fields s.front kind.Equal (left_of w) (right_of w) f in (
+          named_term (left_of w) (left_named w kind.Equal e refl) c.0,
+          named_term (right_of w) (right_named w kind.Equal e refl) c.1,
+          ltb-true (left_of w) (right_of w) (or_second (nat_lt (left_of w) (right_of w)) (and_parts (fits s.front (fields_of kind.Equal).0 (left_of w) && fits s.front (fields_of kind.Equal).1 (right_of w)) (not (is_ordered kind.Equal) || nat_lt (left_of w) (right_of w)) f).1),
+        )
+    fields_numbered (Some kind.Not) e f = named_condition (left_of w) (left_named w kind.Not e refl) (formed_fields s.front kind.Not (left_of w) (right_of w) f).0
+    fields_numbered (Some kind.And) e f =
+        let c = formed_fields s.front kind.And (left_of w) (right_of w) f in
+        (named_condition (left_of w) (left_named w kind.And e refl) c.0, named_condition (right_of w) (right_named w kind.And e refl) c.1)
+    fields_numbered (Some kind.Or) e f =
+        let c = formed_fields s.front kind.Or (left_of w) (right_of w) f in
+        (named_condition (left_of w) (left_named w kind.Or e refl) c.0, named_condition (right_of w) (right_named w kind.Or e refl) c.1)
+    fields_numbered _ e f = tt
 
   module _ (small : length ws < 2 ^ 28) (top : is_place_of ws class.Cond root ≡ true) (few : length n.terms ≤ 64) where
     are_numbers : AreNumbers n
@@ -145,5 +127,9 @@ module _ (ws : List ℕ) (wf : IsWellFormed ws) (root : ℕ) (ms : List Bool) (b
       terms_below = terms_below;
       all_terms = all_terms;
       within = λ p h. place_within ws class.Cond p (conditions_below p h).condition;
-      fields = λ p w h at. let s = split_at ws p w at in fields_numbered p w (conditions_below p h).below at s (kind_of w) refl (formed_at ws wf p w at s);
+      fields = λ p h.
+          let w = get_or ws p 0 in
+          let at = slice_get-get_or ws p 0 (place_within ws class.Cond p (conditions_below p h).condition) in
+          let s = split_at ws p w at in
+          fields_numbered p w (conditions_below p h).below at s (kind_of w) refl (formed_at ws wf p w at s);
     }

@@ -1,25 +1,16 @@
 -- Which origins are among those of an encoding.
-use Rattle.std.proofs.Common.{◌≡◌, ◌≢◌, ℕ, zero, suc, ◌<◌, true, List, [], ◌∷◌, ◌++◌, length, map, get_or, Option, Some, None, nat_eq, refl, ap, ◌∙◌, sym, subst, arith, inl, inr, if◌then◌else◌, append_assoc}
-use Rattle.std.specs.Prelude.{slice_get, Contains}
-use Rattle.std.specs.List.{flat_map}
-use Rattle.std.proofs.lemmas.Bool.{and_from, or_from, ne_eqb, cases_lt}
-use Rattle.std.proofs.lemmas.Option.{none-some}
-use Rattle.std.proofs.lemmas.List.{get_or_append_left, get_or_at, get_or_default}
+use Rattle.std.proofs.Common.{◌≡◌, ◌≢◌, ℕ, zero, suc, ◌<◌, true, List, [], ◌∷◌, ◌++◌, length, map, get_or, Option, Some, nat_eq, refl, ap, ◌∙◌, sym, subst, arith, inl, inr, if◌then◌else◌, append_assoc}
+use Rattle.std.{specs.Prelude.{slice_get, Contains}, specs.List.flat_map, proofs.lemmas.Bool.{and_from, or_from, ne_eqb, cases_lt}}
+use Rattle.std.{proofs.lemmas.Option.{none-some, slice_get-get_or}, proofs.lemmas.List.{get_or_append_left, get_or_at, get_or_default}}
 use Rattle.std.proofs.lemmas.List.Elements.{Contains-append_left, Contains-append_right}
-use Rattle.ct_word.specs.declared.kinds.Kind.{Kind}
-use Rattle.ct_word.specs.declared.kinds.Kind.TheVariants as kind
-use Rattle.ct_word.specs.Word.{kind_of, left_of, right_of}
-use Rattle.ct_derivation.specs.declared.steps.Why.{Why}
-use Rattle.ct_derivation.specs.declared.steps.Why.TheVariants as why
-use Rattle.ct_derivation.specs.Literal.{Clause}
-use Rattle.ct_derivation.specs.Definition.{defining, definition}
-use Rattle.ct_derivation.specs.Path.{is_constant}
-use Rattle.ct_cnf.specs.declared.entries.Entry.{Entry}
-use Rattle.ct_cnf.specs.declared.numbers.Numbers.{Numbers}
-use Rattle.ct_cnf.specs.Encoding.{HasDefinitions, HasPaths, HasConstants}
-use Rattle.ct_cnf.specs.Lists.{why_of, no_of, entry, same_of, equal_entries, not_entries, and_entries, or_entries, defining_entries, word_entries, definition_entries, path_entry, over_entries, apart_entries, between_entries, into_entries, paths_after, all_entries}
-use Rattle.ct_cnf.specs.Making.{IsNumbering}
+use Rattle.ct_word.{specs.declared.kinds.Kind.Kind, specs.Word.{kind_of, left_of, right_of}}
 use Rattle.ct_word.proofs.Items.{no_item, item_cases, first_item, later_item, mapped_item, unmapped_item, flat_item}
+use Rattle.ct_derivation.{specs.declared.steps.Why.Why, specs.Literal.Clause, specs.Definition.{defining, definition}, specs.Path.is_constant}
+use Rattle.ct_cnf.{specs.declared.entries.Entry.Entry, specs.declared.numbers.Numbers.Numbers, specs.Encoding.{HasDefinitions, HasPaths, HasConstants}}
+use Rattle.ct_cnf.specs.Lists.{why_of, no_of, entry, same_of, equal_entries, not_entries, and_entries, or_entries, defining_entries, definition_entries, path_entry, over_entries, apart_entries, between_entries, into_entries, paths_after, all_entries}
+use Rattle.ct_cnf.specs.Making.{IsNumbering}
+use Rattle.ct_word.specs.declared.kinds.Kind.TheVariants as kind
+use Rattle.ct_derivation.specs.declared.steps.Why.TheVariants as why
 
 -- each defining clause is named
 named_definition : (n : Numbers) (o : Option Kind) (k p a b : ℕ) (c : Clause) → defining o k p a b ≡ Some c → Contains (map why_of (defining_entries n o p a b)) (why.Def p k)
@@ -38,10 +29,6 @@ named_definition n (Some kind.Or) (suc zero) p a b c e = (1, omega arith, refl)
 named_definition n (Some kind.Or) (suc (suc zero)) p a b c e = (2, omega arith, refl)
 named_definition n _ k p a b c e = absurd (none-some c e)
 
-named_word : (n : Numbers) (o : Option ℕ) (k p : ℕ) (c : Clause) → definition o p k ≡ Some c → Contains (map why_of (word_entries n p o)) (why.Def p k)
-named_word n None k p c e = absurd (none-some c e)
-named_word n (Some w) k p c e = named_definition n (kind_of w) k p (left_of w) (right_of w) c e
-
 module _ (ws : List ℕ) (root : ℕ) (n : Numbers) (num : IsNumbering ws root n) where
   abbrev origins : List Why
   origins = map why_of (all_entries ws root n)
@@ -57,13 +44,15 @@ module _ (ws : List ℕ) (root : ℕ) (n : Numbers) (num : IsNumbering ws root n
       later_item (flat_map (definition_entries ws n) n.conditions ++ paths_after ws n [] n.terms) _ e
       (Contains-append_left (flat_map (definition_entries ws n) n.conditions) (paths_after ws n [] n.terms) e (flat_item (definition_entries ws n) n.conditions p e hp he))
 
-  named_at : (p k : ℕ) (c : Clause) → definition (slice_get ws p) p k ≡ Some c → Contains (map why_of (definition_entries ws n p)) (why.Def p k)
+  named_at : (p k : ℕ) (c : Clause) → p < length ws → definition (slice_get ws p) p k ≡ Some c → Contains (map why_of (definition_entries ws n p)) (why.Def p k)
   unfolding definition_entries
-  named_at p k c e = named_word n (slice_get ws p) k p c e
+  named_at p k c lt e =
+      let w = get_or ws p 0 in
+      named_definition n (kind_of w) k p (left_of w) (right_of w) c (ap (λ o. definition o p k) (sym (slice_get-get_or ws p 0 lt)) ∙ e)
 
   pub has_definitions : HasDefinitions ws root origins
   has_definitions p k c below e =
-      let found = unmapped_item why_of (definition_entries ws n p) (why.Def p k) (named_at p k c e) in
+      let found = unmapped_item why_of (definition_entries ws n p) (why.Def p k) (named_at p k c (num.within p (num.all_conditions p below)) e) in
       subst (Contains origins) found.2
       (mapped_item why_of (all_entries ws root n) found.0 (from_definition p found.0 (num.all_conditions p below) found.1))
 

@@ -1,14 +1,12 @@
 -- The pairs of terms, and where each stands.
 use Rattle.std.proofs.Common.{◌≡◌, ℕ, zero, suc, ◌+◌, ◌-◌, ◌*◌, ◌/◌, ◌<◌, List, [], ◌∷◌, ◌++◌, length, get_or, refl, ap, ◌∙◌, sym, subst, arith, inl, inr, append_assoc, length-append}
-use Rattle.std.specs.Prelude.{Contains}
-use Rattle.std.proofs.Math.Nat.{suc-mul, mul-suc}
-use Rattle.std.proofs.lemmas.Bool.{cases_lt}
+use Rattle.std.{specs.Prelude.Contains, proofs.Math.Nat.{suc-mul, mul-suc}, proofs.lemmas.Bool.cases_lt}
 use Rattle.std.proofs.lemmas.List.{length-map, length_push, get_or_push, get_or_append_left, get_or-append-add, get_or-map, get_or_default}
 use Rattle.std.proofs.lemmas.List.Elements.{Contains-get_or, Contains-append_left, Contains-append_right, Contains-append_cases}
 use Rattle.ct_derivation.specs.declared.literals.Atom.{Atom}
-use Rattle.ct_derivation.specs.declared.literals.Atom.TheVariants as atom
 use Rattle.ct_cnf.specs.Lists.{pairs_with, pairs_after, pairs_of}
 use Rattle.ct_word.proofs.Items.{no_item, mapped_item, unmapped_item}
+use Rattle.ct_derivation.specs.declared.literals.Atom.TheVariants as atom
 
 half_more : (x y : ℕ) → (x + y + y) / 2 ≡ x / 2 + y
 half_more x y = omega arith

@@ -1,10 +1,9 @@
 -- The clauses of paths of two and of three terms.
-use Rattle.std.proofs.Common.{◌≡◌, ◌≢◌, ℕ, true, not, List, [], ◌∷◌, Some, None, nat_eq, refl, ap, if◌then◌else◌}
-use Rattle.std.proofs.lemmas.Bool.{and_from, ne_eqb}
-use Rattle.ct_word.specs.declared.kinds.Class.TheVariants as class
+use Rattle.std.{proofs.Common.{◌≡◌, ◌≢◌, ℕ, true, not, List, [], ◌∷◌, Some, None, nat_eq, refl, ap, if◌then◌else◌}, proofs.lemmas.Bool.{and_from, ne_eqb}}
 use Rattle.ct_word.specs.WellFormed.{is_place_of}
-use Rattle.ct_derivation.specs.Literal as literal
 use Rattle.ct_derivation.specs.Path.{is_path, path_clause, pair_of, ends_clause}
+use Rattle.ct_word.specs.declared.kinds.Class.TheVariants as class
+use Rattle.ct_derivation.specs.Literal as literal
 
 unequal : (s t : ℕ) → s ≢ t → not (nat_eq s t) ≡ true
 unequal s t ne = ap not (ne_eqb s t ne)

@@ -1,17 +1,11 @@
 -- The walk that marks what stands below a root.
-use Rattle.std.proofs.Common.{◌≡◌, ℕ, zero, suc, ◌+◌, ◌-◌, ◌<◌, Bool, true, false, List, [], ◌∷◌, length, replicate, get_or, set, Option, Some, None, refl, ap, ◌∙◌, sym, subst, arith, inl, inr, ◌⊎◌, length-set, get_or-set_other, get_or-set_same}
-use Rattle.std.specs.Prelude.{slice_get, Contains}
-use Rattle.std.proofs.lemmas.Bool.{false≢true, cases_eq, cases_lt}
-use Rattle.std.proofs.lemmas.List.{length-replicate, get_or-replicate, get_or_past}
-use Rattle.std.proofs.lemmas.List.Elements.{Contains-append_left, Contains-append_right, Contains-append_cases}
-use Rattle.ct_word.specs.declared.kinds.Kind.{Kind}
-use Rattle.ct_word.specs.Word.{kind_of, left_of, right_of}
-use Rattle.ct_word.specs.WellFormed.{Field, Zero, Any, Byte, Scalar, Session, Positive, PlaceOf, fields_of, fits, is_formed_as, IsWellFormed}
-use Rattle.ct_word.specs.Stands.{Below, itself, through, place_in, places_in, places_of}
-use Rattle.ct_word.proofs.Splits.{split_at, formed_at, formed_fields, place_within}
+use Rattle.std.proofs.Common.{◌≡◌, ℕ, zero, suc, ◌+◌, ◌-◌, ◌<◌, Bool, true, false, List, [], ◌∷◌, length, replicate, get_or, set, Some, refl, ap, ◌∙◌, sym, subst, arith, inl, inr, ◌⊎◌, length-set, get_or-set_other, get_or-set_same}
+use Rattle.std.{specs.Prelude.{slice_get, Contains}, proofs.lemmas.Bool.{false≢true, cases_eq, cases_lt}}
+use Rattle.std.{proofs.lemmas.List.{length-replicate, get_or-replicate, get_or_past}, proofs.lemmas.List.Elements.{Contains-append_left, Contains-append_right}}
+use Rattle.ct_word.{specs.declared.kinds.Kind.Kind, specs.Word.{kind_of, left_of, right_of}, specs.WellFormed.{Field, PlaceOf, fields_of, IsWellFormed}}
+use Rattle.ct_word.{specs.Stands.{Below, itself, through, place_in, places_in, places_of}, proofs.Fields.named_earlier}
+use Rattle.ct_word.proofs.Items.{first_item, later_item, item_cases, no_item}
 use Rattle.ct_cnf.specs.Marks.{names_place, is_marked, with_marks, AreBelow, IsMarking}
-use Rattle.ct_word.proofs.Fields.{named_earlier}
-use Rattle.ct_word.proofs.Items.{first_item, later_item, item_cases, no_item, sole_item}
 
 -- the places of a word
 place_named : (f : Field) (n : ℕ) → names_place f ≡ true → Contains (place_in f n) n
@@ -31,7 +25,7 @@ right_named w k e n =
     (Contains-append_right (place_in (fields_of k).0 (left_of w)) (place_in (fields_of k).1 (right_of w)) (right_of w) (place_named (fields_of k).1 (right_of w) n))
 
 -- more marks
-length_marked : (ms : List Bool) (ps : List ℕ) → length (with_marks ms ps) ≡ length ms
+pub length_marked : (ms : List Bool) (ps : List ℕ) → length (with_marks ms ps) ≡ length ms
 length_marked ms [] = refl
 length_marked ms (p ∷ ps) = length_marked (set ms p true) ps ∙ length-set ms p true
 
@@ -77,27 +71,26 @@ pub below_more : (ws : List ℕ) (p q r w : ℕ) → Below ws p q → slice_get 
 below_more ws p q r w (itself {p = x}) at h = through w r at h itself
 below_more ws p q r w (through v m first_at among rest) at h = through v m first_at among (below_more ws m q r w rest at h)
 
-module _ (ws : List ℕ) (wf : IsWellFormed ws) (root : ℕ) (within : root < length ws) where
-  -- the walk begins at the root
-  only_root : (n p : ℕ) → is_marked (set (replicate n false) root true) p ≡ true → p ≡ root
-  only_root n p e =
-      elim (cases_eq p root) [
-        | inl same ↦ same
-        | inr other ↦ absurd (false≢true (sym (blank n p) ∙ sym (get_or-set_other (replicate n false) root p true false other) ∙ e))
-      ]
-    where
-      blank : (n p : ℕ) → get_or (replicate n false) p false ≡ false
-      blank n p = elim (cases_lt p n) [
-        | inl lt ↦ get_or-replicate n p false false lt
-        | inr ge ↦ get_or_past (replicate n false) p false (omega (arith, length-replicate n false, ge))
-      ]
+blank : (n p : ℕ) → get_or (replicate n false) p false ≡ false
+blank n p = elim (cases_lt p n) [
+  | inl lt ↦ get_or-replicate n p false false lt
+  | inr ge ↦ get_or_past (replicate n false) p false (omega (arith, length-replicate n false, ge))
+]
 
+-- where a walk begins, one place is marked
+pub only_marked : (n root p : ℕ) → is_marked (set (replicate n false) root true) p ≡ true → p ≡ root
+only_marked n root p e = elim (cases_eq p root) [
+  | inl same ↦ same
+  | inr other ↦ absurd (false≢true (sym (blank n p) ∙ sym (get_or-set_other (replicate n false) root p true false other) ∙ e))
+]
+
+module _ (ws : List ℕ) (wf : IsWellFormed ws) (root : ℕ) (within : root < length ws) where
   pub marking_starts : (n : ℕ) → n ≡ root + 1 → IsMarking ws root n (set (replicate n false) root true)
   marking_starts n e = record {
     long = length-set (replicate n false) root true ∙ length-replicate n false ∙ e;
-    each = λ p m. subst (λ q. Below ws root q) (sym (only_root n p m)) itself;
+    each = λ p m. subst (λ q. Below ws root q) (sym (only_marked n root p m)) itself;
     top = get_or-set_same (replicate n false) root true false (omega (arith, length-replicate n false, e));
-    closed = λ p w q le m at h. absurd (omega (arith, only_root n p m, le, e));
+    closed = λ p w q le m at h. absurd (omega (arith, only_marked n root p m, le, e));
   }
 
   module _ (ms : List Bool) (from : ℕ) (walk : IsMarking ws root from ms) (pos : 0 < from) where
@@ -120,18 +113,6 @@ module _ (ws : List ℕ) (wf : IsWellFormed ws) (root : ℕ) (within : root < le
               now_marked ms (places_of w) q (omega (arith, walk.long, marked_within ms place m, named_earlier ws wf p x q there h, same))
               (subst (λ y. Contains (places_of y) q) one h)
         ]
-      ];
-    }
-
-    -- a place that is not marked has no word to follow
-    pub marking_skips : is_marked ms place ≡ false → IsMarking ws root place ms
-    marking_skips m = record {
-      long = walk.long;
-      each = walk.each;
-      top = walk.top;
-      closed = λ p x q le e there h. elim (cases_lt place p) [
-        | inl above ↦ walk.closed p x q (omega (arith, above, pos)) e there h
-        | inr not_above ↦ let same : p ≡ place = omega (arith, not_above, le) in absurd (false≢true (sym m ∙ sym (ap (is_marked ms) same) ∙ e))
       ];
     }
 

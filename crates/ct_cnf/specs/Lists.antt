@@ -1,5 +1,5 @@
 -- The lists that an encoding is made of.
-use Rattle.std.specs.Prelude.{◌≡◌, ◌<◌, ◌≤◌, ◌^◌, ◌+◌, ◌-◌, ◌*◌, ◌/◌, ℕ, ℤ, pos, zero, suc, Bool, true, false, ◌&&◌, ◌||◌, List, [], ◌∷◌, ◌++◌, map, length, Option, Some, None, nat_eq, nat_lt, slice_get, slice_index_or, Contains, if◌then◌else◌}
+use Rattle.std.specs.Prelude.{◌≡◌, ◌<◌, ◌≤◌, ◌^◌, ◌+◌, ◌-◌, ◌*◌, ◌/◌, ℕ, ℤ, pos, zero, suc, Bool, true, false, ◌&&◌, ◌||◌, List, [], ◌∷◌, ◌++◌, map, length, Option, Some, nat_eq, nat_lt, slice_index_or, Contains, if◌then◌else◌}
 use Rattle.std.specs.List.{flat_map}
 use Rattle.std.proofs.Math.IntN.{neg_ℤ}
 use Rattle.ct_word.specs.declared.kinds.Kind.{Kind}
@@ -112,13 +112,12 @@ defining_entries n (Some kind.Or) p a b = or_entries p (node_of n p) (node_of n 
 defining_entries n _ p a b = []
 
 -- those of the condition whose word this is
-abbrev pub word_entries : Numbers → ℕ → Option ℕ → List Entry
-word_entries n p None = []
-word_entries n p (Some w) = defining_entries n (kind_of w) p (left_of w) (right_of w)
+abbrev pub word_entries : Numbers → ℕ → ℕ → List Entry
+word_entries n p w = defining_entries n (kind_of w) p (left_of w) (right_of w)
 
 -- those of the condition at a place
 unfoldable pub definition_entries : List ℕ → Numbers → ℕ → List Entry
-definition_entries words n p = word_entries n p (slice_get words p)
+definition_entries words n p = word_entries n p (slice_index_or words p 0)
 
 -- that the ends of a path are equal; left out where they are different constants
 abbrev pub end_literals : List ℕ → Numbers → ℕ → ℕ → List ℤ
@@ -186,3 +185,7 @@ AreFieldsNumbered n (Some kind.Not) a b = Contains n.conditions a
 AreFieldsNumbered n (Some kind.And) a b = Contains n.conditions a × Contains n.conditions b
 AreFieldsNumbered n (Some kind.Or) a b = Contains n.conditions a × Contains n.conditions b
 AreFieldsNumbered n _ a b = Unit {0}
+
+-- the fields of the condition whose word this is are numbered
+abbrev pub HasNumberedFields : Numbers → ℕ → Type 0
+HasNumberedFields n w = AreFieldsNumbered n (kind_of w) (left_of w) (right_of w)

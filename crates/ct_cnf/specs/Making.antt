@@ -1,10 +1,9 @@
 -- What an encoding is made of.
-use Rattle.std.specs.Prelude.{◌≡◌, ◌<◌, ℕ, List, map, length, Some, slice_get, Contains}
-use Rattle.ct_word.specs.Word.{kind_of, left_of, right_of}
+use Rattle.std.specs.Prelude.{◌≡◌, ◌<◌, ℕ, List, map, length, slice_index_or, Contains}
 use Rattle.ct_cnf.specs.declared.encoding.Encoded.{Encoded}
 use Rattle.ct_cnf.specs.declared.numbers.Numbers.{Numbers}
 use Rattle.ct_cnf.specs.Encoding.{IsConditionBelow, IsTermBelow}
-use Rattle.ct_cnf.specs.Lists.{AreNumbers, AreFieldsNumbered, clause_of, why_of, atoms_of, all_entries}
+use Rattle.ct_cnf.specs.Lists.{AreNumbers, HasNumberedFields, clause_of, why_of, atoms_of, all_entries}
 
 -- the numbers of the conditions and the terms below a root
 pub record IsNumbering (words : List ℕ) (root : ℕ) (n : Numbers) : Type 0 where
@@ -15,7 +14,7 @@ pub record IsNumbering (words : List ℕ) (root : ℕ) (n : Numbers) : Type 0 wh
   pub terms_below : (p : ℕ) → Contains n.terms p → IsTermBelow words root p
   pub all_terms : (p : ℕ) → IsTermBelow words root p → Contains n.terms p
   pub within : (p : ℕ) → Contains n.conditions p → p < length words
-  pub fields : (p w : ℕ) → Contains n.conditions p → slice_get words p ≡ Some w → AreFieldsNumbered n (kind_of w) (left_of w) (right_of w)
+  pub fields : (p : ℕ) → Contains n.conditions p → HasNumberedFields n (slice_index_or words p 0)
 
 -- the parts of an encoding by its numbers
 pub record IsMadeOf (words : List ℕ) (root : ℕ) (n : Numbers) (e : Encoded) : Type 0 where

@@ -1,9 +1,8 @@
 // The clauses that define conditions by their fields.
 
-ghost use Rattle.std.specs.Prelude.{◌≡◌, ◌<◌, ◌^◌, ◌++◌, ℕ, Some, length, slice_get, OnOk, Contains};
+ghost use Rattle.std.specs.Prelude.{◌≡◌, ◌<◌, ◌^◌, ◌++◌, ℕ, length, slice_index_or, OnOk, Contains};
 ghost use Rattle.std.specs.List.{flat_map};
-ghost use Rattle.ct_word.specs.Word.{kind_of, left_of, right_of};
-ghost use Rattle.ct_cnf.specs.Lists.{AreNumbers, AreFieldsNumbered, equal_entries, not_entries, and_entries, or_entries, defining_entries, definition_entries};
+ghost use Rattle.ct_cnf.specs.Lists.{AreNumbers, HasNumberedFields, equal_entries, not_entries, and_entries, or_entries, word_entries, definition_entries};
 
 use crate::entries::{Entry, add, no, yes};
 use crate::numbers::Numbers;
@@ -89,8 +88,8 @@ fn define(
 ) -> Result<(), Memory>
     requires numbers { AreNumbers numbers.now }
     requires listed { Contains numbers.now.conditions p }
-    requires fields { AreFieldsNumbered numbers.now (kind_of word) (left_of word) (right_of word) }
-    ensures { OnOk result (entries.new.items ≡ entries.old.items ++ defining_entries numbers.now (kind_of word) p (left_of word) (right_of word)) }
+    requires fields { HasNumberedFields numbers.now word }
+    ensures { OnOk result (entries.new.items ≡ entries.old.items ++ word_entries numbers.now p word) }
 {
     let node = numbers.node(p);
     let (left, right) = (left(word), right(word));
@@ -112,6 +111,7 @@ fn define(
 }
 
 /// Adds the clauses of all conditions.
+#[tactic(auto, unfolding(crate::specs::Lists::definition_entries))]
 pub fn add_definitions(
     alloc: Global,
     words: &[u64],
@@ -120,7 +120,7 @@ pub fn add_definitions(
 ) -> Result<(), Memory>
     requires numbers { AreNumbers numbers.now }
     requires within { (p : ℕ) → Contains numbers.now.conditions p → p < length words.now }
-    requires fields { (p w : ℕ) → Contains numbers.now.conditions p → slice_get words.now p ≡ Some w → AreFieldsNumbered numbers.now (kind_of w) (left_of w) (right_of w) }
+    requires fields { (p : ℕ) → Contains numbers.now.conditions p → HasNumberedFields numbers.now (slice_index_or words.now p 0) }
     ensures { OnOk result (entries.new.items ≡ entries.old.items ++ flat_map (definition_entries words.now numbers.now) numbers.now.conditions) }
 {
     for p in numbers.conditions.as_slice() {

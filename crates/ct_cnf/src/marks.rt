@@ -8,37 +8,18 @@ ghost use Rattle.ct_cnf.specs.Marks.{names_place, with_marks, AreBelow};
 use ct_word::{Kind, Memory, kind, left, right};
 use std::alloc::{AllocError, Global};
 
-/// Whether the left field of a word of this kind names a place.
-fn names_left(kind: Kind) -> bool
-    ensures { result ≡ names_place (fields_of kind).0 }
+/// Whether the left field of a word of this kind names a place, and whether the right one does.
+fn names_places(kind: Kind) -> (bool, bool)
+    ensures left { result.0 ≡ names_place (fields_of kind).0 }
+    ensures right { result.1 ≡ names_place (fields_of kind).1 }
 {
     match kind {
         Kind::TextCharacter
         | Kind::Number
         | Kind::TextConstant
         | Kind::NamedNull
-        | Kind::Equal
         | Kind::Not
-        | Kind::And
-        | Kind::Or
-        | Kind::RowCell
-        | Kind::ConditionalRow
-        | Kind::Rows
-        | Kind::Names
-        | Kind::Create
-        | Kind::Insert
-        | Kind::Delete
-        | Kind::Assert
-        | Kind::Changes => true,
-        _ => false,
-    }
-}
-
-/// Whether the right field of a word of this kind names a place.
-fn names_right(kind: Kind) -> bool
-    ensures { result ≡ names_place (fields_of kind).1 }
-{
-    match kind {
+        | Kind::Assert => (true, false),
         Kind::Equal
         | Kind::And
         | Kind::Or
@@ -49,9 +30,9 @@ fn names_right(kind: Kind) -> bool
         | Kind::Create
         | Kind::Insert
         | Kind::Delete
-        | Kind::Changes
-        | Kind::Commit => true,
-        _ => false,
+        | Kind::Changes => (true, true),
+        Kind::Commit => (false, true),
+        _ => (false, false),
     }
 }
 
@@ -64,10 +45,11 @@ fn mark_fields(marks: &mut Vec<bool>, word: u64)
     let Some(kind) = kind(word) else {
         return;
     };
-    if names_left(kind) {
+    let (names_left, names_right) = names_places(kind);
+    if names_left {
         marks[left(word) as usize] = true;
     }
-    if names_right(kind) {
+    if names_right {
         marks[right(word) as usize] = true;
     }
 }

@@ -1,61 +1,13 @@
 // The clauses by which equality is transitive, and different constants differ.
 
-ghost use Rattle.std.specs.Prelude.{◌≡◌, ◌++◌, ◌∷◌, [], ℕ, OnOk, Contains};
-ghost use Rattle.std.specs.List.{flat_map};
-ghost use Rattle.ct_cnf.specs.Lists.{AreNumbers, path_entry, over_entries, apart_entries, into_entries, paths_after};
+ghost use Rattle.std.specs.Prelude.{◌≡◌, ◌++◌, [], ℕ, OnOk, Contains};
+ghost use Rattle.ct_cnf.specs.Lists.{AreNumbers, over_entries, between_entries, into_entries, paths_after};
 
 use crate::entries::{Entry, add, no, yes};
 use crate::numbers::Numbers;
 use ct_derivation::Why;
 use ct_word::{List, Memory, is_constant};
 use std::alloc::Global;
-
-/// Adds the clause of the path from r over s to t.
-fn add_path(
-    alloc: Global,
-    words: &[u64],
-    numbers: &Numbers,
-    r: u32,
-    s: u32,
-    t: u32,
-    entries: &mut Vec<Entry>,
-) -> Result<(), Memory>
-    requires numbers { AreNumbers numbers.now }
-    requires first { Contains numbers.now.terms r }
-    requires middle { Contains numbers.now.terms s }
-    requires last { Contains numbers.now.terms t }
-    ensures { OnOk result (entries.new.items ≡ entries.old.items ++ path_entry words.now numbers.now r t s ∷ []) }
-{
-    let (first, second) = (no(numbers.same(r, s)), no(numbers.same(s, t)));
-    let why = Why::Path(List::from_vec(vec![in alloc; r, s, t]?));
-    if is_constant(words, r) && is_constant(words, t) {
-        return add(alloc, entries, &[first, second], why);
-    }
-    let ends = yes(numbers.same(r, t));
-    add(alloc, entries, &[first, second, ends], why)
-}
-
-/// Adds the clause by which r and t differ, where both are constants.
-#[tactic(auto, unfolding(crate::specs::Lists::apart_entries))]
-fn add_apart(
-    alloc: Global,
-    words: &[u64],
-    numbers: &Numbers,
-    r: u32,
-    t: u32,
-    entries: &mut Vec<Entry>,
-) -> Result<(), Memory>
-    requires numbers { AreNumbers numbers.now }
-    requires first { Contains numbers.now.terms r }
-    requires last { Contains numbers.now.terms t }
-    ensures { OnOk result (entries.new.items ≡ entries.old.items ++ apart_entries words.now numbers.now r t) }
-{
-    if is_constant(words, r) && is_constant(words, t) {
-        let why = Why::Path(List::from_vec(vec![in alloc; r, t]?));
-        add(alloc, entries, &[no(numbers.same(r, t))], why)?;
-    }
-    Ok(())
-}
 
 /// Adds the clause of the path from r over s to t, where s is no end.
 #[tactic(auto, unfolding(crate::specs::Lists::over_entries))]
@@ -77,11 +29,19 @@ fn add_over(
     if s == r || s == t {
         return Ok(());
     }
-    add_path(alloc, words, numbers, r, s, t, entries)
+    let (first, second) = (no(numbers.same(r, s)), no(numbers.same(s, t)));
+    let why = Why::Path(List::from_vec(vec![in alloc; r, s, t]?));
+    if is_constant(words, r) && is_constant(words, t) {
+        return add(alloc, entries, &[first, second], why);
+    }
+    let ends = yes(numbers.same(r, t));
+    add(alloc, entries, &[first, second, ends], why)
 }
 
-/// Adds the clauses of the paths from r to t over one other term.
-fn add_over_each(
+/// Adds the clause by which r and t differ, where both are constants, and those of the paths from r
+/// to t over one other term.
+#[tactic(auto, unfolding(crate::specs::Lists::between_entries, crate::specs::Lists::apart_entries))]
+fn add_between(
     alloc: Global,
     words: &[u64],
     numbers: &Numbers,
@@ -90,10 +50,13 @@ fn add_over_each(
     entries: &mut Vec<Entry>,
 ) -> Result<(), Memory>
     requires numbers { AreNumbers numbers.now }
-    requires first { Contains numbers.now.terms r }
-    requires last { Contains numbers.now.terms t }
-    ensures { OnOk result (entries.new.items ≡ entries.old.items ++ flat_map (over_entries words.now numbers.now r t) numbers.now.terms) }
+    requires ends { Contains numbers.now.terms r × Contains numbers.now.terms t }
+    ensures { OnOk result (entries.new.items ≡ entries.old.items ++ between_entries words.now numbers.now r t) }
 {
+    if is_constant(words, r) && is_constant(words, t) {
+        let why = Why::Path(List::from_vec(vec![in alloc; r, t]?));
+        add(alloc, entries, &[no(numbers.same(r, t))], why)?;
+    }
     for s in numbers.terms.as_slice() {
         add_over(alloc, words, numbers, r, *s, t, entries)?;
     }
@@ -101,7 +64,7 @@ fn add_over_each(
 }
 
 /// Adds the clauses of the paths to t from earlier terms.
-#[tactic(auto, unfolding(crate::specs::Lists::into_entries, crate::specs::Lists::between_entries))]
+#[tactic(auto, unfolding(crate::specs::Lists::into_entries))]
 fn add_into(
     alloc: Global,
     words: &[u64],
@@ -116,8 +79,7 @@ fn add_into(
     ensures { OnOk result (entries.new.items ≡ entries.old.items ++ into_entries words.now numbers.now earlier.now t) }
 {
     for r in earlier {
-        add_apart(alloc, words, numbers, *r, t, entries)?;
-        add_over_each(alloc, words, numbers, *r, t, entries)?;
+        add_between(alloc, words, numbers, *r, t, entries)?;
     }
     Ok(())
 }

@@ -1,57 +1,31 @@
 -- The derivation of a refutation is accepted.
-use Rattle.std.proofs.Common.{◌≡◌, ℕ, Bool, true, ◌&&◌, List, [], ◌∷◌, ◌++◌, ◌<◌, suc, length, map, replicate, drop, Some, refl, ap, ◌∙◌, sym, subst, arith, inl, inr, ℤ, append_assoc, append-nil}
-use Rattle.std.specs.Prelude.{Contains}
-use Rattle.std.specs.List.{list_all, list_any}
-use Rattle.std.proofs.lemmas.Bool.{and_parts, and_from, or_left, or_right, false≢true, lt-ltb}
-use Rattle.std.proofs.lemmas.Option.{none-some}
-use Rattle.std.proofs.lemmas.List.{map-append, length-map}
-use Rattle.std.proofs.lemmas.List.Folds.{list_all-append}
-use Rattle.std.proofs.lemmas.List.Elements.{Contains-append_cases}
-use Rattle.ct_word.specs.declared.kinds.Class.TheVariants as class
-use Rattle.ct_word.specs.WellFormed.{is_place_of}
-use Rattle.ct_derivation.specs.declared.literals.Atom.{Atom}
-use Rattle.ct_derivation.specs.declared.literals.Atom.TheVariants as atom
-use Rattle.ct_derivation.specs.declared.literals.Lit.{Lit}
-use Rattle.ct_derivation.specs.declared.steps.Why.{Why}
-use Rattle.ct_derivation.specs.declared.steps.Why.TheVariants as why
-use Rattle.ct_derivation.specs.declared.steps.Step.{Step}
-use Rattle.ct_derivation.specs.declared.steps.Derivation.{Derivation}
-use Rattle.ct_derivation.specs.Literal.{Clause, same_lit, has, same_members}
-use Rattle.ct_derivation.specs.Propagation.{follows}
+use Rattle.std.proofs.Common.{◌≡◌, ℕ, Bool, true, ◌&&◌, List, [], ◌∷◌, ◌++◌, ◌<◌, suc, length, map, replicate, drop, get_or, Some, refl, ap, ◌∙◌, sym, subst, arith, inl, inr, ℤ, append_assoc, append-nil}
+use Rattle.std.{specs.Prelude.Contains, specs.List.list_all, proofs.lemmas.Bool.{and_parts, and_from, false≢true, lt-ltb}, proofs.lemmas.Option.none-some}
+use Rattle.std.{proofs.lemmas.List.{map-append, length-map}, proofs.lemmas.List.Folds.{list_all-append, list_any_at}}
+use Rattle.std.{proofs.lemmas.List.Elements.Contains-append_cases, proofs.lemmas.List.Sums.list_all-from_AllPass}
+use Rattle.ct_word.{specs.WellFormed.is_place_of, proofs.Items.{mapped_item, unmapped_item}}
+use Rattle.ct_derivation.{specs.declared.literals.Atom.Atom, specs.declared.literals.Lit.Lit, specs.declared.steps.Why.Why, specs.declared.steps.Step.Step}
+use Rattle.ct_derivation.{specs.declared.steps.Derivation.Derivation, specs.Literal.{Clause, same_lit, has, same_members}, specs.Propagation.follows}
 use Rattle.ct_derivation.specs.Variables.{signed}
 use Rattle.ct_derivation.specs.Accepts.{over_atoms, clauses_of, fits_atom, fits_lit, hints_of, gives, is_right, all_right, ends_empty, is_empty, accepts, Accepts}
-use Rattle.ct_derivation.specs.Accepts as accepted
-use Rattle.ct_sat.specs.declared.verdict.Rup.{Rup}
-use Rattle.ct_sat.specs.Literal.{is_literal, is_clause, numbered}
-use Rattle.ct_sat.specs.Learned.{clause_of, each_follows}
-use Rattle.ct_sat.specs.Verdict as verdict
+use Rattle.ct_sat.{specs.declared.verdict.Rup.Rup, specs.Literal.{is_literal, is_clause, numbered}, specs.Learned.{clause_of, each_follows}}
 use Rattle.ct_sat.proofs.Carried.{follows_carried}
-use Rattle.ct_cnf.specs.declared.encoding.Encoded.{Encoded}
-use Rattle.ct_cnf.specs.Encoding.{named, through, origin_clause, AreOrigins, HasNodesBelow, HasPairsBelow}
-use Rattle.ct_decide.specs.Question.{IsEncoding}
-use Rattle.ct_decide.specs.Translation.{step, given_steps, learned_step, learned_steps, derivation_of}
-use Rattle.ct_word.proofs.Items.{mapped_item, unmapped_item}
+use Rattle.ct_cnf.{specs.declared.encoding.Encoded.Encoded, specs.Encoding.{named, through, origin_clause, AreOrigins, HasNodesBelow, HasPairsBelow}}
+use Rattle.ct_decide.{specs.Question.IsEncoding, specs.Translation.{step, given_steps, learned_step, learned_steps, derivation_of}}
 use Rattle.ct_decide.specs.Cut.{IsAtomBelow, IsHintOfLater, IsCut, kept, ranks, why_by, step_by, cut, all_hints, hints_at, HaveEarlier, AreNeeded, IsCutOf}
-use Rattle.ct_decide.proofs.Kept.{all_item, kept_item, kept_parts}
-use Rattle.ct_decide.proofs.Cuts.{hints_in, right_earlier, right_kept, end_kept, hint_kept}
-use Rattle.ct_decide.proofs.Named.{same_lit_self, carries, atom_there, solvable}
-
-has_more : (ls : Clause) (m l : Lit) → has ls l ≡ true → has (m ∷ ls) l ≡ true
-unfolding has
-has_more ls m l e = or_right (same_lit l m) (list_any (same_lit l) ls) e
-
-has_first : (ls : Clause) (l : Lit) → has (l ∷ ls) l ≡ true
-unfolding has
-has_first ls l = or_left (same_lit l l) (list_any (same_lit l) ls) (same_lit_self l)
-
--- all of a clause's literals are among more of them
-all_among : (ls ms : Clause) → ((l : Lit) → has ls l ≡ true → has ms l ≡ true) → list_all (has ms) ls ≡ true
-all_among [] ms more = refl
-all_among (l ∷ ls) ms more = and_from (has ms l) _ (more l (has_first ls l)) (all_among ls ms (λ m e. more m (has_more ls l m e)))
+use Rattle.ct_decide.{proofs.Kept.{all_item, kept_item, kept_parts}, proofs.Cuts.{hints_in, right_earlier, right_kept, end_kept, hint_kept}}
+use Rattle.ct_decide.proofs.Named.{same_lit_self, carries, atom_there}
+use Rattle.ct_word.specs.declared.kinds.Class.TheVariants as class
+use Rattle.ct_derivation.specs.declared.literals.Atom.TheVariants as atom
+use Rattle.ct_derivation.specs.declared.steps.Why.TheVariants as why
+use Rattle.ct_derivation.specs.Accepts as accepted
+use Rattle.ct_sat.specs.Verdict as verdict
 
 same_members_self : (ls : Clause) → same_members ls ls ≡ true
-unfolding same_members
-same_members_self ls = and_from _ _ (all_among ls ls (λ l e. e)) (all_among ls ls (λ l e. e))
+unfolding same_members has
+same_members_self ls =
+    let all = list_all-from_AllPass (has ls) ls (λ k d lt. list_any_at (same_lit (get_or ls k d)) ls k d lt (same_lit_self (get_or ls k d))) in
+    and_from _ _ all all
 
 module _ (words : List ℕ) (root : ℕ) (atoms : List Atom) (nodes : HasNodesBelow words root atoms) (terms : HasPairsBelow words root atoms) where
   fits_there : (a : Atom) → Contains atoms a → fits_atom words a ≡ true
@@ -70,45 +44,31 @@ module _ (words : List ℕ) (root : ℕ) (atoms : List Atom) (nodes : HasNodesBe
 
   origin_gives : (earlier : List Step) (w : Why) (c : Clause) → origin_clause words root w ≡ Some c → gives words root earlier w c ≡ true
   unfolding gives
-  origin_gives earlier why.Root c e = ap (λ o. accepted.is_clause o c) e ∙ same_members_self c
-  origin_gives earlier (why.Def p k) c e = ap (λ o. accepted.is_clause o c) e ∙ same_members_self c
-  origin_gives earlier (why.Path ts) c e = ap (λ o. accepted.is_clause o c) e ∙ same_members_self c
   origin_gives earlier (why.Rup hs) c e = absurd (none-some c e)
+  origin_gives earlier _ c e = ap (λ o. accepted.is_clause o c) e ∙ same_members_self c
 
   given_is_right : (earlier : List Step) (ls : List ℤ) (w : Why) → is_clause (length atoms) ls ≡ true → origin_clause words root w ≡ Some (through atoms ls)
       → is_right words root earlier (step (through atoms ls) w) ≡ true
   unfolding is_right
   given_is_right earlier ls w v e = and_from _ _ (fits_through ls v) (origin_gives earlier w (through atoms ls) e)
 
-  head_is : {X : Type 0} (x y : X) (xs ys : List X) → x ∷ xs ≡ y ∷ ys → x ≡ y
-  head_is x y xs ys e = cc
-
-  tail_is : {X : Type 0} (x y : X) (xs ys : List X) → x ∷ xs ≡ y ∷ ys → xs ≡ ys
-  tail_is x y xs ys e = cc
-
-  not_empty : {X : Type 0} (x : X) (xs : List X) → x ∷ xs ≡ [] → ⊥
-  not_empty x xs e = cc
-
-  no_more : {X : Type 0} (x : X) (xs : List X) → [] ≡ x ∷ xs → ⊥
-  no_more x xs e = cc
-
   -- the clauses of the question are right, whatever comes after them
   pub given_right : (cs : List (List ℤ)) (ws : List Why) (earlier rest : List Step) → AreOrigins words root atoms cs ws → list_all (is_clause (length atoms)) cs ≡ true
       → all_right words root (earlier ++ given_steps atoms cs ws) rest ≡ true → all_right words root earlier (given_steps atoms cs ws ++ rest) ≡ true
   given_right [] ws earlier rest o v h = ap (λ xs. all_right words root xs rest) (sym (append-nil earlier)) ∙ h
-  given_right (c ∷ cs) [] earlier rest o v h = absurd (no_more _ _ o)
+  given_right (c ∷ cs) [] earlier rest o v h = cc
   given_right (c ∷ cs) (w ∷ ws) earlier rest o v h =
       let parts = and_parts (is_clause (length atoms) c) _ v in
       let s = step (through atoms c) w in
-      and_from _ _ (given_is_right earlier c w parts.0 (head_is _ _ _ _ o))
-      (given_right cs ws (earlier ++ s ∷ []) rest (tail_is _ _ _ _ o) parts.1
+      and_from _ _ (given_is_right earlier c w parts.0 (cc))
+      (given_right cs ws (earlier ++ s ∷ []) rest (cc) parts.1
       (ap (λ xs. all_right words root xs rest) (append_assoc earlier (s ∷ []) (given_steps atoms cs ws)) ∙ h))
 
   -- the clauses of these steps
   pub given_clauses : (cs : List (List ℤ)) (ws : List Why) → AreOrigins words root atoms cs ws → clauses_of (given_steps atoms cs ws) ≡ map (through atoms) cs
   given_clauses [] ws o = refl
-  given_clauses (c ∷ cs) [] o = absurd (no_more _ _ o)
-  given_clauses (c ∷ cs) (w ∷ ws) o = ap (λ xs. through atoms c ∷ xs) (given_clauses cs ws (tail_is _ _ _ _ o))
+  given_clauses (c ∷ cs) [] o = cc
+  given_clauses (c ∷ cs) (w ∷ ws) o = ap (λ xs. through atoms c ∷ xs) (given_clauses cs ws (cc))
 
 module _ (words : List ℕ) (root : ℕ) (e : Encoded) (enc : IsEncoding words root e) where
   abbrev atoms : List Atom
@@ -156,7 +116,7 @@ module _ (words : List ℕ) (root : ℕ) (e : Encoded) (enc : IsEncoding words r
   after_more (x ∷ z ∷ xs) ys h = after_more (z ∷ xs) ys h
 
   pub clauses_within : list_all (is_clause vars) e.cnf.clauses ≡ true
-  clauses_within = subst (λ n. list_all (is_clause n) e.cnf.clauses ≡ true) enc.variables (solvable e.cnf enc.cnf).clauses
+  clauses_within = subst (λ n. list_all (is_clause n) e.cnf.clauses ≡ true) enc.variables enc.cnf.clauses
 
   pub same_count : length e.origins ≡ length e.cnf.clauses
   same_count = sym (length-map e.origins (origin_clause words root)) ∙ ap length enc.clauses ∙ length-map e.cnf.clauses (λ ls. Some (through atoms ls))
@@ -207,27 +167,25 @@ module _ (words : List ℕ) (root : ℕ) (e : Encoded) (enc : IsEncoding words r
   module _ (numbers : List ℕ) where
     -- a reason of the question has no hints
     plain : (w : Why) (c : Clause) → origin_clause words root w ≡ Some c → (why_by numbers w ≡ w) × (hints_of w ≡ [])
-    plain why.Root c is = (refl, refl)
-    plain (why.Def p k) c is = (refl, refl)
-    plain (why.Path ts) c is = (refl, refl)
     plain (why.Rup hs) c is = absurd (none-some c is)
+    plain _ c is = (refl, refl)
 
     given_same : (cs : List (List ℤ)) (ws : List Why) → AreOrigins words root atoms cs ws → map (step_by numbers) (given_steps atoms cs ws) ≡ given_steps atoms cs ws
     given_same [] ws o = refl
     given_same (c ∷ cs) [] o = refl
     given_same (c ∷ cs) (w ∷ ws) o =
-        ap (λ v. step (through atoms c) v ∷ map (step_by numbers) (given_steps atoms cs ws)) (plain w _ (head_is words root atoms enc.nodes enc.terms _ _ _ _ o)).0
-        ∙ ap (λ ss. step (through atoms c) w ∷ ss) (given_same cs ws (tail_is words root atoms enc.nodes enc.terms _ _ _ _ o))
+        ap (λ v. step (through atoms c) v ∷ map (step_by numbers) (given_steps atoms cs ws)) (plain w (through atoms c) (cc)).0
+        ∙ ap (λ ss. step (through atoms c) w ∷ ss) (given_same cs ws (cc))
 
     given_hints : (cs : List (List ℤ)) (ws : List Why) → AreOrigins words root atoms cs ws → map hints_in (given_steps atoms cs ws) ≡ replicate (length cs) []
     given_hints [] ws o = refl
-    given_hints (c ∷ cs) [] o = absurd (no_more words root atoms enc.nodes enc.terms _ _ o)
+    given_hints (c ∷ cs) [] o = cc
     given_hints (c ∷ cs) (w ∷ ws) o =
-        ap (λ hs. hs ∷ map hints_in (given_steps atoms cs ws)) (plain w _ (head_is words root atoms enc.nodes enc.terms _ _ _ _ o)).1 ∙ ap (λ hs. [] ∷ hs) (given_hints cs ws (tail_is words root atoms enc.nodes enc.terms _ _ _ _ o))
+        ap (λ hs. hs ∷ map hints_in (given_steps atoms cs ws)) (plain w (through atoms c) (cc)).1 ∙ ap (λ hs. [] ∷ hs) (given_hints cs ws (cc))
 
   learned_hints : (rs : List Rup) → map hints_in (learned_steps atoms rs) ≡ map (λ r. r.hints) rs
   learned_hints [] = refl
-  learned_hints (r ∷ rs) = ap (λ hs. r.hints ∷ hs) (learned_hints rs)
+  learned_hints (r ∷ rs) = rw (learned_hints rs)
 
   abbrev given : List Step
   given = given_steps atoms e.cnf.clauses e.origins

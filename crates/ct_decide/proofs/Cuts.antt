@@ -1,22 +1,17 @@
 -- A derivation that is accepted stays so when it is cut to what is needed, and then it has no more than that.
 use Rattle.std.proofs.Common.{◌≡◌, ℕ, zero, suc, ◌+◌, ◌<◌, ◌≤◌, Bool, true, false, List, [], ◌∷◌, ◌++◌, length, map, get_or, Some, nat_lt, refl, ap, ◌∙◌, sym, subst, arith, inl, inr, append_assoc, append-nil, if◌then◌else◌}
-use Rattle.std.specs.Prelude.{slice_get, slice_index_or, option_map, Contains}
-use Rattle.std.specs.List.{list_all}
+use Rattle.std.{specs.Prelude.{slice_get, slice_index_or, option_map, Contains}, specs.List.list_all}
 use Rattle.std.proofs.lemmas.Bool.{and_parts, and_from, false≢true, ltb-true, lt-ltb}
 use Rattle.std.proofs.lemmas.Option.{slice_get-get_or, slice_get_within, slice_get-map}
 use Rattle.std.proofs.lemmas.List.{length-map, length-append, get_or_append_left, get_or-map}
-use Rattle.ct_derivation.specs.declared.steps.Why.{Why}
-use Rattle.ct_derivation.specs.declared.steps.Why.TheVariants as why
-use Rattle.ct_derivation.specs.declared.steps.Step.{Step}
-use Rattle.ct_derivation.specs.Literal.{Clause}
+use Rattle.ct_derivation.{specs.declared.steps.Why.Why, specs.declared.steps.Step.Step, specs.Literal.Clause}
 use Rattle.ct_derivation.specs.Propagation.{Literals, Look, Unfit, Falsified, Forces, look_at, meets, are_hints, follows}
 use Rattle.ct_derivation.specs.Accepts.{over_atoms, clause_of, clauses_of, fits_lit, hints_of, gives, is_right, all_right, ends_empty}
-use Rattle.ct_cnf.specs.Marks.{is_marked}
+use Rattle.ct_cnf.{specs.Marks.is_marked, proofs.Walks.marked_within}
 use Rattle.ct_word.proofs.Items.{first_item, later_item, mapped_item, no_item}
-use Rattle.ct_cnf.proofs.Walks.{marked_within}
-use Rattle.ct_decide.specs.Translation.{step}
-use Rattle.ct_decide.specs.Cut.{kept, rank, ranks, why_by, step_by, cut, hints_at, AreNeeded, IsHintOfLater}
+use Rattle.ct_decide.{specs.Translation.step, specs.Cut.{kept, rank, ranks, why_by, step_by, cut, hints_at, AreNeeded, IsHintOfLater}}
 use Rattle.ct_decide.proofs.Kept.{all_item, kept_at, length_kept, number_at, rank_front, rank_rises, rank_next, ranked}
+use Rattle.ct_derivation.specs.declared.steps.Why.TheVariants as why
 
 -- hints lead to the same answer in a log that has what they name at their new numbers
 module _ (k : Literals) (log less : List (List k.literal)) (number : ℕ → ℕ) where
@@ -51,8 +46,7 @@ module _ (k : Literals) (log less : List (List k.literal)) (number : ℕ → ℕ
 clauses_cut : (numbers : List ℕ) (ms : List Bool) (ss : List Step) → clauses_of (cut numbers ms ss) ≡ kept ms (clauses_of ss)
 clauses_cut numbers ms [] = refl
 clauses_cut numbers [] (s ∷ ss) = refl
-clauses_cut numbers (true ∷ ms) (s ∷ ss) = ap (λ cs. s.clause ∷ cs) (clauses_cut numbers ms ss)
-clauses_cut numbers (false ∷ ms) (s ∷ ss) = clauses_cut numbers ms ss
+clauses_cut numbers (m ∷ ms) (s ∷ ss) = grind (arith, clauses_cut numbers ms ss)
 
 abbrev pub hints_in : Step → List ℕ
 hints_in s = hints_of s.why
@@ -66,9 +60,7 @@ right_earlier words root earlier (s ∷ ss) e zero h i = by_why s.why (and_parts
   by_why (why.Rup hs) g i =
       let lt = ltb-true h _ (all_item (λ x. nat_lt x (length (clauses_of earlier))) hs h (and_parts (are_hints (clauses_of earlier) hs) _ g).0 i) in
       omega (arith, lt, length-map earlier clause_of)
-  by_why why.Root g i = absurd (no_item h i)
-  by_why (why.Def p k) g i = absurd (no_item h i)
-  by_why (why.Path ts) g i = absurd (no_item h i)
+  by_why _ g i = absurd (no_item h i)
 right_earlier words root earlier (s ∷ ss) e (suc k) h i =
     omega (arith, length-append earlier (s ∷ []), right_earlier words root (earlier ++ s ∷ []) ss (and_parts (is_right words root earlier s) _ e).1 k h i)
 
@@ -94,26 +86,22 @@ module _ (words : List ℕ) (root : ℕ) (marks : List Bool) where
 
     gives_kept : (w : Why) (c : Clause) → AreMarked (hints_of w) → gives words root earlier w c ≡ true → gives words root (cut numbers done earlier) (why_by numbers w) c ≡ true
     unfolding gives
-    gives_kept why.Root c a g = g
-    gives_kept (why.Def p k) c a g = g
-    gives_kept (why.Path ts) c a g = g
     gives_kept (why.Rup hs) c a g =
         follows_kept over_atoms (clauses_of earlier) (clauses_of (cut numbers done earlier)) (λ h. slice_index_or numbers h 0) c hs
         (λ h i. there h (before h i) (a h i)) g where
           before : (h : ℕ) → Contains hs h → h < length earlier
           before h i = let lt = ltb-true h _ (all_item (λ x. nat_lt x (length (clauses_of earlier))) hs h (and_parts (are_hints (clauses_of earlier) hs) _ g).0 i) in omega (arith, lt, length-map earlier clause_of)
+    gives_kept _ c a g = g
 
     step_kept : (s : Step) → AreMarked (hints_of s.why) → is_right words root earlier s ≡ true → is_right words root (cut numbers done earlier) (step_by numbers s) ≡ true
     unfolding is_right
     step_kept s a e = let parts = and_parts (list_all (fits_lit words) s.clause) _ e in and_from _ _ parts.0 (gives_kept s.why s.clause a parts.1)
 
   cut_more : (ms : List Bool) (m : Bool) (ss : List Step) (s : Step) → length ms ≡ length ss → cut numbers (ms ++ m ∷ []) (ss ++ s ∷ []) ≡ cut numbers ms ss ++ (if m then step_by numbers s ∷ [] else [])
-  cut_more [] true [] s e = refl
-  cut_more [] false [] s e = refl
+  cut_more [] m [] s e = refl
   cut_more [] m (t ∷ ss) s e = absurd (omega (arith, e))
   cut_more (n ∷ ms) m [] s e = absurd (omega (arith, e))
-  cut_more (true ∷ ms) m (t ∷ ss) s e = ap (λ xs. step_by numbers t ∷ xs) (cut_more ms m ss s (omega (arith, e)))
-  cut_more (false ∷ ms) m (t ∷ ss) s e = cut_more ms m ss s (omega (arith, e))
+  cut_more (n ∷ ms) m (t ∷ ss) s e = grind (arith, cut_more ms m ss s)
 
   -- each step that is kept is right after those that are kept before it
   pub right_kept : (done todo : List Bool) (earlier ss : List Step) → done ++ todo ≡ marks → length done ≡ length earlier
@@ -141,10 +129,7 @@ module _ (words : List ℕ) (root : ℕ) (marks : List Bool) where
   pub end_kept : (ms : List Bool) (ss : List Step) → length ms ≡ length ss → ((k : ℕ) → suc k ≡ length ss → is_marked ms k ≡ true) → ends_empty ss ≡ true → ends_empty (cut numbers ms ss) ≡ true
   end_kept ms [] long last e = absurd (false≢true e)
   end_kept [] (s ∷ ss) long last e = absurd (omega (arith, long))
-  end_kept (true ∷ ms) (s ∷ []) long last e = end ms where
-    end : (ms : List Bool) → ends_empty (cut numbers (true ∷ ms) (s ∷ [])) ≡ true
-    end [] = e
-    end (m ∷ ms) = e
+  end_kept (true ∷ ms) (s ∷ []) long last e = e
   end_kept (false ∷ ms) (s ∷ []) long last e = absurd (false≢true (last zero refl))
   end_kept (true ∷ ms) (s ∷ t ∷ ss) long last e = more_end (step_by numbers s) (cut numbers ms (t ∷ ss)) (end_kept ms (t ∷ ss) (omega (arith, long)) (λ k l. last (suc k) (ap suc l)) e)
   end_kept (false ∷ ms) (s ∷ t ∷ ss) long last e = end_kept ms (t ∷ ss) (omega (arith, long)) (λ k l. last (suc k) (ap suc l)) e
@@ -181,6 +166,4 @@ module _ (words : List ℕ) (root : ℕ) (marks : List Bool) where
 
       new_hint : (w : Why) (h : ℕ) → Contains (hints_of w) h → Contains (hints_of (why_by numbers w)) (slice_index_or numbers h 0)
       new_hint (why.Rup hs) h i = mapped_item (λ x. slice_index_or numbers x 0) hs h i
-      new_hint why.Root h i = absurd (no_item h i)
-      new_hint (why.Def p k) h i = absurd (no_item h i)
-      new_hint (why.Path ts) h i = absurd (no_item h i)
+      new_hint _ h i = absurd (no_item h i)

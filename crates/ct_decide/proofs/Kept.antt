@@ -1,19 +1,13 @@
 -- The marked items of a list, and their numbers.
-use Rattle.std.proofs.Common.{◌≡◌, ℕ, zero, suc, ◌+◌, ◌<◌, ◌≤◌, Bool, true, false, List, [], ◌∷◌, ◌++◌, length, map, drop, get_or, Some, refl, ap, ◌∙◌, sym, subst, arith, inl, inr, append_assoc, if◌then◌else◌}
-use Rattle.std.specs.Prelude.{slice_get, slice_index_or, Contains}
-use Rattle.std.specs.List.{list_all}
-use Rattle.std.proofs.lemmas.Bool.{false≢true, and_parts}
-use Rattle.std.proofs.lemmas.Option.{none-some}
-use Rattle.std.proofs.lemmas.List.{drop_more}
+use Rattle.std.proofs.Common.{◌≡◌, ℕ, zero, suc, ◌+◌, ◌<◌, ◌≤◌, Bool, true, false, List, [], ◌∷◌, ◌++◌, length, drop, get_or, Some, refl, ap, ◌∙◌, sym, subst, arith, inl, inr, append_assoc, if◌then◌else◌}
+use Rattle.std.{specs.Prelude.{slice_get, slice_index_or, Contains}, specs.List.list_all, proofs.lemmas.Bool.false≢true, proofs.lemmas.Option.none-some}
+use Rattle.std.{proofs.lemmas.List.drop_more, proofs.lemmas.List.Elements.All-contains, proofs.lemmas.List.Sums.AllPass-from_list_all}
 use Rattle.ct_cnf.specs.Marks.{is_marked}
 use Rattle.ct_word.proofs.Items.{first_item, later_item, item_cases, no_item}
 use Rattle.ct_decide.specs.Cut.{kept, rank, ranks}
 
 pub all_item : {X : Type 0} (test : X → Bool) (xs : List X) (x : X) → list_all test xs ≡ true → Contains xs x → test x ≡ true
-all_item test [] x e h = absurd (no_item x h)
-all_item test (y ∷ xs) x e h =
-    let parts = and_parts (test y) _ e in
-    elim (item_cases xs y x h) [ inl s ↦ ap test (sym s) ∙ parts.0 | inr there ↦ all_item test xs x parts.1 there ]
+all_item test xs x e h = All-contains (λ y. test y ≡ true) xs x (AllPass-from_list_all test xs e) h
 
 module _ {X : Type 0} where
   -- one turn of a loop over the marks and over a list
@@ -30,10 +24,8 @@ module _ {X : Type 0} where
   pub kept_at : (ms : List Bool) (xs : List X) (k : ℕ) (x : X) → slice_get xs k ≡ Some x → is_marked ms k ≡ true → slice_get (kept ms xs) (rank ms k) ≡ Some x
   kept_at [] xs k x at m = absurd (false≢true m)
   kept_at (b ∷ ms) [] k x at m = absurd (none-some x at)
-  kept_at (true ∷ ms) (y ∷ xs) zero x at m = at
-  kept_at (false ∷ ms) (y ∷ xs) zero x at m = absurd (false≢true m)
-  kept_at (true ∷ ms) (y ∷ xs) (suc k) x at m = kept_at ms xs k x at m
-  kept_at (false ∷ ms) (y ∷ xs) (suc k) x at m = kept_at ms xs k x at m
+  kept_at (b ∷ ms) (y ∷ xs) zero x at m = rw m at
+  kept_at (b ∷ ms) (y ∷ xs) (suc k) x at m = grind (arith, kept_at ms xs k x)
 
   pub kept_item : (ms : List Bool) (xs : List X) (x : X) → Contains (kept ms xs) x → Contains xs x
   kept_item ms [] x h = absurd (no_item x h)
@@ -48,28 +40,19 @@ module _ {X : Type 0} where
   kept_parts ms [] ys = refl
   kept_parts [] (x ∷ xs) [] = refl
   kept_parts [] (x ∷ xs) (y ∷ ys) = refl
-  kept_parts (true ∷ ms) (x ∷ xs) ys = ap (λ zs. x ∷ zs) (kept_parts ms xs ys)
-  kept_parts (false ∷ ms) (x ∷ xs) ys = kept_parts ms xs ys
+  kept_parts (m ∷ ms) (x ∷ xs) ys = grind (arith, kept_parts ms xs ys)
 
   pub length_kept : (ms : List Bool) (xs : List X) → length ms ≡ length xs → length (kept ms xs) ≡ rank ms (length ms)
   length_kept [] [] e = refl
   length_kept [] (x ∷ xs) e = refl
   length_kept (m ∷ ms) [] e = absurd (omega (arith, e))
-  length_kept (true ∷ ms) (x ∷ xs) e = ap suc (length_kept ms xs (omega (arith, e)))
-  length_kept (false ∷ ms) (x ∷ xs) e = length_kept ms xs (omega (arith, e))
-
-pub kept_map : {X Y : Type 0} (f : X → Y) (ms : List Bool) (xs : List X) → kept ms (map f xs) ≡ map f (kept ms xs)
-kept_map f ms [] = refl
-kept_map f [] (x ∷ xs) = refl
-kept_map f (true ∷ ms) (x ∷ xs) = ap (λ ys. f x ∷ ys) (kept_map f ms xs)
-kept_map f (false ∷ ms) (x ∷ xs) = kept_map f ms xs
+  length_kept (m ∷ ms) (x ∷ xs) e = grind (arith, length_kept ms xs)
 
 -- the number of a place
 pub number_at : (n : ℕ) (ms : List Bool) (k : ℕ) → k < length ms → slice_index_or (ranks n ms) k 0 ≡ n + rank ms k
 number_at n [] k lt = absurd (omega (arith, lt))
 number_at n (m ∷ ms) zero lt = omega arith
-number_at n (true ∷ ms) (suc k) lt = omega (arith, number_at (suc n) ms k (omega (arith, lt)))
-number_at n (false ∷ ms) (suc k) lt = number_at n ms k (omega (arith, lt))
+number_at n (m ∷ ms) (suc k) lt = grind (arith, number_at n ms k, number_at (suc n) ms k)
 
 pub length_ranks : (n : ℕ) (ms : List Bool) → length (ranks n ms) ≡ length ms
 length_ranks n [] = refl
@@ -79,23 +62,18 @@ length_ranks n (m ∷ ms) = ap suc (length_ranks (if m then suc n else n) ms)
 pub rank_front : (ms more : List Bool) (k : ℕ) → k ≤ length ms → rank (ms ++ more) k ≡ rank ms k
 rank_front ms more zero le = refl
 rank_front [] more (suc k) le = absurd (omega (arith, le))
-rank_front (true ∷ ms) more (suc k) le = ap suc (rank_front ms more k (omega (arith, le)))
-rank_front (false ∷ ms) more (suc k) le = rank_front ms more k (omega (arith, le))
+rank_front (m ∷ ms) more (suc k) le = grind (arith, rank_front ms more k)
 
 pub rank_rises : (ms : List Bool) (k p : ℕ) → k < p → is_marked ms k ≡ true → rank ms k < rank ms p
 rank_rises [] k p lt m = absurd (false≢true m)
 rank_rises (b ∷ ms) k zero lt m = absurd (omega (arith, lt))
-rank_rises (true ∷ ms) zero (suc p) lt m = omega arith
-rank_rises (false ∷ ms) zero (suc p) lt m = absurd (false≢true m)
-rank_rises (true ∷ ms) (suc k) (suc p) lt m = omega (arith, rank_rises ms k p (omega (arith, lt)) m)
-rank_rises (false ∷ ms) (suc k) (suc p) lt m = rank_rises ms k p (omega (arith, lt)) m
+rank_rises (b ∷ ms) zero (suc p) lt m = grind arith
+rank_rises (b ∷ ms) (suc k) (suc p) lt m = grind (arith, rank_rises ms k p)
 
 pub rank_next : (ms : List Bool) (k : ℕ) → rank ms (suc k) ≤ suc (rank ms k)
 rank_next [] k = omega arith
-rank_next (true ∷ ms) zero = omega arith
-rank_next (false ∷ ms) zero = omega arith
-rank_next (true ∷ ms) (suc k) = omega (arith, rank_next ms k)
-rank_next (false ∷ ms) (suc k) = rank_next ms k
+rank_next (m ∷ ms) zero = grind arith
+rank_next (m ∷ ms) (suc k) = grind (arith, rank_next ms k)
 
 -- each number is that of a marked place
 pub ranked : (ms : List Bool) (j : ℕ) → j < rank ms (length ms) → (k : ℕ) × (is_marked ms k ≡ true) × (rank ms k ≡ j)

@@ -1,26 +1,13 @@
 -- Literals over variables and over the atoms of these.
-use Rattle.std.proofs.Common.{◌≡◌, ℕ, zero, suc, ◌+◌, ◌-◌, ◌≤◌, Bool, true, false, List, [], ◌∷◌, length, get_or, nat_eq, nat_lt, nat_le, refl, ap, ◌∙◌, sym, subst, arith, pos, negsuc, neg_ℤ, ℤ}
-use Rattle.std.specs.Prelude.{Contains}
-use Rattle.std.specs.List.{list_all}
-use Rattle.std.specs.Ordering.{int_eq}
-use Rattle.std.specs.Cmp.{both_ways}
-use Rattle.std.proofs.lemmas.Bool.{and_parts, and_from, false≢true, eq-eqb, ltb-true, lt-ltb, leb-true}
-use Rattle.std.proofs.lemmas.Bool.Decides.{Decides-int_eq}
-use Rattle.std.proofs.lemmas.List.{get_or_default}
-use Rattle.ct_derivation.specs.declared.literals.Atom.{Atom}
-use Rattle.ct_derivation.specs.declared.literals.Atom.TheVariants as atom
-use Rattle.ct_derivation.specs.declared.literals.Lit.{Lit}
-use Rattle.ct_derivation.specs.declared.steps.Cnf.{Cnf}
-use Rattle.ct_derivation.specs.Literal.{yes_of, no_of, negated, same_sign, same_atom, same_lit}
-use Rattle.ct_derivation.specs.Variables.{signed}
-use Rattle.ct_derivation.specs.Variables as variables
-use Rattle.ct_derivation.specs.Accepts.{over_atoms}
-pub use Rattle.ct_derivation.proofs.Members.{same_atom_self, same_atom_is}
-use Rattle.ct_derivation.proofs.Members.{same_lit_is}
+use Rattle.std.proofs.Common.{◌≡◌, ℕ, zero, suc, ◌+◌, ◌-◌, true, List, length, get_or, nat_lt, ap, ◌∙◌, sym, subst, arith, pos, negsuc, neg_ℤ, ℤ}
+use Rattle.std.{specs.Prelude.Contains, specs.Ordering.int_eq, specs.Cmp.both_ways, proofs.lemmas.Bool.Decides.Decides-int_eq}
+use Rattle.std.{proofs.lemmas.Bool.{false≢true, ltb-true}, proofs.lemmas.List.Elements.Contains-get_or}
+use Rattle.ct_derivation.{specs.declared.literals.Atom.Atom, specs.declared.literals.Lit.Lit, specs.Variables.signed, specs.Accepts.over_atoms}
+use Rattle.ct_derivation.{specs.Literal.{yes_of, no_of, negated, same_lit}, proofs.Members.same_lit_is}
 use Rattle.ct_cnf.specs.Encoding.{named, AreDistinct}
-use Rattle.ct_sat.specs.Literal.{is_literal, is_clause}
-use Rattle.ct_sat.specs.Verdict as verdict
-use Rattle.ct_sat.proofs.Carried.{CarriesLiterals}
+use Rattle.ct_sat.{specs.Literal.is_literal, proofs.Carried.CarriesLiterals}
+use Rattle.ct_derivation.specs.declared.literals.Atom.TheVariants as atom
+pub use Rattle.ct_derivation.proofs.Members.{same_atom_self, same_atom_is, same_lit_self}
 
 abbrev atom_at : List Atom → ℕ → Atom
 atom_at atoms n = get_or atoms n (atom.Node 0)
@@ -28,21 +15,10 @@ atom_at atoms n = get_or atoms n (atom.Node 0)
 -- the atoms of a variable and of its negation
 module _ (atoms : List Atom) where
   pub named_pos : (n : ℕ) → named atoms (signed (pos (suc n))) ≡ yes_of (atom_at atoms n)
-  named_pos n = ap (λ k. yes_of (atom_at atoms k)) (before n) where
-    before : (k : ℕ) → suc k - 1 ≡ k
-    before k = omega arith
+  named_pos n = let back : suc n - 1 ≡ n = omega arith in ap (λ k. yes_of (atom_at atoms k)) back
 
   pub named_neg : (n : ℕ) → named atoms (signed (negsuc n)) ≡ no_of (atom_at atoms n)
-  named_neg n = ap (λ k. no_of (atom_at atoms k)) (before n) where
-    before : (k : ℕ) → (k + 1) - 1 ≡ k
-    before k = omega arith
-
-pub same_lit_self : (l : Lit) → same_lit l l ≡ true
-unfolding same_lit
-same_lit_self l = and_from _ _ (signs l.positive) (same_atom_self l.atom) where
-  signs : (b : Bool) → same_sign b b ≡ true
-  signs true = refl
-  signs false = refl
+  named_neg n = let back : (n + 1) - 1 ≡ n = omega arith in ap (λ k. no_of (atom_at atoms k)) back
 
 module _ (atoms : List Atom) (distinct : AreDistinct atoms) where
   one_place : (m n : ℕ) → nat_lt m (length atoms) ≡ true → nat_lt n (length atoms) ≡ true → atom_at atoms m ≡ atom_at atoms n → m ≡ n
@@ -71,13 +47,10 @@ module _ (atoms : List Atom) (distinct : AreDistinct atoms) where
     opposite (negsuc n) v = ap negated (named_neg atoms n) ∙ sym (named_pos atoms n)
 
 at_place : (atoms : List Atom) (n : ℕ) → nat_lt n (length atoms) ≡ true → Contains atoms (atom_at atoms n)
-at_place atoms n v = let lt = ltb-true n (length atoms) v in (n, lt, get_or_default atoms n (atom_at atoms n) (atom.Node 0) lt)
+at_place atoms n v = Contains-get_or atoms n (atom.Node 0) (ltb-true n (length atoms) v)
 
 -- the atom of a literal is among these
 pub atom_there : (atoms : List Atom) (l : ℤ) → is_literal (length atoms) l ≡ true → Contains atoms (named atoms (signed l)).atom
 atom_there atoms (pos zero) v = absurd (false≢true v)
 atom_there atoms (pos (suc n)) v = subst (λ (l : Lit). Contains atoms l.atom) (sym (named_pos atoms n)) (at_place atoms n v)
 atom_there atoms (negsuc n) v = subst (λ (l : Lit). Contains atoms l.atom) (sym (named_neg atoms n)) (at_place atoms n v)
-
-pub solvable : (cnf : Cnf) → variables.IsCnf cnf → verdict.IsCnf cnf
-solvable cnf h = h

@@ -1,33 +1,16 @@
 -- The clause of each origin is one of the question's, so a model satisfies it and has its atoms.
-use Rattle.std.proofs.Common.{◌≡◌, ℕ, Bool, true, List, [], ◌∷◌, length, map, Some, refl, ap, ◌∙◌, subst, ℤ, inl, inr}
-use Rattle.std.specs.Prelude.{Contains}
-use Rattle.std.specs.List.{list_all}
-use Rattle.std.proofs.lemmas.Bool.{and_parts, and_from, or_left, or_right}
-use Rattle.ct_word.proofs.Splits.{some-injective}
-use Rattle.ct_derivation.specs.declared.literals.Atom.{Atom}
-use Rattle.ct_derivation.specs.declared.literals.Lit.{Lit}
-use Rattle.ct_derivation.specs.declared.steps.Why.{Why}
-use Rattle.ct_derivation.specs.Literal.{Clause, same_atom}
-use Rattle.ct_derivation.specs.Models.{is_satisfied}
-use Rattle.ct_derivation.specs.Variables.{signed}
-use Rattle.ct_sat.specs.Literal.{is_literal, is_clause}
-use Rattle.ct_sat.specs.Verdict.{satisfies, IsModel}
-use Rattle.ct_cnf.specs.declared.encoding.Encoded.{Encoded}
-use Rattle.ct_cnf.specs.Encoding.{named, through, origin_clause, SatisfiesOrigins}
-use Rattle.ct_word.proofs.Items.{item_cases, no_item, mapped_item, unmapped_item}
-use Rattle.ct_decide.specs.Question.{IsEncoding}
-use Rattle.ct_decide.proofs.Kept.{all_item}
-use Rattle.ct_decide.proofs.Named.{same_atom_self, atom_there}
-use Rattle.ct_decide.proofs.Accepted.{clauses_within}
+use Rattle.std.{proofs.Common.{◌≡◌, ℕ, Bool, true, List, [], ◌∷◌, length, map, Some, refl, ap, ◌∙◌, subst, ℤ}, specs.Prelude.Contains, specs.List.list_all}
+use Rattle.std.{proofs.lemmas.Bool.{and_parts, and_from}, proofs.lemmas.List.Folds.list_any_at}
+use Rattle.ct_word.{proofs.Splits.some-injective, proofs.Items.{mapped_item, unmapped_item}}
+use Rattle.ct_derivation.{specs.declared.literals.Atom.Atom, specs.declared.literals.Lit.Lit, specs.declared.steps.Why.Why, specs.Literal.{Clause, same_atom}}
+use Rattle.ct_derivation.{specs.Models.is_satisfied, specs.Variables.signed}
+use Rattle.ct_sat.{specs.Literal.{is_literal, is_clause}, specs.Verdict.{satisfies, IsModel}}
+use Rattle.ct_cnf.{specs.declared.encoding.Encoded.Encoded, specs.Encoding.{named, through, origin_clause, SatisfiesOrigins}}
+use Rattle.ct_decide.{specs.Question.IsEncoding, proofs.Kept.all_item, proofs.Named.{same_atom_self, atom_there}, proofs.Accepted.clauses_within}
 use Rattle.ct_decide.proofs.Truths.{truth_of, is_atom, clause_truth}
 
 pub atom_is_there : (atoms : List Atom) (a : Atom) → Contains atoms a → is_atom atoms a ≡ true
-atom_is_there [] a h = absurd (no_item a h)
-atom_is_there (x ∷ xs) a h =
-    elim (item_cases xs x a h) [
-      | inl e ↦ or_left (same_atom x a) _ (ap (λ y. same_atom y a) e ∙ same_atom_self a)
-      | inr there ↦ or_right (same_atom x a) _ (atom_is_there xs a there)
-    ]
+atom_is_there atoms a h = list_any_at (λ x. same_atom x a) atoms h.0 a h.1 (ap (λ y. same_atom y a) h.2 ∙ same_atom_self a)
 
 -- each literal's atom is among these
 abbrev pub HasAtoms : List Atom → Clause → Type 0

@@ -1,21 +1,14 @@
 -- The assignment of atoms that a model of the clauses is.
 use Rattle.std.proofs.Common.{◌≡◌, ℕ, zero, suc, ◌<◌, Bool, true, false, not, ◌||◌, List, [], ◌∷◌, length, get_or, Some, refl, ap, ◌∙◌, sym, arith, inl, inr, pos, negsuc, ℤ, if◌then◌else◌}
-use Rattle.std.specs.Prelude.{Contains}
-use Rattle.std.specs.List.{list_any}
-use Rattle.std.proofs.lemmas.Bool.{and_parts, false≢true, cases_Bool, ltb-true}
-use Rattle.std.proofs.lemmas.Option.{slice_get-get_or, get_or_from_slice_get, slice_get_within}
-use Rattle.std.proofs.lemmas.List.{get_or_default}
-use Rattle.ct_derivation.specs.declared.literals.Atom.{Atom}
-use Rattle.ct_derivation.specs.declared.literals.Atom.TheVariants as atom
-use Rattle.ct_derivation.specs.Literal.{Clause, same_atom}
-use Rattle.ct_derivation.specs.Models.{is_satisfied}
-use Rattle.ct_derivation.specs.Variables.{signed}
+use Rattle.std.{specs.Prelude.Contains, specs.List.list_any, proofs.lemmas.Bool.{and_parts, false≢true, cases_Bool, ltb-true}}
+use Rattle.std.{proofs.lemmas.Option.{slice_get-get_or, get_or_from_slice_get, slice_get_within}, proofs.lemmas.List.get_or_default}
+use Rattle.ct_derivation.{specs.declared.literals.Atom.Atom, specs.Literal.{Clause, same_atom}, specs.Models.is_satisfied, specs.Variables.signed}
 use Rattle.ct_derivation.specs.declared.literals.Lit.{Lit}
 use Rattle.ct_equality.specs.Assigned.{Gives, IsFalse}
-use Rattle.ct_sat.specs.Literal.{is_literal, is_clause}
-use Rattle.ct_sat.specs.Verdict.{holds, satisfies}
+use Rattle.ct_sat.{specs.Literal.{is_literal, is_clause}, specs.Verdict.{holds, satisfies}}
 use Rattle.ct_cnf.specs.Encoding.{named, through, AreDistinct}
 use Rattle.ct_decide.proofs.Named.{same_atom_self, same_atom_is, named_pos, named_neg}
+use Rattle.ct_derivation.specs.declared.literals.Atom.TheVariants as atom
 
 -- the truth of the first atom that is this one, false where none is
 abbrev pub truth_of : List Atom → List Bool → Atom → Bool

@@ -1,46 +1,23 @@
 -- The walk that marks what the last step of a refutation needs.
-use Rattle.std.proofs.Common.{◌≡◌, ℕ, zero, suc, ◌+◌, ◌<◌, ◌≤◌, Bool, true, false, List, [], ◌∷◌, length, map, replicate, get_or, set, refl, ap, ◌∙◌, sym, subst, arith, inl, inr, length-append, length-set, get_or-set_other, get_or-set_same}
-use Rattle.std.specs.Prelude.{Contains}
-use Rattle.std.specs.List.{All, list_all}
-use Rattle.std.proofs.lemmas.Bool.{false≢true, cases_eq, cases_lt}
+use Rattle.std.proofs.Common.{◌≡◌, ℕ, suc, ◌+◌, ◌<◌, ◌≤◌, Bool, true, false, List, [], length, map, replicate, get_or, set, ap, ◌∙◌, sym, subst, arith, inl, inr, length-append, length-set, get_or-set_same}
+use Rattle.std.{specs.Prelude.Contains, specs.List.{All, list_all}, proofs.lemmas.Bool.{false≢true, cases_eq, cases_lt}, proofs.lemmas.List.Folds.list_all-map}
 use Rattle.std.proofs.lemmas.List.{length-replicate, length-map, get_or-append-add, get_or_append_left, get_or-map, get_or-replicate}
-use Rattle.std.proofs.lemmas.List.Folds.{list_all-map}
 use Rattle.std.proofs.lemmas.List.Sums.{AllPass-from_list_all}
-use Rattle.ct_sat.specs.declared.verdict.Rup.{Rup}
-use Rattle.ct_sat.specs.Literal.{is_clause}
-use Rattle.ct_sat.specs.Learned.{clause_of}
-use Rattle.ct_cnf.specs.Marks.{is_marked, with_marks}
+use Rattle.ct_sat.{specs.declared.verdict.Rup.Rup, specs.Literal.is_clause, specs.Learned.clause_of}
+use Rattle.ct_cnf.{specs.Marks.{is_marked, with_marks}, proofs.Walks.{length_marked, only_marked, still_marked, now_marked, marked_cases, marked_within}}
 use Rattle.ct_word.proofs.Items.{no_item}
-use Rattle.ct_cnf.proofs.Walks.{still_marked, now_marked, marked_cases, marked_within}
 use Rattle.ct_decide.specs.Cut.{all_hints, hints_at, HaveEarlier, IsWithin, AreNeeded}
-
-blank : (n k : ℕ) → is_marked (replicate n false) k ≡ false
-blank zero k = refl
-blank (suc n) zero = refl
-blank (suc n) (suc k) = blank n k
 
 -- before the walk the last place alone is marked
 pub walk_starts : (hs : List (List ℕ)) (n last : ℕ) → n ≡ length hs → suc last ≡ n → AreNeeded hs n (set (replicate n false) last true)
 walk_starts hs n last long e = record {
   long = length-set (replicate n false) last true ∙ length-replicate n false ∙ long;
-  last = λ k is. subst (λ x. is_marked (set (replicate n false) last true) x ≡ true) (the_last k is) (get_or-set_same (replicate n false) last true false (omega (arith, length-replicate n false, e)));
-  closed = λ k h le m c. absurd (omega (arith, only k m, le, e));
-  each = λ k m. inl (omega (arith, only k m, long, e));
-} where
-  the_last : (k : ℕ) → suc k ≡ length hs → last ≡ k
-  the_last k is = omega (arith, is, long, e)
+  last = λ k is. subst (λ x. is_marked (set (replicate n false) last true) x ≡ true) (omega (arith, is, long, e)) (get_or-set_same (replicate n false) last true false (omega (arith, length-replicate n false, e)));
+  closed = λ k h le m c. absurd (omega (arith, only_marked n last k m, le, e));
+  each = λ k m. inl (omega (arith, only_marked n last k m, long, e));
+}
 
-  only : (k : ℕ) → is_marked (set (replicate n false) last true) k ≡ true → k ≡ last
-  only k m = elim (cases_eq k last) [
-    | inl same ↦ same
-    | inr other ↦ absurd (false≢true (sym (blank n k) ∙ sym (get_or-set_other (replicate n false) last k true false other) ∙ m))
-  ]
-
-length_marked : (ms : List Bool) (ps : List ℕ) → length (with_marks ms ps) ≡ length ms
-length_marked ms [] = refl
-length_marked ms (p ∷ ps) = length_marked (set ms p true) ps ∙ length-set ms p true
-
-module _ (hs : List (List ℕ)) (earlier : HaveEarlier hs) (place : ℕ) (ms : List Bool) (walk : AreNeeded hs (suc place) ms) where
+module _ (hs : List (List ℕ)) (earlier : HaveEarlier hs) (place from : ℕ) (next : from ≡ suc place) (ms : List Bool) (walk : AreNeeded hs from ms) where
   -- a marked place has its hints marked
   pub walk_more : is_marked ms place ≡ true → AreNeeded hs place (with_marks ms (hints_at hs place))
   walk_more m = record {
@@ -50,7 +27,7 @@ module _ (hs : List (List ℕ)) (earlier : HaveEarlier hs) (place : ℕ) (ms : L
       | inr new ↦ absurd (omega (arith, earlier place k new, le))
       | inl old ↦ elim (cases_eq k place) [
         | inl same ↦ now_marked ms (hints_at hs place) h (omega (arith, earlier k h c, marked_within ms k old)) (subst (λ x. Contains (hints_at hs x) h) same c)
-        | inr other ↦ still_marked ms (hints_at hs place) h (walk.closed k h (omega (arith, other, le)) old c)
+        | inr other ↦ still_marked ms (hints_at hs place) h (walk.closed k h (omega (arith, other, le, next)) old c)
       ]
     ];
     each = λ k e. elim (marked_cases ms (hints_at hs place) k e) [
@@ -69,7 +46,7 @@ module _ (hs : List (List ℕ)) (earlier : HaveEarlier hs) (place : ℕ) (ms : L
     last = walk.last;
     closed = λ k h le e c. elim (cases_eq k place) [
       | inl same ↦ absurd (false≢true (sym m ∙ sym (ap (is_marked ms) same) ∙ e))
-      | inr other ↦ walk.closed k h (omega (arith, other, le)) e c
+      | inr other ↦ walk.closed k h (omega (arith, other, le, next)) e c
     ];
     each = walk.each;
   }
@@ -81,13 +58,13 @@ module _ (n : ℕ) (rs : List Rup) where
       let none : List ℕ = [] in
       get_or_append_left (replicate n []) (map (λ r. r.hints) rs) [] k (omega (arith, length-replicate n none, lt)) ∙ get_or-replicate n k [] [] lt
 
-  pub walk_ends : (ms : List Bool) → AreNeeded (all_hints n rs) n ms → AreNeeded (all_hints n rs) 0 ms
-  walk_ends ms walk = record {
+  pub walk_ends : (from : ℕ) (ms : List Bool) → from ≡ n → AreNeeded (all_hints n rs) from ms → AreNeeded (all_hints n rs) 0 ms
+  walk_ends from ms at walk = record {
     long = walk.long;
     last = walk.last;
     closed = λ k h le e c. elim (cases_lt k n) [
       | inl lt ↦ absurd (no_item h (subst (λ xs. Contains xs h) (none_given k lt) c))
-      | inr ge ↦ walk.closed k h ge e c
+      | inr ge ↦ walk.closed k h (omega (arith, ge, at)) e c
     ];
     each = walk.each;
   }

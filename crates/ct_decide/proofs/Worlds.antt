@@ -1,53 +1,29 @@
 -- A model of the clauses of a question is one of equality, and the valuation that it gives makes the root hold.
-use Rattle.std.proofs.Common.{◌≡◌, ℕ, Bool, true, false, not, ◌&&◌, ◌||◌, List, [], ◌∷◌, length, Option, Some, None, nat_eq, nat_lt, refl, ap, ◌∙◌, sym, subst, inl, inr, if◌then◌else◌}
-use Rattle.std.specs.Prelude.{slice_get, Contains}
-use Rattle.std.specs.List.{list_any, AllByRecursion}
+use Rattle.std.proofs.Common.{◌≡◌, ℕ, Bool, true, false, not, ◌&&◌, List, [], ◌∷◌, length, Option, Some, None, nat_eq, refl, ap, ◌∙◌, sym, subst, inl, inr, arith}
+use Rattle.std.{specs.Prelude.{slice_get, Contains}, specs.List.{list_any, AllByRecursion}, proofs.lemmas.List.Folds.Any-from_list_any}
 use Rattle.std.proofs.lemmas.Bool.{and_parts, and_from, or_cases, false≢true, cases_Bool, eqb-true, eq-eqb, lt-ltb}
-use Rattle.std.proofs.lemmas.Option.{get_or_from_slice_get, slice_get_within}
-use Rattle.ct_word.specs.declared.kinds.Kind.{Kind}
+use Rattle.ct_word.{specs.declared.kinds.Kind.Kind, specs.declared.values.Value.Value, specs.Word.{kind_of, left_of, right_of}, specs.Value.World}
+use Rattle.ct_word.{specs.Constant.{is_constant_kind, is_constant_word}, specs.Reading.{Meaning, IsTerm, by_kind, meanings, as_term, term_at}}
+use Rattle.ct_word.{specs.Stands.{StandsAt, HasNoColumn}, specs.WellFormed.{IsWellFormed, is_place_of}, proofs.Splits.meaning_at}
+use Rattle.ct_word.proofs.Items.{item_cases, contains_of_get, no_item}
+use Rattle.ct_derivation.{specs.declared.literals.Atom.Atom, specs.Literal.{Clause, same_atom, yes_of}, specs.Definition.{defining, definition}}
+use Rattle.ct_derivation.{specs.Models.AreFieldsBelow, specs.Path.{is_path, is_constant}, proofs.Modelled.each_right}
+use Rattle.ct_sat.specs.Verdict.{IsModel}
+use Rattle.ct_cnf.{specs.declared.encoding.Encoded.Encoded, specs.Encoding.{IsConditionBelow, IsTermBelow}, proofs.Longer.longer}
+use Rattle.ct_equality.specs.Assigned.{is_column_kind, is_column_word, is_plain_term, is_plain_atom, are_plain, IsLink, AreLinks, IsFalsePath}
+use Rattle.ct_equality.{specs.Terms.{is_end, is_end_of}, specs.Valued.{IsWorldOf, IsPlainValue, value_in}, proofs.Joins.link_cases, proofs.Steps.plain_from}
+use Rattle.ct_equality.proofs.FalsePaths.{FalseLinks, false_links}
+use Rattle.ct_decide.{specs.Question.IsEncoding, specs.Decided.{IsValueOf, IsWorldAt}, proofs.Named.same_atom_is}
+use Rattle.ct_decide.{proofs.Truths.{truth_of, is_atom, there_given, false_clause}, proofs.Satisfied.{HasAtoms, origin_atoms, origins_satisfied}}
 use Rattle.ct_word.specs.declared.kinds.Kind.TheVariants as kind
 use Rattle.ct_word.specs.declared.kinds.Class.TheVariants as class
-use Rattle.ct_word.specs.declared.values.Value.{Value}
 use Rattle.ct_word.specs.declared.values.Term.TheVariants as term
-use Rattle.ct_word.specs.Word.{kind_of, left_of, right_of}
-use Rattle.ct_word.specs.Value.{World}
-use Rattle.ct_word.specs.Constant.{is_constant_kind, is_constant_word}
-use Rattle.ct_word.specs.Reading.{Meaning, IsTerm, by_kind, meanings, as_term, term_at}
-use Rattle.ct_word.specs.Stands.{StandsAt, HasNoColumn}
-use Rattle.ct_word.specs.WellFormed.{IsWellFormed, is_place_of}
-use Rattle.ct_word.proofs.Splits.{meaning_at}
-use Rattle.ct_derivation.specs.declared.literals.Atom.{Atom}
 use Rattle.ct_derivation.specs.declared.literals.Atom.TheVariants as atom
 use Rattle.ct_derivation.specs.declared.steps.Why.TheVariants as why
-use Rattle.ct_derivation.specs.Literal.{Clause, same_atom, yes_of}
-use Rattle.ct_derivation.specs.Definition.{defining, definition}
 use Rattle.ct_derivation.specs.Models as models
-use Rattle.ct_derivation.specs.Models.{AreFieldsBelow, is_satisfied}
-use Rattle.ct_derivation.specs.Path.{is_path, is_constant}
-use Rattle.ct_derivation.proofs.Modelled.{each_right}
-use Rattle.ct_sat.specs.Verdict.{IsModel}
-use Rattle.ct_cnf.specs.declared.encoding.Encoded.{Encoded}
-use Rattle.ct_cnf.specs.Encoding.{IsConditionBelow, IsTermBelow}
-use Rattle.ct_word.proofs.Items.{item_cases, first_item, later_item, no_item}
-use Rattle.ct_cnf.proofs.Longer.{longer}
-use Rattle.ct_equality.specs.Assigned.{is_column_kind, is_column_word, is_plain_term, is_plain_atom, are_plain, IsLink, AreLinks, IsFalsePath}
-use Rattle.ct_equality.specs.Terms.{is_end, is_end_of}
-use Rattle.ct_equality.specs.Valued.{IsWorldOf, IsPlainValue, value_in}
-use Rattle.ct_equality.proofs.Steps.{plain_from}
-use Rattle.ct_equality.proofs.FalsePaths.{FalseLinks, false_links}
-use Rattle.ct_decide.specs.Question.{IsEncoding}
-use Rattle.ct_decide.specs.Decided.{IsValueOf, IsWorldAt}
-use Rattle.ct_decide.proofs.Named.{same_atom_is}
-use Rattle.ct_decide.proofs.Truths.{truth_of, is_atom, there_given, false_clause}
-use Rattle.ct_decide.proofs.Satisfied.{HasAtoms, origin_atoms, origins_satisfied}
 
 any_item : {X : Type 0} (test : X → Bool) (xs : List X) → list_any test xs ≡ true → (x : X) × Contains xs x × (test x ≡ true)
-any_item test [] e = absurd (false≢true e)
-any_item test (x ∷ xs) e =
-    elim (or_cases (test x) (list_any test xs) e) [
-      | inl here ↦ (x, first_item xs x, here)
-      | inr there ↦ let r = any_item test xs there in (r.0, later_item xs x r.0 r.1, r.2)
-    ]
+any_item test xs e = let a = Any-from_list_any test xs e in (a.1, (a.0, a.2, a.3), a.4)
 
 atom_from : (atoms : List Atom) (a : Atom) → is_atom atoms a ≡ true → Contains atoms a
 atom_from atoms a e = let r = any_item (λ x. same_atom x a) atoms e in subst (Contains atoms) (same_atom_is r.0 a r.2) r.1
@@ -59,14 +35,10 @@ column_kind _ e = absurd (false≢true e)
 -- a constant is the value of its place
 constant_stands : (o : Option Kind) (ms : List Meaning) (a b q : ℕ) (x : Value) → is_constant_kind o ≡ true → slice_get ms q ≡ Some (by_kind o ms a b)
     → value_in (as_term (slice_get ms q)) ≡ x → slice_get ms q ≡ Some (IsTerm (term.Value x))
-constant_stands (Some kind.Number) ms a b q x c e v = e ∙ ap (λ y. Some (IsTerm (term.Value y))) (sym (ap (λ m. value_in (as_term m)) e) ∙ v)
-constant_stands (Some kind.TextConstant) ms a b q x c e v = e ∙ ap (λ y. Some (IsTerm (term.Value y))) (sym (ap (λ m. value_in (as_term m)) e) ∙ v)
-constant_stands (Some kind.OtherValue) ms a b q x c e v = e ∙ ap (λ y. Some (IsTerm (term.Value y))) (sym (ap (λ m. value_in (as_term m)) e) ∙ v)
+constant_stands (Some kind.Number) ms a b q x c e v = e ∙ ap (λ y. Some (IsTerm (term.Value y))) (rw e at v)
+constant_stands (Some kind.TextConstant) ms a b q x c e v = e ∙ ap (λ y. Some (IsTerm (term.Value y))) (rw e at v)
+constant_stands (Some kind.OtherValue) ms a b q x c e v = e ∙ ap (λ y. Some (IsTerm (term.Value y))) (rw e at v)
 constant_stands _ ms a b q x c e v = absurd (false≢true c)
-
-single : (b : Bool) → (b || false) ≡ true → b ≡ true
-single true e = refl
-single false e = e
 
 -- the second atom of a clause is there
 second : (atoms : List Atom) (a b : Atom) → (is_atom atoms a && (is_atom atoms b && true)) ≡ true → is_atom atoms b ≡ true
@@ -107,11 +79,8 @@ module _ (words : List ℕ) (wf : IsWellFormed words) (root : ℕ) (e : Encoded)
       let pair = enc.terms s t h in
       and_from _ _ (and_from (is_plain_term words s) (is_plain_term words t) (plain_term columns s pair.first) (plain_term columns t pair.second)) (lt-ltb s t pair.ordered)
 
-  listed : (k : ℕ) (a : Atom) → slice_get atoms k ≡ Some a → Contains atoms a
-  listed k a at = (k, slice_get_within atoms k a at, get_or_from_slice_get atoms k a a at)
-
   pub atoms_plain : HasNoColumn words root → are_plain words atoms ≡ true
-  atoms_plain columns = plain_from words atoms (λ k a at. plain_atom columns a (listed k a at))
+  atoms_plain columns = plain_from words atoms (λ k a at. plain_atom columns a (contains_of_get atoms k a at))
 
   end_below : (q : ℕ) → is_end_of atoms q ≡ true → IsTermBelow words root q
   end_below q h = let r = any_item (is_end q) atoms h in by_atom r.0 r.1 r.2 where
@@ -159,7 +128,7 @@ module _ (words : List ℕ) (wf : IsWellFormed words) (root : ℕ) (e : Encoded)
     root_there = (and_parts (below root) true (origin_atoms words root e enc why.Root (yes_of (atom.Node root) ∷ []) enc.asked refl)).0
 
     root_true : t (atom.Node root) ≡ true
-    root_true = single (t (atom.Node root)) (origins_satisfied words root e enc model m why.Root (yes_of (atom.Node root) ∷ []) enc.asked refl)
+    root_true = let asked = origins_satisfied words root e enc model m why.Root (yes_of (atom.Node root) ∷ []) enc.asked refl in grind (arith, asked)
 
     agrees : (v : World) → IsWorldOf words atoms model v → models.IsModel words v t below
     agrees v world = record {
@@ -181,9 +150,9 @@ module _ (words : List ℕ) (wf : IsWellFormed words) (root : ℕ) (e : Encoded)
     }
 
     link_below : (s u : ℕ) → IsLink atoms model s u → IsTermBelow words root s × IsTermBelow words root u
-    link_below s u l = elim (cases_Bool (nat_lt s u)) [
-      | inl a ↦ let pair = enc.terms s u (listed l.place _ (l.atom_at ∙ ap (λ b. Some (if b then atom.Same s u else atom.Same u s)) a)) in (pair.first, pair.second)
-      | inr a ↦ let pair = enc.terms u s (listed l.place _ (l.atom_at ∙ ap (λ b. Some (if b then atom.Same s u else atom.Same u s)) a)) in (pair.second, pair.first)
+    link_below s u l = elim (link_cases atoms model s u l) [
+      | inl g ↦ let pair = enc.terms s u (contains_of_get atoms g.place _ g.atom_at) in (pair.first, pair.second)
+      | inr g ↦ let pair = enc.terms u s (contains_of_get atoms g.place _ g.atom_at) in (pair.second, pair.first)
     ]
 
     walk_below : (s : ℕ) (us : List ℕ) → AreLinks atoms model s us → (p : ℕ) → Contains us p → IsTermBelow words root p

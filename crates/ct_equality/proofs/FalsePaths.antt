@@ -1,20 +1,13 @@
 -- A walk between two terms that have to differ is a path whose clause is false.
-use Rattle.std.proofs.Common.{◌≡◌, ◌≢◌, ◌≤◌, ℕ, Bool, true, false, not, ◌&&◌, List, [], ◌∷◌, ◌++◌, length, Some, None, nat_eq, nat_lt, refl, ap, sym, ◌∙◌, subst, if◌then◌else◌, inl, inr, ◌⊎◌, arith}
-use Rattle.std.specs.Prelude.{slice_get}
-use Rattle.std.specs.List.{list_all}
-use Rattle.std.proofs.lemmas.Bool.{eqb-true, eq-eqb, cases_Bool, both_ways, and_from, or_left, or_right}
-use Rattle.std.proofs.lemmas.Map.Steps.{length-le_from_distinct_below}
-use Rattle.ct_word.specs.declared.kinds.Class.TheVariants as class
-use Rattle.ct_word.specs.WellFormed.{is_place_of}
-use Rattle.ct_word.proofs.Splits.{place_within, some-injective}
-use Rattle.ct_derivation.specs.declared.literals.Atom.{Atom}
-use Rattle.ct_derivation.specs.declared.literals.Atom.TheVariants as atom
-use Rattle.ct_derivation.specs.Literal.{Clause, yes_of}
+use Rattle.std.proofs.Common.{◌≡◌, ◌≢◌, ◌≤◌, ℕ, Bool, true, false, not, ◌&&◌, List, [], ◌∷◌, ◌++◌, length, Some, None, nat_eq, refl, ap, sym, ◌∙◌, subst, if◌then◌else◌, inl, inr, ◌⊎◌, arith}
+use Rattle.std.{specs.List.list_all, specs.Cmp.nat_eq_equiv, proofs.lemmas.Map.Steps.length-le_from_distinct_below}
+use Rattle.std.proofs.lemmas.Bool.{ne_eqb, eq-eqb, cases_Bool, both_ways, and_from, or_left, or_right}
+use Rattle.ct_word.{specs.WellFormed.is_place_of, proofs.Splits.{place_within, some-injective}}
+use Rattle.ct_derivation.{specs.declared.literals.Atom.Atom, specs.Literal.{Clause, yes_of}}
 use Rattle.ct_derivation.specs.Path.{pair_of, end_of, no_links, moves, ends_clause, is_path, path_clause, is_constant}
-use Rattle.ct_equality.specs.Terms.{terms_of, is_among}
-use Rattle.ct_equality.specs.Assigned.{Gives, IsLink, AreLinks, IsWalk, IsFalse, IsFalsePath, IsClash, are_plain}
-use Rattle.ct_equality.proofs.Steps.{plain_at, plain_place}
-use Rattle.ct_equality.proofs.Listed.{among_terms, terms_distinct, plain_end}
+use Rattle.ct_equality.{specs.Terms.{terms_of, is_among}, specs.Assigned.{Gives, IsLink, AreLinks, IsWalk, IsFalse, IsFalsePath, IsClash, are_plain}}
+use Rattle.ct_equality.{proofs.Joins.link_cases, proofs.Steps.{PlainPair, plain_at, plain_place}, proofs.Listed.{among_terms, terms_distinct, plain_end}}
+use Rattle.ct_word.specs.declared.kinds.Class.TheVariants as class
 
 is_false_append : (atoms : List Atom) (truth : List Bool) (ls ms : Clause) → IsFalse atoms truth ls → IsFalse atoms truth ms → IsFalse atoms truth (ls ++ ms)
 is_false_append atoms truth [] ms a b = b
@@ -27,19 +20,16 @@ module _ (words : List ℕ) (atoms : List Atom) (truth : List Bool) (plain : are
     left : is_place_of words class.Term s ≡ true
     right : is_place_of words class.Term t ≡ true
 
+  ends_apart : (s t : ℕ) → PlainPair words s t → LinkEnds s t
+  ends_apart s t pair = record { differ = ne_eqb s t (λ q. let lt = pair.below in omega (arith, q, lt)); left = plain_place words s pair.left; right = plain_place words t pair.right }
+
   link_ends : (s t : ℕ) → IsLink atoms truth s t → LinkEnds s t
-  link_ends s t l = elim (cases_Bool (nat_lt s t)) [
-    | inl a ↦
-        let e : slice_get atoms l.place ≡ Some (atom.Same s t) = l.atom_at ∙ ap Some (ap (λ b. if b then atom.Same s t else atom.Same t s) a) in
-        let pair = plain_at words atoms l.place s t plain e in
-        record { differ = apart s t (λ q. let lt = pair.below in omega (arith, q, lt)); left = plain_place words s pair.left; right = plain_place words t pair.right }
-    | inr a ↦
-        let e : slice_get atoms l.place ≡ Some (atom.Same t s) = l.atom_at ∙ ap Some (ap (λ b. if b then atom.Same s t else atom.Same t s) a) in
-        let pair = plain_at words atoms l.place t s plain e in
-        record { differ = apart s t (λ q. let lt = pair.below in omega (arith, q, lt)); left = plain_place words s pair.right; right = plain_place words t pair.left }
-  ] where
-    apart : (a b : ℕ) → (a ≡ b → ⊥) → nat_eq a b ≡ false
-    apart a b ne = elim (cases_Bool (nat_eq a b)) [ inl t ↦ absurd (ne (eqb-true a b t)) | inr f ↦ f ]
+  link_ends s t l = elim (link_cases atoms truth s t l) [
+    | inl g ↦ ends_apart s t (plain_at words atoms g.place s t plain g.atom_at)
+    | inr g ↦
+        let e = ends_apart t s (plain_at words atoms g.place t s plain g.atom_at) in
+        record { differ = nat_eq_equiv.symm s t ∙ e.differ; left = e.right; right = e.left }
+  ]
 
   links_move : (s : ℕ) (us : List ℕ) → AreLinks atoms truth s us → moves s us ≡ true
   links_move s [] ls = refl
@@ -63,11 +53,7 @@ module _ (words : List ℕ) (atoms : List Atom) (truth : List Bool) (plain : are
   path_there : (s : ℕ) (us : List ℕ) → AreLinks atoms truth s us → s ≢ end_of s us → is_place_of words class.Term s ≡ true → is_path words s us ≡ true
   unfolding is_path
   path_there s us ls ne term =
-      let different : not (nat_eq s (end_of s us)) ≡ true = elim (cases_Bool (nat_eq s (end_of s us))) [
-        | inl t ↦ absurd (ne (eqb-true s (end_of s us) t))
-        | inr f ↦ ap not f
-      ] in
-      and_from _ _ (and_from _ _ (links_move s us ls) different) (and_from _ _ term (links_terms s us ls))
+      and_from _ _ (and_from _ _ (links_move s us ls) (ap not (ne_eqb s (end_of s us) ne))) (and_from _ _ term (links_terms s us ls))
 
   clause_there : (s : ℕ) (us : List ℕ) → is_path words s us ≡ true → path_clause words (s ∷ us) ≡ Some (no_links s us ++ ends_clause words s (end_of s us))
   clause_there s us e = ap (λ b. if b then Some (no_links s us ++ ends_clause words s (end_of s us)) else None) e
@@ -116,9 +102,9 @@ false_links_are : (atoms : List Atom) (truth : List Bool) (s : ℕ) (us : List �
 false_links_are atoms truth s [] f = tt
 false_links_are atoms truth s (u ∷ us) f = (f.0, false_links_are atoms truth u us f.1)
 
-ends_apart : (words : List ℕ) (atoms : List Atom) (truth : List Bool) (s t : ℕ) → IsFalse atoms truth (ends_clause words s t) → (is_constant words s && is_constant words t ≡ true) ⊎ Gives atoms truth false (pair_of s t)
+ends_told : (words : List ℕ) (atoms : List Atom) (truth : List Bool) (s t : ℕ) → IsFalse atoms truth (ends_clause words s t) → (is_constant words s && is_constant words t ≡ true) ⊎ Gives atoms truth false (pair_of s t)
 unfolding ends_clause
-ends_apart words atoms truth s t f = elim (cases_Bool (is_constant words s && is_constant words t)) [
+ends_told words atoms truth s t f = elim (cases_Bool (is_constant words s && is_constant words t)) [
   | inl c ↦ inl c
   | inr n ↦ let g : IsFalse atoms truth (yes_of (pair_of s t) ∷ []) = rw n at f in inr g.0
 ]
@@ -136,7 +122,7 @@ false_links words atoms truth (s ∷ us) f = elim (cases_Bool (is_path words s u
         is = refl;
         is_path = p;
         links = false_links_are atoms truth s us (front_false atoms truth (no_links s us) (ends_clause words s (end_of s us)) all);
-        ends = ends_apart words atoms truth s (end_of s us) (back_false atoms truth (no_links s us) (ends_clause words s (end_of s us)) all);
+        ends = ends_told words atoms truth s (end_of s us) (back_false atoms truth (no_links s us) (ends_clause words s (end_of s us)) all);
       }
   | inr n ↦
       let e : None ≡ Some f.clause = sym (ap (λ b. if b then Some (no_links s us ++ ends_clause words s (end_of s us)) else None) n) ∙ f.clause_is in

@@ -1,52 +1,22 @@
 -- The terms of a question, and each alone in its class.
-use Rattle.std.proofs.Common.{◌≡◌, ◌≢◌, ◌<◌, ℕ, zero, suc, Bool, true, false, ◌||◌, List, [], ◌∷◌, ◌++◌, length, take, get_or, Option, Some, None, nat_eq, nat_lt, refl, ap, sym, ◌∙◌, subst, if◌then◌else◌, inl, inr, arith}
-use Rattle.std.specs.List.{list_all, IsDistinct, AllByRecursion}
-use Rattle.std.specs.Cmp.{nat_eq_equiv}
-use Rattle.std.proofs.lemmas.Bool.{eqb-true, eq-eqb, ltb-true, ltb-false, false≢true, cases_Bool, both_ways, and_parts, or_cases, or_left, or_right, or_parts}
+use Rattle.std.proofs.Common.{◌≡◌, ◌<◌, ℕ, zero, suc, Bool, true, false, ◌||◌, List, [], ◌∷◌, ◌++◌, length, take, get_or, Option, Some, None, nat_eq, nat_lt, refl, ap, sym, ◌∙◌, subst, if◌then◌else◌, inl, inr, arith}
+use Rattle.std.{specs.List.{list_all, IsDistinct, AllByRecursion}, proofs.lemmas.Bool.Decides.nat_tests}
+use Rattle.std.proofs.lemmas.Bool.{eqb-true, eq-eqb, false≢true, false_from_ne_true, cases_Bool, and_parts, or_cases, or_left, or_right, or_parts}
 use Rattle.ct_derivation.specs.declared.literals.Atom.{Atom}
-use Rattle.ct_derivation.specs.declared.literals.Atom.TheVariants as atom
-use Rattle.ct_equality.specs.Terms.{AreAscending, inserted, terms_from, terms_of, is_among, is_end_of}
-use Rattle.ct_equality.specs.Members.{is_listed, class_of, number_of, number_at, same_number, is_taken, members_at}
+use Rattle.ct_equality.{specs.Terms.{AreAscending, inserted, terms_from, terms_of, is_among, is_end_of}, proofs.Trees.among_at}
+use Rattle.ct_equality.{specs.Members.{is_listed, class_of, number_of, number_at, same_number, is_taken, members_at}, specs.Classes.{AreListed, AreClasses}}
 use Rattle.ct_equality.specs.Assigned.{Joined, here, is_plain_term, is_plain_atom, are_plain}
-use Rattle.ct_equality.proofs.Trees.{among_at}
-use Rattle.ct_equality.specs.Classes.{AreListed, AreClasses}
-
-or_again : (a b : Bool) → (a || (a || b)) ≡ (a || b)
-or_again true b = refl
-or_again false b = refl
-
-or_swap : (a b c : Bool) → (a || (b || c)) ≡ (b || (a || c))
-or_swap true true c = refl
-or_swap true false c = refl
-or_swap false true c = refl
-or_swap false false c = refl
+use Rattle.ct_derivation.specs.declared.literals.Atom.TheVariants as atom
 
 among_inserted : (s : ℕ) (ts : List ℕ) (p : ℕ) → is_among (inserted s ts) p ≡ (nat_eq p s || is_among ts p)
 among_inserted s [] p = refl
-among_inserted s (t ∷ ts) p = elim (cases_Bool (nat_lt s t)) [
-  | inl a ↦ rw a refl
-  | inr a ↦ elim (cases_Bool (nat_eq s t)) [
-    | inl b ↦
-        let same = eqb-true s t b in
-        rw (a, b) (sym (ap (λ x. nat_eq p x || (nat_eq p t || is_among ts p)) same ∙ or_again (nat_eq p t) (is_among ts p)))
-    | inr b ↦ rw (a, b) (ap (λ x. nat_eq p t || x) (among_inserted s ts p) ∙ or_swap (nat_eq p t) (nat_eq p s) (is_among ts p))
-  ]
-]
+among_inserted s (t ∷ ts) p = grind (arith, nat_tests, among_inserted s ts p)
 
 among_from : (ts : List ℕ) (atoms : List Atom) (p : ℕ) → is_among (terms_from ts atoms) p ≡ (is_among ts p || is_end_of atoms p)
-among_from ts [] p = elim (cases_Bool (is_among ts p)) [ inl t ↦ rw t refl | inr f ↦ rw f refl ]
+among_from ts [] p = grind arith
 among_from ts (atom.Node q ∷ atoms) p = among_from ts atoms p
 among_from ts (atom.Same s t ∷ atoms) p =
-    among_from (inserted t (inserted s ts)) atoms p
-    ∙ ap (λ b. b || is_end_of atoms p) (among_inserted t (inserted s ts) p ∙ ap (λ b. nat_eq p t || b) (among_inserted s ts p))
-    ∙ shuffle (nat_eq p t) (nat_eq p s) (is_among ts p) (is_end_of atoms p) where
-      shuffle : (a b c d : Bool) → ((a || (b || c)) || d) ≡ (c || ((b || a) || d))
-      shuffle true b true d = refl
-      shuffle true true false d = refl
-      shuffle true false false d = refl
-      shuffle false true true d = refl
-      shuffle false true false d = refl
-      shuffle false false c d = refl
+    grind (arith, among_from (inserted t (inserted s ts)) atoms p, among_inserted t (inserted s ts) p, among_inserted s ts p)
 
 -- the terms are those of the equalities
 pub among_terms : (atoms : List Atom) (p : ℕ) → is_among (terms_of atoms) p ≡ is_end_of atoms p
@@ -56,25 +26,10 @@ among_terms atoms p = among_from [] atoms p
 inserted_ascends : (s : ℕ) (ts : List ℕ) → AreAscending ts → AreAscending (inserted s ts)
 inserted_ascends s [] a = (λ p e. absurd (false≢true e), tt)
 inserted_ascends s (t ∷ ts) a = elim (cases_Bool (nat_lt s t)) [
-  | inl l ↦ rw l (
-    (λ p e. elim (or_cases (nat_eq p t) (is_among ts p) e) [
-      | inl q ↦ let same = eqb-true p t q in let lt = ltb-true s t l in omega (arith, same, lt)
-      | inr q ↦ let far = a.0 p q in let lt = ltb-true s t l in omega (arith, far, lt)
-    ]),
-    a,
-  )
+  | inl l ↦ rw l (λ p e. grind (arith, nat_tests, a.0 p), a)
   | inr n ↦ elim (cases_Bool (nat_eq s t)) [
     | inl q ↦ rw (n, q) a
-    | inr d ↦
-        let le = ltb-false s t n in
-        let ne : s ≢ t = λ same. both_ways _ d (eq-eqb s t same) in
-        rw (n, d) (
-          (λ p e. elim (or_cases (nat_eq p s) (is_among ts p) (sym (among_inserted s ts p) ∙ e)) [
-            | inl q ↦ let same = eqb-true p s q in omega (arith, same, le, ne)
-            | inr q ↦ a.0 p q
-          ]),
-          inserted_ascends s ts a.1,
-        )
+    | inr d ↦ rw (n, d) (λ p e. grind (arith, nat_tests, a.0 p, among_inserted s ts p), inserted_ascends s ts a.1)
   ]
 ]
 
@@ -90,13 +45,7 @@ none_among t (y ∷ ts) e = let parts = or_parts (nat_eq t y) (is_among ts t) e 
 pub ascends_distinct : (ts : List ℕ) → AreAscending ts → IsDistinct nat_eq ts
 unfolding IsDistinct
 ascends_distinct [] a = tt
-ascends_distinct (t ∷ ts) a = (
-  none_among t ts (elim (cases_Bool (is_among ts t)) [
-    | inl q ↦ let l = a.0 t q in absurd (omega (arith, l))
-    | inr n ↦ n
-  ]),
-  ascends_distinct ts a.1,
-)
+ascends_distinct (t ∷ ts) a = (none_among t ts (false_from_ne_true _ (λ q. let l = a.0 t q in omega (arith, l))), ascends_distinct ts a.1)
 
 pub terms_ascend : (atoms : List Atom) → AreAscending (terms_of atoms)
 terms_ascend atoms = from_ascends [] atoms tt
@@ -105,21 +54,12 @@ terms_ascend atoms = from_ascends [] atoms tt
 pub first_below : (ts : List ℕ) (i : ℕ) → AreAscending ts → i < length ts → (q : ℕ) → is_among (take i ts) q ≡ true → q < get_or ts i 0
 first_below [] i a lt q e = absurd (omega arith)
 first_below (t ∷ ts) zero a lt q e = absurd (false≢true e)
-first_below (t ∷ ts) (suc i) a lt q e = elim (or_cases (nat_eq q t) (is_among (take i ts) q) e) [
-  | inl s ↦ let same = eqb-true q t s in let l = a.0 (get_or ts i 0) (among_at ts i (omega (arith, lt))) in omega (arith, same, l)
-  | inr r ↦ first_below ts i a.1 (omega (arith, lt)) q r
-]
+first_below (t ∷ ts) (suc i) a lt q e = grind (arith, nat_tests, a.0 (get_or ts i 0), among_at ts i, first_below ts i a.1 (omega (arith, lt)) q)
 
 -- of ascending places those below one stand before it
 pub stands_before : (done rest : List ℕ) (t q : ℕ) → AreAscending (done ++ t ∷ rest) → is_among (done ++ t ∷ rest) q ≡ true → q < t → is_among done q ≡ true
-stands_before [] rest t q a e lt = elim (or_cases (nat_eq q t) (is_among rest q) e) [
-  | inl s ↦ let same = eqb-true q t s in absurd (omega (arith, same, lt))
-  | inr r ↦ let l = a.0 q r in absurd (omega (arith, l, lt))
-]
-stands_before (d ∷ done) rest t q a e lt = elim (or_cases (nat_eq q d) (is_among (done ++ t ∷ rest) q) e) [
-  | inl s ↦ or_left (nat_eq q d) _ s
-  | inr r ↦ or_right (nat_eq q d) _ (stands_before done rest t q a.1 r lt)
-]
+stands_before [] rest t q a e lt = grind (arith, nat_tests, a.0 q)
+stands_before (d ∷ done) rest t q a e lt = grind (arith, nat_tests, stands_before done rest t q a.1)
 
 pub terms_distinct : (atoms : List Atom) → IsDistinct nat_eq (terms_of atoms)
 terms_distinct atoms = ascends_distinct (terms_of atoms) (terms_ascend atoms)
@@ -143,31 +83,22 @@ pub plain_end : (words : List ℕ) (atoms : List Atom) (p : ℕ) → are_plain w
 unfolding are_plain
 plain_end words atoms p plain e = plain_ends words atoms p plain e
 
-same_number_is : (o : Option ℕ) (k : ℕ) → same_number o k ≡ true → o ≡ Some k
-same_number_is None k e = absurd (false≢true e)
-same_number_is (Some j) k e = ap Some (eqb-true j k e)
-
 -- each term alone in its class
 pub alone_listed : (words ts : List ℕ) (p : ℕ) → is_listed (members_at words ts) p ≡ is_among ts p
 alone_listed words [] p = refl
-alone_listed words (t ∷ ts) p = elim (cases_Bool (nat_eq t p)) [
-  | inl a ↦ let b = sym (nat_eq_equiv.symm t p) ∙ a in rw (a, b) refl
-  | inr a ↦ let b = sym (nat_eq_equiv.symm t p) ∙ a in rw (a, b) (alone_listed words ts p)
-]
+alone_listed words (t ∷ ts) p = grind (arith, nat_tests, alone_listed words ts p)
 
 pub alone_class : (words ts : List ℕ) (p : ℕ) → class_of (members_at words ts) p ≡ p
 alone_class words [] p = refl
-alone_class words (t ∷ ts) p = elim (cases_Bool (nat_eq t p)) [
-  | inl a ↦ rw a (eqb-true t p a)
-  | inr a ↦ rw a (alone_class words ts p)
-]
+alone_class words (t ∷ ts) p = grind (arith, nat_tests, alone_class words ts p)
 
 pub alone_number : (words ts : List ℕ) (p : ℕ) → number_of (members_at words ts) p ≡ (if is_among ts p then number_at words p else None)
 alone_number words [] p = refl
-alone_number words (t ∷ ts) p = elim (cases_Bool (nat_eq t p)) [
-  | inl a ↦ let b = sym (nat_eq_equiv.symm t p) ∙ a in rw (a, b) (ap (number_at words) (eqb-true t p a))
-  | inr a ↦ let b = sym (nat_eq_equiv.symm t p) ∙ a in rw (a, b) (alone_number words ts p)
-]
+alone_number words (t ∷ ts) p = grind (arith, nat_tests, alone_number words ts p)
+
+same_number_is : (o : Option ℕ) (k : ℕ) → same_number o k ≡ true → o ≡ Some k
+same_number_is None k e = absurd (false≢true e)
+same_number_is (Some j) k e = ap Some (eqb-true j k e)
 
 -- a number that is taken is that of one of the terms
 pub alone_taken : (words ts : List ℕ) (k : ℕ) → is_taken (members_at words ts) k ≡ true → (p : ℕ) × (is_among ts p ≡ true) × (number_at words p ≡ Some k)

@@ -1,24 +1,16 @@
 -- What the places of constants and nulls stand for.
-use Rattle.std.proofs.Common.{◌≡◌, ◌<◌, ◌^◌, ℕ, true, false, not, List, [], Option, Some, None, refl, ap, sym, ◌∙◌, subst, arith}
-use Rattle.std.specs.Prelude.{slice_get}
+use Rattle.std.{proofs.Common.{◌≡◌, ◌<◌, ◌^◌, ℕ, true, false, not, List, [], Option, Some, None, refl, ap, sym, ◌∙◌, subst, arith}, specs.Prelude.slice_get}
 use Rattle.std.proofs.lemmas.Bool.{false≢true, and_parts, not-true}
-use Rattle.ct_word.specs.declared.kinds.Kind.{Kind}
+use Rattle.ct_word.{specs.declared.kinds.Kind.Kind, specs.declared.values.Term.Term, specs.declared.values.Null.Null, specs.Word.{kind_of, left_of, right_of}}
+use Rattle.ct_word.{specs.Value.{World, at}, specs.Reading.{by_kind, meanings, as_term, term_at}, proofs.Constants.constant_stands}
+use Rattle.ct_word.{specs.WellFormed.{has_class, is_word_of, is_place_of, IsWellFormed}, proofs.Splits.{meaning_at, some-injective}}
+use Rattle.ct_derivation.specs.Path.{is_constant, is_constant_kind, is_constant_word}
+use Rattle.ct_equality.{specs.Members.{number_by, number_in, number_at}, specs.Assigned.{is_column_kind, is_column_word, is_plain_term}}
+use Rattle.ct_equality.specs.Valued.{is_value, value_in}
 use Rattle.ct_word.specs.declared.kinds.Kind.TheVariants as kind
 use Rattle.ct_word.specs.declared.kinds.Class.TheVariants as class
-use Rattle.ct_word.specs.declared.values.Term.{Term}
 use Rattle.ct_word.specs.declared.values.Term.TheVariants as term
-use Rattle.ct_word.specs.declared.values.Null.{Null}
 use Rattle.ct_word.specs.declared.values.Value.TheVariants as val
-use Rattle.ct_word.specs.Word.{kind_of, left_of, right_of}
-use Rattle.ct_word.specs.Value.{World, at}
-use Rattle.ct_word.specs.Reading.{by_kind, meanings, as_term, term_at}
-use Rattle.ct_word.specs.WellFormed.{has_class, is_word_of, is_place_of, IsWellFormed}
-use Rattle.ct_word.proofs.Constants.{constant_stands}
-use Rattle.ct_word.proofs.Splits.{meaning_at, some-injective}
-use Rattle.ct_derivation.specs.Path.{is_constant, is_constant_kind, is_constant_word}
-use Rattle.ct_equality.specs.Members.{number_by, number_in, number_at}
-use Rattle.ct_equality.specs.Assigned.{is_column_kind, is_column_word, is_plain_term}
-use Rattle.ct_equality.specs.Valued.{is_value, value_in}
 
 -- a value stands for itself
 pub value_there : (v : World) (t : Term) → is_value t ≡ true → at v [] t ≡ value_in t

@@ -1,32 +1,24 @@
 -- One more equality, and terms of one class that have to differ.
-use Rattle.std.proofs.Common.{◌≡◌, ◌≤◌, ◌<◌, ◌+◌, ℕ, zero, suc, Bool, true, false, ◌&&◌, List, [], ◌∷◌, Some, None, nat_eq, nat_lt, refl, ap, sym, ◌∙◌, subst, if◌then◌else◌, inl, inr, arith}
-use Rattle.std.specs.Prelude.{slice_get}
-use Rattle.std.specs.List.{list_all, list_any}
-use Rattle.std.specs.Cmp.{nat_eq_equiv}
+use Rattle.std.proofs.Common.{◌≡◌, ◌<◌, ◌+◌, ℕ, suc, Bool, true, false, ◌&&◌, List, [], ◌∷◌, Some, None, nat_eq, nat_lt, refl, ap, sym, ◌∙◌, subst, if◌then◌else◌, inl, inr, arith}
+use Rattle.std.{specs.Prelude.slice_get, specs.List.{list_all, list_any}, proofs.lemmas.Option.{get_or_from_slice_get, slice_get_within}}
 use Rattle.std.proofs.lemmas.Bool.{eqb-true, eq-eqb, ltb-true, lt-ltb, cases_Bool, cases_eq, both_ways, and_parts, and_from, or_left, or_right}
-use Rattle.ct_word.specs.declared.kinds.Class.TheVariants as class
+use Rattle.std.{proofs.lemmas.List.Folds.list_any_at, proofs.lemmas.List.Sums.AllPass-from_list_all}
 use Rattle.ct_word.specs.WellFormed.{is_place_of}
-use Rattle.ct_derivation.specs.declared.literals.Atom.{Atom}
-use Rattle.ct_derivation.specs.declared.literals.Atom.TheVariants as atom
-use Rattle.ct_derivation.specs.Path.{pair_of, is_constant}
-use Rattle.ct_equality.specs.declared.classes.Member.{Member}
-use Rattle.ct_equality.specs.Members.{is_listed, class_of, merged}
-use Rattle.ct_equality.specs.Terms.{is_end, is_end_of}
-use Rattle.ct_equality.specs.Joining.{prefers, clash_of, joined_classes, clash_by, joined_by}
+use Rattle.ct_derivation.{specs.declared.literals.Atom.Atom, specs.Path.{pair_of, is_constant}}
+use Rattle.ct_equality.{specs.declared.classes.Member.Member, specs.Members.{is_listed, class_of, merged}, specs.Terms.{is_end, is_end_of}}
+use Rattle.ct_equality.specs.Joining.{prefers, kept_of, gone_of, clash_of, joined_classes, clash_by, joined_by}
 use Rattle.ct_equality.specs.Assigned.{Gives, IsLink, Joined, step, IsClash, is_plain_term, is_plain_atom, are_plain, is_ordered, are_ordered}
 use Rattle.ct_equality.specs.Classes.{AreListed, AreClasses, AreJoined, Merges, IsClosed, IsContradiction}
-use Rattle.ct_equality.proofs.Joins.{joined_on, joined_back, merged_classes, merged_grows, one_class, no_change, merges_on, constant_term, keeps_same, goes_to_b, goes_to_a, no_clash, clash_b, free_b, free_a, b_is_free, b_constant, lower_a, lower_b}
+use Rattle.ct_equality.proofs.Joins.{TwoClasses, After, joined_on, joined_back, merged_after, no_change, merges_on, constant_term, parted, kept_lower, both_moved, both_constants}
+use Rattle.ct_word.specs.declared.kinds.Class.TheVariants as class
+use Rattle.ct_derivation.specs.declared.literals.Atom.TheVariants as atom
 
 -- what holds of each atom holds of the one at a place
 atom_at : (p : Atom → Bool) (atoms : List Atom) (k : ℕ) (a : Atom) → list_all p atoms ≡ true → slice_get atoms k ≡ Some a → p a ≡ true
-atom_at p [] k a all e = cc
-atom_at p (x ∷ atoms) zero a all e = let same : x ≡ a = cc in ap p (sym same) ∙ (and_parts (p x) _ all).0
-atom_at p (x ∷ atoms) (suc k) a all e = atom_at p atoms k a (and_parts (p x) _ all).1 e
+atom_at p atoms k a all e = ap p (sym (get_or_from_slice_get atoms k a a e)) ∙ AllPass-from_list_all p atoms all k a (slice_get_within atoms k a e)
 
 any_at : (p : Atom → Bool) (atoms : List Atom) (k : ℕ) (a : Atom) → slice_get atoms k ≡ Some a → p a ≡ true → list_any p atoms ≡ true
-any_at p [] k a e t = cc
-any_at p (x ∷ atoms) zero a e t = let same : x ≡ a = cc in or_left (p x) _ (ap p same ∙ t)
-any_at p (x ∷ atoms) (suc k) a e t = or_right (p x) _ (any_at p atoms k a e t)
+any_at p atoms k a e t = list_any_at p atoms k a (slice_get_within atoms k a e) (ap p (get_or_from_slice_get atoms k a a e) ∙ t)
 
 pub record PlainPair (words : List ℕ) (s t : ℕ) : Type 0 where
   pub left : is_plain_term words s ≡ true
@@ -65,16 +57,7 @@ right_end atoms k s t e = any_at (is_end t) atoms k (atom.Same s t) e (or_right 
 pub pair_below : (s t : ℕ) → s < t → pair_of s t ≡ atom.Same s t
 pair_below s t lt = ap (λ b. if b then atom.Same s t else atom.Same t s) (lt-ltb s t lt)
 
-ne_flip : (a b : ℕ) → nat_eq a b ≡ false → nat_eq b a ≡ false
-ne_flip a b e = sym (nat_eq_equiv.symm a b) ∙ e
-
 module _ (words : List ℕ) (atoms : List Atom) (truth : List Bool) (ms : List Member) (are : AreClasses words atoms truth ms) where
-  -- the members after an equality of s and t
-  record After (s t : ℕ) (new : List Member) : Type 0 where
-    classes : AreClasses words atoms truth new
-    merges : Merges ms new
-    one : class_of new s ≡ class_of new t
-
   module _ (s t : ℕ) (link : IsLink atoms truth s t) (s_there : is_listed ms s ≡ true) (t_there : is_listed ms t ≡ true) where
     abbrev a : ℕ
     a = class_of ms s
@@ -85,52 +68,49 @@ module _ (words : List ℕ) (atoms : List Atom) (truth : List Bool) (ms : List M
     led : Joined atoms truth a b
     led = joined_on atoms truth (joined_back atoms truth (are.joined s)) (step t link (are.joined t))
 
-    to_b : nat_eq a b ≡ false → is_constant words a ≡ false → (is_constant words b ≡ false → b ≤ a) → After s t (merged a b ms)
-    to_b apart free lower = record {
-      classes = merged_classes words atoms truth ms are a b led (are.chief s) (are.chief t) (ne_flip a b apart) free (are.within s s_there) (are.within t t_there) lower;
-      merges = merged_grows words atoms truth ms are a b led (are.chief s) (are.chief t) (ne_flip a b apart) free (are.within s s_there) (are.within t t_there) lower;
-      one = one_class words atoms truth ms are a b led (are.chief s) (are.chief t) (ne_flip a b apart) free (are.within s s_there) (are.within t t_there) lower s t refl refl;
-    }
+    abbrev gone : ℕ
+    gone = gone_of words a b
 
-    to_a : nat_eq a b ≡ false → is_constant words b ≡ false → (is_constant words a ≡ false → a ≤ b) → After s t (merged b a ms)
-    to_a apart free lower =
-        let back = joined_back atoms truth led in
-        record {
-          classes = merged_classes words atoms truth ms are b a back (are.chief t) (are.chief s) apart free (are.within t t_there) (are.within s s_there) lower;
-          merges = merged_grows words atoms truth ms are b a back (are.chief t) (are.chief s) apart free (are.within t t_there) (are.within s s_there) lower;
-          one = sym (one_class words atoms truth ms are b a back (are.chief t) (are.chief s) apart free (are.within t t_there) (are.within s s_there) lower t s refl refl);
-        }
+    abbrev kept : ℕ
+    kept = kept_of words a b
 
-    keeps : clash_of words a b ≡ None → After s t (joined_classes words a b ms)
+    two : TwoClasses atoms truth ms gone kept
+    two = elim (cases_Bool (prefers words a b)) [
+      | inl p ↦ rw p (record { led = led; gone_listed = are.within s s_there; kept_chief = are.chief t; kept_listed = are.within t t_there })
+      | inr n ↦ rw n (record { led = joined_back atoms truth led; gone_listed = are.within t t_there; kept_chief = are.chief s; kept_listed = are.within s s_there })
+    ]
+
+    keeps : clash_of words a b ≡ None → After words atoms truth ms s t (joined_classes words a b ms)
+    unfolding clash_of joined_classes
     keeps none = elim (cases_Bool (nat_eq a b)) [
-      | inl same ↦ subst (After s t) (sym (keeps_same words a b ms same)) (record { classes = are; merges = no_change ms; one = eqb-true a b same })
-      | inr apart ↦ elim (cases_Bool (prefers words a b)) [
-        | inl p ↦ elim (cases_Bool (is_constant words a)) [
-          | inl c ↦ let e = clash_b words a b apart p c in cc
-          | inr f ↦ subst (After s t) (sym (goes_to_b words a b ms apart p f)) (to_b apart f (lower_b words a b p))
-        ]
-        | inr n ↦ let f = b_is_free words a b n in subst (After s t) (sym (goes_to_a words a b ms apart n f)) (to_a apart f (lower_a words a b n))
+      | inl same ↦
+          let e : joined_classes words a b ms ≡ ms = rw same refl in
+          subst (After words atoms truth ms s t) (sym e) (record { classes = are; merges = no_change ms; one = eqb-true a b same })
+      | inr apart ↦ elim (cases_Bool (is_constant words gone)) [
+        | inl k ↦ let e : clash_of words a b ≡ Some (kept, gone) = rw (apart, k) refl in cc
+        | inr free ↦
+            let e : joined_classes words a b ms ≡ merged gone kept ms = rw (apart, free) refl in
+            subst (After words atoms truth ms s t) (sym e)
+            (merged_after words atoms truth ms are gone kept two (parted words a b apart) free (kept_lower words a b) s t (both_moved words a b))
       ]
     ]
 
     clashes : (c : ℕ × ℕ) → clash_of words a b ≡ Some c → IsClash words atoms truth c.0 c.1
+    unfolding clash_of
     clashes c some = elim (cases_Bool (nat_eq a b)) [
-      | inl same ↦ let e = no_clash words a b same in cc
-      | inr apart ↦ elim (cases_Bool (prefers words a b)) [
-        | inl p ↦ elim (cases_Bool (is_constant words a)) [
-          | inl k ↦
-              let e = clash_b words a b apart p k in
-              let is : c ≡ (b, a) = cc in
-              let bk = b_constant words a b p k in
-              subst (λ d. IsClash words atoms truth d.0 d.1) (sym is) (record {
-                differ = λ q. both_ways _ (ne_flip a b apart) (eq-eqb b a q);
-                term = constant_term words b bk;
-                joined = joined_back atoms truth led;
-                apart = inl (and_from _ _ bk k);
-              })
-          | inr f ↦ let e = free_b words a b apart p f in cc
-        ]
-        | inr n ↦ let e = free_a words a b apart n (b_is_free words a b n) in cc
+      | inl same ↦ let e : clash_of words a b ≡ None = rw same refl in cc
+      | inr apart ↦ elim (cases_Bool (is_constant words gone)) [
+        | inl k ↦
+            let e : clash_of words a b ≡ Some (kept, gone) = rw (apart, k) refl in
+            let is : c ≡ (kept, gone) = cc in
+            let kept_constant = both_constants words a b k in
+            subst (λ d. IsClash words atoms truth d.0 d.1) (sym is) (record {
+              differ = λ q. both_ways _ (parted words a b apart) (eq-eqb kept gone q);
+              term = constant_term words kept kept_constant;
+              joined = joined_back atoms truth two.led;
+              apart = inl (and_from _ _ kept_constant k);
+            })
+        | inr free ↦ let e : clash_of words a b ≡ None = rw (apart, free) refl in cc
       ]
     ]
 

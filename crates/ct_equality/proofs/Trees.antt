@@ -1,23 +1,14 @@
 -- Growing a tree, and walking up in it.
-use Rattle.std.proofs.Common.{◌≡◌, ◌<◌, ◌≤◌, ◌+◌, ◌-◌, ◌^◌, ℕ, zero, suc, Bool, true, false, ◌||◌, List, [], ◌∷◌, ◌++◌, length, get_or, Some, None, nat_eq, nat_lt, refl, ap, sym, ◌∙◌, subst, if◌then◌else◌, inl, inr, ◌⊎◌, arith, append_assoc, append-nil, length-append}
-use Rattle.std.specs.Prelude.{slice_get}
-use Rattle.std.specs.List.{IsDistinct}
-use Rattle.std.specs.Cmp.{nat_eq_equiv}
-use Rattle.std.proofs.lemmas.Bool.{eqb-true, eq-eqb, false≢true, cases_Bool, cases_eq, cases_lt, or_left, or_right, or_cases}
-use Rattle.std.proofs.lemmas.Option.{slice_get_within}
-use Rattle.std.proofs.lemmas.List.{get_or_append_left, get_or-append_right}
-use Rattle.std.proofs.lemmas.List.Folds.{list_any-append}
-use Rattle.std.proofs.lemmas.Map.Keys.{IsDistinct-push}
-use Rattle.std.proofs.lemmas.Map.Steps.{length-le_from_distinct_below}
-use Rattle.ct_derivation.specs.declared.literals.Atom.{Atom}
-use Rattle.ct_derivation.specs.declared.literals.Atom.TheVariants as atom
-use Rattle.ct_derivation.specs.Path.{pair_of, end_of}
-use Rattle.ct_equality.specs.Terms.{is_among}
-use Rattle.ct_equality.specs.Assigned.{IsLink, Joined, here, step, AreLinks, IsWalk, are_ordered}
-use Rattle.ct_word.proofs.Splits.{some-injective}
+use Rattle.std.proofs.Common.{◌≡◌, ◌<◌, ◌≤◌, ◌+◌, ◌^◌, ℕ, suc, Bool, true, false, ◌||◌, List, [], ◌∷◌, ◌++◌, length, get_or, Some, None, nat_eq, refl, ap, sym, ◌∙◌, subst, inl, inr, arith, append_assoc, append-nil, length-append}
+use Rattle.std.{specs.Prelude.slice_get, specs.List.IsDistinct, specs.Cmp.nat_eq_equiv, proofs.lemmas.Option.slice_get_within}
+use Rattle.std.{proofs.lemmas.Bool.{eqb-true, eq-eqb, false≢true, cases_eq, cases_lt, or_left, or_cases}, proofs.lemmas.Bool.Decides.nat_tests}
+use Rattle.std.{proofs.lemmas.List.{get_or_append_left, get_or_push}, proofs.lemmas.List.Folds.{list_any-append, list_any_at}}
+use Rattle.std.{proofs.lemmas.Map.Keys.IsDistinct-push, proofs.lemmas.Map.Steps.length-le_from_distinct_below}
+use Rattle.ct_derivation.{specs.declared.literals.Atom.Atom, specs.Path.{pair_of, end_of}}
+use Rattle.ct_equality.{specs.Terms.is_among, specs.Assigned.{IsLink, Joined, here, step, AreLinks, IsWalk, are_ordered}, proofs.Steps.ordered_at}
 use Rattle.ct_equality.specs.Trees.{beyond, IsTree, Extends, LeadsInto, IsExplored, IsGrowing, IsExploring}
-use Rattle.ct_equality.proofs.Steps.{ordered_at, pair_below}
-use Rattle.ct_equality.proofs.Joins.{pair_swap}
+use Rattle.ct_word.proofs.Splits.{some-injective}
+use Rattle.ct_derivation.specs.declared.literals.Atom.TheVariants as atom
 
 pub record StandsAt (places : List ℕ) (p : ℕ) : Type 0 where
   pub place : ℕ
@@ -32,9 +23,7 @@ stands (q ∷ places) p e = elim (or_cases (nat_eq p q) (is_among places p) e) [
 ]
 
 pub among_at : (places : List ℕ) (i : ℕ) → i < length places → is_among places (get_or places i 0) ≡ true
-among_at [] i lt = absurd (omega arith)
-among_at (q ∷ places) zero lt = or_left (nat_eq q q) _ (eq-eqb q q refl)
-among_at (q ∷ places) (suc i) lt = or_right (nat_eq (get_or places i 0) q) _ (among_at places i (omega arith))
+among_at places i lt = list_any_at (nat_eq (get_or places i 0)) places i 0 lt (eq-eqb _ _ refl)
 
 pub among_append : (xs ys : List ℕ) (p : ℕ) → is_among (xs ++ ys) p ≡ (is_among xs p || is_among ys p)
 among_append xs ys p = list_any-append (nat_eq p) xs ys
@@ -76,47 +65,30 @@ module _ (atoms : List Atom) (truth : List Bool) where
     at_old : (i : ℕ) → i < length places → get_or ps i 0 ≡ get_or places i 0
     at_old i lt = get_or_append_left places (p ∷ []) 0 i lt
 
-    at_new : get_or ps (length places) 0 ≡ p
-    at_new = get_or-append_right places (p ∷ []) (length places) (length places) 0 refl (omega arith) ∙ ap (λ i. get_or (p ∷ []) i 0) zero_left where
-      zero_left : length places - length places ≡ 0
-      zero_left = omega arith
-
     from_old : (i : ℕ) → i < length places → get_or os i 0 ≡ get_or origins i 0
     from_old i lt = get_or_append_left origins (o ∷ []) 0 i (let c = t.count in omega (arith, c, lt))
 
-    from_new : get_or os (length places) 0 ≡ o
-    from_new = get_or-append_right origins (o ∷ []) (length origins) (length places) 0 refl (let c = t.count in omega (arith, c)) ∙ ap (λ i. get_or (o ∷ []) i 0) zero_left where
-      zero_left : length places - length origins ≡ 0
-      zero_left = let c = t.count in omega (arith, c)
+    at_new : get_or ps (length places) 0 ≡ p
+    at_new = get_or_push places p 0 (length places) refl
 
-    split : (i : ℕ) → i < length ps → (i < length places) ⊎ (i ≡ length places)
-    split i lt = elim (cases_lt i (length places)) [ inl a ↦ inl a | inr b ↦ inr (omega (arith, long, lt, b)) ]
+    from_new : get_or os (length places) 0 ≡ o
+    from_new = get_or_push origins o 0 (length places) t.count
 
     earlier_more : (i : ℕ) → 0 < i → i < length ps → get_or os i 0 < i
-    earlier_more i pos lt = elim (split i lt) [
+    earlier_more i pos lt = elim (cases_lt i (length places)) [
       | inl a ↦ let e = from_old i a in let f = t.earlier i pos a in omega (arith, e, f)
-      | inr b ↦ let e = ap (λ j. get_or os j 0) b ∙ from_new in omega (arith, e, b, within)
+      | inr b ↦ let at : i ≡ length places = omega (arith, long, lt, b) in rw (at, from_new) within
     ]
 
     links_more : (i : ℕ) → 0 < i → i < length ps → IsLink atoms truth (get_or ps i 0) (get_or ps (get_or os i 0) 0)
-    links_more i pos lt = elim (split i lt) [
+    links_more i pos lt = elim (cases_lt i (length places)) [
       | inl a ↦
           let f = t.earlier i pos a in
-          let e : get_or ps (get_or os i 0) 0 ≡ get_or places (get_or origins i 0) 0 =
-          ap (λ j. get_or ps j 0) (from_old i a) ∙ at_old (get_or origins i 0) (omega (arith, f, a)) in
-          subst (λ x. IsLink atoms truth x (get_or ps (get_or os i 0) 0)) (sym (at_old i a))
-          (subst (λ x. IsLink atoms truth (get_or places i 0) x) (sym e) (t.links i pos a))
+          let e = at_old (get_or origins i 0) (omega (arith, f, a)) in
+          rw (at_old i a, from_old i a, e) (t.links i pos a)
       | inr b ↦
-          let e : get_or ps (get_or os i 0) 0 ≡ get_or places o 0 =
-          ap (λ j. get_or ps j 0) (ap (λ j. get_or os j 0) b ∙ from_new) ∙ at_old o within in
-          subst (λ x. IsLink atoms truth x (get_or ps (get_or os i 0) 0)) (sym (ap (λ j. get_or ps j 0) b ∙ at_new))
-          (subst (λ x. IsLink atoms truth p x) (sym e) link)
-    ]
-
-    short_more : (q : ℕ) → is_among ps q ≡ true → q < 2 ^ 32
-    short_more q e = elim (or_cases (is_among places q) (is_among (p ∷ []) q) (sym (among_append places (p ∷ []) q) ∙ e)) [
-      | inl a ↦ t.short q a
-      | inr b ↦ elim (or_cases (nat_eq q p) false b) [ inl s ↦ let same = eqb-true q p s in omega (arith, same, short) | inr n ↦ absurd (false≢true n) ]
+          let at : i ≡ length places = omega (arith, long, lt, b) in
+          rw (at, at_new, from_new, at_old o within) link
     ]
 
     pub tree_more : IsTree atoms truth ps os
@@ -124,7 +96,7 @@ module _ (atoms : List Atom) (truth : List Bool) where
       count = (let a = long in let b = length-append origins (o ∷ []) in let c = t.count in omega (arith, a, b, c));
       some = (let a = long in omega (arith, a));
       once = IsDistinct-push nat_eq_equiv places p t.once new;
-      short = short_more;
+      short = λ q e. grind (arith, nat_tests, among_append places (p ∷ []) q, t.short q);
       earlier = earlier_more;
       links = links_more;
     }
@@ -138,52 +110,23 @@ module _ (atoms : List Atom) (truth : List Bool) where
     count = refl;
     some = omega arith;
     once = IsDistinct-push nat_eq_equiv [] root distinct_nil refl;
-    short = λ q e. elim (or_cases (nat_eq q root) false e) [ inl s ↦ let same = eqb-true q root s in omega (arith, same, lt) | inr n ↦ absurd (false≢true n) ];
+    short = λ q e. grind (arith, nat_tests);
     earlier = λ i pos l. absurd (omega (arith, pos, l));
     links = λ i pos l. absurd (omega (arith, pos, l));
   }
 
   -- what lies beyond an equality of p and t
   pub beyond_pair : (p t : ℕ) → beyond (pair_of p t) true p ≡ Some t
-  beyond_pair p t = elim (cases_Bool (nat_lt p t)) [
-    | inl a ↦ ap (λ b. beyond (if b then atom.Same p t else atom.Same t p) true p) a ∙ ap (λ b. if b then Some t else (if nat_eq t p then Some p else None)) (eq-eqb p p refl)
-    | inr a ↦ ap (λ b. beyond (if b then atom.Same p t else atom.Same t p) true p) a ∙ other
-  ] where
-    other : beyond (atom.Same t p) true p ≡ Some t
-    other = elim (cases_Bool (nat_eq t p)) [
-      | inl s ↦ ap (λ b. if b then Some p else (if nat_eq p p then Some t else None)) s ∙ ap Some (sym (eqb-true t p s))
-      | inr n ↦
-          ap (λ b. if b then Some p else (if nat_eq p p then Some t else None)) n
-          ∙ ap (λ b. if b then Some t else None) (eq-eqb p p refl)
-    ]
+  beyond_pair p t = grind (arith, nat_tests)
+
+  pair_beyond : (s u p t : ℕ) → s < u → beyond (atom.Same s u) true p ≡ Some t → pair_of t p ≡ atom.Same s u
+  pair_beyond s u p t lt e = grind (arith, nat_tests)
 
   pub beyond_link : are_ordered atoms ≡ true → (k : ℕ) (a : Atom) (b : Bool) (p t : ℕ) → slice_get atoms k ≡ Some a → slice_get truth k ≡ Some b → beyond a b p ≡ Some t → IsLink atoms truth t p
   beyond_link ordered k (atom.Node q) b p t e f g = cc
   beyond_link ordered k (atom.Same s u) false p t e f g = cc
   beyond_link ordered k (atom.Same s u) true p t e f g =
-      let lt = ordered_at atoms k s u ordered e in
-      let same : pair_of s u ≡ atom.Same s u = pair_below s u lt in
-      elim (cases_Bool (nat_eq s p)) [
-        | inl a ↦
-            let is : Some u ≡ Some t = sym (ap (λ c. if c then Some u else (if nat_eq u p then Some s else None)) a) ∙ g in
-            let ut : u ≡ t = cc in
-            let sp = eqb-true s p a in
-            let pairs : pair_of t p ≡ atom.Same s u = pair_swap t p ∙ ap (λ x. pair_of x t) (sym sp) ∙ ap (λ x. pair_of s x) (sym ut) ∙ same in
-            record { place = k; atom_at = e ∙ ap Some (sym pairs); truth_at = f }
-        | inr n ↦
-            let g2 : (if nat_eq u p then Some s else None) ≡ Some t = sym (ap (λ c. if c then Some u else (if nat_eq u p then Some s else None)) n) ∙ g in
-            elim (cases_Bool (nat_eq u p)) [
-              | inl a ↦
-                  let is : Some s ≡ Some t = sym (ap (λ c. if c then Some s else None) a) ∙ g2 in
-                  let st : s ≡ t = cc in
-                  let up = eqb-true u p a in
-                  let pairs : pair_of t p ≡ atom.Same s u = ap (λ x. pair_of x p) (sym st) ∙ ap (λ x. pair_of s x) (sym up) ∙ same in
-                  record { place = k; atom_at = e ∙ ap Some (sym pairs); truth_at = f }
-              | inr m ↦
-                  let none : None ≡ Some t = sym (ap (λ c. if c then Some s else None) m) ∙ g2 in
-                  cc
-            ]
-      ]
+      record { place = k; atom_at = e ∙ ap Some (sym (pair_beyond s u p t (ordered_at atoms k s u ordered e) g)); truth_at = f }
 
   pub place_below : (k : ℕ) (a : Atom) → slice_get atoms k ≡ Some a → k < length atoms
   place_below k a e = slice_get_within atoms k a e
@@ -204,9 +147,6 @@ module _ (atoms : List Atom) (truth : List Bool) where
   end_snoc : (s : ℕ) (us : List ℕ) (x : ℕ) → end_of s (us ++ x ∷ []) ≡ x
   end_snoc s [] x = refl
   end_snoc s (u ∷ us) x = end_snoc u us x
-
-  pub walk_start : (s : ℕ) → IsWalk atoms truth s s (s ∷ [])
-  walk_start s = record { rest = []; is = refl; links = tt; ends = refl }
 
   pub walk_on : (s t u : ℕ) (path : List ℕ) → IsWalk atoms truth s t path → IsLink atoms truth t u → IsWalk atoms truth s u (path ++ u ∷ [])
   walk_on s t u path w l = record {

@@ -1,36 +1,22 @@
 -- The valuation of classes gives each equality its truth.
-use Rattle.std.proofs.Common.{◌≡◌, ◌<◌, ◌≤◌, ◌↔◌, ℕ, Bool, true, false, List, [], ◌∷◌, ◌++◌, length, map, Option, Some, None, nat_eq, nat_lt, refl, ap, sym, ◌∙◌, subst, if◌then◌else◌, inl, inr, ◌⊎◌, arith, append_assoc, append-nil}
-use Rattle.std.specs.Prelude.{slice_get}
-use Rattle.std.specs.List.{IsDistinct, AllByRecursion}
+use Rattle.std.proofs.Common.{◌≡◌, ◌<◌, ◌≤◌, ◌↔◌, ℕ, Bool, true, false, List, [], ◌∷◌, ◌++◌, length, map, Option, Some, None, nat_eq, refl, ap, sym, ◌∙◌, subst, if◌then◌else◌, inl, inr, ◌⊎◌, arith, append_assoc, append-nil}
+use Rattle.std.{specs.Prelude.slice_get, specs.List.{IsDistinct, AllByRecursion}, proofs.lemmas.Map.Keys.IsDistinct-tail}
 use Rattle.std.proofs.lemmas.Bool.{eqb-true, eq-eqb, false≢true, cases_Bool, cases_eq, both_ways, or_cases, or_left, or_right}
-use Rattle.std.proofs.lemmas.Map.Keys.{IsDistinct-tail}
-use Rattle.ct_word.specs.declared.kinds.Class.TheVariants as class
-use Rattle.ct_word.specs.declared.values.Term.{Term}
-use Rattle.ct_word.specs.declared.values.Term.TheVariants as term
-use Rattle.ct_word.specs.declared.values.Null.{Null}
-use Rattle.ct_word.specs.declared.values.Value.{Value}
-use Rattle.ct_word.specs.declared.values.Value.TheVariants as val
-use Rattle.ct_word.specs.Value.{World, at, same_null, same_value, value_of_null}
-use Rattle.ct_word.specs.Reading.{term_at}
-use Rattle.ct_word.specs.WellFormed.{is_place_of, IsWellFormed}
-use Rattle.ct_word.proofs.Alike.{null_decides, value_decides}
-use Rattle.ct_word.proofs.Constants.{one_constant, one_term}
-use Rattle.ct_derivation.specs.declared.literals.Atom.{Atom}
-use Rattle.ct_derivation.specs.declared.literals.Atom.TheVariants as atom
-use Rattle.ct_derivation.specs.Path.{is_constant, is_constant_word}
-use Rattle.ct_derivation.specs.Truth.{atom_holds}
-use Rattle.ct_equality.specs.declared.classes.Member.{Member}
-use Rattle.ct_equality.specs.Terms.{AreAscending, terms_of, is_among, is_end_of}
-use Rattle.ct_equality.specs.Members.{is_listed, class_of, number_of, number_at, members_at}
-use Rattle.ct_equality.specs.Assigned.{Gives, Joined, here, step, are_plain}
-use Rattle.ct_equality.specs.Classes.{AreJoined, Merges, IsApart}
+use Rattle.ct_word.{specs.declared.values.Term.Term, specs.declared.values.Null.Null, specs.declared.values.Value.Value, specs.Reading.term_at}
+use Rattle.ct_word.{specs.Value.{World, at, same_null, same_value, value_of_null}, specs.WellFormed.{is_place_of, IsWellFormed}}
+use Rattle.ct_word.{proofs.Alike.{null_decides, value_decides}, proofs.Constants.{one_constant, one_term}}
+use Rattle.ct_derivation.{specs.declared.literals.Atom.Atom, specs.Path.{is_constant, is_constant_word}, specs.Truth.atom_holds}
+use Rattle.ct_equality.{specs.declared.classes.Member.Member, specs.Terms.{AreAscending, terms_of, is_among, is_end_of}, proofs.Members.number_listed}
+use Rattle.ct_equality.{proofs.Joins.{link_cases, joined_on, joined_back}, specs.Members.{is_listed, class_of, number_of, number_at, members_at}}
+use Rattle.ct_equality.{specs.Assigned.{Gives, Joined, here, step, are_plain}, specs.Classes.{AreJoined, Merges, IsApart}}
+use Rattle.ct_equality.{proofs.Steps.{plain_place, left_end, right_end}, proofs.Trees.{among_append, place_below}}
 use Rattle.ct_equality.specs.Valued.{value_in, numbered_value, class_value, with_pair, world_of, with_null, nulls_of, IsConstantOf, IsPlainValue, IsWorldOf, AreNumbered, HasValue, HaveValues, has_value, IsTaken, IsLeast, AreNext}
-use Rattle.ct_equality.proofs.Steps.{plain_place, left_end, right_end}
-use Rattle.ct_equality.proofs.Trees.{among_append, place_below}
-use Rattle.ct_equality.proofs.Joins.{joined_on, joined_back}
-use Rattle.ct_equality.proofs.Members.{number_listed}
-use Rattle.ct_equality.proofs.Listed.{among_terms, terms_ascend, terms_distinct, stands_before, plain_end, alone_listed, alone_number, alone_taken}
 use Rattle.ct_equality.proofs.Standing.{value_there, IsNull, IsNumber, constant_value, number_value, no_number, null_there}
+use Rattle.ct_equality.proofs.Listed.{among_terms, terms_ascend, terms_distinct, stands_before, plain_end, alone_listed, alone_number, alone_taken}
+use Rattle.ct_word.specs.declared.kinds.Class.TheVariants as class
+use Rattle.ct_word.specs.declared.values.Term.TheVariants as term
+use Rattle.ct_word.specs.declared.values.Value.TheVariants as val
+use Rattle.ct_derivation.specs.declared.literals.Atom.TheVariants as atom
 
 if_some : (b : Bool) (o : Option ℕ) (k : ℕ) → (if b then o else None) ≡ Some k → o ≡ Some k
 if_some true o k e = e
@@ -63,14 +49,12 @@ module _ (words : List ℕ) (wf : IsWellFormed words) where
           let b = own_number q k f in
           one_constant words wf [] p q (known words p a.constant) (known words q b.constant) (ap (at [] []) (a.term ∙ sym b.term));
       short = λ p k e. (own_number p k e).short;
-      constants = λ p e l.
-          let among : is_among ts p ≡ true = sym (merges.listed p ∙ alone_listed words ts p) ∙ l in
-          number_is p ∙ ap (λ b. if b then number_at words p else None) among;
+      constants = λ p e l. number_is p ∙ rw (sym (merges.listed p ∙ alone_listed words ts p) ∙ l);
       chiefs = λ p e c n none. false≢true e;
       given = λ p k e n. absurd (both_ways _ n (own_number p k e).constant);
       found = λ k e.
           let f = alone_taken words ts k (sym (merges.taken k) ∙ e) in
-          (f.0, number_is f.0 ∙ ap (λ b. if b then number_at words f.0 else None) f.1 ∙ f.2);
+          (f.0, number_is f.0 ∙ rw f.1 f.2);
       least = λ p k j e n lt. absurd (both_ways _ n (own_number p k e).constant);
     }
 
@@ -283,13 +267,9 @@ module _ (words : List ℕ) (wf : IsWellFormed words) where
     -- joined terms are in one class
     joined_class : {s t : ℕ} → Joined atoms truth s t → class_of ms s ≡ class_of ms t
     joined_class here = refl
-    joined_class (step {s} t l r) = elim (cases_Bool (nat_lt s t)) [
-      | inl a ↦
-          let e : slice_get atoms l.place ≡ Some (atom.Same s t) = l.atom_at ∙ ap Some (ap (λ b. if b then atom.Same s t else atom.Same t s) a) in
-          joined.closed l.place s t (place_below atoms truth l.place (atom.Same s t) e) e l.truth_at ∙ joined_class r
-      | inr a ↦
-          let e : slice_get atoms l.place ≡ Some (atom.Same t s) = l.atom_at ∙ ap Some (ap (λ b. if b then atom.Same s t else atom.Same t s) a) in
-          sym (joined.closed l.place t s (place_below atoms truth l.place (atom.Same t s) e) e l.truth_at) ∙ joined_class r
+    joined_class (step {s} t l r) = elim (link_cases atoms truth s t l) [
+      | inl g ↦ joined.closed g.place s t (place_below atoms truth g.place (atom.Same s t) g.atom_at) g.atom_at g.truth_at ∙ joined_class r
+      | inr g ↦ sym (joined.closed g.place t s (place_below atoms truth g.place (atom.Same t s) g.atom_at) g.atom_at g.truth_at) ∙ joined_class r
     ]
 
     one_value : (s t : ℕ) → is_end_of atoms s ≡ true → is_end_of atoms t ≡ true → (at v [] (term_at words s) ≡ at v [] (term_at words t)) ↔ Joined atoms truth s t
@@ -312,10 +292,7 @@ module _ (words : List ℕ) (wf : IsWellFormed words) where
     has_own : (us : List ℕ) (q : ℕ) → is_among us q ≡ true → IsNull (term_at words q) → has_value (world_of words ns us) (value_of ns q) ≡ true
     has_own [] q e null = absurd (false≢true e)
     has_own (u ∷ us) q e null = elim (or_cases (nat_eq q u) (is_among us q) e) [
-      | inl s ↦
-          let at_u : term_at words u ≡ term.Null null.null = ap (term_at words) (sym (eqb-true q u s)) ∙ null.is in
-          ap (λ x. has_value (with_pair x (value_of ns u) (world_of words ns us)) (value_of ns q)) at_u
-          ∙ or_left _ _ ((value_decides (value_of ns u) (value_of ns q)).1 (ap (value_of ns) (sym (eqb-true q u s))))
+      | inl s ↦ rw (← eqb-true q u s, null.is) (or_left _ _ ((value_decides (value_of ns q) (value_of ns q)).1 refl))
       | inr r ↦ further (term_at words u) (has_own us q r null)
     ] where
       further : (x : Term) → has_value (world_of words ns us) (value_of ns q) ≡ true → has_value (with_pair x (value_of ns u) (world_of words ns us)) (value_of ns q) ≡ true

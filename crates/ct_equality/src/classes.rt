@@ -107,28 +107,6 @@ fn join_by(words: &[u64], members: &mut [Member], atom: Atom, is_true: bool) -> 
     }
 }
 
-/// Joins the terms of each true equality, up to two different constants in one class.
-fn join_all(
-    words: &[u64],
-    atoms: &[Atom],
-    truth: &[bool],
-    members: &mut [Member],
-) -> Option<(u32, u32)>
-    requires truths { length atoms.now ≡ length truth.now }
-    requires plain { are_plain words.now atoms.now ≡ true }
-    requires listed { AreListed atoms.now members.old }
-    requires classes { AreClasses words.now atoms.now truth.now members.old }
-    ensures joined { IfNone result (AreJoined words.now atoms.now truth.now (length atoms.now) members.old members.new) }
-    ensures clash { IfSome result (λ c. IsClash words.now atoms.now truth.now c.0 c.1) }
-{
-    for k in 0..atoms.len() {
-        if let Some(clash) = join_by(words, members, atoms[k], truth[k]) {
-            return Some(clash);
-        }
-    }
-    None
-}
-
 /// The first false equality whose terms are in one class.
 fn contradiction(atoms: &[Atom], truth: &[bool], members: &[Member]) -> Option<(u32, u32)>
     requires truths { length atoms.now ≡ length truth.now }
@@ -161,8 +139,10 @@ pub fn clash(
     ensures apart { IfNone result (IsApart atoms.now truth.now (length atoms.now) members.new) }
     ensures clash { IfSome result (λ c. IsClash words.now atoms.now truth.now c.0 c.1) }
 {
-    if let Some(clash) = join_all(words, atoms, truth, members) {
-        return Some(clash);
+    for k in 0..atoms.len() {
+        if let Some(clash) = join_by(words, members, atoms[k], truth[k]) {
+            return Some(clash);
+        }
     }
     contradiction(atoms, truth, members)
 }

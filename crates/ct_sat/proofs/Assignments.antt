@@ -1,15 +1,11 @@
 -- What a new truth changes.
 use Rattle.std.proofs.Common.{◌≡◌, ℕ, zero, suc, ◌<◌, ◌≤◌, ◌+◌, true, ◌||◌, List, [], ◌∷◌, length, get_or, set, refl, ap, ◌∙◌, sym, arith, inl, inr, ◌⊎◌, pos, negsuc, neg_ℤ, ℤ, if◌then◌else◌}
-use Rattle.std.specs.Ordering.{int_eq}
-use Rattle.std.proofs.lemmas.List.{get_or-set_same, get_or-set_other, set-set, set-get_or, length-set}
-use Rattle.std.proofs.lemmas.List.Sums.{sum_by-set}
-use Rattle.std.proofs.lemmas.Bool.{and_parts, and_from, or_left, or_right, false≢true, cases_eq}
-use Rattle.std.proofs.lemmas.Bool.Decides.{Decides-ltb}
-use Rattle.ct_sat.specs.declared.assignment.Truth.{Truth}
-use Rattle.ct_sat.specs.declared.assignment.Truth.TheVariants as truth
-use Rattle.ct_sat.specs.Literal.{Clause, is_literal, place_of, is_positive}
+use Rattle.std.{specs.Ordering.int_eq, proofs.lemmas.List.{get_or-set_same, get_or-set_other, set-set, set-get_or, length-set}}
+use Rattle.std.{proofs.lemmas.List.Sums.sum_by-set, proofs.lemmas.Bool.{and_parts, and_from, false≢true, cases_eq}, proofs.lemmas.Bool.Decides.Decides-ltb}
+use Rattle.ct_sat.{specs.declared.assignment.Truth.Truth, specs.Literal.{Clause, is_literal, place_of, is_positive}}
 use Rattle.ct_sat.specs.Assignment.{truth_of, inverted, is_false, assigned, open_weight, open_count, falsified, falsified_but, IsOpen}
 use Rattle.ct_sat.proofs.Literals.{same_refl, opposite_literal}
+use Rattle.ct_sat.specs.declared.assignment.Truth.TheVariants as truth
 
 inverted_twice : (t : Truth) → inverted (inverted t) ≡ t
 inverted_twice truth.Open = refl
@@ -45,38 +41,16 @@ at_set ts k n t lt =
       | inr ne ↦ inr (get_or-set_other ts k n t truth.Open ne)
     ]
 
-same_pos : (n k : ℕ) → n ≡ k → int_eq (pos (suc k)) (pos (suc n)) ≡ true
-same_pos n k e = ap (λ i. int_eq (pos (suc k)) (pos (suc i))) e ∙ same_refl (pos (suc k))
-
-same_neg : (n k : ℕ) → n ≡ k → int_eq (negsuc k) (negsuc n) ≡ true
-same_neg n k e = ap (λ i. int_eq (negsuc k) (negsuc i)) e ∙ same_refl (negsuc k)
-
 -- a literal that is false where l is true is false, or is its opposite
 false_before : (ts : List Truth) (l m : ℤ) → is_literal (length ts) l ≡ true → is_false (truth_of (assigned ts l) m) ≡ true → (is_false (truth_of ts m) || int_eq (neg_ℤ l) m) ≡ true
 unfolding assigned
 false_before ts (pos zero) m w e = absurd (false≢true w)
 false_before ts (pos (suc k)) (pos zero) w e = absurd (false≢true e)
-false_before ts (pos (suc k)) (pos (suc n)) w e =
-    elim (at_set ts k n truth.True ((Decides-ltb k (length ts)).0 w)) [
-      | inl s ↦ absurd (false≢true (sym (ap is_false s.1) ∙ e))
-      | inr s ↦ or_left _ _ (sym (ap is_false s) ∙ e)
-    ]
-false_before ts (pos (suc k)) (negsuc n) w e =
-    elim (at_set ts k n truth.True ((Decides-ltb k (length ts)).0 w)) [
-      | inl s ↦ or_right (is_false (truth_of ts (negsuc n))) _ (same_neg n k s.0)
-      | inr s ↦ or_left _ _ (sym (ap (λ t. is_false (inverted t)) s) ∙ e)
-    ]
+false_before ts (pos (suc k)) (pos (suc n)) w e = grind (arith, at_set ts k n truth.True ((Decides-ltb k (length ts)).0 w))
+false_before ts (pos (suc k)) (negsuc n) w e = grind (arith, at_set ts k n truth.True ((Decides-ltb k (length ts)).0 w), same_refl (negsuc k))
 false_before ts (negsuc k) (pos zero) w e = absurd (false≢true e)
-false_before ts (negsuc k) (pos (suc n)) w e =
-    elim (at_set ts k n truth.False ((Decides-ltb k (length ts)).0 w)) [
-      | inl s ↦ or_right (is_false (truth_of ts (pos (suc n)))) _ (same_pos n k s.0)
-      | inr s ↦ or_left _ _ (sym (ap is_false s) ∙ e)
-    ]
-false_before ts (negsuc k) (negsuc n) w e =
-    elim (at_set ts k n truth.False ((Decides-ltb k (length ts)).0 w)) [
-      | inl s ↦ absurd (false≢true (sym (ap (λ t. is_false (inverted t)) s.1) ∙ e))
-      | inr s ↦ or_left _ _ (sym (ap (λ t. is_false (inverted t)) s) ∙ e)
-    ]
+false_before ts (negsuc k) (pos (suc n)) w e = grind (arith, at_set ts k n truth.False ((Decides-ltb k (length ts)).0 w), same_refl (pos (suc k)))
+false_before ts (negsuc k) (negsuc n) w e = grind (arith, at_set ts k n truth.False ((Decides-ltb k (length ts)).0 w))
 
 -- a clause that is false where l is true is false but for its opposite
 pub but_opposite : (ts : List Truth) (l : ℤ) (c : Clause) → is_literal (length ts) l ≡ true → falsified (assigned ts l) c ≡ true → falsified_but ts (neg_ℤ l) c ≡ true

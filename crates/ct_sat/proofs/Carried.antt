@@ -1,15 +1,9 @@
 -- A translation of the literals of some variables that keeps sameness and opposites keeps each answer of reverse unit propagation.
-use Rattle.std.proofs.Common.{◌≡◌, ℕ, zero, suc, Bool, true, false, ◌&&◌, ◌||◌, List, [], ◌∷◌, ◌++◌, length, map, Option, Some, None, nat_lt, refl, ap, ◌∙◌, sym, if◌then◌else◌, ℤ, neg_ℤ}
-use Rattle.std.specs.Prelude.{slice_get, option_map}
-use Rattle.std.specs.List.{list_any, list_all}
-use Rattle.std.specs.Ordering.{int_eq}
-use Rattle.std.proofs.lemmas.List.{map-append, length-map}
-use Rattle.std.proofs.lemmas.List.Folds.{list_all-append}
-use Rattle.std.proofs.lemmas.Option.{slice_get-map}
-use Rattle.std.proofs.lemmas.Bool.{and_parts, and_from, cond_both}
+use Rattle.std.proofs.Common.{◌≡◌, ℕ, zero, suc, Bool, true, false, ◌&&◌, ◌||◌, List, [], ◌∷◌, ◌++◌, map, Option, Some, None, nat_lt, refl, ap, ◌∙◌, sym, arith, ℤ, neg_ℤ}
+use Rattle.std.{specs.Prelude.{slice_get, option_map}, specs.List.list_all, specs.Ordering.int_eq, proofs.lemmas.List.{map-append, length-map}}
+use Rattle.std.{proofs.lemmas.List.Folds.list_all-append, proofs.lemmas.Option.slice_get-map, proofs.lemmas.Bool.{and_parts, and_from, cond_both}}
 use Rattle.ct_derivation.specs.Propagation.{Literals, Look, Unfit, Falsified, Forces, is_among, by_rest, look, look_at, meets, are_hints, follows}
-use Rattle.ct_sat.specs.Literal.{Clause, numbered, is_literal, is_clause}
-use Rattle.ct_sat.proofs.Literals.{opposite_literal}
+use Rattle.ct_sat.{specs.Literal.{Clause, numbered, is_literal, is_clause}, proofs.Literals.opposite_literal}
 
 -- the translation keeps sameness and opposites of the literals of the variables to `vars`; at 0 it can't, which is its own opposite
 pub record CarriesLiterals (vars : ℕ) (to : Literals) (f : ℤ → to.literal) : Type 0 where
@@ -46,18 +40,6 @@ module _ (vars : ℕ) (to : Literals) (f : ℤ → to.literal) (c : CarriesLiter
   opposite_carried : (ls : Clause) (l : ℤ) → IsWithin ls → is_literal vars l ≡ true → is_among to (map f ls) (to.opposite (f l)) ≡ is_among numbered ls (neg_ℤ l)
   opposite_carried ls l w v = ap (is_among to (map f ls)) (c.opposite l v) ∙ among_carried ls (neg_ℤ l) w (opposite_literal vars l v)
 
-  branch : (a b : Bool) (x y z : Look ℤ) → carried (if a then x else (if b then y else z)) ≡ (if a then carried x else (if b then carried y else carried z))
-  branch true b x y z = refl
-  branch false true x y z = refl
-  branch false false x y z = refl
-
-  branch_one : (a : Bool) (x y : Look ℤ) → carried (if a then x else y) ≡ (if a then carried x else carried y)
-  branch_one true x y = refl
-  branch_one false x y = refl
-
-  abbrev pick : Bool → Bool → Look to.literal → Look to.literal → Look to.literal
-  pick a b x z = if a then x else (if b then Unfit else z)
-
   rest_carried : (o : Option ℤ) → by_rest (option_map f o) ≡ carried (by_rest o)
   rest_carried None = refl
   rest_carried (Some l) = refl
@@ -66,24 +48,10 @@ module _ (vars : ℕ) (to : Literals) (f : ℤ → to.literal) (c : CarriesLiter
   look_carried falses rest [] w r v = rest_carried rest
   look_carried falses None (l ∷ ls) w r v =
       let parts = and_parts (is_literal vars l) (list_all (is_literal vars) ls) v in
-      let skipped = look_carried falses None ls w r parts.1 in
-      let taken = look_carried falses (Some l) ls w parts.0 parts.1 in
-      ap (λ a. pick a (is_among to (map f falses) (to.opposite (f l))) (look to (map f falses) None (map f ls)) (look to (map f falses) (Some (f l)) (map f ls))) (among_carried falses l w parts.0)
-      ∙ ap (λ b. pick (is_among numbered falses l) b (look to (map f falses) None (map f ls)) (look to (map f falses) (Some (f l)) (map f ls))) (opposite_carried falses l w parts.0)
-      ∙ ap (λ x. pick (is_among numbered falses l) (is_among numbered falses (neg_ℤ l)) x (look to (map f falses) (Some (f l)) (map f ls))) skipped
-      ∙ ap (λ z. pick (is_among numbered falses l) (is_among numbered falses (neg_ℤ l)) (carried (look numbered falses None ls)) z) taken
-      ∙ sym (branch (is_among numbered falses l) (is_among numbered falses (neg_ℤ l)) (look numbered falses None ls) Unfit (look numbered falses (Some l) ls))
+      grind (arith, among_carried falses l w parts.0, opposite_carried falses l w parts.0, look_carried falses None ls w r parts.1, look_carried falses (Some l) ls w parts.0 parts.1)
   look_carried falses (Some m) (l ∷ ls) w r v =
       let parts = and_parts (is_literal vars l) (list_all (is_literal vars) ls) v in
-      let further = look_carried falses (Some m) ls w r parts.1 in
-      let x = look to (map f falses) (Some (f m)) (map f ls) in
-      let z = if to.same (f m) (f l) then x else Unfit in
-      ap (λ a. pick a (is_among to (map f falses) (to.opposite (f l))) x z) (among_carried falses l w parts.0)
-      ∙ ap (λ b. pick (is_among numbered falses l) b x z) (opposite_carried falses l w parts.0)
-      ∙ ap (λ s. pick (is_among numbered falses l) (is_among numbered falses (neg_ℤ l)) x (if s then x else Unfit)) (c.same m l r parts.0)
-      ∙ ap (λ y. pick (is_among numbered falses l) (is_among numbered falses (neg_ℤ l)) y (if int_eq m l then y else Unfit)) further
-      ∙ ap (λ y. pick (is_among numbered falses l) (is_among numbered falses (neg_ℤ l)) (carried (look numbered falses (Some m) ls)) y) (sym (branch_one (int_eq m l) (look numbered falses (Some m) ls) Unfit))
-      ∙ sym (branch (is_among numbered falses l) (is_among numbered falses (neg_ℤ l)) (look numbered falses (Some m) ls) Unfit (if int_eq m l then look numbered falses (Some m) ls else Unfit))
+      grind (arith, among_carried falses l w parts.0, opposite_carried falses l w parts.0, c.same m l r parts.0, look_carried falses (Some m) ls w r parts.1)
 
   rest_within : (o : Option ℤ) → IsRestWithin o → IsLookWithin (by_rest o)
   rest_within None r = tt

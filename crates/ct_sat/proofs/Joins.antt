@@ -1,19 +1,10 @@
 -- What a resolvent adds to a log.
-use Rattle.std.proofs.Common.{◌≡◌, ℕ, ◌≤◌, true, false, List, [], ◌∷◌, ◌++◌, length, refl, ap, ◌∙◌, ℤ, neg_ℤ}
-use Rattle.ct_sat.specs.declared.assignment.Truth.{Truth}
-use Rattle.ct_sat.specs.declared.verdict.Rup.{Rup}
-use Rattle.ct_sat.specs.Literal.{Clause, numbered, has, is_literal, is_clause, LARGEST}
-use Rattle.ct_derivation.specs.Propagation.{follows}
-use Rattle.ct_sat.specs.Assignment.{falsified}
-use Rattle.ct_sat.specs.Learned.{log_of, clause_at, AreLearned, Grows}
-use Rattle.ct_sat.specs.Resolvent.{resolvent}
-use Rattle.ct_sat.specs.Search.{IsFalsifiedAt, IsFalsifiedButAt, IsUnitAt}
-use Rattle.ct_sat.proofs.Assignments.{wider}
-use Rattle.ct_sat.proofs.Logs.{within_log, clause_within, grows_one, last_clause}
+use Rattle.std.proofs.Common.{◌≡◌, ℕ, true, false, List, [], ◌∷◌, ◌++◌, length, refl, ap, ◌∙◌, ℤ, neg_ℤ}
+use Rattle.ct_sat.{specs.declared.assignment.Truth.Truth, specs.declared.verdict.Rup.Rup, specs.Literal.{Clause, numbered, has, is_clause}}
+use Rattle.ct_sat.{specs.Assignment.falsified, specs.Learned.{log_of, clause_at, AreLearned, Grows}, specs.Resolvent.resolvent}
+use Rattle.ct_sat.{specs.Search.{IsFalsifiedAt, IsFalsifiedButAt, IsUnitAt}, proofs.Logs.{within_log, clause_within, grows_one, last_clause}}
 use Rattle.ct_sat.proofs.Resolvents.{lacks, resolvent_false, resolvent_follows, within_resolvent}
-
-pub unit_literal : (ts : List Truth) (l : ℤ) (log : List Clause) (a : ℕ) → length ts ≤ LARGEST → IsUnitAt ts l log a → is_literal LARGEST l ≡ true
-unit_literal ts l log a v u = wider (length ts) LARGEST l v u.unit.is_free.within
+use Rattle.ct_derivation.specs.Propagation.{follows}
 
 -- a clause without the opposite of l that is false but for it
 pub other_alone : (ts : List Truth) (l : ℤ) (log : List Clause) (b : ℕ) → has (clause_at log b) (neg_ℤ l) ≡ false → IsFalsifiedButAt ts (neg_ℤ l) log b → IsFalsifiedAt ts log b

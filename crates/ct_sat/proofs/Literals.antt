@@ -1,10 +1,7 @@
 -- Sameness, opposites and members of clauses.
 use Rattle.std.proofs.Common.{◌≡◌, ℕ, zero, suc, ◌<◌, true, ◌||◌, [], ◌∷◌, ◌++◌, length, get_or, refl, ap, ◌∙◌, sym, arith, inl, inr, pos, negsuc, neg_ℤ, ℤ}
-use Rattle.std.specs.Ordering.{int_eq}
-use Rattle.std.proofs.lemmas.List.Folds.{list_any-append}
-use Rattle.std.proofs.Math.Bool.{or-false}
+use Rattle.std.{specs.Ordering.int_eq, proofs.lemmas.List.Folds.list_any-append, proofs.Math.Bool.or-false, proofs.lemmas.Bool.Decides.Decides-int_eq}
 use Rattle.std.proofs.lemmas.Bool.{and_parts, or_cases, false≢true}
-use Rattle.std.proofs.lemmas.Bool.Decides.{Decides-int_eq}
 use Rattle.ct_sat.specs.Literal.{Clause, is_literal, is_clause, has}
 
 pub same_is : (l m : ℤ) → int_eq l m ≡ true → l ≡ m
@@ -15,11 +12,6 @@ same_refl l = (Decides-int_eq l l).1 refl
 
 pub same_sym : (l m : ℤ) → int_eq l m ≡ true → int_eq m l ≡ true
 same_sym l m e = (Decides-int_eq m l).1 (sym (same_is l m e))
-
-pub opposite_twice : (l : ℤ) → neg_ℤ (neg_ℤ l) ≡ l
-opposite_twice (pos zero) = refl
-opposite_twice (pos (suc n)) = refl
-opposite_twice (negsuc n) = refl
 
 pub has_more : (c : Clause) (l m : ℤ) → has (c ++ l ∷ []) m ≡ (has c m || int_eq m l)
 unfolding has

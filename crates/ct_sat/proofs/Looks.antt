@@ -1,16 +1,12 @@
 -- A look at a clause, literal by literal.
-use Rattle.std.proofs.Common.{◌≡◌, ℕ, ◌<◌, true, ◌||◌, List, [], ◌∷◌, ◌++◌, length, get_or, refl, ap, ◌∙◌, ℤ}
-use Rattle.std.specs.Ordering.{int_eq}
+use Rattle.std.{proofs.Common.{◌≡◌, ℕ, ◌<◌, true, ◌||◌, List, [], ◌∷◌, ◌++◌, length, get_or, refl, ap, ◌∙◌, ℤ}, specs.Ordering.int_eq}
 use Rattle.std.proofs.lemmas.List.Folds.{list_any-append, list_all-append, list_any_at}
 use Rattle.std.proofs.lemmas.Bool.{and_parts, and_from, or_left, or_right, cond_both}
-use Rattle.ct_sat.specs.declared.assignment.Truth.{Truth}
-use Rattle.ct_sat.specs.declared.assignment.Truth.TheVariants as truth
-use Rattle.ct_sat.specs.declared.look.Look.{Look}
-use Rattle.ct_sat.specs.declared.look.Look.TheVariants as look
-use Rattle.ct_sat.specs.Literal.{Clause, has, is_positive}
-use Rattle.ct_sat.specs.Assignment.{truth_of, is_true, is_false, satisfied, falsified, falsified_but, IsOpen}
-use Rattle.ct_sat.specs.Search.{LookOf, opened, preferred}
+use Rattle.ct_sat.{specs.declared.assignment.Truth.Truth, specs.declared.look.Look.Look, specs.Literal.{Clause, has, is_positive}}
+use Rattle.ct_sat.{specs.Assignment.{truth_of, is_true, is_false, satisfied, falsified, falsified_but, IsOpen}, specs.Search.{LookOf, opened, preferred}}
 use Rattle.ct_sat.proofs.Literals.{same_refl, same_sym, has_more}
+use Rattle.ct_sat.specs.declared.assignment.Truth.TheVariants as truth
+use Rattle.ct_sat.specs.declared.look.Look.TheVariants as look
 
 module _ (ts : List Truth) where
   satisfied_more : (c : Clause) (l : ℤ) → satisfied ts c ≡ true → satisfied ts (c ++ l ∷ []) ≡ true

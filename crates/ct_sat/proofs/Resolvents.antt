@@ -1,88 +1,42 @@
 -- The resolvent of two clauses follows from them.
-use Rattle.std.proofs.Common.{◌≡◌, ℕ, ◌<◌, Bool, true, false, ◌||◌, List, [], ◌∷◌, ◌++◌, length, get_or, Some, None, refl, ap, ◌∙◌, sym, inl, inr, ◌⊎◌, neg_ℤ, ℤ}
-use Rattle.std.specs.Prelude.{slice_get}
-use Rattle.std.specs.Ordering.{int_eq}
-use Rattle.std.proofs.lemmas.Option.{slice_get-get_or}
-use Rattle.std.proofs.lemmas.List.Folds.{list_all-append}
-use Rattle.std.proofs.lemmas.Bool.{and_parts, and_from, or_cases, or_parts, or_left, or_right, false≢true, both_ways, cases_Bool, cond-true, cond-false, false_from_ne_true}
+use Rattle.std.proofs.Common.{◌≡◌, ℕ, ◌<◌, Bool, true, false, ◌||◌, List, [], ◌∷◌, ◌++◌, length, get_or, Some, None, refl, ap, ◌∙◌, sym, inl, inr, ◌⊎◌, neg_ℤ, ℤ, arith}
+use Rattle.std.{specs.Prelude.slice_get, specs.Ordering.int_eq, proofs.lemmas.Option.slice_get-get_or, proofs.lemmas.List.Folds.list_all-append}
+use Rattle.std.proofs.lemmas.Bool.{and_parts, and_from, or_left, or_right, false≢true, both_ways, cases_Bool, cond-true, cond-false, false_from_ne_true}
 use Rattle.std.proofs.lemmas.Bool.Decides.{Decides-ltb}
-use Rattle.ct_sat.specs.Literal.{Clause, numbered, has, is_literal, is_clause}
-use Rattle.ct_derivation.specs.Propagation.{Look, Unfit, Falsified, Forces, look, look_at, meets, follows}
-use Rattle.ct_sat.specs.declared.assignment.Truth.{Truth}
-use Rattle.ct_sat.specs.Assignment.{truth_of, is_false, falsified, falsified_but, IsOpen}
-use Rattle.ct_sat.specs.Resolvent.{added, resolvent}
-use Rattle.ct_sat.proofs.Assignments.{open_opposite}
+use Rattle.ct_sat.{specs.Literal.{Clause, numbered, has, is_literal, is_clause}, specs.declared.assignment.Truth.Truth, specs.Resolvent.{added, resolvent}}
+use Rattle.ct_sat.{specs.Assignment.{truth_of, is_false, falsified, falsified_but, IsOpen}, proofs.Assignments.open_opposite}
 use Rattle.ct_sat.proofs.Literals.{same_is, same_refl, same_sym, has_more}
+use Rattle.ct_derivation.specs.Propagation.{Look, Unfit, Falsified, Forces, look, look_at, meets, follows}
+
+-- two literals are the same, or not
+same_tells : (l m : ℤ) → ((int_eq l m ≡ true) × (l ≡ m)) ⊎ (int_eq l m ≡ false)
+same_tells l m = elim (cases_Bool (int_eq l m)) [ inl s ↦ inl (s, same_is l m s) | inr s ↦ inr s ]
 
 -- the members of `added`
 pub in_added : (out : Clause) (l : ℤ) (c : Clause) (m : ℤ) → has (added out l c) m ≡ true → (has out m ≡ true) ⊎ ((has c m ≡ true) × (int_eq l m ≡ false))
 unfolding has
 in_added out l [] m h = inl h
-in_added out l (x ∷ c) m h =
-    elim (cases_Bool (int_eq l x || has out x)) [
-      | inl t ↦ elim (in_added out l c m (sym (ap (λ o. has (added o l c) m) (cond-true (int_eq l x || has out x) out (out ++ x ∷ []) t)) ∙ h)) [
-        | inl y ↦ inl y
-        | inr y ↦ inr (or_right (int_eq m x) _ y.0, y.1)
-      ]
-      | inr f ↦ elim (in_added (out ++ x ∷ []) l c m (sym (ap (λ o. has (added o l c) m) (cond-false (int_eq l x || has out x) out (out ++ x ∷ []) f)) ∙ h)) [
-        | inl y ↦ elim (or_cases (has out m) (int_eq m x) (sym (has_more out x m) ∙ y)) [
-          | inl z ↦ inl z
-          | inr s ↦ inr (or_left _ _ s, ap (int_eq l) (same_is m x s) ∙ (or_parts (int_eq l x) (has out x) f).0)
-        ]
-        | inr y ↦ inr (or_right (int_eq m x) _ y.0, y.1)
-      ]
-    ]
+in_added out l (x ∷ c) m h = grind (arith, same_tells m x, in_added out l c m, in_added (out ++ x ∷ []) l c m, has_more out x m)
 
 pub added_keeps : (out : Clause) (l : ℤ) (c : Clause) (m : ℤ) → has out m ≡ true → has (added out l c) m ≡ true
 added_keeps out l [] m h = h
-added_keeps out l (x ∷ c) m h =
-    elim (cases_Bool (int_eq l x || has out x)) [
-      | inl t ↦ ap (λ o. has (added o l c) m) (cond-true (int_eq l x || has out x) out (out ++ x ∷ []) t) ∙ added_keeps out l c m h
-      | inr f ↦ ap (λ o. has (added o l c) m) (cond-false (int_eq l x || has out x) out (out ++ x ∷ []) f) ∙ added_keeps (out ++ x ∷ []) l c m (has_more out x m ∙ or_left _ _ h)
-    ]
+added_keeps out l (x ∷ c) m h = grind (arith, added_keeps out l c m, added_keeps (out ++ x ∷ []) l c m, has_more out x m)
 
 pub added_has : (out : Clause) (l : ℤ) (c : Clause) (m : ℤ) → has c m ≡ true → int_eq l m ≡ false → has (added out l c) m ≡ true
 unfolding has
 added_has out l [] m h n = absurd (false≢true h)
 added_has out l (x ∷ c) m h n =
-    elim (cases_Bool (int_eq l x || has out x)) [
-      | inl t ↦ ap (λ o. has (added o l c) m) (cond-true (int_eq l x || has out x) out (out ++ x ∷ []) t)
-          ∙ elim (or_cases (int_eq m x) (has c m) h) [
-            | inl s ↦ elim (or_cases (int_eq l x) (has out x) t) [
-              | inl y ↦ absurd (both_ways _ n (ap (int_eq l) (same_is m x s) ∙ y))
-              | inr y ↦ added_keeps out l c m (ap (has out) (same_is m x s) ∙ y)
-            ]
-            | inr y ↦ added_has out l c m y n
-          ]
-      | inr f ↦ ap (λ o. has (added o l c) m) (cond-false (int_eq l x || has out x) out (out ++ x ∷ []) f)
-          ∙ elim (or_cases (int_eq m x) (has c m) h) [
-            | inl s ↦ added_keeps (out ++ x ∷ []) l c m (has_more out x m ∙ or_right (has out m) _ s)
-            | inr y ↦ added_has (out ++ x ∷ []) l c m y n
-          ]
-    ]
+    grind (arith, same_tells m x, added_keeps out l c m, added_keeps (out ++ x ∷ []) l c m, added_has out l c m, added_has (out ++ x ∷ []) l c m, has_more out x m)
 
 pub all_false : (ts : List Truth) (c : Clause) → ((m : ℤ) → has c m ≡ true → is_false (truth_of ts m) ≡ true) → falsified ts c ≡ true
 unfolding falsified has
 all_false ts [] all = refl
 all_false ts (x ∷ c) all = and_from _ _ (all x (or_left _ _ (same_refl x))) (all_false ts c (λ m h. all m (or_right (int_eq m x) _ h)))
 
-pub each_false : (ts : List Truth) (c : Clause) (m : ℤ) → falsified ts c ≡ true → has c m ≡ true → is_false (truth_of ts m) ≡ true
-unfolding falsified has
-each_false ts [] m e h = absurd (false≢true h)
-each_false ts (x ∷ c) m e h =
-    let parts = and_parts (is_false (truth_of ts x)) (falsified ts c) e in
-    elim (or_cases (int_eq m x) (has c m) h) [ inl s ↦ ap (λ z. is_false (truth_of ts z)) (same_is m x s) ∙ parts.0 | inr y ↦ each_false ts c m parts.1 y ]
-
 pub each_but : (ts : List Truth) (l : ℤ) (c : Clause) (m : ℤ) → falsified_but ts l c ≡ true → has c m ≡ true → int_eq l m ≡ false → is_false (truth_of ts m) ≡ true
 unfolding falsified_but has
 each_but ts l [] m e h n = absurd (false≢true h)
-each_but ts l (x ∷ c) m e h n =
-    let parts = and_parts (is_false (truth_of ts x) || int_eq l x) (falsified_but ts l c) e in
-    elim (or_cases (int_eq m x) (has c m) h) [
-      | inl s ↦ ap (λ z. is_false (truth_of ts z)) (same_is m x s)
-          ∙ elim (or_cases (is_false (truth_of ts x)) (int_eq l x) parts.0) [ inl y ↦ y | inr y ↦ absurd (both_ways _ n (ap (int_eq l) (same_is m x s) ∙ y)) ]
-      | inr y ↦ each_but ts l c m parts.1 y n
-    ]
+each_but ts l (x ∷ c) m e h n = grind (arith, same_tells m x, each_but ts l c m)
 
 -- a clause without l that is false but for l is false
 pub lacks : (ts : List Truth) (l : ℤ) (c : Clause) → has c l ≡ false → falsified_but ts l c ≡ true → falsified ts c ≡ true
@@ -114,30 +68,13 @@ module _ (ls : Clause) (l : ℤ) (out : has ls l ≡ false) (opposite_out : has 
   look_again : (c : Clause) → Nearly ls l c → look numbered ls (Some l) c ≡ Forces l
   unfolding has
   look_again [] n = refl
-  look_again (x ∷ c) n =
-      elim (cases_Bool (int_eq l x)) [
-        | inl s ↦
-            let is : l ≡ x = same_is l x s in
-            cond-false (has ls x) (look numbered ls (Some l) c) _ (ap (has ls) (sym is) ∙ out)
-            ∙ cond-false (has ls (neg_ℤ x)) Unfit _ (ap (λ z. has ls (neg_ℤ z)) (sym is) ∙ opposite_out)
-            ∙ cond-true (int_eq l x) (look numbered ls (Some l) c) Unfit s ∙ look_again c (nearly_rest ls l x c n)
-        | inr s ↦ cond-true (has ls x) (look numbered ls (Some l) c) _ (nearly_first ls l x c n s) ∙ look_again c (nearly_rest ls l x c n)
-      ]
+  look_again (x ∷ c) n = grind (arith, same_tells l x, nearly_first ls l x c n, look_again c (nearly_rest ls l x c n))
 
   look_unit : (c : Clause) → Nearly ls l c → has c l ≡ true → look numbered ls None c ≡ Forces l
   unfolding has
   look_unit [] n h = absurd (false≢true h)
   look_unit (x ∷ c) n h =
-      elim (cases_Bool (int_eq l x)) [
-        | inl s ↦
-            let is : l ≡ x = same_is l x s in
-            cond-false (has ls x) (look numbered ls None c) _ (ap (has ls) (sym is) ∙ out)
-            ∙ cond-false (has ls (neg_ℤ x)) Unfit _ (ap (λ z. has ls (neg_ℤ z)) (sym is) ∙ opposite_out)
-            ∙ ap (λ z. look numbered ls (Some z) c) (sym is) ∙ look_again c (nearly_rest ls l x c n)
-        | inr s ↦
-            let later : has c l ≡ true = elim (or_cases (int_eq l x) (has c l) h) [ inl y ↦ absurd (both_ways _ s y) | inr y ↦ y ] in
-            cond-true (has ls x) (look numbered ls None c) _ (nearly_first ls l x c n s) ∙ look_unit c (nearly_rest ls l x c n) later
-      ]
+      grind (arith, same_tells l x, nearly_first ls l x c n, look_again c (nearly_rest ls l x c n), look_unit c (nearly_rest ls l x c n))
 
 -- the test of two hints, by what it finds at each
 abbrev after_look : List Clause → Clause → Look ℤ → List ℕ → Bool

@@ -1,14 +1,10 @@
 -- What a search under one more assumption shows.
 use Rattle.std.proofs.Common.{◌≡◌, ℕ, ◌≤◌, ◌<◌, ◌+◌, ◌*◌, true, List, length, set, ap, ◌∙◌, sym, subst, arith, ℤ}
-use Rattle.ct_sat.specs.declared.assignment.Truth.{Truth}
+use Rattle.ct_sat.{specs.declared.assignment.Truth.Truth, specs.declared.verdict.Rup.Rup, specs.Literal.{Clause, place_of, LARGEST}}
+use Rattle.ct_sat.{specs.Assignment.{assigned, open_count, falsified, IsOpen}, specs.Learned.{clause_at, AreLearned}, specs.Search.{FoundOf, AssumedOf}}
+use Rattle.ct_sat.proofs.Assignments.{but_opposite, length_assigned, fewer_open, reopened}
 use Rattle.ct_sat.specs.declared.assignment.Truth.TheVariants as truth
 use Rattle.ct_sat.specs.declared.search.Found.TheVariants as found
-use Rattle.ct_sat.specs.declared.verdict.Rup.{Rup}
-use Rattle.ct_sat.specs.Literal.{Clause, place_of, LARGEST}
-use Rattle.ct_sat.specs.Assignment.{assigned, open_count, falsified, IsOpen}
-use Rattle.ct_sat.specs.Learned.{clause_at, AreLearned}
-use Rattle.ct_sat.specs.Search.{FoundOf, AssumedOf}
-use Rattle.ct_sat.proofs.Assignments.{but_opposite, length_assigned, fewer_open, reopened}
 
 module _ (before : List Truth) (l : ℤ) (o : IsOpen before l) (made : List Truth) (made_is : made ≡ assigned before l) where
   pub falls : 4 * open_count made + 3 < 4 * open_count before

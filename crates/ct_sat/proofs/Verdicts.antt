@@ -1,22 +1,13 @@
 -- From the end of the search to a verdict.
 use Rattle.std.proofs.Common.{◌≡◌, ℕ, zero, suc, ◌<◌, ◌-◌, Bool, true, false, not, List, [], ◌∷◌, ◌++◌, length, get_or, map, Option, Some, None, refl, ap, ◌∙◌, sym, subst, arith, pos, negsuc, ℤ, inl, inr, replicate}
-use Rattle.std.specs.Prelude.{slice_get, IsTrue, ◌↔◌}
-use Rattle.std.specs.List.{list_all}
-use Rattle.std.proofs.lemmas.Option.{slice_get-get_or}
+use Rattle.std.{specs.Prelude.{slice_get, IsTrue, ◌↔◌}, specs.List.list_all, proofs.lemmas.Option.slice_get-get_or, proofs.lemmas.Bool.Decides.Decides-ltb}
 use Rattle.std.proofs.lemmas.List.{length-map, length-append, get_or_append_left, get_or_past, get_or-replicate, length-replicate}
 use Rattle.std.proofs.lemmas.Bool.{and_parts, and_from, or_cases, or_left, or_right, false≢true, cases_lt}
-use Rattle.std.proofs.lemmas.Bool.Decides.{Decides-ltb}
-use Rattle.ct_derivation.specs.declared.steps.Cnf.{Cnf}
-use Rattle.ct_derivation.specs.Propagation.{Look, Unfit, Falsified, Forces, look, look_at, meets, follows}
-use Rattle.ct_sat.specs.declared.assignment.Truth.{Truth}
+use Rattle.ct_derivation.{specs.declared.steps.Cnf.Cnf, specs.Propagation.{Look, Unfit, Falsified, Forces, look, look_at, meets, follows}}
+use Rattle.ct_sat.{specs.declared.assignment.Truth.Truth, specs.declared.verdict.Rup.Rup, specs.Literal.{Clause, numbered, is_clause}, proofs.Logs.grows_one}
+use Rattle.ct_sat.{specs.Assignment.{truth_of, inverted, is_true, is_false, satisfied, falsified}, specs.Learned.{clause_of, log_of, clause_at, AreLearned}}
+use Rattle.ct_sat.{specs.Search.AllSatisfied, specs.Verdict.{holds, satisfies, IsModel, is_empty, ends_empty, IsRefutation}}
 use Rattle.ct_sat.specs.declared.assignment.Truth.TheVariants as truth
-use Rattle.ct_sat.specs.declared.verdict.Rup.{Rup}
-use Rattle.ct_sat.specs.Literal.{Clause, numbered, is_clause}
-use Rattle.ct_sat.specs.Assignment.{truth_of, inverted, is_true, is_false, satisfied, falsified}
-use Rattle.ct_sat.specs.Learned.{clause_of, log_of, clause_at, AreLearned}
-use Rattle.ct_sat.specs.Search.{AllSatisfied}
-use Rattle.ct_sat.specs.Verdict.{holds, satisfies, IsModel, is_empty, ends_empty, IsRefutation}
-use Rattle.ct_sat.proofs.Logs.{grows_one}
 
 truth_at_map : (ts : List Truth) (n : ℕ) → get_or (map is_true ts) n false ≡ is_true (get_or ts n truth.Open)
 truth_at_map [] n = refl

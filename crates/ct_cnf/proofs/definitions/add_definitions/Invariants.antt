@@ -1,5 +1,4 @@
-use Rattle.std.proofs.Common.{◌≡◌, ◌++◌, take}
-use Rattle.std.specs.List.{flat_map}
+use Rattle.std.{proofs.Common.{◌≡◌, ◌++◌, take}, specs.List.flat_map}
 use Rattle.ct_cnf.specs.Lists.{definition_entries}
 use Rattle.ct_cnf.proofs.definitions.add_definitions.Given as goal
 

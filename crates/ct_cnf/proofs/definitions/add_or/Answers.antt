@@ -1,9 +1,6 @@
-use Rattle.std.proofs.Common.{[], ◌∷◌, ◌∙◌, w32, rules}
-use Rattle.std.proofs.lemmas.Int.{to_z-of_z}
-use Rattle.std.proofs.lemmas.Result.{on_ok_weaker}
+use Rattle.std.{proofs.Common.{[], ◌∷◌, ◌∙◌, w32, rules}, proofs.lemmas.Int.to_z-of_z, proofs.lemmas.Result.on_ok_weaker}
+use Rattle.ct_cnf.{specs.Lists.{entry, or_entries}, proofs.Pushes.then_three}
 use Rattle.ct_derivation.specs.declared.steps.Why.TheVariants as why
-use Rattle.ct_cnf.specs.Lists.{entry, or_entries}
-use Rattle.ct_cnf.proofs.Pushes.{then_three}
 use Rattle.ct_cnf.proofs.definitions.add_or.Goals as goal
 
 pub returns : goal.returns

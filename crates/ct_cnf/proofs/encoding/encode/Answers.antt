@@ -1,43 +1,27 @@
-use Rattle.std.proofs.lemmas.Result.{IfOk-weaker}
-use Rattle.ct_cnf.proofs.Made.{made_clauses, made_root, made_definitions, made_distinct, made_nodes, made_terms, made_pairs, made_paths, made_constants, made_cnf}
+use Rattle.std.{proofs.Common.{refl, subst}, specs.Prelude.IfOk, proofs.lemmas.Result.IfOk-weaker}
+use Rattle.ct_cnf.{specs.declared.encoding.Encoded.Encoded, proofs.Made.{encoding, made_is, is_cnf}, proofs.Justified.are_origins}
+use Rattle.ct_cnf.{proofs.Atoms.{atoms_distinct, nodes_below, pairs_below, all_pairs}, proofs.Origins.{has_root, has_definitions, has_paths, has_constants}}
 use Rattle.ct_cnf.proofs.encoding.encode.Goals as goal
 
-pub returns-clause-clauses : goal.returns-clause-clauses
-returns-clause-clauses c =
-    IfOk-weaker c.assemble.result _ _ (λ e made. made_clauses c.args.words.now c.args.root c.in_ok-numbers.numbers c.in_ok-numbers.ensures.numbering e made) c.assemble.ensures.made
-
-pub returns-clause-root : goal.returns-clause-root
-returns-clause-root c =
-    IfOk-weaker c.assemble.result _ _ (λ e made. made_root c.args.words.now c.args.root c.in_ok-numbers.numbers c.in_ok-numbers.ensures.numbering e made) c.assemble.ensures.made
-
-pub returns-clause-definitions : goal.returns-clause-definitions
-returns-clause-definitions c =
-    IfOk-weaker c.assemble.result _ _ (λ e made. made_definitions c.args.words.now c.args.root c.in_ok-numbers.numbers c.in_ok-numbers.ensures.numbering e made) c.assemble.ensures.made
-
-pub returns-clause-distinct : goal.returns-clause-distinct
-returns-clause-distinct c =
-    IfOk-weaker c.assemble.result _ _ (λ e made. made_distinct c.args.words.now c.args.root c.in_ok-numbers.numbers c.in_ok-numbers.ensures.numbering e made) c.assemble.ensures.made
-
-pub returns-clause-nodes : goal.returns-clause-nodes
-returns-clause-nodes c =
-    IfOk-weaker c.assemble.result _ _ (λ e made. made_nodes c.args.words.now c.args.root c.in_ok-numbers.numbers c.in_ok-numbers.ensures.numbering e made) c.assemble.ensures.made
-
-pub returns-clause-terms : goal.returns-clause-terms
-returns-clause-terms c =
-    IfOk-weaker c.assemble.result _ _ (λ e made. made_terms c.args.words.now c.args.root c.in_ok-numbers.numbers c.in_ok-numbers.ensures.numbering e made) c.assemble.ensures.made
-
-pub returns-clause-pairs : goal.returns-clause-pairs
-returns-clause-pairs c =
-    IfOk-weaker c.assemble.result _ _ (λ e made. made_pairs c.args.words.now c.args.root c.in_ok-numbers.numbers c.in_ok-numbers.ensures.numbering e made) c.assemble.ensures.made
-
-pub returns-clause-paths : goal.returns-clause-paths
-returns-clause-paths c =
-    IfOk-weaker c.assemble.result _ _ (λ e made. made_paths c.args.words.now c.args.root c.in_ok-numbers.numbers c.in_ok-numbers.ensures.numbering e made) c.assemble.ensures.made
-
-pub returns-clause-constants : goal.returns-clause-constants
-returns-clause-constants c =
-    IfOk-weaker c.assemble.result _ _ (λ e made. made_constants c.args.words.now c.args.root c.in_ok-numbers.numbers c.in_ok-numbers.ensures.numbering e made) c.assemble.ensures.made
-
-pub returns-clause-cnf : goal.returns-clause-cnf
-returns-clause-cnf c =
-    IfOk-weaker c.assemble.result _ _ (λ e made. made_cnf c.args.words.now c.args.root c.in_ok-numbers.numbers c.in_ok-numbers.ensures.numbering e made) c.assemble.ensures.made
+pub returns : goal.returns
+returns c =
+    let ws = c.args.words.now in
+    let root = c.args.root in
+    let n = c.in_ok-numbers.numbers in
+    let num = c.in_ok-numbers.ensures.numbering in
+    let made : (P : Encoded → Type 0) → P (encoding ws root n) → IfOk c.assemble.result P =
+    λ P h. IfOk-weaker c.assemble.result _ _ (λ e is. subst P (made_is ws root n e is) h) c.assemble.ensures.made in record {
+      clauses = made _ (are_origins ws root n num);
+      root = made _ (has_root ws root n num);
+      definitions = made _ (has_definitions ws root n num);
+      distinct = made _ (atoms_distinct n num.numbers);
+      nodes = made _ (nodes_below ws root n num);
+      terms = made _ (pairs_below ws root n num);
+      variables = made _ refl;
+      cnf = made _ (is_cnf ws root n num);
+      pairs = made _ (all_pairs ws root n num);
+      paths = made _ (has_paths ws root n num);
+      constants = made _ (has_constants ws root n num);
+      few_terms = made _ c.in_ok-numbers.ensures.few_terms;
+      many_terms = λ many. absurd (c.assemble.ensures.fault many);
+    }

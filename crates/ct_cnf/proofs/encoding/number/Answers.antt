@@ -1,25 +1,18 @@
-use Rattle.std.proofs.Common.{sym, subst, arith}
-use Rattle.ct_cnf.specs.Marks.{AreBelow}
+use Rattle.std.proofs.Common.{arith}
 use Rattle.ct_cnf.proofs.Numbered.{are_terms, is_numbering}
 use Rattle.ct_cnf.proofs.encoding.number.Goals as goal
 
 pub returns-then-len-gt-MOST_TERMS-clause-many_terms : goal.returns-then-len-gt-MOST_TERMS-clause-many_terms
 returns-then-len-gt-MOST_TERMS-clause-many_terms c = λ _.
-    let ws = c.args.words.now in
     let n = c.in_ok-numbers.numbers in
-    let below : AreBelow ws c.args.root c.as_slice.result.now = subst (AreBelow ws c.args.root) (sym c.as_slice.ensures.value) c.in_ok-marks.ensures in
-    (n.terms, are_terms ws c.requires.formed c.args.root c.as_slice.result.now below n c.in_ok-numbers.ensures, omega (arith, c.len.ensures, c.if-len-gt-MOST_TERMS.true))
+    (n.terms, are_terms _ c.requires.formed _ _ (rw (← c.as_slice.ensures.value) at c.in_ok-marks.ensures) n c.in_ok-numbers.ensures, omega (arith, c.len.ensures, c.if-len-gt-MOST_TERMS.true))
 
 pub returns-clause-numbering : goal.returns-clause-numbering
 returns-clause-numbering c =
-    let ws = c.args.words.now in
-    let n = c.in_ok-numbers.numbers in
-    let below : AreBelow ws c.args.root c.as_slice.result.now = subst (AreBelow ws c.args.root) (sym c.as_slice.ensures.value) c.in_ok-marks.ensures in
-    is_numbering ws c.requires.formed c.args.root c.as_slice.result.now below n c.in_ok-numbers.ensures c.requires.few c.requires.condition (omega (arith, c.len.ensures, c.if-len-gt-MOST_TERMS.false))
+    is_numbering _ c.requires.formed _ _ (rw (← c.as_slice.ensures.value) at c.in_ok-marks.ensures) c.in_ok-numbers.numbers c.in_ok-numbers.ensures
+    c.requires.few c.requires.condition (omega (arith, c.len.ensures, c.if-len-gt-MOST_TERMS.false))
 
 pub returns-clause-few_terms : goal.returns-clause-few_terms
 returns-clause-few_terms c =
-    let ws = c.args.words.now in
     let n = c.in_ok-numbers.numbers in
-    let below : AreBelow ws c.args.root c.as_slice.result.now = subst (AreBelow ws c.args.root) (sym c.as_slice.ensures.value) c.in_ok-marks.ensures in
-    (n.terms, are_terms ws c.requires.formed c.args.root c.as_slice.result.now below n c.in_ok-numbers.ensures, omega (arith, c.len.ensures, c.if-len-gt-MOST_TERMS.false))
+    (n.terms, are_terms _ c.requires.formed _ _ (rw (← c.as_slice.ensures.value) at c.in_ok-marks.ensures) n c.in_ok-numbers.ensures, omega (arith, c.len.ensures, c.if-len-gt-MOST_TERMS.false))

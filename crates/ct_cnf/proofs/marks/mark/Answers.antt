@@ -1,9 +1,6 @@
-use Rattle.std.proofs.Common.{◌≡◌, refl, ◌+◌, ◌-◌, ◌∙◌, set, true, false, get_or, Some, sym, subst, arith}
-use Rattle.std.specs.Prelude.{slice_get}
-use Rattle.std.proofs.lemmas.List.{get_or_read}
-use Rattle.std.proofs.lemmas.Option.{slice_get-get_or}
-use Rattle.ct_cnf.specs.Marks.{IsMarking}
-use Rattle.ct_cnf.proofs.Walks.{marking_starts, marking_more, marking_ends}
+use Rattle.std.{proofs.Common.{◌≡◌, refl, ◌+◌, ◌-◌, ◌∙◌, set, true, false, get_or, Some, sym, subst, arith}, specs.Prelude.slice_get}
+use Rattle.std.{proofs.lemmas.List.get_or_read, proofs.lemmas.Option.slice_get-get_or}
+use Rattle.ct_cnf.{specs.Marks.IsMarking, proofs.Walks.{marking_starts, marking_more, marking_ends}}
 use Rattle.ct_word.proofs.Fields.{named_earlier}
 use Rattle.ct_cnf.proofs.marks.mark.Goals as goal
 

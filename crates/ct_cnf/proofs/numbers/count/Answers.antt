@@ -1,7 +1,6 @@
 use Rattle.std.proofs.Common.{◌+◌, length, ap, sym, subst, arith}
+use Rattle.ct_cnf.{specs.Lists.{is_kept, AreCounted}, proofs.Counting.{length_picked, counted_more}}
 use Rattle.ct_word.specs.declared.kinds.Class.TheVariants as class
-use Rattle.ct_cnf.specs.Lists.{is_kept, AreCounted}
-use Rattle.ct_cnf.proofs.Counting.{length_picked, counted_more}
 use Rattle.ct_cnf.proofs.numbers.count.Goals as goal
 
 pub place-requires-clause-few_conditions : goal.place-requires-clause-few_conditions

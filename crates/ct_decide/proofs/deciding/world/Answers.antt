@@ -1,7 +1,5 @@
-use Rattle.std.proofs.Common.{subst, ap, ◌∙◌}
+use Rattle.std.proofs.Common.{ap, ◌∙◌}
 use Rattle.ct_equality.specs.Assigned.{are_plain}
-use Rattle.ct_equality.specs.Valued.{ClosedOf}
-use Rattle.ct_equality.specs.declared.closing.Closed.TheVariants as closed
 use Rattle.ct_decide.proofs.Worlds.{atoms_plain, world_holds, no_path}
 use Rattle.ct_decide.proofs.deciding.world.Goals as goal
 
@@ -12,14 +10,10 @@ close-requires-clause-plain c =
 
 pub unreachable-requires : goal.unreachable-requires
 unreachable-requires c =
-    let answer : ClosedOf c.args.words.now c.args.encoded.now.atoms c.args.model.now (closed.Path c.in-Path.field-0) =
-    subst (ClosedOf c.args.words.now c.args.encoded.now.atoms c.args.model.now) c.in-Path.is
-    (subst (λ xs. ClosedOf c.args.words.now xs c.args.model.now c.in_ok-world.field-0) c.as_slice.ensures c.in_ok-world.ensures) in
-    no_path c.args.words.now c.requires.formed c.args.root c.args.encoded.now c.requires.encoding c.args.model.now c.requires.model c.in-Path.field-0 answer
+    no_path c.args.words.now c.requires.formed c.args.root c.args.encoded.now c.requires.encoding c.args.model.now c.requires.model c.in-Path.field-0
+    (rw (c.as_slice.ensures, c.in-Path.is) at c.in_ok-world.ensures)
 
 pub returns : goal.returns
 returns c =
-    let answer : ClosedOf c.args.words.now c.args.encoded.now.atoms c.args.model.now (closed.World c.in-World.world) =
-    subst (ClosedOf c.args.words.now c.args.encoded.now.atoms c.args.model.now) c.in-World.is
-    (subst (λ xs. ClosedOf c.args.words.now xs c.args.model.now c.in_ok-world.field-0) c.as_slice.ensures c.in_ok-world.ensures) in
-    world_holds c.args.words.now c.requires.formed c.args.root c.args.encoded.now c.requires.encoding c.args.model.now c.requires.model c.in-World.world answer
+    world_holds c.args.words.now c.requires.formed c.args.root c.args.encoded.now c.requires.encoding c.args.model.now c.requires.model c.in-World.world
+    (rw (c.as_slice.ensures, c.in-World.is) at c.in_ok-world.ensures)

@@ -1,5 +1,4 @@
-use Rattle.std.proofs.Common.{get_or, arith}
-use Rattle.std.proofs.lemmas.List.Elements.{Contains-get_or}
+use Rattle.std.{proofs.Common.{get_or, arith}, proofs.lemmas.List.Elements.Contains-get_or}
 use Rattle.ct_decide.proofs.needed.mark_hints.Goals as goal
 
 pub index_mut-requires : goal.index_mut-requires

@@ -1,9 +1,5 @@
-use Rattle.std.proofs.Common.{◌≡◌, ◌+◌, ◌-◌, ◌<◌, suc, length, set, true, false, ap, ◌∙◌, sym, subst, arith}
-use Rattle.std.specs.Prelude.{Contains}
-use Rattle.std.proofs.lemmas.List.{get_or_read}
-use Rattle.ct_cnf.specs.Marks.{with_marks}
-use Rattle.ct_decide.specs.Cut.{all_hints, AreNeeded}
-use Rattle.ct_decide.proofs.Walk.{walk_starts, walk_more, walk_skips, walk_ends, length_hints, hints_of_step}
+use Rattle.std.{proofs.Common.{◌+◌, ◌-◌, ◌<◌, length, set, true, false, ◌∙◌, sym, subst, arith}, specs.Prelude.Contains, proofs.lemmas.List.get_or_read}
+use Rattle.ct_decide.{specs.Cut.{all_hints, AreNeeded}, proofs.Walk.{walk_starts, walk_more, walk_skips, walk_ends, length_hints, hints_of_step}}
 use Rattle.ct_decide.proofs.needed.needed.Goals as goal
 
 pub loop-k-init : goal.loop-k-init
@@ -31,10 +27,9 @@ loop-k-preserved-then-index c =
     let k = c.loop-k.k - 1 in
     let lt : k < length rs = omega (arith, c.loop-k-test.true, c.loop-k.auto.k) in
     let within : n + k < length ms = omega (arith, c.loop-k.invariant.long, length_hints n rs, lt) in
-    let from : n + c.loop-k.k ≡ suc (n + k) = omega (arith, c.loop-k-test.true) in
-    let marked = sym (get_or_read ms (n + k) c.index.result.now within c.index.ensures false) ∙ c.if-index.true in
-    subst (AreNeeded (all_hints n rs) (n + k)) (ap (with_marks ms) (hints_of_step n rs k c.index-refutation-k.result lt ∙ sym c.as_slice.ensures) ∙ sym c.mark_hints.ensures)
-    (walk_more (all_hints n rs) c.requires.earlier (n + k) ms (subst (λ m. AreNeeded (all_hints n rs) m ms) from c.loop-k.invariant) marked)
+    rw (c.mark_hints.ensures, c.as_slice.ensures, ← hints_of_step n rs k c.index-refutation-k.result lt)
+    (walk_more (all_hints n rs) c.requires.earlier (n + k) (n + c.loop-k.k) (omega (arith, c.loop-k-test.true)) ms c.loop-k.invariant
+    (sym (get_or_read ms (n + k) c.index.result.now within c.index.ensures false) ∙ c.if-index.true))
 
 pub loop-k-preserved : goal.loop-k-preserved
 loop-k-preserved c =
@@ -43,14 +38,10 @@ loop-k-preserved c =
     let ms = c.loop-k.marks.items in
     let k = c.loop-k.k - 1 in
     let within : n + k < length ms = omega (arith, c.loop-k.invariant.long, length_hints n rs, c.loop-k-test.true, c.loop-k.auto.k) in
-    let from : n + c.loop-k.k ≡ suc (n + k) = omega (arith, c.loop-k-test.true) in
-    walk_skips (all_hints n rs) c.requires.earlier (n + k) ms (subst (λ m. AreNeeded (all_hints n rs) m ms) from c.loop-k.invariant)
+    walk_skips (all_hints n rs) c.requires.earlier (n + k) (n + c.loop-k.k) (omega (arith, c.loop-k-test.true)) ms c.loop-k.invariant
     (sym (get_or_read ms (n + k) c.index.result.now within c.index.ensures false) ∙ c.if-index.false)
 
 pub returns : goal.returns
 returns c =
     let n = length c.args.clauses.now in
-    let rs = c.args.refutation.now in
-    let ms = c.loop-k.marks.items in
-    let from : n + c.loop-k.k ≡ n = omega (arith, c.loop-k-test.false) in
-    walk_ends n rs ms (subst (λ m. AreNeeded (all_hints n rs) m ms) from c.loop-k.invariant)
+    walk_ends n c.args.refutation.now (n + c.loop-k.k) c.loop-k.marks.items (omega (arith, c.loop-k-test.false)) c.loop-k.invariant

@@ -2,11 +2,9 @@ use Rattle.std.proofs.Common.{◌++◌, ◌∷◌, ◌+◌, ◌<◌, [], true, f
 use Rattle.std.proofs.lemmas.List.{drop_more, get_or_default}
 use Rattle.ct_derivation.specs.declared.steps.Step.{Step}
 use Rattle.ct_sat.specs.declared.verdict.Rup.{Rup}
-use Rattle.ct_decide.specs.Translation.{learned_step, learned_steps}
-use Rattle.ct_decide.specs.Cut.{step_by, IsWithin}
-use Rattle.ct_decide.proofs.Kept.{kept_turn}
-use Rattle.ct_decide.proofs.translating.add_learned.Goals as goal
+use Rattle.ct_decide.{specs.Translation.{learned_step, learned_steps}, specs.Cut.{step_by, IsWithin}, proofs.Kept.kept_turn}
 use Rattle.ct_decide.proofs.translating.add_learned.Goals.{then-marks-k+in_ok-learned+in_ok-push, else-marks-k}
+use Rattle.ct_decide.proofs.translating.add_learned.Goals as goal
 
 abbrev none : Rup
 none = record { clause = []; hints = [] }

@@ -1,6 +1,5 @@
 use Rattle.std.proofs.Common.{◌≡◌, ◌++◌, drop}
-use Rattle.ct_decide.specs.Translation.{learned_steps}
-use Rattle.ct_decide.specs.Cut.{cut}
+use Rattle.ct_decide.{specs.Translation.learned_steps, specs.Cut.cut}
 use Rattle.ct_decide.proofs.translating.add_learned.Given as goal
 
 abbrev pub invariant-loop-k : goal.invariant-loop-k

@@ -1,10 +1,6 @@
-use Rattle.std.proofs.Common.{◌≡◌, true, map, ◌+◌, ◌≤◌, length, sym, subst, ap, arith}
-use Rattle.std.specs.List.{list_all}
-use Rattle.ct_sat.specs.Literal.{is_clause}
-use Rattle.ct_sat.specs.Learned.{clause_of}
-use Rattle.ct_decide.specs.Cut.{all_hints, HaveEarlier}
-use Rattle.ct_decide.proofs.Kept.{length_ranks}
-use Rattle.ct_decide.proofs.Walk.{length_hints, steps_within}
+use Rattle.std.{proofs.Common.{◌≡◌, true, map, ◌+◌, ◌≤◌, length, sym, subst, ap, arith}, specs.List.list_all}
+use Rattle.ct_sat.{specs.Literal.is_clause, specs.Learned.clause_of}
+use Rattle.ct_decide.{specs.Cut.{all_hints, HaveEarlier}, proofs.Kept.length_ranks, proofs.Walk.{length_hints, steps_within}}
 use Rattle.ct_decide.proofs.translating.derivation.Goals as goal
 
 pub needed-requires-clause-earlier : goal.needed-requires-clause-earlier

@@ -1,11 +1,9 @@
-use Rattle.std.proofs.Common.{◌≡◌, ◌++◌, ◌∷◌, ◌+◌, ◌<◌, [], true, false, length, drop, get_or, ap, ◌∙◌, arith}
-use Rattle.std.proofs.lemmas.List.{drop_more, get_or_default}
-use Rattle.ct_derivation.specs.declared.steps.Why.TheVariants as why
+use Rattle.std.{proofs.Common.{◌≡◌, ◌++◌, ◌∷◌, ◌+◌, ◌<◌, [], true, false, length, drop, get_or, ap, ◌∙◌, arith}, proofs.lemmas.List.{drop_more, get_or_default}}
 use Rattle.ct_cnf.specs.Encoding.{through}
-use Rattle.ct_decide.specs.Translation.{step, given_steps}
-use Rattle.ct_decide.proofs.Kept.{kept_turn}
-use Rattle.ct_decide.proofs.translating.given.Goals as goal
+use Rattle.ct_decide.{specs.Translation.{step, given_steps}, proofs.Kept.kept_turn}
 use Rattle.ct_decide.proofs.translating.given.Goals.{then-marks-k+in_ok-stated+in_ok-push, else-marks-k}
+use Rattle.ct_derivation.specs.declared.steps.Why.TheVariants as why
+use Rattle.ct_decide.proofs.translating.given.Goals as goal
 
 pub loop-k-preserved : goal.loop-k-preserved
 loop-k-preserved c =

@@ -1,6 +1,5 @@
 use Rattle.std.proofs.Common.{◌≡◌, ◌++◌, drop}
-use Rattle.ct_decide.specs.Translation.{given_steps}
-use Rattle.ct_decide.specs.Cut.{kept}
+use Rattle.ct_decide.{specs.Translation.given_steps, specs.Cut.kept}
 use Rattle.ct_decide.proofs.translating.given.Given as goal
 
 abbrev pub invariant-loop-k : goal.invariant-loop-k

@@ -1,5 +1,4 @@
-use Rattle.std.proofs.Common.{subst}
-use Rattle.std.specs.Prelude.{Contains}
+use Rattle.std.{proofs.Common.subst, specs.Prelude.Contains}
 use Rattle.ct_decide.proofs.translating.learned.Goals as goal
 
 pub renumbered-requires : goal.renumbered-requires

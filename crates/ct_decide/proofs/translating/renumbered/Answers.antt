@@ -1,5 +1,4 @@
-use Rattle.std.proofs.Common.{get_or}
-use Rattle.std.proofs.lemmas.List.Elements.{Contains-get_or}
+use Rattle.std.{proofs.Common.get_or, proofs.lemmas.List.Elements.Contains-get_or}
 use Rattle.ct_decide.proofs.translating.renumbered.Goals as goal
 
 pub bounds-numbers-h : goal.bounds-numbers-h

@@ -1,24 +1,14 @@
-use Rattle.std.proofs.Common.{◌≡◌, true, length, ◌∙◌, ap, sym, subst, arith}
-use Rattle.std.specs.List.{list_all}
-use Rattle.std.proofs.lemmas.List.{length-map}
-use Rattle.ct_word.specs.declared.kinds.Class.TheVariants as class
-use Rattle.ct_word.specs.WellFormed.{is_place_of}
-use Rattle.ct_equality.specs.Terms.{AreAscending, terms_of, is_among}
-use Rattle.ct_equality.specs.Members.{member_at}
-use Rattle.ct_equality.specs.Classes.{AreListed, AreClasses, AreJoined}
-use Rattle.ct_equality.specs.Valued.{AreNumbered, HaveValues, IsWorldOf, world_of}
-use Rattle.ct_equality.proofs.Listed.{terms_ascend, all_listed, alone, alone_listed}
-use Rattle.ct_equality.proofs.Steps.{plain_ordered}
-use Rattle.ct_equality.proofs.Worlds.{start_numbered, have_values, is_world}
+use Rattle.std.{proofs.Common.{length, ◌∙◌, ap, arith}, proofs.lemmas.List.length-map}
+use Rattle.ct_equality.{specs.Terms.terms_of, specs.Members.member_at, proofs.Listed.{terms_ascend, all_listed, alone, alone_listed}}
+use Rattle.ct_equality.{proofs.Steps.plain_ordered, proofs.Worlds.{start_numbered, have_values, is_world}}
 use Rattle.ct_equality.proofs.FalsePaths.{false_path, few_terms, term_places}
 use Rattle.ct_equality.proofs.closing.settle.Goals as goal
 
 pub clash-requires-clause-listed : goal.clash-requires-clause-listed
-clash-requires-clause-listed c = subst (AreListed c.args.atoms.now) (sym c.requires.members) (all_listed c.args.words.now c.args.atoms.now)
+clash-requires-clause-listed c = rw c.requires.members (all_listed c.args.words.now c.args.atoms.now)
 
 pub clash-requires-clause-classes : goal.clash-requires-clause-classes
-clash-requires-clause-classes c =
-    subst (AreClasses c.args.words.now c.args.atoms.now c.args.truth.now) (sym c.requires.members) (alone c.args.words.now c.args.atoms.now c.args.truth.now (terms_of c.args.atoms.now))
+clash-requires-clause-classes c = rw c.requires.members (alone c.args.words.now c.args.atoms.now c.args.truth.now (terms_of c.args.atoms.now))
 
 pub path-requires-clause-ordered : goal.path-requires-clause-ordered
 path-requires-clause-ordered c = plain_ordered c.args.words.now c.args.atoms.now c.requires.plain
@@ -35,36 +25,26 @@ number_classes-requires-clause-few c =
 
 pub number_classes-requires-clause-there : goal.number_classes-requires-clause-there
 number_classes-requires-clause-there c = λ p e.
-    let words = c.args.words.now in
-    let terms = terms_of c.args.atoms.now in
-    let joined = subst (λ m. AreJoined words c.args.atoms.now c.args.truth.now (length c.args.atoms.now) m c.clash.new.members) c.requires.members c.in_default.ensures.joined in
-    joined.merges.listed p ∙ alone_listed words terms p ∙ ap (λ l. is_among l p) (sym c.requires.terms) ∙ e
+    let joined = rw c.requires.members at c.in_default.ensures.joined in
+    joined.merges.listed p ∙ alone_listed c.args.words.now (terms_of c.args.atoms.now) p ∙ rw (← c.requires.terms) e
 
 pub number_classes-requires-clause-ascending : goal.number_classes-requires-clause-ascending
-number_classes-requires-clause-ascending c = subst AreAscending (sym c.requires.terms) (terms_ascend c.args.atoms.now)
+number_classes-requires-clause-ascending c = rw c.requires.terms (terms_ascend c.args.atoms.now)
 
 pub number_classes-requires-clause-constants : goal.number_classes-requires-clause-constants
 number_classes-requires-clause-constants c =
-    let words = c.args.words.now in
-    let joined = subst (λ m. AreJoined words c.args.atoms.now c.args.truth.now (length c.args.atoms.now) m c.clash.new.members) c.requires.members c.in_default.ensures.joined in
-    start_numbered words c.requires.formed (terms_of c.args.atoms.now) c.clash.new.members joined.merges
+    let joined = rw c.requires.members at c.in_default.ensures.joined in
+    start_numbered c.args.words.now c.requires.formed (terms_of c.args.atoms.now) c.clash.new.members joined.merges
 
 pub world-requires-clause-terms : goal.world-requires-clause-terms
-world-requires-clause-terms c =
-    subst (λ l. list_all (is_place_of c.args.words.now class.Term) l ≡ true) (sym c.requires.terms) (term_places c.args.words.now c.args.atoms.now c.args.truth.now c.requires.plain)
+world-requires-clause-terms c = rw c.requires.terms (term_places c.args.words.now c.args.atoms.now c.args.truth.now c.requires.plain)
 
 pub world-requires-clause-values : goal.world-requires-clause-values
 world-requires-clause-values c =
-    let words = c.args.words.now in
-    let joined = subst (λ m. AreJoined words c.args.atoms.now c.args.truth.now (length c.args.atoms.now) m c.clash.new.members) c.requires.members c.in_default.ensures.joined in
-    let numbered = subst (AreNumbered words c.clash.new.members c.number_classes.new.members) c.requires.terms c.number_classes.ensures in
-    subst (HaveValues words c.number_classes.new.members) (sym c.requires.terms)
-    (have_values words c.requires.formed c.args.atoms.now c.args.truth.now c.requires.plain c.clash.new.members c.number_classes.new.members joined c.in_default.ensures.apart numbered)
+    rw c.requires.terms (have_values c.args.words.now c.requires.formed c.args.atoms.now c.args.truth.now c.requires.plain c.clash.new.members c.number_classes.new.members
+    (rw c.requires.members at c.in_default.ensures.joined) c.in_default.ensures.apart (rw c.requires.terms at c.number_classes.ensures))
 
 pub returns : goal.returns
 returns c =
-    let words = c.args.words.now in
-    let joined = subst (λ m. AreJoined words c.args.atoms.now c.args.truth.now (length c.args.atoms.now) m c.clash.new.members) c.requires.members c.in_default.ensures.joined in
-    let numbered = subst (AreNumbered words c.clash.new.members c.number_classes.new.members) c.requires.terms c.number_classes.ensures in
-    subst (IsWorldOf words c.args.atoms.now c.args.truth.now) (sym (c.in_ok-world.ensures ∙ ap (world_of words c.number_classes.new.members) c.requires.terms))
-    (is_world words c.requires.formed c.args.atoms.now c.args.truth.now c.requires.plain c.clash.new.members c.number_classes.new.members joined c.in_default.ensures.apart numbered)
+    rw (c.in_ok-world.ensures, c.requires.terms) (is_world c.args.words.now c.requires.formed c.args.atoms.now c.args.truth.now c.requires.plain c.clash.new.members c.number_classes.new.members
+    (rw c.requires.members at c.in_default.ensures.joined) c.in_default.ensures.apart (rw c.requires.terms at c.number_classes.ensures))

@@ -1,12 +1,7 @@
-use Rattle.std.proofs.Common.{◌+◌, ◌<◌, length, ◌∙◌, sym, subst, arith}
-use Rattle.std.proofs.lemmas.List.{get_or_read}
-use Rattle.std.proofs.lemmas.Option.{slice_get-get_or}
-use Rattle.ct_equality.specs.Assigned.{IsLink}
-use Rattle.ct_equality.specs.declared.paths.Tree.{Tree}
-use Rattle.ct_equality.specs.Trees.{IsGrowing}
-use Rattle.ct_equality.proofs.Trees.{at_more, beyond_link, grown, not_grown}
-use Rattle.ct_equality.proofs.paths.grow.Goals as goal
+use Rattle.std.{proofs.Common.{◌+◌, ◌<◌, length, ◌∙◌, sym, subst, arith}, proofs.lemmas.List.get_or_read, proofs.lemmas.Option.slice_get-get_or}
+use Rattle.ct_equality.{specs.Assigned.IsLink, specs.declared.paths.Tree.Tree, specs.Trees.IsGrowing, proofs.Trees.{at_more, beyond_link, grown, not_grown}}
 use Rattle.ct_equality.proofs.paths.grow.Goals.{in-Some+in_ok-reach, in_default}
+use Rattle.ct_equality.proofs.paths.grow.Goals as goal
 
 pub reach-requires-clause-link : goal.reach-requires-clause-link
 reach-requires-clause-link c =

@@ -1,9 +1,5 @@
-use Rattle.std.proofs.Common.{◌≡◌, ◌<◌, true, ◌∙◌, ap, sym, subst, get_or, arith}
-use Rattle.std.proofs.lemmas.List.{get_or_read}
-use Rattle.ct_equality.specs.Assigned.{IsLink}
-use Rattle.ct_equality.specs.Terms.{is_among}
-use Rattle.ct_equality.proofs.Joins.{joined_back}
-use Rattle.ct_equality.proofs.Trees.{spread, among_at, walk_on}
+use Rattle.std.{proofs.Common.{◌≡◌, ◌<◌, true, ◌∙◌, ap, sym, subst, get_or, arith}, proofs.lemmas.List.get_or_read}
+use Rattle.ct_equality.{specs.Assigned.IsLink, specs.Terms.is_among, proofs.Joins.joined_back, proofs.Trees.{spread, among_at, walk_on}}
 use Rattle.ct_equality.proofs.paths.path.Goals as goal
 
 pub position-at-requires : goal.position-at-requires

@@ -1,6 +1,5 @@
 use Rattle.std.proofs.Common.{◌≡◌, false, arith, sym, ap, ◌∙◌}
-use Rattle.ct_equality.specs.Terms.{is_among}
-use Rattle.ct_equality.proofs.Trees.{few, tree_more}
+use Rattle.ct_equality.{specs.Terms.is_among, proofs.Trees.{few, tree_more}}
 use Rattle.ct_equality.proofs.paths.reach.Goals as goal
 
 pub overflow_cast-origin : goal.overflow_cast-origin

@@ -1,6 +1,5 @@
 use Rattle.std.proofs.Common.{◌+◌, ◌++◌, ◌∷◌, [], ◌∙◌, sym, subst, arith}
-use Rattle.ct_equality.specs.Valued.{AreNumberedTo}
-use Rattle.ct_equality.proofs.Numbers.{numbered_to}
+use Rattle.ct_equality.{specs.Valued.AreNumberedTo, proofs.Numbers.numbered_to}
 use Rattle.ct_equality.proofs.values.number_class.Goals as goal
 
 pub returns : goal.returns

@@ -1,8 +1,5 @@
-use Rattle.std.proofs.Common.{◌∙◌, sym, subst, take, get_or}
-use Rattle.std.proofs.lemmas.List.{take_more}
-use Rattle.ct_equality.specs.Valued.{AreNumberedTo}
-use Rattle.ct_equality.proofs.Trees.{among_at}
-use Rattle.ct_equality.proofs.Listed.{first_below}
+use Rattle.std.{proofs.Common.{◌∙◌, sym, subst, take, get_or}, proofs.lemmas.List.take_more}
+use Rattle.ct_equality.{specs.Valued.AreNumberedTo, proofs.Trees.among_at, proofs.Listed.first_below}
 use Rattle.ct_equality.proofs.values.number_classes.Goals as goal
 
 pub loop-place-preserved : goal.loop-place-preserved

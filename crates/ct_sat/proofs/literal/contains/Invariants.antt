@@ -1,6 +1,4 @@
-use Rattle.std.proofs.Common.{◌≡◌, take, false}
-use Rattle.std.specs.List.{list_any}
-use Rattle.std.specs.Ordering.{int_eq}
+use Rattle.std.{proofs.Common.{◌≡◌, take, false}, specs.List.list_any, specs.Ordering.int_eq}
 use Rattle.ct_sat.proofs.literal.contains.Given as goal
 
 abbrev pub invariant-loop-m : goal.invariant-loop-m

@@ -1,7 +1,5 @@
-use Rattle.std.proofs.Common.{◌≡◌, ◌<◌, ◌≤◌, ℕ, true}
-use Rattle.std.specs.Prelude.{MatchOption}
-use Rattle.ct_sat.specs.Assignment.{IsOpen, satisfied}
-use Rattle.ct_sat.specs.Learned.{log_of, clause_at}
+use Rattle.std.{proofs.Common.{◌≡◌, ◌<◌, ◌≤◌, ℕ, true}, specs.Prelude.MatchOption}
+use Rattle.ct_sat.{specs.Assignment.{IsOpen, satisfied}, specs.Learned.{log_of, clause_at}}
 use Rattle.ct_sat.proofs.scan.scan_range.Given as goal
 
 abbrev pub invariant-loop-k : goal.invariant-loop-k

@@ -1,7 +1,5 @@
 use Rattle.std.proofs.Common.{◌≡◌, ◌∙◌, sym, ap, subst, ◌∷◌, []}
-use Rattle.ct_sat.specs.declared.verdict.Rup.{Rup}
-use Rattle.ct_sat.specs.Verdict.{IsRefutation}
-use Rattle.ct_sat.proofs.Verdicts.{finished}
+use Rattle.ct_sat.{specs.declared.verdict.Rup.Rup, specs.Verdict.IsRefutation, proofs.Verdicts.finished}
 use Rattle.ct_sat.proofs.solver.finish.Goals as goal
 
 pub returns : goal.returns
