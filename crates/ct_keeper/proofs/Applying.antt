@@ -1,46 +1,20 @@
 -- An offer that is unchanged can be applied to all commits, and what its changes make is what stands after them.
 use Rattle.std.proofs.Common.{◌≡◌, ℕ, suc, ◌+◌, ◌≤◌, Bool, true, false, List, [], ◌∷◌, ◌++◌, length, map, take, drop, refl, ap, sym, subst, ◌∙◌, arith, length-append, take_all, filter_map}
-use Rattle.std.specs.Prelude.{Option, Some, None, IsTrue, All, is_some, option_and_then, if◌then◌else◌}
-use Rattle.std.specs.Arc.{arc_value}
-use Rattle.std.specs.List.{Contains, cons_option, list_any, list_all}
-use Rattle.std.proofs.lemmas.Bool.{false≢true}
-use Rattle.std.proofs.lemmas.List.{take-append-drop, length-take-le}
-use Rattle.std.proofs.lemmas.List.Elements.{All-contains, All-weaker}
-use Rattle.std.proofs.lemmas.Grind.{flat_map-append}
+use Rattle.std.{specs.Prelude.{Option, Some, None, IsTrue, All, is_some, option_and_then, if◌then◌else◌}, specs.Arc.arc_value, proofs.lemmas.Bool.false≢true}
+use Rattle.std.{specs.List.{Contains, cons_option, list_any, list_all}, proofs.lemmas.List.{take-append-drop, length-take-le}}
+use Rattle.std.{proofs.lemmas.List.Elements.{All-contains, All-weaker}, proofs.lemmas.Grind.flat_map-append}
+use Rattle.ct_word.{specs.Value.World, specs.Condition.holds_at, specs.Change.{PlainChange, Assert, PlainCommit}, specs.WellFormed.IsWellFormed}
+use Rattle.ct_word.{specs.Reading.{Meaning, as_commit, meanings, commits_of, change_list_at}, specs.Writable.is_writable, proofs.Growth.length-read}
+use Rattle.ct_query.{specs.declared.action.Read.Read, specs.Database.Database, specs.Step.step_change, specs.Reads.{writes, last}, specs.Fits.FitAfter}
+use Rattle.ct_query.{specs.Worlds.{world, admits, after_changes, changes_of}, specs.Frame.creates, proofs.Within.{Unwritten, later_unwritten, changes_admit}}
+use Rattle.ct_query.{proofs.Laws.{after_changes-append, last_commit, world_commit}, proofs.Frame.fit_later}
+use Rattle.ct_arena.{specs.declared.tally.Tally.Tally, specs.Counts.commit_of, specs.Seen.pass_of}
+use Rattle.ct_history.{specs.declared.written.Written.Written, specs.Written.{IsWritten, plain_written}}
+use Rattle.ct_table.{specs.Denotes.Denotes, specs.Snapshot.{IsGlobal, IsKeptWorld, commits_to, IsSnapshot}, proofs.Snapshots.{kept_grows, snapshot_of_all}}
+use Rattle.ct_keeper.{specs.declared.catalogue.Offer.Offer, specs.declared.latest.Latest.Latest, specs.Latest.IsLatest, specs.Writers.last_in}
+use Rattle.ct_keeper.{specs.Offers.{IsOffer, Leaves, IsUnchanged}, specs.Steps.{IsMade, CanApply, is_assertion}, proofs.Noting.asserted_same}
 use mathlib.Core.List.{IsPrefix}
-use Rattle.ct_word.specs.Value.{World}
-use Rattle.ct_word.specs.Condition.{holds_at}
-use Rattle.ct_word.specs.Change.{PlainChange, Create, Insert, Delete, Assert, PlainCommit}
-use Rattle.ct_word.specs.Reading.{Meaning, as_commit, meanings, commits_of, change_list_at}
-use Rattle.ct_word.specs.WellFormed.{IsWellFormed}
-use Rattle.ct_word.specs.Writable.{is_writable}
-use Rattle.ct_word.proofs.Growth.{length-read}
-use Rattle.ct_query.specs.declared.action.Read.{Read}
 use Rattle.ct_query.specs.declared.action.Read.TheVariants as read
-use Rattle.ct_query.specs.Database.{Database}
-use Rattle.ct_query.specs.Step.{step_change}
-use Rattle.ct_query.specs.Reads.{writes, last}
-use Rattle.ct_query.specs.Worlds.{world, admits, after_changes, changes_of}
-use Rattle.ct_query.specs.Fits.{FitAfter}
-use Rattle.ct_query.specs.Frame.{creates}
-use Rattle.ct_query.proofs.Laws.{after_changes-append, last_commit, world_commit}
-use Rattle.ct_query.proofs.Within.{Unwritten, later_unwritten, changes_admit}
-use Rattle.ct_query.proofs.Frame.{fit_later}
-use Rattle.ct_arena.specs.declared.tally.Tally.{Tally}
-use Rattle.ct_arena.specs.Counts.{commit_of}
-use Rattle.ct_arena.specs.Seen.{pass_of}
-use Rattle.ct_history.specs.declared.written.Written.{Written}
-use Rattle.ct_history.specs.Written.{IsWritten, plain_written}
-use Rattle.ct_table.specs.Denotes.{Denotes}
-use Rattle.ct_table.specs.Snapshot.{IsGlobal, IsKeptWorld, commits_to, IsSnapshot}
-use Rattle.ct_table.proofs.Snapshots.{kept_grows, snapshot_of_all}
-use Rattle.ct_keeper.specs.declared.catalogue.Offer.{Offer}
-use Rattle.ct_keeper.specs.declared.latest.Latest.{Latest}
-use Rattle.ct_keeper.specs.Latest.{IsLatest}
-use Rattle.ct_keeper.specs.Writers.{last_in}
-use Rattle.ct_keeper.specs.Offers.{IsOffer, Leaves, IsUnchanged}
-use Rattle.ct_keeper.specs.Steps.{IsMade, CanApply, is_assertion}
-use Rattle.ct_keeper.proofs.Noting.{asserted_same}
 
 -- there are no more commits than words
 few : (ms : List Meaning) → length (filter_map as_commit ms) ≤ length ms
@@ -59,13 +33,11 @@ module _ (v : World) where
   step_admits x None None e = refl
   step_admits x None (Some d') e = absurd (false≢true e)
   step_admits x (Some d) None e = absurd (false≢true (sym e))
-  step_admits (Create name columns) (Some d) (Some d') e = refl
-  step_admits (Insert name rs) (Some d) (Some d') e = refl
-  step_admits (Delete name c) (Some d) (Some d') e = refl
   step_admits (Assert c) (Some d) (Some d') e = by_test (holds_at v c) where
     by_test : (b : Bool) → is_some (if b then Some d else None) ≡ is_some (if b then Some d' else None)
     by_test true = refl
     by_test false = refl
+  step_admits _ (Some d) (Some d') e = refl
 
   all_admit : (xs : List PlainChange) (o o' : Option Database) → is_some o ≡ is_some o' → is_some (after_changes v o xs) ≡ is_some (after_changes v o' xs)
   all_admit [] o o' e = e

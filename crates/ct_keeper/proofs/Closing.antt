@@ -1,14 +1,10 @@
 -- The whole log, by the passes that were ended one after another.
-use Rattle.std.proofs.Common.{◌≡◌, ℕ, ◌+◌, ◌<◌, List, [], ◌∷◌, ◌++◌, map, refl, ap, sym, subst, ◌∙◌}
-use Rattle.std.specs.Prelude.{All, sum_by}
-use Rattle.std.proofs.lemmas.List.{get_or-map, length-map, map-append}
-use Rattle.std.proofs.lemmas.List.Elements.{All-push, All-weaker}
+use Rattle.std.{proofs.Common.{◌≡◌, ℕ, ◌+◌, ◌<◌, List, [], ◌∷◌, ◌++◌, map, refl, ap, sym, subst, ◌∙◌}, specs.Prelude.{All, sum_by}}
+use Rattle.std.{proofs.lemmas.List.{get_or-map, length-map, map-append}, proofs.lemmas.List.Elements.{All-push, All-weaker}}
 use Rattle.std.proofs.lemmas.List.Sums.{sum_by-cons}
-use mathlib.Core.List.{IsPrefix}
 use Rattle.ct_word.proofs.Prefixes.{prefix_of_prefix}
-use Rattle.ct_arena.specs.declared.tally.Tally.{Tally}
-use Rattle.ct_arena.specs.Counts.{AreNumbered}
-use Rattle.ct_arena.specs.Seen.{Seen, tally_of}
+use Rattle.ct_arena.{specs.declared.tally.Tally.Tally, specs.Counts.AreNumbered, specs.Seen.{Seen, tally_of}}
+use mathlib.Core.List.{IsPrefix}
 
 pub one_ended : (passes : List Seen) (pass : Seen) (ended ended' : List Tally) → ended ≡ map tally_of passes → ended' ≡ ended ++ tally_of pass ∷ [] → ended' ≡ map tally_of (passes ++ pass ∷ [])
 one_ended passes pass ended ended' so_far one = one ∙ ap (λ ts. ts ++ tally_of pass ∷ []) so_far ∙ sym (map-append tally_of passes (pass ∷ []))

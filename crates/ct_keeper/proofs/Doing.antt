@@ -1,55 +1,28 @@
 -- What tables, a global condition and a kept world denote after an effect: by a change of the history, and by an action.
-use Rattle.std.proofs.Common.{◌≡◌, ℕ, List, [], ◌∷◌, ◌++◌, length, map, Some, refl, ap, sym, subst, ◌∙◌}
-use Rattle.std.specs.Prelude.{IsTrue, IsSome, IfSome, All, if◌then◌else◌}
-use Rattle.std.specs.List.{AllByRecursion}
-use Rattle.std.proofs.lemmas.List.Elements.{All-head, All-tail}
-use mathlib.Core.List.{IsPrefix}
-use Rattle.ct_word.specs.declared.values.Value.{Value}
-use Rattle.ct_word.specs.declared.values.Term.{Term}
-use Rattle.ct_word.specs.declared.values.CRow.{CRow}
-use Rattle.ct_word.specs.Value.{World, tuple_at}
-use Rattle.ct_word.specs.Condition.{Condition, holds_at}
-use Rattle.ct_word.specs.Sublist.{IsSublist}
-use Rattle.ct_word.specs.Change.{PlainRow, PlainChange, Insert, PlainCommit}
-use Rattle.ct_word.specs.Reading.{condition_at, plain_crow}
-use Rattle.ct_word.specs.Stands.{TermBelow, HasNoColumn}
-use Rattle.ct_word.specs.WellFormed.{IsWellFormed}
-use Rattle.ct_word.specs.Writable.{is_writable}
-use Rattle.ct_query.specs.Plain as plain
-use Rattle.ct_query.specs.Plain.{PlainAction}
-use Rattle.ct_query.specs.declared.action.Read.TheVariants as read
-use Rattle.ct_query.specs.Database.{Database, SameSet}
-use Rattle.ct_query.specs.Rows.{rows}
-use Rattle.ct_query.specs.Step.{inserted, shown_rows, step_change, step_action}
-use Rattle.ct_query.specs.Agrees.{SameTruthAlone, AgreesWith}
-use Rattle.ct_query.specs.Worlds.{world, changes_of}
-use Rattle.ct_query.specs.Patterns.{pattern, patterns}
-use Rattle.ct_query.specs.Schema.{created_by_change, created_by_action}
-use Rattle.ct_query.proofs.Laws.{patterns_action}
-use Rattle.ct_query.proofs.Sets.{same_set_itself}
-use Rattle.ct_query.proofs.Sublists.{all_of}
-use Rattle.std.specs.Option.{option_to_list}
+use Rattle.std.{proofs.Common.{◌≡◌, ℕ, List, [], ◌∷◌, ◌++◌, length, map, Some, refl, ap, sym, subst, ◌∙◌}, specs.List.AllByRecursion}
+use Rattle.std.{specs.Prelude.{IsTrue, IsSome, IfSome, All, if◌then◌else◌}, proofs.lemmas.List.Elements.{All-head, All-tail}, specs.Option.option_to_list}
+use Rattle.ct_word.{specs.declared.values.Value.Value, specs.declared.values.Term.Term, specs.declared.values.CRow.CRow, specs.Value.{World, tuple_at}}
+use Rattle.ct_word.{specs.Condition.{Condition, holds_at}, specs.Sublist.IsSublist, specs.Change.{PlainRow, PlainChange, Insert, PlainCommit}}
+use Rattle.ct_word.{specs.Reading.{condition_at, plain_crow}, specs.Stands.{TermBelow, HasNoColumn}, specs.WellFormed.IsWellFormed, specs.Writable.is_writable}
+use Rattle.ct_query.{specs.Plain.PlainAction, specs.Database.{Database, SameSet}, specs.Rows.rows, specs.Step.{inserted, shown_rows, step_change, step_action}}
+use Rattle.ct_query.{specs.Agrees.{SameTruthAlone, AgreesWith}, specs.Worlds.{world, changes_of}, specs.Patterns.{pattern, patterns}, proofs.Sublists.all_of}
+use Rattle.ct_query.{specs.Schema.{created_by_change, created_by_action}, proofs.Laws.patterns_action, proofs.Sets.same_set_itself}
 use Rattle.ct_condition.proofs.Reached.{formed_before}
-use Rattle.ct_history.specs.declared.written.Written.{Written}
-use Rattle.ct_history.specs.declared.written.Written.TheVariants as written
-use Rattle.ct_history.specs.Written.{IsWritten, plain_written}
-use Rattle.ct_table.specs.declared.pending.Growth.{Growth}
-use Rattle.ct_table.specs.Following.{Follows}
-use Rattle.ct_table.specs.Denotes.{TableView, Denotes, IsTermFor, find_table, with_table}
-use Rattle.ct_table.specs.Snapshot.{IsGlobal, IsKeptValue, IsKeptWorld}
-use Rattle.ct_operators.specs.Tables.{cells_of, value_of_rows}
-use Rattle.ct_operators.specs.Terms.{TermOfRows, IsNoColumn}
-use Rattle.ct_operators.proofs.Reaching.{none_of_rows, plain_rows}
-use Rattle.ct_table.proofs.Following.{change_follows, action_follows, lines_here}
-use Rattle.ct_operators.proofs.Naming.{condition_named, rows_named}
-use Rattle.ct_table.proofs.Denoting.{with_rows, found_name}
+use Rattle.ct_history.{specs.declared.written.Written.Written, specs.Written.{IsWritten, plain_written}}
+use Rattle.ct_table.{specs.declared.pending.Growth.Growth, specs.Following.Follows, specs.Denotes.{TableView, Denotes, IsTermFor, find_table, with_table}}
+use Rattle.ct_table.{specs.Snapshot.{IsGlobal, IsKeptValue, IsKeptWorld}, proofs.Following.{change_follows, action_follows, lines_here}}
+use Rattle.ct_table.{proofs.Denoting.{with_rows, found_name}, proofs.Acting.{created_by, asserted_by, rows_where, rows_follow}}
 use Rattle.ct_table.proofs.Changing.{cells_listed, inserted_after, deleted_after, created_denotes, inserted_denotes, deleted_denotes, asserted_denotes}
-use Rattle.ct_table.proofs.Acting.{created_by, asserted_by, rows_where, rows_follow}
 use Rattle.ct_table.proofs.Snapshots.{global_grows, global_stays, global_asserted, global_denotes, kept_grows, kept_stays}
-use Rattle.ct_keeper.specs.declared.effects.Effect.{Effect}
-use Rattle.ct_keeper.specs.declared.effects.Effect.TheVariants as effect
-use Rattle.ct_keeper.specs.Effects.{DoesChange, Gets, AreInserted, tables_after, global_after, rows_of_table}
+use Rattle.ct_operators.{specs.Tables.{cells_of, value_of_rows}, specs.Terms.{TermOfRows, IsNoColumn}, proofs.Reaching.{none_of_rows, plain_rows}}
+use Rattle.ct_operators.proofs.Naming.{condition_named, rows_named}
+use Rattle.ct_keeper.{specs.declared.effects.Effect.Effect, specs.Effects.{DoesChange, Gets, AreInserted, tables_after, global_after, rows_of_table}}
 use Rattle.ct_keeper.specs.Doing.{HasTermsFor}
+use mathlib.Core.List.{IsPrefix}
+use Rattle.ct_query.specs.Plain as plain
+use Rattle.ct_query.specs.declared.action.Read.TheVariants as read
+use Rattle.ct_history.specs.declared.written.Written.TheVariants as written
+use Rattle.ct_keeper.specs.declared.effects.Effect.TheVariants as effect
 
 -- a place below which no column stands has no column among its terms
 no_column : (words : List ℕ) (p : ℕ) (u : Term) → HasNoColumn words p → TermBelow words p u → IsNoColumn u
@@ -75,10 +48,8 @@ module _ (old new : List ℕ) (longer : IsPrefix old new) (formed : IsWellFormed
 
   -- a change fails nowhere that is a growth
   never_fails : (w : Written) (growth : Growth) → DoesChange old new db global w (effect.Grows growth) → (v : World) (d : Database) → IsSome (step_change v d (plain_written old w))
-  never_fails (written.Create name columns) growth does v d = refl
-  never_fails (written.Insert name more) growth does v d = refl
-  never_fails (written.Delete name cond) growth does v d = refl
   never_fails (written.Assert cond) growth does v d = absurd does
+  never_fails _ growth does v d = refl
 
   -- after one change more of a history
   module _ (h g : List PlainCommit) where
@@ -95,10 +66,7 @@ module _ (old new : List ℕ) (longer : IsPrefix old new) (formed : IsWellFormed
         subst (Denotes new g []) (with_found db _ name t does.rows does.is_found does.after_is)
         (deleted_denotes old new longer formed h g db d name cond is can placed t does.is_found does.rows does.true_of.are does.true_of.tuples does.true_of.part does.true_of.terms)
     history_tables (written.Assert cond) (effect.Narrows place) placed does is d can = asserted_denotes old new longer formed h g db d (condition_at old cond) is can
-    history_tables (written.Create name columns) (effect.Narrows place) placed does is d can = absurd does
-    history_tables (written.Insert name more) (effect.Narrows place) placed does is d can = absurd does
-    history_tables (written.Delete name cond) (effect.Narrows place) placed does is d can = absurd does
-    history_tables (written.Assert cond) (effect.Grows growth) placed does is d can = absurd does
+    history_tables _ _ placed does is d can = absurd does
 
     -- the global condition and a kept world after a change that cannot fail
     module _ (x : PlainChange) (is : changes_of g ≡ changes_of h ++ x ∷ []) (total : (v : World) (d : Database) → IsSome (step_change v d x)) where
@@ -117,9 +85,7 @@ module _ (old new : List ℕ) (longer : IsPrefix old new) (formed : IsWellFormed
     history_global w (effect.Grows growth) placed does is was = change_global (plain_written old w) is (never_fails w growth does) was
     history_global (written.Assert cond) (effect.Narrows place) placed does is was =
         global_denotes old new formed_old h g global cond place is was placed does.plain does.truth does.terms
-    history_global (written.Create name columns) (effect.Narrows place) placed does is was = absurd does
-    history_global (written.Insert name more) (effect.Narrows place) placed does is was = absurd does
-    history_global (written.Delete name cond) (effect.Narrows place) placed does is was = absurd does
+    history_global _ (effect.Narrows place) placed does is was = absurd does
 
   -- after one action more
   module _ (h : List PlainCommit) (actions : List PlainAction) where
@@ -178,9 +144,8 @@ module _ (old new : List ℕ) (longer : IsPrefix old new) (formed : IsWellFormed
         (λ u b none. subst (λ n. IsTermFor h (actions ++ a ∷ []) (read.Table n) u) agrees.0 (terms u none (condition_named old formed_old cond u placed b)))
         does.true_of.tuples does.true_of.part does.true_of.terms)
     action_tables (written.Assert cond) (effect.Narrows place) (plain.Assert c) placed does agrees terms d = asserted_by old new longer formed h actions db d c
-    action_tables (written.Create name columns) (effect.Narrows place) a placed does agrees terms d = absurd does
-    action_tables (written.Insert name more) (effect.Narrows place) a placed does agrees terms d = absurd does
-    action_tables (written.Delete name cond) (effect.Narrows place) a placed does agrees terms d = absurd does
+    action_tables (written.Assert cond) (effect.Narrows place) _ placed does agrees terms d = absurd agrees
+    action_tables _ (effect.Narrows place) a placed does agrees terms d = absurd does
     action_tables (written.Assert cond) (effect.Grows growth) a placed does agrees terms d = absurd does
     action_tables _ _ _ placed does agrees terms d = absurd agrees
 
@@ -199,12 +164,9 @@ module _ (old new : List ℕ) (longer : IsPrefix old new) (formed : IsWellFormed
     -- an action fails nowhere whose change is a growth
     action_total : (w : Written) (growth : Growth) (a : PlainAction) → DoesChange old new db global w (effect.Grows growth) → AgreesWith h actions a (plain_written old w)
         → (v : World) (d : Database) → IsSome (step_action v d a)
-    action_total w growth (plain.Create name columns) does agrees v d = refl
-    action_total w growth (plain.InsertRows name lists c) does agrees v d = refl
-    action_total w growth (plain.InsertQuery name q) does agrees v d = refl
-    action_total w growth (plain.Delete name c) does agrees v d = refl
     action_total (written.Assert cond) growth (plain.Assert c) does agrees v d = absurd does
     action_total _ growth (plain.Assert c) does agrees v d = absurd agrees
+    action_total w growth _ does agrees v d = refl
 
     asserted_global : (w : Written) (place : ℕ) (a : PlainAction) → IsWritten old w → DoesChange old new db global w (effect.Narrows place) → AgreesWith h actions a (plain_written old w)
         → HasTermsFor h actions a (plain_written old w) → IsGlobal old h actions global → IsGlobal new h (actions ++ a ∷ []) place
@@ -212,10 +174,8 @@ module _ (old new : List ℕ) (longer : IsPrefix old new) (formed : IsWellFormed
         global_asserted h actions h (actions ++ plain.Assert c ∷ []) c (action_follows h actions (plain.Assert c)) old new global cond place was agrees does.plain
         (λ u b. terms u (no_column old cond u does.plain b) (condition_named old formed_old cond u placed b))
         does.truth does.terms
-    asserted_global (written.Create name columns) place a placed does agrees terms was = absurd does
-    asserted_global (written.Insert name more) place a placed does agrees terms was = absurd does
-    asserted_global (written.Delete name cond) place a placed does agrees terms was = absurd does
-    asserted_global _ place _ placed does agrees terms was = absurd agrees
+    asserted_global (written.Assert cond) place _ placed does agrees terms was = absurd agrees
+    asserted_global _ place a placed does agrees terms was = absurd does
 
 -- a world at which the global condition holds is admitted
 world_of_global : (words : List ℕ) (h : List PlainCommit) (actions : List PlainAction) (place : ℕ) (kept : World) → IsGlobal words h actions place

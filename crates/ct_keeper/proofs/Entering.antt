@@ -1,30 +1,18 @@
 -- An offer, and what becomes of it, for a session that brings fewer words than the keeper then has.
-use Rattle.std.proofs.Common.{◌≡◌, ◌≢◌, ℕ, ◌+◌, List, [], ◌∷◌, ◌++◌, length, take, ap, sym, subst, ◌∙◌, arith}
-use Rattle.std.specs.Prelude.{IsTrue, All, Result, Ok, Err}
-use Rattle.std.specs.List.{Contains, list_all}
-use Rattle.std.proofs.lemmas.List.{take-append-le}
+use Rattle.std.{proofs.Common.{◌≡◌, ◌≢◌, ℕ, ◌+◌, List, [], ◌∷◌, ◌++◌, length, take, ap, sym, subst, ◌∙◌, arith}, specs.Prelude.{IsTrue, All, Result, Ok, Err}}
+use Rattle.std.{specs.List.{Contains, list_all}, proofs.lemmas.List.take-append-le}
+use Rattle.ct_word.{specs.Change.PlainCommit, specs.Reading.{commits_of, change_list_at}, specs.WellFormed.IsWellFormed, specs.Writable.is_writable}
+use Rattle.ct_word.proofs.Prefixes.{place_within, place_in_prefix, prefix_of_prefix, change_list_in_prefix, commits_prefix}
+use Rattle.ct_query.{specs.Fits.FitAfter, specs.Frame.creates, specs.Patterns.count}
+use Rattle.ct_arena.specs.Seen.{Seen, tally_of, pass_of}
+use Rattle.ct_table.{specs.Snapshot.{IsKeptWorld, commits_to}, proofs.Snapshots.kept_grows}
+use Rattle.ct_keeper.{specs.declared.catalogue.Offer.Offer, specs.declared.catalogue.Outcome.Outcome, specs.declared.error.KeeperError.KeeperError}
+use Rattle.ct_keeper.{specs.Bounds.{commit_words, offer_words}, specs.Catalogue.{Catalogue, Stays}, proofs.Interning.prefix_short}
+use Rattle.ct_keeper.specs.Offers.{changes_in, commit_for, has_assertion, IsOffer, AreUnchanged, IsUnchanged, IsCommitted, IsUncommitted, IsConflict, BecomesOf}
 use mathlib.Core.List.{IsPrefix}
 use Rattle.ct_word.specs.declared.kinds.Class.TheVariants as class
-use Rattle.ct_word.specs.Change.{PlainCommit}
-use Rattle.ct_word.specs.Reading.{commits_of, change_list_at}
-use Rattle.ct_word.specs.WellFormed.{IsWellFormed}
-use Rattle.ct_word.specs.Writable.{is_writable}
-use Rattle.ct_word.proofs.Prefixes.{place_within, place_in_prefix, prefix_of_prefix, change_list_in_prefix, commits_prefix}
-use Rattle.ct_query.specs.Fits.{FitAfter}
-use Rattle.ct_query.specs.Frame.{creates}
-use Rattle.ct_query.specs.Patterns.{count}
-use Rattle.ct_arena.specs.Seen.{Seen, tally_of, pass_of}
-use Rattle.ct_table.specs.Snapshot.{IsKeptWorld, commits_to}
-use Rattle.ct_table.proofs.Snapshots.{kept_grows}
-use Rattle.ct_keeper.specs.declared.catalogue.Offer.{Offer}
-use Rattle.ct_keeper.specs.declared.catalogue.Outcome.{Outcome}
 use Rattle.ct_keeper.specs.declared.catalogue.Outcome.TheVariants as outcome
-use Rattle.ct_keeper.specs.declared.error.KeeperError.{KeeperError}
 use Rattle.ct_keeper.specs.declared.error.KeeperError.TheVariants as fault
-use Rattle.ct_keeper.specs.Bounds.{commit_words, offer_words}
-use Rattle.ct_keeper.specs.Catalogue.{Catalogue, Stays}
-use Rattle.ct_keeper.specs.Offers.{changes_in, commit_for, has_assertion, IsOffer, AreUnchanged, IsUnchanged, IsCommitted, IsUncommitted, IsConflict, BecomesOf}
-use Rattle.ct_keeper.proofs.Interning.{prefix_short}
 
 module _ (pass : Seen) (words : List ℕ) (longer : IsPrefix pass.words words) (formed : IsWellFormed words) (offer : Offer) (is : IsOffer pass offer) where
   abbrev entered : Seen

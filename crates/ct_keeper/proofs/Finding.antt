@@ -1,34 +1,23 @@
 -- The table that a change names, and what the change's fitting says of its rows and its condition.
 use Rattle.std.proofs.Common.{◌≡◌, ℕ, ◌<◌, Bool, true, false, List, [], ◌∷◌, ◌++◌, length, map, refl, ap, sym, subst, ◌∙◌, arith, inl, inr}
-use Rattle.std.specs.Prelude.{All, Option, Some, None, IsSome, IsTrue, option_map, if◌then◌else◌}
-use Rattle.std.specs.List.{Contains}
-use Rattle.std.proofs.lemmas.Bool.{false≢true}
-use Rattle.std.proofs.lemmas.List.{length-map}
-use Rattle.std.proofs.lemmas.List.Elements.{All-nil, All-cons, All-head, All-tail, recursion_from_All, Contains-append_cases}
-use Rattle.ct_word.specs.declared.kinds.Class.TheVariants as class
-use Rattle.ct_word.specs.declared.values.Term.TheVariants as term
-use Rattle.ct_word.specs.declared.values.CRow.{CRow}
-use Rattle.ct_word.specs.Value.{same_text}
-use Rattle.ct_word.specs.Condition.{Condition, Conditions, True, False, Same, Not, And, Or, none, also}
-use Rattle.ct_word.specs.Reading.{condition_at, term_at, plain_crow}
-use Rattle.ct_word.specs.Stands.{TermBelow, HasNoColumn}
+use Rattle.std.{specs.Prelude.{All, Option, Some, None, IsSome, IsTrue, option_map, if◌then◌else◌}, specs.List.Contains, proofs.lemmas.Bool.false≢true}
+use Rattle.std.{proofs.lemmas.List.length-map, proofs.lemmas.List.Elements.{All-nil, All-cons, All-head, All-tail, recursion_from_All, Contains-append_cases}}
+use Rattle.ct_word.{specs.declared.values.CRow.CRow, specs.declared.values.Term.Term, specs.Value.same_text, specs.Reading.{condition_at, term_at, plain_crow}}
+use Rattle.ct_word.{specs.Condition.{Condition, Conditions, True, False, Same, Not, And, Or, none, also}, specs.Stands.{TermBelow, HasNoColumn}}
 use Rattle.ct_word.specs.WellFormed.{IsWellFormed, is_place_of}
-use Rattle.ct_query.specs.Plain as plain
 use Rattle.ct_query.specs.Fits.{columns_in, count_of, width, IsColumnBelow, AreColumnsBelow, AreAllColumnsBelow, FitsRow}
 use Rattle.ct_query.specs.Terms.{condition_terms, all_terms}
 use Rattle.ct_history.specs.Rows.{IsRowOf}
-use Rattle.ct_table.specs.Denotes.{TableView, heading_of, find_table, with_table}
-use Rattle.ct_table.specs.declared.pending.Growth.{Growth}
+use Rattle.ct_table.{specs.Denotes.{TableView, heading_of, find_table, with_table}, specs.declared.pending.Growth.Growth, specs.Pending.{after, put_into}}
+use Rattle.ct_table.{specs.Growing.rows_after, proofs.Denoting.found_all}
+use Rattle.ct_operators.{specs.Tables.{IsRow, AreRows}, proofs.Naming.condition_named, proofs.Reaching.{first_or_behind, term_alone}}
+use Rattle.ct_keeper.specs.Effects.{DoesChange, new_table, rows_of_table}
+use Rattle.ct_word.specs.declared.kinds.Class.TheVariants as class
+use Rattle.ct_word.specs.declared.values.Term.TheVariants as term
+use Rattle.ct_query.specs.Plain as plain
 use Rattle.ct_table.specs.declared.pending.Growth.TheVariants as growth
-use Rattle.ct_table.specs.Pending.{after, put_into}
-use Rattle.ct_table.specs.Growing.{rows_after}
-use Rattle.ct_operators.specs.Tables.{IsRow, AreRows}
-use Rattle.ct_table.proofs.Denoting.{found_all}
-use Rattle.ct_operators.proofs.Naming.{condition_named}
-use Rattle.ct_operators.proofs.Reaching.{first_or_behind, term_alone}
 use Rattle.ct_history.specs.declared.written.Written.TheVariants as written
 use Rattle.ct_keeper.specs.declared.effects.Effect.TheVariants as effect
-use Rattle.ct_keeper.specs.Effects.{DoesChange, new_table, rows_of_table}
 
 -- the columns that a schema has for a name are those of the name's table
 columns_found : (db : List TableView) (name : List ℕ) → columns_in (map heading_of db) name ≡ option_map (λ t. t.columns) (find_table db name)
@@ -76,28 +65,28 @@ rows_put db name t puts found named = ap (put_into db name puts) found ∙ (λ i
 
 -- a column among the terms of a condition is below the row's end, where its columns are
 mutual
-  below_among : (n : ℕ) (c : Condition) (k : ℕ) → AreColumnsBelow n c → Contains (condition_terms c) (term.Column k) → k < n
-  below_among n True k below h = absurd (omega (arith, h.1))
-  below_among n False k below h = absurd (omega (arith, h.1))
-  below_among n (Same s t) k below h = elim (first_or_behind s (t ∷ []) (term.Column k) h) [
+  pub column_in : (n : ℕ) (c : Condition) (t : Term) → AreColumnsBelow n c → Contains (condition_terms c) t → IsColumnBelow n t
+  column_in n True t below i = absurd (omega (arith, i.1))
+  column_in n False t below i = absurd (omega (arith, i.1))
+  column_in n (Same s u) t below i = elim (first_or_behind s (u ∷ []) t i) [
     | inl e ↦ subst (IsColumnBelow n) e below.0
-    | inr b ↦ elim (first_or_behind t [] (term.Column k) b) [ inl e ↦ subst (IsColumnBelow n) e below.1 | inr i ↦ absurd (omega (arith, i.1)) ]
+    | inr r ↦ elim (first_or_behind u [] t r) [ inl e ↦ subst (IsColumnBelow n) e below.1 | inr z ↦ absurd (omega (arith, z.1)) ]
   ]
-  below_among n (Not c) k below h = below_among n c k below h
-  below_among n (And cs) k below h = below_among_all n cs k below h
-  below_among n (Or cs) k below h = below_among_all n cs k below h
+  column_in n (Not c) t below i = column_in n c t below i
+  column_in n (And cs) t below i = column_in_all n cs t below i
+  column_in n (Or cs) t below i = column_in_all n cs t below i
 
-  below_among_all : (n : ℕ) (cs : Conditions) (k : ℕ) → AreAllColumnsBelow n cs → Contains (all_terms cs) (term.Column k) → k < n
-  below_among_all n none k below h = absurd (omega (arith, h.1))
-  below_among_all n (also c cs) k below h = elim (Contains-append_cases (condition_terms c) (all_terms cs) (term.Column k) h) [
-    | inl a ↦ below_among n c k below.0 a
-    | inr b ↦ below_among_all n cs k below.1 b
+  column_in_all : (n : ℕ) (cs : Conditions) (t : Term) → AreAllColumnsBelow n cs → Contains (all_terms cs) t → IsColumnBelow n t
+  column_in_all n none t below i = absurd (omega (arith, i.1))
+  column_in_all n (also c cs) t below i = elim (Contains-append_cases (condition_terms c) (all_terms cs) t i) [
+    | inl l ↦ column_in n c t below.0 l
+    | inr r ↦ column_in_all n cs t below.1 r
   ]
 
 module _ (words : List ℕ) (formed : IsWellFormed words) where
   -- so is one that stands below the condition at a place
   pub column_below : (n p : ℕ) → IsTrue (is_place_of words class.Cond p) → AreColumnsBelow n (condition_at words p) → (k : ℕ) → TermBelow words p (term.Column k) → k < n
-  column_below n p place below k h = below_among n (condition_at words p) k below (condition_named words formed p (term.Column k) place h)
+  column_below n p place below k h = column_in n (condition_at words p) (term.Column k) below (condition_named words formed p (term.Column k) place h)
 
   -- no column stands below a condition without columns
   pub none_below : (p : ℕ) → IsTrue (is_place_of words class.Cond p) → AreColumnsBelow 0 (condition_at words p) → HasNoColumn words p

@@ -1,15 +1,11 @@
 -- What the keeper interns for its guest.
-use Rattle.std.proofs.Common.{◌≡◌, ℕ, ◌+◌, ◌≤◌, List, [], ◌∷◌, ◌++◌, length, refl, ap, ◌∙◌, arith, length-append}
-use Rattle.std.specs.Prelude.{Some, IsTrue}
-use mathlib.Core.List.{IsPrefix}
-use Rattle.ct_word.specs.declared.kinds.Class.TheVariants as class
-use Rattle.ct_word.specs.WellFormed.{IsWellFormed, is_place_of}
-use Rattle.ct_word.proofs.Prefixes.{place_within, prefix_same, prefix_of_prefix, change_list_in_prefix}
-use Rattle.ct_arena.specs.declared.tally.Tally.{Tally}
-use Rattle.ct_arena.specs.Counts.{commit_of}
-use Rattle.ct_arena.specs.Seen.{Keeping}
+use Rattle.std.{proofs.Common.{◌≡◌, ℕ, ◌+◌, ◌≤◌, List, [], ◌∷◌, ◌++◌, length, refl, ap, ◌∙◌, arith, length-append}, specs.Prelude.{Some, IsTrue}}
+use Rattle.ct_word.{specs.WellFormed.{IsWellFormed, is_place_of}, proofs.Prefixes.{place_within, prefix_same, prefix_of_prefix, change_list_in_prefix}}
+use Rattle.ct_arena.{specs.declared.tally.Tally.Tally, specs.Counts.commit_of, specs.Seen.Keeping}
 use Rattle.ct_condition.proofs.Seating.{left_of, session_left, mine_left, enrolled_left, ended_left, commits_are_left}
 use Rattle.ct_keeper.specs.Steps.{Interns, Appends}
+use mathlib.Core.List.{IsPrefix}
+use Rattle.ct_word.specs.declared.kinds.Class.TheVariants as class
 
 -- a pass and its guest after a call are those that interned
 pub interned : (old new pass : Keeping) (guest guest' tally : Tally) → new ≡ pass → guest' ≡ tally → new.guest ≡ Some guest' → IsPrefix old.words new.words → IsWellFormed new.words

@@ -1,24 +1,16 @@
 -- What an offer is found to be, and the outcome that is told of it.
-use Rattle.std.proofs.Common.{◌≡◌, ◌≢◌, ℕ, List, [], ◌∷◌, true, length, map, take, refl, ap, sym, subst, ◌∙◌}
-use Rattle.std.specs.Prelude.{Result, Ok, Err, IsErr}
+use Rattle.std.{proofs.Common.{◌≡◌, ◌≢◌, ℕ, List, [], ◌∷◌, true, length, map, take, refl, ap, sym, subst, ◌∙◌}, specs.Prelude.{Result, Ok, Err, IsErr}}
 use Rattle.std.proofs.lemmas.Bool.{false≢true}
-use Rattle.ct_word.specs.Change.{PlainChange, PlainCommit}
-use Rattle.ct_word.specs.Reading.{commits_of}
+use Rattle.ct_word.{specs.Change.{PlainChange, PlainCommit}, specs.Reading.commits_of}
 use Rattle.ct_query.specs.Reads.{last}
 use Rattle.ct_arena.specs.Seen.{Seen}
-use Rattle.ct_keeper.specs.declared.catalogue.Offer.{Offer}
-use Rattle.ct_keeper.specs.declared.catalogue.Outcome.{Outcome}
+use Rattle.ct_keeper.{specs.declared.catalogue.Offer.Offer, specs.declared.catalogue.Outcome.Outcome, specs.declared.error.KeeperError.KeeperError}
+use Rattle.ct_keeper.{specs.declared.verdict.Verdict.Verdict, specs.Catalogue.Catalogue, specs.Conflicting.{told, told_or, IsConflictAfter}}
+use Rattle.ct_keeper.{specs.Faults.is_full, specs.Offers.{changes_in, IsUnchanged, IsUncommitted, BecomesOf}}
+use Rattle.ct_history.{specs.declared.written.Written.Written, specs.Written.plain_written}
 use Rattle.ct_keeper.specs.declared.catalogue.Outcome.TheVariants as outcome
-use Rattle.ct_history.specs.declared.written.Written.{Written}
-use Rattle.ct_history.specs.Written.{plain_written}
-use Rattle.ct_keeper.specs.declared.error.KeeperError.{KeeperError}
 use Rattle.ct_keeper.specs.declared.error.KeeperError.TheVariants as fault
-use Rattle.ct_keeper.specs.declared.verdict.Verdict.{Verdict}
 use Rattle.ct_keeper.specs.declared.verdict.Verdict.TheVariants as verdict
-use Rattle.ct_keeper.specs.Catalogue.{Catalogue}
-use Rattle.ct_keeper.specs.Conflicting.{told, told_or, IsConflictAfter}
-use Rattle.ct_keeper.specs.Faults.{is_full}
-use Rattle.ct_keeper.specs.Offers.{changes_in, IsUnchanged, IsUncommitted, BecomesOf}
 
 -- changes that are some stand for some
 pub some_changes : (words : List ℕ) (changes : List Written) (xs : List PlainChange) → map (plain_written words) changes ≡ xs → changes ≢ [] → xs ≢ []
@@ -38,9 +30,8 @@ module _ (cap : ℕ) (old new : Catalogue) (pass pass' : Seen) (offer : Offer) w
   -- a conflict is one
   pub conflict_becomes : (v : Verdict) → IsConflictAfter (commits_of old.words) offer.base offer.reads v → IsUncommitted old new pass pass' → changes_in pass.words offer ≢ []
       → BecomesOf cap old new pass pass' offer (Ok (told (commits_of old.words) offer.base v))
-  conflict_becomes (verdict.Committed m) is none some = absurd is
-  conflict_becomes verdict.Nothing is none some = absurd is
   conflict_becomes (verdict.Conflict table now at) is none some = (none, some, is)
+  conflict_becomes _ is none some = absurd is
 
   -- neither is a refusal a commit
   pub refusal_becomes : (h : List PlainCommit) (base : ℕ) (r : Result Verdict KeeperError) → IsErr r → IsUncommitted old new pass pass' → changes_in pass.words offer ≢ [] → IsUnchanged old.words offer
@@ -52,8 +43,6 @@ module _ (cap : ℕ) (old new : Catalogue) (pass pass' : Seen) (offer : Offer) w
   -- what is told by the words after it is what is told by those before
   pub told_later : (words : List ℕ) → words ≡ new.words → (v : Result Verdict KeeperError) → BecomesOf cap old new pass pass' offer (told_or (commits_of old.words) offer.base v)
       → BecomesOf cap old new pass pass' offer (told_or (commits_of words) offer.base v)
-  told_later words are (Ok (verdict.Committed m)) b = b
-  told_later words are (Ok verdict.Nothing) b = b
   told_later words are (Ok (verdict.Conflict table now at)) b =
       subst (λ h. BecomesOf cap old new pass pass' offer (Ok (outcome.Conflict table (last (take offer.base h) table) now at))) (sym (ap commits_of are ∙ b.0.stays.commits)) b
-  told_later words are (Err e) b = b
+  told_later words are _ b = b

@@ -1,36 +1,21 @@
 -- A commit in the making: what its changes so far make, and one more of them.
 use Rattle.std.proofs.Common.{◌≡◌, ℕ, ◌+◌, ◌<◌, ◌≤◌, suc, List, [], ◌∷◌, ◌++◌, length, map, take, drop, get_or, refl, ap, sym, subst, ◌∙◌, take_all, drop-cons, add-one, zero, arith}
-use Rattle.std.proofs.lemmas.Bool.{and_parts}
-use Rattle.std.proofs.lemmas.List.{map_more, map-append, take-append-drop}
-use Rattle.std.proofs.lemmas.List.Sums.{sum_by-append, sum_by_push}
-use Rattle.std.specs.Prelude.{IsTrue, All, filter_map, sum_by}
-use Rattle.std.specs.List.{list_all}
+use Rattle.std.{proofs.lemmas.Bool.and_parts, proofs.lemmas.List.{map_more, map-append, take-append-drop}, proofs.lemmas.List.Sums.{sum_by-append, sum_by_push}}
+use Rattle.std.{specs.Prelude.{IsTrue, All, filter_map, sum_by}, specs.List.list_all}
+use Rattle.ct_word.{specs.Change.{PlainChange, PlainCommit}, specs.Reading.commits_of, specs.WellFormed.{IsWellFormed, is_place_of}, specs.Writable.is_writable}
+use Rattle.ct_word.proofs.Prefixes.{prefix_same}
+use Rattle.ct_query.{specs.Schema.{schema, created_by_change}, specs.Fits.{FitsChange, FitChanges, FitAfter}}
+use Rattle.ct_history.{specs.declared.written.Written.Written, specs.Written.{IsWritten, plain_written}}
+use Rattle.ct_table.{specs.Denotes.{heading_of, Denotes}, specs.Snapshot.IsGlobal, proofs.Changing.denotes_grows, proofs.Snapshots.global_grows}
+use Rattle.ct_table.{proofs.Carrying.{same_changes_denote, same_changes_global}, proofs.Following.change_follows}
+use Rattle.ct_operators.specs.Tables.{AreRows}
+use Rattle.ct_condition.proofs.Reached.{formed_before}
+use Rattle.ct_keeper.{specs.declared.latest.Content.Content, specs.Bounds.{applied_words, commit_by, counts_with, first_words, all_words}}
+use Rattle.ct_keeper.{specs.Effects.effect_words, specs.Steps.{IsMade, IsAfter, CanApply}, proofs.Doing.{tables_denote, global_holds}}
+use Rattle.ct_keeper.proofs.Walking.{tables_formed, written_later, written_same, no_change_yet, one_change_more}
+use Rattle.ct_keeper.proofs.Weighing.{part_of_more, effect_within}
 use mathlib.Core.List.{IsPrefix}
 use Rattle.ct_word.specs.declared.kinds.Class.TheVariants as class
-use Rattle.ct_word.specs.Change.{PlainChange, PlainCommit}
-use Rattle.ct_word.specs.Reading.{commits_of}
-use Rattle.ct_word.specs.WellFormed.{IsWellFormed, is_place_of}
-use Rattle.ct_word.specs.Writable.{is_writable}
-use Rattle.ct_word.proofs.Prefixes.{prefix_same}
-use Rattle.ct_query.specs.Schema.{schema, created_by_change}
-use Rattle.ct_query.specs.Fits.{FitsChange, FitChanges, FitAfter}
-use Rattle.ct_history.specs.declared.written.Written.{Written}
-use Rattle.ct_history.specs.Written.{IsWritten, plain_written}
-use Rattle.ct_table.specs.Denotes.{heading_of, Denotes}
-use Rattle.ct_operators.specs.Tables.{AreRows}
-use Rattle.ct_table.specs.Snapshot.{IsGlobal}
-use Rattle.ct_condition.proofs.Reached.{formed_before}
-use Rattle.ct_table.proofs.Changing.{denotes_grows}
-use Rattle.ct_table.proofs.Snapshots.{global_grows}
-use Rattle.ct_table.proofs.Carrying.{same_changes_denote, same_changes_global}
-use Rattle.ct_table.proofs.Following.{change_follows}
-use Rattle.ct_keeper.specs.declared.latest.Content.{Content}
-use Rattle.ct_keeper.specs.Bounds.{applied_words, commit_by, counts_with, first_words, all_words}
-use Rattle.ct_keeper.specs.Effects.{effect_words}
-use Rattle.ct_keeper.specs.Steps.{IsMade, IsAfter, CanApply}
-use Rattle.ct_keeper.proofs.Walking.{tables_formed, written_later, written_same, no_change_yet, one_change_more}
-use Rattle.ct_keeper.proofs.Doing.{tables_denote, global_holds}
-use Rattle.ct_keeper.proofs.Weighing.{part_of_more, effect_within}
 
 -- further changes fit the tables after a history and a commit of these changes
 abbrev pub FitsNext : List PlainCommit → List PlainChange → List PlainChange → Type 0

@@ -1,17 +1,12 @@
 -- The names of the tables that changes write.
-use Rattle.std.proofs.Common.{◌≡◌, ℕ, Bool, ◌||◌, List, [], ◌∷◌, ◌++◌, map, refl, ap, sym, ◌∙◌}
-use Rattle.std.specs.List.{list_any}
-use Rattle.std.proofs.lemmas.List.{map-append}
+use Rattle.std.{proofs.Common.{◌≡◌, ℕ, Bool, ◌||◌, List, [], ◌∷◌, ◌++◌, map, refl, ap, sym, ◌∙◌}, specs.List.list_any, proofs.lemmas.List.map-append}
 use Rattle.std.proofs.lemmas.List.Folds.{list_any-append}
 use Rattle.ct_word.specs.Value.{same_text}
-use Rattle.ct_query.specs.Reads.{writes}
-use Rattle.ct_query.specs.declared.action.Read.{Read}
+use Rattle.ct_query.{specs.Reads.writes, specs.declared.action.Read.Read}
+use Rattle.ct_history.{specs.declared.written.Written.Written, specs.Written.plain_written}
+use Rattle.ct_keeper.{specs.Steps.is_assertion, specs.Writers.{is_written, names_in}}
 use Rattle.ct_query.specs.declared.action.Read.TheVariants as read
-use Rattle.ct_history.specs.declared.written.Written.{Written}
 use Rattle.ct_history.specs.declared.written.Written.TheVariants as written
-use Rattle.ct_history.specs.Written.{plain_written}
-use Rattle.ct_keeper.specs.Steps.{is_assertion}
-use Rattle.ct_keeper.specs.Writers.{is_written, names_in}
 
 module _ (words t : List ℕ) where
   abbrev pub is_named : List (List ℕ) → Bool
@@ -22,9 +17,7 @@ module _ (words t : List ℕ) where
 
   named : (w : Written) → is_named (names_in w) ≡ is_changed (w ∷ [])
   named (written.Create name columns) = refl
-  named (written.Insert name rows) = refl
-  named (written.Delete name cond) = refl
-  named (written.Assert cond) = refl
+  named _ = refl
 
   changed_more : (front ws : List Written) → is_changed (front ++ ws) ≡ (is_changed front || is_changed ws)
   changed_more front ws = ap (list_any (λ x. writes x (read.Table t))) (map-append (plain_written words) front ws) ∙ list_any-append (λ x. writes x (read.Table t)) (map (plain_written words) front) (map (plain_written words) ws)
@@ -40,10 +33,8 @@ asserted_same words [] = refl
 asserted_same words (w ∷ ws) = by_first w (asserted_same words ws) where
   by_first : (w : Written) → list_any (λ x. writes x read.Worlds) (map (plain_written words) ws) ≡ list_any is_assertion ws
       → list_any (λ x. writes x read.Worlds) (map (plain_written words) (w ∷ ws)) ≡ list_any is_assertion (w ∷ ws)
-  by_first (written.Create name columns) e = e
-  by_first (written.Insert name rows) e = e
-  by_first (written.Delete name cond) e = e
   by_first (written.Assert cond) e = refl
+  by_first _ e = e
 
 -- names and assertions of changes tell what they write
 pub told_by_names : (words : List ℕ) (changes : List Written) (names : List (List ℕ))

@@ -1,24 +1,15 @@
 -- What the keeper's calls promise, for a session that first read on: its offer, what became of it, and the words for it.
-use Rattle.std.proofs.Common.{◌≡◌, ◌≢◌, ℕ, ◌≤◌, List, [], ◌∷◌, ◌++◌, length, ap, sym, subst, ◌∙◌, arith}
-use Rattle.std.specs.Prelude.{Result, Ok, Err}
-use mathlib.Core.List.{IsPrefix}
-use Rattle.ct_word.specs.Reading.{commits_of}
-use Rattle.ct_word.specs.WellFormed.{IsWellFormed}
-use Rattle.ct_word.proofs.Prefixes.{commits_prefix, prefix_of_prefix}
+use Rattle.std.{proofs.Common.{◌≡◌, ◌≢◌, ℕ, ◌+◌, ◌≤◌, List, [], ◌∷◌, ◌++◌, length, ap, sym, subst, ◌∙◌, arith}, specs.Prelude.{Result, Ok, Err}}
+use Rattle.ct_word.{specs.Reading.commits_of, specs.WellFormed.IsWellFormed, proofs.Prefixes.{commits_prefix, prefix_of_prefix}}
 use Rattle.ct_query.specs.Patterns.{count}
 use Rattle.ct_arena.specs.Seen.{Seen, tally_of, pass_of}
-use Rattle.ct_keeper.specs.declared.catalogue.Offer.{Offer}
-use Rattle.ct_keeper.specs.declared.catalogue.Outcome.{Outcome}
-use Rattle.ct_keeper.specs.declared.catalogue.Outcome.TheVariants as outcome
-use Rattle.ct_keeper.specs.declared.error.KeeperError.{KeeperError}
-use Rattle.ct_keeper.specs.declared.error.KeeperError.TheVariants as fault
-use Rattle.ct_keeper.specs.Bounds.{commit_words, offer_words}
-use Rattle.ct_keeper.specs.Catalogue.{Catalogue}
+use Rattle.ct_keeper.{specs.declared.catalogue.Offer.Offer, specs.declared.catalogue.Outcome.Outcome, specs.declared.error.KeeperError.KeeperError}
+use Rattle.ct_keeper.{specs.Bounds.{commit_words, offer_words}, specs.Catalogue.Catalogue, specs.Served.{IsLastCommit, IsHeldBack, IsOutcome}}
 use Rattle.ct_keeper.specs.Offers.{changes_in, commit_for, IsOffer, AreUnchanged, IsCommitted, IsUncommitted, IsConflict, BecomesOf}
-use Rattle.ct_keeper.specs.Served.{IsLastCommit, IsHeldBack, IsOutcome}
-use Rattle.ct_keeper.proofs.Counting.{commit_grows}
-use Rattle.ct_keeper.proofs.Entering.{same_list, same_commit}
-use Rattle.ct_keeper.proofs.Interning.{prefix_short}
+use Rattle.ct_keeper.{proofs.Counting.commit_grows, proofs.Entering.{same_list, same_commit}, proofs.Interning.prefix_short}
+use mathlib.Core.List.{IsPrefix}
+use Rattle.ct_keeper.specs.declared.catalogue.Outcome.TheVariants as outcome
+use Rattle.ct_keeper.specs.declared.error.KeeperError.TheVariants as fault
 
 -- a pass that has read on is as it was, but for its words
 pub read_on : (pass now : Seen) → now.session ≡ pass.session → now.made ≡ pass.made → now.mine ≡ pass.mine → now ≡ pass_of (tally_of pass) now.words
@@ -27,10 +18,8 @@ read_on pass now session made mine = λ i. record { session = session i; words =
 -- the keeper's words only grow
 pub keeper_grows : (cap : ℕ) (old new : Catalogue) (pass pass' : Seen) (offer : Offer) (r : Result Outcome KeeperError) → BecomesOf cap old new pass pass' offer r → IsPrefix old.words new.words
 keeper_grows cap old new pass pass' offer (Ok (outcome.Committed m)) b = b.longer
-keeper_grows cap old new pass pass' offer (Ok outcome.Nothing) b = b.0.stays.longer
-keeper_grows cap old new pass pass' offer (Ok (outcome.Conflict table was now at)) b = b.0.stays.longer
-keeper_grows cap old new pass pass' offer (Err fault.Full) b = b.0.stays.longer
 keeper_grows cap old new pass pass' offer (Err fault.Memory) b = b.stays.longer
+keeper_grows cap old new pass pass' offer _ b = b.0.stays.longer
 
 module _ (pass : Seen) (words : List ℕ) (longer : IsPrefix pass.words words) (formed : IsWellFormed words) (offer : Offer) (is : IsOffer pass offer) (old new : Catalogue) (after : Seen)
     (same_words : after.words ≡ new.words) where
@@ -83,3 +72,12 @@ module _ (pass : Seen) (words : List ℕ) (longer : IsPrefix pass.words words) (
       commit_grows (commits_of old.words) (commits_of after.words)
       (subst (IsPrefix (commits_of old.words)) (ap commits_of (sym same_words)) (commits_prefix old.words new.words goes)) (commit_for pass offer) (changes_in pass.words offer) in
       omega (arith, same, grows)
+
+-- so many words are within the bound of an offer, where they are so for the pass that has read on
+pub made_within : (cap : ℕ) (pass now : Seen) → now.session ≡ pass.session → now.made ≡ pass.made → now.mine ≡ pass.mine → IsPrefix pass.words now.words → IsWellFormed now.words
+    → (offer : Offer) → IsOffer pass offer → (old new : Catalogue) (after : Seen) → after.words ≡ new.words → (r : Result Outcome KeeperError) → BecomesOf cap old new now after offer r
+    → (n : ℕ) → n ≤ now.made + offer_words old.words now offer → n ≤ pass.made + offer_words after.words pass offer
+made_within cap pass now session made mine longer formed offer is old new after same_words r b n le =
+    let same = ap (λ p. offer_words old.words p offer) (read_on pass now session made mine) in
+    let are = words_are pass now.words longer formed offer is old new after same_words (keeper_grows cap old new now after offer r b) in
+    omega (arith, same, are, made, le)

@@ -1,16 +1,10 @@
 -- What stands after all commits is so after further words too.
-use Rattle.std.proofs.Common.{◌≡◌, ℕ, List, length, ap, sym, ◌∙◌}
-use Rattle.std.specs.Arc.{arc_value}
-use mathlib.Core.List.{IsPrefix}
-use Rattle.ct_word.specs.Reading.{commits_of}
-use Rattle.ct_word.specs.WellFormed.{IsWellFormed}
+use Rattle.std.{proofs.Common.{◌≡◌, ℕ, List, length, ap, sym, ◌∙◌}, specs.Arc.arc_value}
+use Rattle.ct_word.{specs.Reading.commits_of, specs.WellFormed.IsWellFormed}
 use Rattle.ct_table.proofs.Snapshots.{snapshot_grows}
-use Rattle.ct_keeper.specs.declared.latest.Latest.{Latest}
-use Rattle.ct_query.specs.Reads.{last}
-use Rattle.ct_query.specs.declared.action.Read.{Read}
-use Rattle.ct_keeper.specs.Latest.{IsLatest}
-use Rattle.ct_keeper.specs.Writers.{last_in}
-use Rattle.ct_keeper.specs.declared.writers.Writers.{Writers}
+use Rattle.ct_keeper.{specs.declared.latest.Latest.Latest, specs.Latest.IsLatest, specs.Writers.last_in, specs.declared.writers.Writers.Writers}
+use Rattle.ct_query.{specs.Reads.last, specs.declared.action.Read.Read}
+use mathlib.Core.List.{IsPrefix}
 
 pub still : (old new : List ℕ) (l : Latest) → IsLatest old l → IsPrefix old new → IsWellFormed new → commits_of new ≡ commits_of old → IsLatest new l
 still old new l is longer formed commits = record {

@@ -1,19 +1,17 @@
 -- Which commit was the last to write what is read, and the first of the reads that one after a base has written.
-use Rattle.std.proofs.Common.{◌≡◌, ℕ, zero, suc, ◌+◌, ◌<◌, ◌≤◌, Bool, true, false, List, [], ◌∷◌, ◌++◌, length, take, drop, get_or, ap, sym, subst, ◌∙◌, arith, drop-cons}
-use Rattle.std.proofs.lemmas.List.{take_more, take-append-drop}
-use Rattle.std.proofs.lemmas.List.Elements.{All-push}
+use Rattle.std.proofs.Common.{◌≡◌, ℕ, zero, suc, ◌+◌, ◌<◌, ◌≤◌, Bool, false, List, [], ◌∷◌, ◌++◌, length, take, drop, get_or, ap, sym, subst, ◌∙◌, arith, drop-cons}
+use Rattle.std.{proofs.lemmas.List.{take_more, take-append-drop}, proofs.lemmas.List.Elements.All-push}
 use Rattle.ct_word.specs.Change.{PlainCommit}
-use Rattle.ct_query.specs.declared.action.Read.{Read}
-use Rattle.ct_query.specs.Reads.{commit_writes, one_earlier, last}
+use Rattle.ct_query.{specs.declared.action.Read.Read, specs.Reads.{commit_writes, one_earlier, last}}
 use Rattle.ct_keeper.specs.Offers.{AreUnchanged, IsFirstWritten}
 
-last_within : (h : List PlainCommit) (r : Read) → last h r ≤ length h
+-- no commit after the last writes
+pub last_within : (h : List PlainCommit) (r : Read) → last h r ≤ length h
 last_within [] r = omega arith
 last_within (c ∷ h) r = by_last (last h r) (commit_writes c r) (last_within h r) where
   by_last : (m : ℕ) (b : Bool) → m ≤ length h → one_earlier m b ≤ suc (length h)
   by_last zero false l = omega arith
-  by_last zero true l = omega arith
-  by_last (suc m) b l = omega arith
+  by_last _ _ l = omega arith
 
 -- nothing is changed after a base that has all commits
 pub all_unchanged : (h : List PlainCommit) (base : ℕ) (reads : List Read) → length h ≤ base → AreUnchanged h base reads

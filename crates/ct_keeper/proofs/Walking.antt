@@ -1,32 +1,17 @@
 -- What carries over as the changes of a list are taken one after another, and words are added.
-use Rattle.std.proofs.Common.{◌≡◌, ℕ, List, [], ◌∷◌, ◌++◌, length, map, refl, ap, sym, ◌∙◌}
-use Rattle.std.specs.Prelude.{All, IsTrue}
-use Rattle.std.specs.Option.{option_to_list}
-use Rattle.std.proofs.lemmas.List.{append-nil, append_assoc, map_push}
-use Rattle.std.proofs.lemmas.List.Elements.{All-head, All-tail, All-weaker}
+use Rattle.std.{proofs.Common.{◌≡◌, ℕ, List, [], ◌∷◌, ◌++◌, length, map, refl, ap, sym, ◌∙◌}, specs.Prelude.{All, IsTrue}, specs.Option.option_to_list}
+use Rattle.std.{proofs.lemmas.List.{append-nil, append_assoc, map_push}, proofs.lemmas.List.Elements.{All-head, All-tail, All-weaker}}
+use Rattle.ct_word.{specs.declared.values.CRow.CRow, specs.Change.{PlainChange, Insert, Delete, Assert, PlainCommit}, specs.Reading.plain_crow}
+use Rattle.ct_word.{specs.WellFormed.is_place_of, proofs.Prefixes.{place_within, place_in_prefix, condition_in_prefix}}
+use Rattle.ct_query.{specs.Plain.PlainAction, specs.Schema.created_by_change, specs.Worlds.changes_of, proofs.Laws.changes_of-snoc}
+use Rattle.ct_history.{specs.declared.written.Written.Written, specs.Rows.IsRowOf, specs.Written.{IsWritten, plain_written}}
+use Rattle.ct_table.{specs.Denotes.{TableView, IsKept, Denotes, heading_of, find_table}, proofs.Denoting.headings_stay}
+use Rattle.ct_operators.{specs.Tables.AreRows, proofs.Growing.terms_grow}
+use Rattle.ct_keeper.{specs.declared.effects.Effect.Effect, specs.Effects.{DoesChange, Gets, new_table, tables_after}, proofs.Doing.with_found}
 use mathlib.Core.List.{IsPrefix}
 use Rattle.ct_word.specs.declared.kinds.Class.TheVariants as class
-use Rattle.ct_word.specs.declared.values.CRow.{CRow}
-use Rattle.ct_word.specs.Change.{PlainChange, Insert, Delete, Assert, PlainCommit}
-use Rattle.ct_word.specs.Reading.{plain_crow}
-use Rattle.ct_word.specs.WellFormed.{is_place_of}
-use Rattle.ct_word.proofs.Prefixes.{place_within, place_in_prefix, condition_in_prefix}
-use Rattle.ct_query.specs.Plain.{PlainAction}
-use Rattle.ct_query.specs.Schema.{created_by_change}
-use Rattle.ct_query.specs.Worlds.{changes_of}
-use Rattle.ct_query.proofs.Laws.{changes_of-snoc}
-use Rattle.ct_history.specs.declared.written.Written.{Written}
 use Rattle.ct_history.specs.declared.written.Written.TheVariants as written
-use Rattle.ct_history.specs.Rows.{IsRowOf}
-use Rattle.ct_history.specs.Written.{IsWritten, plain_written}
-use Rattle.ct_table.specs.Denotes.{TableView, IsKept, Denotes, heading_of, find_table}
-use Rattle.ct_operators.specs.Tables.{AreRows}
-use Rattle.ct_table.proofs.Denoting.{headings_stay}
-use Rattle.ct_operators.proofs.Growing.{terms_grow}
-use Rattle.ct_keeper.specs.declared.effects.Effect.{Effect}
 use Rattle.ct_keeper.specs.declared.effects.Effect.TheVariants as effect
-use Rattle.ct_keeper.specs.Effects.{DoesChange, Gets, new_table, tables_after}
-use Rattle.ct_keeper.proofs.Doing.{with_found}
 
 module _ (old new : List ℕ) (longer : IsPrefix old new) where
   row_later : (r : CRow) → IsRowOf old r → IsRowOf new r
@@ -85,10 +70,7 @@ headings_after old new db global w e does = by_case w e does where
   by_case (written.Insert name rs) (effect.Grows growth) does = other_rows (tables_after db (effect.Grows growth)) name _ does
   by_case (written.Delete name cond) (effect.Grows growth) does = other_rows (tables_after db (effect.Grows growth)) name _ does
   by_case (written.Assert cond) (effect.Narrows place) does = sym (append-nil (map heading_of db))
-  by_case (written.Create name columns) (effect.Narrows place) does = absurd does
-  by_case (written.Insert name rs) (effect.Narrows place) does = absurd does
-  by_case (written.Delete name cond) (effect.Narrows place) does = absurd does
-  by_case (written.Assert cond) (effect.Grows growth) does = absurd does
+  by_case _ _ does = absurd does
 
 -- a commit in the making that has no change yet
 pub no_change_yet : (h : List PlainCommit) (c : PlainCommit) → c.changes ≡ [] → changes_of (h ++ c ∷ []) ≡ changes_of h

@@ -1,39 +1,18 @@
 -- What an effect makes, at most, from the counts of the rows that were ever inserted.
-use Rattle.std.proofs.Common.{◌≡◌, ◌≢◌, ℕ, ◌+◌, ◌≤◌, List, [], ◌∷◌, ◌++◌, map, refl, ap, sym, subst, ◌∙◌, arith}
-use Rattle.std.specs.Prelude.{Option, Some, None, Err, sum_by}
-use Rattle.std.proofs.lemmas.List.{append-nil, append_assoc, length-map}
+use Rattle.std.{proofs.Common.{◌≡◌, ◌≢◌, ℕ, ◌+◌, ◌≤◌, List, [], ◌∷◌, ◌++◌, map, refl, ap, sym, subst, ◌∙◌, arith}, proofs.lemmas.Nat.mul-le}
+use Rattle.std.{specs.Prelude.{Option, Some, None, sum_by}, proofs.lemmas.List.{append-nil, append_assoc, length-map}}
 use Rattle.std.proofs.lemmas.List.Elements.{recursion_from_All}
-use Rattle.std.proofs.lemmas.Nat.{mul-le}
-use Rattle.ct_word.specs.declared.values.CRow.{CRow}
-use Rattle.ct_word.specs.declared.values.Term.{Term}
-use Rattle.ct_word.specs.Sublist.{IsSublist}
-use Rattle.ct_word.specs.Change.{PlainChange, Create, Insert, Delete, Assert, PlainCommit}
+use Rattle.ct_word.{specs.declared.values.CRow.CRow, specs.declared.values.Term.Term, specs.Sublist.IsSublist, specs.Change.{PlainChange, Delete, PlainCommit}}
 use Rattle.ct_word.specs.Reading.{commits_of, change_list_at, term_at}
-use Rattle.ct_query.specs.Bounds.{ops}
-use Rattle.ct_query.specs.Patterns.{no_patterns, pattern_changes, patterns, distinct_count, count}
-use Rattle.ct_query.proofs.Laws.{changes_of-snoc}
+use Rattle.ct_query.{specs.Bounds.ops, specs.Patterns.{no_patterns, pattern_changes, patterns, distinct_count, count}, proofs.Laws.changes_of-snoc}
 use Rattle.ct_query.proofs.Sublists.{all_of, sublist_of_sublist}
-use Rattle.ct_arena.specs.declared.tally.Tally.{Tally}
-use Rattle.ct_arena.specs.Counts.{commit_of}
-use Rattle.ct_arena.specs.Seen.{pass_of}
-use Rattle.ct_condition.specs.Writes.{charge}
-use Rattle.ct_history.specs.declared.written.Written.{Written}
-use Rattle.ct_history.specs.Written.{plain_written}
-use Rattle.ct_operators.specs.declared.error.TableError.{TableError}
-use Rattle.ct_operators.specs.declared.error.TableError.TheVariants as table
-use Rattle.ct_operators.specs.Refusals as refusals
-use Rattle.ct_table.specs.Denotes.{TableView, IsKept, AreWorth, find_table}
+use Rattle.ct_arena.{specs.declared.tally.Tally.Tally, specs.Counts.commit_of, specs.Seen.pass_of}
+use Rattle.ct_history.{specs.declared.written.Written.Written, specs.Written.plain_written}
 use Rattle.ct_operators.specs.Tables.{cells_of}
-use Rattle.ct_table.proofs.Counted.{rows_counted}
-use Rattle.ct_table.proofs.Denoting.{found_all, found_pattern}
+use Rattle.ct_table.{specs.Denotes.{TableView, IsKept, AreWorth, find_table}, proofs.Counted.rows_counted, proofs.Denoting.{found_all, found_pattern}}
 use Rattle.ct_table.proofs.Following.{change_follows}
-use Rattle.ct_keeper.specs.declared.catalogue.Offer.{Offer}
-use Rattle.ct_keeper.specs.declared.error.KeeperError.{KeeperError}
-use Rattle.ct_keeper.specs.declared.error.KeeperError.TheVariants as fault
+use Rattle.ct_keeper.{specs.declared.catalogue.Offer.Offer, specs.Effects.{rows_found, effect_words}, proofs.Walking.one_change_more}
 use Rattle.ct_keeper.specs.Bounds.{applied_words, commit_words, offer_words, commit_by, counts_with, all_words}
-use Rattle.ct_keeper.specs.Effects.{rows_found, effect_words}
-use Rattle.ct_keeper.specs.Faults.{table_fault, is_full}
-use Rattle.ct_keeper.proofs.Walking.{one_change_more}
 
 -- the patterns after some changes of a commit are parts of those after all of them
 pub part_of_more : (h : List PlainCommit) (done rest : List PlainChange) (n : List ℕ) → IsSublist (patterns (h ++ commit_by done ∷ []) [] n) (patterns (h ++ commit_by (done ++ rest) ∷ []) [] n)
@@ -60,10 +39,8 @@ module _ (words : List ℕ) (g k : List PlainCommit) (db : List TableView) (d : 
 
   -- so an effect makes no more words than are told from the counts
   pub effect_within : (x : PlainChange) → effect_words db x ≤ applied_words (count k []) x
-  effect_within (Create name columns) = omega arith
-  effect_within (Insert name rows) = omega arith
   effect_within (Delete name c) = mul-le (rows_found (find_table db name)) (ops c + 2) (count k [] name) (ops c + 2) (found_within name) (omega arith)
-  effect_within (Assert c) = omega arith
+  effect_within _ = omega arith
 
 -- the counts with a commit are those with its changes
 counts_are : (h : List PlainCommit) (c : PlainCommit) → counts_with h c.changes ≡ count (h ++ c ∷ []) []
@@ -86,10 +63,3 @@ offer_words_are words guest offer changes same some =
     ap (λ ys. 1 + sum_by (applied_words (counts_with h ys)) ys) same
     ∙ ap (λ f. 1 + sum_by (applied_words f) c.changes) (counts_are h c)
     ∙ sym (some_words (count (h ++ c ∷ []) []) c.changes (subst (λ xs. xs ≢ []) same (mapped_some (plain_written words) changes some)))
-
--- a table's refusal is charged as the keeper's
-pub charged_alike : (T U : Type 0) (x : TableError) (e : KeeperError) → e ≡ table_fault x → charge (is_full {T = U} (Err e)) ≡ charge (refusals.is_full {T = T} (Err x))
-charged_alike T U table.Full fault.Full is = refl
-charged_alike T U table.Memory fault.Memory is = refl
-charged_alike T U table.Full fault.Memory is = let bad : fault.Memory ≡ fault.Full = is in cc
-charged_alike T U table.Memory fault.Full is = let bad : fault.Full ≡ fault.Memory = is in cc

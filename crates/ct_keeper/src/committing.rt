@@ -197,7 +197,7 @@ fn grow<N: Site>(
 ///
 /// # Errors
 /// `Full` where the log has no room for a condition or for the commit word, `Memory`.
-pub fn commit_one<N: Site>(
+fn commit_one<N: Site>(
     alloc: Global,
     arena: &Arena<N>,
     keeper: &mut KeeperPass<N>,
@@ -233,7 +233,7 @@ pub fn commit_one<N: Site>(
     }
 }
 
-/// Commits the changes of a list.
+/// Commits the changes of a list: one on the list of the tables that is there, several on a copy of it.
 ///
 /// # Errors
 /// `Full` where the log has no room for a condition or for the commit word, `Memory`.
@@ -257,6 +257,9 @@ pub fn commit_all<N: Site>(
     ensures full { is_full result ≡ true → length keeper.new.words ≡ N.log.cap }
     ensures words { guest.new.made + charge (is_full result) ≤ guest.old.made + (1 + all_words keeper.old.words changes.now) }
 {
+    if let [change] = changes {
+        return commit_one(alloc, arena, keeper, guest, content, change, list);
+    }
     let made = applied_all(alloc, arena, keeper, guest, content, changes)?;
     append(arena, keeper, guest, list)?;
     *content = made;

@@ -1,11 +1,9 @@
 // What becomes of an offer.
 
-ghost use Rattle.std.specs.Prelude.{◌≡◌, ◌<◌, ◌≤◌, ◌+◌, ◌^◌, true, if◌then◌else◌, length, map, All, IfOk, OnOk, OnErr, IsTrue, Some};
+ghost use Rattle.std.specs.Prelude.{◌≡◌, ◌<◌, ◌≤◌, ◌+◌, ◌^◌, true, if◌then◌else◌, length, map, All, IfOk, OnOk, OnErr, Some};
 ghost use Rattle.std.specs.List.{list_any};
 ghost use mathlib.Core.List.{IsPrefix};
-ghost use Rattle.ct_word.specs.declared.kinds.Class.TheVariants as class;
 ghost use Rattle.ct_word.specs.Reading.{commits_of, change_list_at};
-ghost use Rattle.ct_word.specs.WellFormed.{is_place_of};
 ghost use Rattle.ct_arena.specs.Seen.{pass_of};
 ghost use Rattle.ct_condition.specs.Writes.{charge};
 ghost use Rattle.ct_history.specs.Written.{IsWritten, plain_written};
@@ -17,14 +15,14 @@ ghost use Rattle.ct_keeper.specs.Conflicting.{told_or};
 ghost use Rattle.ct_keeper.specs.Faults.{is_full};
 ghost use Rattle.ct_keeper.specs.Latest.{IsLatest, catalogue_of};
 ghost use Rattle.ct_keeper.specs.Offers.{IsOffer, IsUnchanged, BecomesOf};
-ghost use Rattle.ct_keeper.specs.Steps.{Interns, Appends, IsMade, CanApply, is_assertion};
+ghost use Rattle.ct_keeper.specs.Steps.{Interns, Appends, is_assertion};
 ghost use Rattle.ct_keeper.specs.Writers.{is_written};
 
 use crate::catalogue::Offer;
-use crate::committing::{commit_all, commit_one};
+use crate::committing::commit_all;
 use crate::conflicts::conflict_of;
 use crate::error::KeeperError;
-use crate::latest::{Content, Latest};
+use crate::latest::Latest;
 use crate::verdict::Verdict;
 use crate::writers::{asserts, written_names};
 use ct_arena::{Arena, Guest, KeeperPass, Site};
@@ -70,36 +68,6 @@ fn next_kept(
     }
 }
 
-/// Commits the changes of a list.
-///
-/// # Errors
-/// `Full` where the log has no room for a condition or for the commit word, `Memory`.
-fn commit_list<N: Site>(
-    alloc: Global,
-    arena: &Arena<N>,
-    keeper: &mut KeeperPass<N>,
-    guest: &mut Guest<N>,
-    content: &mut Content,
-    changes: &[Written],
-    list: u32,
-) -> Result<(), KeeperError>
-    requires guest { keeper.old.guest ≡ Some guest.old }
-    requires few { guest.old.mine < 2 ^ 18 }
-    requires place { IsTrue (is_place_of keeper.old.words class.ChangeList list) }
-    requires can { CanApply keeper.old.words content.old changes.now }
-    ensures appends { OnOk result (Appends list keeper.old guest.old keeper.new guest.new) }
-    ensures made { OnOk result (IsMade keeper.new.words (commits_of keeper.old.words) (map (plain_written keeper.old.words) changes.now) content.new) }
-    ensures interns { OnErr result (Interns keeper.old guest.old keeper.new guest.new) }
-    ensures same { OnErr result (content.new ≡ content.old) }
-    ensures full { is_full result ≡ true → length keeper.new.words ≡ N.log.cap }
-    ensures words { guest.new.made + charge (is_full result) ≤ guest.old.made + (1 + all_words keeper.old.words changes.now) }
-{
-    match changes {
-        [change] => commit_one(alloc, arena, keeper, guest, content, change, list),
-        _ => commit_all(alloc, arena, keeper, guest, content, changes, list),
-    }
-}
-
 /// Commits an offer of which no read has changed, and notes it for the tables that it changes, whose names these are.
 ///
 /// # Errors
@@ -134,7 +102,7 @@ fn commit_offer<N: Site>(
     let _ = keeper.words();
     let kept = next_kept(alloc, &latest.kept, &offer.kept, changes)?;
     let content = &mut latest.content;
-    commit_list(alloc, arena, keeper, guest, content, changes, offer.changes)?;
+    commit_all(alloc, arena, keeper, guest, content, changes, offer.changes)?;
     latest.kept = kept;
     latest.version += 1;
     latest.writers.note(names, asserts(changes), latest.version);

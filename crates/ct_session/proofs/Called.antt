@@ -1,29 +1,20 @@
 -- What a commit of a session is in all words that follow, and in each history that stands for them.
 use Rattle.std.proofs.Common.{◌≡◌, ℕ, ◌+◌, ◌-◌, ◌<◌, ◌≤◌, List, [], ◌∷◌, ◌++◌, length, take, refl, ap, sym, subst, ◌∙◌, arith, length-append}
-use Rattle.std.specs.Prelude.{Some, slice_get}
-use Rattle.std.specs.List.{range_with_len}
-use Rattle.std.proofs.lemmas.List.{take_all, take-append-le}
-use mathlib.Core.List.{IsPrefix}
-use Rattle.ct_word.specs.Change.{PlainCommit}
-use Rattle.ct_word.specs.Reading.{commits_of}
-use Rattle.ct_word.specs.StandsFor.{StandsFor}
+use Rattle.std.{specs.Prelude.{Option, Some, option_map, slice_get}, specs.List.range_with_len, proofs.lemmas.List.{take_all, take-append-le}}
+use Rattle.ct_word.{specs.Change.PlainCommit, specs.Reading.commits_of, specs.StandsFor.StandsFor}
 use Rattle.ct_word.proofs.Prefixes.{commits_prefix, get_in_prefix, prefix_of_prefix}
-use Rattle.ct_query.specs.Keeping.{Keeps, KeepsThroughout}
-use Rattle.ct_query.proofs.Keeping.{same_throughout}
-use Rattle.ct_arena.specs.Counts.{AreNumbered, numbers_by}
-use Rattle.ct_arena.specs.Seen.{Seen}
+use Rattle.ct_query.{specs.Keeping.{Keeps, KeepsThroughout}, proofs.Keeping.same_throughout}
+use Rattle.ct_arena.{specs.Counts.{AreNumbered, numbers_by}, specs.Seen.Seen}
 use Rattle.ct_history.specs.Kept.{kept_of}
-use Rattle.ct_keeper.specs.Offers.{commit_for}
-use Rattle.ct_keeper.specs.Served.{IsLastCommit}
-use Rattle.ct_keeper.specs.declared.catalogue.Offer.{Offer}
-use Rattle.ct_session.specs.Answers.{GoesOn, commits_by}
-use Rattle.ct_session.proofs.Counted.{front_and_one}
-use Rattle.ct_session.proofs.Sameness.{StandsAs, commits_back, same_commit}
+use Rattle.ct_keeper.{specs.Offers.commit_for, specs.Served.IsLastCommit, specs.declared.catalogue.Offer.Offer}
+use Rattle.ct_session.{specs.Answers.{Answers, GoesOn, commits_by}, proofs.Counted.front_and_one, proofs.Sameness.{StandsAs, commits_back, same_commit}}
+use Rattle.ct_session.{specs.declared.session.Open.Open, specs.Sessions.{state_of, transaction_of}, specs.State.carried, proofs.Own.own_commits_stay}
+use Rattle.ct_session.{proofs.Going.prefix_short, proofs.Replies.{Proceeds, carried_same, memory_answers}}
+use mathlib.Core.List.{IsPrefix}
+use Rattle.ct_transcript.specs.declared.reply.Reply.TheVariants as reply
+use Rattle.ct_transcript.specs.declared.reply.Refusal.TheVariants as refusal
 
--- a prefix is no longer, and its length takes it
-pub short_front : {A : Type 0} (xs ys : List A) → IsPrefix xs ys → length xs ≤ length ys
-short_front xs ys p = let sum : length (xs ++ p.0) ≡ length ys = ap length p.1 in omega (arith, length-append xs p.0, sum)
-
+-- the length of a prefix takes it
 pub front_taken : {A : Type 0} (n : ℕ) (xs ys : List A) → IsPrefix xs ys → n ≤ length xs → take n ys ≡ take n xs
 front_taken n xs ys p le = ap (take n) (sym p.1) ∙ take-append-le n xs p.0 le
 
@@ -54,6 +45,30 @@ called N start pass pass' first kept numbered known longer same counted room =
       room = room;
     }
 
+-- an offer by which nothing was committed
+module _ (N : ℕ) (start pass pass' : Seen) (k : IsCall N start.words pass pass') (mine : pass'.mine ≡ pass.mine) where
+  uncommitted_longer : IsPrefix start.words pass'.words
+  uncommitted_longer = prefix_of_prefix start.words pass.words pass'.words k.first k.longer
+
+  pub uncommitted_proceeds : Proceeds N pass.session start.words pass'.words
+  uncommitted_proceeds = record {
+    longer = uncommitted_longer;
+    room = k.room;
+    own = own_commits_stay pass.session pass.mine start.words pass'.words uncommitted_longer k.numbered
+        (subst (λ n. AreNumbered n pass.mine pass'.words) k.session (subst (λ n. AreNumbered pass'.session n pass'.words) mine k.counted));
+  }
+
+  pub uncommitted_state : (seen fresh : ℕ) (t : Option Open) → state_of pass seen fresh t ≡ state_of pass' seen fresh t
+  uncommitted_state seen fresh t = λ i. record { session = sym k.session i; seen = seen; fresh = fresh; commits = sym mine i; transaction = option_map transaction_of t }
+
+  -- memory was wanting
+  pub wanting_answers : (seen fresh : ℕ) (t : Option Open) (x : List ℕ)
+      → Answers N (state_of pass seen fresh t) (carried seen (state_of pass' seen fresh t)) start.words pass'.words x (reply.Refused seen refusal.Memory)
+  wanting_answers seen fresh t x =
+      let s = state_of pass seen fresh t in
+      subst (λ q. Answers N s (carried seen q) start.words pass'.words x (reply.Refused seen refusal.Memory)) (uncommitted_state seen fresh t)
+      (subst (λ q. Answers N s q start.words pass'.words x (reply.Refused seen refusal.Memory)) (sym (carried_same s)) (memory_answers N s start.words pass'.words x uncommitted_proceeds))
+
 -- these commits are the first of all words that follow
 module _ (now W : List ℕ) (goes : IsPrefix now W) (H : List PlainCommit) (stands : StandsFor H W) where
   throughout : KeepsThroughout (commits_of W) H
@@ -67,7 +82,7 @@ module _ (now W : List ℕ) (goes : IsPrefix now W) (H : List PlainCommit) (stan
 
   pub within_all : length (commits_of now) ≤ length H
   within_all =
-      let short = short_front (commits_of now) (commits_of W) (commits_prefix now W goes) in
+      let short = prefix_short (commits_of now) (commits_of W) (commits_prefix now W goes) in
       let same = throughout.length in
       omega (arith, short, same)
 
@@ -95,7 +110,7 @@ module _ (N : ℕ) (words : List ℕ) (pass pass' : Seen) (offer : Offer) (m : �
 
   -- the words before are fewer than the log has room for
   pub had_room : length words < N
-  had_room = let short = short_front words pass.words k.first in let grown = is.grown in let room = k.room in omega (arith, short, grown, room)
+  had_room = let short = prefix_short words pass.words k.first in let grown = is.grown in let room = k.room in omega (arith, short, grown, room)
 
   as_many : length (commits_of pass'.words) ≡ length g + 1
   as_many = ap length is.commits ∙ length-append g (c ∷ [])

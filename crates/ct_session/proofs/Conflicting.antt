@@ -1,25 +1,10 @@
 -- A conflict that was found over some words: it is one in all words that follow, and in each history that stands for them.
-use Rattle.std.proofs.Common.{◌≡◌, ℕ, zero, suc, ◌<◌, ◌≤◌, Bool, true, false, List, [], ◌∷◌, length, take, ap, sym, ◌∙◌, arith}
-use Rattle.std.proofs.lemmas.List.{take_all}
-use Rattle.std.proofs.lemmas.List.Elements.{All-weaker}
+use Rattle.std.{proofs.Common.{◌≡◌, ℕ, ◌<◌, ◌≤◌, List, length, take, ap, sym, ◌∙◌, arith}, proofs.lemmas.List.take_all, proofs.lemmas.List.Elements.All-weaker}
+use Rattle.ct_word.{specs.Change.PlainCommit, specs.Reading.commits_of, specs.StandsFor.StandsFor}
+use Rattle.ct_query.{specs.Reads.last, specs.declared.action.Read.Read}
+use Rattle.ct_keeper.{specs.Offers.{IsConflict as MeetsLater}, proofs.Unchanged.last_within}
+use Rattle.ct_session.{specs.LawfulRefusal.IsFirstWritten, proofs.Called.{keeps_to, within_all}}
 use mathlib.Core.List.{IsPrefix}
-use Rattle.ct_word.specs.Change.{PlainCommit}
-use Rattle.ct_word.specs.Reading.{commits_of}
-use Rattle.ct_word.specs.StandsFor.{StandsFor}
-use Rattle.ct_query.specs.Reads.{last, commit_writes, one_earlier}
-use Rattle.ct_query.specs.declared.action.Read.{Read}
-use Rattle.ct_keeper.specs.Offers.{IsConflict as MeetsLater}
-use Rattle.ct_session.specs.LawfulRefusal.{IsFirstWritten}
-use Rattle.ct_session.proofs.Called.{keeps_to, within_all}
-
--- no commit after the last writes
-last_within : (h : List PlainCommit) (r : Read) → last h r ≤ length h
-last_within [] r = omega arith
-last_within (c ∷ h) r = by_last (last h r) (commit_writes c r) (last_within h r) where
-  by_last : (n : ℕ) (b : Bool) → n ≤ length h → one_earlier n b ≤ suc (length h)
-  by_last zero true le = omega arith
-  by_last zero false le = omega arith
-  by_last (suc n) b le = omega (arith, le)
 
 module _ (now : List ℕ) (base : ℕ) (reads : List Read) (table : Read) (was latest at : ℕ) (meets : MeetsLater (commits_of now) base reads table was latest at) where
   pub later_than : base < at

@@ -1,15 +1,11 @@
 -- The commits of one session in a history and at its front, by how many they are.
-use Rattle.std.proofs.Common.{◌≡◌, ℕ, ◌+◌, ◌≤◌, List, [], ◌∷◌, ◌++◌, length, take, drop, ap, sym, ◌∙◌, arith, length-append}
-use Rattle.std.specs.Prelude.{if◌then◌else◌}
-use Rattle.std.specs.List.{range_with_len}
-use Rattle.std.proofs.lemmas.Bool.{eq-eqb}
-use Rattle.std.proofs.lemmas.List.{append-nil, take_all, take-append-drop, take-append-le}
+use Rattle.std.{proofs.Common.{◌≡◌, ℕ, ◌+◌, ◌≤◌, List, [], ◌∷◌, ◌++◌, length, take, drop, ap, sym, ◌∙◌, arith, length-append}, specs.Prelude.if◌then◌else◌}
+use Rattle.std.{specs.List.range_with_len, proofs.lemmas.Bool.eq-eqb, proofs.lemmas.List.{append-nil, take_all, take-append-drop, take-append-le}}
 use Rattle.std.proofs.lemmas.List.FromFn.{length-range_with_len}
-use mathlib.Core.List.{IsPrefix}
 use Rattle.ct_word.specs.Change.{PlainCommit}
 use Rattle.ct_arena.specs.Counts.{numbers_by}
-use Rattle.ct_session.specs.Answers.{commits_by}
-use Rattle.ct_session.proofs.Own.{numbers_split, commits_split, one_by, none_by}
+use Rattle.ct_session.{specs.Answers.commits_by, proofs.Own.{numbers_split, commits_split, one_by, none_by}}
+use mathlib.Core.List.{IsPrefix}
 
 -- a history whose front has all commits of the session has the same ones
 front_same : (s : ℕ) (front whole : List PlainCommit) → IsPrefix front whole → length (numbers_by s whole) ≡ length (numbers_by s front) → commits_by s 1 whole ≡ commits_by s 1 front

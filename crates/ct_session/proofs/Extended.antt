@@ -1,27 +1,13 @@
 -- The changes of a transaction and what it read, with those of one more action.
-use Rattle.std.proofs.Common.{◌≡◌, Bool, true, false, ◌&&◌, ◌||◌, List, [], ◌∷◌, ◌++◌, refl, ap, sym, subst, ◌∙◌}
-use Rattle.std.specs.Prelude.{Option, Some, None, All, IsTrue, filter_map, if◌then◌else◌}
-use Rattle.std.specs.List.{Contains, cons_option, list_all, list_any}
-use Rattle.std.specs.Option.{option_to_list}
-use Rattle.std.proofs.lemmas.Bool.{false≢true}
-use Rattle.std.proofs.lemmas.List.{append-nil, append_assoc}
-use Rattle.std.proofs.lemmas.List.Concat.{flat_map-append}
+use Rattle.std.{proofs.Common.{◌≡◌, Bool, true, false, ◌&&◌, ◌||◌, List, [], ◌∷◌, ◌++◌, refl, ap, sym, subst, ◌∙◌}, specs.Option.option_to_list}
+use Rattle.std.{specs.Prelude.{Option, Some, None, All, IsTrue, filter_map, if◌then◌else◌}, specs.List.{Contains, cons_option, list_all, list_any}}
+use Rattle.std.{proofs.lemmas.Bool.false≢true, proofs.lemmas.List.{append-nil, append_assoc}, proofs.lemmas.List.Concat.flat_map-append}
 use Rattle.std.proofs.lemmas.List.Elements.{All-nil, All-cons, All-append, All-weaker, Contains-push, Contains-append_left, Contains-append_right, filter_map-append}
-use Rattle.ct_word.specs.Change.{PlainChange, PlainCommit}
-use Rattle.ct_word.specs.Writable.{is_writable}
-use Rattle.ct_word.proofs.Alike.{text_decides}
-use Rattle.ct_query.specs.Plain.{PlainAction}
-use Rattle.ct_query.specs.declared.action.Read.{Read}
+use Rattle.ct_word.{specs.Change.{PlainChange, PlainCommit}, specs.Writable.is_writable, proofs.Alike.text_decides}
+use Rattle.ct_query.{specs.Plain.PlainAction, specs.declared.action.Read.Read, specs.declared.schema.Heading.Heading, specs.Worlds.changes_of}
+use Rattle.ct_query.{specs.Schema.{schema, created_by_change}, specs.Agrees.{Agrees, AgreesAfter, AgreesWith}, specs.Fits.{FitsChange, FitChanges, FitAfter}}
+use Rattle.ct_query.{specs.Reads.{same_read, with_reads, action_reads}, specs.Frame.reads_of_actions, proofs.Laws.changes_of-snoc, proofs.Committed.commit_does}
 use Rattle.ct_query.specs.declared.action.Read.TheVariants as read
-use Rattle.ct_query.specs.declared.schema.Heading.{Heading}
-use Rattle.ct_query.specs.Worlds.{changes_of}
-use Rattle.ct_query.specs.Schema.{schema, created_by_change}
-use Rattle.ct_query.specs.Agrees.{Agrees, AgreesAfter, AgreesWith}
-use Rattle.ct_query.specs.Fits.{FitsChange, FitChanges, FitAfter}
-use Rattle.ct_query.specs.Reads.{same_read, with_reads, action_reads}
-use Rattle.ct_query.specs.Frame.{reads_of_actions}
-use Rattle.ct_query.proofs.Laws.{changes_of-snoc}
-use Rattle.ct_query.proofs.Committed.{commit_does}
 
 -- changes that agree, and one more that agrees after them
 agrees_after_push : (h : List PlainCommit) (before actions : List PlainAction) (xs : List PlainChange) (a : PlainAction) (x : PlainChange) → AgreesAfter h before actions xs
@@ -29,8 +15,7 @@ agrees_after_push : (h : List PlainCommit) (before actions : List PlainAction) (
 agrees_after_push h before [] [] a x f w = (subst (λ l. AgreesWith h l a x) (append-nil before) w, tt)
 agrees_after_push h before (b ∷ actions) (y ∷ xs) a x f w =
     (f.0, agrees_after_push h (before ++ b ∷ []) actions xs a x f.1 (subst (λ l. AgreesWith h l a x) (sym (append_assoc before (b ∷ []) actions)) w))
-agrees_after_push h before [] (y ∷ xs) a x f w = absurd f
-agrees_after_push h before (b ∷ actions) [] a x f w = absurd f
+agrees_after_push h before _ _ a x f w = absurd f
 
 pub agrees_push : (h : List PlainCommit) (actions : List PlainAction) (xs : List PlainChange) (a : PlainAction) (x : PlainChange) → Agrees h actions xs → AgreesWith h actions a x
     → Agrees h (actions ++ a ∷ []) (xs ++ x ∷ [])
@@ -75,9 +60,8 @@ writable_push (y ∷ xs) x p q = by_test (is_writable y) (list_all is_writable x
 -- reads that are the same are equal
 same_read_is : (r s : Read) → same_read r s ≡ true → r ≡ s
 same_read_is (read.Table a) (read.Table b) e = ap read.Table ((text_decides a b).0 e)
-same_read_is (read.Table a) read.Worlds e = absurd (false≢true e)
-same_read_is read.Worlds (read.Table b) e = absurd (false≢true e)
 same_read_is read.Worlds read.Worlds e = refl
+same_read_is _ _ e = absurd (false≢true e)
 
 first_of_all : (r : Read) (reads : List Read) → Contains (r ∷ reads) r
 first_of_all r reads = Contains-append_left (r ∷ []) reads r (Contains-push [] r)

@@ -1,18 +1,12 @@
 -- What is known of the commits of a version in words, as the words go on: it holds for every history that stands for them.
 use Rattle.std.proofs.Common.{◌≡◌, ℕ, ◌≤◌, List, ◌++◌, length, take, drop, ap, sym, subst, ◌∙◌, arith, length-append}
 use Rattle.std.proofs.lemmas.List.{take-append-drop, take-append-le}
-use mathlib.Core.List.{IsPrefix}
-use Rattle.ct_word.specs.Change.{PlainCommit}
-use Rattle.ct_word.specs.Reading.{commits_of}
-use Rattle.ct_word.specs.StandsFor.{StandsFor}
-use Rattle.ct_word.proofs.Prefixes.{commits_prefix}
-use Rattle.ct_query.specs.Keeping.{Keeps}
-use Rattle.ct_query.specs.Patterns.{count}
-use Rattle.ct_query.specs.Plain.{PlainAction}
-use Rattle.ct_query.proofs.Keeping.{same_throughout}
+use Rattle.ct_word.{specs.Change.PlainCommit, specs.Reading.commits_of, specs.StandsFor.StandsFor, proofs.Prefixes.commits_prefix}
+use Rattle.ct_query.{specs.Keeping.Keeps, specs.Patterns.count, specs.Plain.PlainAction, proofs.Keeping.same_throughout}
 use Rattle.ct_table.specs.Snapshot.{commits_to}
 use Rattle.ct_session.proofs.Sameness.{commits_back}
 use Rattle.ct_statement.proofs.Weights.{count_grows}
+use mathlib.Core.List.{IsPrefix}
 
 -- a prefix is no longer
 pub prefix_short : {A : Type 0} (xs ys : List A) → IsPrefix xs ys → length xs ≤ length ys

@@ -1,63 +1,21 @@
 -- A statement of an open transaction that was refused, answered, or kept until COMMIT.
-use Rattle.std.proofs.Common.{◌≡◌, ℕ, ◌+◌, ◌≤◌, List, [], ◌∷◌, ◌++◌, length, max, refl, sym, subst, ◌∙◌, arith}
-use Rattle.std.specs.Prelude.{Option, Some, None, Ok, sum_by}
-use Rattle.std.specs.Arc.{arc_value}
-use Rattle.std.proofs.lemmas.Bool.{false≢true}
-use Rattle.std.proofs.lemmas.List.{append-nil}
-use Rattle.ct_word.specs.Change.{PlainCommit}
-use Rattle.ct_word.specs.Reading.{commits_of}
-use Rattle.ct_word.specs.StandsFor.{StandsFor}
+use Rattle.std.{proofs.Common.{◌≡◌, ℕ, ◌+◌, ◌≤◌, List, [], ◌∷◌, ◌++◌, length, max, refl, sym, subst, ◌∙◌, arith}, specs.Arc.arc_value}
+use Rattle.std.{specs.Prelude.{Some, None, Ok, sum_by}, proofs.lemmas.Bool.false≢true, proofs.lemmas.List.append-nil}
+use Rattle.ct_word.{specs.Change.PlainCommit, specs.Reading.commits_of, specs.StandsFor.StandsFor}
 use Rattle.ct_arena.specs.Seen.{Seen}
-use Rattle.ct_query.specs.Plain.{PlainStatement}
-use Rattle.ct_query.specs.Plain as plain
-use Rattle.ct_query.specs.declared.action.Read.{Read}
-use Rattle.ct_query.specs.Reads.{reads_of, with_reads}
-use Rattle.ct_query.specs.Schema.{schema}
-use Rattle.ct_query.specs.Views.{action_of}
+use Rattle.ct_query.{specs.declared.action.Read.Read, specs.Reads.with_reads, specs.Views.action_of}
 use Rattle.ct_parse.specs.declared.tree.Statement.{Statement}
-use Rattle.ct_resolve.specs.Statements.{resolved}
-use Rattle.ct_statement.specs.declared.proposing.Proposal.{Proposal}
-use Rattle.ct_statement.specs.declared.replying.Answered.{Answered}
-use Rattle.ct_statement.specs.declared.stepping.Step.{Step}
-use Rattle.ct_statement.specs.Drawing.{drawn}
-use Rattle.ct_statement.specs.Proposals.{listed, kept_after}
-use Rattle.ct_statement.specs.Sight.{actions_before, history_of}
-use Rattle.ct_transcript.specs.declared.reply.Reply.{Reply}
-use Rattle.ct_transcript.specs.declared.reply.Reply.TheVariants as reply
-use Rattle.ct_transcript.specs.declared.reply.Refusal.{Refusal}
-use Rattle.ct_session.specs.declared.session.Open.{Open}
-use Rattle.ct_session.specs.declared.preparing.Prepared.TheVariants as prepared
-use Rattle.ct_session.specs.Answers.{Answers, GoesOn}
-use Rattle.ct_session.specs.Executes.{Executes}
-use Rattle.ct_session.specs.Extending.{having_read}
-use Rattle.ct_session.specs.LawfulReply.{IsPending}
-use Rattle.ct_session.specs.Prepared.{IsChange, IsPrepared, IsPreparedFor, IsRefused}
-use Rattle.ct_session.specs.Replying.{reply_of, standing}
-use Rattle.ct_session.specs.Seeing.{Sees}
-use Rattle.ct_session.specs.Sessions.{IsSession, state_of, transaction_of}
-use Rattle.ct_session.specs.State.{SessionState, carried, extended, extended_by}
-use Rattle.ct_session.specs.Statements.{ReadsAs}
-use Rattle.ct_session.proofs.Going.{onward}
+use Rattle.ct_statement.{specs.declared.proposing.Proposal.Proposal, specs.declared.replying.Answered.Answered, specs.declared.stepping.Step.Step}
+use Rattle.ct_statement.{specs.Drawing.drawn, specs.Proposals.{listed, kept_after}, specs.Sight.{actions_before, history_of}}
+use Rattle.ct_transcript.{specs.declared.reply.Reply.Reply, specs.declared.reply.Refusal.Refusal}
+use Rattle.ct_session.{specs.declared.session.Open.Open, specs.Answers.{Answers, GoesOn}, specs.Executes.Executes, specs.Extending.having_read}
+use Rattle.ct_session.{specs.LawfulReply.IsPending, specs.Prepared.{IsPrepared, IsRefused}, specs.Replying.{reply_of, standing}, specs.Seeing.Sees}
+use Rattle.ct_session.{specs.Sessions.{IsSession, state_of, transaction_of}, specs.State.{SessionState, carried, extended, extended_by}, proofs.Going.onward}
+use Rattle.ct_session.{specs.Statements.ReadsAs, proofs.Actions.ForAction}
 use Rattle.ct_session.proofs.Replies.{Proceeds, proceeds_same, answers_uncommitted, refused_answers, answered_answers, ForAnswer, prepared_answer, resolves_on}
-
--- what an action was prepared for
-pub record ForAction (words : List ℕ) (o : Open) (session fresh : ℕ) (st : Statement) (p : Proposal) (step : Option Step) (reads : List Read) : Type 0 where
-  pub resolves : resolved (schema (history_of words o.sight) (actions_before o.sight)) session fresh st ≡ Ok (plain.Act (action_of p.action))
-  pub change : IsChange words (history_of words o.sight) (actions_before o.sight) (listed words o.changes) fresh o.sight (action_of p.action) (action_of p.action) p.changes p.fresh step
-  pub reads_are : reads ≡ reads_of (plain.Act (action_of p.action))
-
-pub prepared_action : (words : List ℕ) (o : Open) (session fresh : ℕ) (st : Statement) (p : Proposal) (step : Option Step) (reads : List Read)
-    → IsPrepared words (history_of words o.sight) (actions_before o.sight) (listed words o.changes) session fresh o.sight st (prepared.Change p step reads) → ForAction words o session fresh st p step reads
-prepared_action words o session fresh st p step reads k = by_asked k.asked k.resolves k.prepared where
-  by_asked : (asked : PlainStatement) → resolved (schema (history_of words o.sight) (actions_before o.sight)) session fresh st ≡ Ok asked
-      → IsPreparedFor words (history_of words o.sight) (actions_before o.sight) (listed words o.changes) fresh o.sight asked (prepared.Change p step reads) → ForAction words o session fresh st p step reads
-  by_asked (plain.Act a) r i = subst (λ b. resolved (schema (history_of words o.sight) (actions_before o.sight)) session fresh st ≡ Ok (plain.Act b)
-      → IsChange words (history_of words o.sight) (actions_before o.sight) (listed words o.changes) fresh o.sight b (action_of p.action) p.changes p.fresh step × (reads ≡ reads_of (plain.Act b))
-      → ForAction words o session fresh st p step reads) i.0.action (λ s j. record { resolves = s; change = j.0; reads_are = j.1 }) r i
-  by_asked (plain.Asks k' columns query) r i = absurd i
-  by_asked plain.Begin r i = absurd i
-  by_asked plain.Commit r i = absurd i
-  by_asked plain.Rollback r i = absurd i
+use Rattle.ct_query.specs.Plain as plain
+use Rattle.ct_transcript.specs.declared.reply.Reply.TheVariants as reply
+use Rattle.ct_session.specs.declared.preparing.Prepared.TheVariants as prepared
 
 module _ (N : ℕ) (pass : Seen) (seen fresh : ℕ) (o : Open) (k : IsSession pass.words seen (Some o)) (room : length pass.words ≤ N) (st : Statement) where
   abbrev pub inside : SessionState
@@ -73,20 +31,17 @@ module _ (N : ℕ) (pass : Seen) (seen fresh : ℕ) (o : Open) (k : IsSession pa
   not_outside e = cc
 
   -- a refusal
-  pub refused_inside : (why : Refusal) (at : ℕ) → at ≡ standing seen o.sight.version why
-      → IsRefused (history_of pass.words o.sight) (actions_before o.sight) N pass.words pass.session fresh st why
-      → Executes N inside (state_of pass (max seen at) fresh (Some o)) pass.words pass.words st (reply.Refused at why)
-  refused_inside why at e r =
-      subst (λ n. Executes N inside (state_of pass (max seen n) fresh (Some o)) pass.words pass.words st (reply.Refused n why)) (sym e) (λ x reads.
-      refused_answers N inside x st reads pass.words o.sight.version (actions_before o.sight) k.open_is.sight.within seen_there pass.words its_own not_outside why r)
+  pub refused_inside : (why : Refusal) → IsRefused (history_of pass.words o.sight) (actions_before o.sight) N pass.words pass.session fresh st why
+      → Executes N inside (carried (standing seen o.sight.version why) inside) pass.words pass.words st (reply.Refused (standing seen o.sight.version why) why)
+  refused_inside why r = λ x reads.
+      refused_answers N inside x st reads pass.words o.sight.version (actions_before o.sight) k.open_is.sight.within seen_there pass.words its_own not_outside why r
 
   -- an answer to a query
-  pub answered_inside : (given : Answered) (more : List Read) (o' : Open) (at plus : ℕ) → at ≡ o.sight.version → plus ≡ length (actions_before o.sight)
-      → transaction_of o' ≡ having_read more (transaction_of o)
+  pub answered_inside : (given : Answered) (more : List Read) (o' : Open) (plus : ℕ) → plus ≡ length (actions_before o.sight) → transaction_of o' ≡ having_read more (transaction_of o)
       → IsPrepared pass.words (history_of pass.words o.sight) (actions_before o.sight) (listed pass.words o.changes) pass.session fresh o.sight st (prepared.Answer given more)
-      → Executes N inside (state_of pass (max seen at) fresh (Some o')) pass.words pass.words st (reply_of at plus given)
-  answered_inside given more o' at plus ea ep e p = λ x reads.
-      subst (λ n. Answers N inside (state_of pass (max seen n) fresh (Some o')) pass.words pass.words x (reply_of n plus given)) (sym ea)
+      → (said : Reply) → said ≡ reply_of o.sight.version plus given → Executes N inside (carried o.sight.version (state_of pass seen fresh (Some o'))) pass.words pass.words st said
+  answered_inside given more o' plus ep e p said is = λ x reads.
+      subst (λ r. Answers N inside (state_of pass (max seen o.sight.version) fresh (Some o')) pass.words pass.words x r) (sym is)
       (subst (λ n. Answers N inside (state_of pass (max seen o.sight.version) fresh (Some o')) pass.words pass.words x (reply_of o.sight.version n given)) (sym ep)
       (subst (λ next. Answers N inside next pass.words pass.words x (reply_of o.sight.version (length (actions_before o.sight)) given)) (sym next_is)
       (answered_answers N inside x st reads pass.words o.sight.version (actions_before o.sight) k.open_is.sight.within seen_there pass.words its_own not_outside
@@ -110,13 +65,12 @@ module _ (N : ℕ) (pass : Seen) (seen fresh : ℕ) (o : Open) (k : IsSession pa
         }
 
   -- an action that is kept until COMMIT
-  pub pending_inside : (p : Proposal) (step : Step) (more : List Read) (o' : Open) (at plus : ℕ) → at ≡ o.sight.version → plus ≡ length (actions_before o.sight) + 1
-      → transaction_of o' ≡ extended_by (plain.Act (action_of p.action)) (transaction_of o) → ForAction pass.words o pass.session fresh st p (Some step) more
-      → Executes N inside (state_of pass (max seen at) p.fresh (Some o')) pass.words pass.words st (reply.Pending at plus)
-  pending_inside p step more o' at plus ea ep e asked = λ x reads.
-      subst (λ n. Answers N inside (state_of pass (max seen n) p.fresh (Some o')) pass.words pass.words x (reply.Pending n plus)) (sym ea)
-      (answers_uncommitted N inside (state_of pass (max seen o.sight.version) p.fresh (Some o')) pass.words pass.words x (reply.Pending o.sight.version plus) its_own refl refl
-      (λ e'. absurd (false≢true e')) (λ _. tt) (λ _. tt) (is_pending x reads)) where
+  pub pending_inside : (p : Proposal) (step : Step) (more : List Read) (o' : Open) (plus : ℕ) → plus ≡ length (actions_before o.sight) + 1
+      → transaction_of o' ≡ extended_by (plain.Act (action_of p.action)) (transaction_of o) → ForAction pass.words (history_of pass.words o.sight) (actions_before o.sight) (listed pass.words o.changes) pass.session fresh o.sight st p (Some step) more
+      → Executes N inside (carried o.sight.version (state_of pass seen p.fresh (Some o'))) pass.words pass.words st (reply.Pending o.sight.version plus)
+  pending_inside p step more o' plus ep e asked = λ x reads.
+      answers_uncommitted N inside (state_of pass (max seen o.sight.version) p.fresh (Some o')) pass.words pass.words x (reply.Pending o.sight.version plus) its_own refl refl
+      (λ e'. absurd (false≢true e')) (λ _. tt) (λ _. tt) (is_pending x reads) where
         draws : p.fresh ≡ fresh + sum_by drawn (action_of p.action ∷ [])
         draws = let one = asked.change.draws in omega (arith, one)
 

@@ -20,7 +20,6 @@ pub mod Actions
 pub mod Committed
 pub mod Acted
 pub mod Unread
-pub mod Carrying
 pub mod Proposed
 pub mod Outside
 pub mod StillKnown

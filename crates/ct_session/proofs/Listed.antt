@@ -1,28 +1,14 @@
 -- Lists of possible rows and of certain tuples stay right as the log goes on, and after every history of the same commits.
-use Rattle.std.proofs.Common.{ℕ, ◌&&◌, List, [], ap, sym, subst, ◌∙◌}
-use Rattle.std.specs.Prelude.{IfSome, IsSomeAnd, IsTrue, map}
-use Rattle.std.proofs.lemmas.Bool.{and_parts}
+use Rattle.std.{proofs.Common.{ℕ, ◌&&◌, List, [], ap, sym, subst, ◌∙◌}, specs.Prelude.{IfSome, IsSomeAnd, IsTrue, map}, proofs.lemmas.Bool.and_parts}
 use Rattle.std.proofs.lemmas.List.Elements.{All-weaker}
+use Rattle.ct_word.{specs.declared.values.Value.Value, specs.Value.tuple_at, specs.Sublist.IsSublist, specs.Condition.holds_at, specs.Change.PlainCommit}
+use Rattle.ct_word.{specs.WellFormed.is_place_of, proofs.Prefixes.{condition_in_prefix, place_within}}
+use Rattle.ct_derivation.{specs.declared.steps.Proof.Proof, specs.Accepts.{AcceptsProof, accepts, all_right, ends_empty}, proofs.Longer.accepted_longer}
+use Rattle.ct_query.{specs.Plain.{PlainQuery, PlainAction}, specs.Database.has_tuple, specs.Rows.rows, specs.Keeping.Keeps}
+use Rattle.ct_rewrite.{specs.declared.answer.PossibleRow.PossibleRow, specs.declared.answer.CertainRow.CertainRow}
+use Rattle.ct_transcript.{specs.Possible.{ShowsRow, PossibleRight}, specs.Certain.{IsCertain, is_absent, RefutesAbsence, CertainRight}}
 use mathlib.Core.List.{IsPrefix}
 use Rattle.ct_word.specs.declared.kinds.Class.TheVariants as class
-use Rattle.ct_word.specs.declared.values.Value.{Value}
-use Rattle.ct_word.specs.Value.{tuple_at}
-use Rattle.ct_word.specs.Sublist.{IsSublist}
-use Rattle.ct_word.specs.Condition.{holds_at}
-use Rattle.ct_word.specs.Change.{PlainCommit}
-use Rattle.ct_word.specs.WellFormed.{is_place_of}
-use Rattle.ct_word.proofs.Prefixes.{condition_in_prefix, place_within}
-use Rattle.ct_derivation.specs.declared.steps.Proof.{Proof}
-use Rattle.ct_derivation.specs.Accepts.{AcceptsProof, accepts, all_right, ends_empty}
-use Rattle.ct_derivation.proofs.Longer.{accepted_longer}
-use Rattle.ct_query.specs.Plain.{PlainQuery, PlainAction}
-use Rattle.ct_query.specs.Database.{has_tuple}
-use Rattle.ct_query.specs.Rows.{rows}
-use Rattle.ct_query.specs.Keeping.{Keeps}
-use Rattle.ct_rewrite.specs.declared.answer.PossibleRow.{PossibleRow}
-use Rattle.ct_rewrite.specs.declared.answer.CertainRow.{CertainRow}
-use Rattle.ct_transcript.specs.Possible.{ShowsRow, PossibleRight}
-use Rattle.ct_transcript.specs.Certain.{IsCertain, is_absent, RefutesAbsence, CertainRight}
 
 module _ (q : PlainQuery) (g h : List PlainCommit) (actions : List PlainAction) (k : Keeps g h) where
   -- a list of possible rows after one history is one after the other

@@ -1,36 +1,20 @@
 -- The offer of an open transaction whose change list was begun.
-use Rattle.std.proofs.Common.{◌≡◌, ℕ, ◌<◌, List, [], ◌∷◌, ◌++◌, length, refl, ap, sym, subst, ◌∙◌, arith}
-use Rattle.std.specs.Prelude.{Some, IsTrue, All}
-use Rattle.std.specs.Arc.{arc_value}
-use Rattle.std.specs.List.{AllByRecursion, Contains, list_all}
-use Rattle.std.proofs.lemmas.Bool.{false≢true}
+use Rattle.std.{proofs.Common.{◌≡◌, ℕ, ◌<◌, List, [], ◌∷◌, ◌++◌, length, refl, ap, sym, subst, ◌∙◌, arith}, specs.Prelude.{Some, IsTrue, All}}
+use Rattle.std.{specs.Arc.arc_value, specs.List.{AllByRecursion, Contains, list_all}, proofs.lemmas.Bool.false≢true}
 use Rattle.std.proofs.lemmas.List.Elements.{All-from_recursion, recursion_from_All}
-use Rattle.ct_word.specs.declared.kinds.Class.TheVariants as class
-use Rattle.ct_word.specs.Value.{World}
-use Rattle.ct_word.specs.Change.{PlainChange, Create, Insert, Delete, Assert, PlainCommit}
-use Rattle.ct_word.specs.Reading.{change_list_at}
-use Rattle.ct_word.specs.WellFormed.{is_place_of}
+use Rattle.ct_word.{specs.Value.World, specs.Change.{PlainChange, Create, Assert, PlainCommit}, specs.Reading.change_list_at, specs.WellFormed.is_place_of}
 use Rattle.ct_word.specs.Writable.{is_writable}
-use Rattle.ct_query.specs.Plain as plain
-use Rattle.ct_query.specs.Plain.{PlainAction}
-use Rattle.ct_query.specs.declared.action.Read.{Read}
-use Rattle.ct_query.specs.declared.action.Read.TheVariants as read
-use Rattle.ct_query.specs.Agrees.{AgreesWith, AgreesAfter, Agrees}
-use Rattle.ct_query.specs.Fits.{FitAfter}
-use Rattle.ct_query.specs.Frame.{creates, reads_of_actions}
-use Rattle.ct_query.specs.Reads.{action_reads}
-use Rattle.ct_query.specs.Worlds.{admits}
-use Rattle.ct_query.proofs.Committed.{commit_does}
+use Rattle.ct_query.{specs.Plain.PlainAction, specs.declared.action.Read.Read, specs.Agrees.{AgreesWith, AgreesAfter, Agrees}, specs.Fits.FitAfter}
+use Rattle.ct_query.{specs.Frame.{creates, reads_of_actions}, specs.Reads.action_reads, specs.Worlds.admits, proofs.Committed.commit_does}
 use Rattle.ct_query.proofs.Within.{all_parts}
 use Rattle.ct_arena.specs.Seen.{Seen}
 use Rattle.ct_table.specs.Snapshot.{IsKeptValue}
-use Rattle.ct_keeper.specs.Offers.{IsOffer, commit_for, has_assertion}
-use Rattle.ct_keeper.specs.declared.catalogue.Offer.{Offer}
-use Rattle.ct_statement.specs.declared.sight.Sight.{Sight}
-use Rattle.ct_statement.specs.Proposals.{listed}
-use Rattle.ct_statement.specs.Sight.{actions_before, history_of, IsSight}
-use Rattle.ct_session.specs.declared.session.Open.{Open}
-use Rattle.ct_session.specs.Sessions.{IsBegunList, IsOpen}
+use Rattle.ct_keeper.{specs.Offers.{IsOffer, commit_for, has_assertion}, specs.declared.catalogue.Offer.Offer}
+use Rattle.ct_statement.{specs.declared.sight.Sight.Sight, specs.Proposals.listed, specs.Sight.{actions_before, history_of, IsSight}}
+use Rattle.ct_session.{specs.declared.session.Open.Open, specs.Sessions.{IsBegunList, IsOpen}}
+use Rattle.ct_word.specs.declared.kinds.Class.TheVariants as class
+use Rattle.ct_query.specs.Plain as plain
+use Rattle.ct_query.specs.declared.action.Read.TheVariants as read
 
 -- changes that agree with actions create what these read, and assert only where they read the worlds
 module _ (h : List PlainCommit) (P : Read → Type 0) where
@@ -41,11 +25,8 @@ module _ (h : List PlainCommit) (P : Read → Type 0) where
       by_first a x f.0 parts.0 (creates_all (before ++ a ∷ []) actions xs f.1 parts.1) where
         by_first : (b : PlainAction) (y : PlainChange) → AgreesWith h before b y → AllByRecursion P (action_reads b) → AllByRecursion P (creates xs) → AllByRecursion P (creates (y ∷ xs))
         by_first (plain.Create n cs) (Create n' cs') g own rest = (subst (λ m. P (read.Table m)) (sym g.0) own.0, rest)
-        by_first (plain.InsertRows n rs c) (Insert n' rs') g own rest = rest
-        by_first (plain.InsertQuery n q) (Insert n' rs') g own rest = rest
-        by_first (plain.Delete n c) (Delete n' c') g own rest = rest
-        by_first (plain.Assert c) (Assert c') g own rest = rest
-        by_first _ _ g own rest = absurd g
+        by_first _ (Create n' cs') g own rest = absurd g
+        by_first _ _ g own rest = rest
   creates_all before _ _ f all = absurd f
 
   pub asserts_read : (before actions : List PlainAction) (xs : List PlainChange) → AgreesAfter h before actions xs → AllByRecursion P (reads_of_actions actions) → has_assertion xs → P read.Worlds
@@ -54,12 +35,9 @@ module _ (h : List PlainCommit) (P : Read → Type 0) where
       let parts = all_parts P (action_reads a) (reads_of_actions actions) all in
       by_first a x f.0 parts.0 (asserts_read (before ++ a ∷ []) actions xs f.1 parts.1) some where
         by_first : (b : PlainAction) (y : PlainChange) → AgreesWith h before b y → AllByRecursion P (action_reads b) → (has_assertion xs → P read.Worlds) → has_assertion (y ∷ xs) → P read.Worlds
-        by_first (plain.Create n cs) (Create n' cs') g own rest some' = rest some'
-        by_first (plain.InsertRows n rs c) (Insert n' rs') g own rest some' = rest some'
-        by_first (plain.InsertQuery n q) (Insert n' rs') g own rest some' = rest some'
-        by_first (plain.Delete n c) (Delete n' c') g own rest some' = rest some'
         by_first (plain.Assert c) (Assert c') g own rest some' = own.0
-        by_first _ _ g own rest some' = absurd g
+        by_first _ (Assert c') g own rest some' = absurd g
+        by_first _ _ g own rest some' = rest some'
   asserts_read before _ _ f all some = absurd f
 
 -- changes that agree with no action are none, and those that are none agree with no action

@@ -1,37 +1,23 @@
 -- An open transaction: when it begins, as words are added, and after one more statement.
-use Rattle.std.proofs.Common.{◌≡◌, ◌≤◌, ℕ, arith, max, List, [], ◌∷◌, ◌++◌, refl, ap, sym, subst}
-use Rattle.std.specs.Prelude.{Option, Some, None, All, IsTrue, IfSome}
-use Rattle.std.specs.List.{Contains, list_all}
-use Rattle.std.proofs.lemmas.List.Elements.{All-nil}
-use mathlib.Core.List.{IsPrefix}
-use Rattle.ct_word.specs.declared.kinds.Class.TheVariants as class
-use Rattle.ct_word.specs.Change.{PlainChange, PlainCommit}
-use Rattle.ct_word.specs.WellFormed.{IsWellFormed, is_place_of}
-use Rattle.ct_word.specs.Writable.{is_writable}
+use Rattle.std.{proofs.Common.{◌≡◌, ◌≤◌, ℕ, arith, max, List, [], ◌∷◌, ◌++◌, refl, ap, sym, subst}, specs.Prelude.{Option, Some, None, All, IsTrue, IfSome}}
+use Rattle.std.{specs.List.{Contains, list_all}, proofs.lemmas.List.Elements.All-nil}
+use Rattle.ct_word.{specs.Change.{PlainChange, PlainCommit}, specs.WellFormed.IsWellFormed, specs.Writable.is_writable}
 use Rattle.ct_word.proofs.Prefixes.{place_within, place_in_prefix, change_list_in_prefix}
-use Rattle.ct_query.specs.Plain.{PlainAction}
-use Rattle.ct_query.specs.declared.action.Read.{Read}
-use Rattle.ct_query.specs.Agrees.{Agrees}
-use Rattle.ct_query.specs.Fits.{FitAfter}
-use Rattle.ct_query.specs.Reads.{with_reads, action_reads}
+use Rattle.ct_query.{specs.Plain.PlainAction, specs.declared.action.Read.Read, specs.Agrees.Agrees, specs.Fits.FitAfter, specs.Reads.{with_reads, action_reads}}
 use Rattle.ct_query.specs.Frame.{reads_of_actions}
 use Rattle.ct_arena.specs.Seen.{Seen}
 use Rattle.ct_history.specs.Kept.{kept_of}
 use Rattle.ct_table.specs.Snapshot.{commits_to}
 use Rattle.ct_parse.specs.declared.tree.Statement.{Statement}
 use Rattle.ct_transcript.specs.declared.reply.Refusal.{Refusal}
-use Rattle.ct_transcript.specs.declared.reply.Refusal.TheVariants as refusal
-use Rattle.ct_statement.specs.declared.sight.Sight.{Sight}
-use Rattle.ct_statement.specs.Proposals.{IsProposal, listed}
-use Rattle.ct_statement.specs.Sight.{actions_before, history_of, IsSight}
-use Rattle.ct_session.specs.declared.session.Open.{Open}
-use Rattle.ct_session.specs.declared.preparing.Prepared.{Prepared}
-use Rattle.ct_session.specs.Prepared.{IsPrepared, IsRefused}
-use Rattle.ct_session.specs.Replying.{standing}
-use Rattle.ct_session.specs.Sessions.{IsBegunList, IsOpen, IsSession}
-use Rattle.ct_session.proofs.Extended.{agrees_push, fits_push, writable_push, reads_push, reads_kept}
-use Rattle.ct_session.proofs.Going.{version_stays, version_within}
+use Rattle.ct_statement.{specs.declared.sight.Sight.Sight, specs.Proposals.{IsProposal, listed}, specs.Sight.{actions_before, history_of, IsSight}}
 use Rattle.ct_statement.proofs.Sights.{sight_grows}
+use Rattle.ct_session.{specs.declared.session.Open.Open, specs.declared.preparing.Prepared.Prepared, specs.Prepared.{IsPrepared, IsRefused}}
+use Rattle.ct_session.{specs.Replying.standing, specs.Sessions.{IsBegunList, IsOpen, IsSession}, proofs.Going.{version_stays, version_within}}
+use Rattle.ct_session.proofs.Extended.{agrees_push, fits_push, writable_push, reads_push, reads_kept}
+use mathlib.Core.List.{IsPrefix}
+use Rattle.ct_word.specs.declared.kinds.Class.TheVariants as class
+use Rattle.ct_transcript.specs.declared.reply.Refusal.TheVariants as refusal
 
 -- a transaction of changes that are listed nowhere, or at a place
 module _ (words : List ℕ) (sight : Sight) (changes : Option ℕ) (reads : List Read) (h : List PlainCommit) (actions : List PlainAction) (xs : List PlainChange)
@@ -52,11 +38,6 @@ module _ (words : List ℕ) (sight : Sight) (changes : Option ℕ) (reads : List
 -- a transaction without actions
 pub open_begun : (words : List ℕ) (sight : Sight) → IsSight words sight → actions_before sight ≡ [] → IsOpen words (record { sight = sight; changes = None; reads = [] })
 open_begun words sight s none = open_from words sight None [] (history_of words sight) [] [] refl none refl s refl tt tt refl (All-nil (Contains []))
-
--- the place of its list, if it is begun
-pub begun_place : (words : List ℕ) (changes : Option ℕ) (actions : List PlainAction) → IsBegunList words changes actions → IfSome changes (λ place. IsTrue (is_place_of words class.ChangeList place))
-begun_place words None actions b = tt
-begun_place words (Some place) actions b = b
 
 module _ (old new : List ℕ) (longer : IsPrefix old new) where
   begun_grows : (changes : Option ℕ) (actions : List PlainAction) → IsBegunList old changes actions → IsBegunList new changes actions

@@ -1,37 +1,22 @@
 -- BEGIN and ROLLBACK, and orders in the wrong place; want of memory for any statement.
-use Rattle.std.proofs.Common.{◌≡◌, ◌⊎◌, ℕ, ◌≤◌, List, [], ◌∷◌, length, take, max, refl, ap, sym, subst, inl, inr, arith}
+use Rattle.std.{proofs.Common.{◌≡◌, ◌⊎◌, ℕ, ◌≤◌, List, [], ◌∷◌, length, take, max, refl, ap, sym, subst, inl, inr, arith}, proofs.lemmas.Bool.false≢true}
 use Rattle.std.specs.Prelude.{Option, Some, None, Ok, IsNone, IsSome, option_map}
-use Rattle.std.proofs.lemmas.Bool.{false≢true}
-use Rattle.ct_word.specs.Change.{PlainCommit}
-use Rattle.ct_word.specs.Reading.{commits_of}
-use Rattle.ct_word.specs.StandsFor.{StandsFor}
-use Rattle.ct_word.proofs.Prefixes.{commits_prefix}
-use Rattle.ct_arena.specs.Seen.{Seen, tally_of}
-use Rattle.ct_arena.specs.declared.tally.Tally.{Tally}
+use Rattle.ct_word.{specs.Change.PlainCommit, specs.Reading.commits_of, specs.StandsFor.StandsFor, proofs.Prefixes.commits_prefix}
+use Rattle.ct_arena.{specs.Seen.{Seen, tally_of}, specs.declared.tally.Tally.Tally}
 use Rattle.ct_history.specs.Kept.{kept_of}
-use Rattle.ct_query.specs.Plain.{PlainStatement}
-use Rattle.ct_query.specs.Plain as plain
-use Rattle.ct_query.specs.Schema.{schema}
-use Rattle.ct_query.specs.declared.schema.Schema.{Schema}
+use Rattle.ct_query.{specs.Plain.PlainStatement, specs.Schema.schema, specs.declared.schema.Schema.Schema}
 use Rattle.ct_parse.specs.declared.tree.Statement.{Statement}
-use Rattle.ct_parse.specs.declared.tree.Statement.TheVariants as tree
 use Rattle.ct_resolve.specs.Statements.{resolved}
 use Rattle.ct_statement.specs.Sight.{actions_before}
-use Rattle.ct_transcript.specs.declared.reply.Reply.{Reply}
-use Rattle.ct_transcript.specs.declared.reply.Reply.TheVariants as reply
-use Rattle.ct_transcript.specs.declared.reply.Refusal.{Refusal}
-use Rattle.ct_transcript.specs.declared.reply.Refusal.TheVariants as refusal
-use Rattle.ct_session.specs.declared.session.Open.{Open}
-use Rattle.ct_session.specs.Answers.{Answers, GoesOn}
-use Rattle.ct_session.specs.Executes.{Executes}
-use Rattle.ct_session.specs.LawfulReply.{IsBegun}
-use Rattle.ct_session.specs.Orders.{IsMisplaced}
-use Rattle.ct_session.specs.Seeing.{Orders}
-use Rattle.ct_session.specs.Sessions.{state_of, transaction_of}
-use Rattle.ct_session.specs.State.{SessionState, carried, with_transaction, opened}
-use Rattle.ct_session.specs.Statements.{ReadsAs}
-use Rattle.ct_session.proofs.Going.{prefix_short, onward}
+use Rattle.ct_transcript.{specs.declared.reply.Reply.Reply, specs.declared.reply.Refusal.Refusal}
+use Rattle.ct_session.{specs.declared.session.Open.Open, specs.Answers.{Answers, GoesOn}, specs.Executes.Executes, specs.LawfulReply.IsBegun}
+use Rattle.ct_session.{specs.Orders.IsMisplaced, specs.Seeing.Orders, specs.Sessions.{state_of, transaction_of}, specs.Statements.ReadsAs}
+use Rattle.ct_session.{specs.State.{SessionState, carried, with_transaction, opened}, proofs.Going.{prefix_short, onward}}
 use Rattle.ct_session.proofs.Replies.{Proceeds, answers_uncommitted, answers_later, memory_answers, carried_same}
+use Rattle.ct_query.specs.Plain as plain
+use Rattle.ct_parse.specs.declared.tree.Statement.TheVariants as tree
+use Rattle.ct_transcript.specs.declared.reply.Reply.TheVariants as reply
+use Rattle.ct_transcript.specs.declared.reply.Refusal.TheVariants as refusal
 
 -- the state of a session of the same number, commits and transaction
 pub state_same : (pass pass' : Seen) (seen fresh : ℕ) (open' open'' : Option Open) → kept_of pass' ≡ kept_of pass → option_map transaction_of open'' ≡ option_map transaction_of open'
@@ -44,11 +29,6 @@ state_same pass pass' seen fresh open' open'' kept same =
 -- a pass of the same tally has the same session and as many commits
 pub tally_kept : (p q : Seen) → tally_of p ≡ tally_of q → kept_of p ≡ kept_of q
 tally_kept p q e = ap (λ (t : Tally). t.session ∷ t.mine ∷ []) e
-
--- none is open either way
-pub none_open : (open' : Option Open) → IsNone open' → option_map transaction_of None ≡ option_map transaction_of open'
-none_open None none = refl
-none_open (Some o) none = absurd (false≢true (sym none))
 
 -- where the words of a pass went on before the statement of a transaction was answered, it is answered so from the first ones too
 pub executes_later : (N : ℕ) (pass mid : Seen) (seen fresh : ℕ) (o : Open) (next : SessionState) (now : List ℕ) (st : Statement) (r : Reply) → Proceeds N pass.session pass.words mid.words

@@ -1,44 +1,27 @@
 -- A statement outside a transaction, at the newest version: what was prepared for it, over further words, and its reply.
-use Rattle.std.proofs.Common.{◌≡◌, ℕ, ◌≤◌, List, [], ◌∷◌, length, refl, ap, sym, subst, ◌∙◌}
-use Rattle.std.specs.Prelude.{Option, Some, None, IsNone}
+use Rattle.std.{proofs.Common.{◌≡◌, ℕ, ◌≤◌, List, [], length, refl, ap, sym, subst, ◌∙◌}, specs.Prelude.{Option, Some, None, IsNone}}
 use Rattle.std.proofs.lemmas.Bool.{false≢true}
-use mathlib.Core.List.{IsPrefix}
-use Rattle.ct_word.specs.Change.{PlainCommit}
-use Rattle.ct_word.specs.Reading.{commits_of}
-use Rattle.ct_arena.specs.Seen.{Seen, tally_of}
+use Rattle.ct_word.{specs.Change.PlainCommit, specs.Reading.commits_of, proofs.Prefixes.prefix_of_prefix}
+use Rattle.ct_arena.{specs.Counts.AreNumbered, specs.Seen.Seen}
 use Rattle.ct_history.specs.Kept.{kept_of}
-use Rattle.ct_query.specs.declared.action.Read.{Read}
-use Rattle.ct_query.specs.Schema.{schema}
+use Rattle.ct_query.{specs.declared.action.Read.Read, specs.Schema.schema}
 use Rattle.ct_resolve.specs.Statements.{resolved}
 use Rattle.ct_table.specs.Snapshot.{commits_to}
 use Rattle.ct_parse.specs.declared.tree.Statement.{Statement}
+use Rattle.ct_transcript.{specs.declared.reply.Refusal.Refusal, specs.declared.reply.Reply.Reply}
+use Rattle.ct_statement.{specs.declared.replying.Answered.Answered, specs.declared.sight.Sight.Sight, specs.Sight.{actions_before, history_of}}
+use Rattle.ct_session.{specs.declared.session.Open.Open, specs.Answers.Answers, specs.Executes.Executes, specs.Outcomes.Begins, specs.Seeing.Sees}
+use Rattle.ct_session.{specs.Prepared.{IsPrepared, IsRefused}, specs.Replying.{reply_of, standing}, specs.Sessions.state_of, proofs.Ordered.state_same}
+use Rattle.ct_session.{specs.State.{SessionState, carried}, specs.declared.preparing.Prepared.Prepared, proofs.Proposed.same_history}
+use Rattle.ct_session.proofs.Replies.{Proceeds, proceeds, ForAnswer, prepared_answer, answered_answers, refused_answers}
+use mathlib.Core.List.{IsPrefix}
 use Rattle.ct_transcript.specs.declared.reply.Reply.TheVariants as reply
-use Rattle.ct_transcript.specs.declared.reply.Refusal.{Refusal}
-use Rattle.ct_statement.specs.declared.replying.Answered.{Answered}
-use Rattle.ct_statement.specs.declared.sight.Sight.{Sight}
-use Rattle.ct_statement.specs.Sight.{actions_before, history_of}
-use Rattle.ct_session.specs.declared.session.Open.{Open}
-use Rattle.ct_session.specs.Answers.{Answers}
-use Rattle.ct_session.specs.Prepared.{IsPrepared, IsRefused}
-use Rattle.ct_session.specs.Replying.{reply_of, standing}
-use Rattle.ct_session.specs.Seeing.{Sees}
-use Rattle.ct_session.specs.Sessions.{state_of}
-use Rattle.ct_session.specs.State.{SessionState, carried}
-use Rattle.ct_session.specs.Statements.{ReadsAs}
-use Rattle.ct_session.specs.declared.preparing.Prepared.{Prepared}
 use Rattle.ct_session.specs.declared.preparing.Prepared.TheVariants as prepared
-use Rattle.ct_session.proofs.Ordered.{state_same}
-use Rattle.ct_session.proofs.Proposed.{same_history}
-use Rattle.ct_session.proofs.Replies.{Proceeds, ForAnswer, prepared_answer, answered_answers, refused_answers}
 
 -- none is open
 pub none_open : (o : Option Open) → IsNone o → o ≡ None
 none_open None n = refl
 none_open (Some o) n = absurd (false≢true (sym n))
-
--- a pass with the same tally is of the same session with as many commits
-pub kept_tally : (pass pass' : Seen) → tally_of pass' ≡ tally_of pass → kept_of pass' ≡ kept_of pass
-kept_tally pass pass' e = ap (λ t. t.session ∷ t.mine ∷ []) e
 
 -- what was prepared at the sight, or why it was refused, over the words that came with it
 module _ (begun now : Seen) (longer : IsPrefix begun.words now.words) (kept : kept_of now ≡ kept_of begun) (sight : Sight) (within : sight.version ≤ length (commits_of begun.words)) (none : actions_before sight ≡ [])
@@ -68,29 +51,41 @@ module _ (begun now : Seen) (longer : IsPrefix begun.words now.words) (kept : ke
       subst (λ before. ForAnswer now.words (history_of now.words sight) before now.session fresh st given reads) none
       (prepared_answer now.words (history_of now.words sight) (actions_before sight) [] now.session fresh sight st given reads (prepared_on (prepared.Answer given reads) i))
 
+-- a statement that went on to some words has gone on to further ones
+pub begins_on : (first begun now : Seen) (version : ℕ) → Begins first begun version → IsPrefix begun.words now.words → kept_of now ≡ kept_of begun → Begins first now version
+begins_on first begun now version began longer kept = record {
+  longer = prefix_of_prefix first.words begun.words now.words began.longer longer;
+  kept = kept ∙ began.kept;
+  numbered = began.numbered;
+  all = began.all;
+}
+
 -- its reply, the words having gone on from its beginning
-module _ (N : ℕ) (pass now : Seen) (seen fresh : ℕ) (p : Proceeds N pass.session pass.words now.words) (kept : kept_of now ≡ kept_of pass) (version : ℕ) (within : version ≤ length (commits_of now.words))
-    (newest : length (commits_of pass.words) ≤ version) (seen_is : seen ≤ version) (st : Statement) (x : List ℕ) (reads : ReadsAs x st) where
+module _ (N : ℕ) (pass now : Seen) (seen fresh version : ℕ) (began : Begins pass now version) (room : length now.words ≤ N) (numbered : AreNumbered now.session now.mine now.words)
+    (within : version ≤ length (commits_of now.words)) (seen_is : seen ≤ version) (st : Statement) where
   abbrev s : SessionState
   s = state_of pass seen fresh None
 
   sees : (H : List PlainCommit) → version ≤ length H → Sees H s version []
   sees H le = (seen_is, le, refl)
 
+  p : Proceeds N pass.session pass.words now.words
+  p = proceeds N pass now began.longer began.kept room began.numbered numbered
+
   of_session' : now.session ≡ pass.session
-  of_session' = cc
+  of_session' = let kept = began.kept in cc
 
-  pub refused_outside : (at : ℕ) (why : Refusal) → at ≡ standing seen version why → IsRefused (commits_to now.words version) [] N now.words now.session fresh st why
-      → Answers N s (carried at (state_of now seen fresh None)) pass.words now.words x (reply.Refused at why)
-  refused_outside at why is r =
-      subst (λ n. Answers N s (carried n (state_of now seen fresh None)) pass.words now.words x (reply.Refused n why)) (sym is)
-      (subst (λ t. Answers N s (carried (standing seen version why) t) pass.words now.words x (reply.Refused (standing seen version why) why)) (sym (state_same pass now seen fresh None None kept refl))
-      (refused_answers N s x st reads now.words version [] within sees pass.words p (λ e. newest) why
-      (subst (λ n. IsRefused (commits_to now.words version) [] N now.words n fresh st why) of_session' r)))
+  pub refused_outside : (why : Refusal) → IsRefused (commits_to now.words version) [] N now.words now.session fresh st why
+      → Executes N s (carried (standing seen version why) (state_of now seen fresh None)) pass.words now.words st (reply.Refused (standing seen version why) why)
+  refused_outside why r = λ x reads.
+      subst (λ t. Answers N s (carried (standing seen version why) t) pass.words now.words x (reply.Refused (standing seen version why) why)) (sym (state_same pass now seen fresh None None began.kept refl))
+      (refused_answers N s x st reads now.words version [] within sees pass.words p (λ e. began.all) why
+      (subst (λ n. IsRefused (commits_to now.words version) [] N now.words n fresh st why) of_session' r))
 
-  pub answered_outside : (given : Answered) (more : List Read) → ForAnswer now.words (commits_to now.words version) [] now.session fresh st given more
-      → Answers N s (carried version (state_of now seen fresh None)) pass.words now.words x (reply_of version 0 given)
-  answered_outside given more f =
-      subst (λ t. Answers N s (carried version t) pass.words now.words x (reply_of version 0 given)) (sym (state_same pass now seen fresh None None kept refl))
-      (answered_answers N s x st reads now.words version [] within sees pass.words p (λ e. newest) f.kind f.columns f.query given
-      (ap (λ n. resolved (schema (commits_to now.words version) []) n fresh st) (sym of_session') ∙ f.resolves) f.answers)
+  pub answered_outside : (given : Answered) (more : List Read) → ForAnswer now.words (commits_to now.words version) [] now.session fresh st given more → (r : Reply) → r ≡ reply_of version 0 given
+      → Executes N s (carried version (state_of now seen fresh None)) pass.words now.words st r
+  answered_outside given more f r is = λ x reads.
+      subst (λ q. Answers N s (carried version (state_of now seen fresh None)) pass.words now.words x q) (sym is)
+      (subst (λ t. Answers N s (carried version t) pass.words now.words x (reply_of version 0 given)) (sym (state_same pass now seen fresh None None began.kept refl))
+      (answered_answers N s x st reads now.words version [] within sees pass.words p (λ e. began.all) f.kind f.columns f.query given
+      (ap (λ n. resolved (schema (commits_to now.words version) []) n fresh st) (sym of_session') ∙ f.resolves) f.answers))

@@ -1,16 +1,11 @@
 -- The commits of one session in the words that it has seen: they are as many as it made, so no further ones come with
 -- the words of others.
 use Rattle.std.proofs.Common.{◌≡◌, ℕ, ◌+◌, Bool, true, false, List, [], ◌∷◌, ◌++◌, length, refl, ap, sym, ◌∙◌, arith, length-append}
-use Rattle.std.specs.Prelude.{nat_eq, if◌then◌else◌}
-use Rattle.std.proofs.lemmas.Bool.{eq-eqb}
-use Rattle.std.proofs.lemmas.List.{append-nil}
-use mathlib.Core.List.{IsPrefix}
-use Rattle.ct_word.specs.Change.{PlainCommit}
-use Rattle.ct_word.specs.Reading.{commits_of}
-use Rattle.ct_word.specs.StandsFor.{SameCommits}
-use Rattle.ct_word.proofs.Prefixes.{commits_prefix}
+use Rattle.std.{specs.Prelude.{nat_eq, if◌then◌else◌}, proofs.lemmas.Bool.eq-eqb, proofs.lemmas.List.append-nil}
+use Rattle.ct_word.{specs.Change.PlainCommit, specs.Reading.commits_of, specs.StandsFor.SameCommits, proofs.Prefixes.commits_prefix}
 use Rattle.ct_arena.specs.Counts.{numbers_by, AreNumbered}
 use Rattle.ct_session.specs.Answers.{commits_by}
+use mathlib.Core.List.{IsPrefix}
 
 pub numbers_split : (s : ℕ) (cs ds : List PlainCommit) → numbers_by s (cs ++ ds) ≡ numbers_by s cs ++ numbers_by s ds
 numbers_split s [] ds = refl
@@ -65,5 +60,4 @@ own_commits_stay s n words more longer old new =
 pub same_by : (s m : ℕ) (g h : List PlainCommit) → SameCommits g h → commits_by s m g ≡ commits_by s m h
 same_by s m [] [] same = refl
 same_by s m (a ∷ g) (b ∷ h) same = λ i. if nat_eq (same.0 i) s then m ∷ same_by s (m + 1) g h same.3 i else same_by s (m + 1) g h same.3 i
-same_by s m [] (b ∷ h) same = absurd same
-same_by s m (a ∷ g) [] same = absurd same
+same_by s m _ _ same = absurd same

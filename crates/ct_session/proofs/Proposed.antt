@@ -1,15 +1,11 @@
 -- What is proposed for a statement, as words grow.
 use Rattle.std.proofs.Common.{◌≡◌, ◌≤◌, ℕ, List, length, ◌∙◌}
+use Rattle.ct_word.{specs.Change.{PlainChange, PlainCommit}, specs.Reading.commits_of, proofs.Prefixes.{place_within, place_in_prefix, change_list_in_prefix}}
+use Rattle.ct_query.specs.Plain.{PlainAction}
+use Rattle.ct_statement.{specs.declared.sight.Sight.Sight, specs.Proposals.IsProposal, specs.Sight.history_of}
+use Rattle.ct_session.proofs.Going.{version_stays}
 use mathlib.Core.List.{IsPrefix}
 use Rattle.ct_word.specs.declared.kinds.Class.TheVariants as class
-use Rattle.ct_word.specs.Change.{PlainChange, PlainCommit}
-use Rattle.ct_word.specs.Reading.{commits_of}
-use Rattle.ct_word.proofs.Prefixes.{place_within, place_in_prefix, change_list_in_prefix}
-use Rattle.ct_query.specs.Plain.{PlainAction}
-use Rattle.ct_statement.specs.declared.sight.Sight.{Sight}
-use Rattle.ct_statement.specs.Proposals.{IsProposal}
-use Rattle.ct_statement.specs.Sight.{history_of}
-use Rattle.ct_session.proofs.Going.{version_stays}
 
 module _ (old new : List ℕ) (longer : IsPrefix old new) where
   -- the commits of its version stay

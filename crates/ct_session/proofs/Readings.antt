@@ -1,21 +1,13 @@
 -- Why a text is read as no statement, and that it is read as one at most.
-use Rattle.std.proofs.Common.{◌≡◌, ◌≢◌, ℕ, Bool, true, false, List, refl, ap, sym, subst}
-use Rattle.std.specs.Prelude.{IsTrue, IsFalse}
-use Rattle.std.proofs.lemmas.Bool.{false≢true}
-use Rattle.ct_lex.specs.declared.token.Token.{Token}
-use Rattle.ct_lex.specs.declared.token.LexError.{LexError}
-use Rattle.ct_lex.specs.declared.token.LexError.TheVariants as lexical
-use Rattle.ct_lex.specs.Tokens.{Lexes, FaultsAt}
-use Rattle.ct_lex.proofs.Written.{tokens_written}
-use Rattle.ct_parse.specs.declared.error.ParseError.{ParseError}
-use Rattle.ct_parse.specs.declared.error.ParseError.TheVariants as grammatical
-use Rattle.ct_parse.specs.declared.tree.Statement.{Statement}
-use Rattle.ct_parse.specs.Grammar.{said}
-use Rattle.ct_parse.specs.Nest.{is_too_deep}
+use Rattle.std.{proofs.Common.{◌≡◌, ◌≢◌, ℕ, Bool, true, false, List, refl, ap, sym, subst}, specs.Prelude.{IsTrue, IsFalse}, proofs.lemmas.Bool.false≢true}
+use Rattle.ct_lex.{specs.declared.token.Token.Token, specs.declared.token.LexError.LexError, specs.Tokens.{Lexes, FaultsAt}, proofs.Written.tokens_written}
+use Rattle.ct_parse.{specs.declared.error.ParseError.ParseError, specs.declared.tree.Statement.Statement, specs.Grammar.said, specs.Nest.is_too_deep}
 use Rattle.ct_parse.specs.Parses.{Spells}
 use Rattle.ct_transcript.specs.declared.reply.Refusal.{Refusal}
-use Rattle.ct_transcript.specs.declared.reply.Refusal.TheVariants as refusal
 use Rattle.ct_session.specs.Statements.{ReadsAs, IsWritten, HasFault, IsTextFault, number_range, open_text, stray_byte, too_deep, unspelled, lexical_refusal, grammatical_refusal}
+use Rattle.ct_lex.specs.declared.token.LexError.TheVariants as lexical
+use Rattle.ct_parse.specs.declared.error.ParseError.TheVariants as grammatical
+use Rattle.ct_transcript.specs.declared.reply.Refusal.TheVariants as refusal
 
 not_both : (b : Bool) → IsTrue b → IsFalse b → ⊥
 not_both true t f = absurd (false≢true (sym f))
@@ -27,17 +19,6 @@ lexical_fault x lexical.OpenText f n = open_text (f (λ p. n (ap lexical_refusal
 lexical_fault x lexical.StrayByte f n = stray_byte (f (λ p. n (ap lexical_refusal p)))
 lexical_fault x lexical.NumberRange f n = number_range (f (λ p. n (ap lexical_refusal p)))
 lexical_fault x lexical.Memory f n = absurd (n refl)
-
-pub lexical_none : (x : List ℕ) (e : LexError) → (e ≢ lexical.Memory → (ts : List Token) → Lexes x ts → ⊥) → lexical_refusal e ≢ refusal.Memory → (st : Statement) → ReadsAs x st → ⊥
-lexical_none x e none n st r = none (λ p. n (ap lexical_refusal p)) r.tokens r.lexes
-
-pub lexical_first : (x : List ℕ) (e : LexError) → (e ≢ lexical.Memory → (place : ℕ) (f : LexError) → FaultsAt x place f → f ≡ e) → (e ≢ lexical.Memory → (ts : List Token) → Lexes x ts → ⊥)
-    → lexical_refusal e ≢ refusal.Memory → (other : Refusal) → IsTextFault x other → other ≡ lexical_refusal e
-lexical_first x e leftmost none n other (number_range h) = ap lexical_refusal (leftmost (λ p. n (ap lexical_refusal p)) h.0 lexical.NumberRange h.1)
-lexical_first x e leftmost none n other (open_text h) = ap lexical_refusal (leftmost (λ p. n (ap lexical_refusal p)) h.0 lexical.OpenText h.1)
-lexical_first x e leftmost none n other (stray_byte h) = ap lexical_refusal (leftmost (λ p. n (ap lexical_refusal p)) h.0 lexical.StrayByte h.1)
-lexical_first x e leftmost none n other (too_deep t) = absurd (none (λ p. n (ap lexical_refusal p)) t.tokens t.lexes)
-lexical_first x e leftmost none n other (unspelled t) = absurd (none (λ p. n (ap lexical_refusal p)) t.tokens t.lexes)
 
 -- a text with these tokens, which has no fault
 module _ (x : List ℕ) (tokens : List Token) (lexes : Lexes x tokens) (only : (ts : List Token) → Lexes x ts → ts ≡ tokens) (clean : (place : ℕ) (e : LexError) → FaultsAt x place e → ⊥) where

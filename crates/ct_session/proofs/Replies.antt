@@ -1,68 +1,39 @@
 -- From what was prepared, or why a statement was refused, to the reply, however the words go on: for any state, in a
 -- transaction or outside.
 use Rattle.std.proofs.Common.{◌≡◌, ◌≢◌, ℕ, ◌<◌, ◌≤◌, List, [], ◌∷◌, ◌++◌, length, take, map, max, refl, ap, sym, subst, ◌∙◌, arith}
-use Rattle.std.specs.Prelude.{Option, Some, None, Ok, Err, IsTrue, IsSome, IfSome}
-use Rattle.std.specs.Option.{option_to_list}
-use Rattle.std.proofs.lemmas.Bool.{false≢true}
+use Rattle.std.{specs.Prelude.{Option, Some, None, Ok, Err, IsTrue, IsSome, IfSome}, specs.Option.option_to_list, proofs.lemmas.Bool.false≢true}
 use Rattle.std.proofs.lemmas.List.{append-nil}
-use mathlib.Core.List.{IsPrefix}
-use Rattle.ct_word.specs.declared.kinds.Class.TheVariants as class
-use Rattle.ct_word.specs.Condition.{holds_at}
-use Rattle.ct_word.specs.Sublist.{IsSublist}
-use Rattle.ct_word.specs.Change.{PlainChange, PlainCommit}
-use Rattle.ct_word.specs.Reading.{commits_of}
-use Rattle.ct_word.specs.StandsFor.{StandsFor}
-use Rattle.ct_word.proofs.Prefixes.{condition_in_prefix, place_within, prefix_of_prefix, prefix_same}
-use Rattle.ct_derivation.specs.declared.steps.Proof.{Proof}
-use Rattle.ct_derivation.proofs.Longer.{accepted_longer}
-use Rattle.ct_arena.specs.Seen.{Seen}
-use Rattle.ct_arena.specs.Counts.{AreNumbered}
+use Rattle.ct_word.{specs.Condition.holds_at, specs.Sublist.IsSublist, specs.Change.{PlainChange, PlainCommit}, specs.Reading.commits_of}
+use Rattle.ct_word.{specs.StandsFor.StandsFor, proofs.Prefixes.{condition_in_prefix, place_within, prefix_of_prefix, prefix_same}}
+use Rattle.ct_derivation.{specs.declared.steps.Proof.Proof, proofs.Longer.accepted_longer}
+use Rattle.ct_arena.{specs.Seen.Seen, specs.Counts.AreNumbered}
 use Rattle.ct_history.specs.Kept.{kept_of}
 use Rattle.ct_table.specs.Snapshot.{commits_to}
-use Rattle.ct_query.specs.Plain.{PlainAction, PlainStatement, PlainQuery}
-use Rattle.ct_query.specs.Plain as plain
-use Rattle.ct_query.specs.declared.action.Ask.{Ask}
-use Rattle.ct_query.specs.declared.action.Ask.TheVariants as ask
-use Rattle.ct_query.specs.declared.action.Read.{Read}
-use Rattle.ct_query.specs.Reads.{reads_of}
-use Rattle.ct_query.specs.Schema.{schema}
-use Rattle.ct_query.specs.Patterns.{count}
-use Rattle.ct_query.specs.Size.{size}
-use Rattle.ct_query.specs.Terms.{term_count}
+use Rattle.ct_query.{specs.Plain.{PlainAction, PlainStatement, PlainQuery}, specs.declared.action.Ask.Ask, specs.declared.action.Read.Read, specs.Schema.schema}
+use Rattle.ct_query.{specs.Reads.reads_of, specs.Patterns.count, specs.Size.size, specs.Terms.term_count}
 use Rattle.ct_algebra.specs.Evaluates.{limit}
-use Rattle.ct_rewrite.specs.declared.answer.PossibleRow.{PossibleRow}
-use Rattle.ct_rewrite.specs.declared.answer.CertainRow.{CertainRow}
-use Rattle.ct_transcript.specs.declared.reply.Answer.{Answer}
-use Rattle.ct_transcript.specs.Means.{allowed, shown}
-use Rattle.ct_transcript.specs.Possible.{PossibleRight}
-use Rattle.ct_transcript.specs.Certain.{CertainRight}
-use Rattle.ct_transcript.specs.declared.reply.Reply.{Reply}
-use Rattle.ct_transcript.specs.declared.reply.Reply.TheVariants as reply
-use Rattle.ct_transcript.specs.declared.reply.Refusal.{Refusal}
-use Rattle.ct_transcript.specs.declared.reply.Refusal.TheVariants as refusal
+use Rattle.ct_rewrite.{specs.declared.answer.PossibleRow.PossibleRow, specs.declared.answer.CertainRow.CertainRow}
+use Rattle.ct_transcript.{specs.declared.reply.Answer.Answer, specs.Means.{allowed, shown}, specs.Possible.PossibleRight, specs.Certain.CertainRight}
+use Rattle.ct_transcript.{specs.declared.reply.Reply.Reply, specs.declared.reply.Refusal.Refusal}
 use Rattle.ct_parse.specs.declared.tree.Statement.{Statement}
-use Rattle.ct_resolve.specs.declared.error.ResolveError.{ResolveError}
-use Rattle.ct_resolve.specs.declared.error.ResolveError.TheVariants as name
-use Rattle.ct_resolve.specs.Found.{Found}
-use Rattle.ct_resolve.specs.Statements.{resolved}
-use Rattle.ct_statement.specs.declared.replying.Answered.{Answered}
-use Rattle.ct_statement.specs.declared.replying.Answered.TheVariants as answered
-use Rattle.ct_statement.specs.declared.sight.Sight.{Sight}
-use Rattle.ct_statement.specs.Answered.{IsAnswerFor, Answers as IsAnswered}
-use Rattle.ct_statement.specs.Unmet.{TERMS}
-use Rattle.ct_session.specs.Statements.{ReadsAs}
-use Rattle.ct_session.specs.State.{Transaction, SessionState, carried, extended, extended_at, own_actions}
-use Rattle.ct_session.specs.Seeing.{Sees, ResolvesTo}
-use Rattle.ct_session.specs.LawfulRefusal.{IsNameFault, IsTooLarge, IsFull, IsTooManyTerms, IsInconsistent, LawfulRefusal}
-use Rattle.ct_session.specs.LawfulReply.{IsRows, IsPossible, IsCertain, LawfulReply}
+use Rattle.ct_resolve.{specs.declared.error.ResolveError.ResolveError, specs.Found.Found, specs.Statements.resolved}
+use Rattle.ct_statement.{specs.declared.replying.Answered.Answered, specs.declared.sight.Sight.Sight, specs.Answered.{IsAnswerFor, Answers as IsAnswered}}
+use Rattle.ct_statement.{specs.Unmet.TERMS, proofs.Weights.makes_words_still}
+use Rattle.ct_session.{specs.Statements.ReadsAs, specs.State.{Transaction, SessionState, carried, extended, extended_at, own_actions}}
+use Rattle.ct_session.{specs.Seeing.{Sees, ResolvesTo}, specs.LawfulRefusal.{IsNameFault, IsTooLarge, IsFull, IsTooManyTerms, IsInconsistent, LawfulRefusal}}
+use Rattle.ct_session.{specs.LawfulReply.{IsRows, IsPossible, IsCertain, LawfulReply}, specs.Replying.{reply_of, standing}, proofs.Own.own_commits_stay}
 use Rattle.ct_session.specs.Answers.{committed_of, version_of, is_full, commits_by, GoesOn, ConflictsLater, Answers}
 use Rattle.ct_session.specs.Prepared.{IsPrepared, IsPreparedFor, IsUnmetAt, IsRefused, by_name, unmet, wanting_memory, name_refusal}
+use Rattle.ct_session.{proofs.Going.{prefix_short, IsOnward, onward}, proofs.Listed.{root_place, possible_kept, certain_kept, certain_longer}}
+use mathlib.Core.List.{IsPrefix}
+use Rattle.ct_word.specs.declared.kinds.Class.TheVariants as class
+use Rattle.ct_query.specs.Plain as plain
+use Rattle.ct_query.specs.declared.action.Ask.TheVariants as ask
+use Rattle.ct_transcript.specs.declared.reply.Reply.TheVariants as reply
+use Rattle.ct_transcript.specs.declared.reply.Refusal.TheVariants as refusal
+use Rattle.ct_resolve.specs.declared.error.ResolveError.TheVariants as name
+use Rattle.ct_statement.specs.declared.replying.Answered.TheVariants as answered
 use Rattle.ct_session.specs.declared.preparing.Prepared.TheVariants as prepared
-use Rattle.ct_session.specs.Replying.{reply_of, standing}
-use Rattle.ct_session.proofs.Going.{prefix_short, IsOnward, onward}
-use Rattle.ct_session.proofs.Listed.{root_place, possible_kept, certain_kept, certain_longer}
-use Rattle.ct_session.proofs.Own.{own_commits_stay}
-use Rattle.ct_statement.proofs.Weights.{makes_words_still}
 
 -- words go on without a commit of the session
 pub record Proceeds (N session : ℕ) (words now : List ℕ) : Type 0 where
@@ -139,18 +110,15 @@ extended_session (Some t) st s = refl
 -- a query's answer is no commit, and no refusal for a full log; it rests on its version
 answered_uncommitted : (at plus : ℕ) (a : Answered) → committed_of (reply_of at plus a) ≡ None
 answered_uncommitted at plus (answered.Rows answer) = refl
-answered_uncommitted at plus (answered.Possible columns list) = refl
-answered_uncommitted at plus (answered.Certain columns list) = refl
+answered_uncommitted at plus _ = refl
 
 answered_fits : (at plus : ℕ) (a : Answered) → IsTrue (is_full (reply_of at plus a)) → ⊥
 answered_fits at plus (answered.Rows answer) e = false≢true e
-answered_fits at plus (answered.Possible columns list) e = false≢true e
-answered_fits at plus (answered.Certain columns list) e = false≢true e
+answered_fits at plus _ e = false≢true e
 
 answered_at : (at plus n : ℕ) (a : Answered) → n ≤ at → IfSome (version_of (reply_of at plus a)) (λ m. n ≤ m)
 answered_at at plus n (answered.Rows answer) le = le
-answered_at at plus n (answered.Possible columns list) le = le
-answered_at at plus n (answered.Certain columns list) le = le
+answered_at at plus n _ le = le
 
 -- what an answer was prepared for
 pub record ForAnswer (words : List ℕ) (h : List PlainCommit) (before : List PlainAction) (session fresh : ℕ) (st : Statement) (given : Answered) (reads : List Read) : Type 0 where
@@ -167,10 +135,7 @@ prepared_answer words h before list session fresh sight st given reads p = by_as
   by_asked : (asked : PlainStatement) → resolved (schema h before) session fresh st ≡ Ok asked → IsPreparedFor words h before list fresh sight asked (prepared.Answer given reads)
       → ForAnswer words h before session fresh st given reads
   by_asked (plain.Asks k columns query) resolves o = record { kind = k; columns = columns; query = query; resolves = resolves; answers = o.0; reads_are = o.1 }
-  by_asked (plain.Act a) resolves o = absurd o
-  by_asked plain.Begin resolves o = absurd o
-  by_asked plain.Commit resolves o = absurd o
-  by_asked plain.Rollback resolves o = absurd o
+  by_asked _ resolves o = absurd o
 
 -- a statement that sees a version of the words with these actions, whatever history stands for them; the words of it are there
 module _ (N : ℕ) (s : SessionState) (x : List ℕ) (st : Statement) (reads : ReadsAs x st) (now : List ℕ) (version : ℕ) (actions : List PlainAction) (within : version ≤ length (commits_of now))
@@ -195,13 +160,8 @@ module _ (N : ℕ) (s : SessionState) (x : List ℕ) (st : Statement) (reads : R
 
     name_lawful : (e : ResolveError) → e ≢ name.Memory → resolved (schema seen_commits actions) s.session s.fresh st ≡ Err e
         → LawfulRefusal H W N s x (standing s.seen version (name_refusal e)) (name_refusal e) (carried (standing s.seen version (name_refusal e)) s)
-    name_lawful name.UnknownTable n r = (name_fault name.UnknownTable r, refl)
-    name_lawful name.TableExists n r = (name_fault name.TableExists r, refl)
-    name_lawful name.UnknownColumn n r = (name_fault name.UnknownColumn r, refl)
-    name_lawful name.AmbiguousColumn n r = (name_fault name.AmbiguousColumn r, refl)
-    name_lawful name.DuplicateName n r = (name_fault name.DuplicateName r, refl)
-    name_lawful name.ColumnCount n r = (name_fault name.ColumnCount r, refl)
     name_lawful name.Memory n r = absurd (n refl)
+    name_lawful e n r = (name_fault e r, refl)
 
     -- its query is too large
     too_large : IsUnmetAt seen_commits actions N now s.session s.fresh st refusal.TooLarge → IsTooLarge H W N s x version
@@ -260,18 +220,7 @@ module _ (N : ℕ) (s : SessionState) (x : List ℕ) (st : Statement) (reads : R
     unmet_lawful refusal.TooManyTerms u = (too_many u, refl)
     unmet_lawful (refusal.Inconsistent proof) u = (inconsistent proof u, refl)
     unmet_lawful refusal.Memory u = (refl, refl)
-    unmet_lawful refusal.NotAStatement u = absurd u.unmet
-    unmet_lawful refusal.TooDeep u = absurd u.unmet
-    unmet_lawful refusal.NumberRange u = absurd u.unmet
-    unmet_lawful refusal.InTransaction u = absurd u.unmet
-    unmet_lawful refusal.NoTransaction u = absurd u.unmet
-    unmet_lawful refusal.UnknownTable u = absurd u.unmet
-    unmet_lawful refusal.TableExists u = absurd u.unmet
-    unmet_lawful refusal.UnknownColumn u = absurd u.unmet
-    unmet_lawful refusal.AmbiguousColumn u = absurd u.unmet
-    unmet_lawful refusal.DuplicateName u = absurd u.unmet
-    unmet_lawful refusal.ColumnCount u = absurd u.unmet
-    unmet_lawful (refusal.Conflict table was now' at) u = absurd u.unmet
+    unmet_lawful _ u = absurd u.unmet
 
     -- a refusal is lawful
     pub refused_lawful : (why : Refusal) → IsRefused seen_commits actions N now s.session s.fresh st why
@@ -337,12 +286,7 @@ module _ (N : ℕ) (s : SessionState) (x : List ℕ) (st : Statement) (reads : R
   -- the log is full where a refusal says so
   full_name : (e : ResolveError) (at : ℕ) → IsTrue (is_full (reply.Refused at (name_refusal e))) → ⊥
   full_name name.UnknownTable at e = false≢true e
-  full_name name.TableExists at e = false≢true e
-  full_name name.UnknownColumn at e = false≢true e
-  full_name name.AmbiguousColumn at e = false≢true e
-  full_name name.DuplicateName at e = false≢true e
-  full_name name.ColumnCount at e = false≢true e
-  full_name name.Memory at e = false≢true e
+  full_name _ at e = false≢true e
 
   full_unmet : (why : Refusal) → IsUnmetAt seen_commits actions N now s.session s.fresh st why → (at : ℕ) → IsTrue (is_full (reply.Refused at why)) → length now ≡ N
   full_unmet refusal.Full u at e = u.unmet.full
@@ -356,12 +300,7 @@ module _ (N : ℕ) (s : SessionState) (x : List ℕ) (st : Statement) (reads : R
   -- it is no conflict
   later_name : (e : ResolveError) (next : SessionState) (words : List ℕ) (at : ℕ) → ConflictsLater N s next words now x (reply.Refused at (name_refusal e))
   later_name name.UnknownTable next words at = tt
-  later_name name.TableExists next words at = tt
-  later_name name.UnknownColumn next words at = tt
-  later_name name.AmbiguousColumn next words at = tt
-  later_name name.DuplicateName next words at = tt
-  later_name name.ColumnCount next words at = tt
-  later_name name.Memory next words at = tt
+  later_name _ next words at = tt
 
   later_unmet : (why : Refusal) → IsUnmetAt seen_commits actions N now s.session s.fresh st why → (next : SessionState) (words : List ℕ) (at : ℕ) → ConflictsLater N s next words now x (reply.Refused at why)
   later_unmet (refusal.Conflict table was now' at') u next words at = absurd u.unmet
@@ -374,8 +313,7 @@ module _ (N : ℕ) (s : SessionState) (x : List ℕ) (st : Statement) (reads : R
 
   later_answered : (given : Answered) (next : SessionState) (words : List ℕ) (at plus : ℕ) → ConflictsLater N s next words now x (reply_of at plus given)
   later_answered (answered.Rows answer) next words at plus = tt
-  later_answered (answered.Possible columns list) next words at plus = tt
-  later_answered (answered.Certain columns list) next words at plus = tt
+  later_answered _ next words at plus = tt
 
   -- it has seen all commits of the words before, where none is open
   module _ (words : List ℕ) (p : Proceeds N s.session words now) (newest : s.transaction ≡ None → length (commits_of words) ≤ version) where

@@ -1,27 +1,17 @@
 -- What a statement resolves to: what resolves one that is no BEGIN, COMMIT or ROLLBACK is none either; and a refusal of names.
-use Rattle.std.proofs.Common.{◌≡◌, ◌≢◌, ℕ, Bool, true, false, not, List, [], ◌∷◌, length, subst}
-use Rattle.std.specs.Prelude.{Ok, Err, IfOk, nat_eq}
-use Rattle.std.specs.List.{list_all}
+use Rattle.std.{proofs.Common.{◌≡◌, ◌≢◌, ℕ, Bool, true, false, not, List, [], ◌∷◌, length, subst}, specs.Prelude.{Ok, Err, IfOk, nat_eq}, specs.List.list_all}
 use Rattle.ct_word.specs.Change.{PlainCommit}
-use Rattle.ct_query.specs.declared.action.Ask.{Ask}
-use Rattle.ct_query.specs.declared.action.Ask.TheVariants as ask
-use Rattle.ct_query.specs.declared.action.Resolved.{Resolved}
-use Rattle.ct_query.specs.declared.action.Resolved.TheVariants as resolution
-use Rattle.ct_query.specs.declared.schema.Schema.{Schema}
-use Rattle.ct_query.specs.Plain as plain
-use Rattle.ct_query.specs.Plain.{PlainAction, PlainStatement}
-use Rattle.ct_query.specs.Schema.{schema}
-use Rattle.ct_query.specs.Views.{statement_of}
+use Rattle.ct_query.{specs.declared.action.Ask.Ask, specs.declared.action.Resolved.Resolved, specs.declared.schema.Schema.Schema, specs.Schema.schema}
+use Rattle.ct_query.{specs.Plain.{PlainAction, PlainStatement}, specs.Views.statement_of}
 use Rattle.ct_parse.specs.declared.tree.Statement.{Statement}
-use Rattle.ct_parse.specs.declared.tree.Statement.TheVariants as statement
-use Rattle.ct_resolve.specs.declared.error.ResolveError.{ResolveError}
-use Rattle.ct_resolve.specs.declared.error.ResolveError.TheVariants as fault
-use Rattle.ct_resolve.specs.Found.{Found, and_then, unless}
-use Rattle.ct_resolve.specs.Names.{table_in, is_table, are_distinct}
-use Rattle.ct_resolve.specs.Conditions.{condition_at, condition_or_true}
-use Rattle.ct_resolve.specs.Queries.{Named, query_at}
-use Rattle.ct_resolve.specs.Statements.{cells_of, resolved}
+use Rattle.ct_resolve.{specs.declared.error.ResolveError.ResolveError, specs.Found.{Found, and_then, unless}, specs.Names.{table_in, is_table, are_distinct}}
+use Rattle.ct_resolve.{specs.Conditions.{condition_at, condition_or_true}, specs.Queries.{Named, query_at}, specs.Statements.{cells_of, resolved}}
 use Rattle.ct_session.specs.Prepared.{IsNoOrder, IsNoPlainOrder, IsRefused, by_name, wanting_memory, name_refusal}
+use Rattle.ct_query.specs.declared.action.Ask.TheVariants as ask
+use Rattle.ct_query.specs.declared.action.Resolved.TheVariants as resolution
+use Rattle.ct_query.specs.Plain as plain
+use Rattle.ct_parse.specs.declared.tree.Statement.TheVariants as statement
+use Rattle.ct_resolve.specs.declared.error.ResolveError.TheVariants as fault
 
 -- what is found is no order
 abbrev FindsNone : Found PlainStatement → Type 0
@@ -52,9 +42,7 @@ finds_none s session fresh (statement.Assert c) n = after_step (condition_at [] 
 finds_none s session fresh (statement.Rows q) n = after_step (query_at s.tables q) (asking ask.Rows) (λ a. tt)
 finds_none s session fresh (statement.Possible q) n = after_step (query_at s.tables q) (asking ask.Possible) (λ a. tt)
 finds_none s session fresh (statement.Certain q) n = after_step (query_at s.tables q) (asking ask.Certain) (λ a. tt)
-finds_none s session fresh statement.Begin n = absurd n
-finds_none s session fresh statement.Commit n = absurd n
-finds_none s session fresh statement.Rollback n = absurd n
+finds_none s session fresh _ n = absurd n
 
 pub no_order : (s : Schema) (session fresh : ℕ) (st : Statement) (asked : PlainStatement) → IsNoOrder st → resolved s session fresh st ≡ Ok asked → IsNoPlainOrder asked
 no_order s session fresh st asked n e = subst FindsNone e (finds_none s session fresh st n)
@@ -72,10 +60,5 @@ not_rollback r n e = subst (λ x. IsNoPlainOrder (statement_of x)) e n
 -- a name or a count that does not fit is refused so
 pub named_refuses : (h : List PlainCommit) (before : List PlainAction) (room : ℕ) (words : List ℕ) (session fresh : ℕ) (st : Statement) (e : ResolveError)
     → (e ≢ fault.Memory → resolved (schema h before) session fresh st ≡ Err e) → IsRefused h before room words session fresh st (name_refusal e)
-named_refuses h before room words session fresh st fault.UnknownTable f = by_name fault.UnknownTable (λ p. cc) (f (λ p. cc))
-named_refuses h before room words session fresh st fault.TableExists f = by_name fault.TableExists (λ p. cc) (f (λ p. cc))
-named_refuses h before room words session fresh st fault.UnknownColumn f = by_name fault.UnknownColumn (λ p. cc) (f (λ p. cc))
-named_refuses h before room words session fresh st fault.AmbiguousColumn f = by_name fault.AmbiguousColumn (λ p. cc) (f (λ p. cc))
-named_refuses h before room words session fresh st fault.DuplicateName f = by_name fault.DuplicateName (λ p. cc) (f (λ p. cc))
-named_refuses h before room words session fresh st fault.ColumnCount f = by_name fault.ColumnCount (λ p. cc) (f (λ p. cc))
 named_refuses h before room words session fresh st fault.Memory f = wanting_memory
+named_refuses h before room words session fresh st e f = by_name e (λ p. cc) (f (λ p. cc))

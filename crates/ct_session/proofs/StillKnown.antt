@@ -1,13 +1,9 @@
 -- What a session knows for its next insertion, as words grow.
-use Rattle.std.proofs.Common.{ℕ, List, sym}
-use Rattle.std.specs.Prelude.{Option, Some, None, IfSome, IsNone}
-use Rattle.std.proofs.lemmas.Bool.{false≢true}
-use mathlib.Core.List.{IsPrefix}
+use Rattle.std.{proofs.Common.{ℕ, List, sym}, specs.Prelude.{Option, Some, None, IfSome, IsNone}, proofs.lemmas.Bool.false≢true}
 use Rattle.ct_word.specs.WellFormed.{IsWellFormed}
-use Rattle.ct_statement.specs.declared.sight.Sight.{Sight}
-use Rattle.ct_session.specs.declared.knowing.Known.{Known}
-use Rattle.ct_statement.proofs.Sights.{sight_grows}
-use Rattle.ct_session.specs.Known.{IsKnown, SeesAlone, StillSeen}
+use Rattle.ct_statement.{specs.declared.sight.Sight.Sight, proofs.Sights.sight_grows}
+use Rattle.ct_session.{specs.declared.knowing.Known.Known, specs.Known.{IsKnown, SeesAlone, StillSeen}}
+use mathlib.Core.List.{IsPrefix}
 
 -- where nothing is known, it is true of all words
 pub nothing_known : (words : List ℕ) (k : Known) → IsNone k.sight → IsKnown words k

@@ -1,34 +1,19 @@
 -- What was found at a base stays so after all commits of a history, where none after the base has written what was read.
-use Rattle.std.proofs.Common.{◌≡◌, ℕ, ◌≤◌, List, [], ◌∷◌, ◌++◌, length, take, drop, sym, subst, arith, length-take}
-use Rattle.std.specs.Prelude.{None, Ok, All}
-use Rattle.std.specs.List.{Contains}
-use Rattle.std.proofs.lemmas.List.{take-append-drop}
-use Rattle.std.proofs.lemmas.List.Elements.{All-weaker, All-contains}
-use Rattle.ct_word.specs.Change.{PlainChange, Create, Insert, Delete, Assert, PlainCommit}
-use Rattle.ct_query.specs.declared.schema.Heading.{Heading}
-use Rattle.ct_query.specs.Agrees.{AgreesWith, Agrees}
-use Rattle.ct_query.specs.Fits.{columns_in, FitChanges, FitAfter}
-use Rattle.ct_query.specs.Frame.{AreOlder, creates, reads_of_actions}
-use Rattle.ct_query.specs.Plain as plain
-use Rattle.ct_query.specs.Plain.{PlainAction}
-use Rattle.ct_query.specs.Reads.{last}
-use Rattle.ct_query.specs.Schema.{schema}
-use Rattle.ct_query.specs.declared.action.Read.{Read}
+use Rattle.std.{proofs.Common.{◌≡◌, ℕ, ◌≤◌, List, [], ◌∷◌, ◌++◌, length, take, drop, sym, subst, arith, length-take}, specs.Prelude.{None, Ok, All}}
+use Rattle.std.{specs.List.Contains, proofs.lemmas.List.take-append-drop, proofs.lemmas.List.Elements.{All-weaker, All-contains}}
+use Rattle.ct_word.specs.Change.{PlainChange, Create, PlainCommit}
+use Rattle.ct_query.{specs.declared.schema.Heading.Heading, specs.Agrees.{AgreesWith, Agrees}, specs.Fits.{columns_in, FitChanges, FitAfter}, specs.Reads.last}
+use Rattle.ct_query.{specs.Frame.{AreOlder, creates, reads_of_actions}, specs.Plain.PlainAction, specs.Schema.schema, specs.declared.action.Read.Read}
 use Rattle.ct_query.proofs.Frame.{same_for_actions, fit_later}
 use Rattle.ct_parse.specs.declared.tree.Statement.{Statement}
-use Rattle.ct_resolve.specs.Statements.{resolved}
-use Rattle.ct_resolve.proofs.Growing.{IsNewAmong, resolves_later}
+use Rattle.ct_resolve.{specs.Statements.resolved, proofs.Growing.{IsNewAmong, resolves_later}}
+use Rattle.ct_query.specs.Plain as plain
 
 -- a table that an action creates is new where its change fits
 new_where_fits : (h : List PlainCommit) (hs : List Heading) (a : PlainAction) (x : PlainChange) → AgreesWith h [] a x → FitChanges hs (x ∷ []) → IsNewAmong hs a
 new_where_fits h hs (plain.Create n cs) (Create n' cs') f fits = subst (λ m. columns_in hs m ≡ None) f.0 fits.0
-new_where_fits h hs (plain.Create n cs) (Insert n' rs') f fits = absurd f
-new_where_fits h hs (plain.Create n cs) (Delete n' c') f fits = absurd f
-new_where_fits h hs (plain.Create n cs) (Assert c') f fits = absurd f
-new_where_fits h hs (plain.InsertRows n rs c) x f fits = tt
-new_where_fits h hs (plain.InsertQuery n q) x f fits = tt
-new_where_fits h hs (plain.Delete n c) x f fits = tt
-new_where_fits h hs (plain.Assert c) x f fits = tt
+new_where_fits h hs (plain.Create n cs) _ f fits = absurd f
+new_where_fits h hs _ x f fits = tt
 
 module _ (g : List PlainCommit) (base : ℕ) (within : base ≤ length g) (reads : List Read) (unwritten : All (λ r. last g r ≤ base) reads) where
   all_of : take base g ++ drop base g ≡ g

@@ -1,13 +1,10 @@
 -- A text that is read as no statement is refused so, however the words go on.
-use Rattle.std.proofs.Common.{◌≢◌, ℕ, List, refl, sym}
-use Rattle.std.proofs.lemmas.Bool.{false≢true}
-use Rattle.ct_transcript.specs.declared.reply.Reply.TheVariants as reply
+use Rattle.std.{proofs.Common.{◌≢◌, ℕ, List, refl, sym}, proofs.lemmas.Bool.false≢true}
 use Rattle.ct_transcript.specs.declared.reply.Refusal.{Refusal}
-use Rattle.ct_transcript.specs.declared.reply.Refusal.TheVariants as refusal
-use Rattle.ct_session.specs.Answers.{Answers}
-use Rattle.ct_session.specs.State.{SessionState}
+use Rattle.ct_session.{specs.Answers.Answers, specs.State.SessionState, proofs.Replies.{Proceeds, answers_uncommitted, carried_same, memory_answers}}
 use Rattle.ct_session.specs.Statements.{IsTextFault, number_range, open_text, stray_byte, too_deep, unspelled}
-use Rattle.ct_session.proofs.Replies.{Proceeds, answers_uncommitted, carried_same, memory_answers}
+use Rattle.ct_transcript.specs.declared.reply.Reply.TheVariants as reply
+use Rattle.ct_transcript.specs.declared.reply.Refusal.TheVariants as refusal
 
 module _ (N : ℕ) (s : SessionState) (words x : List ℕ) (p : Proceeds N s.session words words) where
   abbrev Refuses : Refusal → Type 0
@@ -31,19 +28,4 @@ module _ (N : ℕ) (s : SessionState) (words x : List ℕ) (p : Proceeds N s.ses
 
   pub unread_answers : (why : Refusal) → (why ≢ refusal.Memory → IsTextFault x why) → Answers N s s words words x (reply.Refused s.seen why)
   unread_answers refusal.Memory f = memory_answers N s words words x p
-  unread_answers refusal.NotAStatement f = text_refused refusal.NotAStatement (f (λ e. cc))
-  unread_answers refusal.TooDeep f = text_refused refusal.TooDeep (f (λ e. cc))
-  unread_answers refusal.NumberRange f = text_refused refusal.NumberRange (f (λ e. cc))
-  unread_answers refusal.InTransaction f = text_refused refusal.InTransaction (f (λ e. cc))
-  unread_answers refusal.NoTransaction f = text_refused refusal.NoTransaction (f (λ e. cc))
-  unread_answers refusal.UnknownTable f = text_refused refusal.UnknownTable (f (λ e. cc))
-  unread_answers refusal.TableExists f = text_refused refusal.TableExists (f (λ e. cc))
-  unread_answers refusal.UnknownColumn f = text_refused refusal.UnknownColumn (f (λ e. cc))
-  unread_answers refusal.AmbiguousColumn f = text_refused refusal.AmbiguousColumn (f (λ e. cc))
-  unread_answers refusal.DuplicateName f = text_refused refusal.DuplicateName (f (λ e. cc))
-  unread_answers refusal.ColumnCount f = text_refused refusal.ColumnCount (f (λ e. cc))
-  unread_answers refusal.TooLarge f = text_refused refusal.TooLarge (f (λ e. cc))
-  unread_answers refusal.Full f = text_refused refusal.Full (f (λ e. cc))
-  unread_answers refusal.TooManyTerms f = text_refused refusal.TooManyTerms (f (λ e. cc))
-  unread_answers (refusal.Inconsistent proof) f = text_refused (refusal.Inconsistent proof) (f (λ e. cc))
-  unread_answers (refusal.Conflict table was now at) f = text_refused (refusal.Conflict table was now at) (f (λ e. cc))
+  unread_answers why f = text_refused why (f (λ e. cc))

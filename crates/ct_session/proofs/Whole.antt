@@ -1,52 +1,27 @@
 -- What COMMIT of an open transaction is answered, by what became of its offer: each reply is lawful, however the words go on.
 use Rattle.std.proofs.Common.{◌≡◌, ℕ, ◌+◌, ◌-◌, ◌<◌, ◌≤◌, List, [], ◌∷◌, length, take, max, refl, ap, sym, subst, inl, inr, ◌∙◌, arith}
-use Rattle.std.specs.Prelude.{Option, Some, None, Ok, Err, All, option_map}
-use Rattle.std.proofs.lemmas.Bool.{false≢true}
-use Rattle.std.proofs.lemmas.List.Elements.{All-weaker}
-use Rattle.ct_word.specs.Change.{PlainChange, PlainCommit}
-use Rattle.ct_word.specs.Reading.{commits_of, change_list_at}
-use Rattle.ct_word.specs.StandsFor.{SameChanges, StandsFor}
+use Rattle.std.{specs.Prelude.{Option, Some, None, Result, Ok, Err, All, IfSome}, proofs.lemmas.Bool.false≢true, proofs.lemmas.List.Elements.All-weaker}
+use Rattle.ct_word.{specs.Change.{PlainChange, PlainCommit}, specs.Reading.{commits_of, change_list_at}, specs.StandsFor.{SameChanges, StandsFor}}
 use Rattle.ct_word.proofs.Prefixes.{prefix_same}
-use Rattle.ct_query.specs.Agrees.{Agrees}
-use Rattle.ct_query.specs.Plain as plain
-use Rattle.ct_query.specs.Plain.{PlainAction}
-use Rattle.ct_query.specs.Reads.{last}
-use Rattle.ct_query.specs.declared.action.Read.{Read}
+use Rattle.ct_query.{specs.Agrees.Agrees, specs.Plain.PlainAction, specs.Reads.last, specs.declared.action.Read.Read, specs.Bounds.bound, specs.Patterns.count}
 use Rattle.ct_arena.specs.Seen.{Seen}
-use Rattle.ct_arena.specs.Counts.{AreNumbered}
-use Rattle.ct_keeper.specs.Offers.{IsConflict as MeetsLater, changes_in}
-use Rattle.ct_keeper.specs.Served.{IsLastCommit, IsOutcome}
-use Rattle.ct_keeper.specs.declared.catalogue.Outcome.{Outcome}
-use Rattle.ct_keeper.specs.declared.catalogue.Outcome.TheVariants as outcome
-use Rattle.ct_keeper.specs.declared.error.KeeperError.{KeeperError}
-use Rattle.ct_keeper.specs.declared.error.KeeperError.TheVariants as fault
-use Rattle.ct_keeper.specs.declared.catalogue.Offer.{Offer}
+use Rattle.ct_keeper.{specs.Offers.{IsConflict as MeetsLater, changes_in}, specs.Served.{IsLastCommit, IsOutcome}, specs.declared.catalogue.Outcome.Outcome}
+use Rattle.ct_keeper.{specs.declared.error.KeeperError.KeeperError, specs.declared.catalogue.Offer.Offer}
 use Rattle.ct_parse.specs.declared.tree.Statement.{Statement}
-use Rattle.ct_parse.specs.declared.tree.Statement.TheVariants as tree
-use Rattle.ct_query.specs.Bounds.{bound}
-use Rattle.ct_query.specs.Patterns.{count}
 use Rattle.ct_transcript.specs.declared.reply.Reply.{Reply}
+use Rattle.ct_statement.specs.Sight.{actions_before, history_of}
+use Rattle.ct_session.{specs.declared.session.Open.Open, specs.Answers.{GoesOn, Answers}, specs.LawfulRefusal.IsConflict, specs.LawfulReply.IsCommittedWhole}
+use Rattle.ct_session.{specs.Outcomes.{open_after, outcome_reply, outcome_version}, specs.Seeing.Orders, specs.Statements.ReadsAs}
+use Rattle.ct_session.{specs.Sessions.{IsBegunList, IsOpen, state_of, transaction_of}, specs.State.{SessionState, carried, with_transaction}}
+use Rattle.ct_session.proofs.Called.{IsCall, comes, had_room, as_many_as, before, there, front_taken, uncommitted_proceeds, uncommitted_state, wanting_answers}
+use Rattle.ct_session.{proofs.Going.{prefix_short, version_within}, proofs.Conflicting.{later_than, at_within, first_written, was_there, latest_there}}
+use Rattle.ct_session.{proofs.Offered.{IsBegun, none_agree, some_agree}, proofs.Replies.{Proceeds, answers_uncommitted}, proofs.Unchanged.agrees_still}
+use Rattle.ct_query.specs.Plain as plain
+use Rattle.ct_keeper.specs.declared.catalogue.Outcome.TheVariants as outcome
+use Rattle.ct_keeper.specs.declared.error.KeeperError.TheVariants as fault
+use Rattle.ct_parse.specs.declared.tree.Statement.TheVariants as tree
 use Rattle.ct_transcript.specs.declared.reply.Reply.TheVariants as reply
 use Rattle.ct_transcript.specs.declared.reply.Refusal.TheVariants as refusal
-use Rattle.ct_statement.specs.Sight.{actions_before, history_of}
-use Rattle.ct_session.specs.declared.session.Open.{Open}
-use Rattle.ct_session.specs.Answers.{GoesOn, Answers}
-use Rattle.ct_session.specs.LawfulRefusal.{IsConflict}
-use Rattle.ct_session.specs.LawfulReply.{IsCommittedWhole}
-use Rattle.ct_session.specs.Outcomes.{outcome_reply, outcome_version, wanted}
-use Rattle.ct_session.specs.Replying.{standing}
-use Rattle.ct_session.specs.Seeing.{Orders}
-use Rattle.ct_session.specs.Sessions.{IsBegunList, IsOpen, state_of, transaction_of}
-use Rattle.ct_session.specs.State.{SessionState, carried, with_transaction}
-use Rattle.ct_session.specs.Statements.{ReadsAs}
-use Rattle.ct_session.proofs.Called.{IsCall, comes, had_room, as_many_as, before, there, front_taken}
-use Rattle.ct_session.proofs.Conflicting.{later_than, at_within, first_written, was_there, latest_there}
-use Rattle.ct_session.proofs.Going.{prefix_short, version_within}
-use Rattle.ct_session.proofs.Offered.{IsBegun, none_agree, some_agree}
-use Rattle.ct_session.proofs.Own.{own_commits_stay}
-use Rattle.ct_session.proofs.Opened.{standing_within}
-use Rattle.ct_session.proofs.Replies.{Proceeds, answers_uncommitted, carried_same, memory_answers}
-use Rattle.ct_session.proofs.Unchanged.{agrees_still}
 
 -- a session whose open transaction is ended by a text that is read as COMMIT
 module _ (N : ℕ) (pass : Seen) (seen fresh : ℕ) (o : Open) (open' : IsOpen pass.words o) (st : Statement) (order : st ≡ tree.Commit) (x : List ℕ) (reads : ReadsAs x st) where
@@ -145,23 +120,14 @@ module _ (N : ℕ) (pass : Seen) (seen fresh : ℕ) (o : Open) (open' : IsOpen p
     -- nothing was committed
     module _ (mine : pass'.mine ≡ pass.mine) where
       proceeds_on : Proceeds N pass.session pass.words pass'.words
-      proceeds_on = record {
-        longer = k.longer;
-        room = k.room;
-        own = own_commits_stay pass.session pass.mine pass.words pass'.words k.longer k.known
-            (subst (λ n. AreNumbered n pass.mine pass'.words) k.session (subst (λ n. AreNumbered pass'.session n pass'.words) mine k.counted));
-      }
+      proceeds_on = uncommitted_proceeds N pass pass pass' k mine
 
       same_state : (t : Option Open) → state_of pass seen fresh t ≡ state_of pass' seen fresh t
-      same_state t = λ i. record { session = sym k.session i; seen = seen; fresh = fresh; commits = sym mine i; transaction = option_map transaction_of t }
+      same_state = uncommitted_state N pass pass pass' k mine seen fresh
 
       -- there were no changes
       pub nothing_answers : xs ≡ [] → Answers N s (carried base (state_of pass' seen fresh None)) pass.words pass'.words x (reply.Nothing base)
       nothing_answers none = nothing pass'.words proceeds_on pass' k.session mine (none_agree (history_of pass.words o.sight) actions xs b.agrees none)
-
-      -- memory was wanting
-      pub wanting_answers : Answers N s (state_of pass' seen fresh (Some o)) pass.words pass'.words x (reply.Refused seen refusal.Memory)
-      wanting_answers = subst (λ t. Answers N s t pass.words pass'.words x (reply.Refused seen refusal.Memory)) (same_state (Some o)) (memory_answers N s pass.words pass'.words x proceeds_on)
 
       module _ (some : xs ≡ [] → ⊥) where
         has_actions : 0 < length actions
@@ -222,23 +188,27 @@ module _ (N : ℕ) (pass : Seen) (seen fresh : ℕ) (o : Open) (open' : IsOpen p
     to_some : (changes_in pass.words offer ≡ [] → ⊥) → xs ≡ [] → ⊥
     to_some some e = some (ap (change_list_at pass.words) changes_are ∙ e)
 
-    outcome_answers : (out : Outcome) → IsOutcome N pass pass' offer (Ok out)
-        → Answers N s (carried (outcome_version base out) (state_of pass' seen fresh None)) pass.words pass'.words x (outcome_reply base out)
-    outcome_answers (outcome.Committed m) is = whole_answers m is
-    outcome_answers outcome.Nothing f = nothing_answers f.0 (to_none f.1)
-    outcome_answers (outcome.Conflict table was now at) f = conflict_answers f.0.mine (to_some f.0.has_changes) table was now at f.1
+    outcome_answers : (r : Result Outcome KeeperError) → IsOutcome N pass pass' offer r
+        → Answers N s (carried (outcome_version seen base r) (state_of pass' seen fresh (open_after o r))) pass.words pass'.words x (outcome_reply seen base r)
+    outcome_answers (Ok (outcome.Committed m)) f = whole_answers m f
+    outcome_answers (Ok outcome.Nothing) f = nothing_answers f.0 (to_none f.1)
+    outcome_answers (Ok (outcome.Conflict table was now at)) f = conflict_answers f.0.mine (to_some f.0.has_changes) table was now at f.1
+    outcome_answers (Err fault.Full) f = full_answers f.0.mine (to_some f.0.has_changes) f.2
+    outcome_answers (Err fault.Memory) f = wanting_answers N pass pass pass' k f seen fresh (Some o) x
 
-    pub replied_answers : (at : ℕ) (r : Reply) (out : Outcome) → at ≡ outcome_version base out → r ≡ outcome_reply base out → IsOutcome N pass pass' offer (Ok out)
-        → Answers N s (carried at (state_of pass' seen fresh None)) pass.words pass'.words x r
-    replied_answers at r out version same f =
-        subst (λ n. Answers N s (carried n (state_of pass' seen fresh None)) pass.words pass'.words x r) (sym version)
-        (subst (λ q. Answers N s (carried (outcome_version base out) (state_of pass' seen fresh None)) pass.words pass'.words x q) (sym same) (outcome_answers out f))
+    pub replied_answers : (r : Result Outcome KeeperError) → IsOutcome N pass pass' offer r → (at : ℕ) (said : Reply) (left : Option Open) → at ≡ outcome_version seen base r → said ≡ outcome_reply seen base r
+        → left ≡ open_after o r → Answers N s (carried at (state_of pass' seen fresh left)) pass.words pass'.words x said
+    replied_answers r f at said left version same still =
+        subst (λ n. Answers N s (carried n (state_of pass' seen fresh left)) pass.words pass'.words x said) (sym version)
+        (subst (λ l. Answers N s (carried (outcome_version seen base r) (state_of pass' seen fresh l)) pass.words pass'.words x said) (sym still)
+        (subst (λ q. Answers N s (carried (outcome_version seen base r) (state_of pass' seen fresh (open_after o r))) pass.words pass'.words x q) (sym same) (outcome_answers r f)))
 
-    pub fault_answers : (e : KeeperError) → IsOutcome N pass pass' offer (Err e)
-        → Answers N s (carried (standing seen base (wanted e)) (state_of pass' seen fresh (Some o))) pass.words pass'.words x (reply.Refused (standing seen base (wanted e)) (wanted e))
-    fault_answers fault.Full f = full_answers f.0.mine (to_some f.0.has_changes) f.2
-    fault_answers fault.Memory f =
-        subst (λ t. Answers N s t pass.words pass'.words x (reply.Refused seen refusal.Memory)) (sym (carried_same (state_of pass' seen fresh (Some o)))) (wanting_answers f)
+-- a transaction that stays after its offer is open over the words after it
+pub left_open : (words : List ℕ) (o : Open) → IsOpen words o → (r : Result Outcome KeeperError) (left : Option Open) → left ≡ open_after o r → IfSome left (IsOpen words)
+left_open words o k r left is = subst (λ l. IfSome l (IsOpen words)) (sym is) (by_outcome r) where
+  by_outcome : (q : Result Outcome KeeperError) → IfSome (open_after o q) (IsOpen words)
+  by_outcome (Ok out) = tt
+  by_outcome (Err e) = k
 
 -- the session has seen no version past the commits of its words
 module _ (N : ℕ) (words : List ℕ) (pass : Seen) (seen base : ℕ) (seen_is : seen ≤ length (commits_of pass.words)) (base_is : base ≤ length (commits_of pass.words)) (pass' : Seen) (k : IsCall N words pass pass') where
@@ -252,16 +222,14 @@ module _ (N : ℕ) (words : List ℕ) (pass : Seen) (seen base : ℕ) (seen_is :
     pub committed_seen : (m : ℕ) → IsLastCommit pass pass' offer m → max seen m ≤ length (commits_of pass'.words)
     committed_seen m is = let all = as_many_as N words pass pass' offer m k is in let q = seen_there in omega (arith, all, q)
 
-    outcome_seen : (out : Outcome) → IsOutcome N pass pass' offer (Ok out) → max seen (outcome_version base out) ≤ length (commits_of pass'.words)
-    outcome_seen (outcome.Committed m) is = committed_seen m is
-    outcome_seen outcome.Nothing f = let p = base_there in let q = seen_there in omega (arith, p, q)
-    outcome_seen (outcome.Conflict table was now at) f =
+    outcome_seen : (r : Result Outcome KeeperError) → IsOutcome N pass pass' offer r → max seen (outcome_version seen base r) ≤ length (commits_of pass'.words)
+    outcome_seen (Ok (outcome.Committed m)) f = committed_seen m f
+    outcome_seen (Ok (outcome.Conflict table was now at)) f =
         let all = f.1.at_is in
         let q = seen_there in
         omega (arith, all, q)
+    outcome_seen (Err fault.Memory) f = let q = seen_there in omega (arith, q)
+    outcome_seen _ f = let p = base_there in let q = seen_there in omega (arith, p, q)
 
-    pub replied_seen : (at : ℕ) (out : Outcome) → at ≡ outcome_version base out → IsOutcome N pass pass' offer (Ok out) → max seen at ≤ length (commits_of pass'.words)
-    replied_seen at out version f = subst (λ n. max seen n ≤ length (commits_of pass'.words)) (sym version) (outcome_seen out f)
-
-  pub wanting_seen : (e : KeeperError) → max seen (standing seen base (wanted e)) ≤ length (commits_of pass'.words)
-  wanting_seen e = standing_within seen base (length (commits_of pass'.words)) (wanted e) seen_there base_there
+    pub replied_seen : (r : Result Outcome KeeperError) → IsOutcome N pass pass' offer r → (at : ℕ) → at ≡ outcome_version seen base r → max seen at ≤ length (commits_of pass'.words)
+    replied_seen r f at version = subst (λ n. max seen n ≤ length (commits_of pass'.words)) (sym version) (outcome_seen r f)

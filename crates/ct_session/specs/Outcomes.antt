@@ -1,5 +1,5 @@
 -- The world that an offer has, and what is answered, by what became of it; how a statement goes on to its offer.
-use Rattle.std.specs.Prelude.{◌≡◌, ◌≤◌, ℕ, [], length, Option, Some, None, Result, Ok}
+use Rattle.std.specs.Prelude.{◌≡◌, ◌≤◌, ℕ, [], length, Option, Some, None, Result, Ok, Err}
 use mathlib.Core.List.{IsPrefix}
 use Rattle.ct_word.specs.Reading.{commits_of}
 use Rattle.ct_arena.specs.Counts.{AreNumbered}
@@ -14,8 +14,8 @@ use Rattle.ct_keeper.specs.declared.error.KeeperError.{KeeperError}
 use Rattle.ct_keeper.specs.declared.error.KeeperError.TheVariants as fault
 use Rattle.ct_transcript.specs.declared.reply.Reply.{Reply}
 use Rattle.ct_transcript.specs.declared.reply.Reply.TheVariants as reply
-use Rattle.ct_transcript.specs.declared.reply.Refusal.{Refusal}
 use Rattle.ct_transcript.specs.declared.reply.Refusal.TheVariants as refusal
+use Rattle.ct_session.specs.declared.session.Open.{Open}
 
 -- the world that the offer of an action has: the kept one after its step; where no step was made, the one that lists nothing
 abbrev pub world_offered : World → Option Step → World
@@ -31,28 +31,32 @@ pub record Begins (first pass : Seen) (version : ℕ) : Type 0 where
   pub all : length (commits_of first.words) ≤ version
 
 -- the number of the last null after an offer: those that an action drew are the session's once it is committed
-abbrev pub fresh_after : ℕ → ℕ → Outcome → ℕ
-fresh_after fresh drawn (outcome.Committed m) = drawn
+abbrev pub fresh_after : ℕ → ℕ → Result Outcome KeeperError → ℕ
+fresh_after fresh drawn (Ok (outcome.Committed m)) = drawn
 fresh_after fresh drawn _ = fresh
+
+-- the transaction after its offer: it stays where something is wanting
+abbrev pub open_after : Open → Result Outcome KeeperError → Option Open
+open_after o (Ok out) = None
+open_after o (Err e) = Some o
 
 -- the number of the commit that an offer became, where it became one
 abbrev pub committed_as : Result Outcome KeeperError → Option ℕ
 committed_as (Ok (outcome.Committed m)) = Some m
 committed_as _ = None
 
--- the reply to an offer with this base
-abbrev pub outcome_reply : ℕ → Outcome → Reply
-outcome_reply base (outcome.Committed m) = reply.Committed m
-outcome_reply base outcome.Nothing = reply.Nothing base
-outcome_reply base (outcome.Conflict table was now at) = reply.Refused at (refusal.Conflict table was now at)
+-- the reply to an offer with this base, by a session that had seen a version
+abbrev pub outcome_reply : ℕ → ℕ → Result Outcome KeeperError → Reply
+outcome_reply seen base (Ok (outcome.Committed m)) = reply.Committed m
+outcome_reply seen base (Ok outcome.Nothing) = reply.Nothing base
+outcome_reply seen base (Ok (outcome.Conflict table was now at)) = reply.Refused at (refusal.Conflict table was now at)
+outcome_reply seen base (Err fault.Full) = reply.Refused base refusal.Full
+outcome_reply seen base (Err fault.Memory) = reply.Refused seen refusal.Memory
 
 -- the version that this reply carries
-abbrev pub outcome_version : ℕ → Outcome → ℕ
-outcome_version base (outcome.Committed m) = m
-outcome_version base outcome.Nothing = base
-outcome_version base (outcome.Conflict table was now at) = at
-
--- the refusal of an offer for which something is wanting
-abbrev pub wanted : KeeperError → Refusal
-wanted fault.Full = refusal.Full
-wanted fault.Memory = refusal.Memory
+abbrev pub outcome_version : ℕ → ℕ → Result Outcome KeeperError → ℕ
+outcome_version seen base (Ok (outcome.Committed m)) = m
+outcome_version seen base (Ok outcome.Nothing) = base
+outcome_version seen base (Ok (outcome.Conflict table was now at)) = at
+outcome_version seen base (Err fault.Full) = base
+outcome_version seen base (Err fault.Memory) = seen

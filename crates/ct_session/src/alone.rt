@@ -2,27 +2,29 @@
 //
 // A pass's words are read, here and there, for what their type keeps: that they are well formed, and few.
 
-ghost use Rattle.std.specs.Prelude.{◌≡◌, ◌<◌, ◌≤◌, ◌^◌, [], None, false, IfOk, IsNone};
+ghost use Rattle.std.specs.Prelude.{◌≡◌, ◌<◌, ◌≤◌, ◌^◌, [], None, false, length, IfOk, IsNone};
+ghost use Rattle.ct_word.specs.Reading.{commits_of};
 ghost use Rattle.ct_arena.specs.Seen.{Seen};
 ghost use Rattle.ct_query.specs.Views.{statement_of};
+ghost use Rattle.ct_table.specs.Snapshot.{commits_to};
 ghost use Rattle.ct_statement.specs.Sight.{actions_before, history_of};
 ghost use Rattle.ct_session.specs.Executes.{Executes};
 ghost use Rattle.ct_session.specs.Known.{IsKnown, SeesAlone, StillSeen};
 ghost use Rattle.ct_session.specs.Outcomes.{Begins, fresh_after, world_offered};
 ghost use Rattle.ct_session.specs.Offering.{IsReadyToOffer};
-ghost use Rattle.ct_session.specs.Prepared.{IsLiteralAct, IsNoOrder, IsPrepared, IsResolved, needs_step};
+ghost use Rattle.ct_session.specs.Prepared.{IsLiteralAct, IsNoOrder, IsPrepared, IsRefused, IsResolved, needs_step};
 ghost use Rattle.ct_session.specs.Sessions.{IsSession, state_of};
 ghost use Rattle.ct_session.specs.Statements.{IsWritten};
 ghost use Rattle.ct_session.specs.declared.preparing.Prepared.TheVariants as prepared;
 
-use crate::committing::{replied, wanted};
+use crate::committing::replied;
 use crate::knowing::{Known, insert_known};
 use crate::offering::copied;
 use crate::preparing::{Prepared, is_literal_act, perform, prepare_literal, resolved_at};
 use crate::replying::{refusal, reply_of};
 use crate::session::State;
 use ct_arena::{Pass, Site};
-use ct_keeper::{Offer, Outcome, Server};
+use ct_keeper::{KeeperError, Offer, Outcome, Server};
 use ct_parse::Statement;
 use ct_query::{Read, Resolved};
 use ct_statement::{Proposal, Sight, Step};
@@ -30,6 +32,26 @@ use ct_transcript::{Refusal, Reply};
 use ct_word::{List, Memory, World};
 use std::alloc::Global;
 use std::sync::Wait;
+
+/// The refusal of a statement that saw this version.
+fn refused<N: Site>(
+    pass: Pass<N>,
+    seen: u32,
+    fresh: u32,
+    version: u32,
+    statement: &Statement,
+    why: Refusal,
+) -> (State<N>, Reply)
+    requires seen { seen ≤ version }
+    requires within { version ≤ length (commits_of pass.words) }
+    requires refused { IsRefused (commits_to pass.words version) [] N.log.cap pass.words pass.session fresh statement.now why }
+    ensures pass { result.0.pass ≡ pass }
+    ensures session { IsSession result.0.pass.words result.0.seen result.0.open }
+    ensures executes { (first : Seen) → Begins first pass version → Executes N.log.cap (state_of first seen fresh None) (state_of result.0.pass result.0.seen result.0.fresh result.0.open) first.words result.0.pass.words statement.now result.1 }
+{
+    let _words = pass.words();
+    refusal(pass, seen, fresh, None, version, why)
+}
 
 /// The world that the offer of an action has: the kept one after its step; where no step was made, the one that lists
 /// nothing.
@@ -53,11 +75,11 @@ fn world_of(alloc: Global, sight: &Sight, step: Option<Step>) -> Result<World, M
 }
 
 /// The number of the last null after an offer: those that an action drew are the session's once it is committed.
-fn fresh_after(fresh: u32, drawn: u32, outcome: &Outcome) -> u32
+fn fresh_after(fresh: u32, drawn: u32, outcome: &Result<Outcome, KeeperError>) -> u32
     ensures { result ≡ fresh_after fresh drawn outcome.now }
 {
     match outcome {
-        Outcome::Committed(_) => drawn,
+        Ok(Outcome::Committed(_)) => drawn,
         _ => fresh,
     }
 }
@@ -96,14 +118,9 @@ fn offered<N: Site, R: Wait>(
     };
     let (pass, outcome) = server.commit(rt, alloc, pass, &offer);
     let _now = pass.words();
-    match outcome {
-        Ok(outcome) => {
-            let after = fresh_after(fresh, drawn, &outcome);
-            let (at, reply) = replied(base, outcome);
-            (State::carrying(pass, seen, after, None, at), reply)
-        }
-        Err(e) => refusal(pass, seen, fresh, None, base, wanted(e)),
-    }
+    let after = fresh_after(fresh, drawn, &outcome);
+    let (at, reply) = replied(seen, base, outcome);
+    (State::carrying(pass, seen, after, None, at), reply)
 }
 
 /// Commits an action as it was prepared, on the version that it saw, which has all commits of the words with which its
@@ -133,7 +150,9 @@ fn acted<N: Site, R: Wait>(
     let base = sight.version;
     let Ok(kept) = world_of(alloc, &sight, step) else {
         drop(proposal);
-        return refusal(pass, seen, fresh, None, base, Refusal::Memory);
+        drop(reads);
+        drop(sight);
+        return refused(pass, seen, fresh, base, statement, Refusal::Memory);
     };
     // Let go before the commit, so that nobody but the keeper need hold its list of tables.
     drop(sight);
@@ -179,7 +198,7 @@ fn literal<N: Site, R: Wait>(
                 rt, alloc, server, pass, seen, fresh, base, kept, proposal, reads, statement,
             )
         }
-        Err(why) => refusal(pass, seen, fresh, None, base, why),
+        Err(why) => refused(pass, seen, fresh, base, statement, why),
     }
 }
 
@@ -219,6 +238,7 @@ fn performed<N: Site, R: Wait>(
     match prepared {
         Ok(Prepared::Answer { answered, reads }) => {
             drop(reads);
+            drop(sight);
             (
                 State::carrying(pass, seen, fresh, None, at),
                 reply_of(at, 0, answered),
@@ -233,7 +253,10 @@ fn performed<N: Site, R: Wait>(
         ) => acted(
             rt, alloc, server, pass, seen, fresh, sight, proposal, step, reads, statement,
         ),
-        Err(why) => refusal(pass, seen, fresh, None, at, why),
+        Err(why) => {
+            drop(sight);
+            refused(pass, seen, fresh, at, statement, why)
+        }
     }
 }
 
@@ -273,7 +296,11 @@ fn asked<N: Site, R: Wait>(
                 )
             }
         }
-        Err(why) => refusal(pass, seen, fresh, None, sight.version, why),
+        Err(why) => {
+            let version = sight.version;
+            drop(sight);
+            refused(pass, seen, fresh, version, statement, why)
+        }
     }
 }
 

@@ -3,12 +3,12 @@
 ghost use Rattle.std.specs.Prelude.{◌≡◌, ◌<◌, ◌^◌, IsSome, Some};
 ghost use Rattle.ct_parse.specs.declared.tree.Statement.TheVariants as tree;
 ghost use Rattle.ct_session.specs.Executes.{Executes};
-ghost use Rattle.ct_session.specs.Outcomes.{outcome_reply, outcome_version, wanted};
+ghost use Rattle.ct_session.specs.Outcomes.{open_after, outcome_reply, outcome_version};
 ghost use Rattle.ct_session.specs.Sessions.{IsSession, state_of};
 
 use crate::offering::copied;
-use crate::replying::refusal;
 use crate::session::{Open, State};
+use crate::within::refused;
 use ct_arena::{Pass, Site};
 use ct_keeper::{KeeperError, Offer, Outcome, Server};
 use ct_parse::Statement;
@@ -16,20 +16,23 @@ use ct_transcript::{Refusal, Reply};
 use std::alloc::Global;
 use std::sync::Wait;
 
-/// The reply to an offer with this base, and the version that it carries.
-pub(crate) fn replied(base: u32, outcome: Outcome) -> (u32, Reply)
-    ensures version { result.0 ≡ outcome_version base outcome }
-    ensures reply { result.1 ≡ outcome_reply base outcome }
+/// The reply to an offer with this base, and the version that it carries. Want of memory rests on no version, so it
+/// stands at the one that was seen before.
+pub(crate) fn replied(seen: u32, base: u32, outcome: Result<Outcome, KeeperError>) -> (u32, Reply)
+    ensures version { result.0 ≡ outcome_version seen base outcome }
+    ensures reply { result.1 ≡ outcome_reply seen base outcome }
 {
     match outcome {
-        Outcome::Committed(at) => (at, Reply::Committed { at }),
-        Outcome::Nothing => (base, Reply::Nothing { at: base }),
-        Outcome::Conflict {
-            table,
-            was,
-            now,
-            at,
-        } => {
+        Ok(Outcome::Committed(at)) => (at, Reply::Committed { at }),
+        Ok(Outcome::Nothing) => (base, Reply::Nothing { at: base }),
+        Ok(
+            Outcome::Conflict {
+                table,
+                was,
+                now,
+                at,
+            },
+        ) => {
             let why = Refusal::Conflict {
                 table,
                 was,
@@ -38,16 +41,27 @@ pub(crate) fn replied(base: u32, outcome: Outcome) -> (u32, Reply)
             };
             (at, Reply::Refused { at, why })
         }
+        Err(KeeperError::Full) => {
+            let why = Refusal::Full;
+            (base, Reply::Refused { at: base, why })
+        }
+        Err(KeeperError::Memory) => {
+            let why = Refusal::Memory;
+            (seen, Reply::Refused { at: seen, why })
+        }
     }
 }
 
-/// The refusal of an offer for which something is wanting.
-pub(crate) fn wanted(e: KeeperError) -> Refusal
-    ensures { result ≡ wanted e }
+/// The transaction after its offer: it stays where something is wanting.
+fn open_after(outcome: &Result<Outcome, KeeperError>, transaction: Open) -> Option<Open>
+    ensures { result ≡ open_after transaction outcome.now }
 {
-    match e {
-        KeeperError::Full => Refusal::Full,
-        KeeperError::Memory => Refusal::Memory,
+    match outcome {
+        Err(_) => Some(transaction),
+        Ok(_) => {
+            drop(transaction);
+            None
+        }
     }
 }
 
@@ -73,7 +87,7 @@ fn offered<N: Site, R: Wait>(
 {
     let _words = pass.words();
     let Ok(kept) = copied(alloc, &transaction.sight.kept) else {
-        return refusal(pass, seen, fresh, Some(transaction), seen, Refusal::Memory);
+        return refused(pass, seen, fresh, transaction, statement, Refusal::Memory);
     };
     let Open {
         sight,
@@ -90,20 +104,14 @@ fn offered<N: Site, R: Wait>(
     let (pass, outcome) = server.commit(rt, alloc, pass, &offer);
     let _now = pass.words();
     let Offer { reads, .. } = offer;
-    match outcome {
-        Ok(outcome) => {
-            let (at, reply) = replied(base, outcome);
-            (State::carrying(pass, seen, fresh, None, at), reply)
-        }
-        Err(e) => {
-            let transaction = Open {
-                sight,
-                changes: list,
-                reads,
-            };
-            refusal(pass, seen, fresh, Some(transaction), base, wanted(e))
-        }
-    }
+    let transaction = Open {
+        sight,
+        changes: list,
+        reads,
+    };
+    let left = open_after(&outcome, transaction);
+    let (at, reply) = replied(seen, base, outcome);
+    (State::carrying(pass, seen, fresh, left, at), reply)
 }
 
 /// COMMIT of the open transaction. One without actions commits nothing.
@@ -132,6 +140,7 @@ pub(crate) fn commit<N: Site, R: Wait>(
     match open.changes {
         None => {
             let at = open.sight.version;
+            drop(open);
             (
                 State::carrying(pass, seen, fresh, None, at),
                 Reply::Nothing { at },

@@ -110,6 +110,9 @@ pub(crate) fn after_action(
     let room = match with_room(reads, more.len()) {
         Ok(room) => room,
         Err(reads) => {
+            drop(action);
+            drop(step);
+            drop(more);
             return Err(Open {
                 sight,
                 changes: begun,
@@ -123,10 +126,13 @@ pub(crate) fn after_action(
             changes: Some(changes),
             reads: with_reads(room, more),
         }),
-        Err(sight) => Err(Open {
-            sight,
-            changes: begun,
-            reads: List::from_vec(room),
-        }),
+        Err(sight) => {
+            drop(more);
+            Err(Open {
+                sight,
+                changes: begun,
+                reads: List::from_vec(room),
+            })
+        }
     }
 }

@@ -2,12 +2,14 @@
 //
 // A pass's words are read, here and there, for what their type keeps: that they are well formed, and few.
 
-ghost use Rattle.std.specs.Prelude.{◌≡◌, ◌<◌, ◌≤◌, ◌^◌, ℕ, List, None, length, IfOk, IfErr, IsNone};
+ghost use Rattle.std.specs.Prelude.{◌≡◌, ◌<◌, ◌≤◌, ◌^◌, ℕ, List, [], None, length, IfOk, IfErr, IfSome, IsNone};
 ghost use mathlib.Core.List.{IsPrefix};
 ghost use Rattle.ct_word.specs.Reading.{commits_of};
+ghost use Rattle.ct_word.specs.Value.{World};
 ghost use Rattle.ct_history.specs.Kept.{kept_of};
 ghost use Rattle.ct_session.specs.Executes.{Executes};
 ghost use Rattle.ct_session.specs.Known.{IsKnown, SeesAlone};
+ghost use Rattle.ct_session.specs.Offering.{IsReadyToOffer};
 ghost use Rattle.ct_session.specs.Outcomes.{committed_as};
 ghost use Rattle.ct_session.specs.Prepared.{IsNoOrder};
 ghost use Rattle.ct_session.specs.Sessions.{IsSession, state_of};
@@ -15,10 +17,11 @@ ghost use Rattle.ct_session.specs.Statements.{IsWritten};
 
 use crate::preparing::{is_literal_act, prepare_literal, resolved_at};
 use crate::session::State;
-use ct_arena::{Pass, Site};
+use ct_arena::{Arena, Pass, Site};
 use ct_keeper::{KeeperError, Offer, Outcome, Server};
 use ct_parse::Statement;
-use ct_statement::Sight;
+use ct_query::Read;
+use ct_statement::{Proposal, Sight};
 use ct_transcript::Reply;
 use ct_word::List;
 use std::alloc::Global;
@@ -62,12 +65,51 @@ impl Known {
 }
 
 /// The number of the commit that an offer became, where it became one.
-fn committed_as(outcome: &Result<Outcome, KeeperError>) -> Option<u32>
-    ensures { result ≡ committed_as outcome.now }
+fn committed_as(outcome: Result<Outcome, KeeperError>) -> Option<u32>
+    ensures { result ≡ committed_as outcome }
 {
     match outcome {
-        Ok(Outcome::Committed(at)) => Some(*at),
+        Ok(Outcome::Committed(at)) => Some(at),
         _ => None,
+    }
+}
+
+/// The change of an insertion of written rows by what an earlier one saw, with what it reads, where that has its names.
+/// The pass has the words of it. What was seen is lent, so that no way out of this body has to let it go.
+fn ready_known<N: Site>(
+    alloc: Global,
+    arena: &Arena<N>,
+    pass: &mut Pass<N>,
+    fresh: u32,
+    sight: &Sight,
+    statement: &Statement,
+) -> Option<(Proposal, List<Read>)>
+    requires sees { SeesAlone pass.old.words sight.now }
+    requires written { IsWritten statement.now }
+    requires plain { IsNoOrder statement.now }
+    ensures longer { IsPrefix pass.old.words pass.new.words }
+    ensures kept { kept_of pass.new ≡ kept_of pass.old }
+    ensures ready { (kept : World) → kept ≡ [] → IfSome result (λ p. IsReadyToOffer pass.new.words pass.new.session fresh sight.now.version kept p.0 p.1 statement.now) }
+{
+    let found = match resolved_at(alloc, pass, sight, fresh, statement) {
+        Ok(found) => found,
+        Err(why) => {
+            drop(why);
+            return None;
+        }
+    };
+    if !is_literal_act(&found) {
+        drop(found);
+        return None;
+    }
+    let prepared = prepare_literal(alloc, arena, pass, fresh, found);
+    let _now = pass.words();
+    match prepared {
+        Ok(made) => Some(made),
+        Err(why) => {
+            drop(why);
+            None
+        }
     }
 }
 
@@ -103,35 +145,34 @@ pub(crate) fn insert_known<N: Site, R: Wait>(
     let Some(sight) = known.sight.take() else {
         return Err(pass);
     };
-    let Ok(found) = resolved_at(alloc, &pass, &sight, fresh, statement) else {
-        return Err(pass);
-    };
-    if !is_literal_act(&found) {
-        drop(found);
-        return Err(pass);
-    }
-    let prepared = prepare_literal(alloc, server.arena(), &mut pass, fresh, found);
+    let ready = ready_known(alloc, server.arena(), &mut pass, fresh, &sight, statement);
     let _now = pass.words();
-    let Ok((proposal, reads)) = prepared else {
+    let Some((proposal, reads)) = ready else {
+        drop(sight);
         return Err(pass);
     };
     let changes = proposal.changes;
     let drawn = proposal.fresh;
     drop(proposal);
+    let base = sight.version;
     let offer = Offer {
-        base: sight.version,
+        base,
         reads,
         changes,
         kept: List::new(alloc),
     };
     let (pass, outcome) = server.commit(rt, alloc, pass, &offer);
+    drop(offer);
     let _after = pass.words();
-    match committed_as(&outcome) {
+    match committed_as(outcome) {
         Some(at) => {
             known.sight = Some(sight);
             let session = State::carrying(pass, seen, drawn, None, at);
             Ok((session, Reply::Committed { at }))
         }
-        None => Err(pass),
+        None => {
+            drop(sight);
+            Err(pass)
+        }
     }
 }

@@ -31,6 +31,7 @@ pub(crate) fn begin<N: Site, R: Wait>(
     ensures session { IsSession result.0.pass.words result.0.seen result.0.open }
     ensures executes { Executes N.log.cap (state_of session.pass session.seen session.fresh session.open) (state_of result.0.pass result.0.seen result.0.fresh result.0.open) session.pass.words result.0.pass.words statement.now result.1 }
 {
+    drop(session.open);
     let State {
         pass,
         seen,

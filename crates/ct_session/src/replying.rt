@@ -1,9 +1,11 @@
 // Replies that give an answer, and those that refuse a statement.
 
-ghost use Rattle.std.specs.Prelude.{◌≡◌, max};
+ghost use Rattle.std.specs.Prelude.{◌≡◌, ℕ, List, max};
+ghost use Rattle.ct_parse.specs.declared.tree.Statement.{Statement};
+ghost use Rattle.ct_session.specs.Executes.{Executes};
 ghost use Rattle.ct_session.specs.Replying.{reply_of, standing};
-ghost use Rattle.ct_session.specs.Sessions.{state_of};
-ghost use Rattle.ct_session.specs.State.{carried};
+ghost use Rattle.ct_session.specs.Sessions.{IsSession, state_of};
+ghost use Rattle.ct_session.specs.State.{SessionState, carried};
 ghost use Rattle.ct_transcript.specs.declared.reply.Reply.TheVariants as reply;
 
 use crate::session::{Open, State};
@@ -53,10 +55,8 @@ pub(crate) fn refusal<N: Site>(
     why: Refusal,
 ) -> (State<N>, Reply)
     ensures pass { result.0.pass ≡ pass }
-    ensures state { state_of result.0.pass result.0.seen result.0.fresh result.0.open ≡ carried (standing seen version why) (state_of pass seen fresh transaction) }
-    ensures opened { result.0.open ≡ transaction }
-    ensures seen { result.0.seen ≡ max seen (standing seen version why) }
-    ensures reply { result.1 ≡ reply.Refused (standing seen version why) why }
+    ensures session { IsSession pass.words (max seen (standing seen version why)) transaction → IsSession result.0.pass.words result.0.seen result.0.open }
+    ensures executes { (room : ℕ) (s : SessionState) (words : List ℕ) (st : Statement) → Executes room s (carried (standing seen version why) (state_of pass seen fresh transaction)) words pass.words st (reply.Refused (standing seen version why) why) → Executes room s (state_of result.0.pass result.0.seen result.0.fresh result.0.open) words result.0.pass.words st result.1 }
 {
     let at = standing(seen, version, &why);
     (

@@ -1,10 +1,13 @@
 // A session between its statements.
 
-ghost use Rattle.std.specs.Prelude.{◌≡◌, ◌<◌, ◌^◌, max, None};
+ghost use Rattle.std.specs.Prelude.{◌≡◌, ◌<◌, ◌^◌, ℕ, List, max, None};
+ghost use Rattle.ct_parse.specs.declared.tree.Statement.{Statement as StatementValue};
+ghost use Rattle.ct_transcript.specs.declared.reply.Reply.{Reply as ReplyValue};
 ghost use Rattle.ct_session.specs.Answers.{Answers};
-ghost use Rattle.ct_session.specs.Sessions.{state_of};
+ghost use Rattle.ct_session.specs.Executes.{Executes};
+ghost use Rattle.ct_session.specs.Sessions.{IsSession, state_of};
 ghost use Rattle.ct_session.specs.Standing.{state_in};
-ghost use Rattle.ct_session.specs.State.{carried};
+ghost use Rattle.ct_session.specs.State.{SessionState, carried};
 
 use crate::executing::executed;
 use crate::knowing::Known;
@@ -53,6 +56,8 @@ impl<N: Site> State<N> {
         ensures state { state_of result.pass result.seen result.fresh result.open ≡ carried version (state_of pass seen fresh transaction) }
         ensures open { result.open ≡ transaction }
         ensures seen { result.seen ≡ max seen version }
+        ensures session { IsSession pass.words (max seen version) transaction → IsSession result.pass.words result.seen result.open }
+        ensures executes { (room : ℕ) (s : SessionState) (words : List ℕ) (st : StatementValue) (r : ReplyValue) → Executes room s (carried version (state_of pass seen fresh transaction)) words pass.words st r → Executes room s (state_of result.pass result.seen result.fresh result.open) words result.pass.words st r }
     {
         State {
             pass,

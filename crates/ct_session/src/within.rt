@@ -22,7 +22,7 @@ use ct_word::List;
 use std::alloc::Global;
 
 /// The refusal of a statement. The transaction stays.
-fn refused<N: Site>(
+pub(crate) fn refused<N: Site>(
     pass: Pass<N>,
     seen: u32,
     fresh: u32,
@@ -56,6 +56,8 @@ fn answer<N: Site>(
     ensures executes { Executes N.log.cap (state_of pass seen fresh (Some transaction)) (state_of result.0.pass result.0.seen result.0.fresh result.0.open) pass.words result.0.pass.words statement.now result.1 }
 {
     let Ok(plus) = u32::try_from(transaction.sight.actions.len()) else {
+        drop(answered);
+        drop(reads);
         return refused(pass, seen, fresh, transaction, statement, Refusal::Memory);
     };
     let _words = pass.words();
@@ -65,7 +67,10 @@ fn answer<N: Site>(
             let session = State::carrying(pass, seen, fresh, Some(open), at);
             (session, reply_of(at, plus, answered))
         }
-        Err(open) => refused(pass, seen, fresh, open, statement, Refusal::Memory),
+        Err(open) => {
+            drop(answered);
+            refused(pass, seen, fresh, open, statement, Refusal::Memory)
+        }
     }
 }
 
@@ -95,6 +100,9 @@ fn change<N: Site>(
     ensures executes { Executes N.log.cap (state_of pass seen fresh (Some transaction)) (state_of result.0.pass result.0.seen result.0.fresh result.0.open) pass.words result.0.pass.words statement.now result.1 }
 {
     let Some(plus) = one_more(transaction.sight.actions.len()) else {
+        drop(proposal);
+        drop(step);
+        drop(reads);
         return refused(pass, seen, fresh, transaction, statement, Refusal::Memory);
     };
     let _words = pass.words();

@@ -1,23 +1,17 @@
 -- What is true of each term of a condition or a row, and of the whole; the terms of what can be written can be written.
-use Rattle.std.proofs.Common.{◌≡◌, ℕ, true, [], ◌∷◌, length, refl, subst, arith, inl, inr}
-use Rattle.std.specs.Prelude.{All, flat_map}
-use Rattle.std.specs.List.{Contains, list_all}
+use Rattle.std.{proofs.Common.{◌≡◌, ℕ, true, [], ◌∷◌, length, refl, subst, arith, inl, inr}, specs.Prelude.{All, flat_map}, specs.List.{Contains, list_all}}
 use Rattle.std.proofs.lemmas.Bool.{and_parts, and_from}
 use Rattle.std.proofs.lemmas.List.Elements.{All-weaker, All-contains, All-contains_itself, Contains-append_left, Contains-append_right, Contains-append_cases}
-use Rattle.ct_word.specs.declared.values.Term.{Term}
-use Rattle.ct_word.specs.declared.values.Term.TheVariants as term
-use Rattle.ct_word.specs.Condition.{Condition, Conditions, True, False, Same, Not, And, Or, none, also}
+use Rattle.ct_word.{specs.declared.values.Term.Term, specs.Condition.{Condition, Conditions, True, False, Same, Not, And, Or, none, also}}
 use Rattle.ct_word.specs.Change.{PlainRow, PlainChange, Create, Insert, Delete, Assert}
 use Rattle.ct_word.specs.Writable.{is_name, is_writable_term, is_writable_condition, are_writable_conditions, is_writable_row, is_writable}
-use Rattle.ct_query.specs.Plain as plain
-use Rattle.ct_query.specs.Plain.{PlainQuery, PlainAction}
-use Rattle.ct_query.specs.Fits.{IsColumnBelow, AreColumnsBelow, AreAllColumnsBelow, FitsRow}
+use Rattle.ct_query.{specs.Plain.{PlainQuery, PlainAction}, specs.Fits.{IsColumnBelow, AreColumnsBelow, AreAllColumnsBelow, FitsRow}}
 use Rattle.ct_query.specs.Terms.{condition_terms, all_terms, query_terms, action_terms, change_terms}
 use Rattle.ct_resolve.specs.Writing.{WritesTerm, Writes, WritesQuery, WritesAction}
-use Rattle.ct_operators.specs.Terms.{IsNoColumn}
-use Rattle.ct_operators.proofs.Reaching.{behind, foremost, first_or_behind}
-use Rattle.ct_operators.proofs.Naming.{row_terms}
+use Rattle.ct_operators.{specs.Terms.IsNoColumn, proofs.Reaching.{behind, foremost, first_or_behind}, proofs.Naming.row_terms}
 use Rattle.ct_statement.proofs.Members.{unflat, passes, all_pass}
+use Rattle.ct_word.specs.declared.values.Term.TheVariants as term
+use Rattle.ct_query.specs.Plain as plain
 
 -- a condition whose terms are no columns but those below a position
 mutual
@@ -35,25 +29,6 @@ mutual
     columns_of n c (λ t i. each t (Contains-append_left (condition_terms c) (all_terms cs) t i)),
     all_columns_of n cs (λ t i. each t (Contains-append_right (condition_terms c) (all_terms cs) t i)),
   )
-
-mutual
-  pub column_in : (n : ℕ) (c : Condition) (t : Term) → AreColumnsBelow n c → Contains (condition_terms c) t → IsColumnBelow n t
-  column_in n True t below i = absurd (omega (arith, i.1))
-  column_in n False t below i = absurd (omega (arith, i.1))
-  column_in n (Same s u) t below i = elim (first_or_behind s (u ∷ []) t i) [
-    | inl e ↦ subst (IsColumnBelow n) e below.0
-    | inr r ↦ elim (first_or_behind u [] t r) [ inl e ↦ subst (IsColumnBelow n) e below.1 | inr z ↦ absurd (omega (arith, z.1)) ]
-  ]
-  column_in n (Not c) t below i = column_in n c t below i
-  column_in n (And cs) t below i = column_in_all n cs t below i
-  column_in n (Or cs) t below i = column_in_all n cs t below i
-
-  column_in_all : (n : ℕ) (cs : Conditions) (t : Term) → AreAllColumnsBelow n cs → Contains (all_terms cs) t → IsColumnBelow n t
-  column_in_all n none t below i = absurd (omega (arith, i.1))
-  column_in_all n (also c cs) t below i = elim (Contains-append_cases (condition_terms c) (all_terms cs) t i) [
-    | inl l ↦ column_in n c t below.0 l
-    | inr r ↦ column_in_all n cs t below.1 r
-  ]
 
 -- a condition whose terms can be written
 mutual
@@ -110,8 +85,7 @@ row_writes r each =
 -- a term that is no column stands below each position
 pub plain_below : (n : ℕ) (t : Term) → IsNoColumn t → IsColumnBelow n t
 plain_below n (term.Column k) bare = absurd (bare k refl)
-plain_below n (term.Null u) bare = tt
-plain_below n (term.Value x) bare = tt
+plain_below n _ bare = tt
 
 -- the terms of a query that can be written
 pub written_in_query : (q : PlainQuery) (t : Term) → WritesQuery q → Contains (query_terms q) t → WritesTerm t

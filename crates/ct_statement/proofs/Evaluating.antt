@@ -1,47 +1,26 @@
 -- Queries over tables that denote a history and further actions: what answers them, and why they are refused.
 use Rattle.std.proofs.Common.{◌≡◌, ℕ, Bool, true, false, ◌+◌, ◌*◌, ◌<◌, ◌≤◌, List, [], ◌∷◌, map, length, refl, ap, sym, subst, ◌∙◌, arith}
-use Rattle.std.specs.Prelude.{None, nat_lt, if◌then◌else◌}
-use Rattle.std.specs.List.{Contains}
-use Rattle.std.proofs.lemmas.Nat.{mul-le}
-use Rattle.std.proofs.lemmas.Bool.{ltb-false}
+use Rattle.std.{specs.Prelude.{None, nat_lt, if◌then◌else◌}, specs.List.Contains, proofs.lemmas.Nat.mul-le, proofs.lemmas.Bool.ltb-false}
 use Rattle.std.proofs.lemmas.List.Elements.{All-weaker}
-use mathlib.Core.List.{IsPrefix}
-use Rattle.ct_word.specs.declared.values.CRow.{CRow}
-use Rattle.ct_word.specs.Value.{same_text}
-use Rattle.ct_word.specs.Sublist.{IsSublist}
-use Rattle.ct_word.specs.Change.{PlainCommit}
-use Rattle.ct_word.specs.WellFormed.{IsWellFormed}
-use Rattle.ct_query.specs.Bounds as bounds
-use Rattle.ct_query.specs.Bounds.{nodes, bound}
-use Rattle.ct_query.specs.Plain as plain
-use Rattle.ct_query.specs.Plain.{PlainQuery, PlainAction, PlainStatement}
-use Rattle.ct_query.specs.Patterns.{query_pattern, count}
-use Rattle.ct_query.specs.Size.{size, rows_in, row_bound}
-use Rattle.ct_query.specs.Terms.{term_count}
-use Rattle.ct_query.specs.declared.action.Ask.{Ask}
-use Rattle.ct_query.specs.declared.action.Ask.TheVariants as ask
-use Rattle.ct_query.proofs.Sublists.{sublist_of_sublist}
-use Rattle.ct_operators.specs.declared.table.CTable.{CTable}
-use Rattle.ct_table.specs.Counting.{count_of}
-use Rattle.ct_table.specs.Denotes.{TableView, IsKept, Denotes}
-use Rattle.ct_table.specs.Snapshot.{IsGlobal}
-use Rattle.ct_operators.specs.Tables.{cells_of, value_of_rows, AreRows}
+use Rattle.ct_word.{specs.declared.values.CRow.CRow, specs.Value.same_text, specs.Sublist.IsSublist, specs.Change.PlainCommit, specs.WellFormed.IsWellFormed}
+use Rattle.ct_query.{specs.Bounds.{nodes, bound}, specs.Plain.{PlainQuery, PlainAction, PlainStatement}, specs.Patterns.{query_pattern, count}}
+use Rattle.ct_query.{specs.Size.{size, rows_in, row_bound}, specs.Terms.term_count, specs.declared.action.Ask.Ask, proofs.Sublists.sublist_of_sublist}
+use Rattle.ct_operators.{specs.declared.table.CTable.CTable, specs.Tables.{cells_of, value_of_rows, AreRows}, proofs.Reaching.rows_wider}
+use Rattle.ct_table.{specs.Counting.count_of, specs.Denotes.{TableView, IsKept, Denotes}, specs.Snapshot.IsGlobal, proofs.QuerySizes.size_grows}
 use Rattle.ct_table.proofs.ByTables.{cells_found, found-cons, rows_in_found, tables_counted, answered_by_tables, pattern_by_tables}
-use Rattle.ct_table.proofs.QuerySizes.{size_grows}
-use Rattle.ct_operators.proofs.Reaching.{rows_wider}
 use Rattle.ct_table.proofs.Snapshots.{global_grows}
-use Rattle.ct_algebra.specs.Evaluates.{limit, Evaluates}
-use Rattle.ct_algebra.specs.Operands.{AreTables, cells_in}
-use Rattle.ct_algebra.specs.Terms.{TermOfQuery}
+use Rattle.ct_algebra.{specs.Evaluates.{limit, Evaluates}, specs.Operands.{AreTables, cells_in}, specs.Terms.TermOfQuery}
 use Rattle.ct_algebra.specs.declared.error.EvalError.{EvalError}
-use Rattle.ct_algebra.specs.declared.error.EvalError.TheVariants as eval
 use Rattle.ct_certain.specs.declared.error.CertainError.{CertainError}
+use Rattle.ct_statement.{specs.Asking.{terms_of_query, AnswersQuery, IsUnasked, filled, unanswered, unlisted}, specs.Unmet.{TERMS, IsUnmet}}
+use Rattle.ct_statement.{proofs.TermCounts.of_query_asked, proofs.Weights.{nodes_grow, makes_words_still}}
+use mathlib.Core.List.{IsPrefix}
+use Rattle.ct_query.specs.Bounds as bounds
+use Rattle.ct_query.specs.Plain as plain
+use Rattle.ct_query.specs.declared.action.Ask.TheVariants as ask
+use Rattle.ct_algebra.specs.declared.error.EvalError.TheVariants as eval
 use Rattle.ct_certain.specs.declared.error.CertainError.TheVariants as fault
 use Rattle.ct_transcript.specs.declared.reply.Refusal.TheVariants as refusal
-use Rattle.ct_statement.specs.Asking.{terms_of_query, AnswersQuery, IsUnasked, filled, unanswered, unlisted}
-use Rattle.ct_statement.specs.Unmet.{TERMS, IsUnmet}
-use Rattle.ct_statement.proofs.TermCounts.{of_query_asked}
-use Rattle.ct_statement.proofs.Weights.{nodes_grow, makes_words_still}
 
 -- the cells of the table with a name
 pub cells_by_name : (words : List ℕ) (db : List TableView) (name : List ℕ) → cells_in words db name ≡ cells_found words db name

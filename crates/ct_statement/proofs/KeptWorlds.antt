@@ -1,16 +1,11 @@
 -- The kept world of a version and further actions is one that the question for certain tuples takes.
-use Rattle.std.proofs.Common.{ℕ, List, refl, ◌∙◌, inl, inr}
-use Rattle.std.specs.Prelude.{◌⊎◌, IsTrue}
-use Rattle.std.proofs.lemmas.List.Elements.{All-weaker}
-use Rattle.ct_word.specs.declared.values.Value.{Value}
-use Rattle.ct_word.specs.declared.values.Term.TheVariants as term
-use Rattle.ct_word.specs.Value.{World}
-use Rattle.ct_word.specs.Change.{PlainCommit}
+use Rattle.std.{proofs.Common.{ℕ, List, refl, ◌∙◌, inl, inr}, specs.Prelude.{◌⊎◌, IsTrue}, proofs.lemmas.List.Elements.All-weaker}
+use Rattle.ct_word.{specs.declared.values.Value.Value, specs.Value.World, specs.Change.PlainCommit}
 use Rattle.ct_query.specs.Plain.{PlainAction}
-use Rattle.ct_condition.specs.Places.{has_place}
-use Rattle.ct_condition.proofs.Placed.{place_from}
+use Rattle.ct_condition.{specs.Places.has_place, proofs.Placed.place_from}
 use Rattle.ct_equality.specs.Valued.{IsNumbered}
 use Rattle.ct_table.specs.Snapshot.{IsGlobal, IsKeptValue, other, constant, IsKeptWorld}
+use Rattle.ct_word.specs.declared.values.Term.TheVariants as term
 use Rattle.ct_certain.specs.Certain as question
 
 value_taken : (words : List ℕ) (x : Value) → IsKeptValue words x → IsTrue (has_place words (term.Value x)) ⊎ IsNumbered x

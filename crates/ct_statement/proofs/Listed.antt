@@ -1,26 +1,16 @@
 -- The proposal that a change list is, over the words at each call that leads to it.
-use Rattle.std.proofs.Common.{◌≡◌, ℕ, List, [], ◌∷◌, ◌++◌, Option, ap, sym, subst, ◌∙◌}
-use Rattle.std.specs.Prelude.{IsTrue}
-use mathlib.Core.List.{IsPrefix}
-use Rattle.ct_word.specs.declared.kinds.Class.TheVariants as class
-use Rattle.ct_word.specs.declared.values.CRow.{CRow}
-use Rattle.ct_word.specs.Reading.{as_change_list, change_list_at}
-use Rattle.ct_word.specs.WellFormed.{IsWellFormed, is_place_of}
+use Rattle.std.{proofs.Common.{◌≡◌, ℕ, List, [], ◌∷◌, ◌++◌, Option, ap, sym, subst, ◌∙◌}, specs.Prelude.IsTrue}
+use Rattle.ct_word.{specs.declared.values.CRow.CRow, specs.Reading.{as_change_list, change_list_at}, specs.WellFormed.{IsWellFormed, is_place_of}}
 use Rattle.ct_word.proofs.Prefixes.{place_within, change_list_in_prefix}
-use Rattle.ct_query.specs.Agrees.{AgreesWith}
-use Rattle.ct_query.specs.Fits.{FitsAction}
-use Rattle.ct_query.specs.Plain.{PlainAction}
-use Rattle.ct_query.specs.Schema.{schema}
+use Rattle.ct_query.{specs.Agrees.AgreesWith, specs.Fits.FitsAction, specs.Plain.PlainAction, specs.Schema.schema}
 use Rattle.ct_condition.proofs.Reached.{formed_before}
 use Rattle.ct_history.specs.Encodes.{Adds}
 use Rattle.ct_keeper.specs.Doing.{HasTermsFor}
 use Rattle.ct_resolve.specs.Writing.{WritesAction}
-use Rattle.ct_statement.specs.declared.sight.Sight.{Sight}
-use Rattle.ct_statement.specs.Proposals.{IsProposal, listed}
-use Rattle.ct_statement.specs.Sight.{IsSight, actions_before, history_of}
-use Rattle.ct_statement.specs.Sources.{AreTakenFor}
-use Rattle.ct_statement.proofs.Proposed.{agrees_then, has_sources, change_fits, change_written}
-use Rattle.ct_statement.proofs.Sights.{history_stays}
+use Rattle.ct_statement.{specs.declared.sight.Sight.Sight, specs.Proposals.{IsProposal, listed}, specs.Sight.{IsSight, actions_before, history_of}}
+use Rattle.ct_statement.{specs.Sources.AreTakenFor, proofs.Proposed.{agrees_then, has_sources, change_fits, change_written}, proofs.Sights.history_stays}
+use mathlib.Core.List.{IsPrefix}
+use Rattle.ct_word.specs.declared.kinds.Class.TheVariants as class
 
 -- old are the words before, started those when the list is begun
 module _ (old started : List ℕ) (longer : IsPrefix old started) (s : Sight) (is : IsSight old s) (a : PlainAction)

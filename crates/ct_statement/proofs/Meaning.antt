@@ -1,18 +1,9 @@
 -- A printed table that answers a query means it.
-use Rattle.std.proofs.Common.{ℕ, List, sym, subst, ◌∙◌}
-use Rattle.std.specs.Prelude.{IfSome}
-use Rattle.ct_word.specs.declared.values.CRow.{CRow}
-use Rattle.ct_word.specs.Sublist.{IsSublist}
-use Rattle.ct_word.specs.Change.{PlainCommit}
-use Rattle.ct_query.specs.Plain.{PlainQuery, PlainAction}
-use Rattle.ct_query.specs.Database.{SameSet}
-use Rattle.ct_query.specs.Rows.{rows}
-use Rattle.ct_query.specs.Worlds.{world}
-use Rattle.ct_query.specs.Patterns.{pattern}
+use Rattle.std.{proofs.Common.{ℕ, List, sym, subst, ◌∙◌}, specs.Prelude.IfSome}
+use Rattle.ct_word.{specs.declared.values.CRow.CRow, specs.Sublist.IsSublist, specs.Change.PlainCommit}
+use Rattle.ct_query.{specs.Plain.{PlainQuery, PlainAction}, specs.Database.SameSet, specs.Rows.rows, specs.Worlds.world, specs.Patterns.pattern}
 use Rattle.ct_transcript.specs.declared.reply.Answer.{Answer}
-use Rattle.ct_statement.specs.Answered.{IsAnswerFor}
-use Rattle.ct_statement.specs.Asking.{AnswersQuery}
-use Rattle.ct_statement.specs.Printed.{IsPrinted}
+use Rattle.ct_statement.{specs.Answered.IsAnswerFor, specs.Asking.AnswersQuery, specs.Printed.IsPrinted}
 
 pub answer_means : (words : List ℕ) (global : ℕ) (h : List PlainCommit) (actions : List PlainAction) (q : PlainQuery) (width : ℕ) (rs : List CRow)
     → AnswersQuery words global h actions q width rs → (columns : List (List ℕ)) (answer : Answer) → IsPrinted words columns global rs answer → IsAnswerFor h actions columns q answer

@@ -1,8 +1,6 @@
 -- Members of lists that were filtered, joined or tested.
-use Rattle.std.proofs.Common.{◌≡◌, Bool, true, false, ◌||◌, List, [], ◌∷◌, cond, refl, ap, sym, subst, ◌∙◌, arith, inl, inr}
-use Rattle.std.specs.Prelude.{filter, flat_map}
-use Rattle.std.specs.List.{Contains, list_all, list_any}
-use Rattle.std.proofs.lemmas.Bool.{and_parts, and_from, cases_Bool, false≢true}
+use Rattle.std.{proofs.Common.{◌≡◌, Bool, true, false, ◌||◌, List, [], ◌∷◌, cond, refl, ap, sym, subst, ◌∙◌, arith, inl, inr}, specs.Prelude.{filter, flat_map}}
+use Rattle.std.{specs.List.{Contains, list_all, list_any}, proofs.lemmas.Bool.{and_parts, and_from, cases_Bool, false≢true}}
 use Rattle.std.proofs.lemmas.List.Elements.{Contains-append_cases}
 use Rattle.ct_operators.proofs.Reaching.{behind, foremost, first_or_behind}
 

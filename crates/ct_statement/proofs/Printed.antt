@@ -1,24 +1,15 @@
 -- A conditional table and its printed form.
 use Rattle.std.proofs.Common.{◌≡◌, ℕ, zero, suc, ◌+◌, ◌<◌, Bool, true, false, List, [], ◌∷◌, ◌++◌, length, map, take, get_or, cond, refl, ap, sym, subst, ◌∙◌, arith}
-use Rattle.std.specs.Prelude.{IsTrue, All}
-use Rattle.std.specs.List.{AllZip, IsDistinct, list_all, filter}
-use Rattle.std.proofs.lemmas.Bool.{and_parts, and_from}
+use Rattle.std.{specs.Prelude.{IsTrue, All}, specs.List.{AllZip, IsDistinct, list_all, filter}, proofs.lemmas.Bool.{and_parts, and_from}}
 use Rattle.std.proofs.lemmas.List.Elements.{All-head, All-tail, All-weaker}
-use Rattle.ct_word.specs.declared.kinds.Class.TheVariants as class
-use Rattle.ct_word.specs.declared.values.Term.{Term}
-use Rattle.ct_word.specs.declared.values.CRow.{CRow}
-use Rattle.ct_word.specs.Value.{World, same_cells, tuple_at}
-use Rattle.ct_word.specs.Change.{PlainRow}
-use Rattle.ct_word.specs.Condition.{SameTruth, holds_at}
-use Rattle.ct_word.specs.Reading.{term_at, condition_at, plain_crow}
-use Rattle.ct_word.specs.WellFormed.{is_place_of}
+use Rattle.ct_word.{specs.declared.values.Term.Term, specs.declared.values.CRow.CRow, specs.Value.{World, same_cells, tuple_at}, specs.Change.PlainRow}
+use Rattle.ct_word.{specs.Condition.{SameTruth, holds_at}, specs.Reading.{term_at, condition_at, plain_crow}, specs.WellFormed.is_place_of}
 use Rattle.ct_query.specs.Step.{shown_rows}
-use Rattle.ct_rewrite.specs.declared.answer.Node.{Node}
-use Rattle.ct_rewrite.specs.declared.answer.AnswerRow.{AnswerRow}
-use Rattle.ct_rewrite.specs.Nodes.{node_condition, IsOrdered, is_position}
+use Rattle.ct_rewrite.{specs.declared.answer.Node.Node, specs.declared.answer.AnswerRow.AnswerRow, specs.Nodes.{node_condition, IsOrdered, is_position}}
 use Rattle.ct_rewrite.specs.History.{plain_row}
 use Rattle.ct_operators.specs.Tables.{cells_of, value_of_rows, IsRow, AreRows}
 use Rattle.ct_statement.specs.Printed.{printed_row, printed_rows, IsPrinted}
+use Rattle.ct_word.specs.declared.kinds.Class.TheVariants as class
 
 module _ (words : List ℕ) where
   printed_more : (rows : List CRow) (ks : List ℕ) (i : ℕ) (r : CRow) → i < length rows → length ks ≡ length rows → r ≡ get_or rows i r
@@ -66,9 +57,8 @@ module _ (words : List ℕ) (nodes : List Node) where
 
   as_many : (rows : List CRow) (ks : List ℕ) → AllZip Printed ks (map (λ r. r.cond) rows) → length ks ≡ length rows
   as_many [] [] same = refl
-  as_many [] (k ∷ ks) same = absurd same
-  as_many (r ∷ rows) [] same = absurd same
   as_many (r ∷ rows) (k ∷ ks) same = ap suc (as_many rows ks same.1)
+  as_many _ _ same = absurd same
 
   tuples_stay : (v : World) (rows : List CRow) (ks : List ℕ) → AllZip Printed ks (map (λ r. r.cond) rows)
       → shown_rows v (map (plain_row nodes) (printed_rows words rows ks)) ≡ value_of_rows words v rows

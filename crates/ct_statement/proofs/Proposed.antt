@@ -1,46 +1,25 @@
 -- The change of an action in a change list: it agrees with the action, fits the tables, can be written, and its terms are
 -- those of the action or of what its query asks about.
-use Rattle.std.proofs.Common.{◌≡◌, ◌≤◌, ◌^◌, ℕ, true, List, ◌∷◌, length, map, None, refl, sym, subst, ◌∙◌, inl, inr}
-use Rattle.std.specs.Prelude.{All, IsSome, IsTrue, flat_map}
-use Rattle.std.specs.List.{Contains, list_all}
-use Rattle.std.proofs.lemmas.Bool.{and_from}
-use Rattle.std.proofs.lemmas.List.{length-map}
+use Rattle.std.{proofs.Common.{◌≡◌, ◌≤◌, ◌^◌, ℕ, true, List, ◌∷◌, length, map, None, refl, sym, subst, ◌∙◌, inl, inr}, specs.List.{Contains, list_all}}
+use Rattle.std.{specs.Prelude.{All, IsSome, IsTrue, flat_map}, proofs.lemmas.Bool.and_from, proofs.lemmas.List.length-map}
 use Rattle.std.proofs.lemmas.List.Elements.{All-weaker, All-contains, All-nil, All-contains_itself, Contains-push, Contains-append_cases}
-use Rattle.ct_word.specs.declared.values.CRow.{CRow}
-use Rattle.ct_word.specs.declared.values.Term.{Term}
-use Rattle.ct_word.specs.declared.values.Term.TheVariants as term
-use Rattle.ct_word.specs.Condition.{Condition}
-use Rattle.ct_word.specs.Change.{PlainRow, PlainChange, Create, Insert, Delete, Assert, PlainCommit}
-use Rattle.ct_word.specs.Reading.{plain_crow, term_at}
-use Rattle.ct_word.specs.Sublist.{IsSublist}
-use Rattle.ct_word.specs.WellFormed.{IsWellFormed}
-use Rattle.ct_word.specs.Writable.{is_name, is_writable_condition, is_writable_row, is_writable}
-use Rattle.ct_word.proofs.Items.{unmapped_item}
-use Rattle.ct_query.specs.Agrees.{AgreesWith}
+use Rattle.ct_word.{specs.declared.values.CRow.CRow, specs.declared.values.Term.Term, specs.Condition.Condition, specs.Reading.{plain_crow, term_at}}
+use Rattle.ct_word.{specs.Change.{PlainRow, PlainChange, Create, Insert, Delete, Assert, PlainCommit}, specs.Sublist.IsSublist, specs.WellFormed.IsWellFormed}
+use Rattle.ct_word.{specs.Writable.{is_name, is_writable_condition, is_writable_row, is_writable}, proofs.Items.unmapped_item}
+use Rattle.ct_query.{specs.Agrees.AgreesWith, specs.Patterns.pattern, specs.Plain.{PlainQuery, PlainAction}, specs.Schema.schema, specs.Worlds.changes_of}
 use Rattle.ct_query.specs.Fits.{columns_in, count_of, width, IsColumnBelow, AreColumnsBelow, FitsCell, FitsRow, FitsAction, FitsChange}
-use Rattle.ct_query.specs.Patterns.{pattern}
-use Rattle.ct_query.specs.Plain as plain
-use Rattle.ct_query.specs.Plain.{PlainQuery, PlainAction}
-use Rattle.ct_query.specs.Schema.{schema}
-use Rattle.ct_query.specs.Terms.{condition_terms, action_terms, change_terms}
-use Rattle.ct_query.specs.Worlds.{changes_of}
-use Rattle.ct_query.specs.declared.schema.Heading.{Heading}
+use Rattle.ct_query.{specs.Terms.{condition_terms, action_terms, change_terms}, specs.declared.schema.Heading.Heading}
 use Rattle.ct_query.proofs.Fitting.{condition_on, narrow_fits}
-use Rattle.ct_history.specs.Encodes.{IsEncodable, IsChangeFor, HasTermsOf}
-use Rattle.ct_history.specs.Rows.{IsRowOf}
-use Rattle.ct_keeper.specs.Doing.{HasTermsFor, written_by}
+use Rattle.ct_history.{specs.Encodes.{IsEncodable, IsChangeFor, HasTermsOf}, specs.Rows.IsRowOf}
+use Rattle.ct_keeper.{specs.Doing.{HasTermsFor, written_by}, proofs.Finding.column_in}
 use Rattle.ct_resolve.specs.Writing.{IsNamed, WritesTerm, WritesAction}
-use Rattle.ct_table.specs.Denotes.{by_action}
-use Rattle.ct_operators.specs.Tables.{IsRow}
-use Rattle.ct_operators.specs.Terms.{TermOfRow}
-use Rattle.ct_table.proofs.Changing.{cells_listed}
-use Rattle.ct_operators.proofs.Naming.{mapped, given, row_terms, row_reached}
+use Rattle.ct_table.{specs.Denotes.by_action, proofs.Changing.cells_listed}
+use Rattle.ct_operators.{specs.Tables.IsRow, specs.Terms.TermOfRow, proofs.Naming.{mapped, given, row_terms, row_reached}}
 use Rattle.ct_operators.proofs.Reaching.{from_rows, none_of_some}
-use Rattle.ct_statement.specs.Asking.{terms_of_query, AnswersQuery}
-use Rattle.ct_statement.specs.Sources.{AreTakenFor}
-use Rattle.ct_statement.proofs.EachTerm.{columns_of, column_in, writes_of, row_fits, row_writes, plain_below}
-use Rattle.ct_statement.proofs.Members.{unflat, all_pass}
-use Rattle.ct_statement.proofs.TermSources.{source_writes, asked_source}
+use Rattle.ct_statement.{specs.Asking.{terms_of_query, AnswersQuery}, specs.Sources.AreTakenFor, proofs.Members.{unflat, all_pass}}
+use Rattle.ct_statement.{proofs.EachTerm.{columns_of, writes_of, row_fits, row_writes, plain_below}, proofs.TermSources.{source_writes, asked_source}}
+use Rattle.ct_word.specs.declared.values.Term.TheVariants as term
+use Rattle.ct_query.specs.Plain as plain
 
 -- the terms of a deletion have numbers that a word has room for, where its table has no more than 2^28 columns
 pub deletion_encodable : (s : List Heading) (name : List ℕ) (c : Condition) → FitsAction s (plain.Delete name c) → count_of (columns_in s name) ≤ 2 ^ 28 → IsEncodable (plain.Delete name c)
@@ -52,10 +31,7 @@ module _ (words : List ℕ) (global : ℕ) (h : List PlainCommit) (before : List
   taken_placed (plain.InsertQuery name q) rs t =
       let n = width (schema h before).tables q in
       All-weaker (IsRow words n) (IsRowOf words) (λ r is. record { terms = is.terms; condition = is.condition }) rs t.are.each
-  taken_placed (plain.Create name columns) rs t = subst (All (IsRowOf words)) (sym t) (All-nil (IsRowOf words))
-  taken_placed (plain.InsertRows name lists c) rs t = subst (All (IsRowOf words)) (sym t) (All-nil (IsRowOf words))
-  taken_placed (plain.Delete name c) rs t = subst (All (IsRowOf words)) (sym t) (All-nil (IsRowOf words))
-  taken_placed (plain.Assert c) rs t = subst (All (IsRowOf words)) (sym t) (All-nil (IsRowOf words))
+  taken_placed _ rs t = subst (All (IsRowOf words)) (sym t) (All-nil (IsRowOf words))
 
 module _ (words : List ℕ) (formed : IsWellFormed words) (global : ℕ) (h : List PlainCommit) (before : List PlainAction) where
   -- the change agrees with its action
@@ -66,10 +42,7 @@ module _ (words : List ℕ) (formed : IsWellFormed words) (global : ℕ) (h : Li
   agrees_then (plain.InsertRows name lists c) rs (Insert name' rs') is t = is
   agrees_then (plain.Delete name c) rs (Delete name' c') is t = is
   agrees_then (plain.Assert c) rs (Assert c') is t = is
-  agrees_then (plain.Create name columns) rs _ is t = absurd is
-  agrees_then (plain.InsertRows name lists c) rs _ is t = absurd is
-  agrees_then (plain.Delete name c) rs _ is t = absurd is
-  agrees_then (plain.Assert c) rs _ is t = absurd is
+  agrees_then _ rs _ is t = absurd is
 
   -- a term of the rows that an insertion takes stands below one of them, and is asked about
   module _ (name : List ℕ) (q : PlainQuery) (n : ℕ) (rs : List CRow) (t : AnswersQuery words global h before q n rs) where
@@ -98,10 +71,7 @@ module _ (words : List ℕ) (formed : IsWellFormed words) (global : ℕ) (h : Li
   pub has_sources : (a : PlainAction) (rs : List CRow) (x : PlainChange) → HasTermsOf a (map (plain_crow words) rs) x → AreTakenFor words global h before a rs → HasTermsFor h before a x
   has_sources (plain.InsertQuery name q) rs x from t = λ u none i.
       asked_source h before name q (written_by x) u (taken_asked name q (width (schema h before).tables q) rs t u (from u i))
-  has_sources (plain.Create name columns) rs x from t = λ u none i. by_action (plain.Create name columns) (Contains-push before (plain.Create name columns)) (from u i)
-  has_sources (plain.InsertRows name lists c) rs x from t = λ u none i. by_action (plain.InsertRows name lists c) (Contains-push before (plain.InsertRows name lists c)) (from u i)
-  has_sources (plain.Delete name c) rs x from t = λ u none i. by_action (plain.Delete name c) (Contains-push before (plain.Delete name c)) (from u i)
-  has_sources (plain.Assert c) rs x from t = λ u none i. by_action (plain.Assert c) (Contains-push before (plain.Assert c)) (from u i)
+  has_sources a rs x from t = λ u none i. by_action a (Contains-push before a) (from u i)
 
   -- the change fits where its action does
   pub change_fits : (a : PlainAction) (rs : List CRow) (x : PlainChange) → FitsAction (schema h before).tables a → IsChangeFor a (map (plain_crow words) rs) x
@@ -130,17 +100,13 @@ module _ (words : List ℕ) (formed : IsWellFormed words) (global : ℕ) (h : Li
       let n = width s (plain.Table name) in
       subst (λ x. IsSome (columns_in s x) × AreColumnsBelow (count_of (columns_in s x)) c) (sym is.0) (f.0, columns_of n c (λ u i. column_in n p u f.1.columns (from u i)))
   change_fits (plain.Assert p) rs (Assert c) f is from t = columns_of 0 c (λ u i. column_in 0 p u f.columns (from u i))
-  change_fits (plain.Create name columns) rs _ f is from t = absurd is
-  change_fits (plain.InsertRows name lists c) rs _ f is from t = absurd is
-  change_fits (plain.Delete name p) rs _ f is from t = absurd is
-  change_fits (plain.Assert p) rs _ f is from t = absurd is
+  change_fits _ rs _ f is from t = absurd is
 
 -- the change can be written, where the history, the actions before and the action can
 module _ (h : List PlainCommit) (before : List PlainAction) (can : IsTrue (list_all is_writable (changes_of h))) (earlier : All WritesAction before) where
   each_written : (a : PlainAction) (x : PlainChange) → WritesAction a → HasTermsFor h before a x → (u : Term) → Contains (change_terms x) u → WritesTerm u
   each_written a x own from (term.Column k) i = refl
-  each_written a x own from (term.Null n) i = source_writes h before a (written_by x) (term.Null n) can earlier own (from (term.Null n) (λ k e. cc) i)
-  each_written a x own from (term.Value v) i = source_writes h before a (written_by x) (term.Value v) can earlier own (from (term.Value v) (λ k e. cc) i)
+  each_written a x own from u i = source_writes h before a (written_by x) u can earlier own (from u (λ k e. cc) i)
 
   rows_written : (a : PlainAction) (name : List ℕ) (rs : List PlainRow) → WritesAction a → HasTermsFor h before a (Insert name rs) → IsNamed name → is_writable (Insert name rs) ≡ true
   rows_written a name rs own from named =

@@ -1,34 +1,18 @@
 -- What a table that answers a query makes possible and certain, its query makes so over the history.
-use Rattle.std.proofs.Common.{◌≡◌, ℕ, Bool, true, false, not, ◌&&◌, ◌||◌, List, ◌∷◌, map, cond, refl, ap, sym, ◌∙◌}
-use Rattle.std.specs.Prelude.{Option, Some, None, IfSome, IsSomeAnd, IsTrue, All, is_some}
-use Rattle.std.specs.List.{IsDistinct, AllByRecursion}
-use Rattle.std.proofs.lemmas.Bool.{false≢true, or_left, or_right, and_parts}
-use Rattle.std.proofs.lemmas.Map.Keys.{IsDistinct-head, IsDistinct-tail, IsDistinct-cons}
-use Rattle.std.proofs.lemmas.List.Elements.{All-nil, All-cons, All-weaker}
-use Rattle.ct_word.specs.declared.values.Value.{Value}
-use Rattle.ct_word.specs.declared.values.CRow.{CRow}
-use Rattle.ct_word.specs.Value.{World, same_cells, same_tuple, tuple_at}
-use Rattle.ct_word.specs.Sublist.{IsSublist, ended, left_out, taken}
-use Rattle.ct_word.specs.Condition.{holds_at}
-use Rattle.ct_word.specs.Change.{PlainCommit}
+use Rattle.std.{proofs.Common.{◌≡◌, ℕ, Bool, true, false, not, ◌&&◌, ◌||◌, List, ◌∷◌, map, cond, refl, ap, sym, ◌∙◌}, specs.List.{IsDistinct, AllByRecursion}}
+use Rattle.std.{specs.Prelude.{Option, Some, None, IfSome, IsSomeAnd, IsTrue, All, is_some}, proofs.lemmas.Bool.{false≢true, or_left, or_right, and_parts}}
+use Rattle.std.{proofs.lemmas.Map.Keys.{IsDistinct-head, IsDistinct-tail, IsDistinct-cons}, proofs.lemmas.List.Elements.{All-nil, All-cons, All-weaker}}
+use Rattle.ct_word.{specs.declared.values.Value.Value, specs.declared.values.CRow.CRow, specs.Value.{World, same_cells, same_tuple, tuple_at}}
+use Rattle.ct_word.{specs.Sublist.{IsSublist, ended, left_out, taken}, specs.Condition.holds_at, specs.Change.PlainCommit, proofs.Alike.tuple_decides}
 use Rattle.ct_word.specs.Reading.{term_at, condition_at, plain_crow}
-use Rattle.ct_word.proofs.Alike.{tuple_decides}
-use Rattle.ct_query.specs.Plain.{PlainQuery, PlainAction}
-use Rattle.ct_query.specs.Database.{Database, has_tuple, SameSet}
-use Rattle.ct_query.specs.Rows.{rows}
-use Rattle.ct_query.specs.Worlds.{world}
+use Rattle.ct_query.{specs.Plain.{PlainQuery, PlainAction}, specs.Database.{Database, has_tuple, SameSet}, specs.Rows.rows, specs.Worlds.world}
 use Rattle.ct_query.proofs.Sublists.{sublist_of_sublist}
-use Rattle.ct_rewrite.specs.declared.answer.PossibleRow.{PossibleRow}
-use Rattle.ct_rewrite.specs.declared.answer.CertainRow.{CertainRow}
-use Rattle.ct_rewrite.specs.Tidy.{IsTidy}
+use Rattle.ct_rewrite.{specs.declared.answer.PossibleRow.PossibleRow, specs.declared.answer.CertainRow.CertainRow, specs.Tidy.IsTidy}
 use Rattle.ct_operators.specs.Tables.{cells_of, value_of_rows}
-use Rattle.ct_transcript.specs.Possible.{ShowsRow, PossibleRight}
-use Rattle.ct_transcript.specs.Certain.{IsCertain, is_absent, RefutesAbsence, CertainRight}
+use Rattle.ct_transcript.{specs.Possible.{ShowsRow, PossibleRight}, specs.Certain.{IsCertain, is_absent, RefutesAbsence, CertainRight}}
+use Rattle.ct_certain.{specs.Possible.{shown_row, ListsPossible}, specs.Certain.{IsInAll, is_missing, RefutesMissing, ListsCertain}}
+use Rattle.ct_statement.{specs.Asking.AnswersQuery, proofs.Printed.shown_more}
 use Rattle.ct_certain.specs.Possible as lists
-use Rattle.ct_certain.specs.Possible.{is_shown, shown_row, ListsPossible}
-use Rattle.ct_certain.specs.Certain.{IsInAll, is_missing, RefutesMissing, ListsCertain}
-use Rattle.ct_statement.specs.Asking.{AnswersQuery}
-use Rattle.ct_statement.proofs.Printed.{shown_more}
 
 -- what holds of each item holds of each of a part
 all_in_part : {A : Type 0} (P : A → Type 0) (xs ys : List A) → IsSublist xs ys → AllByRecursion P ys → AllByRecursion P xs

@@ -1,28 +1,17 @@
 -- What is seen stays so in longer words, and what is seen after a step.
-use Rattle.std.proofs.Common.{◌≡◌, ◌≤◌, ℕ, List, [], ◌∷◌, ◌++◌, length, map, take, ap, sym, subst, ◌∙◌, arith, length-append}
-use Rattle.std.specs.Prelude.{All, Option, Some, None, option_map, unwrap_or}
-use Rattle.std.specs.Arc.{arc_value}
-use Rattle.std.proofs.lemmas.List.{map-append, take-append-le}
+use Rattle.std.{proofs.Common.{◌≡◌, ◌≤◌, ℕ, List, [], ◌∷◌, ◌++◌, length, map, take, ap, sym, subst, ◌∙◌, arith, length-append}, specs.Arc.arc_value}
+use Rattle.std.{specs.Prelude.{All, Option, Some, None, option_map, unwrap_or}, proofs.lemmas.List.{map-append, take-append-le}}
 use Rattle.std.proofs.lemmas.List.Elements.{All-push}
-use mathlib.Core.List.{IsPrefix}
-use Rattle.ct_word.specs.Value.{World}
-use Rattle.ct_word.specs.Reading.{commits_of}
-use Rattle.ct_word.specs.WellFormed.{IsWellFormed}
-use Rattle.ct_word.proofs.Prefixes.{commits_prefix}
-use Rattle.ct_query.specs.Plain.{PlainAction}
-use Rattle.ct_query.specs.Views.{action_of}
-use Rattle.ct_query.specs.declared.action.Action.{Action}
+use Rattle.ct_word.{specs.Value.World, specs.Reading.commits_of, specs.WellFormed.IsWellFormed, proofs.Prefixes.commits_prefix}
+use Rattle.ct_query.{specs.Plain.PlainAction, specs.Views.action_of, specs.declared.action.Action.Action}
 use Rattle.ct_resolve.specs.Writing.{WritesAction}
 use Rattle.ct_condition.proofs.Reached.{formed_before}
-use Rattle.ct_table.specs.Denotes.{Denotes}
-use Rattle.ct_table.specs.Snapshot.{commits_to, IsGlobal, IsKeptWorld}
-use Rattle.ct_table.proofs.Changing.{denotes_grows}
+use Rattle.ct_table.{specs.Denotes.Denotes, specs.Snapshot.{commits_to, IsGlobal, IsKeptWorld}, proofs.Changing.denotes_grows}
 use Rattle.ct_table.proofs.Snapshots.{global_grows, kept_grows}
 use Rattle.ct_keeper.specs.Effects.{tables_after, global_after}
-use Rattle.ct_statement.specs.declared.sight.Sight.{Sight}
-use Rattle.ct_statement.specs.declared.stepping.Step.{Step}
-use Rattle.ct_statement.specs.Proposals.{IsStep, kept_after}
+use Rattle.ct_statement.{specs.declared.sight.Sight.Sight, specs.declared.stepping.Step.Step, specs.Proposals.{IsStep, kept_after}}
 use Rattle.ct_statement.specs.Sight.{IsSight, actions_before, history_of}
+use mathlib.Core.List.{IsPrefix}
 
 module _ (old new : List ℕ) (longer : IsPrefix old new) (s : Sight) where
   -- the commits of the version are the same in longer words
@@ -45,20 +34,6 @@ module _ (old new : List ℕ) (longer : IsPrefix old new) (s : Sight) where
         world = subst (λ g. IsKeptWorld new g actions (arc_value s.kept)) same (kept_grows old new longer formed h actions (arc_value s.kept) is.world);
         written = is.written;
       }
-
--- the same is seen where tables, global condition, kept world and actions are the same
-pub same_sight : (words : List ℕ) (s next : Sight) → next.version ≡ s.version → actions_before next ≡ actions_before s → next.tables ≡ s.tables → next.global ≡ s.global
-    → arc_value next.kept ≡ arc_value s.kept → IsSight words s → IsSight words next
-same_sight words s next v a t g k is = record {
-  within = subst (λ n. n ≤ length (commits_of words)) (sym v) is.within;
-  denotes = subst (λ n. Denotes words (commits_to words n) (actions_before next) next.tables) (sym v)
-      (subst (λ xs. Denotes words (history_of words s) xs next.tables) (sym a) (subst (Denotes words (history_of words s) (actions_before s)) (sym t) is.denotes));
-  condition = subst (λ n. IsGlobal words (commits_to words n) (actions_before next) next.global) (sym v)
-      (subst (λ xs. IsGlobal words (history_of words s) xs next.global) (sym a) (subst (IsGlobal words (history_of words s) (actions_before s)) (sym g) is.condition));
-  world = subst (λ n. IsKeptWorld words (commits_to words n) (actions_before next) (arc_value next.kept)) (sym v)
-      (subst (λ xs. IsKeptWorld words (history_of words s) xs (arc_value next.kept)) (sym a) (subst (IsKeptWorld words (history_of words s) (actions_before s)) (sym k) is.world));
-  written = subst (All WritesAction) (sym a) is.written;
-}
 
 -- another world where there is one, else the one before
 pub kept_is : {A : Type 0} (value : A → World) (kept next : A) (o : Option A) (other : Option World) → option_map value o ≡ other → next ≡ unwrap_or o kept → value next ≡ kept_after (value kept) other

@@ -1,51 +1,29 @@
 -- The step of an action: what its effect leads to, the world that is kept then, and why there is none.
-use Rattle.std.proofs.Common.{◌≡◌, ◌<◌, ℕ, List, [], ◌∷◌, ◌++◌, map, Option, Some, refl, ap, sym, subst, ◌∙◌, arith, inl, inr}
-use Rattle.std.specs.Arc.{arc_value}
+use Rattle.std.{proofs.Common.{◌≡◌, ◌<◌, ℕ, List, [], ◌∷◌, ◌++◌, map, Option, Some, refl, ap, sym, subst, ◌∙◌, arith, inl, inr}, specs.Arc.arc_value}
 use Rattle.std.proofs.lemmas.List.Elements.{All-weaker, All-from_recursion}
-use mathlib.Core.List.{IsPrefix}
-use Rattle.ct_word.specs.declared.values.Value.{Value}
-use Rattle.ct_word.specs.Value.{World}
-use Rattle.ct_word.specs.Condition.{Condition, holds_at}
-use Rattle.ct_word.specs.Change.{PlainChange, PlainCommit}
-use Rattle.ct_word.specs.Reading.{condition_at}
-use Rattle.ct_word.specs.WellFormed.{IsWellFormed}
-use Rattle.ct_derivation.specs.declared.steps.Derivation.{Derivation}
-use Rattle.ct_derivation.specs.Accepts.{Accepts}
-use Rattle.ct_derivation.proofs.Sound.{root_refuted}
+use Rattle.ct_word.{specs.declared.values.Value.Value, specs.Value.World, specs.Condition.{Condition, holds_at}, specs.Change.{PlainChange, PlainCommit}}
+use Rattle.ct_word.{specs.Reading.condition_at, specs.WellFormed.IsWellFormed}
+use Rattle.ct_derivation.{specs.declared.steps.Derivation.Derivation, specs.Accepts.Accepts, proofs.Sound.root_refuted}
 use Rattle.ct_decide.specs.Decided.{IsValueOf, IsWorldAt}
-use Rattle.ct_decide.specs.declared.error.DecideError.{DecideError}
-use Rattle.ct_decide.specs.declared.error.DecideError.TheVariants as fault
-use Rattle.ct_query.specs.Plain as plain
-use Rattle.ct_query.specs.Plain.{PlainAction}
-use Rattle.ct_query.specs.Agrees.{AgreesWith}
-use Rattle.ct_query.specs.Fits.{FitsChange}
-use Rattle.ct_query.specs.Schema.{schema}
-use Rattle.ct_query.specs.Terms.{terms_asked, term_count}
-use Rattle.ct_query.specs.declared.action.Read.TheVariants as read
+use Rattle.ct_query.{specs.Plain.PlainAction, specs.Agrees.AgreesWith, specs.Fits.FitsChange, specs.Schema.schema, specs.Terms.{terms_asked, term_count}}
 use Rattle.ct_cnf.specs.Encoding.{HasTermsPast}
-use Rattle.ct_history.specs.declared.written.Written.{Written}
-use Rattle.ct_history.specs.declared.written.Written.TheVariants as written
-use Rattle.ct_history.specs.Written.{IsWritten, plain_written}
+use Rattle.ct_history.{specs.declared.written.Written.Written, specs.Written.{IsWritten, plain_written}}
 use Rattle.ct_resolve.specs.Writing.{WritesAction}
-use Rattle.ct_table.specs.Denotes.{IsTermFor, Denotes, heading_of}
-use Rattle.ct_table.specs.Snapshot.{IsGlobal, IsKeptValue, other, constant, IsKeptWorld}
-use Rattle.ct_operators.proofs.Reaching.{foremost}
+use Rattle.ct_table.{specs.Denotes.{IsTermFor, Denotes, heading_of}, specs.Snapshot.{IsGlobal, IsKeptValue, other, constant, IsKeptWorld}}
 use Rattle.ct_table.proofs.Snapshots.{kept_grows}
-use Rattle.ct_keeper.specs.declared.effects.Effect.{Effect}
-use Rattle.ct_keeper.specs.declared.effects.Effect.TheVariants as effect
-use Rattle.ct_keeper.specs.Doing.{HasTermsFor}
-use Rattle.ct_keeper.specs.Effects.{DoesChange, FitsEffect, tables_after, global_after}
+use Rattle.ct_operators.proofs.Reaching.{foremost}
+use Rattle.ct_keeper.{specs.declared.effects.Effect.Effect, specs.Doing.HasTermsFor, specs.Effects.{DoesChange, FitsEffect, tables_after, global_after}}
 use Rattle.ct_keeper.proofs.Doing.{tables_do, global_does, world_does, world_narrows}
 use Rattle.ct_transcript.specs.declared.reply.Refusal.{Refusal}
+use Rattle.ct_statement.{specs.declared.sight.Sight.Sight, specs.Narrowing.{IsEffectFor, CanNarrow, IsWorldFor, IsWorldless, IsKeptFor, IsUnkept}}
+use Rattle.ct_statement.{specs.Proposals.{IsProposal, IsStep, kept_after}, specs.Sight.{IsSight, actions_before, history_of}, specs.Unmet.IsUnmet}
+use Rattle.ct_statement.{proofs.Sights.history_stays, proofs.TermCounts.past_terms, proofs.TermSources.own_asked}
+use mathlib.Core.List.{IsPrefix}
+use Rattle.ct_query.specs.Plain as plain
+use Rattle.ct_query.specs.declared.action.Read.TheVariants as read
+use Rattle.ct_history.specs.declared.written.Written.TheVariants as written
+use Rattle.ct_keeper.specs.declared.effects.Effect.TheVariants as effect
 use Rattle.ct_transcript.specs.declared.reply.Refusal.TheVariants as refusal
-use Rattle.ct_statement.specs.declared.sight.Sight.{Sight}
-use Rattle.ct_statement.specs.Narrowing.{IsEffectFor, CanNarrow, IsWorldFor, IsWorldless, IsKeptFor, IsUnkept, undecided}
-use Rattle.ct_statement.specs.Proposals.{IsProposal, IsStep, kept_after}
-use Rattle.ct_statement.specs.Sight.{IsSight, actions_before, history_of}
-use Rattle.ct_statement.specs.Unmet.{IsUnmet}
-use Rattle.ct_statement.proofs.Sights.{history_stays}
-use Rattle.ct_statement.proofs.TermCounts.{past_terms}
-use Rattle.ct_statement.proofs.TermSources.{own_asked}
 
 -- the values of a world that was found for a place are such as are kept
 value_found : (words : List ℕ) (place : ℕ) (x : Value) → IsValueOf words place x → IsKeptValue words x
@@ -63,10 +41,6 @@ world_found words place kept world w = record {
 pub world_refuted : (words : List ℕ) (place : ℕ) (d : Derivation) → IsWellFormed words → Accepts words place d
     → IsWorldless words place (refusal.Inconsistent (record { root = place; derivation = d }))
 world_refuted words place d formed accepted = (refl, accepted, root_refuted words place d formed accepted)
-
-pub not_decided : (words : List ℕ) (place : ℕ) (e : DecideError) → (e ≡ fault.TooManyTerms → HasTermsPast 64 words place) → IsWorldless words place (undecided e)
-not_decided words place fault.TooManyTerms many = many refl
-not_decided words place fault.Memory many = tt
 
 module _ (old new : List ℕ) (longer : IsPrefix old new) (formed : IsWellFormed new) (s : Sight) (is : IsSight old s) (a : PlainAction) where
   abbrev h : List PlainCommit
@@ -138,10 +112,8 @@ module _ (old new : List ℕ) (longer : IsPrefix old new) (formed : IsWellFormed
       → AgreesWith (history_of old s) (actions_before s) a (plain_written old change) → IsGlobal new (history_of old s) (actions_before s ++ a ∷ []) place
       → (why : Refusal) → IsWorldless new place why → IsUnmet (history_of old s) (actions_before s) room new (plain.Act a) why
   of_assertion (written.Assert cond) (plain.Assert c) place does agrees g why w = worldless_unmet new (history_of old s) (actions_before s) c place room g why w
-  of_assertion (written.Create name columns) a place does agrees g why w = absurd does
-  of_assertion (written.Insert name rs) a place does agrees g why w = absurd does
-  of_assertion (written.Delete name cond) a place does agrees g why w = absurd does
   of_assertion (written.Assert cond) _ place does agrees g why w = absurd agrees
+  of_assertion _ a place does agrees g why w = absurd does
 
   pub unkept_unmet : (a : PlainAction) (e : Effect) → IsEffectFor old new s a e → (why : Refusal) → IsUnkept new e why → IsUnmet (history_of old s) (actions_before s) room new (plain.Act a) why
   unkept_unmet a (effect.Grows growth) f why w = absurd w

@@ -1,44 +1,27 @@
 -- How many terms a question has: at most as many as the statement asks about.
 use Rattle.std.proofs.Common.{◌≡◌, ℕ, ◌<◌, ◌≤◌, Bool, true, false, List, [], ◌∷◌, ◌++◌, map, length, get_or, refl, ap, sym, subst, ◌∙◌, arith, inl, inr}
-use Rattle.std.specs.Prelude.{◌⊎◌, flat_map, if◌then◌else◌}
-use Rattle.std.specs.List.{Contains, IsDistinct, list_any}
-use Rattle.std.specs.Cmp.{IsEquivalence}
-use Rattle.std.proofs.lemmas.Bool.{cases_Bool}
-use Rattle.std.proofs.lemmas.Bool.Decides.{same_from_decides}
-use Rattle.std.proofs.lemmas.List.{length-append, length-map, get_or-map}
+use Rattle.std.{specs.Prelude.{◌⊎◌, flat_map, if◌then◌else◌}, specs.List.{Contains, IsDistinct, list_any}, specs.Cmp.IsEquivalence}
+use Rattle.std.{proofs.lemmas.Bool.cases_Bool, proofs.lemmas.Bool.Decides.same_from_decides, proofs.lemmas.List.{length-append, length-map, get_or-map}}
 use Rattle.std.proofs.lemmas.List.Elements.{All-contains, All-contains_itself, All-from_recursion, recursion_from_All, Contains-get_or, Contains-append_left, Contains-append_right}
-use Rattle.std.proofs.lemmas.Map.Keys.{IsDistinct-from_apart}
-use Rattle.std.proofs.lemmas.Map.Made.{length-le_from_is_member}
+use Rattle.std.{proofs.lemmas.Map.Keys.IsDistinct-from_apart, proofs.lemmas.Map.Made.length-le_from_is_member}
 use Rattle.std.proofs.lemmas.Map.Views.{list_any-from_Contains, Contains-from_any}
-use Rattle.ct_word.specs.declared.values.Term.{Term}
-use Rattle.ct_word.specs.declared.values.Term.TheVariants as term
-use Rattle.ct_word.specs.declared.values.CRow.{CRow}
-use Rattle.ct_word.specs.Value.{same_term}
-use Rattle.ct_word.specs.Condition.{Condition, Conditions, True, False, Same, Not, And, Or, none, also}
-use Rattle.ct_word.specs.Change.{PlainCommit}
-use Rattle.ct_word.specs.Reading.{term_at}
-use Rattle.ct_word.specs.Stands.{TermBelow}
-use Rattle.ct_word.proofs.Alike.{term_decides}
+use Rattle.ct_word.{specs.declared.values.Term.Term, specs.declared.values.CRow.CRow, specs.Value.same_term, specs.Change.PlainCommit, specs.Reading.term_at}
+use Rattle.ct_word.{specs.Condition.{Condition, Conditions, True, False, Same, Not, And, Or, none, also}, specs.Stands.TermBelow, proofs.Alike.term_decides}
 use Rattle.ct_word.proofs.Places.{stands_term}
-use Rattle.ct_query.specs.declared.action.Ask.TheVariants as ask
-use Rattle.ct_query.specs.declared.action.Read.{Read}
-use Rattle.ct_query.specs.declared.action.Read.TheVariants as read
-use Rattle.ct_query.specs.Plain as plain
+use Rattle.ct_query.{specs.declared.action.Read.Read, specs.Reads.{tables_of, query_reads, action_reads}, proofs.Within.of_added}
 use Rattle.ct_query.specs.Plain.{PlainQuery, PlainAction, PlainStatement, Table, Select, Project, Product, Union, Except, Intersect}
-use Rattle.ct_query.specs.Reads.{tables_of, query_reads, action_reads}
 use Rattle.ct_query.specs.Terms.{condition_terms, all_terms, query_terms, change_terms, action_terms, distinct_terms, changes_that_write, reads_with, term_count}
-use Rattle.ct_query.proofs.Within.{of_added}
 use Rattle.ct_cnf.specs.Encoding.{AreTermsBelow}
 use Rattle.ct_condition.specs.Terms.{IsNamed, IsNamedInSome}
-use Rattle.ct_table.specs.Denotes.{TableView, IsTermFor, Denotes}
-use Rattle.ct_operators.specs.Terms.{RowsFrom}
-use Rattle.ct_operators.proofs.Reaching.{behind, foremost, first_or_behind, from_rows}
-use Rattle.ct_operators.proofs.Naming.{mapped}
-use Rattle.ct_table.proofs.Denoting.{found_all, found_name}
-use Rattle.ct_table.proofs.Asked.{term_is_asked}
+use Rattle.ct_table.{specs.Denotes.{TableView, IsTermFor, Denotes}, proofs.Denoting.{found_all, found_name}, proofs.Asked.term_is_asked}
+use Rattle.ct_operators.{specs.Terms.RowsFrom, proofs.Reaching.{behind, foremost, first_or_behind, from_rows}, proofs.Naming.mapped}
 use Rattle.ct_algebra.specs.Terms.{IsNamedIn, TermOfQuery}
 use Rattle.ct_certain.specs.Asked.{IsOfTable, IsValueIn, IsPastTerms, IsPastTermsOfTuple}
 use Rattle.ct_statement.specs.Asking.{terms_of_query, AnswersQuery}
+use Rattle.ct_word.specs.declared.values.Term.TheVariants as term
+use Rattle.ct_query.specs.declared.action.Ask.TheVariants as ask
+use Rattle.ct_query.specs.declared.action.Read.TheVariants as read
+use Rattle.ct_query.specs.Plain as plain
 
 term_equiv : IsEquivalence same_term
 term_equiv = record {

@@ -1,29 +1,18 @@
 -- Where the terms of a change come from, and that they can be written.
-use Rattle.std.proofs.Common.{ℕ, Bool, true, false, List, [], ◌∷◌, ◌++◌, sym, subst, inl, inr}
-use Rattle.std.specs.Prelude.{All, IsTrue, flat_map, if◌then◌else◌}
+use Rattle.std.{proofs.Common.{ℕ, Bool, true, false, List, [], ◌∷◌, ◌++◌, sym, subst, inl, inr}, specs.Prelude.{All, IsTrue, flat_map, if◌then◌else◌}}
 use Rattle.std.specs.List.{Contains, list_all, list_any}
 use Rattle.std.proofs.lemmas.List.Elements.{All-contains, All-push, Contains-push, Contains-push_cases, Contains-append_left, Contains-append_right, Contains-append_cases}
-use Rattle.ct_word.specs.declared.values.Term.{Term}
-use Rattle.ct_word.specs.Value.{same_term}
-use Rattle.ct_word.specs.Change.{PlainCommit}
-use Rattle.ct_word.specs.Writable.{is_writable}
-use Rattle.ct_query.specs.declared.action.Ask.TheVariants as ask
-use Rattle.ct_query.specs.declared.action.Read.{Read}
-use Rattle.ct_query.specs.Plain as plain
-use Rattle.ct_query.specs.Plain.{PlainQuery, PlainAction}
-use Rattle.ct_query.specs.Frame.{reads_of_actions}
+use Rattle.ct_word.{specs.declared.values.Term.Term, specs.Value.same_term, specs.Change.PlainCommit, specs.Writable.is_writable}
+use Rattle.ct_query.{specs.declared.action.Read.Read, specs.Plain.{PlainQuery, PlainAction}, specs.Frame.reads_of_actions, specs.Worlds.changes_of}
 use Rattle.ct_query.specs.Reads.{action_reads, query_reads, writes}
 use Rattle.ct_query.specs.Terms.{change_terms, action_terms, query_terms, distinct_terms, changes_that_write, reads_with, terms_asked}
-use Rattle.ct_query.specs.Worlds.{changes_of}
 use Rattle.ct_resolve.specs.Writing.{WritesTerm, WritesAction}
-use Rattle.ct_table.specs.Denotes.{IsTermFor, by_change, by_action}
-use Rattle.ct_table.proofs.Asked.{term_is_asked}
-use Rattle.ct_operators.proofs.Naming.{given}
-use Rattle.ct_operators.proofs.Reaching.{behind, foremost, first_or_behind}
-use Rattle.ct_statement.specs.Asking.{terms_of_query}
-use Rattle.ct_statement.proofs.EachTerm.{written_in_action, written_in_change}
-use Rattle.ct_statement.proofs.Members.{unflat, passes, left_by, one_of}
+use Rattle.ct_table.{specs.Denotes.{IsTermFor, by_change, by_action}, proofs.Asked.term_is_asked}
+use Rattle.ct_operators.{proofs.Naming.given, proofs.Reaching.{behind, foremost, first_or_behind}}
+use Rattle.ct_statement.{specs.Asking.terms_of_query, proofs.EachTerm.{written_in_action, written_in_change}, proofs.Members.{unflat, passes, left_by, one_of}}
 use Rattle.ct_statement.proofs.TermCounts.{still_there}
+use Rattle.ct_query.specs.declared.action.Ask.TheVariants as ask
+use Rattle.ct_query.specs.Plain as plain
 
 -- what is left when each term stands but once was there
 of_distinct : (ts : List Term) (u : Term) → Contains (distinct_terms ts) u → Contains ts u

@@ -1,15 +1,11 @@
 -- What is wanting for a query or an action is wanting for its statement.
 use Rattle.std.proofs.Common.{ℕ, List, refl}
 use Rattle.ct_word.specs.Change.{PlainCommit}
-use Rattle.ct_query.specs.declared.action.Ask.{Ask}
-use Rattle.ct_query.specs.Plain as plain
-use Rattle.ct_query.specs.Plain.{PlainQuery, PlainAction}
-use Rattle.ct_query.specs.Patterns.{count}
+use Rattle.ct_query.{specs.declared.action.Ask.Ask, specs.Plain.{PlainQuery, PlainAction}, specs.Patterns.count}
 use Rattle.ct_transcript.specs.declared.reply.Refusal.{Refusal}
+use Rattle.ct_statement.{specs.Asking.IsUnasked, specs.Unmet.{IsWant, IsUnmet}, proofs.Weights.{action_makes_words, question_makes_words}}
+use Rattle.ct_query.specs.Plain as plain
 use Rattle.ct_transcript.specs.declared.reply.Refusal.TheVariants as refusal
-use Rattle.ct_statement.specs.Asking.{IsUnasked}
-use Rattle.ct_statement.specs.Unmet.{IsWant, IsUnmet}
-use Rattle.ct_statement.proofs.Weights.{action_makes_words, question_makes_words}
 
 module _ (h : List PlainCommit) (before : List PlainAction) (room : ℕ) (words : List ℕ) where
   -- why a query is not evaluated is why a statement that asks it, whatever it asks of it, is refused
@@ -17,57 +13,17 @@ module _ (h : List PlainCommit) (before : List PlainAction) (room : ℕ) (words 
   unasked_unmet k columns q refusal.TooLarge w = record { query = q; evaluates = refl; past = w }
   unasked_unmet k columns q refusal.Full w = record { full = w.0; makes_words = λ own. question_makes_words (count h before) own k columns q w.1 }
   unasked_unmet k columns q refusal.Memory w = tt
-  unasked_unmet k columns q refusal.NotAStatement w = absurd w
-  unasked_unmet k columns q refusal.TooDeep w = absurd w
-  unasked_unmet k columns q refusal.NumberRange w = absurd w
-  unasked_unmet k columns q refusal.InTransaction w = absurd w
-  unasked_unmet k columns q refusal.NoTransaction w = absurd w
-  unasked_unmet k columns q refusal.UnknownTable w = absurd w
-  unasked_unmet k columns q refusal.TableExists w = absurd w
-  unasked_unmet k columns q refusal.UnknownColumn w = absurd w
-  unasked_unmet k columns q refusal.AmbiguousColumn w = absurd w
-  unasked_unmet k columns q refusal.DuplicateName w = absurd w
-  unasked_unmet k columns q refusal.ColumnCount w = absurd w
-  unasked_unmet k columns q refusal.TooManyTerms w = absurd w
-  unasked_unmet k columns q (refusal.Inconsistent proof) w = absurd w
-  unasked_unmet k columns q (refusal.Conflict table was now at) w = absurd w
+  unasked_unmet k columns q _ w = absurd w
 
   -- and an insertion of its rows
   pub unasked_insertion : (name : List ℕ) (q : PlainQuery) (why : Refusal) → IsUnasked h before room words q why → IsUnmet h before room words (plain.Act (plain.InsertQuery name q)) why
   unasked_insertion name q refusal.TooLarge w = record { query = q; evaluates = refl; past = w }
   unasked_insertion name q refusal.Full w = record { full = w.0; makes_words = λ own. action_makes_words (count h before) own (plain.InsertQuery name q) }
   unasked_insertion name q refusal.Memory w = tt
-  unasked_insertion name q refusal.NotAStatement w = absurd w
-  unasked_insertion name q refusal.TooDeep w = absurd w
-  unasked_insertion name q refusal.NumberRange w = absurd w
-  unasked_insertion name q refusal.InTransaction w = absurd w
-  unasked_insertion name q refusal.NoTransaction w = absurd w
-  unasked_insertion name q refusal.UnknownTable w = absurd w
-  unasked_insertion name q refusal.TableExists w = absurd w
-  unasked_insertion name q refusal.UnknownColumn w = absurd w
-  unasked_insertion name q refusal.AmbiguousColumn w = absurd w
-  unasked_insertion name q refusal.DuplicateName w = absurd w
-  unasked_insertion name q refusal.ColumnCount w = absurd w
-  unasked_insertion name q refusal.TooManyTerms w = absurd w
-  unasked_insertion name q (refusal.Inconsistent proof) w = absurd w
-  unasked_insertion name q (refusal.Conflict table was now at) w = absurd w
+  unasked_insertion name q _ w = absurd w
 
   -- want of room or memory for any action
   pub want_unmet : (a : PlainAction) (why : Refusal) → IsWant room words why → IsUnmet h before room words (plain.Act a) why
   want_unmet a refusal.Full w = record { full = w; makes_words = λ own. action_makes_words (count h before) own a }
   want_unmet a refusal.Memory w = tt
-  want_unmet a refusal.NotAStatement w = absurd w
-  want_unmet a refusal.TooDeep w = absurd w
-  want_unmet a refusal.NumberRange w = absurd w
-  want_unmet a refusal.InTransaction w = absurd w
-  want_unmet a refusal.NoTransaction w = absurd w
-  want_unmet a refusal.UnknownTable w = absurd w
-  want_unmet a refusal.TableExists w = absurd w
-  want_unmet a refusal.UnknownColumn w = absurd w
-  want_unmet a refusal.AmbiguousColumn w = absurd w
-  want_unmet a refusal.DuplicateName w = absurd w
-  want_unmet a refusal.ColumnCount w = absurd w
-  want_unmet a refusal.TooLarge w = absurd w
-  want_unmet a refusal.TooManyTerms w = absurd w
-  want_unmet a (refusal.Inconsistent proof) w = absurd w
-  want_unmet a (refusal.Conflict table was now at) w = absurd w
+  want_unmet a _ w = absurd w

@@ -1,28 +1,16 @@
 -- The bound on a statement's words grows with the counts of rows of the tables, and these grow with the history.
-use Rattle.std.proofs.Common.{◌≡◌, ℕ, ◌+◌, ◌*◌, ◌≤◌, Bool, true, false, ◌||◌, List, [], ◌∷◌, ◌++◌, length, map, refl, ap, sym, subst, ◌∙◌, arith}
+use Rattle.std.{proofs.Common.{ℕ, ◌+◌, ◌*◌, ◌≤◌, Bool, true, false, List, [], ◌∷◌, ◌++◌, arith}, proofs.lemmas.Nat.mul-le}
 use Rattle.std.specs.Prelude.{Option, Some, None, option_map, unwrap_or, if◌then◌else◌}
-use Rattle.std.specs.List.{AllByRecursion, IsDistinct, list_any}
-use Rattle.std.proofs.lemmas.List.{append_assoc}
-use Rattle.std.proofs.lemmas.Nat.{mul-le}
-use Rattle.std.proofs.lemmas.Bool.{false≢true}
+use Rattle.ct_word.{specs.declared.values.Term.Term, specs.Value.same_text, specs.Sublist.IsSublist, specs.Change.PlainCommit}
+use Rattle.ct_query.{specs.declared.action.Ask.Ask, specs.Plain.{PlainQuery, PlainAction, PlainStatement}, specs.Size.{row_bound, greatest}}
+use Rattle.ct_query.specs.Patterns.{Patterns, patterns, query_pattern, pattern_action, pattern_actions, with_lines, count}
+use Rattle.ct_query.specs.Bounds.{ops, terms, width, product_counts, partial_products, select_words, operator_words, side_words, query_words, nodes, list_words, change_words, own_words, bound}
+use Rattle.ct_query.proofs.Sublists.{all_of, sublist-append, pattern_part}
+use Rattle.ct_table.proofs.QuerySizes.{row_bound_grows}
+use Rattle.ct_keeper.proofs.Counting.{distinct_grows, patterns_kept}
 use mathlib.Core.List.{IsPrefix}
-use Rattle.ct_word.specs.declared.values.Term.{Term}
-use Rattle.ct_word.specs.Value.{same_cells, same_text}
-use Rattle.ct_word.specs.Sublist.{IsSublist, ended, left_out, taken}
-use Rattle.ct_word.specs.Change.{PlainChange, Create, Insert, Delete, Assert, PlainCommit}
-use Rattle.ct_query.specs.declared.action.Ask.{Ask}
 use Rattle.ct_query.specs.declared.action.Ask.TheVariants as ask
 use Rattle.ct_query.specs.Plain as plain
-use Rattle.ct_query.specs.Plain.{PlainQuery, PlainAction, PlainStatement}
-use Rattle.ct_query.specs.Patterns.{Patterns, no_patterns, patterns, query_pattern, pattern_change, pattern_changes, pattern_action, pattern_actions, with_lines, distinct_count, count}
-use Rattle.ct_query.specs.Size.{row_bound, greatest}
-use Rattle.ct_query.specs.Bounds.{ops, terms, width, product_counts, partial_products, select_words, operator_words, side_words, query_words, nodes, list_words, change_words, own_words, bound}
-use Rattle.ct_query.specs.Worlds.{changes_of}
-use Rattle.ct_query.proofs.Laws.{pattern_changes-append}
-use Rattle.ct_query.proofs.Sublists.{all_of, sublist-append, sublist_of_sublist, pattern_part}
-use Rattle.ct_table.proofs.Following.{first_part}
-use Rattle.ct_table.proofs.Counted.{rows_counted}
-use Rattle.ct_table.proofs.QuerySizes.{row_bound_grows}
 
 -- numbers that grow together
 abbrev AreLe : List ℕ → List ℕ → Type 0
@@ -44,8 +32,7 @@ AreLe? _ _ = ⊥
 all_le_push : (ms ns : List ℕ) (m n : ℕ) → AreLe ms ns → m ≤ n → AreLe (ms ++ m ∷ []) (ns ++ n ∷ [])
 all_le_push [] [] m n a le = (le, tt)
 all_le_push (x ∷ ms) (y ∷ ns) m n a le = (a.0, all_le_push ms ns m n a.1 le)
-all_le_push [] (y ∷ ns) m n a le = absurd a
-all_le_push (x ∷ ms) [] m n a le = absurd a
+all_le_push _ _ m n a le = absurd a
 
 add_le : (a b m n : ℕ) → a ≤ m → b ≤ n → a + b ≤ m + n
 add_le a b m n p q = omega arith
@@ -56,16 +43,12 @@ partial_products_grow p q (m ∷ ms) (n ∷ ns) le a =
     let more : p * m ≤ q * n = mul-le p m q n le a.0 in
     add_le (m + p * m) (partial_products (p * m) ms) (n + q * n) (partial_products (q * n) ns) (add_le m (p * m) n (q * n) a.0 more)
     (partial_products_grow (p * m) (q * n) ms ns more a.1)
-partial_products_grow p q [] (n ∷ ns) le a = absurd a
-partial_products_grow p q (m ∷ ms) [] le a = absurd a
+partial_products_grow p q _ _ le a = absurd a
 
 -- an action makes words, by any counts
 action_makes : (counts : List ℕ → ℕ) (a : PlainAction) → 1 ≤ change_words counts a
 action_makes counts (plain.Create name columns) = omega arith
-action_makes counts (plain.InsertRows name rs c) = omega arith
-action_makes counts (plain.InsertQuery name q) = omega arith
-action_makes counts (plain.Delete name c) = omega arith
-action_makes counts (plain.Assert c) = omega arith
+action_makes counts _ = omega arith
 
 -- in a transaction or outside
 pub action_makes_words : (counts : List ℕ → ℕ) (own : Option (List PlainAction)) (a : PlainAction) → 1 ≤ bound counts own (plain.Act a)
@@ -83,49 +66,30 @@ module _ (f g : List ℕ → ℕ) (each : (t : List ℕ) → f t ≤ g t) where
   push_grows : (a b : Option (List ℕ)) (m n : ℕ) → AreLe? a b → m ≤ n → AreLe? (option_map (λ ns. ns ++ m ∷ []) a) (option_map (λ ns. ns ++ n ∷ []) b)
   push_grows None None m n l le = tt
   push_grows (Some ms) (Some ns) m n l le = all_le_push ms ns m n l le
-  push_grows None (Some ns) m n l le = absurd l
-  push_grows (Some ms) None m n l le = absurd l
+  push_grows _ _ m n l le = absurd l
 
   product_grows : (q : PlainQuery) → AreLe? (product_counts f q) (product_counts g q)
   product_grows (plain.Table t) = (each t, tt)
   product_grows (plain.Product a (plain.Table t)) = push_grows (product_counts f a) (product_counts g a) (f t) (g t) (product_grows a) (each t)
-  product_grows (plain.Product a (plain.Select c q)) = tt
-  product_grows (plain.Product a (plain.Project ks q)) = tt
-  product_grows (plain.Product a (plain.Product b c)) = tt
-  product_grows (plain.Product a (plain.Union b c)) = tt
-  product_grows (plain.Product a (plain.Except b c)) = tt
-  product_grows (plain.Product a (plain.Intersect b c)) = tt
-  product_grows (plain.Select c q) = tt
-  product_grows (plain.Project ks q) = tt
-  product_grows (plain.Union a b) = tt
-  product_grows (plain.Except a b) = tt
-  product_grows (plain.Intersect a b) = tt
+  product_grows _ = tt
 
   times_grow : (k t : ℕ) (a b : Option (List ℕ)) → AreLe? a b → IsLe? (option_map (λ ns. k * partial_products 1 ns + t) a) (option_map (λ ns. k * partial_products 1 ns + t) b)
   times_grow k t None None l = tt
   times_grow k t (Some ms) (Some ns) l =
       add_le (k * partial_products 1 ms) t (k * partial_products 1 ns) t
       (mul-le k (partial_products 1 ms) k (partial_products 1 ns) (omega arith) (partial_products_grow 1 1 ms ns (omega arith) l)) (omega arith)
-  times_grow k t None (Some ns) l = absurd l
-  times_grow k t (Some ms) None l = absurd l
+  times_grow k t _ _ l = absurd l
 
   select_grows : (q : PlainQuery) → IsLe? (select_words f q) (select_words g q)
   select_grows (plain.Select c q) = times_grow (ops c + 3) (terms c) (product_counts f q) (product_counts g q) (product_grows q)
-  select_grows (plain.Table t) = tt
-  select_grows (plain.Project ks q) = tt
-  select_grows (plain.Product a b) = tt
-  select_grows (plain.Union a b) = tt
-  select_grows (plain.Except a b) = tt
-  select_grows (plain.Intersect a b) = tt
+  select_grows _ = tt
 
   sides_grow : (m n : ℕ) (a b c d : Option ℕ) → m ≤ n → IsLe? a b → IsLe? c d → IsLe? (side_words m a c) (side_words n b d)
   sides_grow m n None None c d le p q = tt
   sides_grow m n (Some a) (Some b) None None le p q = tt
   sides_grow m n (Some a) (Some b) (Some c) (Some d) le p q = add_le (a + c) m (b + d) n (add_le a c b d p q) le
-  sides_grow m n (Some a) (Some b) None (Some d) le p q = absurd q
-  sides_grow m n (Some a) (Some b) (Some c) None le p q = absurd q
-  sides_grow m n None (Some b) c d le p q = absurd p
-  sides_grow m n (Some a) None c d le p q = absurd p
+  sides_grow m n (Some a) (Some b) _ _ le p q = absurd q
+  sides_grow m n _ _ c d le p q = absurd p
 
   pairs_grow : (a b : PlainQuery) (k : ℕ) → row_bound f a * row_bound f b * k ≤ row_bound g a * row_bound g b * k
   pairs_grow a b k =
@@ -148,15 +112,12 @@ module _ (f g : List ℕ → ℕ) (each : (t : List ℕ) → f t ≤ g t) where
       sides_grow (operator_words f (plain.Intersect a b)) (operator_words g (plain.Intersect a b)) (query_words f a) (query_words g a) (query_words f b) (query_words g b)
       (add_le (row_bound f a * row_bound f b * (2 * width a + 1)) (2 * row_bound f a) (row_bound g a * row_bound g b * (2 * width a + 1)) (2 * row_bound g a) (pairs_grow a b (2 * width a + 1)) (twice_grows a))
       (query_grows a) (query_grows b)
-  query_grows (plain.Table t) = tt
-  query_grows (plain.Select c q) = tt
-  query_grows (plain.Product a b) = tt
+  query_grows _ = tt
 
   known_grows : (a b : Option ℕ) → IsLe? a b → unwrap_or a greatest ≤ unwrap_or b greatest
   known_grows None None l = omega arith
   known_grows (Some m) (Some n) l = l
-  known_grows None (Some n) l = absurd l
-  known_grows (Some m) None l = absurd l
+  known_grows _ _ l = absurd l
 
   -- more rows in the tables, no fewer words
   pub nodes_grow : (q : PlainQuery) → nodes f q ≤ nodes g q
@@ -171,80 +132,16 @@ module _ (f g : List ℕ → ℕ) (each : (t : List ℕ) → f t ≤ g t) where
 
   -- a COMMIT that may make a word may make one where there are more rows
   commit_makes_still : (own : Option (List PlainAction)) → 1 ≤ own_words f own → 1 ≤ own_words g own
-  commit_makes_still None le = le
-  commit_makes_still (Some []) le = le
   commit_makes_still (Some (a ∷ actions)) le = omega arith
+  commit_makes_still _ le = le
 
   -- so may a statement, in a transaction or outside
   pub makes_words_still : (own : Option (List PlainAction)) (st : PlainStatement) → 1 ≤ bound f own st → 1 ≤ bound g own st
   makes_words_still own (plain.Act a) le = action_makes_words g own a
   makes_words_still own (plain.Asks k columns q) le =
       let more = nodes_grow q in let lists = lists_grow k (row_bound f q) (row_bound g q) (width q) (rows_grow q) in omega (arith, le, more, lists)
-  makes_words_still own plain.Begin le = le
   makes_words_still own plain.Commit le = commit_makes_still own le
-  makes_words_still own plain.Rollback le = le
-
--- cell lists, each where it stands last
-abbrev once : List (List Term) → List (List Term)
-once [] = []
-once (l ∷ ls) = if list_any (same_cells l) ls then once ls else l ∷ once ls
-
-once_part : (ls : List (List Term)) → IsSublist (once ls) ls
-once_part [] = ended
-once_part (l ∷ ls) = by_test (list_any (same_cells l) ls) (once_part ls) where
-  by_test : (b : Bool) → IsSublist (once ls) ls → IsSublist (if b then once ls else l ∷ once ls) (l ∷ ls)
-  by_test true rest = left_out rest
-  by_test false rest = taken rest
-
-once_length : (ls : List (List Term)) → length (once ls) ≡ distinct_count ls
-once_length [] = refl
-once_length (l ∷ ls) = by_test (list_any (same_cells l) ls) (once_length ls) where
-  by_test : (b : Bool) → length (once ls) ≡ distinct_count ls → length (if b then once ls else l ∷ once ls) ≡ (if b then distinct_count ls else distinct_count ls + 1)
-  by_test true rest = rest
-  by_test false rest = omega arith
-
-abbrev Apart : List Term → List (List Term) → Type 0
-Apart l ls = AllByRecursion (λ m. same_cells l m ≡ false) ls
-
-once_apart : (l : List Term) (ls : List (List Term)) → list_any (same_cells l) ls ≡ false → Apart l (once ls)
-once_apart l [] e = tt
-once_apart l (m ∷ ls) e = by_tests (same_cells l m) refl (list_any (same_cells m) ls) (once_apart l ls) where
-  absent : (b : Bool) → same_cells l m ≡ b → b ≡ false → list_any (same_cells l) ls ≡ false
-  absent b p q = sym (ap (λ c. c || list_any (same_cells l) ls) (p ∙ q)) ∙ e
-
-  by_tests : (b : Bool) → same_cells l m ≡ b → (c : Bool) → (list_any (same_cells l) ls ≡ false → Apart l (once ls)) → Apart l (if c then once ls else m ∷ once ls)
-  by_tests true p c rest = absurd (false≢true (sym e ∙ ap (λ x. x || list_any (same_cells l) ls) p))
-  by_tests false p true rest = rest (absent false p refl)
-  by_tests false p false rest = (p, rest (absent false p refl))
-
-once_distinct : (ls : List (List Term)) → IsDistinct same_cells (once ls)
-unfolding IsDistinct
-once_distinct [] = tt
-once_distinct (l ∷ ls) = by_test (list_any (same_cells l) ls) refl (once_distinct ls) where
-  by_test : (b : Bool) → list_any (same_cells l) ls ≡ b → IsDistinct same_cells (once ls) → IsDistinct same_cells (if b then once ls else l ∷ once ls)
-  by_test true p rest = rest
-  by_test false p rest = (once_apart l ls p, rest)
-
-distinct_grow : (ls ms : List (List Term)) → IsSublist ls ms → distinct_count ls ≤ distinct_count ms
-distinct_grow ls ms p =
-    subst (λ n. n ≤ distinct_count ms) (once_length ls)
-    (rows_counted (once ls) ms (once_distinct ls) (sublist_of_sublist (once ls) ls ms (once_part ls) p))
-
-lines_kept : (p : Patterns) (name : List ℕ) (lines : List (List Term)) (n : List ℕ) → IsSublist (p n) (with_lines p name lines n)
-lines_kept p name lines n = by_test (same_text name n) where
-  by_test : (b : Bool) → IsSublist (p n) (if b then p n ++ lines else p n)
-  by_test true = first_part (p n) lines
-  by_test false = all_of (p n)
-
-change_kept : (p : Patterns) (x : PlainChange) (n : List ℕ) → IsSublist (p n) (pattern_change p x n)
-change_kept p (Create name columns) n = all_of (p n)
-change_kept p (Insert name rs) n = lines_kept p name (map (λ r. r.cells) rs) n
-change_kept p (Delete name c) n = all_of (p n)
-change_kept p (Assert c) n = all_of (p n)
-
-changes_kept : (p : Patterns) (xs : List PlainChange) (n : List ℕ) → IsSublist (p n) (pattern_changes p xs n)
-changes_kept p [] n = all_of (p n)
-changes_kept p (x ∷ xs) n = sublist_of_sublist (p n) (pattern_change p x n) (pattern_changes (pattern_change p x) xs n) (change_kept p x n) (changes_kept (pattern_change p x) xs n)
+  makes_words_still own _ le = le
 
 -- patterns that are parts of others stay so with further cell lists, with those of an action, and with those of actions
 lines_part : (p p' : Patterns) (each : (n : List ℕ) → IsSublist (p n) (p' n)) (name : List ℕ) (more more' : List (List Term)) → IsSublist more more'
@@ -255,27 +152,16 @@ lines_part p p' each name more more' part n = by_test (same_text name n) where
   by_test false = each n
 
 action_part : (p p' : Patterns) (each : (n : List ℕ) → IsSublist (p n) (p' n)) (a : PlainAction) (n : List ℕ) → IsSublist (pattern_action p a n) (pattern_action p' a n)
-action_part p p' each (plain.Create name columns) n = each n
 action_part p p' each (plain.InsertRows name rs c) n = lines_part p p' each name rs rs (all_of rs) n
 action_part p p' each (plain.InsertQuery name q) n = lines_part p p' each name (query_pattern p q) (query_pattern p' q) (pattern_part p p' each q) n
-action_part p p' each (plain.Delete name c) n = each n
-action_part p p' each (plain.Assert c) n = each n
+action_part p p' each _ n = each n
 
 actions_part : (p p' : Patterns) (each : (n : List ℕ) → IsSublist (p n) (p' n)) (actions : List PlainAction) (n : List ℕ)
     → IsSublist (pattern_actions p actions n) (pattern_actions p' actions n)
 actions_part p p' each [] n = each n
 actions_part p p' each (a ∷ actions) n = actions_part (pattern_action p a) (pattern_action p' a) (action_part p p' each a) actions n
 
-changes_split : (h k : List PlainCommit) → changes_of (h ++ k) ≡ changes_of h ++ changes_of k
-changes_split [] k = refl
-changes_split (c ∷ h) k = ap (λ xs. c.changes ++ xs) (changes_split h k) ∙ sym (append_assoc c.changes (changes_of h) (changes_of k))
-
 -- no count falls when a history goes on, whatever actions follow
 pub count_grows : (h g : List PlainCommit) → IsPrefix h g → (actions : List PlainAction) (t : List ℕ) → count h actions t ≤ count g actions t
 count_grows h g p actions t =
-    subst (λ k. count h actions t ≤ count k actions t) p.1
-    (distinct_grow (patterns h actions t) (patterns (h ++ p.0) actions t) (actions_part (patterns h []) (patterns (h ++ p.0) []) grown actions t)) where
-      grown : (n : List ℕ) → IsSublist (patterns h [] n) (patterns (h ++ p.0) [] n)
-      grown n =
-          subst (λ (f : Patterns). IsSublist (patterns h [] n) (f n)) (sym (ap (pattern_changes no_patterns) (changes_split h p.0) ∙ pattern_changes-append no_patterns (changes_of h) (changes_of p.0)))
-          (changes_kept (patterns h []) (changes_of p.0) n)
+    distinct_grows (patterns h actions t) (patterns g actions t) (actions_part (patterns h []) (patterns g []) (patterns_kept h g p) actions t)

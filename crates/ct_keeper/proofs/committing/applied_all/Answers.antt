@@ -1,7 +1,6 @@
 use Rattle.std.proofs.Common.{refl, ◌∙◌, ◌+◌, arith, rules}
 use Rattle.ct_condition.specs.Writes.{charge}
-use Rattle.ct_keeper.specs.Faults.{is_full}
-use Rattle.ct_keeper.proofs.Interning.{interned_on, interned_none}
+use Rattle.ct_keeper.{specs.Faults.is_full, proofs.Interning.{interned_on, interned_none}}
 use Rattle.ct_keeper.proofs.Making.{applied_none, next_rows, next_global, next_written, next_fits, words_on, words_within, applied_more}
 use Rattle.ct_keeper.proofs.committing.applied_all.Goals as goal
 

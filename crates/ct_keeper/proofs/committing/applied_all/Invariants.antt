@@ -1,7 +1,5 @@
 use Rattle.std.proofs.Common.{◌+◌, ◌≤◌, take}
-use Rattle.ct_keeper.specs.Bounds.{first_words}
-use Rattle.ct_keeper.specs.Steps.{Interns}
-use Rattle.ct_keeper.proofs.Making.{IsApplied}
+use Rattle.ct_keeper.{specs.Bounds.first_words, specs.Steps.Interns, proofs.Making.IsApplied}
 use Rattle.ct_keeper.proofs.committing.applied_all.Given as goal
 
 abbrev pub invariant-loop-change : goal.invariant-loop-change

@@ -1,15 +1,10 @@
-use Rattle.std.proofs.Common.{◌≡◌, ◌+◌, arith, rules, refl, subst, ◌∙◌}
-use Rattle.std.specs.Prelude.{Result, Ok, Err, OnOk, MatchResult}
-use Rattle.std.proofs.lemmas.Result.{on_ok_weaker}
-use Rattle.ct_word.specs.declared.kinds.Class.TheVariants as class
+use Rattle.std.{proofs.Common.{◌≡◌, ◌+◌, arith, rules, refl, subst, ◌∙◌}, specs.Prelude.{Result, Ok, Err, OnOk, MatchResult}, proofs.lemmas.Result.on_ok_weaker}
 use Rattle.ct_word.proofs.Prefixes.{place_in_prefix}
 use Rattle.ct_condition.specs.Writes.{charge}
 use Rattle.ct_table.specs.Pending.{after}
+use Rattle.ct_keeper.{specs.Effects.DoesChange, specs.Faults.is_full, proofs.Interning.appended_on, proofs.Making.{one_written, one_words, one_applied}}
+use Rattle.ct_word.specs.declared.kinds.Class.TheVariants as class
 use Rattle.ct_keeper.specs.declared.effects.Effect.TheVariants as effect
-use Rattle.ct_keeper.specs.Effects.{DoesChange}
-use Rattle.ct_keeper.specs.Faults.{is_full}
-use Rattle.ct_keeper.proofs.Interning.{appended_on}
-use Rattle.ct_keeper.proofs.Making.{one_written, one_words, one_applied}
 use Rattle.ct_keeper.proofs.committing.commit_one.Goals as goal
 
 -- two facts of a call that was not refused

@@ -1,9 +1,7 @@
-use Rattle.std.proofs.Common.{sym, take, subst, refl, ◌∙◌, arith, take_all}
-use Rattle.std.proofs.lemmas.List.Elements.{All-nil}
+use Rattle.std.{proofs.Common.{sym, take, subst, refl, ◌∙◌, arith, take_all}, proofs.lemmas.List.Elements.All-nil}
 use Rattle.ct_word.specs.Reading.{commits_of}
 use Rattle.ct_query.specs.Reads.{last}
-use Rattle.ct_keeper.specs.Offers.{AreUnchanged, IsConflict}
-use Rattle.ct_keeper.proofs.Unchanged.{all_unchanged, one_more, first_written}
+use Rattle.ct_keeper.{specs.Offers.{AreUnchanged, IsConflict}, proofs.Unchanged.{all_unchanged, one_more, first_written}}
 use Rattle.ct_keeper.proofs.conflicts.conflict_of.Goals as goal
 
 pub returns-then-base-latest : goal.returns-then-base-latest

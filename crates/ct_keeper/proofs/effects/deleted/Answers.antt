@@ -1,12 +1,9 @@
 use Rattle.std.proofs.Common.{◌∙◌, length, subst, ap, sym}
 use Rattle.ct_query.specs.Fits.{AreColumnsBelow}
 use Rattle.ct_word.specs.Reading.{condition_at}
-use Rattle.ct_table.specs.Denotes.{with_table}
-use Rattle.ct_table.specs.Shared.{view_of}
-use Rattle.ct_operators.specs.Tables.{AreRows}
-use Rattle.ct_operators.specs.declared.table.CTable.{CTable}
-use Rattle.ct_keeper.specs.Effects.{AreSpared}
-use Rattle.ct_keeper.proofs.Finding.{not_missing, width_found, rows_of_found, column_below}
+use Rattle.ct_table.{specs.Denotes.with_table, specs.Shared.view_of}
+use Rattle.ct_operators.{specs.Tables.AreRows, specs.declared.table.CTable.CTable}
+use Rattle.ct_keeper.{specs.Effects.AreSpared, proofs.Finding.{not_missing, width_found, rows_of_found, column_below}}
 use Rattle.ct_keeper.proofs.effects.deleted.Goals as goal
 
 pub unreachable-requires : goal.unreachable-requires

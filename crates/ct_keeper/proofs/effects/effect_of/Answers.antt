@@ -2,9 +2,8 @@ use Rattle.std.proofs.Common.{map, sym, subst}
 use Rattle.ct_query.specs.Fits.{FitsChange}
 use Rattle.ct_history.specs.Written.{plain_written}
 use Rattle.ct_table.specs.Denotes.{heading_of}
+use Rattle.ct_keeper.{specs.Effects.DoesChange, proofs.Finding.does_create}
 use Rattle.ct_keeper.specs.declared.effects.Effect.TheVariants as effect
-use Rattle.ct_keeper.specs.Effects.{DoesChange}
-use Rattle.ct_keeper.proofs.Finding.{does_create}
 use Rattle.ct_keeper.proofs.effects.effect_of.Goals as goal
 
 pub returns-in_ok-created-in-Create-clause-does : goal.returns-in_ok-created-in-Create-clause-does

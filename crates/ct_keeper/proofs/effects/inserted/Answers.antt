@@ -1,12 +1,8 @@
 use Rattle.std.proofs.Common.{All, length, map, subst, refl, sym}
 use Rattle.ct_word.specs.Reading.{plain_crow}
 use Rattle.ct_query.specs.Fits.{FitsRow}
-use Rattle.ct_table.specs.Denotes.{find_table}
-use Rattle.ct_table.specs.Growing.{rows_after}
-use Rattle.ct_table.specs.Pending.{put_into}
-use Rattle.ct_table.specs.Shared.{view_of}
-use Rattle.ct_keeper.specs.Effects.{AreInserted, Gets}
-use Rattle.ct_keeper.proofs.Finding.{not_missing, width_found, rows_of_found, rows_put, rows_fit}
+use Rattle.ct_table.{specs.Denotes.find_table, specs.Growing.rows_after, specs.Pending.put_into, specs.Shared.view_of}
+use Rattle.ct_keeper.{specs.Effects.{AreInserted, Gets}, proofs.Finding.{not_missing, width_found, rows_of_found, rows_put, rows_fit}}
 use Rattle.ct_keeper.proofs.effects.inserted.Goals as goal
 
 pub unreachable-requires : goal.unreachable-requires

@@ -1,19 +1,11 @@
-use Rattle.std.proofs.Common.{◌≡◌, ◌≢◌, ◌+◌, ◌≤◌, List, [], length, length-append, map, arith, rules, ap, sym, subst, ◌∙◌}
-use Rattle.std.specs.Bool.{◌==◌}
-use Rattle.std.proofs.lemmas.Bool.{false≢true}
-use Rattle.std.specs.Arc.{arc_value}
+use Rattle.std.{proofs.Common.{◌≡◌, ◌≢◌, ◌+◌, ◌≤◌, List, [], length, length-append, map, arith, rules, ap, sym, subst, ◌∙◌}, specs.Bool.{◌==◌}}
+use Rattle.std.{proofs.lemmas.Bool.false≢true, specs.Arc.arc_value}
 use Rattle.ct_word.specs.Reading.{change_list_at, commits_of}
 use Rattle.ct_arena.specs.Seen.{pass_of}
 use Rattle.ct_condition.specs.Writes.{charge}
-use Rattle.ct_history.specs.declared.written.Written.{Written}
-use Rattle.ct_history.specs.Written.{plain_written}
-use Rattle.ct_keeper.specs.Bounds.{all_words}
-use Rattle.ct_keeper.specs.Faults.{is_full}
-use Rattle.ct_keeper.specs.Latest.{IsLatest, catalogue_of}
-use Rattle.ct_keeper.specs.Offers.{IsUnchanged, IsUncommitted}
-use Rattle.ct_keeper.specs.declared.latest.Latest.{Latest}
-use Rattle.ct_keeper.proofs.Judging.{some_changes, refusal_becomes}
-use Rattle.ct_keeper.proofs.Standing.{renoted, still}
+use Rattle.ct_history.{specs.declared.written.Written.Written, specs.Written.plain_written}
+use Rattle.ct_keeper.{specs.Bounds.all_words, specs.Faults.is_full, specs.Latest.{IsLatest, catalogue_of}, specs.Offers.{IsUnchanged, IsUncommitted}}
+use Rattle.ct_keeper.{specs.declared.latest.Latest.Latest, proofs.Judging.{some_changes, refusal_becomes}, proofs.Standing.{renoted, still}}
 use Rattle.ct_keeper.proofs.Weighing.{offer_words_are}
 use Rattle.ct_keeper.proofs.offering.verdict_on.Goals as goal
 

@@ -1,5 +1,4 @@
-use Rattle.std.proofs.Common.{◌≡◌, false, take}
-use Rattle.std.specs.List.{list_any}
+use Rattle.std.{proofs.Common.{◌≡◌, false, take}, specs.List.list_any}
 use Rattle.ct_keeper.specs.Steps.{is_assertion}
 use Rattle.ct_keeper.proofs.writers.asserts.Given as goal
 

@@ -1,9 +1,7 @@
-use Rattle.std.proofs.Common.{◌≡◌, [], ◌∷◌, ◌++◌, take, take_all, arith, rules, ap, sym, subst, ◌∙◌}
-use Rattle.std.proofs.lemmas.List.{take_more}
-use Rattle.ct_keeper.specs.Writers.{names_in}
-use Rattle.ct_keeper.proofs.Noting.{is_named, is_changed, named_more, told_by_names}
-use Rattle.ct_keeper.proofs.writers.written_names.Goals as goal
+use Rattle.std.{proofs.Common.{◌≡◌, [], ◌∷◌, ◌++◌, take, take_all, arith, rules, ap, sym, subst, ◌∙◌}, proofs.lemmas.List.take_more}
+use Rattle.ct_keeper.{specs.Writers.names_in, proofs.Noting.{is_named, is_changed, named_more, told_by_names}}
 use Rattle.ct_keeper.proofs.writers.written_names.Goals.{in-Some+in_ok-clone+in_ok-push, in_default}
+use Rattle.ct_keeper.proofs.writers.written_names.Goals as goal
 
 pub loop-change-preserved : goal.loop-change-preserved
 loop-change-preserved c = λ words t.

@@ -1,7 +1,4 @@
-use Rattle.ct_session.specs.Sessions.{state_of}
-use Rattle.ct_session.proofs.Readings.{is_written}
-use Rattle.ct_session.proofs.Replies.{proceeds_same}
-use Rattle.ct_session.proofs.Unread.{unread_answers}
+use Rattle.ct_session.{specs.Sessions.state_of, proofs.Readings.is_written, proofs.Replies.proceeds_same, proofs.Unread.unread_answers}
 use Rattle.ct_session.proofs.executing.executed.Goals as goal
 
 pub placed-done-requires-clause-written : goal.placed-done-requires-clause-written

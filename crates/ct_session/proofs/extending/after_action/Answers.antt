@@ -1,10 +1,6 @@
-use Rattle.std.proofs.Common.{sym, subst, ◌∙◌, List}
-use Rattle.std.specs.Prelude.{Some}
-use Rattle.ct_query.specs.Views.{action_of}
-use Rattle.ct_query.specs.declared.action.Read.{Read}
-use Rattle.ct_query.specs.Reads.{with_reads}
-use Rattle.ct_session.specs.Sessions.{IsOpen}
-use Rattle.ct_session.proofs.Opened.{open_acted, open_again}
+use Rattle.std.{proofs.Common.{sym, subst, ◌∙◌, List}, specs.Prelude.Some}
+use Rattle.ct_query.{specs.Views.action_of, specs.declared.action.Read.Read, specs.Reads.with_reads}
+use Rattle.ct_session.{specs.Sessions.IsOpen, proofs.Opened.{open_acted, open_again}}
 use Rattle.ct_session.proofs.extending.after_action.Goals as goal
 
 pub returns-in-Err-clause-same : goal.returns-in-Err-clause-same

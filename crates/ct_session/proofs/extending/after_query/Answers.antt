@@ -1,8 +1,6 @@
 use Rattle.std.proofs.Common.{ap, sym, subst, ◌∙◌, List}
-use Rattle.ct_query.specs.declared.action.Read.{Read}
-use Rattle.ct_query.specs.Reads.{with_reads}
-use Rattle.ct_session.specs.Sessions.{IsOpen}
-use Rattle.ct_session.proofs.Opened.{open_read}
+use Rattle.ct_query.{specs.declared.action.Read.Read, specs.Reads.with_reads}
+use Rattle.ct_session.{specs.Sessions.IsOpen, proofs.Opened.open_read}
 use Rattle.ct_session.proofs.extending.after_query.Goals as goal
 
 pub returns-in-Ok-clause-extended : goal.returns-in-Ok-clause-extended

@@ -1,6 +1,5 @@
 use Rattle.std.proofs.Common.{◌≡◌, List, ◌∷◌, [], ap, sym, ◌∙◌, arith, length}
-use Rattle.ct_query.specs.declared.action.Read.{Read}
-use Rattle.ct_query.specs.Reads.{with_reads}
+use Rattle.ct_query.{specs.declared.action.Read.Read, specs.Reads.with_reads}
 use Rattle.ct_session.proofs.extending.with_reads.Goals as goal
 
 -- one read is added, and then the rest

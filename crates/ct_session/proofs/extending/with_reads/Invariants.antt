@@ -1,6 +1,4 @@
-use Rattle.std.proofs.Common.{◌≡◌, ◌+◌, ◌≤◌, length}
-use Rattle.std.specs.Prelude.{vec_len, vec_capacity}
-use Rattle.std.specs.Vec.Iter.{into_iter_items, into_iter_len}
+use Rattle.std.{proofs.Common.{◌≡◌, ◌+◌, ◌≤◌, length}, specs.Prelude.{vec_len, vec_capacity}, specs.Vec.Iter.{into_iter_items, into_iter_len}}
 use Rattle.ct_query.specs.Reads.{with_reads}
 use Rattle.ct_session.proofs.extending.with_reads.Given as goal
 

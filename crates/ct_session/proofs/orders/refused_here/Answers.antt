@@ -1,5 +1,4 @@
-use Rattle.ct_session.proofs.Ordered.{misplaced_executes}
-use Rattle.ct_session.proofs.Replies.{proceeds_same}
+use Rattle.ct_session.{proofs.Ordered.misplaced_executes, proofs.Replies.proceeds_same}
 use Rattle.ct_session.proofs.orders.refused_here.Goals as goal
 
 pub returns-clause-executes : goal.returns-clause-executes

@@ -1,5 +1,4 @@
-use Rattle.ct_session.proofs.Ordered.{rolled_back_executes}
-use Rattle.ct_session.proofs.Replies.{proceeds_same}
+use Rattle.ct_session.{proofs.Ordered.rolled_back_executes, proofs.Replies.proceeds_same}
 use Rattle.ct_session.proofs.orders.roll_back.Goals as goal
 
 pub returns-clause-executes : goal.returns-clause-executes

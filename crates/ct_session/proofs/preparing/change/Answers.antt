@@ -1,12 +1,8 @@
 use Rattle.std.proofs.Common.{sym, subst}
-use Rattle.ct_query.specs.Plain as plain
 use Rattle.ct_query.specs.Views.{action_of}
-use Rattle.ct_statement.specs.Proposals.{IsProposal, listed}
-use Rattle.ct_statement.specs.Sight.{actions_before, history_of}
-use Rattle.ct_statement.specs.Unmet.{IsUnmet}
-use Rattle.ct_session.specs.Prepared.{IsStepIf}
-use Rattle.ct_session.proofs.Proposed.{same_history, proposal_grows}
-use Rattle.ct_statement.proofs.Sights.{sight_grows}
+use Rattle.ct_statement.{specs.Proposals.{IsProposal, listed}, specs.Sight.{actions_before, history_of}, specs.Unmet.IsUnmet, proofs.Sights.sight_grows}
+use Rattle.ct_session.{specs.Prepared.IsStepIf, proofs.Proposed.{same_history, proposal_grows}}
+use Rattle.ct_query.specs.Plain as plain
 use Rattle.ct_session.proofs.preparing.change.Goals as goal
 
 pub step_where_needed-step-requires-clause-sight : goal.step_where_needed-step-requires-clause-sight

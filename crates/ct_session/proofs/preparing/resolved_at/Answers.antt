@@ -1,13 +1,9 @@
 use Rattle.std.proofs.Common.{◌≡◌, map, ap, sym, subst, ◌∙◌}
-use Rattle.ct_query.specs.Fits.{FitsStatement}
-use Rattle.ct_query.specs.Schema.{schema}
-use Rattle.ct_query.specs.Views.{statement_of}
-use Rattle.ct_query.specs.declared.schema.Schema.{Schema}
+use Rattle.ct_query.{specs.Fits.FitsStatement, specs.Schema.schema, specs.Views.statement_of, specs.declared.schema.Schema.Schema}
 use Rattle.ct_resolve.specs.Statements.{resolved}
 use Rattle.ct_table.specs.Denotes.{heading_of}
 use Rattle.ct_statement.specs.Sight.{actions_before, history_of}
-use Rattle.ct_session.specs.Prepared.{IsRefused}
-use Rattle.ct_session.proofs.Resolving.{named_refuses, no_order}
+use Rattle.ct_session.{specs.Prepared.IsRefused, proofs.Resolving.{named_refuses, no_order}}
 use Rattle.ct_session.proofs.preparing.resolved_at.Goals as goal
 
 pub returns-in-Ok-clause-ok : goal.returns-in-Ok-clause-ok

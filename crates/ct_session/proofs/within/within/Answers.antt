@@ -1,24 +1,33 @@
-use Rattle.std.proofs.Common.{ap, subst, ◌∙◌}
-use Rattle.std.specs.Prelude.{Option, Some}
-use Rattle.ct_statement.specs.declared.stepping.Step.{Step}
-use Rattle.ct_statement.specs.Proposals.{listed}
-use Rattle.ct_statement.specs.Sight.{actions_before, history_of}
-use Rattle.ct_session.specs.declared.preparing.Prepared.{Prepared}
+use Rattle.std.{proofs.Common.{◌≡◌, ◌≤◌, ℕ, List, length, ap, sym, subst, ◌∙◌}, specs.Prelude.{Option, Some}}
+use Rattle.ct_word.specs.WellFormed.{IsWellFormed}
+use Rattle.ct_arena.{specs.Counts.AreNumbered, specs.Seen.Seen}
+use Rattle.ct_history.specs.Kept.{kept_of}
+use Rattle.ct_parse.specs.declared.tree.Statement.{Statement}
+use Rattle.ct_transcript.specs.declared.reply.Reply.{Reply}
+use Rattle.ct_statement.{specs.declared.stepping.Step.Step, specs.Proposals.listed, specs.Sight.{actions_before, history_of}}
+use Rattle.ct_session.{specs.declared.preparing.Prepared.Prepared, specs.declared.session.Open.Open, specs.Prepared.IsPrepared, specs.Executes.Executes}
+use Rattle.ct_session.{specs.Sessions.{IsSession, state_of}, specs.State.SessionState, proofs.Opened.{session_grows, prepared_later, refused_later}}
+use Rattle.ct_session.{proofs.Ordered.executes_later, proofs.Replies.proceeds}
+use mathlib.Core.List.{IsPrefix}
 use Rattle.ct_session.specs.declared.preparing.Prepared.TheVariants as prepared
-use Rattle.ct_session.specs.declared.session.Open.{Open}
-use Rattle.ct_session.specs.Prepared.{IsPrepared}
-use Rattle.ct_session.specs.Sessions.{IsSession}
-use Rattle.ct_session.proofs.Opened.{session_grows, prepared_later, refused_later}
-use Rattle.ct_session.proofs.Ordered.{executes_later}
-use Rattle.ct_session.proofs.Replies.{proceeds}
 use Rattle.ct_session.proofs.within.within.Goals as goal
+
+-- the session over the words that came with what was prepared
+grown : (old new : List ℕ) → IsPrefix old new → IsWellFormed new → (seen : ℕ) (o : Option Open) (open' : Open) → o ≡ Some open' → IsSession old seen o → IsSession new seen (Some open')
+grown old new longer formed seen o open' is k = session_grows old new longer formed seen (Some open') (subst (λ (p : Option Open). IsSession old seen p) is k)
+
+-- what is executed over those words is executed so from the first ones
+later : (N : ℕ) (pass new : Seen) → IsPrefix pass.words new.words → kept_of new ≡ kept_of pass → length new.words ≤ N → AreNumbered pass.session pass.mine pass.words → AreNumbered new.session new.mine new.words
+    → (seen fresh : ℕ) (o : Option Open) (open' : Open) → o ≡ Some open' → (next : SessionState) (now : List ℕ) (st : Statement) (r : Reply)
+    → Executes N (state_of new seen fresh (Some open')) next new.words now st r → Executes N (state_of pass seen fresh o) next pass.words now st r
+later N pass new longer kept room old counted seen fresh o open' is next now st r e =
+    subst (λ (p : Option Open). Executes N (state_of pass seen fresh p) next pass.words now st r) (sym is)
+    (executes_later N pass new seen fresh open' next now st r (proceeds N pass new longer kept room old counted) kept e)
 
 pub answer-requires-clause-session : goal.answer-requires-clause-session
 answer-requires-clause-session g c =
     let s = c.args.session in
-    let new = c.prepare-prepared.new.pass in
-    session_grows s.pass.words new.words c.in-Ok-Answer.ensures.longer c.words-after.ensures.formed s.seen (Some c.in-Some.open)
-    (subst (λ (o : Option Open). IsSession s.pass.words s.seen o) c.in-Some.is c.requires.session)
+    grown s.pass.words c.prepare-prepared.new.pass.words c.in-Ok-Answer.ensures.longer c.words-after.ensures.formed s.seen s.open c.in-Some.open c.in-Some.is c.requires.session
 
 pub answer-requires-clause-prepared : goal.answer-requires-clause-prepared
 answer-requires-clause-prepared g c =
@@ -34,9 +43,7 @@ answer-requires-clause-prepared g c =
 pub change-requires-clause-session : goal.change-requires-clause-session
 change-requires-clause-session g c =
     let s = c.args.session in
-    let new = c.prepare-prepared.new.pass in
-    session_grows s.pass.words new.words c.in-Ok-Change.ensures.longer c.words-after.ensures.formed s.seen (Some c.in-Some.open)
-    (subst (λ (o : Option Open). IsSession s.pass.words s.seen o) c.in-Some.is c.requires.session)
+    grown s.pass.words c.prepare-prepared.new.pass.words c.in-Ok-Change.ensures.longer c.words-after.ensures.formed s.seen s.open c.in-Some.open c.in-Some.is c.requires.session
 
 pub change-requires-clause-prepared : goal.change-requires-clause-prepared
 change-requires-clause-prepared g c =
@@ -52,9 +59,7 @@ change-requires-clause-prepared g c =
 pub refused-requires-clause-session : goal.refused-requires-clause-session
 refused-requires-clause-session g c =
     let s = c.args.session in
-    let new = c.prepare-prepared.new.pass in
-    session_grows s.pass.words new.words c.in-Err.ensures.longer c.words-after.ensures.formed s.seen (Some c.in-Some.open)
-    (subst (λ (o : Option Open). IsSession s.pass.words s.seen o) c.in-Some.is c.requires.session)
+    grown s.pass.words c.prepare-prepared.new.pass.words c.in-Err.ensures.longer c.words-after.ensures.formed s.seen s.open c.in-Some.open c.in-Some.is c.requires.session
 
 pub refused-requires-clause-refused : goal.refused-requires-clause-refused
 refused-requires-clause-refused g c =
@@ -65,26 +70,20 @@ refused-requires-clause-refused g c =
 pub returns-in-Ok-Answer-clause-executes : goal.returns-in-Ok-Answer-clause-executes
 returns-in-Ok-Answer-clause-executes g c =
     let s = c.args.session in
-    let new = c.prepare-prepared.new.pass in
     let done = c.in-Ok-Answer.ensures in
-    rw c.in-Some.is
-    (executes_later g.N.Site.log.cap s.pass new s.seen s.fresh c.in-Some.open _ _ c.args.statement.now c.answer.result.1
-    (proceeds g.N.Site.log.cap s.pass new done.longer done.kept c.words-after.ensures.room c.words-before.ensures.numbered c.words-after.ensures.numbered) done.kept c.answer.ensures.executes)
+    later g.N.Site.log.cap s.pass c.prepare-prepared.new.pass done.longer done.kept c.words-after.ensures.room c.words-before.ensures.numbered c.words-after.ensures.numbered
+    s.seen s.fresh s.open c.in-Some.open c.in-Some.is _ _ c.args.statement.now c.answer.result.1 c.answer.ensures.executes
 
 pub returns-in-Some-step-clause-executes : goal.returns-in-Some-step-clause-executes
 returns-in-Some-step-clause-executes g c =
     let s = c.args.session in
-    let new = c.prepare-prepared.new.pass in
     let done = c.in-Ok-Change.ensures in
-    rw c.in-Some.is
-    (executes_later g.N.Site.log.cap s.pass new s.seen s.fresh c.in-Some.open _ _ c.args.statement.now c.change.result.1
-    (proceeds g.N.Site.log.cap s.pass new done.longer done.kept c.words-after.ensures.room c.words-before.ensures.numbered c.words-after.ensures.numbered) done.kept c.change.ensures.executes)
+    later g.N.Site.log.cap s.pass c.prepare-prepared.new.pass done.longer done.kept c.words-after.ensures.room c.words-before.ensures.numbered c.words-after.ensures.numbered
+    s.seen s.fresh s.open c.in-Some.open c.in-Some.is _ _ c.args.statement.now c.change.result.1 c.change.ensures.executes
 
 pub returns-in-Err-clause-executes : goal.returns-in-Err-clause-executes
 returns-in-Err-clause-executes g c =
     let s = c.args.session in
-    let new = c.prepare-prepared.new.pass in
     let done = c.in-Err.ensures in
-    rw c.in-Some.is
-    (executes_later g.N.Site.log.cap s.pass new s.seen s.fresh c.in-Some.open _ _ c.args.statement.now c.refused.result.1
-    (proceeds g.N.Site.log.cap s.pass new done.longer done.kept c.words-after.ensures.room c.words-before.ensures.numbered c.words-after.ensures.numbered) done.kept c.refused.ensures.executes)
+    later g.N.Site.log.cap s.pass c.prepare-prepared.new.pass done.longer done.kept c.words-after.ensures.room c.words-before.ensures.numbered c.words-after.ensures.numbered
+    s.seen s.fresh s.open c.in-Some.open c.in-Some.is _ _ c.args.statement.now c.refused.result.1 c.refused.ensures.executes

@@ -1,5 +1,4 @@
-use Rattle.std.proofs.Common.{refl}
-use Rattle.std.specs.Arc.{arc_value}
+use Rattle.std.{proofs.Common.refl, specs.Arc.arc_value}
 use Rattle.ct_query.specs.Views.{action_of}
 use Rattle.ct_statement.proofs.Sights.{sight_after, kept_is, one_more}
 use Rattle.ct_statement.proofs.advancing.advance.Goals as goal

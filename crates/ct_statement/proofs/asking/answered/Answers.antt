@@ -1,15 +1,9 @@
-use Rattle.std.proofs.Common.{◌∙◌, ap, arith, length, map, subst, sym}
-use Rattle.std.specs.Prelude.{◌≤◌, Err}
-use Rattle.ct_query.specs.Fits.{Fits, width}
-use Rattle.ct_query.specs.Size.{rows_in, row_bound}
-use Rattle.ct_query.specs.Views.{query_of}
-use Rattle.ct_table.specs.Counting.{count_of}
-use Rattle.ct_table.specs.Denotes.{Denotes}
+use Rattle.std.{proofs.Common.{◌∙◌, ap, arith, length, map, subst, sym}, specs.Prelude.{◌≤◌, Err}}
+use Rattle.ct_query.{specs.Fits.{Fits, width}, specs.Size.{rows_in, row_bound}, specs.Views.query_of}
+use Rattle.ct_table.{specs.Counting.count_of, specs.Denotes.Denotes}
 use Rattle.ct_operators.specs.Tables.{AreRows}
 use Rattle.ct_algebra.proofs.Counted.{rows_within}
-use Rattle.ct_statement.specs.Asking.{IsUnasked}
-use Rattle.ct_statement.specs.Sight.{actions_before, history_of}
-use Rattle.ct_statement.proofs.Evaluating.{are_tables, answers_query, evaluation_fails}
+use Rattle.ct_statement.{specs.Asking.IsUnasked, specs.Sight.{actions_before, history_of}, proofs.Evaluating.{are_tables, answers_query, evaluation_fails}}
 use Rattle.ct_statement.proofs.asking.answered.Goals as goal
 
 pub eval-requires-clause-tables : goal.eval-requires-clause-tables

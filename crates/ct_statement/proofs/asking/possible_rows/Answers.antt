@@ -1,14 +1,9 @@
-use Rattle.std.proofs.Common.{ap, arith, length, subst, sym}
-use Rattle.std.specs.Prelude.{Err}
+use Rattle.std.{proofs.Common.{ap, arith, length, subst, sym}, specs.Prelude.Err}
+use Rattle.ct_query.specs.Views.{query_of}
+use Rattle.ct_statement.{specs.Sight.{actions_before, history_of}, specs.Unmet.IsUnmet, proofs.Evaluating.possible_fails, proofs.Questions.possible_right}
+use Rattle.ct_statement.{proofs.TermCounts.past_of_row, proofs.Wanting.unasked_unmet}
 use Rattle.ct_query.specs.Plain as plain
 use Rattle.ct_query.specs.declared.action.Ask.TheVariants as ask
-use Rattle.ct_query.specs.Views.{query_of}
-use Rattle.ct_statement.specs.Sight.{actions_before, history_of}
-use Rattle.ct_statement.specs.Unmet.{IsUnmet}
-use Rattle.ct_statement.proofs.Evaluating.{possible_fails}
-use Rattle.ct_statement.proofs.Questions.{possible_right}
-use Rattle.ct_statement.proofs.TermCounts.{past_of_row}
-use Rattle.ct_statement.proofs.Wanting.{unasked_unmet}
 use Rattle.ct_statement.proofs.asking.possible_rows.Goals as goal
 
 pub possible-requires-clause-global : goal.possible-requires-clause-global

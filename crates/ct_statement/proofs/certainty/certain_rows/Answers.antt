@@ -1,18 +1,11 @@
-use Rattle.std.proofs.Common.{◌∙◌, ap, arith, length, subst, sym}
-use Rattle.std.specs.Prelude.{Err}
-use Rattle.std.specs.Arc.{arc_value}
-use Rattle.ct_query.specs.Plain as plain
-use Rattle.ct_query.specs.declared.action.Ask.TheVariants as ask
+use Rattle.std.{proofs.Common.{◌∙◌, ap, arith, length, subst, sym}, specs.Prelude.Err, specs.Arc.arc_value}
 use Rattle.ct_query.specs.Views.{query_of}
 use Rattle.ct_table.proofs.Snapshots.{kept_grows}
 use Rattle.ct_certain.specs.Certain.{IsKeptWorld}
-use Rattle.ct_statement.specs.Sight.{actions_before, history_of}
-use Rattle.ct_statement.specs.Unmet.{IsUnmet}
-use Rattle.ct_statement.proofs.Evaluating.{certain_fails}
-use Rattle.ct_statement.proofs.KeptWorlds.{world_taken}
-use Rattle.ct_statement.proofs.Questions.{certain_right}
-use Rattle.ct_statement.proofs.TermCounts.{past_of_tuple}
-use Rattle.ct_statement.proofs.Wanting.{unasked_unmet}
+use Rattle.ct_statement.{specs.Sight.{actions_before, history_of}, specs.Unmet.IsUnmet, proofs.Evaluating.certain_fails, proofs.KeptWorlds.world_taken}
+use Rattle.ct_statement.{proofs.Questions.certain_right, proofs.TermCounts.past_of_tuple, proofs.Wanting.unasked_unmet}
+use Rattle.ct_query.specs.Plain as plain
+use Rattle.ct_query.specs.declared.action.Ask.TheVariants as ask
 use Rattle.ct_statement.proofs.certainty.certain_rows.Goals as goal
 
 pub certain-requires-clause-global : goal.certain-requires-clause-global

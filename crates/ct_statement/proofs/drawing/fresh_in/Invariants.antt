@@ -1,5 +1,4 @@
-use Rattle.std.proofs.Common.{◌≡◌, take}
-use Rattle.std.specs.Prelude.{sum_by, count_by}
+use Rattle.std.{proofs.Common.{◌≡◌, take}, specs.Prelude.{sum_by, count_by}}
 use Rattle.ct_statement.specs.Drawing.{is_fresh}
 use Rattle.ct_statement.proofs.drawing.fresh_in.Given as goal
 

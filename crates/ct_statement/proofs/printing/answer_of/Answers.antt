@@ -1,9 +1,7 @@
-use Rattle.std.proofs.Common.{◌∙◌, length, subst, sym}
-use Rattle.std.specs.Prelude.{IsTrue}
-use Rattle.std.specs.List.{list_all}
-use Rattle.ct_word.specs.declared.kinds.Class.TheVariants as class
+use Rattle.std.{proofs.Common.{◌∙◌, length, subst, sym}, specs.Prelude.IsTrue, specs.List.list_all}
 use Rattle.ct_word.specs.WellFormed.{is_place_of}
 use Rattle.ct_statement.proofs.Printed.{are_conditions, positions_long, answer_prints}
+use Rattle.ct_word.specs.declared.kinds.Class.TheVariants as class
 use Rattle.ct_statement.proofs.printing.answer_of.Goals as goal
 
 pub normal-requires-clause-roots : goal.normal-requires-clause-roots

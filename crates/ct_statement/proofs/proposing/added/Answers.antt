@@ -1,16 +1,11 @@
-use Rattle.std.proofs.Common.{subst, sym}
-use Rattle.std.specs.Prelude.{All}
-use Rattle.ct_word.specs.declared.kinds.Class.TheVariants as class
+use Rattle.std.{proofs.Common.{subst, sym}, specs.Prelude.All}
 use Rattle.ct_word.proofs.Prefixes.{place_in_prefix}
-use Rattle.ct_query.specs.Plain as plain
 use Rattle.ct_query.specs.Views.{action_of}
-use Rattle.ct_history.specs.Encodes.{Adds}
-use Rattle.ct_history.specs.Rows.{IsRowOf}
-use Rattle.ct_statement.specs.Sight.{actions_before, history_of}
-use Rattle.ct_statement.specs.Unmet.{IsUnmet}
-use Rattle.ct_statement.proofs.Listed.{fits_started, proposal}
-use Rattle.ct_statement.proofs.Proposed.{taken_placed}
+use Rattle.ct_history.{specs.Encodes.Adds, specs.Rows.IsRowOf}
+use Rattle.ct_statement.{specs.Sight.{actions_before, history_of}, specs.Unmet.IsUnmet, proofs.Listed.{fits_started, proposal}, proofs.Proposed.taken_placed}
 use Rattle.ct_statement.proofs.Sights.{history_stays, sight_grows}
+use Rattle.ct_word.specs.declared.kinds.Class.TheVariants as class
+use Rattle.ct_query.specs.Plain as plain
 use Rattle.ct_statement.proofs.proposing.added.Goals as goal
 
 pub taken_for-requires-clause-sight : goal.taken_for-requires-clause-sight

@@ -1,10 +1,7 @@
-use Rattle.std.proofs.Common.{[]}
-use Rattle.std.specs.Prelude.{None}
+use Rattle.std.{proofs.Common.{[]}, specs.Prelude.None}
 use Rattle.ct_word.proofs.Prefixes.{prefix_same}
 use Rattle.ct_query.specs.Views.{action_of}
-use Rattle.ct_statement.specs.Sight.{actions_before, history_of}
-use Rattle.ct_statement.proofs.Listed.{proposal}
-use Rattle.ct_statement.proofs.Literal.{takes_none}
+use Rattle.ct_statement.{specs.Sight.{actions_before, history_of}, proofs.Listed.proposal, proofs.Literal.takes_none}
 use Rattle.ct_statement.proofs.proposing.added_literal.Goals as goal
 
 pub returns-clause-proposes : goal.returns-clause-proposes

@@ -1,12 +1,7 @@
-use Rattle.std.proofs.Common.{◌≡◌, ◌≤◌, ◌^◌, [], map, length, None, Some, arith, ap, subst, sym}
-use Rattle.std.specs.Prelude.{IsSome}
-use Rattle.std.proofs.lemmas.Bool.{false≢true, leb-true}
-use Rattle.ct_query.specs.Fits.{FitsAction, count_of}
-use Rattle.ct_query.specs.Pred.{condition_of}
-use Rattle.ct_query.specs.Views.{action_of}
+use Rattle.std.{proofs.Common.{◌≡◌, ◌≤◌, ◌^◌, [], map, length, arith, ap, subst, sym}, specs.Prelude.IsSome, proofs.lemmas.Bool.{false≢true, leb-true}}
+use Rattle.ct_query.{specs.Fits.{FitsAction, count_of}, specs.Pred.condition_of, specs.Views.action_of}
 use Rattle.ct_history.specs.Encodes.{IsEncodable}
-use Rattle.ct_table.specs.Denotes.{heading_of, find_table}
-use Rattle.ct_table.specs.Shared.{view_of}
+use Rattle.ct_table.{specs.Denotes.heading_of, specs.Shared.view_of}
 use Rattle.ct_algebra.proofs.Found.{no_columns, stands_for}
 use Rattle.ct_statement.proofs.Proposed.{deletion_encodable}
 use Rattle.ct_statement.proofs.proposing.is_encodable.Goals as goal

@@ -1,9 +1,7 @@
 use Rattle.std.proofs.Common.{subst, sym}
-use Rattle.ct_query.specs.Plain as plain
 use Rattle.ct_query.specs.Views.{action_of, query_of}
-use Rattle.ct_statement.specs.Sight.{actions_before, history_of}
-use Rattle.ct_statement.specs.Unmet.{IsUnmet}
-use Rattle.ct_statement.proofs.Wanting.{unasked_insertion}
+use Rattle.ct_statement.{specs.Sight.{actions_before, history_of}, specs.Unmet.IsUnmet, proofs.Wanting.unasked_insertion}
+use Rattle.ct_query.specs.Plain as plain
 use Rattle.ct_statement.proofs.proposing.taken_for.Goals as goal
 
 pub returns-in-Err-clause-err : goal.returns-in-Err-clause-err

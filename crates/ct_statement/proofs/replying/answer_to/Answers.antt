@@ -1,8 +1,7 @@
 use Rattle.std.proofs.Common.{subst, sym}
-use Rattle.ct_query.specs.Plain as plain
 use Rattle.ct_query.specs.Views.{query_of}
-use Rattle.ct_statement.specs.Sight.{actions_before, history_of}
-use Rattle.ct_statement.specs.Unmet.{IsUnmet}
+use Rattle.ct_statement.{specs.Sight.{actions_before, history_of}, specs.Unmet.IsUnmet}
+use Rattle.ct_query.specs.Plain as plain
 use Rattle.ct_statement.proofs.replying.answer_to.Goals as goal
 
 pub returns-in-Err-possible_rows-clause-err : goal.returns-in-Err-possible_rows-clause-err

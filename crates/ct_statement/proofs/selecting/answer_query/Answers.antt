@@ -1,14 +1,10 @@
-use Rattle.std.proofs.Common.{length, sym, subst, ◌∙◌}
-use Rattle.std.specs.Prelude.{IsTrue}
-use Rattle.ct_word.specs.declared.kinds.Class.TheVariants as class
+use Rattle.std.{proofs.Common.{length, sym, subst, ◌∙◌}, specs.Prelude.IsTrue}
 use Rattle.ct_word.specs.WellFormed.{is_place_of}
 use Rattle.ct_query.specs.Views.{query_of}
-use Rattle.ct_query.specs.declared.action.Ask.TheVariants as ask
 use Rattle.ct_operators.specs.Tables.{AreRows}
-use Rattle.ct_statement.specs.Printed.{IsPrinted}
-use Rattle.ct_statement.specs.Sight.{actions_before, history_of}
-use Rattle.ct_statement.proofs.Meaning.{answer_means}
-use Rattle.ct_statement.proofs.Wanting.{unasked_unmet}
+use Rattle.ct_statement.{specs.Printed.IsPrinted, specs.Sight.{actions_before, history_of}, proofs.Meaning.answer_means, proofs.Wanting.unasked_unmet}
+use Rattle.ct_word.specs.declared.kinds.Class.TheVariants as class
+use Rattle.ct_query.specs.declared.action.Ask.TheVariants as ask
 use Rattle.ct_statement.proofs.selecting.answer_query.Goals as goal
 
 pub answer_of-requires-clause-global : goal.answer_of-requires-clause-global

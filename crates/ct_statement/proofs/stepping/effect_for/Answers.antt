@@ -1,5 +1,4 @@
-use Rattle.std.proofs.Common.{◌≡◌, ◌++◌, ◌∷◌, [], subst, sym}
-use Rattle.std.specs.Prelude.{IfSome, MatchOption}
+use Rattle.std.{proofs.Common.{◌≡◌, ◌++◌, ◌∷◌, [], subst, sym}, specs.Prelude.{IfSome, MatchOption}}
 use Rattle.ct_word.specs.Reading.{change_list_at}
 use Rattle.ct_query.specs.Views.{action_of}
 use Rattle.ct_history.specs.Written.{IsWritten, plain_written}

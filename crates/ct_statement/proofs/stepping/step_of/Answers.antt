@@ -1,8 +1,6 @@
-use Rattle.std.proofs.Common.{subst, sym}
-use Rattle.std.specs.Arc.{arc_value}
+use Rattle.std.{proofs.Common.{subst, sym}, specs.Arc.arc_value}
 use Rattle.ct_query.specs.Views.{action_of}
-use Rattle.ct_statement.specs.Narrowing.{CanNarrow, IsKeptFor, IsUnkept}
-use Rattle.ct_statement.proofs.Stepped.{can_narrow, step_made, unkept_unmet}
+use Rattle.ct_statement.{specs.Narrowing.{CanNarrow, IsKeptFor, IsUnkept}, proofs.Stepped.{can_narrow, step_made, unkept_unmet}}
 use Rattle.ct_statement.proofs.stepping.step_of.Goals as goal
 
 pub kept_for-requires-clause-decidable : goal.kept_for-requires-clause-decidable

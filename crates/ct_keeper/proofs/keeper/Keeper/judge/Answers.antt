@@ -1,19 +1,20 @@
-use Rattle.std.proofs.Common.{ap, arith, refl, sym, subst, ◌∙◌}
-use mathlib.Core.List.{IsPrefix}
-use Rattle.ct_word.specs.Reading.{commits_of}
-use Rattle.ct_word.proofs.Prefixes.{prefix_of_prefix, commits_prefix}
-use Rattle.ct_arena.specs.Seen.{tally_of, pass_of}
+use Rattle.std.proofs.Common.{◌≡◌, ℕ, ◌+◌, ◌≤◌, List, ap, arith, refl, sym, subst, ◌∙◌}
+use Rattle.ct_word.{specs.Reading.commits_of, specs.WellFormed.IsWellFormed, proofs.Prefixes.{prefix_of_prefix, commits_prefix}}
+use Rattle.ct_arena.{specs.declared.tally.Tally.Tally, specs.Seen.{Seen, tally_of, pass_of}}
 use Rattle.ct_condition.specs.Writes.{charge}
-use Rattle.ct_keeper.specs.Bounds.{offer_words}
-use Rattle.ct_keeper.specs.Catalogue.{Stays}
-use Rattle.ct_keeper.specs.Conflicting.{told_or}
-use Rattle.ct_keeper.specs.Faults.{is_full}
-use Rattle.ct_keeper.specs.Latest.{catalogue_of}
-use Rattle.ct_keeper.specs.Offers.{IsOffer, BecomesOf}
-use Rattle.ct_keeper.proofs.Standing.{still}
+use Rattle.ct_keeper.{specs.Bounds.offer_words, specs.Catalogue.Stays, specs.declared.catalogue.Offer.Offer, specs.Conflicting.told_or, specs.Faults.is_full}
+use Rattle.ct_keeper.{specs.Latest.catalogue_of, specs.Offers.{IsOffer, BecomesOf}, proofs.Standing.still, proofs.Walking.{all_written_later, all_written_same}}
 use Rattle.ct_keeper.proofs.Entering.{offer_grows, same_list, words_entered, becomes_from}
-use Rattle.ct_keeper.proofs.Walking.{all_written_later, all_written_same}
+use mathlib.Core.List.{IsPrefix}
 use Rattle.ct_keeper.proofs.keeper.Keeper.judge.Goals as goal
+
+-- so many words are within the bound of the offer, where they are so for the guest as which the session entered
+entered_within : (pass : Seen) (words : List ℕ) → IsPrefix pass.words words → IsWellFormed words → (offer : Offer) → IsOffer pass offer → (t : Tally) → t ≡ tally_of pass
+    → (was old : List ℕ) → commits_of words ≡ commits_of was → was ≡ old → (n : ℕ) → n ≤ t.made + offer_words words (pass_of t words) offer → n ≤ pass.made + offer_words old pass offer
+entered_within pass words longer formed offer is t entered was old come view n le =
+    let same = ap (λ u. offer_words words (pass_of u words) offer) entered ∙ words_entered pass words longer formed offer is was come ∙ ap (λ ws. offer_words ws pass offer) view in
+    let made = ap (λ u. u.made) entered in
+    omega (arith, same, made, le)
 
 pub verdict_on-verdict-requires-clause-latest : goal.verdict_on-verdict-requires-clause-latest
 verdict_on-verdict-requires-clause-latest g c =
@@ -64,34 +65,22 @@ returns-clause-verdict g c =
 
 pub returns-clause-made : goal.returns-clause-made
 returns-clause-made g c =
-    let pass = c.args.pass in
-    let offer = c.args.offer.now in
-    let k = c.self.inside in
-    let words = c.enter-guest.new.self.words in
-    let entered = ap (λ t. t.made) c.enter-guest.ensures.guest in
-    let same =
-    ap (λ t. offer_words words (pass_of t words) offer) c.enter-guest.ensures.guest
-    ∙ words_entered pass words c.enter-guest.ensures.seen c.words.ensures.formed offer c.requires.offer k.pass.words c.enter-guest.ensures.commits
-    ∙ ap (λ o. offer_words o.words pass offer) c.self.view_is in
+    let its = c.verdict_on-verdict in
     let left = ap (λ p. p.made) c.leave-pass.ensures.pass in
-    let made = c.verdict_on-verdict.ensures.words in
-    omega (arith, entered, same, left, made)
+    let most =
+    entered_within c.args.pass c.enter-guest.new.self.words c.enter-guest.ensures.seen c.words.ensures.formed c.args.offer.now c.requires.offer c.enter-guest.result c.enter-guest.ensures.guest
+    c.self.inside.pass.words c.args.self.now.words c.enter-guest.ensures.commits (ap (λ o. o.words) c.self.view_is) (its.new.guest.made + charge (is_full its.result)) its.ensures.words in
+    omega (arith, left, most)
 
 pub returns-clause-fewer : goal.returns-clause-fewer
 returns-clause-fewer g c = λ refused.
-    let pass = c.args.pass in
-    let offer = c.args.offer.now in
-    let k = c.self.inside in
-    let words = c.enter-guest.new.self.words in
-    let entered = ap (λ t. t.made) c.enter-guest.ensures.guest in
-    let same =
-    ap (λ t. offer_words words (pass_of t words) offer) c.enter-guest.ensures.guest
-    ∙ words_entered pass words c.enter-guest.ensures.seen c.words.ensures.formed offer c.requires.offer k.pass.words c.enter-guest.ensures.commits
-    ∙ ap (λ o. offer_words o.words pass offer) c.self.view_is in
+    let its = c.verdict_on-verdict in
     let left = ap (λ p. p.made) c.leave-pass.ensures.pass in
-    let made = c.verdict_on-verdict.ensures.words in
+    let most =
+    entered_within c.args.pass c.enter-guest.new.self.words c.enter-guest.ensures.seen c.words.ensures.formed c.args.offer.now c.requires.offer c.enter-guest.result c.enter-guest.ensures.guest
+    c.self.inside.pass.words c.args.self.now.words c.enter-guest.ensures.commits (ap (λ o. o.words) c.self.view_is) (its.new.guest.made + charge (is_full its.result)) its.ensures.words in
     let one = ap (λ r. charge (is_full r)) refused in
-    omega (arith, entered, same, left, made, one)
+    omega (arith, left, most, one)
 
 pub returns-clause-longer : goal.returns-clause-longer
 returns-clause-longer g c =

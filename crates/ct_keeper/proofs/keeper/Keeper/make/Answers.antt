@@ -1,8 +1,6 @@
-use Rattle.std.proofs.Common.{[], length, ap, sym, subst, ◌∙◌}
-use Rattle.std.specs.Arc.{arc_value}
+use Rattle.std.{proofs.Common.{[], length, ap, sym, subst, ◌∙◌}, specs.Arc.arc_value}
 use Rattle.ct_query.specs.Reads.{last}
-use Rattle.ct_table.specs.Snapshot.{IsSnapshot}
-use Rattle.ct_table.proofs.Snapshots.{first_snapshot}
+use Rattle.ct_table.{specs.Snapshot.IsSnapshot, proofs.Snapshots.first_snapshot}
 use Rattle.ct_keeper.proofs.keeper.Keeper.make.Goals as goal
 
 pub invariant_of-result : goal.invariant_of-result

@@ -1,9 +1,7 @@
 use Rattle.std.proofs.Common.{ap, sym, subst, ◌∙◌}
+use Rattle.ct_word.{specs.Reading.commits_of, proofs.Prefixes.commits_prefix}
+use Rattle.ct_keeper.{specs.Latest.IsLatest, proofs.Standing.still}
 use mathlib.Core.List.{IsPrefix}
-use Rattle.ct_word.specs.Reading.{commits_of}
-use Rattle.ct_word.proofs.Prefixes.{commits_prefix}
-use Rattle.ct_keeper.specs.Latest.{IsLatest}
-use Rattle.ct_keeper.proofs.Standing.{still}
 use Rattle.ct_keeper.proofs.keeper.Keeper.meet.Goals as goal
 
 pub invariant_of-self : goal.invariant_of-self

@@ -1,15 +1,10 @@
-use Rattle.std.proofs.Common.{◌+◌, [], length, map, refl, ap, sym, subst, ◌∙◌, rules}
-use Rattle.std.specs.Prelude.{All, IsTrue, sum_by}
-use Rattle.std.proofs.lemmas.Iterator.Adapters.{YieldsList-from_vec}
-use Rattle.std.proofs.lemmas.Iterator.Consumers.{YieldsList-end}
-use Rattle.std.proofs.lemmas.List.{length-map, map-id}
+use Rattle.std.{proofs.Common.{◌+◌, [], length, map, refl, ap, sym, subst, ◌∙◌, rules}, specs.Prelude.{All, IsTrue, sum_by}}
+use Rattle.std.{proofs.lemmas.Iterator.Adapters.YieldsList-from_vec, proofs.lemmas.Iterator.Consumers.YieldsList-end, proofs.lemmas.List.{length-map, map-id}}
 use Rattle.std.proofs.lemmas.List.Elements.{All-nil}
-use mathlib.Core.List.{IsPrefix}
-use Rattle.ct_arena.specs.Counts.{AreNumbered, AreOfSessions}
-use Rattle.ct_arena.specs.Seen.{Seen, tally_of}
-use Rattle.ct_arena.specs.declared.tally.Tally.{Tally}
+use Rattle.ct_arena.{specs.Counts.{AreNumbered, AreOfSessions}, specs.Seen.{Seen, tally_of}, specs.declared.tally.Tally.Tally}
 use Rattle.ct_query.specs.Worlds.{admits}
 use Rattle.ct_keeper.proofs.Closing.{one_ended, one_seen, each_seen, made_by, each_numbered}
+use mathlib.Core.List.{IsPrefix}
 use Rattle.ct_keeper.proofs.server.Server.close.Goals as goal
 
 pub loop-pass-init : goal.loop-pass-init

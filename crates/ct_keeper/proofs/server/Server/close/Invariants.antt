@@ -1,8 +1,7 @@
-use Rattle.std.proofs.Common.{◌≡◌, map}
-use Rattle.std.specs.Prelude.{All, None}
-use mathlib.Core.List.{IsPrefix}
+use Rattle.std.{proofs.Common.{◌≡◌, map}, specs.Prelude.{All, None}}
 use Rattle.ct_word.specs.Reading.{commits_of}
 use Rattle.ct_arena.specs.Seen.{tally_of}
+use mathlib.Core.List.{IsPrefix}
 use Rattle.ct_keeper.proofs.server.Server.close.Given as goal
 
 abbrev pub invariant-loop-pass : goal.invariant-loop-pass

@@ -1,18 +1,11 @@
-use Rattle.std.proofs.Common.{◌≡◌, map, ap, sym, subst, ◌∙◌, arith}
-use Rattle.std.specs.Prelude.{All}
-use Rattle.ct_word.specs.Reading.{commits_of}
-use Rattle.ct_word.proofs.Prefixes.{prefix_of_prefix}
+use Rattle.std.{proofs.Common.{◌≡◌, suc, map, ap, sym, subst, ◌∙◌}, specs.Prelude.All}
+use Rattle.ct_word.{specs.Reading.commits_of, proofs.Prefixes.prefix_of_prefix}
 use Rattle.ct_arena.specs.Seen.{tally_of, pass_of}
-use Rattle.ct_keeper.specs.Bounds.{offer_words}
-use Rattle.ct_keeper.specs.declared.error.KeeperError.TheVariants as fault
-use Rattle.ct_keeper.specs.Conflicting.{told_or}
+use Rattle.ct_keeper.{specs.Conflicting.told_or, specs.Offers.{changes_in, IsOffer, BecomesOf}, specs.Served.IsOutcome, proofs.Judging.{told_err, told_later}}
+use Rattle.ct_keeper.{proofs.Entering.{offer_grows, same_list}, proofs.Walking.{all_written_later, all_written_same}}
+use Rattle.ct_keeper.proofs.Serving.{read_on, outcome_is, made_within}
 use Rattle.ct_history.specs.Written.{IsWritten, plain_written}
-use Rattle.ct_keeper.specs.Offers.{changes_in, IsOffer, BecomesOf}
-use Rattle.ct_keeper.specs.Served.{IsOutcome}
-use Rattle.ct_keeper.proofs.Entering.{offer_grows, same_list}
-use Rattle.ct_keeper.proofs.Walking.{all_written_later, all_written_same}
-use Rattle.ct_keeper.proofs.Judging.{told_err, told_later}
-use Rattle.ct_keeper.proofs.Serving.{read_on, keeper_grows, outcome_is, words_are}
+use Rattle.ct_keeper.specs.declared.error.KeeperError.TheVariants as fault
 use Rattle.ct_keeper.proofs.server.Server.commit.Goals as goal
 
 pub judge-pass-requires-clause-offer : goal.judge-pass-requires-clause-offer
@@ -45,35 +38,18 @@ returns-clause-longer g c = prefix_of_prefix c.args.pass.words c.locked-keeper.n
 
 pub returns-clause-made : goal.returns-clause-made
 returns-clause-made g c =
-    let pass = c.args.pass in
-    let offer = c.args.offer.now in
-    let now = c.locked-keeper.new.pass in
     let came = c.locked-keeper.ensures in
     let old = c.deref_mut-2.result.now in
-    let new = c.judge-pass.new.self in
-    let after = c.judge-pass.result.0 in
-    let same = ap (λ p. offer_words old.words p offer) (read_on pass now came.session came.made came.mine) in
-    let goes = keeper_grows g.N.Site.log.cap old new now after offer (told_or (commits_of old.words) offer.base c.judge-pass.result.1) c.judge-pass.ensures.verdict in
-    let are = words_are pass now.words came.longer came.formed offer c.requires.offer old new after c.judge-pass.ensures.words goes in
-    let was = came.made in
-    let made = c.judge-pass.ensures.made in
-    omega (arith, same, are, was, made)
+    made_within g.N.Site.log.cap c.args.pass c.locked-keeper.new.pass came.session came.made came.mine came.longer came.formed c.args.offer.now c.requires.offer old c.judge-pass.new.self c.judge-pass.result.0
+    c.judge-pass.ensures.words (told_or (commits_of old.words) c.args.offer.now.base c.judge-pass.result.1) c.judge-pass.ensures.verdict c.judge-pass.result.0.made c.judge-pass.ensures.made
 
 pub returns-clause-fewer : goal.returns-clause-fewer
 returns-clause-fewer g c = λ refused.
-    let pass = c.args.pass in
-    let offer = c.args.offer.now in
-    let now = c.locked-keeper.new.pass in
     let came = c.locked-keeper.ensures in
     let old = c.deref_mut-2.result.now in
-    let new = c.judge-pass.new.self in
-    let after = c.judge-pass.result.0 in
-    let same = ap (λ p. offer_words old.words p offer) (read_on pass now came.session came.made came.mine) in
-    let goes = keeper_grows g.N.Site.log.cap old new now after offer (told_or (commits_of old.words) offer.base c.judge-pass.result.1) c.judge-pass.ensures.verdict in
-    let are = words_are pass now.words came.longer came.formed offer c.requires.offer old new after c.judge-pass.ensures.words goes in
-    let was = came.made in
-    let fewer = c.judge-pass.ensures.fewer (told_err (commits_of c.words-2.result.now) offer.base c.judge-pass.result.1 fault.Full (sym c.outcome_of-outcome.ensures ∙ refused)) in
-    omega (arith, same, are, was, fewer)
+    made_within g.N.Site.log.cap c.args.pass c.locked-keeper.new.pass came.session came.made came.mine came.longer came.formed c.args.offer.now c.requires.offer old c.judge-pass.new.self c.judge-pass.result.0
+    c.judge-pass.ensures.words (told_or (commits_of old.words) c.args.offer.now.base c.judge-pass.result.1) c.judge-pass.ensures.verdict (suc c.judge-pass.result.0.made)
+    (c.judge-pass.ensures.fewer (told_err (commits_of c.words-2.result.now) c.args.offer.now.base c.judge-pass.result.1 fault.Full (sym c.outcome_of-outcome.ensures ∙ refused)))
 
 pub judge-pass-requires-clause-written : goal.judge-pass-requires-clause-written
 judge-pass-requires-clause-written g c =

@@ -1,6 +1,6 @@
 use Rattle.std.proofs.Common.{◌≡◌}
-use mathlib.Core.List.{IsPrefix}
 use Rattle.ct_word.specs.WellFormed.{IsWellFormed}
+use mathlib.Core.List.{IsPrefix}
 use Rattle.ct_keeper.proofs.server.Server.locked.Given as goal
 
 abbrev pub invariant-loop : goal.invariant-loop

@@ -1,10 +1,7 @@
-use Rattle.std.proofs.Common.{◌≡◌, ◌+◌, ◌++◌, ◌∷◌, [], length, map, ap, sym, ◌∙◌, arith}
-use Rattle.std.specs.Prelude.{None}
-use Rattle.std.specs.List.{range_with_len}
+use Rattle.std.{proofs.Common.{◌≡◌, ◌+◌, ◌++◌, ◌∷◌, [], length, map, ap, sym, ◌∙◌, arith}, specs.Prelude.None, specs.List.range_with_len}
 use Rattle.std.proofs.lemmas.List.FromFn.{length-map-range_with_len, map-range_with_len_more}
 use Rattle.ct_word.specs.Reading.{commits_of}
-use Rattle.ct_arena.specs.Seen.{Keeping}
-use Rattle.ct_arena.proofs.Opening.{no_commits}
+use Rattle.ct_arena.{specs.Seen.Keeping, proofs.Opening.no_commits}
 use Rattle.ct_keeper.specs.Served.{first_pass}
 use Rattle.ct_keeper.proofs.server.Server.make.Goals as goal
 

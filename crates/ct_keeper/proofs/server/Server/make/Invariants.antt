@@ -1,6 +1,4 @@
-use Rattle.std.proofs.Common.{◌≡◌, ◌≤◌, [], map}
-use Rattle.std.specs.Prelude.{None, vec_capacity}
-use Rattle.std.specs.List.{range_with_len}
+use Rattle.std.{proofs.Common.{◌≡◌, ◌≤◌, [], map}, specs.Prelude.{None, vec_capacity}, specs.List.range_with_len}
 use Rattle.ct_arena.specs.Counts.{opening}
 use Rattle.ct_keeper.specs.Served.{first_pass}
 use Rattle.ct_keeper.proofs.server.Server.make.Given as goal

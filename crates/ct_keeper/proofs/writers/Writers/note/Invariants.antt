@@ -1,6 +1,4 @@
-use Rattle.std.proofs.Common.{◌≡◌, ◌≤◌, ◌+◌, ℕ, List, nat_eq, if◌then◌else◌, length, take}
-use Rattle.std.specs.Cmp.Lexicographic.{pointwise}
-use Rattle.std.specs.List.{list_any}
+use Rattle.std.{proofs.Common.{◌≡◌, ◌≤◌, ◌+◌, ℕ, List, nat_eq, if◌then◌else◌, length, take}, specs.Cmp.Lexicographic.pointwise, specs.List.list_any}
 use Rattle.indexmap.specs.IndexMap.{get, spare}
 use Rattle.ct_word.specs.Value.{same_text}
 use Rattle.ct_keeper.specs.Writers.{or_none}
