@@ -1,20 +1,34 @@
 -- A closed test: a session that creates a table, and one that commits a transaction, are lawful, whichever texts are read
 -- so.
-use Rattle.std.proofs.Common.{ℕ, List, [], ◌∷◌, refl, arith, inl, inr}
-use Rattle.std.specs.Prelude.{pos, codes, Some, None}
+use Rattle.std.{proofs.Common.{◌≡◌, ◌+◌, ◌-◌, ◌<◌, ℕ, List, [], ◌∷◌, refl, arith, inl, inr}, specs.Prelude.{pos, codes, take, Some, None}}
 use Rattle.std.proofs.lemmas.List.Elements.{All-nil, All-cons}
+use Rattle.ct_word.{specs.declared.values.Term.Term, specs.Condition.True, specs.Change.{PlainRow, PlainCommit, Create, Insert}}
+use Rattle.ct_query.{specs.Agrees.{SameTruthAlone, Agrees}, specs.Plain.PlainAction}
+use Rattle.ct_session.{specs.State.{Transaction, SessionState, beginning, carried, with_transaction, opened, extended}, specs.Seeing.{Asks, Orders, IsCommit}}
+use Rattle.ct_session.specs.LawfulReply.{LawfulReply}
+use Rattle.ct_statement.specs.Drawing.{drawn}
+use Rattle.ct_serve.specs.Sessions.{AreLawful}
 use Rattle.ct_word.specs.declared.values.Value.TheVariants as val
-use Rattle.ct_word.specs.declared.values.Term.{Term}
 use Rattle.ct_word.specs.declared.values.Term.TheVariants as term
-use Rattle.ct_word.specs.Condition.{True}
-use Rattle.ct_word.specs.Change.{PlainRow, PlainCommit, Create, Insert}
-use Rattle.ct_query.specs.Agrees.{SameTruthAlone}
-use Rattle.ct_query.specs.Plain.{PlainAction}
 use Rattle.ct_query.specs.Plain as plain
 use Rattle.ct_transcript.specs.declared.reply.Reply.TheVariants as reply
-use Rattle.ct_session.specs.State.{Transaction, SessionState, beginning, carried, with_transaction, opened, extended}
-use Rattle.ct_session.specs.Seeing.{Asks, Orders}
-use Rattle.ct_serve.specs.Sessions.{AreLawful}
+
+-- an action outside a transaction is committed
+pub committed_alone : (H : List PlainCommit) (W : List ℕ) (N : ℕ) (s next : SessionState) (x : List ℕ) (m : ℕ) (a : PlainAction) (c : PlainCommit) → s.transaction ≡ None
+    → Asks H s x (m - 1) [] (plain.Act a) → s.seen < m → IsCommit H m c → (c.session ≡ s.session) × (c.number ≡ s.commits) → Agrees (take (m - 1) H) (a ∷ []) c.changes
+    → next ≡ carried m (record s { fresh = s.fresh + drawn a; commits = s.commits + 1 }) → LawfulReply H W N s x (reply.Committed m) next
+committed_alone H W N s next x m a c none asks later stands own agrees is = inl (record {
+  action = a;
+  commit = c;
+  none_open = none;
+  asks = asks;
+  later = later;
+  stands = stands;
+  session = own.0;
+  number = own.1;
+  agrees = agrees;
+  next_is = is;
+})
 
 abbrev creation : PlainAction
 creation = plain.Create (codes "t") (codes "a" ∷ [])
@@ -62,18 +76,7 @@ module _ (W : List ℕ) (N : ℕ) (create begin insert commit : List ℕ) (creat
   first : AreLawful history W N (beginning 1) (create ∷ []) (reply.Committed 1 ∷ []) ended
   first = (
     ended,
-    inl (record {
-      action = creation;
-      commit = created;
-      none_open = refl;
-      asks = creates;
-      later = omega arith;
-      stands = (omega arith, refl);
-      session = refl;
-      number = refl;
-      agrees = ((refl, refl), tt);
-      next_is = refl;
-    }),
+    committed_alone history W N (beginning 1) ended create 1 creation created refl creates (omega arith) (omega arith, refl) (refl, refl) ((refl, refl), tt) refl,
     refl,
   )
 

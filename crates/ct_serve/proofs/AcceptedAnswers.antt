@@ -1,53 +1,33 @@
 -- A closed test over the small log: a transcript is lawful of a session that commits three times, and of one whose
 -- transaction meets a conflict, whose assertion is refuted, and which is answered rows, possible rows and certain rows,
 -- whichever texts are read so.
-use Rattle.std.proofs.Common.{◌≡◌, ◌≤◌, ℕ, zero, suc, List, [], ◌∷◌, refl, sym, ap, subst, ◌∙◌, arith, inl}
+use Rattle.std.{proofs.Common.{◌≡◌, ◌≤◌, ℕ, zero, suc, List, [], ◌∷◌, refl, sym, ap, subst, ◌∙◌, arith, inl}, specs.List.IsDistinct}
 use Rattle.std.specs.Prelude.{Bool, true, false, not, ◌&&◌, ◌||◌, pos, codes, take, Option, Some, None, is_some, option_and_then, IfSome, IsTrue, All, if◌then◌else◌}
-use Rattle.std.specs.List.{IsDistinct}
 use Rattle.std.proofs.lemmas.List.Elements.{All-nil, All-cons}
+use Rattle.ct_word.{specs.Value.{World, same_value, same_cells, same_tuple, value_of_null}, specs.Condition.{True, holds_at}, specs.Reading.condition_at}
+use Rattle.ct_word.{specs.Change.{PlainRow, PlainCommit}, proofs.Alike.value_decides}
+use Rattle.ct_derivation.proofs.Sound.{root_refuted}
+use Rattle.ct_query.{specs.declared.action.Ask.Ask, specs.Plain.{PlainQuery, PlainAction, PlainStatement}, specs.Agrees.SameTruthAlone, specs.Rows.rows}
+use Rattle.ct_query.{specs.Database.{Database, SameSet, has_tuple}, specs.Reads.{last as last_of}, specs.Worlds.admits}
+use Rattle.ct_lex.specs.Texts.{texts}
+use Rattle.ct_rewrite.{specs.declared.answer.Node.Node, specs.declared.history.Change.Change, specs.declared.history.Commit.Commit, specs.Tidy.IsTidy}
+use Rattle.ct_rewrite.{specs.History.IsCommitFormed, specs.declared.answer.PossibleRow.PossibleRow, specs.declared.answer.CertainRow.CertainRow}
+use Rattle.ct_transcript.{specs.Means.{Means, shown}, specs.Possible.{ShowsRow, PossibleRight}, specs.Certain.{is_absent, RefutesAbsence, CertainRight}}
+use Rattle.ct_transcript.{specs.declared.reply.Answer.Answer, specs.declared.reply.Reply.Reply, specs.declared.transcript.Transcript.Transcript}
+use Rattle.ct_session.{specs.State.{SessionState, beginning, carried, with_transaction, opened, extended}, specs.Seeing.{Asks, Orders}}
+use Rattle.ct_session.specs.LawfulReply.{LawfulReply}
+use Rattle.ct_serve.{specs.Sessions.AreLawful, specs.Lawful.Lawful, proofs.Accepted.committed_alone}
+use Rattle.ct_serve.proofs.SmallLog.{x, number, x_is, created, filled, asserted, history, words, front, many, formed, stands, two_numbers, number_and_not, not_two, not_two_accepted, not_absent, not_absent_accepted}
 use Rattle.ct_word.specs.declared.values.Value.TheVariants as val
 use Rattle.ct_word.specs.declared.values.Term.TheVariants as term
-use Rattle.ct_word.specs.Value.{World, same_value, same_cells, same_tuple, value_of_null}
-use Rattle.ct_word.specs.Condition.{True, holds_at}
-use Rattle.ct_word.specs.Change.{PlainRow, PlainCommit}
 use Rattle.ct_word.specs.Sublist as sublist
-use Rattle.ct_word.specs.Reading.{condition_at}
-use Rattle.ct_word.proofs.Alike.{value_decides}
-use Rattle.ct_derivation.proofs.Sound.{root_refuted}
-use Rattle.ct_query.specs.declared.action.Ask.{Ask}
 use Rattle.ct_query.specs.declared.action.Ask.TheVariants as ask
 use Rattle.ct_query.specs.declared.action.Read.TheVariants as read
-use Rattle.ct_query.specs.Plain.{PlainQuery, PlainAction, PlainStatement}
 use Rattle.ct_query.specs.Plain as plain
-use Rattle.ct_query.specs.Agrees.{SameTruthAlone}
-use Rattle.ct_query.specs.Database.{Database, SameSet, has_tuple}
-use Rattle.ct_query.specs.Reads.{last as last_of}
-use Rattle.ct_query.specs.Rows.{rows}
-use Rattle.ct_query.specs.Worlds.{admits}
-use Rattle.ct_lex.specs.Texts.{texts}
-use Rattle.ct_rewrite.specs.declared.answer.Node.{Node}
-use Rattle.ct_rewrite.specs.declared.history.Change.{Change}
 use Rattle.ct_rewrite.specs.declared.history.Change.TheVariants as change
-use Rattle.ct_rewrite.specs.declared.history.Commit.{Commit}
-use Rattle.ct_rewrite.specs.History.{IsCommitFormed}
 use Rattle.ct_rewrite.specs.declared.answer.Node.TheVariants as node
-use Rattle.ct_rewrite.specs.declared.answer.PossibleRow.{PossibleRow}
-use Rattle.ct_rewrite.specs.declared.answer.CertainRow.{CertainRow}
-use Rattle.ct_rewrite.specs.Tidy.{IsTidy}
-use Rattle.ct_transcript.specs.Means.{Means, shown}
-use Rattle.ct_transcript.specs.Possible.{ShowsRow, PossibleRight}
-use Rattle.ct_transcript.specs.Certain.{is_absent, RefutesAbsence, CertainRight}
-use Rattle.ct_transcript.specs.declared.reply.Answer.{Answer}
-use Rattle.ct_transcript.specs.declared.reply.Reply.{Reply}
 use Rattle.ct_transcript.specs.declared.reply.Reply.TheVariants as reply
 use Rattle.ct_transcript.specs.declared.reply.Refusal.TheVariants as refusal
-use Rattle.ct_transcript.specs.declared.transcript.Transcript.{Transcript}
-use Rattle.ct_session.specs.State.{SessionState, beginning, carried, with_transaction, opened, extended}
-use Rattle.ct_session.specs.Seeing.{Asks, Orders}
-use Rattle.ct_session.specs.LawfulReply.{LawfulReply}
-use Rattle.ct_serve.specs.Sessions.{AreLawful}
-use Rattle.ct_serve.specs.Lawful.{Lawful}
-use Rattle.ct_serve.proofs.SmallLog.{x, number, x_is, created, filled, asserted, history, words, front, many, formed, stands, two_numbers, number_and_not, not_two, not_two_accepted, not_absent, not_absent_accepted}
 
 -- `select a from t`
 abbrev all_of_t : PlainQuery
@@ -214,46 +194,14 @@ module _ (N : ℕ) where
     committing : AreLawful history words N (beginning 1) (create ∷ insert ∷ assert ∷ []) commits_made (after 3)
     committing = (
       after 1,
-      inl (record {
-        action = creation;
-        commit = _;
-        none_open = refl;
-        asks = creates;
-        later = omega arith;
-        stands = (omega arith, refl);
-        session = refl;
-        number = refl;
-        agrees = ((refl, refl), tt);
-        next_is = refl;
-      }),
+      committed_alone history words N (beginning 1) (after 1) create 1 creation created refl creates (omega arith) (omega arith, refl) (refl, refl) ((refl, refl), tt) refl,
       (
         after 2,
-        inl (record {
-          action = insertion;
-          commit = _;
-          none_open = refl;
-          asks = inserts;
-          later = omega arith;
-          stands = (omega arith, refl);
-          session = refl;
-          number = refl;
-          agrees = ((refl, refl, All-cons Holds (record { cells = term.Null x ∷ []; condition = True }) [] (λ v. refl) (All-nil Holds)), tt);
-          next_is = refl;
-        }),
+        committed_alone history words N (after 1) (after 2) insert 2 insertion filled refl inserts (omega arith) (omega arith, refl) (refl, refl)
+            ((refl, refl, All-cons Holds (record { cells = term.Null x ∷ []; condition = True }) [] (λ v. refl) (All-nil Holds)), tt) refl,
         (
           after 3,
-          inl (record {
-            action = asserts 1;
-            commit = _;
-            none_open = refl;
-            asks = asserting;
-            later = omega arith;
-            stands = (omega arith, refl);
-            session = refl;
-            number = refl;
-            agrees = ((λ v. refl), tt);
-            next_is = refl;
-          }),
+          committed_alone history words N (after 2) (after 3) assert 3 (asserts 1) asserted refl asserting (omega arith) (omega arith, refl) (refl, refl) ((λ v. refl), tt) refl,
           refl,
         ),
       ),

@@ -1,35 +1,16 @@
 -- What a session has done before its first statement, and after one statement more.
 use Rattle.std.proofs.Common.{◌≡◌, ℕ, suc, ◌+◌, ◌<◌, ◌≤◌, List, [], ◌∷◌, ◌++◌, length, map, take, get_or, refl, ap, sym, subst, ◌∙◌, arith, length-append}
-use Rattle.std.specs.Prelude.{Option, Some, None, IfSome, nat_eq, if◌then◌else◌, Bool, true, false}
-use Rattle.std.specs.Option.{option_to_list}
-use Rattle.std.proofs.lemmas.List.{append-nil, take_more, take-map, map-append}
-use Rattle.std.proofs.lemmas.List.FromFn.{length-range_with_len}
-use Rattle.std.proofs.lemmas.Bool.{false≢true}
-use Rattle.ct_word.specs.Word.{kind_with}
-use Rattle.ct_word.specs.Change.{PlainCommit}
-use Rattle.ct_word.specs.Reading.{commits_of, meaning_of}
-use Rattle.ct_word.proofs.Prefixes.{prefix_same}
+use Rattle.std.{specs.Prelude.{Option, Some, None, IfSome, nat_eq, if◌then◌else◌, Bool, true, false}, specs.Option.option_to_list}
+use Rattle.std.{proofs.lemmas.List.{take_more, take-map, map-append}, proofs.lemmas.List.FromFn.length-range_with_len}
+use Rattle.ct_word.{specs.Word.kind_with, specs.Change.PlainCommit, specs.Reading.{commits_of, meaning_of}}
 use Rattle.ct_arena.specs.Counts.{opening, numbers_by, AreNumbered}
 use Rattle.ct_transcript.specs.declared.reply.Reply.{Reply}
-use Rattle.ct_session.specs.State.{SessionState}
-use Rattle.ct_session.specs.Answers.{Answers, commits_by, committed_of}
-use Rattle.ct_serve.specs.Progress.{Progress, ClientView, HasAnswered, HasExecuted, HasRun}
-use Rattle.ct_serve.proofs.Progress.{progress_push}
+use Rattle.ct_session.{specs.State.SessionState, specs.Answers.{Answers, commits_by, committed_of}}
+use Rattle.ct_serve.{specs.Progress.{Progress, ClientView, HasAnswered, HasExecuted, HasRun}, proofs.Progress.progress_push}
 
 pub no_commits : commits_of opening ≡ []
 unfolding opening meaning_of kind_with
 no_commits = refl
-
--- before its first statement it has done nothing
-pub nothing_done : (N : ℕ) (s : SessionState) (words : List ℕ) → Progress N s s words words [] []
-nothing_done N s words = record {
-  lawful = λ W g H stands. refl;
-  longer = prefix_same words;
-  same = refl;
-  commits = sym (append-nil (commits_by s.session 1 (commits_of words)));
-  full = tt;
-  filled = λ e. absurd (false≢true e);
-}
 
 -- how many commits of a session there are, by their numbers and by their places
 by_numbers : (s m : ℕ) (cs : List PlainCommit) → length (commits_by s m cs) ≡ length (numbers_by s cs)

@@ -1,28 +1,18 @@
 -- The commits of a session round one of its replies: those before it stand up to the version of the reply, and those after
 -- it later.
-use Rattle.std.proofs.Common.{◌≡◌, ℕ, zero, suc, ◌+◌, ◌<◌, ◌≤◌, Bool, true, false, List, [], ◌∷◌, ◌++◌, length, take, drop, refl, ap, sym, subst, ◌∙◌, arith, inl, inr, append-nil, append_assoc, length-append}
-use Rattle.std.specs.Prelude.{All, max, Option, Some, None, IsSome, IfSome, nat_eq, filter_map, if◌then◌else◌}
-use Rattle.std.specs.Option.{option_to_list}
-use Rattle.std.specs.List.{cons_option}
-use Rattle.std.proofs.lemmas.Bool.{false≢true}
-use Rattle.std.proofs.lemmas.Option.{none-some}
+use Rattle.std.proofs.Common.{◌≡◌, ℕ, zero, suc, ◌+◌, ◌<◌, ◌≤◌, Bool, true, false, List, [], ◌∷◌, ◌++◌, length, take, drop, refl, ap, sym, subst, ◌∙◌, arith, inl, inr, append_assoc, length-append}
+use Rattle.std.{specs.Prelude.{All, max, Option, Some, None, nat_eq, filter_map, if◌then◌else◌}, specs.Option.option_to_list, specs.List.cons_option}
 use Rattle.std.proofs.lemmas.List.Elements.{All-nil, All-cons, All-head, All-tail, All-append, All-weaker}
 use Rattle.ct_word.specs.Change.{PlainCommit}
-use Rattle.ct_word.proofs.Splits.{some-injective}
 use Rattle.ct_query.specs.Plain.{PlainAction, PlainStatement}
-use Rattle.ct_query.specs.Plain as plain
-use Rattle.ct_transcript.specs.declared.reply.Reply.{Reply}
-use Rattle.ct_transcript.specs.declared.reply.Reply.TheVariants as reply
-use Rattle.ct_transcript.specs.declared.reply.Refusal.{Refusal}
-use Rattle.ct_transcript.specs.declared.reply.Refusal.TheVariants as refusal
-use Rattle.ct_session.specs.Answers.{committed_of, commits_by}
+use Rattle.ct_transcript.{specs.declared.reply.Reply.Reply, specs.declared.reply.Refusal.Refusal}
+use Rattle.ct_session.{specs.Answers.{committed_of, commits_by}, specs.Seeing.{Sees, SeesIn}, specs.LawfulRefusal.LawfulRefusal, specs.LawfulReply.LawfulReply}
 use Rattle.ct_session.specs.State.{Transaction, SessionState, beginning, carried, with_transaction, opened, extended, extended_at}
 use Rattle.ct_statement.specs.Drawing.{drawn}
-use Rattle.ct_session.specs.Seeing.{Sees, SeesIn}
-use Rattle.ct_session.specs.LawfulRefusal.{LawfulRefusal}
-use Rattle.ct_session.specs.LawfulReply.{LawfulReply}
-use Rattle.ct_serve.specs.Sessions.{AreLawful}
-use Rattle.ct_serve.specs.Complete.{IsCurrent}
+use Rattle.ct_serve.{specs.Sessions.AreLawful, specs.Complete.IsCurrent}
+use Rattle.ct_query.specs.Plain as plain
+use Rattle.ct_transcript.specs.declared.reply.Reply.TheVariants as reply
+use Rattle.ct_transcript.specs.declared.reply.Refusal.TheVariants as refusal
 
 -- the version on which a session stands: the base of the transaction that is open, else the greatest that it has seen
 abbrev settled : Option Transaction → ℕ → ℕ
@@ -116,23 +106,8 @@ module _ (s next : SessionState) (w : ground s ≤ s.seen) where
 module _ (H : List PlainCommit) (W : List ℕ) (N : ℕ) where
   module _ (s next : SessionState) (x : List ℕ) (w : ground s ≤ s.seen) where
     refused : (at : ℕ) (why : Refusal) → LawfulRefusal H W N s x at why next → Steps s next None
-    refused at refusal.NotAStatement l = quiet s next w _ l.1 (keeps_carried s at w)
-    refused at refusal.TooDeep l = quiet s next w _ l.1 (keeps_carried s at w)
-    refused at refusal.NumberRange l = quiet s next w _ l.1 (keeps_carried s at w)
-    refused at refusal.InTransaction l = quiet s next w _ l.1 (keeps_carried s at w)
-    refused at refusal.NoTransaction l = quiet s next w _ l.1 (keeps_carried s at w)
-    refused at refusal.UnknownTable l = quiet s next w _ l.1 (keeps_carried s at w)
-    refused at refusal.TableExists l = quiet s next w _ l.1 (keeps_carried s at w)
-    refused at refusal.UnknownColumn l = quiet s next w _ l.1 (keeps_carried s at w)
-    refused at refusal.AmbiguousColumn l = quiet s next w _ l.1 (keeps_carried s at w)
-    refused at refusal.DuplicateName l = quiet s next w _ l.1 (keeps_carried s at w)
-    refused at refusal.ColumnCount l = quiet s next w _ l.1 (keeps_carried s at w)
-    refused at refusal.TooLarge l = quiet s next w _ l.1 (keeps_carried s at w)
-    refused at refusal.Full l = quiet s next w _ l.1 (keeps_carried s at w)
-    refused at refusal.TooManyTerms l = quiet s next w _ l.1 (keeps_carried s at w)
-    refused at (refusal.Inconsistent proof) l = quiet s next w _ l.1 (keeps_carried s at w)
     refused at (refusal.Conflict table was now at') l = ending s next w at l.1.next_is
-    refused at refusal.Memory l = quiet s next w _ l.1 (keeps_carried s at w)
+    refused at _ l = quiet s next w _ l.1 (keeps_carried s at w)
 
     -- a lawful reply leads from one ground to the next
     pub steps : (r : Reply) → LawfulReply H W N s x r next → Steps s next (committed_of r)
@@ -184,10 +159,6 @@ module _ (s : ℕ) where
     by_test true all = All-cons (λ k. k < m + suc at) m (commits_by s (m + 1) (take at cs)) (omega arith) all
     by_test false all = all
 
-abbrev tail_of : {X : Type 0} → List X → List X
-tail_of [] = []
-tail_of (x ∷ xs) = xs
-
 -- a list is split in one way into numbers up to a bound and numbers past it
 split_once : (n : ℕ) (xs ys before after : List ℕ) → xs ++ ys ≡ before ++ after → All (λ k. k ≤ n) xs → All (λ k. n < k) ys → All (λ k. k ≤ n) before → All (λ k. n < k) after
     → length xs ≡ length before
@@ -197,7 +168,7 @@ split_once n [] ys (b ∷ before) after e lx ly lb la =
 split_once n (x ∷ xs) ys [] after e lx ly lb la =
     absurd (let le = All-head (λ k. k ≤ n) x xs lx in let lt = All-head (λ k. n < k) x (xs ++ ys) (subst (All (λ k. n < k)) (sym e) la) in omega (arith, le, lt))
 split_once n (x ∷ xs) ys (b ∷ before) after e lx ly lb la =
-    ap suc (split_once n xs ys before after (ap tail_of e) (All-tail (λ k. k ≤ n) x xs lx) ly (All-tail (λ k. k ≤ n) b before lb) la)
+    ap suc (split_once n xs ys before after (cc) (All-tail (λ k. k ≤ n) x xs lx) ly (All-tail (λ k. k ≤ n) b before lb) la)
 
 module _ (H : List PlainCommit) where
   -- a session in the midst of its replies: its commits are those before, up to its ground, and those of the replies to come

@@ -1,16 +1,12 @@
 -- Lists of clients, before and after their scripts were executed.
-use Rattle.std.proofs.Common.{◌≡◌, ℕ, zero, suc, ◌+◌, ◌<◌, ◌≤◌, ◌^◌, List, [], ◌∷◌, ◌++◌, length, map, take, drop, get_or, refl, ap, sym, subst, ◌∙◌, arith, length-append, append-nil, append_assoc}
-use Rattle.std.specs.Prelude.{All}
-use Rattle.std.specs.List.{AllZip}
-use Rattle.std.proofs.lemmas.List.{length-map, get_or-map, map_push, take_more, take_all, drop_all}
+use Rattle.std.proofs.Common.{◌≡◌, ℕ, suc, ◌<◌, ◌≤◌, List, [], ◌∷◌, ◌++◌, length, map, take, drop, get_or, refl, ap, sym, subst, ◌∙◌, arith, length-append, append-nil, append_assoc}
+use Rattle.std.{specs.Prelude.All, specs.List.AllZip, proofs.lemmas.List.{length-map, get_or-map, map_push, take_more, take_all, drop_all}}
 use Rattle.std.proofs.lemmas.List.Elements.{All-nil, All-cons}
 use Rattle.ct_arena.specs.Seen.{Seen}
 use Rattle.ct_lex.specs.Texts.{texts}
 use Rattle.ct_transcript.specs.declared.reply.SessionLog.{SessionLog}
 use Rattle.ct_keeper.specs.Served.{first_pass}
-use Rattle.ct_serve.specs.Progress.{ClientView, IsReady, HasExecuted, HasRun, HasEnded}
-use Rattle.ct_serve.proofs.Answered.{has_run}
-use Rattle.ct_serve.proofs.Closed.{head_or, tail_of}
+use Rattle.ct_serve.{specs.Progress.{ClientView, IsReady, HasExecuted, HasRun, HasEnded}, proofs.Answered.has_run, proofs.Closed.{head_or, tail_of}}
 
 -- two lists whose items look the same at each place
 same_map : {A B : Type 0} (f : A → B) (xs ys : List A) → length ys ≡ length xs → ((k : ℕ) (d : A) → k < length xs → f (get_or ys k d) ≡ f (get_or xs k d)) → map f ys ≡ map f xs

@@ -1,32 +1,17 @@
 -- The transcript of sessions that have ended.
-use Rattle.std.proofs.Common.{◌≡◌, ℕ, zero, suc, ◌+◌, ◌≤◌, List, [], ◌∷◌, ◌++◌, length, map, take, refl, ap, sym, subst, ◌∙◌, arith}
-use Rattle.std.specs.Prelude.{Option, Some, None, IsSome, IsTrue, All, filter_map, is_some}
-use Rattle.std.specs.List.{range_with_len, AllZip}
-use Rattle.std.proofs.lemmas.List.{length-map}
-use Rattle.std.proofs.lemmas.List.FromFn.{length-range_with_len}
-use Rattle.std.proofs.lemmas.List.Elements.{All-head, All-tail}
-use mathlib.Core.List.{IsPrefix}
-use Rattle.ct_word.specs.Value.{World}
-use Rattle.ct_word.specs.Change.{PlainChange, PlainCommit}
-use Rattle.ct_word.specs.Reading.{commits_of}
-use Rattle.ct_word.specs.StandsFor.{StandsFor}
+use Rattle.std.{proofs.Common.{◌≡◌, ℕ, zero, suc, ◌+◌, ◌≤◌, List, [], ◌∷◌, ◌++◌, length, map, take, refl, ap, sym, subst, ◌∙◌}, proofs.lemmas.List.length-map}
+use Rattle.std.{specs.Prelude.{Option, Some, None, IsSome, IsTrue, All, filter_map, is_some}, specs.List.{range_with_len, AllZip}}
+use Rattle.std.{proofs.lemmas.List.FromFn.length-range_with_len, proofs.lemmas.List.Elements.{All-head, All-tail}}
+use Rattle.ct_word.{specs.Value.World, specs.Change.{PlainChange, PlainCommit}, specs.Reading.commits_of, specs.StandsFor.StandsFor}
 use Rattle.ct_word.specs.WellFormed.{IsWellFormed}
-use Rattle.ct_query.specs.Database.{Database}
-use Rattle.ct_query.proofs.Keeping.{same_throughout}
-use Rattle.ct_query.proofs.Laws.{after_changes-append}
-use Rattle.ct_query.specs.Worlds.{world, admits, after_changes, changes_of}
-use Rattle.ct_arena.specs.Seen.{Seen}
-use Rattle.ct_arena.specs.Counts.{opening, AreNumbered, AreOfSessions}
-use Rattle.ct_rewrite.specs.declared.history.Commit.{Commit}
-use Rattle.ct_rewrite.specs.History.{plain_history, IsCommitFormed}
+use Rattle.ct_query.{specs.Database.Database, proofs.Keeping.same_throughout, proofs.Laws.after_changes-append}
+use Rattle.ct_query.specs.Worlds.{admits, after_changes, changes_of}
+use Rattle.ct_arena.{specs.Seen.Seen, specs.Counts.{opening, AreNumbered, AreOfSessions}}
+use Rattle.ct_rewrite.{specs.declared.history.Commit.Commit, specs.History.{plain_history, IsCommitFormed}}
 use Rattle.ct_transcript.specs.declared.reply.SessionLog.{SessionLog}
-use Rattle.ct_session.specs.Answers.{commits_by, committed_of}
-use Rattle.ct_session.proofs.Own.{own_commits_stay, same_by}
-use Rattle.ct_session.proofs.Sameness.{sessions_same}
-use Rattle.ct_serve.specs.Progress.{HasEnded}
-use Rattle.ct_serve.specs.Sessions.{IsLawfulSession, AreLawfulSessions}
-use Rattle.ct_serve.specs.Lawful.{Lawful}
-use Rattle.ct_serve.proofs.Answered.{no_commits}
+use Rattle.ct_session.{specs.Answers.{commits_by, committed_of}, proofs.Own.{own_commits_stay, same_by}, proofs.Sameness.sessions_same}
+use Rattle.ct_serve.{specs.Progress.HasEnded, specs.Sessions.{IsLawfulSession, AreLawfulSessions}, specs.Lawful.Lawful, proofs.Answered.no_commits}
+use mathlib.Core.List.{IsPrefix}
 
 abbrev pub head_or : {X : Type 0} → X → List X → X
 head_or d [] = d

@@ -1,35 +1,23 @@
 -- A statement within all limits is answered.
-use Rattle.std.proofs.Common.{◌≡◌, ℕ, ◌+◌, ◌≤◌, List, [], ◌∷◌, ◌++◌, take, refl, sym, subst, ◌∙◌, ◌<◌, arith, inl, inr}
-use Rattle.std.specs.Prelude.{All, Option, Some, None, IsSome, MatchOption, ◌⊎◌, filter_map}
-use Rattle.std.proofs.lemmas.Bool.{false≢true}
-use Rattle.std.proofs.lemmas.Option.{none-some}
+use Rattle.std.{proofs.Common.{◌≡◌, ℕ, ◌+◌, ◌≤◌, List, [], ◌∷◌, ◌++◌, take, refl, sym, subst, ◌∙◌, ◌<◌, arith, inl, inr}, proofs.lemmas.Bool.false≢true}
+use Rattle.std.{specs.Prelude.{All, Option, Some, None, IsSome, MatchOption, ◌⊎◌, filter_map}, proofs.lemmas.Option.none-some}
 use Rattle.std.proofs.lemmas.List.Elements.{All-head, All-tail}
 use Rattle.ct_word.specs.Change.{PlainCommit}
-use Rattle.ct_query.specs.Plain.{PlainAction}
-use Rattle.ct_query.specs.declared.action.Read.{Read}
-use Rattle.ct_query.specs.Reads.{last}
+use Rattle.ct_query.{specs.Plain.PlainAction, specs.declared.action.Read.Read, specs.Reads.last}
 use Rattle.ct_rewrite.specs.History.{plain_history}
-use Rattle.ct_transcript.specs.declared.reply.Reply.{Reply}
-use Rattle.ct_transcript.specs.declared.reply.Reply.TheVariants as reply
-use Rattle.ct_transcript.specs.declared.reply.Refusal.{Refusal}
-use Rattle.ct_transcript.specs.declared.reply.Refusal.TheVariants as refusal
-use Rattle.ct_transcript.specs.declared.reply.SessionLog.{SessionLog}
+use Rattle.ct_transcript.{specs.declared.reply.Reply.Reply, specs.declared.reply.Refusal.Refusal, specs.declared.reply.SessionLog.SessionLog}
 use Rattle.ct_transcript.specs.declared.transcript.Transcript.{Transcript}
 use Rattle.ct_resolve.specs.declared.error.ResolveError.{ResolveError}
-use Rattle.ct_session.specs.Answers.{committed_of}
-use Rattle.ct_session.specs.Seeing.{Sees}
-use Rattle.ct_session.specs.State.{Transaction, SessionState, carried}
+use Rattle.ct_session.{specs.Answers.committed_of, specs.Seeing.Sees, specs.State.{Transaction, SessionState, carried}, specs.LawfulReply.LawfulReply}
 use Rattle.ct_session.specs.LawfulRefusal.{IsNameFault, IsFirstWritten, CommitsWhole, CommitsAlone, IsConflict, LawfulRefusal}
-use Rattle.ct_session.specs.LawfulReply.{LawfulReply}
-use Rattle.ct_serve.specs.Sessions.{AreLawful, AreLawfulSessions}
-use Rattle.ct_serve.specs.Lawful.{Lawful}
-use Rattle.ct_outside.specs.Outside.{Held, Rose}
-use Rattle.ct_serve.specs.declared.ending.Status.{Status}
-use Rattle.ct_serve.specs.declared.ending.Status.TheVariants as status
-use Rattle.ct_serve.specs.Scripts.{IsScript, HoldsScript, HoldsNoScript, IsNoScript}
-use Rattle.ct_serve.specs.Runs.{Asking, Taking, RunPromise, IsServedEnd}
+use Rattle.ct_serve.{specs.Sessions.{AreLawful, AreLawfulSessions}, specs.Lawful.Lawful, specs.declared.ending.Status.Status}
+use Rattle.ct_serve.{specs.Scripts.{IsScript, HoldsScript, HoldsNoScript, IsNoScript}, specs.Runs.{Asking, Taking, RunPromise, IsServedEnd}}
 use Rattle.ct_serve.specs.Complete.{IsAnswered, IsCurrent, IsWithinLimitsWhere, IsWithinLimits, HasCause, AreComplete, AreCompleteSessions, IsComplete}
 use Rattle.ct_serve.proofs.Between.{ground, ground_inside, ground_outside, IsAmidst, amidst_next, amidst_first, steps, later_commits, seen_current, conflict_current}
+use Rattle.ct_outside.specs.Outside.{Held, Rose}
+use Rattle.ct_transcript.specs.declared.reply.Reply.TheVariants as reply
+use Rattle.ct_transcript.specs.declared.reply.Refusal.TheVariants as refusal
+use Rattle.ct_serve.specs.declared.ending.Status.TheVariants as status
 
 none_open : (t : Option Transaction) → IsSome t → t ≡ None → ⊥
 none_open None some e = false≢true some
@@ -59,12 +47,6 @@ module _ (H : List PlainCommit) (W : List ℕ) (N : ℕ) where
     of_memory refusal.NumberRange l = absurd (w.read refusal.NumberRange l.0.found)
     of_memory refusal.InTransaction l = absurd (none_open s.transaction l.0.is_open (w.begins_outside l.0.asks))
     of_memory refusal.NoTransaction l = absurd (none_open s.transaction (w.ends_inside l.0.statement l.0.ends l.0.asks) l.0.none_open)
-    of_memory refusal.UnknownTable l = absurd (no_fault _ l.1 l.0)
-    of_memory refusal.TableExists l = absurd (no_fault _ l.1 l.0)
-    of_memory refusal.UnknownColumn l = absurd (no_fault _ l.1 l.0)
-    of_memory refusal.AmbiguousColumn l = absurd (no_fault _ l.1 l.0)
-    of_memory refusal.DuplicateName l = absurd (no_fault _ l.1 l.0)
-    of_memory refusal.ColumnCount l = absurd (no_fault _ l.1 l.0)
     of_memory refusal.TooLarge l =
         let le = w.small at l.0.actions l.0.statement l.0.query (saw l.0.actions l.1 l.0.sees) l.0.sees l.0.asks l.0.evaluates in
         let lt = l.0.past in absurd (omega (arith, le, lt))
@@ -79,6 +61,7 @@ module _ (H : List PlainCommit) (W : List ℕ) (N : ℕ) where
         let c = l.1 in
         absurd (not_written c.reads c.base at table c.first (w.unwritten c.base at c.reads (met table was now c) c.commits c.within))
     of_memory refusal.Memory l = refl
+    of_memory _ l = absurd (no_fault _ l.1 l.0)
 
   module _ (s next : SessionState) (x : List ℕ) (r : Reply) (rs : List Reply) (a : IsAmidst H s (r ∷ rs)) (later : All (λ m. ground next < m) (filter_map committed_of rs)) (w : IsWithinLimits H W N s x) where
     base_of : (base : ℕ) (reads : List Read) → CommitsWhole H W N s x base reads ⊎ CommitsAlone H W N s x base reads → ground s ≤ base
@@ -92,26 +75,12 @@ module _ (H : List PlainCommit) (W : List ℕ) (N : ℕ) where
 
   has_cause : (s next : SessionState) (x : List ℕ) (r : Reply) → LawfulReply H W N s x r next → HasCause H W N s x r
   has_cause s next x (reply.Refused at why) l = λ w. of_memory (λ v. v ≡ at) s next x at w (λ actions keeps sees. refl) (λ table was now c. refl) why l
-  has_cause s next x (reply.Begun at) l = tt
-  has_cause s next x reply.RolledBack l = tt
-  has_cause s next x (reply.Pending at plus) l = tt
-  has_cause s next x (reply.Committed m) l = tt
-  has_cause s next x (reply.Nothing at) l = tt
-  has_cause s next x (reply.Rows at plus answer) l = tt
-  has_cause s next x (reply.Possible at plus columns rows) l = tt
-  has_cause s next x (reply.Certain at plus columns rows) l = tt
+  has_cause s next x _ l = tt
 
   answered : (s next : SessionState) (x : List ℕ) (r : Reply) (rs : List Reply) → IsAmidst H s (r ∷ rs) → All (λ m. ground next < m) (filter_map committed_of rs) → IsWithinLimits H W N s x
       → LawfulReply H W N s x r next → IsAnswered r
-  answered s next x (reply.Begun at) rs a later w l = tt
-  answered s next x reply.RolledBack rs a later w l = tt
-  answered s next x (reply.Pending at plus) rs a later w l = tt
-  answered s next x (reply.Committed m) rs a later w l = tt
-  answered s next x (reply.Nothing at) rs a later w l = tt
-  answered s next x (reply.Rows at plus answer) rs a later w l = tt
-  answered s next x (reply.Possible at plus columns rows) rs a later w l = tt
-  answered s next x (reply.Certain at plus columns rows) rs a later w l = tt
   answered s next x (reply.Refused at why) rs a later w l = refused s next x (reply.Refused at why) rs a later w at why refl l
+  answered s next x _ rs a later w l = tt
 
   complete : (s t : SessionState) (xs : List (List ℕ)) (rs : List Reply) → IsAmidst H s rs → AreLawful H W N s xs rs t → AreComplete H W N s xs rs t
   complete s t [] [] a l = l

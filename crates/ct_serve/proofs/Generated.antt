@@ -1,14 +1,10 @@
 -- A generated script has few statement texts: each needs a semicolon, and each statement has one.
 use Rattle.std.proofs.Common.{◌≡◌, ℕ, ◌+◌, ◌≤◌, ◌<◌, ◌%◌, ◌^◌, List, [], ◌∷◌, ◌++◌, length, refl, sym, ap, ap₂, subst, cond, true, false, zero, suc, ◌∙◌, arith, codes, length-append}
-use Rattle.std.specs.Prelude.{All, Bool, nat_eq, count_by, flat_map, decimal}
-use Rattle.std.specs.List.{range_with_len, AllByRecursion}
-use Rattle.std.proofs.lemmas.Bool.{false≢true, eqb-true, ne_eqb}
-use Rattle.std.proofs.lemmas.Fmt.{decimal_by_steps}
+use Rattle.std.{specs.Prelude.{All, Bool, nat_eq, count_by, flat_map, decimal}, specs.List.{range_with_len, AllByRecursion}, proofs.lemmas.Fmt.decimal_by_steps}
+use Rattle.std.{proofs.lemmas.Bool.{false≢true, eqb-true, ne_eqb}, proofs.lemmas.List.FromFn.length-map-range_with_len}
 use Rattle.std.proofs.lemmas.List.Elements.{All-nil, All-cons, All-append, All-map, All-from_recursion, recursion_from_All}
-use Rattle.std.proofs.lemmas.List.FromFn.{length-map-range_with_len}
 use Rattle.std.proofs.lemmas.List.Sums.{sum_by-cons, sum_by-append, length-filter, count_by-le-length}
-use Rattle.ct_lex.specs.declared.splitting.Place.{Place}
-use Rattle.ct_lex.specs.declared.splitting.Place.TheVariants.{Plain, InText, InComment}
+use Rattle.ct_lex.{specs.declared.splitting.Place.Place, specs.declared.splitting.Place.TheVariants.{Plain, InText, InComment}}
 use Rattle.ct_lex.specs.Texts.{texts, pieces, pieces_from, ends_piece, place_after, onto_first, has_token}
 use Rattle.ct_fill.specs.Script.{insertion, ending, insertions, statements, ended, script_of}
 use Rattle.ct_serve.specs.Promise.{generated}

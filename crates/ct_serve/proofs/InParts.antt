@@ -1,8 +1,6 @@
 -- Lists that are made in parts.
 use Rattle.std.proofs.Common.{◌≡◌, ◌<◌, ◌≤◌, ◌+◌, ◌-◌, ◌*◌, ◌/◌, ℕ, nat_eq, min, Bool, true, false, if◌then◌else◌, List, [], ◌∷◌, ◌++◌, length, length-append, length-take-le, take, drop, take-append-drop, take-take, take_all, get_or, add-mul, one-mul, arith, refl, ap, ap₂, sym, subst, ◌∙◌}
-use Rattle.std.specs.Prelude.{Result, Ok}
-use Rattle.std.proofs.lemmas.Bool.{eqb-true, eq-eqb}
-use Rattle.std.proofs.lemmas.List.{get_or_append_left, drop-take}
+use Rattle.std.{specs.Prelude.{Result, Ok}, proofs.lemmas.Bool.{eqb-true, eq-eqb}, proofs.lemmas.List.{get_or_append_left, drop-take}}
 use Rattle.std.proofs.Math.Seq.{get_or-append_seam}
 use Rattle.ct_serve.specs.Joined.{AreJoined, none, more, bound_of, part_of}
 

@@ -1,23 +1,15 @@
 -- One more reply.
 use Rattle.std.proofs.Common.{◌≡◌, ℕ, ◌≤◌, Bool, true, false, ◌||◌, List, [], ◌∷◌, ◌++◌, length, refl, ap, sym, subst, ◌∙◌, arith, length-append}
-use Rattle.std.specs.Prelude.{filter_map, Option, Some, None, IsSome}
-use Rattle.std.specs.Option.{option_to_list}
-use Rattle.std.specs.List.{list_any, cons_option}
-use Rattle.std.proofs.lemmas.Bool.{false≢true}
-use Rattle.std.proofs.lemmas.List.{append_assoc}
+use Rattle.std.{specs.Prelude.{filter_map, Option, Some, None, IsSome}, specs.Option.option_to_list, specs.List.{list_any, cons_option}}
+use Rattle.std.{proofs.lemmas.Bool.false≢true, proofs.Math.Bool.or-false, proofs.lemmas.List.append_assoc, proofs.lemmas.List.Folds.list_any-append}
 use Rattle.std.proofs.lemmas.List.Elements.{All-nil, All-push, filter_map-append}
-use mathlib.Core.List.{IsPrefix}
-use Rattle.ct_word.specs.Change.{PlainCommit}
-use Rattle.ct_word.specs.Reading.{commits_of}
-use Rattle.ct_word.proofs.Prefixes.{prefix_of_prefix}
+use Rattle.ct_word.{specs.Change.PlainCommit, specs.Reading.commits_of, proofs.Prefixes.prefix_of_prefix}
 use Rattle.ct_transcript.specs.declared.reply.Reply.{Reply}
+use Rattle.ct_session.{specs.State.SessionState, specs.LawfulReply.LawfulReply, specs.Answers.{committed_of, commits_by, is_full, Answers}}
+use Rattle.ct_serve.{specs.Sessions.{AreLawful, IsNoCommit, EndsAtFull}, specs.Progress.Progress}
+use mathlib.Core.List.{IsPrefix}
 use Rattle.ct_transcript.specs.declared.reply.Reply.TheVariants as reply
 use Rattle.ct_transcript.specs.declared.reply.Refusal.TheVariants as refusal
-use Rattle.ct_session.specs.State.{SessionState}
-use Rattle.ct_session.specs.LawfulReply.{LawfulReply}
-use Rattle.ct_session.specs.Answers.{committed_of, commits_by, is_full, Answers}
-use Rattle.ct_serve.specs.Sessions.{AreLawful, IsNoCommit, EndsAtFull}
-use Rattle.ct_serve.specs.Progress.{Progress}
 
 -- replies that are lawful, and one more
 lawful_push : (H : List PlainCommit) (W : List ℕ) (N : ℕ) (s t u : SessionState) (xs : List (List ℕ)) (rs : List Reply) (x : List ℕ) (r : Reply)
@@ -30,80 +22,20 @@ lawful_push H W N s t u (y ∷ xs) [] x r are is = absurd are
 -- the last reply, after none that says that the log is full
 ends_one : (r : Reply) → EndsAtFull (r ∷ [])
 ends_one (reply.Refused at refusal.Full) = All-nil IsNoCommit
-ends_one (reply.Refused at refusal.NotAStatement) = tt
-ends_one (reply.Refused at refusal.TooDeep) = tt
-ends_one (reply.Refused at refusal.NumberRange) = tt
-ends_one (reply.Refused at refusal.UnknownTable) = tt
-ends_one (reply.Refused at refusal.TableExists) = tt
-ends_one (reply.Refused at refusal.UnknownColumn) = tt
-ends_one (reply.Refused at refusal.AmbiguousColumn) = tt
-ends_one (reply.Refused at refusal.DuplicateName) = tt
-ends_one (reply.Refused at refusal.ColumnCount) = tt
-ends_one (reply.Refused at refusal.TooLarge) = tt
-ends_one (reply.Refused at refusal.InTransaction) = tt
-ends_one (reply.Refused at refusal.NoTransaction) = tt
-ends_one (reply.Refused at refusal.TooManyTerms) = tt
-ends_one (reply.Refused at (refusal.Inconsistent proof)) = tt
-ends_one (reply.Refused at (refusal.Conflict table was now at')) = tt
-ends_one (reply.Refused at refusal.Memory) = tt
-ends_one (reply.Begun at) = tt
-ends_one reply.RolledBack = tt
-ends_one (reply.Pending at plus) = tt
-ends_one (reply.Committed m) = tt
-ends_one (reply.Nothing at) = tt
-ends_one (reply.Rows at plus answer) = tt
-ends_one (reply.Possible at plus columns list) = tt
-ends_one (reply.Certain at plus columns list) = tt
+ends_one _ = tt
 
 -- no Committed reply follows one that says that the log is full
 full_push : (rs : List Reply) (r : Reply) → EndsAtFull rs → (list_any is_full rs ≡ true → IsNoCommit r) → EndsAtFull (rs ++ r ∷ [])
 full_push [] r ends none = ends_one r
 full_push (reply.Refused at refusal.Full ∷ rs) r ends none = All-push IsNoCommit rs r ends (none refl)
-full_push (reply.Refused at refusal.NotAStatement ∷ rs) r ends none = full_push rs r ends none
-full_push (reply.Refused at refusal.TooDeep ∷ rs) r ends none = full_push rs r ends none
-full_push (reply.Refused at refusal.NumberRange ∷ rs) r ends none = full_push rs r ends none
-full_push (reply.Refused at refusal.UnknownTable ∷ rs) r ends none = full_push rs r ends none
-full_push (reply.Refused at refusal.TableExists ∷ rs) r ends none = full_push rs r ends none
-full_push (reply.Refused at refusal.UnknownColumn ∷ rs) r ends none = full_push rs r ends none
-full_push (reply.Refused at refusal.AmbiguousColumn ∷ rs) r ends none = full_push rs r ends none
-full_push (reply.Refused at refusal.DuplicateName ∷ rs) r ends none = full_push rs r ends none
-full_push (reply.Refused at refusal.ColumnCount ∷ rs) r ends none = full_push rs r ends none
-full_push (reply.Refused at refusal.TooLarge ∷ rs) r ends none = full_push rs r ends none
-full_push (reply.Refused at refusal.InTransaction ∷ rs) r ends none = full_push rs r ends none
-full_push (reply.Refused at refusal.NoTransaction ∷ rs) r ends none = full_push rs r ends none
-full_push (reply.Refused at refusal.TooManyTerms ∷ rs) r ends none = full_push rs r ends none
-full_push (reply.Refused at (refusal.Inconsistent proof) ∷ rs) r ends none = full_push rs r ends none
-full_push (reply.Refused at (refusal.Conflict table was now at') ∷ rs) r ends none = full_push rs r ends none
-full_push (reply.Refused at refusal.Memory ∷ rs) r ends none = full_push rs r ends none
-full_push (reply.Begun at ∷ rs) r ends none = full_push rs r ends none
-full_push (reply.RolledBack ∷ rs) r ends none = full_push rs r ends none
-full_push (reply.Pending at plus ∷ rs) r ends none = full_push rs r ends none
-full_push (reply.Committed m ∷ rs) r ends none = full_push rs r ends none
-full_push (reply.Nothing at ∷ rs) r ends none = full_push rs r ends none
-full_push (reply.Rows at plus answer ∷ rs) r ends none = full_push rs r ends none
-full_push (reply.Possible at plus columns list ∷ rs) r ends none = full_push rs r ends none
-full_push (reply.Certain at plus columns list ∷ rs) r ends none = full_push rs r ends none
+full_push (q ∷ rs) r ends none = full_push rs r ends none
 
 any_push : (rs : List Reply) (r : Reply) → list_any is_full (rs ++ r ∷ []) ≡ (list_any is_full rs || is_full r)
-any_push [] r = by_test (is_full r) where
-  by_test : (b : Bool) → (b || false) ≡ b
-  by_test true = refl
-  by_test false = refl
-any_push (q ∷ rs) r = ap (λ b. is_full q || b) (any_push rs r) ∙ by_test (is_full q) where
-  by_test : (b : Bool) → (b || (list_any is_full rs || is_full r)) ≡ ((b || list_any is_full rs) || is_full r)
-  by_test true = refl
-  by_test false = refl
+any_push rs r = list_any-append is_full rs (r ∷ []) ∙ ap (λ b. list_any is_full rs || b) (or-false (is_full r))
 
 not_committed : (r : Reply) → (IsSome (committed_of r) → ⊥) → IsNoCommit r
 not_committed (reply.Committed m) never = never refl
-not_committed (reply.Begun at) never = tt
-not_committed reply.RolledBack never = tt
-not_committed (reply.Pending at plus) never = tt
-not_committed (reply.Nothing at) never = tt
-not_committed (reply.Rows at plus answer) never = tt
-not_committed (reply.Possible at plus columns list) never = tt
-not_committed (reply.Certain at plus columns list) never = tt
-not_committed (reply.Refused at why) never = tt
+not_committed _ never = tt
 
 -- the commits that came to the words, and one more reply
 commits_push : (old mid new : List ℕ) (rs : List Reply) (r : Reply) → mid ≡ old ++ filter_map committed_of rs → new ≡ mid ++ option_to_list (committed_of r)

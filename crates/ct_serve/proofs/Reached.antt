@@ -1,31 +1,20 @@
 -- From the texts that were read to the files at fault.
 use Rattle.std.proofs.Common.{◌≡◌, ◌≢◌, ◌<◌, ◌+◌, ℕ, suc, List, [], ◌∷◌, ◌++◌, length, take, drop, get_or, refl, sym, ap, ◌∙◌, subst, append-nil, append_assoc, arith}
-use Rattle.std.specs.Prelude.{All, Option, Some, None, MatchOption, Bool, true, false, Vec}
-use Rattle.std.specs.declared.alloc.Global.{Global}
+use Rattle.std.{specs.Prelude.{All, Option, Some, None, MatchOption, Bool, true, false, Vec}, specs.declared.alloc.Global.Global, proofs.lemmas.Bool.true≢false}
 use Rattle.std.proofs.lemmas.List.{take_more, take_all, take-append-drop, length-take-le, length-map}
-use Rattle.std.proofs.lemmas.Bool.{true≢false}
 use Rattle.std.proofs.lemmas.List.Elements.{All-nil, All-cons, All-head, All-tail}
-use Rattle.ct_outside.specs.Outside.{Held, Added, HoldsMore}
-use Rattle.ct_outside.specs.Reads.{HoldsAll, AreOfAll, AreBeforeFault, bytes_in}
+use Rattle.ct_outside.{specs.Outside.{Held, Added, HoldsMore}, specs.Reads.{HoldsAll, AreOfAll, AreBeforeFault, bytes_in}}
 use Rattle.ct_outside.specs.declared.scripts.ReadError.{ReadError}
-use Rattle.ct_outside.specs.declared.scripts.ReadError.TheVariants as fault
 use Rattle.ct_serve.specs.Scripts.{SCRIPT_BYTES, IsScript, HoldsScript, HoldsNoScript, HasNoScript, IsReached, IsUnread, IsNoScript}
-
-abbrev head_of : {X : Type 0} → X → List X → X
-head_of d [] = d
-head_of d (x ∷ xs) = x
-
-abbrev tail_of : {X : Type 0} → List X → List X
-tail_of [] = []
-tail_of (x ∷ xs) = xs
+use Rattle.ct_outside.specs.declared.scripts.ReadError.TheVariants as fault
 
 -- what a source tells of the first file, and of the others
 told_first : (P : List ℕ → Type 0) (held : Held) (f t : List ℕ) (files texts : List (List ℕ)) → HoldsAll (Some held) (f ∷ files) (t ∷ texts) → P t → MatchOption (held f) ⊥ P
-told_first P held f t files texts is p = subst (λ o. MatchOption o ⊥ P) (sym (ap (head_of None) is)) p
+told_first P held f t files texts is p = let e : held f ≡ Some t = cc in rw e p
 
 told_others : (told : Option Held) (f t : List ℕ) (files texts : List (List ℕ)) → HoldsAll told (f ∷ files) (t ∷ texts) → HoldsAll told files texts
 told_others None f t files texts is = tt
-told_others (Some held) f t files texts is = ap tail_of is
+told_others (Some held) f t files texts is = cc
 
 holds_script : (told : Option Held) (f t : List ℕ) (files texts : List (List ℕ)) → HoldsAll told (f ∷ files) (t ∷ texts) → IsScript t → HoldsScript told f
 holds_script None f t files texts is p = tt

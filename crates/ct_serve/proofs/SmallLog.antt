@@ -1,30 +1,19 @@
 -- A closed test: the words of three commits, and of two conditions that are refuted over them.
-use Rattle.std.proofs.Common.{◌≡◌, ℕ, List, [], ◌∷◌, refl, sym, subst}
+use Rattle.std.{proofs.Common.{◌≡◌, ℕ, List, [], ◌∷◌, refl, sym, subst}, specs.Prelude.{pos, codes, length, take}}
+use Rattle.ct_word.{specs.declared.values.Null.Null, specs.declared.values.Term.Term, specs.Word.{word_of, kind_with}, specs.StandsFor.{SameCommits, StandsFor}}
+use Rattle.ct_word.{specs.Condition.{Condition, True, Same, Not, both}, specs.Change.{PlainChange, PlainCommit, Create, Insert, Assert}}
+use Rattle.ct_word.{specs.Reading.{meaning_of, condition_at, commits_of}, specs.WellFormed.{is_word_after, IsWellFormed}}
+use Rattle.ct_arena.specs.Counts.{opening, commit_word}
+use Rattle.ct_derivation.{specs.declared.literals.Lit.Lit, specs.declared.steps.Why.Why, specs.declared.steps.Step.Step, specs.declared.steps.Proof.Proof}
+use Rattle.ct_derivation.{specs.declared.steps.Derivation.Derivation, specs.Literal.{Clause, yes_of, no_of, same_lit, has, same_members}}
+use Rattle.ct_derivation.{specs.Path.{is_constant, ends_clause, is_path}, specs.Accepts.{fits_atom, fits_lit, gives, is_right, accepts, AcceptsProof}}
 use lib.Utf8.{encode}
-use Rattle.std.specs.Prelude.{pos, codes, length, take}
 use Rattle.ct_word.specs.declared.kinds.Kind.TheVariants as kind
 use Rattle.ct_word.specs.declared.values.Value.TheVariants as val
-use Rattle.ct_word.specs.declared.values.Null.{Null}
 use Rattle.ct_word.specs.declared.values.Null.TheVariants as null
-use Rattle.ct_word.specs.declared.values.Term.{Term}
 use Rattle.ct_word.specs.declared.values.Term.TheVariants as term
-use Rattle.ct_word.specs.Word.{word_of, kind_with}
-use Rattle.ct_word.specs.Condition.{Condition, True, Same, Not, both}
-use Rattle.ct_word.specs.Change.{PlainChange, PlainCommit, Create, Insert, Assert}
-use Rattle.ct_word.specs.Reading.{meaning_of, condition_at, commits_of}
-use Rattle.ct_word.specs.StandsFor.{SameCommits, StandsFor}
-use Rattle.ct_word.specs.WellFormed.{is_word_after, IsWellFormed}
-use Rattle.ct_arena.specs.Counts.{opening, commit_word}
 use Rattle.ct_derivation.specs.declared.literals.Atom.TheVariants as atom
-use Rattle.ct_derivation.specs.declared.literals.Lit.{Lit}
-use Rattle.ct_derivation.specs.declared.steps.Why.{Why}
 use Rattle.ct_derivation.specs.declared.steps.Why.TheVariants as why
-use Rattle.ct_derivation.specs.declared.steps.Step.{Step}
-use Rattle.ct_derivation.specs.declared.steps.Derivation.{Derivation}
-use Rattle.ct_derivation.specs.declared.steps.Proof.{Proof}
-use Rattle.ct_derivation.specs.Literal.{Clause, yes_of, no_of, same_lit, has, same_members}
-use Rattle.ct_derivation.specs.Path.{is_constant, ends_clause, is_path}
-use Rattle.ct_derivation.specs.Accepts.{fits_atom, fits_lit, gives, is_right, accepts, AcceptsProof}
 
 abbrev pub x : Null
 x = null.Named (codes "x")

@@ -1,47 +1,30 @@
 -- Closed tests: replies that no log makes lawful. A text may be read as any statement of the reply's kind.
-use Rattle.std.proofs.Common.{◌≡◌, ℕ, ◌≤◌, List, [], ◌∷◌, refl, sym, subst, ap, ◌∙◌, arith, inl, inr}
+use Rattle.std.{proofs.Common.{◌≡◌, ℕ, ◌≤◌, List, [], ◌∷◌, refl, sym, subst, ap, ◌∙◌, arith, inl, inr}, proofs.lemmas.Bool.false≢true}
 use Rattle.std.specs.Prelude.{◌<◌, ◌++◌, Bool, true, false, pos, codes, All, Some, None, Ok, Err, is_ok, slice_get, if◌then◌else◌}
-use Rattle.std.proofs.lemmas.Bool.{false≢true}
 use Rattle.std.proofs.lemmas.Option.{none-some}
+use Rattle.ct_word.{specs.declared.values.Term.Term, specs.Value.{World, same_text}, specs.Condition.{True, Same}, proofs.Splits.some-injective}
+use Rattle.ct_word.{specs.Sublist.{IsSublist, ended, left_out, taken}, specs.Change.{PlainChange, PlainCommit, Create, Insert, Assert}}
+use Rattle.ct_query.{specs.Plain.{PlainQuery, PlainAction, PlainStatement}, specs.Database.{Database, has_tuple}, specs.Reads.{last as last_of}}
+use Rattle.ct_query.{specs.Bounds.bound, specs.Rows.rows, specs.Schema.schema, specs.Worlds.admits, specs.Patterns.{query_pattern, no_patterns, pattern, count}}
+use Rattle.ct_parse.specs.declared.tree.Statement.{Statement}
+use Rattle.ct_resolve.specs.Statements.{resolved}
+use Rattle.ct_derivation.specs.declared.steps.Proof.{Proof}
+use Rattle.ct_rewrite.{specs.declared.answer.PossibleRow.PossibleRow, specs.declared.answer.CertainRow.CertainRow}
+use Rattle.ct_transcript.{specs.Means.Means, specs.Possible.PossibleRight, specs.Certain.CertainRight, specs.declared.reply.Answer.Answer}
+use Rattle.ct_statement.specs.Unmet.{query_in}
+use Rattle.ct_session.{specs.Statements.ReadsAs, specs.State.{SessionState, beginning, actions_of}, specs.Seeing.{Asks, Sees}}
+use Rattle.ct_serve.specs.Sessions.{AreLawful}
 use Rattle.ct_word.specs.declared.values.Value.TheVariants as val
 use Rattle.ct_word.specs.declared.values.Null.TheVariants as null
-use Rattle.ct_word.specs.declared.values.Term.{Term}
 use Rattle.ct_word.specs.declared.values.Term.TheVariants as term
-use Rattle.ct_word.specs.Value.{World, same_text}
-use Rattle.ct_word.specs.Condition.{True, Same}
-use Rattle.ct_word.specs.Sublist.{IsSublist, ended, left_out, taken}
-use Rattle.ct_word.specs.Change.{PlainChange, PlainCommit, Create, Insert, Assert}
-use Rattle.ct_word.proofs.Splits.{some-injective}
-use Rattle.ct_query.specs.Plain.{PlainQuery, PlainAction, PlainStatement}
 use Rattle.ct_query.specs.Plain as plain
 use Rattle.ct_query.specs.declared.action.Ask.TheVariants as ask
 use Rattle.ct_query.specs.declared.action.Read.TheVariants as read
-use Rattle.ct_query.specs.Database.{Database, has_tuple}
-use Rattle.ct_query.specs.Reads.{last as last_of}
-use Rattle.ct_query.specs.Bounds.{bound}
-use Rattle.ct_query.specs.Rows.{rows}
-use Rattle.ct_query.specs.Schema.{schema}
-use Rattle.ct_query.specs.Worlds.{admits}
-use Rattle.ct_query.specs.Patterns.{query_pattern, no_patterns, pattern, count}
-use Rattle.ct_parse.specs.declared.tree.Statement.{Statement}
 use Rattle.ct_parse.specs.declared.tree.Statement.TheVariants as statement
 use Rattle.ct_resolve.specs.declared.error.ResolveError.TheVariants as name
-use Rattle.ct_resolve.specs.Statements.{resolved}
-use Rattle.ct_derivation.specs.declared.steps.Proof.{Proof}
 use Rattle.ct_rewrite.specs.declared.answer.Node.TheVariants as node
-use Rattle.ct_rewrite.specs.declared.answer.PossibleRow.{PossibleRow}
-use Rattle.ct_rewrite.specs.declared.answer.CertainRow.{CertainRow}
-use Rattle.ct_transcript.specs.Means.{Means}
-use Rattle.ct_transcript.specs.Possible.{PossibleRight}
-use Rattle.ct_transcript.specs.Certain.{CertainRight}
-use Rattle.ct_transcript.specs.declared.reply.Answer.{Answer}
 use Rattle.ct_transcript.specs.declared.reply.Reply.TheVariants as reply
 use Rattle.ct_transcript.specs.declared.reply.Refusal.TheVariants as refusal
-use Rattle.ct_statement.specs.Unmet.{query_in}
-use Rattle.ct_session.specs.Statements.{ReadsAs}
-use Rattle.ct_session.specs.State.{SessionState, beginning, actions_of}
-use Rattle.ct_session.specs.Seeing.{Asks, Sees}
-use Rattle.ct_serve.specs.Sessions.{AreLawful}
 
 abbrev one : Term
 one = term.Value (val.Int (pos 1))

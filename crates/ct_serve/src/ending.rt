@@ -7,6 +7,7 @@ use ct_arena::Log;
 use ct_transcript::Transcript;
 use ct_word::List;
 use std::alloc::Global;
+use std::mem::forget;
 
 /// How a run ended; `run` says when each comes.
 #[derive(Clone, Copy, Debug, PartialEq, Eq)]
@@ -32,6 +33,18 @@ pub enum Status {
 pub struct Run {
     pub status: Status,
     pub transcript: Transcript,
+}
+
+impl Run {
+    /// How the run ended. The transcript is not let go part by part: a process that ends leaves it to the system, which takes
+    /// all memory back sooner.
+    pub fn into_status(self) -> Status
+        ensures { result ≡ self.status }
+    {
+        let Run { status, transcript } = self;
+        forget(transcript);
+        status
+    }
 }
 
 /// A run without a session. It takes no memory.

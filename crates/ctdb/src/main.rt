@@ -4,12 +4,11 @@
 
 use anyhow::Result;
 use ct_outside::{FileScripts, NoGate, StdSink};
-use ct_serve::{Run, Status, run};
+use ct_serve::{Status, run};
 use std::env;
 use std::env::Env;
 use std::fs::Files;
 use std::io::{ErrorKind, Print};
-use std::mem::forget;
 use std::process::ExitCode;
 use std::sync::Wait;
 use std::thread::Threads;
@@ -35,10 +34,7 @@ fn run_words<R: Threads + Wait + Sync + AllocGlobal + Env + Files + Print>(
     let mut scripts = FileScripts::make(rt);
     let mut out = StdSink::make(rt);
     let words = words.as_slice();
-    let Run { status, transcript } = run(rt, rt.alloc(), words, &mut scripts, &mut out, &NoGate);
-    // The process ends, and the system takes all its memory back sooner than each part of this is let go.
-    forget(transcript);
-    Ok(status)
+    Ok(run(rt, rt.alloc(), words, &mut scripts, &mut out, &NoGate).into_status())
 }
 
 /// The number that a run ends with.

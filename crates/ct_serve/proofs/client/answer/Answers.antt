@@ -1,9 +1,7 @@
-use Rattle.std.proofs.Common.{◌≡◌, ◌<◌, ◌≤◌, ◌+◌, ◌∷◌, [], ap, sym, subst, ◌∙◌, length, map, take, arith, length-append}
-use Rattle.ct_arena.specs.Counts.{AreNumbered}
-use Rattle.ct_arena.specs.Seen.{Seen}
+use Rattle.std.proofs.Common.{◌<◌, ◌≤◌, ◌+◌, ◌∷◌, [], ap, sym, subst, ◌∙◌, length, map, take, arith, length-append}
+use Rattle.ct_arena.{specs.Counts.AreNumbered, specs.Seen.Seen}
 use Rattle.ct_session.specs.Standing.{state_in}
-use Rattle.ct_serve.specs.Progress.{Progress}
-use Rattle.ct_serve.proofs.Answered.{answered, one_more}
+use Rattle.ct_serve.{specs.Progress.Progress, proofs.Answered.{answered, one_more}}
 use Rattle.ct_serve.proofs.client.answer.Goals as goal
 
 pub loop-statement-preserved : goal.loop-statement-preserved

@@ -1,5 +1,4 @@
-use Rattle.std.proofs.Common.{◌≡◌, ◌≤◌, ◌+◌, length, map, take}
-use Rattle.std.specs.Prelude.{vec_capacity}
+use Rattle.std.{proofs.Common.{◌≡◌, ◌≤◌, ◌+◌, length, map, take}, specs.Prelude.vec_capacity}
 use Rattle.ct_arena.specs.Counts.{AreNumbered}
 use Rattle.ct_session.specs.Standing.{state_in}
 use Rattle.ct_serve.specs.Progress.{Progress}

@@ -1,5 +1,4 @@
-use Rattle.std.proofs.Common.{length, ap, sym, subst, ◌∙◌, arith}
-use Rattle.std.specs.Prelude.{All, ◌≤◌}
+use Rattle.std.{proofs.Common.{length, ap, sym, subst, ◌∙◌, arith}, specs.Prelude.{All, ◌≤◌}}
 use Rattle.ct_lex.specs.Texts.{texts}
 use Rattle.ct_serve.proofs.Generated.{four_generated, short_generated}
 use Rattle.ct_serve.proofs.filling.filled.Goals as goal

@@ -1,14 +1,9 @@
-use Rattle.std.proofs.Common.{◌≡◌, ◌+◌, [], ◌++◌, length, map, arith, sym, subst, ap, ◌∙◌}
-use Rattle.std.specs.Prelude.{IfOk, All, Ok, filter_map}
-use Rattle.std.proofs.lemmas.List.{take_all, map-append}
-use Rattle.std.proofs.lemmas.List.Elements.{All-nil, All-append}
-use Rattle.ct_word.specs.Reading.{as_commit, meanings}
-use Rattle.ct_word.specs.StandsFor.{SameCommits}
-use Rattle.ct_word.proofs.Growth.{length-read}
+use Rattle.std.{proofs.Common.{◌≡◌, ◌+◌, [], length, map, arith, sym, subst, ap, ◌∙◌}, specs.Prelude.{IfOk, All, Ok, filter_map}}
+use Rattle.std.{proofs.lemmas.List.{take_all, map-append}, proofs.lemmas.List.Elements.{All-nil, All-append}}
+use Rattle.ct_word.{specs.Reading.{as_commit, meanings}, specs.StandsFor.SameCommits, proofs.Growth.length-read}
 use Rattle.ct_rewrite.specs.History.{IsCommitFormed, plain_commit}
 use Rattle.ct_history.specs.Commits.{StandsBetween, commits_before}
-use Rattle.ct_serve.specs.Joined.{bound_of}
-use Rattle.ct_serve.proofs.InParts.{by_parts, first_bound, last_bound}
+use Rattle.ct_serve.{specs.Joined.bound_of, proofs.InParts.{by_parts, first_bound, last_bound}}
 use Rattle.ct_serve.proofs.history.history_of.Goals as goal
 
 pub returns : goal.returns

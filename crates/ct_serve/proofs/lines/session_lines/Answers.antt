@@ -1,10 +1,6 @@
-use Rattle.std.proofs.Common.{◌≡◌, ◌+◌, length, IfOk, refl, subst, arith}
-use Rattle.std.specs.Prelude.{Ok}
-use Rattle.std.proofs.lemmas.Result.{IfOk-weaker}
-use Rattle.ct_transcript.specs.Text.{sessions_from}
-use Rattle.ct_transcript.proofs.Counted.{sessions_after}
-use Rattle.ct_serve.specs.Joined.{bound_of, part_of}
-use Rattle.ct_serve.proofs.InParts.{numbered_in_parts}
+use Rattle.std.{proofs.Common.{◌≡◌, ◌+◌, length, IfOk, refl, subst, arith}, specs.Prelude.Ok, proofs.lemmas.Result.IfOk-weaker}
+use Rattle.ct_transcript.{specs.Text.sessions_from, proofs.Counted.sessions_after}
+use Rattle.ct_serve.{specs.Joined.{bound_of, part_of}, proofs.InParts.numbered_in_parts}
 use Rattle.ct_serve.proofs.lines.session_lines.Goals as goal
 
 pub returns : goal.returns

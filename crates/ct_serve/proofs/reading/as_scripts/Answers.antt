@@ -1,11 +1,7 @@
-use Rattle.std.proofs.Common.{◌≤◌, [], refl, ap, sym, subst, ◌∙◌, length, arith}
-use Rattle.std.specs.Prelude.{All, ℕ, List}
-use Rattle.std.specs.Vec.Iter.{into_iter_items}
-use Rattle.std.proofs.lemmas.Result.{err_from_is_err_and}
-use Rattle.std.proofs.lemmas.List.Elements.{All-nil, All-head, All-tail, All-push}
+use Rattle.std.{proofs.Common.{◌≤◌, [], refl, ap, sym, subst, ◌∙◌, length, arith}, specs.Prelude.{All, ℕ, List}, specs.Vec.Iter.into_iter_items}
+use Rattle.std.{proofs.lemmas.Result.err_from_is_err_and, proofs.lemmas.List.Elements.{All-nil, All-head, All-tail, All-push}}
 use Rattle.ct_outside.specs.Reads.{bytes_in}
-use Rattle.ct_serve.specs.Scripts.{SCRIPT_BYTES, IsScript}
-use Rattle.ct_serve.proofs.Reached.{one_more_script, none_here, none_left}
+use Rattle.ct_serve.{specs.Scripts.{SCRIPT_BYTES, IsScript}, proofs.Reached.{one_more_script, none_here, none_left}}
 use Rattle.ct_serve.proofs.reading.as_scripts.Goals as goal
 
 abbrev IsShort : List ℕ → Type 0

@@ -1,6 +1,4 @@
-use Rattle.std.proofs.Common.{◌≡◌, ◌++◌, length}
-use Rattle.std.specs.Prelude.{All, ◌≤◌}
-use Rattle.std.specs.Vec.Iter.{into_iter_items, into_iter_len}
+use Rattle.std.{proofs.Common.{◌≡◌, ◌++◌, length}, specs.Prelude.{All, ◌≤◌}, specs.Vec.Iter.{into_iter_items, into_iter_len}}
 use Rattle.ct_outside.specs.Reads.{bytes_in}
 use Rattle.ct_serve.specs.Scripts.{SCRIPT_BYTES, IsScript}
 use Rattle.ct_serve.proofs.reading.as_scripts.Given as goal

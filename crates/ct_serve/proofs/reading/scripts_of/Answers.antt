@@ -1,9 +1,6 @@
-use Rattle.std.proofs.Common.{refl, subst}
-use Rattle.std.specs.Prelude.{All}
-use Rattle.std.proofs.lemmas.Result.{IfErr-weaker, err_from_is_err_and}
+use Rattle.std.{proofs.Common.{refl, subst}, specs.Prelude.All, proofs.lemmas.Result.{IfErr-weaker, err_from_is_err_and}}
+use Rattle.ct_serve.{specs.Scripts.IsScript, proofs.Reached.{no_script_of_all, no_script_before, unread, too_long, no_want, asked_one_more}}
 use Rattle.ct_outside.specs.declared.scripts.ReadError.TheVariants as fault
-use Rattle.ct_serve.specs.Scripts.{IsScript}
-use Rattle.ct_serve.proofs.Reached.{no_script_of_all, no_script_before, unread, too_long, no_want, asked_one_more}
 use Rattle.ct_serve.proofs.reading.scripts_of.Goals as goal
 
 pub returns-in-Ok-clause-no_script : goal.returns-in-Ok-clause-no_script

@@ -1,6 +1,5 @@
-use Rattle.std.proofs.Common.{◌≡◌, ◌<◌, ◌+◌, ◌∷◌, [], ap, subst, ◌∙◌, length, get_or, arith, length-append}
-use Rattle.ct_serve.specs.Progress.{ClientView}
-use Rattle.ct_serve.proofs.Clients.{moved_whole, more_scripts}
+use Rattle.std.proofs.Common.{◌≡◌, ◌<◌, ◌+◌, ◌∷◌, [], ap, ◌∙◌, length, get_or, arith, length-append}
+use Rattle.ct_serve.{specs.Progress.ClientView, proofs.Clients.{moved_whole, more_scripts}}
 use Rattle.ct_serve.proofs.serving.clients_of.Goals as goal
 
 pub loop-pass-preserved : goal.loop-pass-preserved

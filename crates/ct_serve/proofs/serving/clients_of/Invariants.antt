@@ -1,5 +1,4 @@
-use Rattle.std.proofs.Common.{◌≡◌, ◌+◌, ◌++◌, length, map, take}
-use Rattle.std.specs.Vec.Iter.{into_iter_items, into_iter_len}
+use Rattle.std.{proofs.Common.{◌≡◌, ◌+◌, ◌++◌, length, map, take}, specs.Vec.Iter.{into_iter_items, into_iter_len}}
 use Rattle.ct_serve.proofs.serving.clients_of.Given as goal
 
 abbrev pub invariant-loop-pass : goal.invariant-loop-pass

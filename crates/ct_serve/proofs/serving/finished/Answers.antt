@@ -1,9 +1,5 @@
-use Rattle.std.proofs.Common.{ap, subst, length, arith}
-use Rattle.std.specs.Prelude.{All}
-use Rattle.std.specs.Vec.Iter.{into_iter_items}
-use Rattle.std.proofs.lemmas.List.Elements.{All-head, All-tail}
-use Rattle.ct_serve.specs.Progress.{HasRun}
-use Rattle.ct_serve.proofs.Clients.{moved, ended_push}
+use Rattle.std.{proofs.Common.{ap, subst, length, arith}, specs.Prelude.All, specs.Vec.Iter.into_iter_items, proofs.lemmas.List.Elements.All-tail}
+use Rattle.ct_serve.{specs.Progress.HasRun, proofs.Clients.{moved, ended_push}}
 use Rattle.ct_serve.proofs.serving.finished.Goals as goal
 
 pub loop-client-preserved : goal.loop-client-preserved

@@ -1,7 +1,4 @@
-use Rattle.std.proofs.Common.{◌≡◌, ◌++◌, length, map}
-use Rattle.std.specs.Prelude.{All}
-use Rattle.std.specs.List.{AllZip}
-use Rattle.std.specs.Vec.Iter.{into_iter_items, into_iter_len}
+use Rattle.std.{proofs.Common.{◌≡◌, ◌++◌, length, map}, specs.Prelude.All, specs.List.AllZip, specs.Vec.Iter.{into_iter_items, into_iter_len}}
 use Rattle.ct_serve.specs.Progress.{HasRun, HasEnded}
 use Rattle.ct_serve.proofs.serving.finished.Given as goal
 

@@ -1,12 +1,7 @@
-use Rattle.std.proofs.Common.{◌≡◌, length, map, take, drop, ◌++◌, ap, sym, subst, ◌∙◌, arith}
-use Rattle.std.specs.Prelude.{All}
-use Rattle.std.specs.List.{range_with_len}
-use Rattle.std.proofs.lemmas.List.{length-map}
-use Rattle.std.proofs.lemmas.List.FromFn.{length-map-range_with_len}
-use Rattle.std.proofs.lemmas.Result.{IfOk-weaker}
+use Rattle.std.{proofs.Common.{◌≡◌, length, map, ap, sym, subst, ◌∙◌}, specs.Prelude.All, specs.List.range_with_len, proofs.lemmas.List.length-map}
+use Rattle.std.{proofs.lemmas.List.FromFn.length-map-range_with_len, proofs.lemmas.Result.IfOk-weaker}
 use Rattle.ct_keeper.specs.Served.{first_pass}
-use Rattle.ct_serve.specs.Progress.{ClientView, HasRun}
-use Rattle.ct_serve.proofs.Clients.{all_ready, written_back, scripts_stay, numbers_stay, all_run}
+use Rattle.ct_serve.{specs.Progress.{ClientView, HasRun}, proofs.Clients.{all_ready, written_back, scripts_stay, numbers_stay, all_run}}
 use Rattle.ct_serve.proofs.serving.serve_named.Goals as goal
 
 pub clients_of-requires : goal.clients_of-requires

@@ -1,8 +1,5 @@
-use Rattle.std.proofs.Common.{rules, tests, sym, ◌∙◌}
-use Rattle.std.specs.Prelude.{not, slice_get}
-use Rattle.std.proofs.lemmas.List.{length-map}
-use Rattle.std.proofs.lemmas.Iterator.{YieldsList-from_slice}
-use Rattle.std.proofs.lemmas.Iterator.Consumers.{YieldsList-from_filter, count_from_yields_List}
+use Rattle.std.{proofs.Common.{rules, tests, sym, ◌∙◌}, specs.Prelude.{not, slice_get}, proofs.lemmas.List.length-map}
+use Rattle.std.{proofs.lemmas.Iterator.YieldsList-from_slice, proofs.lemmas.Iterator.Consumers.{YieldsList-from_filter, count_from_yields_List}}
 use Rattle.ct_transcript.specs.NodeText.{is_false_node}
 use Rattle.ct_serve.proofs.summary.printed_rows.Goals as goal
 

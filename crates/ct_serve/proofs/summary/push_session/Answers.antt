@@ -1,8 +1,6 @@
-use Rattle.std.proofs.Common.{◌≡◌, ℕ, List, [], ◌∷◌, ◌++◌, length, codes, ap, append_assoc}
-use Rattle.std.specs.Prelude.{decimal, count_by}
+use Rattle.std.{proofs.Common.{◌≡◌, ℕ, List, [], ◌∷◌, ◌++◌, length, codes, ap, append_assoc}, specs.Prelude.{decimal, count_by}}
 use Rattle.ct_transcript.specs.NodeText.{line}
-use Rattle.ct_serve.specs.Runs.{is_refusal}
-use Rattle.ct_serve.specs.Summary.{rows_under, possible_under, certain_under, of_last}
+use Rattle.ct_serve.{specs.Runs.is_refusal, specs.Summary.{rows_under, possible_under, certain_under, of_last}}
 use Rattle.ct_serve.proofs.summary.push_session.Goals as goal
 
 -- the parts of a line as they are written, and as they are told

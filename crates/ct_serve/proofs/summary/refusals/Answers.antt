@@ -1,7 +1,5 @@
-use Rattle.std.proofs.Common.{rules, tests, ◌∙◌}
-use Rattle.std.proofs.lemmas.Iterator.{YieldsList-from_slice}
+use Rattle.std.{proofs.Common.{rules, tests, ◌∙◌}, proofs.lemmas.Iterator.YieldsList-from_slice, proofs.lemmas.List.Sums.length-filter}
 use Rattle.std.proofs.lemmas.Iterator.Consumers.{YieldsList-from_filter, count_from_yields_List}
-use Rattle.std.proofs.lemmas.List.Sums.{length-filter}
 use Rattle.ct_serve.specs.Runs.{is_refusal}
 use Rattle.ct_serve.proofs.summary.refusals.Goals as goal
 
