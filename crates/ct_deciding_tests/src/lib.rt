@@ -1,13 +1,5 @@
-//! Tests of the crates that decide a question.
+//! Tests of the crates that decide a question, and of those that ask: a deletion, possible rows and certain tuples.
 #![tactic(auto)]
 
 #[cfg(test)]
-mod checker;
-#[cfg(test)]
-mod clauses;
-#[cfg(test)]
-mod decision;
-#[cfg(test)]
-mod equality;
-#[cfg(test)]
-mod search;
+mod tests;

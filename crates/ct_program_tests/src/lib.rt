@@ -1,11 +1,5 @@
-//! Tests of a whole run: its faults, its gate, a log that fills up, and generated scripts.
+//! Tests of a run: its faults, its gate, a log that fills up, generated scripts, and several sessions side by side.
 #![tactic(auto)]
 
 #[cfg(test)]
-mod capacities;
-#[cfg(test)]
-mod fills;
-#[cfg(test)]
-mod memory;
-#[cfg(test)]
-mod runs;
+mod tests;

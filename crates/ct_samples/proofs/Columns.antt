@@ -1,19 +1,12 @@
 -- A log without the word of a column has no column below any place.
 use Rattle.std.proofs.Common.{◌≡◌, ℕ, zero, suc, Bool, true, false, List, [], ◌∷◌, length, Option, Some, None, refl, ap, ◌∙◌, sym, arith, inl, inr}
-use Rattle.std.specs.Prelude.{slice_get}
-use Rattle.std.specs.List.{list_any}
-use Rattle.std.proofs.lemmas.Bool.{or_parts, false≢true, cases_lt}
+use Rattle.std.{specs.Prelude.slice_get, specs.List.list_any, proofs.lemmas.Bool.{or_parts, false≢true, cases_lt}}
 use Rattle.std.proofs.lemmas.Option.{none-some, slice_get_within, slice_get-get_or}
-use Rattle.ct_word.specs.declared.kinds.Kind.{Kind}
+use Rattle.ct_word.{specs.declared.kinds.Kind.Kind, specs.Word.{kind_of, left_of, right_of}, specs.Reading.{Meaning, IsTerm, by_kind, meanings}}
+use Rattle.ct_word.{specs.Stands.{HasNoColumn, StandsAt}, specs.WellFormed.IsWellFormed, proofs.Growth.length-read, proofs.Splits.{meaning_at, some-injective}}
+use Rattle.ct_samples.specs.Columns.{is_column_kind}
 use Rattle.ct_word.specs.declared.kinds.Kind.TheVariants as kind
 use Rattle.ct_word.specs.declared.values.Term.TheVariants as term
-use Rattle.ct_word.specs.Word.{kind_of, left_of, right_of}
-use Rattle.ct_word.specs.Reading.{Meaning, IsTerm, by_kind, meanings}
-use Rattle.ct_word.specs.Stands.{HasNoColumn, StandsAt}
-use Rattle.ct_word.specs.WellFormed.{IsWellFormed}
-use Rattle.ct_word.proofs.Growth.{length-read}
-use Rattle.ct_word.proofs.Splits.{meaning_at, some-injective}
-use Rattle.ct_samples.specs.Columns.{is_column_kind}
 
 abbrev is_column : Meaning → Bool
 is_column (IsTerm (term.Column k)) = true

@@ -2,16 +2,4 @@
 #![tactic(auto)]
 
 #[cfg(test)]
-mod chains;
-#[cfg(test)]
-mod checks;
-#[cfg(test)]
-mod committing;
-#[cfg(test)]
-mod many_words;
-#[cfg(test)]
-mod puts;
-#[cfg(test)]
-mod sessions;
-#[cfg(test)]
-mod threads;
+mod tests;

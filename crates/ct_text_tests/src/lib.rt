@@ -3,14 +3,4 @@
 #![tactic(auto)]
 
 #[cfg(test)]
-mod command_line;
-#[cfg(test)]
-mod generated;
-#[cfg(test)]
-mod outside;
-#[cfg(test)]
-mod queries;
-#[cfg(test)]
-mod statements;
-#[cfg(test)]
-mod words;
+mod tests;

@@ -1,9 +1,5 @@
-use Rattle.std.proofs.Common.{◌≡◌, ℕ, List, true, false, not, Some, nat_eq, ap, ◌∙◌, sym, subst}
-use Rattle.std.specs.List.{list_any}
-use Rattle.std.proofs.lemmas.Bool.{and_from}
-use Rattle.ct_word.specs.declared.kinds.Kind.{Kind}
-use Rattle.ct_word.specs.Word.{kind_of, left_of, right_of}
-use Rattle.ct_word.specs.WellFormed.{is_formed_as, is_word_after, IsWellFormed}
+use Rattle.std.{proofs.Common.{◌≡◌, ℕ, List, true, false, not, Some, nat_eq, ap, ◌∙◌, sym, subst}, specs.List.list_any, proofs.lemmas.Bool.and_from}
+use Rattle.ct_word.{specs.declared.kinds.Kind.Kind, specs.Word.{kind_of, left_of, right_of}, specs.WellFormed.{is_formed_as, is_word_after, IsWellFormed}}
 use Rattle.ct_word.proofs.Packed.{formed_snoc}
 use Rattle.ct_samples.proofs.logs.add.Goals as goal
 

@@ -1,5 +1,4 @@
-use Rattle.std.proofs.Common.{◌≡◌, take, false, nat_eq}
-use Rattle.std.specs.List.{list_any}
+use Rattle.std.{proofs.Common.{◌≡◌, take, false, nat_eq}, specs.List.list_any}
 use Rattle.ct_samples.proofs.logs.find.Given as goal
 
 abbrev pub invariant-loop-k : goal.invariant-loop-k

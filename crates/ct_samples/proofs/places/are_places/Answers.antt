@@ -1,6 +1,4 @@
-use Rattle.std.proofs.Common.{◌∙◌, sym, take_all}
-use Rattle.std.specs.Prelude.{IsTrue}
-use Rattle.std.proofs.lemmas.List.Elements.{All-more, All-same}
+use Rattle.std.{proofs.Common.{◌∙◌, sym, take_all}, specs.Prelude.IsTrue, proofs.lemmas.List.Elements.{All-more, All-same}}
 use Rattle.ct_word.specs.WellFormed.{is_place_of}
 use Rattle.ct_samples.proofs.places.are_places.Goals as goal
 

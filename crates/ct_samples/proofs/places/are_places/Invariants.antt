@@ -1,5 +1,4 @@
-use Rattle.std.proofs.Common.{take}
-use Rattle.std.specs.Prelude.{All, IsTrue}
+use Rattle.std.{proofs.Common.take, specs.Prelude.{All, IsTrue}}
 use Rattle.ct_word.specs.WellFormed.{is_place_of}
 use Rattle.ct_samples.proofs.places.are_places.Given as goal
 

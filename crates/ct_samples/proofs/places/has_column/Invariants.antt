@@ -1,5 +1,4 @@
-use Rattle.std.proofs.Common.{◌≡◌, take, false}
-use Rattle.std.specs.List.{list_any}
+use Rattle.std.{proofs.Common.{◌≡◌, take, false}, specs.List.list_any}
 use Rattle.ct_word.specs.Word.{kind_of}
 use Rattle.ct_samples.specs.Columns.{is_column_kind}
 use Rattle.ct_samples.proofs.places.has_column.Given as goal

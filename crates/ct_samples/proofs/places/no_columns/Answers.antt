@@ -1,5 +1,4 @@
-use Rattle.std.proofs.Common.{sym, ◌∙◌}
-use Rattle.std.proofs.lemmas.Bool.{not-true}
+use Rattle.std.{proofs.Common.{sym, ◌∙◌}, proofs.lemmas.Bool.not-true}
 use Rattle.ct_samples.proofs.Columns.{no_column}
 use Rattle.ct_samples.proofs.places.no_columns.Goals as goal
 

@@ -1,5 +1,0 @@
-use Rattle.ct_word.specs.WellFormed.{IsWellFormed}
-use Rattle.ct_deciding_tests.proofs.decision.chain.Given as goal
-
-abbrev pub invariant-loop-number : goal.invariant-loop-number
-invariant-loop-number l = IsWellFormed l.words.items

@@ -1,0 +1,9 @@
+mod checker;
+mod clauses;
+mod decision;
+mod deletion;
+mod equality;
+mod listing;
+mod logs;
+mod search;
+mod tables;

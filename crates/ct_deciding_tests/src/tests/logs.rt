@@ -1,0 +1,55 @@
+// A log for each test.
+
+ghost use Rattle.std.specs.Prelude.{◌≡◌, ◌≤◌};
+
+use crate::tests::deletion::shows_deletion;
+use crate::tests::listing::{shows_rows, shows_short_worlds, shows_tuples};
+use ct_arena::{Arena, Blank, Pass, Site};
+use std::alloc::Global;
+use std::marker::Brand;
+use std::process::Abort;
+use std::test::Fail;
+
+/// What is shown in a log.
+#[derive(Clone, Copy)]
+pub enum Shown {
+    Deletion,
+    Rows,
+    Tuples,
+    ShortWorlds,
+}
+
+/// Whether it is shown by this session.
+fn shows_by<N: Site>(
+    alloc: Global,
+    arena: &Arena<N>,
+    pass: &mut Pass<N>,
+    shown: Shown,
+) -> Result<bool, Fail> {
+    match shown {
+        Shown::Deletion => shows_deletion(alloc, arena, pass),
+        Shown::Rows => shows_rows(alloc, arena, pass),
+        Shown::Tuples => shows_tuples(alloc, arena, pass),
+        Shown::ShortWorlds => shows_short_worlds(alloc, arena, pass),
+    }
+}
+
+/// Whether it is shown in a log that has this name.
+fn shows<N: Site>(alloc: Global, blank: Blank, shown: Shown) -> Result<bool, Fail>
+    requires { blank ≡ N.log }
+{
+    let (arena, mut keeper) = Arena::<N>::make(blank);
+    let mut pass = keeper.enrol(alloc, &arena)?;
+    shows_by(alloc, &arena, &mut pass, shown)
+}
+
+/// It is shown in a log of its own, of this capacity.
+pub fn in_a_log(rt: &impl Abort, alloc: Global, cap: u32, shown: Shown) -> Result<(), Fail>
+    requires least { 64 ≤ cap }
+    requires most { cap ≤ 4194304 }
+{
+    let blank = Blank::make(alloc, cap)?;
+    let is_shown = shows::<Brand>(alloc, blank, shown)?;
+    assert!(rt; is_shown);
+    Ok(())
+}

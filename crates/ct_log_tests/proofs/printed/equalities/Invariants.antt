@@ -1,5 +1,0 @@
-use Rattle.ct_word.specs.WellFormed.{IsWellFormed}
-use Rattle.ct_log_tests.proofs.printed.equalities.Given as goal
-
-abbrev pub invariant-loop-place : goal.invariant-loop-place
-invariant-loop-place l = IsWellFormed l.words.items

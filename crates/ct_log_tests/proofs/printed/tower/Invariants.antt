@@ -1,5 +1,0 @@
-use Rattle.ct_word.specs.WellFormed.{IsWellFormed}
-use Rattle.ct_log_tests.proofs.printed.tower.Given as goal
-
-abbrev pub invariant-loop : goal.invariant-loop
-invariant-loop l = IsWellFormed l.words.items

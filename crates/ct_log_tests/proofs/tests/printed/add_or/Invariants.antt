@@ -1,0 +1,5 @@
+use Rattle.ct_word.specs.WellFormed.{IsWellFormed}
+use Rattle.ct_log_tests.proofs.tests.printed.add_or.Given as goal
+
+abbrev pub invariant-loop-place : goal.invariant-loop-place
+invariant-loop-place l = IsWellFormed l.words.items

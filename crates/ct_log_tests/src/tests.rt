@@ -1,0 +1,8 @@
+mod arena;
+mod chains;
+mod changes;
+mod checks;
+mod conditions;
+mod logs;
+mod printed;
+mod transcript;

@@ -1,0 +1,10 @@
+mod anomalies;
+mod assertions;
+mod capacities;
+mod conflicts;
+mod fills;
+mod memory;
+mod played;
+mod runs;
+mod side_by_side;
+mod together;

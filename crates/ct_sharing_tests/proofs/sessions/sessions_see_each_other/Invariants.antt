@@ -1,4 +1,0 @@
-use Rattle.ct_sharing_tests.proofs.sessions.sessions_see_each_other.Given as goal
-
-abbrev pub ghosts-share : goal.ghosts-share
-ghosts-share g a = record { log = a.blank; sessions = 1 }
