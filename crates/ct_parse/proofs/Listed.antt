@@ -48,12 +48,15 @@ module _ {T : Type 0} {X : List Lexeme → T → List Lexeme → Type 0} {EX EL 
       let s = h.only _ _ (k.before l e) y in
       (vs', moved L s.1 l, f ∙ ap (λ y. xs ++ y ∷ vs') s.0 ∙ sym (append_assoc xs (x ∷ []) vs'))
 
-  pub one_more : {ws rest after : List Lexeme} {xs : List T} {x : T} → SoFar EL L ws rest xs → Reads X EX rest x after → SoFar EL L ws after (xs ++ x ∷ [])
-  one_more {ws = ws} {xs = xs} {x = x} s h = record {
+  step : {ws rest after : List Lexeme} {xs : List T} {x : T} → SoFar EL L ws rest xs → Reads X EX rest x after → SoFar EL L ws after (xs ++ x ∷ [])
+  step {ws = ws} {xs = xs} {x = x} s h = record {
     so_far = λ us r l. subst (λ y. L ws y r) (sym (append_assoc xs (x ∷ []) us)) (s.so_far (x ∷ us) r (k.more h.is l));
     only = λ us r e l. let o = s.only us r e l in step_only xs x h e (k.cases o.1) o.2;
     within = omega (arith, s.within, h.within);
   }
+
+  pub one_more : {ws rest after : List Lexeme} {xs ys : List T} {x : T} → SoFar EL L ws rest xs → Reads X EX rest x after → ys ≡ xs ++ x ∷ [] → SoFar EL L ws after ys
+  one_more {ws = ws} {after = after} s h e = subst (SoFar EL L ws after) (sym e) (step s h)
 
   end_only : {rest r : List Lexeme} {us vs : List T} (xs : List T) → ((x : T) (m : List Lexeme) → X rest x m → ⊥) → Cases X L rest vs r → us ≡ xs ++ vs → Same us xs r rest
   end_only xs never ended f = (f ∙ append-nil xs, refl)

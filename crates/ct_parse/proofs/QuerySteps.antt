@@ -2,13 +2,12 @@
 use Rattle.std.{proofs.Common.{◌≡◌, Bool, true, false, List, ◌∷◌, Option, refl, sym, subst, arith}, specs.Prelude.codes}
 use Rattle.ct_lex.specs.declared.token.Lexeme.{Lexeme}
 use Rattle.ct_parse.{specs.declared.tree.Column.Column, specs.declared.tree.Condition.Condition, specs.declared.tree.Items.Items, specs.Reads.{Reads, Never}}
-use Rattle.ct_parse.{specs.declared.tree.Tables.Tables, specs.declared.tree.Select.Select, specs.declared.tree.SetOperator.SetOperator}
-use Rattle.ct_parse.{specs.declared.tree.QueryPrimary.QueryPrimary, specs.declared.tree.QueryTerm.QueryTerm, specs.declared.tree.Query.Query}
+use Rattle.ct_parse.{specs.Source.{IsSource, source}, specs.declared.tree.Tables.Tables, specs.declared.tree.Select.Select, specs.declared.tree.Query.Query}
+use Rattle.ct_parse.{specs.declared.tree.SetOperator.SetOperator, specs.declared.tree.QueryPrimary.QueryPrimary, specs.declared.tree.QueryTerm.QueryTerm}
 use Rattle.ct_parse.specs.Grammar.{HasCondition, no_condition, a_condition, item, IsColumn, plain, qualified, AreItems, star, listed, AreTables, IsDistinct, not_distinct, distinct, IsSelect, select, IsSetOperator, union, except, query_of, IsPrimary, nested_query, select_query, ArePrimaries, no_primary, intersect, IsQueryTerm, query_term, AreTerms, no_term, combined, IsQuery, query}
 use Rattle.ct_parse.specs.Ends.{Fails, at_word, at_operator, EndsAnyhow, EndsBehind, EndsItems, EndsTables, EndsDistinct, EndsSelect, EndsQueryTerm, EndsQuery}
-use Rattle.ct_parse.{proofs.Fronts.{Same, moved}, proofs.TermSteps.reads_at}
-use Rattle.ct_parse.proofs.Listed.{Behind, behind_reads, behind_never, Cases, ended, split, Lists, Parts, parts, Pairs, both_read, no_first, no_second}
-use Rattle.ct_parse.proofs.Combined.{not_word, name_apart, CLOSE, Then, then_read, no_then, not_then, Both, pair_of, Image, image, Renames, renamed, no_renamed, Led}
+use Rattle.ct_parse.{proofs.Fronts.{Same, moved}, proofs.TermSteps.reads_at, proofs.Listed.{Behind, Cases, ended, split, Lists, Parts, parts, Pairs}}
+use Rattle.ct_parse.proofs.Combined.{not_word, name_apart, CLOSE, Then, Both, pair_of, Image, image, Led}
 use Rattle.ct_lex.specs.declared.token.Lexeme.TheVariants as lexeme
 use Rattle.ct_lex.specs.declared.token.Symbol.TheVariants as symbol
 use Rattle.ct_parse.specs.declared.tree.SetOperator.TheVariants as operator
@@ -29,44 +28,48 @@ not_distinct_only fails distinct = absurd fails
 pub not_distinct_read : {ws : List Lexeme} → Fails (at_word (codes "distinct") ws) → Reads IsDistinct EndsDistinct ws false ws
 not_distinct_read fails = record { is = not_distinct; only = λ t r e x. not_distinct_only fails x; within = omega arith }
 
--- SELECT [DISTINCT] items FROM from [WHERE cond], as pairs
-abbrev FROM : Lexeme
-FROM = lexeme.Word (codes "from")
-
-abbrev SELECT : Lexeme
-SELECT = lexeme.Word (codes "select")
-
+-- FROM from [WHERE cond]
 abbrev Filter : List Lexeme → Option Condition → List Lexeme → Type 0
 Filter = HasCondition (codes "where")
 
-abbrev Source : List Lexeme → Tables × Option Condition → List Lexeme → Type 0
-Source = Both AreTables Filter
-
-abbrev Shown : List Lexeme → Items → List Lexeme → Type 0
-Shown = Then AreItems FROM
-
-abbrev Shape : Type 0
-Shape = Bool × (Items × (Tables × Option Condition))
-
-abbrev Selected : List Lexeme → Shape → List Lexeme → Type 0
-Selected = Behind SELECT (Both IsDistinct (Both Shown Source))
+abbrev Sources : List Lexeme → Tables × Option Condition → List Lexeme → Type 0
+Sources = Both AreTables Filter
 
 -- the condition of a SELECT ends where the SELECT does
-filter_reads : {ws r : List Lexeme} {o : Option Condition} → Reads Filter (EndsBehind (codes "where")) ws o r → Reads Filter EndsSelect ws o r
+pub filter_reads : {ws r : List Lexeme} {o : Option Condition} → Reads Filter (EndsBehind (codes "where")) ws o r → Reads Filter EndsSelect ws o r
 filter_reads h = record { is = h.is; only = λ t r e x. h.only t r (e.0, e.1.1.1) x; within = h.within }
 
-no_filter : {ws : List Lexeme} → Never Filter (EndsBehind (codes "where")) ws → Never Filter EndsSelect ws
+pub no_filter : {ws : List Lexeme} → Never Filter (EndsBehind (codes "where")) ws → Never Filter EndsSelect ws
 no_filter never = λ t r e x. never t r (e.0, e.1.1.1) x
 
 pub before_filter : {ws r : List Lexeme} {o : Option Condition} → Filter ws o r → EndsSelect r → EndsTables ws
 before_filter no_condition e = e.1
 before_filter (a_condition x) e = (tt, ((tt, tt), (tt, (tt, tt))))
 
-source_pair : Pairs AreTables EndsTables Filter EndsSelect (λ x y. (x, y)) Source
+pub source_pair : Pairs AreTables EndsTables Filter EndsSelect (λ x y. (x, y)) Sources
 source_pair = pair_of AreTables EndsTables Filter EndsSelect (λ ws r y c e. before_filter c e)
 
-shown_pair : Pairs Shown EndsAnyhow Source EndsSelect (λ x y. (x, y)) (Both Shown Source)
-shown_pair = pair_of Shown EndsAnyhow Source EndsSelect (λ ws r y c e. tt)
+into_source : {ws r : List Lexeme} {p : Tables × Option Condition} → Sources ws p r → IsSource (lexeme.Word (codes "from") ∷ ws) p r
+into_source (parts t c) = source t c
+
+back_source : {ws r : List Lexeme} {p : Tables × Option Condition} → IsSource (lexeme.Word (codes "from") ∷ ws) p r → Image Sources (λ p. p) ws p r
+back_source (source t c) = image (parts t c)
+
+pub sourcing : Led (lexeme.Word (codes "from")) Sources EndsSelect (λ p. p) IsSource EndsSelect
+sourcing = record { into = λ p. into_source p; back = λ s e. back_source s; ends = λ r e. e }
+
+pub no_from : {ws : List Lexeme} → Fails (at_word (codes "from") ws) → Never IsSource EndsSelect ws
+no_from fails p r e (source t c) = fails
+
+-- SELECT [DISTINCT] items, and the source behind them, as pairs
+abbrev Shown : List Lexeme → Items × (Tables × Option Condition) → List Lexeme → Type 0
+Shown = Both AreItems IsSource
+
+abbrev Shape : Type 0
+Shape = Bool × (Items × (Tables × Option Condition))
+
+abbrev Selected : List Lexeme → Shape → List Lexeme → Type 0
+Selected = Both IsDistinct Shown
 
 column_apart : {ws r : List Lexeme} {c : Column} → IsColumn ws c r → EndsDistinct ws
 column_apart (plain n) = name_apart (codes "distinct") refl n
@@ -76,54 +79,33 @@ pub items_apart : {ws r : List Lexeme} {i : Items} → AreItems ws i r → EndsD
 items_apart star = tt
 items_apart (listed (item c a) l) = column_apart c
 
-before_shown : {ws r : List Lexeme} {y : Items × (Tables × Option Condition)} → Both Shown Source ws y r → EndsDistinct ws
+before_source : {ws r : List Lexeme} {p : Tables × Option Condition} → IsSource ws p r → EndsItems ws
+before_source (source t c) = (tt, (tt, tt))
+
+before_shown : {ws r : List Lexeme} {y : Items × (Tables × Option Condition)} → Shown ws y r → EndsDistinct ws
 before_shown (parts i s) = items_apart i
 
-distinct_pair : Pairs IsDistinct EndsDistinct (Both Shown Source) EndsSelect (λ x y. (x, y)) (Both IsDistinct (Both Shown Source))
-distinct_pair = pair_of IsDistinct EndsDistinct (Both Shown Source) EndsSelect (λ ws r y c e. before_shown c)
+pub shown_pair : Pairs AreItems EndsItems IsSource EndsSelect (λ x y. (x, y)) Shown
+shown_pair = pair_of AreItems EndsItems IsSource EndsSelect (λ ws r y s e. before_source s)
 
-abbrev pub select_of : Shape → Select
-select_of p = record { is_distinct = p.0; items = p.1.0; tables = p.1.1.0; condition = p.1.1.1 }
+pub distinct_pair : Pairs IsDistinct EndsDistinct Shown EndsSelect (λ x y. (x, y)) Selected
+distinct_pair = pair_of IsDistinct EndsDistinct Shown EndsSelect (λ ws r y s e. before_shown s)
 
-into_select : {ws r : List Lexeme} {p : Shape} → Both IsDistinct (Both Shown Source) ws p r → IsSelect (SELECT ∷ ws) (select_of p) r
-into_select (parts d (parts i (parts t c))) = select d i t c
+abbrev pub select_of : Shape → QueryPrimary
+select_of p = primary.Select (record { is_distinct = p.0; items = p.1.0; tables = p.1.1.0; condition = p.1.1.1 })
 
-back_select : {ws r : List Lexeme} {s : Select} → IsSelect ws s r → Image Selected select_of ws s r
-back_select (select d i t c) = image (_, refl, parts d (parts i (parts t c)))
+into_select : {ws r : List Lexeme} {p : Shape} → Selected ws p r → IsPrimary (lexeme.Word (codes "select") ∷ ws) (select_of p) r
+into_select (parts d (parts i (source t c))) = select_query (select d i t c)
 
-select_is : (ws : List Lexeme) → Renames Selected select_of IsSelect ws
-select_is ws = record { into = λ b. moved IsSelect (sym b.1) (into_select b.2); back = λ s. back_select s }
+back_select : {ws r : List Lexeme} {p : QueryPrimary} → IsPrimary (lexeme.Word (codes "select") ∷ ws) p r → Image Selected select_of ws p r
+back_select (select_query (select d i t c)) = image (parts d (parts i (source t c)))
 
-pub ends_at_from : (r : List Lexeme) → EndsItems (FROM ∷ r)
-ends_at_from r = (tt, (tt, tt))
+pub selecting : Led (lexeme.Word (codes "select")) Selected EndsSelect select_of IsPrimary EndsSelect
+selecting = record { into = λ s. into_select s; back = λ p e. back_select p; ends = λ r e. e }
 
-pub no_select : {ws : List Lexeme} → Fails (at_word (codes "select") ws) → Never IsSelect EndsSelect ws
-no_select {ws = ws} fails = no_renamed (select_is ws) (λ t r e b. not_word (codes "select") fails _ b.1)
-
-inside_select : {ws rest : List Lexeme} → ws ≡ SELECT ∷ rest → Never (Both IsDistinct (Both Shown Source)) EndsSelect rest → Never IsSelect EndsSelect ws
-inside_select {ws = ws} f never = no_renamed (select_is ws) (behind_never (Both IsDistinct (Both Shown Source)) f never)
-
-pub no_items : {ws rest m : List Lexeme} {b : Bool} → ws ≡ SELECT ∷ rest → Reads IsDistinct EndsDistinct rest b m → Never AreItems EndsItems m → Never IsSelect EndsSelect ws
-no_items f d never = inside_select f (no_second distinct_pair d (no_first shown_pair (no_then AreItems FROM ends_at_from never)))
-
-pub no_from : {ws rest m l : List Lexeme} {b : Bool} {i : Items} → ws ≡ SELECT ∷ rest → Reads IsDistinct EndsDistinct rest b m → Reads AreItems EndsItems m i l → Fails (at_word (codes "from") l)
-    → Never IsSelect EndsSelect ws
-no_from f d i fails = inside_select f (no_second distinct_pair d (no_first shown_pair (not_then FROM ends_at_from i (not_word (codes "from") fails))))
-
-pub no_tables : {ws rest m l k : List Lexeme} {b : Bool} {i : Items} → ws ≡ SELECT ∷ rest → Reads IsDistinct EndsDistinct rest b m → Reads AreItems EndsItems m i l → l ≡ FROM ∷ k
-    → Never AreTables EndsTables k → Never IsSelect EndsSelect ws
-no_tables f d i g never = inside_select f (no_second distinct_pair d (no_second shown_pair (then_read FROM ends_at_from i g) (no_first source_pair never)))
-
-pub no_where : {ws rest m l k j : List Lexeme} {b : Bool} {i : Items} {t : Tables} → ws ≡ SELECT ∷ rest → Reads IsDistinct EndsDistinct rest b m → Reads AreItems EndsItems m i l → l ≡ FROM ∷ k
-    → Reads AreTables EndsTables k t j → Never Filter (EndsBehind (codes "where")) j → Never IsSelect EndsSelect ws
-no_where f d i g t never =
-    inside_select f (no_second distinct_pair d (no_second shown_pair (then_read FROM ends_at_from i g) (no_second source_pair t (no_filter never))))
-
-pub select_read : {ws rest m l k j r : List Lexeme} {b : Bool} {i : Items} {t : Tables} {o : Option Condition} → ws ≡ SELECT ∷ rest → Reads IsDistinct EndsDistinct rest b m
-    → Reads AreItems EndsItems m i l → l ≡ FROM ∷ k → Reads AreTables EndsTables k t j → Reads Filter (EndsBehind (codes "where")) j o r
-    → Reads IsSelect EndsSelect ws (record { is_distinct = b; items = i; tables = t; condition = o }) r
-select_read {ws = ws} f d i g t c =
-    renamed (select_is ws) (behind_reads f (both_read distinct_pair d (both_read shown_pair (then_read FROM ends_at_from i g) (both_read source_pair t (filter_reads c)))))
+pub no_select : {ws : List Lexeme} → Fails (at_word (codes "select") ws) → ((r : List Lexeme) → ws ≡ lexeme.Symbol symbol.LeftParen ∷ r → ⊥) → Never IsPrimary EndsSelect ws
+no_select fails paren p r e (nested_query q) = paren _ refl
+no_select fails paren p r e (select_query (select d i t c)) = fails
 
 -- UNION and EXCEPT
 one_operator : {ws r r' : List Lexeme} {o o' : SetOperator} → IsSetOperator ws o r → IsSetOperator ws o' r' → Same o o' r r'
@@ -153,13 +135,6 @@ back_nested (select_query s) = absurd (paren_select s)
 
 pub nesting : Led (lexeme.Symbol symbol.LeftParen) (Then IsQuery CLOSE) EndsAnyhow primary.Nested IsPrimary EndsSelect
 nesting = record { into = λ q. nested_query q; back = λ p e. back_nested p; ends = λ r e. tt }
-
-back_primary : {ws r : List Lexeme} {p : QueryPrimary} → ((x : List Lexeme) → ws ≡ lexeme.Symbol symbol.LeftParen ∷ x → ⊥) → IsPrimary ws p r → Image IsSelect primary.Select ws p r
-back_primary no_paren (nested_query q) = absurd (no_paren _ refl)
-back_primary no_paren (select_query s) = image s
-
-pub primary_is : {ws : List Lexeme} → ((x : List Lexeme) → ws ≡ lexeme.Symbol symbol.LeftParen ∷ x → ⊥) → Renames IsSelect primary.Select IsPrimary ws
-primary_is no_paren = record { into = λ s. select_query s; back = λ p. back_primary no_paren p }
 
 -- primaries behind INTERSECT
 abbrev INTERSECT : Lexeme

@@ -4,17 +4,17 @@ use Rattle.ct_lex.specs.declared.token.Lexeme.{Lexeme}
 use Rattle.ct_parse.{specs.declared.tree.Column.Column, specs.declared.tree.Term.Term, specs.declared.tree.Comparison.Comparison, specs.declared.tree.Cell.Cell}
 use Rattle.ct_parse.{specs.declared.tree.Factor.Factor, specs.declared.tree.Conjunction.Conjunction, specs.declared.tree.Condition.Condition, specs.Reads.Reads}
 use Rattle.ct_parse.{specs.declared.tree.Row.Row, specs.declared.tree.Item.Item, specs.declared.tree.Items.Items, specs.declared.tree.Table.Table}
-use Rattle.ct_parse.{specs.declared.tree.Joined.Joined, specs.declared.tree.Tables.Tables, specs.declared.tree.Select.Select, specs.declared.tree.Query.Query}
+use Rattle.ct_parse.{specs.declared.tree.Joined.Joined, specs.declared.tree.Tables.Tables, specs.declared.tree.Query.Query, specs.Source.{IsSource, source}}
 use Rattle.ct_parse.{specs.declared.tree.SetOperator.SetOperator, specs.declared.tree.QueryPrimary.QueryPrimary, specs.declared.tree.QueryTerm.QueryTerm}
 use Rattle.ct_parse.{specs.declared.tree.Statement.Statement, specs.Parses.{Spells, SpellsCondition}, proofs.Fronts.{moved, before_comparison}}
-use Rattle.ct_parse.specs.Grammar.{IsName, name, IsColumn, plain, qualified, IsTerm, number_term, text_term, null_term, column_term, IsComparison, equal, unequal, IsFactor, negated, nested, true_factor, false_factor, compared, AreFactors, no_factor, and_factor, IsConjunction, conjunction, AreConjunctions, no_conjunction, or_conjunction, IsCondition, condition, AreMore, no_more, one_more, IsClosed, closed, IsCell, number_cell, text_cell, null_cell, new_null, IsRow, row, HasCondition, no_condition, a_condition, HasName, no_name, as_name, IsItem, item, AreItems, star, listed, IsBareAlias, bare_alias, HasAlias, no_alias, alias, as_alias, IsTable, table, IsTableOn, table_on, IsJoined, comma, join, inner_join, AreJoined, none_joined, more_joined, AreTables, tables, IsDistinct, not_distinct, distinct, IsSelect, select, IsSetOperator, union, except, IsPrimary, nested_query, select_query, ArePrimaries, no_primary, intersect, IsQueryTerm, query_term, AreTerms, no_term, combined, IsQuery, query, IsStatement, create, insert_rows, insert_query, delete, assert, rows, possible, certain, begin, commit, rollback}
+use Rattle.ct_parse.specs.Grammar.{IsName, name, IsColumn, plain, qualified, IsTerm, number_term, text_term, null_term, column_term, IsComparison, equal, unequal, IsFactor, negated, nested, true_factor, false_factor, compared, AreFactors, no_factor, and_factor, IsConjunction, conjunction, AreConjunctions, no_conjunction, or_conjunction, IsCondition, condition, AreMore, no_more, one_more, IsClosed, closed, IsCell, number_cell, text_cell, null_cell, new_null, IsRow, row, HasCondition, no_condition, a_condition, HasName, no_name, as_name, IsItem, item, AreItems, star, listed, IsBareAlias, bare_alias, HasAlias, no_alias, alias, as_alias, IsTable, table, IsTableOn, table_on, IsJoined, comma, join, inner_join, AreJoined, none_joined, more_joined, AreTables, tables, IsDistinct, not_distinct, distinct, select, IsSetOperator, union, except, IsPrimary, nested_query, select_query, ArePrimaries, no_primary, intersect, IsQueryTerm, query_term, AreTerms, no_term, combined, IsQuery, query, IsStatement, create, insert_rows, insert_query, delete, assert, rows, possible, certain, begin, commit, rollback}
 use Rattle.ct_parse.specs.Ends.{Fails, at_word, EndsAnyhow, EndsColumn, EndsConjunction, EndsCondition, EndsList, EndsBehind, EndsItem, EndsItems, EndsTable, EndsJoined, EndsTables, EndsDistinct, EndsSelect, EndsQueryTerm, EndsQuery, EndsStatement}
 use Rattle.ct_parse.proofs.TermSteps.{name_reads, plain_reads, qualified_reads, number_reads, text_reads, null_reads, column_reads, equal_reads, unequal_reads}
 use Rattle.ct_parse.{proofs.Listed.{Behind, behind_reads, Lists, none_read, more_read, both_read}, proofs.RowSteps.{closed_read, row_is, new_null_reads}}
 use Rattle.ct_parse.proofs.ConditionSteps.{negation, nesting, ends_at_close, true_read, false_read, compared_read, factors, conjunctions, conjunction_pair, condition_pair}
 use Rattle.ct_parse.proofs.Combined.{CLOSE, then_read, renamed, led_read, plain_list, condition_led, has_none_read}
 use Rattle.ct_parse.proofs.TableSteps.{naming, no_as_read, item_pair, item_list, symbol_item, star_read, listed_pair, listed_is, bare_read, aliasing, alias_stands, alias_read, no_alias_read, table_pair, ON, on_pair, on_is, ends_at_on, comma_led, join_led, inner_led, joined_list, tables_read}
-use Rattle.ct_parse.proofs.QuerySteps.{distinct_read, not_distinct_read, items_apart, before_filter, select_read, union_read, except_read, ends_at_paren, paren_select, primary_is, primary_list, term_pair, combined_pair, term_list, query_pair}
+use Rattle.ct_parse.proofs.QuerySteps.{distinct_read, not_distinct_read, items_apart, before_filter, filter_reads, source_pair, sourcing, shown_pair, distinct_pair, selecting, union_read, except_read, ends_at_paren, primary_list, term_pair, combined_pair, term_list, query_pair}
 use Rattle.ct_parse.proofs.StatementSteps.{query_at_end, condition_at_end, behind_at_end, before_if, create_read, delete_read, insert_rows_read, insert_query_read, asserting, asking_possible, asking_certain, begin_read, commit_read, rollback_read, OnlyQuery, rows_read}
 use Rattle.ct_lex.specs.declared.token.Lexeme.TheVariants as lexeme
 use Rattle.ct_lex.specs.declared.token.Symbol.TheVariants as symbol
@@ -130,9 +130,8 @@ reads_distinct : {ws r : List Lexeme} {b : Bool} → IsDistinct ws b r → EndsD
 reads_distinct not_distinct e = not_distinct_read e
 reads_distinct distinct e = distinct_read refl
 
-reads_select : {ws r : List Lexeme} {s : Select} → IsSelect ws s r → EndsSelect r → Reads IsSelect EndsSelect ws s r
-reads_select (select d i t c) e =
-    select_read refl (reads_distinct d (items_apart i)) (reads_items i (tt, (tt, tt))) refl (reads_tables t (before_filter c e)) (reads_has c (e.0, e.1.1.1))
+reads_source : {ws r : List Lexeme} {p : Tables × Option Condition} → IsSource ws p r → EndsSelect r → Reads IsSource EndsSelect ws p r
+reads_source (source t c) e = led_read sourcing refl (both_read source_pair (reads_tables t (before_filter c e)) (filter_reads (reads_has c (e.0, e.1.1.1))))
 
 reads_operator : {ws r : List Lexeme} {o : SetOperator} → IsSetOperator ws o r → Reads IsSetOperator EndsAnyhow ws o r
 reads_operator union = union_read refl
@@ -141,7 +140,8 @@ reads_operator except = except_read refl
 mutual
   reads_primary : {ws r : List Lexeme} {p : QueryPrimary} → IsPrimary ws p r → EndsSelect r → Reads IsPrimary EndsSelect ws p r
   reads_primary (nested_query {r = r} q) e = led_read queries.nesting refl (then_read CLOSE ends_at_paren (reads_query q (ends_at_paren r)) refl)
-  reads_primary (select_query s) e = renamed (primary_is (λ x f. paren_select (moved IsSelect f s))) (reads_select s e)
+  reads_primary (select_query (select d i t c)) e =
+      led_read selecting refl (both_read distinct_pair (reads_distinct d (items_apart i)) (both_read shown_pair (reads_items i (tt, (tt, tt))) (reads_source (source t c) e)))
 
   reads_primaries : {ws r : List Lexeme} {ps : List QueryPrimary} → ArePrimaries ws ps r → EndsQueryTerm r → Reads ArePrimaries EndsQueryTerm ws ps r
   reads_primaries no_primary e = none_read primary_list e

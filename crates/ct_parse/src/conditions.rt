@@ -1,19 +1,52 @@
 // Conditions.
 
-ghost use Rattle.std.specs.Prelude.{◌≡◌, ◌≢◌, IfOk, IfErr};
+ghost use Rattle.std.specs.Prelude.{◌≡◌, ◌≢◌, ◌∷◌, List as ListValue, codes, IfOk, IfErr};
+ghost use Rattle.ct_lex.specs.declared.token.Lexeme.{Lexeme};
+ghost use Rattle.ct_lex.specs.declared.token.Lexeme.TheVariants as lexical;
+ghost use Rattle.ct_lex.specs.declared.token.Symbol.TheVariants as symbol;
 ghost use Rattle.ct_parse.specs.Grammar.{said, IsFactor, AreFactors, IsConjunction, AreConjunctions, IsCondition};
-ghost use Rattle.ct_parse.specs.Ends.{EndsColumn, EndsConjunction, EndsCondition};
+ghost use Rattle.ct_parse.specs.Ends.{Fails, at_word, EndsColumn, EndsConjunction, EndsCondition};
 ghost use Rattle.ct_parse.specs.Reads.{Reads, Never};
 ghost use Rattle.ct_parse.specs.declared.error.Unread.TheVariants as unread;
 
 use crate::boxed::Boxed;
 use crate::error::Unread;
-use crate::front::{behind_symbol, behind_word, expect_symbol};
+use crate::front::{behind_symbol, behind_word, closed};
 use crate::terms::{comparison, term};
 use crate::tree::{Condition, Conjunction, Factor};
 use ct_lex::{Symbol, Token};
 use ct_word::List;
 use std::alloc::Global;
+
+/// TRUE, FALSE or a comparison.
+fn plain_factor(alloc: Global, tokens: &[Token]) -> Result<(Factor, &[Token]), Unread>
+    requires not { Fails (at_word (codes "not") (said tokens.now)) }
+    requires paren { (r : ListValue Lexeme) → said tokens.now ≡ lexical.Symbol symbol.LeftParen ∷ r → ⊥ }
+    ensures ok { IfOk result (λ p. Reads IsFactor EndsColumn (said tokens.now) p.0 (said p.1.now)) }
+    ensures none { IfErr result (λ e. e ≢ unread.Memory → Never IsFactor EndsColumn (said tokens.now)) }
+{
+    if let Some(rest) = behind_word(tokens, "true") {
+        return Ok((Factor::True, rest));
+    }
+    if let Some(rest) = behind_word(tokens, "false") {
+        return Ok((Factor::False, rest));
+    }
+    let (left, rest) = term(alloc, tokens)?;
+    let (sign, rest) = match comparison(rest) {
+        Ok(found) => found,
+        Err(unread) => {
+            drop(left);
+            return Err(unread);
+        }
+    };
+    match term(alloc, rest) {
+        Ok((right, rest)) => Ok((Factor::Compare(left, sign, right), rest)),
+        Err(unread) => {
+            drop(left);
+            Err(unread)
+        }
+    }
+}
 
 /// A NOT, a condition in parentheses, TRUE, FALSE or a comparison.
 #[cycle(condition)]
@@ -27,19 +60,10 @@ fn factor(alloc: Global, tokens: &[Token]) -> Result<(Factor, &[Token]), Unread>
     }
     if let Some(tail) = behind_symbol(tokens, Symbol::LeftParen) {
         let (inner, rest) = condition(alloc, tail)?;
-        let rest = expect_symbol(rest, Symbol::RightParen)?;
-        return Ok((Factor::Nested(Boxed::new(alloc, inner)?), rest));
+        let (nested, rest) = closed(alloc, inner, rest)?;
+        return Ok((Factor::Nested(nested), rest));
     }
-    if let Some(rest) = behind_word(tokens, "true") {
-        return Ok((Factor::True, rest));
-    }
-    if let Some(rest) = behind_word(tokens, "false") {
-        return Ok((Factor::False, rest));
-    }
-    let (left, rest) = term(alloc, tokens)?;
-    let (sign, rest) = comparison(rest)?;
-    let (right, rest) = term(alloc, rest)?;
-    Ok((Factor::Compare(left, sign, right), rest))
+    plain_factor(alloc, tokens)
 }
 
 /// Each factor behind an AND.
@@ -65,14 +89,19 @@ fn conjunction(alloc: Global, tokens: &[Token]) -> Result<(Conjunction, &[Token]
     ensures none { IfErr result (λ e. e ≢ unread.Memory → Never IsConjunction EndsConjunction (said tokens.now)) }
 {
     let (first, rest) = factor(alloc, tokens)?;
-    let (others, rest) = factors(alloc, rest)?;
-    Ok((
-        Conjunction {
-            first,
-            rest: others,
-        },
-        rest,
-    ))
+    match factors(alloc, rest) {
+        Ok((factors, rest)) => Ok((
+            Conjunction {
+                first,
+                rest: factors,
+            },
+            rest,
+        )),
+        Err(unread) => {
+            drop(first);
+            Err(unread)
+        }
+    }
 }
 
 /// Each conjunction behind an OR.
@@ -98,12 +127,17 @@ pub fn condition(alloc: Global, tokens: &[Token]) -> Result<(Condition, &[Token]
     ensures none { IfErr result (λ e. e ≢ unread.Memory → Never IsCondition EndsCondition (said tokens.now)) }
 {
     let (first, rest) = conjunction(alloc, tokens)?;
-    let (others, rest) = conjunctions(alloc, rest)?;
-    Ok((
-        Condition {
-            first,
-            rest: others,
-        },
-        rest,
-    ))
+    match conjunctions(alloc, rest) {
+        Ok((conjunctions, rest)) => Ok((
+            Condition {
+                first,
+                rest: conjunctions,
+            },
+            rest,
+        )),
+        Err(unread) => {
+            drop(first);
+            Err(unread)
+        }
+    }
 }

@@ -3,12 +3,14 @@
 ghost use Rattle.std.specs.Prelude.{◌≡◌, ◌≢◌, ◌↔◌, ◌∷◌, ℕ, List, [], IfOk, IfErr, IfSome, IfNone, IsTrue};
 ghost use Rattle.ct_lex.specs.declared.token.Lexeme.{Lexeme as LexemeValue};
 ghost use Rattle.ct_lex.specs.declared.token.Lexeme.TheVariants as lexical;
+ghost use Rattle.ct_lex.specs.declared.token.Symbol.TheVariants as symbols;
 ghost use Rattle.ct_word.specs.Writable.{is_name};
 ghost use Rattle.ct_parse.specs.Grammar.{said, IsName};
 ghost use Rattle.ct_parse.specs.Ends.{Fails, at_word, EndsAnyhow};
 ghost use Rattle.ct_parse.specs.Reads.{Reads, Never};
 ghost use Rattle.ct_parse.specs.declared.error.Unread.TheVariants as unread;
 
+use crate::boxed::Boxed;
 use crate::error::Unread;
 use crate::names::is_name;
 use ct_lex::{Lexeme, Symbol, Token};
@@ -84,6 +86,23 @@ pub fn expect_symbol(tokens: &[Token], symbol: Symbol) -> Result<&[Token], Unrea
     ensures none { IfErr result (λ e. e ≢ unread.Memory → (r : List LexemeValue) → said tokens.now ≡ lexical.Symbol symbol ∷ r → ⊥) }
 {
     behind_symbol(tokens, symbol).ok_or(Unread::NotSpelled)
+}
+
+/// The box of what stands in parentheses, where the one in front closes them, and the tokens behind.
+pub fn closed<T: Drop>(
+    alloc: Global,
+    inner: T,
+    tokens: &[Token],
+) -> Result<(Boxed<T>, &[Token]), Unread>
+    ensures ok { IfOk result (λ p. p.0 ≡ inner) }
+    ensures behind { IfOk result (λ p. said tokens.now ≡ lexical.Symbol symbols.RightParen ∷ said p.1.now) }
+    ensures none { IfErr result (λ e. e ≢ unread.Memory → (r : List LexemeValue) → said tokens.now ≡ lexical.Symbol symbols.RightParen ∷ r → ⊥) }
+{
+    let Some(rest) = behind_symbol(tokens, Symbol::RightParen) else {
+        drop(inner);
+        return Err(Unread::NotSpelled);
+    };
+    Ok((Boxed::new(alloc, inner)?, rest))
 }
 
 /// The name that a lexeme is.

@@ -1,17 +1,20 @@
 // Queries.
 
-ghost use Rattle.std.specs.Prelude.{◌≡◌, ◌≢◌, ◌<◌, length, IfOk, IfErr, IfSome, IfNone};
-ghost use Rattle.ct_parse.specs.Grammar.{said, IsDistinct, IsSelect, IsSetOperator, IsPrimary, ArePrimaries, IsQueryTerm, AreTerms, IsQuery};
+ghost use Rattle.std.specs.Prelude.{◌≡◌, ◌≢◌, ◌<◌, ◌∷◌, List as ListValue, length, IfOk, IfErr, IfSome, IfNone};
+ghost use Rattle.ct_lex.specs.declared.token.Lexeme.{Lexeme};
+ghost use Rattle.ct_lex.specs.declared.token.Lexeme.TheVariants as lexical;
+ghost use Rattle.ct_lex.specs.declared.token.Symbol.TheVariants as symbol;
+ghost use Rattle.ct_parse.specs.Grammar.{said, IsDistinct, IsSetOperator, IsPrimary, ArePrimaries, IsQueryTerm, AreTerms, IsQuery};
+ghost use Rattle.ct_parse.specs.Source.{IsSource};
 ghost use Rattle.ct_parse.specs.Ends.{Fails, at_operator, EndsAnyhow, EndsDistinct, EndsSelect, EndsQueryTerm, EndsQuery};
 ghost use Rattle.ct_parse.specs.Reads.{Reads, Never};
 ghost use Rattle.ct_parse.specs.declared.error.Unread.TheVariants as unread;
 
-use crate::boxed::Boxed;
 use crate::error::Unread;
-use crate::front::{behind_symbol, behind_word, expect_symbol, expect_word};
+use crate::front::{behind_symbol, behind_word, closed, expect_word};
 use crate::rows::condition_behind;
 use crate::tables::{items, tables};
-use crate::tree::{Query, QueryPrimary, QueryTerm, Select, SetOperator};
+use crate::tree::{Condition, Query, QueryPrimary, QueryTerm, Select, SetOperator, Tables};
 use ct_lex::{Symbol, Token};
 use ct_word::List;
 use std::alloc::Global;
@@ -26,24 +29,48 @@ fn distinct(tokens: &[Token]) -> (bool, &[Token])
     }
 }
 
-/// A SELECT.
-fn select(alloc: Global, tokens: &[Token]) -> Result<(Select, &[Token]), Unread>
-    ensures ok { IfOk result (λ p. Reads IsSelect EndsSelect (said tokens.now) p.0 (said p.1.now)) }
-    ensures none { IfErr result (λ e. e ≢ unread.Memory → Never IsSelect EndsSelect (said tokens.now)) }
+/// The tables of a SELECT, and its condition.
+fn source(
+    alloc: Global,
+    tokens: &[Token],
+) -> Result<((Tables, Option<Condition>), &[Token]), Unread>
+    ensures ok { IfOk result (λ p. Reads IsSource EndsSelect (said tokens.now) p.0 (said p.1.now)) }
+    ensures none { IfErr result (λ e. e ≢ unread.Memory → Never IsSource EndsSelect (said tokens.now)) }
+{
+    let tail = expect_word(tokens, "from")?;
+    let (tables, rest) = tables(alloc, tail)?;
+    match condition_behind(alloc, rest, "where") {
+        Ok((condition, rest)) => Ok(((tables, condition), rest)),
+        Err(unread) => {
+            drop(tables);
+            Err(unread)
+        }
+    }
+}
+
+/// A SELECT, which is a primary.
+fn select(alloc: Global, tokens: &[Token]) -> Result<(QueryPrimary, &[Token]), Unread>
+    requires { (r : ListValue Lexeme) → said tokens.now ≡ lexical.Symbol symbol.LeftParen ∷ r → ⊥ }
+    ensures ok { IfOk result (λ p. Reads IsPrimary EndsSelect (said tokens.now) p.0 (said p.1.now)) }
+    ensures none { IfErr result (λ e. e ≢ unread.Memory → Never IsPrimary EndsSelect (said tokens.now)) }
 {
     let tail = expect_word(tokens, "select")?;
     let (is_distinct, rest) = distinct(tail);
     let (items, rest) = items(alloc, rest)?;
-    let behind = expect_word(rest, "from")?;
-    let (tables, rest) = tables(alloc, behind)?;
-    let (condition, rest) = condition_behind(alloc, rest, "where")?;
+    let ((tables, condition), rest) = match source(alloc, rest) {
+        Ok(found) => found,
+        Err(unread) => {
+            drop(items);
+            return Err(unread);
+        }
+    };
     Ok((
-        Select {
+        QueryPrimary::Select(Select {
             is_distinct,
             items,
             tables,
             condition,
-        },
+        }),
         rest,
     ))
 }
@@ -70,12 +97,11 @@ fn primary(alloc: Global, tokens: &[Token]) -> Result<(QueryPrimary, &[Token]), 
     ensures none { IfErr result (λ e. e ≢ unread.Memory → Never IsPrimary EndsSelect (said tokens.now)) }
 {
     let Some(tail) = behind_symbol(tokens, Symbol::LeftParen) else {
-        let (select, rest) = select(alloc, tokens)?;
-        return Ok((QueryPrimary::Select(select), rest));
+        return select(alloc, tokens);
     };
     let (inner, rest) = query(alloc, tail)?;
-    let rest = expect_symbol(rest, Symbol::RightParen)?;
-    Ok((QueryPrimary::Nested(Boxed::new(alloc, inner)?), rest))
+    let (nested, rest) = closed(alloc, inner, rest)?;
+    Ok((QueryPrimary::Nested(nested), rest))
 }
 
 /// Each primary behind an INTERSECT.
@@ -101,14 +127,19 @@ fn query_term(alloc: Global, tokens: &[Token]) -> Result<(QueryTerm, &[Token]), 
     ensures none { IfErr result (λ e. e ≢ unread.Memory → Never IsQueryTerm EndsQueryTerm (said tokens.now)) }
 {
     let (first, rest) = primary(alloc, tokens)?;
-    let (others, rest) = primaries(alloc, rest)?;
-    Ok((
-        QueryTerm {
-            first,
-            rest: others,
-        },
-        rest,
-    ))
+    match primaries(alloc, rest) {
+        Ok((primaries, rest)) => Ok((
+            QueryTerm {
+                first,
+                rest: primaries,
+            },
+            rest,
+        )),
+        Err(unread) => {
+            drop(first);
+            Err(unread)
+        }
+    }
 }
 
 /// Each term behind a UNION or EXCEPT.
@@ -137,12 +168,11 @@ pub fn query(alloc: Global, tokens: &[Token]) -> Result<(Query, &[Token]), Unrea
     ensures none { IfErr result (λ e. e ≢ unread.Memory → Never IsQuery EndsQuery (said tokens.now)) }
 {
     let (first, rest) = query_term(alloc, tokens)?;
-    let (others, rest) = query_terms(alloc, rest)?;
-    Ok((
-        Query {
-            first,
-            rest: others,
-        },
-        rest,
-    ))
+    match query_terms(alloc, rest) {
+        Ok((terms, rest)) => Ok((Query { first, rest: terms }, rest)),
+        Err(unread) => {
+            drop(first);
+            Err(unread)
+        }
+    }
 }

@@ -1,4 +1,4 @@
-// Lists of names and of cells in parentheses, and conditions behind a word.
+// Lists of names, cells and rows, and conditions behind a word.
 
 ghost use Rattle.std.specs.Prelude.{◌≡◌, ◌≢◌, IfOk, IfErr};
 ghost use Rattle.ct_parse.specs.Grammar.{said, IsName, AreMore, IsClosed, IsCell, IsRow, HasCondition};
@@ -14,98 +14,100 @@ use ct_lex::{Lexeme, Symbol, Token};
 use ct_word::{List, Text};
 use std::alloc::Global;
 
-/// Each name behind a comma.
-fn names(alloc: Global, tokens: &[Token]) -> Result<(List<Text>, &[Token]), Unread>
-    ensures ok { IfOk result (λ p. Reads (AreMore IsName) EndsList (said tokens.now) p.0 (said p.1.now)) }
-    ensures none { IfErr result (λ e. e ≢ unread.Memory → Never (AreMore IsName) EndsList (said tokens.now)) }
+/// What stands in lists behind commas. It has an end of its own, so anything may stand behind it.
+pub trait Part {
+    ghost use Rattle.std.specs.Prelude.{List};
+    ghost use Rattle.ct_lex.specs.declared.token.Lexeme.{Lexeme};
+
+    /// Which lexemes spell it, and what is left of them.
+    ghost spelled: { List Lexeme → Self → List Lexeme → Type 0 };
+
+    /// The part in front, and the tokens behind it.
+    fn read(alloc: Global, tokens: &[Token]) -> Result<(Self, &[Token]), Unread>
+        ensures ok { IfOk result (λ p. Reads spelled EndsAnyhow (said tokens.now) p.0 (said p.1.now)) }
+        ensures none { IfErr result (λ e. e ≢ unread.Memory → Never spelled EndsAnyhow (said tokens.now)) };
+}
+
+impl Part for Text {
+    ghost spelled = { IsName };
+
+    fn read(alloc: Global, tokens: &[Token]) -> Result<(Text, &[Token]), Unread> {
+        name(alloc, tokens)
+    }
+}
+
+impl Part for Cell {
+    ghost spelled = { IsCell };
+
+    fn read(alloc: Global, tokens: &[Token]) -> Result<(Cell, &[Token]), Unread> {
+        if let Some(rest) = behind_word(tokens, "null") {
+            return Ok((Cell::NewNull, rest));
+        }
+        let Some((first, rest)) = front(tokens) else {
+            return Err(Unread::NotSpelled);
+        };
+        match first {
+            Lexeme::Number(number) => Ok((Cell::Number(*number), rest)),
+            Lexeme::Text(text) => Ok((Cell::Text(text.clone()?), rest)),
+            Lexeme::Null(name) => Ok((Cell::Null(name.clone()?), rest)),
+            _ => Err(Unread::NotSpelled),
+        }
+    }
+}
+
+impl Part for Row {
+    ghost spelled = { IsRow };
+
+    fn read(alloc: Global, tokens: &[Token]) -> Result<(Row, &[Token]), Unread> {
+        let ((first, others), rest) = in_parentheses::<Cell>(alloc, tokens)?;
+        Ok((
+            Row {
+                first,
+                rest: others,
+            },
+            rest,
+        ))
+    }
+}
+
+/// Each part behind a comma.
+pub fn more<P: Part + Drop>(alloc: Global, tokens: &[Token]) -> Result<(List<P>, &[Token]), Unread>
+    ensures ok { IfOk result (λ p. Reads (AreMore P.spelled) EndsList (said tokens.now) p.0 (said p.1.now)) }
+    ensures none { IfErr result (λ e. e ≢ unread.Memory → Never (AreMore P.spelled) EndsList (said tokens.now)) }
 {
     let mut found = Vec::new(alloc);
     let mut rest = tokens;
     while let Some(tail) = behind_symbol(rest, Symbol::Comma) {
-        let (next, after) = name(alloc, tail)?;
+        let (next, after) = P::read(alloc, tail)?;
         found.push(next)?;
         rest = after;
     }
     Ok((List::from_vec(found), rest))
 }
 
-/// Names in parentheses: the first and the others.
-pub fn columns(alloc: Global, tokens: &[Token]) -> Result<((Text, List<Text>), &[Token]), Unread>
-    ensures ok { IfOk result (λ p. Reads (IsClosed IsName) EndsAnyhow (said tokens.now) p.0 (said p.1.now)) }
-    ensures none { IfErr result (λ e. e ≢ unread.Memory → Never (IsClosed IsName) EndsAnyhow (said tokens.now)) }
+/// Parts in parentheses: the first and the others.
+pub fn in_parentheses<P: Part + Drop>(
+    alloc: Global,
+    tokens: &[Token],
+) -> Result<((P, List<P>), &[Token]), Unread>
+    ensures ok { IfOk result (λ p. Reads (IsClosed P.spelled) EndsAnyhow (said tokens.now) p.0 (said p.1.now)) }
+    ensures none { IfErr result (λ e. e ≢ unread.Memory → Never (IsClosed P.spelled) EndsAnyhow (said tokens.now)) }
 {
     let tail = expect_symbol(tokens, Symbol::LeftParen)?;
-    let (first, rest) = name(alloc, tail)?;
-    let (others, rest) = names(alloc, rest)?;
-    let rest = expect_symbol(rest, Symbol::RightParen)?;
-    Ok(((first, others), rest))
-}
-
-/// A number, a text, a marked null or NULL.
-fn cell(alloc: Global, tokens: &[Token]) -> Result<(Cell, &[Token]), Unread>
-    ensures ok { IfOk result (λ p. Reads IsCell EndsAnyhow (said tokens.now) p.0 (said p.1.now)) }
-    ensures none { IfErr result (λ e. e ≢ unread.Memory → Never IsCell EndsAnyhow (said tokens.now)) }
-{
-    if let Some(rest) = behind_word(tokens, "null") {
-        return Ok((Cell::NewNull, rest));
-    }
-    let Some((first, rest)) = front(tokens) else {
+    let (first, rest) = P::read(alloc, tail)?;
+    let (others, rest) = match more::<P>(alloc, rest) {
+        Ok(found) => found,
+        Err(unread) => {
+            drop(first);
+            return Err(unread);
+        }
+    };
+    let Some(rest) = behind_symbol(rest, Symbol::RightParen) else {
+        drop(first);
+        drop(others);
         return Err(Unread::NotSpelled);
     };
-    match first {
-        Lexeme::Number(number) => Ok((Cell::Number(*number), rest)),
-        Lexeme::Text(text) => Ok((Cell::Text(text.clone()?), rest)),
-        Lexeme::Null(name) => Ok((Cell::Null(name.clone()?), rest)),
-        _ => Err(Unread::NotSpelled),
-    }
-}
-
-/// Each cell behind a comma.
-fn cells(alloc: Global, tokens: &[Token]) -> Result<(List<Cell>, &[Token]), Unread>
-    ensures ok { IfOk result (λ p. Reads (AreMore IsCell) EndsList (said tokens.now) p.0 (said p.1.now)) }
-    ensures none { IfErr result (λ e. e ≢ unread.Memory → Never (AreMore IsCell) EndsList (said tokens.now)) }
-{
-    let mut found = Vec::new(alloc);
-    let mut rest = tokens;
-    while let Some(tail) = behind_symbol(rest, Symbol::Comma) {
-        let (next, after) = cell(alloc, tail)?;
-        found.push(next)?;
-        rest = after;
-    }
-    Ok((List::from_vec(found), rest))
-}
-
-/// Cells in parentheses.
-pub fn row(alloc: Global, tokens: &[Token]) -> Result<(Row, &[Token]), Unread>
-    ensures ok { IfOk result (λ p. Reads IsRow EndsAnyhow (said tokens.now) p.0 (said p.1.now)) }
-    ensures none { IfErr result (λ e. e ≢ unread.Memory → Never IsRow EndsAnyhow (said tokens.now)) }
-{
-    let tail = expect_symbol(tokens, Symbol::LeftParen)?;
-    let (first, rest) = cell(alloc, tail)?;
-    let (others, rest) = cells(alloc, rest)?;
-    let rest = expect_symbol(rest, Symbol::RightParen)?;
-    Ok((
-        Row {
-            first,
-            rest: others,
-        },
-        rest,
-    ))
-}
-
-/// Each row behind a comma.
-pub fn rows(alloc: Global, tokens: &[Token]) -> Result<(List<Row>, &[Token]), Unread>
-    ensures ok { IfOk result (λ p. Reads (AreMore IsRow) EndsList (said tokens.now) p.0 (said p.1.now)) }
-    ensures none { IfErr result (λ e. e ≢ unread.Memory → Never (AreMore IsRow) EndsList (said tokens.now)) }
-{
-    let mut found = Vec::new(alloc);
-    let mut rest = tokens;
-    while let Some(tail) = behind_symbol(rest, Symbol::Comma) {
-        let (next, after) = row(alloc, tail)?;
-        found.push(next)?;
-        rest = after;
-    }
-    Ok((List::from_vec(found), rest))
+    Ok(((first, others), rest))
 }
 
 /// The condition behind this word, where the word stands in front.

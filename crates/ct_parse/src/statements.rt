@@ -11,9 +11,10 @@ use crate::conditions::condition;
 use crate::error::Unread;
 use crate::front::{behind_word, expect_word, name};
 use crate::queries::query;
-use crate::rows::{columns, condition_behind, row, rows};
-use crate::tree::Statement;
+use crate::rows::{Part, condition_behind, in_parentheses, more};
+use crate::tree::{Row, Statement};
 use ct_lex::Token;
+use ct_word::Text;
 use std::alloc::Global;
 
 /// A statement that makes a table, behind CREATE.
@@ -23,7 +24,7 @@ fn create(alloc: Global, tokens: &[Token]) -> Result<(Statement, &[Token]), Unre
 {
     let tail = expect_word(tokens, "table")?;
     let (name, rest) = name(alloc, tail)?;
-    let ((first, others), rest) = columns(alloc, rest)?;
+    let ((first, others), rest) = in_parentheses::<Text>(alloc, rest)?;
     Ok((
         Statement::Create {
             name,
@@ -42,12 +43,32 @@ fn insert(alloc: Global, tokens: &[Token]) -> Result<(Statement, &[Token]), Unre
     let tail = expect_word(tokens, "into")?;
     let (name, rest) = name(alloc, tail)?;
     let Some(tail) = behind_word(rest, "values") else {
-        let (query, rest) = query(alloc, rest)?;
-        return Ok((Statement::InsertQuery { name, query }, rest));
+        return match query(alloc, rest) {
+            Ok((query, rest)) => Ok((Statement::InsertQuery { name, query }, rest)),
+            Err(unread) => {
+                drop(name);
+                Err(unread)
+            }
+        };
     };
-    let (first, rest) = row(alloc, tail)?;
-    let (others, rest) = rows(alloc, rest)?;
-    let (condition, rest) = condition_behind(alloc, rest, "if")?;
+    let (first, rest) = Row::read(alloc, tail)?;
+    let (others, rest) = match more::<Row>(alloc, rest) {
+        Ok(found) => found,
+        Err(unread) => {
+            drop(name);
+            drop(first);
+            return Err(unread);
+        }
+    };
+    let (condition, rest) = match condition_behind(alloc, rest, "if") {
+        Ok(found) => found,
+        Err(unread) => {
+            drop(name);
+            drop(first);
+            drop(others);
+            return Err(unread);
+        }
+    };
     Ok((
         Statement::InsertRows {
             name,
@@ -66,8 +87,13 @@ fn delete(alloc: Global, tokens: &[Token]) -> Result<(Statement, &[Token]), Unre
 {
     let tail = expect_word(tokens, "from")?;
     let (name, rest) = name(alloc, tail)?;
-    let (condition, rest) = condition_behind(alloc, rest, "where")?;
-    Ok((Statement::Delete { name, condition }, rest))
+    match condition_behind(alloc, rest, "where") {
+        Ok((condition, rest)) => Ok((Statement::Delete { name, condition }, rest)),
+        Err(unread) => {
+            drop(name);
+            Err(unread)
+        }
+    }
 }
 
 /// A statement of one word.

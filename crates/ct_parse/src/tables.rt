@@ -37,8 +37,13 @@ fn item(alloc: Global, tokens: &[Token]) -> Result<(Item, &[Token]), Unread>
     ensures none { IfErr result (λ e. e ≢ unread.Memory → Never IsItem EndsItem (said tokens.now)) }
 {
     let (column, rest) = column(alloc, tokens)?;
-    let (alias, rest) = name_behind_as(alloc, rest)?;
-    Ok((Item { column, alias }, rest))
+    match name_behind_as(alloc, rest) {
+        Ok((alias, rest)) => Ok((Item { column, alias }, rest)),
+        Err(unread) => {
+            drop(column);
+            Err(unread)
+        }
+    }
 }
 
 /// Each item behind a comma.
@@ -65,8 +70,13 @@ pub fn items(alloc: Global, tokens: &[Token]) -> Result<(Items, &[Token]), Unrea
         return Ok((Items::Star, rest));
     }
     let (first, rest) = item(alloc, tokens)?;
-    let (others, rest) = more_items(alloc, rest)?;
-    Ok((Items::Listed(first, others), rest))
+    match more_items(alloc, rest) {
+        Ok((others, rest)) => Ok((Items::Listed(first, others), rest)),
+        Err(unread) => {
+            drop(first);
+            Err(unread)
+        }
+    }
 }
 
 /// The alias in front, where it stands without AS.
@@ -109,8 +119,13 @@ fn table(alloc: Global, tokens: &[Token]) -> Result<(Table, &[Token]), Unread>
     ensures none { IfErr result (λ e. e ≢ unread.Memory → Never IsTable EndsTable (said tokens.now)) }
 {
     let (name, rest) = name(alloc, tokens)?;
-    let (alias, rest) = alias(alloc, rest)?;
-    Ok((Table { name, alias }, rest))
+    match alias(alloc, rest) {
+        Ok((alias, rest)) => Ok((Table { name, alias }, rest)),
+        Err(unread) => {
+            drop(name);
+            Err(unread)
+        }
+    }
 }
 
 /// A table, ON and its condition.
@@ -119,9 +134,17 @@ fn table_on(alloc: Global, tokens: &[Token]) -> Result<((Table, Condition), &[To
     ensures none { IfErr result (λ e. e ≢ unread.Memory → Never IsTableOn EndsCondition (said tokens.now)) }
 {
     let (table, rest) = table(alloc, tokens)?;
-    let tail = expect_word(rest, "on")?;
-    let (on, rest) = condition(alloc, tail)?;
-    Ok(((table, on), rest))
+    let Some(tail) = behind_word(rest, "on") else {
+        drop(table);
+        return Err(Unread::NotSpelled);
+    };
+    match condition(alloc, tail) {
+        Ok((on, rest)) => Ok(((table, on), rest)),
+        Err(unread) => {
+            drop(table);
+            Err(unread)
+        }
+    }
 }
 
 /// Whether a comma, JOIN or INNER stands in front.
@@ -188,8 +211,16 @@ pub fn tables(alloc: Global, tokens: &[Token]) -> Result<(Tables, &[Token]), Unr
     ensures none { IfErr result (λ e. e ≢ unread.Memory → Never AreTables EndsTables (said tokens.now)) }
 {
     let (first, rest) = table(alloc, tokens)?;
-    let (others, rest) = more_joined(alloc, rest)?;
+    let (others, rest) = match more_joined(alloc, rest) {
+        Ok(found) => found,
+        Err(unread) => {
+            drop(first);
+            return Err(unread);
+        }
+    };
     if others.len() > MORE_TABLES {
+        drop(first);
+        drop(others);
         return Err(Unread::NotSpelled);
     }
     Ok((

@@ -21,8 +21,13 @@ pub fn column(alloc: Global, tokens: &[Token]) -> Result<(Column, &[Token]), Unr
     let Some(tail) = behind_symbol(rest, Symbol::Dot) else {
         return Ok((Column::Plain(first), rest));
     };
-    let (second, rest) = name(alloc, tail)?;
-    Ok((Column::Qualified(first, second), rest))
+    match name(alloc, tail) {
+        Ok((second, rest)) => Ok((Column::Qualified(first, second), rest)),
+        Err(unread) => {
+            drop(first);
+            Err(unread)
+        }
+    }
 }
 
 /// A number, a text, a marked null or a column.

@@ -1,29 +1,27 @@
-use Rattle.std.proofs.Common.{sym, subst}
-use Rattle.ct_parse.{proofs.TermSteps.passed, proofs.Listed.{one_more, at_end, no_list, behind_reads, behind_never, both_read, no_first, no_second, SoFar}}
-use Rattle.ct_parse.proofs.ConditionSteps.{negation, nesting, ends_at_close, true_read, false_read, compared_read, no_left, no_sign, no_right, factors, no_and, conjunctions, no_or, conjunction_pair, condition_pair}
-use Rattle.ct_parse.{specs.Grammar.{said, IsFactor, IsConjunction, IsCondition, AreFactors, AreConjunctions}, specs.Ends.{EndsConjunction, EndsCondition}}
+use Rattle.std.proofs.Common.{subst}
+use Rattle.ct_parse.{proofs.TermSteps.passed, proofs.Listed.{one_more, at_end, no_list, behind_reads, behind_never, both_read, no_first, no_second}}
+use Rattle.ct_parse.proofs.ConditionSteps.{negation, nesting, ends_at_close, factors, no_and, conjunctions, no_or, conjunction_pair, condition_pair}
+use Rattle.ct_parse.{specs.Grammar.{IsFactor, IsConjunction, IsCondition}, specs.Ends.{EndsConjunction, EndsCondition}}
 use Rattle.ct_parse.proofs.Combined.{CLOSE, led_read, led_never, then_read, no_then, not_then}
 use Rattle.ct_parse.proofs.conditions.+condition.Goals as goal
 
 pub condition-returns-in_err-first-clause-none : goal.condition-returns-in_err-first-clause-none
 condition-returns-in_err-first-clause-none t c = passed _ c.from_residual.ensures.1 (λ memory. no_first condition_pair (c.in_err-first.ensures.none memory))
 
-pub condition-returns-in_err-others-clause-none : goal.condition-returns-in_err-others-clause-none
-condition-returns-in_err-others-clause-none t c =
-    passed _ c.from_residual-in_err-others.ensures.1 (λ memory. no_second condition_pair c.in_ok-first.ensures.ok (c.in_err-others.ensures.none memory))
+pub condition-returns-in-Ok-clause-ok : goal.condition-returns-in-Ok-clause-ok
+condition-returns-in-Ok-clause-ok t c = both_read condition_pair c.in_ok-first.ensures.ok c.in-Ok.ensures.ok
 
-pub condition-returns-clause-ok : goal.condition-returns-clause-ok
-condition-returns-clause-ok t c = both_read condition_pair c.in_ok-first.ensures.ok c.in_ok-others.ensures.ok
+pub condition-returns-in-Err-clause-none : goal.condition-returns-in-Err-clause-none
+condition-returns-in-Err-clause-none t c = λ memory. no_second condition_pair c.in_ok-first.ensures.ok (c.in-Err.ensures.none memory)
 
 pub conjunction-returns-in_err-first-clause-none : goal.conjunction-returns-in_err-first-clause-none
 conjunction-returns-in_err-first-clause-none t c = passed _ c.from_residual.ensures.1 (λ memory. no_first conjunction_pair (c.in_err-first.ensures.none memory))
 
-pub conjunction-returns-in_err-others-clause-none : goal.conjunction-returns-in_err-others-clause-none
-conjunction-returns-in_err-others-clause-none t c =
-    passed _ c.from_residual-in_err-others.ensures.1 (λ memory. no_second conjunction_pair c.in_ok-first.ensures.ok (c.in_err-others.ensures.none memory))
+pub conjunction-returns-in-Ok-clause-ok : goal.conjunction-returns-in-Ok-clause-ok
+conjunction-returns-in-Ok-clause-ok t c = both_read conjunction_pair c.in_ok-first.ensures.ok c.in-Ok.ensures.ok
 
-pub conjunction-returns-clause-ok : goal.conjunction-returns-clause-ok
-conjunction-returns-clause-ok t c = both_read conjunction_pair c.in_ok-first.ensures.ok c.in_ok-others.ensures.ok
+pub conjunction-returns-in-Err-clause-none : goal.conjunction-returns-in-Err-clause-none
+conjunction-returns-in-Err-clause-none t c = λ memory. no_second conjunction_pair c.in_ok-first.ensures.ok (c.in-Err.ensures.none memory)
 
 pub factor-returns-in_err-inner-clause-none : goal.factor-returns-in_err-inner-clause-none
 factor-returns-in_err-inner-clause-none t c = passed _ c.from_residual.ensures.1 (λ memory. led_never negation c.in-Some.ensures.some (c.in_err-inner.ensures.none memory))
@@ -36,39 +34,13 @@ pub factor-returns-in_err-inner-2-clause-none : goal.factor-returns-in_err-inner
 factor-returns-in_err-inner-2-clause-none t c =
     passed _ c.from_residual-in_err-inner-2.ensures.1 (λ memory. led_never nesting c.in-Some-behind_symbol.ensures.some (no_then IsCondition CLOSE ends_at_close (c.in_err-inner-2.ensures.none memory)))
 
-pub factor-returns-in_err-rest-clause-none : goal.factor-returns-in_err-rest-clause-none
-factor-returns-in_err-rest-clause-none t c =
-    passed _ c.from_residual-in_err-rest.ensures.1 (λ memory. led_never nesting c.in-Some-behind_symbol.ensures.some (not_then {X = IsCondition} CLOSE ends_at_close c.in_ok-inner-2.ensures.ok (c.in_err-rest.ensures.none memory)))
+pub factor-returns-in_err-nested-clause-none : goal.factor-returns-in_err-nested-clause-none
+factor-returns-in_err-nested-clause-none t c =
+    passed _ c.from_residual-in_err-nested.ensures.1 (λ memory. led_never nesting c.in-Some-behind_symbol.ensures.some (not_then {X = IsCondition} CLOSE ends_at_close c.in_ok-inner-2.ensures.ok (c.in_err-nested.ensures.none memory)))
 
 pub factor-returns-in-Some-behind_symbol-clause-ok : goal.factor-returns-in-Some-behind_symbol-clause-ok
 factor-returns-in-Some-behind_symbol-clause-ok t c =
-    rw c.in_ok-new-2.ensures (led_read nesting c.in-Some-behind_symbol.ensures.some (then_read CLOSE ends_at_close c.in_ok-inner-2.ensures.ok c.in_ok-rest.ensures.ok))
-
-pub factor-returns-in-Some-behind_word-clause-ok : goal.factor-returns-in-Some-behind_word-clause-ok
-factor-returns-in-Some-behind_word-clause-ok t c = true_read c.in-Some-behind_word.ensures.some
-
-pub factor-returns-in-Some-behind_word-2-clause-ok : goal.factor-returns-in-Some-behind_word-2-clause-ok
-factor-returns-in-Some-behind_word-2-clause-ok t c = false_read c.in-Some-behind_word-2.ensures.some
-
-pub factor-returns-in_err-left-clause-none : goal.factor-returns-in_err-left-clause-none
-factor-returns-in_err-left-clause-none t c =
-    passed _ c.from_residual-in_err-left.ensures.1 (λ memory. no_left (record {
-      not = c.in_default.ensures.none;
-      paren = c.in_default-behind_symbol.ensures.none;
-      true = c.in_default-behind_word.ensures.none;
-      false = c.in_default-behind_word-2.ensures.none;
-    }) (c.in_err-left.ensures.none memory))
-
-pub factor-returns-in_err-sign-clause-none : goal.factor-returns-in_err-sign-clause-none
-factor-returns-in_err-sign-clause-none t c =
-    passed _ c.from_residual-in_err-sign.ensures.1 (λ memory. no_sign c.in_ok-left.ensures.ok (c.in_err-sign.ensures.none memory))
-
-pub factor-returns-in_err-right-clause-none : goal.factor-returns-in_err-right-clause-none
-factor-returns-in_err-right-clause-none t c =
-    passed _ c.from_residual-in_err-right.ensures.1 (λ memory. no_right c.in_ok-left.ensures.ok c.in_ok-sign.ensures.ok (c.in_err-right.ensures.none memory))
-
-pub factor-returns-clause-ok : goal.factor-returns-clause-ok
-factor-returns-clause-ok t c = compared_read c.in_ok-left.ensures.ok c.in_ok-sign.ensures.ok c.in_ok-right.ensures.ok
+    rw c.in_ok-nested.ensures.ok (led_read nesting c.in-Some-behind_symbol.ensures.some (then_read CLOSE ends_at_close c.in_ok-inner-2.ensures.ok c.in_ok-nested.ensures.behind))
 
 pub factors-returns-in_err-next-clause-none : goal.factors-returns-in_err-next-clause-none
 factors-returns-in_err-next-clause-none t c =
@@ -76,9 +48,7 @@ factors-returns-in_err-next-clause-none t c =
     no_list factors c.loop-tail.invariant (λ e. (subst EndsConjunction c.in-Some.ensures.some e).0) (behind_never IsFactor c.in-Some.ensures.some (c.in_err-next.ensures.none memory)))
 
 pub factors-loop-tail-preserved : goal.factors-loop-tail-preserved
-factors-loop-tail-preserved t c =
-    subst (λ xs. SoFar EndsConjunction AreFactors (said c.args.tokens.now) (said c.in_ok-next.after.now) xs) (sym c.in_ok-push.ensures.items)
-    (one_more factors c.loop-tail.invariant (behind_reads c.in-Some.ensures.some c.in_ok-next.ensures.ok))
+factors-loop-tail-preserved t c = one_more factors c.loop-tail.invariant (behind_reads c.in-Some.ensures.some c.in_ok-next.ensures.ok) c.in_ok-push.ensures.items
 
 pub factors-returns-clause-ok : goal.factors-returns-clause-ok
 factors-returns-clause-ok t c =
@@ -90,9 +60,7 @@ conjunctions-returns-in_err-next-clause-none t c =
     no_list conjunctions c.loop-tail.invariant (λ e. (subst EndsCondition c.in-Some.ensures.some e).0) (behind_never IsConjunction c.in-Some.ensures.some (c.in_err-next.ensures.none memory)))
 
 pub conjunctions-loop-tail-preserved : goal.conjunctions-loop-tail-preserved
-conjunctions-loop-tail-preserved t c =
-    subst (λ xs. SoFar EndsCondition AreConjunctions (said c.args.tokens.now) (said c.in_ok-next.after.now) xs) (sym c.in_ok-push.ensures.items)
-    (one_more conjunctions c.loop-tail.invariant (behind_reads c.in-Some.ensures.some c.in_ok-next.ensures.ok))
+conjunctions-loop-tail-preserved t c = one_more conjunctions c.loop-tail.invariant (behind_reads c.in-Some.ensures.some c.in_ok-next.ensures.ok) c.in_ok-push.ensures.items
 
 pub conjunctions-returns-clause-ok : goal.conjunctions-returns-clause-ok
 conjunctions-returns-clause-ok t c =

@@ -1,26 +1,17 @@
-use Rattle.ct_parse.{proofs.TermSteps.passed, proofs.QuerySteps.{no_select, no_items, no_from, no_tables, no_where, select_read}}
+use Rattle.ct_parse.{proofs.TermSteps.passed, proofs.Listed.{both_read, no_first, no_second}, proofs.Combined.{led_read, led_never}}
+use Rattle.ct_parse.proofs.QuerySteps.{selecting, distinct_pair, shown_pair, no_select}
 use Rattle.ct_parse.proofs.queries.select.Goals as goal
 
 pub returns-in_err-tail-clause-none : goal.returns-in_err-tail-clause-none
-returns-in_err-tail-clause-none c = passed _ c.from_residual.ensures.1 (λ memory. no_select (c.in_err-tail.ensures.none memory))
+returns-in_err-tail-clause-none c = passed _ c.from_residual.ensures.1 (λ memory. no_select (c.in_err-tail.ensures.none memory) c.requires)
 
 pub returns-in_err-items-clause-none : goal.returns-in_err-items-clause-none
-returns-in_err-items-clause-none c = passed _ c.from_residual-in_err-items.ensures.1 (λ memory. no_items c.in_ok-tail.ensures.ok c.distinct-is_distinct.ensures (c.in_err-items.ensures.none memory))
+returns-in_err-items-clause-none c =
+    passed _ c.from_residual-in_err-items.ensures.1 (λ memory.
+    led_never selecting c.in_ok-tail.ensures.ok (no_second distinct_pair c.distinct-is_distinct.ensures (no_first shown_pair (c.in_err-items.ensures.none memory))))
 
-pub returns-in_err-behind-clause-none : goal.returns-in_err-behind-clause-none
-returns-in_err-behind-clause-none c =
-    passed _ c.from_residual-in_err-behind.ensures.1 (λ memory. no_from c.in_ok-tail.ensures.ok c.distinct-is_distinct.ensures c.in_ok-items.ensures.ok (c.in_err-behind.ensures.none memory))
-
-pub returns-in_err-tables-clause-none : goal.returns-in_err-tables-clause-none
-returns-in_err-tables-clause-none c =
-    passed _ c.from_residual-in_err-tables.ensures.1 (λ memory.
-    no_tables c.in_ok-tail.ensures.ok c.distinct-is_distinct.ensures c.in_ok-items.ensures.ok c.in_ok-behind.ensures.ok (c.in_err-tables.ensures.none memory))
-
-pub returns-in_err-condition-clause-none : goal.returns-in_err-condition-clause-none
-returns-in_err-condition-clause-none c =
-    passed _ c.from_residual-in_err-condition.ensures.1 (λ memory.
-    no_where c.in_ok-tail.ensures.ok c.distinct-is_distinct.ensures c.in_ok-items.ensures.ok c.in_ok-behind.ensures.ok c.in_ok-tables.ensures.ok (c.in_err-condition.ensures.none memory))
+pub returns-in-Err-clause-none : goal.returns-in-Err-clause-none
+returns-in-Err-clause-none c = λ memory. led_never selecting c.in_ok-tail.ensures.ok (no_second distinct_pair c.distinct-is_distinct.ensures (no_second shown_pair c.in_ok-items.ensures.ok (c.in-Err.ensures.none memory)))
 
 pub returns-clause-ok : goal.returns-clause-ok
-returns-clause-ok c =
-    select_read c.in_ok-tail.ensures.ok c.distinct-is_distinct.ensures c.in_ok-items.ensures.ok c.in_ok-behind.ensures.ok c.in_ok-tables.ensures.ok c.in_ok-condition.ensures.ok
+returns-clause-ok c = led_read selecting c.in_ok-tail.ensures.ok (both_read distinct_pair c.distinct-is_distinct.ensures (both_read shown_pair c.in_ok-items.ensures.ok c.in-Ok.ensures.ok))

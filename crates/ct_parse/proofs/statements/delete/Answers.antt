@@ -7,9 +7,8 @@ returns-in_err-tail-clause-none c = passed _ c.from_residual.ensures.1 (λ memor
 pub returns-in_err-name-clause-none : goal.returns-in_err-name-clause-none
 returns-in_err-name-clause-none c = passed _ c.from_residual-in_err-name.ensures.1 (λ memory. no_delete_name c.in_ok-tail.ensures.ok (c.in_err-name.ensures.none memory))
 
-pub returns-in_err-condition-clause-none : goal.returns-in_err-condition-clause-none
-returns-in_err-condition-clause-none c =
-    passed _ c.from_residual-in_err-condition.ensures.1 (λ memory. no_delete_condition c.in_ok-tail.ensures.ok c.in_ok-name.ensures.ok (c.in_err-condition.ensures.none memory))
+pub returns-in-Err-clause-none : goal.returns-in-Err-clause-none
+returns-in-Err-clause-none c = λ memory. no_delete_condition c.in_ok-tail.ensures.ok c.in_ok-name.ensures.ok (c.in-Err.ensures.none memory)
 
-pub returns-clause-ok : goal.returns-clause-ok
-returns-clause-ok c = delete_read c.in_ok-tail.ensures.ok c.in_ok-name.ensures.ok c.in_ok-condition.ensures.ok
+pub returns-in-Ok-clause-ok : goal.returns-in-Ok-clause-ok
+returns-in-Ok-clause-ok c = delete_read c.in_ok-tail.ensures.ok c.in_ok-name.ensures.ok c.in-Ok.ensures.ok

@@ -8,28 +8,23 @@ returns-in_err-tail-clause-none c = passed _ c.from_residual.ensures.1 (λ memor
 pub returns-in_err-name-clause-none : goal.returns-in_err-name-clause-none
 returns-in_err-name-clause-none c = passed _ c.from_residual-in_err-name.ensures.1 (λ memory. no_insert_name c.in_ok-tail.ensures.ok (c.in_err-name.ensures.none memory))
 
-pub returns-in_err-query-clause-none : goal.returns-in_err-query-clause-none
-returns-in_err-query-clause-none c =
-    passed _ c.from_residual-in_err-query.ensures.1 (λ memory.
-    no_inserted_query c.in_ok-tail.ensures.ok c.in_ok-name.ensures.ok c.in_default.ensures.none (c.in_err-query.ensures.none memory))
+pub returns-in-Err-clause-none : goal.returns-in-Err-clause-none
+returns-in-Err-clause-none c = λ memory. no_inserted_query c.in_ok-tail.ensures.ok c.in_ok-name.ensures.ok c.in_default.ensures.none (c.in-Err.ensures.none memory)
 
-pub returns-in_default-clause-ok : goal.returns-in_default-clause-ok
-returns-in_default-clause-ok c = insert_query_read c.in_ok-tail.ensures.ok c.in_ok-name.ensures.ok c.in_default.ensures.none c.in_ok-query.ensures.ok
+pub returns-in-Ok-clause-ok : goal.returns-in-Ok-clause-ok
+returns-in-Ok-clause-ok c = insert_query_read c.in_ok-tail.ensures.ok c.in_ok-name.ensures.ok c.in_default.ensures.none c.in-Ok.ensures.ok
 
 pub returns-in_err-first-clause-none : goal.returns-in_err-first-clause-none
 returns-in_err-first-clause-none c =
     passed _ c.from_residual-in_err-first.ensures.1 (λ memory. no_row c.in_ok-tail.ensures.ok c.in_ok-name.ensures.ok c.in-Some.ensures.some (c.in_err-first.ensures.none memory))
 
-pub returns-in_err-others-clause-none : goal.returns-in_err-others-clause-none
-returns-in_err-others-clause-none c =
-    passed _ c.from_residual-in_err-others.ensures.1 (λ memory.
-    no_more_rows c.in_ok-tail.ensures.ok c.in_ok-name.ensures.ok c.in-Some.ensures.some c.in_ok-first.ensures.ok (c.in_err-others.ensures.none memory))
+pub returns-in-Err-more-clause-none : goal.returns-in-Err-more-clause-none
+returns-in-Err-more-clause-none c = λ memory. no_more_rows c.in_ok-tail.ensures.ok c.in_ok-name.ensures.ok c.in-Some.ensures.some c.in_ok-first.ensures.ok (c.in-Err-more.ensures.none memory)
 
-pub returns-in_err-condition-clause-none : goal.returns-in_err-condition-clause-none
-returns-in_err-condition-clause-none c =
-    passed _ c.from_residual-in_err-condition.ensures.1 (λ memory.
-    no_if c.in_ok-tail.ensures.ok c.in_ok-name.ensures.ok c.in-Some.ensures.some c.in_ok-first.ensures.ok c.in_ok-others.ensures.ok (c.in_err-condition.ensures.none memory))
+pub returns-in-Err-condition_behind-clause-none : goal.returns-in-Err-condition_behind-clause-none
+returns-in-Err-condition_behind-clause-none c =
+    λ memory. no_if c.in_ok-tail.ensures.ok c.in_ok-name.ensures.ok c.in-Some.ensures.some c.in_ok-first.ensures.ok c.in-Ok-more.ensures.ok (c.in-Err-condition_behind.ensures.none memory)
 
 pub returns-clause-ok : goal.returns-clause-ok
 returns-clause-ok c =
-    insert_rows_read c.in_ok-tail.ensures.ok c.in_ok-name.ensures.ok c.in-Some.ensures.some c.in_ok-first.ensures.ok c.in_ok-others.ensures.ok c.in_ok-condition.ensures.ok
+    insert_rows_read c.in_ok-tail.ensures.ok c.in_ok-name.ensures.ok c.in-Some.ensures.some c.in_ok-first.ensures.ok c.in-Ok-more.ensures.ok c.in-Ok-condition_behind.ensures.ok

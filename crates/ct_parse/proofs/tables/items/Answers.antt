@@ -9,9 +9,8 @@ pub returns-in_err-first-clause-none : goal.returns-in_err-first-clause-none
 returns-in_err-first-clause-none c =
     passed _ c.from_residual.ensures.1 (λ memory. no_renamed (listed_is c.in_default.ensures.none) (no_first listed_pair (c.in_err-first.ensures.none memory)))
 
-pub returns-in_err-others-clause-none : goal.returns-in_err-others-clause-none
-returns-in_err-others-clause-none c =
-    passed _ c.from_residual-in_err-others.ensures.1 (λ memory. no_renamed (listed_is c.in_default.ensures.none) (no_second listed_pair c.in_ok-first.ensures.ok (c.in_err-others.ensures.none memory)))
+pub returns-in-Err-clause-none : goal.returns-in-Err-clause-none
+returns-in-Err-clause-none c = λ memory. no_renamed (listed_is c.in_default.ensures.none) (no_second listed_pair c.in_ok-first.ensures.ok (c.in-Err.ensures.none memory))
 
-pub returns-clause-ok : goal.returns-clause-ok
-returns-clause-ok c = renamed (listed_is c.in_default.ensures.none) (both_read listed_pair c.in_ok-first.ensures.ok c.in_ok-others.ensures.ok)
+pub returns-in-Ok-clause-ok : goal.returns-in-Ok-clause-ok
+returns-in-Ok-clause-ok c = renamed (listed_is c.in_default.ensures.none) (both_read listed_pair c.in_ok-first.ensures.ok c.in-Ok.ensures.ok)

@@ -1,6 +1,5 @@
 use Rattle.std.proofs.Common.{sym, subst}
-use Rattle.ct_parse.{specs.Grammar.{said, AreJoined}, specs.Ends.{Fails, EndsTables}, proofs.TermSteps.passed, proofs.Listed.{SoFar, one_more, at_end, no_list}}
-use Rattle.ct_parse.proofs.TableSteps.{joined_list, stands_joined}
+use Rattle.ct_parse.{specs.Ends.Fails, proofs.TermSteps.passed, proofs.Listed.{one_more, at_end, no_list}, proofs.TableSteps.{joined_list, stands_joined}}
 use Rattle.ct_parse.proofs.tables.more_joined.Goals as goal
 
 pub returns-in_err-next-clause-none : goal.returns-in_err-next-clause-none
@@ -8,9 +7,7 @@ returns-in_err-next-clause-none c =
     passed _ c.from_residual.ensures.1 (λ memory. no_list joined_list c.loop-alloc.invariant (λ e. subst Fails (sym c.loop-alloc-test.ensures) e.0) (c.in_err-next.ensures.none memory))
 
 pub loop-alloc-preserved : goal.loop-alloc-preserved
-loop-alloc-preserved c =
-    subst (λ xs. SoFar EndsTables AreJoined (said c.args.tokens.now) (said c.in_ok-next.after.now) xs) (sym c.in_ok-push.ensures.items)
-    (one_more joined_list c.loop-alloc.invariant c.in_ok-next.ensures.ok)
+loop-alloc-preserved c = one_more joined_list c.loop-alloc.invariant c.in_ok-next.ensures.ok c.in_ok-push.ensures.items
 
 pub returns-clause-ok : goal.returns-clause-ok
 returns-clause-ok c =

@@ -7,15 +7,11 @@ pub returns-in_err-table-clause-none : goal.returns-in_err-table-clause-none
 returns-in_err-table-clause-none c =
     passed _ c.from_residual.ensures.1 (λ memory. no_renamed (on_is _) (no_first on_pair (no_then IsTable ON ends_at_on (c.in_err-table.ensures.none memory))))
 
-pub returns-in_err-tail-clause-none : goal.returns-in_err-tail-clause-none
-returns-in_err-tail-clause-none c =
-    passed _ c.from_residual-in_err-tail.ensures.1 (λ memory.
-    no_renamed (on_is _) (no_first on_pair (not_then ON ends_at_on c.in_ok-table.ensures.ok (not_word (codes "on") (c.in_err-tail.ensures.none memory)))))
+pub returns-in_default-clause-none : goal.returns-in_default-clause-none
+returns-in_default-clause-none c = λ memory. no_renamed (on_is _) (no_first on_pair (not_then ON ends_at_on c.in_ok-table.ensures.ok (not_word (codes "on") c.in_default.ensures.none)))
 
-pub returns-in_err-on-clause-none : goal.returns-in_err-on-clause-none
-returns-in_err-on-clause-none c =
-    passed _ c.from_residual-in_err-on.ensures.1 (λ memory.
-    no_renamed (on_is _) (no_second on_pair (then_read ON ends_at_on c.in_ok-table.ensures.ok c.in_ok-tail.ensures.ok) (c.in_err-on.ensures.none memory)))
+pub returns-in-Err-clause-none : goal.returns-in-Err-clause-none
+returns-in-Err-clause-none c = λ memory. no_renamed (on_is _) (no_second on_pair (then_read ON ends_at_on c.in_ok-table.ensures.ok c.in-Some.ensures.some) (c.in-Err.ensures.none memory))
 
-pub returns-clause-ok : goal.returns-clause-ok
-returns-clause-ok c = renamed (on_is _) (both_read on_pair (then_read ON ends_at_on c.in_ok-table.ensures.ok c.in_ok-tail.ensures.ok) c.in_ok-on.ensures.ok)
+pub returns-in-Ok-clause-ok : goal.returns-in-Ok-clause-ok
+returns-in-Ok-clause-ok c = renamed (on_is _) (both_read on_pair (then_read ON ends_at_on c.in_ok-table.ensures.ok c.in-Some.ensures.some) c.in-Ok.ensures.ok)

@@ -1,6 +1,6 @@
 use Rattle.std.proofs.Common.{◌≡◌, rules, to_z, of_z, w64}
 use Rattle.ct_parse.proofs.RowSteps.{number_reads, text_reads, null_reads, new_null_reads}
-use Rattle.ct_parse.proofs.rows.cell.Goals as goal
+use Rattle.ct_parse.proofs.rows.CellPart.read.Goals as goal
 
 pub returns-in-Number-clause-ok : goal.returns-in-Number-clause-ok
 returns-in-Number-clause-ok c =
