@@ -1,6 +1,6 @@
 -- Items that are found one after another.
-use Rattle.std.{proofs.lemmas.List.drop_more, specs.Prelude.{Result, Ok, Err, IfErr, IsErrAnd}}
-use Rattle.std.proofs.Common.{◌≡◌, ◌≢◌, ◌+◌, ◌<◌, ℕ, length, drop, slice_index_or, List, [], ◌∷◌, ◌++◌, refl, ap, sym, ◌∙◌, subst}
+use Rattle.std.{proofs.lemmas.List.{drop_more, map_push}, specs.Prelude.{Result, Ok, Err, IfErr, IsErrAnd}}
+use Rattle.std.proofs.Common.{◌≡◌, ◌≢◌, ◌+◌, ◌<◌, ℕ, length, map, drop, slice_index_or, List, [], ◌∷◌, ◌++◌, refl, ap, sym, ◌∙◌, subst}
 use Rattle.ct_resolve.{specs.declared.error.ResolveError.ResolveError, specs.Found.{Found, and_then, in_front, each}}
 use Rattle.ct_resolve.specs.declared.error.ResolveError.TheVariants as fault
 
@@ -39,3 +39,15 @@ passed {found = found} (Err e) is h = subst (λ x. x ≢ fault.Memory → found 
 -- the item that a loop reads stands in front of what is left
 pub read_next : {A : Type 0} (xs : List A) (i : ℕ) (x : A) → i < length xs → x ≡ slice_index_or xs i x → drop i xs ≡ x ∷ drop (i + 1) xs
 read_next xs i x l e = drop_more xs i x l ∙ ap (λ y. y ∷ drop (i + 1) xs) (sym e)
+
+-- one more is found for the item that a loop reads
+pub next_found : {A B : Type 0} (f : A → Found B) (all : List A) (i : ℕ) (ys : List B) {x : A} {y : B} {new : List B} {r : Found (List B)} → i < length all → x ≡ slice_index_or all i x
+    → f x ≡ Ok y → new ≡ ys ++ y ∷ [] → behind ys (each f (drop i all)) ≡ r → behind new (each f (drop (i + 1) all)) ≡ r
+next_found f all i ys {x} {y} l is found put before =
+    ap (λ zs. behind zs (each f (drop (i + 1) all))) put ∙ one_more f ys x y (drop (i + 1) all) found
+    ∙ ap (λ xs. behind ys (each f xs)) (sym (read_next all i x l is)) ∙ before
+
+-- the same where the plain form of what is kept is found
+pub next_found_as : {A B C : Type 0} (f : A → Found B) (g : C → B) (all : List A) (i : ℕ) (ys : List C) {x : A} {y : C} {new : List C} {r : Found (List B)} → i < length all → x ≡ slice_index_or all i x
+    → f x ≡ Ok (g y) → new ≡ ys ++ y ∷ [] → behind (map g ys) (each f (drop i all)) ≡ r → behind (map g new) (each f (drop (i + 1) all)) ≡ r
+next_found_as f g all i ys {y = y} l is found put before = next_found f all i (map g ys) l is found (ap (map g) put ∙ map_push g ys y) before

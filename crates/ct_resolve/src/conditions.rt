@@ -1,6 +1,7 @@
 // Conditions with positions for the names of columns.
 
 ghost use Rattle.std.specs.Prelude.{◌≡◌, ◌≢◌, ◌∷◌, map, IfOk, IfErr, Ok, Err};
+ghost use Rattle.ct_word.specs.Condition.{Not};
 ghost use Rattle.ct_query.specs.Pred.{condition_of};
 ghost use Rattle.ct_parse.specs.declared.tree.Condition.{out-Condition};
 ghost use Rattle.ct_resolve.specs.Found.{each};
@@ -30,6 +31,17 @@ fn term(alloc: Global, scope: &[Heading], written: &ct_parse::Term) -> Result<Te
     }
 }
 
+/// That a predicate does not hold.
+///
+/// # Errors
+/// `Memory` where there is none for the box.
+fn negation(alloc: Global, pred: Pred) -> Result<Pred, ResolveError>
+    ensures ok { IfOk result (λ p. condition_of p ≡ Not (condition_of pred)) }
+    ensures err { IfErr result (λ e. e ≡ fault.Memory) }
+{
+    Ok(Pred::Not(Box::new(alloc, pred)?))
+}
+
 /// That two terms are equal, or that they are not.
 ///
 /// # Errors
@@ -41,8 +53,27 @@ fn compared(alloc: Global, sign: Comparison, left: Term, right: Term) -> Result<
     let same = Pred::Same(left, right);
     match sign {
         Comparison::Equal => Ok(same),
-        Comparison::Unequal => Ok(Pred::Not(Box::new(alloc, same)?)),
+        Comparison::Unequal => negation(alloc, same),
     }
+}
+
+/// A comparison, its left term first.
+///
+/// # Errors
+/// The first refusal of a column from the left; `Memory` where there is none for the predicate.
+fn comparison(
+    alloc: Global,
+    scope: &[Heading],
+    left: &ct_parse::Term,
+    sign: Comparison,
+    right: &ct_parse::Term,
+) -> Result<Pred, ResolveError>
+    ensures ok { IfOk result (λ p. spec.comparison_of sign (spec.term_at scope.now left.now) (spec.term_at scope.now right.now) ≡ Ok (condition_of p)) }
+    ensures err { IfErr result (λ e. e ≢ fault.Memory → spec.comparison_of sign (spec.term_at scope.now left.now) (spec.term_at scope.now right.now) ≡ Err e) }
+{
+    let left = term(alloc, scope, left)?;
+    let right = term(alloc, scope, right)?;
+    compared(alloc, sign, left, right)
 }
 
 /// A run of AND: one predicate stands alone, none is True. It takes no memory.
@@ -83,16 +114,12 @@ fn factor(alloc: Global, scope: &[Heading], written: &Factor) -> Result<Pred, Re
     match written {
         Factor::Not(inner) => {
             let inner = factor(alloc, scope, inner.get())?;
-            Ok(Pred::Not(Box::new(alloc, inner)?))
+            negation(alloc, inner)
         }
         Factor::Nested(inner) => condition(alloc, scope, inner.get()),
         Factor::True => Ok(Pred::True),
         Factor::False => Ok(Pred::False),
-        Factor::Compare(left, sign, right) => {
-            let left = term(alloc, scope, left)?;
-            let right = term(alloc, scope, right)?;
-            compared(alloc, *sign, left, right)
-        }
+        Factor::Compare(left, sign, right) => comparison(alloc, scope, left, *sign, right),
     }
 }
 
@@ -106,8 +133,8 @@ fn conjunction(
     ensures ok { IfOk result (λ p. spec.conjunction_at scope.now written.now ≡ Ok (condition_of p)) }
     ensures err { IfErr result (λ e. e ≢ fault.Memory → spec.conjunction_at scope.now written.now ≡ Err e) }
 {
-    let mut found = Vec::new(alloc);
     let first = factor(alloc, scope, &written.first)?;
+    let mut found = Vec::new(alloc);
     found.push(first)?;
     for next in written.rest.as_slice() {
         let pred = factor(alloc, scope, next)?;
@@ -126,8 +153,8 @@ fn conjunctions(
     ensures ok { IfOk result (λ v. each (spec.conjunction_at scope.now) ((out-Condition written.now).first ∷ (out-Condition written.now).rest) ≡ Ok (map condition_of v.items)) }
     ensures err { IfErr result (λ e. e ≢ fault.Memory → each (spec.conjunction_at scope.now) ((out-Condition written.now).first ∷ (out-Condition written.now).rest) ≡ Err e) }
 {
-    let mut found = Vec::new(alloc);
     let first = conjunction(alloc, scope, &written.first)?;
+    let mut found = Vec::new(alloc);
     found.push(first)?;
     for next in written.rest.as_slice() {
         let pred = conjunction(alloc, scope, next)?;

@@ -35,8 +35,13 @@ fn with_primary(
     ensures ok { IfOk result (λ n. spec.with_primary schema.now (named_of left) written.now ≡ Ok (named_of n)) }
     ensures err { IfErr result (λ e. e ≢ fault.Memory → spec.with_primary schema.now (named_of left) written.now ≡ Err e) }
 {
-    let right = primary(alloc, schema, written)?;
-    intersection(alloc, left, right)
+    match primary(alloc, schema, written) {
+        Ok(right) => intersection(alloc, left, right),
+        Err(refusal) => {
+            drop(left);
+            Err(refusal)
+        }
+    }
 }
 
 /// Primaries joined by INTERSECT, taken from the left.
@@ -64,8 +69,13 @@ fn with_term(
     ensures ok { IfOk result (λ n. spec.with_term schema.now (named_of left) written.now ≡ Ok (named_of n)) }
     ensures err { IfErr result (λ e. e ≢ fault.Memory → spec.with_term schema.now (named_of left) written.now ≡ Err e) }
 {
-    let right = query_term(alloc, schema, &written.1)?;
-    combination(alloc, written.0, left, right)
+    match query_term(alloc, schema, &written.1) {
+        Ok(right) => combination(alloc, written.0, left, right),
+        Err(refusal) => {
+            drop(left);
+            Err(refusal)
+        }
+    }
 }
 
 /// Terms joined by UNION and EXCEPT, taken from the left.

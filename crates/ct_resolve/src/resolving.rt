@@ -50,31 +50,23 @@ fn positioned(
     schema: &Schema,
     session: u32,
     fresh: u32,
-    statement: &Statement,
+    written: &Statement,
 ) -> Result<Resolved, ResolveError>
-    ensures ok { IfOk result (λ r. resolved schema.now session fresh statement.now ≡ Ok (statement_of r)) }
-    ensures room { IfOk result (λ r. HasRoom fresh statement.now) }
-    ensures err { IfErr result (λ e. e ≢ fault.Memory → resolved schema.now session fresh statement.now ≡ Err e) }
+    ensures ok { IfOk result (λ r. resolved schema.now session fresh written.now ≡ Ok (statement_of r)) }
+    ensures room { IfOk result (λ r. HasRoom fresh written.now) }
+    ensures err { IfErr result (λ e. e ≢ fault.Memory → resolved schema.now session fresh written.now ≡ Err e) }
 {
-    match statement {
-        Statement::Create { name, first, rest } => {
-            Ok(Resolved::Act(create(alloc, schema, name, first, rest)?))
-        }
+    match written {
+        Statement::Create { name, first, rest } => create(alloc, schema, name, first, rest),
         Statement::InsertRows {
             name,
             first,
             rest,
             condition,
-        } => Ok(Resolved::Act(insert_rows(
-            alloc, schema, session, fresh, name, first, rest, condition,
-        )?)),
-        Statement::InsertQuery { name, query } => {
-            Ok(Resolved::Act(insert_query(alloc, schema, name, query)?))
-        }
-        Statement::Delete { name, condition } => {
-            Ok(Resolved::Act(delete(alloc, schema, name, condition)?))
-        }
-        Statement::Assert(condition) => Ok(Resolved::Act(assertion(alloc, condition)?)),
+        } => insert_rows(alloc, schema, session, fresh, name, first, rest, condition),
+        Statement::InsertQuery { name, query } => insert_query(alloc, schema, name, query),
+        Statement::Delete { name, condition } => delete(alloc, schema, name, condition),
+        Statement::Assert(condition) => assertion(alloc, condition),
         Statement::Rows(query) => asked(alloc, schema, Ask::Rows, query),
         Statement::Possible(query) => asked(alloc, schema, Ask::Possible, query),
         Statement::Certain(query) => asked(alloc, schema, Ask::Certain, query),

@@ -42,8 +42,9 @@ pub fn listed(alloc: Global, first: &Text, rest: &[Text]) -> Result<Vec<Text>, R
     ensures ok { IfOk result (λ v. v.items ≡ first.now ∷ rest.now) }
     ensures err { IfErr result (λ e. e ≡ fault.Memory) }
 {
+    let one = first.clone()?;
     let mut all = Vec::new(alloc);
-    all.push(first.clone()?)?;
+    all.push(one)?;
     for name in rest {
         all.push(name.clone()?)?;
     }
@@ -93,9 +94,10 @@ fn row(
     ensures ok { IfOk result (λ p. (p.0 ≡ spec.cell_terms session start (spec.cells_of written.now)) × (p.1 ≡ spec.next_after_all start (spec.cells_of written.now))) }
     ensures err { IfErr result (λ e. e ≡ fault.Memory) }
 {
-    let mut terms = Vec::new(alloc);
-    terms.push(cell(session, start, &written.first)?)?;
     let mut next = number_after(start, &written.first)?;
+    let first = cell(session, start, &written.first)?;
+    let mut terms = Vec::new(alloc);
+    terms.push(first)?;
     for other in written.rest.as_slice() {
         terms.push(cell(session, next, other)?)?;
         next = number_after(next, other)?;
@@ -117,8 +119,8 @@ fn rows(
     ensures ok { IfOk result (λ p. (p.0 ≡ spec.row_terms session start (first.now ∷ rest.now)) × (p.1 ≡ spec.next_after_rows start (first.now ∷ rest.now))) }
     ensures err { IfErr result (λ e. e ≡ fault.Memory) }
 {
-    let mut found = Vec::new(alloc);
     let (terms, after) = row(alloc, session, start, first)?;
+    let mut found = Vec::new(alloc);
     found.push(terms)?;
     let mut next = after;
     for other in rest {
@@ -143,18 +145,12 @@ fn all_have_width(rows: &[Row], width: usize) -> bool
     rows.iter().all(|row| has_width(row, width))
 }
 
-/// Whether each row has so many cells.
-fn have_width(first: &Row, rest: &[Row], width: usize) -> bool
-    ensures { result ≡ list_all (λ w. nat_eq (length (spec.cells_of w)) width) (first.now ∷ rest.now) }
-{
-    has_width(first, width) && all_have_width(rest, width)
-}
-
 /// Whether each row has as many cells as a table has columns.
 pub fn all_fit(first: &Row, rest: &List<Row>, heading: &Heading) -> bool
     ensures { result ≡ list_all (λ w. nat_eq (length (spec.cells_of w)) (length heading.now.columns)) (first.now ∷ rest.now) }
 {
-    have_width(first, rest.as_slice(), heading.columns.len())
+    let width = heading.columns.len();
+    has_width(first, width) && all_have_width(rest.as_slice(), width)
 }
 
 /// The terms of rows, where `fresh` is the number of the session's last null.

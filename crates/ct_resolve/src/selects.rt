@@ -1,6 +1,6 @@
 // A SELECT, and two sides of a set operator.
 
-ghost use Rattle.std.specs.Prelude.{◌≡◌, ◌≢◌, map, IfOk, IfErr, Ok, Err};
+ghost use Rattle.std.specs.Prelude.{◌≡◌, ◌≢◌, map, length, nat_eq, true, false, IfOk, IfErr, Ok, Err, box_value};
 ghost use Rattle.ct_query.specs.Plain as plain;
 ghost use Rattle.ct_query.specs.Pred.{condition_of};
 ghost use Rattle.ct_query.specs.Views.{query_of};
@@ -12,8 +12,7 @@ ghost use Rattle.ct_resolve.specs.declared.error.ResolveError.TheVariants as fau
 
 use crate::conditions::{all_of, condition};
 use crate::error::ResolveError;
-use crate::rows::are_distinct;
-use crate::tables::{boxed, picked, product, scope_of, visible_names};
+use crate::tables::{are_seen_apart, boxed, picked, product, scope_of};
 use ct_parse::{Joined, Select, SetOperator};
 use ct_query::{Heading, Pred, Query};
 use ct_word::{List, Text};
@@ -65,17 +64,17 @@ fn conditions(alloc: Global, scope: &[Heading], select: &Select) -> Result<Vec<P
     Ok(found)
 }
 
-/// The rows of the tables of a SELECT that its conditions hold on.
+/// The rows of the tables of a SELECT that its conditions hold on, as a query in a box.
 ///
 /// # Errors
 /// The first refusal of the conditions; `Memory` where there is none for the query.
-fn selection(alloc: Global, scope: &[Heading], select: &Select) -> Result<Query, ResolveError>
-    ensures ok { IfOk result (λ q. and_then (all_found (each (condition_at scope.now) (spec.conditions_of select.now))) (λ c. Ok (plain.Select c (spec.product_of select.now.tables))) ≡ Ok (query_of q)) }
+fn selection(alloc: Global, scope: &[Heading], select: &Select) -> Result<Box<Query>, ResolveError>
+    ensures ok { IfOk result (λ q. and_then (all_found (each (condition_at scope.now) (spec.conditions_of select.now))) (λ c. Ok (plain.Select c (spec.product_of select.now.tables))) ≡ Ok (query_of (box_value q))) }
     ensures err { IfErr result (λ e. e ≢ fault.Memory → and_then (all_found (each (condition_at scope.now) (spec.conditions_of select.now))) (λ c. Ok (plain.Select c (spec.product_of select.now.tables))) ≡ Err e) }
 {
-    let pred = all_of(conditions(alloc, scope, select)?);
+    let conditions = conditions(alloc, scope, select)?;
     let product = product(alloc, &select.tables)?;
-    Ok(Query::Select(pred, Box::new(alloc, product)?))
+    Ok(Box::new(alloc, Query::Select(all_of(conditions), product))?)
 }
 
 /// A SELECT whose tables are in scope.
@@ -88,7 +87,7 @@ fn selected(alloc: Global, scope: &[Heading], select: &Select) -> Result<Named, 
     ensures err { IfErr result (λ e. e ≢ fault.Memory → spec.selected scope.now select.now ≡ Err e) }
 {
     let picked = picked(alloc, scope, &select.items)?;
-    let selection = Box::new(alloc, selection(alloc, scope, select)?)?;
+    let selection = selection(alloc, scope, select)?;
     let (positions, columns) = unzipped(alloc, picked.as_slice())?;
     Ok(Named {
         columns,
@@ -107,11 +106,36 @@ pub fn select(alloc: Global, schema: &[Heading], written: &Select) -> Result<Nam
     ensures err { IfErr result (λ e. e ≢ fault.Memory → spec.select_at schema.now written.now ≡ Err e) }
 {
     let scope = scope_of(alloc, schema, &written.tables)?;
-    let names = visible_names(alloc, &written.tables)?;
-    if !are_distinct(alloc, names.as_slice())? {
+    if !are_seen_apart(alloc, &written.tables)? {
         return Err(ResolveError::DuplicateName);
     }
     selected(alloc, scope.as_slice(), written)
+}
+
+/// The columns of the left of two sides of a set operator, and both queries, each in a box.
+///
+/// # Errors
+/// `ColumnCount` where they have different numbers of columns; `Memory` where there is none for the
+/// boxes.
+fn sides(
+    alloc: Global,
+    left: Named,
+    right: Named,
+) -> Result<(List<Text>, (Box<Query>, Box<Query>)), ResolveError>
+    ensures equal { IfOk result (λ s. nat_eq (length left.columns) (length right.columns) ≡ true) }
+    ensures columns { IfOk result (λ s. s.0 ≡ left.columns) }
+    ensures left { IfOk result (λ s. box_value s.1.0 ≡ left.query) }
+    ensures right { IfOk result (λ s. box_value s.1.1 ≡ right.query) }
+    ensures unequal { IfErr result (λ e. e ≢ fault.Memory → nat_eq (length left.columns) (length right.columns) ≡ false) }
+    ensures err { IfErr result (λ e. e ≢ fault.Memory → e ≡ fault.ColumnCount) }
+{
+    if left.columns.len() != right.columns.len() {
+        drop(left);
+        drop(right);
+        return Err(ResolveError::ColumnCount);
+    }
+    let queries = boxed(alloc, left.query, right.query)?;
+    Ok((left.columns, queries))
 }
 
 /// Two sides of INTERSECT.
@@ -123,12 +147,9 @@ pub fn intersection(alloc: Global, left: Named, right: Named) -> Result<Named, R
     ensures ok { IfOk result (λ n. spec.sides (λ l r. plain.Intersect l r) (named_of left) (named_of right) ≡ Ok (named_of n)) }
     ensures err { IfErr result (λ e. e ≢ fault.Memory → spec.sides (λ l r. plain.Intersect l r) (named_of left) (named_of right) ≡ Err e) }
 {
-    if left.columns.len() != right.columns.len() {
-        return Err(ResolveError::ColumnCount);
-    }
-    let (first, second) = boxed(alloc, left.query, right.query)?;
+    let (columns, (first, second)) = sides(alloc, left, right)?;
     Ok(Named {
-        columns: left.columns,
+        columns,
         query: Query::Intersect(first, second),
     })
 }
@@ -147,16 +168,10 @@ pub fn combination(
     ensures ok { IfOk result (λ n. spec.sides (spec.operation operator) (named_of left) (named_of right) ≡ Ok (named_of n)) }
     ensures err { IfErr result (λ e. e ≢ fault.Memory → spec.sides (spec.operation operator) (named_of left) (named_of right) ≡ Err e) }
 {
-    if left.columns.len() != right.columns.len() {
-        return Err(ResolveError::ColumnCount);
-    }
-    let (first, second) = boxed(alloc, left.query, right.query)?;
+    let (columns, (first, second)) = sides(alloc, left, right)?;
     let query = match operator {
         SetOperator::Union => Query::Union(first, second),
         SetOperator::Except => Query::Except(first, second),
     };
-    Ok(Named {
-        columns: left.columns,
-        query,
-    })
+    Ok(Named { columns, query })
 }

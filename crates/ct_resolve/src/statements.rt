@@ -2,7 +2,7 @@
 
 ghost use Rattle.std.specs.Prelude.{◌≡◌, ◌≢◌, ◌+◌, ◌≤◌, ◌^◌, [], ◌∷◌, IfOk, IfErr, Ok, Err};
 ghost use Rattle.ct_query.specs.Pred.{condition_of};
-ghost use Rattle.ct_query.specs.Views.{action_of};
+ghost use Rattle.ct_query.specs.Views.{statement_of};
 ghost use Rattle.ct_query.specs.Plain as plain;
 ghost use Rattle.ct_parse.specs.declared.tree.Statement.TheVariants as tree;
 ghost use Rattle.ct_resolve.specs.Conditions.{condition_at, condition_or_true};
@@ -17,7 +17,7 @@ use crate::queries::query;
 use crate::rows::{all_fit, are_distinct, listed, terms_of_rows};
 use crate::selects::Named;
 use ct_parse::{Condition, Query, Row};
-use ct_query::{Action, Heading, Pred, Schema};
+use ct_query::{Action, Heading, Pred, Resolved, Schema};
 use ct_word::{List, Text};
 use std::alloc::Global;
 
@@ -50,8 +50,8 @@ pub fn create(
     name: &Text,
     first: &Text,
     rest: &List<Text>,
-) -> Result<Action, ResolveError>
-    ensures ok { IfOk result (λ a. resolved schema.now 0 0 (tree.Create name.now first.now rest.now) ≡ Ok (plain.Act (action_of a))) }
+) -> Result<Resolved, ResolveError>
+    ensures ok { IfOk result (λ r. resolved schema.now 0 0 (tree.Create name.now first.now rest.now) ≡ Ok (statement_of r)) }
     ensures err { IfErr result (λ e. e ≢ fault.Memory → resolved schema.now 0 0 (tree.Create name.now first.now rest.now) ≡ Err e) }
 {
     if is_named(schema.tables.as_slice(), name.as_str()) {
@@ -61,10 +61,9 @@ pub fn create(
     if !are_distinct(alloc, columns.as_slice())? {
         return Err(ResolveError::DuplicateName);
     }
-    Ok(Action::Create {
-        name: name.clone()?,
-        columns: List::from_vec(columns),
-    })
+    let name = name.clone()?;
+    let columns = List::from_vec(columns);
+    Ok(Resolved::Act(Action::Create { name, columns }))
 }
 
 /// Rows that are added to a table where a condition holds; `fresh` is the number of the session's
@@ -83,22 +82,22 @@ pub fn insert_rows(
     first: &Row,
     rest: &List<Row>,
     written: &Option<Condition>,
-) -> Result<Action, ResolveError>
-    ensures ok { IfOk result (λ a. resolved schema.now session fresh (tree.InsertRows name.now first.now rest.now written.now) ≡ Ok (plain.Act (action_of a))) }
-    ensures room { IfOk result (λ a. next_after_rows (fresh + 1) (first.now ∷ rest.now) ≤ 2 ^ 28) }
+) -> Result<Resolved, ResolveError>
+    ensures ok { IfOk result (λ r. resolved schema.now session fresh (tree.InsertRows name.now first.now rest.now written.now) ≡ Ok (statement_of r)) }
+    ensures room { IfOk result (λ r. next_after_rows (fresh + 1) (first.now ∷ rest.now) ≤ 2 ^ 28) }
     ensures err { IfErr result (λ e. e ≢ fault.Memory → resolved schema.now session fresh (tree.InsertRows name.now first.now rest.now written.now) ≡ Err e) }
 {
     let heading = table_named(schema.tables.as_slice(), name.as_str())?;
     if !all_fit(first, rest, heading) {
         return Err(ResolveError::ColumnCount);
     }
+    let name = name.clone()?;
     let pred = condition_or_default(alloc, &[], written)?;
-    let rows = terms_of_rows(alloc, session, fresh, first, rest)?;
-    Ok(Action::InsertRows {
-        name: name.clone()?,
-        rows,
-        pred,
-    })
+    let Ok(rows) = terms_of_rows(alloc, session, fresh, first, rest) else {
+        drop(pred);
+        return Err(ResolveError::Memory);
+    };
+    Ok(Resolved::Act(Action::InsertRows { name, rows, pred }))
 }
 
 /// The removal of the rows of a table where a condition holds.
@@ -111,28 +110,26 @@ pub fn delete(
     schema: &Schema,
     name: &Text,
     written: &Option<Condition>,
-) -> Result<Action, ResolveError>
-    ensures ok { IfOk result (λ a. resolved schema.now 0 0 (tree.Delete name.now written.now) ≡ Ok (plain.Act (action_of a))) }
+) -> Result<Resolved, ResolveError>
+    ensures ok { IfOk result (λ r. resolved schema.now 0 0 (tree.Delete name.now written.now) ≡ Ok (statement_of r)) }
     ensures err { IfErr result (λ e. e ≢ fault.Memory → resolved schema.now 0 0 (tree.Delete name.now written.now) ≡ Err e) }
 {
     let heading = table_named(schema.tables.as_slice(), name.as_str())?;
+    let name = name.clone()?;
     let pred = condition_or_default(alloc, std::slice::from_ref(heading), written)?;
-    Ok(Action::Delete {
-        name: name.clone()?,
-        pred,
-    })
+    Ok(Resolved::Act(Action::Delete { name, pred }))
 }
 
 /// That a condition, which sees no table, holds.
 ///
 /// # Errors
 /// `UnknownColumn` where it has a column; `Memory` where there is none for the predicate.
-pub fn assertion(alloc: Global, written: &Condition) -> Result<Action, ResolveError>
-    ensures ok { IfOk result (λ a. and_then (condition_at [] written.now) (λ d. Ok (plain.Act (plain.Assert d))) ≡ Ok (plain.Act (action_of a))) }
+pub fn assertion(alloc: Global, written: &Condition) -> Result<Resolved, ResolveError>
+    ensures ok { IfOk result (λ r. and_then (condition_at [] written.now) (λ d. Ok (plain.Act (plain.Assert d))) ≡ Ok (statement_of r)) }
     ensures err { IfErr result (λ e. e ≢ fault.Memory → and_then (condition_at [] written.now) (λ d. Ok (plain.Act (plain.Assert d))) ≡ Err e) }
 {
     let pred = condition(alloc, &[], written)?;
-    Ok(Action::Assert { pred })
+    Ok(Resolved::Act(Action::Assert { pred }))
 }
 
 /// The rows of a query that are added to a table.
@@ -145,18 +142,16 @@ pub fn insert_query(
     schema: &Schema,
     name: &Text,
     written: &Query,
-) -> Result<Action, ResolveError>
-    ensures ok { IfOk result (λ a. resolved schema.now 0 0 (tree.InsertQuery name.now written.now) ≡ Ok (plain.Act (action_of a))) }
+) -> Result<Resolved, ResolveError>
+    ensures ok { IfOk result (λ r. resolved schema.now 0 0 (tree.InsertQuery name.now written.now) ≡ Ok (statement_of r)) }
     ensures err { IfErr result (λ e. e ≢ fault.Memory → resolved schema.now 0 0 (tree.InsertQuery name.now written.now) ≡ Err e) }
 {
     let heading = table_named(schema.tables.as_slice(), name.as_str())?;
+    let name = name.clone()?;
     let Named { columns, query } = query(alloc, schema.tables.as_slice(), written)?;
     if columns.len() != heading.columns.len() {
+        drop(query);
         return Err(ResolveError::ColumnCount);
     }
-    drop(columns);
-    Ok(Action::InsertQuery {
-        name: name.clone()?,
-        query,
-    })
+    Ok(Resolved::Act(Action::InsertQuery { name, query }))
 }

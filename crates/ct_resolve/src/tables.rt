@@ -1,6 +1,7 @@
 // The tables of a FROM, and what a SELECT picks of their columns.
 
 ghost use Rattle.std.specs.Prelude.{◌≡◌, ◌≢◌, ◌+◌, ◌++◌, ◌∷◌, map, length, IfOk, IfErr, OnOk, Ok, Err, box_value};
+ghost use Rattle.ct_query.specs.Plain as plain;
 ghost use Rattle.ct_query.specs.Views.{query_of};
 ghost use Rattle.ct_resolve.specs.Found.{each};
 ghost use Rattle.ct_resolve.specs.Names as naming;
@@ -9,6 +10,7 @@ ghost use Rattle.ct_resolve.specs.declared.error.ResolveError.TheVariants as fau
 
 use crate::error::ResolveError;
 use crate::names::{column_position, further, table_named};
+use crate::rows::are_distinct;
 use ct_parse::{Column, Item, Items, Joined, Table, Tables};
 use ct_query::{Heading, Query};
 use ct_word::Text;
@@ -69,8 +71,8 @@ pub fn scope_of(
     ensures ok { IfOk result (λ v. each (spec.seen_table schema.now) (spec.tables_of tables.now) ≡ Ok v.items) }
     ensures err { IfErr result (λ e. e ≢ fault.Memory → each (spec.seen_table schema.now) (spec.tables_of tables.now) ≡ Err e) }
 {
-    let mut found = Vec::new(alloc);
     let first = seen_table(alloc, schema, &tables.first)?;
+    let mut found = Vec::new(alloc);
     found.push(first)?;
     for joined in tables.rest.as_slice() {
         let heading = seen_joined(alloc, schema, joined)?;
@@ -83,16 +85,29 @@ pub fn scope_of(
 ///
 /// # Errors
 /// `Memory` where there is none for the copies.
-pub fn visible_names(alloc: Global, tables: &Tables) -> Result<Vec<Text>, ResolveError>
+fn visible_names(alloc: Global, tables: &Tables) -> Result<Vec<Text>, ResolveError>
     ensures ok { IfOk result (λ v. v.items ≡ map spec.visible (spec.tables_of tables.now)) }
     ensures err { IfErr result (λ e. e ≡ fault.Memory) }
 {
+    let first = visible_name(&tables.first).clone()?;
     let mut names = Vec::new(alloc);
-    names.push(visible_name(&tables.first).clone()?)?;
+    names.push(first)?;
     for joined in tables.rest.as_slice() {
         names.push(visible_name(table_of(joined)).clone()?)?;
     }
     Ok(names)
+}
+
+/// Whether the tables of a FROM are seen under different names.
+///
+/// # Errors
+/// `Memory` where there is none for the copies.
+pub fn are_seen_apart(alloc: Global, tables: &Tables) -> Result<bool, ResolveError>
+    ensures ok { IfOk result (λ b. b ≡ naming.are_distinct (map spec.visible (spec.tables_of tables.now))) }
+    ensures err { IfErr result (λ e. e ≡ fault.Memory) }
+{
+    let names = visible_names(alloc, tables)?;
+    are_distinct(alloc, names.as_slice())
 }
 
 /// Two queries, each in a box.
@@ -107,21 +122,35 @@ pub fn boxed(
     Ok((first, Box::new(alloc, right)?))
 }
 
-/// The product of the tables of a FROM, taken from the left.
+/// The product of a query and one more table.
+///
+/// # Errors
+/// `Memory` where there is none for it.
+fn with_table(alloc: Global, query: Query, table: &Table) -> Result<Query, ResolveError>
+    ensures ok { IfOk result (λ q. query_of q ≡ plain.Product (query_of query) (plain.Table table.now.name)) }
+    ensures err { IfErr result (λ e. e ≡ fault.Memory) }
+{
+    let Ok(name) = table.name.clone() else {
+        drop(query);
+        return Err(ResolveError::Memory);
+    };
+    let (first, second) = boxed(alloc, query, Query::Table(name))?;
+    Ok(Query::Product(first, second))
+}
+
+/// The product of the tables of a FROM, taken from the left, in a box.
 ///
 /// # Errors
 /// `Memory` where there is none for the query.
-pub fn product(alloc: Global, tables: &Tables) -> Result<Query, ResolveError>
-    ensures ok { IfOk result (λ q. query_of q ≡ spec.product_of tables.now) }
+pub fn product(alloc: Global, tables: &Tables) -> Result<Box<Query>, ResolveError>
+    ensures ok { IfOk result (λ q. query_of (box_value q) ≡ spec.product_of tables.now) }
     ensures err { IfErr result (λ e. e ≡ fault.Memory) }
 {
     let mut query = Query::Table(tables.first.name.clone()?);
     for joined in tables.rest.as_slice() {
-        let right = Query::Table(table_of(joined).name.clone()?);
-        let (first, second) = boxed(alloc, query, right)?;
-        query = Query::Product(first, second);
+        query = with_table(alloc, query, table_of(joined))?;
     }
-    Ok(query)
+    Ok(Box::new(alloc, query)?)
 }
 
 /// Adds the names of a table's columns with the positions from `start` on. The position after them
@@ -196,8 +225,8 @@ fn picked_items(
     ensures ok { IfOk result (λ v. each (spec.item_at scope.now) (first.now ∷ rest.now) ≡ Ok v.items) }
     ensures err { IfErr result (λ e. e ≢ fault.Memory → each (spec.item_at scope.now) (first.now ∷ rest.now) ≡ Err e) }
 {
-    let mut picked = Vec::new(alloc);
     let one = picked_item(scope, first)?;
+    let mut picked = Vec::new(alloc);
     picked.push(one)?;
     for item in rest {
         let one = picked_item(scope, item)?;

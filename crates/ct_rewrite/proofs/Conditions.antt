@@ -1,10 +1,10 @@
 -- What the positions of conditions stand for.
-use Rattle.std.{proofs.Common.{◌≡◌, ℕ, ◌≤◌, List, [], ◌∷◌, length, map, refl, ap, sym, subst, arith}, specs.Prelude.IsTrue, specs.BTreeMap.BTreeMap}
+use Rattle.std.{proofs.Common.{◌≡◌, ℕ, ◌≤◌, Bool, List, [], ◌∷◌, length, map, refl, ap, sym, subst, arith}, specs.Prelude.IsTrue, specs.BTreeMap.BTreeMap}
 use Rattle.std.{specs.List.{AllByRecursion, list_all, AllZip}, proofs.lemmas.Bool.{and_from, lt-ltb}}
 use Rattle.ct_word.{specs.declared.values.Term.Term, specs.Condition.{Condition, SameTruth}, specs.Reading.condition_at}
 use Rattle.ct_rewrite.{specs.declared.answer.Node.Node, specs.declared.forms.Form.Form, specs.Nodes.{node_condition, is_position}, specs.Moving.IsKept}
 use Rattle.ct_rewrite.{specs.Building.Says, specs.Below.HasAt, specs.Signs.{IsFormAt, plus_of, plus_at}, proofs.Sizes.{nest_lower, text_shorter}}
-use Rattle.ct_rewrite.specs.Sizes.{Fits, NoneIsEmpty, deep, nest_of, text_of, wide}
+use Rattle.ct_rewrite.{proofs.Closing.there_have, specs.Sizes.{Fits, NoneIsEmpty, deep, nest_of, text_of, wide}}
 
 -- a position says a condition and keeps to its bounds
 record Stands (ns : List Node) (k : ℕ) (c : Condition) : Type 0 where
@@ -41,12 +41,12 @@ stand_placed ws ns [] (p ∷ ps) h = absurd h
 stand_placed ws ns (k ∷ ks) [] h = absurd h
 stand_placed ws ns (k ∷ ks) (p ∷ ps) h = and_from _ _ (lt-ltb k (length ns) h.0.says.within) (stand_placed ws ns ks ps h.1)
 
-module _ (ws : List ℕ) (ns read : List Node) (fs : BTreeMap ℕ Form) (roots ks : List ℕ)
-    (have : AllByRecursion (HasAt (IsFormAt ws ns) fs) roots) (seen : read ≡ ns) (found : ks ≡ map (plus_at fs) roots) where
+module _ (ws : List ℕ) (ns read : List Node) (fs : BTreeMap ℕ Form) (there : ℕ → Bool) (roots ks : List ℕ) (forms : (k : ℕ) → IsTrue (there k) → HasAt (IsFormAt ws ns) fs k)
+    (led : IsTrue (list_all there roots)) (seen : read ≡ ns) (found : ks ≡ map (plus_at fs) roots) where
   all_stand : AllZip (λ k p. Stands read k (condition_at ws p)) ks roots
   all_stand =
       subst (λ (xs : List ℕ). AllZip (λ k p. Stands read k (condition_at ws p)) xs roots) (sym found)
-      (subst (λ (xs : List Node). AllZip (λ k p. Stands xs k (condition_at ws p)) (map (plus_at fs) roots) roots) (sym seen) (roots_stand ws ns fs roots have))
+      (subst (λ (xs : List Node). AllZip (λ k p. Stands xs k (condition_at ws p)) (map (plus_at fs) roots) roots) (sym seen) (roots_stand ws ns fs roots (there_have (IsFormAt ws ns) fs there forms roots led)))
 
   pub roots_placed : IsTrue (list_all (is_position read) ks)
   roots_placed = stand_placed ws read ks roots all_stand

@@ -11,5 +11,6 @@ pub mod Distinct
 pub mod Moving
 pub mod Sides
 pub mod Rules
+pub mod Brought
 pub mod Literals
 pub mod AllTrue

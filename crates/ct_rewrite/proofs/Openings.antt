@@ -78,6 +78,18 @@ inserted_child ks i c test =
     move true false false = refl
     move false x b = refl
 
+-- one child more of the second list
+pub members_more : (all old ks ls : List ℕ) (i d : ℕ) → i < length ls → HasMembersOf old ks (take i ls) → HasMembersOf all old (get_or ls i d ∷ []) → HasMembersOf all ks (take (i + 1) ls)
+members_more all old ks ls i d lt before now test =
+    now test ∙ ap (λ b. b && (test (get_or ls i d) && true)) (before test) ∙ move (list_all test ks) (list_all test (take i ls)) (test (get_or ls i d))
+    ∙ ap (λ b. list_all test ks && b) (sym (list_all_more test ls i d lt))
+  where
+    move : (a b x : Bool) → ((a && b) && (x && true)) ≡ (a && (b && x))
+    move true true true = refl
+    move true true false = refl
+    move true false x = refl
+    move false b x = refl
+
 -- one child of one list, one of another: never both open
 pub child_settles : (j : Connective) (ns : List Node) (ks : List ℕ) (i d c : ℕ) (a b : Node) → i < length ks
     → node_condition ns (get_or ks i d) ≡ node_value ns a → node_condition ns c ≡ node_value ns b → NeverBothOpen j a b → Settle j ns ks (c ∷ [])

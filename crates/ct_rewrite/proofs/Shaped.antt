@@ -1,10 +1,10 @@
 -- What the words of conditions stand for.
-use Rattle.std.{proofs.Common.{◌≡◌, ℕ, ◌<◌, List, [], ◌∷◌, length, nat_lt, Some, None, refl, ap, arith}, specs.Prelude.{IsTrue, slice_get, Option}}
-use Rattle.std.{specs.List.{AllByRecursion, list_all}, proofs.lemmas.Bool.{false≢true, and_from, lt-ltb}}
+use Rattle.std.{proofs.Common.{◌≡◌, ℕ, ◌<◌, List, [], ◌∷◌, length, nat_lt, Some, None, refl, ap, sym, subst, ◌∙◌, arith}, specs.List.{AllByRecursion, list_all}}
+use Rattle.std.{specs.Prelude.{IsTrue, slice_get, Option}, proofs.lemmas.Bool.{false≢true, and_from, lt-ltb}}
 use Rattle.ct_word.{specs.declared.kinds.Kind.Kind, specs.Word.{kind_of, left_of, right_of}, specs.Reading.as_cond, specs.WordAt.IsWordAt}
 use Rattle.ct_word.{specs.WellFormed.{IsWellFormed, is_place_of, is_word_of, has_class, same_class, class_of}, proofs.Growth.place_within}
 use Rattle.ct_word.proofs.WordAt.{word_is}
-use Rattle.ct_rewrite.{specs.Shape.{shape_of, shape_of_word, shape_at, parts_at, IsEarlier, IsShaped}, specs.Below.IsDownward}
+use Rattle.ct_rewrite.{specs.declared.shape.Shape.Shape, specs.Shape.{shape_of, shape_of_word, shape_at, parts_at, IsEarlier, IsShaped}, specs.Below.IsDownward}
 use Rattle.ct_word.specs.declared.kinds.Kind.TheVariants as kind
 use Rattle.ct_word.specs.declared.kinds.Class.TheVariants as class
 
@@ -33,6 +33,10 @@ module _ (ws : List ℕ) (p : ℕ) where
     by : (o : Option ℕ) → slice_get ws p ≡ o → IsTrue (is_word_of o class.Cond) → IsShaped ws p (shape_of_word o)
     by (Some w) e of = by_word formed w (kind_of w) e refl of
     by None e of = absurd (false≢true of)
+
+  -- the same of what was read there, by its case
+  pub shaped_as : {read s : Shape} → IsWellFormed ws → IsTrue (is_place_of ws class.Cond p) → read ≡ shape_at ws p → read ≡ s → IsShaped ws p s
+  shaped_as formed placed e f = subst (IsShaped ws p) (sym e ∙ f) (shaped formed placed)
 
   -- the conditions that it names stand below it
   pub named_below : (ks : List ℕ) → AllByRecursion (IsEarlier ws p) ks → IsTrue (list_all (λ k. nat_lt k p) ks)

@@ -1,13 +1,21 @@
 -- What the forms of conditions say.
 use Rattle.std.proofs.Common.{◌≡◌, ℕ, ◌<◌, Bool, true, false, not, List, ◌++◌, length, refl, ap, sym, ◌∙◌, subst, arith, length-append}
-use Rattle.ct_word.{specs.declared.values.Value.Value, specs.declared.values.Term.Term, specs.Value.World, specs.declared.connectives.Connective.Connective}
-use Rattle.ct_word.{specs.Condition.{Condition, Same, Not, holds, SameTruth}, specs.Connective.{joined, join, dual}, proofs.Joins.{joined_holds, denied_join}}
+use Rattle.std.proofs.lemmas.List.{append_assoc}
+use Rattle.ct_word.{specs.declared.values.Value.Value, specs.Value.World, specs.declared.connectives.Connective.Connective}
+use Rattle.ct_word.{specs.Condition.{Condition, Not, holds, SameTruth}, specs.Connective.{joined, join, dual}, proofs.Joins.{joined_holds, denied_join}}
 use Rattle.ct_rewrite.{specs.declared.answer.Node.Node, specs.declared.forms.Form.Form, specs.Nodes.node_condition, specs.Building.{Grows, Says, literal}}
 use Rattle.ct_rewrite.{specs.Signs.IsForm, specs.Sizes.Fits, proofs.Nodes.condition_stays, proofs.Sizes.{fits_as, literal_fits}}
 use Rattle.ct_word.specs.declared.connectives.Connective.TheVariants as connective
 
 longer : (ns ms added : List Node) (k : ℕ) → ms ≡ ns ++ added → k < length ns → k < length ms
 longer ns ms added k e lt = subst (λ (xs : List Node). k < length xs) (sym e) (omega (arith, length-append ns added))
+
+pub grown_within : (ns ms : List Node) (k : ℕ) → Grows ns ms → k < length ns → k < length ms
+grown_within ns ms k g lt = longer ns ms g.added k g.is lt
+
+-- nodes were put at the end twice
+pub grown_on : (ns ms os : List Node) → Grows ns ms → Grows ms os → Grows ns os
+grown_on ns ms os g h = record { added = g.added ++ h.added; is = h.is ∙ ap (λ xs. xs ++ h.added) g.is ∙ append_assoc ns g.added h.added }
 
 -- a position says what it said when nodes are put at the end
 pub still_says : (ns ms : List Node) (k : ℕ) (c : Condition) → Grows ns ms → Says ns k c → Says ms k c
@@ -96,11 +104,3 @@ joined_form_is ns ns' ms j f g k m g1 g2 p q p_fits q_fits c d h i =
       plus_fits = still_fits ns' ms k (joined j c d) g2 p.within (p_fits c d h.plus_fits i.plus_fits);
       minus_fits = fits_denied _ j c d (q_fits c d h'.minus_fits i'.minus_fits);
     }
-
--- an equality of terms and its denial, the terms being copies
-pub equal_form_is : (ns ms : List Node) (s t s1 t1 s2 t2 : Term) (k m : ℕ) → s2 ≡ s → t2 ≡ t → s1 ≡ s2 → t1 ≡ t2 → Grows ns ms
-    → Says ns k (Same s1 t1) → Says ms m (Not (Same s2 t2)) → Fits (node_condition ns k) (Same s1 t1) → Fits (node_condition ms m) (Same s2 t2)
-    → IsForm ms (record { plus = k; minus = m }) (Same s t)
-equal_form_is ns ms s t s1 t1 s2 t2 k m a b d e g h i x y =
-    form_is ns ms (Same s t) k m g (subst (Says ns k) (λ j. Same ((d ∙ a) j) ((e ∙ b) j)) h) (subst (Says ms m) (λ j. Not (Same (a j) (b j))) i)
-    (subst (Fits (node_condition ns k)) (λ j. Same ((d ∙ a) j) ((e ∙ b) j)) x) (subst (Fits (node_condition ms m)) (λ j. Same (a j) (b j)) y)

@@ -1,7 +1,7 @@
 -- How long and how deep the conditions of nodes are.
-use Rattle.std.proofs.Common.{◌≡◌, ℕ, ◌+◌, ◌≤◌, Bool, true, false, ◌&&◌, List, [], ◌∷◌, ◌++◌, length, map, nat_le, insert, refl, ap, sym, ◌∙◌, subst, arith, length-append}
+use Rattle.std.proofs.Common.{◌≡◌, ℕ, ◌+◌, ◌<◌, ◌≤◌, Bool, true, false, ◌&&◌, List, [], ◌∷◌, ◌++◌, length, map, take, get_or, nat_le, insert, refl, ap, sym, ◌∙◌, subst, arith, length-append}
 use Rattle.std.{specs.Prelude.{IsTrue, codes, max, sum_by}, specs.List.list_all, proofs.lemmas.Bool.{and_parts, and_from, le-leb, leb-true}}
-use Rattle.std.proofs.lemmas.List.Sums.{sum_by-cons, sum_by-insert}
+use Rattle.std.proofs.lemmas.List.Sums.{sum_by-cons, sum_by-insert, sum_by_more}
 use Rattle.ct_word.{specs.declared.values.Term.Term, specs.Condition.{Condition, True, False, Same, Not, And, Or, listed}, specs.Connective.joined}
 use Rattle.ct_word.{specs.declared.connectives.Connective.Connective, proofs.Items.all_implied}
 use Rattle.ct_rewrite.{specs.declared.answer.Node.Node, specs.Nodes.{nth, condition_of_node, read_nodes, node_condition, node_value}}
@@ -117,6 +117,9 @@ children_no_larger j ns k n ks value e =
 -- items of lists of children
 pub no_more_than_inserted : (ks : List ℕ) (i c : ℕ) → HasNoMoreThan (insert ks i c) ks (c ∷ [])
 no_more_than_inserted ks i c f = omega (arith, sum_by-insert f ks i c, sum_by-cons f c [])
+
+pub no_more_again : (all old ks ls : List ℕ) (i d : ℕ) → i < length ls → HasNoMoreThan old ks (take i ls) → HasNoMoreThan all old (get_or ls i d ∷ []) → HasNoMoreThan all ks (take (i + 1) ls)
+no_more_again all old ks ls i d lt before now f = omega (arith, before f, now f, sum_by_more f ls i d lt, sum_by-cons f (get_or ls i d) [])
 
 pub joint_no_larger : (j : Connective) (old new : List Node) (ks read : List ℕ) (n : Node) (k : ℕ) → read ≡ ks → n ≡ joint_node j read → node_condition new k ≡ node_value old n → IsNoLarger j old new k ks
 joint_no_larger j old new ks read n k e f value =

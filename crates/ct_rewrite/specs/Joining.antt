@@ -9,10 +9,10 @@ use Rattle.ct_word.specs.Condition.{Condition, holds}
 use Rattle.ct_rewrite.specs.declared.answer.Node.{Node}
 use Rattle.ct_word.specs.declared.connectives.Connective.{Connective}
 use Rattle.ct_word.specs.declared.connectives.Connective.TheVariants as connective
-use Rattle.ct_rewrite.specs.Nodes.{node_condition, condition_of_node}
+use Rattle.ct_rewrite.specs.Nodes.{node_condition, condition_of_node, is_position}
 use Rattle.ct_word.specs.Connective.{unit, open_by}
 use Rattle.ct_rewrite.specs.Building.{literal}
-use Rattle.ct_rewrite.specs.Rules.{is_literal}
+use Rattle.ct_rewrite.specs.Rules.{is_literal, are_distinct}
 use Rattle.ct_rewrite.specs.Sizes.{part_length, part_nest}
 
 -- whether the condition at a position leaves a connective open
@@ -77,6 +77,13 @@ nests_within nodes most k = nat_le (part_nest (node_condition nodes k)) most
 pub record AreNoLarger (j : Connective) (nodes : List Node) (ks : List ℕ) (k : ℕ) : Type 0 where
   pub short : (texts : Term → List ℕ) → bytes_under j texts nodes ks ≤ part_length texts (node_condition nodes k) + gap j
   pub shallow : IsTrue (list_all (nests_within nodes (part_nest (node_condition nodes k))) ks)
+
+-- what a form brings under a connective: different positions that together say what it says, and are no larger
+pub record Brings (j : Connective) (nodes : List Node) (ks : List ℕ) (k : ℕ) : Type 0 where
+  pub placed : IsTrue (list_all (is_position nodes) ks)
+  pub truth : StandFor j nodes ks k
+  pub size : AreNoLarger j nodes ks k
+  pub distinct : IsTrue (are_distinct ks)
 
 -- a position is no longer and no deeper than these positions under a connective
 pub record IsNoLarger (j : Connective) (old new : List Node) (k : ℕ) (ks : List ℕ) : Type 0 where

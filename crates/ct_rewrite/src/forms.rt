@@ -8,10 +8,12 @@ ghost use Rattle.ct_word.specs.Reading.{condition_at, term_at};
 ghost use Rattle.ct_word.specs.Connective.{joined};
 ghost use Rattle.ct_word.specs.Condition.{Condition, Same, Not};
 ghost use Rattle.ct_rewrite.specs.declared.answer.Node.{Node};
-ghost use Rattle.ct_rewrite.specs.Building.{Grows, literal};
+ghost use Rattle.ct_rewrite.specs.Nodes.{node_condition};
+ghost use Rattle.ct_rewrite.specs.Building.{Grows, Says, literal, signed};
 ghost use Rattle.ct_rewrite.specs.Shape.{parts_at};
 ghost use Rattle.ct_rewrite.specs.Below.{has, HasAt, IsClosedFrom};
 ghost use Rattle.ct_rewrite.specs.Signs.{IsForm, IsFormAt, IsPlaced};
+ghost use Rattle.ct_rewrite.specs.Sizes.{Fits};
 
 use crate::below::first_from;
 use crate::builder::Builder;
@@ -28,6 +30,7 @@ pub struct Form {
 }
 
 /// The form of true or false.
+#[tactic(auto, using(crate::proofs::Signs::grown_on))]
 fn literal_form(builder: &mut Builder, truth: bool) -> Result<Form, Memory>
     requires room { length builder.old + 2 ≤ 2 ^ 32 }
     ensures grows { Grows builder.old builder.new }
@@ -39,7 +42,31 @@ fn literal_form(builder: &mut Builder, truth: bool) -> Result<Form, Memory>
     Ok(Form { plus, minus })
 }
 
+/// The position of the equality of the terms at two places, or for minus of its denial.
+fn equal_at(
+    alloc: Global,
+    builder: &mut Builder,
+    words: &[u64],
+    left: u32,
+    right: u32,
+    sign: bool,
+) -> Result<u32, Memory>
+    requires formed { IsWellFormed words.now }
+    requires left { IsTrue (is_place_of words.now class.Term left) }
+    requires right { IsTrue (is_place_of words.now class.Term right) }
+    requires room { length builder.old < 2 ^ 32 }
+    ensures grows { Grows builder.old builder.new }
+    ensures count { length builder.new ≤ length builder.old + 1 }
+    ensures says { IfOk result (λ k. Says builder.new k (signed sign (Same (term_at words.now left) (term_at words.now right)))) }
+    ensures fits { IfOk result (λ k. Fits (node_condition builder.new k) (Same (term_at words.now left) (term_at words.now right))) }
+{
+    let s = term_at(alloc, words, left)?;
+    let t = term_at(alloc, words, right)?;
+    builder.equal(s, t, sign)
+}
+
 /// The form of the equality of the terms at two places.
+#[tactic(auto, using(crate::proofs::Signs::grown_on))]
 fn equal_form(
     alloc: Global,
     builder: &mut Builder,
@@ -55,10 +82,8 @@ fn equal_form(
     ensures count { length builder.new ≤ length builder.old + 2 }
     ensures form { IfOk result (λ f. IsForm builder.new f (Same (term_at words.now left) (term_at words.now right))) }
 {
-    let s = term_at(alloc, words, left)?;
-    let t = term_at(alloc, words, right)?;
-    let plus = builder.equal(s.clone()?, t.clone()?, true)?;
-    let minus = builder.equal(s, t, false)?;
+    let plus = equal_at(alloc, builder, words, left, right, true)?;
+    let minus = equal_at(alloc, builder, words, left, right, false)?;
     Ok(Form { plus, minus })
 }
 
@@ -73,6 +98,7 @@ fn denied(form: Form) -> Form
 }
 
 /// The form of two conditions under a connective, whose denial has the other connective.
+#[tactic(auto, using(crate::proofs::Signs::grown_on, crate::proofs::Signs::grown_within))]
 fn joined_form(
     alloc: Global,
     builder: &mut Builder,

@@ -8,7 +8,7 @@ ghost use Rattle.ct_word.specs.Connective.{joined};
 ghost use Rattle.ct_word.specs.Condition.{Condition};
 ghost use Rattle.ct_rewrite.specs.Nodes.{condition_of_node, node_condition, is_position};
 ghost use Rattle.ct_rewrite.specs.Building.{Grows, Says, joint_node, literal_node};
-ghost use Rattle.ct_rewrite.specs.Joining.{NeverBothOpen, leaves_open, all_open, StandFor, Settle, HasMembersOf, HasNoMoreThan, AreNoLarger, IsNoLarger, IsNoSettler, is_no_literal};
+ghost use Rattle.ct_rewrite.specs.Joining.{NeverBothOpen, leaves_open, all_open, Settle, HasMembersOf, HasNoMoreThan, Brings, IsNoLarger, IsNoSettler, is_no_literal};
 ghost use Rattle.ct_rewrite.specs.Rules.{are_distinct, is_literal};
 ghost use Rattle.ct_rewrite.specs.Sizes.{Fits};
 
@@ -88,13 +88,11 @@ impl Builder {
 
     /// What a form brings under a connective: its children where it has this connective, nothing
     /// where it says nothing there, else itself.
+    #[tactic(auto, using(crate::proofs::Brought::brought_itself, crate::proofs::Brought::nothing_brought))]
     fn parts(&self, alloc: Global, connective: Connective, form: u32) -> Result<Vec<u32>, Memory>
         requires { form < length self.now }
-        ensures placed { IfOk result (λ ks. IsTrue (list_all (is_position self.now) ks.items)) }
-        ensures truth { IfOk result (λ ks. StandFor connective self.now ks.items form) }
-        ensures size { IfOk result (λ ks. AreNoLarger connective self.now ks.items form) }
+        ensures brings { IfOk result (λ ks. Brings connective self.now ks.items form) }
         ensures few { IfOk result (λ ks. length ks.items ≤ 64) }
-        ensures distinct { IfOk result (λ ks. IsTrue (are_distinct ks.items)) }
         ensures no_literals { IfOk result (λ ks. IsNoSettler connective self.now form → IsTrue (list_all (is_no_literal self.now) ks.items)) }
         ensures no_literal { IfOk result (λ ks. IsNoSettler connective self.now form → 1 ≤ length ks.items → IsTrue (is_no_literal self.now form)) }
     {
@@ -109,6 +107,7 @@ impl Builder {
     }
 
     /// What two forms bring under a connective. Where that is more than are merged, each stays as it is.
+    #[tactic(auto, using(crate::proofs::Brought::brought_itself))]
     fn sides(
         &self,
         alloc: Global,
@@ -118,14 +117,9 @@ impl Builder {
     ) -> Result<(Vec<u32>, Vec<u32>), Memory>
         requires left { a < length self.now }
         requires right { b < length self.now }
-        ensures left_placed { IfOk result (λ p. IsTrue (list_all (is_position self.now) p.0.items)) }
-        ensures right_placed { IfOk result (λ p. IsTrue (list_all (is_position self.now) p.1.items)) }
-        ensures left { IfOk result (λ p. StandFor connective self.now p.0.items a) }
-        ensures right { IfOk result (λ p. StandFor connective self.now p.1.items b) }
-        ensures left_size { IfOk result (λ p. AreNoLarger connective self.now p.0.items a) }
-        ensures right_size { IfOk result (λ p. AreNoLarger connective self.now p.1.items b) }
+        ensures left { IfOk result (λ p. Brings connective self.now p.0.items a) }
+        ensures right { IfOk result (λ p. Brings connective self.now p.1.items b) }
         ensures few { IfOk result (λ p. length p.0.items + length p.1.items ≤ 64) }
-        ensures distinct { IfOk result (λ p. IsTrue (are_distinct p.0.items)) }
         ensures no_literals { IfOk result (λ p. IsNoSettler connective self.now a → IsNoSettler connective self.now b → IsTrue (list_all (is_no_literal self.now) p.0.items && list_all (is_no_literal self.now) p.1.items)) }
     {
         let left = self.parts(alloc, connective, a)?;

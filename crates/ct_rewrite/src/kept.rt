@@ -1,16 +1,17 @@
 // The nodes that roots lead to, without the others.
 
-ghost use Rattle.std.specs.Prelude.{◌≡◌, ◌<◌, ◌^◌, [], length, map, IfOk, IsTrue};
+ghost use Rattle.std.specs.Prelude.{◌≡◌, ℕ, ◌<◌, ◌^◌, [], length, map, IfOk, IsTrue};
 ghost use Rattle.std.specs.List.{AllZip, IsDistinct, list_all};
 ghost use Rattle.ct_rewrite.specs.Nodes.{IsOrdered, children_of, is_position, read_nodes, same_node};
 ghost use Rattle.ct_rewrite.specs.Rules.{is_proper, has_no_literals};
-ghost use Rattle.ct_rewrite.specs.Below.{has_at};
-ghost use Rattle.ct_rewrite.specs.Moving.{IsKept, moved_node, moved_to};
+ghost use Rattle.ct_rewrite.specs.Below.{has, has_at, HasAt, IsClosedFrom};
+ghost use Rattle.ct_rewrite.specs.Moving.{IsKept, children_at, moved_node, moved_to};
 
 use crate::answer::Node;
 use crate::below::{Graph, add, below, first_from};
 use crate::builder::Builder;
 use crate::form::Normal;
+use crate::terms::copies;
 use ct_word::{List, Memory};
 use std::alloc::Global;
 use std::collections::{BTreeMap, BTreeSet};
@@ -54,11 +55,45 @@ fn copied(alloc: Global, positions: &BTreeMap<u32, u32>, node: &Node) -> Result<
     Ok(match node {
         Node::True => Node::True,
         Node::False => Node::False,
-        Node::Eq(s, t) => Node::Eq(s.clone()?, t.clone()?),
-        Node::Ne(s, t) => Node::Ne(s.clone()?, t.clone()?),
+        Node::Eq(s, t) => {
+            let (s, t) = copies(s, t)?;
+            Node::Eq(s, t)
+        }
+        Node::Ne(s, t) => {
+            let (s, t) = copies(s, t)?;
+            Node::Ne(s, t)
+        }
         Node::And(children) => Node::And(moved(alloc, positions, children.as_slice())?),
         Node::Or(children) => Node::Or(moved(alloc, positions, children.as_slice())?),
     })
+}
+
+/// Puts copies of the nodes at these positions into a builder, in their order, and says where each went.
+fn placed(
+    alloc: Global,
+    builder: &mut Builder,
+    nodes: &[Node],
+    reached: &BTreeSet<u32>,
+) -> Result<BTreeMap<u32, u32>, Memory>
+    requires ordered { IsOrdered nodes.now }
+    requires distinct { IsDistinct same_node nodes.now }
+    requires proper { IsTrue (list_all is_proper nodes.now) }
+    requires no_literals { IsTrue (list_all has_no_literals (read_nodes [] nodes.now)) }
+    requires room { length nodes.now < 2 ^ 32 }
+    requires inside { (k : ℕ) → IsTrue (has reached.now k) → IsTrue (is_position nodes.now k) }
+    requires closed { IsClosedFrom (children_at nodes.now) 0 (has reached.now) }
+    requires empty { builder.old ≡ [] }
+    ensures { IfOk result (λ ps. (k : ℕ) → IsTrue (has reached.now k) → HasAt (IsKept nodes.now builder.new) ps k) }
+{
+    let mut positions = BTreeMap::new(alloc);
+    let mut low = 0;
+    while let Some(position) = first_from(reached, low) {
+        let copy = copied(alloc, &positions, &nodes[position as usize])?;
+        let to = builder.place(copy)?;
+        positions.insert(position, to)?;
+        low = position + 1;
+    }
+    Ok(positions)
 }
 
 /// The nodes that the roots lead to, in their order, and where the roots stand among them.
@@ -77,17 +112,10 @@ pub fn kept(alloc: Global, nodes: &[Node], roots: &[u32]) -> Result<Normal, Memo
 {
     let reached = below(alloc, &Nodes { nodes }, nodes.len() as u32, roots)?;
     let mut builder = Builder::new(alloc);
-    let mut positions = BTreeMap::new(alloc);
-    let mut low = 0;
-    while let Some(position) = first_from(&reached, low) {
-        let copy = copied(alloc, &positions, &nodes[position as usize])?;
-        let to = builder.place(copy)?;
-        positions.insert(position, to)?;
-        low = position + 1;
-    }
+    let positions = placed(alloc, &mut builder, nodes, &reached)?;
+    drop(reached);
     let roots = moved(alloc, &positions, roots)?;
-    Ok(Normal {
-        nodes: builder.into_nodes(alloc)?,
-        roots,
-    })
+    drop(positions);
+    let nodes = builder.into_nodes(alloc)?;
+    Ok(Normal { nodes, roots })
 }

@@ -1,6 +1,6 @@
 // Two terms of an equality.
 
-ghost use Rattle.std.specs.Prelude.{◌≡◌, ℕ, ◌+◌, false, IsTrue};
+ghost use Rattle.std.specs.Prelude.{◌≡◌, ℕ, ◌+◌, false, IfOk, IsTrue};
 ghost use Rattle.ct_word.specs.declared.values.Term.{Term};
 ghost use Rattle.ct_word.specs.Condition.{Same, SameTruth};
 ghost use Rattle.ct_rewrite.specs.Joining.{AreDifferentConstants};
@@ -8,7 +8,7 @@ ghost use Rattle.ct_rewrite.specs.Order.{is_before};
 ghost use Rattle.ct_rewrite.specs.Rules.{are_constants};
 
 use crate::order::compare_terms;
-use ct_word::Term;
+use ct_word::{Memory, Term};
 use std::cmp::Ordering;
 
 /// Whether two terms are one.
@@ -28,6 +28,17 @@ pub fn are_different_constants(s: &Term, t: &Term) -> bool
         (Term::Value(a), Term::Value(b)) => a != b,
         _ => false,
     }
+}
+
+/// Copies of two terms.
+///
+/// # Errors
+/// `Memory` where there is none for them.
+pub fn copies(s: &Term, t: &Term) -> Result<(Term, Term), Memory>
+    ensures { IfOk result (λ p. (p.0 ≡ s.now) × (p.1 ≡ t.now)) }
+{
+    let first = s.clone()?;
+    Ok((first, t.clone()?))
 }
 
 /// Two terms, the smaller one first.

@@ -6,9 +6,9 @@ use Rattle.ct_resolve.proofs.conditions.+condition.Given as goal
 
 abbrev pub invariant-conjunction-loop-next : goal.invariant-conjunction-loop-next
 invariant-conjunction-loop-next l =
-    behind (map condition_of l.found.items) (each (factor_at l.scope) (drop l.next-index l.written.rest)) ≡ each (factor_at l.scope) (l.written.first ∷ l.written.rest)
+    behind (map condition_of l.found.items) (each (factor_at l.scope) (drop l.next-index l.next-items)) ≡ each (factor_at l.scope) (l.written.first ∷ l.written.rest)
 
 abbrev pub invariant-conjunctions-loop-next : goal.invariant-conjunctions-loop-next
 invariant-conjunctions-loop-next l =
-    behind (map condition_of l.found.items) (each (conjunction_at l.scope) (drop l.next-index (out-Condition l.written).rest))
+    behind (map condition_of l.found.items) (each (conjunction_at l.scope) (drop l.next-index l.next-items))
     ≡ each (conjunction_at l.scope) ((out-Condition l.written).first ∷ (out-Condition l.written).rest)

@@ -1,7 +1,6 @@
-use Rattle.ct_rewrite.proofs.Signs.{equal_form_is}
+use Rattle.ct_rewrite.proofs.Signs.{form_is}
 use Rattle.ct_rewrite.proofs.forms.equal_form.Goals as goal
 
 pub returns-clause-form : goal.returns-clause-form
 returns-clause-form c =
-    equal_form_is _ _ _ _ _ _ _ _ _ _ c.in_ok-s.ensures c.in_ok-t.ensures c.in_ok-clone.ensures.cases c.in_ok-clone-2.ensures.cases c.in_ok-minus.ensures.grows
-    c.in_ok-plus.ensures.says c.in_ok-minus.ensures.says c.in_ok-plus.ensures.fits c.in_ok-minus.ensures.fits
+    form_is _ _ _ _ _ c.in_ok-minus.ensures.grows c.in_ok-plus.ensures.says c.in_ok-minus.ensures.says c.in_ok-plus.ensures.fits c.in_ok-minus.ensures.fits

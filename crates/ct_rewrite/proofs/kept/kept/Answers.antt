@@ -1,61 +1,18 @@
-use Rattle.std.proofs.Common.{arith, refl}
-use Rattle.ct_rewrite.{specs.Below.has, specs.Moving.IsKept, proofs.Closing.{have_all, there_have, all_have}}
-use Rattle.ct_rewrite.proofs.Moving.{nodes_downward, step_within, step_has, step_over, step_proper, step_literals, step_kept, roots_kept}
+use Rattle.std.proofs.Common.{refl}
+use Rattle.ct_rewrite.{specs.Below.has, specs.Moving.IsKept, proofs.Closing.{there_have, all_have}, proofs.Moving.{nodes_downward, roots_kept}}
 use Rattle.ct_rewrite.proofs.kept.kept.Goals as goal
 
 pub below-requires-clause-downward : goal.below-requires-clause-downward
 below-requires-clause-downward c = nodes_downward c.args.nodes.now _ c.requires.ordered refl
 
-pub copied-requires : goal.copied-requires
-copied-requires c =
-    step_has c.args.nodes.now c.loop-position.builder c.loop-position.positions (has c.in_ok-reached.reached) c.loop-position.low c.in-Some.position c.index-nodes-position.result
-    c.requires.ordered c.in_ok-reached.ensures.inside c.in_ok-reached.ensures.closed c.loop-position.invariant.kept c.in-Some.ensures c.index-nodes-position.is
-
-pub place-requires-clause-ordered : goal.place-requires-clause-ordered
-place-requires-clause-ordered c =
-    step_over c.args.nodes.now c.loop-position.builder c.loop-position.positions (has c.in_ok-reached.reached) c.loop-position.low c.in-Some.position c.index-nodes-position.result
-    c.requires.ordered c.in_ok-reached.ensures.inside c.in_ok-reached.ensures.closed c.loop-position.invariant.kept c.in-Some.ensures c.index-nodes-position.is
-    c.in_ok-copy.copy c.in_ok-copy.ensures
-
-pub place-requires-clause-proper : goal.place-requires-clause-proper
-place-requires-clause-proper c =
-    step_proper c.args.nodes.now c.loop-position.builder c.loop-position.positions (has c.in_ok-reached.reached) c.loop-position.low c.in-Some.position c.index-nodes-position.result
-    c.requires.ordered c.in_ok-reached.ensures.inside c.in_ok-reached.ensures.closed c.loop-position.invariant.kept c.in-Some.ensures c.index-nodes-position.is
-    c.in_ok-copy.copy c.in_ok-copy.ensures c.requires.distinct c.requires.proper
-
-pub place-requires-clause-no_literals : goal.place-requires-clause-no_literals
-place-requires-clause-no_literals c =
-    step_literals c.args.nodes.now c.loop-position.builder c.loop-position.positions (has c.in_ok-reached.reached) c.loop-position.low c.in-Some.position c.index-nodes-position.result
-    c.requires.ordered c.in_ok-reached.ensures.inside c.in_ok-reached.ensures.closed c.loop-position.invariant.kept c.in-Some.ensures c.index-nodes-position.is
-    c.in_ok-copy.copy c.in_ok-copy.ensures c.requires.no_literals
-
-pub loop-position-preserved : goal.loop-position-preserved
-loop-position-preserved c =
-    let lt = step_within c.args.nodes.now c.loop-position.builder c.loop-position.positions (has c.in_ok-reached.reached) c.loop-position.low c.in-Some.position c.index-nodes-position.result
-    c.requires.ordered c.in_ok-reached.ensures.inside c.in_ok-reached.ensures.closed c.loop-position.invariant.kept c.in-Some.ensures c.index-nodes-position.is in
-    record {
-      within = omega (arith, lt);
-      room = omega (arith, c.loop-position.invariant.room, c.in_ok-to.ensures.count, c.in-Some.ensures.from);
-      kept =
-          step_kept c.args.nodes.now c.loop-position.builder c.loop-position.positions (has c.in_ok-reached.reached) c.loop-position.low c.in-Some.position c.index-nodes-position.result
-          c.requires.ordered c.in_ok-reached.ensures.inside c.in_ok-reached.ensures.closed c.loop-position.invariant.kept c.in-Some.ensures c.index-nodes-position.is
-          c.in_ok-copy.copy c.in_ok-copy.ensures c.place.new.self c.insert.new.self c.in_ok-to.to c.in_ok-to.ensures.grows c.in_ok-to.ensures.within c.in_ok-to.ensures.value
-          c.in_ok-insert.ensures.updates;
-    }
-
 pub moved-requires : goal.moved-requires
 moved-requires c =
-    let nodes = c.args.nodes.now in
-    all_have (IsKept nodes c.loop-position.builder) c.loop-position.positions c.args.roots.now
-    (there_have (IsKept nodes c.loop-position.builder) c.loop-position.positions (has c.in_ok-reached.reached)
-    (have_all (IsKept nodes c.loop-position.builder) c.loop-position.positions (has c.in_ok-reached.reached) c.loop-position.low c.loop-position.invariant.kept c.in_default.ensures)
-    c.args.roots.now c.in_ok-reached.ensures.roots)
+    let P = IsKept c.args.nodes.now c.placed.new.builder in
+    all_have P c.in_ok-positions.positions c.args.roots.now
+    (there_have P c.in_ok-positions.positions (has c.in_ok-reached.reached) c.in_ok-positions.ensures c.args.roots.now c.in_ok-reached.ensures.roots)
 
 pub returns-clause-kept : goal.returns-clause-kept
 returns-clause-kept c =
-    let nodes = c.args.nodes.now in
-    roots_kept nodes c.loop-position.builder c.loop-position.positions c.in_ok-into_nodes.field-0 c.args.roots.now c.in_ok-roots.roots
-    (there_have (IsKept nodes c.loop-position.builder) c.loop-position.positions (has c.in_ok-reached.reached)
-    (have_all (IsKept nodes c.loop-position.builder) c.loop-position.positions (has c.in_ok-reached.reached) c.loop-position.low c.loop-position.invariant.kept c.in_default.ensures)
-    c.args.roots.now c.in_ok-reached.ensures.roots)
-    c.in_ok-into_nodes.ensures.nodes c.in_ok-roots.ensures
+    roots_kept c.args.nodes.now c.placed.new.builder c.in_ok-positions.positions c.in_ok-nodes.nodes c.args.roots.now c.in_ok-roots.roots
+    (there_have (IsKept c.args.nodes.now c.placed.new.builder) c.in_ok-positions.positions (has c.in_ok-reached.reached) c.in_ok-positions.ensures c.args.roots.now c.in_ok-reached.ensures.roots)
+    c.in_ok-nodes.ensures.nodes c.in_ok-roots.ensures

@@ -17,9 +17,8 @@ positions-requires c =
 
 pub kept-requires-clause-roots : goal.kept-requires-clause-roots
 kept-requires-clause-roots c =
-    roots_placed c.args.words.now _ c.nodes.result.now c.in_ok-forms.forms c.args.roots.now c.as_slice.result.now
-    (there_have (IsFormAt c.args.words.now _) c.in_ok-forms.forms (has c.in_ok-places.places) c.in_ok-forms.ensures.forms c.args.roots.now c.in_ok-places.ensures.roots)
-    c.nodes.ensures.value (c.as_slice.ensures.value ∙ c.in_ok-positions.ensures)
+    roots_placed c.args.words.now _ c.nodes.result.now c.in_ok-forms.forms (has c.in_ok-places.places) c.args.roots.now c.as_slice.result.now
+    c.in_ok-forms.ensures.forms c.in_ok-places.ensures.roots c.nodes.ensures.value (c.as_slice.ensures.value ∙ c.in_ok-positions.ensures)
 
 pub returns-then-is_plain-clause-truth : goal.returns-then-is_plain-clause-truth
 returns-then-is_plain-clause-truth c =
@@ -52,25 +51,22 @@ returns-then-is_plain-clause-distinct c =
 pub returns-clause-truth : goal.returns-clause-truth
 returns-clause-truth c =
     IfOk-weaker c.kept.result _ _
-    (λ n. normal_truth c.args.words.now _ c.nodes.result.now c.in_ok-forms.forms c.args.roots.now c.as_slice.result.now
-    (there_have (IsFormAt c.args.words.now _) c.in_ok-forms.forms (has c.in_ok-places.places) c.in_ok-forms.ensures.forms c.args.roots.now c.in_ok-places.ensures.roots)
-    c.nodes.ensures.value (c.as_slice.ensures.value ∙ c.in_ok-positions.ensures) n.nodes n.roots)
+    (λ n. normal_truth c.args.words.now _ c.nodes.result.now c.in_ok-forms.forms (has c.in_ok-places.places) c.args.roots.now c.as_slice.result.now
+    c.in_ok-forms.ensures.forms c.in_ok-places.ensures.roots c.nodes.ensures.value (c.as_slice.ensures.value ∙ c.in_ok-positions.ensures) n.nodes n.roots)
     c.kept.ensures.kept
 
 pub returns-clause-wide : goal.returns-clause-wide
 returns-clause-wide c =
     IfOk-weaker c.kept.result _ _
-    (λ n kept. normal_wide c.args.words.now _ c.nodes.result.now c.in_ok-forms.forms c.args.roots.now c.as_slice.result.now
-    (there_have (IsFormAt c.args.words.now _) c.in_ok-forms.forms (has c.in_ok-places.places) c.in_ok-forms.ensures.forms c.args.roots.now c.in_ok-places.ensures.roots)
-    c.nodes.ensures.value (c.as_slice.ensures.value ∙ c.in_ok-positions.ensures) n.nodes n.roots kept)
+    (λ n kept. normal_wide c.args.words.now _ c.nodes.result.now c.in_ok-forms.forms (has c.in_ok-places.places) c.args.roots.now c.as_slice.result.now
+    c.in_ok-forms.ensures.forms c.in_ok-places.ensures.roots c.nodes.ensures.value (c.as_slice.ensures.value ∙ c.in_ok-positions.ensures) n.nodes n.roots kept)
     c.kept.ensures.kept
 
 pub returns-clause-deep : goal.returns-clause-deep
 returns-clause-deep c =
     IfOk-weaker c.kept.result _ _
-    (λ n. normal_deep c.args.words.now _ c.nodes.result.now c.in_ok-forms.forms c.args.roots.now c.as_slice.result.now
-    (there_have (IsFormAt c.args.words.now _) c.in_ok-forms.forms (has c.in_ok-places.places) c.in_ok-forms.ensures.forms c.args.roots.now c.in_ok-places.ensures.roots)
-    c.nodes.ensures.value (c.as_slice.ensures.value ∙ c.in_ok-positions.ensures) n.nodes n.roots)
+    (λ n. normal_deep c.args.words.now _ c.nodes.result.now c.in_ok-forms.forms (has c.in_ok-places.places) c.args.roots.now c.as_slice.result.now
+    c.in_ok-forms.ensures.forms c.in_ok-places.ensures.roots c.nodes.ensures.value (c.as_slice.ensures.value ∙ c.in_ok-positions.ensures) n.nodes n.roots)
     c.kept.ensures.kept
 
 pub returns-clause-placed : goal.returns-clause-placed

@@ -10,13 +10,13 @@ pub returns-in-Some-clause-says : goal.returns-in-Some-clause-says
 returns-in-Some-clause-says c =
     IfOk-both c.gathered.result _ _ _
     (λ k. joined_says c.args.connective c.args.self.now c.gathered.new.self c.args.a c.args.b k _ _ _ _ c.as_slice.ensures.value
-    c.in_ok-children.ensures.left c.in_ok-children.ensures.right (rw c.in-Some.is at c.in_ok-children-2.ensures.members))
+    c.in_ok-children.ensures.left.truth c.in_ok-children.ensures.right.truth (rw c.in-Some.is at c.in_ok-children-2.ensures.members))
     c.gathered.ensures.within c.gathered.ensures.truth
 
 pub returns-in-Some-clause-fits : goal.returns-in-Some-clause-fits
 returns-in-Some-clause-fits c =
     IfOk-weaker c.gathered.result _ _
     (λ k. joined_fits c.args.connective c.args.self.now c.gathered.new.self c.args.a c.args.b k _ _ _ _ c.as_slice.ensures.value
-    c.in_ok-children.ensures.left_size c.in_ok-children.ensures.right_size
+    c.in_ok-children.ensures.left.size c.in_ok-children.ensures.right.size
     (rw c.in-Some.is at c.in_ok-children-2.ensures.members) (rw c.in-Some.is at c.in_ok-children-2.ensures.once))
     c.gathered.ensures.size

@@ -1,6 +1,6 @@
 use Rattle.std.{proofs.Common.{ℕ, ◌<◌, ◌≤◌, ◌-◌, length}, specs.Prelude.IsTrue}
 use Rattle.ct_rewrite.{specs.Below.{has, HasAt}, specs.Moving.IsKept}
-use Rattle.ct_rewrite.proofs.kept.kept.Given as goal
+use Rattle.ct_rewrite.proofs.kept.placed.Given as goal
 
 abbrev pub invariant-loop-position : goal.invariant-loop-position
 invariant-loop-position l = record {
