@@ -15,13 +15,13 @@ use Rattle.ct_equality.specs.Valued.{IsNumbered}
 use Rattle.ct_operators.{specs.Tables.{AreRows, IsRow, firsts, value_of_rows}, proofs.Firsts.{any_first, firsts_known, firsts_long, firsts_new, firsts_part}}
 use Rattle.ct_operators.proofs.Holding.{holds_false}
 use Rattle.ct_query.specs.Database.{has_tuple}
+use Rattle.ct_rewrite.proofs.Nodes.{term_compared}
 use Rattle.ct_certain.{specs.declared.striking.Seen.Seen, specs.Certain.{IsInAll, IsKeptWorld}, specs.Missing.{IsAskedOf, IsAtHand, IsSeen}}
 use Rattle.ct_certain.proofs.Missing.{one_or_none, one_row}
 use mathlib.Core.List.{IsPrefix}
 use Rattle.ct_word.specs.declared.kinds.Class.TheVariants as class
 use Rattle.ct_word.specs.declared.values.Term.TheVariants as term
 use Rattle.ct_word.specs.contracts.values.ValuePartialEq.TheImpl as value_eq
-use Rattle.ct_word.specs.declared.values.Value.TheVariants as val
 
 append_none : {X : Type 0} (xs : List X) → xs ++ [] ≡ xs
 append_none [] = refl
@@ -112,12 +112,7 @@ pub worth_one : (words : List ℕ) (v : World) (r : CRow) (ts : List (List Value
 worth_one words v r ts e = ap (λ l. ts ++ l) (ap (λ b. one_or_none b (tuple_at v (map (term_at words) r.cells))) e ∙ sym (one_row v words r))
 
 value_compared : (a b : Value) → value_eq.ghosts.eq a b ≡ same_value a b
-value_compared (val.Int a) (val.Int b) = refl
-value_compared (val.Text a) (val.Text b) = refl
-value_compared (val.Other a) (val.Other b) = refl
-value_compared (val.Int a) _ = refl
-value_compared (val.Text a) _ = refl
-value_compared (val.Other a) _ = refl
+value_compared a b = term_compared (term.Value a) (term.Value b)
 
 -- the code compares tuples as the definition does
 pub tuples_compared : (a b : List Value) → pointwise value_eq.ghosts.eq a b ≡ same_tuple a b

@@ -12,11 +12,11 @@ use Rattle.ct_word.{proofs.Items.{no_item, sole_item, item_cases}, proofs.Places
 use Rattle.ct_word.proofs.Prefixes.{prefix_of_prefix, prefix_same}
 use Rattle.ct_condition.specs.Terms.{BelowSome}
 use Rattle.ct_operators.{proofs.Placed.parts_are, proofs.Reaching.term_alone}
+use Rattle.ct_rewrite.proofs.Nodes.{term_compared}
 use Rattle.ct_certain.specs.Own.{IsPart, names_left, names_right, parts_in, parts_of, ArePut, IsReached, AreGathered, has_null, with_term, AreNullsOf, IsTermAtSome}
 use mathlib.Core.List.{IsPrefix}
 use Rattle.ct_word.specs.declared.kinds.Kind.TheVariants as kind
 use Rattle.ct_word.specs.declared.kinds.Class.TheVariants as class
-use Rattle.ct_word.specs.declared.values.Null.TheVariants as null
 use Rattle.ct_word.specs.declared.values.Term.TheVariants as term
 use Rattle.ct_word.specs.contracts.values.NullPartialEq.TheImpl as null_code
 use Rattle.ct_operators.specs.Placing as placing
@@ -215,10 +215,7 @@ module _ (ws : List ℕ) (formed : IsWellFormed ws) where
 
 -- the code compares nulls as the definition does
 null_compared : (m n : Null) → null_code.ghosts.eq m n ≡ same_null m n
-null_compared (null.Named a) (null.Named b) = refl
-null_compared (null.Fresh s m) (null.Fresh t n) = refl
-null_compared (null.Named a) (null.Fresh t n) = refl
-null_compared (null.Fresh s m) (null.Named b) = refl
+null_compared m n = term_compared (term.Null m) (term.Null n)
 
 pub compared : null_code.ghosts.eq ≡ same_null
 compared i m n = null_compared m n i

@@ -32,6 +32,7 @@ fn place_of<N: Site, I: Interner<N>>(
     let copy = value.clone()?;
     let literal = Term::Value(copy);
     let found = term(arena, pass, &literal);
+    drop(literal);
     let _ = pass.words();
     match found {
         Ok(place) => Ok(place),
@@ -70,9 +71,9 @@ fn of_one_row(
     ensures rows { IfOk result (λ t. t.rows ≡ (record { cells = cells; cond = cond }) ∷ []) }
     ensures room { has_no_room result ≡ false }
 {
-    let columns = columns.clone()?;
     let mut rows = Vec::new(alloc);
     rows.push(CRow { cells, cond })?;
+    let columns = columns.clone()?;
     Ok(CTable {
         columns,
         rows: List::from_vec(rows),
@@ -109,6 +110,7 @@ fn root<N: Site, I: Interner<N>>(
     let _ = pass.words();
     let alone = of_one_row(alloc, &table.columns, cells, global)?;
     let rest = except(alloc, arena, pass, &alone, table);
+    drop(alone);
     let _ = pass.words();
     match rest {
         Ok(left) => Ok(first_condition(left.rows.as_slice())),

@@ -71,7 +71,7 @@ fn gather(alloc: Global, words: &[u64], cond: u32, cells: &[u32]) -> Result<Inde
 }
 
 /// Whether words of this kind stand for nulls.
-fn is_null(kind: Kind) -> bool
+pub fn is_null(kind: Kind) -> bool
     ensures { result ≡ is_null kind }
 {
     matches!(kind, Kind::NamedNull | Kind::FreshNull)
@@ -123,6 +123,5 @@ pub fn nulls_below(
     ensures { IfOk result (λ s. AreNullsOf (BelowSome words.now (cond ∷ cells.now)) s.keys) }
 {
     let places = gather(alloc, words, cond, cells)?;
-    let nulls = nulls_at(alloc, words, places.as_slice())?;
-    Ok(nulls)
+    nulls_at(alloc, words, places.as_slice())
 }

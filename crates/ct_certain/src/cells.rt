@@ -43,9 +43,7 @@ pub fn cut(
     let mut pairs = Vec::new(alloc);
     for pair in world.as_slice() {
         if is_kept(&pair.0, some, others) {
-            let null = pair.0.clone()?;
-            let value = pair.1.clone()?;
-            pairs.push((null, value))?;
+            pairs.push(pair.clone()?)?;
         }
     }
     Ok(List::from_vec(pairs))

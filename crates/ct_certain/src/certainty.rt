@@ -18,8 +18,8 @@ ghost use Rattle.ct_certain.specs.declared.error.CertainError.TheVariants as fau
 use crate::absence::ask_tuple;
 use crate::derivations::Listed;
 use crate::error::CertainError;
-use crate::striking::{Seen, first_worlds, is_everywhere, see};
-use crate::tuples::{copied_tuple, tuples};
+use crate::striking::{Seen, is_everywhere, see, see_first};
+use crate::tuples::tuples;
 use ct_arena::{Arena, Pass, Site};
 use ct_condition::{Interner, worths};
 use ct_decide::Decision;
@@ -32,7 +32,6 @@ use std::alloc::Global;
 
 /// Puts a tuple with its proof last in a list.
 fn list_tuple(
-    alloc: Global,
     list: &mut Listed,
     tuple: &List<Value>,
     root: u32,
@@ -40,7 +39,7 @@ fn list_tuple(
 ) -> Result<(), Memory>
     ensures { OnOk result (list.new.rows.items ≡ list.old.rows.items ++ (record { tuple = tuple.now; proof = record { root = root; derivation = derivation } }) ∷ []) }
 {
-    let tuple = copied_tuple(alloc, tuple)?;
+    let tuple = tuple.clone()?;
     let place = list.rows.len();
     list.rows.push(CertainRow {
         tuple,
@@ -94,7 +93,7 @@ fn try_tuple<N: Site, I: Interner<N>>(
             Ok(())
         }
         Decision::Refuted(derivation) => {
-            list_tuple(alloc, list, tuple, root, derivation)?;
+            list_tuple(list, tuple, root, derivation)?;
             Ok(())
         }
     }
@@ -110,7 +109,7 @@ fn each_certain<N: Site, I: Interner<N>>(
     global: u32,
     pool: &mut Vec<Seen>,
     candidates: &[List<Value>],
-) -> Result<Vec<CertainRow>, CertainError>
+) -> Result<List<CertainRow>, CertainError>
     requires same { words.now ≡ I.list pass.old }
     requires small { length words.now < 2 ^ 28 }
     requires rows { All (λ r. IsRow words.now (length r.cells) r) table.now.rows }
@@ -118,7 +117,7 @@ fn each_certain<N: Site, I: Interner<N>>(
     requires few { length candidates.now ≤ length table.now.rows }
     requires once { IsDistinct same_tuple candidates.now }
     requires asked { All (IsAskedOf words.now words.now global (length table.now.columns) table.now.rows) candidates.now }
-    ensures lists { IfOk result (λ list. AreListed words.now (I.list pass.new) global table.now.rows candidates.now list.items) }
+    ensures lists { IfOk result (λ list. AreListed words.now (I.list pass.new) global table.now.rows candidates.now list) }
     ensures writes { Writes I.list I.made I.kept I.lent N.log.cap pass.old pass.new (length table.now.rows * (length table.now.rows * (2 * length table.now.columns + 2) + length table.now.columns + 1)) (is_full result) }
     ensures many { IsErrOf result fault.TooManyTerms → IsPastTermsOfSomeTuple words.now (I.list pass.new) global table.now.rows candidates.now }
 {
@@ -132,7 +131,7 @@ fn each_certain<N: Site, I: Interner<N>>(
             alloc, arena, pass, words, table, global, pool, &mut list, tuple,
         )?;
     }
-    Ok(list.rows)
+    Ok(List::from_vec(list.rows))
 }
 
 /// The tuples that a table has at every valuation at which the global condition holds, each once, in the order of the
@@ -172,8 +171,10 @@ pub fn certain<N: Site>(
     let rows = table.rows.as_slice();
     let worths = worths(alloc, before, kept)?;
     let candidates = tuples(alloc, before, kept, &worths, rows)?;
-    let mut pool = first_worlds(alloc, before, global, rows, kept)?;
-    let list = each_certain(
+    drop(worths);
+    let mut pool = Vec::new(alloc);
+    see_first(alloc, before, global, rows, kept, &mut pool)?;
+    each_certain(
         alloc,
         arena,
         pass,
@@ -182,6 +183,5 @@ pub fn certain<N: Site>(
         global,
         &mut pool,
         candidates.as_slice(),
-    )?;
-    Ok(List::from_vec(list))
+    )
 }

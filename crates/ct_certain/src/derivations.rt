@@ -18,27 +18,24 @@ pub struct Listed {
 }
 
 /// A reason once more.
-fn copied_why(alloc: Global, why: &Why) -> Result<Why, AllocError>
+fn copied_why(why: &Why) -> Result<Why, AllocError>
     ensures { IfOk result (λ w. w ≡ why.now) }
 {
     Ok(match why {
         Why::Root => Why::Root,
         Why::Def(place, k) => Why::Def(*place, *k),
-        Why::Path(places) => Why::Path(List::from_vec(places.as_slice().to_vec(alloc)?)),
-        Why::Rup(hints) => Why::Rup(List::from_vec(hints.as_slice().to_vec(alloc)?)),
+        Why::Path(places) => Why::Path(places.clone()?),
+        Why::Rup(hints) => Why::Rup(hints.clone()?),
     })
 }
 
 /// A step once more.
-fn copied_step(alloc: Global, step: &Step) -> Result<Step, AllocError>
+fn copied_step(step: &Step) -> Result<Step, AllocError>
     ensures { IfOk result (λ s. s ≡ step.now) }
 {
-    let clause = step.clause.as_slice().to_vec(alloc)?;
-    let why = copied_why(alloc, &step.why)?;
-    Ok(Step {
-        clause: List::from_vec(clause),
-        why,
-    })
+    let clause = step.clause.clone()?;
+    let why = copied_why(&step.why)?;
+    Ok(Step { clause, why })
 }
 
 /// A derivation once more.
@@ -47,7 +44,7 @@ fn copied(alloc: Global, derivation: &Derivation) -> Result<Derivation, Memory>
 {
     let mut steps = Vec::new(alloc);
     for step in derivation.steps.as_slice() {
-        steps.push(copied_step(alloc, step)?)?;
+        steps.push(copied_step(step)?)?;
     }
     Ok(Derivation {
         steps: List::from_vec(steps),

@@ -17,10 +17,8 @@ pub fn by_null(alloc: Global, world: &World) -> Result<IndexMap<Null, Value>, Me
     let mut next = pairs.len();
     while next > 0 {
         next -= 1;
-        let pair = &pairs[next];
-        let null = pair.0.clone()?;
-        let value = pair.1.clone()?;
-        values.insert(null, value)?;
+        let (null, value) = pairs[next].clone()?;
+        drop(values.insert(null, value)?);
     }
     Ok(values)
 }

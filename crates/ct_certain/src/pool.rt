@@ -38,21 +38,26 @@ pub struct Pool {
     pub is_spread: bool,
 }
 
-/// The world in which each null is `@0`, if the global condition holds there.
-fn first(alloc: Global, words: &[u64], global: u32) -> Result<Vec<Known>, Memory>
+/// Puts a world into the pool, if the global condition holds there.
+fn keep(
+    alloc: Global,
+    words: &[u64],
+    global: u32,
+    worlds: &mut Vec<Known>,
+    world: World,
+) -> Result<(), Memory>
     requires formed { IsWellFormed words.now }
     requires small { length words.now < 2 ^ 28 }
     requires global { IsTrue (is_place_of words.now class.Cond global) }
-    ensures { IfOk result (λ pool. All (IsKnown words.now global) pool.items) }
+    requires tidy { IsTidy world }
+    requires known { All (IsKnown words.now global) worlds.old.items }
+    ensures { OnOk result (All (IsKnown words.now global) worlds.new.items) }
 {
-    let mut pool = Vec::new(alloc);
-    let world = List::new(alloc);
-    let all = worths(alloc, words, &world)?;
-    if all.holds(global) {
-        pool.push(Known { world, worths: all })?;
-        return Ok(pool);
+    let worths = worths(alloc, words, &world)?;
+    if worths.holds(global) {
+        worlds.push(Known { world, worths })?;
     }
-    Ok(pool)
+    Ok(())
 }
 
 /// What is known before any row is asked for.
@@ -62,8 +67,10 @@ pub fn start(alloc: Global, words: &[u64], global: u32) -> Result<Pool, Memory>
     requires global { IsTrue (is_place_of words.now class.Cond global) }
     ensures { IfOk result (λ pool. IsPool words.now global pool) }
 {
-    let worlds = first(alloc, words, global)?;
     let nulls = nulls_below(alloc, words, global, &[])?;
+    // The world in which each null is `@0`.
+    let mut worlds = Vec::new(alloc);
+    keep(alloc, words, global, &mut worlds, List::new(alloc))?;
     Ok(Pool {
         worlds,
         never: IndexSet::new(alloc),
@@ -145,12 +152,8 @@ fn spread_out(
     pool.is_spread = true;
     let apart = spread(alloc, words, global, rows)?;
     let world = tidy(alloc, &apart)?;
-    let worths = worths(alloc, words, &world)?;
-    if !worths.holds(global) {
-        return Ok(());
-    }
-    pool.worlds.push(Known { world, worths })?;
-    Ok(())
+    drop(apart);
+    keep(alloc, words, global, &mut pool.worlds, world)
 }
 
 /// The part that a row needs of a known world that shows it. The world in which the nulls of the table differ is made
@@ -170,9 +173,11 @@ pub fn find(
     ensures part { IfOk result (λ o. IfSome o (IsShownBy words.now global row.now)) }
     ensures pool { OnOk result (IsPool words.now global pool.new) }
 {
-    let known = look(alloc, words, global, pool, row)?;
-    if known.is_some() || pool.is_spread {
-        return Ok(known);
+    if let Some(part) = look(alloc, words, global, pool, row)? {
+        return Ok(Some(part));
+    }
+    if pool.is_spread {
+        return Ok(None);
     }
     spread_out(alloc, words, global, rows, pool)?;
     look(alloc, words, global, pool, row)
@@ -197,7 +202,6 @@ pub fn learn(
     ensures pool { OnOk result (IsPool words.now global pool.new) }
 {
     let part = own_part(alloc, words, global, &pool.nulls, row, &world)?;
-    let worths = worths(alloc, words, &world)?;
-    pool.worlds.push(Known { world, worths })?;
+    keep(alloc, words, global, &mut pool.worlds, world)?;
     Ok(part)
 }

@@ -7,7 +7,7 @@ ghost use Rattle.ct_word.specs.Stands.{HasNoColumn};
 ghost use Rattle.ct_word.specs.WellFormed.{IsWellFormed, is_place_of};
 ghost use Rattle.ct_condition.specs.Writes.{Writes};
 ghost use Rattle.ct_operators.specs.Tables.{AreRows};
-ghost use Rattle.ct_certain.specs.Answered.{AreOf};
+ghost use Rattle.ct_certain.specs.Answered.{AreOf, IsPool};
 ghost use Rattle.ct_certain.specs.Asked.{IsOfTable, IsPastTerms, IsPastTermsOfSomeRow};
 ghost use Rattle.ct_certain.specs.Faults.{is_full};
 ghost use Rattle.ct_certain.specs.Own.{IsOwn};
@@ -15,7 +15,7 @@ ghost use Rattle.ct_certain.specs.Possible.{ListsPossible};
 ghost use Rattle.ct_certain.specs.declared.error.CertainError.TheVariants as fault;
 
 use crate::error::CertainError;
-use crate::pool::start;
+use crate::pool::{Pool, start};
 use crate::showing::{list_row, show};
 use ct_arena::{Arena, Pass, Site};
 use ct_condition::Interner;
@@ -32,25 +32,26 @@ fn each_possible<N: Site, I: Interner<N>>(
     words: &[u64],
     global: u32,
     rows: &[CRow],
-) -> Result<Vec<PossibleRow>, CertainError>
+    pool: &mut Pool,
+) -> Result<List<PossibleRow>, CertainError>
     requires formed { IsWellFormed words.now }
     requires small { length words.now < 2 ^ 28 }
     requires same { words.now ≡ I.list pass.old }
     requires global { IsTrue (is_place_of words.now class.Cond global) }
     requires rows { All (AreOf words.now global) rows.now }
-    ensures lists { IfOk result (λ list. ListsPossible words.now global rows.now list.items) }
-    ensures own { IfOk result (λ list. All (IsOwn words.now global rows.now) list.items) }
+    requires pool { IsPool words.now global pool.old }
+    ensures lists { IfOk result (λ list. ListsPossible words.now global rows.now list) }
+    ensures own { IfOk result (λ list. All (IsOwn words.now global rows.now) list) }
     ensures writes { Writes I.list I.made I.kept I.lent N.log.cap pass.old pass.new (length rows.now) (is_full result) }
     ensures many { IsErrOf result fault.TooManyTerms → IsPastTermsOfSomeRow words.now (I.list pass.new) global rows.now }
 {
     let _ = pass.words();
-    let mut pool = start(alloc, words, global)?;
     let mut list = Vec::new(alloc);
     for row in rows {
-        let found = show(alloc, arena, pass, words, global, rows, &mut pool, row)?;
+        let found = show(alloc, arena, pass, words, global, rows, pool, row)?;
         list_row(alloc, words, &mut list, row, found, global)?;
     }
-    Ok(list)
+    Ok(List::from_vec(list))
 }
 
 /// The rows of a table that are shown at some valuation at which the global condition holds, in their order, each with
@@ -84,13 +85,8 @@ pub fn possible<N: Site>(
     ensures mine { pass.new.mine ≡ pass.old.mine }
 {
     let words = pass.words().to_vec(alloc)?;
-    let rows = each_possible(
-        alloc,
-        arena,
-        pass,
-        words.as_slice(),
-        global,
-        table.rows.as_slice(),
-    )?;
-    Ok(List::from_vec(rows))
+    let before = words.as_slice();
+    let rows = table.rows.as_slice();
+    let mut pool = start(alloc, before, global)?;
+    each_possible(alloc, arena, pass, before, global, rows, &mut pool)
 }

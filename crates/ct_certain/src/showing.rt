@@ -46,12 +46,10 @@ pub fn show<N: Site, I: Interner<N>>(
     if is_never(words, global, &pool.never, row) {
         return Ok(None);
     }
-    let known = find(alloc, words, global, rows, pool, row)?;
-    if let Some(part) = known {
+    if let Some(part) = find(alloc, words, global, rows, pool, row)? {
         return Ok(Some(part));
     }
-    let found = ask(alloc, arena, pass, words, global, row)?;
-    match found {
+    match ask(alloc, arena, pass, words, global, row)? {
         None => {
             pool.never.insert(row.cond)?;
             Ok(None)

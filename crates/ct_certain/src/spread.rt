@@ -3,7 +3,8 @@
 ghost use Rattle.std.specs.Prelude.{◌<◌, ◌^◌, length};
 ghost use Rattle.ct_word.specs.WellFormed.{IsWellFormed};
 
-use ct_word::{CRow, Class, Kind, List, Memory, Null, Term, Value, World, class, term_at, word_at};
+use crate::below::is_null;
+use ct_word::{CRow, Kind, List, Memory, Null, Term, Value, World, term_at, word_at};
 use std::alloc::{AllocError, Global};
 
 /// The most nulls that are given values of their own; finding the value of a null goes over all of them.
@@ -75,19 +76,13 @@ fn spread_at(
 {
     let count = world.len();
     let word = word_at(words, place);
-    if count >= MOST_NULLS {
+    if count >= MOST_NULLS || !is_null(word.kind) {
         return Ok(());
     }
-    match class(word.kind) {
-        Class::Term => match term_at(alloc, words, place)? {
-            Term::Null(null) => {
-                world.push((null, Value::Other(count as u32 + 1)))?;
-                Ok(())
-            }
-            _ => Ok(()),
-        },
-        _ => Ok(()),
+    if let Term::Null(null) = term_at(alloc, words, place)? {
+        world.push((null, Value::Other(count as u32 + 1)))?;
     }
+    Ok(())
 }
 
 /// A world in which the nulls below a global condition and rows have values `@k` that differ, but for those that it has

@@ -1,6 +1,6 @@
 // The worlds that strike candidates out.
 
-ghost use Rattle.std.specs.Prelude.{◌≡◌, ◌<◌, ◌^◌, false, length, All, IfOk, OnOk, IsTrue};
+ghost use Rattle.std.specs.Prelude.{◌≡◌, ◌<◌, ◌^◌, false, length, All, OnOk, IsTrue};
 ghost use Rattle.ct_word.specs.declared.kinds.Class.TheVariants as class;
 ghost use Rattle.ct_word.specs.WellFormed.{IsWellFormed, is_place_of};
 ghost use Rattle.ct_operators.specs.Tables.{IsRow};
@@ -70,31 +70,32 @@ pub fn see(
         return Ok(());
     }
     let tuples = tuples(alloc, words, world, &worths, rows)?;
+    drop(worths);
     pool.push(Seen { tuples })?;
     Ok(())
 }
 
-/// The worlds before any tuple is asked for, besides the kept one: the one in which each null is `@0`, if the kept one
-/// has pairs, and one in which the nulls differ.
-pub fn first_worlds(
+/// Keeps the tuples in the worlds before any tuple is asked for, besides the kept one: the one in which each null is `@0`,
+/// if the kept one has pairs, and one in which the nulls differ.
+pub fn see_first(
     alloc: Global,
     words: &[u64],
     global: u32,
     rows: &[CRow],
     kept: &World,
-) -> Result<Vec<Seen>, Memory>
+    pool: &mut Vec<Seen>,
+) -> Result<(), Memory>
     requires formed { IsWellFormed words.now }
     requires small { length words.now < 2 ^ 28 }
     requires global { IsTrue (is_place_of words.now class.Cond global) }
     requires rows { All (λ r. IsRow words.now (length r.cells) r) rows.now }
-    ensures { IfOk result (λ pool. All (IsSeen words.now global rows.now) pool.items) }
+    requires pool { All (IsSeen words.now global rows.now) pool.old.items }
+    ensures { OnOk result (All (IsSeen words.now global rows.now) pool.new.items) }
 {
-    let mut pool = Vec::new(alloc);
     if !kept.as_slice().is_empty() {
         let empty = List::new(alloc);
-        see(alloc, words, global, rows, &empty, &mut pool)?;
+        see(alloc, words, global, rows, &empty, pool)?;
     }
     let apart = spread(alloc, words, global, rows)?;
-    see(alloc, words, global, rows, &apart, &mut pool)?;
-    Ok(pool)
+    see(alloc, words, global, rows, &apart, pool)
 }

@@ -94,14 +94,3 @@ pub fn tuples(
     }
     Ok(tuples)
 }
-
-/// A copy of a tuple.
-pub fn copied_tuple(alloc: Global, tuple: &List<Value>) -> Result<List<Value>, Memory>
-    ensures { IfOk result (λ copy. copy ≡ tuple.now) }
-{
-    let mut values = Vec::new(alloc);
-    for value in tuple.as_slice() {
-        values.push(value.clone()?)?;
-    }
-    Ok(List::from_vec(values))
-}

@@ -11,17 +11,18 @@ use crate::definitions::defines;
 use crate::literals::{are_same_members, yes};
 use crate::marks::Marks;
 use crate::paths::joins;
-use crate::places::{is_condition, is_term};
+use crate::places::is_of;
 use crate::propagation::follows;
 use ct_derivation::{Atom, Derivation, Lit, Step, Why};
+use ct_word::Class;
 
 #[tactic(auto, unfolding(ct_derivation::specs::Accepts::fits_lit, ct_derivation::specs::Accepts::fits_atom))]
 fn fits(words: &[u64], literal: &Lit) -> bool
     ensures { result ≡ accepted.fits_lit words.now literal.now }
 {
     match literal.atom {
-        Atom::Node(p) => is_condition(words, p),
-        Atom::Same(s, t) => is_term(words, s) && is_term(words, t) && s < t,
+        Atom::Node(p) => is_of(words, p, Class::Cond),
+        Atom::Same(s, t) => is_of(words, s, Class::Term) && is_of(words, t, Class::Term) && s < t,
     }
 }
 
@@ -108,7 +109,7 @@ fn is_accepted(words: &[u64], root: u32, derivation: &Derivation, marks: &mut Ma
     ensures room { marks.new.room ≡ marks.old.room }
 {
     let steps = derivation.steps.as_slice();
-    is_condition(words, root) && are_right(words, root, steps, marks) && ends_empty(steps)
+    is_of(words, root, Class::Cond) && are_right(words, root, steps, marks) && ends_empty(steps)
 }
 
 /// Whether a derivation is accepted over the words and the root: each step has the clause that

@@ -11,9 +11,9 @@ ghost use Rattle.ct_checker.specs.Added.{added_all};
 
 use crate::literals::{contains, no, yes};
 use crate::marks::Marks;
-use crate::places::is_term;
+use crate::places::is_of;
 use ct_derivation::{Atom, Lit};
-use ct_word::is_constant;
+use ct_word::{Class, is_constant};
 
 /// The equality of two terms, the smaller place first.
 fn pair(s: u32, t: u32) -> Atom
@@ -54,7 +54,7 @@ fn are_terms(words: &[u64], places: &[u32]) -> bool
     ensures { result ≡ list_all (formed.is_place_of words.now class.Term) places.now }
 {
     for place in places {
-        if !is_term(words, *place) {
+        if !is_of(words, *place, Class::Term) {
             return false;
         }
     }
@@ -67,7 +67,7 @@ fn is_path(words: &[u64], first: u32, rest: &[u32]) -> bool
 {
     moves(first, rest)
         && first != end(first, rest)
-        && is_term(words, first)
+        && is_of(words, first, Class::Term)
         && are_terms(words, rest)
 }
 

@@ -1,3 +1,4 @@
+pub mod Added
 pub mod Atoms
 pub mod Counting
 pub mod Justified
@@ -6,6 +7,5 @@ pub mod Made
 pub mod Numbered
 pub mod Origins
 pub mod Pairs
-pub mod Pushes
 pub mod Shapes
 pub mod Walks

@@ -1,8 +1,9 @@
 // The clauses that define conditions by their fields.
 
-ghost use Rattle.std.specs.Prelude.{◌≡◌, ◌<◌, ◌^◌, ◌++◌, ℕ, length, slice_index_or, OnOk, Contains};
+ghost use Rattle.std.specs.Prelude.{◌≡◌, ◌<◌, ◌++◌, ◌∷◌, [], ℕ, length, slice_index_or, OnOk, Contains};
 ghost use Rattle.std.specs.List.{flat_map};
-ghost use Rattle.ct_cnf.specs.Lists.{AreNumbers, HasNumberedFields, equal_entries, not_entries, and_entries, or_entries, word_entries, definition_entries};
+ghost use Rattle.ct_derivation.specs.declared.steps.Why.TheVariants as why;
+ghost use Rattle.ct_cnf.specs.Lists.{AreNumbers, HasNumberedFields, entry, word_entries, definition_entries};
 
 use crate::entries::{Entry, add, no, yes};
 use crate::numbers::Numbers;
@@ -10,75 +11,37 @@ use ct_derivation::Why;
 use ct_word::{Kind, Memory, kind, left, right};
 use std::alloc::Global;
 
-/// Adds the clauses of an equality.
-#[tactic(auto, unfolding(crate::specs::Lists::equal_entries))]
-fn add_equal(
+/// Adds two clauses that define the condition at p.
+fn add_two(
     alloc: Global,
     p: u32,
-    node: u32,
-    same: u32,
+    first: &[i32],
+    second: &[i32],
     entries: &mut Vec<Entry>,
 ) -> Result<(), Memory>
-    requires node { node < 2 ^ 31 }
-    requires same { same < 2 ^ 31 }
-    ensures { OnOk result (entries.new.items ≡ entries.old.items ++ equal_entries p node same) }
+    ensures { OnOk result (entries.new.items ≡ entries.old.items ++ entry first.now (why.Def p 0) ∷ entry second.now (why.Def p 1) ∷ []) }
 {
-    add(alloc, entries, &[no(node), yes(same)], Why::Def(p, 0))?;
-    add(alloc, entries, &[yes(node), no(same)], Why::Def(p, 1))
+    add(alloc, entries, first, Why::Def(p, 0))?;
+    add(alloc, entries, second, Why::Def(p, 1))
 }
 
-/// Adds the clauses of a negation.
-#[tactic(auto, unfolding(crate::specs::Lists::not_entries))]
-fn add_not(alloc: Global, p: u32, node: u32, a: u32, entries: &mut Vec<Entry>) -> Result<(), Memory>
-    requires node { node < 2 ^ 31 }
-    requires a { a < 2 ^ 31 }
-    ensures { OnOk result (entries.new.items ≡ entries.old.items ++ not_entries p node a) }
-{
-    add(alloc, entries, &[no(node), no(a)], Why::Def(p, 0))?;
-    add(alloc, entries, &[yes(node), yes(a)], Why::Def(p, 1))
-}
-
-/// Adds the clauses of a conjunction.
-#[tactic(auto, unfolding(crate::specs::Lists::and_entries))]
-fn add_and(
+/// Adds three clauses that define the condition at p.
+fn add_three(
     alloc: Global,
     p: u32,
-    node: u32,
-    a: u32,
-    b: u32,
+    first: &[i32],
+    second: &[i32],
+    third: &[i32],
     entries: &mut Vec<Entry>,
 ) -> Result<(), Memory>
-    requires node { node < 2 ^ 31 }
-    requires a { a < 2 ^ 31 }
-    requires b { b < 2 ^ 31 }
-    ensures { OnOk result (entries.new.items ≡ entries.old.items ++ and_entries p node a b) }
+    ensures { OnOk result (entries.new.items ≡ entries.old.items ++ entry first.now (why.Def p 0) ∷ entry second.now (why.Def p 1) ∷ entry third.now (why.Def p 2) ∷ []) }
 {
-    add(alloc, entries, &[no(node), yes(a)], Why::Def(p, 0))?;
-    add(alloc, entries, &[no(node), yes(b)], Why::Def(p, 1))?;
-    add(alloc, entries, &[yes(node), no(a), no(b)], Why::Def(p, 2))
-}
-
-/// Adds the clauses of a disjunction.
-#[tactic(auto, unfolding(crate::specs::Lists::or_entries))]
-fn add_or(
-    alloc: Global,
-    p: u32,
-    node: u32,
-    a: u32,
-    b: u32,
-    entries: &mut Vec<Entry>,
-) -> Result<(), Memory>
-    requires node { node < 2 ^ 31 }
-    requires a { a < 2 ^ 31 }
-    requires b { b < 2 ^ 31 }
-    ensures { OnOk result (entries.new.items ≡ entries.old.items ++ or_entries p node a b) }
-{
-    add(alloc, entries, &[no(node), yes(a), yes(b)], Why::Def(p, 0))?;
-    add(alloc, entries, &[yes(node), no(a)], Why::Def(p, 1))?;
-    add(alloc, entries, &[yes(node), no(b)], Why::Def(p, 2))
+    add_two(alloc, p, first, second, entries)?;
+    add(alloc, entries, third, Why::Def(p, 2))
 }
 
 /// Adds the clauses of the condition at p, whose word this is.
+#[tactic(auto, unfolding(crate::specs::Lists::equal_entries, crate::specs::Lists::not_entries, crate::specs::Lists::and_entries, crate::specs::Lists::or_entries))]
 fn define(
     alloc: Global,
     numbers: &Numbers,
@@ -92,19 +55,35 @@ fn define(
     ensures { OnOk result (entries.new.items ≡ entries.old.items ++ word_entries numbers.now p word) }
 {
     let node = numbers.node(p);
+    let (is, is_not) = (yes(node), no(node));
     let (left, right) = (left(word), right(word));
     match kind(word) {
-        Some(Kind::True) => add(alloc, entries, &[yes(node)], Why::Def(p, 0)),
-        Some(Kind::False) => add(alloc, entries, &[no(node)], Why::Def(p, 0)),
-        Some(Kind::Equal) => add_equal(alloc, p, node, numbers.same(left, right), entries),
-        Some(Kind::Not) => add_not(alloc, p, node, numbers.node(left), entries),
+        Some(Kind::True) => add(alloc, entries, &[is], Why::Def(p, 0)),
+        Some(Kind::False) => add(alloc, entries, &[is_not], Why::Def(p, 0)),
+        Some(Kind::Equal) => {
+            let same = numbers.same(left, right);
+            add_two(alloc, p, &[is_not, yes(same)], &[is, no(same)], entries)
+        }
+        Some(Kind::Not) => {
+            let a = numbers.node(left);
+            add_two(alloc, p, &[is_not, no(a)], &[is, yes(a)], entries)
+        }
         Some(Kind::And) => {
             let (a, b) = (numbers.node(left), numbers.node(right));
-            add_and(alloc, p, node, a, b, entries)
+            let both = [is, no(a), no(b)];
+            add_three(
+                alloc,
+                p,
+                &[is_not, yes(a)],
+                &[is_not, yes(b)],
+                &both,
+                entries,
+            )
         }
         Some(Kind::Or) => {
             let (a, b) = (numbers.node(left), numbers.node(right));
-            add_or(alloc, p, node, a, b, entries)
+            let either = [is_not, yes(a), yes(b)];
+            add_three(alloc, p, &either, &[is, no(a)], &[is, no(b)], entries)
         }
         _ => Ok(()),
     }

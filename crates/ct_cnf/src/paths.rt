@@ -1,7 +1,7 @@
 // The clauses by which equality is transitive, and different constants differ.
 
 ghost use Rattle.std.specs.Prelude.{◌≡◌, ◌++◌, [], ℕ, OnOk, Contains};
-ghost use Rattle.ct_cnf.specs.Lists.{AreNumbers, over_entries, between_entries, into_entries, paths_after};
+ghost use Rattle.ct_cnf.specs.Lists.{AreNumbers, apart_entries, over_entries, between_entries, into_entries, paths_after};
 
 use crate::entries::{Entry, add, no, yes};
 use crate::numbers::Numbers;
@@ -38,9 +38,31 @@ fn add_over(
     add(alloc, entries, &[first, second, ends], why)
 }
 
+/// Adds the clause by which two terms differ, where both are constants.
+#[tactic(auto, unfolding(crate::specs::Lists::apart_entries))]
+fn add_apart(
+    alloc: Global,
+    words: &[u64],
+    numbers: &Numbers,
+    s: u32,
+    t: u32,
+    entries: &mut Vec<Entry>,
+) -> Result<(), Memory>
+    requires numbers { AreNumbers numbers.now }
+    requires first { Contains numbers.now.terms s }
+    requires second { Contains numbers.now.terms t }
+    ensures { OnOk result (entries.new.items ≡ entries.old.items ++ apart_entries words.now numbers.now s t) }
+{
+    if !is_constant(words, s) || !is_constant(words, t) {
+        return Ok(());
+    }
+    let why = Why::Path(List::from_vec(vec![in alloc; s, t]?));
+    add(alloc, entries, &[no(numbers.same(s, t))], why)
+}
+
 /// Adds the clause by which r and t differ, where both are constants, and those of the paths from r
 /// to t over one other term.
-#[tactic(auto, unfolding(crate::specs::Lists::between_entries, crate::specs::Lists::apart_entries))]
+#[tactic(auto, unfolding(crate::specs::Lists::between_entries))]
 fn add_between(
     alloc: Global,
     words: &[u64],
@@ -53,10 +75,7 @@ fn add_between(
     requires ends { Contains numbers.now.terms r × Contains numbers.now.terms t }
     ensures { OnOk result (entries.new.items ≡ entries.old.items ++ between_entries words.now numbers.now r t) }
 {
-    if is_constant(words, r) && is_constant(words, t) {
-        let why = Why::Path(List::from_vec(vec![in alloc; r, t]?));
-        add(alloc, entries, &[no(numbers.same(r, t))], why)?;
-    }
+    add_apart(alloc, words, numbers, r, t, entries)?;
     for s in numbers.terms.as_slice() {
         add_over(alloc, words, numbers, r, *s, t, entries)?;
     }

@@ -30,6 +30,10 @@ known : (words : List ℕ) (p : ℕ) → is_constant words p ≡ true → is_con
 unfolding is_constant
 known words p e = e
 
+pub pair_before : (x : Term) (y : Value) (us ws : World) → with_pair x y (us ++ ws) ≡ with_pair x y us ++ ws
+pair_before (term.Null n) y us ws = refl
+pair_before _ y us ws = refl
+
 module _ (words : List ℕ) (wf : IsWellFormed words) where
   -- the numbers before any class has got one
   module _ (ts : List ℕ) (ms : List Member) (merges : Merges (members_at words ts) ms) where
@@ -349,11 +353,7 @@ module _ (words : List ℕ) (wf : IsWellFormed words) where
 
     world_append : (us : List ℕ) (t : ℕ) → world_of words ns (us ++ t ∷ []) ≡ world_of words ns us ++ with_pair (term_at words t) (value_of ns t) []
     world_append [] t = refl
-    world_append (u ∷ us) t = ap (with_pair (term_at words u) (value_of ns u)) (world_append us t) ∙ pushed (term_at words u) where
-      pushed : (x : Term) → with_pair x (value_of ns u) (world_of words ns us ++ with_pair (term_at words t) (value_of ns t) [])
-          ≡ with_pair x (value_of ns u) (world_of words ns us) ++ with_pair (term_at words t) (value_of ns t) []
-      pushed (term.Null n) = refl
-      pushed _ = refl
+    world_append (u ∷ us) t = ap (with_pair (term_at words u) (value_of ns u)) (world_append us t) ∙ pair_before (term_at words u) (value_of ns u) (world_of words ns us) _
 
     all_next : (done rest : List ℕ) → ts ≡ done ++ rest → AreNext words atoms (world_of words ns done) (world_of words ns rest)
     all_next done [] is = tt

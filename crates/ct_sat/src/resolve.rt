@@ -15,14 +15,23 @@ use crate::verdict::Rup;
 use ct_word::{List, Memory};
 use std::alloc::{AllocError, Global};
 
+/// Adds a literal, unless it is there already or is l.
+fn add_other(out: &mut Vec<i32>, l: &i32, m: &i32) -> Result<(), AllocError>
+    ensures { OnOk result (out.new.items ≡ added out.old.items l.now (m.now ∷ [])) }
+{
+    if is_same(l, m) || contains(out.as_slice(), m) {
+        return Ok(());
+    }
+    out.push(*m)?;
+    Ok(())
+}
+
 /// Adds the literals of a clause that are not there yet, but for l.
 fn add_without(out: &mut Vec<i32>, l: &i32, clause: &[i32]) -> Result<(), AllocError>
     ensures { OnOk result (out.new.items ≡ added out.old.items l.now clause.now) }
 {
     for m in clause {
-        if !is_same(l, m) && !contains(out.as_slice(), m) {
-            out.push(*m)?;
-        }
+        add_other(out, l, m)?;
     }
     Ok(())
 }

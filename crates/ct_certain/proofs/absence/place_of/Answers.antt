@@ -37,8 +37,8 @@ returns-in-Ok-clause-writes g c =
     (value_writes old new x c.term-found.result (subst (IsAtHand (g.I.Interner.list old)) (sym c.in_ok-copy.ensures.cases) c.requires)
     c.term-found.ensures.longer c.words-2.ensures.formed c.words-2.ensures.room c.term-found.ensures.full c.term-found.ensures.known c.term-found.ensures.made c.term-found.ensures.err c.term-found.ensures.kept c.term-found.ensures.lent)
 
-pub returns-clause-writes : goal.returns-clause-writes
-returns-clause-writes g c =
+pub returns-in-Err-clause-writes : goal.returns-in-Err-clause-writes
+returns-in-Err-clause-writes g c =
     let old = c.args.pass.now in
     let new = c.term-found.new.pass in
     let x = c.in_ok-copy.copy in

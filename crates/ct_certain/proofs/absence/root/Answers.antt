@@ -61,8 +61,8 @@ returns-in-Ok-clause-writes g c =
     (writes_as (root_most (length c.args.tuple.now) k r a n c.requires.width_is (ap length c.in_ok-alone.ensures.rows) (ap length c.in_ok-alone.ensures.columns))
     (writes_both c.in_ok-cells.ensures.writes (table_writes c.places.new.pass c.except-rest.new.pass (a * r * (2 * n + 2) + a) c.except-rest.result c.except-rest.ensures.longer c.words-2.ensures.formed c.words-2.ensures.room c.except-rest.ensures.full c.except-rest.ensures.made c.except-rest.ensures.fewer c.except-rest.ensures.kept c.except-rest.ensures.lent)))
 
-pub returns-clause-writes : goal.returns-clause-writes
-returns-clause-writes g c =
+pub returns-in-Err-clause-writes : goal.returns-in-Err-clause-writes
+returns-in-Err-clause-writes g c =
     let k = length c.args.table.now.columns in
     let r = length c.args.table.now.rows in
     let a = length c.in_ok-alone.alone.rows in

@@ -1,7 +1,6 @@
-use Rattle.std.{proofs.Common.{◌≡◌, ◌≤◌, Err, length, ap, sym, subst, arith, ◌∙◌, rules}, specs.Prelude.All, specs.List.IsDistinct}
-use Rattle.std.proofs.lemmas.Result.{err_from_is_err_and}
+use Rattle.std.{proofs.Common.{◌≡◌, ◌≤◌, length, sym, subst, arith, ◌∙◌, rules}, specs.Prelude.All, specs.List.IsDistinct, proofs.lemmas.Result.IfOk-weaker}
 use Rattle.ct_word.specs.Value.{same_tuple}
-use Rattle.ct_operators.{specs.Tables.{firsts, value_of_rows}, proofs.Adding.passed}
+use Rattle.ct_operators.specs.Tables.{firsts, value_of_rows}
 use Rattle.ct_certain.{specs.Certain.{IsCutProof, ListsCertain}, specs.Missing.{AreListed, IsAskedOf, IsPastTermsOfSomeTuple, IsSeen}, proofs.Roots.past_width}
 use Rattle.ct_certain.{proofs.Candidates.{distinct_keys, first_all, first_fewer, worth_asked, worth_fewer}, proofs.Certainties.{all_cut, listed_all}}
 use Rattle.ct_certain.proofs.certainty.certain.Goals as goal
@@ -33,6 +32,9 @@ each_certain-requires-clause-asked g c =
     (first_all (IsAskedOf words words global width rows) (value_of_rows words kept rows)
     (worth_asked words global width rows kept c.words.ensures.formed c.words.ensures.begins c.requires.global c.requires.plain c.requires.rows c.requires.kept)))
 
+pub each_certain-requires-clause-pool : goal.each_certain-requires-clause-pool
+each_certain-requires-clause-pool g c = subst (λ rs. All (IsSeen c.as_slice-before.result.now c.args.global rs) c.see_first.new.pool.items) c.as_slice-rows.ensures c.in_ok-see_first.ensures
+
 pub returns-clause-lists : goal.returns-clause-lists
 returns-clause-lists g c =
     let words = c.args.pass.now.words in
@@ -40,37 +42,30 @@ returns-clause-lists g c =
     let rows = c.args.table.now.rows in
     let kept = c.args.kept.now in
     let global = c.args.global in
-    let list = c.in_ok-list.list.items in
     let same : c.as_slice-before.result.now ≡ words = search rules in
     let worth : c.as_slice.result.now ≡ firsts same_tuple (value_of_rows words kept rows) = search rules in
-    subst (ListsCertain words new global rows kept) (sym c.from_vec.ensures)
-    (listed_all words global rows new c.in_ok-list.ensures.writes.formed kept c.requires.kept.holds list (subst (IsDistinct same_tuple) (sym c.as_slice.ensures.keys ∙ worth) (distinct_keys _ c.as_slice.ensures.unique))
-    (subst (λ ts. AreListed words new global rows ts list) worth (subst (λ ws. AreListed ws new global rows c.as_slice.result.now list) same c.in_ok-list.ensures.lists)))
-
-pub each_certain-requires-clause-pool : goal.each_certain-requires-clause-pool
-each_certain-requires-clause-pool g c = subst (λ rs. All (IsSeen c.as_slice-before.result.now c.args.global rs) c.in_ok-pool.pool.items) c.as_slice-rows.ensures c.in_ok-pool.ensures
+    let distinct = subst (IsDistinct same_tuple) (sym c.as_slice.ensures.keys ∙ worth) (distinct_keys _ c.as_slice.ensures.unique) in
+    IfOk-weaker c.each_certain.result _ (ListsCertain words new global rows kept)
+    (λ list is. listed_all words global rows new c.each_certain.ensures.writes.formed kept c.requires.kept.holds list distinct
+    (subst (λ ts. AreListed words new global rows ts list) worth (subst (λ ws. AreListed ws new global rows c.as_slice.result.now list) same is)))
+    c.each_certain.ensures.lists
 
 pub returns-clause-cut : goal.returns-clause-cut
 returns-clause-cut g c =
     let new = c.each_certain.new.pass.words in
-    let list = c.in_ok-list.list.items in
-    subst (All (λ r. IsCutProof new r.proof)) (sym c.from_vec.ensures) (all_cut c.as_slice-before.result.now c.args.global c.args.table.now.rows new list c.in_ok-list.ensures.lists.refuted)
+    IfOk-weaker c.each_certain.result _ (All (λ r. IsCutProof new r.proof))
+    (λ list is. all_cut c.as_slice-before.result.now c.args.global c.args.table.now.rows new list is.refuted) c.each_certain.ensures.lists
 
-pub returns-in_err-list-clause-question : goal.returns-in_err-list-clause-question
-returns-in_err-list-clause-question g c e =
+pub returns-clause-question : goal.returns-clause-question
+returns-clause-question g c e =
     let words = c.args.pass.now.words in
-    let new = c.each_certain.new.pass.words in
-    let rows = c.args.table.now.rows in
-    let kept = c.args.kept.now in
-    let global = c.args.global in
+    let past = IsPastTermsOfSomeTuple words c.each_certain.new.pass.words c.args.global c.args.table.now.rows in
     let same : c.as_slice-before.result.now ≡ words = search rules in
-    let worth : c.as_slice.result.now ≡ firsts same_tuple (value_of_rows words kept rows) = search rules in
-    let exit = err_from_is_err_and c.from_residual-in_err-list.result c.from_residual-in_err-list.ensures.1 in
-    subst (IsPastTermsOfSomeTuple words new global rows) worth
-    (subst (λ ws. IsPastTermsOfSomeTuple ws new global rows c.as_slice.result.now) same (c.in_err-list.ensures.many (passed _ _ _ (exit.1 ∙ ap Err exit.2) e)))
+    let worth : c.as_slice.result.now ≡ firsts same_tuple (value_of_rows words c.args.kept.now c.args.table.now.rows) = search rules in
+    subst past worth (subst (λ ws. IsPastTermsOfSomeTuple ws c.each_certain.new.pass.words c.args.global c.args.table.now.rows c.as_slice.result.now) same (c.each_certain.ensures.many e))
 
-pub returns-in_err-list-clause-many : goal.returns-in_err-list-clause-many
-returns-in_err-list-clause-many g c e =
+pub returns-clause-many : goal.returns-clause-many
+returns-clause-many g c e =
     let words = c.args.pass.now.words in
     let rows = c.args.table.now.rows in
     let kept = c.args.kept.now in
@@ -79,4 +74,4 @@ returns-in_err-list-clause-many g c e =
     past_width words c.each_certain.new.pass.words global width rows (firsts same_tuple (value_of_rows words kept rows))
     (first_all (IsAskedOf words words global width rows) (value_of_rows words kept rows)
     (worth_asked words global width rows kept c.words.ensures.formed c.words.ensures.begins c.requires.global c.requires.plain c.requires.rows c.requires.kept))
-    (returns-in_err-list-clause-question g c e)
+    (returns-clause-question g c e)

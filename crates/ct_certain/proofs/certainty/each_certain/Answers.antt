@@ -31,7 +31,10 @@ loop-tuple-preserved g c = record {
 }
 
 pub returns-clause-lists : goal.returns-clause-lists
-returns-clause-lists g c = subst (λ d. AreListed c.args.words.now (g.I.Interner.list c.loop-tuple.pass) c.args.global c.args.table.now.rows d c.loop-tuple.list.rows.items) (take_all c.loop-tuple.tuple-index c.args.candidates.now c.loop-tuple-test.false) c.loop-tuple.invariant.lists
+returns-clause-lists g c =
+    let done = take_all c.loop-tuple.tuple-index c.args.candidates.now c.loop-tuple-test.false in
+    let all = subst (λ d. AreListed c.args.words.now (g.I.Interner.list c.loop-tuple.pass) c.args.global c.args.table.now.rows d c.loop-tuple.list.rows.items) done c.loop-tuple.invariant.lists in
+    subst (AreListed c.args.words.now (g.I.Interner.list c.loop-tuple.pass) c.args.global c.args.table.now.rows c.args.candidates.now) (sym c.from_vec.ensures) all
 
 pub returns-clause-writes : goal.returns-clause-writes
 returns-clause-writes g c =

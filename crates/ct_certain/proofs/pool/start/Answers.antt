@@ -4,7 +4,7 @@ use Rattle.ct_certain.proofs.pool.start.Goals as goal
 
 pub returns : goal.returns
 returns c = record {
-  worlds = c.in_ok-worlds.ensures;
-  never = subst (All (IsNever c.args.words.now c.args.global)) (sym c.new.ensures.empty) (All-nil _);
+  worlds = c.in_ok-keep.ensures;
+  never = subst (All (IsNever c.args.words.now c.args.global)) (sym c.new-2.ensures.empty) (All-nil _);
   nulls = one_root c.args.words.now c.args.global c.in_ok-nulls.nulls.keys c.in_ok-nulls.ensures;
 }

@@ -11,7 +11,7 @@ loop-row-init g c = record {
   writes = writes_none _ c.words.ensures.formed c.words.ensures.room;
   lists = subst (ListsPossible c.args.words.now c.args.global []) (sym c.new-list.ensures.items) ended;
   own = subst (All (IsOwn c.args.words.now c.args.global c.args.rows.now)) (sym c.new-list.ensures.items) (All-nil _);
-  pool = c.in_ok-pool.ensures;
+  pool = c.requires.pool;
 }
 
 pub show-requires-clause-longer : goal.show-requires-clause-longer
@@ -32,25 +32,22 @@ loop-row-preserved g c = record {
 }
 
 pub returns-clause-lists : goal.returns-clause-lists
-returns-clause-lists g c = subst (λ d. ListsPossible c.args.words.now c.args.global d c.loop-row.list.items) (take_all c.loop-row.row-index c.args.rows.now c.loop-row-test.false) c.loop-row.invariant.lists
+returns-clause-lists g c =
+    let done = take_all c.loop-row.row-index c.args.rows.now c.loop-row-test.false in
+    subst (ListsPossible c.args.words.now c.args.global c.args.rows.now) (sym c.from_vec.ensures) (subst (λ d. ListsPossible c.args.words.now c.args.global d c.loop-row.list.items) done c.loop-row.invariant.lists)
 
 pub returns-clause-writes : goal.returns-clause-writes
 returns-clause-writes g c = let le : c.loop-row.row-index ≤ length c.args.rows.now = c.loop-row.auto.row-index-end in writes_within _ (omega (arith, le)) c.loop-row.invariant.writes
 
-pub returns-in_err-pool-clause-writes : goal.returns-in_err-pool-clause-writes
-returns-in_err-pool-clause-writes g c =
-    let exit = err_from_is_err_and c.from_residual.result c.from_residual.ensures.1 in
-    rw (exit.1, exit.2) (writes_none _ c.words.ensures.formed c.words.ensures.room)
-
 pub returns-in_err-found-clause-writes : goal.returns-in_err-found-clause-writes
 returns-in_err-found-clause-writes g c =
-    let exit = err_from_is_err_and c.from_residual-in_err-found.result c.from_residual-in_err-found.ensures.1 in
+    let exit = err_from_is_err_and c.from_residual.result c.from_residual.ensures.1 in
     let n : length c.args.rows.now * 1 ≡ length c.args.rows.now = omega arith in
     rw (exit.1, exit.2) (writes_as n (writes_last _ _ c.loop-row.invariant.writes _ c.loop-row-test.true c.in_err-found.ensures.writes))
 
 pub returns-in_err-found-clause-many : goal.returns-in_err-found-clause-many
 returns-in_err-found-clause-many g c e =
-    let exit = err_from_is_err_and c.from_residual-in_err-found.result c.from_residual-in_err-found.ensures.1 in
+    let exit = err_from_is_err_and c.from_residual.result c.from_residual.ensures.1 in
     past_row c.args.words.now c.args.global _ c.args.rows.now c.loop-row.row-index c.row-item.result c.loop-row-test.true c.row-item.is (c.in_err-found.ensures.many (passed _ _ _ (exit.1 ∙ ap Err exit.2) e))
 
 pub returns-in_err-list_row-clause-writes : goal.returns-in_err-list_row-clause-writes
