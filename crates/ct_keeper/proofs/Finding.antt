@@ -8,10 +8,10 @@ use Rattle.ct_word.specs.WellFormed.{IsWellFormed, is_place_of}
 use Rattle.ct_query.specs.Fits.{columns_in, count_of, width, IsColumnBelow, AreColumnsBelow, AreAllColumnsBelow, FitsRow}
 use Rattle.ct_query.specs.Terms.{condition_terms, all_terms}
 use Rattle.ct_history.specs.Rows.{IsRowOf}
-use Rattle.ct_table.{specs.Denotes.{TableView, heading_of, find_table, with_table}, specs.declared.pending.Growth.Growth, specs.Pending.{after, put_into}}
+use Rattle.ct_table.{specs.Denotes.{TableView, heading_of, find_table, with_table}, specs.Pending.put_into}
 use Rattle.ct_table.{specs.Growing.rows_after, proofs.Denoting.found_all}
 use Rattle.ct_operators.{specs.Tables.{IsRow, AreRows}, proofs.Naming.condition_named, proofs.Reaching.{first_or_behind, term_alone}}
-use Rattle.ct_keeper.specs.Effects.{DoesChange, new_table, rows_of_table}
+use Rattle.ct_keeper.{specs.declared.effects.Effect.Effect, specs.Effects.{DoesChange, new_table, rows_of_table}}
 use Rattle.ct_word.specs.declared.kinds.Class.TheVariants as class
 use Rattle.ct_word.specs.declared.values.Term.TheVariants as term
 use Rattle.ct_query.specs.Plain as plain
@@ -122,8 +122,8 @@ module _ (words : List ℕ) (formed : IsWellFormed words) where
       (rows_fit n rs (All-tail (IsRowOf words) r rs all) (All-tail (FitsRow n) (plain_crow words r) (map (plain_crow words) rs) fits))
 
 -- a table that comes last is what a creation does
-pub does_create : (old new : List ℕ) (db : List TableView) (global : ℕ) (name : List ℕ) (columns : List (List ℕ)) (made : Growth) → made ≡ growth.Table name (record { columns = columns; rows = [] })
-    → columns_in (map heading_of db) name ≡ None → DoesChange old new db global (written.Create name columns) (effect.Grows made)
+pub does_create : (old new : List ℕ) (db : List TableView) (global : ℕ) (name : List ℕ) (columns : List (List ℕ)) (made : Effect)
+    → made ≡ effect.Grows (growth.Table name (record { columns = columns; rows = [] })) → columns_in (map heading_of db) name ≡ None → DoesChange old new db global (written.Create name columns) made
 does_create old new db global name columns made is absent =
     let missing = not_there db name absent in
-    (missing, ap (after db) is ∙ with_new db (new_table name columns) missing)
+    subst (DoesChange old new db global (written.Create name columns)) (sym is) (missing, with_new db (new_table name columns) missing)

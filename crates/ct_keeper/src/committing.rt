@@ -1,12 +1,13 @@
 // How changes are applied and committed: one on the list of the tables that is there, several on a copy of it.
 
-ghost use Rattle.std.specs.Prelude.{◌≡◌, ◌<◌, ◌≤◌, ◌+◌, ◌^◌, [], ◌∷◌, true, length, map, All, IfOk, IfErr, OnOk, OnErr, MatchResult, IsTrue, Some, is_err};
+ghost use Rattle.std.specs.Prelude.{◌≡◌, ◌<◌, ◌≤◌, ◌+◌, ◌^◌, ℕ, List, [], ◌∷◌, true, false, length, map, All, IfOk, IfErr, OnOk, OnErr, MatchResult, IsTrue, Some, is_err};
 ghost use Rattle.std.specs.Arc.{arc_value};
 ghost use Rattle.ct_word.specs.declared.kinds.Class.TheVariants as class;
 ghost use Rattle.ct_word.specs.Reading.{commits_of, change_list_at};
 ghost use Rattle.ct_word.specs.WellFormed.{is_place_of};
 ghost use Rattle.ct_query.specs.Fits.{FitsChange};
 ghost use Rattle.ct_condition.specs.Writes.{charge};
+ghost use Rattle.ct_history.specs.declared.written.Written.{Written};
 ghost use Rattle.ct_history.specs.Written.{IsWritten, plain_written};
 ghost use Rattle.ct_table.specs.Denotes.{heading_of};
 ghost use Rattle.ct_table.specs.Pending.{FitsGrowth, after};
@@ -63,6 +64,25 @@ fn effect_for<N: Site>(
     )
 }
 
+/// Tables and global condition after an effect.
+///
+/// # Errors
+/// `Memory` where there is none for the tables.
+fn reached(alloc: Global, content: Content, effect: Effect) -> Result<Content, KeeperError>
+    requires fits { FitsEffect content.tables effect }
+    ensures after { (old new : List ℕ) (change : Written) → DoesChange old new content.tables content.global change effect → IfOk result (IsAfter old new content change) }
+    ensures full { is_full result ≡ false }
+{
+    let Content { tables, global } = content;
+    match effect {
+        Effect::Grows(growth) => match grown(alloc, tables, growth) {
+            Ok(tables) => Ok(Content { tables, global }),
+            Err(_) => Err(KeeperError::Memory),
+        },
+        Effect::Narrows(global) => Ok(Content { tables, global }),
+    }
+}
+
 /// Tables and global condition after a change.
 ///
 /// # Errors
@@ -86,14 +106,7 @@ fn applied<N: Site>(
     ensures words { guest.new.made + charge (is_full result) ≤ guest.old.made + effect_words content.tables (plain_written keeper.old.words change.now) }
 {
     let effect = effect_for(alloc, arena, keeper, guest, &content, change)?;
-    let Content { tables, global } = content;
-    match effect {
-        Effect::Grows(growth) => match grown(alloc, tables, growth) {
-            Ok(tables) => Ok(Content { tables, global }),
-            Err(_) => Err(KeeperError::Memory),
-        },
-        Effect::Narrows(global) => Ok(Content { tables, global }),
-    }
+    reached(alloc, content, effect)
 }
 
 /// Tables and global condition after these changes. The list of the tables is a copy, and the tables that do not change
@@ -233,6 +246,36 @@ fn commit_one<N: Site>(
     }
 }
 
+/// Commits the changes of a list on a copy of the list of the tables.
+///
+/// # Errors
+/// `Full` where the log has no room for a condition or for the commit word, `Memory`.
+fn commit_several<N: Site>(
+    alloc: Global,
+    arena: &Arena<N>,
+    keeper: &mut KeeperPass<N>,
+    guest: &mut Guest<N>,
+    content: &mut Content,
+    changes: &[Written],
+    list: u32,
+) -> Result<(), KeeperError>
+    requires guest { keeper.old.guest ≡ Some guest.old }
+    requires few { guest.old.mine < 2 ^ 18 }
+    requires place { IsTrue (is_place_of keeper.old.words class.ChangeList list) }
+    requires can { CanApply keeper.old.words content.old changes.now }
+    ensures appends { OnOk result (Appends list keeper.old guest.old keeper.new guest.new) }
+    ensures made { OnOk result (IsMade keeper.new.words (commits_of keeper.old.words) (map (plain_written keeper.old.words) changes.now) content.new) }
+    ensures interns { OnErr result (Interns keeper.old guest.old keeper.new guest.new) }
+    ensures same { OnErr result (content.new ≡ content.old) }
+    ensures full { is_full result ≡ true → length keeper.new.words ≡ N.log.cap }
+    ensures words { guest.new.made + charge (is_full result) ≤ guest.old.made + (1 + all_words keeper.old.words changes.now) }
+{
+    let made = applied_all(alloc, arena, keeper, guest, content, changes)?;
+    append(arena, keeper, guest, list)?;
+    *content = made;
+    Ok(())
+}
+
 /// Commits the changes of a list: one on the list of the tables that is there, several on a copy of it.
 ///
 /// # Errors
@@ -257,11 +300,8 @@ pub fn commit_all<N: Site>(
     ensures full { is_full result ≡ true → length keeper.new.words ≡ N.log.cap }
     ensures words { guest.new.made + charge (is_full result) ≤ guest.old.made + (1 + all_words keeper.old.words changes.now) }
 {
-    if let [change] = changes {
-        return commit_one(alloc, arena, keeper, guest, content, change, list);
+    match changes {
+        [change] => commit_one(alloc, arena, keeper, guest, content, change, list),
+        _ => commit_several(alloc, arena, keeper, guest, content, changes, list),
     }
-    let made = applied_all(alloc, arena, keeper, guest, content, changes)?;
-    append(arena, keeper, guest, list)?;
-    *content = made;
-    Ok(())
 }

@@ -1,6 +1,6 @@
 // What one change does to tables and to the global condition: found and made before anything is touched.
 
-ghost use Rattle.std.specs.Prelude.{◌≡◌, ◌+◌, ◌*◌, [], length, map, None, All, IfOk, IsTrue};
+ghost use Rattle.std.specs.Prelude.{◌≡◌, ◌+◌, ◌*◌, ℕ, List, [], false, length, map, All, IfOk, IsTrue};
 ghost use Rattle.ct_word.specs.declared.kinds.Class.TheVariants as class;
 ghost use Rattle.ct_word.specs.Change.{Insert, Delete};
 ghost use Rattle.ct_word.specs.Reading.{condition_at, plain_crow};
@@ -10,19 +10,20 @@ ghost use Rattle.ct_query.specs.Fits.{AreColumnsBelow, FitsChange};
 ghost use Rattle.ct_condition.specs.Writes.{Writes};
 ghost use Rattle.ct_history.specs.Rows.{IsRowOf};
 ghost use Rattle.ct_history.specs.Written.{IsWritten, plain_written};
-ghost use Rattle.ct_table.specs.Denotes.{find_table, heading_of};
-ghost use Rattle.ct_table.specs.Pending.{FitsGrowth, after};
+ghost use Rattle.ct_history.specs.declared.written.Written.TheVariants as written;
+ghost use Rattle.ct_table.specs.Denotes.{TableView, find_table, heading_of};
 ghost use Rattle.ct_operators.specs.Refusals.{is_full};
 ghost use Rattle.ct_operators.specs.Tables.{AreRows};
 ghost use Rattle.ct_table.specs.declared.pending.Growth.TheVariants as growth;
-ghost use Rattle.ct_keeper.specs.Effects.{AreInserted, AreSpared, DoesChange, FitsEffect, Gets, IsNarrowed, effect_words, rows_found};
+ghost use Rattle.ct_keeper.specs.declared.effects.Effect.TheVariants as effect;
+ghost use Rattle.ct_keeper.specs.Effects.{DoesChange, FitsEffect, IsNarrowed, effect_words, rows_found};
 
 use ct_arena::{Arena, Site};
 use ct_condition::{Interner, and};
 use ct_history::Written;
 use ct_table::{CRow, CTable, Db, Growth, TableError, delete, insertions};
 use ct_word::{List, Text};
-use std::alloc::{AllocError, Global};
+use std::alloc::Global;
 
 /// What a change does: it lets the tables grow, or puts another condition in the place of the global one.
 #[derive(Drop)]
@@ -31,24 +32,25 @@ pub enum Effect {
     Narrows(u32),
 }
 
-/// The growth by a new table without rows.
+/// What a creation does: the tables grow by a new one without rows.
 ///
 /// # Errors
-/// `AllocError` where there is no memory for the names.
-fn created(alloc: Global, name: &Text, columns: &List<Text>) -> Result<Growth, AllocError>
-    ensures { IfOk result (λ made. made ≡ growth.Table name.now (record { columns = columns.now; rows = [] })) }
+/// `Memory` where there is none for the names.
+fn created(alloc: Global, name: &Text, columns: &List<Text>) -> Result<Effect, TableError>
+    ensures fits { (db : List TableView) → IfOk result (FitsEffect db) }
+    ensures is { IfOk result (λ made. made ≡ effect.Grows (growth.Table name.now (record { columns = columns.now; rows = [] }))) }
+    ensures full { is_full result ≡ false }
 {
+    let name = name.clone()?;
+    let columns = columns.clone()?;
     let table = CTable {
-        columns: columns.clone()?,
+        columns,
         rows: List::new(alloc),
     };
-    Ok(Growth::Table {
-        name: name.clone()?,
-        table,
-    })
+    Ok(Effect::Grows(Growth::Table { name, table }))
 }
 
-/// The growth by further rows for the table of this name.
+/// What an insertion does: the table of this name grows by further rows.
 ///
 /// # Errors
 /// `Full` where the log has no room for a condition, `Memory` where there is none for the rows.
@@ -59,26 +61,24 @@ fn inserted<N: Site, I: Interner<N>>(
     db: &Db,
     name: &Text,
     rows: &[CRow],
-) -> Result<Growth, TableError>
+) -> Result<Effect, TableError>
     requires tables { All (λ t. AreRows (I.list pass.old) (length t.columns) t.rows) db.now }
     requires written { All (IsRowOf (I.list pass.old)) rows.now }
     requires fitting { FitsChange (map heading_of db.now) (Insert name.now (map (plain_crow (I.list pass.old)) rows.now)) }
-    ensures fits { IfOk result (FitsGrowth db.now) }
-    ensures gets { IfOk result (λ made. Gets db.now (after db.now made) (find_table db.now name.now) (λ t out. AreInserted (I.list pass.old) (I.list pass.new) (length t.columns) t.rows rows.now out)) }
+    ensures fits { IfOk result (FitsEffect db.now) }
+    ensures does { (global : ℕ) → IfOk result (DoesChange (I.list pass.old) (I.list pass.new) db.now global (written.Insert name.now rows.now)) }
     ensures writes { Writes I.list I.made I.kept I.lent N.log.cap pass.old pass.new (length rows.now) (is_full result) }
 {
     let _ = pass.words();
     let Some(table) = db.get(name) else {
         unreachable!()
     };
+    let name = name.clone()?;
     let puts = insertions(alloc, arena, pass, table, rows)?;
-    Ok(Growth::Rows {
-        name: name.clone()?,
-        puts,
-    })
+    Ok(Effect::Grows(Growth::Rows { name, puts }))
 }
 
-/// The growth that puts the table of this name without the rows for which a condition holds.
+/// What a deletion does: the table of this name is put without the rows for which a condition holds.
 ///
 /// # Errors
 /// `Full` where the log has no room for a condition, `Memory` where there is none for the rows.
@@ -89,26 +89,26 @@ fn deleted<N: Site, I: Interner<N>>(
     db: &Db,
     name: &Text,
     cond: u32,
-) -> Result<Growth, TableError>
+) -> Result<Effect, TableError>
     requires tables { All (λ t. AreRows (I.list pass.old) (length t.columns) t.rows) db.now }
     requires written { IsTrue (is_place_of (I.list pass.old) class.Cond cond) }
     requires fitting { FitsChange (map heading_of db.now) (Delete name.now (condition_at (I.list pass.old) cond)) }
-    ensures fits { IfOk result (FitsGrowth db.now) }
-    ensures gets { IfOk result (λ made. Gets db.now (after db.now made) (find_table db.now name.now) (λ t out. AreSpared (I.list pass.old) (I.list pass.new) (length t.columns) cond t.rows out)) }
+    ensures fits { IfOk result (FitsEffect db.now) }
+    ensures does { (global : ℕ) → IfOk result (DoesChange (I.list pass.old) (I.list pass.new) db.now global (written.Delete name.now cond)) }
     ensures writes { Writes I.list I.made I.kept I.lent N.log.cap pass.old pass.new (rows_found (find_table db.now name.now) * (ops (condition_at (I.list pass.old) cond) + 2)) (is_full result) }
 {
     let _ = pass.words();
     let Some(table) = db.get(name) else {
         unreachable!()
     };
+    let name = name.clone()?;
     let rows = table.copied(alloc)?;
     let spared = delete(alloc, arena, pass, &rows, cond);
+    drop(rows);
     // The words are well formed and within the capacity, also where no table was made.
     let _ = pass.words();
-    Ok(Growth::Table {
-        name: name.clone()?,
-        table: spared?,
-    })
+    let table = spared?;
+    Ok(Effect::Grows(Growth::Table { name, table }))
 }
 
 /// The place of the conjunction of the global condition and a further one.
@@ -154,15 +154,9 @@ pub fn effect_of<N: Site, I: Interner<N>>(
 {
     let _ = pass.words();
     match change {
-        Written::Create { name, columns } => Ok(Effect::Grows(created(alloc, name, columns)?)),
-        Written::Insert { name, rows } => {
-            let growth = inserted(alloc, arena, pass, db, name, rows.as_slice())?;
-            Ok(Effect::Grows(growth))
-        }
-        Written::Delete { name, cond } => {
-            let growth = deleted(alloc, arena, pass, db, name, *cond)?;
-            Ok(Effect::Grows(growth))
-        }
+        Written::Create { name, columns } => created(alloc, name, columns),
+        Written::Insert { name, rows } => inserted(alloc, arena, pass, db, name, rows.as_slice()),
+        Written::Delete { name, cond } => deleted(alloc, arena, pass, db, name, *cond),
         Written::Assert { cond } => Ok(Effect::Narrows(narrowed(arena, pass, global, *cond)?)),
     }
 }

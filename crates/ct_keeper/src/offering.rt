@@ -27,25 +27,9 @@ use crate::verdict::Verdict;
 use crate::writers::{asserts, written_names};
 use ct_arena::{Arena, Guest, KeeperPass, Site};
 use ct_history::Written;
-use ct_word::{List, Memory, Text, World};
+use ct_word::{Memory, Text, World};
 use std::alloc::Global;
 use std::sync::Arc;
-
-/// A copy of a world.
-///
-/// # Errors
-/// `Memory` where there is none for it.
-fn copied(alloc: Global, world: &World) -> Result<World, Memory>
-    ensures { IfOk result (λ copy. copy ≡ world.now) }
-{
-    let mut pairs = Vec::new(alloc);
-    for pair in world.as_slice() {
-        let null = pair.0.clone()?;
-        let value = pair.1.clone()?;
-        pairs.push((null, value))?;
-    }
-    Ok(List::from_vec(pairs))
-}
 
 /// The world that is kept after a commit of these changes: the one that is offered where an assertion is among them, else
 /// the one that was kept.
@@ -61,8 +45,7 @@ fn next_kept(
     ensures { IfOk result (λ next. next.value ≡ (if list_any is_assertion changes.now then offered.now else kept.now.value)) }
 {
     if asserts(changes) {
-        let copy = copied(alloc, offered)?;
-        Ok(Arc::new(alloc, copy)?)
+        Ok(Arc::new(alloc, offered.clone()?)?)
     } else {
         Ok(Arc::try_clone(kept)?)
     }

@@ -7,7 +7,7 @@ ghost use Rattle.ct_transcript.specs.Written.{Appends, Adds};
 
 use crate::nodes::{Printed, print_nodes, push_root};
 use crate::rows::{push_conditions, push_line, push_name_lines, push_rows};
-use crate::terms::push_names;
+use crate::terms::{push_names, push_text};
 use ct_rewrite::{Change, Commit, Node};
 use ct_word::{Memory, Text};
 use std::alloc::Global;
@@ -16,11 +16,10 @@ fn push_references(references: &mut Vec<u32>, change: &Change) -> Result<(), Mem
     ensures { Adds result references.old references.new (references_of change.now) }
 {
     match change {
-        Change::Create { .. } => {}
-        Change::Insert { rows, .. } => push_conditions(references, rows.as_slice())?,
-        Change::Delete { cond, .. } | Change::Assert { cond } => references.push(*cond)?,
+        Change::Create { .. } => Ok(()),
+        Change::Insert { rows, .. } => push_conditions(references, rows.as_slice()),
+        Change::Delete { cond, .. } | Change::Assert { cond } => Ok(references.push(*cond)?),
     }
-    Ok(())
 }
 
 fn commit_references(alloc: Global, changes: &[Change]) -> Result<Vec<u32>, Memory>
@@ -39,8 +38,7 @@ fn push_about(out: &mut String, verb: &str, name: &Text, after: &str) -> Result<
 {
     out.push_str(verb)?;
     out.push_str(name.as_str())?;
-    out.push_str(after)?;
-    Ok(())
+    push_text(out, after)
 }
 
 fn push_change(
@@ -54,22 +52,21 @@ fn push_change(
     match change {
         Change::Create { name, columns } => {
             push_about(out, "create table ", name, " ")?;
-            push_names(out, columns.as_slice())?;
+            push_names(out, columns.as_slice())
         }
         Change::Insert { name, rows } => {
             push_about(out, "insert into ", name, " ")?;
-            push_rows(out, nodes, printed, rows.as_slice())?;
+            push_rows(out, nodes, printed, rows.as_slice())
         }
         Change::Delete { name, cond } => {
             push_about(out, "delete from ", name, " where ")?;
-            push_root(out, printed, *cond)?;
+            push_root(out, printed, *cond)
         }
         Change::Assert { cond } => {
             out.push_str("assert ")?;
-            push_root(out, printed, *cond)?;
+            push_root(out, printed, *cond)
         }
     }
-    Ok(())
 }
 
 fn push_change_line(

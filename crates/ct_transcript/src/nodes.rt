@@ -7,7 +7,7 @@ ghost use Rattle.ct_transcript.specs.TermText.{term_text};
 ghost use Rattle.ct_transcript.specs.NodeText.{is_run, references_to, names_of, name_text, name_or, as_root, as_child, node_text, printed, is_true_node, is_false_node, unless_true};
 ghost use Rattle.ct_transcript.specs.Written.{Appends, separator_before};
 
-use crate::terms::{push_separator, push_term};
+use crate::terms::{push_separator, push_term, push_text};
 use ct_rewrite::Node;
 use ct_word::{Memory, Term, Text};
 use std::alloc::Global;
@@ -101,44 +101,42 @@ fn push_as_root(out: &mut String, node: &Printed) -> Result<(), Memory>
     ensures { Appends result out.old out.new (as_root (Some node.now)) }
 {
     match node.name {
-        Some(name) => push_name(out, name)?,
-        None => out.push_str(node.text.as_str())?,
+        Some(name) => push_name(out, name),
+        None => push_text(out, node.text.as_str()),
     }
-    Ok(())
 }
 
 fn push_as_child(out: &mut String, node: &Printed) -> Result<(), Memory>
     ensures { Appends result out.old out.new (as_child (Some node.now)) }
 {
     match node.name {
-        Some(name) => push_name(out, name)?,
+        Some(name) => push_name(out, name),
         None if node.is_run => {
             out.push_str("(")?;
             out.push_str(node.text.as_str())?;
-            out.push_str(")")?;
+            push_text(out, ")")
         }
-        None => out.push_str(node.text.as_str())?,
+        None => push_text(out, node.text.as_str()),
     }
-    Ok(())
 }
 
 /// Appends the condition at a position as rows, changes and the global condition refer to it.
 pub(crate) fn push_root(out: &mut String, printed: &[Printed], k: u32) -> Result<(), Memory>
     ensures { Appends result out.old out.new (as_root (slice_get printed.now k)) }
 {
-    if let Some(node) = at(printed, k) {
-        push_as_root(out, node)?;
+    match at(printed, k) {
+        Some(node) => push_as_root(out, node),
+        None => Ok(()),
     }
-    Ok(())
 }
 
 fn push_child(out: &mut String, before: &[Printed], k: u32) -> Result<(), Memory>
     ensures { Appends result out.old out.new (as_child (slice_get before.now k)) }
 {
-    if let Some(node) = at(before, k) {
-        push_as_child(out, node)?;
+    match at(before, k) {
+        Some(node) => push_as_child(out, node),
+        None => Ok(()),
     }
-    Ok(())
 }
 
 fn push_children(
@@ -161,30 +159,37 @@ fn push_leaf(out: &mut String, left: &Term, sign: &str, right: &Term) -> Result<
 {
     push_term(out, left)?;
     out.push_str(sign)?;
-    push_term(out, right)?;
-    Ok(())
+    push_term(out, right)
 }
 
 fn push_node(out: &mut String, before: &[Printed], node: &Node) -> Result<(), Memory>
     ensures { Appends result out.old out.new (node_text before.now node.now) }
 {
     match node {
-        Node::True => out.push_str("true")?,
-        Node::False => out.push_str("false")?,
-        Node::Eq(s, t) => push_leaf(out, s, " = ", t)?,
-        Node::Ne(s, t) => push_leaf(out, s, " <> ", t)?,
-        Node::And(ks) => push_children(out, before, ks.as_slice(), " and ")?,
-        Node::Or(ks) => push_children(out, before, ks.as_slice(), " or ")?,
+        Node::True => push_text(out, "true"),
+        Node::False => push_text(out, "false"),
+        Node::Eq(s, t) => push_leaf(out, s, " = ", t),
+        Node::Ne(s, t) => push_leaf(out, s, " <> ", t),
+        Node::And(ks) => push_children(out, before, ks.as_slice(), " and "),
+        Node::Or(ks) => push_children(out, before, ks.as_slice(), " or "),
     }
-    Ok(())
 }
 
-fn node_text(alloc: Global, before: &[Printed], node: &Node) -> Result<Text, Memory>
-    ensures { IfOk result (λ t. t ≡ node_text before.now node.now) }
+fn print_node(
+    alloc: Global,
+    before: &[Printed],
+    name: Option<usize>,
+    node: &Node,
+) -> Result<Printed, Memory>
+    ensures { IfOk result (λ p. p ≡ record { name = name; is_run = is_run node.now; text = node_text before.now node.now }) }
 {
     let mut text = String::new(alloc);
     push_node(&mut text, before, node)?;
-    Ok(Text::from_string(text))
+    Ok(Printed {
+        name,
+        is_run: is_run(node),
+        text: Text::from_string(text),
+    })
 }
 
 /// The nodes as they are printed. `roots` are the references from outside the list.
@@ -198,12 +203,8 @@ pub(crate) fn print_nodes(
     let names = names(alloc, nodes, roots)?;
     let mut printed = Vec::new(alloc);
     for (i, node) in nodes.iter().enumerate() {
-        let text = node_text(alloc, &printed, node)?;
-        printed.push(Printed {
-            name: names[i],
-            is_run: is_run(node),
-            text,
-        })?;
+        let next = print_node(alloc, &printed, names[i], node)?;
+        printed.push(next)?;
     }
     Ok(printed)
 }
@@ -230,9 +231,9 @@ pub(crate) fn push_unless_true(
 ) -> Result<(), Memory>
     ensures { Appends result out.old out.new (unless_true nodes.now printed.now word.now k) }
 {
-    if !is_true(nodes, k) {
-        out.push_str(word)?;
-        push_root(out, printed, k)?;
+    if is_true(nodes, k) {
+        return Ok(());
     }
-    Ok(())
+    out.push_str(word)?;
+    push_root(out, printed, k)
 }

@@ -9,7 +9,7 @@ use crate::listed::{push_certain_rows, push_possible_rows};
 use crate::nodes::{Printed, is_false, is_true, print_nodes, push_root};
 use crate::reply::{Answer, Refusal, Reply};
 use crate::rows::{push_conditions, push_line, push_name_lines, push_row};
-use crate::terms::push_names;
+use crate::terms::{push_names, push_text};
 use ct_query::Read;
 use ct_rewrite::{AnswerRow, Node};
 use ct_word::{Memory, Text};
@@ -44,12 +44,12 @@ fn push_global_line(
 ) -> Result<(), Memory>
     ensures { Adds result lines.old lines.new (global_lines nodes.now printed.now k) }
 {
-    if !is_true(nodes, k) {
-        let mut text = String::from_str(alloc, "  worlds where ")?;
-        push_root(&mut text, printed, k)?;
-        push_line(lines, text)?;
+    if is_true(nodes, k) {
+        return Ok(());
     }
-    Ok(())
+    let mut text = String::from_str(alloc, "  worlds where ")?;
+    push_root(&mut text, printed, k)?;
+    push_line(lines, text)
 }
 
 fn push_row_line(
@@ -156,9 +156,8 @@ fn read_name(read: &Read) -> &str
 fn push_conflict(out: &mut String, table: &Read, was: u32, now: u32, at: u32) -> Result<(), Memory>
     ensures { Appends result out.old out.new (conflict_text table.now was now at) }
 {
-    out.push_str(" ")?;
-    out.push_str(read_name(table))?;
-    write!(out, " was {was} now {now} at {at}")?;
+    let name = read_name(table);
+    write!(out, " {name} was {was} now {now} at {at}")?;
     Ok(())
 }
 
@@ -182,32 +181,31 @@ fn push_first(out: &mut String, reply: &Reply) -> Result<(), Memory>
     ensures { Appends result out.old out.new (reply_lines reply.now).0 }
 {
     match reply {
-        Reply::Begun { at } => write!(out, "begun at {at}")?,
-        Reply::RolledBack => out.push_str("rolled back")?,
-        Reply::Pending { at, plus } => write!(out, "pending at {at} plus {plus}")?,
-        Reply::Committed { at } => write!(out, "committed {at}")?,
-        Reply::Nothing { at } => write!(out, "nothing to commit at {at}")?,
+        Reply::Begun { at } => Ok(write!(out, "begun at {at}")?),
+        Reply::RolledBack => push_text(out, "rolled back"),
+        Reply::Pending { at, plus } => Ok(write!(out, "pending at {at} plus {plus}")?),
+        Reply::Committed { at } => Ok(write!(out, "committed {at}")?),
+        Reply::Nothing { at } => Ok(write!(out, "nothing to commit at {at}")?),
         Reply::Rows { at, plus, answer } => {
-            push_head(out, "rows", answer.columns.as_slice(), *at, *plus)?
+            push_head(out, "rows", answer.columns.as_slice(), *at, *plus)
         }
         Reply::Possible {
             at,
             plus,
             columns,
             ..
-        } => push_head(out, "possible", columns.as_slice(), *at, *plus)?,
+        } => push_head(out, "possible", columns.as_slice(), *at, *plus),
         Reply::Certain {
             at,
             plus,
             columns,
             ..
-        } => push_head(out, "certain", columns.as_slice(), *at, *plus)?,
+        } => push_head(out, "certain", columns.as_slice(), *at, *plus),
         Reply::Refused { why, .. } => {
             out.push_str("refused ")?;
-            push_refusal(out, why)?;
+            push_refusal(out, why)
         }
     }
-    Ok(())
 }
 
 // Adds the lines of a reply after its first.

@@ -7,7 +7,7 @@ ghost use Rattle.ct_transcript.specs.Text.{row_text, rows_text};
 ghost use Rattle.ct_transcript.specs.Written.{Appends, Adds};
 
 use crate::nodes::{Printed, push_unless_true};
-use crate::terms::{push_cells, push_separator};
+use crate::terms::{push_cells, push_separator, push_text};
 use ct_rewrite::{AnswerRow, Node};
 use ct_word::{Memory, Text};
 use std::alloc::Global;
@@ -24,12 +24,11 @@ pub(crate) fn push_line(lines: &mut Vec<Text>, mut text: String) -> Result<(), M
 fn push_name_line(alloc: Global, lines: &mut Vec<Text>, node: &Printed) -> Result<(), Memory>
     ensures { Adds result lines.old lines.new (name_line node.now.name node.now.text) }
 {
-    if let Some(name) = node.name {
-        let mut text = format!(in alloc; "  [{name}] is ")?;
-        text.push_str(node.text.as_str())?;
-        push_line(lines, text)?;
-    }
-    Ok(())
+    let Some(name) = node.name else {
+        return Ok(());
+    };
+    let text = node.text.as_str();
+    push_line(lines, format!(in alloc; "  [{name}] is {text}")?)
 }
 
 /// Adds a line for each node that has a name.
@@ -66,8 +65,7 @@ pub(crate) fn push_row(
     ensures { Appends result out.old out.new (row_text nodes.now printed.now row.now) }
 {
     push_cells(out, row.cells.as_slice())?;
-    push_unless_true(out, nodes, printed, " if ", row.cond)?;
-    Ok(())
+    push_unless_true(out, nodes, printed, " if ", row.cond)
 }
 
 fn push_joined_rows(
@@ -95,9 +93,8 @@ pub(crate) fn push_rows(
     ensures { Appends result out.old out.new (rows_text nodes.now printed.now rows.now) }
 {
     if rows.is_empty() {
-        out.push_str("nothing")?;
+        push_text(out, "nothing")
     } else {
-        push_joined_rows(out, nodes, printed, rows)?;
+        push_joined_rows(out, nodes, printed, rows)
     }
-    Ok(())
 }

@@ -7,6 +7,14 @@ ghost use Rattle.ct_transcript.specs.TermText.{in_parentheses, with_commas, quot
 use ct_word::{Memory, Null, Term, Text, Value};
 use std::fmt::Write;
 
+/// Appends a text as it is.
+pub(crate) fn push_text(out: &mut String, text: &str) -> Result<(), Memory>
+    ensures { Appends result out.old out.new text.now }
+{
+    out.push_str(text)?;
+    Ok(())
+}
+
 // Appends a character, a quote twice.
 fn push_char(out: &mut String, c: char) -> Result<(), Memory>
     ensures { Appends result out.old out.new (flat_map quoted_byte (encode_utf8 c)) }
@@ -33,15 +41,14 @@ fn push_value(out: &mut String, value: &Value) -> Result<(), Memory>
     ensures { Appends result out.old out.new (value_text value.now) }
 {
     match value {
-        Value::Int(i) => write!(out, "{i}")?,
+        Value::Int(i) => Ok(write!(out, "{i}")?),
         Value::Text(t) => {
             out.push_str("'")?;
             push_quoted(out, t.as_str())?;
-            out.push_str("'")?;
+            push_text(out, "'")
         }
-        Value::Other(k) => write!(out, "@{k}")?,
+        Value::Other(k) => Ok(write!(out, "@{k}")?),
     }
-    Ok(())
 }
 
 fn push_null(out: &mut String, null: &Null) -> Result<(), Memory>
@@ -50,11 +57,10 @@ fn push_null(out: &mut String, null: &Null) -> Result<(), Memory>
     match null {
         Null::Named(t) => {
             out.push_str("?")?;
-            out.push_str(t.as_str())?;
+            push_text(out, t.as_str())
         }
-        Null::Fresh { session, number } => write!(out, "?{session}#{number}")?,
+        Null::Fresh { session, number } => Ok(write!(out, "?{session}#{number}")?),
     }
-    Ok(())
 }
 
 pub(crate) fn push_term(out: &mut String, term: &Term) -> Result<(), Memory>
@@ -63,21 +69,21 @@ pub(crate) fn push_term(out: &mut String, term: &Term) -> Result<(), Memory>
     match term {
         Term::Column(k) => {
             let position = u64::from(*k) + 1;
-            write!(out, "${position}")?;
+            Ok(write!(out, "${position}")?)
         }
-        Term::Null(n) => push_null(out, n)?,
-        Term::Value(x) => push_value(out, x)?,
+        Term::Null(n) => push_null(out, n),
+        Term::Value(x) => push_value(out, x),
     }
-    Ok(())
 }
 
 pub(crate) fn push_separator(out: &mut String, i: usize, separator: &str) -> Result<(), Memory>
     ensures { Appends result out.old out.new (separator_before i separator.now) }
 {
     if i > 0 {
-        out.push_str(separator)?;
+        push_text(out, separator)
+    } else {
+        Ok(())
     }
-    Ok(())
 }
 
 pub(crate) fn push_cells(out: &mut String, cells: &[Term]) -> Result<(), Memory>
@@ -88,8 +94,7 @@ pub(crate) fn push_cells(out: &mut String, cells: &[Term]) -> Result<(), Memory>
         push_separator(out, i, ", ")?;
         push_term(out, cell)?;
     }
-    out.push_str(")")?;
-    Ok(())
+    push_text(out, ")")
 }
 
 /// Appends the values of a tuple.
@@ -101,8 +106,7 @@ pub(crate) fn push_tuple(out: &mut String, tuple: &[Value]) -> Result<(), Memory
         push_separator(out, i, ", ")?;
         push_value(out, value)?;
     }
-    out.push_str(")")?;
-    Ok(())
+    push_text(out, ")")
 }
 
 fn push_pair(out: &mut String, pair: &(Null, Value)) -> Result<(), Memory>
@@ -110,8 +114,7 @@ fn push_pair(out: &mut String, pair: &(Null, Value)) -> Result<(), Memory>
 {
     push_null(out, &pair.0)?;
     out.push_str(" = ")?;
-    push_value(out, &pair.1)?;
-    Ok(())
+    push_value(out, &pair.1)
 }
 
 fn push_pairs(out: &mut String, pairs: &[(Null, Value)]) -> Result<(), Memory>
@@ -129,11 +132,10 @@ pub(crate) fn push_world(out: &mut String, world: &[(Null, Value)]) -> Result<()
     ensures { Appends result out.old out.new (world_text world.now) }
 {
     if world.is_empty() {
-        out.push_str("default")?;
+        push_text(out, "default")
     } else {
-        push_pairs(out, world)?;
+        push_pairs(out, world)
     }
-    Ok(())
 }
 
 pub(crate) fn push_names(out: &mut String, names: &[Text]) -> Result<(), Memory>
@@ -144,6 +146,5 @@ pub(crate) fn push_names(out: &mut String, names: &[Text]) -> Result<(), Memory>
         push_separator(out, i, ", ")?;
         out.push_str(name.as_str())?;
     }
-    out.push_str(")")?;
-    Ok(())
+    push_text(out, ")")
 }

@@ -1,5 +1,5 @@
-use Rattle.std.{proofs.Common.ap, proofs.lemmas.Result.IfOk-weaker, specs.Prelude.{◌∷◌, ◌++◌, []}}
-use Rattle.ct_word.{specs.Reading.{IsChangeList, change_list_at}, specs.Stands.StandsAt, specs.WellFormed.same_class}
+use Rattle.std.{proofs.Common.{arith, ap}, proofs.lemmas.Result.IfOk-weaker, specs.Prelude.{◌∷◌, ◌++◌, []}}
+use Rattle.ct_word.{proofs.Prefixes.place_in_prefix, specs.Reading.{IsChangeList, change_list_at}, specs.Stands.StandsAt, specs.WellFormed.same_class}
 use Rattle.ct_history.{specs.Places.change_of, proofs.Lists.change_added}
 use Rattle.ct_word.specs.declared.kinds.Class.TheVariants as class
 use Rattle.ct_history.proofs.changes.add.Goals as goal
@@ -16,3 +16,6 @@ returns-clause-adds g c =
     (λ place. change_added old mid new c.args.kind c.args.left c.args.right c.args.list c.in_ok-change.change place c.in_ok-change.ensures.longer c.put-2.ensures.longer
     c.requires.list c.requires.change c.requires.formed c.in_ok-change.ensures.stands c.in_ok-change.ensures.place)
     c.put-2.ensures.stands
+
+pub put-requires-2-clause-formed : goal.put-requires-2-clause-formed
+put-requires-2-clause-formed g c = grind (arith, place_in_prefix)

@@ -1,6 +1,6 @@
-use Rattle.std.{proofs.Common.subst, specs.Prelude.IfOk}
-use Rattle.ct_word.{specs.Change.Create, specs.Reading.{IsChangeList, as_name_list, as_text}, specs.Stands.StandsAt}
-use Rattle.ct_word.proofs.Prefixes.{prefix_of_prefix, place_within, stands_in_prefix}
+use Rattle.std.{proofs.Common.{arith, subst}, specs.Prelude.IfOk}
+use Rattle.ct_word.{proofs.Prefixes.{place_in_prefix, prefix_of_prefix, place_within, stands_in_prefix}, specs.Change.Create, specs.Stands.StandsAt}
+use Rattle.ct_word.specs.Reading.{IsChangeList, as_name_list, as_text}
 use Rattle.ct_history.proofs.Lists.{list_said}
 use Rattle.ct_word.specs.declared.kinds.Class.TheVariants as class
 use Rattle.ct_history.proofs.changes.create.Goals as goal
@@ -15,3 +15,12 @@ returns-clause-stands g c =
     (list_said old now c.args.list _ _ (prefix_of_prefix old texts now c.in_ok-table.ensures.longer c.in_ok-list_of_names.ensures.longer) c.requires.list
     (λ i. Create (as_text (table i)) (as_name_list (c.in_ok-list_of_names.ensures.stands i))))
     c.add.ensures.adds
+
+pub add-requires-clause-list : goal.add-requires-clause-list
+add-requires-clause-list g c =
+    let texts = c.text.new.pass.words in
+    let now = c.names.new.pass.words in
+    place_in_prefix c.args.pass.now.words now class.ChangeList c.args.list (prefix_of_prefix c.args.pass.now.words texts now c.in_ok-table.ensures.longer c.in_ok-list_of_names.ensures.longer) c.requires.list
+
+pub add-requires-clause-formed : goal.add-requires-clause-formed
+add-requires-clause-formed g c = grind (arith, place_in_prefix)

@@ -1,5 +1,5 @@
-use Rattle.std.{proofs.Common.{arith, take, ap, sym, ◌∙◌, Some}, proofs.lemmas.List.Sums.sum_by_more}
-use Rattle.ct_word.{specs.Reading.IsNameList, proofs.Prefixes.prefix_of_prefix}
+use Rattle.std.{proofs.lemmas.List.Sums.{sum_by_more_le, sum_by_more}, proofs.Common.{arith, take, ap, sym, ◌∙◌, Some}}
+use Rattle.ct_word.{proofs.Prefixes.{place_in_prefix, prefix_of_prefix}, specs.Reading.IsNameList}
 use Rattle.ct_history.{specs.Encodes.name_words, proofs.Rows.counted, proofs.Lists.{name_added, take_one}}
 use Rattle.ct_history.proofs.changes.names.Goals as goal
 
@@ -24,3 +24,12 @@ loop-name-preserved g c =
           omega (arith, more, same, one, c.in_ok-word.ensures.made, c.loop-name.invariant.made));
       kept = c.in_ok-place-2.ensures.kept ∙ c.in_ok-word.ensures.kept ∙ c.loop-name.invariant.kept;
     }
+
+pub put-requires-in-loop-name-clause-formed : goal.put-requires-in-loop-name-clause-formed
+put-requires-in-loop-name-clause-formed g c = grind (arith, place_in_prefix)
+
+pub returns-in_err-place-2-clause-made : goal.returns-in_err-place-2-clause-made
+returns-in_err-place-2-clause-made g c = grind (arith, sum_by_more_le)
+
+pub returns-in_err-place-2-clause-err : goal.returns-in_err-place-2-clause-err
+returns-in_err-place-2-clause-err g c = grind (arith, sum_by_more_le)

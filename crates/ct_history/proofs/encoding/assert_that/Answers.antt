@@ -1,5 +1,5 @@
-use Rattle.std.{proofs.Common.{◌∙◌, [], Some, refl}, proofs.lemmas.Result.IfOk-weaker}
-use Rattle.ct_word.{specs.Change.Assert, specs.Reading.{IsChangeList, condition_at}}
+use Rattle.std.{proofs.Common.{arith, ◌∙◌, [], Some, refl}, proofs.lemmas.Result.IfOk-weaker}
+use Rattle.ct_word.{proofs.Prefixes.place_in_prefix, specs.Change.Assert, specs.Reading.{IsChangeList, condition_at}}
 use Rattle.ct_query.specs.Pred.{condition_of}
 use Rattle.ct_history.{specs.Encodes.Adds, proofs.Lists.list_said}
 use Rattle.ct_query.specs.Plain as plain
@@ -21,3 +21,6 @@ returns-clause-adds g c =
       few = is.few;
     })
     c.add.ensures.adds
+
+pub add-requires-clause-list : goal.add-requires-clause-list
+add-requires-clause-list g c = grind (arith, place_in_prefix)

@@ -1,8 +1,9 @@
-use Rattle.std.{proofs.Common.{◌∙◌, [], Some, refl}, proofs.lemmas.Result.IfOk-weaker}
-use Rattle.ct_word.{specs.Change.Delete, specs.Reading.{IsChangeList, as_text, condition_at}, proofs.Prefixes.prefix_of_prefix}
+use Rattle.std.{proofs.Common.{arith, ◌∙◌, [], Some, refl}, proofs.lemmas.Result.IfOk-weaker}
+use Rattle.ct_word.{proofs.Prefixes.{place_in_prefix, prefix_of_prefix}, specs.Change.Delete, specs.Reading.{IsChangeList, as_text, condition_at}}
 use Rattle.ct_query.specs.Pred.{condition_of}
 use Rattle.ct_history.{specs.Encodes.Adds, proofs.Encoded.condition_later, proofs.Lists.list_said}
 use Rattle.ct_query.specs.Plain as plain
+use Rattle.ct_word.specs.declared.kinds.Class.TheVariants as class
 use Rattle.ct_history.proofs.encoding.delete.Goals as goal
 
 pub returns-clause-adds : goal.returns-clause-adds
@@ -24,3 +25,13 @@ returns-clause-adds g c =
       few = is.few;
     })
     c.add.ensures.adds
+
+pub add-requires-clause-list : goal.add-requires-clause-list
+add-requires-clause-list g c =
+    let old = c.args.pass.now.words in
+    let conds = c.condition.new.pass.words in
+    let now = c.text.new.pass.words in
+    place_in_prefix old now class.ChangeList c.args.list (prefix_of_prefix old conds now c.in_ok-cond.ensures.longer c.in_ok-table.ensures.longer) c.requires.list
+
+pub add-requires-clause-formed : goal.add-requires-clause-formed
+add-requires-clause-formed g c = grind (arith, place_in_prefix)

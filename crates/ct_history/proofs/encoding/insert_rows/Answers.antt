@@ -1,8 +1,9 @@
 use Rattle.std.{proofs.Common.{◌∙◌, [], Some}, proofs.lemmas.Result.IfOk-weaker}
-use Rattle.ct_word.{specs.Change.Insert, specs.Reading.{IsChangeList, as_row_list}, proofs.Prefixes.prefix_of_prefix}
+use Rattle.ct_word.{proofs.Prefixes.{place_in_prefix, prefix_of_prefix}, specs.Change.Insert, specs.Reading.{IsChangeList, as_row_list}}
 use Rattle.ct_query.specs.Pred.{condition_of}
 use Rattle.ct_history.{specs.Encodes.Adds, proofs.Encoded.{rows_under, rows_do, rows_from, rows_few}, proofs.Lists.list_said}
 use Rattle.ct_query.specs.Plain as plain
+use Rattle.ct_word.specs.declared.kinds.Class.TheVariants as class
 use Rattle.ct_history.proofs.encoding.insert_rows.Goals as goal
 
 pub returns-clause-adds : goal.returns-clause-adds
@@ -26,3 +27,10 @@ returns-clause-adds g c =
       few = rows_few conds cond p is name rows;
     })
     c.insert_list.ensures.stands
+
+pub insert_list-requires-clause-list : goal.insert_list-requires-clause-list
+insert_list-requires-clause-list g c =
+    let old = c.args.pass.now.words in
+    let conds = c.condition.new.pass.words in
+    let now = c.term_rows.new.pass.words in
+    place_in_prefix old now class.ChangeList c.args.list (prefix_of_prefix old conds now c.in_ok-cond.ensures.longer c.in_ok-list_of_rows.ensures.longer) c.requires.list

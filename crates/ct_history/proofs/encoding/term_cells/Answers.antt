@@ -1,4 +1,5 @@
-use Rattle.std.{proofs.Common.{◌∙◌, arith, ap, sym, take, Some, ◌++◌, ◌∷◌, []}, proofs.lemmas.List.take_more, proofs.lemmas.List.Sums.sum_by_more}
+use Rattle.std.{proofs.lemmas.List.Sums.{sum_by_more_le, sum_by_more}, proofs.Common.{◌∙◌, arith, ap, sym, take, Some, ◌++◌, ◌∷◌, []}}
+use Rattle.std.proofs.lemmas.List.{take_more}
 use Rattle.ct_word.{specs.Reading.IsRow, proofs.Prefixes.prefix_of_prefix}
 use Rattle.ct_query.specs.Bounds.{literal_words}
 use Rattle.ct_history.{proofs.Encoded.{term_added, cell_counted}, proofs.Rows.counted}
@@ -30,3 +31,15 @@ loop-cell-preserved g c =
           omega (arith, more, one, words, c.in_ok-item.ensures.made, c.loop-cell.invariant.made));
       kept = c.in_ok-place.ensures.kept ∙ c.in_ok-item.ensures.kept ∙ c.loop-cell.invariant.kept;
     }
+
+pub returns-in_err-place-clause-made : goal.returns-in_err-place-clause-made
+returns-in_err-place-clause-made g c = grind (arith, sum_by_more_le, cell_counted)
+
+pub returns-in_err-place-clause-err : goal.returns-in_err-place-clause-err
+returns-in_err-place-clause-err g c = grind (arith, sum_by_more_le, cell_counted)
+
+pub returns-in_err-item-clause-made : goal.returns-in_err-item-clause-made
+returns-in_err-item-clause-made g c = grind (arith, sum_by_more_le, cell_counted)
+
+pub returns-in_err-item-clause-err : goal.returns-in_err-item-clause-err
+returns-in_err-item-clause-err g c = grind (arith, sum_by_more_le, cell_counted)

@@ -1,5 +1,5 @@
-use Rattle.std.{proofs.Common.{◌++◌, ◌∷◌, [], ◌∙◌, ap, arith, subst, sym}, proofs.lemmas.List.map_more, proofs.lemmas.List.Sums.sum_by_more}
-use Rattle.ct_word.{specs.Reading.{as_cond, as_row_list, condition_at}, proofs.Prefixes.prefix_of_prefix}
+use Rattle.std.{proofs.lemmas.List.Sums.{sum_by_more_le, sum_by_more}, proofs.Common.{◌++◌, ◌∷◌, [], ◌∙◌, ap, arith, subst, sym}, proofs.lemmas.List.map_more}
+use Rattle.ct_word.{proofs.Prefixes.{place_in_prefix, prefix_of_prefix}, specs.Reading.{as_cond, as_row_list, condition_at}}
 use Rattle.ct_history.{specs.Encodes.term_row_words, specs.Rows.{AreRowsAt, row_under}, proofs.Lists.meaning_kept, proofs.Rows.no_row_later}
 use Rattle.ct_word.specs.declared.kinds.Class.TheVariants as class
 use Rattle.ct_history.proofs.encoding.term_rows.Goals as goal
@@ -28,3 +28,12 @@ loop-row-preserved g c =
           omega (arith, more, same, added.made, so_far.made));
       kept = added.kept ∙ so_far.kept;
     }
+
+pub add_terms-requires-clause-cond : goal.add_terms-requires-clause-cond
+add_terms-requires-clause-cond g c = grind (arith, place_in_prefix)
+
+pub returns-in_err-place-2-clause-made : goal.returns-in_err-place-2-clause-made
+returns-in_err-place-2-clause-made g c = grind (arith, sum_by_more_le)
+
+pub returns-in_err-place-2-clause-err : goal.returns-in_err-place-2-clause-err
+returns-in_err-place-2-clause-err g c = grind (arith, sum_by_more_le)

@@ -1,5 +1,5 @@
-use Rattle.std.{proofs.Common.{◌++◌, ◌∷◌, [], ap, map, subst, ◌∙◌}, specs.Prelude.IfOk}
-use Rattle.ct_word.specs.Reading.{as_cond, as_row, as_row_list, term_at}
+use Rattle.std.{proofs.Common.{arith, ◌++◌, ◌∷◌, [], ap, map, subst, ◌∙◌}, specs.Prelude.IfOk}
+use Rattle.ct_word.{proofs.Prefixes.place_in_prefix, specs.Reading.{as_cond, as_row, as_row_list, term_at}}
 use Rattle.ct_history.{specs.Rows.{AreRowsAt, row_under}, proofs.Lists.meaning_kept}
 use Rattle.ct_word.specs.declared.kinds.Class.TheVariants as class
 use Rattle.ct_history.proofs.insertion.add_row.Goals as goal
@@ -13,3 +13,9 @@ returns-clause-rows g c =
     subst (λ rs. IfOk c.put_row.result (λ place. AreRowsAt c.put_row.new.pass.words place rs))
     (λ i. as_row_list (meaning_kept old now class.RowList c.args.list longer c.requires.list i) ++ row_under (as_cond (meaning_kept old now class.Cond c.args.row.now.cond longer c.requires.row.condition i)) (cells i) ∷ [])
     c.put_row.ensures.rows
+
+pub put_row-requires-clause-list : goal.put_row-requires-clause-list
+put_row-requires-clause-list g c = grind (arith, place_in_prefix)
+
+pub put_row-requires-clause-cond : goal.put_row-requires-clause-cond
+put_row-requires-clause-cond g c = grind (arith, place_in_prefix)

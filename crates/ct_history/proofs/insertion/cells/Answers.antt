@@ -26,3 +26,6 @@ loop-cell-preserved g c =
       made = let one = counted _ _ _ _ c.in_ok-place.ensures.made in omega (arith, one, c.loop-cell.invariant.made);
       kept = c.in_ok-place.ensures.kept ∙ c.loop-cell.invariant.kept;
     }
+
+pub returns-in_err-place-clause-made : goal.returns-in_err-place-clause-made
+returns-in_err-place-clause-made g c = omega (arith, c.in_err-place.ensures.err, c.loop-cell.invariant.made)

@@ -1,4 +1,6 @@
-use Rattle.ct_history.proofs.Rows.{row_added}
+use Rattle.std.proofs.Common.{arith}
+use Rattle.ct_history.proofs.Rows.{counted, row_added}
+use Rattle.ct_word.proofs.Prefixes.{place_in_prefix}
 use Rattle.ct_history.proofs.insertion.put_row.Goals as goal
 
 pub returns-clause-rows : goal.returns-clause-rows
@@ -8,3 +10,15 @@ returns-clause-rows g c = record {
   class = c.in_ok-place.ensures.place;
   small = c.in_ok-place.ensures.small;
 }
+
+pub put-requires-2-clause-formed : goal.put-requires-2-clause-formed
+put-requires-2-clause-formed g c = grind (arith, place_in_prefix)
+
+pub returns-in_err-place-clause-made : goal.returns-in_err-place-clause-made
+returns-in_err-place-clause-made g c = let one = counted _ _ _ _ c.in_ok-row.ensures.made in omega (arith, one, c.in_err-place.ensures.err)
+
+pub returns-clause-made : goal.returns-clause-made
+returns-clause-made g c =
+    let one = counted _ _ _ _ c.in_ok-row.ensures.made in
+    let two = counted _ _ _ _ c.in_ok-place.ensures.made in
+    omega (arith, one, two)

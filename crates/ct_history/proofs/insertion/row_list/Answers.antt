@@ -1,4 +1,5 @@
-use Rattle.std.{proofs.Common.{◌++◌, ◌∷◌, [], ◌∙◌, ap, arith, subst, sym}, proofs.lemmas.List.Sums.sum_by_more, proofs.lemmas.List.Elements.All-get_or}
+use Rattle.std.{proofs.lemmas.List.Sums.{sum_by_more_le, sum_by_more}, proofs.Common.{◌++◌, ◌∷◌, [], ◌∙◌, ap, arith, subst, sym}}
+use Rattle.std.proofs.lemmas.List.Elements.{All-get_or}
 use Rattle.ct_word.{specs.Reading.{as_row_list, plain_crow}, proofs.Prefixes.prefix_of_prefix}
 use Rattle.ct_history.{specs.Encodes.row_words, specs.Rows.{AreRowsAt, IsRowOf}, proofs.Rows.{no_row_later, row_later, rows_one}}
 use Rattle.ct_history.proofs.insertion.row_list.Goals as goal
@@ -31,3 +32,9 @@ add_row-requires-clause-row g c =
     let row = c.row-item.result in
     row_later first c.loop-row.pass.words c.loop-row.invariant.longer row
     (subst (IsRowOf first) (sym c.row-item.is) (All-get_or (IsRowOf first) c.args.rows.now c.loop-row.row-index row c.loop-row-test.true c.requires.rows))
+
+pub returns-in_err-place-2-clause-made : goal.returns-in_err-place-2-clause-made
+returns-in_err-place-2-clause-made g c = grind (arith, sum_by_more_le)
+
+pub returns-in_err-place-2-clause-err : goal.returns-in_err-place-2-clause-err
+returns-in_err-place-2-clause-err g c = grind (arith, sum_by_more_le)

@@ -1,7 +1,7 @@
 use Rattle.std.proofs.Common.{refl, ◌∙◌, ◌+◌, arith, rules}
 use Rattle.ct_condition.specs.Writes.{charge}
 use Rattle.ct_keeper.{specs.Faults.is_full, proofs.Interning.{interned_on, interned_none}}
-use Rattle.ct_keeper.proofs.Making.{applied_none, next_rows, next_global, next_written, next_fits, words_on, words_within, applied_more}
+use Rattle.ct_keeper.proofs.Making.{applied_none, next_rows, next_global, next_written, next_fits, words_on, words_within, applied_more, applied_to_end, first_fewer}
 use Rattle.ct_keeper.proofs.committing.applied_all.Goals as goal
 
 pub loop-change-init : goal.loop-change-init
@@ -57,3 +57,15 @@ returns-in_err-made-clause-words g c =
     words_within c.args.keeper.now.words c.args.content.now c.args.changes.now c.requires.can l.keeper.words l.invariant.interns.longer l.change-index l.made l.invariant.applied
     c.change-item.result c.change-item.is c.loop-change-test.true c.args.guest.now.made l.guest.made
     (c.applied.new.guest.made + charge (is_full c.from_residual-in_err-made.result)) l.invariant.words (search rules)
+
+pub returns-clause-made : goal.returns-clause-made
+returns-clause-made g c =
+    let l = c.loop-change in
+    applied_to_end c.args.keeper.now.words c.args.content.now c.args.changes.now c.requires.can l.keeper.words l.change-index l.made c.loop-change-test.false l.invariant.applied
+
+pub returns-clause-words : goal.returns-clause-words
+returns-clause-words g c =
+    let l = c.loop-change in
+    let fewer = first_fewer c.args.keeper.now.words c.args.content.now c.args.changes.now c.requires.can l.change-index in
+    let made = l.invariant.words in
+    omega (arith, fewer, made)

@@ -1,8 +1,8 @@
-use Rattle.std.{proofs.Common.{◌≡◌, ◌+◌, arith, rules, refl, subst, ◌∙◌}, specs.Prelude.{Result, Ok, Err, OnOk, MatchResult}, proofs.lemmas.Result.on_ok_weaker}
+use Rattle.std.{proofs.Common.{◌≡◌, ◌+◌, arith, rules, refl, subst, ◌∙◌}, specs.Prelude.{Result, Ok, Err, OnOk, MatchResult}, proofs.lemmas.Result.{on_ok_weaker, on_err_weaker}}
 use Rattle.ct_word.proofs.Prefixes.{place_in_prefix}
 use Rattle.ct_condition.specs.Writes.{charge}
 use Rattle.ct_table.specs.Pending.{after}
-use Rattle.ct_keeper.{specs.Effects.DoesChange, specs.Faults.is_full, proofs.Interning.appended_on, proofs.Making.{one_written, one_words, one_applied}}
+use Rattle.ct_keeper.{specs.Effects.DoesChange, specs.Faults.is_full, proofs.Interning.{interned_on, appended_on}, proofs.Making.{one_rows, one_written, one_fitting, one_words, one_applied}}
 use Rattle.ct_word.specs.declared.kinds.Class.TheVariants as class
 use Rattle.ct_keeper.specs.declared.effects.Effect.TheVariants as effect
 use Rattle.ct_keeper.proofs.committing.commit_one.Goals as goal
@@ -14,6 +14,12 @@ both_ok (Err e) x y z a b f = tt
 
 pub effect_for-requires-clause-written : goal.effect_for-requires-clause-written
 effect_for-requires-clause-written g c = one_written c.args.keeper.now.words c.args.content.now c.args.change.now c.requires.can
+
+pub effect_for-requires-clause-tables : goal.effect_for-requires-clause-tables
+effect_for-requires-clause-tables g c = one_rows c.args.keeper.now.words c.args.content.now c.args.change.now c.requires.can
+
+pub effect_for-requires-clause-fitting : goal.effect_for-requires-clause-fitting
+effect_for-requires-clause-fitting g c = one_fitting c.args.keeper.now.words c.args.content.now c.args.change.now c.requires.can
 
 pub grow-tables-requires-clause-place : goal.grow-tables-requires-clause-place
 grow-tables-requires-clause-place g c =
@@ -29,6 +35,12 @@ returns-in-Grows-clause-appends g c =
     (appended_on c.args.list c.args.keeper.now c.effect_for.new.keeper c.grow-tables.new.keeper c.args.guest.now c.effect_for.new.guest c.grow-tables.new.guest c.requires.place
     c.in_ok-effect.ensures.interns)
     c.grow-tables.ensures.appends
+
+pub returns-in-Grows-clause-interns : goal.returns-in-Grows-clause-interns
+returns-in-Grows-clause-interns g c =
+    on_err_weaker c.grow-tables.result.1
+    (interned_on c.args.keeper.now c.effect_for.new.keeper c.grow-tables.new.keeper c.args.guest.now c.effect_for.new.guest c.grow-tables.new.guest c.in_ok-effect.ensures.interns)
+    c.grow-tables.ensures.interns
 
 pub returns-in-Grows-clause-made : goal.returns-in-Grows-clause-made
 returns-in-Grows-clause-made g c =

@@ -23,24 +23,24 @@ delete-spared-requires-clause-columns g c =
     column_below words c.words.ensures.formed (length c.in_ok-rows.rows.columns) c.args.cond c.requires.written
     (subst (λ n. AreColumnsBelow n (condition_at words c.args.cond)) wide c.requires.fitting.1)
 
-pub returns-clause-gets : goal.returns-clause-gets
-returns-clause-gets g c =
+pub returns-clause-does : goal.returns-clause-does
+returns-clause-does g c = λ global.
     let old = g.I.Interner.list c.args.pass.now in
     let new = g.I.Interner.list c.delete-spared.new.pass in
     let db = c.args.db.now in
     let name = c.args.name.now in
     let cond = c.args.cond in
-    let out = c.in_ok-spared.field-0 in
-    let columns = c.in_ok-spared.ensures.columns ∙ ap (λ (x : CTable). x.columns) c.in_ok-rows.ensures in
+    let out = c.in_ok-table.table in
+    let columns = c.in_ok-table.ensures.columns ∙ ap (λ (x : CTable). x.columns) c.in_ok-rows.ensures in
     record {
       table = view_of name c.in-Some.table.now;
       rows = out.rows;
       is_found = c.in-Some.ensures;
-      after_is = λ i. with_table db (record { name = c.in_ok-clone.ensures.cases i; columns = columns i; rows = out.rows });
+      after_is = λ i. with_table db (record { name = c.in_ok-name.ensures.cases i; columns = columns i; rows = out.rows });
       true_of = subst (λ (x : CTable). AreSpared old new (length x.columns) cond x.rows out.rows) c.in_ok-rows.ensures (record {
-        are = c.in_ok-spared.ensures.rows;
-        tuples = c.in_ok-spared.ensures.tuples;
-        part = c.in_ok-spared.ensures.part;
-        terms = c.in_ok-spared.ensures.terms;
+        are = c.in_ok-table.ensures.rows;
+        tuples = c.in_ok-table.ensures.tuples;
+        part = c.in_ok-table.ensures.part;
+        terms = c.in_ok-table.ensures.terms;
       });
     }

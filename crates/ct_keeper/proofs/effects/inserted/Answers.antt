@@ -19,8 +19,8 @@ insertions-requires-clause-rows g c =
     (subst (λ n. All (FitsRow n) (map (plain_crow words) c.args.rows.now))
     (width_found c.args.db.now c.args.name.now (view_of c.args.name.now c.in-Some.table.now) c.in-Some.ensures) c.requires.fitting.1)
 
-pub returns-clause-gets : goal.returns-clause-gets
-returns-clause-gets g c =
+pub returns-clause-does : goal.returns-clause-does
+returns-clause-does g c = λ global.
     let old = g.I.Interner.list c.args.pass.now in
     let new = g.I.Interner.list c.insertions.new.pass in
     let db = c.args.db.now in
@@ -28,7 +28,7 @@ returns-clause-gets g c =
     let t = view_of name c.in-Some.table.now in
     let puts = c.in_ok-puts.puts.items in
     let more = c.args.rows.now in
-    subst (λ n. Gets db (put_into db n puts (find_table db n)) (find_table db name) (λ t rows. AreInserted old new (length t.columns) t.rows more rows)) (sym c.in_ok-clone.ensures.cases)
+    subst (λ n. Gets db (put_into db n puts (find_table db n)) (find_table db name) (λ t rows. AreInserted old new (length t.columns) t.rows more rows)) (sym c.in_ok-name.ensures.cases)
     (record {
       table = t;
       rows = rows_after t.rows puts;

@@ -1,17 +1,20 @@
-use Rattle.std.{proofs.Common.{◌++◌, ◌∙◌, ap}, specs.Prelude.{codes, string_bytes}}
+use Rattle.std.{proofs.Common.{◌++◌, ◌∙◌, ap}, specs.Prelude.{codes, string_bytes}, proofs.lemmas.Result.on_ok_weaker}
 use Rattle.ct_transcript.{specs.TermText.{in_parentheses, with_commas}, specs.Text.rows_text, proofs.Joins.both_written}
 use Rattle.ct_transcript.proofs.history.push_change.Goals as goal
 
-pub returns-in_ok-push_names-in-Create : goal.returns-in_ok-push_names-in-Create
-returns-in_ok-push_names-in-Create c =
+pub returns-in_ok-push_about-in-Create : goal.returns-in_ok-push_about-in-Create
+returns-in_ok-push_about-in-Create c =
     let columns = ap (λ ns. string_bytes c.push_about.new.out ++ in_parentheses (with_commas (λ n. n) ns)) c.as_slice.ensures in
-    rw c.in-Create.is (both_written (codes "create table " ++ c.in-Create.name ++ codes " ") _ _ _ _ c.in_ok-push_about-in-Create.ensures (c.in_ok-push_names-in-Create.ensures ∙ columns))
+    rw c.in-Create.is
+    (on_ok_weaker c.push_names.result (λ put. both_written (codes "create table " ++ c.in-Create.name ++ codes " ") _ _ _ _ c.in_ok-push_about-in-Create.ensures (put ∙ columns)) c.push_names.ensures)
 
-pub returns-in_ok-push_rows-in-Insert : goal.returns-in_ok-push_rows-in-Insert
-returns-in_ok-push_rows-in-Insert c =
+pub returns-in_ok-push_about-in-Insert : goal.returns-in_ok-push_about-in-Insert
+returns-in_ok-push_about-in-Insert c =
     let shown = ap (λ rs. string_bytes c.push_about-in-Insert.new.out ++ rows_text c.args.nodes.now c.args.printed.now rs) c.as_slice-in-Insert.ensures in
-    rw c.in-Insert.is (both_written (codes "insert into " ++ c.in-Insert.name ++ codes " ") _ _ _ _ c.in_ok-push_about-in-Insert.ensures (c.in_ok-push_rows-in-Insert.ensures ∙ shown))
+    rw c.in-Insert.is
+    (on_ok_weaker c.push_rows.result (λ put. both_written (codes "insert into " ++ c.in-Insert.name ++ codes " ") _ _ _ _ c.in_ok-push_about-in-Insert.ensures (put ∙ shown)) c.push_rows.ensures)
 
-pub returns-in_ok-push_root-in-Delete : goal.returns-in_ok-push_root-in-Delete
-returns-in_ok-push_root-in-Delete c =
-    rw c.in-Delete.is (both_written (codes "delete from " ++ c.in-Delete.name ++ codes " where ") _ _ _ _ c.in_ok-push_about-in-Delete.ensures c.in_ok-push_root-in-Delete.ensures)
+pub returns-in_ok-push_about-in-Delete : goal.returns-in_ok-push_about-in-Delete
+returns-in_ok-push_about-in-Delete c =
+    rw c.in-Delete.is
+    (on_ok_weaker c.push_root.result (λ put. both_written (codes "delete from " ++ c.in-Delete.name ++ codes " where ") _ _ _ _ c.in_ok-push_about-in-Delete.ensures put) c.push_root.ensures)

@@ -2,7 +2,7 @@ use Rattle.std.proofs.Common.{map}
 use Rattle.ct_word.specs.Reading.{commits_of}
 use Rattle.ct_history.specs.Written.{plain_written}
 use Rattle.ct_keeper.{proofs.Interning.appended_on, proofs.Making.made_grows}
-use Rattle.ct_keeper.proofs.committing.commit_all.Goals as goal
+use Rattle.ct_keeper.proofs.committing.commit_several.Goals as goal
 
 pub returns-clause-appends : goal.returns-clause-appends
 returns-clause-appends g c =

@@ -1,0 +1,5 @@
+use Rattle.std.proofs.{Common.arith, lemmas.Grind.common_steps}
+use Rattle.ct_transcript.proofs.listed.push_possible_rows.Goals as goal
+
+pub loop-row-preserved : goal.loop-row-preserved
+loop-row-preserved c = grind (arith, common_steps)

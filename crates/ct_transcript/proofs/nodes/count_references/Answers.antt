@@ -1,0 +1,5 @@
+use Rattle.std.proofs.{Common.arith, lemmas.Grind.common_steps}
+use Rattle.ct_transcript.proofs.nodes.count_references.Goals as goal
+
+pub loop-node-preserved : goal.loop-node-preserved
+loop-node-preserved c = grind (arith, common_steps)
