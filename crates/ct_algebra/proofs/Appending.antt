@@ -36,8 +36,7 @@ module _ (ws now : List ℕ) (db : List TableView) (q : PlainQuery) (t : CTable)
   pub select_within : (c : Condition) → new ≤ mid + (new_terms now c + length t.rows * (ops c + 1)) → (IsErrOf out fault.Full → new < mid + (new_terms now c + length t.rows * (ops c + 1)))
       → GrowsWithin out old new (most_words db (Select c q))
   select_within c =
-      onward out old mid new (most_words db q) (new_terms now c + length t.rows * (ops c + 1)) (terms c + most_rows db q * (ops c + 1)) before
-      (omega (arith, most_new now c, mul-le (length t.rows) (ops c + 1) (most_rows db q) (ops c + 1) its_rows (omega arith)))
+      onward out old mid new _ _ _ before (omega (arith, most_new now c, mul-le (length t.rows) (ops c + 1) (most_rows db q) (ops c + 1) its_rows (omega arith)))
 
   pub project_within : (ks : List ℕ) → new ≤ mid + length t.rows → (IsErrOf out fault.Full → new < mid + length t.rows)
       → GrowsWithin out old new (most_words db (Project ks q))
@@ -59,20 +58,18 @@ module _ (ws now : List ℕ) (db : List TableView) (a b : PlainQuery) (l r : CTa
   pub product_within : new ≤ mid + length l.rows * length r.rows → (IsErrOf out fault.Full → new < mid + length l.rows * length r.rows)
       → GrowsWithin out old new (most_words db (Product a b))
   product_within =
-      onward out old mid new (most_words db a + most_words db b) (length l.rows * length r.rows) (most_rows db a * most_rows db b) before
-      (mul-le (length l.rows) (length r.rows) (most_rows db a) (most_rows db b) lefts rights)
+      onward out old mid new _ _ _ before (mul-le (length l.rows) (length r.rows) (most_rows db a) (most_rows db b) lefts rights)
 
   pub union_within : new ≤ mid + (length l.rows + length r.rows) → (IsErrOf out fault.Full → new < mid + (length l.rows + length r.rows))
       → GrowsWithin out old new (most_words db (Union a b))
   union_within =
-      onward out old mid new (most_words db a + most_words db b) (length l.rows + length r.rows) (most_rows db a + most_rows db b) before (omega (arith, lefts, rights))
+      onward out old mid new _ _ _ before (omega (arith, lefts, rights))
 
   pub except_within : new ≤ mid + (length l.rows * length r.rows * (2 * length l.columns + 2) + length l.rows)
       → (IsErrOf out fault.Full → new < mid + (length l.rows * length r.rows * (2 * length l.columns + 2) + length l.rows))
       → GrowsWithin out old new (most_words db (Except a b))
   except_within =
-      onward out old mid new (most_words db a + most_words db b) (length l.rows * length r.rows * (2 * length l.columns + 2) + length l.rows)
-      (most_rows db a * most_rows db b * (2 * width (map heading_of db) a + 2) + most_rows db a) before
+      onward out old mid new _ _ _ before
       (omega (
         arith,
         lefts,
@@ -83,8 +80,7 @@ module _ (ws now : List ℕ) (db : List TableView) (a b : PlainQuery) (l r : CTa
       → (IsErrOf out fault.Full → new < mid + (length l.rows * length r.rows * (2 * length l.columns + 1) + 2 * length l.rows))
       → GrowsWithin out old new (most_words db (Intersect a b))
   intersect_within =
-      onward out old mid new (most_words db a + most_words db b) (length l.rows * length r.rows * (2 * length l.columns + 1) + 2 * length l.rows)
-      (most_rows db a * most_rows db b * (2 * width (map heading_of db) a + 1) + 2 * most_rows db a) before
+      onward out old mid new _ _ _ before
       (omega (
         arith,
         lefts,

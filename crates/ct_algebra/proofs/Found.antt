@@ -1,10 +1,10 @@
 -- The table with a name.
-use Rattle.std.{proofs.Common.{◌≡◌, ℕ, Bool, true, false, List, [], ◌∷◌, map, refl, ap, sym, ◌∙◌}, proofs.lemmas.Bool.false≢true}
+use Rattle.std.{proofs.Common.{◌≡◌, ℕ, List, [], ◌∷◌, map, refl, ap, sym, ◌∙◌}, proofs.lemmas.Bool.false≢true, specs.Option.option_map_or}
 use Rattle.std.specs.Prelude.{Option, Some, None, IsSome, MatchOption, is_some, if◌then◌else◌}
 use Rattle.ct_word.specs.Value.{World, same_text}
 use Rattle.ct_query.{specs.Database.tuples_of, specs.Fits.columns_in}
 use Rattle.ct_operators.specs.Tables.{cells_of, value_of_rows}
-use Rattle.ct_table.specs.Denotes.{TableView, heading_of, find_table, value_of_tables}
+use Rattle.ct_table.{specs.Denotes.{TableView, heading_of, find_table, value_of_tables}, proofs.ByTables.{cells_found, found-cons}}
 use Rattle.ct_algebra.specs.Operands.{cells_in}
 
 -- what a name stands for where a table is found by it
@@ -13,34 +13,32 @@ pub record StandsFor (ws : List ℕ) (name : List ℕ) (t : TableView) (db : Lis
   pub tuples : (v : World) → tuples_of (value_of_tables ws v db) name ≡ value_of_rows ws v t.rows
   pub cells : cells_in ws db name ≡ cells_of ws t.rows
 
+columns_found : (name : List ℕ) (db : List TableView) → columns_in (map heading_of db) name ≡ option_map_or (λ (t : TableView). Some t.columns) (find_table db name) None
+columns_found name [] = refl
+columns_found name (t ∷ db) =
+    ap (λ o. if same_text t.name name then Some t.columns else o) (columns_found name db) ∙ sym (found-cons (λ (x : TableView). Some x.columns) None t db name)
+
+tuples_found : (ws : List ℕ) (v : World) (name : List ℕ) (db : List TableView)
+    → tuples_of (value_of_tables ws v db) name ≡ option_map_or (λ (t : TableView). value_of_rows ws v t.rows) (find_table db name) []
+tuples_found ws v name [] = refl
+tuples_found ws v name (t ∷ db) =
+    ap (λ l. if same_text t.name name then value_of_rows ws v t.rows else l) (tuples_found ws v name db) ∙ sym (found-cons (λ (x : TableView). value_of_rows ws v x.rows) [] t db name)
+
+cells_by_name : (ws name : List ℕ) (db : List TableView) → cells_in ws db name ≡ cells_found ws db name
+cells_by_name ws name [] = refl
+cells_by_name ws name (t ∷ db) =
+    ap (λ l. if same_text t.name name then cells_of ws t.rows else l) (cells_by_name ws name db) ∙ sym (found-cons (λ (x : TableView). cells_of ws x.rows) [] t db name)
+
 pub stands_for : (ws : List ℕ) (name : List ℕ) (t : TableView) (db : List TableView) → find_table db name ≡ Some t → StandsFor ws name t db
-stands_for ws name t [] f = let bad : None ≡ Some t = f in cc
-stands_for ws name t (x ∷ db) f = by_test (same_text x.name name) refl (stands_for ws name t db) where
-  by_test : (b : Bool) → same_text x.name name ≡ b → (find_table db name ≡ Some t → StandsFor ws name t db) → StandsFor ws name t (x ∷ db)
-  by_test true p rest =
-      let same : Some x ≡ Some t = sym (ap (λ b. if b then Some x else find_table db name) p) ∙ f in
-      let is : x ≡ t = cc in
-      record {
-        columns = ap (λ b. if b then Some x.columns else columns_in (map heading_of db) name) p ∙ ap (λ (y : TableView). Some y.columns) is;
-        tuples = λ v. ap (λ b. if b then value_of_rows ws v x.rows else tuples_of (value_of_tables ws v db) name) p ∙ ap (λ (y : TableView). value_of_rows ws v y.rows) is;
-        cells = ap (λ b. if b then cells_of ws x.rows else cells_in ws db name) p ∙ ap (λ (y : TableView). cells_of ws y.rows) is;
-      }
-  by_test false p rest =
-      let s = rest (sym (ap (λ b. if b then Some x else find_table db name) p) ∙ f) in
-      record {
-        columns = ap (λ b. if b then Some x.columns else columns_in (map heading_of db) name) p ∙ s.columns;
-        tuples = λ v. ap (λ b. if b then value_of_rows ws v x.rows else tuples_of (value_of_tables ws v db) name) p ∙ s.tuples v;
-        cells = ap (λ b. if b then cells_of ws x.rows else cells_in ws db name) p ∙ s.cells;
-      }
+stands_for ws name t db f = record {
+  columns = columns_found name db ∙ ap (λ o. option_map_or (λ (x : TableView). Some x.columns) o None) f;
+  tuples = λ v. tuples_found ws v name db ∙ ap (λ o. option_map_or (λ (x : TableView). value_of_rows ws v x.rows) o []) f;
+  cells = cells_by_name ws name db ∙ ap (λ o. option_map_or (λ (x : TableView). cells_of ws x.rows) o []) f;
+}
 
 -- a name without a table has no columns
 pub no_columns : (name : List ℕ) (db : List TableView) → find_table db name ≡ None → columns_in (map heading_of db) name ≡ None
-no_columns name [] f = refl
-no_columns name (x ∷ db) f = by_test (same_text x.name name) refl (no_columns name db) where
-  by_test : (b : Bool) → same_text x.name name ≡ b → (find_table db name ≡ None → columns_in (map heading_of db) name ≡ None) → columns_in (map heading_of (x ∷ db)) name ≡ None
-  by_test true p rest = let bad : Some x ≡ None = sym (ap (λ b. if b then Some x else find_table db name) p) ∙ f in cc
-  by_test false p rest =
-      ap (λ b. if b then Some x.columns else columns_in (map heading_of db) name) p ∙ rest (sym (ap (λ b. if b then Some x else find_table db name) p) ∙ f)
+no_columns name db f = columns_found name db ∙ ap (λ o. option_map_or (λ (x : TableView). Some x.columns) o None) f
 
 -- so it has a table where a query that names it fits
 pub got_some : {A : Type 0} (o : Option A) (P : A → Type 0) (name : List ℕ) (db : List TableView) → IsSome (columns_in (map heading_of db) name) → MatchOption o (find_table db name ≡ None) P → IsSome o

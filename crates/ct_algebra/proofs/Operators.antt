@@ -65,9 +65,8 @@ module _ (old now new : List ℕ) (db : List TableView) (q : PlainQuery) (t : CT
   select_answers c (Err e) columns are tuples part from = tt
   select_answers c (Ok o) columns are tuples part from =
       made old new db (Select c q) t.columns s.names_are s.width_is o columns are
-      (λ v. same_set_on (value_of_rows new v o.rows) (filter (λ u. holds v u c) (its_tuples v)) (rows v (Select c q) (value_of_tables old v db))
-      (tuples v) (same_set_filter (λ u. holds v u c) (its_tuples v) (rows v q (value_of_tables old v db)) (s.tuples v)))
-      (sublist_of_sublist (cells_of new o.rows) (cells_of now t.rows) (query_pattern (cells_in old db) q) part s.part)
+      (λ v. same_set_on _ _ _ (tuples v) (same_set_filter (λ u. holds v u c) (its_tuples v) (rows v q (value_of_tables old v db)) (s.tuples v)))
+      (sublist_of_sublist _ _ _ part s.part)
       (rows_wider new (λ x. TermOfRows now t.rows x ⊎ (IsNamed c x × IsNoColumn x)) (TermOfQuery old db (Select c q)) (λ x h. elim h [
         | inl a ↦ widened old db q (Select c q) x (λ n i. i) (λ n. inr n) (its_terms x a)
         | inr b ↦ inr (inl b.0, b.1)
@@ -81,10 +80,8 @@ module _ (old now new : List ℕ) (db : List TableView) (q : PlainQuery) (t : CT
   project_answers ks (Ok o) columns are tuples part from =
       let wide : length (map (λ k. slice_index_or t.columns k []) ks) ≡ length ks = length-map ks (λ k. slice_index_or t.columns k []) in
       made old new db (Project ks q) (map (λ k. slice_index_or t.columns k []) ks) (ap (λ cs. map (λ k. slice_index_or cs k []) ks) s.names_are) wide o columns (subst (λ n. AreRows new n o.rows) (sym wide) are)
-      (λ v. same_set_on (value_of_rows new v o.rows) (map (λ u. map (cell_at u) ks) (its_tuples v)) (rows v (Project ks q) (value_of_tables old v db))
-      (tuples v) (same_set_map (λ u. map (cell_at u) ks) (its_tuples v) (rows v q (value_of_tables old v db)) (s.tuples v)))
-      (sublist_of_sublist (cells_of new o.rows) (map (picked ks) (cells_of now t.rows)) (query_pattern (cells_in old db) (Project ks q)) part
-      (sublist-map (picked ks) (cells_of now t.rows) (query_pattern (cells_in old db) q) s.part))
+      (λ v. same_set_on _ _ _ (tuples v) (same_set_map (λ u. map (cell_at u) ks) (its_tuples v) (rows v q (value_of_tables old v db)) (s.tuples v)))
+      (sublist_of_sublist _ _ _ part (sublist-map (picked ks) (cells_of now t.rows) (query_pattern (cells_in old db) q) s.part))
       (rows_wider new (TermOfRows now t.rows) (TermOfQuery old db (Project ks q)) (λ x h. widened old db q (Project ks q) x (λ n i. i) (λ n. n) (its_terms x h)) o.rows from)
 
 -- an operator of two parts
@@ -121,9 +118,8 @@ module _ (old now new : List ℕ) (db : List TableView) (a b : PlainQuery) (l r 
   product_answers (Ok o) columns are tuples part from =
       let both = length-append l.columns r.columns in
       made old new db (Product a b) (l.columns ++ r.columns) (λ i. s.names_are i ++ t.names_are i) (both ∙ (λ i. s.width_is i + t.width_is i)) o columns (subst (λ n. AreRows new n o.rows) (sym both) are)
-      (λ v. same_set_on (value_of_rows new v o.rows) (joins (lefts v) (rights v)) (joins (left_part v) (right_part v))
-      (tuples v) (same_set_joins (lefts v) (left_part v) (rights v) (right_part v) (s.tuples v) (t.tuples v)))
-      (sublist_of_sublist (cells_of new o.rows) (joins (cells_of now l.rows) (cells_of now r.rows)) (query_pattern (cells_in old db) (Product a b)) part
+      (λ v. same_set_on _ _ _ (tuples v) (same_set_joins (lefts v) (left_part v) (rights v) (right_part v) (s.tuples v) (t.tuples v)))
+      (sublist_of_sublist _ _ _ part
       (sublist_joins (cells_of now l.rows) (query_pattern (cells_in old db) a) (cells_of now r.rows) (query_pattern (cells_in old db) b) s.part t.part))
       (both_from (Product a b) refl (λ x n. n) o from)
 
@@ -134,9 +130,8 @@ module _ (old now new : List ℕ) (db : List TableView) (a b : PlainQuery) (l r 
   union_answers (Err e) columns are tuples part from = tt
   union_answers (Ok o) columns are tuples part from =
       made old new db (Union a b) l.columns s.names_are s.width_is o columns are
-      (λ v. same_set_on (value_of_rows new v o.rows) (lefts v ++ rights v) (left_part v ++ right_part v)
-      (tuples v) (same_set-append (lefts v) (left_part v) (rights v) (right_part v) (s.tuples v) (t.tuples v)))
-      (sublist_of_sublist (cells_of new o.rows) (cells_of now l.rows ++ cells_of now r.rows) (query_pattern (cells_in old db) (Union a b)) part
+      (λ v. same_set_on _ _ _ (tuples v) (same_set-append (lefts v) (left_part v) (rights v) (right_part v) (s.tuples v) (t.tuples v)))
+      (sublist_of_sublist _ _ _ part
       (sublist-append (cells_of now l.rows) (query_pattern (cells_in old db) a) (cells_of now r.rows) (query_pattern (cells_in old db) b) s.part t.part))
       (both_from (Union a b) refl (λ x n. n) o from)
 
@@ -147,9 +142,8 @@ module _ (old now new : List ℕ) (db : List TableView) (a b : PlainQuery) (l r 
   except_answers (Err e) columns are tuples part from = tt
   except_answers (Ok o) columns are tuples part from =
       made old new db (Except a b) l.columns s.names_are s.width_is o columns are
-      (λ v. same_set_on (value_of_rows new v o.rows) (filter (λ u. not (has_tuple (rights v) u)) (lefts v)) (rows v (Except a b) (value_of_tables old v db))
-      (tuples v) (same_set_without (lefts v) (left_part v) (rights v) (right_part v) (s.tuples v) (t.tuples v)))
-      (sublist_of_sublist (cells_of new o.rows) (cells_of now l.rows) (query_pattern (cells_in old db) a) part s.part)
+      (λ v. same_set_on _ _ _ (tuples v) (same_set_without (lefts v) (left_part v) (rights v) (right_part v) (s.tuples v) (t.tuples v)))
+      (sublist_of_sublist _ _ _ part s.part)
       (both_from (Except a b) refl (λ x n. n) o from)
 
   pub intersect_answers : (out : Result CTable TableError) → IfOk out (λ o. o.columns ≡ l.columns) → IfOk out (λ o. AreRows new (length l.columns) o.rows)
@@ -159,7 +153,6 @@ module _ (old now new : List ℕ) (db : List TableView) (a b : PlainQuery) (l r 
   intersect_answers (Err e) columns are tuples part from = tt
   intersect_answers (Ok o) columns are tuples part from =
       made old new db (Intersect a b) l.columns s.names_are s.width_is o columns are
-      (λ v. same_set_on (value_of_rows new v o.rows) (filter (has_tuple (rights v)) (lefts v)) (rows v (Intersect a b) (value_of_tables old v db))
-      (tuples v) (same_set_within (lefts v) (left_part v) (rights v) (right_part v) (s.tuples v) (t.tuples v)))
-      (sublist_of_sublist (cells_of new o.rows) (cells_of now l.rows) (query_pattern (cells_in old db) a) part s.part)
+      (λ v. same_set_on _ _ _ (tuples v) (same_set_within (lefts v) (left_part v) (rights v) (right_part v) (s.tuples v) (t.tuples v)))
+      (sublist_of_sublist _ _ _ part s.part)
       (both_from (Intersect a b) refl (λ x n. n) o from)

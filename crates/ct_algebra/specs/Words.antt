@@ -1,12 +1,14 @@
 -- How many words the evaluation of a query appends at most.
-use Rattle.std.specs.Prelude.{◌≤◌, ◌<◌, ◌+◌, ◌*◌, ℕ, List, map, Result, IsErrOf}
+use Rattle.std.specs.Prelude.{◌≤◌, ◌<◌, ◌+◌, ◌*◌, ℕ, List, map, Result, IfOk, IsErrOf}
 use Rattle.ct_query.specs.Plain.{PlainQuery, Table, Select, Project, Product, Union, Except, Intersect}
 use Rattle.ct_query.specs.Bounds.{terms, ops}
 use Rattle.ct_query.specs.Fits.{width}
 use Rattle.ct_query.specs.Size.{rows_in, row_bound}
 use Rattle.ct_table.specs.Counting.{count_of}
 use Rattle.ct_table.specs.Denotes.{TableView, heading_of}
+use Rattle.ct_operators.specs.declared.table.CTable.{CTable}
 use Rattle.ct_operators.specs.declared.error.TableError.{TableError}
+use Rattle.ct_algebra.specs.Evaluates.{Evaluates}
 use Rattle.ct_operators.specs.declared.error.TableError.TheVariants as fault
 
 -- a bound on the rows of a query over tables
@@ -29,3 +31,8 @@ most_words db (Intersect a b) =
 pub record GrowsWithin {A : Type 0} (out : Result A TableError) (old new most : ℕ) : Type 0 where
   pub made : new ≤ old + most
   pub fewer : IsErrOf out fault.Full → new < old + most
+
+-- a call answers a query over the words now, or is refused, and a count of words grows by at most those of the query
+pub record Answers (old now : List ℕ) (db : List TableView) (q : PlainQuery) (before after : ℕ) (out : Result CTable TableError) : Type 0 where
+  pub evaluates : IfOk out (Evaluates old now db q)
+  pub grows : GrowsWithin out before after (most_words db q)

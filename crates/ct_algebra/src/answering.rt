@@ -8,7 +8,7 @@ ghost use Rattle.ct_table.specs.Denotes.{heading_of};
 ghost use Rattle.ct_operators.specs.declared.error.TableError.TheVariants as fault;
 ghost use Rattle.ct_algebra.specs.Operands.{AreTables};
 ghost use Rattle.ct_algebra.specs.Evaluates.{Evaluates};
-ghost use Rattle.ct_algebra.specs.Words.{most_words, GrowsWithin};
+ghost use Rattle.ct_algebra.specs.Words.{most_words, GrowsWithin, Answers};
 
 use ct_arena::{Arena, Pass, Site};
 use ct_query::Query;
@@ -58,10 +58,9 @@ pub(crate) fn answer<N: Site>(
 ) -> Result<CTable, TableError>
     requires tables { AreTables pass.old.words db.now }
     requires fits { Fits (map heading_of db.now) (query_of query.now) }
-    ensures evaluates { IfOk result (Evaluates pass.old.words pass.new.words db.now (query_of query.now)) }
+    ensures answers { Answers pass.old.words pass.new.words db.now (query_of query.now) pass.old.made pass.new.made result }
     ensures longer { IsPrefix pass.old.words pass.new.words }
     ensures full { IsErrOf result fault.Full → length pass.new.words ≡ N.log.cap }
-    ensures made { GrowsWithin result pass.old.made pass.new.made (most_words db.now (query_of query.now)) }
     ensures session { pass.new.session ≡ pass.old.session }
     ensures mine { pass.new.mine ≡ pass.old.mine }
 {

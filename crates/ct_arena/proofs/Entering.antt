@@ -33,8 +33,7 @@ left_keeper me me' room e guest ended words is =
 no_numbers : (s e : ℕ) (cs : List PlainCommit) → All (λ c. (1 ≤ c.session) × (c.session ≤ e)) cs → e < s → numbers_by s cs ≡ []
 no_numbers s e [] all lt = refl
 no_numbers s e (c ∷ cs) all lt =
-    let own = all 0 c (omega arith) in
-    let le : c.session ≤ e = own.1 in
+    let le : c.session ≤ e = (all 0 c (omega arith)).1 in
     let ne : c.session ≢ s = (λ h. omega arith) in
     rw (ne_eqb c.session s ne) (no_numbers s e cs (λ k d within. all (suc k) d (omega arith)) lt)
 

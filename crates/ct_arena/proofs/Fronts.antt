@@ -1,7 +1,7 @@
 -- Fronts of a log: what they keep of it, and which word comes next.
 use Rattle.std.proofs.Common.{◌≡◌, ◌≢◌, ℕ, zero, suc, ◌<◌, ◌≤◌, List, [], ◌∷◌, ◌++◌, length, get_or, eq-eqb, true, refl, sym, ap, ◌∙◌, subst, arith, length-append, append_assoc, append-nil, true≢false}
-use Rattle.std.{specs.Prelude.{IsTrue, Contains, not, ◌||◌, nat_eq, replicate, slice_index, slice_set}, specs.List.list_any, proofs.Math.Bool.or-true}
-use Rattle.std.proofs.lemmas.List.{nil_from_length}
+use Rattle.std.{specs.Prelude.{IsTrue, Contains, not, nat_eq, replicate, slice_index, slice_set}, specs.List.list_any, proofs.lemmas.List.nil_from_length}
+use Rattle.std.proofs.lemmas.List.Folds.{list_any_at}
 use Rattle.ct_word.{specs.Reading.commits_of, specs.Word.{kind_of, kind_with, left_of, right_of}, specs.Change.PlainCommit, proofs.Prefixes.commits_prefix}
 use Rattle.ct_word.{specs.WellFormed.{IsWellFormed, each_follows, is_word_after, is_formed_as}, proofs.Packed.{true_left, true_right, true_both}}
 use Rattle.ct_arena.{specs.Counts.numbers_by, proofs.Sole.numbers_append}
@@ -70,15 +70,10 @@ last_follows before [] w e = subst (λ l. IsTrue (is_word_after l w)) (sym (appe
 last_follows before (x ∷ xs) w e =
     subst (λ l. IsTrue (is_word_after l w)) (append_assoc before (x ∷ []) xs) (last_follows (before ++ x ∷ []) xs w (true_right (is_word_after before x) _ e))
 
-any_there : (ws : List ℕ) (k w : ℕ) → k < length ws → get_or ws k w ≡ w → list_any (nat_eq w) ws ≡ true
-any_there [] k w lt e = absurd (omega arith)
-any_there (x ∷ xs) zero w lt e = rw (eq-eqb w x (sym e)) refl
-any_there (x ∷ xs) (suc k) w lt e = ap (λ b. nat_eq w x || b) (any_there xs k w (omega arith) e) ∙ or-true (nat_eq w x)
-
 pub new_after : (ws : List ℕ) (w : ℕ) → IsTrue (is_word_after ws w) → Contains ws w → ⊥
 unfolding is_word_after
 new_after ws w e there =
-    true≢false (sym (true_right (is_formed_as (kind_of w) ws (left_of w) (right_of w)) (not (list_any (nat_eq w) ws)) e) ∙ ap not (any_there ws there.0 w there.1 there.2))
+    true≢false (sym (true_right (is_formed_as (kind_of w) ws (left_of w) (right_of w)) (not (list_any (nat_eq w) ws)) e) ∙ ap not (list_any_at (nat_eq w) ws there.0 w there.1 (eq-eqb w (get_or ws there.0 w) (sym there.2))))
 
 -- the last word of a well formed list stands nowhere before
 pub last_new : (ws : List ℕ) (w : ℕ) → IsWellFormed (ws ++ w ∷ []) → Contains ws w → ⊥

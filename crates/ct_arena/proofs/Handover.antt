@@ -2,9 +2,9 @@
 use Rattle.std.proofs.Common.{◌≡◌, ℕ, ◌+◌, ◌<◌, ◌≤◌, ◌^◌, ◌⊎◌, Bool, true, inl, inr, List, [], ◌∷◌, ◌++◌, Option, Some, None, refl, sym, ap, ◌∙◌, subst, arith}
 use Rattle.std.{specs.Prelude.{All, Result, Ok, Err, IfOk, OnOk, OnErr, IsErr}, proofs.lemmas.List.Elements.All-push}
 use Rattle.atomic_table.{specs.Table.Me, specs.Seated.TableId}
-use Rattle.ct_word.{specs.Change.PlainCommit, specs.Reading.commits_of, proofs.Splits.some-injective}
+use Rattle.ct_word.{specs.Change.PlainCommit, specs.Reading.commits_of, proofs.Splits.some-injective, proofs.Prefixes.prefix_of_prefix}
 use Rattle.ct_chain.specs.Seen.{Chained}
-use Rattle.ct_arena.{proofs.Sole.{commits_grow, prefix_trans}, specs.Name.LogName, specs.Counts.{opening, AreOfSessions, commit_word, commit_of}}
+use Rattle.ct_arena.{proofs.Sole.commits_grow, specs.Name.LogName, specs.Counts.{opening, AreOfSessions, commit_word, commit_of}}
 use Rattle.ct_arena.{specs.declared.sharing.View.View, specs.declared.tally.Tally.Tally, specs.Kept.{IsNamed, IsPass, IsKeeper, IsLent, list_of}}
 use Rattle.ct_arena.specs.Sharing.{first_view, session_view, keeper_view, newcomer, enrolled, enrolled_by, kept, given, joined, longer, counts_word, IsSettled}
 use Rattle.ct_arena.{specs.Own.{IsOwn, IsOutcome, with_seen, with_guest}, proofs.Opening.{opening_log, none_of}}
@@ -132,7 +132,7 @@ pub work_put : {log : LogName} {table table' : TableId} {me me' : Me ℕ View} {
     → me' ≡ (with_seen (with_guest me.0 t') words', []) → IsOwn cap t' words' → IsOutcome me.0.keeps t t' words words' w → AreOfSessions e words' → IsKeeper log table' me' words' e (Some t') × IsPrefix plain words'
 work_put {log} {table} {table'} {me} {me'} {plain} {words} {words'} {e} {cap} {w} {guest} {t} {t'} work room same seat own outcome known = (
   keeper_put log table table' me me' words words' e guest t t' work.keeper work.entered same seat (subst (λ n. IsOwn n t' words') room own) (outcome_session me.0.keeps t t' words words' w outcome) known,
-  prefix_trans plain words words' work.behind (outcome_longer me.0.keeps t t' words words' w outcome),
+  prefix_of_prefix plain words words' work.behind (outcome_longer me.0.keeps t t' words words' w outcome),
 )
 
 -- while none is entered, it is its own

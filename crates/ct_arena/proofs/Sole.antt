@@ -9,9 +9,6 @@ use mathlib.Core.List.{IsPrefix}
 pub prefix_push : (xs ys : List ℕ) (w : ℕ) → IsPrefix xs ys → IsPrefix xs (ys ++ w ∷ [])
 prefix_push xs ys w p = (p.0 ++ w ∷ [], sym (append_assoc xs p.0 (w ∷ [])) ∙ ap (λ l. l ++ w ∷ []) p.1)
 
-pub prefix_trans : (xs ys zs : List ℕ) → IsPrefix xs ys → IsPrefix ys zs → IsPrefix xs zs
-prefix_trans xs ys zs p q = (p.0 ++ q.0, sym (append_assoc xs p.0 q.0) ∙ ap (λ l. l ++ q.0) p.1 ∙ q.1)
-
 range_push : (a n : ℕ) → range_with_len a (suc n) ≡ range_with_len a n ++ (a + n) ∷ []
 range_push a zero = rw add-zero refl
 range_push a (suc n) =

@@ -31,8 +31,7 @@ grown_tied cap log views id v w tied at more =
     changes_view cap log views id v (grown v w) tied at (more, (tied.fronted.fronts id v at).1) (λ g. refl)
     (λ e own k.
     let was = own k in
-    let same = commits_between v.seen (v.seen ++ w ∷ []) log (w ∷ [], refl) more was.1.commits in
-    (was.0, record { commits = same ∙ was.1.commits; many = was.1.many; room = was.1.room }))
+    (was.0, record { commits = (commits_between v.seen (v.seen ++ w ∷ []) log (w ∷ [], refl) more was.1.commits) ∙ was.1.commits; many = was.1.many; room = was.1.room }))
 
 abbrev seat : View → List (ℕ × ℕ) → Me ℕ View
 seat v slots = (v, slots)

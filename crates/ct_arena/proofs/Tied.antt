@@ -128,9 +128,7 @@ pub joins_views : (cap : ℕ) (log : List ℕ) (views : List View) (id other : �
     → get_elem? (set views id (joined k v)) other ≡ some v → IsTied cap log (set (set views id (joined k v)) other spent)
 joins_views cap log views id other k v alone bare ne tied at there =
     let was : get_elem? views other ≡ some v = ⊎_elim (λ (x : (other ≡ id) × (joined k v ≡ v)). absurd (ne x.0)) (λ (x : (other ≢ id) × (get_elem? views other ≡ some v)). x.1) (at_set views id other (joined k v) v there) in
-    let sees = tied.fronted.fronts id k at in
-    let seen = tied.fronted.fronts other v was in
-    let first = set_fronted cap tied.enrolled log views id (joined k v) (sees.0, seen.0)
+    let first = set_fronted cap tied.enrolled log views id (joined k v) ((tied.fronted.fronts id k at).0, (tied.fronted.fronts other v was).0)
     (λ keeps. let own = tied.fronted.keeper id k at keeps in (own.0, record { commits = own.1.commits; many = own.1.many; room = own.1.room }))
     (stay cap tied.enrolled log views id tied.fronted) in record {
       enrolled = tied.enrolled;

@@ -2,10 +2,10 @@
 use Rattle.std.proofs.Common.{◌≡◌, ◌≢◌, ℕ, zero, suc, ◌<◌, ◌≤◌, List, [], ◌∷◌, ◌++◌, length, get_or, Bool, true, false, Some, refl, sym, ap, ◌∙◌, subst, arith, length-append, eq-eqb, lt_of_not-le}
 use Rattle.std.{specs.Prelude.{nat_eq, nat_lt, if◌then◌else◌, Contains, sum_by}, proofs.lemmas.Bool.{ltb-true, ltb-false}}
 use Rattle.atomic_table.specs.Table.{Me}
-use Rattle.ct_word.{specs.Reading.commits_of, proofs.Prefixes.prefix_same}
+use Rattle.ct_word.{specs.Reading.commits_of, proofs.Prefixes.{prefix_same, prefix_of_prefix}}
 use Rattle.ct_arena.{specs.Counts.{opening, IsLog, AreNumbered}, specs.declared.sharing.View.View, specs.declared.tally.Tally.Tally, proofs.Tied.load_of}
 use Rattle.ct_arena.{specs.Sharing.{total, held, as_list, weight, is_of, mine_of, longer, IsMoment, IsRead, IsSeen}, specs.Own.{IsOwn, IsWhole, with_seen}}
-use Rattle.ct_arena.{proofs.Totals.{total_one, total_by, term_le, nothing, whole_weight}, proofs.Sole.prefix_trans}
+use Rattle.ct_arena.proofs.Totals.{total_one, total_by, term_le, nothing, whole_weight}
 use Rattle.ct_arena.proofs.Fronts.{prefix_length, prefix_whole, shorter_front, commits_between, numbers_between, formed_front, last_new}
 use mathlib.{Core.Option.some, Core.List.IsPrefix, Core.Logic.dite}
 use native.Mathlib.Decide.{dec_le}
@@ -54,7 +54,7 @@ pub log_grows : (cap : ℕ) (v : View) (m : IsMoment v) (words : List ℕ) → I
 log_grows cap v m words front more le log = record {
   formed = formed_front words m.log front m.formed;
   room = le;
-  begins = (let a = log.begins in prefix_trans opening v.seen words a more);
+  begins = (let a = log.begins in prefix_of_prefix opening v.seen words a more);
 }
 
 -- the keeper has each commit of it already
@@ -89,11 +89,10 @@ elem_at (x ∷ xs) (suc k) d lt = elem_at xs k d (omega arith)
 -- the list that was read to the end, once each session was ended
 pub whole_log : (v : View) (m : IsMoment v) → v.keeps ≡ true → m.log ≡ v.seen → IsWhole v v.seen
 whole_log v m keeps whole all none_ =
-    let kept = (m.tied.fronted.keeper m.id v m.at keeps).1 in
     let held_is : held v ≡ v.ended = ap (λ o. as_list o ++ v.ended) none_ in
     let load : load_of (λ t. 1) v ≡ length v.ended = ap (λ l. total (λ t. 1) l) held_is ∙ total_one v.ended in
     let many = m.tied.counted.many in
-    let is = kept.many in
+    let is = (m.tied.fronted.keeper m.id v m.at keeps).1.many in
     let made : weight (λ t. t.made) m.views ≡ load_of (λ t. t.made) v =
     whole_weight (load_of (λ t. 1)) (load_of (λ t. t.made)) (λ u e. nothing (λ t. 1) (λ t. t.made) (λ t z. absurd (omega arith)) (held u) e) m.views m.id v m.at (omega arith) in
     let sum : load_of (λ t. t.made) v ≡ sum_by (λ t. t.made) v.ended = ap (λ l. total (λ t. t.made) l) held_is ∙ sym (total_by (λ t. t.made) v.ended) in
@@ -108,8 +107,7 @@ whole_log v m keeps whole all none_ =
 -- a list as long as the table is the whole log
 pub full_log : (v : View) (m : IsMoment v) → v.keeps ≡ true → v.room ≤ length v.seen → m.log ≡ v.seen
 full_log v m keeps le =
-    let kept = (m.tied.fronted.keeper m.id v m.at keeps).1 in
-    let room = kept.room in
+    let room = (m.tied.fronted.keeper m.id v m.at keeps).1.room in
     let most = m.tied.room in
     sym (prefix_whole v.seen m.log (m.tied.fronted.fronts m.id v m.at).0 (omega arith))
 

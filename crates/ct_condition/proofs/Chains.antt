@@ -5,8 +5,8 @@ use Rattle.std.{proofs.lemmas.Str.{encodes-append, encodes_same, cons_from_encod
 use Rattle.std.proofs.lemmas.Bool.{eqb-true, false≢true}
 use Rattle.ct_word.{specs.declared.kinds.Kind.Kind, specs.Word.{word_of, kind_of, left_of, right_of}, specs.Stands.StandsAt, proofs.Codes.code_by}
 use Rattle.ct_word.{specs.Reading.{Meaning, IsText, as_text, by_kind, meanings}, proofs.Growth.length-read, proofs.Stands.stands_for_packed}
-use Rattle.ct_word.{specs.WellFormed.{has_class, is_word_of, is_place_of, fields_of, fits, is_formed_as, IsWellFormed}, proofs.Constants.text_kinds}
-use Rattle.ct_word.{proofs.Splits.{split_at, formed_at, formed_fields, meaning_at, one_place, get_front, place_within}, proofs.Items.contains_of_get}
+use Rattle.ct_word.{specs.WellFormed.{has_class, is_word_of, is_place_of, IsWellFormed}, proofs.Constants.text_kinds, proofs.Splits.{meaning_at, one_place}}
+use Rattle.ct_word.{proofs.Items.contains_of_get, specs.WordAt.IsWordAt, proofs.WordAt.word_is}
 use Rattle.ct_word.specs.declared.kinds.Kind.TheVariants as kind
 use Rattle.ct_word.specs.declared.kinds.Class.TheVariants as class
 
@@ -29,22 +29,9 @@ begin_with (d ∷ ds) cs rest e =
     (others.0, first.1 ∙ ap (λ l. d ∷ l) others.1, others.2)
 
 module _ (ws : List ℕ) (wf : IsWellFormed ws) where
-  -- the fields of a word fit the words before it
-  abbrev FitBefore : ℕ → ℕ → Kind → Type 0
-  FitBefore p w k = (front : List ℕ) × (back : List ℕ) × (ws ≡ front ++ w ∷ back) × (length front ≡ p) × (fits front (fields_of k).0 (left_of w) ≡ true) × (fits front (fields_of k).1 (right_of w) ≡ true)
-
-  pub fit_before : (p w : ℕ) (k : Kind) → slice_get ws p ≡ Some w → kind_of w ≡ Some k → FitBefore p w k
-  fit_before p w k at e =
-      let s = split_at ws p w at in
-      let formed : is_formed_as (Some k) s.front (left_of w) (right_of w) ≡ true =
-      ap (λ o. is_formed_as o s.front (left_of w) (right_of w)) (sym e) ∙ formed_at ws wf p w at s in
-      let parts = formed_fields s.front k (left_of w) (right_of w) formed in
-      (s.front, s.back, s.is, s.long, parts.0, parts.1)
-
-  -- a place before a word is a place of all words
-  pub place_there : (front back : List ℕ) (w : ℕ) → ws ≡ front ++ w ∷ back → (a : ℕ) (c : _) → is_place_of front c a ≡ true → is_place_of ws c a ≡ true
-  place_there front back w is a c e =
-      ap (λ o. is_word_of o c) (ap (λ xs. slice_get xs a) is ∙ get_front front (w ∷ back) a (place_within front c a e)) ∙ e
+  -- a word by its kind and its fields
+  pub taken_apart : (p w : ℕ) → slice_get ws p ≡ Some w → (k : Kind) → kind_of w ≡ Some k → IsWordAt ws p (record { kind = k; left = left_of w; right = right_of w })
+  taken_apart p w at k e = word_is ws p w at wf k e (small_left w) (small_right w)
 
   -- a place that stands for something has a word
   pub word_under : (p : ℕ) (m : Meaning) → StandsAt ws p m → (w : ℕ) × (slice_get ws p ≡ Some w)
@@ -108,9 +95,9 @@ module _ (ws : List ℕ) (wf : IsWellFormed ws) where
 
   spelled_end : (p w : ℕ) → slice_get ws p ≡ Some w → kind_of w ≡ Some kind.TextEnd → Spelled p
   spelled_end p w at k =
-      let f = fit_before p w kind.TextEnd at k in
-      let left : left_of w ≡ 0 = eqb-true _ _ f.4 in
-      let right : right_of w ≡ 0 = eqb-true _ _ f.5 in
+      let f = taken_apart p w at kind.TextEnd k in
+      let left : left_of w ≡ 0 = eqb-true _ _ f.left in
+      let right : right_of w ≡ 0 = eqb-true _ _ f.right in
       let is : slice_get ws p ≡ Some (word_of kind.TextEnd 0 0) =
       at ∙ ap (λ x. Some x) (packed w kind.TextEnd k) ∙ (λ i. Some (word_of kind.TextEnd (left i) (right i))) in
       record { chars = []; start = p; ends = is; chain = refl; stands = stands_for_packed ws p kind.TextEnd 0 0 wf (omega arith) (omega arith) is }
@@ -133,10 +120,9 @@ module _ (ws : List ℕ) (wf : IsWellFormed ws) where
   spelled_by p (Some w) at e below = elim (text_kinds (kind_of w) e) [
     | inl k ↦ spelled_end p w at k
     | inr k ↦
-        let f = fit_before p w kind.TextCharacter at k in
-        let lt : left_of w < p = omega (arith, place_within f.0 class.Text (left_of w) f.4, f.3) in
+        let f = (taken_apart p w at kind.TextCharacter k).left in
         spelled_more p (left_of w) (right_of w) (small_left w) (small_right w) (at ∙ ap (λ x. Some x) (packed w kind.TextCharacter k))
-        (below (left_of w) lt (place_there f.0 f.1 w f.2 (left_of w) class.Text f.4))
+        (below (left_of w) f.0 f.1)
   ]
 
   spelled_at : (n p : ℕ) → p < n → is_place_of ws class.Text p ≡ true → Spelled p

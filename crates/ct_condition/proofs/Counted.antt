@@ -56,19 +56,15 @@ module _ (words cells : List ℕ) where
 run_fewer : (old new cells : List ℕ) → IsPrefix old new → (ps : List Pred) → run_new_words new cells ps ≤ run_new_words old cells ps
 run_fewer old new cells longer [] = omega arith
 run_fewer old new cells longer (p ∷ ps) =
-    let a = new_fewer old new cells longer (condition_of p) in
-    let b = run_fewer old new cells longer ps in
-    omega (arith, a, b, sum_by-cons (new_of_one old cells) p ps, sum_by-cons (new_of_one new cells) p ps)
+    omega (arith, new_fewer old new cells longer (condition_of p), run_fewer old new cells longer ps, sum_by-cons (new_of_one old cells) p ps, sum_by-cons (new_of_one new cells) p ps)
 
 -- where the terms of the items so far have their places, and those of one more
 pub placed_more : (old mid new cells : List ℕ) → IsPrefix old mid → IsPrefix mid new → (ps : List Pred) (i : ℕ) (p : Pred) → i < length ps → p ≡ get_or ps i p
     → run_new_words old cells (take i ps) ≡ 0 → new_words mid cells (condition_of p) ≡ 0 → run_new_words new cells (take (i + 1) ps) ≡ 0
 placed_more old mid new cells l k ps i p within is before item =
-    let so_far = run_fewer old new cells (prefix_of_prefix old mid new l k) (take i ps) in
-    let one = new_fewer mid new cells k (condition_of p) in
     let more : run_new_words new cells (take (i + 1) ps) ≡ run_new_words new cells (take i ps) + new_of_one new cells p =
     sum_by_more (new_of_one new cells) ps i p within ∙ ap (λ q. run_new_words new cells (take i ps) + new_of_one new cells q) (sym is) in
-    omega (arith, so_far, one, more, before, item)
+    omega (arith, run_fewer old new cells (prefix_of_prefix old mid new l k) (take i ps), new_fewer mid new cells k (condition_of p), more, before, item)
 
 -- a run by its items: m counts the words before the run, m1 those before an item, m2 those after it, m3 those after its connective
 module _ (words now cells : List ℕ) (longer : IsPrefix words now) (ps : List Pred) (i : ℕ) (p : Pred) (within : i < length ps) (is : p ≡ get_or ps i p) (m m1 m2 m3 : ℕ)

@@ -6,7 +6,7 @@ use Rattle.ct_word.{specs.Stands.{StandsAt, places_in}, specs.Reading.{Meaning, 
 use Rattle.ct_word.{proofs.Splits.{meaning_at, one_place}, specs.WellFormed.{class_of, has_class, is_word_of, is_place_of, is_formed_as, IsWellFormed}}
 use Rattle.ct_word.{proofs.Stands.stands_for_packed, proofs.Constants.{bits_of, bits_back, high_kind}, proofs.Items.contains_of_get}
 use Rattle.ct_condition.specs.Terms.{is_text_kind, text_term}
-use Rattle.ct_condition.proofs.Chains.{packed, small_left, small_right, fit_before, place_there, word_under, one_text, text_at_class}
+use Rattle.ct_condition.proofs.Chains.{packed, small_left, small_right, taken_apart, word_under, one_text, text_at_class}
 use Rattle.ct_word.specs.declared.kinds.Kind.TheVariants as kind
 use Rattle.ct_word.specs.declared.kinds.Class.TheVariants as class
 use Rattle.ct_word.specs.declared.values.Value.TheVariants as val
@@ -67,8 +67,8 @@ module _ (ws : List ℕ) (wf : IsWellFormed ws) where
 
     over_high : kind_of w ≡ Some kind.Number → NumberWords (int_of_bits (as_high (slice_get (meanings ws) (left_of w)) * 256 + right_of w))
     over_high e =
-        let f = fit_before ws wf p w kind.Number at e in
-        let h = high_by (left_of w) (slice_get ws (left_of w)) refl (place_there ws wf f.0 f.1 w f.2 (left_of w) class.High f.4) in
+        let f = taken_apart ws wf p w at kind.Number e in
+        let h = high_by (left_of w) (slice_get ws (left_of w)) refl f.left.1 in
         record {
           high = left_of w;
           upper = left_of h.0;
@@ -78,7 +78,7 @@ module _ (ws : List ℕ) (wf : IsWellFormed ws) where
           low_word = contains_of_get ws p (word_of kind.Number (left_of w) (right_of w)) (at ∙ ap (λ x. Some x) (packed w kind.Number e));
           upper_small = small_left h.0;
           middle_small = small_right h.0;
-          low_small = ltb-true (right_of w) 256 f.5;
+          low_small = ltb-true (right_of w) 256 f.right;
           is = ap (λ n. int_of_bits (n * 256 + right_of w)) (sym h.2);
         }
 
@@ -88,17 +88,17 @@ module _ (ws : List ℕ) (wf : IsWellFormed ws) where
     by_kinds : (o : Option Kind) (t : Term) → kind_of w ≡ o → by_kind o (meanings ws) (left_of w) (right_of w) ≡ IsTerm t → AreThere t
     by_kinds (Some kind.Number) t k e = by_term t _ e (over_high k)
     by_kinds (Some kind.TextConstant) t k e =
-        let f = fit_before ws wf p w kind.TextConstant at k in
-        by_term t _ e (over_text kind.TextConstant k (eqb-true _ _ f.5) (place_there ws wf f.0 f.1 w f.2 (left_of w) class.Text f.4))
+        let f = taken_apart ws wf p w at kind.TextConstant k in
+        by_term t _ e (over_text kind.TextConstant k (eqb-true _ _ f.right) f.left.1)
     by_kinds (Some kind.NamedNull) t k e =
-        let f = fit_before ws wf p w kind.NamedNull at k in
-        by_term t _ e (over_text kind.NamedNull k (eqb-true _ _ f.5) (place_there ws wf f.0 f.1 w f.2 (left_of w) class.Text f.4))
+        let f = taken_apart ws wf p w at kind.NamedNull k in
+        by_term t _ e (over_text kind.NamedNull k (eqb-true _ _ f.right) f.left.1)
     by_kinds (Some kind.FreshNull) t k e =
         by_term t _ e (contains_of_get ws p (word_of kind.FreshNull (left_of w) (right_of w)) (at ∙ ap (λ x. Some x) (packed w kind.FreshNull k)))
     by_kinds (Some kind.OtherValue) t k e =
-        by_term t _ e (with_zero kind.OtherValue k (eqb-true _ _ (fit_before ws wf p w kind.OtherValue at k).5))
+        by_term t _ e (with_zero kind.OtherValue k (eqb-true _ _ (taken_apart ws wf p w at kind.OtherValue k).right))
     by_kinds (Some kind.Column) t k e =
-        by_term t _ e (with_zero kind.Column k (eqb-true _ _ (fit_before ws wf p w kind.Column at k).5))
+        by_term t _ e (with_zero kind.Column k (eqb-true _ _ (taken_apart ws wf p w at kind.Column k).right))
     by_kinds _ t k e = cc
 
   -- the words of a term that stands somewhere
@@ -133,10 +133,7 @@ module _ (ws : List ℕ) (wf : IsWellFormed ws) where
 
     same_bits : (number.upper * 268435456 + number.middle) * 256 + number.low ≡ n
     same_bits =
-        let a = number.upper_small in
-        let b = number.middle_small in
-        let c = number.low_small in
-        sym (bits_back ((number.upper * 268435456 + number.middle) * 256 + number.low) (omega (arith, a, b, c)))
+        sym (bits_back ((number.upper * 268435456 + number.middle) * 256 + number.low) (omega (arith, number.upper_small, number.middle_small, number.low_small)))
         ∙ ap bits_of (number.is ∙ sym is) ∙ bits_back n small
 
     pieces : (u m l : ℕ) → u < 268435456 → m < 268435456 → l < 256 → (u * 268435456 + m) * 256 + l ≡ n

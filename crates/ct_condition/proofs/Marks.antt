@@ -174,8 +174,7 @@ module _ (old new : List (ℕ × ℕ)) (before after : List ((ℕ × ℕ) × ℕ
       (s.0, there, put_in s.0 ∙ by s.0 (same_pair m s.0) refl there s.2) where
         by : (q : ℕ × ℕ) (b : Bool) → same_pair m q ≡ b → HasMark new n q → lookup (same_pair q) before ≡ Some i → cond b (Some k) (lookup (same_pair q) before) ≡ Some i
         by q true is there rest =
-            let one = one_null new p.0 n m mark (subst (HasMark new n) (sym (pair_is m q is)) there) in
-            absurd (false≢true (sym same ∙ (null_decides p.0 n).1 one))
+            absurd (false≢true (sym same ∙ (null_decides p.0 n).1 (one_null new p.0 n m mark (subst (HasMark new n) (sym (pair_is m q is)) there))))
         by q false is there rest = rest
 
   pub nulls_more : AreNulls new after k (p ∷ v)

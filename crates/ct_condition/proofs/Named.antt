@@ -1,8 +1,8 @@
 -- Which terms stand below a predicate that was put on a row.
-use Rattle.std.proofs.Common.{◌≡◌, ◌<◌, ℕ, zero, suc, List, [], ◌∷◌, length, Some, None, get_or, ap, sym, subst, ◌∙◌, arith, inl, inr}
-use Rattle.std.{specs.Prelude.{Contains, slice_get}, proofs.lemmas.Option.none-some}
+use Rattle.std.{proofs.Common.{◌≡◌, ◌<◌, ℕ, zero, suc, List, [], ◌∷◌, length, Some, None, get_or, ap, sym, subst, ◌∙◌, arith, inl, inr}, specs.Prelude.Contains}
+use Rattle.std.proofs.lemmas.Option.{none-some}
 use Rattle.ct_word.{specs.declared.values.Term.Term, specs.Condition.{Condition, Same, Not}, specs.Stands.TermBelow, specs.WellFormed.IsWellFormed}
-use Rattle.ct_word.specs.declared.connectives.Connective.{Connective}
+use Rattle.ct_word.{specs.declared.connectives.Connective.Connective, proofs.Items.contains_of_get}
 use Rattle.ct_query.specs.declared.query.Pred.{Pred, And, Row_of-Pred, end_of-Pred, more_of-Pred, items-the_row-Pred, items_hidden-the_row-Pred-0}
 use Rattle.ct_query.{specs.Pred.{condition_of, conditions_of}, proofs.Trees.row_of}
 use Rattle.ct_condition.{specs.Runs.under, specs.Rows.cell_for, proofs.OnRows.ArePlaces, proofs.Reached.{formed_before, terms_before, some_before}}
@@ -12,13 +12,8 @@ use Rattle.ct_word.specs.declared.kinds.Class.TheVariants as class
 use Rattle.ct_word.specs.declared.values.Term.TheVariants as term
 use Rattle.ct_word.specs.declared.connectives.Connective.TheVariants as connective
 
-among_at : (cells : List ℕ) (k place : ℕ) → slice_get cells k ≡ Some place → Contains cells place
-among_at [] k place e = absurd (none-some place e)
-among_at (s ∷ cells) zero place e = let same : s ≡ place = cc in (zero, omega arith, same)
-among_at (s ∷ cells) (suc k) place e = let r = among_at cells k place e in (suc r.0, omega (arith, r.1), r.2)
-
 cell_among : (cells : List ℕ) (t : Term) (place : ℕ) → cell_for cells t ≡ Some place → Contains cells place
-cell_among cells (term.Column k) place e = among_at cells k place e
+cell_among cells (term.Column k) place e = contains_of_get cells k place e
 cell_among cells (term.Null n) place e = absurd (none-some place e)
 cell_among cells (term.Value x) place e = absurd (none-some place e)
 

@@ -1,10 +1,10 @@
 -- Terms and conditions with the cells of a row put for their columns.
 use Rattle.std.{proofs.Common.{◌≡◌, ℕ, zero, suc, List, [], ◌∷◌, ◌++◌, map, length, drop, Some, None, refl, ap, sym, ◌∙◌}, proofs.Math.Seq.drop-nil}
 use Rattle.std.{specs.Prelude.{All, IsTrue, slice_get}, proofs.lemmas.Option.none-some, proofs.lemmas.List.append-nil}
-use Rattle.std.proofs.lemmas.List.Elements.{All-head, All-tail, All-weaker}
+use Rattle.std.proofs.lemmas.List.Elements.{All-head, All-tail, All-weaker, All-contains}
 use Rattle.ct_word.{specs.declared.values.Value.Value, specs.declared.values.Term.Term, specs.Value.{World, at, cell_at, same_value}, specs.Stands.StandsAt}
 use Rattle.ct_word.{specs.Condition.{Condition, Same, holds}, specs.Reading.{IsTerm, as_term, term_at}, specs.WellFormed.is_place_of}
-use Rattle.ct_word.proofs.Prefixes.{place_within, place_in_prefix, term_in_prefix}
+use Rattle.ct_word.{proofs.Prefixes.{place_within, place_in_prefix, term_in_prefix}, proofs.Items.contains_of_get}
 use Rattle.ct_condition.{specs.Truth.{HasTruth, equal_at}, specs.Rows.{cell_for, values_on, on_row, WorthOn}, proofs.Truths.in_place}
 use mathlib.Core.List.{IsPrefix}
 use Rattle.ct_word.specs.declared.kinds.Class.TheVariants as class
@@ -67,11 +67,7 @@ term_worth old new cells t place e stands v row = ap (λ o. at v row (as_term o)
 
 -- a cell is the place of a term
 pub cell_place : (ws cells : List ℕ) (t : Term) (place : ℕ) → cell_for cells t ≡ Some place → ArePlaces ws cells → IsTrue (is_place_of ws class.Term place)
-cell_place ws cells (term.Column k) place e places = among cells k e places where
-  among : (cells : List ℕ) (k : ℕ) → slice_get cells k ≡ Some place → ArePlaces ws cells → IsTrue (is_place_of ws class.Term place)
-  among [] k e places = absurd (none-some place e)
-  among (s ∷ cells) zero e places = let same : s ≡ place = cc in ap (is_place_of ws class.Term) (sym same) ∙ All-head (λ q. IsTrue (is_place_of ws class.Term q)) s cells places
-  among (s ∷ cells) (suc k) e places = among cells k e (All-tail (λ q. IsTrue (is_place_of ws class.Term q)) s cells places)
+cell_place ws cells (term.Column k) place e places = All-contains (λ s. IsTrue (is_place_of ws class.Term s)) cells place places (contains_of_get cells k place e)
 cell_place ws cells (term.Null n) place e places = absurd (none-some place e)
 cell_place ws cells (term.Value x) place e places = absurd (none-some place e)
 

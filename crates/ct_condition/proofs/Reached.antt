@@ -35,13 +35,11 @@ module _ (old new : List ℕ) (longer : IsPrefix old new) (formed : IsWellFormed
   reached_before : (p r : ℕ) → p < length old → Below new p r → Below old p r
   reached_before p r lt itself = itself
   reached_before p r lt (through w q there among rest) =
-      let less = named_earlier new formed p w q there among in
-      through w q (sym (get_in_prefix old new p longer lt) ∙ there) among (reached_before q r (omega (arith, less)) rest)
+      through w q (sym (get_in_prefix old new p longer lt) ∙ there) among (reached_before q r (omega (arith, named_earlier new formed p w q there among)) rest)
 
   pub terms_before : (p : ℕ) (t : Term) → p < length old → TermBelow new p t → TermBelow old p t
   terms_before p t lt h =
-      let le = reached_earlier new formed p h.0 h.1 in
-      (h.0, reached_before p h.0 lt h.1, sym (meaning_in_prefix old new h.0 longer (omega (arith, le))) ∙ h.2)
+      (h.0, reached_before p h.0 lt h.1, sym (meaning_in_prefix old new h.0 longer (omega (arith, reached_earlier new formed p h.0 h.1))) ∙ h.2)
 
   pub either_before : (c d : ℕ) (t : Term) → c < length old → d < length old → BelowEither new c d t → BelowEither old c d t
   either_before c d t l r (inl h) = inl (terms_before c t l h)
@@ -62,8 +60,7 @@ reached_after old new longer p r (through w q there among rest) =
 
 pub terms_after : (old new : List ℕ) → IsPrefix old new → IsWellFormed old → (p : ℕ) (t : Term) → p < length old → TermBelow old p t → TermBelow new p t
 terms_after old new longer formed p t lt h =
-    let le = reached_earlier old formed p h.0 h.1 in
-    (h.0, reached_after old new longer p h.0 h.1, meaning_in_prefix old new h.0 longer (omega (arith, le)) ∙ h.2)
+    (h.0, reached_after old new longer p h.0 h.1, meaning_in_prefix old new h.0 longer (omega (arith, reached_earlier old formed p h.0 h.1)) ∙ h.2)
 
 module _ (ws : List ℕ) where
   by_word : (p r w : ℕ) (t : Term) → slice_get ws p ≡ Some w → Below ws p r → StandsAt ws r (IsTerm t) → StandsAt ws p (IsTerm t) ⊎ BelowSome ws (places_of w) t

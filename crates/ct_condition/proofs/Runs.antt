@@ -34,6 +34,5 @@ pub one_more : {X : Type 0} (j : Connective) (f : X → Truth) (list : List X) (
     → HasTruth old p (λ v row. list_under j (λ x. f x v row) (take i list)) → HasTruth new q (join_at j mid p next) → HasTruth new q (λ v row. list_under j (λ x. f x v row) (take (i + 1) list))
 one_more j f list i d within old mid new p next q longer item before h =
     let all : ℕ → Truth = λ n v row. list_under j (λ x. f x v row) (take n list) in
-    let left = truth_in_prefix old mid p (all i) longer before in
     in_place new q (join_at j mid p next) (all (i + 1)) h
-    (λ v row. (λ k. join j (left.truth_is v row k) (item.truth_is v row k)) ∙ sym (list_more j (λ x. f x v row) list i d within))
+    (λ v row. (λ k. join j ((truth_in_prefix old mid p (all i) longer before).truth_is v row k) (item.truth_is v row k)) ∙ sym (list_more j (λ x. f x v row) list i d within))

@@ -1,11 +1,11 @@
 -- The truth of the conditions at places: of true and false, of two constants, of a negation.
-use Rattle.std.proofs.Common.{◌≡◌, ℕ, [], ◌∷◌, ◌<◌, ◌^◌, Bool, true, false, not, List, Option, Some, None, refl, ap, sym, ◌∙◌, arith, length}
-use Rattle.std.{specs.Prelude.{◌≢◌, nat_eq, slice_get, IsTrue}, proofs.lemmas.Bool.{false≢true, and_parts, eq-eqb}}
+use Rattle.std.proofs.Common.{◌≡◌, ℕ, [], ◌<◌, ◌^◌, Bool, true, false, not, List, Option, Some, None, refl, ap, sym, ◌∙◌, arith, length}
+use Rattle.std.{specs.Prelude.{◌≢◌, nat_eq, slice_get, IsTrue}, proofs.lemmas.Bool.{false≢true, false_from_ne_true, and_parts, eq-eqb}}
 use Rattle.ct_word.{specs.declared.kinds.Kind.Kind, specs.declared.values.Value.Value, specs.Constant.{is_constant_kind, is_constant_word}}
-use Rattle.ct_word.{specs.Value.{World, at}, specs.Word.{kind_of, left_of, right_of}, specs.Condition.holds, proofs.Alike.value_decides}
-use Rattle.ct_word.{specs.Reading.{Meaning, by_kind, meanings, as_term, as_cond, term_at}, specs.WellFormed.{IsWellFormed, is_place_of, is_formed_as}}
-use Rattle.ct_word.{proofs.Constants.one_constant, proofs.Growth.{place_within, place_grows}, proofs.Prefixes.get_in_prefix}
-use Rattle.ct_word.{proofs.Splits.{split_at, formed_at, formed_fields, meaning_at}, proofs.Stands.{stands_for_packed, class_of_packed}}
+use Rattle.ct_word.{specs.Value.{World, at}, specs.Word.{kind_of, left_of, right_of}, specs.Condition.holds, proofs.Alike.value_decides, proofs.WordAt.word_is}
+use Rattle.ct_word.{specs.Reading.{Meaning, by_kind, meanings, as_term, as_cond, term_at}, specs.WellFormed.{IsWellFormed, is_place_of}}
+use Rattle.ct_word.{proofs.Constants.one_constant, proofs.Growth.place_within, proofs.Prefixes.get_in_prefix, proofs.Splits.meaning_at}
+use Rattle.ct_word.proofs.Stands.{stands_for_packed, class_of_packed}
 use Rattle.ct_arena.specs.Counts.{opening}
 use Rattle.ct_condition.{specs.Folding.{are_apart, are_constants}, specs.Truth.{Truth, HasTruth, Negates, truth_at, equal_at}}
 use mathlib.Core.List.{IsPrefix}
@@ -62,15 +62,11 @@ constant_row ws formed s (Some w) there e v row =
     let is = meaning_at ws formed s w there in
     ap (λ o. at v row (as_term o)) is ∙ by_kind_row (kind_of w) (meanings ws) (left_of w) (right_of w) e v row ∙ sym (ap (λ o. at v [] (as_term o)) is)
 
-not_true : (b : Bool) → (b ≡ true → ⊥) → b ≡ false
-not_true true h = absurd (h refl)
-not_true false h = refl
-
 -- two constants
 pub constants_differ : (ws : List ℕ) (s t : ℕ) → IsWellFormed ws → s ≢ t → is_constant_word (slice_get ws s) ≡ true → is_constant_word (slice_get ws t) ≡ true
     → (v : World) (row : List Value) → false ≡ equal_at ws s t v row
 constants_differ ws s t formed ne cs ct v row =
-    sym (not_true _ (λ same. ne (one_constant ws formed v s t cs ct
+    sym (false_from_ne_true _ (λ same. ne (one_constant ws formed v s t cs ct
     (sym (constant_row ws formed s _ refl cs v row) ∙ (value_decides _ _).0 same ∙ constant_row ws formed t _ refl ct v row))))
 
 -- so terms that are apart
@@ -83,10 +79,7 @@ apart_differ ws s t formed e v row =
 -- the word not
 pub negation : (ws : List ℕ) (c w : ℕ) → IsWellFormed ws → slice_get ws c ≡ Some w → kind_of w ≡ Some kind.Not → Negates ws c (left_of w)
 negation ws c w formed there is = record {
-  class =
-      let p = split_at ws c w there in
-      let fields = formed_fields p.front kind.Not (left_of w) (right_of w) (ap (λ o. is_formed_as o p.front (left_of w) (right_of w)) (sym is) ∙ formed_at ws formed c w there p) in
-      ap (λ l. is_place_of l class.Cond (left_of w)) p.is ∙ place_grows p.front (w ∷ p.back) class.Cond (left_of w) fields.0;
+  class = (word_is ws c w there formed kind.Not is (omega arith) (omega arith)).left.1;
   opposite = λ v row. ap (λ o. holds v row (as_cond o)) (meaning_at ws formed c w there ∙ ap (λ o. Some (by_kind o (meanings ws) (left_of w) (right_of w))) is);
 }
 

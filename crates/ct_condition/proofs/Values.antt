@@ -1,7 +1,7 @@
 -- What a place is worth, by its word and by what the earlier places are worth.
-use Rattle.std.proofs.Common.{◌≡◌, ℕ, ◌+◌, ◌<◌, Bool, true, false, not, ◌&&◌, ◌||◌, List, [], ◌∷◌, ◌++◌, length, map, option_map, nat_eq, Option, Some, None, refl, ap, sym, subst, ◌∙◌, arith, inl, inr, length-append}
+use Rattle.std.proofs.Common.{◌≡◌, ℕ, ◌+◌, ◌<◌, Bool, true, not, ◌&&◌, ◌||◌, List, [], ◌∷◌, ◌++◌, length, map, option_map, nat_eq, Option, Some, None, refl, ap, sym, subst, ◌∙◌, arith, inl, inr, length-append}
 use Rattle.std.{specs.Prelude.{slice_get, IsTrue, encode_utf8}, proofs.lemmas.Bool.{cases_lt, eqb-true, eq-eqb}, proofs.lemmas.List.length-map}
-use Rattle.std.proofs.lemmas.Option.{none-some, slice_get-map}
+use Rattle.std.{proofs.lemmas.Option.{none-some, slice_get-map}, proofs.lemmas.Bool.Decides.same_from_decides}
 use Rattle.ct_word.{specs.declared.kinds.Kind.Kind, specs.declared.values.Value.Value, specs.declared.values.Term.Term, specs.Value.{World, at, same_value}}
 use Rattle.ct_word.{specs.Condition.holds_at, specs.Stands.class_of_meaning, specs.WordAt.{IsWordAt, backwards}, proofs.Alike.value_decides}
 use Rattle.ct_word.{specs.Reading.{Meaning, IsText, IsTerm, meanings, as_text, condition_at, term_at}, specs.WellFormed.{IsWellFormed, class_of, is_place_of}}
@@ -48,8 +48,7 @@ pub truths_are : (ws : List ℕ) (steps : List (ℕ × ℕ)) (v : World) (xs : L
 truths_are ws steps v xs truths long have is = record {
   count = ap length is ∙ length-map xs is_true ∙ long;
   each = λ p e.
-      let lt = place_within ws class.Cond p e in
-      ap (λ l. slice_get l p) is ∙ slice_get-map is_true xs p ∙ ap (option_map is_true) (condition_there ws steps v xs have p (omega (arith, long, lt)) e);
+      ap (λ l. slice_get l p) is ∙ slice_get-map is_true xs p ∙ ap (option_map is_true) (condition_there ws steps v xs have p (omega (arith, long, place_within ws class.Cond p e)) e);
 }
 
 number_back : (o : Option ℕ) → number_in (Some (text_worth o)) ≡ o
@@ -74,24 +73,19 @@ module _ (ws : List ℕ) (v : World) (xs : List Worth) (p : ℕ) (is : IsTermAt 
   pub constant_there : None ≡ pair_in (slice_get xs p) → IsConstant (term_at ws p)
   constant_there e = no_pair (term_at ws p) (e ∙ ap pair_in is.worth)
 
-same_bool : (a b : Bool) → (a ≡ true → b ≡ true) → (b ≡ true → a ≡ true) → a ≡ b
-same_bool true true f g = refl
-same_bool true false f g = sym (f refl)
-same_bool false true f g = g refl
-same_bool false false f g = refl
-
 pub same_turned : (x y : Value) → same_value x y ≡ same_value y x
-same_turned x y = same_bool _ _ (λ e. (value_decides y x).1 (sym ((value_decides x y).0 e))) (λ e. (value_decides x y).1 (sym ((value_decides y x).0 e)))
+same_turned x y = same_from_decides (same_value x y) (same_value y x) (value_decides x y) (λ e. sym ((value_decides y x).0 e), λ e. (value_decides y x).1 (sym e))
 
 -- two constants have one value where they have one place
 pub constants_same : (ws : List ℕ) → IsWellFormed ws → (v : World) (s t : ℕ) → IsTrue (is_place_of ws class.Term s) → IsTrue (is_place_of ws class.Term t) → IsConstant (term_at ws s) → IsConstant (term_at ws t)
     → nat_eq s t ≡ same_value (at v [] (term_at ws s)) (at v [] (term_at ws t))
 constants_same ws formed v s t es et cs ct =
-    same_bool _ _
-    (λ e. (value_decides _ _).1 (ap (λ p. at v [] (term_at ws p)) (eqb-true s t e)))
-    (λ e.
-    let same : cs.0 ≡ ct.0 = sym (ap (at v []) cs.1) ∙ (value_decides _ _).0 e ∙ ap (at v []) ct.1 in
-    eq-eqb s t (one_term ws formed s t es et (cs.1 ∙ ap term.Value same ∙ sym ct.1)))
+    same_from_decides {P = nat_eq s t ≡ true} _ _ (λ e. e, λ e. e) (
+      λ e.
+          let same : cs.0 ≡ ct.0 = sym (ap (at v []) cs.1) ∙ (value_decides _ _).0 e ∙ ap (at v []) ct.1 in
+          eq-eqb s t (one_term ws formed s t es et (cs.1 ∙ ap term.Value same ∙ sym ct.1)),
+      λ e. (value_decides _ _).1 (ap (λ p. at v [] (term_at ws p)) (eqb-true s t e)),
+    )
 
 module _ (ws : List ℕ) (steps : List (ℕ × ℕ)) (pairs : List ((ℕ × ℕ) × ℕ)) (v : World) (all : AreNulls steps pairs 0 v) (xs : List Worth) (have : HaveWorths ws steps v xs) (p : ℕ) (long : length xs ≡ p) where
   abbrev At : Kind → ℕ → ℕ → Type 0

@@ -94,6 +94,5 @@ all_first ws rows d = ap (λ l. length l) (firsts_distinct same_cells (cells_of 
 -- they are that with further rows behind them
 pub rows_stay_first : (ws : List ℕ) (rows more : List CRow) → IsDistinct same_cells (cells_of ws rows) → length rows ≤ length (firsts same_cells (cells_of ws (rows ++ more)))
 rows_stay_first ws rows more d =
-    let same = all_first ws rows d in
     let longer = (firsts_long same_cells cells_equiv (cells_of ws rows) (cells_of ws more)).0 in
-    subst (λ cs. length rows ≤ length (firsts same_cells cs)) (sym (map-append (λ (r : CRow). map (term_at ws) r.cells) rows more)) (omega (arith, same, longer))
+    subst (λ cs. length rows ≤ length (firsts same_cells cs)) (sym (map-append (λ (r : CRow). map (term_at ws) r.cells) rows more)) (omega (arith, all_first ws rows d, longer))

@@ -1,17 +1,11 @@
 -- Predicates on the rows of a table.
-use Rattle.std.proofs.Common.{◌≡◌, ℕ, zero, suc, ◌+◌, ◌<◌, Bool, true, false, List, [], ◌∷◌, length, subst, refl, ap, sym, ◌∙◌, arith, inl, inr}
-use Rattle.std.specs.Prelude.{is_some, slice_get, if◌then◌else◌}
+use Rattle.std.proofs.Common.{◌≡◌, ℕ, ◌+◌, ◌<◌, Bool, true, false, List, [], length, subst, refl, ap, sym, ◌∙◌, arith, inl, inr}
+use Rattle.std.{specs.Prelude.{Option, is_some, if◌then◌else◌}, proofs.lemmas.Option.slice_get-get_or}
 use Rattle.ct_word.{specs.declared.values.Term.Term, specs.Condition.{Condition, Conditions, True, False, Same, Not, And, Or, none, also}}
 use Rattle.ct_query.{specs.Bounds.{literal_words, over_equalities, over_all_equalities, ops}, specs.Fits.{IsColumnBelow, AreColumnsBelow, AreAllColumnsBelow}}
 use Rattle.ct_condition.{specs.Terms.{IsNamed, IsNamedInSome}, specs.Places.{has_place, new_literal_words, new_terms}}
 use Rattle.ct_condition.specs.Rows.{term_words, new_words, words_on}
 use Rattle.ct_word.specs.declared.values.Term.TheVariants as term
-
--- a row has a cell for each column below its width
-has_cell : (cells : List ℕ) (k : ℕ) → k < length cells → is_some (slice_get cells k) ≡ true
-has_cell [] k lt = absurd (omega arith)
-has_cell (s ∷ cells) zero lt = refl
-has_cell (s ∷ cells) (suc k) lt = has_cell cells k (omega arith)
 
 either_way : (b : Bool) (n : ℕ) → (if b then n else n) ≡ n
 either_way true n = refl
@@ -20,7 +14,7 @@ either_way false n = refl
 module _ (words cells : List ℕ) where
   term_on_cells : (t : Term) → IsColumnBelow (length cells) t → term_words words cells t ≡ new_literal_words words t
   term_on_cells (term.Column k) lt =
-      ap (λ b. if b then 0 else if has_place words (term.Column k) then 0 else 1) (has_cell cells k lt) ∙ sym (either_way (has_place words (term.Column k)) 0)
+      ap (λ (o : Option ℕ). if is_some o then 0 else if has_place words (term.Column k) then 0 else 1) (slice_get-get_or cells k 0 lt) ∙ sym (either_way (has_place words (term.Column k)) 0)
   term_on_cells (term.Null u) below =
       let n : literal_words (term.Null u) + 0 ≡ literal_words (term.Null u) = omega arith in
       ap (λ k. if has_place words (term.Null u) then 0 else k) n

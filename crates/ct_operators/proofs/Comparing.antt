@@ -8,7 +8,7 @@ use Rattle.ct_word.proofs.Prefixes.{prefix_of_prefix, term_in_prefix, condition_
 use Rattle.ct_arena.specs.Counts.{opening}
 use Rattle.ct_query.{specs.Database.has_tuple, proofs.Sets.has_tuple-append}
 use Rattle.ct_condition.specs.Truth.{HasTruth, equal_at, not_at, and_at, or_at}
-use Rattle.ct_operators.{specs.Tables.{value_of_rows, IsRow}, specs.Matching.{same_worth, is_among}, specs.Building.HoldsWhere, proofs.Selecting.value-push}
+use Rattle.ct_operators.{specs.Tables.{value_of_rows, IsRow}, specs.Matching.{same_worth, is_among}, specs.Building.HoldsWhere, proofs.Selecting.value-append}
 use Rattle.ct_operators.{proofs.Merges.has_one, proofs.Growing.terms_grow}
 use Rattle.ct_operators.proofs.Holding.{holds_as, holds_false, holds_itself, holds_later, holds_equal, holds_not, holds_and, holds_or}
 use mathlib.Core.List.{IsPrefix}
@@ -81,7 +81,7 @@ equal_more old now mid new ps qs n p q all same place grown longer a b lp lq ep 
 pub among_more : (ws : List ℕ) (rs : List CRow) (r : CRow) (cells : List ℕ) (v : World)
     → is_among ws (rs ++ r ∷ []) cells v ≡ (is_among ws rs cells v || (holds_at v (condition_at ws r.cond) && same_worth ws r.cells cells v))
 among_more ws rs r cells v =
-    ap (λ l. has_tuple l (tuple_at v (map (term_at ws) cells))) (value-push ws v rs r)
+    ap (λ l. has_tuple l (tuple_at v (map (term_at ws) cells))) (value-append ws v rs (r ∷ []))
     ∙ has_tuple-append (value_of_rows ws v rs) (value_of_rows ws v (r ∷ [])) (tuple_at v (map (term_at ws) cells))
     ∙ ap (λ b. is_among ws rs cells v || b) (has_one ws v r (tuple_at v (map (term_at ws) cells)))
 

@@ -2,7 +2,7 @@
 use Rattle.std.proofs.Common.{◌≡◌, ℕ, ◌+◌, ◌≤◌, Bool, true, false, not, ◌||◌, List, [], ◌∷◌, ◌++◌, length, cond, filter, refl, ap, sym, ◌∙◌, arith}
 use Rattle.std.{specs.List.{list_any, IsDistinct, AllByRecursion}, specs.Cmp.IsEquivalence, proofs.lemmas.List.{append-nil, append_assoc, length_push}}
 use Rattle.std.{proofs.lemmas.List.Elements.filter-append, proofs.lemmas.Map.Keys.{IsDistinct-head, IsDistinct-tail}, specs.Prelude.{Result, IfOk}}
-use Rattle.std.proofs.lemmas.Result.{IfOk-weaker}
+use Rattle.std.{proofs.lemmas.Result.IfOk-weaker, proofs.lemmas.Bool.or_right}
 use Rattle.ct_word.{specs.Sublist.{IsSublist, ended, left_out, taken}, specs.Value.same_cells, specs.declared.values.Term.Term}
 use Rattle.ct_operators.{specs.Tables.{cells_of, firsts}, specs.declared.table.CTable.CTable}
 use Rattle.ct_query.proofs.Sublists.{sublist_of_sublist}
@@ -40,10 +40,6 @@ firsts_distinct same (x ∷ xs) d =
     ap (λ l. x ∷ filter (λ y. not (same x y)) l) (firsts_distinct same xs (IsDistinct-tail same x xs d))
     ∙ ap (λ l. x ∷ l) (apart_stays same x xs (IsDistinct-head same x xs d))
 
-pub or_with_true : (b : Bool) → (b || true) ≡ true
-or_with_true true = refl
-or_with_true false = refl
-
 module _ {A : Type 0} (same : A → A → Bool) (laws : IsEquivalence same) where
   -- leaving out what is the same as x loses nothing that is the same as y, where x and y differ
   any_other : (x y : A) (zs : List A) → same y x ≡ false → list_any (same y) (filter (λ z. not (same x z)) zs) ≡ list_any (same y) zs
@@ -79,7 +75,7 @@ module _ {A : Type 0} (same : A → A → Bool) (laws : IsEquivalence same) wher
     by_tests : (b c : Bool) → same y x ≡ c
         → x ∷ filter (λ z. not (same x z)) (cond b (firsts same xs) (firsts same xs ++ y ∷ []))
         ≡ cond (same y x || b) (x ∷ filter (λ z. not (same x z)) (firsts same xs)) (x ∷ (filter (λ z. not (same x z)) (firsts same xs) ++ y ∷ []))
-    by_tests true c p = sym (ap (λ b. cond b (firsts same (x ∷ xs)) (firsts same (x ∷ xs) ++ y ∷ [])) (or_with_true (same y x)))
+    by_tests true c p = sym (ap (λ b. cond b (firsts same (x ∷ xs)) (firsts same (x ∷ xs) ++ y ∷ [])) (or_right (same y x) true refl))
     by_tests false true p =
         ap (λ l. x ∷ l) (last_too true p ∙ append-nil (filter (λ z. not (same x z)) (firsts same xs)))
         ∙ sym (ap (λ b. cond (b || false) (firsts same (x ∷ xs)) (firsts same (x ∷ xs) ++ y ∷ [])) p)

@@ -2,8 +2,9 @@
 use Rattle.std.{proofs.Common.{◌≡◌, ℕ, List, [], ◌∷◌, map, refl, ap, sym, subst}, specs.Prelude.{IsTrue, All}, specs.List.IsDistinct}
 use Rattle.std.proofs.lemmas.List.Elements.{All-head, All-tail, All-weaker}
 use Rattle.ct_word.{specs.declared.values.CRow.CRow, specs.Value.{World, same_cells}, specs.WellFormed.{IsWellFormed, is_place_of}}
-use Rattle.ct_word.{specs.Reading.{plain_crow, term_at}, proofs.Prefixes.{term_in_prefix, condition_in_prefix, place_in_prefix, place_within}}
+use Rattle.ct_word.{specs.Reading.{plain_crow, term_at}, proofs.Prefixes.{condition_in_prefix, place_in_prefix, place_within}}
 use Rattle.ct_query.specs.Step.{shown_rows}
+use Rattle.ct_condition.proofs.OnRows.{terms_in_prefix, places_in_prefix}
 use Rattle.ct_operators.{specs.Tables.{cells_of, value_of_rows, IsRow, AreRows}, proofs.Reaching.{none_later, row_within}}
 use mathlib.Core.List.{IsPrefix}
 use Rattle.ct_word.specs.declared.kinds.Class.TheVariants as class
@@ -11,10 +12,7 @@ use Rattle.ct_word.specs.declared.kinds.Class.TheVariants as class
 module _ (ws xs : List ℕ) (grown : IsPrefix ws xs) where
   -- places of terms stand for the same terms
   pub terms_grow : (ps : List ℕ) → All (λ p. IsTrue (is_place_of ws class.Term p)) ps → map (term_at xs) ps ≡ map (term_at ws) ps
-  terms_grow [] all = refl
-  terms_grow (p ∷ ps) all =
-      λ i. term_in_prefix ws xs p grown (place_within ws class.Term p (All-head (λ q. IsTrue (is_place_of ws class.Term q)) p ps all)) i
-      ∷ terms_grow ps (All-tail (λ q. IsTrue (is_place_of ws class.Term q)) p ps all) i
+  terms_grow ps all = terms_in_prefix ws xs ps grown all
 
   -- a row of places stands for the same row
   pub row_grows : (n : ℕ) (r : CRow) → IsRow ws n r → plain_crow xs r ≡ plain_crow ws r
@@ -36,7 +34,7 @@ module _ (ws xs : List ℕ) (grown : IsPrefix ws xs) where
 
   pub is_row_grows : IsWellFormed ws → (n : ℕ) (r : CRow) → IsRow ws n r → IsRow xs n r
   is_row_grows formed n r is = record {
-    terms = All-weaker _ _ (λ p h. place_in_prefix ws xs class.Term p grown h) r.cells is.terms;
+    terms = places_in_prefix ws xs r.cells grown is.terms;
     condition = place_in_prefix ws xs class.Cond r.cond grown is.condition;
     width_is = is.width_is;
     plain = none_later ws xs grown formed (r.cond ∷ r.cells) (row_within ws n r is.terms is.condition) is.plain;

@@ -2,9 +2,9 @@
 use Rattle.std.proofs.Common.{◌≡◌, ℕ, zero, suc, ◌+◌, ◌<◌, ◌≤◌, Bool, true, false, not, ◌&&◌, ◌||◌, List, [], ◌∷◌, ◌++◌, Some, None, map, length, cond, get_or, set, take, drop, refl, ap, sym, subst, ◌∙◌, arith, inl, inr}
 use Rattle.std.{specs.Prelude.{◌≢◌, IsTrue, All, nat_eq, is_some, Option, if◌then◌else◌}, specs.List.{IsDistinct, list_any, filter}, specs.Cmp.IsEquivalence}
 use Rattle.std.{specs.Cmp.Lexicographic.pointwise, specs.Map.lookup, proofs.lemmas.Bool.Decides.same_from_decides, proofs.lemmas.Map.Keys.IsDistinct-push}
-use Rattle.std.proofs.lemmas.Bool.{false≢true, eqb-true, eq-eqb}
-use Rattle.std.proofs.lemmas.List.{map_push, map-append, take_all, take-append-drop, length-append, length_push, length-map}
-use Rattle.std.proofs.lemmas.List.Elements.{All-head, All-tail, All-cons, All-nil, All-push, All-weaker, All-get_or, All-filter, Contains-append_left, Contains-push}
+use Rattle.std.{proofs.lemmas.Bool.{false≢true, eqb-true, eqb-false, not-true}, proofs.lemmas.List.Folds.list_any_at}
+use Rattle.std.proofs.lemmas.List.Elements.{filter_passes, All-head, All-tail, All-cons, All-nil, All-push, All-set, All-weaker, All-get_or, All-filter, Contains-append_left, Contains-push}
+use Rattle.std.proofs.lemmas.List.{map_push, map-append, take_all, take-append-drop, length-append, length_push, length-map, get_or-map}
 use Rattle.indexmap.specs.IndexMap.{insert_entry}
 use Rattle.ct_word.{specs.declared.values.Value.Value, specs.declared.values.Term.Term, specs.declared.values.CRow.CRow, specs.Sublist.IsSublist}
 use Rattle.ct_word.{specs.Value.{World, same_text, same_cells, same_tuple, tuple_at}, specs.Condition.holds_at, specs.WellFormed.{IsWellFormed, is_place_of}}
@@ -16,9 +16,8 @@ use Rattle.ct_condition.{specs.Truth.{HasTruth, or_at}, specs.Terms.{TermsFrom, 
 use Rattle.ct_operators.{specs.Tables.{cells_of, value_of_rows, IsRow, AreRows, firsts}, specs.Terms.{TermOfRows, RowFrom, RowsFrom}}
 use Rattle.ct_operators.specs.Merging.{rows_of, Merged, put_last, into, Gathers, is_possible, known}
 use Rattle.ct_operators.proofs.Reaching.{row_itself, rows_among, rows_wider, row_later, rows_later, under_from, from_two}
-use Rattle.ct_operators.proofs.Selecting.{distinct_part, value-push, shown-append, one_shown}
-use Rattle.ct_operators.proofs.Growing.{terms_grow, is_row_grows, cells_grow, value_grows}
-use Rattle.ct_operators.proofs.Firsts.{filtered_part, any_first, firsts_known, firsts_new, firsts_long, or_with_true}
+use Rattle.ct_operators.{proofs.Selecting.{distinct_part, value-append, one_shown}, proofs.Growing.{terms_grow, is_row_grows, cells_grow, value_grows}}
+use Rattle.ct_operators.proofs.Firsts.{filtered_part, any_first, firsts_known, firsts_new, firsts_long}
 use mathlib.Core.List.{IsPrefix}
 use Rattle.ct_word.specs.declared.kinds.Class.TheVariants as class
 use Rattle.ct_word.specs.declared.values.Term.TheVariants as term
@@ -56,13 +55,10 @@ has_one ws v r t = ap (λ l. has_tuple l t) (one_shown v (plain_crow ws r) _ ref
   by_case false e q = refl
 
 -- the first row, and those after it
-value-cons : (ws : List ℕ) (v : World) (r : CRow) (rs : List CRow) → value_of_rows ws v (r ∷ rs) ≡ value_of_rows ws v (r ∷ []) ++ value_of_rows ws v rs
-value-cons ws v r rs = shown-append v (plain_crow ws r ∷ []) (map (plain_crow ws) rs)
-
 has_cons : (ws : List ℕ) (v : World) (r : CRow) (rs : List CRow) (t : List Value)
     → has_tuple (value_of_rows ws v (r ∷ rs)) t ≡ ((holds_at v (condition_at ws r.cond) && same_tuple (tuple_at v (map (term_at ws) r.cells)) t) || has_tuple (value_of_rows ws v rs) t)
 has_cons ws v r rs t =
-    ap (λ l. has_tuple l t) (value-cons ws v r rs) ∙ has_tuple-append (value_of_rows ws v (r ∷ [])) (value_of_rows ws v rs) t
+    ap (λ l. has_tuple l t) (value-append ws v (r ∷ []) rs) ∙ has_tuple-append (value_of_rows ws v (r ∷ [])) (value_of_rows ws v rs) t
     ∙ ap (λ b. b || has_tuple (value_of_rows ws v rs) t) (has_one ws v r t)
 
 -- a disjunction goes into one of the rows
@@ -107,11 +103,6 @@ set_cells ws [] i r c lt same = absurd (omega arith)
 set_cells ws (x ∷ rs) zero r c lt same = ap (λ cs. map (term_at ws) cs ∷ cells_of ws rs) (sym same)
 set_cells ws (x ∷ rs) (suc i) r c lt same = ap (λ l. map (term_at ws) x.cells ∷ l) (set_cells ws rs i r c (omega arith) same)
 
-set_all : (P : CRow → Type 0) (rs : List CRow) (i : ℕ) (m : CRow) → All P rs → P m → All P (set rs i m)
-set_all P [] i m all p = all
-set_all P (x ∷ rs) zero m all p = All-cons P m rs p (All-tail P x rs all)
-set_all P (x ∷ rs) (suc i) m all p = All-cons P x (set rs i m) (All-head P x rs all) (set_all P rs i m (All-tail P x rs all) p)
-
 apart_cells : (ws : List ℕ) → IsWellFormed ws → (width : ℕ) (rs : List CRow) (r : CRow) → All (IsRow ws width) rs → IsRow ws width r → All (λ x. x.cells ≢ r.cells) rs
     → list_any (same_cells (map (term_at ws) r.cells)) (cells_of ws rs) ≡ false
 apart_cells ws wf width [] r each is others = refl
@@ -127,13 +118,10 @@ apart_cells ws wf width (x ∷ rs) r each is others =
 -- a row whose cells are those of one that is there
 there_cells : (ws : List ℕ) (rs : List CRow) (i : ℕ) (r : CRow) → i < length rs → (get_or rs i r).cells ≡ r.cells
     → list_any (same_cells (map (term_at ws) r.cells)) (cells_of ws rs) ≡ true
-there_cells ws [] i r lt same = absurd (omega arith)
-there_cells ws (x ∷ rs) zero r lt same =
-    ap (λ b. b || list_any (same_cells (map (term_at ws) r.cells)) (cells_of ws rs))
-    ((cells_decide (map (term_at ws) r.cells) (map (term_at ws) x.cells)).1 (ap (map (term_at ws)) (sym same)))
-there_cells ws (x ∷ rs) (suc i) r lt same =
-    ap (λ b. same_cells (map (term_at ws) r.cells) (map (term_at ws) x.cells) || b) (there_cells ws rs i r (omega arith) same)
-    ∙ or_with_true (same_cells (map (term_at ws) r.cells) (map (term_at ws) x.cells))
+there_cells ws rs i r lt same =
+    let cells = map (term_at ws) r.cells in
+    list_any_at (same_cells cells) (cells_of ws rs) i cells (subst (λ n. i < n) (sym (length-map rs (λ (x : CRow). map (term_at ws) x.cells))) lt)
+    ((cells_decide cells (get_or (cells_of ws rs) i cells)).1 (sym (get_or-map (λ (x : CRow). map (term_at ws) x.cells) rs i r cells lt ∙ ap (map (term_at ws)) same)))
 
 module _ (old now new : List ℕ) (width : ℕ) (done before : List CRow) (so_far : Gathers old now width done before) (longer : IsPrefix now new)
     (wf : IsWellFormed now) (r : CRow) (is : IsRow old width r) where
@@ -173,7 +161,7 @@ module _ (old now new : List ℕ) (width : ℕ) (done before : List CRow) (so_fa
 
   both_values : (v : World) → SameSet (value_of_rows new v before ++ value_of_rows new v (r ∷ [])) (value_of_rows old v (done ++ r ∷ []))
   both_values v =
-      subst (λ l. SameSet (value_of_rows new v before ++ value_of_rows new v (r ∷ [])) l) (sym (value-push old v done r))
+      subst (λ l. SameSet (value_of_rows new v before ++ value_of_rows new v (r ∷ [])) l) (sym (value-append old v done (r ∷ [])))
       (same_set-append (value_of_rows new v before) (value_of_rows old v done) (value_of_rows new v (r ∷ [])) (value_of_rows old v (r ∷ [])) (values_before v)
       (subst (λ l. SameSet (value_of_rows new v (r ∷ [])) l) (row_stays v) (same_set_itself (value_of_rows new v (r ∷ [])))))
 
@@ -204,7 +192,7 @@ module _ (old now new : List ℕ) (width : ℕ) (done before : List CRow) (so_fa
         (subst (IsDistinct same_cells) (sym (map_push (λ (r : CRow). map (term_at now) r.cells) before r))
         (IsDistinct-push cells_equiv (cells_of now before) (map (term_at now) r.cells) so_far.distinct
         (apart_cells now wf width before r so_far.each is_now others)));
-    values = λ v. subst (λ l. SameSet l (value_of_rows old v (done ++ r ∷ []))) (sym (value-push new v before r)) (both_values v);
+    values = λ v. subst (λ l. SameSet l (value_of_rows old v (done ++ r ∷ []))) (sym (value-append new v before (r ∷ []))) (both_values v);
     order =
         map_push (λ (r : CRow). map (term_at new) r.cells) before r
         ∙ (λ i. order_before i ++ terms_stay i ∷ [])
@@ -218,13 +206,13 @@ module _ (old now new : List ℕ) (width : ℕ) (done before : List CRow) (so_fa
       → TermsFrom new c (BelowEither now (get_or before i r).cond r.cond) → Gathers old new width (done ++ r ∷ []) (set before i (record { cells = r.cells; cond = c }))
   joined i c lt same h either = record {
     grown = far;
-    each = set_all (IsRow new width) before i (record { cells = r.cells; cond = c }) each_before
+    each = All-set (IsRow new width) before i (record { cells = r.cells; cond = c })
         (record {
           terms = is_later.terms;
           condition = h.class;
           width_is = is.width_is;
           plain = All-cons (HasNoColumn new) c r.cells none (All-tail (HasNoColumn new) r.cond r.cells is_later.plain);
-        });
+        }) each_before;
     distinct = subst (IsDistinct same_cells) (sym (set_cells new before i r c lt same)) distinct_before;
     values = λ v t. set_has new v before i r c t lt same (truth v)
         ∙ ap (λ b. has_tuple (value_of_rows new v before) t || b) (sym (has_one new v r t))
@@ -233,10 +221,10 @@ module _ (old now new : List ℕ) (width : ℕ) (done before : List CRow) (so_fa
         set_cells new before i r c lt same ∙ order_before
         ∙ sym (firsts_known same_cells cells_equiv (cells_of old done) (map (term_at old) r.cells) (stood true (there_cells now before i r lt same)))
         ∙ ap (firsts same_cells) (sym done_more);
-    from = set_all (RowFrom new Source) before i (record { cells = r.cells; cond = c }) from_before
+    from = All-set (RowFrom new Source) before i (record { cells = r.cells; cond = c })
         (under_from old new far formed_first width Source r c is own (from_two now new first.cond r.cond c Source
         (λ t x. wider t (All-head (λ p. TermsFrom now p (TermOfRows old done)) first.cond first.cells (All-get_or (RowFrom now (TermOfRows old done)) before i r lt so_far.from) t x))
-        (All-head (λ p. TermsFrom now p Source) r.cond r.cells (row_later old now so_far.grown formed_first width Source r is own)) either));
+        (All-head (λ p. TermsFrom now p Source) r.cond r.cells (row_later old now so_far.grown formed_first width Source r is own)) either)) from_before;
   } where
     first : CRow
     first = get_or before i r
@@ -269,21 +257,17 @@ thin_value ws v never (x ∷ rs) = by_test (nat_eq x.cond 1) refl (thin_value ws
   by_test true p later =
       ap (λ b. value_of_rows ws v (cond (not b) (x ∷ filter is_possible rs) (filter is_possible rs))) p
       ∙ later
-      ∙ sym (value-cons ws v x rs ∙ ap (λ l. l ++ value_of_rows ws v rs) (one_shown v (plain_crow ws x) false (ap (λ q. holds_at v (condition_at ws q)) (eqb-true x.cond 1 p) ∙ never)))
+      ∙ sym (value-append ws v (x ∷ []) rs ∙ ap (λ l. l ++ value_of_rows ws v rs) (one_shown v (plain_crow ws x) false (ap (λ q. holds_at v (condition_at ws q)) (eqb-true x.cond 1 p) ∙ never)))
   by_test false p later =
       ap (λ b. value_of_rows ws v (cond (not b) (x ∷ filter is_possible rs) (filter is_possible rs))) p
-      ∙ value-cons ws v x (filter is_possible rs) ∙ ap (λ l. value_of_rows ws v (x ∷ []) ++ l) later ∙ sym (value-cons ws v x rs)
+      ∙ value-append ws v (x ∷ []) (filter is_possible rs) ∙ ap (λ l. value_of_rows ws v (x ∷ []) ++ l) later ∙ sym (value-append ws v (x ∷ []) rs)
 
 thin_cells : (ws : List ℕ) (rs : List CRow) → IsSublist (cells_of ws (filter is_possible rs)) (cells_of ws rs)
 thin_cells ws rs = sublist-map (λ (r : CRow). map (term_at ws) r.cells) _ _ (filtered_part is_possible rs)
 
 thin_possible : (rs : List CRow) → All (λ r. r.cond ≢ 1) (filter is_possible rs)
-thin_possible [] = All-nil (λ r. r.cond ≢ 1)
-thin_possible (x ∷ rs) = by_test (nat_eq x.cond 1) refl (thin_possible rs) where
-  by_test : (b : Bool) → nat_eq x.cond 1 ≡ b → All (λ r. r.cond ≢ 1) (filter is_possible rs) → All (λ r. r.cond ≢ 1) (filter is_possible (x ∷ rs))
-  by_test true p later = subst (λ b. All (λ r. r.cond ≢ 1) (cond (not b) (x ∷ filter is_possible rs) (filter is_possible rs))) (sym p) later
-  by_test false p later = subst (λ b. All (λ r. r.cond ≢ 1) (cond (not b) (x ∷ filter is_possible rs) (filter is_possible rs))) (sym p)
-      (All-cons (λ r. r.cond ≢ 1) x (filter is_possible rs) (λ e. false≢true (sym p ∙ eq-eqb x.cond 1 e)) later)
+thin_possible rs =
+    All-weaker (λ (r : CRow). is_possible r ≡ true) (λ r. r.cond ≢ 1) (λ r p. eqb-false r.cond 1 (not-true (nat_eq r.cond 1) p)) (filter is_possible rs) (filter_passes is_possible rs)
 
 pub gathers_all : (old now : List ℕ) (width n : ℕ) (all out : List CRow) → length all ≤ n → Gathers old now width (take n all) out → Gathers old now width all out
 gathers_all old now width n all out le s = subst (λ d. Gathers old now width d out) (take_all n all le) s
@@ -396,9 +380,8 @@ known_counts old now width done es so_far wf r is = by_case (lookup (same_text r
       (λ i. length (firsts same_cells (done_too i)) + (if is_some (e i) then 1 else 0))
       ∙ ap (λ l. length l + 1) (firsts_known same_cells cells_equiv (cells_of old done) cells there)
   by_case None e =
-      let last = last_entry r.cells r.cond es e in
       let apart = stood old now now width done (rows_of es) so_far (prefix_same now) wf r is false
-      (apart_cells now wf width (rows_of es) r so_far.each (is_row_grows old now so_far.grown (formed_before old now so_far.grown wf) width r is) last.0) in
+      (apart_cells now wf width (rows_of es) r so_far.each (is_row_grows old now so_far.grown (formed_before old now so_far.grown wf) width r is) (last_entry r.cells r.cond es e).0) in
       let long : length (firsts same_cells (cells_of old done ++ cells ∷ [])) ≡ length (firsts same_cells (cells_of old done)) + 1 =
       ap (λ l. length l) (firsts_new same_cells cells_equiv (cells_of old done) cells apart) ∙ length_push (firsts same_cells (cells_of old done)) cells in
       let none : length (firsts same_cells (cells_of old done ++ cells ∷ [])) + 0 ≡ length (firsts same_cells (cells_of old done)) + 1 = omega (arith, long) in
@@ -421,8 +404,7 @@ first_rows old k rows =
     let split : cells_of old rows ≡ cells_of old (take k rows) ++ cells_of old (drop k rows) =
     ap (cells_of old) (sym (take-append-drop k rows)) ∙ map-append (λ (r : CRow). map (term_at old) r.cells) (take k rows) (drop k rows) in
     let long : length rows ≡ length (take k rows) + length (drop k rows) = ap (λ l. length l) (sym (take-append-drop k rows)) ∙ length-append (take k rows) (drop k rows) in
-    let more = (firsts_long same_cells cells_equiv (cells_of old (take k rows)) (cells_of old (drop k rows))).1 in
     let each : length (cells_of old (drop k rows)) ≡ length (drop k rows) = length-map (drop k rows) (λ (r : CRow). map (term_at old) r.cells) in
     let same : length (firsts same_cells (cells_of old rows)) ≡ length (firsts same_cells (cells_of old (take k rows) ++ cells_of old (drop k rows))) =
     ap (λ cs. length (firsts same_cells cs)) split in
-    omega (arith, long, more, each, same)
+    omega (arith, long, (firsts_long same_cells cells_equiv (cells_of old (take k rows)) (cells_of old (drop k rows))).1, each, same)

@@ -3,31 +3,16 @@ use Rattle.std.proofs.Common.{◌≡◌, ℕ, zero, suc, ◌<◌, true, List, []
 use Rattle.std.{specs.Prelude.{IsTrue, All, slice_get, flat_map}, specs.List.Contains, proofs.lemmas.Bool.false≢true}
 use Rattle.std.proofs.lemmas.List.Elements.{All-contains, Contains-append_left, Contains-append_right, Contains-append_cases}
 use Rattle.ct_word.{specs.declared.kinds.Kind.Kind, specs.declared.values.Term.Term, specs.declared.values.CRow.CRow, specs.Word.{kind_of, left_of, right_of}}
-use Rattle.ct_word.{specs.Change.PlainRow, specs.Condition.{Condition, True, False, Same}, proofs.Items.unmapped_item, proofs.WordAt.word_is}
+use Rattle.ct_word.{specs.Change.PlainRow, specs.Condition.{Condition, True, False, Same}, proofs.Items.unmapped_item, proofs.Places.stands_term}
 use Rattle.ct_word.{specs.WellFormed.{IsWellFormed, has_class, is_place_of}, specs.Reading.{as_cond, condition_at, term_at, plain_crow}}
-use Rattle.ct_word.{specs.Stands.{itself, TermBelow, places_in}, proofs.Places.stands_term}
+use Rattle.ct_word.specs.Stands.{itself, TermBelow, places_in}
 use Rattle.ct_query.specs.Terms.{condition_terms}
-use Rattle.ct_condition.{specs.Terms.{BelowEither, BelowSome}, proofs.Reached.no_term_at}
+use Rattle.ct_condition.{specs.Terms.{BelowEither, BelowSome}, proofs.Reached.{no_term_at, under_one}}
 use Rattle.ct_operators.{specs.Tables.IsRow, specs.Terms.{TermOfRow, TermOfRows}, specs.Placing.{parts_of, IsEarlier, AreParts}, proofs.Placed.parts_are}
-use Rattle.ct_operators.proofs.Reaching.{behind, foremost, first_or_behind, at_or_under, word_of_place, named_by, one_named, term_alone}
+use Rattle.ct_operators.proofs.Reaching.{behind, foremost, first_or_behind, at_or_under, word_of_place, named_by, word_apart, term_alone}
+pub use Rattle.ct_word.proofs.Items.{mapped_item as mapped, flat_item as given}
 use Rattle.ct_word.specs.declared.kinds.Kind.TheVariants as kind
 use Rattle.ct_word.specs.declared.kinds.Class.TheVariants as class
-
--- the image of an item
-pub mapped : {A B : Type 0} (f : A → B) (xs : List A) (x : A) → Contains xs x → Contains (map f xs) (f x)
-mapped f [] x h = absurd (omega (arith, h.1))
-mapped f (y ∷ ys) x h = elim (first_or_behind y ys x h) [
-  | inl e ↦ subst (λ z. Contains (f y ∷ map f ys) (f z)) e (foremost (f y) (map f ys))
-  | inr b ↦ behind (f y) (map f ys) (f x) (mapped f ys x b)
-]
-
--- what an item gives
-pub given : {A B : Type 0} (f : A → List B) (xs : List A) (x : A) (y : B) → Contains xs x → Contains (f x) y → Contains (flat_map f xs) y
-given f [] x y h g = absurd (omega (arith, h.1))
-given f (z ∷ xs) x y h g = elim (first_or_behind z xs x h) [
-  | inl e ↦ Contains-append_left (f z) (flat_map f xs) y (subst (λ u. Contains (f u) y) (sym e) g)
-  | inr b ↦ Contains-append_right (f z) (flat_map f xs) y (given f xs x y b g)
-]
 
 -- the terms of a row
 abbrev pub row_terms : PlainRow → List Term
@@ -60,7 +45,7 @@ module _ (ws : List ℕ) (formed : IsWellFormed ws) where
           (before a left.1 left.0 (subst (λ x. TermBelow ws x t) (sym q) u.below))
       | inr i ↦
           Contains-append_right (condition_terms (condition_at ws a)) (condition_terms (condition_at ws b) ++ []) t
-          (Contains-append_left (condition_terms (condition_at ws b)) [] t (before b right.1 right.0 (one_named ws formed b t (record { place = u.place; among = i; below = u.below }))))
+          (Contains-append_left (condition_terms (condition_at ws b)) [] t (before b right.1 right.0 (under_one ws b t (record { place = u.place; among = i; below = u.below }))))
     ]
 
     by_kind : (o : Option Kind) → kind_of word.0 ≡ o → has_class o class.Cond ≡ true → AreParts ws p (parts_of o (left_of word.0) (right_of word.0))
@@ -78,11 +63,11 @@ module _ (ws : List ℕ) (formed : IsWellFormed ws) where
               (foremost (term_at ws a) (term_at ws b ∷ []))
           | inr i ↦
               subst (λ x. Contains (term_at ws a ∷ term_at ws b ∷ []) x)
-              (sym (term_alone ws formed b t parts.1 (one_named ws formed b t (record { place = u.place; among = i; below = u.below }))))
+              (sym (term_alone ws formed b t parts.1 (under_one ws b t (record { place = u.place; among = i; below = u.below }))))
               (behind (term_at ws a) (term_at ws b ∷ []) (term_at ws b) (foremost (term_at ws b) []))
         ])
     by_kind (Some kind.Not) is c parts before =
-        subst (λ d. Contains (condition_terms d) t) (sym parts.1) (before (left_of word.0) parts.0.1 parts.0.0 (one_named ws formed (left_of word.0) t (under kind.Not is)))
+        subst (λ d. Contains (condition_terms d) t) (sym parts.1) (before (left_of word.0) parts.0.1 parts.0.0 (under_one ws (left_of word.0) t (under kind.Not is)))
     by_kind (Some kind.And) is c parts before =
         subst (λ d. Contains (condition_terms d) t) (sym parts.2) (of_two (left_of word.0) (right_of word.0) parts.0 parts.1 before (under kind.And is))
     by_kind (Some kind.Or) is c parts before =
@@ -121,9 +106,9 @@ module _ (ws : List ℕ) (formed : IsWellFormed ws) where
 
     by_kind : (o : Option Kind) → kind_of word.0 ≡ o → has_class o class.Cond ≡ true → AreParts ws p (parts_of o (left_of word.0) (right_of word.0)) → Before → TermBelow ws p t
     by_kind (Some kind.True) is c parts before =
-        absurd (omega (arith, (shaped True (ap as_cond (word_is ws p word.0 word.1 formed kind.True is (omega arith) (omega arith)).meaning)).1))
+        absurd (omega (arith, (shaped True (ap as_cond (word_apart ws formed p word.0 word.1 kind.True is).meaning)).1))
     by_kind (Some kind.False) is c parts before =
-        absurd (omega (arith, (shaped False (ap as_cond (word_is ws p word.0 word.1 formed kind.False is (omega arith) (omega arith)).meaning)).1))
+        absurd (omega (arith, (shaped False (ap as_cond (word_apart ws formed p word.0 word.1 kind.False is).meaning)).1))
     by_kind (Some kind.Equal) is c parts before =
         let a = left_of word.0 in
         let b = right_of word.0 in

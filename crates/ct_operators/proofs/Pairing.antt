@@ -1,7 +1,8 @@
 -- Rows joined with rows.
 use Rattle.std.proofs.Common.{◌≡◌, ℕ, ◌+◌, Bool, true, false, ◌&&◌, List, [], ◌∷◌, ◌++◌, map, length, take, cond, refl, ap, sym, ◌∙◌}
-use Rattle.std.{specs.Prelude.{◌≢◌, IsTrue, All}, specs.List.{IsDistinct, AllByRecursion}, proofs.Math.Seq.take-append_seam, proofs.lemmas.Bool.false≢true}
-use Rattle.std.{proofs.lemmas.List.{append-nil, map_push, map-append, length-append, length-map, append_cancel_left}, proofs.lemmas.List.Concat.flat_map-append}
+use Rattle.std.{specs.Prelude.{◌≢◌, IsTrue, All}, specs.List.{IsDistinct, AllByRecursion}, proofs.Math.Seq.take-append_seam}
+use Rattle.std.{proofs.lemmas.Bool.false_from_ne_true, proofs.lemmas.Bool.Decides.not_from_Decides, proofs.lemmas.List.Concat.flat_map-append}
+use Rattle.std.proofs.lemmas.List.{append-nil, map_push, map-append, length-append, length-map, append_cancel_left}
 use Rattle.std.proofs.lemmas.List.Elements.{All-append, All-cons, All-nil, All-head, All-tail, All-map, All-weaker}
 use Rattle.std.proofs.lemmas.Map.Keys.{IsDistinct-head, IsDistinct-tail, IsDistinct-cons}
 use Rattle.ct_word.{specs.declared.values.Value.Value, specs.declared.values.Term.Term, specs.declared.values.CRow.CRow, specs.Condition.holds_at}
@@ -10,7 +11,7 @@ use Rattle.ct_word.{specs.Reading.{term_at, condition_at, plain_crow}, proofs.Al
 use Rattle.ct_word.proofs.Prefixes.{prefix_of_prefix, condition_in_prefix, place_within}
 use Rattle.ct_condition.{specs.Truth.{HasTruth, and_at}, specs.Terms.{TermsFrom, BelowEither}, proofs.Reached.formed_before}
 use Rattle.ct_operators.{specs.Tables.{cells_of, value_of_rows, IsRow, AreRows}, specs.Terms.RowFrom, specs.Building.Builds, proofs.Firsts.none_distinct}
-use Rattle.ct_operators.{proofs.Reaching.{none_from, row_later, from_two}, proofs.Selecting.{value-push, one_shown}}
+use Rattle.ct_operators.{proofs.Reaching.{none_from, row_later, from_two}, proofs.Selecting.{value-append, one_shown}}
 use Rattle.ct_operators.proofs.Growing.{terms_grow, is_row_grows, cells_grow, value_grows}
 use Rattle.ct_operators.proofs.Building.{builds_none, builds_as, builds_append, builds_one}
 use Rattle.ct_query.specs.Rows.{joins}
@@ -101,7 +102,7 @@ module _ (old : List ℕ) (l : CRow) (m n : ℕ) where
       (λ i. joins (value_of_rows old v (l ∷ [])) (value_of_rows old v done) ++ pair_worth old now new s.grown longer l r m n left right place both first none v i)
       ∙ (λ i. joins (one_shown v (plain_crow old l) _ refl i) (value_of_rows old v done) ++ joins (one_shown v (plain_crow old l) _ refl i) (value_of_rows old v (r ∷ [])))
       ∙ sym (more_joins (holds_at v (condition_at old l.cond)) (tuple_at v (map (term_at old) l.cells)) (value_of_rows old v done) (value_of_rows old v (r ∷ [])))
-      ∙ (λ i. joins (sym (one_shown v (plain_crow old l) _ refl) i) (sym (value-push old v done r) i)))
+      ∙ (λ i. joins (sym (one_shown v (plain_crow old l) _ refl) i) (sym (value-append old v done (r ∷ [])) i)))
       (λ t h. h)
       (builds_append old now new formed (m + n) (map (λ c. map (term_at old) l.cells ++ c) (cells_of old done)) _ (λ v. joins (value_of_rows old v (l ∷ [])) (value_of_rows old v done)) _ source out (pair old now new s.grown longer l r m n left right place both first none ∷ []) s
       (builds_one now new (m + n) source (pair old now new s.grown longer l r m n left right place both first none) longer (pair_is_row old now new s.grown longer l r m n left right place both first none)
@@ -131,7 +132,7 @@ all_pairs_more old now new formed m n source done rs out added l s t =
     ∙ ap (λ ls. joins ls (cells_of old rs)) (sym (map_push (λ (r : CRow). map (term_at old) r.cells) done l)))
     (λ v.
     sym (flat_map-append (λ k. map (λ c. k ++ c) (value_of_rows old v rs)) (value_of_rows old v done) (value_of_rows old v (l ∷ [])))
-    ∙ ap (λ ls. joins ls (value_of_rows old v rs)) (sym (value-push old v done l)))
+    ∙ ap (λ ls. joins ls (value_of_rows old v rs)) (sym (value-append old v done (l ∷ []))))
     (λ t h. h)
     (builds_append old now new formed (m + n) (joins (cells_of old done) (cells_of old rs)) (map (λ c. map (term_at old) l.cells ++ c) (cells_of old rs))
     (λ v. joins (value_of_rows old v done) (value_of_rows old v rs)) (λ v. joins (value_of_rows old v (l ∷ [])) (value_of_rows old v rs)) source out added s t)
@@ -145,13 +146,7 @@ begun_apart k l a b e ne same = ne (
     ∙ take-append_seam l b)
 
 differ : (a b : List Term) → a ≢ b → same_cells a b ≡ false
-differ a b ne = by_test (same_cells a b) refl where
-  by_test : (t : Bool) → same_cells a b ≡ t → same_cells a b ≡ false
-  by_test true e = absurd (ne ((cells_decide a b).0 e))
-  by_test false e = e
-
-apart : (a b : List Term) → same_cells a b ≡ false → a ≢ b
-apart a b f e = false≢true (sym f ∙ (cells_decide a b).1 e)
+differ a b ne = false_from_ne_true (same_cells a b) (λ e. ne ((cells_decide a b).0 e))
 
 -- a list joined to one is apart from all that begin with others
 all_apart : (k : List Term) (rs ls : List (List Term)) (n : ℕ) → length k ≡ n → All (λ l. length l ≡ n) ls → AllByRecursion (λ l. same_cells k l ≡ false) ls → (a : List Term)
@@ -160,7 +155,7 @@ all_apart k rs [] n e long ne a = tt
 all_apart k rs (l ∷ ls) n e long ne a = row rs (all_apart k rs ls n e (All-tail (λ l. length l ≡ n) l ls long) ne.1 a) where
   row : (ss : List (List Term)) → AllByRecursion (λ x. same_cells (k ++ a) x ≡ false) (joins ls rs) → AllByRecursion (λ x. same_cells (k ++ a) x ≡ false) (map (λ r. l ++ r) ss ++ joins ls rs)
   row [] later = later
-  row (s ∷ ss) later = (differ (k ++ a) (l ++ s) (begun_apart k l a s (e ∙ sym (All-head (λ l. length l ≡ n) l ls long)) (apart k l ne.0)), row ss later)
+  row (s ∷ ss) later = (differ (k ++ a) (l ++ s) (begun_apart k l a s (e ∙ sym (All-head (λ l. length l ≡ n) l ls long)) (not_from_Decides (same_cells k l) (cells_decide k l) ne.0)), row ss later)
 
 joins_distinct : (rs ls : List (List Term)) (n : ℕ) → All (λ l. length l ≡ n) ls → IsDistinct same_cells ls → IsDistinct same_cells rs → IsDistinct same_cells (joins ls rs)
 joins_distinct rs [] n long d dr = none_distinct same_cells
@@ -171,7 +166,7 @@ joins_distinct rs (l ∷ ls) n long d dr = row rs dr (joins_distinct rs ls n (Al
       IsDistinct-cons same_cells (l ++ s) (map (λ r. l ++ r) ss ++ joins ls rs) (others ss (IsDistinct-head same_cells s ss ds)) (row ss (IsDistinct-tail same_cells s ss ds) later) where
         others : (ts : List (List Term)) → AllByRecursion (λ y. same_cells s y ≡ false) ts → AllByRecursion (λ y. same_cells (l ++ s) y ≡ false) (map (λ r. l ++ r) ts ++ joins ls rs)
         others [] a = all_apart l rs ls n (All-head (λ l. length l ≡ n) l ls long) (All-tail (λ l. length l ≡ n) l ls long) (IsDistinct-head same_cells l ls d) s
-        others (t ∷ ts) a = (differ (l ++ s) (l ++ t) (λ e. apart s t a.0 (append_cancel_left l s t e)), others ts a.1)
+        others (t ∷ ts) a = (differ (l ++ s) (l ++ t) (λ e. not_from_Decides (same_cells s t) (cells_decide s t) a.0 (append_cancel_left l s t e)), others ts a.1)
 
 -- the joined cells of two tables are distinct
 pub joined_apart : (ws : List ℕ) (m n : ℕ) (ls rs : List CRow) → AreRows ws m ls → AreRows ws n rs → IsDistinct same_cells (joins (cells_of ws ls) (cells_of ws rs))

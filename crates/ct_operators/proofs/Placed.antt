@@ -1,19 +1,17 @@
 -- Conditions by their parts, with the cells of a row put for their columns.
-use Rattle.std.proofs.Common.{◌≡◌, ℕ, zero, suc, ◌+◌, ◌<◌, ◌≤◌, true, not, List, [], ◌∷◌, Option, Some, None, map, length, get_or, refl, ap, sym, subst, ◌∙◌, arith, inl, inr}
-use Rattle.std.{specs.Prelude.{IsTrue, All, slice_get}, specs.List.Contains, proofs.lemmas.Bool.false≢true, proofs.lemmas.List.{length-map, get_or_past}}
-use Rattle.std.proofs.lemmas.List.Elements.{All-get_or, All-weaker, Contains-get_or}
+use Rattle.std.proofs.Common.{◌≡◌, ℕ, ◌+◌, ◌<◌, ◌≤◌, true, not, List, [], ◌∷◌, Option, Some, None, map, length, get_or, refl, ap, sym, subst, ◌∙◌, arith, inl, inr}
+use Rattle.std.{specs.Prelude.{IsTrue, All, slice_get}, specs.List.Contains, proofs.lemmas.Bool.false≢true, proofs.lemmas.Option.slice_get_past}
+use Rattle.std.{proofs.lemmas.List.{length-map, get_or_past}, proofs.lemmas.List.Elements.{All-get_or, All-weaker, Contains-get_or}}
 use Rattle.ct_word.{specs.declared.kinds.Kind.Kind, specs.declared.values.Value.Value, specs.declared.values.Term.Term, specs.Word.{kind_of, left_of, right_of}}
 use Rattle.ct_word.{specs.Value.{World, at, other_zero, tuple_at}, specs.Condition.{Condition, Not, holds}, specs.Connective.{joined, join}}
-use Rattle.ct_word.{proofs.Growth.place_grows, proofs.Joins.joined_holds, specs.declared.connectives.Connective.Connective, specs.Stands.{TermBelow, places_in}}
+use Rattle.ct_word.{proofs.Joins.joined_holds, specs.declared.connectives.Connective.Connective, specs.Stands.{TermBelow, places_in}, specs.WordAt.IsWordAt}
 use Rattle.ct_word.{specs.Reading.{by_kind, meanings, as_cond, as_term, condition_at, term_at}, proofs.Prefixes.{place_within, condition_in_prefix}}
-use Rattle.ct_word.specs.WellFormed.{IsWellFormed, is_place_of, is_word_of, has_class, fits, fields_of, is_formed_as}
-use Rattle.ct_word.proofs.Splits.{Split, split_at, formed_at, formed_fields, meaning_at}
+use Rattle.ct_word.specs.WellFormed.{IsWellFormed, is_place_of, is_word_of, has_class}
 use Rattle.ct_query.specs.Bounds.{ops}
 use Rattle.ct_condition.{specs.Rows.cell_for, specs.Terms.BelowEither, specs.Truth.{HasTruth, not_at, join_at}}
 use Rattle.ct_operators.{specs.Terms.IsPlaced, specs.Building.HoldsWhere, proofs.Selecting.cell_of_tuple, proofs.Growing.terms_grow}
-use Rattle.ct_operators.specs.Placing.{tuple_of, holds_for, parts_of, IsEarlier, AreParts, column_of, IsCellFor}
-use Rattle.ct_operators.proofs.Reaching.{foremost, behind, under_named, none_under_condition, term_alone, below_before, some_below_before}
-use Rattle.ct_operators.proofs.Holding.{holds_as, holds_later, holds_not}
+use Rattle.ct_operators.{specs.Placing.{tuple_of, holds_for, parts_of, AreParts, column_of, IsCellFor}, proofs.Holding.{holds_as, holds_later, holds_not}}
+use Rattle.ct_operators.proofs.Reaching.{foremost, behind, under_named, none_under_condition, word_apart, term_alone, below_before, some_below_before}
 use mathlib.Core.List.{IsPrefix}
 use Rattle.ct_word.specs.declared.kinds.Kind.TheVariants as kind
 use Rattle.ct_word.specs.declared.kinds.Class.TheVariants as class
@@ -21,36 +19,15 @@ use Rattle.ct_word.specs.declared.values.Term.TheVariants as term
 use Rattle.ct_word.specs.declared.connectives.Connective.TheVariants as connective
 use Rattle.ct_operators.specs.declared.placing.Parts.TheVariants as parts
 
--- there is no cell past the cells' end
-past_end : (cells : List ℕ) (k : ℕ) → length cells ≤ k → slice_get cells k ≡ None
-past_end [] k le = refl
-past_end (s ∷ cells) zero le = absurd (omega (arith, le))
-past_end (s ∷ cells) (suc k) le = past_end cells k (omega (arith, le))
-
 module _ (ws : List ℕ) (wf : IsWellFormed ws) (place w : ℕ) (there : slice_get ws place ≡ Some w) where
-  split : Split ws place w
-  split = split_at ws place w there
-
-  fields_at : (k : Kind) → kind_of w ≡ Some k → (fits split.front (fields_of k).0 (left_of w) ≡ true) × (fits split.front (fields_of k).1 (right_of w) ≡ true)
-  fields_at k is = formed_fields split.front k (left_of w) (right_of w) (ap (λ o. is_formed_as o split.front (left_of w) (right_of w)) (sym is) ∙ formed_at ws wf place w there split)
-
-  earlier : (a : ℕ) → is_place_of split.front class.Cond a ≡ true → IsEarlier ws place a
-  earlier a e = (
-    ap (λ l. is_place_of l class.Cond a) split.is ∙ place_grows split.front (w ∷ split.back) class.Cond a e,
-    omega (arith, place_within split.front class.Cond a e, split.long),
-  )
-
-  a_term : (a : ℕ) → is_place_of split.front class.Term a ≡ true → IsTrue (is_place_of ws class.Term a)
-  a_term a e = ap (λ l. is_place_of l class.Term a) split.is ∙ place_grows split.front (w ∷ split.back) class.Term a e
-
-  stands_for : (k : Kind) → kind_of w ≡ Some k → slice_get (meanings ws) place ≡ Some (by_kind (Some k) (meanings ws) (left_of w) (right_of w))
-  stands_for k is = meaning_at ws wf place w there ∙ ap (λ o. Some (by_kind o (meanings ws) (left_of w) (right_of w))) is
+  apart : (k : Kind) → kind_of w ≡ Some k → IsWordAt ws place (record { kind = k; left = left_of w; right = right_of w })
+  apart k is = word_apart ws wf place w there k is
 
   condition_is : (k : Kind) → kind_of w ≡ Some k → condition_at ws place ≡ as_cond (Some (by_kind (Some k) (meanings ws) (left_of w) (right_of w)))
-  condition_is k is = ap as_cond (stands_for k is)
+  condition_is k is = ap as_cond (apart k is).meaning
 
   term_is : (k : Kind) → kind_of w ≡ Some k → term_at ws place ≡ as_term (Some (by_kind (Some k) (meanings ws) (left_of w) (right_of w)))
-  term_is k is = ap as_term (stands_for k is)
+  term_is k is = ap as_term (apart k is).meaning
 
   -- a term below one of the two places that the word names
   under_both : (k : Kind) → kind_of w ≡ Some k → places_in (Some k) (left_of w) (right_of w) ≡ left_of w ∷ right_of w ∷ [] → (u : Term) → BelowEither ws (left_of w) (right_of w) u → TermBelow ws place u
@@ -68,11 +45,16 @@ module _ (ws : List ℕ) (wf : IsWellFormed ws) (place w : ℕ) (there : slice_g
     λ v row. ap (holds v []) (condition_is kind.False is) ∙ sym (ap (holds v row) (condition_is kind.False is)),
     none_under_condition ws wf place w kind.False there is refl (ap (λ o. is_word_of o class.Cond) there ∙ ap (λ o. has_class o class.Cond) is),
   )
-  parts_by_kind (Some kind.Equal) is e =
-      (a_term (left_of w) (fields_at kind.Equal is).0, a_term (right_of w) (fields_at kind.Equal is).1, condition_is kind.Equal is, under_both kind.Equal is refl)
-  parts_by_kind (Some kind.Not) is e = (earlier (left_of w) (fields_at kind.Not is).0, condition_is kind.Not is, under_named ws wf place w (left_of w) kind.Not there is (foremost (left_of w) []))
-  parts_by_kind (Some kind.And) is e = (earlier (left_of w) (fields_at kind.And is).0, earlier (right_of w) (fields_at kind.And is).1, condition_is kind.And is, under_both kind.And is refl)
-  parts_by_kind (Some kind.Or) is e = (earlier (left_of w) (fields_at kind.Or is).0, earlier (right_of w) (fields_at kind.Or is).1, condition_is kind.Or is, under_both kind.Or is refl)
+  parts_by_kind (Some kind.Equal) is e = ((apart kind.Equal is).left.1, (apart kind.Equal is).right.1, condition_is kind.Equal is, under_both kind.Equal is refl)
+  parts_by_kind (Some kind.Not) is e =
+      let at = apart kind.Not is in
+      ((at.left.1, at.left.0), condition_is kind.Not is, under_named ws wf place w (left_of w) kind.Not there is (foremost (left_of w) []))
+  parts_by_kind (Some kind.And) is e =
+      let at = apart kind.And is in
+      ((at.left.1, at.left.0), (at.right.1, at.right.0), condition_is kind.And is, under_both kind.And is refl)
+  parts_by_kind (Some kind.Or) is e =
+      let at = apart kind.Or is in
+      ((at.left.1, at.left.0), (at.right.1, at.right.0), condition_is kind.Or is, under_both kind.Or is refl)
   parts_by_kind _ is e = absurd (false≢true e)
 
   pub parts_are : IsTrue (is_place_of ws class.Cond place) → AreParts ws place (parts_of (kind_of w) (left_of w) (right_of w))
@@ -131,7 +113,7 @@ module _ (ws : List ℕ) (wf : IsWellFormed ws) (place w : ℕ) (there : slice_g
           ap (at v []) (column_by_kind (kind_of w) refl k c)
           ∙ sym (get_or_past (tuple_of ws cells v) k other_zero (omega (arith, length-map cells (term_at ws), length-map (map (term_at ws) cells) (at v []))))
           ∙ sym (ap (at v (tuple_of ws cells v)) (column_by_kind (kind_of w) refl k c));
-      from = λ u h. inr (h, ap (cell_for cells) (term_alone ws wf place u class_is h ∙ column_by_kind (kind_of w) refl k c) ∙ past_end cells k past);
+      from = λ u h. inr (h, ap (cell_for cells) (term_alone ws wf place u class_is h ∙ column_by_kind (kind_of w) refl k c) ∙ slice_get_past cells k past);
     }
 
 -- the equalities, NOTs and connectives of two conditions joined

@@ -1,6 +1,7 @@
 -- Rows with some of their cells.
-use Rattle.std.proofs.Common.{◌≡◌, ℕ, zero, suc, ◌<◌, Bool, true, false, List, [], ◌∷◌, map, length, cond, get_or, Some, refl, ap, sym, subst, ◌∙◌, arith}
-use Rattle.std.{specs.Prelude.{IsTrue, All, slice_get}, specs.List.{filter, cons_option}, proofs.lemmas.List.length-map}
+use Rattle.std.proofs.Common.{◌≡◌, ℕ, ◌<◌, Bool, true, false, List, [], ◌∷◌, map, length, cond, get_or, refl, ap, sym, subst, ◌∙◌}
+use Rattle.std.{specs.Prelude.{IsTrue, All, option_map}, specs.List.{filter, cons_option}, proofs.lemmas.List.length-map}
+use Rattle.std.proofs.lemmas.Option.{slice_get-get_or, slice_get-map}
 use Rattle.std.proofs.lemmas.List.Elements.{All-nil, All-cons, All-head, All-tail, All-map, All-weaker, All-get_or}
 use Rattle.ct_word.{specs.declared.values.Term.Term, specs.declared.values.CRow.CRow, specs.Value.{World, cell_at, tuple_at}, specs.Change.PlainRow}
 use Rattle.ct_word.{specs.Condition.holds_at, specs.WellFormed.is_place_of, specs.Stands.HasNoColumn, specs.Reading.{term_at, condition_at, plain_crow}}
@@ -10,17 +11,11 @@ use Rattle.ct_operators.{specs.Terms.{RowFrom, RowsFrom}, specs.Tables.{cells_of
 use Rattle.ct_operators.proofs.Selecting.{cell_of_tuple}
 use Rattle.ct_word.specs.declared.kinds.Class.TheVariants as class
 
--- the item at a position, item by item
-got : (f : ℕ → Term) (xs : List ℕ) (k : ℕ) → k < length xs → slice_get (map f xs) k ≡ Some (f (get_or xs k 0))
-got f [] k lt = absurd (omega arith)
-got f (x ∷ xs) zero lt = refl
-got f (x ∷ xs) (suc k) lt = got f xs k (omega arith)
-
 picked_cells : (ws : List ℕ) (cells ks : List ℕ) → All (λ k. k < length cells) ks → map (term_at ws) (map (λ k. get_or cells k 0) ks) ≡ picked ks (map (term_at ws) cells)
 picked_cells ws cells [] below = refl
 picked_cells ws cells (k ∷ ks) below =
     (λ i. term_at ws (get_or cells k 0) ∷ picked_cells ws cells ks (All-tail (λ k. k < length cells) k ks below) i)
-    ∙ sym (ap (λ o. cons_option o (picked ks (map (term_at ws) cells))) (got (term_at ws) cells k (All-head (λ k. k < length cells) k ks below)))
+    ∙ sym (ap (λ o. cons_option o (picked ks (map (term_at ws) cells))) (slice_get-map (term_at ws) cells k ∙ ap (option_map (term_at ws)) (slice_get-get_or cells k 0 (All-head (λ k. k < length cells) k ks below))))
 
 picked_tuple : (ws : List ℕ) (v : World) (cells ks : List ℕ) → All (λ k. k < length cells) ks
     → tuple_at v (map (term_at ws) (map (λ k. get_or cells k 0) ks)) ≡ map (cell_at (tuple_at v (map (term_at ws) cells))) ks

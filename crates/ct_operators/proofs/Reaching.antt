@@ -1,14 +1,15 @@
 -- Which terms are reached from rows, as words are added.
-use Rattle.std.proofs.Common.{◌≡◌, ℕ, zero, suc, true, Option, ◌<◌, List, [], ◌∷◌, ◌++◌, Some, None, length, refl, ap, sym, subst, ◌∙◌, arith, inl, inr}
+use Rattle.std.proofs.Common.{◌≡◌, ℕ, zero, suc, true, Option, ◌<◌, List, [], ◌∷◌, ◌++◌, Some, None, length, get_or, refl, ap, sym, subst, ◌∙◌, arith, inl, inr}
 use Rattle.std.{specs.Prelude.{◌≢◌, ◌⊎◌, Result, IfOk, IsTrue, All, slice_get}, proofs.lemmas.Result.IfOk-weaker, specs.List.Contains}
-use Rattle.std.proofs.lemmas.Bool.{false≢true}
-use Rattle.std.proofs.lemmas.List.Elements.{All-head, All-tail, All-cons, All-nil, All-weaker, All-contains, Contains-append_left, Contains-append_right, Contains-append_cases, Contains-push_cases, All-contains_itself}
+use Rattle.std.{proofs.lemmas.Bool.false≢true, proofs.lemmas.Option.{none-some, slice_get-get_or}}
+use Rattle.std.proofs.lemmas.List.Elements.{All-head, All-tail, All-cons, All-nil, All-weaker, All-contains, Contains-append_left, Contains-append_right, Contains-append_cases, All-contains_itself}
 use Rattle.ct_word.{specs.declared.kinds.Kind.Kind, specs.declared.kinds.Class.Class, specs.declared.values.Term.Term, specs.declared.values.CRow.CRow}
-use Rattle.ct_word.{specs.Word.{kind_of, left_of, right_of}, specs.Reading.{IsTerm, as_term, term_at}, proofs.Growth.place_grows}
-use Rattle.ct_word.specs.WellFormed.{PlaceOf, IsWellFormed, fields_of, fits, has_class, is_formed_as, is_place_of, is_word_of}
-use Rattle.ct_word.specs.Stands.{StandsAt, Below, itself, through, TermBelow, HasNoColumn, places_in, places_of}
-use Rattle.ct_word.{proofs.Splits.{split_at, formed_at, formed_fields, some-injective}, proofs.Prefixes.{get_in_prefix, meaning_in_prefix, place_within}}
-use Rattle.ct_condition.{specs.Rows.cell_for, specs.Terms.{TermsFrom, BelowEither, BelowSome}, proofs.Reached.{named_earlier, reached_earlier, no_term_at}}
+use Rattle.ct_word.{specs.Word.{kind_of, left_of, right_of}, specs.Reading.{IsTerm, as_term, term_at}, specs.WordAt.IsWordAt, proofs.WordAt.word_is}
+use Rattle.ct_word.{specs.WellFormed.{IsWellFormed, has_class, is_place_of}, proofs.Items.{first_item, later_item, item_cases}, proofs.Places.is_word}
+use Rattle.ct_word.{specs.Stands.{StandsAt, Below, itself, through, TermBelow, HasNoColumn, places_in, places_of}, proofs.Splits.some-injective}
+use Rattle.ct_word.proofs.Prefixes.{get_in_prefix, meaning_in_prefix, place_within}
+use Rattle.ct_condition.{specs.Rows.cell_for, specs.Terms.{TermsFrom, BelowEither, BelowSome}}
+use Rattle.ct_condition.proofs.Reached.{named_earlier, reached_earlier, no_term_at, under_none, under_one}
 use Rattle.ct_operators.{specs.Tables.IsRow, specs.Terms.{TermOfRow, TermOfRows, RowFrom, RowsFrom, IsNoColumn}}
 use mathlib.Core.List.{IsPrefix}
 use Rattle.ct_word.specs.declared.kinds.Kind.TheVariants as kind
@@ -23,16 +24,13 @@ pub some_among : (ws ps qs : List ℕ) (t : Term) → ((p : ℕ) → Contains ps
 some_among ws ps qs t more b = record { place = b.place; among = more b.place b.among; below = b.below }
 
 pub behind : {X : Type 0} (x : X) (xs : List X) (y : X) → Contains xs y → Contains (x ∷ xs) y
-behind x xs y h = Contains-append_right (x ∷ []) xs y h
+behind x xs y h = later_item xs x y h
 
 pub foremost : {X : Type 0} (x : X) (xs : List X) → Contains (x ∷ xs) x
-foremost x xs = (0, omega arith, refl)
+foremost x xs = first_item xs x
 
 pub first_or_behind : {X : Type 0} (x : X) (xs : List X) (y : X) → Contains (x ∷ xs) y → (x ≡ y) ⊎ Contains xs y
-first_or_behind x xs y h = elim (Contains-append_cases (x ∷ []) xs y h) [
-  | inl a ↦ elim (Contains-push_cases [] x y a) [ inl n ↦ absurd (omega (arith, n.1)) | inr e ↦ inl e ]
-  | inr b ↦ inr b
-]
+first_or_behind x xs y h = item_cases xs x y h
 
 -- the places of a row stand within the words
 pub row_within : (ws : List ℕ) (n : ℕ) (r : CRow) → All (λ p. IsTrue (is_place_of ws class.Term p)) r.cells → IsTrue (is_place_of ws class.Cond r.cond) → All (λ p. p < length ws) (r.cond ∷ r.cells)
@@ -46,14 +44,12 @@ module _ (old new : List ℕ) (longer : IsPrefix old new) (formed : IsWellFormed
   reached_before p r lt itself = itself
   reached_before p r lt (through w q there among rest) =
       let here : slice_get old p ≡ Some w = sym (get_in_prefix old new p longer lt) ∙ there in
-      let less = named_earlier old formed p w q here among in
-      through w q here among (reached_before q r (omega (arith, less, lt)) rest)
+      through w q here among (reached_before q r (omega (arith, named_earlier old formed p w q here among, lt)) rest)
 
   pub below_before : (p : ℕ) (t : Term) → p < length old → TermBelow new p t → TermBelow old p t
   below_before p t lt h =
       let was = reached_before p h.0 lt h.1 in
-      let le = reached_earlier old formed p h.0 was in
-      (h.0, was, sym (meaning_in_prefix old new h.0 longer (omega (arith, le, lt))) ∙ h.2)
+      (h.0, was, sym (meaning_in_prefix old new h.0 longer (omega (arith, reached_earlier old formed p h.0 was, lt))) ∙ h.2)
 
   pub some_below_before : (ps : List ℕ) (t : Term) → All (λ p. p < length old) ps → BelowSome new ps t → BelowSome old ps t
   some_below_before ps t within b =
@@ -84,14 +80,9 @@ none_of_rows ws rs each k h = none_of_some ws (h.row.cond ∷ h.row.cells) (All-
 pub plain_rows : (ws : List ℕ) (n : ℕ) (rs : List CRow) → All (IsRow ws n) rs → All (λ r. All (HasNoColumn ws) (r.cond ∷ r.cells)) rs
 plain_rows ws n rs = All-weaker (IsRow ws n) (λ r. All (HasNoColumn ws) (r.cond ∷ r.cells)) (λ r is. is.plain) rs
 
-cell_there : (cells : List ℕ) (k : ℕ) → k < length cells → slice_get cells k ≢ None
-cell_there [] k lt e = omega (arith, lt)
-cell_there (s ∷ cells) zero lt e = let bad : Some s ≡ None = e in cc
-cell_there (s ∷ cells) (suc k) lt e = cell_there cells k (omega (arith, lt)) e
-
 -- a term for which there is no cell is no column, where columns are below the row's end
 pub no_cell_no_column : (cells : List ℕ) (t : Term) → cell_for cells t ≡ None → ((k : ℕ) → t ≡ term.Column k → k < length cells) → IsNoColumn t
-no_cell_no_column cells t none below k e = cell_there cells k (below k e) (sym (ap (cell_for cells) e) ∙ none)
+no_cell_no_column cells t none below k e = none-some (get_or cells k 0) (sym none ∙ ap (cell_for cells) e ∙ slice_get-get_or cells k 0 (below k e))
 
 -- a term below some of the rows stands below them
 pub rows_among : (ws : List ℕ) (rs ss : List CRow) (t : Term) → ((r : CRow) → Contains rs r → Contains ss r) → TermOfRows ws rs t → TermOfRows ws ss t
@@ -191,32 +182,18 @@ at_or_under ws p r w t there itself s = inl s
 at_or_under ws p r w t there (through v q is among rest) s =
     inr (record { place = q; among = subst (λ x. Contains (places_of x) q) (some-injective v w (sym is ∙ there)) among; below = (r, rest, s) })
 
--- the left field of a word of a kind whose left field is a place
-left_field : (ws : List ℕ) → IsWellFormed ws → (p w : ℕ) → slice_get ws p ≡ Some w → (k : Kind) (c : Class) → kind_of w ≡ Some k → (fields_of k).0 ≡ PlaceOf c
-    → IsTrue (is_place_of ws c (left_of w)) × (left_of w < p)
-left_field ws formed p w there k c is field =
-    let s = split_at ws p w there in
-    let fits_so = (formed_fields s.front k (left_of w) (right_of w) (ap (λ o. is_formed_as o s.front (left_of w) (right_of w)) (sym is) ∙ formed_at ws formed p w there s)).0 in
-    let at_front : is_place_of s.front c (left_of w) ≡ true = sym (ap (λ f. fits s.front f (left_of w)) field) ∙ fits_so in
-    (ap (λ l. is_place_of l c (left_of w)) s.is ∙ place_grows s.front (w ∷ s.back) c (left_of w) at_front, omega (arith, place_within s.front c (left_of w) at_front, s.long))
+-- a word of a well formed list, taken apart
+pub word_apart : (ws : List ℕ) → IsWellFormed ws → (p w : ℕ) → slice_get ws p ≡ Some w → (k : Kind) → kind_of w ≡ Some k → IsWordAt ws p (record { kind = k; left = left_of w; right = right_of w })
+word_apart ws formed p w there k is = word_is ws p w there formed k is (omega arith) (omega arith)
 
 module _ (ws : List ℕ) (formed : IsWellFormed ws) where
   -- a place of a class has a word of it
   pub word_of_place : (c : Class) (p : ℕ) → IsTrue (is_place_of ws c p) → (w : ℕ) × (slice_get ws p ≡ Some w) × (has_class (kind_of w) c ≡ true)
-  word_of_place c p e = by_case (slice_get ws p) refl where
-    by_case : (o : Option ℕ) → slice_get ws p ≡ o → (w : ℕ) × (slice_get ws p ≡ Some w) × (has_class (kind_of w) c ≡ true)
-    by_case (Some w) q = (w, q, sym (ap (λ o. is_word_of o c) q) ∙ e)
-    by_case None q = absurd (false≢true (sym (ap (λ o. is_word_of o c) q) ∙ e))
+  word_of_place c p e = is_word (slice_get ws p) c e
 
   pub named_by : (w : ℕ) (k : Kind) → kind_of w ≡ Some k → (t : Term) → BelowSome ws (places_of w) t → BelowSome ws (places_in (Some k) (left_of w) (right_of w)) t
   unfolding places_of
   named_by w k is t b = subst (λ o. BelowSome ws (places_in o (left_of w) (right_of w)) t) is b
-
-  nothing_named : (t : Term) → BelowSome ws [] t → ⊥
-  nothing_named t b = omega (arith, b.among.1)
-
-  pub one_named : (a : ℕ) (t : Term) → BelowSome ws (a ∷ []) t → TermBelow ws a t
-  one_named a t b = elim (first_or_behind a [] b.place b.among) [ inl e ↦ subst (λ p. TermBelow ws p t) (sym e) b.below | inr n ↦ absurd (omega (arith, n.1)) ]
 
   -- no term stands below a number's high bits
   high_terms : (p : ℕ) (t : Term) → IsTrue (is_place_of ws class.High p) → TermBelow ws p t → ⊥
@@ -227,7 +204,7 @@ module _ (ws : List ℕ) (formed : IsWellFormed ws) where
     by_kind : (o : Option Kind) → kind_of word.0 ≡ o → has_class o class.High ≡ true → ⊥
     by_kind (Some kind.NumberHigh) is c = elim (at_or_under ws p h.0 word.0 t word.1 h.1 h.2) [
       | inl s ↦ no_term_at ws class.High p t e (λ q. cc) s
-      | inr b ↦ nothing_named t (named_by word.0 kind.NumberHigh is t b)
+      | inr b ↦ under_none ws t (named_by word.0 kind.NumberHigh is t b)
     ]
     by_kind _ is c = absurd (false≢true c)
 
@@ -241,13 +218,13 @@ module _ (ws : List ℕ) (formed : IsWellFormed ws) where
     by_kind : (o : Option Kind) → kind_of word.0 ≡ o → has_class o class.Text ≡ true → ((a : ℕ) → a < p → IsTrue (is_place_of ws class.Text a) → TermBelow ws a t → ⊥) → ⊥
     by_kind (Some kind.TextEnd) is c before = elim (at_or_under ws p h.0 word.0 t word.1 h.1 h.2) [
       | inl s ↦ no_term_at ws class.Text p t e (λ q. cc) s
-      | inr b ↦ nothing_named t (named_by word.0 kind.TextEnd is t b)
+      | inr b ↦ under_none ws t (named_by word.0 kind.TextEnd is t b)
     ]
     by_kind (Some kind.TextCharacter) is c before = elim (at_or_under ws p h.0 word.0 t word.1 h.1 h.2) [
       | inl s ↦ no_term_at ws class.Text p t e (λ q. cc) s
       | inr b ↦
-          let field = left_field ws formed p word.0 word.1 kind.TextCharacter class.Text is refl in
-          before (left_of word.0) field.1 field.0 (one_named (left_of word.0) t (named_by word.0 kind.TextCharacter is t b))
+          let field = (word_apart ws formed p word.0 word.1 kind.TextCharacter is).left in
+          before (left_of word.0) field.0 field.1 (under_one ws (left_of word.0) t (named_by word.0 kind.TextCharacter is t b))
     ]
     by_kind _ is c before = absurd (false≢true c)
 
@@ -265,14 +242,14 @@ module _ (ws : List ℕ) (formed : IsWellFormed ws) where
 
     by_kind : (o : Option Kind) → kind_of word.0 ≡ o → has_class o class.Term ≡ true → t ≡ term_at ws p
     by_kind (Some kind.Number) is c = under kind.Number is
-        (λ b. high_terms (left_of word.0) t (left_field ws formed p word.0 word.1 kind.Number class.High is refl).0 (one_named (left_of word.0) t b))
+        (λ b. high_terms (left_of word.0) t (word_apart ws formed p word.0 word.1 kind.Number is).left.1 (under_one ws (left_of word.0) t b))
     by_kind (Some kind.TextConstant) is c = under kind.TextConstant is
-        (λ b. text_terms (suc (left_of word.0)) (left_of word.0) t (omega arith) (left_field ws formed p word.0 word.1 kind.TextConstant class.Text is refl).0 (one_named (left_of word.0) t b))
+        (λ b. text_terms (suc (left_of word.0)) (left_of word.0) t (omega arith) (word_apart ws formed p word.0 word.1 kind.TextConstant is).left.1 (under_one ws (left_of word.0) t b))
     by_kind (Some kind.NamedNull) is c = under kind.NamedNull is
-        (λ b. text_terms (suc (left_of word.0)) (left_of word.0) t (omega arith) (left_field ws formed p word.0 word.1 kind.NamedNull class.Text is refl).0 (one_named (left_of word.0) t b))
-    by_kind (Some kind.FreshNull) is c = under kind.FreshNull is (nothing_named t)
-    by_kind (Some kind.OtherValue) is c = under kind.OtherValue is (nothing_named t)
-    by_kind (Some kind.Column) is c = under kind.Column is (nothing_named t)
+        (λ b. text_terms (suc (left_of word.0)) (left_of word.0) t (omega arith) (word_apart ws formed p word.0 word.1 kind.NamedNull is).left.1 (under_one ws (left_of word.0) t b))
+    by_kind (Some kind.FreshNull) is c = under kind.FreshNull is (under_none ws t)
+    by_kind (Some kind.OtherValue) is c = under kind.OtherValue is (under_none ws t)
+    by_kind (Some kind.Column) is c = under kind.Column is (under_none ws t)
     by_kind _ is c = absurd (false≢true c)
 
   -- a term below a place that a word names stands below the word's place
@@ -285,5 +262,5 @@ module _ (ws : List ℕ) (formed : IsWellFormed ws) where
       → (t : Term) → TermBelow ws p t → ⊥
   none_under_condition p w k there is none e t h = elim (at_or_under ws p h.0 w t there h.1 h.2) [
     | inl s ↦ no_term_at ws class.Cond p t e (λ q. cc) s
-    | inr b ↦ nothing_named t (subst (λ ps. BelowSome ws ps t) none (named_by w k is t b))
+    | inr b ↦ under_none ws t (subst (λ ps. BelowSome ws ps t) none (named_by w k is t b))
   ]

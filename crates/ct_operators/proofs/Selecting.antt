@@ -22,16 +22,13 @@ cell_of_tuple ws v cells column lt =
     get_or-map (at v []) (map (term_at ws) cells) column (term_at ws 0) other_zero (subst (λ n. column < n) (sym (length-map cells (term_at ws))) lt)
     ∙ ap (at v []) (get_or-map (term_at ws) cells column 0 (term_at ws 0) lt)
 
-pub shown-append : (v : World) (rs ss : List PlainRow) → shown_rows v (rs ++ ss) ≡ shown_rows v rs ++ shown_rows v ss
+shown-append : (v : World) (rs ss : List PlainRow) → shown_rows v (rs ++ ss) ≡ shown_rows v rs ++ shown_rows v ss
 shown-append v rs ss =
     ap (map (λ (r : PlainRow). tuple_at v r.cells)) (filter-append (λ (r : PlainRow). holds_at v r.condition) rs ss)
     ∙ map-append (λ (r : PlainRow). tuple_at v r.cells) (filter (λ r. holds_at v r.condition) rs) (filter (λ r. holds_at v r.condition) ss)
 
 pub value-append : (ws : List ℕ) (v : World) (rs ss : List CRow) → value_of_rows ws v (rs ++ ss) ≡ value_of_rows ws v rs ++ value_of_rows ws v ss
 value-append ws v rs ss = ap (shown_rows v) (map-append (plain_crow ws) rs ss) ∙ shown-append v (map (plain_crow ws) rs) (map (plain_crow ws) ss)
-
-pub value-push : (ws : List ℕ) (v : World) (rs : List CRow) (r : CRow) → value_of_rows ws v (rs ++ r ∷ []) ≡ value_of_rows ws v rs ++ value_of_rows ws v (r ∷ [])
-value-push ws v rs r = ap (shown_rows v) (map_push (plain_crow ws) rs r) ∙ shown-append v (map (plain_crow ws) rs) (plain_crow ws r ∷ [])
 
 -- the tuple of one row
 pub one_shown : (v : World) (x : PlainRow) (b : Bool) → holds_at v x.condition ≡ b → shown_rows v (x ∷ []) ≡ cond b (tuple_at v x.cells ∷ []) []
@@ -93,7 +90,7 @@ module _ (old now new : List ℕ) (width : ℕ) (test : World → List Value →
   more_values v last e =
       (λ i. values_before v i ++ e i)
       ∙ sym (filter-append (test v) (value_of_rows old v done) (value_of_rows old v (r ∷ [])))
-      ∙ ap (filter (test v)) (sym (value-push old v done r))
+      ∙ ap (filter (test v)) (sym (value-append old v done (r ∷ [])))
 
   part_before : IsSublist (cells_of new out) (cells_of old done)
   part_before = subst (λ cs. IsSublist cs (cells_of old done)) (sym (cells_grow now new longer width out so_far.each)) so_far.part
@@ -115,7 +112,7 @@ module _ (old now new : List ℕ) (width : ℕ) (test : World → List Value →
           plain = All-cons (HasNoColumn new) place r.cells (none_from new place source plain from) (All-tail (HasNoColumn new) r.cond r.cells is_later.plain);
         });
     possible = All-push (λ r. r.cond ≢ 1) out under so_far.possible ne;
-    values = λ v. value-push new v out under
+    values = λ v. value-append new v out (under ∷ [])
         ∙ more_values v (value_of_rows new v (under ∷ []))
         (one_picked v (plain_crow new under) (plain_crow old r) (test v) (ap (tuple_at v) terms_stay) (chosen.holds v));
     part = subst (λ cs. IsSublist cs (cells_of old (done ++ r ∷ []))) (sym (map_push (λ (r : CRow). map (term_at new) r.cells) out under))
@@ -159,14 +156,6 @@ pub selected_values : (old new : List ℕ) (width : ℕ) (test : World → List 
     → (v : World) → SameSet (value_of_rows new v out) (filter (test v) (value_of_rows old v rows))
 selected_values old new width test source rows out s v tuple = ap (λ ts. has_tuple ts tuple) (s.values v)
 
--- a row of a table, as words are added
-pub row_at : (old now : List ℕ) (width : ℕ) (rows : List CRow) (i : ℕ) (r : CRow) → IsPrefix old now → IsWellFormed old → All (IsRow old width) rows → i < length rows → r ≡ get_or rows i r
-    → IsRow old width r × IsRow now (length r.cells) r
-row_at old now width rows i r grown formed each lt e =
-    let is : IsRow old width r = subst (IsRow old width) (sym e) (All-get_or (IsRow old width) rows i r lt each) in
-    let on = is_row_grows old now grown formed width r is in
-    (is, record { terms = on.terms; condition = on.condition; width_is = refl; plain = on.plain })
-
 -- a row in a turn over rows
 pub record Turn (old now : List ℕ) (width : ℕ) (rows : List CRow) (i : ℕ) (r : CRow) : Type 0 where
   pub within : i < length rows
@@ -181,12 +170,13 @@ pub turn : (old now : List ℕ) (width : ℕ) (rows : List CRow) (i : ℕ) (r : 
 turn old now width rows i r grown formed each items same lt e =
     let within : i < length rows = subst (λ l. i < length l) same lt in
     let found : r ≡ get_or rows i r = e ∙ ap (λ l. get_or l i r) same in
-    let is = row_at old now width rows i r grown formed each within found in
+    let was : IsRow old width r = subst (IsRow old width) (sym found) (All-get_or (IsRow old width) rows i r within each) in
+    let is = is_row_grows old now grown formed width r was in
     record {
       within = within;
       among = (i, within, sym found);
-      was = is.0;
-      is = is_row_grows old now grown formed width r is.0;
-      itself = is.1;
+      was = was;
+      is = is;
+      itself = record { terms = is.terms; condition = is.condition; width_is = refl; plain = is.plain };
       done = ap (λ x. take i rows ++ x ∷ []) found ∙ sym (take_more rows i r within);
     }

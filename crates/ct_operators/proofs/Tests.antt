@@ -20,9 +20,7 @@ use Rattle.ct_operators.specs.declared.judging.Test.TheVariants as test
 -- what a test takes once does not become more
 pub first_fewer : (old new : List ℕ) → IsPrefix old new → (x : Test) → first_words new x ≤ first_words old x
 first_fewer old new longer (test.Holds p) = terms_fewer old new longer (condition_of p.now)
-first_fewer old new longer (test.Fails c) = omega arith
-first_fewer old new longer (test.Among rs) = omega arith
-first_fewer old new longer (test.Apart rs) = omega arith
+first_fewer old new longer _ = omega arith
 
 -- no column comes below a row that is judged
 pub no_column : (ws : List ℕ) (width : ℕ) (rows : List CRow) → All (IsRow ws width) rows → (x : Test) → FitsTest ws width x
@@ -47,10 +45,8 @@ module _ (old now : List ℕ) (grown : IsPrefix old now) (formed : IsWellFormed 
 
   -- it takes as many words
   pub words_later : (x : Test) → FitsTest old width x → test_words now width x ≡ test_words old width x
-  words_later (test.Holds p) f = refl
   words_later (test.Fails c) f = ap (λ d. ops d + 1) (condition_in_prefix old now c grown (place_within old class.Cond c f.0))
-  words_later (test.Among rs) f = refl
-  words_later (test.Apart rs) f = refl
+  words_later _ f = refl
 
   -- and the same tuples pass it
   passes_later : (x : Test) → FitsTest old width x → (v : World) (t : List Value) → passes now x v t ≡ passes old x v t

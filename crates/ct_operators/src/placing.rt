@@ -1,12 +1,12 @@
 // A condition with the cells of a row put for its columns.
 
-ghost use Rattle.std.specs.Prelude.{◌≡◌, ◌⊎◌, ◌≤◌, ◌<◌, ◌+◌, Some, length, slice_get, All, IfOk, OnErr, IsTrue};
-ghost use mathlib.Core.List.{IsPrefix};
+ghost use Rattle.std.specs.Prelude.{◌≡◌, ◌⊎◌, ◌≤◌, ◌<◌, Some, length, slice_get, All, IfOk, IsTrue, is_err};
 ghost use Rattle.ct_word.specs.declared.kinds.Class.TheVariants as class;
 ghost use Rattle.ct_word.specs.WellFormed.{IsWellFormed, is_place_of};
 ghost use Rattle.ct_word.specs.Reading.{condition_at};
 ghost use Rattle.ct_query.specs.Bounds.{ops};
 ghost use Rattle.ct_condition.specs.Terms.{TermsFrom};
+ghost use Rattle.ct_condition.specs.Writes.{Writes};
 ghost use Rattle.ct_operators.specs.Terms.{IsPlaced};
 ghost use Rattle.ct_operators.specs.Building.{HoldsWhere};
 ghost use Rattle.ct_operators.specs.Placing.{parts_of, AreParts, column_of, IsCellFor, holds_for, equal_for};
@@ -48,6 +48,7 @@ fn word_at(words: &[u64], place: u32) -> u64
 fn made_of<N: Site, I: Interner<N>>(pass: &I, place: u32) -> Parts
     requires { IsTrue (is_place_of (I.list pass.now) class.Cond place) }
     ensures formed { IsWellFormed (I.list pass.now) }
+    ensures room { length (I.list pass.now) ≤ N.log.cap }
     ensures parts { AreParts (I.list pass.now) place result }
 {
     let word = word_at(pass.words(), place);
@@ -93,12 +94,7 @@ fn equal_on<N: Site, I: Interner<N>>(
     requires cells { All (λ p. IsTrue (is_place_of (I.list pass.old) class.Term p)) cells.now }
     ensures holds { IfOk result (λ place. HoldsWhere (I.list pass.new) place (equal_for (I.list pass.old) s t cells.now)) }
     ensures terms { IfOk result (λ place. TermsFrom (I.list pass.new) place (λ u. IsPlaced (I.list pass.old) s cells.now u ⊎ IsPlaced (I.list pass.old) t cells.now u)) }
-    ensures longer { IsPrefix (I.list pass.old) (I.list pass.new) }
-    ensures full { OnErr result (length (I.list pass.new) ≡ N.log.cap) }
-    ensures made { I.made pass.new ≤ I.made pass.old + 1 }
-    ensures err { OnErr result (I.made pass.new ≡ I.made pass.old) }
-    ensures kept { I.kept pass.new ≡ I.kept pass.old }
-    ensures lent { I.lent pass.new ≡ I.lent pass.old }
+    ensures writes { Writes I.list I.made I.kept I.lent N.log.cap pass.old pass.new 1 (is_err result) }
 {
     let s = cell_for(pass.words(), s, cells);
     let t = cell_for(pass.words(), t, cells);
@@ -120,12 +116,7 @@ pub(crate) fn on_row<N: Site, I: Interner<N>>(
     requires cells { All (λ p. IsTrue (is_place_of (I.list pass.old) class.Term p)) cells.now }
     ensures holds { IfOk result (λ place. HoldsWhere (I.list pass.new) place (holds_for (I.list pass.old) cond cells.now)) }
     ensures terms { IfOk result (λ place. TermsFrom (I.list pass.new) place (IsPlaced (I.list pass.old) cond cells.now)) }
-    ensures longer { IsPrefix (I.list pass.old) (I.list pass.new) }
-    ensures full { OnErr result (length (I.list pass.new) ≡ N.log.cap) }
-    ensures made { I.made pass.new ≤ I.made pass.old + ops (condition_at (I.list pass.old) cond) }
-    ensures err { OnErr result (I.made pass.new < I.made pass.old + ops (condition_at (I.list pass.old) cond)) }
-    ensures kept { I.kept pass.new ≡ I.kept pass.old }
-    ensures lent { I.lent pass.new ≡ I.lent pass.old }
+    ensures writes { Writes I.list I.made I.kept I.lent N.log.cap pass.old pass.new (ops (condition_at (I.list pass.old) cond)) (is_err result) }
 {
     match made_of(pass, cond) {
         Parts::Nothing => Ok(cond),

@@ -1,6 +1,6 @@
 // The product of two tables.
 
-ghost use Rattle.std.specs.Prelude.{◌≡◌, ◌≤◌, ◌<◌, ◌+◌, ◌*◌, [], ◌∷◌, ◌++◌, length, map, IfOk, IsErrOf};
+ghost use Rattle.std.specs.Prelude.{◌≡◌, ◌≤◌, ◌<◌, ◌+◌, ◌*◌, [], ◌∷◌, ◌++◌, length, map, IfOk, OnOk, IsErrOf};
 ghost use mathlib.Core.List.{IsPrefix};
 ghost use Rattle.ct_word.specs.Value.{World};
 ghost use Rattle.ct_word.specs.Reading.{term_at};
@@ -23,16 +23,17 @@ use ct_condition::{Interner, and};
 use ct_word::{CRow, List, Text};
 use std::alloc::{AllocError, Global};
 
-/// The cells of two rows, one after the other, under a condition.
-fn joined(left: &CRow, right: &CRow, cond: u32) -> Result<CRow, AllocError>
-    ensures { IfOk result (λ r. r ≡ record { cells = left.now.cells ++ right.now.cells; cond = cond }) }
+/// Puts the cells of two rows, one after the other, under a condition last.
+fn push_joined(to: &mut Vec<CRow>, left: &CRow, right: &CRow, cond: u32) -> Result<(), AllocError>
+    ensures { OnOk result (to.new.items ≡ to.old.items ++ record { cells = left.now.cells ++ right.now.cells; cond = cond } ∷ []) }
 {
     let mut cells = left.cells.clone()?.into_vec();
     cells.extend_from_slice(right.cells.as_slice())?;
-    Ok(CRow {
+    to.push(CRow {
         cells: List::from_vec(cells),
         cond,
-    })
+    })?;
+    Ok(())
 }
 
 /// The names of both, one after the other.
@@ -64,7 +65,7 @@ fn pair_row<N: Site, I: Interner<N>>(
     for other in right.rows.as_slice() {
         let _ = pass.words();
         let cond = and(arena, pass, row.cond, other.cond)?;
-        pairs.push(joined(row, other, cond)?)?;
+        push_joined(&mut pairs, row, other, cond)?;
     }
     Ok(pairs)
 }

@@ -1,6 +1,6 @@
 // Copies of rows and of the names of columns.
 
-ghost use Rattle.std.specs.Prelude.{◌≡◌, ◌++◌, IfOk, OnOk};
+ghost use Rattle.std.specs.Prelude.{◌≡◌, [], ◌∷◌, ◌++◌, IfOk, OnOk};
 
 use ct_word::{CRow, List, Text};
 use std::alloc::AllocError;
@@ -18,12 +18,20 @@ pub fn under(row: &CRow, cond: u32) -> Result<CRow, AllocError>
     })
 }
 
+/// Puts the same cells under another condition last.
+pub(crate) fn push_under(to: &mut Vec<CRow>, row: &CRow, cond: u32) -> Result<(), AllocError>
+    ensures { OnOk result (to.new.items ≡ to.old.items ++ record { cells = row.now.cells; cond = cond } ∷ []) }
+{
+    to.push(under(row, cond)?)?;
+    Ok(())
+}
+
 /// Copies of rows, put after others.
 pub(crate) fn copy_rows(to: &mut Vec<CRow>, rows: &[CRow]) -> Result<(), AllocError>
     ensures { OnOk result (to.new.items ≡ to.old.items ++ rows.now) }
 {
     for row in rows {
-        to.push(under(row, row.cond)?)?;
+        push_under(to, row, row.cond)?;
     }
     Ok(())
 }

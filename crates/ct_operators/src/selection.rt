@@ -20,7 +20,7 @@ ghost use Rattle.ct_operators.specs.declared.error.TableError.TheVariants as fau
 
 use crate::error::TableError;
 use crate::judging::{Test, judged};
-use crate::rows::{names, under};
+use crate::rows::{names, push_under};
 use crate::table::CTable;
 use ct_arena::{Arena, Site};
 use ct_condition::Interner;
@@ -72,7 +72,7 @@ pub(crate) fn sifted<N: Site, I: Interner<N>>(
         let _ = pass.words();
         let place = judged(arena, pass, test, row)?;
         if !is_false(pass, place) {
-            out.push(under(row, place)?)?;
+            push_under(&mut out, row, place)?;
         }
     }
     Ok(CTable {

@@ -1,7 +1,7 @@
 -- The terms that tables and the global condition bring are among those that a statement asks about.
 use Rattle.std.proofs.Common.{◌≡◌, Bool, true, false, ◌||◌, List, [], ◌∷◌, ◌++◌, cond, refl, ap, sym, subst, ◌∙◌, arith, inl, inr}
-use Rattle.std.{specs.Prelude.{◌⊎◌, filter, flat_map, if◌then◌else◌}, specs.List.{Contains, list_any}, proofs.lemmas.Bool.{false≢true, or_left, or_right}}
-use Rattle.std.proofs.lemmas.List.Elements.{Contains-append_left, Contains-append_right}
+use Rattle.std.{specs.Prelude.{◌⊎◌, filter, flat_map, if◌then◌else◌}, specs.List.{Contains, list_any}, proofs.lemmas.Bool.false≢true}
+use Rattle.std.{proofs.lemmas.List.Elements.{Contains-append_left, Contains-append_right}, proofs.lemmas.List.Folds.list_any_at}
 use Rattle.ct_word.{specs.declared.values.Term.Term, specs.Value.same_term, specs.Change.PlainCommit, proofs.Alike.term_decides}
 use Rattle.ct_query.{specs.Plain.{PlainAction, PlainStatement}, specs.declared.action.Read.Read, specs.Worlds.changes_of, specs.Reads.{reads_of, writes}}
 use Rattle.ct_query.specs.Frame.{reads_of_actions}
@@ -21,11 +21,7 @@ module _ {A : Type 0} (p : A → Bool) where
     by_test false c = c
 
   any_of : (xs : List A) (x : A) → Contains xs x → p x ≡ true → list_any p xs ≡ true
-  any_of [] x h e = absurd (omega (arith, h.1))
-  any_of (y ∷ ys) x h e = elim (first_or_behind y ys x h) [
-    | inl q ↦ or_left (p y) (list_any p ys) (ap p q ∙ e)
-    | inr i ↦ or_right (p y) (list_any p ys) (any_of ys x i e)
-  ]
+  any_of xs x h e = list_any_at p xs h.0 x h.1 (ap p h.2 ∙ e)
 
 -- a term that is written alike is among them
 found_alike : (t : Term) (ts : List Term) → list_any (same_term t) ts ≡ true → Contains ts t

@@ -7,7 +7,7 @@ use Rattle.ct_query.{specs.declared.schema.Count.Count, specs.Plain.{PlainQuery,
 use Rattle.ct_query.{specs.Rows.rows, specs.Worlds.world, specs.Patterns.{Patterns, patterns, pattern, query_pattern, count}, specs.Size.{size, rows_in}}
 use Rattle.ct_query.{proofs.Sublists.{nothing_of, pattern_part}, proofs.Sets.same_set_on, proofs.SameRows.rows_same}
 use Rattle.ct_operators.specs.Tables.{cells_of}
-use Rattle.ct_table.{specs.Denotes.{TableView, value_of_tables, IsKept, AreWorth, find_table}, proofs.Denoting.{found_name, found_all}}
+use Rattle.ct_table.{specs.Denotes.{TableView, value_of_tables, IsKept, AreWorth, find_table}, proofs.Denoting.{found_all, found_pattern}}
 use Rattle.ct_table.{proofs.QuerySizes.size_grows, proofs.Counted.rows_counted}
 
 -- the cells of the rows of the table with a name; none for a name without a table
@@ -38,15 +38,12 @@ module _ (words : List ℕ) (h : List PlainCommit) (actions : List PlainAction) 
   found_kept : (name : List ℕ) (t : TableView) → find_table db name ≡ Some t → IsKept words h actions t
   found_kept name t e = found_all (IsKept words h actions) name t db (recursion_from_All (IsKept words h actions) db d.kept) e
 
-  found_part : (name : List ℕ) (t : TableView) → find_table db name ≡ Some t → IsSublist (cells_of words t.rows) (patterns h actions name)
-  found_part name t e = subst (λ n. IsSublist (cells_of words t.rows) (patterns h actions n)) (found_name name t db e) (found_kept name t e).in_pattern
-
   -- the cells of a table are, in order, a part of the cells that were ever inserted into it
   pub cells_part : (name : List ℕ) → IsSublist (cells_found words db name) (patterns h actions name)
   cells_part name = by_case (find_table db name) refl where
     by_case : (o : Option TableView) → find_table db name ≡ o → IsSublist (option_map_or (λ t. cells_of words t.rows) o []) (patterns h actions name)
     by_case None e = nothing_of (patterns h actions name)
-    by_case (Some t) e = found_part name t e
+    by_case (Some t) e = found_pattern words h actions h actions db d name t e
 
   -- a table has at most as many rows as different cells were ever inserted into it
   pub tables_counted : (name : List ℕ) → rows_found db name ≤ count h actions name
@@ -55,7 +52,7 @@ module _ (words : List ℕ) (h : List PlainCommit) (actions : List PlainAction) 
     by_case None e = omega arith
     by_case (Some t) e =
         subst (λ n. n ≤ count h actions name) (length-map t.rows (λ (r : CRow). map (term_at words) r.cells))
-        (rows_counted (cells_of words t.rows) (patterns h actions name) (found_kept name t e).rows.distinct (found_part name t e))
+        (rows_counted (cells_of words t.rows) (patterns h actions name) (found_kept name t e).rows.distinct (found_pattern words h actions h actions db d name t e))
 
   -- a query over the tables gives what it gives over the history
   pub means_by_tables : (v : World) (q : PlainQuery) (w : Database) → world v h actions ≡ Some w → SameSet (rows v q (value_of_tables words v db)) (rows v q w)

@@ -1,6 +1,6 @@
 -- Conditions joined to those that rows have already.
 use Rattle.std.proofs.Common.{◌≡◌, ℕ, Bool, true, false, ◌||◌, ◌<◌, List, [], ◌∷◌, ◌++◌, map, Option, None, Some, Ok, Err, length, refl, ap, sym, subst, ◌∙◌, arith}
-use Rattle.std.{specs.Prelude.{◌≢◌, IsTrue, ◌^◌, All, Result, IfOk}, proofs.lemmas.List.Elements.{All-head, All-tail}, proofs.lemmas.Bool.false≢true}
+use Rattle.std.{specs.Prelude.{◌≢◌, IsTrue, ◌^◌, All, Result, IfOk}, proofs.lemmas.List.Elements.{All-head, All-tail}, proofs.lemmas.Bool.{false≢true, ne_eqb}}
 use Rattle.std.{specs.List.{filter, IsDistinct, AllByRecursion}, proofs.lemmas.Map.Keys.{IsDistinct-head, IsDistinct-tail}, proofs.lemmas.List.map-append}
 use Rattle.ct_word.{specs.Condition.holds, specs.WellFormed.{IsWellFormed, is_place_of}, specs.declared.values.CRow.CRow, specs.Sublist.IsSublist}
 use Rattle.ct_word.{proofs.Prefixes.{place_in_prefix, place_within, condition_in_prefix, prefix_same}, proofs.Alike.{text_decides, cells_decide}}
@@ -13,7 +13,7 @@ use Rattle.ct_operators.{proofs.Firsts.{firsts_distinct, part_of_firsts}, proofs
 use Rattle.ct_operators.proofs.Merges.{entry_merged, entry_put, kept_rows, kept_values, kept_order, kept_from}
 use Rattle.ct_table.specs.Growing.{find, put, put_each, grown, entries_of, Apart, Fits, Joins, alone, with_first, AreInserted}
 use Rattle.ct_table.proofs.Entries.{cases, find_hit, find_miss, none_some}
-use Rattle.ct_table.proofs.Putting.{find_among, find_after, put_more, fits_more, kept_of, keep, isnt, rows_grown}
+use Rattle.ct_table.proofs.Putting.{find_among, find_after, put_more, fits_more, kept_of, keep, rows_grown}
 use mathlib.Core.List.{IsPrefix}
 use Rattle.ct_word.specs.declared.kinds.Class.TheVariants as class
 
@@ -52,7 +52,7 @@ found_possible k d (e ∷ es) found all = cases (same_text k e.0)
 pub all_kept : (es : List (List ℕ × ℕ)) → All (λ r. r.cond ≢ 1) (rows_of es) → kept_of es ≡ es
 all_kept [] all = refl
 all_kept (e ∷ es) all =
-    keep e es false (isnt e.1 (All-head (λ r. r.cond ≢ 1) (record { cells = e.0; cond = e.1 }) (rows_of es) all))
+    keep e es false (ne_eqb e.1 1 (All-head (λ r. r.cond ≢ 1) (record { cells = e.0; cond = e.1 }) (rows_of es) all))
     ∙ ap (λ l. e ∷ l) (all_kept es (All-tail (λ r. r.cond ≢ 1) (record { cells = e.0; cond = e.1 }) (rows_of es) all))
 
 -- a row that is there has a condition after others were put, which is not the word false

@@ -1,11 +1,12 @@
 -- Conditions put at their cells, one after another.
 use Rattle.std.proofs.Common.{◌≡◌, ℕ, zero, suc, ◌+◌, ◌<◌, Bool, true, false, not, List, [], ◌∷◌, ◌++◌, None, Some, cond, length, take, get_or, set, refl, ap, sym, subst, ◌∙◌, arith}
-use Rattle.std.{specs.Prelude.{◌≢◌, nat_eq, if◌then◌else◌, slice_get}, specs.List.filter, proofs.lemmas.Bool.eqb-true}
+use Rattle.std.{specs.Prelude.{◌≢◌, nat_eq, if◌then◌else◌, slice_get}, specs.List.filter, proofs.lemmas.Bool.ne_eqb, proofs.lemmas.Option.none-some}
 use Rattle.std.proofs.lemmas.List.{append-nil, append_assoc, take_more}
 use Rattle.ct_word.{specs.declared.values.CRow.CRow, specs.Value.same_text, proofs.Alike.text_decides}
 use Rattle.ct_operators.specs.Merging.{rows_of, is_possible}
 use Rattle.ct_table.specs.Growing.{find, put, put_each, grown, entries_of, Apart, Fits}
 use Rattle.ct_table.proofs.Entries.{cases, unalike, same_self, none_some, place_of, put_hit, put_miss, find_hit, find_miss, at_hit, at_miss, find_put}
+use Rattle.ct_rows.proofs.Entries.{not_first, not_later, entry_last}
 
 -- other cells keep their condition
 pub find_other : (k q : List ℕ) (d : ℕ) → same_text k q ≡ false → (es : List (List ℕ × ℕ)) → find k (put es q d) ≡ find k es
@@ -37,14 +38,6 @@ put_swap k q c d v ne (e ∷ es) found = cases (same_text k e.0)
     (λ r. ap (λ l. put l k c) (put_miss q d e es r) ∙ put_miss k c e (put es q d) p
     ∙ ap (λ l. e ∷ l) (put_swap k q c d v ne es (sym (find_miss k e es p) ∙ found))
     ∙ sym (ap (λ l. put l q d) (put_miss k c e es p) ∙ put_miss q d e (put es k c) r)))
-
--- cells that are not among those of the entries
-module _ (k : List ℕ) (p : List ℕ × ℕ) (ps : List (List ℕ × ℕ)) (none : find k (p ∷ ps) ≡ None) where
-  not_first : same_text k p.0 ≡ false
-  not_first = cases (same_text k p.0) (λ e. none_some p.1 (find k (p ∷ ps)) none (find_hit k p ps e)) (λ e. e)
-
-  not_later : find k ps ≡ None
-  not_later = sym (find_miss k p ps not_first) ∙ none
 
 pub find_after : (k : List ℕ) (ps es : List (List ℕ × ℕ)) → find k ps ≡ None → find k (put_each es ps) ≡ find k es
 find_after k [] es none = refl
@@ -99,17 +92,14 @@ pub keep : (e : List ℕ × ℕ) (es : List (List ℕ × ℕ)) (b : Bool) → na
 keep e es true p = ap (λ b. cond (not b) (e ∷ kept_of es) (kept_of es)) p
 keep e es false p = ap (λ b. cond (not b) (e ∷ kept_of es) (kept_of es)) p
 
-pub isnt : (n : ℕ) → n ≢ 1 → nat_eq n 1 ≡ false
-isnt n ne = cases (nat_eq n 1) (λ p. absurd (ne (eqb-true n 1 p))) (λ p. p)
-
 kept_put : (k : List ℕ) (c : ℕ) (es : List (List ℕ × ℕ)) → ((d : ℕ) → find k es ≡ Some d → (d ≢ 1) × (c ≢ 1)) → kept_of (put es k c) ≡ (if nat_eq c 1 then kept_of es else put (kept_of es) k c)
 kept_put k c [] fit = keep (k, c) [] (nat_eq c 1) refl
 kept_put k c (e ∷ es) fit = cases (same_text k e.0)
     (λ p.
     let both = fit e.1 (find_hit k e es p) in
-    ap kept_of (put_hit k c e es p) ∙ keep (e.0, c) es false (isnt c both.1)
-    ∙ sym (ap (λ b. if b then kept_of (e ∷ es) else put (kept_of (e ∷ es)) k c) (isnt c both.1)
-    ∙ ap (λ l. put l k c) (keep e es false (isnt e.1 both.0)) ∙ put_hit k c e (kept_of es) p))
+    ap kept_of (put_hit k c e es p) ∙ keep (e.0, c) es false (ne_eqb c 1 both.1)
+    ∙ sym (ap (λ b. if b then kept_of (e ∷ es) else put (kept_of (e ∷ es)) k c) (ne_eqb c 1 both.1)
+    ∙ ap (λ l. put l k c) (keep e es false (ne_eqb e.1 1 both.0)) ∙ put_hit k c e (kept_of es) p))
     (λ p.
     let later = kept_put k c es (λ d there. fit d (find_miss k e es p ∙ there)) in
     cases (nat_eq e.1 1)
@@ -160,9 +150,7 @@ rows_set k c v x (e ∷ es) found is =
 
 -- the rows up to one more place
 pub rows_one_more : (es : List (List ℕ × ℕ)) (n : ℕ) (p : List ℕ × ℕ) → slice_get es n ≡ Some p → take n (rows_of es) ++ record { cells = p.0; cond = p.1 } ∷ [] ≡ take (n + 1) (rows_of es)
-rows_one_more [] n p is = absurd (none_is_not p is) where
-  none_is_not : (p : List ℕ × ℕ) → None ≡ Some p → ⊥
-  none_is_not p e = cc
+rows_one_more [] n p is = absurd (none-some p is)
 rows_one_more (e ∷ es) zero p is = let same : p ≡ e = cc in λ i. record { cells = (same i).0; cond = (same i).1 } ∷ []
 rows_one_more (e ∷ es) (suc n) p is =
     let more : suc (n + 1) ≡ suc n + 1 = omega arith in
@@ -190,10 +178,6 @@ pub put_one_more : (p : List ℕ × ℕ) (ps es : List (List ℕ × ℕ)) → pu
 put_one_more p [] es = refl
 put_one_more p (q ∷ ps) es = put_one_more p ps (put es q.0 q.1)
 
-pub entry_last : (k : List ℕ) (c : ℕ) (es : List (List ℕ × ℕ)) → find k es ≡ None → put es k c ≡ es ++ (k, c) ∷ []
-entry_last k c [] none = refl
-entry_last k c (e ∷ es) none = put_miss k c e es (not_first k e es none) ∙ ap (λ l. e ∷ l) (entry_last k c es (not_later k e es none))
-
 not_middle : (k : List ℕ) (p : List ℕ × ℕ) (es ps : List (List ℕ × ℕ)) → find k (es ++ p ∷ ps) ≡ None → same_text k p.0 ≡ false
 not_middle k p [] ps none = not_first k p ps none
 not_middle k p (e ∷ es) ps none = not_middle k p es ps (not_later k e (es ++ p ∷ ps) none)
@@ -206,8 +190,7 @@ not_before p (e ∷ es) ps a = find_miss p.0 e es (unalike e.0 p.0 (not_middle e
 pub put_apart : (es ps : List (List ℕ × ℕ)) → Apart (es ++ ps) → put_each es ps ≡ es ++ ps
 put_apart es [] a = sym (append-nil es)
 put_apart es (p ∷ ps) a =
-    let last = entry_last p.0 p.1 es (not_before p es ps a) in
-    ap (λ l. put_each l ps) last
+    ap (λ l. put_each l ps) (entry_last p.0 p.1 es (not_before p es ps a))
     ∙ put_apart (es ++ p ∷ []) ps (subst Apart (sym (append_assoc es (p ∷ []) ps)) a)
     ∙ append_assoc es (p ∷ []) ps
 

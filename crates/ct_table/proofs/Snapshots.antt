@@ -37,8 +37,7 @@ module _ (old new : List ℕ) (longer : IsPrefix old new) (formed : IsWellFormed
   kept_value_grows : (x : Value) → IsKeptValue old x → IsKeptValue new x
   kept_value_grows x (other k lt) = other k lt
   kept_value_grows x (constant y place stands) =
-      let there = slice_get_within (meanings old) place (IsTerm (term.Value x)) stands in
-      constant x place (stands_in_prefix old new place (IsTerm (term.Value x)) longer (omega (arith, there, length-read [] old)) stands)
+      constant x place (stands_in_prefix old new place (IsTerm (term.Value x)) longer (omega (arith, slice_get_within (meanings old) place (IsTerm (term.Value x)) stands, length-read [] old)) stands)
 
   pub kept_grows : (kept : World) → IsKeptWorld old h actions kept → IsKeptWorld new h actions kept
   kept_grows kept k = record { admitted = k.admitted; values = All-weaker (λ p. IsKeptValue old p.1) (λ p. IsKeptValue new p.1) (λ p. kept_value_grows p.1) kept k.values }

@@ -128,6 +128,7 @@ fn gathered_one<N: Site, I: Interner<N>>(
     let _ = pass.words();
     let none = IndexMap::new(alloc);
     let cond = joint(&none, arena, pass, stored, row)?;
+    drop(none);
     let new = under(row, cond)?;
     let put = Put::new(alloc, new.cells, new.cond)?;
     let mut puts = Vec::with_capacity(alloc, 1)?;

@@ -28,17 +28,17 @@ returns-clause-untouched g c above =
 pub returns-in_err-answered-clause-made : goal.returns-in_err-answered-clause-made
 returns-in_err-answered-clause-made g c =
     let within = nodes_within c.args.db.now c.answer-answered.result (query_of c.args.q.now) c.args.pass.now.made c.answer-answered.new.pass.made
-    (omega (arith, c.words-2.ensures.small, c.words-2.ensures.counted)) c.answer-answered.ensures.made in
+    (omega (arith, c.words-2.ensures.small, c.words-2.ensures.counted)) c.answer-answered.ensures.answers.grows in
     within.made
 
 pub returns-in_err-answered-clause-fewer : goal.returns-in_err-answered-clause-fewer
 returns-in_err-answered-clause-fewer g c =
     let within = nodes_within c.args.db.now c.answer-answered.result (query_of c.args.q.now) c.args.pass.now.made c.answer-answered.new.pass.made
-    (omega (arith, c.words-2.ensures.small, c.words-2.ensures.counted)) c.answer-answered.ensures.made in
+    (omega (arith, c.words-2.ensures.small, c.words-2.ensures.counted)) c.answer-answered.ensures.answers.grows in
     search (rules, within.fewer)
 
 pub returns-clause-made : goal.returns-clause-made
 returns-clause-made g c =
     let within = nodes_within c.args.db.now c.answer-answered.result (query_of c.args.q.now) c.args.pass.now.made c.answer-answered.new.pass.made
-    (omega (arith, c.words-2.ensures.small, c.words-2.ensures.counted)) c.answer-answered.ensures.made in
+    (omega (arith, c.words-2.ensures.small, c.words-2.ensures.counted)) c.answer-answered.ensures.answers.grows in
     within.made

@@ -20,8 +20,7 @@ returns-clause-place g c =
 
 pub returns-clause-small : goal.returns-clause-small
 returns-clause-small g c =
-    let lt = slice_get_within (g.I.Interner.list c.intern.new.self) c.in_ok-place.place _ c.in_ok-place.ensures.stands in
-    omega (arith, lt, c.in_ok-place.ensures.room, c.args.arena.now.most)
+    omega (arith, slice_get_within (g.I.Interner.list c.intern.new.self) c.in_ok-place.place _ c.in_ok-place.ensures.stands, c.in_ok-place.ensures.room, c.args.arena.now.most)
 
 pub returns-clause-terms : goal.returns-clause-terms
 returns-clause-terms g c =

@@ -24,12 +24,11 @@ run-loop-p-preserved g t c =
     let new = g.I.Interner.list c.join.new.pass in
     let cells = c.args.row.now in
     let p = c.p-item.result in
-    let item = get_or c.args.list.now c.loop-p.p-index p in
     record {
       truth =
           one_more j (λ (q : Pred). on_row first (condition_of q) cells) c.args.list.now c.loop-p.p-index p c.loop-p-test.true old mid new c.loop-p.place c.in_ok-next.next c.in_ok-place.place
           c.in_ok-next.ensures.longer
-          (item_on_row first old mid c.in_ok-next.next cells p item c.loop-p.invariant.longer c.requires.row c.p-item.is c.in_ok-next.ensures.truth)
+          (item_on_row first old mid c.in_ok-next.next cells p (get_or c.args.list.now c.loop-p.p-index p) c.loop-p.invariant.longer c.requires.row c.p-item.is c.in_ok-next.ensures.truth)
           c.loop-p.invariant.truth c.in_ok-place.ensures.truth;
       terms =
           run_terms first old mid new cells c.loop-p.invariant.longer c.in_ok-next.ensures.longer (formed_before mid new c.in_ok-place.ensures.writes.longer c.in_ok-place.ensures.writes.formed) c.requires.row
@@ -188,14 +187,12 @@ pred-returns-in-Same-clause-placed g t c =
 
 pub pred-returns-in_ok-place-in-Not-clause-placed : goal.pred-returns-in_ok-place-in-Not-clause-placed
 pred-returns-in_ok-place-in-Not-clause-placed g t c =
-    let mid = g.I.Interner.list c.pred.new.pass in
     let new = g.I.Interner.list c.not.new.pass in
     let cells = c.args.row.now in
     let inner = c.deref.result.now in
     let is : new_words new cells (condition_of c.args.p.now) ≡ new_words new cells (condition_of inner) =
     ap (λ q. new_words new cells (condition_of q)) c.in-Not.is ∙ ap (λ q. new_words new cells (condition_of q)) (sym c.deref.ensures) in
-    let fewer = new_fewer mid new cells c.not.ensures.longer (condition_of inner) in
-    on_ok c.not.result (omega (arith, fewer, is, c.in_ok-place-in-Not.ensures.placed))
+    on_ok c.not.result (omega (arith, new_fewer (g.I.Interner.list c.pred.new.pass) new cells c.not.ensures.longer (condition_of inner), is, c.in_ok-place-in-Not.ensures.placed))
 
 pub pred-returns-in-True-clause-ops : goal.pred-returns-in-True-clause-ops
 pred-returns-in-True-clause-ops g t c =
@@ -207,11 +204,9 @@ pred-returns-in-False-clause-ops g t c =
 
 pub pred-returns-in_ok-place-in-Not-clause-ops : goal.pred-returns-in_ok-place-in-Not-clause-ops
 pred-returns-in_ok-place-in-Not-clause-ops g t c =
-    let mid = g.I.Interner.list c.pred.new.pass in
     let new = g.I.Interner.list c.not.new.pass in
     let q = c.deref.result.now in
     let is : Not (condition_of q) ≡ condition_of c.args.p.now = ap (λ b. Not (condition_of b)) c.deref.ensures ∙ ap condition_of (sym c.in-Not.is) in
     let same : ops (condition_of q) + 1 ≡ ops (condition_of c.args.p.now) = ap ops is in
-    let before = c.in_ok-place-in-Not.ensures.ops in
-    IfOk-weaker c.not.result (λ place. ops_at new place ≤ ops_at mid c.in_ok-place-in-Not.place + 1) (λ place. ops_at new place ≤ ops (condition_of c.args.p.now))
-    (λ place le. omega (arith, le, before, same)) c.not.ensures.ops
+    IfOk-weaker c.not.result (λ place. ops_at new place ≤ ops_at (g.I.Interner.list c.pred.new.pass) c.in_ok-place-in-Not.place + 1) (λ place. ops_at new place ≤ ops (condition_of c.args.p.now))
+    (λ place le. omega (arith, le, c.in_ok-place-in-Not.ensures.ops, same)) c.not.ensures.ops

@@ -43,8 +43,7 @@ returns-in_err-right-clause-made g c =
 pub returns-in_err-right-clause-err : goal.returns-in_err-right-clause-err
 returns-in_err-right-clause-err g c =
     let later = term_fewer (g.I.Interner.list c.args.pass.now) (g.I.Interner.list c.place_on.new.pass) c.args.row.now c.in_ok-left.ensures.longer c.args.t.now in
-    let is = err_from_is_err_and c.from_residual-in_err-right.result c.from_residual-in_err-right.ensures.1 in
-    rw is.1 (omega (arith, later, c.in_ok-left.ensures.made, c.in_err-right.ensures.err))
+    rw (err_from_is_err_and c.from_residual-in_err-right.result c.from_residual-in_err-right.ensures.1).1 (omega (arith, later, c.in_ok-left.ensures.made, c.in_err-right.ensures.err))
 
 pub returns-clause-placed : goal.returns-clause-placed
 returns-clause-placed g c =
@@ -53,5 +52,4 @@ returns-clause-placed g c =
     let new = g.I.Interner.list c.eq.new.pass in
     let cells = c.args.row.now in
     let left = term_fewer mid new cells (prefix_of_prefix mid last new c.in_ok-right.ensures.longer c.eq.ensures.longer) c.args.s.now in
-    let right = term_fewer last new cells c.eq.ensures.longer c.args.t.now in
-    on_ok c.eq.result (omega (arith, left, right, c.in_ok-left.ensures.placed, c.in_ok-right.ensures.placed))
+    on_ok c.eq.result (omega (arith, left, term_fewer last new cells c.eq.ensures.longer c.args.t.now, c.in_ok-left.ensures.placed, c.in_ok-right.ensures.placed))

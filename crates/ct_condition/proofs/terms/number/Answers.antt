@@ -39,8 +39,7 @@ returns-in_err-high-clause-known g c p s =
     let n = c.cast_unsigned-bits.result in
     let is : int_of_bits n ≡ c.args.number = bits_of_number c.args.number n c.ranges.number (c.cast_unsigned-bits.ensures ∙ ap (of_z w64) (to_z-of_z w64 c.args.number c.ranges.number)) (omega arith) in
     let wf = formed_before old (g.I.Interner.list c.put.new.pass) c.in_err-high.ensures.longer c.in_err-high.ensures.formed in
-    let after = c.in_err-high.ensures.known (high_there old wf p n c.args.number (omega arith) is s) in
-    absurd (false≢true after.0)
+    absurd (false≢true (c.in_err-high.ensures.known (high_there old wf p n c.args.number (omega arith) is s)).0)
 
 pub returns-clause-known : goal.returns-clause-known
 returns-clause-known g c p s =
@@ -48,8 +47,7 @@ returns-clause-known g c p s =
     let mid = g.I.Interner.list c.put.new.pass in
     let n = c.cast_unsigned-bits.result in
     let is : int_of_bits n ≡ c.args.number = bits_of_number c.args.number n c.ranges.number (c.cast_unsigned-bits.ensures ∙ ap (of_z w64) (to_z-of_z w64 c.args.number c.ranges.number)) (omega arith) in
-    let wf = formed_before old mid c.in_ok-high.ensures.longer c.in_ok-high.ensures.formed in
-    let first = c.in_ok-high.ensures.known (high_there old wf p n c.args.number (omega arith) is s) in
+    let first = c.in_ok-high.ensures.known (high_there old (formed_before old mid c.in_ok-high.ensures.longer c.in_ok-high.ensures.formed) p n c.args.number (omega arith) is s) in
     let still = subst (λ ws. StandsAt ws p (IsTerm (term.Value (val.Int c.args.number)))) (sym first.1) s in
     let second = c.put-2.ensures.known (number_there mid c.in_ok-high.ensures.formed p n c.args.number (omega arith) is still c.in_ok-high.high c.in_ok-high.ensures.word) in
     (second.0, second.1 ∙ first.1, second.2 ∙ first.2)

@@ -36,16 +36,14 @@ returns-clause-terms g c =
 pub returns-in_err-place-clause-known : goal.returns-in_err-place-clause-known
 returns-in_err-place-clause-known g c p s =
     let old = g.I.Interner.list c.args.pass.now in
-    let wf = formed_before old (g.I.Interner.list c.text.new.pass) c.in_err-place.ensures.longer c.in_err-place.ensures.formed in
-    let at = text_there old wf c.args.kind c.requires p c.args.t.now s in
+    let at = text_there old (formed_before old (g.I.Interner.list c.text.new.pass) c.in_err-place.ensures.longer c.in_err-place.ensures.formed) c.args.kind c.requires p c.args.t.now s in
     absurd (false≢true (c.in_err-place.ensures.known at.0 at.1).0)
 
 pub returns-clause-known : goal.returns-clause-known
 returns-clause-known g c p s =
     let old = g.I.Interner.list c.args.pass.now in
     let mid = g.I.Interner.list c.text.new.pass in
-    let wf = formed_before old mid c.in_ok-place.ensures.longer c.in_ok-place.ensures.formed in
-    let at = text_there old wf c.args.kind c.requires p c.args.t.now s in
+    let at = text_there old (formed_before old mid c.in_ok-place.ensures.longer c.in_ok-place.ensures.formed) c.args.kind c.requires p c.args.t.now s in
     let first = c.in_ok-place.ensures.known at.0 at.1 in
     let still = subst (λ ws. StandsAt ws p (IsTerm (text_term c.args.kind c.args.t.now))) (sym first.1) s in
     let again = text_there mid c.in_ok-place.ensures.formed c.args.kind c.requires p c.args.t.now still in

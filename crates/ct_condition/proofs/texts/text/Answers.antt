@@ -33,8 +33,7 @@ loop-character-init g c = record {
   spelled = ap (λ s. s.rest.now) c.into_iter-character-iterator.ensures.into_iter_gives ∙ c.chars-character-items.ensures.rest;
   known = λ p is.
       let old = g.I.Interner.list c.args.pass.now in
-      let wf = formed_before old (g.I.Interner.list c.put.new.pass) c.in_ok-place.ensures.longer c.in_ok-place.ensures.formed in
-      let after = c.in_ok-place.ensures.known (ends_there old wf p c.args.text.now is) in
+      let after = c.in_ok-place.ensures.known (ends_there old (formed_before old (g.I.Interner.list c.put.new.pass) c.in_ok-place.ensures.longer c.in_ok-place.ensures.formed) p c.args.text.now is) in
       (after.1, after.2);
   made = omega (arith, c.in_ok-place.ensures.made);
   kept = c.in_ok-place.ensures.kept;
@@ -96,8 +95,7 @@ pub returns-in_err-place-2-clause-err : goal.returns-in_err-place-2-clause-err
 returns-in_err-place-2-clause-err g c =
     let most = spelled_before c.loop-character.yielded c.loop-character.character-iterator.rest.now c.next.new.self.rest.now c.args.text.now c.in-Some.character
     c.loop-character.invariant.spelled c.in-Some.ensures.steps.0 in
-    let p = err_from_is_err_and c.from_residual-in_err-place-2.result c.from_residual-in_err-place-2.ensures.1 in
-    rw p.1 (omega (arith, c.in_err-place-2.ensures.err))
+    rw (err_from_is_err_and c.from_residual-in_err-place-2.result c.from_residual-in_err-place-2.ensures.1).1 (omega (arith, c.in_err-place-2.ensures.err))
 
 pub returns-clause-made : goal.returns-clause-made
 returns-clause-made g c =

@@ -6,13 +6,12 @@ pub loop-earlier-preserved : goal.loop-earlier-preserved
 loop-earlier-preserved c =
     let loop = c.loop-earlier.invariant in
     let more = c.push_reserved.ensures.items in
-    let capacity = c.push_reserved.ensures.capacity in
     let room = loop.room in
     record {
       count = ap length more ∙ omega (arith, loop.count, length-append c.loop-earlier.worths.items (c.in_ok-worth.worth ∷ []));
       worths = subst (HaveWorths c.args.words.now c.args.nulls.now.steps.keys c.args.world.now) (sym more)
           (have_more c.args.words.now c.args.nulls.now.steps.keys c.args.world.now c.loop-earlier.worths.items c.in_ok-worth.worth c.loop-earlier.earlier loop.count loop.worths c.in_ok-worth.ensures);
-      room = omega (arith, room, capacity);
+      room = omega (arith, room, c.push_reserved.ensures.capacity);
     }
 
 pub worth_at-requires-clause-worths : goal.worth_at-requires-clause-worths

@@ -42,20 +42,15 @@ pub returns-clause-tuples : goal.returns-clause-tuples
 returns-clause-tuples g c v =
     let old = g.I.Interner.list c.args.pass.now in
     let new = g.I.Interner.list c.merged.new.pass in
-    let rows = c.args.table.now.rows in
     let more = c.args.rows.now in
     let whole = listed g (goal.at.returns-clause-tuples g c).After-merged in
-    subst (λ l. IfOk c.merged.result (λ out. SameSet (value_of_rows new v out.rows) l)) (ap (value_of_rows old v) whole ∙ value-append old v rows more) (c.merged.ensures.tuples v)
+    subst (λ l. IfOk c.merged.result (λ out. SameSet (value_of_rows new v out.rows) l)) (ap (value_of_rows old v) whole ∙ value-append old v c.args.table.now.rows more) (c.merged.ensures.tuples v)
 
 pub returns-clause-order : goal.returns-clause-order
 returns-clause-order g c =
     let old = g.I.Interner.list c.args.pass.now in
-    let new = g.I.Interner.list c.merged.new.pass in
-    let rows = c.args.table.now.rows in
-    let more = c.args.rows.now in
-    let whole = listed g (goal.at.returns-clause-order g c).After-merged in
-    subst (λ l. IfOk c.merged.result (λ out. IsSublist (cells_of new out.rows) (firsts same_cells l)))
-    (ap (cells_of old) whole ∙ map-append (λ (r : CRow). map (term_at old) r.cells) rows more) c.merged.ensures.order
+    subst (λ l. IfOk c.merged.result (λ out. IsSublist (cells_of (g.I.Interner.list c.merged.new.pass) out.rows) (firsts same_cells l)))
+    (ap (cells_of old) (listed g (goal.at.returns-clause-order g c).After-merged) ∙ map-append (λ (r : CRow). map (term_at old) r.cells) c.args.table.now.rows c.args.rows.now) c.merged.ensures.order
 
 pub returns-clause-part : goal.returns-clause-part
 returns-clause-part g c =

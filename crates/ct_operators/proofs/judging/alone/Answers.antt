@@ -1,4 +1,4 @@
-use Rattle.std.{proofs.Common.{◌≡◌, not, ◌&&◌, ◌∷◌, ◌++◌, length, take, ap, sym, subst, refl, arith, inl, inr}, specs.Prelude.{All, IsTrue, ◌⊎◌}}
+use Rattle.std.{proofs.Common.{ℕ, List, not, ◌&&◌, ◌∷◌, ◌++◌, length, take, ap, sym, subst, refl, arith, inl, inr}, specs.Prelude.{All, IsTrue, ◌⊎◌}}
 use Rattle.std.{proofs.lemmas.List.take_all, proofs.lemmas.Result.err_from_is_err_and}
 use Rattle.ct_word.{specs.Condition.holds_at, specs.Reading.condition_at, specs.WellFormed.is_place_of, specs.declared.values.Term.Term}
 use Rattle.ct_word.proofs.Prefixes.{prefix_of_prefix, place_in_prefix, place_within}
@@ -26,10 +26,8 @@ loop-other-init g c =
 
 pub shown_as-requires-clause-cells : goal.shown_as-requires-clause-cells
 shown_as-requires-clause-cells g c =
-    let old = g.I.Interner.list c.args.pass.now in
-    let now = g.I.Interner.list c.loop-other.pass in
-    let row = c.args.row.now in
-    subst (All (λ p. IsTrue (is_place_of now class.Term p))) (sym c.as_slice.ensures) (is_row_grows old now c.loop-other.invariant.writes.longer c.words.ensures.formed (length row.cells) row c.requires.row).terms
+    subst (All (λ p. IsTrue (is_place_of (g.I.Interner.list c.loop-other.pass) class.Term p))) (sym c.as_slice.ensures)
+    (is_row_grows _ _ c.loop-other.invariant.writes.longer c.words.ensures.formed _ _ c.requires.row).terms
 
 pub shown_as-requires-clause-other : goal.shown_as-requires-clause-other
 shown_as-requires-clause-other g c =
@@ -40,10 +38,7 @@ not-requires g c = record { condition = c.in_ok-there.ensures.holds.class }
 
 pub and-requires-clause-left : goal.and-requires-clause-left
 and-requires-clause-left g c =
-    let now = g.I.Interner.list c.loop-other.pass in
-    let there = g.I.Interner.list c.shown_as.new.pass in
-    let absent = g.I.Interner.list c.not.new.pass in
-    place_in_prefix now absent class.Cond c.loop-other.cond (prefix_of_prefix now there absent c.in_ok-there.ensures.writes.longer c.not.ensures.longer) c.loop-other.invariant.holds.class
+    place_in_prefix _ _ class.Cond c.loop-other.cond (prefix_of_prefix _ _ _ c.in_ok-there.ensures.writes.longer c.not.ensures.longer) c.loop-other.invariant.holds.class
 
 pub and-requires-clause-right : goal.and-requires-clause-right
 and-requires-clause-right g c = c.in_ok-absent.ensures.truth.class
@@ -70,8 +65,7 @@ loop-other-preserved g c =
           (subst (λ cs. HoldsWhere m1 c.in_ok-there.there (λ v. holds_at v (condition_at now s.cond) && same_worth now s.cells cs v)) c.as_slice.ensures c.in_ok-there.ensures.holds)
           c.in_ok-absent.ensures.truth c.in_ok-cond.ensures.truth);
       writes =
-          let wide : length c.as_slice.result.now ≡ length row.cells = ap (λ l. length l) c.as_slice.ensures in
-          writes_more _ i c.loop-other.invariant.writes (writes_within _ (omega (arith, wide)) (writes_both c.in_ok-there.ensures.writes (writes_both c.in_ok-absent.ensures.writes c.in_ok-cond.ensures.writes)));
+          writes_more _ i c.loop-other.invariant.writes (writes_within _ (omega (arith, ap (λ (l : List ℕ). length l) c.as_slice.ensures)) (writes_both c.in_ok-there.ensures.writes (writes_both c.in_ok-absent.ensures.writes c.in_ok-cond.ensures.writes)));
       from = from_two m2 new c.loop-other.cond c.in_ok-absent.absent c.in_ok-cond.cond source
           (from_later now m2 (prefix_of_prefix now m1 m2 c.in_ok-there.ensures.writes.longer c.not.ensures.longer) c.loop-other.invariant.writes.formed c.loop-other.cond source
           (place_within now class.Cond c.loop-other.cond c.loop-other.invariant.holds.class) c.loop-other.invariant.from)
@@ -85,12 +79,8 @@ loop-other-preserved g c =
 
 pub returns-then-cond-eq-FALSE_PLACE-clause-holds : goal.returns-then-cond-eq-FALSE_PLACE-clause-holds
 returns-then-cond-eq-FALSE_PLACE-clause-holds g c =
-    let old = g.I.Interner.list c.args.pass.now in
-    let now = g.I.Interner.list c.loop-other.pass in
-    let row = c.args.row.now in
-    alone_never old now c.args.others.now c.loop-other.other-index c.loop-other.cond row.cells (λ v. holds_at v (condition_at old row.cond))
-    (prefix_of_prefix _ old now c.words.ensures.begins c.loop-other.invariant.writes.longer) c.loop-other.invariant.writes.formed
-    c.if-cond-eq-FALSE_PLACE.true c.loop-other.invariant.holds
+    alone_never (g.I.Interner.list c.args.pass.now) _ c.args.others.now c.loop-other.other-index c.loop-other.cond c.args.row.now.cells (λ v. holds_at v (condition_at (g.I.Interner.list c.args.pass.now) c.args.row.now.cond))
+    (prefix_of_prefix _ _ _ c.words.ensures.begins c.loop-other.invariant.writes.longer) c.loop-other.invariant.writes.formed c.if-cond-eq-FALSE_PLACE.true c.loop-other.invariant.holds
 
 pub returns-clause-holds : goal.returns-clause-holds
 returns-clause-holds g c =
@@ -101,18 +91,15 @@ returns-clause-holds g c =
 
 pub returns-in_err-there-clause-writes : goal.returns-in_err-there-clause-writes
 returns-in_err-there-clause-writes g c =
-    let wide : length c.as_slice.result.now ≡ length c.args.row.now.cells = ap (λ l. length l) c.as_slice.ensures in
-    rw (err_from_is_err_and c.from_residual.result c.from_residual.ensures.1).1 (writes_last _ _ c.loop-other.invariant.writes _ c.loop-other-test.true (writes_within _ (omega (arith, wide)) c.in_err-there.ensures.writes))
+    rw (err_from_is_err_and c.from_residual.result c.from_residual.ensures.1).1 (writes_last _ _ c.loop-other.invariant.writes _ c.loop-other-test.true (writes_within _ (omega (arith, ap (λ (l : List ℕ). length l) c.as_slice.ensures)) c.in_err-there.ensures.writes))
 
 pub returns-in_err-absent-clause-writes : goal.returns-in_err-absent-clause-writes
 returns-in_err-absent-clause-writes g c =
-    let wide : length c.as_slice.result.now ≡ length c.args.row.now.cells = ap (λ l. length l) c.as_slice.ensures in
-    rw (err_from_is_err_and c.from_residual-in_err-absent.result c.from_residual-in_err-absent.ensures.1).1 (writes_last _ _ c.loop-other.invariant.writes _ c.loop-other-test.true (writes_within _ (omega (arith, wide)) (writes_both c.in_ok-there.ensures.writes c.in_err-absent.ensures.writes)))
+    rw (err_from_is_err_and c.from_residual-in_err-absent.result c.from_residual-in_err-absent.ensures.1).1 (writes_last _ _ c.loop-other.invariant.writes _ c.loop-other-test.true (writes_within _ (omega (arith, ap (λ (l : List ℕ). length l) c.as_slice.ensures)) (writes_both c.in_ok-there.ensures.writes c.in_err-absent.ensures.writes)))
 
 pub returns-in_err-cond-clause-writes : goal.returns-in_err-cond-clause-writes
 returns-in_err-cond-clause-writes g c =
-    let wide : length c.as_slice.result.now ≡ length c.args.row.now.cells = ap (λ l. length l) c.as_slice.ensures in
-    rw (err_from_is_err_and c.from_residual-in_err-cond.result c.from_residual-in_err-cond.ensures.1).1 (writes_last _ _ c.loop-other.invariant.writes _ c.loop-other-test.true (writes_within _ (omega (arith, wide)) (writes_both c.in_ok-there.ensures.writes (writes_both c.in_ok-absent.ensures.writes c.in_err-cond.ensures.writes))))
+    rw (err_from_is_err_and c.from_residual-in_err-cond.result c.from_residual-in_err-cond.ensures.1).1 (writes_last _ _ c.loop-other.invariant.writes _ c.loop-other-test.true (writes_within _ (omega (arith, ap (λ (l : List ℕ). length l) c.as_slice.ensures)) (writes_both c.in_ok-there.ensures.writes (writes_both c.in_ok-absent.ensures.writes c.in_err-cond.ensures.writes))))
 
 pub returns-clause-writes : goal.returns-clause-writes
 returns-clause-writes g c = writes_all _ _ c.loop-other.invariant.writes _ c.loop-other.auto.other-index-end

@@ -1,8 +1,8 @@
-use Rattle.std.{proofs.Common.{length, take, subst, refl, arith, inr}, specs.Prelude.{IsTrue, ◌⊎◌}, proofs.lemmas.List.take_all}
-use Rattle.std.{proofs.lemmas.Result.err_from_is_err_and, proofs.lemmas.List.Elements.All-weaker}
-use Rattle.ct_word.{specs.WellFormed.is_place_of, specs.declared.values.Term.Term, proofs.Prefixes.{place_in_prefix, place_within}}
+use Rattle.std.{proofs.Common.{length, take, subst, refl, arith, inr}, specs.Prelude.{◌⊎◌}, proofs.lemmas.List.take_all}
+use Rattle.std.proofs.lemmas.Result.{err_from_is_err_and}
+use Rattle.ct_word.{specs.declared.values.Term.Term, proofs.Prefixes.{place_in_prefix, place_within}}
 use Rattle.ct_condition.{proofs.Writes.{writes_none, writes_both, writes_within, writes_more, writes_all, writes_last}, specs.Terms.BelowSome}
-use Rattle.ct_condition.proofs.Denied.{below_literal}
+use Rattle.ct_condition.{proofs.Denied.below_literal, proofs.OnRows.places_in_prefix}
 use Rattle.ct_operators.{specs.Building.HoldsWhere, specs.Matching.is_among, proofs.Selecting.{Turn, turn}, specs.Terms.TermOfRows, proofs.Holding.holds_false}
 use Rattle.ct_operators.{proofs.Comparing.any_more, proofs.Reaching.{from_two, from_later, shown_from}, proofs.judging.among.Goals.After-shown_as}
 use Rattle.ct_word.specs.declared.kinds.Class.TheVariants as class
@@ -22,10 +22,7 @@ loop-other-init g c = record {
 }
 
 pub shown_as-requires-clause-cells : goal.shown_as-requires-clause-cells
-shown_as-requires-clause-cells g c =
-    let old = g.I.Interner.list c.args.pass.now in
-    let now = g.I.Interner.list c.loop-other.pass in
-    All-weaker (λ p. IsTrue (is_place_of old class.Term p)) (λ p. IsTrue (is_place_of now class.Term p)) (λ p h. place_in_prefix old now class.Term p c.loop-other.invariant.writes.longer h) c.args.cells.now c.requires.cells
+shown_as-requires-clause-cells g c = places_in_prefix _ _ c.args.cells.now c.loop-other.invariant.writes.longer c.requires.cells
 
 pub shown_as-requires-clause-other : goal.shown_as-requires-clause-other
 shown_as-requires-clause-other g c =

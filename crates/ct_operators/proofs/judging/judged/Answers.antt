@@ -44,5 +44,4 @@ returns-clause-err g c =
 
 pub returns-clause-placed : goal.returns-clause-placed
 returns-clause-placed g c =
-    let fewer = first_fewer (g.I.Interner.list c.passing.new.pass) (g.I.Interner.list c.and.new.pass) c.and.ensures.longer c.args.test in
-    on_ok c.and.result (omega (arith, fewer, c.in_ok-place.ensures.placed))
+    on_ok c.and.result (omega (arith, first_fewer (g.I.Interner.list c.passing.new.pass) (g.I.Interner.list c.and.new.pass) c.and.ensures.longer c.args.test, c.in_ok-place.ensures.placed))

@@ -1,5 +1,5 @@
 use Rattle.std.{proofs.Common.{◌≡◌, ◌≤◌, ◌<◌, ℕ, length, take, get_or, sym, subst, refl, rules, arith, ◌+◌, ◌-◌, ◌*◌, ◌++◌, inl}, specs.Prelude.IsTrue}
-use Rattle.std.{specs.Option.IsSome, proofs.lemmas.List.{take_all, length_push}, proofs.lemmas.List.Elements.{All-get_or, All-contains}}
+use Rattle.std.{specs.Option.IsSome, proofs.lemmas.List.{take_all, length_push}, proofs.lemmas.List.Elements.All-contains}
 use Rattle.std.{proofs.lemmas.Result.err_from_is_err_and, proofs.lemmas.Slice.Zip.{zip_turn, zip_end}}
 use Rattle.ct_word.{specs.WellFormed.is_place_of, proofs.Prefixes.{place_in_prefix, place_within}}
 use Rattle.ct_condition.{specs.Folding.folded_and, specs.Terms.BelowSome, proofs.Denied.below_literal, proofs.Writes.{writes_none, writes_both, writes_within}}
@@ -31,19 +31,15 @@ loop-s-init g c = record {
 
 pub eq-requires-clause-left : goal.eq-requires-clause-left
 eq-requires-clause-left g c =
-    let old = g.I.Interner.list c.args.pass.now in
-    let p = c.in-Some.s.now in
     let t = turn g (goal.at.eq-requires-clause-left g c).In-Some in
-    place_in_prefix old (g.I.Interner.list c.loop-s.pass) class.Term p c.loop-s.invariant.writes.longer
-    (subst (λ q. IsTrue (is_place_of old class.Term q)) (sym (t.2 p)) (All-get_or (λ q. IsTrue (is_place_of old class.Term q)) c.args.left.now (length c.loop-s.yielded) p t.0 c.requires.left))
+    place_in_prefix _ _ class.Term c.in-Some.s.now c.loop-s.invariant.writes.longer
+    (All-contains (λ p. IsTrue (is_place_of (g.I.Interner.list c.args.pass.now) class.Term p)) c.args.left.now c.in-Some.s.now c.requires.left (length c.loop-s.yielded, t.0, sym (t.2 c.in-Some.s.now)))
 
 pub eq-requires-clause-right : goal.eq-requires-clause-right
 eq-requires-clause-right g c =
-    let old = g.I.Interner.list c.args.pass.now in
-    let p = c.in-Some.t.now in
     let t = turn g (goal.at.eq-requires-clause-right g c).In-Some in
-    place_in_prefix old (g.I.Interner.list c.loop-s.pass) class.Term p c.loop-s.invariant.writes.longer
-    (subst (λ q. IsTrue (is_place_of old class.Term q)) (sym (t.3 p)) (All-get_or (λ q. IsTrue (is_place_of old class.Term q)) c.args.right.now (length c.loop-s.yielded) p t.1 c.requires.right))
+    place_in_prefix _ _ class.Term c.in-Some.t.now c.loop-s.invariant.writes.longer
+    (All-contains (λ p. IsTrue (is_place_of (g.I.Interner.list c.args.pass.now) class.Term p)) c.args.right.now c.in-Some.t.now c.requires.right (length c.loop-s.yielded, t.1, sym (t.3 c.in-Some.t.now)))
 
 pub and-requires-clause-left : goal.and-requires-clause-left
 and-requires-clause-left g c =
@@ -97,18 +93,15 @@ returns-clause-holds g c =
 
 pub returns-clause-writes : goal.returns-clause-writes
 returns-clause-writes g c =
-    let e = ended g (goal.at.returns-clause-writes g c).In-None in
-    writes_within _ (omega (arith, e, c.requires.lengths)) c.loop-s.invariant.writes
+    writes_within _ (omega (arith, ended g (goal.at.returns-clause-writes g c).In-None, c.requires.lengths)) c.loop-s.invariant.writes
 
 pub returns-clause-spare : goal.returns-clause-spare
 returns-clause-spare g c =
-    let e = ended g (goal.at.returns-clause-spare g c).In-None in
-    omega (arith, e, c.requires.lengths, c.loop-s.invariant.spare)
+    omega (arith, ended g (goal.at.returns-clause-spare g c).In-None, c.requires.lengths, c.loop-s.invariant.spare)
 
 pub returns-clause-none : goal.returns-clause-none
 returns-clause-none g c z =
-    let e = ended g (goal.at.returns-clause-none g c).In-None in
-    c.loop-s.invariant.none (omega (arith, e, c.requires.lengths, z))
+    c.loop-s.invariant.none (omega (arith, ended g (goal.at.returns-clause-none g c).In-None, c.requires.lengths, z))
 
 pub returns-in_err-same-clause-writes : goal.returns-in_err-same-clause-writes
 returns-in_err-same-clause-writes g c =

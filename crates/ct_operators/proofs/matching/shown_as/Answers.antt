@@ -7,8 +7,7 @@ use Rattle.ct_operators.proofs.matching.shown_as.Goals as goal
 
 pub returns-then-differ-clause-holds : goal.returns-then-differ-clause-holds
 returns-then-differ-clause-holds g c =
-    let old = g.I.Interner.list c.args.pass.now in
-    shown_never old c.args.other.now.cells c.args.cells.now c.args.other.now.cond c.words.ensures.begins c.words.ensures.formed
+    shown_never (g.I.Interner.list c.args.pass.now) c.args.other.now.cells c.args.cells.now c.args.other.now.cond c.words.ensures.begins c.words.ensures.formed
     (λ v. subst (λ ws. same_worth ws c.args.other.now.cells c.args.cells.now v ≡ false) c.words.ensures.words
     (subst (λ ps. same_worth c.words.result.now ps c.args.cells.now v ≡ false) c.as_slice-theirs.ensures (c.differ.ensures c.if-differ.true v)))
 

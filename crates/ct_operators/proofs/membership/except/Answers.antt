@@ -17,10 +17,8 @@ returns-clause-terms g c = from_both _ _ c.sifted.result c.args.left.now.rows c.
 
 pub returns-clause-made : goal.returns-clause-made
 returns-clause-made g c =
-    let sum = all_words (length c.args.left.now.rows) (2 * length c.args.left.now.columns + 2) c.args.right.now.rows c.as_slice.result.now c.as_slice.ensures in
-    omega (arith, sum, c.sifted.ensures.made)
+    omega (arith, all_words (length c.args.left.now.rows) (2 * length c.args.left.now.columns + 2) c.args.right.now.rows c.as_slice.result.now c.as_slice.ensures, c.sifted.ensures.made)
 
 pub returns-clause-fewer : goal.returns-clause-fewer
 returns-clause-fewer g c e =
-    let sum = all_words (length c.args.left.now.rows) (2 * length c.args.left.now.columns + 2) c.args.right.now.rows c.as_slice.result.now c.as_slice.ensures in
-    omega (arith, sum, c.sifted.ensures.fewer e)
+    omega (arith, all_words (length c.args.left.now.rows) (2 * length c.args.left.now.columns + 2) c.args.right.now.rows c.as_slice.result.now c.as_slice.ensures, c.sifted.ensures.fewer e)

@@ -47,8 +47,7 @@ loop-row-preserved g c =
     let n = length c.loop-row.yielded in
     let r = c.in-Some.row in
     let so_far = c.loop-row.invariant.gathers in
-    let turn = (goal.at.loop-row-preserved g c).After-merge_row in
-    let at = this g turn in
+    let at = this g (goal.at.loop-row-preserved g c).After-merge_row in
     let done : take n all ++ r ∷ [] ≡ take (length (c.loop-row.yielded ++ r ∷ [])) all = at.done ∙ ap (λ k. take k all) (sym (length_push c.loop-row.yielded r)) in
     record {
       gathers = subst (λ d. Gathers old new width d (rows_of c.merge_row.new.rows.entries)) done
@@ -74,8 +73,7 @@ all g c = gathers_all _ _ _ (length c.loop-row.yielded) c.args.rows.items _ (end
 made : (g : _) (c : After-words-2 g)
     → g.I.Interner.made c.loop-row.pass + length (firsts same_cells (cells_of (g.I.Interner.list c.args.pass.now) c.args.rows.items)) ≤ g.I.Interner.made c.args.pass.now + length c.args.rows.items
 made g c =
-    let old = g.I.Interner.list c.args.pass.now in
-    subst (λ d. g.I.Interner.made c.loop-row.pass + length (firsts same_cells (cells_of old d)) ≤ g.I.Interner.made c.args.pass.now + length d)
+    subst (λ d. g.I.Interner.made c.loop-row.pass + length (firsts same_cells (cells_of (g.I.Interner.list c.args.pass.now) d)) ≤ g.I.Interner.made c.args.pass.now + length d)
     (take_all (length c.loop-row.yielded) c.args.rows.items (ended g c)) c.loop-row.invariant.made
 
 pub returns-clause-rows : goal.returns-clause-rows

@@ -1,4 +1,4 @@
-use Rattle.std.{proofs.Common.{◌≤◌, ◌+◌, ◌∙◌, [], ◌∷◌, ◌++◌, length, map, take, ap, sym, subst}, specs.Prelude.All, proofs.lemmas.List.take_all}
+use Rattle.std.{proofs.Common.{◌≤◌, ◌+◌, [], ◌∷◌, ◌++◌, length, map, take, sym, subst}, specs.Prelude.All, proofs.lemmas.List.take_all}
 use Rattle.std.{proofs.lemmas.List.Elements.All-cons, proofs.lemmas.Result.err_from_is_err_and}
 use Rattle.ct_word.{specs.Reading.term_at, proofs.Prefixes.place_in_prefix, specs.Stands.HasNoColumn}
 use Rattle.ct_operators.{specs.Tables.{cells_of, value_of_rows}, specs.Building.Builds, proofs.Selecting.{Turn, turn}, proofs.Pairing.{no_pairs, pairs_more}}
@@ -36,7 +36,6 @@ and-requires-clause-right g c = (turn _ _ _ _ _ _ c.loop-other.invariant.builds.
 pub loop-other-preserved : goal.loop-other-preserved
 loop-other-preserved g c =
     let old = g.I.Interner.list c.args.pass.now in
-    let now = g.I.Interner.list c.loop-other.pass in
     let new = g.I.Interner.list c.and.new.pass in
     let m = length c.args.row.now.cells in
     let n = length c.args.right.now.columns in
@@ -49,10 +48,10 @@ loop-other-preserved g c =
     let at = this g (goal.at.loop-other-preserved g c).After-and in
     let source = TermOfRows old (l ∷ rows) in
     record {
-      builds = subst (λ d. Builds old new (m + n) (map (λ c. map (term_at old) l.cells ++ c) (cells_of old d)) (λ v. joins (value_of_rows old v (l ∷ [])) (value_of_rows old v d)) source c.push.new.self.items) at.done
+      builds = subst (λ d. Builds old new (m + n) (map (λ c. map (term_at old) l.cells ++ c) (cells_of old d)) (λ v. joins (value_of_rows old v (l ∷ [])) (value_of_rows old v d)) source c.push_joined.new.to.items) at.done
           (subst (λ r. Builds old new (m + n) (map (λ c. map (term_at old) l.cells ++ c) (cells_of old (take i rows ++ s ∷ []))) (λ v. joins (value_of_rows old v (l ∷ [])) (value_of_rows old v (take i rows ++ s ∷ []))) source r)
-          (ap (λ u. out ++ u ∷ []) (sym c.in_ok-joined.ensures) ∙ sym c.in_ok-push.ensures.items)
-          (pairs_more old l m n now new c.words-in-loop-other.ensures.formed source
+          (sym c.in_ok-push_joined.ensures)
+          (pairs_more old l m n (g.I.Interner.list c.loop-other.pass) new c.words-in-loop-other.ensures.formed source
           (none_of_rows old (l ∷ rows) (All-cons (λ r. All (HasNoColumn old) (r.cond ∷ r.cells)) l rows c.requires.row.plain (plain_rows old n rows c.requires.right.each)))
           (take i rows) out so_far c.and.ensures.longer c.requires.row (row_itself old (l ∷ rows) l (foremost l rows)) s at.was (row_itself old (l ∷ rows) s (behind l rows s at.among))
           c.in_ok-cond.cond c.in_ok-cond.ensures.truth c.in_ok-cond.ensures.terms));
@@ -80,12 +79,7 @@ returns-in_err-cond-clause-writes g c =
     let exit = err_from_is_err_and c.from_residual.result c.from_residual.ensures.1 in
     rw (exit.1, exit.2) (writes_as (mul_one _) (writes_last 1 _ c.loop-other.invariant.writes _ (this g (goal.at.returns-in_err-cond-clause-writes g c).After-and).within c.in_err-cond.ensures.writes))
 
-pub returns-in_err-joined-clause-writes : goal.returns-in_err-joined-clause-writes
-returns-in_err-joined-clause-writes g c =
-    let exit = err_from_is_err_and c.from_residual-in_err-joined.result c.from_residual-in_err-joined.ensures.1 in
-    rw (exit.1, exit.2) (writes_as (mul_one _) (writes_last 1 _ c.loop-other.invariant.writes _ (this g (goal.at.returns-in_err-joined-clause-writes g c).After-and).within c.in_ok-cond.ensures.writes))
-
-pub returns-in_err-push-clause-writes : goal.returns-in_err-push-clause-writes
-returns-in_err-push-clause-writes g c =
-    let exit = err_from_is_err_and c.from_residual-in_err-push.result c.from_residual-in_err-push.ensures.1 in
-    rw (exit.1, exit.2) (writes_as (mul_one _) (writes_last 1 _ c.loop-other.invariant.writes _ (this g (goal.at.returns-in_err-push-clause-writes g c).After-and).within c.in_ok-cond.ensures.writes))
+pub returns-in_err-push_joined-clause-writes : goal.returns-in_err-push_joined-clause-writes
+returns-in_err-push_joined-clause-writes g c =
+    let exit = err_from_is_err_and c.from_residual-in_err-push_joined.result c.from_residual-in_err-push_joined.ensures.1 in
+    rw (exit.1, exit.2) (writes_as (mul_one _) (writes_last 1 _ c.loop-other.invariant.writes _ (this g (goal.at.returns-in_err-push_joined-clause-writes g c).After-and).within c.in_ok-cond.ensures.writes))

@@ -40,7 +40,6 @@ loop-row-preserved g c =
     let others = c.args.right.now.rows in
     let i = c.loop-row.row-index in
     let l = c.row-item.result in
-    let out = c.loop-row.pairs.items in
     let added = c.in_ok-more.more.items in
     let so_far = c.loop-row.invariant.builds in
     let at = this g (goal.at.loop-row-preserved g c).After-pair_row in
@@ -52,7 +51,7 @@ loop-row-preserved g c =
       builds = subst (λ d. Builds old new (m + n) (joins (cells_of old d) (cells_of old others)) (λ v. joins (value_of_rows old v d) (value_of_rows old v others)) source c.append.new.self.items) at.done
           (subst (λ r. Builds old new (m + n) (joins (cells_of old (take i rows ++ l ∷ [])) (cells_of old others)) (λ v. joins (value_of_rows old v (take i rows ++ l ∷ [])) (value_of_rows old v others)) source r)
           (sym c.in_ok-append.ensures.items)
-          (all_pairs_more old now new c.words-in-loop-row.ensures.formed m n source (take i rows) others out added l so_far
+          (all_pairs_more old now new c.words-in-loop-row.ensures.formed m n source (take i rows) others c.loop-row.pairs.items added l so_far
           (pairs_before old now new m n others added l (TermOfRows now (l ∷ others)) source
           (of_either old now so_far.grown c.words.ensures.formed m n rows others l at.was at.among c.requires.right.each) so_far.grown at.was c.requires.right.each more)));
       writes = writes_more _ i c.loop-row.invariant.writes c.in_ok-more.ensures.writes;

@@ -9,9 +9,8 @@ use Rattle.ct_operators.proofs.products.product.Goals as goal
 
 pub merged-requires : goal.merged-requires
 merged-requires g c =
-    let mid = g.I.Interner.list c.pairs.new.pass in
     record {
-      rows = subst (λ n. All (IsRow mid n) c.in_ok-pairs.pairs.items)
+      rows = subst (λ n. All (IsRow (g.I.Interner.list c.pairs.new.pass) n) c.in_ok-pairs.pairs.items)
           (sym (ap (λ cs. length cs) c.in_ok-names.ensures ∙ length-append c.args.left.now.columns c.args.right.now.columns)) c.in_ok-pairs.ensures.pairs.each;
     }
 
@@ -34,9 +33,8 @@ returns-clause-part g c =
 -- pairs of rows of distinct cells have distinct cells
 apart : (g : _) (c : After-merged g) → length (firsts same_cells (cells_of (g.I.Interner.list c.pairs.new.pass) c.in_ok-pairs.pairs.items)) ≡ length c.in_ok-pairs.pairs.items
 apart g c =
-    let old = g.I.Interner.list c.args.pass.now in
     all_first (g.I.Interner.list c.pairs.new.pass) c.in_ok-pairs.pairs.items (subst (IsDistinct same_cells) (sym c.in_ok-pairs.ensures.pairs.cells_are)
-    (joined_apart old (length c.args.left.now.columns) (length c.args.right.now.columns) c.args.left.now.rows c.args.right.now.rows c.requires.left c.requires.right))
+    (joined_apart (g.I.Interner.list c.args.pass.now) (length c.args.left.now.columns) (length c.args.right.now.columns) c.args.left.now.rows c.args.right.now.rows c.requires.left c.requires.right))
 
 pub returns-clause-made : goal.returns-clause-made
 returns-clause-made g c = omega (arith, apart g (goal.at.returns-clause-made g c).After-merged, c.in_ok-pairs.ensures.writes.made, c.merged.ensures.made)

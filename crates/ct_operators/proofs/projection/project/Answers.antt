@@ -31,23 +31,17 @@ returns-clause-rows g c =
 pub returns-clause-tuples : goal.returns-clause-tuples
 returns-clause-tuples g c v =
     let old = g.I.Interner.list c.args.pass.now in
-    let new = g.I.Interner.list c.merged.new.pass in
-    let rows = c.args.table.now.rows in
-    let ks = c.args.columns.now in
-    subst (λ l. IfOk c.merged.result (λ out. SameSet (value_of_rows new v out.rows) l))
+    subst (λ l. IfOk c.merged.result (λ out. SameSet (value_of_rows (g.I.Interner.list c.merged.new.pass) v out.rows) l))
     (ap (value_of_rows old v) (c.in_ok-rows.ensures ∙ ap (map _) c.as_slice.ensures)
-    ∙ value_picked old (length c.args.table.now.columns) ks c.requires.columns v rows c.requires.rows.each)
+    ∙ value_picked old (length c.args.table.now.columns) c.args.columns.now c.requires.columns v c.args.table.now.rows c.requires.rows.each)
     (c.merged.ensures.tuples v)
 
 pub returns-clause-order : goal.returns-clause-order
 returns-clause-order g c =
     let old = g.I.Interner.list c.args.pass.now in
-    let new = g.I.Interner.list c.merged.new.pass in
-    let rows = c.args.table.now.rows in
-    let ks = c.args.columns.now in
-    subst (λ l. IfOk c.merged.result (λ out. IsSublist (cells_of new out.rows) (firsts same_cells l)))
+    subst (λ l. IfOk c.merged.result (λ out. IsSublist (cells_of (g.I.Interner.list c.merged.new.pass) out.rows) (firsts same_cells l)))
     (ap (cells_of old) (c.in_ok-rows.ensures ∙ ap (map _) c.as_slice.ensures)
-    ∙ cells_picked old (length c.args.table.now.columns) ks c.requires.columns rows c.requires.rows.each)
+    ∙ cells_picked old (length c.args.table.now.columns) c.args.columns.now c.requires.columns c.args.table.now.rows c.requires.rows.each)
     c.merged.ensures.order
 
 pub returns-clause-part : goal.returns-clause-part

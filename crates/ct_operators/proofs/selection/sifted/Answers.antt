@@ -6,7 +6,7 @@ use Rattle.ct_operators.{proofs.Adding.{made_more, made_within, made_fewer}, spe
 use Rattle.ct_operators.proofs.Selecting.{Turn, turn, Selects, selects_none, selects_more, selects_as_many, selected_rows, selected_values}
 use Rattle.ct_operators.specs.Judging.{passes, FitsTest, Further, first_words, test_words}
 use Rattle.ct_operators.proofs.Tests.{no_column, fits_later, words_later, judged_before, further_before}
-use Rattle.ct_operators.proofs.selection.sifted.Goals.{then-not-is_false+in_ok-under+in_ok-push, else-not-is_false, After-judged, After-from_vec}
+use Rattle.ct_operators.proofs.selection.sifted.Goals.{then-not-is_false+in_ok-push_under, else-not-is_false, After-judged, After-from_vec}
 use Rattle.ct_operators.proofs.selection.sifted.Goals as goal
 
 -- the row of a turn
@@ -26,10 +26,9 @@ each g c =
 made : (g : _) (c : After-judged g) → g.I.Interner.made c.judged.new.pass
     ≤ g.I.Interner.made c.args.pass.now + (first_words (g.I.Interner.list c.args.pass.now) c.args.test + length c.args.table.now.rows * (test_words (g.I.Interner.list c.args.pass.now) (length c.args.table.now.columns) c.args.test + 1))
 made g c =
-    let words = each g c in
     let most = made_within (test_words (g.I.Interner.list c.args.pass.now) (length c.args.table.now.columns) c.args.test + 1) c.args.table.now.rows c.loop-row.row-index (this g c).within
     (g.I.Interner.made c.args.pass.now + first_words (g.I.Interner.list c.args.pass.now) c.args.test) (g.I.Interner.made c.loop-row.pass + first_words (g.I.Interner.list c.loop-row.pass) c.args.test)
-    (g.I.Interner.made c.judged.new.pass) c.loop-row.invariant.made (omega (arith, words, c.judged.ensures.made)) in
+    (g.I.Interner.made c.judged.new.pass) c.loop-row.invariant.made (omega (arith, each g c, c.judged.ensures.made)) in
     omega (arith, most)
 
 pub loop-row-init : goal.loop-row-init
@@ -50,11 +49,10 @@ judged-requires-clause-row g c = (turn _ _ _ _ _ _ c.loop-row.invariant.selects.
 
 pub judged-requires-clause-fits : goal.judged-requires-clause-fits
 judged-requires-clause-fits g c =
-    let old = g.I.Interner.list c.args.pass.now in
     let now = g.I.Interner.list c.loop-row.pass in
     let at = turn _ _ _ _ _ _ c.loop-row.invariant.selects.grown c.words.ensures.formed c.requires.rows.each _ c.as_slice-row-items.ensures c.loop-row-test.true c.row-item.is in
     subst (λ n. FitsTest now n c.args.test) (sym at.was.width_is)
-    (fits_later old now c.loop-row.invariant.selects.grown c.words.ensures.formed (length c.args.table.now.columns) c.args.test c.requires.fits)
+    (fits_later (g.I.Interner.list c.args.pass.now) now c.loop-row.invariant.selects.grown c.words.ensures.formed (length c.args.table.now.columns) c.args.test c.requires.fits)
 
 pub loop-row-preserved : goal.loop-row-preserved
 loop-row-preserved g c =
@@ -72,7 +70,6 @@ loop-row-preserved g c =
     let formed = c.words.ensures.formed in
     let turn = (goal.at.loop-row-preserved g c).After-judged in
     let at = this g turn in
-    let words = each g turn in
     let chosen = judged_before old now so_far.grown formed width new x c.requires.fits r place at.was c.in_ok-place.ensures.holds in
     let source : Term → Type 0 = λ t. TermOfRows old rows t ⊎ Further old x t in
     let plain = no_column old width rows c.requires.rows.each x c.requires.fits in
@@ -85,9 +82,8 @@ loop-row-preserved g c =
     let as_many = selects_as_many old now new width (passes old x) source plain (take i rows) out so_far c.judged.ensures.longer c.words-in-loop-row.ensures.formed r at.was origin place chosen from in
     record {
       selects = subst (λ d. Selects old new width (passes old x) source d c.if-not-is_false.out.items) at.done (elim c.if-not-is_false.branch [
-        | then-not-is_false+in_ok-under+in_ok-push w ↦
-            subst (Selects old new width (passes old x) source (take i rows ++ r ∷ []))
-            (ap (λ u. out ++ u ∷ []) (sym w.in_ok-under.ensures) ∙ sym w.in_ok-push.ensures.items ∙ ap (λ v. v.items) (sym w.out-is))
+        | then-not-is_false+in_ok-push_under w ↦
+            subst (Selects old new width (passes old x) source (take i rows ++ r ∷ [])) (sym w.in_ok-push_under.ensures ∙ ap (λ v. v.items) (sym w.out-is))
             (more (λ p. false≢true (sym w.if-not-is_false.true ∙ c.is_false.ensures.decides.1 p)))
         | else-not-is_false w ↦
             subst (Selects old new width (passes old x) source (take i rows ++ r ∷ [])) (ap (λ v. v.items) (sym w.out-is)) (as_many (c.is_false.ensures.never w.if-not-is_false.false))
@@ -95,7 +91,7 @@ loop-row-preserved g c =
       room = c.is_false.ensures.room;
       made =
           made_more (test_words old width x + 1) rows i at.within (g.I.Interner.made c.args.pass.now + first_words old x) (g.I.Interner.made c.loop-row.pass + first_words now x)
-          (g.I.Interner.made c.judged.new.pass + first_words new x) c.loop-row.invariant.made (omega (arith, words, c.judged.ensures.made, c.in_ok-place.ensures.placed));
+          (g.I.Interner.made c.judged.new.pass + first_words new x) c.loop-row.invariant.made (omega (arith, each g turn, c.judged.ensures.made, c.in_ok-place.ensures.placed));
       kept = c.judged.ensures.kept ∙ c.loop-row.invariant.kept;
       lent = c.judged.ensures.lent ∙ c.loop-row.invariant.lent;
     }
@@ -135,11 +131,8 @@ returns-clause-made g c =
 pub returns-in_err-place-clause-made : goal.returns-in_err-place-clause-made
 returns-in_err-place-clause-made g c = made g (goal.at.returns-in_err-place-clause-made g c).After-judged
 
-pub returns-in_err-under-clause-made : goal.returns-in_err-under-clause-made
-returns-in_err-under-clause-made g c = made g (goal.at.returns-in_err-under-clause-made g c).After-judged
-
-pub returns-in_err-push-clause-made : goal.returns-in_err-push-clause-made
-returns-in_err-push-clause-made g c = made g (goal.at.returns-in_err-push-clause-made g c).After-judged
+pub returns-in_err-push_under-clause-made : goal.returns-in_err-push_under-clause-made
+returns-in_err-push_under-clause-made g c = made g (goal.at.returns-in_err-push_under-clause-made g c).After-judged
 
 pub returns-in_err-place-clause-fewer : goal.returns-in_err-place-clause-fewer
 returns-in_err-place-clause-fewer g c e =

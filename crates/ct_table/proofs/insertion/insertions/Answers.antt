@@ -22,21 +22,18 @@ returns-in-Some-clause-apart g c = rows_apart (g.I.Interner.list c.args.pass.now
 
 pub returns-in-Some-clause-inserted : goal.returns-in-Some-clause-inserted
 returns-in-Some-clause-inserted g c =
-    let old = g.I.Interner.list c.args.pass.now in
     let new = g.I.Interner.list c.prepared.new.pass in
-    let t = c.args.table.now in
     let s = c.in-Some.stored.now in
-    of_table s.columns s.entries t (ap (λ (x : CTable). x.columns) c.in-Some.ensures) (ap (λ (x : CTable). x.rows) c.in-Some.ensures)
-    (λ cs rs after. IfOk c.prepared.result (λ out. AreInserted old new (length cs) rs c.args.rows.now (after out.items))) c.prepared.ensures.inserted
+    of_table s.columns s.entries c.args.table.now (ap (λ (x : CTable). x.columns) c.in-Some.ensures) (ap (λ (x : CTable). x.rows) c.in-Some.ensures)
+    (λ cs rs after. IfOk c.prepared.result (λ out. AreInserted (g.I.Interner.list c.args.pass.now) new (length cs) rs c.args.rows.now (after out.items))) c.prepared.ensures.inserted
 
 pub returns-in_ok-stored-in-None-clause-apart : goal.returns-in_ok-stored-in-None-clause-apart
 returns-in_ok-stored-in-None-clause-apart g c = rows_apart (g.I.Interner.list c.args.pass.now) c.args.table.now.rows c.requires.table.distinct
 
 pub returns-in_ok-stored-in-None-clause-inserted : goal.returns-in_ok-stored-in-None-clause-inserted
 returns-in_ok-stored-in-None-clause-inserted g c =
-    let old = g.I.Interner.list c.args.pass.now in
     let new = g.I.Interner.list c.prepared-in-None.new.pass in
     let t = c.args.table.now in
     let s = c.in_ok-stored-in-None.stored in
     of_table s.columns s.entries t c.in_ok-stored-in-None.ensures.columns (ap rows_of c.in_ok-stored-in-None.ensures.entries ∙ rows_back t.rows)
-    (λ cs rs after. IfOk c.prepared-in-None.result (λ out. AreInserted old new (length cs) rs c.args.rows.now (after out.items))) c.prepared-in-None.ensures.inserted
+    (λ cs rs after. IfOk c.prepared-in-None.result (λ out. AreInserted (g.I.Interner.list c.args.pass.now) new (length cs) rs c.args.rows.now (after out.items))) c.prepared-in-None.ensures.inserted

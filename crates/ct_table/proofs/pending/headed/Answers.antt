@@ -12,6 +12,5 @@ returns-in-Some c t n is =
 
 pub returns-in-None : goal.returns-in-None
 returns-in-None c t n is =
-    let es = c.args.tables.now.entries in
     c.push_reserved.ensures.items ∙ ap (λ l. l ++ c.args.heading ∷ []) c.requires.headings
-    ∙ headed_last c.args.name.now t c.args.heading n is es (missing _ (sym c.in-None.ensures.found))
+    ∙ headed_last c.args.name.now t c.args.heading n is c.args.tables.now.entries (missing _ (sym c.in-None.ensures.found))

@@ -1,7 +1,7 @@
-use Rattle.std.{proofs.Common.{◌≡◌, ◌+◌, ◌∷◌, [], ◌++◌, None, Some, length, take, ap, sym, subst, ◌∙◌}, proofs.lemmas.Result.err_from_is_err_and}
-use Rattle.std.proofs.lemmas.List.{take_more, take_all, append_assoc, append-nil}
+use Rattle.std.{proofs.Common.{◌≡◌, ◌+◌, ◌∷◌, [], ◌++◌, None, Some, length, take, refl, ap, sym, subst, ◌∙◌}, proofs.lemmas.Result.err_from_is_err_and}
+use Rattle.std.proofs.lemmas.List.{take_all, append_assoc, append-nil}
 use Rattle.ct_condition.proofs.Writes.{writes_none, writes_as, writes_more, writes_last}
-use Rattle.ct_operators.{specs.Merging.{rows_of, Gathers}, proofs.Adding.mul_one, proofs.Selecting.row_at, proofs.Merges.gathers_more}
+use Rattle.ct_operators.{specs.Merging.{rows_of, Gathers}, proofs.Adding.mul_one, proofs.Selecting.turn, proofs.Merges.gathers_more}
 use Rattle.ct_table.{specs.Growing.{put_each, Apart, Fits, AreGathered}, proofs.Joining.gathers_rows}
 use Rattle.ct_table.proofs.preparing.gathered.Goals as goal
 
@@ -20,8 +20,7 @@ loop-row-init g c =
 
 pub insert_row-requires-clause-row : goal.insert_row-requires-clause-row
 insert_row-requires-clause-row g c =
-    (row_at (g.I.Interner.list c.args.pass.now) (g.I.Interner.list c.loop-row.pass) (length c.args.stored.now.columns) c.args.rows.now c.loop-row.row-index c.row-item-in-loop-row.result c.loop-row.invariant.writes.longer c.words.ensures.formed c.requires.rows
-    c.loop-row-test.true c.row-item-in-loop-row.is).1
+    (turn _ _ _ _ _ _ c.loop-row.invariant.writes.longer c.words.ensures.formed c.requires.rows c.args.rows.now refl c.loop-row-test.true c.row-item-in-loop-row.is).itself
 
 pub loop-row-preserved : goal.loop-row-preserved
 loop-row-preserved g c =
@@ -34,13 +33,12 @@ loop-row-preserved g c =
     let i = c.loop-row.row-index in
     let r = c.row-item-in-loop-row.result in
     let so_far = c.loop-row.invariant in
-    let is = (row_at old now width all i r so_far.writes.longer c.words.ensures.formed c.requires.rows c.loop-row-test.true c.row-item-in-loop-row.is).0 in
-    let done : (rows_of es ++ take i all) ++ r ∷ [] ≡ rows_of es ++ take (i + 1) all =
-    append_assoc (rows_of es) (take i all) (r ∷ []) ∙ ap (λ l. rows_of es ++ l) (ap (λ x. take i all ++ x ∷ []) c.row-item-in-loop-row.is ∙ sym (take_more all i r c.loop-row-test.true)) in
+    let at = turn old now width all i r so_far.writes.longer c.words.ensures.formed c.requires.rows all refl c.loop-row-test.true c.row-item-in-loop-row.is in
+    let done : (rows_of es ++ take i all) ++ r ∷ [] ≡ rows_of es ++ take (i + 1) all = append_assoc (rows_of es) (take i all) (r ∷ []) ∙ ap (λ l. rows_of es ++ l) at.done in
     record {
       writes = writes_more _ i so_far.writes c.in_ok-insert_row.ensures.writes;
       gathers = subst (λ d. Gathers old new width d (rows_of (put_each es c.insert_row.new.pending.entries))) done
-          (gathers_more old now new width (rows_of es ++ take i all) (rows_of (put_each es c.loop-row.pending.entries)) so_far.gathers c.in_ok-insert_row.ensures.writes.longer so_far.writes.formed r is
+          (gathers_more old now new width (rows_of es ++ take i all) (rows_of (put_each es c.loop-row.pending.entries)) so_far.gathers c.in_ok-insert_row.ensures.writes.longer so_far.writes.formed r at.was
           (rows_of (put_each es c.insert_row.new.pending.entries)) c.in_ok-insert_row.ensures.merged);
       apart = c.in_ok-insert_row.ensures.apart;
       fits = c.in_ok-insert_row.ensures.fits;

@@ -22,9 +22,8 @@ returns-clause-apart g c =
 
 pub returns-clause-fits : goal.returns-clause-fits
 returns-clause-fits g c =
-    let old = g.I.Interner.list c.args.pass.now in
     let new = g.I.Interner.list c.joint.new.pass in
     let es = c.args.stored.now.entries in
     let ps = c.args.pending.now.entries in
     let is = c.in_ok-insert.ensures.entries ∙ ap (λ (x : CRow). put ps x.cells x.cond) c.in_ok-new.ensures in
-    subst (Fits es) (sym is) (joins_fits old new es ps c.args.row.now c.in_ok-cond.cond c.requires.apart c.requires.possible c.requires.fits c.in_ok-cond.ensures.joins)
+    subst (Fits es) (sym is) (joins_fits (g.I.Interner.list c.args.pass.now) new es ps c.args.row.now c.in_ok-cond.cond c.requires.apart c.requires.possible c.requires.fits c.in_ok-cond.ensures.joins)

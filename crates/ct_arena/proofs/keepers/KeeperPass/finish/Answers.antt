@@ -29,15 +29,13 @@ read_rest-requires-clause-log g c = subst (λ n. IsLog n c.self.inside.words.ite
 pub returns-clause-counted : goal.returns-clause-counted
 returns-clause-counted g c =
     let at = goal.at.returns-clause-counted g c in
-    let whole = whole g at.After-read_rest (keeper g at.After-self) in
-    subst (λ (v : Keeping). length c.from_parts.result ≡ 2 + sum_by (λ t. t.made) v.ended) c.self.view_is (ap length c.from_parts.ensures ∙ whole.0)
+    subst (λ (v : Keeping). length c.from_parts.result ≡ 2 + sum_by (λ t. t.made) v.ended) c.self.view_is (ap length c.from_parts.ensures ∙ (whole g at.After-read_rest (keeper g at.After-self)).0)
 
 pub returns-clause-numbered : goal.returns-clause-numbered
 returns-clause-numbered g c =
     let at = goal.at.returns-clause-numbered g c in
-    let whole = whole g at.After-read_rest (keeper g at.After-self) in
     subst (λ (v : Keeping). All (λ t. AreNumbered t.session t.mine c.from_parts.result) v.ended) c.self.view_is
-    (subst (λ l. All (λ t. AreNumbered t.session t.mine l) c.self.inside.token.me.0.ended) (sym c.from_parts.ensures) whole.1)
+    (subst (λ l. All (λ t. AreNumbered t.session t.mine l) c.self.inside.token.me.0.ended) (sym c.from_parts.ensures) (whole g at.After-read_rest (keeper g at.After-self)).1)
 
 pub returns-clause-known : goal.returns-clause-known
 returns-clause-known g c =

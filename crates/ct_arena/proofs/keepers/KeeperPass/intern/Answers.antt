@@ -24,8 +24,7 @@ put-result-requires-clause-seat g c = (work g (goal.at.put-result-requires-claus
 
 pub put-result-requires-clause-own : goal.put-result-requires-clause-own
 put-result-requires-clause-own g c =
-    let work = work g (goal.at.put-result-requires-clause-own g c).After-guest in
-    subst (λ n. IsOwn n c.guest.inside.tally c.in-Some.list.words) (sym c.args.arena.now.room) work.own
+    subst (λ n. IsOwn n c.guest.inside.tally c.in-Some.list.words) (sym c.args.arena.now.room) (work g (goal.at.put-result-requires-clause-own g c).After-guest).own
 
 pub put-result-requires-clause-next : goal.put-result-requires-clause-next
 put-result-requires-clause-next g c = inl (plain g (goal.at.put-result-requires-clause-next g c).After-guest)

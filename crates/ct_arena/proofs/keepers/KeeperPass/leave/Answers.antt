@@ -6,11 +6,10 @@ pub from_parts-requires : goal.from_parts-requires
 from_parts-requires g c =
     let there : c.self.inside.list ≡ Some c.in-Some.list = sym c.take.ensures.value ∙ c.in-Some.is in
     let keeper = keeper_with g.N.Site.log c.self.inside.token.table_id c.self.inside.token.me c.self.inside.words.items c.self.inside.list c.in-Some.list c.self.inside.enrolled c.self.inside.guest there c.self.invariant.0 in
-    let lent = lent_with g.N.Site.log.cap c.self.inside.words.items c.self.inside.list c.in-Some.list c.self.inside.guest there c.self.invariant.2 in
     let entered : c.self.inside.guest ≡ Some c.guest.inside.tally = ap (λ v. v.guest) c.self.view_is ∙ c.requires ∙ sym (ap Some c.guest.view_is) in (
       pass_left g.N.Site.log c.self.inside.token.table_id c.leave_seat-token.result.table_id c.self.inside.token.me c.leave_seat-token.result.me c.in-Some.list.words c.in-Some.list.words c.self.inside.enrolled c.self.inside.guest c.guest.inside.tally keeper entered
           c.leave_seat-token.ensures.left_table c.leave_seat-token.ensures.left refl,
-      lent.0,
+      (lent_with g.N.Site.log.cap c.self.inside.words.items c.self.inside.list c.in-Some.list c.self.inside.guest there c.self.invariant.2).0,
     )
 
 pub invariant_of-self : goal.invariant_of-self

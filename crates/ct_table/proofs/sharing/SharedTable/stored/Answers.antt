@@ -9,7 +9,6 @@ where_ok (Err e) P Q m = tt
 
 pub returns-in-Some-clause-entries : goal.returns-in-Some-clause-entries
 returns-in-Some-clause-entries c =
-    let old = c.in-Some.stored.now in
     IfOk-weaker c.clone.result _ (λ s. s.entries ≡ entries_of c.args.self.now.rows)
-    (λ s e. ap (λ (k : Keyed). k.entries) e ∙ sym (entries_back old.entries) ∙ ap (λ (t : CTable). entries_of t.rows) c.in-Some.ensures)
+    (λ s e. ap (λ (k : Keyed). k.entries) e ∙ sym (entries_back c.in-Some.stored.now.entries) ∙ ap (λ (t : CTable). entries_of t.rows) c.in-Some.ensures)
     (where_ok c.clone.result _ _ c.clone.ensures.cases)

@@ -1,6 +1,7 @@
 use Rattle.std.{proofs.Common.{◌≡◌, ◌∷◌, [], ◌++◌, ap, sym, refl, subst, ◌∙◌}, proofs.lemmas.List.take_all}
 use Rattle.ct_word.proofs.Prefixes.{prefix_same, prefix_of_prefix}
-use Rattle.ct_table.{specs.Growing.{Keyed, find, put, grown}, proofs.Entries.missing, proofs.Putting.{entry_last, grown_void, grown_real}}
+use Rattle.ct_table.{specs.Growing.{Keyed, find, put, grown}, proofs.Entries.missing, proofs.Putting.{grown_void, grown_real}}
+use Rattle.ct_rows.proofs.Entries.{entry_last}
 use mathlib.Core.List.{IsPrefix}
 use Rattle.ct_table.proofs.stored.Stored.extend.Goals as goal
 
