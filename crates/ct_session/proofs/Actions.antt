@@ -14,7 +14,7 @@ use Rattle.ct_parse.specs.declared.tree.Statement.{Statement}
 use Rattle.ct_resolve.specs.Statements.{resolved}
 use Rattle.ct_statement.{specs.declared.proposing.Proposal.Proposal, specs.declared.sight.Sight.Sight, specs.declared.stepping.Step.Step}
 use Rattle.ct_statement.specs.Sight.{actions_before, history_of, IsSight}
-use Rattle.ct_session.{specs.Outcomes.world_offered, specs.Prepared.{IsChange, IsPrepared, IsPreparedFor, IsStepIf, needs_step}}
+use Rattle.ct_session.{specs.Offering.IsReadyToOffer, specs.Outcomes.world_offered, specs.Prepared.{IsChange, IsPrepared, IsPreparedFor, IsStepIf, needs_step}}
 use Rattle.ct_session.proofs.Offered.{creates_all, asserts_read}
 use Rattle.ct_query.specs.Plain as plain
 use Rattle.ct_session.specs.declared.preparing.Prepared.TheVariants as prepared
@@ -35,25 +35,16 @@ module _ (words : List ℕ) (h : List PlainCommit) (before : List PlainAction) (
         → ForAction words h before list session fresh sight st p step reads) i.0.action (λ s j. record { resolves = s; change = j.0; reads_are = j.1 }) r i
     by_asked _ r i = absurd i
 
--- outside a transaction
-abbrev pub ForActionAlone : List ℕ → ℕ → ℕ → Sight → Statement → Proposal → Option Step → List Read → Type 0
-ForActionAlone words session fresh sight st p step reads = ForAction words (history_of words sight) [] [] session fresh sight st p step reads
-
-pub prepared_alone : (words : List ℕ) (session fresh : ℕ) (sight : Sight) (st : Statement) (p : Proposal) (step : Option Step) (reads : List Read) → actions_before sight ≡ []
-    → IsPrepared words (history_of words sight) (actions_before sight) [] session fresh sight st (prepared.Change p step reads) → ForActionAlone words session fresh sight st p step reads
-prepared_alone words session fresh sight st p step reads none k =
-    subst (λ before. ForAction words (history_of words sight) before [] session fresh sight st p step reads) none
-    (prepared_action words (history_of words sight) (actions_before sight) [] session fresh sight st p step reads k)
-
 -- an action whose change asserts is an assertion
 asserts : (h : List PlainCommit) (a : PlainAction) (x : PlainChange) → AgreesWith h [] a x → has_assertion (x ∷ []) → (c : Condition) × (a ≡ plain.Assert c)
 asserts h (plain.Assert c) (Assert c') f some = (c, refl)
 asserts h _ (Assert c') f some = absurd f
 asserts h _ _ f some = absurd (false≢true some)
 
--- its offer is one that the keeper takes
+-- what was prepared outside a transaction is ready to be offered
 module _ (pass : Seen) (fresh : ℕ) (sight : Sight) (sees : IsSight pass.words sight) (none : actions_before sight ≡ []) (st : Statement) (proposal : Proposal) (step : Option Step) (reads : List Read)
-    (f : ForActionAlone pass.words pass.session fresh sight st proposal step reads) where
+    (k : IsPrepared pass.words (history_of pass.words sight) (actions_before sight) [] pass.session fresh sight st (prepared.Change proposal step reads))
+    (needs : needs_step false (prepared.Change proposal step reads)) where
   abbrev h : List PlainCommit
   h = history_of pass.words sight
 
@@ -63,11 +54,11 @@ module _ (pass : Seen) (fresh : ℕ) (sight : Sight) (sees : IsSight pass.words 
   abbrev action : PlainAction
   action = action_of proposal.action
 
-  agrees : Agrees h (action ∷ []) (f.change.proposes.change ∷ [])
-  agrees = (f.change.proposes.agrees, tt)
+  f : ForAction pass.words h [] [] pass.session fresh sight st proposal step reads
+  f = subst (λ before. ForAction pass.words h before [] pass.session fresh sight st proposal step reads) none (prepared_action pass.words h (actions_before sight) [] pass.session fresh sight st proposal step reads k)
 
-  pub changes_agree : Agrees h (action ∷ []) (change_list_at pass.words proposal.changes)
-  changes_agree = subst (λ l. Agrees h (action ∷ []) l) (sym f.change.proposes.list_is) agrees
+  changes_agree : Agrees h (action ∷ []) xs
+  changes_agree = subst (λ l. Agrees h (action ∷ []) l) (sym f.change.proposes.list_is) (f.change.proposes.agrees, tt)
 
   all_read : AllByRecursion (Contains reads) (reads_of_actions (action ∷ []))
   all_read =
@@ -82,11 +73,12 @@ module _ (pass : Seen) (fresh : ℕ) (sight : Sight) (sees : IsSight pass.words 
   left_by None some is = absurd (false≢true some)
   left_by (Some s) some is = subst (λ before. IsKeptWorld pass.words h (before ++ action ∷ []) (world_offered (arc_value sight.kept) (Some s))) none is.world
 
-  module _ (needs : needs_step false (prepared.Change proposal step reads)) (kept : World) (same : kept ≡ world_offered (arc_value sight.kept) step) where
+  module _ (kept : World) (same : kept ≡ world_offered (arc_value sight.kept) step) where
     abbrev offered : Offer
     offered = record { base = sight.version; reads = reads; changes = proposal.changes; kept = kept }
 
-    pub action_offer : IsOffer pass (record { base = sight.version; reads = reads; changes = proposal.changes; kept = kept })
+    -- the keeper takes it
+    action_offer : IsOffer pass offered
     action_offer = record {
       seen = sees.within;
       place = f.change.proposes.place;
@@ -103,4 +95,16 @@ module _ (pass : Seen) (fresh : ℕ) (sight : Sight) (sees : IsSight pass.words 
               values = world.values;
             });
           };
+    }
+
+    pub ready_to_offer : IsReadyToOffer pass fresh (record { offer = record { base = sight.version; reads = reads; changes = proposal.changes; kept = kept }; fresh = proposal.fresh }) st
+    ready_to_offer = record {
+      action = action;
+      change = f.change.proposes.change;
+      resolves = f.resolves;
+      agrees = f.change.proposes.agrees;
+      list_is = f.change.proposes.list_is;
+      reads_are = f.reads_are;
+      draws = f.change.draws;
+      takes = action_offer;
     }

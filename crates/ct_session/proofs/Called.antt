@@ -1,6 +1,6 @@
 -- What a commit of a session is in all words that follow, and in each history that stands for them.
 use Rattle.std.proofs.Common.{◌≡◌, ℕ, ◌+◌, ◌-◌, ◌<◌, ◌≤◌, List, [], ◌∷◌, ◌++◌, length, take, refl, ap, sym, subst, ◌∙◌, arith, length-append}
-use Rattle.std.{specs.Prelude.{Option, Some, option_map, slice_get}, specs.List.range_with_len, proofs.lemmas.List.{take_all, take-append-le}}
+use Rattle.std.{specs.Prelude.{Option, Some, option_map, slice_get}, specs.List.range_with_len, proofs.lemmas.List.take_all}
 use Rattle.ct_word.{specs.Change.PlainCommit, specs.Reading.commits_of, specs.StandsFor.StandsFor}
 use Rattle.ct_word.proofs.Prefixes.{commits_prefix, get_in_prefix, prefix_of_prefix}
 use Rattle.ct_query.{specs.Keeping.{Keeps, KeepsThroughout}, proofs.Keeping.same_throughout}
@@ -9,14 +9,10 @@ use Rattle.ct_history.specs.Kept.{kept_of}
 use Rattle.ct_keeper.{specs.Offers.commit_for, specs.Served.IsLastCommit, specs.declared.catalogue.Offer.Offer}
 use Rattle.ct_session.{specs.Answers.{Answers, GoesOn, commits_by}, proofs.Counted.front_and_one, proofs.Sameness.{StandsAs, commits_back, same_commit}}
 use Rattle.ct_session.{specs.declared.session.Open.Open, specs.Sessions.{state_of, transaction_of}, specs.State.carried, proofs.Own.own_commits_stay}
-use Rattle.ct_session.{proofs.Going.prefix_short, proofs.Replies.{Proceeds, carried_same, memory_answers}}
+use Rattle.ct_session.{proofs.Going.{front_taken, prefix_short}, proofs.Replies.{Proceeds, carried_same, memory_answers}}
 use mathlib.Core.List.{IsPrefix}
 use Rattle.ct_transcript.specs.declared.reply.Reply.TheVariants as reply
 use Rattle.ct_transcript.specs.declared.reply.Refusal.TheVariants as refusal
-
--- the length of a prefix takes it
-pub front_taken : {A : Type 0} (n : ℕ) (xs ys : List A) → IsPrefix xs ys → n ≤ length xs → take n ys ≡ take n xs
-front_taken n xs ys p le = ap (take n) (sym p.1) ∙ take-append-le n xs p.0 le
 
 -- an offer of a session: these words at its statement's beginning, and what it has seen before it and after
 pub record IsCall (N : ℕ) (words : List ℕ) (pass pass' : Seen) : Type 0 where
@@ -74,11 +70,8 @@ module _ (now W : List ℕ) (goes : IsPrefix now W) (H : List PlainCommit) (stan
   throughout : KeepsThroughout (commits_of W) H
   throughout = same_throughout (commits_of W) H (commits_back H (commits_of W) stands)
 
-  pub first_of : (n : ℕ) → n ≤ length (commits_of now) → take n (commits_of W) ≡ take n (commits_of now)
-  first_of n le = front_taken n (commits_of now) (commits_of W) (commits_prefix now W goes) le
-
   pub keeps_to : (n : ℕ) → n ≤ length (commits_of now) → Keeps (take n (commits_of now)) (take n H)
-  keeps_to n le = subst (λ g. Keeps g (take n H)) (first_of n le) (throughout.keeps n)
+  keeps_to n le = subst (λ g. Keeps g (take n H)) (front_taken n (commits_of now) (commits_of W) (commits_prefix now W goes) le) (throughout.keeps n)
 
   pub within_all : length (commits_of now) ≤ length H
   within_all =

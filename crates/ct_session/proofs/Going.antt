@@ -17,11 +17,9 @@ pub version_within : (words more : List ℕ) → IsPrefix words more → (versio
 version_within words more longer version within =
     let short = prefix_short (commits_of words) (commits_of more) (commits_prefix words more longer) in omega (arith, within, short)
 
--- the commits of a version of words are those of the version in further words
-pub version_stays : (words more : List ℕ) → IsPrefix words more → (version : ℕ) → version ≤ length (commits_of words) → commits_to words version ≡ commits_to more version
-version_stays words more longer version within =
-    let p = commits_prefix words more longer in
-    sym (take-append-le version (commits_of words) p.0 within) ∙ ap (take version) p.1
+-- the length of a prefix takes it
+pub front_taken : {A : Type 0} (n : ℕ) (xs ys : List A) → IsPrefix xs ys → n ≤ length xs → take n ys ≡ take n xs
+front_taken n xs ys p le = ap (take n) (sym p.1) ∙ take-append-le n xs p.0 le
 
 -- the commits of a version are the first in further words, and in each history that stands for these
 pub record IsOnward (h : List PlainCommit) (version : ℕ) (W : List ℕ) (H : List PlainCommit) : Type 0 where
@@ -34,7 +32,7 @@ pub onward : (words : List ℕ) (version : ℕ) → version ≤ length (commits_
     → IsOnward (commits_to words version) version W H
 onward words version le W longer H stands =
     let h = commits_to words version in
-    let same = sym (version_stays words W longer version le) in
+    let same = front_taken version (commits_of words) (commits_of W) (commits_prefix words W longer) le in
     let both = same_throughout (commits_of W) H (commits_back H (commits_of W) stands) in
     let keeps : Keeps h (take version H) = subst (λ g. Keeps g (take version H)) same (both.keeps version) in
     record {

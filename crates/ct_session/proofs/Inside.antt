@@ -9,10 +9,10 @@ use Rattle.ct_statement.{specs.declared.proposing.Proposal.Proposal, specs.decla
 use Rattle.ct_statement.{specs.Drawing.drawn, specs.Proposals.{listed, kept_after}, specs.Sight.{actions_before, history_of}}
 use Rattle.ct_transcript.{specs.declared.reply.Reply.Reply, specs.declared.reply.Refusal.Refusal}
 use Rattle.ct_session.{specs.declared.session.Open.Open, specs.Answers.{Answers, GoesOn}, specs.Executes.Executes, specs.Extending.having_read}
-use Rattle.ct_session.{specs.LawfulReply.IsPending, specs.Prepared.{IsPrepared, IsRefused}, specs.Replying.{reply_of, standing}, specs.Seeing.Sees}
+use Rattle.ct_session.{specs.LawfulReply.IsPending, specs.Prepared.{ForAnswer, IsPrepared, IsRefused}, specs.Replying.{reply_of, standing}, specs.Seeing.Sees}
 use Rattle.ct_session.{specs.Sessions.{IsSession, state_of, transaction_of}, specs.State.{SessionState, carried, extended, extended_by}, proofs.Going.onward}
 use Rattle.ct_session.{specs.Statements.ReadsAs, proofs.Actions.ForAction}
-use Rattle.ct_session.proofs.Replies.{Proceeds, proceeds_same, answers_uncommitted, refused_answers, answered_answers, ForAnswer, prepared_answer, resolves_on}
+use Rattle.ct_session.proofs.Replies.{Proceeds, proceeds_same, answers_uncommitted, refused_answers, answered_answers, prepared_answer, resolves_on}
 use Rattle.ct_query.specs.Plain as plain
 use Rattle.ct_transcript.specs.declared.reply.Reply.TheVariants as reply
 use Rattle.ct_session.specs.declared.preparing.Prepared.TheVariants as prepared

@@ -1,7 +1,7 @@
 -- An open transaction: when it begins, as words are added, and after one more statement.
-use Rattle.std.{proofs.Common.{◌≡◌, ◌≤◌, ℕ, arith, max, List, [], ◌∷◌, ◌++◌, refl, ap, sym, subst}, specs.Prelude.{Option, Some, None, All, IsTrue, IfSome}}
-use Rattle.std.{specs.List.{Contains, list_all}, proofs.lemmas.List.Elements.All-nil}
-use Rattle.ct_word.{specs.Change.{PlainChange, PlainCommit}, specs.WellFormed.IsWellFormed, specs.Writable.is_writable}
+use Rattle.std.{proofs.Common.{◌≡◌, ◌≤◌, ℕ, arith, length, max, List, [], ◌∷◌, ◌++◌, refl, ap, sym, subst}, specs.Prelude.{Option, Some, None, All, IsTrue}}
+use Rattle.std.{specs.List.{Contains, list_all}, proofs.lemmas.List.Elements.All-nil, proofs.lemmas.Option.IfSome_then}
+use Rattle.ct_word.{specs.Reading.commits_of, specs.Change.{PlainChange, PlainCommit}, specs.WellFormed.IsWellFormed, specs.Writable.is_writable}
 use Rattle.ct_word.proofs.Prefixes.{place_within, place_in_prefix, change_list_in_prefix}
 use Rattle.ct_query.{specs.Plain.PlainAction, specs.declared.action.Read.Read, specs.Agrees.Agrees, specs.Fits.FitAfter, specs.Reads.{with_reads, action_reads}}
 use Rattle.ct_query.specs.Frame.{reads_of_actions}
@@ -11,9 +11,9 @@ use Rattle.ct_table.specs.Snapshot.{commits_to}
 use Rattle.ct_parse.specs.declared.tree.Statement.{Statement}
 use Rattle.ct_transcript.specs.declared.reply.Refusal.{Refusal}
 use Rattle.ct_statement.{specs.declared.sight.Sight.Sight, specs.Proposals.{IsProposal, listed}, specs.Sight.{actions_before, history_of, IsSight}}
-use Rattle.ct_statement.proofs.Sights.{sight_grows}
+use Rattle.ct_statement.proofs.Sights.{history_stays, sight_grows}
 use Rattle.ct_session.{specs.declared.session.Open.Open, specs.declared.preparing.Prepared.Prepared, specs.Prepared.{IsPrepared, IsRefused}}
-use Rattle.ct_session.{specs.Replying.standing, specs.Sessions.{IsBegunList, IsOpen, IsSession}, proofs.Going.{version_stays, version_within}}
+use Rattle.ct_session.{specs.Replying.standing, specs.Sessions.{IsBegunList, IsOpen, IsSession}, proofs.Going.version_within}
 use Rattle.ct_session.proofs.Extended.{agrees_push, fits_push, writable_push, reads_push, reads_kept}
 use mathlib.Core.List.{IsPrefix}
 use Rattle.ct_word.specs.declared.kinds.Class.TheVariants as class
@@ -49,15 +49,11 @@ module _ (old new : List ℕ) (longer : IsPrefix old new) where
   listed_stays None actions b = refl
   listed_stays (Some place) actions b = change_list_in_prefix old new place longer (place_within old class.ChangeList place b)
 
-  -- and so does the history that it sees
-  pub history_stays : (s : Sight) → IsSight old s → history_of new s ≡ history_of old s
-  history_stays s k = sym (version_stays old new longer s.version k.within)
-
   -- an open transaction over words is one over further ones
   pub open_grows : IsWellFormed new → (o : Open) → IsOpen old o → IsOpen new o
   open_grows formed o k =
       open_from new o.sight o.changes o.reads (history_of old o.sight) (actions_before o.sight) (listed old o.changes)
-      (history_stays o.sight k.sight) refl (listed_stays o.changes (actions_before o.sight) k.list)
+      (sym (history_stays old new longer o.sight k.sight.within)) refl (listed_stays o.changes (actions_before o.sight) k.list)
       (sight_grows old new longer o.sight formed k.sight) (begun_grows o.changes (actions_before o.sight) k.list) k.agrees k.fits k.writable k.reads
 
 module _ (words : List ℕ) (o : Open) (k : IsOpen words o) where
@@ -95,35 +91,33 @@ module _ (words : List ℕ) (o : Open) (k : IsOpen words o) where
 pub session_grows : (old new : List ℕ) → IsPrefix old new → IsWellFormed new → (seen : ℕ) (open' : Option Open) → IsSession old seen open' → IsSession new seen open'
 session_grows old new longer formed seen open' k = record {
   seen_is = version_within old new longer seen k.seen_is;
-  open_is = by_open open' k.open_is;
-} where
-  by_open : (o : Option Open) → IfSome o (IsOpen old) → IfSome o (IsOpen new)
-  by_open None i = tt
-  by_open (Some o) i = open_grows old new longer formed o i
+  open_is = IfSome_then open' k.open_is (open_grows old new longer formed);
+}
 
--- what was prepared for a statement of it, or why that was refused, is so over the further words
-module _ (old new : Seen) (longer : IsPrefix old.words new.words) (kept : kept_of new ≡ kept_of old) (o : Open) (k : IsOpen old.words o) (fresh : ℕ) (st : Statement) where
+-- what was prepared for a statement at what it sees, or why that was refused, is so over the further words
+module _ (old new : Seen) (longer : IsPrefix old.words new.words) (kept : kept_of new ≡ kept_of old) (sight : Sight) (within : sight.version ≤ length (commits_of old.words)) (changes : Option ℕ)
+    (begun : IsBegunList old.words changes (actions_before sight)) (fresh : ℕ) (st : Statement) where
   session_kept : old.session ≡ new.session
   session_kept = cc
 
-  history_kept : history_of old.words o.sight ≡ history_of new.words o.sight
-  history_kept = sym (history_stays old.words new.words longer o.sight k.sight)
+  history_kept : history_of old.words sight ≡ history_of new.words sight
+  history_kept = history_stays old.words new.words longer sight within
 
-  listed_kept : listed old.words o.changes ≡ listed new.words o.changes
-  listed_kept = sym (listed_stays old.words new.words longer o.changes (actions_before o.sight) k.list)
+  listed_kept : listed old.words changes ≡ listed new.words changes
+  listed_kept = sym (listed_stays old.words new.words longer changes (actions_before sight) begun)
 
-  pub prepared_later : (p : Prepared) → IsPrepared new.words (history_of old.words o.sight) (actions_before o.sight) (listed old.words o.changes) old.session fresh o.sight st p
-      → IsPrepared new.words (history_of new.words o.sight) (actions_before o.sight) (listed new.words o.changes) new.session fresh o.sight st p
+  pub prepared_later : (p : Prepared) → IsPrepared new.words (history_of old.words sight) (actions_before sight) (listed old.words changes) old.session fresh sight st p
+      → IsPrepared new.words (history_of new.words sight) (actions_before sight) (listed new.words changes) new.session fresh sight st p
   prepared_later p i =
-      subst (λ h. IsPrepared new.words h (actions_before o.sight) (listed new.words o.changes) new.session fresh o.sight st p) history_kept
-      (subst (λ l. IsPrepared new.words (history_of old.words o.sight) (actions_before o.sight) l new.session fresh o.sight st p) listed_kept
-      (subst (λ n. IsPrepared new.words (history_of old.words o.sight) (actions_before o.sight) (listed old.words o.changes) n fresh o.sight st p) session_kept i))
+      subst (λ h. IsPrepared new.words h (actions_before sight) (listed new.words changes) new.session fresh sight st p) history_kept
+      (subst (λ l. IsPrepared new.words (history_of old.words sight) (actions_before sight) l new.session fresh sight st p) listed_kept
+      (subst (λ n. IsPrepared new.words (history_of old.words sight) (actions_before sight) (listed old.words changes) n fresh sight st p) session_kept i))
 
-  pub refused_later : (N : ℕ) (why : Refusal) → IsRefused (history_of old.words o.sight) (actions_before o.sight) N new.words old.session fresh st why
-      → IsRefused (history_of new.words o.sight) (actions_before o.sight) N new.words new.session fresh st why
+  pub refused_later : (N : ℕ) (why : Refusal) → IsRefused (history_of old.words sight) (actions_before sight) N new.words old.session fresh st why
+      → IsRefused (history_of new.words sight) (actions_before sight) N new.words new.session fresh st why
   refused_later N why i =
-      subst (λ h. IsRefused h (actions_before o.sight) N new.words new.session fresh st why) history_kept
-      (subst (λ n. IsRefused (history_of old.words o.sight) (actions_before o.sight) N new.words n fresh st why) session_kept i)
+      subst (λ h. IsRefused h (actions_before sight) N new.words new.session fresh st why) history_kept
+      (subst (λ n. IsRefused (history_of old.words sight) (actions_before sight) N new.words n fresh st why) session_kept i)
 
 -- no refusal stands past what was seen and what the statement saw
 pub standing_within : (seen version n : ℕ) (why : Refusal) → seen ≤ n → version ≤ n → max seen (standing seen version why) ≤ n

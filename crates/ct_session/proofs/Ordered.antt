@@ -1,5 +1,5 @@
 -- BEGIN and ROLLBACK, and orders in the wrong place; want of memory for any statement.
-use Rattle.std.{proofs.Common.{◌≡◌, ◌⊎◌, ℕ, ◌≤◌, List, [], ◌∷◌, length, take, max, refl, ap, sym, subst, inl, inr, arith}, proofs.lemmas.Bool.false≢true}
+use Rattle.std.{proofs.Common.{◌≡◌, ◌⊎◌, ℕ, ◌≤◌, List, [], ◌∷◌, length, take, max, refl, ap, sym, subst, inl, inr, ◌∙◌, arith}, proofs.lemmas.Bool.false≢true}
 use Rattle.std.specs.Prelude.{Option, Some, None, Ok, IsNone, IsSome, option_map}
 use Rattle.ct_word.{specs.Change.PlainCommit, specs.Reading.commits_of, specs.StandsFor.StandsFor, proofs.Prefixes.commits_prefix}
 use Rattle.ct_arena.{specs.Seen.{Seen, tally_of}, specs.declared.tally.Tally.Tally}
@@ -39,21 +39,13 @@ executes_later N pass mid seen fresh o next now st r p kept e = λ x reads.
       is_open : Some (transaction_of o) ≡ None → ⊥
       is_open e' = cc
 
--- want of memory leaves the state
-pub memory_executes : (N : ℕ) (pass pass' : Seen) (seen fresh : ℕ) (open' open'' : Option Open) (st : Statement) → Proceeds N pass.session pass.words pass'.words → kept_of pass' ≡ kept_of pass
-    → option_map transaction_of open'' ≡ option_map transaction_of open'
-    → Executes N (state_of pass seen fresh open') (state_of pass' seen fresh open'') pass.words pass'.words st (reply.Refused seen refusal.Memory)
-memory_executes N pass pass' seen fresh open' open'' st p kept same = λ x reads.
-    subst (λ next. Answers N (state_of pass seen fresh open') next pass.words pass'.words x (reply.Refused seen refusal.Memory)) (sym (state_same pass pass' seen fresh open' open'' kept same))
-    (memory_answers N (state_of pass seen fresh open') pass.words pass'.words x p)
-
--- and so it does where it carries what was seen
+-- want of memory leaves the state, and carries what was seen
 pub memory_carried : (N : ℕ) (pass pass' : Seen) (seen fresh : ℕ) (open' open'' : Option Open) (st : Statement) → Proceeds N pass.session pass.words pass'.words → kept_of pass' ≡ kept_of pass
     → option_map transaction_of open'' ≡ option_map transaction_of open'
     → Executes N (state_of pass seen fresh open') (carried seen (state_of pass' seen fresh open'')) pass.words pass'.words st (reply.Refused seen refusal.Memory)
 memory_carried N pass pass' seen fresh open' open'' st p kept same = λ x reads.
-    subst (λ next. Answers N (state_of pass seen fresh open') next pass.words pass'.words x (reply.Refused seen refusal.Memory)) (sym (carried_same (state_of pass' seen fresh open'')))
-    (memory_executes N pass pass' seen fresh open' open'' st p kept same x reads)
+    subst (λ next. Answers N (state_of pass seen fresh open') next pass.words pass'.words x (reply.Refused seen refusal.Memory))
+    (sym (carried_same (state_of pass' seen fresh open'') ∙ state_same pass pass' seen fresh open' open'' kept same)) (memory_answers N (state_of pass seen fresh open') pass.words pass'.words x p)
 
 -- a text that is read as an order asks for it
 pub order_asks : (H : List PlainCommit) (s : SessionState) (x : List ℕ) (st : Statement) (order : PlainStatement) → ReadsAs x st

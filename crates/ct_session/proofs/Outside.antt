@@ -1,5 +1,5 @@
 -- A statement outside a transaction, at the newest version: what was prepared for it, over further words, and its reply.
-use Rattle.std.{proofs.Common.{◌≡◌, ℕ, ◌≤◌, List, [], length, refl, ap, sym, subst, ◌∙◌}, specs.Prelude.{Option, Some, None, IsNone}}
+use Rattle.std.{proofs.Common.{◌≡◌, ℕ, ◌≤◌, List, [], length, refl, ap, sym, subst, ◌∙◌, arith}, specs.Prelude.{Option, Some, None, IsNone}}
 use Rattle.std.proofs.lemmas.Bool.{false≢true}
 use Rattle.ct_word.{specs.Change.PlainCommit, specs.Reading.commits_of, proofs.Prefixes.prefix_of_prefix}
 use Rattle.ct_arena.{specs.Counts.AreNumbered, specs.Seen.Seen}
@@ -11,9 +11,9 @@ use Rattle.ct_parse.specs.declared.tree.Statement.{Statement}
 use Rattle.ct_transcript.{specs.declared.reply.Refusal.Refusal, specs.declared.reply.Reply.Reply}
 use Rattle.ct_statement.{specs.declared.replying.Answered.Answered, specs.declared.sight.Sight.Sight, specs.Sight.{actions_before, history_of}}
 use Rattle.ct_session.{specs.declared.session.Open.Open, specs.Answers.Answers, specs.Executes.Executes, specs.Outcomes.Begins, specs.Seeing.Sees}
-use Rattle.ct_session.{specs.Prepared.{IsPrepared, IsRefused}, specs.Replying.{reply_of, standing}, specs.Sessions.state_of, proofs.Ordered.state_same}
-use Rattle.ct_session.{specs.State.{SessionState, carried}, specs.declared.preparing.Prepared.Prepared, proofs.Proposed.same_history}
-use Rattle.ct_session.proofs.Replies.{Proceeds, proceeds, ForAnswer, prepared_answer, answered_answers, refused_answers}
+use Rattle.ct_session.{specs.Prepared.{ForAnswer, IsPrepared, IsRefused}, specs.Replying.{reply_of, standing}, specs.Sessions.state_of, proofs.Opened.{prepared_later, refused_later}, proofs.Ordered.state_same}
+use Rattle.ct_session.{specs.State.{SessionState, carried}, specs.declared.preparing.Prepared.Prepared}
+use Rattle.ct_session.proofs.Replies.{Proceeds, proceeds, prepared_answer, answered_answers, refused_answers}
 use mathlib.Core.List.{IsPrefix}
 use Rattle.ct_transcript.specs.declared.reply.Reply.TheVariants as reply
 use Rattle.ct_session.specs.declared.preparing.Prepared.TheVariants as prepared
@@ -26,24 +26,14 @@ none_open (Some o) n = absurd (false≢true (sym n))
 -- what was prepared at the sight, or why it was refused, over the words that came with it
 module _ (begun now : Seen) (longer : IsPrefix begun.words now.words) (kept : kept_of now ≡ kept_of begun) (sight : Sight) (within : sight.version ≤ length (commits_of begun.words)) (none : actions_before sight ≡ [])
     (fresh : ℕ) (st : Statement) where
-  of_session : begun.session ≡ now.session
-  of_session = cc
-
-  same : history_of begun.words sight ≡ history_of now.words sight
-  same = same_history begun.words now.words longer sight within
-
   pub prepared_on : (p : Prepared) → IsPrepared now.words (history_of begun.words sight) (actions_before sight) [] begun.session fresh sight st p
       → IsPrepared now.words (history_of now.words sight) (actions_before sight) [] now.session fresh sight st p
-  prepared_on p i =
-      subst (λ h. IsPrepared now.words h (actions_before sight) [] now.session fresh sight st p) same
-      (subst (λ n. IsPrepared now.words (history_of begun.words sight) (actions_before sight) [] n fresh sight st p) of_session i)
+  prepared_on = prepared_later begun now longer kept sight within None none fresh st
 
   pub refused_on : (N : ℕ) (why : Refusal) → IsRefused (history_of begun.words sight) (actions_before sight) N now.words begun.session fresh st why
       → IsRefused (history_of now.words sight) [] N now.words now.session fresh st why
   refused_on N why i =
-      subst (λ before. IsRefused (history_of now.words sight) before N now.words now.session fresh st why) none
-      (subst (λ h. IsRefused h (actions_before sight) N now.words now.session fresh st why) same
-      (subst (λ n. IsRefused (history_of begun.words sight) (actions_before sight) N now.words n fresh st why) of_session i))
+      subst (λ before. IsRefused (history_of now.words sight) before N now.words now.session fresh st why) none (refused_later begun now longer kept sight within None none fresh st N why i)
 
   pub answered_on : (given : Answered) (reads : List Read) → IsPrepared now.words (history_of begun.words sight) (actions_before sight) [] begun.session fresh sight st (prepared.Answer given reads)
       → ForAnswer now.words (history_of now.words sight) [] now.session fresh st given reads
@@ -51,13 +41,13 @@ module _ (begun now : Seen) (longer : IsPrefix begun.words now.words) (kept : ke
       subst (λ before. ForAnswer now.words (history_of now.words sight) before now.session fresh st given reads) none
       (prepared_answer now.words (history_of now.words sight) (actions_before sight) [] now.session fresh sight st given reads (prepared_on (prepared.Answer given reads) i))
 
--- a statement that went on to some words has gone on to further ones
-pub begins_on : (first begun now : Seen) (version : ℕ) → Begins first begun version → IsPrefix begun.words now.words → kept_of now ≡ kept_of begun → Begins first now version
-begins_on first begun now version began longer kept = record {
+-- a statement that went on to some words has gone on to further ones, and to a later version
+pub begins_on : (first begun now : Seen) (version later : ℕ) → Begins first begun version → IsPrefix begun.words now.words → kept_of now ≡ kept_of begun → version ≤ later → Begins first now later
+begins_on first begun now version later began longer kept le = record {
   longer = prefix_of_prefix first.words begun.words now.words began.longer longer;
   kept = kept ∙ began.kept;
   numbered = began.numbered;
-  all = began.all;
+  all = let all = began.all in omega (arith, all, le);
 }
 
 -- its reply, the words having gone on from its beginning

@@ -10,7 +10,7 @@ use Rattle.ct_arena.{specs.Seen.Seen, specs.Counts.AreNumbered}
 use Rattle.ct_history.specs.Kept.{kept_of}
 use Rattle.ct_table.specs.Snapshot.{commits_to}
 use Rattle.ct_query.{specs.Plain.{PlainAction, PlainStatement, PlainQuery}, specs.declared.action.Ask.Ask, specs.declared.action.Read.Read, specs.Schema.schema}
-use Rattle.ct_query.{specs.Reads.reads_of, specs.Patterns.count, specs.Size.size, specs.Terms.term_count}
+use Rattle.ct_query.{specs.Patterns.count, specs.Size.size, specs.Terms.term_count}
 use Rattle.ct_algebra.specs.Evaluates.{limit}
 use Rattle.ct_rewrite.{specs.declared.answer.PossibleRow.PossibleRow, specs.declared.answer.CertainRow.CertainRow}
 use Rattle.ct_transcript.{specs.declared.reply.Answer.Answer, specs.Means.{allowed, shown}, specs.Possible.PossibleRight, specs.Certain.CertainRight}
@@ -23,7 +23,7 @@ use Rattle.ct_session.{specs.Statements.ReadsAs, specs.State.{Transaction, Sessi
 use Rattle.ct_session.{specs.Seeing.{Sees, ResolvesTo}, specs.LawfulRefusal.{IsNameFault, IsTooLarge, IsFull, IsTooManyTerms, IsInconsistent, LawfulRefusal}}
 use Rattle.ct_session.{specs.LawfulReply.{IsRows, IsPossible, IsCertain, LawfulReply}, specs.Replying.{reply_of, standing}, proofs.Own.own_commits_stay}
 use Rattle.ct_session.specs.Answers.{committed_of, version_of, is_full, commits_by, GoesOn, ConflictsLater, Answers}
-use Rattle.ct_session.specs.Prepared.{IsPrepared, IsPreparedFor, IsUnmetAt, IsRefused, by_name, unmet, wanting_memory, name_refusal}
+use Rattle.ct_session.specs.Prepared.{ForAnswer, IsPrepared, IsPreparedFor, IsUnmetAt, IsRefused, by_name, unmet, wanting_memory, name_refusal}
 use Rattle.ct_session.{proofs.Going.{prefix_short, IsOnward, onward}, proofs.Listed.{root_place, possible_kept, certain_kept, certain_longer}}
 use mathlib.Core.List.{IsPrefix}
 use Rattle.ct_word.specs.declared.kinds.Class.TheVariants as class
@@ -121,14 +121,6 @@ answered_at at plus n (answered.Rows answer) le = le
 answered_at at plus n _ le = le
 
 -- what an answer was prepared for
-pub record ForAnswer (words : List ℕ) (h : List PlainCommit) (before : List PlainAction) (session fresh : ℕ) (st : Statement) (given : Answered) (reads : List Read) : Type 0 where
-  pub kind : Ask
-  pub columns : List (List ℕ)
-  pub query : PlainQuery
-  pub resolves : resolved (schema h before) session fresh st ≡ Ok (plain.Asks kind columns query)
-  pub answers : IsAnswered h before words kind columns query given
-  pub reads_are : reads ≡ reads_of (plain.Asks kind columns query)
-
 pub prepared_answer : (words : List ℕ) (h : List PlainCommit) (before : List PlainAction) (list : List PlainChange) (session fresh : ℕ) (sight : Sight) (st : Statement) (given : Answered) (reads : List Read)
     → IsPrepared words h before list session fresh sight st (prepared.Answer given reads) → ForAnswer words h before session fresh st given reads
 prepared_answer words h before list session fresh sight st given reads p = by_asked p.asked p.resolves p.prepared where

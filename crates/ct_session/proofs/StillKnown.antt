@@ -1,5 +1,5 @@
 -- What a session knows for its next insertion, as words grow.
-use Rattle.std.{proofs.Common.{ℕ, List, sym}, specs.Prelude.{Option, Some, None, IfSome, IsNone}, proofs.lemmas.Bool.false≢true}
+use Rattle.std.{proofs.Common.{ℕ, List, sym}, specs.Prelude.{Option, Some, None, IfSome, IsNone}, proofs.lemmas.Bool.false≢true, proofs.lemmas.Option.IfSome_then}
 use Rattle.ct_word.specs.WellFormed.{IsWellFormed}
 use Rattle.ct_statement.{specs.declared.sight.Sight.Sight, proofs.Sights.sight_grows}
 use Rattle.ct_session.{specs.declared.knowing.Known.Known, specs.Known.{IsKnown, SeesAlone, StillSeen}}
@@ -18,7 +18,4 @@ seen_longer words words' longer formed s is = sight_grows words words' longer s 
 
 -- what is known stays so in words in which all is seen still
 pub known_stays : (words words' : List ℕ) → StillSeen words words' → (k : Known) → IsKnown words k → IsKnown words' k
-known_stays words words' stays k is = by_sight k.sight is where
-  by_sight : (o : Option Sight) → IfSome o (SeesAlone words) → IfSome o (SeesAlone words')
-  by_sight None i = tt
-  by_sight (Some s) i = record { sight = stays s i.sight; none = i.none }
+known_stays words words' stays k is = IfSome_then k.sight is (λ s i. record { sight = stays s i.sight; none = i.none })

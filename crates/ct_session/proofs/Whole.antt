@@ -13,8 +13,8 @@ use Rattle.ct_statement.specs.Sight.{actions_before, history_of}
 use Rattle.ct_session.{specs.declared.session.Open.Open, specs.Answers.{GoesOn, Answers}, specs.LawfulRefusal.IsConflict, specs.LawfulReply.IsCommittedWhole}
 use Rattle.ct_session.{specs.Outcomes.{open_after, outcome_reply, outcome_version}, specs.Seeing.Orders, specs.Statements.ReadsAs}
 use Rattle.ct_session.{specs.Sessions.{IsBegunList, IsOpen, state_of, transaction_of}, specs.State.{SessionState, carried, with_transaction}}
-use Rattle.ct_session.proofs.Called.{IsCall, comes, had_room, as_many_as, before, there, front_taken, uncommitted_proceeds, uncommitted_state, wanting_answers}
-use Rattle.ct_session.{proofs.Going.{prefix_short, version_within}, proofs.Conflicting.{later_than, at_within, first_written, was_there, latest_there}}
+use Rattle.ct_session.proofs.Called.{IsCall, comes, had_room, as_many_as, before, there, uncommitted_proceeds, uncommitted_state, wanting_answers}
+use Rattle.ct_session.{proofs.Going.{front_taken, prefix_short, version_within}, proofs.Conflicting.conflict_there}
 use Rattle.ct_session.{proofs.Offered.{IsBegun, none_agree, some_agree}, proofs.Replies.{Proceeds, answers_uncommitted}, proofs.Unchanged.agrees_still}
 use Rattle.ct_query.specs.Plain as plain
 use Rattle.ct_keeper.specs.declared.catalogue.Outcome.TheVariants as outcome
@@ -162,17 +162,9 @@ module _ (N : ℕ) (pass : Seen) (seen fresh : ℕ) (o : Open) (open' : IsOpen p
 
           module _ (W : List ℕ) (goes : GoesOn N pass'.words W) (H : List PlainCommit) (stands : StandsFor H W) where
             conflicts : IsConflict H W N s x table was now at (carried at (with_transaction None s))
-            conflicts = record {
-              base = base;
-              reads = o.reads;
-              commits = inl (record { transaction = transaction_of o; is_open = refl; asks = orders H; has_actions = has_actions; base_is = refl; reads_are = refl });
-              later = later_than pass'.words base o.reads table was now at meets;
-              within = at_within pass'.words base o.reads table was now at meets W goes.log H stands;
-              first = first_written pass'.words base o.reads table was now at meets W goes.log H stands N;
-              was_is = was_there pass'.words base o.reads table was now at meets W goes.log H stands;
-              now_is = latest_there pass'.words base o.reads table was now at meets W goes.log H stands;
-              next_is = refl;
-            }
+            conflicts =
+                conflict_there pass'.words base o.reads table was now at meets W goes.log H stands N s (carried at (with_transaction None s)) x
+                (inl (record { transaction = transaction_of o; is_open = refl; asks = orders H; has_actions = has_actions; base_is = refl; reads_are = refl })) refl
 
           pub conflict_answers : Answers N s (carried at (state_of pass' seen fresh None)) pass.words pass'.words x (reply.Refused at (refusal.Conflict table was now at))
           conflict_answers = subst (λ (t : SessionState). Answers N s (carried at t) pass.words pass'.words x (reply.Refused at (refusal.Conflict table was now at))) (same_state None)

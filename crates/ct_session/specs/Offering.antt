@@ -1,24 +1,47 @@
--- Actions that are ready to be offered outside a transaction.
-use Rattle.std.specs.Prelude.{◌≡◌, ℕ, false, List, [], Option}
-use Rattle.std.specs.Arc.{arc_value}
-use Rattle.ct_word.specs.Value.{World}
+-- What a statement outside a transaction asks for, ready to be given or to be offered.
+use Rattle.std.specs.Prelude.{◌≡◌, ◌+◌, ℕ, List, [], ◌∷◌, Ok}
+use Rattle.ct_word.specs.Change.{PlainChange}
+use Rattle.ct_word.specs.Reading.{change_list_at}
+use Rattle.ct_arena.specs.Seen.{Seen}
 use Rattle.ct_parse.specs.declared.tree.Statement.{Statement}
+use Rattle.ct_query.specs.Agrees.{AgreesWith}
+use Rattle.ct_query.specs.Plain.{PlainAction, PlainStatement}
+use Rattle.ct_query.specs.Plain as plain
+use Rattle.ct_query.specs.Reads.{action_reads}
+use Rattle.ct_query.specs.Schema.{schema}
 use Rattle.ct_query.specs.declared.action.Read.{Read}
-use Rattle.ct_statement.specs.declared.proposing.Proposal.{Proposal}
+use Rattle.ct_resolve.specs.Statements.{resolved}
+use Rattle.ct_table.specs.Snapshot.{commits_to}
+use Rattle.ct_keeper.specs.Offers.{IsOffer}
 use Rattle.ct_statement.specs.declared.sight.Sight.{Sight}
-use Rattle.ct_statement.specs.declared.stepping.Step.{Step}
-use Rattle.ct_statement.specs.Sight.{IsSight, actions_before, history_of}
-use Rattle.ct_session.specs.Outcomes.{world_offered}
-use Rattle.ct_session.specs.Prepared.{IsPrepared, needs_step}
-use Rattle.ct_session.specs.declared.preparing.Prepared.TheVariants as asked
+use Rattle.ct_statement.specs.Drawing.{drawn}
+use Rattle.ct_statement.specs.Sight.{actions_before, history_of}
+use Rattle.ct_session.specs.declared.alone.Ready.{Ready}
+use Rattle.ct_session.specs.declared.alone.Ready.TheVariants as ready
+use Rattle.ct_session.specs.declared.offering.Offering.{Offering}
+use Rattle.ct_session.specs.Known.{SeesAlone}
+use Rattle.ct_session.specs.Prepared.{ForAnswer, IsResolved}
 
--- an action was prepared at what its statement saw, which was this version, and this is the world of its offer
-pub record IsReadyToOffer (words : List ℕ) (session fresh base : ℕ) (kept : World) (proposal : Proposal) (reads : List Read) (st : Statement) : Type 0 where
+-- a statement resolves to this at what it saw, which was this version
+pub record IsFoundAlone (pass : Seen) (fresh base : ℕ) (st : Statement) (asked : PlainStatement) : Type 0 where
   pub sight : Sight
-  pub step : Option Step
+  pub sees : SeesAlone pass.words sight
   pub base_is : base ≡ sight.version
-  pub is : IsSight words sight
-  pub none : actions_before sight ≡ []
-  pub prepared : IsPrepared words (history_of words sight) (actions_before sight) [] session fresh sight st (asked.Change proposal step reads)
-  pub steps : needs_step false (asked.Change proposal step reads)
-  pub kept_is : kept ≡ world_offered (arc_value sight.kept) step
+  pub found : IsResolved (history_of pass.words sight) (actions_before sight) pass.session fresh st asked
+
+-- a statement resolves at the base of an offer to an action, whose change is the only one of the offer, and the keeper takes
+-- the offer
+pub record IsReadyToOffer (pass : Seen) (fresh : ℕ) (o : Offering) (st : Statement) : Type 0 where
+  pub action : PlainAction
+  pub change : PlainChange
+  pub resolves : resolved (schema (commits_to pass.words o.offer.base) []) pass.session fresh st ≡ Ok (plain.Act action)
+  pub agrees : AgreesWith (commits_to pass.words o.offer.base) [] action change
+  pub list_is : change_list_at pass.words o.offer.changes ≡ change ∷ []
+  pub reads_are : o.offer.reads ≡ action_reads action
+  pub draws : o.fresh ≡ fresh + drawn action
+  pub takes : IsOffer pass o.offer
+
+-- what a statement asks for at a version is ready to be given
+abbrev pub IsReady : Seen → ℕ → ℕ → Statement → Ready → Type 0
+IsReady pass fresh version st (ready.Answer given) = (reads : List Read) × ForAnswer pass.words (commits_to pass.words version) [] pass.session fresh st given reads
+IsReady pass fresh version st (ready.Offer o) = (o.offer.base ≡ version) × IsReadyToOffer pass fresh o st

@@ -1,9 +1,11 @@
 -- What a statement asks for, ready to be given, and why it is refused.
 use Rattle.std.specs.Prelude.{◌≡◌, ◌≢◌, ◌+◌, ℕ, Bool, true, false, List, Option, Some, None, IsSome, Ok, Err}
 use Rattle.ct_word.specs.Change.{PlainChange, PlainCommit}
-use Rattle.ct_query.specs.Plain.{PlainAction, PlainStatement}
+use Rattle.ct_query.specs.Plain.{PlainAction, PlainQuery, PlainStatement}
 use Rattle.ct_query.specs.Plain as plain
 use Rattle.ct_query.specs.Views.{action_of}
+use Rattle.ct_query.specs.declared.action.Ask.{Ask}
+use Rattle.ct_query.specs.declared.action.Read.{Read}
 use Rattle.ct_query.specs.Reads.{reads_of}
 use Rattle.ct_query.specs.Fits.{FitsStatement}
 use Rattle.ct_query.specs.Schema.{schema}
@@ -17,12 +19,12 @@ use Rattle.ct_resolve.specs.Writing.{WritesStatement}
 use Rattle.ct_transcript.specs.declared.reply.Refusal.{Refusal}
 use Rattle.ct_transcript.specs.declared.reply.Refusal.TheVariants as refusal
 use Rattle.ct_statement.specs.declared.sight.Sight.{Sight}
+use Rattle.ct_statement.specs.declared.replying.Answered.{Answered}
 use Rattle.ct_statement.specs.Answered.{Answers}
 use Rattle.ct_statement.specs.Drawing.{drawn}
 use Rattle.ct_statement.specs.Proposals.{IsProposal, IsStep}
 use Rattle.ct_statement.specs.Sources.{is_literal}
 use Rattle.ct_statement.specs.Unmet.{IsUnmet}
-use Rattle.ct_history.specs.Encodes.{IsEncodable}
 use Rattle.ct_session.specs.declared.preparing.Prepared.{Prepared}
 use Rattle.ct_session.specs.declared.preparing.Prepared.TheVariants as prepared
 use Rattle.ct_statement.specs.declared.stepping.Step.{Step}
@@ -63,6 +65,15 @@ pub record IsPrepared (words : List ℕ) (h : List PlainCommit) (before : List P
   pub resolves : resolved (schema h before) session fresh st ≡ Ok asked
   pub prepared : IsPreparedFor words h before list fresh s asked p
 
+-- what an answer was prepared for
+pub record ForAnswer (words : List ℕ) (h : List PlainCommit) (before : List PlainAction) (session fresh : ℕ) (st : Statement) (given : Answered) (reads : List Read) : Type 0 where
+  pub kind : Ask
+  pub columns : List (List ℕ)
+  pub query : PlainQuery
+  pub resolves : resolved (schema h before) session fresh st ≡ Ok (plain.Asks kind columns query)
+  pub answers : Answers h before words kind columns query given
+  pub reads_are : reads ≡ reads_of (plain.Asks kind columns query)
+
 -- a statement resolves to one for which this is wanting
 pub record IsUnmetAt (h : List PlainCommit) (before : List PlainAction) (room : ℕ) (words : List ℕ) (session fresh : ℕ) (st : Statement) (why : Refusal) : Type 0 where
   pub asked : PlainStatement
@@ -99,11 +110,6 @@ pub record IsResolved (h : List PlainCommit) (before : List PlainAction) (sessio
 abbrev pub IsLiteralAct : PlainStatement → Type 0
 IsLiteralAct (plain.Act a) = is_literal a ≡ true
 IsLiteralAct _ = ⊥
-
--- a word has room for each number of a statement's action
-abbrev pub IsEncodableAct : PlainStatement → Type 0
-IsEncodableAct (plain.Act a) = IsEncodable a
-IsEncodableAct _ = ⊥
 
 -- whether an action is an assertion
 abbrev pub is_assertion : PlainAction → Bool

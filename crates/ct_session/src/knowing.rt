@@ -2,10 +2,9 @@
 //
 // A pass's words are read, here and there, for what their type keeps: that they are well formed, and few.
 
-ghost use Rattle.std.specs.Prelude.{◌≡◌, ◌<◌, ◌≤◌, ◌^◌, ℕ, List, [], None, length, IfOk, IfErr, IfSome, IsNone};
+ghost use Rattle.std.specs.Prelude.{◌≡◌, ◌<◌, ◌≤◌, ◌^◌, ℕ, List, None, length, IfOk, IfErr, IfSome, IsNone};
 ghost use mathlib.Core.List.{IsPrefix};
 ghost use Rattle.ct_word.specs.Reading.{commits_of};
-ghost use Rattle.ct_word.specs.Value.{World};
 ghost use Rattle.ct_history.specs.Kept.{kept_of};
 ghost use Rattle.ct_session.specs.Executes.{Executes};
 ghost use Rattle.ct_session.specs.Known.{IsKnown, SeesAlone};
@@ -15,15 +14,14 @@ ghost use Rattle.ct_session.specs.Prepared.{IsNoOrder};
 ghost use Rattle.ct_session.specs.Sessions.{IsSession, state_of};
 ghost use Rattle.ct_session.specs.Statements.{IsWritten};
 
-use crate::preparing::{is_literal_act, prepare_literal, resolved_at};
+use crate::offering::{Offering, is_literal_act, literal_offer};
+use crate::preparing::resolved_at;
 use crate::session::State;
 use ct_arena::{Arena, Pass, Site};
-use ct_keeper::{KeeperError, Offer, Outcome, Server};
+use ct_keeper::{KeeperError, Outcome, Server};
 use ct_parse::Statement;
-use ct_query::Read;
-use ct_statement::{Proposal, Sight};
+use ct_statement::Sight;
 use ct_transcript::Reply;
-use ct_word::List;
 use std::alloc::Global;
 use std::sync::Wait;
 
@@ -74,8 +72,8 @@ fn committed_as(outcome: Result<Outcome, KeeperError>) -> Option<u32>
     }
 }
 
-/// The change of an insertion of written rows by what an earlier one saw, with what it reads, where that has its names.
-/// The pass has the words of it. What was seen is lent, so that no way out of this body has to let it go.
+/// The offer of an insertion of written rows by what an earlier one saw, where that has its names. The pass has the words
+/// of it. What was seen is lent, so that no way out of this body has to let it go.
 fn ready_known<N: Site>(
     alloc: Global,
     arena: &Arena<N>,
@@ -83,15 +81,15 @@ fn ready_known<N: Site>(
     fresh: u32,
     sight: &Sight,
     statement: &Statement,
-) -> Option<(Proposal, List<Read>)>
+) -> Option<Offering>
     requires sees { SeesAlone pass.old.words sight.now }
     requires written { IsWritten statement.now }
     requires plain { IsNoOrder statement.now }
     ensures longer { IsPrefix pass.old.words pass.new.words }
     ensures kept { kept_of pass.new ≡ kept_of pass.old }
-    ensures ready { (kept : World) → kept ≡ [] → IfSome result (λ p. IsReadyToOffer pass.new.words pass.new.session fresh sight.now.version kept p.0 p.1 statement.now) }
+    ensures ready { IfSome result (λ o. IsReadyToOffer pass.new fresh o statement.now) }
 {
-    let found = match resolved_at(alloc, pass, sight, fresh, statement) {
+    let (found, reads) = match resolved_at(alloc, pass, sight, fresh, statement) {
         Ok(found) => found,
         Err(why) => {
             drop(why);
@@ -100,17 +98,11 @@ fn ready_known<N: Site>(
     };
     if !is_literal_act(&found) {
         drop(found);
+        drop(reads);
         return None;
     }
-    let prepared = prepare_literal(alloc, arena, pass, fresh, found);
-    let _now = pass.words();
-    match prepared {
-        Ok(made) => Some(made),
-        Err(why) => {
-            drop(why);
-            None
-        }
-    }
+    let base = sight.version;
+    literal_offer(alloc, arena, pass, fresh, base, found, reads, statement).ok()
 }
 
 /// Commits an insertion of written rows by what an earlier one saw, where that is known and has its names. It reads
@@ -147,20 +139,14 @@ pub(crate) fn insert_known<N: Site, R: Wait>(
     };
     let ready = ready_known(alloc, server.arena(), &mut pass, fresh, &sight, statement);
     let _now = pass.words();
-    let Some((proposal, reads)) = ready else {
+    let Some(offering) = ready else {
         drop(sight);
         return Err(pass);
     };
-    let changes = proposal.changes;
-    let drawn = proposal.fresh;
-    drop(proposal);
-    let base = sight.version;
-    let offer = Offer {
-        base,
-        reads,
-        changes,
-        kept: List::new(alloc),
-    };
+    let Offering {
+        offer,
+        fresh: drawn,
+    } = offering;
     let (pass, outcome) = server.commit(rt, alloc, pass, &offer);
     drop(offer);
     let _after = pass.words();

@@ -1,6 +1,6 @@
 // What a statement asks for, at what it sees.
 
-ghost use Rattle.std.specs.Prelude.{◌≡◌, List, [], None, Ok, true, length, IfOk, IfErr, IfSome, IsTrue};
+ghost use Rattle.std.specs.Prelude.{◌≡◌, List, IfOk, IfErr, IfSome, IsTrue};
 ghost use mathlib.Core.List.{IsPrefix};
 ghost use Rattle.ct_word.specs.declared.kinds.Class.TheVariants as class;
 ghost use Rattle.ct_word.specs.Change.{PlainChange};
@@ -15,9 +15,8 @@ ghost use Rattle.ct_query.specs.declared.action.Read.{Read as ReadValue};
 ghost use Rattle.ct_resolve.specs.Writing.{WritesAction, WritesStatement};
 ghost use Rattle.ct_statement.specs.Proposals.{IsProposal, listed};
 ghost use Rattle.ct_statement.specs.Sight.{IsSight, actions_before, history_of};
-ghost use Rattle.ct_statement.specs.Unmet.{IsUnmet, IsWant};
-ghost use Rattle.ct_statement.specs.declared.sight.Sight.{Sight as SightValue};
-ghost use Rattle.ct_session.specs.Prepared.{IsEncodableAct, IsLiteralAct, IsNoOrder, IsNoPlainOrder, IsPrepared, IsPreparedFor, IsRefused, IsResolved, IsStepIf, is_assertion, name_refusal, needs_step};
+ghost use Rattle.ct_statement.specs.Unmet.{IsUnmet};
+ghost use Rattle.ct_session.specs.Prepared.{IsNoOrder, IsNoPlainOrder, IsPreparedFor, IsRefused, IsResolved, IsStepIf, is_assertion, name_refusal, needs_step};
 ghost use Rattle.ct_session.specs.Statements.{IsWritten};
 ghost use Rattle.ct_session.specs.declared.preparing.Prepared.TheVariants as prepared;
 
@@ -25,9 +24,7 @@ use ct_arena::{Arena, Pass, Site};
 use ct_parse::Statement;
 use ct_query::{Action, Read, Resolved, reads};
 use ct_resolve::{ResolveError, resolve};
-use ct_statement::{
-    Answered, Proposal, Sight, Step, answer_to, is_literal, propose, propose_literal, step_of,
-};
+use ct_statement::{Answered, Proposal, Sight, Step, answer_to, propose, step_of};
 use ct_transcript::Refusal;
 use ct_word::List;
 use std::alloc::Global;
@@ -164,25 +161,20 @@ pub(crate) fn perform<N: Site>(
     fresh: u32,
     inside: bool,
     resolved: Resolved,
+    reads: List<Read>,
 ) -> Result<Prepared, Refusal>
     requires sight { IsSight pass.old.words sight.now }
     requires list { IfSome list (λ place. IsTrue (is_place_of pass.old.words class.ChangeList place)) }
     requires fits { FitsStatement (schema (history_of pass.old.words sight.now) (actions_before sight.now)).tables (statement_of resolved) }
     requires written { WritesStatement (statement_of resolved) }
     requires plain { IsNoPlainOrder (statement_of resolved) }
+    requires reads { reads ≡ reads_of (statement_of resolved) }
     ensures longer { IsPrefix pass.old.words pass.new.words }
     ensures kept { kept_of pass.new ≡ kept_of pass.old }
     ensures ok { IfOk result (IsPreparedFor pass.new.words (history_of pass.old.words sight.now) (actions_before sight.now) (listed pass.old.words list) fresh sight.now (statement_of resolved)) }
     ensures steps { IfOk result (needs_step inside) }
     ensures err { IfErr result (IsUnmet (history_of pass.old.words sight.now) (actions_before sight.now) N.log.cap pass.new.words (statement_of resolved)) }
 {
-    let reads = match reads(alloc, &resolved) {
-        Ok(reads) => reads,
-        Err(_) => {
-            drop(resolved);
-            return Err(Refusal::Memory);
-        }
-    };
     match resolved {
         Resolved::Act(action) => change(
             alloc, arena, pass, sight, list, fresh, inside, action, reads,
@@ -205,59 +197,7 @@ pub(crate) fn perform<N: Site>(
     }
 }
 
-/// Whether what a statement does is an action whose change is all in its text.
-pub(crate) fn is_literal_act(resolved: &Resolved) -> bool
-    ensures { result ≡ true → IsLiteralAct (statement_of resolved.now) }
-{
-    match resolved {
-        Resolved::Act(action) => is_literal(action),
-        _ => false,
-    }
-}
-
-/// The change of an action that is all in its text, with what it reads. The pass has the words of it.
-///
-/// # Errors
-/// `Full` where the log has no room, `Memory`.
-pub(crate) fn prepare_literal<N: Site>(
-    alloc: Global,
-    arena: &Arena<N>,
-    pass: &mut Pass<N>,
-    fresh: u32,
-    resolved: Resolved,
-) -> Result<(Proposal, List<Read>), Refusal>
-    requires literal { IsLiteralAct (statement_of resolved) }
-    requires encodable { IsEncodableAct (statement_of resolved) }
-    requires writes { WritesStatement (statement_of resolved) }
-    ensures longer { IsPrefix pass.old.words pass.new.words }
-    ensures kept { kept_of pass.new ≡ kept_of pass.old }
-    ensures ok { (s : SightValue) → IsSight pass.old.words s → FitsStatement (schema (history_of pass.old.words s) (actions_before s)).tables (statement_of resolved) → IfOk result (λ p. IsPreparedFor pass.new.words (history_of pass.old.words s) (actions_before s) [] fresh s (statement_of resolved) (prepared.Change p.0 None p.1)) }
-    ensures err { IfErr result (IsWant N.log.cap pass.new.words) }
-{
-    let reads = match reads(alloc, &resolved) {
-        Ok(reads) => reads,
-        Err(_) => {
-            drop(resolved);
-            return Err(Refusal::Memory);
-        }
-    };
-    match resolved {
-        Resolved::Act(action) => match propose_literal(arena, pass, fresh, action) {
-            Ok(proposal) => Ok((proposal, reads)),
-            Err(why) => Err(why),
-        },
-        Resolved::Ask {
-            ask: _ask,
-            columns: _columns,
-            query: _query,
-        } => unreachable!(),
-        Resolved::Begin => unreachable!(),
-        Resolved::Commit => unreachable!(),
-        Resolved::Rollback => unreachable!(),
-    }
-}
-
-/// A statement with positions for its names, at what it sees; it is no BEGIN, COMMIT or ROLLBACK.
+/// A statement with positions for its names, at what it sees, and what it reads; it is no BEGIN, COMMIT or ROLLBACK.
 ///
 /// # Errors
 /// The first fault of its names and counts; `Memory`.
@@ -267,53 +207,25 @@ pub(crate) fn resolved_at<N: Site>(
     sight: &Sight,
     fresh: u32,
     statement: &Statement,
-) -> Result<Resolved, Refusal>
+) -> Result<(Resolved, List<Read>), Refusal>
     requires sight { IsSight pass.now.words sight.now }
     requires written { IsWritten statement.now }
     requires plain { IsNoOrder statement.now }
-    ensures ok { IfOk result (λ r. IsResolved (history_of pass.now.words sight.now) (actions_before sight.now) pass.now.session fresh statement.now (statement_of r)) }
+    ensures ok { IfOk result (λ r. IsResolved (history_of pass.now.words sight.now) (actions_before sight.now) pass.now.session fresh statement.now (statement_of r.0)) }
+    ensures reads { IfOk result (λ r. r.1 ≡ reads_of (statement_of r.0)) }
     ensures err { IfErr result (IsRefused (history_of pass.now.words sight.now) (actions_before sight.now) N.log.cap pass.now.words pass.now.session fresh statement.now) }
 {
     let session = pass.session();
     let headings = sight.tables.db().headings();
-    match resolve(alloc, headings, session, fresh, statement) {
-        Ok(resolved) => Ok(resolved),
-        Err(e) => Err(named(e)),
-    }
-}
-
-/// What a statement asks for that is no BEGIN, COMMIT or ROLLBACK. The step of an action is made in a transaction, and for
-/// an assertion. The pass has the words of it.
-///
-/// # Errors
-/// The first fault of its names and counts. Else one of `TooLarge`, `Full`, `TooManyTerms`, `Inconsistent` and `Memory`,
-/// only where its cause holds.
-pub(crate) fn prepare<N: Site>(
-    alloc: Global,
-    arena: &Arena<N>,
-    pass: &mut Pass<N>,
-    sight: &Sight,
-    list: Option<u32>,
-    fresh: u32,
-    inside: bool,
-    statement: &Statement,
-) -> Result<Prepared, Refusal>
-    requires sight { IsSight pass.old.words sight.now }
-    requires list { IfSome list (λ place. IsTrue (is_place_of pass.old.words class.ChangeList place)) }
-    requires written { IsWritten statement.now }
-    requires plain { IsNoOrder statement.now }
-    ensures longer { IsPrefix pass.old.words pass.new.words }
-    ensures kept { kept_of pass.new ≡ kept_of pass.old }
-    ensures ok { IfOk result (IsPrepared pass.new.words (history_of pass.old.words sight.now) (actions_before sight.now) (listed pass.old.words list) pass.old.session fresh sight.now statement.now) }
-    ensures steps { IfOk result (needs_step inside) }
-    ensures err { IfErr result (IsRefused (history_of pass.old.words sight.now) (actions_before sight.now) N.log.cap pass.new.words pass.old.session fresh statement.now) }
-{
-    let resolved = match resolved_at(alloc, pass, sight, fresh, statement) {
+    let resolved = match resolve(alloc, headings, session, fresh, statement) {
         Ok(resolved) => resolved,
-        Err(why) => return Err(why),
+        Err(e) => return Err(named(e)),
     };
-    match perform(alloc, arena, pass, sight, list, fresh, inside, resolved) {
-        Ok(prepared) => Ok(prepared),
-        Err(why) => Err(why),
+    match reads(alloc, &resolved) {
+        Ok(reads) => Ok((resolved, reads)),
+        Err(_) => {
+            drop(resolved);
+            Err(Refusal::Memory)
+        }
     }
 }

@@ -53,9 +53,6 @@ impl<N: Site> State<N> {
         version: u32,
     ) -> State<N>
         ensures pass { result.pass ≡ pass }
-        ensures state { state_of result.pass result.seen result.fresh result.open ≡ carried version (state_of pass seen fresh transaction) }
-        ensures open { result.open ≡ transaction }
-        ensures seen { result.seen ≡ max seen version }
         ensures session { IsSession pass.words (max seen version) transaction → IsSession result.pass.words result.seen result.open }
         ensures executes { (room : ℕ) (s : SessionState) (words : List ℕ) (st : StatementValue) (r : ReplyValue) → Executes room s (carried version (state_of pass seen fresh transaction)) words pass.words st r → Executes room s (state_of result.pass result.seen result.fresh result.open) words result.pass.words st r }
     {

@@ -10,7 +10,7 @@ ghost use Rattle.ct_session.specs.Statements.{IsWritten};
 ghost use Rattle.ct_session.specs.declared.preparing.Prepared.TheVariants as prepared;
 
 use crate::extending::{after_action, after_query};
-use crate::preparing::{Prepared, prepare};
+use crate::preparing::{Prepared, perform, resolved_at};
 use crate::replying::{refusal, reply_of};
 use crate::session::{Open, State};
 use ct_arena::{Arena, Pass, Site};
@@ -144,15 +144,21 @@ pub(crate) fn within<N: Site>(
     } = session;
     let Some(open) = open else { unreachable!() };
     let _before = pass.words();
-    let prepared = prepare(
+    let (resolved, reads) = match resolved_at(alloc, &pass, &open.sight, fresh, statement) {
+        Ok(found) => found,
+        Err(why) => return refused(pass, seen, fresh, open, statement, why),
+    };
+    let list = open.changes;
+    let prepared = perform(
         alloc,
         arena,
         &mut pass,
         &open.sight,
-        open.changes,
+        list,
         fresh,
         true,
-        statement,
+        resolved,
+        reads,
     );
     let _after = pass.words();
     match prepared {

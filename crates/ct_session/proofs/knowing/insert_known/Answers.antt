@@ -1,8 +1,7 @@
 use Rattle.std.{proofs.Common.{sym, subst, ◌∙◌}, specs.Prelude.{None, IfSome}}
 use Rattle.ct_word.proofs.Prefixes.{prefix_of_prefix}
 use Rattle.ct_statement.proofs.Sights.{sight_grows}
-use Rattle.ct_session.{specs.Known.SeesAlone, specs.Sessions.state_of, proofs.Again.{known_seen, known_executes}, proofs.Acted.ready_offer}
-use Rattle.ct_session.proofs.Called.{called}
+use Rattle.ct_session.{specs.Known.SeesAlone, specs.Sessions.state_of, proofs.Again.{known_seen, known_executes}, proofs.Called.called}
 use Rattle.ct_transcript.specs.declared.reply.Reply.TheVariants as reply
 use Rattle.ct_session.proofs.knowing.insert_known.Goals as goal
 
@@ -10,9 +9,7 @@ pub ready_known-ready-requires-clause-sees : goal.ready_known-ready-requires-cla
 ready_known-ready-requires-clause-sees g c = subst (λ o. IfSome o (SeesAlone c.args.pass.words)) (sym c.take.ensures.value ∙ c.in-Some.is) c.requires.known
 
 pub commit-pass-requires-clause-offer : goal.commit-pass-requires-clause-offer
-commit-pass-requires-clause-offer g c =
-    let made = c.in-Some-ready in
-    ready_offer c.ready_known-ready.new.pass c.args.fresh c.in-Some.sight.version c.new.result made.proposal made.reads c.args.statement.now (made.ensures.ready c.new.result c.new.ensures)
+commit-pass-requires-clause-offer g c = c.in-Some-ready.ensures.ready.takes
 
 pub returns-in-Some-committed_as-clause-session : goal.returns-in-Some-committed_as-clause-session
 returns-in-Some-committed_as-clause-session g c =
@@ -22,8 +19,8 @@ returns-in-Some-committed_as-clause-session g c =
     let after = c.commit-pass.result.0 in
     let k = called N c.args.pass now.new.pass after now.ensures.longer now.ensures.kept c.words-begun.ensures.numbered c.words-now.ensures.numbered c.commit-pass.ensures.longer c.commit-pass.ensures.session c.words-after.ensures.numbered c.words-after.ensures.room in
     c.carrying-session.ensures.session (record {
-      seen_is = known_seen c.args.pass now.new.pass now.ensures.kept c.args.fresh c.in-Some.sight.version c.new.result made.proposal made.reads c.args.statement.now (made.ensures.ready c.new.result c.new.ensures)
-          N c.args.seen c.requires.seen after k c.commit-pass.result.1 c.in-Some-committed_as.at (sym c.committed_as.ensures ∙ c.in-Some-committed_as.is) c.commit-pass.ensures.outcome;
+      seen_is = known_seen c.args.pass now.new.pass now.ensures.kept c.args.fresh made.offering c.args.statement.now made.ensures.ready N c.args.seen c.requires.seen after k
+          c.commit-pass.result.1 c.in-Some-committed_as.at (sym c.committed_as.ensures ∙ c.in-Some-committed_as.is) c.commit-pass.ensures.outcome;
       open_is = tt;
     })
 
@@ -35,8 +32,8 @@ returns-in-Some-committed_as-clause-executes g c =
     let st = c.args.statement.now in
     let k = called N c.args.pass now.new.pass c.commit-pass.result.0 now.ensures.longer now.ensures.kept c.words-begun.ensures.numbered c.words-now.ensures.numbered c.commit-pass.ensures.longer c.commit-pass.ensures.session c.words-after.ensures.numbered c.words-after.ensures.room in
     c.carrying-session.ensures.executes N (state_of c.args.pass c.args.seen c.args.fresh None) c.args.pass.words st (reply.Committed c.in-Some-committed_as.at)
-    (known_executes c.args.pass now.new.pass now.ensures.kept c.args.fresh c.in-Some.sight.version c.new.result made.proposal made.reads st (made.ensures.ready c.new.result c.new.ensures)
-    N c.args.seen c.requires.seen c.commit-pass.result.0 k c.commit-pass.result.1 c.in-Some-committed_as.at (sym c.committed_as.ensures ∙ c.in-Some-committed_as.is) c.commit-pass.ensures.outcome)
+    (known_executes c.args.pass now.new.pass now.ensures.kept c.args.fresh made.offering st made.ensures.ready N c.args.seen c.requires.seen c.commit-pass.result.0 k
+    c.commit-pass.result.1 c.in-Some-committed_as.at (sym c.committed_as.ensures ∙ c.in-Some-committed_as.is) c.commit-pass.ensures.outcome)
 
 pub returns-in-Some-committed_as-clause-known : goal.returns-in-Some-committed_as-clause-known
 returns-in-Some-committed_as-clause-known g c =

@@ -1,7 +1,7 @@
 use Rattle.std.proofs.Common.{sym, subst}
 use Rattle.ct_query.specs.Views.{action_of}
-use Rattle.ct_statement.{specs.Proposals.{IsProposal, listed}, specs.Sight.{actions_before, history_of}, specs.Unmet.IsUnmet, proofs.Sights.sight_grows}
-use Rattle.ct_session.{specs.Prepared.IsStepIf, proofs.Proposed.{same_history, proposal_grows}}
+use Rattle.ct_statement.{specs.Proposals.{IsProposal, listed}, specs.Sight.{actions_before, history_of}, specs.Unmet.IsUnmet, proofs.Sights.{history_stays, sight_grows}}
+use Rattle.ct_session.{specs.Prepared.IsStepIf, proofs.Proposed.proposal_grows}
 use Rattle.ct_query.specs.Plain as plain
 use Rattle.ct_session.proofs.preparing.change.Goals as goal
 
@@ -16,7 +16,7 @@ step_where_needed-step-requires-clause-proposal g c =
     let s = c.args.sight.now in
     let list = listed old c.args.list in (
       list,
-      subst (λ h. IsProposal new h (actions_before s) list (action_of c.in-Ok.proposal.action) c.in-Ok.proposal.changes) (same_history old new c.propose.ensures.longer s c.requires.sight.within)
+      subst (λ h. IsProposal new h (actions_before s) list (action_of c.in-Ok.proposal.action) c.in-Ok.proposal.changes) (history_stays old new c.propose.ensures.longer s c.requires.sight.within)
           (subst (λ a. IsProposal new (history_of old s) (actions_before s) list a c.in-Ok.proposal.changes) (sym c.in-Ok.ensures.action) c.in-Ok.ensures.proposes),
     )
 
@@ -41,5 +41,5 @@ returns-in-Err-step-clause-err g c =
     let mid = c.propose.new.pass.words in
     let new = c.step_where_needed-step.new.pass.words in
     let s = c.args.sight.now in
-    subst (λ h. IsUnmet h (actions_before s) g.N.Site.log.cap new (plain.Act (action_of c.args.action)) c.in-Err-step.why) (sym (same_history old mid c.propose.ensures.longer s c.requires.sight.within))
+    subst (λ h. IsUnmet h (actions_before s) g.N.Site.log.cap new (plain.Act (action_of c.args.action)) c.in-Err-step.why) (sym (history_stays old mid c.propose.ensures.longer s c.requires.sight.within))
     (subst (λ a. IsUnmet (history_of mid s) (actions_before s) g.N.Site.log.cap new (plain.Act a) c.in-Err-step.why) c.in-Ok.ensures.action c.in-Err-step.ensures.err)

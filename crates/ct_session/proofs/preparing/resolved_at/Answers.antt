@@ -3,11 +3,11 @@ use Rattle.ct_query.{specs.Fits.FitsStatement, specs.Schema.schema, specs.Views.
 use Rattle.ct_resolve.specs.Statements.{resolved}
 use Rattle.ct_table.specs.Denotes.{heading_of}
 use Rattle.ct_statement.specs.Sight.{actions_before, history_of}
-use Rattle.ct_session.{specs.Prepared.IsRefused, proofs.Resolving.{named_refuses, no_order}}
+use Rattle.ct_session.{specs.Prepared.{IsRefused, wanting_memory}, proofs.Resolving.{named_refuses, no_order}}
 use Rattle.ct_session.proofs.preparing.resolved_at.Goals as goal
 
-pub returns-in-Ok-clause-ok : goal.returns-in-Ok-clause-ok
-returns-in-Ok-clause-ok g c =
+pub returns-in-Ok-reads-clause-ok : goal.returns-in-Ok-reads-clause-ok
+returns-in-Ok-reads-clause-ok g c =
     let words = c.args.pass.now.words in
     let s = c.args.sight.now in
     let st = c.args.statement.now in
@@ -33,3 +33,6 @@ returns-in-Err-clause-err g c =
     subst (λ why. IsRefused (history_of words s) (actions_before s) g.N.Site.log.cap words c.args.pass.now.session c.args.fresh st why) (sym c.named.ensures)
     (named_refuses (history_of words s) (actions_before s) g.N.Site.log.cap words c.args.pass.now.session c.args.fresh st c.in-Err.e
     (λ n. (λ i. resolved (sym same i) (sym c.session-session.ensures.value i) c.args.fresh st) ∙ c.in-Err.ensures.err n))
+
+pub returns-in-Err-reads-clause-err : goal.returns-in-Err-reads-clause-err
+returns-in-Err-reads-clause-err g c = wanting_memory

@@ -2,10 +2,11 @@ use Rattle.std.{proofs.Common.{◌≡◌, ◌≤◌, ℕ, List, length, ap, sym,
 use Rattle.ct_word.specs.WellFormed.{IsWellFormed}
 use Rattle.ct_arena.{specs.Counts.AreNumbered, specs.Seen.Seen}
 use Rattle.ct_history.specs.Kept.{kept_of}
+use Rattle.ct_query.specs.Views.{statement_of}
 use Rattle.ct_parse.specs.declared.tree.Statement.{Statement}
 use Rattle.ct_transcript.specs.declared.reply.Reply.{Reply}
 use Rattle.ct_statement.{specs.declared.stepping.Step.Step, specs.Proposals.listed, specs.Sight.{actions_before, history_of}}
-use Rattle.ct_session.{specs.declared.preparing.Prepared.Prepared, specs.declared.session.Open.Open, specs.Prepared.IsPrepared, specs.Executes.Executes}
+use Rattle.ct_session.{specs.declared.preparing.Prepared.Prepared, specs.declared.session.Open.Open, specs.Prepared.{IsPreparedFor, unmet}, specs.Executes.Executes}
 use Rattle.ct_session.{specs.Sessions.{IsSession, state_of}, specs.State.SessionState, proofs.Opened.{session_grows, prepared_later, refused_later}}
 use Rattle.ct_session.{proofs.Ordered.executes_later, proofs.Replies.proceeds}
 use mathlib.Core.List.{IsPrefix}
@@ -27,63 +28,78 @@ later N pass new longer kept room old counted seen fresh o open' is next now st 
 pub answer-requires-clause-session : goal.answer-requires-clause-session
 answer-requires-clause-session g c =
     let s = c.args.session in
-    grown s.pass.words c.prepare-prepared.new.pass.words c.in-Ok-Answer.ensures.longer c.words-after.ensures.formed s.seen s.open c.in-Some.open c.in-Some.is c.requires.session
+    grown s.pass.words c.perform-prepared.new.pass.words c.in-Ok-Answer.ensures.longer c.words-after.ensures.formed s.seen s.open c.in-Some.open c.in-Some.is c.requires.session
 
 pub answer-requires-clause-prepared : goal.answer-requires-clause-prepared
 answer-requires-clause-prepared g c =
     let s = c.args.session in
-    let new = c.prepare-prepared.new.pass in
+    let new = c.perform-prepared.new.pass in
     let o = c.in-Some.open in
     let done = c.in-Ok-Answer in
     let k = subst (λ (t : Option Open). IsSession s.pass.words s.seen t) c.in-Some.is c.requires.session in
-    prepared_later s.pass new done.ensures.longer done.ensures.kept o k.open_is s.fresh c.args.statement.now (prepared.Answer done.answered done.reads)
-    (subst (λ (p : Prepared). IsPrepared new.words (history_of s.pass.words o.sight) (actions_before o.sight) (listed s.pass.words o.changes) s.pass.session s.fresh o.sight c.args.statement.now p)
-    done.field-0-is done.ensures.ok)
+    prepared_later s.pass new done.ensures.longer done.ensures.kept o.sight k.open_is.sight.within o.changes k.open_is.list s.fresh c.args.statement.now (prepared.Answer done.answered done.reads)
+    (record {
+      asked = statement_of c.in-Ok.found.0;
+      resolves = c.in-Ok.ensures.ok.resolves;
+      prepared = subst (λ (p : Prepared). IsPreparedFor new.words (history_of s.pass.words o.sight) (actions_before o.sight) (listed s.pass.words o.changes) s.fresh o.sight (statement_of c.in-Ok.found.0) p) done.field-0-is done.ensures.ok;
+    })
 
 pub change-requires-clause-session : goal.change-requires-clause-session
 change-requires-clause-session g c =
     let s = c.args.session in
-    grown s.pass.words c.prepare-prepared.new.pass.words c.in-Ok-Change.ensures.longer c.words-after.ensures.formed s.seen s.open c.in-Some.open c.in-Some.is c.requires.session
+    grown s.pass.words c.perform-prepared.new.pass.words c.in-Ok-Change.ensures.longer c.words-after.ensures.formed s.seen s.open c.in-Some.open c.in-Some.is c.requires.session
 
 pub change-requires-clause-prepared : goal.change-requires-clause-prepared
 change-requires-clause-prepared g c =
     let s = c.args.session in
-    let new = c.prepare-prepared.new.pass in
+    let new = c.perform-prepared.new.pass in
     let o = c.in-Some.open in
     let done = c.in-Ok-Change in
     let k = subst (λ (t : Option Open). IsSession s.pass.words s.seen t) c.in-Some.is c.requires.session in
-    prepared_later s.pass new done.ensures.longer done.ensures.kept o k.open_is s.fresh c.args.statement.now (prepared.Change done.proposal (Some c.in-Some-step.step) done.reads)
-    (subst (λ (p : Prepared). IsPrepared new.words (history_of s.pass.words o.sight) (actions_before o.sight) (listed s.pass.words o.changes) s.pass.session s.fresh o.sight c.args.statement.now p)
-    (done.field-0-is ∙ ap (λ (step : Option Step). prepared.Change done.proposal step done.reads) c.in-Some-step.is) done.ensures.ok)
+    prepared_later s.pass new done.ensures.longer done.ensures.kept o.sight k.open_is.sight.within o.changes k.open_is.list s.fresh c.args.statement.now (prepared.Change done.proposal (Some c.in-Some-step.step) done.reads)
+    (record {
+      asked = statement_of c.in-Ok.found.0;
+      resolves = c.in-Ok.ensures.ok.resolves;
+      prepared = subst (λ (p : Prepared). IsPreparedFor new.words (history_of s.pass.words o.sight) (actions_before o.sight) (listed s.pass.words o.changes) s.fresh o.sight (statement_of c.in-Ok.found.0) p)
+          (done.field-0-is ∙ ap (λ (step : Option Step). prepared.Change done.proposal step done.reads) c.in-Some-step.is) done.ensures.ok;
+    })
 
-pub refused-requires-clause-session : goal.refused-requires-clause-session
-refused-requires-clause-session g c =
+pub refused-requires-in-Err-prepared-clause-session : goal.refused-requires-in-Err-prepared-clause-session
+refused-requires-in-Err-prepared-clause-session g c =
     let s = c.args.session in
-    grown s.pass.words c.prepare-prepared.new.pass.words c.in-Err.ensures.longer c.words-after.ensures.formed s.seen s.open c.in-Some.open c.in-Some.is c.requires.session
+    grown s.pass.words c.perform-prepared.new.pass.words c.in-Err-prepared.ensures.longer c.words-after.ensures.formed s.seen s.open c.in-Some.open c.in-Some.is c.requires.session
 
-pub refused-requires-clause-refused : goal.refused-requires-clause-refused
-refused-requires-clause-refused g c =
+pub refused-requires-in-Err-prepared-clause-refused : goal.refused-requires-in-Err-prepared-clause-refused
+refused-requires-in-Err-prepared-clause-refused g c =
     let s = c.args.session in
     let k = subst (λ (t : Option Open). IsSession s.pass.words s.seen t) c.in-Some.is c.requires.session in
-    refused_later s.pass c.prepare-prepared.new.pass c.in-Err.ensures.longer c.in-Err.ensures.kept c.in-Some.open k.open_is s.fresh c.args.statement.now g.N.Site.log.cap c.in-Err.why c.in-Err.ensures.err
+    refused_later s.pass c.perform-prepared.new.pass c.in-Err-prepared.ensures.longer c.in-Err-prepared.ensures.kept c.in-Some.open.sight k.open_is.sight.within c.in-Some.open.changes k.open_is.list s.fresh c.args.statement.now g.N.Site.log.cap c.in-Err-prepared.why
+    (unmet c.in-Err-prepared.why (record { asked = statement_of c.in-Ok.found.0; resolves = c.in-Ok.ensures.ok.resolves; unmet = c.in-Err-prepared.ensures.err }))
 
 pub returns-in-Ok-Answer-clause-executes : goal.returns-in-Ok-Answer-clause-executes
 returns-in-Ok-Answer-clause-executes g c =
     let s = c.args.session in
     let done = c.in-Ok-Answer.ensures in
-    later g.N.Site.log.cap s.pass c.prepare-prepared.new.pass done.longer done.kept c.words-after.ensures.room c.words-before.ensures.numbered c.words-after.ensures.numbered
+    later g.N.Site.log.cap s.pass c.perform-prepared.new.pass done.longer done.kept c.words-after.ensures.room c.words-before.ensures.numbered c.words-after.ensures.numbered
     s.seen s.fresh s.open c.in-Some.open c.in-Some.is _ _ c.args.statement.now c.answer.result.1 c.answer.ensures.executes
 
 pub returns-in-Some-step-clause-executes : goal.returns-in-Some-step-clause-executes
 returns-in-Some-step-clause-executes g c =
     let s = c.args.session in
     let done = c.in-Ok-Change.ensures in
-    later g.N.Site.log.cap s.pass c.prepare-prepared.new.pass done.longer done.kept c.words-after.ensures.room c.words-before.ensures.numbered c.words-after.ensures.numbered
+    later g.N.Site.log.cap s.pass c.perform-prepared.new.pass done.longer done.kept c.words-after.ensures.room c.words-before.ensures.numbered c.words-after.ensures.numbered
     s.seen s.fresh s.open c.in-Some.open c.in-Some.is _ _ c.args.statement.now c.change.result.1 c.change.ensures.executes
+
+pub returns-in-Err-prepared-clause-executes : goal.returns-in-Err-prepared-clause-executes
+returns-in-Err-prepared-clause-executes g c =
+    let s = c.args.session in
+    let done = c.in-Err-prepared.ensures in
+    later g.N.Site.log.cap s.pass c.perform-prepared.new.pass done.longer done.kept c.words-after.ensures.room c.words-before.ensures.numbered c.words-after.ensures.numbered
+    s.seen s.fresh s.open c.in-Some.open c.in-Some.is _ _ c.args.statement.now c.refused-in-Err-prepared.result.1 c.refused-in-Err-prepared.ensures.executes
 
 pub returns-in-Err-clause-executes : goal.returns-in-Err-clause-executes
 returns-in-Err-clause-executes g c =
     let s = c.args.session in
-    let done = c.in-Err.ensures in
-    later g.N.Site.log.cap s.pass c.prepare-prepared.new.pass done.longer done.kept c.words-after.ensures.room c.words-before.ensures.numbered c.words-after.ensures.numbered
-    s.seen s.fresh s.open c.in-Some.open c.in-Some.is _ _ c.args.statement.now c.refused.result.1 c.refused.ensures.executes
+    let after = c.refused.result.0 in
+    subst (λ (p : Option Open). Executes g.N.Site.log.cap (state_of s.pass s.seen s.fresh p) (state_of after.pass after.seen after.fresh after.open) s.pass.words after.pass.words c.args.statement.now c.refused.result.1)
+    (sym c.in-Some.is) c.refused.ensures.executes
