@@ -117,10 +117,7 @@ impl<N: Site> Client<N> {
         let script = self.script.as_str();
         let replies = answer_script(rt, alloc, server, &mut session, script, gate);
         self.pass = Some(session.finish());
-        self.replies = match replies {
-            Ok(replies) => Some(replies),
-            Err(_) => None,
-        };
+        self.replies = replies.ok();
     }
 
     /// The pass and what was said, or `None` where memory was wanting for the lists of statements and replies.

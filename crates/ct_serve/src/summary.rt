@@ -1,10 +1,10 @@
 // The summary of the sessions of generated scripts.
 
-ghost use Rattle.std.specs.Prelude.{◌≡◌, [], ◌∷◌, ◌++◌, length, not, slice_get, count_by, string_bytes, IfOk, OnOk};
-ghost use Rattle.ct_transcript.specs.NodeText.{line, is_false_node};
+ghost use Rattle.std.specs.Prelude.{◌≡◌, length, not, slice_get, count_by, IfOk};
+ghost use Rattle.ct_transcript.specs.NodeText.{is_false_node};
 ghost use Rattle.ct_transcript.specs.Text.{answer_row_lines, printed_answer};
 ghost use Rattle.ct_serve.specs.Runs.{is_refusal};
-ghost use Rattle.ct_serve.specs.Summary.{rows_under, possible_under, certain_under, of_last, session_line, session_lines, summary};
+ghost use Rattle.ct_serve.specs.Summary.{rows_under, possible_under, certain_under, of_last, session_line, summary};
 
 use crate::printing::{Sought, is_sought};
 use ct_transcript::{Answer, Node, Reply, SessionLog, Transcript};
@@ -87,21 +87,9 @@ fn last_certain(replies: &[Reply]) -> usize
     replies.fold(0, |last, reply| certain_under(reply).unwrap_or(last))
 }
 
-fn push_line(lines: &mut Vec<Text>, mut text: String) -> Result<(), Memory>
-    ensures { OnOk result (lines.new.items ≡ lines.old.items ++ line (string_bytes text) ∷ []) }
-{
-    text.push_str("\n")?;
-    lines.push(Text::from_string(text))?;
-    Ok(())
-}
-
-fn push_session(
-    alloc: Global,
-    lines: &mut Vec<Text>,
-    s: usize,
-    session: &SessionLog,
-) -> Result<(), Memory>
-    ensures { OnOk result (lines.new.items ≡ lines.old.items ++ session_line s session.now ∷ []) }
+/// The line of session `s`.
+fn session_line(alloc: Global, s: usize, session: &SessionLog) -> Result<Text, Memory>
+    ensures { IfOk result (λ text. text ≡ session_line s session.now) }
 {
     let replies = session.replies.as_slice();
     let statements = replies.len();
@@ -109,26 +97,10 @@ fn push_session(
     let rows = last_rows(replies);
     let possible = last_possible(replies);
     let certain = last_certain(replies);
-    push_line(
-        lines,
-        format!(in alloc;
-            "session {s}: {statements} statements, {refused} refused, {rows} rows, {possible} possible, {certain} certain"
-        )?,
+    let line = format!(in alloc;
+        "session {s}: {statements} statements, {refused} refused, {rows} rows, {possible} possible, {certain} certain\n"
     )?;
-    Ok(())
-}
-
-fn push_sessions(
-    alloc: Global,
-    lines: &mut Vec<Text>,
-    sessions: &[SessionLog],
-) -> Result<(), Memory>
-    ensures { OnOk result (lines.new.items ≡ lines.old.items ++ session_lines 1 sessions.now) }
-{
-    for (i, session) in sessions.iter().enumerate() {
-        push_session(alloc, lines, i + 1, session)?;
-    }
-    Ok(())
+    Ok(Text::from_string(line))
 }
 
 /// The summary of a transcript, one entry a line with its line end: what the scripts were made with, a line for each
@@ -140,9 +112,12 @@ pub(crate) fn summary(alloc: Global, n: u32, transcript: &Transcript) -> Result<
     ensures { IfOk result (λ lines. lines.items ≡ summary n transcript.now) }
 {
     let mut lines = Vec::new(alloc);
-    push_line(&mut lines, format!(in alloc; "fill {n}")?)?;
-    push_sessions(alloc, &mut lines, transcript.sessions.as_slice())?;
+    lines.push(Text::from_string(format!(in alloc; "fill {n}\n")?))?;
+    let sessions = transcript.sessions.as_slice();
+    for (i, session) in sessions.iter().enumerate() {
+        lines.push(session_line(alloc, i + 1, session)?)?;
+    }
     let commits = transcript.history.len();
-    push_line(&mut lines, format!(in alloc; "commits {commits}")?)?;
+    lines.push(Text::from_string(format!(in alloc; "commits {commits}\n")?))?;
     Ok(lines)
 }

@@ -1,6 +1,6 @@
 use Rattle.std.proofs.Common.{◌≡◌, ◌+◌, ◌++◌, drop}
 use Rattle.ct_serve.specs.Summary.{session_lines}
-use Rattle.ct_serve.proofs.summary.push_sessions.Given as goal
+use Rattle.ct_serve.proofs.summary.summary.Given as goal
 
 abbrev pub invariant-loop-i : goal.invariant-loop-i
 invariant-loop-i l =
