@@ -1,5 +1,4 @@
 mod arena;
-mod chains;
 mod changes;
 mod checks;
 mod conditions;

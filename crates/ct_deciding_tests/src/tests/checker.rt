@@ -9,43 +9,32 @@ use ct_word::{Kind, List, Memory, pack};
 use std::alloc::{AllocError, Global};
 use std::test::Fail;
 
-fn literal(positive: bool, atom: Atom) -> Lit {
-    Lit { positive, atom }
-}
-
-fn node(place: u32) -> Lit {
-    literal(true, Atom::Node(place))
-}
-
-fn no_node(place: u32) -> Lit {
-    literal(false, Atom::Node(place))
-}
-
-fn same(s: u32, t: u32) -> Lit {
-    literal(true, Atom::Same(s, t))
-}
-
-fn differ(s: u32, t: u32) -> Lit {
-    literal(false, Atom::Same(s, t))
-}
-
-fn list(alloc: Global, places: &[u32]) -> Result<List<u32>, AllocError> {
-    let mut items: Vec<u32> = Vec::new(alloc);
-    for place in places {
-        items.push(*place)?;
+/// That a condition holds, or that it does not.
+fn node(positive: bool, place: u32) -> Lit {
+    Lit {
+        positive,
+        atom: Atom::Node(place),
     }
-    Ok(List::from_vec(items))
 }
 
-fn step(alloc: Global, literals: &[Lit], why: Why) -> Result<Step, AllocError> {
-    let mut clause: Vec<Lit> = Vec::new(alloc);
-    for literal in literals {
-        clause.push(*literal)?;
+/// That two terms are the same, or that they differ.
+fn same(positive: bool, s: u32, t: u32) -> Lit {
+    Lit {
+        positive,
+        atom: Atom::Same(s, t),
     }
-    Ok(Step {
-        clause: List::from_vec(clause),
-        why,
-    })
+}
+
+/// Adds the step of a clause.
+fn push(
+    alloc: Global,
+    steps: &mut Vec<Step>,
+    literals: &[Lit],
+    why: Why,
+) -> Result<(), AllocError> {
+    let clause = List::from_vec(literals.to_vec(alloc)?);
+    steps.push(Step { clause, why })?;
+    Ok(())
 }
 
 /// Adds the step of a clause of two literals that the k-th definition of a place gives.
@@ -56,8 +45,7 @@ fn push_definition(
     place: u32,
     k: u8,
 ) -> Result<(), AllocError> {
-    steps.push(step(alloc, &literals, Why::Def(place, k))?)?;
-    Ok(())
+    push(alloc, steps, &literals, Why::Def(place, k))
 }
 
 /// Adds the step of a clause along a path over these places.
@@ -67,8 +55,8 @@ fn push_path(
     literals: &[Lit],
     places: &[u32],
 ) -> Result<(), AllocError> {
-    steps.push(step(alloc, literals, Why::Path(list(alloc, places)?))?)?;
-    Ok(())
+    let path = List::from_vec(places.to_vec(alloc)?);
+    push(alloc, steps, literals, Why::Path(path))
 }
 
 /// Adds the step of a clause that these steps give together.
@@ -78,8 +66,8 @@ fn push_resolved(
     literals: &[Lit],
     hints: &[u32],
 ) -> Result<(), AllocError> {
-    steps.push(step(alloc, literals, Why::Rup(list(alloc, hints)?))?)?;
-    Ok(())
+    let hints = List::from_vec(hints.to_vec(alloc)?);
+    push(alloc, steps, literals, Why::Rup(hints))
 }
 
 /// A table with room for the check of a derivation, which is not that wide here.
@@ -126,9 +114,9 @@ fn wide_clause(alloc: Global, links: u32) -> Result<Vec<Lit>, AllocError>
 {
     let mut clause: Vec<Lit> = Vec::new(alloc);
     for k in 1..links + 1 {
-        clause.push(differ(null(k - 1), null(k)))?;
+        clause.push(same(false, null(k - 1), null(k)))?;
     }
-    clause.push(same(0, null(links)))?;
+    clause.push(same(true, 0, null(links)))?;
     Ok(clause)
 }
 
@@ -146,7 +134,7 @@ fn push_short_paths(alloc: Global, links: u32, steps: &mut Vec<Step>) -> Result<
 {
     for k in 2..links + 1 {
         let (s, t) = (null(k - 1), null(k));
-        let clause = [differ(0, s), differ(s, t), same(0, t)];
+        let clause = [same(false, 0, s), same(false, s, t), same(true, 0, t)];
         push_path(alloc, steps, &clause, &[0, s, t])?;
     }
     Ok(())
@@ -187,8 +175,20 @@ fn by_one_path(alloc: Global, links: u32, steps: &mut Vec<Step>) -> Result<(), A
 fn push_conjunction(alloc: Global, steps: &mut Vec<Step>, place: u32) -> Result<(), AllocError>
     requires { 3 ≤ place }
 {
-    push_definition(alloc, steps, [no_node(place), node(place - 3)], place, 0)?;
-    push_definition(alloc, steps, [no_node(place), node(place - 1)], place, 1)
+    push_definition(
+        alloc,
+        steps,
+        [node(false, place), node(true, place - 3)],
+        place,
+        0,
+    )?;
+    push_definition(
+        alloc,
+        steps,
+        [node(false, place), node(true, place - 1)],
+        place,
+        1,
+    )
 }
 
 /// What the last conjunction says, with the root.
@@ -196,19 +196,19 @@ fn push_root(alloc: Global, links: u32, steps: &mut Vec<Step>) -> Result<(), All
     requires { links ≤ 10000 }
 {
     let end = 3 * links + 4;
-    steps.push(step(alloc, &[node(end)], Why::Root)?)?;
+    push(alloc, steps, &[node(true, end)], Why::Root)?;
     push_conjunction(alloc, steps, end)?;
     push_definition(
         alloc,
         steps,
-        [no_node(end - 1), no_node(end - 2)],
+        [node(false, end - 1), node(false, end - 2)],
         end - 1,
         0,
     )?;
     push_definition(
         alloc,
         steps,
-        [node(end - 2), differ(0, null(links))],
+        [node(true, end - 2), same(false, 0, null(links))],
         end - 2,
         1,
     )
@@ -225,7 +225,13 @@ fn push_link(
     requires { 3 ≤ place }
 {
     push_conjunction(alloc, steps, place)?;
-    push_definition(alloc, steps, [no_node(place - 1), same(s, t)], place - 1, 0)
+    push_definition(
+        alloc,
+        steps,
+        [node(false, place - 1), same(true, s, t)],
+        place - 1,
+        0,
+    )
 }
 
 /// What the conjunctions say, from the root down.

@@ -1,6 +1,5 @@
 // A deletion. The other operators are run by the scripts of tests/.
 
-use crate::tests::logs::{Shown, in_a_log};
 use crate::tests::tables::{equal, filled, named, number};
 use ct_arena::{Arena, Pass, Site};
 use ct_operators::{CRow, delete};
@@ -39,9 +38,4 @@ pub fn shows_deletion<N: Site>(
     let cond = equal(arena, pass, x, one)?;
     let rows = left(alloc, arena, pass, [one, x], cond)?;
     Ok(rows.len() == 2 && rows.as_slice().iter().all(|row| row.cond > cond))
-}
-
-#[test]
-fn rows_are_deleted_where_the_condition_holds(rt: HostRuntime) -> Result<(), Fail> {
-    in_a_log(&rt, rt.alloc(), 64, Shown::Deletion)
 }

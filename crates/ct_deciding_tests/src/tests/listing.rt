@@ -7,7 +7,6 @@ ghost use Rattle.ct_word.specs.declared.kinds.Class.TheVariants as class;
 ghost use Rattle.ct_certain.specs.Certain.{IsKeptWorld};
 
 use crate::tests::decision::passes;
-use crate::tests::logs::{Shown, in_a_log};
 use crate::tests::tables::{equal, filled, named, number};
 use ct_arena::{Arena, Pass, Site};
 use ct_certain::{CertainRow, PossibleRow, certain, possible};
@@ -128,11 +127,6 @@ pub fn shows_rows<N: Site>(
     Ok(are_shown(list.as_slice()))
 }
 
-#[test]
-fn a_row_is_listed_where_some_world_shows_it(rt: HostRuntime) -> Result<(), Fail> {
-    in_a_log(&rt, rt.alloc(), 64, Shown::Rows)
-}
-
 /// The place of the negation of a condition.
 fn opposite<N: Site>(arena: &Arena<N>, pass: &mut Pass<N>, c: u32) -> Result<u32, Fail> {
     if !is_place(pass.words(), Class::Cond, c) {
@@ -245,11 +239,6 @@ pub fn shows_tuples<N: Site>(
     Ok(in_each && alone && are_numbers(both, &[1, 2]) && have_one_question(both))
 }
 
-#[test]
-fn a_tuple_is_listed_where_each_world_has_it(rt: HostRuntime) -> Result<(), Fail> {
-    in_a_log(&rt, rt.alloc(), 256, Shown::Tuples)
-}
-
 /// Whether there are two rows, the first in a world of two nulls, and the second in the one in which x is 1.
 fn is_second_shorter(rows: &[PossibleRow]) -> bool {
     match rows {
@@ -271,9 +260,4 @@ pub fn shows_short_worlds<N: Site>(
     let cells = [(p.one, all), (p.two, p.is_one)];
     let list = possible_of(alloc, arena, pass, &cells)?;
     Ok(is_second_shorter(list.as_slice()))
-}
-
-#[test]
-fn a_world_has_the_nulls_of_its_row(rt: HostRuntime) -> Result<(), Fail> {
-    in_a_log(&rt, rt.alloc(), 64, Shown::ShortWorlds)
 }

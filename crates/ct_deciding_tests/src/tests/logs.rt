@@ -1,4 +1,4 @@
-// A log for each test.
+// What is shown of tables, each in a log of its own.
 
 ghost use Rattle.std.specs.Prelude.{◌≡◌, ◌≤◌};
 
@@ -11,8 +11,8 @@ use std::process::Abort;
 use std::test::Fail;
 
 /// What is shown in a log.
-#[derive(Clone, Copy)]
-pub enum Shown {
+#[derive(Drop)]
+enum Shown {
     Deletion,
     Rows,
     Tuples,
@@ -44,7 +44,7 @@ fn shows<N: Site>(alloc: Global, blank: Blank, shown: Shown) -> Result<bool, Fai
 }
 
 /// It is shown in a log of its own, of this capacity.
-pub fn in_a_log(rt: &impl Abort, alloc: Global, cap: u32, shown: Shown) -> Result<(), Fail>
+fn in_a_log(rt: &impl Abort, alloc: Global, cap: u32, shown: Shown) -> Result<(), Fail>
     requires least { 64 ≤ cap }
     requires most { cap ≤ 4194304 }
 {
@@ -52,4 +52,14 @@ pub fn in_a_log(rt: &impl Abort, alloc: Global, cap: u32, shown: Shown) -> Resul
     let is_shown = shows::<Brand>(alloc, blank, shown)?;
     assert!(rt; is_shown);
     Ok(())
+}
+
+/// Rows are deleted where a condition holds, a row is listed where some world shows it, in a world that has the nulls of
+/// the row, and a tuple where each world has it.
+#[test]
+fn tables_are_asked(rt: HostRuntime) -> Result<(), Fail> {
+    in_a_log(&rt, rt.alloc(), 64, Shown::Deletion)?;
+    in_a_log(&rt, rt.alloc(), 64, Shown::Rows)?;
+    in_a_log(&rt, rt.alloc(), 64, Shown::ShortWorlds)?;
+    in_a_log(&rt, rt.alloc(), 256, Shown::Tuples)
 }

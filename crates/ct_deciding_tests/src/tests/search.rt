@@ -116,25 +116,6 @@ fn decides(
     Ok(())
 }
 
-/// No clause, and an empty one.
-fn decides_least_sets(rt: &impl Abort, alloc: Global) -> Result<(), Fail> {
-    decides(rt, alloc, 0, &[], true)?;
-    decides(rt, alloc, 2, &[], true)?;
-    decides(rt, alloc, 1, &[0], false)
-}
-
-fn decides_few_clauses(rt: &impl Abort, alloc: Global) -> Result<(), Fail> {
-    decides(rt, alloc, 1, &[1, 0, -1, 0], false)?;
-    decides(rt, alloc, 2, &[1, 2, 0, -1, 2, 0, 1, -2, 0], true)?;
-    decides(
-        rt,
-        alloc,
-        2,
-        &[1, 2, 0, -1, 2, 0, 1, -2, 0, -1, -2, 0],
-        false,
-    )
-}
-
 /// The corners of a triangle, with two colours.
 const TWO_COLOURS: [i32; 18] = [1, 2, 0, -1, -2, 0, 2, 3, 0, -2, -3, 0, 1, 3, 0, -1, -3, 0];
 
@@ -144,12 +125,24 @@ const THREE_COLOURS: [i32; 39] = [
     -8, 0, -3, -6, 0, -3, -9, 0, -6, -9, 0,
 ];
 
+/// Variables, clauses over them, and whether those have a model.
+const SETS: [(u32, &[i32], bool); 8] = [
+    (0, &[], true),
+    (2, &[], true),
+    (1, &[0], false),
+    (1, &[1, 0, -1, 0], false),
+    (2, &[1, 2, 0, -1, 2, 0, 1, -2, 0], true),
+    (2, &[1, 2, 0, -1, 2, 0, 1, -2, 0, -1, -2, 0], false),
+    (3, &TWO_COLOURS, false),
+    (9, &THREE_COLOURS, true),
+];
+
 #[test]
 fn decides_small_sets(rt: HostRuntime) -> Result<(), Fail> {
-    decides_least_sets(&rt, rt.alloc())?;
-    decides_few_clauses(&rt, rt.alloc())?;
-    decides(&rt, rt.alloc(), 3, &TWO_COLOURS, false)?;
-    decides(&rt, rt.alloc(), 9, &THREE_COLOURS, true)
+    for (vars, literals, expected) in SETS {
+        decides(&rt, rt.alloc(), vars, literals, expected)?;
+    }
+    Ok(())
 }
 
 #[test]

@@ -1,12 +1,12 @@
 // A guest of a log's keeper.
 
-ghost use Rattle.std.specs.Prelude.{◌≡◌, IsTrue, None, Some, false};
+ghost use Rattle.std.specs.Prelude.{◌≡◌, IsTrue, Some, false};
 ghost use Rattle.ct_word.specs.declared.kinds.Class.TheVariants as class;
 ghost use Rattle.ct_word.specs.WellFormed.{is_formed_as, has_class};
 
-use crate::tests::checks::is;
-use ct_arena::{Arena, Blank, Full, Guest, KeeperPass, Pass, Site};
-use ct_word::{Kind, List, pack};
+use crate::tests::checks::{has_words, is};
+use ct_arena::{Arena, Blank, Full, Guest, KeeperPass, Site};
+use ct_word::{Kind, pack};
 use std::alloc::Global;
 use std::marker::Brand;
 use std::process::Abort;
@@ -38,39 +38,27 @@ fn has_place(rt: &impl Abort, found: Result<u32, Full>, place: u32) {
 }
 
 /// A guest interns a word that stands already, and a new one.
-fn visit<N: Site>(
-    rt: &impl Abort,
-    arena: &Arena<N>,
-    keeper: &mut KeeperPass<N>,
-    pass: Pass<N>,
-) -> Pass<N>
-    requires guest { keeper.old.guest ≡ None }
-    ensures guest { keeper.new.guest ≡ None }
-    ensures enrolled { keeper.new.enrolled ≡ keeper.old.enrolled }
-    ensures ended { keeper.new.ended ≡ keeper.old.ended }
-{
-    let mut guest = keeper.enter(arena, pass);
-    has_place(rt, intern_as(arena, keeper, &mut guest, Kind::True), 0);
-    has_place(rt, intern_as(arena, keeper, &mut guest, Kind::TextEnd), 2);
-    keeper.leave(arena, guest)
-}
-
-/// The log has these words.
-fn has_words(rt: &impl Abort, words: &List<u64>, wanted: &[u64]) {
-    assert_eq!(rt; words.as_slice(), wanted);
-}
-
-/// What a guest made, and the log after it.
 fn intern_as_guest<N: Site>(rt: &impl Abort, alloc: Global, blank: Blank) -> Result<(), Fail>
     requires { blank ≡ N.log }
 {
     let (arena, mut keeper) = Arena::<N>::make(blank);
     let pass = keeper.enrol(alloc, &arena)?;
-    let pass = visit(rt, &arena, &mut keeper, pass);
+    let mut guest = keeper.enter(&arena, pass);
+    has_place(
+        rt,
+        intern_as(&arena, &mut keeper, &mut guest, Kind::True),
+        0,
+    );
+    has_place(
+        rt,
+        intern_as(&arena, &mut keeper, &mut guest, Kind::TextEnd),
+        2,
+    );
+    let pass = keeper.leave(&arena, guest);
     is(rt, pass.made(), 1);
     is(rt, pass.mine(), 0);
     let _ = keeper.end(&arena, pass);
-    has_words(rt, &keeper.finish(arena).into_words(), &WORDS);
+    has_words(rt, keeper.finish(arena).into_words().as_slice(), &WORDS);
     Ok(())
 }
 

@@ -1,8 +1,9 @@
-// A log for each test.
+// What is put into a log, each into one of its own.
 
 ghost use Rattle.std.specs.Prelude.{◌≡◌};
 
-use crate::tests::changes::{put_creation, put_insertion};
+use crate::tests::changes::{CREATED, INSERTED, created, inserted};
+use crate::tests::checks::{has_words, is};
 use crate::tests::conditions::put_folded;
 use ct_arena::{Arena, Blank, Pass, Site};
 use std::alloc::Global;
@@ -11,14 +12,14 @@ use std::process::Abort;
 use std::test::Fail;
 
 /// What is put into a log.
-#[derive(Clone, Copy)]
-pub enum Put {
+#[derive(Drop)]
+enum Put {
     Creation,
     Insertion,
     Folded,
 }
 
-/// Puts it by this session.
+/// Puts it by this session, which has the words of a change list then.
 fn put_by<N: Site>(
     rt: &impl Abort,
     alloc: Global,
@@ -27,10 +28,19 @@ fn put_by<N: Site>(
     put: Put,
 ) -> Result<(), Fail> {
     match put {
-        Put::Creation => put_creation(rt, alloc, arena, pass),
-        Put::Insertion => put_insertion(rt, alloc, arena, pass),
-        Put::Folded => put_folded(rt, arena, pass),
+        Put::Creation => {
+            let [list, extended] = created(alloc, arena, pass)?;
+            is(rt, list, 2);
+            is(rt, extended, 9);
+            has_words(rt, pass.words(), &CREATED);
+        }
+        Put::Insertion => {
+            is(rt, inserted(alloc, arena, pass)?, 16);
+            has_words(rt, pass.words(), &INSERTED);
+        }
+        Put::Folded => put_folded(rt, arena, pass)?,
     }
+    Ok(())
 }
 
 /// Puts it into the log that has this name.
@@ -42,8 +52,12 @@ fn put_into<N: Site>(rt: &impl Abort, alloc: Global, blank: Blank, put: Put) -> 
     put_by(rt, alloc, &arena, &mut pass, put)
 }
 
-/// Puts it into a log of its own.
-pub fn in_a_log(rt: &impl Abort, alloc: Global, put: Put) -> Result<(), Fail> {
-    let blank = Blank::make(alloc, 64)?;
-    put_into::<Brand>(rt, alloc, blank, put)
+/// A creation and an insertion are put as words, and conditions are folded.
+#[test]
+fn words_are_put(rt: HostRuntime) -> Result<(), Fail> {
+    for put in [Put::Creation, Put::Insertion, Put::Folded] {
+        let blank = Blank::make(rt.alloc(), 64)?;
+        put_into::<Brand>(&rt, rt.alloc(), blank, put)?;
+    }
+    Ok(())
 }

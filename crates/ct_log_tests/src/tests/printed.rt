@@ -5,9 +5,10 @@ ghost use Rattle.std.specs.List.{list_all};
 ghost use Rattle.ct_word.specs.declared.kinds.Class.TheVariants as class;
 ghost use Rattle.ct_word.specs.WellFormed.{is_place_of, IsWellFormed};
 
+use crate::tests::checks::counts;
 use ct_rewrite::{Node, Normal, normal};
-use ct_samples::{add, is_place};
-use ct_word::{Class, Kind, Memory, Null, Term, Value, kind, left, right};
+use ct_samples::{add, is_place, log};
+use ct_word::{Class, Kind, Null, Term, Value, kind, left, right};
 use std::alloc::{AllocError, Global};
 use std::process::Abort;
 use std::test::Fail;
@@ -147,73 +148,76 @@ const RULES: [u64; 130] = [
 ];
 
 /// Conditions of that log: a place, and the text of its printed form.
-const FORMS: &str = "
-    37 ?x = 2 and (?y = 1 or ?z = 2)
-    39 ?x <> 1
-    42 ?s = 'Acme' or ?s = 'Bolton'
-    47 ?x <> 8 and (?x = 7 or ?x = 8)
-    0 true
-    48 false
-    1 false
-    49 $1 = -1
-    51 true
-    50 false
-    52 ?1#2 = @3
-    54 ?x <> 1 or ?y <> 1
-    56 ?x <> 1 and ?y <> 1
-    57 ?x = 1
-    58 false
-    59 ?x = 1
-    60 true
-    62 ?x = 1 and ?y = 1 and ?z = 2
-    63 false
-    64 true
-    65 false
-    67 true
-    68 ?x = 1 or ?x = 2
-    69 ?x = 1 and ?y = 1 and ?z = 2
-    70 false
-    71 true
-    72 ?x = 1
-    73 ?x = 1
-    74 true
-    75 false
-    76 ?x <> 1
-    77 ?x <> 1
-    78 true
-    79 false
-    80 ?x = 1
-    81 ?x = 1
-    82 ?x = 1
-    83 false
-    84 true
-    86 false
-    88 true
-    89 false
-    91 ?s = 'Acme' and ?s <> 'Bolton'
-    92 ?x <> 1 and ?x <> 2
-    94 false
-    95 ?x = 1 or ?y = 1 or ?z = 2
-    97 false
-    98 true
-    99 ?x = 1 and ?z = 2
-    100 ?x = 1 and (?y = 1 or ?z = 2)
-    101 ?x <> 2 or (?y <> 1 and ?z <> 2)
-    102 ?x = 2 or (?y = 1 and ?z = 2)
-    106 (?x = 1 or ?z = 2) and (?x <> 1 or ?y = 1)
-    107 (?x = 1 or ?y = 1) and (?x = 1 or ?z = 2)
-    108 (?x = 1 or ?y = 1) and (?x = 1 or ?y = 1 or ?z = 2)
-    110 (?x = 1 and ?y = 1) or (?x = 1 and ?y = 1 and ?z = 2)
-    114 $1 = -1 or ?x = 1 or ?1#2 = @3
-    122 ?x = ?y or ?x = -1 or ?x = 1 or ?x = 'Acme' or ?x = @3
-    123 false
-    124 ?x = ?y and ?x = 1
-    125 (?x = 1 or ?y = 1) and (?x <> 1 or ?y = 1)
-    126 (?x = 1 or ?y = 1) and (?x = 1 or ?z = 2)
-    127 (?x = 1 or ?y = 1) and (?x = 1 or ?y = 1 or ?z = 2)
-    128 ?x = 1 or ?x <> 2
-    129 ?x <> 1 or ?x = 2
-";
+const FORMS: [(u32, &str); 65] = [
+    (37, "?x = 2 and (?y = 1 or ?z = 2)"),
+    (39, "?x <> 1"),
+    (42, "?s = 'Acme' or ?s = 'Bolton'"),
+    (47, "?x <> 8 and (?x = 7 or ?x = 8)"),
+    (0, "true"),
+    (48, "false"),
+    (1, "false"),
+    (49, "$1 = -1"),
+    (51, "true"),
+    (50, "false"),
+    (52, "?1#2 = @3"),
+    (54, "?x <> 1 or ?y <> 1"),
+    (56, "?x <> 1 and ?y <> 1"),
+    (57, "?x = 1"),
+    (58, "false"),
+    (59, "?x = 1"),
+    (60, "true"),
+    (62, "?x = 1 and ?y = 1 and ?z = 2"),
+    (63, "false"),
+    (64, "true"),
+    (65, "false"),
+    (67, "true"),
+    (68, "?x = 1 or ?x = 2"),
+    (69, "?x = 1 and ?y = 1 and ?z = 2"),
+    (70, "false"),
+    (71, "true"),
+    (72, "?x = 1"),
+    (73, "?x = 1"),
+    (74, "true"),
+    (75, "false"),
+    (76, "?x <> 1"),
+    (77, "?x <> 1"),
+    (78, "true"),
+    (79, "false"),
+    (80, "?x = 1"),
+    (81, "?x = 1"),
+    (82, "?x = 1"),
+    (83, "false"),
+    (84, "true"),
+    (86, "false"),
+    (88, "true"),
+    (89, "false"),
+    (91, "?s = 'Acme' and ?s <> 'Bolton'"),
+    (92, "?x <> 1 and ?x <> 2"),
+    (94, "false"),
+    (95, "?x = 1 or ?y = 1 or ?z = 2"),
+    (97, "false"),
+    (98, "true"),
+    (99, "?x = 1 and ?z = 2"),
+    (100, "?x = 1 and (?y = 1 or ?z = 2)"),
+    (101, "?x <> 2 or (?y <> 1 and ?z <> 2)"),
+    (102, "?x = 2 or (?y = 1 and ?z = 2)"),
+    (106, "(?x = 1 or ?z = 2) and (?x <> 1 or ?y = 1)"),
+    (107, "(?x = 1 or ?y = 1) and (?x = 1 or ?z = 2)"),
+    (108, "(?x = 1 or ?y = 1) and (?x = 1 or ?y = 1 or ?z = 2)"),
+    (110, "(?x = 1 and ?y = 1) or (?x = 1 and ?y = 1 and ?z = 2)"),
+    (114, "$1 = -1 or ?x = 1 or ?1#2 = @3"),
+    (
+        122,
+        "?x = ?y or ?x = -1 or ?x = 1 or ?x = 'Acme' or ?x = @3",
+    ),
+    (123, "false"),
+    (124, "?x = ?y and ?x = 1"),
+    (125, "(?x = 1 or ?y = 1) and (?x <> 1 or ?y = 1)"),
+    (126, "(?x = 1 or ?y = 1) and (?x = 1 or ?z = 2)"),
+    (127, "(?x = 1 or ?y = 1) and (?x = 1 or ?y = 1 or ?z = 2)"),
+    (128, "?x = 1 or ?x <> 2"),
+    (129, "?x <> 1 or ?x = 2"),
+];
 
 /// The log of these words.
 fn log_of(alloc: Global, words: &[u64]) -> Result<Vec<u64>, Fail>
@@ -232,43 +236,34 @@ fn log_of(alloc: Global, words: &[u64]) -> Result<Vec<u64>, Fail>
     Ok(log)
 }
 
-/// Twelve columns, from place 2 on.
-fn columns(alloc: Global) -> Result<Vec<u64>, AllocError>
-    ensures { IfOk result (λ words. IsWellFormed words.items) }
-{
-    let mut words = Vec::new(alloc);
-    add(&mut words, Kind::True, 0, 0)?;
-    add(&mut words, Kind::False, 0, 0)?;
-    for column in 0..12 {
-        add(&mut words, Kind::Column, column, 0)?;
-    }
-    Ok(words)
-}
-
-/// Adds the equality of the column at a place and each later one.
-fn add_equalities(words: &mut Vec<u64>, place: u32) -> Result<(), AllocError>
-    requires { IsWellFormed words.old.items }
-    ensures { IsWellFormed words.new.items }
-{
-    for later in place.saturating_add(1)..14 {
-        add(words, Kind::Equal, place, later)?;
-    }
-    Ok(())
-}
-
-/// The columns, and the equality of any two but the last two: 65 equalities, from place 14 on.
+/// Twelve columns, from place 2 on, and the equality of any two but the last two: 65 equalities, from place 14 on.
 fn equalities(alloc: Global) -> Result<Vec<u64>, AllocError>
     ensures { IfOk result (λ words. IsWellFormed words.items) }
 {
-    let mut words = columns(alloc)?;
-    for place in 2..12 {
-        add_equalities(&mut words, place)?;
+    let mut words = log(alloc, &[(Kind::True, 0, 0), (Kind::False, 0, 0)])?;
+    for column in 0..12 {
+        add(&mut words, Kind::Column, column, 0)?;
+    }
+    for pair in 0..120 {
+        let (place, later) = (2 + pair / 12, 2 + pair % 12);
+        if place < later {
+            add(&mut words, Kind::Equal, place, later)?;
+        }
     }
     Ok(words)
 }
 
-/// Adds the Or of the equalities at the places from 14 to this one, one after the other.
-fn add_or(words: &mut Vec<u64>, end: u32) -> Result<(), AllocError>
+/// What stands behind the equalities and the Or of those from place 14 to 78.
+const BEHIND: [(Kind, u32, u32); 5] = [
+    (Kind::Or, 14, 141),
+    (Kind::And, 14, 15),
+    (Kind::Or, 141, 144),
+    (Kind::And, 77, 78),
+    (Kind::Or, 141, 146),
+];
+
+/// Adds the Or of the equalities at the places from 14 to this one, one after the other, and words behind it.
+fn add_or(words: &mut Vec<u64>, end: u32, behind: &[(Kind, u32, u32)]) -> Result<(), AllocError>
     requires { IsWellFormed words.old.items }
     ensures { IsWellFormed words.new.items }
 {
@@ -276,20 +271,9 @@ fn add_or(words: &mut Vec<u64>, end: u32) -> Result<(), AllocError>
     for place in 15..end {
         all = add(words, Kind::Or, place.min(all), place.max(all))?;
     }
-    Ok(())
-}
-
-/// Adds what stands behind the equalities.
-fn add_wide(words: &mut Vec<u64>) -> Result<(), AllocError>
-    requires { IsWellFormed words.old.items }
-    ensures { IsWellFormed words.new.items }
-{
-    add_or(words, 79)?;
-    add(words, Kind::Or, 14, 141)?;
-    add(words, Kind::And, 14, 15)?;
-    add(words, Kind::Or, 141, 144)?;
-    add(words, Kind::And, 77, 78)?;
-    add(words, Kind::Or, 141, 146)?;
+    for (kind, a, b) in behind {
+        add(words, *kind, *a, *b)?;
+    }
     Ok(())
 }
 
@@ -300,57 +284,38 @@ fn wide(alloc: Global) -> Result<Vec<u64>, AllocError>
     ensures { IfOk result (λ words. IsWellFormed words.items) }
 {
     let mut words = equalities(alloc)?;
-    add_wide(&mut words)?;
+    add_or(&mut words, 79, &BEHIND)?;
     Ok(words)
 }
 
-/// Adds the null whose name is this letter.
-fn add_null(words: &mut Vec<u64>, letter: u32) -> Result<u32, AllocError>
-    requires { IsWellFormed words.old.items }
-    ensures { IsWellFormed words.new.items }
-{
-    let end = add(words, Kind::TextEnd, 0, 0)?;
-    let name = add(words, Kind::TextCharacter, end, letter)?;
-    add(words, Kind::NamedNull, name, 0)
-}
-
-/// Adds true, false, and `?x = 1`, `?y = 1` and `?z = 1` at the places 11 to 13.
-fn add_ground(words: &mut Vec<u64>) -> Result<(), AllocError>
-    requires { IsWellFormed words.old.items }
-    ensures { IsWellFormed words.new.items }
-{
-    add(words, Kind::True, 0, 0)?;
-    add(words, Kind::False, 0, 0)?;
-    let x = add_null(words, 0x78)?;
-    let y = add_null(words, 0x79)?;
-    let z = add_null(words, 0x7a)?;
-    let high = add(words, Kind::NumberHigh, 0, 0)?;
-    let one = add(words, Kind::Number, high, 1)?;
-    add(words, Kind::Equal, x, one)?;
-    add(words, Kind::Equal, y, one)?;
-    add(words, Kind::Equal, z, one)?;
-    Ok(())
-}
-
-/// Adds an And of two Ors that have the condition below in common, and answers its place.
-fn add_level(words: &mut Vec<u64>, below: u32) -> Result<u32, AllocError>
-    requires { IsWellFormed words.old.items }
-    ensures { IsWellFormed words.new.items }
-{
-    let first = add(words, Kind::Or, 11, below)?;
-    let second = add(words, Kind::Or, 12, below)?;
-    add(words, Kind::And, first, second)
-}
+/// True, false, and `?x = 1`, `?y = 1` and `?z = 1` at the places 11 to 13.
+const GROUND: [(Kind, u32, u32); 14] = [
+    (Kind::True, 0, 0),
+    (Kind::False, 0, 0),
+    (Kind::TextEnd, 0, 0),
+    (Kind::TextCharacter, 2, 0x78),
+    (Kind::NamedNull, 3, 0),
+    (Kind::TextCharacter, 2, 0x79),
+    (Kind::NamedNull, 5, 0),
+    (Kind::TextCharacter, 2, 0x7a),
+    (Kind::NamedNull, 7, 0),
+    (Kind::NumberHigh, 0, 0),
+    (Kind::Number, 9, 1),
+    (Kind::Equal, 4, 10),
+    (Kind::Equal, 6, 10),
+    (Kind::Equal, 8, 10),
+];
 
 /// On those three so many conditions, each an And of two Ors that have the one below in common, and the last one's place.
 fn tower(alloc: Global, levels: u32) -> Result<(Vec<u64>, u32), AllocError>
     ensures { IfOk result (λ r. IsWellFormed r.0.items) }
 {
-    let mut words = Vec::new(alloc);
-    add_ground(&mut words)?;
+    let mut words = log(alloc, &GROUND)?;
     let mut below = 13;
     for _ in 0..levels {
-        below = add_level(&mut words, below)?;
+        let first = add(&mut words, Kind::Or, 11, below)?;
+        let second = add(&mut words, Kind::Or, 12, below)?;
+        below = add(&mut words, Kind::And, first, second)?;
     }
     Ok((words, below))
 }
@@ -456,70 +421,70 @@ fn texts_of(alloc: Global, nodes: &[Node]) -> Result<Vec<String>, AllocError> {
     Ok(texts)
 }
 
-/// The printed form of conditions of the first log.
-fn rules(alloc: Global, roots: &[u32]) -> Result<Normal, Fail> {
-    let log = log_of(alloc, &RULES)?;
-    printed(alloc, log.as_slice(), roots)
-}
-
-/// The place and the text of a form.
-fn place_and_text(form: &str) -> Result<(u32, &str), Fail> {
-    match form.trim().split_once(' ') {
-        Some((place, text)) => Ok((place.parse::<u32>()?, text)),
-        None => Err("no form".into()),
-    }
-}
-
-/// The places of the forms.
-fn places(alloc: Global) -> Result<Vec<u32>, Fail> {
+/// The places of forms.
+fn places(alloc: Global, forms: &[(u32, &str)]) -> Result<Vec<u32>, AllocError> {
     let mut places = Vec::new(alloc);
-    for form in FORMS.trim().lines() {
-        places.push(place_and_text(form)?.0)?;
+    for form in forms {
+        places.push(form.0)?;
     }
     Ok(places)
 }
 
-/// A node has this text.
-fn is_text(rt: &impl Abort, texts: &[String], position: u32, wanted: &str) -> Result<(), Fail> {
-    let text = texts.get(position as usize).ok_or("no node")?;
-    assert_eq!(rt; text.as_str(), wanted);
-    Ok(())
+/// There is a text, and it is this one.
+fn is_text(rt: &impl Abort, text: Option<&String>, wanted: &str) {
+    match text {
+        Some(text) => assert_eq!(rt; text.as_str(), wanted),
+        None => panic!(rt; "no node"),
+    }
 }
 
 /// The node at each of these positions has the text of its form.
-fn have_texts(rt: &impl Abort, texts: &[String], positions: &[u32]) -> Result<(), Fail> {
-    for (position, form) in positions.iter().zip(FORMS.trim().lines()) {
-        is_text(rt, texts, *position, place_and_text(form)?.1)?;
+fn have_texts(rt: &impl Abort, texts: &[String], positions: &[u32], forms: &[(u32, &str)]) {
+    counts(rt, positions.len(), forms.len());
+    for (position, form) in positions.iter().zip(forms) {
+        is_text(rt, texts.get(*position as usize), form.1);
     }
+}
+
+/// The conditions at the places of these forms are printed so.
+fn have_forms(
+    rt: &impl Abort,
+    alloc: Global,
+    words: &[u64],
+    forms: &[(u32, &str)],
+) -> Result<(), Fail>
+    requires { IsWellFormed words.now }
+{
+    let places = places(alloc, forms)?;
+    let form = printed(alloc, words, places.as_slice())?;
+    let texts = texts_of(alloc, form.nodes.as_slice())?;
+    have_texts(rt, texts.as_slice(), form.roots.as_slice(), forms);
     Ok(())
 }
 
+/// The form of a condition has so many nodes, of which it is the last.
+fn has_nodes(
+    rt: &impl Abort,
+    alloc: Global,
+    words: &[u64],
+    root: u32,
+    count: u32,
+) -> Result<(), Fail>
+    requires { IsWellFormed words.now }
+{
+    let form = printed(alloc, words, &[root])?;
+    counts(rt, form.nodes.len(), count as usize);
+    assert!(rt; form.roots.as_slice() == [count.saturating_sub(1)].as_slice());
+    Ok(())
+}
+
+/// Only nodes of the roots are kept: five of one root, and one of a root that is settled.
 #[test]
 fn each_rule_gives_its_form(rt: HostRuntime) -> Result<(), Fail> {
-    let places = places(rt.alloc())?;
-    let form = rules(rt.alloc(), places.as_slice())?;
-    let texts = texts_of(rt.alloc(), form.nodes.as_slice())?;
-    have_texts(&rt, texts.as_slice(), form.roots.as_slice())
-}
-
-/// A form has so many nodes.
-fn has_nodes(rt: &impl Abort, form: &Normal, count: usize) {
-    assert_eq!(rt; form.nodes.len(), count);
-}
-
-/// A root that leads to five nodes, and one that is settled.
-fn keep_nodes(rt: &impl Abort, alloc: Global) -> Result<(), Fail> {
-    let form = rules(alloc, &[37])?;
-    has_nodes(rt, &form, 5);
-    assert!(rt; form.roots.as_slice() == [4].as_slice());
-    drop(form);
-    has_nodes(rt, &rules(alloc, &[58])?, 1);
-    Ok(())
-}
-
-#[test]
-fn only_nodes_of_the_roots_are_kept(rt: HostRuntime) -> Result<(), Fail> {
-    keep_nodes(&rt, rt.alloc())
+    let words = log_of(rt.alloc(), &RULES)?;
+    have_forms(&rt, rt.alloc(), words.as_slice(), &FORMS)?;
+    has_nodes(&rt, rt.alloc(), words.as_slice(), 37, 5)?;
+    has_nodes(&rt, rt.alloc(), words.as_slice(), 58, 1)
 }
 
 /// The children of the node at a position.
@@ -530,44 +495,12 @@ fn children_at(form: &Normal, position: u32) -> &[u32] {
     }
 }
 
-/// How many children each root of a form has.
-fn widths(alloc: Global, form: &Normal) -> Result<Vec<usize>, AllocError> {
-    let mut counts = Vec::new(alloc);
-    for root in form.roots.as_slice() {
-        counts.push(children_at(form, *root).len())?;
+/// The roots of a form have so many children.
+fn have_children(rt: &impl Abort, form: &Normal, wanted: [usize; 4]) {
+    counts(rt, form.roots.len(), 4);
+    for (root, count) in form.roots.as_slice().iter().zip(wanted) {
+        counts(rt, children_at(form, *root).len(), count);
     }
-    Ok(counts)
-}
-
-// The children of two forms are counted before equal ones are kept once.
-#[test]
-fn at_most_64_children_are_merged(rt: HostRuntime) -> Result<(), Fail> {
-    let words = wide(rt.alloc())?;
-    let form = printed(rt.alloc(), words.as_slice(), &[141, 142, 143, 145])?;
-    let counts = widths(rt.alloc(), &form)?;
-    assert!(rt; counts.as_slice() == [64, 2, 2, 2].as_slice());
-    Ok(())
-}
-
-/// How many nodes the Or of the equalities before a place has, or where there is no Or the last equality.
-fn nodes_of_or(alloc: Global, end: u32, root: u32) -> Result<usize, Fail> {
-    let mut words = equalities(alloc)?;
-    add_or(&mut words, end)?;
-    Ok(printed(alloc, words.as_slice(), &[root])?.nodes.len())
-}
-
-/// Numbers are these.
-fn are(rt: &impl Abort, found: [usize; 3], wanted: [usize; 3]) {
-    assert_eq!(rt; found, wanted);
-}
-
-#[test]
-fn equalities_are_one_or(rt: HostRuntime) -> Result<(), Fail> {
-    let one = nodes_of_or(rt.alloc(), 15, 78)?;
-    let half = nodes_of_or(rt.alloc(), 46, 109)?;
-    let whole = nodes_of_or(rt.alloc(), 78, 141)?;
-    are(&rt, [one, half, whole], [1, 33, 65]);
-    Ok(())
 }
 
 /// Whether of five roots the fourth is the second and the first, and the fifth the third and the first.
@@ -581,26 +514,35 @@ fn have_and_before_or(form: &Normal) -> bool {
     }
 }
 
+// The children of two forms are counted before equal ones are kept once.
 #[test]
-fn an_and_stands_before_an_or(rt: HostRuntime) -> Result<(), Fail> {
+fn at_most_64_children_are_merged(rt: HostRuntime) -> Result<(), Fail> {
     let words = wide(rt.alloc())?;
+    let form = printed(rt.alloc(), words.as_slice(), &[141, 142, 143, 145])?;
+    have_children(&rt, &form, [64, 2, 2, 2]);
+    // An And stands before an Or.
     let form = printed(rt.alloc(), words.as_slice(), &[141, 144, 146, 145, 147])?;
     assert!(rt; have_and_before_or(&form));
     Ok(())
 }
 
-/// How many nodes the last condition of a tower has.
-fn nodes_of_tower(alloc: Global, levels: u32) -> Result<usize, Fail> {
-    let (words, root) = tower(alloc, levels)?;
-    Ok(printed(alloc, words.as_slice(), &[root])?.nodes.len())
+/// The Ors of the equalities before a place, or where there is no Or the last equality, and how many nodes each has.
+#[test]
+fn equalities_are_one_or(rt: HostRuntime) -> Result<(), Fail> {
+    for (end, root, count) in [(15, 78, 1), (46, 109, 33), (78, 141, 65)] {
+        let mut words = equalities(rt.alloc())?;
+        add_or(&mut words, end, &[])?;
+        has_nodes(&rt, rt.alloc(), words.as_slice(), root, count)?;
+    }
+    Ok(())
 }
 
 // Each level has three nodes; written out, 60 levels have 2^60 times `?z = 1`.
 #[test]
 fn shared_conditions_are_not_unfolded(rt: HostRuntime) -> Result<(), Fail> {
-    let low = nodes_of_tower(rt.alloc(), 15)?;
-    let half = nodes_of_tower(rt.alloc(), 30)?;
-    let whole = nodes_of_tower(rt.alloc(), 60)?;
-    are(&rt, [low, half, whole], [48, 93, 183]);
+    for (levels, count) in [(15, 48), (30, 93), (60, 183)] {
+        let (words, root) = tower(rt.alloc(), levels)?;
+        has_nodes(&rt, rt.alloc(), words.as_slice(), root, count)?;
+    }
     Ok(())
 }

@@ -6,115 +6,75 @@ use ct_arena::{Arena, Blank, Log, Site};
 use ct_transcript::{
     Answer, AnswerRow, Change, Commit, Node, Refusal, Reply, SessionLog, Transcript, lines,
 };
-use ct_word::{List, Null, Term, Text, Value};
+use ct_word::{List, Memory, Null, Term, Text, Value};
 use std::alloc::{AllocError, Global};
 use std::marker::Brand;
 use std::process::Abort;
 use std::test::Fail;
 
-fn text(alloc: Global, text: &str) -> Result<Text, AllocError> {
-    Ok(Text::from_string(String::from_str(alloc, text)?))
-}
-
 fn list<T: Drop, const N: usize>(alloc: Global, items: [T; N]) -> Result<List<T>, AllocError> {
     Ok(List::from_vec(Vec::from_array(alloc, items)?))
 }
 
-fn int(i: i64) -> Term {
-    Term::Value(Value::Int(i))
+fn named(alloc: Global, name: &str) -> Result<Term, Memory> {
+    Ok(Term::Null(Null::Named(Text::from_str(alloc, name)?)))
 }
 
-fn named(alloc: Global, name: &str) -> Result<Term, AllocError> {
-    Ok(Term::Null(Null::Named(text(alloc, name)?)))
+/// A row of one cell.
+fn row(alloc: Global, cell: Term, cond: u32) -> Result<AnswerRow, AllocError> {
+    let cells = list(alloc, [cell])?;
+    Ok(AnswerRow { cells, cond })
 }
 
-fn session(alloc: Global, replies: List<Reply>) -> Result<SessionLog, AllocError> {
-    Ok(SessionLog {
-        script: text(alloc, "")?,
-        replies,
-    })
-}
-
-/// `?1#2 = -5`.
-fn first_node() -> Node {
+/// `?1#2 = -5` and `?x <> 'it''s'`, and conditions made of them. The one at 2 has one reference, those at 3 and 4 have two.
+fn nodes(alloc: Global) -> Result<List<Node>, Memory> {
+    let x = named(alloc, "x")?;
+    let quoted = Text::from_str(alloc, "it's")?;
+    let second = list(alloc, [0, 1])?;
+    let third = list(alloc, [0, 2])?;
+    let fourth = list(alloc, [1, 3])?;
     let fresh = Null::Fresh {
         session: 1,
         number: 2,
     };
-    Node::Eq(Term::Null(fresh), int(-5))
+    let nodes = [
+        Node::Eq(Term::Null(fresh), Term::Value(Value::Int(-5))),
+        Node::Ne(x, Term::Value(Value::Text(quoted))),
+        Node::And(second),
+        Node::Or(third),
+        Node::And(fourth),
+        Node::False,
+        Node::True,
+    ];
+    Ok(list(alloc, nodes)?)
 }
 
-/// `?x <> 'it''s'`.
-fn second_node(alloc: Global) -> Result<Node, AllocError> {
-    let quoted = text(alloc, "it's")?;
-    let null = text(alloc, "x")?;
-    Ok(Node::Ne(
-        Term::Null(Null::Named(null)),
-        Term::Value(Value::Text(quoted)),
-    ))
-}
-
-/// Adds the conjunction of two nodes.
-fn push_and(alloc: Global, nodes: &mut Vec<Node>, children: [u32; 2]) -> Result<(), AllocError> {
-    nodes.push(Node::And(list(alloc, children)?))?;
-    Ok(())
-}
-
-/// Adds the disjunction of two nodes.
-fn push_or(alloc: Global, nodes: &mut Vec<Node>, children: [u32; 2]) -> Result<(), AllocError> {
-    nodes.push(Node::Or(list(alloc, children)?))?;
-    Ok(())
-}
-
-// The condition at 2 has one reference, those at 3 and 4 have two.
-fn push_nodes(alloc: Global, nodes: &mut Vec<Node>) -> Result<(), AllocError> {
-    nodes.push(first_node())?;
-    nodes.push(second_node(alloc)?)?;
-    push_and(alloc, nodes, [0, 1])?;
-    push_or(alloc, nodes, [0, 2])?;
-    push_and(alloc, nodes, [1, 3])?;
-    nodes.push(Node::False)?;
-    nodes.push(Node::True)?;
-    Ok(())
-}
-
-fn deep_nodes(alloc: Global) -> Result<List<Node>, AllocError> {
-    let mut nodes = Vec::new(alloc);
-    push_nodes(alloc, &mut nodes)?;
-    Ok(List::from_vec(nodes))
-}
-
-/// Adds a row of one cell.
-fn push_row(
-    alloc: Global,
-    rows: &mut Vec<AnswerRow>,
-    cell: Term,
-    cond: u32,
-) -> Result<(), AllocError> {
-    let cells = list(alloc, [cell])?;
-    rows.push(AnswerRow { cells, cond })?;
-    Ok(())
-}
-
-fn push_rows(alloc: Global, rows: &mut Vec<AnswerRow>) -> Result<(), AllocError> {
-    push_row(alloc, rows, int(-5), 3)?;
-    push_row(alloc, rows, Term::Value(Value::Other(7)), 4)?;
-    push_row(alloc, rows, int(2), 5)?;
-    push_row(alloc, rows, int(1), 6)
-}
-
-fn deep_answer(alloc: Global) -> Result<Answer, AllocError> {
+/// The reply of four rows under the last of these conditions.
+fn rows(alloc: Global) -> Result<Reply, Memory> {
     let mut rows = Vec::new(alloc);
-    push_rows(alloc, &mut rows)?;
-    let nodes = deep_nodes(alloc)?;
-    Ok(Answer {
-        columns: list(alloc, [text(alloc, "a")?])?,
-        nodes,
+    for (value, cond) in [
+        (Value::Int(-5), 3),
+        (Value::Other(7), 4),
+        (Value::Int(2), 5),
+        (Value::Int(1), 6),
+    ] {
+        rows.push(row(alloc, Term::Value(value), cond)?)?;
+    }
+    let columns = list(alloc, [Text::from_str(alloc, "a")?])?;
+    let answer = Answer {
+        columns,
+        nodes: nodes(alloc)?,
         rows: List::from_vec(rows),
         global: 4,
+    };
+    Ok(Reply::Rows {
+        at: 1,
+        plus: 2,
+        answer,
     })
 }
 
+/// Refusals, one for each reason.
 fn refusals(alloc: Global) -> Result<List<Reply>, AllocError> {
     let reasons = [
         Refusal::NotAStatement,
@@ -133,32 +93,54 @@ fn refusals(alloc: Global) -> Result<List<Reply>, AllocError> {
     list(alloc, reasons.map(|why| Reply::Refused { at: 0, why }))
 }
 
-/// An insertion of these rows.
-fn insertion(alloc: Global, rows: Vec<AnswerRow>) -> Result<Change, AllocError> {
-    let name = text(alloc, "t")?;
-    Ok(Change::Insert {
-        name,
-        rows: List::from_vec(rows),
+/// A session with these replies.
+fn session(alloc: Global, replies: List<Reply>) -> Result<SessionLog, Memory> {
+    Ok(SessionLog {
+        script: Text::from_str(alloc, "")?,
+        replies,
     })
 }
 
-/// An insertion of one row, the empty text.
-fn insertion_of_a_text(alloc: Global) -> Result<Change, AllocError> {
-    let mut rows = Vec::new(alloc);
-    let empty = Term::Value(Value::Text(text(alloc, "")?));
-    push_row(alloc, &mut rows, empty, 0)?;
-    insertion(alloc, rows)
+fn sessions(alloc: Global) -> Result<List<SessionLog>, Memory> {
+    let rows = list(alloc, [rows(alloc)?])?;
+    let first = session(alloc, rows)?;
+    Ok(list(alloc, [first, session(alloc, refusals(alloc)?)?])?)
 }
 
-fn push_changes(alloc: Global, changes: &mut Vec<Change>) -> Result<(), AllocError> {
-    changes.push(insertion_of_a_text(alloc)?)?;
-    changes.push(insertion(alloc, Vec::new(alloc))?)?;
-    changes.push(Change::Delete {
-        name: text(alloc, "t")?,
-        cond: 1,
-    })?;
-    changes.push(Change::Assert { cond: 2 })?;
-    Ok(())
+/// An insertion of the empty text, one of no rows, a deletion and an assertion.
+fn changes(alloc: Global) -> Result<List<Change>, Memory> {
+    let first = Text::from_str(alloc, "t")?;
+    let second = Text::from_str(alloc, "t")?;
+    let third = Text::from_str(alloc, "t")?;
+    let empty = Term::Value(Value::Text(Text::from_str(alloc, "")?));
+    let rows = list(alloc, [row(alloc, empty, 0)?])?;
+    let changes = [
+        Change::Insert { name: first, rows },
+        Change::Insert {
+            name: second,
+            rows: List::new(alloc),
+        },
+        Change::Delete {
+            name: third,
+            cond: 1,
+        },
+        Change::Assert { cond: 2 },
+    ];
+    Ok(list(alloc, changes)?)
+}
+
+/// The commit of these changes.
+fn history(alloc: Global) -> Result<List<Commit>, Memory> {
+    let changes = changes(alloc)?;
+    let column = Node::Eq(Term::Column(0), named(alloc, "x")?);
+    let nodes = list(alloc, [Node::False, column, Node::True])?;
+    let commit = Commit {
+        session: 2,
+        number: 0,
+        nodes,
+        changes,
+    };
+    Ok(list(alloc, [commit])?)
 }
 
 /// The transcript, line by line.
@@ -191,32 +173,6 @@ const EACH_FORM: &str = "session 1\n\
       assert true\n\
     end\n";
 
-fn sessions(alloc: Global) -> Result<List<SessionLog>, AllocError> {
-    let rows = Reply::Rows {
-        at: 1,
-        plus: 2,
-        answer: deep_answer(alloc)?,
-    };
-    let first = session(alloc, list(alloc, [rows])?)?;
-    list(alloc, [first, session(alloc, refusals(alloc)?)?])
-}
-
-fn commit(alloc: Global) -> Result<Commit, AllocError> {
-    let mut changes = Vec::new(alloc);
-    push_changes(alloc, &mut changes)?;
-    let column = Node::Eq(Term::Column(0), named(alloc, "x")?);
-    Ok(Commit {
-        session: 2,
-        number: 0,
-        nodes: list(alloc, [Node::False, column, Node::True])?,
-        changes: List::from_vec(changes),
-    })
-}
-
-fn history(alloc: Global) -> Result<List<Commit>, AllocError> {
-    list(alloc, [commit(alloc)?])
-}
-
 /// A log whose only session has put no words.
 fn unused_log<N: Site>(alloc: Global, blank: Blank) -> Result<Log, Fail>
     requires { blank ≡ N.log }
@@ -225,16 +181,6 @@ fn unused_log<N: Site>(alloc: Global, blank: Blank) -> Result<Log, Fail>
     let pass = keeper.enrol(alloc, &arena)?;
     let _ = keeper.end(&arena, pass);
     Ok(keeper.finish(arena))
-}
-
-fn transcript(alloc: Global, words: Log) -> Result<Transcript, AllocError> {
-    let sessions = sessions(alloc)?;
-    let history = history(alloc)?;
-    Ok(Transcript {
-        sessions,
-        history,
-        words,
-    })
 }
 
 /// The text of a transcript.
@@ -255,7 +201,13 @@ fn is_text(rt: &impl Abort, text: &str, wanted: &str) {
 fn each_form_is_printed(rt: HostRuntime) -> Result<(), Fail> {
     let blank = Blank::make(rt.alloc(), 64)?;
     let words = unused_log::<Brand>(rt.alloc(), blank)?;
-    let transcript = transcript(rt.alloc(), words)?;
+    let sessions = sessions(rt.alloc())?;
+    let history = history(rt.alloc())?;
+    let transcript = Transcript {
+        sessions,
+        history,
+        words,
+    };
     let text = text_of(rt.alloc(), &transcript)?;
     is_text(&rt, text.as_str(), EACH_FORM);
     Ok(())

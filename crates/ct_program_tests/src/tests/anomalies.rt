@@ -1,12 +1,12 @@
-// The anomalies that weaker levels of isolation allow. Each test has one order in which some level would show it.
+// The anomalies that weaker levels of isolation allow. Each case has one order in which some level would show it.
 
-use crate::tests::played::play;
+use crate::tests::played::{ROOMY, play};
 use std::test::Fail;
 
-/// Both transactions read the counter and add its successor: the second one is refused, reads again, and commits.
-#[test]
-fn lost_update(rt: HostRuntime) -> Result<(), Fail> {
-    let case = "
+const CASES: [&str; 8] = [
+    // Lost update. Both transactions read the counter and add its successor: the second one is refused, reads again,
+    // and commits.
+    "
         script create table t (n); insert into t values (1); begin; select n from t; insert into t values (2); commit;
         script begin; select n from t; insert into t values (2); commit; begin; select n from t; insert into t values (3); \
             commit;
@@ -23,14 +23,9 @@ fn lost_update(rt: HostRuntime) -> Result<(), Fail> {
         replies begun at 2; rows (n) at 2 / (1); pending at 2 plus 1; committed 3; begun at 3; rows (n) at 3 / (1) / (2); \
             pending at 3 plus 1; committed 4
         history by 1 / create table t (n); by 1 / insert into t (1); by 2 / insert into t (2); by 2 / insert into t (3)
-    ";
-    play(&rt, rt.alloc(), case)
-}
-
-/// Each of two transactions writes the table that the other one reads: one of them is refused.
-#[test]
-fn write_skew(rt: HostRuntime) -> Result<(), Fail> {
-    let case = "
+    ",
+    // Write skew. Each of two transactions writes the table that the other one reads: one of them is refused.
+    "
         script create table x (a); create table y (a); begin; select a from x; insert into y values (1); commit;
         script begin; select a from y; insert into x values (1); commit;
 
@@ -44,14 +39,10 @@ fn write_skew(rt: HostRuntime) -> Result<(), Fail> {
             refused Conflict x was 1 now 3 at 3
         replies begun at 2; rows (a) at 2; pending at 2 plus 1; committed 3
         history by 1 / create table x (a); by 1 / create table y (a); by 2 / insert into x (1)
-    ";
-    play(&rt, rt.alloc(), case)
-}
-
-/// A row that the predicate of a query would find comes meanwhile. The query had no row, and is a read all the same.
-#[test]
-fn phantom(rt: HostRuntime) -> Result<(), Fail> {
-    let case = "
+    ",
+    // Phantom. A row that the predicate of a query would find comes meanwhile. The query had no row, and is a read all
+    // the same.
+    "
         script create table t (a); create table u (a); insert into t values (1); begin; select a from t where a = 2; \
             insert into u values (0); commit;
         script insert into t values (2);
@@ -67,15 +58,11 @@ fn phantom(rt: HostRuntime) -> Result<(), Fail> {
         replies committed 4
         history by 1 / create table t (a); by 1 / create table u (a); by 1 / insert into t (1); by 2 / insert into t (2); \
             by 1 / insert into u (0)
-    ";
-    play(&rt, rt.alloc(), case)
-}
-
-/// Session 2 takes from `x` by what it saw of both accounts, session 1 pays into `y`, and session 3 only reads. Where
-/// session 3 sees the payment and no withdrawal, session 2 can't have come first, so it is refused.
-#[test]
-fn read_only_anomaly(rt: HostRuntime) -> Result<(), Fail> {
-    let case = "
+    ",
+    // Read only anomaly. Session 2 takes from `x` by what it saw of both accounts, session 1 pays into `y`, and session
+    // 3 only reads. Where session 3 sees the payment and no withdrawal, session 2 can't have come first, so it is
+    // refused.
+    "
         script create table x (n); create table y (n); begin; select n from y; insert into y values (20); commit;
         script begin; select n from x; select n from y; insert into x values (-11); commit;
         script begin; select n from x; select n from y; commit;
@@ -91,14 +78,10 @@ fn read_only_anomaly(rt: HostRuntime) -> Result<(), Fail> {
         replies begun at 2; rows (n) at 2; rows (n) at 2; pending at 2 plus 1; committed 3
         replies begun at 3; rows (n) at 3 / (-11); rows (n) at 3; nothing to commit at 3
         history by 1 / create table x (n); by 1 / create table y (n); by 2 / insert into x (-11); by 1 / insert into y (20)
-    ";
-    play(&rt, rt.alloc(), case)
-}
-
-/// Of two changes of one commit a transaction sees both or none, whichever table it asks before and after.
-#[test]
-fn read_skew(rt: HostRuntime) -> Result<(), Fail> {
-    let case = "
+    ",
+    // Read skew. Of two changes of one commit a transaction sees both or none, whichever table it asks before and
+    // after.
+    "
         script create table x (a); create table y (a); begin; select a from x; select a from y; commit;
         script begin; insert into x values (1); insert into y values (2); commit;
 
@@ -111,14 +94,9 @@ fn read_skew(rt: HostRuntime) -> Result<(), Fail> {
         replies committed 1; committed 2; begun at 3; rows (a) at 3 / (1); rows (a) at 3 / (2); nothing to commit at 3
         replies begun at 2; pending at 2 plus 1; pending at 2 plus 2; committed 3
         history by 1 / create table x (a); by 1 / create table y (a); by 2 / insert into x (1) / insert into y (2)
-    ";
-    play(&rt, rt.alloc(), case)
-}
-
-/// Changes that are rolled back later are never seen.
-#[test]
-fn dirty_read(rt: HostRuntime) -> Result<(), Fail> {
-    let case = "
+    ",
+    // Dirty read. Changes that are rolled back later are never seen.
+    "
         script create table t (a); select * from t; select * from t;
         script begin; insert into t values (1); rollback;
 
@@ -127,14 +105,10 @@ fn dirty_read(rt: HostRuntime) -> Result<(), Fail> {
         replies committed 1; rows (a) at 1; rows (a) at 1
         replies begun at 1; pending at 1 plus 1; rolled back
         history by 1 / create table t (a)
-    ";
-    play(&rt, rt.alloc(), case)
-}
-
-/// Changes that the same transaction replaces later are never seen, and its last ones only after its commit.
-#[test]
-fn intermediate_read(rt: HostRuntime) -> Result<(), Fail> {
-    let case = "
+    ",
+    // Intermediate read. Changes that the same transaction replaces later are never seen, and its last ones only after
+    // its commit.
+    "
         script create table t (a); select * from t; select * from t; select * from t;
         script begin; insert into t values (1); delete from t where a = 1; insert into t values (2); commit;
 
@@ -143,14 +117,9 @@ fn intermediate_read(rt: HostRuntime) -> Result<(), Fail> {
         replies committed 1; rows (a) at 1; rows (a) at 1; rows (a) at 2 / (2)
         replies begun at 1; pending at 1 plus 1; pending at 1 plus 2; pending at 1 plus 3; committed 2
         history by 1 / create table t (a); by 2 / insert into t (1) / delete from t where $1 = 1 / insert into t (2)
-    ";
-    play(&rt, rt.alloc(), case)
-}
-
-/// A query that is repeated in a transaction is answered alike, whatever is committed meanwhile.
-#[test]
-fn repeated_read(rt: HostRuntime) -> Result<(), Fail> {
-    let case = "
+    ",
+    // Repeated read. A query that is repeated in a transaction is answered alike, whatever is committed meanwhile.
+    "
         script create table t (a); insert into t values (1); begin; select * from t; select * from t; select * from t; \
             commit;
         script insert into t values (2); delete from t where a = 1;
@@ -162,6 +131,13 @@ fn repeated_read(rt: HostRuntime) -> Result<(), Fail> {
         replies committed 3; committed 4
         history by 1 / create table t (a); by 1 / insert into t (1); by 2 / insert into t (2); \
             by 2 / delete from t where $1 = 1
-    ";
-    play(&rt, rt.alloc(), case)
+    ",
+];
+
+#[test]
+fn no_anomaly_is_shown(rt: HostRuntime) -> Result<(), Fail> {
+    for case in CASES {
+        play(&rt, rt.alloc(), ROOMY, case)?;
+    }
+    Ok(())
 }

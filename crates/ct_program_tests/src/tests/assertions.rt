@@ -1,13 +1,12 @@
 // Assertions beside assertions, questions and changes of other sessions.
 
-use crate::tests::played::play;
+use crate::tests::played::{ROOMY, play};
 use std::test::Fail;
 
-/// Of two transactions with an assertion each the second to commit has read the worlds before the first one changed them.
-/// What its statements assert afterwards is judged by both.
-#[test]
-fn two_assertions(rt: HostRuntime) -> Result<(), Fail> {
-    let case = "
+const CASES: [&str; 6] = [
+    // Two assertions. Of two transactions with an assertion each the second to commit has read the worlds before the
+    // first one changed them. What its statements assert afterwards is judged by both.
+    "
         script begin; assert ?x = 1; commit;
         script begin; assert ?y = 2; commit; assert ?y = 2; assert ?x = 2;
 
@@ -20,14 +19,10 @@ fn two_assertions(rt: HostRuntime) -> Result<(), Fail> {
         replies begun at 0; pending at 0 plus 1; refused Conflict worlds was 0 now 1 at 1
         replies begun at 0; pending at 0 plus 1; committed 1; committed 2; committed 3
         history by 2 / assert ?y = 2; by 2 / assert ?y = 2; by 2 / assert ?x = 2
-    ";
-    play(&rt, rt.alloc(), case)
-}
-
-/// An assertion outside a transaction contradicts one within a transaction: whichever comes first stays.
-#[test]
-fn contradicting_assertions(rt: HostRuntime) -> Result<(), Fail> {
-    let case = "
+    ",
+    // Contradicting assertions. An assertion outside a transaction contradicts one within a transaction: whichever
+    // comes first stays.
+    "
         script begin; assert ?x = 1; commit;
         script assert ?x = 2;
 
@@ -45,14 +40,9 @@ fn contradicting_assertions(rt: HostRuntime) -> Result<(), Fail> {
         replies begun at 0; pending at 0 plus 1; committed 1
         replies refused Inconsistent
         history by 1 / assert ?x = 1
-    ";
-    play(&rt, rt.alloc(), case)
-}
-
-/// An assertion of what is true anyway is one all the same.
-#[test]
-fn assertion_that_says_nothing(rt: HostRuntime) -> Result<(), Fail> {
-    let case = "
+    ",
+    // Assertion that says nothing. An assertion of what is true anyway is one all the same.
+    "
         script begin; assert ?x = 1; commit;
         script assert 1 = 1;
 
@@ -65,14 +55,10 @@ fn assertion_that_says_nothing(rt: HostRuntime) -> Result<(), Fail> {
         replies begun at 0; pending at 0 plus 1; committed 1
         replies committed 2
         history by 1 / assert ?x = 1; by 2 / assert true
-    ";
-    play(&rt, rt.alloc(), case)
-}
-
-/// A transaction that only asks has nothing to commit, so it never conflicts. It sees no later assertion.
-#[test]
-fn a_transaction_that_only_asks(rt: HostRuntime) -> Result<(), Fail> {
-    let case = "
+    ",
+    // A transaction that only asks. A transaction that only asks has nothing to commit, so it never conflicts. It sees
+    // no later assertion.
+    "
         script create table t (a); insert into t values (?x); begin; certain select a from t; commit; \
             certain select a from t;
         script assert ?x = 1;
@@ -89,14 +75,10 @@ fn a_transaction_that_only_asks(rt: HostRuntime) -> Result<(), Fail> {
             certain (a) at 3 / (1) absence refuted
         replies committed 3
         history by 1 / create table t (a); by 1 / insert into t (?x); by 2 / assert ?x = 1
-    ";
-    play(&rt, rt.alloc(), case)
-}
-
-/// A query has read the worlds too, so a transaction that asks and then changes something conflicts with an assertion.
-#[test]
-fn a_transaction_that_asks_and_changes(rt: HostRuntime) -> Result<(), Fail> {
-    let case = "
+    ",
+    // A transaction that asks and changes. A query has read the worlds too, so a transaction that asks and then changes
+    // something conflicts with an assertion.
+    "
         script create table t (a); create table u (a); insert into t values (?x); begin; select a from t; \
             insert into u values (1); commit; select a from u;
         script assert ?x = 1;
@@ -113,14 +95,10 @@ fn a_transaction_that_asks_and_changes(rt: HostRuntime) -> Result<(), Fail> {
         replies committed 4
         history by 1 / create table t (a); by 1 / create table u (a); by 1 / insert into t (?x); by 2 / assert ?x = 1; \
             by 1 / insert into u (1)
-    ";
-    play(&rt, rt.alloc(), case)
-}
-
-/// A transaction that reads nothing commits beside an assertion, and the assertion beside it, in either order.
-#[test]
-fn a_transaction_that_reads_nothing(rt: HostRuntime) -> Result<(), Fail> {
-    let case = "
+    ",
+    // A transaction that reads nothing. A transaction that reads nothing commits beside an assertion, and the assertion
+    // beside it, in either order.
+    "
         script create table t (a); begin; insert into t values (1); commit;
         script begin; assert ?x = 1; commit;
 
@@ -133,6 +111,13 @@ fn a_transaction_that_reads_nothing(rt: HostRuntime) -> Result<(), Fail> {
         replies committed 1; begun at 1; pending at 1 plus 1; committed 3
         replies begun at 1; pending at 1 plus 1; committed 2
         history by 1 / create table t (a); by 2 / assert ?x = 1; by 1 / insert into t (1)
-    ";
-    play(&rt, rt.alloc(), case)
+    ",
+];
+
+#[test]
+fn assertions_beside_others(rt: HostRuntime) -> Result<(), Fail> {
+    for case in CASES {
+        play(&rt, rt.alloc(), ROOMY, case)?;
+    }
+    Ok(())
 }

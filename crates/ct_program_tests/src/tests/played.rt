@@ -1,15 +1,15 @@
 // Runs of several sessions whose statements come in a given order.
 //
-// A case is a text. Each line of it is a word and what stands after it, and a line without a word says nothing.
+// A case is a text. Each line of it is a word and what stands after it.
 //
 //   script    the statements of a session, one session after another
 //   order     the session of each statement, by its number, as they come
 //   replies   what a session is answered, one session after another
 //   history   the commits
 //
-// The scripts come first, and after them one outcome or several: orders, the replies and, last, the history, which come of
-// each of these orders. They are those of the transcript without their numbers: `; ` stands between two of them, and ` / `
-// between two lines of one.
+// The scripts come first, and after them one outcome or several, each behind a blank line: orders, the replies and, last,
+// the history, which come of each of these orders. They are those of the transcript without their numbers: `; ` stands
+// between two of them, and ` / ` between two lines of one.
 
 ghost use Rattle.std.specs.Prelude.{All, ◌≤◌, IfOk, length};
 ghost use Rattle.ct_lex.specs.Texts.{texts};
@@ -115,116 +115,96 @@ fn is_expected(rt: &impl Abort, order: &str, text: &str, expected: &str) {
     assert_eq!(rt; text, expected, "{order}");
 }
 
-/// A line is none of those that a case has.
-fn no_line(rt: &impl Abort, line: &str) -> ! {
-    panic!(rt; "a case has no line {line}")
+/// What stands after this word, line by line, where a line begins with it.
+fn told<'a>(alloc: Global, lines: &'a str, word: &str) -> Result<Vec<&'a str>, AllocError> {
+    let mut all = Vec::new(alloc);
+    for line in lines.lines() {
+        if let Some(rest) = line.trim().strip_prefix(word) {
+            all.push(rest)?;
+        }
+    }
+    Ok(all)
 }
 
-/// A case as far as it was read.
-#[derive(Drop)]
-struct Case<'a> {
-    cap: u32,
-    scripts: Vec<&'a str>,
-    orders: Vec<&'a str>,
-    replies: Vec<&'a str>,
-    /// Whether the last line that was read ends an outcome.
-    is_whole: bool,
+/// There are so many lines, apart from blank ones.
+fn are_lines(rt: &impl Abort, lines: &str, count: usize) {
+    let mut found = 0usize;
+    for line in lines.lines() {
+        if !line.trim().is_empty() {
+            found = found.saturating_add(1);
+        }
+    }
+    assert_eq!(rt; found, count, "{lines}");
 }
 
-impl<'a> Case<'a> {
-    /// The text of the transcript with these commits.
-    fn expected(&self, alloc: Global, history: &str) -> Result<String, AllocError> {
-        let mut text = String::new(alloc);
-        for (before, replies) in self.replies.iter().enumerate() {
-            let head = format!(in alloc; "session {}\n", before.saturating_add(1))?;
-            push_part(alloc, &mut text, head.as_str(), replies)?;
-        }
-        push_part(alloc, &mut text, "history\n", history)?;
-        text.push_str("end\n")?;
-        Ok(text)
+/// The text of the transcript that an outcome with so many orders tells.
+fn expected(
+    rt: &impl Abort,
+    alloc: Global,
+    outcome: &str,
+    orders: usize,
+) -> Result<String, AllocError> {
+    let all = told(alloc, outcome, "replies ")?;
+    let mut text = String::new(alloc);
+    for (before, replies) in all.iter().enumerate() {
+        let head = format!(in alloc; "session {}\n", before.saturating_add(1))?;
+        push_part(alloc, &mut text, head.as_str(), replies)?;
     }
-
-    /// The text of the transcript of the scripts, whose statements come in this order.
-    fn played<R: Threads + Wait + Abort + Sync>(
-        &self,
-        rt: &R,
-        alloc: Global,
-        order: &str,
-    ) -> Result<String, Fail> {
-        let gate = OrderGate::make(alloc, statements(alloc, order)?)?;
-        let transcript = served(rt, alloc, self.cap, self.scripts.as_slice(), &gate)?;
-        assert!(rt; !gate.late(rt), "a statement was let go before its turn");
-        text_of(alloc, &transcript)
-    }
-
-    /// Plays the scripts in each of the orders, and compares the transcripts.
-    fn play<R: Threads + Wait + Abort + Sync>(
-        &self,
-        rt: &R,
-        alloc: Global,
-        history: &str,
-    ) -> Result<(), Fail> {
-        assert!(rt; !self.orders.is_empty(), "an outcome without an order");
-        let wanted = self.expected(alloc, history)?;
-        for order in self.orders.as_slice() {
-            let text = self.played(rt, alloc, order)?;
-            is_expected(rt, order, text.as_str(), wanted.as_str());
-        }
-        Ok(())
-    }
-
-    /// Reads a line, and plays the outcome that it ends.
-    fn read<R: Threads + Wait + Abort + Sync>(
-        &mut self,
-        rt: &R,
-        alloc: Global,
-        line: &'a str,
-    ) -> Result<(), Fail> {
-        let (word, rest) = line.split_once(' ').unwrap_or((line, ""));
-        match word {
-            "script" => self.scripts.push(rest)?,
-            "order" => self.orders.push(rest)?,
-            "replies" => self.replies.push(rest)?,
-            "history" => {
-                self.play(rt, alloc, rest)?;
-                self.orders.clear();
-                self.replies.clear();
-            }
-            _ => no_line(rt, line),
-        }
-        self.is_whole = word == "history";
-        Ok(())
-    }
+    let (_, history) = outcome.split_once("history ").unwrap_or(("", ""));
+    push_part(alloc, &mut text, "history\n", history.trim())?;
+    text.push_str("end\n")?;
+    are_lines(
+        rt,
+        outcome,
+        orders.saturating_add(all.len()).saturating_add(1),
+    );
+    Ok(text)
 }
 
-/// Plays the scripts of a case in each of its orders on a log of this capacity, and compares the transcripts.
-pub fn play_on<R: Threads + Wait + Abort + Sync>(
+/// The text of the transcript of scripts on a log of this capacity, whose statements come in this order.
+fn played<R: Threads + Wait + Abort + Sync>(
     rt: &R,
     alloc: Global,
     cap: u32,
-    text: &str,
+    scripts: &[&str],
+    order: &str,
+) -> Result<String, Fail> {
+    let gate = OrderGate::make(alloc, statements(alloc, order)?)?;
+    let transcript = served(rt, alloc, cap, scripts, &gate)?;
+    assert!(rt; !gate.late(rt), "a statement was let go before its turn");
+    text_of(alloc, &transcript)
+}
+
+/// Plays scripts in each of the orders of an outcome, and compares the transcripts.
+fn play_outcome<R: Threads + Wait + Abort + Sync>(
+    rt: &R,
+    alloc: Global,
+    cap: u32,
+    scripts: &[&str],
+    outcome: &str,
 ) -> Result<(), Fail> {
-    let mut case = Case {
-        cap,
-        scripts: Vec::new(alloc),
-        orders: Vec::new(alloc),
-        replies: Vec::new(alloc),
-        is_whole: false,
-    };
-    for line in text.lines() {
-        if !line.trim().is_empty() {
-            case.read(rt, alloc, line.trim())?;
-        }
+    let orders = told(alloc, outcome, "order ")?;
+    assert!(rt; !orders.is_empty(), "an outcome without an order");
+    let wanted = expected(rt, alloc, outcome, orders.len())?;
+    for order in orders.as_slice() {
+        let text = played(rt, alloc, cap, scripts, order)?;
+        is_expected(rt, order, text.as_str(), wanted.as_str());
     }
-    assert!(rt; case.is_whole, "a case ends with the history of an outcome");
     Ok(())
 }
 
-/// The same on a roomy log.
+/// Plays the scripts of a case in each of its orders on a log of this capacity, and compares the transcripts.
 pub fn play<R: Threads + Wait + Abort + Sync>(
     rt: &R,
     alloc: Global,
+    cap: u32,
     case: &str,
 ) -> Result<(), Fail> {
-    play_on(rt, alloc, ROOMY, case)
+    let (first, outcomes) = case.split_once("\n\n").ok_or("a case without an outcome")?;
+    let scripts = told(alloc, first, "script ")?;
+    are_lines(rt, first, scripts.len());
+    for outcome in outcomes.split("\n\n") {
+        play_outcome(rt, alloc, cap, scripts.as_slice(), outcome)?;
+    }
+    Ok(())
 }

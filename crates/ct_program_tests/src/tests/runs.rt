@@ -18,25 +18,46 @@ pub const EMPTY: &str = "session 1\nhistory\nend\n";
 /// What the empty script writes where it is named twice.
 const TWO: &str = "session 1\nsession 2\nhistory\nend\n";
 
-#[test]
-fn empty_scripts_are_run(rt: HostRuntime) -> Result<(), Fail> {
-    let empty = faultless(b"");
-    ends(&rt, rt.alloc(), "run f", empty, Status::Done, EMPTY)?;
-    ends(
-        &rt,
-        rt.alloc(),
-        "run --arena 64 f",
-        empty,
-        Status::Done,
-        EMPTY,
-    )?;
-    ends(&rt, rt.alloc(), "run f f", empty, Status::Done, TWO)
-}
+/// Words, the reads and the writes that fail, how a run of an empty file `f` ends, and what it writes.
+type Run = (
+    &'static str,
+    &'static [u64],
+    &'static [(u64, u32)],
+    Status,
+    &'static str,
+);
+
+/// Runs of an empty script, words that are not understood, files that are not there, and reads and writes that fail.
+const RUNS: [Run; 12] = [
+    ("run f", &[], &[], Status::Done, EMPTY),
+    ("run --arena 64 f", &[], &[], Status::Done, EMPTY),
+    ("run f f", &[], &[], Status::Done, TWO),
+    ("", &[], &[], Status::Words, ""),
+    ("run", &[], &[], Status::Words, ""),
+    ("run --arena 63 f", &[], &[], Status::Words, ""),
+    ("run g", &[], &[], Status::ReadFault, ""),
+    ("run f g", &[], &[], Status::ReadFault, ""),
+    ("run f", &[1], &[], Status::ReadFault, ""),
+    ("run f f", &[2], &[], Status::ReadFault, ""),
+    ("run f", &[], &[(2, 0)], Status::WriteFault, "session 1\n"),
+    (
+        "run f",
+        &[],
+        &[(2, 3)],
+        Status::WriteFault,
+        "session 1\nhis",
+    ),
+];
 
 #[test]
-fn words_are_not_understood(rt: HostRuntime) -> Result<(), Fail> {
-    for words in ["", "run", "run --arena 63 f"] {
-        ends(&rt, rt.alloc(), words, faultless(b""), Status::Words, "")?;
+fn runs_end(rt: HostRuntime) -> Result<(), Fail> {
+    for (words, reads, writes, status, written) in RUNS {
+        let given = Given {
+            script: b"",
+            reads,
+            writes,
+        };
+        ends(&rt, rt.alloc(), words, given, status, written)?;
     }
     Ok(())
 }
@@ -56,59 +77,6 @@ fn many_words_end(
 fn sixty_four_files_are_the_most(rt: HostRuntime) -> Result<(), Fail> {
     many_words_end(&rt, rt.alloc(), 66, Status::Words)?;
     many_words_end(&rt, rt.alloc(), 65, Status::ReadFault)
-}
-
-#[test]
-fn files_are_not_there(rt: HostRuntime) -> Result<(), Fail> {
-    for words in ["run g", "run f g"] {
-        ends(
-            &rt,
-            rt.alloc(),
-            words,
-            faultless(b""),
-            Status::ReadFault,
-            "",
-        )?;
-    }
-    Ok(())
-}
-
-/// A run on empty files, of which the n-th that is read fails.
-fn read_fails(
-    rt: &(impl Threads + Wait + Abort + Sync),
-    alloc: Global,
-    words: &str,
-    n: u64,
-) -> Result<(), Fail> {
-    let given = Given {
-        script: b"",
-        reads: &[n],
-        writes: &[],
-    };
-    ends(rt, alloc, words, given, Status::ReadFault, "")
-}
-
-/// A run on an empty file whose second write fails, after so many bytes.
-fn write_fails(
-    rt: &(impl Threads + Wait + Abort + Sync),
-    alloc: Global,
-    after: u32,
-    written: &str,
-) -> Result<(), Fail> {
-    let given = Given {
-        script: b"",
-        reads: &[],
-        writes: &[(2, after)],
-    };
-    ends(rt, alloc, "run f", given, Status::WriteFault, written)
-}
-
-#[test]
-fn reads_and_writes_fail(rt: HostRuntime) -> Result<(), Fail> {
-    read_fails(&rt, rt.alloc(), "run f", 1)?;
-    read_fails(&rt, rt.alloc(), "run f f", 2)?;
-    write_fails(&rt, rt.alloc(), 0, "session 1\n")?;
-    write_fails(&rt, rt.alloc(), 3, "session 1\nhis")
 }
 
 /// The replies to the first session.

@@ -24,6 +24,20 @@ fn all_committed(transcript: &Transcript) -> bool {
     })
 }
 
+/// All statements of these scripts commit, and none that is held is let go before its turn.
+fn commit_held(
+    rt: &(impl Threads + Wait + Abort + Sync),
+    alloc: Global,
+    texts: &[&str],
+) -> Result<(), Fail> {
+    let holds = List::from_vec(Vec::from_array(alloc, HELD)?);
+    let gate = HoldGate::make(alloc, holds)?;
+    let transcript = served(rt, alloc, ROOMY, texts, &gate)?;
+    assert!(rt; !gate.late(rt));
+    assert!(rt; all_committed(&transcript) && transcript.history.as_slice().len() == 4);
+    Ok(())
+}
+
 /// The first statement of session 1 waits for one of session 2, whose next statement waits for the first one of session 1.
 /// So no session may wait for the other one's end.
 #[test]
@@ -32,12 +46,7 @@ fn each_waits_for_the_other(rt: HostRuntime) -> Result<(), Fail> {
         "create table a (x); create table b (x);",
         "create table c (x); create table d (x);",
     ];
-    let holds = List::from_vec(Vec::from_array(rt.alloc(), HELD)?);
-    let gate = HoldGate::make(rt.alloc(), holds)?;
-    let transcript = served(&rt, rt.alloc(), ROOMY, &texts, &gate)?;
-    assert!(rt; !gate.late(&rt));
-    assert!(rt; all_committed(&transcript) && transcript.history.as_slice().len() == 4);
-    Ok(())
+    commit_held(&rt, rt.alloc(), &texts)
 }
 
 /// Holds session 2 until the question of session 1 has begun, and notes how many statements of session 2 ended before it.

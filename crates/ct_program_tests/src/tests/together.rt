@@ -1,16 +1,17 @@
 // What sessions share: the names of nulls, the versions and the log. What each has for itself: its new nulls.
 
-use crate::tests::played::{ROOMY, play, play_on, served};
+use crate::tests::played::{ROOMY, play, served};
 use ct_outside::NoGate;
 use ct_transcript::{Refusal, Reply, Transcript};
 use std::alloc::{AllocError, Global};
 use std::process::Abort;
 use std::test::Fail;
 
-/// A new null of one session differs in name from that of another one, and may have the same value.
-#[test]
-fn new_nulls_of_two_sessions(rt: HostRuntime) -> Result<(), Fail> {
-    let case = "
+/// Cases of what sessions share.
+const CASES: [&str; 3] = [
+    // New nulls of two sessions. A new null of one session differs in name from that of another one, and may have the
+    // same value.
+    "
         script create table t (a); insert into t values (NULL); select p.a, q.a from t p, t q where p.a = q.a;
         script insert into t values (NULL);
 
@@ -25,14 +26,9 @@ fn new_nulls_of_two_sessions(rt: HostRuntime) -> Result<(), Fail> {
             rows (a, a) at 3 / (?2#1, ?2#1) / (?2#1, ?1#1) if ?1#1 = ?2#1 / (?1#1, ?2#1) if ?1#1 = ?2#1 / (?1#1, ?1#1)
         replies committed 2
         history by 1 / create table t (a); by 2 / insert into t (?2#1); by 1 / insert into t (?1#1)
-    ";
-    play(&rt, rt.alloc(), case)
-}
-
-/// A named null is one null in all sessions, so that the same row comes twice.
-#[test]
-fn the_same_script_twice(rt: HostRuntime) -> Result<(), Fail> {
-    let case = "
+    ",
+    // The same script twice. A named null is one null in all sessions, so that the same row comes twice.
+    "
         script create table t (a); insert into t values (?x); select a from t;
         script create table t (a); insert into t values (?x); select a from t;
 
@@ -45,14 +41,9 @@ fn the_same_script_twice(rt: HostRuntime) -> Result<(), Fail> {
         replies refused TableExists; committed 3; rows (a) at 3 / (?x)
         replies committed 1; committed 2; rows (a) at 3 / (?x)
         history by 2 / create table t (a); by 2 / insert into t (?x); by 1 / insert into t (?x)
-    ";
-    play(&rt, rt.alloc(), case)
-}
-
-/// Outside a transaction each statement sees all commits so far, and within one the base.
-#[test]
-fn versions_rise(rt: HostRuntime) -> Result<(), Fail> {
-    let case = "
+    ",
+    // Versions rise. Outside a transaction each statement sees all commits so far, and within one the base.
+    "
         script create table t (a); select * from t; begin; select * from t; commit; select * from t;
         script insert into t values (1); insert into t values (2); select * from t;
 
@@ -62,8 +53,15 @@ fn versions_rise(rt: HostRuntime) -> Result<(), Fail> {
             rows (a) at 3 / (1) / (2)
         replies committed 2; committed 3; rows (a) at 3 / (1) / (2)
         history by 1 / create table t (a); by 2 / insert into t (1); by 2 / insert into t (2)
-    ";
-    play(&rt, rt.alloc(), case)
+    ",
+];
+
+#[test]
+fn names_and_versions_are_shared(rt: HostRuntime) -> Result<(), Fail> {
+    for case in CASES {
+        play(&rt, rt.alloc(), ROOMY, case)?;
+    }
+    Ok(())
 }
 
 /// A statement of session 1 takes all words of a log of 64. From then on nobody commits: the open transaction stays
@@ -82,7 +80,7 @@ fn one_session_fills_the_log(rt: HostRuntime) -> Result<(), Fail> {
         replies begun at 1; pending at 1 plus 1; refused Full; rolled back; refused Full; rows (a) at 1
         history by 1 / create table t (a)
     ";
-    play_on(&rt, rt.alloc(), 64, case)
+    play(&rt, rt.alloc(), 64, case)
 }
 
 /// Adds a session to an order.
@@ -92,7 +90,7 @@ fn push_session(alloc: Global, order: &mut String, session: u32) -> Result<(), A
 
 /// Adds the order of 64 sessions in which the last one comes first.
 fn push_order(alloc: Global, case: &mut String) -> Result<(), AllocError> {
-    case.push_str("order")?;
+    case.push_str("\norder")?;
     for before in 0..64u32 {
         push_session(alloc, case, 64u32.saturating_sub(before))?;
     }
@@ -111,7 +109,7 @@ fn from_the_last(alloc: Global) -> Result<String, AllocError> {
 #[test]
 fn sixty_four_sessions_from_the_last(rt: HostRuntime) -> Result<(), Fail> {
     let case = from_the_last(rt.alloc())?;
-    play(&rt, rt.alloc(), case.as_str())
+    play(&rt, rt.alloc(), ROOMY, case.as_str())
 }
 
 /// How many of the creations that all sessions consist of were committed, and how many found that another one was.

@@ -1,7 +1,7 @@
 // What tests look for in a whole log.
 
 use ct_arena::{Full, Pass, Site};
-use std::alloc::{AllocError, Global};
+use std::alloc::Global;
 use std::process::Abort;
 use std::test::Fail;
 
@@ -29,20 +29,22 @@ pub fn stands(words: &[u64], place: u32, w: u64) -> bool {
     words.get(place as usize) == Some(&w)
 }
 
-fn sorted(alloc: Global, words: &[u64]) -> Result<Vec<u64>, AllocError> {
-    let mut all = Vec::new(alloc);
-    for w in words {
-        all.push(*w)?;
+/// The place of a word, by a plain search.
+pub fn place_of(words: &[u64], w: u64) -> Option<u32> {
+    for place in 0..words.len() {
+        if words[place] == w {
+            return u32::try_from(place).ok();
+        }
     }
-    all.sort_unstable();
-    Ok(all)
+    None
 }
 
 /// The log begins with the words true and false, and has no word twice.
 pub fn no_word_twice(rt: &impl Abort, alloc: Global, words: &[u64]) -> Result<(), Fail> {
     assert!(rt; stands(words, 0, 0x0a_0000000_0000000));
     assert!(rt; stands(words, 1, 0x0b_0000000_0000000));
-    let all = sorted(alloc, words)?;
+    let mut all = words.to_vec(alloc)?;
+    all.sort_unstable();
     for k in 1..all.len() {
         assert!(rt; all[k - 1] < all[k]);
     }

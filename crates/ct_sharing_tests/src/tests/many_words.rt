@@ -1,6 +1,6 @@
 // Many words of one log, for the measurements.
 
-ghost use Rattle.std.specs.Prelude.{◌≡◌, ◌<◌, None};
+ghost use Rattle.std.specs.Prelude.{◌≡◌, ◌<◌, ◌^◌, None};
 
 use crate::tests::checks::is;
 use crate::tests::puts::{commit, put_part};
@@ -28,13 +28,7 @@ fn intern_from<N: Site>(arena: &Arena<N>, pass: &mut Pass<N>, from: u32, end: u3
     end
 }
 
-/// A session interns the parts below one, and has made as many words then.
-fn intern_below<N: Site>(rt: &impl Abort, arena: &Arena<N>, pass: &mut Pass<N>, end: u32) {
-    is(rt, intern_from(arena, pass, 0, end) as u64, end as u64);
-    is(rt, pass.made() as u64, end as u64);
-}
-
-/// Interns words that are new, and the same words again.
+/// Interns words that are new, and the same words again. All are made by the session.
 fn intern_twice<N: Site>(
     rt: &impl Abort,
     alloc: Global,
@@ -45,8 +39,14 @@ fn intern_twice<N: Site>(
 {
     let (arena, mut keeper) = Arena::<N>::make(blank);
     let mut pass = keeper.enrol(alloc, &arena)?;
-    intern_below(rt, &arena, &mut pass, count);
-    intern_below(rt, &arena, &mut pass, count);
+    for _ in 0..2 {
+        is(
+            rt,
+            intern_from(&arena, &mut pass, 0, count) as u64,
+            count as u64,
+        );
+        is(rt, pass.made() as u64, count as u64);
+    }
     Ok(())
 }
 
@@ -69,31 +69,6 @@ fn commit_late<N: Site>(arena: &Arena<N>, keeper: &mut KeeperPass<N>, pass: Pass
 }
 
 /// A session commits in a log with so many words, and again once another one has put more.
-fn commit_between<N: Site>(
-    rt: &impl Abort,
-    arena: &Arena<N>,
-    keeper: &mut KeeperPass<N>,
-    a: Pass<N>,
-    b: &mut Pass<N>,
-    before: u32,
-    more: u32,
-)
-    requires { keeper.old.guest ≡ None }
-{
-    let after = before.saturating_add(more);
-    is(rt, intern_from(arena, b, 0, before) as u64, before as u64);
-    let (a, place) = commit(arena, keeper, a);
-    assert!(rt; place.is_ok());
-    is(
-        rt,
-        intern_from(arena, b, before, after) as u64,
-        after as u64,
-    );
-    let a = commit_late(arena, keeper, a);
-    is(rt, a.mine() as u64, 2);
-}
-
-/// The same of two new sessions.
 fn commit_twice<N: Site>(
     rt: &impl Abort,
     alloc: Global,
@@ -106,7 +81,21 @@ fn commit_twice<N: Site>(
     let (arena, mut keeper) = Arena::<N>::make(blank);
     let a = keeper.enrol(alloc, &arena)?;
     let mut b = keeper.enrol(alloc, &arena)?;
-    commit_between(rt, &arena, &mut keeper, a, &mut b, before, more);
+    is(
+        rt,
+        intern_from(&arena, &mut b, 0, before) as u64,
+        before as u64,
+    );
+    let (a, place) = commit(&arena, &mut keeper, a);
+    assert!(rt; place.is_ok());
+    let after = before.saturating_add(more);
+    is(
+        rt,
+        intern_from(&arena, &mut b, before, after) as u64,
+        after as u64,
+    );
+    let a = commit_late(&arena, &mut keeper, a);
+    is(rt, a.mine() as u64, 2);
     Ok(())
 }
 
@@ -121,53 +110,39 @@ fn commits_after_others(rt: HostRuntime) -> Result<(), Fail> {
     Ok(())
 }
 
-/// So many sessions make 400,000 words as they do a job on threads of their own.
+/// So many sessions make 400,000 words in all, as each interns so many of these on a thread of its own.
 fn make_all(
     rt: &(impl Threads + Abort + Sync),
     alloc: Global,
+    sessions: u32,
     count: u32,
-    job: &Job,
+    words: Words,
 ) -> Result<(), Fail>
-    requires some { 0 < count }
-    requires few { count < 5 }
+    requires some { 0 < sessions }
+    requires few { sessions < 5 }
+    requires count { count < 2 ^ 28 }
 {
-    let (did, _) = run_job(rt, alloc, 400_002, count, job)?;
+    let (did, _) = run_job(rt, alloc, 400_002, sessions, &Job { count, words })?;
     is(rt, made(&did), 400_000);
     Ok(())
 }
 
 #[test]
 fn one_thread(rt: HostRuntime) -> Result<(), Fail> {
-    let job = Job {
-        count: 400_000,
-        words: Words::Own,
-    };
-    make_all(&rt, rt.alloc(), 1, &job)
+    make_all(&rt, rt.alloc(), 1, 400_000, Words::Own)
 }
 
 #[test]
 fn two_threads(rt: HostRuntime) -> Result<(), Fail> {
-    let job = Job {
-        count: 200_000,
-        words: Words::Own,
-    };
-    make_all(&rt, rt.alloc(), 2, &job)
+    make_all(&rt, rt.alloc(), 2, 200_000, Words::Own)
 }
 
 #[test]
 fn four_threads(rt: HostRuntime) -> Result<(), Fail> {
-    let job = Job {
-        count: 100_000,
-        words: Words::Own,
-    };
-    make_all(&rt, rt.alloc(), 4, &job)
+    make_all(&rt, rt.alloc(), 4, 100_000, Words::Own)
 }
 
 #[test]
 fn four_threads_same(rt: HostRuntime) -> Result<(), Fail> {
-    let job = Job {
-        count: 400_000,
-        words: Words::Same,
-    };
-    make_all(&rt, rt.alloc(), 4, &job)
+    make_all(&rt, rt.alloc(), 4, 400_000, Words::Same)
 }

@@ -45,21 +45,6 @@ pub fn put_part<N: Site>(
     put(arena, pass, Kind::NumberHigh, upper, part)
 }
 
-/// The place of the word of a character on the end of a text, which stays at its place.
-pub fn put_character<N: Site>(
-    arena: &Arena<N>,
-    pass: &mut Pass<N>,
-    end: u32,
-    character: u32,
-) -> Result<u32, Full>
-    requires place { IsTrue (is_place_of pass.old.words class.Text end) }
-    requires small { end < 2 ^ 28 }
-    requires ascii { character < 128 }
-    ensures { IsTrue (is_place_of pass.new.words class.Text end) }
-{
-    put(arena, pass, Kind::TextCharacter, end, character)
-}
-
 /// A session commits a change list without changes. Answers its pass, and the commit's place.
 pub fn commit<N: Site>(
     arena: &Arena<N>,

@@ -5,7 +5,7 @@ ghost use Rattle.std.specs.Prelude.{◌≡◌, ◌+◌, [], None, vec_len};
 use crate::tests::checks::{has_made, has_place, is};
 use crate::tests::puts::{commit, put};
 use crate::tests::threads::{Job, Words, Worker, end_all, enrol_all, made};
-use ct_arena::{Arena, Blank, Full, KeeperPass, Pass, Site};
+use ct_arena::{Arena, Blank, KeeperPass, Pass, Site};
 use ct_word::{Kind, List};
 use std::alloc::Global;
 use std::marker::Brand;
@@ -22,18 +22,6 @@ const SHARED: [u64; 6] = [
     0x1d_0040000_0000004,
 ];
 
-fn text_end<N: Site>(arena: &Arena<N>, pass: &mut Pass<N>) -> Result<u32, Full> {
-    put(arena, pass, Kind::TextEnd, 0, 0)
-}
-
-fn row_end<N: Site>(arena: &Arena<N>, pass: &mut Pass<N>) -> Result<u32, Full> {
-    put(arena, pass, Kind::RowEnd, 0, 0)
-}
-
-fn changes_end<N: Site>(arena: &Arena<N>, pass: &mut Pass<N>) -> Result<u32, Full> {
-    put(arena, pass, Kind::ChangesEnd, 0, 0)
-}
-
 /// A session sees so many words once it has caught up.
 fn sees<N: Site>(rt: &impl Abort, arena: &Arena<N>, pass: &mut Pass<N>, count: usize) {
     pass.catch_up(arena);
@@ -42,12 +30,12 @@ fn sees<N: Site>(rt: &impl Abort, arena: &Arena<N>, pass: &mut Pass<N>, count: u
 
 /// Two sessions intern, and each sees what the other put.
 fn intern_in_turn<N: Site>(rt: &impl Abort, arena: &Arena<N>, a: &mut Pass<N>, b: &mut Pass<N>) {
-    has_place(rt, text_end(arena, a), 2);
-    has_place(rt, text_end(arena, b), 2);
+    has_place(rt, put(arena, a, Kind::TextEnd, 0, 0), 2);
+    has_place(rt, put(arena, b, Kind::TextEnd, 0, 0), 2);
     is(rt, b.made() as u64, 0);
-    has_place(rt, row_end(arena, b), 3);
+    has_place(rt, put(arena, b, Kind::RowEnd, 0, 0), 3);
     sees(rt, arena, a, 4);
-    has_place(rt, changes_end(arena, a), 4);
+    has_place(rt, put(arena, a, Kind::ChangesEnd, 0, 0), 4);
 }
 
 /// A session commits, and its commit stands at this place.
@@ -68,26 +56,6 @@ fn commit_at<N: Site>(
     pass
 }
 
-/// One session commits, and the other sees it.
-fn commit_and_see<N: Site>(
-    rt: &impl Abort,
-    arena: &Arena<N>,
-    keeper: &mut KeeperPass<N>,
-    a: Pass<N>,
-    b: &mut Pass<N>,
-) -> Pass<N>
-    requires guest { keeper.old.guest ≡ None }
-    ensures enrolled { keeper.new.enrolled ≡ keeper.old.enrolled }
-    ensures ended { keeper.new.ended ≡ keeper.old.ended }
-    ensures guest { keeper.new.guest ≡ None }
-{
-    let a = commit_at(rt, arena, keeper, a, 5);
-    has_made(rt, &a, 3, 1);
-    sees(rt, arena, b, 6);
-    is(rt, b.made() as u64, 1);
-    a
-}
-
 /// The log has these words.
 fn has_words(rt: &impl Abort, words: &List<u64>, wanted: &[u64]) {
     assert_eq!(rt; words.as_slice(), wanted);
@@ -101,7 +69,10 @@ fn share<N: Site>(rt: &impl Abort, alloc: Global, blank: Blank) -> Result<(), Fa
     let mut a = keeper.enrol(alloc, &arena)?;
     let mut b = keeper.enrol(alloc, &arena)?;
     intern_in_turn(rt, &arena, &mut a, &mut b);
-    let a = commit_and_see(rt, &arena, &mut keeper, a, &mut b);
+    let a = commit_at(rt, &arena, &mut keeper, a, 5);
+    has_made(rt, &a, 3, 1);
+    sees(rt, &arena, &mut b, 6);
+    has_made(rt, &b, 1, 0);
     let _ = keeper.end(&arena, a);
     let _ = keeper.end(&arena, b);
     has_words(rt, &keeper.finish(arena).into_words(), &SHARED);
@@ -129,28 +100,6 @@ const NOTHING: Job = Job {
     words: Words::Own,
 };
 
-/// The first and the last of 1,023 sessions commit.
-fn commit_both<N: Site>(
-    rt: &impl Abort,
-    arena: &Arena<N>,
-    keeper: &mut KeeperPass<N>,
-    first: Pass<N>,
-    last: Pass<N>,
-) -> (Pass<N>, Pass<N>)
-    requires guest { keeper.old.guest ≡ None }
-    ensures enrolled { keeper.new.enrolled ≡ keeper.old.enrolled }
-    ensures ended { keeper.new.ended ≡ keeper.old.ended }
-    ensures guest { keeper.new.guest ≡ None }
-{
-    is(rt, first.session() as u64, 1);
-    is(rt, last.session() as u64, 1023);
-    let first = commit_at(rt, arena, keeper, first, 3);
-    let last = commit_at(rt, arena, keeper, last, 4);
-    has_made(rt, &first, 2, 1);
-    has_made(rt, &last, 1, 1);
-    (first, last)
-}
-
 /// The first and the last session commit, and all are ended.
 fn commit_and_close<N: Site>(
     rt: &impl Abort,
@@ -165,7 +114,12 @@ fn commit_and_close<N: Site>(
     requires enrolled { keeper.enrolled ≡ vec_len others + 2 }
     requires ended { keeper.ended ≡ [] }
 {
-    let (first, last) = commit_both(rt, &arena, &mut keeper, first, last);
+    is(rt, first.session() as u64, 1);
+    is(rt, last.session() as u64, 1023);
+    let first = commit_at(rt, &arena, &mut keeper, first, 3);
+    let last = commit_at(rt, &arena, &mut keeper, last, 4);
+    has_made(rt, &first, 2, 1);
+    has_made(rt, &last, 1, 1);
     let _ = keeper.end(&arena, first);
     let _ = keeper.end(&arena, last);
     let did = end_all(alloc, &arena, &mut keeper, others)?;

@@ -5,7 +5,7 @@ ghost use Rattle.ct_word.specs.declared.kinds.Class.TheVariants as class;
 ghost use Rattle.ct_word.specs.WellFormed.{is_place_of};
 
 use crate::tests::checks::{is, no_word_twice, stands};
-use crate::tests::puts::{put, put_character, put_part};
+use crate::tests::puts::{put, put_part};
 use ct_arena::{Arena, Blank, Full, KeeperPass, Pass, Site};
 use ct_word::{Kind, List};
 use std::alloc::Global;
@@ -59,14 +59,6 @@ fn turn(session: u32, k: u32, count: u32) -> u32
     }
 }
 
-/// The session whose word it is, or 0 where it is the same for all.
-fn owner(words: &Words, session: u32) -> u32 {
-    match words {
-        Words::Own => session,
-        _ => 0,
-    }
-}
-
 /// Keeps the answer to the n-th word.
 fn keep(places: &mut [u32], n: u32, place: u32) {
     if let Some(answer) = places.get_mut(n as usize) {
@@ -78,7 +70,12 @@ impl<N: Site> Worker<N> {
     /// Interns the words of a job, each in its turn, until the log is full.
     pub fn intern_parts(&mut self, arena: &Arena<N>, job: &Job) {
         let session = self.pass.session();
-        let upper = owner(&job.words, session) % 1024;
+        let owner = if matches!(job.words, Words::Own) {
+            session
+        } else {
+            0
+        };
+        let upper = owner % 1024;
         for k in 0..job.count {
             let n = turn(session, k, job.count);
             let Ok(place) = put_part(arena, &mut self.pass, upper, n) else {
@@ -90,12 +87,13 @@ impl<N: Site> Worker<N> {
     }
 
     /// Interns the n-th character on the end of a text, which stays at its place.
+    #[tactic(auto, using(ct_word::proofs::Prefixes::place_in_prefix))]
     fn intern_character(&mut self, arena: &Arena<N>, end: u32, n: u32) -> Result<(), Full>
         requires place { IsTrue (is_place_of self.old.pass.words class.Text end) }
         requires small { end < 2 ^ 28 }
         ensures { IsTrue (is_place_of self.new.pass.words class.Text end) }
     {
-        let place = put_character(arena, &mut self.pass, end, n % 128)?;
+        let place = put(arena, &mut self.pass, Kind::TextCharacter, end, n % 128)?;
         keep(&mut self.places, n, place);
         Ok(())
     }
@@ -197,20 +195,21 @@ pub fn end_all<N: Site>(
 }
 
 /// Each session does the job, on a thread of its own.
-fn run_all<N: Site + Send + Sync>(
+pub fn run_all<N: Site + Send + Sync>(
     rt: &(impl Threads + Sync),
     arena: &Arena<N>,
-    workers: &mut [Worker<N>],
+    mut workers: Vec<Worker<N>>,
     job: &Job,
-)
-    requires { 0 < length workers.old }
-    ensures { length workers.new ≡ length workers.old }
+) -> Vec<Worker<N>>
+    requires { 0 < vec_len workers }
+    ensures { vec_len result ≡ vec_len workers }
 {
     let threads = workers.len();
     let run = |_: usize, worker: &mut Worker<N>| {
         worker.intern(arena, job);
     };
-    thread::for_each_mut(rt, workers, threads, &run);
+    thread::for_each_mut(rt, &mut workers, threads, &run);
+    workers
 }
 
 /// So many sessions do a job on threads of their own. Answers what each did, and the log.
@@ -226,8 +225,8 @@ fn by_threads<N: Site + Send + Sync>(
     requires few { count < 5 }
 {
     let (arena, mut keeper) = Arena::<N>::make(blank);
-    let mut workers = enrol_all(alloc, &arena, &mut keeper, count, job)?;
-    run_all(rt, &arena, &mut workers, job);
+    let workers = enrol_all(alloc, &arena, &mut keeper, count, job)?;
+    let workers = run_all(rt, &arena, workers, job);
     let did = end_all(alloc, &arena, &mut keeper, workers)?;
     Ok((did, keeper.finish(arena).into_words()))
 }
@@ -258,140 +257,86 @@ pub fn made(did: &[Did]) -> u64 {
     sum
 }
 
-/// Whether each session made so many words.
-fn have_made(did: &[Did], count: u32) -> bool {
-    for each in did {
-        if each.made != count {
-            return false;
-        }
+/// The first of the words of a session. Each of the others is by one more than the word before it.
+fn first_word(words: &Words, session: u32) -> u64 {
+    match words {
+        Words::Text => 0x02_0000002_0000000,
+        Words::Same => 0x03_0000000_0000000,
+        Words::Own => 0x03_0000000_0000000 ^ ((session as u64) << 28),
     }
-    true
 }
 
-/// Whether each session had seen so many words as it was told that the log is full.
-fn have_filled(did: &[Did], count: usize) -> bool {
-    for each in did {
-        if each.full_at != count {
-            return false;
-        }
-    }
-    true
-}
-
-/// Each word of a session stands in the log, at the place that it was answered.
-fn has_all(rt: &impl Abort, words: &[u64], did: &Did, first: u64) {
+/// Each word of a session, of which this is the first, stands in the log, at the place that it was answered.
+fn has_all(rt: &impl Abort, words: &[u64], places: &[u32], first: u64) {
     let mut w = first;
-    for place in &did.places {
+    for place in places {
         assert!(rt; stands(words, *place, w));
         w = w.wrapping_add(1);
     }
 }
 
-/// The sessions have the same words, of which this is the first.
-fn have_same(rt: &impl Abort, words: &[u64], did: &[Did], first: u64) {
+/// Each session was told that the log is full once it had seen so many words. Where it is never full, each has all words
+/// of the job, and made them if they are its own.
+pub fn have_done(rt: &impl Abort, words: &[u64], did: &[Did], job: &Job, full_at: usize) {
     for each in did {
-        has_all(rt, words, each, first);
+        is(rt, each.full_at as u64, full_at as u64);
+        if full_at == 0 {
+            has_all(
+                rt,
+                words,
+                &each.places,
+                first_word(&job.words, each.session),
+            );
+            assert!(rt; each.made == job.count || !matches!(job.words, Words::Own));
+        }
     }
 }
 
-/// Each session has words of its own.
-pub fn have_own(rt: &impl Abort, words: &[u64], did: &[Did]) {
-    for each in did {
-        let first = 0x03_0000000_0000000 ^ ((each.session as u64 & 0xffff) << 28);
-        has_all(rt, words, each, first);
-    }
-}
-
-/// The log has so many words, none of them twice, and the sessions made all but the first two.
-fn are_made(
-    rt: &impl Abort,
-    alloc: Global,
-    words: &[u64],
-    did: &[Did],
-    count: usize,
-) -> Result<(), Fail> {
-    is(rt, words.len() as u64, count as u64);
-    no_word_twice(rt, alloc, words)?;
-    is(rt, made(did), (count as u64).saturating_sub(2));
-    Ok(())
-}
-
-/// Four sessions do a job on a log of this capacity, which has so many words in the end. Answers what each did, and the log.
-fn run_four(
+/// Four sessions do a job on a log of this capacity. It has so many words in the end, none of them twice, and the sessions
+/// made all but the first two.
+fn four_do(
     rt: &(impl Threads + Abort + Sync),
     alloc: Global,
     cap: u32,
     job: &Job,
-    count: usize,
-) -> Result<(Vec<Did>, List<u64>), Fail>
+    count: u32,
+    full_at: usize,
+) -> Result<(), Fail>
     requires least { 64 ≤ cap }
     requires most { cap ≤ 4194304 }
 {
     let (did, words) = run_job(rt, alloc, cap, 4, job)?;
-    are_made(rt, alloc, words.as_slice(), &did, count)?;
-    Ok((did, words))
+    is(rt, words.as_slice().len() as u64, count as u64);
+    is(rt, made(&did), (count as u64).saturating_sub(2));
+    have_done(rt, words.as_slice(), &did, job, full_at);
+    if matches!(job.words, Words::Text) {
+        assert!(rt; stands(words.as_slice(), 2, 0x01_0000000_0000000));
+    }
+    no_word_twice(rt, alloc, words.as_slice())
 }
 
-/// The end of a text and 39 characters on it, after true and false.
-fn intern_a_text(rt: &(impl Threads + Abort + Sync), alloc: Global) -> Result<(), Fail> {
-    let job = Job {
+/// The end of a text and 39 characters on it, the same words and words of their own, and more words than the log has room
+/// for: each session is told that it is full, and none before it is.
+#[test]
+fn threads_intern_at_once(rt: HostRuntime) -> Result<(), Fail> {
+    let text = Job {
         count: 39,
         words: Words::Text,
     };
-    let (did, words) = run_four(rt, alloc, 64, &job, 42)?;
-    assert!(rt; stands(words.as_slice(), 2, 0x01_0000000_0000000));
-    have_same(rt, words.as_slice(), &did, 0x02_0000002_0000000);
-    Ok(())
-}
-
-#[test]
-fn threads_intern_the_same_text(rt: HostRuntime) -> Result<(), Fail> {
-    intern_a_text(&rt, rt.alloc())
-}
-
-fn intern_the_same_words(rt: &(impl Threads + Abort + Sync), alloc: Global) -> Result<(), Fail> {
-    let job = Job {
+    let same = Job {
         count: 2000,
         words: Words::Same,
     };
-    let (did, words) = run_four(rt, alloc, 4000, &job, 2002)?;
-    have_same(rt, words.as_slice(), &did, 0x03_0000000_0000000);
-    Ok(())
-}
-
-#[test]
-fn threads_intern_the_same_words(rt: HostRuntime) -> Result<(), Fail> {
-    intern_the_same_words(&rt, rt.alloc())
-}
-
-fn intern_own_words(rt: &(impl Threads + Abort + Sync), alloc: Global) -> Result<(), Fail> {
-    let job = Job {
+    let own = Job {
         count: 2000,
         words: Words::Own,
     };
-    let (did, words) = run_four(rt, alloc, 8192, &job, 8002)?;
-    assert!(rt; have_made(&did, 2000));
-    have_own(rt, words.as_slice(), &did);
-    Ok(())
-}
-
-#[test]
-fn threads_intern_their_own_words(rt: HostRuntime) -> Result<(), Fail> {
-    intern_own_words(&rt, rt.alloc())
-}
-
-/// Each session is told that the log is full, and none before it is.
-fn fill_a_log(rt: &(impl Threads + Abort + Sync), alloc: Global) -> Result<(), Fail> {
-    let job = Job {
+    let many = Job {
         count: 100,
         words: Words::Own,
     };
-    let (did, _) = run_four(rt, alloc, 64, &job, 64)?;
-    assert!(rt; have_filled(&did, 64));
-    Ok(())
-}
-
-#[test]
-fn threads_fill_a_log(rt: HostRuntime) -> Result<(), Fail> {
-    fill_a_log(&rt, rt.alloc())
+    four_do(&rt, rt.alloc(), 64, &text, 42, 0)?;
+    four_do(&rt, rt.alloc(), 4000, &same, 2002, 0)?;
+    four_do(&rt, rt.alloc(), 8192, &own, 8002, 0)?;
+    four_do(&rt, rt.alloc(), 64, &many, 64, 64)
 }

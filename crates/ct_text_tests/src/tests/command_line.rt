@@ -5,23 +5,104 @@ use std::alloc::{AllocError, Global};
 use std::process::Abort;
 use std::test::Fail;
 
-/// The capacity where no words tell another.
-const PLAIN: u32 = 262_144;
+/// Words, and what they ask for.
+const ASKED: [(&[&str], &str); 53] = [
+    // No commands.
+    (&[], "nothing"),
+    (&["run"], "nothing"),
+    (&["fill"], "nothing"),
+    (&["Run", "f"], "nothing"),
+    (&["fil", "3"], "nothing"),
+    (&["--help"], "nothing"),
+    (&["--version"], "nothing"),
+    (&["-h"], "nothing"),
+    (&["help"], "nothing"),
+    (&["run", "--arena", "64"], "nothing"),
+    (&["fill", "1", "2"], "nothing"),
+    (&[""], "nothing"),
+    (&["", "f"], "nothing"),
+    // No numbers.
+    (&["run", "--arena", "63", "f"], "nothing"),
+    (&["run", "--arena", "1048577", "f"], "nothing"),
+    (&["run", "--arena", "64x", "f"], "nothing"),
+    (&["run", "--arena", "+64", "f"], "nothing"),
+    (&["run", "--arena", " 64", "f"], "nothing"),
+    (&["run", "--arena", "", "f"], "nothing"),
+    (&["run", "--arena", "00000064", "f"], "nothing"),
+    (&["run", "--arena", "9999999", "f"], "nothing"),
+    (&["run", "--arena", "\u{ff16}\u{ff14}", "f"], "nothing"),
+    (&["fill", "0"], "nothing"),
+    (&["fill", "2001"], "nothing"),
+    (&["fill", "00000003"], "nothing"),
+    (&["fill", "1.5"], "nothing"),
+    (&["fill", ""], "nothing"),
+    // Runs and fills.
+    (&["run", "--arena", "64", "f"], "run 64 [f]"),
+    (&["run", "--arena", "0000064", "f"], "run 64 [f]"),
+    (&["run", "--arena", "1048576", "f"], "run 1048576 [f]"),
+    (&["run", "f"], "run 262144 [f]"),
+    (&["run", "f", "f"], "run 262144 [f] [f]"),
+    (&["run", "g", "", "f"], "run 262144 [g] [] [f]"),
+    (&["fill", "1"], "fill 1"),
+    (&["fill", "2000"], "fill 2000"),
+    (&["fill", "0003"], "fill 3"),
+    // Words that are read as the crate `clap` reads such words: nothing else says how they are to be read. A value may
+    // stand behind `=`, and an option behind a file. A file behind `--` may begin with `-`, and a lone `-` is a file.
+    (&["run", "--arena=64", "f"], "run 64 [f]"),
+    (&["run", "f", "--arena", "64"], "run 64 [f]"),
+    (&["run", "f", "--arena", "64", "g"], "run 64 [f] [g]"),
+    (&["run", "--", "-f"], "run 262144 [-f]"),
+    (&["run", "--", "--arena", "64"], "run 262144 [--arena] [64]"),
+    (&["run", "-"], "run 262144 [-]"),
+    // An option may not come twice, nor without a value, and is not shortened. Each other word that begins with `-` is
+    // an option, and none is there but `--arena`.
+    (&["run", "--arena", "64", "--arena", "64", "f"], "nothing"),
+    (&["run", "--arena"], "nothing"),
+    (&["run", "f", "--arena"], "nothing"),
+    (&["run", "--aren", "64", "f"], "nothing"),
+    (&["run", "-f"], "nothing"),
+    (&["run", "--help", "f"], "nothing"),
+    (&["run", "--version", "f"], "nothing"),
+    (&["run", "-h", "f"], "nothing"),
+    (&["fill", "-1"], "nothing"),
+    (&["fill", "--n", "3"], "nothing"),
+    (&["fill", "--help"], "nothing"),
+];
 
-fn is_run(asked: &Option<Asked>, told_capacity: u32, told_files: &[&str]) -> bool {
+/// What words ask for, as a text: a run with its capacity and its files, or a number to fill with.
+fn told(alloc: Global, asked: &Option<Asked>) -> Result<String, AllocError> {
     match asked {
+        None => String::from_str(alloc, "nothing"),
+        Some(Asked::Fill { number }) => format!(in alloc; "fill {number}"),
         Some(Asked::Run { capacity, files }) => {
-            *capacity == told_capacity && files.as_slice() == told_files
+            let mut text = format!(in alloc; "run {capacity}")?;
+            for file in files {
+                text.push_str(format!(in alloc; " [{file}]")?.as_str())?;
+            }
+            Ok(text)
         }
-        _ => false,
     }
 }
 
-fn is_fill(asked: &Option<Asked>, told_number: u32) -> bool {
-    match asked {
-        Some(Asked::Fill { number }) => *number == told_number,
-        _ => false,
+/// Words ask for this.
+fn ask_for(rt: &impl Abort, alloc: Global, words: &[&str], wanted: &str) -> Result<(), Fail> {
+    let asked = asked(alloc, words);
+    let text = told(alloc, &asked?)?;
+    assert_eq!(rt; text.as_str(), wanted);
+    Ok(())
+}
+
+/// What each of these words ask for stands beside them.
+fn ask_for_all(rt: &impl Abort, alloc: Global, all: &[(&[&str], &str)]) -> Result<(), Fail> {
+    for (words, wanted) in all {
+        ask_for(rt, alloc, words, wanted)?;
     }
+    Ok(())
+}
+
+#[test]
+fn words_ask(rt: HostRuntime) -> Result<(), Fail> {
+    ask_for_all(&rt, rt.alloc(), &ASKED)
 }
 
 /// The words of a text, between blanks.
@@ -33,155 +114,28 @@ fn words_of(alloc: Global, text: &str) -> Result<Vec<&str>, AllocError> {
     Ok(words)
 }
 
-/// Whether these words ask for nothing.
-fn are_none(alloc: Global, words: &[&str]) -> Result<bool, Fail> {
-    Ok(asked(alloc, words)?.is_none())
-}
-
-/// The words of a text ask for nothing.
-fn ask_for_nothing(rt: &impl Abort, alloc: Global, text: &str) -> Result<(), Fail> {
-    let words = words_of(alloc, text)?;
-    assert!(rt; are_none(alloc, words.as_slice())?, "{text}");
-    Ok(())
-}
-
-/// Whether these words ask for a run of these files, with this capacity.
-fn are_run(alloc: Global, words: &[&str], capacity: u32, files: &[&str]) -> Result<bool, Fail> {
-    Ok(is_run(&asked(alloc, words)?, capacity, files))
-}
-
-/// The words of a text ask for a run of the files of another one, with this capacity.
-fn ask_for_run(
-    rt: &impl Abort,
-    alloc: Global,
-    text: &str,
-    capacity: u32,
-    files: &str,
-) -> Result<(), Fail> {
-    let words = words_of(alloc, text)?;
-    let files = words_of(alloc, files)?;
-    let are_run = are_run(alloc, words.as_slice(), capacity, files.as_slice())?;
-    assert!(rt; are_run, "{text}");
-    Ok(())
-}
-
-#[test]
-fn no_commands(rt: HostRuntime) -> Result<(), Fail> {
-    let texts = [
-        "",
-        "run",
-        "fill",
-        "Run f",
-        "fil 3",
-        "--help",
-        "--version",
-        "-h",
-        "help",
-        "run --arena 64",
-        "fill 1 2",
-    ];
-    for text in texts {
-        ask_for_nothing(&rt, rt.alloc(), text)?;
-    }
-    assert!(rt; are_none(rt.alloc(), &[""])?);
-    assert!(rt; are_none(rt.alloc(), &["", "f"])?);
-    Ok(())
-}
-
-#[test]
-fn no_numbers(rt: HostRuntime) -> Result<(), Fail> {
-    let capacities = [
-        "63",
-        "1048577",
-        "64x",
-        "+64",
-        " 64",
-        "",
-        "00000064",
-        "9999999",
-        "\u{ff16}\u{ff14}",
-    ];
-    for capacity in capacities {
-        let words = ["run", "--arena", capacity, "f"];
-        assert!(rt; are_none(rt.alloc(), &words)?, "{capacity}");
-    }
-    for number in ["0", "2001", "00000003", "1.5", ""] {
-        assert!(rt; are_none(rt.alloc(), &["fill", number])?, "{number}");
-    }
-    Ok(())
-}
-
-#[test]
-fn runs(rt: HostRuntime) -> Result<(), Fail> {
-    ask_for_run(&rt, rt.alloc(), "run --arena 64 f", 64, "f")?;
-    ask_for_run(&rt, rt.alloc(), "run --arena 0000064 f", 64, "f")?;
-    ask_for_run(&rt, rt.alloc(), "run --arena 1048576 f", 1_048_576, "f")?;
-    ask_for_run(&rt, rt.alloc(), "run f", PLAIN, "f")?;
-    ask_for_run(&rt, rt.alloc(), "run f f", PLAIN, "f f")?;
-    let words = ["run", "g", "", "f"];
-    assert!(rt; are_run(rt.alloc(), &words, PLAIN, &["g", "", "f"])?);
-    Ok(())
-}
-
-/// Behind this front 64 files are run with this capacity, and 65 ask for nothing.
-fn takes_64_files(rt: &impl Abort, alloc: Global, front: &str, capacity: u32) -> Result<(), Fail> {
-    let files = "f ".repeat(alloc, 64)?;
-    let most = format!(in alloc; "{front} {}", files.as_str())?;
-    ask_for_run(rt, alloc, most.as_str(), capacity, files.as_str())?;
-    let more = format!(in alloc; "{front} f {}", files.as_str())?;
-    ask_for_nothing(rt, alloc, more.as_str())
+/// Behind this front 64 files are run, with a capacity that stands in front of them in the answer, and 65 ask for nothing.
+fn takes_64_files(rt: &impl Abort, alloc: Global, front: &str, answer: &str) -> Result<(), Fail> {
+    let files = " f".repeat(alloc, 64)?;
+    let mut most = format!(in alloc; "{front}{}", files.as_str())?;
+    let wanted = format!(in alloc; "{answer}{}", " [f]".repeat(alloc, 64)?.as_str())?;
+    ask_for(
+        rt,
+        alloc,
+        words_of(alloc, most.as_str())?.as_slice(),
+        wanted.as_str(),
+    )?;
+    most.push_str(" f")?;
+    ask_for(
+        rt,
+        alloc,
+        words_of(alloc, most.as_str())?.as_slice(),
+        "nothing",
+    )
 }
 
 #[test]
 fn at_most_64_files(rt: HostRuntime) -> Result<(), Fail> {
-    takes_64_files(&rt, rt.alloc(), "run", PLAIN)?;
-    takes_64_files(&rt, rt.alloc(), "run --arena 64", 64)
-}
-
-#[test]
-fn fills(rt: HostRuntime) -> Result<(), Fail> {
-    for (spelled, number) in [("1", 1), ("2000", 2000), ("0003", 3)] {
-        assert!(rt;
-            is_fill(&asked(rt.alloc(), &["fill", spelled])?, number),
-            "{spelled}"
-        );
-    }
-    Ok(())
-}
-
-/// Words that are read as the crate `clap` reads such words: nothing else says how they are to be read.
-#[test]
-fn runs_as_clap_defines(rt: HostRuntime) -> Result<(), Fail> {
-    // A value may stand behind `=`, and an option behind a file. A file behind `--` may begin with `-`, and a lone `-` is
-    // a file.
-    ask_for_run(&rt, rt.alloc(), "run --arena=64 f", 64, "f")?;
-    ask_for_run(&rt, rt.alloc(), "run f --arena 64", 64, "f")?;
-    ask_for_run(&rt, rt.alloc(), "run f --arena 64 g", 64, "f g")?;
-    ask_for_run(&rt, rt.alloc(), "run -- -f", PLAIN, "-f")?;
-    ask_for_run(&rt, rt.alloc(), "run -- --arena 64", PLAIN, "--arena 64")?;
-    ask_for_run(&rt, rt.alloc(), "run -", PLAIN, "-")
-}
-
-/// The same of words that ask for nothing.
-#[test]
-fn nothing_as_clap_defines(rt: HostRuntime) -> Result<(), Fail> {
-    // An option may not come twice, nor without a value, and is not shortened. Each other word that begins with `-` is
-    // an option, and none is there but `--arena`.
-    let texts = [
-        "run --arena 64 --arena 64 f",
-        "run --arena",
-        "run f --arena",
-        "run --aren 64 f",
-        "run -f",
-        "run --help f",
-        "run --version f",
-        "run -h f",
-        "fill -1",
-        "fill --n 3",
-        "fill --help",
-    ];
-    for text in texts {
-        ask_for_nothing(&rt, rt.alloc(), text)?;
-    }
-    Ok(())
+    takes_64_files(&rt, rt.alloc(), "run", "run 262144")?;
+    takes_64_files(&rt, rt.alloc(), "run --arena 64", "run 64")
 }

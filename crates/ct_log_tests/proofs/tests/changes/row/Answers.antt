@@ -6,8 +6,8 @@ use Rattle.ct_log_tests.proofs.tests.changes.row.Goals as goal
 
 pub returns-clause-row : goal.returns-clause-row
 returns-clause-row g c =
-    let first = c.known.new.pass.words in
-    let mid = c.unknown.new.pass.words in
+    let first = c.placed.new.pass.words in
+    let mid = c.placed-2.new.pass.words in
     let new = c.eq.new.pass.words in
     let one = place_in_prefix first new class.Term c.in_ok-one.one (prefix_of_prefix first mid new c.in_ok-x.ensures.longer c.in_ok-cond.ensures.longer) c.in_ok-one.ensures.place in
     let x = place_in_prefix mid new class.Term c.in_ok-x.x c.in_ok-cond.ensures.longer c.in_ok-x.ensures.place in

@@ -1,4 +1,4 @@
-use Rattle.ct_log_tests.proofs.tests.logs.in_a_log.Given as goal
+use Rattle.ct_log_tests.proofs.tests.logs.words_are_put.Given as goal
 
 abbrev pub ghosts-put_into : goal.ghosts-put_into
 ghosts-put_into g a = record { log = a.blank; sessions = 1 }
