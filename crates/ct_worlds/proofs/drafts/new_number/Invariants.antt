@@ -1,0 +1,9 @@
+use Rattle.std.proofs.Common.{◌-◌}
+use Rattle.ct_worlds.specs.Repaired.{Adds, IsNumbered}
+use Rattle.ct_worlds.proofs.drafts.new_number.Given as goal
+
+abbrev pub invariant-loop-k : goal.invariant-loop-k
+invariant-loop-k l = Adds IsNumbered l.initial.draft.values.keys l.draft.values.keys
+
+abbrev pub decreases-loop-k : goal.decreases-loop-k
+decreases-loop-k l = 268435456 - l.k

@@ -1,0 +1,10 @@
+use Rattle.std.proofs.Common.{◌≡◌, ◌⊎◌, map, take}
+use Rattle.std.specs.Prelude.{Contains}
+use Rattle.ct_worlds.specs.Repaired.{Each, IsNumbered}
+use Rattle.ct_worlds.proofs.drafts.pairs_of.Given as goal
+
+abbrev pub invariant-loop-at : goal.invariant-loop-at
+invariant-loop-at l = record {
+  nulls : map (λ p. p.0) l.pairs.items ≡ take l.at l.nulls;
+  values : Each (λ p. Contains l.draft.values.keys p.1 ⊎ IsNumbered p.1) l.pairs.items;
+}

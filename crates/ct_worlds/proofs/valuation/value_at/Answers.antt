@@ -1,0 +1,7 @@
+use Rattle.std.proofs.Common.{[], sym, ◌∙◌}
+use Rattle.ct_word.{specs.Value.at, specs.Reading.term_at, proofs.Constants.constant_stands}
+use Rattle.ct_worlds.proofs.valuation.value_at.Goals as goal
+
+pub returns-then-is_constant : goal.returns-then-is_constant
+returns-then-is_constant c =
+    (at [] [] (term_at c.args.words.now c.args.place), constant_stands c.args.words.now c.requires.formed [] c.args.place (sym c.is_constant.ensures.word ∙ c.if-is_constant.true))

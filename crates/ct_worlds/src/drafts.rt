@@ -1,0 +1,264 @@
+// A world in the making.
+
+ghost use Rattle.std.specs.Prelude.{◌≡◌, ◌⊎◌, ◌<◌, ◌^◌, All, Contains, IfOk, IfSome, IsTrue, OnOk, map};
+ghost use Rattle.ct_word.specs.declared.kinds.Class.TheVariants as class;
+ghost use Rattle.std.specs.List.{IsDistinct};
+ghost use Rattle.ct_word.specs.Value.{same_null};
+ghost use Rattle.ct_word.specs.declared.values.Value.{Value};
+ghost use Rattle.ct_word.specs.WellFormed.{IsWellFormed, is_place_of};
+ghost use Rattle.ct_worlds.specs.Repaired.{Adds, Each, IsAt, IsDrawn, IsNumbered, IsOf, IsOverTerms, IsValueOf};
+
+use crate::classes::{Classes, Side, no_classes};
+use crate::wishing::Wish;
+use ct_word::{List, Memory, Null, Term, Value, World, term_at};
+use indexmap::IndexSet;
+use std::alloc::Global;
+
+/// A world in the making: the nulls, in classes that have a value each.
+#[derive(Drop)]
+pub(crate) struct Draft {
+    nulls: IndexSet<Null>,
+    /// The values that nulls may have, each with a number.
+    values: IndexSet<Value>,
+    classes: Classes,
+    /// The least k for which `@k` was not yet tried as a new value.
+    next: u32,
+}
+
+/// What two terms are in a draft, and whether they are to be equal or different.
+#[derive(Clone, Copy)]
+struct Link {
+    first: Side,
+    second: Side,
+    is_equal: bool,
+}
+
+/// How many values `@k` there are at most among constants, and so in a draft.
+const VALUES: u32 = 1 << 28;
+
+/// The number of a null, which is put in with the value of this number where it is not there.
+fn null_number(draft: &mut Draft, null: Null, number: usize) -> Result<usize, Memory>
+    ensures { OnOk result (draft.new.values.keys ≡ draft.old.values.keys) }
+{
+    let (at, is_new) = draft.nulls.insert_full(null)?;
+    if is_new {
+        draft.classes.add(number)?;
+    }
+    Ok(at)
+}
+
+/// The number of a value, which is put in where it is not there, and whether it was not.
+fn put_value(draft: &mut Draft, value: Value) -> Result<(usize, bool), Memory>
+    ensures { OnOk result (Adds (λ x. x ≡ value) draft.old.values.keys draft.new.values.keys) }
+{
+    let number = draft.values.insert_full(value)?;
+    Ok(number)
+}
+
+/// The number of a value, which is put in where it is not there.
+fn value_number(draft: &mut Draft, value: Value) -> Result<usize, Memory>
+    ensures { OnOk result (Adds (λ x. x ≡ value) draft.old.values.keys draft.new.values.keys) }
+{
+    let (number, _) = put_value(draft, value)?;
+    Ok(number)
+}
+
+/// Puts in a null with its value, unless it is there.
+fn put_pair(draft: &mut Draft, pair: &(Null, Value)) -> Result<(), Memory>
+    ensures { OnOk result (Adds (λ x. x ≡ pair.now.1) draft.old.values.keys draft.new.values.keys) }
+{
+    let number = value_number(draft, pair.1.clone()?)?;
+    null_number(draft, pair.0.clone()?, number)?;
+    Ok(())
+}
+
+/// Puts in the nulls of a world with their values.
+fn put_pairs(draft: &mut Draft, pairs: &[(Null, Value)]) -> Result<(), Memory>
+    ensures { OnOk result (Adds (IsValueOf pairs.now) draft.old.values.keys draft.new.values.keys) }
+{
+    for pair in pairs {
+        put_pair(draft, pair)?;
+    }
+    Ok(())
+}
+
+/// What the term at a place is in a draft.
+fn side(alloc: Global, words: &[u64], place: u32, draft: &mut Draft) -> Result<Side, Memory>
+    requires formed { IsWellFormed words.now }
+    requires term { IsTrue (is_place_of words.now class.Term place) }
+    ensures { OnOk result (Adds (IsAt words.now place) draft.old.values.keys draft.new.values.keys) }
+{
+    match term_at(alloc, words, place)? {
+        Term::Value(value) => Ok(Side::Value(value_number(draft, value)?)),
+        Term::Null(null) => {
+            let zero = value_number(draft, Value::Other(0))?;
+            Ok(Side::Null(null_number(draft, null, zero)?))
+        }
+        Term::Column(_) => Ok(Side::Value(value_number(draft, Value::Other(0))?)),
+    }
+}
+
+/// What the terms of equalities are in a draft.
+fn links(
+    alloc: Global,
+    words: &[u64],
+    wishes: &[Wish],
+    draft: &mut Draft,
+) -> Result<Vec<Link>, Memory>
+    requires formed { IsWellFormed words.now }
+    requires terms { All (IsOverTerms words.now) wishes.now }
+    ensures { OnOk result (Adds (IsOf words.now wishes.now) draft.old.values.keys draft.new.values.keys) }
+{
+    let mut links = Vec::new(alloc);
+    for wish in wishes {
+        let first = side(alloc, words, wish.left, draft)?;
+        let second = side(alloc, words, wish.right, draft)?;
+        let is_equal = wish.is_equal;
+        links.push(Link {
+            first,
+            second,
+            is_equal,
+        })?;
+    }
+    Ok(links)
+}
+
+/// Gives the two sides of each equality that is to be true one value; false where that cannot be.
+fn unite_all(classes: &mut Classes, links: &[Link]) -> bool {
+    for link in links {
+        if link.is_equal && !classes.unite(link.first, link.second) {
+            return false;
+        }
+    }
+    true
+}
+
+/// The number of the value `@k`, which is put in where it is not there, and whether it was not.
+fn put_other(draft: &mut Draft, k: u32) -> Result<(usize, bool), Memory>
+    requires { k < 2 ^ 28 }
+    ensures { OnOk result (Adds IsNumbered draft.old.values.keys draft.new.values.keys) }
+{
+    let number = put_value(draft, Value::Other(k))?;
+    Ok(number)
+}
+
+/// The number of a value `@k` that no null has; none where all are taken.
+#[tactic(auto, using(crate::proofs::Drawing::adds_twice))]
+fn new_number(draft: &mut Draft) -> Result<Option<usize>, Memory>
+    ensures { OnOk result (Adds IsNumbered draft.old.values.keys draft.new.values.keys) }
+{
+    let mut k = draft.next;
+    while k < VALUES {
+        let (number, is_new) = put_other(draft, k)?;
+        k += 1;
+        if is_new {
+            draft.next = k;
+            return Ok(Some(number));
+        }
+    }
+    draft.next = k;
+    Ok(None)
+}
+
+/// Gives the two sides of an equality that is to be false different values; false where that cannot be.
+fn part(draft: &mut Draft, link: Link) -> Result<bool, Memory>
+    ensures { OnOk result (Adds IsNumbered draft.old.values.keys draft.new.values.keys) }
+{
+    let (first, second) = (link.first, link.second);
+    if link.is_equal || draft.classes.number_of(first) != draft.classes.number_of(second) {
+        return Ok(true);
+    }
+    let free = draft.classes.free_chief(second);
+    let Some(chief) = free.or(draft.classes.free_chief(first)) else {
+        return Ok(false);
+    };
+    let Some(number) = new_number(draft)? else {
+        return Ok(false);
+    };
+    draft.classes.give(chief, number, false);
+    Ok(true)
+}
+
+/// Gives the two sides of each equality that is to be false different values; false where that cannot be.
+#[tactic(auto, using(crate::proofs::Drawing::adds_twice))]
+fn part_all(draft: &mut Draft, links: &[Link]) -> Result<bool, Memory>
+    ensures { OnOk result (Adds IsNumbered draft.old.values.keys draft.new.values.keys) }
+{
+    for link in links {
+        if !part(draft, *link)? {
+            return Ok(false);
+        }
+    }
+    Ok(true)
+}
+
+/// The value with a number; `@0` where there is none.
+fn value_with(values: &IndexSet<Value>, number: usize) -> Result<Value, Memory>
+    ensures { IfOk result (λ x. Contains values.now.keys x ⊎ IsNumbered x) }
+{
+    match values.get_index(number) {
+        Some(value) => Ok(value.clone()?),
+        None => Ok(Value::Other(0)),
+    }
+}
+
+/// The nulls of a draft with their values.
+fn pairs_of(alloc: Global, draft: &Draft) -> Result<Vec<(Null, Value)>, Memory>
+    ensures once { IfOk result (λ ps. IsDistinct same_null (map (λ p. p.0) ps.items)) }
+    ensures values { IfOk result (λ ps. Each (λ p. Contains draft.now.values.keys p.1 ⊎ IsNumbered p.1) ps.items) }
+{
+    let nulls = draft.nulls.as_slice();
+    let mut pairs = Vec::new(alloc);
+    for (at, null) in nulls.iter().enumerate() {
+        let value = value_with(&draft.values, draft.classes.number(at))?;
+        pairs.push((null.clone()?, value))?;
+    }
+    Ok(pairs)
+}
+
+/// Gives each null of the wishes a value with which they come true; false where that cannot be.
+#[tactic(auto, using(crate::proofs::Drawing::adds_numbers))]
+fn fulfil(alloc: Global, words: &[u64], wishes: &[Wish], draft: &mut Draft) -> Result<bool, Memory>
+    requires formed { IsWellFormed words.now }
+    requires terms { All (IsOverTerms words.now) wishes.now }
+    ensures { OnOk result (Adds (IsOf words.now wishes.now) draft.old.values.keys draft.new.values.keys) }
+{
+    let links = links(alloc, words, wishes, draft)?;
+    if !unite_all(&mut draft.classes, links.as_slice()) {
+        return Ok(false);
+    }
+    let is_done = part_all(draft, links.as_slice())?;
+    Ok(is_done)
+}
+
+/// A draft without nulls.
+fn blank(alloc: Global) -> Draft
+    ensures { (x : Value) → Contains result.values.keys x → ⊥ }
+{
+    Draft {
+        nulls: IndexSet::new(alloc),
+        values: IndexSet::new(alloc),
+        classes: no_classes(alloc),
+        next: 0,
+    }
+}
+
+/// A world like another one in which wishes come true; none where one cannot.
+pub(crate) fn drawn(
+    alloc: Global,
+    words: &[u64],
+    wishes: &[Wish],
+    world: &World,
+) -> Result<Option<World>, Memory>
+    requires formed { IsWellFormed words.now }
+    requires terms { All (IsOverTerms words.now) wishes.now }
+    ensures { IfOk result (λ o. IfSome o (IsDrawn words.now wishes.now world.now)) }
+{
+    let mut draft = blank(alloc);
+    put_pairs(&mut draft, world.as_slice())?;
+    if !fulfil(alloc, words, wishes, &mut draft)? {
+        return Ok(None);
+    }
+    let pairs = pairs_of(alloc, &draft)?;
+    Ok(Some(List::from_vec(pairs)))
+}

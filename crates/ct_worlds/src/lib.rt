@@ -1,0 +1,17 @@
+//! Conditions of the log and worlds: which conditions stand below a place, whether one holds in a world, and a world made so
+//! that conditions hold.
+#![tactic(auto)]
+
+mod classes;
+mod drafts;
+mod gathering;
+mod holding;
+mod repairing;
+mod shape;
+mod valuation;
+mod wishing;
+
+pub use gathering::below;
+pub use holding::holds_below;
+pub use repairing::repaired;
+pub use shape::{Shape, shape_at};

@@ -1,0 +1,121 @@
+// Worlds made so that conditions hold.
+
+ghost use Rattle.std.specs.Prelude.{◌≡◌, ◌<◌, ◌^◌, ℕ, true, length, nat_eq, All, IfOk, IfSome, IsTrue, Contains};
+ghost use Rattle.std.specs.List.{list_all};
+ghost use Rattle.std.specs.Map.{lookup};
+ghost use Rattle.ct_word.specs.declared.kinds.Class.TheVariants as class;
+ghost use Rattle.ct_word.specs.Condition.{holds_at};
+ghost use Rattle.ct_word.specs.Reading.{condition_at};
+ghost use Rattle.ct_word.specs.WellFormed.{IsWellFormed, is_place_of};
+ghost use Rattle.ct_worlds.specs.Below.{AreBelow};
+ghost use Rattle.ct_worlds.specs.Repaired.{Each, IsChanged, IsRepaired, IsWishBelow};
+ghost use Rattle.ct_worlds.specs.Truths.{is_true_at, ArePartsFirst, HaveTruths};
+
+use crate::drafts::drawn;
+use crate::gathering::below;
+use crate::holding::{holds, truths};
+use crate::valuation::valuation_of;
+use crate::wishing::{Wish, wishes};
+use ct_word::{Memory, World};
+use indexmap::IndexMap;
+use std::alloc::Global;
+
+/// The truths of conditions, each after its parts, in a world.
+fn truths_in(
+    alloc: Global,
+    words: &[u64],
+    places: &[u32],
+    world: &World,
+) -> Result<IndexMap<u32, bool>, Memory>
+    requires formed { IsWellFormed words.now }
+    requires places { ArePartsFirst words.now places.now }
+    ensures { IfOk result (λ all. HaveTruths words.now world.now places.now all.entries) }
+{
+    let valuation = valuation_of(alloc, world)?;
+    truths(alloc, words, places, &valuation)
+}
+
+/// Whether all these conditions hold, by the truths that are kept.
+fn are_true(truths: &IndexMap<u32, bool>, conditions: &[u32]) -> bool
+    ensures { result ≡ list_all (λ c. is_true_at (lookup (nat_eq c) truths.now.entries)) conditions.now }
+{
+    conditions.iter().all(|condition| holds(truths, *condition))
+}
+
+/// Whether conditions hold in a world, by the conditions below them.
+fn all_hold(
+    alloc: Global,
+    words: &[u64],
+    conditions: &[u32],
+    places: &[u32],
+    world: &World,
+) -> Result<bool, Memory>
+    requires formed { IsWellFormed words.now }
+    requires conditions { (c : ℕ) → Contains conditions.now c → is_place_of words.now class.Cond c ≡ true }
+    requires places { AreBelow words.now conditions.now places.now }
+    ensures { IfOk result (λ b. IsTrue b → Each (λ c. holds_at world.now (condition_at words.now c) ≡ true) conditions.now) }
+{
+    let truths = truths_in(alloc, words, places, world)?;
+    Ok(are_true(&truths, conditions))
+}
+
+/// The equalities that have to be true or false so that conditions hold, by what holds in a world at present.
+fn wishes_in(
+    alloc: Global,
+    words: &[u64],
+    conditions: &[u32],
+    places: &[u32],
+    world: &World,
+) -> Result<Vec<Wish>, Memory>
+    requires formed { IsWellFormed words.now }
+    requires places { AreBelow words.now conditions.now places.now }
+    ensures { IfOk result (λ ws. All (IsWishBelow words.now conditions.now) ws.items) }
+{
+    let truths = truths_in(alloc, words, places, world)?;
+    wishes(alloc, words, conditions, places, &truths)
+}
+
+/// A world like another one in which conditions may hold.
+fn changed(
+    alloc: Global,
+    words: &[u64],
+    conditions: &[u32],
+    places: &[u32],
+    world: &World,
+) -> Result<Option<World>, Memory>
+    requires formed { IsWellFormed words.now }
+    requires places { AreBelow words.now conditions.now places.now }
+    ensures { IfOk result (λ o. IfSome o (IsChanged words.now conditions.now world.now)) }
+{
+    let wishes = wishes_in(alloc, words, conditions, places, world)?;
+    drawn(alloc, words, wishes.as_slice(), world)
+}
+
+/// A world in which conditions hold, made from another one: it gives no null twice, and each value is one of the other
+/// world, a constant that stands below the conditions, or `@k` with k below 2^28. It chooses which equalities have to be true and which false, by
+/// what holds in the world at present where it can, gives nulls that are to be equal one value, and nulls that are to be
+/// different a value `@k` that no other has, where they had one value. It tries no other choice: None does not say that
+/// there is no such world.
+///
+/// # Errors
+/// `Memory` where there is none for the world and what stands below the conditions.
+pub fn repaired(
+    alloc: Global,
+    words: &[u64],
+    conditions: &[u32],
+    world: &World,
+) -> Result<Option<World>, Memory>
+    requires formed { IsWellFormed words.now }
+    requires few { length words.now < 2 ^ 28 }
+    requires conditions { (c : ℕ) → Contains conditions.now c → is_place_of words.now class.Cond c ≡ true }
+    ensures { IfOk result (λ o. IfSome o (IsRepaired words.now conditions.now world.now)) }
+{
+    let places = below(alloc, words, conditions)?;
+    let Some(made) = changed(alloc, words, conditions, places.as_slice(), world)? else {
+        return Ok(None);
+    };
+    if !all_hold(alloc, words, conditions, places.as_slice(), &made)? {
+        return Ok(None);
+    }
+    Ok(Some(made))
+}
