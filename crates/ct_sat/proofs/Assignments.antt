@@ -42,7 +42,7 @@ at_set ts k n t lt =
     ]
 
 -- a literal that is false where l is true is false, or is its opposite
-false_before : (ts : List Truth) (l m : ℤ) → is_literal (length ts) l ≡ true → is_false (truth_of (assigned ts l) m) ≡ true → (is_false (truth_of ts m) || int_eq (neg_ℤ l) m) ≡ true
+pub false_before : (ts : List Truth) (l m : ℤ) → is_literal (length ts) l ≡ true → is_false (truth_of (assigned ts l) m) ≡ true → (is_false (truth_of ts m) || int_eq (neg_ℤ l) m) ≡ true
 unfolding assigned
 false_before ts (pos zero) m w e = absurd (false≢true w)
 false_before ts (pos (suc k)) (pos zero) w e = absurd (false≢true e)
@@ -69,7 +69,7 @@ inverted_open truth.Open e = e
 inverted_open truth.True e = cc
 inverted_open truth.False e = cc
 
-open_place : (ts : List Truth) (l : ℤ) → IsOpen ts l → get_or ts (place_of l) truth.Open ≡ truth.Open
+pub open_place : (ts : List Truth) (l : ℤ) → IsOpen ts l → get_or ts (place_of l) truth.Open ≡ truth.Open
 open_place ts (pos zero) o = absurd (false≢true o.within)
 open_place ts (pos (suc n)) o = o.without_truth
 open_place ts (negsuc n) o = inverted_open (get_or ts n truth.Open) o.without_truth

@@ -1,7 +1,7 @@
 -- Sameness, opposites and members of clauses.
 use Rattle.std.proofs.Common.{◌≡◌, ℕ, zero, suc, ◌<◌, true, ◌||◌, [], ◌∷◌, ◌++◌, length, get_or, refl, ap, ◌∙◌, sym, arith, inl, inr, pos, negsuc, neg_ℤ, ℤ}
 use Rattle.std.{specs.Ordering.int_eq, proofs.lemmas.List.Folds.list_any-append, proofs.Math.Bool.or-false, proofs.lemmas.Bool.Decides.Decides-int_eq}
-use Rattle.std.proofs.lemmas.Bool.{and_parts, or_cases, false≢true}
+use Rattle.std.proofs.lemmas.Bool.{and_parts, and_from, or_cases, false≢true}
 use Rattle.ct_sat.specs.Literal.{Clause, is_literal, is_clause, has}
 
 pub same_is : (l m : ℤ) → int_eq l m ≡ true → l ≡ m
@@ -34,3 +34,7 @@ unfolding is_clause
 literal_at n [] i d e lt = absurd (omega arith)
 literal_at n (m ∷ c) zero d e lt = (and_parts (is_literal n m) (is_clause n c) e).0
 literal_at n (m ∷ c) (suc i) d e lt = literal_at n c i d (and_parts (is_literal n m) (is_clause n c) e).1 (omega arith)
+
+pub alone_within : (n : ℕ) (l : ℤ) → is_literal n l ≡ true → is_clause n (l ∷ []) ≡ true
+unfolding is_clause
+alone_within n l w = and_from _ true w refl

@@ -44,10 +44,10 @@ module _ (ts : List Truth) where
     member = member_more c l m h.member;
     others = but_more m c l h.others (or_left _ _ (ap is_false f));
   }
-  look_on c l (look.Undecided m) h f = h
+  look_on c l (look.Undecided m) h f = (h.0, member_more c l m h.1)
 
-  preferred_open : (m l : ℤ) → IsOpen ts m → IsOpen ts l → IsOpen ts (preferred m l)
-  preferred_open m l a b = cond_both (is_positive m) m l (IsOpen ts) (λ _. a) (λ _. b)
+  preferred_open : (c : Clause) (m l : ℤ) → IsOpen ts m × (has c m ≡ true) → IsOpen ts l × (has c l ≡ true) → IsOpen ts (preferred m l) × (has c (preferred m l) ≡ true)
+  preferred_open c m l a b = cond_both (is_positive m) m l (λ x. IsOpen ts x × (has c x ≡ true)) (λ _. a) (λ _. b)
 
   pub look_opened : (c : Clause) (l : ℤ) (k : Look) → LookOf ts c k → IsOpen ts l → LookOf ts (c ++ l ∷ []) (opened k l)
   look_opened c l look.Satisfied h o = satisfied_more c l h
@@ -63,8 +63,9 @@ module _ (ts : List Truth) where
         member = member_more c l m h.member;
         others = but_more m c l h.others (or_right (is_false (truth_of ts l)) _ (same_sym l m s));
       })
-      (λ s. preferred_open m l h.is_free o)
-  look_opened c l (look.Undecided m) h o = preferred_open m l h o
+      (λ s. preferred_open (c ++ l ∷ []) m l (h.is_free, member_more c l m h.member) (o, member_last c l l (same_refl l)))
+  look_opened c l (look.Undecided m) h o =
+      preferred_open (c ++ l ∷ []) m l (h.0, member_more c l m h.1) (o, member_last c l l (same_refl l))
 
   pub satisfied_at : (c : Clause) (i : ℕ) (d : ℤ) → i < length c → truth_of ts (get_or c i d) ≡ truth.True → satisfied ts c ≡ true
   unfolding satisfied

@@ -1,24 +1,20 @@
--- What the parts of the search answer.
-use Rattle.std.specs.Prelude.{◌≡◌, ℕ, ◌<◌, ◌≤◌, true, List, length, if◌then◌else◌}
+-- What a look at a clause, and one at all added clauses, answer.
+use Rattle.std.specs.Prelude.{◌≡◌, ℕ, ◌<◌, true, List, length, if◌then◌else◌}
 use Rattle.std.specs.Ordering.{int_eq}
-use Rattle.std.proofs.Math.IntN.{ℤ, neg_ℤ}
+use Rattle.std.proofs.Math.IntN.{ℤ}
 use Rattle.ct_sat.specs.declared.assignment.Truth.{Truth}
 use Rattle.ct_sat.specs.declared.look.Look.{Look}
 use Rattle.ct_sat.specs.declared.look.Look.TheVariants as look
-use Rattle.ct_sat.specs.declared.scan.Scan.{Scan}
-use Rattle.ct_sat.specs.declared.scan.Scan.TheVariants as scan
-use Rattle.ct_sat.specs.declared.search.Found.{Found}
-use Rattle.ct_sat.specs.declared.search.Found.TheVariants as found
-use Rattle.ct_sat.specs.Literal.{Clause, is_positive}
+use Rattle.ct_sat.specs.Literal.{Clause, is_positive, has}
 use Rattle.ct_sat.specs.Learned.{clause_at}
-use Rattle.ct_sat.specs.Assignment.{satisfied, falsified, falsified_but, IsOpen, IsUnit}
+use Rattle.ct_sat.specs.Assignment.{satisfied, falsified, IsOpen, IsUnit}
 
 -- what a clause is under an assignment
 abbrev pub LookOf : List Truth → Clause → Look → Type 0
 LookOf truths c look.Satisfied = satisfied truths c ≡ true
 LookOf truths c look.Falsified = falsified truths c ≡ true
 LookOf truths c (look.Unit l) = IsUnit truths c l
-LookOf truths c (look.Undecided l) = IsOpen truths l
+LookOf truths c (look.Undecided l) = IsOpen truths l × (has c l ≡ true)
 
 -- the first of two literals, unless it is the negative of a variable
 abbrev pub preferred : ℤ → ℤ → ℤ
@@ -36,33 +32,7 @@ pub record IsFalsifiedAt (truths : List Truth) (log : List Clause) (k : ℕ) : T
   pub place : k < length log
   pub none : falsified truths (clause_at log k) ≡ true
 
--- the clause at k is false but for l
-pub record IsFalsifiedButAt (truths : List Truth) (l : ℤ) (log : List Clause) (k : ℕ) : Type 0 where
-  pub place : k < length log
-  pub none : falsified_but truths l (clause_at log k) ≡ true
-
 -- l is the last literal of the clause at k
 pub record IsUnitAt (truths : List Truth) (l : ℤ) (log : List Clause) (k : ℕ) : Type 0 where
   pub place : k < length log
   pub unit : IsUnit truths (clause_at log k) l
-
--- each clause from one place to before another is true
-abbrev pub AllSatisfied : List Truth → List Clause → ℕ → ℕ → Type 0
-AllSatisfied truths log from to = (k : ℕ) → from ≤ k → k < to → satisfied truths (clause_at log k) ≡ true
-
--- what the clauses from one place to before another are
-abbrev pub ScanOf : List Truth → List Clause → ℕ → ℕ → Scan → Type 0
-ScanOf truths log from to scan.Satisfied = AllSatisfied truths log from to
-ScanOf truths log from to (scan.Falsified k) = IsFalsifiedAt truths log k
-ScanOf truths log from to (scan.Unit k l) = IsUnitAt truths l log k
-ScanOf truths log from to (scan.Undecided l) = IsOpen truths l
-
--- the assignment satisfies the log, or is as before and makes a clause false
-abbrev pub FoundOf : List Truth → List Truth → List Clause → Found → Type 0
-FoundOf before after log found.Model = AllSatisfied after log 0 (length log)
-FoundOf before after log (found.Falsified k) = (after ≡ before) × IsFalsifiedAt before log k
-
--- the same where l was made true meanwhile
-abbrev pub AssumedOf : List Truth → ℤ → List Truth → List Clause → Found → Type 0
-AssumedOf before l after log found.Model = AllSatisfied after log 0 (length log)
-AssumedOf before l after log (found.Falsified k) = (after ≡ before) × IsFalsifiedButAt before (neg_ℤ l) log k

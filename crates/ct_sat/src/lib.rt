@@ -1,19 +1,31 @@
 //! A propositional search: a model of clauses, or a refutation by reverse unit propagation.
 //!
-//! The search is that of Davis, Logemann and Loveland (1962): unit propagation, and a literal
-//! that is tried both ways where nothing follows. On the way back the falsified clauses are
-//! resolved (Robinson 1965), so that the last one learned is empty.
+//! The search learns a clause from each conflict (Marques-Silva and Sakallah 1999) and propagates by
+//! two watched literals a clause (Moskewicz and others 2001).
 #![tactic(auto)]
 
+mod analysis;
 mod assignment;
+mod board;
+mod guide;
+mod learning;
 mod literal;
+mod log;
 mod look;
-mod resolve;
+mod marks;
+mod propagate;
+mod queue;
 mod scan;
 mod search;
 mod solver;
+mod solving;
+mod trail;
+mod units;
 mod verdict;
+mod watches;
 
 pub use ct_derivation::Cnf;
-pub use solver::solve;
+pub use log::{Entry, Found};
+pub use solver::Solver;
+pub use solving::solve;
 pub use verdict::{Rup, Verdict};

@@ -1,9 +1,9 @@
 // Literals over numbered variables.
 
-ghost use Rattle.std.specs.Prelude.{◌≡◌, true, false, ◌<◌, ◌≤◌, IfOk, OnOk};
+ghost use Rattle.std.specs.Prelude.{◌≡◌, ◌+◌, true, max};
 ghost use Rattle.std.specs.Ordering.{int_eq};
 ghost use Rattle.std.proofs.Math.IntN.{neg_ℤ};
-ghost use Rattle.ct_sat.specs.Literal.{is_literal, place_of, is_positive, has, LARGEST};
+ghost use Rattle.ct_sat.specs.Literal.{is_literal, place_of, is_positive, LARGEST};
 
 /// Whether two literals are the same.
 pub fn is_same(l: &i32, m: &i32) -> bool
@@ -28,30 +28,31 @@ pub fn place(l: &i32) -> usize
     (l.unsigned_abs() - 1) as usize
 }
 
+/// The variable of a literal.
+pub fn variable(l: &i32) -> u32
+    requires { is_literal LARGEST l.now ≡ true }
+    ensures { result ≡ place_of l.now + 1 }
+{
+    l.unsigned_abs()
+}
+
+/// The greater of two numbers.
+pub fn greater(a: u32, b: u32) -> u32
+    ensures { result ≡ max a b }
+{
+    if a < b { b } else { a }
+}
+
+/// Whether the variable of a literal is from 1 to `top`.
+pub fn is_within(top: u32, l: &i32) -> bool
+    ensures { result ≡ is_literal top l.now }
+{
+    *l != 0 && l.unsigned_abs() <= top
+}
+
 /// Whether a literal is a variable, and not the negative of one.
 pub fn is_variable(l: &i32) -> bool
     ensures { result ≡ is_positive l.now }
 {
     *l > 0
-}
-
-/// Whether a literal is in a clause.
-#[tactic(auto, unfolding(crate::specs::Literal::has))]
-pub fn contains(clause: &[i32], l: &i32) -> bool
-    ensures { result ≡ has clause.now l.now }
-{
-    for m in clause {
-        if is_same(l, m) {
-            return true;
-        }
-    }
-    false
-}
-
-/// Whether the opposite of a literal is in a clause.
-pub fn contains_opposite(clause: &[i32], l: &i32) -> bool
-    requires { is_literal LARGEST l.now ≡ true }
-    ensures { result ≡ has clause.now (neg_ℤ l.now) }
-{
-    contains(clause, &opposite(l))
 }

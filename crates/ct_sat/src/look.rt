@@ -21,7 +21,7 @@ pub enum Look {
 }
 
 /// The look where one more literal is open. Of undecided literals a variable goes before the
-/// negative of one: n - 1 equalities that are true decide all those of n terms.
+/// negative of one.
 fn with_open(look: Look, l: &i32) -> Look
     ensures { result ≡ opened look l.now }
 {

@@ -1,124 +1,142 @@
-// The search: unit propagation, and decisions that are taken back.
+// The search: propagation, conflicts and decisions, turn by turn.
 
-ghost use Rattle.std.specs.Prelude.{◌≡◌, true, ◌≤◌, ◌<◌, ◌+◌, length, IfOk, OnOk};
-ghost use Rattle.std.proofs.Math.IntN.{neg_ℤ};
-ghost use Rattle.ct_sat.specs.Literal.{LARGEST};
-ghost use Rattle.ct_sat.specs.Assignment.{IsOpen};
-ghost use Rattle.ct_sat.specs.Learned.{log_of, AreLearned, Grows};
-ghost use Rattle.ct_sat.specs.Search.{IsUnitAt, FoundOf, AssumedOf};
+ghost use Rattle.std.specs.Prelude.{◌≡◌, ◌<◌, true, IfOk};
+ghost use Rattle.ct_sat.specs.Log.{AnswersFound, ends_refuted};
+ghost use Rattle.ct_sat.specs.Search.{IsFalsifiedAt};
+ghost use Rattle.ct_sat.specs.Standing.{truths_now, log_now, worth_of, Continues, Advances, TurnOf, state_of};
 
-use crate::assignment::{Truth, assign, reopen};
-use crate::literal::{contains_opposite, opposite};
-use crate::resolve::join;
-use crate::scan::{Scan, clause, scan_all};
-use crate::verdict::Rup;
+use crate::board::Board;
+use crate::guide::Guide;
+use crate::log::{Entry, Found};
+use crate::propagate::propagate;
+use crate::scan::{Scan, hint};
+use crate::units::make_units;
 use ct_word::{List, Memory};
 use std::alloc::Global;
 
-/// What the search found under an assignment.
-#[derive(Clone, Copy)]
-pub enum Found {
-    /// The assignment satisfies the log.
-    Model,
-    /// The clause at this place is false.
-    Falsified(usize),
-}
-
-/// Searches where one more literal is true. Of a false clause that it finds all but the opposite
-/// of this literal was false before.
-#[cycle(search)]
-fn assume(
+/// Learns from the clause at k, which is false, and goes back to where what was learned is a unit. The literals that it is
+/// due to and that rest on no decision get clauses of their own.
+fn resolve(
     alloc: Global,
-    clauses: &[List<i32>],
-    learned: &mut Vec<Rup>,
-    truths: &mut [Truth],
-    l: &i32,
-    start: usize,
-) -> Result<Found, Memory>
-    requires vars { length truths.old ≤ LARGEST }
-    requires learned { AreLearned (length truths.old) clauses.now learned.old.items }
-    requires is_free { IsOpen truths.old l.now }
-    ensures grows { OnOk result (Grows (length truths.old) clauses.now learned.old.items learned.new.items) }
-    ensures found { IfOk result (λ f. AssumedOf truths.old l.now truths.new (log_of clauses.now learned.new.items) f) }
+    board: &mut Board,
+    guide: &mut Guide,
+    k: u32,
+) -> Result<Option<Found>, Memory>
+    requires { IsFalsifiedAt (truths_now board.old) (log_now board.old) k }
+    ensures continues { Continues board.old board.new }
+    ensures turn { IfOk result (λ f. TurnOf board.old board.new f) }
 {
-    assign(truths, l);
-    let found = search(alloc, clauses, learned, truths, start)?;
-    if let Found::Falsified(_) = &found {
-        reopen(truths, l);
-    }
-    Ok(found)
-}
-
-/// Makes the last literal of the clause at k true.
-#[cycle(search)]
-fn propagate(
-    alloc: Global,
-    clauses: &[List<i32>],
-    learned: &mut Vec<Rup>,
-    truths: &mut [Truth],
-    k: usize,
-    l: &i32,
-) -> Result<Found, Memory>
-    requires vars { length truths.old ≤ LARGEST }
-    requires learned { AreLearned (length truths.old) clauses.now learned.old.items }
-    requires unit { IsUnitAt truths.old l.now (log_of clauses.now learned.old.items) k }
-    ensures grows { OnOk result (Grows (length truths.old) clauses.now learned.old.items learned.new.items) }
-    ensures found { IfOk result (λ f. FoundOf truths.old truths.new (log_of clauses.now learned.new.items) f) }
-{
-    match assume(alloc, clauses, learned, truths, l, k)? {
-        Found::Model => Ok(Found::Model),
-        Found::Falsified(b) => {
-            let place = join(alloc, clauses, learned, truths, l, k, b)?;
-            Ok(Found::Falsified(place))
+    let place = hint(board.entries().len())?;
+    match board.learn(alloc, k)? {
+        None => Ok(Some(Found::Refuted)),
+        Some(back) => {
+            guide.bump(board, place);
+            guide.forget(board, back.cut);
+            board.go_back(back, place)?;
+            guide.notice(board)?;
+            make_units(alloc, board, guide, place)?;
+            Ok(None)
         }
     }
 }
 
-/// Makes a literal true, and false where that leads to a false clause.
-#[cycle(search)]
-fn decide(
-    alloc: Global,
-    clauses: &[List<i32>],
-    learned: &mut Vec<Rup>,
-    truths: &mut [Truth],
-    l: &i32,
-) -> Result<Found, Memory>
-    requires vars { length truths.old ≤ LARGEST }
-    requires learned { AreLearned (length truths.old) clauses.now learned.old.items }
-    requires is_free { IsOpen truths.old l.now }
-    ensures grows { OnOk result (Grows (length truths.old) clauses.now learned.old.items learned.new.items) }
-    ensures found { IfOk result (λ f. FoundOf truths.old truths.new (log_of clauses.now learned.new.items) f) }
+/// Looks at all added clauses, where no variable is left to decide. Each is true, unless the watches have missed one.
+fn judge(alloc: Global, board: &mut Board, guide: &mut Guide) -> Result<Option<Found>, Memory>
+    ensures continues { Continues board.old board.new }
+    ensures turn { IfOk result (λ f. TurnOf board.old board.new f) }
 {
-    match assume(alloc, clauses, learned, truths, l, 0)? {
-        Found::Model => Ok(Found::Model),
-        Found::Falsified(k) => {
-            if contains_opposite(clause(clauses, learned.as_slice(), k), l) {
-                propagate(alloc, clauses, learned, truths, k, &opposite(l))
-            } else {
-                Ok(Found::Falsified(k))
-            }
+    match board.scan()? {
+        Scan::Satisfied => {
+            let model = board.model(alloc)?;
+            Ok(Some(Found::Model(List::from_vec(model))))
+        }
+        Scan::Falsified(k) => {
+            guide.missed = guide.missed.saturating_add(1);
+            resolve(alloc, board, guide, k)
+        }
+        Scan::Unit(k, l) => {
+            guide.missed = guide.missed.saturating_add(1);
+            board.put_unit(&l, k)?;
+            guide.notice(board)?;
+            Ok(None)
+        }
+        Scan::Undecided(l) => {
+            board.put(&l, None)?;
+            guide.notice(board)?;
+            Ok(None)
         }
     }
 }
 
-/// An assignment with these truths that satisfies the log, or a false clause.
-#[cycle(search)]
-pub fn search(
-    alloc: Global,
-    clauses: &[List<i32>],
-    learned: &mut Vec<Rup>,
-    truths: &mut [Truth],
-    start: usize,
-) -> Result<Found, Memory>
-    requires vars { length truths.old ≤ LARGEST }
-    requires learned { AreLearned (length truths.old) clauses.now learned.old.items }
-    ensures grows { OnOk result (Grows (length truths.old) clauses.now learned.old.items learned.new.items) }
-    ensures found { IfOk result (λ f. FoundOf truths.old truths.new (log_of clauses.now learned.new.items) f) }
+/// Decides the variable that the guide picks; says whether it did.
+fn decide(board: &mut Board, guide: &mut Guide) -> Result<bool, Memory>
+    ensures advances { Advances board.old board.new }
+    ensures worth { IfOk result (λ b. b ≡ true → worth_of board.old < worth_of board.new) }
 {
-    match scan_all(truths, clauses, learned.as_slice(), start) {
-        Scan::Satisfied => Ok(Found::Model),
-        Scan::Falsified(k) => Ok(Found::Falsified(k)),
-        Scan::Unit(k, l) => propagate(alloc, clauses, learned, truths, k, &l),
-        Scan::Undecided(l) => decide(alloc, clauses, learned, truths, &l),
+    let Some(l) = guide.pick(board) else {
+        return Ok(false);
+    };
+    let decided = board.decide(&l)?;
+    guide.notice(board)?;
+    Ok(decided)
+}
+
+/// Decides a literal, or finds a model.
+fn advance(alloc: Global, board: &mut Board, guide: &mut Guide) -> Result<Option<Found>, Memory>
+    ensures continues { Continues board.old board.new }
+    ensures turn { IfOk result (λ f. TurnOf board.old board.new f) }
+{
+    if decide(board, guide)? {
+        return Ok(None);
+    }
+    judge(alloc, board, guide)
+}
+
+/// One turn of the search: propagation, and then a conflict or a decision.
+fn turn(alloc: Global, board: &mut Board, guide: &mut Guide) -> Result<Option<Found>, Memory>
+    ensures continues { Continues board.old board.new }
+    ensures turn { IfOk result (λ f. TurnOf board.old board.new f) }
+{
+    match propagate(board, guide)? {
+        Some(k) => resolve(alloc, board, guide, k),
+        None => advance(alloc, board, guide),
+    }
+}
+
+/// Cuts the trail so far back that no new clause is a unit by an earlier decision.
+fn make_ready(board: &mut Board, guide: &mut Guide)
+    ensures { Continues board.old board.new }
+{
+    let cut = guide.first_cut(board);
+    guide.forget(board, cut);
+    board.cut(cut);
+}
+
+/// Whether the last entry of a log is learned and empty.
+fn is_refuted(entries: &[Entry]) -> bool
+    ensures { result ≡ true → ends_refuted entries.now ≡ true }
+{
+    let Some(last) = entries.last() else {
+        return false;
+    };
+    match last {
+        Entry::Added(_) => false,
+        Entry::Learned(step) => step.clause.is_empty(),
+    }
+}
+
+/// Searches for a model, or learns the empty clause. It ends, since the trail is worth more at each turn.
+pub fn search(alloc: Global, board: &mut Board, guide: &mut Guide) -> Result<Found, Memory>
+    ensures continues { Continues board.old board.new }
+    ensures found { IfOk result (λ f. AnswersFound (state_of board.new) f) }
+{
+    if is_refuted(board.entries()) {
+        return Ok(Found::Refuted);
+    }
+    make_ready(board, guide);
+    loop {
+        if let Some(found) = turn(alloc, board, guide)? {
+            return Ok(found);
+        }
     }
 }

@@ -1,88 +1,128 @@
-// A verdict on clauses.
+// A search that is asked again as clauses are added.
 
-ghost use Rattle.std.specs.Prelude.{◌≡◌, ◌≤◌, ◌<◌, true, map, replicate, length, IfOk, OnOk, ◌++◌, ◌∷◌, []};
-ghost use Rattle.ct_sat.specs.Assignment.{is_true};
-ghost use Rattle.ct_sat.specs.Learned.{log_of, clause_at, AreLearned};
-ghost use Rattle.ct_sat.specs.Verdict.{IsCnf, IsRefutation, VerdictOf, ends_empty};
+ghost use Rattle.std.specs.Prelude.{◌≡◌, ◌≤◌, [], ◌∷◌, ◌++◌, true, false, length, is_err, IfOk, IsErr, OnOk, OnErr};
+ghost use Rattle.ct_sat.specs.Literal.{is_clause, LARGEST};
+ghost use Rattle.ct_sat.specs.declared.log.Entry.TheVariants as entry;
+ghost use Rattle.ct_sat.specs.Log.{IsLog, Learns, AnswersFound};
 
-use crate::assignment::Truth;
-use crate::resolve::{hint, learn};
-use crate::search::{Found, search};
-use crate::verdict::{Rup, Verdict};
-use ct_derivation::Cnf;
+use crate::board::Board;
+use crate::guide::Guide;
+use crate::log::{Entry, Found};
+use crate::scan::hint;
+use crate::search::search;
 use ct_word::{List, Memory};
-use std::alloc::{AllocError, Global};
+use std::alloc::Global;
+use std::marker::Model;
 
-/// The model of an assignment: a variable without a truth is false.
-fn model(alloc: Global, truths: &[Truth]) -> Result<Vec<bool>, AllocError>
-    ensures { IfOk result (λ v. v.items ≡ map is_true truths.now) }
-{
-    truths.iter().map(|t| *t == Truth::True).collect(alloc)
+/// A search over numbered variables. Clauses are added between its steps, and what it learned stays.
+#[derive(Drop)]
+pub struct Solver {
+    board: Board,
+    guide: Guide,
+    failed: bool,
 }
 
-/// Whether there is a last step, and its clause is empty.
-fn is_ended(steps: &[Rup]) -> bool
-    ensures { result ≡ ends_empty steps.now }
+impl Model for Solver {
+    ghost use Rattle.ct_sat.specs.Log.{State};
+
+    ghost Value = { State };
+
+    ghost view = { λ s. record { vars = s.board.vars; entries = s.board.entries; failed = s.failed } };
+}
+
+/// Adds a clause, for which the guide makes room first.
+fn add(board: &mut Board, guide: &mut Guide, clause: List<i32>) -> Result<u32, Memory>
+    requires { is_clause board.old.vars clause ≡ true }
+    ensures vars { board.new.vars ≡ board.old.vars }
+    ensures added { OnOk result (board.new.entries ≡ board.old.entries ++ entry.Added clause ∷ []) }
+    ensures position { IfOk result (λ k. k ≡ length board.old.entries) }
+    ensures refused { OnErr result (board.new.entries ≡ board.old.entries) }
 {
-    match steps.last() {
-        None => false,
-        Some(last) => last.clause.is_empty(),
+    let place = hint(board.entries().len())?;
+    guide.reach(clause.as_slice())?;
+    board.add(clause)?;
+    Ok(place)
+}
+
+impl Solver {
+    /// A search over the variables from 1 to `vars`, without clauses.
+    ///
+    /// # Errors
+    /// `Memory` where there is none for what it keeps of each variable.
+    pub fn make(alloc: Global, vars: u32) -> Result<Solver, Memory>
+        requires { vars ≤ LARGEST }
+        ensures { IfOk result (λ s. s ≡ record { vars = vars; entries = []; failed = false }) }
+    {
+        let board = Board::make(alloc, vars)?;
+        Ok(Solver {
+            board,
+            guide: Guide::make(alloc),
+            failed: false,
+        })
     }
-}
 
-/// Ends the steps with the empty clause. The clause at k is empty.
-fn finish(alloc: Global, cnf: &Cnf, learned: &mut Vec<Rup>, k: usize) -> Result<(), Memory>
-    requires learned { AreLearned cnf.now.vars cnf.now.clauses learned.old.items }
-    requires place { k < length (log_of cnf.now.clauses learned.old.items) }
-    requires empty { clause_at (log_of cnf.now.clauses learned.old.items) k ≡ [] }
-    ensures { OnOk result (IsRefutation cnf.now learned.new.items) }
-{
-    if is_ended(learned.as_slice()) {
-        return Ok(());
-    }
-    let hints = vec![in alloc; hint(k)?]?;
-    learn(cnf.clauses.as_slice(), learned, Vec::new(alloc), hints)?;
-    Ok(())
-}
-
-/// The assignment without truths.
-fn unassigned(alloc: Global, vars: usize) -> Result<Vec<Truth>, AllocError>
-    ensures { IfOk result (λ v. v.items ≡ replicate vars Truth.Open) }
-{
-    vec![in alloc; Truth::Open; vars]
-}
-
-/// The verdict by a search from the assignment without truths.
-fn conclude(alloc: Global, cnf: &Cnf, truths: &mut [Truth]) -> Result<Verdict, Memory>
-    requires cnf { IsCnf cnf.now }
-    requires unassigned { truths.old ≡ replicate cnf.now.vars Truth.Open }
-    ensures { IfOk result (λ v. VerdictOf cnf.now v) }
-{
-    let mut learned = Vec::new(alloc);
-    match search(alloc, cnf.clauses.as_slice(), &mut learned, truths, 0)? {
-        Found::Model => {
-            let model = model(alloc, truths)?;
-            Ok(Verdict::Model(List::from_vec(model)))
+    /// Adds a clause, and returns its position in the log. The next step looks at it.
+    ///
+    /// # Errors
+    /// `Memory` where memory is wanting, or was at an earlier call. The log stays as it was.
+    pub fn add(&mut self, clause: List<i32>) -> Result<u32, Memory>
+        requires { is_clause self.old.vars clause ≡ true }
+        ensures added { OnOk result (self.new ≡ record { vars = self.old.vars; entries = self.old.entries ++ entry.Added clause ∷ []; failed = false }) }
+        ensures position { IfOk result (λ k. k ≡ length self.old.entries) }
+        ensures refused { OnErr result (self.new ≡ record { vars = self.old.vars; entries = self.old.entries; failed = true }) }
+        ensures again { self.old.failed ≡ true → IsErr result }
+    {
+        if self.failed {
+            return Err(Memory);
         }
-        Found::Falsified(k) => {
-            finish(alloc, cnf, &mut learned, k)?;
-            Ok(Verdict::Refuted(List::from_vec(learned)))
-        }
+        let added = add(&mut self.board, &mut self.guide, clause);
+        self.failed = added.is_err();
+        added
     }
-}
 
-/// A model of the clauses, or a refutation of them.
-///
-/// The search tries each way, so it always ends with one of both. It calls itself for each
-/// variable that gets a truth, at most `vars` deep.
-///
-/// # Errors
-///
-/// `Memory` where memory is wanting.
-pub fn solve(alloc: Global, cnf: &Cnf) -> Result<Verdict, Memory>
-    requires { IsCnf cnf.now }
-    ensures { IfOk result (λ v. VerdictOf cnf.now v) }
-{
-    let mut truths = unassigned(alloc, cnf.vars as usize)?;
-    conclude(alloc, cnf, truths.as_mut_slice())
+    /// Searches for a model of the added clauses, or learns the empty clause. It only lengthens the log, by what it learns.
+    ///
+    /// # Errors
+    /// `Memory` where memory is wanting, or was at an earlier call. Every later call returns it too.
+    pub fn step(&mut self, alloc: Global) -> Result<Found, Memory>
+        ensures learns { Learns self.old self.new }
+        ensures found { IfOk result (λ f. AnswersFound self.new f) }
+        ensures failed { self.new.failed ≡ is_err result }
+        ensures again { self.old.failed ≡ true → IsErr result }
+    {
+        if self.failed {
+            return Err(Memory);
+        }
+        let found = search(alloc, &mut self.board, &mut self.guide);
+        self.failed = found.is_err();
+        found
+    }
+
+    /// The added and the learned clauses, in the order in which they came. A learned one follows, along its hints, from
+    /// entries before it, and has no variable past those of the added ones.
+    pub fn log(&self) -> &[Entry]
+        ensures entries { result.now ≡ self.now.entries }
+        ensures log { IsLog self.now.vars self.now.entries }
+    {
+        self.board.entries()
+    }
+
+    /// The same log, of which the caller becomes the owner.
+    pub fn into_log(self) -> Vec<Entry>
+        ensures entries { result.items ≡ self.entries }
+        ensures log { IsLog self.vars self.entries }
+    {
+        self.board.into_entries()
+    }
+
+    /// On how many decisions the truth of a variable rests, as far as the solver remembers. Nothing rests on this number.
+    pub fn level(&self, variable: u32) -> u32 {
+        self.guide.level(variable)
+    }
+
+    /// How often a false clause, or one with one literal left, was found only by a look at all clauses. It is 0 as long as
+    /// the watches miss nothing. Nothing rests on this number.
+    pub fn missed(&self) -> u64 {
+        self.guide.missed
+    }
 }

@@ -1,4 +1,4 @@
-// What the search is given, and what it answers.
+// What the search returns.
 
 use ct_word::List;
 

@@ -1,0 +1,11 @@
+use Rattle.ct_sat.proofs.Steps.{advances_then}
+use Rattle.ct_sat.proofs.propagate.look_at_new.Goals as goal
+
+pub returns-in_err-c-clause-advances : goal.returns-in_err-c-clause-advances
+returns-in_err-c-clause-advances c = advances_then c.args.board.now c.loop.board c.settle.new.board c.loop.invariant c.settle.ensures.advances
+
+pub returns-in-Some-clause-advances : goal.returns-in-Some-clause-advances
+returns-in-Some-clause-advances c = advances_then c.args.board.now c.loop.board c.settle.new.board c.loop.invariant c.settle.ensures.advances
+
+pub loop-preserved : goal.loop-preserved
+loop-preserved c = advances_then c.args.board.now c.loop.board c.settle.new.board c.loop.invariant c.settle.ensures.advances
