@@ -7,3 +7,8 @@ pub mod Listed
 pub mod Standing
 pub mod Worlds
 pub mod FalsePaths
+pub mod Indexed
+pub mod Forests
+pub mod TrueEnds
+pub mod Joining
+pub mod Rooms

@@ -1,9 +1,11 @@
 -- The terms of a question, and each alone in its class.
-use Rattle.std.proofs.Common.{◌≡◌, ◌<◌, ℕ, zero, suc, Bool, true, false, ◌||◌, List, [], ◌∷◌, ◌++◌, length, take, get_or, Option, Some, None, nat_eq, nat_lt, refl, ap, sym, ◌∙◌, subst, if◌then◌else◌, inl, inr, arith}
+use Rattle.std.proofs.Common.{◌≡◌, ◌<◌, ◌≤◌, ℕ, zero, suc, Bool, true, false, ◌||◌, List, [], ◌∷◌, ◌++◌, length, take, get_or, Option, Some, None, nat_eq, nat_lt, refl, ap, sym, ◌∙◌, subst, if◌then◌else◌, inl, inr, arith}
 use Rattle.std.{specs.List.{list_all, IsDistinct, AllByRecursion}, proofs.lemmas.Bool.Decides.nat_tests}
 use Rattle.std.proofs.lemmas.Bool.{eqb-true, eq-eqb, false≢true, false_from_ne_true, cases_Bool, and_parts, or_cases, or_left, or_right, or_parts}
 use Rattle.ct_derivation.specs.declared.literals.Atom.{Atom}
-use Rattle.ct_equality.{specs.Terms.{AreAscending, inserted, terms_from, terms_of, is_among, is_end_of}, proofs.Trees.among_at}
+use Rattle.std.{specs.List.AllPairs, specs.List.Sorted.{IsPermutation, IsSorted}, specs.Ordering.nat_cmp, specs.Cmp.nat_eq_equiv, proofs.lemmas.List.Kept.AllPairs-from_increasing}
+use Rattle.std.{proofs.lemmas.Map.Keys.{IsStrictlyIncreasing-from_distinct, IsDistinct-IsPermutation}, proofs.lemmas.Map.Made.length-le_from_is_member, proofs.lemmas.List.Sorted.{IsNonDecreasingBy-from_sort, list_any-IsPermutation}}
+use Rattle.ct_equality.{specs.Terms.{AreAscending, inserted, terms_from, terms_of, is_among, is_end_of}, proofs.Trees.{among_at, stands}}
 use Rattle.ct_equality.{specs.Members.{is_listed, class_of, number_of, number_at, same_number, is_taken, members_at}, specs.Classes.{AreListed, AreClasses}}
 use Rattle.ct_equality.specs.Assigned.{Joined, here, is_plain_term, is_plain_atom, are_plain}
 use Rattle.ct_derivation.specs.declared.literals.Atom.TheVariants as atom
@@ -119,3 +121,49 @@ alone words atoms truth ts = record {
 
 pub all_listed : (words : List ℕ) (atoms : List Atom) → AreListed atoms (members_at words (terms_of atoms))
 all_listed words atoms p e = alone_listed words (terms_of atoms) p ∙ among_terms atoms p ∙ e
+
+module _ (x y : ℕ) (xs ys : List ℕ) (a : AreAscending (x ∷ xs)) (b : AreAscending (y ∷ ys)) (same : (p : ℕ) → is_among (x ∷ xs) p ≡ is_among (y ∷ ys) p) where
+  one_head : x ≡ y
+  one_head = elim (or_cases (nat_eq x y) (is_among ys x) (sym (same x) ∙ or_left (nat_eq x x) (is_among xs x) (eq-eqb x x refl))) [
+    | inl e ↦ eqb-true x y e
+    | inr m ↦ elim (or_cases (nat_eq y x) (is_among xs y) (same y ∙ or_left (nat_eq y y) (is_among ys y) (eq-eqb y y refl))) [
+      | inl e ↦ sym (eqb-true y x e)
+      | inr n ↦ let l = b.0 x m in let g = a.0 y n in absurd (omega (arith, l, g))
+    ]
+  ]
+
+  same_tails : x ≡ y → (p : ℕ) → is_among xs p ≡ is_among ys p
+  same_tails e p = grind (arith, nat_tests, same p, a.0 p, b.0 p)
+
+-- ascending lists with the same places are one
+pub one_ascending : (xs ys : List ℕ) → AreAscending xs → AreAscending ys → ((p : ℕ) → is_among xs p ≡ is_among ys p) → xs ≡ ys
+one_ascending [] [] a b same = refl
+one_ascending [] (y ∷ ys) a b same = absurd (false≢true (same y ∙ or_left (nat_eq y y) (is_among ys y) (eq-eqb y y refl)))
+one_ascending (x ∷ xs) [] a b same = absurd (false≢true (sym (same x) ∙ or_left (nat_eq x x) (is_among xs x) (eq-eqb x x refl)))
+one_ascending (x ∷ xs) (y ∷ ys) a b same =
+    let head = one_head x y xs ys a b same in
+    ap (λ h. h ∷ xs) head ∙ ap (λ l. y ∷ l) (one_ascending xs ys a.1 b.1 (same_tails x y xs ys a b same head))
+
+pairs_ascend : (xs : List ℕ) → AllPairs (λ x y. x < y) xs → AreAscending xs
+pairs_ascend [] d = tt
+pairs_ascend (x ∷ xs) d = (
+  λ p e. let at = stands xs p e in subst (λ q. x < q) at.is (d 0 (suc at.place) 0 (omega arith) (let w = at.within in omega (arith, w))),
+  pairs_ascend xs (λ i j k lt within. d (suc i) (suc j) k (omega (arith, lt)) (omega (arith, within))),
+)
+
+-- the terms in the order of their places
+pub sorted_terms : (atoms : List Atom) (places sorted : List ℕ) → IsDistinct nat_eq places → IsPermutation places sorted → IsSorted nat_cmp sorted
+    → ((p : ℕ) → is_among places p ≡ is_end_of atoms p) → sorted ≡ terms_of atoms
+sorted_terms atoms places sorted distinct moved order all =
+    one_ascending sorted (terms_of atoms)
+    (pairs_ascend sorted (AllPairs-from_increasing sorted (IsStrictlyIncreasing-from_distinct sorted (IsNonDecreasingBy-from_sort (λ x. x) sorted order)
+    (IsDistinct-IsPermutation nat_eq nat_eq_equiv.symm places sorted moved distinct))))
+    (terms_ascend atoms)
+    (λ p. sym (list_any-IsPermutation (nat_eq p) places sorted moved) ∙ all p ∙ sym (among_terms atoms p))
+
+-- as many terms as are met
+pub no_more_terms : (atoms : List Atom) (places : List ℕ) → ((p : ℕ) → is_among places p ≡ is_end_of atoms p) → length (terms_of atoms) ≤ length places
+no_more_terms atoms places all = length-le_from_is_member nat_eq_equiv (terms_of atoms) places (terms_distinct atoms) (λ q e. all q ∙ sym (among_terms atoms q) ∙ e)
+
+pub no_more_places : (atoms : List Atom) (places : List ℕ) → IsDistinct nat_eq places → ((p : ℕ) → is_among places p ≡ true → is_end_of atoms p ≡ true) → length places ≤ length (terms_of atoms)
+no_more_places atoms places distinct all = length-le_from_is_member nat_eq_equiv places (terms_of atoms) distinct (λ q e. among_terms atoms q ∙ all q e)

@@ -1,9 +1,9 @@
 -- Giving numbers to classes.
-use Rattle.std.proofs.Common.{◌≡◌, ◌≢◌, ◌||◌, ◌<◌, ◌≤◌, ◌^◌, ◌+◌, ℕ, zero, suc, true, false, List, [], ◌∷◌, ◌++◌, length, map, Option, Some, None, nat_eq, ap, sym, ◌∙◌, inl, inr, ◌⊎◌, arith}
+use Rattle.std.proofs.Common.{◌≡◌, ◌≢◌, ◌||◌, ◌<◌, ◌≤◌, ◌^◌, ◌+◌, ℕ, zero, suc, Bool, true, false, List, [], ◌∷◌, ◌++◌, length, map, get_or, Option, Some, None, nat_eq, ap, sym, ◌∙◌, inl, inr, ◌⊎◌, arith}
 use Rattle.std.{specs.List.range_with_len, proofs.lemmas.List.FromFn.length-range_with_len, specs.Cmp.nat_eq_equiv, proofs.lemmas.List.length-map}
-use Rattle.std.{proofs.lemmas.Bool.{false≢true, cases_eq, ne_eqb}, proofs.lemmas.Bool.Decides.nat_tests, proofs.lemmas.Map.Made.length-le_from_is_member}
+use Rattle.std.{proofs.lemmas.Bool.{false≢true, cases_eq, cases_lt, cases_Bool, both_ways, ne_eqb, false_from_ne_true}, proofs.lemmas.Bool.Decides.nat_tests, proofs.lemmas.Map.Made.length-le_from_is_member}
 use Rattle.ct_derivation.specs.Path.{is_constant}
-use Rattle.ct_equality.{specs.declared.classes.Member.Member, specs.Terms.{AreAscending, is_among}, specs.Valued.{AreNumbered, AreNumberedTo}}
+use Rattle.ct_equality.{specs.declared.classes.Member.Member, specs.Terms.{AreAscending, is_among}, specs.Valued.{AreNumbered, AreNumberedTo}, specs.Indexed.IsTable}
 use Rattle.ct_equality.{specs.Members.{is_listed, class_of, number_of, is_taken, with_number, numbered}, proofs.Listed.ascends_distinct}
 use Rattle.ct_equality.{proofs.Members.{listed_numbered, class_numbered, number_numbered, number_new, taken_numbered, taken_by}, proofs.Trees.among_append}
 
@@ -72,6 +72,22 @@ module _ (words : List ℕ) (first ms : List Member) (done : List ℕ) (are : Ar
       | inr other ↦ let f = are.found j (taken j (omega (arith, lt, other))) in taken_by new f.0 j (kept_number f.0 j f.1)
     ]
 
+    -- no number above it is taken or free that was not
+    taken_above : (j : ℕ) → k < j → is_taken new j ≡ is_taken ms j
+    taken_above j lt = elim (cases_Bool (is_taken ms j)) [
+      | inl t ↦ (let f = are.found j t in taken_by new f.0 j (kept_number f.0 j f.1)) ∙ sym t
+      | inr f ↦ false_from_ne_true (is_taken new j) (λ e. elim (taken_numbered p k ms j e) [
+        | inl s ↦ omega (arith, lt, s)
+        | inr t ↦ both_ways _ f t
+      ]) ∙ sym f
+    ]
+
+    pub table_numbered : (from : ℕ) (table : List Bool) → from ≤ k → IsTable ms from table → IsTable new (k + 1) table
+    table_numbered from table le is = record {
+      count = is.count ∙ ap (λ n. n + 1) (sym (length-map ms (with_number p k)));
+      taken = λ j above within. is.taken j (omega (arith, le, above)) within ∙ sym (taken_above j (omega (arith, above)));
+    }
+
     pub numbered_to : AreNumberedTo words first new (done ++ p ∷ []) (k + 1)
     numbered_to = record { numbers = numbered_more; below = taken_more }
 
@@ -101,3 +117,21 @@ taken_few ms n all =
     let e = length-range_with_len 0 n in
     let f = length-map ms (λ m. number_or_zero m.number) in
     omega (arith, le, e, f)
+
+-- where the numbers before the next one are taken
+module _ (ms : List Member) (next : ℕ) (table : List Bool) (is : IsTable ms next table) (below : (k : ℕ) → k < next → is_taken ms k ≡ true) where
+  pub all_taken : (n : ℕ) → n ≤ length table → ((k : ℕ) → next ≤ k → k < n → get_or table k false ≡ true) → (k : ℕ) → k < n → is_taken ms k ≡ true
+  all_taken n le h k lt = elim (cases_lt k next) [
+    | inl a ↦ below k a
+    | inr b ↦ sym (is.taken k b (omega (arith, le, lt))) ∙ h k b lt
+  ]
+
+  -- not all are taken
+  pub table_ends : (n : ℕ) → ((k : ℕ) → next ≤ k → k < n → get_or table k false ≡ true) → n < length table
+  table_ends n h = elim (cases_lt n (length table)) [
+    | inl a ↦ a
+    | inr b ↦
+        let few = taken_few ms (length table) (all_taken (length table) (omega arith) (λ k le lt. h k le (omega (arith, lt, b)))) in
+        let c = is.count in
+        absurd (omega (arith, few, c))
+  ]

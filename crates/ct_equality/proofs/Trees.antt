@@ -1,14 +1,14 @@
 -- Growing a tree, and walking up in it.
-use Rattle.std.proofs.Common.{◌≡◌, ◌<◌, ◌≤◌, ◌+◌, ◌^◌, ℕ, suc, Bool, true, false, ◌||◌, List, [], ◌∷◌, ◌++◌, length, get_or, Some, None, nat_eq, refl, ap, sym, ◌∙◌, subst, inl, inr, arith, append_assoc, append-nil, length-append}
-use Rattle.std.{specs.Prelude.slice_get, specs.List.IsDistinct, specs.Cmp.nat_eq_equiv, proofs.lemmas.Option.slice_get_within}
+use Rattle.std.proofs.Common.{◌≡◌, ◌≢◌, ◌<◌, ◌≤◌, ◌+◌, ℕ, suc, Bool, true, false, ◌||◌, List, [], ◌∷◌, ◌++◌, length, get_or, Some, nat_eq, refl, ap, sym, ◌∙◌, subst, inl, inr, arith, append_assoc, append-nil, length-append}
+use Rattle.std.{specs.Prelude.slice_get, specs.List.IsDistinct, specs.Cmp.nat_eq_equiv, proofs.lemmas.Option.{slice_get_within, slice_get-get_or}}
 use Rattle.std.{proofs.lemmas.Bool.{eqb-true, eq-eqb, false≢true, cases_eq, cases_lt, or_left, or_cases}, proofs.lemmas.Bool.Decides.nat_tests}
 use Rattle.std.{proofs.lemmas.List.{get_or_append_left, get_or_push}, proofs.lemmas.List.Folds.{list_any-append, list_any_at}}
-use Rattle.std.{proofs.lemmas.Map.Keys.IsDistinct-push, proofs.lemmas.Map.Steps.length-le_from_distinct_below}
-use Rattle.ct_derivation.{specs.declared.literals.Atom.Atom, specs.Path.{pair_of, end_of}}
-use Rattle.ct_equality.{specs.Terms.is_among, specs.Assigned.{IsLink, Joined, here, step, AreLinks, IsWalk, are_ordered}, proofs.Steps.ordered_at}
-use Rattle.ct_equality.specs.Trees.{beyond, IsTree, Extends, LeadsInto, IsExplored, IsGrowing, IsExploring}
-use Rattle.ct_word.proofs.Splits.{some-injective}
-use Rattle.ct_derivation.specs.declared.literals.Atom.TheVariants as atom
+use Rattle.std.{proofs.lemmas.Map.Keys.IsDistinct-push}
+use Rattle.ct_derivation.{specs.declared.literals.Atom.Atom, specs.Path.{end_of}}
+use Rattle.ct_equality.{specs.Terms.{is_among, is_end_of}, specs.Assigned.{IsLink, Joined, here, step, AreLinks, IsWalk}, proofs.Steps.{left_end, right_end}, proofs.Joins.link_cases}
+use Rattle.ct_chain.specs.Seen.{IsNoneFrom, IsLeastFrom}
+use Rattle.ct_equality.specs.Ends.{AreEnds}
+use Rattle.ct_equality.specs.Trees.{IsTree, Extends, LeadsInto, IsExplored, IsGrowing, IsExploring}
 
 pub record StandsAt (places : List ℕ) (p : ℕ) : Type 0 where
   pub place : ℕ
@@ -47,11 +47,20 @@ extends_on old mid new a b = record {
 }
 
 module _ (atoms : List Atom) (truth : List Bool) where
-  pub few : (places origins : List ℕ) → IsTree atoms truth places origins → length places ≤ 2 ^ 32
-  few places origins t = length-le_from_distinct_below places (2 ^ 32) t.once t.short
+  -- a link leads from a term of the equalities
+  pub link_end : (p q : ℕ) → IsLink atoms truth p q → is_end_of atoms p ≡ true
+  link_end p q l = elim (link_cases atoms truth p q l) [
+    | inl g ↦ left_end atoms g.place p q g.atom_at
+    | inr g ↦ right_end atoms g.place q p g.atom_at
+  ]
+
+  -- so does a way of links to another term
+  pub joined_end : {s t : ℕ} → Joined atoms truth s t → s ≢ t → is_end_of atoms s ≡ true
+  joined_end here ne = absurd (ne refl)
+  joined_end (step {s} t l r) ne = link_end s t l
 
   -- one more term
-  module _ (places origins : List ℕ) (p o : ℕ) (t : IsTree atoms truth places origins) (new : is_among places p ≡ false) (short : p < 2 ^ 32)
+  module _ (places origins : List ℕ) (p o : ℕ) (t : IsTree atoms truth places origins) (new : is_among places p ≡ false)
       (within : o < length places) (link : IsLink atoms truth p (get_or places o 0)) where
     abbrev ps : List ℕ
     ps = places ++ p ∷ []
@@ -96,7 +105,7 @@ module _ (atoms : List Atom) (truth : List Bool) where
       count = (let a = long in let b = length-append origins (o ∷ []) in let c = t.count in omega (arith, a, b, c));
       some = (let a = long in omega (arith, a));
       once = IsDistinct-push nat_eq_equiv places p t.once new;
-      short = λ q e. grind (arith, nat_tests, among_append places (p ∷ []) q, t.short q);
+      ends = λ q e. grind (arith, nat_tests, among_append places (p ∷ []) q, t.ends q, link_end p (get_or places o 0) link);
       earlier = earlier_more;
       links = links_more;
     }
@@ -105,28 +114,15 @@ module _ (atoms : List Atom) (truth : List Bool) where
   unfolding IsDistinct
   distinct_nil = tt
 
-  pub single : (root : ℕ) → root < 2 ^ 32 → IsTree atoms truth (root ∷ []) (0 ∷ [])
-  single root lt = record {
+  pub single : (root : ℕ) → is_end_of atoms root ≡ true → IsTree atoms truth (root ∷ []) (0 ∷ [])
+  single root end = record {
     count = refl;
     some = omega arith;
     once = IsDistinct-push nat_eq_equiv [] root distinct_nil refl;
-    short = λ q e. grind (arith, nat_tests);
+    ends = λ q e. grind (arith, nat_tests);
     earlier = λ i pos l. absurd (omega (arith, pos, l));
     links = λ i pos l. absurd (omega (arith, pos, l));
   }
-
-  -- what lies beyond an equality of p and t
-  pub beyond_pair : (p t : ℕ) → beyond (pair_of p t) true p ≡ Some t
-  beyond_pair p t = grind (arith, nat_tests)
-
-  pair_beyond : (s u p t : ℕ) → s < u → beyond (atom.Same s u) true p ≡ Some t → pair_of t p ≡ atom.Same s u
-  pair_beyond s u p t lt e = grind (arith, nat_tests)
-
-  pub beyond_link : are_ordered atoms ≡ true → (k : ℕ) (a : Atom) (b : Bool) (p t : ℕ) → slice_get atoms k ≡ Some a → slice_get truth k ≡ Some b → beyond a b p ≡ Some t → IsLink atoms truth t p
-  beyond_link ordered k (atom.Node q) b p t e f g = cc
-  beyond_link ordered k (atom.Same s u) false p t e f g = cc
-  beyond_link ordered k (atom.Same s u) true p t e f g =
-      record { place = k; atom_at = e ∙ ap Some (sym (pair_beyond s u p t (ordered_at atoms k s u ordered e) g)); truth_at = f }
 
   pub place_below : (k : ℕ) (a : Atom) → slice_get atoms k ≡ Some a → k < length atoms
   place_below k a e = slice_get_within atoms k a e
@@ -156,36 +152,33 @@ module _ (atoms : List Atom) (truth : List Bool) where
     ends = end_snoc s w.rest u;
   }
 
-  leads_more : (n p : ℕ) (old new : List ℕ) → LeadsInto atoms truth n p old → Extends old new
-      → ((t : ℕ) → slice_get atoms n ≡ Some (pair_of p t) → slice_get truth n ≡ Some true → is_among new t ≡ true) → LeadsInto atoms truth (n + 1) p new
-  leads_more n p old new leads x at_n k t lt e f = elim (cases_eq k n) [
-    | inl same ↦ at_n t (ap (slice_get atoms) (sym same) ∙ e) (ap (slice_get truth) (sym same) ∙ f)
-    | inr other ↦ among_more old new t x (leads k t (omega (arith, lt, other)) e f)
-  ]
-
-  -- what lies beyond the equality that p and t have at this place
-  beyond_at : (n : ℕ) (a : Atom) (b : Bool) (p t : ℕ) → slice_get atoms n ≡ Some a → slice_get truth n ≡ Some b → slice_get atoms n ≡ Some (pair_of p t) → slice_get truth n ≡ Some true → beyond a b p ≡ Some t
-  beyond_at n a b p t e f g h =
-      let one : a ≡ pair_of p t = some-injective a (pair_of p t) (sym e ∙ g) in
-      let yes : b ≡ true = some-injective b true (sym f ∙ h) in
-      ap (λ x. beyond x b p) one ∙ ap (λ y. beyond (pair_of p t) y p) yes ∙ beyond_pair p t
-
-  module _ (n p : ℕ) (start old origins : List ℕ) (growing : IsGrowing atoms truth n p start old origins) (a : Atom) (b : Bool) (a_at : slice_get atoms n ≡ Some a) (b_at : slice_get truth n ≡ Some b) where
-    pub grown : (new from : List ℕ) (next : ℕ) → beyond a b p ≡ Some next → IsTree atoms truth new from → Extends old new → is_among new next ≡ true
-        → IsGrowing atoms truth (n + 1) p start new from
-    grown new from next some tree x there = record {
+  module _ (keys others : List ℕ) (p from i : ℕ) (start old origins : List ℕ) (growing : IsGrowing atoms truth keys others p from start old origins) (least : IsLeastFrom keys p from i) where
+    -- one more of the true equalities of a term has been followed
+    pub grown : (new to : List ℕ) → IsTree atoms truth new to → Extends old new → is_among new (get_or others i 0) ≡ true → IsGrowing atoms truth keys others p (i + 1) start new to
+    grown new to tree x there = record {
       tree = tree;
       extends = extends_on start old new growing.extends x;
-      reached = leads_more n p old new growing.reached x (λ t e f.
-          let is : next ≡ t = some-injective next t (sym some ∙ beyond_at n a b p t a_at b_at e f) in ap (is_among new) (sym is) ∙ there);
+      reached = λ j lt within e. elim (cases_lt j from) [
+        | inl a ↦ among_more old new _ x (growing.reached j a within e)
+        | inr b ↦ elim (cases_eq j i) [
+          | inl s ↦ ap (λ k. is_among new (get_or others k 0)) s ∙ there
+          | inr f ↦ absurd (least.least j b (omega (arith, lt, f)) (slice_get-get_or keys j 0 within ∙ ap Some e))
+        ]
+      ];
     }
 
-    pub not_grown : beyond a b p ≡ None → IsGrowing atoms truth (n + 1) p start old origins
-    not_grown none = record {
-      tree = growing.tree;
-      extends = growing.extends;
-      reached = leads_more n p old old growing.reached (extends_same old) (λ t e f. let is = beyond_at n a b p t a_at b_at e f in cc);
-    }
+  pub grown_none : (keys others : List ℕ) (p : ℕ) (places origins : List ℕ) → IsTree atoms truth places origins → IsGrowing atoms truth keys others p 0 places places origins
+  grown_none keys others p places origins tree = record { tree = tree; extends = extends_same places; reached = λ j lt within e. absurd (omega (arith, lt)) }
+
+  -- all true equalities of a term have been followed
+  pub grown_all : (keys others : List ℕ) (p from : ℕ) (start places origins : List ℕ) → AreEnds atoms truth (length atoms) keys others
+      → IsGrowing atoms truth keys others p from start places origins → IsNoneFrom keys p from → LeadsInto atoms truth (length atoms) p places
+  grown_all keys others p from start places origins ends growing none k t lt e f =
+      let at = ends.all k p t lt e f in
+      elim (cases_lt at.place from) [
+        | inl a ↦ ap (is_among places) (sym at.other) ∙ growing.reached at.place a at.within at.key
+        | inr b ↦ absurd (none at.place b (slice_get-get_or keys at.place 0 at.within ∙ ap Some at.key))
+      ]
 
   pub explored_more : (root n : ℕ) (old from new to : List ℕ) → IsExploring atoms truth root n old from → n < length old → IsTree atoms truth new to → Extends old new
       → LeadsInto atoms truth (length atoms) (get_or old n 0) new → IsExploring atoms truth root (n + 1) new to
@@ -201,5 +194,5 @@ module _ (atoms : List Atom) (truth : List Bool) where
     ];
   }
 
-  pub exploring_none : (root : ℕ) → root < 2 ^ 32 → IsExploring atoms truth root 0 (root ∷ []) (0 ∷ [])
-  exploring_none root lt = record { tree = single root lt; first = refl; within = omega arith; explored = λ i below. absurd (omega (arith, below)) }
+  pub exploring_none : (root : ℕ) → is_end_of atoms root ≡ true → IsExploring atoms truth root 0 (root ∷ []) (0 ∷ [])
+  exploring_none root end = record { tree = single root end; first = refl; within = omega arith; explored = λ i below. absurd (omega (arith, below)) }

@@ -133,7 +133,7 @@ module _ (words : List ℕ) (wf : IsWellFormed words) where
       by_term rest (term.Null n) = (all t (or_left (nat_eq t t) _ (eq-eqb t t refl)), rest)
       by_term rest _ = rest
 
-  module _ (atoms : List Atom) (truth : List Bool) (plain : are_plain words atoms ≡ true) (ms ns : List Member) (joined : AreJoined words atoms truth (length atoms) (members_at words (terms_of atoms)) ms)
+  module _ (atoms : List Atom) (truth : List Bool) (plain : are_plain words atoms ≡ true) (us : List ℕ) (met : (p : ℕ) → is_among us p ≡ is_end_of atoms p) (ms ns : List Member) (joined : AreJoined words atoms truth (length atoms) (members_at words us) ms)
       (apart : IsApart atoms truth (length atoms) ms) (numbered : AreNumbered words ms ns (terms_of atoms)) where
     abbrev ts : List ℕ
     ts = terms_of atoms
@@ -144,8 +144,11 @@ module _ (words : List ℕ) (wf : IsWellFormed words) where
     term_place : (p : ℕ) → is_among ts p ≡ true → is_place_of words class.Term p ≡ true
     term_place p e = plain_place words p (plain_end words atoms p plain (sym (among_terms atoms p) ∙ e))
 
+    old_listed : (p : ℕ) → is_listed ms p ≡ is_among ts p
+    old_listed p = joined.merges.listed p ∙ alone_listed words us p ∙ met p ∙ sym (among_terms atoms p)
+
     listed_among : (p : ℕ) → is_listed ns p ≡ is_among ts p
-    listed_among p = numbered.listed p ∙ joined.merges.listed p ∙ alone_listed words ts p
+    listed_among p = numbered.listed p ∙ old_listed p
 
     -- a term by which a class goes
     record IsChief (c : ℕ) : Type 0 where
@@ -155,8 +158,8 @@ module _ (words : List ℕ) (wf : IsWellFormed words) where
     chief_of : (p : ℕ) → is_among ts p ≡ true → IsChief (class_of ns p)
     chief_of p e = record {
       among =
-          let there : is_listed ms p ≡ true = joined.merges.listed p ∙ alone_listed words ts p ∙ e in
-          ap (is_among ts) (numbered.classes p) ∙ sym (joined.merges.listed (class_of ms p) ∙ alone_listed words ts (class_of ms p)) ∙ joined.classes.within p there;
+          let there : is_listed ms p ≡ true = old_listed p ∙ e in
+          ap (is_among ts) (numbered.classes p) ∙ sym (old_listed (class_of ms p)) ∙ joined.classes.within p there;
       own = numbered.classes (class_of ns p) ∙ ap (class_of ms) (numbered.classes p) ∙ joined.classes.chief p ∙ sym (numbered.classes p);
     }
 

@@ -5,3 +5,6 @@ pub mod Classes
 pub mod Joining
 pub mod Trees
 pub mod Valued
+pub mod Indexed
+pub mod Forest
+pub mod Ends

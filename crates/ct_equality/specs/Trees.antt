@@ -1,23 +1,18 @@
 -- Breadth-first trees over the terms, along true equalities.
-use Rattle.std.specs.Prelude.{◌≡◌, ◌<◌, ◌≤◌, ◌^◌, ◌++◌, ℕ, Bool, true, List, Option, Some, None, length, nat_eq, slice_index_or, slice_get, if◌then◌else◌}
+use Rattle.std.specs.Prelude.{◌≡◌, ◌<◌, ◌≤◌, ◌^◌, ◌++◌, ℕ, Bool, true, List, Some, length, nat_eq, slice_index_or, slice_get}
 use Rattle.std.specs.List.{IsDistinct}
 use Rattle.ct_derivation.specs.declared.literals.Atom.{Atom}
-use Rattle.ct_derivation.specs.declared.literals.Atom.TheVariants as atom
 use Rattle.ct_derivation.specs.Path.{pair_of}
-use Rattle.ct_equality.specs.Terms.{is_among}
+use Rattle.ct_equality.specs.Terms.{is_among, is_end_of, terms_of}
+use Rattle.ct_equality.specs.Ends.{Reaches}
 use Rattle.ct_equality.specs.Assigned.{IsLink}
-
--- the term that a true equality joins with this one
-abbrev pub beyond : Atom → Bool → ℕ → Option ℕ
-beyond (atom.Same s t) true p = if nat_eq s p then Some t else (if nat_eq t p then Some s else None)
-beyond _ _ p = None
 
 -- different terms, each but the first joined with an earlier one, its origin
 pub record IsTree (atoms : List Atom) (truth : List Bool) (places origins : List ℕ) : Type 0 where
   pub count : length origins ≡ length places
   pub some : 0 < length places
   pub once : IsDistinct nat_eq places
-  pub short : (p : ℕ) → is_among places p ≡ true → p < 2 ^ 32
+  pub ends : (p : ℕ) → is_among places p ≡ true → is_end_of atoms p ≡ true
   pub earlier : (i : ℕ) → 0 < i → i < length places → slice_index_or origins i 0 < i
   pub links : (i : ℕ) → 0 < i → i < length places → IsLink atoms truth (slice_index_or places i 0) (slice_index_or places (slice_index_or origins i 0) 0)
 
@@ -35,11 +30,17 @@ LeadsInto atoms truth n p places =
 abbrev pub IsExplored : List Atom → List Bool → ℕ → List ℕ → Type 0
 IsExplored atoms truth n places = (i : ℕ) → i < n → LeadsInto atoms truth (length atoms) (slice_index_or places i 0) places
 
--- a tree that grows from these places, where the first n atoms have been looked at for p
-pub record IsGrowing (atoms : List Atom) (truth : List Bool) (n p : ℕ) (old places origins : List ℕ) : Type 0 where
+-- the places stand in a list that has room for all terms
+pub record HasRoom (atoms : List Atom) (places words : List ℕ) (room : ℕ) : Type 0 where
+  pub same : words ≡ places
+  pub enough : length (terms_of atoms) ≤ room
+  pub short : room < 2 ^ 32
+
+-- a tree that grows from these places, where the true equalities of p have been followed whose ends stand before `from`
+pub record IsGrowing (atoms : List Atom) (truth : List Bool) (keys others : List ℕ) (p from : ℕ) (old places origins : List ℕ) : Type 0 where
   pub tree : IsTree atoms truth places origins
   pub extends : Extends old places
-  pub reached : LeadsInto atoms truth n p places
+  pub reached : Reaches keys others p from places
 
 -- a tree of a class, where the first n places have been looked at
 pub record IsExploring (atoms : List Atom) (truth : List Bool) (root n : ℕ) (places origins : List ℕ) : Type 0 where

@@ -9,6 +9,8 @@
 
 mod classes;
 mod closing;
+mod ends;
+mod forest;
 mod paths;
 mod places;
 mod terms;

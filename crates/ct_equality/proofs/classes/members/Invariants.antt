@@ -1,6 +1,6 @@
-use Rattle.std.proofs.Common.{◌≡◌, take}
-use Rattle.ct_equality.specs.Members.{members_at}
+use Rattle.std.proofs.Common.{◌≡◌, List, take}
+use Rattle.ct_equality.{specs.declared.classes.Member.Member, specs.Indexed.{AreClassesAt, classed}}
 use Rattle.ct_equality.proofs.classes.members.Given as goal
 
-abbrev pub invariant-loop-place : goal.invariant-loop-place
-invariant-loop-place l = l.members.items ≡ members_at l.words (take l.place-index l.terms)
+abbrev pub invariant-loop-i : goal.invariant-loop-i
+invariant-loop-i l = (ms : List Member) → AreClassesAt l.places ms l.classes → l.members.items ≡ classed l.words ms (take l.i l.places)

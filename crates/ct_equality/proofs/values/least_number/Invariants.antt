@@ -1,9 +1,11 @@
-use Rattle.std.proofs.Common.{◌≡◌, ◌<◌, ◌-◌, ◌^◌, ℕ, true}
-use Rattle.ct_equality.specs.Members.{is_taken}
+use Rattle.std.proofs.Common.{◌≡◌, ◌<◌, ◌≤◌, ◌-◌, ℕ, true, false, length, get_or}
 use Rattle.ct_equality.proofs.values.least_number.Given as goal
 
 abbrev pub invariant-loop-number : goal.invariant-loop-number
-invariant-loop-number l = (k : ℕ) → k < l.number → is_taken l.members k ≡ true
+invariant-loop-number l = record {
+  past : l.from ≤ l.number;
+  all : (k : ℕ) → l.from ≤ k → k < l.number → get_or l.taken k false ≡ true;
+}
 
 abbrev pub decreases-loop-number : goal.decreases-loop-number
-decreases-loop-number l = 2 ^ 32 - l.number
+decreases-loop-number l = length l.taken - l.number
