@@ -1,181 +1,162 @@
 -- The atom of each variable, and the variable of each atom.
-use Rattle.std.proofs.Common.{◌≡◌, ◌≢◌, ℕ, suc, ◌+◌, ◌-◌, ◌*◌, ◌<◌, ◌≤◌, ◌^◌, List, [], ◌∷◌, ◌++◌, length, map, get_or, refl, ap, ◌∙◌, sym, subst, arith, inl, inr, ◌⊎◌, if◌then◌else◌, length-append}
-use Rattle.std.{specs.Prelude.Contains, proofs.lemmas.Bool.{cases_lt, lt-ltb, le-ltb}, proofs.lemmas.Nat.mul-le}
-use Rattle.std.proofs.lemmas.List.{length-map, length_push, get_or_append_left, get_or-append_right, get_or-map, get_or_default}
-use Rattle.std.proofs.lemmas.List.Elements.{Contains-get_or, Contains-append_left, Contains-append_right, Contains-append_cases}
-use Rattle.ct_derivation.{specs.declared.literals.Atom.Atom, specs.Path.pair_of}
-use Rattle.ct_cnf.{specs.declared.numbers.Numbers.Numbers, specs.Encoding.{atom_of, AreDistinct, HasNodesBelow, HasPairsBelow, HasAllPairs}}
-use Rattle.ct_cnf.{specs.Lists.{pairs_with, pairs_after, pairs_of, atoms_of, rank_of, node_of, pair_variable, same_of, AreNumbers}, specs.Making.IsNumbering}
-use Rattle.ct_cnf.proofs.Pairs.{pairs_more, pair_place, pair_stands, pair_listed, IsListedPair, listed_pair}
-use Rattle.ct_word.proofs.Items.{mapped_item, unmapped_item}
+use Rattle.std.proofs.Common.{◌≡◌, ℕ, zero, suc, ◌+◌, ◌-◌, ◌*◌, ◌/◌, ◌<◌, ◌≤◌, List, [], ◌∷◌, length, get_or, take, Option, Some, refl, ap, ◌∙◌, sym, subst, arith, inl, inr, if◌then◌else◌, length-append}
+use Rattle.std.{specs.Prelude.{slice_get, Contains}, proofs.lemmas.Bool.{eq-eqb, ne_eqb}}
+use Rattle.std.{proofs.lemmas.Option.slice_get-get_or, proofs.lemmas.List.{get_or_default, take_all}}
+use Rattle.ct_word.{specs.declared.kinds.Kind.Kind, specs.Word.{code_of, kind_of, left_of, right_of}, specs.WellFormed.IsWellFormed, proofs.Codes.code_by, proofs.Splits.one_place}
+use Rattle.ct_word.proofs.Items.{no_item, first_item, item_cases, flat_item}
+use Rattle.ct_derivation.specs.declared.literals.Atom.{Atom}
+use Rattle.ct_cnf.{specs.declared.numbers.Numbers.Numbers, specs.Encoding.{atom_of, AreDistinct}, specs.Making.IsNumbering}
+use Rattle.ct_cnf.specs.Lists.{equality_of, atoms_at, atoms_of, rank_of, node_of, AreRising}
+use Rattle.ct_cnf.proofs.Flat.{unflat_item, before, flat_at, distinct_flat, first_smaller}
+use Rattle.ct_word.specs.declared.kinds.Kind.TheVariants as kind
 use Rattle.ct_derivation.specs.declared.literals.Atom.TheVariants as atom
 
--- how many atoms there are
-length_pairs : (es ts : List ℕ) → pairs_of (length es) + length (pairs_after es ts) ≡ pairs_of (length es + length ts)
-length_pairs es [] = let none : length es + 0 ≡ length es = omega arith in omega (arith, ap pairs_of none)
-length_pairs es (t ∷ ts) =
-    let more : length (es ++ t ∷ []) ≡ suc (length es) = omega (arith, length_push es t) in
-    let rest : pairs_of (suc (length es)) + length (pairs_after (es ++ t ∷ []) ts) ≡ pairs_of (suc (length es) + length ts) =
-    ap (λ k. pairs_of k + length (pairs_after (es ++ t ∷ []) ts)) (sym more) ∙ length_pairs (es ++ t ∷ []) ts ∙ ap (λ k. pairs_of (k + length ts)) more in
-    let sum : suc (length es) + length ts ≡ length es + suc (length ts) = omega arith in
-    omega (arith, length-append (pairs_with es t) (pairs_after (es ++ t ∷ []) ts), length-map es (λ s. atom.Same s t), rest, pairs_more (length es), ap pairs_of sum)
+-- where places go up, each is first found where it stands
+pub rank_is : (cs : List ℕ) (k p : ℕ) → AreRising cs → k < length cs → get_or cs k p ≡ p → rank_of cs p ≡ k
+rank_is [] k p up lt e = absurd (omega (arith, lt))
+rank_is (c ∷ cs) zero p up lt e = ap (λ b. if b then 0 else suc (rank_of cs p)) (eq-eqb c p e)
+rank_is (c ∷ cs) (suc k) p up lt e =
+    let there : Contains cs p = (k, omega (arith, lt), e) in
+    ap (λ b. if b then 0 else suc (rank_of cs p)) (ne_eqb c p (omega (arith, first_smaller c cs up p there)))
+    ∙ ap suc (rank_is cs k p (λ i j d l m. up (suc i) (suc j) d (omega (arith, l)) (omega (arith, m))) (omega (arith, lt)) e)
 
-few_pairs : (k : ℕ) → k ≤ 64 → pairs_of k ≤ 2048
-few_pairs k le = let m : k * (k - 1) ≤ 64 * 64 = mul-le k (k - 1) 64 64 le (omega (arith, le)) in omega (arith, m)
+-- the atoms of one condition
+few_equalities : (o : Option Kind) (a b : ℕ) → length (equality_of o a b) ≤ 1
+few_equalities (Some kind.Equal) a b = omega arith
+few_equalities _ a b = omega arith
 
-pub few_atoms : (conditions terms : List ℕ) → length conditions ≤ 2 ^ 28 → length terms ≤ 64 → length (atoms_of conditions terms) < 2 ^ 31
-unfolding atoms_of
-few_atoms conditions terms c t =
-    let start : pairs_of 0 ≡ 0 = refl in
-    let all : 0 + length terms ≡ length terms = omega arith in
-    omega (arith, ap pairs_of all, length-append (map atom.Node conditions) (pairs_after [] terms), length-map conditions atom.Node, length_pairs [] terms, few_pairs (length terms) t, c, start)
+few_at : (ws : List ℕ) (p : ℕ) → length (atoms_at ws p) ≤ 2
+unfolding atoms_at
+few_at ws p = let w = get_or ws p 0 in omega (arith, few_equalities (kind_of w) (left_of w) (right_of w))
 
-module _ (n : Numbers) (are : AreNumbers n) where
-  abbrev atoms : List Atom
-  atoms = atoms_of n.conditions n.terms
+pub few_atoms : (ws cs : List ℕ) → length (atoms_of ws cs) ≤ 2 * length cs
+few_atoms ws [] = omega arith
+few_atoms ws (c ∷ cs) = omega (arith, length-append (atoms_at ws c) (atoms_of ws cs), few_at ws c, few_atoms ws cs)
 
-  abbrev count : ℕ
-  count = length n.conditions
+pub length-take_le : (xs : List ℕ) (k : ℕ) → k ≤ length xs → length (take k xs) ≡ k
+length-take_le [] zero le = refl
+length-take_le [] (suc k) le = absurd (omega (arith, le))
+length-take_le (x ∷ xs) zero le = refl
+length-take_le (x ∷ xs) (suc k) le = ap suc (length-take_le xs k (omega (arith, le)))
 
-  -- where an atom stands
-  abbrev stand : Atom → ℕ
-  stand (atom.Node p) = rank_of n p
-  stand (atom.Same s t) = count + pair_place (rank_of n) (atom.Same s t)
+-- an equal word at a place, with these fields
+pub record IsEqualAt (ws : List ℕ) (p s t : ℕ) : Type 0 where
+  pub word : ℕ
+  pub there : slice_get ws p ≡ Some word
+  pub kind : kind_of word ≡ Some kind.Equal
+  pub first : left_of word ≡ s
+  pub second : right_of word ≡ t
 
-  pair_item : (y : ℕ) (a : Atom) → y < length (pairs_after [] n.terms) → IsListedPair [] n.terms (get_or (pairs_after [] n.terms) y a)
-  pair_item y a lt = listed_pair [] n.terms (get_or (pairs_after [] n.terms) y a) (Contains-get_or (pairs_after [] n.terms) y a lt)
+equality_cases : (o : Option Kind) (a b : ℕ) (x : Atom) → Contains (equality_of o a b) x → (o ≡ Some kind.Equal) × (x ≡ atom.Same a b)
+equality_cases (Some kind.Equal) a b x h = elim (item_cases [] (atom.Same a b) x h) [ inl e ↦ (refl, sym e) | inr n ↦ absurd (no_item x n) ]
+equality_cases _ a b x h = absurd (no_item x h)
 
-  stand_pair : (b : Atom) → IsListedPair [] n.terms b → stand b ≡ count + pair_place (rank_of n) b
-  stand_pair b l = ap stand l.is ∙ ap (λ x. count + pair_place (rank_of n) x) (sym l.is)
+module _ (ws : List ℕ) where
+  pub node_in : (p : ℕ) → Contains (atoms_at ws p) (atom.Node p)
+  unfolding atoms_at
+  node_in p = first_item _ (atom.Node p)
 
-  pub stands : (x : ℕ) (a : Atom) → x < length atoms → stand (get_or atoms x a) ≡ x
-  unfolding atoms_of
-  stands x a lt =
-      let long : length (map atom.Node n.conditions) ≡ count = length-map n.conditions atom.Node in
-      elim (cases_lt x count) [
-        | inl node ↦
-            ap stand (get_or_append_left (map atom.Node n.conditions) (pairs_after [] n.terms) a x (omega (arith, long, node)) ∙ get_or-map atom.Node n.conditions x 0 a node)
-            ∙ are.condition_ranks x 0 node
-        | inr pair ↦
-            let y = x - count in
-            let within : y < length (pairs_after [] n.terms) = omega (arith, lt, length-append (map atom.Node n.conditions) (pairs_after [] n.terms), long, pair) in
-            let place : pair_place (rank_of n) (get_or (pairs_after [] n.terms) y a) ≡ pairs_of 0 + y =
-            pair_stands (rank_of n) [] n.terms y a (λ i d e. absurd (omega (arith, e))) (λ i d e. are.term_ranks i d e ∙ omega arith) within in
-            let start : pairs_of 0 ≡ 0 = refl in
-            ap stand (get_or-append_right (map atom.Node n.conditions) (pairs_after [] n.terms) count x a long pair)
-            ∙ stand_pair (get_or (pairs_after [] n.terms) y a) (pair_item y a within) ∙ omega (arith, place, start, pair)
+  pub node_is : (p q : ℕ) → Contains (atoms_at ws p) (atom.Node q) → p ≡ q
+  unfolding atoms_at
+  node_is p q h =
+      let w = get_or ws p 0 in
+      elim (item_cases (equality_of (kind_of w) (left_of w) (right_of w)) (atom.Node p) (atom.Node q) h) [
+        | inl e ↦ cc
+        | inr there ↦ let e = (equality_cases (kind_of w) (left_of w) (right_of w) (atom.Node q) there).1 in cc
       ]
 
-  pub atoms_distinct : AreDistinct atoms
-  atoms_distinct i j d li lj e = sym (stands i d li) ∙ ap stand e ∙ stands j d lj
-
-  -- an atom is that of the variable after its place
-  pub record IsAtomOf (v : ℕ) (a : Atom) : Type 0 where
-    pub low : 1 ≤ v
-    pub high : v ≤ length atoms
-    pub is : atom_of atoms v ≡ a
-
-  found : (a : Atom) → Contains atoms a → IsAtomOf (stand a + 1) a
-  found a h =
-      let at : stand a ≡ h.0 = ap stand (sym h.2) ∙ stands h.0 a h.1 in
-      let back : stand a + 1 - 1 ≡ h.0 = omega (arith, at) in
-      record {
-        low = omega arith;
-        high = omega (arith, at, h.1);
-        is = ap (λ k. get_or atoms k (atom.Node 0)) back ∙ get_or_default atoms h.0 (atom.Node 0) a h.1 ∙ h.2;
-      }
-
-  node_listed : (p : ℕ) → Contains n.conditions p → Contains atoms (atom.Node p)
-  unfolding atoms_of
-  node_listed p h = Contains-append_left (map atom.Node n.conditions) (pairs_after [] n.terms) (atom.Node p) (mapped_item atom.Node n.conditions p h)
-
-  rank_is : (s k : ℕ) → k < length n.terms → get_or n.terms k s ≡ s → rank_of n s ≡ k
-  rank_is s k lt e = ap (rank_of n) (sym e) ∙ are.term_ranks k s lt
-
-  -- ranks of terms go up
-  ranks_rise : (s t : ℕ) → Contains n.terms s → Contains n.terms t → s < t → rank_of n s < rank_of n t
-  ranks_rise s t hs ht lt =
-      let rs = rank_is s hs.0 hs.1 hs.2 in
-      let rt = rank_is t ht.0 ht.1 ht.2 in
-      let ts : get_or n.terms hs.0 0 ≡ s = get_or_default n.terms hs.0 0 s hs.1 ∙ hs.2 in
-      let tt2 : get_or n.terms ht.0 0 ≡ t = get_or_default n.terms ht.0 0 t ht.1 ∙ ht.2 in
-      elim (cases_lt hs.0 ht.0) [
-        | inl rises ↦ omega (arith, rises, rs, rt)
-        | inr falls ↦ elim (cases_lt ht.0 hs.0) [
-          | inl less ↦ absurd (omega (arith, are.rising ht.0 hs.0 0 less hs.1, ts, tt2, lt))
-          | inr not_less ↦
-              let same : hs.0 ≡ ht.0 = omega (arith, falls, not_less) in
-              absurd (omega (arith, lt, ts, tt2, ap (λ k. get_or n.terms k 0) same))
-        ]
+  pub same_is : (p s t : ℕ) → p < length ws → Contains (atoms_at ws p) (atom.Same s t) → IsEqualAt ws p s t
+  unfolding atoms_at
+  same_is p s t lt h =
+      let w = get_or ws p 0 in
+      elim (item_cases (equality_of (kind_of w) (left_of w) (right_of w)) (atom.Node p) (atom.Same s t) h) [
+        | inl e ↦ cc
+        | inr there ↦
+            let c = equality_cases (kind_of w) (left_of w) (right_of w) (atom.Same s t) there in
+            let e : atom.Same s t ≡ atom.Same (left_of w) (right_of w) = c.1 in
+            record { word = w; there = slice_get-get_or ws p 0 lt; kind = c.0; first = cc; second = cc }
       ]
 
-  pub pair_in : (s t : ℕ) → Contains n.terms s → Contains n.terms t → s < t → Contains atoms (atom.Same s t)
-  unfolding atoms_of
-  pair_in s t hs ht lt =
-      let before : hs.0 < 0 + ht.0 = omega (arith, ranks_rise s t hs ht lt, rank_is s hs.0 hs.1 hs.2, rank_is t ht.0 ht.1 ht.2) in
-      let ts : get_or n.terms hs.0 0 ≡ s = get_or_default n.terms hs.0 0 s hs.1 ∙ hs.2 in
-      let tt2 : get_or n.terms ht.0 0 ≡ t = get_or_default n.terms ht.0 0 t ht.1 ∙ ht.2 in
-      Contains-append_right (map atom.Node n.conditions) (pairs_after [] n.terms) (atom.Same s t)
-      (subst (λ x. Contains (pairs_after [] n.terms) (atom.Same x t)) ts
-      (subst (λ y. Contains (pairs_after [] n.terms) (atom.Same (get_or n.terms hs.0 0) y)) tt2 (pair_listed [] n.terms hs.0 ht.0 0 ht.1 before)))
+  -- the equality of an equal word is its second atom
+  pub same_at : (p w : ℕ) → get_or ws p 0 ≡ w → kind_of w ≡ Some kind.Equal → atoms_at ws p ≡ atom.Node p ∷ atom.Same (left_of w) (right_of w) ∷ []
+  unfolding atoms_at
+  same_at p w at e =
+      ap (λ x. atom.Node p ∷ equality_of (kind_of x) (left_of x) (right_of x)) at
+      ∙ ap (λ o. atom.Node p ∷ equality_of o (left_of w) (right_of w)) e
 
-  pub node_found : (p : ℕ) → Contains n.conditions p → IsAtomOf (node_of n p) (atom.Node p)
-  unfolding node_of
-  node_found p h = found (atom.Node p) (node_listed p h)
+  distinct_at : (p : ℕ) → AreDistinct (atoms_at ws p)
+  unfolding atoms_at
+  distinct_at p = two (kind_of (get_or ws p 0)) (left_of (get_or ws p 0)) (right_of (get_or ws p 0)) where
+    two : (o : Option Kind) (a b : ℕ) → AreDistinct (atom.Node p ∷ equality_of o a b)
+    two (Some kind.Equal) a b zero zero d li lj e = refl
+    two (Some kind.Equal) a b zero (suc zero) d li lj e = cc
+    two (Some kind.Equal) a b (suc zero) zero d li lj e = cc
+    two (Some kind.Equal) a b (suc zero) (suc zero) d li lj e = refl
+    two (Some kind.Equal) a b i j d li lj e = omega (arith, li, lj)
+    two _ a b i j d li lj e = omega (arith, li, lj)
 
-  pair_found : (s t : ℕ) → Contains n.terms s → Contains n.terms t → s < t → IsAtomOf (pair_variable n s t) (atom.Same s t)
-  pair_found s t hs ht lt =
-      let sum : count + (pairs_of (rank_of n t) + rank_of n s) + 1 ≡ pair_variable n s t = omega arith in
-      subst (λ v. IsAtomOf v (atom.Same s t)) sum (found (atom.Same s t) (pair_in s t hs ht lt))
+  words_by : (w x c : ℕ) → c ≡ w / 72057594037927936 → c ≡ x / 72057594037927936 → left_of w ≡ left_of x → right_of w ≡ right_of x → w ≡ x
+  words_by w x c d e l r = omega arith
 
-  pub same_found : (s t : ℕ) → Contains n.terms s → Contains n.terms t → s ≢ t → IsAtomOf (same_of n s t) (pair_of s t)
-  unfolding same_of
-  same_found s t hs ht ne =
-      elim (cases_lt s t) [
-        | inl lt ↦ subst (λ b. IsAtomOf (if b then pair_variable n s t else pair_variable n t s) (if b then atom.Same s t else atom.Same t s)) (sym (lt-ltb s t lt)) (pair_found s t hs ht lt)
-        | inr le ↦ subst (λ b. IsAtomOf (if b then pair_variable n s t else pair_variable n t s) (if b then atom.Same s t else atom.Same t s)) (sym (le-ltb s t le)) (pair_found t s ht hs (omega (arith, le, ne)))
-      ]
+  module _ (wf : IsWellFormed ws) where
+    -- two equal words with the same fields are one
+    pub one_equality : (p q s t : ℕ) → IsEqualAt ws p s t → IsEqualAt ws q s t → p ≡ q
+    one_equality p q s t a b =
+        let same : a.word ≡ b.word =
+        words_by a.word b.word (code_of kind.Equal) (code_by _ kind.Equal a.kind) (code_by _ kind.Equal b.kind) (a.first ∙ sym b.first) (a.second ∙ sym b.second) in
+        one_place ws wf p q b.word (a.there ∙ ap Some same) b.there
 
-  pub atom_cases : (a : Atom) → Contains atoms a → ((p : ℕ) × Contains n.conditions p × (a ≡ atom.Node p)) ⊎ ((s : ℕ) × (t : ℕ) × Contains n.terms s × Contains n.terms t × (s < t) × (a ≡ atom.Same s t))
-  unfolding atoms_of
-  atom_cases a h =
-      elim (Contains-append_cases (map atom.Node n.conditions) (pairs_after [] n.terms) a h) [
-        | inl node ↦ let u = unmapped_item atom.Node n.conditions a node in inl (u.0, u.1, sym u.2)
-        | inr pair ↦
-            let l = listed_pair [] n.terms a pair in
-            let before : l.earlier < l.later = omega (arith, l.before) in
-            let within : l.earlier < length n.terms = omega (arith, before, l.within) in
-            inr (
-              get_or n.terms l.earlier 0,
-              get_or n.terms l.later 0,
-              Contains-get_or n.terms l.earlier 0 within,
-              Contains-get_or n.terms l.later 0 l.within,
-              are.rising l.earlier l.later 0 before l.within,
-              l.is,
-            )
-      ]
+    one_owner : (p q : ℕ) (x : Atom) → p < length ws → q < length ws → Contains (atoms_at ws p) x → Contains (atoms_at ws q) x → p ≡ q
+    one_owner p q (atom.Node r) lp lq hp hq = node_is p r hp ∙ sym (node_is q r hq)
+    one_owner p q (atom.Same s t) lp lq hp hq = one_equality p q s t (same_is p s t lp hp) (same_is q s t lq hq)
+
+    pub distinct_atoms : (cs : List ℕ) → AreRising cs → ((p : ℕ) → Contains cs p → p < length ws) → AreDistinct (atoms_of ws cs)
+    distinct_atoms cs up within = distinct_flat (atoms_at ws) cs up (λ p h. distinct_at p) (λ p q x hp hq. one_owner p q x (within p hp) (within q hq))
+
+-- an atom is that of the variable after its place
+pub record IsAtomOf (atoms : List Atom) (v : ℕ) (a : Atom) : Type 0 where
+  pub low : 1 ≤ v
+  pub high : v ≤ length atoms
+  pub is : atom_of atoms v ≡ a
 
 module _ (ws : List ℕ) (root : ℕ) (n : Numbers) (num : IsNumbering ws root n) where
-  pub nodes_below : HasNodesBelow ws root (atoms_of n.conditions n.terms)
-  nodes_below p h =
-      elim (atom_cases n num.numbers (atom.Node p) h) [
-        | inl c ↦ let same : c.0 ≡ p = cc in num.conditions_below p (subst (Contains n.conditions) same c.1)
-        | inr c ↦ cc
-      ]
+  -- the atoms are those of all conditions
+  pub atoms_are : n.atoms ≡ atoms_of ws n.conditions
+  atoms_are = num.numbered.are_atoms ∙ ap (atoms_of ws) (take_all (length n.conditions) n.conditions (omega arith))
 
-  pub pairs_below : HasPairsBelow ws root (atoms_of n.conditions n.terms)
-  pairs_below s t h =
-      elim (atom_cases n num.numbers (atom.Same s t) h) [
-        | inl c ↦ cc
-        | inr c ↦
-            let es : s ≡ c.0 = cc in
-            let et : t ≡ c.1 = cc in
-            record {
-              first = num.terms_below s (subst (Contains n.terms) (sym es) c.2);
-              second = num.terms_below t (subst (Contains n.terms) (sym et) c.3);
-              ordered = omega (arith, c.4, es, et);
-            }
-      ]
+  -- the atoms of a condition have its variable and the next
+  atom_found : (p j : ℕ) (a : Atom) → Contains n.conditions p → j < length (atoms_at ws p) → get_or (atoms_at ws p) j (atom.Node 0) ≡ a → IsAtomOf n.atoms (node_of n p + j) a
+  unfolding node_of
+  atom_found p j a h lt e =
+      let k = h.0 in
+      let place : get_or n.conditions k 0 ≡ p = get_or_default n.conditions k 0 p h.1 ∙ h.2 in
+      let start : node_of n p ≡ before (atoms_at ws) n.conditions k + 1 = ap (λ r. get_or n.nodes r 0) (rank_is n.conditions k p num.numbers.rising h.1 h.2) ∙ num.numbered.starts k h.1 in
+      let at = flat_at (atoms_at ws) n.conditions k j (atom.Node 0) h.1 (subst (λ q. j < length (atoms_at ws q)) (sym place) lt) in
+      let spot : node_of n p + j - 1 ≡ before (atoms_at ws) n.conditions k + j = omega (arith, start) in
+      record {
+        low = omega (arith, start);
+        high = omega (arith, start, at.0, ap length atoms_are);
+        is =
+            ap (λ i. get_or n.atoms i (atom.Node 0)) spot ∙ ap (λ xs. get_or xs (before (atoms_at ws) n.conditions k + j) (atom.Node 0)) atoms_are ∙ at.1
+            ∙ ap (λ q. get_or (atoms_at ws q) j (atom.Node 0)) place ∙ e;
+      }
 
-  pub all_pairs : HasAllPairs ws root (atoms_of n.conditions n.terms)
-  all_pairs s t b = pair_in n num.numbers s t (num.all_terms s b.first) (num.all_terms t b.second) b.ordered
+  pub node_found : (p : ℕ) → Contains n.conditions p → IsAtomOf n.atoms (node_of n p) (atom.Node p)
+  unfolding atoms_at
+  node_found p h =
+      let none : node_of n p + 0 ≡ node_of n p = omega arith in
+      subst (λ v. IsAtomOf n.atoms v (atom.Node p)) none (atom_found p 0 (atom.Node p) h (omega arith) refl)
+
+  pub same_found : (p w : ℕ) → Contains n.conditions p → get_or ws p 0 ≡ w → kind_of w ≡ Some kind.Equal → IsAtomOf n.atoms (node_of n p + 1) (atom.Same (left_of w) (right_of w))
+  same_found p w h at e =
+      let two = same_at ws p w at e in
+      atom_found p 1 (atom.Same (left_of w) (right_of w)) h (omega (arith, ap length two)) (ap (λ xs. get_or xs 1 (atom.Node 0)) two)
+
+  pub atom_in : (p : ℕ) (a : Atom) → Contains n.conditions p → Contains (atoms_at ws p) a → Contains n.atoms a
+  atom_in p a h i = subst (λ xs. Contains xs a) (sym atoms_are) (flat_item (atoms_at ws) n.conditions p a h i)
+
+  pub atom_from : (a : Atom) → Contains n.atoms a → (p : ℕ) × Contains n.conditions p × Contains (atoms_at ws p) a
+  atom_from a h = unflat_item (atoms_at ws) n.conditions a (subst (λ xs. Contains xs a) atoms_are h)
+
+  pub atoms_distinct : IsWellFormed ws → AreDistinct n.atoms
+  atoms_distinct wf = subst AreDistinct (sym atoms_are) (distinct_atoms ws wf n.conditions num.numbers.rising num.within)

@@ -1,18 +1,16 @@
 -- Each clause is that of its origin.
-use Rattle.std.proofs.Common.{◌≡◌, ◌≢◌, ℕ, zero, suc, ◌+◌, ◌<◌, ℤ, Bool, true, false, ◌&&◌, ◌||◌, List, [], ◌∷◌, ◌++◌, length, map, get_or, Option, Some, nat_eq, refl, ap, ◌∙◌, sym, subst, arith, inl, inr, if◌then◌else◌, append_assoc, length-append}
-use Rattle.std.{specs.Prelude.{slice_get, Contains}, specs.List.{flat_map, list_all}, proofs.lemmas.Bool.{and_from, or_parts, lt-ltb, eqb-false}}
-use Rattle.std.{proofs.lemmas.Option.slice_get-get_or, proofs.lemmas.List.{get_or_append_left, get_or_at, get_or_default}}
-use Rattle.std.proofs.lemmas.List.Elements.{Contains-append_left, Contains-append_right, Contains-append_cases}
-use Rattle.ct_word.{specs.declared.kinds.Kind.Kind, specs.Word.{kind_of, left_of, right_of}, specs.WellFormed.is_place_of}
+use Rattle.std.proofs.Common.{◌≡◌, ℕ, zero, suc, ◌+◌, ℤ, true, ◌&&◌, List, [], ◌∷◌, ◌++◌, length, map, get_or, Option, Some, refl, ap, ◌∙◌, sym, subst, arith, inl, inr}
+use Rattle.std.{specs.Prelude.{slice_get, Contains}, specs.List.{flat_map, list_all}, proofs.lemmas.Bool.{and_from, lt-ltb}}
+use Rattle.std.{proofs.lemmas.Option.slice_get-get_or, proofs.lemmas.List.Elements.Contains-append_cases}
+use Rattle.ct_word.{specs.declared.kinds.Kind.Kind, specs.Word.{kind_of, left_of, right_of}}
 use Rattle.ct_word.proofs.Items.{no_item, item_cases, first_item, later_item}
 use Rattle.ct_derivation.{specs.declared.literals.Atom.Atom, specs.declared.literals.Lit.Lit, specs.declared.steps.Why.Why}
-use Rattle.ct_derivation.{specs.Definition.{defining, definition}, specs.Path.{is_constant, pair_of, ends_clause}, specs.Variables.{signed, is_literal}}
+use Rattle.ct_derivation.{specs.Definition.{defining, definition}, specs.Variables.{signed, is_literal}}
 use Rattle.ct_cnf.{specs.declared.entries.Entry.Entry, specs.declared.numbers.Numbers.Numbers, specs.Making.IsNumbering}
-use Rattle.ct_cnf.{specs.Encoding.{atom_of, named, through, origin_clause, AreOrigins}, proofs.Shapes.{path_of_two, path_of_three, two_clause, three_clause}}
-use Rattle.ct_cnf.specs.Lists.{yes_of, no_of, clause_of, why_of, entry, node_of, same_of, atoms_of, equal_entries, not_entries, and_entries, or_entries, defining_entries, definition_entries, path_entry, over_entries, apart_entries, between_entries, into_entries, paths_after, all_entries, AreFieldsNumbered}
+use Rattle.ct_cnf.specs.Encoding.{atom_of, named, through, origin_clause, AreOrigins}
+use Rattle.ct_cnf.specs.Lists.{yes_of, no_of, clause_of, why_of, entry, node_of, equal_entries, not_entries, and_entries, or_entries, defining_entries, definition_entries, all_entries, AreFieldsNumbered}
 use Rattle.ct_cnf.proofs.Atoms.{IsAtomOf, node_found, same_found}
 use Rattle.ct_word.specs.declared.kinds.Kind.TheVariants as kind
-use Rattle.ct_word.specs.declared.kinds.Class.TheVariants as class
 use Rattle.ct_derivation.specs.declared.literals.Atom.TheVariants as atom
 use Rattle.ct_derivation.specs.declared.steps.Why.TheVariants as why
 use Rattle.ct_derivation.specs.Literal as literal
@@ -45,10 +43,10 @@ each_flat P f (x ∷ xs) e = each_append P (f x) (flat_map f xs) (e x (first_ite
 
 module _ (ws : List ℕ) (root : ℕ) (n : Numbers) (num : IsNumbering ws root n) where
   abbrev atoms : List Atom
-  atoms = atoms_of n.conditions n.terms
+  atoms = n.atoms
 
   abbrev Found : ℕ → Atom → Type 0
-  Found v a = IsAtomOf n num.numbers v a
+  Found v a = IsAtomOf n.atoms v a
 
   -- an entry has the clause of its reason, over the variables
   pub record IsJust (e : Entry) : Type 0 where
@@ -90,16 +88,10 @@ module _ (ws : List ℕ) (root : ℕ) (n : Numbers) (num : IsNumbering ws root n
   }
 
   node : (p : ℕ) → Contains n.conditions p → Found (node_of n p) (atom.Node p)
-  node p h = node_found n num.numbers p h
-
-  same : (s t : ℕ) → Contains n.terms s → Contains n.terms t → s ≢ t → Found (same_of n s t) (pair_of s t)
-  same s t hs ht ne = same_found n num.numbers s t hs ht ne
-
-  in_order : (s t : ℕ) → s < t → pair_of s t ≡ atom.Same s t
-  in_order s t lt = ap (λ b. if b then atom.Same s t else atom.Same t s) (lt-ltb s t lt)
+  node p h = node_found ws root n num p h
 
   -- definitions
-  module _ (p w : ℕ) (listed : Contains n.conditions p) (at : slice_get ws p ≡ Some w) where
+  module _ (p w : ℕ) (listed : Contains n.conditions p) (at : slice_get ws p ≡ Some w) (here : get_or ws p 0 ≡ w) where
     def_clause : (o : Option Kind) (k : ℕ) → kind_of w ≡ o → definition (slice_get ws p) p k ≡ defining o k p (left_of w) (right_of w)
     def_clause o k e = ap (λ s. definition s p k) at ∙ ap (λ q. defining q k p (left_of w) (right_of w)) e
 
@@ -112,10 +104,7 @@ module _ (ws : List ℕ) (root : ℕ) (n : Numbers) (num : IsNumbering ws root n
         each_one IsJust _
         (just_one _ _ (why.Def p 0) (no_is _ _ (node p listed)) (def_clause (Some kind.False) 0 e))
     just_defining (Some kind.Equal) e f =
-        let a = left_of w in
-        let b = right_of w in
-        let apart : a ≢ b = omega (arith, f.2) in
-        let pair : Found (same_of n a b) (atom.Same a b) = subst (Found (same_of n a b)) (in_order a b f.2) (same a b f.0 f.1 apart) in
+        let pair = same_found ws root n num p w listed here e in
         each_two IsJust _ _
         (just_two _ _ _ _ (why.Def p 0) (no_is _ _ (node p listed)) (yes_is _ _ pair) (def_clause (Some kind.Equal) 0 e))
         (just_two _ _ _ _ (why.Def p 1) (yes_is _ _ (node p listed)) (no_is _ _ pair) (def_clause (Some kind.Equal) 1 e))
@@ -142,78 +131,13 @@ module _ (ws : List ℕ) (root : ℕ) (n : Numbers) (num : IsNumbering ws root n
 
   just_definition : (p : ℕ) → Contains n.conditions p → Each IsJust (definition_entries ws n p)
   unfolding definition_entries
-  just_definition p h = just_defining p (get_or ws p 0) h (slice_get-get_or ws p 0 (num.within p h)) (kind_of (get_or ws p 0)) refl (num.fields p h)
+  just_definition p h = just_defining p (get_or ws p 0) h (slice_get-get_or ws p 0 (num.within p h)) refl (kind_of (get_or ws p 0)) refl (num.fields p h)
 
-  -- paths
-  is_term : (s : ℕ) → Contains n.terms s → is_place_of ws class.Term s ≡ true
-  is_term s h = (num.terms_below s h).term
-
-  -- the last literal is left out between constants
-  by_ends : (b : Bool) (x y z : ℤ) (l m k : Lit) (w : Why) → IsLitOf x l → IsLitOf y m → IsLitOf z k
-      → origin_clause ws root w ≡ Some (l ∷ m ∷ (if b then [] else k ∷ [])) → IsJust (entry (x ∷ y ∷ (if b then [] else z ∷ [])) w)
-  by_ends true x y z l m k w p q r e = just_two x y l m w p q e
-  by_ends false x y z l m k w p q r e = just_three x y z l m k w p q r e
-
-  just_path : (r s t : ℕ) → Contains n.terms r → Contains n.terms s → Contains n.terms t → r ≢ s → s ≢ t → r ≢ t → IsJust (path_entry ws n r t s)
-  unfolding ends_clause
-  just_path r s t hr hs ht rs st rt =
-      by_ends (is_constant ws r && is_constant ws t) _ _ _ _ _ _ (why.Path (r ∷ s ∷ t ∷ []))
-      (no_is _ _ (same r s hr hs rs)) (no_is _ _ (same s t hs ht st)) (yes_is _ _ (same r t hr ht rt))
-      (three_clause ws r s t (path_of_three ws r s t (is_term r hr) (is_term s hs) (is_term t ht) rs st rt))
-
-  over_if : (b : Bool) (r s t : ℕ) → (nat_eq s r || nat_eq s t) ≡ b → Contains n.terms r → Contains n.terms s → Contains n.terms t → r ≢ t
-      → Each IsJust (if b then [] else path_entry ws n r t s ∷ [])
-  over_if true r s t e hr hs ht rt = each_nil IsJust
-  over_if false r s t e hr hs ht rt =
-      let parts = or_parts (nat_eq s r) (nat_eq s t) e in
-      let sr : r ≢ s = λ same. eqb-false s r parts.0 (sym same) in
-      each_one IsJust _ (just_path r s t hr hs ht sr (eqb-false s t parts.1) rt)
-
-  just_over : (r t s : ℕ) → Contains n.terms r → Contains n.terms t → r ≢ t → Contains n.terms s → Each IsJust (over_entries ws n r t s)
-  unfolding over_entries
-  just_over r t s hr ht rt hs = over_if (nat_eq s r || nat_eq s t) r s t refl hr hs ht rt
-
-  apart_if : (b : Bool) (r t : ℕ) → (is_constant ws r && is_constant ws t) ≡ b → Contains n.terms r → Contains n.terms t → r ≢ t
-      → Each IsJust (if b then entry (no_of (same_of n r t) ∷ []) (why.Path (r ∷ t ∷ [])) ∷ [] else [])
-  unfolding ends_clause
-  apart_if false r t e hr ht rt = each_nil IsJust
-  apart_if true r t e hr ht rt =
-      each_one IsJust _ (just_one _ _ (why.Path (r ∷ t ∷ [])) (no_is _ _ (same r t hr ht rt))
-      (two_clause ws r t (path_of_two ws r t (is_term r hr) (is_term t ht) rt) ∙ ap (λ b. Some (literal.no_of (pair_of r t) ∷ (if b then [] else literal.yes_of (pair_of r t) ∷ []))) e))
-
-  just_between : (r t : ℕ) → Contains n.terms r → Contains n.terms t → r ≢ t → Each IsJust (between_entries ws n r t)
-  unfolding between_entries apart_entries
-  just_between r t hr ht rt =
-      each_append IsJust (apart_entries ws n r t) (flat_map (over_entries ws n r t) n.terms)
-      (apart_if (is_constant ws r && is_constant ws t) r t refl hr ht rt)
-      (each_flat IsJust (over_entries ws n r t) n.terms (λ s hs. just_over r t s hr ht rt hs))
-
-  -- terms before one in the list are smaller
-  pub front_smaller : (es ts : List ℕ) (r t : ℕ) → es ++ t ∷ ts ≡ n.terms → Contains es r → r < t
-  front_smaller es ts r t is h =
-      let at_r : get_or n.terms h.0 0 ≡ r = ap (λ xs. get_or xs h.0 0) (sym is) ∙ get_or_append_left es (t ∷ ts) 0 h.0 h.1 ∙ get_or_default es h.0 0 r h.1 ∙ h.2 in
-      let at_t : get_or n.terms (length es) 0 ≡ t = ap (λ xs. get_or xs (length es) 0) (sym is) ∙ get_or_at es t ts 0 (length es) refl in
-      let within : length es < length n.terms = omega (arith, ap length is, length-append es (t ∷ ts)) in
-      omega (arith, num.numbers.rising h.0 (length es) 0 h.1 within, at_r, at_t)
-
-  just_paths : (es ts : List ℕ) → es ++ ts ≡ n.terms → Each IsJust (paths_after ws n es ts)
-  unfolding into_entries
-  just_paths es [] is = each_nil IsJust
-  just_paths es (t ∷ ts) is =
-      each_append IsJust (into_entries ws n es t) (paths_after ws n (es ++ t ∷ []) ts)
-      (each_flat IsJust (λ r. between_entries ws n r t) es (λ r hr.
-      let lt = front_smaller es ts r t is hr in
-      just_between r t (subst (λ xs. Contains xs r) is (Contains-append_left es (t ∷ ts) r hr))
-      (subst (λ xs. Contains xs t) is (Contains-append_right es (t ∷ ts) t (first_item ts t))) (omega (arith, lt))))
-      (just_paths (es ++ t ∷ []) ts (append_assoc es (t ∷ []) ts ∙ is))
-
-  pub just_all : Each IsJust (all_entries ws root n)
+  just_all : Each IsJust (all_entries ws root n)
   unfolding all_entries
   just_all =
-      each_cons IsJust _ (flat_map (definition_entries ws n) n.conditions ++ paths_after ws n [] n.terms) (just_one _ _ why.Root (yes_is _ _ (node root num.top)) refl)
-      (each_append IsJust (flat_map (definition_entries ws n) n.conditions) (paths_after ws n [] n.terms)
+      each_cons IsJust _ (flat_map (definition_entries ws n) n.conditions) (just_one _ _ why.Root (yes_is _ _ (node root num.top)) refl)
       (each_flat IsJust (definition_entries ws n) n.conditions (λ p h. just_definition p h))
-      (just_paths [] n.terms refl))
 
   given : (es : List Entry) → Each IsJust es → map (origin_clause ws root) (map why_of es) ≡ map (λ ls. Some (through atoms ls)) (map clause_of es)
   given [] j = refl

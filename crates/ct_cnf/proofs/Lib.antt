@@ -1,11 +1,9 @@
 pub mod Added
 pub mod Atoms
-pub mod Counting
+pub mod Fields
+pub mod Flat
 pub mod Justified
-pub mod Longer
 pub mod Made
 pub mod Numbered
 pub mod Origins
-pub mod Pairs
-pub mod Shapes
-pub mod Walks
+pub mod Steps

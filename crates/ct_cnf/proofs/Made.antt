@@ -1,14 +1,14 @@
 -- The encoding that numbers make.
-use Rattle.std.proofs.Common.{◌≡◌, ◌<◌, ◌^◌, ℕ, List, length, map, ap, ◌∙◌, sym, arith}
+use Rattle.std.proofs.Common.{◌≡◌, ℕ, List, length, map, ap, ◌∙◌, sym, arith}
 use Rattle.ct_derivation.specs.Variables.{is_clause, IsCnf}
-use Rattle.ct_cnf.{specs.declared.encoding.Encoded.Encoded, specs.declared.numbers.Numbers.Numbers, specs.Lists.{clause_of, why_of, atoms_of, all_entries}}
-use Rattle.ct_cnf.{specs.Making.{IsNumbering, IsMadeOf}, proofs.Atoms.few_atoms, proofs.Justified.are_literals}
+use Rattle.ct_cnf.{specs.declared.encoding.Encoded.Encoded, specs.declared.numbers.Numbers.Numbers, specs.Lists.{clause_of, why_of, all_entries}}
+use Rattle.ct_cnf.{specs.Making.{IsNumbering, IsMadeOf}, proofs.Numbered.atoms_fit, proofs.Justified.are_literals}
 
 module _ (ws : List ℕ) (root : ℕ) (n : Numbers) where
   abbrev pub encoding : Encoded
   encoding = record {
-    cnf = record { vars = length (atoms_of n.conditions n.terms); clauses = map clause_of (all_entries ws root n) };
-    atoms = atoms_of n.conditions n.terms;
+    cnf = record { vars = length n.atoms; clauses = map clause_of (all_entries ws root n) };
+    atoms = n.atoms;
     origins = map why_of (all_entries ws root n);
   }
 
@@ -19,9 +19,6 @@ module _ (ws : List ℕ) (root : ℕ) (n : Numbers) where
     origins = made.origins i;
   })
 
-  pub atoms_fit : IsNumbering ws root n → length (atoms_of n.conditions n.terms) < 2 ^ 31
-  atoms_fit num = few_atoms n.conditions n.terms num.numbers.few_conditions num.numbers.few_terms
-
   pub is_cnf : IsNumbering ws root n → IsCnf encoding.cnf
   unfolding is_clause
-  is_cnf num = record { vars = omega (arith, atoms_fit num); clauses = are_literals ws root n num }
+  is_cnf num = record { vars = omega (arith, atoms_fit ws root n num); clauses = are_literals ws root n num }

@@ -1,8 +1,9 @@
 -- What an encoding of a question is: its atoms, and the reason of each clause.
-use Rattle.std.specs.Prelude.{◌≡◌, ◌≢◌, ◌<◌, ◌≤◌, ◌-◌, ℕ, ℤ, Bool, true, List, [], ◌∷◌, map, length, Option, Some, None, slice_get, slice_index_or, Contains}
+use Rattle.std.specs.Prelude.{◌≡◌, ◌<◌, ◌-◌, ℕ, ℤ, Bool, true, List, [], ◌∷◌, map, length, Option, Some, None, slice_get, slice_index_or, Contains}
+use Rattle.ct_word.specs.declared.kinds.Kind.TheVariants as kind
 use Rattle.ct_word.specs.declared.kinds.Class.TheVariants as class
+use Rattle.ct_word.specs.Word.{kind_of, left_of, right_of}
 use Rattle.ct_word.specs.WellFormed.{is_place_of}
-use Rattle.ct_word.specs.Reading.{term_at}
 use Rattle.ct_word.specs.Stands.{Below}
 use Rattle.ct_derivation.specs.declared.literals.Atom.{Atom}
 use Rattle.ct_derivation.specs.declared.literals.Atom.TheVariants as atom
@@ -12,7 +13,7 @@ use Rattle.ct_derivation.specs.declared.steps.Why.TheVariants as why
 use Rattle.ct_derivation.specs.Literal.{Clause, yes_of}
 use Rattle.ct_derivation.specs.Definition.{definition}
 use Rattle.ct_derivation.specs.Models.{is_satisfied}
-use Rattle.ct_derivation.specs.Path.{path_clause, is_constant}
+use Rattle.ct_derivation.specs.Path.{path_clause}
 use Rattle.ct_derivation.specs.Variables.{Signed, signed}
 
 -- the atom of a variable, which is numbered from 1
@@ -58,13 +59,9 @@ pub record IsPairBelow (words : List ℕ) (root s t : ℕ) : Type 0 where
 abbrev pub HasDefinitions : List ℕ → ℕ → List Why → Type 0
 HasDefinitions words root origins = (p k : ℕ) (c : Clause) → IsConditionBelow words root p → definition (slice_get words p) p k ≡ Some c → Contains origins (why.Def p k)
 
--- every two terms with a third one between them, the end with the smaller place first
-abbrev pub HasPaths : List ℕ → ℕ → List Why → Type 0
-HasPaths words root origins = (r s t : ℕ) → IsPairBelow words root r t → IsTermBelow words root s → s ≢ r → s ≢ t → Contains origins (why.Path (r ∷ s ∷ t ∷ []))
-
--- every two different constants, the smaller place first
-abbrev pub HasConstants : List ℕ → ℕ → List Why → Type 0
-HasConstants words root origins = (c d : ℕ) → IsPairBelow words root c d → is_constant words c ≡ true → is_constant words d ≡ true → Contains origins (why.Path (c ∷ d ∷ []))
+-- no origin is a path: equality is left to what is asked later
+abbrev pub HasNoPaths : List Why → Type 0
+HasNoPaths origins = (ts : List ℕ) → Contains origins (why.Path ts) → ⊥
 
 -- the places of atoms stand below the root
 abbrev pub HasNodesBelow : List ℕ → ℕ → List Atom → Type 0
@@ -73,33 +70,28 @@ HasNodesBelow words root atoms = (p : ℕ) → Contains atoms (atom.Node p) → 
 abbrev pub HasPairsBelow : List ℕ → ℕ → List Atom → Type 0
 HasPairsBelow words root atoms = (s t : ℕ) → Contains atoms (atom.Same s t) → IsPairBelow words root s t
 
--- every two distinct terms below the root have an atom
-abbrev pub HasAllPairs : List ℕ → ℕ → List Atom → Type 0
-HasAllPairs words root atoms = (s t : ℕ) → IsPairBelow words root s t → Contains atoms (atom.Same s t)
+-- the two terms of an equal word that is the root or is reached from it
+pub record IsEqualityBelow (words : List ℕ) (root s t : ℕ) : Type 0 where
+  pub place : ℕ
+  pub condition : IsConditionBelow words root place
+  pub word : ℕ
+  pub there : slice_get words place ≡ Some word
+  pub kind : kind_of word ≡ Some kind.Equal
+  pub first : left_of word ≡ s
+  pub second : right_of word ≡ t
+
+-- each equality among the atoms is that of an equal word that is the root or is reached from it
+abbrev pub HasOwnEqualities : List ℕ → ℕ → List Atom → Type 0
+HasOwnEqualities words root atoms = (s t : ℕ) → Contains atoms (atom.Same s t) → IsEqualityBelow words root s t
+
+-- and the equality of each of these words is among the atoms
+abbrev pub HasEachEquality : List ℕ → ℕ → List Atom → Type 0
+HasEachEquality words root atoms = (s t : ℕ) → IsEqualityBelow words root s t → Contains atoms (atom.Same s t)
 
 -- no item stands twice
 abbrev pub AreDistinct : {X : Type 0} → List X → Type 0
 AreDistinct {X} xs = (i j : ℕ) (d : X) → i < length xs → j < length xs → slice_index_or xs i d ≡ slice_index_or xs j d → i ≡ j
 
--- the places of the distinct terms below the root: each place once, and each for another term
-pub record AreTermsBelow (words : List ℕ) (root : ℕ) (ts : List ℕ) : Type 0 where
-  pub each : (p : ℕ) → Contains ts p → IsTermBelow words root p
-  pub all : (p : ℕ) → IsTermBelow words root p → Contains ts p
-  pub once : AreDistinct ts
-  pub apart : (p q : ℕ) → Contains ts p → Contains ts q → term_at words p ≡ term_at words q → p ≡ q
-
--- at most so many distinct terms stand below the root
-abbrev pub HasTermsUpTo : ℕ → List ℕ → ℕ → Type 0
-HasTermsUpTo n words root = (ts : List ℕ) × AreTermsBelow words root ts × (length ts ≤ n)
-
--- more distinct terms than so many stand below the root
-abbrev pub HasTermsPast : ℕ → List ℕ → ℕ → Type 0
-HasTermsPast n words root = (ts : List ℕ) × AreTermsBelow words root ts × (n < length ts)
-
 -- an assignment of atoms satisfies the clause of each of these origins
 abbrev pub SatisfiesOrigins : List ℕ → ℕ → (Atom → Bool) → List Why → Type 0
 SatisfiesOrigins words root t origins = (w : Why) (c : Clause) → Contains origins w → origin_clause words root w ≡ Some c → is_satisfied t c ≡ true
-
--- an assignment of atoms satisfies the clause of each path, of any length, over terms below the root
-abbrev pub SatisfiesPaths : List ℕ → ℕ → (Atom → Bool) → Type 0
-SatisfiesPaths words root t = (path : List ℕ) (c : Clause) → ((p : ℕ) → Contains path p → IsTermBelow words root p) → path_clause words path ≡ Some c → is_satisfied t c ≡ true

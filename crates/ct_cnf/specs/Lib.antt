@@ -1,4 +1,3 @@
 pub mod Encoding
 pub mod Lists
-pub mod Marks
 pub mod Making

@@ -1,21 +1,16 @@
 -- The lists that an encoding is made of.
-use Rattle.std.specs.Prelude.{◌≡◌, ◌<◌, ◌≤◌, ◌^◌, ◌+◌, ◌-◌, ◌*◌, ◌/◌, ℕ, ℤ, pos, zero, suc, Bool, true, false, ◌&&◌, ◌||◌, List, [], ◌∷◌, ◌++◌, map, length, Option, Some, nat_eq, nat_lt, slice_index_or, Contains, if◌then◌else◌}
+use Rattle.std.specs.Prelude.{◌≡◌, ◌<◌, ◌^◌, ◌+◌, ℕ, ℤ, pos, suc, List, [], ◌∷◌, length, Option, Some, nat_eq, slice_index_or, take, Contains, if◌then◌else◌}
 use Rattle.std.specs.List.{flat_map}
 use Rattle.std.proofs.Math.IntN.{neg_ℤ}
 use Rattle.ct_word.specs.declared.kinds.Kind.{Kind}
 use Rattle.ct_word.specs.declared.kinds.Kind.TheVariants as kind
-use Rattle.ct_word.specs.declared.kinds.Class.{Class}
-use Rattle.ct_word.specs.declared.kinds.Class.TheVariants as class
-use Rattle.ct_word.specs.WellFormed.{is_place_of}
 use Rattle.ct_word.specs.Word.{kind_of, left_of, right_of}
 use Rattle.ct_derivation.specs.declared.literals.Atom.{Atom}
 use Rattle.ct_derivation.specs.declared.literals.Atom.TheVariants as atom
 use Rattle.ct_derivation.specs.declared.steps.Why.{Why}
 use Rattle.ct_derivation.specs.declared.steps.Why.TheVariants as why
-use Rattle.ct_derivation.specs.Path.{is_constant}
 use Rattle.ct_cnf.specs.declared.numbers.Numbers.{Numbers}
 use Rattle.ct_cnf.specs.declared.entries.Entry.{Entry}
-use Rattle.ct_cnf.specs.Marks.{is_marked}
 
 -- the literals of a variable
 abbrev pub yes_of : ℕ → ℤ
@@ -33,52 +28,38 @@ why_of e = e.why
 abbrev pub entry : List ℤ → Why → Entry
 entry c w = record { clause = c; why = w }
 
--- whether a marked place is of a class
-abbrev pub is_kept : List ℕ → List Bool → Class → ℕ → Bool
-is_kept words marks c p = is_marked marks p && is_place_of words c p
+-- the equality of the fields of an equal word
+abbrev pub equality_of : Option Kind → ℕ → ℕ → List Atom
+equality_of (Some kind.Equal) a b = atom.Same a b ∷ []
+equality_of _ a b = []
 
--- the list, and one more where it passes a test
-abbrev pub with_next : Bool → ℕ → List ℕ → List ℕ
-with_next true n ps = ps ++ n ∷ []
-with_next false n ps = ps
+-- the atoms of the condition at a place: its truth, and the equality of its fields
+unfoldable pub atoms_at : List ℕ → ℕ → List Atom
+atoms_at words p = let w = slice_index_or words p 0 in atom.Node p ∷ equality_of (kind_of w) (left_of w) (right_of w)
 
--- the numbers below n that pass a test, in order
-abbrev pub picked : (ℕ → Bool) → ℕ → List ℕ
-picked test zero = []
-picked test (suc n) = with_next (test n) n (picked test n)
+-- those of these conditions
+abbrev pub atoms_of : List ℕ → List ℕ → List Atom
+atoms_of words conditions = flat_map (atoms_at words) conditions
 
--- the pairs of these terms with an earlier one
-abbrev pub pairs_with : List ℕ → ℕ → List Atom
-pairs_with earlier t = map (λ s. atom.Same s t) earlier
+-- the atoms of the first conditions, and the variable of each of these
+pub record AreNumbered (words conditions : List ℕ) (count : ℕ) (nodes : List ℕ) (atoms : List Atom) : Type 0 where
+  pub are_atoms : atoms ≡ atoms_of words (take count conditions)
+  pub long : length nodes ≡ count
+  pub starts : (k : ℕ) → k < count → slice_index_or nodes k 0 ≡ length (atoms_of words (take k conditions)) + 1
 
--- the pairs of terms, those of a later term later
-abbrev pub pairs_after : List ℕ → List ℕ → List Atom
-pairs_after earlier [] = []
-pairs_after earlier (t ∷ ts) = pairs_with earlier t ++ pairs_after (earlier ++ t ∷ []) ts
+-- the numbers of these conditions
+pub record AreNumbersOf (words places : List ℕ) (n : Numbers) : Type 0 where
+  pub conditions : n.conditions ≡ places
+  pub numbered : AreNumbered words places (length places) n.nodes n.atoms
 
--- the atoms: conditions, then pairs of terms
-unfoldable pub atoms_of : List ℕ → List ℕ → List Atom
-atoms_of conditions terms = map atom.Node conditions ++ pairs_after [] terms
+-- where a place first stands in a list
+abbrev pub rank_of : List ℕ → ℕ → ℕ
+rank_of [] p = 0
+rank_of (c ∷ cs) p = if nat_eq c p then 0 else suc (rank_of cs p)
 
--- how many pairs there are of so many terms
-abbrev pub pairs_of : ℕ → ℕ
-pairs_of n = n * (n - 1) / 2
-
--- the place of a condition or a term in its list
-abbrev pub rank_of : Numbers → ℕ → ℕ
-rank_of n p = slice_index_or n.ranks p 0
-
--- the variable of a condition
+-- the variable of a condition; where it is an equal word, the next one is that of its equality
 unfoldable pub node_of : Numbers → ℕ → ℕ
-node_of n p = rank_of n p + 1
-
--- the variable of two terms, the smaller place first
-abbrev pub pair_variable : Numbers → ℕ → ℕ → ℕ
-pair_variable n s t = length n.conditions + pairs_of (rank_of n t) + rank_of n s + 1
-
--- the variable of two terms
-unfoldable pub same_of : Numbers → ℕ → ℕ → ℕ
-same_of n s t = if nat_lt s t then pair_variable n s t else pair_variable n t s
+node_of n p = slice_index_or n.nodes (rank_of n.conditions p) 0
 
 -- the clauses that define a condition by its fields, over variables
 unfoldable pub equal_entries : ℕ → ℕ → ℕ → List Entry
@@ -105,7 +86,7 @@ or_entries p node a b =
 abbrev pub defining_entries : Numbers → Option Kind → ℕ → ℕ → ℕ → List Entry
 defining_entries n (Some kind.True) p a b = entry (yes_of (node_of n p) ∷ []) (why.Def p 0) ∷ []
 defining_entries n (Some kind.False) p a b = entry (no_of (node_of n p) ∷ []) (why.Def p 0) ∷ []
-defining_entries n (Some kind.Equal) p a b = equal_entries p (node_of n p) (same_of n a b)
+defining_entries n (Some kind.Equal) p a b = equal_entries p (node_of n p) (node_of n p + 1)
 defining_entries n (Some kind.Not) p a b = not_entries p (node_of n p) (node_of n a)
 defining_entries n (Some kind.And) p a b = and_entries p (node_of n p) (node_of n a) (node_of n b)
 defining_entries n (Some kind.Or) p a b = or_entries p (node_of n p) (node_of n a) (node_of n b)
@@ -119,73 +100,27 @@ word_entries n p w = defining_entries n (kind_of w) p (left_of w) (right_of w)
 unfoldable pub definition_entries : List ℕ → Numbers → ℕ → List Entry
 definition_entries words n p = word_entries n p (slice_index_or words p 0)
 
--- that the ends of a path are equal; left out where they are different constants
-abbrev pub end_literals : List ℕ → Numbers → ℕ → ℕ → List ℤ
-end_literals words n r t = if is_constant words r && is_constant words t then [] else yes_of (same_of n r t) ∷ []
-
--- the path from r over s to t
-abbrev pub path_entry : List ℕ → Numbers → ℕ → ℕ → ℕ → Entry
-path_entry words n r t s = entry (no_of (same_of n r s) ∷ no_of (same_of n s t) ∷ end_literals words n r t) (why.Path (r ∷ s ∷ t ∷ []))
-
--- the same where s is no end
-unfoldable pub over_entries : List ℕ → Numbers → ℕ → ℕ → ℕ → List Entry
-over_entries words n r t s = if nat_eq s r || nat_eq s t then [] else path_entry words n r t s ∷ []
-
--- that two constants differ
-unfoldable pub apart_entries : List ℕ → Numbers → ℕ → ℕ → List Entry
-apart_entries words n r t =
-    if is_constant words r && is_constant words t then entry (no_of (same_of n r t) ∷ []) (why.Path (r ∷ t ∷ [])) ∷ [] else []
-
--- the paths from r to t
-unfoldable pub between_entries : List ℕ → Numbers → ℕ → ℕ → List Entry
-between_entries words n r t = apart_entries words n r t ++ flat_map (over_entries words n r t) n.terms
-
--- the paths to t from the earlier terms
-unfoldable pub into_entries : List ℕ → Numbers → List ℕ → ℕ → List Entry
-into_entries words n earlier t = flat_map (λ r. between_entries words n r t) earlier
-
--- the paths to these terms from earlier ones
-abbrev pub paths_after : List ℕ → Numbers → List ℕ → List ℕ → List Entry
-paths_after words n earlier [] = []
-paths_after words n earlier (t ∷ ts) = into_entries words n earlier t ++ paths_after words n (earlier ++ t ∷ []) ts
-
 -- all clauses
 unfoldable pub all_entries : List ℕ → ℕ → Numbers → List Entry
-all_entries words root n =
-    entry (yes_of (node_of n root) ∷ []) why.Root ∷ (flat_map (definition_entries words n) n.conditions ++ paths_after words n [] n.terms)
+all_entries words root n = entry (yes_of (node_of n root) ∷ []) why.Root ∷ flat_map (definition_entries words n) n.conditions
 
--- the lists and ranks of places below n
-pub record AreCounted (words : List ℕ) (marks : List Bool) (n : ℕ) (conditions terms ranks : List ℕ) : Type 0 where
-  pub are_conditions : conditions ≡ picked (is_kept words marks class.Cond) n
-  pub are_terms : terms ≡ picked (is_kept words marks class.Term) n
-  pub long : length ranks ≡ n
-  pub condition_ranks : (p : ℕ) → p < n → is_kept words marks class.Cond p ≡ true → slice_index_or ranks p 0 ≡ length (picked (is_kept words marks class.Cond) p)
-  pub term_ranks : (p : ℕ) → p < n → is_kept words marks class.Term p ≡ true → slice_index_or ranks p 0 ≡ length (picked (is_kept words marks class.Term) p)
+-- places that go up
+abbrev pub AreRising : List ℕ → Type 0
+AreRising places = (i j d : ℕ) → i < j → j < length places → slice_index_or places i d < slice_index_or places j d
 
--- the rank of a place is where it stands in a list
-pub record IsRanked (list ranks : List ℕ) (p : ℕ) : Type 0 where
-  pub place : p < length ranks
-  pub within : slice_index_or ranks p 0 < length list
-  pub there : slice_index_or list (slice_index_or ranks p 0) 0 ≡ p
-
--- the conditions and the terms are ranked, the terms go up, and both are few enough to number
+-- the conditions go up, and each has a variable, to which 1 may be added
 pub record AreNumbers (n : Numbers) : Type 0 where
-  pub few_conditions : length n.conditions ≤ 2 ^ 28
-  pub few_terms : length n.terms ≤ 64
-  pub conditions : (p : ℕ) → Contains n.conditions p → IsRanked n.conditions n.ranks p
-  pub terms : (p : ℕ) → Contains n.terms p → IsRanked n.terms n.ranks p
-  pub condition_ranks : (k d : ℕ) → k < length n.conditions → rank_of n (slice_index_or n.conditions k d) ≡ k
-  pub term_ranks : (k d : ℕ) → k < length n.terms → rank_of n (slice_index_or n.terms k d) ≡ k
-  pub rising : (i j d : ℕ) → i < j → j < length n.terms → slice_index_or n.terms i d < slice_index_or n.terms j d
+  pub rising : AreRising n.conditions
+  pub long : length n.nodes ≡ length n.conditions
+  pub small : (k : ℕ) → k < length n.conditions → slice_index_or n.nodes k 0 + 1 < 2 ^ 31
 
--- the fields of a condition of this kind are numbered
+-- the fields of a condition of this kind that are conditions have variables
 abbrev pub AreFieldsNumbered : Numbers → Option Kind → ℕ → ℕ → Type 0
-AreFieldsNumbered n (Some kind.Equal) a b = Contains n.terms a × Contains n.terms b × (a < b)
 AreFieldsNumbered n (Some kind.Not) a b = Contains n.conditions a
 AreFieldsNumbered n (Some kind.And) a b = Contains n.conditions a × Contains n.conditions b
 AreFieldsNumbered n (Some kind.Or) a b = Contains n.conditions a × Contains n.conditions b
 AreFieldsNumbered n _ a b = Unit {0}
 
--- the fields of the condition whose word this is are numbered
+-- the fields of the condition whose word this is have variables
 abbrev pub HasNumberedFields : Numbers → ℕ → Type 0
 HasNumberedFields n w = AreFieldsNumbered n (kind_of w) (left_of w) (right_of w)

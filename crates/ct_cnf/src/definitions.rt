@@ -40,7 +40,8 @@ fn add_three(
     add(alloc, entries, third, Why::Def(p, 2))
 }
 
-/// Adds the clauses of the condition at p, whose word this is.
+/// Adds the clauses of the condition at p, whose word this is. The variable of an equality is the
+/// one after that of its equal word.
 #[tactic(auto, unfolding(crate::specs::Lists::equal_entries, crate::specs::Lists::not_entries, crate::specs::Lists::and_entries, crate::specs::Lists::or_entries))]
 fn define(
     alloc: Global,
@@ -61,7 +62,7 @@ fn define(
         Some(Kind::True) => add(alloc, entries, &[is], Why::Def(p, 0)),
         Some(Kind::False) => add(alloc, entries, &[is_not], Why::Def(p, 0)),
         Some(Kind::Equal) => {
-            let same = numbers.same(left, right);
+            let same = node + 1;
             add_two(alloc, p, &[is_not, yes(same)], &[is, no(same)], entries)
         }
         Some(Kind::Not) => {

@@ -1,11 +1,10 @@
 // The encoding of a question.
 
-ghost use Rattle.std.specs.Prelude.{◌≡◌, ◌<◌, ◌^◌, true, length, IfOk, IsErrOf, Contains};
+ghost use Rattle.std.specs.Prelude.{◌≡◌, ◌<◌, ◌^◌, true, length, IfOk, Contains};
 ghost use Rattle.ct_word.specs.declared.kinds.Class.TheVariants as class;
 ghost use Rattle.ct_word.specs.WellFormed.{IsWellFormed, is_place_of};
 ghost use Rattle.ct_derivation.specs.declared.steps.Why.TheVariants as why;
 ghost use Rattle.ct_derivation.specs.Variables.{IsCnf};
-ghost use Rattle.ct_cnf.specs.declared.error.CnfError.TheVariants as fault;
 ghost use Rattle.ct_cnf.specs.Encoding as said;
 ghost use Rattle.ct_cnf.specs.Lists.{all_entries};
 ghost use Rattle.ct_cnf.specs.Making.{IsNumbering, IsMadeOf};
@@ -13,11 +12,10 @@ ghost use Rattle.ct_cnf.specs.Making.{IsNumbering, IsMadeOf};
 use crate::definitions::add_definitions;
 use crate::entries::{Entry, add, split, yes};
 use crate::error::CnfError;
-use crate::marks::mark;
-use crate::numbers::{Numbers, count};
-use crate::paths::add_paths;
+use crate::numbers::{Numbers, number};
 use ct_derivation::{Atom, Cnf, Why};
 use ct_word::{List, Memory};
+use ct_worlds::below;
 use std::alloc::Global;
 
 /// The clauses of a question, the atom of each variable from variable 1 on, and the reason of each
@@ -29,10 +27,18 @@ pub struct Encoded {
     pub origins: List<Why>,
 }
 
-/// The greatest number of distinct terms.
-const MOST_TERMS: usize = 64;
+/// The numbers of the conditions below the root.
+fn number_below(alloc: Global, words: &[u64], root: u32) -> Result<Numbers, Memory>
+    requires formed { IsWellFormed words.now }
+    requires few { length words.now < 2 ^ 28 }
+    requires condition { is_place_of words.now class.Cond root ≡ true }
+    ensures { IfOk result (λ n. IsNumbering words.now root n) }
+{
+    let conditions = below(alloc, words, &[root])?;
+    number(alloc, words, conditions)
+}
 
-/// The clauses of a question, with their reasons.
+/// That the root holds, and what defines each condition below it.
 #[tactic(auto, unfolding(crate::specs::Lists::all_entries))]
 fn entries(alloc: Global, words: &[u64], root: u32, numbers: &Numbers) -> Result<Vec<Entry>, Memory>
     requires { IsNumbering words.now root numbers.now }
@@ -41,54 +47,38 @@ fn entries(alloc: Global, words: &[u64], root: u32, numbers: &Numbers) -> Result
     let mut entries = Vec::new(alloc);
     add(alloc, &mut entries, &[yes(numbers.node(root))], Why::Root)?;
     add_definitions(alloc, words, numbers, &mut entries)?;
-    add_paths(alloc, words, numbers, &mut entries)?;
     Ok(entries)
 }
 
 /// The encoding of a question by its numbers.
-fn assemble(alloc: Global, words: &[u64], root: u32, numbers: &Numbers) -> Result<Encoded, CnfError>
-    requires { IsNumbering words.now root numbers.now }
-    ensures made { IfOk result (λ e. IsMadeOf words.now root numbers.now e) }
-    ensures fault { IsErrOf result fault.TooManyTerms → ⊥ }
+fn assemble(alloc: Global, words: &[u64], root: u32, numbers: Numbers) -> Result<Encoded, CnfError>
+    requires { IsNumbering words.now root numbers }
+    ensures { IfOk result (λ e. IsMadeOf words.now root numbers e) }
 {
-    let entries = entries(alloc, words, root, numbers)?;
-    let atoms = numbers.atoms(alloc)?;
+    let entries = entries(alloc, words, root, &numbers)?;
     let (clauses, origins) = split(alloc, entries)?;
+    let Numbers { atoms, .. } = numbers;
     let cnf = Cnf {
         vars: atoms.len() as u32,
         clauses: List::from_vec(clauses),
     };
     Ok(Encoded {
         cnf,
-        atoms: List::from_vec(atoms),
+        atoms,
         origins: List::from_vec(origins),
     })
-}
-
-/// The numbers of what stands below the root, where there are few enough terms.
-fn number(alloc: Global, words: &[u64], root: u32) -> Result<Numbers, CnfError>
-    requires formed { IsWellFormed words.now }
-    requires few { length words.now < 2 ^ 28 }
-    requires condition { is_place_of words.now class.Cond root ≡ true }
-    ensures numbering { IfOk result (λ n. IsNumbering words.now root n) }
-    ensures few_terms { IfOk result (λ _. said.HasTermsUpTo 64 words.now root) }
-    ensures many_terms { IsErrOf result fault.TooManyTerms → said.HasTermsPast 64 words.now root }
-{
-    let marks = mark(alloc, words, root)?;
-    let numbers = count(alloc, words, marks.as_slice())?;
-    if numbers.terms.len() > MOST_TERMS {
-        return Err(CnfError::TooManyTerms);
-    }
-    Ok(numbers)
 }
 
 /// The clauses of the question whether the condition at `root` can hold, each with its origin.
 /// The words are well formed and fewer than 2^28, and `root` is the place of a condition.
 ///
+/// The equalities among the atoms are those of the question alone, and nothing is said of them but
+/// by the conditions: that equality is transitive, and that constants differ, is left to what a
+/// model of the clauses is asked for (lazily, Bryant and Velev 2002).
+///
 /// # Errors
 ///
-/// `TooManyTerms` exactly where more than 64 distinct terms stand below the root, `Memory` where
-/// memory is wanting.
+/// `Memory` where memory is wanting.
 pub fn encode(alloc: Global, words: &[u64], root: u32) -> Result<Encoded, CnfError>
     requires formed { IsWellFormed words.now }
     requires few { length words.now < 2 ^ 28 }
@@ -101,12 +91,10 @@ pub fn encode(alloc: Global, words: &[u64], root: u32) -> Result<Encoded, CnfErr
     ensures terms { IfOk result (λ e. said.HasPairsBelow words.now root e.atoms) }
     ensures variables { IfOk result (λ e. e.cnf.vars ≡ length e.atoms) }
     ensures cnf { IfOk result (λ e. IsCnf e.cnf) }
-    ensures pairs { IfOk result (λ e. said.HasAllPairs words.now root e.atoms) }
-    ensures paths { IfOk result (λ e. said.HasPaths words.now root e.origins) }
-    ensures constants { IfOk result (λ e. said.HasConstants words.now root e.origins) }
-    ensures few_terms { IfOk result (λ _. said.HasTermsUpTo 64 words.now root) }
-    ensures many_terms { IsErrOf result fault.TooManyTerms → said.HasTermsPast 64 words.now root }
+    ensures own { IfOk result (λ e. said.HasOwnEqualities words.now root e.atoms) }
+    ensures equalities { IfOk result (λ e. said.HasEachEquality words.now root e.atoms) }
+    ensures no_paths { IfOk result (λ e. said.HasNoPaths e.origins) }
 {
-    let numbers = number(alloc, words, root)?;
-    assemble(alloc, words, root, &numbers)
+    let numbers = number_below(alloc, words, root)?;
+    assemble(alloc, words, root, numbers)
 }

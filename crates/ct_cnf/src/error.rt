@@ -10,9 +10,6 @@ use thiserror::Error;
 /// Why a question has no clauses.
 #[derive(Clone, Copy, Debug, PartialEq, Eq, Error)]
 pub enum CnfError {
-    /// More than 64 distinct terms stand below the root.
-    #[error("more than 64 terms")]
-    TooManyTerms,
     #[error("out of memory")]
     Memory,
 }
