@@ -7,7 +7,7 @@ use Rattle.std.proofs.lemmas.List.{length-map, length-append, get_or_append_left
 use Rattle.ct_derivation.{specs.declared.steps.Why.Why, specs.declared.steps.Step.Step, specs.Literal.Clause}
 use Rattle.ct_derivation.specs.Propagation.{Literals, Look, Unfit, Falsified, Forces, look_at, meets, are_hints, follows}
 use Rattle.ct_derivation.specs.Accepts.{over_atoms, clause_of, clauses_of, fits_lit, hints_of, gives, is_right, all_right, ends_empty}
-use Rattle.ct_cnf.{specs.Marks.is_marked, proofs.Walks.marked_within}
+use Rattle.ct_decide.{specs.Marks.is_marked, proofs.Marked.marked_within}
 use Rattle.ct_word.proofs.Items.{first_item, later_item, mapped_item, no_item}
 use Rattle.ct_decide.{specs.Translation.step, specs.Cut.{kept, rank, ranks, why_by, step_by, cut, hints_at, AreNeeded, IsHintOfLater}}
 use Rattle.ct_decide.proofs.Kept.{all_item, kept_at, length_kept, number_at, rank_front, rank_rises, rank_next, ranked}

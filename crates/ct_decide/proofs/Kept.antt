@@ -2,7 +2,7 @@
 use Rattle.std.proofs.Common.{◌≡◌, ℕ, zero, suc, ◌+◌, ◌<◌, ◌≤◌, Bool, true, false, List, [], ◌∷◌, ◌++◌, length, drop, get_or, Some, refl, ap, ◌∙◌, sym, subst, arith, inl, inr, append_assoc, if◌then◌else◌}
 use Rattle.std.{specs.Prelude.{slice_get, slice_index_or, Contains}, specs.List.list_all, proofs.lemmas.Bool.false≢true, proofs.lemmas.Option.none-some}
 use Rattle.std.{proofs.lemmas.List.drop_more, proofs.lemmas.List.Elements.All-contains, proofs.lemmas.List.Sums.AllPass-from_list_all}
-use Rattle.ct_cnf.specs.Marks.{is_marked}
+use Rattle.ct_decide.specs.Marks.{is_marked}
 use Rattle.ct_word.proofs.Items.{first_item, later_item, item_cases, no_item}
 use Rattle.ct_decide.specs.Cut.{kept, rank, ranks}
 

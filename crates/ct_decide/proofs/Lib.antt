@@ -1,3 +1,4 @@
+pub mod Marked
 pub mod Walk
 pub mod Kept
 pub mod Named
@@ -6,3 +7,11 @@ pub mod Truths
 pub mod Satisfied
 pub mod Cuts
 pub mod Worlds
+pub mod Counts
+pub mod Clauses
+pub mod Askings
+pub mod Steps
+pub mod Wider
+pub mod Pairs
+pub mod Triangles
+pub mod Along

@@ -1,5 +1,5 @@
 -- A derivation cut to the steps that its last one needs.
-use Rattle.std.specs.Prelude.{◌≡◌, ◌⊎◌, ◌<◌, ◌≤◌, ℕ, zero, suc, Bool, true, List, [], ◌∷◌, ◌++◌, map, length, replicate, drop, Some, slice_get, slice_index_or, Contains, if◌then◌else◌}
+use Rattle.std.specs.Prelude.{◌≡◌, ◌⊎◌, ◌<◌, ◌≤◌, ℕ, zero, suc, Bool, true, List, [], ◌∷◌, map, length, Some, slice_get, slice_index_or, Contains, if◌then◌else◌}
 use Rattle.ct_word.specs.Stands.{Below}
 use Rattle.ct_derivation.specs.declared.literals.Atom.{Atom}
 use Rattle.ct_derivation.specs.declared.literals.Atom.TheVariants as atom
@@ -9,11 +9,10 @@ use Rattle.ct_derivation.specs.declared.steps.Why.TheVariants as why
 use Rattle.ct_derivation.specs.declared.steps.Step.{Step}
 use Rattle.ct_derivation.specs.declared.steps.Derivation.{Derivation}
 use Rattle.ct_derivation.specs.Accepts.{hints_of}
-use Rattle.ct_sat.specs.declared.verdict.Rup.{Rup}
-use Rattle.ct_sat.specs.Literal.{is_clause}
-use Rattle.ct_cnf.specs.declared.encoding.Encoded.{Encoded}
-use Rattle.ct_cnf.specs.Marks.{is_marked}
-use Rattle.ct_decide.specs.Translation.{step, given_steps, learned_steps}
+use Rattle.ct_sat.specs.declared.log.Entry.{Entry}
+use Rattle.ct_sat.specs.declared.log.Entry.TheVariants as entry
+use Rattle.ct_decide.specs.Marks.{is_marked}
+use Rattle.ct_decide.specs.Translation.{step, steps_of}
 
 -- the atom is of the root, or of what stands below it
 abbrev pub IsAtomBelow : List ℕ → ℕ → Atom → Type 0
@@ -67,14 +66,14 @@ step_by numbers s = step s.clause (why_by numbers s.why)
 abbrev pub cut : List ℕ → List Bool → List Step → List Step
 cut numbers ms ss = kept ms (map (step_by numbers) ss)
 
--- a step has its variables and its hints among so many
-pub record IsWithin (vars count : ℕ) (r : Rup) : Type 0 where
-  pub clause : is_clause vars r.clause ≡ true
-  pub hints : (h : ℕ) → Contains r.hints h → h < count
+-- the hints of an entry; an added clause has none
+abbrev pub entry_hints : Entry → List ℕ
+entry_hints (entry.Added c) = []
+entry_hints (entry.Learned r) = r.hints
 
--- the hints of each clause of a question, which has none, and of each step of a refutation
-abbrev pub all_hints : ℕ → List Rup → List (List ℕ)
-all_hints given rs = replicate given [] ++ map (λ r. r.hints) rs
+-- the hints of each entry
+abbrev pub all_hints : List Entry → List (List ℕ)
+all_hints es = map entry_hints es
 
 -- the hints at a place
 abbrev pub hints_at : List (List ℕ) → ℕ → List ℕ
@@ -97,8 +96,8 @@ pub record AreNeeded (hints : List (List ℕ)) (from : ℕ) (marks : List Bool) 
   pub closed : (k h : ℕ) → from ≤ k → is_marked marks k ≡ true → Contains (hints_at hints k) h → is_marked marks h ≡ true
   pub each : (k : ℕ) → is_marked marks k ≡ true → (suc k ≡ length hints) ⊎ IsMarkedHint hints marks k
 
--- the clauses of the question and the steps of the refutation that are needed
-pub record IsCutOf (e : Encoded) (rs : List Rup) (d : Derivation) : Type 0 where
+-- the entries that are needed, over the atoms
+pub record IsCutOf (atoms : List Atom) (ws : List Why) (es : List Entry) (d : Derivation) : Type 0 where
   pub marks : List Bool
-  pub needed : AreNeeded (all_hints (length e.cnf.clauses) rs) 0 marks
-  pub is : d.steps ≡ kept marks (given_steps e.atoms e.cnf.clauses e.origins) ++ cut (ranks 0 marks) (drop (length e.cnf.clauses) marks) (learned_steps e.atoms rs)
+  pub needed : AreNeeded (all_hints es) 0 marks
+  pub is : d.steps ≡ cut (ranks 0 marks) marks (steps_of atoms ws es)

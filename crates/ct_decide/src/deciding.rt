@@ -1,21 +1,21 @@
 // The decision of a question.
 
-ghost use Rattle.std.specs.Prelude.{◌≡◌, ◌<◌, ◌^◌, true, length, IfOk, IsErrOf};
+ghost use Rattle.std.specs.Prelude.{◌≡◌, ◌<◌, ◌^◌, true, length, IfOk};
 ghost use Rattle.ct_word.specs.declared.kinds.Class.TheVariants as class;
 ghost use Rattle.ct_word.specs.WellFormed.{IsWellFormed, is_place_of};
 ghost use Rattle.ct_word.specs.Stands.{HasNoColumn};
-ghost use Rattle.ct_cnf.specs.Encoding.{HasTermsUpTo, HasTermsPast};
-ghost use Rattle.ct_sat.specs.Verdict.{IsModel, IsRefutation};
-ghost use Rattle.ct_decide.specs.declared.error.DecideError.TheVariants as fault;
-ghost use Rattle.ct_decide.specs.Question.{IsEncoding};
-ghost use Rattle.ct_decide.specs.Decided.{DecisionOf, IsWorldAt};
+ghost use Rattle.ct_sat.specs.Log.{added_in, ends_refuted, IsModelOf};
+ghost use Rattle.ct_decide.specs.Asking.{IsAsking, ClosesAs, RoundOf};
+ghost use Rattle.ct_decide.specs.Decided.{DecisionOf};
 
+use crate::asking::{Asking, begin};
 use crate::error::DecideError;
+use crate::known::add_triangles;
+use crate::stars::rule_out;
 use crate::translating::derivation;
-use ct_cnf::{Encoded, encode};
 use ct_derivation::Derivation;
 use ct_equality::{Closed, close};
-use ct_sat::{Verdict, solve};
+use ct_sat::Found;
 use ct_word::{Memory, World};
 use std::alloc::Global;
 
@@ -28,46 +28,65 @@ pub enum Decision {
     Refuted(Derivation),
 }
 
-/// The valuation that a model of the clauses gives. A path of terms that shows that there is none
-/// can't come: its clause follows from those of the question.
-fn world(
+/// What a model of the clauses gives: a valuation, or a path whose clause it makes false.
+fn closed(
     alloc: Global,
     words: &[u64],
     root: u32,
-    encoded: &Encoded,
+    asking: &Asking,
     model: &[bool],
-) -> Result<World, Memory>
+) -> Result<Closed, Memory>
     requires formed { IsWellFormed words.now }
     requires few { length words.now < 2 ^ 28 }
     requires columns { HasNoColumn words.now root }
-    requires encoding { IsEncoding words.now root encoded.now }
-    requires model { IsModel encoded.now.cnf model.now }
-    ensures { IfOk result (λ v. IsWorldAt words.now root v) }
+    requires asking { IsAsking words.now root asking.now }
+    requires model { IsModelOf asking.now.solver.vars (added_in asking.now.solver.entries) model.now }
+    ensures { IfOk result (λ c. ClosesAs words.now root asking.now.atoms.items model.now c) }
 {
-    match close(alloc, words, encoded.atoms.as_slice(), model)? {
-        Closed::World(world) => Ok(world),
-        Closed::Path(_) => unreachable!(),
-    }
+    let atoms = asking.atoms.as_slice();
+    close(alloc, words, atoms, &model[..atoms.len()])
 }
 
-/// The decision by the clauses of a question.
-fn settle(alloc: Global, words: &[u64], root: u32, encoded: &Encoded) -> Result<Decision, Memory>
+/// The derivation that the log gives where its last clause is empty.
+fn refuted(alloc: Global, words: &[u64], root: u32, asking: &Asking) -> Result<Decision, Memory>
+    requires condition { is_place_of words.now class.Cond root ≡ true }
+    requires asking { IsAsking words.now root asking.now }
+    requires refuted { ends_refuted asking.now.solver.entries ≡ true }
+    ensures { IfOk result (λ d. DecisionOf words.now root d) }
+{
+    let entries = asking.solver.log();
+    let derivation = derivation(
+        alloc,
+        asking.atoms.as_slice(),
+        asking.origins.as_slice(),
+        entries,
+    )?;
+    Ok(Decision::Refuted(derivation))
+}
+
+/// One step of the solver: a decision, or one more clause that its model makes false.
+fn round(
+    alloc: Global,
+    words: &[u64],
+    root: u32,
+    asking: &mut Asking,
+) -> Result<Option<Decision>, Memory>
     requires formed { IsWellFormed words.now }
     requires few { length words.now < 2 ^ 28 }
     requires condition { is_place_of words.now class.Cond root ≡ true }
     requires columns { HasNoColumn words.now root }
-    requires encoding { IsEncoding words.now root encoded.now }
-    ensures { IfOk result (λ d. DecisionOf words.now root d) }
+    requires asking { IsAsking words.now root asking.old }
+    ensures { IfOk result (λ d. RoundOf words.now root asking.old asking.new d) }
 {
-    match solve(alloc, &encoded.cnf)? {
-        Verdict::Model(model) => {
-            let world = world(alloc, words, root, encoded, model.as_slice())?;
-            Ok(Decision::World(world))
-        }
-        Verdict::Refuted(steps) => {
-            let derivation = derivation(alloc, encoded, steps.as_slice())?;
-            Ok(Decision::Refuted(derivation))
-        }
+    match asking.solver.step(alloc)? {
+        Found::Refuted => Ok(Some(refuted(alloc, words, root, asking)?)),
+        Found::Model(model) => match closed(alloc, words, root, asking, model.as_slice())? {
+            Closed::World(world) => Ok(Some(Decision::World(world))),
+            Closed::Path(path) => {
+                rule_out(alloc, words, root, asking, model.as_slice(), path)?;
+                Ok(None)
+            }
+        },
     }
 }
 
@@ -78,17 +97,19 @@ fn settle(alloc: Global, words: &[u64], root: u32, encoded: &Encoded) -> Result<
 ///
 /// # Errors
 ///
-/// `TooManyTerms` exactly where more than 64 distinct terms stand below the root, `Memory` where
-/// memory is wanting.
+/// `Memory` where memory is wanting.
 pub fn decide(alloc: Global, words: &[u64], root: u32) -> Result<Decision, DecideError>
     requires formed { IsWellFormed words.now }
     requires few { length words.now < 2 ^ 28 }
     requires condition { is_place_of words.now class.Cond root ≡ true }
     requires columns { HasNoColumn words.now root }
     ensures decided { IfOk result (λ d. DecisionOf words.now root d) }
-    ensures few_terms { IfOk result (λ _. HasTermsUpTo 64 words.now root) }
-    ensures many_terms { IsErrOf result fault.TooManyTerms → HasTermsPast 64 words.now root }
 {
-    let encoded = encode(alloc, words, root)?;
-    Ok(settle(alloc, words, root, &encoded)?)
+    let mut asking = begin(alloc, words, root)?;
+    add_triangles(alloc, words, root, &mut asking)?;
+    loop {
+        if let Some(decision) = round(alloc, words, root, &mut asking)? {
+            return Ok(decision);
+        }
+    }
 }

@@ -1,9 +1,7 @@
 // Why there is no decision.
 
 ghost use Rattle.std.specs.Prelude.{◌≡◌};
-ghost use Rattle.ct_cnf.specs.declared.error.CnfError.TheVariants as cnf;
 ghost use Rattle.ct_decide.specs.declared.error.DecideError.TheVariants as fault;
-ghost use Rattle.ct_decide.specs.Question.{fault_of};
 
 use ct_cnf::CnfError;
 use ct_word::Memory;
@@ -13,21 +11,15 @@ use thiserror::Error;
 /// Why a question is not decided.
 #[derive(Clone, Copy, Debug, PartialEq, Eq, Error)]
 pub enum DecideError {
-    /// More than 64 distinct terms stand below the root.
-    #[error("more than 64 terms")]
-    TooManyTerms,
     #[error("out of memory")]
     Memory,
 }
 
 impl From<CnfError> for DecideError {
-    ghost from_gives = { λ x e. e ≡ fault_of x };
+    ghost from_gives = { λ _ e. e ≡ fault.Memory };
 
-    fn from(error: CnfError) -> Self {
-        match error {
-            CnfError::TooManyTerms => DecideError::TooManyTerms,
-            CnfError::Memory => DecideError::Memory,
-        }
+    fn from(_: CnfError) -> Self {
+        DecideError::Memory
     }
 }
 

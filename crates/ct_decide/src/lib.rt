@@ -2,15 +2,21 @@
 //! derivation that it does not at any, which `ct_checker` checks.
 //!
 //! The question is turned into clauses (`ct_cnf`), which a propositional search decides
-//! (`ct_sat`). A model of them is one of equality, and gives a valuation (`ct_equality`). A
-//! refutation follows from the clauses by resolution (Robinson 1965), and each clause has its
-//! reason; so both together are a derivation (`ct_derivation`).
+//! (`ct_sat`). A model of them that is one of equality gives a valuation (`ct_equality`). Where it
+//! is none, there is a path of terms whose transitivity constraint it breaks, and that clause is
+//! added (lazily, Bryant and Velev 2002). The log of a search that ends without a model is a
+//! derivation (`ct_derivation`), as each clause has its reason.
 #![tactic(auto)]
 
+mod asking;
 mod deciding;
 mod error;
+mod known;
 mod needed;
+mod paths;
+mod stars;
 mod translating;
+mod widening;
 
 pub use deciding::{Decision, decide};
 pub use error::DecideError;

@@ -1,20 +1,32 @@
-// Which clauses and steps a refutation needs.
+// Which entries of a log a refutation needs.
 
-ghost use Rattle.std.specs.Prelude.{◌≡◌, ◌<◌, IfOk, false, replicate, length, Contains, ℕ};
-ghost use Rattle.ct_cnf.specs.Marks.{with_marks};
-ghost use Rattle.ct_decide.specs.Cut.{all_hints, HaveEarlier, AreNeeded, ranks};
+ghost use Rattle.std.specs.Prelude.{◌≡◌, ◌<◌, IfOk, false, replicate, length};
+ghost use Rattle.ct_decide.specs.Marks.{with_marks};
+ghost use Rattle.ct_decide.specs.Cut.{entry_hints, all_hints, HaveEarlier, AreNeeded, ranks};
 
-use ct_sat::Rup;
-use ct_word::{List, Memory};
+use ct_sat::Entry;
+use ct_word::Memory;
 use std::alloc::{AllocError, Global};
+
+/// The hints of an entry.
+fn hints(entry: &Entry) -> &[u32]
+    ensures { result.now ≡ entry_hints entry.now }
+{
+    match entry {
+        Entry::Added(_) => &[],
+        Entry::Learned(step) => step.hints.as_slice(),
+    }
+}
 
 /// Marks the places that hints name.
 fn mark_hints(marks: &mut Vec<bool>, hints: &[u32])
-    requires { (h : ℕ) → Contains hints.now h → h < length marks.old.items }
     ensures { marks.new.items ≡ with_marks marks.old.items hints.now }
 {
     for h in hints {
-        marks[*h as usize] = true;
+        let place = *h as usize;
+        if place < marks.len() {
+            marks[place] = true;
+        }
     }
 }
 
@@ -25,30 +37,25 @@ fn unmarked(alloc: Global, count: usize) -> Result<Vec<bool>, AllocError>
     vec![in alloc; false; count]
 }
 
-/// Marks the clauses and, after them, the steps that the last step follows from: one walk from it
-/// down, as hints name earlier places.
-pub fn needed(
-    alloc: Global,
-    clauses: &[List<i32>],
-    refutation: &[Rup],
-) -> Result<Vec<bool>, AllocError>
-    requires steps { 0 < length refutation.now }
-    requires earlier { HaveEarlier (all_hints (length clauses.now) refutation.now) }
-    ensures { IfOk result (λ marks. AreNeeded (all_hints (length clauses.now) refutation.now) 0 marks.items) }
+/// Marks the entries that the last one follows from: one walk from it down, as hints name earlier
+/// ones.
+pub fn needed(alloc: Global, entries: &[Entry]) -> Result<Vec<bool>, AllocError>
+    requires some { 0 < length entries.now }
+    requires earlier { HaveEarlier (all_hints entries.now) }
+    ensures { IfOk result (λ marks. AreNeeded (all_hints entries.now) 0 marks.items) }
 {
-    let count = clauses.len() + refutation.len();
-    let mut marks = unmarked(alloc, count)?;
-    marks[count - 1] = true;
-    for k in (0..refutation.len()).rev() {
-        if marks[clauses.len() + k] {
-            mark_hints(&mut marks, refutation[k].hints.as_slice());
+    let mut marks = unmarked(alloc, entries.len())?;
+    marks[entries.len() - 1] = true;
+    for k in (0..entries.len()).rev() {
+        if marks[k] {
+            mark_hints(&mut marks, hints(&entries[k]));
         }
     }
     Ok(marks)
 }
 
 /// For each place how many are marked before it: its number among those that are kept. There are
-/// fewer than 2^32 of these in any memory of today.
+/// fewer than 2^32 of these, or it is `Memory`.
 pub fn numbers(alloc: Global, marks: &[bool]) -> Result<Vec<u32>, Memory>
     ensures { IfOk result (λ v. v.items ≡ ranks 0 marks.now) }
 {

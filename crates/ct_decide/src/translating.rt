@@ -1,18 +1,17 @@
-// The derivation that a refutation of the clauses gives, without what it does not need.
+// The derivation that the log of a solver gives, without what it does not need.
 
-ghost use Rattle.std.specs.Prelude.{◌≡◌, ◌≤◌, ◌<◌, ◌++◌, ℕ, true, length, map, IfOk, OnOk, Contains};
-ghost use Rattle.ct_sat.specs.Literal.{is_literal, is_clause, LARGEST};
-ghost use Rattle.ct_sat.specs.Learned.{clause_of};
-ghost use Rattle.std.specs.List.{All, list_all};
+ghost use Rattle.std.specs.Prelude.{◌≡◌, ◌≤◌, ◌<◌, true, length, IfOk, slice_index_or};
+ghost use Rattle.std.specs.List.{list_all};
+ghost use Rattle.ct_sat.specs.Literal.{is_literal, is_clause};
+ghost use Rattle.ct_sat.specs.Log.{entry_clause, clauses_in};
 ghost use Rattle.ct_cnf.specs.Encoding.{named, through};
 ghost use Rattle.ct_derivation.specs.Variables.{signed};
-ghost use Rattle.ct_decide.specs.Translation.{step, given_steps, learned_step, learned_steps};
-ghost use Rattle.ct_decide.specs.Cut.{kept, cut, step_by, renumbered, all_hints, HaveEarlier, IsWithin, IsCutOf};
+ghost use Rattle.ct_decide.specs.Translation.{entry_step, origin_count, origin_at, steps_of};
+ghost use Rattle.ct_decide.specs.Cut.{cut, why_by, step_by, renumbered, all_hints, HaveEarlier, IsCutOf};
 
 use crate::needed::{needed, numbers};
-use ct_cnf::Encoded;
 use ct_derivation::{Atom, Derivation, Lit, Step, Why};
-use ct_sat::Rup;
+use ct_sat::Entry;
 use ct_word::{List, Memory};
 use std::alloc::{AllocError, Global};
 
@@ -39,128 +38,126 @@ fn clause(alloc: Global, atoms: &[Atom], literals: &[i32]) -> Result<List<Lit>, 
     Ok(List::from_vec(clause))
 }
 
-/// A reason once more.
-fn copied(alloc: Global, why: &Why) -> Result<Why, AllocError>
-    ensures { IfOk result (λ w. w ≡ why.now) }
+/// The number of a place; 0 for one that has none.
+fn number(numbers: &[u32], place: u32) -> u32
+    ensures { result ≡ slice_index_or numbers.now place 0 }
+{
+    match numbers.get(place as usize) {
+        Some(number) => *number,
+        None => 0,
+    }
+}
+
+/// Hints by the numbers of what is kept.
+fn renumbered(alloc: Global, numbers: &[u32], hints: &[u32]) -> Result<List<u32>, AllocError>
+    ensures { IfOk result (λ hs. hs ≡ renumbered numbers.now hints.now) }
+{
+    let mut found = Vec::new(alloc);
+    for h in hints {
+        found.push(number(numbers, *h))?;
+    }
+    Ok(List::from_vec(found))
+}
+
+/// A reason once more, its hints by the numbers of what is kept.
+fn reason(alloc: Global, numbers: &[u32], why: &Why) -> Result<Why, AllocError>
+    ensures { IfOk result (λ w. w ≡ why_by numbers.now why.now) }
 {
     Ok(match why {
         Why::Root => Why::Root,
         Why::Def(place, k) => Why::Def(*place, *k),
         Why::Path(places) => Why::Path(List::from_vec(places.as_slice().to_vec(alloc)?)),
-        Why::Rup(hints) => Why::Rup(List::from_vec(hints.as_slice().to_vec(alloc)?)),
+        Why::Rup(hints) => Why::Rup(renumbered(alloc, numbers, hints.as_slice())?),
     })
 }
 
-/// A clause of a question over the atoms, with its reason.
-fn stated(alloc: Global, atoms: &[Atom], literals: &[i32], why: &Why) -> Result<Step, AllocError>
-    requires { is_clause (length atoms.now) literals.now ≡ true }
-    ensures { IfOk result (λ s. s ≡ step (through atoms.now literals.now) why.now) }
+/// The origin at a place once more, its hints by the numbers of what is kept.
+fn origin(alloc: Global, origins: &[Why], place: usize, numbers: &[u32]) -> Result<Why, AllocError>
+    ensures { IfOk result (λ w. w ≡ why_by numbers.now (origin_at origins.now place)) }
 {
-    Ok(Step {
-        clause: clause(alloc, atoms, literals)?,
-        why: copied(alloc, why)?,
-    })
+    match origins.get(place) {
+        Some(why) => reason(alloc, numbers, why),
+        None => Ok(Why::Root),
+    }
 }
 
-/// The marked clauses of a question, each with its reason.
-fn given(
+/// An entry over the atoms; one that was added has the origin at this place.
+fn step(
     alloc: Global,
     atoms: &[Atom],
-    marks: &[bool],
-    clauses: &[List<i32>],
     origins: &[Why],
+    place: usize,
+    numbers: &[u32],
+    entry: &Entry,
+) -> Result<Step, AllocError>
+    requires { is_clause (length atoms.now) (entry_clause entry.now) ≡ true }
+    ensures { IfOk result (λ s. s ≡ step_by numbers.now (entry_step atoms.now (origin_at origins.now place) entry.now)) }
+{
+    let clause = clause(alloc, atoms, entry.clause())?;
+    let why = match entry {
+        Entry::Added(_) => origin(alloc, origins, place, numbers)?,
+        Entry::Learned(rup) => Why::Rup(renumbered(alloc, numbers, rup.hints.as_slice())?),
+    };
+    Ok(Step { clause, why })
+}
+
+/// How many origins an entry has.
+fn origin_count(entry: &Entry) -> usize
+    ensures { result ≡ origin_count entry.now }
+{
+    match entry {
+        Entry::Added(_) => 1,
+        Entry::Learned(_) => 0,
+    }
+}
+
+/// The marked entries over the atoms.
+fn steps(
+    alloc: Global,
+    atoms: &[Atom],
+    origins: &[Why],
+    marks: &[bool],
+    numbers: &[u32],
+    entries: &[Entry],
 ) -> Result<Vec<Step>, AllocError>
-    requires clauses { list_all (is_clause (length atoms.now)) clauses.now ≡ true }
-    requires origins { length origins.now ≡ length clauses.now }
-    requires marks { length clauses.now ≤ length marks.now }
-    ensures { IfOk result (λ v. v.items ≡ kept marks.now (given_steps atoms.now clauses.now origins.now)) }
+    requires within { list_all (is_clause (length atoms.now)) (clauses_in entries.now) ≡ true }
+    requires marks { length entries.now ≤ length marks.now }
+    ensures { IfOk result (λ v. v.items ≡ cut numbers.now marks.now (steps_of atoms.now origins.now entries.now)) }
 {
     let mut steps = Vec::new(alloc);
-    for k in 0..clauses.len() {
+    let mut next = 0;
+    for k in 0..entries.len() {
         if marks[k] {
-            steps.push(stated(alloc, atoms, clauses[k].as_slice(), &origins[k])?)?;
+            let step = step(alloc, atoms, origins, next, numbers, &entries[k])?;
+            steps.push(step)?;
         }
+        next += origin_count(&entries[k]);
     }
     Ok(steps)
 }
 
-/// Hints by the numbers of what is kept.
-fn renumbered(alloc: Global, numbers: &[u32], hints: &[u32]) -> Result<List<u32>, AllocError>
-    requires { (h : ℕ) → Contains hints.now h → h < length numbers.now }
-    ensures { IfOk result (λ hs. hs ≡ renumbered numbers.now hints.now) }
-{
-    let mut found = Vec::new(alloc);
-    for h in hints {
-        found.push(numbers[*h as usize])?;
-    }
-    Ok(List::from_vec(found))
-}
-
-/// A step of a refutation over the atoms.
-fn learned(alloc: Global, atoms: &[Atom], numbers: &[u32], rup: &Rup) -> Result<Step, AllocError>
-    requires { IsWithin (length atoms.now) (length numbers.now) rup.now }
-    ensures { IfOk result (λ s. s ≡ step_by numbers.now (learned_step atoms.now rup.now)) }
-{
-    Ok(Step {
-        clause: clause(alloc, atoms, rup.clause.as_slice())?,
-        why: Why::Rup(renumbered(alloc, numbers, rup.hints.as_slice())?),
-    })
-}
-
-/// Adds the marked steps of a refutation.
-fn add_learned(
-    alloc: Global,
-    steps: &mut Vec<Step>,
-    atoms: &[Atom],
-    marks: &[bool],
-    numbers: &[u32],
-    refutation: &[Rup],
-) -> Result<(), AllocError>
-    requires within { All (IsWithin (length atoms.now) (length numbers.now)) refutation.now }
-    requires marks { length refutation.now ≤ length marks.now }
-    ensures { OnOk result (steps.new.items ≡ steps.old.items ++ cut numbers.now marks.now (learned_steps atoms.now refutation.now)) }
-{
-    for k in 0..refutation.len() {
-        if marks[k] {
-            steps.push(learned(alloc, atoms, numbers, &refutation[k])?)?;
-        }
-    }
-    Ok(())
-}
-
-/// The derivation: the clauses of the question with their reasons, and then the steps of the
-/// refutation, all over the atoms. What the last step does not need is never translated.
+/// The derivation: the entries that the last one needs, over the atoms. What it does not need is
+/// never translated.
 pub fn derivation(
     alloc: Global,
-    encoded: &Encoded,
-    refutation: &[Rup],
+    atoms: &[Atom],
+    origins: &[Why],
+    entries: &[Entry],
 ) -> Result<Derivation, Memory>
-    requires clauses { list_all (is_clause (length encoded.now.atoms)) encoded.now.cnf.clauses ≡ true }
-    requires origins { length encoded.now.origins ≡ length encoded.now.cnf.clauses }
-    requires refutation { list_all (is_clause (length encoded.now.atoms)) (map clause_of refutation.now) ≡ true }
-    requires steps { 0 < length refutation.now }
-    requires earlier { HaveEarlier (all_hints (length encoded.now.cnf.clauses) refutation.now) }
-    ensures { IfOk result (λ d. IsCutOf encoded.now refutation.now d) }
+    requires within { list_all (is_clause (length atoms.now)) (clauses_in entries.now) ≡ true }
+    requires some { 0 < length entries.now }
+    requires earlier { HaveEarlier (all_hints entries.now) }
+    ensures { IfOk result (λ d. IsCutOf atoms.now origins.now entries.now d) }
 {
-    let clauses = encoded.cnf.clauses.as_slice();
-    let atoms = encoded.atoms.as_slice();
-    let marks = needed(alloc, clauses, refutation)?;
+    let marks = needed(alloc, entries)?;
     let numbers = numbers(alloc, marks.as_slice())?;
-    let mut steps = given(
+    let steps = steps(
         alloc,
         atoms,
+        origins,
         marks.as_slice(),
-        clauses,
-        encoded.origins.as_slice(),
-    )?;
-    let rest = &marks.as_slice()[clauses.len()..];
-    add_learned(
-        alloc,
-        &mut steps,
-        atoms,
-        rest,
         numbers.as_slice(),
-        refutation,
+        entries,
     )?;
     Ok(Derivation {
         steps: List::from_vec(steps),

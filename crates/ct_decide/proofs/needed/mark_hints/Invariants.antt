@@ -1,6 +1,6 @@
-use Rattle.std.proofs.Common.{◌≡◌, drop, length}
-use Rattle.ct_cnf.specs.Marks.{with_marks}
+use Rattle.std.proofs.Common.{◌≡◌, drop}
+use Rattle.ct_decide.specs.Marks.{with_marks}
 use Rattle.ct_decide.proofs.needed.mark_hints.Given as goal
 
 abbrev pub invariant-loop-h : goal.invariant-loop-h
-invariant-loop-h l = (with_marks l.marks.items (drop l.h-index l.hints) ≡ with_marks l.fn.marks.items l.hints) × (length l.marks.items ≡ length l.fn.marks.items)
+invariant-loop-h l = with_marks l.marks.items (drop l.h-index l.hints) ≡ with_marks l.fn.marks.items l.hints

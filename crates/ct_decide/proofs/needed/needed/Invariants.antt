@@ -1,6 +1,5 @@
-use Rattle.std.proofs.Common.{◌+◌, length}
 use Rattle.ct_decide.specs.Cut.{all_hints, AreNeeded}
 use Rattle.ct_decide.proofs.needed.needed.Given as goal
 
 abbrev pub invariant-loop-k : goal.invariant-loop-k
-invariant-loop-k l = AreNeeded (all_hints (length l.clauses) l.refutation) (length l.clauses + l.k) l.marks.items
+invariant-loop-k l = AreNeeded (all_hints l.entries) l.k l.marks.items

@@ -1,0 +1,141 @@
+-- What a question has as it is asked, and what a path of terms adds to it.
+use Rattle.std.specs.Prelude.{◌≡◌, ◌≢◌, ◌≤◌, ◌<◌, ◌⊎◌, ◌&&◌, ℕ, ℤ, Bool, true, false, List, [], ◌∷◌, ◌++◌, Option, Some, None, length, slice_index_or, Contains}
+use Rattle.std.specs.List.{list_all, list_any}
+use Rattle.ct_derivation.specs.declared.literals.Atom.{Atom}
+use Rattle.ct_derivation.specs.declared.literals.Atom.TheVariants as atom
+use Rattle.ct_derivation.specs.declared.literals.Lit.{Lit}
+use Rattle.ct_derivation.specs.declared.steps.Why.TheVariants as why
+use Rattle.ct_derivation.specs.Literal.{Clause, same_atom}
+use Rattle.ct_derivation.specs.Path.{path_clause, pair_of, is_constant}
+use Rattle.ct_derivation.specs.Variables.{is_clause, is_literal, signed, LARGEST}
+use Rattle.ct_sat.specs.Log.{added_in, IsModelOf}
+use Rattle.ct_cnf.specs.Encoding.{AreOrigins, HasDefinitions, AreDistinct, HasNodesBelow, HasPairsBelow, named, through}
+use Rattle.ct_equality.specs.Assigned.{Gives, IsFalsePath}
+use Rattle.ct_equality.specs.declared.closing.Closed.{Closed}
+use Rattle.ct_equality.specs.declared.closing.Closed.TheVariants as closed
+use Rattle.ct_decide.specs.declared.deciding.Decision.{Decision}
+use Rattle.ct_decide.specs.Decided.{IsWorldAt, DecisionOf}
+use Rattle.ct_decide.specs.Counting.{models}
+use Rattle.ct_decide.specs.declared.asking.Asking.{Asking}
+
+-- the clauses of a question and paths, each with its origin, and the atoms of the first variables
+pub record IsAsking (words : List ℕ) (root : ℕ) (a : Asking) : Type 0 where
+  pub clauses : AreOrigins words root a.atoms.items (added_in a.solver.entries) a.origins.items
+  pub within : list_all (is_clause (length a.atoms.items)) (added_in a.solver.entries) ≡ true
+  pub room : length a.atoms.items ≤ a.solver.vars
+  pub count : a.vars ≡ a.solver.vars
+  pub vars : a.solver.vars ≤ LARGEST
+  pub asked : Contains a.origins.items why.Root
+  pub definitions : HasDefinitions words root a.origins.items
+  pub distinct : AreDistinct a.atoms.items
+  pub nodes : HasNodesBelow words root a.atoms.items
+  pub terms : HasPairsBelow words root a.atoms.items
+
+-- whether an atom is among these
+abbrev pub is_atom : List Atom → Atom → Bool
+is_atom atoms a = list_any (λ x. same_atom x a) atoms
+
+-- each literal's atom is among these
+abbrev pub HasAtoms : List Atom → Clause → Type 0
+HasAtoms atoms c = list_all (λ (l : Lit). is_atom atoms l.atom) c ≡ true
+
+-- an atom stands here among these
+pub record IsPlaceOf (atoms : List Atom) (a : Atom) (k : ℕ) : Type 0 where
+  pub within : k < length atoms
+  pub is : slice_index_or atoms k (atom.Node 0) ≡ a
+
+-- a path of terms whose clause is over these atoms
+pub record IsPathOver (words : List ℕ) (atoms : List Atom) (path : List ℕ) : Type 0 where
+  pub clause : Clause
+  pub clause_is : path_clause words path ≡ Some clause
+  pub there : HasAtoms atoms clause
+
+-- the literal of the equality of two terms, or of its negation
+pub record IsLiteralOf (atoms : List Atom) (positive : Bool) (s t : ℕ) (l : ℤ) : Type 0 where
+  pub within : is_literal (length atoms) l ≡ true
+  pub is : named atoms (signed l) ≡ record { positive = positive; atom = pair_of s t }
+
+-- the clause of a path, over variables
+pub record IsClauseOf (words : List ℕ) (atoms : List Atom) (path : List ℕ) (c : List ℤ) : Type 0 where
+  pub within : is_clause (length atoms) c ≡ true
+  pub is : path_clause words path ≡ Some (through atoms c)
+
+-- a valuation at which the root holds, or a path whose clause the model makes false
+abbrev pub ClosesAs : List ℕ → ℕ → List Atom → List Bool → Closed → Type 0
+ClosesAs words root atoms model (closed.World v) = IsWorldAt words root v
+ClosesAs words root atoms model (closed.Path path) = IsFalsePath words atoms model path
+
+-- one more clause, that of a path
+pub record AddsPath (words : List ℕ) (path : List ℕ) (old new : Asking) : Type 0 where
+  pub vars : new.solver.vars ≡ old.solver.vars
+  pub atoms : new.atoms.items ≡ old.atoms.items
+  pub clause : List ℤ
+  pub is : IsClauseOf words old.atoms.items path clause
+  pub added : added_in new.solver.entries ≡ added_in old.solver.entries ++ clause ∷ []
+
+-- how many assignments satisfy the clauses that were added
+abbrev pub left : Asking → ℕ
+left a = models a.solver.vars (added_in a.solver.entries)
+
+-- a model of what was added, that makes the clause of a path false
+pub record Breaks (words : List ℕ) (a : Asking) (path : List ℕ) (m : List Bool) : Type 0 where
+  pub model : IsModelOf a.solver.vars (added_in a.solver.entries) m
+  pub path_false : IsFalsePath words a.atoms.items m path
+
+-- where this model makes the clause of the path false, it is one no longer
+abbrev pub RulesOut : List ℕ → List ℕ → List Bool → Asking → Asking → Type 0
+RulesOut words path m old new = Breaks words old path m → left new < left old
+
+-- the same clauses, and at most one more atom
+pub record AddsAtom (old new : Asking) : Type 0 where
+  pub solver : new.solver ≡ old.solver
+  pub vars : new.vars ≡ old.vars
+  pub origins : new.origins ≡ old.origins
+  pub more : List Atom
+  pub atoms : new.atoms.items ≡ old.atoms.items ++ more
+  pub one : length more ≤ 1
+
+-- and the atom is that of two terms, unless they are two constants
+pub record AddsEnd (words : List ℕ) (old new : Asking) (s t : ℕ) (ended : Bool) : Type 0 where
+  pub adds : AddsAtom old new
+  pub is : ended ≡ (is_constant words s && is_constant words t)
+  pub there : ended ≡ false → is_atom new.atoms.items (pair_of s t) ≡ true
+
+-- where the model joins two terms by a third one, its clauses leave fewer models, or it joins the two as well
+abbrev pub Closes : Asking → Asking → List Bool → Atom → Bool → Type 0
+Closes old new m a ended = (left new < left old) ⊎ ((ended ≡ false) × IsModelOf new.solver.vars (added_in new.solver.entries) m × Gives new.atoms.items m true a)
+
+-- a model makes the clause of a path of three terms true
+abbrev pub IsKept : List Atom → List Bool → ℕ → ℕ → ℕ → Bool → Type 0
+IsKept atoms m first middle last ended = ((ended ≡ false) × Gives atoms m true (pair_of first last)) ⊎ (Gives atoms m false (pair_of first middle) ⊎ Gives atoms m false (pair_of middle last))
+
+-- the clause of a path of three terms, unless this model makes it true, with the atom of its ends unless they are two constants
+pub record AddsTriangle (words : List ℕ) (root : ℕ) (m : List Bool) (old new : Asking) (first middle last : ℕ) (ended : Bool) : Type 0 where
+  pub asking : IsAsking words root new
+  pub vars : new.solver.vars ≡ old.solver.vars
+  pub more : List Atom
+  pub atoms : new.atoms.items ≡ old.atoms.items ++ more
+  pub one : length more ≤ 1
+  pub fewer : left new ≤ left old
+  pub is : ended ≡ (is_constant words first && is_constant words last)
+  pub there : ended ≡ false → is_atom new.atoms.items (pair_of first last) ≡ true
+  pub closes : IsModelOf old.solver.vars (added_in old.solver.entries) m → Gives old.atoms.items m true (pair_of first middle)
+      → Gives old.atoms.items m true (pair_of middle last) → Closes old new m (pair_of first last) ended
+
+-- a path of three terms whose equalities are atoms
+pub record IsKnown (words : List ℕ) (atoms : List Atom) (first middle last : ℕ) : Type 0 where
+  pub differ : first ≢ last
+  pub begins : is_atom atoms (pair_of first middle) ≡ true
+  pub goes_on : is_atom atoms (pair_of middle last) ≡ true
+  pub ends : (is_constant words first && is_constant words last) ≡ false → is_atom atoms (pair_of first last) ≡ true
+
+-- a path of three terms whose links are atoms
+pub record IsNext (atoms : List Atom) (first middle last : ℕ) : Type 0 where
+  pub differ : first ≢ last
+  pub begins : is_atom atoms (pair_of first middle) ≡ true
+  pub goes_on : is_atom atoms (pair_of middle last) ≡ true
+
+-- a decision, or a question that has fewer assignments left
+abbrev pub RoundOf : List ℕ → ℕ → Asking → Asking → Option Decision → Type 0
+RoundOf words root old new (Some d) = DecisionOf words root d
+RoundOf words root old new None = IsAsking words root new × (left new < left old)
