@@ -1,22 +1,30 @@
 -- Questions and their answers.
-use Rattle.std.{proofs.Common.{◌≡◌, ℕ, ◌&&◌, List, [], map, sym, subst, ◌∙◌, inl, inr}, specs.Prelude.{Some, None}}
-use Rattle.ct_word.{specs.declared.values.CRow.CRow, specs.Value.World, specs.Condition.{holds, holds_at}, specs.Reading.condition_at, specs.Stands.HasNoColumn}
-use Rattle.ct_word.{specs.WellFormed.IsWellFormed, proofs.Prefixes.{condition_in_prefix, place_within}}
-use Rattle.ct_cnf.specs.Encoding.{HasTermsPast}
+use Rattle.std.{proofs.Common.{◌≡◌, ℕ, ◌&&◌, true, List, [], ◌∷◌, refl, sym, ◌∙◌, inl, inr, arith}, specs.Prelude.{Some, None}, proofs.lemmas.Bool.and_from}
+use Rattle.ct_word.{specs.declared.values.CRow.CRow, specs.declared.values.Null.Null, specs.Value.{World, value_of_null}, specs.Condition.{holds, holds_at}}
+use Rattle.ct_word.{specs.Reading.condition_at, specs.Stands.HasNoColumn, specs.WellFormed.IsWellFormed, proofs.Prefixes.{condition_in_prefix, place_within}}
 use Rattle.ct_derivation.{specs.Accepts.Accepts, proofs.Sound.root_refuted}
 use Rattle.ct_condition.{specs.Truth.{HasTruth, and_at}, specs.Terms.{TermsFrom, BelowEither}, proofs.Reached.either_before}
-use Rattle.ct_decide.specs.Decided.{DecisionOf}
-use Rattle.ct_certain.{specs.Answered.{AreOf, IsAnswer, IsSettled}, specs.Asked.IsPastTermsOfRow, specs.Order.with_nulls, specs.Possible.is_shown}
-use Rattle.ct_certain.{proofs.Agreed.truth_agreed, proofs.Ordered.{some_tidy, all_as_they_were}}
+use Rattle.ct_worlds.specs.Repaired.{IsRepaired}
+use Rattle.ct_rewrite.specs.Tidy.{IsTidy}
+use Rattle.ct_certain.{specs.Answered.{AreOf, IsAnswer, IsSettled, IsWitness}, specs.Possible.is_shown}
+use Rattle.ct_certain.proofs.Agreed.{truth_agreed}
 use mathlib.Core.List.{IsPrefix}
 use Rattle.ct_word.specs.declared.kinds.Class.TheVariants as class
 use Rattle.ct_word.specs.declared.values.Term.TheVariants as term
 use Rattle.ct_decide.specs.declared.deciding.Decision.TheVariants as decision
 
--- a world that was found, in order
-pub settled_world : (words : List ℕ) (root : ℕ) (found world : World) → DecisionOf words root (decision.World found) → world ≡ with_nulls found [] (map (λ p. p.0) found) → IsSettled words root (decision.World world)
-settled_world words root found world is e = subst (λ w. IsSettled words root (decision.World w)) (sym e)
-    (some_tidy found (map (λ p. p.0) found), truth_agreed (with_nulls found [] (map (λ p. p.0) found)) found [] (condition_at words root) (λ n h. all_as_they_were found n) ∙ is.holds)
+-- a condition that holds at a world holds at the same one in order
+in_order : (words : List ℕ) (root : ℕ) (found world : World) → ((n : Null) → value_of_null world n ≡ value_of_null found n) → holds_at found (condition_at words root) ≡ true → holds_at world (condition_at words root) ≡ true
+in_order words root found world same holds = truth_agreed world found [] (condition_at words root) (λ n h. same n) ∙ holds
+
+-- a world that was made from another so that a row is shown, in order
+pub changed_shows : (words : List ℕ) (global : ℕ) (r : CRow) (near found world : World) → IsRepaired words (global ∷ r.cond ∷ []) near found → ((n : Null) → value_of_null world n ≡ value_of_null found n) → IsTidy world
+    → IsWitness words global r world
+changed_shows words global r near found world made same tidy = (
+  tidy,
+  and_from (holds_at world (condition_at words global)) (holds_at world (condition_at words r.cond))
+      (in_order words global found world same (made.holds global (0, omega arith, refl))) (in_order words r.cond found world same (made.holds r.cond (1, omega arith, refl))),
+)
 
 -- the root of the question whether a row is shown, put by words after these
 module _ (words old new : List ℕ) (grown : IsPrefix words old) (formed : IsWellFormed old) (global : ℕ) (r : CRow) (are : AreOf words global r) (root : ℕ) where
@@ -33,11 +41,9 @@ module _ (words old new : List ℕ) (grown : IsPrefix words old) (formed : IsWel
     | inr b ↦ are.plain k b
   ]
 
-  pub root_past : HasTruth new root (and_at old global r.cond) → TermsFrom new root (BelowEither old global r.cond) → HasTermsPast 64 new root → IsPastTermsOfRow words new global r
-  root_past truth from many = record { root = root; question = record { class = truth.class; holds = root_shows truth; terms = root_terms from }; many = many }
-
-  pub shown_answer : HasTruth new root (and_at old global r.cond) → (v : World) → IsSettled new root (decision.World v) → IsAnswer words global r (Some v)
-  shown_answer truth v is = (is.0, sym (root_shows truth v) ∙ is.1)
+  pub shown_answer : HasTruth new root (and_at old global r.cond) → (found v : World) → IsSettled new root (decision.World found) → ((n : Null) → value_of_null v n ≡ value_of_null found n) → IsTidy v
+      → IsAnswer words global r (Some v)
+  shown_answer truth found v is same tidy = (tidy, sym (root_shows truth v) ∙ in_order new root found v same is)
 
   pub none_answer : HasTruth new root (and_at old global r.cond) → IsWellFormed new → (d : _) → Accepts new root d → IsAnswer words global r None
   none_answer truth ends d is v = sym (root_shows truth v) ∙ root_refuted new root d ends is v

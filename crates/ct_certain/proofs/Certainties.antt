@@ -129,7 +129,7 @@ module _ (words : List ℕ) (global : ℕ) (rs : List CRow) where
   -- what the answer to a question says of a candidate
   pub takes_nothing : (now : List ℕ) (t : List Value) (list : List CertainRow) (root : ℕ) (w : World) → IsRootOf words now global rs t root → IsSettled now root (decision.World w) → Takes words now global rs t list list
   takes_nothing now t list root w is settled =
-      nothing (λ all. lacks (holds_at w (condition_at words global)) (has_tuple (value_of_rows words w rs) t) (sym (is.holds w) ∙ settled.1) (all w))
+      nothing (λ all. lacks (holds_at w (condition_at words global)) (has_tuple (value_of_rows words w rs) t) (sym (is.holds w) ∙ settled) (all w))
 
   pub takes_one : (now : List ℕ) (t : List Value) (list out : List CertainRow) (root : ℕ) (d : _) → IsRootOf words now global rs t root → IsSettled now root (decision.Refuted d)
       → out ≡ list ++ (record { tuple = t; proof = record { root = root; derivation = d } }) ∷ [] → Takes words now global rs t list out

@@ -1,9 +1,10 @@
-pub mod Slots
 pub mod Ordered
+pub mod Last
 pub mod Agreed
 pub mod Asking
 pub mod Cuts
 pub mod Own
+pub mod Pools
 pub mod Short
 pub mod Listing
 pub mod Missing

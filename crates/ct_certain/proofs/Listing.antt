@@ -1,10 +1,10 @@
 -- Lists of possible rows, one row after another.
-use Rattle.std.proofs.Common.{◌≡◌, ◌<◌, ◌+◌, ℕ, List, [], ◌∷◌, ◌++◌, get_or, length, take, refl, ap, sym, subst, ◌∙◌, arith, inl, inr}
+use Rattle.std.proofs.Common.{◌≡◌, ◌<◌, ◌+◌, ℕ, List, [], ◌∷◌, ◌++◌, get_or, length, take, ap, sym, subst, ◌∙◌}
 use Rattle.std.{specs.Prelude.{All, IsTrue}, proofs.lemmas.List.take_more, proofs.lemmas.List.Elements.{All-get_or, All-head, All-weaker}}
 use Rattle.ct_word.{specs.declared.values.CRow.CRow, specs.Stands.HasNoColumn, specs.WellFormed.is_place_of}
 use Rattle.ct_operators.specs.Tables.{IsRow}
 use Rattle.ct_rewrite.specs.declared.answer.PossibleRow.{PossibleRow}
-use Rattle.ct_certain.{specs.Answered.{AreOf, Adds, nothing, one}, specs.Asked.{IsOfTable, IsPastTerms, IsPastTermsOfRow, IsPastTermsOfSomeRow}}
+use Rattle.ct_certain.specs.Answered.{AreOf, Adds, nothing, one}
 use Rattle.ct_certain.specs.Possible.{ListsPossible, ended, left_out, taken}
 use Rattle.ct_word.specs.declared.kinds.Class.TheVariants as class
 
@@ -24,21 +24,6 @@ module _ (words : List ℕ) (global : ℕ) where
 
   pub row_of : (rows : List CRow) (i : ℕ) (r : CRow) → i < length rows → r ≡ get_or rows i r → All (AreOf words global) rows → AreOf words global r
   row_of rows i r lt e all = subst (AreOf words global) (sym e) (All-get_or (AreOf words global) rows i r lt all)
-
-  -- a question about a row of a list is about one of the list
-  pub past_row : (now : List ℕ) (rows : List CRow) (i : ℕ) (r : CRow) → i < length rows → r ≡ get_or rows i r → IsPastTermsOfRow words now global r → IsPastTermsOfSomeRow words now global rows
-  past_row now rows i r lt e past = record { row = r; among = (i, lt, sym e); past = past }
-
-  -- and has terms of the table alone
-  pub past_table : (now : List ℕ) (rows : List CRow) → IsPastTermsOfSomeRow words now global rows → IsPastTerms now (IsOfTable words global rows)
-  past_table now rows p = record {
-    root = p.past.root;
-    many = p.past.many;
-    from = λ t h. elim (p.past.question.terms t h) [
-      | inl a ↦ inl a
-      | inr b ↦ inr (record { row = p.row; among = p.among; below = record { place = p.row.cond; among = (0, omega arith, refl); below = b } })
-    ];
-  }
 
   -- the rows of a table
   pub all_of : (n : ℕ) (rows : List CRow) → IsTrue (is_place_of words class.Cond global) → HasNoColumn words global → All (IsRow words n) rows → All (AreOf words global) rows

@@ -1,6 +1,8 @@
 -- A world put into order is tidy, and gives each null the value that it had.
-use Rattle.std.proofs.Common.{◌≡◌, ◌<◌, ◌+◌, ◌++◌, take, ℕ, zero, suc, Bool, true, false, not, ◌&&◌, List, [], ◌∷◌, length, map, get_or, refl, ap, sym, ◌∙◌, arith, inl, inr, if◌then◌else◌}
-use Rattle.std.{specs.Prelude.Contains, specs.List.list_all, specs.declared.cmp.Ordering.Ordering, proofs.lemmas.List.take_more}
+use Rattle.std.proofs.Common.{◌≡◌, ◌<◌, ◌+◌, ◌++◌, take, ℕ, zero, suc, Bool, true, false, not, ◌&&◌, List, [], ◌∷◌, length, map, get_or, arith}
+use Rattle.std.proofs.Common.{refl, ap, sym, ◌∙◌, inl, inr, if◌then◌else◌}
+use Rattle.std.{specs.Prelude.{Contains, IsPermutation}, specs.Cmp.{IsStrictWeakOrder, IsTotalOrder}, specs.List.list_all}
+use Rattle.std.{proofs.lemmas.List.Sorted.{Contains-permutation, ranks_by}, specs.declared.cmp.Ordering.Ordering, proofs.lemmas.List.take_more}
 use Rattle.std.{specs.declared.cmp.Ordering.TheVariants.{Less, Equal, Greater}, proofs.lemmas.Bool.{and_parts, and_from, cases_Bool, false≢true}}
 use Rattle.std.{specs.Ordering.{nat_cmp, on, ordering_reverse, then_cmp, is_lt}, proofs.lemmas.Cmp.{nat_cmp_total, nat_list_cmp_total, on_total, then_total}}
 use Rattle.ct_word.{specs.declared.values.Value.Value, specs.declared.values.Null.Null, specs.Value.{World, same_null, same_value, other_zero, value_of_null}}
@@ -22,6 +24,12 @@ null_through (null.Fresh s i) (null.Named b) n p q = absurd (false≢true (ap is
 null_through (null.Fresh s i) (null.Fresh t j) (null.Named c) p q = absurd (false≢true (ap is_lt q))
 null_through (null.Fresh s i) (null.Fresh t j) (null.Fresh u k) p q = pairs_through (s, i) (t, j) (u, k) p q
 
+null_total : IsTotalOrder null_order
+null_total = record { antisymm = null_turned; trans = null_through; congr = λ l m n e. ap (λ o. null_order o n) (exact_null l m e) }
+
+pub null_ranks : IsStrictWeakOrder null_before
+null_ranks = ranks_by null_total (λ n. n)
+
 less_of : (o : Ordering) → is_lt o ≡ true → o ≡ Less
 less_of Less e = refl
 less_of Equal e = absurd (false≢true e)
@@ -35,7 +43,7 @@ before_more m n (r ∷ v) e all =
     and_from (null_before m r.0) (list_all (λ r. null_before m r.0) v) (ap is_lt (null_through m n r.0 e (less_of _ parts.0))) (before_more m n v e parts.1)
 
 -- what all pairs are, those of the world with one more are
-put_all : (test : Null × Value → Bool) (v : World) (n : Null) (x : Value) → test (n, x) ≡ true → list_all test v ≡ true → list_all test (put v n x) ≡ true
+pub put_all : (test : Null × Value → Bool) (v : World) (n : Null) (x : Value) → test (n, x) ≡ true → list_all test v ≡ true → list_all test (put v n x) ≡ true
 put_all test [] n x e all = and_from (test (n, x)) true e refl
 put_all test (p ∷ v) n x e all = by (null_order n p.0) (let parts = and_parts (test p) (list_all test v) all in and_from (test p) (list_all test (put v n x)) parts.0 (put_all test v n x e parts.1)) where
   by : (o : Ordering) → list_all test (p ∷ put v n x) ≡ true → list_all test (by_order o ((n, x) ∷ p ∷ v) (p ∷ v) (p ∷ put v n x)) ≡ true
@@ -128,7 +136,7 @@ module _ (world : World) where
   with_sets : (out : World) (n : Null) → IsPartOf world out → same_value (value n) other_zero ≡ false → Gives (with_null world out n) n
   with_sets out n is e = ap (λ b. value_of_null (if b then out else put out n (value n)) n) e ∙ put_sets out n is.agrees
 
-  part_all : (ns : List Null) (out : World) → IsPartOf world out → IsPartOf world (with_nulls world out ns)
+  pub part_all : (ns : List Null) (out : World) → IsPartOf world out → IsPartOf world (with_nulls world out ns)
   part_all [] out is = is
   part_all (n ∷ ns) out is = part_all ns (with_null world out n) (part_more out n is)
 
@@ -145,7 +153,7 @@ module _ (world : World) where
   all_set : (ns : List Null) (out : World) (m : Null) → IsPartOf world out → same_value (value m) other_zero ≡ false → Contains ns m → Gives (with_nulls world out ns) m
   all_set ns out m is e h = set_at m e ns out is h.0 h.1 h.2
 
-  empty_part : IsPartOf world []
+  pub empty_part : IsPartOf world []
   empty_part = record { ascending = refl; no_zero = refl; agrees = refl }
 
   -- some nulls of a world, in order
@@ -169,20 +177,20 @@ listed (p ∷ v) m e = elim (cases_Bool (same_null p.0 m)) [
       (suc r.0, omega (arith, r.1), r.2)
 ]
 
--- all nulls of a world, in order, have the values that they had
-pub all_as_they_were : (v : World) (m : Null) → value_of_null (with_nulls v [] (map (λ p. p.0) v)) m ≡ value_of_null v m
-all_as_they_were v m = elim (cases_Bool (same_value (value_of_null v m) other_zero)) [
-  | inl t ↦ all_give v (map (λ p. p.0) v) [] m (sym ((value_decides (value_of_null v m) other_zero).0 t))
-  | inr f ↦ some_give v (map (λ p. p.0) v) m (listed v m f)
+-- all nulls of a world, in some order, have the values that they had
+pub all_as_they_were : (v : World) (ns : List Null) → IsPermutation (map (λ p. p.0) v) ns → (m : Null) → value_of_null (with_nulls v [] ns) m ≡ value_of_null v m
+all_as_they_were v ns all m = elim (cases_Bool (same_value (value_of_null v m) other_zero)) [
+  | inl t ↦ all_give v ns [] m (sym ((value_decides (value_of_null v m) other_zero).0 t))
+  | inr f ↦ some_give v ns m (Contains-permutation (map (λ p. p.0) v) ns m all (listed v m f))
 ]
 
 -- one more null of a world
-nulls_snoc : (world out v : World) (p : Null × Value) → with_null world (with_nulls world out (map (λ q. q.0) v)) p.0 ≡ with_nulls world out (map (λ q. q.0) (v ++ p ∷ []))
-nulls_snoc world out [] p = refl
-nulls_snoc world out (q ∷ v) p = nulls_snoc world (with_null world out q.0) v p
+nulls_snoc : (world out : World) (ns : List Null) (n : Null) → with_null world (with_nulls world out ns) n ≡ with_nulls world out (ns ++ n ∷ [])
+nulls_snoc world out [] n = refl
+nulls_snoc world out (m ∷ ns) n = nulls_snoc world (with_null world out m) ns n
 
-pub nulls_more : (world v : World) (i : ℕ) (p : Null × Value) (out : World) → i < length v → p ≡ get_or v i p → out ≡ with_nulls world [] (map (λ q. q.0) (take i v))
-    → with_null world out p.0 ≡ with_nulls world [] (map (λ q. q.0) (take (i + 1) v))
-nulls_more world v i p out lt e so_far =
-    let done : take i v ++ p ∷ [] ≡ take (i + 1) v = ap (λ x. take i v ++ x ∷ []) e ∙ sym (take_more v i p lt) in
-    ap (λ o. with_null world o p.0) so_far ∙ nulls_snoc world [] (take i v) p ∙ ap (λ l. with_nulls world [] (map (λ q. q.0) l)) done
+pub nulls_more : (world : World) (ns : List Null) (i : ℕ) (n : Null) (out : World) → i < length ns → n ≡ get_or ns i n → out ≡ with_nulls world [] (take i ns)
+    → with_null world out n ≡ with_nulls world [] (take (i + 1) ns)
+nulls_more world ns i n out lt e so_far =
+    let done : take i ns ++ n ∷ [] ≡ take (i + 1) ns = ap (λ x. take i ns ++ x ∷ []) e ∙ sym (take_more ns i n lt) in
+    ap (λ o. with_null world o n) so_far ∙ nulls_snoc world [] (take i ns) n ∙ ap (λ l. with_nulls world [] l) done

@@ -1,18 +1,16 @@
 -- The root of the question whether a tuple is missing.
-use Rattle.std.proofs.Common.{◌≡◌, ◌≢◌, ◌≤◌, ◌<◌, ◌+◌, ◌*◌, ℕ, true, not, ◌&&◌, List, [], ◌∷◌, ◌++◌, length, Result, Ok, Err, refl, ap, sym, subst, ◌∙◌, arith, inl, inr}
-use Rattle.std.{specs.Prelude.{◌⊎◌, All, Contains, IsTrue, filter, IsErrOf}, specs.Borrow.GName, proofs.lemmas.Bool.false≢true}
-use Rattle.std.{proofs.lemmas.List.Elements.{All-contains, All-head, All-nil, All-cons}, proofs.lemmas.Map.Keys.IsDistinct-cons}
+use Rattle.std.proofs.Common.{◌≡◌, ◌≢◌, ◌≤◌, ◌<◌, ◌+◌, ◌*◌, ℕ, true, not, ◌&&◌, List, [], ◌∷◌, length, Result, Ok, Err, refl, ap, sym, subst, ◌∙◌, arith, inr}
+use Rattle.std.{specs.Prelude.{All, IsTrue, filter, IsErrOf}, specs.Borrow.GName, proofs.lemmas.Bool.false≢true}
+use Rattle.std.{proofs.lemmas.List.Elements.{All-head, All-nil, All-cons}, proofs.lemmas.Map.Keys.IsDistinct-cons}
 use Rattle.ct_word.{specs.declared.values.Value.Value, specs.declared.values.Term.Term, specs.declared.values.CRow.CRow, specs.Value.{World, same_cells}}
 use Rattle.ct_word.{specs.Condition.holds_at, specs.Stands.{HasNoColumn, TermBelow}, specs.Sublist.IsSublist, specs.WellFormed.{IsWellFormed, is_place_of}}
 use Rattle.ct_word.proofs.Prefixes.{condition_in_prefix, place_in_prefix, place_within}
 use Rattle.ct_query.specs.Database.{has_tuple, SameSet}
 use Rattle.ct_arena.specs.Counts.{opening}
-use Rattle.ct_condition.{specs.Terms.TermsFrom, specs.Writes.{charge, Writes}, proofs.Denied.below_literal, proofs.Reached.terms_before}
+use Rattle.ct_condition.{specs.Writes.{charge, Writes}, proofs.Denied.below_literal, proofs.Reached.terms_before}
 use Rattle.ct_operators.{specs.declared.error.TableError.TableError, specs.Tables.{IsRow, AreRows, value_of_rows, cells_of}, proofs.Firsts.none_distinct}
-use Rattle.ct_operators.{specs.Terms.{TermOfRows, RowsFrom, RowFrom}, proofs.Growing.{value_grows, rows_grow}, proofs.Holding.holds_false}
-use Rattle.ct_operators.proofs.Reaching.{behind, from_rows, rows_before, rows_itself, rows_wider}
-use Rattle.ct_certain.{specs.Asked.{IsOfTable, IsPastTermsOfTuple, IsValueIn}, specs.declared.error.CertainError.CertainError}
-use Rattle.ct_certain.{specs.Missing.{AreOfTuple, IsAskedOf, IsPastTermsOfSomeTuple, IsRootOf, condition_of}, proofs.Missing.{left_truth, tuple_worth}}
+use Rattle.ct_operators.{proofs.Growing.{value_grows, rows_grow}, proofs.Holding.holds_false}
+use Rattle.ct_certain.{specs.Missing.{AreOfTuple, IsAskedOf, IsRootOf, condition_of}, proofs.Missing.{left_truth, tuple_worth}}
 use Rattle.ct_decide.specs.declared.deciding.Decision.{Decision}
 use mathlib.Core.List.{IsPrefix}
 use Rattle.ct_word.specs.declared.kinds.Class.TheVariants as class
@@ -20,7 +18,6 @@ use Rattle.ct_word.specs.declared.values.Term.TheVariants as term
 use Rattle.ct_operators.specs.declared.error.TableError.TheVariants as table
 use Rattle.ct_operators.specs.Refusals as refusals
 use Rattle.ct_certain.specs.Faults as faults
-use Rattle.ct_certain.specs.declared.error.CertainError.TheVariants as fault
 
 -- what an operator does to the words
 module _ {S : Type 0} {words_of : S → List ℕ} {made_of : S → ℕ} {kept_of : S → List ℕ} {lent_of : S → List GName} {cap : ℕ} {T : Type 0} (old new : S) where
@@ -69,15 +66,6 @@ cells_plain words (x ∷ xs) (p ∷ ps) are = All-cons (HasNoColumn words) p ps 
 cells_plain words [] (p ∷ ps) are = elim are [ ]
 cells_plain words (x ∷ xs) [] are = elim are [ ]
 
-cells_from : (words : List ℕ) (source : Term → Type 0) (tuple xs : List Value) (ps : List ℕ) → ((x : Value) → Contains xs x → Contains tuple x) → ((t : Term) → IsValueIn tuple t → source t)
-    → AreOfTuple words xs ps → All (λ p. TermsFrom words p source) ps
-cells_from words source tuple [] [] among wider are = All-nil _
-cells_from words source tuple (x ∷ xs) (p ∷ ps) among wider are = All-cons (λ p. TermsFrom words p source) p ps
-    (λ t h. wider t (record { value = x; among = among x (0, omega arith, refl); is = are.0.terms t h }))
-    (cells_from words source tuple xs ps (λ y h. among y (behind x xs y h)) wider are.1)
-cells_from words source tuple [] (p ∷ ps) among wider are = elim are [ ]
-cells_from words source tuple (x ∷ xs) [] among wider are = elim are [ ]
-
 module _ (words mid new : List ℕ) (global width : ℕ) (rs : List CRow) (tuple : List Value) (asked : IsAskedOf words mid global width rs tuple)
     (formed : IsWellFormed mid) (ps : List ℕ) (are : AreOfTuple mid tuple ps) where
   global_there : global < length words
@@ -107,23 +95,14 @@ module _ (words mid new : List ℕ) (global width : ℕ) (rs : List CRow) (tuple
   pub table_rows : AreRows mid width rs
   table_rows = rows_grow words mid asked.grown asked.formed width rs asked.rows
 
-  abbrev source : Term → Type 0
-  source t = IsOfTable words global rs t ⊎ IsValueIn tuple t
-
-  both_from : RowsFrom mid (one ps global ∷ rs) source
-  both_from = All-cons (RowFrom mid source) (one ps global) rs
-      (All-cons (λ p. TermsFrom mid p source) global ps (λ t h. inl (inl (global_terms t h))) (cells_from mid source tuple tuple ps (λ x h. h) (λ t h. inr h) are))
-      (rows_wider mid (TermOfRows mid rs) source (λ t h. inl (inr (rows_before words mid asked.grown asked.formed width rs t asked.rows.each h))) rs (rows_itself mid rs))
-
   pub root_of : (out : List CRow) → IsWellFormed new → IsPrefix opening new → AreRows new width out → IsSublist (cells_of new out) (cells_of mid (one ps global ∷ []))
       → ((v : World) → SameSet (value_of_rows new v out) (filter (λ t. not (has_tuple (value_of_rows mid v rs) t)) (value_of_rows mid v (one ps global ∷ []))))
-      → RowsFrom new out (TermOfRows mid (one ps global ∷ rs)) → IsRootOf words new global rs tuple (condition_of out)
-  root_of out formed_new begins rows part same from = record {
+      → IsRootOf words new global rs tuple (condition_of out)
+  root_of out formed_new begins rows part same = record {
     class = its_class out rows.each;
     plain = its_plain out rows.each;
     holds = λ v. left_truth mid new ps global tuple (λ v t. not (has_tuple (value_of_rows mid v rs) t)) (tuple_worth mid tuple ps are) out (holds_false new begins formed_new) part same v
         ∙ (λ i. holds_at v (condition_in_prefix words mid global asked.grown global_there i) && not (has_tuple (value_grows words mid asked.grown v width rs asked.rows.each i) tuple));
-    terms = its_terms out from;
   } where
     its_class : (out : List CRow) → All (IsRow new width) out → IsTrue (is_place_of new class.Cond (condition_of out))
     its_class [] each = (holds_false new begins formed_new).class
@@ -133,29 +112,14 @@ module _ (words mid new : List ℕ) (global width : ℕ) (rs : List CRow) (tuple
     its_plain [] each = λ k h. absurd (below_literal new formed_new begins 1 (inr refl) (term.Column k) h)
     its_plain (r ∷ out) each = All-head (HasNoColumn new) r.cond r.cells (All-head (IsRow new width) r out each).plain
 
-    its_terms : (out : List CRow) → RowsFrom new out (TermOfRows mid (one ps global ∷ rs)) → TermsFrom new (condition_of out) source
-    its_terms [] from = λ t h. absurd (below_literal new formed_new begins 1 (inr refl) t h)
-    its_terms (r ∷ out) from = λ t h. from_rows mid (one ps global ∷ rs) source both_from t
-        (All-head (λ p. TermsFrom new p (TermOfRows mid (one ps global ∷ rs))) r.cond r.cells (All-head (RowFrom new (TermOfRows mid (one ps global ∷ rs))) r out from) t h)
-
   -- the same, with the one row as a list that is equal to it
   pub root_by : (alone out : List CRow) (n : ℕ) → alone ≡ one ps global ∷ [] → n ≡ width → IsWellFormed new → IsPrefix opening new → AreRows new n out → IsSublist (cells_of new out) (cells_of mid alone)
       → ((v : World) → SameSet (value_of_rows new v out) (filter (λ t. not (has_tuple (value_of_rows mid v rs) t)) (value_of_rows mid v alone)))
-      → RowsFrom new out (TermOfRows mid (alone ++ rs)) → IsRootOf words new global rs tuple (condition_of out)
-  root_by alone out n is wide formed_new begins rows part same from = root_of out formed_new begins
+      → IsRootOf words new global rs tuple (condition_of out)
+  root_by alone out n is wide formed_new begins rows part same = root_of out formed_new begins
       (subst (λ m. AreRows new m out) wide rows)
       (subst (λ l. IsSublist (cells_of new out) (cells_of mid l)) is part)
       (λ v. subst (λ l. SameSet (value_of_rows new v out) (filter (λ t. not (has_tuple (value_of_rows mid v rs) t)) (value_of_rows mid v l))) is (same v))
-      (subst (λ l. RowsFrom new out (TermOfRows mid (l ++ rs))) is from)
-
--- a question about one of some tuples, which have so many values, has terms of the table and of such a tuple alone
-pub past_width : (words now : List ℕ) (global width : ℕ) (rs : List CRow) (tuples : List (List Value)) → All (IsAskedOf words words global width rs) tuples → IsPastTermsOfSomeTuple words now global rs tuples
-    → IsPastTermsOfTuple words now global width rs
-past_width words now global width rs tuples asked p = record {
-  tuple = p.tuple;
-  width_is = (All-contains (IsAskedOf words words global width rs) tuples p.tuple asked p.among).width_is;
-  past = record { root = p.past.root; many = p.past.many; from = p.past.question.terms };
-}
 
 one_times : (r : ℕ) → 1 * r ≡ r
 one_times r = omega arith
@@ -174,13 +138,3 @@ root_begun t k m e = omega (arith, e)
 pub handed_on : (e : TableError) → refusals.is_full {T = ℕ} (Err e) ≡ faults.is_full {T = ℕ × Decision} (Err (faults.table_fault e))
 handed_on table.Full = refl
 handed_on table.Memory = refl
-
-abbrev error_number : Result (ℕ × Decision) CertainError → ℕ
-error_number (Err fault.Full) = 0
-error_number (Err fault.TooManyTerms) = 1
-error_number (Err fault.Memory) = 2
-error_number (Ok x) = 3
-
-pub never_many : (e : TableError) → IsErrOf {T = ℕ × Decision} (Err (faults.table_fault e)) fault.TooManyTerms → ⊥
-never_many table.Full h = let z : 0 ≡ 1 = ap error_number h in omega (arith, z)
-never_many table.Memory h = let z : 2 ≡ 1 = ap error_number h in omega (arith, z)

@@ -11,7 +11,7 @@ use Rattle.ct_query.specs.Terms.{condition_terms, all_terms}
 use Rattle.ct_condition.{specs.Terms.BelowSome, proofs.Reached.under_one}
 use Rattle.ct_operators.{specs.Terms.TermOfRow, proofs.Naming.condition_reached}
 use Rattle.ct_rewrite.{specs.Tidy.{IsTidy, null_before, are_ascending, has_no_zero}, specs.declared.answer.PossibleRow.PossibleRow}
-use Rattle.ct_certain.{specs.Answered.AreOf, specs.Asked.IsOfTable, specs.Own.{has_null, AreNullsOf, cut_to, IsOwn, IsOwnWorld, IsShownBy}}
+use Rattle.ct_certain.{specs.Answered.AreOf, specs.Own.{IsOfTable, has_null, AreNullsOf, cut_to, IsOwn, IsOwnWorld, IsShownBy}}
 use Rattle.ct_certain.{specs.Possible.{is_shown, shown_row}, proofs.Agreed.truth_agreed}
 use Rattle.ct_word.specs.declared.kinds.Class.TheVariants as class
 use Rattle.ct_word.specs.declared.values.Term.TheVariants as term

@@ -1,5 +1,6 @@
 -- The answer to a question, and a pool of worlds.
-use Rattle.std.specs.Prelude.{◌≡◌, ℕ, true, false, ◌&&◌, List, [], ◌∷◌, ◌++◌, Option, Some, None, IsTrue, All}
+use Rattle.std.specs.Prelude.{◌≡◌, ℕ, true, false, ◌&&◌, List, [], ◌∷◌, ◌++◌, Option, Some, None, IfSome, IsTrue, All, nat_eq}
+use Rattle.std.specs.Map.{lookup}
 use Rattle.ct_word.specs.declared.kinds.Class.TheVariants as class
 use Rattle.ct_word.specs.declared.values.CRow.{CRow}
 use Rattle.ct_word.specs.Value.{World}
@@ -24,9 +25,9 @@ use Rattle.ct_certain.specs.declared.pool.Pool.{Pool}
 abbrev pub IsRefutation : List ℕ → ℕ → Derivation → Type 0
 IsRefutation words root d = Accepts words root d × IsCut words root d
 
--- a tidy world at which a condition holds, or such a derivation
+-- a world at which a condition holds, or such a derivation
 abbrev pub IsSettled : List ℕ → ℕ → Decision → Type 0
-IsSettled words root (decision.World v) = IsTidy v × (holds_at v (condition_at words root) ≡ true)
+IsSettled words root (decision.World v) = holds_at v (condition_at words root) ≡ true
 IsSettled words root (decision.Refuted d) = IsRefutation words root d
 
 -- a global condition and a row are of these words, and no column stands below the conditions
@@ -37,9 +38,13 @@ pub record AreOf (words : List ℕ) (global : ℕ) (r : CRow) : Type 0 where
   pub plain : HasNoColumn words r.cond
   pub terms : All (λ p. IsTrue (is_place_of words class.Term p)) r.cells
 
--- a tidy world that shows a row, or that none does
+-- a tidy world shows a row
+abbrev pub IsWitness : List ℕ → ℕ → CRow → World → Type 0
+IsWitness words global r v = IsTidy v × IsTrue (is_shown words global r v)
+
+-- such a world, or that there is none
 abbrev pub IsAnswer : List ℕ → ℕ → CRow → Option World → Type 0
-IsAnswer words global r (Some v) = IsTidy v × IsTrue (is_shown words global r v)
+IsAnswer words global r (Some v) = IsWitness words global r v
 IsAnswer words global r None = (v : World) → is_shown words global r v ≡ false
 
 -- a tidy world at which the global condition holds, with what the words are worth there
@@ -52,9 +57,19 @@ pub record IsKnown (words : List ℕ) (global : ℕ) (k : Known) : Type 0 where
 abbrev pub IsNever : List ℕ → ℕ → ℕ → Type 0
 IsNever words global c = (v : World) → (holds_at v (condition_at words global) && holds_at v (condition_at words c)) ≡ false
 
--- worlds that are known, conditions that hold at none, and the nulls below the global condition
+-- at a tidy world the global condition holds, and another one
+abbrev pub IsFound : List ℕ → ℕ → ℕ → World → Type 0
+IsFound words global c v = IsTidy v × IsTrue (holds_at v (condition_at words global) && holds_at v (condition_at words c))
+
+-- each condition has a world at which it and the global one hold, if it has one
+abbrev pub AreFound : List ℕ → ℕ → List (ℕ × World) → Type 0
+AreFound words global entries = (c : ℕ) → IfSome (lookup (nat_eq c) entries) (IsFound words global c)
+
+-- worlds that are known, those that are known for conditions, conditions that hold at none, and the nulls below the global
+-- condition
 pub record IsPool (words : List ℕ) (global : ℕ) (p : Pool) : Type 0 where
   pub worlds : All (IsKnown words global) p.worlds.items
+  pub found : AreFound words global p.found.entries
   pub never : All (IsNever words global) p.never.keys
   pub nulls : AreNullsOf (TermBelow words global) p.nulls.keys
 

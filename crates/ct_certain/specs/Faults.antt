@@ -9,7 +9,6 @@ use Rattle.ct_certain.specs.declared.error.CertainError.TheVariants as fault
 
 -- the error where a question is not decided
 abbrev pub fault_of : DecideError → CertainError
-fault_of decide.TooManyTerms = fault.TooManyTerms
 fault_of decide.Memory = fault.Memory
 
 -- the error where an operator on tables makes none

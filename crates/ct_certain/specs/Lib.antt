@@ -1,6 +1,5 @@
 pub mod Possible
 pub mod Certain
-pub mod Asked
 pub mod Own
 pub mod Faults
 pub mod Order

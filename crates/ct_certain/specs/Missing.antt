@@ -1,5 +1,5 @@
 -- The question whether a tuple is missing from a table.
-use Rattle.std.specs.Prelude.{◌≡◌, ◌≢◌, ◌⊎◌, ⊤, ℕ, List, [], ◌∷◌, ◌++◌, length, Contains, IsTrue, All}
+use Rattle.std.specs.Prelude.{◌≡◌, ◌≢◌, ◌⊎◌, ⊤, ℕ, List, [], ◌∷◌, ◌++◌, length, IsTrue, All}
 use mathlib.Core.List.{IsPrefix}
 use Rattle.ct_word.specs.declared.kinds.Class.TheVariants as class
 use Rattle.ct_word.specs.declared.values.Value.{Value}
@@ -10,13 +10,11 @@ use Rattle.ct_word.specs.Condition.{holds_at}
 use Rattle.ct_word.specs.Reading.{IsTerm, condition_at}
 use Rattle.ct_word.specs.Stands.{StandsAt, HasNoColumn}
 use Rattle.ct_word.specs.WellFormed.{IsWellFormed, is_place_of}
-use Rattle.ct_cnf.specs.Encoding.{HasTermsPast}
 use Rattle.ct_condition.specs.Places.{has_place}
 use Rattle.ct_condition.specs.Terms.{TermsFrom}
 use Rattle.ct_equality.specs.Valued.{IsNumbered}
 use Rattle.ct_operators.specs.Tables.{AreRows, value_of_rows}
 use Rattle.ct_certain.specs.declared.striking.Seen.{Seen}
-use Rattle.ct_certain.specs.Asked.{IsOfTable, IsValueIn}
 use Rattle.ct_certain.specs.Certain.{is_missing, tuples_in, IsCutProof, IsInAll, RefutesMissing}
 use Rattle.ct_word.specs.Sublist.{IsSublist}
 use Rattle.ct_query.specs.Database.{has_tuple, SameSet}
@@ -54,19 +52,6 @@ pub record IsRootOf (words now : List ℕ) (global : ℕ) (rs : List CRow) (tupl
   pub class : IsTrue (is_place_of now class.Cond root)
   pub plain : HasNoColumn now root
   pub holds : (v : World) → holds_at v (condition_at now root) ≡ is_missing words global rs tuple v
-  pub terms : TermsFrom now root (λ t. IsOfTable words global rs t ⊎ IsValueIn tuple t)
-
--- the question whether a tuple is missing has more than 64 distinct terms
-pub record IsPastTermsOfAbsence (words now : List ℕ) (global : ℕ) (rs : List CRow) (tuple : List Value) : Type 0 where
-  pub root : ℕ
-  pub question : IsRootOf words now global rs tuple root
-  pub many : HasTermsPast 64 now root
-
--- the question about one of these tuples has
-pub record IsPastTermsOfSomeTuple (words now : List ℕ) (global : ℕ) (rs : List CRow) (tuples : List (List Value)) : Type 0 where
-  pub tuple : List Value
-  pub among : Contains tuples tuple
-  pub past : IsPastTermsOfAbsence words now global rs tuple
 
 -- the place of the condition of the first of these rows, that of the word false where there is none
 abbrev pub condition_of : List CRow → ℕ

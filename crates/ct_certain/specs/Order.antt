@@ -1,12 +1,15 @@
 -- A world put into order.
-use Rattle.std.specs.Prelude.{◌≡◌, ℕ, suc, List, [], ◌∷◌, Option, Some, None, if◌then◌else◌}
+use Rattle.std.specs.Prelude.{◌≡◌, Bool, false, not, List, [], ◌∷◌, Option, Some, None, if◌then◌else◌}
 use Rattle.std.specs.declared.cmp.Ordering.{Ordering}
 use Rattle.std.specs.declared.cmp.Ordering.TheVariants.{Less, Equal, Greater}
+use Rattle.std.specs.List.{list_all}
 use Rattle.std.specs.Map.{lookup}
+use Rattle.std.specs.Ordering.{is_eq}
 use Rattle.ct_word.specs.declared.values.Value.{Value}
 use Rattle.ct_word.specs.declared.values.Null.{Null}
 use Rattle.ct_word.specs.Value.{World, same_null, same_value, other_zero, value_of_null}
 use Rattle.ct_rewrite.specs.Order.{null_order}
+use Rattle.ct_rewrite.specs.Tidy.{null_before}
 
 -- the value of the first pair with a null, none where there is none
 abbrev pub listed : World → Null → Option Value
@@ -23,15 +26,15 @@ by_order Less a b c = a
 by_order Equal a b c = b
 by_order Greater a b c = c
 
--- one place further
-abbrev pub further : Option ℕ → Option ℕ
-further (Some k) = Some (suc k)
-further None = None
+-- whether no null of these pairs comes after another
+abbrev pub are_up_to : World → Null → Bool
+are_up_to v n = list_all (λ p. not (null_before n p.0)) v
 
--- where a null belongs among ascending ones, none where it is there already
-abbrev pub slot : World → Null → Option ℕ
-slot [] n = Some 0
-slot (p ∷ v) n = by_order (null_order n p.0) (Some 0) None (further (slot v n))
+-- whether the last pair has a null
+abbrev pub ends_with : World → Null → Bool
+ends_with [] n = false
+ends_with (p ∷ []) n = is_eq (null_order p.0 n)
+ends_with (p ∷ q ∷ v) n = ends_with (q ∷ v) n
 
 -- the pairs with one more, where its null belongs; a null that is there already keeps its value
 abbrev pub put : World → Null → Value → World

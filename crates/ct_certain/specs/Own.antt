@@ -14,10 +14,10 @@ use Rattle.ct_word.specs.Value.{World, same_null}
 use Rattle.ct_word.specs.Word.{kind_of, left_of, right_of}
 use Rattle.ct_word.specs.WellFormed.{is_place_of}
 use Rattle.ct_word.specs.Reading.{IsTerm, term_at}
-use Rattle.ct_word.specs.Stands.{Below, StandsAt}
+use Rattle.ct_word.specs.Stands.{Below, StandsAt, TermBelow}
+use Rattle.ct_operators.specs.Terms.{TermOfRows}
 use Rattle.ct_rewrite.specs.declared.answer.PossibleRow.{PossibleRow}
 use Rattle.ct_rewrite.specs.Tidy.{IsTidy}
-use Rattle.ct_certain.specs.Asked.{IsOfTable}
 use Rattle.ct_certain.specs.Possible.{is_shown}
 
 -- a place of a condition or a term
@@ -91,6 +91,10 @@ IsTermAtSome words places t = (p : ℕ) × Contains places p × StandsAt words p
 -- the pairs of a world whose nulls are among some or others
 abbrev pub cut_to : List Null → List Null → World → World
 cut_to ms ns v = filter (λ p. has_null ms p.0 || has_null ns p.0) v
+
+-- a term stands below the global condition or below one of the rows
+abbrev pub IsOfTable : List ℕ → ℕ → List CRow → Term → Type 0
+IsOfTable words global rs t = TermBelow words global t ⊎ TermOfRows words rs t
 
 -- each null of a world stands below the global condition or below the row
 abbrev pub IsOwnWorld : List ℕ → ℕ → CRow → World → Type 0

@@ -1,21 +1,20 @@
 // The question whether a tuple is missing from a table.
 
-ghost use Rattle.std.specs.Prelude.{◌≡◌, ◌*◌, ◌+◌, [], ◌∷◌, false, length, All, IfOk, IsErrOf};
+ghost use Rattle.std.specs.Prelude.{◌≡◌, ◌*◌, ◌+◌, [], ◌∷◌, false, length, All, IfOk};
 ghost use Rattle.ct_condition.specs.Writes.{Writes};
 ghost use Rattle.ct_operators.specs.Refusals.{is_full as has_no_room};
 ghost use Rattle.ct_certain.specs.Answered.{IsSettled};
 ghost use Rattle.ct_certain.specs.Faults.{is_full};
-ghost use Rattle.ct_certain.specs.Missing.{AreOfTuple, IsAtHand, IsAskedOf, IsOfValue, IsPastTermsOfAbsence, IsRefuted, IsRootOf, condition_of};
-ghost use Rattle.ct_certain.specs.declared.error.CertainError.TheVariants as fault;
+ghost use Rattle.ct_certain.specs.Missing.{AreOfTuple, IsAtHand, IsAskedOf, IsOfValue, IsRefuted, IsRootOf, condition_of};
 
 use crate::derivations::{Listed, known};
 use crate::error::CertainError;
-use crate::settling::settle;
+use crate::settling::settle_near;
 use ct_arena::{Arena, Site};
 use ct_condition::{Interner, term};
 use ct_decide::Decision;
 use ct_operators::{CTable, TableError, except};
-use ct_word::{CRow, FALSE_PLACE, List, Term, Text, Value};
+use ct_word::{CRow, FALSE_PLACE, List, Term, Text, Value, World};
 use std::alloc::Global;
 
 /// The place of a value. A word is made for `@k` at most, and none for a constant of the words.
@@ -119,7 +118,7 @@ fn root<N: Site, I: Interner<N>>(
 }
 
 /// A question about a tuple: its root, and a world in which the tuple is missing or a derivation that there is none. A
-/// root that stands in the list already is not asked again.
+/// root that stands in the list already is not asked again; the kept world is changed where that is enough.
 pub fn ask_tuple<N: Site, I: Interner<N>>(
     alloc: Global,
     arena: &Arena<N>,
@@ -127,6 +126,7 @@ pub fn ask_tuple<N: Site, I: Interner<N>>(
     words: &[u64],
     table: &CTable,
     global: u32,
+    kept: &World,
     list: &Listed,
     tuple: &[Value],
 ) -> Result<(u32, Decision), CertainError>
@@ -135,7 +135,6 @@ pub fn ask_tuple<N: Site, I: Interner<N>>(
     ensures root { IfOk result (λ a. IsRootOf words.now (I.list pass.new) global table.now.rows tuple.now a.0) }
     ensures settled { IfOk result (λ a. IsSettled (I.list pass.new) a.0 a.1) }
     ensures writes { Writes I.list I.made I.kept I.lent N.log.cap pass.old pass.new (length table.now.rows * (2 * length table.now.columns + 2) + length table.now.columns + 1) (is_full result) }
-    ensures many { IsErrOf result fault.TooManyTerms → IsPastTermsOfAbsence words.now (I.list pass.new) global table.now.rows tuple.now }
 {
     let place = root(alloc, arena, pass, words, table, global, tuple)?;
     let now = pass.words();
@@ -143,6 +142,6 @@ pub fn ask_tuple<N: Site, I: Interner<N>>(
     if let Some(derivation) = before {
         return Ok((place, Decision::Refuted(derivation)));
     }
-    let decision = settle(alloc, now, place)?;
+    let decision = settle_near(alloc, now, place, kept)?;
     Ok((place, decision))
 }

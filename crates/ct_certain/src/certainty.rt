@@ -8,11 +8,10 @@ ghost use Rattle.ct_word.specs.Stands.{HasNoColumn};
 ghost use Rattle.ct_word.specs.Value.{same_tuple};
 ghost use Rattle.ct_word.specs.WellFormed.{IsWellFormed, is_place_of};
 ghost use Rattle.ct_condition.specs.Writes.{Writes};
-ghost use Rattle.ct_operators.specs.Tables.{AreRows, IsRow, firsts, value_of_rows};
-ghost use Rattle.ct_certain.specs.Asked.{IsPastTermsOfTuple};
+ghost use Rattle.ct_operators.specs.Tables.{AreRows, IsRow};
 ghost use Rattle.ct_certain.specs.Certain.{IsCutProof, IsKeptWorld, ListsCertain};
 ghost use Rattle.ct_certain.specs.Faults.{is_full};
-ghost use Rattle.ct_certain.specs.Missing.{AreListed, IsAskedOf, IsPastTermsOfAbsence, IsPastTermsOfSomeTuple, IsRefuted, IsSeen, Takes};
+ghost use Rattle.ct_certain.specs.Missing.{AreListed, IsAskedOf, IsRefuted, IsSeen, Takes};
 ghost use Rattle.ct_certain.specs.declared.error.CertainError.TheVariants as fault;
 
 use crate::absence::ask_tuple;
@@ -58,6 +57,7 @@ fn try_tuple<N: Site, I: Interner<N>>(
     words: &[u64],
     table: &CTable,
     global: u32,
+    kept: &World,
     pool: &mut Vec<Seen>,
     list: &mut Listed,
     tuple: &List<Value>,
@@ -70,7 +70,6 @@ fn try_tuple<N: Site, I: Interner<N>>(
     ensures pool { OnOk result (All (IsSeen words.now global table.now.rows) pool.new.items) }
     ensures takes { OnOk result (Takes words.now (I.list pass.new) global table.now.rows tuple.now list.old.rows.items list.new.rows.items) }
     ensures writes { Writes I.list I.made I.kept I.lent N.log.cap pass.old pass.new (length table.now.rows * (2 * length table.now.columns + 2) + length table.now.columns + 1) (is_full result) }
-    ensures many { IsErrOf result fault.TooManyTerms → IsPastTermsOfAbsence words.now (I.list pass.new) global table.now.rows tuple.now }
 {
     let _ = pass.words();
     let rows = table.rows.as_slice();
@@ -84,6 +83,7 @@ fn try_tuple<N: Site, I: Interner<N>>(
         words,
         table,
         global,
+        kept,
         list,
         tuple.as_slice(),
     )?;
@@ -107,6 +107,7 @@ fn each_certain<N: Site, I: Interner<N>>(
     words: &[u64],
     table: &CTable,
     global: u32,
+    kept: &World,
     pool: &mut Vec<Seen>,
     candidates: &[List<Value>],
 ) -> Result<List<CertainRow>, CertainError>
@@ -119,7 +120,6 @@ fn each_certain<N: Site, I: Interner<N>>(
     requires asked { All (IsAskedOf words.now words.now global (length table.now.columns) table.now.rows) candidates.now }
     ensures lists { IfOk result (λ list. AreListed words.now (I.list pass.new) global table.now.rows candidates.now list) }
     ensures writes { Writes I.list I.made I.kept I.lent N.log.cap pass.old pass.new (length table.now.rows * (length table.now.rows * (2 * length table.now.columns + 2) + length table.now.columns + 1)) (is_full result) }
-    ensures many { IsErrOf result fault.TooManyTerms → IsPastTermsOfSomeTuple words.now (I.list pass.new) global table.now.rows candidates.now }
 {
     let _ = pass.words();
     let mut list = Listed {
@@ -128,7 +128,7 @@ fn each_certain<N: Site, I: Interner<N>>(
     };
     for tuple in candidates {
         try_tuple(
-            alloc, arena, pass, words, table, global, pool, &mut list, tuple,
+            alloc, arena, pass, words, table, global, kept, pool, &mut list, tuple,
         )?;
     }
     Ok(List::from_vec(list.rows))
@@ -139,8 +139,7 @@ fn each_certain<N: Site, I: Interner<N>>(
 /// `r (r (2k + 2) + k + 1)` words are made, where the table has r rows and k columns.
 ///
 /// # Errors
-/// `Full` where the log has no room for the root of a question, `TooManyTerms` where the question whether a tuple is
-/// missing has more than 64 distinct terms, `Memory` where there is none for the list or a question.
+/// `Full` where the log has no room for the root of a question, `Memory` where there is none for the list or a question.
 pub fn certain<N: Site>(
     alloc: Global,
     arena: &Arena<N>,
@@ -159,8 +158,6 @@ pub fn certain<N: Site>(
     ensures formed { IsWellFormed pass.new.words }
     ensures room { length pass.new.words ≤ N.log.cap }
     ensures full { IsErrOf result fault.Full → length pass.new.words ≡ N.log.cap }
-    ensures question { IsErrOf result fault.TooManyTerms → IsPastTermsOfSomeTuple pass.old.words pass.new.words global table.now.rows (firsts same_tuple (value_of_rows pass.old.words kept.now table.now.rows)) }
-    ensures many { IsErrOf result fault.TooManyTerms → IsPastTermsOfTuple pass.old.words pass.new.words global (length table.now.columns) table.now.rows }
     ensures made { pass.new.made ≤ pass.old.made + length table.now.rows * (length table.now.rows * (2 * length table.now.columns + 2) + length table.now.columns + 1) }
     ensures fewer { IsErrOf result fault.Full → pass.new.made < pass.old.made + length table.now.rows * (length table.now.rows * (2 * length table.now.columns + 2) + length table.now.columns + 1) }
     ensures session { pass.new.session ≡ pass.old.session }
@@ -181,6 +178,7 @@ pub fn certain<N: Site>(
         before,
         table,
         global,
+        kept,
         &mut pool,
         candidates.as_slice(),
     )

@@ -18,9 +18,6 @@ pub enum CertainError {
     /// The log has as many words as its capacity, and a question needs another one.
     #[error("the log is full")]
     Full,
-    /// More than 64 distinct terms stand below the root of a question.
-    #[error("more than 64 terms")]
-    TooManyTerms,
     /// Memory was wanting.
     #[error("out of memory")]
     Memory,
@@ -39,7 +36,6 @@ impl From<DecideError> for CertainError {
 
     fn from(error: DecideError) -> Self {
         match error {
-            DecideError::TooManyTerms => CertainError::TooManyTerms,
             DecideError::Memory => CertainError::Memory,
         }
     }

@@ -1,53 +1,66 @@
 // Worlds in the order of their nulls.
 
-ghost use Rattle.std.specs.Prelude.{◌≡◌, ◌≤◌, [], length, map, IfOk, IfSome, OnOk};
-ghost use Rattle.ct_rewrite.specs.Tidy.{IsTidy};
+ghost use Rattle.std.specs.Prelude.{◌≡◌, [], ℕ, map, IfOk, IsPermutation, IsTrue, OnOk};
+ghost use Rattle.std.specs.List.Sorted.{IsSortedBy};
+ghost use Rattle.ct_word.specs.declared.values.Null.{Null};
+ghost use Rattle.ct_word.specs.Value.{value_of_null};
+ghost use Rattle.ct_rewrite.specs.Tidy.{IsTidy, are_ascending, null_before};
 ghost use Rattle.ct_certain.specs.Order as spec;
-ghost use Rattle.ct_certain.specs.Order.{IsMapOf, with_null};
+ghost use Rattle.ct_certain.specs.Order.{IsMapOf, are_up_to, ends_with, with_null};
 
 use crate::mapped::{by_null, value_of};
 use ct_rewrite::compare_nulls;
 use ct_word::{List, Memory, Null, Value, World};
 use indexmap::IndexMap;
 use std::alloc::Global;
-use std::cmp::Ordering;
 
-/// Where a null belongs among ascending ones; none where it is there already.
-fn slot(world: &[(Null, Value)], null: &Null) -> Option<usize>
-    ensures value { result ≡ spec.slot world.now null.now }
-    ensures within { IfSome result (λ k. k ≤ length world.now) }
+/// The nulls of a world in order, each as often as the world lists it.
+fn nulls_in_order(alloc: Global, world: &World) -> Result<Vec<Null>, Memory>
+    ensures all { IfOk result (λ ns. IsPermutation (map (λ p. p.0) world.now) ns.items) }
+    ensures ordered { IfOk result (λ ns. IsSortedBy null_before ns.items) }
 {
-    for (place, pair) in world.iter().enumerate() {
-        match compare_nulls(null, &pair.0) {
-            Ordering::Less => return Some(place),
-            Ordering::Equal => return None,
-            Ordering::Greater => {}
-        }
+    let mut nulls = Vec::new(alloc);
+    for pair in world.as_slice() {
+        nulls.push(pair.0.clone()?)?;
     }
-    Some(world.len())
+    nulls.sort_by(|m, n| compare_nulls(m, n))?;
+    Ok(nulls)
 }
 
-/// Puts a pair where its null belongs. A null that is there already keeps its value.
+/// Whether the last pair has a null.
+fn ends_with(world: &[(Null, Value)], null: &Null) -> bool
+    ensures { result ≡ ends_with world.now null.now }
+{
+    let count = world.len();
+    if count == 0 {
+        return false;
+    }
+    compare_nulls(&world[count - 1].0, null).is_eq()
+}
+
+/// Puts a pair last, after whose null none comes. A null that is there already keeps its value.
 fn put(world: &mut Vec<(Null, Value)>, null: Null, value: Value) -> Result<(), Memory>
+    requires ascending { IsTrue (are_ascending world.old.items) }
+    requires last { IsTrue (are_up_to world.old.items null) }
     ensures { OnOk result (world.new.items ≡ spec.put world.old.items null value) }
 {
-    match slot(world.as_slice(), &null) {
-        None => Ok(()),
-        Some(place) => {
-            world.insert(place, (null, value))?;
-            Ok(())
-        }
+    if ends_with(world.as_slice(), &null) {
+        return Ok(());
     }
+    world.push((null, value))?;
+    Ok(())
 }
 
-/// Puts a null in with the value that a world gives it, but for `@0`.
+/// Puts a null, after which none comes, in with the value that a world gives it, but for `@0`.
 fn add(
     to: &mut Vec<(Null, Value)>,
     world: &World,
     values: &IndexMap<Null, Value>,
     null: &Null,
 ) -> Result<(), Memory>
-    requires { IsMapOf values.now.entries world.now }
+    requires map { IsMapOf values.now.entries world.now }
+    requires ascending { IsTrue (are_ascending to.old.items) }
+    requires last { IsTrue (are_up_to to.old.items null.now) }
     ensures { OnOk result (to.new.items ≡ with_null world.now to.old.items null.now) }
 {
     let value = value_of(world, values, null)?;
@@ -59,13 +72,14 @@ fn add(
 
 /// The same world, with its nulls in order, and without those that have `@0`.
 pub fn tidy(alloc: Global, world: &World) -> Result<World, Memory>
-    ensures value { IfOk result (λ w. w ≡ spec.with_nulls world.now [] (map (λ p. p.0) world.now)) }
+    ensures same { (n : Null) → IfOk result (λ w. value_of_null w n ≡ value_of_null world.now n) }
     ensures tidy { IfOk result IsTidy }
 {
     let values = by_null(alloc, world)?;
+    let nulls = nulls_in_order(alloc, world)?;
     let mut out = Vec::new(alloc);
-    for pair in world.as_slice() {
-        add(&mut out, world, &values, &pair.0)?;
+    for null in nulls.as_slice() {
+        add(&mut out, world, &values, null)?;
     }
     Ok(List::from_vec(out))
 }

@@ -4,7 +4,7 @@ ghost use Rattle.std.specs.Prelude.{◌<◌, ◌^◌, length, All, IfOk, IfSome,
 ghost use Rattle.ct_word.specs.declared.kinds.Class.TheVariants as class;
 ghost use Rattle.ct_word.specs.Stands.{TermBelow};
 ghost use Rattle.ct_word.specs.WellFormed.{IsWellFormed, is_place_of};
-ghost use Rattle.ct_certain.specs.Answered.{AreOf, IsAnswer, IsKnown, IsNever, IsPool};
+ghost use Rattle.ct_certain.specs.Answered.{AreOf, IsAnswer, IsFound, IsKnown, IsNever, IsPool};
 ghost use Rattle.ct_certain.specs.Own.{AreNullsOf, IsShownBy};
 ghost use Rattle.ct_certain.specs.Possible.{is_shown};
 ghost use Rattle.ct_rewrite.specs.Tidy.{IsTidy};
@@ -15,7 +15,7 @@ use crate::order::tidy;
 use crate::spread::spread;
 use ct_condition::{Worths, worths};
 use ct_word::{CRow, List, Memory, Null, World};
-use indexmap::IndexSet;
+use indexmap::{IndexMap, IndexSet};
 use std::alloc::Global;
 
 /// A world, with what the places of the words are worth there.
@@ -28,8 +28,10 @@ pub struct Known {
 /// What is known of the rows of a table.
 #[derive(Drop)]
 pub struct Pool {
-    /// Worlds at which the global condition holds.
+    /// Worlds at which the global condition holds, in which any row is looked for.
     pub worlds: Vec<Known>,
+    /// Further ones, by the condition of the row that they were found for.
+    pub found: IndexMap<u32, World>,
     /// Conditions of rows that hold at no valuation together with the global one.
     pub never: IndexSet<u32>,
     /// The nulls below the global condition.
@@ -37,6 +39,9 @@ pub struct Pool {
     /// Whether the world in which the nulls of the table differ was tried.
     pub is_spread: bool,
 }
+
+/// The most worlds in which any row is looked for, one after another. Each has a byte for every word.
+const MOST_WORLDS: usize = 16;
 
 /// Puts a world into the pool, if the global condition holds there.
 fn keep(
@@ -73,6 +78,7 @@ pub fn start(alloc: Global, words: &[u64], global: u32) -> Result<Pool, Memory>
     keep(alloc, words, global, &mut worlds, List::new(alloc))?;
     Ok(Pool {
         worlds,
+        found: IndexMap::new(alloc),
         never: IndexSet::new(alloc),
         nulls,
         is_spread: false,
@@ -113,6 +119,26 @@ fn own_part(
     cut(alloc, world, nulls, &own)
 }
 
+/// The part that a row needs of the world that was found for its condition.
+fn noted(
+    alloc: Global,
+    words: &[u64],
+    global: u32,
+    pool: &Pool,
+    row: &CRow,
+) -> Result<Option<World>, Memory>
+    requires formed { IsWellFormed words.now }
+    requires asked { AreOf words.now global row.now }
+    requires pool { IsPool words.now global pool.now }
+    ensures { IfOk result (λ o. IfSome o (IsShownBy words.now global row.now)) }
+{
+    let Some(world) = pool.found.get(&row.cond) else {
+        return Ok(None);
+    };
+    let part = own_part(alloc, words, global, &pool.nulls, row, world)?;
+    Ok(Some(part))
+}
+
 /// The part that a row needs of a known world that shows it.
 fn look(
     alloc: Global,
@@ -132,7 +158,7 @@ fn look(
             return Ok(Some(part));
         }
     }
-    Ok(None)
+    noted(alloc, words, global, pool, row)
 }
 
 /// Puts a world in which the nulls of the table differ into the pool, if the global condition holds there.
@@ -183,7 +209,31 @@ pub fn find(
     look(alloc, words, global, pool, row)
 }
 
-/// Puts a world into the pool, and gives the part of it that a row needs.
+/// Puts a world at which a condition holds into the pool. While there is room it is one in which any row is looked for,
+/// and later one for rows with this condition alone.
+fn remember(
+    alloc: Global,
+    words: &[u64],
+    global: u32,
+    pool: &mut Pool,
+    cond: u32,
+    world: World,
+) -> Result<(), Memory>
+    requires formed { IsWellFormed words.now }
+    requires small { length words.now < 2 ^ 28 }
+    requires global { IsTrue (is_place_of words.now class.Cond global) }
+    requires pool { IsPool words.now global pool.old }
+    requires found { IsFound words.now global cond world }
+    ensures { OnOk result (IsPool words.now global pool.new) }
+{
+    if pool.worlds.len() < MOST_WORLDS {
+        return keep(alloc, words, global, &mut pool.worlds, world);
+    }
+    pool.found.insert(cond, world)?;
+    Ok(())
+}
+
+/// Puts a world that shows a row into the pool, and gives the part of it that the row needs.
 pub fn learn(
     alloc: Global,
     words: &[u64],
@@ -202,6 +252,6 @@ pub fn learn(
     ensures pool { OnOk result (IsPool words.now global pool.new) }
 {
     let part = own_part(alloc, words, global, &pool.nulls, row, &world)?;
-    keep(alloc, words, global, &mut pool.worlds, world)?;
+    remember(alloc, words, global, pool, row.cond, world)?;
     Ok(part)
 }

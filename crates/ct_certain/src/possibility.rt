@@ -8,7 +8,6 @@ ghost use Rattle.ct_word.specs.WellFormed.{IsWellFormed, is_place_of};
 ghost use Rattle.ct_condition.specs.Writes.{Writes};
 ghost use Rattle.ct_operators.specs.Tables.{AreRows};
 ghost use Rattle.ct_certain.specs.Answered.{AreOf, IsPool};
-ghost use Rattle.ct_certain.specs.Asked.{IsOfTable, IsPastTerms, IsPastTermsOfSomeRow};
 ghost use Rattle.ct_certain.specs.Faults.{is_full};
 ghost use Rattle.ct_certain.specs.Own.{IsOwn};
 ghost use Rattle.ct_certain.specs.Possible.{ListsPossible};
@@ -43,7 +42,6 @@ fn each_possible<N: Site, I: Interner<N>>(
     ensures lists { IfOk result (λ list. ListsPossible words.now global rows.now list) }
     ensures own { IfOk result (λ list. All (IsOwn words.now global rows.now) list) }
     ensures writes { Writes I.list I.made I.kept I.lent N.log.cap pass.old pass.new (length rows.now) (is_full result) }
-    ensures many { IsErrOf result fault.TooManyTerms → IsPastTermsOfSomeRow words.now (I.list pass.new) global rows.now }
 {
     let _ = pass.words();
     let mut list = Vec::new(alloc);
@@ -59,8 +57,7 @@ fn each_possible<N: Site, I: Interner<N>>(
 /// are rows.
 ///
 /// # Errors
-/// `Full` where the log has no room for the root of a question, `TooManyTerms` where the question whether a row is shown
-/// has more than 64 distinct terms, `Memory` where there is none for the list or a question.
+/// `Full` where the log has no room for the root of a question, `Memory` where there is none for the list or a question.
 pub fn possible<N: Site>(
     alloc: Global,
     arena: &Arena<N>,
@@ -77,8 +74,6 @@ pub fn possible<N: Site>(
     ensures formed { IsWellFormed pass.new.words }
     ensures room { length pass.new.words ≤ N.log.cap }
     ensures full { IsErrOf result fault.Full → length pass.new.words ≡ N.log.cap }
-    ensures question { IsErrOf result fault.TooManyTerms → IsPastTermsOfSomeRow pass.old.words pass.new.words global table.now.rows }
-    ensures many { IsErrOf result fault.TooManyTerms → IsPastTerms pass.new.words (IsOfTable pass.old.words global table.now.rows) }
     ensures made { pass.new.made ≤ pass.old.made + length table.now.rows }
     ensures fewer { IsErrOf result fault.Full → pass.new.made < pass.old.made + length table.now.rows }
     ensures session { pass.new.session ≡ pass.old.session }

@@ -1,46 +1,78 @@
 // Questions, and their answers.
 
-ghost use Rattle.std.specs.Prelude.{◌≡◌, ◌<◌, ◌^◌, true, false, length, IfOk, IsErrOf};
+ghost use Rattle.std.specs.Prelude.{◌≡◌, ◌<◌, ◌^◌, true, false, length, IfOk, IfSome};
 ghost use mathlib.Core.List.{IsPrefix};
 ghost use Rattle.ct_word.specs.declared.kinds.Class.TheVariants as class;
 ghost use Rattle.ct_word.specs.Stands.{HasNoColumn};
 ghost use Rattle.ct_word.specs.WellFormed.{IsWellFormed, is_place_of};
-ghost use Rattle.ct_cnf.specs.Encoding.{HasTermsPast};
 ghost use Rattle.ct_condition.specs.Writes.{Writes};
-ghost use Rattle.ct_certain.specs.Answered.{AreOf, IsAnswer, IsSettled};
-ghost use Rattle.ct_certain.specs.Asked.{IsPastTermsOfRow};
+ghost use Rattle.ct_certain.specs.Answered.{AreOf, IsAnswer, IsSettled, IsWitness};
 ghost use Rattle.ct_certain.specs.Faults.{is_full};
-ghost use Rattle.ct_certain.specs.declared.error.CertainError.TheVariants as fault;
 
 use crate::error::CertainError;
 use crate::order::tidy;
 use ct_arena::{Arena, Site};
 use ct_condition::{Interner, and};
 use ct_decide::{Decision, decide};
-use ct_word::{CRow, World};
+use ct_word::{CRow, Memory, World};
+use ct_worlds::repaired;
 use std::alloc::Global;
 
-/// A world in order at which the condition at a place holds, or a derivation that there is none.
+/// A world at which the condition at a place holds, or a derivation that there is none.
 pub fn settle(alloc: Global, words: &[u64], root: u32) -> Result<Decision, CertainError>
     requires formed { IsWellFormed words.now }
     requires few { length words.now < 2 ^ 28 }
     requires condition { is_place_of words.now class.Cond root ≡ true }
     requires columns { HasNoColumn words.now root }
     ensures settled { IfOk result (λ d. IsSettled words.now root d) }
-    ensures many { IsErrOf result fault.TooManyTerms → HasTermsPast 64 words.now root }
     ensures room { is_full result ≡ false }
 {
-    let decision = decide(alloc, words, root)?;
-    match decision {
-        Decision::World(found) => {
-            let world = tidy(alloc, &found)?;
-            Ok(Decision::World(world))
-        }
-        Decision::Refuted(derivation) => Ok(Decision::Refuted(derivation)),
-    }
+    Ok(decide(alloc, words, root)?)
 }
 
-/// A world at which the global condition holds and a row is shown, if there is one. One word is made for it at most.
+/// The same, where a change of a known world may be enough.
+pub fn settle_near(
+    alloc: Global,
+    words: &[u64],
+    root: u32,
+    near: &World,
+) -> Result<Decision, CertainError>
+    requires formed { IsWellFormed words.now }
+    requires few { length words.now < 2 ^ 28 }
+    requires condition { is_place_of words.now class.Cond root ≡ true }
+    requires columns { HasNoColumn words.now root }
+    ensures settled { IfOk result (λ d. IsSettled words.now root d) }
+    ensures room { is_full result ≡ false }
+{
+    if let Some(world) = repaired(alloc, words, &[root], near)? {
+        return Ok(Decision::World(world));
+    }
+    settle(alloc, words, root)
+}
+
+/// A world in order at which the global condition holds and a row is shown, by a change of a known world; none where that
+/// is not enough.
+pub fn change(
+    alloc: Global,
+    words: &[u64],
+    global: u32,
+    row: &CRow,
+    near: &World,
+) -> Result<Option<World>, Memory>
+    requires formed { IsWellFormed words.now }
+    requires few { length words.now < 2 ^ 28 }
+    requires asked { AreOf words.now global row.now }
+    ensures { IfOk result (λ o. IfSome o (IsWitness words.now global row.now)) }
+{
+    let Some(found) = repaired(alloc, words, &[global, row.cond], near)? else {
+        return Ok(None);
+    };
+    let world = tidy(alloc, &found)?;
+    Ok(Some(world))
+}
+
+/// A world in order at which the global condition holds and a row is shown, if there is one. One word is made for it at
+/// most.
 pub fn ask<N: Site, I: Interner<N>>(
     alloc: Global,
     arena: &Arena<N>,
@@ -53,7 +85,6 @@ pub fn ask<N: Site, I: Interner<N>>(
     requires asked { AreOf words.now global row.now }
     ensures answer { IfOk result (λ o. IsAnswer words.now global row.now o) }
     ensures writes { Writes I.list I.made I.kept I.lent N.log.cap pass.old pass.new 1 (is_full result) }
-    ensures many { IsErrOf result fault.TooManyTerms → IsPastTermsOfRow words.now (I.list pass.new) global row.now }
 {
     let _ = words;
     let _ = pass.words();
@@ -61,7 +92,10 @@ pub fn ask<N: Site, I: Interner<N>>(
     let now = pass.words();
     let decision = settle(alloc, now, root)?;
     match decision {
-        Decision::World(world) => Ok(Some(world)),
+        Decision::World(found) => {
+            let world = tidy(alloc, &found)?;
+            Ok(Some(world))
+        }
         Decision::Refuted(_) => Ok(None),
     }
 }

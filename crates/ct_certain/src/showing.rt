@@ -1,27 +1,54 @@
 // One row of the possible ones.
 
-ghost use Rattle.std.specs.Prelude.{◌<◌, ◌^◌, List, length, All, Contains, IfOk, OnOk, IsErrOf};
+ghost use Rattle.std.specs.Prelude.{◌<◌, ◌^◌, List, length, All, Contains, IfOk, OnOk};
 ghost use mathlib.Core.List.{IsPrefix};
 ghost use Rattle.ct_word.specs.WellFormed.{IsWellFormed};
 ghost use Rattle.ct_condition.specs.Writes.{Writes};
 ghost use Rattle.ct_word.specs.declared.values.CRow.{CRow};
-ghost use Rattle.ct_certain.specs.Answered.{AreOf, IsPool, Adds};
-ghost use Rattle.ct_certain.specs.Asked.{IsPastTermsOfRow};
+ghost use Rattle.ct_certain.specs.Answered.{AreOf, IsAnswer, IsPool, Adds};
 ghost use Rattle.ct_certain.specs.Faults.{is_full};
 ghost use Rattle.ct_certain.specs.Own.{IsOwn, IsOwnAnswer};
-ghost use Rattle.ct_certain.specs.declared.error.CertainError.TheVariants as fault;
 
 use crate::cells::terms;
 use crate::error::CertainError;
-use crate::pool::{Pool, find, is_never, learn};
-use crate::settling::ask;
+use crate::pool::{Known, Pool, find, is_never, learn};
+use crate::settling::{ask, change};
 use ct_arena::{Arena, Site};
 use ct_condition::Interner;
 use ct_rewrite::PossibleRow;
-use ct_word::{CRow, Memory, World};
+use ct_word::{CRow, List, Memory, World};
 use std::alloc::Global;
 
-/// What a row needs of a world that shows it, if there is one: a known one, or one that is asked for, and known from then on.
+/// A world in order that shows a row, if there is one, by a change of the first known one where that is enough. One word
+/// is made for it at most.
+fn reach<N: Site, I: Interner<N>>(
+    alloc: Global,
+    arena: &Arena<N>,
+    pass: &mut I,
+    words: &[u64],
+    global: u32,
+    near: &[Known],
+    row: &CRow,
+) -> Result<Option<World>, CertainError>
+    requires formed { IsWellFormed words.now }
+    requires small { length words.now < 2 ^ 28 }
+    requires longer { IsPrefix words.now (I.list pass.old) }
+    requires asked { AreOf words.now global row.now }
+    ensures answer { IfOk result (λ o. IsAnswer words.now global row.now o) }
+    ensures writes { Writes I.list I.made I.kept I.lent N.log.cap pass.old pass.new 1 (is_full result) }
+{
+    let _ = pass.words();
+    let changed = match near.first() {
+        Some(known) => change(alloc, words, global, row, &known.world)?,
+        None => change(alloc, words, global, row, &List::new(alloc))?,
+    };
+    if let Some(world) = changed {
+        return Ok(Some(world));
+    }
+    ask(alloc, arena, pass, words, global, row)
+}
+
+/// What a row needs of a world that shows it, if there is one: a known one, or one that is looked for, and known from then on.
 pub fn show<N: Site, I: Interner<N>>(
     alloc: Global,
     arena: &Arena<N>,
@@ -40,7 +67,6 @@ pub fn show<N: Site, I: Interner<N>>(
     ensures answer { IfOk result (λ o. IsOwnAnswer words.now global row.now o) }
     ensures pool { OnOk result (IsPool words.now global pool.new) }
     ensures writes { Writes I.list I.made I.kept I.lent N.log.cap pass.old pass.new 1 (is_full result) }
-    ensures many { IsErrOf result fault.TooManyTerms → IsPastTermsOfRow words.now (I.list pass.new) global row.now }
 {
     let _ = pass.words();
     if is_never(words, global, &pool.never, row) {
@@ -49,7 +75,15 @@ pub fn show<N: Site, I: Interner<N>>(
     if let Some(part) = find(alloc, words, global, rows, pool, row)? {
         return Ok(Some(part));
     }
-    match ask(alloc, arena, pass, words, global, row)? {
+    match reach(
+        alloc,
+        arena,
+        pass,
+        words,
+        global,
+        pool.worlds.as_slice(),
+        row,
+    )? {
         None => {
             pool.never.insert(row.cond)?;
             Ok(None)

@@ -7,8 +7,8 @@ use crate::below::is_null;
 use ct_word::{CRow, Kind, List, Memory, Null, Term, Value, World, term_at, word_at};
 use std::alloc::{AllocError, Global};
 
-/// The most nulls that are given values of their own; finding the value of a null goes over all of them.
-const MOST_NULLS: usize = 1024;
+/// The most nulls that are given values of their own: a word has room for `@k` with k below 2^28.
+const MOST_NULLS: usize = (1 << 28) - 1;
 
 /// Marks a place, if there is a mark for it.
 fn mark(marks: &mut Vec<bool>, place: u32) {

@@ -51,9 +51,6 @@ module _ (H : List PlainCommit) (W : List ℕ) (N : ℕ) where
         let le = w.small at l.0.actions l.0.statement l.0.query (saw l.0.actions l.1 l.0.sees) l.0.sees l.0.asks l.0.evaluates in
         let lt = l.0.past in absurd (omega (arith, le, lt))
     of_memory refusal.Full l = let lt = w.room in let e = l.0.full in absurd (omega (arith, lt, e))
-    of_memory refusal.TooManyTerms l =
-        let le = w.few_terms at l.0.actions l.0.statement (saw l.0.actions l.1 l.0.sees) l.0.sees l.0.asks l.0.of_worlds in
-        let lt = l.0.past in absurd (omega (arith, le, lt))
     of_memory (refusal.Inconsistent proof) l =
         let v = w.satisfied at l.0.actions l.0.condition (saw l.0.actions l.1 l.0.sees) l.0.sees l.0.asks in
         absurd (false≢true (sym (l.0.none_satisfies v.0) ∙ v.1))

@@ -1,9 +1,8 @@
 -- Completeness: what is within all limits is not refused.
-use Rattle.std.specs.Prelude.{◌≡◌, ℕ, ◌+◌, ◌<◌, ◌≤◌, ◌⊎◌, List, [], ◌∷◌, ◌++◌, length, take, All, ⊤, Some, None, Err, IsSome, IsTrue, true}
+use Rattle.std.specs.Prelude.{◌≡◌, ℕ, ◌+◌, ◌<◌, ◌≤◌, ◌⊎◌, List, [], ◌∷◌, ◌++◌, length, take, All, ⊤, Some, None, Err, IsSome, IsTrue}
 use Rattle.ct_word.specs.Value.{World}
 use Rattle.ct_word.specs.Condition.{Condition}
 use Rattle.ct_word.specs.Change.{PlainCommit}
-use Rattle.ct_word.specs.Reading.{commits_of}
 use Rattle.ct_query.specs.Plain.{PlainQuery, PlainAction, PlainStatement}
 use Rattle.ct_query.specs.Plain as plain
 use Rattle.ct_query.specs.declared.action.Read.{Read}
@@ -11,7 +10,6 @@ use Rattle.ct_query.specs.Worlds.{admits}
 use Rattle.ct_query.specs.Reads.{last}
 use Rattle.ct_query.specs.Patterns.{count}
 use Rattle.ct_query.specs.Size.{size}
-use Rattle.ct_query.specs.Terms.{term_count}
 use Rattle.ct_algebra.specs.Evaluates.{limit}
 use Rattle.ct_resolve.specs.declared.error.ResolveError.{ResolveError}
 use Rattle.ct_lex.specs.Texts.{texts}
@@ -25,7 +23,7 @@ use Rattle.ct_transcript.specs.declared.transcript.Transcript.{Transcript}
 use Rattle.ct_session.specs.Statements.{IsTextFault}
 use Rattle.ct_session.specs.State.{SessionState, beginning}
 use Rattle.ct_session.specs.Seeing.{Sees, ResolvesTo, Asks, Orders}
-use Rattle.ct_statement.specs.Unmet.{query_in, asks_of_worlds, TERMS}
+use Rattle.ct_statement.specs.Unmet.{query_in}
 use Rattle.ct_session.specs.LawfulRefusal.{CommitsWhole, CommitsAlone}
 use Rattle.ct_session.specs.LawfulReply.{LawfulReply}
 use Rattle.ct_session.specs.Answers.{commits_by}
@@ -49,12 +47,10 @@ module _ (H : List PlainCommit) (W : List ℕ) (N : ℕ) where
     pub ends_inside : (st : PlainStatement) → (st ≡ plain.Commit) ⊎ (st ≡ plain.Rollback) → Orders H s x st → IsSome s.transaction
     -- no fault of a name or a count
     pub named : (at : ℕ) (actions : List PlainAction) (e : ResolveError) → At at → Sees H s at actions → ResolvesTo H s x at actions (Err e) → ⊥
-    -- its query is not too large, the log is not full, and it has not too many terms
+    -- its query is not too large, and the log is not full
     pub small : (at : ℕ) (actions : List PlainAction) (st : PlainStatement) (q : PlainQuery) → At at → Sees H s at actions → Asks H s x at actions st → query_in st ≡ Some q
         → size (count (take at H) actions) q ≤ limit
     pub room : length W < N
-    pub few_terms : (at : ℕ) (actions : List PlainAction) (st : PlainStatement) → At at → Sees H s at actions → Asks H s x at actions st → asks_of_worlds st ≡ true
-        → term_count (take at (commits_of W)) actions st ≤ TERMS
     -- where it asserts, some valuation satisfies it
     pub satisfied : (at : ℕ) (actions : List PlainAction) (c : Condition) → At at → Sees H s at actions → Asks H s x at actions (plain.Act (plain.Assert c))
         → (v : World) × IsTrue (admits v (take at H) (actions ++ plain.Assert c ∷ []))

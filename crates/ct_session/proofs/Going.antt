@@ -21,15 +21,14 @@ version_within words more longer version within =
 pub front_taken : {A : Type 0} (n : ℕ) (xs ys : List A) → IsPrefix xs ys → n ≤ length xs → take n ys ≡ take n xs
 front_taken n xs ys p le = ap (take n) (sym p.1) ∙ take-append-le n xs p.0 le
 
--- the commits of a version are the first in further words, and in each history that stands for these
-pub record IsOnward (h : List PlainCommit) (version : ℕ) (W : List ℕ) (H : List PlainCommit) : Type 0 where
+-- what is known of the commits of a version is so of the first in each history that stands for further words
+pub record IsOnward (h : List PlainCommit) (version : ℕ) (H : List PlainCommit) : Type 0 where
   pub within : version ≤ length H
-  pub first : take version (commits_of W) ≡ h
   pub keeps : Keeps h (take version H)
   pub counts : (actions : List PlainAction) (t : List ℕ) → count h actions t ≤ count H actions t
 
 pub onward : (words : List ℕ) (version : ℕ) → version ≤ length (commits_of words) → (W : List ℕ) → IsPrefix words W → (H : List PlainCommit) → StandsFor H W
-    → IsOnward (commits_to words version) version W H
+    → IsOnward (commits_to words version) version H
 onward words version le W longer H stands =
     let h = commits_to words version in
     let same = front_taken version (commits_of words) (commits_of W) (commits_prefix words W longer) le in
@@ -37,7 +36,6 @@ onward words version le W longer H stands =
     let keeps : Keeps h (take version H) = subst (λ g. Keeps g (take version H)) same (both.keeps version) in
     record {
       within = let there = version_within words W longer version le in let equal = both.length in omega (arith, there, equal);
-      first = same;
       keeps = keeps;
       counts = λ actions t.
           subst (λ n. n ≤ count H actions t) (sym (keeps.counts actions t)) (count_grows (take version H) H (drop version H, take-append-drop version H) actions t);

@@ -10,7 +10,7 @@ use Rattle.ct_arena.{specs.Seen.Seen, specs.Counts.AreNumbered}
 use Rattle.ct_history.specs.Kept.{kept_of}
 use Rattle.ct_table.specs.Snapshot.{commits_to}
 use Rattle.ct_query.{specs.Plain.{PlainAction, PlainStatement, PlainQuery}, specs.declared.action.Ask.Ask, specs.declared.action.Read.Read, specs.Schema.schema}
-use Rattle.ct_query.{specs.Patterns.count, specs.Size.size, specs.Terms.term_count}
+use Rattle.ct_query.{specs.Patterns.count, specs.Size.size}
 use Rattle.ct_algebra.specs.Evaluates.{limit}
 use Rattle.ct_rewrite.{specs.declared.answer.PossibleRow.PossibleRow, specs.declared.answer.CertainRow.CertainRow}
 use Rattle.ct_transcript.{specs.declared.reply.Answer.Answer, specs.Means.{allowed, shown}, specs.Possible.PossibleRight, specs.Certain.CertainRight}
@@ -18,9 +18,9 @@ use Rattle.ct_transcript.{specs.declared.reply.Reply.Reply, specs.declared.reply
 use Rattle.ct_parse.specs.declared.tree.Statement.{Statement}
 use Rattle.ct_resolve.{specs.declared.error.ResolveError.ResolveError, specs.Found.Found, specs.Statements.resolved}
 use Rattle.ct_statement.{specs.declared.replying.Answered.Answered, specs.declared.sight.Sight.Sight, specs.Answered.{IsAnswerFor, Answers as IsAnswered}}
-use Rattle.ct_statement.{specs.Unmet.TERMS, proofs.Weights.makes_words_still}
+use Rattle.ct_statement.proofs.Weights.{makes_words_still}
 use Rattle.ct_session.{specs.Statements.ReadsAs, specs.State.{Transaction, SessionState, carried, extended, extended_at, own_actions}}
-use Rattle.ct_session.{specs.Seeing.{Sees, ResolvesTo}, specs.LawfulRefusal.{IsNameFault, IsTooLarge, IsFull, IsTooManyTerms, IsInconsistent, LawfulRefusal}}
+use Rattle.ct_session.{specs.Seeing.{Sees, ResolvesTo}, specs.LawfulRefusal.{IsNameFault, IsTooLarge, IsFull, IsInconsistent, LawfulRefusal}}
 use Rattle.ct_session.{specs.LawfulReply.{IsRows, IsPossible, IsCertain, LawfulReply}, specs.Replying.{reply_of, standing}, proofs.Own.own_commits_stay}
 use Rattle.ct_session.specs.Answers.{committed_of, version_of, is_full, commits_by, GoesOn, ConflictsLater, Answers}
 use Rattle.ct_session.specs.Prepared.{ForAnswer, IsPrepared, IsPreparedFor, IsUnmetAt, IsRefused, by_name, unmet, wanting_memory, name_refusal}
@@ -137,7 +137,7 @@ module _ (N : ℕ) (s : SessionState) (x : List ℕ) (st : Statement) (reads : R
 
   -- the words go on, and a history stands for them
   module _ (W : List ℕ) (g : GoesOn N now W) (H : List PlainCommit) (stands : StandsFor H W) where
-    abbrev on : IsOnward seen_commits version W H
+    abbrev on : IsOnward seen_commits version H
     on = onward now version within W g.log H stands
 
     abbrev sees_on : Sees H s version actions
@@ -178,17 +178,6 @@ module _ (N : ℕ) (s : SessionState) (x : List ℕ) (st : Statement) (reads : R
       makes_words = makes_words_still (count seen_commits actions) (count H actions) (on.counts actions) (own_actions s) u.asked (u.unmet.makes_words (own_actions s));
     }
 
-    -- it asks about too many terms
-    too_many : IsUnmetAt seen_commits actions N now s.session s.fresh st refusal.TooManyTerms → IsTooManyTerms H W N s x version
-    too_many u = record {
-      actions = actions;
-      statement = u.asked;
-      sees = sees_on;
-      asks = resolves_on (Ok u.asked) u.resolves;
-      of_worlds = u.unmet.of_worlds;
-      past = subst (λ cs. TERMS < term_count cs actions u.asked) (sym on.first) u.unmet.past;
-    }
-
     -- no admitted valuation satisfies it
     inconsistent : (proof : Proof) → IsUnmetAt seen_commits actions N now s.session s.fresh st (refusal.Inconsistent proof) → IsInconsistent H W N s x version proof
     inconsistent proof u =
@@ -209,7 +198,6 @@ module _ (N : ℕ) (s : SessionState) (x : List ℕ) (st : Statement) (reads : R
         → LawfulRefusal H W N s x (standing s.seen version why) why (carried (standing s.seen version why) s)
     unmet_lawful refusal.TooLarge u = (too_large u, refl)
     unmet_lawful refusal.Full u = (filled u, refl)
-    unmet_lawful refusal.TooManyTerms u = (too_many u, refl)
     unmet_lawful (refusal.Inconsistent proof) u = (inconsistent proof u, refl)
     unmet_lawful refusal.Memory u = (refl, refl)
     unmet_lawful _ u = absurd u.unmet

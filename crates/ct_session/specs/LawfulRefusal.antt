@@ -1,9 +1,9 @@
 -- Which refusal may follow a text in a state, and the state after it.
-use Rattle.std.specs.Prelude.{◌≡◌, ℕ, ◌<◌, ◌≤◌, ◌⊎◌, true, false, List, [], ◌∷◌, ◌++◌, length, take, Some, None, Err, All, IsSome}
+use Rattle.std.specs.Prelude.{◌≡◌, ℕ, ◌<◌, ◌≤◌, ◌⊎◌, false, List, [], ◌∷◌, ◌++◌, length, take, Some, None, Err, All, IsSome}
 use Rattle.ct_word.specs.Value.{World}
 use Rattle.ct_word.specs.Condition.{Condition, holds_at}
 use Rattle.ct_word.specs.Change.{PlainCommit}
-use Rattle.ct_word.specs.Reading.{condition_at, commits_of}
+use Rattle.ct_word.specs.Reading.{condition_at}
 use Rattle.ct_derivation.specs.declared.steps.Proof.{Proof}
 use Rattle.ct_derivation.specs.Accepts.{AcceptsProof}
 use Rattle.ct_query.specs.Plain.{PlainQuery, PlainAction, PlainStatement}
@@ -14,7 +14,6 @@ use Rattle.ct_query.specs.Reads.{last, action_reads}
 use Rattle.ct_query.specs.Patterns.{count}
 use Rattle.ct_query.specs.Size.{size}
 use Rattle.ct_query.specs.Bounds.{bound}
-use Rattle.ct_query.specs.Terms.{term_count}
 use Rattle.ct_algebra.specs.Evaluates.{limit}
 use Rattle.ct_transcript.specs.declared.reply.Refusal.{Refusal}
 use Rattle.ct_transcript.specs.declared.reply.Refusal.TheVariants as refusal
@@ -23,7 +22,7 @@ use Rattle.ct_resolve.specs.declared.error.ResolveError.TheVariants as name
 use Rattle.ct_session.specs.Statements.{IsTextFault}
 use Rattle.ct_session.specs.State.{Transaction, SessionState, carried, own_actions, with_transaction}
 use Rattle.ct_session.specs.Seeing.{Sees, ResolvesTo, Asks, Orders}
-use Rattle.ct_statement.specs.Unmet.{query_in, asks_of_worlds, TERMS}
+use Rattle.ct_statement.specs.Unmet.{query_in}
 
 -- H is the run's history, W the words of its log, N their capacity
 module _ (H : List PlainCommit) (W : List ℕ) (N : ℕ) where
@@ -71,16 +70,6 @@ module _ (H : List PlainCommit) (W : List ℕ) (N : ℕ) where
     pub asks : Asks H s x at actions statement
     pub full : length W ≡ N
     pub makes_words : 1 ≤ bound (count H actions) (own_actions s) statement
-
-  -- a statement that asks of all worlds asks about more terms than it may: those of the words' changes that assert or name
-  -- a table that is read, of the actions before, and its own
-  pub record IsTooManyTerms (s : SessionState) (x : List ℕ) (at : ℕ) : Type 0 where
-    pub actions : List PlainAction
-    pub statement : PlainStatement
-    pub sees : Sees H s at actions
-    pub asks : Asks H s x at actions statement
-    pub of_worlds : asks_of_worlds statement ≡ true
-    pub past : TERMS < term_count (take at (commits_of W)) actions statement
 
   -- no admitted valuation satisfies the assertion: the proof refutes a condition that is true where one does
   pub record IsInconsistent (s : SessionState) (x : List ℕ) (at : ℕ) (proof : Proof) : Type 0 where
@@ -148,7 +137,6 @@ module _ (H : List PlainCommit) (W : List ℕ) (N : ℕ) where
   LawfulRefusal s x at refusal.ColumnCount next = IsNameFault s x at name.ColumnCount × Keeps s at next
   LawfulRefusal s x at refusal.TooLarge next = IsTooLarge s x at × Keeps s at next
   LawfulRefusal s x at refusal.Full next = IsFull s x at × Keeps s at next
-  LawfulRefusal s x at refusal.TooManyTerms next = IsTooManyTerms s x at × Keeps s at next
   LawfulRefusal s x at (refusal.Inconsistent proof) next = IsInconsistent s x at proof × Keeps s at next
   LawfulRefusal s x at (refusal.Conflict table was now at') next = (at ≡ at') × IsConflict s x table was now at next
   LawfulRefusal s x at refusal.Memory next = (at ≡ s.seen) × Keeps s at next

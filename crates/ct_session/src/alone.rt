@@ -46,7 +46,7 @@ pub enum Ready {
 /// What a statement asks for at what it sees, found there.
 ///
 /// # Errors
-/// One of `TooLarge`, `Full`, `TooManyTerms`, `Inconsistent` and `Memory`, only where its cause holds.
+/// One of `TooLarge`, `Full`, `Inconsistent` and `Memory`, only where its cause holds.
 fn performed<N: Site>(
     alloc: Global,
     arena: &Arena<N>,
@@ -96,8 +96,8 @@ fn performed<N: Site>(
 /// follow.
 ///
 /// # Errors
-/// The first fault of its names and counts. Else one of `TooLarge`, `Full`, `TooManyTerms`, `Inconsistent` and `Memory`,
-/// only where its cause holds.
+/// The first fault of its names and counts. Else one of `TooLarge`, `Full`, `Inconsistent` and `Memory`, only where its
+/// cause holds.
 fn asked<N: Site>(
     alloc: Global,
     arena: &Arena<N>,
@@ -164,9 +164,9 @@ fn offered<N: Site, R: Wait>(
     requires few { pass.mine < 2 ^ 18 }
     requires seen { seen ≤ offering.offer.base }
     requires ready { IsReadyToOffer pass fresh offering statement.now }
-    ensures session { IsSession result.0.pass.words result.0.seen result.0.open }
+    ensures session { IsSession result.0.pass.words result.0.seen result.0.transaction }
     ensures stays { StillSeen pass.words result.0.pass.words }
-    ensures executes { (first : Seen) → Begins first pass offering.offer.base → Executes N.log.cap (state_of first seen fresh None) (state_of result.0.pass result.0.seen result.0.fresh result.0.open) first.words result.0.pass.words statement.now result.1 }
+    ensures executes { (first : Seen) → Begins first pass offering.offer.base → Executes N.log.cap (state_of first seen fresh None) (state_of result.0.pass result.0.seen result.0.fresh result.0.transaction) first.words result.0.pass.words statement.now result.1 }
 {
     let _words = pass.words();
     let Offering {
@@ -199,9 +199,9 @@ fn anew<N: Site, R: Wait>(
     requires known { IsNone known.old.sight }
     requires written { IsWritten statement.now }
     requires plain { IsNoOrder statement.now }
-    ensures session { IsSession result.0.pass.words result.0.seen result.0.open }
+    ensures session { IsSession result.0.pass.words result.0.seen result.0.transaction }
     ensures known { IsKnown result.0.pass.words known.new }
-    ensures executes { (first : Seen) → Begins first pass (length (commits_of pass.words)) → Executes N.log.cap (state_of first seen fresh None) (state_of result.0.pass result.0.seen result.0.fresh result.0.open) first.words result.0.pass.words statement.now result.1 }
+    ensures executes { (first : Seen) → Begins first pass (length (commits_of pass.words)) → Executes N.log.cap (state_of first seen fresh None) (state_of result.0.pass result.0.seen result.0.fresh result.0.transaction) first.words result.0.pass.words statement.now result.1 }
 {
     let (mut pass, snapshot) = server.begin(rt, alloc, pass);
     let _begun = pass.words();
@@ -243,24 +243,24 @@ pub(crate) fn alone<N: Site, R: Wait>(
     known: &mut Known,
     statement: &Statement,
 ) -> (State<N>, Reply)
-    requires session { IsSession session.pass.words session.seen session.open }
+    requires session { IsSession session.pass.words session.seen session.transaction }
     requires few { session.pass.mine < 2 ^ 18 }
-    requires none { IsNone session.open }
+    requires none { IsNone session.transaction }
     requires known { IsKnown session.pass.words known.old }
     requires written { IsWritten statement.now }
     requires plain { IsNoOrder statement.now }
-    ensures session { IsSession result.0.pass.words result.0.seen result.0.open }
+    ensures session { IsSession result.0.pass.words result.0.seen result.0.transaction }
     ensures known { IsKnown result.0.pass.words known.new }
-    ensures executes { Executes N.log.cap (state_of session.pass session.seen session.fresh session.open) (state_of result.0.pass result.0.seen result.0.fresh result.0.open) session.pass.words result.0.pass.words statement.now result.1 }
+    ensures executes { Executes N.log.cap (state_of session.pass session.seen session.fresh session.transaction) (state_of result.0.pass result.0.seen result.0.fresh result.0.transaction) session.pass.words result.0.pass.words statement.now result.1 }
 {
     let _words = session.pass.words();
     let State {
         pass,
         seen,
         fresh,
-        open,
+        transaction,
     } = session;
-    drop(open);
+    drop(transaction);
     match insert_known(rt, alloc, server, pass, seen, fresh, known, statement) {
         Ok(done) => done,
         Err(pass) => anew(rt, alloc, server, pass, seen, fresh, known, statement),

@@ -82,8 +82,8 @@ fn offered<N: Site, R: Wait>(
     requires few { pass.mine < 2 ^ 18 }
     requires begun { transaction.changes ≡ Some changes }
     requires order { statement.now ≡ tree.Commit }
-    ensures session { IsSession result.0.pass.words result.0.seen result.0.open }
-    ensures executes { Executes N.log.cap (state_of pass seen fresh (Some transaction)) (state_of result.0.pass result.0.seen result.0.fresh result.0.open) pass.words result.0.pass.words statement.now result.1 }
+    ensures session { IsSession result.0.pass.words result.0.seen result.0.transaction }
+    ensures executes { Executes N.log.cap (state_of pass seen fresh (Some transaction)) (state_of result.0.pass result.0.seen result.0.fresh result.0.transaction) pass.words result.0.pass.words statement.now result.1 }
 {
     let _words = pass.words();
     let Ok(kept) = copied(alloc, &transaction.sight.kept) else {
@@ -122,21 +122,23 @@ pub(crate) fn commit<N: Site, R: Wait>(
     session: State<N>,
     statement: &Statement,
 ) -> (State<N>, Reply)
-    requires session { IsSession session.pass.words session.seen session.open }
+    requires session { IsSession session.pass.words session.seen session.transaction }
     requires few { session.pass.mine < 2 ^ 18 }
-    requires some { IsSome session.open }
+    requires some { IsSome session.transaction }
     requires order { statement.now ≡ tree.Commit }
-    ensures session { IsSession result.0.pass.words result.0.seen result.0.open }
-    ensures executes { Executes N.log.cap (state_of session.pass session.seen session.fresh session.open) (state_of result.0.pass result.0.seen result.0.fresh result.0.open) session.pass.words result.0.pass.words statement.now result.1 }
+    ensures session { IsSession result.0.pass.words result.0.seen result.0.transaction }
+    ensures executes { Executes N.log.cap (state_of session.pass session.seen session.fresh session.transaction) (state_of result.0.pass result.0.seen result.0.fresh result.0.transaction) session.pass.words result.0.pass.words statement.now result.1 }
 {
     let _words = session.pass.words();
     let State {
         pass,
         seen,
         fresh,
-        open,
+        transaction,
     } = session;
-    let Some(open) = open else { unreachable!() };
+    let Some(open) = transaction else {
+        unreachable!()
+    };
     match open.changes {
         None => {
             let at = open.sight.version;

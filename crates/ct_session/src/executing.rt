@@ -30,15 +30,15 @@ fn placed<N: Site, R: Wait>(
     known: &mut Known,
     statement: &Statement,
 ) -> (State<N>, Reply)
-    requires session { IsSession session.pass.words session.seen session.open }
+    requires session { IsSession session.pass.words session.seen session.transaction }
     requires few { session.pass.mine < 2 ^ 18 }
     requires known { IsKnown session.pass.words known.old }
     requires written { IsWritten statement.now }
-    ensures session { IsSession result.0.pass.words result.0.seen result.0.open }
+    ensures session { IsSession result.0.pass.words result.0.seen result.0.transaction }
     ensures known { IsKnown result.0.pass.words known.new }
-    ensures executes { Executes N.log.cap (state_of session.pass session.seen session.fresh session.open) (state_of result.0.pass result.0.seen result.0.fresh result.0.open) session.pass.words result.0.pass.words statement.now result.1 }
+    ensures executes { Executes N.log.cap (state_of session.pass session.seen session.fresh session.transaction) (state_of result.0.pass result.0.seen result.0.fresh result.0.transaction) session.pass.words result.0.pass.words statement.now result.1 }
 {
-    let is_open = session.open.is_some();
+    let is_open = session.transaction.is_some();
     if let (Statement::InsertRows { .. }, false) = (statement, is_open) {
         return alone(rt, alloc, server, session, known, statement);
     }
@@ -65,12 +65,12 @@ pub(crate) fn executed<N: Site, R: Wait>(
     known: &mut Known,
     text: &str,
 ) -> (State<N>, Reply)
-    requires session { IsSession session.pass.words session.seen session.open }
+    requires session { IsSession session.pass.words session.seen session.transaction }
     requires few { session.pass.mine < 2 ^ 18 }
     requires known { IsKnown session.pass.words known.old }
-    ensures session { IsSession result.0.pass.words result.0.seen result.0.open }
+    ensures session { IsSession result.0.pass.words result.0.seen result.0.transaction }
     ensures known { IsKnown result.0.pass.words known.new }
-    ensures answers { Answers N.log.cap (state_of session.pass session.seen session.fresh session.open) (state_of result.0.pass result.0.seen result.0.fresh result.0.open) session.pass.words result.0.pass.words text.now result.1 }
+    ensures answers { Answers N.log.cap (state_of session.pass session.seen session.fresh session.transaction) (state_of result.0.pass result.0.seen result.0.fresh result.0.transaction) session.pass.words result.0.pass.words text.now result.1 }
 {
     let _ = session.pass.words();
     let statement = match read(alloc, text) {

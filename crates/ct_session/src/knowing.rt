@@ -126,8 +126,8 @@ pub(crate) fn insert_known<N: Site, R: Wait>(
     requires known { IsKnown pass.words known.old }
     requires written { IsWritten statement.now }
     requires plain { IsNoOrder statement.now }
-    ensures session { IfOk result (λ done. IsSession done.0.pass.words done.0.seen done.0.open) }
-    ensures executes { IfOk result (λ done. Executes N.log.cap (state_of pass seen fresh None) (state_of done.0.pass done.0.seen done.0.fresh done.0.open) pass.words done.0.pass.words statement.now done.1) }
+    ensures session { IfOk result (λ done. IsSession done.0.pass.words done.0.seen done.0.transaction) }
+    ensures executes { IfOk result (λ done. Executes N.log.cap (state_of pass seen fresh None) (state_of done.0.pass done.0.seen done.0.fresh done.0.transaction) pass.words done.0.pass.words statement.now done.1) }
     ensures known { IfOk result (λ done. IsKnown done.0.pass.words known.new) }
     ensures longer { IfErr result (λ same. IsPrefix pass.words same.words) }
     ensures kept { IfErr result (λ same. kept_of same ≡ kept_of pass) }

@@ -25,13 +25,13 @@ pub(crate) fn begin<N: Site, R: Wait>(
     session: State<N>,
     statement: &Statement,
 ) -> (State<N>, Reply)
-    requires session { IsSession session.pass.words session.seen session.open }
-    requires none { IsNone session.open }
+    requires session { IsSession session.pass.words session.seen session.transaction }
+    requires none { IsNone session.transaction }
     requires order { statement.now ≡ tree.Begin }
-    ensures session { IsSession result.0.pass.words result.0.seen result.0.open }
-    ensures executes { Executes N.log.cap (state_of session.pass session.seen session.fresh session.open) (state_of result.0.pass result.0.seen result.0.fresh result.0.open) session.pass.words result.0.pass.words statement.now result.1 }
+    ensures session { IsSession result.0.pass.words result.0.seen result.0.transaction }
+    ensures executes { Executes N.log.cap (state_of session.pass session.seen session.fresh session.transaction) (state_of result.0.pass result.0.seen result.0.fresh result.0.transaction) session.pass.words result.0.pass.words statement.now result.1 }
 {
-    drop(session.open);
+    drop(session.transaction);
     let State {
         pass,
         seen,
@@ -56,14 +56,14 @@ pub(crate) fn begin<N: Site, R: Wait>(
 
 /// ROLLBACK in a transaction: gives it up.
 pub(crate) fn roll_back<N: Site>(mut session: State<N>, statement: &Statement) -> (State<N>, Reply)
-    requires session { IsSession session.pass.words session.seen session.open }
-    requires some { IsSome session.open }
+    requires session { IsSession session.pass.words session.seen session.transaction }
+    requires some { IsSome session.transaction }
     requires order { statement.now ≡ tree.Rollback }
-    ensures session { IsSession result.0.pass.words result.0.seen result.0.open }
-    ensures executes { Executes N.log.cap (state_of session.pass session.seen session.fresh session.open) (state_of result.0.pass result.0.seen result.0.fresh result.0.open) session.pass.words result.0.pass.words statement.now result.1 }
+    ensures session { IsSession result.0.pass.words result.0.seen result.0.transaction }
+    ensures executes { Executes N.log.cap (state_of session.pass session.seen session.fresh session.transaction) (state_of result.0.pass result.0.seen result.0.fresh result.0.transaction) session.pass.words result.0.pass.words statement.now result.1 }
 {
     let _words = session.pass.words();
-    session.open = None;
+    session.transaction = None;
     (session, Reply::RolledBack)
 }
 
@@ -73,10 +73,10 @@ pub(crate) fn refused_here<N: Site>(
     statement: &Statement,
     why: Refusal,
 ) -> (State<N>, Reply)
-    requires session { IsSession session.pass.words session.seen session.open }
-    requires misplaced { IsMisplaced session.open statement.now why }
-    ensures session { IsSession result.0.pass.words result.0.seen result.0.open }
-    ensures executes { Executes N.log.cap (state_of session.pass session.seen session.fresh session.open) (state_of result.0.pass result.0.seen result.0.fresh result.0.open) session.pass.words result.0.pass.words statement.now result.1 }
+    requires session { IsSession session.pass.words session.seen session.transaction }
+    requires misplaced { IsMisplaced session.transaction statement.now why }
+    ensures session { IsSession result.0.pass.words result.0.seen result.0.transaction }
+    ensures executes { Executes N.log.cap (state_of session.pass session.seen session.fresh session.transaction) (state_of result.0.pass result.0.seen result.0.fresh result.0.transaction) session.pass.words result.0.pass.words statement.now result.1 }
 {
     let _words = session.pass.words();
     let at = session.seen;

@@ -150,7 +150,7 @@ fn change<N: Site>(
 /// What a statement with positions asks for that is no BEGIN, COMMIT or ROLLBACK. The pass has the words of it.
 ///
 /// # Errors
-/// One of `TooLarge`, `Full`, `TooManyTerms`, `Inconsistent` and `Memory`, only where its cause holds.
+/// One of `TooLarge`, `Full`, `Inconsistent` and `Memory`, only where its cause holds.
 #[tactic(auto, using(crate::proofs::Resolving::not_begin, crate::proofs::Resolving::not_commit, crate::proofs::Resolving::not_rollback))]
 pub(crate) fn perform<N: Site>(
     alloc: Global,

@@ -55,8 +55,8 @@ pub(crate) fn refusal<N: Site>(
     why: Refusal,
 ) -> (State<N>, Reply)
     ensures pass { result.0.pass ≡ pass }
-    ensures session { IsSession pass.words (max seen (standing seen version why)) transaction → IsSession result.0.pass.words result.0.seen result.0.open }
-    ensures executes { (room : ℕ) (s : SessionState) (words : List ℕ) (st : Statement) → Executes room s (carried (standing seen version why) (state_of pass seen fresh transaction)) words pass.words st (reply.Refused (standing seen version why) why) → Executes room s (state_of result.0.pass result.0.seen result.0.fresh result.0.open) words result.0.pass.words st result.1 }
+    ensures session { IsSession pass.words (max seen (standing seen version why)) transaction → IsSession result.0.pass.words result.0.seen result.0.transaction }
+    ensures executes { (room : ℕ) (s : SessionState) (words : List ℕ) (st : Statement) → Executes room s (carried (standing seen version why) (state_of pass seen fresh transaction)) words pass.words st (reply.Refused (standing seen version why) why) → Executes room s (state_of result.0.pass result.0.seen result.0.fresh result.0.transaction) words result.0.pass.words st result.1 }
 {
     let at = standing(seen, version, &why);
     (

@@ -40,7 +40,7 @@ pub(crate) struct State<N: Site> {
     /// The number of the last null that the session drew, 0 before the first.
     pub(crate) fresh: u32,
     /// The transaction that is open.
-    pub(crate) open: Option<Open>,
+    pub(crate) transaction: Option<Open>,
 }
 
 impl<N: Site> State<N> {
@@ -53,14 +53,14 @@ impl<N: Site> State<N> {
         version: u32,
     ) -> State<N>
         ensures pass { result.pass ≡ pass }
-        ensures session { IsSession pass.words (max seen version) transaction → IsSession result.pass.words result.seen result.open }
-        ensures executes { (room : ℕ) (s : SessionState) (words : List ℕ) (st : StatementValue) (r : ReplyValue) → Executes room s (carried version (state_of pass seen fresh transaction)) words pass.words st r → Executes room s (state_of result.pass result.seen result.fresh result.open) words result.pass.words st r }
+        ensures session { IsSession pass.words (max seen version) transaction → IsSession result.pass.words result.seen result.transaction }
+        ensures executes { (room : ℕ) (s : SessionState) (words : List ℕ) (st : StatementValue) (r : ReplyValue) → Executes room s (carried version (state_of pass seen fresh transaction)) words pass.words st r → Executes room s (state_of result.pass result.seen result.fresh result.transaction) words result.pass.words st r }
     {
         State {
             pass,
             seen: seen.max(version),
             fresh,
-            open: transaction,
+            transaction,
         }
     }
 }
@@ -84,9 +84,9 @@ impl<N: Site> Model for Session<N> {
 
     ghost coded = { Prim.hlevel (codes, held.the_row.coded) };
 
-    ghost view = { λ s. standing_of (option_map (λ t. record { pass = t.pass; seen = t.seen; fresh = t.fresh; transaction = t.open }) s.state) };
+    ghost view = { λ s. standing_of (option_map (λ t. record { pass = t.pass; seen = t.seen; fresh = t.fresh; transaction = t.transaction }) s.state) };
 
-    ghost invariant = { λ s. IsThere (option_map (λ t. record { pass = t.pass; seen = t.seen; fresh = t.fresh; transaction = t.open }) s.state) s.known };
+    ghost invariant = { λ s. IsThere (option_map (λ t. record { pass = t.pass; seen = t.seen; fresh = t.fresh; transaction = t.transaction }) s.state) s.known };
 }
 
 impl<N: Site> Session<N> {
@@ -100,7 +100,7 @@ impl<N: Site> Session<N> {
                 pass,
                 seen: 0,
                 fresh: 0,
-                open: None,
+                transaction: None,
             }),
             known: Known::nothing(),
         }
@@ -137,10 +137,9 @@ impl<N: Site> Session<N> {
     /// - `Refused` for the first of these three that holds: `NumberRange`, `NotAStatement` or `TooDeep` where the text is
     ///   read as no statement; `InTransaction` or `NoTransaction`; a name or a count that does not fit. Else only for a
     ///   cause that holds, in an order that the contract leaves free: `TooLarge` where the query's size, by the counts of
-    ///   all rows that were ever inserted, is above 1,048,576; `Full` where the log has no room; `TooManyTerms` where the
-    ///   statement asks about more than 64 terms; `Inconsistent` for an assertion that no admitted valuation satisfies;
-    ///   `Conflict` where a commit after the base has changed what was read. By the contract `Memory` may come in place of
-    ///   any reply.
+    ///   all rows that were ever inserted, is above 1,048,576; `Full` where the log has no room; `Inconsistent` for an
+    ///   assertion that no admitted valuation satisfies; `Conflict` where a commit after the base has changed what was
+    ///   read. By the contract `Memory` may come in place of any reply.
     ///
     /// A refused statement leaves the transaction and the number of the last null as they were, and commits nothing, though
     /// words may have come to the log. There is one exception: `Conflict` ends the transaction.

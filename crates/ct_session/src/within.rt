@@ -32,8 +32,8 @@ pub(crate) fn refused<N: Site>(
 ) -> (State<N>, Reply)
     requires session { IsSession pass.words seen (Some transaction) }
     requires refused { IsRefused (history_of pass.words transaction.sight) (actions_before transaction.sight) N.log.cap pass.words pass.session fresh statement.now why }
-    ensures session { IsSession result.0.pass.words result.0.seen result.0.open }
-    ensures executes { Executes N.log.cap (state_of pass seen fresh (Some transaction)) (state_of result.0.pass result.0.seen result.0.fresh result.0.open) pass.words result.0.pass.words statement.now result.1 }
+    ensures session { IsSession result.0.pass.words result.0.seen result.0.transaction }
+    ensures executes { Executes N.log.cap (state_of pass seen fresh (Some transaction)) (state_of result.0.pass result.0.seen result.0.fresh result.0.transaction) pass.words result.0.pass.words statement.now result.1 }
 {
     let _words = pass.words();
     let version = transaction.sight.version;
@@ -52,8 +52,8 @@ fn answer<N: Site>(
 ) -> (State<N>, Reply)
     requires session { IsSession pass.words seen (Some transaction) }
     requires prepared { IsPrepared pass.words (history_of pass.words transaction.sight) (actions_before transaction.sight) (listed pass.words transaction.changes) pass.session fresh transaction.sight statement.now (prepared.Answer answered reads) }
-    ensures session { IsSession result.0.pass.words result.0.seen result.0.open }
-    ensures executes { Executes N.log.cap (state_of pass seen fresh (Some transaction)) (state_of result.0.pass result.0.seen result.0.fresh result.0.open) pass.words result.0.pass.words statement.now result.1 }
+    ensures session { IsSession result.0.pass.words result.0.seen result.0.transaction }
+    ensures executes { Executes N.log.cap (state_of pass seen fresh (Some transaction)) (state_of result.0.pass result.0.seen result.0.fresh result.0.transaction) pass.words result.0.pass.words statement.now result.1 }
 {
     let Ok(plus) = u32::try_from(transaction.sight.actions.len()) else {
         drop(answered);
@@ -96,8 +96,8 @@ fn change<N: Site>(
 ) -> (State<N>, Reply)
     requires session { IsSession pass.words seen (Some transaction) }
     requires prepared { IsPrepared pass.words (history_of pass.words transaction.sight) (actions_before transaction.sight) (listed pass.words transaction.changes) pass.session fresh transaction.sight statement.now (prepared.Change proposal (Some step) reads) }
-    ensures session { IsSession result.0.pass.words result.0.seen result.0.open }
-    ensures executes { Executes N.log.cap (state_of pass seen fresh (Some transaction)) (state_of result.0.pass result.0.seen result.0.fresh result.0.open) pass.words result.0.pass.words statement.now result.1 }
+    ensures session { IsSession result.0.pass.words result.0.seen result.0.transaction }
+    ensures executes { Executes N.log.cap (state_of pass seen fresh (Some transaction)) (state_of result.0.pass result.0.seen result.0.fresh result.0.transaction) pass.words result.0.pass.words statement.now result.1 }
 {
     let Some(plus) = one_more(transaction.sight.actions.len()) else {
         drop(proposal);
@@ -129,20 +129,22 @@ pub(crate) fn within<N: Site>(
     session: State<N>,
     statement: &Statement,
 ) -> (State<N>, Reply)
-    requires session { IsSession session.pass.words session.seen session.open }
-    requires some { IsSome session.open }
+    requires session { IsSession session.pass.words session.seen session.transaction }
+    requires some { IsSome session.transaction }
     requires written { IsWritten statement.now }
     requires plain { IsNoOrder statement.now }
-    ensures session { IsSession result.0.pass.words result.0.seen result.0.open }
-    ensures executes { Executes N.log.cap (state_of session.pass session.seen session.fresh session.open) (state_of result.0.pass result.0.seen result.0.fresh result.0.open) session.pass.words result.0.pass.words statement.now result.1 }
+    ensures session { IsSession result.0.pass.words result.0.seen result.0.transaction }
+    ensures executes { Executes N.log.cap (state_of session.pass session.seen session.fresh session.transaction) (state_of result.0.pass result.0.seen result.0.fresh result.0.transaction) session.pass.words result.0.pass.words statement.now result.1 }
 {
     let State {
         mut pass,
         seen,
         fresh,
-        open,
+        transaction,
     } = session;
-    let Some(open) = open else { unreachable!() };
+    let Some(open) = transaction else {
+        unreachable!()
+    };
     let _before = pass.words();
     let (resolved, reads) = match resolved_at(alloc, &pass, &open.sight, fresh, statement) {
         Ok(found) => found,

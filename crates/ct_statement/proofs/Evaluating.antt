@@ -4,7 +4,7 @@ use Rattle.std.{specs.Prelude.{None, nat_lt, if◌then◌else◌}, specs.List.Co
 use Rattle.std.proofs.lemmas.List.Elements.{All-weaker}
 use Rattle.ct_word.{specs.declared.values.CRow.CRow, specs.Value.same_text, specs.Sublist.IsSublist, specs.Change.PlainCommit, specs.WellFormed.IsWellFormed}
 use Rattle.ct_query.{specs.Bounds.{nodes, bound}, specs.Plain.{PlainQuery, PlainAction, PlainStatement}, specs.Patterns.{query_pattern, count}}
-use Rattle.ct_query.{specs.Size.{size, rows_in, row_bound}, specs.Terms.term_count, specs.declared.action.Ask.Ask, proofs.Sublists.sublist_of_sublist}
+use Rattle.ct_query.{specs.Size.{size, rows_in, row_bound}, specs.declared.action.Ask.Ask, proofs.Sublists.sublist_of_sublist}
 use Rattle.ct_operators.{specs.declared.table.CTable.CTable, specs.Tables.{cells_of, value_of_rows, AreRows}, proofs.Reaching.rows_wider}
 use Rattle.ct_table.{specs.Counting.count_of, specs.Denotes.{TableView, IsKept, Denotes}, specs.Snapshot.IsGlobal, proofs.QuerySizes.size_grows}
 use Rattle.ct_table.proofs.ByTables.{cells_found, found-cons, rows_in_found, tables_counted, answered_by_tables, pattern_by_tables}
@@ -12,8 +12,8 @@ use Rattle.ct_table.proofs.Snapshots.{global_grows}
 use Rattle.ct_algebra.{specs.Evaluates.{limit, Evaluates}, specs.Operands.{AreTables, cells_in}, specs.Terms.TermOfQuery}
 use Rattle.ct_algebra.specs.declared.error.EvalError.{EvalError}
 use Rattle.ct_certain.specs.declared.error.CertainError.{CertainError}
-use Rattle.ct_statement.{specs.Asking.{terms_of_query, AnswersQuery, IsUnasked, filled, unanswered, unlisted}, specs.Unmet.{TERMS, IsUnmet}}
-use Rattle.ct_statement.{proofs.TermCounts.of_query_asked, proofs.Weights.{nodes_grow, makes_words_still}}
+use Rattle.ct_statement.{specs.Asking.{terms_of_query, AnswersQuery, IsUnasked, filled, unanswered, unlisted}, specs.Unmet.IsUnmet}
+use Rattle.ct_statement.{proofs.AskedTerms.of_query_asked, proofs.Weights.{nodes_grow, makes_words_still}}
 use mathlib.Core.List.{IsPrefix}
 use Rattle.ct_query.specs.Bounds as bounds
 use Rattle.ct_query.specs.Plain as plain
@@ -79,18 +79,17 @@ module _ (old : List ℕ) (h : List PlainCommit) (actions : List PlainAction) (d
     -- the errors of the lists are causes
     module _ (rs : List CRow) (few : length rs ≤ row_bound (rows_in (map count_of db)) q) where
       pub possible_fails : (room : ℕ) (columns : List (List ℕ)) (made made' : ℕ) (e : CertainError) → (e ≡ fault.Full → length new ≡ room)
-          → (e ≡ fault.Full → made' < made + length rs) → (e ≡ fault.TooManyTerms → TERMS < term_count h actions (plain.Asks ask.Possible columns q))
+          → (e ≡ fault.Full → made' < made + length rs)
           → IsUnmet h actions room new (plain.Asks ask.Possible columns q) (unlisted e made made')
-      possible_fails room columns made made' fault.Full full fewer many =
+      possible_fails room columns made made' fault.Full full fewer =
           let lt = fewer refl in
           fails_full room ask.Possible columns made made' (full refl) (λ le. omega (arith, le, lt, few))
-      possible_fails room columns made made' fault.TooManyTerms full fewer many = record { of_worlds = refl; past = many refl }
-      possible_fails room columns made made' fault.Memory full fewer many = tt
+      possible_fails room columns made made' fault.Memory full fewer = tt
 
       pub certain_fails : (room : ℕ) (columns : List (List ℕ)) (made made' k : ℕ) (e : CertainError) → (e ≡ fault.Full → length new ≡ room)
-          → (e ≡ fault.Full → made' < made + length rs * (length rs * (2 * k + 2) + k + 1)) → (e ≡ fault.TooManyTerms → TERMS < term_count h actions (plain.Asks ask.Certain columns q))
+          → (e ≡ fault.Full → made' < made + length rs * (length rs * (2 * k + 2) + k + 1))
           → IsUnmet h actions room new (plain.Asks ask.Certain columns q) (unlisted e made made')
-      certain_fails room columns made made' k fault.Full full fewer many =
+      certain_fails room columns made made' k fault.Full full fewer =
           fails_full room ask.Certain columns made made' (full refl) (λ le. some_words (row_bound (rows_in (map count_of db)) q) (bounds.width q) (has_row rs le (fewer refl) few)) where
             has_row : (rs : List CRow) → made ≤ made' → made' < made + length rs * (length rs * (2 * k + 2) + k + 1) → length rs ≤ row_bound (rows_in (map count_of db)) q
                 → 1 ≤ row_bound (rows_in (map count_of db)) q
@@ -99,5 +98,4 @@ module _ (old : List ℕ) (h : List PlainCommit) (actions : List PlainAction) (d
 
             some_words : (r w : ℕ) → 1 ≤ r → 1 ≤ nodes (rows_in (map count_of db)) q + r * (r * (2 * w + 2) + w + 1)
             some_words r w le = let more = mul-le 1 1 r (r * (2 * w + 2) + w + 1) le (omega arith) in omega (arith, more)
-      certain_fails room columns made made' k fault.TooManyTerms full fewer many = record { of_worlds = refl; past = many refl }
-      certain_fails room columns made made' k fault.Memory full fewer many = tt
+      certain_fails room columns made made' k fault.Memory full fewer = tt

@@ -1,6 +1,6 @@
 pub mod Weights
 pub mod Wanting
-pub mod TermCounts
+pub mod AskedTerms
 pub mod Evaluating
 pub mod Printed
 pub mod Meaning
@@ -11,6 +11,7 @@ pub mod EachTerm
 pub mod TermSources
 pub mod Sights
 pub mod Proposed
+pub mod Worlds
 pub mod Stepped
 pub mod Literal
 pub mod Listed

@@ -1,16 +1,15 @@
 -- Where the terms of a change come from, and that they can be written.
-use Rattle.std.{proofs.Common.{ℕ, Bool, true, false, List, [], ◌∷◌, ◌++◌, sym, subst, inl, inr}, specs.Prelude.{All, IsTrue, flat_map, if◌then◌else◌}}
+use Rattle.std.{proofs.Common.{ℕ, Bool, true, false, List, [], ◌∷◌, ◌++◌, subst, inl, inr}, specs.Prelude.{All, IsTrue, flat_map, if◌then◌else◌}}
 use Rattle.std.specs.List.{Contains, list_all, list_any}
-use Rattle.std.proofs.lemmas.List.Elements.{All-contains, All-push, Contains-push, Contains-push_cases, Contains-append_left, Contains-append_right, Contains-append_cases}
+use Rattle.std.proofs.lemmas.List.Elements.{All-contains, All-push, Contains-push, Contains-append_left, Contains-append_cases}
 use Rattle.ct_word.{specs.declared.values.Term.Term, specs.Value.same_term, specs.Change.PlainCommit, specs.Writable.is_writable}
 use Rattle.ct_query.{specs.declared.action.Read.Read, specs.Plain.{PlainQuery, PlainAction}, specs.Frame.reads_of_actions, specs.Worlds.changes_of}
 use Rattle.ct_query.specs.Reads.{action_reads, query_reads, writes}
-use Rattle.ct_query.specs.Terms.{change_terms, action_terms, query_terms, distinct_terms, changes_that_write, reads_with, terms_asked}
+use Rattle.ct_query.specs.Terms.{change_terms, action_terms, query_terms, distinct_terms, changes_that_write, reads_with}
 use Rattle.ct_resolve.specs.Writing.{WritesTerm, WritesAction}
-use Rattle.ct_table.{specs.Denotes.{IsTermFor, by_change, by_action}, proofs.Asked.term_is_asked}
+use Rattle.ct_table.specs.Denotes.{IsTermFor, by_change, by_action}
 use Rattle.ct_operators.{proofs.Naming.given, proofs.Reaching.{behind, foremost, first_or_behind}}
 use Rattle.ct_statement.{specs.Asking.terms_of_query, proofs.EachTerm.{written_in_action, written_in_change}, proofs.Members.{unflat, passes, left_by, one_of}}
-use Rattle.ct_statement.proofs.TermCounts.{still_there}
 use Rattle.ct_query.specs.declared.action.Ask.TheVariants as ask
 use Rattle.ct_query.specs.Plain as plain
 
@@ -59,29 +58,3 @@ module _ (h : List PlainCommit) (before : List PlainAction) where
                 by_change x.0 s.0 left.0 (behind r (reads_of_actions (before ++ inserts ∷ [])) s.0 (own_reads s.0 s.1)) s.2 x.2
           ]
         ]
-
-  -- a term for what an action reads, after it, is one that its statement asks about
-  pub own_asked : (a : PlainAction) (r : Read) (u : Term) → Contains (action_reads a) r → IsTermFor h (before ++ a ∷ []) r u → Contains (terms_asked h before (plain.Act a)) u
-  own_asked a r u own t = by_source t where
-    read : Contains (reads_with before (plain.Act a)) r
-    read = Contains-append_right (flat_map action_reads before) (action_reads a) r own
-
-    reads_too : (s : Read) → Contains (r ∷ reads_of_actions (before ++ a ∷ [])) s → Contains (reads_with before (plain.Act a)) s
-    reads_too s i = elim (first_or_behind r (reads_of_actions (before ++ a ∷ [])) s i) [
-      | inl e ↦ subst (Contains (reads_with before (plain.Act a))) e read
-      | inr j ↦
-          let b = unflat action_reads (before ++ a ∷ []) s j in
-          elim (Contains-push_cases before a b.0 b.1) [
-            | inl l ↦ Contains-append_left (flat_map action_reads before) (action_reads a) s (given action_reads before b.0 s l b.2)
-            | inr e ↦ Contains-append_right (flat_map action_reads before) (action_reads a) s (subst (λ x. Contains (action_reads x) s) (sym e) b.2)
-          ]
-    ]
-
-    by_source : IsTermFor h (before ++ a ∷ []) r u → Contains (terms_asked h before (plain.Act a)) u
-    by_source (by_change y s among of written stands) = term_is_asked h before (plain.Act a) s u (reads_too s of) (by_change y s among (foremost s (reads_of_actions before)) written stands)
-    by_source (by_action b among stands) = elim (Contains-push_cases before a b among) [
-      | inl l ↦ term_is_asked h before (plain.Act a) r u read (by_action b l stands)
-      | inr e ↦
-          let brought : List Term = flat_map change_terms (changes_that_write (reads_with before (plain.Act a)) h) ++ flat_map action_terms before in
-          still_there (brought ++ action_terms a) u (Contains-append_right brought (action_terms a) u (subst (λ x. Contains (action_terms x) u) (sym e) stands))
-    ]

@@ -53,7 +53,6 @@ unanswered eval.Memory before after = refusal.Memory
 -- the refusal of a question whose rows are not listed
 abbrev pub unlisted : CertainError → ℕ → ℕ → Refusal
 unlisted fault.Full before after = filled before after
-unlisted fault.TooManyTerms before after = refusal.TooManyTerms
 unlisted fault.Memory before after = refusal.Memory
 
 -- why a query is not evaluated, at what a statement sees: it is too large, the log is full, or memory is wanting

@@ -1,5 +1,5 @@
 -- What may be wanting for a statement, at what it sees.
-use Rattle.std.specs.Prelude.{◌≡◌, ◌≤◌, ◌<◌, ℕ, Bool, true, false, List, [], ◌∷◌, ◌++◌, length, Option, Some, None}
+use Rattle.std.specs.Prelude.{◌≡◌, ◌≤◌, ◌<◌, ℕ, false, List, [], ◌∷◌, ◌++◌, length, Option, Some, None}
 use Rattle.ct_word.specs.Value.{World}
 use Rattle.ct_word.specs.Condition.{Condition, holds_at}
 use Rattle.ct_word.specs.Change.{PlainCommit}
@@ -8,12 +8,10 @@ use Rattle.ct_derivation.specs.declared.steps.Proof.{Proof}
 use Rattle.ct_derivation.specs.Accepts.{AcceptsProof}
 use Rattle.ct_query.specs.Plain.{PlainQuery, PlainAction, PlainStatement}
 use Rattle.ct_query.specs.Plain as plain
-use Rattle.ct_query.specs.declared.action.Ask.TheVariants as ask
 use Rattle.ct_query.specs.Worlds.{admits}
 use Rattle.ct_query.specs.Patterns.{count}
 use Rattle.ct_query.specs.Size.{size}
 use Rattle.ct_query.specs.Bounds.{bound}
-use Rattle.ct_query.specs.Terms.{term_count}
 use Rattle.ct_algebra.specs.Evaluates.{limit}
 use Rattle.ct_transcript.specs.declared.reply.Refusal.{Refusal}
 use Rattle.ct_transcript.specs.declared.reply.Refusal.TheVariants as refusal
@@ -23,17 +21,6 @@ abbrev pub query_in : PlainStatement → Option PlainQuery
 query_in (plain.Asks k columns q) = Some q
 query_in (plain.Act (plain.InsertQuery name q)) = Some q
 query_in _ = None
-
--- whether a statement asks of all worlds at once, so that its terms are counted
-abbrev pub asks_of_worlds : PlainStatement → Bool
-asks_of_worlds (plain.Asks ask.Possible columns q) = true
-asks_of_worlds (plain.Asks ask.Certain columns q) = true
-asks_of_worlds (plain.Act (plain.Assert c)) = true
-asks_of_worlds _ = false
-
--- the most distinct terms that a statement may ask about
-abbrev pub TERMS : ℕ
-TERMS = 64
 
 -- what is wanting: the log is full, or memory
 abbrev pub IsWant : ℕ → List ℕ → Refusal → Type 0
@@ -55,11 +42,6 @@ module _ (h : List PlainCommit) (before : List PlainAction) where
     pub full : length words ≡ room
     pub makes_words : (own : Option (List PlainAction)) → 1 ≤ bound (count h before) own st
 
-  -- a statement that asks of all worlds asks about more terms than it may
-  pub record IsManyTerms (st : PlainStatement) : Type 0 where
-    pub of_worlds : asks_of_worlds st ≡ true
-    pub past : TERMS < term_count h before st
-
   -- no valuation is left by an assertion: the proof refutes a condition that is true where one is
   pub record IsRefuted (words : List ℕ) (st : PlainStatement) (proof : Proof) : Type 0 where
     pub condition : Condition
@@ -68,12 +50,11 @@ module _ (h : List PlainCommit) (before : List PlainAction) where
     pub accepted : AcceptsProof words proof
     pub root : (v : World) → holds_at v (condition_at words proof.root) ≡ admits v h (before ++ plain.Assert condition ∷ [])
 
-  -- why a statement with positions is refused: its query is too large, the log is full, it asks about too many terms, it
-  -- asserts what no admitted valuation satisfies, or memory is wanting
+  -- why a statement with positions is refused: its query is too large, the log is full, it asserts what no
+  -- admitted valuation satisfies, or memory is wanting
   abbrev pub IsUnmet : ℕ → List ℕ → PlainStatement → Refusal → Type 0
   IsUnmet room words st refusal.TooLarge = IsPast st
   IsUnmet room words st refusal.Full = IsFilled room words st
-  IsUnmet room words st refusal.TooManyTerms = IsManyTerms st
   IsUnmet room words st (refusal.Inconsistent proof) = IsRefuted words st proof
   IsUnmet room words st refusal.Memory = Unit {0}
   IsUnmet room words st _ = ⊥

@@ -62,7 +62,7 @@ pub(crate) fn answered<N: Site>(
 ///
 /// # Errors
 /// `TooLarge` only where the query's size, by the counts of all rows that were ever inserted, is above 1,048,576; `Full`
-/// only where the log has no room; `TooManyTerms` only where the statement asks about more than 64 terms; `Memory`.
+/// only where the log has no room; `Memory`.
 pub fn possible_rows<N: Site>(
     alloc: Global,
     arena: &Arena<N>,

@@ -28,8 +28,7 @@ use std::alloc::Global;
 ///
 /// # Errors
 /// `TooLarge` only where the query's size, by the counts of all rows that were ever inserted, is above 1,048,576; `Full`
-/// only where the log has no room; `TooManyTerms` only where the statement asks about more than 64 terms, one more for
-/// each column counted; `Memory`.
+/// only where the log has no room; `Memory`.
 pub fn certain_rows<N: Site>(
     alloc: Global,
     arena: &Arena<N>,

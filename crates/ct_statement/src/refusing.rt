@@ -36,7 +36,6 @@ pub(crate) fn unlisted(e: CertainError, before: u32, after: u32) -> Refusal
 {
     match e {
         CertainError::Full => filled(before, after),
-        CertainError::TooManyTerms => Refusal::TooManyTerms,
         CertainError::Memory => Refusal::Memory,
     }
 }

@@ -41,8 +41,7 @@ pub enum Answered {
 ///
 /// # Errors
 /// `TooLarge` only where the query's size, by the counts of all rows that were ever inserted, is above 1,048,576; `Full`
-/// only where the log has no room, and the statement may need a word; `TooManyTerms` only for a list, where the statement
-/// asks about more than 64 terms, one more for each column of certain tuples counted; `Memory`.
+/// only where the log has no room, and the statement may need a word; `Memory`.
 pub fn answer_to<N: Site>(
     alloc: Global,
     arena: &Arena<N>,

@@ -1,14 +1,16 @@
 // The step from what a statement sees to what is seen after its action.
 
-ghost use Rattle.std.specs.Prelude.{◌≡◌, ◌<◌, ◌^◌, List, length, IfOk, IfErr};
+ghost use Rattle.std.specs.Prelude.{◌≡◌, ◌<◌, ◌^◌, List, length, IfOk, IfErr, IsTrue};
 ghost use mathlib.Core.List.{IsPrefix};
 ghost use Rattle.ct_word.specs.Change.{PlainChange};
+ghost use Rattle.ct_word.specs.Condition.{holds_at};
+ghost use Rattle.ct_word.specs.Reading.{condition_at};
 ghost use Rattle.ct_word.specs.WellFormed.{IsWellFormed};
 ghost use Rattle.ct_query.specs.Plain as plain;
 ghost use Rattle.ct_query.specs.Views.{action_of};
 ghost use Rattle.ct_history.specs.Kept.{kept_of};
 ghost use Rattle.ct_keeper.specs.Effects.{FitsEffect};
-ghost use Rattle.ct_statement.specs.Narrowing.{CanNarrow, IsDecidable, IsEffectFor, IsKeptFor, IsUnkept, IsWorldFor, IsWorldless, unapplied, undecided};
+ghost use Rattle.ct_statement.specs.Narrowing.{CanNarrow, IsBoth, IsDecidable, IsEffectFor, IsKeptFor, IsUnkept, IsWorldFor, IsWorldless, asserted, unapplied, undecided};
 ghost use Rattle.ct_statement.specs.Proposals.{IsProposal, IsStep};
 ghost use Rattle.ct_statement.specs.Sight.{IsSight, actions_before, history_of};
 ghost use Rattle.ct_statement.specs.Unmet.{IsUnmet, IsWant};
@@ -16,14 +18,14 @@ ghost use Rattle.ct_statement.specs.Unmet.{IsUnmet, IsWant};
 use crate::proposing::Proposal;
 use crate::sight::Sight;
 use ct_arena::{Arena, Pass, Site};
-use ct_condition::value_at;
 use ct_decide::{DecideError, Decision, decide};
 use ct_derivation::Proof;
-use ct_history::last_change;
+use ct_history::{Written, last_change};
 use ct_keeper::{Effect, effect_of};
 use ct_table::TableError;
 use ct_transcript::Refusal;
 use ct_word::World;
+use ct_worlds::{holds_below, repaired};
 use std::alloc::Global;
 
 /// What an action does to what is seen: its effect on the tables or the global condition, and, where the kept world is
@@ -39,31 +41,22 @@ fn undecided(e: DecideError) -> Refusal
     ensures { result ≡ undecided e }
 {
     match e {
-        DecideError::TooManyTerms => Refusal::TooManyTerms,
         DecideError::Memory => Refusal::Memory,
     }
 }
 
-/// A world in which the condition at a place holds, and which is kept then; none where the kept world is such.
+/// A world in which the condition at a place holds, and which is kept in the place of another one.
 ///
 /// # Errors
-/// `TooManyTerms` where more than 64 distinct terms stand below the place, `Inconsistent` where the condition holds in no
-/// world, `Memory`.
-fn world_for(
-    alloc: Global,
-    words: &[u64],
-    place: u32,
-    kept: &World,
-) -> Result<Option<World>, Refusal>
+/// `Inconsistent` where the condition holds in no world, `Memory`.
+fn decided(alloc: Global, words: &[u64], place: u32, kept: &World) -> Result<Option<World>, Refusal>
     requires formed { IsWellFormed words.now }
     requires few { length words.now < 2 ^ 28 }
     requires decidable { IsDecidable words.now place }
     ensures ok { IfOk result (IsWorldFor words.now place kept.now) }
     ensures err { IfErr result (IsWorldless words.now place) }
 {
-    if value_at(alloc, words, place, kept)? {
-        return Ok(None);
-    }
+    let _ = kept;
     let decision = match decide(alloc, words, place) {
         Ok(decision) => decision,
         Err(e) => return Err(undecided(e)),
@@ -79,28 +72,77 @@ fn world_for(
     }
 }
 
-/// Another world to be kept after an effect; none where the kept world stays.
+/// A world in which both the global condition and an asserted one hold, whose And stands at a place, and which is kept
+/// then; none where the kept world is such. The global condition holds in that one, so the asserted one alone is tried.
+/// Where it is false there, the kept world is changed if that is enough, and the question is decided otherwise.
+///
+/// # Errors
+/// `Inconsistent` where the conditions hold together in no world, `Memory`.
+fn world_for(
+    alloc: Global,
+    words: &[u64],
+    global: u32,
+    own: u32,
+    place: u32,
+    kept: &World,
+) -> Result<Option<World>, Refusal>
+    requires formed { IsWellFormed words.now }
+    requires few { length words.now < 2 ^ 28 }
+    requires both { IsBoth words.now global own place }
+    requires kept { IsTrue (holds_at kept.now (condition_at words.now global)) }
+    ensures ok { IfOk result (IsWorldFor words.now place kept.now) }
+    ensures err { IfErr result (IsWorldless words.now place) }
+{
+    if holds_below(alloc, words, own, kept)? {
+        return Ok(None);
+    }
+    if let Some(world) = repaired(alloc, words, &[global, own], kept)? {
+        return Ok(Some(world));
+    }
+    match decided(alloc, words, place, kept) {
+        Ok(other) => Ok(other),
+        Err(why) => Err(why),
+    }
+}
+
+/// The condition that a change asserts, if it is an assertion.
+fn asserted(change: &Written) -> Option<u32>
+    ensures { result ≡ asserted change.now }
+{
+    match change {
+        Written::Assert { cond } => Some(*cond),
+        _ => None,
+    }
+}
+
+/// Another world to be kept after the effect of a change; none where the kept world stays.
 ///
 /// # Errors
 /// After an effect that puts another condition in the place of the global one, as `world_for` says.
 fn kept_for(
     alloc: Global,
     words: &[u64],
+    global: u32,
+    change: &Written,
     effect: &Effect,
     kept: &World,
 ) -> Result<Option<World>, Refusal>
     requires formed { IsWellFormed words.now }
     requires few { length words.now < 2 ^ 28 }
-    requires decidable { CanNarrow words.now effect.now }
+    requires narrows { CanNarrow words.now global change.now effect.now }
+    requires kept { IsTrue (holds_at kept.now (condition_at words.now global)) }
     ensures ok { IfOk result (IsKeptFor words.now effect.now kept.now) }
     ensures err { IfErr result (IsUnkept words.now effect.now) }
 {
-    match effect {
-        Effect::Grows(_) => Ok(None),
-        Effect::Narrows(place) => match world_for(alloc, words, *place, kept) {
-            Ok(other) => Ok(other),
-            Err(why) => Err(why),
-        },
+    let Effect::Narrows(place) = effect else {
+        return Ok(None);
+    };
+    let Some(own) = asserted(change) else {
+        unreachable!()
+    };
+    match world_for(alloc, words, global, own, *place, kept) {
+        Ok(other) => Ok(other),
+        Err(why) => Err(why),
     }
 }
 
@@ -114,7 +156,7 @@ fn unapplied(e: TableError) -> Refusal
     }
 }
 
-/// The effect of a proposed change on what its statement sees. The pass has the words of it.
+/// A proposed change, and its effect on what its statement sees. The pass has the words of it.
 ///
 /// # Errors
 /// `Full` only where the log has no room; `Memory`.
@@ -124,20 +166,20 @@ fn effect_for<N: Site>(
     pass: &mut Pass<N>,
     sight: &Sight,
     proposal: &Proposal,
-) -> Result<Effect, Refusal>
+) -> Result<(Written, Effect), Refusal>
     requires sight { IsSight pass.old.words sight.now }
     requires proposal { (list : List PlainChange) × IsProposal pass.old.words (history_of pass.old.words sight.now) (actions_before sight.now) list (action_of proposal.now.action) proposal.now.changes }
     ensures longer { IsPrefix pass.old.words pass.new.words }
     ensures kept { kept_of pass.new ≡ kept_of pass.old }
-    ensures fits { IfOk result (FitsEffect sight.now.tables) }
-    ensures is { IfOk result (IsEffectFor pass.old.words pass.new.words sight.now (action_of proposal.now.action)) }
+    ensures fits { IfOk result (λ p. FitsEffect sight.now.tables p.1) }
+    ensures is { IfOk result (λ p. IsEffectFor pass.old.words pass.new.words sight.now (action_of proposal.now.action) p.0 p.1) }
     ensures err { IfErr result (IsWant N.log.cap pass.new.words) }
 {
     let Some(change) = last_change(alloc, pass.words(), proposal.changes)? else {
         unreachable!()
     };
     match effect_of(alloc, arena, pass, sight.tables.db(), sight.global, &change) {
-        Ok(effect) => Ok(effect),
+        Ok(effect) => Ok((change, effect)),
         Err(e) => Err(unapplied(e)),
     }
 }
@@ -145,8 +187,8 @@ fn effect_for<N: Site>(
 /// What a proposed change does to what its statement sees. The pass has the words of it.
 ///
 /// # Errors
-/// `Full` only where the log has no room. For an assertion `TooManyTerms`, only where the statement asks about more than
-/// 64 terms, and `Inconsistent`, only where no admitted valuation satisfies it. `Memory`.
+/// `Full` only where the log has no room. For an assertion `Inconsistent`, only where no admitted valuation satisfies it.
+/// `Memory`.
 pub fn step_of<N: Site>(
     alloc: Global,
     arena: &Arena<N>,
@@ -161,11 +203,12 @@ pub fn step_of<N: Site>(
     ensures step { IfOk result (IsStep pass.new.words sight.now (action_of proposal.now.action)) }
     ensures err { IfErr result (IsUnmet (history_of pass.old.words sight.now) (actions_before sight.now) N.log.cap pass.new.words (plain.Act (action_of proposal.now.action))) }
 {
-    let effect = match effect_for(alloc, arena, pass, sight, proposal) {
-        Ok(effect) => effect,
+    let (change, effect) = match effect_for(alloc, arena, pass, sight, proposal) {
+        Ok(applied) => applied,
         Err(why) => return Err(why),
     };
-    match kept_for(alloc, pass.words(), &effect, &sight.kept) {
+    let words = pass.words();
+    match kept_for(alloc, words, sight.global, &change, &effect, &sight.kept) {
         Ok(kept) => Ok(Step { effect, kept }),
         Err(why) => Err(why),
     }

@@ -137,7 +137,6 @@ fn refusal_name(refusal: &Refusal) -> &'static str
         Refusal::ColumnCount => "ColumnCount",
         Refusal::TooLarge => "TooLarge",
         Refusal::Full => "Full",
-        Refusal::TooManyTerms => "TooManyTerms",
         Refusal::Inconsistent { .. } => "Inconsistent",
         Refusal::Conflict { .. } => "Conflict",
         Refusal::Memory => "Memory",

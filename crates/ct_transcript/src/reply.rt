@@ -40,10 +40,6 @@ pub enum Refusal {
     TooLarge,
     /// The log has as many words as its capacity, and the statement may need a word.
     Full,
-    /// The statement asks of all worlds, and about more than 64 terms: the distinct ones of the changes of the log that
-    /// assert or name a table that is read, of the transaction's actions and of the statement, and one more for each
-    /// column of certain tuples.
-    TooManyTerms,
     /// No world that the commits and the transaction's changes admit satisfies the assertion: the proof refutes it.
     Inconsistent {
         proof: Proof,

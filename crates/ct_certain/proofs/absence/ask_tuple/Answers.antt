@@ -1,19 +1,17 @@
-use Rattle.std.{proofs.Common.{◌≡◌, ◌*◌, ◌+◌, true, Err, length, ap, sym, subst, ◌∙◌}, specs.Prelude.All, proofs.lemmas.List.Elements.All-weaker}
+use Rattle.std.{proofs.Common.{◌≡◌, ◌*◌, ◌+◌, true, length, sym, subst}, specs.Prelude.All, proofs.lemmas.List.Elements.All-weaker}
 use Rattle.std.proofs.lemmas.Result.{err_from_is_err_and}
 use Rattle.ct_word.{specs.Stands.HasNoColumn, specs.WellFormed.is_place_of}
-use Rattle.ct_cnf.specs.Encoding.{HasTermsPast}
 use Rattle.ct_condition.specs.Writes.{Writes}
-use Rattle.ct_operators.proofs.Adding.{passed}
 use Rattle.ct_derivation.proofs.Longer.{accepted_longer}
-use Rattle.ct_certain.{specs.Answered.{IsRefutation, IsSettled}, specs.Missing.IsRefuted, proofs.Cuts.cut_longer, proofs.Roots.{handed_on, never_many}}
+use Rattle.ct_certain.{specs.Answered.{IsRefutation, IsSettled}, specs.Missing.IsRefuted, proofs.Cuts.cut_longer, proofs.Roots.handed_on}
 use Rattle.ct_word.specs.declared.kinds.Class.TheVariants as class
 use Rattle.ct_certain.proofs.absence.ask_tuple.Goals as goal
 
-pub settle-requires-clause-condition : goal.settle-requires-clause-condition
-settle-requires-clause-condition g c = subst (λ ws. is_place_of ws class.Cond c.in_ok-place.place ≡ true) (sym c.words-now.ensures.words) c.in_ok-place.ensures.root.class
+pub settle_near-requires-clause-condition : goal.settle_near-requires-clause-condition
+settle_near-requires-clause-condition g c = subst (λ ws. is_place_of ws class.Cond c.in_ok-place.place ≡ true) (sym c.words-now.ensures.words) c.in_ok-place.ensures.root.class
 
-pub settle-requires-clause-columns : goal.settle-requires-clause-columns
-settle-requires-clause-columns g c = subst (λ ws. HasNoColumn ws c.in_ok-place.place) (sym c.words-now.ensures.words) c.in_ok-place.ensures.root.plain
+pub settle_near-requires-clause-columns : goal.settle_near-requires-clause-columns
+settle_near-requires-clause-columns g c = subst (λ ws. HasNoColumn ws c.in_ok-place.place) (sym c.words-now.ensures.words) c.in_ok-place.ensures.root.plain
 
 pub returns-clause-settled : goal.returns-clause-settled
 returns-clause-settled g c = subst (λ ws. IsSettled ws c.in_ok-place.place c.in_ok-decision.decision) c.words-now.ensures.words c.in_ok-decision.ensures.settled
@@ -24,20 +22,6 @@ returns-in_err-place-clause-writes g c =
     let r = length c.args.table.now.rows in
     let exit = err_from_is_err_and c.from_residual.result c.from_residual.ensures.1 in
     rw (exit.1, exit.2) (subst (λ b. Writes g.I.Interner.list g.I.Interner.made g.I.Interner.kept g.I.Interner.lent g.N.Site.log.cap c.args.pass.now c.root.new.pass (r * (2 * k + 2) + k + 1) b) (handed_on c.in_err-place.field-0.0) c.in_err-place.ensures.writes)
-
-pub returns-in_err-place-clause-many : goal.returns-in_err-place-clause-many
-returns-in_err-place-clause-many g c e =
-    let exit = err_from_is_err_and c.from_residual.result c.from_residual.ensures.1 in
-    absurd (never_many c.in_err-place.field-0.0 (passed _ _ _ (exit.1 ∙ ap Err exit.2) e))
-
-pub returns-in_err-decision-clause-many : goal.returns-in_err-decision-clause-many
-returns-in_err-decision-clause-many g c e =
-    let exit = err_from_is_err_and c.from_residual-in_err-decision.result c.from_residual-in_err-decision.ensures.1 in
-    record {
-      root = c.in_ok-place.place;
-      question = c.in_ok-place.ensures.root;
-      many = subst (λ ws. HasTermsPast 64 ws c.in_ok-place.place) c.words-now.ensures.words (c.in_err-decision.ensures.many (passed _ _ _ (exit.1 ∙ ap Err exit.2) e));
-    }
 
 pub known-requires : goal.known-requires
 known-requires g c =

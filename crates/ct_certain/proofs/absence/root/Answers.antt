@@ -1,9 +1,9 @@
-use Rattle.std.{proofs.Common.{◌*◌, ◌+◌, ◌++◌, not, length, ap, sym, subst, ◌∙◌}, specs.Prelude.filter, proofs.lemmas.List.Elements.All-weaker}
+use Rattle.std.{proofs.Common.{◌*◌, ◌+◌, not, length, ap, sym, subst, ◌∙◌}, specs.Prelude.filter, proofs.lemmas.List.Elements.All-weaker}
 use Rattle.std.proofs.lemmas.Result.{IfOk-at_ok, err_from_is_err_and}
 use Rattle.ct_word.specs.Sublist.{IsSublist}
 use Rattle.ct_query.specs.Database.{has_tuple, SameSet}
 use Rattle.ct_condition.{specs.Writes.Writes, proofs.Writes.{writes_both, writes_within, writes_as}}
-use Rattle.ct_operators.{specs.Refusals.is_full, specs.Tables.{AreRows, value_of_rows, cells_of}, specs.Terms.{TermOfRows, RowsFrom}}
+use Rattle.ct_operators.{specs.Refusals.is_full, specs.Tables.{AreRows, value_of_rows, cells_of}}
 use Rattle.ct_certain.{specs.Missing.{IsAtHand, IsRootOf, condition_of}, proofs.Candidates.asked_later, proofs.Values.at_hand_grows}
 use Rattle.ct_certain.proofs.Roots.{alone_by, table_rows, table_writes, root_by, root_most, root_begun}
 use Rattle.ct_certain.proofs.absence.root.Goals as goal
@@ -48,8 +48,7 @@ returns-in-Ok-clause-root g c =
     alone out n c.in_ok-alone.ensures.rows (ap length c.in_ok-alone.ensures.columns) c.words-2.ensures.formed c.words-2.ensures.begins
     (IfOk-at_ok (λ t. AreRows new n t.rows) c.in-Ok.is c.except-rest.ensures.rows)
     (IfOk-at_ok (λ t. IsSublist (cells_of new t.rows) (cells_of mid alone)) c.in-Ok.is c.except-rest.ensures.part)
-    (λ v. IfOk-at_ok (λ t. SameSet (value_of_rows new v t.rows) (filter (λ u. not (has_tuple (value_of_rows mid v rows) u)) (value_of_rows mid v alone))) c.in-Ok.is (c.except-rest.ensures.tuples v))
-    (IfOk-at_ok (λ t. RowsFrom new t.rows (TermOfRows mid (alone ++ rows))) c.in-Ok.is c.except-rest.ensures.terms))
+    (λ v. IfOk-at_ok (λ t. SameSet (value_of_rows new v t.rows) (filter (λ u. not (has_tuple (value_of_rows mid v rows) u)) (value_of_rows mid v alone))) c.in-Ok.is (c.except-rest.ensures.tuples v)))
 
 pub returns-in-Ok-clause-writes : goal.returns-in-Ok-clause-writes
 returns-in-Ok-clause-writes g c =

@@ -1,7 +1,7 @@
 use Rattle.std.{proofs.Common.{◌≡◌, ◌≤◌, length, sym, subst, arith, ◌∙◌, rules}, specs.Prelude.All, specs.List.IsDistinct, proofs.lemmas.Result.IfOk-weaker}
 use Rattle.ct_word.specs.Value.{same_tuple}
 use Rattle.ct_operators.specs.Tables.{firsts, value_of_rows}
-use Rattle.ct_certain.{specs.Certain.{IsCutProof, ListsCertain}, specs.Missing.{AreListed, IsAskedOf, IsPastTermsOfSomeTuple, IsSeen}, proofs.Roots.past_width}
+use Rattle.ct_certain.{specs.Certain.{IsCutProof, ListsCertain}, specs.Missing.{AreListed, IsAskedOf, IsSeen}}
 use Rattle.ct_certain.{proofs.Candidates.{distinct_keys, first_all, first_fewer, worth_asked, worth_fewer}, proofs.Certainties.{all_cut, listed_all}}
 use Rattle.ct_certain.proofs.certainty.certain.Goals as goal
 
@@ -55,23 +55,3 @@ returns-clause-cut g c =
     let new = c.each_certain.new.pass.words in
     IfOk-weaker c.each_certain.result _ (All (λ r. IsCutProof new r.proof))
     (λ list is. all_cut c.as_slice-before.result.now c.args.global c.args.table.now.rows new list is.refuted) c.each_certain.ensures.lists
-
-pub returns-clause-question : goal.returns-clause-question
-returns-clause-question g c e =
-    let words = c.args.pass.now.words in
-    let past = IsPastTermsOfSomeTuple words c.each_certain.new.pass.words c.args.global c.args.table.now.rows in
-    let same : c.as_slice-before.result.now ≡ words = search rules in
-    let worth : c.as_slice.result.now ≡ firsts same_tuple (value_of_rows words c.args.kept.now c.args.table.now.rows) = search rules in
-    subst past worth (subst (λ ws. IsPastTermsOfSomeTuple ws c.each_certain.new.pass.words c.args.global c.args.table.now.rows c.as_slice.result.now) same (c.each_certain.ensures.many e))
-
-pub returns-clause-many : goal.returns-clause-many
-returns-clause-many g c e =
-    let words = c.args.pass.now.words in
-    let rows = c.args.table.now.rows in
-    let kept = c.args.kept.now in
-    let global = c.args.global in
-    let width = length c.args.table.now.columns in
-    past_width words c.each_certain.new.pass.words global width rows (firsts same_tuple (value_of_rows words kept rows))
-    (first_all (IsAskedOf words words global width rows) (value_of_rows words kept rows)
-    (worth_asked words global width rows kept c.words.ensures.formed c.words.ensures.begins c.requires.global c.requires.plain c.requires.rows c.requires.kept))
-    (returns-clause-question g c e)

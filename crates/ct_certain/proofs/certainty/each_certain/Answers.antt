@@ -1,7 +1,6 @@
-use Rattle.std.{proofs.Common.{◌≤◌, ◌<◌, Err, [], length, ap, sym, subst, arith, ◌∙◌}, proofs.lemmas.List.take_all, proofs.lemmas.List.Elements.All-get_or}
+use Rattle.std.{proofs.Common.{◌≤◌, ◌<◌, [], length, sym, subst, arith}, proofs.lemmas.List.take_all, proofs.lemmas.List.Elements.All-get_or}
 use Rattle.std.proofs.lemmas.Result.{err_from_is_err_and}
 use Rattle.ct_condition.proofs.Writes.{writes_none, writes_all, writes_more, writes_last}
-use Rattle.ct_operators.proofs.Adding.{passed}
 use Rattle.ct_certain.{specs.Missing.{AreListed, IsAskedOf}, proofs.Candidates.asked_later, proofs.Certainties.{listed_none, listed_turn}}
 use mathlib.Core.List.{IsPrefix}
 use Rattle.ct_certain.proofs.certainty.each_certain.Goals as goal
@@ -53,12 +52,3 @@ returns-in_err-try_tuple-clause-writes g c =
 
 pub try_tuple-requires-clause-listed : goal.try_tuple-requires-clause-listed
 try_tuple-requires-clause-listed g c = c.loop-tuple.invariant.lists.refuted
-
-pub returns-in_err-try_tuple-clause-many : goal.returns-in_err-try_tuple-clause-many
-returns-in_err-try_tuple-clause-many g c e =
-    let exit = err_from_is_err_and c.from_residual.result c.from_residual.ensures.1 in
-    record {
-      tuple = c.tuple-item.result;
-      among = (c.loop-tuple.tuple-index, c.loop-tuple-test.true, sym c.tuple-item.is);
-      past = c.in_err-try_tuple.ensures.many (passed _ _ _ (exit.1 ∙ ap Err exit.2) e);
-    }

@@ -1,6 +1,5 @@
-use Rattle.std.{proofs.Common.{Err, ap, sym, subst, ◌∙◌}, proofs.lemmas.Result.err_from_is_err_and}
-use Rattle.ct_operators.proofs.Adding.{passed}
-use Rattle.ct_certain.{specs.Answered.IsSettled, specs.Certain.IsInAll, specs.Missing.{IsPastTermsOfAbsence, IsRootOf, nothing}}
+use Rattle.std.proofs.Common.{sym, subst}
+use Rattle.ct_certain.{specs.Answered.IsSettled, specs.Certain.IsInAll, specs.Missing.{IsRootOf, nothing}}
 use Rattle.ct_certain.proofs.Certainties.{takes_nothing, takes_one}
 use Rattle.ct_certain.proofs.certainty.try_tuple.Goals as goal
 
@@ -22,9 +21,3 @@ returns-in_ok-list_tuple-in-Refuted-clause-takes g c =
     (subst (λ t. IsRootOf c.args.words.now new c.args.global c.args.table.now.rows t c.in_ok-root.root) c.as_slice-2.ensures c.in_ok-root.ensures.root)
     (subst (IsSettled new c.in_ok-root.root) c.in-Refuted.is c.in_ok-root.ensures.settled)
     c.in_ok-list_tuple-in-Refuted.ensures
-
-pub returns-in_err-root-clause-many : goal.returns-in_err-root-clause-many
-returns-in_err-root-clause-many g c e =
-    let new = g.I.Interner.list c.ask_tuple.new.pass in
-    let exit = err_from_is_err_and c.from_residual.result c.from_residual.ensures.1 in
-    subst (IsPastTermsOfAbsence c.args.words.now new c.args.global c.args.table.now.rows) c.as_slice-2.ensures (c.in_err-root.ensures.many (passed _ _ _ (exit.1 ∙ ap Err exit.2) e))

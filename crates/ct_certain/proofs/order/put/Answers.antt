@@ -1,10 +1,11 @@
-use Rattle.std.proofs.Common.{ap, ◌∙◌}
-use Rattle.ct_certain.{specs.Order.slot, proofs.Slots.{put_at, put_nowhere}}
+use Rattle.std.proofs.Common.{sym, ◌∙◌, ap}
+use Rattle.ct_certain.{specs.Order.ends_with, proofs.Last.{put_again, put_last}}
 use Rattle.ct_certain.proofs.order.put.Goals as goal
 
-pub returns-in-None : goal.returns-in-None
-returns-in-None c = put_nowhere c.args.world.now.items c.args.null c.args.value (c.in-None.ensures.value ∙ ap (λ l. slot l c.args.null) c.as_slice.ensures.value)
+pub returns-then-ends_with : goal.returns-then-ends_with
+returns-then-ends_with c =
+    put_again c.args.world.now.items c.args.null c.args.value c.requires.last (ap (λ l. ends_with l c.args.null) (sym c.as_slice.ensures.value) ∙ sym c.ends_with.ensures ∙ c.if-ends_with.true)
 
-pub returns-in_ok-insert-in-Some : goal.returns-in_ok-insert-in-Some
-returns-in_ok-insert-in-Some c =
-    c.in_ok-insert-in-Some.ensures.items ∙ put_at c.args.world.now.items c.args.null c.args.value c.in-Some.place (c.in-Some.ensures.value ∙ ap (λ l. slot l c.args.null) c.as_slice.ensures.value)
+pub returns : goal.returns
+returns c =
+    c.in_ok-push.ensures.items ∙ put_last c.args.world.now.items c.args.null c.args.value c.requires.ascending c.requires.last (ap (λ l. ends_with l c.args.null) (sym c.as_slice.ensures.value) ∙ sym c.ends_with.ensures ∙ c.if-ends_with.false)

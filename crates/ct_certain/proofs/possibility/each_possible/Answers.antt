@@ -1,8 +1,7 @@
-use Rattle.std.{proofs.Common.{◌≡◌, ◌≤◌, ◌*◌, Err, [], length, ap, sym, subst, arith, ◌∙◌}, specs.Prelude.All, proofs.lemmas.List.take_all}
+use Rattle.std.{proofs.Common.{◌≡◌, ◌≤◌, ◌*◌, [], length, sym, subst, arith}, specs.Prelude.All, proofs.lemmas.List.take_all}
 use Rattle.std.{proofs.lemmas.List.Elements.All-nil, proofs.lemmas.Result.err_from_is_err_and}
 use Rattle.ct_condition.proofs.Writes.{writes_none, writes_within, writes_as, writes_more, writes_last}
-use Rattle.ct_operators.proofs.Adding.{passed}
-use Rattle.ct_certain.{specs.Own.IsOwn, specs.Possible.{ListsPossible, ended}, proofs.Listing.{lists_turn, row_of, past_row}}
+use Rattle.ct_certain.{specs.Own.IsOwn, specs.Possible.{ListsPossible, ended}, proofs.Listing.{lists_turn, row_of}}
 use mathlib.Core.List.{IsPrefix}
 use Rattle.ct_certain.proofs.possibility.each_possible.Goals as goal
 
@@ -44,11 +43,6 @@ returns-in_err-found-clause-writes g c =
     let exit = err_from_is_err_and c.from_residual.result c.from_residual.ensures.1 in
     let n : length c.args.rows.now * 1 ≡ length c.args.rows.now = omega arith in
     rw (exit.1, exit.2) (writes_as n (writes_last _ _ c.loop-row.invariant.writes _ c.loop-row-test.true c.in_err-found.ensures.writes))
-
-pub returns-in_err-found-clause-many : goal.returns-in_err-found-clause-many
-returns-in_err-found-clause-many g c e =
-    let exit = err_from_is_err_and c.from_residual.result c.from_residual.ensures.1 in
-    past_row c.args.words.now c.args.global _ c.args.rows.now c.loop-row.row-index c.row-item.result c.loop-row-test.true c.row-item.is (c.in_err-found.ensures.many (passed _ _ _ (exit.1 ∙ ap Err exit.2) e))
 
 pub returns-in_err-list_row-clause-writes : goal.returns-in_err-list_row-clause-writes
 returns-in_err-list_row-clause-writes g c =

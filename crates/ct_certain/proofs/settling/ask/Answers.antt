@@ -1,8 +1,6 @@
-use Rattle.std.{proofs.Common.{Err, ap, sym, subst, ◌∙◌}, proofs.lemmas.Result.err_from_is_err_and}
+use Rattle.std.proofs.Common.{sym, subst}
 use Rattle.ct_word.specs.Stands.{HasNoColumn}
-use Rattle.ct_cnf.specs.Encoding.{HasTermsPast}
-use Rattle.ct_operators.proofs.Adding.{passed}
-use Rattle.ct_certain.{specs.Answered.IsSettled, proofs.Asking.{root_plain, root_past, shown_answer, none_answer}}
+use Rattle.ct_certain.{specs.Answered.IsSettled, proofs.Asking.{root_plain, shown_answer, none_answer}}
 use Rattle.ct_decide.specs.declared.deciding.Decision.TheVariants as decision
 use Rattle.ct_certain.proofs.settling.ask.Goals as goal
 
@@ -13,20 +11,13 @@ settle-requires-clause-columns g c =
     subst (λ ws. HasNoColumn ws c.in_ok-root.root) (sym c.words-now.ensures.words)
     (root_plain c.args.words.now old new c.requires.longer c.words.ensures.formed c.args.global c.args.row.now c.requires.asked c.in_ok-root.root c.in_ok-root.ensures.terms)
 
-pub returns-in_err-decision-clause-many : goal.returns-in_err-decision-clause-many
-returns-in_err-decision-clause-many g c e =
-    let old = g.I.Interner.list c.args.pass.now in
-    let new = g.I.Interner.list c.and.new.pass in
-    let exit = err_from_is_err_and c.from_residual-in_err-decision.result c.from_residual-in_err-decision.ensures.1 in
-    root_past c.args.words.now old new c.requires.longer c.words.ensures.formed c.args.global c.args.row.now c.requires.asked c.in_ok-root.root c.in_ok-root.ensures.truth c.in_ok-root.ensures.terms
-    (subst (λ ws. HasTermsPast 64 ws c.in_ok-root.root) c.words-now.ensures.words (c.in_err-decision.ensures.many (passed _ _ _ (exit.1 ∙ ap Err exit.2) e)))
-
 pub returns-in-World-clause-answer : goal.returns-in-World-clause-answer
 returns-in-World-clause-answer g c =
     let old = g.I.Interner.list c.args.pass.now in
     let new = g.I.Interner.list c.and.new.pass in
-    shown_answer c.args.words.now old new c.requires.longer c.words.ensures.formed c.args.global c.args.row.now c.requires.asked c.in_ok-root.root c.in_ok-root.ensures.truth c.in-World.world
-    (subst (λ ws. IsSettled ws c.in_ok-root.root (decision.World c.in-World.world)) c.words-now.ensures.words (subst (IsSettled c.words-now.result.now c.in_ok-root.root) c.in-World.is c.in_ok-decision.ensures.settled))
+    shown_answer c.args.words.now old new c.requires.longer c.words.ensures.formed c.args.global c.args.row.now c.requires.asked c.in_ok-root.root c.in_ok-root.ensures.truth c.in-World.found c.in_ok-world-in-World.world
+    (subst (λ ws. IsSettled ws c.in_ok-root.root (decision.World c.in-World.found)) c.words-now.ensures.words (subst (IsSettled c.words-now.result.now c.in_ok-root.root) c.in-World.is c.in_ok-decision.ensures.settled))
+    c.in_ok-world-in-World.ensures.same c.in_ok-world-in-World.ensures.tidy
 
 pub returns-clause-answer : goal.returns-clause-answer
 returns-clause-answer g c =

@@ -7,8 +7,8 @@ pub returns-in-Ok-clause-executes : goal.returns-in-Ok-clause-executes
 returns-in-Ok-clause-executes g c =
     let s = c.args.session in
     let after = c.in-Ok.done.0 in
-    subst (λ o. Executes g.N.Site.log.cap (state_of s.pass s.seen s.fresh o) (state_of after.pass after.seen after.fresh after.open) s.pass.words after.pass.words c.args.statement.now c.in-Ok.done.1)
-    (sym (none_open s.open c.requires.none)) c.in-Ok.ensures.executes
+    subst (λ o. Executes g.N.Site.log.cap (state_of s.pass s.seen s.fresh o) (state_of after.pass after.seen after.fresh after.transaction) s.pass.words after.pass.words c.args.statement.now c.in-Ok.done.1)
+    (sym (none_open s.transaction c.requires.none)) c.in-Ok.ensures.executes
 
 pub anew-requires-clause-seen : goal.anew-requires-clause-seen
 anew-requires-clause-seen g c = version_within c.args.session.pass.words c.in-Err.pass.words c.in-Err.ensures.longer c.args.session.seen c.requires.session.seen_is
@@ -17,8 +17,8 @@ pub returns-in-Err-clause-executes : goal.returns-in-Err-clause-executes
 returns-in-Err-clause-executes g c =
     let s = c.args.session in
     let after = c.anew.result.0 in
-    subst (λ o. Executes g.N.Site.log.cap (state_of s.pass s.seen s.fresh o) (state_of after.pass after.seen after.fresh after.open) s.pass.words after.pass.words c.args.statement.now c.anew.result.1)
-    (sym (none_open s.open c.requires.none))
+    subst (λ o. Executes g.N.Site.log.cap (state_of s.pass s.seen s.fresh o) (state_of after.pass after.seen after.fresh after.transaction) s.pass.words after.pass.words c.args.statement.now c.anew.result.1)
+    (sym (none_open s.transaction c.requires.none))
     (c.anew.ensures.executes s.pass (record {
       longer = c.in-Err.ensures.longer;
       kept = c.in-Err.ensures.kept;

@@ -9,7 +9,7 @@ returns-in-None-clause-executes g c =
     let s = c.args.session in
     let o = c.in-Some.open in
     let base = o.sight.version in
-    c.carrying.ensures.executes N (state_of s.pass s.seen s.fresh s.open) s.pass.words c.args.statement.now (reply.Nothing base) (λ x reads.
+    c.carrying.ensures.executes N (state_of s.pass s.seen s.fresh s.transaction) s.pass.words c.args.statement.now (reply.Nothing base) (λ x reads.
     subst (λ p. Answers N (state_of s.pass s.seen s.fresh p) (carried base (state_of s.pass s.seen s.fresh None)) s.pass.words s.pass.words x (reply.Nothing base)) (sym c.in-Some.is)
     (not_begun_answers N s.pass s.seen s.fresh o (subst (λ p. IfSome p (IsOpen s.pass.words)) c.in-Some.is c.requires.session.open_is) c.args.statement.now c.requires.order x reads
     c.words-words.ensures.room c.in-None.is))
@@ -18,5 +18,5 @@ pub returns-in-Some-changes-clause-executes : goal.returns-in-Some-changes-claus
 returns-in-Some-changes-clause-executes g c =
     let s = c.args.session in
     let after = c.offered.result.0 in
-    subst (λ p. Executes g.N.Site.log.cap (state_of s.pass s.seen s.fresh p) (state_of after.pass after.seen after.fresh after.open) s.pass.words after.pass.words c.args.statement.now c.offered.result.1)
+    subst (λ p. Executes g.N.Site.log.cap (state_of s.pass s.seen s.fresh p) (state_of after.pass after.seen after.fresh after.transaction) s.pass.words after.pass.words c.args.statement.now c.offered.result.1)
     (sym c.in-Some.is) c.offered.ensures.executes

@@ -11,4 +11,4 @@ pub returns-in-Err-clause-answers : goal.returns-in-Err-clause-answers
 returns-in-Err-clause-answers g c =
     let s = c.args.session in
     let N = g.N.Site.log.cap in
-    unread_answers N (state_of s.pass s.seen s.fresh s.open) s.pass.words c.args.text.now (proceeds_same N s.pass.session s.pass.words c.words.ensures.room) c.in-Err.why c.in-Err.ensures.fault
+    unread_answers N (state_of s.pass s.seen s.fresh s.transaction) s.pass.words c.args.text.now (proceeds_same N s.pass.session s.pass.words c.words.ensures.room) c.in-Err.why c.in-Err.ensures.fault

@@ -18,9 +18,9 @@ returns-in_default-clause-executes g c =
     let s = c.args.session in
     let pass = c.begin-pass.result.0 in
     let kept = tally_kept pass s.pass c.begin-pass.ensures.pass in
-    c.refusal.ensures.executes cap (state_of s.pass s.seen s.fresh s.open) s.pass.words c.args.statement.now
-    (memory_carried cap s.pass pass s.seen s.fresh s.open None c.args.statement.now
-    (proceeds cap s.pass pass c.begin-pass.ensures.longer kept c.words-words.ensures.room c.words.ensures.numbered c.words-words.ensures.numbered) kept (ap (option_map transaction_of) (sym (none_open s.open c.requires.none))))
+    c.refusal.ensures.executes cap (state_of s.pass s.seen s.fresh s.transaction) s.pass.words c.args.statement.now
+    (memory_carried cap s.pass pass s.seen s.fresh s.transaction None c.args.statement.now
+    (proceeds cap s.pass pass c.begin-pass.ensures.longer kept c.words-words.ensures.room c.words.ensures.numbered c.words-words.ensures.numbered) kept (ap (option_map transaction_of) (sym (none_open s.transaction c.requires.none))))
 
 pub returns-clause-session : goal.returns-clause-session
 returns-clause-session g c =
@@ -42,7 +42,7 @@ returns-clause-executes g c =
     let kept = tally_kept pass s.pass c.begin-pass.ensures.pass in
     let newest = subst (λ r. IfOk r (IsNewest pass.words)) c.in-Ok.is c.begin-pass.ensures.snapshot in
     let at = c.in-Ok.snapshot.version in
-    c.carrying-session.ensures.executes cap (state_of s.pass s.seen s.fresh s.open) s.pass.words c.args.statement.now (reply.Begun at)
-    (begun_executes cap s.pass pass s.seen s.fresh at s.open (record { sight = c.of.result; changes = None; reads = c.new.result }) c.args.statement.now c.requires.none c.requires.order
+    c.carrying-session.ensures.executes cap (state_of s.pass s.seen s.fresh s.transaction) s.pass.words c.args.statement.now (reply.Begun at)
+    (begun_executes cap s.pass pass s.seen s.fresh at s.transaction (record { sight = c.of.result; changes = None; reads = c.new.result }) c.args.statement.now c.requires.none c.requires.order
     (proceeds cap s.pass pass c.begin-pass.ensures.longer kept c.words-words.ensures.room c.words.ensures.numbered c.words-words.ensures.numbered) kept
     c.requires.session.seen_is newest.version c.of.ensures.version c.of.ensures.none c.new.ensures)

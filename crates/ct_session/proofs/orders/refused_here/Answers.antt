@@ -5,4 +5,4 @@ pub returns-clause-executes : goal.returns-clause-executes
 returns-clause-executes g c =
     let cap = g.N.Site.log.cap in
     let s = c.args.session in
-    misplaced_executes cap s.pass s.seen s.fresh (proceeds_same cap s.pass.session s.pass.words c.words-words.ensures.room) s.open c.args.statement.now c.args.why c.requires.misplaced
+    misplaced_executes cap s.pass s.seen s.fresh (proceeds_same cap s.pass.session s.pass.words c.words-words.ensures.room) s.transaction c.args.statement.now c.args.why c.requires.misplaced

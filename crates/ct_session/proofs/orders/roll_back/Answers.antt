@@ -5,4 +5,4 @@ pub returns-clause-executes : goal.returns-clause-executes
 returns-clause-executes g c =
     let cap = g.N.Site.log.cap in
     let s = c.args.session in
-    rolled_back_executes cap s.pass s.seen s.fresh s.open c.args.statement.now c.requires.some c.requires.order (proceeds_same cap s.pass.session s.pass.words c.words-words.ensures.room)
+    rolled_back_executes cap s.pass s.seen s.fresh s.transaction c.args.statement.now c.requires.some c.requires.order (proceeds_same cap s.pass.session s.pass.words c.words-words.ensures.room)

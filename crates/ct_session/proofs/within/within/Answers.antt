@@ -28,7 +28,7 @@ later N pass new longer kept room old counted seen fresh o open' is next now st 
 pub answer-requires-clause-session : goal.answer-requires-clause-session
 answer-requires-clause-session g c =
     let s = c.args.session in
-    grown s.pass.words c.perform-prepared.new.pass.words c.in-Ok-Answer.ensures.longer c.words-after.ensures.formed s.seen s.open c.in-Some.open c.in-Some.is c.requires.session
+    grown s.pass.words c.perform-prepared.new.pass.words c.in-Ok-Answer.ensures.longer c.words-after.ensures.formed s.seen s.transaction c.in-Some.open c.in-Some.is c.requires.session
 
 pub answer-requires-clause-prepared : goal.answer-requires-clause-prepared
 answer-requires-clause-prepared g c =
@@ -47,7 +47,7 @@ answer-requires-clause-prepared g c =
 pub change-requires-clause-session : goal.change-requires-clause-session
 change-requires-clause-session g c =
     let s = c.args.session in
-    grown s.pass.words c.perform-prepared.new.pass.words c.in-Ok-Change.ensures.longer c.words-after.ensures.formed s.seen s.open c.in-Some.open c.in-Some.is c.requires.session
+    grown s.pass.words c.perform-prepared.new.pass.words c.in-Ok-Change.ensures.longer c.words-after.ensures.formed s.seen s.transaction c.in-Some.open c.in-Some.is c.requires.session
 
 pub change-requires-clause-prepared : goal.change-requires-clause-prepared
 change-requires-clause-prepared g c =
@@ -67,7 +67,7 @@ change-requires-clause-prepared g c =
 pub refused-requires-in-Err-prepared-clause-session : goal.refused-requires-in-Err-prepared-clause-session
 refused-requires-in-Err-prepared-clause-session g c =
     let s = c.args.session in
-    grown s.pass.words c.perform-prepared.new.pass.words c.in-Err-prepared.ensures.longer c.words-after.ensures.formed s.seen s.open c.in-Some.open c.in-Some.is c.requires.session
+    grown s.pass.words c.perform-prepared.new.pass.words c.in-Err-prepared.ensures.longer c.words-after.ensures.formed s.seen s.transaction c.in-Some.open c.in-Some.is c.requires.session
 
 pub refused-requires-in-Err-prepared-clause-refused : goal.refused-requires-in-Err-prepared-clause-refused
 refused-requires-in-Err-prepared-clause-refused g c =
@@ -81,25 +81,25 @@ returns-in-Ok-Answer-clause-executes g c =
     let s = c.args.session in
     let done = c.in-Ok-Answer.ensures in
     later g.N.Site.log.cap s.pass c.perform-prepared.new.pass done.longer done.kept c.words-after.ensures.room c.words-before.ensures.numbered c.words-after.ensures.numbered
-    s.seen s.fresh s.open c.in-Some.open c.in-Some.is _ _ c.args.statement.now c.answer.result.1 c.answer.ensures.executes
+    s.seen s.fresh s.transaction c.in-Some.open c.in-Some.is _ _ c.args.statement.now c.answer.result.1 c.answer.ensures.executes
 
 pub returns-in-Some-step-clause-executes : goal.returns-in-Some-step-clause-executes
 returns-in-Some-step-clause-executes g c =
     let s = c.args.session in
     let done = c.in-Ok-Change.ensures in
     later g.N.Site.log.cap s.pass c.perform-prepared.new.pass done.longer done.kept c.words-after.ensures.room c.words-before.ensures.numbered c.words-after.ensures.numbered
-    s.seen s.fresh s.open c.in-Some.open c.in-Some.is _ _ c.args.statement.now c.change.result.1 c.change.ensures.executes
+    s.seen s.fresh s.transaction c.in-Some.open c.in-Some.is _ _ c.args.statement.now c.change.result.1 c.change.ensures.executes
 
 pub returns-in-Err-prepared-clause-executes : goal.returns-in-Err-prepared-clause-executes
 returns-in-Err-prepared-clause-executes g c =
     let s = c.args.session in
     let done = c.in-Err-prepared.ensures in
     later g.N.Site.log.cap s.pass c.perform-prepared.new.pass done.longer done.kept c.words-after.ensures.room c.words-before.ensures.numbered c.words-after.ensures.numbered
-    s.seen s.fresh s.open c.in-Some.open c.in-Some.is _ _ c.args.statement.now c.refused-in-Err-prepared.result.1 c.refused-in-Err-prepared.ensures.executes
+    s.seen s.fresh s.transaction c.in-Some.open c.in-Some.is _ _ c.args.statement.now c.refused-in-Err-prepared.result.1 c.refused-in-Err-prepared.ensures.executes
 
 pub returns-in-Err-clause-executes : goal.returns-in-Err-clause-executes
 returns-in-Err-clause-executes g c =
     let s = c.args.session in
     let after = c.refused.result.0 in
-    subst (λ (p : Option Open). Executes g.N.Site.log.cap (state_of s.pass s.seen s.fresh p) (state_of after.pass after.seen after.fresh after.open) s.pass.words after.pass.words c.args.statement.now c.refused.result.1)
+    subst (λ (p : Option Open). Executes g.N.Site.log.cap (state_of s.pass s.seen s.fresh p) (state_of after.pass after.seen after.fresh after.transaction) s.pass.words after.pass.words c.args.statement.now c.refused.result.1)
     (sym c.in-Some.is) c.refused.ensures.executes

@@ -1,7 +1,7 @@
 use Rattle.std.{proofs.Common.{ap, arith, length, subst, sym}, specs.Prelude.Err}
 use Rattle.ct_query.specs.Views.{query_of}
 use Rattle.ct_statement.{specs.Sight.{actions_before, history_of}, specs.Unmet.IsUnmet, proofs.Evaluating.possible_fails, proofs.Questions.possible_right}
-use Rattle.ct_statement.{proofs.TermCounts.past_of_row, proofs.Wanting.unasked_unmet}
+use Rattle.ct_statement.proofs.Wanting.{unasked_unmet}
 use Rattle.ct_query.specs.Plain as plain
 use Rattle.ct_query.specs.declared.action.Ask.TheVariants as ask
 use Rattle.ct_statement.proofs.asking.possible_rows.Goals as goal
@@ -36,5 +36,4 @@ returns-in-Err-possible-clause-err g c =
     let new = c.possible.new.pass.words in
     λ columns. subst (IsUnmet h actions g.N.Site.log.cap new (plain.Asks ask.Possible columns q)) (sym c.unlisted.ensures)
     (possible_fails old h actions c.args.sight.now.tables c.requires.sight.denotes new q table.rows c.in-Ok.ensures.few g.N.Site.log.cap columns c.made-made.result c.made.result c.in-Err-possible.e
-    (λ e. c.in-Err-possible.ensures.full (ap Err e)) (λ e. let fewer = c.in-Err-possible.ensures.fewer (ap Err e) in let before = c.made-made.ensures in let after = c.made.ensures in omega (arith, fewer, before, after))
-    (λ e. past_of_row h actions q c.answered.new.pass.words c.args.sight.now.global (length table.columns) table.rows c.in-Ok.ensures.ok new columns (c.in-Err-possible.ensures.many (ap Err e))))
+    (λ e. c.in-Err-possible.ensures.full (ap Err e)) (λ e. let fewer = c.in-Err-possible.ensures.fewer (ap Err e) in let before = c.made-made.ensures in let after = c.made.ensures in omega (arith, fewer, before, after)))

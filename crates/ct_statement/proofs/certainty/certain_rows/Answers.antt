@@ -1,9 +1,9 @@
-use Rattle.std.{proofs.Common.{◌∙◌, ap, arith, length, subst, sym}, specs.Prelude.Err, specs.Arc.arc_value}
+use Rattle.std.{proofs.Common.{ap, arith, length, subst, sym}, specs.Prelude.Err, specs.Arc.arc_value}
 use Rattle.ct_query.specs.Views.{query_of}
 use Rattle.ct_table.proofs.Snapshots.{kept_grows}
 use Rattle.ct_certain.specs.Certain.{IsKeptWorld}
 use Rattle.ct_statement.{specs.Sight.{actions_before, history_of}, specs.Unmet.IsUnmet, proofs.Evaluating.certain_fails, proofs.KeptWorlds.world_taken}
-use Rattle.ct_statement.{proofs.Questions.certain_right, proofs.TermCounts.past_of_tuple, proofs.Wanting.unasked_unmet}
+use Rattle.ct_statement.{proofs.Questions.certain_right, proofs.Wanting.unasked_unmet}
 use Rattle.ct_query.specs.Plain as plain
 use Rattle.ct_query.specs.declared.action.Ask.TheVariants as ask
 use Rattle.ct_statement.proofs.certainty.certain_rows.Goals as goal
@@ -48,5 +48,4 @@ returns-in-Err-certain-clause-err g c =
     let new = c.certain.new.pass.words in
     λ columns named. subst (IsUnmet h actions g.N.Site.log.cap new (plain.Asks ask.Certain columns q)) (sym c.unlisted.ensures)
     (certain_fails old h actions c.args.sight.now.tables c.requires.sight.denotes new q table.rows c.in-Ok.ensures.few g.N.Site.log.cap columns c.made-made.result c.made.result (length table.columns) c.in-Err-certain.e
-    (λ e. c.in-Err-certain.ensures.full (ap Err e)) (λ e. let fewer = c.in-Err-certain.ensures.fewer (ap Err e) in let before = c.made-made.ensures in let after = c.made.ensures in omega (arith, fewer, before, after))
-    (λ e. past_of_tuple h actions q c.answered.new.pass.words c.args.sight.now.global (length table.columns) table.rows c.in-Ok.ensures.ok new columns (named ∙ sym c.in-Ok.ensures.width) (c.in-Err-certain.ensures.many (ap Err e))))
+    (λ e. c.in-Err-certain.ensures.full (ap Err e)) (λ e. let fewer = c.in-Err-certain.ensures.fewer (ap Err e) in let before = c.made-made.ensures in let after = c.made.ensures in omega (arith, fewer, before, after)))

@@ -1,13 +1,9 @@
-use Rattle.std.proofs.Common.{subst}
-use Rattle.ct_decide.specs.Decided.{DecisionOf}
-use Rattle.ct_statement.proofs.Stepped.{world_found, world_refuted}
+use Rattle.std.{proofs.Common.{[], ◌∷◌, subst}, specs.Prelude.IfSome}
+use Rattle.ct_worlds.specs.Repaired.{IsRepaired}
+use Rattle.ct_statement.proofs.Worlds.{world_made}
 use Rattle.ct_statement.proofs.stepping.world_for.Goals as goal
 
-pub returns-in-World-clause-ok : goal.returns-in-World-clause-ok
-returns-in-World-clause-ok c =
-    world_found c.args.words.now c.args.place c.args.kept.now c.in-World.world (subst (DecisionOf c.args.words.now c.args.place) c.in-World.is c.in-Ok.ensures.decided)
-
-pub returns-in-Refuted-clause-err : goal.returns-in-Refuted-clause-err
-returns-in-Refuted-clause-err c =
-    let decision = subst (DecisionOf c.args.words.now c.args.place) c.in-Refuted.is c.in-Ok.ensures.decided in
-    world_refuted c.args.words.now c.args.place c.in-Refuted.derivation c.requires.formed decision.0
+pub returns-in-Some-clause-ok : goal.returns-in-Some-clause-ok
+returns-in-Some-clause-ok c =
+    let made = subst (λ o. IfSome o (λ w. IsRepaired c.args.words.now (c.args.global ∷ c.args.own ∷ []) c.args.kept.now w)) c.in-Some.is c.in_ok-world.ensures in
+    world_made c.args.words.now c.args.global c.args.own c.args.place c.args.kept.now c.in-Some.world c.requires.both made
