@@ -7,7 +7,6 @@ from meaning import (
     FURTHER,
     database_of,
     holds,
-    leaves,
     pattern,
     patterns_of,
     relevant,
@@ -152,10 +151,3 @@ def wrong_commit(own, other):
         if left is not None and any(left[name] != right[name] for name in tables):
             return f"another database at {valuation}"
     return None
-
-
-def terms_of(query_or_condition, changes, tables, more):
-    """Returns how many different terms a statement is about: those of it and of the changes that assert or name one of the
-    tables."""
-    named = [change for change in changes if change[0][0] == "assert" or change[0][1] in tables]
-    return len(leaves([query_or_condition, named], ("number", "text", "null"))) + more

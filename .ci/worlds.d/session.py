@@ -1,12 +1,11 @@
 """Follows a script as one session, and judges each reply."""
 
-from judging import JUDGES, is_admitting, terms_of, wrong_commit
+from judging import JUDGES, is_admitting, wrong_commit
 from meaning import TooMany, greatest_part, tables_of
 from names import check, headed
 from reading import Refused, statement
 
 KINDS_OF_CHANGE = ("create", "insert", "insert query", "delete", "assert")
-MOST_TERMS = 64
 MOST_ROWS = 1_048_576
 
 
@@ -27,15 +26,6 @@ def with_nulls(change, session, drawn):
             cells.append(("null", f"?{session}#{drawn}") if cell[0] == "fresh" else cell)
         rows.append(tuple(cells))
     return (*change[:2], rows, change[3]), drawn
-
-
-def has_many_terms(tree, changes):
-    """Tells whether a statement may be refused for the number of its terms, where it sees these changes."""
-    if tree[0] not in ("assert", "possible", "certain"):
-        return False
-    tables = [] if tree[0] == "assert" else tables_of(tree[1])
-    more = len(headed(tree[1], schema_of(changes))) if tree[0] == "certain" else 0
-    return terms_of(tree[1], changes, tables, more) > MOST_TERMS
 
 
 def is_too_large(tree, changes):
@@ -106,12 +96,10 @@ class Session:
         check(tree, self.schema())
         return self.change(tree) if tree[0] in KINDS_OF_CHANGE else self.head(tree)
 
-    def wrong_limit(self, tree, name):
-        """Returns what is wrong with a refusal at a limit, or None."""
+    def wrong_limit(self, tree):
+        """Returns what is wrong with a refusal for the size of a query, or None."""
         check(tree, self.schema())
-        is_past = is_too_large if name == "TooLarge" else has_many_terms
-        is_right = is_past(tree, self.changes())
-        return None if is_right else f"{name} within the limit"
+        return None if is_too_large(tree, self.changes()) else "TooLarge within the limit"
 
 
 def wrong_reply(session, text, lines):
@@ -119,8 +107,8 @@ def wrong_reply(session, text, lines):
     number, _, said = lines[0].partition(" ")
     try:
         tree = statement(text)
-        if said in ("refused TooLarge", "refused TooManyTerms"):
-            return session.wrong_limit(tree, said.removeprefix("refused "))
+        if said == "refused TooLarge":
+            return session.wrong_limit(tree)
         due = session.due(tree)
     except Refused as refusal:
         due = f"refused {refusal}"

@@ -12,7 +12,7 @@ from meaning import TooMany, tables_of
 from names import check, headed
 from printed import history, parts
 from reading import Refused, statement, statements
-from session import KINDS_OF_CHANGE, has_many_terms, is_too_large, schema_of, with_nulls
+from session import KINDS_OF_CHANGE, is_too_large, schema_of, with_nulls
 
 ORDERS = ("begin", "commit", "rollback")
 
@@ -115,8 +115,7 @@ class Follower:
             return str(refusal) == name
         if name == "Inconsistent":
             return tree[0] == "assert" and not is_admitting(changes, tree[1])
-        is_past = {"TooLarge": is_too_large, "TooManyTerms": has_many_terms}.get(name)
-        return is_past is not None and is_past(tree, changes)
+        return name == "TooLarge" and is_too_large(tree, changes)
 
     def refuse(self, tree, said):
         """Judges a refusal at what a statement sees."""

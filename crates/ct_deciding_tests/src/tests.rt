@@ -1,9 +1,16 @@
+mod assignments;
+mod chance;
 mod checker;
 mod clauses;
 mod decision;
 mod deletion;
+mod drafts;
 mod equality;
 mod listing;
 mod logs;
+mod questions;
 mod search;
+mod sets;
+mod solver;
 mod tables;
+mod worlds;

@@ -1,4 +1,4 @@
-// A question with each answer, and the greatest number of terms.
+// A question with each answer, and chains of many terms.
 
 ghost use Rattle.std.specs.Prelude.{◌≤◌, IfOk};
 ghost use Rattle.ct_word.specs.WellFormed.{IsWellFormed};
@@ -25,11 +25,11 @@ const TRIANGLE: [(Kind, u32, u32); 10] = [
     (Kind::And, 7, 8),
 ];
 
-/// The decision, where the root is a condition of a short log without columns.
-fn decided(alloc: Global, words: &[u64], root: u32) -> Result<Option<Decision>, DecideError>
+/// The decision, where the root is a condition of a log without columns.
+pub fn decided(alloc: Global, words: &[u64], root: u32) -> Result<Option<Decision>, DecideError>
     requires { IsWellFormed words.now }
 {
-    if words.len() > 1000 || !is_place(words, Class::Cond, root) || !no_columns(words) {
+    if words.len() > 100_000 || !is_place(words, Class::Cond, root) || !no_columns(words) {
         return Ok(None);
     }
     Ok(Some(decide(alloc, words, root)?))
@@ -73,7 +73,7 @@ fn a_triangle_is_decided(rt: HostRuntime) -> Result<(), Fail> {
 
 /// So many nulls, each equal to the next one, and the place of the condition that says so.
 fn chain(alloc: Global, nulls: u32) -> Result<(Vec<u64>, u32), AllocError>
-    requires { nulls ≤ 100 }
+    requires { nulls ≤ 1000 }
     ensures { IfOk result (λ r. IsWellFormed r.0.items) }
 {
     let mut words = Vec::new(alloc);
@@ -88,13 +88,35 @@ fn chain(alloc: Global, nulls: u32) -> Result<(Vec<u64>, u32), AllocError>
     Ok((words, root))
 }
 
+/// The same, and that the first and the last null differ.
+fn chain_apart(alloc: Global, nulls: u32) -> Result<(Vec<u64>, u32), AllocError>
+    requires { nulls ≤ 1000 }
+    ensures { IfOk result (λ r. IsWellFormed r.0.items) }
+{
+    let (mut words, links) = chain(alloc, nulls)?;
+    let last = add(&mut words, Kind::FreshNull, 1, nulls)?;
+    let equal = add(&mut words, Kind::Equal, 1, last)?;
+    let apart = add(&mut words, Kind::Not, equal, 0)?;
+    let root = add(&mut words, Kind::And, links, apart)?;
+    Ok((words, root))
+}
+
 #[test]
-fn decides_64_terms(rt: HostRuntime) -> Result<(), Fail> {
+fn decides_chains(rt: HostRuntime) -> Result<(), Fail> {
     let alloc = rt.alloc();
-    let (words, root) = chain(alloc, 64)?;
-    assert_eq!(rt; nulls(alloc, words.as_slice(), root)?, Some(64));
-    let (words, root) = chain(alloc, 65)?;
-    let answer = decided(alloc, words.as_slice(), root);
-    assert!(rt; answer.err() == Some(DecideError::TooManyTerms));
+    for count in [64, 65, 200, 500, 1000] {
+        let (words, root) = chain(alloc, count)?;
+        assert_eq!(rt; nulls(alloc, words.as_slice(), root)?, Some(count as usize));
+    }
+    Ok(())
+}
+
+#[test]
+fn refutes_chains(rt: HostRuntime) -> Result<(), Fail> {
+    let alloc = rt.alloc();
+    for count in [64, 500, 1000] {
+        let (words, root) = chain_apart(alloc, count)?;
+        assert_eq!(rt; nulls(alloc, words.as_slice(), root)?, None);
+    }
     Ok(())
 }

@@ -60,7 +60,7 @@ fn are_plain(words: &[u64], atoms: &[Atom]) -> bool
 }
 
 fn nulls(alloc: Global, count: u32) -> Result<Vec<u64>, AllocError>
-    requires { count ≤ 1000 }
+    requires { count ≤ 5000 }
     ensures { IfOk result (λ words. IsWellFormed words.items) }
 {
     let mut words = Vec::new(alloc);
@@ -102,13 +102,25 @@ fn closed(
     atoms: &[Atom],
     truth: &[bool],
 ) -> Result<Option<Closed>, Memory>
-    requires { count ≤ 1000 }
+    requires { count ≤ 5000 }
 {
     let words = nulls(alloc, count)?;
-    if words.len() > 1000 || atoms.len() != truth.len() || !are_plain(words.as_slice(), atoms) {
+    closed_over(alloc, words.as_slice(), atoms, truth)
+}
+
+/// The same over any words.
+fn closed_over(
+    alloc: Global,
+    words: &[u64],
+    atoms: &[Atom],
+    truth: &[bool],
+) -> Result<Option<Closed>, Memory>
+    requires { IsWellFormed words.now }
+{
+    if words.len() > 10000 || atoms.len() != truth.len() || !are_plain(words, atoms) {
         return Ok(None);
     }
-    Ok(Some(close(alloc, words.as_slice(), atoms, truth)?))
+    Ok(Some(close(alloc, words, atoms, truth)?))
 }
 
 /// The number of the last null's value.
@@ -119,6 +131,17 @@ fn last_number(answer: &Option<Closed>) -> Option<u32> {
     match world.as_slice().last() {
         Some((_, Value::Other(number))) => Some(*number),
         _ => None,
+    }
+}
+
+/// Whether the only null is this number.
+fn is_number(answer: &Option<Closed>, number: i64) -> bool {
+    let Some(Closed::World(world)) = answer else {
+        return false;
+    };
+    match world.as_slice() {
+        [(_, Value::Int(n))] => *n == number,
+        _ => false,
     }
 }
 
@@ -138,7 +161,7 @@ fn has_last(
     are_one: bool,
     number: u32,
 ) -> Result<(), Fail>
-    requires { count ≤ 1000 }
+    requires { count ≤ 5000 }
 {
     let atoms = all_pairs(alloc, count)?;
     let truth = vec![in alloc; are_one; atoms.len()]?;
@@ -159,10 +182,87 @@ fn takes_nulls_as_one(rt: HostRuntime) -> Result<(), Fail> {
     has_last(&rt, rt.alloc(), 64, true, 0)
 }
 
+/// One class of 450 nulls, by 101,025 equalities.
+#[test]
+fn takes_many_pairs_as_one(rt: HostRuntime) -> Result<(), Fail> {
+    has_last(&rt, rt.alloc(), 450, true, 0)
+}
+
+/// The equality of each null with the first one.
+fn star(alloc: Global, count: u32) -> Result<Vec<Atom>, AllocError> {
+    let mut atoms = Vec::new(alloc);
+    for t in 1..count {
+        atoms.push(Atom::Same(0, t))?;
+    }
+    Ok(atoms)
+}
+
+#[test]
+fn takes_a_star_as_one(rt: HostRuntime) -> Result<(), Fail> {
+    let alloc = rt.alloc();
+    for count in [1000, 2000] {
+        let atoms = star(alloc, count)?;
+        let truth = vec![in alloc; true; atoms.len()]?;
+        let answer = closed(alloc, count, atoms.as_slice(), truth.as_slice())?;
+        assert_eq!(rt; last_number(&answer), Some(0));
+    }
+    Ok(())
+}
+
+/// One null, and the numbers from 0 on after it; a number of 256 is not there.
+fn with_numbers(alloc: Global, count: u32) -> Result<Vec<u64>, AllocError>
+    ensures { IfOk result (λ words. IsWellFormed words.items) }
+{
+    let mut words = Vec::new(alloc);
+    add(&mut words, Kind::FreshNull, 1, 1)?;
+    add(&mut words, Kind::NumberHigh, 0, 0)?;
+    for k in 0..count {
+        add(&mut words, Kind::Number, 1, k)?;
+    }
+    Ok(words)
+}
+
+fn is_among(places: &[u32], place: u32) -> bool {
+    for other in places {
+        if *other == place {
+            return true;
+        }
+    }
+    false
+}
+
+/// The answer where a null is each of the numbers at these places, and none of the others of 250.
+fn closed_at(alloc: Global, words: &[u64], places: &[u32]) -> Result<Option<Closed>, Memory>
+    requires { IsWellFormed words.now }
+{
+    let mut atoms = Vec::new(alloc);
+    let mut truth = Vec::new(alloc);
+    for k in 2..252 {
+        atoms.push(Atom::Same(0, k))?;
+        truth.push(is_among(places, k))?;
+    }
+    closed_over(alloc, words, atoms.as_slice(), truth.as_slice())
+}
+
+/// Two numbers are never one, and a null is one of them at most: else the path leads from one number to another.
+#[test]
+fn tells_numbers_apart(rt: HostRuntime) -> Result<(), Fail> {
+    let alloc = rt.alloc();
+    let words = with_numbers(alloc, 250)?;
+    let words = words.as_slice();
+    let pair = closed_over(alloc, words, &[Atom::Same(2, 3)], &[true])?;
+    assert_eq!(rt; path_length(&pair), Some(2));
+    let one = closed_at(alloc, words, &[251])?;
+    assert!(rt; is_number(&one, 249));
+    let two = closed_at(alloc, words, &[2, 251])?;
+    assert_eq!(rt; path_length(&two), Some(3));
+    Ok(())
+}
+
 #[test]
 fn goes_along_a_chain(rt: HostRuntime) -> Result<(), Fail> {
     let alloc = rt.alloc();
-    for count in [32, 64] {
+    for count in [64, 1000, 2000] {
         let mut atoms = chain(alloc, count)?;
         let mut truth = vec![in alloc; true; atoms.len()]?;
         atoms.push(Atom::Same(0, count - 1))?;

@@ -17,7 +17,7 @@ fn is_literal(vars: u32, l: i32) -> bool
 }
 
 #[tactic(auto, unfolding(ct_sat::specs::Literal::is_clause))]
-fn is_clause(vars: u32, clause: &[i32]) -> bool
+pub fn is_clause(vars: u32, clause: &[i32]) -> bool
     ensures { result ≡ is_clause vars clause.now }
 {
     for l in clause {
@@ -29,7 +29,7 @@ fn is_clause(vars: u32, clause: &[i32]) -> bool
 }
 
 /// Whether the clauses are as `solve` asks.
-fn is_cnf(cnf: &Cnf) -> bool
+pub fn is_cnf(cnf: &Cnf) -> bool
     ensures { result ≡ true → IsCnf cnf.now }
 {
     if cnf.vars > 0x7fff_ffff {
@@ -44,7 +44,7 @@ fn is_cnf(cnf: &Cnf) -> bool
 }
 
 /// Each clause ends with a 0, as in the files of DIMACS.
-fn make(alloc: Global, vars: u32, literals: &[i32]) -> Result<Cnf, AllocError> {
+pub fn make(alloc: Global, vars: u32, literals: &[i32]) -> Result<Cnf, AllocError> {
     let mut clauses = Vec::new(alloc);
     for clause in literals.split(|l| *l == 0) {
         clauses.push(List::from_vec(clause.to_vec(alloc)?))?;
@@ -67,7 +67,7 @@ fn is_in(p: u8, h: u8) -> i32
 }
 
 /// Each pigeon is in a hole, and no two are in one.
-fn pigeons(alloc: Global, count: u8, holes: u8) -> Result<Cnf, AllocError>
+pub fn pigeons(alloc: Global, count: u8, holes: u8) -> Result<Cnf, AllocError>
     requires count { count ≤ 9 }
     requires holes { holes ≤ 9 }
 {
@@ -125,11 +125,19 @@ const THREE_COLOURS: [i32; 39] = [
     -8, 0, -3, -6, 0, -3, -9, 0, -6, -9, 0,
 ];
 
-/// Variables, clauses over them, and whether those have a model.
-const SETS: [(u32, &[i32], bool); 8] = [
+/// Variables, clauses over them, and whether those have a model: no clause, the empty clause, literals twice in a clause, a
+/// clause with both signs, and others.
+pub const SETS: [(u32, &[i32], bool); 15] = [
     (0, &[], true),
+    (0, &[0], false),
     (2, &[], true),
     (1, &[0], false),
+    (1, &[1, 0, 0], false),
+    (1, &[1, 1, 0], true),
+    (1, &[1, 1, 0, -1, -1, -1, 0], false),
+    (1, &[1, -1, 0], true),
+    (2, &[1, -1, 0, -1, 0, 1, 2, 2, 0], true),
+    (2, &[-2, 1, 2, 0, -1, 0, 1, 2, 1, 0, -2, -2, 0], false),
     (1, &[1, 0, -1, 0], false),
     (2, &[1, 2, 0, -1, 2, 0, 1, -2, 0], true),
     (2, &[1, 2, 0, -1, 2, 0, 1, -2, 0, -1, -2, 0], false),
@@ -150,5 +158,7 @@ fn keeps_pigeons_apart(rt: HostRuntime) -> Result<(), Fail> {
     let alloc = rt.alloc();
     assert_eq!(rt; has_model(alloc, &pigeons(alloc, 4, 3)?)?, Some(false));
     assert_eq!(rt; has_model(alloc, &pigeons(alloc, 4, 4)?)?, Some(true));
+    assert_eq!(rt; has_model(alloc, &pigeons(alloc, 5, 4)?)?, Some(false));
+    assert_eq!(rt; has_model(alloc, &pigeons(alloc, 6, 5)?)?, Some(false));
     Ok(())
 }
