@@ -71,6 +71,59 @@ def instructions(script):
     return int(found[1])
 
 
+class Profile:
+    """What callgrind counts in one run: how it ended, what was written, all instructions, and for each function how often it
+    was called, and the instructions of these calls with all that they call."""
+
+    def __init__(self, status, wrote):
+        self.status = status
+        self.wrote = wrote
+        self.total = 0
+        self.calls = {}
+        self.within = {}
+
+    def read(self, path):
+        """Adds what a file of callgrind has."""
+        names, callee, is_next = {}, "", False
+        with open(path, encoding="utf-8", errors="replace") as it:
+            for line in it:
+                if is_next:
+                    self.within[callee] = self.within.get(callee, 0) + int(line.split()[1])
+                    is_next = False
+                elif named := re.match(r"c?fn=(\(\d+\))(?: (.*))?", line):
+                    names.setdefault(named[1], named[2])
+                    callee = names[named[1]]
+                elif line.startswith("calls="):
+                    self.calls[callee] = self.calls.get(callee, 0) + int(line[len("calls=") :].split()[0])
+                    is_next = True
+                elif line.startswith(("summary:", "totals:")):
+                    self.total = int(line.split()[1])
+
+    def first(self, counted, functions):
+        """Returns the count of the first of these functions that has one, or None. A function that the compiler put into its
+        caller has none."""
+        return next((counted[function] for function in functions if function in counted), None)
+
+
+def profile(script, seconds=3600):
+    """Runs the program under callgrind. Returns its profile, or None where it did not end in time."""
+    with tempfile.TemporaryDirectory() as room:
+        path, counts = os.path.join(room, "script.sql"), os.path.join(room, "counts")
+        with open(path, "w", encoding="utf-8") as it:
+            it.write(script)
+        words = ["valgrind", "--tool=callgrind", f"--callgrind-out-file={counts}", program(), "run", path]
+        try:
+            ran = subprocess.run(
+                words, stdin=subprocess.DEVNULL, stdout=subprocess.PIPE, stderr=subprocess.DEVNULL, timeout=seconds, check=False
+            )
+        except subprocess.TimeoutExpired:
+            return None
+        found = Profile(ran.returncode, ran.stdout.decode("utf-8", "replace"))
+        if os.path.exists(counts):
+            found.read(counts)
+        return found
+
+
 def called(script, functions):
     """Returns how often the program calls the functions on the script, as callgrind counts the calls. One of them alone is
     there where the compiler puts one into the other."""
