@@ -1,10 +1,10 @@
--- Words that SQL has behind a table are no aliases without AS. With AS, and as names of tables and columns, they stay names.
+-- Words that SQL has behind a table are names: aliases of tables, with AS and without, and names of tables and columns.
 create table t (a);
 create table u (a);
 insert into t values (1), (2);
 insert into u values (1);
 
--- Without AS: a text for each word.
+-- Without AS.
 select * from t left;
 select * from t right;
 select * from t full;
@@ -22,7 +22,7 @@ select * from t window;
 select * from t asc;
 select * from t desc;
 
--- What SQL would make of them.
+-- What SQL would make of them. Where ON follows, the join is an inner one, and its left table has the word as its alias.
 select t.a from t left join u on t.a = u.a;
 select t.a from t left outer join u on t.a = u.a;
 select t.a from t right join u on t.a = u.a;
@@ -30,6 +30,7 @@ select t.a from t right outer join u on t.a = u.a;
 select t.a from t full join u on t.a = u.a;
 select t.a from t full outer join u on t.a = u.a;
 select t.a from t natural join u;
+select left.a, u.a from t left join u on left.a = u.a;
 select t.a from t cross join u;
 select a from t limit 1;
 select a from t offset 1;

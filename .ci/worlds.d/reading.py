@@ -13,9 +13,6 @@ KEYWORDS = set(
     "and as assert begin certain commit create delete distinct except exists false from if inner insert intersect into "
     "join not null on or possible rollback select set table true union update values where worlds".split()
 )
-NO_ALIAS = set(
-    "left right full outer natural cross limit offset order group having fetch using window asc desc".split()
-)
 OPERATORS = ("union", "except", "intersect")
 FORMS = {
     "text": "'(?:[^']|'')*'",
@@ -187,7 +184,7 @@ class Reader:
         name = self.name()
         if self.take("as"):
             return name, self.name()
-        alias = self.rest and self.rest[0][0] == "word" and self.peek() not in KEYWORDS | NO_ALIAS
+        alias = self.rest and self.rest[0][0] == "word" and self.peek() not in KEYWORDS
         return name, (self.name() if alias else name)
 
     def joined(self):

@@ -1,3 +1,4 @@
+pub mod Lowered
 pub mod Fronts
 pub mod TermSteps
 pub mod Deep

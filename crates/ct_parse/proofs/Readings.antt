@@ -1,5 +1,5 @@
 -- Lexemes have one reading: whatever is spelled is what a reader would find, and nothing else.
-use Rattle.std.{proofs.Common.{◌≡◌, ℕ, List, [], refl, sym, subst}, proofs.lemmas.Bool.not-true, specs.Prelude.{Bool, Option, codes}}
+use Rattle.std.{proofs.Common.{◌≡◌, ℕ, List, [], refl, sym, subst}, specs.Prelude.{Bool, Option, codes}}
 use Rattle.ct_lex.specs.declared.token.Lexeme.{Lexeme}
 use Rattle.ct_parse.{specs.declared.tree.Column.Column, specs.declared.tree.Term.Term, specs.declared.tree.Comparison.Comparison, specs.declared.tree.Cell.Cell}
 use Rattle.ct_parse.{specs.declared.tree.Factor.Factor, specs.declared.tree.Conjunction.Conjunction, specs.declared.tree.Condition.Condition, specs.Reads.Reads}
@@ -7,13 +7,13 @@ use Rattle.ct_parse.{specs.declared.tree.Row.Row, specs.declared.tree.Item.Item,
 use Rattle.ct_parse.{specs.declared.tree.Joined.Joined, specs.declared.tree.Tables.Tables, specs.declared.tree.Query.Query, specs.Source.{IsSource, source}}
 use Rattle.ct_parse.{specs.declared.tree.SetOperator.SetOperator, specs.declared.tree.QueryPrimary.QueryPrimary, specs.declared.tree.QueryTerm.QueryTerm}
 use Rattle.ct_parse.{specs.declared.tree.Statement.Statement, specs.Parses.{Spells, SpellsCondition}, proofs.Fronts.{moved, before_comparison}}
-use Rattle.ct_parse.specs.Grammar.{IsName, name, IsColumn, plain, qualified, IsTerm, number_term, text_term, null_term, column_term, IsComparison, equal, unequal, IsFactor, negated, nested, true_factor, false_factor, compared, AreFactors, no_factor, and_factor, IsConjunction, conjunction, AreConjunctions, no_conjunction, or_conjunction, IsCondition, condition, AreMore, no_more, one_more, IsClosed, closed, IsCell, number_cell, text_cell, null_cell, new_null, IsRow, row, HasCondition, no_condition, a_condition, HasName, no_name, as_name, IsItem, item, AreItems, star, listed, IsBareAlias, bare_alias, HasAlias, no_alias, alias, as_alias, IsTable, table, IsTableOn, table_on, IsJoined, comma, join, inner_join, AreJoined, none_joined, more_joined, AreTables, tables, IsDistinct, not_distinct, distinct, select, IsSetOperator, union, except, IsPrimary, nested_query, select_query, ArePrimaries, no_primary, intersect, IsQueryTerm, query_term, AreTerms, no_term, combined, IsQuery, query, IsStatement, create, insert_rows, insert_query, delete, assert, rows, possible, certain, begin, commit, rollback}
+use Rattle.ct_parse.specs.Grammar.{IsName, name, IsColumn, plain, qualified, IsTerm, number_term, text_term, null_term, column_term, IsComparison, equal, unequal, IsFactor, negated, nested, true_factor, false_factor, compared, AreFactors, no_factor, and_factor, IsConjunction, conjunction, AreConjunctions, no_conjunction, or_conjunction, IsCondition, condition, AreMore, no_more, one_more, IsClosed, closed, IsCell, number_cell, text_cell, null_cell, new_null, IsRow, row, HasCondition, no_condition, a_condition, HasName, no_name, as_name, IsItem, item, AreItems, star, listed, HasAlias, no_alias, alias, as_alias, IsTable, table, IsTableOn, table_on, IsJoined, comma, join, inner_join, AreJoined, none_joined, more_joined, AreTables, tables, IsDistinct, not_distinct, distinct, select, IsSetOperator, union, except, IsPrimary, nested_query, select_query, ArePrimaries, no_primary, intersect, IsQueryTerm, query_term, AreTerms, no_term, combined, IsQuery, query, IsStatement, create, insert_rows, insert_query, delete, assert, rows, possible, certain, begin, commit, rollback}
 use Rattle.ct_parse.specs.Ends.{Fails, at_word, EndsAnyhow, EndsColumn, EndsConjunction, EndsCondition, EndsList, EndsBehind, EndsItem, EndsItems, EndsTable, EndsJoined, EndsTables, EndsDistinct, EndsSelect, EndsQueryTerm, EndsQuery, EndsStatement}
 use Rattle.ct_parse.proofs.TermSteps.{name_reads, plain_reads, qualified_reads, number_reads, text_reads, null_reads, column_reads, equal_reads, unequal_reads}
 use Rattle.ct_parse.{proofs.Listed.{Behind, behind_reads, Lists, none_read, more_read, both_read}, proofs.RowSteps.{closed_read, row_is, new_null_reads}}
 use Rattle.ct_parse.proofs.ConditionSteps.{negation, nesting, ends_at_close, true_read, false_read, compared_read, factors, conjunctions, conjunction_pair, condition_pair}
 use Rattle.ct_parse.proofs.Combined.{CLOSE, then_read, renamed, led_read, plain_list, condition_led, has_none_read}
-use Rattle.ct_parse.proofs.TableSteps.{naming, no_as_read, item_pair, item_list, symbol_item, star_read, listed_pair, listed_is, bare_read, aliasing, alias_stands, alias_read, no_alias_read, table_pair, ON, on_pair, on_is, ends_at_on, comma_led, join_led, inner_led, joined_list, tables_read}
+use Rattle.ct_parse.proofs.TableSteps.{naming, no_as_read, item_pair, item_list, symbol_item, star_read, listed_pair, listed_is, aliasing, alias_stands, alias_read, no_alias_read, table_pair, ON, on_pair, on_is, ends_at_on, comma_led, join_led, inner_led, joined_list, tables_read}
 use Rattle.ct_parse.proofs.QuerySteps.{distinct_read, not_distinct_read, items_apart, before_filter, filter_reads, source_pair, sourcing, shown_pair, distinct_pair, selecting, union_read, except_read, ends_at_paren, primary_list, term_pair, combined_pair, term_list, query_pair}
 use Rattle.ct_parse.proofs.StatementSteps.{query_at_end, condition_at_end, behind_at_end, before_if, create_read, delete_read, insert_rows_read, insert_query_read, asserting, asking_possible, asking_certain, begin_read, commit_read, rollback_read, OnlyQuery, rows_read}
 use Rattle.ct_lex.specs.declared.token.Lexeme.TheVariants as lexeme
@@ -99,12 +99,9 @@ reads_items (listed i l) e =
     (both_read listed_pair (reads_item i (item_list.before l e)) (reads_more IsItem EndsItem EndsItems item_list (λ ws r x i e. reads_item i e) l e))
 
 -- tables
-reads_bare : {ws r : List Lexeme} {n : List ℕ} → IsBareAlias ws n r → Reads IsBareAlias EndsAnyhow ws n r
-reads_bare (bare_alias n p) = bare_read (reads_name n) (not-true _ p)
-
 reads_alias : {ws r : List Lexeme} {o : _} → HasAlias ws o r → EndsTable r → Reads HasAlias EndsTable ws o r
 reads_alias no_alias e = no_alias_read e.1 (λ n r any x. alias_stands x e.0)
-reads_alias (alias n) e = alias_read (reads_bare n)
+reads_alias (alias n) e = alias_read (reads_name n)
 reads_alias (as_alias n) e = led_read aliasing refl (reads_name n)
 
 reads_table : {ws r : List Lexeme} {t : Table} → IsTable ws t r → EndsTable r → Reads IsTable EndsTable ws t r

@@ -1,11 +1,11 @@
 -- What the steps of the readers of items and tables show.
 use Rattle.std.proofs.Common.{◌≡◌, ◌≤◌, ◌<◌, ℕ, Bool, true, false, List, ◌∷◌, length, Option, Some, None, refl, ap, sym, subst, ◌∙◌, arith}
-use Rattle.std.{specs.Prelude.codes, proofs.lemmas.Bool.{false≢true, not_from_true, not_from_false, and_from}}
+use Rattle.std.{specs.Prelude.codes, proofs.lemmas.Bool.false≢true}
 use Rattle.ct_lex.specs.declared.token.Lexeme.{Lexeme}
 use Rattle.ct_parse.{specs.declared.tree.Column.Column, specs.declared.tree.Condition.Condition, specs.declared.tree.Item.Item, specs.declared.tree.Items.Items}
 use Rattle.ct_parse.{specs.declared.tree.Alias.Alias, specs.declared.tree.Table.Table, specs.declared.tree.Joined.Joined, specs.declared.tree.Tables.Tables}
-use Rattle.ct_parse.specs.Grammar.{IsName, name, IsColumn, plain, qualified, IsCondition, AreMore, HasName, no_name, as_name, IsItem, item, AreItems, star, listed, is_clause_word, IsBareAlias, bare_alias, HasAlias, no_alias, alias, as_alias, IsTable, table, IsTableOn, table_on, IsJoined, comma, join, inner_join, AreJoined, none_joined, more_joined, MORE_TABLES, AreTables, tables}
-use Rattle.ct_parse.specs.Ends.{Fails, at_word, at_bare_alias, at_joined, EndsAnyhow, EndsColumn, EndsItem, EndsItems, EndsTable, EndsCondition, EndsJoined, EndsTables}
+use Rattle.ct_parse.specs.Grammar.{IsName, name, IsColumn, plain, qualified, IsCondition, AreMore, HasName, no_name, as_name, IsItem, item, AreItems, star, listed, HasAlias, no_alias, alias, as_alias, IsTable, table, IsTableOn, table_on, IsJoined, comma, join, inner_join, AreJoined, none_joined, more_joined, MORE_TABLES, AreTables, tables}
+use Rattle.ct_parse.specs.Ends.{Fails, at_word, at_name, at_joined, EndsAnyhow, EndsColumn, EndsItem, EndsItems, EndsTable, EndsCondition, EndsJoined, EndsTables}
 use Rattle.ct_parse.{specs.Reads.{Reads, Never}, proofs.Fronts.{Same, moved, symbol_name, word_name}, proofs.TermSteps.reads_at}
 use Rattle.ct_parse.proofs.Listed.{Behind, Cases, ended, split, Lists, Parts, parts, Pairs}
 use Rattle.ct_parse.proofs.Combined.{Then, Both, pair_of, comma_list, Image, image, Renames, Led}
@@ -76,47 +76,35 @@ back_listed no_star (listed i l) = image (parts i l)
 pub listed_is : {ws : List Lexeme} → ((x : List Lexeme) → ws ≡ lexeme.Symbol symbol.Star ∷ x → ⊥) → Renames (Both IsItem (AreMore IsItem)) listed_of AreItems ws
 listed_is no_star = record { into = λ b. into_listed b; back = λ i. back_listed no_star i }
 
--- [AS name | alias]
+-- [[AS] name]
 abbrev pub alias_of : Bool → List ℕ → Option Alias
 alias_of b n = Some (record { has_as = b; name = n })
 
-bare_name : {ws r : List Lexeme} {n : List ℕ} → IsBareAlias ws n r → IsName ws n r
-bare_name (bare_alias x p) = x
-
-pub bare_read : {ws r : List Lexeme} {n : List ℕ} → Reads IsName EndsAnyhow ws n r → is_clause_word n ≡ false → Reads IsBareAlias EndsAnyhow ws n r
-bare_read h p = record { is = bare_alias h.is (not_from_false _ p); only = λ t r' e x. h.only _ _ tt (bare_name x); within = h.within }
-
-pub no_bare_name : {ws : List Lexeme} → Never IsName EndsAnyhow ws → Never IsBareAlias EndsAnyhow ws
-no_bare_name never n r e x = never _ _ tt (bare_name x)
-
-pub no_bare_word : {ws r : List Lexeme} {n : List ℕ} → Reads IsName EndsAnyhow ws n r → is_clause_word n ≡ true → Never IsBareAlias EndsAnyhow ws
-no_bare_word h p n' r' e (bare_alias x q) = false≢true (sym (not_from_true _ (ap is_clause_word (h.only _ _ tt x).0 ∙ p)) ∙ q)
-
 back_as_alias : {ws r : List Lexeme} {o : Option Alias} → HasAlias (lexeme.Word (codes "as") ∷ ws) o r → EndsTable r → Image IsName (alias_of true) ws o r
 back_as_alias no_alias e = absurd e.1
-back_as_alias (alias x) e = absurd (false≢true (word_name (bare_name x)))
+back_as_alias (alias x) e = absurd (false≢true (word_name x))
 back_as_alias (as_alias x) e = image x
 
 pub aliasing : Led (lexeme.Word (codes "as")) IsName EndsAnyhow (alias_of true) HasAlias EndsTable
 aliasing = record { into = λ n. as_alias n; back = λ o e. back_as_alias o e; ends = λ r e. tt }
 
-pub alias_stands : {ws r : List Lexeme} {n : List ℕ} → IsBareAlias ws n r → Fails (at_bare_alias ws) → ⊥
-alias_stands (bare_alias (name p) q) fails = subst Fails (and_from _ _ p q) fails
+pub alias_stands : {ws r : List Lexeme} {n : List ℕ} → IsName ws n r → Fails (at_name ws) → ⊥
+alias_stands (name p) fails = subst Fails p fails
 
-alias_only : {ws r r' : List Lexeme} {n : List ℕ} {o : Option Alias} → Reads IsBareAlias EndsAnyhow ws n r → EndsTable r' → HasAlias ws o r' → Same o (alias_of false n) r' r
+alias_only : {ws r r' : List Lexeme} {n : List ℕ} {o : Option Alias} → Reads IsName EndsAnyhow ws n r → EndsTable r' → HasAlias ws o r' → Same o (alias_of false n) r' r
 alias_only h e no_alias = absurd (alias_stands h.is e.0)
 alias_only h e (alias x) = let s = h.only _ _ tt x in (ap (alias_of false) s.0, s.1)
-alias_only h e (as_alias x) = absurd (false≢true (word_name (bare_name h.is)))
+alias_only h e (as_alias x) = absurd (false≢true (word_name h.is))
 
-pub alias_read : {ws r : List Lexeme} {n : List ℕ} → Reads IsBareAlias EndsAnyhow ws n r → Reads HasAlias EndsTable ws (alias_of false n) r
+pub alias_read : {ws r : List Lexeme} {n : List ℕ} → Reads IsName EndsAnyhow ws n r → Reads HasAlias EndsTable ws (alias_of false n) r
 alias_read h = record { is = alias h.is; only = λ t r' e x. alias_only h e x; within = h.within }
 
-no_alias_only : {ws r : List Lexeme} {o : Option Alias} → Fails (at_word (codes "as") ws) → Never IsBareAlias EndsAnyhow ws → HasAlias ws o r → Same o None r ws
+no_alias_only : {ws r : List Lexeme} {o : Option Alias} → Fails (at_word (codes "as") ws) → Never IsName EndsAnyhow ws → HasAlias ws o r → Same o None r ws
 no_alias_only fails never no_alias = (refl, refl)
 no_alias_only fails never (alias x) = absurd (never _ _ tt x)
 no_alias_only fails never (as_alias x) = absurd fails
 
-pub no_alias_read : {ws : List Lexeme} → Fails (at_word (codes "as") ws) → Never IsBareAlias EndsAnyhow ws → Reads HasAlias EndsTable ws None ws
+pub no_alias_read : {ws : List Lexeme} → Fails (at_word (codes "as") ws) → Never IsName EndsAnyhow ws → Reads HasAlias EndsTable ws None ws
 no_alias_read fails never = record { is = no_alias; only = λ t r e x. no_alias_only fails never x; within = omega arith }
 
 -- tables

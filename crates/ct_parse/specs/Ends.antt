@@ -1,11 +1,10 @@
 -- What may not stand behind a part of a statement, lest the part go on.
-use Rattle.std.specs.Prelude.{◌≡◌, ℕ, Bool, true, false, not, ◌&&◌, ◌||◌, List, [], ◌∷◌, codes}
+use Rattle.std.specs.Prelude.{◌≡◌, ℕ, Bool, true, false, ◌||◌, List, [], ◌∷◌, codes}
 use Rattle.ct_word.specs.Writable.{is_name}
 use Rattle.ct_word.specs.Value.{same_text}
 use Rattle.ct_lex.specs.declared.token.Lexeme.{Lexeme}
 use Rattle.ct_lex.specs.declared.token.Lexeme.TheVariants.{Word, Symbol}
 use Rattle.ct_lex.specs.declared.token.Symbol.TheVariants.{Comma, Dot}
-use Rattle.ct_parse.specs.Grammar.{is_clause_word}
 
 -- the test fails
 abbrev pub Fails : Bool → Type 0
@@ -43,10 +42,10 @@ EndsConjunction r = Fails (at_word (codes "and") r) × EndsColumn r
 abbrev pub EndsCondition : List Lexeme → Type 0
 EndsCondition r = Fails (at_word (codes "or") r) × EndsConjunction r
 
--- whether an alias without AS stands in front
-abbrev pub at_bare_alias : List Lexeme → Bool
-at_bare_alias (Word n ∷ r) = is_name n && not (is_clause_word n)
-at_bare_alias _ = false
+-- whether a name stands in front
+abbrev pub at_name : List Lexeme → Bool
+at_name (Word n ∷ r) = is_name n
+at_name _ = false
 
 -- whether `,`, JOIN or INNER stands in front
 abbrev pub at_joined : List Lexeme → Bool
@@ -73,7 +72,7 @@ EndsItems r = EndsList r × EndsItem r
 
 -- behind a table, a table that is joined, and all tables
 abbrev pub EndsTable : List Lexeme → Type 0
-EndsTable r = Fails (at_bare_alias r) × Fails (at_word (codes "as") r)
+EndsTable r = Fails (at_name r) × Fails (at_word (codes "as") r)
 
 abbrev pub EndsJoined : List Lexeme → Type 0
 EndsJoined r = EndsTable r × EndsCondition r

@@ -8,13 +8,11 @@
 --     qprim = "(" query ")" | SELECT [DISTINCT] items FROM from [WHERE cond]
 --     items = "*" | item {"," item}, item = column [AS name]
 --     from = table {"," table | [INNER] JOIN table ON cond}, with at most 16 tables
---     table = name [AS name | alias], alias = name, but none of the `clause_words` below
+--     table = name [[AS] name]
 --     cond = conj {OR conj}, conj = factor {AND factor}
 --     factor = NOT factor | "(" cond ")" | TRUE | FALSE | term ("=" | "<>") term
 --     term = Number | Text | Null | column, column = name | name "." name
-use Rattle.std.specs.Prelude.{◌≤◌, Bool, true, false, not, Option, Some, None, length, ℕ, ℤ, List, [], ◌∷◌, IsTrue, codes, map}
-use Rattle.std.specs.List.{list_any}
-use Rattle.ct_word.specs.Value.{same_text}
+use Rattle.std.specs.Prelude.{◌≤◌, Bool, true, false, Option, Some, None, length, ℕ, ℤ, List, [], ◌∷◌, IsTrue, codes, map}
 use Rattle.ct_word.specs.Writable.{is_name}
 use Rattle.ct_lex.specs.declared.token.Lexeme.{Lexeme}
 use Rattle.ct_lex.specs.declared.token.Lexeme.TheVariants.{Word, Number, Text, Null, Symbol}
@@ -148,27 +146,13 @@ pub data AreItems : List Lexeme → Items → List Lexeme → Type 0 where
   star : {r : List Lexeme} → AreItems (Symbol Star ∷ r) items.Star r
   listed : {ws m r : List Lexeme} {i : Item} {is : List Item} → IsItem ws i m → AreMore IsItem m is r → AreItems ws (items.Listed i is) r
 
--- words that SQL has behind a table, and this grammar has not: as aliases without AS they would be read over
-abbrev pub clause_words : List (List ℕ)
-clause_words =
-    codes "left" ∷ codes "right" ∷ codes "full" ∷ codes "outer" ∷ codes "natural" ∷ codes "cross" ∷ codes "limit" ∷ codes "offset"
-    ∷ codes "order" ∷ codes "group" ∷ codes "having" ∷ codes "fetch" ∷ codes "using" ∷ codes "window" ∷ codes "asc" ∷ codes "desc" ∷ []
-
--- whether a text is one of these words
-abbrev pub is_clause_word : List ℕ → Bool
-is_clause_word n = list_any (same_text n) clause_words
-
--- alias = a name, but none of these words
-pub data IsBareAlias : List Lexeme → List ℕ → List Lexeme → Type 0 where
-  bare_alias : {ws r : List Lexeme} {n : List ℕ} → IsName ws n r → IsTrue (not (is_clause_word n)) → IsBareAlias ws n r
-
--- [AS name | alias]
+-- [[AS] name]
 pub data HasAlias : List Lexeme → Option Alias → List Lexeme → Type 0 where
   no_alias : {r : List Lexeme} → HasAlias r None r
-  alias : {ws r : List Lexeme} {n : List ℕ} → IsBareAlias ws n r → HasAlias ws (Some (record { has_as = false; name = n })) r
+  alias : {ws r : List Lexeme} {n : List ℕ} → IsName ws n r → HasAlias ws (Some (record { has_as = false; name = n })) r
   as_alias : {ws r : List Lexeme} {n : List ℕ} → IsName ws n r → HasAlias (Word (codes "as") ∷ ws) (Some (record { has_as = true; name = n })) r
 
--- table = name [AS name | alias]
+-- table = name [[AS] name]
 pub data IsTable : List Lexeme → Table → List Lexeme → Type 0 where
   table : {ws m r : List Lexeme} {n : List ℕ} {a : Option Alias} → IsName ws n m → HasAlias m a r → IsTable ws (record { name = n; alias = a }) r
 

@@ -5,3 +5,5 @@ pub mod Reads
 pub mod Source
 pub mod Nest
 pub mod Parses
+pub mod Names
+pub mod Places

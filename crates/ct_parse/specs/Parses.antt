@@ -19,5 +19,5 @@ Spells ws st = IsStatement ws st []
 
 -- the error that an unread part is answered with
 abbrev pub error_of : Unread → ParseError
-error_of unread.NotSpelled = fault.NotAStatement
+error_of (unread.NotSpelled _) = fault.NotAStatement
 error_of unread.Memory = fault.Memory

@@ -2,6 +2,7 @@
 
 ghost use Rattle.std.specs.Prelude.{◌≡◌};
 ghost use Rattle.ct_parse.specs.Parses.{error_of};
+ghost use Rattle.ct_parse.specs.declared.error.ParseError.TheVariants as fault;
 ghost use Rattle.ct_parse.specs.declared.error.Unread.TheVariants as unread;
 
 use ct_word::Memory;
@@ -24,7 +25,8 @@ pub enum ParseError {
 /// Why a part is not read at the front of tokens.
 #[derive(Clone, Copy, Debug, PartialEq, Eq)]
 pub enum Unread {
-    NotSpelled,
+    /// Nothing spells it. Where reading stopped this many tokens were left.
+    NotSpelled(usize),
     Memory,
 }
 
@@ -52,12 +54,20 @@ impl<T: Drop> From<AllocFailed<T>> for Unread {
     }
 }
 
+impl From<Memory> for ParseError {
+    ghost from_gives = { λ _ e. e ≡ fault.Memory };
+
+    fn from(_: Memory) -> Self {
+        ParseError::Memory
+    }
+}
+
 impl From<Unread> for ParseError {
     ghost from_gives = { λ why e. e ≡ error_of why };
 
     fn from(why: Unread) -> Self {
         match why {
-            Unread::NotSpelled => ParseError::NotAStatement,
+            Unread::NotSpelled(_) => ParseError::NotAStatement,
             Unread::Memory => ParseError::Memory,
         }
     }

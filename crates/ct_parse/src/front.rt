@@ -77,7 +77,7 @@ pub fn expect_word<'a>(tokens: &'a [Token], word: &str) -> Result<&'a [Token], U
     ensures ok { IfOk result (λ r. said tokens.now ≡ lexical.Word word.now ∷ said r.now) }
     ensures none { IfErr result (λ e. e ≢ unread.Memory → Fails (at_word word.now (said tokens.now))) }
 {
-    behind_word(tokens, word).ok_or(Unread::NotSpelled)
+    behind_word(tokens, word).ok_or(Unread::NotSpelled(tokens.len()))
 }
 
 /// The tokens behind this symbol, which has to stand in front.
@@ -85,7 +85,7 @@ pub fn expect_symbol(tokens: &[Token], symbol: Symbol) -> Result<&[Token], Unrea
     ensures ok { IfOk result (λ r. said tokens.now ≡ lexical.Symbol symbol ∷ said r.now) }
     ensures none { IfErr result (λ e. e ≢ unread.Memory → (r : List LexemeValue) → said tokens.now ≡ lexical.Symbol symbol ∷ r → ⊥) }
 {
-    behind_symbol(tokens, symbol).ok_or(Unread::NotSpelled)
+    behind_symbol(tokens, symbol).ok_or(Unread::NotSpelled(tokens.len()))
 }
 
 /// The box of what stands in parentheses, where the one in front closes them, and the tokens behind.
@@ -100,7 +100,7 @@ pub fn closed<T: Drop>(
 {
     let Some(rest) = behind_symbol(tokens, Symbol::RightParen) else {
         drop(inner);
-        return Err(Unread::NotSpelled);
+        return Err(Unread::NotSpelled(tokens.len()));
     };
     Ok((Boxed::new(alloc, inner)?, rest))
 }
@@ -123,10 +123,10 @@ pub fn name(alloc: Global, tokens: &[Token]) -> Result<(Text, &[Token]), Unread>
     ensures none { IfErr result (λ e. e ≢ unread.Memory → Never IsName EndsAnyhow (said tokens.now)) }
 {
     let Some((first, rest)) = front(tokens) else {
-        return Err(Unread::NotSpelled);
+        return Err(Unread::NotSpelled(tokens.len()));
     };
     let Some(name) = name_said(first) else {
-        return Err(Unread::NotSpelled);
+        return Err(Unread::NotSpelled(tokens.len()));
     };
     Ok((Text::from_str(alloc, name)?, rest))
 }

@@ -1,10 +1,13 @@
 // Names and keywords.
 
-ghost use Rattle.std.specs.Prelude.{◌≡◌, ◌||◌, map};
+ghost use Rattle.std.specs.Prelude.{◌≡◌, ◌||◌, ℕ, List, map, IfOk, IfSome, IfNone};
 ghost use Rattle.std.specs.List.{list_all, list_any};
 ghost use Rattle.ct_word.specs.Value.{same_text};
 ghost use Rattle.ct_word.specs.Writable as writable;
-ghost use Rattle.ct_parse.specs.Grammar as grammar;
+ghost use Rattle.ct_parse.specs.Names.{SpellsName};
+
+use ct_word::{Memory, Text};
+use std::alloc::Global;
 
 /// The words that are no names.
 const KEYWORDS: [&str; 34] = [
@@ -42,13 +45,6 @@ const KEYWORDS: [&str; 34] = [
     "values",
     "where",
     "worlds",
-];
-
-/// Words that SQL has behind a table, and this grammar has not. `from t left join u` would be an
-/// inner join with the alias `left`, if a name without AS could be any of them.
-const CLAUSE_WORDS: [&str; 16] = [
-    "left", "right", "full", "outer", "natural", "cross", "limit", "offset", "order", "group",
-    "having", "fetch", "using", "window", "asc", "desc",
 ];
 
 fn is_letter(byte: u8) -> bool
@@ -102,9 +98,19 @@ pub fn is_name(text: &str) -> bool
     is_word(text) && !is_keyword(text)
 }
 
-/// Whether a name is a word that is no alias without AS.
-pub fn is_clause_word(name: &str) -> bool
-    ensures { result ≡ grammar.is_clause_word name.now }
+/// The name that the whole text spells, in lower case. There is none beside a blank or a comment.
+///
+/// # Errors
+/// `Memory` where there is none for the name.
+pub fn name_of(alloc: Global, text: &str) -> Result<Option<Text>, Memory>
+    ensures some { IfOk result (λ o. IfSome o (λ n. SpellsName text.now n)) }
+    ensures only { IfOk result (λ o. IfSome o (λ n. (other : List ℕ) → SpellsName text.now other → other ≡ n)) }
+    ensures none { IfOk result (λ o. IfNone o ((n : List ℕ) → SpellsName text.now n → ⊥)) }
 {
-    contains(&CLAUSE_WORDS, name)
+    let lowered = Text::from_string(text.to_ascii_lowercase(alloc)?);
+    if is_name(lowered.as_str()) {
+        Ok(Some(lowered))
+    } else {
+        Ok(None)
+    }
 }

@@ -1,13 +1,12 @@
 // How deep tokens nest, and how many set operators they have.
 
-ghost use Rattle.std.specs.Prelude.{◌≡◌, ◌≤◌, nat_lt, reverse, IfOk, IfErr, OnOk};
+ghost use Rattle.std.specs.Prelude.{◌≡◌, ◌≤◌, nat_lt, reverse, is_some, IfOk, OnOk};
 ghost use Rattle.ct_parse.specs.Grammar.{said};
 ghost use Rattle.ct_parse.specs.Nest as spec;
-ghost use Rattle.ct_parse.specs.declared.error.Unread.TheVariants as unread;
 
-use crate::error::Unread;
 use crate::front::front;
 use ct_lex::{Lexeme, Symbol, Token};
+use ct_word::Memory;
 use std::alloc::Global;
 
 /// The greatest nest, and the greatest number of set operators.
@@ -49,12 +48,11 @@ fn is_set_operator(lexeme: &Lexeme) -> bool
 
 /// The count after a lexeme. `opened` has the counts where the open levels were opened, the innermost
 /// last.
-fn count_after(opened: &mut Vec<usize>, count: usize, turn: Turn) -> Result<usize, Unread>
+fn count_after(opened: &mut Vec<usize>, count: usize, turn: Turn) -> Result<usize, Memory>
     requires count { count ≤ spec.DEPTH }
     requires opened { spec.AreShallow (reverse opened.old.items) }
     ensures count { IfOk result (λ n. n ≡ spec.count_after (reverse opened.old.items) count turn) }
     ensures opened { OnOk result (reverse opened.new.items ≡ spec.opened_after (reverse opened.old.items) count turn) }
-    ensures err { IfErr result (λ e. e ≡ unread.Memory) }
 {
     match turn {
         Turn::Opens => {
@@ -71,10 +69,9 @@ fn count_after(opened: &mut Vec<usize>, count: usize, turn: Turn) -> Result<usiz
     }
 }
 
-/// Whether the nest is greater than 64. It reads no further than where it is.
-fn nests_too_deep(alloc: Global, tokens: &[Token]) -> Result<bool, Unread>
-    ensures ok { IfOk result (λ b. b ≡ nat_lt spec.DEPTH (spec.nest (said tokens.now))) }
-    ensures err { IfErr result (λ e. e ≡ unread.Memory) }
+/// How many tokens are left where the nest is greater than 64, the one that makes it so among them.
+fn nest_passed(alloc: Global, tokens: &[Token]) -> Result<Option<usize>, Memory>
+    ensures { IfOk result (λ o. is_some o ≡ nat_lt spec.DEPTH (spec.nest (said tokens.now))) }
 {
     let mut opened = Vec::new(alloc);
     let mut count = 0;
@@ -82,35 +79,45 @@ fn nests_too_deep(alloc: Global, tokens: &[Token]) -> Result<bool, Unread>
     while let Some((first, after)) = front(rest) {
         count = count_after(&mut opened, count, turn_of(first))?;
         if count > DEPTH {
-            return Ok(true);
+            return Ok(Some(rest.len()));
         }
         rest = after;
     }
-    Ok(false)
+    Ok(None)
 }
 
-/// Whether there are more than 64 set operators. It reads no further than where they are.
-fn has_many_operators(tokens: &[Token]) -> bool
-    ensures { result ≡ nat_lt spec.DEPTH (spec.set_operators (said tokens.now)) }
+/// How many tokens are left at the set operator behind 64 others.
+fn operators_passed(tokens: &[Token]) -> Option<usize>
+    ensures { is_some result ≡ nat_lt spec.DEPTH (spec.set_operators (said tokens.now)) }
 {
     let mut count = 0;
     let mut rest = tokens;
     while let Some((first, after)) = front(rest) {
         if is_set_operator(first) {
             if count == DEPTH {
-                return true;
+                return Some(rest.len());
             }
             count += 1;
         }
         rest = after;
     }
-    false
+    None
+}
+
+/// How many tokens are left at the first by which they nest deeper than 64, or else at the first by
+/// which they have more than 64 set operators.
+pub fn depth_passed(alloc: Global, tokens: &[Token]) -> Result<Option<usize>, Memory>
+    ensures { IfOk result (λ o. is_some o ≡ spec.is_too_deep (said tokens.now)) }
+{
+    match nest_passed(alloc, tokens)? {
+        Some(left) => Ok(Some(left)),
+        None => Ok(operators_passed(tokens)),
+    }
 }
 
 /// Whether tokens nest deeper than 64, or have more than 64 set operators.
-pub fn is_too_deep(alloc: Global, tokens: &[Token]) -> Result<bool, Unread>
-    ensures ok { IfOk result (λ b. b ≡ spec.is_too_deep (said tokens.now)) }
-    ensures err { IfErr result (λ e. e ≡ unread.Memory) }
+pub fn is_too_deep(alloc: Global, tokens: &[Token]) -> Result<bool, Memory>
+    ensures { IfOk result (λ b. b ≡ spec.is_too_deep (said tokens.now)) }
 {
-    Ok(nests_too_deep(alloc, tokens)? || has_many_operators(tokens))
+    Ok(depth_passed(alloc, tokens)?.is_some())
 }

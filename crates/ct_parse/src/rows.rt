@@ -44,13 +44,13 @@ impl Part for Cell {
             return Ok((Cell::NewNull, rest));
         }
         let Some((first, rest)) = front(tokens) else {
-            return Err(Unread::NotSpelled);
+            return Err(Unread::NotSpelled(tokens.len()));
         };
         match first {
             Lexeme::Number(number) => Ok((Cell::Number(*number), rest)),
             Lexeme::Text(text) => Ok((Cell::Text(text.clone()?), rest)),
             Lexeme::Null(name) => Ok((Cell::Null(name.clone()?), rest)),
-            _ => Err(Unread::NotSpelled),
+            _ => Err(Unread::NotSpelled(tokens.len())),
         }
     }
 }
@@ -102,12 +102,12 @@ pub fn in_parentheses<P: Part + Drop>(
             return Err(unread);
         }
     };
-    let Some(rest) = behind_symbol(rest, Symbol::RightParen) else {
+    let Some(tail) = behind_symbol(rest, Symbol::RightParen) else {
         drop(first);
         drop(others);
-        return Err(Unread::NotSpelled);
+        return Err(Unread::NotSpelled(rest.len()));
     };
-    Ok(((first, others), rest))
+    Ok(((first, others), tail))
 }
 
 /// The condition behind this word, where the word stands in front.

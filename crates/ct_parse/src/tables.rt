@@ -1,15 +1,14 @@
 // The items of a SELECT, and the tables of its FROM.
 
 ghost use Rattle.std.specs.Prelude.{◌≡◌, ◌≢◌, ◌<◌, length, IfOk, IfErr};
-ghost use Rattle.ct_parse.specs.Grammar.{said, AreMore, HasName, IsItem, AreItems, IsBareAlias, HasAlias, IsTable, IsTableOn, IsJoined, AreJoined, AreTables};
-ghost use Rattle.ct_parse.specs.Ends.{at_joined, EndsAnyhow, EndsItem, EndsItems, EndsTable, EndsCondition, EndsJoined, EndsTables};
+ghost use Rattle.ct_parse.specs.Grammar.{said, AreMore, HasName, IsItem, AreItems, HasAlias, IsTable, IsTableOn, IsJoined, AreJoined, AreTables};
+ghost use Rattle.ct_parse.specs.Ends.{at_joined, EndsItem, EndsItems, EndsTable, EndsCondition, EndsJoined, EndsTables};
 ghost use Rattle.ct_parse.specs.Reads.{Reads, Never};
 ghost use Rattle.ct_parse.specs.declared.error.Unread.TheVariants as unread;
 
 use crate::conditions::condition;
 use crate::error::Unread;
 use crate::front::{behind_symbol, behind_word, expect_word, name};
-use crate::names::is_clause_word;
 use crate::terms::column;
 use crate::tree::{Alias, Condition, Item, Items, Joined, Table, Tables};
 use ct_lex::{Symbol, Token};
@@ -79,18 +78,6 @@ pub fn items(alloc: Global, tokens: &[Token]) -> Result<(Items, &[Token]), Unrea
     }
 }
 
-/// The alias in front, where it stands without AS.
-fn bare_alias(alloc: Global, tokens: &[Token]) -> Result<(Text, &[Token]), Unread>
-    ensures ok { IfOk result (λ p. Reads IsBareAlias EndsAnyhow (said tokens.now) p.0 (said p.1.now)) }
-    ensures none { IfErr result (λ e. e ≢ unread.Memory → Never IsBareAlias EndsAnyhow (said tokens.now)) }
-{
-    let (found, rest) = name(alloc, tokens)?;
-    if is_clause_word(found.as_str()) {
-        return Err(Unread::NotSpelled);
-    }
-    Ok((found, rest))
-}
-
 /// The alias of a table, with AS or without.
 fn alias(alloc: Global, tokens: &[Token]) -> Result<(Option<Alias>, &[Token]), Unread>
     ensures ok { IfOk result (λ p. Reads HasAlias EndsTable (said tokens.now) p.0 (said p.1.now)) }
@@ -100,7 +87,7 @@ fn alias(alloc: Global, tokens: &[Token]) -> Result<(Option<Alias>, &[Token]), U
         let (name, rest) = name(alloc, tail)?;
         return Ok((Some(Alias { has_as: true, name }), rest));
     }
-    match bare_alias(alloc, tokens) {
+    match name(alloc, tokens) {
         Ok((name, rest)) => Ok((
             Some(Alias {
                 has_as: false,
@@ -108,7 +95,7 @@ fn alias(alloc: Global, tokens: &[Token]) -> Result<(Option<Alias>, &[Token]), U
             }),
             rest,
         )),
-        Err(Unread::NotSpelled) => Ok((None, tokens)),
+        Err(Unread::NotSpelled(_)) => Ok((None, tokens)),
         Err(Unread::Memory) => Err(Unread::Memory),
     }
 }
@@ -136,7 +123,7 @@ fn table_on(alloc: Global, tokens: &[Token]) -> Result<((Table, Condition), &[To
     let (table, rest) = table(alloc, tokens)?;
     let Some(tail) = behind_word(rest, "on") else {
         drop(table);
-        return Err(Unread::NotSpelled);
+        return Err(Unread::NotSpelled(rest.len()));
     };
     match condition(alloc, tail) {
         Ok((on, rest)) => Ok(((table, on), rest)),
@@ -221,7 +208,7 @@ pub fn tables(alloc: Global, tokens: &[Token]) -> Result<(Tables, &[Token]), Unr
     if others.len() > MORE_TABLES {
         drop(first);
         drop(others);
-        return Err(Unread::NotSpelled);
+        return Err(Unread::NotSpelled(rest.len()));
     }
     Ok((
         Tables {

@@ -36,7 +36,7 @@ pub fn term(alloc: Global, tokens: &[Token]) -> Result<(Term, &[Token]), Unread>
     ensures none { IfErr result (λ e. e ≢ unread.Memory → Never IsTerm EndsColumn (said tokens.now)) }
 {
     let Some((first, rest)) = front(tokens) else {
-        return Err(Unread::NotSpelled);
+        return Err(Unread::NotSpelled(tokens.len()));
     };
     match first {
         Lexeme::Number(number) => Ok((Term::Number(*number), rest)),
@@ -57,6 +57,6 @@ pub fn comparison(tokens: &[Token]) -> Result<(Comparison, &[Token]), Unread>
     match front(tokens) {
         Some((Lexeme::Symbol(Symbol::Equal), rest)) => Ok((Comparison::Equal, rest)),
         Some((Lexeme::Symbol(Symbol::Unequal), rest)) => Ok((Comparison::Unequal, rest)),
-        _ => Err(Unread::NotSpelled),
+        _ => Err(Unread::NotSpelled(tokens.len())),
     }
 }

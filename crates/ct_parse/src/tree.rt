@@ -87,14 +87,14 @@ pub enum Items {
     Listed(Item, List<Item>),
 }
 
-/// `AS name | alias`
+/// `[AS] name`
 #[derive(Drop)]
 pub struct Alias {
     pub has_as: bool,
     pub name: Text,
 }
 
-/// `table = name [AS name | alias]`
+/// `table = name [[AS] name]`
 #[derive(Drop)]
 pub struct Table {
     pub name: Text,

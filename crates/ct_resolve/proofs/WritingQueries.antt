@@ -9,7 +9,7 @@ use Rattle.ct_parse.{specs.declared.tree.Alias.Alias, specs.declared.tree.Item.I
 use Rattle.ct_parse.{specs.declared.tree.Table.Table, specs.declared.tree.Tables.Tables, specs.declared.tree.Select.Select}
 use Rattle.ct_parse.{specs.declared.tree.SetOperator.SetOperator, specs.declared.tree.QueryPrimary.QueryPrimary, specs.declared.tree.QueryTerm.QueryTerm}
 use Rattle.ct_parse.specs.declared.tree.Query.{Query, out-roll-Query}
-use Rattle.ct_parse.specs.Grammar.{AreMore, no_more, one_more, IsClosed, closed, HasCondition, no_condition, a_condition, no_name, as_name, IsItem, item, AreItems, star, listed, bare_alias, HasAlias, no_alias, alias, as_alias, IsTable, table, IsTableOn, table_on, IsJoined, comma, join, inner_join, AreJoined, none_joined, more_joined, AreTables, tables, IsDistinct, not_distinct, distinct, IsSelect, select, IsSetOperator, union, except, query_of, IsPrimary, nested_query, select_query, ArePrimaries, no_primary, intersect, IsQueryTerm, query_term, AreTerms, no_term, combined, IsQuery, query}
+use Rattle.ct_parse.specs.Grammar.{AreMore, no_more, one_more, IsClosed, closed, HasCondition, no_condition, a_condition, no_name, as_name, IsItem, item, AreItems, star, listed, HasAlias, no_alias, alias, as_alias, IsTable, table, IsTableOn, table_on, IsJoined, comma, join, inner_join, AreJoined, none_joined, more_joined, AreTables, tables, IsDistinct, not_distinct, distinct, IsSelect, select, IsSetOperator, union, except, query_of, IsPrimary, nested_query, select_query, ArePrimaries, no_primary, intersect, IsQueryTerm, query_term, AreTerms, no_term, combined, IsQuery, query}
 use Rattle.ct_resolve.{specs.Found.{Found, and_then, unless, each}, specs.Names.{table_in, are_distinct, own_name, column_at}}
 use Rattle.ct_resolve.{specs.Conditions.{condition_at, all_found}, specs.Writing.{IsNamed, HasNames, Writes, WritesQuery}}
 use Rattle.ct_resolve.specs.Queries.{name_or, visible, table_of, on_of, tables_of, ons_of, where_of, seen_table, Picked, numbered, columns_of, item_at, items_at, product_onto, product_of, Named, conditions_of, selected, select_at, operation, sides, primary_at, query_at, with_primary, with_primaries, term_at, with_term, with_terms}
@@ -116,7 +116,7 @@ HasTableName t = IsNamed t.name
 
 seen_rest : {ws r : List Lexeme} {a : Option Alias} → HasAlias ws a r → AreWritten ws → AreWritten r
 seen_rest no_alias h = h
-seen_rest (alias (bare_alias n p)) h = (name_writes n h).1
+seen_rest (alias n) h = (name_writes n h).1
 seen_rest (as_alias n) h = (name_writes n h.1).1
 
 table_writes : {ws r : List Lexeme} {t : Table} → IsTable ws t r → AreWritten ws → HasTableName t × AreWritten r

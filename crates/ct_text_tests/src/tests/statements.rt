@@ -2,7 +2,7 @@
 // for, is in the scripts of tests/.
 
 use ct_lex::{Token, split, tokens};
-use ct_parse::{ParseError, condition, statement};
+use ct_parse::{ParseError, condition, condition_place, name_of, statement, statement_place};
 use ct_query::{Heading, Schema};
 use ct_resolve::resolve;
 use ct_word::{List, Text};
@@ -117,5 +117,75 @@ fn a_condition_is_read_to_its_end(rt: HostRuntime) -> Result<(), Fail> {
     drop(condition(rt.alloc(), words.as_slice())?);
     let part = words.as_slice().get(..4).unwrap_or(&[]);
     assert!(rt; condition(rt.alloc(), part).err() == Some(ParseError::NotAStatement));
+    Ok(())
+}
+
+/// Texts, and where reading each as a statement stops. The last nests 65 deep.
+const STATEMENT_PLACES: [(&str, Option<u64>); 5] = [
+    ("select a from t where a = 1", None),
+    ("select a b from t", Some(9)),
+    ("insert into t values (1, 2", None),
+    ("select a from t left outer join u on true", Some(21)),
+    (
+        "assert (((((((((((((((((((((((((((((((((((((((((((((((((((((((((((((((((",
+        Some(71),
+    ),
+];
+
+/// Texts, and where reading each as a condition stops.
+const CONDITION_PLACES: [(&str, Option<u64>); 3] = [
+    ("a = 1 or", None),
+    ("a = 1 b", Some(6)),
+    ("not (a = ?x) and or b", Some(17)),
+];
+
+/// Where reading a text as a statement stops.
+fn statement_stops(alloc: Global, text: &str) -> Result<Option<u64>, Fail> {
+    let words = tokens_of(alloc, text)?;
+    Ok(statement_place(alloc, words.as_slice())?)
+}
+
+/// Where reading a text as a condition stops.
+fn condition_stops(alloc: Global, text: &str) -> Result<Option<u64>, Fail> {
+    let words = tokens_of(alloc, text)?;
+    Ok(condition_place(alloc, words.as_slice())?)
+}
+
+#[test]
+fn reading_stops_where_a_text_goes_wrong(rt: HostRuntime) -> Result<(), Fail> {
+    for (text, place) in STATEMENT_PLACES {
+        assert!(rt; statement_stops(rt.alloc(), text)? == place, "{text}");
+    }
+    for (text, place) in CONDITION_PLACES {
+        assert!(rt; condition_stops(rt.alloc(), text)? == place, "{text}");
+    }
+    Ok(())
+}
+
+/// Texts, and the name that each spells.
+const NAMES: [(&str, Option<&str>); 7] = [
+    ("Left_1", Some("left_1")),
+    ("_", Some("_")),
+    ("", None),
+    ("a b", None),
+    (" a", None),
+    ("1a", None),
+    ("SELECT", None),
+];
+
+/// Whether a text spells this name, or none.
+fn is_named(alloc: Global, text: &str, name: Option<&str>) -> Result<bool, Fail> {
+    match (name_of(alloc, text)?, name) {
+        (Some(found), Some(name)) => Ok(found.as_str() == name),
+        (None, None) => Ok(true),
+        _ => Ok(false),
+    }
+}
+
+#[test]
+fn a_name_is_the_whole_text(rt: HostRuntime) -> Result<(), Fail> {
+    for (text, name) in NAMES {
+        assert!(rt; is_named(rt.alloc(), text, name)?, "{text}");
+    }
     Ok(())
 }

@@ -1,6 +1,6 @@
 use Rattle.std.proofs.Common.{◌≡◌, ◌≤◌, length, nat_lt, reverse}
 use Rattle.ct_parse.{specs.Grammar.said, specs.Nest.{DEPTH, AreShallow, nest, nest_from}}
-use Rattle.ct_parse.proofs.nest.nests_too_deep.Given as goal
+use Rattle.ct_parse.proofs.nest.nest_passed.Given as goal
 
 abbrev pub invariant-loop-first : goal.invariant-loop-first
 invariant-loop-first l = record {

@@ -1,9 +1,9 @@
 use Rattle.std.proofs.Common.{◌<◌, sym, subst, ◌∙◌, ap, nat_lt, reverse}
 use Rattle.ct_parse.{specs.Grammar.said, specs.Nest.{DEPTH, nest_from, count_after}, proofs.Deep.deep_behind}
-use Rattle.ct_parse.proofs.nest.nests_too_deep.Goals as goal
+use Rattle.ct_parse.proofs.nest.nest_passed.Goals as goal
 
-pub returns-then-count-gt-DEPTH-clause-ok : goal.returns-then-count-gt-DEPTH-clause-ok
-returns-then-count-gt-DEPTH-clause-ok c =
+pub returns-then-count-gt-DEPTH : goal.returns-then-count-gt-DEPTH
+returns-then-count-gt-DEPTH c =
     let opened = reverse c.loop-first.opened.items in
     let count = c.loop-first.count in
     let deep = subst (λ n. DEPTH < n) (c.in_ok-count.ensures.count ∙ ap (count_after opened count) c.turn_of.ensures) c.if-count-gt-DEPTH.true in

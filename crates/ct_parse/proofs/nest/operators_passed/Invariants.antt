@@ -1,6 +1,6 @@
 use Rattle.std.proofs.Common.{◌≡◌, ◌≤◌, ◌+◌, length}
 use Rattle.ct_parse.{specs.Grammar.said, specs.Nest.{DEPTH, set_operators}}
-use Rattle.ct_parse.proofs.nest.has_many_operators.Given as goal
+use Rattle.ct_parse.proofs.nest.operators_passed.Given as goal
 
 abbrev pub invariant-loop-first : goal.invariant-loop-first
 invariant-loop-first l = record {
