@@ -3,6 +3,19 @@
 import random
 
 
+# A graph of 60 vertices and 138 edges that three colours are not enough for.
+SIXTY = (
+    "0-5 0-27 0-29 0-39 0-48 1-2 1-3 1-29 1-32 1-33 2-6 2-8 2-12 2-19 2-40 3-13 3-54 3-55 4-17 4-30 4-35 4-47 5-27 "
+    "5-31 5-39 5-47 5-55 6-9 6-21 6-22 6-39 6-48 7-11 8-13 8-36 9-10 9-15 9-18 9-29 9-32 9-39 9-52 9-58 10-20 10-21 "
+    "10-54 11-15 11-18 12-33 12-43 12-48 12-49 13-21 13-33 13-45 13-53 14-23 14-24 14-41 15-24 15-36 15-49 15-51 "
+    "16-22 16-32 16-37 16-52 17-28 17-55 18-32 18-37 18-51 19-29 19-55 19-56 20-42 20-47 20-49 20-55 21-30 21-49 "
+    "22-29 22-39 22-44 22-47 22-54 22-55 23-50 23-56 24-28 24-34 24-49 24-58 25-29 25-53 26-41 27-37 27-53 27-54 "
+    "28-43 28-46 28-49 28-58 29-48 29-54 29-59 30-37 30-54 31-44 31-45 31-46 31-54 32-47 32-49 32-55 33-35 33-48 "
+    "34-45 34-50 35-40 36-51 37-53 38-46 38-55 38-58 39-41 39-59 40-41 40-44 42-43 42-44 43-47 43-56 44-59 47-51 "
+    "48-50 51-54 54-56"
+)
+
+
 def null(number):
     """Returns a null with a number."""
     return f"?x{number}"
@@ -92,6 +105,16 @@ def colouring(vertices, edges):
     """Returns that each vertex has one of three colours, and the ends of each edge different ones."""
     coloured = [each("or", (f"{null(v)}={c}" for c in (1, 2, 3))) for v in range(vertices)]
     return joined("and", coloured + [f"{null(s)}<>{null(t)}" for s, t in edges])
+
+
+def sixty():
+    """Returns that a graph of 60 vertices has three colours."""
+    return colouring(60, [tuple(map(int, edge.split("-"))) for edge in SIXTY.split()])
+
+
+def keys(count):
+    """Returns that a null is one of three values, and one of so many others."""
+    return " and ".join(each("or", (f"{null(0)}={v}" for v in values)) for values in (range(1, 4), range(10, 10 + count)))
 
 
 def table(name, columns, rows):

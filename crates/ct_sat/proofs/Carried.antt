@@ -3,7 +3,7 @@ use Rattle.std.proofs.Common.{◌≡◌, ℕ, zero, suc, Bool, true, false, ◌&
 use Rattle.std.{specs.Prelude.{slice_get, option_map}, specs.List.list_all, specs.Ordering.int_eq, proofs.lemmas.List.{map-append, length-map}}
 use Rattle.std.{proofs.lemmas.List.Folds.list_all-append, proofs.lemmas.Option.slice_get-map, proofs.lemmas.Bool.{and_parts, and_from, cond_both}}
 use Rattle.ct_derivation.specs.Propagation.{Literals, Look, Unfit, Falsified, Forces, is_among, by_rest, look, look_at, meets, are_hints, follows}
-use Rattle.ct_sat.{specs.Literal.{Clause, numbered, is_literal, is_clause}, proofs.Literals.opposite_literal}
+use Rattle.ct_trail.{specs.Literal.{Clause, numbered, is_literal, is_clause}, proofs.Literals.opposite_literal}
 
 -- the translation keeps sameness and opposites of the literals of the variables to `vars`; at 0 it can't, which is its own opposite
 pub record CarriesLiterals (vars : ℕ) (to : Literals) (f : ℤ → to.literal) : Type 0 where

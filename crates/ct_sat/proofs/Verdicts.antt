@@ -3,13 +3,15 @@ use Rattle.std.proofs.Common.{◌≡◌, ◌&&◌, ℕ, zero, suc, ◌+◌, ◌-
 use Rattle.std.{specs.Prelude.{slice_get, IsTrue, ◌↔◌}, specs.List.list_all, proofs.lemmas.List.{length-map, append-nil, map-append, take_more}}
 use Rattle.std.proofs.lemmas.Bool.{and_parts, and_from, or_cases, or_left, or_right, false≢true}
 use Rattle.ct_derivation.{specs.declared.steps.Cnf.Cnf, specs.Propagation.follows}
-use Rattle.ct_sat.{specs.declared.assignment.Truth.Truth, specs.declared.verdict.Rup.Rup, specs.declared.log.Entry.Entry, specs.Literal.{Clause, numbered, is_clause}}
-use Rattle.ct_sat.{specs.Assignment.{truth_of, inverted, is_true, satisfied}, specs.Learned.{clause_of, each_follows}}
-use Rattle.ct_sat.specs.Log.{State, clauses_in, added_in, learned_in, each_learned_follows, ends_refuted, Learns, IsLog, IsModelOf}
-use Rattle.ct_sat.{specs.Verdict.{holds, satisfies, IsModel, is_empty, ends_empty, IsRefutation}, proofs.Logs.added_more}
-use Rattle.ct_sat.specs.Standing.{Standing, truths_now}
-use Rattle.ct_sat.specs.declared.assignment.Truth.TheVariants as truth
-use Rattle.ct_sat.specs.declared.log.Entry.TheVariants as entry
+use Rattle.ct_trail.specs.{declared.assignment.Truth.Truth, declared.log.Rup.Rup, declared.log.Entry.Entry, Literal.{Clause, numbered, is_clause}}
+use Rattle.ct_trail.specs.Assignment.{truth_of, inverted, is_true, satisfied}
+use Rattle.ct_sat.specs.Verdict.{clause_of, each_follows, holds, satisfies, IsModel, is_empty, ends_empty, IsRefutation}
+use Rattle.ct_trail.specs.Log.{clauses_in, added_in, learned_in, each_learned_follows, IsLog}
+use Rattle.ct_sat.specs.Log.{State, ends_refuted, Learns, IsModelOf}
+use Rattle.ct_trail.proofs.Logs.{added_more}
+use Rattle.ct_trail.specs.Standing.{Standing, Learned, truths_now}
+use Rattle.ct_trail.specs.declared.assignment.Truth.TheVariants as truth
+use Rattle.ct_trail.specs.declared.log.Entry.TheVariants as entry
 
 truth_at_map : (ts : List Truth) (n : ℕ) → get_or (map is_true ts) n false ≡ is_true (get_or ts n truth.Open)
 truth_at_map [] n = refl
@@ -51,12 +53,16 @@ ends_learned (entry.Added c ∷ f ∷ es) e = ends_learned (f ∷ es) e
 ends_learned (entry.Learned r ∷ f ∷ es) e = ends_more r (learned_in (f ∷ es)) (ends_learned (f ∷ es) e)
 
 -- the last entry of a log that has one more
-pub ends_last : (es : List Entry) (r : Rup) → r.clause ≡ [] → ends_refuted (es ++ entry.Learned r ∷ []) ≡ true
+ends_last : (es : List Entry) (r : Rup) → r.clause ≡ [] → ends_refuted (es ++ entry.Learned r ∷ []) ≡ true
 ends_last [] r e = ap is_empty e
 ends_last (entry.Added c ∷ []) r e = ap is_empty e
 ends_last (entry.Learned s ∷ []) r e = ap is_empty e
 ends_last (entry.Added c ∷ f ∷ es) r e = ends_last (f ∷ es) r e
 ends_last (entry.Learned s ∷ f ∷ es) r e = ends_last (f ∷ es) r e
+
+-- the empty clause was learned
+pub refuted_learned : (s t : Standing) → Learned s t None → ends_refuted t.entries ≡ true
+refuted_learned s t h = ap (λ (x : Standing). ends_refuted x.entries) h.is ∙ ends_last s.entries h.step h.returns
 
 added_all : (cs : List Clause) → added_in (map entry.Added cs) ≡ cs
 added_all [] = refl

@@ -3,9 +3,10 @@ use Rattle.std.proofs.Common.{◌≡◌, ℕ, zero, suc, pos, negsuc, w32, FitsS
 use Rattle.std.{specs.Prelude.{nat_lt}, specs.List.list_all, proofs.Math.IntN.neg_ℤ-neg_ℤ, proofs.lemmas.Int.fits_signed_from_abs}
 use Rattle.std.proofs.lemmas.Bool.{false≢true, and_parts, and_from, or_left, or_right, cond-true, cond-false}
 use Rattle.std.proofs.lemmas.{Bool.Decides.Decides-ltb, List.Folds.{list_all-append, list_all_more}}
-use Rattle.ct_sat.specs.{Literal.{Clause, numbered, has, is_literal, LARGEST}, Learned.clause_at, Units.{IsAloneAt, Leads, Goes}}
+use Rattle.ct_trail.specs.{Literal.{Clause, numbered, has, is_literal, LARGEST}, Log.clause_at, Units.IsAloneAt}
+use Rattle.ct_sat.specs.Units.{Leads, Goes}
 use Rattle.ct_sat.specs.declared.units.Way.{Way}
-use Rattle.ct_sat.proofs.{Literals.{same_refl, has_more}, Lessons.meets_first}
+use Rattle.ct_trail.proofs.{Literals.{same_refl, has_more}, Lessons.meets_first}
 use Rattle.ct_derivation.specs.Propagation.{Falsified, Forces, look, meets, are_hints, follows}
 
 look_alone : (ls : Clause) (l : ℤ) → has ls l ≡ false → has ls (neg_ℤ l) ≡ false → look numbered ls None (l ∷ []) ≡ Forces l
@@ -27,9 +28,6 @@ starts log l w known none = record {
 
 more_hints : (log : List Clause) (hs : List ℕ) (k : ℕ) → are_hints log hs ≡ true → k < length log → are_hints log (hs ++ k ∷ []) ≡ true
 more_hints log hs k e lt = list_all-append (λ h. nat_lt h (length log)) hs (k ∷ []) ∙ and_from _ _ e (and_from _ true ((Decides-ltb k (length log)).1 lt) refl)
-
-pub goes_nowhere : (log : List Clause) (w : Way) (m : ℤ) → has w.known.items m ≡ true → Goes log w w m
-goes_nowhere log w m h = record { leads = λ l a. a; more = λ x a. a; there = h }
 
 pub goes : (log : List Clause) (old new : Way) (m : ℤ) (k : ℕ) → new.known.items ≡ old.known.items ++ m ∷ [] → new.hints.items ≡ old.hints.items ++ k ∷ []
     → IsAloneAt log k (neg_ℤ m) → has old.known.items m ≡ false → has old.known.items (neg_ℤ m) ≡ false → Goes log old new m

@@ -1,12 +1,4 @@
-pub mod Analysis
-pub mod Assignment
-pub mod Learned
-pub mod Learning
-pub mod Literal
 pub mod Log
-pub mod Marks
 pub mod Search
-pub mod Standing
-pub mod Trail
 pub mod Units
 pub mod Verdict

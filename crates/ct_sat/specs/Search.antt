@@ -1,38 +1,19 @@
--- What a look at a clause, and one at all added clauses, answer.
-use Rattle.std.specs.Prelude.{◌≡◌, ℕ, ◌<◌, true, List, length, if◌then◌else◌}
-use Rattle.std.specs.Ordering.{int_eq}
-use Rattle.std.proofs.Math.IntN.{ℤ}
-use Rattle.ct_sat.specs.declared.assignment.Truth.{Truth}
-use Rattle.ct_sat.specs.declared.look.Look.{Look}
-use Rattle.ct_sat.specs.declared.look.Look.TheVariants as look
-use Rattle.ct_sat.specs.Literal.{Clause, is_positive, has}
-use Rattle.ct_sat.specs.Learned.{clause_at}
-use Rattle.ct_sat.specs.Assignment.{satisfied, falsified, IsOpen, IsUnit}
+-- What the turns of a search find.
+use Rattle.std.specs.Prelude.{ℕ, ◌<◌, false, Option, Some, None}
+use Rattle.ct_trail.specs.{Look.IsFalsifiedAt, Standing.{Standing, truths_now, log_now, worth_of}}
+use Rattle.ct_sat.specs.declared.verdict.Found.{Found}
+use Rattle.ct_sat.specs.Log.{State, AnswersFound}
 
--- what a clause is under an assignment
-abbrev pub LookOf : List Truth → Clause → Look → Type 0
-LookOf truths c look.Satisfied = satisfied truths c ≡ true
-LookOf truths c look.Falsified = falsified truths c ≡ true
-LookOf truths c (look.Unit l) = IsUnit truths c l
-LookOf truths c (look.Undecided l) = IsOpen truths l × (has c l ≡ true)
+-- the clause at the position is false, if there is one
+abbrev pub ConflictOf : Standing → Option ℕ → Type 0
+ConflictOf s None = Unit {0}
+ConflictOf s (Some k) = IsFalsifiedAt (truths_now s) (log_now s) k
 
--- the first of two literals, unless it is the negative of a variable
-abbrev pub preferred : ℤ → ℤ → ℤ
-preferred m l = if is_positive m then m else l
+-- what contracts see of a solver with this board
+abbrev pub state_of : Standing → State
+state_of s = record { vars = s.vars; entries = s.entries; failed = false }
 
--- what it is with one more literal without a truth
-abbrev pub opened : Look → ℤ → Look
-opened look.Satisfied l = look.Satisfied
-opened look.Falsified l = look.Unit l
-opened (look.Unit m) l = if int_eq l m then look.Unit m else look.Undecided (preferred m l)
-opened (look.Undecided m) l = look.Undecided (preferred m l)
-
--- the clause at k is false
-pub record IsFalsifiedAt (truths : List Truth) (log : List Clause) (k : ℕ) : Type 0 where
-  pub place : k < length log
-  pub none : falsified truths (clause_at log k) ≡ true
-
--- l is the last literal of the clause at k
-pub record IsUnitAt (truths : List Truth) (l : ℤ) (log : List Clause) (k : ℕ) : Type 0 where
-  pub place : k < length log
-  pub unit : IsUnit truths (clause_at log k) l
+-- what the search found is so, or its trail is worth more
+abbrev pub TurnOf : Standing → Standing → Option Found → Type 0
+TurnOf old new None = worth_of old < worth_of new
+TurnOf old new (Some f) = AnswersFound (state_of new) f

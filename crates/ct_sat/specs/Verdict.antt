@@ -1,14 +1,14 @@
 -- Models and refutations of clauses over numbered variables.
-use Rattle.std.specs.Prelude.{◌≡◌, zero, suc, Bool, true, false, not, List, [], ◌∷◌, length, map, slice_index_or}
+use Rattle.std.specs.Prelude.{◌≡◌, zero, suc, Bool, true, false, not, ◌&&◌, List, [], ◌∷◌, ◌++◌, length, map, slice_index_or}
 use Rattle.std.specs.List.{list_any, list_all}
 use Rattle.std.proofs.Math.IntN.{ℤ, pos, negsuc}
 use Rattle.ct_derivation.specs.declared.steps.Cnf.{Cnf}
+use Rattle.ct_derivation.specs.Propagation.{follows}
 pub use Rattle.ct_derivation.specs.Variables.{IsCnf}
-use Rattle.ct_sat.specs.declared.verdict.Rup.{Rup}
+use Rattle.ct_trail.specs.declared.log.Rup.{Rup}
 use Rattle.ct_sat.specs.declared.verdict.Verdict.{Verdict}
 use Rattle.ct_sat.specs.declared.verdict.Verdict.TheVariants as verdict
-use Rattle.ct_sat.specs.Literal.{Clause, is_clause}
-use Rattle.ct_sat.specs.Learned.{clause_of, each_follows}
+use Rattle.ct_trail.specs.Literal.{Clause, is_clause, numbered}
 
 -- whether a literal is true, where the truth of variable n + 1 is at place n
 abbrev pub holds : List Bool → ℤ → Bool
@@ -28,6 +28,14 @@ pub record IsModel (cnf : Cnf) (model : List Bool) : Type 0 where
 abbrev pub is_empty : Clause → Bool
 is_empty [] = true
 is_empty (l ∷ c) = false
+
+abbrev pub clause_of : Rup → Clause
+clause_of r = r.clause
+
+-- whether each step follows by its hints from the log and the steps before it
+abbrev pub each_follows : List Clause → List Rup → Bool
+each_follows log [] = true
+each_follows log (r ∷ steps) = follows numbered log r.clause r.hints && each_follows (log ++ r.clause ∷ []) steps
 
 -- whether there is a last step, and its clause is empty
 abbrev pub ends_empty : List Rup → Bool

@@ -1,11 +1,8 @@
 // What guides the search. Nothing that is proved rests on it.
 
-use crate::assignment::Truth;
-use crate::board::Board;
-use crate::log::Entry;
 use crate::queue::Queue;
-use crate::trail::Put;
 use crate::watches::Watches;
+use ct_trail::{Board, Entry, Put, Truth};
 use std::alloc::{AllocError, Global};
 
 /// The place of a literal that has no truth, and the rank of one that is not false.

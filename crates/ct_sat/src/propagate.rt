@@ -1,13 +1,12 @@
 // Unit propagation by watches.
 
 ghost use Rattle.std.specs.Prelude.{IfOk};
-ghost use Rattle.ct_sat.specs.Standing.{Advances, ConflictOf};
+ghost use Rattle.ct_trail.specs.Standing.{Advances};
+ghost use Rattle.ct_sat.specs.Search.{ConflictOf};
 
-use crate::assignment::Truth;
-use crate::board::Board;
 use crate::guide::Guide;
-use crate::look::Look;
 use crate::watches::{END, clause_of};
+use ct_trail::{Board, Look, Truth};
 use ct_word::Memory;
 
 /// Looks at the clause at k, and makes its last literal true; returns k where the clause is false.

@@ -2,15 +2,15 @@
 
 ghost use Rattle.std.specs.Prelude.{◌≡◌, ◌<◌, true, IfOk};
 ghost use Rattle.ct_sat.specs.Log.{AnswersFound, ends_refuted};
-ghost use Rattle.ct_sat.specs.Search.{IsFalsifiedAt};
-ghost use Rattle.ct_sat.specs.Standing.{truths_now, log_now, worth_of, Continues, Advances, TurnOf, state_of};
+ghost use Rattle.ct_trail.specs.Look.{IsFalsifiedAt};
+ghost use Rattle.ct_trail.specs.Standing.{truths_now, log_now, worth_of, Continues, Advances};
+ghost use Rattle.ct_sat.specs.Search.{TurnOf, state_of};
 
-use crate::board::Board;
 use crate::guide::Guide;
-use crate::log::{Entry, Found};
 use crate::propagate::propagate;
-use crate::scan::{Scan, hint};
 use crate::units::make_units;
+use crate::verdict::Found;
+use ct_trail::{Board, Entry, Scan, hint};
 use ct_word::{List, Memory};
 use std::alloc::Global;
 

@@ -1,15 +1,15 @@
 // A search that is asked again as clauses are added.
 
 ghost use Rattle.std.specs.Prelude.{◌≡◌, ◌≤◌, [], ◌∷◌, ◌++◌, true, false, length, is_err, IfOk, IsErr, OnOk, OnErr};
-ghost use Rattle.ct_sat.specs.Literal.{is_clause, LARGEST};
-ghost use Rattle.ct_sat.specs.declared.log.Entry.TheVariants as entry;
-ghost use Rattle.ct_sat.specs.Log.{IsLog, Learns, AnswersFound};
+ghost use Rattle.ct_trail.specs.Literal.{is_clause, LARGEST};
+ghost use Rattle.ct_trail.specs.declared.log.Entry.TheVariants as entry;
+ghost use Rattle.ct_trail.specs.Log.{IsLog};
+ghost use Rattle.ct_sat.specs.Log.{Learns, AnswersFound};
 
-use crate::board::Board;
 use crate::guide::Guide;
-use crate::log::{Entry, Found};
-use crate::scan::hint;
 use crate::search::search;
+use crate::verdict::Found;
+use ct_trail::{Board, Entry, hint};
 use ct_word::{List, Memory};
 use std::alloc::Global;
 use std::marker::Model;

@@ -1,14 +1,14 @@
 // A verdict on clauses.
 
 ghost use Rattle.std.specs.Prelude.{◌≡◌, false, map, ◌++◌, ◌∷◌, [], IfOk, OnOk};
-ghost use Rattle.ct_sat.specs.declared.log.Entry.TheVariants as entry;
-ghost use Rattle.ct_sat.specs.Log.{learned_in};
+ghost use Rattle.ct_trail.specs.declared.log.Entry.TheVariants as entry;
+ghost use Rattle.ct_trail.specs.Log.{learned_in};
 ghost use Rattle.ct_sat.specs.Verdict.{IsCnf, VerdictOf};
 
-use crate::log::{Entry, Found};
 use crate::solver::Solver;
-use crate::verdict::{Rup, Verdict};
+use crate::verdict::{Found, Verdict};
 use ct_derivation::Cnf;
+use ct_trail::{Entry, Rup};
 use ct_word::{List, Memory};
 use std::alloc::{AllocError, Global};
 

@@ -2,19 +2,14 @@
 
 ghost use Rattle.std.specs.Prelude.{◌≡◌, ℕ, List, ◌≤◌, ◌<◌, ◌∷◌, [], true, length, IfOk, IfSome};
 ghost use Rattle.ct_derivation.specs.Propagation.{follows};
-ghost use Rattle.ct_sat.specs.Literal.{Clause, numbered, has};
-ghost use Rattle.ct_sat.specs.Log.{clauses_in};
-ghost use Rattle.ct_sat.specs.Trail.{IsTrail, truths_of};
-ghost use Rattle.ct_sat.specs.Analysis.{IsPutAt};
-ghost use Rattle.ct_sat.specs.Standing.{worth, log_now, Advances};
-ghost use Rattle.ct_sat.specs.Units.{IsAloneAt, IsOwnReason, Leads, Goes, IsUnitLesson};
+ghost use Rattle.ct_trail.specs.Literal.{Clause, numbered, has};
+ghost use Rattle.ct_trail.specs.Log.{clauses_in};
+ghost use Rattle.ct_trail.specs.Standing.{log_now, Advances};
+ghost use Rattle.ct_trail.specs.Units.{IsAloneAt, IsUnitLesson};
+ghost use Rattle.ct_sat.specs.Units.{Leads, Goes};
 
-use crate::analysis::clause;
-use crate::board::Board;
 use crate::guide::Guide;
-use crate::literal::{is_same, is_within, opposite};
-use crate::log::Entry;
-use crate::trail::Put;
+use ct_trail::{Board, Entry, clause, is_same, is_within, opposite};
 use ct_word::Memory;
 use std::alloc::{AllocError, Global};
 
@@ -26,7 +21,7 @@ struct Way {
 }
 
 /// Whether a literal is in a clause.
-#[tactic(auto, unfolding(crate::specs::Literal::has))]
+#[tactic(auto, unfolding(ct_trail::specs::Literal::has))]
 fn is_in(clause: &[i32], l: &i32) -> bool
     ensures { result ≡ has clause.now l.now }
 {
@@ -139,16 +134,6 @@ fn unit_hints(
         return Ok(None);
     };
     hints_by(alloc, board, guide, &trail[place].literal, reason)
-}
-
-/// Gives a literal of the trail another reason, the clause at a position of the log that has it alone.
-pub fn set_reason(trail: &mut Vec<Put>, place: usize, position: u32)
-    requires { place < length trail.old.items }
-    ensures truths { (vars : ℕ) → truths_of vars trail.new.items ≡ truths_of vars trail.old.items }
-    ensures trail { (vars top : ℕ) (log : List Clause) → IsOwnReason log trail.old.items place position → IsTrail vars top log trail.old.items → IsTrail vars top log trail.new.items }
-    ensures worth { (vars reason : ℕ) → IsPutAt trail.old.items place reason → worth vars trail.new.items ≡ worth vars trail.old.items }
-{
-    trail[place].reason = Some(position);
 }
 
 /// Gives the literal whose reason is the clause at a position a clause of its own, if it rests on no decision.

@@ -1,14 +1,15 @@
 // What the search returns.
 
+use ct_trail::Rup;
 use ct_word::List;
 
-/// A clause that follows by reverse unit propagation (Goldberg and Novikov 2003).
+/// What a search found.
 #[derive(Drop)]
-pub struct Rup {
-    pub clause: List<i32>,
-    /// Positions of earlier clauses, in the order of propagation (as in LRAT, Cruz-Filipe and
-    /// others 2017).
-    pub hints: List<u32>,
+pub enum Found {
+    /// A truth for each variable, from variable 1 on, by which each added clause is true.
+    Model(List<bool>),
+    /// The last entry of the log is learned and empty.
+    Refuted,
 }
 
 /// A model of clauses, or a refutation of them.

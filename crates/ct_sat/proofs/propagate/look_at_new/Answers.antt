@@ -1,4 +1,4 @@
-use Rattle.ct_sat.proofs.Steps.{advances_then}
+use Rattle.ct_trail.proofs.Steps.{advances_then}
 use Rattle.ct_sat.proofs.propagate.look_at_new.Goals as goal
 
 pub returns-in_err-c-clause-advances : goal.returns-in_err-c-clause-advances

@@ -1,4 +1,4 @@
-use Rattle.ct_sat.specs.Standing.{Advances}
+use Rattle.ct_trail.specs.Standing.{Advances}
 use Rattle.ct_sat.proofs.propagate.look_at_new.Given as goal
 
 abbrev pub invariant-loop : goal.invariant-loop

@@ -1,4 +1,4 @@
-use Rattle.ct_sat.proofs.Steps.{continues_then}
+use Rattle.ct_trail.proofs.Steps.{continues_then}
 use Rattle.ct_sat.proofs.search.advance.Goals as goal
 
 pub returns-clause-continues : goal.returns-clause-continues

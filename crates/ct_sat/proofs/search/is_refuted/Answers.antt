@@ -1,5 +1,6 @@
 use Rattle.std.proofs.Common.{◌∙◌, ap, sym, Some}
-use Rattle.ct_sat.{specs.declared.log.Entry.Entry, proofs.Verdicts.refuted_at}
+use Rattle.ct_trail.specs.declared.log.Entry.{Entry}
+use Rattle.ct_sat.proofs.Verdicts.{refuted_at}
 use Rattle.ct_sat.proofs.search.is_refuted.Goals as goal
 
 pub returns-in-Learned : goal.returns-in-Learned

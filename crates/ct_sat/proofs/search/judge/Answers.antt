@@ -1,5 +1,6 @@
 use Rattle.std.proofs.Common.{◌∙◌, subst}
-use Rattle.ct_sat.{specs.declared.scan.Scan.Scan, specs.Standing.{truths_now, ScanOf}, proofs.Verdicts.model_of}
+use Rattle.ct_trail.specs.{declared.scan.Scan.Scan, Standing.{truths_now, ScanOf}}
+use Rattle.ct_sat.proofs.Verdicts.{model_of}
 use Rattle.ct_sat.proofs.search.judge.Goals as goal
 
 pub returns-in_ok-model-in-Satisfied-clause-turn : goal.returns-in_ok-model-in-Satisfied-clause-turn

@@ -1,5 +1,6 @@
 use Rattle.std.proofs.Common.{subst}
-use Rattle.ct_sat.{specs.Standing.Learned, proofs.Steps.refuted_learned}
+use Rattle.ct_trail.specs.Standing.{Learned}
+use Rattle.ct_sat.proofs.Verdicts.{refuted_learned}
 use Rattle.ct_sat.proofs.search.resolve.Goals as goal
 
 pub returns-in-None-clause-turn : goal.returns-in-None-clause-turn

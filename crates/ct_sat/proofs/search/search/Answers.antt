@@ -1,5 +1,6 @@
 use Rattle.std.proofs.Common.{subst, Option}
-use Rattle.ct_sat.{specs.declared.log.Found.Found, specs.Standing.{TurnOf}, proofs.Steps.continues_then, proofs.Worths.left_falls}
+use Rattle.ct_trail.proofs.{Steps.continues_then, Worths.left_falls}
+use Rattle.ct_sat.specs.{declared.verdict.Found.Found, Search.TurnOf}
 use Rattle.ct_sat.proofs.search.search.Goals as goal
 
 pub returns-in_err-found-clause-continues : goal.returns-in_err-found-clause-continues

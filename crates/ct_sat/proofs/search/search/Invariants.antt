@@ -1,5 +1,5 @@
 use Rattle.std.proofs.Common.{◌-◌}
-use Rattle.ct_sat.specs.Standing.{Continues, full, worth_of}
+use Rattle.ct_trail.specs.Standing.{Continues, full, worth_of}
 use Rattle.ct_sat.proofs.search.search.Given as goal
 
 abbrev pub invariant-loop-found : goal.invariant-loop-found

@@ -1,4 +1,4 @@
-use Rattle.ct_sat.proofs.Steps.{continues_then}
+use Rattle.ct_trail.proofs.Steps.{continues_then}
 use Rattle.ct_sat.proofs.search.turn.Goals as goal
 
 pub returns-in-Some-clause-continues : goal.returns-in-Some-clause-continues

@@ -1,5 +1,6 @@
 use Rattle.std.proofs.Common.{◌<◌, ap, ◌∙◌, length, get_or, arith}
-use Rattle.ct_sat.{specs.Literal.is_clause, specs.Log.State, proofs.Verdicts.{item_within, given_more}}
+use Rattle.ct_trail.specs.Literal.{is_clause}
+use Rattle.ct_sat.{specs.Log.State, proofs.Verdicts.{item_within, given_more}}
 use Rattle.ct_sat.proofs.solving.make.Goals as goal
 
 pub add-requires : goal.add-requires

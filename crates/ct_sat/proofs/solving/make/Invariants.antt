@@ -1,5 +1,5 @@
 use Rattle.std.proofs.Common.{◌≡◌, take, map, false}
-use Rattle.ct_sat.specs.declared.log.Entry.TheVariants as entry
+use Rattle.ct_trail.specs.declared.log.Entry.TheVariants as entry
 use Rattle.ct_sat.proofs.solving.make.Given as goal
 
 abbrev pub invariant-loop-clause : goal.invariant-loop-clause

@@ -1,6 +1,7 @@
 use Rattle.std.proofs.Common.{◌≡◌, ap, ◌∙◌, sym, subst, List}
-use Rattle.ct_sat.{specs.declared.verdict.Rup.Rup, specs.Log.{AnswersFound, learned_in}, specs.Verdict.IsRefutation, proofs.Verdicts.{refuted, modelled}}
-use Rattle.ct_sat.specs.declared.log.Found.{Found}
+use Rattle.ct_trail.specs.{declared.log.Rup.Rup, Log.learned_in}
+use Rattle.ct_sat.{specs.Log.AnswersFound, specs.Verdict.IsRefutation, proofs.Verdicts.{refuted, modelled}}
+use Rattle.ct_sat.specs.declared.verdict.Found.{Found}
 use Rattle.ct_sat.proofs.solving.solve.Goals as goal
 
 pub returns-in-Model : goal.returns-in-Model

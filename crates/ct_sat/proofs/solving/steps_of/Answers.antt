@@ -1,5 +1,5 @@
 use Rattle.std.proofs.Common.{ap, ◌∙◌, sym, ◌∷◌, [], ◌++◌}
-use Rattle.ct_sat.{specs.Log.learned_in, proofs.Logs.learned_more}
+use Rattle.ct_trail.{specs.Log.learned_in, proofs.Logs.learned_more}
 use Rattle.ct_sat.proofs.solving.steps_of.Goals as goal
 
 pub loop-entry-preserved : goal.loop-entry-preserved

@@ -1,5 +1,5 @@
 use Rattle.std.proofs.Common.{◌≡◌}
-use Rattle.ct_sat.specs.Log.{learned_in}
+use Rattle.ct_trail.specs.Log.{learned_in}
 use Rattle.ct_sat.proofs.solving.steps_of.Given as goal
 
 abbrev pub invariant-loop-entry : goal.invariant-loop-entry

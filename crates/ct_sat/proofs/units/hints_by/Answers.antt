@@ -1,5 +1,5 @@
 use Rattle.std.{proofs.Common.{◌≡◌, ◌<◌, ◌≤◌, ap, ◌∙◌, sym, pos, length, take, arith}, specs.List.list_all, proofs.lemmas.List.{length-map, take_all}}
-use Rattle.ct_sat.specs.{Literal.has, Log.{clauses_in, entry_clause}, Learned.clause_at, Standing.log_now}
+use Rattle.ct_trail.specs.{Literal.has, Log.{clauses_in, entry_clause, clause_at}, Standing.log_now}
 use Rattle.ct_sat.proofs.Ways.{known_more, arrives}
 use Rattle.ct_sat.proofs.units.hints_by.Goals as goal
 

@@ -1,4 +1,4 @@
-use Rattle.ct_sat.proofs.Steps.{advances_then}
+use Rattle.ct_trail.proofs.Steps.{advances_then}
 use Rattle.ct_sat.proofs.units.make_units.Goals as goal
 
 pub returns-in_err-make_unit : goal.returns-in_err-make_unit

@@ -1,6 +1,7 @@
 use Rattle.std.{proofs.Common.{◌≡◌, true, false, ◌++◌, ◌∷◌, [], ap, ◌∙◌, sym, subst, neg_ℤ, w32}, proofs.lemmas.Int.to_z-of_z}
 use borrow.Author.Rules.{sfits_of}
-use Rattle.ct_sat.{specs.Literal.{has, is_literal, LARGEST}, specs.Log.clauses_in, specs.Units.IsAloneAt, proofs.Ways.{goes, literal_fits}}
+use Rattle.ct_trail.specs.{Literal.{has, is_literal, LARGEST}, Log.clauses_in, Units.IsAloneAt}
+use Rattle.ct_sat.proofs.Ways.{goes, literal_fits}
 use Rattle.ct_sat.proofs.units.Way.go.Goals as goal
 
 pub returns : goal.returns

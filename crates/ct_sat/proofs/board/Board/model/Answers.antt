@@ -1,5 +1,0 @@
-use Rattle.ct_sat.proofs.Growth.{length_truths}
-use Rattle.ct_sat.proofs.board.Board.model.Goals as goal
-
-pub returns-clause-vars : goal.returns-clause-vars
-returns-clause-vars c = length_truths c.args.self.now.vars c.args.self.now.trail

@@ -1,6 +1,0 @@
-use Rattle.std.proofs.Common.{take}
-use Rattle.ct_sat.specs.Search.{LookOf}
-use Rattle.ct_sat.proofs.look.look_at.Given as goal
-
-abbrev pub invariant-loop-l : goal.invariant-loop-l
-invariant-loop-l l = LookOf l.truths (take l.l-index l.clause) l.look

@@ -1,0 +1,15 @@
+pub mod Assignments
+pub mod Boards
+pub mod Growth
+pub mod Lessons
+pub mod Literals
+pub mod Logs
+pub mod Looks
+pub mod Marked
+pub mod Narrow
+pub mod Reasoned
+pub mod Resolved
+pub mod Returns
+pub mod Steps
+pub mod Trails
+pub mod Worths

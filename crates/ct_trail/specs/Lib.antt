@@ -1,0 +1,10 @@
+pub mod Analysis
+pub mod Assignment
+pub mod Learning
+pub mod Literal
+pub mod Log
+pub mod Look
+pub mod Marks
+pub mod Standing
+pub mod Trail
+pub mod Units
