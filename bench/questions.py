@@ -112,9 +112,10 @@ def sixty():
     return colouring(60, [tuple(map(int, edge.split("-"))) for edge in SIXTY.split()])
 
 
-def keys(count):
-    """Returns that a null is one of three values, and one of so many others."""
-    return " and ".join(each("or", (f"{null(0)}={v}" for v in values)) for values in (range(1, 4), range(10, 10 + count)))
+def keys(count, first=False):
+    """Returns that a null is one of three values, and one of so many others, which may come first."""
+    few, many = (each("or", (f"{null(0)}={v}" for v in values)) for values in (range(1, 4), range(10, 10 + count)))
+    return f"{many} and {few}" if first else f"{few} and {many}"
 
 
 def table(name, columns, rows):
