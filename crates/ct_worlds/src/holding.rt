@@ -1,13 +1,12 @@
 // The truth of conditions in a world.
 
-ghost use Rattle.std.specs.Prelude.{◌≡◌, ◌<◌, ℕ, length, nat_eq, IfOk, IsTrue, Some};
-ghost use Rattle.std.specs.Map.{lookup};
+ghost use Rattle.std.specs.Prelude.{◌≡◌, ◌<◌, ℕ, length, slice_index_or, false, IfOk, IsTrue};
 ghost use Rattle.ct_word.specs.declared.kinds.Class.TheVariants as class;
 ghost use Rattle.ct_word.specs.Condition.{holds_at};
 ghost use Rattle.ct_word.specs.Connective.{join};
 ghost use Rattle.ct_word.specs.Reading.{condition_at};
 ghost use Rattle.ct_word.specs.WellFormed.{IsWellFormed, is_place_of};
-ghost use Rattle.ct_worlds.specs.Truths.{ArePartsFirst, HaveTruths, is_true_at};
+ghost use Rattle.ct_worlds.specs.Truths.{AreRising, ArePartsFirst, HaveTruths, found_in};
 ghost use Rattle.ct_worlds.specs.Shape.{parts_at};
 ghost use Rattle.ct_worlds.specs.Valuation.{IsValuation};
 
@@ -15,16 +14,33 @@ use crate::gathering::below;
 use crate::shape::{Shape, shape_at};
 use crate::valuation::{Valuation, are_equal, valuation_of};
 use ct_word::{Connective, Memory, World};
-use indexmap::IndexMap;
 use std::alloc::Global;
 
-/// Whether the condition at a place holds, by the truths that are kept.
-pub(crate) fn holds(truths: &IndexMap<u32, bool>, place: u32) -> bool
-    ensures { result ≡ is_true_at (lookup (nat_eq place) truths.now.entries) }
+/// The truths of the conditions at the first of some places, which rise.
+#[derive(Drop)]
+pub(crate) struct KnownTruths<'a> {
+    pub(crate) places: &'a [u32],
+    pub(crate) known: Vec<bool>,
+}
+
+/// The truth with a number; false past the last one.
+fn truth_with(known: &[bool], number: usize) -> bool
+    ensures { result ≡ slice_index_or known.now number false }
 {
-    match truths.get(&place) {
-        Some(truth) => *truth,
-        None => false,
+    if number < known.len() {
+        return known[number];
+    }
+    false
+}
+
+/// Whether the condition at a place holds, by the truths that are kept. It takes a logarithm of steps.
+pub(crate) fn holds(truths: &KnownTruths<'_>, place: u32) -> bool
+    requires rising { AreRising truths.now.places.now }
+    ensures { result ≡ found_in truths.now place }
+{
+    match truths.places.binary_search(&place) {
+        Ok(number) => truth_with(truths.known.as_slice(), number),
+        Err(_) => false,
     }
 }
 
@@ -44,12 +60,13 @@ fn truth(
     words: &[u64],
     place: u32,
     valuation: &Valuation<'_>,
-    truths: &IndexMap<u32, bool>,
+    truths: &KnownTruths<'_>,
 ) -> Result<bool, Memory>
     requires formed { IsWellFormed words.now }
     requires condition { IsTrue (is_place_of words.now class.Cond place) }
     requires valuation { IsValuation valuation.now }
-    requires parts { HaveTruths words.now valuation.now.listed.now (parts_at words.now place) truths.now.entries }
+    requires rising { AreRising truths.now.places.now }
+    requires parts { HaveTruths words.now valuation.now.listed.now (parts_at words.now place) (found_in truths.now) }
     ensures { IfOk result (λ b. b ≡ holds_at valuation.now.listed.now (condition_at words.now place)) }
 {
     match shape_at(words, place) {
@@ -63,21 +80,23 @@ fn truth(
 }
 
 /// Whether each of these conditions holds, whose parts come before it.
-pub(crate) fn truths(
+pub(crate) fn truths<'a>(
     alloc: Global,
     words: &[u64],
-    places: &[u32],
+    places: &'a [u32],
     valuation: &Valuation<'_>,
-) -> Result<IndexMap<u32, bool>, Memory>
+) -> Result<KnownTruths<'a>, Memory>
     requires formed { IsWellFormed words.now }
     requires places { ArePartsFirst words.now places.now }
     requires valuation { IsValuation valuation.now }
-    ensures { IfOk result (λ all. HaveTruths words.now valuation.now.listed.now places.now all.entries) }
+    ensures truths { IfOk result (λ all. HaveTruths words.now valuation.now.listed.now places.now (found_in all)) }
+    ensures rising { IfOk result (λ all. AreRising all.places.now) }
 {
-    let mut truths = IndexMap::new(alloc);
+    let known = Vec::with_capacity(alloc, places.len())?;
+    let mut truths = KnownTruths { places, known };
     for place in places {
         let truth = truth(alloc, words, *place, valuation, &truths)?;
-        truths.insert(*place, truth)?;
+        truths.known.push(truth)?;
     }
     Ok(truths)
 }

@@ -1,45 +1,50 @@
 // Worlds made so that conditions hold.
 
-ghost use Rattle.std.specs.Prelude.{◌≡◌, ◌<◌, ◌^◌, ℕ, true, length, nat_eq, All, IfOk, IfSome, IsTrue, Contains};
+ghost use Rattle.std.specs.Prelude.{◌≡◌, ◌<◌, ◌^◌, ℕ, true, length, All, IfOk, IfSome, IsTrue, Contains};
 ghost use Rattle.std.specs.List.{list_all};
-ghost use Rattle.std.specs.Map.{lookup};
 ghost use Rattle.ct_word.specs.declared.kinds.Class.TheVariants as class;
 ghost use Rattle.ct_word.specs.Condition.{holds_at};
 ghost use Rattle.ct_word.specs.Reading.{condition_at};
 ghost use Rattle.ct_word.specs.WellFormed.{IsWellFormed, is_place_of};
 ghost use Rattle.ct_worlds.specs.Below.{AreBelow};
 ghost use Rattle.ct_worlds.specs.Repaired.{Each, IsChanged, IsRepaired, IsWishBelow};
-ghost use Rattle.ct_worlds.specs.Truths.{is_true_at, ArePartsFirst, HaveTruths};
+ghost use Rattle.ct_worlds.specs.Truths.{found_in, AreRising, ArePartsFirst, HaveTruths};
 
 use crate::drafts::drawn;
 use crate::gathering::below;
-use crate::holding::{holds, truths};
+use crate::holding::{KnownTruths, holds, truths};
 use crate::valuation::valuation_of;
 use crate::wishing::{Wish, wishes};
 use ct_word::{Memory, World};
-use indexmap::IndexMap;
 use std::alloc::Global;
 
 /// The truths of conditions, each after its parts, in a world.
-fn truths_in(
+fn truths_in<'a>(
     alloc: Global,
     words: &[u64],
-    places: &[u32],
+    places: &'a [u32],
     world: &World,
-) -> Result<IndexMap<u32, bool>, Memory>
+) -> Result<KnownTruths<'a>, Memory>
     requires formed { IsWellFormed words.now }
     requires places { ArePartsFirst words.now places.now }
-    ensures { IfOk result (λ all. HaveTruths words.now world.now places.now all.entries) }
+    ensures truths { IfOk result (λ all. HaveTruths words.now world.now places.now (found_in all)) }
+    ensures rising { IfOk result (λ all. AreRising all.places.now) }
 {
     let valuation = valuation_of(alloc, world)?;
     truths(alloc, words, places, &valuation)
 }
 
 /// Whether all these conditions hold, by the truths that are kept.
-fn are_true(truths: &IndexMap<u32, bool>, conditions: &[u32]) -> bool
-    ensures { result ≡ list_all (λ c. is_true_at (lookup (nat_eq c) truths.now.entries)) conditions.now }
+fn are_true(truths: &KnownTruths<'_>, conditions: &[u32]) -> bool
+    requires rising { AreRising truths.now.places.now }
+    ensures { result ≡ list_all (found_in truths.now) conditions.now }
 {
-    conditions.iter().all(|condition| holds(truths, *condition))
+    for condition in conditions {
+        if !holds(truths, *condition) {
+            return false;
+        }
+    }
+    true
 }
 
 /// Whether conditions hold in a world, by the conditions below them.

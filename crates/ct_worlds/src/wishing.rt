@@ -4,8 +4,9 @@ ghost use Rattle.std.specs.Prelude.{◌≡◌, ◌<◌, length, All, IfOk, IfSom
 ghost use Rattle.ct_word.specs.WellFormed.{IsWellFormed};
 ghost use Rattle.ct_worlds.specs.Below.{AreBelow};
 ghost use Rattle.ct_worlds.specs.Repaired.{IsWishAt, IsWishBelow};
+ghost use Rattle.ct_worlds.specs.Truths.{AreRising};
 
-use crate::holding::holds;
+use crate::holding::{KnownTruths, holds};
 use crate::shape::{Shape, shape_at};
 use ct_word::{Connective, Memory};
 use indexmap::IndexMap;
@@ -29,12 +30,14 @@ fn want(wanted: &mut IndexMap<u32, bool>, place: u32, truth: bool) -> Result<(),
 
 /// Which of two conditions is to have a truth: one that has to have it, else one that has it, else one that may still get it.
 fn choice(
-    truths: &IndexMap<u32, bool>,
+    truths: &KnownTruths<'_>,
     wanted: &IndexMap<u32, bool>,
     first: u32,
     second: u32,
     truth: bool,
-) -> u32 {
+) -> u32
+    requires rising { AreRising truths.now.places.now }
+{
     match (wanted.get(&first).copied(), wanted.get(&second).copied()) {
         (Some(noted), None) => { if noted == truth { first } else { second } }
         (None, None) => {
@@ -53,10 +56,11 @@ fn choice(
 fn wish_at(
     words: &[u64],
     place: u32,
-    truths: &IndexMap<u32, bool>,
+    truths: &KnownTruths<'_>,
     wanted: &mut IndexMap<u32, bool>,
 ) -> Result<Option<Wish>, Memory>
-    requires { place < length words.now }
+    requires within { place < length words.now }
+    requires rising { AreRising truths.now.places.now }
     ensures { IfOk result (λ o. IfSome o (IsWishAt words.now place)) }
 {
     let Some(truth) = wanted.get(&place).copied() else {
@@ -108,10 +112,11 @@ pub(crate) fn wishes(
     words: &[u64],
     conditions: &[u32],
     places: &[u32],
-    truths: &IndexMap<u32, bool>,
+    truths: &KnownTruths<'_>,
 ) -> Result<Vec<Wish>, Memory>
     requires formed { IsWellFormed words.now }
     requires places { AreBelow words.now conditions.now places.now }
+    requires rising { AreRising truths.now.places.now }
     ensures { IfOk result (λ ws. All (IsWishBelow words.now conditions.now) ws.items) }
 {
     let mut wanted = want_all(alloc, conditions)?;

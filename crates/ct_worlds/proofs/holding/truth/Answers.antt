@@ -1,6 +1,6 @@
 use Rattle.std.{proofs.Common.{◌≡◌, ◌∙◌, not, ap, subst, sym}, specs.Prelude.IfOk}
 use Rattle.ct_word.specs.Connective.{join}
-use Rattle.ct_worlds.{specs.Shape.parts_of, specs.Truths.{HaveTruths}, proofs.Shaped.shaped_as, proofs.Kept.truth_is}
+use Rattle.ct_worlds.{specs.Shape.parts_of, specs.Truths.{HaveTruths, found_in}, proofs.Shaped.shaped_as, proofs.Kept.truth_is}
 use Rattle.ct_worlds.specs.declared.shape.Shape.TheVariants as shape
 use Rattle.ct_worlds.proofs.holding.truth.Goals as goal
 
@@ -14,16 +14,16 @@ pub returns-in-Literal : goal.returns-in-Literal
 returns-in-Literal c =
     let words = c.args.words.now in
     let v = c.args.valuation.now.listed.now in
-    truth_is words v c.args.place c.args.truths.now.entries (shape.Literal c.in-Literal.truth) (shaped_as words c.args.place c.requires.formed c.requires.condition c.shape_at.ensures c.in-Literal.is)
-    (subst (λ s. HaveTruths words v (parts_of s) c.args.truths.now.entries) (sym c.shape_at.ensures ∙ c.in-Literal.is) c.requires.parts)
+    truth_is words v c.args.place (found_in c.args.truths.now) (shape.Literal c.in-Literal.truth) (shaped_as words c.args.place c.requires.formed c.requires.condition c.shape_at.ensures c.in-Literal.is)
+    (subst (λ s. HaveTruths words v (parts_of s) (found_in c.args.truths.now)) (sym c.shape_at.ensures ∙ c.in-Literal.is) c.requires.parts)
 
 pub returns-in-Equal : goal.returns-in-Equal
 returns-in-Equal c =
     let words = c.args.words.now in
     let v = c.args.valuation.now.listed.now in
     subst (λ y. IfOk c.are_equal.result (λ b. b ≡ y))
-    (truth_is words v c.args.place c.args.truths.now.entries (shape.Equal c.in-Equal.a c.in-Equal.b) (shaped_as words c.args.place c.requires.formed c.requires.condition c.shape_at.ensures c.in-Equal.is)
-    (subst (λ s. HaveTruths words v (parts_of s) c.args.truths.now.entries) (sym c.shape_at.ensures ∙ c.in-Equal.is) c.requires.parts))
+    (truth_is words v c.args.place (found_in c.args.truths.now) (shape.Equal c.in-Equal.a c.in-Equal.b) (shaped_as words c.args.place c.requires.formed c.requires.condition c.shape_at.ensures c.in-Equal.is)
+    (subst (λ s. HaveTruths words v (parts_of s) (found_in c.args.truths.now)) (sym c.shape_at.ensures ∙ c.in-Equal.is) c.requires.parts))
     c.are_equal.ensures
 
 pub returns-in-Not : goal.returns-in-Not
@@ -31,13 +31,13 @@ returns-in-Not c =
     let words = c.args.words.now in
     let v = c.args.valuation.now.listed.now in
     ap not c.holds.ensures
-    ∙ truth_is words v c.args.place c.args.truths.now.entries (shape.Not c.in-Not.part) (shaped_as words c.args.place c.requires.formed c.requires.condition c.shape_at.ensures c.in-Not.is)
-    (subst (λ s. HaveTruths words v (parts_of s) c.args.truths.now.entries) (sym c.shape_at.ensures ∙ c.in-Not.is) c.requires.parts)
+    ∙ truth_is words v c.args.place (found_in c.args.truths.now) (shape.Not c.in-Not.part) (shaped_as words c.args.place c.requires.formed c.requires.condition c.shape_at.ensures c.in-Not.is)
+    (subst (λ s. HaveTruths words v (parts_of s) (found_in c.args.truths.now)) (sym c.shape_at.ensures ∙ c.in-Not.is) c.requires.parts)
 
 pub returns-in-Joined : goal.returns-in-Joined
 returns-in-Joined c =
     let words = c.args.words.now in
     let v = c.args.valuation.now.listed.now in
     c.join.ensures ∙ (λ i. join c.in-Joined.connective (c.holds-in-Joined.ensures i) (c.holds-in-Joined-2.ensures i))
-    ∙ truth_is words v c.args.place c.args.truths.now.entries (shape.Joined c.in-Joined.connective c.in-Joined.a c.in-Joined.b) (shaped_as words c.args.place c.requires.formed c.requires.condition c.shape_at.ensures c.in-Joined.is)
-    (subst (λ s. HaveTruths words v (parts_of s) c.args.truths.now.entries) (sym c.shape_at.ensures ∙ c.in-Joined.is) c.requires.parts)
+    ∙ truth_is words v c.args.place (found_in c.args.truths.now) (shape.Joined c.in-Joined.connective c.in-Joined.a c.in-Joined.b) (shaped_as words c.args.place c.requires.formed c.requires.condition c.shape_at.ensures c.in-Joined.is)
+    (subst (λ s. HaveTruths words v (parts_of s) (found_in c.args.truths.now)) (sym c.shape_at.ensures ∙ c.in-Joined.is) c.requires.parts)

@@ -4,8 +4,8 @@ use Rattle.ct_worlds.{specs.Repaired.{IsWishAt, IsWishBelow}, proofs.Drawing.wis
 use Rattle.ct_word.specs.declared.kinds.Class.TheVariants as class
 use Rattle.ct_worlds.proofs.wishing.wishes.Goals as goal
 
-pub wish_at-requires : goal.wish_at-requires
-wish_at-requires c =
+pub wish_at-requires-clause-within : goal.wish_at-requires-clause-within
+wish_at-requires-clause-within c =
     let test = c.loop-next-test.true in
     let within = c.loop-next.invariant.within in
     let at = c.loop-next.next - 1 in
