@@ -23,8 +23,8 @@ pub(crate) struct KnownTruths<'a> {
     pub(crate) known: Vec<bool>,
 }
 
-/// The truth with a number; false past the last one.
-fn truth_with(known: &[bool], number: usize) -> bool
+/// The truth of the condition whose place has a number; false past the last one.
+pub(crate) fn truth_with(known: &[bool], number: usize) -> bool
     ensures { result ≡ slice_index_or known.now number false }
 {
     if number < known.len() {

@@ -4,12 +4,10 @@ ghost use Rattle.std.specs.Prelude.{◌≡◌, ◌<◌, length, All, IfOk, IfSom
 ghost use Rattle.ct_word.specs.WellFormed.{IsWellFormed};
 ghost use Rattle.ct_worlds.specs.Below.{AreBelow};
 ghost use Rattle.ct_worlds.specs.Repaired.{IsWishAt, IsWishBelow};
-ghost use Rattle.ct_worlds.specs.Truths.{AreRising};
 
-use crate::holding::{KnownTruths, holds};
+use crate::holding::{KnownTruths, truth_with};
 use crate::shape::{Shape, shape_at};
 use ct_word::{Connective, Memory};
-use indexmap::IndexMap;
 use std::alloc::Global;
 
 /// An equality that has to be true, or false.
@@ -20,28 +18,44 @@ pub(crate) struct Wish {
     pub(crate) is_equal: bool,
 }
 
-/// Notes the truth that a condition has to have, unless one is noted.
-fn want(wanted: &mut IndexMap<u32, bool>, place: u32, truth: bool) -> Result<(), Memory> {
-    if wanted.get(&place).is_none() {
-        wanted.insert(place, truth)?;
+/// The number of the place of a condition; past the last one where it is not there.
+fn number_of(places: &[u32], place: u32) -> usize {
+    match places.binary_search(&place) {
+        Ok(number) => number,
+        Err(_) => places.len(),
     }
-    Ok(())
 }
 
-/// Which of two conditions is to have a truth: one that has to have it, else one that has it, else one that may still get it.
+/// The truth that the condition with a number has to have, if one is noted.
+fn noted(wanted: &Vec<Option<bool>>, number: usize) -> Option<bool> {
+    match wanted.get(number) {
+        Some(truth) => *truth,
+        None => None,
+    }
+}
+
+/// Notes the truth that the condition with a number has to have, unless one is noted.
+fn want(wanted: &mut Vec<Option<bool>>, number: usize, truth: bool) {
+    if let Some(noted) = wanted.get_mut(number) {
+        if noted.is_none() {
+            *noted = Some(truth);
+        }
+    }
+}
+
+/// Which of two conditions, by their numbers, is to have a truth: one that has to have it, else one that has it, else one that
+/// may still get it.
 fn choice(
-    truths: &KnownTruths<'_>,
-    wanted: &IndexMap<u32, bool>,
-    first: u32,
-    second: u32,
+    known: &[bool],
+    wanted: &Vec<Option<bool>>,
+    first: usize,
+    second: usize,
     truth: bool,
-) -> u32
-    requires rising { AreRising truths.now.places.now }
-{
-    match (wanted.get(&first).copied(), wanted.get(&second).copied()) {
+) -> usize {
+    match (noted(wanted, first), noted(wanted, second)) {
         (Some(noted), None) => { if noted == truth { first } else { second } }
         (None, None) => {
-            if holds(truths, first) != truth && holds(truths, second) == truth {
+            if truth_with(known, first) != truth && truth_with(known, second) == truth {
                 second
             } else {
                 first
@@ -52,41 +66,42 @@ fn choice(
     }
 }
 
-/// Notes which truths the parts of a condition have to have, and returns the wish where it is an equality.
+/// Notes which truths the parts of the condition at a place, which has this number, have to have, and returns the wish where it
+/// is an equality.
 fn wish_at(
     words: &[u64],
     place: u32,
+    number: usize,
     truths: &KnownTruths<'_>,
-    wanted: &mut IndexMap<u32, bool>,
-) -> Result<Option<Wish>, Memory>
-    requires within { place < length words.now }
-    requires rising { AreRising truths.now.places.now }
-    ensures { IfOk result (λ o. IfSome o (IsWishAt words.now place)) }
+    wanted: &mut Vec<Option<bool>>,
+) -> Option<Wish>
+    requires { place < length words.now }
+    ensures { IfSome result (IsWishAt words.now place) }
 {
-    let Some(truth) = wanted.get(&place).copied() else {
-        return Ok(None);
-    };
+    let truth = noted(wanted, number)?;
     match shape_at(words, place) {
         Shape::Literal(_) => (),
         Shape::Equal(left, right) => {
-            return Ok(Some(Wish {
+            return Some(Wish {
                 left,
                 right,
                 is_equal: truth,
-            }));
+            });
         }
-        Shape::Not(part) => want(wanted, part, !truth)?,
+        Shape::Not(part) => want(wanted, number_of(truths.places, part), !truth),
         Shape::Joined(connective, left, right) => {
+            let first = number_of(truths.places, left);
+            let second = number_of(truths.places, right);
             if needs_both(connective, truth) {
-                want(wanted, left, truth)?;
-                want(wanted, right, truth)?;
+                want(wanted, first, truth);
+                want(wanted, second, truth);
             } else {
-                let part = choice(truths, wanted, left, right, truth);
-                want(wanted, part, truth)?;
+                let part = choice(truths.known.as_slice(), wanted, first, second, truth);
+                want(wanted, part, truth);
             }
         }
     }
-    Ok(None)
+    None
 }
 
 /// Whether both parts have to have the truth of the whole.
@@ -97,11 +112,24 @@ fn needs_both(connective: Connective, truth: bool) -> bool {
     }
 }
 
-/// Notes that conditions have to be true.
-fn want_all(alloc: Global, conditions: &[u32]) -> Result<IndexMap<u32, bool>, Memory> {
-    let mut wanted = IndexMap::new(alloc);
+/// So many conditions of which no truth is noted.
+fn none_wanted(alloc: Global, count: usize) -> Result<Vec<Option<bool>>, Memory> {
+    let mut wanted = Vec::with_capacity(alloc, count)?;
+    for _ in 0..count {
+        wanted.push(None)?;
+    }
+    Ok(wanted)
+}
+
+/// Notes, of the conditions at some places, that these have to be true.
+fn want_all(
+    alloc: Global,
+    conditions: &[u32],
+    places: &[u32],
+) -> Result<Vec<Option<bool>>, Memory> {
+    let mut wanted = none_wanted(alloc, places.len())?;
     for condition in conditions {
-        want(&mut wanted, *condition, true)?;
+        want(&mut wanted, number_of(places, *condition), true);
     }
     Ok(wanted)
 }
@@ -116,15 +144,14 @@ pub(crate) fn wishes(
 ) -> Result<Vec<Wish>, Memory>
     requires formed { IsWellFormed words.now }
     requires places { AreBelow words.now conditions.now places.now }
-    requires rising { AreRising truths.now.places.now }
     ensures { IfOk result (λ ws. All (IsWishBelow words.now conditions.now) ws.items) }
 {
-    let mut wanted = want_all(alloc, conditions)?;
+    let mut wanted = want_all(alloc, conditions, places)?;
     let mut wishes = Vec::new(alloc);
     let mut next = places.len();
     while next > 0 {
         next -= 1;
-        if let Some(wish) = wish_at(words, places[next], truths, &mut wanted)? {
+        if let Some(wish) = wish_at(words, places[next], next, truths, &mut wanted) {
             wishes.push(wish)?;
         }
     }
