@@ -3,7 +3,7 @@
 ghost use Rattle.std.specs.Prelude.{◌≡◌, ◌⊎◌, ◌<◌, ◌^◌, All, Contains, IfOk, IfSome, IsTrue, OnOk, map};
 ghost use Rattle.ct_word.specs.declared.kinds.Class.TheVariants as class;
 ghost use Rattle.std.specs.List.{IsDistinct};
-ghost use Rattle.ct_word.specs.Value.{same_null};
+ghost use Rattle.ct_word.specs.Value.{other_zero, same_null};
 ghost use Rattle.ct_word.specs.declared.values.Value.{Value};
 ghost use Rattle.ct_word.specs.WellFormed.{IsWellFormed, is_place_of};
 ghost use Rattle.ct_worlds.specs.Repaired.{Adds, Each, IsAt, IsDrawn, IsNumbered, IsOf, IsOverTerms, IsValueOf};
@@ -21,6 +21,8 @@ pub(crate) struct Draft {
     /// The values that nulls may have, each with a number.
     values: IndexSet<Value>,
     classes: Classes,
+    /// The number of `@0`, once it is put in.
+    zero: Option<usize>,
     /// The least k for which `@k` was not yet tried as a new value.
     next: u32,
 }
@@ -63,6 +65,18 @@ fn value_number(draft: &mut Draft, value: Value) -> Result<usize, Memory>
     Ok(number)
 }
 
+/// The number of `@0`, which is put in where it is not there.
+fn zero_number(draft: &mut Draft) -> Result<usize, Memory>
+    ensures { OnOk result (Adds (λ x. x ≡ other_zero) draft.old.values.keys draft.new.values.keys) }
+{
+    if let Some(number) = draft.zero {
+        return Ok(number);
+    }
+    let number = value_number(draft, Value::Other(0))?;
+    draft.zero = Some(number);
+    Ok(number)
+}
+
 /// Puts in a null with its value, unless it is there.
 fn put_pair(draft: &mut Draft, pair: &(Null, Value)) -> Result<(), Memory>
     ensures { OnOk result (Adds (λ x. x ≡ pair.now.1) draft.old.values.keys draft.new.values.keys) }
@@ -91,7 +105,7 @@ fn side(alloc: Global, words: &[u64], place: u32, draft: &mut Draft) -> Result<S
     match term_at(alloc, words, place)? {
         Term::Value(value) => Ok(Side::Value(value_number(draft, value)?)),
         Term::Null(null) => {
-            let zero = value_number(draft, Value::Other(0))?;
+            let zero = zero_number(draft)?;
             Ok(Side::Null(null_number(draft, null, zero)?))
         }
         Term::Column(_) => Ok(Side::Value(value_number(draft, Value::Other(0))?)),
@@ -231,16 +245,19 @@ fn fulfil(alloc: Global, words: &[u64], wishes: &[Wish], draft: &mut Draft) -> R
     Ok(is_done)
 }
 
-/// A draft without nulls.
-fn blank(alloc: Global) -> Draft
-    ensures { (x : Value) → Contains result.values.keys x → ⊥ }
+/// A draft without nulls, with room for so many, and for as many values.
+fn blank(alloc: Global, count: usize) -> Result<Draft, Memory>
+    ensures { IfOk result (λ d. (x : Value) → Contains d.values.keys x → ⊥) }
 {
-    Draft {
-        nulls: IndexSet::new(alloc),
-        values: IndexSet::new(alloc),
+    let nulls = IndexSet::with_capacity(alloc, count)?;
+    let values = IndexSet::with_capacity(alloc, count)?;
+    Ok(Draft {
+        nulls,
+        values,
         classes: no_classes(alloc),
+        zero: None,
         next: 0,
-    }
+    })
 }
 
 /// A world like another one in which wishes come true; none where one cannot.
@@ -254,8 +271,9 @@ pub(crate) fn drawn(
     requires terms { All (IsOverTerms words.now) wishes.now }
     ensures { IfOk result (λ o. IfSome o (IsDrawn words.now wishes.now world.now)) }
 {
-    let mut draft = blank(alloc);
-    put_pairs(&mut draft, world.as_slice())?;
+    let pairs = world.as_slice();
+    let mut draft = blank(alloc, pairs.len().saturating_add(wishes.len()))?;
+    put_pairs(&mut draft, pairs)?;
     if !fulfil(alloc, words, wishes, &mut draft)? {
         return Ok(None);
     }

@@ -27,7 +27,7 @@ pub(crate) fn valuation_of(alloc: Global, world: &World) -> Result<Valuation<'_>
     ensures valuation { IfOk result IsValuation }
 {
     let listed = world.as_slice();
-    let mut numbers = IndexMap::new(alloc);
+    let mut numbers = IndexMap::with_capacity(alloc, listed.len())?;
     let mut next = listed.len();
     while next > 0 {
         next -= 1;

@@ -27,7 +27,7 @@ fn number_of(places: &[u32], place: u32) -> usize {
 }
 
 /// The truth that the condition with a number has to have, if one is noted.
-fn noted(wanted: &Vec<Option<bool>>, number: usize) -> Option<bool> {
+fn noted(wanted: &[Option<bool>], number: usize) -> Option<bool> {
     match wanted.get(number) {
         Some(truth) => *truth,
         None => None,
@@ -47,7 +47,7 @@ fn want(wanted: &mut Vec<Option<bool>>, number: usize, truth: bool) {
 /// may still get it.
 fn choice(
     known: &[bool],
-    wanted: &Vec<Option<bool>>,
+    wanted: &[Option<bool>],
     first: usize,
     second: usize,
     truth: bool,
@@ -78,7 +78,7 @@ fn wish_at(
     requires { place < length words.now }
     ensures { IfSome result (IsWishAt words.now place) }
 {
-    let truth = noted(wanted, number)?;
+    let truth = noted(wanted.as_slice(), number)?;
     match shape_at(words, place) {
         Shape::Literal(_) => (),
         Shape::Equal(left, right) => {
@@ -96,7 +96,13 @@ fn wish_at(
                 want(wanted, first, truth);
                 want(wanted, second, truth);
             } else {
-                let part = choice(truths.known.as_slice(), wanted, first, second, truth);
+                let part = choice(
+                    truths.known.as_slice(),
+                    wanted.as_slice(),
+                    first,
+                    second,
+                    truth,
+                );
                 want(wanted, part, truth);
             }
         }

@@ -10,7 +10,7 @@ returns-in_ok-value_number-in-Value c =
 pub returns-in_ok-null_number-in-Null : goal.returns-in_ok-null_number-in-Null
 returns-in_ok-null_number-in-Null c =
     subst (Adds (IsAt c.args.words.now c.args.place) c.args.draft.now.values.keys) (sym c.in_ok-null_number-in-Null.ensures)
-    (side_zero c.args.words.now c.args.place c.args.draft.now.values.keys c.value_number-in-Null.new.draft.values.keys c.in_ok-zero-in-Null.ensures)
+    (side_zero c.args.words.now c.args.place c.args.draft.now.values.keys c.zero_number.new.draft.values.keys c.in_ok-zero-in-Null.ensures)
 
 pub returns-in_ok-value_number-in-Column : goal.returns-in_ok-value_number-in-Column
 returns-in_ok-value_number-in-Column c =
