@@ -1,9 +1,9 @@
 -- The values of terms in a world.
-use Rattle.std.proofs.Common.{◌≡◌, ℕ, suc, ◌<◌, Bool, true, false, cond, List, [], ◌∷◌, length, drop, get_or, nat_eq, Option, Some, refl, ap, sym, subst, ◌∙◌, if◌then◌else◌}
-use Rattle.std.{specs.Prelude.{IsTrue}, specs.Map.lookup, proofs.Math.Seq.drop-cons, proofs.lemmas.Bool.{eqb-true, eq-eqb}, proofs.lemmas.Bool.Decides.same_from_decides, proofs.lemmas.Option.slice_get-get_or}
+use Rattle.std.proofs.Common.{◌≡◌, ℕ, suc, ◌<◌, Bool, true, false, cond, List, [], ◌∷◌, ◌++◌, length, drop, get_or, nat_eq, Option, Some, None, refl, ap, sym, subst, ◌∙◌, if◌then◌else◌}
+use Rattle.std.{specs.Prelude.{IsTrue, IfSome}, specs.Map.lookup, proofs.Math.Seq.drop-cons, proofs.lemmas.Bool.{eqb-true, eq-eqb}, proofs.lemmas.Bool.Decides.same_from_decides, proofs.lemmas.Option.slice_get-get_or, proofs.lemmas.List.Elements.All-push}
 use Rattle.ct_word.{specs.declared.values.Value.Value, specs.declared.values.Null.Null, specs.Value.{World, at, same_null, same_value, value_of_null}, specs.Reading.term_at}
 use Rattle.ct_word.{specs.WellFormed.{IsWellFormed, is_place_of}, proofs.Alike.value_decides, proofs.Constants.one_term}
-use Rattle.ct_worlds.specs.Valuation.{IsConstant, value_in, value_with, AreNumbers}
+use Rattle.ct_worlds.specs.Valuation.{IsConstant, IsRead, AreRead, value_in, value_with, AreNumbers}
 use Rattle.ct_word.specs.contracts.values.NullPartialEq.TheImpl as null_code
 use Rattle.ct_word.specs.declared.kinds.Class.TheVariants as class
 use Rattle.ct_word.specs.declared.values.Null.TheVariants as null
@@ -53,3 +53,7 @@ constants_same ws formed v s t es et cs ct =
 pub number_is : (listed v : World) (numbers : List (Null × ℕ)) (n : Null) (o : Option ℕ) → o ≡ lookup (null_code.ghosts.eq n) numbers → AreNumbers listed v numbers
     → value_with listed o ≡ value_of_null v n
 number_is listed v numbers n o e so_far = ap (value_with listed) (e ∙ (λ i. lookup (compared i n) numbers)) ∙ so_far n
+
+-- one more slot has no null
+pub reads_more : (words : List ℕ) (v : World) (reads more : List (Option (ℕ × ℕ))) → more ≡ reads ++ None ∷ [] → AreRead words v reads → AreRead words v more
+reads_more words v reads more is are = subst (AreRead words v) (sym is) (All-push (λ o. IfSome o (IsRead words v)) reads None are tt)

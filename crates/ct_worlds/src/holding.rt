@@ -8,9 +8,10 @@ ghost use Rattle.ct_word.specs.Reading.{condition_at};
 ghost use Rattle.ct_word.specs.WellFormed.{IsWellFormed, is_place_of};
 ghost use Rattle.ct_worlds.specs.Truths.{AreRising, ArePartsFirst, HaveTruths, found_in};
 ghost use Rattle.ct_worlds.specs.Shape.{parts_at};
-ghost use Rattle.ct_worlds.specs.Valuation.{IsValuation};
+ghost use Rattle.ct_worlds.specs.Valuation.{AreRead, IsValuation};
 
 use crate::gathering::below;
+use crate::reads::{Read, no_reads};
 use crate::shape::{Shape, shape_at};
 use crate::valuation::{Valuation, are_equal, valuation_of};
 use ct_word::{Connective, Memory, World};
@@ -61,17 +62,20 @@ fn truth(
     place: u32,
     valuation: &Valuation<'_>,
     truths: &KnownTruths<'_>,
+    reads: &mut Vec<Read>,
 ) -> Result<bool, Memory>
     requires formed { IsWellFormed words.now }
     requires condition { IsTrue (is_place_of words.now class.Cond place) }
     requires valuation { IsValuation valuation.now }
     requires rising { AreRising truths.now.places.now }
     requires parts { HaveTruths words.now valuation.now.listed.now (parts_at words.now place) (found_in truths.now) }
-    ensures { IfOk result (λ b. b ≡ holds_at valuation.now.listed.now (condition_at words.now place)) }
+    requires reads { AreRead words.now valuation.now.listed.now reads.old.items }
+    ensures reads { AreRead words.now valuation.now.listed.now reads.new.items }
+    ensures truth { IfOk result (λ b. b ≡ holds_at valuation.now.listed.now (condition_at words.now place)) }
 {
     match shape_at(words, place) {
         Shape::Literal(truth) => Ok(truth),
-        Shape::Equal(a, b) => are_equal(alloc, words, a, b, valuation),
+        Shape::Equal(a, b) => are_equal(alloc, words, a, b, valuation, reads),
         Shape::Not(part) => Ok(!holds(truths, part)),
         Shape::Joined(connective, a, b) => {
             Ok(join(connective, holds(truths, a), holds(truths, b)))
@@ -93,9 +97,10 @@ pub(crate) fn truths<'a>(
     ensures rising { IfOk result (λ all. AreRising all.places.now) }
 {
     let known = Vec::with_capacity(alloc, places.len())?;
+    let mut reads = no_reads(alloc, places.len())?;
     let mut truths = KnownTruths { places, known };
     for place in places {
-        let truth = truth(alloc, words, *place, valuation, &truths)?;
+        let truth = truth(alloc, words, *place, valuation, &truths, &mut reads)?;
         truths.known.push(truth)?;
     }
     Ok(truths)

@@ -6,6 +6,7 @@ mod classes;
 mod drafts;
 mod gathering;
 mod holding;
+mod reads;
 mod repairing;
 mod shape;
 mod valuation;

@@ -5,8 +5,9 @@ ghost use Rattle.ct_word.specs.declared.kinds.Class.TheVariants as class;
 ghost use Rattle.ct_word.specs.Reading.{term_at};
 ghost use Rattle.ct_word.specs.Value.{World, at, other_zero, same_value, value_of_null};
 ghost use Rattle.ct_word.specs.WellFormed.{IsWellFormed, is_place_of};
-ghost use Rattle.ct_worlds.specs.Valuation.{IsConstant, IsValuation, value_in};
+ghost use Rattle.ct_worlds.specs.Valuation.{AreRead, IsConstant, IsValuation, value_in};
 
+use crate::reads::{Read, note_read, number_read, slot_of};
 use ct_word::{Kind, Memory, Null, Term, Value, World, is_constant, term_at, word_at};
 use indexmap::IndexMap;
 use std::alloc::Global;
@@ -53,14 +54,14 @@ fn value_with<'a>(listed: &'a [(Null, Value)], zero: &'a Value, number: usize) -
     }
 }
 
-/// The value of a null.
-fn value_of_null<'a>(valuation: &'a Valuation<'_>, null: &Null) -> &'a Value
+/// The number of the first pair with a null; past the last one where there is none.
+fn number_of_null(valuation: &Valuation<'_>, null: &Null) -> usize
     requires { IsValuation valuation.now }
-    ensures { result.now ≡ value_of_null valuation.now.listed.now null.now }
+    ensures { value_in (slice_get valuation.now.listed.now result) ≡ value_of_null valuation.now.listed.now null.now }
 {
     match valuation.numbers.get(null) {
-        Some(number) => value_with(valuation.listed, &valuation.zero, *number),
-        None => &valuation.zero,
+        Some(number) => *number,
+        None => valuation.listed.len(),
     }
 }
 
@@ -70,18 +71,29 @@ fn value_at<'a>(
     words: &[u64],
     place: u32,
     valuation: &'a Valuation<'_>,
+    reads: &mut Vec<Read>,
 ) -> Result<Option<&'a Value>, Memory>
     requires formed { IsWellFormed words.now }
     requires term { IsTrue (is_place_of words.now class.Term place) }
     requires valuation { IsValuation valuation.now }
-    ensures { IfOk result (λ o. MatchOption o (IsConstant (term_at words.now place)) (λ x. x.now ≡ at valuation.now.listed.now [] (term_at words.now place))) }
+    requires reads { AreRead words.now valuation.now.listed.now reads.old.items }
+    ensures reads { AreRead words.now valuation.now.listed.now reads.new.items }
+    ensures value { IfOk result (λ o. MatchOption o (IsConstant (term_at words.now place)) (λ x. x.now ≡ at valuation.now.listed.now [] (term_at words.now place))) }
 {
     // A text constant, which may be long, is not read.
     if is_constant(words, place) {
         return Ok(None);
     }
+    let slot = slot_of(reads.len(), place);
+    if let Some(number) = number_read(reads.as_slice(), slot, place) {
+        return Ok(Some(value_with(valuation.listed, &valuation.zero, number)));
+    }
     match term_at(alloc, words, place)? {
-        Term::Null(null) => Ok(Some(value_of_null(valuation, &null))),
+        Term::Null(null) => {
+            let number = number_of_null(valuation, &null);
+            note_read(reads, slot, place, number);
+            Ok(Some(value_with(valuation.listed, &valuation.zero, number)))
+        }
         Term::Column(_) => Ok(Some(&valuation.zero)),
         Term::Value(_) => Ok(None),
     }
@@ -123,15 +135,18 @@ pub(crate) fn are_equal(
     a: u32,
     b: u32,
     valuation: &Valuation<'_>,
+    reads: &mut Vec<Read>,
 ) -> Result<bool, Memory>
     requires formed { IsWellFormed words.now }
     requires first { IsTrue (is_place_of words.now class.Term a) }
     requires second { IsTrue (is_place_of words.now class.Term b) }
     requires valuation { IsValuation valuation.now }
-    ensures { IfOk result (λ is. is ≡ same_value (at valuation.now.listed.now [] (term_at words.now a)) (at valuation.now.listed.now [] (term_at words.now b))) }
+    requires reads { AreRead words.now valuation.now.listed.now reads.old.items }
+    ensures reads { AreRead words.now valuation.now.listed.now reads.new.items }
+    ensures value { IfOk result (λ is. is ≡ same_value (at valuation.now.listed.now [] (term_at words.now a)) (at valuation.now.listed.now [] (term_at words.now b))) }
 {
-    let first = value_at(alloc, words, a, valuation)?;
-    let second = value_at(alloc, words, b, valuation)?;
+    let first = value_at(alloc, words, a, valuation, reads)?;
+    let second = value_at(alloc, words, b, valuation, reads)?;
     match (first, second) {
         (Some(x), Some(y)) => Ok(are_same(x, y)),
         (Some(x), None) => has_value(alloc, words, b, x),

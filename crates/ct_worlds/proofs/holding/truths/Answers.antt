@@ -15,9 +15,10 @@ loop-place-preserved c =
     let truth = c.in_ok-truth.truth in
     record {
       truths = truths_more c.args.words.now c.args.valuation.now.listed.now c.args.places.now c.loop-place.truths.places.now c.loop-place.place-index known c.push.new.self.items truth
-          c.requires.places.rising c.loop-place.invariant.places c.loop-place-test.true c.loop-place.invariant.long c.in_ok-truth.ensures c.in_ok-push.ensures.items
+          c.requires.places.rising c.loop-place.invariant.places c.loop-place-test.true c.loop-place.invariant.long c.in_ok-truth.ensures.truth c.in_ok-push.ensures.items
           c.loop-place.invariant.truths;
       places = c.loop-place.invariant.places;
+      reads = c.in_ok-truth.ensures.reads;
       long = omega (arith, ap length c.in_ok-push.ensures.items, length_push known truth, c.loop-place.invariant.long);
     }
 
