@@ -9,6 +9,7 @@ ghost use Rattle.ct_word.specs.WellFormed.{IsWellFormed, is_place_of};
 ghost use Rattle.ct_worlds.specs.Repaired.{Adds, Each, IsAt, IsDrawn, IsNumbered, IsOf, IsOverTerms, IsValueOf};
 
 use crate::classes::{Classes, Side, no_classes};
+use crate::reads::slot_of;
 use crate::wishing::Wish;
 use ct_word::{List, Memory, Null, Term, Value, World, term_at};
 use indexmap::IndexSet;
@@ -112,6 +113,40 @@ fn side(alloc: Global, words: &[u64], place: u32, draft: &mut Draft) -> Result<S
     }
 }
 
+/// What the term at a place is in a draft, by the terms that were noted. Nothing rests on what is noted.
+fn side_of(
+    alloc: Global,
+    words: &[u64],
+    place: u32,
+    draft: &mut Draft,
+    sides: &mut Vec<Option<(u32, Side)>>,
+) -> Result<Side, Memory>
+    requires formed { IsWellFormed words.now }
+    requires term { IsTrue (is_place_of words.now class.Term place) }
+    ensures { OnOk result (Adds (IsAt words.now place) draft.old.values.keys draft.new.values.keys) }
+{
+    let slot = slot_of(sides.len(), place);
+    if let Some(Some((own, side))) = sides.get(slot).copied() {
+        if own == place {
+            return Ok(side);
+        }
+    }
+    let side = side(alloc, words, place, draft)?;
+    if let Some(noted) = sides.get_mut(slot) {
+        *noted = Some((place, side));
+    }
+    Ok(side)
+}
+
+/// So many slots, of which none has a term.
+fn no_sides(alloc: Global, count: usize) -> Result<Vec<Option<(u32, Side)>>, Memory> {
+    let mut sides = Vec::with_capacity(alloc, count)?;
+    for _ in 0..count {
+        sides.push(None)?;
+    }
+    Ok(sides)
+}
+
 /// What the terms of equalities are in a draft.
 fn links(
     alloc: Global,
@@ -123,10 +158,11 @@ fn links(
     requires terms { All (IsOverTerms words.now) wishes.now }
     ensures { OnOk result (Adds (IsOf words.now wishes.now) draft.old.values.keys draft.new.values.keys) }
 {
-    let mut links = Vec::new(alloc);
+    let mut sides = no_sides(alloc, wishes.len())?;
+    let mut links = Vec::with_capacity(alloc, wishes.len())?;
     for wish in wishes {
-        let first = side(alloc, words, wish.left, draft)?;
-        let second = side(alloc, words, wish.right, draft)?;
+        let first = side_of(alloc, words, wish.left, draft, &mut sides)?;
+        let second = side_of(alloc, words, wish.right, draft, &mut sides)?;
         let is_equal = wish.is_equal;
         links.push(Link {
             first,
@@ -222,7 +258,7 @@ fn pairs_of(alloc: Global, draft: &Draft) -> Result<Vec<(Null, Value)>, Memory>
     ensures values { IfOk result (λ ps. Each (λ p. Contains draft.now.values.keys p.1 ⊎ IsNumbered p.1) ps.items) }
 {
     let nulls = draft.nulls.as_slice();
-    let mut pairs = Vec::new(alloc);
+    let mut pairs = Vec::with_capacity(alloc, nulls.len())?;
     for (at, null) in nulls.iter().enumerate() {
         let value = value_with(&draft.values, draft.classes.number(at))?;
         pairs.push((null.clone()?, value))?;

@@ -10,5 +10,5 @@ pub loop-wish-preserved : goal.loop-wish-preserved
 loop-wish-preserved c =
     let wishes = c.args.wishes.now in
     let at = c.loop-wish.wish-index in
-    links_more c.args.words.now wishes (get_or wishes at none) c.args.draft.now.values.keys c.loop-wish.draft.values.keys c.side.new.draft.values.keys c.side-in-loop-wish.new.draft.values.keys
+    links_more c.args.words.now wishes (get_or wishes at none) c.args.draft.now.values.keys c.loop-wish.draft.values.keys c.side_of.new.draft.values.keys c.side_of-in-loop-wish.new.draft.values.keys
     (Contains-get_or wishes at none c.loop-wish-test.true) c.loop-wish.invariant c.in_ok-first.ensures c.in_ok-second.ensures
