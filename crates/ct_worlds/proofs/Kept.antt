@@ -31,7 +31,7 @@ rest_rises : (p : ℕ) (ps : List ℕ) → AreRising (p ∷ ps) → AreRising ps
 rest_rises p ps up i j d lt within = up (suc i) (suc j) d (omega (arith, lt)) (omega (arith, within))
 
 -- the truth beside one of the places
-found_at : (ps : List ℕ) (bs : List Bool) (i q : ℕ) → AreRising ps → i < length ps → get_or ps i 0 ≡ q → found ps bs q ≡ get_or bs i false
+pub found_at : (ps : List ℕ) (bs : List Bool) (i q : ℕ) → AreRising ps → i < length ps → get_or ps i 0 ≡ q → found ps bs q ≡ get_or bs i false
 found_at [] bs i q up lt e = absurd (omega (arith, lt))
 found_at (p ∷ ps) [] i q up lt e = refl
 found_at (p ∷ ps) (b ∷ bs) zero q up lt e = ap (λ t. cond t b (found ps bs q)) (eq-eqb p q e)

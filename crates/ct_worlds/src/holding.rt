@@ -1,6 +1,6 @@
 // The truth of conditions in a world.
 
-ghost use Rattle.std.specs.Prelude.{◌≡◌, ◌<◌, ℕ, length, slice_index_or, false, IfOk, IsTrue};
+ghost use Rattle.std.specs.Prelude.{◌≡◌, ◌<◌, ℕ, length, slice_index_or, false, IfOk, IfSome, IsTrue};
 ghost use Rattle.ct_word.specs.declared.kinds.Class.TheVariants as class;
 ghost use Rattle.ct_word.specs.Condition.{holds_at};
 ghost use Rattle.ct_word.specs.Connective.{join};
@@ -34,11 +34,27 @@ pub(crate) fn truth_with(known: &[bool], number: usize) -> bool
     false
 }
 
-/// Whether the condition at a place holds, by the truths that are kept. It takes a logarithm of steps.
+/// The number of a place if it is one of the two before this number, as the parts of a condition mostly are.
+fn number_near(places: &[u32], number: usize, place: u32) -> Option<usize>
+    ensures { IfSome result (λ k. (k < length places.now) × (slice_index_or places.now k 0 ≡ place)) }
+{
+    if number > 0 && number <= places.len() && places[number - 1] == place {
+        return Some(number - 1);
+    }
+    if number > 1 && number <= places.len() && places[number - 2] == place {
+        return Some(number - 2);
+    }
+    None
+}
+
+/// Whether the condition at a place holds, by the truths that are kept. It takes a logarithm of steps at most.
 pub(crate) fn holds(truths: &KnownTruths<'_>, place: u32) -> bool
     requires rising { AreRising truths.now.places.now }
     ensures { result ≡ found_in truths.now place }
 {
+    if let Some(near) = number_near(truths.places, truths.known.len(), place) {
+        return truth_with(truths.known.as_slice(), near);
+    }
     match truths.places.binary_search(&place) {
         Ok(number) => truth_with(truths.known.as_slice(), number),
         Err(_) => false,
