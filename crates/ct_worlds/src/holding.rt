@@ -35,7 +35,7 @@ pub(crate) fn truth_with(known: &[bool], number: usize) -> bool
 }
 
 /// The number of a place if it is one of the two before this number, as the parts of a condition mostly are.
-fn number_near(places: &[u32], number: usize, place: u32) -> Option<usize>
+pub(crate) fn number_near(places: &[u32], number: usize, place: u32) -> Option<usize>
     ensures { IfSome result (λ k. (k < length places.now) × (slice_index_or places.now k 0 ≡ place)) }
 {
     if number > 0 && number <= places.len() && places[number - 1] == place {

@@ -5,7 +5,7 @@ ghost use Rattle.ct_word.specs.WellFormed.{IsWellFormed};
 ghost use Rattle.ct_worlds.specs.Below.{AreBelow};
 ghost use Rattle.ct_worlds.specs.Repaired.{IsWishAt, IsWishBelow};
 
-use crate::holding::{KnownTruths, truth_with};
+use crate::holding::{KnownTruths, number_near, truth_with};
 use crate::shape::{Shape, shape_at};
 use ct_word::{Connective, Memory};
 use std::alloc::Global;
@@ -18,8 +18,11 @@ pub(crate) struct Wish {
     pub(crate) is_equal: bool,
 }
 
-/// The number of the place of a condition; past the last one where it is not there.
-fn number_of(places: &[u32], place: u32) -> usize {
+/// The number of the place of a condition, mostly one of the two before this number; past the last one where it is not there.
+fn number_of(places: &[u32], number: usize, place: u32) -> usize {
+    if let Some(near) = number_near(places, number, place) {
+        return near;
+    }
     match places.binary_search(&place) {
         Ok(number) => number,
         Err(_) => places.len(),
@@ -88,10 +91,10 @@ fn wish_at(
                 is_equal: truth,
             });
         }
-        Shape::Not(part) => want(wanted, number_of(truths.places, part), !truth),
+        Shape::Not(part) => want(wanted, number_of(truths.places, number, part), !truth),
         Shape::Joined(connective, left, right) => {
-            let first = number_of(truths.places, left);
-            let second = number_of(truths.places, right);
+            let first = number_of(truths.places, number, left);
+            let second = number_of(truths.places, number, right);
             if needs_both(connective, truth) {
                 want(wanted, first, truth);
                 want(wanted, second, truth);
@@ -135,7 +138,11 @@ fn want_all(
 ) -> Result<Vec<Option<bool>>, Memory> {
     let mut wanted = none_wanted(alloc, places.len())?;
     for condition in conditions {
-        want(&mut wanted, number_of(places, *condition), true);
+        want(
+            &mut wanted,
+            number_of(places, places.len(), *condition),
+            true,
+        );
     }
     Ok(wanted)
 }
