@@ -7,6 +7,8 @@ are. A column `$1` stands only in a condition that a deletion of the history nam
 Conditions may nest deep, so no function here calls itself.
 """
 
+import collections
+
 
 def is_null(term):
     """Tells whether a term is a null."""
@@ -152,7 +154,7 @@ def between(parts, word, is_inner):
     return [("(", False), *found[1:], (")", False)] if is_inner else found[1:]
 
 
-def hanging(nodes, truth, worth=lambda term: term):
+def masks(nodes, truth, worth):
     """Returns the nulls of the open nodes, and for each node a number with one bit for each of these nulls: those that the
     node has. Numbers, since a node has the bits of all nodes below it, and may be deep."""
     bits, found = {}, []
@@ -166,3 +168,15 @@ def hanging(nodes, truth, worth=lambda term: term):
                 has |= found[place]
         found.append(has)
     return list(bits), found
+
+
+def hanging(nodes, places, truth, worth=lambda term: term):
+    """Returns how many of the conditions at these places each null is in, where that is any."""
+    nulls, has = masks(nodes, truth, worth)
+    found = collections.Counter()
+    for bits, count in collections.Counter(has[place] for place in places).items():
+        while bits:
+            lowest = bits & -bits
+            found[nulls[lowest.bit_length() - 1]] += count
+            bits -= lowest
+    return found

@@ -39,8 +39,8 @@ class Row:
 
 class Reply:
     """A reply: the number of its statement, what its first line says behind that, and the lines that were not read. An
-    answer has a kind, `rows`, `possible` or `certain`, its columns, the nodes of its conditions with the names of some of
-    them, the place of what stands behind `worlds where`, or None, and its rows."""
+    answer has a kind, `rows`, `possible` or `certain`, its columns, the nodes of its conditions, the names of some of them
+    and the lines that say what they are, the place of what stands behind `worlds where`, or None, and its rows."""
 
     def __init__(self, number, head):
         self.number = number
@@ -48,6 +48,7 @@ class Reply:
         self.odd = []
         self.is_cut = False
         self.nodes, self.names = [], {}
+        self.definitions = []
         self.allowed, self.allowed_text = None, ""
         self.rows = []
         found = ANSWER.fullmatch(head)
@@ -68,6 +69,7 @@ class Commit:
         self.lines = []
         self.odd = []
         self.nodes, self.names = [], {}
+        self.definitions = []
         self.asserted = []
 
 
@@ -265,6 +267,7 @@ def read_name(part, line):
     place = reader.condition()
     reader.end()
     part.names[place] = found[1]
+    part.definitions.append(line.strip(" "))
     return True
 
 

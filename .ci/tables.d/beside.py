@@ -4,20 +4,17 @@ import importlib.machinery
 import importlib.util
 import os
 import random
-import sys
 
-sys.dont_write_bytecode = True
+import conditions
+import printed
+import transcript
+from meaning import FURTHER, database_of, holds, leaves, relevant, rows, tables_of, tuple_at
+from pages import Page
+from reading import PRINTED, Reader, statement, statements, tokens
+from session import Session
+from terminal import visible
+
 ROOT = os.path.dirname(os.path.dirname(os.path.dirname(os.path.realpath(__file__))))
-sys.path[:0] = [os.path.join(ROOT, ".ci", "worlds.d"), os.path.join(ROOT, "tools")]
-
-import conditions  # noqa: E402
-import printed  # noqa: E402
-import transcript  # noqa: E402
-from meaning import FURTHER, database_of, holds, leaves, relevant, rows, tables_of, tuple_at  # noqa: E402
-from pages import Page  # noqa: E402
-from reading import PRINTED, Reader, statement, statements, tokens  # noqa: E402
-from session import Session  # noqa: E402
-from terminal import visible  # noqa: E402
 
 # So many worlds are tried of an answer, where so many of so many that are drawn are admitted.
 WORLDS = 3
@@ -103,8 +100,7 @@ class Known:
         shown = table.Shown(reply)
         shown.fill_in(reply)
         texts = [(row, shown.condition(place, reply.names)) for row, place in shown.rows]
-        names = {name: shown.text(place, reply.names) for place, name in reply.names.items() if shown.truth[place] is None}
-        self.named = {name: condition(text) for name, text in names.items()}
+        self.named = question.named
         self.rows = [(cells(row), condition(text) if text else ("true",)) for row, text in texts]
         self.known = shown.known
         self.question = question
@@ -123,6 +119,9 @@ class Known:
 def wrong_text(reply):
     """Returns where the conditions of an answer, read and written again, are others than those that are printed."""
     shown = table.Shown(reply)
+    names = [f"{name} is {shown.text(place, reply.names)}" for place, name in reply.names.items()]
+    if names != reply.definitions:
+        return f"{reply.definitions} are written as {names}"
     for row in reply.rows:
         if shown.condition(row.place, reply.names) != row.text:
             return f"{row.text} is written as {shown.condition(row.place, reply.names)}"
