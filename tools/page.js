@@ -67,6 +67,8 @@ function openNulls(asserted, world) {
 // ---- the page ----
 
 const WORDS = new Map([[true, "always"], [null, "sometimes"], [false, "never"]]);
+// So many choosers stand open at most.
+const CHOOSERS = 60;
 const MARKS = { always: "\u25cf", sometimes: "\u25d0", never: "\u25cb" };
 
 class Page {
@@ -81,8 +83,23 @@ class Page {
       if (!this.cells.has(number)) this.cells.set(number, []);
       this.cells.get(number).push(cell);
     }
-    this.choosers = data.nulls.map((one, number) => this.chooser(one, number));
+    // Those nulls come first on which the most rows hang. The choosers of the others are made once they are looked for.
+    this.choosers = [];
+    const first = data.nulls.findIndex((one, number) => one.rows === 0 || number === CHOOSERS);
+    this.makeChoosers("choosers", first < 0 ? data.nulls.length : first);
+    document.getElementById("more").hidden = this.choosers.length === data.nulls.length;
+    document.getElementById("fixed").hidden = data.nulls.every((one) => one.fixed === null);
     this.listen();
+  }
+
+  // Makes the choosers of the nulls up to a number, which have none so far.
+  makeChoosers(place, end) {
+    const made = document.createDocumentFragment();
+    while (this.choosers.length < end) {
+      const number = this.choosers.length;
+      made.append(this.chooser(this.data.nulls[number], number));
+    }
+    document.getElementById(place).append(made);
   }
 
   // Makes the chooser of a null.
@@ -93,6 +110,8 @@ class Page {
     const select = document.createElement("select");
     select.append(new Option("open", ""));
     for (const [value, text] of one.values) select.append(new Option(text, value));
+    select.value = this.world[number] || "";
+    this.choosers.push(select);
     select.addEventListener("change", () => this.choose([[number, select.value || null]]));
     label.append(name, select);
     if (one.fixed !== null) {
@@ -100,8 +119,7 @@ class Page {
       note.textContent = "asserted: " + this.text(one, one.fixed);
       label.append(note);
     }
-    document.getElementById(one.rows > 0 ? "choosers" : "others").append(label);
-    return select;
+    return label;
   }
 
   // The text that is shown for a value.
@@ -119,9 +137,10 @@ class Page {
       button.hidden = false;
       button.addEventListener("click", () => all((one) => world.get(one.name) || "@0"));
     }
+    document.getElementById("more").addEventListener("toggle", () => this.makeChoosers("others", this.data.nulls.length));
     // What is closed would not be printed.
     addEventListener("beforeprint", () => {
-      for (const part of document.querySelectorAll("details")) part.open = true;
+      for (const part of document.querySelectorAll("main details")) part.open = true;
     });
     addEventListener("hashchange", () => this.read());
   }
@@ -131,7 +150,7 @@ class Page {
     for (const [number, value] of values) {
       if (this.world[number] === value) continue;
       this.world[number] = value;
-      this.choosers[number].value = value || "";
+      if (number < this.choosers.length) this.choosers[number].value = value || "";
       this.fill(number);
     }
     this.data.answers.forEach((answer, k) => this.show(answer, k));
@@ -195,7 +214,7 @@ class Page {
     const line = document.getElementById("verdict");
     const { asserted, nulls } = this.data;
     if (asserted.places.length === 0) {
-      line.textContent = "Nothing is asserted that can fail: every world is admitted.";
+      line.textContent = "The history asserts nothing that can fail: it admits every world.";
       return;
     }
     const admitted = admits(asserted, this.world);

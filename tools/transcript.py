@@ -26,6 +26,11 @@ class Unread(Exception):
     """A line is none of a transcript."""
 
 
+def counted(rows):
+    """Returns a number of rows in words."""
+    return "no row" if rows == 0 else "1 row" if rows == 1 else f"{rows} rows"
+
+
 class Row:
     """A row of an answer: its cells as they are printed, the place of its condition or None, the text behind `if` or `in`,
     and for a possible row its world, as nulls with their values."""
@@ -54,6 +59,13 @@ class Reply:
         found = ANSWER.fullmatch(head)
         self.kind = found[1] if found else None
         self.columns = found[2].split(", ") if found else []
+
+    def summary_of_list(self):
+        """Returns the line below an answer with possible rows or with certain rows."""
+        if not self.rows:
+            return "no rows"
+        where = "in some world" if self.kind == "possible" else "in every world"
+        return f"{counted(len(self.rows))}, {'each ' * (len(self.rows) > 1)}{where}"
 
     def is_refusal(self):
         """Tells whether the statement was refused."""

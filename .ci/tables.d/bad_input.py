@@ -105,7 +105,7 @@ def hostile():
 
 ELEMENTS = set(
     "html head meta title style body header h1 p code noscript section button div details summary main h2 h3 ol li br pre "
-    "article table thead tr th tbody td bdi script".split()
+    "article table thead tr th tbody td bdi span script".split()
 )
 
 
