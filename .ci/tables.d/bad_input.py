@@ -144,6 +144,26 @@ def long():
     return None
 
 
+# Rows that have the same cells once ?x = 1 is put in, and what is then shown of them.
+MERGED = ["(?x) if ?y = 1", "(1) if ?z = 2", "(2) if ?y = 1", "(?x, 1)", "(2)", "(3) if ?x = 1 and ?z = 2"]
+MERGED_SHOWN = """   a | if
+  ---+------------------
+   1 | ?y = 1 or ?z = 2
+   2 |
+   3 | ?z = 2
+  1 row always, 2 under a condition (?z in 2, ?y in 1); 2 rows the same as another
+  not read:   (?x, 1)"""
+
+
+def merged():
+    """Rows that have the same cells once nulls are known, and a row that has too many."""
+    found = transcript.read(answer(MERGED, "a", "worlds where ?w = 1 and (?w = 2 or ?x = ?w)"))
+    shown = "\n".join(lines(found, known=True))
+    if "  known: ?w = 1, ?x = 1\n" + MERGED_SHOWN not in shown:
+        return f"rows that are the same: {shown}"
+    return None
+
+
 def cut(path):
     """A transcript that is cut at any place: what stands before is shown, and that it is cut."""
     text = read(path)
@@ -278,7 +298,7 @@ CUT = ["examples/suppliers.out", "tests/texts.out", "tests/assertions_merged.out
 
 def tried():
     """Tries everything. Returns how many trials there are, and the faults."""
-    found = [one() for one in (hostile, many, deep, long, widths, statuses)]
+    found = [one() for one in (hostile, many, deep, long, merged, widths, statuses)]
     found += [one(path) for one in (cut, damaged, partial) for path in CUT]
     found += list(map(shown, SHOWN))
     return len(found), [fault for fault in found if fault]

@@ -65,18 +65,21 @@ class Question:
         return found[:WORLDS] + (found[-1:] if found[-1][1] is None else [])
 
 
-def questions(path):
-    """Gives the queries of a script that have an answer with conditions, with what they see."""
+def followed(path):
+    """Returns the queries of a script that have an answer with conditions, with what they see, and the assertions of all its
+    commits."""
     session, script, text = Session(), read(path), read(path.removesuffix(".sql") + ".out")
     (lines,), _ = printed.parts(text)
-    found = transcript.read(text)
-    for number, (one, reply) in enumerate(zip(statements(script), found.sessions[0].replies), 1):
+    replies = transcript.read(text).sessions[0].replies
+    found = []
+    for number, (one, reply) in enumerate(zip(statements(script), replies), 1):
         if reply.is_refusal():
             continue
         tree = statement(one)
         session.due(tree)
         if reply.kind == "rows":
-            yield Question(tree[1], session.changes(), reply, lines[number])
+            found.append(Question(tree[1], session.changes(), reply, lines[number]))
+    return found, relevant(sum(session.commits, []), [])
 
 
 def condition(text):
@@ -164,17 +167,17 @@ class Compared:
         self.answers = [i for i, kind in enumerate(kinds) if kind == "rows"]
         chance = random.Random(path)
         self.cases = []
-        for answer, question in zip(self.answers, questions(path)):
+        questions, self.asserted = followed(path)
+        if len(questions) != len(self.answers):
+            self.faults.append(f"{path}: {len(self.answers)} answers, and {len(questions)} questions")
+        for answer, question in zip(self.answers, questions):
             worlds = question.worlds(chance)
             self.compare_table(question, worlds)
             self.cases += [(answer, question, world, database) for world, database in worlds]
-        if found.sessions and [reply for reply in found.sessions[0].replies if reply.kind == "rows"] and not self.cases:
-            self.fault("no question", None)
 
     def fault(self, said, reply):
         """Takes note of a fault."""
-        where = f", reply {reply.number}" if reply else ""
-        self.faults.append(f"{self.path}{where}: {said}")
+        self.faults.append(f"{self.path}, reply {reply.number}: {said}")
 
     def compare_table(self, question, worlds):
         """Compares what tools/table shows of an answer."""
@@ -199,6 +202,9 @@ class Compared:
             shown = self.page.rows[f"answer-{answer}"]
             if wrong := wrong_rows(question, world, database, one, shown, self.nulls):
                 self.fault(f"{wrong} at {world}", question.reply)
+            # A null that the question does not name is worth @0.
+            if one["all"] != (database_of(self.asserted, world) is not None):
+                self.fault(f"the page says otherwise whether the history admits {world}", question.reply)
 
 
 def wrong_statements(path):
