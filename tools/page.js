@@ -213,14 +213,15 @@ class Page {
   verdict() {
     const line = document.getElementById("verdict");
     const { asserted, nulls } = this.data;
+    const far = asserted.isWhole ? "" : ", as far as the transcript goes";
     if (asserted.places.length === 0) {
-      line.textContent = "The history asserts nothing that can fail: it admits every world.";
+      line.textContent = `The history asserts nothing that can fail: it admits every world${far}`;
       return;
     }
     const admitted = admits(asserted, this.world);
     const open = admitted === null ? openNulls(asserted, this.world).map((number) => nulls[number].name) : [];
     const names = open.length > 5 ? `${open.slice(0, 5).join(", ")} and ${open.length - 5} more` : open.join(", ");
-    line.textContent = this.sentence(admitted, "what is chosen") + (names ? `: ${names}` : "");
+    line.textContent = this.sentence(admitted, "what is chosen") + far + (names ? `: ${names}` : "");
     line.className = "verdict " + WORDS.get(admitted);
   }
 
