@@ -12,7 +12,7 @@ use Rattle.ct_arena.{specs.declared.tally.Tally.Tally, specs.Counts.commit_of, s
 use Rattle.ct_history.{specs.declared.written.Written.Written, specs.Written.{IsWritten, plain_written}}
 use Rattle.ct_table.{specs.Denotes.Denotes, specs.Snapshot.{IsGlobal, IsKeptWorld, commits_to, IsSnapshot}, proofs.Snapshots.{kept_grows, snapshot_of_all}}
 use Rattle.ct_keeper.{specs.declared.catalogue.Offer.Offer, specs.declared.latest.Latest.Latest, specs.Latest.IsLatest, specs.Writers.last_in}
-use Rattle.ct_keeper.{specs.Offers.{IsOffer, Leaves, IsUnchanged}, specs.Steps.{IsMade, CanApply, is_assertion}, proofs.Noting.asserted_same}
+use Rattle.ct_keeper.{specs.Offers.{IsOffer, Leaves, IsUnchanged, kept_in}, specs.Steps.{IsMade, CanApply, is_assertion}, proofs.Noting.asserted_same}
 use mathlib.Core.List.{IsPrefix}
 use Rattle.ct_query.specs.declared.action.Read.TheVariants as read
 
@@ -109,21 +109,21 @@ module _ (old : List ℕ) (guest : Tally) (offer : Offer) (changes : List Writte
         record { admitted = quiet_admits (arc_value l.kept) h c free ∙ subst (λ g. IsTrue (admits (arc_value l.kept) g [])) whole was.admitted; values = was.values }
 
     -- with one it is that of the offer, which stood at its base
-    kept_offered : Leaves (pass_of guest old) offer → IsKeptWorld old (h ++ c ∷ []) [] offer.kept
+    kept_offered : Leaves (pass_of guest old) offer → IsKeptWorld old (h ++ c ∷ []) [] (kept_in offer)
     kept_offered left =
-        let with_commit = commit_admits offer.kept base since (read_older read.Worlds left.reads) c in
+        let with_commit = commit_admits (kept_in offer) base since (read_older read.Worlds left.reads) c in
         record {
-          admitted = subst (λ g. IsTrue (admits offer.kept (g ++ c ∷ []) [])) all (with_commit ∙ left.world.admitted);
+          admitted = subst (λ g. IsTrue (admits (kept_in offer) (g ++ c ∷ []) [])) all (with_commit ∙ left.world.admitted);
           values = left.world.values;
         }
 
-    kept_next : (b : Bool) → list_any is_assertion changes ≡ b → IsKeptWorld old (h ++ c ∷ []) [] (if b then offer.kept else arc_value l.kept)
+    kept_next : (b : Bool) → list_any is_assertion changes ≡ b → IsKeptWorld old (h ++ c ∷ []) [] (if b then kept_in offer else arc_value l.kept)
     kept_next true e = kept_offered (is.leaves (ap (list_any (λ x. writes x read.Worlds)) (sym same) ∙ asserted_same old changes ∙ e))
     kept_next false e = kept_stays (ap (list_any (λ x. writes x read.Worlds)) (sym same) ∙ asserted_same old changes ∙ e)
 
     -- after the commit
     module _ (new : List ℕ) (longer : IsPrefix old new) (formed : IsWellFormed new) (commits : commits_of new ≡ h ++ c ∷ []) (next : Latest)
-        (made : IsMade new h (map (plain_written old) changes) next.content) (kept : arc_value next.kept ≡ (if list_any is_assertion changes then offer.kept else arc_value l.kept))
+        (made : IsMade new h (map (plain_written old) changes) next.content) (kept : arc_value next.kept ≡ (if list_any is_assertion changes then kept_in offer else arc_value l.kept))
         (version : next.version ≡ l.version + 1)
         (noted : (r : Read) → last_in next.writers r ≡ (if list_any (λ x. writes x r) (map (plain_written old) changes) then next.version else last_in l.writers r)) where
       pub latest_next : IsLatest new next

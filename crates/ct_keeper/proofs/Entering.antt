@@ -8,7 +8,7 @@ use Rattle.ct_arena.specs.Seen.{Seen, tally_of, pass_of}
 use Rattle.ct_table.{specs.Snapshot.{IsKeptWorld, commits_to}, proofs.Snapshots.kept_grows}
 use Rattle.ct_keeper.{specs.declared.catalogue.Offer.Offer, specs.declared.catalogue.Outcome.Outcome, specs.declared.error.KeeperError.KeeperError}
 use Rattle.ct_keeper.{specs.Bounds.{commit_words, offer_words}, specs.Catalogue.{Catalogue, Stays}, proofs.Interning.prefix_short}
-use Rattle.ct_keeper.specs.Offers.{changes_in, commit_for, has_assertion, IsOffer, AreUnchanged, IsUnchanged, IsCommitted, IsUncommitted, IsConflict, BecomesOf}
+use Rattle.ct_keeper.specs.Offers.{changes_in, commit_for, has_assertion, IsOffer, AreUnchanged, IsUnchanged, IsCommitted, IsUncommitted, IsConflict, BecomesOf, kept_in}
 use mathlib.Core.List.{IsPrefix}
 use Rattle.ct_word.specs.declared.kinds.Class.TheVariants as class
 use Rattle.ct_keeper.specs.declared.catalogue.Outcome.TheVariants as outcome
@@ -39,9 +39,9 @@ module _ (pass : Seen) (words : List ℕ) (longer : IsPrefix pass.words words) (
     leaves = λ has. let left = is.leaves (subst has_assertion same_list has) in record {
       reads = left.reads;
       world =
-          subst (λ h. IsKeptWorld words (h ++ commit_for entered offer ∷ []) [] offer.kept) (sym same_base)
-          (subst (λ c. IsKeptWorld words (commits_to pass.words offer.base ++ c ∷ []) [] offer.kept) (sym same_commit)
-          (kept_grows pass.words words longer formed (commits_to pass.words offer.base ++ commit_for pass offer ∷ []) [] offer.kept left.world));
+          subst (λ h. IsKeptWorld words (h ++ commit_for entered offer ∷ []) [] (kept_in offer)) (sym same_base)
+          (subst (λ c. IsKeptWorld words (commits_to pass.words offer.base ++ c ∷ []) [] (kept_in offer)) (sym same_commit)
+          (kept_grows pass.words words longer formed (commits_to pass.words offer.base ++ commit_for pass offer ∷ []) [] (kept_in offer) left.world));
     };
   }
 

@@ -1,11 +1,13 @@
 -- Which offers a keeper takes, and what becomes of one.
-use Rattle.std.specs.Prelude.{◌≡◌, ◌≢◌, ℕ, ◌+◌, ◌<◌, ◌≤◌, List, [], ◌∷◌, ◌++◌, length, take, All, IsTrue, Result, Ok, Err}
+use Rattle.std.specs.Prelude.{◌≡◌, ◌≢◌, ℕ, ◌+◌, ◌<◌, ◌≤◌, List, [], ◌∷◌, ◌++◌, Option, Some, None, length, option_map, take, All, IsTrue, Result, Ok, Err}
 use Rattle.std.specs.List.{Contains, list_all, list_any}
+use Rattle.std.specs.Arc.{arc_value}
 use mathlib.Core.List.{IsPrefix}
 use Rattle.ct_word.specs.declared.kinds.Class.TheVariants as class
 use Rattle.ct_word.specs.Change.{PlainChange, PlainCommit}
 use Rattle.ct_word.specs.Reading.{commits_of, change_list_at}
 use Rattle.ct_word.specs.WellFormed.{is_place_of}
+use Rattle.ct_word.specs.Value.{World}
 use Rattle.ct_word.specs.Writable.{is_writable}
 use Rattle.ct_query.specs.declared.action.Read.{Read}
 use Rattle.ct_query.specs.declared.action.Read.TheVariants as read
@@ -22,6 +24,15 @@ use Rattle.ct_keeper.specs.declared.error.KeeperError.{KeeperError}
 use Rattle.ct_keeper.specs.declared.error.KeeperError.TheVariants as fault
 use Rattle.ct_keeper.specs.Catalogue.{Catalogue, Stays, version_of}
 
+-- a world that may be there; the one without pairs where there is none
+abbrev pub world_in : Option World → World
+world_in None = []
+world_in (Some world) = world
+
+-- the world of an offer
+abbrev pub kept_in : Offer → World
+kept_in offer = world_in (option_map arc_value offer.kept)
+
 -- the changes of an offer
 abbrev pub changes_in : List ℕ → Offer → List PlainChange
 changes_in words offer = change_list_at words offer.changes
@@ -37,7 +48,7 @@ has_assertion xs = IsTrue (list_any (λ x. writes x read.Worlds) xs)
 -- what is asked of an offer with an assertion: it read the worlds, and some world, which it has, is left
 pub record Leaves (pass : Seen) (offer : Offer) : Type 0 where
   pub reads : Contains offer.reads read.Worlds
-  pub world : IsKeptWorld pass.words (commits_to pass.words offer.base ++ commit_for pass offer ∷ []) [] offer.kept
+  pub world : IsKeptWorld pass.words (commits_to pass.words offer.base ++ commit_for pass offer ∷ []) [] (kept_in offer)
 
 -- what is asked of an offer: its base is a version that the session has seen, its changes fit the tables there one after
 -- another and can be written, it read the name of each table that it creates, and where it has an assertion a world is left

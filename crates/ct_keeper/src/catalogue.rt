@@ -17,13 +17,14 @@ pub struct Snapshot {
 }
 
 /// What a session offers to commit: the version that it saw, what it read there, the place of its change list, and,
-/// where the list has an assertion, a world that the commits up to that version and the changes admit.
+/// where the list has an assertion, a world that the commits up to that version and the changes admit. Where it has none,
+/// no world need be there.
 #[derive(Drop)]
 pub struct Offer {
     pub base: u32,
     pub reads: List<Read>,
     pub changes: u32,
-    pub kept: World,
+    pub kept: Option<Arc<World, Global>>,
 }
 
 /// What became of an offer.

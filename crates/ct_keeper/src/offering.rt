@@ -14,7 +14,7 @@ ghost use Rattle.ct_keeper.specs.Bounds.{all_words, offer_words};
 ghost use Rattle.ct_keeper.specs.Conflicting.{told_or};
 ghost use Rattle.ct_keeper.specs.Faults.{is_full};
 ghost use Rattle.ct_keeper.specs.Latest.{IsLatest, catalogue_of};
-ghost use Rattle.ct_keeper.specs.Offers.{IsOffer, IsUnchanged, BecomesOf};
+ghost use Rattle.ct_keeper.specs.Offers.{IsOffer, IsUnchanged, BecomesOf, kept_in};
 ghost use Rattle.ct_keeper.specs.Steps.{Interns, Appends, is_assertion};
 ghost use Rattle.ct_keeper.specs.Writers.{is_written};
 
@@ -27,27 +27,29 @@ use crate::verdict::Verdict;
 use crate::writers::{asserts, written_names};
 use ct_arena::{Arena, Guest, KeeperPass, Site};
 use ct_history::Written;
-use ct_word::{Memory, Text, World};
+use ct_word::{List, Memory, Text, World};
 use std::alloc::Global;
 use std::sync::Arc;
 
 /// The world that is kept after a commit of these changes: the one that is offered where an assertion is among them, else
-/// the one that was kept.
+/// the one that was kept. It is not copied. An offer without a world stands for the one without pairs.
 ///
 /// # Errors
 /// `Memory` where there is none for it.
 fn next_kept(
     alloc: Global,
     kept: &Arc<World, Global>,
-    offered: &World,
+    offer: &Offer,
     changes: &[Written],
 ) -> Result<Arc<World, Global>, Memory>
-    ensures { IfOk result (λ next. next.value ≡ (if list_any is_assertion changes.now then offered.now else kept.now.value)) }
+    ensures { IfOk result (λ next. next.value ≡ (if list_any is_assertion changes.now then kept_in offer.now else kept.now.value)) }
 {
-    if asserts(changes) {
-        Ok(Arc::new(alloc, offered.clone()?)?)
-    } else {
-        Ok(Arc::try_clone(kept)?)
+    if !asserts(changes) {
+        return Ok(Arc::try_clone(kept)?);
+    }
+    match &offer.kept {
+        Some(world) => Ok(Arc::try_clone(world)?),
+        None => Ok(Arc::new(alloc, List::new(alloc))?),
     }
 }
 
@@ -83,7 +85,7 @@ fn commit_offer<N: Site>(
 {
     // There are fewer commits than words.
     let _ = keeper.words();
-    let kept = next_kept(alloc, &latest.kept, &offer.kept, changes)?;
+    let kept = next_kept(alloc, &latest.kept, offer, changes)?;
     let content = &mut latest.content;
     commit_all(alloc, arena, keeper, guest, content, changes, offer.changes)?;
     latest.kept = kept;

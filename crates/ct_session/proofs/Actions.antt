@@ -2,13 +2,13 @@
 use Rattle.std.{proofs.Common.{◌≡◌, ℕ, Bool, true, false, ◌&&◌, List, [], ◌∷◌, ◌++◌, refl, ap, sym, subst, ◌∙◌}, specs.Arc.arc_value}
 use Rattle.std.{specs.Prelude.{Option, Some, None, IsTrue, IsSome, Ok}, specs.List.{AllByRecursion, Contains, list_all}, proofs.lemmas.Bool.false≢true}
 use Rattle.std.{proofs.lemmas.List.append-nil, proofs.lemmas.List.Elements.{All-from_recursion, recursion_from_All, All-contains_itself}}
-use Rattle.ct_word.{specs.Value.World, specs.Condition.Condition, specs.Change.{PlainChange, Assert, PlainCommit}, specs.Reading.change_list_at}
+use Rattle.ct_word.{specs.Condition.Condition, specs.Change.{PlainChange, Assert, PlainCommit}, specs.Reading.change_list_at}
 use Rattle.ct_word.specs.Writable.{is_writable}
 use Rattle.ct_query.{specs.Agrees.{AgreesWith, Agrees}, specs.Fits.FitChanges, specs.Frame.{creates, reads_of_actions}, specs.Reads.{action_reads, reads_of}}
 use Rattle.ct_query.{specs.Plain.{PlainAction, PlainStatement}, specs.Schema.schema, specs.Views.action_of, specs.declared.action.Read.Read}
 use Rattle.ct_query.proofs.Committed.{commit_does}
 use Rattle.ct_arena.specs.Seen.{Seen}
-use Rattle.ct_keeper.{specs.Offers.{IsOffer, commit_for, has_assertion}, specs.declared.catalogue.Offer.Offer}
+use Rattle.ct_keeper.{specs.Offers.{IsOffer, commit_for, has_assertion, kept_in}, specs.declared.catalogue.Offer.Offer}
 use Rattle.ct_table.specs.Snapshot.{IsKeptWorld}
 use Rattle.ct_parse.specs.declared.tree.Statement.{Statement}
 use Rattle.ct_resolve.specs.Statements.{resolved}
@@ -73,9 +73,9 @@ module _ (pass : Seen) (fresh : ℕ) (sight : Sight) (sees : IsSight pass.words 
   left_by None some is = absurd (false≢true some)
   left_by (Some s) some is = subst (λ before. IsKeptWorld pass.words h (before ++ action ∷ []) (world_offered (arc_value sight.kept) (Some s))) none is.world
 
-  module _ (kept : World) (same : kept ≡ world_offered (arc_value sight.kept) step) where
+  module _ (like : Offer) (same : kept_in like ≡ world_offered (arc_value sight.kept) step) where
     abbrev offered : Offer
-    offered = record { base = sight.version; reads = reads; changes = proposal.changes; kept = kept }
+    offered = record { base = sight.version; reads = reads; changes = proposal.changes; kept = like.kept }
 
     -- the keeper takes it
     action_offer : IsOffer pass offered
@@ -97,7 +97,7 @@ module _ (pass : Seen) (fresh : ℕ) (sight : Sight) (sees : IsSight pass.words 
           };
     }
 
-    pub ready_to_offer : IsReadyToOffer pass fresh (record { offer = record { base = sight.version; reads = reads; changes = proposal.changes; kept = kept }; fresh = proposal.fresh }) st
+    pub ready_to_offer : IsReadyToOffer pass fresh (record { offer = record { base = sight.version; reads = reads; changes = proposal.changes; kept = like.kept }; fresh = proposal.fresh }) st
     ready_to_offer = record {
       action = action;
       change = f.change.proposes.change;

@@ -1,6 +1,7 @@
 -- Actions whose change is all in their text.
 use Rattle.std.{proofs.Common.{◌≡◌, ◌+◌, ℕ, true, List, [], ap, sym, subst, ◌∙◌}, specs.Prelude.None, proofs.lemmas.Bool.false≢true}
-use Rattle.ct_word.{specs.Value.World, specs.WellFormed.IsWellFormed}
+use Rattle.ct_keeper.{specs.Offers.kept_in, specs.declared.catalogue.Offer.Offer}
+use Rattle.ct_word.specs.WellFormed.{IsWellFormed}
 use Rattle.ct_arena.specs.Seen.{Seen}
 use Rattle.ct_history.{specs.Encodes.IsEncodable, specs.Kept.kept_of}
 use Rattle.ct_parse.specs.declared.tree.Statement.{Statement}
@@ -31,14 +32,14 @@ module _ (begun now : Seen) (longer : IsPrefix begun.words now.words) (same : ke
       })))
 
   -- it is no assertion, so no step is needed for its offer
-  pub literal_ready : IsWellFormed now.words → (p : Proposal) (reads : List Read) (kept : World) → kept ≡ [] → reads ≡ reads_of (plain.Act a) → action_of p.action ≡ a → p.fresh ≡ fresh + drawn a
+  pub literal_ready : IsWellFormed now.words → (p : Proposal) (reads : List Read) (like : Offer) → kept_in like ≡ [] → reads ≡ reads_of (plain.Act a) → action_of p.action ≡ a → p.fresh ≡ fresh + drawn a
       → IsProposal now.words (history_of begun.words f.sight) (actions_before f.sight) [] a p.changes
-      → IsReadyToOffer now fresh (record { offer = record { base = base; reads = reads; changes = p.changes; kept = kept }; fresh = p.fresh }) st
-  literal_ready formed p reads kept empty reads_are is draws proposes =
-      subst (λ b. IsReadyToOffer now fresh (record { offer = record { base = b; reads = reads; changes = p.changes; kept = kept }; fresh = p.fresh }) st) (sym f.base_is)
+      → IsReadyToOffer now fresh (record { offer = record { base = base; reads = reads; changes = p.changes; kept = like.kept }; fresh = p.fresh }) st
+  literal_ready formed p reads like empty reads_are is draws proposes =
+      subst (λ b. IsReadyToOffer now fresh (record { offer = record { base = b; reads = reads; changes = p.changes; kept = like.kept }; fresh = p.fresh }) st) (sym f.base_is)
       (ready_to_offer now fresh f.sight (sight_grows begun.words now.words longer f.sight formed f.sees.sight) f.sees.none st p None reads
       (prepared_on begun now longer same f.sight f.sees.sight.within f.sees.none fresh st (prepared.Change p None reads) (record {
         asked = plain.Act a;
         resolves = f.found.resolves;
         prepared = (record { action = is; proposes = proposes; draws = draws; steps = tt }, reads_are);
-      })) (λ c asserts. absurd (false≢true (ap is_literal (sym asserts ∙ is) ∙ literal))) kept empty)
+      })) (λ c asserts. absurd (false≢true (ap is_literal (sym asserts ∙ is) ∙ literal))) like empty)

@@ -2,14 +2,14 @@
 use Rattle.std.{proofs.Common.{◌≡◌, ℕ, ◌<◌, List, [], ◌∷◌, ◌++◌, length, refl, ap, sym, subst, ◌∙◌, arith}, specs.Prelude.{Some, IsTrue, All}}
 use Rattle.std.{specs.Arc.arc_value, specs.List.{AllByRecursion, Contains, list_all}, proofs.lemmas.Bool.false≢true}
 use Rattle.std.proofs.lemmas.List.Elements.{All-from_recursion, recursion_from_All}
-use Rattle.ct_word.{specs.Value.World, specs.Change.{PlainChange, Create, Assert, PlainCommit}, specs.Reading.change_list_at, specs.WellFormed.is_place_of}
+use Rattle.ct_word.{specs.Change.{PlainChange, Create, Assert, PlainCommit}, specs.Reading.change_list_at, specs.WellFormed.is_place_of}
 use Rattle.ct_word.specs.Writable.{is_writable}
 use Rattle.ct_query.{specs.Plain.PlainAction, specs.declared.action.Read.Read, specs.Agrees.{AgreesWith, AgreesAfter, Agrees}, specs.Fits.FitAfter}
 use Rattle.ct_query.{specs.Frame.{creates, reads_of_actions}, specs.Reads.action_reads, specs.Worlds.admits, proofs.Committed.commit_does}
 use Rattle.ct_query.proofs.Within.{all_parts}
 use Rattle.ct_arena.specs.Seen.{Seen}
 use Rattle.ct_table.specs.Snapshot.{IsKeptValue}
-use Rattle.ct_keeper.{specs.Offers.{IsOffer, commit_for, has_assertion}, specs.declared.catalogue.Offer.Offer}
+use Rattle.ct_keeper.{specs.Offers.{IsOffer, commit_for, has_assertion, kept_in}, specs.declared.catalogue.Offer.Offer}
 use Rattle.ct_statement.{specs.declared.sight.Sight.Sight, specs.Proposals.listed, specs.Sight.{actions_before, history_of, IsSight}}
 use Rattle.ct_session.{specs.declared.session.Open.Open, specs.Sessions.{IsBegunList, IsOpen}}
 use Rattle.ct_word.specs.declared.kinds.Class.TheVariants as class
@@ -71,9 +71,9 @@ is_begun words o changes e open' = record {
 }
 
 -- its offer is one that the keeper takes
-pub is_offer : (pass : Seen) (sight : Sight) (changes : ℕ) (reads : List Read) (kept : World) → IsBegun pass.words sight changes reads → kept ≡ arc_value sight.kept
-    → IsOffer pass (record { base = sight.version; reads = reads; changes = changes; kept = kept })
-is_offer pass sight changes reads kept b same =
+pub is_offer : (pass : Seen) (sight : Sight) (changes : ℕ) (reads : List Read) (like : Offer) → IsBegun pass.words sight changes reads → kept_in like ≡ arc_value sight.kept
+    → IsOffer pass (record { base = sight.version; reads = reads; changes = changes; kept = like.kept })
+is_offer pass sight changes reads like b same =
     let h = history_of pass.words sight in
     let actions = actions_before sight in
     let xs = change_list_at pass.words changes in
@@ -87,10 +87,10 @@ is_offer pass sight changes reads kept b same =
       leaves = λ some. record {
         reads = asserts_read h (Contains reads) [] actions xs b.agrees all some;
         world = record {
-          admitted = sym ((commit_does h actions (commit_for pass offered) b.agrees).admitted kept) ∙ subst (λ v. IsTrue (admits v h actions)) (sym same) b.sight_is.world.admitted;
+          admitted = sym ((commit_does h actions (commit_for pass offered) b.agrees).admitted (kept_in like)) ∙ subst (λ v. IsTrue (admits v h actions)) (sym same) b.sight_is.world.admitted;
           values = subst (λ v. All (λ p. IsKeptValue pass.words p.1) v) (sym same) b.sight_is.world.values;
         };
       };
     } where
       offered : Offer
-      offered = record { base = sight.version; reads = reads; changes = changes; kept = kept }
+      offered = record { base = sight.version; reads = reads; changes = changes; kept = like.kept }

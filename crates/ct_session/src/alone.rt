@@ -127,7 +127,7 @@ fn asked<N: Site>(
     if is_literal_act(&found) {
         let base = sight.version;
         known.note(sight, statement);
-        let offering = literal_offer(alloc, arena, pass, fresh, base, found, reads, statement);
+        let offering = literal_offer(arena, pass, fresh, base, found, reads, statement);
         let _now = pass.words();
         match offering {
             Ok(offering) => Ok(Ready::Offer(offering)),

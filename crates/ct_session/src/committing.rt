@@ -6,7 +6,6 @@ ghost use Rattle.ct_session.specs.Executes.{Executes};
 ghost use Rattle.ct_session.specs.Outcomes.{open_after, outcome_reply, outcome_version};
 ghost use Rattle.ct_session.specs.Sessions.{IsSession, state_of};
 
-use crate::offering::copied;
 use crate::session::{Open, State};
 use crate::within::refused;
 use ct_arena::{Pass, Site};
@@ -14,7 +13,7 @@ use ct_keeper::{KeeperError, Offer, Outcome, Server};
 use ct_parse::Statement;
 use ct_transcript::{Refusal, Reply};
 use std::alloc::Global;
-use std::sync::Wait;
+use std::sync::{Arc, Wait};
 
 /// The reply to an offer with this base, and the version that it carries. Want of memory rests on no version, so it
 /// stands at the one that was seen before.
@@ -86,7 +85,7 @@ fn offered<N: Site, R: Wait>(
     ensures executes { Executes N.log.cap (state_of pass seen fresh (Some transaction)) (state_of result.0.pass result.0.seen result.0.fresh result.0.transaction) pass.words result.0.pass.words statement.now result.1 }
 {
     let _words = pass.words();
-    let Ok(kept) = copied(alloc, &transaction.sight.kept) else {
+    let Ok(kept) = Arc::try_clone(&transaction.sight.kept) else {
         return refused(pass, seen, fresh, transaction, statement, Refusal::Memory);
     };
     let Open {
@@ -99,7 +98,7 @@ fn offered<N: Site, R: Wait>(
         base,
         reads,
         changes,
-        kept,
+        kept: Some(kept),
     };
     let (pass, outcome) = server.commit(rt, alloc, pass, &offer);
     let _now = pass.words();

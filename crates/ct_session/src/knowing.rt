@@ -102,7 +102,7 @@ fn ready_known<N: Site>(
         return None;
     }
     let base = sight.version;
-    literal_offer(alloc, arena, pass, fresh, base, found, reads, statement).ok()
+    literal_offer(arena, pass, fresh, base, found, reads, statement).ok()
 }
 
 /// Commits an insertion of written rows by what an earlier one saw, where that is known and has its names. It reads

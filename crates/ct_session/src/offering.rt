@@ -2,9 +2,11 @@
 //
 // A pass's words are read, here and there, for what their type keeps: that they are well formed, and few.
 
-ghost use Rattle.std.specs.Prelude.{◌≡◌, true, [], IfOk, IfErr};
+ghost use Rattle.std.specs.Prelude.{◌≡◌, true, [], IfOk, IfErr, option_map};
+ghost use Rattle.std.specs.Arc.{arc_value};
 ghost use mathlib.Core.List.{IsPrefix};
 ghost use Rattle.ct_history.specs.Kept.{kept_of};
+ghost use Rattle.ct_keeper.specs.Offers.{world_in};
 ghost use Rattle.ct_query.specs.Reads.{reads_of};
 ghost use Rattle.ct_query.specs.Views.{statement_of};
 ghost use Rattle.ct_table.specs.Snapshot.{commits_to};
@@ -18,8 +20,9 @@ use ct_parse::Statement;
 use ct_query::{Read, Resolved};
 use ct_statement::{Proposal, Sight, Step, is_literal, propose_literal};
 use ct_transcript::Refusal;
-use ct_word::{List, Memory, Null, Value, World};
+use ct_word::{List, Memory, World};
 use std::alloc::Global;
+use std::sync::Arc;
 
 /// An offer, with the number of the session's last null once it is committed.
 #[derive(Drop)]
@@ -29,7 +32,12 @@ pub struct Offering {
 }
 
 /// A proposed action as it is offered, on the version that its statement saw, with what it reads and this world.
-pub(crate) fn offering_of(base: u32, proposal: Proposal, reads: List<Read>, kept: World) -> Offering
+pub(crate) fn offering_of(
+    base: u32,
+    proposal: Proposal,
+    reads: List<Read>,
+    kept: Option<Arc<World, Global>>,
+) -> Offering
     ensures { result ≡ record { offer = record { base = base; reads = reads; changes = proposal.changes; kept = kept }; fresh = proposal.fresh } }
 {
     let Proposal {
@@ -47,38 +55,26 @@ pub(crate) fn offering_of(base: u32, proposal: Proposal, reads: List<Read>, kept
     Offering { offer, fresh }
 }
 
-/// A copy of a world.
+/// The world that the offer of an action has: the kept one after its step; where no step was made, none. It is shared, and
+/// not copied.
 ///
 /// # Errors
-/// `Memory` where there is none for it.
-pub(crate) fn copied(alloc: Global, world: &World) -> Result<World, Memory>
-    ensures { IfOk result (λ copy. copy ≡ world.now) }
+/// `Memory` where there is none to share it.
+pub(crate) fn world_of(
+    alloc: Global,
+    sight: &Sight,
+    step: Option<Step>,
+) -> Result<Option<Arc<World, Global>>, Memory>
+    ensures { IfOk result (λ world. world_in (option_map arc_value world) ≡ world_offered sight.now.kept.value step) }
 {
-    let mut pairs: Vec<(Null, Value)> = Vec::new(alloc);
-    for (null, value) in world.as_slice() {
-        pairs.push((null.clone()?, value.clone()?))?;
-    }
-    Ok(List::from_vec(pairs))
-}
-
-/// The world that the offer of an action has: the kept one after its step; where no step was made, the one that lists
-/// nothing.
-///
-/// # Errors
-/// `Memory` where there is none for a copy.
-pub(crate) fn world_of(alloc: Global, sight: &Sight, step: Option<Step>) -> Result<World, Memory>
-    ensures { IfOk result (λ world. world ≡ world_offered sight.now.kept.value step) }
-{
-    match step {
-        None => Ok(List::new(alloc)),
-        Some(step) => {
-            let Step { effect, kept } = step;
-            drop(effect);
-            match kept {
-                Some(world) => Ok(world),
-                None => copied(alloc, &sight.kept),
-            }
-        }
+    let Some(step) = step else {
+        return Ok(None);
+    };
+    let Step { effect, kept } = step;
+    drop(effect);
+    match kept {
+        Some(world) => Ok(Some(Arc::new(alloc, world)?)),
+        None => Ok(Some(Arc::try_clone(&sight.kept)?)),
     }
 }
 
@@ -98,7 +94,6 @@ pub(crate) fn is_literal_act(resolved: &Resolved) -> bool
 /// # Errors
 /// `Full` where the log has no room, `Memory`.
 pub(crate) fn literal_offer<N: Site>(
-    alloc: Global,
     arena: &Arena<N>,
     pass: &mut Pass<N>,
     fresh: u32,
@@ -130,7 +125,7 @@ pub(crate) fn literal_offer<N: Site>(
     let proposed = propose_literal(arena, pass, fresh, action);
     let _now = pass.words();
     match proposed {
-        Ok(proposal) => Ok(offering_of(base, proposal, reads, List::new(alloc))),
+        Ok(proposal) => Ok(offering_of(base, proposal, reads, None)),
         Err(why) => Err(why),
     }
 }

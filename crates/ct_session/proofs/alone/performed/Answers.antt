@@ -35,7 +35,7 @@ returns-in-Ok-clause-ok g c =
             asked = statement_of c.args.found;
             resolves = c.requires.resolved.resolves;
             prepared = subst (λ p. IsPreparedFor now.words (history_of begun.words s) (actions_before s) [] c.args.fresh s (statement_of c.args.found) p) done.field-0-is done.ensures.ok;
-          })) (subst (needs_step false) done.field-0-is done.ensures.steps) c.in-Ok.kept c.in-Ok.ensures,
+          })) (subst (needs_step false) done.field-0-is done.ensures.steps) (record { base = s.version; reads = done.reads; changes = done.proposal.changes; kept = c.in-Ok.kept }) c.in-Ok.ensures,
     )
 
 pub returns-in-Err-world_of-clause-err : goal.returns-in-Err-world_of-clause-err

@@ -10,7 +10,7 @@ refused-requires-clause-refused g c = wanting_memory
 pub commit-pass-requires-clause-offer : goal.commit-pass-requires-clause-offer
 commit-pass-requires-clause-offer g c =
     let o = c.args.transaction in
-    is_offer c.args.pass o.sight c.args.changes o.reads c.in-Ok.kept (is_begun c.args.pass.words o c.args.changes c.requires.begun c.requires.session.open_is) (c.in-Ok.ensures ∙ c.deref.ensures)
+    is_offer c.args.pass o.sight c.args.changes o.reads (record { base = 0; reads = o.reads; changes = c.args.changes; kept = Some c.in-Ok.kept }) (is_begun c.args.pass.words o c.args.changes c.requires.begun c.requires.session.open_is) (c.in-Ok.ensures ∙ c.deref.ensures)
 
 pub returns-clause-session : goal.returns-clause-session
 returns-clause-session g c =
@@ -20,7 +20,7 @@ returns-clause-session g c =
     let k = called g.N.Site.log.cap pass pass after (prefix_same pass.words) refl c.words-words.ensures.numbered c.words-words.ensures.numbered c.commit-pass.ensures.longer c.commit-pass.ensures.session c.words-now.ensures.numbered c.words-now.ensures.room in
     c.carrying.ensures.session (record {
       seen_is = replied_seen g.N.Site.log.cap pass.words pass c.args.seen o.sight.version c.requires.session.seen_is c.requires.session.open_is.sight.within after k
-          (record { base = o.sight.version; reads = o.reads; changes = c.args.changes; kept = c.in-Ok.kept }) c.commit-pass.result.1 c.commit-pass.ensures.outcome c.replied-at.result.0 c.replied-at.ensures.version;
+          (record { base = o.sight.version; reads = o.reads; changes = c.args.changes; kept = Some c.in-Ok.kept }) c.commit-pass.result.1 c.commit-pass.ensures.outcome c.replied-at.result.0 c.replied-at.ensures.version;
       open_is = left_open after.words o (open_grows pass.words after.words c.commit-pass.ensures.longer c.words-now.ensures.formed o c.requires.session.open_is)
           c.commit-pass.result.1 c.open_after-left.result c.open_after-left.ensures;
     })
@@ -35,5 +35,5 @@ returns-clause-executes g c =
     let k = called N pass pass after (prefix_same pass.words) refl c.words-words.ensures.numbered c.words-words.ensures.numbered c.commit-pass.ensures.longer c.commit-pass.ensures.session c.words-now.ensures.numbered c.words-now.ensures.room in
     c.carrying.ensures.executes N (state_of pass c.args.seen c.args.fresh (Some o)) pass.words c.args.statement.now c.replied-at.result.1 (λ x reads.
     replied_answers N pass c.args.seen c.args.fresh o c.requires.session.open_is c.args.statement.now c.requires.order x reads c.args.changes b after k
-    (record { base = o.sight.version; reads = o.reads; changes = c.args.changes; kept = c.in-Ok.kept }) refl refl refl
+    (record { base = o.sight.version; reads = o.reads; changes = c.args.changes; kept = Some c.in-Ok.kept }) refl refl refl
     c.commit-pass.result.1 c.commit-pass.ensures.outcome c.replied-at.result.0 c.replied-at.result.1 c.open_after-left.result c.replied-at.ensures.version c.replied-at.ensures.reply c.open_after-left.ensures)

@@ -1,4 +1,4 @@
-use Rattle.std.proofs.Common.{ap, refl, sym, subst, ◌∙◌}
+use Rattle.std.proofs.Common.{None, ap, refl, sym, subst, ◌∙◌}
 use Rattle.ct_word.proofs.Prefixes.{prefix_same}
 use Rattle.ct_query.{specs.Reads.reads_of, specs.Views.{action_of, statement_of}}
 use Rattle.ct_session.{specs.declared.offering.Offering.Offering, specs.Offering.{IsFoundAlone, IsReadyToOffer}, specs.Prepared.IsLiteralAct}
@@ -19,7 +19,7 @@ returns-in-Ok-clause-ok g c =
     let p = c.in-Ok.ensures in
     subst (λ o. IsReadyToOffer made.new.pass c.args.fresh o c.args.statement.now) (sym c.offering_of.ensures)
     (literal_ready pass made.new.pass made.ensures.longer made.ensures.kept c.args.fresh c.args.base c.args.statement.now (action_of c.in-Act.action) found (subst (λ r. IsLiteralAct (statement_of r)) c.in-Act.is c.requires.literal)
-    c.words-now.ensures.formed c.in-Ok.proposal c.args.reads c.new.result c.new.ensures (c.requires.reads ∙ (λ i. reads_of (statement_of (c.in-Act.is i)))) p.action p.fresh
+    c.words-now.ensures.formed c.in-Ok.proposal c.args.reads (record { base = c.args.base; reads = c.args.reads; changes = c.in-Ok.proposal.changes; kept = None }) refl (c.requires.reads ∙ (λ i. reads_of (statement_of (c.in-Act.is i)))) p.action p.fresh
     (p.proposes found.sight found.sees.sight found.found.fits))
 
 pub returns-in-Ok-clause-base : goal.returns-in-Ok-clause-base
