@@ -1,5 +1,6 @@
 pub mod Shaped
 mod Passing
+pub mod Runs
 pub mod Listed
 mod Values
 mod Kept

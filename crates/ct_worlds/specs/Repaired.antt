@@ -40,6 +40,12 @@ pub record IsRepaired (words places : List ℕ) (old new : World) : Type 0 where
   pub values : AllByRecursion (λ p. IsMade words places old p.1) new
   pub once : IsDistinct same_null (map (λ p. p.0) new)
 
+-- the same, but that no null stands twice in it where none does in the old one
+pub record IsRepairedNear (words places : List ℕ) (old new : World) : Type 0 where
+  pub holds : (c : ℕ) → Contains places c → holds_at new (condition_at words c) ≡ true
+  pub values : AllByRecursion (λ p. IsMade words places old p.1) new
+  pub once : IsDistinct same_null (map (λ p. p.0) old) → IsDistinct same_null (map (λ p. p.0) new)
+
 -- the equality at a place
 abbrev pub IsWishAt : List ℕ → ℕ → Wish → Type 0
 IsWishAt words place w = shape_at words place ≡ shape.Equal w.left w.right

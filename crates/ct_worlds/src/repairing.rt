@@ -1,15 +1,17 @@
 // Worlds made so that conditions hold.
 
-ghost use Rattle.std.specs.Prelude.{◌≡◌, ◌<◌, ◌^◌, ℕ, true, length, All, IfOk, IfSome, IsTrue, Contains};
+ghost use Rattle.std.specs.Prelude.{◌≡◌, ◌<◌, ◌^◌, ◌∷◌, ℕ, true, length, All, IfOk, IfSome, IsTrue, Contains};
 ghost use Rattle.std.specs.List.{list_all};
 ghost use Rattle.ct_word.specs.declared.kinds.Class.TheVariants as class;
 ghost use Rattle.ct_word.specs.Condition.{holds_at};
 ghost use Rattle.ct_word.specs.Reading.{condition_at};
 ghost use Rattle.ct_word.specs.WellFormed.{IsWellFormed, is_place_of};
 ghost use Rattle.ct_worlds.specs.Below.{AreBelow};
-ghost use Rattle.ct_worlds.specs.Repaired.{Each, IsChanged, IsRepaired, IsWishBelow};
+ghost use Rattle.ct_worlds.specs.Conjuncts.{AreConjuncts};
+ghost use Rattle.ct_worlds.specs.Repaired.{Each, IsChanged, IsRepaired, IsRepairedNear, IsWishBelow};
 ghost use Rattle.ct_worlds.specs.Truths.{found_in, AreRising, ArePartsFirst, HaveTruths};
 
+use crate::index::Conjuncts;
 use crate::drafts::drawn;
 use crate::gathering::below;
 use crate::holding::{KnownTruths, holds, truths};
@@ -123,4 +125,28 @@ pub fn repaired(
         return Ok(None);
     }
     Ok(Some(made))
+}
+
+/// A world in which a known condition and further ones hold, made from one in which the known one does. Only the conjuncts
+/// that share a null with the further ones, or with another such conjunct, are looked at, and no other null gets another
+/// value. Where the other world gives no null twice, this one gives none twice. As `repaired` it tries one choice.
+///
+/// # Errors
+/// `Memory` where there is none for the world, the conjuncts, and what stands below the further conditions.
+pub fn repaired_near(
+    alloc: Global,
+    words: &[u64],
+    conjuncts: &Conjuncts,
+    root: u32,
+    own: &[u32],
+    world: &World,
+) -> Result<Option<World>, Memory>
+    requires formed { IsWellFormed words.now }
+    requires few { length words.now < 2 ^ 28 }
+    requires conjuncts { AreConjuncts words.now root conjuncts.now }
+    requires own { (p : ℕ) → Contains own.now p → is_place_of words.now class.Cond p ≡ true }
+    requires known { IsTrue (holds_at world.now (condition_at words.now root)) }
+    ensures { IfOk result (λ o. IfSome o (IsRepairedNear words.now (root ∷ own.now) world.now)) }
+{
+    Err(Memory)
 }

@@ -1,0 +1,57 @@
+-- The conjuncts of a condition, and which nulls stand below each.
+use Rattle.std.specs.Prelude.{◌≡◌, ◌⊎◌, ◌<◌, ℕ, true, List, length, slice_index_or, Contains}
+use Rattle.ct_word.specs.declared.connectives.Connective.TheVariants as connective
+use Rattle.ct_word.specs.declared.kinds.Class.TheVariants as class
+use Rattle.ct_word.specs.declared.values.Null.{Null}
+use Rattle.ct_word.specs.declared.values.Term.TheVariants as term
+use Rattle.ct_word.specs.Condition.{holds_at}
+use Rattle.ct_word.specs.Reading.{condition_at, term_at}
+use Rattle.ct_word.specs.Stands.{TermBelow}
+use Rattle.ct_word.specs.Value.{World}
+use Rattle.ct_word.specs.WellFormed.{is_place_of}
+use Rattle.ct_worlds.specs.declared.index.Conjuncts.{Conjuncts}
+use Rattle.ct_worlds.specs.declared.index.Entry.{Entry}
+use Rattle.ct_worlds.specs.declared.shape.Shape.TheVariants as shape
+use Rattle.ct_worlds.specs.Shape.{shape_at}
+
+-- the word at a place is the And of two places
+abbrev pub IsAnd : List ℕ → ℕ → ℕ → ℕ → Type 0
+IsAnd words p a b = shape_at words p ≡ shape.Joined connective.And a b
+
+-- a place is the root, or is led to from it by words of ANDs alone
+pub data IsInRun (words : List ℕ) (root : ℕ) : ℕ → Type 0 where
+  first : IsInRun words root root
+  part : {p q : ℕ} (a b : ℕ) → IsInRun words root p → IsAnd words p a b → (q ≡ a) ⊎ (q ≡ b) → IsInRun words root q
+
+-- an And of the run
+pub record IsAndInRun (words : List ℕ) (root p : ℕ) : Type 0 where
+  pub run : IsInRun words root p
+  pub left : ℕ
+  pub right : ℕ
+  pub is : IsAnd words p left right
+
+-- the condition holds where those at these places do
+abbrev pub IsImpliedBy : List ℕ → ℕ → List ℕ → Type 0
+IsImpliedBy words root places = (v : World) → ((p : ℕ) → Contains places p → holds_at v (condition_at words p) ≡ true) → holds_at v (condition_at words root) ≡ true
+
+-- a null is listed with the conjunct of a number, by its place
+pub record IsListed (words : List ℕ) (entries : List Entry) (number : ℕ) (n : Null) : Type 0 where
+  pub entry : Entry
+  pub among : Contains entries entry
+  pub conjunct : entry.conjunct ≡ number
+  pub null : term_at words entry.null ≡ term.Null n
+
+-- the conjuncts of the condition at a place: it holds where they all do, and each is led to by ANDs alone, and so holds where it does; with each stand the nulls below it
+pub record AreConjuncts (words : List ℕ) (root : ℕ) (c : Conjuncts) : Type 0 where
+  pub condition : is_place_of words class.Cond root ≡ true
+  pub enough : IsImpliedBy words root c.places.items
+  pub each : (p : ℕ) → Contains c.places.items p → IsInRun words root p
+  pub ands : (p : ℕ) → Contains c.ands.items p → IsAndInRun words root p
+  pub nulls : (number : ℕ) (n : Null) → number < length c.places.items → TermBelow words (slice_index_or c.places.items number 0) (term.Null n) → IsListed words c.entries.items number n
+
+-- the other parts of a run beside one of its conditions: with it they are enough
+pub record AreBeside (words : List ℕ) (root one : ℕ) (others : List ℕ) : Type 0 where
+  pub enough : (v : World) → holds_at v (condition_at words one) ≡ true → ((p : ℕ) → Contains others p → holds_at v (condition_at words p) ≡ true)
+      → holds_at v (condition_at words root) ≡ true
+  pub run : IsInRun words root one
+  pub each : (p : ℕ) → Contains others p → IsInRun words root p
