@@ -148,8 +148,8 @@ module _ (words places : List ℕ) where
         record { root = r.root; among = r.among; below = below_more words r.root p w.right right.word r.below right.there right.among; placed = terms.1.0 },
       )
 
--- each of places that pass a test passes it
-pub each_passes : (test : ℕ → Bool) (ps : List ℕ) → list_all test ps ≡ true → (p : ℕ) → Contains ps p → test p ≡ true
+-- each of items that pass a test passes it
+pub each_passes : {X : Type 0} (test : X → Bool) (ps : List X) → list_all test ps ≡ true → (p : X) → Contains ps p → test p ≡ true
 each_passes test [] e p h = absurd (no_item p h)
 each_passes test (q ∷ ps) e p h =
     let parts = and_parts (test q) (list_all test ps) e in

@@ -28,7 +28,7 @@ pub record IsTaken (old mid : ℕ → Bool) (place : ℕ) : Type 0 where
   pub gone : mid place ≡ false
   pub others : (q : ℕ) → q ≢ place → mid q ≡ old q
 
-not_at : (place q : ℕ) → q ≢ place → is_eq (nat_cmp place q) ≡ false
+pub not_at : (place q : ℕ) → q ≢ place → is_eq (nat_cmp place q) ≡ false
 not_at place q ne = elim (cases_lt q place) [
   | inl lt ↦ ap is_eq (sym (nat_cmp_is place q Greater lt))
   | inr ge ↦ ap is_eq (sym (nat_cmp_is place q Less (omega (arith, ge, ne))))
@@ -125,7 +125,7 @@ module _ (words roots : List ℕ) (formed : IsWellFormed words) where
   passing_ends bound waits passed so_far none = record {
     rising = so_far.rising;
     each = so_far.each;
-    all = λ p r. conditions_below words passed formed (λ q h. (so_far.each q h).condition) (λ q s h i. passed_by s (so_far.parts q s h i))
+    all = λ p r. conditions_below words (Contains passed) formed (record { are = λ q h. (so_far.each q h).condition; parts = λ q s h i. passed_by s (so_far.parts q s h i) })
         r.root p r.below (passed_by r.root (so_far.seeds r.root r.among)) r.condition;
   } where
     passed_by : (p : ℕ) → IsSeen waits passed p → Contains passed p

@@ -3,7 +3,8 @@ use Rattle.std.{proofs.Common.{◌≡◌, ◌⊎◌, ℕ, ◌<◌, Bool, true, f
 use Rattle.std.{specs.Prelude.{IsTrue, slice_get, Option, Contains}, proofs.lemmas.Bool.{false≢true}, proofs.lemmas.List.Elements.{Contains-append_cases}}
 use Rattle.ct_word.{specs.declared.kinds.Kind.Kind, specs.declared.kinds.Class.Class, specs.Word.{kind_of, left_of, right_of}, specs.Reading.as_cond, specs.WordAt.{IsWordAt, IsFieldAt}}
 use Rattle.ct_word.specs.WellFormed.{Field, PlaceOf, IsWellFormed, is_place_of, is_word_of, has_class, same_class, class_of, fields_of}
-use Rattle.ct_word.{specs.Stands.{Below, itself, through, place_in, places_in, places_of}, proofs.WordAt.{word_is, has_kind}, proofs.Items.{item_cases, no_item, sole_item}}
+use Rattle.ct_word.{specs.Stands.{Below, StandsAt, itself, through, class_of_meaning, place_in, places_in, places_of}, proofs.WordAt.{word_is, has_kind}, proofs.Items.{item_cases, no_item, sole_item}}
+use Rattle.ct_word.{specs.declared.values.Term.Term, specs.Reading.IsTerm, proofs.Places.meaning_of_class, proofs.Splits.some-injective}
 use Rattle.ct_worlds.{specs.declared.shape.Shape.Shape, specs.Shape.{shape_of, shape_of_word, shape_at, parts_of, parts_at, terms_of, IsEarlier, IsShaped}}
 use Rattle.ct_word.specs.declared.kinds.Kind.TheVariants as kind
 use Rattle.ct_word.specs.declared.kinds.Class.TheVariants as class
@@ -46,6 +47,13 @@ module _ (ws : List ℕ) (p : ℕ) where
   pub part_earlier : (q : ℕ) → IsWellFormed ws → IsTrue (is_place_of ws class.Cond p) → Contains (parts_at ws p) q → IsEarlier ws p q
   part_earlier q formed placed h = one_of (parts_at ws p) q (shaped formed placed).parts h
 
+  -- a term that it names is one
+  pub term_placed : (q : ℕ) → IsWellFormed ws → IsTrue (is_place_of ws class.Cond p) → Contains (terms_of (shape_at ws p)) q → IsTrue (is_place_of ws class.Term q)
+  term_placed q formed placed h = by (terms_of (shape_at ws p)) (shaped formed placed).terms h where
+    by : (ks : List ℕ) → AllByRecursion (λ t. IsTrue (is_place_of ws class.Term t)) ks → Contains ks q → IsTrue (is_place_of ws class.Term q)
+    by [] all c = absurd (no_item q c)
+    by (k ∷ ks) all c = elim (item_cases ks k q c) [ inl e ↦ subst (λ t. IsTrue (is_place_of ws class.Term t)) e all.0 | inr later ↦ by ks all.1 later ]
+
 -- a part of a condition is a place that its word names
 named_by : (k : Kind) (a b q : ℕ) → Contains (parts_of (shape_of (Some k) a b)) q → Contains (places_in (Some k) a b) q
 named_by kind.Not a b q h = h
@@ -87,41 +95,54 @@ term_named ws p q h = by (slice_get ws p) refl h where
   by None e h = absurd (no_item q h)
 
 -- the classes of what stands below terms
-abbrev is_bare : Class → Bool
-is_bare class.Text = true
-is_bare class.High = true
-is_bare class.Term = true
-is_bare _ = false
+abbrev is_deep : Class → Bool
+is_deep class.Text = true
+is_deep class.High = true
+is_deep _ = false
 
--- a place of one of these classes
-record IsBare (ws : List ℕ) (p : ℕ) : Type 0 where
+-- and those of terms
+abbrev is_bare : Class → Bool
+is_bare class.Term = true
+is_bare c = is_deep c
+
+-- a place of one of some classes
+record IsOfSome (are : Class → Bool) (ws : List ℕ) (p : ℕ) : Type 0 where
   of : Class
-  bare : is_bare of ≡ true
+  is : are of ≡ true
   placed : IsTrue (is_place_of ws of p)
 
+bare_class : (c : Class) → is_deep c ≡ true → is_bare c ≡ true
+bare_class class.Term e = refl
+bare_class class.Text e = refl
+bare_class class.High e = refl
+bare_class _ e = absurd (false≢true e)
+
 module _ (ws : List ℕ) where
-  bare_field : (p : ℕ) (f : Field) (n q : ℕ) → ((c : Class) → f ≡ PlaceOf c → is_bare c ≡ true) → IsFieldAt ws p f n → Contains (place_in f n) q → IsBare ws q
-  bare_field p (PlaceOf c) n q h is among = subst (IsBare ws) (sole_item n q among) (record { of = c; bare = h c refl; placed = is.1 })
-  bare_field p _ n q h is among = absurd (no_item q among)
+  bare_place : (p : ℕ) → IsOfSome is_deep ws p → IsOfSome is_bare ws p
+  bare_place p d = record { of = d.of; is = bare_class d.of d.is; placed = d.placed }
+
+  deep_field : (p : ℕ) (f : Field) (n q : ℕ) → ((c : Class) → f ≡ PlaceOf c → is_deep c ≡ true) → IsFieldAt ws p f n → Contains (place_in f n) q → IsOfSome is_deep ws q
+  deep_field p (PlaceOf c) n q h is among = subst (IsOfSome is_deep ws) (sole_item n q among) (record { of = c; is = h c refl; placed = is.1 })
+  deep_field p _ n q h is among = absurd (no_item q among)
 
   one_class : (c d : Class) → PlaceOf c ≡ PlaceOf d → c ≡ d
   one_class c d e = cc
 
-  bare : (c d : Class) → is_bare c ≡ true → PlaceOf c ≡ PlaceOf d → is_bare d ≡ true
-  bare c d b e = sym (ap is_bare (one_class c d e)) ∙ b
+  deep : (c d : Class) → is_deep c ≡ true → PlaceOf c ≡ PlaceOf d → is_deep d ≡ true
+  deep c d b e = sym (ap is_deep (one_class c d e)) ∙ b
 
-  -- what the word of a term, a text or high bits names is of these classes
-  bare_fields : (k : Kind) → is_bare (class_of k) ≡ true → ((c : Class) → (fields_of k).0 ≡ PlaceOf c → is_bare c ≡ true) × ((c : Class) → (fields_of k).1 ≡ PlaceOf c → is_bare c ≡ true)
-  bare_fields kind.TextEnd e = (λ c f. cc, λ c f. cc)
-  bare_fields kind.TextCharacter e = (λ c f. bare class.Text c refl f, λ c f. cc)
-  bare_fields kind.NumberHigh e = (λ c f. cc, λ c f. cc)
-  bare_fields kind.Number e = (λ c f. bare class.High c refl f, λ c f. cc)
-  bare_fields kind.TextConstant e = (λ c f. bare class.Text c refl f, λ c f. cc)
-  bare_fields kind.NamedNull e = (λ c f. bare class.Text c refl f, λ c f. cc)
-  bare_fields kind.FreshNull e = (λ c f. cc, λ c f. cc)
-  bare_fields kind.OtherValue e = (λ c f. cc, λ c f. cc)
-  bare_fields kind.Column e = (λ c f. cc, λ c f. cc)
-  bare_fields _ e = absurd (false≢true e)
+  -- what the word of a term, a text or high bits names is of the classes below terms
+  deep_fields : (k : Kind) → is_bare (class_of k) ≡ true → ((c : Class) → (fields_of k).0 ≡ PlaceOf c → is_deep c ≡ true) × ((c : Class) → (fields_of k).1 ≡ PlaceOf c → is_deep c ≡ true)
+  deep_fields kind.TextEnd e = (λ c f. cc, λ c f. cc)
+  deep_fields kind.TextCharacter e = (λ c f. deep class.Text c refl f, λ c f. cc)
+  deep_fields kind.NumberHigh e = (λ c f. cc, λ c f. cc)
+  deep_fields kind.Number e = (λ c f. deep class.High c refl f, λ c f. cc)
+  deep_fields kind.TextConstant e = (λ c f. deep class.Text c refl f, λ c f. cc)
+  deep_fields kind.NamedNull e = (λ c f. deep class.Text c refl f, λ c f. cc)
+  deep_fields kind.FreshNull e = (λ c f. cc, λ c f. cc)
+  deep_fields kind.OtherValue e = (λ c f. cc, λ c f. cc)
+  deep_fields kind.Column e = (λ c f. cc, λ c f. cc)
+  deep_fields _ e = absurd (false≢true e)
 
   same_class_is : (c d : Class) → same_class c d ≡ true → is_bare d ≡ true → is_bare c ≡ true
   same_class_is class.Text d e b = refl
@@ -147,67 +168,98 @@ module _ (ws : List ℕ) where
     word_at : (k : Kind) → kind_of w ≡ Some k → IsWordAt ws p (record { kind = k; left = left_of w; right = right_of w })
     word_at k e = word_is ws p w there formed k e (omega arith) (omega arith)
 
-    bare_kind : (q : ℕ) (o : Option Kind) → kind_of w ≡ o → IsBare ws p → Contains (places_in o (left_of w) (right_of w)) q → IsBare ws q
-    bare_kind q (Some k) e b among =
+    deep_kind : (q : ℕ) (o : Option Kind) → kind_of w ≡ o → IsOfSome is_bare ws p → Contains (places_in o (left_of w) (right_of w)) q → IsOfSome is_deep ws q
+    deep_kind q (Some k) e b among =
         let is = word_at k e in
-        let fields = bare_fields k (same_class_is (class_of k) b.of (sym (is.class b.of) ∙ b.placed) b.bare) in
+        let fields = deep_fields k (same_class_is (class_of k) b.of (sym (is.class b.of) ∙ b.placed) b.is) in
         elim (Contains-append_cases (place_in (fields_of k).0 (left_of w)) (place_in (fields_of k).1 (right_of w)) q among) [
-          | inl l ↦ bare_field p (fields_of k).0 (left_of w) q fields.0 is.left l
-          | inr r ↦ bare_field p (fields_of k).1 (right_of w) q fields.1 is.right r
+          | inl l ↦ deep_field p (fields_of k).0 (left_of w) q fields.0 is.left l
+          | inr r ↦ deep_field p (fields_of k).1 (right_of w) q fields.1 is.right r
         ]
-    bare_kind q None e b among = absurd (has_kind ws p w there formed e)
+    deep_kind q None e b among = absurd (has_kind ws p w there formed e)
 
-    bare_next : (q : ℕ) → IsBare ws p → Contains (places_of w) q → IsBare ws q
+    deep_next : (q : ℕ) → IsOfSome is_bare ws p → Contains (places_of w) q → IsOfSome is_deep ws q
     unfolding places_of
-    bare_next q b among = bare_kind q (kind_of w) refl b among
+    deep_next q b among = deep_kind q (kind_of w) refl b among
 
-    no_condition_at : (o : Option Kind) → kind_of w ≡ o → IsBare ws p → IsTrue (is_place_of ws class.Cond p) → ⊥
-    no_condition_at (Some k) e b placed = let is = word_at k e in not_both k b.of b.bare (sym (is.class b.of) ∙ b.placed) (sym (is.class class.Cond) ∙ placed)
+    no_condition_at : (o : Option Kind) → kind_of w ≡ o → IsOfSome is_bare ws p → IsTrue (is_place_of ws class.Cond p) → ⊥
+    no_condition_at (Some k) e b placed = let is = word_at k e in not_both k b.of b.is (sym (is.class b.of) ∙ b.placed) (sym (is.class class.Cond) ∙ placed)
     no_condition_at None e b placed = has_kind ws p w there formed e
 
-    next_by : (q : ℕ) (k : Kind) (a b : ℕ) → IsWordAt ws p (record { kind = k; left = a; right = b }) → same_class (class_of k) class.Cond ≡ true → Contains (places_in (Some k) a b) q
-        → Contains (parts_of (shape_of (Some k) a b)) q ⊎ IsBare ws q
-    next_by q kind.True a b is of among = absurd (no_item q among)
-    next_by q kind.False a b is of among = absurd (no_item q among)
-    next_by q kind.Equal a b is of among = elim (item_cases (b ∷ []) a q among) [
-      | inl e ↦ inr (subst (IsBare ws) e (record { of = class.Term; bare = refl; placed = is.left.1 }))
-      | inr later ↦ inr (subst (IsBare ws) (sole_item b q later) (record { of = class.Term; bare = refl; placed = is.right.1 }))
-    ]
-    next_by q kind.Not a b is of among = inl among
-    next_by q kind.And a b is of among = inl among
-    next_by q kind.Or a b is of among = inl among
-    next_by q _ a b is of among = absurd (false≢true of)
+    next_by : (q : ℕ) (k : Kind) (a b : ℕ) → same_class (class_of k) class.Cond ≡ true → Contains (places_in (Some k) a b) q
+        → Contains (parts_of (shape_of (Some k) a b)) q ⊎ Contains (terms_of (shape_of (Some k) a b)) q
+    next_by q kind.True a b of among = absurd (no_item q among)
+    next_by q kind.False a b of among = absurd (no_item q among)
+    next_by q kind.Equal a b of among = inr among
+    next_by q kind.Not a b of among = inl among
+    next_by q kind.And a b of among = inl among
+    next_by q kind.Or a b of among = inl among
+    next_by q _ a b of among = absurd (false≢true of)
 
-    next_in : (q : ℕ) (o : Option Kind) → kind_of w ≡ o → has_class o class.Cond ≡ true → Contains (places_in o (left_of w) (right_of w)) q
-        → Contains (parts_of (shape_of o (left_of w) (right_of w))) q ⊎ IsBare ws q
-    next_in q (Some k) e of among = next_by q k (left_of w) (right_of w) (word_at k e) of among
-    next_in q None e of among = absurd (false≢true of)
+    next_in : (q : ℕ) (o : Option Kind) → has_class o class.Cond ≡ true → Contains (places_in o (left_of w) (right_of w)) q
+        → Contains (parts_of (shape_of o (left_of w) (right_of w))) q ⊎ Contains (terms_of (shape_of o (left_of w) (right_of w))) q
+    next_in q (Some k) of among = next_by q k (left_of w) (right_of w) of among
+    next_in q None of among = absurd (false≢true of)
 
-    -- what the word of a condition names is a part, or no condition stands below it
-    next : (q : ℕ) → IsTrue (is_place_of ws class.Cond p) → Contains (places_of w) q → Contains (parts_at ws p) q ⊎ IsBare ws q
+    -- what the word of a condition names is a part, or a term
+    next : (q : ℕ) → IsTrue (is_place_of ws class.Cond p) → Contains (places_of w) q → Contains (parts_at ws p) q ⊎ Contains (terms_of (shape_at ws p)) q
     unfolding places_of
     next q placed among =
-        subst (λ o. Contains (parts_of (shape_of_word o)) q ⊎ IsBare ws q) (sym there)
-        (next_in q (kind_of w) refl (sym (ap (λ o. is_word_of o class.Cond) there) ∙ placed) among)
+        subst (λ o. Contains (parts_of (shape_of_word o)) q ⊎ Contains (terms_of (shape_of_word o)) q) (sym there)
+        (next_in q (kind_of w) (sym (ap (λ o. is_word_of o class.Cond) there) ∙ placed) among)
 
-  bare_placed : (r : ℕ) → IsWellFormed ws → IsBare ws r → IsTrue (is_place_of ws class.Cond r) → ⊥
+  bare_placed : (r : ℕ) → IsWellFormed ws → IsOfSome is_bare ws r → IsTrue (is_place_of ws class.Cond r) → ⊥
   bare_placed r formed b placed = by (slice_get ws r) refl placed where
     by : (o : Option ℕ) → slice_get ws r ≡ o → is_word_of o class.Cond ≡ true → ⊥
     by (Some w) e of = no_condition_at formed r w e (kind_of w) refl b placed
     by None e of = false≢true of
 
   -- no condition stands below a term, a text or high bits
-  bare_below : (p r : ℕ) → IsWellFormed ws → Below ws p r → IsBare ws p → IsTrue (is_place_of ws class.Cond r) → ⊥
+  bare_below : (p r : ℕ) → IsWellFormed ws → Below ws p r → IsOfSome is_bare ws p → IsTrue (is_place_of ws class.Cond r) → ⊥
   bare_below p r formed itself b placed = bare_placed r formed b placed
-  bare_below p r formed (through w q there among rest) b placed = bare_below q r formed rest (bare_next formed p w there q b among) placed
+  bare_below p r formed (through w q there among rest) b placed = bare_below q r formed rest (bare_place q (deep_next formed p w there q b among)) placed
 
-  -- places of conditions that have their parts have the conditions below them
-  pub conditions_below : (passed : List ℕ) → IsWellFormed ws → ((p : ℕ) → Contains passed p → IsTrue (is_place_of ws class.Cond p))
-      → ((p q : ℕ) → Contains passed p → Contains (parts_at ws p) q → Contains passed q)
-      → (p r : ℕ) → Below ws p r → Contains passed p → IsTrue (is_place_of ws class.Cond r) → Contains passed r
-  conditions_below passed formed are closed p r itself h placed = h
-  conditions_below passed formed are closed p r (through w q there among rest) h placed =
-      elim (next formed p w there q (are p h) among) [
-        | inl part ↦ conditions_below passed formed are closed q r rest (closed p q h part) placed
-        | inr bare ↦ absurd (bare_below q r formed rest bare placed)
+  -- and no term below a text or high bits
+  deep_below : (p r : ℕ) (t : Term) → IsWellFormed ws → Below ws p r → IsOfSome is_deep ws p → StandsAt ws r (IsTerm t) → ⊥
+  deep_below p r t formed itself d stands =
+      let m = meaning_of_class ws d.of p d.placed in
+      let same : m.0 ≡ IsTerm t = some-injective m.0 (IsTerm t) (sym m.1 ∙ stands) in
+      false≢true (ap is_deep (some-injective class.Term d.of (ap class_of_meaning (sym same) ∙ m.2)) ∙ d.is)
+  deep_below p r t formed (through w q there among rest) d stands = deep_below q r t formed rest (deep_next formed p w there q (bare_place p d) among) stands
+
+  -- below the place of a term no other place is one of a term
+  only_term : (p r : ℕ) (t : Term) → IsWellFormed ws → Below ws p r → IsTrue (is_place_of ws class.Term p) → StandsAt ws r (IsTerm t) → p ≡ r
+  only_term p r t formed itself placed stands = refl
+  only_term p r t formed (through w q there among rest) placed stands =
+      absurd (deep_below q r t formed rest (deep_next formed p w there q (record { of = class.Term; is = refl; placed = placed }) among) stands)
+
+  -- conditions among which are the parts of each
+  pub record IsClosed (seen : ℕ → Type 0) : Type 0 where
+    pub are : (p : ℕ) → seen p → IsTrue (is_place_of ws class.Cond p)
+    pub parts : (p q : ℕ) → seen p → Contains (parts_at ws p) q → seen q
+
+  -- have the conditions below them
+  pub conditions_below : (seen : ℕ → Type 0) → IsWellFormed ws → IsClosed seen → (p r : ℕ) → Below ws p r → seen p → IsTrue (is_place_of ws class.Cond r) → seen r
+  conditions_below seen formed closed p r itself h placed = h
+  conditions_below seen formed closed p r (through w q there among rest) h placed =
+      elim (next formed p w there q (closed.are p h) among) [
+        | inl part ↦ conditions_below seen formed closed q r rest (closed.parts p q h part) placed
+        | inr term ↦
+            let b = term_placed ws p q formed (closed.are p h) term in
+            absurd (bare_below q r formed rest (record { of = class.Term; is = refl; placed = b }) placed)
+      ]
+
+  -- and name the terms below them
+  pub term_below : (seen : ℕ → Type 0) → IsWellFormed ws → IsClosed seen → (p r : ℕ) (t : Term) → Below ws p r → seen p → StandsAt ws r (IsTerm t)
+      → (e : ℕ) × seen e × Contains (terms_of (shape_at ws e)) r
+  term_below seen formed closed p r t itself h stands =
+      let m = meaning_of_class ws class.Cond p (closed.are p h) in
+      let same : m.0 ≡ IsTerm t = some-injective m.0 (IsTerm t) (sym m.1 ∙ stands) in
+      absurd (false≢true (ap (λ c. same_class c class.Cond) (some-injective class.Term class.Cond (ap class_of_meaning (sym same) ∙ m.2))))
+  term_below seen formed closed p r t (through w q there among rest) h stands =
+      elim (next formed p w there q (closed.are p h) among) [
+        | inl part ↦ term_below seen formed closed q r t rest (closed.parts p q h part) stands
+        | inr term ↦
+            let same = only_term q r t formed rest (term_placed ws p q formed (closed.are p h) term) stands in
+            (p, h, subst (Contains (terms_of (shape_at ws p))) same term)
       ]

@@ -1,5 +1,5 @@
 -- The conjuncts of a condition, and which nulls stand below each.
-use Rattle.std.specs.Prelude.{◌≡◌, ◌⊎◌, ◌<◌, ℕ, true, List, length, slice_index_or, Contains}
+use Rattle.std.specs.Prelude.{◌≡◌, ◌⊎◌, ◌<◌, ℕ, Bool, true, false, not, ◌||◌, List, length, slice_index_or, Contains, IsTrue}
 use Rattle.ct_word.specs.declared.connectives.Connective.TheVariants as connective
 use Rattle.ct_word.specs.declared.kinds.Class.TheVariants as class
 use Rattle.ct_word.specs.declared.values.Null.{Null}
@@ -12,7 +12,9 @@ use Rattle.ct_word.specs.WellFormed.{is_place_of}
 use Rattle.ct_worlds.specs.declared.index.Conjuncts.{Conjuncts}
 use Rattle.ct_worlds.specs.declared.index.Entry.{Entry}
 use Rattle.ct_worlds.specs.declared.shape.Shape.TheVariants as shape
-use Rattle.ct_worlds.specs.Shape.{shape_at}
+use Rattle.ct_worlds.specs.Shape.{shape_at, terms_of}
+use Rattle.ct_worlds.specs.declared.nulls.Nulls.{Nulls}
+use Rattle.ct_worlds.specs.Gathering.{has}
 
 -- the word at a place is the And of two places
 abbrev pub IsAnd : List ℕ → ℕ → ℕ → ℕ → Type 0
@@ -39,7 +41,24 @@ pub record IsListed (words : List ℕ) (entries : List Entry) (number : ℕ) (n 
   pub entry : Entry
   pub among : Contains entries entry
   pub conjunct : entry.conjunct ≡ number
+  pub placed : IsTrue (is_place_of words class.Term entry.null)
   pub null : term_at words entry.null ≡ term.Null n
+
+-- no entry was lost
+abbrev pub Keeps : List Entry → List Entry → Type 0
+Keeps old new = (e : Entry) → Contains old e → Contains new e
+
+-- the null at a place is listed with a conjunct, if there is one
+abbrev pub ListsNull : List ℕ → List Entry → ℕ → ℕ → Type 0
+ListsNull words entries number place = (n : Null) → term_at words place ≡ term.Null n → IsListed words entries number n
+
+-- so are those of the equality at a place
+abbrev pub Lists : List ℕ → List Entry → ℕ → ℕ → Type 0
+Lists words entries number place = (q : ℕ) → Contains (terms_of (shape_at words place)) q → ListsNull words entries number q
+
+-- with each of these conditions the nulls below it are listed, by its number
+abbrev pub AreIndexed : List ℕ → List ℕ → List Entry → Type 0
+AreIndexed words places entries = (number : ℕ) (n : Null) → number < length places → TermBelow words (slice_index_or places number 0) (term.Null n) → IsListed words entries number n
 
 -- the conjuncts of the condition at a place: it holds where they all do, and each is led to by ANDs alone, and so holds where it does; with each stand the nulls below it
 pub record AreConjuncts (words : List ℕ) (root : ℕ) (c : Conjuncts) : Type 0 where
@@ -47,7 +66,7 @@ pub record AreConjuncts (words : List ℕ) (root : ℕ) (c : Conjuncts) : Type 0
   pub enough : IsImpliedBy words root c.places.items
   pub each : (p : ℕ) → Contains c.places.items p → IsInRun words root p
   pub ands : (p : ℕ) → Contains c.ands.items p → IsAndInRun words root p
-  pub nulls : (number : ℕ) (n : Null) → number < length c.places.items → TermBelow words (slice_index_or c.places.items number 0) (term.Null n) → IsListed words c.entries.items number n
+  pub nulls : AreIndexed words c.places.items c.index.entries.items
 
 -- the other parts of a run beside one of its conditions: with it they are enough
 pub record AreBeside (words : List ℕ) (root one : ℕ) (others : List ℕ) : Type 0 where
@@ -55,3 +74,24 @@ pub record AreBeside (words : List ℕ) (root one : ℕ) (others : List ℕ) : T
       → holds_at v (condition_at words root) ≡ true
   pub run : IsInRun words root one
   pub each : (p : ℕ) → Contains others p → IsInRun words root p
+
+-- a place was added if it is chosen
+pub record IsChoice (old new : List ℕ) (place : ℕ) (is_chosen : Bool) : Type 0 where
+  pub kept : (p : ℕ) → Contains old p → Contains new p
+  pub put : is_chosen ≡ true → Contains new place
+  pub only : (p : ℕ) → Contains new p → Contains old p ⊎ (p ≡ place)
+
+-- places but one
+pub record AreOthers (places : List ℕ) (one : ℕ) (others : List ℕ) : Type 0 where
+  pub only : (p : ℕ) → Contains others p → Contains places p
+  pub all : (p : ℕ) → Contains places p → (p ≡ one) ⊎ Contains others p
+
+-- the conjuncts that are asked, and these
+pub record AreChosen (places : List ℕ) (is_asked : List Bool) (own chosen : List ℕ) : Type 0 where
+  pub asked : (k : ℕ) → k < length places → slice_index_or is_asked k false ≡ true → Contains chosen (slice_index_or places k 0)
+  pub ours : (p : ℕ) → Contains own p → Contains chosen p
+  pub only : (p : ℕ) → Contains chosen p → Contains places p ⊎ Contains own p
+
+-- the conjunct of an entry is asked, or its null is none of these
+abbrev pub is_covered : List Bool → Nulls → Entry → Bool
+is_covered is_asked nulls e = slice_index_or is_asked e.conjunct false || not (has nulls.places e.null)

@@ -5,3 +5,5 @@ pub mod Valuation
 pub mod Truths
 pub mod Repaired
 pub mod Conjuncts
+pub mod Walks
+pub mod Nulls

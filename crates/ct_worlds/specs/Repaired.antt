@@ -1,5 +1,5 @@
 -- Worlds that are made from another so that conditions hold.
-use Rattle.std.specs.Prelude.{◌≡◌, ◌⊎◌, ◌<◌, ◌^◌, ℕ, true, List, map, Contains, IsTrue}
+use Rattle.std.specs.Prelude.{◌≡◌, ◌⊎◌, ◌<◌, ◌^◌, ℕ, true, false, List, map, Contains, IsTrue}
 use Rattle.std.specs.List.{AllByRecursion, IsDistinct}
 use Rattle.ct_word.specs.declared.kinds.Class.TheVariants as class
 use Rattle.ct_word.specs.declared.values.Value.{Value}
@@ -8,7 +8,9 @@ use Rattle.ct_word.specs.declared.values.Term.TheVariants as term
 use Rattle.ct_word.specs.Condition.{holds_at}
 use Rattle.ct_word.specs.Reading.{condition_at, term_at}
 use Rattle.ct_word.specs.Stands.{Below, TermBelow}
-use Rattle.ct_word.specs.Value.{World, same_null}
+use Rattle.ct_word.specs.Value.{World, same_null, value_of_null}
+use Rattle.ct_word.specs.declared.values.Null.{Null}
+use Rattle.ct_worlds.specs.Nulls.{has_null}
 use Rattle.ct_word.specs.WellFormed.{is_place_of}
 use Rattle.ct_worlds.specs.declared.shape.Shape.TheVariants as shape
 use Rattle.ct_worlds.specs.declared.wishing.Wish.{Wish}
@@ -96,3 +98,10 @@ pub record IsDrawn (words : List ℕ) (wishes : List Wish) (old new : World) : T
 pub record IsChanged (words places : List ℕ) (old new : World) : Type 0 where
   pub values : AllByRecursion (λ p. IsMade words places old p.1) new
   pub once : IsDistinct same_null (map (λ p. p.0) new)
+
+-- conditions hold in a world of which these nulls alone have other values than in the old one
+pub record IsChangedPart (words places : List ℕ) (nulls : List Null) (old new : World) : Type 0 where
+  pub holds : (c : ℕ) → Contains places c → holds_at new (condition_at words c) ≡ true
+  pub others : (n : Null) → has_null nulls n ≡ false → value_of_null new n ≡ value_of_null old n
+  pub values : AllByRecursion (λ p. IsMade words places old p.1) new
+  pub once : IsDistinct same_null (map (λ p. p.0) old) → IsDistinct same_null (map (λ p. p.0) new)

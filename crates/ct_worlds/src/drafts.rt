@@ -281,8 +281,8 @@ fn fulfil(alloc: Global, words: &[u64], wishes: &[Wish], draft: &mut Draft) -> R
     Ok(is_done)
 }
 
-/// A draft without nulls, with room for so many, and for as many values.
-fn blank(alloc: Global, count: usize) -> Result<Draft, Memory>
+/// A draft without nulls, with room for so many, and for as many values, whose new values are `@k` from this k on.
+fn blank(alloc: Global, count: usize, next: u32) -> Result<Draft, Memory>
     ensures { IfOk result (λ d. (x : Value) → Contains d.values.keys x → ⊥) }
 {
     let nulls = IndexSet::with_capacity(alloc, count)?;
@@ -292,23 +292,24 @@ fn blank(alloc: Global, count: usize) -> Result<Draft, Memory>
         values,
         classes: no_classes(alloc),
         zero: None,
-        next: 0,
+        next,
     })
 }
 
-/// A world like another one in which wishes come true; none where one cannot.
+/// A world like another one in which wishes come true, whose new values are `@k` from this k on; none where one cannot.
 pub(crate) fn drawn(
     alloc: Global,
     words: &[u64],
     wishes: &[Wish],
     world: &World,
+    next: u32,
 ) -> Result<Option<World>, Memory>
     requires formed { IsWellFormed words.now }
     requires terms { All (IsOverTerms words.now) wishes.now }
     ensures { IfOk result (λ o. IfSome o (IsDrawn words.now wishes.now world.now)) }
 {
     let pairs = world.as_slice();
-    let mut draft = blank(alloc, pairs.len().saturating_add(wishes.len()))?;
+    let mut draft = blank(alloc, pairs.len().saturating_add(wishes.len()), next)?;
     put_pairs(&mut draft, pairs)?;
     if !fulfil(alloc, words, wishes, &mut draft)? {
         return Ok(None);

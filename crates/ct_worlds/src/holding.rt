@@ -6,11 +6,13 @@ ghost use Rattle.ct_word.specs.Condition.{holds_at};
 ghost use Rattle.ct_word.specs.Connective.{join};
 ghost use Rattle.ct_word.specs.Reading.{condition_at};
 ghost use Rattle.ct_word.specs.WellFormed.{IsWellFormed, is_place_of};
+ghost use Rattle.ct_worlds.specs.Nulls.{AreNullsBelow};
 ghost use Rattle.ct_worlds.specs.Truths.{AreRising, ArePartsFirst, HaveTruths, found_in};
 ghost use Rattle.ct_worlds.specs.Shape.{parts_at};
 ghost use Rattle.ct_worlds.specs.Valuation.{AreRead, IsValuation};
 
 use crate::gathering::below;
+use crate::nulls::{Nulls, nulls_below, part_of};
 use crate::reads::{Read, no_reads};
 use crate::shape::{Shape, shape_at};
 use crate::valuation::{Valuation, are_equal, valuation_of};
@@ -100,7 +102,7 @@ fn truth(
 }
 
 /// Whether each of these conditions holds, whose parts come before it.
-pub(crate) fn truths<'a>(
+fn truths<'a>(
     alloc: Global,
     words: &[u64],
     places: &'a [u32],
@@ -122,18 +124,39 @@ pub(crate) fn truths<'a>(
     Ok(truths)
 }
 
+/// The truths of conditions, each after its parts, in a world, of which the pairs with nulls below them are looked at alone.
+pub(crate) fn truths_in<'a>(
+    alloc: Global,
+    words: &[u64],
+    places: &'a [u32],
+    nulls: &Nulls,
+    world: &World,
+) -> Result<KnownTruths<'a>, Memory>
+    requires formed { IsWellFormed words.now }
+    requires places { ArePartsFirst words.now places.now }
+    requires nulls { AreNullsBelow words.now places.now nulls.now }
+    ensures truths { IfOk result (λ all. HaveTruths words.now world.now places.now (found_in all)) }
+    ensures rising { IfOk result (λ all. AreRising all.places.now) }
+{
+    let part = part_of(alloc, world, nulls)?;
+    let valuation = valuation_of(alloc, &part)?;
+    let all = truths(alloc, words, places, &valuation)?;
+    Ok(all)
+}
+
 /// Whether the condition at a place holds in a world, where a column is worth `@0`. It goes over the pairs of the world, and
 /// over what stands below the place.
 ///
 /// # Errors
-/// `Memory` where there is none for the pairs of the world and what the conditions below the place are worth.
+/// `Memory` where there is none for what stands below the place, and the pairs of its nulls.
 pub fn holds_below(alloc: Global, words: &[u64], place: u32, world: &World) -> Result<bool, Memory>
     requires formed { IsWellFormed words.now }
     requires condition { IsTrue (is_place_of words.now class.Cond place) }
     ensures { IfOk result (λ b. b ≡ holds_at world.now (condition_at words.now place)) }
 {
-    let places = below(alloc, words, &[place])?;
-    let valuation = valuation_of(alloc, world)?;
-    let truths = truths(alloc, words, places.as_slice(), &valuation)?;
+    let below = below(alloc, words, &[place])?;
+    let places = below.as_slice();
+    let nulls = nulls_below(alloc, words, places)?;
+    let truths = truths_in(alloc, words, places, &nulls, world)?;
     Ok(holds(&truths, place))
 }

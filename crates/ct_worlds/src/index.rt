@@ -1,4 +1,4 @@
-// The conjuncts of a condition.
+// The conjuncts of a condition, and the nulls below each.
 
 ghost use Rattle.std.specs.Prelude.{◌≡◌};
 
@@ -13,6 +13,17 @@ pub(crate) struct Entry {
     pub(crate) next: usize,
 }
 
+/// The nulls below conjuncts.
+#[derive(Drop)]
+pub(crate) struct NullIndex {
+    /// The nulls of each conjunct after those of the one before.
+    pub(crate) entries: Vec<Entry>,
+    /// Where the entries of each conjunct end.
+    pub(crate) ends: Vec<usize>,
+    /// For each place the last entry with the null there: its number and one more, or zero where there is none.
+    pub(crate) heads: Vec<usize>,
+}
+
 /// The conjuncts of a condition, each with the nulls below it. They are the parts of its top run of ANDs: the condition itself
 /// where it is no And.
 #[derive(Drop)]
@@ -21,12 +32,7 @@ pub struct Conjuncts {
     pub(crate) places: Vec<u32>,
     /// The places of the ANDs of the run.
     pub(crate) ands: Vec<u32>,
-    /// The nulls, those of one conjunct after those of the one before.
-    pub(crate) entries: Vec<Entry>,
-    /// Where the entries of each conjunct end.
-    pub(crate) ends: Vec<usize>,
-    /// For each place the last entry with the null there: its number and one more, or zero where there is none.
-    pub(crate) heads: Vec<usize>,
+    pub(crate) index: NullIndex,
 }
 
 impl Conjuncts {

@@ -3,20 +3,24 @@
 #![tactic(auto)]
 
 mod classes;
-mod index;
 mod drafts;
 mod gathering;
 mod holding;
+mod index;
 mod indexing;
+mod nulls;
 mod reads;
+mod relating;
 mod repairing;
 mod shape;
 mod valuation;
+mod walking;
 mod wishing;
 
-pub use index::Conjuncts;
 pub use gathering::below;
 pub use holding::holds_below;
-pub use indexing::{conjuncts, related, run_beside};
+pub use index::Conjuncts;
+pub use indexing::{conjuncts, run_beside};
+pub use relating::related;
 pub use repairing::{repaired, repaired_near};
 pub use shape::{Shape, shape_at};

@@ -1,6 +1,10 @@
-use Rattle.std.{proofs.Common.subst, specs.Prelude.IfSome}
-use Rattle.ct_worlds.specs.Repaired.{IsChanged}
+use Rattle.std.{proofs.Common.{subst, sym}, specs.Prelude.IfSome}
+use Rattle.ct_worlds.{specs.Repaired.{IsChanged}, specs.Truths.ArePartsFirst, proofs.Kept.parts_first}
 use Rattle.ct_worlds.proofs.repairing.repaired.Goals as goal
+
+pub nulls_below-requires-clause-places : goal.nulls_below-requires-clause-places
+nulls_below-requires-clause-places c =
+    subst (ArePartsFirst c.args.words.now) (sym c.as_slice-places.ensures.value) (parts_first c.args.words.now c.args.conditions.now c.in_ok-below.below.items c.requires.formed c.in_ok-below.ensures)
 
 pub returns : goal.returns
 returns c =

@@ -1,0 +1,9 @@
+use Rattle.std.{proofs.Common.{ℕ, take}, specs.Prelude.Contains}
+use Rattle.ct_worlds.specs.Nulls.{AreNulls, HasTerms}
+use Rattle.ct_worlds.proofs.nulls.nulls_below.Given as goal
+
+abbrev pub invariant-loop-place : goal.invariant-loop-place
+invariant-loop-place l = record {
+  nulls : AreNulls l.words l.nulls;
+  noted : (e : ℕ) → Contains (take l.place-index l.places) e → HasTerms l.words e l.nulls;
+}
