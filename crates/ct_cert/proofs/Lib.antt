@@ -1,0 +1,5 @@
+pub mod Numbers
+pub mod Many
+pub mod Texts
+pub mod Lists
+pub mod Judged

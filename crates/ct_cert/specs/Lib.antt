@@ -1,0 +1,6 @@
+pub mod Text
+pub mod Ranges
+pub mod Reading
+pub mod Written
+pub mod Judgement
+pub mod Fields
