@@ -1,8 +1,8 @@
 -- What is said of a certificate: the first word that may not stand, else the first proof that is not accepted.
-use Rattle.std.specs.Prelude.{ℕ, ◌+◌, max, List, [], ◌∷◌, ◌++◌, length, Option, Some, None, All, if◌then◌else◌}
+use Rattle.std.specs.Prelude.{◌≡◌, ℕ, ◌+◌, ◌<◌, ◌≤◌, max, take, slice_index_or, List, [], ◌∷◌, ◌++◌, length, Option, Some, None, All, if◌then◌else◌}
 use Rattle.ct_word.specs.WellFormed.{is_word_after, IsWellFormed}
 use Rattle.ct_derivation.specs.declared.steps.Proof.{Proof}
-use Rattle.ct_derivation.specs.Accepts.{accepts, widest}
+use Rattle.ct_derivation.specs.Accepts.{accepts, AcceptsProof, widest}
 use Rattle.ct_derivation.specs.Truth.{IsRefuted}
 use Rattle.ct_cert.specs.declared.certificate.Certificate.{Certificate}
 use Rattle.ct_cert.specs.declared.judgement.Judgement.{Judgement}
@@ -31,6 +31,19 @@ judgement c = by_faults (bad_word [] c.words) (bad_proof c.words 1 c.proofs)
 pub record IsSound (c : Certificate) : Type 0 where
   pub words : IsWellFormed c.words
   pub proofs : All (λ p. IsRefuted c.words p.root) c.proofs
+
+-- the word at a place may not follow the words before it, and these are well formed
+pub record IsFirstBadWord (words : List ℕ) (place : ℕ) : Type 0 where
+  pub within : place < length words
+  pub before : IsWellFormed (take place words)
+  pub here : IsWellFormed (take (place + 1) words) → ⊥
+
+-- the words are well formed, and the proof of this number is not accepted, counted from 1; each earlier one is
+pub record IsFirstBadProof (c : Certificate) (number : ℕ) : Type 0 where
+  pub words : IsWellFormed c.words
+  pub within : (1 ≤ number) × (number ≤ length c.proofs)
+  pub before : (k : ℕ) (d : Proof) → k + 1 < number → AcceptsProof c.words (slice_index_or c.proofs k d)
+  pub here : (k : ℕ) (d : Proof) → k + 1 ≡ number → AcceptsProof c.words (slice_index_or c.proofs k d) → ⊥
 
 -- the greatest width of these proofs
 abbrev pub widest_of : List Proof → ℕ

@@ -17,6 +17,6 @@ mod writing;
 pub use certificate::{CertError, Certificate};
 pub use judgement::Judgement;
 pub use judging::judge;
-pub use laws::texts_are_of_one;
+pub use laws::{judgements_say, texts_are_of_one};
 pub use reading::read;
 pub use writing::{write, write_parts};
