@@ -1,5 +1,5 @@
 -- What words without a bad one, and proofs without a bad one, show.
-use Rattle.std.{proofs.Common.{◌≡◌, ℕ, zero, suc, ◌+◌, ◌<◌, Bool, true, false, not, List, [], ◌∷◌, ◌++◌, length, get_or, take, refl, sym, subst, ap, ◌∙◌, ◌≤◌, arith, inl, inr}, specs.Prelude.{Option, Some, None, slice_get, nat_eq, is_some, MatchOption, Contains, Result, Ok, Err, IsErrAnd, IsErrOf}, specs.List.list_any}
+use Rattle.std.{proofs.Common.{◌≡◌, ℕ, zero, suc, ◌+◌, ◌<◌, Bool, true, false, not, List, [], ◌∷◌, ◌++◌, length, get_or, take, refl, sym, subst, ap, ◌∙◌, arith, inl, inr}, specs.Prelude.{Option, Some, None, slice_get, nat_eq, is_some, MatchOption, Contains, Result, Ok, Err, IsErrAnd, IsErrOf}, specs.List.list_any}
 use Rattle.std.proofs.lemmas.Bool.{cases_Bool, false≢true}
 use Rattle.std.proofs.lemmas.List.{length-append}
 use Rattle.std.proofs.lemmas.Bool.Decides.{nat_tests}

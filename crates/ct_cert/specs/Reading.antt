@@ -57,7 +57,7 @@ atom_in bytes =
     if nat_eq (slice_index bytes 0) 115 then (let q = place_in (drop 1 p.1) in (atom.Same p.0 q.0, q.1))
     else (atom.Node p.0, p.1)
 
--- a sign begins a literal
+-- a sign, + or -, begins a literal
 abbrev pub starts_lit : ℕ → Bool
 starts_lit b = nat_eq b 43 || nat_eq b 45
 
@@ -73,7 +73,7 @@ clause_in bytes = (min (number_in bytes).0 255, (number_in bytes).1)
 unfoldable pub items_in : List ℕ → List ℕ × List ℕ
 items_in bytes = many starts_item item_in (length bytes) bytes
 
--- a reason, by its first two letters
+-- a reason, by its first letter, d or p, or its second one, o
 unfoldable pub why_in : List ℕ → Why × List ℕ
 why_in bytes =
     if nat_eq (slice_index bytes 0) 100 then (let p = place_in (drop 4 bytes) in let k = clause_in (drop 1 p.1) in (why.Def p.0 k.0, k.1))
