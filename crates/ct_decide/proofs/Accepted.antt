@@ -8,8 +8,9 @@ use Rattle.ct_derivation.{specs.declared.literals.Atom.Atom, specs.declared.lite
 use Rattle.ct_derivation.{specs.declared.steps.Derivation.Derivation, specs.Literal.{Clause, same_lit, has, same_members}, specs.Propagation.follows}
 use Rattle.ct_derivation.specs.Variables.{signed}
 use Rattle.ct_derivation.specs.Accepts.{over_atoms, clauses_of, fits_atom, fits_lit, hints_of, gives, is_right, all_right, ends_empty, is_empty, accepts, Accepts}
-use Rattle.ct_sat.{specs.declared.verdict.Rup.Rup, specs.declared.log.Entry.Entry, specs.Literal.{is_literal, is_clause, numbered}}
-use Rattle.ct_sat.{specs.Log.{entry_clause, clauses_in, added_in, each_learned_follows, ends_refuted}, proofs.Carried.follows_carried}
+use Rattle.ct_trail.specs.{declared.log.Rup.Rup, declared.log.Entry.Entry, Literal.{is_literal, is_clause, numbered}}
+use Rattle.ct_trail.specs.Log.{entry_clause, clauses_in, added_in, each_learned_follows}
+use Rattle.ct_sat.{specs.Log.ends_refuted, proofs.Carried.follows_carried}
 use Rattle.ct_cnf.specs.Encoding.{named, through, origin_clause, AreOrigins, AreDistinct, HasNodesBelow, HasPairsBelow}
 use Rattle.ct_decide.specs.Translation.{step, entry_step, origin_count, origin_at, steps_of}
 use Rattle.ct_decide.specs.Cut.{IsAtomBelow, IsHintOfLater, IsCut, ranks, step_by, all_hints, hints_at, HaveEarlier, AreNeeded, IsCutOf}
@@ -18,7 +19,7 @@ use Rattle.ct_decide.proofs.Named.{same_lit_self, carries, atom_there}
 use Rattle.ct_word.specs.declared.kinds.Class.TheVariants as class
 use Rattle.ct_derivation.specs.declared.literals.Atom.TheVariants as atom
 use Rattle.ct_derivation.specs.declared.steps.Why.TheVariants as why
-use Rattle.ct_sat.specs.declared.log.Entry.TheVariants as entry
+use Rattle.ct_trail.specs.declared.log.Entry.TheVariants as entry
 use Rattle.ct_derivation.specs.Accepts as accepted
 use Rattle.ct_sat.specs.Verdict as verdict
 

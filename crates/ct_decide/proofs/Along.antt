@@ -2,7 +2,8 @@
 use Rattle.std.proofs.Common.{◌≡◌, ◌≤◌, ◌<◌, ◌⊎◌, ◌+◌, ◌-◌, ℕ, zero, suc, Bool, true, false, ◌&&◌, List, [], ◌∷◌, ◌++◌, length, get_or, refl, ap, ◌∙◌, sym, subst, arith, inl, inr, append_assoc, append-nil, length-append}
 use Rattle.std.proofs.lemmas.Bool.{and_parts, false≢true}
 use Rattle.ct_derivation.{specs.declared.literals.Atom.Atom, specs.Path.{pair_of, no_links, is_constant}}
-use Rattle.ct_sat.specs.Log.{added_in, IsModelOf}
+use Rattle.ct_trail.specs.Log.{added_in}
+use Rattle.ct_sat.specs.Log.{IsModelOf}
 use Rattle.ct_equality.{specs.Assigned.{Gives, AreLinks, IsFalsePath}, proofs.FalsePaths.{FalseLinks, false_links}}
 use Rattle.ct_decide.{specs.declared.asking.Asking.Asking, specs.Asking.{IsAsking, is_atom, HasAtoms, IsPathOver, AddsTriangle, Breaks, RulesOut, left}}
 use Rattle.ct_decide.{proofs.Clauses.{first_of, last_of, parts_of, last_is, rest_is}, proofs.Truths.one_truth, proofs.Wider.gives_more, proofs.Triangles.still_atom}

@@ -4,8 +4,9 @@ use Rattle.std.{specs.Prelude.Contains, specs.List.list_all, proofs.lemmas.Bool.
 use Rattle.std.proofs.lemmas.List.Elements.{Contains-append_left}
 use Rattle.ct_derivation.{specs.declared.literals.Atom.Atom, specs.declared.steps.Why.Why}
 use Rattle.ct_derivation.specs.declared.steps.Why.TheVariants as why
-use Rattle.ct_sat.{specs.declared.log.Entry.Entry, specs.Literal.{Clause, is_clause}, specs.Log.{State, added_in, Learns, IsModelOf}}
-use Rattle.ct_sat.specs.declared.log.Entry.TheVariants as entry
+use Rattle.ct_trail.specs.{declared.log.Entry.Entry, Literal.{Clause, is_clause}, Log.added_in}
+use Rattle.ct_sat.specs.Log.{State, Learns, IsModelOf}
+use Rattle.ct_trail.specs.declared.log.Entry.TheVariants as entry
 use Rattle.ct_derivation.specs.Variables.{IsCnf, LARGEST}
 use Rattle.ct_cnf.{specs.declared.encoding.Encoded.Encoded, specs.Encoding.{through, origin_clause, AreOrigins, HasDefinitions, AreDistinct, HasNodesBelow, HasPairsBelow}}
 use Rattle.ct_decide.{specs.declared.asking.Asking.Asking, specs.Asking.{IsAsking, IsClauseOf, AddsPath, AddsAtom, RulesOut, left}, specs.Counting.models, proofs.Counts.{models_le, models_less}, proofs.Truths.false_path, proofs.Wider.wider_clause}

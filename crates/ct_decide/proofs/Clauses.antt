@@ -6,7 +6,7 @@ use Rattle.std.{specs.List.list_all, proofs.lemmas.Bool.{and_parts, and_from, fa
 use Rattle.ct_derivation.{specs.declared.literals.Atom.Atom, specs.declared.literals.Lit.Lit, specs.Literal.{no_of, yes_of}, specs.Path.{pair_of, no_links, end_of, is_path, is_constant, ends_clause, path_clause}}
 use Rattle.ct_word.proofs.Splits.{some-injective}
 use Rattle.ct_derivation.{specs.Variables.signed}
-use Rattle.ct_sat.specs.Literal.{is_literal, is_clause, LARGEST}
+use Rattle.ct_trail.specs.Literal.{is_literal, is_clause, LARGEST}
 use Rattle.ct_cnf.specs.Encoding.{named, through}
 use Rattle.ct_decide.{specs.Asking.{is_atom, HasAtoms, IsLiteralOf, IsPathOver, IsClauseOf}, proofs.Named.{named_pos, named_neg}}
 use Rattle.ct_derivation.specs.declared.literals.Atom.TheVariants as atom

@@ -1,7 +1,8 @@
 -- Fewer assignments satisfy more clauses.
 use Rattle.std.proofs.Common.{◌≡◌, ℕ, zero, suc, ◌<◌, ◌≤◌, Bool, true, false, ◌&&◌, List, [], ◌∷◌, ◌++◌, length, refl, ◌∙◌, sym, arith, if◌then◌else◌}
 use Rattle.std.{specs.List.list_all, proofs.lemmas.Bool.{and_parts, false≢true}, proofs.lemmas.List.Folds.list_all-append}
-use Rattle.ct_sat.{specs.Literal.Clause, specs.Verdict.satisfies}
+use Rattle.ct_trail.specs.Literal.{Clause}
+use Rattle.ct_sat.specs.Verdict.{satisfies}
 use Rattle.ct_decide.specs.Counting.{count, models}
 
 abbrev one : Bool → ℕ

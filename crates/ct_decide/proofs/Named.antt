@@ -5,7 +5,8 @@ use Rattle.std.{proofs.lemmas.Bool.{false≢true, ltb-true}, proofs.lemmas.List.
 use Rattle.ct_derivation.{specs.declared.literals.Atom.Atom, specs.declared.literals.Lit.Lit, specs.Variables.signed, specs.Accepts.over_atoms}
 use Rattle.ct_derivation.{specs.Literal.{yes_of, no_of, negated, same_lit}, proofs.Members.same_lit_is}
 use Rattle.ct_cnf.specs.Encoding.{named, AreDistinct}
-use Rattle.ct_sat.{specs.Literal.is_literal, proofs.Carried.CarriesLiterals}
+use Rattle.ct_trail.specs.Literal.{is_literal}
+use Rattle.ct_sat.proofs.Carried.{CarriesLiterals}
 use Rattle.ct_derivation.specs.declared.literals.Atom.TheVariants as atom
 pub use Rattle.ct_derivation.proofs.Members.{same_atom_self, same_atom_is, same_lit_self}
 

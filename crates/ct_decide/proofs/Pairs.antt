@@ -4,7 +4,8 @@ use Rattle.std.{specs.Prelude.Contains, proofs.lemmas.Bool.{cases_Bool, ltb-true
 use Rattle.std.proofs.lemmas.List.Elements.{Contains-append_cases}
 use Rattle.ct_word.proofs.Items.{item_cases, no_item}
 use Rattle.ct_derivation.{specs.declared.literals.Atom.Atom, specs.Path.pair_of}
-use Rattle.ct_sat.specs.Log.{State, added_in}
+use Rattle.ct_trail.specs.Log.{added_in}
+use Rattle.ct_sat.specs.Log.{State}
 use Rattle.ct_cnf.specs.Encoding.{IsTermBelow, IsPairBelow}
 use Rattle.ct_decide.{specs.declared.asking.Asking.Asking, specs.Asking.{IsAsking, is_atom}, proofs.Wider.{wider_clauses, all_wider, distinct_more}, proofs.Worlds.atom_from}
 use Rattle.ct_derivation.specs.declared.literals.Atom.TheVariants as atom

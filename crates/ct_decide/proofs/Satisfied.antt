@@ -4,7 +4,8 @@ use Rattle.std.{proofs.lemmas.Bool.{and_parts, and_from}, proofs.lemmas.List.Fol
 use Rattle.ct_word.{proofs.Splits.some-injective, proofs.Items.{mapped_item, unmapped_item}}
 use Rattle.ct_derivation.{specs.declared.literals.Atom.Atom, specs.declared.steps.Why.Why, specs.Literal.{Clause, same_atom}}
 use Rattle.ct_derivation.{specs.Models.is_satisfied, specs.Variables.signed}
-use Rattle.ct_sat.{specs.Literal.{is_literal, is_clause}, specs.Log.added_in, specs.Verdict.satisfies}
+use Rattle.ct_trail.specs.{Literal.{is_literal, is_clause}, Log.added_in}
+use Rattle.ct_sat.specs.Verdict.{satisfies}
 use Rattle.ct_cnf.specs.Encoding.{named, through, origin_clause, SatisfiesOrigins}
 use Rattle.ct_decide.{specs.declared.asking.Asking.Asking, specs.Asking.{IsAsking, is_atom, HasAtoms}, proofs.Kept.all_item, proofs.Named.{same_atom_self, atom_there}}
 use Rattle.ct_decide.proofs.Truths.{truth_of, clause_truth}

@@ -2,11 +2,11 @@
 use Rattle.std.proofs.Common.{◌≡◌, ℕ, ◌+◌, ◌<◌, ◌≤◌, true, List, ◌∷◌, length, drop, get_or, ap, ◌∙◌, sym, subst, arith}
 use Rattle.std.{specs.Prelude.Contains, specs.List.list_all, proofs.lemmas.List.Elements.Contains-get_or, proofs.lemmas.List.{drop_more, get_or-drop, drop-drop}}
 use Rattle.ct_derivation.{specs.declared.literals.Atom.Atom, specs.declared.steps.Why.Why}
-use Rattle.ct_sat.{specs.declared.log.Entry.Entry, specs.Literal.is_clause, specs.Log.{entry_clause, clauses_in}}
+use Rattle.ct_trail.specs.{declared.log.Entry.Entry, Literal.is_clause, Log.{entry_clause, clauses_in}}
 use Rattle.ct_decide.{specs.Translation.{entry_step, origin_count, origin_at, steps_of}, proofs.Kept.all_item}
 use Rattle.ct_word.proofs.Items.{mapped_item}
 use Rattle.ct_derivation.specs.declared.steps.Why.TheVariants as why
-use Rattle.ct_sat.specs.declared.log.Entry.TheVariants as entry
+use Rattle.ct_trail.specs.declared.log.Entry.TheVariants as entry
 
 pub steps_turn : (atoms : List Atom) (ws : List Why) (es : List Entry) (next k : ℕ) (d : Entry) → k < length es
     → steps_of atoms (drop next ws) (drop k es) ≡ entry_step atoms (origin_at ws next) (get_or es k d) ∷ steps_of atoms (drop (next + origin_count (get_or es k d)) ws) (drop (k + 1) es)

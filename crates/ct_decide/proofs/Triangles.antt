@@ -4,7 +4,8 @@ use Rattle.std.{specs.Prelude.Contains, specs.List.list_all, proofs.lemmas.Bool.
 use Rattle.ct_word.{specs.WellFormed.is_place_of}
 use Rattle.ct_derivation.{specs.declared.literals.Atom.Atom, specs.Literal.{Clause}}
 use Rattle.ct_derivation.specs.Path.{pair_of, no_links, is_path, is_constant, ends_clause, path_clause}
-use Rattle.ct_sat.{specs.Log.{State, added_in, IsModelOf}, specs.Verdict.satisfies}
+use Rattle.ct_trail.specs.Log.{added_in}
+use Rattle.ct_sat.specs.{Log.{State, IsModelOf}, Verdict.satisfies}
 use Rattle.ct_equality.specs.Assigned.{Gives, IsFalse, IsFalsePath}
 use Rattle.ct_decide.{specs.declared.asking.Asking.Asking, specs.Asking.{IsAsking, is_atom, HasAtoms, IsPlaceOf, IsKnown, IsPathOver, AddsPath, AddsEnd, AddsTriangle, IsKept, Closes, left}}
 use Rattle.ct_decide.{proofs.Askings.{less_left, no_more_left}, proofs.Pairs.{AreTerms, terms_of}, proofs.Truths.{false_path, one_truth, some_truth}, proofs.Wider.gives_more, proofs.Worlds.atom_from}

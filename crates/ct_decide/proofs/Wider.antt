@@ -4,7 +4,7 @@ use Rattle.std.{specs.Prelude.Contains, specs.List.list_all, proofs.lemmas.Bool.
 use Rattle.std.{proofs.lemmas.List.{get_or_append_left, get_or_push, length_push}, proofs.lemmas.List.Elements.Contains-get_or}
 use Rattle.ct_word.proofs.Items.{get_append}
 use Rattle.ct_derivation.{specs.declared.literals.Atom.Atom, specs.Literal.{yes_of, no_of}, specs.Variables.signed}
-use Rattle.ct_sat.specs.Literal.{is_literal, is_clause}
+use Rattle.ct_trail.specs.Literal.{is_literal, is_clause}
 use Rattle.ct_cnf.specs.Encoding.{named, through, AreDistinct}
 use Rattle.ct_equality.specs.Assigned.{Gives}
 use Rattle.ct_decide.{specs.Asking.is_atom, proofs.Named.{named_pos, named_neg}, proofs.Satisfied.atom_is_there}

@@ -8,7 +8,8 @@ use Rattle.ct_word.{specs.Stands.{StandsAt, HasNoColumn}, specs.WellFormed.{IsWe
 use Rattle.ct_word.proofs.Items.{contains_of_get}
 use Rattle.ct_derivation.{specs.declared.literals.Atom.Atom, specs.Literal.{Clause, same_atom, yes_of}, specs.Definition.{defining, definition}}
 use Rattle.ct_derivation.{specs.Models.AreFieldsBelow, specs.Path.is_constant, proofs.Modelled.each_right}
-use Rattle.ct_sat.{specs.Log.{added_in, IsModelOf}, specs.Verdict.satisfies}
+use Rattle.ct_trail.specs.Log.{added_in}
+use Rattle.ct_sat.specs.{Log.IsModelOf, Verdict.satisfies}
 use Rattle.ct_cnf.specs.Encoding.{IsConditionBelow, IsTermBelow}
 use Rattle.ct_equality.specs.Assigned.{is_column_kind, is_column_word, is_plain_term, is_plain_atom, are_plain, IsFalse, IsFalsePath}
 use Rattle.ct_equality.{specs.Terms.{is_end, is_end_of}, specs.Valued.{IsWorldOf, IsPlainValue, ClosedOf, value_in}, proofs.Steps.plain_from, specs.declared.closing.Closed.Closed}

@@ -8,7 +8,8 @@ use Rattle.ct_derivation.specs.declared.steps.Why.TheVariants as why
 use Rattle.ct_derivation.specs.Literal.{Clause, same_atom}
 use Rattle.ct_derivation.specs.Path.{path_clause, pair_of, is_constant}
 use Rattle.ct_derivation.specs.Variables.{is_clause, is_literal, signed, LARGEST}
-use Rattle.ct_sat.specs.Log.{added_in, IsModelOf}
+use Rattle.ct_trail.specs.Log.{added_in}
+use Rattle.ct_sat.specs.Log.{IsModelOf}
 use Rattle.ct_cnf.specs.Encoding.{AreOrigins, HasDefinitions, AreDistinct, HasNodesBelow, HasPairsBelow, named, through}
 use Rattle.ct_equality.specs.Assigned.{Gives, IsFalsePath}
 use Rattle.ct_equality.specs.declared.closing.Closed.{Closed}

@@ -1,7 +1,7 @@
 -- How many assignments of truths satisfy clauses.
 use Rattle.std.specs.Prelude.{ℕ, zero, suc, ◌+◌, Bool, true, false, List, [], ◌∷◌, if◌then◌else◌}
 use Rattle.std.specs.List.{list_all}
-use Rattle.ct_sat.specs.Literal.{Clause}
+use Rattle.ct_trail.specs.Literal.{Clause}
 use Rattle.ct_sat.specs.Verdict.{satisfies}
 
 -- how many lists of so many truths pass a test

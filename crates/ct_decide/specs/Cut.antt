@@ -9,8 +9,8 @@ use Rattle.ct_derivation.specs.declared.steps.Why.TheVariants as why
 use Rattle.ct_derivation.specs.declared.steps.Step.{Step}
 use Rattle.ct_derivation.specs.declared.steps.Derivation.{Derivation}
 use Rattle.ct_derivation.specs.Accepts.{hints_of}
-use Rattle.ct_sat.specs.declared.log.Entry.{Entry}
-use Rattle.ct_sat.specs.declared.log.Entry.TheVariants as entry
+use Rattle.ct_trail.specs.declared.log.Entry.{Entry}
+use Rattle.ct_trail.specs.declared.log.Entry.TheVariants as entry
 use Rattle.ct_decide.specs.Marks.{is_marked}
 use Rattle.ct_decide.specs.Translation.{step, steps_of}
 

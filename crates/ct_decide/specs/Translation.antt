@@ -5,8 +5,8 @@ use Rattle.ct_derivation.specs.declared.steps.Why.{Why}
 use Rattle.ct_derivation.specs.declared.steps.Why.TheVariants as why
 use Rattle.ct_derivation.specs.declared.steps.Step.{Step}
 use Rattle.ct_derivation.specs.Literal.{Clause}
-use Rattle.ct_sat.specs.declared.log.Entry.{Entry}
-use Rattle.ct_sat.specs.declared.log.Entry.TheVariants as entry
+use Rattle.ct_trail.specs.declared.log.Entry.{Entry}
+use Rattle.ct_trail.specs.declared.log.Entry.TheVariants as entry
 use Rattle.ct_cnf.specs.Encoding.{through}
 
 abbrev pub step : Clause → Why → Step

@@ -5,7 +5,7 @@ ghost use Rattle.std.specs.List.{list_all};
 ghost use Rattle.ct_word.specs.declared.kinds.Class.TheVariants as class;
 ghost use Rattle.ct_word.specs.WellFormed.{IsWellFormed, is_place_of};
 ghost use Rattle.ct_derivation.specs.Variables.{is_clause, LARGEST};
-ghost use Rattle.ct_sat.specs.Log.{added_in};
+ghost use Rattle.ct_trail.specs.Log.{added_in};
 ghost use Rattle.ct_decide.specs.Asking.{IsAsking, IsPathOver, AddsPath};
 
 use crate::error::DecideError;

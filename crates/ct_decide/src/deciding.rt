@@ -4,7 +4,8 @@ ghost use Rattle.std.specs.Prelude.{◌≡◌, ◌<◌, ◌^◌, true, length, I
 ghost use Rattle.ct_word.specs.declared.kinds.Class.TheVariants as class;
 ghost use Rattle.ct_word.specs.WellFormed.{IsWellFormed, is_place_of};
 ghost use Rattle.ct_word.specs.Stands.{HasNoColumn};
-ghost use Rattle.ct_sat.specs.Log.{added_in, ends_refuted, IsModelOf};
+ghost use Rattle.ct_trail.specs.Log.{added_in};
+ghost use Rattle.ct_sat.specs.Log.{ends_refuted, IsModelOf};
 ghost use Rattle.ct_decide.specs.Asking.{IsAsking, ClosesAs, RoundOf};
 ghost use Rattle.ct_decide.specs.Decided.{DecisionOf};
 

@@ -2,8 +2,8 @@
 
 ghost use Rattle.std.specs.Prelude.{◌≡◌, ◌≤◌, ◌<◌, true, length, IfOk, slice_index_or};
 ghost use Rattle.std.specs.List.{list_all};
-ghost use Rattle.ct_sat.specs.Literal.{is_literal, is_clause};
-ghost use Rattle.ct_sat.specs.Log.{entry_clause, clauses_in};
+ghost use Rattle.ct_trail.specs.Literal.{is_literal, is_clause};
+ghost use Rattle.ct_trail.specs.Log.{entry_clause, clauses_in};
 ghost use Rattle.ct_cnf.specs.Encoding.{named, through};
 ghost use Rattle.ct_derivation.specs.Variables.{signed};
 ghost use Rattle.ct_decide.specs.Translation.{entry_step, origin_count, origin_at, steps_of};

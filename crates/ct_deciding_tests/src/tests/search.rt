@@ -1,7 +1,7 @@
 // Verdicts on small clause sets.
 
 ghost use Rattle.std.specs.Prelude.{◌≡◌, true, ◌≤◌, ◌≤ℤ◌, pos};
-ghost use Rattle.ct_sat.specs.Literal.{is_clause, is_literal};
+ghost use Rattle.ct_trail.specs.Literal.{is_clause, is_literal};
 ghost use Rattle.ct_sat.specs.Verdict.{IsCnf};
 
 use ct_sat::{Cnf, Verdict, solve};
@@ -16,7 +16,7 @@ fn is_literal(vars: u32, l: i32) -> bool
     l != 0 && l.unsigned_abs() <= vars
 }
 
-#[tactic(auto, unfolding(ct_sat::specs::Literal::is_clause))]
+#[tactic(auto, unfolding(ct_trail::specs::Literal::is_clause))]
 pub fn is_clause(vars: u32, clause: &[i32]) -> bool
     ensures { result ≡ is_clause vars clause.now }
 {

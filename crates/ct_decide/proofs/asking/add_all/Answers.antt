@@ -1,7 +1,7 @@
 use Rattle.std.{proofs.Common.{◌≡◌, ◌++◌, true, length, ap, ◌∙◌, sym, subst, arith}, proofs.lemmas.Bool.and_parts, specs.List.list_all}
 use Rattle.std.specs.Vec.Iter.{into_iter_items}
 use Rattle.ct_derivation.specs.Variables.{is_clause}
-use Rattle.ct_sat.specs.Log.{added_in}
+use Rattle.ct_trail.specs.Log.{added_in}
 use Rattle.ct_decide.proofs.Askings.{added_one}
 use Rattle.ct_decide.proofs.asking.add_all.Goals as goal
 

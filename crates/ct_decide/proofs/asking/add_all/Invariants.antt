@@ -1,6 +1,6 @@
 use Rattle.std.{proofs.Common.{◌≡◌, ◌++◌, true, length}, specs.List.list_all, specs.Vec.Iter.{into_iter_items, into_iter_len}}
 use Rattle.ct_derivation.specs.Variables.{is_clause}
-use Rattle.ct_sat.specs.Log.{added_in}
+use Rattle.ct_trail.specs.Log.{added_in}
 use Rattle.ct_decide.proofs.asking.add_all.Given as goal
 
 abbrev pub invariant-loop-clause : goal.invariant-loop-clause

@@ -1,6 +1,6 @@
 use Rattle.std.{proofs.Common.{◌≡◌, ◌≤◌, ◌++◌, true, List, ℤ, ℕ, ap, ◌∙◌, sym, subst}, specs.List.list_all}
 use Rattle.ct_derivation.specs.Variables.{LARGEST, is_clause}
-use Rattle.ct_sat.specs.Log.{added_in}
+use Rattle.ct_trail.specs.Log.{added_in}
 use Rattle.ct_decide.{proofs.Askings.begun, proofs.Wider.wider_clauses}
 use Rattle.ct_decide.proofs.asking.begin.Goals as goal
 

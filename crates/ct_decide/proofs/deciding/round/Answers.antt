@@ -1,5 +1,6 @@
 use Rattle.std.proofs.Common.{◌<◌, ℕ, Bool, List, subst}
-use Rattle.ct_sat.specs.Log.{added_in, IsModelOf}
+use Rattle.ct_trail.specs.Log.{added_in}
+use Rattle.ct_sat.specs.Log.{IsModelOf}
 use Rattle.ct_equality.specs.Assigned.{IsFalsePath}
 use Rattle.ct_decide.{specs.Asking.{RulesOut, left}, proofs.Askings.{with_solver, only_learns, after_step, same_left}, proofs.Worlds.false_over}
 use Rattle.ct_decide.proofs.deciding.round.Goals as goal

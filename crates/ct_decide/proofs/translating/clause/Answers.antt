@@ -1,5 +1,5 @@
 use Rattle.std.proofs.Common.{length, pos}
-use Rattle.ct_sat.proofs.Literals.{literal_at}
+use Rattle.ct_trail.proofs.Literals.{literal_at}
 use Rattle.ct_decide.proofs.translating.clause.Goals as goal
 
 pub literal-requires : goal.literal-requires

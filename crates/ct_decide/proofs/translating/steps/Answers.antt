@@ -1,8 +1,8 @@
 use Rattle.std.proofs.Common.{◌≡◌, ◌++◌, ◌∷◌, ◌+◌, ◌<◌, [], true, false, List, length, drop, get_or, map, ap, ◌∙◌, arith}
 use Rattle.std.proofs.lemmas.List.{get_or_default}
 use Rattle.ct_derivation.specs.declared.steps.Step.{Step}
-use Rattle.ct_sat.specs.declared.log.Entry.{Entry}
-use Rattle.ct_sat.specs.declared.log.Entry.TheVariants as entry
+use Rattle.ct_trail.specs.declared.log.Entry.{Entry}
+use Rattle.ct_trail.specs.declared.log.Entry.TheVariants as entry
 use Rattle.ct_decide.{specs.Translation.{entry_step, origin_count, origin_at, steps_of}, specs.Cut.{step_by, cut}, proofs.Kept.kept_turn, proofs.Steps.{steps_turn, entry_within, count_one}}
 use Rattle.ct_decide.proofs.translating.steps.Goals.{then-marks-k+in_ok-step+in_ok-push, else-marks-k}
 use Rattle.ct_decide.proofs.translating.steps.Goals as goal

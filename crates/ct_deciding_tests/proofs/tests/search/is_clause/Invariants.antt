@@ -1,5 +1,5 @@
 use Rattle.std.proofs.Common.{◌≡◌, take, true}
-use Rattle.ct_sat.specs.Literal.{is_clause}
+use Rattle.ct_trail.specs.Literal.{is_clause}
 use Rattle.ct_deciding_tests.proofs.tests.search.is_clause.Given as goal
 
 abbrev pub invariant-loop-l : goal.invariant-loop-l

@@ -1,5 +1,5 @@
 use Rattle.std.{proofs.Common.{◌≡◌, take, true}, specs.List.list_all}
-use Rattle.ct_sat.specs.Literal.{is_clause}
+use Rattle.ct_trail.specs.Literal.{is_clause}
 use Rattle.ct_deciding_tests.proofs.tests.search.is_cnf.Given as goal
 
 abbrev pub invariant-loop-clause : goal.invariant-loop-clause
