@@ -1,10 +1,11 @@
 -- Questions and their answers.
-use Rattle.std.{proofs.Common.{◌≡◌, ℕ, ◌&&◌, true, List, [], ◌∷◌, refl, sym, ◌∙◌, inl, inr, arith}, specs.Prelude.{Some, None}, proofs.lemmas.Bool.and_from}
+use Rattle.std.{proofs.Common.{◌≡◌, ℕ, ◌&&◌, true, List, [], ◌∷◌, refl, sym, ◌∙◌, inl, inr, arith}, specs.Prelude.{Contains, Some, None}, proofs.lemmas.Bool.and_from}
 use Rattle.ct_word.{specs.declared.values.CRow.CRow, specs.declared.values.Null.Null, specs.Value.{World, value_of_null}, specs.Condition.{holds, holds_at}}
 use Rattle.ct_word.{specs.Reading.condition_at, specs.Stands.HasNoColumn, specs.WellFormed.IsWellFormed, proofs.Prefixes.{condition_in_prefix, place_within}}
 use Rattle.ct_derivation.{specs.Accepts.Accepts, proofs.Sound.root_refuted}
 use Rattle.ct_condition.{specs.Truth.{HasTruth, and_at}, specs.Terms.{TermsFrom, BelowEither}, proofs.Reached.either_before}
-use Rattle.ct_worlds.specs.Repaired.{IsRepaired}
+use Rattle.ct_worlds.specs.{Conjuncts.AreBeside, Repaired.IsRepairedNear}
+use Rattle.ct_word.proofs.Items.{first_item, later_item}
 use Rattle.ct_rewrite.specs.Tidy.{IsTidy}
 use Rattle.ct_certain.{specs.Answered.{AreOf, IsAnswer, IsSettled, IsWitness}, specs.Possible.is_shown}
 use Rattle.ct_certain.proofs.Agreed.{truth_agreed}
@@ -18,13 +19,17 @@ in_order : (words : List ℕ) (root : ℕ) (found world : World) → ((n : Null)
 in_order words root found world same holds = truth_agreed world found [] (condition_at words root) (λ n h. same n) ∙ holds
 
 -- a world that was made from another so that a row is shown, in order
-pub changed_shows : (words : List ℕ) (global : ℕ) (r : CRow) (near found world : World) → IsRepaired words (global ∷ r.cond ∷ []) near found → ((n : Null) → value_of_null world n ≡ value_of_null found n) → IsTidy world
-    → IsWitness words global r world
-changed_shows words global r near found world made same tidy = (
+pub changed_shows : (words : List ℕ) (global : ℕ) (r : CRow) (found world : World) → ((c : ℕ) → Contains (global ∷ r.cond ∷ []) c → holds_at found (condition_at words c) ≡ true)
+    → ((n : Null) → value_of_null world n ≡ value_of_null found n) → IsTidy world → IsWitness words global r world
+changed_shows words global r found world holds same tidy = (
   tidy,
   and_from (holds_at world (condition_at words global)) (holds_at world (condition_at words r.cond))
-      (in_order words global found world same (made.holds global (0, omega arith, refl))) (in_order words r.cond found world same (made.holds r.cond (1, omega arith, refl))),
+      (in_order words global found world same (holds global (0, omega arith, refl))) (in_order words r.cond found world same (holds r.cond (1, omega arith, refl))),
 )
+
+-- a world that was made so that a condition and those beside it hold
+pub beside_holds : (words : List ℕ) (root one : ℕ) (own : List ℕ) (near v : World) → AreBeside words root one own → IsRepairedNear words (one ∷ own) near v → holds_at v (condition_at words root) ≡ true
+beside_holds words root one own near v beside made = beside.enough v (made.holds one (first_item own one)) (λ p h. made.holds p (later_item own one p h))
 
 -- the root of the question whether a row is shown, put by words after these
 module _ (words old new : List ℕ) (grown : IsPrefix words old) (formed : IsWellFormed old) (global : ℕ) (r : CRow) (are : AreOf words global r) (root : ℕ) where

@@ -1,11 +1,11 @@
 -- A pair that is put last: its null comes after all others, or is that of the last one.
-use Rattle.std.proofs.Common.{◌≡◌, ◌<◌, ◌+◌, ◌++◌, take, ℕ, zero, suc, Bool, true, false, not, List, [], ◌∷◌, length, get_or, refl, ap, sym, ◌∙◌, arith}
-use Rattle.std.{specs.Prelude.if◌then◌else◌, specs.List.list_all, specs.List.Sorted.IsSortedBy, specs.declared.cmp.Ordering.Ordering}
+use Rattle.std.proofs.Common.{◌≡◌, ◌<◌, ◌≤◌, ◌+◌, ◌++◌, take, drop, drop-cons, Some, subst, ℕ, zero, suc, Bool, true, false, not, ◌&&◌, List, [], ◌∷◌, length, get_or, refl, ap, sym, ◌∙◌, arith}
+use Rattle.std.{specs.Prelude.if◌then◌else◌, proofs.lemmas.List.drop_all, specs.List.list_all, specs.List.Sorted.IsSortedBy, specs.declared.cmp.Ordering.Ordering}
 use Rattle.std.specs.declared.cmp.Ordering.TheVariants.{Less, Equal, Greater}
 use Rattle.std.{specs.Ordering.{ordering_reverse, is_eq, is_lt}, proofs.lemmas.Bool.{and_parts, and_from, false≢true}, proofs.lemmas.List.Sorted.sorted_far}
 use Rattle.ct_word.{specs.declared.values.Value.Value, specs.declared.values.Null.Null, specs.Value.{World, same_value, other_zero, value_of_null}}
-use Rattle.ct_rewrite.{specs.Order.null_order, specs.Tidy.{null_before, are_ascending}, proofs.Sides.{null_turned, exact_null}}
-use Rattle.ct_certain.{specs.Order.{by_order, put, with_null, with_nulls, are_up_to, ends_with}, proofs.Ordered.{null_ranks, put_all}}
+use Rattle.ct_rewrite.{specs.Order.null_order, specs.Tidy.{IsTidy, has_no_zero, null_before, are_ascending}, proofs.Sides.{null_turned, exact_null}}
+use Rattle.ct_certain.{specs.Order.{by_order, put, with_null, with_nulls, are_up_to, ends_with}, proofs.Ordered.{before_more, less_of, null_ranks, put_all}}
 
 -- an order is not before and not not before
 neither : (o : Ordering) → not (is_lt o) ≡ true → o ≡ Less → {X : Type 0} → X
@@ -87,3 +87,32 @@ front_up (n ∷ ns) (suc i) m h =
 pub next_up : (world : World) (ns : List Null) (i : ℕ) (n : Null) → IsSortedBy null_before ns → i < length ns → n ≡ get_or ns i n → are_up_to (with_nulls world [] (take i ns)) n ≡ true
 next_up world ns i n ordered lt e =
     with_up world n (take i ns) [] (front_up ns i n (λ k a b. ap (λ m. null_before m (get_or ns k n)) e ∙ sorted_far null_before null_ranks ns ordered k i n (omega (arith, a)) lt)) refl
+
+-- a null is before the first one of these, if there is one
+abbrev IsBefore : Null → World → Type 0
+IsBefore n [] = Unit {0}
+IsBefore n (q ∷ v) = null_order n q.0 ≡ Less
+
+-- one more pair in front
+tidy_cons : (p : Null × Value) (v : World) → same_value p.1 other_zero ≡ false → IsBefore p.0 v → IsTidy v → IsTidy (p ∷ v)
+tidy_cons p [] nonzero before tidy = ap (λ b. not b && true) nonzero
+tidy_cons p (q ∷ v) nonzero before tidy =
+    let parts = and_parts (are_ascending (q ∷ v)) (has_no_zero (q ∷ v)) tidy in
+    let first = and_parts (list_all (λ r. null_before q.0 r.0) v) (are_ascending v) parts.0 in
+    and_from (are_ascending (p ∷ q ∷ v)) (has_no_zero (p ∷ q ∷ v))
+    (and_from (list_all (λ r. null_before p.0 r.0) (q ∷ v)) (are_ascending (q ∷ v))
+    (and_from (null_before p.0 q.0) (list_all (λ r. null_before p.0 r.0) v) (ap is_lt before) (before_more p.0 q.0 v before first.0)) parts.0)
+    (and_from (not (same_value p.1 other_zero)) (has_no_zero (q ∷ v)) (ap not nonzero) parts.1)
+
+-- a pair further to the front, behind which is none
+pub tidy_last : (v : World) (k : ℕ) (p : Null × Value) → k < length v → p ≡ get_or v k p → length v ≤ suc k → same_value p.1 other_zero ≡ false → IsTidy (drop k v)
+tidy_last v k p lt is end nonzero =
+    subst IsTidy (sym (drop-cons v k p lt ∙ ap (λ x. x ∷ drop (suc k) v) (sym is) ∙ ap (λ l. p ∷ l) (drop_all (suc k) v end))) (tidy_cons p [] nonzero tt refl)
+
+-- and one with another behind it
+pub tidy_before : (v : World) (k j : ℕ) (p q : Null × Value) → k < length v → p ≡ get_or v k p → j ≡ suc k → j < length v → q ≡ get_or v j q → same_value p.1 other_zero ≡ false → null_before p.0 q.0 ≡ true
+    → IsTidy (drop (suc k) v) → IsTidy (drop k v)
+tidy_before v k j p q lt is one short next nonzero before tidy =
+    let rest : drop (suc k) v ≡ q ∷ drop (suc j) v = ap (λ n. drop n v) (sym one) ∙ drop-cons v j q short ∙ ap (λ x. x ∷ drop (suc j) v) (sym next) in
+    subst IsTidy (sym (drop-cons v k p lt ∙ ap (λ x. x ∷ drop (suc k) v) (sym is) ∙ ap (λ l. p ∷ l) rest))
+    (tidy_cons p (q ∷ drop (suc j) v) nonzero (less_of (null_order p.0 q.0) before) (subst IsTidy rest tidy))

@@ -13,3 +13,4 @@ pub mod Valued
 pub mod Roots
 pub mod Certainties
 pub mod Candidates
+pub mod Nearby

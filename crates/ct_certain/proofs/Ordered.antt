@@ -30,13 +30,13 @@ null_total = record { antisymm = null_turned; trans = null_through; congr = λ l
 pub null_ranks : IsStrictWeakOrder null_before
 null_ranks = ranks_by null_total (λ n. n)
 
-less_of : (o : Ordering) → is_lt o ≡ true → o ≡ Less
+pub less_of : (o : Ordering) → is_lt o ≡ true → o ≡ Less
 less_of Less e = refl
 less_of Equal e = absurd (false≢true e)
 less_of Greater e = absurd (false≢true e)
 
 -- a null before another is before all that the other is before
-before_more : (m n : Null) (v : World) → null_order m n ≡ Less → list_all (λ r. null_before n r.0) v ≡ true → list_all (λ r. null_before m r.0) v ≡ true
+pub before_more : (m n : Null) (v : World) → null_order m n ≡ Less → list_all (λ r. null_before n r.0) v ≡ true → list_all (λ r. null_before m r.0) v ≡ true
 before_more m n [] e all = refl
 before_more m n (r ∷ v) e all =
     let parts = and_parts (null_before n r.0) (list_all (λ r. null_before n r.0) v) all in

@@ -14,12 +14,14 @@ use Rattle.ct_decide.specs.Cut.{IsCut}
 use Rattle.ct_decide.specs.declared.deciding.Decision.{Decision}
 use Rattle.ct_decide.specs.declared.deciding.Decision.TheVariants as decision
 use Rattle.ct_condition.specs.Worth.{AreWorths}
+use Rattle.ct_worlds.specs.Conjuncts.{AreConjuncts}
 use Rattle.ct_rewrite.specs.Tidy.{IsTidy}
 use Rattle.ct_rewrite.specs.declared.answer.PossibleRow.{PossibleRow}
 use Rattle.ct_certain.specs.Own.{AreNullsOf}
 use Rattle.ct_certain.specs.Possible.{is_shown, shown_row}
 use Rattle.ct_certain.specs.declared.pool.Known.{Known}
 use Rattle.ct_certain.specs.declared.pool.Pool.{Pool}
+use Rattle.ct_certain.specs.declared.settling.Near.{Near}
 
 -- a derivation is accepted, so that a condition holds at no valuation, and is cut
 abbrev pub IsRefutation : List ℕ → ℕ → Derivation → Type 0
@@ -66,12 +68,18 @@ abbrev pub AreFound : List ℕ → ℕ → List (ℕ × World) → Type 0
 AreFound words global entries = (c : ℕ) → IfSome (lookup (nat_eq c) entries) (IsFound words global c)
 
 -- worlds that are known, those that are known for conditions, conditions that hold at none, and the nulls below the global
--- condition
+-- condition, and its conjuncts
 pub record IsPool (words : List ℕ) (global : ℕ) (p : Pool) : Type 0 where
   pub worlds : All (IsKnown words global) p.worlds.items
   pub found : AreFound words global p.found.entries
   pub never : All (IsNever words global) p.never.keys
   pub nulls : AreNullsOf (TermBelow words global) p.nulls.keys
+  pub conjuncts : AreConjuncts words global p.conjuncts
+
+-- at a known world the global condition holds, whose conjuncts are given
+pub record IsNear (words : List ℕ) (global : ℕ) (n : Near) : Type 0 where
+  pub conjuncts : AreConjuncts words global n.conjuncts.now
+  pub holds : IsTrue (holds_at n.world.now (condition_at words global))
 
 -- the list with a row where some world shows it, as it was where none does
 pub data Adds (words : List ℕ) (global : ℕ) (r : CRow) (old : List PossibleRow) : List PossibleRow → Type 0 where

@@ -3,18 +3,18 @@
 ghost use Rattle.std.specs.Prelude.{◌≡◌, ◌*◌, ◌+◌, [], ◌∷◌, false, length, All, IfOk};
 ghost use Rattle.ct_condition.specs.Writes.{Writes};
 ghost use Rattle.ct_operators.specs.Refusals.{is_full as has_no_room};
-ghost use Rattle.ct_certain.specs.Answered.{IsSettled};
+ghost use Rattle.ct_certain.specs.Answered.{IsNear, IsSettled};
 ghost use Rattle.ct_certain.specs.Faults.{is_full};
 ghost use Rattle.ct_certain.specs.Missing.{AreOfTuple, IsAtHand, IsAskedOf, IsOfValue, IsRefuted, IsRootOf, condition_of};
 
 use crate::derivations::{Listed, known};
 use crate::error::CertainError;
-use crate::settling::settle_near;
+use crate::settling::{Near, settle_near};
 use ct_arena::{Arena, Site};
 use ct_condition::{Interner, term};
 use ct_decide::Decision;
 use ct_operators::{CTable, TableError, except};
-use ct_word::{CRow, FALSE_PLACE, List, Term, Text, Value, World};
+use ct_word::{CRow, FALSE_PLACE, List, Term, Text, Value};
 use std::alloc::Global;
 
 /// The place of a value. A word is made for `@k` at most, and none for a constant of the words.
@@ -126,11 +126,12 @@ pub fn ask_tuple<N: Site, I: Interner<N>>(
     words: &[u64],
     table: &CTable,
     global: u32,
-    kept: &World,
+    near: &Near<'_>,
     list: &Listed,
     tuple: &[Value],
 ) -> Result<(u32, Decision), CertainError>
     requires asked { IsAskedOf words.now (I.list pass.old) global (length table.now.columns) table.now.rows tuple.now }
+    requires near { IsNear words.now global near.now }
     requires listed { All (IsRefuted words.now (I.list pass.old) global table.now.rows) list.now.rows.items }
     ensures root { IfOk result (λ a. IsRootOf words.now (I.list pass.new) global table.now.rows tuple.now a.0) }
     ensures settled { IfOk result (λ a. IsSettled (I.list pass.new) a.0 a.1) }
@@ -142,6 +143,6 @@ pub fn ask_tuple<N: Site, I: Interner<N>>(
     if let Some(derivation) = before {
         return Ok((place, Decision::Refuted(derivation)));
     }
-    let decision = settle_near(alloc, now, place, kept)?;
+    let decision = settle_near(alloc, now, place, global, near)?;
     Ok((place, decision))
 }

@@ -9,6 +9,7 @@ ghost use Rattle.ct_word.specs.Value.{same_tuple};
 ghost use Rattle.ct_word.specs.WellFormed.{IsWellFormed, is_place_of};
 ghost use Rattle.ct_condition.specs.Writes.{Writes};
 ghost use Rattle.ct_operators.specs.Tables.{AreRows, IsRow};
+ghost use Rattle.ct_certain.specs.Answered.{IsNear};
 ghost use Rattle.ct_certain.specs.Certain.{IsCutProof, IsKeptWorld, ListsCertain};
 ghost use Rattle.ct_certain.specs.Faults.{is_full};
 ghost use Rattle.ct_certain.specs.Missing.{AreListed, IsAskedOf, IsRefuted, IsSeen, Takes};
@@ -17,6 +18,7 @@ ghost use Rattle.ct_certain.specs.declared.error.CertainError.TheVariants as fau
 use crate::absence::ask_tuple;
 use crate::derivations::Listed;
 use crate::error::CertainError;
+use crate::settling::Near;
 use crate::striking::{Seen, is_everywhere, see, see_first};
 use crate::tuples::tuples;
 use ct_arena::{Arena, Pass, Site};
@@ -26,6 +28,7 @@ use ct_derivation::{Derivation, Proof};
 use ct_operators::CTable;
 use ct_rewrite::CertainRow;
 use ct_word::{List, Memory, Value, World};
+use ct_worlds::conjuncts;
 use indexmap::IndexMap;
 use std::alloc::Global;
 
@@ -57,12 +60,13 @@ fn try_tuple<N: Site, I: Interner<N>>(
     words: &[u64],
     table: &CTable,
     global: u32,
-    kept: &World,
+    near: &Near<'_>,
     pool: &mut Vec<Seen>,
     list: &mut Listed,
     tuple: &List<Value>,
 ) -> Result<(), CertainError>
     requires asked { IsAskedOf words.now (I.list pass.old) global (length table.now.columns) table.now.rows tuple.now }
+    requires near { IsNear words.now global near.now }
     requires small { length words.now < 2 ^ 28 }
     requires rows { All (λ r. IsRow words.now (length r.cells) r) table.now.rows }
     requires pool { All (IsSeen words.now global table.now.rows) pool.old.items }
@@ -83,7 +87,7 @@ fn try_tuple<N: Site, I: Interner<N>>(
         words,
         table,
         global,
-        kept,
+        near,
         list,
         tuple.as_slice(),
     )?;
@@ -107,11 +111,12 @@ fn each_certain<N: Site, I: Interner<N>>(
     words: &[u64],
     table: &CTable,
     global: u32,
-    kept: &World,
+    near: &Near<'_>,
     pool: &mut Vec<Seen>,
     candidates: &[List<Value>],
 ) -> Result<List<CertainRow>, CertainError>
     requires same { words.now ≡ I.list pass.old }
+    requires near { IsNear words.now global near.now }
     requires small { length words.now < 2 ^ 28 }
     requires rows { All (λ r. IsRow words.now (length r.cells) r) table.now.rows }
     requires pool { All (IsSeen words.now global table.now.rows) pool.old.items }
@@ -128,7 +133,7 @@ fn each_certain<N: Site, I: Interner<N>>(
     };
     for tuple in candidates {
         try_tuple(
-            alloc, arena, pass, words, table, global, kept, pool, &mut list, tuple,
+            alloc, arena, pass, words, table, global, near, pool, &mut list, tuple,
         )?;
     }
     Ok(List::from_vec(list.rows))
@@ -171,6 +176,11 @@ pub fn certain<N: Site>(
     drop(worths);
     let mut pool = Vec::new(alloc);
     see_first(alloc, before, global, rows, kept, &mut pool)?;
+    let conjuncts = conjuncts(alloc, before, global)?;
+    let near = Near {
+        conjuncts: &conjuncts,
+        world: kept,
+    };
     each_certain(
         alloc,
         arena,
@@ -178,7 +188,7 @@ pub fn certain<N: Site>(
         before,
         table,
         global,
-        kept,
+        &near,
         &mut pool,
         candidates.as_slice(),
     )

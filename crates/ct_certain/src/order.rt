@@ -1,9 +1,9 @@
 // Worlds in the order of their nulls.
 
-ghost use Rattle.std.specs.Prelude.{◌≡◌, [], ℕ, map, IfOk, IsPermutation, IsTrue, OnOk};
+ghost use Rattle.std.specs.Prelude.{◌≡◌, ◌<◌, [], ℕ, suc, drop, length, map, IfOk, IsPermutation, IsTrue, OnOk};
 ghost use Rattle.std.specs.List.Sorted.{IsSortedBy};
 ghost use Rattle.ct_word.specs.declared.values.Null.{Null};
-ghost use Rattle.ct_word.specs.Value.{value_of_null};
+ghost use Rattle.ct_word.specs.Value.{other_zero, same_value, value_of_null};
 ghost use Rattle.ct_rewrite.specs.Tidy.{IsTidy, are_ascending, null_before};
 ghost use Rattle.ct_certain.specs.Order as spec;
 ghost use Rattle.ct_certain.specs.Order.{IsMapOf, are_up_to, ends_with, with_null};
@@ -70,8 +70,44 @@ fn add(
     }
 }
 
-/// The same world, with its nulls in order, and without those that have `@0`.
-pub fn tidy(alloc: Global, world: &World) -> Result<World, Memory>
+/// Whether a value is `@0`.
+fn is_zero(value: &Value) -> bool
+    ensures { result ≡ same_value value.now other_zero }
+{
+    matches!(value, Value::Other(0))
+}
+
+/// Whether a pair has another value than `@0`, and a null that comes before that of the pair behind it.
+fn is_in_place(world: &[(Null, Value)], at: usize) -> bool
+    requires { at < length world.now }
+    ensures { IsTrue result → IsTidy (drop (suc at) world.now) → IsTidy (drop at world.now) }
+{
+    let pair = &world[at];
+    if is_zero(&pair.1) {
+        return false;
+    }
+    if at + 1 == world.len() {
+        return true;
+    }
+    compare_nulls(&pair.0, &world[at + 1].0).is_lt()
+}
+
+/// Whether a world has its nulls in order, and none with `@0`.
+fn is_in_order(world: &[(Null, Value)]) -> bool
+    ensures { IsTrue result → IsTidy world.now }
+{
+    let mut next = world.len();
+    while next > 0 {
+        if !is_in_place(world, next - 1) {
+            return false;
+        }
+        next -= 1;
+    }
+    true
+}
+
+/// A copy of a world with its nulls in order, and without those that have `@0`.
+fn put_in_order(alloc: Global, world: &World) -> Result<World, Memory>
     ensures same { (n : Null) → IfOk result (λ w. value_of_null w n ≡ value_of_null world.now n) }
     ensures tidy { IfOk result IsTidy }
 {
@@ -82,4 +118,15 @@ pub fn tidy(alloc: Global, world: &World) -> Result<World, Memory>
         add(&mut out, world, &values, null)?;
     }
     Ok(List::from_vec(out))
+}
+
+/// The same world, with its nulls in order, and without those that have `@0`. One that is so already is not copied.
+pub fn tidy(alloc: Global, world: World) -> Result<World, Memory>
+    ensures same { (n : Null) → IfOk result (λ w. value_of_null w n ≡ value_of_null world n) }
+    ensures tidy { IfOk result IsTidy }
+{
+    if is_in_order(world.as_slice()) {
+        return Ok(world);
+    }
+    put_in_order(alloc, &world)
 }

@@ -15,6 +15,7 @@ use crate::order::tidy;
 use crate::spread::spread;
 use ct_condition::{Worths, worths};
 use ct_word::{CRow, List, Memory, Null, World};
+use ct_worlds::{Conjuncts, conjuncts};
 use indexmap::{IndexMap, IndexSet};
 use std::alloc::Global;
 
@@ -36,6 +37,8 @@ pub struct Pool {
     pub never: IndexSet<u32>,
     /// The nulls below the global condition.
     pub nulls: IndexSet<Null>,
+    /// The conjuncts of the global condition.
+    pub conjuncts: Conjuncts,
     /// Whether the world in which the nulls of the table differ was tried.
     pub is_spread: bool,
 }
@@ -73,6 +76,7 @@ pub fn start(alloc: Global, words: &[u64], global: u32) -> Result<Pool, Memory>
     ensures { IfOk result (λ pool. IsPool words.now global pool) }
 {
     let nulls = nulls_below(alloc, words, global, &[])?;
+    let conjuncts = conjuncts(alloc, words, global)?;
     // The world in which each null is `@0`.
     let mut worlds = Vec::new(alloc);
     keep(alloc, words, global, &mut worlds, List::new(alloc))?;
@@ -81,6 +85,7 @@ pub fn start(alloc: Global, words: &[u64], global: u32) -> Result<Pool, Memory>
         found: IndexMap::new(alloc),
         never: IndexSet::new(alloc),
         nulls,
+        conjuncts,
         is_spread: false,
     })
 }
@@ -177,8 +182,7 @@ fn spread_out(
 {
     pool.is_spread = true;
     let apart = spread(alloc, words, global, rows)?;
-    let world = tidy(alloc, &apart)?;
-    drop(apart);
+    let world = tidy(alloc, apart)?;
     keep(alloc, words, global, &mut pool.worlds, world)
 }
 

@@ -6,7 +6,9 @@ ghost use Rattle.ct_word.specs.declared.kinds.Class.TheVariants as class;
 ghost use Rattle.ct_word.specs.Stands.{HasNoColumn};
 ghost use Rattle.ct_word.specs.WellFormed.{IsWellFormed, is_place_of};
 ghost use Rattle.ct_condition.specs.Writes.{Writes};
-ghost use Rattle.ct_certain.specs.Answered.{AreOf, IsAnswer, IsSettled, IsWitness};
+ghost use Rattle.ct_word.specs.Condition.{holds_at};
+ghost use Rattle.ct_word.specs.Reading.{condition_at};
+ghost use Rattle.ct_certain.specs.Answered.{AreOf, IsAnswer, IsNear, IsSettled, IsWitness};
 ghost use Rattle.ct_certain.specs.Faults.{is_full};
 
 use crate::error::CertainError;
@@ -14,9 +16,16 @@ use crate::order::tidy;
 use ct_arena::{Arena, Site};
 use ct_condition::{Interner, and};
 use ct_decide::{Decision, decide};
-use ct_word::{CRow, Memory, World};
-use ct_worlds::repaired;
+use ct_word::{CRow, List, Memory, World};
+use ct_worlds::{Conjuncts, repaired, repaired_near, run_beside};
 use std::alloc::Global;
+
+/// A world at which the global condition holds, with the conjuncts of that condition.
+#[derive(Drop)]
+pub struct Near<'a> {
+    pub conjuncts: &'a Conjuncts,
+    pub world: &'a World,
+}
 
 /// A world at which the condition at a place holds, or a derivation that there is none.
 pub fn settle(alloc: Global, words: &[u64], root: u32) -> Result<Decision, CertainError>
@@ -30,44 +39,95 @@ pub fn settle(alloc: Global, words: &[u64], root: u32) -> Result<Decision, Certa
     Ok(decide(alloc, words, root)?)
 }
 
-/// The same, where a change of a known world may be enough.
+/// A world at which the condition at a place holds, by a change of a known one; none where that is not enough.
+fn changed(
+    alloc: Global,
+    words: &[u64],
+    root: u32,
+    global: u32,
+    near: &Near<'_>,
+) -> Result<Option<World>, Memory>
+    requires formed { IsWellFormed words.now }
+    requires few { length words.now < 2 ^ 28 }
+    requires condition { is_place_of words.now class.Cond root ≡ true }
+    requires near { IsNear words.now global near.now }
+    ensures { IfOk result (λ o. IfSome o (λ v. holds_at v (condition_at words.now root) ≡ true)) }
+{
+    let Some(own) = run_beside(alloc, words, root, global)? else {
+        return repaired(alloc, words, &[root], near.world);
+    };
+    repaired_near(
+        alloc,
+        words,
+        near.conjuncts,
+        global,
+        own.as_slice(),
+        near.world,
+    )
+}
+
+/// The same decision, where a change of the near world may be enough.
 pub fn settle_near(
     alloc: Global,
     words: &[u64],
     root: u32,
-    near: &World,
+    global: u32,
+    near: &Near<'_>,
 ) -> Result<Decision, CertainError>
     requires formed { IsWellFormed words.now }
     requires few { length words.now < 2 ^ 28 }
     requires condition { is_place_of words.now class.Cond root ≡ true }
     requires columns { HasNoColumn words.now root }
+    requires near { IsNear words.now global near.now }
     ensures settled { IfOk result (λ d. IsSettled words.now root d) }
     ensures room { is_full result ≡ false }
 {
-    if let Some(world) = repaired(alloc, words, &[root], near)? {
+    if let Some(world) = changed(alloc, words, root, global, near)? {
         return Ok(Decision::World(world));
     }
     settle(alloc, words, root)
 }
 
-/// A world in order at which the global condition holds and a row is shown, by a change of a known world; none where that
-/// is not enough.
+/// A world in order at which the global condition holds and a row is shown, by a change of a near one; none where that is
+/// not enough.
 pub fn change(
     alloc: Global,
     words: &[u64],
     global: u32,
     row: &CRow,
-    near: &World,
+    near: &Near<'_>,
+) -> Result<Option<World>, Memory>
+    requires formed { IsWellFormed words.now }
+    requires few { length words.now < 2 ^ 28 }
+    requires asked { AreOf words.now global row.now }
+    requires near { IsNear words.now global near.now }
+    ensures { IfOk result (λ o. IfSome o (IsWitness words.now global row.now)) }
+{
+    let own = [row.cond];
+    let Some(found) = repaired_near(alloc, words, near.conjuncts, global, &own, near.world)? else {
+        return Ok(None);
+    };
+    let world = tidy(alloc, found)?;
+    Ok(Some(world))
+}
+
+/// The same, where no world is known: by a change of the one without pairs.
+pub fn make(
+    alloc: Global,
+    words: &[u64],
+    global: u32,
+    row: &CRow,
 ) -> Result<Option<World>, Memory>
     requires formed { IsWellFormed words.now }
     requires few { length words.now < 2 ^ 28 }
     requires asked { AreOf words.now global row.now }
     ensures { IfOk result (λ o. IfSome o (IsWitness words.now global row.now)) }
 {
-    let Some(found) = repaired(alloc, words, &[global, row.cond], near)? else {
+    let empty = List::new(alloc);
+    let Some(found) = repaired(alloc, words, &[global, row.cond], &empty)? else {
         return Ok(None);
     };
-    let world = tidy(alloc, &found)?;
+    let world = tidy(alloc, found)?;
     Ok(Some(world))
 }
 
@@ -93,7 +153,7 @@ pub fn ask<N: Site, I: Interner<N>>(
     let decision = settle(alloc, now, root)?;
     match decision {
         Decision::World(found) => {
-            let world = tidy(alloc, &found)?;
+            let world = tidy(alloc, found)?;
             Ok(Some(world))
         }
         Decision::Refuted(_) => Ok(None),

@@ -11,23 +11,21 @@ ghost use Rattle.ct_certain.specs.Own.{IsOwn, IsOwnAnswer};
 
 use crate::cells::terms;
 use crate::error::CertainError;
-use crate::pool::{Known, Pool, find, is_never, learn};
-use crate::settling::{ask, change};
+use crate::pool::{Pool, find, is_never, learn};
+use crate::settling::{Near, ask, change, make};
 use ct_arena::{Arena, Site};
 use ct_condition::Interner;
 use ct_rewrite::PossibleRow;
-use ct_word::{CRow, List, Memory, World};
+use ct_word::{CRow, Memory, World};
 use std::alloc::Global;
 
-/// A world in order that shows a row, if there is one, by a change of the first known one where that is enough. One word
-/// is made for it at most.
-fn reach<N: Site, I: Interner<N>>(
+/// A world in order that shows a row, if there is one, where none is known yet. One word is made for it at most.
+fn reach_first<N: Site, I: Interner<N>>(
     alloc: Global,
     arena: &Arena<N>,
     pass: &mut I,
     words: &[u64],
     global: u32,
-    near: &[Known],
     row: &CRow,
 ) -> Result<Option<World>, CertainError>
     requires formed { IsWellFormed words.now }
@@ -38,11 +36,40 @@ fn reach<N: Site, I: Interner<N>>(
     ensures writes { Writes I.list I.made I.kept I.lent N.log.cap pass.old pass.new 1 (is_full result) }
 {
     let _ = pass.words();
-    let changed = match near.first() {
-        Some(known) => change(alloc, words, global, row, &known.world)?,
-        None => change(alloc, words, global, row, &List::new(alloc))?,
+    if let Some(world) = make(alloc, words, global, row)? {
+        return Ok(Some(world));
+    }
+    ask(alloc, arena, pass, words, global, row)
+}
+
+/// A world in order that shows a row, if there is one, by a change of the first known one where that is enough. One word
+/// is made for it at most.
+fn reach<N: Site, I: Interner<N>>(
+    alloc: Global,
+    arena: &Arena<N>,
+    pass: &mut I,
+    words: &[u64],
+    global: u32,
+    pool: &Pool,
+    row: &CRow,
+) -> Result<Option<World>, CertainError>
+    requires formed { IsWellFormed words.now }
+    requires small { length words.now < 2 ^ 28 }
+    requires longer { IsPrefix words.now (I.list pass.old) }
+    requires asked { AreOf words.now global row.now }
+    requires pool { IsPool words.now global pool.now }
+    ensures answer { IfOk result (λ o. IsAnswer words.now global row.now o) }
+    ensures writes { Writes I.list I.made I.kept I.lent N.log.cap pass.old pass.new 1 (is_full result) }
+{
+    let _ = pass.words();
+    let Some(known) = pool.worlds.first() else {
+        return reach_first(alloc, arena, pass, words, global, row);
     };
-    if let Some(world) = changed {
+    let near = Near {
+        conjuncts: &pool.conjuncts,
+        world: &known.world,
+    };
+    if let Some(world) = change(alloc, words, global, row, &near)? {
         return Ok(Some(world));
     }
     ask(alloc, arena, pass, words, global, row)
@@ -75,15 +102,7 @@ pub fn show<N: Site, I: Interner<N>>(
     if let Some(part) = find(alloc, words, global, rows, pool, row)? {
         return Ok(Some(part));
     }
-    match reach(
-        alloc,
-        arena,
-        pass,
-        words,
-        global,
-        pool.worlds.as_slice(),
-        row,
-    )? {
+    match reach(alloc, arena, pass, words, global, pool, row)? {
         None => {
             pool.never.insert(row.cond)?;
             Ok(None)

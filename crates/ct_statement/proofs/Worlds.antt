@@ -4,7 +4,7 @@ use Rattle.std.{specs.Prelude.IsTrue, specs.List.{All}}
 use Rattle.std.proofs.lemmas.List.Elements.{All-weaker, All-from_recursion, All-contains, All-map}
 use Rattle.ct_word.{specs.declared.values.Value.Value, specs.Value.World, specs.Condition.holds_at, specs.Reading.condition_at, specs.WellFormed.IsWellFormed}
 use Rattle.ct_derivation.{specs.declared.steps.Derivation.Derivation, specs.Accepts.Accepts, proofs.Sound.root_refuted}
-use Rattle.ct_worlds.specs.Repaired.{IsMade, IsRepaired}
+use Rattle.ct_worlds.specs.Repaired.{IsMade, IsRepairedNear}
 use Rattle.ct_decide.specs.Decided.{IsValueOf, IsWorldAt}
 use Rattle.ct_table.specs.Snapshot.{IsKeptValue, other, constant}
 use Rattle.ct_statement.specs.Narrowing.{IsBoth, IsWorldFor, IsWorldless}
@@ -42,7 +42,7 @@ value_made words places kept all x (inr (inl b)) = constant x b.below.0 b.below.
 value_made words places kept all x (inr (inr n)) = subst (IsKeptValue words) (sym n.value) (other n.number n.short)
 
 -- a world that was made from the kept one, in which both conditions hold
-pub world_made : (words : List ℕ) (global own place : ℕ) (kept world : World) → IsBoth words global own place → IsRepaired words (global ∷ own ∷ []) kept world
+pub world_made : (words : List ℕ) (global own place : ℕ) (kept world : World) → IsBoth words global own place → IsRepairedNear words (global ∷ own ∷ []) kept world
     → IsWorldFor words place kept (Some world)
 world_made words global own place kept world b made = record {
   holds = b.holds world ∙ ap₂ (λ x y. x && y) (made.holds global (0, omega arith, refl)) (made.holds own (1, omega arith, refl));

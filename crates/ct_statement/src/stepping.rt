@@ -25,7 +25,7 @@ use ct_keeper::{Effect, effect_of};
 use ct_table::TableError;
 use ct_transcript::Refusal;
 use ct_word::World;
-use ct_worlds::{holds_below, repaired};
+use ct_worlds::{conjuncts, holds_below, repaired_near};
 use std::alloc::Global;
 
 /// What an action does to what is seen: its effect on the tables or the global condition, and, where the kept world is
@@ -74,7 +74,8 @@ fn decided(alloc: Global, words: &[u64], place: u32, kept: &World) -> Result<Opt
 
 /// A world in which both the global condition and an asserted one hold, whose And stands at a place, and which is kept
 /// then; none where the kept world is such. The global condition holds in that one, so the asserted one alone is tried.
-/// Where it is false there, the kept world is changed if that is enough, and the question is decided otherwise.
+/// Where it is false there, the kept world is changed if that is enough: at the nulls of the asserted condition and of the
+/// earlier ones that share nulls with it. The question is decided otherwise.
 ///
 /// # Errors
 /// `Inconsistent` where the conditions hold together in no world, `Memory`.
@@ -96,9 +97,11 @@ fn world_for(
     if holds_below(alloc, words, own, kept)? {
         return Ok(None);
     }
-    if let Some(world) = repaired(alloc, words, &[global, own], kept)? {
+    let conjuncts = conjuncts(alloc, words, global)?;
+    if let Some(world) = repaired_near(alloc, words, &conjuncts, global, &[own], kept)? {
         return Ok(Some(world));
     }
+    drop(conjuncts);
     match decided(alloc, words, place, kept) {
         Ok(other) => Ok(other),
         Err(why) => Err(why),

@@ -1,9 +1,10 @@
 use Rattle.std.{proofs.Common.{◌≡◌, ◌*◌, ◌+◌, true, length, sym, subst}, specs.Prelude.All, proofs.lemmas.List.Elements.All-weaker}
 use Rattle.std.proofs.lemmas.Result.{err_from_is_err_and}
 use Rattle.ct_word.{specs.Stands.HasNoColumn, specs.WellFormed.is_place_of}
+use Rattle.ct_word.proofs.Prefixes.{prefix_of_prefix}
 use Rattle.ct_condition.specs.Writes.{Writes}
 use Rattle.ct_derivation.proofs.Longer.{accepted_longer}
-use Rattle.ct_certain.{specs.Answered.{IsRefutation, IsSettled}, specs.Missing.IsRefuted, proofs.Cuts.cut_longer, proofs.Roots.handed_on}
+use Rattle.ct_certain.{specs.Answered.{IsNear, IsRefutation, IsSettled}, proofs.Nearby.near_grows, specs.Missing.IsRefuted, proofs.Cuts.cut_longer, proofs.Roots.handed_on}
 use Rattle.ct_word.specs.declared.kinds.Class.TheVariants as class
 use Rattle.ct_certain.proofs.absence.ask_tuple.Goals as goal
 
@@ -12,6 +13,15 @@ settle_near-requires-clause-condition g c = subst (λ ws. is_place_of ws class.C
 
 pub settle_near-requires-clause-columns : goal.settle_near-requires-clause-columns
 settle_near-requires-clause-columns g c = subst (λ ws. HasNoColumn ws c.in_ok-place.place) (sym c.words-now.ensures.words) c.in_ok-place.ensures.root.plain
+
+pub settle_near-requires-clause-near : goal.settle_near-requires-clause-near
+settle_near-requires-clause-near g c =
+    let words = c.args.words.now in
+    let old = g.I.Interner.list c.args.pass.now in
+    let new = g.I.Interner.list c.root.new.pass in
+    let longer = prefix_of_prefix words old new c.requires.asked.grown c.in_ok-place.ensures.writes.longer in
+    subst (λ ws. IsNear ws c.args.global c.args.near.now) (sym c.words-now.ensures.words)
+    (near_grows words new longer c.words-now.ensures.formed c.requires.asked.formed c.args.global c.args.near.now c.requires.near)
 
 pub returns-clause-settled : goal.returns-clause-settled
 returns-clause-settled g c = subst (λ ws. IsSettled ws c.in_ok-place.place c.in_ok-decision.decision) c.words-now.ensures.words c.in_ok-decision.ensures.settled

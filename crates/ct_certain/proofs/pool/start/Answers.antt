@@ -8,4 +8,5 @@ returns c = record {
   found = subst (AreFound c.args.words.now c.args.global) (sym c.new-2.ensures.empty) (none_found c.args.words.now c.args.global);
   never = subst (All (IsNever c.args.words.now c.args.global)) (sym c.new-3.ensures.empty) (All-nil _);
   nulls = one_root c.args.words.now c.args.global c.in_ok-nulls.nulls.keys c.in_ok-nulls.ensures;
+  conjuncts = c.in_ok-conjuncts.ensures;
 }

@@ -10,7 +10,7 @@ refused-requires-clause-refused g c = wanting_memory
 pub commit-pass-requires-clause-offer : goal.commit-pass-requires-clause-offer
 commit-pass-requires-clause-offer g c =
     let o = c.args.transaction in
-    is_offer c.args.pass o.sight c.args.changes o.reads (record { base = 0; reads = o.reads; changes = c.args.changes; kept = Some c.in-Ok.kept }) (is_begun c.args.pass.words o c.args.changes c.requires.begun c.requires.session.open_is) (c.in-Ok.ensures ∙ c.deref.ensures)
+    is_offer c.args.pass o.sight c.args.changes o.reads (record { base = 0; reads = o.reads; changes = c.args.changes; kept = Some c.in-Ok.kept }) (is_begun c.args.pass.words o c.args.changes c.requires.begun c.requires.session.open_is) c.in-Ok.ensures
 
 pub returns-clause-session : goal.returns-clause-session
 returns-clause-session g c =

@@ -1,0 +1,57 @@
+-- Known worlds and the conjuncts of the global condition, as words are added; what a question has from them.
+use Rattle.std.proofs.Common.{◌≡◌, ◌<◌, ℕ, true, List, [], ◌∷◌, length, get_or, ap, sym, subst, ◌∙◌}
+use Rattle.std.{specs.Prelude.{IsTrue, Contains}, proofs.lemmas.List.Elements.Contains-get_or}
+use Rattle.ct_word.{specs.Value.World, specs.Condition.holds_at, specs.Reading.condition_at, specs.WellFormed.{IsWellFormed, is_place_of}}
+use Rattle.ct_word.proofs.Items.{sole_item}
+use Rattle.ct_word.proofs.Prefixes.{condition_in_prefix, get_in_prefix, place_in_prefix, place_within, term_in_prefix}
+use Rattle.ct_condition.proofs.Reached.{terms_before}
+use Rattle.ct_worlds.{specs.Conjuncts.{AreConjuncts, IsAnd, IsInRun, first, part}, specs.declared.index.Conjuncts.Conjuncts, proofs.Runs.run_condition}
+use Rattle.ct_worlds.specs.Shape.{shape_of_word}
+use Rattle.ct_certain.specs.{Answered.IsNear, declared.settling.Near.Near}
+use mathlib.Core.List.{IsPrefix}
+use Rattle.ct_word.specs.declared.kinds.Class.TheVariants as class
+use Rattle.ct_word.specs.declared.values.Term.TheVariants as term
+
+module _ (old new : List ℕ) (longer : IsPrefix old new) (formed : IsWellFormed new) (formed_old : IsWellFormed old) where
+  and_grows : (p a b : ℕ) → p < length old → IsAnd old p a b → IsAnd new p a b
+  and_grows p a b lt is = ap shape_of_word (get_in_prefix old new p longer lt) ∙ is
+
+  module _ (root : ℕ) (placed : IsTrue (is_place_of old class.Cond root)) where
+    within : (p : ℕ) → IsInRun old root p → p < length old
+    within p run = place_within old class.Cond p (run_condition old formed_old root placed p run)
+
+    run_grows : (p : ℕ) → IsInRun old root p → IsInRun new root p
+    run_grows p first = first
+    run_grows p (part {p = q} a b before is of) = part a b (run_grows q before) (and_grows q a b (within q before) is) of
+
+    same : (v : World) (p : ℕ) → IsInRun old root p → holds_at v (condition_at new p) ≡ holds_at v (condition_at old p)
+    same v p run = ap (holds_at v) (condition_in_prefix old new p longer (within p run))
+
+    pub conjuncts_grow : (c : Conjuncts) → AreConjuncts old root c → AreConjuncts new root c
+    conjuncts_grow c are = record {
+      condition = place_in_prefix old new class.Cond root longer placed;
+      enough = λ v all. same v root first ∙ are.enough v (λ p h. sym (same v p (are.each p h)) ∙ all p h);
+      each = λ p h. run_grows p (are.each p h);
+      ands = λ p h. let a = are.ands p h in record { run = run_grows p a.run; left = a.left; right = a.right; is = and_grows p a.left a.right (within p a.run) a.is };
+      nulls = λ number n lt h.
+          let c_is = within (get_or c.places.items number 0) (are.each (get_or c.places.items number 0) (Contains-get_or c.places.items number 0 lt)) in
+          let l = are.nulls number n lt (terms_before old new longer formed (get_or c.places.items number 0) (term.Null n) c_is h) in
+          record {
+            entry = l.entry;
+            among = l.among;
+            conjunct = l.conjunct;
+            placed = place_in_prefix old new class.Term l.entry.null longer l.placed;
+            null = term_in_prefix old new l.entry.null longer (place_within old class.Term l.entry.null l.placed) ∙ l.null;
+          };
+    }
+
+-- a near world stays one
+pub near_grows : (old new : List ℕ) → IsPrefix old new → IsWellFormed new → IsWellFormed old → (global : ℕ) (n : Near) → IsNear old global n → IsNear new global n
+near_grows old new longer formed formed_old global n is = record {
+  conjuncts = conjuncts_grow old new longer formed formed_old global is.conjuncts.condition n.conjuncts.now is.conjuncts;
+  holds = ap (holds_at n.world.now) (condition_in_prefix old new global longer (place_within old class.Cond global is.conjuncts.condition)) ∙ is.holds;
+}
+
+-- the condition of a row alone is one
+pub one_condition : (words : List ℕ) (c : ℕ) → is_place_of words class.Cond c ≡ true → (p : ℕ) → Contains (c ∷ []) p → is_place_of words class.Cond p ≡ true
+one_condition words c is p h = subst (λ x. is_place_of words class.Cond x ≡ true) (sole_item c p h) is
