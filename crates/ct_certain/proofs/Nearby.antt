@@ -2,7 +2,6 @@
 use Rattle.std.proofs.Common.{◌≡◌, ◌<◌, ℕ, true, List, [], ◌∷◌, length, get_or, ap, sym, subst, ◌∙◌}
 use Rattle.std.{specs.Prelude.{IsTrue, Contains}, proofs.lemmas.List.Elements.Contains-get_or}
 use Rattle.ct_word.{specs.Value.World, specs.Condition.holds_at, specs.Reading.condition_at, specs.WellFormed.{IsWellFormed, is_place_of}}
-use Rattle.ct_word.proofs.Items.{sole_item}
 use Rattle.ct_word.proofs.Prefixes.{condition_in_prefix, get_in_prefix, place_in_prefix, place_within, term_in_prefix}
 use Rattle.ct_condition.proofs.Reached.{terms_before}
 use Rattle.ct_worlds.{specs.Conjuncts.{AreConjuncts, IsAnd, IsInRun, first, part}, specs.declared.index.Conjuncts.Conjuncts, proofs.Runs.run_condition}
@@ -51,7 +50,3 @@ near_grows old new longer formed formed_old global n is = record {
   conjuncts = conjuncts_grow old new longer formed formed_old global is.conjuncts.condition n.conjuncts.now is.conjuncts;
   holds = ap (holds_at n.world.now) (condition_in_prefix old new global longer (place_within old class.Cond global is.conjuncts.condition)) ∙ is.holds;
 }
-
--- the condition of a row alone is one
-pub one_condition : (words : List ℕ) (c : ℕ) → is_place_of words class.Cond c ≡ true → (p : ℕ) → Contains (c ∷ []) p → is_place_of words class.Cond p ≡ true
-one_condition words c is p h = subst (λ x. is_place_of words class.Cond x ≡ true) (sole_item c p h) is
