@@ -1,0 +1,345 @@
+// What is said of names and counts.
+
+use crate::selects::{Mention, Seen, Select, selects};
+use crate::tables::Visible;
+use crate::tokens::{is_symbol_at, is_word_at, word};
+use ct_lex::{Symbol, Token};
+use ct_word::{Memory, Text};
+use std::alloc::Global;
+use std::fmt::Write;
+
+/// How many tables or columns are listed.
+const LISTED: usize = 12;
+
+fn push_separated(out: &mut String, i: usize, name: &str) -> Result<(), Memory> {
+    if i > 0 {
+        out.push_str(", ")?;
+    }
+    out.push_str(name)?;
+    Ok(())
+}
+
+fn push_table(out: &mut String, name: &str, columns: &[Text]) -> Result<(), Memory> {
+    out.push_str(name)?;
+    out.push_str(" (")?;
+    for (i, column) in columns.iter().enumerate() {
+        if i >= LISTED {
+            out.push_str(", ..")?;
+            break;
+        }
+        push_separated(out, i, column.as_str())?;
+    }
+    out.push_str(")")?;
+    Ok(())
+}
+
+/// The table that an insertion, a deletion or a creation names.
+fn target(tokens: &[Token]) -> Option<&str> {
+    let names = is_word_at(tokens, 0, "insert")
+        || is_word_at(tokens, 0, "delete")
+        || is_word_at(tokens, 0, "create");
+    if names { Some(word(tokens.get(2)?)) } else { None }
+}
+
+fn unknown_table<'a>(
+    alloc: Global,
+    visible: &Visible,
+    tokens: &'a [Token],
+) -> Result<Option<&'a str>, Memory> {
+    if let Some(name) = target(tokens) {
+        if visible.columns(name).is_none() {
+            return Ok(Some(name));
+        }
+    }
+    for select in &selects(alloc, tokens)? {
+        for seen in &select.tables {
+            if visible.columns(seen.table).is_none() {
+                return Ok(Some(seen.table));
+            }
+        }
+    }
+    Ok(None)
+}
+
+/// Appends which table is not there, and which are.
+///
+/// # Errors
+/// `Memory` where there is none for the text.
+pub fn push_unknown_table(
+    alloc: Global,
+    out: &mut String,
+    visible: &Visible,
+    tokens: &[Token],
+) -> Result<(), Memory> {
+    match unknown_table(alloc, visible, tokens)? {
+        Some(name) => write!(out, "no table {name}")?,
+        None => out.push_str("a table is not there")?,
+    }
+    let (names, has_more) = visible.some_names(alloc, LISTED)?;
+    if names.is_empty() {
+        out.push_str("; there is none yet")?;
+        return Ok(());
+    }
+    out.push_str("; there are ")?;
+    for (i, name) in names.iter().enumerate() {
+        push_separated(out, i, name)?;
+    }
+    if has_more {
+        out.push_str(", ..")?;
+    }
+    Ok(())
+}
+
+/// Appends the table that is there already.
+///
+/// # Errors
+/// `Memory` where there is none for the text.
+pub fn push_table_exists(
+    out: &mut String,
+    visible: &Visible,
+    tokens: &[Token],
+) -> Result<(), Memory> {
+    out.push_str("there is a table ")?;
+    let name = target(tokens).unwrap_or("of this name");
+    match visible.columns(name) {
+        Some(columns) => push_table(out, name, columns),
+        None => Ok(out.push_str(name)?),
+    }
+}
+
+fn has_column(columns: &[Text], name: &str) -> bool {
+    columns.iter().any(|column| column.as_str() == name)
+}
+
+/// Whether a table of a FROM has a column as it is written.
+fn shows(visible: &Visible, seen: &Seen, mention: &Mention) -> bool {
+    if let Some(owner) = mention.owner {
+        if seen.name != owner {
+            return false;
+        }
+    }
+    match visible.columns(seen.table) {
+        Some(columns) => has_column(columns, mention.name),
+        None => false,
+    }
+}
+
+/// How many tables of a SELECT have a column as it is written.
+fn showing(visible: &Visible, select: &Select, mention: &Mention) -> usize {
+    let tables = select.tables.iter();
+    tables.filter(|seen| shows(visible, seen, mention)).count()
+}
+
+fn push_mention(out: &mut String, mention: &Mention) -> Result<(), Memory> {
+    if let Some(owner) = mention.owner {
+        write!(out, "{owner}.")?;
+    }
+    out.push_str(mention.name)?;
+    Ok(())
+}
+
+/// Appends the tables of a FROM with their columns, as they are seen.
+fn push_scope(out: &mut String, visible: &Visible, select: &Select) -> Result<(), Memory> {
+    if select.tables.is_empty() {
+        out.push_str(", which sees no table")?;
+        return Ok(());
+    }
+    out.push_str(" in ")?;
+    for (i, seen) in select.tables.iter().enumerate() {
+        if i > 0 {
+            out.push_str(", ")?;
+        }
+        push_table(out, seen.name, visible.columns(seen.table).unwrap_or(&[]))?;
+    }
+    Ok(())
+}
+
+/// Appends which column is not there, and those that are.
+///
+/// # Errors
+/// `Memory` where there is none for the text.
+pub fn push_unknown_column(
+    alloc: Global,
+    out: &mut String,
+    visible: &Visible,
+    tokens: &[Token],
+) -> Result<(), Memory> {
+    for select in &selects(alloc, tokens)? {
+        for mention in &select.columns {
+            if showing(visible, select, mention) == 0 {
+                out.push_str("no column ")?;
+                push_mention(out, mention)?;
+                return push_scope(out, visible, select);
+            }
+        }
+    }
+    out.push_str("a column is not there")?;
+    Ok(())
+}
+
+/// Appends what a column may be.
+///
+/// # Errors
+/// `Memory` where there is none for the text.
+pub fn push_ambiguous_column(
+    alloc: Global,
+    out: &mut String,
+    visible: &Visible,
+    tokens: &[Token],
+) -> Result<(), Memory> {
+    for select in &selects(alloc, tokens)? {
+        for mention in &select.columns {
+            if mention.owner.is_none() && showing(visible, select, mention) > 1 {
+                return push_owners(out, visible, select, mention);
+            }
+        }
+    }
+    out.push_str("two tables have a column: write its table before it")?;
+    Ok(())
+}
+
+fn push_owners(
+    out: &mut String,
+    visible: &Visible,
+    select: &Select,
+    mention: &Mention,
+) -> Result<(), Memory> {
+    let name = mention.name;
+    write!(out, "{name} may be ")?;
+    let mut is_first = true;
+    for seen in &select.tables {
+        if shows(visible, seen, mention) {
+            let owner = seen.name;
+            let before = if is_first { "" } else { " or " };
+            write!(out, "{before}{owner}.{name}")?;
+            is_first = false;
+        }
+    }
+    Ok(())
+}
+
+/// The first name that stands twice.
+fn repeated<'a>(names: &[&'a str]) -> Option<&'a str> {
+    for (i, name) in names.iter().enumerate() {
+        if let Some(before) = names.get(..i) {
+            if before.iter().any(|other| *other == *name) {
+                return Some(*name);
+            }
+        }
+    }
+    None
+}
+
+fn created_columns<'a>(alloc: Global, tokens: &'a [Token]) -> Result<Vec<&'a str>, Memory> {
+    let mut names = Vec::new(alloc);
+    for token in tokens.iter().skip(3) {
+        let name = word(token);
+        if !name.is_empty() {
+            names.push(name)?;
+        }
+    }
+    Ok(names)
+}
+
+/// Appends the name that stands twice.
+///
+/// # Errors
+/// `Memory` where there is none for the text.
+pub fn push_duplicate_name(
+    alloc: Global,
+    out: &mut String,
+    tokens: &[Token],
+) -> Result<(), Memory> {
+    if is_word_at(tokens, 0, "create") {
+        let name = repeated(&created_columns(alloc, tokens)?).unwrap_or("the name");
+        write!(out, "two columns are named {name}")?;
+        return Ok(());
+    }
+    for select in &selects(alloc, tokens)? {
+        let mut names = Vec::new(alloc);
+        for seen in &select.tables {
+            names.push(seen.name)?;
+        }
+        if let Some(name) = repeated(&names) {
+            write!(out, "two tables are seen as {name}: write {name} as p, {name} as q")?;
+            return Ok(());
+        }
+    }
+    out.push_str("two tables are seen under one name: give one an alias")?;
+    Ok(())
+}
+
+/// How many columns a SELECT has, where its tables are there.
+fn width(visible: &Visible, select: &Select) -> Option<usize> {
+    if let Some(items) = select.items {
+        return Some(items);
+    }
+    let mut all: usize = 0;
+    for seen in &select.tables {
+        all = all.saturating_add(visible.columns(seen.table)?.len());
+    }
+    Some(all)
+}
+
+/// The first row of an insertion that has another number of cells than this: its number, and its cells.
+fn odd_row(tokens: &[Token], columns: usize) -> Option<(usize, usize)> {
+    let mut row: usize = 0;
+    let mut cells: usize = 0;
+    for i in 4..tokens.len() {
+        if is_symbol_at(tokens, i, Symbol::LeftParen) {
+            row = row.saturating_add(1);
+            cells = 1;
+        } else if is_symbol_at(tokens, i, Symbol::Comma) {
+            cells = cells.saturating_add(1);
+        } else if is_symbol_at(tokens, i, Symbol::RightParen) && cells != columns {
+            return Some((row, cells));
+        }
+    }
+    None
+}
+
+fn push_insertion_counts(
+    out: &mut String,
+    visible: &Visible,
+    tokens: &[Token],
+    widths: &[usize],
+) -> Result<(), Memory> {
+    let name = target(tokens).unwrap_or("the table");
+    let columns = visible.columns(name).unwrap_or(&[]);
+    let wanted = columns.len();
+    if is_word_at(tokens, 3, "values") {
+        let (row, cells) = odd_row(tokens, wanted).unwrap_or((1, 0));
+        write!(out, "row {row} has {cells} cells, and there are {wanted} columns in ")?;
+    } else {
+        let given = widths.first().copied().unwrap_or(0);
+        write!(out, "the query has {given} columns, and there are {wanted} in ")?;
+    }
+    push_table(out, name, columns)
+}
+
+/// Appends the two numbers of columns.
+///
+/// # Errors
+/// `Memory` where there is none for the text.
+pub fn push_column_count(
+    alloc: Global,
+    out: &mut String,
+    visible: &Visible,
+    tokens: &[Token],
+) -> Result<(), Memory> {
+    let mut widths = Vec::new(alloc);
+    for select in &selects(alloc, tokens)? {
+        let is_query = !select.tables.is_empty();
+        if let (true, Some(width)) = (is_query, width(visible, select)) {
+            widths.push(width)?;
+        }
+    }
+    let first = widths.first().copied().unwrap_or(0);
+    for other in &widths {
+        if *other != first {
+            write!(out, "one side has {first} columns, and another has {other}")?;
+            return Ok(());
+        }
+    }
+    push_insertion_counts(out, visible, tokens, &widths)
+}

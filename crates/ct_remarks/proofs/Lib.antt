@@ -1,0 +1,4 @@
+mod Controls
+mod Lines
+mod Tokens
+mod Told

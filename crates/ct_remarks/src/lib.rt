@@ -1,0 +1,17 @@
+//! Remarks: what is said of the refused statements of a transcript, one line each.
+//!
+//! `specs/Remarks.antt` says with what each line begins: file, line, column, statement and refusal.
+//! The sentence behind that is meant for people, and has no contract.
+#![tactic(auto)]
+
+mod cases;
+mod cut;
+mod heads;
+mod pieces;
+mod places;
+mod remarking;
+mod sentences;
+mod shown;
+mod spots;
+
+pub use remarking::remarks;

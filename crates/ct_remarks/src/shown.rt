@@ -1,0 +1,33 @@
+// Texts without control characters.
+
+ghost use Rattle.std.specs.Prelude.{◌≡◌, ◌++◌, encode_utf8, string_bytes, OnOk};
+ghost use Rattle.ct_transcript.specs.Written.{Appends};
+ghost use Rattle.ct_remarks.specs.Remarks as spec;
+
+use ct_word::Memory;
+
+fn is_control(c: char) -> bool
+    ensures { result ≡ spec.is_control c }
+{
+    c < ' ' || c == '\x7f'
+}
+
+// Appends a character, or a question mark for a control character.
+#[tactic(auto, using(crate::proofs::Controls::control_char, crate::proofs::Controls::other_char))]
+fn push_char(out: &mut String, c: char) -> Result<(), Memory>
+    ensures { Appends result out.old out.new (spec.shown (encode_utf8 c)) }
+{
+    out.push(if is_control(c) { '?' } else { c })?;
+    Ok(())
+}
+
+/// Appends a text, with a question mark for each control character.
+#[tactic(auto, using(crate::proofs::Controls::char_shown))]
+pub fn push_shown(out: &mut String, text: &str) -> Result<(), Memory>
+    ensures { Appends result out.old out.new (spec.shown text.now) }
+{
+    for c in text.chars() {
+        push_char(out, c)?;
+    }
+    Ok(())
+}
