@@ -135,14 +135,7 @@ fn after(part: Part, at: usize, c: char) -> Result<Part, FaultAt> {
     }
     match (part, digit(c)) {
         (Part::Minus(start), Some(next)) => Ok(number(start, LEAST, next)),
-        (
-            Part::Number {
-                at,
-                limit,
-                value,
-            },
-            Some(next),
-        ) => Ok(Part::Number {
+        (Part::Number { at, limit, value }, Some(next)) => Ok(Part::Number {
             at,
             limit,
             value: more(value, limit, next),

@@ -3,76 +3,119 @@
 use crate::tokens::{is_keyword, is_symbol_at, is_word_at, word};
 use ct_lex::{Lexeme, Symbol, Token};
 
-/// What is said where a word stands before another word, before `(`, or anywhere.
-struct Hint {
-    word: &'static str,
-    next: &'static str,
-    said: &'static str,
-}
+/// A word, the word or the `(` that has to follow it, or nothing, and what is said of the two.
+type Hint = (&'static str, &'static str, &'static str);
 
 const ORDER: &str = "there is no order of values: write a = 1 or a = 2, where they are few";
+
 const COUNT: &str =
     "nothing is counted, summed or grouped: how many rows there are depends on the gaps";
+
 const NULL: &str =
     "a null is a value that nobody knows: look for ? in the answer, or ask with CERTAIN what is known";
-const OUTER: &str = "there are no outer joins: ask for the join, and by EXCEPT for the rows without a partner";
+
+const OUTER: &str =
+    "there are no outer joins: ask for the join, and by EXCEPT for the rows without a partner";
+
 const JOIN: &str = "write join u on t.a = u.a, or from t, u";
+
+const ORDER_BY: &str = "there is no ORDER BY: rows keep the order of their tables";
+
+const LIST: &str =
+    "write a = 1 or a = 2 for a list, a join for IN with a query, and EXCEPT for NOT IN";
+
+const PATTERNS: &str = "there are no patterns";
+
+const ALL: &str =
+    "write union: an answer is a set; a column with a number of its own keeps equal rows apart";
+
+const EXISTS: &str = "write a join for EXISTS";
+
+const WITHIN_QUERY: &str = "there are no queries within queries: name all tables in one FROM";
+
+const CREATION: &str = "write create table t (a): a name that is taken is refused with TableExists";
+
+const DROP_TABLE: &str = "there is no DROP TABLE";
+
+const LOCKS: &str =
+    "nothing is locked or set: each commit is checked against what its transaction read";
+
+const CASES: &str = "there are no functions and no CASE";
+
+const UPDATE: &str =
+    "there is no UPDATE: delete the row and insert another, between BEGIN and COMMIT";
+
+const DROP: &str = "a table stays: there is no DROP; delete from t takes all of its rows";
+
+const ALTER: &str = "a table keeps its columns: there is no ALTER";
+
+const TRUNCATE: &str = "write delete from t";
+
+const BEGIN: &str = "write begin";
+
+const COMMIT: &str = "write commit";
+
+const ROLLBACK: &str = "write rollback";
+
+const SAVEPOINT: &str = "there are no savepoints";
+
 const ALONE: &str = "BEGIN, COMMIT and ROLLBACK stand alone";
+
 const LIMITED: &str = "there is no LIMIT: an answer has all of its rows";
 
 const WITHIN: [Hint; 34] = [
-    Hint { word: "order", next: "by", said: "there is no ORDER BY: rows keep the order of their tables" },
-    Hint { word: "limit", next: "", said: LIMITED },
-    Hint { word: "offset", next: "", said: LIMITED },
-    Hint { word: "fetch", next: "", said: LIMITED },
-    Hint { word: "group", next: "by", said: COUNT },
-    Hint { word: "having", next: "", said: COUNT },
-    Hint { word: "count", next: "(", said: COUNT },
-    Hint { word: "sum", next: "(", said: COUNT },
-    Hint { word: "min", next: "(", said: COUNT },
-    Hint { word: "max", next: "(", said: COUNT },
-    Hint { word: "avg", next: "(", said: COUNT },
-    Hint { word: "is", next: "null", said: NULL },
-    Hint { word: "is", next: "not", said: NULL },
-    Hint { word: "in", next: "(", said: "write a = 1 or a = 2 for a list, a join for IN with a query, and EXCEPT for NOT IN" },
-    Hint { word: "like", next: "", said: "there are no patterns" },
-    Hint { word: "between", next: "", said: ORDER },
-    Hint { word: "left", next: "join", said: OUTER },
-    Hint { word: "left", next: "outer", said: OUTER },
-    Hint { word: "right", next: "join", said: OUTER },
-    Hint { word: "right", next: "outer", said: OUTER },
-    Hint { word: "full", next: "join", said: OUTER },
-    Hint { word: "full", next: "outer", said: OUTER },
-    Hint { word: "outer", next: "join", said: OUTER },
-    Hint { word: "natural", next: "join", said: JOIN },
-    Hint { word: "cross", next: "join", said: JOIN },
-    Hint { word: "using", next: "(", said: JOIN },
-    Hint { word: "union", next: "all", said: "write union: an answer is a set; a column with a number of its own keeps equal rows apart" },
-    Hint { word: "exists", next: "(", said: "write a join for EXISTS" },
-    Hint { word: "from", next: "(", said: "there are no queries within queries: name all tables in one FROM" },
-    Hint { word: "if", next: "not", said: "write create table t (a): a name that is taken is refused with TableExists" },
-    Hint { word: "if", next: "exists", said: "there is no DROP TABLE" },
-    Hint { word: "for", next: "update", said: "each commit is checked against what its transaction read, so nothing is locked" },
-    Hint { word: "with", next: "", said: "there are no queries within queries: name all tables in one FROM" },
-    Hint { word: "case", next: "when", said: "there are no functions and no CASE" },
+    ("order", "by", ORDER_BY),
+    ("limit", "", LIMITED),
+    ("offset", "", LIMITED),
+    ("fetch", "", LIMITED),
+    ("group", "by", COUNT),
+    ("having", "", COUNT),
+    ("count", "(", COUNT),
+    ("sum", "(", COUNT),
+    ("min", "(", COUNT),
+    ("max", "(", COUNT),
+    ("avg", "(", COUNT),
+    ("is", "null", NULL),
+    ("is", "not", NULL),
+    ("in", "(", LIST),
+    ("like", "", PATTERNS),
+    ("between", "", ORDER),
+    ("left", "join", OUTER),
+    ("left", "outer", OUTER),
+    ("right", "join", OUTER),
+    ("right", "outer", OUTER),
+    ("full", "join", OUTER),
+    ("full", "outer", OUTER),
+    ("outer", "join", OUTER),
+    ("natural", "join", JOIN),
+    ("cross", "join", JOIN),
+    ("using", "(", JOIN),
+    ("union", "all", ALL),
+    ("exists", "(", EXISTS),
+    ("from", "(", WITHIN_QUERY),
+    ("if", "not", CREATION),
+    ("if", "exists", DROP_TABLE),
+    ("for", "update", LOCKS),
+    ("with", "", WITHIN_QUERY),
+    ("case", "when", CASES),
 ];
 
 const FIRST: [Hint; 15] = [
-    Hint { word: "update", next: "", said: "there is no UPDATE: delete the row and insert another, between BEGIN and COMMIT" },
-    Hint { word: "drop", next: "", said: "a table stays: there is no DROP; delete from t takes all of its rows" },
-    Hint { word: "alter", next: "", said: "a table keeps its columns: there is no ALTER" },
-    Hint { word: "truncate", next: "", said: "write delete from t" },
-    Hint { word: "start", next: "", said: "write begin" },
-    Hint { word: "end", next: "", said: "write commit" },
-    Hint { word: "abort", next: "", said: "write rollback" },
-    Hint { word: "begin", next: "", said: ALONE },
-    Hint { word: "commit", next: "", said: ALONE },
-    Hint { word: "rollback", next: "", said: ALONE },
-    Hint { word: "savepoint", next: "", said: "there are no savepoints" },
-    Hint { word: "set", next: "", said: "there is nothing to set: each commit is checked against what its transaction read" },
-    Hint { word: "lock", next: "", said: "there are no locks: each commit is checked against what its transaction read" },
-    Hint { word: "replace", next: "", said: "delete the row and insert another, between BEGIN and COMMIT" },
-    Hint { word: "with", next: "", said: "there are no queries within queries: name all tables in one FROM" },
+    ("update", "", UPDATE),
+    ("drop", "", DROP),
+    ("alter", "", ALTER),
+    ("truncate", "", TRUNCATE),
+    ("start", "", BEGIN),
+    ("end", "", COMMIT),
+    ("abort", "", ROLLBACK),
+    ("begin", "", ALONE),
+    ("commit", "", ALONE),
+    ("rollback", "", ALONE),
+    ("savepoint", "", SAVEPOINT),
+    ("set", "", LOCKS),
+    ("lock", "", LOCKS),
+    ("replace", "", UPDATE),
+    ("with", "", WITHIN_QUERY),
 ];
 
 fn is_next(tokens: &[Token], i: usize, next: &str) -> bool {
@@ -88,9 +131,9 @@ fn said(hints: &[Hint], tokens: &[Token], i: usize) -> Option<&'static str> {
     if word.is_empty() {
         return None;
     }
-    for hint in hints {
-        if hint.word == word && is_next(tokens, i.saturating_add(1), hint.next) {
-            return Some(hint.said);
+    for (first, next, said) in hints {
+        if *first == word && is_next(tokens, i.saturating_add(1), next) {
+            return Some(*said);
         }
     }
     None
@@ -120,7 +163,9 @@ fn of_symbols(tokens: &[Token], i: usize) -> Option<&'static str> {
         return Some("numbers are whole: write others as texts, everywhere");
     }
     let is_comma = is_symbol_at(tokens, i, Symbol::Comma);
-    if is_comma && (is_symbol_at(tokens, next, Symbol::RightParen) || is_word_at(tokens, next, "from")) {
+    if is_comma
+        && (is_symbol_at(tokens, next, Symbol::RightParen) || is_word_at(tokens, next, "from"))
+    {
         return Some("there is nothing behind a comma");
     }
     None
@@ -191,15 +236,18 @@ pub fn instead(tokens: &[Token], stop: usize) -> Option<&'static str> {
 pub fn stray(c: char) -> &'static str {
     match c {
         '<' | '>' => ORDER,
-        '"' | '`' | '[' | ']' => "a name stands without quotes, and has letters, digits and _ of ASCII; a text stands in single quotes",
+        '"' | '`' | '[' | ']' =>
+            "a name stands without quotes, and has letters, digits and _ of ASCII; a text stands in single quotes",
         '/' => "a comment is -- up to the end of the line, and nothing is computed",
         '+' | '|' | '%' | '&' | '^' | '~' => "nothing is computed",
         '-' => "nothing is computed; a minus stands directly before its number",
         '?' => "a null that has a name is ? and a word, as ?x",
         '!' => "write <> or !=",
         '#' => "a comment is -- up to the end of the line",
-        ':' | '@' | '$' | '{' | '}' => "there are no parameters and no casts; a null that has a name is ? and a word, as ?x",
-        '\u{feff}' => "a byte order mark stands before the first statement: save the file without it",
+        ':' | '@' | '$' | '{' | '}' =>
+            "there are no parameters and no casts; a null that has a name is ? and a word, as ?x",
+        '\u{feff}' =>
+            "a byte order mark stands before the first statement: save the file without it",
         _ => "outside of texts and comments there are only characters of ASCII",
     }
 }

@@ -3,6 +3,7 @@
 //! Nothing here has a contract: the sentences are meant for people. What they are put behind is proved in `ct_remarks`.
 #![tactic(auto)]
 
+mod aliases;
 mod faults;
 mod hints;
 mod limits;
@@ -12,6 +13,7 @@ mod tables;
 mod tokens;
 mod unread;
 
+pub use aliases::{BareAlias, bare_alias, broken_text};
 pub use faults::{Fault, FaultAt, fault_in};
 pub use limits::{asserts_of, push_too_deep, push_too_large};
 pub use naming::{
@@ -19,4 +21,4 @@ pub use naming::{
     push_unknown_column, push_unknown_table,
 };
 pub use tables::{Made, Own, Visible, made_tables, own_table};
-pub use unread::{Unread, push_not_a_statement, push_number_range};
+pub use unread::{Unread, line_of, push_not_a_statement, push_number_range};

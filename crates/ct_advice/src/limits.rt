@@ -26,9 +26,15 @@ fn operators(tokens: &[Token]) -> usize {
 pub fn push_too_deep(out: &mut String, tokens: &[Token]) -> Result<(), Memory> {
     let count = operators(tokens);
     if count > DEPTH {
-        write!(out, "{count} set operators, and at most {DEPTH}: ask in several statements")?;
+        write!(
+            out,
+            "{count} set operators, and at most {DEPTH}: ask in several statements"
+        )?;
     } else {
-        write!(out, "more than {DEPTH} parentheses and NOTs in one another: a run of AND or of OR needs none")?;
+        write!(
+            out,
+            "more than {DEPTH} parentheses and NOTs in one another: a run of AND or of OR needs none"
+        )?;
     }
     Ok(())
 }
@@ -107,4 +113,3 @@ pub fn asserts_of(commit: &Commit, tokens: &[Token]) -> bool {
     changes.any(|change| matches!(change, Change::Assert { .. }))
         && nodes.any(|node| names_a_null(node, tokens))
 }
-

@@ -38,7 +38,11 @@ fn target(tokens: &[Token]) -> Option<&str> {
     let names = is_word_at(tokens, 0, "insert")
         || is_word_at(tokens, 0, "delete")
         || is_word_at(tokens, 0, "create");
-    if names { Some(word(tokens.get(2)?)) } else { None }
+    if names {
+        Some(word(tokens.get(2)?))
+    } else {
+        None
+    }
 }
 
 fn unknown_table<'a>(
@@ -261,12 +265,20 @@ pub fn push_duplicate_name(
             names.push(seen.name)?;
         }
         if let Some(name) = repeated(&names) {
-            write!(out, "two tables are seen as {name}: write {name} as p, {name} as q")?;
+            write!(
+                out,
+                "two tables are seen as {name}: write {name} as p, {name} as q"
+            )?;
             return Ok(());
         }
     }
     out.push_str("two tables are seen under one name: give one an alias")?;
     Ok(())
+}
+
+/// What a number of columns or cells is called.
+fn called(count: usize, one: &'static str, more: &'static str) -> &'static str {
+    if count == 1 { one } else { more }
 }
 
 /// How many columns a SELECT has, where its tables are there.
@@ -307,12 +319,21 @@ fn push_insertion_counts(
     let name = target(tokens).unwrap_or("the table");
     let columns = visible.columns(name).unwrap_or(&[]);
     let wanted = columns.len();
+    let wanted_as = called(wanted, "column", "columns");
     if is_word_at(tokens, 3, "values") {
-        let (row, cells) = odd_row(tokens, wanted).unwrap_or((1, 0));
-        write!(out, "row {row} has {cells} cells, and there are {wanted} columns in ")?;
+        let (row, given) = odd_row(tokens, wanted).unwrap_or((1, 0));
+        let given_as = called(given, "cell", "cells");
+        write!(
+            out,
+            "row {row} has {given} {given_as}, for {wanted} {wanted_as} of "
+        )?;
     } else {
         let given = widths.first().copied().unwrap_or(0);
-        write!(out, "the query has {given} columns, and there are {wanted} in ")?;
+        let given_as = called(given, "column", "columns");
+        write!(
+            out,
+            "the query has {given} {given_as}, for {wanted} {wanted_as} of "
+        )?;
     }
     push_table(out, name, columns)
 }
@@ -337,7 +358,11 @@ pub fn push_column_count(
     let first = widths.first().copied().unwrap_or(0);
     for other in &widths {
         if *other != first {
-            write!(out, "one side has {first} columns, and another has {other}")?;
+            let first_as = called(first, "column", "columns");
+            write!(
+                out,
+                "one side has {first} {first_as}, and another has {other}"
+            )?;
             return Ok(());
         }
     }

@@ -118,4 +118,3 @@ pub fn own_table(alloc: Global, text: &str) -> Result<Option<Own>, Memory> {
     }
     Ok(Some(Own { name, columns }))
 }
-

@@ -1,13 +1,14 @@
 // What is said of a text that could not be read.
 
+use crate::aliases::broken_text;
 use crate::faults::{Fault, FaultAt, fault_in};
 use crate::hints::{instead, stray};
-use ct_lex::{Lexeme, Token};
+use ct_lex::Token;
 use ct_word::Memory;
 use std::fmt::Write;
 
 /// Where to look for what to write instead.
-const PAGE: &str = " (docs/SQL.md, What is not there, and what to write instead)";
+const PAGE: &str = " (docs/SQL.md, What is not there)";
 
 /// A statement's text, how many bytes stand before its first token, and the line of that token.
 #[derive(Clone, Copy)]
@@ -18,7 +19,7 @@ pub struct Unread<'a> {
 }
 
 /// The line of a place of the text, in bytes from its beginning.
-fn line_of(unread: &Unread, at: usize) -> usize {
+pub fn line_of(unread: &Unread, at: usize) -> usize {
     match unread.text.as_bytes().get(unread.lead..at) {
         Some(bytes) => {
             let ends = bytes.iter().filter(|byte| **byte == b'\n').count();
@@ -62,7 +63,9 @@ fn push_number(out: &mut String, unread: &Unread, at: usize) -> Result<(), Memor
             _ => break,
         }
     }
-    out.push_str(" is outside -9223372036854775808 to 9223372036854775807: write it as a text, everywhere")?;
+    out.push_str(
+        " is outside -9223372036854775808 to 9223372036854775807: write it as a text, everywhere",
+    )?;
     Ok(())
 }
 
@@ -77,18 +80,6 @@ pub fn push_number_range(out: &mut String, unread: &Unread) -> Result<(), Memory
     }
 }
 
-/// The place of a text with a line end in it.
-fn broken_text(tokens: &[Token]) -> Option<u64> {
-    for token in tokens {
-        if let Lexeme::Text(text) = &token.word {
-            if text.as_str().as_bytes().contains(&b'\n') {
-                return Some(token.start);
-            }
-        }
-    }
-    None
-}
-
 /// Appends what is said of tokens that spell no statement, where reading stopped at this one of them.
 fn push_unspelled(
     out: &mut String,
@@ -98,7 +89,10 @@ fn push_unspelled(
 ) -> Result<(), Memory> {
     if let Some(start) = broken_text(tokens) {
         let line = line_of(unread, start as usize);
-        write!(out, "the text that begins in line {line} goes on in the next one: is a quote missing?")?;
+        write!(
+            out,
+            "the text that begins in line {line} goes on in the next one: is a quote missing?"
+        )?;
         return Ok(());
     }
     match instead(tokens, stop) {

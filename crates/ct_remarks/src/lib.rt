@@ -5,13 +5,18 @@
 #![tactic(auto)]
 
 mod cases;
+mod causes;
+mod context;
 mod cut;
 mod heads;
+mod noting;
 mod pieces;
 mod places;
 mod remarking;
 mod sentences;
 mod shown;
 mod spots;
+mod transactions;
 
+pub use noting::notes;
 pub use remarking::remarks;

@@ -5,10 +5,12 @@ ghost use Rattle.ct_remarks.specs.RefusedStatements.{case_of, cases, IsStanding}
 ghost use Rattle.ct_remarks.specs.Remarks as spec;
 
 use crate::cases::{Case, refused_statements};
+use crate::context::Context;
 use crate::heads::push_head;
 use crate::sentences::sentence;
 use crate::shown::push_shown;
 use crate::spots::spot_of;
+use ct_advice::made_tables;
 use ct_transcript::Transcript;
 use ct_word::{List, Memory, Text};
 use std::alloc::Global;
@@ -17,13 +19,13 @@ use std::alloc::Global;
 const LIMIT: usize = 100;
 
 /// The remark on a refused statement.
-fn remark(alloc: Global, names: &[&str], case: &Case) -> Result<Text, Memory>
+fn remark(alloc: Global, names: &[&str], context: &Context, case: &Case) -> Result<Text, Memory>
     requires { IsStanding (case_of case.now) }
     ensures { IfOk result (spec.IsRemark (map (λ n. n.now) names.now) (case_of case.now)) }
 {
     let mut out = String::new(alloc);
-    push_head(alloc, &mut out, names, case, spot_of(alloc, case)?)?;
-    let said = sentence(alloc, case)?;
+    push_head(alloc, &mut out, names, case, spot_of(case))?;
+    let said = sentence(alloc, context, case)?;
     push_shown(&mut out, said.as_str())?;
     Ok(Text::from_string(out))
 }
@@ -58,13 +60,23 @@ fn push_more(alloc: Global, lines: &mut Vec<Text>, count: usize) -> Result<(), M
 pub fn remarks(alloc: Global, transcript: &Transcript, names: &[&str]) -> Result<List<Text>, Memory>
     ensures { IfOk result (spec.AreRemarks (map (λ n. n.now) names.now) (cases 0 transcript.now.sessions)) }
 {
-    let refused = refused_statements(alloc, transcript.sessions.as_slice())?;
+    let sessions = transcript.sessions.as_slice();
+    let history = transcript.history.as_slice();
+    let refused = refused_statements(alloc, sessions)?;
+    let made = made_tables(alloc, history)?;
+    let context = Context {
+        sessions,
+        history,
+        words: transcript.words.words().len(),
+        texts: &refused.texts,
+        made: &made,
+    };
     let cases = refused.cases.as_slice();
     let count = cases.len();
     let first = first_cases(cases);
     let mut lines = Vec::new(alloc);
     for case in first {
-        lines.push(remark(alloc, names, case)?)?;
+        lines.push(remark(alloc, names, &context, case)?)?;
     }
     push_more(alloc, &mut lines, count)?;
     Ok(List::from_vec(lines))

@@ -1,15 +1,14 @@
 // Where a remark points to.
 
-ghost use Rattle.std.specs.Prelude.{◌≡◌, IfOk};
+ghost use Rattle.std.specs.Prelude.{◌≡◌};
 ghost use Rattle.ct_remarks.specs.RefusedStatements.{case_of, IsStanding};
 ghost use Rattle.ct_remarks.specs.Standing.{IsSpot};
 ghost use Rattle.ct_remarks.specs.Remarks as spec;
 
 use crate::cases::Case;
 use crate::places::{Spot, moved};
+use ct_advice::fault_in;
 use ct_transcript::Refusal;
-use ct_word::Memory;
-use std::alloc::Global;
 
 fn is_unread(why: &Refusal) -> bool
     ensures { result ≡ spec.is_unread why.now }
@@ -20,39 +19,34 @@ fn is_unread(why: &Refusal) -> bool
     )
 }
 
-/// Where the reading of a text stopped, in bytes from its beginning.
-///
-/// # Errors
-/// `Memory` where there is none for its tokens.
-pub fn stop_in(_alloc: Global, _text: &str) -> Result<Option<usize>, Memory> {
-    Ok(None)
+/// Where the reading of a text stopped, in bytes from its beginning: at its leftmost fault.
+fn stop_in(text: &str) -> Option<usize> {
+    let fault = fault_in(text)?;
+    Some(fault.at)
 }
 
 /// The spot that a remark points to: the first token, or where the reading of the text stopped.
-///
-/// # Errors
-/// `Memory` where there is none for the tokens of the text.
-pub fn spot_of(alloc: Global, case: &Case) -> Result<Spot, Memory>
+pub fn spot_of(case: &Case) -> Spot
     requires { IsStanding (case_of case.now) }
-    ensures place { IfOk result (λ s. spec.IsPlace (case_of case.now) s.at) }
-    ensures spot { IfOk result (IsSpot case.now.script.now) }
+    ensures place { spec.IsPlace (case_of case.now) result.at }
+    ensures spot { IsSpot case.now.script.now result }
 {
     let first = case.text.first;
     if !is_unread(case.why) {
-        return Ok(first);
+        return first;
     }
     let text = case.text.text;
-    let Some(stop) = stop_in(alloc, text)? else {
-        return Ok(first);
+    let Some(stop) = stop_in(text) else {
+        return first;
     };
     if stop > text.len() {
-        return Ok(first);
+        return first;
     }
     let Some(to) = case.text.at.checked_add(stop) else {
-        return Ok(first);
+        return first;
     };
     if to < first.at || to > case.script.len() || to >= usize::MAX {
-        return Ok(first);
+        return first;
     }
-    Ok(moved(case.script, first, to))
+    moved(case.script, first, to)
 }

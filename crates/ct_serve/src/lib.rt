@@ -14,6 +14,7 @@ mod serving;
 mod summary;
 mod theorems;
 
+pub use ct_remarks::{notes, remarks};
 pub use driving::run;
 pub use ending::{Run, Status};
 pub use serving::serve;

@@ -4,7 +4,9 @@
 
 use anyhow::Result;
 use ct_outside::{FileScripts, NoGate, StdSink};
-use ct_serve::{Status, run};
+use ct_serve::{Run, Status, notes, remarks, run};
+use ct_word::Text;
+use ct_words::{Asked, asked};
 use std::env;
 use std::env::Env;
 use std::fs::Files;
@@ -13,8 +15,34 @@ use std::process::ExitCode;
 use std::sync::Wait;
 use std::thread::Threads;
 
+/// Writes lines to standard error. Where one cannot be written, the rest is left out.
+fn say<R: Eprint>(rt: &R, lines: &[Text]) {
+    for line in lines {
+        let line = line.as_str();
+        if eprintln!(rt; "{line}").is_err() {
+            return;
+        }
+    }
+}
+
+/// Says what there is to say of a run with a transcript: of refused statements, where there are some, and what to note.
+fn remark<R: AllocGlobal + Eprint>(rt: &R, words: &[&str], ended: &Run) {
+    let names = match asked(rt.alloc(), words) {
+        Ok(Some(Asked::Run { files, .. })) => files,
+        _ => Vec::new(rt.alloc()),
+    };
+    if let Status::Refused | Status::Memory = ended.status {
+        if let Ok(lines) = remarks(rt.alloc(), &ended.transcript, names.as_slice()) {
+            say(rt, lines.as_slice());
+        }
+    }
+    if let Ok(lines) = notes(rt.alloc(), &ended.transcript, names.as_slice()) {
+        say(rt, lines.as_slice());
+    }
+}
+
 /// Runs what the words of the command line ask for.
-fn run_words<R: Threads + Wait + Sync + AllocGlobal + Env + Files + Print>(
+fn run_words<R: Threads + Wait + Sync + AllocGlobal + Env + Files + Print + Eprint>(
     rt: &R,
 ) -> Result<Status> {
     let args = match env::args(rt) {
@@ -34,7 +62,9 @@ fn run_words<R: Threads + Wait + Sync + AllocGlobal + Env + Files + Print>(
     let mut scripts = FileScripts::make(rt);
     let mut out = StdSink::make(rt);
     let words = words.as_slice();
-    Ok(run(rt, rt.alloc(), words, &mut scripts, &mut out, &NoGate).into_status())
+    let ended = run(rt, rt.alloc(), words, &mut scripts, &mut out, &NoGate);
+    remark(rt, words, &ended);
+    Ok(ended.into_status())
 }
 
 /// The number that a run ends with.
