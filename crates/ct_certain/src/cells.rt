@@ -31,25 +31,7 @@ fn is_kept(null: &Null, some: &IndexSet<Null>, others: &IndexSet<Null>) -> bool
     some.contains(null) || others.contains(null)
 }
 
-/// The pairs of a world whose nulls are among some or others, out of the world.
-pub fn kept(
-    alloc: Global,
-    world: World,
-    some: &IndexSet<Null>,
-    others: &IndexSet<Null>,
-) -> Result<World, Memory>
-    ensures { IfOk result (λ part. part ≡ cut_to some.now.keys others.now.keys world) }
-{
-    let mut pairs = Vec::with_capacity(alloc, world.len())?;
-    for pair in world.into_vec() {
-        if is_kept(&pair.0, some, others) {
-            pairs.push(pair)?;
-        }
-    }
-    Ok(List::from_vec(pairs))
-}
-
-/// Copies of the pairs of a world whose nulls are among some or others.
+/// The pairs of a world whose nulls are among some or others.
 pub fn cut(
     alloc: Global,
     world: &World,

@@ -112,12 +112,7 @@ pub fn change(
 }
 
 /// The same, where no world is known: by a change of the one without pairs.
-pub fn make(
-    alloc: Global,
-    words: &[u64],
-    global: u32,
-    row: &CRow,
-) -> Result<Option<World>, Memory>
+pub fn make(alloc: Global, words: &[u64], global: u32, row: &CRow) -> Result<Option<World>, Memory>
     requires formed { IsWellFormed words.now }
     requires few { length words.now < 2 ^ 28 }
     requires asked { AreOf words.now global row.now }
