@@ -2,7 +2,7 @@
 use Rattle.std.{proofs.Common.{ℕ, List, ap, sym, ◌∙◌}, specs.Prelude.slice_get}
 use Rattle.ct_word.{specs.Stands.{Below, itself, through}, proofs.Items.get_append}
 use Rattle.ct_derivation.{specs.declared.literals.Atom.Atom, specs.declared.steps.Derivation.Derivation}
-use Rattle.ct_decide.specs.Cut.{IsAtomBelow, IsCut}
+use Rattle.ct_cut.specs.Cut.{IsAtomBelow, IsCut}
 use mathlib.Core.List.{IsPrefix}
 use Rattle.ct_derivation.specs.declared.literals.Atom.TheVariants as atom
 

@@ -1,15 +1,11 @@
-pub mod Ordered
-pub mod Last
 pub mod Agreed
 pub mod Asking
 pub mod Cuts
-pub mod Own
 pub mod Pools
 pub mod Short
 pub mod Listing
 pub mod Missing
 pub mod Values
-pub mod Valued
 pub mod Roots
 pub mod Certainties
 pub mod Candidates

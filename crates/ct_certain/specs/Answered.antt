@@ -3,6 +3,7 @@ use Rattle.std.specs.Prelude.{◌≡◌, ℕ, true, false, ◌&&◌, List, [], �
 use Rattle.std.specs.Map.{lookup}
 use Rattle.ct_word.specs.declared.kinds.Class.TheVariants as class
 use Rattle.ct_word.specs.declared.values.CRow.{CRow}
+use Rattle.ct_word.specs.declared.values.Term.TheVariants as term
 use Rattle.ct_word.specs.Value.{World}
 use Rattle.ct_word.specs.Condition.{holds_at}
 use Rattle.ct_word.specs.Reading.{condition_at}
@@ -10,14 +11,15 @@ use Rattle.ct_word.specs.Stands.{HasNoColumn, TermBelow}
 use Rattle.ct_word.specs.WellFormed.{is_place_of}
 use Rattle.ct_derivation.specs.Accepts.{Accepts}
 use Rattle.ct_derivation.specs.declared.steps.Derivation.{Derivation}
-use Rattle.ct_decide.specs.Cut.{IsCut}
+use Rattle.ct_cut.specs.Cut.{IsCut}
 use Rattle.ct_decide.specs.declared.deciding.Decision.{Decision}
 use Rattle.ct_decide.specs.declared.deciding.Decision.TheVariants as decision
+use Rattle.ct_condition.specs.Terms.{BelowEither}
 use Rattle.ct_condition.specs.Worth.{AreWorths}
-use Rattle.ct_worlds.specs.Conjuncts.{AreConjuncts}
+use Rattle.ct_near.specs.Conjuncts.{AreConjuncts}
 use Rattle.ct_rewrite.specs.Tidy.{IsTidy}
 use Rattle.ct_rewrite.specs.declared.answer.PossibleRow.{PossibleRow}
-use Rattle.ct_certain.specs.Own.{AreNullsOf}
+use Rattle.ct_tidy.specs.Nulls.{AreNullsOf}
 use Rattle.ct_certain.specs.Possible.{is_shown, shown_row}
 use Rattle.ct_certain.specs.declared.pool.Known.{Known}
 use Rattle.ct_certain.specs.declared.pool.Pool.{Pool}
@@ -32,6 +34,11 @@ abbrev pub IsSettled : List ℕ → ℕ → Decision → Type 0
 IsSettled words root (decision.World v) = holds_at v (condition_at words root) ≡ true
 IsSettled words root (decision.Refuted d) = IsRefutation words root d
 
+-- the same, where each null of the world stands below the condition or the global one
+abbrev pub IsSettledOwn : List ℕ → ℕ → ℕ → Decision → Type 0
+IsSettledOwn words root global (decision.World v) = (holds_at v (condition_at words root) ≡ true) × All (λ p. BelowEither words global root (term.Null p.0)) v
+IsSettledOwn words root global (decision.Refuted d) = IsRefutation words root d
+
 -- a global condition and a row are of these words, and no column stands below the conditions
 pub record AreOf (words : List ℕ) (global : ℕ) (r : CRow) : Type 0 where
   pub global_is : IsTrue (is_place_of words class.Cond global)
@@ -40,13 +47,15 @@ pub record AreOf (words : List ℕ) (global : ℕ) (r : CRow) : Type 0 where
   pub plain : HasNoColumn words r.cond
   pub terms : All (λ p. IsTrue (is_place_of words class.Term p)) r.cells
 
--- a tidy world shows a row
-abbrev pub IsWitness : List ℕ → ℕ → CRow → World → Type 0
-IsWitness words global r v = IsTidy v × IsTrue (is_shown words global r v)
+-- at a tidy world the global condition holds, and another one, and each of its nulls stands below one of the two
+pub record IsFound (words : List ℕ) (global c : ℕ) (v : World) : Type 0 where
+  pub tidy : IsTidy v
+  pub holds : IsTrue (holds_at v (condition_at words global) && holds_at v (condition_at words c))
+  pub own : All (λ p. BelowEither words global c (term.Null p.0)) v
 
--- such a world, or that there is none
+-- such a world for the condition of a row, or no world shows the row
 abbrev pub IsAnswer : List ℕ → ℕ → CRow → Option World → Type 0
-IsAnswer words global r (Some v) = IsWitness words global r v
+IsAnswer words global r (Some v) = IsFound words global r.cond v
 IsAnswer words global r None = (v : World) → is_shown words global r v ≡ false
 
 -- a tidy world at which the global condition holds, with what the words are worth there
@@ -59,17 +68,23 @@ pub record IsKnown (words : List ℕ) (global : ℕ) (k : Known) : Type 0 where
 abbrev pub IsNever : List ℕ → ℕ → ℕ → Type 0
 IsNever words global c = (v : World) → (holds_at v (condition_at words global) && holds_at v (condition_at words c)) ≡ false
 
--- at a tidy world the global condition holds, and another one
-abbrev pub IsFound : List ℕ → ℕ → ℕ → World → Type 0
-IsFound words global c v = IsTidy v × IsTrue (holds_at v (condition_at words global) && holds_at v (condition_at words c))
+-- each null of a world stands below a condition
+abbrev pub IsWithin : List ℕ → ℕ → World → Type 0
+IsWithin words c v = All (λ p. TermBelow words c (term.Null p.0)) v
+
+-- a known world whose nulls stand below the global condition
+pub record IsWithinGlobal (words : List ℕ) (global : ℕ) (k : Known) : Type 0 where
+  pub known : IsKnown words global k
+  pub own : IsWithin words global k.world
 
 -- each condition has a world at which it and the global one hold, if it has one
 abbrev pub AreFound : List ℕ → ℕ → List (ℕ × World) → Type 0
 AreFound words global entries = (c : ℕ) → IfSome (lookup (nat_eq c) entries) (IsFound words global c)
 
--- worlds that are known, those that are known for conditions, conditions that hold at none, and the nulls below the global
--- condition, and its conjuncts
+-- the world near which others are made, others that are known, those that were found for conditions, conditions that hold at
+-- none, and the nulls below the global condition, and its conjuncts
 pub record IsPool (words : List ℕ) (global : ℕ) (p : Pool) : Type 0 where
+  pub near : IfSome p.near (IsWithinGlobal words global)
   pub worlds : All (IsKnown words global) p.worlds.items
   pub found : AreFound words global p.found.entries
   pub never : All (IsNever words global) p.never.keys
@@ -80,6 +95,11 @@ pub record IsPool (words : List ℕ) (global : ℕ) (p : Pool) : Type 0 where
 pub record IsNear (words : List ℕ) (global : ℕ) (n : Near) : Type 0 where
   pub conjuncts : AreConjuncts words global n.conjuncts.now
   pub holds : IsTrue (holds_at n.world.now (condition_at words global))
+
+-- and its nulls stand below the global condition
+pub record IsNearOwn (words : List ℕ) (global : ℕ) (n : Near) : Type 0 where
+  pub near : IsNear words global n
+  pub own : IsWithin words global n.world.now
 
 -- the list with a row where some world shows it, as it was where none does
 pub data Adds (words : List ℕ) (global : ℕ) (r : CRow) (old : List PossibleRow) : List PossibleRow → Type 0 where

@@ -10,7 +10,7 @@ use Rattle.ct_word.specs.Reading.{condition_at}
 use Rattle.ct_word.specs.Sublist.{IsSublist}
 use Rattle.ct_query.specs.Database.{has_tuple}
 use Rattle.ct_condition.specs.Places.{has_place}
-use Rattle.ct_decide.specs.Cut.{IsCut}
+use Rattle.ct_cut.specs.Cut.{IsCut}
 use Rattle.ct_derivation.specs.Accepts.{AcceptsProof}
 use Rattle.ct_derivation.specs.declared.steps.Proof.{Proof}
 use Rattle.ct_equality.specs.Valued.{IsNumbered}

@@ -2,6 +2,5 @@ pub mod Possible
 pub mod Certain
 pub mod Own
 pub mod Faults
-pub mod Order
 pub mod Answered
 pub mod Missing

@@ -25,10 +25,10 @@ use ct_arena::{Arena, Pass, Site};
 use ct_condition::{Interner, worths};
 use ct_decide::Decision;
 use ct_derivation::{Derivation, Proof};
+use ct_near::conjuncts;
 use ct_operators::CTable;
 use ct_rewrite::CertainRow;
 use ct_word::{List, Memory, Value, World};
-use ct_worlds::conjuncts;
 use indexmap::IndexMap;
 use std::alloc::Global;
 

@@ -2,22 +2,18 @@
 //!
 //! A row is possible where it is shown at some valuation at which the global condition holds, and a tuple is certain
 //! where the table has it at all of these. Whether a condition can hold is a question to `ct_decide`. A row is asked for
-//! where no known valuation shows it, and a tuple where none of up to 16 known valuations lacks it.
+//! where no known valuation shows it, nor one changed near these, and a tuple where none of up to 16 known valuations
+//! lacks it, nor one changed near the kept one.
 #![tactic(auto)]
 
 mod absence;
-mod below;
-mod cells;
 mod certainty;
 mod derivations;
 mod error;
-mod mapped;
-mod order;
 mod pool;
 mod possibility;
 mod settling;
 mod showing;
-mod spread;
 mod striking;
 mod tuples;
 

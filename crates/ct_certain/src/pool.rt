@@ -1,21 +1,20 @@
 // The worlds that are known, each at which the global condition holds.
 
-ghost use Rattle.std.specs.Prelude.{◌<◌, ◌^◌, length, All, IfOk, IfSome, OnOk, IsTrue, None};
+ghost use Rattle.std.specs.Prelude.{◌≡◌, ◌<◌, ◌^◌, length, All, IfOk, IfSome, OnOk, IsTrue, None, ℕ, List};
 ghost use Rattle.ct_word.specs.declared.kinds.Class.TheVariants as class;
 ghost use Rattle.ct_word.specs.Stands.{TermBelow};
 ghost use Rattle.ct_word.specs.WellFormed.{IsWellFormed, is_place_of};
-ghost use Rattle.ct_certain.specs.Answered.{AreOf, IsAnswer, IsFound, IsKnown, IsNever, IsPool};
-ghost use Rattle.ct_certain.specs.Own.{AreNullsOf, IsShownBy};
-ghost use Rattle.ct_certain.specs.Possible.{is_shown};
 ghost use Rattle.ct_rewrite.specs.Tidy.{IsTidy};
+ghost use Rattle.ct_tidy.specs.Nulls.{AreNullsOf};
+ghost use Rattle.ct_certain.specs.Answered.{AreOf, IsAnswer, IsFound, IsKnown, IsNearOwn, IsNever, IsPool};
+ghost use Rattle.ct_certain.specs.Own.{IsShownBy};
+ghost use Rattle.ct_certain.specs.Possible.{is_shown};
 
-use crate::below::nulls_below;
-use crate::cells::cut;
-use crate::order::tidy;
-use crate::spread::spread;
+use crate::settling::{Near, make};
 use ct_condition::{Worths, worths};
+use ct_near::{Conjuncts, conjuncts};
+use ct_tidy::{copied, cut, nulls_below, spread, tidy};
 use ct_word::{CRow, List, Memory, Null, World};
-use ct_worlds::{Conjuncts, conjuncts};
 use indexmap::{IndexMap, IndexSet};
 use std::alloc::Global;
 
@@ -29,9 +28,12 @@ pub struct Known {
 /// What is known of the rows of a table.
 #[derive(Drop)]
 pub struct Pool {
-    /// Worlds at which the global condition holds, in which any row is looked for.
+    /// A world at which the global condition holds, and whose nulls stand below it, if there is one yet. Others are made
+    /// near it.
+    pub near: Option<Known>,
+    /// Further ones at which it holds, in which any row is looked for.
     pub worlds: Vec<Known>,
-    /// Further ones, by the condition of the row that they were found for.
+    /// Those that were found for a row, by its condition. Their nulls stand below that or the global condition.
     pub found: IndexMap<u32, World>,
     /// Conditions of rows that hold at no valuation together with the global one.
     pub never: IndexSet<u32>,
@@ -39,14 +41,29 @@ pub struct Pool {
     pub nulls: IndexSet<Null>,
     /// The conjuncts of the global condition.
     pub conjuncts: Conjuncts,
-    /// Whether the world in which the nulls of the table differ was tried.
-    pub is_spread: bool,
+    /// The conditions that several rows have; none as long as each row was shown by the world without pairs.
+    pub repeated: Option<IndexSet<u32>>,
 }
 
-/// The most worlds in which any row is looked for, one after another. Each has a byte for every word.
-const MOST_WORLDS: usize = 16;
+/// The most further worlds in which any row is looked for, one after another. Each has a byte for every word.
+const MOST_WORLDS: usize = 2;
 
-/// Puts a world into the pool, if the global condition holds there.
+/// A world with what the places are worth there, if the global condition holds.
+fn weigh(alloc: Global, words: &[u64], global: u32, world: World) -> Result<Option<Known>, Memory>
+    requires formed { IsWellFormed words.now }
+    requires small { length words.now < 2 ^ 28 }
+    requires global { IsTrue (is_place_of words.now class.Cond global) }
+    requires tidy { IsTidy world }
+    ensures { IfOk result (λ o. IfSome o (λ k. IsKnown words.now global k × (k.world ≡ world))) }
+{
+    let worths = worths(alloc, words, &world)?;
+    if !worths.holds(global) {
+        return Ok(None);
+    }
+    Ok(Some(Known { world, worths }))
+}
+
+/// Puts a world among those in which any row is looked for, if the global condition holds there.
 fn keep(
     alloc: Global,
     words: &[u64],
@@ -61,9 +78,8 @@ fn keep(
     requires known { All (IsKnown words.now global) worlds.old.items }
     ensures { OnOk result (All (IsKnown words.now global) worlds.new.items) }
 {
-    let worths = worths(alloc, words, &world)?;
-    if worths.holds(global) {
-        worlds.push(Known { world, worths })?;
+    if let Some(known) = weigh(alloc, words, global, world)? {
+        worlds.push(known)?;
     }
     Ok(())
 }
@@ -78,15 +94,15 @@ pub fn start(alloc: Global, words: &[u64], global: u32) -> Result<Pool, Memory>
     let nulls = nulls_below(alloc, words, global, &[])?;
     let conjuncts = conjuncts(alloc, words, global)?;
     // The world in which each null is `@0`.
-    let mut worlds = Vec::new(alloc);
-    keep(alloc, words, global, &mut worlds, List::new(alloc))?;
+    let near = weigh(alloc, words, global, List::new(alloc))?;
     Ok(Pool {
-        worlds,
+        near,
+        worlds: Vec::new(alloc),
         found: IndexMap::new(alloc),
         never: IndexSet::new(alloc),
         nulls,
         conjuncts,
-        is_spread: false,
+        repeated: None,
     })
 }
 
@@ -98,6 +114,89 @@ pub fn is_never(words: &[u64], global: u32, never: &IndexSet<u32>, row: &CRow) -
     let _ = words;
     let _ = global;
     never.contains(&row.cond)
+}
+
+/// A world in order at which the global condition may hold: the first known one, or one that is made of that without pairs.
+fn first_world(
+    alloc: Global,
+    words: &[u64],
+    global: u32,
+    worlds: &[Known],
+) -> Result<Option<World>, Memory>
+    requires formed { IsWellFormed words.now }
+    requires small { length words.now < 2 ^ 28 }
+    requires global { IsTrue (is_place_of words.now class.Cond global) }
+    requires known { All (IsKnown words.now global) worlds.now }
+    ensures { IfOk result (λ o. IfSome o IsTidy) }
+{
+    let Some(known) = worlds.first() else {
+        return make(alloc, words, global);
+    };
+    let world = copied(&known.world)?;
+    Ok(Some(world))
+}
+
+/// Looks for a world near which others are made, if there is none yet.
+pub fn approach(alloc: Global, words: &[u64], global: u32, pool: &mut Pool) -> Result<(), Memory>
+    requires formed { IsWellFormed words.now }
+    requires small { length words.now < 2 ^ 28 }
+    requires global { IsTrue (is_place_of words.now class.Cond global) }
+    requires pool { IsPool words.now global pool.old }
+    ensures { OnOk result (IsPool words.now global pool.new) }
+{
+    if pool.near.is_some() {
+        return Ok(());
+    }
+    let Some(world) = first_world(alloc, words, global, pool.worlds.as_slice())? else {
+        return Ok(());
+    };
+    let none = IndexSet::new(alloc);
+    let part = cut(alloc, &world, &pool.nulls, &none)?;
+    pool.near = weigh(alloc, words, global, part)?;
+    Ok(())
+}
+
+/// The world near which others are made, with the conjuncts of the global condition.
+pub fn near_of(pool: &Pool) -> Option<Near<'_>>
+    ensures { (words : List ℕ) (global : ℕ) → IsPool words global pool.now → IfSome result (IsNearOwn words global) }
+{
+    let known = pool.near.as_ref()?;
+    Some(Near {
+        conjuncts: &pool.conjuncts,
+        world: &known.world,
+    })
+}
+
+/// The world near which others are made, where it shows a row. A row needs all of it.
+fn shown_near(words: &[u64], global: u32, pool: &Pool, row: &CRow) -> Result<Option<World>, Memory>
+    requires asked { AreOf words.now global row.now }
+    requires pool { IsPool words.now global pool.now }
+    ensures { IfOk result (λ o. IfSome o (IsShownBy words.now global row.now)) }
+{
+    let _ = words;
+    let _ = global;
+    match &pool.near {
+        Some(near) if near.worths.holds(row.cond) => {
+            let world = copied(&near.world)?;
+            Ok(Some(world))
+        }
+        _ => Ok(None),
+    }
+}
+
+/// The world that was found for the condition of a row. The row needs all of it.
+fn noted(words: &[u64], global: u32, pool: &Pool, row: &CRow) -> Result<Option<World>, Memory>
+    requires asked { AreOf words.now global row.now }
+    requires pool { IsPool words.now global pool.now }
+    ensures { IfOk result (λ o. IfSome o (IsShownBy words.now global row.now)) }
+{
+    let _ = words;
+    let _ = global;
+    let Some(found) = pool.found.get(&row.cond) else {
+        return Ok(None);
+    };
+    let world = copied(found)?;
+    Ok(Some(world))
 }
 
 /// The part of a world that the global condition and a row need, of which the nulls of the first are given.
@@ -117,35 +216,12 @@ fn own_part(
     ensures { IfOk result (λ part. IsShownBy words.now global row.now part) }
 {
     let _ = global;
-    if world.is_empty() {
-        return Ok(List::new(alloc));
-    }
     let own = nulls_below(alloc, words, row.cond, row.cells.as_slice())?;
     cut(alloc, world, nulls, &own)
 }
 
-/// The part that a row needs of the world that was found for its condition.
-fn noted(
-    alloc: Global,
-    words: &[u64],
-    global: u32,
-    pool: &Pool,
-    row: &CRow,
-) -> Result<Option<World>, Memory>
-    requires formed { IsWellFormed words.now }
-    requires asked { AreOf words.now global row.now }
-    requires pool { IsPool words.now global pool.now }
-    ensures { IfOk result (λ o. IfSome o (IsShownBy words.now global row.now)) }
-{
-    let Some(world) = pool.found.get(&row.cond) else {
-        return Ok(None);
-    };
-    let part = own_part(alloc, words, global, &pool.nulls, row, world)?;
-    Ok(Some(part))
-}
-
-/// The part that a row needs of a known world that shows it.
-fn look(
+/// The part that a row needs of a further world that shows it.
+fn part_of_one(
     alloc: Global,
     words: &[u64],
     global: u32,
@@ -163,11 +239,46 @@ fn look(
             return Ok(Some(part));
         }
     }
-    noted(alloc, words, global, pool, row)
+    Ok(None)
 }
 
-/// Puts a world in which the nulls of the table differ into the pool, if the global condition holds there.
-fn spread_out(
+/// What a row needs of a known world that shows it.
+fn look(
+    alloc: Global,
+    words: &[u64],
+    global: u32,
+    pool: &Pool,
+    row: &CRow,
+) -> Result<Option<World>, Memory>
+    requires formed { IsWellFormed words.now }
+    requires asked { AreOf words.now global row.now }
+    requires pool { IsPool words.now global pool.now }
+    ensures { IfOk result (λ o. IfSome o (IsShownBy words.now global row.now)) }
+{
+    if let Some(world) = shown_near(words, global, pool, row)? {
+        return Ok(Some(world));
+    }
+    if let Some(world) = noted(words, global, pool, row)? {
+        return Ok(Some(world));
+    }
+    part_of_one(alloc, words, global, pool, row)
+}
+
+/// The conditions that several rows have.
+fn repeated(alloc: Global, rows: &[CRow]) -> Result<IndexSet<u32>, Memory> {
+    let mut seen = IndexSet::new(alloc);
+    let mut repeated = IndexSet::new(alloc);
+    for row in rows {
+        if !seen.insert(row.cond)? {
+            repeated.insert(row.cond)?;
+        }
+    }
+    Ok(repeated)
+}
+
+/// Puts a world in which the nulls of the table differ into the pool, if the global condition holds there, and notes which
+/// conditions several rows have.
+fn prepare(
     alloc: Global,
     words: &[u64],
     global: u32,
@@ -180,14 +291,14 @@ fn spread_out(
     requires pool { IsPool words.now global pool.old }
     ensures { OnOk result (IsPool words.now global pool.new) }
 {
-    pool.is_spread = true;
+    pool.repeated = Some(repeated(alloc, rows)?);
     let apart = spread(alloc, words, global, rows)?;
     let world = tidy(alloc, apart)?;
     keep(alloc, words, global, &mut pool.worlds, world)
 }
 
-/// The part that a row needs of a known world that shows it. The world in which the nulls of the table differ is made
-/// for the first row that the one without pairs does not show.
+/// What a row needs of a known world that shows it. The world in which the nulls of the table differ is made for the first
+/// row that the one without pairs does not show.
 pub fn find(
     alloc: Global,
     words: &[u64],
@@ -206,56 +317,75 @@ pub fn find(
     if let Some(part) = look(alloc, words, global, pool, row)? {
         return Ok(Some(part));
     }
-    if pool.is_spread {
+    if pool.repeated.is_some() {
         return Ok(None);
     }
-    spread_out(alloc, words, global, rows, pool)?;
+    prepare(alloc, words, global, rows, pool)?;
     look(alloc, words, global, pool, row)
 }
 
-/// Puts a world at which a condition holds into the pool. While there is room it is one in which any row is looked for,
-/// and later one for rows with this condition alone.
-fn remember(
+/// Whether several rows have a condition.
+fn is_repeated(pool: &Pool, cond: u32) -> bool {
+    match &pool.repeated {
+        Some(repeated) => repeated.contains(&cond),
+        None => false,
+    }
+}
+
+/// Puts a world among those in which any row is looked for, while there is room.
+fn keep_too(
     alloc: Global,
     words: &[u64],
     global: u32,
-    pool: &mut Pool,
-    cond: u32,
-    world: World,
+    worlds: &mut Vec<Known>,
+    world: &World,
 ) -> Result<(), Memory>
     requires formed { IsWellFormed words.now }
     requires small { length words.now < 2 ^ 28 }
     requires global { IsTrue (is_place_of words.now class.Cond global) }
+    requires tidy { IsTidy world.now }
+    requires known { All (IsKnown words.now global) worlds.old.items }
+    ensures { OnOk result (All (IsKnown words.now global) worlds.new.items) }
+{
+    if worlds.len() >= MOST_WORLDS {
+        return Ok(());
+    }
+    let copy = copied(world)?;
+    keep(alloc, words, global, worlds, copy)
+}
+
+/// Notes a world for the rows under the condition that it was found for, if there are several.
+fn note(words: &[u64], global: u32, pool: &mut Pool, cond: u32, world: &World) -> Result<(), Memory>
     requires pool { IsPool words.now global pool.old }
-    requires found { IsFound words.now global cond world }
+    requires found { IsFound words.now global cond world.now }
     ensures { OnOk result (IsPool words.now global pool.new) }
 {
-    if pool.worlds.len() < MOST_WORLDS {
-        return keep(alloc, words, global, &mut pool.worlds, world);
+    let _ = words;
+    let _ = global;
+    if !is_repeated(pool, cond) {
+        return Ok(());
     }
-    pool.found.insert(cond, world)?;
+    let copy = copied(world)?;
+    pool.found.insert(cond, copy)?;
     Ok(())
 }
 
-/// Puts a world that shows a row into the pool, and gives the part of it that the row needs.
+/// Puts a world that was found for a condition into the pool.
 pub fn learn(
     alloc: Global,
     words: &[u64],
     global: u32,
     pool: &mut Pool,
-    row: &CRow,
-    world: World,
-) -> Result<World, Memory>
+    cond: u32,
+    world: &World,
+) -> Result<(), Memory>
     requires formed { IsWellFormed words.now }
     requires small { length words.now < 2 ^ 28 }
-    requires asked { AreOf words.now global row.now }
+    requires global { IsTrue (is_place_of words.now class.Cond global) }
     requires pool { IsPool words.now global pool.old }
-    requires tidy { IsTidy world }
-    requires shown { IsTrue (is_shown words.now global row.now world) }
-    ensures part { IfOk result (λ part. IsShownBy words.now global row.now part) }
-    ensures pool { OnOk result (IsPool words.now global pool.new) }
+    requires found { IsFound words.now global cond world.now }
+    ensures { OnOk result (IsPool words.now global pool.new) }
 {
-    let part = own_part(alloc, words, global, &pool.nulls, row, &world)?;
-    remember(alloc, words, global, pool, row.cond, world)?;
-    Ok(part)
+    keep_too(alloc, words, global, &mut pool.worlds, world)?;
+    note(words, global, pool, cond, world)
 }

@@ -1,23 +1,26 @@
 // Questions, and their answers.
 
-ghost use Rattle.std.specs.Prelude.{◌≡◌, ◌<◌, ◌^◌, true, false, length, IfOk, IfSome};
+ghost use Rattle.std.specs.Prelude.{◌≡◌, ◌<◌, ◌^◌, true, false, length, IfOk, IfSome, IsTrue};
 ghost use mathlib.Core.List.{IsPrefix};
 ghost use Rattle.ct_word.specs.declared.kinds.Class.TheVariants as class;
+ghost use Rattle.ct_word.specs.Condition.{holds_at};
+ghost use Rattle.ct_word.specs.Reading.{condition_at};
 ghost use Rattle.ct_word.specs.Stands.{HasNoColumn};
 ghost use Rattle.ct_word.specs.WellFormed.{IsWellFormed, is_place_of};
 ghost use Rattle.ct_condition.specs.Writes.{Writes};
-ghost use Rattle.ct_word.specs.Condition.{holds_at};
-ghost use Rattle.ct_word.specs.Reading.{condition_at};
-ghost use Rattle.ct_certain.specs.Answered.{AreOf, IsAnswer, IsNear, IsSettled, IsWitness};
+ghost use Rattle.ct_rewrite.specs.Tidy.{IsTidy};
+ghost use Rattle.ct_decide.specs.Decided.{DecisionNear, DecisionOf};
+ghost use Rattle.ct_certain.specs.Answered.{AreOf, IsAnswer, IsFound, IsNear, IsNearOwn, IsSettled, IsSettledOwn};
 ghost use Rattle.ct_certain.specs.Faults.{is_full};
 
 use crate::error::CertainError;
-use crate::order::tidy;
 use ct_arena::{Arena, Site};
 use ct_condition::{Interner, and};
-use ct_decide::{Decision, decide};
+use ct_decide::{Decision, decide, decide_near};
+use ct_near::{Conjuncts, repaired_near, run_beside};
+use ct_tidy::tidy;
 use ct_word::{CRow, List, Memory, World};
-use ct_worlds::{Conjuncts, repaired, repaired_near, run_beside};
+use ct_worlds::repaired;
 use std::alloc::Global;
 
 /// A world at which the global condition holds, with the conjuncts of that condition.
@@ -28,15 +31,46 @@ pub struct Near<'a> {
 }
 
 /// A world at which the condition at a place holds, or a derivation that there is none.
-pub fn settle(alloc: Global, words: &[u64], root: u32) -> Result<Decision, CertainError>
+fn settle(alloc: Global, words: &[u64], root: u32) -> Result<Decision, CertainError>
     requires formed { IsWellFormed words.now }
     requires few { length words.now < 2 ^ 28 }
     requires condition { is_place_of words.now class.Cond root ≡ true }
     requires columns { HasNoColumn words.now root }
-    ensures settled { IfOk result (λ d. IsSettled words.now root d) }
+    ensures decided { IfOk result (λ d. DecisionOf words.now root d) }
     ensures room { is_full result ≡ false }
 {
     Ok(decide(alloc, words, root)?)
+}
+
+/// The same, where a known world is near: of the conjuncts of the global condition only those are asked about that have to do
+/// with the rest of the question.
+fn settle_beside(
+    alloc: Global,
+    words: &[u64],
+    root: u32,
+    global: u32,
+    near: &Near<'_>,
+) -> Result<Decision, CertainError>
+    requires formed { IsWellFormed words.now }
+    requires few { length words.now < 2 ^ 28 }
+    requires condition { is_place_of words.now class.Cond root ≡ true }
+    requires columns { HasNoColumn words.now root }
+    requires near { IsNear words.now global near.now }
+    ensures decided { IfOk result (λ d. DecisionNear words.now root near.now.world.now d) }
+    ensures room { is_full result ≡ false }
+{
+    let Some(own) = run_beside(alloc, words, root, global)? else {
+        return settle(alloc, words, root);
+    };
+    Ok(decide_near(
+        alloc,
+        words,
+        root,
+        global,
+        near.conjuncts,
+        own.as_slice(),
+        near.world,
+    )?)
 }
 
 /// A world at which the condition at a place holds, by a change of a known one; none where that is not enough.
@@ -66,7 +100,8 @@ fn changed(
     )
 }
 
-/// The same decision, where a change of the near world may be enough.
+/// A world at which the condition at a place holds, by a change of a near one where that is enough, or a derivation that there
+/// is none.
 pub fn settle_near(
     alloc: Global,
     words: &[u64],
@@ -85,24 +120,43 @@ pub fn settle_near(
     if let Some(world) = changed(alloc, words, root, global, near)? {
         return Ok(Decision::World(world));
     }
-    settle(alloc, words, root)
+    settle_beside(alloc, words, root, global, near)
 }
 
-/// A world in order at which the global condition holds and a row is shown, by a change of a near one; none where that is
-/// not enough.
-pub fn change(
+/// A world in order at which the global condition may hold, by a change of the one without pairs; none where that is not
+/// enough.
+pub fn make(alloc: Global, words: &[u64], global: u32) -> Result<Option<World>, Memory>
+    requires formed { IsWellFormed words.now }
+    requires few { length words.now < 2 ^ 28 }
+    requires global { IsTrue (is_place_of words.now class.Cond global) }
+    ensures { IfOk result (λ o. IfSome o IsTidy) }
+{
+    let empty = List::new(alloc);
+    let Some(found) = repaired(alloc, words, &[global], &empty)? else {
+        return Ok(None);
+    };
+    let world = tidy(alloc, found)?;
+    Ok(Some(world))
+}
+
+/// A world in order at which the global condition holds and a row is shown, by a change of a near one; none where that is not
+/// enough, or none is near.
+fn change(
     alloc: Global,
     words: &[u64],
     global: u32,
     row: &CRow,
-    near: &Near<'_>,
+    near: Option<&Near<'_>>,
 ) -> Result<Option<World>, Memory>
     requires formed { IsWellFormed words.now }
     requires few { length words.now < 2 ^ 28 }
     requires asked { AreOf words.now global row.now }
-    requires near { IsNear words.now global near.now }
-    ensures { IfOk result (λ o. IfSome o (IsWitness words.now global row.now)) }
+    requires near { IfSome near (λ n. IsNearOwn words.now global n.now) }
+    ensures { IfOk result (λ o. IfSome o (IsFound words.now global row.now.cond)) }
 {
+    let Some(near) = near else {
+        return Ok(None);
+    };
     let own = [row.cond];
     let Some(found) = repaired_near(alloc, words, near.conjuncts, global, &own, near.world)? else {
         return Ok(None);
@@ -111,33 +165,42 @@ pub fn change(
     Ok(Some(world))
 }
 
-/// The same, where no world is known: by a change of the one without pairs.
-pub fn make(alloc: Global, words: &[u64], global: u32, row: &CRow) -> Result<Option<World>, Memory>
+/// A decision near a world, where one is near. Its nulls stand below the question or the global condition.
+fn settle_by(
+    alloc: Global,
+    words: &[u64],
+    root: u32,
+    global: u32,
+    near: Option<&Near<'_>>,
+) -> Result<Decision, CertainError>
     requires formed { IsWellFormed words.now }
     requires few { length words.now < 2 ^ 28 }
-    requires asked { AreOf words.now global row.now }
-    ensures { IfOk result (λ o. IfSome o (IsWitness words.now global row.now)) }
+    requires condition { is_place_of words.now class.Cond root ≡ true }
+    requires columns { HasNoColumn words.now root }
+    requires near { IfSome near (λ n. IsNearOwn words.now global n.now) }
+    ensures settled { IfOk result (λ d. IsSettledOwn words.now root global d) }
+    ensures room { is_full result ≡ false }
 {
-    let empty = List::new(alloc);
-    let Some(found) = repaired(alloc, words, &[global, row.cond], &empty)? else {
-        return Ok(None);
-    };
-    let world = tidy(alloc, found)?;
-    Ok(Some(world))
+    match near {
+        Some(near) => settle_beside(alloc, words, root, global, near),
+        None => settle(alloc, words, root),
+    }
 }
 
 /// A world in order at which the global condition holds and a row is shown, if there is one. One word is made for it at
 /// most.
-pub fn ask<N: Site, I: Interner<N>>(
+fn ask<N: Site, I: Interner<N>>(
     alloc: Global,
     arena: &Arena<N>,
     pass: &mut I,
     words: &[u64],
     global: u32,
     row: &CRow,
+    near: Option<&Near<'_>>,
 ) -> Result<Option<World>, CertainError>
     requires longer { IsPrefix words.now (I.list pass.old) }
     requires asked { AreOf words.now global row.now }
+    requires near { IfSome near (λ n. IsNearOwn words.now global n.now) }
     ensures answer { IfOk result (λ o. IsAnswer words.now global row.now o) }
     ensures writes { Writes I.list I.made I.kept I.lent N.log.cap pass.old pass.new 1 (is_full result) }
 {
@@ -145,7 +208,7 @@ pub fn ask<N: Site, I: Interner<N>>(
     let _ = pass.words();
     let root = and(arena, pass, global, row.cond)?;
     let now = pass.words();
-    let decision = settle(alloc, now, root)?;
+    let decision = settle_by(alloc, now, root, global, near)?;
     match decision {
         Decision::World(found) => {
             let world = tidy(alloc, found)?;
@@ -153,4 +216,30 @@ pub fn ask<N: Site, I: Interner<N>>(
         }
         Decision::Refuted(_) => Ok(None),
     }
+}
+
+/// A world in order at which the global condition holds and a row is shown, if there is one: by a change of a near one, or by
+/// a question. Its nulls stand below the global condition or the row's. One word is made for it at most.
+pub fn reach<N: Site, I: Interner<N>>(
+    alloc: Global,
+    arena: &Arena<N>,
+    pass: &mut I,
+    words: &[u64],
+    global: u32,
+    row: &CRow,
+    near: Option<&Near<'_>>,
+) -> Result<Option<World>, CertainError>
+    requires formed { IsWellFormed words.now }
+    requires few { length words.now < 2 ^ 28 }
+    requires longer { IsPrefix words.now (I.list pass.old) }
+    requires asked { AreOf words.now global row.now }
+    requires near { IfSome near (λ n. IsNearOwn words.now global n.now) }
+    ensures answer { IfOk result (λ o. IsAnswer words.now global row.now o) }
+    ensures writes { Writes I.list I.made I.kept I.lent N.log.cap pass.old pass.new 1 (is_full result) }
+{
+    let _ = pass.words();
+    if let Some(world) = change(alloc, words, global, row, near)? {
+        return Ok(Some(world));
+    }
+    ask(alloc, arena, pass, words, global, row, near)
 }

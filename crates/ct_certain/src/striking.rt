@@ -7,9 +7,9 @@ ghost use Rattle.ct_operators.specs.Tables.{IsRow};
 ghost use Rattle.ct_certain.specs.Certain.{IsInAll};
 ghost use Rattle.ct_certain.specs.Missing.{IsSeen};
 
-use crate::spread::spread;
 use crate::tuples::tuples;
 use ct_condition::worths;
+use ct_tidy::spread;
 use ct_word::{CRow, List, Memory, Value, World};
 use indexmap::IndexSet;
 use std::alloc::Global;

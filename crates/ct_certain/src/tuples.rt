@@ -8,10 +8,10 @@ ghost use Rattle.ct_word.specs.Value.{at, same_tuple, tuple_at};
 ghost use Rattle.ct_word.specs.WellFormed.{IsWellFormed, is_place_of};
 ghost use Rattle.ct_condition.specs.Worth.{AreWorths};
 ghost use Rattle.ct_operators.specs.Tables.{IsRow, firsts, value_of_rows};
-ghost use Rattle.ct_certain.specs.Order.{IsMapOf};
+ghost use Rattle.ct_tidy.specs.Order.{IsMapOf};
 
-use crate::mapped::{by_null, value_of};
 use ct_condition::Worths;
+use ct_tidy::{by_null, value_of};
 use ct_word::{CRow, List, Memory, Null, Term, Value, World, term_at};
 use indexmap::{IndexMap, IndexSet};
 use std::alloc::{AllocError, Global};

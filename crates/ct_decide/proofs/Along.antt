@@ -5,7 +5,7 @@ use Rattle.ct_derivation.{specs.declared.literals.Atom.Atom, specs.Path.{pair_of
 use Rattle.ct_trail.specs.Log.{added_in}
 use Rattle.ct_sat.specs.Log.{IsModelOf}
 use Rattle.ct_equality.{specs.Assigned.{Gives, AreLinks, IsFalsePath}, proofs.FalsePaths.{FalseLinks, false_links}}
-use Rattle.ct_decide.{specs.declared.asking.Asking.Asking, specs.Asking.{IsAsking, is_atom, HasAtoms, IsPathOver, AddsTriangle, Breaks, RulesOut, left}}
+use Rattle.ct_decide.{specs.declared.asking.Aim.Aim, specs.declared.asking.Asking.Asking, specs.Asking.{IsAsking, is_atom, HasAtoms, IsPathOver, AddsTriangle, Breaks, RulesOut, left}}
 use Rattle.ct_decide.{proofs.Clauses.{first_of, last_of, parts_of, last_is, rest_is}, proofs.Truths.one_truth, proofs.Wider.gives_more, proofs.Triangles.still_atom}
 
 -- how far a star has come with a model: it is none any more, or it joins the first term with the one before this place
@@ -14,8 +14,8 @@ pub record IsAlong (words : List ℕ) (begin now : Asking) (path : List ℕ) (k 
   pub joined : Gives now.atoms.items m true (pair_of (get_or path 0 0) (get_or path (k - 1) 0))
   pub differ : 2 < k → (is_constant words (get_or path 0 0) && is_constant words (get_or path (k - 1) 0)) ≡ false
 
-pub record IsStarTo (words : List ℕ) (root : ℕ) (m : List Bool) (begin now : Asking) (path : List ℕ) (k : ℕ) : Type 0 where
-  pub asking : IsAsking words root now
+pub record IsStarTo (words : List ℕ) (aim : Aim) (m : List Bool) (begin now : Asking) (path : List ℕ) (k : ℕ) : Type 0 where
+  pub asking : IsAsking words aim now
   pub vars : now.solver.vars ≡ begin.solver.vars
   pub more : List Atom
   pub atoms : now.atoms.items ≡ begin.atoms.items ++ more
@@ -66,11 +66,11 @@ module _ (words : List ℕ) (path : List ℕ) where
         subst (λ (p : List ℕ). ((is_constant words (first_of p) && is_constant words (last_of p)) ≡ true) ⊎ Gives atoms m false (pair_of (first_of p) (last_of p))) (sym parts.is)
         (subst (λ (e : ℕ). ((is_constant words parts.first && is_constant words e) ≡ true) ⊎ Gives atoms m false (pair_of parts.first e)) (sym (last_is parts.first parts.rest)) parts.ends)
 
-module _ (words : List ℕ) (root : ℕ) (m : List Bool) (begin : Asking) (path : List ℕ) (over : IsPathOver words begin.atoms.items path) (long : 2 < length path) where
+module _ (words : List ℕ) (aim : Aim) (m : List Bool) (begin : Asking) (path : List ℕ) (over : IsPathOver words begin.atoms.items path) (long : 2 < length path) where
   abbrev place : ℕ → ℕ
   place k = get_or path k 0
 
-  pub star_begins : IsAsking words root begin → length begin.atoms.items + length path ≤ begin.solver.vars → IsStarTo words root m begin begin path 2
+  pub star_begins : IsAsking words aim begin → length begin.atoms.items + length path ≤ begin.solver.vars → IsStarTo words aim m begin begin path 2
   star_begins ask room = record {
     asking = ask;
     vars = refl;
@@ -86,13 +86,13 @@ module _ (words : List ℕ) (root : ℕ) (m : List Bool) (begin : Asking) (path 
     });
   }
 
-  pub right_side : (now : Asking) (k : ℕ) → 2 ≤ k → k < length path → IsStarTo words root m begin now path k → is_atom now.atoms.items (pair_of (place (k - 1)) (place k)) ≡ true
+  pub right_side : (now : Asking) (k : ℕ) → 2 ≤ k → k < length path → IsStarTo words aim m begin now path k → is_atom now.atoms.items (pair_of (place (k - 1)) (place k)) ≡ true
   right_side now k from lt star =
       ap (λ xs. is_atom xs (pair_of (place (k - 1)) (place k))) star.atoms
       ∙ still_atom begin.atoms.items star.more (pair_of (place (k - 1)) (place k)) (atom_of_link words path begin.atoms.items over k (omega (arith, from)) lt)
 
-  module _ (now new : Asking) (k : ℕ) (from : 2 ≤ k) (lt : k < length path) (ended : Bool) (star : IsStarTo words root m begin now path k) where
-    module _ (t : AddsTriangle words root m now new (place 0) (place (k - 1)) (place k) ended) where
+  module _ (now new : Asking) (k : ℕ) (from : 2 ≤ k) (lt : k < length path) (ended : Bool) (star : IsStarTo words aim m begin now path k) where
+    module _ (t : AddsTriangle words aim m now new (place 0) (place (k - 1)) (place k) ended) where
       more_of : (b : Bool) (x : Atom) → Gives begin.atoms.items m b x → Gives now.atoms.items m b x
       more_of b x g = subst (λ xs. Gives xs m b x) (sym star.atoms) (gives_more begin.atoms.items star.more m b x g)
 
@@ -108,7 +108,7 @@ module _ (words : List ℕ) (root : ℕ) (m : List Bool) (begin : Asking) (path 
         ]
       ]
 
-      pub star_next : ended ≡ false → IsStarTo words root m begin new path (k + 1)
+      pub star_next : ended ≡ false → IsStarTo words aim m begin new path (k + 1)
       star_next e = let back : (k + 1) - 1 ≡ k = omega arith in record {
         asking = t.asking;
         vars = t.vars ∙ star.vars;
@@ -131,7 +131,7 @@ module _ (words : List ℕ) (root : ℕ) (m : List Bool) (begin : Asking) (path 
       pub star_stops : ended ≡ true → RulesOut words path m begin new
       star_stops e b = elim (turn b) [ inl less ↦ less | inr c ↦ absurd (false≢true (sym c.0 ∙ e)) ]
 
-  pub star_ends : (now : Asking) (k : ℕ) → k ≡ length path → IsStarTo words root m begin now path k → RulesOut words path m begin now
+  pub star_ends : (now : Asking) (k : ℕ) → k ≡ length path → IsStarTo words aim m begin now path k → RulesOut words path m begin now
   star_ends now k end star b = elim (star.along b) [
     | inl less ↦ less
     | inr a ↦ absurd (elim (ends_apart words path begin.atoms.items m b.path_false) [

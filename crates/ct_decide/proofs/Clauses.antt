@@ -8,7 +8,8 @@ use Rattle.ct_word.proofs.Splits.{some-injective}
 use Rattle.ct_derivation.{specs.Variables.signed}
 use Rattle.ct_trail.specs.Literal.{is_literal, is_clause, LARGEST}
 use Rattle.ct_cnf.specs.Encoding.{named, through}
-use Rattle.ct_decide.{specs.Asking.{is_atom, HasAtoms, IsLiteralOf, IsPathOver, IsClauseOf}, proofs.Named.{named_pos, named_neg}}
+use Rattle.ct_cut.proofs.Named.{named_pos, named_neg}
+use Rattle.ct_decide.specs.Asking.{is_atom, HasAtoms, IsLiteralOf, IsPathOver, IsClauseOf}
 use Rattle.ct_derivation.specs.declared.literals.Atom.TheVariants as atom
 
 pub literal_yes : (atoms : List Atom) (k s t : ℕ) → k < length atoms → get_or atoms k (atom.Node 0) ≡ pair_of s t → IsLiteralOf atoms true s t (pos (suc k))
@@ -24,8 +25,11 @@ fits n (pos (suc k)) few v = record { sfits = omega (arith, ltb-true k n v, few)
 fits n (negsuc k) few v = record { sfits = omega (arith, ltb-true k n v, few) }
 
 -- so it is what is read of what is stored
+pub stored_literal : (n : ℕ) (l : ℤ) (c : List ℤ) → n ≤ LARGEST → is_literal n l ≡ true → c ++ to_z w32 (of_z w32 l) ∷ [] ≡ c ++ l ∷ []
+stored_literal n l c few within = ap (λ (x : ℤ). c ++ x ∷ []) (to_z-of_z w32 l (fits n l few within))
+
 pub stored : (atoms : List Atom) (positive : Bool) (s t : ℕ) (l : ℤ) (c : List ℤ) → length atoms ≤ LARGEST → IsLiteralOf atoms positive s t l → c ++ to_z w32 (of_z w32 l) ∷ [] ≡ c ++ l ∷ []
-stored atoms positive s t l c few is = ap (λ (x : ℤ). c ++ x ∷ []) (to_z-of_z w32 l (fits (length atoms) l few is.within))
+stored atoms positive s t l c few is = stored_literal (length atoms) l c few is.within
 
 -- clauses with one more literal
 pub through_more : (atoms : List Atom) (c : List ℤ) (positive : Bool) (s t : ℕ) (l : ℤ) → IsLiteralOf atoms positive s t l

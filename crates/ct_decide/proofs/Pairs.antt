@@ -7,10 +7,13 @@ use Rattle.ct_derivation.{specs.declared.literals.Atom.Atom, specs.Path.pair_of}
 use Rattle.ct_trail.specs.Log.{added_in}
 use Rattle.ct_sat.specs.Log.{State}
 use Rattle.ct_cnf.specs.Encoding.{IsTermBelow, IsPairBelow}
-use Rattle.ct_decide.{specs.declared.asking.Asking.Asking, specs.Asking.{IsAsking, is_atom}, proofs.Wider.{wider_clauses, all_wider, distinct_more}, proofs.Worlds.atom_from}
+use Rattle.ct_decide.{specs.declared.asking.Aim.Aim, specs.declared.asking.Asking.Asking, specs.Asking.{IsAsking, is_atom}, proofs.Wider.{wider_clauses, all_wider, distinct_more}, proofs.Worlds.atom_from}
 use Rattle.ct_derivation.specs.declared.literals.Atom.TheVariants as atom
 
-module _ (words : List ℕ) (root : ℕ) where
+module _ (words : List ℕ) (aim : Aim) where
+  abbrev root : ℕ
+  root = aim.root
+
   pub pair_below : (s t x y : ℕ) → IsTermBelow words root s → IsTermBelow words root t → s ≢ t → pair_of s t ≡ atom.Same x y → IsPairBelow words root x y
   pair_below s t x y first second differ e = elim (cases_Bool (nat_lt s t)) [
     | inl lt ↦
@@ -34,9 +37,9 @@ module _ (words : List ℕ) (root : ℕ) where
   only : (a x : Atom) → Contains (a ∷ []) x → a ≡ x
   only a x h = elim (item_cases [] a x h) [ inl same ↦ same | inr none ↦ absurd (no_item x none) ]
 
-  pub atom_added : (old new : Asking) (s t : ℕ) → IsAsking words root old → length old.atoms.items < old.solver.vars → IsTermBelow words root s → IsTermBelow words root t → s ≢ t
+  pub atom_added : (old new : Asking) (s t : ℕ) → IsAsking words aim old → length old.atoms.items < old.solver.vars → IsTermBelow words root s → IsTermBelow words root t → s ≢ t
       → is_atom old.atoms.items (pair_of s t) ≡ false → new.solver ≡ old.solver → new.vars ≡ old.vars → new.origins.items ≡ old.origins.items
-      → new.atoms.items ≡ old.atoms.items ++ pair_of s t ∷ [] → IsAsking words root new
+      → new.atoms.items ≡ old.atoms.items ++ pair_of s t ∷ [] → IsAsking words aim new
   atom_added old new s t ask room first second differ none solver count origins is =
       let atoms = old.atoms.items in
       let cs = added_in old.solver.entries in
@@ -46,8 +49,7 @@ module _ (words : List ℕ) (root : ℕ) where
         room = rw (is, solver) (omega (arith, one, room));
         count = count ∙ ask.count ∙ sym (ap (λ (x : State). x.vars) solver);
         vars = rw solver ask.vars;
-        asked = rw origins ask.asked;
-        definitions = rw origins ask.definitions;
+        whole = rw origins ask.whole;
         distinct = rw is (distinct_more atoms (pair_of s t) ask.distinct none);
         nodes = rw is (λ p h. elim (Contains-append_cases atoms (pair_of s t ∷ []) (atom.Node p) h) [
           | inl old_one ↦ ask.nodes p old_one
@@ -65,8 +67,8 @@ pub record AreTerms (words : List ℕ) (root x y : ℕ) : Type 0 where
   pub second : IsTermBelow words root y
   pub differ : x ≢ y
 
-pub terms_of : (words : List ℕ) (root : ℕ) (a : Asking) → IsAsking words root a → (x y : ℕ) → is_atom a.atoms.items (pair_of x y) ≡ true → AreTerms words root x y
-terms_of words root a ask x y h =
+pub terms_of : (words : List ℕ) (aim : Aim) (a : Asking) → IsAsking words aim a → (x y : ℕ) → is_atom a.atoms.items (pair_of x y) ≡ true → AreTerms words aim.root x y
+terms_of words aim a ask x y h =
     let there = atom_from a.atoms.items (pair_of x y) h in
     elim (cases_Bool (nat_lt x y)) [
       | inl lt ↦

@@ -7,7 +7,8 @@ use Rattle.ct_derivation.{specs.Models.is_satisfied, specs.Variables.signed}
 use Rattle.ct_trail.specs.{Literal.{is_literal, is_clause}, Log.added_in}
 use Rattle.ct_sat.specs.Verdict.{satisfies}
 use Rattle.ct_cnf.specs.Encoding.{named, through, origin_clause, SatisfiesOrigins}
-use Rattle.ct_decide.{specs.declared.asking.Asking.Asking, specs.Asking.{IsAsking, is_atom, HasAtoms}, proofs.Kept.all_item, proofs.Named.{same_atom_self, atom_there}}
+use Rattle.ct_decide.{specs.declared.asking.Aim.Aim, specs.declared.asking.Asking.Asking, specs.Asking.{IsAsking, is_atom, HasAtoms}}
+use Rattle.ct_cut.proofs.{Kept.all_item, Named.{same_atom_self, atom_there}}
 use Rattle.ct_decide.proofs.Truths.{truth_of, clause_truth}
 
 pub atom_is_there : (atoms : List Atom) (a : Atom) → Contains atoms a → is_atom atoms a ≡ true
@@ -20,7 +21,10 @@ through_atoms atoms (l ∷ ls) v =
     let parts = and_parts (is_literal (length atoms) l) _ v in
     and_from (is_atom atoms (named atoms (signed l)).atom) _ (atom_is_there atoms _ (atom_there atoms l parts.0)) (through_atoms atoms ls parts.1)
 
-module _ (words : List ℕ) (root : ℕ) (a : Asking) (ask : IsAsking words root a) where
+module _ (words : List ℕ) (aim : Aim) (a : Asking) (ask : IsAsking words aim a) where
+  abbrev root : ℕ
+  root = aim.root
+
   abbrev atoms : List Atom
   atoms = a.atoms.items
 

@@ -7,7 +7,7 @@ use Rattle.ct_derivation.specs.Path.{pair_of, no_links, is_path, is_constant, en
 use Rattle.ct_trail.specs.Log.{added_in}
 use Rattle.ct_sat.specs.{Log.{State, IsModelOf}, Verdict.satisfies}
 use Rattle.ct_equality.specs.Assigned.{Gives, IsFalse, IsFalsePath}
-use Rattle.ct_decide.{specs.declared.asking.Asking.Asking, specs.Asking.{IsAsking, is_atom, HasAtoms, IsPlaceOf, IsKnown, IsPathOver, AddsPath, AddsEnd, AddsTriangle, IsKept, Closes, left}}
+use Rattle.ct_decide.{specs.declared.asking.Aim.Aim, specs.declared.asking.Asking.Asking, specs.Asking.{IsAsking, is_atom, HasAtoms, IsPlaceOf, IsKnown, IsPathOver, AddsPath, AddsEnd, AddsTriangle, IsKept, Closes, left}}
 use Rattle.ct_decide.{proofs.Askings.{less_left, no_more_left}, proofs.Pairs.{AreTerms, terms_of}, proofs.Truths.{false_path, one_truth, some_truth}, proofs.Wider.gives_more, proofs.Worlds.atom_from}
 use Rattle.std.proofs.lemmas.List.Elements.{Contains-get_or}
 use Rattle.ct_decide.proofs.Satisfied.{atom_is_there}
@@ -20,7 +20,7 @@ both words s t = is_constant words s && is_constant words t
 abbrev path_of : ℕ → ℕ → ℕ → List ℕ
 path_of f m l = f ∷ m ∷ l ∷ []
 
-module _ (words : List ℕ) (root f m l : ℕ) (one : AreTerms words root f m) (two : AreTerms words root m l) (differ : f ≢ l) where
+module _ (words : List ℕ) (aim : Aim) (f m l : ℕ) (one : AreTerms words aim.root f m) (two : AreTerms words aim.root m l) (differ : f ≢ l) where
   abbrev clause : Clause
   clause = no_links f (m ∷ l ∷ []) ++ ends_clause words f l
 
@@ -62,7 +62,7 @@ module _ (words : List ℕ) (root f m l : ℕ) (one : AreTerms words root f m) (
   triangle_false atoms model a b e = record { clause = clause; clause_is = clause_is; is_false = (a, (b, ends_false atoms model e)) }
 
   -- a clause that the model makes true keeps it a model, and so the ends are joined
-  pub closes : (middle new : Asking) (ended : Bool) → IsAsking words root middle → AddsPath words (path_of f m l) middle new → ended ≡ both words f l → (ended ≡ false → is_atom middle.atoms.items (pair_of f l) ≡ true)
+  pub closes : (middle new : Asking) (ended : Bool) → IsAsking words aim middle → AddsPath words (path_of f m l) middle new → ended ≡ both words f l → (ended ≡ false → is_atom middle.atoms.items (pair_of f l) ≡ true)
       → (model : List Bool) → IsModelOf middle.solver.vars (added_in middle.solver.entries) model → Gives middle.atoms.items model true (pair_of f m) → Gives middle.atoms.items model true (pair_of m l)
       → Closes middle new model (pair_of f l) ended
   closes middle new ended ask adds is there model was a b = elim (cases_Bool (satisfies model adds.clause)) [
@@ -98,9 +98,9 @@ still_atom [] more a e = absurd (false≢true e)
 still_atom (x ∷ atoms) more a e = grind (arith, still_atom atoms more a)
 
 -- what a triangle adds
-pub triangle_added : (words : List ℕ) (root : ℕ) (model : List Bool) (old middle new : Asking) (f m l : ℕ) (ended : Bool) → AreTerms words root f m → AreTerms words root m l → f ≢ l → AddsEnd words old middle f l ended
-    → IsAsking words root middle → AddsPath words (path_of f m l) middle new → IsAsking words root new → AddsTriangle words root model old new f m l ended
-triangle_added words root model old middle new f m l ended one two differ end ask adds asking =
+pub triangle_added : (words : List ℕ) (aim : Aim) (model : List Bool) (old middle new : Asking) (f m l : ℕ) (ended : Bool) → AreTerms words aim.root f m → AreTerms words aim.root m l → f ≢ l → AddsEnd words old middle f l ended
+    → IsAsking words aim middle → AddsPath words (path_of f m l) middle new → IsAsking words aim new → AddsTriangle words aim model old new f m l ended
+triangle_added words aim model old middle new f m l ended one two differ end ask adds asking =
     let solver = end.adds.solver in
     let same : left middle ≡ left old = ap (λ s. left (record { solver = s; vars = old.vars; atoms = old.atoms; own = old.own; pairs = old.pairs; triangles = old.triangles; origins = old.origins })) solver in
     record {
@@ -116,13 +116,13 @@ triangle_added words root model old middle new f m l ended one two differ end as
           let more_gives = λ (x : Atom) (g : Gives old.atoms.items model true x). subst (λ xs. Gives xs model true x) (sym end.adds.atoms) (gives_more old.atoms.items end.adds.more model true x g) in
           let model_of = subst (λ (s : State). IsModelOf s.vars (added_in s.entries) model) (sym solver) was in
           subst (λ n. (left new < n) ⊎ ((ended ≡ false) × IsModelOf new.solver.vars (added_in new.solver.entries) model × Gives new.atoms.items model true (pair_of f l))) same
-          (closes words root f m l one two differ middle new ended ask adds end.is end.there model model_of (more_gives (pair_of f m) a) (more_gives (pair_of m l) b));
+          (closes words aim f m l one two differ middle new ended ask adds end.is end.there model model_of (more_gives (pair_of f m) a) (more_gives (pair_of m l) b));
     }
 
 -- one that is left out adds no clause
-pub triangle_kept : (words : List ℕ) (root : ℕ) (model : List Bool) (old new : Asking) (f m l : ℕ) (ended : Bool) → AddsEnd words old new f l ended → IsAsking words root new
-    → IsKept new.atoms.items model f m l ended → AddsTriangle words root model old new f m l ended
-triangle_kept words root model old new f m l ended end ask kept =
+pub triangle_kept : (words : List ℕ) (aim : Aim) (model : List Bool) (old new : Asking) (f m l : ℕ) (ended : Bool) → AddsEnd words old new f l ended → IsAsking words aim new
+    → IsKept new.atoms.items model f m l ended → AddsTriangle words aim model old new f m l ended
+triangle_kept words aim model old new f m l ended end ask kept =
     let solver = end.adds.solver in
     let same : left new ≡ left old = ap (λ s. left (record { solver = s; vars = old.vars; atoms = old.atoms; own = old.own; pairs = old.pairs; triangles = old.triangles; origins = old.origins })) solver in
     record {
@@ -151,6 +151,6 @@ pub place_there : (atoms : List Atom) (a : Atom) (k : ℕ) → IsPlaceOf atoms a
 place_there atoms a k is = atom_is_there atoms a (subst (Contains atoms) is.is (Contains-get_or atoms k (atom.Node 0) is.within))
 
 -- the path of three terms whose equalities are atoms
-pub known_over : (words : List ℕ) (root : ℕ) (a : Asking) (f m l : ℕ) → IsAsking words root a → IsKnown words a.atoms.items f m l → IsPathOver words a.atoms.items (path_of f m l)
-known_over words root a f m l ask known =
-    triangle_over words root f m l (terms_of words root a ask f m known.begins) (terms_of words root a ask m l known.goes_on) known.differ a.atoms.items known.begins known.goes_on known.ends
+pub known_over : (words : List ℕ) (aim : Aim) (a : Asking) (f m l : ℕ) → IsAsking words aim a → IsKnown words a.atoms.items f m l → IsPathOver words a.atoms.items (path_of f m l)
+known_over words aim a f m l ask known =
+    triangle_over words aim f m l (terms_of words aim a ask f m known.begins) (terms_of words aim a ask m l known.goes_on) known.differ a.atoms.items known.begins known.goes_on known.ends

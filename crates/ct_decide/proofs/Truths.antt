@@ -10,7 +10,7 @@ use Rattle.ct_decide.specs.Asking.{IsClauseOf}
 use Rattle.ct_trail.specs.Literal.{is_literal, is_clause}
 use Rattle.ct_sat.specs.Verdict.{holds, satisfies}
 use Rattle.ct_cnf.specs.Encoding.{named, through, AreDistinct}
-use Rattle.ct_decide.proofs.Named.{same_atom_self, same_atom_is, named_pos, named_neg}
+use Rattle.ct_cut.proofs.Named.{same_atom_self, same_atom_is, named_pos, named_neg}
 use Rattle.ct_derivation.specs.declared.literals.Atom.TheVariants as atom
 
 -- the truth of the first atom that is this one, false where none is

@@ -7,7 +7,8 @@ use Rattle.ct_derivation.{specs.declared.literals.Atom.Atom, specs.Literal.{yes_
 use Rattle.ct_trail.specs.Literal.{is_literal, is_clause}
 use Rattle.ct_cnf.specs.Encoding.{named, through, AreDistinct}
 use Rattle.ct_equality.specs.Assigned.{Gives}
-use Rattle.ct_decide.{specs.Asking.is_atom, proofs.Named.{named_pos, named_neg}, proofs.Satisfied.atom_is_there}
+use Rattle.ct_cut.proofs.Named.{named_pos, named_neg}
+use Rattle.ct_decide.{specs.Asking.is_atom, proofs.Satisfied.atom_is_there}
 use Rattle.ct_derivation.specs.declared.literals.Atom.TheVariants as atom
 
 wider_literal : (n m : ℕ) → n ≤ m → (l : ℤ) → is_literal n l ≡ true → is_literal m l ≡ true
@@ -30,7 +31,7 @@ module _ (atoms more : List Atom) where
   named_wider (pos (suc k)) v = named_pos atoms k ∙ ap yes_of (sym (get_or_append_left atoms more (atom.Node 0) k (ltb-true k (length atoms) v))) ∙ sym (named_pos (atoms ++ more) k)
   named_wider (negsuc k) v = named_neg atoms k ∙ ap no_of (sym (get_or_append_left atoms more (atom.Node 0) k (ltb-true k (length atoms) v))) ∙ sym (named_neg (atoms ++ more) k)
 
-  through_wider : (c : List ℤ) → is_clause (length atoms) c ≡ true → through atoms c ≡ through (atoms ++ more) c
+  pub through_wider : (c : List ℤ) → is_clause (length atoms) c ≡ true → through atoms c ≡ through (atoms ++ more) c
   unfolding is_clause
   through_wider [] v = refl
   through_wider (l ∷ c) v =

@@ -1,10 +1,10 @@
 -- What a model of the clauses gives: a valuation makes the root hold, and the clause of a path is false under the model.
-use Rattle.std.proofs.Common.{◌≡◌, ℕ, Bool, true, false, not, ◌&&◌, List, [], ◌∷◌, length, take, Option, Some, None, nat_eq, refl, ap, ◌∙◌, sym, subst, inl, inr, arith}
+use Rattle.std.proofs.Common.{◌≡◌, ℕ, Bool, true, false, not, ◌&&◌, List, [], ◌∷◌, length, map, take, Option, Some, None, nat_eq, refl, ap, ◌∙◌, sym, subst, inl, inr, arith}
 use Rattle.std.{specs.Prelude.{slice_get, Contains}, specs.List.{list_any, list_all, AllByRecursion}, proofs.lemmas.List.Folds.Any-from_list_any, proofs.lemmas.List.length-take-le}
-use Rattle.std.proofs.lemmas.Bool.{and_parts, and_from, or_cases, false≢true, cases_Bool, eqb-true, lt-ltb}
-use Rattle.ct_word.{specs.declared.kinds.Kind.Kind, specs.declared.values.Value.Value, specs.Word.{kind_of, left_of, right_of}, specs.Value.World}
-use Rattle.ct_word.{specs.Constant.{is_constant_kind, is_constant_word}, specs.Reading.{Meaning, IsTerm, by_kind, meanings, as_term, term_at}}
-use Rattle.ct_word.{specs.Stands.{StandsAt, HasNoColumn}, specs.WellFormed.{IsWellFormed, is_place_of}, proofs.Splits.{meaning_at}}
+use Rattle.std.proofs.lemmas.Bool.{and_parts, and_from, or_cases, or_left, or_right, false≢true, cases_Bool, eqb-true, eq-eqb, lt-ltb}
+use Rattle.ct_word.{specs.declared.kinds.Kind.Kind, specs.declared.values.Null.Null, specs.declared.values.Term.Term, specs.declared.values.Value.Value, specs.Word.{kind_of, left_of, right_of}, specs.Value.World}
+use Rattle.ct_word.{specs.Constant.{is_constant_kind, is_constant_word}, specs.Reading.{Meaning, IsTerm, by_kind, meanings, as_term, condition_at, term_at}, specs.Condition.holds_at}
+use Rattle.ct_word.{specs.Stands.{StandsAt, TermBelow, HasNoColumn}, specs.WellFormed.{IsWellFormed, is_place_of}, proofs.{Splits.meaning_at, Places.stands_term}}
 use Rattle.ct_word.proofs.Items.{contains_of_get}
 use Rattle.ct_derivation.{specs.declared.literals.Atom.Atom, specs.Literal.{Clause, same_atom, yes_of}, specs.Definition.{defining, definition}}
 use Rattle.ct_derivation.{specs.Models.AreFieldsBelow, specs.Path.is_constant, proofs.Modelled.each_right}
@@ -12,9 +12,10 @@ use Rattle.ct_trail.specs.Log.{added_in}
 use Rattle.ct_sat.specs.{Log.IsModelOf, Verdict.satisfies}
 use Rattle.ct_cnf.specs.Encoding.{IsConditionBelow, IsTermBelow}
 use Rattle.ct_equality.specs.Assigned.{is_column_kind, is_column_word, is_plain_term, is_plain_atom, are_plain, IsFalse, IsFalsePath}
-use Rattle.ct_equality.{specs.Terms.{is_end, is_end_of}, specs.Valued.{IsWorldOf, IsPlainValue, ClosedOf, value_in}, proofs.Steps.plain_from, specs.declared.closing.Closed.Closed}
-use Rattle.ct_decide.{specs.declared.asking.Asking.Asking, specs.Asking.{IsAsking, is_atom, HasAtoms, IsPathOver, ClosesAs}, specs.Decided.{IsValueOf, IsWorldAt}}
-use Rattle.ct_decide.{proofs.Named.same_atom_is, proofs.Truths.{truth_of, there_given, front_false, front_all}}
+use Rattle.ct_equality.{specs.Terms.{is_end, is_end_of, is_among, terms_of}, specs.Valued.{IsWorldOf, IsPlainValue, ClosedOf, value_in, with_null, nulls_of}, proofs.{Steps.plain_from, Listed.among_terms}, specs.declared.closing.Closed.Closed}
+use Rattle.ct_decide.{specs.declared.asking.Aim.Aim, specs.declared.asking.Asking.Asking, specs.Asking.{IsAsking, is_atom, HasAtoms, IsPathOver, IsWhole, IsFound, ClosesAs}, specs.Decided.{IsValueOf}}
+use Rattle.ct_cut.proofs.Named.{same_atom_is}
+use Rattle.ct_decide.proofs.Truths.{truth_of, there_given, front_false, front_all}
 use Rattle.ct_decide.proofs.Satisfied.{atom_is_there, origin_atoms, origins_satisfied}
 use Rattle.std.{proofs.Common.{Result, Ok, Err}, specs.Prelude.IfOk}
 use Rattle.ct_word.specs.declared.memory.Memory.{Memory}
@@ -59,7 +60,10 @@ equality_there : (atoms : List Atom) (o : Option Kind) (p a b : ℕ) → o ≡ S
     → is_atom atoms (atom.Same a b) ≡ true
 equality_there atoms o p a b e d = second atoms (atom.Node p) (atom.Same a b) (d 0 _ (ap (λ x. defining x 0 p a b) e))
 
-module _ (words : List ℕ) (wf : IsWellFormed words) (root : ℕ) (a : Asking) (ask : IsAsking words root a) where
+module _ (words : List ℕ) (wf : IsWellFormed words) (aim : Aim) (a : Asking) (ask : IsAsking words aim a) where
+  abbrev root : ℕ
+  root = aim.root
+
   abbrev atoms : List Atom
   atoms = a.atoms.items
 
@@ -110,16 +114,32 @@ module _ (words : List ℕ) (wf : IsWellFormed words) (root : ℕ) (a : Asking) 
   values_below [] all = tt
   values_below (p ∷ v) all = (value_below p.1 all.0, values_below v all.1)
 
+  -- so do the nulls
+  abbrev IsOwnNull : Null → Type 0
+  IsOwnNull n = TermBelow words root (term.Null n)
+
+  with_own : (q : ℕ) (t : Term) → term_at words q ≡ t → IsTermBelow words root q → (ns : List Null) → AllByRecursion IsOwnNull ns → AllByRecursion IsOwnNull (with_null t ns)
+  with_own q (term.Null n) e h ns all = ((q, h.below, subst (λ u. StandsAt words q (IsTerm u)) e (stands_term words q h.term)), all)
+  with_own q _ e h ns all = all
+
+  own_nulls : (ts : List ℕ) → ((q : ℕ) → is_among ts q ≡ true → IsTermBelow words root q) → AllByRecursion IsOwnNull (nulls_of words ts)
+  own_nulls [] below = tt
+  own_nulls (t ∷ ts) below =
+      with_own t (term_at words t) refl (below t (or_left (nat_eq t t) (is_among ts t) (eq-eqb t t refl))) (nulls_of words ts)
+      (own_nulls ts (λ q h. below q (or_right (nat_eq q t) (is_among ts q) h)))
+
+  each_null : (v : World) → AllByRecursion IsOwnNull (map (λ p. p.0) v) → AllByRecursion (λ p. IsOwnNull p.0) v
+  each_null [] all = tt
+  each_null (p ∷ v) all = (all.0, each_null v all.1)
+
+  nulls_below : (v : World) → map (λ p. p.0) v ≡ nulls_of words (terms_of atoms) → AllByRecursion (λ p. IsOwnNull p.0) v
+  nulls_below v are = each_null v (subst (AllByRecursion IsOwnNull) (sym are) (own_nulls (terms_of atoms) (λ q h. end_below q (sym (among_terms atoms q) ∙ h))))
+
   abbrev below : ℕ → Bool
   below p = is_atom atoms (atom.Node p)
 
   condition_below : (p : ℕ) → below p ≡ true → IsConditionBelow words root p
   condition_below p b = ask.nodes p (atom_from atoms (atom.Node p) b)
-
-  defined_atoms : (p w : ℕ) → below p ≡ true → slice_get words p ≡ Some w → (k : ℕ) (c : Clause) → defining (kind_of w) k p (left_of w) (right_of w) ≡ Some c → HasAtoms atoms c
-  defined_atoms p w b there k c is =
-      let told : definition (slice_get words p) p k ≡ Some c = ap (λ o. definition o p k) there ∙ is in
-      origin_atoms words root a ask (why.Def p k) c (ask.definitions p k c (condition_below p b) told) told
 
   module _ (whole : List Bool) (m : IsModelOf a.solver.vars (added_in a.solver.entries) whole) where
     -- the truths of the atoms
@@ -135,34 +155,45 @@ module _ (words : List ℕ) (wf : IsWellFormed words) (root : ℕ) (a : Asking) 
     satisfied : list_all (satisfies model) (added_in a.solver.entries) ≡ true
     satisfied = front_all (length atoms) whole (added_in a.solver.entries) ask.within m.satisfied
 
-    root_there : below root ≡ true
-    root_there = (and_parts (below root) true (origin_atoms words root a ask why.Root (yes_of (atom.Node root) ∷ []) ask.asked refl)).0
+    -- where all is asked
+    module _ (all : IsWhole words root a.origins.items) where
+      defined_atoms : (p w : ℕ) → below p ≡ true → slice_get words p ≡ Some w → (k : ℕ) (c : Clause) → defining (kind_of w) k p (left_of w) (right_of w) ≡ Some c → HasAtoms atoms c
+      defined_atoms p w b there k c is =
+          let told : definition (slice_get words p) p k ≡ Some c = ap (λ o. definition o p k) there ∙ is in
+          origin_atoms words aim a ask (why.Def p k) c (all.definitions p k c (condition_below p b) told) told
 
-    root_true : t (atom.Node root) ≡ true
-    root_true = let asked = origins_satisfied words root a ask model long satisfied why.Root (yes_of (atom.Node root) ∷ []) ask.asked refl in grind (arith, asked)
+      root_there : below root ≡ true
+      root_there = (and_parts (below root) true (origin_atoms words aim a ask why.Root (yes_of (atom.Node root) ∷ []) all.asked refl)).0
 
-    agrees : (v : World) → IsWorldOf words atoms model v → models.IsModel words v t below
-    agrees v world = record {
-      conditions = λ p b. (condition_below p b).condition;
-      fields = λ p w b there. fields_there atoms (kind_of w) p (left_of w) (right_of w) (defined_atoms p w b there);
-      definitions = λ p k c b is. origins_satisfied words root a ask model long satisfied (why.Def p k) c (ask.definitions p k c (condition_below p b) is) is;
-      equalities = λ p w b there is.
-          let same = equality_there atoms (kind_of w) p (left_of w) (right_of w) is (defined_atoms p w b there) in
-          let x = atom.Same (left_of w) (right_of w) in
-          sym (world.truths (left_of w) (right_of w) (t x) (there_given atoms model long ask.distinct x (atom_from atoms x same)));
-    }
+      root_true : t (atom.Node root) ≡ true
+      root_true = let asked = origins_satisfied words aim a ask model long satisfied why.Root (yes_of (atom.Node root) ∷ []) all.asked refl in grind (arith, asked)
 
-    -- the root holds at the valuation
-    pub world_holds : (v : World) → IsWorldOf words atoms model v → IsWorldAt words root v
-    world_holds v world = record {
-      holds = sym (each_right words wf v t below (agrees v world) root root_there) ∙ root_true;
+      agrees : (v : World) → IsWorldOf words atoms model v → models.IsModel words v t below
+      agrees v world = record {
+        conditions = λ p b. (condition_below p b).condition;
+        fields = λ p w b there. fields_there atoms (kind_of w) p (left_of w) (right_of w) (defined_atoms p w b there);
+        definitions = λ p k c b is. origins_satisfied words aim a ask model long satisfied (why.Def p k) c (all.definitions p k c (condition_below p b) is) is;
+        equalities = λ p w b there is.
+            let same = equality_there atoms (kind_of w) p (left_of w) (right_of w) is (defined_atoms p w b there) in
+            let x = atom.Same (left_of w) (right_of w) in
+            sym (world.truths (left_of w) (right_of w) (t x) (there_given atoms model long ask.distinct x (atom_from atoms x same)));
+      }
+
+      -- the root holds at the valuation
+      root_holds : (v : World) → IsWorldOf words atoms model v → holds_at v (condition_at words root) ≡ true
+      root_holds v world = sym (each_right words wf v t below (agrees v world) root root_there) ∙ root_true
+
+    world_found : (v : World) → IsWorldOf words atoms model v → IsFound words aim v
+    world_found v world = record {
+      holds = λ w. root_holds (ask.whole w) v world;
       values = values_below v world.values;
+      nulls = nulls_below v world.nulls;
       once = world.distinct;
     }
 
     -- what closing the truths of the atoms answers
-    pub closes : (r : Closed) → ClosedOf words atoms model r → ClosesAs words root atoms whole r
-    closes (closed.World v) c = world_holds v c
+    pub closes : (r : Closed) → ClosedOf words atoms model r → ClosesAs words aim atoms whole r
+    closes (closed.World v) c = world_found v c
     closes (closed.Path path) f = record { clause = f.clause; clause_is = f.clause_is; is_false = front_false atoms (length atoms) whole f.clause f.is_false }
 
 false_atoms : (atoms : List Atom) (m : List Bool) (c : Clause) → IsFalse atoms m c → HasAtoms atoms c

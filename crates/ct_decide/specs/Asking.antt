@@ -1,10 +1,17 @@
 -- What a question has as it is asked, and what a path of terms adds to it.
-use Rattle.std.specs.Prelude.{◌≡◌, ◌≢◌, ◌≤◌, ◌<◌, ◌⊎◌, ◌&&◌, ℕ, ℤ, Bool, true, false, List, [], ◌∷◌, ◌++◌, Option, Some, None, length, slice_index_or, Contains}
-use Rattle.std.specs.List.{list_all, list_any}
+use Rattle.std.specs.Prelude.{◌≡◌, ◌≢◌, ◌≤◌, ◌<◌, ◌⊎◌, ◌&&◌, ℕ, ℤ, Bool, true, false, List, [], ◌∷◌, ◌++◌, Option, Some, None, length, map, slice_index_or, Contains}
+use Rattle.std.specs.List.{list_all, list_any, AllByRecursion, IsDistinct}
+use Rattle.ct_word.specs.Value.{World, same_null}
+use Rattle.ct_word.specs.Condition.{holds_at}
+use Rattle.ct_word.specs.Reading.{condition_at}
+use Rattle.ct_word.specs.Stands.{TermBelow}
+use Rattle.ct_word.specs.declared.values.Term.TheVariants as term
 use Rattle.ct_derivation.specs.declared.literals.Atom.{Atom}
 use Rattle.ct_derivation.specs.declared.literals.Atom.TheVariants as atom
 use Rattle.ct_derivation.specs.declared.literals.Lit.{Lit}
+use Rattle.ct_derivation.specs.declared.steps.Why.{Why}
 use Rattle.ct_derivation.specs.declared.steps.Why.TheVariants as why
+use Rattle.ct_derivation.specs.Accepts.{Accepts}
 use Rattle.ct_derivation.specs.Literal.{Clause, same_atom}
 use Rattle.ct_derivation.specs.Path.{path_clause, pair_of, is_constant}
 use Rattle.ct_derivation.specs.Variables.{is_clause, is_literal, signed, LARGEST}
@@ -15,22 +22,40 @@ use Rattle.ct_equality.specs.Assigned.{Gives, IsFalsePath}
 use Rattle.ct_equality.specs.declared.closing.Closed.{Closed}
 use Rattle.ct_equality.specs.declared.closing.Closed.TheVariants as closed
 use Rattle.ct_decide.specs.declared.deciding.Decision.{Decision}
-use Rattle.ct_decide.specs.Decided.{IsWorldAt, DecisionOf}
+use Rattle.ct_decide.specs.declared.deciding.Decision.TheVariants as decision
+use Rattle.ct_cut.specs.Cut.{IsCut}
+use Rattle.ct_decide.specs.Decided.{IsValueOf}
 use Rattle.ct_decide.specs.Counting.{models}
+use Rattle.ct_decide.specs.declared.asking.Aim.{Aim}
 use Rattle.ct_decide.specs.declared.asking.Asking.{Asking}
+use Rattle.ct_decide.specs.declared.asking.Posed.{Posed}
 
--- the clauses of a question and paths, each with its origin, and the atoms of the first variables
-pub record IsAsking (words : List ℕ) (root : ℕ) (a : Asking) : Type 0 where
-  pub clauses : AreOrigins words root a.atoms.items (added_in a.solver.entries) a.origins.items
+-- these are among the origins: that the root holds, and each clause that defines it or what stands below it
+pub record IsWhole (words : List ℕ) (root : ℕ) (origins : List Why) : Type 0 where
+  pub asked : Contains origins why.Root
+  pub definitions : HasDefinitions words root origins
+
+-- clauses of a question, each with its origin, and the atom of each variable
+pub record IsPosed (words : List ℕ) (aim : Aim) (p : Posed) : Type 0 where
+  pub clauses : AreOrigins words aim.root p.atoms.items p.clauses.items p.origins.items
+  pub within : list_all (is_clause (length p.atoms.items)) p.clauses.items ≡ true
+  pub few : length p.atoms.items ≤ LARGEST
+  pub whole : aim.whole ≡ true → IsWhole words aim.root p.origins.items
+  pub distinct : AreDistinct p.atoms.items
+  pub nodes : HasNodesBelow words aim.root p.atoms.items
+  pub terms : HasPairsBelow words aim.root p.atoms.items
+
+-- clauses of a question and paths, each with its origin, and the atoms of the first variables
+pub record IsAsking (words : List ℕ) (aim : Aim) (a : Asking) : Type 0 where
+  pub clauses : AreOrigins words aim.root a.atoms.items (added_in a.solver.entries) a.origins.items
   pub within : list_all (is_clause (length a.atoms.items)) (added_in a.solver.entries) ≡ true
   pub room : length a.atoms.items ≤ a.solver.vars
   pub count : a.vars ≡ a.solver.vars
   pub vars : a.solver.vars ≤ LARGEST
-  pub asked : Contains a.origins.items why.Root
-  pub definitions : HasDefinitions words root a.origins.items
+  pub whole : aim.whole ≡ true → IsWhole words aim.root a.origins.items
   pub distinct : AreDistinct a.atoms.items
-  pub nodes : HasNodesBelow words root a.atoms.items
-  pub terms : HasPairsBelow words root a.atoms.items
+  pub nodes : HasNodesBelow words aim.root a.atoms.items
+  pub terms : HasPairsBelow words aim.root a.atoms.items
 
 -- whether an atom is among these
 abbrev pub is_atom : List Atom → Atom → Bool
@@ -61,10 +86,18 @@ pub record IsClauseOf (words : List ℕ) (atoms : List Atom) (path : List ℕ) (
   pub within : is_clause (length atoms) c ≡ true
   pub is : path_clause words path ≡ Some (through atoms c)
 
--- a valuation at which the root holds, or a path whose clause the model makes false
-abbrev pub ClosesAs : List ℕ → ℕ → List Atom → List Bool → Closed → Type 0
-ClosesAs words root atoms model (closed.World v) = IsWorldAt words root v
-ClosesAs words root atoms model (closed.Path path) = IsFalsePath words atoms model path
+-- a valuation with plain values, of nulls that stand below the root, which gives no null twice; where all is asked, the root
+-- holds at it
+pub record IsFound (words : List ℕ) (aim : Aim) (v : World) : Type 0 where
+  pub holds : aim.whole ≡ true → holds_at v (condition_at words aim.root) ≡ true
+  pub values : AllByRecursion (λ p. IsValueOf words aim.root p.1) v
+  pub nulls : AllByRecursion (λ p. TermBelow words aim.root (term.Null p.0)) v
+  pub once : IsDistinct same_null (map (λ p. p.0) v)
+
+-- such a valuation, or a path whose clause the model makes false
+abbrev pub ClosesAs : List ℕ → Aim → List Atom → List Bool → Closed → Type 0
+ClosesAs words aim atoms model (closed.World v) = IsFound words aim v
+ClosesAs words aim atoms model (closed.Path path) = IsFalsePath words atoms model path
 
 -- one more clause, that of a path
 pub record AddsPath (words : List ℕ) (path : List ℕ) (old new : Asking) : Type 0 where
@@ -111,8 +144,8 @@ abbrev pub IsKept : List Atom → List Bool → ℕ → ℕ → ℕ → Bool →
 IsKept atoms m first middle last ended = ((ended ≡ false) × Gives atoms m true (pair_of first last)) ⊎ (Gives atoms m false (pair_of first middle) ⊎ Gives atoms m false (pair_of middle last))
 
 -- the clause of a path of three terms, unless this model makes it true, with the atom of its ends unless they are two constants
-pub record AddsTriangle (words : List ℕ) (root : ℕ) (m : List Bool) (old new : Asking) (first middle last : ℕ) (ended : Bool) : Type 0 where
-  pub asking : IsAsking words root new
+pub record AddsTriangle (words : List ℕ) (aim : Aim) (m : List Bool) (old new : Asking) (first middle last : ℕ) (ended : Bool) : Type 0 where
+  pub asking : IsAsking words aim new
   pub vars : new.solver.vars ≡ old.solver.vars
   pub more : List Atom
   pub atoms : new.atoms.items ≡ old.atoms.items ++ more
@@ -136,7 +169,12 @@ pub record IsNext (atoms : List Atom) (first middle last : ℕ) : Type 0 where
   pub begins : is_atom atoms (pair_of first middle) ≡ true
   pub goes_on : is_atom atoms (pair_of middle last) ≡ true
 
--- a decision, or a question that has fewer assignments left
-abbrev pub RoundOf : List ℕ → ℕ → Asking → Asking → Option Decision → Type 0
-RoundOf words root old new (Some d) = DecisionOf words root d
-RoundOf words root old new None = IsAsking words root new × (left new < left old)
+-- such a valuation, or a derivation that the root holds at none, cut to what its end needs
+abbrev pub FoundOf : List ℕ → Aim → Decision → Type 0
+FoundOf words aim (decision.World v) = IsFound words aim v
+FoundOf words aim (decision.Refuted d) = Accepts words aim.root d × IsCut words aim.root d
+
+-- that, or a question that has fewer assignments left
+abbrev pub RoundOf : List ℕ → Aim → Asking → Asking → Option Decision → Type 0
+RoundOf words aim old new (Some d) = FoundOf words aim d
+RoundOf words aim old new None = IsAsking words aim new × (left new < left old)

@@ -6,7 +6,7 @@ ghost use Rattle.ct_word.specs.declared.kinds.Class.TheVariants as class;
 ghost use Rattle.ct_word.specs.WellFormed.{IsWellFormed, is_place_of};
 ghost use Rattle.ct_derivation.specs.Variables.{is_clause, LARGEST};
 ghost use Rattle.ct_trail.specs.Log.{added_in};
-ghost use Rattle.ct_decide.specs.Asking.{IsAsking, IsPathOver, AddsPath};
+ghost use Rattle.ct_decide.specs.Asking.{IsAsking, IsPosed, IsPathOver, AddsPath};
 
 use crate::error::DecideError;
 use crate::paths::path_clause;
@@ -16,6 +16,23 @@ use ct_sat::Solver;
 use ct_word::{List, Memory};
 use indexmap::{IndexMap, IndexSet};
 use std::alloc::Global;
+
+/// What is asked: whether the condition at a place can hold, all of it or a part.
+#[derive(Clone, Copy)]
+pub struct Aim {
+    pub root: u32,
+    /// Whether all that stands below the root is asked. Proofs alone read this.
+    pub whole: bool,
+}
+
+/// The clauses of a question, the atom of each variable from variable 1 on, and the reason of each
+/// clause.
+#[derive(Drop)]
+pub struct Posed {
+    pub atoms: Vec<Atom>,
+    pub clauses: Vec<List<i32>>,
+    pub origins: Vec<Why>,
+}
 
 /// A question whose clauses a solver has. Clauses of paths are added as they are asked for.
 #[derive(Drop)]
@@ -85,32 +102,50 @@ fn places(alloc: Global, atoms: &[Atom]) -> Result<IndexMap<(u32, u32), u32>, Me
     Ok(pairs)
 }
 
-/// The question whether the condition at `root` can hold.
-pub fn begin(alloc: Global, words: &[u64], root: u32) -> Result<Asking, DecideError>
+/// A question by its clauses.
+pub fn pose(alloc: Global, words: &[u64], aim: Aim, posed: Posed) -> Result<Asking, Memory>
+    requires { IsPosed words.now aim posed }
+    ensures { IfOk result (λ a. IsAsking words.now aim a) }
+{
+    let Posed {
+        atoms,
+        clauses,
+        origins,
+    } = posed;
+    let own = atoms.len();
+    let vars = variables(own as u32, atoms.as_slice());
+    let pairs = places(alloc, atoms.as_slice())?;
+    let mut solver = Solver::make(alloc, vars)?;
+    add_all(&mut solver, clauses)?;
+    Ok(Asking {
+        solver,
+        vars,
+        atoms,
+        own,
+        pairs,
+        triangles: IndexSet::new(alloc),
+        origins,
+    })
+}
+
+/// The question whether the condition at a place can hold, all of it.
+pub fn begin(alloc: Global, words: &[u64], aim: Aim) -> Result<Asking, DecideError>
     requires formed { IsWellFormed words.now }
     requires few { length words.now < 2 ^ 28 }
-    requires condition { is_place_of words.now class.Cond root ≡ true }
-    ensures { IfOk result (λ a. IsAsking words.now root a) }
+    requires condition { is_place_of words.now class.Cond aim.root ≡ true }
+    ensures { IfOk result (λ a. IsAsking words.now aim a) }
 {
     let Encoded {
         cnf,
         atoms,
         origins,
-    } = encode(alloc, words, root)?;
-    let vars = variables(cnf.vars, atoms.as_slice());
-    let own = atoms.len();
-    let pairs = places(alloc, atoms.as_slice())?;
-    let mut solver = Solver::make(alloc, vars)?;
-    add_all(&mut solver, cnf.clauses.into_vec())?;
-    Ok(Asking {
-        solver,
-        vars,
+    } = encode(alloc, words, aim.root)?;
+    let posed = Posed {
         atoms: atoms.into_vec(),
-        own,
-        pairs,
-        triangles: IndexSet::new(alloc),
+        clauses: cnf.clauses.into_vec(),
         origins: origins.into_vec(),
-    })
+    };
+    Ok(pose(alloc, words, aim, posed)?)
 }
 
 /// A path of three terms, the smaller end first: both ways it has the same clause.
@@ -134,13 +169,13 @@ fn note_path(triangles: &mut IndexSet<(u32, u32, u32)>, path: &[u32]) -> Result<
 pub fn add_path(
     alloc: Global,
     words: &[u64],
-    root: u32,
+    aim: Aim,
     asking: &mut Asking,
     path: List<u32>,
 ) -> Result<(), Memory>
-    requires asking { IsAsking words.now root asking.old }
+    requires asking { IsAsking words.now aim asking.old }
     requires over { IsPathOver words.now asking.old.atoms.items path }
-    ensures asking { OnOk result (IsAsking words.now root asking.new) }
+    ensures asking { OnOk result (IsAsking words.now aim asking.new) }
     ensures adds { OnOk result (AddsPath words.now path asking.old asking.new) }
 {
     let clause = path_clause(

@@ -4,7 +4,7 @@ ghost use Rattle.std.specs.Prelude.{◌≡◌, ◌≤◌, true, OnOk};
 ghost use Rattle.ct_derivation.specs.Path.{pair_of};
 ghost use Rattle.ct_decide.specs.Asking.{is_atom, IsAsking, IsKnown, left};
 
-use crate::asking::{Asking, add_path, triangle};
+use crate::asking::{Aim, Asking, add_path, triangle};
 use crate::paths::{are_constants, hinted, pair};
 use ct_derivation::Atom;
 use ct_word::{List, Memory, is_constant};
@@ -13,6 +13,15 @@ use std::alloc::Global;
 /// How many neighbours of a term behind one are looked at: the constants of a null that has more
 /// wait until they are asked for.
 const WINDOW: usize = 16;
+
+/// The paths from a constant over a term to all constants that the term has equalities with.
+#[derive(Clone, Copy)]
+pub struct Fan {
+    pub first: u32,
+    pub middle: u32,
+    /// The constant whose path was added already.
+    pub done: u32,
+}
 
 /// Whether the equality of two terms is an atom.
 pub fn is_known(asking: &Asking, s: u32, t: u32) -> bool
@@ -40,21 +49,21 @@ fn are_known(words: &[u64], asking: &Asking, first: u32, middle: u32, last: u32)
 pub fn add_known(
     alloc: Global,
     words: &[u64],
-    root: u32,
+    aim: Aim,
     asking: &mut Asking,
     first: u32,
     middle: u32,
     last: u32,
 ) -> Result<(), Memory>
-    requires { IsAsking words.now root asking.old }
-    ensures asking { OnOk result (IsAsking words.now root asking.new) }
+    requires { IsAsking words.now aim asking.old }
+    ensures asking { OnOk result (IsAsking words.now aim asking.new) }
     ensures fewer { OnOk result (left asking.new ≤ left asking.old) }
 {
     if !are_known(words, asking, first, middle, last) {
         return Ok(());
     }
     let path = vec![in alloc; first, middle, last]?;
-    add_path(alloc, words, root, asking, List::from_vec(path))
+    add_path(alloc, words, aim, asking, List::from_vec(path))
 }
 
 /// The constant that an atom says a term to be equal to.
@@ -66,27 +75,41 @@ fn constant_of(words: &[u64], atom: Option<&Atom>, term: u32) -> Option<u32> {
     }
 }
 
-/// Adds the paths from a constant through a term to all constants that the term has equalities
-/// with, but for the one that is done.
+/// Adds the path of a fan to the constant that an atom says, if there is one.
+fn add_rib(
+    alloc: Global,
+    words: &[u64],
+    aim: Aim,
+    asking: &mut Asking,
+    fan: Fan,
+    place: usize,
+) -> Result<(), Memory>
+    requires { IsAsking words.now aim asking.old }
+    ensures asking { OnOk result (IsAsking words.now aim asking.new) }
+    ensures fewer { OnOk result (left asking.new ≤ left asking.old) }
+{
+    match constant_of(words, asking.atoms.get(place), fan.middle) {
+        Some(last) if last != fan.done => {
+            add_known(alloc, words, aim, asking, fan.first, fan.middle, last)
+        }
+        _ => Ok(()),
+    }
+}
+
+/// Adds the paths of a fan, but for the one that is done.
 pub fn add_fan(
     alloc: Global,
     words: &[u64],
-    root: u32,
+    aim: Aim,
     asking: &mut Asking,
-    first: u32,
-    middle: u32,
-    done: u32,
+    fan: Fan,
 ) -> Result<(), Memory>
-    requires { IsAsking words.now root asking.old }
-    ensures asking { OnOk result (IsAsking words.now root asking.new) }
+    requires { IsAsking words.now aim asking.old }
+    ensures asking { OnOk result (IsAsking words.now aim asking.new) }
     ensures fewer { OnOk result (left asking.new ≤ left asking.old) }
 {
     for k in 0..asking.atoms.len() {
-        if let Some(last) = constant_of(words, asking.atoms.get(k), middle)
-            && last != done
-        {
-            add_known(alloc, words, root, asking, first, middle, last)?;
-        }
+        add_rib(alloc, words, aim, asking, fan, k)?;
     }
     Ok(())
 }
@@ -118,19 +141,19 @@ fn beside(around: &[(u32, u32)], term: u32) -> &[(u32, u32)] {
 fn add_apart(
     alloc: Global,
     words: &[u64],
-    root: u32,
+    aim: Aim,
     asking: &mut Asking,
     first: u32,
     middle: u32,
     last: u32,
 ) -> Result<(), Memory>
-    requires { IsAsking words.now root asking.old }
-    ensures { OnOk result (IsAsking words.now root asking.new) }
+    requires { IsAsking words.now aim asking.old }
+    ensures { OnOk result (IsAsking words.now aim asking.new) }
 {
     if !are_constants(words, first, last) {
         return Ok(());
     }
-    add_known(alloc, words, root, asking, first, middle, last)
+    add_known(alloc, words, aim, asking, first, middle, last)
 }
 
 /// Adds the paths from one constant beside a term to the other ones behind it, up to so many
@@ -138,13 +161,13 @@ fn add_apart(
 fn add_around(
     alloc: Global,
     words: &[u64],
-    root: u32,
+    aim: Aim,
     asking: &mut Asking,
     around: &[(u32, u32)],
     most: usize,
 ) -> Result<(), Memory>
-    requires { IsAsking words.now root asking.old }
-    ensures { OnOk result (IsAsking words.now root asking.new) }
+    requires { IsAsking words.now aim asking.old }
+    ensures { OnOk result (IsAsking words.now aim asking.new) }
 {
     let Some((first, later)) = around.split_first() else {
         return Ok(());
@@ -154,7 +177,7 @@ fn add_around(
         if next.0 != first.0 || asking.origins.len() >= most {
             return Ok(());
         }
-        add_apart(alloc, words, root, asking, first.1, first.0, next.1)?;
+        add_apart(alloc, words, aim, asking, first.1, first.0, next.1)?;
     }
     Ok(())
 }
@@ -164,14 +187,14 @@ fn add_around(
 fn add_between(
     alloc: Global,
     words: &[u64],
-    root: u32,
+    aim: Aim,
     asking: &mut Asking,
     around: &[(u32, u32)],
     ends: Atom,
     most: usize,
 ) -> Result<(), Memory>
-    requires { IsAsking words.now root asking.old }
-    ensures { OnOk result (IsAsking words.now root asking.new) }
+    requires { IsAsking words.now aim asking.old }
+    ensures { OnOk result (IsAsking words.now aim asking.new) }
 {
     let Atom::Same(s, t) = ends else {
         return Ok(());
@@ -182,7 +205,7 @@ fn add_between(
         if asking.origins.len() >= most {
             return Ok(());
         }
-        add_known(alloc, words, root, asking, s, fewer[k].1, t)?;
+        add_known(alloc, words, aim, asking, s, fewer[k].1, t)?;
     }
     Ok(())
 }
@@ -192,16 +215,16 @@ fn add_between(
 fn add_all_apart(
     alloc: Global,
     words: &[u64],
-    root: u32,
+    aim: Aim,
     asking: &mut Asking,
     around: &[(u32, u32)],
     most: usize,
 ) -> Result<(), Memory>
-    requires { IsAsking words.now root asking.old }
-    ensures { OnOk result (IsAsking words.now root asking.new) }
+    requires { IsAsking words.now aim asking.old }
+    ensures { OnOk result (IsAsking words.now aim asking.new) }
 {
     for k in 0..around.len() {
-        add_around(alloc, words, root, asking, &around[k..], most)?;
+        add_around(alloc, words, aim, asking, &around[k..], most)?;
     }
     Ok(())
 }
@@ -210,20 +233,20 @@ fn add_all_apart(
 fn add_all_between(
     alloc: Global,
     words: &[u64],
-    root: u32,
+    aim: Aim,
     asking: &mut Asking,
     around: &[(u32, u32)],
     most: usize,
 ) -> Result<(), Memory>
-    requires { IsAsking words.now root asking.old }
-    ensures { OnOk result (IsAsking words.now root asking.new) }
+    requires { IsAsking words.now aim asking.old }
+    ensures { OnOk result (IsAsking words.now aim asking.new) }
 {
     for place in 0..asking.atoms.len() {
         let Some(ends) = asking.atoms.get(place) else {
             return Ok(());
         };
         let ends = *ends;
-        add_between(alloc, words, root, asking, around, ends, most)?;
+        add_between(alloc, words, aim, asking, around, ends, most)?;
     }
     Ok(())
 }
@@ -233,14 +256,14 @@ fn add_all_between(
 pub fn add_triangles(
     alloc: Global,
     words: &[u64],
-    root: u32,
+    aim: Aim,
     asking: &mut Asking,
 ) -> Result<(), Memory>
-    requires { IsAsking words.now root asking.old }
-    ensures { OnOk result (IsAsking words.now root asking.new) }
+    requires { IsAsking words.now aim asking.old }
+    ensures { OnOk result (IsAsking words.now aim asking.new) }
 {
     let around = neighbours(alloc, asking.atoms.as_slice())?;
     let most = asking.origins.len().saturating_mul(5);
-    add_all_apart(alloc, words, root, asking, around.as_slice(), most)?;
-    add_all_between(alloc, words, root, asking, around.as_slice(), most)
+    add_all_apart(alloc, words, aim, asking, around.as_slice(), most)?;
+    add_all_between(alloc, words, aim, asking, around.as_slice(), most)
 }

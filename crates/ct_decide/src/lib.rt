@@ -12,11 +12,13 @@ mod asking;
 mod deciding;
 mod error;
 mod known;
-mod needed;
+mod near;
+mod part;
 mod paths;
 mod stars;
-mod translating;
+mod ways;
 mod widening;
 
 pub use deciding::{Decision, decide};
 pub use error::DecideError;
+pub use near::decide_near;

@@ -7,21 +7,21 @@ ghost use Rattle.ct_derivation.specs.Variables.{LARGEST};
 ghost use Rattle.ct_cnf.specs.Encoding.{IsTermBelow};
 ghost use Rattle.ct_decide.specs.Asking.{is_atom, IsAsking, IsPathOver, AddsAtom, AddsEnd, AddsTriangle, IsKept, RulesOut};
 
-use crate::asking::{Asking, add_path, note, triangle};
-use crate::known::add_fan;
+use crate::asking::{Aim, Asking, add_path, note, triangle};
+use crate::known::{Fan, add_fan};
 use crate::paths::{are_constants, find, hinted, pair};
 use crate::widening::widen;
 use ct_word::{List, Memory};
 use std::alloc::Global;
 
 /// Gives the equality of two terms a spare variable, unless it has one.
-fn add_pair(words: &[u64], root: u32, asking: &mut Asking, s: u32, t: u32) -> Result<(), Memory>
-    requires asking { IsAsking words.now root asking.old }
+fn add_pair(words: &[u64], aim: Aim, asking: &mut Asking, s: u32, t: u32) -> Result<(), Memory>
+    requires asking { IsAsking words.now aim asking.old }
     requires room { length asking.old.atoms.items < asking.old.solver.vars }
-    requires first { IsTermBelow words.now root s }
-    requires second { IsTermBelow words.now root t }
+    requires first { IsTermBelow words.now aim.root s }
+    requires second { IsTermBelow words.now aim.root t }
     requires differ { s ≢ t }
-    ensures asking { OnOk result (IsAsking words.now root asking.new) }
+    ensures asking { OnOk result (IsAsking words.now aim asking.new) }
     ensures adds { OnOk result (AddsAtom asking.old asking.new) }
     ensures there { OnOk result (is_atom asking.new.atoms.items (pair_of s t) ≡ true) }
 {
@@ -35,25 +35,19 @@ fn add_pair(words: &[u64], root: u32, asking: &mut Asking, s: u32, t: u32) -> Re
 }
 
 /// Gives the equality of two terms a variable, unless they are two constants: then it returns true.
-pub fn add_end(
-    words: &[u64],
-    root: u32,
-    asking: &mut Asking,
-    s: u32,
-    t: u32,
-) -> Result<bool, Memory>
-    requires asking { IsAsking words.now root asking.old }
+pub fn add_end(words: &[u64], aim: Aim, asking: &mut Asking, s: u32, t: u32) -> Result<bool, Memory>
+    requires asking { IsAsking words.now aim asking.old }
     requires room { length asking.old.atoms.items < asking.old.solver.vars }
-    requires first { IsTermBelow words.now root s }
-    requires second { IsTermBelow words.now root t }
+    requires first { IsTermBelow words.now aim.root s }
+    requires second { IsTermBelow words.now aim.root t }
     requires differ { s ≢ t }
-    ensures asking { OnOk result (IsAsking words.now root asking.new) }
+    ensures asking { OnOk result (IsAsking words.now aim asking.new) }
     ensures adds { IfOk result (λ ended. AddsEnd words.now asking.old asking.new s t ended) }
 {
     if are_constants(words, s, t) {
         return Ok(true);
     }
-    add_pair(words, root, asking, s, t)?;
+    add_pair(words, aim, asking, s, t)?;
     Ok(false)
 }
 
@@ -90,26 +84,26 @@ fn was_added(
 fn add_triangle(
     alloc: Global,
     words: &[u64],
-    root: u32,
+    aim: Aim,
     asking: &mut Asking,
     model: &[bool],
     first: u32,
     middle: u32,
     last: u32,
 ) -> Result<bool, Memory>
-    requires asking { IsAsking words.now root asking.old }
+    requires asking { IsAsking words.now aim asking.old }
     requires room { length asking.old.atoms.items < asking.old.solver.vars }
     requires left { is_atom asking.old.atoms.items (pair_of first middle) ≡ true }
     requires right { is_atom asking.old.atoms.items (pair_of middle last) ≡ true }
     requires differ { first ≢ last }
-    ensures { IfOk result (λ ended. AddsTriangle words.now root model.now asking.old asking.new first middle last ended) }
+    ensures { IfOk result (λ ended. AddsTriangle words.now aim model.now asking.old asking.new first middle last ended) }
 {
-    let ended = add_end(words, root, asking, first, last)?;
+    let ended = add_end(words, aim, asking, first, last)?;
     if was_added(asking, model, first, middle, last, ended) {
         return Ok(ended);
     }
     let path = vec![in alloc; first, middle, last]?;
-    add_path(alloc, words, root, asking, List::from_vec(path))?;
+    add_path(alloc, words, aim, asking, List::from_vec(path))?;
     Ok(ended)
 }
 
@@ -119,17 +113,17 @@ fn add_triangle(
 fn add_star(
     alloc: Global,
     words: &[u64],
-    root: u32,
+    aim: Aim,
     asking: &mut Asking,
     model: &[bool],
     path: &[u32],
 ) -> Result<(), Memory>
-    requires asking { IsAsking words.now root asking.old }
+    requires asking { IsAsking words.now aim asking.old }
     requires over { IsPathOver words.now asking.old.atoms.items path.now }
     requires long { 2 < length path.now }
     requires room { length asking.old.atoms.items + length path.now ≤ asking.old.solver.vars }
     requires apart { (k : ℕ) → 0 < k → k < length path.now → slice_index path.now k ≢ slice_index path.now 0 }
-    ensures asking { OnOk result (IsAsking words.now root asking.new) }
+    ensures asking { OnOk result (IsAsking words.now aim asking.new) }
     ensures out { OnOk result (RulesOut words.now path.now model.now asking.old asking.new) }
 {
     let first = path[0];
@@ -137,7 +131,7 @@ fn add_star(
         if add_triangle(
             alloc,
             words,
-            root,
+            aim,
             asking,
             model,
             first,
@@ -189,55 +183,69 @@ fn is_spread(asking: &Asking, path: &[u32]) -> bool
 fn add_clauses(
     alloc: Global,
     words: &[u64],
-    root: u32,
+    aim: Aim,
     asking: &mut Asking,
     model: &[bool],
     path: List<u32>,
 ) -> Result<(), Memory>
-    requires asking { IsAsking words.now root asking.old }
+    requires asking { IsAsking words.now aim asking.old }
     requires over { IsPathOver words.now asking.old.atoms.items path }
-    ensures asking { OnOk result (IsAsking words.now root asking.new) }
+    ensures asking { OnOk result (IsAsking words.now aim asking.new) }
     ensures out { OnOk result (RulesOut words.now path model.now asking.old asking.new) }
 {
     let places = path.as_slice();
     let has_room = asking.atoms.len() + places.len() <= asking.vars as usize;
     if places.len() > 3 && has_room && is_apart(places) && is_spread(asking, places) {
-        add_star(alloc, words, root, asking, model, places)?;
-        widen(alloc, words, root, asking, places[0])
+        add_star(alloc, words, aim, asking, model, places)?;
+        widen(alloc, words, aim, asking, places)
     } else {
-        add_path(alloc, words, root, asking, path)
+        add_path(alloc, words, aim, asking, path)
     }
 }
 
-/// The first term of a path, the one before its last, and its last, where its ends are two
-/// constants.
-fn fan_of(words: &[u64], path: &[u32]) -> Option<(u32, u32, u32)> {
+/// The fans of a path that joins two constants, one from each of them. Which of the two terms next
+/// to its ends may be many constants is not known here.
+fn fans_of(words: &[u64], path: &[u32]) -> Option<(Fan, Fan)> {
     let length = path.len();
     if length < 3 || !are_constants(words, path[0], path[length - 1]) {
         return None;
     }
-    Some((path[0], path[length - 2], path[length - 1]))
+    let (first, last) = (path[0], path[length - 1]);
+    let forward = Fan {
+        first,
+        middle: path[length - 2],
+        done: last,
+    };
+    let backward = Fan {
+        first: last,
+        middle: path[1],
+        done: first,
+    };
+    Some((forward, backward))
 }
 
-/// Adds clauses that rule a path out. Where it joins two constants, those to the other constants
-/// of the term before the last are added as well: each of them would be next.
+/// Adds clauses that rule a path out. Where it joins two constants, those from each of them to the
+/// other constants of the term before the other one are added as well: each of them would be next.
 pub fn rule_out(
     alloc: Global,
     words: &[u64],
-    root: u32,
+    aim: Aim,
     asking: &mut Asking,
     model: &[bool],
     path: List<u32>,
 ) -> Result<(), Memory>
-    requires asking { IsAsking words.now root asking.old }
+    requires asking { IsAsking words.now aim asking.old }
     requires over { IsPathOver words.now asking.old.atoms.items path }
-    ensures asking { OnOk result (IsAsking words.now root asking.new) }
+    ensures asking { OnOk result (IsAsking words.now aim asking.new) }
     ensures out { OnOk result (RulesOut words.now path model.now asking.old asking.new) }
 {
-    let fan = fan_of(words, path.as_slice());
-    add_clauses(alloc, words, root, asking, model, path)?;
-    match fan {
-        Some((first, middle, last)) => add_fan(alloc, words, root, asking, first, middle, last),
+    let fans = fans_of(words, path.as_slice());
+    add_clauses(alloc, words, aim, asking, model, path)?;
+    match fans {
+        Some((forward, backward)) => {
+            add_fan(alloc, words, aim, asking, forward)?;
+            add_fan(alloc, words, aim, asking, backward)
+        }
         None => Ok(()),
     }
 }

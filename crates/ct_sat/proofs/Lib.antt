@@ -1,3 +1,4 @@
 pub mod Carried
 pub mod Verdicts
 pub mod Ways
+pub mod Moves

@@ -1,6 +1,7 @@
 -- What the turns of a search find.
-use Rattle.std.specs.Prelude.{ℕ, ◌<◌, false, Option, Some, None}
-use Rattle.ct_trail.specs.{Look.IsFalsifiedAt, Standing.{Standing, truths_now, log_now, worth_of}}
+use Rattle.std.specs.Prelude.{◌≡◌, ℕ, ◌<◌, Bool, true, false, Option, Some, None}
+use Rattle.std.proofs.Math.IntN.{ℤ}
+use Rattle.ct_trail.specs.{Look.IsFalsifiedAt, Standing.{Standing, truths_now, log_now, can_decide, extended, worth_of}}
 use Rattle.ct_sat.specs.declared.verdict.Found.{Found}
 use Rattle.ct_sat.specs.Log.{State, AnswersFound}
 
@@ -8,6 +9,11 @@ use Rattle.ct_sat.specs.Log.{State, AnswersFound}
 abbrev pub ConflictOf : Standing → Option ℕ → Type 0
 ConflictOf s None = Unit {0}
 ConflictOf s (Some k) = IsFalsifiedAt (truths_now s) (log_now s) k
+
+-- a literal without a truth was decided, or nothing was
+abbrev pub Decides : Standing → Bool → Standing → Type 0
+Decides old true new = (l : ℤ) × (can_decide old l ≡ true) × (new ≡ extended old l None)
+Decides old false new = new ≡ old
 
 -- what contracts see of a solver with this board
 abbrev pub state_of : Standing → State

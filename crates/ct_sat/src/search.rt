@@ -4,7 +4,7 @@ ghost use Rattle.std.specs.Prelude.{◌≡◌, ◌<◌, true, IfOk};
 ghost use Rattle.ct_sat.specs.Log.{AnswersFound, ends_refuted};
 ghost use Rattle.ct_trail.specs.Look.{IsFalsifiedAt};
 ghost use Rattle.ct_trail.specs.Standing.{truths_now, log_now, worth_of, Continues, Advances};
-ghost use Rattle.ct_sat.specs.Search.{TurnOf, state_of};
+ghost use Rattle.ct_sat.specs.Search.{Decides, TurnOf, state_of};
 
 use crate::guide::Guide;
 use crate::propagate::propagate;
@@ -70,6 +70,7 @@ fn judge(alloc: Global, board: &mut Board, guide: &mut Guide) -> Result<Option<F
 
 /// Decides the variable that the guide picks; says whether it did.
 fn decide(board: &mut Board, guide: &mut Guide) -> Result<bool, Memory>
+    ensures decides { IfOk result (λ b. Decides board.old b board.new) }
     ensures advances { Advances board.old board.new }
     ensures worth { IfOk result (λ b. b ≡ true → worth_of board.old < worth_of board.new) }
 {

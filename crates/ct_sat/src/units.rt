@@ -1,12 +1,12 @@
 // Clauses of one literal, for literals that rest on no decision.
 
-ghost use Rattle.std.specs.Prelude.{◌≡◌, ℕ, List, ◌≤◌, ◌<◌, ◌∷◌, [], true, length, IfOk, IfSome};
+ghost use Rattle.std.specs.Prelude.{◌≡◌, ℕ, List, ◌≤◌, ◌<◌, ◌∷◌, [], true, length, IfOk, IfSome, OnOk};
 ghost use Rattle.ct_derivation.specs.Propagation.{follows};
 ghost use Rattle.ct_trail.specs.Literal.{Clause, numbered, has};
 ghost use Rattle.ct_trail.specs.Log.{clauses_in};
 ghost use Rattle.ct_trail.specs.Standing.{log_now, Advances};
 ghost use Rattle.ct_trail.specs.Units.{IsAloneAt, IsUnitLesson};
-ghost use Rattle.ct_sat.specs.Units.{Leads, Goes};
+ghost use Rattle.ct_sat.specs.Units.{Leads, Goes, MayHaveUnit};
 
 use crate::guide::Guide;
 use ct_trail::{Board, Entry, clause, is_same, is_within, opposite};
@@ -138,7 +138,8 @@ fn unit_hints(
 
 /// Gives the literal whose reason is the clause at a position a clause of its own, if it rests on no decision.
 fn make_unit(alloc: Global, board: &mut Board, guide: &Guide, position: u32) -> Result<(), Memory>
-    ensures { Advances board.old board.new }
+    ensures unit { OnOk result (MayHaveUnit board.old board.new) }
+    ensures advances { Advances board.old board.new }
 {
     let Some(place) = guide.settled(board, position) else {
         return Ok(());

@@ -1,7 +1,7 @@
 -- What a new truth changes.
-use Rattle.std.proofs.Common.{◌≡◌, ℕ, zero, suc, ◌<◌, ◌≤◌, ◌+◌, true, ◌||◌, List, [], ◌∷◌, length, get_or, set, refl, ap, ◌∙◌, sym, arith, inl, inr, ◌⊎◌, pos, negsuc, neg_ℤ, ℤ, if◌then◌else◌}
-use Rattle.std.{specs.Ordering.int_eq, proofs.lemmas.List.{get_or-set_same, get_or-set_other, set-set, set-get_or, length-set}}
-use Rattle.std.{proofs.lemmas.List.Sums.sum_by-set, proofs.lemmas.Bool.{and_parts, and_from, false≢true, cases_eq}, proofs.lemmas.Bool.Decides.Decides-ltb}
+use Rattle.std.proofs.Common.{◌≡◌, ℕ, zero, suc, ◌<◌, ◌≤◌, ◌+◌, true, false, ltb, ◌||◌, List, [], ◌∷◌, length, get_or, set, refl, ap, ◌∙◌, sym, arith, inl, inr, ◌⊎◌, pos, negsuc, neg_ℤ, ℤ, if◌then◌else◌}
+use Rattle.std.{specs.Ordering.int_eq, proofs.lemmas.List.{get_or-set_same, get_or-set_other, get_or_past, set-set, set-get_or, length-set}}
+use Rattle.std.{proofs.lemmas.List.Sums.sum_by-set, proofs.lemmas.Bool.{and_parts, and_from, false≢true, cases_eq, cases_lt}, proofs.lemmas.Bool.Decides.Decides-ltb}
 use Rattle.ct_trail.specs.{declared.assignment.Truth.Truth, Literal.{Clause, is_literal, place_of, is_positive}}
 use Rattle.ct_trail.specs.Assignment.{truth_of, inverted, is_false, assigned, open_weight, open_count, falsified, falsified_but, IsOpen}
 use Rattle.ct_trail.proofs.Literals.{same_refl, opposite_literal}
@@ -23,10 +23,19 @@ open_opposite ts l o = record {
   within = opposite_literal (length ts) l o.within;
 }
 
+past : (ts : List Truth) (k : ℕ) → ltb k (length ts) ≡ false → length ts ≤ k
+past ts k e = elim (cases_lt k (length ts)) [ inl lt ↦ absurd (false≢true (sym e ∙ (Decides-ltb k (length ts)).1 lt)) | inr not_lt ↦ omega (arith, not_lt) ]
+
 pub wider : (n m : ℕ) (l : ℤ) → n ≤ m → is_literal n l ≡ true → is_literal m l ≡ true
 wider n m (pos zero) le e = e
 wider n m (pos (suc k)) le e = (Decides-ltb k m).1 (omega (arith, (Decides-ltb k n).0 e))
 wider n m (negsuc k) le e = (Decides-ltb k m).1 (omega (arith, (Decides-ltb k n).0 e))
+
+-- a literal without a variable of the assignment has no truth
+pub truth_past : (ts : List Truth) (l : ℤ) → is_literal (length ts) l ≡ false → truth_of ts l ≡ truth.Open
+truth_past ts (pos zero) e = refl
+truth_past ts (pos (suc k)) e = get_or_past ts k truth.Open (past ts k e)
+truth_past ts (negsuc k) e = ap inverted (get_or_past ts k truth.Open (past ts k e))
 
 pub place_within : (n : ℕ) (l : ℤ) → is_literal n l ≡ true → place_of l < n
 place_within n (pos zero) e = absurd (false≢true e)

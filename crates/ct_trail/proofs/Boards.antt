@@ -1,10 +1,10 @@
 -- The fields of a board, and what is made of them.
-use Rattle.std.proofs.Common.{◌≡◌, ℕ, zero, ◌<◌, ◌≤◌, ◌-◌, true, List, [], ◌∷◌, ◌++◌, length, get_or, take, set, suc, max, Option, Some, refl, ap, ◌∙◌, sym, subst, arith, ℤ, inl, inr}
+use Rattle.std.proofs.Common.{◌≡◌, ℕ, zero, ◌<◌, ◌≤◌, ◌-◌, true, ◌&&◌, List, [], ◌∷◌, ◌++◌, length, get_or, take, set, suc, max, Option, Some, refl, ap, ◌∙◌, sym, subst, arith, ℤ, inl, inr}
 use Rattle.std.{specs.Prelude.slice_get, proofs.lemmas.List.length_push, proofs.lemmas.Option.slice_get_read}
 use Rattle.ct_trail.specs.declared.{assignment.Truth.Truth, trail.Put.Put, log.Rup.Rup, log.Entry.Entry, learning.Lesson.Lesson, look.Look.Look}
-use Rattle.ct_trail.specs.{Literal.{Clause, is_literal, is_clause, place_of, numbered, LARGEST}, Assignment.{assigned, truth_of, IsOpen}, Look.{LookOf, IsFalsifiedAt}}
-use Rattle.ct_trail.specs.{Log.{entry_clause, clauses_in}, Trail.{truths_of, IsPutBy, IsTrail}, Learning.{IsReturnOf, IsLesson}, Analysis.{ArePut, AreWithin, IsPutAt}, Units.{IsOwnReason, IsUnitLesson}}
-use Rattle.ct_trail.specs.Standing.{Standing, IsStanding, truths_now, log_now, extended, shortened, worth, worth_of, Learned, Advances, SeenAt, IsTakenBack}
+use Rattle.ct_trail.specs.{Literal.{Clause, is_literal, is_clause, place_of, numbered, LARGEST}, Assignment.{assigned, truth_of, is_open, IsOpen}, Look.{LookOf, IsFalsifiedAt}}
+use Rattle.ct_trail.specs.{Log.{entry_clause, clauses_in}, Trail.{truths_of, IsPutBy, IsTrail}, Learning.{IsReturnOf, IsLesson}, Analysis.{ArePut, AreWithin, IsPutAt}, Units.{HasUnit, IsOwnReason, IsUnitLesson}}
+use Rattle.ct_trail.specs.Standing.{Standing, IsStanding, truths_now, log_now, can_decide, extended, shortened, worth, worth_of, Learned, Advances, SeenAt, IsTakenBack}
 use Rattle.ct_trail.proofs.{Assignments.wider, Narrow.{narrow_falsified, wide_return, narrow_trail}, Literals.alone_within, Logs.last_clause, Growth.{length_truths, truths_push}, Steps.{standing_put, standing_cut, standing_added, standing_learned, scan_within, seen_at, worth_put, last_back}}
 use Rattle.ct_trail.specs.declared.assignment.Truth.TheVariants as truth
 use Rattle.ct_trail.specs.declared.log.Entry.TheVariants as entry
@@ -50,6 +50,12 @@ module _ (v : Standing) (vars top : ℕ) (es : List Entry) (ps : List Put) (ts :
         without_truth = ap (λ x. truth_of x l) (sym (us_are ∙ t)) ∙ o;
         within = ap (λ x. is_literal (length x) l) (sym t) ∙ within_top l e;
       })
+
+  pub truth_here : (l : ℤ) (us : List Truth) → us ≡ ts → truth_of us l ≡ truth_of (truths_now v) l
+  truth_here l us us_are = ap (λ x. truth_of x l) (us_are ∙ t) ∙ ap (λ (x : Standing). truth_of (truths_now x) l) is
+
+  pub can_here : (l : ℤ) (us : List Truth) → us ≡ ts → (is_literal top l && is_open (truth_of us l)) ≡ can_decide v l
+  can_here l us us_are = (λ i. is_literal top l && is_open (truth_of ((us_are ∙ t) i) l)) ∙ ap (λ (x : Standing). can_decide x l) is
 
   pub look_here : (k : ℕ) (e : Entry) → k < length es → e ≡ get_or es k e → is_clause (length ts) (entry_clause e) ≡ true
   look_here k e lt at = scan_within (length ts) top es k e lt at top_few h.0.within
@@ -171,6 +177,12 @@ module _ (v : Standing) (vars top : ℕ) (es : List Entry) (ps : List Put) (ts :
       },
       t ∙ sym same,
     )
+
+    pub unit_is : ((p : Put) → slice_get ps place ≡ Some p → qs ≡ set ps place (record { literal = p.literal; reason = Some position })) → HasUnit v place hs (board vars top more qs)
+    unit_is set_is =
+        let entries : more ≡ es ++ entry.Learned (record { clause = u.put.literal ∷ []; hints = hs }) ∷ [] = more_is ∙ (λ i. es ++ entry.Learned (record { clause = c_is i; hints = h_is i }) ∷ []) in
+        let trail : qs ≡ set ps place (record { literal = u.put.literal; reason = Some (length es) }) = set_is u.put at_here ∙ ap (λ n. set ps place (record { literal = u.put.literal; reason = Some n })) at in
+        subst (λ (x : Standing). HasUnit x place hs (board vars top more qs)) is (record { put = u.put; there = at_here; is = λ i. board vars top (entries i) (trail i) })
 
     pub unit_advances : ((k : ℕ) → IsPutAt ps place k → worth vars qs ≡ worth vars ps) → Advances v (board vars top more qs)
     unit_advances same =

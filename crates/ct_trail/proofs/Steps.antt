@@ -2,7 +2,7 @@
 use Rattle.std.proofs.Common.{◌≡◌, ℕ, ◌<◌, ◌≤◌, true, List, [], ◌∷◌, ◌++◌, length, get_or, set, max, Option, Some, refl, ap, ◌∙◌, sym, subst, arith, ℤ, append_assoc}
 use Rattle.std.{specs.Prelude.slice_get, specs.List.list_all, proofs.lemmas.List.{append-nil}, proofs.lemmas.Option.slice_get_read}
 use Rattle.ct_trail.specs.declared.{look.Look.Look, trail.Put.Put, log.Rup.Rup, log.Entry.Entry, learning.Return.Return}
-use Rattle.ct_trail.specs.{Literal.{Clause, is_literal, is_clause, place_of, has, numbered}, Assignment.{falsified, IsUnit}, Log.clause_at, Look.{LookOf, IsUnitAt}}
+use Rattle.ct_trail.specs.{Literal.{Clause, is_literal, is_clause, place_of, has, numbered}, Assignment.{falsified, satisfied, IsUnit}, Log.clause_at, Look.{LookOf, IsUndecided, IsUnitAt}}
 use Rattle.ct_trail.specs.{Log.{entry_clause, clauses_in, added_in, IsLog}, Trail.{truths_of, IsPutBy, IsTrail}, Learning.IsReturn}
 use Rattle.ct_trail.specs.Standing.{Standing, IsStanding, truths_now, log_now, extended, shortened, entered, worth_of, Continues, Advances, SeenAt}
 use Rattle.ct_trail.proofs.{Literals.literal_of, Logs.{clauses_more, added_more, none_more, clause_within, clause_wider, clauses_wider, all_push, all_parts, follow_added, follow_learned, entry_at}, Assignments.wider}
@@ -109,7 +109,7 @@ last_back s ps x h is =
 
 -- a clause of the log
 pub seen_at : (s : Standing) (k : ℕ) (e : Entry) (look : Look) → IsStanding s → slice_get s.entries k ≡ Some e → LookOf (truths_now s) (entry_clause e) look → SeenAt s k look
-seen_at s k e look.Satisfied h at l = tt
+seen_at s k e look.Satisfied h at l = λ lt. ap (satisfied (truths_now s)) (entry_at s.entries k e at).1 ∙ l
 seen_at s k e look.Falsified h at l =
     let there = entry_at s.entries k e at in
     record { place = there.0; none = ap (falsified (truths_now s)) there.1 ∙ l }
@@ -118,7 +118,7 @@ seen_at s k e (look.Unit m) h at l =
     record { place = there.0; unit = subst (λ (c : Clause). IsUnit (truths_now s) c m) (sym there.1) l }
 seen_at s k e (look.Undecided m) h at l =
     let there = entry_at s.entries k e at in
-    (l.0, literal_of s.top (entry_clause e) m (ap (is_clause s.top) (sym there.1) ∙ clause_within s.top (log_now s) k h.within there.0) l.1)
+    (there.0, subst (λ (c : Clause). IsUndecided (truths_now s) c m) (sym there.1) l, literal_of s.top (entry_clause e) m (ap (is_clause s.top) (sym there.1) ∙ clause_within s.top (log_now s) k h.within there.0) l.member)
 
 pub worth_returned : (s t u : Standing) (r : Return) (k : ℕ) → IsStanding s → IsReturn s.vars s.trail (clause_at (log_now s) k) r → t ≡ shortened s r.cut → u ≡ extended t r.literal (Some k) → worth_of s < worth_of u
 worth_returned s t u r k h back cut put =

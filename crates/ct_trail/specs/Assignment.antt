@@ -27,6 +27,10 @@ abbrev pub is_false : Truth → Bool
 is_false truth.False = true
 is_false _ = false
 
+abbrev pub is_open : Truth → Bool
+is_open truth.Open = true
+is_open _ = false
+
 -- the assignment that makes a literal true
 unfoldable pub assigned : List Truth → ℤ → List Truth
 assigned truths l = slice_set truths (place_of l) (if is_positive l then truth.True else truth.False)

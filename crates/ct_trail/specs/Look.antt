@@ -1,5 +1,5 @@
 -- What a look at a clause, and one at all added clauses, answer.
-use Rattle.std.specs.Prelude.{◌≡◌, ℕ, ◌<◌, true, List, length, if◌then◌else◌}
+use Rattle.std.specs.Prelude.{◌≡◌, ℕ, ◌<◌, true, false, List, length, if◌then◌else◌}
 use Rattle.std.specs.Ordering.{int_eq}
 use Rattle.std.proofs.Math.IntN.{ℤ}
 use Rattle.ct_trail.specs.declared.assignment.Truth.{Truth}
@@ -7,14 +7,21 @@ use Rattle.ct_trail.specs.declared.look.Look.{Look}
 use Rattle.ct_trail.specs.declared.look.Look.TheVariants as look
 use Rattle.ct_trail.specs.Literal.{Clause, is_positive, has}
 use Rattle.ct_trail.specs.Log.{clause_at}
-use Rattle.ct_trail.specs.Assignment.{satisfied, falsified, IsOpen, IsUnit}
+use Rattle.ct_trail.specs.Assignment.{satisfied, falsified, falsified_but, IsOpen, IsUnit}
+
+-- l has no truth, no literal of the clause is true, and another one than l is not false
+pub record IsUndecided (truths : List Truth) (c : Clause) (l : ℤ) : Type 0 where
+  pub is_free : IsOpen truths l
+  pub member : has c l ≡ true
+  pub none_true : satisfied truths c ≡ false
+  pub others : falsified_but truths l c ≡ false
 
 -- what a clause is under an assignment
 abbrev pub LookOf : List Truth → Clause → Look → Type 0
 LookOf truths c look.Satisfied = satisfied truths c ≡ true
 LookOf truths c look.Falsified = falsified truths c ≡ true
 LookOf truths c (look.Unit l) = IsUnit truths c l
-LookOf truths c (look.Undecided l) = IsOpen truths l × (has c l ≡ true)
+LookOf truths c (look.Undecided l) = IsUndecided truths c l
 
 -- the first of two literals, unless it is the negative of a variable
 abbrev pub preferred : ℤ → ℤ → ℤ

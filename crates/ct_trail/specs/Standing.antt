@@ -1,5 +1,5 @@
 -- How far a search has come: its log and its trail.
-use Rattle.std.specs.Prelude.{◌≡◌, ℕ, zero, suc, ◌+◌, ◌≤◌, true, List, [], ◌∷◌, ◌++◌, Option, Some, None, take, slice_set, ◌⊎◌}
+use Rattle.std.specs.Prelude.{◌≡◌, ℕ, zero, suc, ◌+◌, ◌≤◌, ◌<◌, Bool, true, ◌&&◌, List, [], ◌∷◌, ◌++◌, Option, Some, None, length, take, slice_set, ◌⊎◌, if◌then◌else◌}
 use Rattle.std.specs.List.{list_all}
 use Rattle.std.proofs.Math.IntN.{ℤ}
 use Rattle.ct_trail.specs.declared.assignment.Truth.{Truth}
@@ -14,9 +14,9 @@ use Rattle.ct_trail.specs.declared.scan.Scan.TheVariants as scan
 use Rattle.ct_trail.specs.declared.trail.Put.{Put}
 use Rattle.ct_trail.specs.declared.learning.Return.{Return}
 use Rattle.ct_trail.specs.Literal.{Clause, is_literal, is_clause, place_of, LARGEST}
-use Rattle.ct_trail.specs.Assignment.{satisfied, IsOpen}
-use Rattle.ct_trail.specs.Look.{LookOf, IsFalsifiedAt, IsUnitAt}
-use Rattle.ct_trail.specs.Log.{entry_clause, clauses_in, added_in, each_learned_follows}
+use Rattle.ct_trail.specs.Assignment.{satisfied, truth_of, is_open, IsOpen}
+use Rattle.ct_trail.specs.Look.{LookOf, IsUndecided, IsFalsifiedAt, IsUnitAt}
+use Rattle.ct_trail.specs.Log.{entry_clause, clauses_in, clause_at, added_in, each_learned_follows}
 use Rattle.ct_trail.specs.Trail.{truths_of, IsTrail}
 use Rattle.ct_trail.specs.Learning.{IsReturnOf}
 
@@ -45,6 +45,14 @@ pub record IsStanding (s : Standing) : Type 0 where
 -- the same with one more literal on the trail
 abbrev pub extended : Standing → ℤ → Option ℕ → Standing
 extended s l r = record { vars = s.vars; top = s.top; entries = s.entries; trail = s.trail ++ record { literal = l; reason = r } ∷ [] }
+
+-- whether a literal has a variable up to the greatest of the added clauses, and no truth
+abbrev pub can_decide : Standing → ℤ → Bool
+can_decide s l = is_literal s.top l && is_open (truth_of (truths_now s) l)
+
+-- the same with that literal as a decision, if it can be one
+abbrev pub decided : Standing → ℤ → Standing
+decided s l = if can_decide s l then extended s l None else s
 
 -- the same with so many literals of the trail
 abbrev pub shortened : Standing → ℕ → Standing
@@ -95,12 +103,12 @@ pub record Advances (old new : Standing) : Type 0 where
   pub continues : Continues old new
   pub worth : worth_of old ≤ worth_of new
 
--- what the clause at a position is
+-- what the clause at a position is; satisfied where there is none
 abbrev pub SeenAt : Standing → ℕ → Look → Type 0
-SeenAt s k look.Satisfied = Unit {0}
+SeenAt s k look.Satisfied = k < length (log_now s) → satisfied (truths_now s) (clause_at (log_now s) k) ≡ true
 SeenAt s k look.Falsified = IsFalsifiedAt (truths_now s) (log_now s) k
 SeenAt s k (look.Unit l) = IsUnitAt (truths_now s) l (log_now s) k
-SeenAt s k (look.Undecided l) = IsOpen (truths_now s) l × (is_literal s.top l ≡ true)
+SeenAt s k (look.Undecided l) = (k < length (log_now s)) × IsUndecided (truths_now s) (clause_at (log_now s) k) l × (is_literal s.top l ≡ true)
 
 -- what an added clause is; a learned one counts as satisfied
 abbrev pub AddedLook : List Truth → Entry → Look → Type 0

@@ -4,7 +4,7 @@ ghost use Rattle.std.specs.Prelude.{◌≡◌, true, ◌≤◌, length, slice_se
 ghost use Rattle.ct_trail.specs.Literal.{is_literal, place_of, LARGEST};
 ghost use Rattle.ct_trail.specs.Assignment.{truth_of, inverted, assigned};
 
-use crate::literal::{is_variable, place};
+use crate::literal::{is_variable, is_within, place};
 
 /// The truth of a variable under a partial assignment.
 #[derive(Clone, Copy, PartialEq, Eq)]
@@ -33,6 +33,18 @@ pub fn look_up(truths: &[Truth], l: &i32) -> Truth
 {
     let truth = truths[place(l)];
     if is_variable(l) { truth } else { invert(truth) }
+}
+
+/// The truth of a literal; open where it has no variable of the assignment.
+pub fn truth_of(truths: &[Truth], l: &i32) -> Truth
+    requires { length truths.now ≤ LARGEST }
+    ensures { result ≡ truth_of truths.now l.now }
+{
+    if is_within(truths.len() as u32, l) {
+        look_up(truths, l)
+    } else {
+        Truth::Open
+    }
 }
 
 /// Makes a literal true.

@@ -3,16 +3,16 @@
 ghost use Rattle.std.specs.Prelude.{◌≡◌, ◌≤◌, ◌<◌, ℕ, [], ◌∷◌, ◌++◌, true, false, length, map, replicate, Some, None, IfOk, OnOk, OnErr, ◌-◌, slice_get};
 ghost use Rattle.ct_trail.specs.Literal.{is_literal, is_clause, LARGEST};
 ghost use Rattle.ct_trail.specs.declared.trail.Put.{Put};
-ghost use Rattle.ct_trail.specs.Assignment.{is_true, assigned, IsOpen};
+ghost use Rattle.ct_trail.specs.Assignment.{is_true, truth_of, assigned, IsOpen};
 ghost use Rattle.ct_trail.specs.declared.log.Entry.TheVariants as entry;
 ghost use Rattle.ct_trail.specs.Log.{clause_at};
 ghost use Rattle.ct_trail.specs.Look.{IsFalsifiedAt, IsUnitAt};
 ghost use Rattle.ct_trail.specs.Trail.{IsPutBy};
 ghost use Rattle.ct_trail.specs.Learning.{IsReturn};
-ghost use Rattle.ct_trail.specs.Units.{IsUnitLesson};
-ghost use Rattle.ct_trail.specs.Standing.{truths_now, log_now, extended, shortened, worth_of, Learned, SeenAt, ScanOf, IsStanding, Advances, IsTakenBack};
+ghost use Rattle.ct_trail.specs.Units.{HasUnit, IsUnitLesson};
+ghost use Rattle.ct_trail.specs.Standing.{truths_now, log_now, can_decide, decided, extended, shortened, worth_of, Learned, SeenAt, ScanOf, IsStanding, Advances, IsTakenBack};
 
-use crate::assignment::{Truth, assign, look_up, reopen};
+use crate::assignment::{Truth, assign, look_up, reopen, truth_of};
 use crate::learning::{Lesson, Return, learn_from};
 use crate::literal::{greater, is_within, variable};
 use crate::log::{Entry, Rup};
@@ -158,13 +158,10 @@ impl Board {
     }
 
     /// The truth of a literal; open where it has no variable of the board.
-    pub fn truth(&self, l: i32) -> Truth {
-        let place = (l.unsigned_abs() as usize).wrapping_sub(1);
-        match self.truths.as_slice().get(place) {
-            None | Some(Truth::Open) => Truth::Open,
-            Some(truth) if (*truth == Truth::True) == (l > 0) => Truth::True,
-            Some(_) => Truth::False,
-        }
+    pub fn truth(&self, l: i32) -> Truth
+        ensures { result ≡ truth_of (truths_now self.now) l }
+    {
+        truth_of(self.truths.as_slice(), &l)
     }
 
     /// What the clause at a position is; satisfied where there is none.
@@ -207,6 +204,7 @@ impl Board {
         requires { is_clause self.old.vars clause ≡ true }
         ensures vars { self.new.vars ≡ self.old.vars }
         ensures ok { OnOk result (self.new.entries ≡ self.old.entries ++ entry.Added clause ∷ []) }
+        ensures trail { OnOk result (self.new.trail ≡ self.old.trail) }
         ensures err { OnErr result (self.new ≡ self.old) }
     {
         let top = greater(self.top, greatest(clause.as_slice()));
@@ -244,11 +242,14 @@ impl Board {
         self.put(literal, Some(k))
     }
 
-    /// Makes a literal true, unless it has a truth or no variable of the added clauses; says whether it did.
+    /// Makes a literal true, unless it has a truth, or a variable past those of the added clauses; says whether it did.
     ///
     /// # Errors
-    /// `Memory` where memory is wanting.
+    /// `Memory` where memory is wanting. The board stays as it was.
     pub fn decide(&mut self, literal: &i32) -> Result<bool, Memory>
+        ensures is { OnOk result (self.new ≡ decided self.old literal.now) }
+        ensures told { IfOk result (λ b. b ≡ can_decide self.old literal.now) }
+        ensures err { OnErr result (self.new ≡ self.old) }
         ensures advances { Advances self.old self.new }
         ensures worth { IfOk result (λ b. b ≡ true → worth_of self.old < worth_of self.new) }
     {
@@ -259,8 +260,9 @@ impl Board {
         Ok(true)
     }
 
-    /// Whether a literal has a variable of the added clauses, and no truth.
+    /// Whether a literal has a variable up to the greatest of the added clauses, and no truth.
     fn is_open(&self, literal: &i32) -> bool
+        ensures is { result ≡ can_decide self.now literal.now }
         ensures without_truth { result ≡ true → IsOpen (truths_now self.now) literal.now }
         ensures within { result ≡ true → is_literal self.now.top literal.now ≡ true }
     {
@@ -336,10 +338,12 @@ impl Board {
     /// Learns the clause that has the literal at a place of the trail alone, which becomes the literal's reason.
     ///
     /// # Errors
-    /// `Memory` where memory is wanting, or the log has 2^32 entries.
+    /// `Memory` where memory is wanting, or the log has 2^32 entries. The board stays as it was.
     pub fn make_unit(&mut self, alloc: Global, place: usize, hints: Vec<u32>) -> Result<(), Memory>
         requires { IsUnitLesson (log_now self.old) self.old.trail place hints.items }
-        ensures { Advances self.old self.new }
+        ensures is { OnOk result (HasUnit self.old place hints.items self.new) }
+        ensures err { OnErr result (self.new ≡ self.old) }
+        ensures advances { Advances self.old self.new }
     {
         let position = hint(self.entries.as_slice().len())?;
         let mut clause = Vec::new(alloc);

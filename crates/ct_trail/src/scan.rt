@@ -20,7 +20,7 @@ pub enum Scan {
     Falsified(u32),
     /// The clause at this position is false but for this open literal.
     Unit(u32, i32),
-    /// None before one that is not true is false or a unit, and in that one this literal is open.
+    /// In the first clause that is not true this literal is open, and so is another. The contract says only that it is open.
     Undecided(i32),
 }
 

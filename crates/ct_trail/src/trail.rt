@@ -1,6 +1,7 @@
 // The literals that are true, in the order in which they became so.
 
-ghost use Rattle.std.specs.Prelude.{◌≡◌, ℕ, List, ◌<◌, length};
+ghost use Rattle.std.specs.Prelude.{◌≡◌, ℕ, List, Some, ◌<◌, length, slice_get, slice_set};
+ghost use Rattle.ct_trail.specs.declared.trail.Put.{Put};
 ghost use Rattle.ct_trail.specs.Literal.{Clause};
 ghost use Rattle.ct_trail.specs.Trail.{IsTrail, truths_of};
 ghost use Rattle.ct_trail.specs.Analysis.{IsPutAt};
@@ -18,6 +19,7 @@ pub struct Put {
 /// Gives a literal of the trail another reason, the clause at a position of the log that has it alone.
 pub fn set_reason(trail: &mut Vec<Put>, place: usize, position: u32)
     requires { place < length trail.old.items }
+    ensures is { (p : Put) → slice_get trail.old.items place ≡ Some p → trail.new.items ≡ slice_set trail.old.items place (record { literal = p.literal; reason = Some position }) }
     ensures truths { (vars : ℕ) → truths_of vars trail.new.items ≡ truths_of vars trail.old.items }
     ensures trail { (vars top : ℕ) (log : List Clause) → IsOwnReason log trail.old.items place position → IsTrail vars top log trail.old.items → IsTrail vars top log trail.new.items }
     ensures worth { (vars reason : ℕ) → IsPutAt trail.old.items place reason → worth vars trail.new.items ≡ worth vars trail.old.items }

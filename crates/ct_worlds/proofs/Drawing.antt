@@ -1,14 +1,14 @@
 -- Values that are put into a draft, and the world that it gives.
-use Rattle.std.proofs.Common.{◌≡◌, ◌⊎◌, ◌<◌, ◌≤◌, ◌+◌, ◌^◌, ℕ, Bool, true, false, List, [], ◌∷◌, ◌++◌, length, map, take, get_or, Option, Some, None, Result, Ok, Err, if◌then◌else◌, ap, sym, subst, ◌∙◌, arith, inl, inr}
-use Rattle.std.{specs.Prelude.{All, Contains, IfOk, IfSome, IsTrue}, specs.List.{AllByRecursion, IsDistinct, list_all, list_any}, proofs.lemmas.Bool.and_parts, proofs.lemmas.List.{map-append, take_all, take_more}}
+use Rattle.std.proofs.Common.{◌≡◌, ◌⊎◌, ◌<◌, ◌≤◌, ◌+◌, ◌^◌, ℕ, Bool, true, false, List, [], ◌∷◌, ◌++◌, length, map, take, get_or, if◌then◌else◌, refl, ap, sym, subst, ◌∙◌, arith, inl, inr}
+use Rattle.std.{specs.Prelude.{All, Contains, IsTrue}, specs.List.{AllByRecursion, IsDistinct, list_any}, proofs.lemmas.List.{map-append, take_all, take_more}}
 use Rattle.std.proofs.lemmas.List.Elements.{All-contains, All-weaker, Contains-get_or, Contains-push_cases}
 use Rattle.indexmap.specs.IndexSet.{insert_key}
 use Rattle.ct_word.specs.contracts.values.NullPartialEq.TheImpl as null_code
-use Rattle.ct_word.{specs.declared.values.Value.Value, specs.declared.values.Null.Null, specs.declared.values.Term.Term, specs.Value.{World, same_null}, specs.Reading.{IsTerm, term_at}}
-use Rattle.ct_word.{specs.Stands.StandsAt, specs.WellFormed.IsWellFormed, proofs.Places.stands_term, proofs.Items.{first_item, later_item, item_cases, no_item, mapped_item}}
+use Rattle.ct_word.{specs.declared.values.Value.Value, specs.declared.values.Null.Null, specs.declared.values.Term.Term, specs.Value.{World, other_zero, same_null}, specs.Reading.{IsTerm, term_at}}
+use Rattle.ct_word.{specs.Stands.StandsAt, specs.WellFormed.IsWellFormed, proofs.Places.stands_term, proofs.Items.{first_item, later_item, mapped_item}}
 use Rattle.ct_worlds.{specs.declared.wishing.Wish.Wish, specs.Shape.{terms_of}, specs.Below.AreBelow}
-use Rattle.ct_worlds.specs.Repaired.{Adds, Each, IsAt, IsChanged, IsConstantBelow, IsDrawn, IsMade, IsNumbered, IsOf, IsOverTerms, IsTermBelow, IsValueOf, IsWishAt, IsWishBelow}
-use Rattle.ct_worlds.proofs.{Shaped.{shaped, term_named}, Passing.below_more, Values.compared}
+use Rattle.ct_worlds.specs.Repaired.{Adds, Each, IsAt, IsChanged, IsConstantBelow, IsDrawn, IsFrom, IsMade, IsMadeFrom, IsOf, IsOverTerms, IsSide, IsTermBelow, IsValueOf, IsWishAt, IsWishBelow}
+use Rattle.ct_worlds.proofs.{Each.{all_each, each_all}, Shaped.{below_more, shaped, term_named}, Values.compared}
 use Rattle.ct_word.specs.WellFormed.{is_place_of}
 use Rattle.ct_word.specs.declared.kinds.Class.TheVariants as class
 use Rattle.ct_word.specs.declared.values.Value.TheVariants as val
@@ -30,8 +30,27 @@ adds_none P old x h = inl h
 pub adds_twice : (P : Value → Type 0) (old mid new : List Value) → Adds P old mid → Adds P mid new → Adds P old new
 adds_twice P old mid new a b = adds_more P P old mid new a b (λ x p. p)
 
-pub adds_numbers : (words : List ℕ) (wishes : List Wish) (old mid new : List Value) → Adds (IsOf words wishes) old mid → Adds IsNumbered mid new → Adds (IsOf words wishes) old new
-adds_numbers words wishes old mid new a b = adds_more (IsOf words wishes) IsNumbered old mid new a b (λ x k. inr k)
+zero_from : (next : ℕ) (x : Value) → x ≡ other_zero → IsFrom next x
+zero_from next x e = record { number = 0; short = omega arith; from = inl refl; value = e }
+
+-- what is new from a number on is new from an earlier one on
+earlier : (n k : ℕ) (x : Value) → n ≤ k → IsFrom k x → IsFrom n x
+earlier n k x le f = record {
+  number = f.number;
+  short = f.short;
+  from = elim f.from [ inl zero ↦ inl zero | inr more ↦ inr (omega (arith, le, more)) ];
+  value = f.value;
+}
+
+pub adds_from : (n k : ℕ) (old mid new : List Value) → n ≤ k → Adds (IsFrom n) old mid → Adds (IsFrom k) mid new → Adds (IsFrom n) old new
+adds_from n k old mid new le a b = adds_more (IsFrom n) (IsFrom k) old mid new a b (λ x. earlier n k x le)
+
+pub adds_numbers : (words : List ℕ) (wishes : List Wish) (next : ℕ) (old mid new : List Value) → Adds (IsSide words wishes) old mid → Adds (IsFrom next) mid new
+    → Adds (IsOf words wishes next) old new
+adds_numbers words wishes next old mid new a b = adds_after (IsSide words wishes) (IsFrom next) (IsOf words wishes next) old mid new a b sides (λ x k. inr k) where
+  sides : (x : Value) → IsSide words wishes x → IsOf words wishes next x
+  sides x (inl s) = inl s
+  sides x (inr e) = inr (zero_from next x e)
 
 -- a key that was put in
 pub adds_key : (eq : Value → Value → Bool) (ks new : List Value) (k : Value) → new ≡ insert_key eq ks k → Adds (λ x. x ≡ k) ks new
@@ -41,14 +60,8 @@ adds_key eq ks new k e x h = by (list_any (eq k) ks) (subst (λ l. Contains l x)
   by false i = elim (Contains-push_cases ks k x i) [ inl there ↦ inl there | inr same ↦ inr (sym same) ]
 
 -- `@k` was put in
-pub adds_numbered : (k : ℕ) (old new : List Value) → k < 2 ^ 28 → Adds (λ x. x ≡ val.Other k) old new → Adds IsNumbered old new
-adds_numbered k old new lt a x h = elim (a x h) [ inl first ↦ inl first | inr e ↦ inr (record { number = k; short = lt; value = e }) ]
-
--- a clause about each answer
-pub for_some : {E : Type 0} (P Q : World → Type 0) (r : Result (Option World) E) → ((w : World) → P w → Q w) → IfOk r (λ o. IfSome o P) → IfOk r (λ o. IfSome o Q)
-for_some P Q (Ok (Some w)) f h = f w h
-for_some P Q (Ok None) f h = tt
-for_some P Q (Err e) f h = tt
+pub adds_numbered : (k : ℕ) (old new : List Value) → k < 2 ^ 28 → Adds (λ x. x ≡ val.Other k) old new → Adds (IsFrom k) old new
+adds_numbered k old new lt a x h = elim (a x h) [ inl first ↦ inl first | inr e ↦ inr (record { number = k; short = lt; from = inr (omega arith); value = e }) ]
 
 -- equalities between terms below conditions are ones between terms
 pub over_terms : (words places : List ℕ) (wishes : List Wish) → All (IsWishBelow words places) wishes → All (IsOverTerms words) wishes
@@ -56,13 +69,13 @@ over_terms words places wishes = All-weaker (IsWishBelow words places) (IsOverTe
 
 -- one more null of a draft, with its value
 pub pairs_on : (nulls : List Null) (keys : List Value) (i : ℕ) (n m : Null) (x : Value) (ps qs : World) → i < length nulls → m ≡ get_or nulls i n → qs ≡ ps ++ (m, x) ∷ []
-    → map (λ p. p.0) ps ≡ take i nulls → Each (λ p. Contains keys p.1 ⊎ IsNumbered p.1) ps → Contains keys x ⊎ IsNumbered x
-    → (map (λ p. p.0) qs ≡ take (i + 1) nulls) × Each (λ p. Contains keys p.1 ⊎ IsNumbered p.1) qs
+    → map (λ p. p.0) ps ≡ take i nulls → Each (λ p. Contains keys p.1 ⊎ (p.1 ≡ other_zero)) ps → Contains keys x ⊎ (x ≡ other_zero)
+    → (map (λ p. p.0) qs ≡ take (i + 1) nulls) × Each (λ p. Contains keys p.1 ⊎ (p.1 ≡ other_zero)) qs
 pairs_on nulls keys i n m x ps qs lt copy is before each one = (
   ap (map (λ p. p.0)) is ∙ map-append (λ p. p.0) ps ((m, x) ∷ []) ∙ (λ j. before j ++ copy j ∷ []) ∙ sym (take_more nulls i n lt),
   λ p h. elim (Contains-push_cases ps (m, x) p (subst (λ l. Contains l p) is h)) [
     | inl there ↦ each p there
-    | inr same ↦ subst (λ y. Contains keys y ⊎ IsNumbered y) (ap (λ q. q.1) same) one
+    | inr same ↦ subst (λ y. Contains keys y ⊎ (y ≡ other_zero)) (ap (λ q. q.1) same) one
   ],
 )
 
@@ -70,9 +83,6 @@ pairs_on nulls keys i n m x ps qs lt copy is before each one = (
 pub once_is : (nulls keys : List Null) (i : ℕ) (ps : World) → nulls ≡ keys → length nulls ≤ i → map (λ p. p.0) ps ≡ take i nulls → IsDistinct null_code.ghosts.eq keys
     → IsDistinct same_null (map (λ p. p.0) ps)
 once_is nulls keys i ps is le e d = subst (IsDistinct same_null) (sym (e ∙ take_all i nulls le ∙ is)) (subst (λ eq. IsDistinct eq keys) compared d)
-
-pub numbered : (k : ℕ) (x : Value) → k < 2 ^ 28 → x ≡ val.Other k → IsNumbered x
-numbered k x lt e = record { number = k; short = lt; value = e }
 
 pub put_then : (old mid new : List Value) (y z : Value) → Adds (λ x. x ≡ y) old mid → new ≡ mid → y ≡ z → Adds (λ x. x ≡ z) old new
 put_then old mid new y z a e f x h = elim (a x (subst (λ l. Contains l x) e h)) [ inl first ↦ inl first | inr is ↦ inr (is ∙ f) ]
@@ -82,7 +92,7 @@ module _ (words : List ℕ) (place : ℕ) (old new : List Value) where
   side_value t y e f a x h = elim (a x h) [ inl first ↦ inl first | inr is ↦ inr (inl (sym e ∙ f ∙ ap term.Value (sym is))) ]
 
   pub side_zero : Adds (λ x. x ≡ val.Other 0) old new → Adds (IsAt words place) old new
-  side_zero a x h = elim (a x h) [ inl first ↦ inl first | inr is ↦ inr (inr (numbered 0 x (omega arith) is)) ]
+  side_zero a x h = elim (a x h) [ inl first ↦ inl first | inr is ↦ inr (inr is) ]
 
 -- one more pair of the world was put in
 pub pairs_more : (pairs : World) (i : ℕ) (p : Null × Value) (old mid new : List Value) → i < length pairs → p ≡ get_or pairs i p → Adds (IsValueOf pairs) old mid
@@ -92,32 +102,28 @@ pairs_more pairs i p old mid new lt is a b =
     subst (λ y. Contains (map (λ q. q.1) pairs) y) (sym (e ∙ ap (λ q. q.1) is)) (mapped_item (λ q. q.1) pairs (get_or pairs i p) (Contains-get_or pairs i p lt)))
 
 -- the two sides of one more equality were put in
-pub links_more : (words : List ℕ) (wishes : List Wish) (w : Wish) (old mid one new : List Value) → Contains wishes w → Adds (IsOf words wishes) old mid
-    → Adds (IsAt words w.left) mid one → Adds (IsAt words w.right) one new → Adds (IsOf words wishes) old new
+pub links_more : (words : List ℕ) (wishes : List Wish) (w : Wish) (old mid one new : List Value) → Contains wishes w → Adds (IsSide words wishes) old mid
+    → Adds (IsAt words w.left) mid one → Adds (IsAt words w.right) one new → Adds (IsSide words wishes) old new
 links_more words wishes w old mid one new among a b c =
-    adds_more (IsOf words wishes) (IsAt words w.right) old one new (adds_more (IsOf words wishes) (IsAt words w.left) old mid one a b first) c second where
-      first : (x : Value) → IsAt words w.left x → IsOf words wishes x
+    adds_more (IsSide words wishes) (IsAt words w.right) old one new (adds_more (IsSide words wishes) (IsAt words w.left) old mid one a b first) c second where
+      first : (x : Value) → IsAt words w.left x → IsSide words wishes x
       first x (inl e) = inl (record { wish = w; among = among; is = inl e })
       first x (inr k) = inr k
 
-      second : (x : Value) → IsAt words w.right x → IsOf words wishes x
+      second : (x : Value) → IsAt words w.right x → IsSide words wishes x
       second x (inl e) = inl (record { wish = w; among = among; is = inr e })
       second x (inr k) = inr k
 
 -- the world of a draft
-pub drawn_is : (words : List ℕ) (wishes : List Wish) (old new : World) (first mid last : List Value) → ((x : Value) → Contains first x → ⊥) → Adds (IsValueOf old) first mid
-    → Adds (IsOf words wishes) mid last → Each (λ p. Contains last p.1 ⊎ IsNumbered p.1) new → IsDistinct same_null (map (λ p. p.0) new) → IsDrawn words wishes old new
-drawn_is words wishes old new first mid last none a b each once = record { values = λ p h. by p.1 (each p h); once = once } where
-  from : (x : Value) → Contains mid x → IsValueOf old x ⊎ IsOf words wishes x
+pub drawn_is : (words : List ℕ) (wishes : List Wish) (next : ℕ) (old new : World) (first mid last : List Value) → ((x : Value) → Contains first x → ⊥) → Adds (IsValueOf old) first mid
+    → Adds (IsOf words wishes next) mid last → Each (λ p. Contains last p.1 ⊎ (p.1 ≡ other_zero)) new → IsDistinct same_null (map (λ p. p.0) new) → IsDrawn words wishes next old new
+drawn_is words wishes next old new first mid last none a b each once = record { values = λ p h. by p.1 (each p h); once = once } where
+  from : (x : Value) → Contains mid x → IsValueOf old x ⊎ IsOf words wishes next x
   from x h = elim (a x h) [ inl f ↦ absurd (none x f) | inr v ↦ inl v ]
 
-  by : (x : Value) → Contains last x ⊎ IsNumbered x → IsValueOf old x ⊎ IsOf words wishes x
+  by : (x : Value) → Contains last x ⊎ (x ≡ other_zero) → IsValueOf old x ⊎ IsOf words wishes next x
   by x (inl h) = elim (b x h) [ inl m ↦ from x m | inr o ↦ inr o ]
-  by x (inr k) = inr (inr k)
-
-pub each_all : {X : Type 0} (P : X → Type 0) (xs : List X) → Each P xs → AllByRecursion P xs
-each_all P [] h = tt
-each_all P (x ∷ xs) h = (h x (first_item xs x), each_all P xs (λ y i. h y (later_item xs x y i)))
+  by x (inr e) = inr (inr (zero_from next x e))
 
 module _ (words places : List ℕ) where
   -- a constant at a place of a term below the conditions
@@ -128,9 +134,19 @@ module _ (words places : List ℕ) where
     below = (s, t.below, subst (λ u. StandsAt words s (IsTerm u)) e (stands_term words s t.placed));
   }
 
-  pub changed_is : (wishes : List Wish) (old new : World) → All (IsWishBelow words places) wishes → IsDrawn words wishes old new → IsChanged words places old new
-  changed_is wishes old new are d = record { values = each_all (λ p. IsMade words places old p.1) new (λ p h. by p.1 (d.values p h)); once = d.once } where
-    by : (x : Value) → IsValueOf old x ⊎ IsOf words wishes x → IsMade words places old x
+  -- what is new from a number on is new
+  made_from : (next : ℕ) (old : World) (x : Value) → IsMadeFrom words places next old x → IsMade words places old x
+  made_from next old x (inl v) = inl v
+  made_from next old x (inr (inl c)) = inr (inl c)
+  made_from next old x (inr (inr f)) = inr (inr (record { number = f.number; short = f.short; value = f.value }))
+
+  pub changed_values : (next : ℕ) (old new : World) → IsChanged words places next old new → AllByRecursion (λ p. IsMade words places old p.1) new
+  changed_values next old new is =
+      each_all (λ p. IsMade words places old p.1) new (λ p h. made_from next old p.1 (all_each (λ q. IsMadeFrom words places next old q.1) new p is.values h))
+
+  pub changed_is : (wishes : List Wish) (next : ℕ) (old new : World) → All (IsWishBelow words places) wishes → IsDrawn words wishes next old new → IsChanged words places next old new
+  changed_is wishes next old new are d = record { values = each_all (λ p. IsMadeFrom words places next old p.1) new (λ p h. by p.1 (d.values p h)); once = d.once } where
+    by : (x : Value) → IsValueOf old x ⊎ IsOf words wishes next x → IsMadeFrom words places next old x
     by x (inl v) = inl v
     by x (inr (inr k)) = inr (inr k)
     by x (inr (inl s)) =
@@ -147,10 +163,3 @@ module _ (words places : List ℕ) where
         record { root = r.root; among = r.among; below = below_more words r.root p w.left left.word r.below left.there left.among; placed = terms.0 },
         record { root = r.root; among = r.among; below = below_more words r.root p w.right right.word r.below right.there right.among; placed = terms.1.0 },
       )
-
--- each of items that pass a test passes it
-pub each_passes : {X : Type 0} (test : X → Bool) (ps : List X) → list_all test ps ≡ true → (p : X) → Contains ps p → test p ≡ true
-each_passes test [] e p h = absurd (no_item p h)
-each_passes test (q ∷ ps) e p h =
-    let parts = and_parts (test q) (list_all test ps) e in
-    elim (item_cases ps q p h) [ inl same ↦ subst (λ x. test x ≡ true) same parts.0 | inr later ↦ each_passes test ps parts.1 p later ]

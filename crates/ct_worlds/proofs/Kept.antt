@@ -1,10 +1,9 @@
 -- The truth of conditions by those of their parts.
 use Rattle.std.proofs.Common.{◌≡◌, ℕ, zero, suc, ◌+◌, ◌<◌, ◌≤◌, Bool, true, false, cond, not, List, [], ◌∷◌, ◌++◌, length, take, get_or, nat_eq, nat_cmp, refl, ap, sym, subst, ◌∙◌, arith, inl, inr}
 use Rattle.std.{specs.Prelude.{Contains, Result, Ok, Err, MatchResult}, specs.List.Sorted.IsBinarySearchResult, proofs.lemmas.Bool.{cases_lt, eq-eqb, eqb-true}, proofs.lemmas.List.Sorted.searched}
-use Rattle.std.{proofs.lemmas.List.Elements.{Contains-get_or, Contains-push_cases}, proofs.lemmas.List.{take_more, get_or_default, get_or-take, get_or_push, get_or_append_left, length-take}}
-use Rattle.ct_word.{specs.Value.World, specs.Condition.holds_at, specs.Reading.condition_at, specs.WellFormed.{IsWellFormed}, specs.Connective.join, proofs.Joins.joined_holds, proofs.Items.{first_item, later_item}}
-use Rattle.ct_worlds.{specs.declared.shape.Shape.Shape, specs.Shape.{IsShaped, literal, parts_of}, specs.Below.AreBelow, specs.Truths.{AreRising, HaveTruths, found, truth_by, ArePartsFirst}}
-use Rattle.ct_worlds.proofs.{Listed.{part_listed, listed_before}, Shaped.part_earlier}
+use Rattle.std.{proofs.lemmas.List.Elements.Contains-push_cases, proofs.lemmas.List.{take_more, get_or_default, get_or-take, get_or_push, get_or_append_left, length-take}}
+use Rattle.ct_word.{specs.Value.World, specs.Condition.holds_at, specs.Reading.condition_at, specs.Connective.join, proofs.Joins.joined_holds, proofs.Items.{first_item, later_item}}
+use Rattle.ct_worlds.{specs.declared.shape.Shape.Shape, specs.Shape.{IsShaped, literal, parts_of}, specs.Truths.{AreRising, HaveTruths, found, truth_by}}
 use Rattle.ct_worlds.specs.declared.shape.Shape.TheVariants as shape
 
 literal_holds : (v : World) (b : Bool) → b ≡ holds_at v (literal b)
@@ -73,22 +72,3 @@ truths_more words v places ps i known more b up same_places lt long is pushed so
       | inr same ↦
           found_at places (known ++ b ∷ []) i p up lt same ∙ get_or_push known b false i (omega (arith, long)) ∙ is ∙ ap (λ x. holds_at v (condition_at words x)) same
     ]
-
--- an item before a place is among the first ones
-in_front : (xs : List ℕ) (i j q : ℕ) → j < i → j < length xs → get_or xs j q ≡ q → Contains (take i xs) q
-in_front xs i j q lt within e = (j, omega (arith, length-take i xs, lt, within), get_or-take i xs j q lt ∙ e)
-
--- the places below roots come after their parts
-pub parts_first : (words roots places : List ℕ) → IsWellFormed words → AreBelow words roots places → ArePartsFirst words places
-parts_first words roots places formed are = record {
-  rising = are.rising;
-  each = λ p h. (are.each p h).condition;
-  parts = λ i d q lt h.
-      let place = get_or places i d in
-      let listed = Contains-get_or places i d lt in
-      let there = part_listed words roots places are formed place q listed h in
-      let e : get_or places there.0 d ≡ q = get_or_default places there.0 d q there.1 ∙ there.2 in
-      let under = (part_earlier words place q formed (are.each place listed).condition h).below in
-      let earlier = listed_before words roots places are there.0 i d there.1 lt (omega (arith, under, e)) in
-      in_front places i there.0 q earlier there.1 there.2;
-}

@@ -1,12 +1,9 @@
 pub mod Shaped
 mod Passing
-pub mod Runs
-mod Steps
-mod Agreed
+pub mod Agreed
 mod Noting
-mod Entries
-mod Near
+pub mod Each
 pub mod Listed
 mod Values
 mod Kept
-mod Drawing
+pub mod Drawing

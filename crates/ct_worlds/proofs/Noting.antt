@@ -1,16 +1,14 @@
 -- The nulls below conditions, as they are noted.
-use Rattle.std.proofs.Common.{◌≡◌, ◌≢◌, ◌⊎◌, ℕ, zero, suc, ◌+◌, ◌<◌, Bool, true, false, not, ◌||◌, List, [], ◌∷◌, ◌++◌, length, take, get_or, nat_eq, refl, ap, sym, ◌∙◌, subst, arith, inl, inr, if◌then◌else◌}
-use Rattle.std.{specs.Prelude.{IsTrue, Contains, slice_get}, specs.List.{list_any}, specs.Ordering.{nat_cmp, is_eq}, specs.BTreeSet.{BTreeSet, Updates}, proofs.lemmas.Bool.{cases_eq, false≢true, or_cases, or_left, or_right}, proofs.lemmas.List.{take_more}, proofs.lemmas.List.Folds.list_any-append}
+use Rattle.std.proofs.Common.{◌≡◌, ◌≢◌, ◌⊎◌, ℕ, zero, suc, ◌+◌, ◌<◌, Bool, true, false, ◌||◌, List, [], ◌∷◌, ◌++◌, length, take, get_or, refl, ap, sym, ◌∙◌, subst, inl, inr, if◌then◌else◌}
+use Rattle.std.{specs.Prelude.{IsTrue, Contains}, specs.List.{list_any}, specs.Ordering.{nat_cmp}, specs.BTreeSet.{BTreeSet, Updates}, proofs.lemmas.Bool.{cases_eq, false≢true, or_cases, or_left, or_right}, proofs.lemmas.List.{take_more}, proofs.lemmas.List.Folds.list_any-append}
 use Rattle.indexmap.specs.IndexSet.{insert_key}
-use Rattle.std.proofs.lemmas.List.Elements.{Contains-push_cases}
-use Rattle.ct_word.{specs.Constant.is_constant_word, proofs.Constants.constant_stands, specs.declared.values.Value.Value}
-use Rattle.ct_word.{specs.declared.values.Null.Null, specs.declared.values.Term.Term, specs.Value.{same_null}, specs.Reading.{as_term, condition_at, term_at}, specs.Stands.TermBelow, specs.WellFormed.{IsWellFormed, is_place_of}}
+use Rattle.std.proofs.lemmas.List.Elements.{Contains-get_or, Contains-push_cases}
+use Rattle.ct_word.{specs.declared.values.Null.Null, specs.Value.{same_null}, specs.Reading.{as_term, term_at}, specs.Stands.TermBelow, specs.WellFormed.{IsWellFormed}}
 use Rattle.ct_word.{proofs.Alike.null_decides, proofs.Items.{first_item, item_cases, later_item, no_item}}
-use Rattle.ct_worlds.{specs.declared.nulls.Nulls.Nulls, specs.Gathering.has, specs.Shape.{parts_at, shape_at, terms_of}, specs.Truths.ArePartsFirst}
-use Rattle.ct_worlds.specs.Nulls.{AreNulls, AreNullsBelow, HasNulls, HasTerms, IsNullAt, KeepsNulls, has_null}
-use Rattle.ct_worlds.proofs.{Passing.not_at, Shaped.{term_below}}
+use Rattle.ct_worlds.{specs.declared.nulls.Nulls.Nulls, specs.Gathering.has, specs.Shape.{parts_at}, specs.Truths.ArePartsFirst}
+use Rattle.ct_worlds.specs.Nulls.{AddsNulls, AreNulls, AreNullsBelow, HasTerms, IsNullAt, IsNullBelow, KeepsNulls, has_null}
+use Rattle.ct_worlds.proofs.{Passing.not_at, Shaped.term_below}
 use Rattle.ct_word.specs.declared.values.Term.TheVariants as term
-use Rattle.ct_word.specs.declared.kinds.Class.TheVariants as class
 
 any_same : (n m : Null) (ns : List Null) → list_any (same_null m) (ns ++ n ∷ []) ≡ (list_any (same_null m) ns || (same_null m n || false))
 any_same n m ns = list_any-append (same_null m) ns (n ∷ [])
@@ -102,8 +100,17 @@ noted_more words places i old new lt keeps before here e h = elim (Contains-push
   | inr same ↦ subst (λ x. HasTerms words x new) same here
 ]
 
--- a constant is no null
-pub constant_no_null : (words : List ℕ) (place : ℕ) (n : Null) → IsWellFormed words → is_constant_word (slice_get words place) ≡ true → term_at words place ≡ term.Null n → ⊥
-constant_no_null words place n formed is e = apart (sym (constant_stands words formed [] place is) ∙ e) where
-  apart : {x : Value} → term.Value x ≡ term.Null n → ⊥
-  apart f = cc
+-- those of one more condition stand below the conditions, too
+pub only_more : (words places : List ℕ) (i : ℕ) (old new : Nulls) → i < length places → ((n : Null) → IsTrue (has_null old.listed.keys n) → IsNullBelow words places n)
+    → AddsNulls (λ n. TermBelow words (get_or places i 0) (term.Null n)) old new → (n : Null) → IsTrue (has_null new.listed.keys n) → IsNullBelow words places n
+only_more words places i old new lt before adds n h = elim (adds n h) [
+  | inl there ↦ before n there
+  | inr below ↦ record { root = get_or places i 0; among = Contains-get_or places i 0 lt; below = below }
+]
+
+-- a null was put in, or was there
+pub key_added : (old new : Nulls) (n : Null) (P : Null → Type 0) → new.listed.keys ≡ insert_key same_null old.listed.keys n → P n → AddsNulls P old new
+key_added old new n P keys is m h = elim (keyed_cases old.listed.keys n m (subst (λ l. IsTrue (has_null l m)) keys h)) [
+  | inl there ↦ inl there
+  | inr same ↦ inr (subst P (sym same) is)
+]

@@ -1,10 +1,10 @@
 -- The walk down from roots, the greatest place first.
-use Rattle.std.proofs.Common.{◌≡◌, ◌≢◌, ◌⊎◌, ℕ, zero, suc, ◌<◌, ◌≤◌, Bool, true, false, List, [], ◌∷◌, length, nat_eq, Some, get_or, ap, sym, ◌∙◌, subst, arith, inl, inr}
-use Rattle.std.{specs.Prelude.{IsTrue, Contains, slice_get}, specs.List.list_any, specs.Ordering.{nat_cmp, is_eq}, specs.BTreeSet.{BTreeSet, Updates, IsUpperBound}, specs.Cmp.nat_cmp_is}
+use Rattle.std.proofs.Common.{◌≡◌, ◌≢◌, ◌⊎◌, ℕ, zero, suc, ◌<◌, ◌≤◌, Bool, true, false, List, [], ◌∷◌, length, nat_eq, get_or, ap, sym, ◌∙◌, subst, arith, inl, inr}
+use Rattle.std.{specs.Prelude.{IsTrue, Contains}, specs.List.list_any, specs.Ordering.{nat_cmp, is_eq}, specs.BTreeSet.{BTreeSet, Updates, IsUpperBound}, specs.Cmp.nat_cmp_is}
 use Rattle.std.{specs.declared.cmp.Ordering.TheVariants.{Less, Greater}, proofs.lemmas.Map.Keys.ge_from_not_lt, proofs.lemmas.List.Elements.Contains-get_or}
 use Rattle.std.proofs.lemmas.Bool.{or_left, or_right, or_cases, eq-eqb, eqb-true, false≢true, cases_lt, cases_eq}
-use Rattle.ct_word.{specs.WellFormed.{IsWellFormed, is_place_of}, specs.Stands.{Below, itself, through, places_of}, proofs.Items.{first_item, later_item, item_cases, no_item}, proofs.Growth.place_within}
-use Rattle.ct_worlds.{specs.Shape.parts_at, specs.Below.{IsReached, AreBelow}, specs.Gathering.{has, AreAdded, IsSeen, IsPassedTo}, proofs.Shaped.{part_earlier, part_named, conditions_below}}
+use Rattle.ct_word.{specs.WellFormed.{IsWellFormed, is_place_of}, specs.Stands.{itself}, proofs.Items.{first_item, later_item, item_cases, no_item}, proofs.Growth.place_within}
+use Rattle.ct_worlds.{specs.Shape.parts_at, specs.Below.{IsReached, AreBelow}, specs.Gathering.{has, AreAdded, IsSeen, IsPassedTo}, proofs.Shaped.{below_more, part_earlier, part_named, conditions_below}}
 use Rattle.ct_word.specs.declared.kinds.Class.TheVariants as class
 
 any_of : (ks : List ℕ) (q : ℕ) → Contains ks q → list_any (nat_eq q) ks ≡ true
@@ -41,10 +41,6 @@ taken old mid place here top update = record {
   gone = update.1;
   others = λ q ne. update.2 q (not_at place q ne);
 }
-
-pub below_more : (ws : List ℕ) (p q r w : ℕ) → Below ws p q → slice_get ws q ≡ Some w → Contains (places_of w) r → Below ws p r
-below_more ws p q r w (itself {p = x}) at h = through w r at h itself
-below_more ws p q r w (through v m first_at among rest) at h = through v m first_at among (below_more ws m q r w rest at h)
 
 module _ (words roots : List ℕ) (formed : IsWellFormed words) where
   pub passing_starts : (bound : ℕ) (old new : ℕ → Bool) → bound ≡ length words → ((p : ℕ) → Contains roots p → is_place_of words class.Cond p ≡ true)

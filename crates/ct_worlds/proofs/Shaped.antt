@@ -4,10 +4,12 @@ use Rattle.std.{specs.Prelude.{IsTrue, slice_get, Option, Contains}, proofs.lemm
 use Rattle.ct_word.{specs.declared.kinds.Kind.Kind, specs.declared.kinds.Class.Class, specs.Word.{kind_of, left_of, right_of}, specs.Reading.as_cond, specs.WordAt.{IsWordAt, IsFieldAt}}
 use Rattle.ct_word.specs.WellFormed.{Field, PlaceOf, IsWellFormed, is_place_of, is_word_of, has_class, same_class, class_of, fields_of}
 use Rattle.ct_word.{specs.Stands.{Below, StandsAt, itself, through, class_of_meaning, place_in, places_in, places_of}, proofs.WordAt.{word_is, has_kind}, proofs.Items.{item_cases, no_item, sole_item}}
-use Rattle.ct_word.{specs.declared.values.Term.Term, specs.Reading.IsTerm, proofs.Places.meaning_of_class, proofs.Splits.some-injective}
+use Rattle.ct_word.{specs.declared.values.{Null.Null, Term.Term, Value.Value}, specs.Constant.is_constant_word, specs.Reading.{IsTerm, term_at}, specs.Stands.TermBelow}
+use Rattle.ct_word.proofs.{Constants.constant_stands, Places.{meaning_of_class, stands_term}, Splits.some-injective}
 use Rattle.ct_worlds.{specs.declared.shape.Shape.Shape, specs.Shape.{shape_of, shape_of_word, shape_at, parts_of, parts_at, terms_of, IsEarlier, IsShaped}}
 use Rattle.ct_word.specs.declared.kinds.Kind.TheVariants as kind
 use Rattle.ct_word.specs.declared.kinds.Class.TheVariants as class
+use Rattle.ct_word.specs.declared.values.Term.TheVariants as term
 
 module _ (ws : List ℕ) (p : ℕ) where
   earlier : (a : ℕ) → (a < p) × IsTrue (is_place_of ws class.Cond a) → IsEarlier ws p a
@@ -263,3 +265,20 @@ module _ (ws : List ℕ) where
             let same = only_term q r t formed rest (term_placed ws p q formed (closed.are p h) term) stands in
             (p, h, subst (Contains (terms_of (shape_at ws p))) same term)
       ]
+
+-- what a condition below a place names stands below that place
+pub below_more : (ws : List ℕ) (p q r w : ℕ) → Below ws p q → slice_get ws q ≡ Some w → Contains (places_of w) r → Below ws p r
+below_more ws p q r w (itself {p = x}) at h = through w r at h itself
+below_more ws p q r w (through v m first_at among rest) at h = through v m first_at among (below_more ws m q r w rest at h)
+
+-- a term that a condition names stands below it
+pub term_stands : (ws : List ℕ) (p s : ℕ) (t : Term) → IsWellFormed ws → IsTrue (is_place_of ws class.Cond p) → Contains (terms_of (shape_at ws p)) s → term_at ws s ≡ t → TermBelow ws p t
+term_stands ws p s t formed placed h e =
+    let named = term_named ws p s h in
+    subst (TermBelow ws p) e (s, through named.word s named.there named.among itself, stands_term ws s (term_placed ws p s formed placed h))
+
+-- a constant is no null
+pub constant_no_null : (words : List ℕ) (place : ℕ) (n : Null) → IsWellFormed words → is_constant_word (slice_get words place) ≡ true → term_at words place ≡ term.Null n → ⊥
+constant_no_null words place n formed is e = apart (sym (constant_stands words formed [] place is) ∙ e) where
+  apart : {x : Value} → term.Value x ≡ term.Null n → ⊥
+  apart f = cc

@@ -4,6 +4,4 @@ pub mod Gathering
 pub mod Valuation
 pub mod Truths
 pub mod Repaired
-pub mod Conjuncts
-pub mod Walks
 pub mod Nulls

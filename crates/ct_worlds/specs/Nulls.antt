@@ -1,5 +1,5 @@
 -- The nulls below conditions, and the parts of a world by them.
-use Rattle.std.specs.Prelude.{◌≡◌, ℕ, Bool, true, not, List, ◌++◌, filter, IsTrue, Contains}
+use Rattle.std.specs.Prelude.{◌≡◌, ◌⊎◌, ℕ, Bool, List, filter, IsTrue, Contains}
 use Rattle.std.specs.List.{list_any}
 use Rattle.ct_word.specs.declared.kinds.Class.TheVariants as class
 use Rattle.ct_word.specs.declared.values.Null.{Null}
@@ -30,6 +30,10 @@ pub record AreNulls (words : List ℕ) (nulls : Nulls) : Type 0 where
 abbrev pub KeepsNulls : Nulls → Nulls → Type 0
 KeepsNulls old new = (n : Null) → IsTrue (has_null old.listed.keys n) → IsTrue (has_null new.listed.keys n)
 
+-- each null was there, or is such a one
+abbrev pub AddsNulls : (Null → Type 0) → Nulls → Nulls → Type 0
+AddsNulls P old new = (n : Null) → IsTrue (has_null new.listed.keys n) → IsTrue (has_null old.listed.keys n) ⊎ P n
+
 -- the null at a place is among them, if there is one
 abbrev pub HasNulls : List ℕ → ℕ → Nulls → Type 0
 HasNulls words place nulls = (n : Null) → term_at words place ≡ term.Null n → IsTrue (has_null nulls.listed.keys n)
@@ -42,14 +46,12 @@ HasTerms words place nulls = (q : ℕ) → Contains (terms_of (shape_at words pl
 abbrev pub AreNullsBelow : List ℕ → List ℕ → Nulls → Type 0
 AreNullsBelow words places nulls = (p : ℕ) (n : Null) → Contains places p → TermBelow words p (term.Null n) → IsTrue (has_null nulls.listed.keys n)
 
+-- a null that stands below one of these places
+pub record IsNullBelow (words places : List ℕ) (n : Null) : Type 0 where
+  pub root : ℕ
+  pub among : Contains places root
+  pub below : TermBelow words root (term.Null n)
+
 -- the pairs of a world with these nulls
 abbrev pub part_of : List Null → World → World
 part_of ns v = filter (λ p. has_null ns p.0) v
-
--- and those with others
-abbrev pub rest_of : List Null → World → World
-rest_of ns v = filter (λ p. not (has_null ns p.0)) v
-
--- a world in which these nulls have the values of another one
-abbrev pub laid_over : List Null → World → World → World
-laid_over ns v w = rest_of ns v ++ part_of ns w

@@ -1,5 +1,5 @@
 -- Worlds that are made from another so that conditions hold.
-use Rattle.std.specs.Prelude.{◌≡◌, ◌⊎◌, ◌<◌, ◌^◌, ℕ, true, false, List, map, Contains, IsTrue}
+use Rattle.std.specs.Prelude.{◌≡◌, ◌⊎◌, ◌<◌, ◌≤◌, ◌^◌, ℕ, true, List, map, Contains, IsTrue}
 use Rattle.std.specs.List.{AllByRecursion, IsDistinct}
 use Rattle.ct_word.specs.declared.kinds.Class.TheVariants as class
 use Rattle.ct_word.specs.declared.values.Value.{Value}
@@ -8,9 +8,7 @@ use Rattle.ct_word.specs.declared.values.Term.TheVariants as term
 use Rattle.ct_word.specs.Condition.{holds_at}
 use Rattle.ct_word.specs.Reading.{condition_at, term_at}
 use Rattle.ct_word.specs.Stands.{Below, TermBelow}
-use Rattle.ct_word.specs.Value.{World, same_null, value_of_null}
-use Rattle.ct_word.specs.declared.values.Null.{Null}
-use Rattle.ct_worlds.specs.Nulls.{has_null}
+use Rattle.ct_word.specs.Value.{World, other_zero, same_null}
 use Rattle.ct_word.specs.WellFormed.{is_place_of}
 use Rattle.ct_worlds.specs.declared.shape.Shape.TheVariants as shape
 use Rattle.ct_worlds.specs.declared.wishing.Wish.{Wish}
@@ -28,6 +26,13 @@ pub record IsNumbered (x : Value) : Type 0 where
   pub short : number < 2 ^ 28
   pub value : x ≡ val.Other number
 
+-- one of the values `@k` with k below 2^28, and not below next unless it is `@0`
+pub record IsFrom (next : ℕ) (x : Value) : Type 0 where
+  pub number : ℕ
+  pub short : number < 2 ^ 28
+  pub from : (number ≡ 0) ⊎ (next ≤ number)
+  pub value : x ≡ val.Other number
+
 -- a value of a world
 abbrev pub IsValueOf : World → Value → Type 0
 IsValueOf v x = Contains (map (λ p. p.1) v) x
@@ -36,17 +41,15 @@ IsValueOf v x = Contains (map (λ p. p.1) v) x
 abbrev pub IsMade : List ℕ → List ℕ → World → Value → Type 0
 IsMade words places v x = IsValueOf v x ⊎ (IsConstantBelow words places x ⊎ IsNumbered x)
 
+-- a value of the world, a constant that stands below one of the places, or `@k` from a number on
+abbrev pub IsMadeFrom : List ℕ → List ℕ → ℕ → World → Value → Type 0
+IsMadeFrom words places next v x = IsValueOf v x ⊎ (IsConstantBelow words places x ⊎ IsFrom next x)
+
 -- a world at which the conditions hold, with values of the old one, constants below the conditions and values `@k`, and no null twice
 pub record IsRepaired (words places : List ℕ) (old new : World) : Type 0 where
   pub holds : (c : ℕ) → Contains places c → holds_at new (condition_at words c) ≡ true
   pub values : AllByRecursion (λ p. IsMade words places old p.1) new
   pub once : IsDistinct same_null (map (λ p. p.0) new)
-
--- the same, but that no null stands twice in it where none does in the old one
-pub record IsRepairedNear (words places : List ℕ) (old new : World) : Type 0 where
-  pub holds : (c : ℕ) → Contains places c → holds_at new (condition_at words c) ≡ true
-  pub values : AllByRecursion (λ p. IsMade words places old p.1) new
-  pub once : IsDistinct same_null (map (λ p. p.0) old) → IsDistinct same_null (map (λ p. p.0) new)
 
 -- the equality at a place
 abbrev pub IsWishAt : List ℕ → ℕ → Wish → Type 0
@@ -73,13 +76,17 @@ pub record IsSideOf (words : List ℕ) (wishes : List Wish) (x : Value) : Type 0
   pub among : Contains wishes wish
   pub is : (term_at words wish.left ≡ term.Value x) ⊎ (term_at words wish.right ≡ term.Value x)
 
--- such a constant, or `@k`
-abbrev pub IsOf : List ℕ → List Wish → Value → Type 0
-IsOf words wishes x = IsSideOf words wishes x ⊎ IsNumbered x
+-- such a constant, or `@0`
+abbrev pub IsSide : List ℕ → List Wish → Value → Type 0
+IsSide words wishes x = IsSideOf words wishes x ⊎ (x ≡ other_zero)
 
--- the term at a place is this constant, or it is `@k`
+-- such a constant, or `@k` from a number on
+abbrev pub IsOf : List ℕ → List Wish → ℕ → Value → Type 0
+IsOf words wishes next x = IsSideOf words wishes x ⊎ IsFrom next x
+
+-- the term at a place is this constant, or it is `@0`
 abbrev pub IsAt : List ℕ → ℕ → Value → Type 0
-IsAt words place x = (term_at words place ≡ term.Value x) ⊎ IsNumbered x
+IsAt words place x = (term_at words place ≡ term.Value x) ⊎ (x ≡ other_zero)
 
 -- each of these
 abbrev pub Each : {X : Type 0} → (X → Type 0) → List X → Type 0
@@ -89,19 +96,12 @@ Each {X} P xs = (x : X) → Contains xs x → P x
 abbrev pub Adds : (Value → Type 0) → List Value → List Value → Type 0
 Adds P old new = (x : Value) → Contains new x → Contains old x ⊎ P x
 
--- a world with values of another one, constants of the equalities and values `@k`, and no null twice
-pub record IsDrawn (words : List ℕ) (wishes : List Wish) (old new : World) : Type 0 where
-  pub values : Each (λ p. IsValueOf old p.1 ⊎ IsOf words wishes p.1) new
+-- a world with values of another one, constants of the equalities and values `@k` from a number on, and no null twice
+pub record IsDrawn (words : List ℕ) (wishes : List Wish) (next : ℕ) (old new : World) : Type 0 where
+  pub values : Each (λ p. IsValueOf old p.1 ⊎ IsOf words wishes next p.1) new
   pub once : IsDistinct same_null (map (λ p. p.0) new)
 
--- a repaired world, whether or not the conditions hold in it
-pub record IsChanged (words places : List ℕ) (old new : World) : Type 0 where
-  pub values : AllByRecursion (λ p. IsMade words places old p.1) new
+-- a repaired world, whether or not the conditions hold in it, whose new values are `@0` and `@k` from a number on
+pub record IsChanged (words places : List ℕ) (next : ℕ) (old new : World) : Type 0 where
+  pub values : AllByRecursion (λ p. IsMadeFrom words places next old p.1) new
   pub once : IsDistinct same_null (map (λ p. p.0) new)
-
--- conditions hold in a world of which these nulls alone have other values than in the old one
-pub record IsChangedPart (words places : List ℕ) (nulls : List Null) (old new : World) : Type 0 where
-  pub holds : (c : ℕ) → Contains places c → holds_at new (condition_at words c) ≡ true
-  pub others : (n : Null) → has_null nulls n ≡ false → value_of_null new n ≡ value_of_null old n
-  pub values : AllByRecursion (λ p. IsMade words places old p.1) new
-  pub once : IsDistinct same_null (map (λ p. p.0) old) → IsDistinct same_null (map (λ p. p.0) new)

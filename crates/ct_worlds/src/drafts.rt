@@ -1,12 +1,12 @@
 // A world in the making.
 
-ghost use Rattle.std.specs.Prelude.{◌≡◌, ◌⊎◌, ◌<◌, ◌^◌, All, Contains, IfOk, IfSome, IsTrue, OnOk, map};
+ghost use Rattle.std.specs.Prelude.{◌≡◌, ◌⊎◌, ◌<◌, ◌≤◌, ◌^◌, All, Contains, IfOk, IfSome, IsTrue, OnOk, map};
 ghost use Rattle.ct_word.specs.declared.kinds.Class.TheVariants as class;
 ghost use Rattle.std.specs.List.{IsDistinct};
 ghost use Rattle.ct_word.specs.Value.{other_zero, same_null};
 ghost use Rattle.ct_word.specs.declared.values.Value.{Value};
 ghost use Rattle.ct_word.specs.WellFormed.{IsWellFormed, is_place_of};
-ghost use Rattle.ct_worlds.specs.Repaired.{Adds, Each, IsAt, IsDrawn, IsNumbered, IsOf, IsOverTerms, IsValueOf};
+ghost use Rattle.ct_worlds.specs.Repaired.{Adds, Each, IsAt, IsDrawn, IsFrom, IsOf, IsOverTerms, IsSide, IsValueOf};
 
 use crate::classes::{Classes, Side, no_classes};
 use crate::reads::slot_of;
@@ -24,8 +24,6 @@ pub(crate) struct Draft {
     classes: Classes,
     /// The number of `@0`, once it is put in.
     zero: Option<usize>,
-    /// The least k for which `@k` was not yet tried as a new value.
-    next: u32,
 }
 
 /// What two terms are in a draft, and whether they are to be equal or different.
@@ -156,7 +154,7 @@ fn links(
 ) -> Result<Vec<Link>, Memory>
     requires formed { IsWellFormed words.now }
     requires terms { All (IsOverTerms words.now) wishes.now }
-    ensures { OnOk result (Adds (IsOf words.now wishes.now) draft.old.values.keys draft.new.values.keys) }
+    ensures { OnOk result (Adds (IsSide words.now wishes.now) draft.old.values.keys draft.new.values.keys) }
 {
     let mut sides = no_sides(alloc, wishes.len())?;
     let mut links = Vec::with_capacity(alloc, wishes.len())?;
@@ -186,33 +184,34 @@ fn unite_all(classes: &mut Classes, links: &[Link]) -> bool {
 /// The number of the value `@k`, which is put in where it is not there, and whether it was not.
 fn put_other(draft: &mut Draft, k: u32) -> Result<(usize, bool), Memory>
     requires { k < 2 ^ 28 }
-    ensures { OnOk result (Adds IsNumbered draft.old.values.keys draft.new.values.keys) }
+    ensures { OnOk result (Adds (IsFrom k) draft.old.values.keys draft.new.values.keys) }
 {
     let number = put_value(draft, Value::Other(k))?;
     Ok(number)
 }
 
-/// The number of a value `@k` that no null has; none where all are taken.
-#[tactic(auto, using(crate::proofs::Drawing::adds_twice))]
-fn new_number(draft: &mut Draft) -> Result<Option<usize>, Memory>
-    ensures { OnOk result (Adds IsNumbered draft.old.values.keys draft.new.values.keys) }
+/// The number of a value `@k` that no null has; none where all are taken. The next one is the least k that was not yet tried.
+fn new_number(draft: &mut Draft, next: &mut u32) -> Result<Option<usize>, Memory>
+    ensures values { OnOk result (Adds (IsFrom next.old) draft.old.values.keys draft.new.values.keys) }
+    ensures next { OnOk result (next.old ≤ next.new) }
 {
-    let mut k = draft.next;
+    let mut k = *next;
     while k < VALUES {
         let (number, is_new) = put_other(draft, k)?;
         k += 1;
         if is_new {
-            draft.next = k;
+            *next = k;
             return Ok(Some(number));
         }
     }
-    draft.next = k;
+    *next = k;
     Ok(None)
 }
 
 /// Gives the two sides of an equality that is to be false different values; false where that cannot be.
-fn part(draft: &mut Draft, link: Link) -> Result<bool, Memory>
-    ensures { OnOk result (Adds IsNumbered draft.old.values.keys draft.new.values.keys) }
+fn part(draft: &mut Draft, link: Link, next: &mut u32) -> Result<bool, Memory>
+    ensures values { OnOk result (Adds (IsFrom next.old) draft.old.values.keys draft.new.values.keys) }
+    ensures next { OnOk result (next.old ≤ next.new) }
 {
     let (first, second) = (link.first, link.second);
     if link.is_equal || draft.classes.number_of(first) != draft.classes.number_of(second) {
@@ -222,20 +221,21 @@ fn part(draft: &mut Draft, link: Link) -> Result<bool, Memory>
     let Some(chief) = free.or(draft.classes.free_chief(first)) else {
         return Ok(false);
     };
-    let Some(number) = new_number(draft)? else {
+    let Some(number) = new_number(draft, next)? else {
         return Ok(false);
     };
     draft.classes.give(chief, number, false);
     Ok(true)
 }
 
-/// Gives the two sides of each equality that is to be false different values; false where that cannot be.
-#[tactic(auto, using(crate::proofs::Drawing::adds_twice))]
-fn part_all(draft: &mut Draft, links: &[Link]) -> Result<bool, Memory>
-    ensures { OnOk result (Adds IsNumbered draft.old.values.keys draft.new.values.keys) }
+/// Gives the two sides of each equality that is to be false different values, the new ones `@k` from this k on; false where
+/// that cannot be.
+fn part_all(draft: &mut Draft, links: &[Link], from: u32) -> Result<bool, Memory>
+    ensures { OnOk result (Adds (IsFrom from) draft.old.values.keys draft.new.values.keys) }
 {
+    let mut next = from;
     for link in links {
-        if !part(draft, *link)? {
+        if !part(draft, *link, &mut next)? {
             return Ok(false);
         }
     }
@@ -244,7 +244,7 @@ fn part_all(draft: &mut Draft, links: &[Link]) -> Result<bool, Memory>
 
 /// The value with a number; `@0` where there is none.
 fn value_with(values: &IndexSet<Value>, number: usize) -> Result<Value, Memory>
-    ensures { IfOk result (λ x. Contains values.now.keys x ⊎ IsNumbered x) }
+    ensures { IfOk result (λ x. Contains values.now.keys x ⊎ (x ≡ other_zero)) }
 {
     match values.get_index(number) {
         Some(value) => Ok(value.clone()?),
@@ -255,7 +255,7 @@ fn value_with(values: &IndexSet<Value>, number: usize) -> Result<Value, Memory>
 /// The nulls of a draft with their values.
 fn pairs_of(alloc: Global, draft: &Draft) -> Result<Vec<(Null, Value)>, Memory>
     ensures once { IfOk result (λ ps. IsDistinct same_null (map (λ p. p.0) ps.items)) }
-    ensures values { IfOk result (λ ps. Each (λ p. Contains draft.now.values.keys p.1 ⊎ IsNumbered p.1) ps.items) }
+    ensures values { IfOk result (λ ps. Each (λ p. Contains draft.now.values.keys p.1 ⊎ (p.1 ≡ other_zero)) ps.items) }
 {
     let nulls = draft.nulls.as_slice();
     let mut pairs = Vec::with_capacity(alloc, nulls.len())?;
@@ -266,23 +266,30 @@ fn pairs_of(alloc: Global, draft: &Draft) -> Result<Vec<(Null, Value)>, Memory>
     Ok(pairs)
 }
 
-/// Gives each null of the wishes a value with which they come true; false where that cannot be.
+/// Gives each null of the wishes a value with which they come true, the new ones `@k` from this k on; false where that cannot
+/// be.
 #[tactic(auto, using(crate::proofs::Drawing::adds_numbers))]
-fn fulfil(alloc: Global, words: &[u64], wishes: &[Wish], draft: &mut Draft) -> Result<bool, Memory>
+fn fulfil(
+    alloc: Global,
+    words: &[u64],
+    wishes: &[Wish],
+    draft: &mut Draft,
+    next: u32,
+) -> Result<bool, Memory>
     requires formed { IsWellFormed words.now }
     requires terms { All (IsOverTerms words.now) wishes.now }
-    ensures { OnOk result (Adds (IsOf words.now wishes.now) draft.old.values.keys draft.new.values.keys) }
+    ensures { OnOk result (Adds (IsOf words.now wishes.now next) draft.old.values.keys draft.new.values.keys) }
 {
     let links = links(alloc, words, wishes, draft)?;
     if !unite_all(&mut draft.classes, links.as_slice()) {
         return Ok(false);
     }
-    let is_done = part_all(draft, links.as_slice())?;
+    let is_done = part_all(draft, links.as_slice(), next)?;
     Ok(is_done)
 }
 
-/// A draft without nulls, with room for so many, and for as many values, whose new values are `@k` from this k on.
-fn blank(alloc: Global, count: usize, next: u32) -> Result<Draft, Memory>
+/// A draft without nulls, with room for so many, and for as many values.
+fn blank(alloc: Global, count: usize) -> Result<Draft, Memory>
     ensures { IfOk result (λ d. (x : Value) → Contains d.values.keys x → ⊥) }
 {
     let nulls = IndexSet::with_capacity(alloc, count)?;
@@ -292,7 +299,6 @@ fn blank(alloc: Global, count: usize, next: u32) -> Result<Draft, Memory>
         values,
         classes: no_classes(alloc),
         zero: None,
-        next,
     })
 }
 
@@ -306,12 +312,12 @@ pub(crate) fn drawn(
 ) -> Result<Option<World>, Memory>
     requires formed { IsWellFormed words.now }
     requires terms { All (IsOverTerms words.now) wishes.now }
-    ensures { IfOk result (λ o. IfSome o (IsDrawn words.now wishes.now world.now)) }
+    ensures { IfOk result (λ o. IfSome o (IsDrawn words.now wishes.now next world.now)) }
 {
     let pairs = world.as_slice();
-    let mut draft = blank(alloc, pairs.len().saturating_add(wishes.len()), next)?;
+    let mut draft = blank(alloc, pairs.len().saturating_add(wishes.len()))?;
     put_pairs(&mut draft, pairs)?;
-    if !fulfil(alloc, words, wishes, &mut draft)? {
+    if !fulfil(alloc, words, wishes, &mut draft, next)? {
         return Ok(None);
     }
     let pairs = pairs_of(alloc, &draft)?;

@@ -1,21 +1,25 @@
 // The nulls below conditions, and the parts of a world by them.
 
-ghost use Rattle.std.specs.Prelude.{◌≡◌, ◌++◌, ℕ, true, Contains, IfOk, IsTrue, OnOk};
+ghost use Rattle.std.specs.Prelude.{◌≡◌, ℕ, true, length, Contains, IfOk, IsTrue, OnOk};
+ghost use Rattle.ct_word.specs.Reading.{term_at};
+ghost use Rattle.ct_word.specs.Stands.{TermBelow};
 ghost use Rattle.ct_word.specs.Value.{same_null};
+ghost use Rattle.ct_word.specs.declared.values.Term.TheVariants as term;
 ghost use Rattle.ct_word.specs.declared.kinds.Class.TheVariants as class;
 ghost use Rattle.ct_word.specs.WellFormed.{IsWellFormed, is_place_of};
-ghost use Rattle.ct_worlds.specs.Nulls.{AreNulls, AreNullsBelow, HasNulls, HasTerms, KeepsNulls, has_null, part_of, rest_of};
+ghost use Rattle.ct_worlds.specs.Gathering.{has};
+ghost use Rattle.ct_worlds.specs.Nulls.{AddsNulls, AreNulls, AreNullsBelow, HasNulls, HasTerms, IsNullBelow, KeepsNulls, has_null, part_of};
 ghost use Rattle.ct_worlds.specs.Truths.{ArePartsFirst};
 
 use crate::shape::{Shape, shape_at};
-use ct_word::{List, Memory, Null, Term, Value, World, is_constant, term_at};
+use ct_word::{List, Memory, Null, Term, World, is_constant, term_at};
 use indexmap::IndexSet;
 use std::alloc::Global;
 use std::collections::BTreeSet;
 
-/// The nulls below conditions.
+/// The nulls below conditions, with their places.
 #[derive(Drop)]
-pub(crate) struct Nulls {
+pub struct Nulls {
     /// The places of terms that are no constants.
     pub(crate) places: BTreeSet<u32>,
     /// The nulls there.
@@ -25,6 +29,33 @@ pub(crate) struct Nulls {
 /// Up to so many nulls one is compared with each. Among more it is found by its hash.
 const FEW: usize = 8;
 
+impl Nulls {
+    /// How many nulls there are.
+    pub fn count(&self) -> usize
+        ensures { result ≡ length self.now.listed.keys }
+    {
+        self.listed.len()
+    }
+
+    /// Whether a place is that of one of the nulls, or of a column that is compared below the conditions.
+    pub fn has_place(&self, place: u32) -> bool
+        ensures { result ≡ has self.now.places place }
+    {
+        self.places.contains(&place)
+    }
+
+    /// Whether a null is one of these.
+    pub fn has(&self, null: &Null) -> bool
+        ensures { result ≡ has_null self.now.listed.keys null.now }
+    {
+        let listed = self.listed.as_slice();
+        if listed.len() <= FEW {
+            return has_one(listed, null);
+        }
+        self.listed.contains(null)
+    }
+}
+
 /// Adds the null at the place of a term, if it is one.
 fn add_term(alloc: Global, words: &[u64], place: u32, nulls: &mut Nulls) -> Result<(), Memory>
     requires formed { IsWellFormed words.now }
@@ -33,6 +64,7 @@ fn add_term(alloc: Global, words: &[u64], place: u32, nulls: &mut Nulls) -> Resu
     ensures nulls { OnOk result (AreNulls words.now nulls.new) }
     ensures kept { OnOk result (KeepsNulls nulls.old nulls.new) }
     ensures put { OnOk result (HasNulls words.now place nulls.new) }
+    ensures only { OnOk result (AddsNulls (λ n. term_at words.now place ≡ term.Null n) nulls.old nulls.new) }
 {
     if is_constant(words, place) {
         return Ok(());
@@ -55,6 +87,7 @@ fn add_terms(alloc: Global, words: &[u64], place: u32, nulls: &mut Nulls) -> Res
     ensures nulls { OnOk result (AreNulls words.now nulls.new) }
     ensures kept { OnOk result (KeepsNulls nulls.old nulls.new) }
     ensures put { OnOk result (HasTerms words.now place nulls.new) }
+    ensures only { OnOk result (AddsNulls (λ n. TermBelow words.now place (term.Null n)) nulls.old nulls.new) }
 {
     if let Shape::Equal(left, right) = shape_at(words, place) {
         add_term(alloc, words, left, nulls)?;
@@ -63,12 +96,16 @@ fn add_terms(alloc: Global, words: &[u64], place: u32, nulls: &mut Nulls) -> Res
     Ok(())
 }
 
-/// The nulls below these conditions, which come after their parts.
-pub(crate) fn nulls_below(alloc: Global, words: &[u64], places: &[u32]) -> Result<Nulls, Memory>
+/// The nulls below the conditions at some places, each of which comes after those of its parts, as `below` lists them.
+///
+/// # Errors
+/// `Memory` where there is none for the nulls.
+pub fn nulls_below(alloc: Global, words: &[u64], places: &[u32]) -> Result<Nulls, Memory>
     requires formed { IsWellFormed words.now }
     requires places { ArePartsFirst words.now places.now }
     ensures nulls { IfOk result (AreNulls words.now) }
     ensures below { IfOk result (AreNullsBelow words.now places.now) }
+    ensures only { IfOk result (λ nulls. (n : Null) → IsTrue (has_null nulls.listed.keys n) → IsNullBelow words.now places.now n) }
 {
     let mut nulls = Nulls {
         places: BTreeSet::new(alloc),
@@ -112,63 +149,15 @@ fn has_one(listed: &[Null], null: &Null) -> bool
     false
 }
 
-/// Whether a null is one of these.
-fn has(nulls: &Nulls, null: &Null) -> bool
-    ensures { result ≡ has_null nulls.now.listed.keys null.now }
-{
-    let listed = nulls.listed.as_slice();
-    if listed.len() <= FEW {
-        return has_one(listed, null);
-    }
-    nulls.listed.contains(null)
-}
-
 /// The pairs of a world with these nulls.
 pub(crate) fn part_of(alloc: Global, world: &World, nulls: &Nulls) -> Result<World, Memory>
     ensures { IfOk result (λ w. w ≡ part_of nulls.now.listed.keys world.now) }
 {
     let mut pairs = Vec::new(alloc);
     for pair in world.as_slice() {
-        if has(nulls, &pair.0) {
+        if nulls.has(&pair.0) {
             pairs.push(pair.clone()?)?;
         }
-    }
-    Ok(List::from_vec(pairs))
-}
-
-/// The pairs of a world with these nulls, and those with others.
-pub(crate) fn split(
-    alloc: Global,
-    world: &World,
-    nulls: &Nulls,
-) -> Result<(World, Vec<(Null, Value)>), Memory>
-    ensures part { IfOk result (λ s. s.0 ≡ part_of nulls.now.listed.keys world.now) }
-    ensures rest { IfOk result (λ s. s.1.items ≡ rest_of nulls.now.listed.keys world.now) }
-{
-    let mut part = Vec::new(alloc);
-    let mut rest = Vec::with_capacity(alloc, world.as_slice().len())?;
-    for pair in world.as_slice() {
-        if has(nulls, &pair.0) {
-            part.push(pair.clone()?)?;
-        } else {
-            rest.push(pair.clone()?)?;
-        }
-    }
-    Ok((List::from_vec(part), rest))
-}
-
-/// Pairs with other nulls, and then those of a world with these nulls.
-pub(crate) fn joined(
-    alloc: Global,
-    rest: Vec<(Null, Value)>,
-    nulls: &Nulls,
-    world: &World,
-) -> Result<World, Memory>
-    ensures { IfOk result (λ w. w ≡ rest.items ++ part_of nulls.now.listed.keys world.now) }
-{
-    let mut pairs = rest;
-    for pair in part_of(alloc, world, nulls)?.as_slice() {
-        pairs.push(pair.clone()?)?;
     }
     Ok(List::from_vec(pairs))
 }

@@ -1,13 +1,8 @@
 use Rattle.std.{proofs.Common.{◌≡◌, ◌∷◌, sym, subst}, proofs.lemmas.Result.IfOk-weaker}
 use Rattle.ct_condition.specs.Terms.{BelowSome}
-use Rattle.ct_certain.{specs.Own.{AreNullsOf, IsShownBy, cut_to}, proofs.Short.{cut_shows, empty_shows}}
+use Rattle.ct_tidy.specs.Nulls.{AreNullsOf, cut_to}
+use Rattle.ct_certain.{specs.Own.IsShownBy, proofs.Short.cut_shows}
 use Rattle.ct_certain.proofs.pool.own_part.Goals as goal
-
-pub returns-then-is_empty : goal.returns-then-is_empty
-returns-then-is_empty c =
-    let words = c.args.words.now in
-    let row = c.args.row.now in
-    subst (IsShownBy words c.args.global row) (sym c.new.ensures) (empty_shows words c.args.global row c.args.world.now (c.is_empty.ensures.0 c.if-is_empty.true) c.requires.shown)
 
 pub returns : goal.returns
 returns c =

@@ -6,13 +6,13 @@ use Rattle.ct_decide.{specs.Asking.{RulesOut, left}, proofs.Askings.{with_solver
 use Rattle.ct_decide.proofs.deciding.round.Goals as goal
 
 pub refuted-requires-clause-asking : goal.refuted-requires-clause-asking
-refuted-requires-clause-asking c = after_step c.args.words.now c.args.root c.args.asking.now c.step.new.self c.in_ok-step.ensures.learns c.requires.asking
+refuted-requires-clause-asking c = after_step c.args.words.now c.args.aim c.args.asking.now c.step.new.self c.in_ok-step.ensures.learns c.requires.asking
 
 pub closed-requires-clause-asking : goal.closed-requires-clause-asking
-closed-requires-clause-asking c = after_step c.args.words.now c.args.root c.args.asking.now c.step.new.self c.in_ok-step.ensures.learns c.requires.asking
+closed-requires-clause-asking c = after_step c.args.words.now c.args.aim c.args.asking.now c.step.new.self c.in_ok-step.ensures.learns c.requires.asking
 
 pub rule_out-requires-clause-asking : goal.rule_out-requires-clause-asking
-rule_out-requires-clause-asking c = after_step c.args.words.now c.args.root c.args.asking.now c.step.new.self c.in_ok-step.ensures.learns c.requires.asking
+rule_out-requires-clause-asking c = after_step c.args.words.now c.args.aim c.args.asking.now c.step.new.self c.in_ok-step.ensures.learns c.requires.asking
 
 pub rule_out-requires-clause-over : goal.rule_out-requires-clause-over
 rule_out-requires-clause-over c = false_over c.args.words.now c.args.asking.now.atoms.items c.as_slice.result.now c.in-Path.path (rw c.in-Path.is at c.in_ok-world-in-Model.ensures)

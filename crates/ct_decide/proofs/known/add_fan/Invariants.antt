@@ -3,4 +3,4 @@ use Rattle.ct_decide.specs.Asking.{IsAsking, left}
 use Rattle.ct_decide.proofs.known.add_fan.Given as goal
 
 abbrev pub invariant-loop-k : goal.invariant-loop-k
-invariant-loop-k l = record { asking : IsAsking l.words l.root l.asking; fewer : left l.asking ≤ left l.fn.asking }
+invariant-loop-k l = record { asking : IsAsking l.words l.aim l.asking; fewer : left l.asking ≤ left l.fn.asking }

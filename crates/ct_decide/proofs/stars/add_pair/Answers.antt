@@ -12,5 +12,5 @@ returns-in_ok-push-clause-asking c =
     let old = c.args.asking.now in
     let found = c.find.ensures.none (none_is c.find.result (c.is_none.ensures ∙ ap not c.if-is_none.true)) in
     let none : is_atom old.atoms.items (pair_of c.args.s c.args.t) ≡ false = rw (c.as_slice.ensures.value, c.pair-equality.ensures) at found in
-    atom_added c.args.words.now c.args.root old _ c.args.s c.args.t c.requires.asking c.requires.room c.requires.first c.requires.second c.requires.differ none refl refl refl
+    atom_added c.args.words.now c.args.aim old _ c.args.s c.args.t c.requires.asking c.requires.room c.requires.first c.requires.second c.requires.differ none refl refl refl
     (c.in_ok-push.ensures.items ∙ ap (λ a. old.atoms.items ++ a ∷ []) c.pair-equality.ensures)

@@ -4,6 +4,6 @@ use Rattle.ct_decide.proofs.stars.add_star.Given as goal
 
 abbrev pub invariant-loop-k : goal.invariant-loop-k
 invariant-loop-k l = record {
-  star : IsStarTo l.words l.root l.model l.fn.asking l.asking l.path l.k;
+  star : IsStarTo l.words l.aim l.model l.fn.asking l.asking l.path l.k;
   from : 2 ≤ l.k;
 }

@@ -8,8 +8,8 @@ look_at_added-requires-clause-within c =
 
 pub returns-in-Undecided : goal.returns-in-Undecided
 returns-in-Undecided c =
-    let free = c.in-Undecided.ensures.0 in
-    let within = scan_open c.args.top c.args.entries.now c.loop-k.k c.index-entries-k.result c.in-Undecided.l c.loop-k-test.true c.index-entries-k.is c.requires.within c.in-Undecided.ensures.1 in
+    let free = c.in-Undecided.ensures.is_free in
+    let within = scan_open c.args.top c.args.entries.now c.loop-k.k c.index-entries-k.result c.in-Undecided.l c.loop-k-test.true c.index-entries-k.is c.requires.within c.in-Undecided.ensures.member in
     (search rules, search rules)
 
 pub loop-k-preserved : goal.loop-k-preserved

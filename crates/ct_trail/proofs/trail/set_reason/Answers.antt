@@ -1,6 +1,13 @@
-use Rattle.std.{proofs.Common.{◌≡◌, ◌∙◌, Some, refl, ap, sym, subst, length}, specs.Prelude.slice_get, proofs.lemmas.Option.{slice_get_read, same_Some}}
-use Rattle.ct_trail.{specs.Units.IsAloneAt, proofs.Reasoned.{same_truths, own_reason, same_worth}}
+use Rattle.std.{proofs.Common.{◌≡◌, ◌∙◌, Some, refl, ap, sym, subst, set, length}, specs.Prelude.slice_get, proofs.lemmas.Option.{slice_get_read, same_Some}}
+use Rattle.ct_trail.{specs.declared.trail.Put.Put, specs.Units.IsAloneAt, proofs.Reasoned.{same_truths, own_reason, same_worth}}
 use Rattle.ct_trail.proofs.trail.set_reason.Goals as goal
+
+pub returns-clause-is : goal.returns-clause-is
+returns-clause-is c = λ p at.
+    let trail = c.args.trail.now.items in
+    let q = c.index_mut.result.now in
+    let there : slice_get trail c.args.place ≡ Some q = slice_get_read trail (length trail) c.args.place q refl c.requires c.index_mut.ensures.value in
+    ap (λ (x : Put). set trail c.args.place (record { literal = x.literal; reason = Some c.args.position })) (same_Some q p (sym there ∙ at))
 
 pub returns-clause-truths : goal.returns-clause-truths
 returns-clause-truths c = λ vars.

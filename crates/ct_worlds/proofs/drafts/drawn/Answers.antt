@@ -9,6 +9,6 @@ returns c =
     let world = c.args.world.now in
     let first = c.in_ok-draft.draft.values.keys in
     let mid = c.put_pairs.new.draft.values.keys in
-    subst (IsDrawn words wishes world) (sym c.from_vec.ensures)
-    (drawn_is words wishes world c.in_ok-pairs.pairs.items first mid c.fulfil.new.draft.values.keys c.in_ok-draft.ensures
+    subst (IsDrawn words wishes c.args.next world) (sym c.from_vec.ensures)
+    (drawn_is words wishes c.args.next world c.in_ok-pairs.pairs.items first mid c.fulfil.new.draft.values.keys c.in_ok-draft.ensures
     (subst (λ v. Adds (IsValueOf v) first mid) c.as_slice-pairs.ensures c.in_ok-put_pairs.ensures) c.in_ok-fulfil.ensures c.in_ok-pairs.ensures.values c.in_ok-pairs.ensures.once)

@@ -1,6 +1,6 @@
 use Rattle.std.{proofs.Common.{◌∷◌, [], ◌∙◌, subst, sym}, specs.Prelude.Contains}
 use Rattle.ct_word.proofs.Items.{first_item}
-use Rattle.ct_worlds.{specs.Truths.{ArePartsFirst}, proofs.Kept.parts_first, proofs.Listed.root_listed}
+use Rattle.ct_worlds.{specs.Truths.{ArePartsFirst}, proofs.Listed.{parts_first, root_listed}}
 use Rattle.ct_worlds.proofs.holding.holds_below.Goals as goal
 
 pub nulls_below-requires-clause-places : goal.nulls_below-requires-clause-places

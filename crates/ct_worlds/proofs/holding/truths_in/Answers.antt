@@ -1,5 +1,5 @@
 use Rattle.std.proofs.Common.{◌∙◌}
-use Rattle.ct_worlds.{specs.Truths.found_in, proofs.Near.truths_whole}
+use Rattle.ct_worlds.{specs.Truths.found_in, proofs.Agreed.truths_whole}
 use Rattle.ct_worlds.proofs.holding.truths_in.Goals as goal
 
 pub returns-clause-truths : goal.returns-clause-truths

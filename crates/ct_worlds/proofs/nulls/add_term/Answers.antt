@@ -1,6 +1,8 @@
-use Rattle.std.proofs.Common.{◌≡◌, ◌∙◌, ap, subst, sym}
+use Rattle.std.proofs.Common.{◌≡◌, ◌∙◌, sym}
 use Rattle.indexmap.specs.IndexSet.{insert_key}
-use Rattle.ct_worlds.proofs.{Noting.{constant_no_null, nulls_more, put_here, put_others}, Values.compared}
+use Rattle.ct_worlds.proofs.{Noting.{key_added, nulls_more, put_here, put_others}, Shaped.constant_no_null, Values.compared}
+use Rattle.ct_word.specs.Reading.{term_at}
+use Rattle.ct_word.specs.declared.values.Term.TheVariants as term
 use Rattle.ct_worlds.proofs.nulls.add_term.Goals as goal
 
 pub returns-then-is_constant-clause-put : goal.returns-then-is_constant-clause-put
@@ -14,3 +16,10 @@ returns-in_ok-insert-clause-nulls c =
     nulls_more c.args.words.now old (record { places = c.insert.new.self; listed = c.insert-in-Null.new.self }) place c.requires.nulls (put_here old.places c.insert.new.self place updates)
     (put_others old.places c.insert.new.self place updates) c.in-Null.null (record { placed = c.requires.term; null = sym c.in_ok-null.ensures ∙ c.in-Null.is })
     (c.in_ok-insert.ensures.keys ∙ (λ i. insert_key (compared i) old.listed.keys c.in-Null.null))
+
+pub returns-in_ok-insert-clause-only : goal.returns-in_ok-insert-clause-only
+returns-in_ok-insert-clause-only c =
+    let old = c.args.nulls.now in
+    let null = c.in-Null.null in
+    key_added old (record { places = c.insert.new.self; listed = c.insert-in-Null.new.self }) null (λ n. term_at c.args.words.now c.args.place ≡ term.Null n)
+    (c.in_ok-insert.ensures.keys ∙ (λ i. insert_key (compared i) old.listed.keys null)) (sym c.in_ok-null.ensures ∙ c.in-Null.is)

@@ -1,11 +1,12 @@
-use Rattle.std.{proofs.Common.{false, length, sym, subst, ap, ◌∙◌, arith}, specs.Prelude.Contains, proofs.lemmas.List.take_all, proofs.lemmas.Bool.false≢true, proofs.lemmas.List.Elements.Contains-get_or}
-use Rattle.ct_worlds.{specs.Nulls.HasTerms, proofs.Noting.{below_noted, noted_more}}
+use Rattle.std.{proofs.Common.{sym, subst, arith}, specs.Prelude.Contains, proofs.lemmas.List.take_all}
+use Rattle.ct_worlds.{proofs.Noting.{below_noted, noted_more, only_more}}
 use Rattle.ct_worlds.proofs.nulls.nulls_below.Goals as goal
 
 pub loop-place-preserved : goal.loop-place-preserved
 loop-place-preserved c = record {
   nulls = c.in_ok-add_terms.ensures.nulls;
   noted = noted_more c.args.words.now c.args.places.now c.loop-place.place-index c.loop-place.nulls c.add_terms.new.nulls c.loop-place-test.true c.in_ok-add_terms.ensures.kept c.loop-place.invariant.noted c.in_ok-add_terms.ensures.put;
+  only = only_more c.args.words.now c.args.places.now c.loop-place.place-index c.loop-place.nulls c.add_terms.new.nulls c.loop-place-test.true c.loop-place.invariant.only c.in_ok-add_terms.ensures.only;
 }
 
 pub returns-clause-below : goal.returns-clause-below

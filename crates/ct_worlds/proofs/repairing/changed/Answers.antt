@@ -1,6 +1,6 @@
 use Rattle.std.proofs.Common.{sym, subst}
 use Rattle.std.specs.Prelude.{All}
-use Rattle.ct_worlds.{specs.Repaired.{IsChanged, IsDrawn, IsOverTerms, IsWishBelow}, proofs.Drawing.{changed_is, for_some, over_terms}}
+use Rattle.ct_worlds.{specs.Repaired.{IsChanged, IsDrawn, IsOverTerms, IsWishBelow}, proofs.Drawing.{changed_is, over_terms}, proofs.Each.for_some}
 use Rattle.ct_worlds.proofs.repairing.changed.Goals as goal
 
 pub drawn-requires-clause-terms : goal.drawn-requires-clause-terms
@@ -11,5 +11,5 @@ pub returns : goal.returns
 returns c =
     let words = c.args.words.now in
     let wishes = c.as_slice.result.now in
-    for_some (IsDrawn words wishes c.args.world.now) (IsChanged words c.args.conditions.now c.args.world.now) c.drawn.result
-    (λ w d. changed_is words c.args.conditions.now wishes c.args.world.now w (subst (All (IsWishBelow words c.args.conditions.now)) (sym c.as_slice.ensures.value) c.in_ok-wishes.ensures) d) c.drawn.ensures
+    for_some (IsDrawn words wishes c.args.next c.args.world.now) (IsChanged words c.args.conditions.now c.args.next c.args.world.now) c.drawn.result
+    (λ w d. changed_is words c.args.conditions.now wishes c.args.next c.args.world.now w (subst (All (IsWishBelow words c.args.conditions.now)) (sym c.as_slice.ensures.value) c.in_ok-wishes.ensures) d) c.drawn.ensures

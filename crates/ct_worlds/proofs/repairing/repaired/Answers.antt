@@ -1,5 +1,6 @@
-use Rattle.std.{proofs.Common.{subst, sym}, specs.Prelude.IfSome}
-use Rattle.ct_worlds.{specs.Repaired.{IsChanged}, specs.Truths.ArePartsFirst, proofs.Kept.parts_first}
+use Rattle.std.{proofs.Common.{◌∙◌, subst, sym}, specs.Prelude.IfSome}
+use Rattle.ct_word.{specs.Condition.holds_at, specs.Reading.condition_at}
+use Rattle.ct_worlds.{specs.Repaired.{IsChanged}, specs.Truths.ArePartsFirst, proofs.{Drawing.changed_values, Each.each_passes, Listed.parts_first}}
 use Rattle.ct_worlds.proofs.repairing.repaired.Goals as goal
 
 pub nulls_below-requires-clause-places : goal.nulls_below-requires-clause-places
@@ -8,5 +9,12 @@ nulls_below-requires-clause-places c =
 
 pub returns : goal.returns
 returns c =
-    let is = subst (λ o. IfSome o (IsChanged c.args.words.now c.args.conditions.now c.args.world.now)) c.in-Some.is c.in_ok-made.ensures in
-    record { holds = c.in_ok-all_hold.ensures c.if-not-branch.false; values = is.values; once = is.once }
+    let words = c.args.words.now in
+    let conditions = c.args.conditions.now in
+    let world = c.args.world.now in
+    let is = subst (λ o. IfSome o (IsChanged words conditions 0 world)) c.in-Some.is c.in_ok-made.ensures in
+    record {
+      holds = each_passes (λ p. holds_at c.in-Some.made (condition_at words p)) conditions (sym c.in_ok-all_hold.ensures ∙ c.if-not-branch.false);
+      values = changed_values words conditions 0 world c.in-Some.made is;
+      once = is.once;
+    }

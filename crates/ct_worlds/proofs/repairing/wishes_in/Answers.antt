@@ -1,4 +1,4 @@
-use Rattle.ct_worlds.proofs.Kept.{parts_first}
+use Rattle.ct_worlds.proofs.Listed.{parts_first}
 use Rattle.ct_worlds.proofs.repairing.wishes_in.Goals as goal
 
 pub truths_in-requires-clause-places : goal.truths_in-requires-clause-places

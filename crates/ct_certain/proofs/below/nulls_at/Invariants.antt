@@ -1,6 +1,0 @@
-use Rattle.std.proofs.Common.{take}
-use Rattle.ct_certain.specs.Own.{AreNullsOf, IsTermAtSome}
-use Rattle.ct_certain.proofs.below.nulls_at.Given as goal
-
-abbrev pub invariant-loop-place : goal.invariant-loop-place
-invariant-loop-place l = AreNullsOf (IsTermAtSome l.words (take l.place-index l.places)) l.nulls.keys

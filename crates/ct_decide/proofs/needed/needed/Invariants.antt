@@ -1,5 +1,0 @@
-use Rattle.ct_decide.specs.Cut.{all_hints, AreNeeded}
-use Rattle.ct_decide.proofs.needed.needed.Given as goal
-
-abbrev pub invariant-loop-k : goal.invariant-loop-k
-invariant-loop-k l = AreNeeded (all_hints l.entries) l.k l.marks.items

@@ -1,6 +1,0 @@
-use Rattle.std.proofs.Common.{◌≡◌, take}
-use Rattle.ct_decide.specs.Cut.{renumbered}
-use Rattle.ct_decide.proofs.translating.renumbered.Given as goal
-
-abbrev pub invariant-loop-h : goal.invariant-loop-h
-invariant-loop-h l = l.found.items ≡ renumbered l.numbers (take l.h-index l.hints)

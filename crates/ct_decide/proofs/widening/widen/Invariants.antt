@@ -1,6 +1,0 @@
-use Rattle.std.proofs.Common.{◌≤◌}
-use Rattle.ct_decide.specs.Asking.{IsAsking, left}
-use Rattle.ct_decide.proofs.widening.widen.Given as goal
-
-abbrev pub invariant-loop-k : goal.invariant-loop-k
-invariant-loop-k l = record { asking : IsAsking l.words l.root l.asking; fewer : left l.asking ≤ left l.fn.asking }

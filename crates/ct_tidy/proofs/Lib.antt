@@ -1,0 +1,9 @@
+pub mod Ordered
+pub mod Last
+pub mod Gathered
+pub mod Valued
+pub mod Parts
+pub mod Marked
+pub mod Walked
+pub mod Single
+pub mod Counted

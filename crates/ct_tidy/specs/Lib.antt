@@ -1,0 +1,4 @@
+pub mod Order
+pub mod Nulls
+pub mod Spread
+pub mod Marks

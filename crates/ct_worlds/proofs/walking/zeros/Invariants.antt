@@ -1,9 +1,0 @@
-use Rattle.std.proofs.Common.{◌-◌, length}
-use Rattle.ct_worlds.specs.Walks.{AreOld}
-use Rattle.ct_worlds.proofs.walking.zeros.Given as goal
-
-abbrev pub invariant-loop-zeros : goal.invariant-loop-zeros
-invariant-loop-zeros l = AreOld l.zeros.items 1
-
-abbrev pub decreases-loop-zeros : goal.decreases-loop-zeros
-decreases-loop-zeros l = l.count - length l.zeros.items
