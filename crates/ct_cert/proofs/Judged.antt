@@ -1,7 +1,8 @@
 -- What words without a bad one, and proofs without a bad one, show.
-use Rattle.std.{proofs.Common.{◌≡◌, ℕ, zero, suc, ◌+◌, ◌<◌, Bool, true, false, not, List, [], ◌∷◌, ◌++◌, length, get_or, take, refl, sym, subst, ap, ◌∙◌, arith, inl, inr}, specs.Prelude.{Option, Some, None, slice_get, nat_eq, is_some, MatchOption, Contains, Result, Ok, Err, IsErrAnd, IsErrOf}, specs.List.list_any}
-use Rattle.std.proofs.lemmas.Bool.{cases_Bool, false≢true}
+use Rattle.std.{proofs.Common.{◌≡◌, ℕ, zero, suc, ◌+◌, ◌<◌, Bool, true, false, not, List, [], ◌∷◌, ◌++◌, length, get_or, take, refl, sym, subst, ap, ◌∙◌, arith, inl, inr}, specs.Prelude.{Option, Some, None, slice_get, nat_eq, is_some, MatchOption, Contains, Result, Ok, Err, IsErrAnd, IsErrOf, All}, specs.List.list_any}
+use Rattle.std.proofs.lemmas.Bool.{and_parts, cases_Bool, false≢true}
 use Rattle.std.proofs.lemmas.List.{length-append}
+use Rattle.std.proofs.lemmas.List.Elements.{All-head, All-tail}
 use Rattle.std.proofs.lemmas.Bool.Decides.{nat_tests}
 use Rattle.std.proofs.lemmas.Map.Views.{Contains-from_any}
 use Rattle.ct_word.specs.WellFormed.{is_word_after, each_follows, IsWellFormed}
@@ -40,6 +41,23 @@ accepted_sound c e =
     let none = faultless (bad_word [] c.words) (bad_proof c.words 1 c.proofs) e in
     let wf = all_follow [] c.words none.0 in
     record { words = wf; proofs = all_refuted c.words 1 c.proofs wf none.1 }
+
+none_bad : (before words : List ℕ) → each_follows before words ≡ true → bad_word before words ≡ None
+none_bad before [] e = refl
+none_bad before (w ∷ words) e =
+    let parts = and_parts (is_word_after before w) (each_follows (before ++ w ∷ []) words) e in
+    rw parts.0 (none_bad (before ++ w ∷ []) words parts.1)
+
+none_rejected : (words : List ℕ) (n : ℕ) (proofs : List Proof) → All (AcceptsProof words) proofs → bad_proof words n proofs ≡ None
+none_rejected words n [] all = refl
+none_rejected words n (p ∷ proofs) all =
+    let first : accepts words p.root p.derivation ≡ true = All-head (AcceptsProof words) p proofs all in
+    rw first (none_rejected words (n + 1) proofs (All-tail (AcceptsProof words) p proofs all))
+
+-- well formed words and proofs that are accepted over them make a certificate that is
+pub sound_accepted : (c : Certificate) → IsWellFormed c.words → All (AcceptsProof c.words) c.proofs → judgement c ≡ judged.Accepted
+unfolding judgement
+sound_accepted c formed all = rw (none_bad [] c.words formed, none_rejected c.words 1 c.proofs all) refl
 
 -- the first bad word of these is k places on, and those before it follow
 record IsBadAfter (before words : List ℕ) (place k : ℕ) : Type 0 where

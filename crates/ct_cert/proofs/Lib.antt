@@ -3,3 +3,4 @@ pub mod Many
 pub mod Texts
 pub mod Lists
 pub mod Judged
+pub mod Alike

@@ -1,6 +1,7 @@
 -- The text of a certificate is read as the certificate.
-use Rattle.std.{proofs.Common.{◌≡◌, ℕ, ◌^◌, ◌<◌, Bool, true, false, not, ◌&&◌, List, [], ◌∷◌, ◌++◌, length, flat_map, drop, refl, sym, ap, ◌∙◌, arith}, specs.Prelude.{decimal, codes}, specs.List.list_all}
+use Rattle.std.{proofs.Common.{◌≡◌, ℕ, ◌^◌, ◌+◌, ◌<◌, ◌≤◌, Bool, true, false, not, ◌&&◌, List, [], ◌∷◌, ◌++◌, length, flat_map, drop, refl, sym, ap, ◌∙◌, arith}, specs.Prelude.{decimal, codes}, specs.List.list_all}
 use Rattle.std.proofs.lemmas.Bool.{and_parts}
+use Rattle.std.proofs.lemmas.List.{length-append}
 use Rattle.std.proofs.lemmas.Bool.Decides.{nat_tests}
 use mathlib.Core.List.{append_assoc}
 use Rattle.ct_word.specs.Names.{is_digit}
@@ -8,7 +9,7 @@ use Rattle.ct_derivation.specs.{declared.literals.Atom.Atom, declared.steps.Why.
 use Rattle.ct_derivation.specs.declared.literals.Atom.TheVariants as atom
 use Rattle.ct_derivation.specs.declared.steps.Why.TheVariants as why
 use Rattle.ct_cert.specs.declared.certificate.Certificate.{Certificate}
-use Rattle.ct_cert.specs.Text.{hex16, item_text, atom_text, lit_text, why_text, step_text, proof_text, word_text, cert_text}
+use Rattle.ct_cert.specs.Text.{hex16, line, item_text, atom_text, lit_text, why_text, step_text, proof_text, word_text, cert_text}
 use Rattle.ct_cert.specs.Ranges.{is_word, is_place, atom_fits, lit_fits, why_fits, step_fits, steps_fit, proof_fits, IsCertificate}
 use Rattle.ct_cert.specs.Reading.{begins, many, starts_anyhow, starts_item, starts_lit, word_in, item_in, place_in, number_in, clause_in, atom_in, lit_in, items_in, why_in, step_in, proof_in, cert_in}
 use Rattle.ct_cert.proofs.{Numbers.{decimal_read, place_read, clause_read, word_read}, Many.{Reads, few, many_read}}
@@ -182,6 +183,18 @@ cert_read c fit =
     let all = many_read proof_fits proof_text starts_anyhow anything proof_in proofs c.proofs (length c.proofs) (codes "end\n") (omega arith) (λ l. absurd (omega arith)) of_proofs.1 refl in
     ap (λ x. by_count (number_in x)) spread ∙ ap by_count count ∙ ap by_words words ∙ ap (by_proofs c.words) next
     ∙ ap (λ x. record { words = c.words; proofs = x.0 }) all
+
+-- a certificate has no more words than its text has bytes
+pub few_words : (c : Certificate) → length c.words ≤ length (cert_text c)
+unfolding cert_text
+few_words c =
+    let front = line (codes "ct-certificate 1") ++ line (codes "words " ++ decimal (length c.words)) in
+    let ws = flat_map word_text c.words in
+    let between = line (codes "proofs " ++ decimal (length c.proofs)) in
+    let ps = flat_map proof_text c.proofs in
+    let whole : length (cert_text c) ≡ length (((front ++ ws) ++ between) ++ ps) + length (line (codes "end")) = length-append (((front ++ ws) ++ between) ++ ps) (line (codes "end")) in
+    let some = few is_word word_text starts_anyhow anything word_in words c.words [] in
+    omega (arith, whole, length-append ((front ++ ws) ++ between) ps, length-append (front ++ ws) between, length-append front ws, some, length-append ws [])
 
 -- a text is that of one certificate
 pub texts_one : (c d : Certificate) → IsCertificate c → IsCertificate d → cert_text c ≡ cert_text d → c ≡ d

@@ -1,8 +1,8 @@
 -- What is said of a certificate: the first word that may not stand, else the first proof that is not accepted.
-use Rattle.std.specs.Prelude.{◌≡◌, ℕ, ◌+◌, ◌<◌, ◌≤◌, max, take, slice_index_or, List, [], ◌∷◌, ◌++◌, length, Option, Some, None, All, if◌then◌else◌}
+use Rattle.std.specs.Prelude.{◌≡◌, ℕ, ◌+◌, ◌<◌, ◌≤◌, take, slice_index_or, List, [], ◌∷◌, ◌++◌, length, Option, Some, None, All, if◌then◌else◌}
 use Rattle.ct_word.specs.WellFormed.{is_word_after, IsWellFormed}
 use Rattle.ct_derivation.specs.declared.steps.Proof.{Proof}
-use Rattle.ct_derivation.specs.Accepts.{accepts, AcceptsProof, widest}
+use Rattle.ct_derivation.specs.Accepts.{accepts, AcceptsProof}
 use Rattle.ct_derivation.specs.Truth.{IsRefuted}
 use Rattle.ct_cert.specs.declared.certificate.Certificate.{Certificate}
 use Rattle.ct_cert.specs.declared.judgement.Judgement.{Judgement}
@@ -44,8 +44,3 @@ pub record IsFirstBadProof (c : Certificate) (number : ℕ) : Type 0 where
   pub within : (1 ≤ number) × (number ≤ length c.proofs)
   pub before : (k : ℕ) (d : Proof) → k + 1 < number → AcceptsProof c.words (slice_index_or c.proofs k d)
   pub here : (k : ℕ) (d : Proof) → k + 1 ≡ number → AcceptsProof c.words (slice_index_or c.proofs k d) → ⊥
-
--- the greatest width of these proofs
-abbrev pub widest_of : List Proof → ℕ
-widest_of [] = 0
-widest_of (p ∷ ps) = max (widest p.derivation) (widest_of ps)

@@ -4,3 +4,4 @@ pub mod Reading
 pub mod Written
 pub mod Judgement
 pub mod Fields
+pub mod Alike

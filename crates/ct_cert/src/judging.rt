@@ -1,47 +1,55 @@
 // The judgement of a certificate.
 
-ghost use Rattle.std.specs.Prelude.{◌≡◌, ◌<◌, ◌≤◌, ◌^◌, length, IfOk};
-ghost use Rattle.ct_derivation.specs.Accepts.{widest};
+ghost use Rattle.std.specs.Prelude.{◌≡◌, ◌<◌, ◌^◌, length, IfOk};
+ghost use Rattle.ct_derivation.specs.Accepts.{accepts};
 ghost use Rattle.ct_cert.specs.Judgement as judged;
 ghost use Rattle.ct_cert.specs.declared.judgement.Judgement.TheVariants as judgement;
 
 use crate::certificate::Certificate;
 use crate::judgement::Judgement;
+use crate::repeats::{has_long_clause, slim};
+use crate::small::small;
 use crate::well_formed::bad_word;
 use ct_checker::{Marks, check, widest};
-use ct_derivation::Proof;
+use ct_derivation::{Derivation, Proof};
 use ct_word::Memory;
 use std::alloc::Global;
 
-/// The room that the marks need for each of these proofs.
-fn widest_of(proofs: &[Proof]) -> usize
-    ensures { result ≡ judged.widest_of proofs.now }
+/// Whether a derivation is accepted, as it stands.
+fn is_accepted(
+    alloc: Global,
+    words: &[u64],
+    root: u32,
+    derivation: &Derivation,
+) -> Result<bool, Memory>
+    ensures { IfOk result (λ b. b ≡ accepts words.now root derivation.now) }
 {
-    let mut most = 0;
-    for proof in proofs {
-        most = most.max(widest(&proof.derivation));
+    let mut marks = Marks::make(alloc, small(widest(derivation))?)?;
+    Ok(check(words, root, derivation, &mut marks))
+}
+
+/// Whether a proof is accepted.
+#[tactic(auto, using(crate::proofs::Alike::accepts_alike))]
+fn is_proof(alloc: Global, words: &[u64], proof: &Proof) -> Result<bool, Memory>
+    ensures { IfOk result (λ b. b ≡ accepts words.now proof.now.root proof.now.derivation) }
+{
+    if has_long_clause(&proof.derivation) {
+        let slim = slim(alloc, &proof.derivation)?;
+        return is_accepted(alloc, words, proof.root, &slim);
     }
-    most
+    is_accepted(alloc, words, proof.root, &proof.derivation)
 }
 
 /// The number of the first proof that is not accepted, counted from 1.
-fn bad_proof(words: &[u64], proofs: &[Proof], marks: &mut Marks) -> Option<usize>
-    requires { judged.widest_of proofs.now ≤ marks.old.room }
-    ensures { result ≡ judged.bad_proof words.now 1 proofs.now }
+fn bad_proof(alloc: Global, words: &[u64], proofs: &[Proof]) -> Result<Option<usize>, Memory>
+    ensures { IfOk result (λ n. n ≡ judged.bad_proof words.now 1 proofs.now) }
 {
     for (i, proof) in proofs.iter().enumerate() {
-        if !check(words, proof.root, &proof.derivation, marks) {
-            return Some(i + 1);
+        if !is_proof(alloc, words, proof)? {
+            return Ok(Some(i + 1));
         }
     }
-    None
-}
-
-/// Memory is wanting for what is past 32 bits.
-fn small(n: usize) -> Result<u32, Memory>
-    ensures { IfOk result (λ m. m ≡ n) }
-{
-    u32::try_from(n).map_err(|_| Memory)
+    Ok(None)
 }
 
 /// Whether the words of a certificate are well formed and each of its proofs is accepted over
@@ -49,9 +57,10 @@ fn small(n: usize) -> Result<u32, Memory>
 /// every valuation.
 ///
 /// # Errors
-/// `Memory` where there is none for the test: 16 bytes for each word, and 20 for each literal and
-/// hint of the widest step. So it is also where a step has 2^32 of them, or the number of the
-/// first proof that is not accepted has more than 32 bits.
+/// `Memory` where there is none for the test: 16 bytes for each word, or, for one proof at a time,
+/// 20 for each literal and hint of its widest step, and a copy of it where a clause has more than
+/// 16 literals. So it is also where a step has 2^32 of them, or the number of the first proof that
+/// is not accepted has more than 32 bits.
 #[tactic(auto, unfolding(crate::specs::Judgement::judgement))]
 pub fn judge(alloc: Global, cert: &Certificate) -> Result<Judgement, Memory>
     requires few { length cert.now.words < 2 ^ 28 }
@@ -62,9 +71,7 @@ pub fn judge(alloc: Global, cert: &Certificate) -> Result<Judgement, Memory>
     if let Some(place) = bad_word(alloc, words)? {
         return Ok(Judgement::BadWords { place });
     }
-    let proofs = cert.proofs.as_slice();
-    let mut marks = Marks::make(alloc, small(widest_of(proofs))?)?;
-    match bad_proof(words, proofs, &mut marks) {
+    match bad_proof(alloc, words, cert.proofs.as_slice())? {
         None => Ok(Judgement::Accepted),
         Some(number) => Ok(Judgement::Rejected {
             proof: small(number)?,

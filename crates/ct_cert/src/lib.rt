@@ -11,6 +11,8 @@ mod judgement;
 mod judging;
 mod laws;
 mod reading;
+mod repeats;
+mod small;
 mod well_formed;
 mod writing;
 

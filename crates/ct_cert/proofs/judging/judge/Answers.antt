@@ -7,5 +7,5 @@ unfolding judgement
 returns-in-None-clause-sound c =
     let words : bad_word [] c.args.cert.now.words ≡ None = ap (bad_word []) (sym c.as_slice-words.ensures) ∙ sym c.in_ok-place.ensures ∙ c.in_default.is in
     let proofs : bad_proof c.args.cert.now.words 1 c.args.cert.now.proofs ≡ None =
-    (λ i. bad_proof (sym c.as_slice-words.ensures i) 1 (sym c.as_slice-proofs.ensures i)) ∙ sym c.bad_proof.ensures ∙ c.in-None.is in
+    (λ i. bad_proof (sym c.as_slice-words.ensures i) 1 (sym c.as_slice.ensures i)) ∙ sym c.in_ok-bad_proof.ensures ∙ c.in-None.is in
     λ e. accepted_sound c.args.cert.now (λ i. by_faults (words i) (proofs i))
