@@ -62,6 +62,11 @@ me') (;
 delete from suppliers where a = 1;
 insert into supplier select n from digit;
 assert name = 1;
+select supplier.name from supplier s;
+select name from supplier where name = Ann;
+select supplier.name from supplier left join digit on supplier.name = digit.n;
+select city from supplier where name = 1 union select towns from supplier
+where city = 'Rome';
 insert into supplier values ('Eve', 'Rome);
 select name from supplier;
 begin;

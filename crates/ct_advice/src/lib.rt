@@ -1,24 +1,24 @@
-//! Advice on refused statements: what was wrong with a text, and what to write instead.
+//! Advice on refused statements: which name or number does not fit, and what is there instead.
 //!
-//! Nothing here has a contract: the sentences are meant for people. What they are put behind is proved in `ct_remarks`.
+//! No sentence has a contract: they are meant for people. What they are put behind is proved in `ct_remarks`.
 #![tactic(auto)]
 
 mod aliases;
-mod faults;
-mod hints;
 mod limits;
 mod naming;
-mod selects;
+mod parts;
 mod tables;
 mod tokens;
-mod unread;
 
 pub use aliases::{BareAlias, bare_alias, broken_text};
-pub use faults::{Fault, FaultAt, fault_in};
-pub use limits::{asserts_of, push_too_deep, push_too_large};
+pub use limits::{asserting, push_too_deep, push_too_large};
 pub use naming::{
     push_ambiguous_column, push_column_count, push_duplicate_name, push_table_exists,
     push_unknown_column, push_unknown_table,
 };
-pub use tables::{Made, Own, Visible, made_tables, own_table};
-pub use unread::{Unread, line_of, push_not_a_statement, push_number_range};
+pub use parts::{Mention, Part, Seen, Select, part_before, selects};
+pub use tables::{Known, Made, Own, Visible, known_of, own_table};
+pub use tokens::{
+    is_among_at, is_cell_at, is_keyword_at, is_name_at, is_number_at, is_same, is_symbol_at,
+    is_text_at, is_word_at, word, word_at,
+};

@@ -1,15 +1,20 @@
 // What is said of queries that are too deep or too large, and which commits name the nulls of an assertion.
 
-use crate::selects::{Select, selects};
+ghost use Rattle.std.specs.Prelude.{◌≤◌, length, IfOk};
+
+use crate::parts::{Select, selects};
+use crate::tables::{KEPT, Known};
 use crate::tokens::word;
 use ct_lex::{Lexeme, Token};
-use ct_rewrite::{Change, Commit, Node};
-use ct_word::{Memory, Null, Term};
+use ct_word::Memory;
 use std::alloc::Global;
 use std::fmt::Write;
 
 /// The greatest number of set operators, and of parentheses and NOTs in one another.
 const DEPTH: usize = 64;
+
+/// The greatest number of rows, or of pairs of rows, that a part of a query goes through.
+const SIZE: u64 = 1_048_576;
 
 /// How many set operators the tokens have.
 fn operators(tokens: &[Token]) -> usize {
@@ -39,77 +44,79 @@ pub fn push_too_deep(out: &mut String, tokens: &[Token]) -> Result<(), Memory> {
     Ok(())
 }
 
-/// How many rows were ever inserted into a table, as the history tells them.
-fn inserted(history: &[Commit], name: &str) -> u128 {
-    let mut count: u128 = 0;
-    for commit in history {
-        for change in commit.changes.as_slice() {
-            if let Change::Insert { name: other, rows } = change {
-                if other.as_str() == name {
-                    count = count.saturating_add(rows.len() as u128);
-                }
-            }
-        }
-    }
-    count
-}
-
-/// How many rows or pairs of rows a FROM goes through at most.
-fn product(history: &[Commit], select: &Select) -> u128 {
+/// How many rows or pairs of rows a FROM goes through at most, by the rows that were ever inserted.
+fn product(known: &Known, select: &Select) -> u128 {
     let mut all: u128 = 1;
     for seen in &select.tables {
-        all = all.saturating_mul(inserted(history, seen.table));
+        let rows = match known.tables.get(seen.table) {
+            Some(made) => made.rows,
+            None => 0,
+        };
+        all = all.saturating_mul(u128::from(rows));
     }
     all
 }
 
-/// Appends how large a query may be, and how large it is at most by the rows that the history has.
+/// Appends how large a query may be, and how large it is at most by the rows that were ever inserted.
 ///
 /// # Errors
 /// `Memory` where there is none for the text.
 pub fn push_too_large(
     alloc: Global,
     out: &mut String,
-    history: &[Commit],
+    known: &Known,
     tokens: &[Token],
 ) -> Result<(), Memory> {
-    out.push_str("at most 1048576 rows or pairs of rows")?;
+    write!(out, "at most {SIZE} rows or pairs of rows")?;
     let mut most: u128 = 0;
     for select in &selects(alloc, tokens)? {
         if !select.tables.is_empty() {
-            most = most.max(product(history, select));
+            most = most.max(product(known, select));
         }
     }
-    if most > 1_048_576 {
+    if most > u128::from(SIZE) {
         write!(out, ", and here up to {most}")?;
     }
     out.push_str(": insert what you select of one table into a table of its own, and join that")?;
     Ok(())
 }
 
-fn is_named(term: &Term, tokens: &[Token]) -> bool {
-    let Term::Null(Null::Named(name)) = term else {
-        return false;
-    };
-    tokens.iter().any(|token| match &token.word {
-        Lexeme::Null(other) => other.as_str() == name.as_str(),
-        _ => false,
-    })
-}
-
-fn names_a_null(node: &Node, tokens: &[Token]) -> bool {
-    match node {
-        Node::Eq(left, right) | Node::Ne(left, right) => {
-            is_named(left, tokens) || is_named(right, tokens)
-        }
-        _ => false,
+/// Adds a number to a list that rises, where it is not there.
+fn add_sorted(numbers: &mut Vec<usize>, number: usize) -> Result<(), Memory> {
+    if numbers.contains(&number) {
+        return Ok(());
     }
+    numbers.push(number)?;
+    numbers.sort_unstable();
+    Ok(())
 }
 
-/// Whether a commit has an assertion and names a null of these tokens.
-pub fn asserts_of(commit: &Commit, tokens: &[Token]) -> bool {
-    let mut changes = commit.changes.as_slice().iter();
-    let mut nodes = commit.nodes.as_slice().iter();
-    changes.any(|change| matches!(change, Change::Assert { .. }))
-        && nodes.any(|node| names_a_null(node, tokens))
+/// The first commits up to a version that have asserted something and name a null of these tokens, at most three.
+///
+/// # Errors
+/// `Memory` where there is none for the list.
+pub fn asserting(
+    alloc: Global,
+    known: &Known,
+    version: usize,
+    tokens: &[Token],
+) -> Result<Vec<usize>, Memory>
+    ensures most { IfOk result (λ found. length found.items ≤ 3) }
+{
+    let mut found = Vec::new(alloc);
+    for token in tokens {
+        let Lexeme::Null(name) = &token.word else {
+            continue;
+        };
+        let Some(commits) = known.asserted.get(name.as_str()) else {
+            continue;
+        };
+        for number in commits {
+            if *number <= version {
+                add_sorted(&mut found, *number)?;
+            }
+        }
+    }
+    found.truncate(KEPT);
+    Ok(found)
 }

@@ -1,10 +1,12 @@
 // What is said of names and counts.
 
-use crate::selects::{Mention, Seen, Select, selects};
+use crate::aliases::{BareAlias, bare_alias};
+use crate::parts::{Mention, Seen, Select, selects};
 use crate::tables::Visible;
-use crate::tokens::{is_symbol_at, is_word_at, word};
+use crate::tokens::{is_same, is_symbol_at, is_word_at, word};
 use ct_lex::{Symbol, Token};
 use ct_word::{Memory, Text};
+use indexmap::IndexSet;
 use std::alloc::Global;
 use std::fmt::Write;
 
@@ -112,13 +114,13 @@ pub fn push_table_exists(
 }
 
 fn has_column(columns: &[Text], name: &str) -> bool {
-    columns.iter().any(|column| column.as_str() == name)
+    columns.iter().any(|column| is_same(column.as_str(), name))
 }
 
 /// Whether a table of a FROM has a column as it is written.
 fn shows(visible: &Visible, seen: &Seen, mention: &Mention) -> bool {
     if let Some(owner) = mention.owner {
-        if seen.name != owner {
+        if !is_same(seen.name, owner) {
             return false;
         }
     }
@@ -145,7 +147,7 @@ fn push_mention(out: &mut String, mention: &Mention) -> Result<(), Memory> {
 /// Appends the tables of a FROM with their columns, as they are seen.
 fn push_scope(out: &mut String, visible: &Visible, select: &Select) -> Result<(), Memory> {
     if select.tables.is_empty() {
-        out.push_str(", which sees no table")?;
+        out.push_str(": no table is seen here, and a null is written as ?x")?;
         return Ok(());
     }
     out.push_str(" in ")?;
@@ -154,6 +156,56 @@ fn push_scope(out: &mut String, visible: &Visible, select: &Select) -> Result<()
             out.push_str(", ")?;
         }
         push_table(out, seen.name, visible.columns(seen.table).unwrap_or(&[]))?;
+    }
+    Ok(())
+}
+
+/// The name under which a table is seen that a column has before it, where that is another one.
+fn alias_of<'a>(select: &Select<'a>, mention: &Mention) -> Option<&'a str> {
+    let owner = mention.owner?;
+    for seen in &select.tables {
+        if is_same(seen.table, owner) && !is_same(seen.name, owner) {
+            return Some(seen.name);
+        }
+    }
+    None
+}
+
+/// Whether a word is compared with what stands before it.
+fn is_compared(tokens: &[Token], name: &str) -> bool {
+    for i in 1..tokens.len() {
+        let before = i - 1;
+        let is_behind = is_symbol_at(tokens, before, Symbol::Equal)
+            || is_symbol_at(tokens, before, Symbol::Unequal);
+        if is_behind && is_word_at(tokens, i, name) {
+            return true;
+        }
+    }
+    false
+}
+
+/// Appends what a column that is not there may be meant for.
+fn push_meant(
+    alloc: Global,
+    out: &mut String,
+    select: &Select,
+    mention: &Mention,
+    tokens: &[Token],
+) -> Result<(), Memory> {
+    if let Some(found) = bare_alias(alloc, tokens)? {
+        let BareAlias {
+            alias,
+            table,
+            said,
+            ..
+        } = found;
+        write!(out, "; {alias} is read as the alias of {table}: {said}")?;
+    } else if let Some(alias) = alias_of(select, mention) {
+        let name = mention.name;
+        write!(out, "; write {alias}.{name}")?;
+    }
+    if mention.owner.is_none() && is_compared(tokens, mention.name) {
+        out.push_str("; a text stands in single quotes")?;
     }
     Ok(())
 }
@@ -173,7 +225,8 @@ pub fn push_unknown_column(
             if showing(visible, select, mention) == 0 {
                 out.push_str("no column ")?;
                 push_mention(out, mention)?;
-                return push_scope(out, visible, select);
+                push_scope(out, visible, select)?;
+                return push_meant(alloc, out, select, mention, tokens);
             }
         }
     }
@@ -223,15 +276,17 @@ fn push_owners(
 }
 
 /// The first name that stands twice.
-fn repeated<'a>(names: &[&'a str]) -> Option<&'a str> {
-    for (i, name) in names.iter().enumerate() {
-        if let Some(before) = names.get(..i) {
-            if before.iter().any(|other| *other == *name) {
-                return Some(*name);
-            }
+///
+/// # Errors
+/// `Memory` where there is none for those before it.
+fn repeated<'a>(alloc: Global, names: &[&'a str]) -> Result<Option<&'a str>, Memory> {
+    let mut before = IndexSet::new(alloc);
+    for name in names {
+        if !before.insert(*name)? {
+            return Ok(Some(*name));
         }
     }
-    None
+    Ok(None)
 }
 
 fn created_columns<'a>(alloc: Global, tokens: &'a [Token]) -> Result<Vec<&'a str>, Memory> {
@@ -255,7 +310,7 @@ pub fn push_duplicate_name(
     tokens: &[Token],
 ) -> Result<(), Memory> {
     if is_word_at(tokens, 0, "create") {
-        let name = repeated(&created_columns(alloc, tokens)?).unwrap_or("the name");
+        let name = repeated(alloc, &created_columns(alloc, tokens)?)?.unwrap_or("the name");
         write!(out, "two columns are named {name}")?;
         return Ok(());
     }
@@ -264,7 +319,7 @@ pub fn push_duplicate_name(
         for seen in &select.tables {
             names.push(seen.name)?;
         }
-        if let Some(name) = repeated(&names) {
+        if let Some(name) = repeated(alloc, &names)? {
             write!(
                 out,
                 "two tables are seen as {name}: write {name} as p, {name} as q"

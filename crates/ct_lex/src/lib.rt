@@ -12,5 +12,5 @@ mod splitting;
 mod token;
 
 pub use lexing::{faults_are_read, tokens, tokens_are_read, tokens_are_written};
-pub use splitting::{split, texts_are_pieces};
+pub use splitting::{piece_len, split, texts_are_pieces};
 pub use token::{LexError, Lexeme, Symbol, Token};

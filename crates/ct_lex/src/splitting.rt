@@ -50,7 +50,7 @@ fn ends_piece(place: Place, byte: u8) -> bool
 
 /// How long the first piece is: up to a `;` outside text literals and comments, or all.
 #[tactic(auto, using(crate::proofs::Pieces::goes_on, crate::proofs::Pieces::ends_at_semicolon, crate::proofs::Pieces::ends_at_end))]
-fn piece_len(script: &str) -> usize
+pub fn piece_len(script: &str) -> usize
     ensures first { spec.pieces script.now ≡ take result script.now ∷ spec.pieces_behind (drop result script.now) }
     ensures cut { IsCharBoundary script.now result }
     ensures ends { result < length script.now → slice_index script.now result ≡ 59 }

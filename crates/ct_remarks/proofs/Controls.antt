@@ -1,6 +1,6 @@
 -- A text shown character by character.
-use Rattle.std.proofs.Common.{◌≡◌, ◌≢◌, ℕ, suc, ◌<◌, Bool, true, false, List, [], ◌∷◌, ◌++◌, length, get_or, refl, sym, ap₂, ◌∙◌, arith, append_assoc, append-nil}
-use Rattle.std.{specs.Prelude.{map, if◌then◌else◌}, proofs.lemmas.Bool.Decides.nat_tests, proofs.lemmas.List.map-append, proofs.lemmas.Str.{encode_ascii, inside_one}}
+use Rattle.std.proofs.Common.{◌≡◌, ℕ, suc, ◌<◌, Bool, true, false, List, [], ◌∷◌, ◌++◌, length, get_or, refl, sym, ap₂, ◌∙◌, arith, append_assoc, append-nil}
+use Rattle.std.{specs.Prelude.{◌||◌}, specs.List.list_any, proofs.lemmas.Bool.Decides.nat_tests, proofs.lemmas.List.map-append, proofs.lemmas.Str.{encode_ascii, inside_one}}
 use Rattle.ct_remarks.specs.Remarks.{shown, is_control}
 use lib.Utf8.{encode}
 
@@ -27,3 +27,16 @@ control_char c h = rw (encode_ascii c (ascii_control c h), encode_ascii 63 (omeg
 
 pub char_shown : (c : ℕ) (out old new : List ℕ) → old ≡ encode c ++ new → (out ++ shown (encode c)) ++ shown new ≡ out ++ shown old
 char_shown c out old new h = rw (h, map-append _ (encode c) new) (simp append_assoc)
+
+or_right : (a b : Bool) → (a || b) ≡ false → b ≡ false
+or_right true b h = absurd (grind (arith, h))
+or_right false b h = h
+
+plain_next : (x : ℕ) (xs : List ℕ) (q : Bool) → is_control x ≡ q → list_any is_control (x ∷ xs) ≡ false → (list_any is_control xs ≡ false → shown xs ≡ xs) → shown (x ∷ xs) ≡ x ∷ xs
+plain_next x xs true e h rest = absurd (grind (arith, e, h))
+plain_next x xs false e h rest = rw e (ap₂ (λ (a : ℕ) (b : List ℕ). a ∷ b) refl (rest (or_right (is_control x) _ h)))
+
+-- a text without control characters is shown as it is
+pub plain_shown : (xs : List ℕ) → list_any is_control xs ≡ false → shown xs ≡ xs
+plain_shown [] h = refl
+plain_shown (x ∷ xs) h = plain_next x xs _ refl h (λ k. plain_shown xs k)

@@ -1,6 +1,6 @@
 -- Lines and columns, byte by byte.
-use Rattle.std.proofs.Common.{◌≡◌, ℕ, ◌+◌, ◌<◌, ◌≤◌, Bool, true, false, List, [], ◌∷◌, ◌++◌, length, get_or, take, refl, sym, ap, ◌∙◌, arith, length-take}
-use Rattle.std.{specs.Prelude.{fold, count_by, if◌then◌else◌}, proofs.lemmas.List.take_more, proofs.lemmas.Bool.Decides.nat_tests}
+use Rattle.std.proofs.Common.{◌≡◌, ℕ, ◌+◌, ◌<◌, ◌≤◌, Bool, true, false, List, [], ◌∷◌, length, get_or, take, refl, sym, ap, ◌∙◌, arith, length-take}
+use Rattle.std.{specs.Prelude.{fold, count_by, if◌then◌else◌}, proofs.lemmas.List.take_more}
 use Rattle.std.proofs.lemmas.List.Sums.{count_by-le-length, count_by_more_yes, count_by_more_no, fold-append}
 use Rattle.ct_remarks.specs.Standing.{is_line_end, is_inner, line_at, column_after, column_at, IsSpot}
 use Rattle.ct_remarks.specs.declared.places.Spot.{Spot}
@@ -39,4 +39,17 @@ spot_more script s t b within is spot at line column = record {
   line = line ∙ ap (λ n. if is_line_end b then n + 1 else n) spot.line ∙ ap (λ y. if is_line_end y then line_at script s.at + 1 else line_at script s.at) is
       ∙ sym (line_more script s.at within) ∙ ap (line_at script) (sym at);
   column = column ∙ ap (λ n. column_after n b) spot.column ∙ ap (column_after (column_at script s.at)) is ∙ sym (column_more script s.at within) ∙ ap (column_at script) (sym at);
+}
+
+-- past the script lines and columns are those of its end
+pub spot_past : (script : List ℕ) (s t : Spot) → IsSpot script s → take s.at script ≡ take t.at script → t.line ≡ s.line → t.column ≡ s.column → IsSpot script t
+spot_past script s t spot same line column = record {
+  line = line ∙ spot.line ∙ ap (λ xs. 1 + count_by is_line_end xs) same;
+  column = column ∙ spot.column ∙ ap (fold column_after 1) same;
+}
+
+pub start_spot : (script : List ℕ) (s : Spot) → s.at ≡ 0 → s.line ≡ 1 → s.column ≡ 1 → IsSpot script s
+start_spot script s at line column = record {
+  line = line ∙ ap (line_at script) (sym at);
+  column = column ∙ ap (column_at script) (sym at);
 }

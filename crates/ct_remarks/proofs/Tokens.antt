@@ -1,8 +1,8 @@
 -- The pieces of a script, one after another, and their first tokens.
-use Rattle.std.proofs.Common.{◌≡◌, ℕ, zero, suc, ◌+◌, ◌<◌, ◌≤◌, Bool, true, false, List, [], ◌∷◌, ◌++◌, length, drop, refl, sym, ap, ◌∙◌, arith, append_assoc, append-nil}
-use Rattle.std.{specs.Prelude.{map, nat_lt, if◌then◌else◌}, proofs.lemmas.List.map-append, proofs.lemmas.Bool.Decides.nat_tests}
+use Rattle.std.proofs.Common.{◌≡◌, ℕ, suc, ◌+◌, ◌<◌, ◌≤◌, Bool, true, false, List, [], ◌∷◌, ◌++◌, length, drop, refl, sym, ap, ◌∙◌, arith, append_assoc, append-nil}
+use Rattle.std.{specs.Prelude.{map, nat_lt}, proofs.lemmas.List.map-append, proofs.lemmas.Bool.Decides.nat_tests}
 use Rattle.ct_lex.specs.{Spelling.{is_blank, is_comment_byte}, Texts.{begins_comment, has_token_from, has_token, pieces, pieces_behind}}
-use Rattle.ct_remarks.specs.Standing.{lead_from, lead, line_at, column_at, IsSpot, PlacedText, placed_text, placed_piece, placed_from, placed_of}
+use Rattle.ct_remarks.specs.Standing.{lead_from, lead, PlacedText, placed_text, placed_piece, placed_from, placed_of}
 use Rattle.ct_remarks.specs.declared.places.Placed.{Placed}
 
 further : (n m : ℕ) (q : Bool) → nat_lt n m ≡ q → q ≡ nat_lt (n + 1) (suc m)
@@ -44,46 +44,41 @@ has_one piece within = let is = token_lead false piece in grind (arith, nat_test
 pub has_none : (piece : List ℕ) → length piece ≤ lead piece → has_token piece ≡ false
 has_none piece past = let is = token_lead false piece in grind (arith, nat_tests)
 
-abbrev built : ℕ → ℕ → ℕ → ℕ → List ℕ → PlacedText
-built at first line column text = record { at = at; first = first; line = line; column = column; text = text }
+kept_piece : (at : ℕ) (piece : List ℕ) → has_token piece ≡ true → placed_text at piece ∷ [] ≡ placed_piece at piece
+kept_piece at piece e = rw e refl
 
-same_placed : (script piece : List ℕ) (at : ℕ) (k : Placed) → k.at ≡ at → k.first.at ≡ at + lead piece → IsSpot script k.first → k.text.now ≡ piece → placed_of k ≡ placed_text script at piece
-same_placed script piece at k is_at is_first spot is_text =
-    ap (λ x. built x k.first.at k.first.line k.first.column k.text.now) is_at
-    ∙ ap (λ x. built at x k.first.line k.first.column k.text.now) is_first
-    ∙ ap (λ x. built at (at + lead piece) x k.first.column k.text.now) (spot.line ∙ ap (line_at script) is_first)
-    ∙ ap (λ x. built at (at + lead piece) (line_at script (at + lead piece)) x k.text.now) (spot.column ∙ ap (column_at script) is_first)
-    ∙ ap (λ x. built at (at + lead piece) (line_at script (at + lead piece)) (column_at script (at + lead piece)) x) is_text
+skipped_piece : (at : ℕ) (piece : List ℕ) → has_token piece ≡ false → placed_piece at piece ≡ []
+skipped_piece at piece e = rw e refl
 
-kept_piece : (script piece : List ℕ) (at : ℕ) → has_token piece ≡ true → placed_text script at piece ∷ [] ≡ placed_piece script at piece
-kept_piece script piece at e = rw e refl
+abbrev built : ℕ → ℕ → List ℕ → PlacedText
+built at first text = record { at = at; first = first; text = text }
 
-skipped_piece : (script piece : List ℕ) (at : ℕ) → has_token piece ≡ false → placed_piece script at piece ≡ []
-skipped_piece script piece at e = rw e refl
+same_placed : (piece : List ℕ) (at : ℕ) (k : Placed) → k.at ≡ at → k.first ≡ at + lead piece → k.text.now ≡ piece → placed_of k ≡ placed_text at piece
+same_placed piece at k is_at is_first is_text =
+    ap (λ x. built x k.first k.text.now) is_at ∙ ap (λ x. built at x k.text.now) is_first ∙ ap (λ x. built at (at + lead piece) x) is_text
 
-pub one_placed : (script piece : List ℕ) (at : ℕ) (k : Placed) (old new : List Placed) → lead piece < length piece
-    → k.at ≡ at → k.first.at ≡ at + lead piece → IsSpot script k.first → k.text.now ≡ piece → new ≡ old ++ k ∷ []
-    → map placed_of new ≡ map placed_of old ++ placed_piece script at piece
-one_placed script piece at k old new within is_at is_first spot is_text grown =
-    ap (map placed_of) grown ∙ map-append placed_of old (k ∷ []) ∙ ap (λ p. map placed_of old ++ p ∷ []) (same_placed script piece at k is_at is_first spot is_text)
-    ∙ ap (λ ps. map placed_of old ++ ps) (kept_piece script piece at (has_one piece within))
+pub one_placed : (piece : List ℕ) (at : ℕ) (k : Placed) (old new : List Placed) → lead piece < length piece → k.at ≡ at → k.first ≡ at + lead piece → k.text.now ≡ piece
+    → new ≡ old ++ k ∷ [] → map placed_of new ≡ map placed_of old ++ placed_piece at piece
+one_placed piece at k old new within is_at is_first is_text grown =
+    ap (map placed_of) grown ∙ map-append placed_of old (k ∷ []) ∙ ap (λ p. map placed_of old ++ p ∷ []) (same_placed piece at k is_at is_first is_text)
+    ∙ ap (λ ps. map placed_of old ++ ps) (kept_piece at piece (has_one piece within))
 
-pub none_placed : (script piece : List ℕ) (at : ℕ) (ts : List PlacedText) → length piece ≤ lead piece → ts ≡ ts ++ placed_piece script at piece
-none_placed script piece at ts past = sym (ap (λ ps. ts ++ ps) (skipped_piece script piece at (has_none piece past)) ∙ append-nil ts)
+pub none_placed : (piece : List ℕ) (at : ℕ) (ts : List PlacedText) → length piece ≤ lead piece → ts ≡ ts ++ placed_piece at piece
+none_placed piece at ts past = sym (ap (λ ps. ts ++ ps) (skipped_piece at piece (has_none piece past)) ∙ append-nil ts)
 
-step : (script rest piece behind : List ℕ) (at : ℕ) (ts ts' all : List PlacedText) → pieces rest ≡ piece ∷ pieces_behind behind
-    → ts' ≡ ts ++ placed_piece script at piece → ts ++ placed_from script at (pieces rest) ≡ all
-    → ts' ++ placed_from script (at + (length piece + 1)) (pieces_behind behind) ≡ all
-step script rest piece behind at ts ts' all cut grown before =
-    ap (λ us. us ++ placed_from script (at + (length piece + 1)) (pieces_behind behind)) grown ∙ append_assoc ts _ _ ∙ ap (λ us. ts ++ us) (ap (placed_from script at) (sym cut)) ∙ before
+step : (rest piece behind : List ℕ) (at : ℕ) (ts ts' all : List PlacedText) → pieces rest ≡ piece ∷ pieces_behind behind
+    → ts' ≡ ts ++ placed_piece at piece → ts ++ placed_from at (pieces rest) ≡ all
+    → ts' ++ placed_from (at + (length piece + 1)) (pieces_behind behind) ≡ all
+step rest piece behind at ts ts' all cut grown before =
+    ap (λ us. us ++ placed_from (at + (length piece + 1)) (pieces_behind behind)) grown ∙ append_assoc ts _ _ ∙ ap (λ us. ts ++ us) (ap (placed_from at) (sym cut)) ∙ before
 
-pub last_step : (script rest piece behind : List ℕ) (at : ℕ) (ts ts' all : List PlacedText) → pieces rest ≡ piece ∷ pieces_behind behind → length behind ≡ 0
-    → ts' ≡ ts ++ placed_piece script at piece → ts ++ placed_from script at (pieces rest) ≡ all → ts' ≡ all
-last_step script rest piece [] at ts ts' all cut none grown before = sym (append-nil ts') ∙ step script rest piece [] at ts ts' all cut grown before
-last_step script rest piece (b ∷ r) at ts ts' all cut none grown before = absurd (omega (arith, none))
+pub last_step : (rest piece behind : List ℕ) (at : ℕ) (ts ts' all : List PlacedText) → pieces rest ≡ piece ∷ pieces_behind behind → length behind ≡ 0
+    → ts' ≡ ts ++ placed_piece at piece → ts ++ placed_from at (pieces rest) ≡ all → ts' ≡ all
+last_step rest piece [] at ts ts' all cut none grown before = sym (append-nil ts') ∙ step rest piece [] at ts ts' all cut grown before
+last_step rest piece (b ∷ r) at ts ts' all cut none grown before = absurd (omega (arith, none))
 
-pub next_step : (script rest rest' piece behind : List ℕ) (at : ℕ) (ts ts' all : List PlacedText) → pieces rest ≡ piece ∷ pieces_behind behind → 0 < length behind → rest' ≡ drop 1 behind
-    → ts' ≡ ts ++ placed_piece script at piece → ts ++ placed_from script at (pieces rest) ≡ all → ts' ++ placed_from script (at + (length piece + 1)) (pieces rest') ≡ all
-next_step script rest rest' piece [] at ts ts' all cut some is grown before = absurd (omega (arith, some))
-next_step script rest rest' piece (b ∷ r) at ts ts' all cut some is grown before =
-    ap (λ y. ts' ++ placed_from script (at + (length piece + 1)) (pieces y)) is ∙ step script rest piece (b ∷ r) at ts ts' all cut grown before
+pub next_step : (rest rest' piece behind : List ℕ) (at : ℕ) (ts ts' all : List PlacedText) → pieces rest ≡ piece ∷ pieces_behind behind → 0 < length behind → rest' ≡ drop 1 behind
+    → ts' ≡ ts ++ placed_piece at piece → ts ++ placed_from at (pieces rest) ≡ all → ts' ++ placed_from (at + (length piece + 1)) (pieces rest') ≡ all
+next_step rest rest' piece [] at ts ts' all cut some is grown before = absurd (omega (arith, some))
+next_step rest rest' piece (b ∷ r) at ts ts' all cut some is grown before =
+    ap (λ y. ts' ++ placed_from (at + (length piece + 1)) (pieces y)) is ∙ step rest piece (b ∷ r) at ts ts' all cut grown before

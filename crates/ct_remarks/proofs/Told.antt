@@ -1,7 +1,8 @@
 -- The refused statements, and what is said of them one after another.
 use Rattle.std.proofs.Common.{◌≡◌, ℕ, zero, suc, ◌+◌, ◌<◌, ◌≤◌, Bool, true, false, List, [], ◌∷◌, ◌++◌, length, get_or, take, refl, sym, ap, subst, ◌∙◌, arith, append-nil, Option, Some, None}
-use Rattle.std.{specs.Prelude.{map, slice_get}, specs.List.AllZip, proofs.lemmas.List.{map-append, take_more, take-map, take_all, get_or-take, get_or-map, length-map, length-take}}
-use Rattle.std.proofs.lemmas.Option.{slice_get-map, slice_get_past, slice_get_read}
+use Rattle.std.{specs.Prelude.{map, slice_get, All}, specs.List.AllZip, proofs.lemmas.List.{map-append, take_more, take-map, take_all, get_or-take, get_or-map, length-map, length-take}}
+use Rattle.std.proofs.lemmas.List.Elements.{All-get_or, All-take}
+use Rattle.std.proofs.lemmas.Option.{slice_get-map, slice_get_past}
 use Rattle.ct_lex.specs.Texts.{has_token, pieces}
 use Rattle.ct_transcript.specs.declared.reply.Refusal.{Refusal}
 use Rattle.ct_transcript.specs.declared.reply.Reply.{Reply}
@@ -9,8 +10,8 @@ use Rattle.ct_transcript.specs.declared.reply.SessionLog.{SessionLog}
 use Rattle.ct_transcript.specs.declared.reply.Reply.TheVariants as reply
 use Rattle.ct_remarks.specs.declared.cases.Case as kept
 use Rattle.ct_remarks.specs.declared.places.Placed.{Placed}
-use Rattle.ct_remarks.specs.Standing.{lead, PlacedText, line_at, column_at, placed_piece, placed_from, placed, placed_of}
-use Rattle.ct_remarks.specs.RefusedStatements.{Case, case_of, refused, refused_by, cases_from, cases, IsStanding}
+use Rattle.ct_remarks.specs.Standing.{PlacedText, placed_piece, placed_from, placed, placed_of}
+use Rattle.ct_remarks.specs.RefusedStatements.{Case, case_of, refused, refused_by, cases_from, cases, IsStanding, IsMarked}
 use Rattle.ct_remarks.specs.Remarks.{IsRemark}
 use Rattle.ct_remarks.proofs.Tokens.{lead_le}
 
@@ -44,24 +45,24 @@ each_got P [] i x is all = absurd (grind arith)
 each_got P (y ∷ xs) zero x is all = let same : y ≡ x = grind arith in subst P same all.0
 each_got P (y ∷ xs) (suc i) x is all = each_got P xs i x is all.1
 
-abbrev Fits : List ℕ → PlacedText → Type 0
-Fits script t = (t.first ≤ t.at + length t.text) × (t.line ≡ line_at script t.first) × (t.column ≡ column_at script t.first)
+abbrev Fits : PlacedText → Type 0
+Fits t = t.first ≤ t.at + length t.text
 
-piece_fits : (script : List ℕ) (at : ℕ) (piece : List ℕ) (q : Bool) → has_token piece ≡ q → Each (Fits script) (placed_piece script at piece)
-piece_fits script at piece true e = rw e ((omega (arith, lead_le false piece), refl, refl), tt)
-piece_fits script at piece false e = rw e tt
+piece_fits : (at : ℕ) (piece : List ℕ) (q : Bool) → has_token piece ≡ q → Each Fits (placed_piece at piece)
+piece_fits at piece true e = rw e (omega (arith, lead_le false piece), tt)
+piece_fits at piece false e = rw e tt
 
-placed_fit : (script : List ℕ) (at : ℕ) (ps : List (List ℕ)) → Each (Fits script) (placed_from script at ps)
-placed_fit script at [] = tt
-placed_fit script at (p ∷ ps) = each_after (Fits script) (placed_piece script at p) _ (piece_fits script at p _ refl) (placed_fit script (at + (length p + 1)) ps)
+placed_fit : (at : ℕ) (ps : List (List ℕ)) → Each Fits (placed_from at ps)
+placed_fit at [] = tt
+placed_fit at (p ∷ ps) = each_after Fits (placed_piece at p) _ (piece_fits at p _ refl) (placed_fit (at + (length p + 1)) ps)
 
-refused_stands : (session i : ℕ) (script : List ℕ) (why : Refusal) (o : Option PlacedText) → ((t : PlacedText) → o ≡ Some t → Fits script t) → Each IsStanding (refused session i script why o)
+refused_stands : (session i : ℕ) (script : List ℕ) (why : Refusal) (o : Option PlacedText) → ((t : PlacedText) → o ≡ Some t → Fits t) → Each IsStanding (refused session i script why o)
 refused_stands session i script why None fits = tt
-refused_stands session i script why (Some t) fits = let f = fits t refl in (record { within = f.0; line = f.1; column = f.2 }, tt)
+refused_stands session i script why (Some t) fits = (record { within = fits t refl }, tt)
 
 reply_stands : (session i : ℕ) (script : List ℕ) (r : Reply) → Each IsStanding (refused_by session i script (placed script) r)
 reply_stands session i script (reply.Refused at why) =
-    refused_stands session i script why (slice_get (placed script) i) (λ t is. each_got (Fits script) (placed script) i t is (placed_fit script 0 (pieces script)))
+    refused_stands session i script why (slice_get (placed script) i) (λ t is. each_got Fits (placed script) i t is (placed_fit 0 (pieces script)))
 reply_stands session i script (reply.Begun at) = tt
 reply_stands session i script reply.RolledBack = tt
 reply_stands session i script (reply.Pending at plus) = tt
@@ -89,6 +90,12 @@ kept_stands logs cs first i k d all is within there =
     let same : k ≡ get_or cs i d = there ∙ ap (λ xs. get_or xs i d) is ∙ get_or-take 100 cs i d low in
     let mapped : get_or (map case_of cs) i (case_of k) ≡ case_of k = get_or-map case_of cs i d (case_of k) bound ∙ ap case_of (sym same) in
     subst IsStanding mapped (each_at IsStanding (map case_of cs) i (case_of k) (omega (arith, bound, length-map cs case_of)) (subst (Each IsStanding) (sym all) (all_stand 0 logs)))
+
+-- and the spot that is kept for it is that of its first token
+pub kept_marked : (cs first : List kept.Case) (i : ℕ) (k d : kept.Case) → All IsMarked cs → first ≡ take 100 cs → i < length first → k ≡ get_or first i d → IsMarked k
+kept_marked cs first i k d all is within there =
+    let marked : All IsMarked first = subst (All IsMarked) (sym is) (All-take IsMarked 100 cs all) in
+    subst IsMarked (sym there) (All-get_or IsMarked first i d within marked)
 
 zip_push : {A B : Type 0} (R : A → B → Type 0) (xs : List A) (ys : List B) (x : A) (y : B) → AllZip R xs ys → R x y → AllZip R (xs ++ x ∷ []) (ys ++ y ∷ [])
 zip_push R [] [] x y all r = (r, tt)

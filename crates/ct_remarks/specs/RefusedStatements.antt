@@ -5,7 +5,7 @@ use Rattle.ct_transcript.specs.declared.reply.Reply.{Reply}
 use Rattle.ct_transcript.specs.declared.reply.Reply.TheVariants as reply
 use Rattle.ct_transcript.specs.declared.reply.SessionLog.{SessionLog}
 use Rattle.ct_remarks.specs.declared.cases.Case as kept
-use Rattle.ct_remarks.specs.Standing.{PlacedText, placed, placed_of, line_at, column_at}
+use Rattle.ct_remarks.specs.Standing.{PlacedText, placed, placed_of, IsSpot}
 
 -- a refused statement: the position of its session, its number in the script, its text, and why it was refused
 pub record Case : Type 0 where
@@ -39,8 +39,11 @@ cases session (log ∷ logs) = cases_from session 0 log.script (placed log.scrip
 abbrev pub case_of : kept.Case → Case
 case_of c = record { session = c.session; number = c.number; script = c.script.now; text = placed_of c.text; why = c.why.now }
 
--- its first token stands within its text, and on the line and in the column that are told
+-- its first token stands within its text
 pub record IsStanding (c : Case) : Type 0 where
   pub within : c.text.first ≤ c.text.at + length c.text.text
-  pub line : c.text.line ≡ line_at c.script c.text.first
-  pub column : c.text.column ≡ column_at c.script c.text.first
+
+-- the spot that is kept is that of its first token
+pub record IsMarked (c : kept.Case) : Type 0 where
+  pub at : c.first.at ≡ c.text.first
+  pub spot : IsSpot c.script.now c.first

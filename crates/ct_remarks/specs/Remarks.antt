@@ -1,5 +1,5 @@
 -- Remarks on refused statements.
-use Rattle.std.specs.Prelude.{◌≡◌, ℕ, ◌+◌, ◌-◌, ◌≤◌, Bool, true, false, ◌||◌, List, [], ◌∷◌, ◌++◌, length, map, take, drop, slice_get, nat_eq, nat_le, nat_lt, IsFalse, Option, Some, None, codes, decimal, if◌then◌else◌}
+use Rattle.std.specs.Prelude.{◌≡◌, ℕ, ◌+◌, ◌-◌, ◌≤◌, Bool, true, false, ◌||◌, List, [], ◌∷◌, ◌++◌, length, map, take, slice_get, nat_eq, nat_le, nat_lt, IsFalse, Option, Some, None, codes, decimal, if◌then◌else◌}
 use Rattle.std.specs.List.{AllZip}
 use Rattle.ct_transcript.specs.Text.{refusal_name}
 use Rattle.ct_transcript.specs.declared.reply.Refusal.{Refusal}

@@ -1,19 +1,9 @@
 -- Where the statement texts of a script stand, and the lines and columns of its places.
 use Rattle.std.specs.Prelude.{◌≡◌, ℕ, ◌+◌, Bool, true, false, ◌&&◌, List, [], ◌∷◌, ◌++◌, length, take, fold, count_by, nat_eq, nat_le, if◌then◌else◌}
-use Rattle.ct_lex.specs.declared.splitting.Place.TheVariants as lex
-use Rattle.ct_lex.specs.declared.splitting.Place as splitting
 use Rattle.ct_lex.specs.Spelling.{is_blank, is_comment_byte}
 use Rattle.ct_lex.specs.Texts.{begins_comment, has_token, pieces}
-use Rattle.ct_remarks.specs.declared.pieces.Place.{Place}
-use Rattle.ct_remarks.specs.declared.pieces.Place.TheVariants.{Plain, InText, InComment}
 use Rattle.ct_remarks.specs.declared.places.Spot.{Spot}
 use Rattle.ct_remarks.specs.declared.places.Placed.{Placed}
-
--- where a byte stands, as the texts of a script are defined
-abbrev pub meant : Place → splitting.Place
-meant Plain = lex.Plain
-meant InText = lex.InText
-meant InComment = lex.InComment
 
 -- how many bytes stand before the first one that is neither blank nor in a comment; they begin in a comment or outside
 abbrev pub lead_from : Bool → List ℕ → ℕ
@@ -45,39 +35,31 @@ column_after column b = if is_line_end b then 1 else (if is_inner b then column 
 abbrev pub column_at : List ℕ → ℕ → ℕ
 column_at script place = fold column_after 1 (take place script)
 
--- a text with its place in the script, and that of its first token with its line and column
+-- a text with its place in the script, and that of its first token
 pub record PlacedText : Type 0 where
   pub at : ℕ
   pub first : ℕ
-  pub line : ℕ
-  pub column : ℕ
   pub text : List ℕ
 
-abbrev pub placed_text : List ℕ → ℕ → List ℕ → PlacedText
-placed_text script at text = record {
-  at = at;
-  first = at + lead text;
-  line = line_at script (at + lead text);
-  column = column_at script (at + lead text);
-  text = text;
-}
+abbrev pub placed_text : ℕ → List ℕ → PlacedText
+placed_text at text = record { at = at; first = at + lead text; text = text }
 
 -- a piece at this place, where it has a token
-abbrev pub placed_piece : List ℕ → ℕ → List ℕ → List PlacedText
-placed_piece script at piece = if has_token piece then placed_text script at piece ∷ [] else []
+abbrev pub placed_piece : ℕ → List ℕ → List PlacedText
+placed_piece at piece = if has_token piece then placed_text at piece ∷ [] else []
 
 -- those of the pieces that have tokens, the first of which stands at this place
-abbrev pub placed_from : List ℕ → ℕ → List (List ℕ) → List PlacedText
-placed_from script at [] = []
-placed_from script at (piece ∷ others) = placed_piece script at piece ++ placed_from script (at + (length piece + 1)) others
+abbrev pub placed_from : ℕ → List (List ℕ) → List PlacedText
+placed_from at [] = []
+placed_from at (piece ∷ others) = placed_piece at piece ++ placed_from (at + (length piece + 1)) others
 
 -- the statement texts of a script with their places
 abbrev pub placed : List ℕ → List PlacedText
-placed script = placed_from script 0 (pieces script)
+placed script = placed_from 0 (pieces script)
 
 -- a text as the program keeps it
 abbrev pub placed_of : Placed → PlacedText
-placed_of t = record { at = t.at; first = t.first.at; line = t.first.line; column = t.first.column; text = t.text.now }
+placed_of t = record { at = t.at; first = t.first; text = t.text.now }
 
 -- a spot has the line and the column of its place
 pub record IsSpot (script : List ℕ) (s : Spot) : Type 0 where

@@ -2,26 +2,26 @@
 
 use crate::cases::Case;
 use crate::context::Context;
-use crate::transactions::begun_before;
-use ct_advice::asserts_of;
+use crate::transactions::Opened;
+use ct_advice::asserting;
 use ct_lex::Token;
 use ct_query::Read;
 use ct_word::Memory;
+use std::alloc::Global;
 use std::fmt::Write;
 
-/// How many commits with earlier assertions are named.
-const NAMED: usize = 3;
+/// The number of the statement that began the transaction which is open before a refused one.
+fn begin_of(case: &Case) -> Option<usize> {
+    let begun = case.begun?;
+    Some(begun.saturating_add(1))
+}
 
-pub fn push_in_transaction(out: &mut String, context: &Context, case: &Case) -> Result<(), Memory> {
-    let index = case.number.saturating_sub(1);
-    match begun_before(context.replies(case.session), index) {
-        Some(begin) => {
-            let number = begin.saturating_add(1);
-            write!(
-                out,
-                "a transaction is open since statement {number}: COMMIT or ROLLBACK it first"
-            )?;
-        }
+pub fn push_in_transaction(out: &mut String, case: &Case) -> Result<(), Memory> {
+    match begin_of(case) {
+        Some(begin) => write!(
+            out,
+            "a transaction is open since statement {begin}: COMMIT or ROLLBACK it first"
+        )?,
         None => out.push_str("a transaction is open: COMMIT or ROLLBACK it first")?,
     }
     Ok(())
@@ -36,13 +36,7 @@ pub fn push_full(out: &mut String, context: &Context) -> Result<(), Memory> {
     Ok(())
 }
 
-pub fn push_conflict(
-    out: &mut String,
-    context: &Context,
-    case: &Case,
-    table: &Read,
-    now: u32,
-) -> Result<(), Memory> {
+pub fn push_conflict(out: &mut String, case: &Case, table: &Read, now: u32) -> Result<(), Memory> {
     match table {
         Read::Table(name) => {
             let name = name.as_str();
@@ -50,39 +44,35 @@ pub fn push_conflict(
         }
         Read::Worlds => write!(out, "commit {now} has made an assertion")?,
     }
-    let index = case.number.saturating_sub(1);
-    match begun_before(context.replies(case.session), index) {
-        Some(begin) => {
-            let number = begin.saturating_add(1);
-            write!(
-                out,
-                "; the transaction of statement {number} is over: begin again"
-            )?;
-        }
+    match begin_of(case) {
+        Some(begin) => write!(
+            out,
+            "; the transaction of statement {begin} is over: begin again"
+        )?,
         None => out.push_str("; make the change again")?,
     }
     Ok(())
 }
 
+/// Where neither a commit before nor the transaction has asserted something of its nulls, an assertion is false by itself.
 pub fn push_inconsistent(
+    alloc: Global,
     out: &mut String,
     context: &Context,
+    opened: &Opened,
     case: &Case,
     tokens: &[Token],
 ) -> Result<(), Memory> {
-    out.push_str("no values satisfy it with what was asserted before")?;
-    let version = case.version as usize;
-    let commits = context.history.iter().enumerate();
-    let mut count: usize = 0;
-    for (i, commit) in commits.take(version) {
-        if count < NAMED && asserts_of(commit, tokens) {
-            let before = if count == 0 { ", in commit " } else { ", " };
-            let number = i.saturating_add(1);
-            write!(out, "{before}{number}")?;
-            count = count.saturating_add(1);
-        }
+    out.push_str("no values satisfy it")?;
+    let commits = asserting(alloc, context.known, case.version as usize, tokens)?;
+    if !commits.is_empty() || opened.has_asserted() {
+        out.push_str(" with what was asserted before")?;
     }
-    if begun_before(context.replies(case.session), case.number.saturating_sub(1)).is_some() {
+    for (i, number) in commits.iter().enumerate() {
+        let before = if i == 0 { ", in commit " } else { ", " };
+        write!(out, "{before}{number}")?;
+    }
+    if opened.has_asserted() {
         out.push_str("; ROLLBACK takes back what this transaction asserted")?;
     }
     Ok(())

@@ -1,18 +1,17 @@
 // What the sentences are made from.
 
 use crate::places::Placed;
-use ct_advice::Made;
-use ct_transcript::{Commit, Reply, SessionLog};
+use ct_advice::Known;
+use ct_transcript::{Reply, SessionLog};
 
 /// A transcript with what was found in it.
 #[derive(Clone, Copy)]
 pub struct Context<'a, 'b> {
     pub sessions: &'a [SessionLog],
-    pub history: &'a [Commit],
     /// How many words the log has.
     pub words: usize,
     pub texts: &'b [Vec<Placed<'a>>],
-    pub made: &'b [Made<'a>],
+    pub known: &'b Known<'a>,
 }
 
 impl<'a, 'b> Context<'a, 'b> {

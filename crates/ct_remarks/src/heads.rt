@@ -1,7 +1,6 @@
 // What a remark begins with.
 
 ghost use Rattle.std.specs.Prelude.{◌≡◌, map, slice_get};
-ghost use Rattle.ct_transcript.specs.Text as text;
 ghost use Rattle.ct_transcript.specs.Written.{Appends};
 ghost use Rattle.ct_remarks.specs.RefusedStatements.{case_of};
 ghost use Rattle.ct_remarks.specs.Standing.{IsSpot};
@@ -10,33 +9,10 @@ ghost use Rattle.ct_remarks.specs.Remarks as spec;
 use crate::cases::Case;
 use crate::places::Spot;
 use crate::shown::push_shown;
-use ct_transcript::Refusal;
+use ct_transcript::refusal_name;
 use ct_word::Memory;
 use std::alloc::Global;
 use std::fmt::Write;
-
-fn refusal_name(refusal: &Refusal) -> &'static str
-    ensures { result.now ≡ text.refusal_name refusal.now }
-{
-    match refusal {
-        Refusal::NotAStatement => "NotAStatement",
-        Refusal::TooDeep => "TooDeep",
-        Refusal::NumberRange => "NumberRange",
-        Refusal::InTransaction => "InTransaction",
-        Refusal::NoTransaction => "NoTransaction",
-        Refusal::UnknownTable => "UnknownTable",
-        Refusal::TableExists => "TableExists",
-        Refusal::UnknownColumn => "UnknownColumn",
-        Refusal::AmbiguousColumn => "AmbiguousColumn",
-        Refusal::DuplicateName => "DuplicateName",
-        Refusal::ColumnCount => "ColumnCount",
-        Refusal::TooLarge => "TooLarge",
-        Refusal::Full => "Full",
-        Refusal::Inconsistent { .. } => "Inconsistent",
-        Refusal::Conflict { .. } => "Conflict",
-        Refusal::Memory => "Memory",
-    }
-}
 
 /// Appends the name of a session: that of its file, or else its number.
 fn push_session_name(

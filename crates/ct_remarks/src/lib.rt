@@ -12,6 +12,7 @@ mod heads;
 mod noting;
 mod pieces;
 mod places;
+mod reading;
 mod remarking;
 mod sentences;
 mod shown;

@@ -3,7 +3,8 @@
 ghost use Rattle.std.specs.Prelude.{◌≡◌, ◌<◌, ◌≤◌, ◌+◌, ◌++◌, ◌^◌, length, map, if◌then◌else◌, IfOk, OnOk};
 ghost use Rattle.ct_remarks.specs.Standing as spec;
 
-use crate::pieces::{byte_at, lead, piece_len};
+use crate::pieces::{byte_at, lead};
+use ct_lex::piece_len;
 use ct_word::Memory;
 use std::alloc::Global;
 
@@ -19,11 +20,12 @@ pub struct Spot {
 #[derive(Clone, Copy)]
 pub struct Placed<'a> {
     pub at: usize,
-    pub first: Spot,
+    pub first: usize,
     pub text: &'a str,
 }
 
-const START: Spot = Spot {
+/// The place before a script.
+pub const START: Spot = Spot {
     at: 0,
     line: 1,
     column: 1,
@@ -61,7 +63,7 @@ fn behind(spot: Spot, byte: u8) -> Spot
 }
 
 /// The spot at a place that does not stand before this spot.
-pub fn moved(script: &str, spot: Spot, to: usize) -> Spot
+fn moved(script: &str, spot: Spot, to: usize) -> Spot
     requires spot { spec.IsSpot script.now spot }
     requires order { spot.at ≤ to }
     requires within { to ≤ length script.now }
@@ -76,33 +78,37 @@ pub fn moved(script: &str, spot: Spot, to: usize) -> Spot
     now
 }
 
-/// Adds the piece at this place, where it has a token, and gives the spot of its first one.
-fn push_piece<'a>(
-    texts: &mut Vec<Placed<'a>>,
-    script: &str,
-    at: usize,
-    spot: Spot,
-    piece: &'a str,
-) -> Result<Spot, Memory>
-    requires spot { spec.IsSpot script.now spot }
-    requires order { spot.at ≤ at }
-    requires within { at + length piece.now ≤ length script.now }
+/// The spot at a place of a script, from one that is known. Where that one stands before it, only what is between them is
+/// read. Past the script it is that of its end.
+pub fn spot_at(script: &str, known: Spot, to: usize) -> Spot
+    requires { spec.IsSpot script.now known }
+    ensures at { result.at ≡ to }
+    ensures spot { spec.IsSpot script.now result }
+{
+    let end = to.min(script.len());
+    let from = if known.at <= end { known } else { START };
+    let Spot { line, column, .. } = moved(script, from, end);
+    Spot {
+        at: to,
+        line,
+        column,
+    }
+}
+
+/// Adds the piece at this place, where it has a token.
+fn push_piece<'a>(texts: &mut Vec<Placed<'a>>, at: usize, piece: &'a str) -> Result<(), Memory>
     requires room { at + length piece.now < 2 ^ 64 }
-    ensures pushed { OnOk result (map spec.placed_of texts.new.items ≡ map spec.placed_of texts.old.items ++ spec.placed_piece script.now at piece.now) }
-    ensures spot { IfOk result (spec.IsSpot script.now) }
-    ensures order { IfOk result (λ s. s.at ≤ at + length piece.now) }
+    ensures { OnOk result (map spec.placed_of texts.new.items ≡ map spec.placed_of texts.old.items ++ spec.placed_piece at piece.now) }
 {
     let before = lead(piece);
-    if before >= piece.len() {
-        return Ok(spot);
+    if before < piece.len() {
+        texts.push(Placed {
+            at,
+            first: at + before,
+            text: piece,
+        })?;
     }
-    let first = moved(script, spot, at + before);
-    texts.push(Placed {
-        at,
-        first,
-        text: piece,
-    })?;
-    Ok(first)
+    Ok(())
 }
 
 /// The statement texts of a script with their places.
@@ -116,10 +122,9 @@ pub fn statement_texts(alloc: Global, script: &str) -> Result<Vec<Placed>, Memor
     let mut texts = Vec::new(alloc);
     let mut rest = script;
     let mut at = 0;
-    let mut spot = START;
     loop {
         let (piece, behind) = rest.split_at(piece_len(rest));
-        spot = push_piece(&mut texts, script, at, spot, piece)?;
+        push_piece(&mut texts, at, piece)?;
         if behind.is_empty() {
             return Ok(texts);
         }

@@ -1,17 +1,19 @@
 // Remarks on the refused statements of a transcript.
 
 ghost use Rattle.std.specs.Prelude.{◌≡◌, ◌++◌, map, take, IfOk, OnOk};
-ghost use Rattle.ct_remarks.specs.RefusedStatements.{case_of, cases, IsStanding};
+ghost use Rattle.ct_remarks.specs.RefusedStatements.{case_of, cases, IsStanding, IsMarked};
 ghost use Rattle.ct_remarks.specs.Remarks as spec;
 
 use crate::cases::{Case, refused_statements};
 use crate::context::Context;
 use crate::heads::push_head;
+use crate::reading::Reading;
 use crate::sentences::sentence;
 use crate::shown::push_shown;
 use crate::spots::spot_of;
-use ct_advice::made_tables;
-use ct_transcript::Transcript;
+use crate::transactions::Opened;
+use ct_advice::known_of;
+use ct_transcript::{Refusal, Transcript};
 use ct_word::{List, Memory, Text};
 use std::alloc::Global;
 
@@ -19,13 +21,22 @@ use std::alloc::Global;
 const LIMIT: usize = 100;
 
 /// The remark on a refused statement.
-fn remark(alloc: Global, names: &[&str], context: &Context, case: &Case) -> Result<Text, Memory>
-    requires { IsStanding (case_of case.now) }
+fn remark(
+    alloc: Global,
+    names: &[&str],
+    context: &Context,
+    opened: &Opened,
+    case: &Case,
+) -> Result<Text, Memory>
+    requires standing { IsStanding (case_of case.now) }
+    requires marked { IsMarked case.now }
     ensures { IfOk result (spec.IsRemark (map (λ n. n.now) names.now) (case_of case.now)) }
 {
+    let is_unspelled = matches!(case.why, Refusal::NotAStatement | Refusal::TooDeep);
+    let reading = Reading::of(alloc, case.text.text, is_unspelled)?;
     let mut out = String::new(alloc);
-    push_head(alloc, &mut out, names, case, spot_of(case))?;
-    let said = sentence(alloc, context, case)?;
+    push_head(alloc, &mut out, names, case, spot_of(case, &reading))?;
+    let said = sentence(alloc, context, opened, case, &reading)?;
     push_shown(&mut out, said.as_str())?;
     Ok(Text::from_string(out))
 }
@@ -61,22 +72,22 @@ pub fn remarks(alloc: Global, transcript: &Transcript, names: &[&str]) -> Result
     ensures { IfOk result (spec.AreRemarks (map (λ n. n.now) names.now) (cases 0 transcript.now.sessions)) }
 {
     let sessions = transcript.sessions.as_slice();
-    let history = transcript.history.as_slice();
     let refused = refused_statements(alloc, sessions)?;
-    let made = made_tables(alloc, history)?;
+    let known = known_of(alloc, transcript.history.as_slice())?;
     let context = Context {
         sessions,
-        history,
         words: transcript.words.words().len(),
         texts: &refused.texts,
-        made: &made,
+        known: &known,
     };
     let cases = refused.cases.as_slice();
     let count = cases.len();
     let first = first_cases(cases);
+    let mut opened = Opened::make(alloc);
     let mut lines = Vec::new(alloc);
     for case in first {
-        lines.push(remark(alloc, names, &context, case)?)?;
+        opened.reach(alloc, &context, case)?;
+        lines.push(remark(alloc, names, &context, &opened, case)?)?;
     }
     push_more(alloc, &mut lines, count)?;
     Ok(List::from_vec(lines))

@@ -1,16 +1,17 @@
 // Where a remark points to.
 
 ghost use Rattle.std.specs.Prelude.{◌≡◌};
-ghost use Rattle.ct_remarks.specs.RefusedStatements.{case_of, IsStanding};
+ghost use Rattle.ct_remarks.specs.RefusedStatements.{case_of, IsStanding, IsMarked};
 ghost use Rattle.ct_remarks.specs.Standing.{IsSpot};
 ghost use Rattle.ct_remarks.specs.Remarks as spec;
 
 use crate::cases::Case;
-use crate::places::{Spot, moved};
-use ct_advice::fault_in;
+use crate::places::{Spot, spot_at};
+use crate::reading::Reading;
 use ct_transcript::Refusal;
 
-fn is_unread(why: &Refusal) -> bool
+/// Whether a statement was refused before its names were looked at.
+pub fn is_unread(why: &Refusal) -> bool
     ensures { result ≡ spec.is_unread why.now }
 {
     matches!(
@@ -19,34 +20,22 @@ fn is_unread(why: &Refusal) -> bool
     )
 }
 
-/// Where the reading of a text stopped, in bytes from its beginning: at its leftmost fault.
-fn stop_in(text: &str) -> Option<usize> {
-    let fault = fault_in(text)?;
-    Some(fault.at)
-}
-
 /// The spot that a remark points to: the first token, or where the reading of the text stopped.
-pub fn spot_of(case: &Case) -> Spot
-    requires { IsStanding (case_of case.now) }
+pub fn spot_of(case: &Case, reading: &Reading) -> Spot
+    requires standing { IsStanding (case_of case.now) }
+    requires marked { IsMarked case.now }
     ensures place { spec.IsPlace (case_of case.now) result.at }
     ensures spot { IsSpot case.now.script.now result }
 {
-    let first = case.text.first;
     if !is_unread(case.why) {
-        return first;
+        return case.first;
     }
-    let text = case.text.text;
-    let Some(stop) = stop_in(text) else {
-        return first;
-    };
-    if stop > text.len() {
-        return first;
-    }
+    let stop = reading.place().unwrap_or(0);
     let Some(to) = case.text.at.checked_add(stop) else {
-        return first;
+        return case.first;
     };
-    if to < first.at || to > case.script.len() || to >= usize::MAX {
-        return first;
+    if stop > case.text.text.len() || to < case.text.first {
+        return case.first;
     }
-    moved(case.script, first, to)
+    spot_at(case.script, case.first, to)
 }

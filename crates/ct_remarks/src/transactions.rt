@@ -1,79 +1,116 @@
 // The transaction that a refused statement stands in.
 
 use crate::cases::Case;
+use crate::context::Context;
 use crate::places::Placed;
-use ct_advice::{Made, Own, Visible, own_table};
+use ct_advice::{Own, own_table};
 use ct_transcript::{Refusal, Reply};
 use ct_word::Memory;
 use std::alloc::Global;
 
-/// The position of the BEGIN of the transaction that is open before the statement at `index`, where one is.
-pub fn begun_before(replies: &[Reply], index: usize) -> Option<usize> {
-    for back in 0..index {
-        let i = index - 1 - back;
-        match replies.get(i) {
-            Some(Reply::Begun { .. }) => return Some(i),
-            Some(Reply::Committed { .. } | Reply::Nothing { .. } | Reply::RolledBack) => {
-                return None;
-            }
-            Some(
-                Reply::Refused {
-                    why: Refusal::Conflict { .. },
-                    ..
-                },
-            ) => return None,
-            _ => {}
-        }
+/// The position of the BEGIN of the transaction that is open behind the statement at `i`, by what it was answered and by the
+/// transaction that was open before it.
+pub fn begun_after(before: Option<usize>, i: usize, reply: &Reply) -> Option<usize> {
+    match reply {
+        Reply::Begun { .. } => Some(i),
+        Reply::Committed { .. } | Reply::Nothing { .. } | Reply::RolledBack => None,
+        Reply::Refused {
+            why: Refusal::Conflict { .. },
+            ..
+        } => None,
+        _ => before,
     }
-    None
+}
+
+/// The position of the BEGIN of the transaction that is open at the end of a script.
+pub fn begun_at_end(replies: &[Reply]) -> Option<usize> {
+    if let Some(Reply::Committed { .. }) = replies.last() {
+        return None;
+    }
+    let mut begun = None;
+    for (i, reply) in replies.iter().enumerate() {
+        begun = begun_after(begun, i, reply);
+    }
+    begun
 }
 
 /// Whether a text begins as a creation does.
 fn may_create(text: &Placed) -> bool {
-    let lead = text.first.at.saturating_sub(text.at);
+    let lead = text.first.saturating_sub(text.at);
     matches!(text.text.as_bytes().get(lead), Some(b'c' | b'C'))
 }
 
-/// The tables that the open transaction has made before the statement at `index`.
-fn own_tables(
-    alloc: Global,
-    replies: &[Reply],
-    texts: &[Placed],
-    index: usize,
-) -> Result<Vec<Own>, Memory> {
-    let mut own = Vec::new(alloc);
-    let Some(begin) = begun_before(replies, index) else {
-        return Ok(own);
-    };
-    for i in begin..index {
-        let (Some(Reply::Pending { .. }), Some(text)) = (replies.get(i), texts.get(i)) else {
-            continue;
-        };
-        if may_create(text) {
-            if let Some(table) = own_table(alloc, text.text)? {
-                own.push(table)?;
-            }
-        }
-    }
-    Ok(own)
+/// Whether a text begins as an assertion does, of those that change something.
+fn may_assert(text: &Placed) -> bool {
+    let lead = text.first.saturating_sub(text.at);
+    matches!(text.text.as_bytes().get(lead), Some(b'a' | b'A'))
 }
 
-/// What a refused statement could see.
-///
-/// # Errors
-/// `Memory` where there is none for the tables of its transaction.
-pub fn visible<'a, 'b>(
-    alloc: Global,
-    made: &'b [Made<'a>],
-    replies: &[Reply],
-    texts: &[Placed],
-    case: &Case,
-) -> Result<Visible<'a, 'b>, Memory> {
-    let index = case.number.saturating_sub(1);
-    let own = own_tables(alloc, replies, texts, index)?;
-    Ok(Visible {
-        made,
-        own,
-        version: case.version as usize,
-    })
+/// What the open transaction of a session has made before a statement: tables, and whether it has asserted something.
+#[derive(Drop)]
+pub struct Opened {
+    session: usize,
+    begun: Option<usize>,
+    /// The first statement that was not looked at.
+    next: usize,
+    tables: Vec<Own>,
+    has_asserted: bool,
+}
+
+impl Opened {
+    /// What is open before all sessions.
+    pub fn make(alloc: Global) -> Opened {
+        Opened {
+            session: 0,
+            begun: None,
+            next: 0,
+            tables: Vec::new(alloc),
+            has_asserted: false,
+        }
+    }
+
+    pub fn tables(&self) -> &[Own] {
+        &self.tables
+    }
+
+    pub fn has_asserted(&self) -> bool {
+        self.has_asserted
+    }
+
+    fn push_own(&mut self, alloc: Global, reply: &Reply, text: &Placed) -> Result<(), Memory> {
+        let is_change = matches!(reply, Reply::Pending { .. });
+        self.has_asserted = self.has_asserted || (is_change && may_assert(text));
+        if is_change && may_create(text) {
+            if let Some(table) = own_table(alloc, text.text)? {
+                self.tables.push(table)?;
+            }
+        }
+        Ok(())
+    }
+
+    /// Goes on to a refused statement, which does not stand before the one of the last call.
+    ///
+    /// # Errors
+    /// `Memory` where there is none for the tables.
+    pub fn reach(&mut self, alloc: Global, context: &Context, case: &Case) -> Result<(), Memory> {
+        if self.session != case.session || self.begun != case.begun {
+            self.session = case.session;
+            self.begun = case.begun;
+            self.next = case.begun.unwrap_or(0);
+            self.tables.clear();
+            self.has_asserted = false;
+        }
+        let Some(_) = case.begun else {
+            return Ok(());
+        };
+        let replies = context.replies(case.session);
+        let texts = context.texts_of(case.session);
+        for i in self.next..case.number {
+            if let (Some(reply), Some(text)) = (replies.get(i), texts.get(i)) {
+                self.push_own(alloc, reply, text)?;
+            }
+        }
+        self.next = case.number;
+        Ok(())
+    }
 }

@@ -11,3 +11,5 @@ pub mod Accepted
 pub mod SmallLog
 pub mod AcceptedAnswers
 pub mod InParts
+pub mod Certified
+pub mod Bounds

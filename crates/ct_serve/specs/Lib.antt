@@ -6,4 +6,5 @@ pub mod Complete
 pub mod Scripts
 pub mod Runs
 pub mod Summary
+pub mod Certificates
 pub mod Promise

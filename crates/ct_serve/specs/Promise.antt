@@ -9,6 +9,7 @@ use Rattle.ct_serve.specs.declared.ending.Status.TheVariants as status
 use Rattle.ct_serve.specs.Lawful.{Lawful}
 use Rattle.ct_serve.specs.Runs.{Asking, Taking, Printed, IsNothingDone, RunPromise}
 use Rattle.ct_serve.specs.Summary.{summary}
+use Rattle.ct_serve.specs.Certificates.{CheckPromise, ProvePromise}
 
 -- the scripts that are made with n, those of the sessions 1 to 4
 unfoldable pub generated : ℕ → List (List ℕ)
@@ -44,9 +45,13 @@ abbrev pub Promise : Option Task → Asking → Taking → Status → Transcript
 Promise None a k status t = NothingPromise k status t
 Promise (Some (task.run N files)) a k status t = RunPromise N files a k status t
 Promise (Some (task.fill n)) a k status t = FillPromise n k status t
+Promise (Some (task.check file)) a k status t = CheckPromise file a k status t
+Promise (Some (task.prove K file)) a k status t = ProvePromise K file a k status t
 
 -- the files that are asked for
 abbrev pub files_in : Option Task → List (List ℕ)
 files_in None = []
 files_in (Some (task.run N files)) = files
 files_in (Some (task.fill n)) = []
+files_in (Some (task.check file)) = file ∷ []
+files_in (Some (task.prove K file)) = file ∷ []

@@ -17,8 +17,8 @@ use std::alloc::Global;
 use std::sync::Wait;
 use std::thread::Threads;
 
-/// How many words of 64 bits the log has.
-const CAPACITY: u32 = 262_144;
+/// How many words of 64 bits the log has that no words of the command line ask for.
+pub(crate) const CAPACITY: u32 = 262_144;
 
 /// The scripts of the sessions 1 to 4.
 fn generated(alloc: Global, n: u32) -> Result<Vec<Text>, Memory>

@@ -1,12 +1,12 @@
 // Writing lines, and how a run ends whose lines were written.
 
-ghost use Rattle.std.specs.Prelude.{◌≡◌};
+ghost use Rattle.std.specs.Prelude.{◌≡◌, ◌∷◌, [], OnOk, OnErr};
 ghost use Rattle.std.specs.List.{list_any};
-ghost use Rattle.ct_serve.specs.Runs.{is_sought, some_reply, IsOutcome, Taking, Printed, PrintedWhole};
+ghost use Rattle.ct_serve.specs.Runs.{is_sought, some_reply, IsOutcome, Taking, IsWritten, IsWriteFault, Printed, PrintedWhole};
 
 use crate::ending::Status;
 use crate::lines::all_lines;
-use ct_outside::{Sink, write_all};
+use ct_outside::{Failed, Sink, write_all};
 use ct_transcript::{Refusal, Reply, SessionLog, Transcript};
 use ct_word::Text;
 use std::alloc::Global;
@@ -59,6 +59,17 @@ fn outcome(logs: &[SessionLog]) -> Status
         return Status::Refused;
     }
     Status::Done
+}
+
+/// Writes one text, with one call.
+///
+/// # Errors
+/// `Failed` where the write failed; then a prefix of the text was taken.
+pub(crate) fn write_once<K: Sink>(text: &[u8], out: &mut K) -> Result<(), Failed>
+    ensures ok { OnOk result (IsWritten (record { faults = K.faults out.old; faults' = K.faults out.new; taken = K.taken out.old; taken' = K.taken out.new; calls = K.calls out.old; calls' = K.calls out.new }) (text.now ∷ [])) }
+    ensures err { OnErr result (IsWriteFault (record { faults = K.faults out.old; faults' = K.faults out.new; taken = K.taken out.old; taken' = K.taken out.new; calls = K.calls out.old; calls' = K.calls out.new }) (text.now ∷ [])) }
+{
+    out.write(text)
 }
 
 /// Writes the lines of these sessions, with one call for each.

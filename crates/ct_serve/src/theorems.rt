@@ -3,8 +3,11 @@
 ghost use Rattle.std.specs.Prelude.{◌≡◌, ℕ, List, All, Some};
 ghost use Rattle.ct_outside.specs.Outside.{Held, Rose};
 ghost use Rattle.ct_transcript.specs.declared.transcript.Transcript.{Transcript};
+ghost use Rattle.ct_cert.specs.Judgement.{judgement};
+ghost use Rattle.ct_cert.specs.declared.judgement.Judgement.TheVariants as judged;
 ghost use Rattle.ct_serve.specs.Lawful.{Lawful};
 ghost use Rattle.ct_serve.specs.Complete.{IsComplete};
+ghost use Rattle.ct_serve.specs.Certificates.{certificate_of};
 ghost use Rattle.ct_serve.specs.Scripts.{HoldsScript};
 ghost use Rattle.ct_serve.specs.Runs.{Asking, Taking, RunPromise, IsServedEnd};
 ghost use Rattle.ct_serve.specs.declared.ending.Status.{Status};
@@ -14,6 +17,11 @@ ghost use Rattle.ct_serve.specs.declared.ending.Status.TheVariants as status;
 /// has one of the causes that `IsWithinLimitsAt` lists, at the version that it carries.
 pub fn within_limits_is_answered()
     ensures { (t : Transcript) (N : ℕ) → Lawful t N → IsComplete t N }
+{}
+
+/// The certificate of each reply of a lawful transcript is accepted.
+pub fn certificates_are_accepted()
+    ensures { (t : Transcript) (N K : ℕ) → Lawful t N → judgement (certificate_of t K) ≡ judged.Accepted }
 {}
 
 /// Where a source tells that all files are scripts, and neither source nor sink counted a fault, a run of these files ends

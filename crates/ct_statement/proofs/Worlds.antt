@@ -4,23 +4,11 @@ use Rattle.std.{specs.Prelude.IsTrue, specs.List.{All}}
 use Rattle.std.proofs.lemmas.List.Elements.{All-weaker, All-from_recursion, All-contains, All-map}
 use Rattle.ct_word.{specs.declared.values.Value.Value, specs.Value.World, specs.Condition.holds_at, specs.Reading.condition_at, specs.WellFormed.IsWellFormed}
 use Rattle.ct_derivation.{specs.declared.steps.Derivation.Derivation, specs.Accepts.Accepts, proofs.Sound.root_refuted}
-use Rattle.ct_worlds.specs.Repaired.{IsMade, IsRepairedNear}
-use Rattle.ct_decide.specs.Decided.{IsValueOf, IsWorldAt}
+use Rattle.ct_worlds.specs.Repaired.{IsMade}
+use Rattle.ct_near.specs.Near.{IsRepairedNear}
 use Rattle.ct_table.specs.Snapshot.{IsKeptValue, other, constant}
 use Rattle.ct_statement.specs.Narrowing.{IsBoth, IsWorldFor, IsWorldless}
 use Rattle.ct_transcript.specs.declared.reply.Refusal.TheVariants as refusal
-
--- the values of a world that was found for a place are such as are kept
-value_found : (words : List ℕ) (place : ℕ) (x : Value) → IsValueOf words place x → IsKeptValue words x
-value_found words place x (inl b) = constant x b.0 b.2
-value_found words place x (inr n) = subst (IsKeptValue words) (sym n.value) (other n.number n.short)
-
-pub world_found : (words : List ℕ) (place : ℕ) (kept world : World) → IsWorldAt words place world → IsWorldFor words place kept (Some world)
-world_found words place kept world w = record {
-  holds = w.holds;
-  values = λ all. All-weaker (λ p. IsValueOf words place p.1) (λ p. IsKeptValue words p.1) (λ p. value_found words place p.1) world
-      (All-from_recursion (λ p. IsValueOf words place p.1) world w.values);
-}
 
 -- a derivation that is accepted leaves none
 pub world_refuted : (words : List ℕ) (place : ℕ) (d : Derivation) → IsWellFormed words → Accepts words place d
@@ -41,7 +29,15 @@ value_made words places kept all x (inl old) = All-contains (IsKeptValue words) 
 value_made words places kept all x (inr (inl b)) = constant x b.below.0 b.below.2
 value_made words places kept all x (inr (inr n)) = subst (IsKeptValue words) (sym n.value) (other n.number n.short)
 
--- a world that was made from the kept one, in which both conditions hold
+-- a world that was made from the kept one, in which a condition holds
+pub world_near : (words : List ℕ) (place : ℕ) (kept world : World) → IsRepairedNear words (place ∷ []) kept world → IsWorldFor words place kept (Some world)
+world_near words place kept world made = record {
+  holds = made.holds place (0, omega arith, refl);
+  values = λ all. All-weaker (λ p. IsMade words (place ∷ []) kept p.1) (λ p. IsKeptValue words p.1) (λ p. value_made words (place ∷ []) kept all p.1) world
+      (All-from_recursion (λ p. IsMade words (place ∷ []) kept p.1) world made.values);
+}
+
+-- one in which both conditions hold
 pub world_made : (words : List ℕ) (global own place : ℕ) (kept world : World) → IsBoth words global own place → IsRepairedNear words (global ∷ own ∷ []) kept world
     → IsWorldFor words place kept (Some world)
 world_made words global own place kept world b made = record {

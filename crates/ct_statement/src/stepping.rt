@@ -6,6 +6,8 @@ ghost use Rattle.ct_word.specs.Change.{PlainChange};
 ghost use Rattle.ct_word.specs.Condition.{holds_at};
 ghost use Rattle.ct_word.specs.Reading.{condition_at};
 ghost use Rattle.ct_word.specs.WellFormed.{IsWellFormed};
+ghost use Rattle.ct_near.specs.Conjuncts.{AreConjuncts};
+ghost use Rattle.ct_decide.specs.Decided.{DecisionNear};
 ghost use Rattle.ct_query.specs.Plain as plain;
 ghost use Rattle.ct_query.specs.Views.{action_of};
 ghost use Rattle.ct_history.specs.Kept.{kept_of};
@@ -18,14 +20,15 @@ ghost use Rattle.ct_statement.specs.Unmet.{IsUnmet, IsWant};
 use crate::proposing::Proposal;
 use crate::sight::Sight;
 use ct_arena::{Arena, Pass, Site};
-use ct_decide::{DecideError, Decision, decide};
+use ct_decide::{DecideError, Decision, decide, decide_near};
 use ct_derivation::Proof;
 use ct_history::{Written, last_change};
 use ct_keeper::{Effect, effect_of};
+use ct_near::{Conjuncts, conjuncts, repaired_near, run_beside};
 use ct_table::TableError;
 use ct_transcript::Refusal;
 use ct_word::World;
-use ct_worlds::{conjuncts, holds_below, repaired_near};
+use ct_worlds::holds_below;
 use std::alloc::Global;
 
 /// What an action does to what is seen: its effect on the tables or the global condition, and, where the kept world is
@@ -45,30 +48,56 @@ fn undecided(e: DecideError) -> Refusal
     }
 }
 
-/// A world in which the condition at a place holds, and which is kept in the place of another one.
-///
-/// # Errors
-/// `Inconsistent` where the condition holds in no world, `Memory`.
-fn decided(alloc: Global, words: &[u64], place: u32, kept: &World) -> Result<Option<World>, Refusal>
+/// Whether the condition at a place holds in some world, where the global condition, whose conjuncts are given, holds in the
+/// kept one. Where the place leads to the global condition by ANDs, only the other conditions there are asked about, and those
+/// conjuncts that have to do with them.
+fn decided(
+    alloc: Global,
+    words: &[u64],
+    global: u32,
+    conjuncts: &Conjuncts,
+    place: u32,
+    kept: &World,
+) -> Result<Decision, DecideError>
     requires formed { IsWellFormed words.now }
     requires few { length words.now < 2 ^ 28 }
+    requires conjuncts { AreConjuncts words.now global conjuncts.now }
     requires decidable { IsDecidable words.now place }
+    requires kept { IsTrue (holds_at kept.now (condition_at words.now global)) }
+    ensures { IfOk result (λ d. DecisionNear words.now place kept.now d) }
+{
+    let Some(own) = run_beside(alloc, words, place, global)? else {
+        return decide(alloc, words, place);
+    };
+    decide_near(alloc, words, place, global, conjuncts, own.as_slice(), kept)
+}
+
+/// The world of a decision about the condition at a place, which is kept in the place of another one.
+///
+/// # Errors
+/// `Inconsistent` where the condition holds in no world, `Memory` where there is no decision.
+fn world_of(
+    words: &[u64],
+    place: u32,
+    kept: &World,
+    decision: Result<Decision, DecideError>,
+) -> Result<Option<World>, Refusal>
+    requires formed { IsWellFormed words.now }
+    requires decided { IfOk decision (λ d. DecisionNear words.now place kept.now d) }
     ensures ok { IfOk result (IsWorldFor words.now place kept.now) }
     ensures err { IfErr result (IsWorldless words.now place) }
 {
+    let _ = words;
     let _ = kept;
-    let decision = match decide(alloc, words, place) {
-        Ok(decision) => decision,
-        Err(e) => return Err(undecided(e)),
-    };
     match decision {
-        Decision::World(world) => Ok(Some(world)),
-        Decision::Refuted(derivation) => Err(Refusal::Inconsistent {
+        Ok(Decision::World(world)) => Ok(Some(world)),
+        Ok(Decision::Refuted(derivation)) => Err(Refusal::Inconsistent {
             proof: Proof {
                 root: place,
                 derivation,
             },
         }),
+        Err(e) => Err(undecided(e)),
     }
 }
 
@@ -101,11 +130,8 @@ fn world_for(
     if let Some(world) = repaired_near(alloc, words, &conjuncts, global, &[own], kept)? {
         return Ok(Some(world));
     }
-    drop(conjuncts);
-    match decided(alloc, words, place, kept) {
-        Ok(other) => Ok(other),
-        Err(why) => Err(why),
-    }
+    let decision = decided(alloc, words, global, &conjuncts, place, kept);
+    world_of(words, place, kept, decision)
 }
 
 /// The condition that a change asserts, if it is an assertion.

@@ -16,6 +16,7 @@ mod transcript;
 
 pub use ct_rewrite::{AnswerRow, CertainRow, Change, Commit, Node, PossibleRow};
 pub use history::lines_of_commits;
+pub use replies::refusal_name;
 pub use reply::{Answer, Refusal, Reply, SessionLog};
 pub use sessions::lines_of_sessions;
 pub use transcript::{Transcript, lines, lines_of_parts};

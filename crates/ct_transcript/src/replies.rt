@@ -120,7 +120,8 @@ fn push_answer(alloc: Global, lines: &mut Vec<Text>, answer: &Answer) -> Result<
     push_answer_lines(alloc, lines, answer, &printed)
 }
 
-fn refusal_name(refusal: &Refusal) -> &'static str
+/// The name of a refusal, as a transcript prints it.
+pub fn refusal_name(refusal: &Refusal) -> &'static str
     ensures { result.now ≡ refusal_name refusal.now }
 {
     match refusal {

@@ -1,7 +1,7 @@
 -- Closed tests: what the definition says of some words.
 use Rattle.std.proofs.Common.{◌≡◌, [], ◌∷◌, Some, None, codes, refl}
 use Rattle.clap.proofs.OnLiterals.{clap_on_literals}
-use Rattle.ct_words.{specs.Numbers.number_of, specs.Commands.{run_app, fill_app, found}, specs.Asked.{run, fill, task}}
+use Rattle.ct_words.{specs.Numbers.number_of, specs.Commands.{run_app, fill_app, check_app, prove_app, found}, specs.Asked.{run, fill, check, prove, task}}
 
 a_run : task (codes "run" ∷ codes "f" ∷ codes "g" ∷ []) ≡ Some (run 262144 (codes "f" ∷ codes "g" ∷ []))
 unfolding clap_on_literals number_of run_app found
@@ -26,6 +26,26 @@ no_file = refl
 eight_digits : task (codes "fill" ∷ codes "00000003" ∷ []) ≡ None
 unfolding clap_on_literals number_of fill_app found
 eight_digits = refl
+
+a_check : task (codes "check" ∷ codes "f" ∷ []) ≡ Some (check (codes "f"))
+unfolding clap_on_literals check_app found
+a_check = refl
+
+two_certificates : task (codes "check" ∷ codes "f" ∷ codes "g" ∷ []) ≡ None
+unfolding clap_on_literals check_app found
+two_certificates = refl
+
+a_proof : task (codes "prove" ∷ codes "065535" ∷ codes "f" ∷ []) ≡ Some (prove 65535 (codes "f"))
+unfolding clap_on_literals number_of prove_app found
+a_proof = refl
+
+no_reply : task (codes "prove" ∷ codes "0" ∷ codes "f" ∷ []) ≡ None
+unfolding clap_on_literals number_of prove_app found
+no_reply = refl
+
+late_reply : task (codes "prove" ∷ codes "65536" ∷ codes "f" ∷ []) ≡ None
+unfolding clap_on_literals number_of prove_app found
+late_reply = refl
 
 a_flag : task (codes "run" ∷ codes "--help" ∷ codes "f" ∷ []) ≡ None
 unfolding clap_on_literals number_of run_app found

@@ -1,9 +1,8 @@
--- The commands `run [--arena N] FILE...` and `fill N`, as the crate clap defines what they take.
+-- The commands `run [--arena N] FILE...`, `fill N`, `check FILE` and `prove K FILE`, as the crate clap defines what they take.
 use Rattle.std.specs.Prelude.{List, [], ◌∷◌, Option, Some, None, true, codes, option_map}
 use Rattle.clap.specs.Words.{App, Kinds, Row, Rule, Text, fault_of, found_of, matches_of, new_app, new_rule, rows_of, with_rule}
 use Rattle.clap.specs.declared.builder.ArgAction.TheVariants.{Set, Append}
 use Rattle.clap.specs.declared.parser.matches.ArgMatches.{ArgMatches}
-use Rattle.clap.specs.declared.builder.range.ValueRange.{ValueRange}
 
 -- the option with the capacity of the log
 abbrev pub arena : Rule
@@ -21,9 +20,9 @@ file = record (new_rule (codes "file")) {
   range = Some (record { start_inclusive = 1; end_inclusive = 18446744073709551615 });
 }
 
--- the number of rows to generate
-abbrev pub number : Rule
-number = record (new_rule (codes "n")) { required = true; action = Some Set }
+-- one value, which has to be there
+abbrev pub one : Text → Rule
+one name = record (new_rule name) { required = true; action = Some Set }
 
 -- a command without a name of the program before its words, and without flags of its own
 abbrev pub plain : Text → App
@@ -39,7 +38,13 @@ unfoldable pub run_app : App
 run_app = with_rule (with_rule (plain (codes "run")) arena) file
 
 unfoldable pub fill_app : App
-fill_app = with_rule (plain (codes "fill")) number
+fill_app = with_rule (plain (codes "fill")) (one (codes "n"))
+
+unfoldable pub check_app : App
+check_app = with_rule (plain (codes "check")) (one (codes "file"))
+
+unfoldable pub prove_app : App
+prove_app = with_rule (with_rule (plain (codes "prove")) (one (codes "reply"))) (one (codes "file"))
 
 -- the rows, unless a kind of fault may come
 abbrev pub unless_fault : Kinds → List Row → Option (List Row)

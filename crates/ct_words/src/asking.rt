@@ -2,9 +2,10 @@
 
 ghost use Rattle.std.specs.Prelude.{◌≡◌, IfOk, option_map};
 ghost use Rattle.clap.specs.Words.{rows_of, found_of};
-ghost use Rattle.ct_words.specs.Asked.{task, task_of, task_of_run, task_of_fill, texts_of, run_of, run_by, fill_of, fill_by};
+ghost use Rattle.ct_words.specs.Asked.{task, task_of, task_of_run, task_of_fill, task_of_check, task_of_prove, texts_of};
+ghost use Rattle.ct_words.specs.Asked.{run_of, run_by, fill_of, fill_by, check_of, check_by, prove_of, prove_by};
 
-use crate::commands::{fill_command, found, run_command};
+use crate::commands::{check_command, fill_command, found, prove_command, run_command};
 use crate::numbers::number_within;
 use crate::task::Asked;
 use clap::ArgMatches;
@@ -22,6 +23,9 @@ const FILES_MOST: usize = 64;
 
 /// The greatest number of `fill`.
 const FILL_MOST: u32 = 2_000;
+
+/// The greatest number of a reply, which is that of the statements of a script.
+const REPLY_MOST: u32 = 65_535;
 
 /// The run that these spell, or `None` where they spell none.
 ///
@@ -58,6 +62,23 @@ fn fill_of<'a>(number: Option<&str>) -> Option<Asked<'a>>
     Some(Asked::Fill { number })
 }
 
+/// The check of this file, where there is one.
+fn check_of<'a>(file: Option<&'a str>) -> Option<Asked<'a>>
+    ensures { option_map task_of result ≡ check_of (option_map (λ s. s.now) file.entry) }
+{
+    let file = file?;
+    Some(Asked::Check { file })
+}
+
+/// The certificate that these spell, or `None` where they spell none.
+fn prove_of<'a>(reply: Option<&str>, file: Option<&'a str>) -> Option<Asked<'a>>
+    ensures { option_map task_of result ≡ prove_of (option_map (λ s. s.now) reply.entry) (option_map (λ s. s.now) file.entry) }
+{
+    let reply = number_within(reply?, 1, REPLY_MOST)?;
+    let file = file?;
+    Some(Asked::Prove { reply, file })
+}
+
 fn run_by<'a>(alloc: Global, matches: &ArgMatches<'a>) -> Result<Option<Asked<'a>>, Memory>
     ensures { IfOk result (λ asked. option_map task_of asked ≡ run_by (rows_of (found_of matches.now))) }
 {
@@ -68,6 +89,18 @@ fn fill_by<'a>(matches: &ArgMatches<'a>) -> Option<Asked<'a>>
     ensures { option_map task_of result ≡ fill_by (rows_of (found_of matches.now)) }
 {
     fill_of(matches.get_str("n"))
+}
+
+fn check_by<'a>(matches: &ArgMatches<'a>) -> Option<Asked<'a>>
+    ensures { option_map task_of result ≡ check_by (rows_of (found_of matches.now)) }
+{
+    check_of(matches.get_str("file"))
+}
+
+fn prove_by<'a>(matches: &ArgMatches<'a>) -> Option<Asked<'a>>
+    ensures { option_map task_of result ≡ prove_by (rows_of (found_of matches.now)) }
+{
+    prove_of(matches.get_str("reply"), matches.get_str("file"))
 }
 
 /// What these words behind `run` ask for.
@@ -90,6 +123,26 @@ fn asked_of_fill<'a>(alloc: Global, words: &'a [&'a str]) -> Result<Option<Asked
     }
 }
 
+/// What these words behind `check` ask for.
+fn asked_of_check<'a>(alloc: Global, words: &'a [&'a str]) -> Result<Option<Asked<'a>>, Memory>
+    ensures { IfOk result (λ asked. option_map task_of asked ≡ task_of_check (texts_of words.entry.now)) }
+{
+    match found(check_command(alloc)?, words)? {
+        Some(matches) => Ok(check_by(&matches)),
+        None => Ok(None),
+    }
+}
+
+/// What these words behind `prove` ask for.
+fn asked_of_prove<'a>(alloc: Global, words: &'a [&'a str]) -> Result<Option<Asked<'a>>, Memory>
+    ensures { IfOk result (λ asked. option_map task_of asked ≡ task_of_prove (texts_of words.entry.now)) }
+{
+    match found(prove_command(alloc)?, words)? {
+        Some(matches) => Ok(prove_by(&matches)),
+        None => Ok(None),
+    }
+}
+
 /// What the words after the program's name ask for, or `None` where they are not understood.
 ///
 /// # Errors
@@ -104,6 +157,10 @@ pub fn asked<'a>(alloc: Global, words: &'a [&'a str]) -> Result<Option<Asked<'a>
         asked_of_run(alloc, words)
     } else if *command == "fill" {
         asked_of_fill(alloc, words)
+    } else if *command == "check" {
+        asked_of_check(alloc, words)
+    } else if *command == "prove" {
+        asked_of_prove(alloc, words)
     } else {
         Ok(None)
     }

@@ -3,7 +3,7 @@
 ghost use Rattle.std.specs.Prelude.{◌≡◌, IfOk, false, true};
 ghost use Rattle.clap.specs.Words.{app_of, rule_of, is_simple_and_free};
 ghost use Rattle.ct_words.specs.Asked.{texts_of};
-ghost use Rattle.ct_words.specs.Commands.{run_app, fill_app, arena, file, number, plain, rows_in};
+ghost use Rattle.ct_words.specs.Commands.{run_app, fill_app, check_app, prove_app, arena, file, one, plain, rows_in};
 ghost use Rattle.ct_words.specs.Commands as commands;
 
 use clap::error::ErrorKind;
@@ -31,11 +31,11 @@ fn file_arg<'a>(alloc: Global) -> Arg<'a>
         .num_args(1..)
 }
 
-fn number_arg<'a>(alloc: Global) -> Arg<'a>
-    ensures rule { rule_of result ≡ number }
+fn one_arg<'a>(alloc: Global, name: &'a str) -> Arg<'a>
+    ensures rule { rule_of result ≡ one name.entry.now }
     ensures local { result.global ≡ false }
 {
-    Arg::new(alloc, "n").required(true).action(ArgAction::Set)
+    Arg::new(alloc, name).required(true).action(ArgAction::Set)
 }
 
 fn plain_command<'a>(alloc: Global, name: &'a str) -> Command<'a>
@@ -68,7 +68,32 @@ pub(crate) fn fill_command<'a>(alloc: Global) -> Result<Command<'a>, Memory>
     ensures { IfOk result (λ command. app_of command ≡ fill_app) }
 {
     let plain = plain_command(alloc, "fill");
-    let command = plain.arg(number_arg(alloc))?;
+    let command = plain.arg(one_arg(alloc, "n"))?;
+    Ok(command)
+}
+
+/// The command of `check FILE`.
+///
+/// # Errors
+/// `Memory` where there is none for the command.
+pub(crate) fn check_command<'a>(alloc: Global) -> Result<Command<'a>, Memory>
+    ensures { IfOk result (λ command. app_of command ≡ check_app) }
+{
+    let plain = plain_command(alloc, "check");
+    let command = plain.arg(one_arg(alloc, "file"))?;
+    Ok(command)
+}
+
+/// The command of `prove K FILE`.
+///
+/// # Errors
+/// `Memory` where there is none for the command.
+pub(crate) fn prove_command<'a>(alloc: Global) -> Result<Command<'a>, Memory>
+    ensures { IfOk result (λ command. app_of command ≡ prove_app) }
+{
+    let plain = plain_command(alloc, "prove");
+    let with_reply = plain.arg(one_arg(alloc, "reply"))?;
+    let command = with_reply.arg(one_arg(alloc, "file"))?;
     Ok(command)
 }
 

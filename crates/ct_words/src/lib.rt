@@ -1,4 +1,4 @@
-//! The words of the command line: `run [--arena N] FILE...` and `fill N`.
+//! The words of the command line: `run [--arena N] FILE...`, `fill N`, `check FILE` and `prove K FILE`.
 //!
 //! `asked` is the whole of it. What the words ask for is `task` in `specs/Asked.antt`.
 #![tactic(auto)]

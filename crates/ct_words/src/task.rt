@@ -15,4 +15,16 @@ pub enum Asked<'a> {
         /// The number to generate them with: 1 to 2,000.
         number: u32,
     },
+    /// The judgement of a certificate.
+    Check {
+        /// The name of its file.
+        file: &'a str,
+    },
+    /// A session for one file, and the certificate of one of its replies.
+    Prove {
+        /// The number of the reply: 1 to 65,535.
+        reply: u32,
+        /// The name of the file.
+        file: &'a str,
+    },
 }

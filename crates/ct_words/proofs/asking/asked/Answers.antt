@@ -1,7 +1,7 @@
 use Rattle.std.{proofs.Common.{◌≡◌, true, false, rules, codes, ◌∙◌}, proofs.lemmas.List.nil_from_length, proofs.lemmas.Option.MatchOption-at_none}
 use Rattle.std.proofs.lemmas.Result.{IfOk-weaker}
 use Rattle.ct_word.specs.Value.{same_text}
-use Rattle.ct_words.proofs.Tasks.{no_words, run_words, fill_words, other_words}
+use Rattle.ct_words.proofs.Tasks.{no_words, run_words, fill_words, check_words, prove_words, other_words}
 use Rattle.ct_words.proofs.asking.asked.Goals as goal
 
 pub returns-in_default : goal.returns-in_default
@@ -23,8 +23,29 @@ returns-then-eq-2 c =
     (λ asked told. told ∙ fill_words c.args.words.now c.in-Some.command.now c.in-Some.words.now c.in-Some.ensures.cases.0 run fill)
     c.asked_of_fill.ensures
 
-pub returns-else-eq-2 : goal.returns-else-eq-2
-returns-else-eq-2 c =
+pub returns-then-eq-3 : goal.returns-then-eq-3
+returns-then-eq-3 c =
     let run : same_text c.in-Some.command.now.now (codes "run") ≡ false = search rules in
     let fill : same_text c.in-Some.command.now.now (codes "fill") ≡ false = search rules in
-    other_words c.args.words.now c.in-Some.command.now c.in-Some.words.now c.in-Some.ensures.cases.0 run fill
+    let check : same_text c.in-Some.command.now.now (codes "check") ≡ true = search rules in
+    IfOk-weaker c.asked_of_check.result _ _
+    (λ asked told. told ∙ check_words c.args.words.now c.in-Some.command.now c.in-Some.words.now c.in-Some.ensures.cases.0 run fill check)
+    c.asked_of_check.ensures
+
+pub returns-then-eq-4 : goal.returns-then-eq-4
+returns-then-eq-4 c =
+    let run : same_text c.in-Some.command.now.now (codes "run") ≡ false = search rules in
+    let fill : same_text c.in-Some.command.now.now (codes "fill") ≡ false = search rules in
+    let check : same_text c.in-Some.command.now.now (codes "check") ≡ false = search rules in
+    let prove : same_text c.in-Some.command.now.now (codes "prove") ≡ true = search rules in
+    IfOk-weaker c.asked_of_prove.result _ _
+    (λ asked told. told ∙ prove_words c.args.words.now c.in-Some.command.now c.in-Some.words.now c.in-Some.ensures.cases.0 run fill check prove)
+    c.asked_of_prove.ensures
+
+pub returns-else-eq-4 : goal.returns-else-eq-4
+returns-else-eq-4 c =
+    let run : same_text c.in-Some.command.now.now (codes "run") ≡ false = search rules in
+    let fill : same_text c.in-Some.command.now.now (codes "fill") ≡ false = search rules in
+    let check : same_text c.in-Some.command.now.now (codes "check") ≡ false = search rules in
+    let prove : same_text c.in-Some.command.now.now (codes "prove") ≡ false = search rules in
+    other_words c.args.words.now c.in-Some.command.now c.in-Some.words.now c.in-Some.ensures.cases.0 run fill check prove

@@ -6,4 +6,4 @@ use Rattle.ct_words.proofs.commands.fill_command.Goals as goal
 pub returns : goal.returns
 unfolding fill_app
 returns c =
-    c.in_ok-command.ensures.shape c.number_arg.ensures.local ∙ ap₂ with_rule c.plain_command-plain.ensures c.number_arg.ensures.rule
+    c.in_ok-command.ensures.shape c.one_arg.ensures.local ∙ ap₂ with_rule c.plain_command-plain.ensures c.one_arg.ensures.rule

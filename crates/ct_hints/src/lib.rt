@@ -1,0 +1,14 @@
+//! Hints on texts that are no statements: where reading stopped, and what to write instead.
+//!
+//! Nothing here has a contract: the sentences are meant for people. What they are put behind is proved in `ct_remarks`.
+#![tactic(auto)]
+
+mod faults;
+mod forms;
+mod grammar;
+mod hints;
+mod slips;
+mod unread;
+
+pub use faults::{Fault, FaultAt, fault_in};
+pub use unread::{Unread, push_fault, push_unspelled};

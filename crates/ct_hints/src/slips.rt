@@ -1,0 +1,121 @@
+// Keywords that are misspelt.
+
+use crate::grammar::STARTS;
+use ct_advice::{is_name_at, is_same, word_at};
+use ct_lex::Token;
+use ct_word::Memory;
+use std::alloc::Global;
+
+/// A keyword, and the word that stands where it is meant, one character off.
+#[derive(Clone, Copy)]
+pub struct Slip<'a> {
+    pub word: &'a str,
+    pub keyword: &'static str,
+}
+
+/// The keywords behind which a name may be read where one of them is misspelt.
+const WITHIN: [&str; 8] = [
+    "from",
+    "where",
+    "select",
+    "join",
+    "inner",
+    "union",
+    "except",
+    "intersect",
+];
+
+/// How many bytes two texts have in common, from their beginnings on.
+fn common(one: &[u8], other: &[u8]) -> usize {
+    one.iter()
+        .zip(other)
+        .take_while(|(a, b)| **a == **b)
+        .count()
+}
+
+/// How many bytes two texts have in common, from their ends on.
+fn common_end(one: &[u8], other: &[u8]) -> usize {
+    one.iter()
+        .rev()
+        .zip(other.iter().rev())
+        .take_while(|(a, b)| **a == **b)
+        .count()
+}
+
+/// Whether the first two bytes of one text are those of the other in turn.
+fn is_swapped(one: &[u8], other: &[u8]) -> bool {
+    match (one, other) {
+        ([a, b, ..], [c, d, ..]) => *a == *d && *b == *c,
+        _ => false,
+    }
+}
+
+/// Whether a word becomes another one by one character that is left out, added or replaced, or by two that change places.
+fn is_one_off(word: &str, other: &str) -> bool {
+    let (word, other) = (word.as_bytes(), other.as_bytes());
+    let (longer, shorter) = (word.len().max(other.len()), word.len().min(other.len()));
+    if longer > shorter.saturating_add(1) {
+        return false;
+    }
+    let start = common(word, other);
+    let same = start.saturating_add(common_end(word, other));
+    if same.saturating_add(1) >= longer {
+        return true;
+    }
+    let (Some(word), Some(other)) = (word.get(start..), other.get(start..)) else {
+        return false;
+    };
+    longer == shorter && same.saturating_add(2) >= longer && is_swapped(word, other)
+}
+
+/// The keywords that may be meant at a position.
+fn wanted(tokens: &[Token], i: usize) -> &'static [&'static str] {
+    match (i, word_at(tokens, 0)) {
+        (0, _) => &STARTS,
+        (1, "insert") => &["into"],
+        (1, "create") => &["table"],
+        (1, "delete") => &["from"],
+        (1, "select") => &["distinct", "from"],
+        (1, "possible" | "certain") => &["select"],
+        (3, "insert") => &["values", "select"],
+        (_, "create") => &[],
+        _ => &WITHIN,
+    }
+}
+
+/// The first of these keywords that a word is one character off.
+fn meant(word: &str, keywords: &[&'static str]) -> Option<&'static str> {
+    for keyword in keywords {
+        if is_one_off(word, keyword) && !is_same(word, keyword) {
+            return Some(*keyword);
+        }
+    }
+    None
+}
+
+/// The keyword that a name at a position is one character off.
+fn slip_at<'a>(alloc: Global, tokens: &'a [Token], i: usize) -> Result<Option<Slip<'a>>, Memory> {
+    let word = word_at(tokens, i);
+    match meant(word, wanted(tokens, i)) {
+        Some(keyword) if is_name_at(alloc, tokens, i)? => Ok(Some(Slip { word, keyword })),
+        _ => Ok(None),
+    }
+}
+
+/// The keyword that is misspelt where reading stopped, at the token at `stop` or by the one before it.
+///
+/// # Errors
+/// `Memory` where there is none for what is looked at.
+pub fn find_slip<'a>(
+    alloc: Global,
+    tokens: &'a [Token],
+    stop: usize,
+) -> Result<Option<Slip<'a>>, Memory> {
+    if let Some(found) = slip_at(alloc, tokens, stop)? {
+        return Ok(Some(found));
+    }
+    match stop.checked_sub(1) {
+        Some(before) => slip_at(alloc, tokens, before),
+        None => Ok(None),
+    }
+}

@@ -1,0 +1,119 @@
+// The command `check`: what is said of the certificate of a file.
+
+ghost use Rattle.std.specs.Prelude.{◌≡◌, ◌<◌, ◌≤◌, ◌^◌, ◌∷◌, [], length, IfOk, IfErr};
+ghost use Rattle.ct_outside.specs.Outside.{Rose, Holds, HoldsMore, Added, AddedFront};
+ghost use Rattle.ct_serve.specs.Runs.{Asking, Taking};
+ghost use Rattle.ct_serve.specs.Certificates.{CERTIFICATE_BYTES, IsCertificateOf, IsOfNoCertificate, Judged, CheckPromise};
+ghost use Rattle.ct_serve.specs.Certificates as certificates;
+ghost use Rattle.ct_serve.specs.declared.reading.Unserved.TheVariants as unserved;
+
+use crate::ending::{Run, Status, no_run};
+use crate::files::status_of;
+use crate::printing::write_once;
+use crate::reading::Unserved;
+use ct_cert::{CertError, Certificate, Judgement, judge, read};
+use ct_outside::{ReadError, Scripts, Sink};
+use ct_word::{Memory, Text};
+use std::alloc::Global;
+
+/// The greatest number of bytes of a certificate that is checked.
+const CERTIFICATE_BYTES: u32 = 0x400_0000;
+
+/// The bytes of the file.
+///
+/// # Errors
+/// `ReadFault` only where the source failed, `Script` only where the file has too many bytes, `Memory` for want of memory.
+fn bytes_of<S: Scripts>(alloc: Global, source: &mut S, file: &str) -> Result<Vec<u8>, Unserved>
+    ensures in_order { AddedFront (S.names source.old) (S.names source.new) (file.now ∷ []) }
+    ensures held { IfOk result (λ bytes. Holds (S.held source.old) file.now bytes.items) }
+    ensures short { IfOk result (λ bytes. length bytes.items ≤ CERTIFICATE_BYTES) }
+    ensures asked { IfOk result (λ bytes. Added (S.names source.old) (S.names source.new) (file.now ∷ [])) }
+    ensures rose { IfErr result (λ e. e ≡ unserved.ReadFault → Rose (S.faults source.old) (S.faults source.new)) }
+    ensures unread { IfErr result (λ e. e ≡ unserved.ReadFault → Added (S.names source.old) (S.names source.new) (file.now ∷ [])) }
+    ensures long { IfErr result (λ e. e ≡ unserved.Script → HoldsMore (S.held source.old) file.now CERTIFICATE_BYTES) }
+    ensures asked_long { IfErr result (λ e. e ≡ unserved.Script → Added (S.names source.old) (S.names source.new) (file.now ∷ [])) }
+{
+    let bytes = match source.read(alloc, file, CERTIFICATE_BYTES) {
+        Ok(bytes) => bytes,
+        Err(ReadError::Failed) => return Err(Unserved::ReadFault),
+        Err(ReadError::TooLong) => return Err(Unserved::Script),
+        Err(ReadError::Memory) => return Err(Unserved::Memory),
+    };
+    // A source that tells nothing may give more than the limit.
+    if bytes.len() > CERTIFICATE_BYTES as usize {
+        return Err(Unserved::Script);
+    }
+    Ok(bytes)
+}
+
+/// The certificate of the file.
+///
+/// # Errors
+/// `ReadFault` only where the source failed, `Script` only where the file has too many bytes or is no certificate, `Memory`
+/// for want of memory.
+fn certificate_of<S: Scripts>(
+    alloc: Global,
+    source: &mut S,
+    file: &str,
+) -> Result<Certificate, Unserved>
+    ensures in_order { AddedFront (S.names source.old) (S.names source.new) (file.now ∷ []) }
+    ensures ok { IfOk result (IsCertificateOf file.now (record { held = S.held source.old; faults = S.faults source.old; faults' = S.faults source.new; asked = S.names source.old; asked' = S.names source.new })) }
+    ensures rose { IfErr result (λ e. e ≡ unserved.ReadFault → Rose (S.faults source.old) (S.faults source.new)) }
+    ensures unread { IfErr result (λ e. e ≡ unserved.ReadFault → Added (S.names source.old) (S.names source.new) (file.now ∷ [])) }
+    ensures none { IfErr result (λ e. e ≡ unserved.Script → IsOfNoCertificate file.now (record { held = S.held source.old; faults = S.faults source.old; faults' = S.faults source.new; asked = S.names source.old; asked' = S.names source.new })) }
+{
+    let bytes = bytes_of(alloc, source, file)?;
+    match read(alloc, bytes.as_slice()) {
+        Ok(cert) => Ok(cert),
+        Err(CertError::NotACertificate) => Err(Unserved::Script),
+        Err(CertError::Memory) => Err(Unserved::Memory),
+    }
+}
+
+/// The line of a judgement of a certificate with so many proofs.
+fn verdict(alloc: Global, proofs: usize, judgement: Judgement) -> Result<Text, Memory>
+    ensures { IfOk result (λ line. line ≡ certificates.verdict proofs judgement) }
+{
+    let line = match judgement {
+        Judgement::Accepted => format!(in alloc; "accepted {proofs}\n")?,
+        Judgement::BadWords { place } => format!(in alloc; "rejected words at {place}\n")?,
+        Judgement::Rejected { proof } => format!(in alloc; "rejected proof {proof}\n")?,
+    };
+    Ok(Text::from_string(line))
+}
+
+/// Writes what is said of a certificate.
+fn print_verdict<K: Sink>(alloc: Global, cert: &Certificate, out: &mut K) -> Status
+    requires few { length cert.now.words < 2 ^ 28 }
+    ensures { Judged cert.now (record { faults = K.faults out.old; faults' = K.faults out.new; taken = K.taken out.old; taken' = K.taken out.new; calls = K.calls out.old; calls' = K.calls out.new }) result }
+{
+    let Ok(judgement) = judge(alloc, cert) else {
+        return Status::Memory;
+    };
+    let Ok(line) = verdict(alloc, cert.proofs.len(), judgement) else {
+        return Status::Memory;
+    };
+    if write_once(line.as_str().as_bytes(), out).is_err() {
+        return Status::WriteFault;
+    }
+    match judgement {
+        Judgement::Accepted => Status::Done,
+        _ => Status::Refused,
+    }
+}
+
+/// Reads the certificate of a file, and writes what is said of it.
+pub(crate) fn check<S: Scripts, K: Sink>(
+    alloc: Global,
+    file: &str,
+    scripts: &mut S,
+    out: &mut K,
+) -> Run
+    ensures promise { CheckPromise file.now (record { held = S.held scripts.old; faults = S.faults scripts.old; faults' = S.faults scripts.new; asked = S.names scripts.old; asked' = S.names scripts.new }) (record { faults = K.faults out.old; faults' = K.faults out.new; taken = K.taken out.old; taken' = K.taken out.new; calls = K.calls out.old; calls' = K.calls out.new }) result.status result.transcript }
+    ensures names { AddedFront (S.names scripts.old) (S.names scripts.new) (file.now ∷ []) }
+{
+    match certificate_of(alloc, scripts, file) {
+        Ok(cert) => no_run(alloc, print_verdict(alloc, &cert, out)),
+        Err(e) => no_run(alloc, status_of(e)),
+    }
+}

@@ -1,0 +1,34 @@
+-- Characters and numbers that begin no token, and quotes that are open or missing: the remarks stand in faults.err.
+create table t (a, b);
+select a from t where a < 1;
+select "a" from t;
+select a] from t;
+select a from t where a % 2 = 1;
+select a & b from t;
+select a ^ b from t;
+select ~a from t;
+select a from t where a = $x;
+select {a} from t;
+select a from t where a > 1;
+select `a` from t;
+select [a] from t;
+select a from t where a + 1 = 2;
+select a || b from t;
+select -a from t;
+select a from t where a = ?;
+select a from t where !a;
+# select a from t;
+select a::int from t;
+select a from t where a = @x;
+select größe from t;
+/* select */ select a from t;
+﻿select a from t;
+insert into t values (-9223372036854775809, 1);
+select a from t; ;
+insert into t values ('two
+lines', 1) (;
+insert into t values (99999999999999999999, 1);
+\d t;
+select a from t where a = 1 && b = 2;
+insert into t values ('O'Brien', 1);
+select a from t;
