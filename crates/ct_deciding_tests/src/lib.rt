@@ -1,4 +1,4 @@
-//! Tests of the crates that decide a question, and of those that ask: a deletion, possible rows and certain tuples.
+//! Tests of the crate that decides a question, and of those that ask: a deletion, possible rows and certain tuples.
 #![tactic(auto)]
 
 #[cfg(test)]

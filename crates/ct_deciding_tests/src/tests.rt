@@ -1,16 +1,9 @@
-mod assignments;
-mod chance;
-mod checker;
-mod clauses;
 mod decision;
 mod deletion;
 mod drafts;
-mod equality;
 mod listing;
 mod logs;
+mod near;
 mod questions;
-mod search;
-mod sets;
-mod solver;
 mod tables;
 mod worlds;

@@ -1,4 +1,4 @@
-//! Tests of a run: its faults, its gate, a log that fills up, generated scripts, and several sessions side by side.
+//! Tests of runs of several sessions: their statements in a given order, and side by side.
 #![tactic(auto)]
 
 #[cfg(test)]

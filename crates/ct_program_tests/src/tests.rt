@@ -1,10 +1,7 @@
 mod anomalies;
 mod assertions;
-mod capacities;
 mod conflicts;
-mod fills;
-mod memory;
 mod played;
-mod runs;
+mod remarks;
 mod side_by_side;
 mod together;

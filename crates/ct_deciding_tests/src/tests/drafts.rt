@@ -1,6 +1,6 @@
 // Words that are made by chance.
 
-use crate::tests::chance::{between, is_head, pick};
+use ct_samples::{between, is_head, pick};
 use ct_word::Kind;
 use std::alloc::{AllocError, Global};
 

@@ -3,12 +3,11 @@
 ghost use Rattle.std.specs.Prelude.{◌≤◌};
 ghost use Rattle.ct_word.specs.WellFormed.{IsWellFormed};
 
-use crate::tests::chance::{between, is_head};
 use crate::tests::decision::{decided, passes};
 use crate::tests::drafts::Draft;
 use ct_condition::value_at;
 use ct_decide::Decision;
-use ct_samples::{is_place, log};
+use ct_samples::{between, is_head, is_place, log};
 use ct_word::{Class, World};
 use std::alloc::{AllocError, Global};
 use std::test::Fail;

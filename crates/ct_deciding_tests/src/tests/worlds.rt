@@ -2,10 +2,9 @@
 
 ghost use Rattle.ct_word.specs.WellFormed.{IsWellFormed};
 
-use crate::tests::chance::{is_head, pick};
 use crate::tests::questions::small;
 use ct_condition::value_at;
-use ct_samples::{is_place, log};
+use ct_samples::{is_head, is_place, log, pick};
 use ct_word::{Class, List, Null, Value, World};
 use ct_worlds::holds_below;
 use std::alloc::{AllocError, Global};

@@ -161,6 +161,20 @@ fn expected(
     Ok(text)
 }
 
+/// The transcript of scripts on a log of this capacity, whose statements come in this order.
+pub fn ordered<R: Threads + Wait + Abort + Sync>(
+    rt: &R,
+    alloc: Global,
+    cap: u32,
+    scripts: &[&str],
+    order: &str,
+) -> Result<Transcript, Fail> {
+    let gate = OrderGate::make(alloc, statements(alloc, order)?)?;
+    let transcript = served(rt, alloc, cap, scripts, &gate)?;
+    assert!(rt; !gate.late(rt), "a statement was let go before its turn");
+    Ok(transcript)
+}
+
 /// The text of the transcript of scripts on a log of this capacity, whose statements come in this order.
 fn played<R: Threads + Wait + Abort + Sync>(
     rt: &R,
@@ -169,9 +183,7 @@ fn played<R: Threads + Wait + Abort + Sync>(
     scripts: &[&str],
     order: &str,
 ) -> Result<String, Fail> {
-    let gate = OrderGate::make(alloc, statements(alloc, order)?)?;
-    let transcript = served(rt, alloc, cap, scripts, &gate)?;
-    assert!(rt; !gate.late(rt), "a statement was let go before its turn");
+    let transcript = ordered(rt, alloc, cap, scripts, order)?;
     text_of(alloc, &transcript)
 }
 

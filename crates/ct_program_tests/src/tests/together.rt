@@ -5,7 +5,9 @@ use ct_outside::NoGate;
 use ct_transcript::{Refusal, Reply, Transcript};
 use std::alloc::{AllocError, Global};
 use std::process::Abort;
+use std::sync::Wait;
 use std::test::Fail;
+use std::thread::Threads;
 
 /// Cases of what sessions share.
 const CASES: [&str; 3] = [
@@ -81,6 +83,54 @@ fn one_session_fills_the_log(rt: HostRuntime) -> Result<(), Fail> {
         history by 1 / create table t (a)
     ";
     play(&rt, rt.alloc(), 64, case)
+}
+
+/// The replies to the first session.
+fn first_replies(transcript: &Transcript) -> &[Reply] {
+    match transcript.sessions.as_slice().first() {
+        Some(log) => log.replies.as_slice(),
+        None => &[],
+    }
+}
+
+/// Whether there are 46 replies, and the last but one is a commit, and the last one finds the log full.
+fn is_last_refused(replies: &[Reply]) -> bool {
+    replies.len() == 46
+        && matches!(replies[44], Reply::Committed { at: 45 })
+        && matches!(
+            replies[45],
+            Reply::Refused {
+                at: 45,
+                why: Refusal::Full
+            }
+        )
+}
+
+/// Numbers are these.
+fn are(rt: &impl Abort, found: [usize; 2], wanted: [usize; 2]) {
+    assert_eq!(rt; found, wanted);
+}
+
+/// How a session of a script of a creation and 45 insertions of the same row fills a log of 64 words: the first
+/// insertion brings the log from 11 words to 21, and each later one adds its commit word alone.
+fn fill_the_log(
+    rt: &(impl Threads + Wait + Abort + Sync),
+    alloc: Global,
+    script: &str,
+) -> Result<(), Fail> {
+    let transcript = served(rt, alloc, 64, &[script], &NoGate)?;
+    assert!(rt; is_last_refused(first_replies(&transcript)));
+    let commits = transcript.history.as_slice().len();
+    are(rt, [commits, transcript.words.words().len()], [45, 64]);
+    Ok(())
+}
+
+#[test]
+fn the_last_word_of_the_log(rt: HostRuntime) -> Result<(), Fail> {
+    let alloc = rt.alloc();
+    let insertions = "insert into t values (1);".repeat(alloc, 45)?;
+    let script = format!(in alloc; "create table t (a);{insertions}")?;
+    fill_the_log(&rt, alloc, script.as_str())
 }
 
 /// Adds a session to an order.

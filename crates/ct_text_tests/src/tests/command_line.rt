@@ -6,7 +6,7 @@ use std::process::Abort;
 use std::test::Fail;
 
 /// Words, and what they ask for.
-const ASKED: [(&[&str], &str); 53] = [
+const ASKED: [(&[&str], &str); 67] = [
     // No commands.
     (&[], "nothing"),
     (&["run"], "nothing"),
@@ -67,6 +67,21 @@ const ASKED: [(&[&str], &str); 53] = [
     (&["fill", "-1"], "nothing"),
     (&["fill", "--n", "3"], "nothing"),
     (&["fill", "--help"], "nothing"),
+    // A certificate.
+    (&["check", "f"], "check [f]"),
+    (&["check", "--", "-f"], "check [-f]"),
+    (&["check"], "nothing"),
+    (&["check", "f", "g"], "nothing"),
+    (&["check", "--arena", "64", "f"], "nothing"),
+    (&["prove", "1", "f"], "prove 1 [f]"),
+    (&["prove", "01", "f"], "prove 1 [f]"),
+    (&["prove", "0065535", "1"], "prove 65535 [1]"),
+    (&["prove", "65536", "f"], "nothing"),
+    (&["prove", "0", "f"], "nothing"),
+    (&["prove", "1.5", "f"], "nothing"),
+    (&["prove", "1"], "nothing"),
+    (&["prove", "1", "f", "g"], "nothing"),
+    (&["prove", "f", "1"], "nothing"),
 ];
 
 /// What words ask for, as a text: a run with its capacity and its files, or a number to fill with.
@@ -74,6 +89,8 @@ fn told(alloc: Global, asked: &Option<Asked>) -> Result<String, AllocError> {
     match asked {
         None => String::from_str(alloc, "nothing"),
         Some(Asked::Fill { number }) => format!(in alloc; "fill {number}"),
+        Some(Asked::Check { file }) => format!(in alloc; "check [{file}]"),
+        Some(Asked::Prove { reply, file }) => format!(in alloc; "prove {reply} [{file}]"),
         Some(Asked::Run { capacity, files }) => {
             let mut text = format!(in alloc; "run {capacity}")?;
             for file in files {

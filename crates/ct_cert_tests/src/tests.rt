@@ -1,0 +1,3 @@
+mod certificates;
+mod explained;
+mod saying;

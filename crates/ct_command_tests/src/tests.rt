@@ -1,0 +1,5 @@
+mod capacities;
+mod certificates;
+mod fills;
+mod memory;
+mod runs;

@@ -1,5 +1,0 @@
-use Rattle.ct_word.specs.WellFormed.{IsWellFormed}
-use Rattle.ct_deciding_tests.proofs.tests.equality.nulls.Given as goal
-
-abbrev pub invariant-loop-k : goal.invariant-loop-k
-invariant-loop-k l = IsWellFormed l.words.items

@@ -1,0 +1,7 @@
+mod assignments;
+mod checker;
+mod clauses;
+mod equality;
+mod search;
+mod sets;
+mod solver;
