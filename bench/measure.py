@@ -81,18 +81,23 @@ class Profile:
         self.total = 0
         self.calls = {}
         self.within = {}
+        # The same for each caller with the function that it calls.
+        self.between = {}
 
     def read(self, path):
         """Adds what a file of callgrind has."""
-        names, callee, is_next = {}, "", False
+        names, caller, callee, is_next = {}, "", "", False
         with open(path, encoding="utf-8", errors="replace") as it:
             for line in it:
                 if is_next:
-                    self.within[callee] = self.within.get(callee, 0) + int(line.split()[1])
+                    count = int(line.split()[1])
+                    self.within[callee] = self.within.get(callee, 0) + count
+                    self.between[caller, callee] = self.between.get((caller, callee), 0) + count
                     is_next = False
                 elif named := re.match(r"c?fn=(\(\d+\))(?: (.*))?", line):
                     names.setdefault(named[1], named[2])
                     callee = names[named[1]]
+                    caller = callee if line.startswith("fn=") else caller
                 elif line.startswith("calls="):
                     self.calls[callee] = self.calls.get(callee, 0) + int(line[len("calls=") :].split()[0])
                     is_next = True
