@@ -1,4 +1,5 @@
 -- Worlds that are made near a known one.
+pub use Rattle.ct_worlds.specs.Repaired.{IsNullNear}
 use Rattle.std.specs.Prelude.{◌≡◌, ◌⊎◌, ℕ, true, false, not, List, ◌++◌, filter, map, Contains, IsTrue}
 use Rattle.std.specs.List.{AllByRecursion, IsDistinct}
 use Rattle.ct_word.specs.declared.kinds.Class.TheVariants as class
@@ -23,10 +24,6 @@ rest_of ns v = filter (λ p. not (has_null ns p.0)) v
 -- a world in which these nulls have the values of another one
 abbrev pub laid_over : List Null → World → World → World
 laid_over ns v w = rest_of ns v ++ part_of ns w
-
--- a null of the world, or one that stands below one of the places
-abbrev pub IsNullNear : List ℕ → List ℕ → World → Null → Type 0
-IsNullNear words places v n = Contains (map (λ p. p.0) v) n ⊎ IsNullBelow words places n
 
 -- a world at which the conditions hold, with values of the old one, constants below the conditions and values `@k`, and nulls of the old one or below the conditions, of which none stands twice if none does in the old one
 pub record IsRepairedNear (words places : List ℕ) (old new : World) : Type 0 where

@@ -2,8 +2,10 @@
 use Rattle.std.specs.Prelude.{◌≡◌, ◌⊎◌, ◌<◌, ◌≤◌, ◌^◌, ℕ, true, List, map, Contains, IsTrue}
 use Rattle.std.specs.List.{AllByRecursion, IsDistinct}
 use Rattle.ct_word.specs.declared.kinds.Class.TheVariants as class
+use Rattle.ct_word.specs.declared.values.Null.{Null}
 use Rattle.ct_word.specs.declared.values.Value.{Value}
 use Rattle.ct_word.specs.declared.values.Value.TheVariants as val
+use Rattle.ct_word.specs.declared.values.Term.{Term}
 use Rattle.ct_word.specs.declared.values.Term.TheVariants as term
 use Rattle.ct_word.specs.Condition.{holds_at}
 use Rattle.ct_word.specs.Reading.{condition_at, term_at}
@@ -12,6 +14,7 @@ use Rattle.ct_word.specs.Value.{World, other_zero, same_null}
 use Rattle.ct_word.specs.WellFormed.{is_place_of}
 use Rattle.ct_worlds.specs.declared.shape.Shape.TheVariants as shape
 use Rattle.ct_worlds.specs.declared.wishing.Wish.{Wish}
+use Rattle.ct_worlds.specs.Nulls.{IsNullBelow}
 use Rattle.ct_worlds.specs.Shape.{shape_at}
 
 -- a constant that stands below one of these places
@@ -37,6 +40,14 @@ pub record IsFrom (next : ℕ) (x : Value) : Type 0 where
 abbrev pub IsValueOf : World → Value → Type 0
 IsValueOf v x = Contains (map (λ p. p.1) v) x
 
+-- a null of a world
+abbrev pub IsNullOf : World → Null → Type 0
+IsNullOf v n = Contains (map (λ p. p.0) v) n
+
+-- a null of the world, or one that stands below one of the places
+abbrev pub IsNullNear : List ℕ → List ℕ → World → Null → Type 0
+IsNullNear words places v n = IsNullOf v n ⊎ IsNullBelow words places n
+
 -- a value of the world, a constant that stands below one of the places, or `@k`
 abbrev pub IsMade : List ℕ → List ℕ → World → Value → Type 0
 IsMade words places v x = IsValueOf v x ⊎ (IsConstantBelow words places x ⊎ IsNumbered x)
@@ -45,10 +56,11 @@ IsMade words places v x = IsValueOf v x ⊎ (IsConstantBelow words places x ⊎ 
 abbrev pub IsMadeFrom : List ℕ → List ℕ → ℕ → World → Value → Type 0
 IsMadeFrom words places next v x = IsValueOf v x ⊎ (IsConstantBelow words places x ⊎ IsFrom next x)
 
--- a world at which the conditions hold, with values of the old one, constants below the conditions and values `@k`, and no null twice
+-- a world at which the conditions hold, with values of the old one, constants below the conditions and values `@k`, nulls of the old one or below the conditions, and no null twice
 pub record IsRepaired (words places : List ℕ) (old new : World) : Type 0 where
   pub holds : (c : ℕ) → Contains places c → holds_at new (condition_at words c) ≡ true
   pub values : AllByRecursion (λ p. IsMade words places old p.1) new
+  pub nulls : AllByRecursion (λ p. IsNullNear words places old p.0) new
   pub once : IsDistinct same_null (map (λ p. p.0) new)
 
 -- the equality at a place
@@ -70,38 +82,48 @@ IsWishBelow words places w = IsTermBelow words places w.left × IsTermBelow word
 abbrev pub IsOverTerms : List ℕ → Wish → Type 0
 IsOverTerms words w = IsTrue (is_place_of words class.Term w.left) × IsTrue (is_place_of words class.Term w.right)
 
--- a side of one of these equalities is this constant
-pub record IsSideOf (words : List ℕ) (wishes : List Wish) (x : Value) : Type 0 where
+-- a side of one of these equalities is this term
+pub record IsSideOf (words : List ℕ) (wishes : List Wish) (t : Term) : Type 0 where
   pub wish : Wish
   pub among : Contains wishes wish
-  pub is : (term_at words wish.left ≡ term.Value x) ⊎ (term_at words wish.right ≡ term.Value x)
+  pub is : (term_at words wish.left ≡ t) ⊎ (term_at words wish.right ≡ t)
+
+-- such a null
+abbrev pub IsNullSide : List ℕ → List Wish → Null → Type 0
+IsNullSide words wishes n = IsSideOf words wishes (term.Null n)
 
 -- such a constant, or `@0`
 abbrev pub IsSide : List ℕ → List Wish → Value → Type 0
-IsSide words wishes x = IsSideOf words wishes x ⊎ (x ≡ other_zero)
+IsSide words wishes x = IsSideOf words wishes (term.Value x) ⊎ (x ≡ other_zero)
 
 -- such a constant, or `@k` from a number on
 abbrev pub IsOf : List ℕ → List Wish → ℕ → Value → Type 0
-IsOf words wishes next x = IsSideOf words wishes x ⊎ IsFrom next x
+IsOf words wishes next x = IsSideOf words wishes (term.Value x) ⊎ IsFrom next x
 
 -- the term at a place is this constant, or it is `@0`
 abbrev pub IsAt : List ℕ → ℕ → Value → Type 0
 IsAt words place x = (term_at words place ≡ term.Value x) ⊎ (x ≡ other_zero)
 
+-- the term at a place is this null
+abbrev pub IsNullTerm : List ℕ → ℕ → Null → Type 0
+IsNullTerm words place n = term_at words place ≡ term.Null n
+
 -- each of these
 abbrev pub Each : {X : Type 0} → (X → Type 0) → List X → Type 0
 Each {X} P xs = (x : X) → Contains xs x → P x
 
--- values were put to the old ones, of each of which this holds
-abbrev pub Adds : (Value → Type 0) → List Value → List Value → Type 0
-Adds P old new = (x : Value) → Contains new x → Contains old x ⊎ P x
+-- items were put to the old ones, of each of which this holds
+abbrev pub Adds : {X : Type 0} → (X → Type 0) → List X → List X → Type 0
+Adds {X} P old new = (x : X) → Contains new x → Contains old x ⊎ P x
 
--- a world with values of another one, constants of the equalities and values `@k` from a number on, and no null twice
+-- a world with values of another one, constants of the equalities and values `@k` from a number on, nulls of the other one or of the equalities, and no null twice
 pub record IsDrawn (words : List ℕ) (wishes : List Wish) (next : ℕ) (old new : World) : Type 0 where
   pub values : Each (λ p. IsValueOf old p.1 ⊎ IsOf words wishes next p.1) new
+  pub nulls : Each (λ p. IsNullOf old p.0 ⊎ IsNullSide words wishes p.0) new
   pub once : IsDistinct same_null (map (λ p. p.0) new)
 
 -- a repaired world, whether or not the conditions hold in it, whose new values are `@0` and `@k` from a number on
 pub record IsChanged (words places : List ℕ) (next : ℕ) (old new : World) : Type 0 where
   pub values : AllByRecursion (λ p. IsMadeFrom words places next old p.1) new
+  pub nulls : AllByRecursion (λ p. IsNullNear words places old p.0) new
   pub once : IsDistinct same_null (map (λ p. p.0) new)

@@ -4,9 +4,10 @@ ghost use Rattle.std.specs.Prelude.{◌≡◌, ◌⊎◌, ◌<◌, ◌≤◌, �
 ghost use Rattle.ct_word.specs.declared.kinds.Class.TheVariants as class;
 ghost use Rattle.std.specs.List.{IsDistinct};
 ghost use Rattle.ct_word.specs.Value.{other_zero, same_null};
+ghost use Rattle.ct_word.specs.declared.values.Null.{Null};
 ghost use Rattle.ct_word.specs.declared.values.Value.{Value};
 ghost use Rattle.ct_word.specs.WellFormed.{IsWellFormed, is_place_of};
-ghost use Rattle.ct_worlds.specs.Repaired.{Adds, Each, IsAt, IsDrawn, IsFrom, IsOf, IsOverTerms, IsSide, IsValueOf};
+ghost use Rattle.ct_worlds.specs.Repaired.{Adds, Each, IsAt, IsDrawn, IsFrom, IsNullOf, IsNullSide, IsNullTerm, IsOf, IsOverTerms, IsSide, IsValueOf};
 
 use crate::classes::{Classes, Side, no_classes};
 use crate::reads::slot_of;
@@ -39,7 +40,8 @@ const VALUES: u32 = 1 << 28;
 
 /// The number of a null, which is put in with the value of this number where it is not there.
 fn null_number(draft: &mut Draft, null: Null, number: usize) -> Result<usize, Memory>
-    ensures { OnOk result (draft.new.values.keys ≡ draft.old.values.keys) }
+    ensures values { OnOk result (draft.new.values.keys ≡ draft.old.values.keys) }
+    ensures nulls { OnOk result (Adds (λ n. n ≡ null) draft.old.nulls.keys draft.new.nulls.keys) }
 {
     let (at, is_new) = draft.nulls.insert_full(null)?;
     if is_new {
@@ -50,7 +52,8 @@ fn null_number(draft: &mut Draft, null: Null, number: usize) -> Result<usize, Me
 
 /// The number of a value, which is put in where it is not there, and whether it was not.
 fn put_value(draft: &mut Draft, value: Value) -> Result<(usize, bool), Memory>
-    ensures { OnOk result (Adds (λ x. x ≡ value) draft.old.values.keys draft.new.values.keys) }
+    ensures values { OnOk result (Adds (λ x. x ≡ value) draft.old.values.keys draft.new.values.keys) }
+    ensures nulls { draft.new.nulls.keys ≡ draft.old.nulls.keys }
 {
     let number = draft.values.insert_full(value)?;
     Ok(number)
@@ -58,7 +61,8 @@ fn put_value(draft: &mut Draft, value: Value) -> Result<(usize, bool), Memory>
 
 /// The number of a value, which is put in where it is not there.
 fn value_number(draft: &mut Draft, value: Value) -> Result<usize, Memory>
-    ensures { OnOk result (Adds (λ x. x ≡ value) draft.old.values.keys draft.new.values.keys) }
+    ensures values { OnOk result (Adds (λ x. x ≡ value) draft.old.values.keys draft.new.values.keys) }
+    ensures nulls { draft.new.nulls.keys ≡ draft.old.nulls.keys }
 {
     let (number, _) = put_value(draft, value)?;
     Ok(number)
@@ -66,7 +70,8 @@ fn value_number(draft: &mut Draft, value: Value) -> Result<usize, Memory>
 
 /// The number of `@0`, which is put in where it is not there.
 fn zero_number(draft: &mut Draft) -> Result<usize, Memory>
-    ensures { OnOk result (Adds (λ x. x ≡ other_zero) draft.old.values.keys draft.new.values.keys) }
+    ensures values { OnOk result (Adds (λ x. x ≡ other_zero) draft.old.values.keys draft.new.values.keys) }
+    ensures nulls { draft.new.nulls.keys ≡ draft.old.nulls.keys }
 {
     if let Some(number) = draft.zero {
         return Ok(number);
@@ -78,7 +83,8 @@ fn zero_number(draft: &mut Draft) -> Result<usize, Memory>
 
 /// Puts in a null with its value, unless it is there.
 fn put_pair(draft: &mut Draft, pair: &(Null, Value)) -> Result<(), Memory>
-    ensures { OnOk result (Adds (λ x. x ≡ pair.now.1) draft.old.values.keys draft.new.values.keys) }
+    ensures values { OnOk result (Adds (λ x. x ≡ pair.now.1) draft.old.values.keys draft.new.values.keys) }
+    ensures nulls { OnOk result (Adds (λ n. n ≡ pair.now.0) draft.old.nulls.keys draft.new.nulls.keys) }
 {
     let number = value_number(draft, pair.1.clone()?)?;
     null_number(draft, pair.0.clone()?, number)?;
@@ -87,7 +93,8 @@ fn put_pair(draft: &mut Draft, pair: &(Null, Value)) -> Result<(), Memory>
 
 /// Puts in the nulls of a world with their values.
 fn put_pairs(draft: &mut Draft, pairs: &[(Null, Value)]) -> Result<(), Memory>
-    ensures { OnOk result (Adds (IsValueOf pairs.now) draft.old.values.keys draft.new.values.keys) }
+    ensures values { OnOk result (Adds (IsValueOf pairs.now) draft.old.values.keys draft.new.values.keys) }
+    ensures nulls { OnOk result (Adds (IsNullOf pairs.now) draft.old.nulls.keys draft.new.nulls.keys) }
 {
     for pair in pairs {
         put_pair(draft, pair)?;
@@ -99,7 +106,8 @@ fn put_pairs(draft: &mut Draft, pairs: &[(Null, Value)]) -> Result<(), Memory>
 fn side(alloc: Global, words: &[u64], place: u32, draft: &mut Draft) -> Result<Side, Memory>
     requires formed { IsWellFormed words.now }
     requires term { IsTrue (is_place_of words.now class.Term place) }
-    ensures { OnOk result (Adds (IsAt words.now place) draft.old.values.keys draft.new.values.keys) }
+    ensures values { OnOk result (Adds (IsAt words.now place) draft.old.values.keys draft.new.values.keys) }
+    ensures nulls { OnOk result (Adds (IsNullTerm words.now place) draft.old.nulls.keys draft.new.nulls.keys) }
 {
     match term_at(alloc, words, place)? {
         Term::Value(value) => Ok(Side::Value(value_number(draft, value)?)),
@@ -121,7 +129,8 @@ fn side_of(
 ) -> Result<Side, Memory>
     requires formed { IsWellFormed words.now }
     requires term { IsTrue (is_place_of words.now class.Term place) }
-    ensures { OnOk result (Adds (IsAt words.now place) draft.old.values.keys draft.new.values.keys) }
+    ensures values { OnOk result (Adds (IsAt words.now place) draft.old.values.keys draft.new.values.keys) }
+    ensures nulls { OnOk result (Adds (IsNullTerm words.now place) draft.old.nulls.keys draft.new.nulls.keys) }
 {
     let slot = slot_of(sides.len(), place);
     if let Some(Some((own, side))) = sides.get(slot).copied() {
@@ -154,7 +163,8 @@ fn links(
 ) -> Result<Vec<Link>, Memory>
     requires formed { IsWellFormed words.now }
     requires terms { All (IsOverTerms words.now) wishes.now }
-    ensures { OnOk result (Adds (IsSide words.now wishes.now) draft.old.values.keys draft.new.values.keys) }
+    ensures values { OnOk result (Adds (IsSide words.now wishes.now) draft.old.values.keys draft.new.values.keys) }
+    ensures nulls { OnOk result (Adds (IsNullSide words.now wishes.now) draft.old.nulls.keys draft.new.nulls.keys) }
 {
     let mut sides = no_sides(alloc, wishes.len())?;
     let mut links = Vec::with_capacity(alloc, wishes.len())?;
@@ -184,7 +194,8 @@ fn unite_all(classes: &mut Classes, links: &[Link]) -> bool {
 /// The number of the value `@k`, which is put in where it is not there, and whether it was not.
 fn put_other(draft: &mut Draft, k: u32) -> Result<(usize, bool), Memory>
     requires { k < 2 ^ 28 }
-    ensures { OnOk result (Adds (IsFrom k) draft.old.values.keys draft.new.values.keys) }
+    ensures values { OnOk result (Adds (IsFrom k) draft.old.values.keys draft.new.values.keys) }
+    ensures nulls { draft.new.nulls.keys ≡ draft.old.nulls.keys }
 {
     let number = put_value(draft, Value::Other(k))?;
     Ok(number)
@@ -194,6 +205,7 @@ fn put_other(draft: &mut Draft, k: u32) -> Result<(usize, bool), Memory>
 fn new_number(draft: &mut Draft, next: &mut u32) -> Result<Option<usize>, Memory>
     ensures values { OnOk result (Adds (IsFrom next.old) draft.old.values.keys draft.new.values.keys) }
     ensures next { OnOk result (next.old ≤ next.new) }
+    ensures nulls { draft.new.nulls.keys ≡ draft.old.nulls.keys }
 {
     let mut k = *next;
     while k < VALUES {
@@ -212,6 +224,7 @@ fn new_number(draft: &mut Draft, next: &mut u32) -> Result<Option<usize>, Memory
 fn part(draft: &mut Draft, link: Link, next: &mut u32) -> Result<bool, Memory>
     ensures values { OnOk result (Adds (IsFrom next.old) draft.old.values.keys draft.new.values.keys) }
     ensures next { OnOk result (next.old ≤ next.new) }
+    ensures nulls { draft.new.nulls.keys ≡ draft.old.nulls.keys }
 {
     let (first, second) = (link.first, link.second);
     if link.is_equal || draft.classes.number_of(first) != draft.classes.number_of(second) {
@@ -231,7 +244,8 @@ fn part(draft: &mut Draft, link: Link, next: &mut u32) -> Result<bool, Memory>
 /// Gives the two sides of each equality that is to be false different values, the new ones `@k` from this k on; false where
 /// that cannot be.
 fn part_all(draft: &mut Draft, links: &[Link], from: u32) -> Result<bool, Memory>
-    ensures { OnOk result (Adds (IsFrom from) draft.old.values.keys draft.new.values.keys) }
+    ensures values { OnOk result (Adds (IsFrom from) draft.old.values.keys draft.new.values.keys) }
+    ensures nulls { draft.new.nulls.keys ≡ draft.old.nulls.keys }
 {
     let mut next = from;
     for link in links {
@@ -256,6 +270,7 @@ fn value_with(values: &IndexSet<Value>, number: usize) -> Result<Value, Memory>
 fn pairs_of(alloc: Global, draft: &Draft) -> Result<Vec<(Null, Value)>, Memory>
     ensures once { IfOk result (λ ps. IsDistinct same_null (map (λ p. p.0) ps.items)) }
     ensures values { IfOk result (λ ps. Each (λ p. Contains draft.now.values.keys p.1 ⊎ (p.1 ≡ other_zero)) ps.items) }
+    ensures nulls { IfOk result (λ ps. map (λ p. p.0) ps.items ≡ draft.now.nulls.keys) }
 {
     let nulls = draft.nulls.as_slice();
     let mut pairs = Vec::with_capacity(alloc, nulls.len())?;
@@ -268,7 +283,7 @@ fn pairs_of(alloc: Global, draft: &Draft) -> Result<Vec<(Null, Value)>, Memory>
 
 /// Gives each null of the wishes a value with which they come true, the new ones `@k` from this k on; false where that cannot
 /// be.
-#[tactic(auto, using(crate::proofs::Drawing::adds_numbers))]
+#[tactic(auto, using(crate::proofs::Drawing::adds_numbers, crate::proofs::Drawing::adds_still))]
 fn fulfil(
     alloc: Global,
     words: &[u64],
@@ -278,7 +293,8 @@ fn fulfil(
 ) -> Result<bool, Memory>
     requires formed { IsWellFormed words.now }
     requires terms { All (IsOverTerms words.now) wishes.now }
-    ensures { OnOk result (Adds (IsOf words.now wishes.now next) draft.old.values.keys draft.new.values.keys) }
+    ensures values { OnOk result (Adds (IsOf words.now wishes.now next) draft.old.values.keys draft.new.values.keys) }
+    ensures nulls { OnOk result (Adds (IsNullSide words.now wishes.now) draft.old.nulls.keys draft.new.nulls.keys) }
 {
     let links = links(alloc, words, wishes, draft)?;
     if !unite_all(&mut draft.classes, links.as_slice()) {
@@ -290,7 +306,8 @@ fn fulfil(
 
 /// A draft without nulls, with room for so many, and for as many values.
 fn blank(alloc: Global, count: usize) -> Result<Draft, Memory>
-    ensures { IfOk result (λ d. (x : Value) → Contains d.values.keys x → ⊥) }
+    ensures values { IfOk result (λ d. (x : Value) → Contains d.values.keys x → ⊥) }
+    ensures nulls { IfOk result (λ d. (n : Null) → Contains d.nulls.keys n → ⊥) }
 {
     let nulls = IndexSet::with_capacity(alloc, count)?;
     let values = IndexSet::with_capacity(alloc, count)?;

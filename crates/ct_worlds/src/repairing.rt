@@ -96,8 +96,9 @@ pub fn changed(
     drawn(alloc, words, wishes.as_slice(), world, next)
 }
 
-/// A world in which conditions hold, made from another one: it gives no null twice, and each value is one of the other
-/// world, a constant that stands below the conditions, or `@k` with k below 2^28. It chooses which equalities have to be true
+/// A world in which conditions hold, made from another one: it gives no null twice, each null is one of the other world or
+/// stands below the conditions, and each value is one of the other world, a constant that stands below the conditions, or
+/// `@k` with k below 2^28. It chooses which equalities have to be true
 /// and which false, by what holds in the world at present where it can, gives nulls that are to be equal one value, and nulls
 /// that are to be different a value `@k` that no other has, where they had one value. It tries no other choice: None does not
 /// say that there is no such world.

@@ -16,5 +16,6 @@ returns c =
     record {
       holds = each_passes (λ p. holds_at c.in-Some.made (condition_at words p)) conditions (sym c.in_ok-all_hold.ensures ∙ c.if-not-branch.false);
       values = changed_values words conditions 0 world c.in-Some.made is;
+      nulls = is.nulls;
       once = is.once;
     }
