@@ -3,5 +3,6 @@ mod Listing
 mod Steps
 mod Entries
 mod Laid
+mod Others
 mod Sharing
 mod Near

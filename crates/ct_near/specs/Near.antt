@@ -1,10 +1,11 @@
 -- Worlds that are made near a known one.
 pub use Rattle.ct_worlds.specs.Repaired.{IsNullNear}
-use Rattle.std.specs.Prelude.{◌≡◌, ◌⊎◌, ℕ, true, false, not, List, ◌++◌, filter, map, Contains, IsTrue}
+use Rattle.std.specs.Prelude.{◌≡◌, ◌⊎◌, ◌<◌, ◌^◌, ℕ, true, false, not, List, ◌++◌, filter, map, Contains, IsTrue}
 use Rattle.std.specs.List.{AllByRecursion, IsDistinct}
 use Rattle.ct_word.specs.declared.kinds.Class.TheVariants as class
 use Rattle.ct_word.specs.declared.values.Null.{Null}
 use Rattle.ct_word.specs.declared.values.Term.TheVariants as term
+use Rattle.ct_word.specs.declared.values.Value.TheVariants as val
 use Rattle.ct_word.specs.Condition.{holds_at}
 use Rattle.ct_word.specs.Reading.{condition_at}
 use Rattle.ct_word.specs.Stands.{TermBelow}
@@ -50,6 +51,10 @@ pub record IsLaidOver (words : List ℕ) (root : ℕ) (own : List ℕ) (made old
 pub record IsOldElsewhere (words : List ℕ) (root : ℕ) (own : List ℕ) (old new : World) : Type 0 where
   pub made : World
   pub laid : IsLaidOver words root own made old new
+
+-- a number is greater than k for each value `@k` of the world with k below 2^28
+abbrev pub IsPastOthers : World → ℕ → Type 0
+IsPastOthers v next = (k : ℕ) → k < 2 ^ 28 → IsValueOf v (val.Other k) → k < next
 
 -- conditions with what stands below them
 pub record IsScope (words : List ℕ) (s : Scope) : Type 0 where

@@ -2,8 +2,9 @@
 
 ghost use Rattle.std.specs.Prelude.{◌≡◌, ◌<◌, ◌^◌, ◌∷◌, ℕ, true, length, IfOk, IfSome, IsTrue, Contains};
 ghost use Rattle.ct_near.specs.Conjuncts.{AreConjuncts};
-ghost use Rattle.ct_near.specs.Near.{IsJoinedNear, IsLaid, IsLaidOver, IsOldElsewhere, IsRepairedNear, IsScope};
+ghost use Rattle.ct_near.specs.Near.{IsJoinedNear, IsLaid, IsLaidOver, IsOldElsewhere, IsPastOthers, IsRepairedNear, IsScope};
 ghost use Rattle.ct_word.specs.declared.kinds.Class.TheVariants as class;
+ghost use Rattle.ct_word.specs.declared.values.Value.TheVariants as val;
 ghost use Rattle.ct_word.specs.Condition.{holds_at};
 ghost use Rattle.ct_word.specs.Reading.{condition_at};
 ghost use Rattle.ct_word.specs.WellFormed.{IsWellFormed, is_place_of};
@@ -15,13 +16,23 @@ use ct_word::{Memory, Null, Value, World};
 use ct_worlds::{all_hold, changed};
 use std::alloc::Global;
 
-/// A number after each k for which the world has a value `@k`.
-fn past_others(world: &World) -> u32 {
+/// A number after k for a value `@k` with k below 2^28.
+fn number_after(value: &Value) -> u32
+    ensures { (k : ℕ) → k < 2 ^ 28 → value.now ≡ val.Other k → k < result }
+{
+    match value {
+        Value::Other(k) => k.saturating_add(1),
+        Value::Int(_) | Value::Text(_) => 0,
+    }
+}
+
+/// A number after each k below 2^28 for which the world has a value `@k`.
+fn past_others(world: &World) -> u32
+    ensures { IsPastOthers world.now result }
+{
     let mut next = 0;
     for pair in world.as_slice() {
-        if let Value::Other(k) = &pair.1 {
-            next = next.max(k.saturating_add(1));
-        }
+        next = next.max(number_after(&pair.1));
     }
     next
 }
