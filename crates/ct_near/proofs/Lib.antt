@@ -6,3 +6,4 @@ mod Laid
 mod Others
 mod Sharing
 mod Near
+mod Widening

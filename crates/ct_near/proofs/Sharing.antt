@@ -1,6 +1,6 @@
 -- The conjuncts that are reached share nulls.
 use Rattle.std.proofs.Common.{◌≡◌, ℕ, zero, suc, ◌<◌, ◌⊎◌, true, false, List, [], ◌∷◌, ◌++◌, get_or, length, replicate, set, ap, sym, ◌∙◌, subst, inl, inr}
-use Rattle.std.{specs.Prelude.{Contains}, proofs.lemmas.Bool.{cases_eq, false≢true}, proofs.lemmas.List.get_or-set_other, proofs.lemmas.List.Elements.{Contains-get_or, Contains-push_cases}}
+use Rattle.std.{specs.Prelude.{Contains}, proofs.lemmas.Bool.{cases_eq, false≢true}, proofs.lemmas.List.{get_or-set_other, length-set}, proofs.lemmas.List.Elements.{Contains-get_or, Contains-push_cases}}
 use Rattle.ct_word.{specs.Reading.term_at, specs.Stands.TermBelow, specs.WellFormed.{IsWellFormed}}
 use Rattle.ct_near.{specs.declared.index.{Conjuncts.Conjuncts, Entry.Entry}, specs.declared.relating.Reached.Reached, specs.Conjuncts.{AreConjuncts, IsConjunct}, specs.Entries.IsEntryOf, proofs.{Entries.one_of_pair, Runs.below_below}}
 use Rattle.ct_near.specs.Related.{AreRelated, HasEntry, IsReachedNull, IsRelatedAt, Reaches, SharesOwn, SharesWith, ours, theirs}
@@ -13,18 +13,21 @@ module _ (P : ℕ → Type 0) where
   reaches_same old new e f = record {
     asked = λ k h. inl (subst (λ l. get_or l k false ≡ true) e h);
     waiting = λ k h. inl (subst (λ l. Contains l k) f h);
+    room = ap length e;
   }
 
   pub reaches_more : (old mid new : Reached) → Reaches P old mid → Reaches P mid new → Reaches P old new
   reaches_more old mid new a b = record {
     asked = λ k h. elim (b.asked k h) [ inl there ↦ a.asked k there | inr one ↦ inr one ];
     waiting = λ k h. elim (b.waiting k h) [ inl there ↦ a.waiting k there | inr one ↦ inr one ];
+    room = b.room ∙ a.room;
   }
 
   pub reaches_weaker : (Q : ℕ → Type 0) (old new : Reached) → ((k : ℕ) → P k → Q k) → Reaches P old new → Reaches Q old new
   reaches_weaker Q old new weaker a = record {
     asked = λ k h. elim (a.asked k h) [ inl there ↦ inl there | inr one ↦ inr (weaker k one) ];
     waiting = λ k h. elim (a.waiting k h) [ inl there ↦ inl there | inr one ↦ inr (weaker k one) ];
+    room = a.room;
   }
 
 -- one more is asked
@@ -35,6 +38,7 @@ asks_one conjunct old new e f = record {
     | inr ne ↦ inl (sym (get_or-set_other old.is_asked.items conjunct k true false ne) ∙ subst (λ l. get_or l k false ≡ true) e h)
   ];
   waiting = λ k h. elim (Contains-push_cases old.waiting.items conjunct k (subst (λ l. Contains l k) f h)) [ inl there ↦ inl there | inr same ↦ inr (sym same) ];
+  room = ap length e ∙ length-set old.is_asked.items conjunct true;
 }
 
 -- an equality below the conditions names a null of theirs
@@ -56,7 +60,7 @@ module _ (words : List ℕ) (root : ℕ) (own : List ℕ) (c : Conjuncts) (forme
   conjunct_at : (k : ℕ) → k < length places → IsConjunct words root (get_or places k 0)
   conjunct_at k lt = let h = Contains-get_or places k 0 lt in record { run = are.each (get_or places k 0) h; end = are.ends (get_or places k 0) h }
 
-  related_by : (k : ℕ) (e : Entry) → e.conjunct ≡ k → (is : IsEntryOf words places e) → IsReachedNull words root own is.null → IsRelatedAt words root own places k
+  pub related_by : (k : ℕ) (e : Entry) → e.conjunct ≡ k → (is : IsEntryOf words places e) → IsReachedNull words root own is.null → IsRelatedAt words root own places k
   related_by k e same is reached =
       subst (IsRelatedAt words root own places) same (record { within = is.conjunct; is = record { conjunct = conjunct_at e.conjunct is.conjunct; null = is.null; reached = reached; below = is.below } })
 

@@ -108,3 +108,10 @@ pub record AreChosen (places : List ℕ) (is_asked : List Bool) (own chosen : Li
 -- the conjunct of an entry is asked, or its null is none of these
 abbrev pub is_covered : List Bool → Nulls → Entry → Bool
 is_covered is_asked nulls e = slice_index_or is_asked e.conjunct false || not (has nulls.places e.null)
+
+-- the conjunct of a number is not asked, and has one of these nulls
+pub record IsUncovered (entries : List Entry) (is_asked : List Bool) (nulls : Nulls) (k : ℕ) : Type 0 where
+  pub entry : Entry
+  pub among : Contains entries entry
+  pub conjunct : entry.conjunct ≡ k
+  pub uncovered : is_covered is_asked nulls entry ≡ false

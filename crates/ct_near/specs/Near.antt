@@ -74,7 +74,15 @@ pub record IsScopeOf (words : List ℕ) (root : ℕ) (c : Conjuncts) (own : List
   pub only : (p : ℕ) → Contains s.conditions.items p → IsRelated words root own p ⊎ Contains own p
   pub others : (p : ℕ) → Contains c.places.items p → Contains s.conditions.items p ⊎ HasNone words s.nulls.listed.keys p
 
+-- the conditions of a scope hold in a world
+abbrev pub HoldAll : List ℕ → Scope → World → Type 0
+HoldAll words s v = Each (λ p. holds_at v (condition_at words p) ≡ true) s.conditions.items
+
+-- further conditions hold in a world, and so do the conjuncts that share nulls with them, or with another such conjunct
+abbrev pub FitsIn : List ℕ → ℕ → List ℕ → World → Type 0
+FitsIn words root own v = (p : ℕ) → IsRelated words root own p ⊎ Contains own p → holds_at v (condition_at words p) ≡ true
+
 -- conditions hold in a world, and its pairs with the nulls below them stand behind others
 pub record IsLaid (words : List ℕ) (s : Scope) (rest made new : World) : Type 0 where
-  pub holds : Each (λ p. holds_at made (condition_at words p) ≡ true) s.conditions.items
+  pub holds : HoldAll words s made
   pub pairs : new ≡ rest ++ part_of s.nulls.listed.keys made

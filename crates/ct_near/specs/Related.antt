@@ -29,6 +29,7 @@ IsAsked r k = slice_index_or r.is_asked.items k false ≡ true
 pub record Reaches (P : ℕ → Type 0) (old new : Reached) : Type 0 where
   pub asked : (k : ℕ) → IsAsked new k → IsAsked old k ⊎ P k
   pub waiting : (k : ℕ) → Contains new.waiting.items k → Contains old.waiting.items k ⊎ P k
+  pub room : length new.is_asked.items ≡ length old.is_asked.items
 
 -- a conjunct has the null at a place
 pub record HasEntry (entries : List Entry) (place k : ℕ) : Type 0 where

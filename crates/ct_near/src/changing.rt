@@ -1,8 +1,8 @@
 // Worlds near a known one, in which further conditions hold.
 
-ghost use Rattle.std.specs.Prelude.{◌≡◌, ◌<◌, ◌^◌, ◌∷◌, ℕ, true, length, IfOk, IfSome, IsTrue, Contains};
+ghost use Rattle.std.specs.Prelude.{◌≡◌, ◌↔◌, ◌<◌, ◌^◌, ◌∷◌, ℕ, true, length, IfOk, IfSome, IsSome, IsTrue, Contains};
 ghost use Rattle.ct_near.specs.Conjuncts.{AreConjuncts};
-ghost use Rattle.ct_near.specs.Near.{IsJoinedNear, IsLaid, IsLaidOver, IsOldElsewhere, IsPastOthers, IsRepairedNear, IsScope};
+ghost use Rattle.ct_near.specs.Near.{FitsIn, HoldAll, IsJoinedNear, IsLaid, IsLaidOver, IsOldElsewhere, IsPastOthers, IsRepairedNear, IsScope};
 ghost use Rattle.ct_word.specs.declared.kinds.Class.TheVariants as class;
 ghost use Rattle.ct_word.specs.declared.values.Value.TheVariants as val;
 ghost use Rattle.ct_word.specs.Condition.{holds_at};
@@ -48,7 +48,8 @@ fn laid(
 ) -> Result<Option<World>, Memory>
     requires formed { IsWellFormed words.now }
     requires scope { IsScope words.now scope.now }
-    ensures { IfOk result (λ o. IfSome o (IsLaid words.now scope.now rest.items made.now)) }
+    ensures laid { IfOk result (λ o. IfSome o (IsLaid words.now scope.now rest.items made.now)) }
+    ensures fits { IfOk result (λ o. IsSome o ↔ HoldAll words.now scope.now made.now) }
 {
     let conditions = scope.conditions.as_slice();
     let places = scope.places.as_slice();
@@ -82,9 +83,7 @@ pub fn repaired_near(
     ensures near { IfOk result (λ o. IfSome o (IsRepairedNear words.now (root ∷ own.now) world.now)) }
     ensures elsewhere { IfOk result (λ o. IfSome o (IsOldElsewhere words.now root own.now world.now)) }
 {
-    let Some(scope) = scope_of(alloc, words, conjuncts, root, own)? else {
-        return Ok(None);
-    };
+    let scope = scope_of(alloc, words, conjuncts, root, own)?;
     let (part, rest) = split(alloc, world, &scope.nulls)?;
     let next = past_others(world);
     let conditions = scope.conditions.as_slice();
@@ -97,8 +96,8 @@ pub fn repaired_near(
 
 /// A world in which a known condition and further ones hold: like the known world, but for the nulls below the further ones and
 /// the conjuncts that share a null with them, or with another such conjunct, which get the found world's values, and have none
-/// where it gives none. None where the conditions that are looked at don't hold in it,
-/// or a conjunct that was not reached has one of these nulls.
+/// where it gives none. None exactly where one of the further conditions, or one of these conjuncts, does not hold in the found
+/// world.
 ///
 /// # Errors
 /// `Memory` where there is none for the worlds, the conjuncts, and what stands below the further conditions.
@@ -118,10 +117,9 @@ pub fn joined_near(
     requires known { IsTrue (holds_at world.now (condition_at words.now root)) }
     ensures near { IfOk result (λ o. IfSome o (IsJoinedNear words.now (root ∷ own.now) found.now world.now)) }
     ensures laid { IfOk result (λ o. IfSome o (IsLaidOver words.now root own.now found.now world.now)) }
+    ensures fits { IfOk result (λ o. IsSome o ↔ FitsIn words.now root own.now found.now) }
 {
-    let Some(scope) = scope_of(alloc, words, conjuncts, root, own)? else {
-        return Ok(None);
-    };
+    let scope = scope_of(alloc, words, conjuncts, root, own)?;
     let (_, rest) = split(alloc, world, &scope.nulls)?;
     laid(alloc, words, &scope, rest, found)
 }

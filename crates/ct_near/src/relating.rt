@@ -1,10 +1,10 @@
 // Which conjuncts share nulls with conditions.
 
-ghost use Rattle.std.specs.Prelude.{◌≡◌, ℕ, true, false, Contains, IfOk, OnOk, replicate, slice_index_or};
+ghost use Rattle.std.specs.Prelude.{◌≡◌, ℕ, true, false, length, Contains, IfNone, IfOk, IfSome, OnOk, replicate, slice_index_or};
 ghost use Rattle.std.specs.List.{list_all};
 ghost use Rattle.ct_word.specs.declared.kinds.Class.TheVariants as class;
 ghost use Rattle.ct_word.specs.WellFormed.{IsWellFormed, is_place_of};
-ghost use Rattle.ct_near.specs.Conjuncts.{AreChosen, AreConjuncts, is_covered};
+ghost use Rattle.ct_near.specs.Conjuncts.{AreChosen, AreConjuncts, IsUncovered, is_covered};
 ghost use Rattle.ct_near.specs.Related.{AreFlagged, HasEntry, IsRelated, Reaches, SharesOwn, SharesWith};
 
 use crate::index::{Conjuncts, Entry, NullIndex, entry_of, entry_with, head_of};
@@ -137,7 +137,8 @@ pub(crate) fn asked(
 ) -> Result<Vec<bool>, Memory>
     requires formed { IsWellFormed words.now }
     requires own { (p : ℕ) → Contains own.now p → is_place_of words.now class.Cond p ≡ true }
-    ensures { IfOk result (λ flags. (root : ℕ) → AreConjuncts words.now root conjuncts.now → AreFlagged words.now root own.now conjuncts.now.places.items flags.items) }
+    ensures related { IfOk result (λ flags. (root : ℕ) → AreConjuncts words.now root conjuncts.now → AreFlagged words.now root own.now conjuncts.now.places.items flags.items) }
+    ensures room { IfOk result (λ flags. length flags.items ≡ length conjuncts.now.places.items) }
 {
     let index = &conjuncts.index;
     let mut reached = Reached {
@@ -193,16 +194,17 @@ fn is_covered(entry: Entry, is_asked: &[bool], nulls: &Nulls) -> bool
     flag(is_asked, entry.conjunct) || !nulls.has_place(entry.null)
 }
 
-/// Whether no conjunct that is not asked has one of these nulls.
-pub(crate) fn are_covered(index: &NullIndex, is_asked: &[bool], nulls: &Nulls) -> bool
-    ensures { result ≡ list_all (is_covered is_asked.now nulls.now) index.now.entries.items }
+/// The number of a conjunct that is not asked and has one of these nulls, if there is one.
+pub(crate) fn uncovered(index: &NullIndex, is_asked: &[bool], nulls: &Nulls) -> Option<usize>
+    ensures none { IfNone result (list_all (is_covered is_asked.now nulls.now) index.now.entries.items ≡ true) }
+    ensures one { IfSome result (IsUncovered index.now.entries.items is_asked.now nulls.now) }
 {
     for entry in index.entries.as_slice() {
         if !is_covered(*entry, is_asked, nulls) {
-            return false;
+            return Some(entry.conjunct);
         }
     }
-    true
+    None
 }
 
 /// The places of the conjuncts that share a null with one of these conditions, or with another such conjunct. That no other

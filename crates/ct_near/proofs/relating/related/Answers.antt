@@ -13,6 +13,6 @@ pub returns-clause-related : goal.returns-clause-related
 returns-clause-related c = λ root are p h. elim (c.in_ok-places.ensures.only p h) [
   | inl one ↦
       let a = subst (λ l. IsAskedOne l c.as_slice.result.now p) c.places.ensures one in
-      subst (IsRelated c.args.words.now root c.args.own.now) a.is (c.in_ok-asked.ensures root are a.number (subst (λ l. get_or l a.number false ≡ true) c.as_slice.ensures.value a.asked)).is
+      subst (IsRelated c.args.words.now root c.args.own.now) a.is (c.in_ok-asked.ensures.related root are a.number (subst (λ l. get_or l a.number false ≡ true) c.as_slice.ensures.value a.asked)).is
   | inr none ↦ absurd (no_item p none)
 ]
