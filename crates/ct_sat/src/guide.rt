@@ -17,7 +17,17 @@ struct Mark {
     level: u32,
     /// The last truth.
     phase: bool,
+    /// The position of the last learned clause that it was moved for.
+    taken: u32,
 }
+
+/// What is remembered of a variable that was never on the trail.
+const BLANK: Mark = Mark {
+    place: NOWHERE,
+    level: 0,
+    phase: false,
+    taken: u32::MAX,
+};
 
 /// The watches, the queue, and what is remembered of each variable.
 #[derive(Drop)]
@@ -92,26 +102,17 @@ impl Guide {
         self.queue.reach(top)?;
         let count = (top as usize).wrapping_add(1);
         for _ in self.marks.len()..count {
-            self.marks.push(Mark {
-                place: NOWHERE,
-                level: 0,
-                phase: false,
-            })?;
+            self.marks.push(BLANK)?;
         }
         Ok(())
     }
 
     fn mark(&self, l: i32) -> Mark {
-        let none = Mark {
-            place: NOWHERE,
-            level: 0,
-            phase: false,
-        };
         self.marks
             .as_slice()
             .get(l.unsigned_abs() as usize)
             .copied()
-            .unwrap_or(none)
+            .unwrap_or(BLANK)
     }
 
     fn set_mark(&mut self, l: i32, mark: Mark) {
@@ -167,15 +168,13 @@ impl Guide {
             self.decisions.push(place)?;
         }
         let level = u32::try_from(self.decisions.len()).unwrap_or(u32::MAX);
-        let phase = put.literal > 0;
-        self.set_mark(
-            put.literal,
-            Mark {
-                place,
-                level,
-                phase,
-            },
-        );
+        let mark = Mark {
+            place,
+            level,
+            phase: put.literal > 0,
+            ..self.mark(put.literal)
+        };
+        self.set_mark(put.literal, mark);
         Ok(())
     }
 
@@ -199,14 +198,13 @@ impl Guide {
 
     fn forget_at(&mut self, trail: &[Put], place: usize) {
         if let Some(put) = trail.get(place) {
-            self.set_mark(
-                put.literal,
-                Mark {
-                    place: NOWHERE,
-                    level: 0,
-                    phase: put.literal > 0,
-                },
-            );
+            let mark = Mark {
+                place: NOWHERE,
+                level: 0,
+                phase: put.literal > 0,
+                ..self.mark(put.literal)
+            };
+            self.set_mark(put.literal, mark);
             self.queue.open(put.literal.unsigned_abs());
         }
     }
@@ -308,26 +306,54 @@ impl Guide {
         None
     }
 
-    /// Moves the variables of a clause that rest on a decision to the end of the queue.
-    fn bump_clause(&mut self, clause: &[i32]) {
+    /// Takes the variables of a clause that rest on a decision, those not taken since the clause at k was learned, with
+    /// their stamps.
+    fn take(
+        &mut self,
+        clause: &[i32],
+        k: u32,
+        taken: &mut Vec<(i64, u32)>,
+    ) -> Result<(), AllocError> {
         for l in clause {
-            if self.mark(*l).level > 0 {
-                self.queue.bump(l.unsigned_abs());
+            let mark = self.mark(*l);
+            if mark.level > 0 && mark.taken != k {
+                let variable = l.unsigned_abs();
+                self.set_mark(*l, Mark { taken: k, ..mark });
+                taken.push((self.queue.stamp(variable), variable))?;
             }
         }
+        Ok(())
     }
 
-    /// Moves the variables that a learned clause comes from to the end of the queue.
-    pub fn bump(&mut self, board: &Board, k: u32) {
+    /// The variables that the clause learned at k comes from, each once, with their stamps. Each variable of that clause
+    /// stands in one of its hints' clauses.
+    fn sources(
+        &mut self,
+        alloc: Global,
+        board: &Board,
+        k: u32,
+    ) -> Result<Vec<(i64, u32)>, AllocError> {
+        let mut taken = Vec::new(alloc);
         let entries = board.entries();
         let Some(Entry::Learned(step)) = entries.get(k as usize) else {
-            return;
+            return Ok(taken);
         };
         for h in step.hints.as_slice() {
             if let Some(entry) = entries.get(*h as usize) {
-                self.bump_clause(entry.clause());
+                self.take(entry.clause(), k, &mut taken)?;
             }
         }
-        self.bump_clause(step.clause.as_slice());
+        Ok(taken)
+    }
+
+    /// Moves the variables that the clause learned at k comes from to the end of the queue, in the order in which they
+    /// stand there.
+    pub fn bump(&mut self, alloc: Global, board: &Board, k: u32) -> Result<(), AllocError> {
+        let mut sources = self.sources(alloc, board, k)?;
+        sources.sort_unstable();
+        for (_, variable) in sources.as_slice() {
+            self.queue.bump(*variable);
+        }
+        Ok(())
     }
 }

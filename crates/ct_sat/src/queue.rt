@@ -104,6 +104,11 @@ impl Queue {
         self.place(variable).before
     }
 
+    /// A number that ascends along the queue.
+    pub fn stamp(&self, variable: u32) -> i64 {
+        self.place(variable).stamp
+    }
+
     /// Notes that each variable behind this one has a truth.
     pub fn pass_to(&mut self, variable: u32) {
         self.next = variable;

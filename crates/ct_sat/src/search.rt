@@ -30,7 +30,7 @@ fn resolve(
     match board.learn(alloc, k)? {
         None => Ok(Some(Found::Refuted)),
         Some(back) => {
-            guide.bump(board, place);
+            guide.bump(alloc, board, place)?;
             guide.forget(board, back.cut);
             board.go_back(back, place)?;
             guide.notice(board)?;
