@@ -1,5 +1,5 @@
 -- Predicates on the rows of a table.
-use Rattle.std.proofs.Common.{◌≡◌, ℕ, ◌+◌, ◌<◌, Bool, true, false, List, [], length, subst, refl, ap, sym, ◌∙◌, arith, inl, inr}
+use Rattle.std.proofs.Common.{◌≡◌, ℕ, ◌+◌, ◌<◌, Bool, true, false, List, length, subst, refl, ap, sym, ◌∙◌, arith, inl, inr}
 use Rattle.std.{specs.Prelude.{Option, is_some, if◌then◌else◌}, proofs.lemmas.Option.slice_get-get_or}
 use Rattle.ct_word.{specs.declared.values.Term.Term, specs.Condition.{Condition, Conditions, True, False, Same, Not, And, Or, none, also}}
 use Rattle.ct_query.{specs.Bounds.{literal_words, over_equalities, over_all_equalities, ops}, specs.Fits.{IsColumnBelow, AreColumnsBelow, AreAllColumnsBelow}}

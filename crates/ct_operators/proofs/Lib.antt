@@ -9,6 +9,8 @@ pub mod Pairing
 pub mod Holding
 pub mod Comparing
 pub mod Placed
+pub mod Steps
+pub mod Putting
 pub mod Adding
 pub mod Choosing
 pub mod Tests

@@ -7,9 +7,10 @@ use Rattle.ct_word.{specs.Change.PlainRow, specs.Condition.{Condition, True, Fal
 use Rattle.ct_word.{specs.WellFormed.{IsWellFormed, has_class, is_place_of}, specs.Reading.{as_cond, condition_at, term_at, plain_crow}}
 use Rattle.ct_word.specs.Stands.{itself, TermBelow, places_in}
 use Rattle.ct_query.specs.Terms.{condition_terms}
-use Rattle.ct_condition.{specs.Terms.{BelowEither, BelowSome}, proofs.Reached.{no_term_at, under_one}}
-use Rattle.ct_operators.{specs.Tables.IsRow, specs.Terms.{TermOfRow, TermOfRows}, specs.Placing.{parts_of, IsEarlier, AreParts}, proofs.Placed.parts_are}
-use Rattle.ct_operators.proofs.Reaching.{behind, foremost, first_or_behind, at_or_under, word_of_place, named_by, word_apart, term_alone}
+use Rattle.ct_condition.{specs.Terms.{BelowSome}, proofs.Reached.{no_term_at, under_one, under_none}}
+use Rattle.ct_worlds.{specs.Shape.{shape_of, shape_of_word, IsShaped, IsEarlier}, proofs.Shaped.shaped}
+use Rattle.ct_operators.{specs.Tables.IsRow, specs.Terms.{TermOfRow, TermOfRows}}
+use Rattle.ct_operators.proofs.Reaching.{behind, foremost, first_or_behind, at_or_under, word_of_place, named_by, under_named, word_apart, term_alone}
 pub use Rattle.ct_word.proofs.Items.{mapped_item as mapped, flat_item as given}
 use Rattle.ct_word.specs.declared.kinds.Kind.TheVariants as kind
 use Rattle.ct_word.specs.declared.kinds.Class.TheVariants as class
@@ -23,10 +24,14 @@ abbrev pub HasPlaces : List ℕ → CRow → Type 0
 HasPlaces ws r = All (λ p. IsTrue (is_place_of ws class.Term p)) r.cells × IsTrue (is_place_of ws class.Cond r.cond)
 
 module _ (ws : List ℕ) (formed : IsWellFormed ws) where
+  -- what a condition says, by its word
+  shaped_by : (p w : ℕ) → slice_get ws p ≡ Some w → IsTrue (is_place_of ws class.Cond p) → IsShaped ws p (shape_of (kind_of w) (left_of w) (right_of w))
+  shaped_by p w there e = subst (λ o. IsShaped ws p (shape_of_word o)) there (shaped ws p formed e)
+
   -- a term below the condition at a place is one of the condition's
   named_within : (n p : ℕ) (t : Term) → p < n → IsTrue (is_place_of ws class.Cond p) → TermBelow ws p t → Contains (condition_terms (condition_at ws p)) t
   named_within zero p t lt e h = absurd (omega (arith, lt))
-  named_within (suc n) p t lt e h = by_kind (kind_of word.0) refl word.2 (parts_are ws formed p word.0 word.1 e) (λ c less at below. named_within n c t (omega (arith, less, lt)) at below) where
+  named_within (suc n) p t lt e h = by_kind (kind_of word.0) refl word.2 (shaped_by p word.0 word.1 e) (λ c less at below. named_within n c t (omega (arith, less, lt)) at below) where
     word : (w : ℕ) × (slice_get ws p ≡ Some w) × (has_class (kind_of w) class.Cond ≡ true)
     word = word_of_place ws formed class.Cond p e
 
@@ -36,42 +41,42 @@ module _ (ws : List ℕ) (formed : IsWellFormed ws) where
       | inr b ↦ named_by ws formed word.0 k is t b
     ]
 
-    of_two : (a b : ℕ) → IsTrue (is_place_of ws class.Cond a) × (a < p) → IsTrue (is_place_of ws class.Cond b) × (b < p)
+    of_two : (a b : ℕ) → IsEarlier ws p a → IsEarlier ws p b
         → ((c : ℕ) → c < p → IsTrue (is_place_of ws class.Cond c) → TermBelow ws c t → Contains (condition_terms (condition_at ws c)) t)
         → BelowSome ws (a ∷ b ∷ []) t → Contains (condition_terms (condition_at ws a) ++ (condition_terms (condition_at ws b) ++ [])) t
     of_two a b left right before u = elim (first_or_behind a (b ∷ []) u.place u.among) [
       | inl q ↦
           Contains-append_left (condition_terms (condition_at ws a)) (condition_terms (condition_at ws b) ++ []) t
-          (before a left.1 left.0 (subst (λ x. TermBelow ws x t) (sym q) u.below))
+          (before a left.below left.placed (subst (λ x. TermBelow ws x t) (sym q) u.below))
       | inr i ↦
           Contains-append_right (condition_terms (condition_at ws a)) (condition_terms (condition_at ws b) ++ []) t
-          (Contains-append_left (condition_terms (condition_at ws b)) [] t (before b right.1 right.0 (under_one ws b t (record { place = u.place; among = i; below = u.below }))))
+          (Contains-append_left (condition_terms (condition_at ws b)) [] t (before b right.below right.placed (under_one ws b t (record { place = u.place; among = i; below = u.below }))))
     ]
 
-    by_kind : (o : Option Kind) → kind_of word.0 ≡ o → has_class o class.Cond ≡ true → AreParts ws p (parts_of o (left_of word.0) (right_of word.0))
+    by_kind : (o : Option Kind) → kind_of word.0 ≡ o → has_class o class.Cond ≡ true → IsShaped ws p (shape_of o (left_of word.0) (right_of word.0))
         → ((c : ℕ) → c < p → IsTrue (is_place_of ws class.Cond c) → TermBelow ws c t → Contains (condition_terms (condition_at ws c)) t)
         → Contains (condition_terms (condition_at ws p)) t
-    by_kind (Some kind.True) is c parts before = absurd (parts.1 t h)
-    by_kind (Some kind.False) is c parts before = absurd (parts.1 t h)
+    by_kind (Some kind.True) is c parts before = absurd (under_none ws t (under kind.True is))
+    by_kind (Some kind.False) is c parts before = absurd (under_none ws t (under kind.False is))
     by_kind (Some kind.Equal) is c parts before =
         let a = left_of word.0 in
         let b = right_of word.0 in
         let u = under kind.Equal is in
-        subst (λ d. Contains (condition_terms d) t) (sym parts.2) (elim (first_or_behind a (b ∷ []) u.place u.among) [
+        subst (λ d. Contains (condition_terms d) t) (sym parts.condition) (elim (first_or_behind a (b ∷ []) u.place u.among) [
           | inl q ↦
-              subst (λ x. Contains (term_at ws a ∷ term_at ws b ∷ []) x) (sym (term_alone ws formed a t parts.0 (subst (λ x. TermBelow ws x t) (sym q) u.below)))
+              subst (λ x. Contains (term_at ws a ∷ term_at ws b ∷ []) x) (sym (term_alone ws formed a t parts.terms.0 (subst (λ x. TermBelow ws x t) (sym q) u.below)))
               (foremost (term_at ws a) (term_at ws b ∷ []))
           | inr i ↦
               subst (λ x. Contains (term_at ws a ∷ term_at ws b ∷ []) x)
-              (sym (term_alone ws formed b t parts.1 (under_one ws b t (record { place = u.place; among = i; below = u.below }))))
+              (sym (term_alone ws formed b t parts.terms.1.0 (under_one ws b t (record { place = u.place; among = i; below = u.below }))))
               (behind (term_at ws a) (term_at ws b ∷ []) (term_at ws b) (foremost (term_at ws b) []))
         ])
     by_kind (Some kind.Not) is c parts before =
-        subst (λ d. Contains (condition_terms d) t) (sym parts.1) (before (left_of word.0) parts.0.1 parts.0.0 (under_one ws (left_of word.0) t (under kind.Not is)))
+        subst (λ d. Contains (condition_terms d) t) (sym parts.condition) (before (left_of word.0) parts.parts.0.below parts.parts.0.placed (under_one ws (left_of word.0) t (under kind.Not is)))
     by_kind (Some kind.And) is c parts before =
-        subst (λ d. Contains (condition_terms d) t) (sym parts.2) (of_two (left_of word.0) (right_of word.0) parts.0 parts.1 before (under kind.And is))
+        subst (λ d. Contains (condition_terms d) t) (sym parts.condition) (of_two (left_of word.0) (right_of word.0) parts.parts.0 parts.parts.1.0 before (under kind.And is))
     by_kind (Some kind.Or) is c parts before =
-        subst (λ d. Contains (condition_terms d) t) (sym parts.2) (of_two (left_of word.0) (right_of word.0) parts.0 parts.1 before (under kind.Or is))
+        subst (λ d. Contains (condition_terms d) t) (sym parts.condition) (of_two (left_of word.0) (right_of word.0) parts.parts.0 parts.parts.1.0 before (under kind.Or is))
     by_kind _ is c parts before = absurd (false≢true c)
 
   pub condition_named : (p : ℕ) (t : Term) → IsTrue (is_place_of ws class.Cond p) → TermBelow ws p t → Contains (condition_terms (condition_at ws p)) t
@@ -80,48 +85,57 @@ module _ (ws : List ℕ) (formed : IsWellFormed ws) where
   -- a term of the condition at a place stands below the place
   reached_within : (n p : ℕ) (t : Term) → p < n → IsTrue (is_place_of ws class.Cond p) → Contains (condition_terms (condition_at ws p)) t → TermBelow ws p t
   reached_within zero p t lt e h = absurd (omega (arith, lt))
-  reached_within (suc n) p t lt e h = by_kind (kind_of word.0) refl word.2 (parts_are ws formed p word.0 word.1 e) (λ c less at among. reached_within n c t (omega (arith, less, lt)) at among) where
+  reached_within (suc n) p t lt e h = by_kind (kind_of word.0) refl word.2 (shaped_by p word.0 word.1 e) (λ c less at among. reached_within n c t (omega (arith, less, lt)) at among) where
     word : (w : ℕ) × (slice_get ws p ≡ Some w) × (has_class (kind_of w) class.Cond ≡ true)
     word = word_of_place ws formed class.Cond p e
 
-    shaped : (c : Condition) → condition_at ws p ≡ c → Contains (condition_terms c) t
-    shaped c is = subst (λ d. Contains (condition_terms d) t) is h
+    said : (c : Condition) → condition_at ws p ≡ c → Contains (condition_terms c) t
+    said c is = subst (λ d. Contains (condition_terms d) t) is h
 
     named_at : (a : ℕ) → IsTrue (is_place_of ws class.Term a) → term_at ws a ≡ t → TermBelow ws a t
     named_at a is_a q = subst (TermBelow ws a) q (a, itself, stands_term ws a is_a)
 
+    up : (k : Kind) → kind_of word.0 ≡ Some k → (q : ℕ) → Contains (places_in (Some k) (left_of word.0) (right_of word.0)) q → TermBelow ws q t → TermBelow ws p t
+    up k is q among = under_named ws formed p word.0 q k word.1 is among t
+
+    left_up : (k : Kind) → kind_of word.0 ≡ Some k → places_in (Some k) (left_of word.0) (right_of word.0) ≡ left_of word.0 ∷ right_of word.0 ∷ [] → TermBelow ws (left_of word.0) t → TermBelow ws p t
+    left_up k is two = up k is (left_of word.0) (subst (λ ps. Contains ps (left_of word.0)) (sym two) (foremost (left_of word.0) (right_of word.0 ∷ [])))
+
+    right_up : (k : Kind) → kind_of word.0 ≡ Some k → places_in (Some k) (left_of word.0) (right_of word.0) ≡ left_of word.0 ∷ right_of word.0 ∷ [] → TermBelow ws (right_of word.0) t → TermBelow ws p t
+    right_up k is two = up k is (right_of word.0) (subst (λ ps. Contains ps (right_of word.0)) (sym two) (behind (left_of word.0) (right_of word.0 ∷ []) (right_of word.0) (foremost (right_of word.0) [])))
+
     Before : Type 0
     Before = (c : ℕ) → c < p → IsTrue (is_place_of ws class.Cond c) → Contains (condition_terms (condition_at ws c)) t → TermBelow ws c t
 
-    of_two : (a b : ℕ) → IsEarlier ws p a → IsEarlier ws p b → ((u : Term) → BelowEither ws a b u → TermBelow ws p u) → Before
+    of_two : (a b : ℕ) → IsEarlier ws p a → IsEarlier ws p b → (TermBelow ws a t → TermBelow ws p t) → (TermBelow ws b t → TermBelow ws p t) → Before
         → Contains (condition_terms (condition_at ws a) ++ (condition_terms (condition_at ws b) ++ [])) t → TermBelow ws p t
-    of_two a b left right up before c =
+    of_two a b left right first second before c =
         elim (Contains-append_cases (condition_terms (condition_at ws a)) (condition_terms (condition_at ws b) ++ []) t c) [
-          | inl l ↦ up t (inl (before a left.1 left.0 l))
+          | inl l ↦ first (before a left.below left.placed l)
           | inr r ↦ elim (Contains-append_cases (condition_terms (condition_at ws b)) [] t r) [
-            | inl l ↦ up t (inr (before b right.1 right.0 l))
+            | inl l ↦ second (before b right.below right.placed l)
             | inr z ↦ absurd (omega (arith, z.1))
           ]
         ]
 
-    by_kind : (o : Option Kind) → kind_of word.0 ≡ o → has_class o class.Cond ≡ true → AreParts ws p (parts_of o (left_of word.0) (right_of word.0)) → Before → TermBelow ws p t
+    by_kind : (o : Option Kind) → kind_of word.0 ≡ o → has_class o class.Cond ≡ true → IsShaped ws p (shape_of o (left_of word.0) (right_of word.0)) → Before → TermBelow ws p t
     by_kind (Some kind.True) is c parts before =
-        absurd (omega (arith, (shaped True (ap as_cond (word_apart ws formed p word.0 word.1 kind.True is).meaning)).1))
+        absurd (omega (arith, (said True (ap as_cond (word_apart ws formed p word.0 word.1 kind.True is).meaning)).1))
     by_kind (Some kind.False) is c parts before =
-        absurd (omega (arith, (shaped False (ap as_cond (word_apart ws formed p word.0 word.1 kind.False is).meaning)).1))
+        absurd (omega (arith, (said False (ap as_cond (word_apart ws formed p word.0 word.1 kind.False is).meaning)).1))
     by_kind (Some kind.Equal) is c parts before =
         let a = left_of word.0 in
         let b = right_of word.0 in
-        elim (first_or_behind (term_at ws a) (term_at ws b ∷ []) t (shaped (Same (term_at ws a) (term_at ws b)) parts.2)) [
-          | inl q ↦ parts.3 t (inl (named_at a parts.0 q))
+        elim (first_or_behind (term_at ws a) (term_at ws b ∷ []) t (said (Same (term_at ws a) (term_at ws b)) parts.condition)) [
+          | inl q ↦ left_up kind.Equal is refl (named_at a parts.terms.0 q)
           | inr r ↦ elim (first_or_behind (term_at ws b) [] t r) [
-            | inl q ↦ parts.3 t (inr (named_at b parts.1 q))
+            | inl q ↦ right_up kind.Equal is refl (named_at b parts.terms.1.0 q)
             | inr z ↦ absurd (omega (arith, z.1))
           ]
         ]
-    by_kind (Some kind.Not) is c parts before = parts.2 t (before (left_of word.0) parts.0.1 parts.0.0 (shaped _ parts.1))
-    by_kind (Some kind.And) is c parts before = of_two (left_of word.0) (right_of word.0) parts.0 parts.1 parts.3 before (shaped _ parts.2)
-    by_kind (Some kind.Or) is c parts before = of_two (left_of word.0) (right_of word.0) parts.0 parts.1 parts.3 before (shaped _ parts.2)
+    by_kind (Some kind.Not) is c parts before = up kind.Not is (left_of word.0) (foremost (left_of word.0) []) (before (left_of word.0) parts.parts.0.below parts.parts.0.placed (said _ parts.condition))
+    by_kind (Some kind.And) is c parts before = of_two (left_of word.0) (right_of word.0) parts.parts.0 parts.parts.1.0 (left_up kind.And is refl) (right_up kind.And is refl) before (said _ parts.condition)
+    by_kind (Some kind.Or) is c parts before = of_two (left_of word.0) (right_of word.0) parts.parts.0 parts.parts.1.0 (left_up kind.Or is refl) (right_up kind.Or is refl) before (said _ parts.condition)
     by_kind _ is c parts before = absurd (false≢true c)
 
   pub condition_reached : (p : ℕ) (t : Term) → IsTrue (is_place_of ws class.Cond p) → Contains (condition_terms (condition_at ws p)) t → TermBelow ws p t

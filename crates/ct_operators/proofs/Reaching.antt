@@ -1,6 +1,6 @@
 -- Which terms are reached from rows, as words are added.
 use Rattle.std.proofs.Common.{◌≡◌, ℕ, zero, suc, true, Option, ◌<◌, List, [], ◌∷◌, ◌++◌, Some, None, length, get_or, refl, ap, sym, subst, ◌∙◌, arith, inl, inr}
-use Rattle.std.{specs.Prelude.{◌≢◌, ◌⊎◌, Result, IfOk, IsTrue, All, slice_get}, proofs.lemmas.Result.IfOk-weaker, specs.List.Contains}
+use Rattle.std.{specs.Prelude.{◌⊎◌, Result, IfOk, IsTrue, All, slice_get}, proofs.lemmas.Result.IfOk-weaker, specs.List.Contains}
 use Rattle.std.{proofs.lemmas.Bool.false≢true, proofs.lemmas.Option.{none-some, slice_get-get_or}}
 use Rattle.std.proofs.lemmas.List.Elements.{All-head, All-tail, All-cons, All-nil, All-weaker, All-contains, Contains-append_left, Contains-append_right, Contains-append_cases, All-contains_itself}
 use Rattle.ct_word.{specs.declared.kinds.Kind.Kind, specs.declared.kinds.Class.Class, specs.declared.values.Term.Term, specs.declared.values.CRow.CRow}

@@ -10,7 +10,7 @@ use Rattle.ct_condition.{specs.Terms.IsNamed, proofs.Placed.terms_fewer}
 use Rattle.ct_operators.{specs.Tables.IsRow, specs.Terms.{TermOfRows, RowsFrom}, specs.declared.table.CTable.CTable, proofs.Adding.in_all_and_one}
 use Rattle.ct_operators.{specs.Building.HoldsWhere, specs.Placing.tuple_of, specs.Judging.{passes, FitsTest, Beside, Further, first_words, test_words}}
 use Rattle.ct_operators.{specs.declared.judging.Test.Test, proofs.Choosing.named_below, proofs.Growing.{terms_grow, is_row_grows, value_grows}}
-use Rattle.ct_operators.proofs.Holding.{holds_as}
+use Rattle.ct_operators.{proofs.Holding.holds_as, proofs.Putting.parts_later}
 use Rattle.ct_operators.proofs.Reaching.{below_before, rows_before, rows_among, rows_wider, none_of_rows, plain_rows, no_cell_no_column}
 use mathlib.Core.List.{IsPrefix}
 use Rattle.ct_word.specs.declared.kinds.Class.TheVariants as class
@@ -27,7 +27,7 @@ pub no_column : (ws : List ℕ) (width : ℕ) (rows : List CRow) → All (IsRow 
     → (k : ℕ) → TermOfRows ws rows (term.Column k) ⊎ Further ws x (term.Column k) → ⊥
 no_column ws width rows each x f k (inl h) = none_of_rows ws rows (plain_rows ws width rows each) k h
 no_column ws width rows each (test.Holds p) f k (inr h) = h.1 k refl
-no_column ws width rows each (test.Fails c) f k (inr h) = h.1 k refl
+no_column ws width rows each (test.Fails c ps) f k (inr h) = h.1 k refl
 no_column ws width rows each (test.Among rs) f k (inr h) = none_of_rows ws rs.now (plain_rows ws width rs.now f) k h
 no_column ws width rows each (test.Apart rs) f k (inr h) = none_of_rows ws rs.now (plain_rows ws width rs.now f) k h
 
@@ -38,20 +38,23 @@ module _ (old now : List ℕ) (grown : IsPrefix old now) (formed : IsWellFormed 
   -- a test is still one for such rows
   pub fits_later : (x : Test) → FitsTest old width x → FitsTest now width x
   fits_later (test.Holds p) f = f
-  fits_later (test.Fails c) f =
-      (place_in_prefix old now class.Cond c grown f.0, λ k h. f.1 k (below_before old now grown formed c (term.Column k) (place_within old class.Cond c f.0) h))
+  fits_later (test.Fails c ps) f = (
+    place_in_prefix old now class.Cond c grown f.0,
+    λ k h. f.1 k (below_before old now grown formed c (term.Column k) (place_within old class.Cond c f.0) h),
+    parts_later old now c ps.now grown f.0 f.2,
+  )
   fits_later (test.Among rs) f = rows_later rs.now f
   fits_later (test.Apart rs) f = rows_later rs.now f
 
   -- it takes as many words
   pub words_later : (x : Test) → FitsTest old width x → test_words now width x ≡ test_words old width x
-  words_later (test.Fails c) f = ap (λ d. ops d + 1) (condition_in_prefix old now c grown (place_within old class.Cond c f.0))
+  words_later (test.Fails c ps) f = ap (λ d. ops d + 1) (condition_in_prefix old now c grown (place_within old class.Cond c f.0))
   words_later _ f = refl
 
   -- and the same tuples pass it
   passes_later : (x : Test) → FitsTest old width x → (v : World) (t : List Value) → passes now x v t ≡ passes old x v t
   passes_later (test.Holds p) f v t = refl
-  passes_later (test.Fails c) f v t = ap (λ d. not (holds v t d)) (condition_in_prefix old now c grown (place_within old class.Cond c f.0))
+  passes_later (test.Fails c ps) f v t = ap (λ d. not (holds v t d)) (condition_in_prefix old now c grown (place_within old class.Cond c f.0))
   passes_later (test.Among rs) f v t = ap (λ l. has_tuple l t) (value_grows old now grown v width rs.now f)
   passes_later (test.Apart rs) f v t = ap (λ l. not (has_tuple l t)) (value_grows old now grown v width rs.now f)
 
@@ -71,7 +74,7 @@ module _ (old now : List ℕ) (grown : IsPrefix old now) (formed : IsWellFormed 
   pub further_before : (x : Test) → FitsTest old width x → (cells : List ℕ) → length cells ≡ width → (t : Term) → Beside now cells x t → Further old x t
   further_before (test.Holds p) f cells e t b =
       (b.0, no_cell_no_column cells t b.1 (λ k q. subst (λ n. k < n) (sym e) (named_below width (condition_of p.now) k f.columns (subst (IsNamed (condition_of p.now)) q b.0))))
-  further_before (test.Fails c) f cells e t b =
+  further_before (test.Fails c ps) f cells e t b =
       let was = below_before old now grown formed c t (place_within old class.Cond c f.0) b.0 in
       (was, no_cell_no_column cells t b.1 (λ k q. subst (λ n. k < n) (sym e) (f.1 k (subst (TermBelow old c) q was))))
   further_before (test.Among rs) f cells e t b = rows_before old now grown formed width rs.now t f b

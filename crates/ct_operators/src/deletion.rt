@@ -22,6 +22,7 @@ use crate::selection::sifted;
 use crate::table::CTable;
 use ct_arena::{Arena, Site};
 use ct_condition::Interner;
+use ct_worlds::below;
 use std::alloc::Global;
 
 /// The rows, each under the further condition that the one at a place does not hold for it. A column of that condition
@@ -51,5 +52,12 @@ pub fn delete<N: Site, I: Interner<N>>(
     ensures kept { I.kept pass.new ≡ I.kept pass.old }
     ensures lent { I.lent pass.new ≡ I.lent pass.old }
 {
-    sifted(alloc, arena, pass, Test::Fails(cond), table)
+    let places = below(alloc, pass.words(), &[cond])?;
+    sifted(
+        alloc,
+        arena,
+        pass,
+        Test::Fails(cond, places.as_slice()),
+        table,
+    )
 }

@@ -4,6 +4,7 @@ ghost use Rattle.std.specs.Prelude.{◌≡◌};
 ghost use Rattle.ct_operators.specs.declared.error.TableError.TheVariants as fault;
 
 use ct_arena::Full;
+use ct_word::Memory;
 use std::alloc::{AllocError, AllocFailed};
 use thiserror::Error;
 
@@ -23,6 +24,14 @@ impl From<Full> for TableError {
 
     fn from(_: Full) -> Self {
         TableError::Full
+    }
+}
+
+impl From<Memory> for TableError {
+    ghost from_gives = { λ _ e. e ≡ fault.Memory };
+
+    fn from(_: Memory) -> Self {
+        TableError::Memory
     }
 }
 

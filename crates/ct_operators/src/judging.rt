@@ -12,7 +12,7 @@ ghost use Rattle.ct_operators.specs.Tables.{IsRow};
 ghost use Rattle.ct_operators.specs.Building.{HoldsWhere};
 ghost use Rattle.ct_operators.specs.Placing.{tuple_of};
 ghost use Rattle.ct_operators.specs.Matching.{is_among};
-ghost use Rattle.ct_operators.specs.Judging.{passes, Beside, FitsTest, first_words, test_words, is_apart};
+ghost use Rattle.ct_operators.specs.Judging.{passes, parts_in, Beside, FitsTest, first_words, test_words, is_apart};
 ghost use Rattle.ct_operators.specs.Terms.{TermOfRow, TermOfRows};
 
 use crate::matching::shown_as;
@@ -27,8 +27,9 @@ use ct_word::{CRow, FALSE_PLACE};
 pub(crate) enum Test<'a> {
     /// Those for which a predicate holds.
     Holds(&'a Pred),
-    /// Those for which the condition at a place does not hold.
-    Fails(u32),
+    /// Those for which the condition at a place does not hold. With it come the places of the conditions below it, each
+    /// after its parts.
+    Fails(u32, &'a [u32]),
     /// Those that are worth one of these rows.
     Among(&'a [CRow]),
     /// Those that are worth none of these rows.
@@ -91,10 +92,12 @@ fn passing<N: Site, I: Interner<N>>(
     pass: &mut I,
     test: Test<'_>,
     cells: &[u32],
+    put: &mut [u32],
 ) -> Result<u32, Full>
     requires cells { All (λ p. IsTrue (is_place_of (I.list pass.old) class.Term p)) cells.now }
     requires fits { FitsTest (I.list pass.old) (length cells.now) test }
     requires other { is_apart test ≡ false }
+    requires long { length put.old ≡ length (parts_in test) }
     ensures holds { IfOk result (λ place. HoldsWhere (I.list pass.new) place (λ v. passes (I.list pass.old) test.entry v (tuple_of (I.list pass.old) cells.now v))) }
     ensures terms { IfOk result (λ place. TermsFrom (I.list pass.new) place (λ t. BelowSome (I.list pass.old) cells.now t ⊎ Beside (I.list pass.old) cells.now test.entry t)) }
     ensures longer { IsPrefix (I.list pass.old) (I.list pass.new) }
@@ -104,11 +107,12 @@ fn passing<N: Site, I: Interner<N>>(
     ensures placed { OnOk result (first_words (I.list pass.new) test.entry ≡ 0) }
     ensures kept { I.kept pass.new ≡ I.kept pass.old }
     ensures lent { I.lent pass.new ≡ I.lent pass.old }
+    ensures long { length put.new ≡ length put.old }
 {
     match test {
         Test::Holds(p) => pred(arena, pass, p, cells),
-        Test::Fails(cond) => {
-            let gone = on_row(arena, pass, cond, cells)?;
+        Test::Fails(cond, places) => {
+            let gone = on_row(arena, pass, cond, places, put, cells)?;
             not(arena, pass, gone)
         }
         Test::Among(others) => among(arena, pass, cells, others),
@@ -116,15 +120,18 @@ fn passing<N: Site, I: Interner<N>>(
     }
 }
 
-/// The place of the condition that a row is shown and passes a test.
+/// The place of the condition that a row is shown and passes a test. In `put` is room for a place for each that comes with
+/// the test.
 pub(crate) fn judged<N: Site, I: Interner<N>>(
     arena: &Arena<N>,
     pass: &mut I,
     test: Test<'_>,
     row: &CRow,
+    put: &mut [u32],
 ) -> Result<u32, Full>
     requires row { IsRow (I.list pass.old) (length row.now.cells) row.now }
     requires fits { FitsTest (I.list pass.old) (length row.now.cells) test }
+    requires long { length put.old ≡ length (parts_in test) }
     ensures holds { IfOk result (λ place. HoldsWhere (I.list pass.new) place (λ v. holds_at v (condition_at (I.list pass.old) row.now.cond) && passes (I.list pass.old) test.entry v (tuple_of (I.list pass.old) row.now.cells v))) }
     ensures terms { IfOk result (λ place. TermsFrom (I.list pass.new) place (λ t. TermOfRow (I.list pass.old) row.now t ⊎ Beside (I.list pass.old) row.now.cells test.entry t)) }
     ensures longer { IsPrefix (I.list pass.old) (I.list pass.new) }
@@ -134,11 +141,12 @@ pub(crate) fn judged<N: Site, I: Interner<N>>(
     ensures placed { OnOk result (first_words (I.list pass.new) test.entry ≡ 0) }
     ensures kept { I.kept pass.new ≡ I.kept pass.old }
     ensures lent { I.lent pass.new ≡ I.lent pass.old }
+    ensures long { length put.new ≡ length put.old }
 {
     let _ = pass.words();
     if let Test::Apart(others) = test {
         return alone(arena, pass, row, others);
     }
-    let place = passing(arena, pass, test, row.cells.as_slice())?;
+    let place = passing(arena, pass, test, row.cells.as_slice(), put)?;
     and(arena, pass, row.cond, place)
 }

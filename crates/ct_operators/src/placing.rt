@@ -1,6 +1,6 @@
 // A condition with the cells of a row put for its columns.
 
-ghost use Rattle.std.specs.Prelude.{◌≡◌, ◌⊎◌, ◌≤◌, ◌<◌, Some, length, slice_get, All, IfOk, IsTrue, is_err};
+ghost use Rattle.std.specs.Prelude.{◌≡◌, ◌⊎◌, ◌<◌, ℕ, Some, length, slice_get, All, Contains, IfOk, IsTrue, is_err};
 ghost use Rattle.ct_word.specs.declared.kinds.Class.TheVariants as class;
 ghost use Rattle.ct_word.specs.WellFormed.{IsWellFormed, is_place_of};
 ghost use Rattle.ct_word.specs.Reading.{condition_at};
@@ -9,50 +9,20 @@ ghost use Rattle.ct_condition.specs.Terms.{TermsFrom};
 ghost use Rattle.ct_condition.specs.Writes.{Writes};
 ghost use Rattle.ct_operators.specs.Terms.{IsPlaced};
 ghost use Rattle.ct_operators.specs.Building.{HoldsWhere};
-ghost use Rattle.ct_operators.specs.Placing.{parts_of, AreParts, column_of, IsCellFor, holds_for, equal_for};
+ghost use Rattle.ct_operators.specs.Placing.{column_of, IsCellFor, holds_for, equal_for, IsPutFor, ArePut, ArePartsOf, step_of};
+ghost use Rattle.ct_worlds.specs.Shape.{shape_at, parts_at};
+ghost use Rattle.ct_worlds.specs.Truths.{AreRising};
 
 use ct_arena::{Arena, Full, Site};
 use ct_condition::{Interner, eq, join, not};
-use ct_word::{Connective, Kind, kind, left, right};
-
-/// What a condition is made of: terms or other conditions, by their places.
-#[derive(Clone, Copy)]
-pub(crate) enum Parts {
-    /// Nothing: it is true or false.
-    Nothing,
-    Equal(u32, u32),
-    Not(u32),
-    Joined(Connective, u32, u32),
-}
-
-fn parts_of(kind: Option<Kind>, left: u32, right: u32) -> Parts
-    ensures { result ≡ parts_of kind left right }
-{
-    match kind {
-        Some(Kind::Equal) => Parts::Equal(left, right),
-        Some(Kind::Not) => Parts::Not(left),
-        Some(Kind::And) => Parts::Joined(Connective::And, left, right),
-        Some(Kind::Or) => Parts::Joined(Connective::Or, left, right),
-        _ => Parts::Nothing,
-    }
-}
+use ct_word::{Kind, kind, left};
+use ct_worlds::{Shape, shape_at};
 
 fn word_at(words: &[u64], place: u32) -> u64
     requires { place < length words.now }
     ensures { slice_get words.now place ≡ Some result }
 {
     words[place as usize]
-}
-
-/// The parts of the condition at a place.
-fn made_of<N: Site, I: Interner<N>>(pass: &I, place: u32) -> Parts
-    requires { IsTrue (is_place_of (I.list pass.now) class.Cond place) }
-    ensures formed { IsWellFormed (I.list pass.now) }
-    ensures room { length (I.list pass.now) ≤ N.log.cap }
-    ensures parts { AreParts (I.list pass.now) place result }
-{
-    let word = word_at(pass.words(), place);
-    parts_of(kind(word), left(word), right(word))
 }
 
 fn column(kind: Option<Kind>, position: u32) -> Option<u32>
@@ -101,8 +71,52 @@ fn equal_on<N: Site, I: Interner<N>>(
     eq(arena, pass, s, t)
 }
 
+/// What was put for a place.
+fn put_for(places: &[u32], put: &[u32], place: u32) -> u32
+    requires rising { AreRising places.now }
+    requires long { length put.now ≡ length places.now }
+    requires among { Contains places.now place }
+    ensures { IsPutFor places.now put.now place result }
+{
+    match places.binary_search(&place) {
+        Ok(number) => put[number],
+        Err(_) => unreachable!(),
+    }
+}
+
+/// The place of the condition at another, with the cells of a row put for its columns, by what was put for its parts.
+fn over_parts<N: Site, I: Interner<N>>(
+    arena: &Arena<N>,
+    pass: &mut I,
+    cond: u32,
+    places: &[u32],
+    put: &[u32],
+    cells: &[u32],
+) -> Result<u32, Full>
+    requires cond { IsTrue (is_place_of (I.list pass.old) class.Cond cond) }
+    requires cells { All (λ p. IsTrue (is_place_of (I.list pass.old) class.Term p)) cells.now }
+    requires rising { AreRising places.now }
+    requires long { length put.now ≡ length places.now }
+    requires listed { (q : ℕ) → Contains (parts_at (I.list pass.old) cond) q → Contains places.now q }
+    requires put { ArePut (I.list pass.old) cells.now (Contains (parts_at (I.list pass.old) cond)) places.now put.now }
+    ensures holds { IfOk result (λ place. HoldsWhere (I.list pass.new) place (holds_for (I.list pass.old) cond cells.now)) }
+    ensures terms { IfOk result (λ place. TermsFrom (I.list pass.new) place (IsPlaced (I.list pass.old) cond cells.now)) }
+    ensures writes { Writes I.list I.made I.kept I.lent N.log.cap pass.old pass.new (step_of (shape_at (I.list pass.old) cond)) (is_err result) }
+{
+    match shape_at(pass.words(), cond) {
+        Shape::Literal(_) => Ok(cond),
+        Shape::Equal(s, t) => equal_on(arena, pass, s, t, cells),
+        Shape::Not(part) => not(arena, pass, put_for(places, put, part)),
+        Shape::Joined(connective, a, b) => {
+            let first = put_for(places, put, a);
+            let second = put_for(places, put, b);
+            join(arena, pass, connective, first, second)
+        }
+    }
+}
+
 /// The place of the condition at another, with the cells of a row put for its columns. A column past the row's end
-/// stays a column.
+/// stays a column. It goes once over the places below the condition, and notes in `put` what it puts for each.
 ///
 /// # Errors
 /// `Full` where the log has no room for a word of it.
@@ -110,26 +124,23 @@ pub(crate) fn on_row<N: Site, I: Interner<N>>(
     arena: &Arena<N>,
     pass: &mut I,
     cond: u32,
+    places: &[u32],
+    put: &mut [u32],
     cells: &[u32],
 ) -> Result<u32, Full>
     requires cond { IsTrue (is_place_of (I.list pass.old) class.Cond cond) }
     requires cells { All (λ p. IsTrue (is_place_of (I.list pass.old) class.Term p)) cells.now }
+    requires parts { ArePartsOf (I.list pass.old) cond places.now }
+    requires long { length put.old ≡ length places.now }
     ensures holds { IfOk result (λ place. HoldsWhere (I.list pass.new) place (holds_for (I.list pass.old) cond cells.now)) }
     ensures terms { IfOk result (λ place. TermsFrom (I.list pass.new) place (IsPlaced (I.list pass.old) cond cells.now)) }
     ensures writes { Writes I.list I.made I.kept I.lent N.log.cap pass.old pass.new (ops (condition_at (I.list pass.old) cond)) (is_err result) }
+    ensures long { length put.new ≡ length put.old }
 {
-    match made_of(pass, cond) {
-        Parts::Nothing => Ok(cond),
-        Parts::Equal(s, t) => equal_on(arena, pass, s, t, cells),
-        Parts::Not(c) => {
-            let placed = on_row(arena, pass, c, cells)?;
-            not(arena, pass, placed)
-        }
-        Parts::Joined(connective, c, d) => {
-            let first = on_row(arena, pass, c, cells)?;
-            let second = on_row(arena, pass, d, cells)?;
-            let _ = pass.words();
-            join(arena, pass, connective, first, second)
-        }
+    let _ = pass.words();
+    for number in 0..places.len() {
+        let placed = over_parts(arena, pass, places[number], places, put, cells)?;
+        put[number] = placed;
     }
+    Ok(put_for(places, put, cond))
 }

@@ -15,7 +15,7 @@ ghost use Rattle.ct_condition.specs.Places.{new_terms};
 ghost use Rattle.ct_condition.specs.Terms.{IsNamed};
 ghost use Rattle.ct_operators.specs.Terms.{TermOfRows, RowsFrom, IsNoColumn};
 ghost use Rattle.ct_operators.specs.Tables.{AreRows, value_of_rows, cells_of};
-ghost use Rattle.ct_operators.specs.Judging.{passes, Further, FitsTest, first_words, test_words};
+ghost use Rattle.ct_operators.specs.Judging.{passes, parts_in, Further, FitsTest, first_words, test_words};
 ghost use Rattle.ct_operators.specs.declared.error.TableError.TheVariants as fault;
 
 use crate::error::TableError;
@@ -25,7 +25,7 @@ use crate::table::CTable;
 use ct_arena::{Arena, Site};
 use ct_condition::Interner;
 use ct_query::Pred;
-use ct_word::{CRow, FALSE_PLACE, List};
+use ct_word::{CRow, FALSE_PLACE, List, Memory};
 use std::alloc::Global;
 
 /// Whether a condition is the word false, which no valuation satisfies.
@@ -36,6 +36,16 @@ fn is_false<N: Site, I: Interner<N>>(pass: &I, place: u32) -> bool
 {
     let _ = pass.words();
     place == FALSE_PLACE
+}
+
+/// Room for a place for each that comes with a test.
+fn room_for(alloc: Global, test: Test<'_>) -> Result<Vec<u32>, Memory>
+    ensures { IfOk result (λ room. length room.items ≡ length (parts_in test.entry)) }
+{
+    match test {
+        Test::Fails(_, places) => Ok(vec![in alloc; 0; places.len()]?),
+        _ => Ok(Vec::new(alloc)),
+    }
 }
 
 /// The rows that pass a test, each under the further condition that it does. Rows under the word false are left out.
@@ -67,10 +77,11 @@ pub(crate) fn sifted<N: Site, I: Interner<N>>(
     // The words are within the capacity, also where no row adds any.
     let _ = pass.words();
     let columns = names(&table.columns)?;
+    let mut put = room_for(alloc, test)?;
     let mut out = Vec::new(alloc);
     for row in table.rows.as_slice() {
         let _ = pass.words();
-        let place = judged(arena, pass, test, row)?;
+        let place = judged(arena, pass, test, row, put.as_mut_slice())?;
         if !is_false(pass, place) {
             push_under(&mut out, row, place)?;
         }

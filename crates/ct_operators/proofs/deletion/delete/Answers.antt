@@ -1,0 +1,15 @@
+use Rattle.std.proofs.Common.{[], ◌∷◌, sym, subst}
+use Rattle.ct_worlds.specs.Below.{AreBelow}
+use Rattle.ct_operators.{specs.Placing.ArePartsOf, proofs.Steps.parts_below}
+use Rattle.ct_operators.proofs.deletion.delete.Goals as goal
+
+pub sifted-requires-clause-fits : goal.sifted-requires-clause-fits
+sifted-requires-clause-fits g c =
+    let old = g.I.Interner.list c.args.pass.now in
+    let cond = c.args.cond in
+    let places = c.in_ok-places.places.items in (
+      c.requires.cond,
+      c.requires.columns,
+      subst (ArePartsOf old cond) (sym c.as_slice.ensures.value)
+          (parts_below old cond places c.words.ensures.formed c.requires.cond (subst (λ ws. AreBelow ws (cond ∷ []) places) c.words.ensures.words c.in_ok-places.ensures)),
+    )
