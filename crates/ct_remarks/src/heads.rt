@@ -1,7 +1,7 @@
 // What a remark begins with.
 
 ghost use Rattle.std.specs.Prelude.{◌≡◌, map, slice_get};
-ghost use Rattle.ct_transcript.specs.Written.{Appends};
+ghost use Rattle.ct_print.specs.Written.{Appends};
 ghost use Rattle.ct_remarks.specs.RefusedStatements.{case_of};
 ghost use Rattle.ct_remarks.specs.Standing.{IsSpot};
 ghost use Rattle.ct_remarks.specs.Remarks as spec;

@@ -2,7 +2,7 @@
 
 ghost use Rattle.std.specs.Prelude.{◌≡◌, ◌++◌, encode_utf8, string_bytes, OnOk};
 ghost use Rattle.std.specs.List.{list_any};
-ghost use Rattle.ct_transcript.specs.Written.{Appends};
+ghost use Rattle.ct_print.specs.Written.{Appends};
 ghost use Rattle.ct_remarks.specs.Remarks as spec;
 
 use ct_word::Memory;

@@ -1,5 +1,3 @@
-pub mod Quotes
-pub mod Joins
 pub mod Names
 pub mod Prints
 pub mod Lists

@@ -1,5 +1,3 @@
-pub mod Written
-pub mod TermText
 pub mod NodeText
 pub mod Text
 pub mod Means

@@ -5,7 +5,7 @@ use Rattle.ct_rewrite.specs.declared.answer.Node.{Node}
 use Rattle.ct_rewrite.specs.declared.answer.Node.TheVariants as node
 use Rattle.ct_rewrite.specs.Nodes.{children_of}
 use Rattle.ct_transcript.specs.declared.nodes.Printed.{Printed}
-use Rattle.ct_transcript.specs.TermText.{in_parentheses, term_text}
+use Rattle.ct_print.specs.TermText.{in_parentheses, term_text}
 
 -- a text and its line end
 abbrev pub line : List ℕ → List ℕ

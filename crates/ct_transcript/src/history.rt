@@ -3,11 +3,11 @@
 ghost use Rattle.std.specs.Prelude.{◌≡◌, ◌+◌, ◌^◌, ◌≤◌, List, [], ◌∷◌, ◌++◌, map, flat_map, length, codes, IfOk};
 ghost use Rattle.ct_transcript.specs.NodeText.{line};
 ghost use Rattle.ct_transcript.specs.Text.{references_of, change_text, change_lines, printed_commit, commit_lines, commits_from};
-ghost use Rattle.ct_transcript.specs.Written.{Appends, Adds};
+ghost use Rattle.ct_print.specs.Written.{Appends, Adds};
 
 use crate::nodes::{Printed, print_nodes, push_root};
 use crate::rows::{push_conditions, push_line, push_name_lines, push_rows};
-use crate::terms::{push_names, push_text};
+use ct_print::{push_names, push_text};
 use ct_rewrite::{Change, Commit, Node};
 use ct_word::{Memory, Text};
 use std::alloc::Global;

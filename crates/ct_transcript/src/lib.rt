@@ -11,7 +11,6 @@ mod replies;
 mod reply;
 mod rows;
 mod sessions;
-mod terms;
 mod transcript;
 
 pub use ct_rewrite::{AnswerRow, CertainRow, Change, Commit, Node, PossibleRow};

@@ -2,10 +2,10 @@
 
 ghost use Rattle.std.specs.Prelude.{◌≡◌, [], ◌∷◌, map};
 ghost use Rattle.ct_transcript.specs.Text.{possible_line, certain_line};
-ghost use Rattle.ct_transcript.specs.Written.{Adds};
+ghost use Rattle.ct_print.specs.Written.{Adds};
 
 use crate::rows::push_line;
-use crate::terms::{push_cells, push_tuple, push_world};
+use ct_print::{push_cells, push_tuple, push_world};
 use ct_rewrite::{CertainRow, PossibleRow};
 use ct_word::{Memory, Text};
 use std::alloc::Global;

@@ -3,11 +3,11 @@
 ghost use Rattle.std.specs.Prelude.{◌≡◌, ℕ, ◌+◌, ◌<◌, ◌^◌, ◌&&◌, ◌++◌, if◌then◌else◌, nat_le, min, length, flat_map, slice_index, slice_get, option_copied, codes, string_bytes, IfOk, Some, None};
 ghost use Rattle.std.specs.List.{join_by};
 ghost use Rattle.ct_rewrite.specs.Nodes.{children_of};
-ghost use Rattle.ct_transcript.specs.TermText.{term_text};
+ghost use Rattle.ct_print.specs.TermText.{term_text};
 ghost use Rattle.ct_transcript.specs.NodeText.{is_run, references_to, names_of, name_text, name_or, as_root, as_child, node_text, printed, is_true_node, is_false_node, unless_true};
-ghost use Rattle.ct_transcript.specs.Written.{Appends, separator_before};
+ghost use Rattle.ct_print.specs.Written.{Appends, separator_before};
 
-use crate::terms::{push_separator, push_term, push_text};
+use ct_print::{push_separator, push_term, push_text};
 use ct_rewrite::Node;
 use ct_word::{Memory, Term, Text};
 use std::alloc::Global;

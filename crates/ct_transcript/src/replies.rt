@@ -3,13 +3,13 @@
 ghost use Rattle.std.specs.Prelude.{◌≡◌, ◌+◌, ◌<◌, ◌^◌, not, List, [], ◌∷◌, ◌++◌, map, filter, slice_get, codes, string_bytes, IfOk};
 ghost use Rattle.ct_transcript.specs.NodeText.{line, is_false_node};
 ghost use Rattle.ct_transcript.specs.Text.{row_text, plus_text, head_text, global_lines, answer_row_lines, printed_answer, answer_lines, refusal_name, read_text, conflict_text, refusal_rest, reply_lines, numbered, replies_from};
-ghost use Rattle.ct_transcript.specs.Written.{Appends, Adds};
+ghost use Rattle.ct_print.specs.Written.{Appends, Adds};
 
 use crate::listed::{push_certain_rows, push_possible_rows};
 use crate::nodes::{Printed, is_false, is_true, print_nodes, push_root};
 use crate::reply::{Answer, Refusal, Reply};
 use crate::rows::{push_conditions, push_line, push_name_lines, push_row};
-use crate::terms::{push_names, push_text};
+use ct_print::{push_names, push_text};
 use ct_query::Read;
 use ct_rewrite::{AnswerRow, Node};
 use ct_word::{Memory, Text};

@@ -4,10 +4,10 @@ ghost use Rattle.std.specs.Prelude.{◌≡◌, List, [], ◌∷◌, ◌++◌, ma
 ghost use Rattle.std.specs.List.{join_by};
 ghost use Rattle.ct_transcript.specs.NodeText.{line, name_line, name_lines};
 ghost use Rattle.ct_transcript.specs.Text.{row_text, rows_text};
-ghost use Rattle.ct_transcript.specs.Written.{Appends, Adds};
+ghost use Rattle.ct_print.specs.Written.{Appends, Adds};
 
 use crate::nodes::{Printed, push_unless_true};
-use crate::terms::{push_cells, push_separator, push_text};
+use ct_print::{push_cells, push_separator, push_text};
 use ct_rewrite::{AnswerRow, Node};
 use ct_word::{Memory, Text};
 use std::alloc::Global;

@@ -3,7 +3,7 @@
 ghost use Rattle.std.specs.Prelude.{◌≡◌, ◌+◌, ◌^◌, ◌≤◌, List, [], ◌∷◌, ◌++◌, length, codes, decimal, IfOk};
 ghost use Rattle.ct_transcript.specs.NodeText.{line};
 ghost use Rattle.ct_transcript.specs.Text.{replies_from, sessions_from};
-ghost use Rattle.ct_transcript.specs.Written.{Adds};
+ghost use Rattle.ct_print.specs.Written.{Adds};
 
 use crate::replies::push_replies;
 use crate::reply::SessionLog;

@@ -1,5 +1,6 @@
 use Rattle.std.{proofs.Common.{◌++◌, ◌∙◌, ap}, specs.Prelude.{codes, string_bytes}, proofs.lemmas.Result.on_ok_weaker}
-use Rattle.ct_transcript.{specs.TermText.{in_parentheses, with_commas}, specs.Text.rows_text, proofs.Joins.both_written}
+use Rattle.ct_print.{specs.TermText.{in_parentheses, with_commas}, proofs.Joins.both_written}
+use Rattle.ct_transcript.specs.Text.{rows_text}
 use Rattle.ct_transcript.proofs.history.push_change.Goals as goal
 
 pub returns-in_ok-push_about-in-Create : goal.returns-in_ok-push_about-in-Create

@@ -1,5 +1,6 @@
 use Rattle.std.{proofs.Common.{get_or, refl, arith}, specs.Prelude.slice_get}
-use Rattle.ct_transcript.{specs.NodeText.as_child, proofs.Joins.join_written}
+use Rattle.ct_print.proofs.Joins.{join_written}
+use Rattle.ct_transcript.specs.NodeText.{as_child}
 use Rattle.ct_transcript.proofs.nodes.push_children.Goals as goal
 
 pub loop-i-preserved : goal.loop-i-preserved

@@ -1,5 +1,6 @@
 use Rattle.std.{proofs.Common.arith, specs.Prelude.codes}
-use Rattle.ct_transcript.{specs.Text.row_text, proofs.Joins.join_written}
+use Rattle.ct_print.proofs.Joins.{join_written}
+use Rattle.ct_transcript.specs.Text.{row_text}
 use Rattle.ct_transcript.proofs.rows.push_joined_rows.Goals as goal
 
 pub loop-i-preserved : goal.loop-i-preserved

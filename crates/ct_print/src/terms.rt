@@ -1,14 +1,17 @@
 // Values, nulls, terms and names as they are printed.
 
 ghost use Rattle.std.specs.Prelude.{◌≡◌, flat_map, map, encode_utf8};
-ghost use Rattle.ct_transcript.specs.Written.{Appends, separator_before};
-ghost use Rattle.ct_transcript.specs.TermText.{in_parentheses, with_commas, quoted_byte, value_text, null_text, term_text, cells_text, tuple_text, pair_text, world_text};
+ghost use Rattle.ct_print.specs.Written.{Appends, separator_before};
+ghost use Rattle.ct_print.specs.TermText.{in_parentheses, with_commas, quoted_byte, value_text, null_text, term_text, cells_text, tuple_text, pair_text, world_text};
 
 use ct_word::{Memory, Null, Term, Text, Value};
 use std::fmt::Write;
 
 /// Appends a text as it is.
-pub(crate) fn push_text(out: &mut String, text: &str) -> Result<(), Memory>
+///
+/// # Errors
+/// `Memory` where there is none for the text.
+pub fn push_text(out: &mut String, text: &str) -> Result<(), Memory>
     ensures { Appends result out.old out.new text.now }
 {
     out.push_str(text)?;
@@ -63,7 +66,11 @@ fn push_null(out: &mut String, null: &Null) -> Result<(), Memory>
     }
 }
 
-pub(crate) fn push_term(out: &mut String, term: &Term) -> Result<(), Memory>
+/// Appends a term: a column as `$` and its position from 1.
+///
+/// # Errors
+/// `Memory` where there is none for the text.
+pub fn push_term(out: &mut String, term: &Term) -> Result<(), Memory>
     ensures { Appends result out.old out.new (term_text term.now) }
 {
     match term {
@@ -76,7 +83,11 @@ pub(crate) fn push_term(out: &mut String, term: &Term) -> Result<(), Memory>
     }
 }
 
-pub(crate) fn push_separator(out: &mut String, i: usize, separator: &str) -> Result<(), Memory>
+/// Appends the separator, unless `i` is 0: what stands before the item at position `i` of a list.
+///
+/// # Errors
+/// `Memory` where there is none for the text.
+pub fn push_separator(out: &mut String, i: usize, separator: &str) -> Result<(), Memory>
     ensures { Appends result out.old out.new (separator_before i separator.now) }
 {
     if i > 0 {
@@ -86,7 +97,11 @@ pub(crate) fn push_separator(out: &mut String, i: usize, separator: &str) -> Res
     }
 }
 
-pub(crate) fn push_cells(out: &mut String, cells: &[Term]) -> Result<(), Memory>
+/// Appends cells in parentheses, with commas between.
+///
+/// # Errors
+/// `Memory` where there is none for the text.
+pub fn push_cells(out: &mut String, cells: &[Term]) -> Result<(), Memory>
     ensures { Appends result out.old out.new (cells_text cells.now) }
 {
     out.push_str("(")?;
@@ -97,8 +112,11 @@ pub(crate) fn push_cells(out: &mut String, cells: &[Term]) -> Result<(), Memory>
     push_text(out, ")")
 }
 
-/// Appends the values of a tuple.
-pub(crate) fn push_tuple(out: &mut String, tuple: &[Value]) -> Result<(), Memory>
+/// Appends the values of a tuple in parentheses, with commas between.
+///
+/// # Errors
+/// `Memory` where there is none for the text.
+pub fn push_tuple(out: &mut String, tuple: &[Value]) -> Result<(), Memory>
     ensures { Appends result out.old out.new (tuple_text tuple.now) }
 {
     out.push_str("(")?;
@@ -127,8 +145,11 @@ fn push_pairs(out: &mut String, pairs: &[(Null, Value)]) -> Result<(), Memory>
     Ok(())
 }
 
-/// Appends the nulls of a world with their values.
-pub(crate) fn push_world(out: &mut String, world: &[(Null, Value)]) -> Result<(), Memory>
+/// Appends the nulls of a world with their values, or `default` where it has none.
+///
+/// # Errors
+/// `Memory` where there is none for the text.
+pub fn push_world(out: &mut String, world: &[(Null, Value)]) -> Result<(), Memory>
     ensures { Appends result out.old out.new (world_text world.now) }
 {
     if world.is_empty() {
@@ -138,7 +159,11 @@ pub(crate) fn push_world(out: &mut String, world: &[(Null, Value)]) -> Result<()
     }
 }
 
-pub(crate) fn push_names(out: &mut String, names: &[Text]) -> Result<(), Memory>
+/// Appends names in parentheses, with commas between.
+///
+/// # Errors
+/// `Memory` where there is none for the text.
+pub fn push_names(out: &mut String, names: &[Text]) -> Result<(), Memory>
     ensures { Appends result out.old out.new (in_parentheses (with_commas (λ n. n) names.now)) }
 {
     out.push_str("(")?;

@@ -1,6 +1,6 @@
 use Rattle.std.{proofs.Common.{◌≡◌, ◌++◌, take}, specs.Prelude.{codes, string_bytes}, specs.List.join_by}
-use Rattle.ct_transcript.specs.TermText.{term_text}
-use Rattle.ct_transcript.proofs.terms.push_cells.Given as goal
+use Rattle.ct_print.specs.TermText.{term_text}
+use Rattle.ct_print.proofs.terms.push_cells.Given as goal
 
 abbrev pub invariant-loop-i : goal.invariant-loop-i
 invariant-loop-i l = string_bytes l.out ≡ string_bytes l.initial.out ++ join_by term_text (codes ", ") (take l.i l.cells)

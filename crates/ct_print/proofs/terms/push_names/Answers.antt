@@ -1,6 +1,6 @@
 use Rattle.std.{proofs.Common.{◌++◌, ◌∙◌, ap, arith}, specs.Prelude.{codes, string_bytes}}
-use Rattle.ct_transcript.proofs.Joins.{join_written}
-use Rattle.ct_transcript.proofs.terms.push_names.Goals as goal
+use Rattle.ct_print.proofs.Joins.{join_written}
+use Rattle.ct_print.proofs.terms.push_names.Goals as goal
 
 pub loop-i-preserved : goal.loop-i-preserved
 loop-i-preserved c =

@@ -1,7 +1,7 @@
 -- Pieces written one after another, with a separator between.
 use Rattle.std.{proofs.Common.{◌≡◌, ℕ, ◌+◌, ◌<◌, List, [], ◌∷◌, ◌++◌, length, take, get_or, ap, ◌∙◌, arith, append_assoc, append-nil}, specs.List.join_by}
 use Rattle.std.{proofs.lemmas.Grind.{flat_map-append, take_at_read}, proofs.lemmas.List.length-take-le, proofs.Math.Dec.eqb-suc-zero}
-use Rattle.ct_transcript.specs.Written.{separator_before}
+use Rattle.ct_print.specs.Written.{separator_before}
 
 join_push : {X : Type 0} (f : X → List ℕ) (sep : List ℕ) (xs : List X) (x : X) → join_by f sep (xs ++ x ∷ []) ≡ join_by f sep xs ++ (separator_before (length xs) sep ++ f x)
 join_push f sep [] x = append-nil (f x)

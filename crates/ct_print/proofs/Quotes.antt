@@ -1,7 +1,7 @@
 -- A text written character by character, its quotes twice.
 use Rattle.std.proofs.Common.{◌≡◌, ◌≢◌, ℕ, suc, ◌<◌, List, [], ◌∷◌, ◌++◌, length, get_or, refl, sym, ap₂, ◌∙◌, arith, append_assoc, append-nil}
 use Rattle.std.{specs.Prelude.flat_map, proofs.lemmas.Bool.Decides.nat_tests, proofs.lemmas.Grind.flat_map-append, proofs.lemmas.Str.{encode_ascii, inside_one}}
-use Rattle.ct_transcript.specs.TermText.{quoted_byte}
+use Rattle.ct_print.specs.TermText.{quoted_byte}
 use lib.Utf8.{encode}
 
 other_byte : (b : ℕ) → b ≢ 39 → quoted_byte b ≡ b ∷ []

@@ -1,6 +1,6 @@
 use Rattle.std.{proofs.Common.{◌≡◌, ◌++◌}, specs.Prelude.{flat_map, string_bytes}}
-use Rattle.ct_transcript.specs.TermText.{quoted_byte}
-use Rattle.ct_transcript.proofs.terms.push_quoted.Given as goal
+use Rattle.ct_print.specs.TermText.{quoted_byte}
+use Rattle.ct_print.proofs.terms.push_quoted.Given as goal
 
 abbrev pub invariant-loop-c : goal.invariant-loop-c
 invariant-loop-c l =

@@ -1,6 +1,6 @@
 use Rattle.std.{proofs.Common.arith, specs.Prelude.codes}
-use Rattle.ct_transcript.{specs.TermText.value_text, proofs.Joins.join_written}
-use Rattle.ct_transcript.proofs.terms.push_tuple.Goals as goal
+use Rattle.ct_print.{specs.TermText.value_text, proofs.Joins.join_written}
+use Rattle.ct_print.proofs.terms.push_tuple.Goals as goal
 
 pub loop-i-preserved : goal.loop-i-preserved
 loop-i-preserved c =

@@ -1,6 +1,6 @@
 use Rattle.std.proofs.Common.{arith}
-use Rattle.ct_transcript.{proofs.Quotes.{quote_char, other_char}, proofs.terms.push_char.Goals.{then-c-eq39+in_ok-push, else-c-eq39}}
-use Rattle.ct_transcript.proofs.terms.push_char.Goals as goal
+use Rattle.ct_print.{proofs.Quotes.{quote_char, other_char}, proofs.terms.push_char.Goals.{then-c-eq39+in_ok-push, else-c-eq39}}
+use Rattle.ct_print.proofs.terms.push_char.Goals as goal
 
 pub returns : goal.returns
 returns c =
