@@ -11,7 +11,8 @@ use Rattle.ct_word.{specs.Stands.{Below, itself, through, StandsAt, places_in, p
 use Rattle.ct_word.{proofs.Items.{no_item, sole_item, item_cases}, proofs.Places.{stands_term, stands_condition}, proofs.Splits.{place_within, some-injective}}
 use Rattle.ct_word.proofs.Prefixes.{prefix_of_prefix, prefix_same}
 use Rattle.ct_condition.specs.Terms.{BelowSome}
-use Rattle.ct_operators.{proofs.Placed.parts_are, proofs.Reaching.term_alone}
+use Rattle.ct_worlds.{specs.Shape.{shape_of, shape_of_word, IsShaped}, proofs.Shaped.shaped}
+use Rattle.ct_operators.proofs.Reaching.{term_alone}
 use Rattle.ct_rewrite.proofs.Nodes.{term_compared}
 use Rattle.ct_tidy.specs.Nulls.{IsPart, names_left, names_right, parts_in, parts_of, ArePut, IsReached, AreGathered, has_null, with_term, AreNullsOf, IsTermAtSome}
 use mathlib.Core.List.{IsPrefix}
@@ -19,7 +20,6 @@ use Rattle.ct_word.specs.declared.kinds.Kind.TheVariants as kind
 use Rattle.ct_word.specs.declared.kinds.Class.TheVariants as class
 use Rattle.ct_word.specs.declared.values.Term.TheVariants as term
 use Rattle.ct_word.specs.contracts.values.NullPartialEq.TheImpl as null_code
-use Rattle.ct_operators.specs.Placing as placing
 
 contains_longer : {X : Type 0} (xs ys : List X) (x : X) → IsPrefix xs ys → Contains xs x → Contains ys x
 contains_longer xs ys x p h = subst (λ l. Contains l x) p.1 (Contains-append_left xs p.0 x h)
@@ -120,12 +120,12 @@ module _ (ws : List ℕ) (formed : IsWellFormed ws) where
 
   -- what the word of a condition names is a condition or a term
   pub part_is : (p w q : ℕ) → slice_get ws p ≡ Some w → IsPart ws p → Contains (parts_of w) q → IsPart ws q
-  part_is p w q there (inl c) h = by (kind_of w) (parts_are ws formed p w there c) h where
-    by : (o : Option Kind) → placing.AreParts ws p (placing.parts_of o (left_of w) (right_of w)) → Contains (parts_in o (left_of w) (right_of w)) q → IsPart ws q
-    by (Some kind.Not) are h = subst (IsPart ws) (sole_item (left_of w) q h) (inl are.0.0)
-    by (Some kind.Equal) are h = two_of (left_of w) (right_of w) q (inr are.0) (inr are.1) h
-    by (Some kind.And) are h = two_of (left_of w) (right_of w) q (inl are.0.0) (inl are.1.0) h
-    by (Some kind.Or) are h = two_of (left_of w) (right_of w) q (inl are.0.0) (inl are.1.0) h
+  part_is p w q there (inl c) h = by (kind_of w) (subst (λ o. IsShaped ws p (shape_of_word o)) there (shaped ws p formed c)) h where
+    by : (o : Option Kind) → IsShaped ws p (shape_of o (left_of w) (right_of w)) → Contains (parts_in o (left_of w) (right_of w)) q → IsPart ws q
+    by (Some kind.Not) are h = subst (IsPart ws) (sole_item (left_of w) q h) (inl are.parts.0.placed)
+    by (Some kind.Equal) are h = two_of (left_of w) (right_of w) q (inr are.terms.0) (inr are.terms.1.0) h
+    by (Some kind.And) are h = two_of (left_of w) (right_of w) q (inl are.parts.0.placed) (inl are.parts.1.0.placed) h
+    by (Some kind.Or) are h = two_of (left_of w) (right_of w) q (inl are.parts.0.placed) (inl are.parts.1.0.placed) h
     by _ are h = absurd (no_item q h)
   part_is p w q there (inr t) h = by (kind_of w) (sym (ap (λ o. is_word_of o class.Term) there) ∙ t) h where
     by : (o : Option Kind) → has_class o class.Term ≡ true → Contains (parts_in o (left_of w) (right_of w)) q → IsPart ws q
