@@ -1,10 +1,10 @@
 -- Known worlds and the conjuncts of the global condition, as words are added; what a question has from them.
-use Rattle.std.proofs.Common.{◌≡◌, ◌<◌, ℕ, true, List, [], ◌∷◌, length, get_or, ap, sym, subst, ◌∙◌}
-use Rattle.std.{specs.Prelude.{IsTrue, Contains}, proofs.lemmas.List.Elements.{All-weaker, Contains-get_or}}
+use Rattle.std.proofs.Common.{◌≡◌, ◌⊎◌, ◌<◌, ℕ, true, List, [], ◌∷◌, length, get_or, ap, sym, subst, ◌∙◌, inl, inr}
+use Rattle.std.{specs.Prelude.{IsTrue, Contains}, proofs.lemmas.List.Elements.{All-weaker, Contains-append_left, Contains-get_or}}
 use Rattle.ct_word.{specs.Value.World, specs.Condition.holds_at, specs.Reading.condition_at, specs.Stands.TermBelow, specs.WellFormed.{IsWellFormed, is_place_of}}
 use Rattle.ct_word.proofs.Prefixes.{condition_in_prefix, get_in_prefix, place_in_prefix, place_within, term_in_prefix}
 use Rattle.ct_condition.proofs.Reached.{terms_after, terms_before}
-use Rattle.ct_near.{specs.Conjuncts.{AreConjuncts, IsAnd, IsInRun, first, part}, specs.declared.index.Conjuncts.Conjuncts, proofs.Runs.run_condition}
+use Rattle.ct_near.{specs.Conjuncts.{AreConjuncts, AreTopDown, IsAnd, IsInRun, IsNamed, first, more, none, part}, specs.declared.index.Conjuncts.Conjuncts, proofs.Runs.run_condition}
 use Rattle.ct_worlds.specs.Shape.{shape_of_word}
 use Rattle.ct_certain.specs.{Answered.{IsNear, IsNearOwn}, declared.settling.Near.Near}
 use mathlib.Core.List.{IsPrefix}
@@ -33,6 +33,19 @@ module _ (old new : List ℕ) (longer : IsPrefix old new) (formed : IsWellFormed
     same : (v : World) (p : ℕ) → IsInRun old root p → holds_at v (condition_at new p) ≡ holds_at v (condition_at old p)
     same v p run = ap (holds_at v) (condition_in_prefix old new p longer (within p run))
 
+    named_grows : (ands : List ℕ) (p : ℕ) → ((q : ℕ) → Contains ands q → IsInRun old root q) → IsNamed old ands p → IsNamed new ands p
+    named_grows ands p runs n = record { and = n.and; among = n.among; left = n.left; right = n.right; is = and_grows n.and n.left n.right (within n.and (runs n.and n.among)) n.is; of = n.of }
+
+    order_grows : (ands : List ℕ) → ((q : ℕ) → Contains ands q → IsInRun old root q) → AreTopDown old root ands → AreTopDown new root ands
+    order_grows ands runs none = none
+    order_grows ands runs (more before p is order one) = more before p is (order_grows before earlier order) (by one) where
+      earlier : (q : ℕ) → Contains before q → IsInRun old root q
+      earlier q h = runs q (subst (λ l. Contains l q) (sym is) (Contains-append_left before (p ∷ []) q h))
+
+      by : (p ≡ root) ⊎ IsNamed old before p → (p ≡ root) ⊎ IsNamed new before p
+      by (inl e) = inl e
+      by (inr n) = inr (named_grows before p earlier n)
+
     pub conjuncts_grow : (c : Conjuncts) → AreConjuncts old root c → AreConjuncts new root c
     conjuncts_grow c are = record {
       condition = place_in_prefix old new class.Cond root longer placed;
@@ -53,6 +66,9 @@ module _ (old new : List ℕ) (longer : IsPrefix old new) (formed : IsWellFormed
             below = terms_after old new longer formed_old place (term.Null o.null) (within place (are.each place (Contains-get_or c.places.items e.conjunct 0 o.conjunct))) o.below;
           };
       ands = λ p h. let a = are.ands p h in record { run = run_grows p a.run; left = a.left; right = a.right; is = and_grows p a.left a.right (within p a.run) a.is };
+      places_once = are.places_once;
+      ands_once = are.ands_once;
+      ands_order = order_grows c.ands.items (λ q h. (are.ands q h).run) are.ands_order;
       nulls = λ number n lt h.
           let c_is = within (get_or c.places.items number 0) (are.each (get_or c.places.items number 0) (Contains-get_or c.places.items number 0 lt)) in
           let l = are.nulls number n lt (terms_before old new longer formed (get_or c.places.items number 0) (term.Null n) c_is h) in

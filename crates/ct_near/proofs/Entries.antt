@@ -15,11 +15,11 @@ use Rattle.ct_worlds.specs.declared.shape.Shape.TheVariants as shape
 use Rattle.ct_near.specs.declared.walking.Way.TheVariants as way
 
 -- a walk ends at a condition, or goes on from an And to its parts
-data Turn (stop p : ℕ) (s : Shape) : Type 0 where
+pub data Turn (stop p : ℕ) (s : Shape) : Type 0 where
   at_leaf : parts_of (opened (way.Ands stop) p s) ≡ [] → Turn stop p s
   at_and : (a b : ℕ) → s ≡ shape.Joined connective.And a b → parts_of (opened (way.Ands stop) p s) ≡ a ∷ b ∷ [] → Turn stop p s
 
-turn : (stop p : ℕ) (s : Shape) → Turn stop p s
+pub turn : (stop p : ℕ) (s : Shape) → Turn stop p s
 turn stop p (shape.Joined connective.And a b) = by (nat_eq p stop) refl where
   by : (e : Bool) → nat_eq p stop ≡ e → Turn stop p (shape.Joined connective.And a b)
   by true e = at_leaf (ap (λ t. parts_of (cond t (shape.Literal false) (shape.Joined connective.And a b))) e)

@@ -2,6 +2,7 @@ pub mod Runs
 mod Listing
 mod Steps
 mod Entries
+mod Traced
 mod Laid
 mod Others
 mod Sharing

@@ -103,6 +103,7 @@ entered_and words stop place a b waiting new old more next grown inner leaves en
   kept = λ p h. record { leaf = λ none. subst (λ l. Contains l p) (sym leaves) (h.leaf none); inner = λ on. subst (λ l. Contains l p) (sym inner) (Contains-append_left old.inner.items (place ∷ []) p (h.inner on)) };
   noted = record { leaf = λ none. absurd (no_two (sym next ∙ none)); inner = λ on. subst (λ l. Contains l place) (sym inner) (Contains-push old.inner.items place) };
   entries = extends_same (IsEntryAt words (way.Ands stop) place) old.index.entries.items more.index.entries.items entries;
+  pushed = inl (inner, leaves);
 } where
   no_two : a ∷ b ∷ [] ≡ [] → ⊥
   no_two e = let long = ap length e in omega (arith, long)
@@ -120,6 +121,7 @@ entered_leaf words stop place waiting old more none inner leaves entries = recor
   kept = λ p h. record { leaf = λ e. subst (λ l. Contains l p) (sym leaves) (Contains-append_left old.leaves.items (place ∷ []) p (h.leaf e)); inner = λ on. subst (λ l. Contains l p) (sym inner) (h.inner on) };
   noted = record { leaf = λ e. subst (λ l. Contains l place) (sym leaves) (Contains-push old.leaves.items place); inner = λ on. absurd (on none) };
   entries = extends_same (IsEntryAt words (way.Ands stop) place) old.index.entries.items more.index.entries.items entries;
+  pushed = inr (none, inner, leaves);
 }
 
 -- the nulls that were listed still are
@@ -138,6 +140,7 @@ entered_any words conjunct place waiting new old index (Ok x) grown added listed
   kept = λ p h. lists_still words old.index.entries.items index.entries.items conjunct p (extends_keeps (IsEntryAt words (way.All conjunct) place) old.index.entries.items index.entries.items added) h;
   noted = listed;
   entries = added;
+  pushed = tt;
 }
 
 module _ (words : List ℕ) (w : Way) where

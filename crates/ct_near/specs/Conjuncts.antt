@@ -1,5 +1,6 @@
 -- The conjuncts of a condition, and which nulls stand below each.
-use Rattle.std.specs.Prelude.{◌≡◌, ◌≢◌, ◌⊎◌, ◌<◌, ℕ, Bool, true, false, not, ◌||◌, List, length, slice_index_or, Contains}
+use Rattle.std.specs.Prelude.{◌≡◌, ◌≢◌, ◌⊎◌, ◌<◌, ℕ, Bool, true, false, not, ◌||◌, List, [], ◌∷◌, ◌++◌, length, nat_eq, slice_index_or, Contains}
+use Rattle.std.specs.List.{IsDistinct}
 use Rattle.ct_word.specs.declared.connectives.Connective.TheVariants as connective
 use Rattle.ct_word.specs.declared.kinds.Class.TheVariants as class
 use Rattle.ct_word.specs.declared.values.Null.{Null}
@@ -53,6 +54,20 @@ pub record IsAndInRun (words : List ℕ) (root p : ℕ) : Type 0 where
   pub right : ℕ
   pub is : IsAnd words p left right
 
+-- one of these ANDs names a place
+pub record IsNamed (words ands : List ℕ) (p : ℕ) : Type 0 where
+  pub and : ℕ
+  pub among : Contains ands and
+  pub left : ℕ
+  pub right : ℕ
+  pub is : IsAnd words and left right
+  pub of : (p ≡ left) ⊎ (p ≡ right)
+
+-- ANDs, each of which but the root comes after one that names it
+pub data AreTopDown (words : List ℕ) (root : ℕ) : List ℕ → Type 0 where
+  none : AreTopDown words root []
+  more : {ands : List ℕ} (before : List ℕ) (p : ℕ) → ands ≡ before ++ p ∷ [] → AreTopDown words root before → (p ≡ root) ⊎ IsNamed words before p → AreTopDown words root ands
+
 -- the condition holds where those at these places do
 abbrev pub IsImpliedBy : List ℕ → ℕ → List ℕ → Type 0
 IsImpliedBy words root places = (v : World) → ((p : ℕ) → Contains places p → holds_at v (condition_at words p) ≡ true) → holds_at v (condition_at words root) ≡ true
@@ -61,7 +76,7 @@ IsImpliedBy words root places = (v : World) → ((p : ℕ) → Contains places p
 abbrev pub AreIndexed : List ℕ → List ℕ → List Entry → Type 0
 AreIndexed words places entries = (number : ℕ) (n : Null) → number < length places → TermBelow words (slice_index_or places number 0) (term.Null n) → IsListed words entries number n
 
--- the conjuncts of the condition at a place: it holds where they all do; they are exactly the ends of its run, and the others there are its ANDs; with each are listed exactly the nulls below it
+-- the conjuncts of the condition at a place: it holds where they all do; they are exactly the ends of its run, and the others there are its ANDs; with each are listed exactly the nulls below it; no place stands twice, and each And but the root comes after one that names it
 pub record AreConjuncts (words : List ℕ) (root : ℕ) (c : Conjuncts) : Type 0 where
   pub condition : is_place_of words class.Cond root ≡ true
   pub enough : IsImpliedBy words root c.places.items
@@ -71,6 +86,9 @@ pub record AreConjuncts (words : List ℕ) (root : ℕ) (c : Conjuncts) : Type 0
   pub all : (p : ℕ) → IsInRun words root p → Contains c.places.items p ⊎ Contains c.ands.items p
   pub nulls : AreIndexed words c.places.items c.index.entries.items
   pub only : (e : Entry) → Contains c.index.entries.items e → IsEntryOf words c.places.items e
+  pub places_once : IsDistinct nat_eq c.places.items
+  pub ands_once : IsDistinct nat_eq c.ands.items
+  pub ands_order : AreTopDown words root c.ands.items
 
 -- the other parts of a run beside one of its conditions, into which the run is not followed: with it they are enough, and they are all
 pub record AreBeside (words : List ℕ) (root one : ℕ) (others : List ℕ) : Type 0 where

@@ -1,5 +1,6 @@
 -- Walks down from a condition.
-use Rattle.std.specs.Prelude.{◌≡◌, ◌⊎◌, ◌<◌, ◌≤◌, ℕ, false, cond, List, [], ◌++◌, nat_eq, slice_index_or, Contains, IsTrue}
+use Rattle.std.specs.Prelude.{⊤, ◌≡◌, ◌⊎◌, ◌<◌, ◌≤◌, ℕ, false, cond, List, [], ◌∷◌, ◌++◌, nat_eq, slice_index_or, Contains, IsTrue}
+use Rattle.std.specs.List.{IsDistinct}
 use Rattle.ct_word.specs.declared.connectives.Connective.TheVariants as connective
 use Rattle.ct_word.specs.declared.kinds.Class.TheVariants as class
 use Rattle.ct_word.specs.WellFormed.{is_place_of}
@@ -10,6 +11,7 @@ use Rattle.ct_near.specs.declared.walking.Found.{Found}
 use Rattle.ct_near.specs.declared.walking.Way.{Way}
 use Rattle.ct_near.specs.declared.walking.Way.TheVariants as way
 use Rattle.ct_worlds.specs.Shape.{parts_of, shape_at, terms_of}
+use Rattle.ct_near.specs.Conjuncts.{AreTopDown, IsNamed}
 use Rattle.ct_near.specs.Entries.{Extends, IsEntryAmong, Lists}
 
 -- what a condition says for a walk: a literal where the walk does not go into it
@@ -63,6 +65,13 @@ IsEntryAt words (way.All conjunct) p e = IsEntryAmong words conjunct (Contains (
 abbrev pub IsEntryFrom : List ℕ → Way → ℕ → Entry → Type 0
 IsEntryFrom words w root e = (p : ℕ) × IsLedTo words w root p × IsEntryAt words w p e
 
+-- a walk into ANDs notes a place as one of these, or as an end
+abbrev pub IsPushed : List ℕ → Way → ℕ → Found → Found → Type 0
+IsPushed words (way.All conjunct) place old new = ⊤
+IsPushed words (way.Ands stop) place old new =
+    ((new.inner.items ≡ old.inner.items ++ place ∷ []) × (new.leaves.items ≡ old.leaves.items))
+    ⊎ ((next_at words (way.Ands stop) place ≡ []) × (new.inner.items ≡ old.inner.items) × (new.leaves.items ≡ old.leaves.items ++ place ∷ []))
+
 -- what entering a place adds: parts that wait, and the place to what was found
 pub record IsEntered (words : List ℕ) (w : Way) (place : ℕ) (waiting waiting' : List ℕ) (old new : Found) : Type 0 where
   pub grown : waiting' ≡ waiting ++ next_at words w place
@@ -71,6 +80,7 @@ pub record IsEntered (words : List ℕ) (w : Way) (place : ℕ) (waiting waiting
   pub kept : (p : ℕ) → IsNoted words w old p → IsNoted words w new p
   pub noted : IsNoted words w new place
   pub entries : Extends (IsEntryAt words w place) old.index.entries.items new.index.entries.items
+  pub pushed : IsPushed words w place old new
 
 -- how far a walk has come
 pub record IsWalking (words : List ℕ) (w : Way) (root number : ℕ) (marks waiting : List ℕ) (found : Found) : Type 0 where
@@ -90,3 +100,23 @@ pub record IsWalked (words : List ℕ) (w : Way) (root number : ℕ) (marks : Li
   pub noted : (p : ℕ) → IsMarked marks number p → IsNoted words w found p
   pub leaves : (p : ℕ) → Contains found.leaves.items p → IsLedTo words w root p × (next_at words w p ≡ [])
   pub inner : (p : ℕ) → Contains found.inner.items p → IsLedTo words w root p × IsInner words w p
+
+-- what a walk into ANDs found has no place twice, and each And but the root comes after one that names it
+pub record IsTrace (words : List ℕ) (root : ℕ) (found : Found) : Type 0 where
+  pub leaves_once : IsDistinct nat_eq found.leaves.items
+  pub ands_once : IsDistinct nat_eq found.inner.items
+  pub ands_order : AreTopDown words root found.inner.items
+
+abbrev pub IsTraced : List ℕ → Way → ℕ → Found → Type 0
+IsTraced words (way.All conjunct) root found = ⊤
+IsTraced words (way.Ands stop) root found = IsTrace words root found
+
+-- so far, where it was at each of these, and those that wait are named
+pub record IsTracing (words : List ℕ) (root number : ℕ) (marks waiting : List ℕ) (found : Found) : Type 0 where
+  pub trace : IsTrace words root found
+  pub seen : (p : ℕ) → Contains found.inner.items p ⊎ Contains found.leaves.items p → IsMarked marks number p
+  pub named : (p : ℕ) → Contains waiting p → (p ≡ root) ⊎ IsNamed words found.inner.items p
+
+abbrev pub IsTracingOn : List ℕ → Way → ℕ → ℕ → List ℕ → List ℕ → Found → Type 0
+IsTracingOn words (way.All conjunct) root number marks waiting found = ⊤
+IsTracingOn words (way.Ands stop) root number marks waiting found = IsTracing words root number marks waiting found

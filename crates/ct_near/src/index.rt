@@ -33,7 +33,7 @@ pub(crate) struct NullIndex {
 /// where it is no And.
 #[derive(Drop)]
 pub struct Conjuncts {
-    /// The places of the conjuncts.
+    /// The places of the conjuncts, none twice.
     pub(crate) places: Vec<u32>,
     /// The places of the ANDs of the run.
     pub(crate) ands: Vec<u32>,
@@ -41,14 +41,14 @@ pub struct Conjuncts {
 }
 
 impl Conjuncts {
-    /// The places of the conjuncts.
+    /// The places of the conjuncts, none twice.
     pub fn places(&self) -> &[u32]
         ensures { result.now ≡ self.now.places.items }
     {
         self.places.as_slice()
     }
 
-    /// The places of the ANDs of the run, in no promised order.
+    /// The places of the ANDs of the run, none twice. Each but the root comes after an And that names it.
     pub fn ands(&self) -> &[u32]
         ensures { result.now ≡ self.now.ands.items }
     {

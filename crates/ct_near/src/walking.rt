@@ -6,7 +6,7 @@ ghost use Rattle.ct_word.specs.WellFormed.{IsWellFormed, is_place_of};
 ghost use Rattle.ct_worlds.specs.Shape.{parts_at};
 ghost use Rattle.ct_near.specs.declared.walking.Way.TheVariants as way;
 ghost use Rattle.ct_near.specs.Entries.{Extends, Lists};
-ghost use Rattle.ct_near.specs.Walks.{AreOld, IsEntered, IsEntryAt, IsEntryFrom, IsWalked};
+ghost use Rattle.ct_near.specs.Walks.{AreOld, IsEntered, IsEntryAt, IsEntryFrom, IsTraced, IsWalked};
 
 use crate::index::{NullIndex, add_null};
 use ct_word::{Connective, Memory};
@@ -166,6 +166,7 @@ pub(crate) fn walk(
     ensures room { length walks.new.marks.items ≡ length walks.old.marks.items }
     ensures old { OnOk result ((more : ℕ) → number < more → AreOld walks.new.marks.items more) }
     ensures walked { OnOk result (IsWalked words.now way root number walks.new.marks.items found.new) }
+    ensures traced { OnOk result (IsTraced words.now way root found.new) }
     ensures added { OnOk result (Extends (IsEntryFrom words.now way root) found.old.index.entries.items found.new.index.entries.items) }
 {
     found.inner.clear();

@@ -12,6 +12,7 @@ returns c =
     let root = c.args.root in
     let entries = c.in_ok-index.index.entries.items in
     let walked = c.in_ok-walk.ensures.walked in
+    let traced = c.in_ok-walk.ensures.traced in
     record {
       condition = c.requires.condition;
       enough = leaves_enough words 0 root c.requires.formed c.requires.condition 1 c.walk.new.walks.marks.items c.walk.new.found walked;
@@ -25,4 +26,7 @@ returns c =
           (λ q a b r is. late_and words root c.requires.formed c.requires.condition q a b r is) run;
       nulls = subst (λ l. AreIndexed words l entries) c.as_slice.ensures.value c.in_ok-index.ensures.all;
       only = subst (λ l. (e : Entry) → Contains entries e → IsEntryOf words l e) c.as_slice.ensures.value c.in_ok-index.ensures.only;
+      places_once = traced.leaves_once;
+      ands_once = traced.ands_once;
+      ands_order = traced.ands_order;
     }

@@ -1,6 +1,7 @@
 use Rattle.std.{proofs.Common.{◌<◌, ◌∙◌, ◌∷◌, ◌++◌, [], length, ap, sym, subst, refl, arith}, proofs.lemmas.List.{get_or_read, length-set}}
-use Rattle.ct_near.{specs.declared.walking.Found.Found, specs.Walks.{IsEntryAt, IsEntryFrom, IsWalking}, proofs.Listing.{extends_more, extends_same, extends_weaker}}
+use Rattle.ct_near.{specs.declared.walking.Found.Found, specs.Walks.{IsEntryAt, IsEntryFrom, IsTracingOn, IsWalking}, proofs.Listing.{extends_more, extends_same, extends_weaker}}
 use Rattle.ct_near.proofs.Steps.{led_under, marks_low, place_led, walking_goes, walking_skips, walking_starts, weight_less, weight_rest}
+use Rattle.ct_near.proofs.Traced.{tracing_goes, tracing_skips, tracing_starts}
 use Rattle.ct_near.proofs.walking.walk.Goals as goal
 
 pub loop-place-init : goal.loop-place-init
@@ -9,6 +10,8 @@ loop-place-init c =
     record {
       walking = subst (λ l. IsWalking c.args.words.now c.args.way c.args.root c.args.number c.args.walks.now.marks.items l found) (sym (c.in_ok-push.ensures.items ∙ ap (λ l. l ++ c.args.root ∷ []) c.clear-3.ensures.items))
           (walking_starts c.args.words.now c.args.way c.args.root c.args.number c.args.walks.now.marks.items found c.requires.new c.clear.ensures.items c.clear-2.ensures.items);
+      tracing = subst (λ l. IsTracingOn c.args.words.now c.args.way c.args.root c.args.number c.args.walks.now.marks.items l found) (sym (c.in_ok-push.ensures.items ∙ ap (λ l. l ++ c.args.root ∷ []) c.clear-3.ensures.items))
+          (tracing_starts c.args.words.now c.args.way c.args.root c.args.number c.args.walks.now.marks.items found c.clear.ensures.items c.clear-2.ensures.items);
       room = refl;
       low = λ p. let lt = c.requires.new p in omega (arith, lt);
       added = extends_same (IsEntryFrom c.args.words.now c.args.way c.args.root) c.args.found.now.index.entries.items c.args.found.now.index.entries.items refl;
@@ -56,6 +59,8 @@ loop-place-preserved-in-Continue-branch-2 c =
     record {
       walking = walking_goes c.args.words.now c.args.way c.args.root c.args.number marks c.loop-place.walks.waiting.items c.pop.new.self.items place c.loop-place.found c.loop-place.invariant.walking
           c.in-Some.ensures.items c.enter.new.waiting.items c.enter.new.found lt c.in_ok-enter.ensures;
+      tracing = tracing_goes c.args.words.now c.args.way c.args.root c.args.number marks c.loop-place.walks.waiting.items c.pop.new.self.items place c.loop-place.found c.enter.new.found c.enter.new.waiting.items
+          c.in-Some.ensures.items c.in_ok-enter.ensures.grown c.in_ok-enter.ensures.pushed lt (λ m. c.if-index-number.true (get_or_read marks place c.index.result.now lt c.index.ensures 0 ∙ m)) c.loop-place.invariant.tracing;
       room = length-set marks place c.args.number ∙ c.loop-place.invariant.room;
       low = marks_low marks place c.args.number lt c.loop-place.invariant.low;
       added = extends_more (IsEntryFrom c.args.words.now c.args.way c.args.root) c.args.found.now.index.entries.items c.loop-place.found.index.entries.items c.enter.new.found.index.entries.items
@@ -79,6 +84,7 @@ loop-place-preserved c =
     record {
       walking = walking_skips c.args.words.now c.args.way c.args.root c.args.number marks c.loop-place.walks.waiting.items c.pop.new.self.items place c.loop-place.found c.loop-place.invariant.walking
           c.in-Some.ensures.items (sym (get_or_read marks place c.index.result.now lt c.index.ensures 0) ∙ c.if-index-number.false);
+      tracing = tracing_skips c.args.words.now c.args.way c.args.root c.args.number marks c.loop-place.walks.waiting.items c.pop.new.self.items place c.loop-place.found c.in-Some.ensures.items c.loop-place.invariant.tracing;
       room = c.loop-place.invariant.room;
       low = c.loop-place.invariant.low;
       added = c.loop-place.invariant.added;
