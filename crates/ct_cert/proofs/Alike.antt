@@ -119,6 +119,10 @@ unfolding has
 less_empty [] x back h = absurd (false≢true h)
 less_empty (y ∷ front) x back h = refl
 
+-- a clause is like itself
+pub alike_self : (clause : Clause) → Alike clause clause
+alike_self clause = record { members = λ l. refl; all = λ p. refl; looks = λ falses rest. refl; empty = refl }
+
 -- a literal that stands in front may be left out
 pub alike_less : (clause front : Clause) (x : Lit) (back : Clause) → has front x ≡ true → Alike clause (front ++ x ∷ back) → Alike clause (front ++ back)
 alike_less clause front x back h a = record {
@@ -225,10 +229,10 @@ ends_alike (s ∷ r ∷ ss) (t ∷ []) z = absurd z.1
 ends_alike (s ∷ r ∷ ss) (t ∷ u ∷ ts) z = ends_alike (r ∷ ss) (u ∷ ts) z.1
 
 -- one more step, from a list that is the steps
-pub more_alike : (steps items news : List Step) (i : ℕ) (s t : Step) → items ≡ steps → i < length items → s ≡ get_or items i s → AllZip AreAlike (take i steps) news → AreAlike s t
-    → AllZip AreAlike (take (i + 1) steps) (news ++ t ∷ [])
-more_alike steps items news i s t e lt at z a =
-    all_zip_more AreAlike steps news i s t (subst (λ ss. i < length ss) e lt) (subst (λ ss. s ≡ get_or ss i s) e at) z a
+pub more_alike : (R : Step → Step → Type 0) (steps items news : List Step) (i : ℕ) (s t : Step) → items ≡ steps → i < length items → s ≡ get_or items i s → AllZip R (take i steps) news → R s t
+    → AllZip R (take (i + 1) steps) (news ++ t ∷ [])
+more_alike R steps items news i s t e lt at z a =
+    all_zip_more R steps news i s t (subst (λ ss. i < length ss) e lt) (subst (λ ss. s ≡ get_or ss i s) e at) z a
 
 -- both are accepted or none
 pub accepts_alike : (words : List ℕ) (root : ℕ) (d e : Derivation) → AllZip AreAlike d.steps e.steps → accepts words root d ≡ accepts words root e

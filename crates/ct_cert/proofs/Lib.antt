@@ -4,3 +4,4 @@ pub mod Texts
 pub mod Lists
 pub mod Judged
 pub mod Alike
+mod Noted

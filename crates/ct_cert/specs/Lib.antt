@@ -5,3 +5,4 @@ pub mod Written
 pub mod Judgement
 pub mod Fields
 pub mod Alike
+pub mod Numbered

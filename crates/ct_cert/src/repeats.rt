@@ -3,10 +3,12 @@
 // A hint costs the literals of the clause that it names. Were one that is repeated counted each time, then many hints to a
 // clause that repeats one many times would cost the square of the text.
 
-ghost use Rattle.std.specs.Prelude.{◌≡◌, ◌+◌, ◌<◌, ◌≤◌, true, length, IfOk, IsTrue};
-ghost use Rattle.std.specs.List.{list_any, AllZip};
+ghost use Rattle.std.specs.Prelude.{◌≡◌, ◌+◌, ◌<◌, ◌≤◌, true, Some, length, map, nat_lt, slice_get, IfOk, IsTrue};
+ghost use Rattle.std.specs.List.{list_any, AllZip, IsDistinct};
+ghost use Rattle.ct_derivation.specs.declared.literals.Lit.{Lit};
 ghost use Rattle.ct_derivation.specs.Literal.{same_lit, has};
 ghost use Rattle.ct_cert.specs.Alike.{Alike, AreAlike, is_long};
+ghost use Rattle.ct_cert.specs.Numbered.{AreLow, IsLow, IsNoted, IsOnce, number_of, pair_of};
 
 use crate::small::small;
 use ct_chain::Chain;
@@ -29,16 +31,22 @@ pub fn has_long_clause(derivation: &Derivation) -> bool
     false
 }
 
-/// A number for a literal. Two that fit the same words, of which there are fewer than 2^31, have different ones.
-fn number(literal: &Lit) -> u64 {
-    let (first, second) = match literal.atom {
-        Atom::Node(place) => (place, 0),
-        Atom::Same(s, t) => (s, t),
-    };
-    let pair = u64::from(first)
-        .wrapping_mul(1 << 32)
-        .wrapping_add(u64::from(second));
-    pair.wrapping_mul(2)
+/// A number for an atom. Two over places below 2^31 have different ones.
+fn pair(atom: Atom) -> u64
+    ensures { result ≡ pair_of atom }
+{
+    match atom {
+        Atom::Node(place) => u64::from(place) * 0x1_0000_0000 + 0x8000_0000,
+        Atom::Same(s, t) => u64::from(s) * 0x1_0000_0000 + u64::from(t),
+    }
+}
+
+/// A number for a literal. Two over places below 2^31 have different ones.
+fn number(literal: &Lit) -> u64
+    ensures { IsLow literal.now.atom → result ≡ number_of literal.now }
+{
+    pair(literal.atom)
+        .wrapping_mul(2)
         .wrapping_add(u64::from(literal.positive))
 }
 
@@ -56,7 +64,8 @@ fn is_same(literal: &Lit, other: &Lit) -> bool
 
 /// Whether a literal stands at a place, which may lie past the end.
 fn stands_at(kept: &[Lit], place: u32, literal: &Lit) -> bool
-    ensures { IsTrue result → has kept.now literal.now ≡ true }
+    ensures among { IsTrue result → has kept.now literal.now ≡ true }
+    ensures same { (other : Lit) → slice_get kept.now place ≡ Some other → result ≡ same_lit literal.now other }
 {
     match kept.get(place as usize) {
         Some(other) => is_same(literal, other),
@@ -70,6 +79,7 @@ fn is_repeated(noted: &mut Chain, kept: &[Lit], literal: &Lit) -> bool
     ensures repeated { IsTrue result → has kept.now literal.now ≡ true }
     ensures room { noted.new.room ≡ noted.old.room }
     ensures more { length noted.new.words ≤ length noted.old.words + 1 }
+    ensures noted { AreLow kept.now → IsLow literal.now.atom → noted.old.words ≡ map number_of kept.now → IsNoted literal.now kept.now result noted.new.words }
 {
     let number = number(literal);
     match noted.find(number) {
@@ -81,9 +91,10 @@ fn is_repeated(noted: &mut Chain, kept: &[Lit], literal: &Lit) -> bool
     }
 }
 
-/// The literals of a clause, each once.
+/// The literals of a clause, each once where all are over places below 2^31.
 fn distinct(alloc: Global, clause: &[Lit]) -> Result<List<Lit>, Memory>
-    ensures { IfOk result (λ ls. Alike clause.now ls) }
+    ensures alike { IfOk result (λ ls. Alike clause.now ls) }
+    ensures once { IfOk result (λ ls. AreLow clause.now → IsDistinct same_lit ls) }
 {
     let mut noted = Chain::make(alloc, small(clause.len())?)?;
     let mut kept = Vec::new(alloc);
@@ -97,7 +108,8 @@ fn distinct(alloc: Global, clause: &[Lit]) -> Result<List<Lit>, Memory>
 
 /// A clause once more, with each literal once where it is long.
 fn slim_clause(alloc: Global, clause: &List<Lit>) -> Result<List<Lit>, Memory>
-    ensures { IfOk result (λ ls. Alike clause.now ls) }
+    ensures alike { IfOk result (λ ls. Alike clause.now ls) }
+    ensures once { IfOk result (λ ls. nat_lt 16 (length clause.now) ≡ true → AreLow clause.now → IsDistinct same_lit ls) }
 {
     if clause.len() > FEW {
         distinct(alloc, clause.as_slice())
@@ -120,16 +132,18 @@ fn copied(why: &Why) -> Result<Why, Memory>
 
 /// A step once more, with each literal once where its clause is long.
 fn slim_step(alloc: Global, step: &Step) -> Result<Step, Memory>
-    ensures { IfOk result (λ s. AreAlike step.now s) }
+    ensures alike { IfOk result (λ s. AreAlike step.now s) }
+    ensures once { IfOk result (λ s. IsOnce step.now s) }
 {
     let clause = slim_clause(alloc, &step.clause)?;
     let why = copied(&step.why)?;
     Ok(Step { clause, why })
 }
 
-/// A derivation once more, with each literal of a long clause once.
+/// A derivation once more, with each literal of a long clause once where all are over places below 2^31.
 pub fn slim(alloc: Global, derivation: &Derivation) -> Result<Derivation, Memory>
-    ensures { IfOk result (λ d. AllZip AreAlike derivation.now.steps d.steps) }
+    ensures alike { IfOk result (λ d. AllZip AreAlike derivation.now.steps d.steps) }
+    ensures once { IfOk result (λ d. AllZip IsOnce derivation.now.steps d.steps) }
 {
     let mut steps = Vec::new(alloc);
     for step in derivation.steps.as_slice() {
