@@ -48,6 +48,17 @@ rollback;
 assert ?p = 1;
 assert ?q = 1 and ?q = 2;
 assert ?p = 2;
+-- Assertions that are false by themselves, and others that are not, behind assertions about the same nulls.
+begin;
+assert ?p = 1;
+assert ?p = 2 and ?p = 3;
+assert ?p <> ?p or ?p = 1 and ?q = ?p and ?q = 2;
+assert ?q = ?p and ?q = 2;
+assert ?s = 1 and ?s = 2;
+assert not (?s = 1 or ?s <> 1);
+assert not (?p = 2 or ?p <> 2);
+assert ?p = 1 and false;
+rollback;
 -- Texts that go on in the next line.
 insert into t values ('one, 2);
 insert into t values ('%', 4);

@@ -94,3 +94,4 @@ insert into t values (1, 2;
 insert into t values (1, 2));
 select a from t where a;
 select not from t;
+insert into t values ('it''s, 2);

@@ -95,6 +95,14 @@ pub fn is_cell_at(tokens: &[Token], i: usize) -> bool {
     }
 }
 
+/// Whether a null with a name stands there.
+pub fn is_null_at(tokens: &[Token], i: usize) -> bool {
+    match tokens.get(i) {
+        Some(token) => matches!(&token.word, Lexeme::Null(_)),
+        None => false,
+    }
+}
+
 /// Whether the token at a position is a word that is no keyword.
 ///
 /// # Errors

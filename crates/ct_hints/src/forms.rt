@@ -1,5 +1,6 @@
 // Forms of SQL that are not there and take more than two tokens to know, and what to write instead of them.
 
+use crate::words::{FROM_QUERY, NOT_IN_QUERY};
 use ct_advice::{
     Part, is_among_at, is_name_at, is_number_at, is_symbol_at, is_word_at, part_before, word_at,
 };
@@ -9,11 +10,9 @@ use std::alloc::Global;
 
 const IN_LIST: &str = "write a = 1 or a = 2 for IN with a list";
 
-const IN_QUERY: &str = "write a join for IN with a query";
+const IN_QUERY: &str = "write a join for IN with a query, as select t.a from t, u where t.a = u.b";
 
 const NOT_IN_LIST: &str = "write a <> 1 and a <> 2 for NOT IN with a list";
-
-const NOT_IN_QUERY: &str = "write EXCEPT for NOT IN with a query";
 
 const MINUS: &str = "write EXCEPT for MINUS";
 
@@ -29,8 +28,15 @@ const RETURNING: &str = "there is no RETURNING: ask for the rows by a query";
 
 const ROWS: &str = "write insert into t select .., without VALUES";
 
-/// What to write instead of create table t as select .., with AS or without.
-pub const CREATION: &str = "write create table t (a), and then insert into t select ..";
+const DATE: &str = "nothing is computed, and a date is a text, as '2024-01-31'";
+
+const OWN_TABLE: &str =
+    "DELETE sees its own table alone: insert the rows to keep into another table, by a query";
+
+const AHEAD: &str = "CERTAIN and POSSIBLE stand before the whole query, as certain select a from t";
+
+const WITH_CONDITIONS: &str =
+    "rows are inserted with their conditions: leave CERTAIN and POSSIBLE out";
 
 /// What is said of IN or NOT IN at a position.
 fn of_in(tokens: &[Token], i: usize) -> Option<&'static str> {
@@ -94,12 +100,17 @@ fn of_schema(tokens: &[Token], part: Part, stop: usize) -> Option<&'static str> 
     (has_owner && is_symbol_at(tokens, stop, Symbol::Dot)).then_some(SCHEMA)
 }
 
-/// What is said of a word directly behind a number, as in 1e3.
+/// What is said of a word directly behind a number, as in 1e3, or of another number, as in 2024-01-31.
 fn of_digits(tokens: &[Token], stop: usize) -> Option<&'static str> {
     let before = stop.checked_sub(1)?;
-    let is_cut = is_number_at(tokens, before) && !word_at(tokens, stop).is_empty();
     let is_near = tokens.get(before)?.end == tokens.get(stop)?.start;
-    (is_cut && is_near).then_some(DIGITS)
+    if !is_near || !is_number_at(tokens, before) {
+        return None;
+    }
+    if is_number_at(tokens, stop) {
+        return Some(DATE);
+    }
+    (!word_at(tokens, stop).is_empty()).then_some(DIGITS)
 }
 
 /// What is said of RETURNING at the end of a change, where it may have been read as the alias of a table.
@@ -112,16 +123,54 @@ fn of_returning(tokens: &[Token], stop: usize) -> Option<&'static str> {
     (is_meant && is_among_at(tokens, 0, &["insert", "delete"])).then_some(RETURNING)
 }
 
-/// What is said of a query in place of rows or of columns.
+/// What is said of a query in place of rows or of columns, or behind INTO.
 fn of_query(tokens: &[Token], stop: usize) -> Option<&'static str> {
     let before = stop.checked_sub(1)?;
+    let is_into = is_word_at(tokens, 0, "select") && is_word_at(tokens, stop, "into");
+    if is_into
+        || (is_word_at(tokens, 0, "create") && stop == 3 && is_word_at(tokens, 3, "select"))
+    {
+        return Some(FROM_QUERY);
+    }
     let is_query = is_symbol_at(tokens, before, Symbol::LeftParen)
         && is_word_at(tokens, stop, "select");
     if is_query && before == 4 && is_word_at(tokens, 3, "values") {
         return Some(ROWS);
     }
     let has_items = !stands_for_name(tokens, stop) && stop.saturating_add(1) < tokens.len();
-    (is_query && before == 3 && is_word_at(tokens, 0, "create") && has_items).then_some(CREATION)
+    (is_query && before == 3 && is_word_at(tokens, 0, "create") && has_items).then_some(FROM_QUERY)
+}
+
+/// What is said of a DELETE by a query or by another table.
+fn of_other_table(tokens: &[Token], before: usize) -> Option<&'static str> {
+    if !is_word_at(tokens, 0, "delete") || before < 2 {
+        return None;
+    }
+    if is_symbol_at(tokens, 3, Symbol::Comma) {
+        return Some(OWN_TABLE);
+    }
+    for i in before..before.saturating_add(4) {
+        let is_query = is_symbol_at(tokens, i, Symbol::LeftParen)
+            && is_word_at(tokens, i.saturating_add(1), "select");
+        if is_query || is_word_at(tokens, i, "using") {
+            return Some(OWN_TABLE);
+        }
+    }
+    None
+}
+
+/// What is said of CERTAIN or POSSIBLE within a statement.
+fn of_ahead(tokens: &[Token], part: Part, before: usize, stop: usize) -> Option<&'static str> {
+    if !is_among_at(tokens, stop, &["certain", "possible"]) || stands_for_name(tokens, stop) {
+        return None;
+    }
+    if is_word_at(tokens, 0, "insert") && stop == 3 {
+        return Some(WITH_CONDITIONS);
+    }
+    let is_within = part == Part::Behind
+        || is_symbol_at(tokens, before, Symbol::LeftParen)
+        || is_among_at(tokens, before, &["select", "distinct", "from", "where"]);
+    (part != Part::Before && is_within).then_some(AHEAD)
 }
 
 /// Whether a keyword at a position seems to stand for a name, by what stands behind it.
@@ -145,8 +194,10 @@ pub fn of_forms(
     let Some(before) = stop.checked_sub(1) else {
         return Ok(None);
     };
-    let said = form_at(tokens, before)
+    let said = of_other_table(tokens, before)
+        .or(form_at(tokens, before))
         .or(form_at(tokens, stop))
+        .or(of_ahead(tokens, part, before, stop))
         .or(of_schema(tokens, part, stop))
         .or(of_digits(tokens, stop))
         .or(of_returning(tokens, stop))

@@ -1,6 +1,7 @@
 // What the grammar wants where reading stopped.
 
 use crate::forms::stands_for_name;
+use crate::words::{CASES, NULL, TRUTH};
 use ct_advice::{
     Part, is_among_at, is_cell_at, is_keyword_at, is_name_at, is_symbol_at, is_text_at, is_word_at,
     selects, word_at,
@@ -20,9 +21,19 @@ pub const TABLES: usize = 16;
 
 const COMMA: &str = "is a comma missing before it?";
 
+const FIRST: &str =
+    "no statement begins with it, but with SELECT, INSERT, CREATE, DELETE, ASSERT, BEGIN, COMMIT, ROLLBACK, POSSIBLE or CERTAIN";
+
+const CELL: &str = "a cell is a number, a text in single quotes, ?x or NULL";
+
+const WHOLE: &str = "a comparison has two terms, as in a = 1 or a = 2";
+
+const PLAIN_TEXT: &str = "a text stands without a word before it, as '2024-01-31'";
+
 const ITEMS: &str = "name the columns, or write * for all of them";
 
-fn is_comparison_at(tokens: &[Token], i: usize) -> bool {
+/// Whether = or <> stands there.
+pub fn is_comparison_at(tokens: &[Token], i: usize) -> bool {
     is_symbol_at(tokens, i, Symbol::Equal) || is_symbol_at(tokens, i, Symbol::Unequal)
 }
 
@@ -46,7 +57,14 @@ fn of_cell(tokens: &[Token], before: usize, stop: usize) -> Option<&'static str>
     let is_begun = is_symbol_at(tokens, before, Symbol::LeftParen)
         || is_symbol_at(tokens, before, Symbol::Comma);
     if is_begun {
-        return Some("a cell is a number, a text in single quotes, ?x or NULL");
+        let behind = stop.saturating_add(1);
+        return Some(match word_at(tokens, stop) {
+            "true" | "false" => TRUTH,
+            "" => CELL,
+            _ if is_symbol_at(tokens, behind, Symbol::LeftParen) => CASES,
+            _ if is_text_at(tokens, behind) => PLAIN_TEXT,
+            _ => CELL,
+        });
     }
     if is_cell_at(tokens, stop) || is_word_at(tokens, stop, "null") {
         return Some(COMMA);
@@ -68,7 +86,7 @@ fn of_rows(tokens: &[Token], before: usize, stop: usize, open: usize) -> Option<
     if before == 3 || is_symbol_at(tokens, before, Symbol::Comma) {
         return Some("each row stands in parentheses");
     }
-    if is_word_at(tokens, stop, "where") {
+    if is_among_at(tokens, stop, &["where", "when"]) {
         return Some("the condition of a row stands behind IF");
     }
     let is_row = is_cell_at(tokens, stop) || is_symbol_at(tokens, stop, Symbol::LeftParen);
@@ -114,8 +132,14 @@ fn behind_table(tokens: &[Token], stop: usize) -> &'static str {
     if is_comparison_at(tokens, stop) || is_comparison_at(tokens, stop.saturating_add(1)) {
         return "is WHERE missing before the comparison?";
     }
+    if is_among_at(tokens, stop, &["if", "when"]) {
+        return "a condition on rows stands behind WHERE";
+    }
     if is_word_at(tokens, 0, "delete") {
         return "is WHERE or a ; missing before it?";
+    }
+    if is_word_at(tokens, stop, "on") {
+        return "ON stands behind JOIN: write t join u on t.a = u.a, or from t, u where t.a = u.a";
     }
     "is a comma, JOIN, WHERE or a ; missing before it?"
 }
@@ -132,26 +156,70 @@ fn is_compared(tokens: &[Token], i: usize) -> bool {
     is_comparison_at(tokens, before_term)
 }
 
+/// What is said in place of a comparison, or of one of its terms.
+fn of_term(tokens: &[Token], before: usize, stop: usize) -> &'static str {
+    if is_comparison_at(tokens, before) {
+        if is_among_at(tokens, stop, &["true", "false"]) {
+            return TRUTH;
+        }
+        return "a column, a number, a text in single quotes or ?x is wanted here";
+    }
+    if is_word_at(tokens, stop, "null") {
+        return NULL;
+    }
+    if is_comparison_at(tokens, stop) {
+        return WHOLE;
+    }
+    "a comparison is wanted here: two terms with = or <> between them"
+}
+
+/// What is said behind the first term of a comparison.
+fn behind_term(tokens: &[Token], before: usize, stop: usize) -> &'static str {
+    let is_behind = is_among_at(tokens, before.saturating_sub(1), &["and", "or"]);
+    if is_behind && is_cell_at(tokens, before) {
+        return WHOLE;
+    }
+    if is_symbol_at(tokens, stop, Symbol::Comma) {
+        return "columns are compared one by one, as a = 1 and b = 2";
+    }
+    "= or <> is wanted here"
+}
+
+/// What is said behind a comparison.
+fn behind_comparison(tokens: &[Token], before: usize, stop: usize) -> &'static str {
+    if is_symbol_at(tokens, stop, Symbol::Comma) {
+        return "AND or OR stands between comparisons";
+    }
+    if is_comparison_at(tokens, stop) {
+        return "a comparison has two terms, as in a = b and b = c";
+    }
+    if is_text_at(tokens, stop) && !word_at(tokens, before).is_empty() {
+        return PLAIN_TEXT;
+    }
+    if is_word_at(tokens, 0, "assert") && is_among_at(tokens, stop, &["if", "implies"]) {
+        return "write assert ?x = 1 or not ?y = 2 for ?x = 1 if ?y = 2";
+    }
+    if is_word_at(tokens, stop, "where") {
+        return "write AND for a second WHERE";
+    }
+    "is AND, OR or a ; missing before it?"
+}
+
 /// What is said within a condition.
 fn of_condition(tokens: &[Token], before: usize, stop: usize) -> &'static str {
     let begins = ["where", "on", "assert", "if", "and", "or", "not"];
     let is_begun = is_among_at(tokens, before, &begins)
         || is_symbol_at(tokens, before, Symbol::LeftParen);
-    if is_begun {
-        return "a comparison is wanted here: two terms with = or <> between them";
-    }
-    if is_comparison_at(tokens, before) {
-        return "a column, a number, a text in single quotes or ?x is wanted here";
+    if is_begun || is_comparison_at(tokens, before) {
+        return of_term(tokens, before, stop);
     }
     let is_whole = is_symbol_at(tokens, before, Symbol::RightParen)
         || is_among_at(tokens, before, &["true", "false"]);
-    if !is_whole && !is_compared(tokens, before) {
-        return "= or <> is wanted here";
+    if is_whole || is_compared(tokens, before) {
+        behind_comparison(tokens, before, stop)
+    } else {
+        behind_term(tokens, before, stop)
     }
-    if is_symbol_at(tokens, stop, Symbol::Comma) {
-        return "AND or OR stands between comparisons";
-    }
-    "is AND, OR or a ; missing before it?"
 }
 
 /// Whether a name has to stand behind the token at a position.
@@ -178,6 +246,9 @@ fn of_name(
     }
     if is_wanted && is_text_at(tokens, stop) {
         return Ok(Some("a name stands without quotes"));
+    }
+    if part == Part::Table && is_symbol_at(tokens, stop, Symbol::LeftParen) {
+        return Ok(Some("the tables of a FROM stand without parentheses"));
     }
     Ok(is_wanted.then_some("a name is wanted here"))
 }
@@ -272,7 +343,7 @@ pub fn by_grammar(
     stop: usize,
 ) -> Result<Option<&'static str>, Memory> {
     let Some(before) = stop.checked_sub(1) else {
-        return Ok(Some("no statement begins with it"));
+        return Ok(Some(FIRST));
     };
     let open = open_before(tokens, stop);
     let said = match of_lists(tokens, part, before, stop, open) {

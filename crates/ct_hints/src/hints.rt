@@ -1,74 +1,17 @@
 // What to write instead of a text that is no statement.
 
-use crate::forms::{CREATION as FROM_QUERY, of_forms, stands_for_name};
+use crate::forms::{of_forms, stands_for_name};
 use crate::grammar::{STARTS, by_grammar};
+use crate::words::{
+    CASES, CONFLICT, JOIN, NULL, ORDER, WITHIN_QUERY, of_first_word, of_word, part_of,
+};
 use ct_advice::{
-    Part, is_among_at, is_cell_at, is_name_at, is_number_at, is_same, is_symbol_at, is_text_at,
-    is_word_at, part_before, word, word_at,
+    Part, is_among_at, is_cell_at, is_name_at, is_null_at, is_number_at, is_symbol_at, is_text_at,
+    is_word_at, part_before, word_at,
 };
 use ct_lex::{Lexeme, Symbol, Token};
 use ct_word::Memory;
 use std::alloc::Global;
-
-/// A word, the word or the `(` that has to follow it, or nothing, and what is said of the two.
-type Hint = (&'static str, &'static str, &'static str);
-
-const ORDER: &str = "there is no order of values: write a = 1 or a = 2, where they are few";
-
-const COUNT: &str =
-    "nothing is counted, summed or grouped: how many rows there are depends on the gaps";
-
-const GROUP: &str =
-    "nothing is counted, summed or grouped: without a count leave GROUP BY out, as an answer has each row once";
-
-const NULL: &str =
-    "a null is a value that nobody knows: look for ? in the answer, or ask with CERTAIN what is known";
-
-const OUTER: &str =
-    "there are no outer joins: ask for the join, and by EXCEPT for the rows without a partner";
-
-const JOIN: &str = "write join u on t.a = u.a, or from t, u";
-
-const ORDER_BY: &str = "there is no ORDER BY: rows keep the order of their tables";
-
-const PATTERNS: &str = "there are no patterns";
-
-const ALL: &str =
-    "write union: an answer is a set; a column with a number of its own keeps equal rows apart";
-
-const EXISTS: &str = "write a join for EXISTS";
-
-const NOT_EXISTS: &str = "write EXCEPT for NOT EXISTS";
-
-const WITHIN_QUERY: &str = "there are no queries within queries: name all tables in one FROM";
-
-const CREATION: &str = "write create table t (a): a name that is taken is refused with TableExists";
-
-const LOCKS: &str =
-    "nothing is locked or set: each commit is checked against what its transaction read";
-
-const CASES: &str = "there are no functions and no CASE";
-
-const UPDATE: &str =
-    "there is no UPDATE: delete the row and insert another, between BEGIN and COMMIT";
-
-const DROP: &str = "a table stays: there is no DROP; delete from t takes all of its rows";
-
-const ALTER: &str = "a table keeps its columns: there is no ALTER";
-
-const TRUNCATE: &str = "write delete from t";
-
-const BEGIN: &str = "write begin";
-
-const COMMIT: &str = "write commit";
-
-const ROLLBACK: &str = "write rollback";
-
-const SAVEPOINT: &str = "there are no savepoints";
-
-const ALONE: &str = "BEGIN, COMMIT and ROLLBACK stand alone";
-
-const LIMITED: &str = "there is no LIMIT: an answer has all of its rows";
 
 const EMPTY: &str = "there is nothing behind a comma";
 
@@ -77,104 +20,31 @@ const TYPES: &str = "columns have names alone: no types, keys or checks";
 const QUOTE: &str =
     "is a quote missing before it, or one within a text not written twice, as 'O''Brien'?";
 
+/// What is said of a backslash before a quote.
+pub const ESCAPE: &str =
+    "a backslash escapes nothing: a quote within a text is written twice, as 'O''Brien'";
+
 const COLUMNS: &str = "a row has all cells, in the order of the columns: write no list of columns";
 
 const TABLES: &str =
     "only tables are created, as create table t (a): there are no views and no indexes";
 
-const CONFLICT: &str =
-    "there is no ON CONFLICT and no ON DUPLICATE KEY: columns have no keys, and equal rows may be inserted";
+const PLAIN: &str = "write create table t (a), with no word before TABLE";
 
 const AS: &str = "write AS before another name of a column, and a comma before another column";
 
-const WITHIN: [Hint; 38] = [
-    ("order", "by", ORDER_BY),
-    ("limit", "", LIMITED),
-    ("offset", "", LIMITED),
-    ("fetch", "", LIMITED),
-    ("group", "by", GROUP),
-    ("having", "", COUNT),
-    ("count", "(", COUNT),
-    ("sum", "(", COUNT),
-    ("min", "(", COUNT),
-    ("max", "(", COUNT),
-    ("avg", "(", COUNT),
-    ("is", "null", NULL),
-    ("is", "not", NULL),
-    ("like", "", PATTERNS),
-    ("between", "", ORDER),
-    ("not", "like", PATTERNS),
-    ("not", "between", ORDER),
-    ("left", "join", OUTER),
-    ("left", "outer", OUTER),
-    ("right", "join", OUTER),
-    ("right", "outer", OUTER),
-    ("full", "join", OUTER),
-    ("full", "outer", OUTER),
-    ("outer", "join", OUTER),
-    ("natural", "join", JOIN),
-    ("cross", "join", JOIN),
-    ("using", "(", JOIN),
-    ("union", "all", ALL),
-    ("not", "exists", NOT_EXISTS),
-    ("exists", "(", EXISTS),
-    ("from", "(", WITHIN_QUERY),
-    ("if", "not", CREATION),
-    ("as", "select", FROM_QUERY),
-    ("for", "update", LOCKS),
-    ("with", "", WITHIN_QUERY),
-    ("case", "when", CASES),
-    ("on", "conflict", CONFLICT),
-    ("on", "duplicate", CONFLICT),
-];
+const ASSERT: &str = "write assert ?x = 1 for what is known of a null";
 
-const FIRST: [Hint; 15] = [
-    ("update", "", UPDATE),
-    ("drop", "", DROP),
-    ("alter", "", ALTER),
-    ("truncate", "", TRUNCATE),
-    ("start", "", BEGIN),
-    ("end", "", COMMIT),
-    ("abort", "", ROLLBACK),
-    ("begin", "", ALONE),
-    ("commit", "", ALONE),
-    ("rollback", "", ALONE),
-    ("savepoint", "", SAVEPOINT),
-    ("set", "", LOCKS),
-    ("lock", "", LOCKS),
-    ("replace", "", UPDATE),
-    ("with", "", WITHIN_QUERY),
-];
+const CLIENT: &str = "there are no commands of a client";
+
+/// Where docs/SQL.md has the grammar.
+pub const GRAMMAR: &str = "Grammar";
 
 /// What to write instead, and the part of docs/SQL.md that has more.
 #[derive(Clone, Copy)]
 pub struct Instead {
     pub said: &'static str,
     pub part: &'static str,
-}
-
-/// Where docs/SQL.md has what is not there.
-const NOT_THERE: &str = "What is not there";
-
-/// Where docs/SQL.md has the grammar.
-pub const GRAMMAR: &str = "Grammar";
-
-fn is_next(tokens: &[Token], i: usize, next: &str) -> bool {
-    match next {
-        "" => true,
-        "(" => is_symbol_at(tokens, i, Symbol::LeftParen),
-        _ => is_word_at(tokens, i, next),
-    }
-}
-
-fn said(hints: &[Hint], tokens: &[Token], i: usize) -> Option<&'static str> {
-    let word = word(tokens.get(i)?);
-    for (first, next, said) in hints {
-        if is_same(first, word) && is_next(tokens, i.saturating_add(1), next) {
-            return Some(*said);
-        }
-    }
-    None
 }
 
 /// What is said of an equal sign at a position.
@@ -219,9 +89,10 @@ fn of_symbols(tokens: &[Token], i: usize) -> Option<&'static str> {
 }
 
 fn hint_at(tokens: &[Token], i: usize) -> Option<&'static str> {
-    match said(&WITHIN, tokens, i) {
-        Some(said) => Some(said),
-        None => of_symbols(tokens, i),
+    let is_column = is_word_at(tokens, 0, "create") && i > 2 && !is_word_at(tokens, i, "as");
+    match of_word(tokens, i) {
+        Some(said) if !is_column => Some(said),
+        _ => of_symbols(tokens, i),
     }
 }
 
@@ -253,24 +124,43 @@ fn lacks_on(tokens: &[Token], stop: usize) -> bool {
     false
 }
 
+/// Whether a text with a backslash at its end stands at a position.
+fn ends_in_backslash(tokens: &[Token], i: usize) -> bool {
+    match tokens.get(i) {
+        Some(token) => match &token.word {
+            Lexeme::Text(text) => text.as_str().as_bytes().last() == Some(&b'\\'),
+            _ => false,
+        },
+        None => false,
+    }
+}
+
 /// What is said of a word directly behind a text, as in 'O'Brien'.
 fn of_quote(tokens: &[Token], stop: usize) -> Option<&'static str> {
     let before = stop.checked_sub(1)?;
     let is_cut = is_text_at(tokens, before) && !word_at(tokens, stop).is_empty();
     let is_near = tokens.get(before)?.end == tokens.get(stop)?.start;
-    (is_cut && is_near).then_some(QUOTE)
+    let said = if ends_in_backslash(tokens, before) {
+        ESCAPE
+    } else {
+        QUOTE
+    };
+    (is_cut && is_near).then_some(said)
 }
 
-/// What is said of what stands behind the name of a column that is created.
+/// What is said of what stands behind the name of a column that is created, or behind the columns.
 fn of_types(tokens: &[Token], stop: usize) -> Option<&'static str> {
     let before = stop.checked_sub(1)?;
-    let is_column = is_word_at(tokens, 0, "create")
-        && stop > 3
-        && !word_at(tokens, before).is_empty();
+    if !is_word_at(tokens, 0, "create") || stop <= 3 || stop >= tokens.len() {
+        return None;
+    }
+    if is_symbol_at(tokens, before, Symbol::RightParen) {
+        return Some("nothing stands behind the columns");
+    }
     let is_more = !word_at(tokens, stop).is_empty()
         || is_cell_at(tokens, stop)
         || is_symbol_at(tokens, stop, Symbol::LeftParen);
-    (is_column && is_more).then_some(TYPES)
+    (!word_at(tokens, before).is_empty() && is_more).then_some(TYPES)
 }
 
 /// What is said of what stands behind a name.
@@ -302,28 +192,71 @@ fn of_items(tokens: &[Token], part: Part, stop: usize) -> Option<&'static str> {
     let before = stop.checked_sub(1)?;
     let begins_item = is_among_at(tokens, before, &["select", "distinct"])
         || is_symbol_at(tokens, before, Symbol::Comma);
-    let is_value = part == Part::Items && begins_item && is_cell_at(tokens, stop);
-    is_value.then_some("an item is a column: put values into a table of their own")
+    let is_value = is_cell_at(tokens, stop) || is_word_at(tokens, stop, "null");
+    (part == Part::Items && begins_item && is_value).then_some(
+        "an item is a column: put values into a table of their own",
+    )
+}
+
+/// What is said of a creation of something else than a table, or of a table with a word before it.
+fn of_creation(tokens: &[Token]) -> Option<&'static str> {
+    if !is_word_at(tokens, 0, "create") || is_word_at(tokens, 1, "table") {
+        return None;
+    }
+    let is_table = is_word_at(tokens, 2, "table") || is_word_at(tokens, 3, "table");
+    Some(if is_table { PLAIN } else { TABLES })
 }
 
 /// What is said by the first words of a text.
 fn by_first(tokens: &[Token]) -> Option<&'static str> {
-    let lists_columns = is_word_at(tokens, 0, "insert")
+    let is_insertion = is_word_at(tokens, 0, "insert");
+    let lists_columns = is_insertion
         && is_word_at(tokens, 1, "into")
         && is_symbol_at(tokens, 3, Symbol::LeftParen)
         && !is_among_at(tokens, 4, &["", "select", "null"]);
     if lists_columns {
         return Some(COLUMNS);
     }
-    if is_word_at(tokens, 0, "create") && !is_word_at(tokens, 1, "table") {
-        return Some(TABLES);
+    if is_insertion && is_among_at(tokens, 1, &["or", "ignore"]) {
+        return Some(CONFLICT);
+    }
+    if is_null_at(tokens, 0) || (is_null_at(tokens, 1) && is_among_at(tokens, 0, &["let", "set"])) {
+        return Some(ASSERT);
+    }
+    if is_symbol_at(tokens, 0, Symbol::Dot) {
+        return Some(CLIENT);
     }
     let is_two = is_among_at(tokens, 0, &["begin", "commit", "rollback"])
         && is_among_at(tokens, 1, &STARTS);
     if is_two {
         None
     } else {
-        said(&FIRST, tokens, 0)
+        of_creation(tokens).or(of_first_word(tokens))
+    }
+}
+
+/// What to write instead of tokens that spell no statement, where they are a form that is not there. Reading stopped at the
+/// token at `stop`, or behind the last one.
+///
+/// # Errors
+/// `Memory` where there is none for what is looked at.
+fn form_of(
+    alloc: Global,
+    tokens: &[Token],
+    part: Part,
+    stop: usize,
+) -> Result<Option<&'static str>, Memory> {
+    let form = match of_quote(tokens, stop).or(by_first(tokens)) {
+        Some(said) => Some(said),
+        None => of_forms(alloc, tokens, part, stop)?,
+    };
+    let form = form
+        .or(near(tokens, stop))
+        .or(of_types(tokens, stop))
+        .or(of_items(tokens, part, stop));
+    match form {
+        Some(said) => Ok(Some(said)),
+        None => behind_name(alloc, tokens, part, stop),
     }
 }
 
@@ -334,28 +267,11 @@ fn by_first(tokens: &[Token]) -> Option<&'static str> {
 /// `Memory` where there is none for what is looked at.
 pub fn instead_of(alloc: Global, tokens: &[Token], stop: usize) -> Result<Option<Instead>, Memory> {
     let part = part_before(tokens, stop);
-    let form = match of_quote(tokens, stop).or(by_first(tokens)) {
-        Some(said) => Some(said),
-        None => of_forms(alloc, tokens, part, stop)?,
-    };
-    let form = form
-        .or(near(tokens, stop))
-        .or(of_types(tokens, stop))
-        .or(of_items(tokens, part, stop));
-    let form = match form {
-        Some(said) => Some(said),
-        None => behind_name(alloc, tokens, part, stop)?,
-    };
-    if let Some(said) = form {
+    let form = form_of(alloc, tokens, part, stop)?;
+    if let Some(said) = form.or(lacks_on(tokens, stop).then_some(JOIN)) {
         return Ok(Some(Instead {
             said,
-            part: NOT_THERE,
-        }));
-    }
-    if lacks_on(tokens, stop) {
-        return Ok(Some(Instead {
-            said: JOIN,
-            part: NOT_THERE,
+            part: part_of(said),
         }));
     }
     let said = by_grammar(alloc, tokens, part, stop)?;
@@ -376,11 +292,12 @@ pub fn stray(c: char) -> &'static str {
         '&' => "write AND for &&; nothing is computed",
         '|' =>
             "nothing is computed, and texts are not put together; write OR where one of two conditions is enough",
-        '+' | '%' | '^' | '~' => "nothing is computed",
+        '+' | '%' | '^' => "nothing is computed",
+        '~' => "nothing is computed, and there are no patterns",
         '-' => "nothing is computed; a minus stands directly before its number",
         '‘' | '’' | '“' | '”' | '´' => "a text stands in straight single quotes, as 'Rome'",
         '\u{a0}' => "it is a blank that is not of ASCII: write an ordinary one",
-        '?' => "a null that has a name is ? and a word, as ?x",
+        '?' => "a null that has a name is ? and a word, as ?x, and one without is NULL in a row",
         '!' => "write <> or !=, and NOT before a condition",
         '#' => "a comment is -- up to the end of the line",
         ':' | '@' | '$' | '{' | '}' =>

@@ -3,12 +3,11 @@
 //! Nothing here has a contract: the sentences are meant for people. What they are put behind is proved in `ct_remarks`.
 #![tactic(auto)]
 
-mod faults;
 mod forms;
 mod grammar;
 mod hints;
 mod slips;
 mod unread;
+mod words;
 
-pub use faults::{Fault, FaultAt, fault_in};
 pub use unread::{Unread, push_fault, push_unspelled};

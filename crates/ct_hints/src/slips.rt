@@ -1,8 +1,9 @@
 // Keywords that are misspelt.
 
-use crate::grammar::STARTS;
-use ct_advice::{is_name_at, is_same, word_at};
-use ct_lex::Token;
+use crate::grammar::{STARTS, is_comparison_at};
+use crate::words::of_word;
+use ct_advice::{Part, is_among_at, is_name_at, is_same, is_symbol_at, part_before, word_at};
+use ct_lex::{Symbol, Token};
 use ct_word::Memory;
 use std::alloc::Global;
 
@@ -23,6 +24,18 @@ const WITHIN: [&str; 8] = [
     "union",
     "except",
     "intersect",
+];
+
+/// The keywords that may stand behind a comparison.
+const BEHIND: [&str; 8] = [
+    "and",
+    "or",
+    "union",
+    "except",
+    "intersect",
+    "where",
+    "join",
+    "inner",
 ];
 
 /// How many bytes two texts have in common, from their beginnings on.
@@ -68,6 +81,24 @@ fn is_one_off(word: &str, other: &str) -> bool {
     longer == shorter && same.saturating_add(2) >= longer && is_swapped(word, other)
 }
 
+/// The keywords that may be meant at a position within a condition.
+fn wanted_in_condition(tokens: &[Token], i: usize) -> &'static [&'static str] {
+    let before = i.saturating_sub(1);
+    let next = i.saturating_add(1);
+    let begins = ["where", "on", "assert", "if", "and", "or", "not"];
+    if is_among_at(tokens, before, &begins) || is_symbol_at(tokens, before, Symbol::LeftParen) {
+        return if word_at(tokens, next).is_empty() {
+            &[]
+        } else {
+            &["not"]
+        };
+    }
+    let is_term = is_comparison_at(tokens, before)
+        || is_comparison_at(tokens, next)
+        || is_symbol_at(tokens, next, Symbol::Dot);
+    if is_term { &[] } else { &BEHIND }
+}
+
 /// The keywords that may be meant at a position.
 fn wanted(tokens: &[Token], i: usize) -> &'static [&'static str] {
     match (i, word_at(tokens, 0)) {
@@ -79,14 +110,24 @@ fn wanted(tokens: &[Token], i: usize) -> &'static [&'static str] {
         (1, "possible" | "certain") => &["select"],
         (3, "insert") => &["values", "select"],
         (_, "create") => &[],
-        _ => &WITHIN,
+        _ if of_word(tokens, i).is_some() => &[],
+        _ => match part_before(tokens, i) {
+            Part::Condition => wanted_in_condition(tokens, i),
+            Part::Before => &["if"],
+            _ => &WITHIN,
+        },
     }
 }
 
-/// The first of these keywords that a word is one character off.
+/// Whether a word is a keyword with more behind it, as certainly.
+fn goes_on(word: &str, keyword: &str) -> bool {
+    keyword.len() > 5 && common(word.as_bytes(), keyword.as_bytes()) == keyword.len()
+}
+
+/// The first of these keywords that a word is one character off, or that goes on in it.
 fn meant(word: &str, keywords: &[&'static str]) -> Option<&'static str> {
     for keyword in keywords {
-        if is_one_off(word, keyword) && !is_same(word, keyword) {
+        if (is_one_off(word, keyword) || goes_on(word, keyword)) && !is_same(word, keyword) {
             return Some(*keyword);
         }
     }

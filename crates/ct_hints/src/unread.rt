@@ -1,10 +1,9 @@
 // What is said of a text that could not be read.
 
-use crate::faults::{Fault, FaultAt};
 use crate::grammar::{TABLES, is_crowded};
-use crate::hints::{GRAMMAR, instead_of, stray};
+use crate::hints::{ESCAPE, GRAMMAR, instead_of, stray};
 use crate::slips::{Slip, find_slip};
-use ct_advice::broken_text;
+use ct_advice::{Fault, FaultAt, broken_text};
 use ct_lex::Token;
 use ct_word::Memory;
 use std::alloc::Global;
@@ -69,10 +68,14 @@ fn is_letter(byte: u8) -> bool {
     matches!(byte, b'a'..=b'z' | b'A'..=b'Z')
 }
 
-/// Whether a quote stands between two letters up to a place, as in 'O'Brien'.
-fn has_inner_quote(text: &str, at: usize) -> bool {
-    let bytes = text.as_bytes().get(..at).unwrap_or(&[]);
+/// Whether a quote stands between two letters, as in 'O'Brien'.
+fn has_inner_quote(bytes: &[u8]) -> bool {
     bytes.windows(3).any(|three| matches!(three, [a, b'\'', c] if is_letter(*a) && is_letter(*c)))
+}
+
+/// Whether a quote stands between a backslash and a letter, as in 'O\'Brien'.
+fn has_escaped_quote(bytes: &[u8]) -> bool {
+    bytes.windows(3).any(|three| matches!(three, [b'\\', b'\'', c] if is_letter(*c)))
 }
 
 /// Appends that a text goes on in the next line, which begins at this place.
@@ -93,15 +96,18 @@ fn push_open(out: &mut String, unread: &Unread, tokens: &[Token], at: usize) -> 
         Some(start) => start as usize,
         None => at,
     };
-    let has_inner = has_inner_quote(unread.text, end);
-    if let (false, Some(start)) = (has_inner, broken) {
+    let before = unread.text.as_bytes().get(..end).unwrap_or(&[]);
+    let (is_escaped, is_inner) = (has_escaped_quote(before), has_inner_quote(before));
+    if let (false, Some(start)) = (is_escaped || is_inner, broken) {
         push_broken(out, unread, start)?;
         out.push_str(MISSING)?;
         return Ok(());
     }
     let Place { line, .. } = place_of(unread, first_quote(unread.text).unwrap_or(at));
     write!(out, "the first quote of the statement is in line {line}")?;
-    if has_inner {
+    if is_escaped {
+        write!(out, "; {ESCAPE}")?;
+    } else if is_inner {
         out.push_str("; a quote within a text is written twice, as 'O''Brien'")?;
     }
     Ok(())
@@ -135,19 +141,17 @@ pub fn push_fault(
 ) -> Result<(), Memory> {
     match fault.fault {
         Fault::Open => push_open(out, unread, tokens, fault.at),
-        Fault::Number => push_number(out, unread, fault.at),
+        Fault::Number(length) => push_number(out, unread, fault.at, length),
         Fault::Stray(c) => push_stray(out, unread, tokens, c),
     }
 }
 
-fn push_number(out: &mut String, unread: &Unread, at: usize) -> Result<(), Memory> {
-    let digits = unread.text.bytes().skip(at);
-    for byte in digits.take(LENGTH) {
-        match byte {
-            b'0'..=b'9' | b'-' => out.push(char::from(byte))?,
-            _ => break,
-        }
-    }
+/// Appends what is said of a number that is out of range.
+fn push_number(out: &mut String, unread: &Unread, at: usize, length: usize) -> Result<(), Memory> {
+    push_cut(
+        out,
+        unread.text.get(at..at.saturating_add(length)).unwrap_or(""),
+    )?;
     out.push_str(
         " is outside -9223372036854775808 to 9223372036854775807: write it as a text, everywhere",
     )?;
@@ -155,9 +159,8 @@ fn push_number(out: &mut String, unread: &Unread, at: usize) -> Result<(), Memor
 }
 
 /// Appends the beginning of a token.
-fn push_token(out: &mut String, text: &str, token: &Token) -> Result<(), Memory> {
-    let spelled = text.get(token.start as usize..token.end as usize);
-    for (i, c) in spelled.unwrap_or("").chars().enumerate() {
+fn push_cut(out: &mut String, spelled: &str) -> Result<(), Memory> {
+    for (i, c) in spelled.chars().enumerate() {
         if i >= LENGTH {
             out.push_str("..")?;
             break;
@@ -176,7 +179,8 @@ fn push_stop(
 ) -> Result<(), Memory> {
     match tokens.get(stop) {
         Some(token) => {
-            push_token(out, unread.text, token)?;
+            let spelled = unread.text.get(token.start as usize..token.end as usize);
+            push_cut(out, spelled.unwrap_or(""))?;
             out.push_str(" does not fit here")?;
         }
         None => out.push_str("the statement ends too early")?,

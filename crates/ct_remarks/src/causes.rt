@@ -3,7 +3,7 @@
 use crate::cases::Case;
 use crate::context::Context;
 use crate::transactions::Opened;
-use ct_advice::asserting;
+use ct_advice::{asserting, is_false_alone};
 use ct_lex::Token;
 use ct_query::Read;
 use ct_word::Memory;
@@ -54,7 +54,7 @@ pub fn push_conflict(out: &mut String, case: &Case, table: &Read, now: u32) -> R
     Ok(())
 }
 
-/// Where neither a commit before nor the transaction has asserted something of its nulls, an assertion is false by itself.
+/// An assertion is false by itself where nothing was asserted of its nulls before, or where that is seen at once.
 pub fn push_inconsistent(
     alloc: Global,
     out: &mut String,
@@ -65,9 +65,12 @@ pub fn push_inconsistent(
 ) -> Result<(), Memory> {
     out.push_str("no values satisfy it")?;
     let commits = asserting(alloc, context.known, case.version as usize, tokens)?;
-    if !commits.is_empty() || opened.has_asserted() {
-        out.push_str(" with what was asserted before")?;
+    let is_first = commits.is_empty() && !opened.has_asserted_of(tokens);
+    if is_first || is_false_alone(alloc, tokens)? {
+        out.push_str(", even by itself")?;
+        return Ok(());
     }
+    out.push_str(" with what was asserted before")?;
     for (i, number) in commits.iter().enumerate() {
         let before = if i == 0 { ", in commit " } else { ", " };
         write!(out, "{before}{number}")?;

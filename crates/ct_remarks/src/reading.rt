@@ -1,6 +1,6 @@
 // How far the text of a refused statement was read.
 
-use ct_hints::{Fault, FaultAt, fault_in};
+use ct_advice::{Fault, FaultAt, fault_in};
 use ct_lex::{LexError, Token, tokens};
 use ct_parse::{ParseError, statement, statement_place};
 use ct_word::Memory;

@@ -3,9 +3,11 @@
 use crate::cases::Case;
 use crate::context::Context;
 use crate::places::Placed;
-use ct_advice::{Own, own_table};
+use ct_advice::{Own, add_nulls, has_null, own_table};
+use ct_lex::Token;
 use ct_transcript::{Refusal, Reply};
-use ct_word::Memory;
+use ct_word::{Memory, Text};
+use indexmap::IndexSet;
 use std::alloc::Global;
 
 /// The position of the BEGIN of the transaction that is open behind the statement at `i`, by what it was answered and by the
@@ -55,6 +57,8 @@ pub struct Opened {
     next: usize,
     tables: Vec<Own>,
     has_asserted: bool,
+    /// The names of the nulls of which it has asserted something.
+    asserted: IndexSet<Text>,
 }
 
 impl Opened {
@@ -66,6 +70,7 @@ impl Opened {
             next: 0,
             tables: Vec::new(alloc),
             has_asserted: false,
+            asserted: IndexSet::new(alloc),
         }
     }
 
@@ -77,9 +82,17 @@ impl Opened {
         self.has_asserted
     }
 
+    /// Whether it has asserted something of a null of these tokens.
+    pub fn has_asserted_of(&self, tokens: &[Token]) -> bool {
+        has_null(&self.asserted, tokens)
+    }
+
     fn push_own(&mut self, alloc: Global, reply: &Reply, text: &Placed) -> Result<(), Memory> {
         let is_change = matches!(reply, Reply::Pending { .. });
-        self.has_asserted = self.has_asserted || (is_change && may_assert(text));
+        if is_change && may_assert(text) {
+            self.has_asserted = true;
+            add_nulls(alloc, &mut self.asserted, text.text)?;
+        }
         if is_change && may_create(text) {
             if let Some(table) = own_table(alloc, text.text)? {
                 self.tables.push(table)?;
@@ -99,6 +112,7 @@ impl Opened {
             self.next = case.begun.unwrap_or(0);
             self.tables.clear();
             self.has_asserted = false;
+            self.asserted = IndexSet::new(alloc);
         }
         let Some(_) = case.begun else {
             return Ok(());
