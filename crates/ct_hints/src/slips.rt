@@ -113,7 +113,7 @@ fn wanted(tokens: &[Token], i: usize) -> &'static [&'static str] {
         _ if of_word(tokens, i).is_some() => &[],
         _ => match part_before(tokens, i) {
             Part::Condition => wanted_in_condition(tokens, i),
-            Part::Before => &["if"],
+            Part::Before if i > 4 => &["if"],
             _ => &WITHIN,
         },
     }
