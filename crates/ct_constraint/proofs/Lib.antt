@@ -1,0 +1,5 @@
+pub mod Shown
+pub mod Agreeing
+pub mod Apart
+pub mod Turns
+pub mod Laws
