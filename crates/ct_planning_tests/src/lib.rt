@@ -1,0 +1,5 @@
+//! Tests of what a query is planned by: the candidates of a join.
+#![tactic(auto)]
+
+#[cfg(test)]
+mod tests;
