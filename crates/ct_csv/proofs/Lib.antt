@@ -1,0 +1,12 @@
+pub mod Reached
+pub mod Even
+pub mod NoNames
+pub mod Slices
+pub mod Rows
+pub mod Exact
+pub mod Named
+pub mod Appended
+pub mod Found
+pub mod Refused
+pub mod Inserted
+pub mod Imported
