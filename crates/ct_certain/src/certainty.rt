@@ -144,7 +144,7 @@ fn each_certain<N: Site, I: Interner<N>>(
 /// `r (r (2k + 2) + k + 1)` words are made, where the table has r rows and k columns.
 ///
 /// # Errors
-/// `Full` where the log has no room for the root of a question, `Memory` where there is none for the list or a question.
+/// `Full` only where the log has as many words as its capacity, `Memory` where there is none for the list or a question.
 pub fn certain<N: Site>(
     alloc: Global,
     arena: &Arena<N>,

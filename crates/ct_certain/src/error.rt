@@ -15,7 +15,7 @@ use thiserror::Error;
 /// Why rows are not listed.
 #[derive(Clone, Copy, Debug, PartialEq, Eq, Error)]
 pub enum CertainError {
-    /// The log has as many words as its capacity, and a question needs another one.
+    /// The log has as many words as its capacity.
     #[error("the log is full")]
     Full,
     /// Memory was wanting.

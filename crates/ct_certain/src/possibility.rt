@@ -57,7 +57,7 @@ fn each_possible<N: Site, I: Interner<N>>(
 /// are rows.
 ///
 /// # Errors
-/// `Full` where the log has no room for the root of a question, `Memory` where there is none for the list or a question.
+/// `Full` only where the log has as many words as its capacity, `Memory` where there is none for the list or a question.
 pub fn possible<N: Site>(
     alloc: Global,
     arena: &Arena<N>,

@@ -94,7 +94,7 @@ fn settle(
 /// Terms that true equalities join are a congruence class. A class with a constant has its value.
 /// The others, in the order of their least nulls, have `@k` with the least k that no class before
 /// has and that is not of a constant of the equalities. A path is a shortest one along true
-/// equalities; its clause is a transitivity constraint (Bryant and Velev 2002).
+/// equalities (no clause says so); its clause is a transitivity constraint (Bryant and Velev 2002).
 ///
 /// # Errors
 ///

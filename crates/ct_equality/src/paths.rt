@@ -128,7 +128,7 @@ fn walk(
     Ok(List::from_vec(path))
 }
 
-/// A shortest path along true equalities from one term of a class to another.
+/// A shortest path along true equalities from one term of a class to another; that it is a shortest one is no clause.
 pub fn path(
     alloc: Global,
     atoms: &[Atom],

@@ -16,9 +16,9 @@ use ct_word::Memory;
 pub enum Scan {
     /// Each is true.
     Satisfied,
-    /// The clause at this position is false.
+    /// The clause at this position is false. Which one it is, and that it was added, is no clause of the contract.
     Falsified(u32),
-    /// The clause at this position is false but for this open literal.
+    /// The clause at this position is false but for this open literal. Again no clause says which one it is.
     Unit(u32, i32),
     /// In the first clause that is not true this literal is open, and so is another. The contract says only that it is open.
     Undecided(i32),

@@ -20,7 +20,7 @@ use std::collections::BTreeSet;
 /// The nulls below conditions, with their places.
 #[derive(Drop)]
 pub struct Nulls {
-    /// The places of terms that are no constants.
+    /// The places of the nulls, and of other terms beside them.
     pub(crate) places: BTreeSet<u32>,
     /// The nulls there.
     pub(crate) listed: IndexSet<Null>,
@@ -37,7 +37,8 @@ impl Nulls {
         self.listed.len()
     }
 
-    /// Whether a place is that of one of the nulls, or of a column that is compared below the conditions.
+    /// Whether a place is noted: it is where it is the place of one of the nulls. Of the places of columns and of constants
+    /// nothing is said.
     pub fn has_place(&self, place: u32) -> bool
         ensures { result ≡ has self.now.places place }
     {
