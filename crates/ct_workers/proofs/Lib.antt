@@ -1,0 +1,3 @@
+pub mod Dealt
+pub mod Decided
+pub mod Placed

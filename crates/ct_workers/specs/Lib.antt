@@ -1,0 +1,4 @@
+pub mod Dealing
+pub mod Right
+pub mod Known
+pub mod Rows
