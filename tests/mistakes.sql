@@ -89,3 +89,4 @@ select name from suplier;
 select name from supplier, supply where nam = supplier;
 select * from supplier left join supply on name = supplier;
 assert name = 'Ann';
+delete from supply 'Ann';
