@@ -54,9 +54,9 @@ certain select * from t;
 -- A query that goes through too many rows.
 create table d (n);
 insert into d values (0), (1), (2), (3), (4), (5), (6), (7), (8), (9);
-select p.n from d p, d q, d r, d s, d t, d u, d v where false;
-insert into t select p.n from d p, d q, d r, d s, d t, d u, d v where false;
-possible select p.n from d p, d q, d r, d s, d t, d u, d v where false;
+select p.n from d p, d q, d r, d s, d t, d u, d v, d w where false;
+insert into t select p.n from d p, d q, d r, d s, d t, d u, d v, d w where false;
+possible select p.n from d p, d q, d r, d s, d t, d u, d v, d w where false;
 select * from t;
 commit;
 select * from t;

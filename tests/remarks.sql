@@ -45,7 +45,7 @@ select name from supplier limit 3;
 select name from supplier where city between 1 and 2;
 create table digit (n);
 insert into digit values (0), (1), (2), (3), (4), (5), (6), (7), (8), (9);
-select a.n from digit a, digit b, digit c, digit d, digit e, digit f, digit g where false;
+select a.n from digit a, digit b, digit c, digit d, digit e, digit f, digit g, digit h where false;
 select name from supplier union all select city from supplier;
 select name from supplier where exists (select n from digit);
 select name from (select name from supplier);

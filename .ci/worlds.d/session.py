@@ -6,7 +6,7 @@ from names import check, headed
 from reading import Refused, statement
 
 KINDS_OF_CHANGE = ("create", "insert", "insert query", "delete", "assert")
-MOST_ROWS = 1_048_576
+MOST_ROWS = 16_777_216
 
 
 def schema_of(changes):

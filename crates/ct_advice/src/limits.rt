@@ -14,7 +14,7 @@ use std::fmt::Write;
 const DEPTH: usize = 64;
 
 /// The greatest number of rows, or of pairs of rows, that a part of a query goes through.
-const SIZE: u64 = 1_048_576;
+const SIZE: u64 = 16_777_216;
 
 /// How many set operators the tokens have.
 fn operators(tokens: &[Token]) -> usize {

@@ -1,88 +1,111 @@
--- How many words each operator appends on answers to the parts of a query.
-use Rattle.std.{proofs.Common.{◌≡◌, ℕ, ◌+◌, ◌*◌, ◌≤◌, ◌<◌, Bool, true, false, List, length, map, Result, ap, arith}, specs.Prelude.{IsErrOf, if◌then◌else◌}}
-use Rattle.std.proofs.lemmas.Nat.{mul-le}
-use Rattle.ct_word.specs.Condition.{Condition}
-use Rattle.ct_query.{specs.Plain.{PlainQuery, Select, Project, Product, Union, Except, Intersect}, specs.Bounds.{literal_words, terms, ops}, specs.Fits.width}
-use Rattle.ct_condition.{specs.Places.{has_place, new_literal_words, new_terms}, proofs.Placed.over_less}
-use Rattle.ct_operators.{specs.declared.table.CTable.CTable, specs.declared.error.TableError.TableError}
+-- How many words calls make, one after the other, and each operator on answers to the parts of a query.
+use Rattle.std.{proofs.Common.{◌≡◌, ℕ, ◌+◌, ◌*◌, ◌≤◌, List, length, map, Result, Ok, Err, ap, arith}, specs.Prelude.{Contains}, proofs.lemmas.Nat.mul-le}
+use Rattle.ct_word.specs.declared.values.Term.{Term}
+use Rattle.ct_query.{specs.Plain.PlainQuery, specs.Fits.width}
+use Rattle.ct_condition.specs.Writes.{charge}
+use Rattle.ct_operators.{specs.declared.table.CTable.CTable, specs.declared.error.TableError.TableError, specs.Refusals.is_full}
 use Rattle.ct_table.specs.Denotes.{TableView, heading_of}
-use Rattle.ct_algebra.{specs.Evaluates.Evaluates, specs.Words.{most_rows, most_words, GrowsWithin}, proofs.Counted.rows_within}
+use Rattle.ct_algebra.{specs.Evaluates.Evaluates, specs.Words.{most_rows, GrowsWithin}, proofs.Counted.rows_within, proofs.Putting.fewer_unplaced}
+use mathlib.Core.List.{IsPrefix}
 use Rattle.ct_operators.specs.declared.error.TableError.TheVariants as fault
 
--- one step after another
-onward : {A : Type 0} (out : Result A TableError) (old now new a b m : ℕ) → now ≤ old + a → b ≤ m → new ≤ now + b → (IsErrOf out fault.Full → new < now + b)
-    → GrowsWithin out old new (a + m)
-onward out old now new a b m before le made fewer = record {
-  made = omega (arith, before, le, made);
-  fewer = λ full. omega (arith, before, le, fewer full);
+-- terms among others
+abbrev pub Within : List Term → List Term → Type 0
+Within some all = (t : Term) → Contains some t → Contains all t
+
+-- a call that puts no literal
+pub grows_by : {B : Type 0} (out : Result B TableError) (mid new : List ℕ) (m n : ℕ) (terms : List Term) (most : ℕ) → IsPrefix mid new
+    → n + charge (is_full out) ≤ m + most → GrowsWithin out mid new m n terms most
+grows_by (Ok x) mid new m n terms most longer made = record { grows = λ literals has. let u = fewer_unplaced mid new longer literals in omega (arith, made, u) }
+grows_by (Err fault.Full) mid new m n terms most longer made = record { grows = λ literals has. omega (arith, made) }
+grows_by (Err fault.Memory) mid new m n terms most longer made = record { grows = λ literals has. omega (arith, made) }
+
+module _ (old mid new : List ℕ) (b m n : ℕ) (terms : List Term) {A B : Type 0} (x : A) (out : Result B TableError) where
+  -- a call after one that answered
+  pub grows_then : (one other : List Term) (j most k : ℕ) → Within one terms → Within other terms → most ≤ k
+      → GrowsWithin (Ok x) old mid b m one j → GrowsWithin out mid new m n other most → GrowsWithin out old new b n terms (j + k)
+  grows_then one other j most k within besides le first second = record {
+    grows = λ literals has.
+        let f = first.grows literals (λ t l h. has t l (within t h)) in
+        let s = second.grows literals (λ t l h. has t l (besides t h)) in
+        omega (arith, f, s, le);
+  }
+
+  -- one that puts no literal
+  pub onward : (j most k : ℕ) → IsPrefix mid new → GrowsWithin (Ok x) old mid b m terms j → n + charge (is_full out) ≤ m + most → most ≤ k
+      → GrowsWithin out old new b n terms (j + k)
+  onward j most k longer first made le =
+      grows_then terms terms j most k (λ t h. h) (λ t h. h) le first (grows_by out mid new m n terms most longer made)
+
+  -- after one that put literals alone
+  pub after_literals : (most k : ℕ) → IsPrefix mid new → GrowsWithin (Ok x) old mid b m terms 0 → n + charge (is_full out) ≤ m + most → most ≤ k
+      → GrowsWithin out old new b n terms k
+  after_literals most k longer first made le = record {
+    grows = λ literals has. let h = (onward 0 most k longer first made le).grows literals has in omega (arith, h);
+  }
+
+-- a refusal that is passed on
+pub refused_within : {A B : Type 0} (e : TableError) (old new : List ℕ) (b n : ℕ) (some all : List Term) (most more : ℕ) → Within some all → most ≤ more
+    → GrowsWithin {A = A} (Err e) old new b n some most → GrowsWithin {A = B} (Err e) old new b n all more
+refused_within fault.Full old new b n some all most more within le w = record {
+  grows = λ literals has. let h = w.grows literals (λ t l i. has t l (within t i)) in omega (arith, h, le);
+}
+refused_within fault.Memory old new b n some all most more within le w = record {
+  grows = λ literals has. let h = w.grows literals (λ t l i. has t l (within t i)) in omega (arith, h, le);
 }
 
--- a literal without a place is put by its words at most
-by_test : (b : Bool) (n : ℕ) → (if b then 0 else n) ≤ n
-by_test true n = omega arith
-by_test false n = omega arith
-
-most_new : (words : List ℕ) (c : Condition) → new_terms words c ≤ terms c
-most_new words c =
-    over_less (λ s t. new_literal_words words s + new_literal_words words t) (λ s t. literal_words s + literal_words t)
-    (λ s t. let a = by_test (has_place words s) (literal_words s) in let b = by_test (has_place words t) (literal_words t) in omega (arith, a, b)) c
-
--- an operator of one part
-module _ (ws now : List ℕ) (db : List TableView) (q : PlainQuery) (t : CTable) (s : Evaluates ws now db q t) (old mid new : ℕ) (before : mid ≤ old + most_words db q)
-    (out : Result CTable TableError) where
-  its_rows : length t.rows ≤ most_rows db q
-  its_rows = rows_within ws now db q t s
-
-  pub select_within : (c : Condition) → new ≤ mid + (new_terms now c + length t.rows * (ops c + 1)) → (IsErrOf out fault.Full → new < mid + (new_terms now c + length t.rows * (ops c + 1)))
-      → GrowsWithin out old new (most_words db (Select c q))
-  select_within c =
-      onward out old mid new _ _ _ before (omega (arith, most_new now c, mul-le (length t.rows) (ops c + 1) (most_rows db q) (ops c + 1) its_rows (omega arith)))
-
-  pub project_within : (ks : List ℕ) → new ≤ mid + length t.rows → (IsErrOf out fault.Full → new < mid + length t.rows)
-      → GrowsWithin out old new (most_words db (Project ks q))
-  project_within ks = onward out old mid new (most_words db q) (length t.rows) (most_rows db q) before its_rows
+-- a greater bound
+pub grows_more : {A : Type 0} (out : Result A TableError) (old new : List ℕ) (b n : ℕ) (terms : List Term) (most more : ℕ) → most ≤ more → GrowsWithin out old new b n terms most → GrowsWithin out old new b n terms more
+grows_more out old new b n terms most more le w = record { grows = λ literals has. let h = w.grows literals has in omega (arith, h, le) }
 
 -- as many pairs of rows, and as many columns
 pairs_within : (l r m n k j : ℕ) → l ≤ m → r ≤ n → k ≡ j → l * r * k ≤ m * n * j
 pairs_within l r m n k j p q e = mul-le (l * r) k (m * n) j (mul-le l r m n p q) (omega (arith, e))
 
--- an operator of two parts
-module _ (ws now : List ℕ) (db : List TableView) (a b : PlainQuery) (l r : CTable) (s : Evaluates ws now db a l) (u : Evaluates ws now db b r) (old mid new : ℕ)
-    (before : mid ≤ old + (most_words db a + most_words db b)) (out : Result CTable TableError) where
+-- the rows of one part, so many words for each
+pub rows_most : (ws now : List ℕ) (db : List TableView) (q : PlainQuery) (t : CTable) → Evaluates ws now db q t → (k : ℕ) → length t.rows * k ≤ most_rows db q * k
+rows_most ws now db q t s k = mul-le (length t.rows) k (most_rows db q) k (rows_within ws now db q t s) (omega arith)
+
+-- those of two parts
+module _ (ws now : List ℕ) (db : List TableView) (a b : PlainQuery) (l r : CTable) (s : Evaluates ws now db a l) (u : Evaluates ws now db b r) where
   lefts : length l.rows ≤ most_rows db a
   lefts = rows_within ws now db a l s
 
   rights : length r.rows ≤ most_rows db b
   rights = rows_within ws now db b r u
 
-  pub product_within : new ≤ mid + length l.rows * length r.rows → (IsErrOf out fault.Full → new < mid + length l.rows * length r.rows)
-      → GrowsWithin out old new (most_words db (Product a b))
-  product_within =
-      onward out old mid new _ _ _ before (mul-le (length l.rows) (length r.rows) (most_rows db a) (most_rows db b) lefts rights)
+  pub product_most : length l.rows * length r.rows ≤ most_rows db a * most_rows db b
+  product_most = mul-le (length l.rows) (length r.rows) (most_rows db a) (most_rows db b) lefts rights
 
-  pub union_within : new ≤ mid + (length l.rows + length r.rows) → (IsErrOf out fault.Full → new < mid + (length l.rows + length r.rows))
-      → GrowsWithin out old new (most_words db (Union a b))
-  union_within =
-      onward out old mid new _ _ _ before (omega (arith, lefts, rights))
+  pub union_most : length l.rows + length r.rows ≤ most_rows db a + most_rows db b
+  union_most = omega (arith, lefts, rights)
 
-  pub except_within : new ≤ mid + (length l.rows * length r.rows * (2 * length l.columns + 2) + length l.rows)
-      → (IsErrOf out fault.Full → new < mid + (length l.rows * length r.rows * (2 * length l.columns + 2) + length l.rows))
-      → GrowsWithin out old new (most_words db (Except a b))
-  except_within =
-      onward out old mid new _ _ _ before
-      (omega (
+  pub except_most : length l.rows * length r.rows * (2 * length l.columns + 2) + length l.rows ≤ most_rows db a * most_rows db b * (2 * width (map heading_of db) a + 2) + most_rows db a
+  except_most =
+      omega (
         arith,
         lefts,
         pairs_within (length l.rows) (length r.rows) (most_rows db a) (most_rows db b) (2 * length l.columns + 2) (2 * width (map heading_of db) a + 2) lefts rights (ap (λ k. 2 * k + 2) s.width_is),
-      ))
+      )
 
-  pub intersect_within : new ≤ mid + (length l.rows * length r.rows * (2 * length l.columns + 1) + 2 * length l.rows)
-      → (IsErrOf out fault.Full → new < mid + (length l.rows * length r.rows * (2 * length l.columns + 1) + 2 * length l.rows))
-      → GrowsWithin out old new (most_words db (Intersect a b))
-  intersect_within =
-      onward out old mid new _ _ _ before
-      (omega (
+  pub intersect_most : length l.rows * length r.rows * (2 * length l.columns + 1) + 2 * length l.rows ≤ most_rows db a * most_rows db b * (2 * width (map heading_of db) a + 1) + 2 * most_rows db a
+  intersect_most =
+      omega (
         arith,
         lefts,
         pairs_within (length l.rows) (length r.rows) (most_rows db a) (most_rows db b) (2 * length l.columns + 1) (2 * width (map heading_of db) a + 1) lefts rights (ap (λ k. 2 * k + 1) s.width_is),
-      ))
+      )
+
+-- a pair takes a word for both conditions, and those of a selection
+pub pair_sum : (n k : ℕ) → n * (k + 2) ≡ n + n * (k + 1)
+pair_sum n k = grind arith
+
+pub join_sum : (w x y : ℕ) → w + (x + y) ≡ w + x + y
+join_sum w x y = omega arith
+
+pub pairs_most : (l m k : ℕ) → l ≤ m → l + l * k ≤ m + m * k
+pairs_most l m k le = omega (arith, le, mul-le l k m k le (omega arith))
+
+-- a pair that is projected takes one more
+pub picked_sum : (n k : ℕ) → n * (k + 2 + 1) ≡ n + n * (k + 1) + n
+picked_sum n k = grind arith

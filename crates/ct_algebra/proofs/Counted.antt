@@ -49,3 +49,11 @@ rows_within old now db q t s =
       part_length (cells_of now t.rows) (query_pattern (cells_in old db) q) s.part,
       pattern_length (cells_in old db) (rows_in (map count_of db)) (cells_counted old db) q,
     )
+
+-- rows of pairs are no more than the pairs
+pub pairs_counted : (now new : List ℕ) (ls rs out : List CRow) → IsSublist (cells_of new out) (joins (cells_of now ls) (cells_of now rs)) → length out ≤ length ls * length rs
+pairs_counted now new ls rs out part =
+    let cells : length (cells_of new out) ≡ length out = length-map out (λ (r : CRow). map (term_at new) r.cells) in
+    let both : length (joins (cells_of now ls) (cells_of now rs)) ≡ length ls * length rs =
+    joins_length (cells_of now ls) (cells_of now rs) ∙ (λ i. length-map ls (λ (r : CRow). map (term_at now) r.cells) i * length-map rs (λ (r : CRow). map (term_at now) r.cells) i) in
+    omega (arith, cells, both, part_length (cells_of new out) (joins (cells_of now ls) (cells_of now rs)) part)

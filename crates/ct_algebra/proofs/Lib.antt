@@ -4,5 +4,12 @@ pub mod Operators
 pub mod Parts
 pub mod Limits
 pub mod Counted
+pub mod Putting
 pub mod Appending
 pub mod Nodes
+pub mod Planned
+pub mod Comparing
+pub mod Pairs
+pub mod Making
+pub mod Telling
+pub mod Picks

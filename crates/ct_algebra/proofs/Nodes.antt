@@ -1,88 +1,48 @@
--- The words of a query are within the number that is computed from the counts of rows.
-use Rattle.std.{proofs.Common.{◌≡◌, ℕ, ◌+◌, ◌*◌, ◌≤◌, ◌<◌, ◌^◌, List, [], ◌∷◌, ◌++◌, length, map, Result, refl, ap, ◌∙◌, arith}, proofs.lemmas.Nat.mul-le}
-use Rattle.std.specs.Prelude.{Option, Some, None, option_map, unwrap_or, IfSome}
-use Rattle.ct_query.{specs.Plain.{PlainQuery, Table, Select, Project, Product, Union, Except, Intersect}, specs.Fits.width, specs.Size.{rows_in, greatest}}
-use Rattle.ct_query.specs.Bounds.{terms, ops, product_counts, partial_products, select_words, side_words, query_words, nodes}
-use Rattle.ct_query.proofs.Products.{product_from, product_last, partial_last}
-use Rattle.ct_operators.specs.declared.error.TableError.{TableError}
+-- The words of a query that is evaluated in place of another are within the number that is computed for this one.
+use Rattle.std.{proofs.Common.{ℕ, ◌+◌, ◌≤◌, ◌<◌, ◌^◌, Bool, true, false, List, map, Result, Ok, Err, ap, arith}, specs.Prelude.{Option, Some, None, unwrap_or, IfSome, if◌then◌else◌}}
+use Rattle.std.{proofs.lemmas.Bool.false≢true, proofs.lemmas.List.Sums.sum_by-le-sum_by}
+use Rattle.ct_query.{specs.Plain.PlainQuery, specs.Bounds.{literal_words, query_words, nodes}, specs.Size.{rows_in, greatest}, specs.Terms.query_terms}
+use Rattle.ct_condition.specs.Places.{has_place, new_literal_words}
+use Rattle.ct_plan.{specs.Spent.literals, specs.Replaces.Replaces}
+use Rattle.ct_operators.{specs.declared.error.TableError.TableError, specs.Refusals.is_full}
 use Rattle.ct_table.{specs.Counting.count_of, specs.Denotes.{TableView, heading_of}}
-use Rattle.ct_algebra.specs.Words.{most_rows, most_words, GrowsWithin}
-use Rattle.ct_query.specs.Bounds as bounds
+use Rattle.ct_algebra.specs.Words.{most_words, unplaced, spared, GrowsWithin, MakesWithin}
+use Rattle.ct_operators.specs.declared.error.TableError.TheVariants as fault
 
--- the rows of a product of tables with these counts, and bounds on them and on its words
-abbrev Counts : List ℕ → ℕ → ℕ → Type 0
-Counts ns r w = (product_from 1 ns ≡ r) × (w ≤ partial_products 1 ns) × (r ≤ partial_products 1 ns)
+makes_within : {A : Type 0} (out : Result A TableError) (before after left most : ℕ) → after + spared out left ≤ before + most → MakesWithin out before after most
+makes_within (Ok x) before after left most le = record { made = omega (arith, le); fewer = λ e. absurd (false≢true (ap is_full e)) }
+makes_within (Err fault.Full) before after left most le = record { made = omega (arith, le); fewer = λ e. omega (arith, le) }
+makes_within (Err fault.Memory) before after left most le = record { made = omega (arith, le); fewer = λ e. absurd (false≢true (ap is_full e)) }
 
--- one more table on the right
-counts_last : (o : Option (List ℕ)) (r w n : ℕ) → IfSome o (λ ns. Counts ns r w) → IfSome (option_map (λ ns. ns ++ n ∷ []) o) (λ ns. Counts ns (r * n) (w + 0 + r * n))
-counts_last None r w n h = tt
-counts_last (Some ns) r w n h =
-    let sum = partial_last 1 ns n in
-    let product : product_from 1 ns * n ≡ r * n = ap (λ m. m * n) h.0 in
-    (product_last 1 ns n ∙ product, omega (arith, h.1, sum, product), omega (arith, sum, product))
+-- where memory is wanting before it begins, a call makes none
+pub makes_none : {A : Type 0} (before most : ℕ) → MakesWithin {A = A} (Err fault.Memory) before before most
+makes_none before most = record { made = omega arith; fewer = λ e. absurd (false≢true (ap is_full e)) }
 
-selection_sum : (o : Option (List ℕ)) (r w k t : ℕ) → IfSome o (λ ns. Counts ns r w)
-    → IfSome (option_map (λ ns. (k + 3) * partial_products 1 ns + t) o) (λ n. w + (t + r * (k + 1)) + r ≤ n)
-selection_sum None r w k t h = tt
-selection_sum (Some ns) r w k t h =
-    let p = partial_products 1 ns in
-    let apart : (k + 3) * p ≡ p + p * (k + 1) + p = grind arith in
-    omega (arith, h.1, h.2, apart, mul-le r (k + 1) p (k + 1) h.2 (omega arith))
+-- a literal without a place is put by its words at most
+by_test : (b : Bool) (n : ℕ) → (if b then 0 else n) ≤ n
+by_test true n = omega arith
+by_test false n = omega arith
 
--- the words of both sides and of the operator
-sides_sum : (a b : Option ℕ) (x y more least k j l m : ℕ) → (k ≡ j → least ≤ more) → IfSome a (λ n. (x ≤ n) × (k ≡ j)) → IfSome b (λ n. (y ≤ n) × (l ≡ m))
-    → IfSome (side_words more a b) (λ n. (x + y + least ≤ n) × (k ≡ j))
-sides_sum None b x y more least k j l m le p q = tt
-sides_sum (Some n) None x y more least k j l m le p q = tt
-sides_sum (Some n) (Some n') x y more least k j l m le p q = (omega (arith, p.0, q.0, le p.1), p.1)
+most_unplaced : (ws : List ℕ) (q : PlainQuery) → unplaced ws (query_terms q) ≤ literals q
+most_unplaced ws q = sum_by-le-sum_by (new_literal_words ws) literal_words (query_terms q) (λ t. by_test (has_place ws t) (literal_words t))
 
-module _ (db : List TableView) where
-  abbrev counts : List ℕ → ℕ
-  counts = rows_in (map count_of db)
+-- no session appends as many words as the greatest number
+by_option : (o : Option ℕ) (before x more most left : ℕ) → IfSome o (λ n. most + left ≤ n) → x ≤ 2 ^ 28 → more ≤ left → x ≤ before + (more + most) → x ≤ before + unwrap_or o greatest
+by_option None before x more most left h small le made = omega (arith, small)
+by_option (Some n) before x more most left h small le made = omega (arith, h, le, made)
 
-  of_product : (q : PlainQuery) → IfSome (product_counts counts q) (λ ns. Counts ns (most_rows db q) (most_words db q))
-  of_product (Table t) = (omega arith, omega arith, omega arith)
-  of_product (Product a (Table t)) = counts_last (product_counts counts a) (most_rows db a) (most_words db a) (counts t) (of_product a)
-  of_product _ = tt
-
-  of_selection : (q : PlainQuery) → IfSome (select_words counts q) (λ n. most_words db q + most_rows db q ≤ n)
-  of_selection (Select c q) = selection_sum (product_counts counts q) (most_rows db q) (most_words db q) (ops c) (terms c) (of_product q)
-  of_selection _ = tt
-
-  with_width : (o : Option ℕ) (x k : ℕ) → IfSome o (λ n. x ≤ n) → IfSome o (λ n. (x ≤ n) × (k ≡ k))
-  with_width None x k h = tt
-  with_width (Some n) x k h = (h, refl)
-
-  of_query : (q : PlainQuery) → IfSome (query_words counts q) (λ n. (most_words db q ≤ n) × (width (map heading_of db) q ≡ bounds.width q))
-  of_query (Project ks q) = with_width (select_words counts q) (most_words db q + most_rows db q) (length ks) (of_selection q)
-  of_query (Union a b) =
-      sides_sum (query_words counts a) (query_words counts b) (most_words db a) (most_words db b) (most_rows db a + most_rows db b) (most_rows db a + most_rows db b)
-      (width (map heading_of db) a) (bounds.width a) (width (map heading_of db) b) (bounds.width b) (λ e. omega arith) (of_query a) (of_query b)
-  of_query (Except a b) =
-      sides_sum (query_words counts a) (query_words counts b) (most_words db a) (most_words db b)
-      (most_rows db a * most_rows db b * (2 * bounds.width a + 2) + most_rows db a) (most_rows db a * most_rows db b * (2 * width (map heading_of db) a + 2) + most_rows db a)
-      (width (map heading_of db) a) (bounds.width a) (width (map heading_of db) b) (bounds.width b)
-      (λ e. omega (arith, ap (λ k. most_rows db a * most_rows db b * (2 * k + 2)) e)) (of_query a) (of_query b)
-  of_query (Intersect a b) =
-      sides_sum (query_words counts a) (query_words counts b) (most_words db a) (most_words db b)
-      (most_rows db a * most_rows db b * (2 * bounds.width a + 1) + 2 * most_rows db a) (most_rows db a * most_rows db b * (2 * width (map heading_of db) a + 1) + 2 * most_rows db a)
-      (width (map heading_of db) a) (bounds.width a) (width (map heading_of db) b) (bounds.width b)
-      (λ e. omega (arith, ap (λ k. most_rows db a * most_rows db b * (2 * k + 1)) e)) (of_query a) (of_query b)
-  of_query _ = tt
-
-  -- no session appends as many words as the greatest number
-  by_option : {A : Type 0} (out : Result A TableError) (o : Option ℕ) (m k j old new : ℕ) → IfSome o (λ n. (m ≤ n) × (k ≡ j)) → new < 2 ^ 28 → GrowsWithin out old new m
-      → GrowsWithin out old new (unwrap_or o greatest)
-  by_option out None m k j old new h small w = record {
-    made = omega (arith, small);
-    fewer = λ full. omega (arith, small);
-  }
-  by_option out (Some n) m k j old new h small w = record {
-    made = omega (arith, h.0, w.made);
-    fewer = λ full. omega (arith, h.0, w.fewer full);
-  }
-
-  pub nodes_within : {A : Type 0} (out : Result A TableError) (q : PlainQuery) (old new : ℕ) → new < 2 ^ 28 → GrowsWithin out old new (most_words db q)
-      → GrowsWithin out old new (nodes counts q)
-  nodes_within out q old new =
-      by_option out (query_words counts q) (most_words db q) (width (map heading_of db) q) (bounds.width q) old new (of_query q)
+pub nodes_within : {A : Type 0} (out : Result A TableError) (db : List TableView) (q p : PlainQuery) (old new : List ℕ) (before after : ℕ) → Replaces (map heading_of db) q p → after < 2 ^ 28
+    → GrowsWithin out old new before after (query_terms p) (most_words db p) → MakesWithin out before after (nodes (rows_in (map count_of db)) q)
+nodes_within out db q p old new before after replaces small w =
+    let counts = rows_in (map count_of db) in
+    let more = unplaced old (query_terms q) in
+    let most = most_words db p in
+    let grows = w.grows (query_terms q) replaces.named in
+    let within = makes_within out before after (unplaced new (query_terms q)) (more + most) (omega (arith, grows)) in
+    record {
+      made = by_option (query_words counts q) before after more most (literals q) (replaces.words counts) (omega (arith, small)) (most_unplaced old q) within.made;
+      fewer = λ full.
+          let le : after + 1 ≤ before + nodes counts q =
+          by_option (query_words counts q) before (after + 1) more most (literals q) (replaces.words counts) (omega (arith, small)) (most_unplaced old q) (omega (arith, within.fewer full)) in
+          omega (arith, le);
+    }

@@ -1,9 +1,9 @@
 -- What each operator makes of answers to the parts of a query answers the query.
-use Rattle.std.proofs.Common.{◌≡◌, ℕ, ◌+◌, not, List, [], ◌++◌, length, map, Result, Ok, Err, Some, get_or, refl, ap, sym, subst, ◌∙◌, inl, inr}
+use Rattle.std.proofs.Common.{◌≡◌, ℕ, ◌+◌, true, not, List, [], ◌∷◌, ◌++◌, length, map, Result, Ok, Err, Some, get_or, refl, ap, sym, subst, ◌∙◌, inl, inr}
 use Rattle.std.{specs.Prelude.{◌⊎◌, IfOk, filter, slice_index_or}, specs.List.Contains, proofs.lemmas.List.{length-append, length-map}}
 use Rattle.std.proofs.lemmas.List.Elements.{recursion_from_All, Contains-get_or, Contains-append_cases, Contains-append_left, Contains-append_right}
 use Rattle.ct_word.{specs.declared.values.Value.Value, specs.declared.values.Term.Term, specs.Value.{World, cell_at}, specs.Sublist.IsSublist}
-use Rattle.ct_word.specs.Condition.{Condition, holds}
+use Rattle.ct_word.specs.Condition.{Condition, True, holds}
 use Rattle.ct_query.{specs.Plain.{PlainQuery, Table, Select, Project, Product, Union, Except, Intersect}, specs.Database.{has_tuple, SameSet}}
 use Rattle.ct_query.{specs.Reads.tables_of, specs.Rows.{rows, joins}, specs.Patterns.{picked, query_pattern}, specs.Fits.{width, count_of}}
 use Rattle.ct_query.{proofs.Sublists.{all_of, sublist-append, sublist_of_sublist, sublist_joins, sublist-map}, proofs.Sets.{same_set_on, same_set-append}}
@@ -72,6 +72,21 @@ module _ (old now new : List ℕ) (db : List TableView) (q : PlainQuery) (t : CT
         | inr b ↦ inr (inl b.0, b.1)
       ]) o.rows from)
 
+  -- where there are no rows, none is left
+  pub none_selected : (c : Condition) → t.rows ≡ [] → Evaluates old now db (Select c q) t
+  none_selected c none =
+      let alike : (v : World) → its_tuples v ≡ [] = λ v. ap (value_of_rows now v) none in
+      record {
+        names_are = s.names_are;
+        width_is = s.width_is;
+        are = s.are;
+        tuples = λ v.
+            same_set_on _ _ _ (λ u. ap (λ l. has_tuple l u) (alike v ∙ sym (ap (filter (λ u. holds v u c)) (alike v))))
+            (same_set_filter (λ u. holds v u c) (its_tuples v) (rows v q (value_of_tables old v db)) (s.tuples v));
+        part = s.part;
+        from = rows_wider now (TermOfQuery old db q) (TermOfQuery old db (Select c q)) (λ x h. widened old db q (Select c q) x (λ n i. i) (λ n. inr n) h) t.rows s.from;
+      }
+
   pub project_answers : (ks : List ℕ) (out : Result CTable TableError) → IfOk out (λ o. o.columns ≡ map (λ k. slice_index_or t.columns k []) ks)
       → IfOk out (λ o. AreRows new (length ks) o.rows)
       → ((v : World) → IfOk out (λ o. SameSet (value_of_rows new v o.rows) (map (λ u. map (cell_at u) ks) (its_tuples v))))
@@ -123,6 +138,45 @@ module _ (old now new : List ℕ) (db : List TableView) (a b : PlainQuery) (l r 
       (sublist_joins (cells_of now l.rows) (query_pattern (cells_in old db) a) (cells_of now r.rows) (query_pattern (cells_in old db) b) s.part t.part))
       (both_from (Product a b) refl (λ x n. n) o from)
 
+  pub join_answers : (c : Condition) (out : Result CTable TableError) → IfOk out (λ o. o.columns ≡ l.columns ++ r.columns)
+      → IfOk out (λ o. AreRows new (length l.columns + length r.columns) o.rows)
+      → ((v : World) → IfOk out (λ o. SameSet (value_of_rows new v o.rows) (filter (λ u. holds v u c) (joins (lefts v) (rights v)))))
+      → IfOk out (λ o. IsSublist (cells_of new o.rows) (joins (cells_of now l.rows) (cells_of now r.rows)))
+      → IfOk out (λ o. RowsFrom new o.rows (λ x. TermOfRows now (l.rows ++ r.rows) x ⊎ (IsNamed c x × IsNoColumn x))) → IfOk out (Evaluates old new db (Select c (Product a b)))
+  join_answers c (Err e) columns are tuples part from = tt
+  join_answers c (Ok o) columns are tuples part from =
+      let both = length-append l.columns r.columns in
+      made old new db (Select c (Product a b)) (l.columns ++ r.columns) (λ i. s.names_are i ++ t.names_are i) (both ∙ (λ i. s.width_is i + t.width_is i)) o columns (subst (λ n. AreRows new n o.rows) (sym both) are)
+      (λ v. same_set_on _ _ _ (tuples v)
+      (same_set_filter (λ u. holds v u c) (joins (lefts v) (rights v)) (joins (left_part v) (right_part v)) (same_set_joins (lefts v) (left_part v) (rights v) (right_part v) (s.tuples v) (t.tuples v))))
+      (sublist_of_sublist _ _ _ part
+      (sublist_joins (cells_of now l.rows) (query_pattern (cells_in old db) a) (cells_of now r.rows) (query_pattern (cells_in old db) b) s.part t.part))
+      (rows_wider new (λ x. TermOfRows now (l.rows ++ r.rows) x ⊎ (IsNamed c x × IsNoColumn x)) (TermOfQuery old db (Select c (Product a b))) (λ x h. elim h [
+        | inl i ↦ of_both (Select c (Product a b)) refl (λ x n. inr n) x i
+        | inr n ↦ inr (inl n.0, n.1)
+      ]) o.rows from)
+
+  pub pick_answers : (ks : List ℕ) (c : Condition) (out : Result CTable TableError) → IfOk out (λ o. o.columns ≡ map (λ k. slice_index_or (l.columns ++ r.columns) k []) ks)
+      → IfOk out (λ o. AreRows new (length ks) o.rows)
+      → ((v : World) → IfOk out (λ o. SameSet (value_of_rows new v o.rows) (map (λ u. map (cell_at u) ks) (filter (λ u. holds v u c) (joins (lefts v) (rights v))))))
+      → IfOk out (λ o. IsSublist (cells_of new o.rows) (map (picked ks) (joins (cells_of now l.rows) (cells_of now r.rows))))
+      → IfOk out (λ o. RowsFrom new o.rows (λ x. TermOfRows now (l.rows ++ r.rows) x ⊎ (IsNamed c x × IsNoColumn x))) → IfOk out (Evaluates old new db (Project ks (Select c (Product a b))))
+  pick_answers ks c (Err e) columns are tuples part from = tt
+  pick_answers ks c (Ok o) columns are tuples part from =
+      let whole = Project ks (Select c (Product a b)) in
+      let wide : length (map (λ k. slice_index_or (l.columns ++ r.columns) k []) ks) ≡ length ks = length-map ks (λ k. slice_index_or (l.columns ++ r.columns) k []) in
+      let pairs : World → List (List Value) = λ v. filter (λ u. holds v u c) (joins (lefts v) (rights v)) in
+      let those : World → List (List Value) = λ v. filter (λ u. holds v u c) (joins (left_part v) (right_part v)) in
+      made old new db whole (map (λ k. slice_index_or (l.columns ++ r.columns) k []) ks) (λ i. map (λ k. slice_index_or (s.names_are i ++ t.names_are i) k []) ks) wide o columns (subst (λ n. AreRows new n o.rows) (sym wide) are)
+      (λ v. same_set_on _ _ _ (tuples v) (same_set_map (λ u. map (cell_at u) ks) (pairs v) (those v)
+      (same_set_filter (λ u. holds v u c) (joins (lefts v) (rights v)) (joins (left_part v) (right_part v)) (same_set_joins (lefts v) (left_part v) (rights v) (right_part v) (s.tuples v) (t.tuples v)))))
+      (sublist_of_sublist _ _ _ part (sublist-map (picked ks) (joins (cells_of now l.rows) (cells_of now r.rows)) (joins (query_pattern (cells_in old db) a) (query_pattern (cells_in old db) b))
+      (sublist_joins (cells_of now l.rows) (query_pattern (cells_in old db) a) (cells_of now r.rows) (query_pattern (cells_in old db) b) s.part t.part)))
+      (rows_wider new (λ x. TermOfRows now (l.rows ++ r.rows) x ⊎ (IsNamed c x × IsNoColumn x)) (TermOfQuery old db whole) (λ x h. elim h [
+        | inl i ↦ of_both whole refl (λ x n. inr n) x i
+        | inr n ↦ inr (inl n.0, n.1)
+      ]) o.rows from)
+
   pub union_answers : (out : Result CTable TableError) → IfOk out (λ o. o.columns ≡ l.columns) → IfOk out (λ o. AreRows new (length l.columns) o.rows)
       → ((v : World) → IfOk out (λ o. SameSet (value_of_rows new v o.rows) (lefts v ++ rights v)))
       → IfOk out (λ o. IsSublist (cells_of new o.rows) (cells_of now l.rows ++ cells_of now r.rows))
@@ -156,3 +210,25 @@ module _ (old now new : List ℕ) (db : List TableView) (a b : PlainQuery) (l r 
       (λ v. same_set_on _ _ _ (tuples v) (same_set_within (lefts v) (left_part v) (rights v) (right_part v) (s.tuples v) (t.tuples v)))
       (sublist_of_sublist _ _ _ part s.part)
       (both_from (Intersect a b) refl (λ x n. n) o from)
+
+-- the condition that always holds leaves all rows
+all_kept : {A : Type 0} (xs : List A) → filter (λ x. true) xs ≡ xs
+all_kept [] = refl
+all_kept (x ∷ xs) = ap (λ l. x ∷ l) (all_kept xs)
+
+-- so it may be left out below a projection
+pub always_selected : (old new : List ℕ) (db : List TableView) (ks : List ℕ) (q : PlainQuery) (o : CTable) → Evaluates old new db (Project ks (Select True q)) o → Evaluates old new db (Project ks q) o
+always_selected old new db ks q o s = record {
+  names_are = s.names_are;
+  width_is = s.width_is;
+  are = s.are;
+  tuples = λ v. subst (λ l. SameSet (value_of_rows new v o.rows) (map (λ u. map (cell_at u) ks) l)) (all_kept (rows v q (value_of_tables old v db))) (s.tuples v);
+  part = s.part;
+  from = rows_wider new (TermOfQuery old db (Project ks (Select True q))) (TermOfQuery old db (Project ks q)) (λ x h. elim h [
+    | inl i ↦ inl (record { name = i.name; is_read = i.is_read; table = i.table; found = i.found; below = i.below })
+    | inr n ↦ elim n.0 [
+      | inl e ↦ absurd e
+      | inr m ↦ inr (m, n.1)
+    ]
+  ]) o.rows s.from;
+}

@@ -17,7 +17,7 @@ use Rattle.ct_algebra.specs.Terms.{TermOfQuery}
 
 -- the most rows, or pairs of rows, that a part of a query may go through
 abbrev pub limit : ℕ
-limit = 1048576
+limit = 16777216
 
 -- a table over the words now answers a query over tables of the words before: its columns have the names that the
 -- operators give them, as many as the query has columns, its rows are well formed, at every valuation it is worth what the query gives on what the tables are worth, its cells are, in order, among those that

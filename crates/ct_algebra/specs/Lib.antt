@@ -4,3 +4,7 @@ pub mod Terms
 pub mod Names
 pub mod Evaluates
 pub mod Words
+pub mod Equals
+pub mod Keyed
+pub mod Joining
+pub mod Picking

@@ -1,19 +1,227 @@
 // The answer to a query, one operator after another.
 
-ghost use Rattle.std.specs.Prelude.{◌≡◌, ◌+◌, length, map, IfOk, IsErrOf};
+ghost use Rattle.std.specs.Prelude.{◌≡◌, ◌≢◌, ◌↔◌, ℕ, ◌≤◌, ◌<◌, ◌+◌, ◌*◌, ◌^◌, ◌++◌, [], List, length, map, All, IfOk, IsErrOf, IsTrue};
 ghost use mathlib.Core.List.{IsPrefix};
-ghost use Rattle.ct_query.specs.Fits.{Fits};
+ghost use Rattle.ct_query.specs.Bounds.{ops};
+ghost use Rattle.ct_query.specs.Fits.{Fits, FitsRows};
+ghost use Rattle.ct_query.specs.Plain as plain;
+ghost use Rattle.ct_query.specs.Plain.{PlainQuery};
+ghost use Rattle.ct_query.specs.Pred.{condition_of};
+ghost use Rattle.ct_query.specs.Terms.{condition_terms, query_terms};
 ghost use Rattle.ct_query.specs.Views.{query_of};
-ghost use Rattle.ct_table.specs.Denotes.{heading_of};
+ghost use Rattle.ct_table.specs.Denotes.{TableView, heading_of};
+ghost use Rattle.ct_operators.specs.Tables.{AreRows};
 ghost use Rattle.ct_operators.specs.declared.error.TableError.TheVariants as fault;
 ghost use Rattle.ct_algebra.specs.Operands.{AreTables};
 ghost use Rattle.ct_algebra.specs.Evaluates.{Evaluates};
-ghost use Rattle.ct_algebra.specs.Words.{most_words, GrowsWithin, Answers};
+ghost use Rattle.ct_algebra.specs.Joining.{pair_words};
+ghost use Rattle.ct_algebra.specs.Words.{most_rows, most_words, GrowsWithin, Answers};
 
+use crate::joining::join;
+use crate::literals::put_literals;
+use crate::picking::join_picked;
 use ct_arena::{Arena, Pass, Site};
-use ct_query::Query;
+use ct_query::{Pred, Query};
 use ct_table::{CTable, Db, TableError, except, intersect, product, project, select, union};
 use std::alloc::Global;
+
+/// The rows of an answer for which a predicate holds. Where there are rows, its literals are put first.
+fn filtered<N: Site>(
+    alloc: Global,
+    arena: &Arena<N>,
+    pass: &mut Pass<N>,
+    p: &Pred,
+    table: CTable,
+) -> Result<CTable, TableError>
+    requires rows { AreRows pass.old.words (length table.columns) table.rows }
+    requires predicate { FitsRows (length table.columns) (condition_of p.now) }
+    ensures evaluates { (old : List ℕ) (db : List TableView) (q : PlainQuery) → Evaluates old pass.old.words db q table → IfOk result (Evaluates old pass.new.words db (plain.Select (condition_of p.now) q)) }
+    ensures grows { GrowsWithin result pass.old.words pass.new.words pass.old.made pass.new.made (condition_terms (condition_of p.now)) (length table.rows * (ops (condition_of p.now) + 1)) }
+    ensures longer { IsPrefix pass.old.words pass.new.words }
+    ensures full { IsErrOf result fault.Full → length pass.new.words ≡ N.log.cap }
+    ensures rises { pass.old.made ≤ pass.new.made }
+    ensures session { pass.new.session ≡ pass.old.session }
+    ensures mine { pass.new.mine ≡ pass.old.mine }
+{
+    if table.rows.is_empty() {
+        return Ok(table);
+    }
+    // The words are well formed, which keeps the rows as words are added.
+    let _ = pass.words();
+    put_literals(arena, pass, p)?;
+    select(alloc, arena, pass, p, &table)
+}
+
+/// Whether there are pairs of rows, and no more rows on the right than places in an index.
+fn have_pairs(left: &CTable, right: &CTable) -> bool
+    ensures few { IsTrue result → length right.now.rows < 2 ^ 32 }
+    ensures pairs { IsTrue result ↔ ((length right.now.rows < 2 ^ 32) × (length left.now.rows ≢ 0) × (length right.now.rows ≢ 0)) }
+{
+    let few = right.rows.len() as u64 <= u32::MAX as u64;
+    few && !left.rows.is_empty() && !right.rows.is_empty()
+}
+
+/// The pairs of rows of two answers for which a predicate holds, found in one pass. Its literals are put first.
+fn in_one_pass<N: Site>(
+    alloc: Global,
+    arena: &Arena<N>,
+    pass: &mut Pass<N>,
+    p: &Pred,
+    left: &CTable,
+    right: &CTable,
+) -> Result<CTable, TableError>
+    requires left { AreRows pass.old.words (length left.now.columns) left.now.rows }
+    requires right { AreRows pass.old.words (length right.now.columns) right.now.rows }
+    requires predicate { FitsRows (length left.now.columns + length right.now.columns) (condition_of p.now) }
+    requires few { length right.now.rows < 2 ^ 32 }
+    ensures evaluates { (old : List ℕ) (db : List TableView) (a b : PlainQuery) → Evaluates old pass.old.words db a left.now → Evaluates old pass.old.words db b right.now → IfOk result (Evaluates old pass.new.words db (plain.Select (condition_of p.now) (plain.Product a b))) }
+    ensures grows { GrowsWithin result pass.old.words pass.new.words pass.old.made pass.new.made (condition_terms (condition_of p.now)) (length left.now.rows * length right.now.rows + length left.now.rows * length right.now.rows * (ops (condition_of p.now) + 1)) }
+    ensures longer { IsPrefix pass.old.words pass.new.words }
+    ensures full { IsErrOf result fault.Full → length pass.new.words ≡ N.log.cap }
+    ensures rises { pass.old.made ≤ pass.new.made }
+    ensures session { pass.new.session ≡ pass.old.session }
+    ensures mine { pass.new.mine ≡ pass.old.mine }
+{
+    // The words are well formed, which keeps the rows as words are added.
+    let _ = pass.words();
+    put_literals(arena, pass, p)?;
+    join(alloc, arena, pass, p, left, right)
+}
+
+/// The same, of all pairs.
+fn of_all_pairs<N: Site>(
+    alloc: Global,
+    arena: &Arena<N>,
+    pass: &mut Pass<N>,
+    p: &Pred,
+    left: &CTable,
+    right: &CTable,
+) -> Result<CTable, TableError>
+    requires left { AreRows pass.old.words (length left.now.columns) left.now.rows }
+    requires right { AreRows pass.old.words (length right.now.columns) right.now.rows }
+    requires predicate { FitsRows (length left.now.columns + length right.now.columns) (condition_of p.now) }
+    ensures evaluates { (old : List ℕ) (db : List TableView) (a b : PlainQuery) → Evaluates old pass.old.words db a left.now → Evaluates old pass.old.words db b right.now → IfOk result (Evaluates old pass.new.words db (plain.Select (condition_of p.now) (plain.Product a b))) }
+    ensures grows { GrowsWithin result pass.old.words pass.new.words pass.old.made pass.new.made (condition_terms (condition_of p.now)) (length left.now.rows * length right.now.rows + length left.now.rows * length right.now.rows * (ops (condition_of p.now) + 1)) }
+    ensures longer { IsPrefix pass.old.words pass.new.words }
+    ensures full { IsErrOf result fault.Full → length pass.new.words ≡ N.log.cap }
+    ensures rises { pass.old.made ≤ pass.new.made }
+    ensures session { pass.new.session ≡ pass.old.session }
+    ensures mine { pass.new.mine ≡ pass.old.mine }
+{
+    let pairs = product(alloc, arena, pass, left, right)?;
+    filtered(alloc, arena, pass, p, pairs)
+}
+
+/// The same, in one pass where there are pairs.
+fn joined<N: Site>(
+    alloc: Global,
+    arena: &Arena<N>,
+    pass: &mut Pass<N>,
+    p: &Pred,
+    left: &CTable,
+    right: &CTable,
+) -> Result<CTable, TableError>
+    requires left { AreRows pass.old.words (length left.now.columns) left.now.rows }
+    requires right { AreRows pass.old.words (length right.now.columns) right.now.rows }
+    requires predicate { FitsRows (length left.now.columns + length right.now.columns) (condition_of p.now) }
+    ensures evaluates { (old : List ℕ) (db : List TableView) (a b : PlainQuery) → Evaluates old pass.old.words db a left.now → Evaluates old pass.old.words db b right.now → IfOk result (Evaluates old pass.new.words db (plain.Select (condition_of p.now) (plain.Product a b))) }
+    ensures grows { GrowsWithin result pass.old.words pass.new.words pass.old.made pass.new.made (condition_terms (condition_of p.now)) (length left.now.rows * length right.now.rows + length left.now.rows * length right.now.rows * (ops (condition_of p.now) + 1)) }
+    ensures longer { IsPrefix pass.old.words pass.new.words }
+    ensures full { IsErrOf result fault.Full → length pass.new.words ≡ N.log.cap }
+    ensures rises { pass.old.made ≤ pass.new.made }
+    ensures session { pass.new.session ≡ pass.old.session }
+    ensures mine { pass.new.mine ≡ pass.old.mine }
+{
+    if have_pairs(left, right) {
+        return in_one_pass(alloc, arena, pass, p, left, right);
+    }
+    of_all_pairs(alloc, arena, pass, p, left, right)
+}
+
+/// Some columns of the pairs of rows of two answers for which a predicate holds, gathered as they come. Its literals
+/// are put first.
+fn picked_in_one_pass<N: Site>(
+    alloc: Global,
+    arena: &Arena<N>,
+    pass: &mut Pass<N>,
+    columns: &[u32],
+    p: &Pred,
+    left: &CTable,
+    right: &CTable,
+) -> Result<CTable, TableError>
+    requires left { AreRows pass.old.words (length left.now.columns) left.now.rows }
+    requires right { AreRows pass.old.words (length right.now.columns) right.now.rows }
+    requires columns { All (λ k. k < length left.now.columns + length right.now.columns) columns.now }
+    requires predicate { FitsRows (length left.now.columns + length right.now.columns) (condition_of p.now) }
+    requires few { length right.now.rows < 2 ^ 32 }
+    ensures evaluates { (old : List ℕ) (db : List TableView) (a b : PlainQuery) → Evaluates old pass.old.words db a left.now → Evaluates old pass.old.words db b right.now → IfOk result (Evaluates old pass.new.words db (plain.Project columns.now (plain.Select (condition_of p.now) (plain.Product a b)))) }
+    ensures grows { GrowsWithin result pass.old.words pass.new.words pass.old.made pass.new.made (condition_terms (condition_of p.now)) (length left.now.rows * length right.now.rows * (pair_words (condition_of p.now) + 1)) }
+    ensures longer { IsPrefix pass.old.words pass.new.words }
+    ensures full { IsErrOf result fault.Full → length pass.new.words ≡ N.log.cap }
+    ensures rises { pass.old.made ≤ pass.new.made }
+    ensures session { pass.new.session ≡ pass.old.session }
+    ensures mine { pass.new.mine ≡ pass.old.mine }
+{
+    // The words are well formed, which keeps the rows as words are added.
+    let _ = pass.words();
+    put_literals(arena, pass, p)?;
+    join_picked(alloc, arena, pass, columns, p, left, right)
+}
+
+/// The same, in one pass where there are pairs.
+fn picked_join<N: Site>(
+    alloc: Global,
+    arena: &Arena<N>,
+    pass: &mut Pass<N>,
+    columns: &[u32],
+    p: &Pred,
+    left: &CTable,
+    right: &CTable,
+) -> Result<CTable, TableError>
+    requires sides { (old : List ℕ) × (db : List TableView) × (a : PlainQuery) × (b : PlainQuery) × Evaluates old pass.old.words db a left.now × Evaluates old pass.old.words db b right.now }
+    requires columns { All (λ k. k < length left.now.columns + length right.now.columns) columns.now }
+    requires predicate { FitsRows (length left.now.columns + length right.now.columns) (condition_of p.now) }
+    ensures evaluates { (old : List ℕ) (db : List TableView) (a b : PlainQuery) → Evaluates old pass.old.words db a left.now → Evaluates old pass.old.words db b right.now → IfOk result (Evaluates old pass.new.words db (plain.Project columns.now (plain.Select (condition_of p.now) (plain.Product a b)))) }
+    ensures grows { (old : List ℕ) (db : List TableView) (a b : PlainQuery) → Evaluates old pass.old.words db a left.now → Evaluates old pass.old.words db b right.now → GrowsWithin result pass.old.words pass.new.words pass.old.made pass.new.made (condition_terms (condition_of p.now)) (most_rows db a * most_rows db b + most_rows db a * most_rows db b * (ops (condition_of p.now) + 1) + most_rows db a * most_rows db b) }
+    ensures longer { IsPrefix pass.old.words pass.new.words }
+    ensures full { IsErrOf result fault.Full → length pass.new.words ≡ N.log.cap }
+    ensures rises { pass.old.made ≤ pass.new.made }
+    ensures session { pass.new.session ≡ pass.old.session }
+    ensures mine { pass.new.mine ≡ pass.old.mine }
+{
+    if have_pairs(left, right) {
+        return picked_in_one_pass(alloc, arena, pass, columns, p, left, right);
+    }
+    let pairs = of_all_pairs(alloc, arena, pass, p, left, right)?;
+    project(alloc, arena, pass, columns, &pairs)
+}
+
+/// Some columns of all pairs of rows of two answers, in one pass where there are pairs.
+fn picked_product<N: Site>(
+    alloc: Global,
+    arena: &Arena<N>,
+    pass: &mut Pass<N>,
+    columns: &[u32],
+    left: &CTable,
+    right: &CTable,
+) -> Result<CTable, TableError>
+    requires left { AreRows pass.old.words (length left.now.columns) left.now.rows }
+    requires right { AreRows pass.old.words (length right.now.columns) right.now.rows }
+    requires columns { All (λ k. k < length left.now.columns + length right.now.columns) columns.now }
+    ensures evaluates { (old : List ℕ) (db : List TableView) (a b : PlainQuery) → Evaluates old pass.old.words db a left.now → Evaluates old pass.old.words db b right.now → IfOk result (Evaluates old pass.new.words db (plain.Project columns.now (plain.Product a b))) }
+    ensures grows { (old : List ℕ) (db : List TableView) (a b : PlainQuery) → Evaluates old pass.old.words db a left.now → Evaluates old pass.old.words db b right.now → GrowsWithin result pass.old.words pass.new.words pass.old.made pass.new.made [] (most_rows db a * most_rows db b + most_rows db a * most_rows db b) }
+    ensures longer { IsPrefix pass.old.words pass.new.words }
+    ensures full { IsErrOf result fault.Full → length pass.new.words ≡ N.log.cap }
+    ensures rises { pass.old.made ≤ pass.new.made }
+    ensures session { pass.new.session ≡ pass.old.session }
+    ensures mine { pass.new.mine ≡ pass.old.mine }
+{
+    if have_pairs(left, right) {
+        return picked_in_one_pass(alloc, arena, pass, columns, &Pred::True, left, right);
+    }
+    let pairs = product(alloc, arena, pass, left, right)?;
+    project(alloc, arena, pass, columns, &pairs)
+}
 
 /// The answers to both parts of a query.
 #[cycle(answer)]
@@ -32,7 +240,8 @@ fn sides<N: Site>(
     ensures right { IfOk result (λ t. Evaluates pass.old.words pass.new.words db.now (query_of right.now) t.1) }
     ensures longer { IsPrefix pass.old.words pass.new.words }
     ensures full { IsErrOf result fault.Full → length pass.new.words ≡ N.log.cap }
-    ensures made { GrowsWithin result pass.old.made pass.new.made (most_words db.now (query_of left.now) + most_words db.now (query_of right.now)) }
+    ensures grows { GrowsWithin result pass.old.words pass.new.words pass.old.made pass.new.made (query_terms (query_of left.now) ++ query_terms (query_of right.now)) (most_words db.now (query_of left.now) + most_words db.now (query_of right.now)) }
+    ensures rises { pass.old.made ≤ pass.new.made }
     ensures session { pass.new.session ≡ pass.old.session }
     ensures mine { pass.new.mine ≡ pass.old.mine }
 {
@@ -44,7 +253,117 @@ fn sides<N: Site>(
     Ok((one, other))
 }
 
-/// The table that answers a query over the tables of a database. A product is made whole.
+/// The table that answers a selection, by the rows of its part.
+#[cycle(answer)]
+fn selected_rows<N: Site>(
+    alloc: Global,
+    arena: &Arena<N>,
+    pass: &mut Pass<N>,
+    p: &Pred,
+    part: &Query,
+    db: &Db,
+) -> Result<CTable, TableError>
+    requires tables { AreTables pass.old.words db.now }
+    requires fits { Fits (map heading_of db.now) (plain.Select (condition_of p.now) (query_of part.now)) }
+    ensures answers { Answers pass.old.words pass.new.words db.now (plain.Select (condition_of p.now) (query_of part.now)) pass.old.made pass.new.made result }
+    ensures longer { IsPrefix pass.old.words pass.new.words }
+    ensures full { IsErrOf result fault.Full → length pass.new.words ≡ N.log.cap }
+    ensures rises { pass.old.made ≤ pass.new.made }
+    ensures session { pass.new.session ≡ pass.old.session }
+    ensures mine { pass.new.mine ≡ pass.old.mine }
+{
+    let table = answer(alloc, arena, pass, part, db)?;
+    filtered(alloc, arena, pass, p, table)
+}
+
+/// The table that answers a selection. That of a product is one pass over its pairs.
+#[cycle(answer)]
+fn selected<N: Site>(
+    alloc: Global,
+    arena: &Arena<N>,
+    pass: &mut Pass<N>,
+    p: &Pred,
+    part: &Query,
+    db: &Db,
+) -> Result<CTable, TableError>
+    requires tables { AreTables pass.old.words db.now }
+    requires fits { Fits (map heading_of db.now) (plain.Select (condition_of p.now) (query_of part.now)) }
+    ensures answers { Answers pass.old.words pass.new.words db.now (plain.Select (condition_of p.now) (query_of part.now)) pass.old.made pass.new.made result }
+    ensures longer { IsPrefix pass.old.words pass.new.words }
+    ensures full { IsErrOf result fault.Full → length pass.new.words ≡ N.log.cap }
+    ensures rises { pass.old.made ≤ pass.new.made }
+    ensures session { pass.new.session ≡ pass.old.session }
+    ensures mine { pass.new.mine ≡ pass.old.mine }
+{
+    match part {
+        Query::Product(left, right) => {
+            let (left, right) = sides(alloc, arena, pass, left, right, db)?;
+            joined(alloc, arena, pass, p, &left, &right)
+        }
+        _ => selected_rows(alloc, arena, pass, p, part, db),
+    }
+}
+
+/// The table that answers a projection, by the rows of its part.
+#[cycle(answer)]
+fn projected_rows<N: Site>(
+    alloc: Global,
+    arena: &Arena<N>,
+    pass: &mut Pass<N>,
+    columns: &[u32],
+    part: &Query,
+    db: &Db,
+) -> Result<CTable, TableError>
+    requires tables { AreTables pass.old.words db.now }
+    requires fits { Fits (map heading_of db.now) (plain.Project columns.now (query_of part.now)) }
+    ensures answers { Answers pass.old.words pass.new.words db.now (plain.Project columns.now (query_of part.now)) pass.old.made pass.new.made result }
+    ensures longer { IsPrefix pass.old.words pass.new.words }
+    ensures full { IsErrOf result fault.Full → length pass.new.words ≡ N.log.cap }
+    ensures rises { pass.old.made ≤ pass.new.made }
+    ensures session { pass.new.session ≡ pass.old.session }
+    ensures mine { pass.new.mine ≡ pass.old.mine }
+{
+    let table = answer(alloc, arena, pass, part, db)?;
+    project(alloc, arena, pass, columns, &table)
+}
+
+/// The table that answers a projection. That of a product, or of a selection of one, takes the pairs as they come.
+#[cycle(answer)]
+fn projected<N: Site>(
+    alloc: Global,
+    arena: &Arena<N>,
+    pass: &mut Pass<N>,
+    columns: &[u32],
+    part: &Query,
+    db: &Db,
+) -> Result<CTable, TableError>
+    requires tables { AreTables pass.old.words db.now }
+    requires fits { Fits (map heading_of db.now) (plain.Project columns.now (query_of part.now)) }
+    ensures answers { Answers pass.old.words pass.new.words db.now (plain.Project columns.now (query_of part.now)) pass.old.made pass.new.made result }
+    ensures longer { IsPrefix pass.old.words pass.new.words }
+    ensures full { IsErrOf result fault.Full → length pass.new.words ≡ N.log.cap }
+    ensures rises { pass.old.made ≤ pass.new.made }
+    ensures session { pass.new.session ≡ pass.old.session }
+    ensures mine { pass.new.mine ≡ pass.old.mine }
+{
+    match part {
+        Query::Product(left, right) => {
+            let (left, right) = sides(alloc, arena, pass, left, right, db)?;
+            picked_product(alloc, arena, pass, columns, &left, &right)
+        }
+        Query::Select(p, inner) => match &**inner {
+            Query::Product(left, right) => {
+                let (left, right) = sides(alloc, arena, pass, left, right, db)?;
+                picked_join(alloc, arena, pass, columns, p, &left, &right)
+            }
+            _ => projected_rows(alloc, arena, pass, columns, part, db),
+        },
+        _ => projected_rows(alloc, arena, pass, columns, part, db),
+    }
+}
+
+/// The table that answers a query over the tables of a database. A product is made whole where neither a selection nor a
+/// projection is above it.
 ///
 /// # Errors
 /// `Full` where the log has no room for a word, `Memory` where there is none for the rows.
@@ -61,18 +380,15 @@ pub(crate) fn answer<N: Site>(
     ensures answers { Answers pass.old.words pass.new.words db.now (query_of query.now) pass.old.made pass.new.made result }
     ensures longer { IsPrefix pass.old.words pass.new.words }
     ensures full { IsErrOf result fault.Full → length pass.new.words ≡ N.log.cap }
+    ensures rises { pass.old.made ≤ pass.new.made }
     ensures session { pass.new.session ≡ pass.old.session }
     ensures mine { pass.new.mine ≡ pass.old.mine }
 {
     match query {
         Query::Table(name) => Ok(db.get(name).unwrap().copied(alloc)?),
-        Query::Select(p, inner) => {
-            let table = answer(alloc, arena, pass, inner, db)?;
-            select(alloc, arena, pass, p, &table)
-        }
+        Query::Select(p, inner) => selected(alloc, arena, pass, p, inner, db),
         Query::Project(columns, inner) => {
-            let table = answer(alloc, arena, pass, inner, db)?;
-            project(alloc, arena, pass, columns.as_slice(), &table)
+            projected(alloc, arena, pass, columns.as_slice(), inner, db)
         }
         Query::Product(left, right) => {
             let (left, right) = sides(alloc, arena, pass, left, right, db)?;

@@ -11,7 +11,7 @@ use thiserror::Error;
 /// Why a query has no answer.
 #[derive(Clone, Copy, Debug, PartialEq, Eq, Error)]
 pub enum EvalError {
-    /// A part of the query goes through more than 1,048,576 rows or pairs of rows.
+    /// A part of the query goes through more than 16,777,216 rows or pairs of rows.
     #[error("the query is too large")]
     TooLarge,
     /// The log has as many words as its capacity.

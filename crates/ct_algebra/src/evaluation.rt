@@ -1,6 +1,6 @@
 // The evaluation of a query.
 
-ghost use Rattle.std.specs.Prelude.{◌≡◌, ◌≤◌, ◌<◌, ◌+◌, ◌⊎◌, length, map, IfOk, IsErrOf};
+ghost use Rattle.std.specs.Prelude.{◌≡◌, ◌≤◌, ◌<◌, ◌+◌, ◌^◌, ◌⊎◌, length, map, IfOk, IsErrOf};
 ghost use mathlib.Core.List.{IsPrefix};
 ghost use Rattle.ct_word.specs.Value.{World};
 ghost use Rattle.ct_word.specs.Sublist.{IsSublist};
@@ -12,34 +12,74 @@ ghost use Rattle.ct_query.specs.Rows.{rows};
 ghost use Rattle.ct_query.specs.Size as spec;
 ghost use Rattle.ct_query.specs.Size.{rows_in};
 ghost use Rattle.ct_query.specs.Views.{query_of};
+ghost use Rattle.ct_plan.specs.Planned.{planned};
+ghost use Rattle.ct_plan.specs.Replaces.{Replaces};
 ghost use Rattle.ct_operators.specs.Tables.{AreRows, cells_of, value_of_rows};
 ghost use Rattle.ct_table.specs.Counting.{count_of};
 ghost use Rattle.ct_table.specs.Denotes.{heading_of, value_of_tables};
 ghost use Rattle.ct_operators.specs.Terms.{RowsFrom};
 ghost use Rattle.ct_algebra.specs.Operands.{AreTables, cells_in};
-ghost use Rattle.ct_algebra.specs.Evaluates.{limit};
+ghost use Rattle.ct_algebra.specs.Evaluates.{limit, Evaluates};
 ghost use Rattle.ct_algebra.specs.Names.{names};
 ghost use Rattle.ct_algebra.specs.Terms.{TermOfQuery};
+ghost use Rattle.ct_algebra.specs.Words.{MakesWithin};
 ghost use Rattle.ct_algebra.specs.declared.error.EvalError.TheVariants as fault;
+ghost use Rattle.ct_operators.specs.declared.error.TableError.TheVariants as refusal;
 
 use crate::answering::answer;
 use crate::error::EvalError;
 use ct_arena::{Arena, Pass, Site};
+use ct_plan::{copied, plan};
 use ct_query::{Query, size};
-use ct_table::{CTable, Db};
+use ct_table::{CTable, Db, TableError};
+use ct_word::Memory;
 use std::alloc::Global;
 
 /// The most rows, or pairs of rows, that a part of a query may go through.
-const LIMIT: u64 = 1_048_576;
+const LIMIT: u64 = 16_777_216;
+
+/// The query that is evaluated in place of this one: it as it is planned, with the conjuncts of its selections where the
+/// tables that they are about are.
+fn in_place(alloc: Global, q: &Query, db: &Db) -> Result<Query, Memory>
+    requires { Fits (map heading_of db.now) (query_of q.now) }
+    ensures replaces { IfOk result (λ p. Replaces (map heading_of db.now) (query_of q.now) (query_of p)) }
+    ensures is_planned { IfOk result (λ p. query_of p ≡ planned (map heading_of db.now) (query_of q.now)) }
+{
+    let copy = copied(alloc, q)?;
+    plan(alloc, copy, db.headings())
+}
+
+/// The table that answers a query.
+fn planned_answer<N: Site>(
+    alloc: Global,
+    arena: &Arena<N>,
+    pass: &mut Pass<N>,
+    q: &Query,
+    db: &Db,
+) -> Result<CTable, TableError>
+    requires tables { AreTables pass.old.words db.now }
+    requires fits { Fits (map heading_of db.now) (query_of q.now) }
+    ensures evaluates { IfOk result (Evaluates pass.old.words pass.new.words db.now (query_of q.now)) }
+    ensures makes { pass.new.made < 2 ^ 28 → MakesWithin result pass.old.made pass.new.made (nodes (rows_in (map count_of db.now)) (query_of q.now)) }
+    ensures longer { IsPrefix pass.old.words pass.new.words }
+    ensures full { IsErrOf result refusal.Full → length pass.new.words ≡ N.log.cap }
+    ensures rises { pass.old.made ≤ pass.new.made }
+    ensures session { pass.new.session ≡ pass.old.session }
+    ensures mine { pass.new.mine ≡ pass.old.mine }
+{
+    // A planned query makes no pairs that its selections would leave out.
+    let planned = in_place(alloc, q, db)?;
+    answer(alloc, arena, pass, &planned, db)
+}
 
 /// The table that answers a query over the tables of a database: at every valuation it is worth what the query gives
 /// on what these tables are worth (Imielinski and Lipski 1984). Its columns have the names that the operators give
 /// them: those of the left side, of both sides of a product, or the ones that a projection picks.
 ///
 /// # Errors
-/// `TooLarge` exactly where a part of the query goes through more than 1,048,576 rows or pairs of rows, by the numbers
-/// of rows of the tables; no word is appended then. `Full` where the log has no room for a word, `Memory` where there
-/// is none for the rows.
+/// `TooLarge` exactly where a part of the query goes through more than 16,777,216 rows or pairs of rows, by the numbers
+/// of rows of the tables, in the query as it is given; no word is appended then. `Full` where the log has no room for a
+/// word, `Memory` where there is none for the planned query or the rows.
 pub fn eval<N: Site>(
     alloc: Global,
     arena: &Arena<N>,
@@ -58,6 +98,7 @@ pub fn eval<N: Site>(
     ensures longer { IsPrefix pass.old.words pass.new.words }
     ensures room { length pass.new.words ≤ N.log.cap }
     ensures full { IsErrOf result fault.Full → length pass.new.words ≡ N.log.cap }
+    ensures rises { pass.old.made ≤ pass.new.made }
     ensures made { pass.new.made ≤ pass.old.made + nodes (rows_in (map count_of db.now)) (query_of q.now) }
     ensures fewer { IsErrOf result fault.Full → pass.new.made < pass.old.made + nodes (rows_in (map count_of db.now)) (query_of q.now) }
     ensures session { pass.new.session ≡ pass.old.session }
@@ -70,11 +111,11 @@ pub fn eval<N: Site>(
 {
     // The words are within the capacity, also where memory is wanting.
     let _ = pass.words();
-    let counts = db.counts(alloc)?;
+    let counts = db.counts_of(alloc, q)?;
     if size(q, &counts) > LIMIT {
         return Err(EvalError::TooLarge);
     }
-    let answered = answer(alloc, arena, pass, q, db);
+    let answered = planned_answer(alloc, arena, pass, q, db);
     let _ = pass.words();
     Ok(answered?)
 }

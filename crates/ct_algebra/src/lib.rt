@@ -2,8 +2,13 @@
 #![tactic(auto)]
 
 mod answering;
+mod equals;
 mod error;
 mod evaluation;
+mod joining;
+mod keys;
+mod literals;
+mod picking;
 
 pub use ct_table::Db;
 pub use error::EvalError;

@@ -1,9 +1,9 @@
 -- Questions and their answers.
-use Rattle.std.proofs.Common.{◌≡◌, ℕ, ◌&&◌, true, List, [], ◌∷◌, map, refl, ap, sym, subst, ◌∙◌, inl, inr, arith}
+use Rattle.std.proofs.Common.{◌≡◌, ℕ, Bool, ◌&&◌, true, List, [], ◌∷◌, map, refl, ap, sym, subst, ◌∙◌, inl, inr, arith}
 use Rattle.std.{specs.Prelude.{◌⊎◌, All, Contains, Some, None}, proofs.lemmas.Bool.and_from}
 use Rattle.std.proofs.lemmas.List.Elements.{All-contains, All-contains_itself, All-from_recursion, All-weaker}
 use Rattle.ct_word.{specs.declared.values.CRow.CRow, specs.declared.values.Null.Null, specs.Value.{World, value_of_null}, specs.Condition.{holds, holds_at}}
-use Rattle.ct_word.{specs.Reading.condition_at, specs.Stands.{HasNoColumn, TermBelow}, specs.WellFormed.IsWellFormed, proofs.Prefixes.{condition_in_prefix, place_within}}
+use Rattle.ct_word.{specs.Reading.condition_at, specs.Stands.{HasNoColumn, TermBelow}, specs.WellFormed.IsWellFormed, proofs.Prefixes.{condition_in_prefix, place_in_prefix, place_within}}
 use Rattle.ct_word.proofs.Items.{first_item, later_item, mapped_item, item_cases, sole_item, unmapped_item}
 use Rattle.ct_derivation.{specs.Accepts.Accepts, proofs.Sound.root_refuted}
 use Rattle.ct_condition.{specs.Truth.{HasTruth, and_at}, specs.Terms.{TermsFrom, BelowEither}, proofs.Reached.{either_before, terms_before}}
@@ -12,7 +12,7 @@ use Rattle.ct_near.specs.{Conjuncts.AreBeside, Near.{IsNullNear, IsRepairedNear}
 use Rattle.ct_decide.specs.{Decided.{DecisionNear, DecisionOf}, declared.deciding.Decision.Decision}
 use Rattle.ct_rewrite.specs.Tidy.{IsTidy}
 use Rattle.ct_tidy.proofs.Ordered.{listed_by}
-use Rattle.ct_certain.{specs.Answered.{AreOf, IsAnswer, IsFound, IsSettled, IsSettledOwn, IsWithin}, specs.Possible.is_shown}
+use Rattle.ct_certain.{specs.Answered.{AreOf, Asks, IsAnswer, IsFound, IsSettled, IsSettledOwn, IsWithin}, specs.Possible.is_shown}
 use Rattle.ct_certain.proofs.Agreed.{truth_agreed}
 use mathlib.Core.List.{IsPrefix}
 use Rattle.ct_word.specs.declared.kinds.Class.TheVariants as class
@@ -22,11 +22,11 @@ use Rattle.ct_decide.specs.declared.deciding.Decision.TheVariants as decision
 -- a world put into order
 module _ (found world : World) (same : (n : Null) → value_of_null world n ≡ value_of_null found n) where
   -- a condition that holds at it holds at the one in order
-  in_order : (words : List ℕ) (root : ℕ) → holds_at found (condition_at words root) ≡ true → holds_at world (condition_at words root) ≡ true
+  pub in_order : (words : List ℕ) (root : ℕ) → holds_at found (condition_at words root) ≡ true → holds_at world (condition_at words root) ≡ true
   in_order words root holds = truth_agreed world found [] (condition_at words root) (λ n h. same n) ∙ holds
 
   -- what its nulls are, those of the one in order are
-  nulls_in_order : (P : Null → Type 0) → IsTidy world → All (λ p. P p.0) found → All (λ p. P p.0) world
+  pub nulls_in_order : (P : Null → Type 0) → IsTidy world → All (λ p. P p.0) found → All (λ p. P p.0) world
   nulls_in_order P tidy all = All-weaker (Contains world) (λ p. P p.0) (λ p h.
       let q = unmapped_item (λ r. r.0) found p.0 (listed_by found world tidy same p.0 (mapped_item (λ r. r.0) world p h)) in
       subst P q.2 (All-contains (λ r. P r.0) found q.0 all q.1)) world (All-contains_itself world)
@@ -84,6 +84,16 @@ settled_near words root near (decision.Refuted d) is = is
 -- a world that was made so that a condition and those beside it hold
 pub beside_holds : (words : List ℕ) (root one : ℕ) (own : List ℕ) (near v : World) → AreBeside words root one own → IsRepairedNear words (one ∷ own) near v → holds_at v (condition_at words root) ≡ true
 beside_holds words root one own near v beside made = beside.enough v (made.holds one (first_item own one)) (λ p h. made.holds p (later_item own one p h))
+
+-- a root, as words are added
+pub asks_later : (old new : List ℕ) → IsPrefix old new → IsWellFormed new → (root : ℕ) (test : World → Bool) → Asks old root test → Asks new root test
+asks_later old new longer formed root test is =
+    let lt = place_within old class.Cond root is.class in
+    record {
+      class = place_in_prefix old new class.Cond root longer is.class;
+      plain = λ k h. is.plain k (terms_before old new longer formed root (term.Column k) lt h);
+      holds = λ v. ap (holds_at v) (condition_in_prefix old new root longer lt) ∙ is.holds v;
+    }
 
 -- the root of the question whether a row is shown, put by words after these
 module _ (words old new : List ℕ) (grown : IsPrefix words old) (formed : IsWellFormed old) (global : ℕ) (r : CRow) (are : AreOf words global r) (root : ℕ) where

@@ -1,6 +1,6 @@
 -- The tuples that rows are worth at a kept world: how many there are, and which values they have.
 use Rattle.std.proofs.Common.{◌≡◌, ◌≤◌, ℕ, zero, suc, Bool, true, false, List, [], ◌∷◌, ◌++◌, map, length, refl, ap, sym, subst, ◌∙◌, arith, inl, inr, if◌then◌else◌}
-use Rattle.std.{specs.Prelude.{◌&&◌, ◌||◌, All, IsTrue, filter}, specs.List.{IsDistinct, list_any}, specs.Cmp.IsEquivalence, proofs.lemmas.Bool.false≢true}
+use Rattle.std.{specs.Prelude.{◌&&◌, ◌||◌, not, All, IsTrue, filter}, specs.List.{IsDistinct, list_any}, specs.Cmp.IsEquivalence, proofs.lemmas.Bool.{and_from, and_parts, false≢true}}
 use Rattle.std.{proofs.lemmas.Bool.Decides.same_from_decides, specs.Cmp.Lexicographic.pointwise}
 use Rattle.std.proofs.lemmas.List.Elements.{All-head, All-tail, All-nil, All-cons, All-weaker}
 use Rattle.indexmap.specs.IndexSet.{insert_key}
@@ -8,16 +8,16 @@ use Rattle.ct_word.{specs.declared.values.Value.Value, specs.declared.values.Nul
 use Rattle.ct_word.{specs.Value.{World, at, cell_at, other_zero, same_null, same_tuple, same_value, tuple_at, value_of_null}, specs.Condition.holds_at}
 use Rattle.ct_word.{specs.Reading.{IsTerm, condition_at, plain_crow, term_at}, specs.Stands.{HasNoColumn, StandsAt}, proofs.Alike.tuple_decides}
 use Rattle.ct_word.{specs.WellFormed.{IsWellFormed, is_place_of}, specs.Sublist.{IsSublist, ended, left_out, taken}, proofs.Places.stands_term}
-use Rattle.ct_word.proofs.Prefixes.{prefix_of_prefix, prefix_same}
+use Rattle.ct_word.proofs.Prefixes.{place_in_prefix, place_within, prefix_of_prefix, prefix_same}
 use Rattle.ct_arena.specs.Counts.{opening}
-use Rattle.ct_condition.proofs.Placed.{place_from}
+use Rattle.ct_condition.proofs.{Placed.place_from, Reached.terms_before}
 use Rattle.ct_equality.specs.Valued.{IsNumbered}
 use Rattle.ct_operators.{specs.Tables.{AreRows, IsRow, firsts, value_of_rows}, proofs.Firsts.{any_first, firsts_known, firsts_long, firsts_new, firsts_part}}
-use Rattle.ct_operators.proofs.Holding.{holds_false}
+use Rattle.ct_operators.proofs.{Growing.rows_grow, Holding.holds_false}
 use Rattle.ct_query.specs.Database.{has_tuple}
 use Rattle.ct_rewrite.proofs.Nodes.{term_compared}
-use Rattle.ct_certain.{specs.declared.striking.Seen.Seen, specs.Certain.{IsInAll, IsKeptWorld}, specs.Missing.{IsAskedOf, IsAtHand, IsSeen}}
-use Rattle.ct_certain.proofs.Missing.{one_or_none, one_row}
+use Rattle.ct_certain.{specs.declared.striking.Seen.Seen, specs.Certain.{IsInAll, IsKeptWorld, IsMissed}, specs.Missing.{IsAskedOf, IsAtHand, IsSeen, is_in_each}}
+use Rattle.ct_certain.proofs.{Missing.{one_or_none, one_row}, Values.at_hand_grows}
 use mathlib.Core.List.{IsPrefix}
 use Rattle.ct_word.specs.declared.kinds.Class.TheVariants as class
 use Rattle.ct_word.specs.declared.values.Term.TheVariants as term
@@ -104,6 +104,19 @@ asked_later words old new global width rs tuple longer is = record {
   values = is.values;
 }
 
+-- as the words that it is asked over
+pub asked_now : (words now : List ℕ) (global width : ℕ) (rs : List CRow) (tuple : List Value) → IsWellFormed now → IsAskedOf words now global width rs tuple → IsAskedOf now now global width rs tuple
+asked_now words now global width rs tuple formed is = record {
+  formed = formed;
+  grown = prefix_same now;
+  global_is = place_in_prefix words now class.Cond global is.grown is.global_is;
+  global_plain = λ k h. is.global_plain k (terms_before words now is.grown formed global (term.Column k) (place_within words class.Cond global is.global_is) h);
+  not_false = is.not_false;
+  rows = rows_grow words now is.grown is.formed width rs is.rows;
+  width_is = is.width_is;
+  values = All-weaker (IsAtHand words) (IsAtHand now) (λ x. at_hand_grows words now x is.grown) tuple is.values;
+}
+
 -- a row that is worth no tuple, and one that is worth its own
 pub worth_none : (words : List ℕ) (v : World) (r : CRow) (ts : List (List Value)) → false ≡ holds_at v (condition_at words r.cond) → ts ≡ ts ++ value_of_rows words v (r ∷ [])
 worth_none words v r ts e = sym (append_none ts) ∙ ap (λ l. ts ++ l) (ap (λ b. one_or_none b (tuple_at v (map (term_at words) r.cells))) e ∙ sym (one_row v words r))
@@ -159,12 +172,34 @@ part_all P ended all = all
 part_all P (left_out {y = y} {ys = ys} s) all = part_all P s (All-tail P y ys all)
 part_all P (taken {x = x} {xs = xs} {ys = ys} s) all = All-cons P x xs (All-head P x ys all) (part_all P s (All-tail P x ys all))
 
-pub first_all : (P : List Value → Type 0) (ts : List (List Value)) → All P ts → All P (firsts same_tuple ts)
+first_all : (P : List Value → Type 0) (ts : List (List Value)) → All P ts → All P (firsts same_tuple ts)
 first_all P ts all = part_all P (firsts_part same_tuple ts) all
 
-pub first_fewer : (ts : List (List Value)) → length (firsts same_tuple ts) ≤ length ts
+first_fewer : (ts : List (List Value)) → length (firsts same_tuple ts) ≤ length ts
 first_fewer ts = let le = (firsts_long same_tuple tuple_equiv [] ts).1 in omega (arith, le)
 
--- a tuple that one world lacks is not certain
-pub lacking : (words : List ℕ) (global : ℕ) (rs : List CRow) (s : Seen) (t : List Value) → IsSeen words global rs s → false ≡ has_tuple s.tuples.keys t → IsInAll words global rs t → ⊥
-lacking words global rs s t is lacks all = false≢true (lacks ∙ is.tuples t ∙ all is.world is.holds)
+-- the tuples that stand first are no more than the rows, and each can be asked for
+module _ (words : List ℕ) (kept : World) (rs : List CRow) (ts : List (List Value)) (are : ts ≡ firsts same_tuple (value_of_rows words kept rs)) where
+  pub firsts_few : length ts ≤ length rs
+  firsts_few = let first = first_fewer (value_of_rows words kept rs) in let all = worth_fewer words kept rs in subst (λ l. length l ≤ length rs) (sym are) (omega (arith, first, all))
+
+  pub firsts_asked : (global width : ℕ) → IsWellFormed words → IsPrefix opening words → IsTrue (is_place_of words class.Cond global) → HasNoColumn words global → AreRows words width rs → IsKeptWorld words global kept
+      → All (IsAskedOf words words global width rs) ts
+  firsts_asked global width formed begins is plain rows keeps = subst (All (IsAskedOf words words global width rs)) (sym are)
+      (first_all (IsAskedOf words words global width rs) (value_of_rows words kept rs) (worth_asked words global width rs kept formed begins is plain rows keeps))
+
+-- a tuple that one of some known worlds lacks is missing there
+pub lacked_by : (words : List ℕ) (global : ℕ) (rs : List CRow) (ss : List Seen) (t : List Value) → All (IsSeen words global rs) ss → is_in_each ss t ≡ false → IsMissed words global rs t
+lacked_by words global rs [] t all e = absurd (false≢true (sym e))
+lacked_by words global rs (s ∷ ss) t all e = by (has_tuple s.tuples.keys t) refl (lacked_by words global rs ss t (All-tail (IsSeen words global rs) s ss all)) where
+  by : (b : Bool) → has_tuple s.tuples.keys t ≡ b → (is_in_each ss t ≡ false → IsMissed words global rs t) → IsMissed words global rs t
+  by true h rest = rest (ap (λ b. b && is_in_each ss t) (sym h) ∙ e)
+  by false h rest =
+      let seen = All-head (IsSeen words global rs) s ss all in
+      (seen.world, and_from (holds_at seen.world (condition_at words global)) (not (has_tuple (value_of_rows words seen.world rs) t)) seen.holds (ap not (sym (seen.tuples t) ∙ h)))
+
+-- so it is not certain
+pub missing_once : (words : List ℕ) (global : ℕ) (rs : List CRow) (t : List Value) → IsMissed words global rs t → IsInAll words global rs t → ⊥
+missing_once words global rs t at all =
+    let parts = and_parts (holds_at at.0 (condition_at words global)) (not (has_tuple (value_of_rows words at.0 rs) t)) at.1 in
+    false≢true (sym (ap not (all at.0 parts.0)) ∙ parts.1)

@@ -135,7 +135,7 @@ module _ (words : List ℕ) (global : ℕ) (rs : List CRow) where
       → out ≡ list ++ (record { tuple = t; proof = record { root = root; derivation = d } }) ∷ [] → Takes words now global rs t list out
   takes_one now t list out root d is settled e = subst (Takes words now global rs t list) (sym e) (one _ refl (record { refutes = record { accepted = settled.0; root = is.holds }; cut = settled.1 }))
 
-  each_in_all : (now : List ℕ) → IsWellFormed now → (list : List CertainRow) → All (RefutesMissing words now global rs) list → (t : List Value) → IsTrue (has_tuple (tuples_in list) t) → IsInAll words global rs t
+  pub each_in_all : (now : List ℕ) → IsWellFormed now → (list : List CertainRow) → All (RefutesMissing words now global rs) list → (t : List Value) → IsTrue (has_tuple (tuples_in list) t) → IsInAll words global rs t
   each_in_all now formed [] all t h = absurd (false≢true h)
   each_in_all now formed (r ∷ list) all t h = elim (or_true (same_tuple r.tuple t) (has_tuple (tuples_in list) t) h) [
     | inl a ↦ subst (IsInAll words global rs) ((tuple_decides r.tuple t).0 a) (is_in_all now formed r (All-head (RefutesMissing words now global rs) r list all))

@@ -10,8 +10,7 @@ use Rattle.ct_arena.specs.Counts.{opening}
 use Rattle.ct_condition.{specs.Writes.{charge, Writes}, proofs.Denied.below_literal, proofs.Reached.terms_before}
 use Rattle.ct_operators.{specs.declared.error.TableError.TableError, specs.Tables.{IsRow, AreRows, value_of_rows, cells_of}, proofs.Firsts.none_distinct}
 use Rattle.ct_operators.{proofs.Growing.{value_grows, rows_grow}, proofs.Holding.holds_false}
-use Rattle.ct_certain.{specs.Missing.{AreOfTuple, IsAskedOf, IsRootOf, condition_of}, proofs.Missing.{left_truth, tuple_worth}}
-use Rattle.ct_decide.specs.declared.deciding.Decision.{Decision}
+use Rattle.ct_certain.{specs.Certain.is_missing, specs.Missing.{AreOfTuple, IsAskedOf, IsRootOf, condition_of}, proofs.Missing.{left_truth, tuple_worth}}
 use mathlib.Core.List.{IsPrefix}
 use Rattle.ct_word.specs.declared.kinds.Class.TheVariants as class
 use Rattle.ct_word.specs.declared.values.Term.TheVariants as term
@@ -22,12 +21,13 @@ use Rattle.ct_certain.specs.Faults as faults
 -- what an operator does to the words
 module _ {S : Type 0} {words_of : S → List ℕ} {made_of : S → ℕ} {kept_of : S → List ℕ} {lent_of : S → List GName} {cap : ℕ} {T : Type 0} (old new : S) where
   pub table_writes : (m : ℕ) (r : Result T TableError) → IsPrefix (words_of old) (words_of new) → IsWellFormed (words_of new) → length (words_of new) ≤ cap → (IsErrOf r table.Full → length (words_of new) ≡ cap)
-      → made_of new ≤ made_of old + m → (IsErrOf r table.Full → made_of new < made_of old + m) → kept_of new ≡ kept_of old → lent_of new ≡ lent_of old → Writes words_of made_of kept_of lent_of cap old new m (refusals.is_full r)
-  table_writes m r longer formed room full most fewer kept lent = record {
+      → made_of old ≤ made_of new → made_of new ≤ made_of old + m → (IsErrOf r table.Full → made_of new < made_of old + m) → kept_of new ≡ kept_of old → lent_of new ≡ lent_of old → Writes words_of made_of kept_of lent_of cap old new m (refusals.is_full r)
+  table_writes m r longer formed room full rises most fewer kept lent = record {
     longer = longer;
     formed = formed;
     room = room;
     full = when_full r full;
+    rises = rises;
     made = when_made r fewer;
     kept = kept;
     lent = lent;
@@ -41,6 +41,11 @@ module _ {S : Type 0} {words_of : S → List ℕ} {made_of : S → ℕ} {kept_of
     when_made (Ok x) h = omega (arith, most)
     when_made (Err table.Full) h = let lt = h refl in omega (arith, lt)
     when_made (Err table.Memory) h = omega (arith, most)
+
+-- where a tuple is missing over longer words, it is over those before
+missing_before : (words old : List ℕ) (global width : ℕ) (rs : List CRow) (tuple : List Value) → IsAskedOf words old global width rs tuple → (v : World) → is_missing old global rs tuple v ≡ is_missing words global rs tuple v
+missing_before words old global width rs tuple asked v i =
+    holds_at v (condition_in_prefix words old global asked.grown (place_within words class.Cond global asked.global_is) i) && not (has_tuple (value_grows words old asked.grown v width rs asked.rows.each i) tuple)
 
 abbrev pub one : List ℕ → ℕ → CRow
 one ps global = record { cells = ps; cond = global }
@@ -102,7 +107,7 @@ module _ (words mid new : List ℕ) (global width : ℕ) (rs : List CRow) (tuple
     class = its_class out rows.each;
     plain = its_plain out rows.each;
     holds = λ v. left_truth mid new ps global tuple (λ v t. not (has_tuple (value_of_rows mid v rs) t)) (tuple_worth mid tuple ps are) out (holds_false new begins formed_new) part same v
-        ∙ (λ i. holds_at v (condition_in_prefix words mid global asked.grown global_there i) && not (has_tuple (value_grows words mid asked.grown v width rs asked.rows.each i) tuple));
+        ∙ missing_before words mid global width rs tuple asked v;
   } where
     its_class : (out : List CRow) → All (IsRow new width) out → IsTrue (is_place_of new class.Cond (condition_of out))
     its_class [] each = (holds_false new begins formed_new).class
@@ -121,6 +126,14 @@ module _ (words mid new : List ℕ) (global width : ℕ) (rs : List CRow) (tuple
       (subst (λ l. IsSublist (cells_of new out) (cells_of mid l)) is part)
       (λ v. subst (λ l. SameSet (value_of_rows new v out) (filter (λ t. not (has_tuple (value_of_rows mid v rs) t)) (value_of_rows mid v l))) is (same v))
 
+-- over words before
+pub root_from : (words old new : List ℕ) (global width : ℕ) (rs : List CRow) (tuple : List Value) (root : ℕ) → IsAskedOf words old global width rs tuple → IsRootOf old new global rs tuple root → IsRootOf words new global rs tuple root
+root_from words old new global width rs tuple root asked is = record {
+  class = is.class;
+  plain = is.plain;
+  holds = λ v. is.holds v ∙ missing_before words old global width rs tuple asked v;
+}
+
 one_times : (r : ℕ) → 1 * r ≡ r
 one_times r = omega arith
 
@@ -135,6 +148,6 @@ pub root_begun : (t k m : ℕ) → t ≡ k → t ≤ m + k + 1
 root_begun t k m e = omega (arith, e)
 
 -- an operator's refusal, handed on
-pub handed_on : (e : TableError) → refusals.is_full {T = ℕ} (Err e) ≡ faults.is_full {T = ℕ × Decision} (Err (faults.table_fault e))
-handed_on table.Full = refl
-handed_on table.Memory = refl
+pub handed_on : (U : Type 0) (e : TableError) → refusals.is_full {T = ℕ} (Err e) ≡ faults.is_full {T = U} (Err (faults.table_fault e))
+handed_on U table.Full = refl
+handed_on U table.Memory = refl

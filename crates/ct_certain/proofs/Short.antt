@@ -41,12 +41,12 @@ module _ (words : List ℕ) (ms ns : List Null) where
   kept n = has_null ms n || has_null ns n
 
   module _ (formed : IsWellFormed words) where
-    truth_kept : (v : World) (c : ℕ) → IsTrue (is_place_of words class.Cond c) → ((n : Null) → TermBelow words c (term.Null n) → kept n ≡ true) → holds_at (cut_to ms ns v) (condition_at words c) ≡ holds_at v (condition_at words c)
+    pub truth_kept : (v : World) (c : ℕ) → IsTrue (is_place_of words class.Cond c) → ((n : Null) → TermBelow words c (term.Null n) → kept n ≡ true) → holds_at (cut_to ms ns v) (condition_at words c) ≡ holds_at v (condition_at words c)
     truth_kept v c is all = truth_agreed (cut_to ms ns v) v [] (condition_at words c)
         (λ n h. part_gives kept v n (all n (condition_reached words formed c (term.Null n) is (named_in (condition_at words c) (term.Null n) h))))
 
   module _ (P Q : Term → Type 0) (first : AreNullsOf P ms) (second : AreNullsOf Q ns) where
-    of_first : (n : Null) → P (term.Null n) → kept n ≡ true
+    pub of_first : (n : Null) → P (term.Null n) → kept n ≡ true
     of_first n h = ap (λ b. b || has_null ns n) (first.all n h)
 
     of_second : (n : Null) → Q (term.Null n) → kept n ≡ true
@@ -59,7 +59,7 @@ module _ (words : List ℕ) (ms ns : List Null) where
     ]
 
     -- each null of the part has one of the sources
-    sources : (v : World) → All (λ p. P (term.Null p.0) ⊎ Q (term.Null p.0)) (cut_to ms ns v)
+    pub sources : (v : World) → All (λ p. P (term.Null p.0) ⊎ Q (term.Null p.0)) (cut_to ms ns v)
     sources v = kept_all (λ p. P (term.Null p.0) ⊎ Q (term.Null p.0)) (λ p. kept p.0) source v
 
 module _ (words : List ℕ) (formed : IsWellFormed words) (global : ℕ) (r : CRow) (are : AreOf words global r) (ms ns : List Null) (below : AreNullsOf (TermBelow words global) ms) where
@@ -79,11 +79,11 @@ module _ (words : List ℕ) (formed : IsWellFormed words) (global : ℕ) (r : CR
     of_row (inl a) = inl a
     of_row (inr b) = inr (record { row = r; among = first_item [] r; below = b })
 
+pub no_nulls : AreNullsOf (λ t. ⊥) []
+no_nulls = record { each = All-nil (λ n. ⊥); all = λ n h. absurd h }
+
 -- a world cut to the nulls of the global condition
 module _ (words : List ℕ) (global : ℕ) (ms : List Null) (below : AreNullsOf (TermBelow words global) ms) (v : World) where
-  no_nulls : AreNullsOf (λ t. ⊥) []
-  no_nulls = record { each = All-nil (λ n. ⊥); all = λ n h. absurd h }
-
   pub cut_within : IsWithin words global (cut_to ms [] v)
   cut_within = All-weaker (λ p. TermBelow words global (term.Null p.0) ⊎ ⊥) (λ p. TermBelow words global (term.Null p.0)) (λ p h. elim h [ inl a ↦ a | inr b ↦ absurd b ]) (cut_to ms [] v)
       (sources words ms [] (TermBelow words global) (λ t. ⊥) below no_nulls v)
@@ -91,16 +91,18 @@ module _ (words : List ℕ) (global : ℕ) (ms : List Null) (below : AreNullsOf 
 pub cut_tidy : (words : List ℕ) (ms ns : List Null) (v : World) → IsTidy v → IsTidy (cut_to ms ns v)
 cut_tidy words ms ns v tidy = part_tidy (kept words ms ns) v tidy
 
+-- what stands below the global condition or a row's
+pub either_of_table : (words : List ℕ) (global : ℕ) (r : CRow) (t : Term) → BelowEither words global r.cond t → IsOfTable words global (r ∷ []) t
+either_of_table words global r t (inl a) = inl a
+either_of_table words global r t (inr b) = inr (record { row = r; among = first_item [] r; below = record { place = r.cond; among = first_item r.cells r.cond; below = b } })
+
 -- a row needs all of a world that was found for its condition
 pub found_shows : (words : List ℕ) (global : ℕ) (r : CRow) (v : World) → IsFound words global r.cond v → IsShownBy words global r v
 found_shows words global r v is = record {
   tidy = is.tidy;
   shown = is.holds;
-  own = All-weaker (λ p. BelowEither words global r.cond (term.Null p.0)) (λ p. IsOfTable words global (r ∷ []) (term.Null p.0)) (λ p h. of_row h) v is.own;
-} where
-  of_row : {t : Term} → BelowEither words global r.cond t → IsOfTable words global (r ∷ []) t
-  of_row (inl a) = inl a
-  of_row (inr b) = inr (record { row = r; among = first_item [] r; below = record { place = r.cond; among = first_item r.cells r.cond; below = b } })
+  own = All-weaker (λ p. BelowEither words global r.cond (term.Null p.0)) (λ p. IsOfTable words global (r ∷ []) (term.Null p.0)) (λ p. either_of_table words global r (term.Null p.0)) v is.own;
+}
 
 -- and of one whose nulls stand below the global condition
 pub near_shows : (words : List ℕ) (global : ℕ) (r : CRow) (k : Known) → IsWithinGlobal words global k → IsTrue (holds_at k.world (condition_at words r.cond)) → IsShownBy words global r k.world

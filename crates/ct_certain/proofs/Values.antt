@@ -1,11 +1,11 @@
 -- Places of values.
 use Rattle.std.proofs.Common.{◌≡◌, ◌<◌, ◌≤◌, ◌+◌, ◌^◌, ℕ, Bool, true, false, List, [], ◌∷◌, ◌++◌, length, Option, Some, None, Result, Ok, Err, get_or, take, ap, sym, subst, ◌∙◌, arith, inl, inr}
-use Rattle.std.{specs.Prelude.{IsOk, IsTrue, OnErr, is_err}, proofs.lemmas.Bool.false≢true, specs.Borrow.GName}
+use Rattle.std.{specs.Prelude.{IsOk, IsTrue, is_err}, proofs.lemmas.Bool.false≢true, specs.Borrow.GName}
 use Rattle.std.proofs.lemmas.Option.{slice_get-get_or, slice_get_within}
 use Rattle.ct_word.{specs.declared.kinds.Kind.Kind, specs.declared.values.Value.Value, specs.Reading.{Meaning, IsTerm, by_kind, meanings}}
 use Rattle.ct_word.{specs.WellFormed.IsWellFormed, proofs.Prefixes.{place_in_prefix, place_within, stands_in_prefix}, specs.Word.{kind_of, left_of, right_of}}
 use Rattle.ct_word.{specs.Stands.StandsAt, proofs.Growth.length-read, proofs.Splits.{meaning_at, some-injective}}
-use Rattle.ct_condition.{proofs.Placed.{place_found, place_stays}, proofs.Reached.terms_before, specs.Places.has_place, specs.Writes.{charge, Writes}}
+use Rattle.ct_condition.{proofs.Placed.{place_found, place_stays}, proofs.Reached.terms_before, specs.Places.has_place, specs.Writes.{charge, Writes}, proofs.Writes.writes_of}
 use Rattle.ct_equality.specs.Valued.{IsNumbered}
 use Rattle.ct_query.{specs.Bounds.{literal_words, column_words}, specs.Fields.FitsFields}
 use Rattle.ct_certain.specs.Missing.{IsAtHand, IsOfValue, AreOfTuple}
@@ -116,27 +116,12 @@ one_word x n = ap (λ y. literal_words (term.Value y)) n.value
 
 -- what a call for the place of a value makes
 value_made : {E : Type 0} (words new : List ℕ) (m n : ℕ) (x : Value) (r : Result ℕ E) → IsAtHand words x → (IsTrue (has_place words (term.Value x)) → IsOk r × (new ≡ words) × (n ≡ m))
-    → n ≤ m + (literal_words (term.Value x) + column_words (term.Value x)) → OnErr r (n < m + (literal_words (term.Value x) + column_words (term.Value x))) → n + charge (is_err r) ≤ m + 1
-value_made words new m n x (Ok p) (inl e) known most less = let same = (known e).2 in omega (arith, same)
-value_made words new m n x (Ok p) (inr k) known most less = let one = one_word x k in omega (arith, one, most)
-value_made words new m n x (Err f) (inl e) known most less = absurd (false≢true (known e).0)
-value_made words new m n x (Err f) (inr k) known most less = let one = one_word x k in omega (arith, one, less)
+    → n + charge (is_err r) ≤ m + (literal_words (term.Value x) + column_words (term.Value x)) → n + charge (is_err r) ≤ m + 1
+value_made words new m n x (Ok p) (inl e) known most = let same = (known e).2 in omega (arith, same)
+value_made words new m n x (Err f) (inl e) known most = absurd (false≢true (known e).0)
+value_made words new m n x r (inr k) known most = let one = one_word x k in omega (arith, one, most)
 
 module _ {S E : Type 0} {words_of : S → List ℕ} {made_of : S → ℕ} {kept_of : S → List ℕ} {lent_of : S → List GName} {cap : ℕ} (old new : S) where
-  pub value_writes : (x : Value) (r : Result ℕ E) → IsAtHand (words_of old) x → IsPrefix (words_of old) (words_of new) → IsWellFormed (words_of new) → length (words_of new) ≤ cap
-      → OnErr r (length (words_of new) ≡ cap)
-      → (IsTrue (has_place (words_of old) (term.Value x)) → IsOk r × (words_of new ≡ words_of old) × (made_of new ≡ made_of old))
-      → made_of new ≤ made_of old + (literal_words (term.Value x) + column_words (term.Value x)) → OnErr r (made_of new < made_of old + (literal_words (term.Value x) + column_words (term.Value x)))
-      → kept_of new ≡ kept_of old → lent_of new ≡ lent_of old → Writes words_of made_of kept_of lent_of cap old new 1 (is_err r)
-  value_writes x r at longer formed room full known most less kept lent = record {
-    longer = longer;
-    formed = formed;
-    room = room;
-    full = when_full r full;
-    made = value_made (words_of old) (words_of new) (made_of old) (made_of new) x r at known most less;
-    kept = kept;
-    lent = lent;
-  } where
-    when_full : (r : Result ℕ E) → OnErr r (length (words_of new) ≡ cap) → is_err r ≡ true → length (words_of new) ≡ cap
-    when_full (Ok p) h e = absurd (false≢true e)
-    when_full (Err f) h e = h
+  pub value_writes : (x : Value) (r : Result ℕ E) → IsAtHand (words_of old) x → (IsTrue (has_place (words_of old) (term.Value x)) → IsOk r × (words_of new ≡ words_of old) × (made_of new ≡ made_of old))
+      → Writes words_of made_of kept_of lent_of cap old new (literal_words (term.Value x) + column_words (term.Value x)) (is_err r) → Writes words_of made_of kept_of lent_of cap old new 1 (is_err r)
+  value_writes x r at known all = writes_of all (value_made (words_of old) (words_of new) (made_of old) (made_of new) x r at known all.made)

@@ -1,5 +1,5 @@
 -- The answer to a question, and a pool of worlds.
-use Rattle.std.specs.Prelude.{◌≡◌, ℕ, true, false, ◌&&◌, List, [], ◌∷◌, ◌++◌, Option, Some, None, IfSome, IsTrue, All, nat_eq}
+use Rattle.std.specs.Prelude.{◌≡◌, ℕ, Bool, true, false, ◌&&◌, List, [], ◌∷◌, ◌++◌, Option, Some, None, IfSome, IsTrue, All, nat_eq}
 use Rattle.std.specs.Map.{lookup}
 use Rattle.ct_word.specs.declared.kinds.Class.TheVariants as class
 use Rattle.ct_word.specs.declared.values.CRow.{CRow}
@@ -38,6 +38,12 @@ IsSettled words root (decision.Refuted d) = IsRefutation words root d
 abbrev pub IsSettledOwn : List ℕ → ℕ → ℕ → Decision → Type 0
 IsSettledOwn words root global (decision.World v) = (holds_at v (condition_at words root) ≡ true) × All (λ p. BelowEither words global root (term.Null p.0)) v
 IsSettledOwn words root global (decision.Refuted d) = IsRefutation words root d
+
+-- a root is the place of a condition below which no column stands, and which holds at the valuations that pass a test
+pub record Asks (words : List ℕ) (root : ℕ) (test : World → Bool) : Type 0 where
+  pub class : IsTrue (is_place_of words class.Cond root)
+  pub plain : HasNoColumn words root
+  pub holds : (v : World) → holds_at v (condition_at words root) ≡ test v
 
 -- a global condition and a row are of these words, and no column stands below the conditions
 pub record AreOf (words : List ℕ) (global : ℕ) (r : CRow) : Type 0 where

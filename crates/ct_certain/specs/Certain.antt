@@ -30,6 +30,10 @@ IsInAll words global rs tuple = (v : World) → IsTrue (holds_at v (condition_at
 abbrev pub is_missing : List ℕ → ℕ → List CRow → List Value → World → Bool
 is_missing words global rs tuple v = holds_at v (condition_at words global) && not (has_tuple (value_of_rows words v rs) tuple)
 
+-- a tuple is missing at some valuation
+abbrev pub IsMissed : List ℕ → ℕ → List CRow → List Value → Type 0
+IsMissed words global rs tuple = (v : World) × IsTrue (is_missing words global rs tuple v)
+
 -- a proof is accepted over the words now, and its root holds exactly where the tuple is missing by the words before
 pub record RefutesMissing (old now : List ℕ) (global : ℕ) (rs : List CRow) (r : CertainRow) : Type 0 where
   pub accepted : AcceptsProof now r.proof

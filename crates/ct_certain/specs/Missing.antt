@@ -1,5 +1,6 @@
 -- The question whether a tuple is missing from a table.
-use Rattle.std.specs.Prelude.{◌≡◌, ◌≢◌, ◌⊎◌, ⊤, ℕ, List, [], ◌∷◌, ◌++◌, length, IsTrue, All}
+use Rattle.std.specs.Prelude.{◌≡◌, ◌≢◌, ◌⊎◌, ⊤, ℕ, Bool, List, [], ◌∷◌, ◌++◌, length, IsTrue, All}
+use Rattle.std.specs.List.{list_all}
 use mathlib.Core.List.{IsPrefix}
 use Rattle.ct_word.specs.declared.kinds.Class.TheVariants as class
 use Rattle.ct_word.specs.declared.values.Value.{Value}
@@ -14,6 +15,7 @@ use Rattle.ct_condition.specs.Places.{has_place}
 use Rattle.ct_condition.specs.Terms.{TermsFrom}
 use Rattle.ct_equality.specs.Valued.{IsNumbered}
 use Rattle.ct_operators.specs.Tables.{AreRows, value_of_rows}
+use Rattle.ct_certain.specs.Answered.{Asks}
 use Rattle.ct_certain.specs.declared.striking.Seen.{Seen}
 use Rattle.ct_certain.specs.Certain.{is_missing, tuples_in, IsCutProof, IsInAll, RefutesMissing}
 use Rattle.ct_word.specs.Sublist.{IsSublist}
@@ -48,10 +50,8 @@ pub record IsAskedOf (words now : List ℕ) (global width : ℕ) (rs : List CRow
   pub values : All (IsAtHand words) tuple
 
 -- a place of the words now holds exactly where the tuple is missing by the words before
-pub record IsRootOf (words now : List ℕ) (global : ℕ) (rs : List CRow) (tuple : List Value) (root : ℕ) : Type 0 where
-  pub class : IsTrue (is_place_of now class.Cond root)
-  pub plain : HasNoColumn now root
-  pub holds : (v : World) → holds_at v (condition_at now root) ≡ is_missing words global rs tuple v
+abbrev pub IsRootOf : List ℕ → List ℕ → ℕ → List CRow → List Value → ℕ → Type 0
+IsRootOf words now global rs tuple root = Asks now root (is_missing words global rs tuple)
 
 -- the place of the condition of the first of these rows, that of the word false where there is none
 abbrev pub condition_of : List CRow → ℕ
@@ -73,6 +73,10 @@ pub record AreListed (words now : List ℕ) (global : ℕ) (rs : List CRow) (don
 pub data Takes (words now : List ℕ) (global : ℕ) (rs : List CRow) (tuple : List Value) (old : List CertainRow) : List CertainRow → Type 0 where
   nothing : (IsInAll words global rs tuple → ⊥) → Takes words now global rs tuple old old
   one : (r : CertainRow) → r.tuple ≡ tuple → IsRefuted words now global rs r → Takes words now global rs tuple old (old ++ r ∷ [])
+
+-- whether a tuple is there in each of some worlds
+abbrev pub is_in_each : List Seen → List Value → Bool
+is_in_each ss t = list_all (λ s. has_tuple s.tuples.keys t) ss
 
 -- the tuples that rows are worth in some world at which the global condition holds
 pub record IsSeen (words : List ℕ) (global : ℕ) (rs : List CRow) (s : Seen) : Type 0 where

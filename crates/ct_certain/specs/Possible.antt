@@ -1,5 +1,5 @@
 -- When a list of possible rows is right: those that a table has at some valuation of the global condition.
-use Rattle.std.specs.Prelude.{◌≡◌, ℕ, Bool, false, ◌&&◌, List, [], ◌∷◌, map, IsTrue}
+use Rattle.std.specs.Prelude.{◌≡◌, ℕ, Bool, false, ◌&&◌, List, [], ◌∷◌, Option, Some, None, map, IsTrue}
 use Rattle.ct_word.specs.declared.values.CRow.{CRow}
 use Rattle.ct_word.specs.Value.{World}
 use Rattle.ct_word.specs.Condition.{holds_at}
@@ -14,6 +14,11 @@ is_shown words global r v = holds_at v (condition_at words global) && holds_at v
 -- the cells of a row, with a world
 abbrev pub shown_row : List ℕ → CRow → World → PossibleRow
 shown_row words r v = record { cells = map (term_at words) r.cells; world = v }
+
+-- what is listed of a row, with the world that was found for it, if one was
+abbrev pub listed : List ℕ → CRow → Option World → List PossibleRow
+listed words r (Some v) = shown_row words r v ∷ []
+listed words r None = []
 
 -- exactly the rows that are shown at some valuation, in their order, each with a tidy world that shows it
 pub data ListsPossible (words : List ℕ) (global : ℕ) : List CRow → List PossibleRow → Type 0 where

@@ -90,21 +90,23 @@ fn first_condition(rows: &[CRow]) -> u32
 }
 
 /// The place of the condition that the global condition holds and a table is not worth a tuple: what `except` leaves of
-/// the tuple as a row under the global condition.
-fn root<N: Site, I: Interner<N>>(
+/// the tuple as a row under the global condition. At most `r (2k + 2) + k + 1` words are made, where the table has r rows and k
+/// columns.
+///
+/// # Errors
+/// `Full` only where the log has as many words as its capacity, `Memory` where there is none for the rows.
+pub fn missing_root<N: Site, I: Interner<N>>(
     alloc: Global,
     arena: &Arena<N>,
     pass: &mut I,
-    words: &[u64],
     table: &CTable,
     global: u32,
     tuple: &[Value],
 ) -> Result<u32, TableError>
-    requires { IsAskedOf words.now (I.list pass.old) global (length table.now.columns) table.now.rows tuple.now }
-    ensures root { IfOk result (λ p. IsRootOf words.now (I.list pass.new) global table.now.rows tuple.now p) }
+    requires { IsAskedOf (I.list pass.old) (I.list pass.old) global (length table.now.columns) table.now.rows tuple.now }
+    ensures root { IfOk result (λ p. IsRootOf (I.list pass.old) (I.list pass.new) global table.now.rows tuple.now p) }
     ensures writes { Writes I.list I.made I.kept I.lent N.log.cap pass.old pass.new (length table.now.rows * (2 * length table.now.columns + 2) + length table.now.columns + 1) (has_no_room result) }
 {
-    let _ = words;
     let cells = places(alloc, arena, pass, tuple)?;
     let _ = pass.words();
     let alone = of_one_row(alloc, &table.columns, cells, global)?;
@@ -137,7 +139,9 @@ pub fn ask_tuple<N: Site, I: Interner<N>>(
     ensures settled { IfOk result (λ a. IsSettled (I.list pass.new) a.0 a.1) }
     ensures writes { Writes I.list I.made I.kept I.lent N.log.cap pass.old pass.new (length table.now.rows * (2 * length table.now.columns + 2) + length table.now.columns + 1) (is_full result) }
 {
-    let place = root(alloc, arena, pass, words, table, global, tuple)?;
+    let _ = words;
+    let _ = pass.words();
+    let place = missing_root(alloc, arena, pass, table, global, tuple)?;
     let now = pass.words();
     let before = known(alloc, now, list, place)?;
     if let Some(derivation) = before {

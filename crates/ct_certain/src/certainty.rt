@@ -1,11 +1,9 @@
 // The certain tuples of a table.
 
 ghost use Rattle.std.specs.Prelude.{◌≡◌, ◌≤◌, ◌<◌, ◌+◌, ◌*◌, ◌^◌, ◌++◌, [], ◌∷◌, length, All, IfOk, OnOk, IsErrOf, IsTrue};
-ghost use Rattle.std.specs.List.{IsDistinct};
 ghost use mathlib.Core.List.{IsPrefix};
 ghost use Rattle.ct_word.specs.declared.kinds.Class.TheVariants as class;
 ghost use Rattle.ct_word.specs.Stands.{HasNoColumn};
-ghost use Rattle.ct_word.specs.Value.{same_tuple};
 ghost use Rattle.ct_word.specs.WellFormed.{IsWellFormed, is_place_of};
 ghost use Rattle.ct_condition.specs.Writes.{Writes};
 ghost use Rattle.ct_operators.specs.Tables.{AreRows, IsRow};
@@ -20,9 +18,9 @@ use crate::derivations::Listed;
 use crate::error::CertainError;
 use crate::settling::Near;
 use crate::striking::{Seen, is_everywhere, see, see_first};
-use crate::tuples::tuples;
+use crate::tuples::kept_tuples;
 use ct_arena::{Arena, Pass, Site};
-use ct_condition::{Interner, worths};
+use ct_condition::Interner;
 use ct_decide::Decision;
 use ct_derivation::{Derivation, Proof};
 use ct_near::conjuncts;
@@ -77,7 +75,7 @@ fn try_tuple<N: Site, I: Interner<N>>(
 {
     let _ = pass.words();
     let rows = table.rows.as_slice();
-    if !is_everywhere(words, global, rows, pool.as_slice(), tuple) {
+    if !is_everywhere(pool.as_slice(), tuple) {
         return Ok(());
     }
     let (root, decision) = ask_tuple(
@@ -121,7 +119,6 @@ fn each_certain<N: Site, I: Interner<N>>(
     requires rows { All (λ r. IsRow words.now (length r.cells) r) table.now.rows }
     requires pool { All (IsSeen words.now global table.now.rows) pool.old.items }
     requires few { length candidates.now ≤ length table.now.rows }
-    requires once { IsDistinct same_tuple candidates.now }
     requires asked { All (IsAskedOf words.now words.now global (length table.now.columns) table.now.rows) candidates.now }
     ensures lists { IfOk result (λ list. AreListed words.now (I.list pass.new) global table.now.rows candidates.now list) }
     ensures writes { Writes I.list I.made I.kept I.lent N.log.cap pass.old pass.new (length table.now.rows * (length table.now.rows * (2 * length table.now.columns + 2) + length table.now.columns + 1)) (is_full result) }
@@ -171,11 +168,8 @@ pub fn certain<N: Site>(
     let words = pass.words().to_vec(alloc)?;
     let before = words.as_slice();
     let rows = table.rows.as_slice();
-    let worths = worths(alloc, before, kept)?;
-    let candidates = tuples(alloc, before, kept, &worths, rows)?;
-    drop(worths);
-    let mut pool = Vec::new(alloc);
-    see_first(alloc, before, global, rows, kept, &mut pool)?;
+    let candidates = kept_tuples(alloc, before, rows, kept)?;
+    let mut pool = see_first(alloc, before, global, rows, kept)?;
     let conjuncts = conjuncts(alloc, before, global)?;
     let near = Near {
         conjuncts: &conjuncts,

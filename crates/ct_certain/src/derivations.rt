@@ -39,7 +39,10 @@ fn copied_step(step: &Step) -> Result<Step, AllocError>
 }
 
 /// A derivation once more.
-fn copied(alloc: Global, derivation: &Derivation) -> Result<Derivation, Memory>
+///
+/// # Errors
+/// `Memory` where there is none for it.
+pub fn copied_derivation(alloc: Global, derivation: &Derivation) -> Result<Derivation, Memory>
     ensures { IfOk result (λ d. d ≡ derivation.now) }
 {
     let mut steps = Vec::new(alloc);
@@ -67,7 +70,7 @@ pub fn known(
     };
     match list.rows.get(*place) {
         Some(row) if row.proof.root == root => {
-            let derivation = copied(alloc, &row.proof.derivation)?;
+            let derivation = copied_derivation(alloc, &row.proof.derivation)?;
             Ok(Some(derivation))
         }
         _ => Ok(None),

@@ -17,7 +17,12 @@ mod showing;
 mod striking;
 mod tuples;
 
+pub use absence::missing_root;
 pub use certainty::certain;
 pub use ct_rewrite::{CertainRow, PossibleRow};
+pub use derivations::copied_derivation;
 pub use error::CertainError;
 pub use possibility::possible;
+pub use showing::list_row;
+pub use striking::{Seen, is_everywhere, see_first};
+pub use tuples::kept_tuples;

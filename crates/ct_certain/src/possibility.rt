@@ -47,7 +47,7 @@ fn each_possible<N: Site, I: Interner<N>>(
     let mut list = Vec::new(alloc);
     for row in rows {
         let found = show(alloc, arena, pass, words, global, rows, pool, row)?;
-        list_row(alloc, words, &mut list, row, found, global)?;
+        list_row(alloc, words, &mut list, row, found)?;
     }
     Ok(List::from_vec(list))
 }

@@ -1,15 +1,15 @@
 // One row of the possible ones.
 
-ghost use Rattle.std.specs.Prelude.{◌≡◌, ◌<◌, ◌^◌, List, length, map, All, Contains, IfOk, IsTrue, OnOk};
+ghost use Rattle.std.specs.Prelude.{◌≡◌, ◌<◌, ◌^◌, ◌++◌, length, map, All, IfOk, IsTrue, OnOk};
 ghost use mathlib.Core.List.{IsPrefix};
 ghost use Rattle.ct_word.specs.declared.kinds.Class.TheVariants as class;
-ghost use Rattle.ct_word.specs.declared.values.CRow.{CRow};
 ghost use Rattle.ct_word.specs.Reading.{term_at};
 ghost use Rattle.ct_word.specs.WellFormed.{IsWellFormed, is_place_of};
 ghost use Rattle.ct_condition.specs.Writes.{Writes};
-ghost use Rattle.ct_certain.specs.Answered.{Adds, AreOf, IsAnswer, IsPool};
+ghost use Rattle.ct_certain.specs.Answered.{AreOf, IsAnswer, IsPool};
 ghost use Rattle.ct_certain.specs.Faults.{is_full};
-ghost use Rattle.ct_certain.specs.Own.{IsOwn, IsOwnAnswer};
+ghost use Rattle.ct_certain.specs.Own.{IsOwnAnswer};
+ghost use Rattle.ct_certain.specs.Possible.{listed};
 
 use crate::error::CertainError;
 use crate::pool::{Pool, approach, find, is_never, learn, near_of};
@@ -99,22 +99,21 @@ fn terms(alloc: Global, words: &[u64], places: &[u32]) -> Result<List<Term>, Mem
     Ok(List::from_vec(terms))
 }
 
-/// Puts the cells of a row with a world last in a list.
+/// Puts the cells of a row last in a list, with the world that was found for it, if one was.
+///
+/// # Errors
+/// `Memory` where there is none for them.
 pub fn list_row(
     alloc: Global,
     words: &[u64],
     list: &mut Vec<PossibleRow>,
     row: &CRow,
     found: Option<World>,
-    global: u32,
 ) -> Result<(), Memory>
     requires formed { IsWellFormed words.now }
-    requires asked { AreOf words.now global row.now }
-    requires answer { IsOwnAnswer words.now global row.now found }
-    ensures adds { OnOk result (Adds words.now global row.now list.old.items list.new.items) }
-    ensures own { OnOk result ((rows : List CRow) → Contains rows row.now → All (IsOwn words.now global rows) list.old.items → All (IsOwn words.now global rows) list.new.items) }
+    requires cells { All (λ p. IsTrue (is_place_of words.now class.Term p)) row.now.cells }
+    ensures { OnOk result (list.new.items ≡ list.old.items ++ listed words.now row.now found) }
 {
-    let _ = global;
     match found {
         None => Ok(()),
         Some(world) => {

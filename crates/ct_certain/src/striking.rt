@@ -1,11 +1,10 @@
 // The worlds that strike candidates out.
 
-ghost use Rattle.std.specs.Prelude.{◌≡◌, ◌<◌, ◌^◌, false, length, All, OnOk, IsTrue};
+ghost use Rattle.std.specs.Prelude.{◌≡◌, ◌<◌, ◌^◌, length, All, IfOk, OnOk, IsTrue};
 ghost use Rattle.ct_word.specs.declared.kinds.Class.TheVariants as class;
 ghost use Rattle.ct_word.specs.WellFormed.{IsWellFormed, is_place_of};
 ghost use Rattle.ct_operators.specs.Tables.{IsRow};
-ghost use Rattle.ct_certain.specs.Certain.{IsInAll};
-ghost use Rattle.ct_certain.specs.Missing.{IsSeen};
+ghost use Rattle.ct_certain.specs.Missing.{IsSeen, is_in_each};
 
 use crate::tuples::tuples;
 use ct_condition::worths;
@@ -25,19 +24,9 @@ pub struct Seen {
 const MOST_WORLDS: usize = 16;
 
 /// Whether a tuple is there in all of these worlds.
-pub fn is_everywhere(
-    words: &[u64],
-    global: u32,
-    rows: &[CRow],
-    pool: &[Seen],
-    tuple: &List<Value>,
-) -> bool
-    requires { All (IsSeen words.now global rows.now) pool.now }
-    ensures { result ≡ false → IsInAll words.now global rows.now tuple.now → ⊥ }
+pub fn is_everywhere(pool: &[Seen], tuple: &List<Value>) -> bool
+    ensures { result ≡ is_in_each pool.now tuple.now }
 {
-    let _ = words;
-    let _ = global;
-    let _ = rows;
     for seen in pool {
         if !seen.tuples.contains(tuple) {
             return false;
@@ -75,27 +64,31 @@ pub fn see(
     Ok(())
 }
 
-/// Keeps the tuples in the worlds before any tuple is asked for, besides the kept one: the one in which each null is `@0`,
-/// if the kept one has pairs, and one in which the nulls differ.
+/// The tuples in worlds that are known before any tuple is asked for, besides the kept one: the one in which each null is
+/// `@0`, if the kept one has pairs, and one in which the nulls differ. One in which the global condition fails is left out, and
+/// no clause says which are there.
+///
+/// # Errors
+/// `Memory` where there is none for them.
 pub fn see_first(
     alloc: Global,
     words: &[u64],
     global: u32,
     rows: &[CRow],
     kept: &World,
-    pool: &mut Vec<Seen>,
-) -> Result<(), Memory>
+) -> Result<Vec<Seen>, Memory>
     requires formed { IsWellFormed words.now }
     requires small { length words.now < 2 ^ 28 }
     requires global { IsTrue (is_place_of words.now class.Cond global) }
     requires rows { All (λ r. IsRow words.now (length r.cells) r) rows.now }
-    requires pool { All (IsSeen words.now global rows.now) pool.old.items }
-    ensures { OnOk result (All (IsSeen words.now global rows.now) pool.new.items) }
+    ensures { IfOk result (λ pool. All (IsSeen words.now global rows.now) pool.items) }
 {
+    let mut pool = Vec::new(alloc);
     if !kept.as_slice().is_empty() {
         let empty = List::new(alloc);
-        see(alloc, words, global, rows, &empty, pool)?;
+        see(alloc, words, global, rows, &empty, &mut pool)?;
     }
     let apart = spread(alloc, words, global, rows)?;
-    see(alloc, words, global, rows, &apart, pool)
+    see(alloc, words, global, rows, &apart, &mut pool)?;
+    Ok(pool)
 }

@@ -1,6 +1,6 @@
 // The tuples that rows are worth in a world.
 
-ghost use Rattle.std.specs.Prelude.{◌≡◌, ◌++◌, [], ◌∷◌, List, length, map, All, IfOk, IsTrue, OnOk};
+ghost use Rattle.std.specs.Prelude.{◌≡◌, ◌<◌, ◌^◌, ◌++◌, [], ◌∷◌, List, length, map, All, IfOk, IsTrue, OnOk};
 ghost use Rattle.ct_word.specs.declared.kinds.Class.TheVariants as class;
 ghost use Rattle.ct_word.specs.Reading.{term_at};
 ghost use Rattle.ct_word.specs.declared.values.Value.{Value};
@@ -10,7 +10,7 @@ ghost use Rattle.ct_condition.specs.Worth.{AreWorths};
 ghost use Rattle.ct_operators.specs.Tables.{IsRow, firsts, value_of_rows};
 ghost use Rattle.ct_tidy.specs.Order.{IsMapOf};
 
-use ct_condition::Worths;
+use ct_condition::{Worths, worths};
 use ct_tidy::{by_null, value_of};
 use ct_word::{CRow, List, Memory, Null, Term, Value, World, term_at};
 use indexmap::{IndexMap, IndexSet};
@@ -93,4 +93,23 @@ pub fn tuples(
         add_tuple(alloc, words, world, &values, worths, row, &mut tuples)?;
     }
     Ok(tuples)
+}
+
+/// The tuples that rows are worth in a kept world, each once, in their order: those that may be certain.
+///
+/// # Errors
+/// `Memory` where there is none for them.
+pub fn kept_tuples(
+    alloc: Global,
+    words: &[u64],
+    rows: &[CRow],
+    kept: &World,
+) -> Result<IndexSet<List<Value>>, Memory>
+    requires formed { IsWellFormed words.now }
+    requires small { length words.now < 2 ^ 28 }
+    requires rows { All (λ r. IsRow words.now (length r.cells) r) rows.now }
+    ensures { IfOk result (λ ts. ts.keys ≡ firsts same_tuple (value_of_rows words.now kept.now rows.now)) }
+{
+    let worths = worths(alloc, words, kept)?;
+    tuples(alloc, words, kept, &worths, rows)
 }

@@ -1,5 +1,9 @@
 mod capacities;
 mod certificates;
+mod exports;
+mod faults;
 mod fills;
+mod hostile;
+mod imports;
 mod memory;
 mod runs;

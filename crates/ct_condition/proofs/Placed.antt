@@ -1,11 +1,11 @@
 -- Which terms have a place, as words are added, and the words that a condition is put by.
-use Rattle.std.proofs.Common.{◌≡◌, ℕ, suc, ◌+◌, ◌≤◌, ◌<◌, Bool, true, false, List, [], ◌∷◌, Option, Some, None, Result, Ok, Err, refl, ap, ◌∙◌, sym, arith}
-use Rattle.std.{specs.Prelude.{◌||◌, slice_get, is_some, IsOk, OnOk, OnErr, if◌then◌else◌}, specs.List.list_any, proofs.lemmas.Bool.{false≢true, or_left}}
+use Rattle.std.proofs.Common.{◌≡◌, ℕ, suc, ◌+◌, ◌≤◌, Bool, true, false, List, [], ◌∷◌, Option, Some, None, Result, Ok, Err, refl, ap, ◌∙◌, sym, arith}
+use Rattle.std.{specs.Prelude.{◌||◌, slice_get, is_some, is_err, IsOk, OnOk, if◌then◌else◌}, specs.List.list_any, proofs.lemmas.Bool.{false≢true, or_left}}
 use Rattle.std.{proofs.lemmas.List.Folds.list_any-append, proofs.lemmas.Option.none-some, proofs.lemmas.Map.Keys.any_passes_from_place}
 use Rattle.ct_word.{specs.declared.values.Term.Term, specs.Condition.{Condition, Conditions, True, False, Same, Not, And, Or, none, also}}
 use Rattle.ct_word.{specs.Reading.{Meaning, IsTerm, meanings}, specs.Stands.StandsAt, proofs.Alike.term_decides, proofs.Prefixes.meanings_prefix}
 use Rattle.ct_query.specs.Bounds.{literal_words, column_words, over_equalities, over_all_equalities}
-use Rattle.ct_condition.{specs.Places.{is_of_term, has_place, new_literal_words, new_terms}, specs.Rows.{cell_for, term_words, new_words, words_on}}
+use Rattle.ct_condition.{specs.Places.{is_of_term, has_place, new_literal_words, new_terms}, specs.Rows.{cell_for, term_words, new_words, words_on}, specs.Writes.charge}
 use mathlib.Core.List.{IsPrefix}
 
 found : (f : Meaning → Bool) (ms : List Meaning) → list_any f ms ≡ true → (k : ℕ) × (m : Meaning) × (slice_get ms k ≡ Some m) × (f m ≡ true)
@@ -100,25 +100,15 @@ placed_zero words cells t e = zero_by (cell_for cells t) (has_place words t) (li
 
 -- a term that is put where no cell stands for it, m words before and n after
 module _ (m n : ℕ) where
-  made_by : (o : Option ℕ) (b : Bool) (k : ℕ) → o ≡ None → (b ≡ true → n ≡ m) → n ≤ m + k → n ≤ m + (if is_some o then 0 else if b then 0 else k)
-  made_by (Some x) b k e same most = absurd (none-some x (sym e))
-  made_by None true k e same most = let s = same refl in omega (arith, s)
-  made_by None false k e same most = most
+  made_by : {E : Type 0} (o : Option ℕ) (b : Bool) (k : ℕ) (r : Result ℕ E) → o ≡ None → (b ≡ true → IsOk r × (n ≡ m)) → n + charge (is_err r) ≤ m + k → n + charge (is_err r) ≤ m + (if is_some o then 0 else if b then 0 else k)
+  made_by (Some x) b k r e same most = absurd (none-some x (sym e))
+  made_by None true k (Ok p) e same most = let s = (same refl).1 in omega (arith, s)
+  made_by None true k (Err x) e same most = absurd (false≢true (same refl).0)
+  made_by None false k r e same most = most
 
-  less_by : (o : Option ℕ) (b : Bool) (k : ℕ) → o ≡ None → (b ≡ true → ⊥) → n < m + k → n < m + (if is_some o then 0 else if b then 0 else k)
-  less_by (Some x) b k e absent most = absurd (none-some x (sym e))
-  less_by None true k e absent most = absurd (absent refl)
-  less_by None false k e absent most = most
-
-  pub term_made : (words cells : List ℕ) (t : Term) → cell_for cells t ≡ None → (has_place words t ≡ true → n ≡ m)
-      → n ≤ m + (literal_words t + column_words t) → n ≤ m + term_words words cells t
-  term_made words cells t e same most = made_by (cell_for cells t) (has_place words t) (literal_words t + column_words t) e same most
-
-  pub term_less : {E : Type 0} (words cells : List ℕ) (t : Term) (r : Result ℕ E) → cell_for cells t ≡ None → (has_place words t ≡ true → IsOk r)
-      → OnErr r (n < m + (literal_words t + column_words t)) → OnErr r (n < m + term_words words cells t)
-  term_less words cells t (Ok x) e ok most = most
-  term_less words cells t (Err x) e ok most =
-      less_by (cell_for cells t) (has_place words t) (literal_words t + column_words t) e (λ h. false≢true (ok h)) most
+  pub term_made : {E : Type 0} (words cells : List ℕ) (t : Term) (r : Result ℕ E) → cell_for cells t ≡ None → (has_place words t ≡ true → IsOk r × (n ≡ m))
+      → n + charge (is_err r) ≤ m + (literal_words t + column_words t) → n + charge (is_err r) ≤ m + term_words words cells t
+  term_made words cells t r e same most = made_by (cell_for cells t) (has_place words t) (literal_words t + column_words t) r e same most
 
 -- what holds in any case holds where there is a value
 pub on_ok : {E P : Type 0} (r : Result ℕ E) → P → OnOk r P

@@ -1,5 +1,5 @@
 -- What calls do to the words, one after another.
-use Rattle.std.{proofs.Common.{◌≡◌, ℕ, ◌+◌, ◌*◌, ◌≤◌, ◌<◌, Bool, true, false, List, length, refl, subst, ◌∙◌, arith}, specs.Borrow.GName}
+use Rattle.std.{specs.Prelude.{Result, is_err, OnErr}, proofs.Common.{◌≡◌, ℕ, ◌+◌, ◌*◌, ◌≤◌, ◌<◌, Bool, true, false, List, Ok, Err, length, refl, subst, ◌∙◌, arith}, specs.Borrow.GName}
 use Rattle.std.proofs.Math.Nat.{mul-le-mul_right}
 use Rattle.ct_word.{specs.WellFormed.IsWellFormed, proofs.Prefixes.{prefix_same, prefix_of_prefix}}
 use Rattle.ct_condition.specs.Writes.{charge, Writes}
@@ -8,7 +8,7 @@ module _ {S : Type 0} {words_of : S → List ℕ} {made_of : S → ℕ} {kept_of
   -- nothing was done yet
   pub writes_none : {m : ℕ} (now : S) → IsWellFormed (words_of now) → length (words_of now) ≤ cap → Writes words_of made_of kept_of lent_of cap now now m false
   writes_none now formed room =
-      record { longer = prefix_same (words_of now); formed = formed; room = room; full = λ e. let bad : false ≡ true = e in cc; made = omega arith; kept = refl; lent = refl }
+      record { longer = prefix_same (words_of now); formed = formed; room = room; full = λ e. let bad : false ≡ true = e in cc; rises = omega arith; made = omega arith; kept = refl; lent = refl }
 
   -- two calls, of which the first was answered
   pub writes_both : {old now new : S} {m n : ℕ} {refused : Bool} → Writes words_of made_of kept_of lent_of cap old now m false → Writes words_of made_of kept_of lent_of cap now new n refused → Writes words_of made_of kept_of lent_of cap old new (m + n) refused
@@ -17,22 +17,31 @@ module _ {S : Type 0} {words_of : S → List ℕ} {made_of : S → ℕ} {kept_of
     formed = b.formed;
     room = b.room;
     full = b.full;
+    rises = let h : made_of old ≤ made_of now = a.rises in let k : made_of now ≤ made_of new = b.rises in omega arith;
     made = let h : made_of new + charge refused ≤ made_of now + n = b.made in let k : made_of now + 0 ≤ made_of old + m = a.made in omega arith;
     kept = b.kept ∙ a.kept;
     lent = b.lent ∙ a.lent;
   }
 
+  -- with another bound
+  pub writes_of : {old new : S} {m n : ℕ} {refused : Bool} → Writes words_of made_of kept_of lent_of cap old new m refused → made_of new + charge refused ≤ made_of old + n → Writes words_of made_of kept_of lent_of cap old new n refused
+  writes_of a most = record { longer = a.longer; formed = a.formed; room = a.room; full = a.full; rises = a.rises; made = most; kept = a.kept; lent = a.lent }
+
   -- with a larger bound
   pub writes_within : {old new : S} {m : ℕ} {refused : Bool} (n : ℕ) → m ≤ n → Writes words_of made_of kept_of lent_of cap old new m refused → Writes words_of made_of kept_of lent_of cap old new n refused
-  writes_within {old} {new} {m} {refused} n le a = record {
-    longer = a.longer;
-    formed = a.formed;
-    room = a.room;
-    full = a.full;
-    made = let h : made_of new + charge refused ≤ made_of old + m = a.made in omega arith;
-    kept = a.kept;
-    lent = a.lent;
-  }
+  writes_within {old} {new} {m} {refused} n le a = writes_of a (let h : made_of new + charge refused ≤ made_of old + m = a.made in omega arith)
+
+  -- the bound alone, and what a refused call tells
+  pub writes_made : {old new : S} {m : ℕ} {refused : Bool} → Writes words_of made_of kept_of lent_of cap old new m refused → made_of new ≤ made_of old + m
+  writes_made {old} {new} {m} {refused} a = let h : made_of new + charge refused ≤ made_of old + m = a.made in omega arith
+
+  pub writes_fewer : {T E : Type 0} {old new : S} {m : ℕ} (r : Result T E) → Writes words_of made_of kept_of lent_of cap old new m (is_err r) → OnErr r (made_of new < made_of old + m)
+  writes_fewer (Ok x) a = tt
+  writes_fewer {old = old} {new} {m} (Err e) a = let h : made_of new + 1 ≤ made_of old + m = a.made in omega arith
+
+  pub writes_full : {T E : Type 0} {old new : S} {m : ℕ} (r : Result T E) → Writes words_of made_of kept_of lent_of cap old new m (is_err r) → OnErr r (length (words_of new) ≡ cap)
+  writes_full (Ok x) a = tt
+  writes_full (Err e) a = a.full refl
 
   -- with a bound said in other words
   pub writes_as : {old new : S} {m n : ℕ} {refused : Bool} → m ≡ n → Writes words_of made_of kept_of lent_of cap old new m refused → Writes words_of made_of kept_of lent_of cap old new n refused

@@ -38,15 +38,10 @@ fn pair<N: Site, I: Interner<N>>(
     ensures place { IfOk result (λ place. IsTrue (is_place_of (I.list pass.new) (class_of kind) place)) }
     ensures small { IfOk result (λ place. place < 2 ^ 28) }
     ensures terms { IfOk result (λ place. TermsFrom (I.list pass.new) place (λ t. StandsAt (I.list pass.new) place (IsTerm t) ⊎ BelowEither (I.list pass.new) c d t)) }
-    ensures longer { IsPrefix (I.list pass.old) (I.list pass.new) }
-    ensures room { length (I.list pass.new) ≤ N.log.cap }
-    ensures formed { IsWellFormed (I.list pass.new) }
+    ensures writes { Writes I.list I.made I.kept I.lent N.log.cap pass.old pass.new 1 (is_err result) }
     ensures full { IsErr result ↔ ((length (I.list pass.new) ≡ N.log.cap) × ¬ Contains (I.list pass.new) (word_of kind (min c d) (max c d))) }
     ensures known { Contains (I.list pass.old) (word_of kind (min c d) (max c d)) → IsOk result × (I.list pass.new ≡ I.list pass.old) × (I.made pass.new ≡ I.made pass.old) }
-    ensures made { I.made pass.new ≤ I.made pass.old + 1 }
     ensures err { OnErr result (I.made pass.new ≡ I.made pass.old) }
-    ensures kept { I.kept pass.new ≡ I.kept pass.old }
-    ensures lent { I.lent pass.new ≡ I.lent pass.old }
 {
     if c < d {
         put(arena, pass, kind, c, d)
@@ -228,13 +223,7 @@ pub fn all<N: Site, I: Interner<N>>(
     requires { All (λ c. IsTrue (is_place_of (I.list pass.old) class.Cond c)) list.now }
     ensures truth { IfOk result (λ place. HasTruth (I.list pass.new) place (all_at (I.list pass.old) list.now)) }
     ensures terms { IfOk result (λ place. TermsFrom (I.list pass.new) place (BelowSome (I.list pass.old) list.now)) }
-    ensures longer { IsPrefix (I.list pass.old) (I.list pass.new) }
-    ensures formed { IsWellFormed (I.list pass.new) }
-    ensures full { OnErr result (length (I.list pass.new) ≡ N.log.cap) }
-    ensures made { I.made pass.new ≤ I.made pass.old + length list.now }
-    ensures err { OnErr result (I.made pass.new < I.made pass.old + length list.now) }
-    ensures kept { I.kept pass.new ≡ I.kept pass.old }
-    ensures lent { I.lent pass.new ≡ I.lent pass.old }
+    ensures writes { Writes I.list I.made I.kept I.lent N.log.cap pass.old pass.new (length list.now) (is_err result) }
 {
     let mut place = literal(pass.words(), true);
     for c in list {

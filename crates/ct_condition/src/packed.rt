@@ -1,6 +1,6 @@
 // One word.
 
-ghost use Rattle.std.specs.Prelude.{◌≡◌, ◌≤◌, ◌<◌, ◌^◌, ◌↔◌, length, IfOk, IsErr, IsOk, OnErr, IsTrue, Some, false, slice_get, Contains};
+ghost use Rattle.std.specs.Prelude.{◌≡◌, ◌≤◌, ◌<◌, ◌^◌, ◌↔◌, length, IfOk, IsErr, IsOk, OnErr, IsTrue, Some, false, slice_get, Contains, is_err};
 ghost use mathlib.Core.List.{IsPrefix};
 ghost use Rattle.ct_word.specs.declared.kinds.Class.TheVariants as class;
 ghost use Rattle.ct_word.specs.Reading.{by_kind, meanings};
@@ -9,6 +9,7 @@ ghost use Rattle.ct_word.specs.Word.{word_of};
 ghost use Rattle.ct_arena.specs.Seen.{CountsWord};
 ghost use Rattle.ct_condition.specs.Terms.{TermsFrom, AtOrUnder};
 ghost use Rattle.ct_word.specs.WellFormed.{IsWellFormed, is_formed_as, is_place_of, class_of, has_class};
+ghost use Rattle.ct_condition.specs.Writes.{Writes};
 
 use crate::interner::Interner;
 use ct_arena::{Arena, Full, Site};
@@ -34,6 +35,7 @@ pub fn put<N: Site, I: Interner<N>>(
     ensures place { IfOk result (λ place. IsTrue (is_place_of (I.list pass.new) (class_of kind) place)) }
     ensures small { IfOk result (λ place. place < 2 ^ 28) }
     ensures terms { IfOk result (λ place. TermsFrom (I.list pass.new) place (AtOrUnder (I.list pass.new) place kind a b)) }
+    ensures writes { Writes I.list I.made I.kept I.lent N.log.cap pass.old pass.new 1 (is_err result) }
     ensures longer { IsPrefix (I.list pass.old) (I.list pass.new) }
     ensures formed { IsWellFormed (I.list pass.new) }
     ensures room { length (I.list pass.new) ≤ N.log.cap }

@@ -1,6 +1,6 @@
 // Predicates on rows.
 
-ghost use Rattle.std.specs.Prelude.{◌≡◌, ◌≤◌, ◌+◌, ◌<◌, ◌^◌, length, All, IfOk, OnErr, OnOk, IsTrue};
+ghost use Rattle.std.specs.Prelude.{◌≡◌, ◌≤◌, ◌+◌, ◌<◌, ◌^◌, length, All, IfOk, OnErr, OnOk, IsTrue, is_err};
 ghost use mathlib.Core.List.{IsPrefix};
 ghost use Rattle.ct_word.specs.Condition.{Same};
 ghost use Rattle.ct_word.specs.WellFormed.{is_place_of};
@@ -12,6 +12,7 @@ ghost use Rattle.ct_condition.specs.Runs.{under};
 ghost use Rattle.ct_condition.specs.Rows.{cell_for, WorthOn, on_row, term_words, words_on, new_words};
 ghost use Rattle.ct_query.specs.Bounds.{ops};
 ghost use Rattle.ct_condition.specs.Terms.{TermsFrom, IsOnRow, IsTermOnRow};
+ghost use Rattle.ct_condition.specs.Writes.{Writes};
 
 use crate::conditions::{eq, join, not};
 use crate::folding::literal;
@@ -43,16 +44,14 @@ fn place_on<N: Site, I: Interner<N>>(
     ensures worth { IfOk result (λ place. WorthOn (I.list pass.old) (I.list pass.new) t.now row.now place) }
     ensures place { IfOk result (λ place. IsTrue (is_place_of (I.list pass.new) class.Term place)) }
     ensures terms { IfOk result (λ place. TermsFrom (I.list pass.new) place (IsTermOnRow (I.list pass.old) row.now t.now)) }
-    ensures longer { IsPrefix (I.list pass.old) (I.list pass.new) }
-    ensures full { OnErr result (length (I.list pass.new) ≡ N.log.cap) }
-    ensures made { I.made pass.new ≤ I.made pass.old + term_words (I.list pass.old) row.now t.now }
-    ensures err { OnErr result (I.made pass.new < I.made pass.old + term_words (I.list pass.old) row.now t.now) }
+    ensures writes { Writes I.list I.made I.kept I.lent N.log.cap pass.old pass.new (term_words (I.list pass.old) row.now t.now) (is_err result) }
     ensures placed { OnOk result (term_words (I.list pass.new) row.now t.now ≡ 0) }
-    ensures kept { I.kept pass.new ≡ I.kept pass.old }
-    ensures lent { I.lent pass.new ≡ I.lent pass.old }
 {
     match cell(row, t) {
-        Some(place) => Ok(place),
+        Some(place) => {
+            let _ = pass.words();
+            Ok(place)
+        }
         None => term(arena, pass, t),
     }
 }
@@ -71,13 +70,8 @@ fn same<N: Site, I: Interner<N>>(
     ensures truth { IfOk result (λ place. HasTruth (I.list pass.new) place (on_row (I.list pass.old) (Same s.now t.now) row.now)) }
     ensures terms { IfOk result (λ place. TermsFrom (I.list pass.new) place (IsOnRow (I.list pass.old) row.now (Same s.now t.now))) }
     ensures ops { IfOk result (λ place. ops_at (I.list pass.new) place ≤ 1) }
-    ensures longer { IsPrefix (I.list pass.old) (I.list pass.new) }
-    ensures full { OnErr result (length (I.list pass.new) ≡ N.log.cap) }
-    ensures made { I.made pass.new ≤ I.made pass.old + words_on (I.list pass.old) row.now (Same s.now t.now) }
-    ensures err { OnErr result (I.made pass.new < I.made pass.old + words_on (I.list pass.old) row.now (Same s.now t.now)) }
+    ensures writes { Writes I.list I.made I.kept I.lent N.log.cap pass.old pass.new (words_on (I.list pass.old) row.now (Same s.now t.now)) (is_err result) }
     ensures placed { OnOk result (new_words (I.list pass.new) row.now (Same s.now t.now) ≡ 0) }
-    ensures kept { I.kept pass.new ≡ I.kept pass.old }
-    ensures lent { I.lent pass.new ≡ I.lent pass.old }
 {
     let left = place_on(arena, pass, s, row)?;
     let right = place_on(arena, pass, t, row)?;
@@ -98,13 +92,8 @@ fn run<N: Site, I: Interner<N>>(
     ensures truth { IfOk result (λ place. HasTruth (I.list pass.new) place (on_row (I.list pass.old) (condition_of (under connective list.now)) row.now)) }
     ensures terms { IfOk result (λ place. TermsFrom (I.list pass.new) place (IsOnRow (I.list pass.old) row.now (condition_of (under connective list.now)))) }
     ensures ops { IfOk result (λ place. ops_at (I.list pass.new) place ≤ ops (condition_of (under connective list.now))) }
-    ensures longer { IsPrefix (I.list pass.old) (I.list pass.new) }
-    ensures full { OnErr result (length (I.list pass.new) ≡ N.log.cap) }
-    ensures made { I.made pass.new ≤ I.made pass.old + words_on (I.list pass.old) row.now (condition_of (under connective list.now)) }
-    ensures err { OnErr result (I.made pass.new < I.made pass.old + words_on (I.list pass.old) row.now (condition_of (under connective list.now))) }
+    ensures writes { Writes I.list I.made I.kept I.lent N.log.cap pass.old pass.new (words_on (I.list pass.old) row.now (condition_of (under connective list.now))) (is_err result) }
     ensures placed { OnOk result (new_words (I.list pass.new) row.now (condition_of (under connective list.now)) ≡ 0) }
-    ensures kept { I.kept pass.new ≡ I.kept pass.old }
-    ensures lent { I.lent pass.new ≡ I.lent pass.old }
 {
     let mut place = literal(pass.words(), connective.unit());
     for p in list {
@@ -131,6 +120,7 @@ pub fn pred<N: Site, I: Interner<N>>(
     ensures truth { IfOk result (λ place. HasTruth (I.list pass.new) place (on_row (I.list pass.old) (condition_of p.now) row.now)) }
     ensures terms { IfOk result (λ place. TermsFrom (I.list pass.new) place (IsOnRow (I.list pass.old) row.now (condition_of p.now))) }
     ensures ops { IfOk result (λ place. ops_at (I.list pass.new) place ≤ ops (condition_of p.now)) }
+    ensures writes { Writes I.list I.made I.kept I.lent N.log.cap pass.old pass.new (words_on (I.list pass.old) row.now (condition_of p.now)) (is_err result) }
     ensures longer { IsPrefix (I.list pass.old) (I.list pass.new) }
     ensures full { OnErr result (length (I.list pass.new) ≡ N.log.cap) }
     ensures made { I.made pass.new ≤ I.made pass.old + words_on (I.list pass.old) row.now (condition_of p.now) }

@@ -1,6 +1,6 @@
 // Terms.
 
-ghost use Rattle.std.specs.Prelude.{ℕ, ◌≡◌, ◌≤◌, ◌+◌, ◌<◌, ◌^◌, length, IfOk, IsOk, OnErr, IsTrue};
+ghost use Rattle.std.specs.Prelude.{ℕ, ◌≡◌, ◌≤◌, ◌+◌, ◌<◌, ◌^◌, length, IfOk, IsOk, OnErr, IsTrue, is_err};
 ghost use mathlib.Core.List.{IsPrefix};
 ghost use Rattle.ct_word.specs.Reading.{IsTerm};
 ghost use Rattle.ct_word.specs.Stands.{StandsAt};
@@ -13,6 +13,7 @@ ghost use Rattle.ct_query.specs.Bounds.{characters, literal_words, column_words}
 ghost use Rattle.ct_query.specs.Fields.{FitsFields};
 ghost use Rattle.ct_condition.specs.Terms.{TermsFrom, is_text_kind, text_term};
 ghost use Rattle.ct_condition.specs.Places.{has_place};
+ghost use Rattle.ct_condition.specs.Writes.{Writes};
 
 use crate::interner::Interner;
 use crate::packed::put;
@@ -26,13 +27,8 @@ fn number<N: Site, I: Interner<N>>(arena: &Arena<N>, pass: &mut I, number: i64) 
     ensures place { IfOk result (λ place. IsTrue (is_place_of (I.list pass.new) class.Term place)) }
     ensures small { IfOk result (λ place. place < 2 ^ 28) }
     ensures terms { IfOk result (λ place. TermsFrom (I.list pass.new) place (λ t. t ≡ term.Value (val.Int number))) }
-    ensures longer { IsPrefix (I.list pass.old) (I.list pass.new) }
-    ensures full { OnErr result (length (I.list pass.new) ≡ N.log.cap) }
+    ensures writes { Writes I.list I.made I.kept I.lent N.log.cap pass.old pass.new 2 (is_err result) }
     ensures known { (p : ℕ) → StandsAt (I.list pass.old) p (IsTerm (term.Value (val.Int number))) → IsOk result × (I.list pass.new ≡ I.list pass.old) × (I.made pass.new ≡ I.made pass.old) }
-    ensures made { I.made pass.new ≤ I.made pass.old + 2 }
-    ensures err { OnErr result (I.made pass.new < I.made pass.old + 2) }
-    ensures kept { I.kept pass.new ≡ I.kept pass.old }
-    ensures lent { I.lent pass.new ≡ I.lent pass.old }
 {
     let bits = number.cast_unsigned();
     let upper = (bits / 0x10_0000_0000) as u32;
@@ -51,13 +47,8 @@ fn value<N: Site, I: Interner<N>>(
     ensures place { IfOk result (λ place. IsTrue (is_place_of (I.list pass.new) class.Term place)) }
     ensures small { IfOk result (λ place. place < 2 ^ 28) }
     ensures terms { IfOk result (λ place. TermsFrom (I.list pass.new) place (λ t. t ≡ term.Value value.now)) }
-    ensures longer { IsPrefix (I.list pass.old) (I.list pass.new) }
-    ensures full { OnErr result (length (I.list pass.new) ≡ N.log.cap) }
+    ensures writes { Writes I.list I.made I.kept I.lent N.log.cap pass.old pass.new (literal_words (term.Value value.now)) (is_err result) }
     ensures known { (p : ℕ) → StandsAt (I.list pass.old) p (IsTerm (term.Value value.now)) → IsOk result × (I.list pass.new ≡ I.list pass.old) × (I.made pass.new ≡ I.made pass.old) }
-    ensures made { I.made pass.new ≤ I.made pass.old + literal_words (term.Value value.now) }
-    ensures err { OnErr result (I.made pass.new < I.made pass.old + literal_words (term.Value value.now)) }
-    ensures kept { I.kept pass.new ≡ I.kept pass.old }
-    ensures lent { I.lent pass.new ≡ I.lent pass.old }
 {
     match value {
         Value::Int(n) => number(arena, pass, *n),
@@ -78,13 +69,8 @@ fn over_text<N: Site, I: Interner<N>>(
     ensures place { IfOk result (λ place. IsTrue (is_place_of (I.list pass.new) class.Term place)) }
     ensures small { IfOk result (λ place. place < 2 ^ 28) }
     ensures terms { IfOk result (λ place. TermsFrom (I.list pass.new) place (λ u. u ≡ text_term kind t.now)) }
-    ensures longer { IsPrefix (I.list pass.old) (I.list pass.new) }
-    ensures full { OnErr result (length (I.list pass.new) ≡ N.log.cap) }
+    ensures writes { Writes I.list I.made I.kept I.lent N.log.cap pass.old pass.new (characters t.now + 2) (is_err result) }
     ensures known { (p : ℕ) → StandsAt (I.list pass.old) p (IsTerm (text_term kind t.now)) → IsOk result × (I.list pass.new ≡ I.list pass.old) × (I.made pass.new ≡ I.made pass.old) }
-    ensures made { I.made pass.new ≤ I.made pass.old + (characters t.now + 2) }
-    ensures err { OnErr result (I.made pass.new < I.made pass.old + (characters t.now + 2)) }
-    ensures kept { I.kept pass.new ≡ I.kept pass.old }
-    ensures lent { I.lent pass.new ≡ I.lent pass.old }
 {
     let place = text(arena, pass, t)?;
     put(arena, pass, kind, place, 0)
@@ -100,13 +86,8 @@ fn marked_null<N: Site, I: Interner<N>>(
     ensures place { IfOk result (λ place. IsTrue (is_place_of (I.list pass.new) class.Term place)) }
     ensures small { IfOk result (λ place. place < 2 ^ 28) }
     ensures terms { IfOk result (λ place. TermsFrom (I.list pass.new) place (λ t. t ≡ term.Null marked.now)) }
-    ensures longer { IsPrefix (I.list pass.old) (I.list pass.new) }
-    ensures full { OnErr result (length (I.list pass.new) ≡ N.log.cap) }
+    ensures writes { Writes I.list I.made I.kept I.lent N.log.cap pass.old pass.new (literal_words (term.Null marked.now)) (is_err result) }
     ensures known { (p : ℕ) → StandsAt (I.list pass.old) p (IsTerm (term.Null marked.now)) → IsOk result × (I.list pass.new ≡ I.list pass.old) × (I.made pass.new ≡ I.made pass.old) }
-    ensures made { I.made pass.new ≤ I.made pass.old + literal_words (term.Null marked.now) }
-    ensures err { OnErr result (I.made pass.new < I.made pass.old + literal_words (term.Null marked.now)) }
-    ensures kept { I.kept pass.new ≡ I.kept pass.old }
-    ensures lent { I.lent pass.new ≡ I.lent pass.old }
 {
     match marked {
         Null::Named(name) => over_text(arena, pass, Kind::NamedNull, name.as_str()),
@@ -128,6 +109,7 @@ pub fn term<N: Site, I: Interner<N>>(
     ensures place { IfOk result (λ place. IsTrue (is_place_of (I.list pass.new) class.Term place)) }
     ensures small { IfOk result (λ place. place < 2 ^ 28) }
     ensures terms { IfOk result (λ place. TermsFrom (I.list pass.new) place (λ t. t ≡ term.now)) }
+    ensures writes { Writes I.list I.made I.kept I.lent N.log.cap pass.old pass.new (literal_words term.now + column_words term.now) (is_err result) }
     ensures longer { IsPrefix (I.list pass.old) (I.list pass.new) }
     ensures full { OnErr result (length (I.list pass.new) ≡ N.log.cap) }
     ensures known { IsTrue (has_place (I.list pass.old) term.now) → IsOk result × (I.list pass.new ≡ I.list pass.old) × (I.made pass.new ≡ I.made pass.old) }

@@ -1,6 +1,6 @@
 // Texts.
 
-ghost use Rattle.std.specs.Prelude.{ℕ, ◌≡◌, ◌≤◌, ◌+◌, ◌<◌, ◌^◌, length, IfOk, IsOk, OnErr, IsTrue};
+ghost use Rattle.std.specs.Prelude.{ℕ, ◌≡◌, ◌≤◌, ◌+◌, ◌<◌, ◌^◌, length, IfOk, IsOk, OnErr, IsTrue, is_err};
 ghost use mathlib.Core.List.{IsPrefix};
 ghost use Rattle.ct_word.specs.Reading.{IsText};
 ghost use Rattle.ct_word.specs.Stands.{StandsAt};
@@ -8,6 +8,7 @@ ghost use Rattle.ct_word.specs.WellFormed.{IsWellFormed, is_place_of};
 ghost use Rattle.ct_query.specs.Bounds.{characters};
 ghost use Rattle.ct_word.specs.declared.kinds.Class.TheVariants as class;
 ghost use Rattle.ct_condition.specs.Terms.{TermsFrom};
+ghost use Rattle.ct_condition.specs.Writes.{Writes};
 
 use crate::interner::Interner;
 use crate::packed::put;
@@ -27,6 +28,7 @@ pub fn text<N: Site, I: Interner<N>>(
     ensures place { IfOk result (λ place. IsTrue (is_place_of (I.list pass.new) class.Text place)) }
     ensures small { IfOk result (λ place. place < 2 ^ 28) }
     ensures terms { IfOk result (λ place. TermsFrom (I.list pass.new) place (λ t. ⊥)) }
+    ensures writes { Writes I.list I.made I.kept I.lent N.log.cap pass.old pass.new (characters text.now + 1) (is_err result) }
     ensures longer { IsPrefix (I.list pass.old) (I.list pass.new) }
     ensures full { OnErr result (length (I.list pass.new) ≡ N.log.cap) }
     ensures formed { IsWellFormed (I.list pass.new) }

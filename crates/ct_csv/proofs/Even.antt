@@ -1,5 +1,5 @@
 -- Records as long as the first.
-use Rattle.std.proofs.Common.{◌≡◌, ◌≢◌, ℕ, List, [], ◌∷◌, ◌++◌, length, refl, sym, ap, subst, ◌∙◌}
+use Rattle.std.proofs.Common.{◌≡◌, ℕ, List, [], ◌∷◌, ◌++◌, length, sym, subst, ◌∙◌}
 use Rattle.std.specs.Prelude.{Option, Some, None}
 use Rattle.csv.specs.Records.{AllText}
 use Rattle.ct_csv.specs.Csv.{AreTexts, HaveFields, AreEven}

@@ -1,13 +1,11 @@
 -- Bytes have one list of records, and are refused for one cause.
-use Rattle.std.proofs.Common.{◌≡◌, ℕ, List, [], length, refl, sym, ap, ap₂, subst, ◌∙◌}
+use Rattle.std.proofs.Common.{◌≡◌, ℕ, List, refl, sym, ap, ap₂, subst, ◌∙◌}
 use Rattle.std.specs.Prelude.{Option, Some, None, IsSome}
 use Rattle.csv.specs.Reading.{default_config, strip_bom}
 use Rattle.csv.specs.declared.parser.State.TheVariants.{StartRecord}
-use Rattle.ct_word.specs.Change.{PlainRow}
-use Rattle.ct_csv.specs.declared.error.ImportError.{ImportError}
 use Rattle.ct_csv.specs.declared.error.ImportError.TheVariants as fault
-use Rattle.ct_csv.{specs.Csv.IsCsv, specs.Fields.header, specs.File.IsFile}
-use Rattle.ct_csv.specs.Refusing.{AreRows, IsFirstBad, WhyNoFile, Refuses}
+use Rattle.ct_csv.{specs.Fields.header}
+use Rattle.ct_csv.specs.Refusing.{AreRows, IsFirstBad}
 use Rattle.ct_csv.specs.Importing.{HaveOneList, RefusesNoFile, RefusesForOne}
 use Rattle.ct_csv.{proofs.Reached.one_list, proofs.Rows.{file_right, none_bad, same_bad}}
 

@@ -1,5 +1,5 @@
 -- What the private calls of `src/fields.rt` find.
-use Rattle.std.proofs.Common.{◌≡◌, ℕ, zero, suc, ◌+◌, ◌-◌, ◌<◌, ◌≤◌, Bool, true, false, List, [], ◌∷◌, ◌++◌, length, take, get_or, refl, sym, ap, subst, ◌∙◌, arith, length-take}
+use Rattle.std.proofs.Common.{◌≡◌, ℕ, zero, suc, ◌-◌, ◌<◌, Bool, true, false, List, [], ◌∷◌, length, take, get_or, refl, sym, ap, subst, ◌∙◌, arith, length-take}
 use Rattle.std.{specs.Prelude.{Option, Some, None, Ok, Err, codes, if◌then◌else◌}, proofs.lemmas.List.get_or-take}
 use Rattle.csv.specs.Records.{field_at}
 use Rattle.ct_word.specs.Value.{same_text}

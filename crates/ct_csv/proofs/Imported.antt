@@ -1,6 +1,6 @@
 -- What is imported, by the records that were read.
-use Rattle.std.proofs.Common.{◌≡◌, ℕ, List, [], ◌∷◌, map, drop, refl, sym, ap, ◌∙◌}
-use Rattle.std.specs.Prelude.{Result, Ok, Err, Some, None, IfOk, IfErr, slice_get}
+use Rattle.std.proofs.Common.{◌≡◌, ℕ, List, [], ◌∷◌, map, drop, sym, ap, ◌∙◌}
+use Rattle.std.specs.Prelude.{Result, Ok, Err, Some, IfOk, IfErr, slice_get}
 use Rattle.csv.specs.Records.{Row, fields_of}
 use Rattle.ct_csv.specs.declared.error.ImportError.{ImportError}
 use Rattle.ct_csv.specs.declared.error.ImportError.TheVariants as fault

@@ -3,7 +3,7 @@ use Rattle.std.proofs.Common.{◌≡◌, ℕ, zero, suc, ◌+◌, ◌-◌, ◌<�
 use Rattle.std.{specs.Prelude.flat_map, proofs.lemmas.List.take_more, proofs.lemmas.Grind.flat_map-append, proofs.lemmas.Bool.cases_lt}
 use Rattle.ct_csv.specs.declared.error.ImportError.{ImportError}
 use Rattle.ct_csv.specs.declared.error.ImportError.TheVariants as fault
-use Rattle.ct_csv.specs.Refusing.{AreRight, IsFirstWrong, first_bad, WhyNoRow, WhyNoRows}
+use Rattle.ct_csv.specs.Refusing.{AreRight, first_bad, WhyNoRow, WhyNoRows}
 
 pub get_mapped : {A B : Type 0} (f : A → B) (xs : List A) (i : ℕ) (d : A) (e : B) → i < length xs → get_or (map f xs) i e ≡ f (get_or xs i d)
 get_mapped f [] i d e less = absurd (omega arith)

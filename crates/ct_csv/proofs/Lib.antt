@@ -10,3 +10,16 @@ pub mod Found
 pub mod Refused
 pub mod Inserted
 pub mod Imported
+pub mod ExportBytes
+pub mod ExportCells
+pub mod ExportConditions
+pub mod ExportRows
+pub mod ExportRanges
+pub mod ExportForms
+pub mod ExportFile
+pub mod ExportTexts
+pub mod Marks
+pub mod Widths
+pub mod Recorded
+pub mod Files
+pub mod Alone

@@ -1,5 +1,5 @@
 -- The name that a whole field is.
-use Rattle.std.{proofs.Common.{◌≡◌, ℕ, Bool, true, false, ◌||◌, List, [], ◌∷◌, refl, sym, ap, ap₂, subst, ◌∙◌, arith}, specs.List.list_all, specs.Char.to_ascii_lowercase}
+use Rattle.std.{proofs.Common.{◌≡◌, ℕ, Bool, true, false, ◌||◌, List, [], ◌∷◌, refl, ap, ap₂, ◌∙◌, arith}, specs.List.list_all, specs.Char.to_ascii_lowercase}
 use Rattle.std.{specs.Prelude.{Option, Some, None, IfSome, IfNone, IfOk, Result, Ok, Err, if◌then◌else◌}, specs.Option.is_some, proofs.lemmas.Bool.Decides.nat_tests}
 use Rattle.ct_word.specs.Names.{is_letter, is_digit, is_word, is_name}
 use Rattle.ct_lex.specs.Spelling.{lowered, word}

@@ -1,12 +1,12 @@
 -- A condition in which no name stands means something where no table is in scope.
-use Rattle.std.{proofs.Common.{◌≡◌, ℕ, Bool, true, false, ◌||◌, List, [], ◌∷◌, refl, ap, sym, subst, ◌∙◌, arith}, specs.List.list_any, proofs.lemmas.Bool.true≢false}
+use Rattle.std.{proofs.Common.{◌≡◌, ℕ, false, List, [], ◌∷◌, refl, ap, sym, subst, ◌∙◌, arith}, specs.List.list_any, proofs.lemmas.Bool.true≢false}
 use Rattle.std.specs.Prelude.{Ok, Err}
 use Rattle.ct_word.{specs.declared.values.Term.Term, specs.Condition.Condition}
 use Rattle.ct_lex.specs.declared.token.Lexeme.{Lexeme}
 use Rattle.ct_parse.{specs.declared.tree.Column.Column, specs.declared.tree.Comparison.Comparison, specs.declared.tree.Conjunction.Conjunction}
 use Rattle.ct_parse.{specs.declared.tree.Condition.out-roll-Condition, specs.declared.tree.Factor.Factor}
 use Rattle.ct_parse.specs.Grammar.{IsName, name, IsColumn, plain as plain_column, qualified, IsTerm, number_term, text_term, null_term, column_term, IsComparison, equal, unequal, condition_of, IsFactor, negated as not_factor, nested, true_factor, false_factor, compared as compared_terms, AreFactors, no_factor, and_factor, IsConjunction, conjunction, AreConjunctions, no_conjunction, or_conjunction, IsCondition, condition}
-use Rattle.ct_resolve.specs.Found.{Found, and_then, in_front, each}
+use Rattle.ct_resolve.specs.Found.{Found, in_front, each}
 use Rattle.ct_resolve.specs.Conditions.{term_at, negated, comparison_of, all_found, any_found, factor_at, conjunction_at, condition_at}
 use Rattle.ct_resolve.proofs.Trees.{not_is, nested_is, condition_is}
 use Rattle.ct_csv.specs.Fields.{is_name_word}

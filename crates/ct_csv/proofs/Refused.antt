@@ -1,7 +1,6 @@
 -- What a refusal of the reader says of the bytes.
-use Rattle.std.proofs.Common.{◌≡◌, ◌≢◌, ℕ, List, [], ◌∷◌, ◌++◌, length, refl, sym, ap, subst, ◌∙◌}
+use Rattle.std.proofs.Common.{◌≡◌, ◌≢◌, ℕ, List, length, sym, ap, subst, ◌∙◌}
 use Rattle.std.specs.Prelude.{Option, Some, None, true, IfSome}
-use Rattle.csv.specs.Machine.{Read, next_record}
 use Rattle.csv.specs.Reading.{ExplainsRead, Reached, ReadsNext, default_config, source_of, pending_of, strip_bom}
 use Rattle.csv.specs.Records.{AllText}
 use Rattle.csv.specs.declared.reader.Reader.{Reader}

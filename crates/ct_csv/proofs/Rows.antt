@@ -5,7 +5,7 @@ use Rattle.ct_word.{specs.declared.values.Term.Term, specs.Change.PlainRow, spec
 use Rattle.ct_csv.specs.Csv.{HaveFields, AreEven}
 use Rattle.ct_csv.specs.Fields.{cell_fields, condition_field, field_name, before_names, names_of, some_of, columns_of, header, cell_of}
 use Rattle.ct_csv.specs.File.{SaysRow, SayRows}
-use Rattle.ct_csv.specs.Refusing.{IsCondition, IsRight, AreRight, IsFirstWrong, IsFirstBad, first_bad, HaveSome, AreRows}
+use Rattle.ct_csv.specs.Refusing.{IsCondition, AreRight, IsFirstWrong, IsFirstBad, first_bad, HaveSome, AreRows}
 
 -- the terms of fields that are all cells
 some_of_cell : (o : Option Term) → IsSome o → (t : Term) × (o ≡ Some t)

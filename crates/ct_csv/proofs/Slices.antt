@@ -1,6 +1,6 @@
 -- A token's slice begins and ends where characters do.
-use Rattle.std.proofs.Common.{◌≡◌, ℕ, zero, suc, ◌+◌, ◌-◌, ◌<◌, ◌≤◌, Bool, true, false, List, [], ◌∷◌, ◌++◌, length, take, drop, get_or, refl, sym, ap, subst, ◌∙◌, arith, append_assoc, length-append, length-take, length-drop}
-use Rattle.std.{specs.Prelude.{nat_eq, slice_range, Option, Some}, specs.List.list_all, specs.Str.{IsUtf8, IsCharBoundary}, proofs.lemmas.Bool.Decides.nat_tests}
+use Rattle.std.proofs.Common.{◌≡◌, ℕ, zero, suc, ◌+◌, ◌-◌, ◌<◌, ◌≤◌, Bool, true, false, List, [], ◌∷◌, ◌++◌, length, drop, get_or, refl, sym, ap, subst, ◌∙◌, arith, length-append, length-take, length-drop}
+use Rattle.std.{specs.Prelude.{slice_range, Option, Some}, specs.List.list_all, specs.Str.{IsUtf8, IsCharBoundary}, proofs.lemmas.Bool.Decides.nat_tests}
 use Rattle.std.{proofs.lemmas.List.{get_or-take, get_or-drop}, proofs.Math.Seq.get_or-append_seam, proofs.lemmas.Str.{IsCharBoundary-after_ascii, IsCharBoundary-before_ascii}}
 use Rattle.ct_word.specs.Names.{is_digit}
 use Rattle.ct_lex.{specs.declared.token.Lexeme.Lexeme, specs.declared.token.Token.Token, specs.Tokens.AreSlicesFrom}

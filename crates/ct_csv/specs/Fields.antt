@@ -1,5 +1,5 @@
 -- What the fields of a record say: names of columns, terms and a condition.
-use Rattle.std.specs.Prelude.{◌≡◌, ℕ, ◌-◌, Bool, false, List, [], ◌∷◌, map, length, take, slice_index_or, Option, Some, None, Result, Ok, Err, IsFalse, codes, if◌then◌else◌}
+use Rattle.std.specs.Prelude.{◌≡◌, ℕ, ◌-◌, Bool, false, List, [], ◌∷◌, length, take, slice_index_or, Option, Some, None, Ok, Err, IsFalse, codes, if◌then◌else◌}
 use Rattle.std.specs.List.{list_any}
 use Rattle.ct_word.specs.declared.values.Value.TheVariants as val
 use Rattle.ct_word.specs.declared.values.Null.TheVariants as null

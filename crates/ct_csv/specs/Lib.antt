@@ -4,4 +4,8 @@ pub mod File
 pub mod Renaming
 pub mod Script
 pub mod Refusing
+pub mod Underscores
+pub mod Measured
+pub mod Exported
+pub mod Writing
 pub mod Importing

@@ -1,5 +1,5 @@
 -- Why bytes are refused.
-use Rattle.std.specs.Prelude.{◌≡◌, ℕ, ◌+◌, ◌<◌, ◌≤◌, List, [], length, slice_index_or, Some, None, IsSome}
+use Rattle.std.specs.Prelude.{◌≡◌, ℕ, ◌+◌, ◌<◌, ◌≤◌, List, [], length, slice_index_or, None, IsSome}
 use Rattle.ct_word.specs.Condition.{Condition}
 use Rattle.ct_lex.specs.declared.token.Token.{Token}
 use Rattle.ct_csv.specs.declared.error.ImportError.{ImportError}

@@ -1,6 +1,5 @@
 -- Named nulls for fresh ones.
-use Rattle.std.specs.Prelude.{◌≡◌, ℕ, ◌≤◌, ◌<◌, Bool, true, false, not, List, [], ◌∷◌, ◌++◌, replicate, take, length, codes, decimal, IsTrue, IsFalse}
-use Rattle.std.specs.List.{list_all}
+use Rattle.std.specs.Prelude.{ℕ, ◌≤◌, ◌<◌, Bool, true, not, List, ◌++◌, replicate, take, length, codes, decimal, IsTrue, IsFalse}
 use Rattle.ct_word.specs.declared.values.Null.{Null}
 use Rattle.ct_word.specs.declared.values.Null.TheVariants as null
 use Rattle.ct_word.specs.declared.values.Term.{Term}
@@ -27,12 +26,8 @@ abbrev pub is_unmarked : ℕ → Term → Bool
 is_unmarked j (term.Null (null.Named t)) = not (same_text (take (length (mark j)) t) (mark j))
 is_unmarked j _ = true
 
--- whether no named null of the terms begins with the mark
-abbrev pub is_free : ℕ → List Term → Bool
-is_free j terms = list_all (is_unmarked j) terms
-
--- j is the least number from 1 on whose mark is free
-pub record IsLeastFree (j : ℕ) (terms : List Term) : Type 0 where
+-- j is the least number from 1 on such that none of these terms is a named null that begins with its mark
+pub record IsLeastFree (j : ℕ) (among : Term → Type 0) : Type 0 where
   pub from_one : 1 ≤ j
-  pub free : IsTrue (is_free j terms)
-  pub least : (i : ℕ) → 1 ≤ i → i < j → IsFalse (is_free i terms)
+  pub free : (t : Term) → among t → IsTrue (is_unmarked j t)
+  pub least : (i : ℕ) → 1 ≤ i → i < j → (t : Term) × among t × IsFalse (is_unmarked i t)

@@ -1,7 +1,8 @@
-// Why bytes are no file of a table.
+// Why bytes are no file of a table, and why a table has no file.
 
 ghost use Rattle.std.specs.Prelude.{◌≡◌};
 ghost use Rattle.ct_csv.specs.declared.error.ImportError.TheVariants as fault;
+ghost use Rattle.ct_csv.specs.declared.error.WideError.TheVariants as wide;
 
 use ct_word::Memory;
 use std::alloc::{AllocError, AllocFailed};
@@ -49,5 +50,43 @@ impl<T: Drop> From<AllocFailed<T>> for ImportError {
 
     fn from(_: AllocFailed<T>) -> Self {
         ImportError::Memory
+    }
+}
+
+/// Why there is no file of a table. The first that holds is answered.
+#[derive(Clone, Copy, Debug, PartialEq, Eq, Error)]
+pub enum WideError {
+    /// The condition of a row is printed, without new names for nulls, in more than 65,536 bytes or with more than 64
+    /// parentheses open at once. It is the first such row.
+    #[error("the condition of row {row} is too wide for a file")]
+    TooWide {
+        /// The row's number in the table, from 1.
+        row: u64,
+    },
+    #[error("out of memory")]
+    Memory,
+}
+
+impl From<Memory> for WideError {
+    ghost from_gives = { λ _ e. e ≡ wide.Memory };
+
+    fn from(_: Memory) -> Self {
+        WideError::Memory
+    }
+}
+
+impl From<AllocError> for WideError {
+    ghost from_gives = { λ _ e. e ≡ wide.Memory };
+
+    fn from(_: AllocError) -> Self {
+        WideError::Memory
+    }
+}
+
+impl<T: Drop> From<AllocFailed<T>> for WideError {
+    ghost from_gives = { λ _ e. e ≡ wide.Memory };
+
+    fn from(_: AllocFailed<T>) -> Self {
+        WideError::Memory
     }
 }

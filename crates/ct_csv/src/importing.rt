@@ -6,7 +6,7 @@ ghost use Rattle.ct_word.specs.Names.{is_name};
 ghost use Rattle.ct_lex.specs.Spelling.{lowered};
 ghost use Rattle.ct_csv.specs.Csv.{AreEven};
 ghost use Rattle.ct_csv.specs.Fields.{header};
-ghost use Rattle.ct_csv.specs.Importing.{IsImported, HaveOneList, RefusesNoFile, RefusesForOne};
+ghost use Rattle.ct_csv.specs.Importing.{IsImported, HaveOneList, RefusesNoFile, RefusesForOne, SaysOneTable, TakesExports};
 ghost use Rattle.ct_csv.specs.Refusing.{AreRows, Refuses, WhyNoFile};
 ghost use Rattle.ct_csv.specs.Script.{script_of};
 
@@ -70,4 +70,15 @@ pub fn files_are_taken()
 /// The law that bytes are refused for one cause, memory aside.
 pub fn refusals_are_one()
     ensures { RefusesForOne }
+{}
+
+/// The law that bytes are a file of one table at most.
+pub fn files_say_one_table()
+    ensures { SaysOneTable }
+{}
+
+/// The law that what was exported is refused for want of memory alone, and is imported with its
+/// columns and its rows, in order.
+pub fn exports_are_taken()
+    ensures { TakesExports }
 {}

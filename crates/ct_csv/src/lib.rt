@@ -4,10 +4,19 @@
 #![tactic(auto)]
 
 mod error;
+mod exporting;
 mod fields;
 mod importing;
 mod lines;
+mod measuring;
+mod printing;
 mod reading;
+mod underscores;
+mod writing;
 
-pub use error::ImportError;
-pub use importing::{files_are_taken, import, records_are_one, refusals_are_one};
+pub use error::{ImportError, WideError};
+pub use exporting::{export, forms_are_exported};
+pub use importing::{
+    exports_are_taken, files_are_taken, files_say_one_table, import, records_are_one,
+    refusals_are_one,
+};

@@ -100,14 +100,17 @@ fn decide_part(
     search(alloc, words, aim, asking)
 }
 
-/// Whether the condition at `root` holds at some valuation, where it does wherever `global` and all
-/// of `own` do, and `global` holds at a known world. Asked are the conditions `own` and those
-/// conjuncts of `global` that share a null with one that is asked. A world that is found for these
-/// gives the other nulls the values of the known one; where the conditions that are asked don't
-/// hold there, the whole is asked. Each value of the answer is one of the known world, a constant
-/// that stands below the root, or `@k` with k below 2^28, and each null one of the known world or
-/// one that stands below the root. No null stands twice, where none does in the known world. A
-/// derivation is as `decide` has it.
+/// Whether the condition at `root` holds at some valuation, where the root is a run of ANDs with
+/// `global` and `own` as its ends, as `run_beside` gives them, and `global` holds at a known world.
+/// Asked are the conditions `own` and those conjuncts of `global` that share a null with one that
+/// is asked. A world that is found for these gives the other nulls the values of the known one;
+/// where the conditions that are asked don't hold there, the whole is asked. No clause says what is
+/// asked. A world is one of the question alone, as `decide` has it, or it differs from the known one
+/// only at nulls that `own` reaches through conjuncts of `global`; no clause says which of the two.
+/// Each value of the answer is one of the
+/// known world, a constant that stands below the root, or `@k` with k below 2^28, and each null one
+/// of the known world or one that stands below the root. No null stands twice, where none does in
+/// the known world. A derivation is as `decide` has it.
 ///
 /// # Errors
 ///

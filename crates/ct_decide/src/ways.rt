@@ -45,7 +45,7 @@ fn parts_of_and(words: &[u64], place: u32) -> Option<(u32, u32)>
 }
 
 /// The ANDs that are led to from the root by ANDs alone, up to these leaves, each but the root
-/// after one that names it.
+/// after one that names it. The contract says that they are conditions below the root, and no more.
 pub fn ands_above(
     alloc: Global,
     words: &[u64],

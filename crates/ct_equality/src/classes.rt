@@ -64,7 +64,7 @@ pub fn members(
     Ok(members)
 }
 
-/// The first false equality whose terms are in one class.
+/// A false equality whose terms are in one class.
 pub fn contradiction(
     found: &Chain,
     atoms: &[Atom],

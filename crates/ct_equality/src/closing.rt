@@ -98,7 +98,7 @@ fn settle(
 ///
 /// # Errors
 ///
-/// `Memory` where memory is wanting.
+/// `Memory` where memory is wanting, or there are more than 2^31 - 1 atoms.
 pub fn close(alloc: Global, words: &[u64], atoms: &[Atom], truth: &[bool]) -> Result<Closed, Memory>
     requires formed { IsWellFormed words.now }
     requires few { length words.now < 2 ^ 28 }

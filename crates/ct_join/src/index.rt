@@ -59,7 +59,7 @@ impl<'a> Index<'a> {
     /// Makes `found` the places of the keys that may be of one value with a key, in order.
     ///
     /// # Errors
-    /// `Memory` where there is none for so many. Then `found` has some of them.
+    /// `Memory` where there is none for so many. What `found` has then is not said.
     pub fn find(&self, key: Key, found: &mut Vec<u32>) -> Result<(), Memory>
         ensures { OnOk result (found.new.items ≡ partners key self.now) }
     {

@@ -14,18 +14,19 @@ pub(crate) struct Entry {
     pub(crate) null: u32,
     /// The number of the conjunct.
     pub(crate) conjunct: usize,
-    /// The entry before with the same null: its number and one more, or zero where there is none.
+    /// Meant as the entry before with the same null: its number and one more, or zero where there is none.
     pub(crate) next: usize,
 }
 
-/// The nulls below conjuncts.
+/// The nulls below conjuncts. `ends`, `heads` and the `next` of the entries make a search short: no contract rests on what they
+/// say.
 #[derive(Drop)]
 pub(crate) struct NullIndex {
     /// The nulls of each conjunct after those of the one before.
     pub(crate) entries: Vec<Entry>,
-    /// Where the entries of each conjunct end.
+    /// Meant as where the entries of each conjunct end.
     pub(crate) ends: Vec<usize>,
-    /// For each place the last entry with the null there: its number and one more, or zero where there is none.
+    /// Meant as the last entry with the null at each place: its number and one more, or zero where there is none.
     pub(crate) heads: Vec<usize>,
 }
 
@@ -56,7 +57,7 @@ impl Conjuncts {
     }
 }
 
-/// The entry of the null at a place that was made last: its number and one more, or zero where there is none.
+/// What `heads` has for a place, and zero past its end.
 pub(crate) fn head_of(index: &NullIndex, place: u32) -> usize {
     match index.heads.get(place as usize) {
         Some(head) => *head,

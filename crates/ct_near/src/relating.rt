@@ -128,7 +128,8 @@ fn no_flags(alloc: Global, count: usize) -> Result<Vec<bool>, AllocError>
     vec![in alloc; false; count]
 }
 
-/// Of each conjunct whether it shares a null with one of these conditions, or with another such conjunct.
+/// Of each conjunct whether it was found that it shares a null with one of these conditions, or with another such conjunct. None
+/// other is flagged.
 pub(crate) fn asked(
     alloc: Global,
     words: &[u64],

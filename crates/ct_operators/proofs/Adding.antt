@@ -1,33 +1,32 @@
 -- Sums of the words that rows are put by.
-use Rattle.std.proofs.Common.{◌≡◌, ℕ, zero, suc, ◌+◌, ◌-◌, ◌*◌, ◌≤◌, ◌<◌, Bool, true, false, ◌||◌, List, ◌++◌, map, length, take, refl, ap, sym, subst, ◌∙◌, Ok, Err, arith}
+use Rattle.std.proofs.Common.{◌≡◌, ℕ, zero, suc, ◌+◌, ◌-◌, ◌*◌, ◌≤◌, ◌<◌, Bool, true, false, ◌||◌, List, ◌++◌, map, length, refl, ap, sym, subst, ◌∙◌, arith}
 use Rattle.std.{specs.Prelude.{Result, is_err, IsErrOf, Option, Some, None, nat_eq, if◌then◌else◌}, specs.Borrow.GName, specs.Option.IsSome}
-use Rattle.std.{specs.List.IsDistinct, proofs.Math.Nat.{mul-le-mul_right, mul_assoc, mul-add}, proofs.lemmas.List.{length-take-le, length-map, map-append}}
-use Rattle.ct_operators.{specs.Tables.{cells_of, firsts}, proofs.Firsts.{firsts_distinct, firsts_long}, proofs.Merges.cells_equiv}
+use Rattle.std.{specs.List.IsDistinct, proofs.Math.Nat.{mul-le-mul_right, mul_assoc, mul-add}, proofs.lemmas.List.{length-map, length-append, map-append}}
+use Rattle.ct_operators.{specs.declared.error.TableError.TableError, specs.Refusals.is_full, specs.Merging.repeats, specs.Tables.{cells_of, firsts}, proofs.Firsts.{firsts_distinct, firsts_long}, proofs.Merges.cells_equiv}
 use Rattle.ct_condition.{specs.Writes.{Writes, charge}, proofs.Writes.writes_both, specs.Folding.{folded_and, FoldsTo}}
 use Rattle.ct_word.{specs.declared.values.CRow.CRow, specs.Value.same_cells, specs.Reading.term_at}
+use Rattle.ct_operators.specs.declared.error.TableError.TheVariants as fault
 
 -- the words for the rows so far, and for one more
-module _ (each : ℕ) (rows : List CRow) (i : ℕ) (lt : i < length rows) (m now new : ℕ) (before : now ≤ m + length (take i rows) * each) where
-  so_many : now ≤ m + i * each
-  so_many = subst (λ n. now ≤ m + n * each) (length-take-le i rows (omega arith)) before
+module _ (each i m now new : ℕ) (before : now ≤ m + i * each) (more : new ≤ now + each) where
+  pub made_more : new ≤ m + (i + 1) * each
+  made_more = omega arith
 
-  pub made_more : new ≤ now + each → new ≤ m + length (take (i + 1) rows) * each
-  made_more more = subst (λ n. new ≤ m + n * each) (sym (length-take-le (i + 1) rows (omega arith))) (omega (arith, so_many))
+  -- they are within those of all rows
+  pub made_within : (n : ℕ) → i < n → new ≤ m + n * each
+  made_within n lt = let all : (i + 1) * each ≤ n * each = mul-le-mul_right each (omega arith) in omega (arith, made_more)
 
-  pub made_within : new ≤ now + each → new ≤ m + length rows * each
-  made_within more = let all : (i + 1) * each ≤ length rows * each = mul-le-mul_right each (omega arith) in omega (arith, so_many)
+-- what is known of a call that a full log refused
+module _ {S : Type 0} {words_of : S → List ℕ} {made_of : S → ℕ} {kept_of : S → List ℕ} {lent_of : S → List GName} {cap : ℕ} {old new : S} {m : ℕ} {T : Type 0} (r : Result T TableError)
+    (w : Writes words_of made_of kept_of lent_of cap old new m (is_full r)) (e : IsErrOf r fault.Full) where
+  pub at_full : length (words_of new) ≡ cap
+  at_full = w.full (ap is_full e)
 
-  -- a row for which there is no room
-  pub made_fewer : new < now + each → new < m + length rows * each
-  made_fewer fewer = let all : (i + 1) * each ≤ length rows * each = mul-le-mul_right each (omega arith) in omega (arith, so_many)
-
--- the error of a call that `?` hands on
-abbrev error_of : {T E : Type 0} → E → Result T E → E
-error_of e (Ok x) = e
-error_of e (Err d) = d
-
-pub passed : {T U E : Type 0} (r : Result T E) (a f : E) → r ≡ Err a → IsErrOf r f → IsErrOf {T = U} (Err a) f
-passed r a f p e = ap Err (ap (error_of a) (sym p ∙ e))
+  pub fewer_full : made_of new < made_of old + m
+  fewer_full =
+      let most : made_of new + charge (is_full r) ≤ made_of old + m = w.made in
+      let one : charge (is_full r) ≡ 1 = ap (λ d. charge (is_full d)) e in
+      omega (arith, most, one)
 
 -- a conjunction that begins or ends with true is folded
 pub true_first : (words : List ℕ) (d : ℕ) → IsSome (folded_and words 0 d)
@@ -62,6 +61,7 @@ pairs_and_one {words_of = words_of} {made_of} {kept_of} {lent_of} {cap} {old} {m
   formed = all.formed;
   room = all.room;
   full = all.full;
+  rises = all.rises;
   made = by_width k spare folds;
   kept = all.kept;
   lent = all.lent;
@@ -88,11 +88,17 @@ in_all_and_one l r w =
     mul-add l (r * w) 1 ∙ (λ i. in_all l r w i + mul_one l i)
 
 -- rows of distinct cells are all first ones
-pub all_first : (ws : List ℕ) (rows : List CRow) → IsDistinct same_cells (cells_of ws rows) → length (firsts same_cells (cells_of ws rows)) ≡ length rows
+all_first : (ws : List ℕ) (rows : List CRow) → IsDistinct same_cells (cells_of ws rows) → length (firsts same_cells (cells_of ws rows)) ≡ length rows
 all_first ws rows d = ap (λ l. length l) (firsts_distinct same_cells (cells_of ws rows) d) ∙ length-map rows (λ (r : CRow). map (term_at ws) r.cells)
 
--- they are that with further rows behind them
-pub rows_stay_first : (ws : List ℕ) (rows more : List CRow) → IsDistinct same_cells (cells_of ws rows) → length rows ≤ length (firsts same_cells (cells_of ws (rows ++ more)))
-rows_stay_first ws rows more d =
+-- so none repeats an earlier one
+pub none_repeats : (ws : List ℕ) (rows : List CRow) → IsDistinct same_cells (cells_of ws rows) → repeats ws rows ≡ 0
+none_repeats ws rows d = omega (arith, all_first ws rows d)
+
+-- with further rows behind them, only those may
+pub more_repeat : (ws : List ℕ) (rows more : List CRow) → IsDistinct same_cells (cells_of ws rows) → repeats ws (rows ++ more) ≤ length more
+more_repeat ws rows more d =
     let longer = (firsts_long same_cells cells_equiv (cells_of ws rows) (cells_of ws more)).0 in
-    subst (λ cs. length rows ≤ length (firsts same_cells cs)) (sym (map-append (λ (r : CRow). map (term_at ws) r.cells) rows more)) (omega (arith, all_first ws rows d, longer))
+    let first : length rows ≤ length (firsts same_cells (cells_of ws (rows ++ more))) =
+    subst (λ cs. length rows ≤ length (firsts same_cells cs)) (sym (map-append (λ (r : CRow). map (term_at ws) r.cells) rows more)) (omega (arith, all_first ws rows d, longer)) in
+    omega (arith, first, length-append rows more)

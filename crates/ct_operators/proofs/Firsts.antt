@@ -1,7 +1,7 @@
 -- The items of a list, each once, where it stands first.
 use Rattle.std.proofs.Common.{◌≡◌, ℕ, ◌+◌, ◌≤◌, Bool, true, false, not, ◌||◌, List, [], ◌∷◌, ◌++◌, length, cond, filter, refl, ap, sym, ◌∙◌, arith}
-use Rattle.std.{specs.List.{list_any, IsDistinct, AllByRecursion}, specs.Cmp.IsEquivalence, proofs.lemmas.List.{append-nil, append_assoc, length_push}}
-use Rattle.std.{proofs.lemmas.List.Elements.filter-append, proofs.lemmas.Map.Keys.{IsDistinct-head, IsDistinct-tail}, specs.Prelude.{Result, IfOk}}
+use Rattle.std.{specs.List.{list_any, IsDistinct, AllByRecursion, Contains}, specs.Cmp.IsEquivalence, proofs.lemmas.List.{append-nil, append_assoc, length_push}}
+use Rattle.std.{proofs.lemmas.List.Elements.{filter-append, All-contains, All-filter, All-contains_itself}, proofs.lemmas.Map.Keys.{IsDistinct-head, IsDistinct-tail}, specs.Prelude.{Result, IfOk}}
 use Rattle.std.{proofs.lemmas.Result.IfOk-weaker, proofs.lemmas.Bool.or_right}
 use Rattle.ct_word.{specs.Sublist.{IsSublist, ended, left_out, taken}, specs.Value.same_cells, specs.declared.values.Term.Term}
 use Rattle.ct_operators.{specs.Tables.{cells_of, firsts}, specs.declared.table.CTable.CTable}
@@ -19,6 +19,9 @@ filtered_part test (x ∷ xs) = by_test (test x) (filtered_part test xs) where
   by_test : (b : Bool) → IsSublist (filter test xs) xs → IsSublist (cond b (x ∷ filter test xs) (filter test xs)) (x ∷ xs)
   by_test true later = taken later
   by_test false later = left_out later
+
+pub filtered_among : {A : Type 0} (test : A → Bool) (xs : List A) (y : A) → Contains (filter test xs) y → Contains xs y
+filtered_among test xs y h = All-contains (Contains xs) (filter test xs) y (All-filter test (Contains xs) xs (All-contains_itself xs)) h
 
 pub firsts_part : {A : Type 0} (same : A → A → Bool) (xs : List A) → IsSublist (firsts same xs) xs
 firsts_part same [] = ended

@@ -3,11 +3,13 @@ pub mod Growing
 pub mod Selecting
 pub mod Firsts
 pub mod Merges
+pub mod Gathered
 pub mod Projecting
 pub mod Building
 pub mod Pairing
 pub mod Holding
 pub mod Comparing
+pub mod Narrowing
 pub mod Placed
 pub mod Steps
 pub mod Putting

@@ -1,6 +1,6 @@
 -- Rows put last, or merged by their cells.
-use Rattle.std.proofs.Common.{◌≡◌, ℕ, zero, suc, ◌+◌, ◌<◌, ◌≤◌, Bool, true, false, not, ◌&&◌, ◌||◌, List, [], ◌∷◌, ◌++◌, Some, None, map, length, cond, get_or, set, take, drop, refl, ap, sym, subst, ◌∙◌, arith, inl, inr}
-use Rattle.std.{specs.Prelude.{◌≢◌, IsTrue, All, nat_eq, is_some, Option, if◌then◌else◌}, specs.List.{IsDistinct, list_any, filter}, specs.Cmp.IsEquivalence}
+use Rattle.std.proofs.Common.{◌≡◌, ℕ, zero, suc, ◌+◌, ◌-◌, ◌<◌, ◌≤◌, Bool, true, false, not, ◌&&◌, ◌||◌, List, [], ◌∷◌, ◌++◌, Some, None, map, length, cond, get_or, set, take, drop, refl, ap, sym, subst, ◌∙◌, arith, inl, inr}
+use Rattle.std.{specs.Prelude.{◌≢◌, IsTrue, All, nat_eq, is_some, if◌then◌else◌}, specs.List.{IsDistinct, list_any, filter}, specs.Cmp.IsEquivalence}
 use Rattle.std.{specs.Cmp.Lexicographic.pointwise, specs.Map.lookup, proofs.lemmas.Bool.Decides.same_from_decides, proofs.lemmas.Map.Keys.IsDistinct-push}
 use Rattle.std.{proofs.lemmas.Bool.{false≢true, eqb-true, eqb-false, not-true}, proofs.lemmas.List.Folds.list_any_at}
 use Rattle.std.proofs.lemmas.List.Elements.{filter_passes, All-head, All-tail, All-cons, All-nil, All-push, All-set, All-weaker, All-get_or, All-filter, Contains-append_left, Contains-push}
@@ -14,7 +14,7 @@ use Rattle.ct_query.{specs.Database.{SameSet, has_tuple}, proofs.Sublists.sublis
 use Rattle.ct_arena.specs.Counts.{opening}
 use Rattle.ct_condition.{specs.Truth.{HasTruth, or_at}, specs.Terms.{TermsFrom, BelowEither}, proofs.Reached.formed_before, proofs.Truths.false_at}
 use Rattle.ct_operators.{specs.Tables.{cells_of, value_of_rows, IsRow, AreRows, firsts}, specs.Terms.{TermOfRows, RowFrom, RowsFrom}}
-use Rattle.ct_operators.specs.Merging.{rows_of, Merged, put_last, into, Gathers, is_possible, known}
+use Rattle.ct_operators.specs.Merging.{rows_of, Merged, put_last, into, Gathers, is_possible, known, repeats}
 use Rattle.ct_operators.proofs.Reaching.{row_itself, rows_among, rows_wider, row_later, rows_later, under_from, from_two}
 use Rattle.ct_operators.{proofs.Selecting.{distinct_part, value-append, one_shown}, proofs.Growing.{terms_grow, is_row_grows, cells_grow, value_grows}}
 use Rattle.ct_operators.proofs.Firsts.{filtered_part, any_first, firsts_known, firsts_new, firsts_long}
@@ -55,7 +55,7 @@ has_one ws v r t = ap (λ l. has_tuple l t) (one_shown v (plain_crow ws r) _ ref
   by_case false e q = refl
 
 -- the first row, and those after it
-has_cons : (ws : List ℕ) (v : World) (r : CRow) (rs : List CRow) (t : List Value)
+pub has_cons : (ws : List ℕ) (v : World) (r : CRow) (rs : List CRow) (t : List Value)
     → has_tuple (value_of_rows ws v (r ∷ rs)) t ≡ ((holds_at v (condition_at ws r.cond) && same_tuple (tuple_at v (map (term_at ws) r.cells)) t) || has_tuple (value_of_rows ws v rs) t)
 has_cons ws v r rs t =
     ap (λ l. has_tuple l t) (value-append ws v (r ∷ []) rs) ∙ has_tuple-append (value_of_rows ws v (r ∷ [])) (value_of_rows ws v rs) t
@@ -362,43 +362,56 @@ entry_put old new cells c es e =
     let last = last_entry cells c es e in
     subst (Merged old new (rows_of es) r) (sym last.1) (put_last last.0)
 
--- one row more: its cells have an entry, or there is one more first one
-known_counts : (old now : List ℕ) (width : ℕ) (done : List CRow) (es : List (List ℕ × ℕ)) → Gathers old now width done (rows_of es) → IsWellFormed now → (r : CRow) → IsRow old width r
-    → length (firsts same_cells (cells_of old (done ++ r ∷ []))) + known r.cells es ≡ length (firsts same_cells (cells_of old done)) + 1
-known_counts old now width done es so_far wf r is = by_case (lookup (same_text r.cells) es) refl where
+-- the cells of a row are among those of others, said of places and of the terms that they stand for
+known_terms : (ws : List ℕ) → IsWellFormed ws → (width : ℕ) (rs : List CRow) (r : CRow) → All (IsRow ws width) rs → IsRow ws width r
+    → list_any (λ x. same_text r.cells x.cells) rs ≡ list_any (same_cells (map (term_at ws) r.cells)) (cells_of ws rs)
+known_terms ws wf width [] r each is = refl
+known_terms ws wf width (x ∷ rs) r each is =
+    λ i. same_from_decides (same_text r.cells x.cells) (same_cells (map (term_at ws) r.cells) (map (term_at ws) x.cells)) (text_decides r.cells x.cells) (
+      λ e. same_places ws wf r.cells x.cells is.terms (All-head (IsRow ws width) x rs each).terms ((cells_decide (map (term_at ws) r.cells) (map (term_at ws) x.cells)).0 e),
+      λ e. (cells_decide (map (term_at ws) r.cells) (map (term_at ws) x.cells)).1 (ap (map (term_at ws)) e),
+    ) i
+    || known_terms ws wf width rs r (All-tail (IsRow ws width) x rs each) is i
+
+-- one row more: its cells are known, or there is one more first one
+known_counts : (old now : List ℕ) (width : ℕ) (done rows : List CRow) → Gathers old now width done rows → IsWellFormed now → (r : CRow) → IsRow old width r
+    → length (firsts same_cells (cells_of old (done ++ r ∷ []))) + known r.cells rows ≡ length (firsts same_cells (cells_of old done)) + 1
+known_counts old now width done rows so_far wf r is = by_case (list_any (λ x. same_text r.cells x.cells) rows) refl where
   cells : List Term
   cells = map (term_at old) r.cells
 
   done_too : cells_of old (done ++ r ∷ []) ≡ cells_of old done ++ cells ∷ []
   done_too = map_push (λ (r : CRow). map (term_at old) r.cells) done r
 
-  by_case : (o : Option ℕ) → lookup (same_text r.cells) es ≡ o
-      → length (firsts same_cells (cells_of old (done ++ r ∷ []))) + known r.cells es ≡ length (firsts same_cells (cells_of old done)) + 1
-  by_case (Some first) e =
-      let found = into_entry r.cells first first r es e in
-      let there = stood old now now width done (rows_of es) so_far (prefix_same now) wf r is true (there_cells now (rows_of es) found.0 r found.1 found.2) in
-      (λ i. length (firsts same_cells (done_too i)) + (if is_some (e i) then 1 else 0))
-      ∙ ap (λ l. length l + 1) (firsts_known same_cells cells_equiv (cells_of old done) cells there)
-  by_case None e =
-      let apart = stood old now now width done (rows_of es) so_far (prefix_same now) wf r is false
-      (apart_cells now wf width (rows_of es) r so_far.each (is_row_grows old now so_far.grown (formed_before old now so_far.grown wf) width r is) (last_entry r.cells r.cond es e).0) in
+  there : (b : Bool) → list_any (λ x. same_text r.cells x.cells) rows ≡ b → list_any (same_cells cells) (cells_of old done) ≡ b
+  there b e =
+      stood old now now width done rows so_far (prefix_same now) wf r is b
+      (sym (known_terms now wf width rows r so_far.each (is_row_grows old now so_far.grown (formed_before old now so_far.grown wf) width r is)) ∙ e)
+
+  by_case : (b : Bool) → list_any (λ x. same_text r.cells x.cells) rows ≡ b
+      → length (firsts same_cells (cells_of old (done ++ r ∷ []))) + known r.cells rows ≡ length (firsts same_cells (cells_of old done)) + 1
+  by_case true e =
+      (λ i. length (firsts same_cells (done_too i)) + (if e i then 1 else 0))
+      ∙ ap (λ l. length l + 1) (firsts_known same_cells cells_equiv (cells_of old done) cells (there true e))
+  by_case false e =
       let long : length (firsts same_cells (cells_of old done ++ cells ∷ [])) ≡ length (firsts same_cells (cells_of old done)) + 1 =
-      ap (λ l. length l) (firsts_new same_cells cells_equiv (cells_of old done) cells apart) ∙ length_push (firsts same_cells (cells_of old done)) cells in
+      ap (λ l. length l) (firsts_new same_cells cells_equiv (cells_of old done) cells (there false e)) ∙ length_push (firsts same_cells (cells_of old done)) cells in
       let none : length (firsts same_cells (cells_of old done ++ cells ∷ [])) + 0 ≡ length (firsts same_cells (cells_of old done)) + 1 = omega (arith, long) in
-      (λ i. length (firsts same_cells (done_too i)) + (if is_some (e i) then 1 else 0)) ∙ none
+      (λ i. length (firsts same_cells (done_too i)) + (if e i then 1 else 0)) ∙ none
 
--- the words for the rows so far, and for one more: one for each that was merged into an earlier one
-module _ (old now : List ℕ) (width : ℕ) (done : List CRow) (es : List (List ℕ × ℕ)) (so_far : Gathers old now width done (rows_of es)) (wf : IsWellFormed now) (r : CRow) (is : IsRow old width r)
-    (m at after : ℕ) (before : at + length (firsts same_cells (cells_of old done)) ≤ m + length done) where
-  pub merging_more : after ≤ at + known r.cells es → after + length (firsts same_cells (cells_of old (done ++ r ∷ []))) ≤ m + length (done ++ r ∷ [])
-  merging_more more = omega (arith, before, more, known_counts old now width done es so_far wf r is, length_push done r)
-
-  -- a row for which there is no room
-  pub merging_fewer : after < at + known r.cells es → after + length (firsts same_cells (cells_of old (done ++ r ∷ []))) < m + length (done ++ r ∷ [])
-  merging_fewer fewer = omega (arith, before, fewer, known_counts old now width done es so_far wf r is, length_push done r)
+-- cells have an entry where they are those of one of the rows
+pub known_entry : (cells : List ℕ) (es : List (List ℕ × ℕ)) → known cells (rows_of es) ≡ (if is_some (lookup (same_text cells) es) then 1 else 0)
+known_entry cells es = ap (λ b. if b then 1 else 0) (entry es) where
+  entry : (es : List (List ℕ × ℕ)) → list_any (λ x. same_text cells x.cells) (rows_of es) ≡ is_some (lookup (same_text cells) es)
+  entry [] = refl
+  entry (x ∷ es) = by_test (same_text cells x.0) (entry es) where
+    by_test : (b : Bool) → list_any (λ x. same_text cells x.cells) (rows_of es) ≡ is_some (lookup (same_text cells) es)
+        → (b || list_any (λ x. same_text cells x.cells) (rows_of es)) ≡ is_some (cond b (Some x.1) (lookup (same_text cells) es))
+    by_test true later = refl
+    by_test false later = later
 
 -- of all rows there are at most as many more first ones as there are more rows
-pub first_rows : (old : List ℕ) (k : ℕ) (rows : List CRow)
+first_rows : (old : List ℕ) (k : ℕ) (rows : List CRow)
     → length (firsts same_cells (cells_of old rows)) + length (take k rows) ≤ length (firsts same_cells (cells_of old (take k rows))) + length rows
 first_rows old k rows =
     let split : cells_of old rows ≡ cells_of old (take k rows) ++ cells_of old (drop k rows) =
@@ -408,3 +421,12 @@ first_rows old k rows =
     let same : length (firsts same_cells (cells_of old rows)) ≡ length (firsts same_cells (cells_of old (take k rows) ++ cells_of old (drop k rows))) =
     ap (λ cs. length (firsts same_cells cs)) split in
     omega (arith, long, (firsts_long same_cells cells_equiv (cells_of old (take k rows)) (cells_of old (drop k rows))).1, each, same)
+
+-- of the first rows there are no more that repeat an earlier one than of all
+pub repeats_within : (old : List ℕ) (k : ℕ) (rows : List CRow) → repeats old (take k rows) ≤ repeats old rows
+repeats_within old k rows = omega (arith, first_rows old k rows)
+
+-- one row more: it is one of them where its cells are known
+pub repeats_more : (old now : List ℕ) (width : ℕ) (done rows : List CRow) → Gathers old now width done rows → IsWellFormed now → (r : CRow) → IsRow old width r
+    → repeats old done + known r.cells rows ≤ repeats old (done ++ r ∷ [])
+repeats_more old now width done rows so_far wf r is = omega (arith, known_counts old now width done rows so_far wf r is, length_push done r, first_rows old 0 done)

@@ -7,7 +7,7 @@ use Rattle.ct_word.{specs.Condition.{holds, holds_at}, specs.WellFormed.IsWellFo
 use Rattle.ct_word.proofs.Prefixes.{place_in_prefix, place_within, condition_in_prefix}
 use Rattle.ct_query.{specs.Bounds.ops, specs.Database.has_tuple, specs.Pred.condition_of}
 use Rattle.ct_condition.{specs.Terms.IsNamed, proofs.Placed.terms_fewer}
-use Rattle.ct_operators.{specs.Tables.IsRow, specs.Terms.{TermOfRows, RowsFrom}, specs.declared.table.CTable.CTable, proofs.Adding.in_all_and_one}
+use Rattle.ct_operators.{specs.Others.others_of, specs.Tables.IsRow, specs.Terms.{TermOfRows, RowsFrom}, specs.declared.table.CTable.CTable, proofs.Adding.in_all_and_one}
 use Rattle.ct_operators.{specs.Building.HoldsWhere, specs.Placing.tuple_of, specs.Judging.{passes, FitsTest, Beside, Further, first_words, test_words}}
 use Rattle.ct_operators.{specs.declared.judging.Test.Test, proofs.Choosing.named_below, proofs.Growing.{terms_grow, is_row_grows, value_grows}}
 use Rattle.ct_operators.{proofs.Holding.holds_as, proofs.Putting.parts_later}
@@ -28,8 +28,8 @@ pub no_column : (ws : List ℕ) (width : ℕ) (rows : List CRow) → All (IsRow 
 no_column ws width rows each x f k (inl h) = none_of_rows ws rows (plain_rows ws width rows each) k h
 no_column ws width rows each (test.Holds p) f k (inr h) = h.1 k refl
 no_column ws width rows each (test.Fails c ps) f k (inr h) = h.1 k refl
-no_column ws width rows each (test.Among rs) f k (inr h) = none_of_rows ws rs.now (plain_rows ws width rs.now f) k h
-no_column ws width rows each (test.Apart rs) f k (inr h) = none_of_rows ws rs.now (plain_rows ws width rs.now f) k h
+no_column ws width rows each (test.Among os) f k (inr h) = none_of_rows ws (others_of os) (plain_rows ws width (others_of os) f.0) k h
+no_column ws width rows each (test.Apart os) f k (inr h) = none_of_rows ws (others_of os) (plain_rows ws width (others_of os) f.0) k h
 
 module _ (old now : List ℕ) (grown : IsPrefix old now) (formed : IsWellFormed old) (width : ℕ) where
   rows_later : (rs : List CRow) → All (IsRow old width) rs → All (IsRow now width) rs
@@ -43,8 +43,8 @@ module _ (old now : List ℕ) (grown : IsPrefix old now) (formed : IsWellFormed 
     λ k h. f.1 k (below_before old now grown formed c (term.Column k) (place_within old class.Cond c f.0) h),
     parts_later old now c ps.now grown f.0 f.2,
   )
-  fits_later (test.Among rs) f = rows_later rs.now f
-  fits_later (test.Apart rs) f = rows_later rs.now f
+  fits_later (test.Among os) f = (rows_later (others_of os) f.0, f.1)
+  fits_later (test.Apart os) f = (rows_later (others_of os) f.0, f.1)
 
   -- it takes as many words
   pub words_later : (x : Test) → FitsTest old width x → test_words now width x ≡ test_words old width x
@@ -55,8 +55,8 @@ module _ (old now : List ℕ) (grown : IsPrefix old now) (formed : IsWellFormed 
   passes_later : (x : Test) → FitsTest old width x → (v : World) (t : List Value) → passes now x v t ≡ passes old x v t
   passes_later (test.Holds p) f v t = refl
   passes_later (test.Fails c ps) f v t = ap (λ d. not (holds v t d)) (condition_in_prefix old now c grown (place_within old class.Cond c f.0))
-  passes_later (test.Among rs) f v t = ap (λ l. has_tuple l t) (value_grows old now grown v width rs.now f)
-  passes_later (test.Apart rs) f v t = ap (λ l. not (has_tuple l t)) (value_grows old now grown v width rs.now f)
+  passes_later (test.Among os) f v t = ap (λ l. has_tuple l t) (value_grows old now grown v width (others_of os) f.0)
+  passes_later (test.Apart os) f v t = ap (λ l. not (has_tuple l t)) (value_grows old now grown v width (others_of os) f.0)
 
   -- what a row is judged by, over the words before
   pub judged_before : (new : List ℕ) (x : Test) → FitsTest old width x → (r : CRow) (p : ℕ) → IsRow old width r
@@ -77,8 +77,8 @@ module _ (old now : List ℕ) (grown : IsPrefix old now) (formed : IsWellFormed 
   further_before (test.Fails c ps) f cells e t b =
       let was = below_before old now grown formed c t (place_within old class.Cond c f.0) b.0 in
       (was, no_cell_no_column cells t b.1 (λ k q. subst (λ n. k < n) (sym e) (f.1 k (subst (TermBelow old c) q was))))
-  further_before (test.Among rs) f cells e t b = rows_before old now grown formed width rs.now t f b
-  further_before (test.Apart rs) f cells e t b = rows_before old now grown formed width rs.now t f b
+  further_before (test.Among os) f cells e t b = rows_before old now grown formed width (others_of os) t f.0 b
+  further_before (test.Apart os) f cells e t b = rows_before old now grown formed width (others_of os) t f.0 b
 
 -- rows of another table, read off it
 pub each_as : (ws : List ℕ) (n width : ℕ) (rows items : List CRow) → items ≡ rows → n ≡ width → All (IsRow ws n) rows → All (IsRow ws width) items

@@ -19,6 +19,7 @@ use Rattle.ct_condition.specs.Terms.{IsNamed}
 use Rattle.ct_operators.specs.Tables.{value_of_rows, IsRow}
 use Rattle.ct_operators.specs.Terms.{TermOfRows, IsNoColumn}
 use Rattle.ct_operators.specs.Placing.{ArePartsOf}
+use Rattle.ct_operators.specs.Others.{others_of, AreAmong}
 use Rattle.ct_operators.specs.declared.judging.Test.{Test}
 use Rattle.ct_operators.specs.declared.judging.Test.TheVariants as test
 
@@ -26,12 +27,12 @@ use Rattle.ct_operators.specs.declared.judging.Test.TheVariants as test
 abbrev pub passes : List ℕ → Test → World → List Value → Bool
 passes words (test.Holds p) v t = holds v t (condition_of p.now)
 passes words (test.Fails c ps) v t = not (holds v t (condition_at words c))
-passes words (test.Among rs) v t = has_tuple (value_of_rows words v rs.now) t
-passes words (test.Apart rs) v t = not (has_tuple (value_of_rows words v rs.now) t)
+passes words (test.Among os) v t = has_tuple (value_of_rows words v (others_of os)) t
+passes words (test.Apart os) v t = not (has_tuple (value_of_rows words v (others_of os)) t)
 
 -- whether a test asks that a row is worth none of others
 abbrev pub is_apart : Test → Bool
-is_apart (test.Apart rs) = true
+is_apart (test.Apart os) = true
 is_apart _ = false
 
 -- the places that come with a test
@@ -43,22 +44,22 @@ parts_in _ = []
 abbrev pub FitsTest : List ℕ → ℕ → Test → Type 0
 FitsTest words width (test.Holds p) = FitsRows width (condition_of p.now)
 FitsTest words width (test.Fails c ps) = IsTrue (is_place_of words class.Cond c) × ((k : ℕ) → TermBelow words c (term.Column k) → k < width) × ArePartsOf words c ps.now
-FitsTest words width (test.Among rs) = All (IsRow words width) rs.now
-FitsTest words width (test.Apart rs) = All (IsRow words width) rs.now
+FitsTest words width (test.Among os) = All (IsRow words width) (others_of os) × AreAmong os
+FitsTest words width (test.Apart os) = All (IsRow words width) (others_of os) × AreAmong os
 
 -- a term that a test puts below a row's condition, beside those of the row
 abbrev pub Beside : List ℕ → List ℕ → Test → Term → Type 0
 Beside words cells (test.Holds p) t = IsNamed (condition_of p.now) t × (cell_for cells t ≡ None)
 Beside words cells (test.Fails c ps) t = TermBelow words c t × (cell_for cells t ≡ None)
-Beside words cells (test.Among rs) t = TermOfRows words rs.now t
-Beside words cells (test.Apart rs) t = TermOfRows words rs.now t
+Beside words cells (test.Among os) t = TermOfRows words (others_of os) t
+Beside words cells (test.Apart os) t = TermOfRows words (others_of os) t
 
 -- a term that a test puts below the conditions of a table, beside those of its rows
 abbrev pub Further : List ℕ → Test → Term → Type 0
 Further words (test.Holds p) t = IsNamed (condition_of p.now) t × IsNoColumn t
 Further words (test.Fails c ps) t = TermBelow words c t × IsNoColumn t
-Further words (test.Among rs) t = TermOfRows words rs.now t
-Further words (test.Apart rs) t = TermOfRows words rs.now t
+Further words (test.Among os) t = TermOfRows words (others_of os) t
+Further words (test.Apart os) t = TermOfRows words (others_of os) t
 
 -- how many words a test takes once, at most
 abbrev pub first_words : List ℕ → Test → ℕ
@@ -69,5 +70,5 @@ first_words words _ = 0
 abbrev pub test_words : List ℕ → ℕ → Test → ℕ
 test_words words width (test.Holds p) = ops (condition_of p.now)
 test_words words width (test.Fails c ps) = ops (condition_at words c) + 1
-test_words words width (test.Among rs) = length rs.now * (2 * width + 1)
-test_words words width (test.Apart rs) = length rs.now * (2 * width + 2)
+test_words words width (test.Among os) = length (others_of os) * (2 * width + 1)
+test_words words width (test.Apart os) = length (others_of os) * (2 * width + 2)

@@ -6,4 +6,6 @@ pub mod Building
 pub mod Matching
 pub mod Placing
 pub mod Refusals
+pub mod Others
 pub mod Judging
+pub mod Nearness

@@ -12,6 +12,8 @@ ghost use Rattle.ct_word.specs.Reading.{condition_at};
 ghost use Rattle.ct_word.specs.WellFormed.{is_place_of};
 ghost use Rattle.ct_query.specs.Bounds.{ops};
 ghost use Rattle.ct_query.specs.Database.{SameSet};
+ghost use Rattle.ct_condition.specs.Writes.{Writes};
+ghost use Rattle.ct_operators.specs.Refusals.{is_full};
 ghost use Rattle.ct_operators.specs.Terms.{TermOfRows, RowsFrom, IsNoColumn};
 ghost use Rattle.ct_operators.specs.Tables.{AreRows, value_of_rows, cells_of};
 ghost use Rattle.ct_operators.specs.declared.error.TableError.TheVariants as fault;
@@ -45,8 +47,10 @@ pub fn delete<N: Site, I: Interner<N>>(
     ensures tuples { (v : World) → IfOk result (λ out. SameSet (value_of_rows (I.list pass.new) v out.rows) (filter (λ t. not (holds v t (condition_at (I.list pass.old) cond))) (value_of_rows (I.list pass.old) v table.now.rows))) }
     ensures part { IfOk result (λ out. IsSublist (cells_of (I.list pass.new) out.rows) (cells_of (I.list pass.old) table.now.rows)) }
     ensures terms { IfOk result (λ out. RowsFrom (I.list pass.new) out.rows (λ t. TermOfRows (I.list pass.old) table.now.rows t ⊎ (TermBelow (I.list pass.old) cond t × IsNoColumn t))) }
+    ensures writes { Writes I.list I.made I.kept I.lent N.log.cap pass.old pass.new (length table.now.rows * (ops (condition_at (I.list pass.old) cond) + 2)) (is_full result) }
     ensures longer { IsPrefix (I.list pass.old) (I.list pass.new) }
     ensures full { IsErrOf result fault.Full → length (I.list pass.new) ≡ N.log.cap }
+    ensures rises { I.made pass.old ≤ I.made pass.new }
     ensures made { I.made pass.new ≤ I.made pass.old + length table.now.rows * (ops (condition_at (I.list pass.old) cond) + 2) }
     ensures fewer { IsErrOf result fault.Full → I.made pass.new < I.made pass.old + length table.now.rows * (ops (condition_at (I.list pass.old) cond) + 2) }
     ensures kept { I.kept pass.new ≡ I.kept pass.old }

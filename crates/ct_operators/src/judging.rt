@@ -1,7 +1,6 @@
 // Which rows stay, and the condition that a row does.
 
-ghost use Rattle.std.specs.Prelude.{◌≡◌, false, ◌⊎◌, ◌≤◌, ◌<◌, ◌+◌, ◌*◌, ◌&&◌, not, length, All, IfOk, OnOk, OnErr, IsTrue, is_err};
-ghost use mathlib.Core.List.{IsPrefix};
+ghost use Rattle.std.specs.Prelude.{◌≡◌, false, ◌⊎◌, ◌+◌, ◌*◌, ◌&&◌, not, length, All, IfOk, OnOk, IsTrue, is_err};
 ghost use Rattle.ct_word.specs.declared.kinds.Class.TheVariants as class;
 ghost use Rattle.ct_word.specs.Condition.{holds_at};
 ghost use Rattle.ct_word.specs.Reading.{condition_at};
@@ -12,10 +11,12 @@ ghost use Rattle.ct_operators.specs.Tables.{IsRow};
 ghost use Rattle.ct_operators.specs.Building.{HoldsWhere};
 ghost use Rattle.ct_operators.specs.Placing.{tuple_of};
 ghost use Rattle.ct_operators.specs.Matching.{is_among};
+ghost use Rattle.ct_operators.specs.Others.{others_of, AreAmong};
 ghost use Rattle.ct_operators.specs.Judging.{passes, parts_in, Beside, FitsTest, first_words, test_words, is_apart};
 ghost use Rattle.ct_operators.specs.Terms.{TermOfRow, TermOfRows};
 
 use crate::matching::shown_as;
+use crate::others::Others;
 use crate::placing::on_row;
 use ct_arena::{Arena, Full, Site};
 use ct_condition::{Interner, and, not, or, pred};
@@ -31,9 +32,9 @@ pub(crate) enum Test<'a> {
     /// after its parts.
     Fails(u32, &'a [u32]),
     /// Those that are worth one of these rows.
-    Among(&'a [CRow]),
+    Among(Others<'a>),
     /// Those that are worth none of these rows.
-    Apart(&'a [CRow]),
+    Apart(Others<'a>),
 }
 
 /// The place of the condition that one of these rows is shown and is worth what the cells are.
@@ -41,18 +42,19 @@ fn among<N: Site, I: Interner<N>>(
     arena: &Arena<N>,
     pass: &mut I,
     cells: &[u32],
-    others: &[CRow],
+    others: Others<'_>,
 ) -> Result<u32, Full>
     requires cells { All (λ p. IsTrue (is_place_of (I.list pass.old) class.Term p)) cells.now }
-    requires others { All (IsRow (I.list pass.old) (length cells.now)) others.now }
-    ensures holds { IfOk result (λ place. HoldsWhere (I.list pass.new) place (is_among (I.list pass.old) others.now cells.now)) }
-    ensures terms { IfOk result (λ place. TermsFrom (I.list pass.new) place (λ t. BelowSome (I.list pass.old) cells.now t ⊎ TermOfRows (I.list pass.old) others.now t)) }
-    ensures writes { Writes I.list I.made I.kept I.lent N.log.cap pass.old pass.new (length others.now * (2 * length cells.now + 1)) (is_err result) }
+    requires others { All (IsRow (I.list pass.old) (length cells.now)) (others_of others) }
+    requires among { AreAmong others }
+    ensures holds { IfOk result (λ place. HoldsWhere (I.list pass.new) place (is_among (I.list pass.old) (others_of others.entry) cells.now)) }
+    ensures terms { IfOk result (λ place. TermsFrom (I.list pass.new) place (λ t. BelowSome (I.list pass.old) cells.now t ⊎ TermOfRows (I.list pass.old) (others_of others.entry) t)) }
+    ensures writes { Writes I.list I.made I.kept I.lent N.log.cap pass.old pass.new (length (others_of others.entry) * (2 * length cells.now + 1)) (is_err result) }
 {
     let _ = pass.words();
     let mut any = FALSE_PLACE;
-    for other in others {
-        let there = shown_as(arena, pass, cells, other)?;
+    for index in 0..others.len() {
+        let there = shown_as(arena, pass, cells, others.nth(index))?;
         any = or(arena, pass, any, there)?;
     }
     Ok(any)
@@ -63,22 +65,23 @@ fn alone<N: Site, I: Interner<N>>(
     arena: &Arena<N>,
     pass: &mut I,
     row: &CRow,
-    others: &[CRow],
+    others: Others<'_>,
 ) -> Result<u32, Full>
     requires row { IsRow (I.list pass.old) (length row.now.cells) row.now }
-    requires others { All (IsRow (I.list pass.old) (length row.now.cells)) others.now }
-    ensures holds { IfOk result (λ place. HoldsWhere (I.list pass.new) place (λ v. holds_at v (condition_at (I.list pass.old) row.now.cond) && not (is_among (I.list pass.old) others.now row.now.cells v))) }
-    ensures terms { IfOk result (λ place. TermsFrom (I.list pass.new) place (λ t. TermOfRow (I.list pass.old) row.now t ⊎ TermOfRows (I.list pass.old) others.now t)) }
-    ensures writes { Writes I.list I.made I.kept I.lent N.log.cap pass.old pass.new (length others.now * (2 * length row.now.cells + 2)) (is_err result) }
+    requires others { All (IsRow (I.list pass.old) (length row.now.cells)) (others_of others) }
+    requires among { AreAmong others }
+    ensures holds { IfOk result (λ place. HoldsWhere (I.list pass.new) place (λ v. holds_at v (condition_at (I.list pass.old) row.now.cond) && not (is_among (I.list pass.old) (others_of others.entry) row.now.cells v))) }
+    ensures terms { IfOk result (λ place. TermsFrom (I.list pass.new) place (λ t. TermOfRow (I.list pass.old) row.now t ⊎ TermOfRows (I.list pass.old) (others_of others.entry) t)) }
+    ensures writes { Writes I.list I.made I.kept I.lent N.log.cap pass.old pass.new (length (others_of others.entry) * (2 * length row.now.cells + 2)) (is_err result) }
 {
     let _ = pass.words();
     let mut cond = row.cond;
-    for other in others {
+    for index in 0..others.len() {
         // No valuation satisfies the word false, whatever rows follow.
         if cond == FALSE_PLACE {
             return Ok(cond);
         }
-        let there = shown_as(arena, pass, row.cells.as_slice(), other)?;
+        let there = shown_as(arena, pass, row.cells.as_slice(), others.nth(index))?;
         let absent = not(arena, pass, there)?;
         cond = and(arena, pass, cond, absent)?;
     }
@@ -100,13 +103,8 @@ fn passing<N: Site, I: Interner<N>>(
     requires long { length put.old ≡ length (parts_in test) }
     ensures holds { IfOk result (λ place. HoldsWhere (I.list pass.new) place (λ v. passes (I.list pass.old) test.entry v (tuple_of (I.list pass.old) cells.now v))) }
     ensures terms { IfOk result (λ place. TermsFrom (I.list pass.new) place (λ t. BelowSome (I.list pass.old) cells.now t ⊎ Beside (I.list pass.old) cells.now test.entry t)) }
-    ensures longer { IsPrefix (I.list pass.old) (I.list pass.new) }
-    ensures full { OnErr result (length (I.list pass.new) ≡ N.log.cap) }
-    ensures made { I.made pass.new ≤ I.made pass.old + (first_words (I.list pass.old) test.entry + test_words (I.list pass.old) (length cells.now) test.entry) }
-    ensures err { OnErr result (I.made pass.new < I.made pass.old + (first_words (I.list pass.old) test.entry + test_words (I.list pass.old) (length cells.now) test.entry)) }
+    ensures writes { Writes I.list I.made I.kept I.lent N.log.cap pass.old pass.new (first_words (I.list pass.old) test.entry + test_words (I.list pass.old) (length cells.now) test.entry) (is_err result) }
     ensures placed { OnOk result (first_words (I.list pass.new) test.entry ≡ 0) }
-    ensures kept { I.kept pass.new ≡ I.kept pass.old }
-    ensures lent { I.lent pass.new ≡ I.lent pass.old }
     ensures long { length put.new ≡ length put.old }
 {
     match test {
@@ -134,13 +132,8 @@ pub(crate) fn judged<N: Site, I: Interner<N>>(
     requires long { length put.old ≡ length (parts_in test) }
     ensures holds { IfOk result (λ place. HoldsWhere (I.list pass.new) place (λ v. holds_at v (condition_at (I.list pass.old) row.now.cond) && passes (I.list pass.old) test.entry v (tuple_of (I.list pass.old) row.now.cells v))) }
     ensures terms { IfOk result (λ place. TermsFrom (I.list pass.new) place (λ t. TermOfRow (I.list pass.old) row.now t ⊎ Beside (I.list pass.old) row.now.cells test.entry t)) }
-    ensures longer { IsPrefix (I.list pass.old) (I.list pass.new) }
-    ensures full { OnErr result (length (I.list pass.new) ≡ N.log.cap) }
-    ensures made { I.made pass.new ≤ I.made pass.old + (first_words (I.list pass.old) test.entry + (test_words (I.list pass.old) (length row.now.cells) test.entry + 1)) }
-    ensures err { OnErr result (I.made pass.new < I.made pass.old + (first_words (I.list pass.old) test.entry + (test_words (I.list pass.old) (length row.now.cells) test.entry + 1))) }
+    ensures writes { Writes I.list I.made I.kept I.lent N.log.cap pass.old pass.new (first_words (I.list pass.old) test.entry + (test_words (I.list pass.old) (length row.now.cells) test.entry + 1)) (is_err result) }
     ensures placed { OnOk result (first_words (I.list pass.new) test.entry ≡ 0) }
-    ensures kept { I.kept pass.new ≡ I.kept pass.old }
-    ensures lent { I.lent pass.new ≡ I.lent pass.old }
     ensures long { length put.new ≡ length put.old }
 {
     let _ = pass.words();

@@ -3,11 +3,14 @@
 
 mod deletion;
 mod error;
+mod gathering;
 mod insertion;
 mod judging;
 mod matching;
 mod membership;
 mod merging;
+mod nearness;
+mod others;
 mod placing;
 mod products;
 mod projection;
@@ -19,10 +22,11 @@ mod unions;
 pub use ct_word::CRow;
 pub use deletion::delete;
 pub use error::TableError;
+pub use gathering::Gathering;
 pub use insertion::insert;
 pub use membership::{except, intersect};
-pub use products::product;
-pub use projection::project;
+pub use products::{joined_names, product};
+pub use projection::{pick, pick_names, project};
 pub use rows::{names, under};
 pub use selection::select;
 pub use table::CTable;

@@ -5,12 +5,15 @@ ghost use mathlib.Core.List.{IsPrefix};
 ghost use Rattle.ct_word.specs.Value.{World};
 ghost use Rattle.ct_word.specs.Sublist.{IsSublist};
 ghost use Rattle.ct_query.specs.Database.{has_tuple, SameSet};
+ghost use Rattle.ct_condition.specs.Writes.{Writes};
 ghost use Rattle.ct_operators.specs.Tables.{AreRows, value_of_rows, cells_of};
+ghost use Rattle.ct_operators.specs.Refusals.{is_full};
 ghost use Rattle.ct_operators.specs.Terms.{TermOfRows, RowsFrom};
 ghost use Rattle.ct_operators.specs.declared.error.TableError.TheVariants as fault;
 
 use crate::error::TableError;
 use crate::judging::Test;
+use crate::others::Others;
 use crate::selection::sifted;
 use crate::table::CTable;
 use ct_arena::{Arena, Site};
@@ -37,14 +40,22 @@ pub fn except<N: Site, I: Interner<N>>(
     ensures tuples { (v : World) → IfOk result (λ out. SameSet (value_of_rows (I.list pass.new) v out.rows) (filter (λ t. not (has_tuple (value_of_rows (I.list pass.old) v right.now.rows) t)) (value_of_rows (I.list pass.old) v left.now.rows))) }
     ensures part { IfOk result (λ out. IsSublist (cells_of (I.list pass.new) out.rows) (cells_of (I.list pass.old) left.now.rows)) }
     ensures terms { IfOk result (λ out. RowsFrom (I.list pass.new) out.rows (TermOfRows (I.list pass.old) (left.now.rows ++ right.now.rows))) }
+    ensures writes { Writes I.list I.made I.kept I.lent N.log.cap pass.old pass.new (length left.now.rows * length right.now.rows * (2 * length left.now.columns + 2) + length left.now.rows) (is_full result) }
     ensures longer { IsPrefix (I.list pass.old) (I.list pass.new) }
     ensures full { IsErrOf result fault.Full → length (I.list pass.new) ≡ N.log.cap }
+    ensures rises { I.made pass.old ≤ I.made pass.new }
     ensures made { I.made pass.new ≤ I.made pass.old + (length left.now.rows * length right.now.rows * (2 * length left.now.columns + 2) + length left.now.rows) }
     ensures fewer { IsErrOf result fault.Full → I.made pass.new < I.made pass.old + (length left.now.rows * length right.now.rows * (2 * length left.now.columns + 2) + length left.now.rows) }
     ensures kept { I.kept pass.new ≡ I.kept pass.old }
     ensures lent { I.lent pass.new ≡ I.lent pass.old }
 {
-    sifted(alloc, arena, pass, Test::Apart(right.rows.as_slice()), left)
+    sifted(
+        alloc,
+        arena,
+        pass,
+        Test::Apart(Others::All(right.rows.as_slice())),
+        left,
+    )
 }
 
 /// The rows of the left table, each under the further condition that a row of the right one is worth the same, under
@@ -67,12 +78,13 @@ pub fn intersect<N: Site, I: Interner<N>>(
     ensures tuples { (v : World) → IfOk result (λ out. SameSet (value_of_rows (I.list pass.new) v out.rows) (filter (has_tuple (value_of_rows (I.list pass.old) v right.now.rows)) (value_of_rows (I.list pass.old) v left.now.rows))) }
     ensures part { IfOk result (λ out. IsSublist (cells_of (I.list pass.new) out.rows) (cells_of (I.list pass.old) left.now.rows)) }
     ensures terms { IfOk result (λ out. RowsFrom (I.list pass.new) out.rows (TermOfRows (I.list pass.old) (left.now.rows ++ right.now.rows))) }
-    ensures longer { IsPrefix (I.list pass.old) (I.list pass.new) }
-    ensures full { IsErrOf result fault.Full → length (I.list pass.new) ≡ N.log.cap }
-    ensures made { I.made pass.new ≤ I.made pass.old + (length left.now.rows * length right.now.rows * (2 * length left.now.columns + 1) + 2 * length left.now.rows) }
-    ensures fewer { IsErrOf result fault.Full → I.made pass.new < I.made pass.old + (length left.now.rows * length right.now.rows * (2 * length left.now.columns + 1) + 2 * length left.now.rows) }
-    ensures kept { I.kept pass.new ≡ I.kept pass.old }
-    ensures lent { I.lent pass.new ≡ I.lent pass.old }
+    ensures writes { Writes I.list I.made I.kept I.lent N.log.cap pass.old pass.new (length left.now.rows * length right.now.rows * (2 * length left.now.columns + 1) + 2 * length left.now.rows) (is_full result) }
 {
-    sifted(alloc, arena, pass, Test::Among(right.rows.as_slice()), left)
+    sifted(
+        alloc,
+        arena,
+        pass,
+        Test::Among(Others::All(right.rows.as_slice())),
+        left,
+    )
 }

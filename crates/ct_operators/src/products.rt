@@ -1,7 +1,6 @@
 // The product of two tables.
 
-ghost use Rattle.std.specs.Prelude.{◌≡◌, ◌≤◌, ◌<◌, ◌+◌, ◌*◌, [], ◌∷◌, ◌++◌, length, map, IfOk, OnOk, IsErrOf};
-ghost use mathlib.Core.List.{IsPrefix};
+ghost use Rattle.std.specs.Prelude.{◌≡◌, ◌+◌, ◌*◌, [], ◌∷◌, ◌++◌, length, map, IfOk, OnOk};
 ghost use Rattle.ct_word.specs.Value.{World};
 ghost use Rattle.ct_word.specs.Reading.{term_at};
 ghost use Rattle.ct_word.specs.Sublist.{IsSublist};
@@ -12,7 +11,6 @@ ghost use Rattle.ct_operators.specs.Building.{Builds};
 ghost use Rattle.ct_operators.specs.Terms.{TermOfRows, RowsFrom};
 ghost use Rattle.ct_operators.specs.Refusals.{is_full};
 ghost use Rattle.ct_condition.specs.Writes.{Writes};
-ghost use Rattle.ct_operators.specs.declared.error.TableError.TheVariants as fault;
 
 use crate::error::TableError;
 use crate::merging::merged;
@@ -37,7 +35,10 @@ fn push_joined(to: &mut Vec<CRow>, left: &CRow, right: &CRow, cond: u32) -> Resu
 }
 
 /// The names of both, one after the other.
-fn joined_names(left: &List<Text>, right: &List<Text>) -> Result<List<Text>, AllocError>
+///
+/// # Errors
+/// `AllocError` where there is no memory for them.
+pub fn joined_names(left: &List<Text>, right: &List<Text>) -> Result<List<Text>, AllocError>
     ensures { IfOk result (λ out. out ≡ left.now ++ right.now) }
 {
     let mut joined = names(left)?.into_vec();
@@ -112,13 +113,10 @@ pub fn product<N: Site, I: Interner<N>>(
     ensures tuples { (v : World) → IfOk result (λ out. SameSet (value_of_rows (I.list pass.new) v out.rows) (joins (value_of_rows (I.list pass.old) v left.now.rows) (value_of_rows (I.list pass.old) v right.now.rows))) }
     ensures part { IfOk result (λ out. IsSublist (cells_of (I.list pass.new) out.rows) (joins (cells_of (I.list pass.old) left.now.rows) (cells_of (I.list pass.old) right.now.rows))) }
     ensures terms { IfOk result (λ out. RowsFrom (I.list pass.new) out.rows (TermOfRows (I.list pass.old) (left.now.rows ++ right.now.rows))) }
-    ensures longer { IsPrefix (I.list pass.old) (I.list pass.new) }
-    ensures full { IsErrOf result fault.Full → length (I.list pass.new) ≡ N.log.cap }
-    ensures made { I.made pass.new ≤ I.made pass.old + length left.now.rows * length right.now.rows }
-    ensures fewer { IsErrOf result fault.Full → I.made pass.new < I.made pass.old + length left.now.rows * length right.now.rows }
-    ensures kept { I.kept pass.new ≡ I.kept pass.old }
-    ensures lent { I.lent pass.new ≡ I.lent pass.old }
+    ensures writes { Writes I.list I.made I.kept I.lent N.log.cap pass.old pass.new (length left.now.rows * length right.now.rows) (is_full result) }
 {
+    // The words are within the capacity, also where memory is wanting.
+    let _ = pass.words();
     let names = joined_names(&left.columns, &right.columns)?;
     let pairs = pairs(alloc, arena, pass, left, right)?;
     merged(alloc, arena, pass, names, pairs)

@@ -1,15 +1,15 @@
 // Projection to some of the columns.
 
-ghost use Rattle.std.specs.Prelude.{◌≡◌, ◌≤◌, ◌<◌, ◌+◌, [], length, map, slice_index_or, All, IfOk, IsErrOf};
-ghost use mathlib.Core.List.{IsPrefix};
+ghost use Rattle.std.specs.Prelude.{◌≡◌, ◌<◌, [], length, map, slice_index_or, All, IfOk};
 ghost use Rattle.ct_word.specs.Value.{World, same_cells, cell_at};
 ghost use Rattle.ct_word.specs.Sublist.{IsSublist};
 ghost use Rattle.ct_query.specs.Database.{SameSet};
 ghost use Rattle.ct_query.specs.Patterns.{picked};
+ghost use Rattle.ct_condition.specs.Writes.{Writes};
 ghost use Rattle.ct_operators.specs.Tables.{AreRows, value_of_rows, cells_of, firsts};
 ghost use Rattle.ct_operators.specs.Projection.{picked_row};
 ghost use Rattle.ct_operators.specs.Terms.{TermOfRows, RowsFrom};
-ghost use Rattle.ct_operators.specs.declared.error.TableError.TheVariants as fault;
+ghost use Rattle.ct_operators.specs.Refusals.{is_full};
 
 use crate::error::TableError;
 use crate::merging::merged;
@@ -20,7 +20,10 @@ use ct_word::{CRow, List, Text};
 use std::alloc::{AllocError, Global};
 
 /// The cells of a row at these positions, under the row's condition.
-fn pick(alloc: Global, columns: &[u32], row: &CRow) -> Result<CRow, AllocError>
+///
+/// # Errors
+/// `AllocError` where there is no memory for the row.
+pub fn pick(alloc: Global, columns: &[u32], row: &CRow) -> Result<CRow, AllocError>
     requires { All (λ k. k < length row.now.cells) columns.now }
     ensures { IfOk result (λ r. r ≡ picked_row columns.now row.now) }
 {
@@ -47,7 +50,14 @@ fn pick_each(alloc: Global, columns: &[u32], rows: &[CRow]) -> Result<Vec<CRow>,
 }
 
 /// The names at these positions.
-fn pick_names(alloc: Global, columns: &[u32], names: &List<Text>) -> Result<List<Text>, AllocError>
+///
+/// # Errors
+/// `AllocError` where there is no memory for them.
+pub fn pick_names(
+    alloc: Global,
+    columns: &[u32],
+    names: &List<Text>,
+) -> Result<List<Text>, AllocError>
     requires { All (λ k. k < length names.now) columns.now }
     ensures { IfOk result (λ out. out ≡ map (λ k. slice_index_or names.now k []) columns.now) }
 {
@@ -77,13 +87,10 @@ pub fn project<N: Site, I: Interner<N>>(
     ensures part { IfOk result (λ out. IsSublist (cells_of (I.list pass.new) out.rows) (map (picked columns.now) (cells_of (I.list pass.old) table.now.rows))) }
     ensures order { IfOk result (λ out. IsSublist (cells_of (I.list pass.new) out.rows) (firsts same_cells (map (picked columns.now) (cells_of (I.list pass.old) table.now.rows)))) }
     ensures terms { IfOk result (λ out. RowsFrom (I.list pass.new) out.rows (TermOfRows (I.list pass.old) table.now.rows)) }
-    ensures longer { IsPrefix (I.list pass.old) (I.list pass.new) }
-    ensures full { IsErrOf result fault.Full → length (I.list pass.new) ≡ N.log.cap }
-    ensures made { I.made pass.new ≤ I.made pass.old + length table.now.rows }
-    ensures fewer { IsErrOf result fault.Full → I.made pass.new < I.made pass.old + length table.now.rows }
-    ensures kept { I.kept pass.new ≡ I.kept pass.old }
-    ensures lent { I.lent pass.new ≡ I.lent pass.old }
+    ensures writes { Writes I.list I.made I.kept I.lent N.log.cap pass.old pass.new (length table.now.rows) (is_full result) }
 {
+    // The words are within the capacity, also where memory is wanting.
+    let _ = pass.words();
     let names = pick_names(alloc, columns, &table.columns)?;
     let rows = pick_each(alloc, columns, table.rows.as_slice())?;
     merged(alloc, arena, pass, names, rows)

@@ -1,8 +1,7 @@
 // Selection of the rows for which a predicate holds.
 
-ghost use Rattle.std.specs.Prelude.{◌≡◌, ◌≤◌, ◌<◌, ◌+◌, ◌*◌, ◌↔◌, false, length, IfOk, IsErrOf, IsTrue, ◌⊎◌};
+ghost use Rattle.std.specs.Prelude.{◌≡◌, ◌+◌, ◌*◌, ◌↔◌, false, length, IfOk, IsTrue, ◌⊎◌};
 ghost use Rattle.std.specs.List.{filter};
-ghost use mathlib.Core.List.{IsPrefix};
 ghost use Rattle.ct_word.specs.Value.{World};
 ghost use Rattle.ct_word.specs.Sublist.{IsSublist};
 ghost use Rattle.ct_word.specs.Condition.{holds, holds_at};
@@ -13,17 +12,20 @@ ghost use Rattle.ct_query.specs.Fits.{FitsRows};
 ghost use Rattle.ct_query.specs.Pred.{condition_of};
 ghost use Rattle.ct_condition.specs.Places.{new_terms};
 ghost use Rattle.ct_condition.specs.Terms.{IsNamed};
+ghost use Rattle.ct_condition.specs.Writes.{Writes};
 ghost use Rattle.ct_operators.specs.Terms.{TermOfRows, RowsFrom, IsNoColumn};
 ghost use Rattle.ct_operators.specs.Tables.{AreRows, value_of_rows, cells_of};
 ghost use Rattle.ct_operators.specs.Judging.{passes, parts_in, Further, FitsTest, first_words, test_words};
-ghost use Rattle.ct_operators.specs.declared.error.TableError.TheVariants as fault;
+ghost use Rattle.ct_operators.specs.Refusals.{is_full};
 
 use crate::error::TableError;
 use crate::judging::{Test, judged};
+use crate::nearness::{find_near, keys_for, narrowed};
 use crate::rows::{names, push_under};
 use crate::table::CTable;
 use ct_arena::{Arena, Site};
 use ct_condition::Interner;
+use ct_join::Index;
 use ct_query::Pred;
 use ct_word::{CRow, FALSE_PLACE, List, Memory};
 use std::alloc::Global;
@@ -31,7 +33,6 @@ use std::alloc::Global;
 /// Whether a condition is the word false, which no valuation satisfies.
 fn is_false<N: Site, I: Interner<N>>(pass: &I, place: u32) -> bool
     ensures decides { IsTrue result ↔ (place ≡ 1) }
-    ensures room { length (I.list pass.now) ≤ N.log.cap }
     ensures never { IsTrue result → (v : World) → holds_at v (condition_at (I.list pass.now) place) ≡ false }
 {
     let _ = pass.words();
@@ -66,22 +67,23 @@ pub(crate) fn sifted<N: Site, I: Interner<N>>(
     ensures tuples { (v : World) → IfOk result (λ out. SameSet (value_of_rows (I.list pass.new) v out.rows) (filter (passes (I.list pass.old) test.entry v) (value_of_rows (I.list pass.old) v table.now.rows))) }
     ensures part { IfOk result (λ out. IsSublist (cells_of (I.list pass.new) out.rows) (cells_of (I.list pass.old) table.now.rows)) }
     ensures terms { IfOk result (λ out. RowsFrom (I.list pass.new) out.rows (λ t. TermOfRows (I.list pass.old) table.now.rows t ⊎ Further (I.list pass.old) test.entry t)) }
-    ensures longer { IsPrefix (I.list pass.old) (I.list pass.new) }
-    ensures room { length (I.list pass.new) ≤ N.log.cap }
-    ensures full { IsErrOf result fault.Full → length (I.list pass.new) ≡ N.log.cap }
-    ensures made { I.made pass.new ≤ I.made pass.old + (first_words (I.list pass.old) test.entry + length table.now.rows * (test_words (I.list pass.old) (length table.now.columns) test.entry + 1)) }
-    ensures fewer { IsErrOf result fault.Full → I.made pass.new < I.made pass.old + (first_words (I.list pass.old) test.entry + length table.now.rows * (test_words (I.list pass.old) (length table.now.columns) test.entry + 1)) }
-    ensures kept { I.kept pass.new ≡ I.kept pass.old }
-    ensures lent { I.lent pass.new ≡ I.lent pass.old }
+    ensures writes { Writes I.list I.made I.kept I.lent N.log.cap pass.old pass.new (first_words (I.list pass.old) test.entry + length table.now.rows * (test_words (I.list pass.old) (length table.now.columns) test.entry + 1)) (is_full result) }
 {
     // The words are within the capacity, also where no row adds any.
-    let _ = pass.words();
+    let known = pass.words();
     let columns = names(&table.columns)?;
     let mut put = room_for(alloc, test)?;
+    let keys = keys_for(alloc, known, test, table.rows.len())?;
+    let keyed = keys.as_slice();
+    let index = Index::make(alloc, keyed)?;
+    let mut found = Vec::new(alloc);
     let mut out = Vec::new(alloc);
     for row in table.rows.as_slice() {
-        let _ = pass.words();
-        let place = judged(arena, pass, test, row, put.as_mut_slice())?;
+        let log = pass.words();
+        find_near(log, keyed, &index, row, &mut found)?;
+        let places = found.as_slice();
+        let near = narrowed(test, keyed, places);
+        let place = judged(arena, pass, near, row, put.as_mut_slice())?;
         if !is_false(pass, place) {
             push_under(&mut out, row, place)?;
         }
@@ -111,13 +113,7 @@ pub fn select<N: Site, I: Interner<N>>(
     ensures tuples { (v : World) → IfOk result (λ out. SameSet (value_of_rows (I.list pass.new) v out.rows) (filter (λ t. holds v t (condition_of p.now)) (value_of_rows (I.list pass.old) v table.now.rows))) }
     ensures part { IfOk result (λ out. IsSublist (cells_of (I.list pass.new) out.rows) (cells_of (I.list pass.old) table.now.rows)) }
     ensures terms { IfOk result (λ out. RowsFrom (I.list pass.new) out.rows (λ t. TermOfRows (I.list pass.old) table.now.rows t ⊎ (IsNamed (condition_of p.now) t × IsNoColumn t))) }
-    ensures longer { IsPrefix (I.list pass.old) (I.list pass.new) }
-    ensures room { length (I.list pass.new) ≤ N.log.cap }
-    ensures full { IsErrOf result fault.Full → length (I.list pass.new) ≡ N.log.cap }
-    ensures made { I.made pass.new ≤ I.made pass.old + (new_terms (I.list pass.old) (condition_of p.now) + length table.now.rows * (ops (condition_of p.now) + 1)) }
-    ensures fewer { IsErrOf result fault.Full → I.made pass.new < I.made pass.old + (new_terms (I.list pass.old) (condition_of p.now) + length table.now.rows * (ops (condition_of p.now) + 1)) }
-    ensures kept { I.kept pass.new ≡ I.kept pass.old }
-    ensures lent { I.lent pass.new ≡ I.lent pass.old }
+    ensures writes { Writes I.list I.made I.kept I.lent N.log.cap pass.old pass.new (new_terms (I.list pass.old) (condition_of p.now) + length table.now.rows * (ops (condition_of p.now) + 1)) (is_full result) }
 {
     sifted(alloc, arena, pass, Test::Holds(p), table)
 }

@@ -1,13 +1,13 @@
 // The union of two tables.
 
-ghost use Rattle.std.specs.Prelude.{◌≡◌, ◌≤◌, ◌<◌, ◌+◌, ◌++◌, length, IfOk, IsErrOf};
-ghost use mathlib.Core.List.{IsPrefix};
+ghost use Rattle.std.specs.Prelude.{◌≡◌, ◌+◌, ◌++◌, length, IfOk};
 ghost use Rattle.ct_word.specs.Value.{World, same_cells};
 ghost use Rattle.ct_word.specs.Sublist.{IsSublist};
 ghost use Rattle.ct_query.specs.Database.{SameSet};
+ghost use Rattle.ct_condition.specs.Writes.{Writes};
 ghost use Rattle.ct_operators.specs.Tables.{AreRows, value_of_rows, cells_of, firsts};
 ghost use Rattle.ct_operators.specs.Terms.{TermOfRows, RowsFrom};
-ghost use Rattle.ct_operators.specs.declared.error.TableError.TheVariants as fault;
+ghost use Rattle.ct_operators.specs.Refusals.{is_full};
 
 use crate::error::TableError;
 use crate::insertion::insert;
@@ -37,13 +37,7 @@ pub fn union<N: Site, I: Interner<N>>(
     ensures part { IfOk result (λ out. IsSublist (cells_of (I.list pass.new) out.rows) (cells_of (I.list pass.old) left.now.rows ++ cells_of (I.list pass.old) right.now.rows)) }
     ensures order { IfOk result (λ out. IsSublist (cells_of (I.list pass.new) out.rows) (firsts same_cells (cells_of (I.list pass.old) left.now.rows ++ cells_of (I.list pass.old) right.now.rows))) }
     ensures terms { IfOk result (λ out. RowsFrom (I.list pass.new) out.rows (TermOfRows (I.list pass.old) (left.now.rows ++ right.now.rows))) }
-    ensures longer { IsPrefix (I.list pass.old) (I.list pass.new) }
-    ensures room { length (I.list pass.new) ≤ N.log.cap }
-    ensures full { IsErrOf result fault.Full → length (I.list pass.new) ≡ N.log.cap }
-    ensures made { I.made pass.new ≤ I.made pass.old + (length left.now.rows + length right.now.rows) }
-    ensures fewer { IsErrOf result fault.Full → I.made pass.new < I.made pass.old + (length left.now.rows + length right.now.rows) }
-    ensures kept { I.kept pass.new ≡ I.kept pass.old }
-    ensures lent { I.lent pass.new ≡ I.lent pass.old }
+    ensures writes { Writes I.list I.made I.kept I.lent N.log.cap pass.old pass.new (length left.now.rows + length right.now.rows) (is_full result) }
 {
     insert(alloc, arena, pass, left, right.rows.as_slice())
 }

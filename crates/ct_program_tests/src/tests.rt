@@ -1,7 +1,9 @@
 mod anomalies;
 mod assertions;
 mod conflicts;
+mod full_log;
 mod played;
 mod remarks;
+mod schedules;
 mod side_by_side;
 mod together;

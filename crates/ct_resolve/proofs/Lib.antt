@@ -1,5 +1,6 @@
 pub mod Distinct
 pub mod Founds
+pub mod TablesFound
 pub mod Trees
 pub mod Picked
 pub mod QueryTrees

@@ -5,6 +5,7 @@ ghost use Rattle.ct_resolve.specs.Names.{table_in, is_table, are_distinct, may_b
 ghost use Rattle.ct_resolve.specs.declared.error.ResolveError.TheVariants as fault;
 
 use crate::error::ResolveError;
+use ct_headings::Headings;
 use ct_parse::Column;
 use ct_query::Heading;
 use ct_word::Text;
@@ -13,23 +14,22 @@ use ct_word::Text;
 ///
 /// # Errors
 /// `UnknownTable` where there is none.
-pub fn table_named<'a>(tables: &'a [Heading], name: &str) -> Result<&'a Heading, ResolveError>
-    ensures ok { IfOk result (λ h. table_in tables.now name.now ≡ Ok h.now) }
-    ensures err { IfErr result (λ e. table_in tables.now name.now ≡ Err e) }
+#[tactic(auto, using(crate::proofs::TablesFound::table_is))]
+pub fn table_named<'a, H: Headings>(schema: &'a H, name: &Text) -> Result<&'a Heading, ResolveError>
+    ensures ok { IfOk result (λ h. table_in (H.schema schema.now).tables name.now ≡ Ok h.now) }
+    ensures err { IfErr result (λ e. table_in (H.schema schema.now).tables name.now ≡ Err e) }
 {
-    for heading in tables {
-        if heading.name.as_str() == name {
-            return Ok(heading);
-        }
+    match schema.heading(name) {
+        Some(heading) => Ok(heading),
+        None => Err(ResolveError::UnknownTable),
     }
-    Err(ResolveError::UnknownTable)
 }
 
 /// Whether a table has this name.
-pub fn is_named(tables: &[Heading], name: &str) -> bool
-    ensures { result ≡ is_table tables.now name.now }
+pub fn is_named<H: Headings>(schema: &H, name: &Text) -> bool
+    ensures { result ≡ is_table (H.schema schema.now).tables name.now }
 {
-    tables.iter().any(|heading| heading.name.as_str() == name)
+    schema.heading(name).is_some()
 }
 
 /// Where the first of these names is that is this one.

@@ -16,24 +16,25 @@ ghost use Rattle.ct_resolve.specs.declared.error.ResolveError.TheVariants as fau
 use crate::error::ResolveError;
 use crate::queries::query;
 use crate::statements::{assertion, create, delete, insert_query, insert_rows};
+use ct_headings::Headings;
 use ct_parse::{Query, Statement};
-use ct_query::{Ask, Resolved, Schema};
+use ct_query::{Ask, Resolved};
 use std::alloc::Global;
 
 /// A query of which something is asked.
 ///
 /// # Errors
 /// The refusals of the query; `Memory` where there is none for it.
-fn asked(
+fn asked<H: Headings>(
     alloc: Global,
-    schema: &Schema,
+    schema: &H,
     ask: Ask,
     written: &Query,
 ) -> Result<Resolved, ResolveError>
-    ensures ok { IfOk result (λ r. and_then (query_at schema.now.tables written.now) (λ a. Ok (plain.Asks ask a.columns a.query)) ≡ Ok (statement_of r)) }
-    ensures err { IfErr result (λ e. e ≢ fault.Memory → and_then (query_at schema.now.tables written.now) (λ a. Ok (plain.Asks ask a.columns a.query)) ≡ Err e) }
+    ensures ok { IfOk result (λ r. and_then (query_at (H.schema schema.now).tables written.now) (λ a. Ok (plain.Asks ask a.columns a.query)) ≡ Ok (statement_of r)) }
+    ensures err { IfErr result (λ e. e ≢ fault.Memory → and_then (query_at (H.schema schema.now).tables written.now) (λ a. Ok (plain.Asks ask a.columns a.query)) ≡ Err e) }
 {
-    let found = query(alloc, schema.tables.as_slice(), written)?;
+    let found = query(alloc, schema, written)?;
     Ok(Resolved::Ask {
         ask,
         columns: found.columns,
@@ -45,16 +46,16 @@ fn asked(
 ///
 /// # Errors
 /// Its first refusal, or `Memory`, as `resolve` has them.
-fn positioned(
+fn positioned<H: Headings>(
     alloc: Global,
-    schema: &Schema,
+    schema: &H,
     session: u32,
     fresh: u32,
     written: &Statement,
 ) -> Result<Resolved, ResolveError>
-    ensures ok { IfOk result (λ r. resolved schema.now session fresh written.now ≡ Ok (statement_of r)) }
+    ensures ok { IfOk result (λ r. resolved (H.schema schema.now) session fresh written.now ≡ Ok (statement_of r)) }
     ensures room { IfOk result (λ r. HasRoom fresh written.now) }
-    ensures err { IfErr result (λ e. e ≢ fault.Memory → resolved schema.now session fresh written.now ≡ Err e) }
+    ensures err { IfErr result (λ e. e ≢ fault.Memory → resolved (H.schema schema.now) session fresh written.now ≡ Err e) }
 {
     match written {
         Statement::Create { name, first, rest } => create(alloc, schema, name, first, rest),
@@ -98,18 +99,18 @@ fn positioned(
 ///
 /// A column is `UnknownColumn` where no table in scope has it, and `AmbiguousColumn` where two or
 /// more have it.
-pub fn resolve(
+pub fn resolve<H: Headings>(
     alloc: Global,
-    schema: &Schema,
+    schema: &H,
     session: u32,
     fresh: u32,
     statement: &Statement,
 ) -> Result<Resolved, ResolveError>
-    ensures ok { IfOk result (λ r. resolved schema.now session fresh statement.now ≡ Ok (statement_of r)) }
-    ensures fits { IfOk result (λ r. 1 ≤ session → session ≤ 1023 → FitsStatement schema.now.tables (statement_of r)) }
+    ensures ok { IfOk result (λ r. resolved (H.schema schema.now) session fresh statement.now ≡ Ok (statement_of r)) }
+    ensures fits { IfOk result (λ r. 1 ≤ session → session ≤ 1023 → FitsStatement (H.schema schema.now).tables (statement_of r)) }
     ensures writable { IfOk result (λ r. (ls : List Lexeme) → AreWritten ls → Spells ls statement.now → WritesStatement (statement_of r)) }
-    ensures named { IfOk result (λ r. (ls : List Lexeme) → AreWritten ls → Spells ls statement.now → NamesColumns schema.now.tables (statement_of r)) }
-    ensures err { IfErr result (λ e. e ≢ fault.Memory → resolved schema.now session fresh statement.now ≡ Err e) }
+    ensures named { IfOk result (λ r. (ls : List Lexeme) → AreWritten ls → Spells ls statement.now → NamesColumns (H.schema schema.now).tables (statement_of r)) }
+    ensures err { IfErr result (λ e. e ≢ fault.Memory → resolved (H.schema schema.now) session fresh statement.now ≡ Err e) }
 {
     let found = positioned(alloc, schema, session, fresh, statement)?;
     Ok(found)

@@ -13,6 +13,7 @@ ghost use Rattle.ct_resolve.specs.declared.error.ResolveError.TheVariants as fau
 use crate::conditions::{all_of, condition};
 use crate::error::ResolveError;
 use crate::tables::{are_seen_apart, boxed, picked, product, scope_of};
+use ct_headings::Headings;
 use ct_parse::{Joined, Select, SetOperator};
 use ct_query::{Heading, Pred, Query};
 use ct_word::{List, Text};
@@ -101,9 +102,13 @@ fn selected(alloc: Global, scope: &[Heading], select: &Select) -> Result<Named, 
 /// `UnknownTable` for the tables from the left; then `DuplicateName` where two are seen under one
 /// name; then the refusals of the items and of the conditions from the left. `Memory` where there
 /// is none for the query.
-pub fn select(alloc: Global, schema: &[Heading], written: &Select) -> Result<Named, ResolveError>
-    ensures ok { IfOk result (λ n. spec.select_at schema.now written.now ≡ Ok (named_of n)) }
-    ensures err { IfErr result (λ e. e ≢ fault.Memory → spec.select_at schema.now written.now ≡ Err e) }
+pub fn select<H: Headings>(
+    alloc: Global,
+    schema: &H,
+    written: &Select,
+) -> Result<Named, ResolveError>
+    ensures ok { IfOk result (λ n. spec.select_at (H.schema schema.now).tables written.now ≡ Ok (named_of n)) }
+    ensures err { IfErr result (λ e. e ≢ fault.Memory → spec.select_at (H.schema schema.now).tables written.now ≡ Err e) }
 {
     let scope = scope_of(alloc, schema, &written.tables)?;
     if !are_seen_apart(alloc, &written.tables)? {

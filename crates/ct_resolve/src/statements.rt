@@ -16,8 +16,9 @@ use crate::names::{is_named, table_named};
 use crate::queries::query;
 use crate::rows::{all_fit, are_distinct, listed, terms_of_rows};
 use crate::selects::Named;
+use ct_headings::Headings;
 use ct_parse::{Condition, Query, Row};
-use ct_query::{Action, Heading, Pred, Resolved, Schema};
+use ct_query::{Action, Heading, Pred, Resolved};
 use ct_word::{List, Text};
 use std::alloc::Global;
 
@@ -44,17 +45,17 @@ fn condition_or_default(
 /// # Errors
 /// `TableExists` where the name is in the schema, then `DuplicateName` where two columns have one
 /// name; `Memory` where there is none for the copies.
-pub fn create(
+pub fn create<H: Headings>(
     alloc: Global,
-    schema: &Schema,
+    schema: &H,
     name: &Text,
     first: &Text,
     rest: &List<Text>,
 ) -> Result<Resolved, ResolveError>
-    ensures ok { IfOk result (λ r. resolved schema.now 0 0 (tree.Create name.now first.now rest.now) ≡ Ok (statement_of r)) }
-    ensures err { IfErr result (λ e. e ≢ fault.Memory → resolved schema.now 0 0 (tree.Create name.now first.now rest.now) ≡ Err e) }
+    ensures ok { IfOk result (λ r. resolved (H.schema schema.now) 0 0 (tree.Create name.now first.now rest.now) ≡ Ok (statement_of r)) }
+    ensures err { IfErr result (λ e. e ≢ fault.Memory → resolved (H.schema schema.now) 0 0 (tree.Create name.now first.now rest.now) ≡ Err e) }
 {
-    if is_named(schema.tables.as_slice(), name.as_str()) {
+    if is_named(schema, name) {
         return Err(ResolveError::TableExists);
     }
     let columns = listed(alloc, first, rest.as_slice())?;
@@ -73,9 +74,9 @@ pub fn create(
 /// `UnknownTable`; then `ColumnCount` where a row has another number of cells than the table has
 /// columns; then the first refusal of the condition, which sees no table. `Memory` where there is
 /// none for the terms, or where the number of the session's last null would be 2^28 or more.
-pub fn insert_rows(
+pub fn insert_rows<H: Headings>(
     alloc: Global,
-    schema: &Schema,
+    schema: &H,
     session: u32,
     fresh: u32,
     name: &Text,
@@ -83,11 +84,11 @@ pub fn insert_rows(
     rest: &List<Row>,
     written: &Option<Condition>,
 ) -> Result<Resolved, ResolveError>
-    ensures ok { IfOk result (λ r. resolved schema.now session fresh (tree.InsertRows name.now first.now rest.now written.now) ≡ Ok (statement_of r)) }
+    ensures ok { IfOk result (λ r. resolved (H.schema schema.now) session fresh (tree.InsertRows name.now first.now rest.now written.now) ≡ Ok (statement_of r)) }
     ensures room { IfOk result (λ r. next_after_rows (fresh + 1) (first.now ∷ rest.now) ≤ 2 ^ 28) }
-    ensures err { IfErr result (λ e. e ≢ fault.Memory → resolved schema.now session fresh (tree.InsertRows name.now first.now rest.now written.now) ≡ Err e) }
+    ensures err { IfErr result (λ e. e ≢ fault.Memory → resolved (H.schema schema.now) session fresh (tree.InsertRows name.now first.now rest.now written.now) ≡ Err e) }
 {
-    let heading = table_named(schema.tables.as_slice(), name.as_str())?;
+    let heading = table_named(schema, name)?;
     if !all_fit(first, rest, heading) {
         return Err(ResolveError::ColumnCount);
     }
@@ -105,16 +106,16 @@ pub fn insert_rows(
 /// # Errors
 /// `UnknownTable`, then the first refusal of the condition, which sees the table under its own
 /// name; `Memory` where there is none for the predicate.
-pub fn delete(
+pub fn delete<H: Headings>(
     alloc: Global,
-    schema: &Schema,
+    schema: &H,
     name: &Text,
     written: &Option<Condition>,
 ) -> Result<Resolved, ResolveError>
-    ensures ok { IfOk result (λ r. resolved schema.now 0 0 (tree.Delete name.now written.now) ≡ Ok (statement_of r)) }
-    ensures err { IfErr result (λ e. e ≢ fault.Memory → resolved schema.now 0 0 (tree.Delete name.now written.now) ≡ Err e) }
+    ensures ok { IfOk result (λ r. resolved (H.schema schema.now) 0 0 (tree.Delete name.now written.now) ≡ Ok (statement_of r)) }
+    ensures err { IfErr result (λ e. e ≢ fault.Memory → resolved (H.schema schema.now) 0 0 (tree.Delete name.now written.now) ≡ Err e) }
 {
-    let heading = table_named(schema.tables.as_slice(), name.as_str())?;
+    let heading = table_named(schema, name)?;
     let name = name.clone()?;
     let pred = condition_or_default(alloc, std::slice::from_ref(heading), written)?;
     Ok(Resolved::Act(Action::Delete { name, pred }))
@@ -137,18 +138,18 @@ pub fn assertion(alloc: Global, written: &Condition) -> Result<Resolved, Resolve
 /// # Errors
 /// `UnknownTable`, then the refusals of the query, then `ColumnCount` where it has another number of
 /// columns than the table; `Memory` where there is none for the query.
-pub fn insert_query(
+pub fn insert_query<H: Headings>(
     alloc: Global,
-    schema: &Schema,
+    schema: &H,
     name: &Text,
     written: &Query,
 ) -> Result<Resolved, ResolveError>
-    ensures ok { IfOk result (λ r. resolved schema.now 0 0 (tree.InsertQuery name.now written.now) ≡ Ok (statement_of r)) }
-    ensures err { IfErr result (λ e. e ≢ fault.Memory → resolved schema.now 0 0 (tree.InsertQuery name.now written.now) ≡ Err e) }
+    ensures ok { IfOk result (λ r. resolved (H.schema schema.now) 0 0 (tree.InsertQuery name.now written.now) ≡ Ok (statement_of r)) }
+    ensures err { IfErr result (λ e. e ≢ fault.Memory → resolved (H.schema schema.now) 0 0 (tree.InsertQuery name.now written.now) ≡ Err e) }
 {
-    let heading = table_named(schema.tables.as_slice(), name.as_str())?;
+    let heading = table_named(schema, name)?;
     let name = name.clone()?;
-    let Named { columns, query } = query(alloc, schema.tables.as_slice(), written)?;
+    let Named { columns, query } = query(alloc, schema, written)?;
     if columns.len() != heading.columns.len() {
         drop(query);
         return Err(ResolveError::ColumnCount);

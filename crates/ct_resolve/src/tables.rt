@@ -11,6 +11,7 @@ ghost use Rattle.ct_resolve.specs.declared.error.ResolveError.TheVariants as fau
 use crate::error::ResolveError;
 use crate::names::{column_position, further, table_named};
 use crate::rows::are_distinct;
+use ct_headings::Headings;
 use ct_parse::{Column, Item, Items, Joined, Table, Tables};
 use ct_query::{Heading, Query};
 use ct_word::Text;
@@ -40,11 +41,15 @@ fn table_of(joined: &Joined) -> &Table
 ///
 /// # Errors
 /// `UnknownTable` where it is not in the schema; `Memory` where there is none for the copies.
-fn seen_table(alloc: Global, schema: &[Heading], table: &Table) -> Result<Heading, ResolveError>
-    ensures ok { IfOk result (λ h. spec.seen_table schema.now table.now ≡ Ok h) }
-    ensures err { IfErr result (λ e. e ≢ fault.Memory → spec.seen_table schema.now table.now ≡ Err e) }
+fn seen_table<H: Headings>(
+    alloc: Global,
+    schema: &H,
+    table: &Table,
+) -> Result<Heading, ResolveError>
+    ensures ok { IfOk result (λ h. spec.seen_table (H.schema schema.now).tables table.now ≡ Ok h) }
+    ensures err { IfErr result (λ e. e ≢ fault.Memory → spec.seen_table (H.schema schema.now).tables table.now ≡ Err e) }
 {
-    let heading = table_named(schema, table.name.as_str())?;
+    let heading = table_named(schema, &table.name)?;
     Ok(Heading {
         name: visible_name(table).clone()?,
         columns: heading.columns.clone()?,
@@ -52,9 +57,13 @@ fn seen_table(alloc: Global, schema: &[Heading], table: &Table) -> Result<Headin
 }
 
 /// The same of the table behind a comma or JOIN.
-fn seen_joined(alloc: Global, schema: &[Heading], joined: &Joined) -> Result<Heading, ResolveError>
-    ensures ok { IfOk result (λ h. spec.seen_table schema.now (spec.table_of joined.now) ≡ Ok h) }
-    ensures err { IfErr result (λ e. e ≢ fault.Memory → spec.seen_table schema.now (spec.table_of joined.now) ≡ Err e) }
+fn seen_joined<H: Headings>(
+    alloc: Global,
+    schema: &H,
+    joined: &Joined,
+) -> Result<Heading, ResolveError>
+    ensures ok { IfOk result (λ h. spec.seen_table (H.schema schema.now).tables (spec.table_of joined.now) ≡ Ok h) }
+    ensures err { IfErr result (λ e. e ≢ fault.Memory → spec.seen_table (H.schema schema.now).tables (spec.table_of joined.now) ≡ Err e) }
 {
     seen_table(alloc, schema, table_of(joined))
 }
@@ -63,13 +72,13 @@ fn seen_joined(alloc: Global, schema: &[Heading], joined: &Joined) -> Result<Hea
 ///
 /// # Errors
 /// `UnknownTable` where one is not in the schema; `Memory` where there is none for the copies.
-pub fn scope_of(
+pub fn scope_of<H: Headings>(
     alloc: Global,
-    schema: &[Heading],
+    schema: &H,
     tables: &Tables,
 ) -> Result<Vec<Heading>, ResolveError>
-    ensures ok { IfOk result (λ v. each (spec.seen_table schema.now) (spec.tables_of tables.now) ≡ Ok v.items) }
-    ensures err { IfErr result (λ e. e ≢ fault.Memory → each (spec.seen_table schema.now) (spec.tables_of tables.now) ≡ Err e) }
+    ensures ok { IfOk result (λ v. each (spec.seen_table (H.schema schema.now).tables) (spec.tables_of tables.now) ≡ Ok v.items) }
+    ensures err { IfErr result (λ e. e ≢ fault.Memory → each (spec.seen_table (H.schema schema.now).tables) (spec.tables_of tables.now) ≡ Err e) }
 {
     let first = seen_table(alloc, schema, &tables.first)?;
     let mut found = Vec::new(alloc);

@@ -64,7 +64,7 @@ impl Solver {
     /// Adds a clause, and returns its position in the log. The next step looks at it.
     ///
     /// # Errors
-    /// `Memory` where memory is wanting, or was at an earlier call. The log stays as it was.
+    /// `Memory` where memory is wanting, or was at an earlier call, or the log has 2^32 entries. The log stays as it was.
     pub fn add(&mut self, clause: List<i32>) -> Result<u32, Memory>
         requires { is_clause self.old.vars clause ≡ true }
         ensures added { OnOk result (self.new ≡ record { vars = self.old.vars; entries = self.old.entries ++ entry.Added clause ∷ []; failed = false }) }
@@ -83,7 +83,8 @@ impl Solver {
     /// Searches for a model of the added clauses, or learns the empty clause. It only lengthens the log, by what it learns.
     ///
     /// # Errors
-    /// `Memory` where memory is wanting, or was at an earlier call. Every later call returns it too.
+    /// `Memory` where memory is wanting, or was at an earlier call, or an entry past 2^32 would have to be learned or named. Every
+    /// later call of `add` and `step` returns it too.
     pub fn step(&mut self, alloc: Global) -> Result<Found, Memory>
         ensures learns { Learns self.old self.new }
         ensures found { IfOk result (λ f. AnswersFound self.new f) }

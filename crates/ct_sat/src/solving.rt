@@ -54,7 +54,7 @@ fn steps_of(alloc: Global, entries: Vec<Entry>) -> Result<Vec<Rup>, Memory>
 
 /// A model of the clauses, or a refutation of them.
 ///
-/// The search tries each way, so it always ends with one of both.
+/// It ends with one of both, or with `Memory`.
 ///
 /// # Errors
 ///

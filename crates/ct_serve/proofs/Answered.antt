@@ -5,7 +5,9 @@ use Rattle.std.{proofs.lemmas.List.{take_more, take-map, map-append}, proofs.lem
 use Rattle.ct_word.{specs.Word.kind_with, specs.Change.PlainCommit, specs.Reading.{commits_of, meaning_of}}
 use Rattle.ct_arena.specs.Counts.{opening, numbers_by, AreNumbered}
 use Rattle.ct_transcript.specs.declared.reply.Reply.{Reply}
-use Rattle.ct_session.{specs.State.SessionState, specs.Answers.{Answers, commits_by, committed_of}}
+use Rattle.ct_arena.specs.Seen.{Seen}
+use Rattle.ct_keeper.specs.Served.{first_pass}
+use Rattle.ct_session.{specs.State.SessionState, specs.Answers.{Answers, commits_by, committed_of}, specs.Bounded.IsBounded}
 use Rattle.ct_serve.{specs.Progress.{Progress, ClientView, HasAnswered, HasExecuted, HasRun}, proofs.Progress.progress_push}
 
 pub no_commits : commits_of opening ≡ []
@@ -40,17 +42,17 @@ one_more N s next words words' x r a before after = by_reply (committed_of r) re
         at_most_one (Some m) = omega arith
 
 -- one statement more
-pub answered : {A : Type 0} (f : A → List ℕ) (xs : List A) (i : ℕ) (d : A) (N : ℕ) (first s next : SessionState) (words mid words' : List ℕ) (rs : List Reply) (r : Reply) → i < length xs
-    → Progress N first s words mid (take i (map f xs)) rs → Answers N s next mid words' (f (get_or xs i d)) r
-    → Progress N first next words words' (take (i + 1) (map f xs)) (rs ++ r ∷ [])
-answered f xs i d N first s next words mid words' rs r lt p a =
-    subst (λ ts. Progress N first next words words' ts (rs ++ r ∷ [])) (sym more) (progress_push N first s next words mid words' (take i (map f xs)) rs (f (get_or xs i d)) r p a) where
+pub answered : {A : Type 0} (f : A → List ℕ) (xs : List A) (i : ℕ) (d : A) (N : ℕ) (first s next : SessionState) (pass mid pass' : Seen) (rs : List Reply) (r : Reply) → i < length xs
+    → Progress N first s pass mid (take i (map f xs)) rs → Answers N s next mid.words pass'.words (f (get_or xs i d)) r → IsBounded N s pass'.words (f (get_or xs i d)) r mid.made pass'.made
+    → Progress N first next pass pass' (take (i + 1) (map f xs)) (rs ++ r ∷ [])
+answered f xs i d N first s next pass mid pass' rs r lt p a bounded =
+    subst (λ ts. Progress N first next pass pass' ts (rs ++ r ∷ [])) (sym more) (progress_push N first s next pass mid pass' (take i (map f xs)) rs (f (get_or xs i d)) r p a bounded) where
       more : take (i + 1) (map f xs) ≡ take i (map f xs) ++ f (get_or xs i d) ∷ []
       more = take-map f (i + 1) xs ∙ ap (map f) (take_more xs i d lt) ∙ map-append f (take i xs) (get_or xs i d ∷ []) ∙ ap (λ l. l ++ f (get_or xs i d) ∷ []) (sym (take-map f i xs))
 
 -- what a client did from the beginning of the log on is all that its session did
-pub has_run : (N : ℕ) (before after : ClientView) → before.pass.words ≡ opening → HasExecuted N before after → HasRun N after
-has_run N before after start done =
-    subst (λ k. IfSome after.replies (HasAnswered N k opening after.pass.words after.script)) (sym done.number)
-    (subst (λ x. IfSome after.replies (HasAnswered N before.pass.session opening after.pass.words x)) (sym done.script_is)
-    (subst (λ w. IfSome after.replies (HasAnswered N before.pass.session w after.pass.words before.script)) start done.answered))
+pub has_run : (N : ℕ) (before after : ClientView) (n : ℕ) → before.pass ≡ first_pass n → HasExecuted N before after → HasRun N after
+has_run N before after n start done =
+    subst (λ k. IfSome after.replies (HasAnswered N (first_pass k) after.pass after.script)) (sym (done.number ∙ ap (λ (p : Seen). p.session) start))
+    (subst (λ x. IfSome after.replies (HasAnswered N (first_pass n) after.pass x)) (sym done.script_is)
+    (subst (λ p. IfSome after.replies (HasAnswered N p after.pass before.script)) start done.answered))

@@ -1,6 +1,6 @@
 -- The certificate of a reply of a lawful transcript is accepted.
-use Rattle.std.proofs.Common.{◌≡◌, ℕ, zero, suc, ◌+◌, ◌-◌, List, [], ◌∷◌, ◌++◌, map}
-use Rattle.std.{specs.Prelude.{All, Option, Some, None, slice_get, option_and_then}, proofs.lemmas.List.Elements.{All-nil, All-cons, All-head, All-tail}}
+use Rattle.std.proofs.Common.{◌≡◌, ℕ, zero, suc, ◌-◌, List, [], ◌∷◌, map}
+use Rattle.std.{specs.Prelude.{All, slice_get, option_and_then}, proofs.lemmas.List.Elements.{All-nil, All-cons, All-head, All-tail}}
 use Rattle.ct_word.specs.Change.{PlainCommit}
 use Rattle.ct_derivation.specs.Accepts.{AcceptsProof}
 use Rattle.ct_cert.{specs.Judgement.judgement, proofs.Judged.sound_accepted}

@@ -1,6 +1,7 @@
 -- Lists of clients, before and after their scripts were executed.
-use Rattle.std.proofs.Common.{◌≡◌, ℕ, suc, ◌<◌, ◌≤◌, List, [], ◌∷◌, ◌++◌, length, map, take, drop, get_or, refl, ap, sym, subst, ◌∙◌, arith, length-append, append-nil, append_assoc}
-use Rattle.std.{specs.Prelude.All, specs.List.AllZip, proofs.lemmas.List.{length-map, get_or-map, map_push, take_more, take_all, drop_all}}
+use Rattle.std.proofs.Common.{◌≡◌, ℕ, suc, ◌+◌, ◌-◌, ◌<◌, ◌≤◌, List, [], ◌∷◌, ◌++◌, length, map, take, drop, get_or, refl, ap, sym, subst, ◌∙◌, arith, length-append, append-nil, append_assoc, inl, inr}
+use Rattle.std.{specs.Prelude.{All, ◌⊎◌}, specs.List.AllZip, proofs.lemmas.Bool.cases_lt}
+use Rattle.std.proofs.lemmas.List.{length-map, get_or-map, get_or_append_left, get_or-append-add, get_or-append_right, map_push, take_more, take_all, drop_all}
 use Rattle.std.proofs.lemmas.List.Elements.{All-nil, All-cons}
 use Rattle.ct_arena.specs.Seen.{Seen}
 use Rattle.ct_lex.specs.Texts.{texts}
@@ -41,6 +42,38 @@ all_ready xs ns scripts e f all k d lt =
       few = omega (arith, short);
     }
 
+-- what was done between two clients was done between those that are the same
+pub executed_at : (N : ℕ) (x x' y y' : ClientView) → x ≡ x' → y ≡ y' → HasExecuted N x y → HasExecuted N x' y'
+executed_at N x x' y y' e f done = subst (λ z. HasExecuted N x' z) f (subst (λ z. HasExecuted N z y) e done)
+
+-- clients in two parts: all are ready, and what was done in each part was done in both
+module _ (xs ls rs : List ClientView) (split : xs ≡ ls ++ rs) where
+  pub ready_left : All IsReady xs → All IsReady ls
+  ready_left all k d lt =
+      subst IsReady (ap (λ l. get_or l k d) split ∙ get_or_append_left ls rs d k lt) (all k d (let n = ap length split ∙ length-append ls rs in omega (arith, n, lt)))
+
+  pub ready_right : All IsReady xs → All IsReady rs
+  ready_right all k d lt =
+      subst IsReady (ap (λ l. get_or l (length ls + k) d) split ∙ get_or-append-add ls rs k d)
+      (all (length ls + k) d (let n = ap length split ∙ length-append ls rs in omega (arith, n, lt)))
+
+-- the clients ys are those of xs after each executed its script
+abbrev AllExecuted : ℕ → List ClientView → List ClientView → Type 0
+AllExecuted N xs ys = (k : ℕ) (d : ClientView) → k < length xs → HasExecuted N (get_or xs k d) (get_or ys k d)
+
+module _ (N : ℕ) (xs ls rs ls' rs' : List ClientView) (split : xs ≡ ls ++ rs) (count : length ls' ≡ length ls) (left : AllExecuted N ls ls') (right : AllExecuted N rs rs') where
+  executed_in : (k : ℕ) (d : ClientView) → k < length xs → (k < length ls) ⊎ (length ls ≤ k) → HasExecuted N (get_or xs k d) (get_or (ls' ++ rs') k d)
+  executed_in k d lt (inl below) =
+      executed_at N _ _ _ _ (sym (ap (λ l. get_or l k d) split ∙ get_or_append_left ls rs d k below))
+      (sym (get_or_append_left ls' rs' d k (omega (arith, below, count)))) (left k d below)
+  executed_in k d lt (inr past) =
+      let n = ap length split ∙ length-append ls rs in
+      executed_at N _ _ _ _ (sym (ap (λ l. get_or l k d) split ∙ get_or-append_right ls rs (length ls) k d refl past))
+      (sym (get_or-append_right ls' rs' (length ls) k d count past)) (right (k - length ls) d (omega (arith, n, lt, past)))
+
+  pub executed_parts : AllExecuted N xs (ls' ++ rs')
+  executed_parts k d lt = executed_in k d lt (cases_lt k (length ls))
+
 -- the clients after each executed its script
 module _ (N : ℕ) (xs ys : List ClientView) (count : length ys ≡ length xs) (each : (k : ℕ) (d : ClientView) → k < length xs → HasExecuted N (get_or xs k d) (get_or ys k d)) where
   pub scripts_stay : map (λ c. c.script) ys ≡ map (λ c. c.script) xs
@@ -53,7 +86,7 @@ module _ (N : ℕ) (xs ys : List ClientView) (count : length ys ≡ length xs) (
   all_run ns e k d lt =
       let here : k < length xs = omega (arith, lt, count) in
       let b = all_first xs ns e k d here in
-      has_run N (get_or xs k d) (get_or ys k d) (ap (λ p. p.words) b.1) (each k d here)
+      has_run N (get_or xs k d) (get_or ys k d) b.0 b.1 (each k d here)
 
 -- one more item of a list that is made of what is left of another
 pub moved : {A B C : Type 0} (f : A → C) (g : B → C) (all : List C) (xs xs' : List A) (rest rest' : List B) (x : A) (y : B) → map f xs ++ map g rest ≡ all → rest ≡ y ∷ rest' → xs' ≡ xs ++ x ∷ [] → f x ≡ g y
@@ -87,10 +120,6 @@ pub more_scripts : {A B : Type 0} (f : A → B) (all : List B) (xs xs' : List A)
 more_scripts f all xs xs' x d e pushed lt same =
     ap (map f) pushed ∙ map_push f xs x ∙ ap (λ l. l ++ f x ∷ []) e ∙ ap (λ z. take (length xs) all ++ z ∷ []) same ∙ sym (take_more all (length xs) d lt)
     ∙ ap (λ n. take n all) (sym (ap length pushed ∙ length-append xs (x ∷ [])))
-
--- what was done between two clients was done between those that are the same
-pub executed_at : (N : ℕ) (x x' y y' : ClientView) → x ≡ x' → y ≡ y' → HasExecuted N x y → HasExecuted N x' y'
-executed_at N x x' y y' e f done = subst (λ z. HasExecuted N x' z) f (subst (λ z. HasExecuted N z y) e done)
 
 -- a list whose items were all written back
 pub written_back : {A : Type 0} (n : ℕ) (new old : List A) → length new ≡ length old → n ≡ length old → take n (new ++ drop (length new) old) ≡ new

@@ -1,6 +1,6 @@
 -- The transcript of sessions that have ended.
-use Rattle.std.{proofs.Common.{◌≡◌, ℕ, zero, suc, ◌+◌, ◌≤◌, List, [], ◌∷◌, ◌++◌, length, map, take, refl, ap, sym, subst, ◌∙◌}, proofs.lemmas.List.length-map}
-use Rattle.std.{specs.Prelude.{Option, Some, None, IsSome, IsTrue, All, filter_map, is_some}, specs.List.{range_with_len, AllZip}}
+use Rattle.std.{proofs.Common.{◌≡◌, ℕ, zero, suc, ◌+◌, ◌≤◌, arith, List, [], ◌∷◌, ◌++◌, length, map, take, refl, ap, sym, subst, ◌∙◌}, proofs.lemmas.List.length-map}
+use Rattle.std.{specs.Prelude.{Option, Some, None, IsSome, IsTrue, All, filter_map, is_some, sum_by}, specs.List.{range_with_len, AllZip}, proofs.lemmas.List.Sums.sum_by-cons}
 use Rattle.std.{proofs.lemmas.List.FromFn.length-range_with_len, proofs.lemmas.List.Elements.{All-head, All-tail}}
 use Rattle.ct_word.{specs.Value.World, specs.Change.{PlainChange, PlainCommit}, specs.Reading.commits_of, specs.StandsFor.StandsFor}
 use Rattle.ct_word.specs.WellFormed.{IsWellFormed}
@@ -10,7 +10,10 @@ use Rattle.ct_arena.{specs.Seen.Seen, specs.Counts.{opening, AreNumbered, AreOfS
 use Rattle.ct_rewrite.{specs.declared.history.Commit.Commit, specs.History.{plain_history, IsCommitFormed}}
 use Rattle.ct_transcript.specs.declared.reply.SessionLog.{SessionLog}
 use Rattle.ct_session.{specs.Answers.{commits_by, committed_of}, proofs.Own.{own_commits_stay, same_by}, proofs.Sameness.sessions_same}
-use Rattle.ct_serve.{specs.Progress.HasEnded, specs.Sessions.{IsLawfulSession, AreLawfulSessions}, specs.Lawful.Lawful, proofs.Answered.no_commits}
+use Rattle.ct_lex.specs.Texts.{texts}
+use Rattle.ct_session.specs.State.{beginning}
+use Rattle.ct_serve.{specs.Progress.HasEnded, specs.Sessions.{IsLawfulSession, AreLawfulSessions}, specs.Lawful.Lawful, specs.Within.{IsSessionWithin, AreSessionsWithin, IsWithin}}
+use Rattle.ct_serve.{proofs.Answered.no_commits, proofs.Progress.lawful_within}
 use mathlib.Core.List.{IsPrefix}
 
 abbrev pub head_or : {X : Type 0} → X → List X → X
@@ -62,7 +65,8 @@ module _ (N : ℕ) (words : List ℕ) (formed : IsWellFormed words) (fits : leng
   lawful_one : (s : ℕ) (p : Seen) (l : SessionLog) → p.session ≡ s → HasEnded N p l → AreNumbered p.session p.mine words → IsPrefix p.words words → IsLawfulSession H words N s l
   lawful_one s p l number e numbered seen = subst (λ n. IsLawfulSession H words N n l) number (record {
     last = e.answered.last;
-    replies = e.answered.progress.lawful words (record { log = seen; formed = formed; room = fits }) H stands;
+    replies = let made = e.answered.progress.within words (record { log = seen; formed = formed; room = fits }) H stands in
+        lawful_within H words N (beginning p.session) e.answered.last (texts l.script) l.replies made.total made.bounds;
     commits =
         same_by p.session 1 H (commits_of words) stands ∙ own_commits_stay p.session p.mine p.words words seen e.numbered numbered
         ∙ e.answered.progress.commits ∙ ap (λ cs. commits_by p.session 1 cs ++ filter_map committed_of l.replies) no_commits;
@@ -78,6 +82,27 @@ module _ (N : ℕ) (words : List ℕ) (formed : IsWellFormed words) (fits : leng
   )
   lawful_all s [] (l ∷ ls) numbers z numbered seen = absurd z
   lawful_all s (p ∷ ps) [] numbers z numbered seen = absurd z
+
+  -- the words that the sessions made are within the sum of the bounds of their statements
+  pub within_all : (s : ℕ) (passes : List Seen) (logs : List SessionLog) → map (λ p. p.session) passes ≡ range_with_len s (length passes) → AllZip (HasEnded N) passes logs
+      → All (λ p. IsPrefix p.words words) passes → (total : ℕ) × AreSessionsWithin H words N s logs total × (sum_by (λ p. p.made) passes ≤ total)
+  within_all s [] [] numbers z seen = (0, refl, omega arith)
+  within_all s (p ∷ ps) (l ∷ ls) numbers z seen =
+      let made = z.0.answered.progress.within words (record { log = All-head (λ q. IsPrefix q.words words) p ps seen; formed = formed; room = fits }) H stands in
+      let rest = within_all (s + 1) ps ls (ap tail_of numbers) z.1 (All-tail (λ q. IsPrefix q.words words) p ps seen) in
+      let own : IsSessionWithin H words N s l made.total = subst (λ n. IsSessionWithin H words N n l made.total) (ap (head_or 0) numbers) (z.0.answered.last, made.bounds) in
+      let few = made.few in
+      let others = rest.2 in
+      let sum = sum_by-cons (λ (q : Seen). q.made) p ps in
+      (made.total + rest.0, (made.total, own, rest.0, refl, rest.1), omega (arith, few, others, sum))
+  within_all s [] (l ∷ ls) numbers z seen = absurd z
+  within_all s (p ∷ ps) [] numbers z seen = absurd z
+
+  pub within_closed : (passes : List Seen) (logs : List SessionLog) (sessions : ℕ) → map (λ p. p.session) passes ≡ range_with_len 1 sessions → AllZip (HasEnded N) passes logs
+      → All (λ p. IsPrefix p.words words) passes → length words ≡ 2 + sum_by (λ p. p.made) passes → IsWithin (record { sessions = logs; history = history; words = words }) N
+  within_closed passes logs sessions numbers z seen whole =
+      let all = within_all 1 passes logs (numbers ∙ ap (range_with_len 1) (sym (as_many passes sessions numbers))) z seen in
+      record { total = all.0; sessions = all.1; words = let few = all.2 in omega (arith, few, whole) }
 
   pub lawful_closed : (passes : List Seen) (logs : List SessionLog) (sessions : ℕ) → IsPrefix opening words → All IsCommitFormed history → map (λ p. p.session) passes ≡ range_with_len 1 sessions
       → AllZip (HasEnded N) passes logs → All (λ p. AreNumbered p.session p.mine words) passes → All (λ p. IsPrefix p.words words) passes

@@ -6,10 +6,15 @@ pub mod Reached
 pub mod Generated
 pub mod Between
 pub mod Complete
+pub mod Serial
 pub mod Unlawful
 pub mod Accepted
 pub mod SmallLog
 pub mod AcceptedAnswers
+pub mod AcceptedSerial
 pub mod InParts
 pub mod Certified
 pub mod Bounds
+pub mod Behind
+pub mod Exports
+pub mod Filled

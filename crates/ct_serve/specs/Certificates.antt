@@ -7,7 +7,7 @@ use Rattle.ct_cert.specs.declared.judgement.Judgement.TheVariants as judged
 use Rattle.ct_cert.specs.Text.{line, cert_text}
 use Rattle.ct_cert.specs.Ranges.{IsCertificate}
 use Rattle.ct_cert.specs.Judgement.{judgement}
-use Rattle.ct_outside.specs.Outside.{Held, Holds, Rose, Added}
+use Rattle.ct_outside.specs.Outside.{Holds, Rose, Added}
 use Rattle.ct_transcript.specs.declared.reply.Reply.{Reply}
 use Rattle.ct_transcript.specs.declared.reply.Reply.TheVariants as reply
 use Rattle.ct_transcript.specs.declared.reply.Refusal.TheVariants as refusal

@@ -1,5 +1,5 @@
 -- When a transcript is lawful.
-use Rattle.std.specs.Prelude.{◌≡◌, ℕ, ◌≤◌, List, [], ◌∷◌, length, take, All, IsTrue}
+use Rattle.std.specs.Prelude.{◌≡◌, ℕ, ◌≤◌, [], length, take, All, IsTrue}
 use Rattle.ct_word.specs.Value.{World}
 use Rattle.ct_word.specs.WellFormed.{IsWellFormed}
 use Rattle.ct_arena.specs.Counts.{opening}

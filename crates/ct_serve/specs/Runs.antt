@@ -14,6 +14,7 @@ use Rattle.ct_serve.specs.declared.ending.Status.TheVariants as status
 use Rattle.ct_serve.specs.declared.printing.Sought.{Sought}
 use Rattle.ct_serve.specs.declared.printing.Sought.TheVariants as sought
 use Rattle.ct_serve.specs.Lawful.{Lawful}
+use Rattle.ct_serve.specs.Within.{IsWithin}
 use Rattle.ct_serve.specs.Scripts.{AreScriptsOf, IsUnread, IsNoScript}
 
 -- the transcript without sessions, commits and words
@@ -66,10 +67,11 @@ pub record Taking : Type 0 where
   pub calls : Option ℕ
   pub calls' : Option ℕ
 
--- a lawful transcript with a session for each file, whose script is what the source tells under the file's name; each
--- file was asked once, in their order
+-- a lawful transcript, whose words are within the bounds of its statements, with a session for each file, whose script is
+-- what the source tells under the file's name; each file was asked once, in their order
 pub record IsServed (N : ℕ) (files : List (List ℕ)) (a : Asking) (t : Transcript) : Type 0 where
   pub lawful : Lawful t N
+  pub within : IsWithin t N
   pub scripts : AreScriptsOf a.held files (map (λ s. s.script) t.sessions)
   pub asked_all : Added a.asked a.asked' files
 

@@ -1,50 +1,23 @@
 // The command `check`: what is said of the certificate of a file.
 
-ghost use Rattle.std.specs.Prelude.{◌≡◌, ◌<◌, ◌≤◌, ◌^◌, ◌∷◌, [], length, IfOk, IfErr};
-ghost use Rattle.ct_outside.specs.Outside.{Rose, Holds, HoldsMore, Added, AddedFront};
+ghost use Rattle.std.specs.Prelude.{◌≡◌, ◌<◌, ◌^◌, ◌∷◌, [], length, IfOk, IfErr};
+ghost use Rattle.ct_outside.specs.Outside.{Rose, Added, AddedFront};
 ghost use Rattle.ct_serve.specs.Runs.{Asking, Taking};
-ghost use Rattle.ct_serve.specs.Certificates.{CERTIFICATE_BYTES, IsCertificateOf, IsOfNoCertificate, Judged, CheckPromise};
+ghost use Rattle.ct_serve.specs.Certificates.{IsCertificateOf, IsOfNoCertificate, Judged, CheckPromise};
 ghost use Rattle.ct_serve.specs.Certificates as certificates;
 ghost use Rattle.ct_serve.specs.declared.reading.Unserved.TheVariants as unserved;
 
 use crate::ending::{Run, Status, no_run};
 use crate::files::status_of;
 use crate::printing::write_once;
-use crate::reading::Unserved;
+use crate::reading::{Unserved, bytes_of};
 use ct_cert::{CertError, Certificate, Judgement, judge, read};
-use ct_outside::{ReadError, Scripts, Sink};
+use ct_outside::{Scripts, Sink};
 use ct_word::{Memory, Text};
 use std::alloc::Global;
 
 /// The greatest number of bytes of a certificate that is checked.
 const CERTIFICATE_BYTES: u32 = 0x400_0000;
-
-/// The bytes of the file.
-///
-/// # Errors
-/// `ReadFault` only where the source failed, `Script` only where the file has too many bytes, `Memory` for want of memory.
-fn bytes_of<S: Scripts>(alloc: Global, source: &mut S, file: &str) -> Result<Vec<u8>, Unserved>
-    ensures in_order { AddedFront (S.names source.old) (S.names source.new) (file.now ∷ []) }
-    ensures held { IfOk result (λ bytes. Holds (S.held source.old) file.now bytes.items) }
-    ensures short { IfOk result (λ bytes. length bytes.items ≤ CERTIFICATE_BYTES) }
-    ensures asked { IfOk result (λ bytes. Added (S.names source.old) (S.names source.new) (file.now ∷ [])) }
-    ensures rose { IfErr result (λ e. e ≡ unserved.ReadFault → Rose (S.faults source.old) (S.faults source.new)) }
-    ensures unread { IfErr result (λ e. e ≡ unserved.ReadFault → Added (S.names source.old) (S.names source.new) (file.now ∷ [])) }
-    ensures long { IfErr result (λ e. e ≡ unserved.Script → HoldsMore (S.held source.old) file.now CERTIFICATE_BYTES) }
-    ensures asked_long { IfErr result (λ e. e ≡ unserved.Script → Added (S.names source.old) (S.names source.new) (file.now ∷ [])) }
-{
-    let bytes = match source.read(alloc, file, CERTIFICATE_BYTES) {
-        Ok(bytes) => bytes,
-        Err(ReadError::Failed) => return Err(Unserved::ReadFault),
-        Err(ReadError::TooLong) => return Err(Unserved::Script),
-        Err(ReadError::Memory) => return Err(Unserved::Memory),
-    };
-    // A source that tells nothing may give more than the limit.
-    if bytes.len() > CERTIFICATE_BYTES as usize {
-        return Err(Unserved::Script);
-    }
-    Ok(bytes)
-}
 
 /// The certificate of the file.
 ///
@@ -62,7 +35,7 @@ fn certificate_of<S: Scripts>(
     ensures unread { IfErr result (λ e. e ≡ unserved.ReadFault → Added (S.names source.old) (S.names source.new) (file.now ∷ [])) }
     ensures none { IfErr result (λ e. e ≡ unserved.Script → IsOfNoCertificate file.now (record { held = S.held source.old; faults = S.faults source.old; faults' = S.faults source.new; asked = S.names source.old; asked' = S.names source.new })) }
 {
-    let bytes = bytes_of(alloc, source, file)?;
+    let bytes = bytes_of(alloc, source, file, CERTIFICATE_BYTES)?;
     match read(alloc, bytes.as_slice()) {
         Ok(cert) => Ok(cert),
         Err(CertError::NotACertificate) => Err(Unserved::Script),

@@ -1,15 +1,18 @@
 // A script, and the session that executes it.
 
-ghost use Rattle.std.specs.Prelude.{◌≡◌, ◌<◌, ◌≤◌, ◌+◌, ◌^◌, map, length, IfOk, IfSome, None};
+ghost use Rattle.std.specs.Prelude.{◌≡◌, ◌<◌, ◌≤◌, ◌+◌, ◌^◌, map, length, IfOk, IfErr, IfSome, None};
 ghost use Rattle.ct_lex.specs.Texts.{texts};
 ghost use Rattle.ct_session.specs.Standing.{state_in};
-ghost use Rattle.ct_serve.specs.Progress.{Progress, IsReady, HasExecuted, HasRun, HasEnded};
+ghost use Rattle.ct_session.specs.State.{beginning};
+ghost use Rattle.ct_session.specs.Exporting.{IsFileOf};
+ghost use Rattle.ct_serve.specs.Exports.{IsAfterAll, WhyNone};
+ghost use Rattle.ct_serve.specs.Progress.{Progress, IsReady, HasAnswered, HasExecuted, HasRun, HasEnded};
 
 use ct_arena::{Pass, Site};
 use ct_keeper::Server;
 use ct_lex::split;
 use ct_outside::Gate;
-use ct_session::Session;
+use ct_session::{ExportError, Session};
 use ct_transcript::{Reply, SessionLog};
 use ct_word::{List, Memory, Text};
 use std::alloc::Global;
@@ -50,7 +53,7 @@ fn answer<N: Site, R: Wait, G: Gate>(
 ) -> Result<Vec<Reply>, Memory>
     requires few { session.old.pass.mine + length statements.now < 2 ^ 18 }
     ensures number { session.new.pass.session ≡ session.old.pass.session }
-    ensures progress { IfOk result (λ replies. Progress N.log.cap (state_in session.old) (state_in session.new) session.old.pass.words session.new.pass.words (map (λ t. t.now) statements.now) replies.items) }
+    ensures progress { IfOk result (λ replies. Progress N.log.cap (state_in session.old) (state_in session.new) session.old.pass session.new.pass (map (λ t. t.now) statements.now) replies.items) }
 {
     let mut replies = Vec::with_capacity(alloc, statements.len())?;
     let by = session.pass().session();
@@ -81,10 +84,39 @@ fn answer_script<N: Site, R: Wait, G: Gate>(
 ) -> Result<Vec<Reply>, Memory>
     requires few { session.old.pass.mine + length (texts script.now) < 2 ^ 18 }
     ensures number { session.new.pass.session ≡ session.old.pass.session }
-    ensures progress { IfOk result (λ replies. Progress N.log.cap (state_in session.old) (state_in session.new) session.old.pass.words session.new.pass.words (texts script.now) replies.items) }
+    ensures progress { IfOk result (λ replies. Progress N.log.cap (state_in session.old) (state_in session.new) session.old.pass session.new.pass (texts script.now) replies.items) }
 {
     let statements = split(alloc, script)?;
     answer(rt, alloc, server, session, statements.as_slice(), gate)
+}
+
+/// The replies to the statements of a script from the session's beginning on, and the table with this name after the last of
+/// them, with the version. Either may be wanting.
+fn answer_and_export<N: Site, R: Wait, G: Gate>(
+    rt: &R,
+    alloc: Global,
+    server: &Server<N>,
+    session: &mut Session<N>,
+    script: &str,
+    name: &str,
+    gate: &G,
+) -> (
+    Result<Vec<Reply>, Memory>,
+    Result<(u32, Vec<u8>), ExportError>,
+)
+    requires begins { state_in session.old ≡ beginning session.old.pass.session }
+    requires few { session.old.pass.mine + length (texts script.now) < 2 ^ 18 }
+    ensures number { session.new.pass.session ≡ session.old.pass.session }
+    ensures answered { IfOk result.0 (λ replies. HasAnswered N.log.cap session.old.pass session.new.pass script.now replies.items) }
+    ensures file { IfOk result.1 (λ r. IsAfterAll N.log.cap session.new.pass r.0 (λ h. IsFileOf session.new.pass.words h name.now r.1.items)) }
+    ensures none { IfErr result.1 (WhyNone N.log.cap session.new.pass name.now) }
+{
+    let replies = answer_script(rt, alloc, server, session, script, gate);
+    // The session's commits are counted by its words, before and after the export.
+    let _ = session.pass().words();
+    let file = session.export(rt, alloc, server, name);
+    let _ = session.pass().words();
+    (replies, file)
 }
 
 impl<N: Site> Client<N> {
@@ -120,10 +152,48 @@ impl<N: Site> Client<N> {
         self.replies = replies.ok();
     }
 
+    /// Executes the script as `execute` does, and then exports the table with this name in lower case, at a version that has
+    /// all commits of the session. With the file comes the version.
+    ///
+    /// # Errors
+    /// As `export` of a session has them.
+    pub(crate) fn execute_and_export<R: Wait, G: Gate>(
+        &mut self,
+        rt: &R,
+        alloc: Global,
+        server: &Server<N>,
+        name: &str,
+        gate: &G,
+    ) -> Result<(u32, Vec<u8>), ExportError>
+        requires { IsReady self.old }
+        ensures executed { HasExecuted N.log.cap self.old self.new }
+        ensures file { IfOk result (λ r. IsAfterAll N.log.cap self.new.pass r.0 (λ h. IsFileOf self.new.pass.words h name.now r.1.items)) }
+        ensures none { IfErr result (WhyNone N.log.cap self.new.pass name.now) }
+    {
+        let Some(pass) = self.pass.take() else {
+            unreachable!();
+        };
+        let mut session = Session::make(pass);
+        let script = self.script.as_str();
+        let (replies, file) = answer_and_export(
+            rt,
+            alloc,
+            server,
+            &mut session,
+            script,
+            name,
+            gate,
+        );
+        self.pass = Some(session.finish());
+        self.replies = replies.ok();
+        file
+    }
+
     /// The pass and what was said, or `None` where memory was wanting for the lists of statements and replies.
     pub(crate) fn finish(self) -> Option<(Pass<N>, SessionLog)>
         requires run { HasRun N.log.cap self }
         ensures ended { IfSome result (λ r. HasEnded N.log.cap r.0 r.1) }
+        ensures pass { IfSome result (λ r. r.0 ≡ self.pass) }
         ensures number { IfSome result (λ r. r.0.session ≡ self.pass.session) }
         ensures script { IfSome result (λ r. r.1.script ≡ self.script) }
     {

@@ -7,8 +7,10 @@ ghost use Rattle.ct_serve.specs.Promise.{Promise, files_in};
 
 use crate::checking::check;
 use crate::ending::{Run, Status, no_run};
+use crate::exporting::export_table;
 use crate::files::run_files;
 use crate::filling::fill;
+use crate::importing::import_table;
 use crate::proving::prove;
 use ct_outside::{Gate, Scripts, Sink};
 use ct_words::{Asked, asked};
@@ -17,21 +19,26 @@ use std::sync::Wait;
 use std::thread::Threads;
 
 /// Runs what the words ask for, as `asked` of `ct_words` understands them:
-/// - `run [--arena N] FILE...` runs a session for each of 1 to 64 files, on a log of N words of 64 bits, from 64 to
-///   1,048,576, or of 262,144 without `--arena`, and writes their transcript. A file that is named twice has two sessions.
-///   The source is asked for the files in their order, once for each name;
+/// - `run [--arena N] [--first] FILE...` runs a session for each of 1 to 64 files, on a log of N words of 64 bits, from 64
+///   to 4,194,304, or of 262,144 without `--arena`, and writes their transcript. Above 1,048,576 words there are at most 16
+///   files. A file that is named twice has two sessions. With `--first` the session of the first file comes to its end before
+///   the others begin. The source is asked for the files in their order, once for each name;
 /// - `fill N`, with N from 1 to 2,000, runs the sessions of the four scripts that `ct_fill` makes with N, on a log of
 ///   262,144 words, and writes the summary of their transcript. The source is not asked, so neither `ReadFault` nor
 ///   `Script` comes;
 /// - `prove K FILE`, with K from 1 to 65,535, runs the session of one file, on a log of 262,144 words, and writes the
 ///   certificate of the log's words and of the proofs that reply K carries;
+/// - `import NAME CSV FILE` runs one session, on a log of 262,144 words, and writes its transcript. Its script is the one
+///   that `import` of `ct_csv` makes of the first file, for a table with this name, and then that of the second;
+/// - `export NAME FILE` runs the session of one file, on a log of 262,144 words, and writes the CSV file that
+///   `export` of `ct_csv` makes of the table with this name after its last statement;
 /// - `check FILE` reads a certificate of at most 67,108,864 bytes, and writes what `judge` of `ct_cert` says of it. No
 ///   session runs.
 ///
-/// `run` and `fill` write each line by one call, `prove` and `check` all that they write. What is said here of what the
+/// `run`, `import` and `fill` write each line by one call, `prove`, `check` and `export` all that they write. What is said here of what the
 /// source holds and was asked is promised where it tells this, and so with what the sink took.
 ///
-/// Sessions run on threads, so their commits come in any order. The gate is called round each statement, on its session's
+/// Sessions run on threads, so but for `--first` their commits come in any order. The gate is called round each statement, on its session's
 /// thread, and may wait. No clause is on the threads and on the gate.
 ///
 /// A script has at most 1,048,576 bytes, is in UTF-8, and has at most 65,535 statements. The status is
@@ -50,6 +57,12 @@ use std::thread::Threads;
 /// it comes where reply K is for want of memory, too. Of `check`, `Done` says that the certificate is accepted, `Refused`
 /// that it is not, and `Script` that the file is too long or no certificate; its transcript is empty.
 ///
+/// Of `import`, `ReadFault` and `Script` come where the first file cannot be read or is no table, before the second one is
+/// read. `Script` comes, too, where the whole script is none, which has the limits of one script.
+///
+/// Of `export`, `Done` says that the file was written, whatever the replies are. `Refused` says that the history makes no such
+/// table, or that a row of it has too wide a condition for a file; then nothing was written.
+///
 /// With `Words`, `ReadFault` and `Script` the transcript is empty, and nothing was written. With every other status but
 /// `Memory` it is the lawful transcript of the scripts that the files hold, or that were made; with `Memory` it is one of
 /// the two.
@@ -65,13 +78,38 @@ pub fn run<R: Threads + Wait + Sync, S: Scripts, K: Sink, G: Gate + Sync>(
     ensures names { AddedFront (S.names scripts.old) (S.names scripts.new) (files_in (task (texts_of words.now))) }
 {
     match asked(alloc, words) {
-        Ok(Some(Asked::Run { capacity, files })) => {
-            run_files(rt, alloc, capacity, files.as_slice(), scripts, out, gate)
+        Ok(
+            Some(
+                Asked::Run {
+                    capacity,
+                    files,
+                    is_first_alone,
+                },
+            ),
+        ) => {
+            let files = files.as_slice();
+            run_files(
+                rt,
+                alloc,
+                capacity,
+                files,
+                is_first_alone,
+                scripts,
+                out,
+                gate,
+            )
         }
         Ok(Some(Asked::Fill { number })) => fill(rt, alloc, number, out, gate),
         Ok(Some(Asked::Check { file })) => check(alloc, file, scripts, out),
         Ok(Some(Asked::Prove { reply, file })) => {
             prove(rt, alloc, reply, file, scripts, out, gate)
+        }
+        Ok(Some(Asked::Import { name, csv, file })) => {
+            let name = name.as_str();
+            import_table(rt, alloc, name, csv, file, scripts, out, gate)
+        }
+        Ok(Some(Asked::Export { name, file })) => {
+            export_table(rt, alloc, &name, file, scripts, out, gate)
         }
         Ok(None) => no_run(alloc, Status::Words),
         Err(_) => no_run(alloc, Status::Memory),

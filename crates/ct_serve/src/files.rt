@@ -4,6 +4,7 @@ ghost use Rattle.std.specs.Prelude.{◌≡◌, ◌≤◌, ◌↔◌, length, map
 ghost use Rattle.ct_outside.specs.Outside.{Rose, Added, AddedFront};
 ghost use Rattle.ct_outside.specs.Reads.{names_of};
 ghost use Rattle.ct_serve.specs.Lawful.{Lawful};
+ghost use Rattle.ct_serve.specs.Within.{IsWithin};
 ghost use Rattle.ct_serve.specs.Scripts.{AreScriptsOf, IsUnread, IsNoScript};
 ghost use Rattle.ct_serve.specs.Runs.{RunPromise};
 ghost use Rattle.ct_serve.specs.declared.ending.Status.TheVariants as status;
@@ -12,14 +13,15 @@ ghost use Rattle.ct_serve.specs.declared.reading.Unserved.TheVariants as unserve
 use crate::ending::{Run, Status, no_run};
 use crate::printing::print_transcript;
 use crate::reading::{Unserved, scripts_of};
-use crate::serving::serve;
+use crate::serving::serve_by;
 use ct_outside::{Gate, Scripts, Sink};
 use ct_transcript::Transcript;
 use std::alloc::Global;
 use std::sync::Wait;
 use std::thread::Threads;
 
-/// The transcript of the sessions of files, on a log of this many words.
+/// The transcript of the sessions of files, on a log of this many words. The first file's session may have to come to its
+/// end before the others begin.
 ///
 /// # Errors
 /// `ReadFault` only where the source failed. Where the source tells what it holds, the first file at fault decides, and
@@ -29,14 +31,16 @@ pub(crate) fn served<R: Threads + Wait + Sync, S: Scripts, G: Gate + Sync>(
     alloc: Global,
     capacity: u32,
     files: &[&str],
+    is_first_alone: bool,
     source: &mut S,
     gate: &G,
 ) -> Result<Transcript, Unserved>
     requires least { 64 ≤ capacity }
-    requires most { capacity ≤ 1048576 }
+    requires most { capacity ≤ 4194304 }
     requires some { 1 ≤ length files.now }
     requires most_files { length files.now ≤ 64 }
     ensures lawful { IfOk result (λ transcript. Lawful transcript capacity) }
+    ensures within { IfOk result (λ transcript. IsWithin transcript capacity) }
     ensures scripts { IfOk result (λ transcript. AreScriptsOf (S.held source.old) (names_of files.now) (map (λ s. s.script) transcript.sessions)) }
     ensures in_order { AddedFront (S.names source.old) (S.names source.new) (names_of files.now) }
     ensures asked { OnOk result (Added (S.names source.old) (S.names source.new) (names_of files.now)) }
@@ -45,7 +49,14 @@ pub(crate) fn served<R: Threads + Wait + Sync, S: Scripts, G: Gate + Sync>(
     ensures no_script { IfErr result (λ e. e ≡ unserved.Script → IsNoScript (S.held source.old) (S.names source.old) (S.names source.new) (names_of files.now)) }
 {
     let scripts = scripts_of(alloc, source, files)?;
-    let transcript = serve(rt, alloc, capacity, scripts.as_slice(), gate)?;
+    let transcript = serve_by(
+        rt,
+        alloc,
+        capacity,
+        scripts.as_slice(),
+        gate,
+        is_first_alone,
+    )?;
     Ok(transcript)
 }
 
@@ -62,24 +73,26 @@ pub(crate) fn status_of(e: Unserved) -> Status
     }
 }
 
-/// Runs the sessions of files on a log of this many words, and writes their transcript.
+/// Runs the sessions of files on a log of this many words, where the first is to be alone before the others begin, and
+/// writes their transcript.
 pub(crate) fn run_files<R: Threads + Wait + Sync, S: Scripts, K: Sink, G: Gate + Sync>(
     rt: &R,
     alloc: Global,
     capacity: u32,
     files: &[&str],
+    is_first_alone: bool,
     scripts: &mut S,
     out: &mut K,
     gate: &G,
 ) -> Run
     requires least { 64 ≤ capacity }
-    requires most { capacity ≤ 1048576 }
+    requires most { capacity ≤ 4194304 }
     requires some { 1 ≤ length files.now }
     requires most_files { length files.now ≤ 64 }
     ensures promise { RunPromise capacity (names_of files.now) (record { held = S.held scripts.old; faults = S.faults scripts.old; faults' = S.faults scripts.new; asked = S.names scripts.old; asked' = S.names scripts.new }) (record { faults = K.faults out.old; faults' = K.faults out.new; taken = K.taken out.old; taken' = K.taken out.new; calls = K.calls out.old; calls' = K.calls out.new }) result.status result.transcript }
     ensures names { AddedFront (S.names scripts.old) (S.names scripts.new) (names_of files.now) }
 {
-    let transcript = match served(rt, alloc, capacity, files, scripts, gate) {
+    let transcript = match served(rt, alloc, capacity, files, is_first_alone, scripts, gate) {
         Ok(transcript) => transcript,
         Err(e) => return no_run(alloc, status_of(e)),
     };

@@ -5,9 +5,11 @@ mod checking;
 mod client;
 mod driving;
 mod ending;
+mod exporting;
 mod files;
 mod filling;
 mod history;
+mod importing;
 mod lines;
 mod parts;
 mod printing;
@@ -22,6 +24,6 @@ pub use driving::run;
 pub use ending::{Run, Status};
 pub use serving::serve;
 pub use theorems::{
-    certificates_are_accepted, faultless_runs_are_served, scripts_are_served,
-    within_limits_is_answered,
+    certificates_are_accepted, faultless_runs_are_served, full_logs_reach_their_bounds,
+    lawful_is_serial, scripts_are_served, within_limits_is_answered,
 };

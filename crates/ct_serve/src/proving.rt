@@ -109,7 +109,7 @@ pub(crate) fn prove<R: Threads + Wait + Sync, S: Scripts, K: Sink, G: Gate + Syn
     ensures promise { ProvePromise k file.now (record { held = S.held scripts.old; faults = S.faults scripts.old; faults' = S.faults scripts.new; asked = S.names scripts.old; asked' = S.names scripts.new }) (record { faults = K.faults out.old; faults' = K.faults out.new; taken = K.taken out.old; taken' = K.taken out.new; calls = K.calls out.old; calls' = K.calls out.new }) result.status result.transcript }
     ensures names { AddedFront (S.names scripts.old) (S.names scripts.new) (file.now ∷ []) }
 {
-    let transcript = match served(rt, alloc, CAPACITY, &[file], scripts, gate) {
+    let transcript = match served(rt, alloc, CAPACITY, &[file], false, scripts, gate) {
         Ok(transcript) => transcript,
         Err(e) => return no_run(alloc, status_of(e)),
     };

@@ -1,7 +1,7 @@
 // The scripts of the files that a run names.
 
-ghost use Rattle.std.specs.Prelude.{◌≡◌, ◌≤◌, All, IfOk, IfErr, OnOk, length};
-ghost use Rattle.ct_outside.specs.Outside.{Rose, Added, AddedFront};
+ghost use Rattle.std.specs.Prelude.{◌≡◌, ◌≤◌, ◌∷◌, [], All, IfOk, IfErr, OnOk, length};
+ghost use Rattle.ct_outside.specs.Outside.{Rose, StillHolds, Holds, HoldsMore, Added, AddedFront};
 ghost use Rattle.ct_outside.specs.Reads.{names_of, bytes_in};
 ghost use Rattle.ct_serve.specs.Scripts.{SCRIPT_BYTES, IsScript, AreScriptsOf, HasNoScript, IsUnread, IsNoScript};
 ghost use Rattle.ct_serve.specs.declared.reading.Unserved.TheVariants as unserved;
@@ -9,10 +9,10 @@ ghost use Rattle.ct_serve.specs.declared.reading.Unserved.TheVariants as unserve
 use ct_lex::split;
 use ct_outside::{ReadError, Scripts, Unread, read_all};
 use ct_word::{Memory, Text};
-use std::alloc::{AllocFailed, Global};
+use std::alloc::{AllocError, AllocFailed, Global};
 
 /// The greatest number of bytes of a script.
-const SCRIPT_BYTES: u32 = 0x10_0000;
+pub(crate) const SCRIPT_BYTES: u32 = 0x10_0000;
 
 /// The greatest number of statements of a script.
 const SCRIPT_STATEMENTS: usize = 65_535;
@@ -32,6 +32,14 @@ impl From<Memory> for Unserved {
     }
 }
 
+impl From<AllocError> for Unserved {
+    ghost from_gives = { λ _ e. e ≡ unserved.Memory };
+
+    fn from(_: AllocError) -> Self {
+        Unserved::Memory
+    }
+}
+
 impl<T: Drop> From<AllocFailed<T>> for Unserved {
     ghost from_gives = { λ _ e. e ≡ unserved.Memory };
 
@@ -40,11 +48,45 @@ impl<T: Drop> From<AllocFailed<T>> for Unserved {
     }
 }
 
+/// The bytes of the file, of which there are at most `limit`.
+///
+/// # Errors
+/// `ReadFault` only where the source failed, `Script` only where the file has too many bytes, `Memory` for want of memory.
+pub(crate) fn bytes_of<S: Scripts>(
+    alloc: Global,
+    source: &mut S,
+    file: &str,
+    limit: u32,
+) -> Result<Vec<u8>, Unserved>
+    ensures in_order { AddedFront (S.names source.old) (S.names source.new) (file.now ∷ []) }
+    ensures still { StillHolds (S.held source.old) (S.held source.new) }
+    ensures later { S.faults source.old ≤ S.faults source.new }
+    ensures held { IfOk result (λ bytes. Holds (S.held source.old) file.now bytes.items) }
+    ensures short { IfOk result (λ bytes. length bytes.items ≤ limit) }
+    ensures asked { IfOk result (λ bytes. Added (S.names source.old) (S.names source.new) (file.now ∷ [])) }
+    ensures rose { IfErr result (λ e. e ≡ unserved.ReadFault → Rose (S.faults source.old) (S.faults source.new)) }
+    ensures unread { IfErr result (λ e. e ≡ unserved.ReadFault → Added (S.names source.old) (S.names source.new) (file.now ∷ [])) }
+    ensures long { IfErr result (λ e. e ≡ unserved.Script → HoldsMore (S.held source.old) file.now limit) }
+    ensures asked_long { IfErr result (λ e. e ≡ unserved.Script → Added (S.names source.old) (S.names source.new) (file.now ∷ [])) }
+{
+    let bytes = match source.read(alloc, file, limit) {
+        Ok(bytes) => bytes,
+        Err(ReadError::Failed) => return Err(Unserved::ReadFault),
+        Err(ReadError::TooLong) => return Err(Unserved::Script),
+        Err(ReadError::Memory) => return Err(Unserved::Memory),
+    };
+    // A source that tells nothing may give more than the limit.
+    if bytes.len() > limit as usize {
+        return Err(Unserved::Script);
+    }
+    Ok(bytes)
+}
+
 /// The script that the bytes are.
 ///
 /// # Errors
 /// `Script` only where they are none, `Memory` for want of memory.
-fn as_script(alloc: Global, bytes: Vec<u8>) -> Result<Text, Unserved>
+pub(crate) fn as_script(alloc: Global, bytes: Vec<u8>) -> Result<Text, Unserved>
     requires short { length bytes.items ≤ SCRIPT_BYTES }
     ensures same { IfOk result (λ script. script ≡ bytes.items) }
     ensures script { IfOk result (λ script. IsScript script) }

@@ -1,10 +1,12 @@
 // The sessions of a run, each on a thread of its own, and their transcript.
 
-ghost use Rattle.std.specs.Prelude.{All, ◌≡◌, ◌<◌, ◌≤◌, ◌+◌, ◌^◌, ℕ, map, length, IfOk, slice_index_or};
+ghost use Rattle.std.specs.Prelude.{All, ◌≡◌, ◌<◌, ◌≤◌, ◌+◌, ◌^◌, ℕ, map, length, IfOk, slice_index_or, sum_by};
+ghost use mathlib.Core.List.{IsPrefix};
 ghost use Rattle.std.specs.List.{range_with_len, AllZip};
 ghost use Rattle.ct_lex.specs.Texts.{texts};
 ghost use Rattle.ct_keeper.specs.Served.{first_pass};
 ghost use Rattle.ct_serve.specs.Lawful.{Lawful};
+ghost use Rattle.ct_serve.specs.Within.{IsWithin};
 ghost use Rattle.ct_serve.specs.Progress.{ClientView, IsReady, HasExecuted, HasRun, HasEnded};
 
 use crate::client::Client;
@@ -42,13 +44,37 @@ fn clients_of<N: Site>(
     Ok(clients)
 }
 
-/// Executes the script of each client, on a thread of its own where threads can be made, and else one after another.
+/// Executes the script of each client, on at most so many threads, that of the caller among them. Where no thread can be
+/// made, one after another.
+fn execute_on<N: Site + Send + Sync, R: Threads + Wait + Sync, G: Gate + Sync>(
+    rt: &R,
+    alloc: Global,
+    server: &Server<N>,
+    gate: &G,
+    clients: &mut [Client<N>],
+    threads: usize,
+)
+    requires some { 0 < threads }
+    requires ready { All IsReady clients.old }
+    ensures count { length clients.new ≡ length clients.old }
+    ensures each { (k : ℕ) (d : ClientView) → k < length clients.old → HasExecuted N.log.cap (slice_index_or clients.old k d) (slice_index_or clients.new k d) }
+{
+    let run = |_: usize, client: &mut Client<N>|
+        requires { IsReady client.old }
+        ensures { HasExecuted N.log.cap client.old client.new }
+    { client.execute(rt, alloc, server, gate) };
+    thread::for_each_mut(rt, clients, threads, &run);
+}
+
+/// Executes the script of each client: where the first is to be alone, its script to the end, on this thread, and then all
+/// others, each on a thread of its own.
 fn execute_all<N: Site + Send + Sync, R: Threads + Wait + Sync, G: Gate + Sync>(
     rt: &R,
     alloc: Global,
     server: &Server<N>,
     gate: &G,
     clients: &mut [Client<N>],
+    is_first_alone: bool,
 )
     requires some { 0 < length clients.old }
     requires ready { All IsReady clients.old }
@@ -56,11 +82,9 @@ fn execute_all<N: Site + Send + Sync, R: Threads + Wait + Sync, G: Gate + Sync>(
     ensures each { (k : ℕ) (d : ClientView) → k < length clients.old → HasExecuted N.log.cap (slice_index_or clients.old k d) (slice_index_or clients.new k d) }
 {
     let threads = clients.len();
-    let run = |_: usize, client: &mut Client<N>|
-        requires { IsReady client.old }
-        ensures { HasExecuted N.log.cap client.old client.new }
-    { client.execute(rt, alloc, server, gate) };
-    thread::for_each_mut(rt, clients, threads, &run);
+    let (alone, others) = clients.split_at_mut(usize::from(is_first_alone));
+    execute_on(rt, alloc, server, gate, alone, 1);
+    execute_on(rt, alloc, server, gate, others, threads);
 }
 
 /// The passes and the logs of the sessions, in their order.
@@ -88,7 +112,39 @@ fn finished<N: Site>(
     Ok((passes, List::from_vec(logs)))
 }
 
-/// Ends the sessions and the log, and gives the transcript. The history is read on threads.
+/// Ends the log of sessions that have ended, and gives the transcript. The history is read on threads.
+///
+/// # Errors
+/// `Memory` where there is none for the history.
+pub(crate) fn closed<N: Site, R: Threads + Sync>(
+    rt: &R,
+    alloc: Global,
+    server: Server<N>,
+    passes: Vec<Pass<N>>,
+    logs: List<SessionLog>,
+) -> Result<Transcript, Memory>
+    requires some { 0 < N.sessions }
+    requires numbers { map (λ p. p.session) passes.items ≡ range_with_len 1 N.sessions }
+    requires ended { AllZip (HasEnded N.log.cap) passes.items logs }
+    ensures lawful { IfOk result (λ transcript. Lawful transcript N.log.cap) }
+    ensures within { IfOk result (λ transcript. IsWithin transcript N.log.cap) }
+    ensures sessions { IfOk result (λ transcript. transcript.sessions ≡ logs) }
+    ensures whole { IfOk result (λ transcript. length transcript.words ≡ 2 + sum_by (λ p. p.made) passes.items) }
+    ensures seen { IfOk result (λ transcript. All (λ p. IsPrefix p.words transcript.words) passes.items) }
+{
+    let sessions = passes.len();
+    let words = server.close(passes);
+    let listed = words.words();
+    let parts = parts_for(sessions, listed.len());
+    let history = history_of(rt, alloc, listed, parts)?;
+    Ok(Transcript {
+        sessions: logs,
+        history,
+        words,
+    })
+}
+
+/// Ends the sessions and the log, and gives the transcript.
 ///
 /// # Errors
 /// `Memory` where it was wanting in a client, or is for the history or the list of sessions.
@@ -103,19 +159,11 @@ fn end<N: Site, R: Threads + Sync>(
     requires numbers { map (λ c. c.pass.session) clients.items ≡ range_with_len 1 (length clients.items) }
     requires run { All (HasRun N.log.cap) clients.items }
     ensures lawful { IfOk result (λ transcript. Lawful transcript N.log.cap) }
+    ensures within { IfOk result (λ transcript. IsWithin transcript N.log.cap) }
     ensures scripts { IfOk result (λ transcript. map (λ s. s.script) transcript.sessions ≡ map (λ c. c.script) clients.items) }
 {
-    let sessions = clients.len();
     let (passes, logs) = finished(alloc, clients)?;
-    let words = server.close(passes);
-    let listed = words.words();
-    let parts = parts_for(sessions, listed.len());
-    let history = history_of(rt, alloc, listed, parts)?;
-    Ok(Transcript {
-        sessions: logs,
-        history,
-        words,
-    })
+    closed(rt, alloc, server, passes, logs)
 }
 
 fn serve_named<N: Site + Send + Sync, R: Threads + Wait + Sync, G: Gate + Sync>(
@@ -124,6 +172,7 @@ fn serve_named<N: Site + Send + Sync, R: Threads + Wait + Sync, G: Gate + Sync>(
     blank: Blank,
     scripts: &[Text],
     gate: &G,
+    is_first_alone: bool,
 ) -> Result<Transcript, Memory>
     requires name { blank ≡ N.log }
     requires number { N.sessions ≡ length scripts.now }
@@ -131,18 +180,53 @@ fn serve_named<N: Site + Send + Sync, R: Threads + Wait + Sync, G: Gate + Sync>(
     requires most { length scripts.now ≤ 64 }
     requires few { All (λ script. length (texts script) ≤ 65535) scripts.now }
     ensures lawful { IfOk result (λ transcript. Lawful transcript N.log.cap) }
+    ensures within { IfOk result (λ transcript. IsWithin transcript N.log.cap) }
     ensures scripts { IfOk result (λ transcript. map (λ s. s.script) transcript.sessions ≡ scripts.now) }
 {
     let (server, passes) = Server::<N>::make(alloc, blank, scripts.len() as u32)?;
     let mut clients = clients_of(alloc, passes, scripts)?;
-    execute_all(rt, alloc, &server, gate, clients.as_mut_slice());
+    execute_all(
+        rt,
+        alloc,
+        &server,
+        gate,
+        clients.as_mut_slice(),
+        is_first_alone,
+    );
     end(rt, alloc, server, clients)
+}
+
+/// Runs a session for each script as `serve` does, where the first is to be alone before the others begin.
+///
+/// # Errors
+/// As `serve` has them.
+pub(crate) fn serve_by<R: Threads + Wait + Sync, G: Gate + Sync>(
+    rt: &R,
+    alloc: Global,
+    cap: u32,
+    scripts: &[Text],
+    gate: &G,
+    is_first_alone: bool,
+) -> Result<Transcript, Memory>
+    requires least { 64 ≤ cap }
+    requires most { cap ≤ 4194304 }
+    requires some { 1 ≤ length scripts.now }
+    requires most_scripts { length scripts.now ≤ 64 }
+    requires few { All (λ script. length (texts script) ≤ 65535) scripts.now }
+    ensures lawful { IfOk result (λ transcript. Lawful transcript cap) }
+    ensures within { IfOk result (λ transcript. IsWithin transcript cap) }
+    ensures scripts { IfOk result (λ transcript. map (λ s. s.script) transcript.sessions ≡ scripts.now) }
+{
+    let blank = Blank::make(alloc, cap)?;
+    serve_named::<Brand, R, G>(rt, alloc, blank, scripts, gate, is_first_alone)
 }
 
 /// Runs a session for each script, from 1 to 64 of them, each on a thread of its own. Their log has room for `cap` words,
 /// from 64 to 4,194,304. A script has at most 65,535 statements. The gate is called round each statement, on the session's
 /// thread, with the number of the session and of the statement, from 1; it may wait. Where no thread can be made, sessions
 /// run one after another, so gates that wait for one another may wait for ever. No clause is on the threads and on the gate.
+///
+/// The log has at most two words more than the sum of the bounds on the words of all statements.
 ///
 /// # Errors
 /// `Memory` where there is none for the log or for the lists of statements, replies and sessions. A statement that
@@ -160,8 +244,8 @@ pub fn serve<R: Threads + Wait + Sync, G: Gate + Sync>(
     requires most_scripts { length scripts.now ≤ 64 }
     requires few { All (λ script. length (texts script) ≤ 65535) scripts.now }
     ensures lawful { IfOk result (λ transcript. Lawful transcript cap) }
+    ensures within { IfOk result (λ transcript. IsWithin transcript cap) }
     ensures scripts { IfOk result (λ transcript. map (λ s. s.script) transcript.sessions ≡ scripts.now) }
 {
-    let blank = Blank::make(alloc, cap)?;
-    serve_named::<Brand, R, G>(rt, alloc, blank, scripts, gate)
+    serve_by(rt, alloc, cap, scripts, gate, false)
 }

@@ -103,6 +103,7 @@ module _ (pass : Seen) (fresh : ℕ) (sight : Sight) (sees : IsSight pass.words 
       change = f.change.proposes.change;
       resolves = f.resolves;
       agrees = f.change.proposes.agrees;
+      light = f.change.proposes.light;
       list_is = f.change.proposes.list_is;
       reads_are = f.reads_are;
       draws = f.change.draws;

@@ -1,10 +1,13 @@
 pub mod Own
 pub mod Sameness
 pub mod Going
+pub mod Light
+pub mod Bounded
 pub mod Listed
 pub mod Literal
 pub mod Replies
 pub mod Extended
+pub mod Exports
 pub mod Opened
 pub mod Ordered
 pub mod Inside

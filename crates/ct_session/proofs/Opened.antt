@@ -4,16 +4,16 @@ use Rattle.std.{specs.List.{Contains, list_all}, proofs.lemmas.List.Elements.All
 use Rattle.ct_word.{specs.Reading.commits_of, specs.Change.{PlainChange, PlainCommit}, specs.WellFormed.IsWellFormed, specs.Writable.is_writable}
 use Rattle.ct_word.proofs.Prefixes.{place_within, place_in_prefix, change_list_in_prefix}
 use Rattle.ct_query.{specs.Plain.PlainAction, specs.declared.action.Read.Read, specs.Agrees.Agrees, specs.Fits.FitAfter, specs.Reads.{with_reads, action_reads}}
-use Rattle.ct_query.specs.Frame.{reads_of_actions}
+use Rattle.ct_query.{specs.Frame.reads_of_actions, specs.Patterns.count}
 use Rattle.ct_arena.specs.Seen.{Seen}
 use Rattle.ct_history.specs.Kept.{kept_of}
 use Rattle.ct_table.specs.Snapshot.{commits_to}
 use Rattle.ct_parse.specs.declared.tree.Statement.{Statement}
 use Rattle.ct_transcript.specs.declared.reply.Refusal.{Refusal}
 use Rattle.ct_statement.{specs.declared.sight.Sight.Sight, specs.Proposals.{IsProposal, listed}, specs.Sight.{actions_before, history_of, IsSight}}
-use Rattle.ct_statement.proofs.Sights.{history_stays, sight_grows}
+use Rattle.ct_statement.{specs.Making.AreLight, proofs.Sights.{history_stays, sight_grows}}
 use Rattle.ct_session.{specs.declared.session.Open.Open, specs.declared.preparing.Prepared.Prepared, specs.Prepared.{IsPrepared, IsRefused}}
-use Rattle.ct_session.{specs.Replying.standing, specs.Sessions.{IsBegunList, IsOpen, IsSession}, proofs.Going.version_within}
+use Rattle.ct_session.{specs.Replying.standing, specs.Sessions.{IsBegunList, IsOpen, IsSession}, proofs.Going.version_within, proofs.Light.light_push}
 use Rattle.ct_session.proofs.Extended.{agrees_push, fits_push, writable_push, reads_push, reads_kept}
 use mathlib.Core.List.{IsPrefix}
 use Rattle.ct_word.specs.declared.kinds.Class.TheVariants as class
@@ -22,14 +22,17 @@ use Rattle.ct_transcript.specs.declared.reply.Refusal.TheVariants as refusal
 -- a transaction of changes that are listed nowhere, or at a place
 module _ (words : List ℕ) (sight : Sight) (changes : Option ℕ) (reads : List Read) (h : List PlainCommit) (actions : List PlainAction) (xs : List PlainChange)
     (eh : history_of words sight ≡ h) (ea : actions_before sight ≡ actions) (ex : listed words changes ≡ xs) where
-  pub open_from : IsSight words sight → IsBegunList words changes actions → Agrees h actions xs → FitAfter h xs → IsTrue (list_all is_writable xs) → All (Contains reads) (reads_of_actions actions)
+  pub open_from : IsSight words sight → IsBegunList words changes actions → Agrees h actions xs → AreLight (count h actions) actions xs → FitAfter h xs → IsTrue (list_all is_writable xs) → All (Contains reads) (reads_of_actions actions)
       → IsOpen words (record { sight = sight; changes = changes; reads = reads })
-  open_from s b a f w r = record {
+  open_from s b a l f w r = record {
     sight = s;
     list = subst (IsBegunList words changes) (sym ea) b;
     agrees =
         subst (λ g. Agrees g (actions_before sight) (listed words changes)) (sym eh)
         (subst (λ l. Agrees h l (listed words changes)) (sym ea) (subst (Agrees h actions) (sym ex) a));
+    light =
+        subst (λ g. AreLight (count g (actions_before sight)) (actions_before sight) (listed words changes)) (sym eh)
+        (subst (λ l. AreLight (count h l) l (listed words changes)) (sym ea) (subst (AreLight (count h actions) actions) (sym ex) l));
     fits = subst (λ g. FitAfter g (listed words changes)) (sym eh) (subst (FitAfter h) (sym ex) f);
     writable = subst (λ l. IsTrue (list_all is_writable l)) (sym ex) w;
     reads = subst (λ l. All (Contains reads) (reads_of_actions l)) (sym ea) r;
@@ -37,7 +40,7 @@ module _ (words : List ℕ) (sight : Sight) (changes : Option ℕ) (reads : List
 
 -- a transaction without actions
 pub open_begun : (words : List ℕ) (sight : Sight) → IsSight words sight → actions_before sight ≡ [] → IsOpen words (record { sight = sight; changes = None; reads = [] })
-open_begun words sight s none = open_from words sight None [] (history_of words sight) [] [] refl none refl s refl tt tt refl (All-nil (Contains []))
+open_begun words sight s none = open_from words sight None [] (history_of words sight) [] [] refl none refl s refl tt tt tt refl (All-nil (Contains []))
 
 module _ (old new : List ℕ) (longer : IsPrefix old new) where
   begun_grows : (changes : Option ℕ) (actions : List PlainAction) → IsBegunList old changes actions → IsBegunList new changes actions
@@ -54,7 +57,7 @@ module _ (old new : List ℕ) (longer : IsPrefix old new) where
   open_grows formed o k =
       open_from new o.sight o.changes o.reads (history_of old o.sight) (actions_before o.sight) (listed old o.changes)
       (sym (history_stays old new longer o.sight k.sight.within)) refl (listed_stays o.changes (actions_before o.sight) k.list)
-      (sight_grows old new longer o.sight formed k.sight) (begun_grows o.changes (actions_before o.sight) k.list) k.agrees k.fits k.writable k.reads
+      (sight_grows old new longer o.sight formed k.sight) (begun_grows o.changes (actions_before o.sight) k.list) k.agrees k.light k.fits k.writable k.reads
 
 module _ (words : List ℕ) (o : Open) (k : IsOpen words o) where
   -- after a query
@@ -63,6 +66,7 @@ module _ (words : List ℕ) (o : Open) (k : IsOpen words o) where
     sight = k.sight;
     list = k.list;
     agrees = k.agrees;
+    light = k.light;
     fits = k.fits;
     writable = k.writable;
     reads = reads_kept o.reads more (reads_of_actions (actions_before o.sight)) k.reads;
@@ -73,7 +77,7 @@ module _ (words : List ℕ) (o : Open) (k : IsOpen words o) where
     pub open_again : actions_before sight ≡ actions_before o.sight → IsOpen words (record { sight = sight; changes = o.changes; reads = o.reads })
     open_again same =
         open_from words sight o.changes o.reads (history_of words o.sight) (actions_before o.sight) (listed words o.changes) (ap (commits_to words) version) same refl
-        s k.list k.agrees k.fits k.writable k.reads
+        s k.list k.agrees k.light k.fits k.writable k.reads
 
     -- after one more action
     pub open_acted : (a : PlainAction) (changes : ℕ) → actions_before sight ≡ actions_before o.sight ++ a ∷ []
@@ -84,7 +88,7 @@ module _ (words : List ℕ) (o : Open) (k : IsOpen words o) where
         let actions = actions_before o.sight in
         let xs = listed words o.changes in
         open_from words sight (Some changes) (with_reads o.reads (action_reads a)) h (actions ++ a ∷ []) (xs ++ p.change ∷ []) (ap (commits_to words) version) grown p.list_is
-        s p.place (agrees_push h actions xs a p.change k.agrees p.agrees) (fits_push h actions xs p.change k.agrees k.fits p.fits)
+        s p.place (agrees_push h actions xs a p.change k.agrees p.agrees) (light_push h actions xs a p.change k.light p.light) (fits_push h actions xs p.change k.agrees k.fits p.fits)
         (writable_push xs p.change k.writable p.writable) (reads_push o.reads actions a k.reads)
 
 -- a session over words is one over further ones

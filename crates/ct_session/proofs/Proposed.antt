@@ -14,6 +14,7 @@ proposal_grows old new longer h before list a changes p = record {
   place = place_in_prefix old new class.ChangeList changes longer p.place;
   list_is = change_list_in_prefix old new changes longer (place_within old class.ChangeList changes p.place) ∙ p.list_is;
   agrees = p.agrees;
+  light = p.light;
   fits = p.fits;
   writable = p.writable;
   terms = p.terms;

@@ -1,11 +1,12 @@
 -- What a statement resolves to: what resolves one that is no BEGIN, COMMIT or ROLLBACK is none either; and a refusal of names.
-use Rattle.std.{proofs.Common.{◌≡◌, ◌≢◌, ℕ, Bool, true, false, not, List, [], ◌∷◌, length, subst}, specs.Prelude.{Ok, Err, IfOk, nat_eq}, specs.List.list_all}
+use Rattle.std.{proofs.Common.{◌≡◌, ◌≢◌, ℕ, Bool, true, false, not, List, [], ◌∷◌, length, refl, subst}, specs.Prelude.{Ok, Err, IfOk, nat_eq}, specs.List.list_all}
 use Rattle.ct_word.specs.Change.{PlainCommit}
 use Rattle.ct_query.{specs.declared.action.Ask.Ask, specs.declared.action.Resolved.Resolved, specs.declared.schema.Schema.Schema, specs.Schema.schema}
 use Rattle.ct_query.{specs.Plain.{PlainAction, PlainStatement}, specs.Views.statement_of}
 use Rattle.ct_parse.specs.declared.tree.Statement.{Statement}
 use Rattle.ct_resolve.{specs.declared.error.ResolveError.ResolveError, specs.Found.{Found, and_then, unless}, specs.Names.{table_in, is_table, are_distinct}}
 use Rattle.ct_resolve.{specs.Conditions.{condition_at, condition_or_true}, specs.Queries.{Named, query_at}, specs.Statements.{cells_of, resolved}}
+use Rattle.ct_statement.specs.Making.{says_full}
 use Rattle.ct_session.specs.Prepared.{IsNoOrder, IsNoPlainOrder, IsRefused, by_name, wanting_memory, name_refusal}
 use Rattle.ct_query.specs.declared.action.Ask.TheVariants as ask
 use Rattle.ct_query.specs.declared.action.Resolved.TheVariants as resolution
@@ -62,3 +63,8 @@ pub named_refuses : (h : List PlainCommit) (before : List PlainAction) (room : �
     → (e ≢ fault.Memory → resolved (schema h before) session fresh st ≡ Err e) → IsRefused h before room words session fresh st (name_refusal e)
 named_refuses h before room words session fresh st fault.Memory f = wanting_memory
 named_refuses h before room words session fresh st e f = by_name e (λ p. cc) (f (λ p. cc))
+
+-- no fault of a name says that the log is full
+pub named_room : (e : ResolveError) → says_full (name_refusal e) ≡ false
+named_room fault.UnknownTable = refl
+named_room _ = refl

@@ -4,9 +4,11 @@ pub mod Seeing
 pub mod LawfulRefusal
 pub mod LawfulReply
 pub mod Answers
+pub mod Bounded
 pub mod Sessions
 pub mod Prepared
 pub mod Executes
+pub mod Exporting
 pub mod Orders
 pub mod Replying
 pub mod Outcomes

@@ -1,12 +1,13 @@
 -- What a statement outside a transaction asks for, ready to be given or to be offered.
-use Rattle.std.specs.Prelude.{◌≡◌, ◌+◌, ℕ, List, [], ◌∷◌, Ok}
+use Rattle.std.specs.Prelude.{◌≡◌, ◌+◌, ℕ, List, [], ◌∷◌, true, Ok}
 use Rattle.ct_word.specs.Change.{PlainChange}
-use Rattle.ct_word.specs.Reading.{change_list_at}
+use Rattle.ct_word.specs.Reading.{change_list_at, commits_of}
 use Rattle.ct_arena.specs.Seen.{Seen}
 use Rattle.ct_parse.specs.declared.tree.Statement.{Statement}
 use Rattle.ct_query.specs.Agrees.{AgreesWith}
 use Rattle.ct_query.specs.Plain.{PlainAction, PlainStatement}
 use Rattle.ct_query.specs.Plain as plain
+use Rattle.ct_query.specs.Patterns.{count}
 use Rattle.ct_query.specs.Reads.{action_reads}
 use Rattle.ct_query.specs.Schema.{schema}
 use Rattle.ct_query.specs.declared.action.Read.{Read}
@@ -15,12 +16,13 @@ use Rattle.ct_table.specs.Snapshot.{commits_to}
 use Rattle.ct_keeper.specs.Offers.{IsOffer}
 use Rattle.ct_statement.specs.declared.sight.Sight.{Sight}
 use Rattle.ct_statement.specs.Drawing.{drawn}
+use Rattle.ct_statement.specs.Making.{IsLight}
 use Rattle.ct_statement.specs.Sight.{actions_before, history_of}
 use Rattle.ct_session.specs.declared.alone.Ready.{Ready}
 use Rattle.ct_session.specs.declared.alone.Ready.TheVariants as ready
 use Rattle.ct_session.specs.declared.offering.Offering.{Offering}
 use Rattle.ct_session.specs.Known.{SeesAlone}
-use Rattle.ct_session.specs.Prepared.{ForAnswer, IsResolved}
+use Rattle.ct_session.specs.Prepared.{ForAnswer, IsResolved, inserts_rows}
 
 -- a statement resolves to this at what it saw, which was this version
 pub record IsFoundAlone (pass : Seen) (fresh base : ℕ) (st : Statement) (asked : PlainStatement) : Type 0 where
@@ -29,13 +31,20 @@ pub record IsFoundAlone (pass : Seen) (fresh base : ℕ) (st : Statement) (asked
   pub base_is : base ≡ sight.version
   pub found : IsResolved (history_of pass.words sight) (actions_before sight) pass.session fresh st asked
 
--- a statement resolves at the base of an offer to an action, whose change is the only one of the offer, and the keeper takes
--- the offer
+-- a statement is an insertion of written rows, which resolves after all commits of the words
+pub record IsInsertion (pass : Seen) (fresh : ℕ) (st : Statement) : Type 0 where
+  pub action : PlainAction
+  pub inserts : inserts_rows action ≡ true
+  pub resolves : resolved (schema (commits_of pass.words) []) pass.session fresh st ≡ Ok (plain.Act action)
+
+-- a statement resolves at the base of an offer to an action, whose change is the only one of the offer and light for it, and
+-- the keeper takes the offer
 pub record IsReadyToOffer (pass : Seen) (fresh : ℕ) (o : Offering) (st : Statement) : Type 0 where
   pub action : PlainAction
   pub change : PlainChange
   pub resolves : resolved (schema (commits_to pass.words o.offer.base) []) pass.session fresh st ≡ Ok (plain.Act action)
   pub agrees : AgreesWith (commits_to pass.words o.offer.base) [] action change
+  pub light : IsLight (count (commits_to pass.words o.offer.base) []) action change
   pub list_is : change_list_at pass.words o.offer.changes ≡ change ∷ []
   pub reads_are : o.offer.reads ≡ action_reads action
   pub draws : o.fresh ≡ fresh + drawn action

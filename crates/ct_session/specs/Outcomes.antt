@@ -14,6 +14,7 @@ use Rattle.ct_keeper.specs.declared.error.KeeperError.{KeeperError}
 use Rattle.ct_keeper.specs.declared.error.KeeperError.TheVariants as fault
 use Rattle.ct_transcript.specs.declared.reply.Reply.{Reply}
 use Rattle.ct_transcript.specs.declared.reply.Reply.TheVariants as reply
+use Rattle.ct_transcript.specs.declared.reply.Refusal.{Refusal}
 use Rattle.ct_transcript.specs.declared.reply.Refusal.TheVariants as refusal
 use Rattle.ct_session.specs.declared.session.Open.{Open}
 
@@ -30,6 +31,12 @@ pub record Begins (first pass : Seen) (version : ℕ) : Type 0 where
   pub numbered : AreNumbered first.session first.mine first.words
   pub all : length (commits_of first.words) ≤ version
 
+-- a statement outside a transaction that began with one pass goes on with another, by which nothing was committed
+pub record Starts (first pass : Seen) : Type 0 where
+  pub longer : IsPrefix first.words pass.words
+  pub kept : kept_of pass ≡ kept_of first
+  pub numbered : AreNumbered first.session first.mine first.words
+
 -- the number of the last null after an offer: those that an action drew are the session's once it is committed
 abbrev pub fresh_after : ℕ → ℕ → Result Outcome KeeperError → ℕ
 fresh_after fresh drawn (Ok (outcome.Committed m)) = drawn
@@ -40,10 +47,11 @@ abbrev pub open_after : Open → Result Outcome KeeperError → Option Open
 open_after o (Ok out) = None
 open_after o (Err e) = Some o
 
--- the number of the commit that an offer became, where it became one
-abbrev pub committed_as : Result Outcome KeeperError → Option ℕ
-committed_as (Ok (outcome.Committed m)) = Some m
-committed_as _ = None
+-- the number of the commit that an offer became; else that the log is full, or that memory is wanting
+abbrev pub committed_or : Result Outcome KeeperError → Result ℕ Refusal
+committed_or (Ok (outcome.Committed m)) = Ok m
+committed_or (Err fault.Full) = Err refusal.Full
+committed_or _ = Err refusal.Memory
 
 -- the reply to an offer with this base, by a session that had seen a version
 abbrev pub outcome_reply : ℕ → ℕ → Result Outcome KeeperError → Reply

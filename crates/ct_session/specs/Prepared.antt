@@ -111,6 +111,16 @@ abbrev pub IsLiteralAct : PlainStatement → Type 0
 IsLiteralAct (plain.Act a) = is_literal a ≡ true
 IsLiteralAct _ = ⊥
 
+-- whether an action is an insertion of written rows
+abbrev pub inserts_rows : PlainAction → Bool
+inserts_rows (plain.InsertRows name rs c) = true
+inserts_rows _ = false
+
+-- a statement with positions is an insertion of written rows
+abbrev pub InsertsRows : PlainStatement → Type 0
+InsertsRows (plain.Act a) = inserts_rows a ≡ true
+InsertsRows _ = ⊥
+
 -- whether an action is an assertion
 abbrev pub is_assertion : PlainAction → Bool
 is_assertion (plain.Assert c) = true

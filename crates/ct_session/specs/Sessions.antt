@@ -9,7 +9,9 @@ use Rattle.ct_query.specs.Plain.{PlainAction}
 use Rattle.ct_query.specs.Agrees.{Agrees}
 use Rattle.ct_query.specs.Fits.{FitAfter}
 use Rattle.ct_query.specs.Frame.{reads_of_actions}
+use Rattle.ct_query.specs.Patterns.{count}
 use Rattle.ct_arena.specs.Seen.{Seen}
+use Rattle.ct_statement.specs.Making.{AreLight}
 use Rattle.ct_statement.specs.Proposals.{listed}
 use Rattle.ct_statement.specs.Sight.{actions_before, history_of, IsSight}
 use Rattle.ct_session.specs.declared.session.Open.{Open}
@@ -29,12 +31,13 @@ abbrev pub IsBegunList : List ℕ → Option ℕ → List PlainAction → Type 0
 IsBegunList words None actions = actions ≡ []
 IsBegunList words (Some place) actions = IsTrue (is_place_of words class.ChangeList place)
 
--- what is true of an open transaction: it sees its base with its own actions done, its changes agree with these, fit and can
--- be written, and what its actions read is among its reads
+-- what is true of an open transaction: it sees its base with its own actions done, its changes agree with these and are light
+-- for them, fit and can be written, and what its actions read is among its reads
 pub record IsOpen (words : List ℕ) (o : Open) : Type 0 where
   pub sight : IsSight words o.sight
   pub list : IsBegunList words o.changes (actions_before o.sight)
   pub agrees : Agrees (history_of words o.sight) (actions_before o.sight) (listed words o.changes)
+  pub light : AreLight (count (history_of words o.sight) (actions_before o.sight)) (actions_before o.sight) (listed words o.changes)
   pub fits : FitAfter (history_of words o.sight) (listed words o.changes)
   pub writable : IsTrue (list_all is_writable (listed words o.changes))
   pub reads : All (Contains o.reads) (reads_of_actions (actions_before o.sight))

@@ -2,15 +2,20 @@
 //
 // A pass's words are read, here and there, for what their type keeps: that they are well formed, and few.
 
-ghost use Rattle.std.specs.Prelude.{◌≡◌, ◌<◌, ◌≤◌, ◌^◌, [], None, length, IfOk, IfErr, IsNone};
+ghost use Rattle.std.specs.Prelude.{◌≡◌, ◌+◌, ◌<◌, ◌≤◌, ◌^◌, [], None, length, IfOk, IfErr, IsNone};
 ghost use mathlib.Core.List.{IsPrefix};
 ghost use Rattle.ct_word.specs.Reading.{commits_of};
 ghost use Rattle.ct_arena.specs.Seen.{Seen};
+ghost use Rattle.ct_condition.specs.Writes.{charge};
 ghost use Rattle.ct_history.specs.Kept.{kept_of};
+ghost use Rattle.ct_query.specs.Patterns.{count};
 ghost use Rattle.ct_query.specs.Reads.{reads_of};
 ghost use Rattle.ct_query.specs.Views.{statement_of};
 ghost use Rattle.ct_table.specs.Snapshot.{commits_to};
+ghost use Rattle.ct_statement.specs.Making as refusals;
 ghost use Rattle.ct_statement.specs.Sight.{actions_before, history_of};
+ghost use Rattle.ct_session.specs.Answers.{is_full};
+ghost use Rattle.ct_session.specs.Bounded.{Makes, Performs, Readies};
 ghost use Rattle.ct_session.specs.Executes.{Executes};
 ghost use Rattle.ct_session.specs.Known.{IsKnown, SeesAlone, StillSeen};
 ghost use Rattle.ct_session.specs.Outcomes.{Begins, fresh_after};
@@ -62,6 +67,7 @@ fn performed<N: Site>(
     requires reads { reads ≡ reads_of (statement_of found) }
     ensures longer { IsPrefix pass.old.words pass.new.words }
     ensures kept { kept_of pass.new ≡ kept_of pass.old }
+    ensures made { Performs (count (history_of pass.old.words sight.now) (actions_before sight.now)) (statement_of found) pass.old.made (pass.new.made + charge (refusals.is_full result)) }
     ensures ok { IfOk result (IsReady pass.new fresh sight.now.version statement.now) }
     ensures err { IfErr result (IsRefused (commits_to pass.new.words sight.now.version) [] N.log.cap pass.new.words pass.new.session fresh statement.now) }
 {
@@ -114,6 +120,7 @@ fn asked<N: Site>(
     ensures longer { IsPrefix pass.old.words pass.new.words }
     ensures kept { kept_of pass.new ≡ kept_of pass.old }
     ensures known { IsKnown pass.new.words known.new }
+    ensures readies { Readies pass.new.words sight.version pass.new.session fresh statement.now pass.old.made (pass.new.made + charge (refusals.is_full result)) }
     ensures ok { IfOk result (IsReady pass.new fresh sight.version statement.now) }
     ensures err { IfErr result (IsRefused (commits_to pass.new.words sight.version) [] N.log.cap pass.new.words pass.new.session fresh statement.now) }
 {
@@ -166,6 +173,7 @@ fn offered<N: Site, R: Wait>(
     requires ready { IsReadyToOffer pass fresh offering statement.now }
     ensures session { IsSession result.0.pass.words result.0.seen result.0.transaction }
     ensures stays { StillSeen pass.words result.0.pass.words }
+    ensures makes { (first : Seen) → Begins first pass offering.offer.base → Readies pass.words offering.offer.base pass.session fresh statement.now first.made pass.made → Makes (state_of first seen fresh None) result.0.pass.words statement.now first.made (result.0.pass.made + charge (is_full result.1)) }
     ensures executes { (first : Seen) → Begins first pass offering.offer.base → Executes N.log.cap (state_of first seen fresh None) (state_of result.0.pass result.0.seen result.0.fresh result.0.transaction) first.words result.0.pass.words statement.now result.1 }
 {
     let _words = pass.words();
@@ -201,6 +209,7 @@ fn anew<N: Site, R: Wait>(
     requires plain { IsNoOrder statement.now }
     ensures session { IsSession result.0.pass.words result.0.seen result.0.transaction }
     ensures known { IsKnown result.0.pass.words known.new }
+    ensures makes { (first : Seen) → Begins first pass (length (commits_of pass.words)) → first.made ≡ pass.made → Makes (state_of first seen fresh None) result.0.pass.words statement.now first.made (result.0.pass.made + charge (is_full result.1)) }
     ensures executes { (first : Seen) → Begins first pass (length (commits_of pass.words)) → Executes N.log.cap (state_of first seen fresh None) (state_of result.0.pass result.0.seen result.0.fresh result.0.transaction) first.words result.0.pass.words statement.now result.1 }
 {
     let (mut pass, snapshot) = server.begin(rt, alloc, pass);
@@ -251,6 +260,7 @@ pub(crate) fn alone<N: Site, R: Wait>(
     requires plain { IsNoOrder statement.now }
     ensures session { IsSession result.0.pass.words result.0.seen result.0.transaction }
     ensures known { IsKnown result.0.pass.words known.new }
+    ensures makes { Makes (state_of session.pass session.seen session.fresh session.transaction) result.0.pass.words statement.now session.pass.made (result.0.pass.made + charge (is_full result.1)) }
     ensures executes { Executes N.log.cap (state_of session.pass session.seen session.fresh session.transaction) (state_of result.0.pass result.0.seen result.0.fresh result.0.transaction) session.pass.words result.0.pass.words statement.now result.1 }
 {
     let _words = session.pass.words();

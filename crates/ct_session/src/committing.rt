@@ -1,7 +1,10 @@
 // COMMIT of an open transaction.
 
-ghost use Rattle.std.specs.Prelude.{◌≡◌, ◌<◌, ◌^◌, IsSome, Some};
+ghost use Rattle.std.specs.Prelude.{◌≡◌, ◌+◌, ◌<◌, ◌^◌, IsSome, Some};
 ghost use Rattle.ct_parse.specs.declared.tree.Statement.TheVariants as tree;
+ghost use Rattle.ct_condition.specs.Writes.{charge};
+ghost use Rattle.ct_session.specs.Answers.{is_full};
+ghost use Rattle.ct_session.specs.Bounded.{Makes};
 ghost use Rattle.ct_session.specs.Executes.{Executes};
 ghost use Rattle.ct_session.specs.Outcomes.{open_after, outcome_reply, outcome_version};
 ghost use Rattle.ct_session.specs.Sessions.{IsSession, state_of};
@@ -82,6 +85,7 @@ fn offered<N: Site, R: Wait>(
     requires begun { transaction.changes ≡ Some changes }
     requires order { statement.now ≡ tree.Commit }
     ensures session { IsSession result.0.pass.words result.0.seen result.0.transaction }
+    ensures makes { Makes (state_of pass seen fresh (Some transaction)) result.0.pass.words statement.now pass.made (result.0.pass.made + charge (is_full result.1)) }
     ensures executes { Executes N.log.cap (state_of pass seen fresh (Some transaction)) (state_of result.0.pass result.0.seen result.0.fresh result.0.transaction) pass.words result.0.pass.words statement.now result.1 }
 {
     let _words = pass.words();
@@ -126,6 +130,7 @@ pub(crate) fn commit<N: Site, R: Wait>(
     requires some { IsSome session.transaction }
     requires order { statement.now ≡ tree.Commit }
     ensures session { IsSession result.0.pass.words result.0.seen result.0.transaction }
+    ensures makes { Makes (state_of session.pass session.seen session.fresh session.transaction) result.0.pass.words statement.now session.pass.made (result.0.pass.made + charge (is_full result.1)) }
     ensures executes { Executes N.log.cap (state_of session.pass session.seen session.fresh session.transaction) (state_of result.0.pass result.0.seen result.0.fresh result.0.transaction) session.pass.words result.0.pass.words statement.now result.1 }
 {
     let _words = session.pass.words();

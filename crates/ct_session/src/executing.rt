@@ -1,7 +1,9 @@
 // One statement of a session.
 
-ghost use Rattle.std.specs.Prelude.{◌<◌, ◌^◌};
-ghost use Rattle.ct_session.specs.Answers.{Answers};
+ghost use Rattle.std.specs.Prelude.{◌+◌, ◌<◌, ◌^◌};
+ghost use Rattle.ct_condition.specs.Writes.{charge};
+ghost use Rattle.ct_session.specs.Answers.{Answers, is_full};
+ghost use Rattle.ct_session.specs.Bounded.{IsBounded, Makes};
 ghost use Rattle.ct_session.specs.Executes.{Executes};
 ghost use Rattle.ct_session.specs.Known.{IsKnown};
 ghost use Rattle.ct_session.specs.Sessions.{IsSession, state_of};
@@ -36,6 +38,7 @@ fn placed<N: Site, R: Wait>(
     requires written { IsWritten statement.now }
     ensures session { IsSession result.0.pass.words result.0.seen result.0.transaction }
     ensures known { IsKnown result.0.pass.words known.new }
+    ensures makes { Makes (state_of session.pass session.seen session.fresh session.transaction) result.0.pass.words statement.now session.pass.made (result.0.pass.made + charge (is_full result.1)) }
     ensures executes { Executes N.log.cap (state_of session.pass session.seen session.fresh session.transaction) (state_of result.0.pass result.0.seen result.0.fresh result.0.transaction) session.pass.words result.0.pass.words statement.now result.1 }
 {
     let is_open = session.transaction.is_some();
@@ -70,6 +73,7 @@ pub(crate) fn executed<N: Site, R: Wait>(
     requires known { IsKnown session.pass.words known.old }
     ensures session { IsSession result.0.pass.words result.0.seen result.0.transaction }
     ensures known { IsKnown result.0.pass.words known.new }
+    ensures bounded { IsBounded N.log.cap (state_of session.pass session.seen session.fresh session.transaction) result.0.pass.words text.now result.1 session.pass.made result.0.pass.made }
     ensures answers { Answers N.log.cap (state_of session.pass session.seen session.fresh session.transaction) (state_of result.0.pass result.0.seen result.0.fresh result.0.transaction) session.pass.words result.0.pass.words text.now result.1 }
 {
     let _ = session.pass.words();

@@ -2,26 +2,37 @@
 //
 // A pass's words are read, here and there, for what their type keeps: that they are well formed, and few.
 
-ghost use Rattle.std.specs.Prelude.{◌≡◌, ◌<◌, ◌≤◌, ◌^◌, ℕ, List, None, length, IfOk, IfErr, IfSome, IsNone};
+ghost use Rattle.std.specs.Prelude.{◌≡◌, ◌+◌, ◌<◌, ◌≤◌, ◌^◌, ℕ, List, true, None, length, IfOk, IfErr, IfSome, IsNone};
 ghost use mathlib.Core.List.{IsPrefix};
 ghost use Rattle.ct_word.specs.Reading.{commits_of};
+ghost use Rattle.ct_arena.specs.Seen.{Seen};
+ghost use Rattle.ct_condition.specs.Writes.{charge};
 ghost use Rattle.ct_history.specs.Kept.{kept_of};
+ghost use Rattle.ct_query.specs.Reads.{reads_of};
+ghost use Rattle.ct_query.specs.Views.{statement_of};
+ghost use Rattle.ct_statement.specs.Making.{says_full};
+ghost use Rattle.ct_statement.specs.Unmet.{IsWant};
+ghost use Rattle.ct_session.specs.Answers.{is_full};
+ghost use Rattle.ct_session.specs.Bounded.{Makes};
 ghost use Rattle.ct_session.specs.Executes.{Executes};
 ghost use Rattle.ct_session.specs.Known.{IsKnown, SeesAlone};
-ghost use Rattle.ct_session.specs.Offering.{IsReadyToOffer};
-ghost use Rattle.ct_session.specs.Outcomes.{committed_as};
-ghost use Rattle.ct_session.specs.Prepared.{IsNoOrder};
+ghost use Rattle.ct_session.specs.Offering.{IsFoundAlone, IsInsertion};
+ghost use Rattle.ct_session.specs.Outcomes.{Starts, committed_or};
+ghost use Rattle.ct_session.specs.Prepared.{InsertsRows, IsNoOrder};
 ghost use Rattle.ct_session.specs.Sessions.{IsSession, state_of};
 ghost use Rattle.ct_session.specs.Statements.{IsWritten};
 
-use crate::offering::{Offering, is_literal_act, literal_offer};
+use crate::offering::{Offering, literal_offer};
 use crate::preparing::resolved_at;
+use crate::replying::refusal;
 use crate::session::State;
-use ct_arena::{Arena, Pass, Site};
+use ct_arena::{Pass, Site};
 use ct_keeper::{KeeperError, Outcome, Server};
 use ct_parse::Statement;
+use ct_query::{Action, Read, Resolved};
 use ct_statement::Sight;
-use ct_transcript::Reply;
+use ct_transcript::{Refusal, Reply};
+use ct_word::List;
 use std::alloc::Global;
 use std::sync::Wait;
 
@@ -62,32 +73,40 @@ impl Known {
     }
 }
 
-/// The number of the commit that an offer became, where it became one.
-fn committed_as(outcome: Result<Outcome, KeeperError>) -> Option<u32>
-    ensures { result ≡ committed_as outcome }
+/// The number of the commit that an offer became. Else why it became none: the log is full, or memory is wanting. An
+/// insertion of written rows reads nothing, so that it meets no conflict, and its list of changes is not empty.
+fn committed_or(outcome: Result<Outcome, KeeperError>) -> Result<u32, Refusal>
+    ensures { result ≡ committed_or outcome }
 {
     match outcome {
-        Ok(Outcome::Committed(at)) => Some(at),
-        _ => None,
+        Ok(Outcome::Committed(at)) => Ok(at),
+        Err(KeeperError::Full) => Err(Refusal::Full),
+        _ => Err(Refusal::Memory),
     }
 }
 
-/// The offer of an insertion of written rows by what an earlier one saw, where that has its names. The pass has the words
-/// of it. What was seen is lent, so that no way out of this body has to let it go.
-fn ready_known<N: Site>(
+/// Whether what a statement does is an insertion of written rows.
+fn inserts_rows(resolved: &Resolved) -> bool
+    ensures { result ≡ true → InsertsRows (statement_of resolved.now) }
+{
+    matches!(resolved, Resolved::Act(Action::InsertRows { .. }))
+}
+
+/// An insertion of written rows with positions for its names, and what it reads, where what an earlier one saw has the
+/// names. No word is made.
+fn found_known<N: Site>(
     alloc: Global,
-    arena: &Arena<N>,
-    pass: &mut Pass<N>,
+    pass: &Pass<N>,
     fresh: u32,
     sight: &Sight,
     statement: &Statement,
-) -> Option<Offering>
-    requires sees { SeesAlone pass.old.words sight.now }
+) -> Option<(Resolved, List<Read>)>
+    requires sees { SeesAlone pass.now.words sight.now }
     requires written { IsWritten statement.now }
     requires plain { IsNoOrder statement.now }
-    ensures longer { IsPrefix pass.old.words pass.new.words }
-    ensures kept { kept_of pass.new ≡ kept_of pass.old }
-    ensures ready { IfSome result (λ o. IsReadyToOffer pass.new fresh o statement.now) }
+    ensures found { IfSome result (λ r. IsFoundAlone pass.now fresh sight.now.version statement.now (statement_of r.0)) }
+    ensures rows { IfSome result (λ r. InsertsRows (statement_of r.0)) }
+    ensures reads { IfSome result (λ r. r.1 ≡ reads_of (statement_of r.0)) }
 {
     let (found, reads) = match resolved_at(alloc, pass, sight, fresh, statement) {
         Ok(found) => found,
@@ -96,21 +115,59 @@ fn ready_known<N: Site>(
             return None;
         }
     };
-    if !is_literal_act(&found) {
+    if inserts_rows(&found) {
+        Some((found, reads))
+    } else {
         drop(found);
         drop(reads);
-        return None;
+        None
     }
-    let base = sight.version;
-    literal_offer(arena, pass, fresh, base, found, reads, statement).ok()
+}
+
+/// The refusal of an insertion of written rows for a full log or for want of memory. A full log is told at the newest
+/// version, since the session may have seen a later one than that at which the names were found.
+fn wanting<N: Site, R: Wait>(
+    rt: &R,
+    alloc: Global,
+    server: &Server<N>,
+    pass: Pass<N>,
+    seen: u32,
+    fresh: u32,
+    why: Refusal,
+    statement: &Statement,
+) -> (State<N>, Reply)
+    requires seen { seen ≤ length (commits_of pass.words) }
+    requires insertion { IsInsertion pass fresh statement.now }
+    requires want { IsWant N.log.cap pass.words why }
+    ensures session { IsSession result.0.pass.words result.0.seen result.0.transaction }
+    ensures longer { IsPrefix pass.words result.0.pass.words }
+    ensures kept { kept_of result.0.pass ≡ kept_of pass }
+    ensures made { result.0.pass.made ≡ pass.made }
+    ensures full { is_full result.1 ≡ true → says_full why ≡ true }
+    ensures executes { (first : Seen) → Starts first pass → Executes N.log.cap (state_of first seen fresh None) (state_of result.0.pass result.0.seen result.0.fresh result.0.transaction) first.words result.0.pass.words statement.now result.1 }
+{
+    let _before = pass.words();
+    let Refusal::Full = why else {
+        return refusal(pass, seen, fresh, None, seen, Refusal::Memory);
+    };
+    let (pass, snapshot) = server.begin(rt, alloc, pass);
+    let _now = pass.words();
+    match snapshot {
+        Ok(snapshot) => {
+            let at = snapshot.version;
+            drop(snapshot);
+            refusal(pass, seen, fresh, None, at, Refusal::Full)
+        }
+        Err(_) => refusal(pass, seen, fresh, None, seen, Refusal::Memory),
+    }
 }
 
 /// Commits an insertion of written rows by what an earlier one saw, where that is known and has its names. It reads
 /// nothing, so that the version it is offered on may be any whose commits the session has seen.
 ///
 /// # Errors
-/// The pass, where nothing was committed. There may be more words, nothing is known any more, and the statement can begin
-/// anew.
+/// The pass as it was, where nothing is known or the names are not there. Nothing is known any more, and the statement can
+/// begin anew.
 pub(crate) fn insert_known<N: Site, R: Wait>(
     rt: &R,
     alloc: Global,
@@ -127,21 +184,30 @@ pub(crate) fn insert_known<N: Site, R: Wait>(
     requires written { IsWritten statement.now }
     requires plain { IsNoOrder statement.now }
     ensures session { IfOk result (λ done. IsSession done.0.pass.words done.0.seen done.0.transaction) }
+    ensures makes { IfOk result (λ done. Makes (state_of pass seen fresh None) done.0.pass.words statement.now pass.made (done.0.pass.made + charge (is_full done.1))) }
     ensures executes { IfOk result (λ done. Executes N.log.cap (state_of pass seen fresh None) (state_of done.0.pass done.0.seen done.0.fresh done.0.transaction) pass.words done.0.pass.words statement.now done.1) }
     ensures known { IfOk result (λ done. IsKnown done.0.pass.words known.new) }
-    ensures longer { IfErr result (λ same. IsPrefix pass.words same.words) }
-    ensures kept { IfErr result (λ same. kept_of same ≡ kept_of pass) }
+    ensures same { IfErr result (λ same. same ≡ pass) }
     ensures gone { IfErr result (λ _. IsNone known.new.sight) }
 {
     let _begun = pass.words();
     let Some(sight) = known.sight.take() else {
         return Err(pass);
     };
-    let ready = ready_known(alloc, server.arena(), &mut pass, fresh, &sight, statement);
-    let _now = pass.words();
-    let Some(offering) = ready else {
+    let Some((found, reads)) = found_known(alloc, &pass, fresh, &sight, statement) else {
         drop(sight);
         return Err(pass);
+    };
+    let base = sight.version;
+    let arena = server.arena();
+    let offering = literal_offer(arena, &mut pass, fresh, base, found, reads, statement);
+    let _now = pass.words();
+    let offering = match offering {
+        Ok(offering) => offering,
+        Err(why) => {
+            drop(sight);
+            return Ok(wanting(rt, alloc, server, pass, seen, fresh, why, statement));
+        }
     };
     let Offering {
         offer,
@@ -150,15 +216,15 @@ pub(crate) fn insert_known<N: Site, R: Wait>(
     let (pass, outcome) = server.commit(rt, alloc, pass, &offer);
     drop(offer);
     let _after = pass.words();
-    match committed_as(outcome) {
-        Some(at) => {
+    match committed_or(outcome) {
+        Ok(at) => {
             known.sight = Some(sight);
             let session = State::carrying(pass, seen, drawn, None, at);
             Ok((session, Reply::Committed { at }))
         }
-        None => {
+        Err(why) => {
             drop(sight);
-            Err(pass)
+            Ok(wanting(rt, alloc, server, pass, seen, fresh, why, statement))
         }
     }
 }

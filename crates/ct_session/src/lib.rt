@@ -4,6 +4,7 @@
 mod alone;
 mod committing;
 mod executing;
+mod exporting;
 mod extending;
 mod knowing;
 mod offering;
@@ -14,5 +15,6 @@ mod replying;
 mod session;
 mod within;
 
+pub use exporting::ExportError;
 pub use reading::read;
 pub use session::{Open, Session};

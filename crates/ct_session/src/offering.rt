@@ -2,14 +2,18 @@
 //
 // A pass's words are read, here and there, for what their type keeps: that they are well formed, and few.
 
-ghost use Rattle.std.specs.Prelude.{◌≡◌, true, [], IfOk, IfErr, option_map};
+ghost use Rattle.std.specs.Prelude.{◌≡◌, ◌+◌, ℕ, List, true, [], IfOk, IfErr, option_map};
 ghost use Rattle.std.specs.Arc.{arc_value};
 ghost use mathlib.Core.List.{IsPrefix};
+ghost use Rattle.ct_condition.specs.Writes.{charge};
 ghost use Rattle.ct_history.specs.Kept.{kept_of};
 ghost use Rattle.ct_keeper.specs.Offers.{world_in};
 ghost use Rattle.ct_query.specs.Reads.{reads_of};
 ghost use Rattle.ct_query.specs.Views.{statement_of};
 ghost use Rattle.ct_table.specs.Snapshot.{commits_to};
+ghost use Rattle.ct_statement.specs.Making.{is_full};
+ghost use Rattle.ct_statement.specs.Unmet.{IsWant};
+ghost use Rattle.ct_session.specs.Bounded.{Performs};
 ghost use Rattle.ct_session.specs.Offering.{IsFoundAlone, IsReadyToOffer};
 ghost use Rattle.ct_session.specs.Outcomes.{world_offered};
 ghost use Rattle.ct_session.specs.Prepared.{IsLiteralAct, IsRefused};
@@ -107,8 +111,10 @@ pub(crate) fn literal_offer<N: Site>(
     requires reads { reads ≡ reads_of (statement_of found) }
     ensures longer { IsPrefix pass.old.words pass.new.words }
     ensures kept { kept_of pass.new ≡ kept_of pass.old }
+    ensures made { (counts : List ℕ → ℕ) → Performs counts (statement_of found) pass.old.made (pass.new.made + charge (is_full result)) }
     ensures ok { IfOk result (λ o. IsReadyToOffer pass.new fresh o statement.now) }
     ensures base { IfOk result (λ o. o.offer.base ≡ base) }
+    ensures want { IfErr result (IsWant N.log.cap pass.new.words) }
     ensures err { IfErr result (IsRefused (commits_to pass.new.words base) [] N.log.cap pass.new.words pass.new.session fresh statement.now) }
 {
     let action = match found {

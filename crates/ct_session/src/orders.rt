@@ -1,7 +1,10 @@
 // BEGIN, ROLLBACK, and COMMIT or BEGIN in the wrong place.
 
-ghost use Rattle.std.specs.Prelude.{◌≡◌, IsNone, IsSome};
+ghost use Rattle.std.specs.Prelude.{◌≡◌, ◌+◌, IsNone, IsSome};
 ghost use Rattle.ct_parse.specs.declared.tree.Statement.TheVariants as tree;
+ghost use Rattle.ct_condition.specs.Writes.{charge};
+ghost use Rattle.ct_session.specs.Answers.{is_full};
+ghost use Rattle.ct_session.specs.Bounded.{Makes};
 ghost use Rattle.ct_session.specs.Executes.{Executes};
 ghost use Rattle.ct_session.specs.Orders.{IsMisplaced};
 ghost use Rattle.ct_session.specs.Sessions.{IsSession, state_of};
@@ -29,6 +32,7 @@ pub(crate) fn begin<N: Site, R: Wait>(
     requires none { IsNone session.transaction }
     requires order { statement.now ≡ tree.Begin }
     ensures session { IsSession result.0.pass.words result.0.seen result.0.transaction }
+    ensures makes { Makes (state_of session.pass session.seen session.fresh session.transaction) result.0.pass.words statement.now session.pass.made (result.0.pass.made + charge (is_full result.1)) }
     ensures executes { Executes N.log.cap (state_of session.pass session.seen session.fresh session.transaction) (state_of result.0.pass result.0.seen result.0.fresh result.0.transaction) session.pass.words result.0.pass.words statement.now result.1 }
 {
     drop(session.transaction);
@@ -60,6 +64,7 @@ pub(crate) fn roll_back<N: Site>(mut session: State<N>, statement: &Statement) -
     requires some { IsSome session.transaction }
     requires order { statement.now ≡ tree.Rollback }
     ensures session { IsSession result.0.pass.words result.0.seen result.0.transaction }
+    ensures makes { Makes (state_of session.pass session.seen session.fresh session.transaction) result.0.pass.words statement.now session.pass.made (result.0.pass.made + charge (is_full result.1)) }
     ensures executes { Executes N.log.cap (state_of session.pass session.seen session.fresh session.transaction) (state_of result.0.pass result.0.seen result.0.fresh result.0.transaction) session.pass.words result.0.pass.words statement.now result.1 }
 {
     let _words = session.pass.words();
@@ -76,6 +81,7 @@ pub(crate) fn refused_here<N: Site>(
     requires session { IsSession session.pass.words session.seen session.transaction }
     requires misplaced { IsMisplaced session.transaction statement.now why }
     ensures session { IsSession result.0.pass.words result.0.seen result.0.transaction }
+    ensures makes { Makes (state_of session.pass session.seen session.fresh session.transaction) result.0.pass.words statement.now session.pass.made (result.0.pass.made + charge (is_full result.1)) }
     ensures executes { Executes N.log.cap (state_of session.pass session.seen session.fresh session.transaction) (state_of result.0.pass result.0.seen result.0.fresh result.0.transaction) session.pass.words result.0.pass.words statement.now result.1 }
 {
     let _words = session.pass.words();

@@ -1,21 +1,26 @@
 // What a statement asks for, at what it sees.
 
-ghost use Rattle.std.specs.Prelude.{◌≡◌, List, IfOk, IfErr, IfSome, IsTrue};
+ghost use Rattle.std.specs.Prelude.{◌≡◌, ◌≤◌, ◌+◌, false, List, IfOk, IfErr, IfSome, IsTrue};
 ghost use mathlib.Core.List.{IsPrefix};
 ghost use Rattle.ct_word.specs.declared.kinds.Class.TheVariants as class;
 ghost use Rattle.ct_word.specs.Change.{PlainChange};
 ghost use Rattle.ct_word.specs.WellFormed.{is_place_of};
+ghost use Rattle.ct_condition.specs.Writes.{charge};
 ghost use Rattle.ct_history.specs.Kept.{kept_of};
+ghost use Rattle.ct_query.specs.Bounds.{applying_words};
 ghost use Rattle.ct_query.specs.Fits.{FitsAction, FitsStatement};
+ghost use Rattle.ct_query.specs.Patterns.{count};
 ghost use Rattle.ct_query.specs.Plain as plain;
 ghost use Rattle.ct_query.specs.Reads.{reads_of};
 ghost use Rattle.ct_query.specs.Schema.{schema};
 ghost use Rattle.ct_query.specs.Views.{action_of, query_of, statement_of};
 ghost use Rattle.ct_query.specs.declared.action.Read.{Read as ReadValue};
 ghost use Rattle.ct_resolve.specs.Writing.{WritesAction, WritesStatement};
+ghost use Rattle.ct_statement.specs.Making.{is_full, says_full};
 ghost use Rattle.ct_statement.specs.Proposals.{IsProposal, listed};
 ghost use Rattle.ct_statement.specs.Sight.{IsSight, actions_before, history_of};
 ghost use Rattle.ct_statement.specs.Unmet.{IsUnmet};
+ghost use Rattle.ct_session.specs.Bounded.{Performs};
 ghost use Rattle.ct_session.specs.Prepared.{IsNoOrder, IsNoPlainOrder, IsPreparedFor, IsRefused, IsResolved, IsStepIf, is_assertion, name_refusal, needs_step};
 ghost use Rattle.ct_session.specs.Statements.{IsWritten};
 ghost use Rattle.ct_session.specs.declared.preparing.Prepared.TheVariants as prepared;
@@ -85,6 +90,7 @@ fn step_where_needed<N: Site>(
     requires proposal { (list : List PlainChange) × IsProposal pass.old.words (history_of pass.old.words sight.now) (actions_before sight.now) list (action_of proposal.now.action) proposal.now.changes }
     ensures longer { IsPrefix pass.old.words pass.new.words }
     ensures kept { kept_of pass.new ≡ kept_of pass.old }
+    ensures made { pass.new.made + charge (is_full result) ≤ pass.old.made + applying_words (count (history_of pass.old.words sight.now) (actions_before sight.now)) (action_of proposal.now.action) }
     ensures step { IfOk result (IsStepIf pass.new.words sight.now (action_of proposal.now.action)) }
     ensures needs { (reads : List ReadValue) → IfOk result (λ step. needs_step inside (prepared.Change proposal.now step reads)) }
     ensures err { IfErr result (IsUnmet (history_of pass.old.words sight.now) (actions_before sight.now) N.log.cap pass.new.words (plain.Act (action_of proposal.now.action))) }
@@ -122,6 +128,7 @@ fn change<N: Site>(
     requires reads { reads ≡ reads_of (plain.Act (action_of action)) }
     ensures longer { IsPrefix pass.old.words pass.new.words }
     ensures kept { kept_of pass.new ≡ kept_of pass.old }
+    ensures made { Performs (count (history_of pass.old.words sight.now) (actions_before sight.now)) (plain.Act (action_of action)) pass.old.made (pass.new.made + charge (is_full result)) }
     ensures ok { IfOk result (IsPreparedFor pass.new.words (history_of pass.old.words sight.now) (actions_before sight.now) (listed pass.old.words list) fresh sight.now (plain.Act (action_of action))) }
     ensures steps { IfOk result (needs_step inside) }
     ensures err { IfErr result (IsUnmet (history_of pass.old.words sight.now) (actions_before sight.now) N.log.cap pass.new.words (plain.Act (action_of action))) }
@@ -171,6 +178,7 @@ pub(crate) fn perform<N: Site>(
     requires reads { reads ≡ reads_of (statement_of resolved) }
     ensures longer { IsPrefix pass.old.words pass.new.words }
     ensures kept { kept_of pass.new ≡ kept_of pass.old }
+    ensures made { Performs (count (history_of pass.old.words sight.now) (actions_before sight.now)) (statement_of resolved) pass.old.made (pass.new.made + charge (is_full result)) }
     ensures ok { IfOk result (IsPreparedFor pass.new.words (history_of pass.old.words sight.now) (actions_before sight.now) (listed pass.old.words list) fresh sight.now (statement_of resolved)) }
     ensures steps { IfOk result (needs_step inside) }
     ensures err { IfErr result (IsUnmet (history_of pass.old.words sight.now) (actions_before sight.now) N.log.cap pass.new.words (statement_of resolved)) }
@@ -213,11 +221,12 @@ pub(crate) fn resolved_at<N: Site>(
     requires plain { IsNoOrder statement.now }
     ensures ok { IfOk result (λ r. IsResolved (history_of pass.now.words sight.now) (actions_before sight.now) pass.now.session fresh statement.now (statement_of r.0)) }
     ensures reads { IfOk result (λ r. r.1 ≡ reads_of (statement_of r.0)) }
+    ensures room { IfErr result (λ why. says_full why ≡ false) }
     ensures err { IfErr result (IsRefused (history_of pass.now.words sight.now) (actions_before sight.now) N.log.cap pass.now.words pass.now.session fresh statement.now) }
 {
     let session = pass.session();
-    let headings = sight.tables.db().headings();
-    let resolved = match resolve(alloc, headings, session, fresh, statement) {
+    let db = sight.tables.db();
+    let resolved = match resolve(alloc, db, session, fresh, statement) {
         Ok(resolved) => resolved,
         Err(e) => return Err(named(e)),
     };

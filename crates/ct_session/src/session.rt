@@ -1,15 +1,18 @@
 // A session between its statements.
 
-ghost use Rattle.std.specs.Prelude.{◌≡◌, ◌<◌, ◌^◌, ℕ, List, max, None};
+ghost use Rattle.std.specs.Prelude.{◌≡◌, ◌<◌, ◌^◌, ℕ, List, max, None, IfOk, IfErr};
 ghost use Rattle.ct_parse.specs.declared.tree.Statement.{Statement as StatementValue};
 ghost use Rattle.ct_transcript.specs.declared.reply.Reply.{Reply as ReplyValue};
 ghost use Rattle.ct_session.specs.Answers.{Answers};
+ghost use Rattle.ct_session.specs.Bounded.{IsBounded};
 ghost use Rattle.ct_session.specs.Executes.{Executes};
+ghost use Rattle.ct_session.specs.Exporting.{HasExported, HasNotExported};
 ghost use Rattle.ct_session.specs.Sessions.{IsSession, state_of};
 ghost use Rattle.ct_session.specs.Standing.{state_in};
 ghost use Rattle.ct_session.specs.State.{SessionState, carried};
 
 use crate::executing::executed;
+use crate::exporting::{ExportError, exported};
 use crate::knowing::Known;
 use ct_arena::{Pass, Site};
 use ct_keeper::Server;
@@ -137,12 +140,15 @@ impl<N: Site> Session<N> {
     /// - `Refused` for the first of these three that holds: `NumberRange`, `NotAStatement` or `TooDeep` where the text is
     ///   read as no statement; `InTransaction` or `NoTransaction`; a name or a count that does not fit. Else only for a
     ///   cause that holds, in an order that the contract leaves free: `TooLarge` where the query's size, by the counts of
-    ///   all rows that were ever inserted, is above 1,048,576; `Full` where the log has no room; `Inconsistent` for an
+    ///   all rows that were ever inserted, is above 16,777,216; `Full` where the log has no room; `Inconsistent` for an
     ///   assertion that no admitted valuation satisfies; `Conflict` where a commit after the base has changed what was
     ///   read. By the contract `Memory` may come in place of any reply.
     ///
     /// A refused statement leaves the transaction and the number of the last null as they were, and commits nothing, though
     /// words may have come to the log. There is one exception: `Conflict` ends the transaction.
+    ///
+    /// The session makes at most as many words as the bound of the statement, by the counts of all rows that were ever
+    /// inserted, and fewer where the log is full.
     pub fn execute<R: Wait>(
         &mut self,
         rt: &R,
@@ -151,6 +157,7 @@ impl<N: Site> Session<N> {
         text: &str,
     ) -> Reply
         requires few { self.old.pass.mine < 2 ^ 18 }
+        ensures bounded { IsBounded N.log.cap (state_in self.old) self.new.pass.words text.now result self.old.pass.made self.new.pass.made }
         ensures answers { Answers N.log.cap (state_in self.old) (state_in self.new) self.old.pass.words self.new.pass.words text.now result }
     {
         let Some(state) = self.state.take() else {
@@ -159,5 +166,30 @@ impl<N: Site> Session<N> {
         let (state, reply) = executed(rt, alloc, server, state, &mut self.known, text);
         self.state = Some(state);
         reply
+    }
+
+    /// The CSV file of the table with this name in lower case, at a version that has all commits of the words before, and
+    /// that version. It waits for the server's lock. Words of others may come to the pass, and the session has then seen
+    /// the version; all else stays as it is. What an open transaction has done is not in the file.
+    ///
+    /// # Errors
+    /// `UnknownTable` exactly where the version has no such table; `TooWide` for the first row whose condition has too long
+    /// a text or too deep a nest for a file, as `export` of `ct_csv` says it; `Memory` where there is none.
+    pub fn export<R: Wait>(
+        &mut self,
+        rt: &R,
+        alloc: Global,
+        server: &Server<N>,
+        name: &str,
+    ) -> Result<(u32, Vec<u8>), ExportError>
+        ensures ok { IfOk result (λ r. HasExported N.log.cap self.old self.new name.now r.0 r.1.items) }
+        ensures error { IfErr result (HasNotExported N.log.cap self.old self.new name.now) }
+    {
+        let Some(state) = self.state.take() else {
+            unreachable!();
+        };
+        let (state, file) = exported(rt, alloc, server, state, name);
+        self.state = Some(state);
+        file
     }
 }

@@ -1,8 +1,12 @@
 // A statement of an open transaction that is no order.
 
-ghost use Rattle.std.specs.Prelude.{◌≡◌, ◌+◌, IsSome, Some, IfSome};
+ghost use Rattle.std.specs.Prelude.{◌≡◌, ◌+◌, false, IsSome, Some, IfSome};
+ghost use Rattle.ct_condition.specs.Writes.{charge};
+ghost use Rattle.ct_statement.specs.Making.{says_full};
 ghost use Rattle.ct_statement.specs.Proposals.{listed};
 ghost use Rattle.ct_statement.specs.Sight.{actions_before, history_of};
+ghost use Rattle.ct_session.specs.Answers.{is_full};
+ghost use Rattle.ct_session.specs.Bounded.{Makes};
 ghost use Rattle.ct_session.specs.Executes.{Executes};
 ghost use Rattle.ct_session.specs.Prepared.{IsNoOrder, IsPrepared, IsRefused};
 ghost use Rattle.ct_session.specs.Sessions.{IsSession, state_of};
@@ -32,6 +36,8 @@ pub(crate) fn refused<N: Site>(
 ) -> (State<N>, Reply)
     requires session { IsSession pass.words seen (Some transaction) }
     requires refused { IsRefused (history_of pass.words transaction.sight) (actions_before transaction.sight) N.log.cap pass.words pass.session fresh statement.now why }
+    ensures pass { result.0.pass ≡ pass }
+    ensures full { is_full result.1 ≡ says_full why }
     ensures session { IsSession result.0.pass.words result.0.seen result.0.transaction }
     ensures executes { Executes N.log.cap (state_of pass seen fresh (Some transaction)) (state_of result.0.pass result.0.seen result.0.fresh result.0.transaction) pass.words result.0.pass.words statement.now result.1 }
 {
@@ -52,6 +58,8 @@ fn answer<N: Site>(
 ) -> (State<N>, Reply)
     requires session { IsSession pass.words seen (Some transaction) }
     requires prepared { IsPrepared pass.words (history_of pass.words transaction.sight) (actions_before transaction.sight) (listed pass.words transaction.changes) pass.session fresh transaction.sight statement.now (prepared.Answer answered reads) }
+    ensures pass { result.0.pass ≡ pass }
+    ensures room { is_full result.1 ≡ false }
     ensures session { IsSession result.0.pass.words result.0.seen result.0.transaction }
     ensures executes { Executes N.log.cap (state_of pass seen fresh (Some transaction)) (state_of result.0.pass result.0.seen result.0.fresh result.0.transaction) pass.words result.0.pass.words statement.now result.1 }
 {
@@ -96,6 +104,8 @@ fn change<N: Site>(
 ) -> (State<N>, Reply)
     requires session { IsSession pass.words seen (Some transaction) }
     requires prepared { IsPrepared pass.words (history_of pass.words transaction.sight) (actions_before transaction.sight) (listed pass.words transaction.changes) pass.session fresh transaction.sight statement.now (prepared.Change proposal (Some step) reads) }
+    ensures pass { result.0.pass ≡ pass }
+    ensures room { is_full result.1 ≡ false }
     ensures session { IsSession result.0.pass.words result.0.seen result.0.transaction }
     ensures executes { Executes N.log.cap (state_of pass seen fresh (Some transaction)) (state_of result.0.pass result.0.seen result.0.fresh result.0.transaction) pass.words result.0.pass.words statement.now result.1 }
 {
@@ -134,6 +144,7 @@ pub(crate) fn within<N: Site>(
     requires written { IsWritten statement.now }
     requires plain { IsNoOrder statement.now }
     ensures session { IsSession result.0.pass.words result.0.seen result.0.transaction }
+    ensures makes { Makes (state_of session.pass session.seen session.fresh session.transaction) result.0.pass.words statement.now session.pass.made (result.0.pass.made + charge (is_full result.1)) }
     ensures executes { Executes N.log.cap (state_of session.pass session.seen session.fresh session.transaction) (state_of result.0.pass result.0.seen result.0.fresh result.0.transaction) session.pass.words result.0.pass.words statement.now result.1 }
 {
     let State {

@@ -6,7 +6,7 @@ use Rattle.ct_word.{specs.declared.values.CRow.CRow, specs.Value.same_text, spec
 use Rattle.ct_query.{specs.Bounds.{nodes, bound}, specs.Plain.{PlainQuery, PlainAction, PlainStatement}, specs.Patterns.{query_pattern, count}}
 use Rattle.ct_query.{specs.Size.{size, rows_in, row_bound}, specs.declared.action.Ask.Ask, proofs.Sublists.sublist_of_sublist}
 use Rattle.ct_operators.{specs.declared.table.CTable.CTable, specs.Tables.{cells_of, value_of_rows, AreRows}, proofs.Reaching.rows_wider}
-use Rattle.ct_table.{specs.Counting.count_of, specs.Denotes.{TableView, IsKept, Denotes}, specs.Snapshot.IsGlobal, proofs.QuerySizes.size_grows}
+use Rattle.ct_table.{specs.Counting.count_of, specs.Denotes.{TableView, IsKept, Denotes}, specs.Snapshot.IsGlobal, proofs.QuerySizes.{row_bound_grows, size_grows}}
 use Rattle.ct_table.proofs.ByTables.{cells_found, found-cons, rows_in_found, tables_counted, answered_by_tables, pattern_by_tables}
 use Rattle.ct_table.proofs.Snapshots.{global_grows}
 use Rattle.ct_algebra.{specs.Evaluates.{limit, Evaluates}, specs.Operands.{AreTables, cells_in}, specs.Terms.TermOfQuery}
@@ -37,6 +37,10 @@ module _ (old : List ℕ) (h : List PlainCommit) (actions : List PlainAction) (d
   -- each table has at most as many rows as are counted in the history
   pub rows_fewer : (name : List ℕ) → rows_in (map count_of db) name ≤ count h actions name
   rows_fewer name = subst (λ n. n ≤ count h actions name) (sym (rows_in_found count_of (λ t. refl) (λ t. refl) db name)) (tables_counted old h actions db d.worth name)
+
+  -- nor are the rows of a query more
+  pub few_counted : (q : PlainQuery) (n : ℕ) → n ≤ row_bound (rows_in (map count_of db)) q → n ≤ row_bound (count h actions) q
+  few_counted q n few = let more = row_bound_grows (rows_in (map count_of db)) (count h actions) rows_fewer q in omega (arith, few, more)
 
   module _ (new : List ℕ) (q : PlainQuery) where
     -- a table that answers a query over the tables answers it after the history and the actions

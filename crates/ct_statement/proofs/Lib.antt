@@ -12,6 +12,7 @@ pub mod TermSources
 pub mod Sights
 pub mod Proposed
 pub mod Worlds
+pub mod Making
 pub mod Stepped
 pub mod Literal
 pub mod Listed

@@ -1,18 +1,18 @@
 -- The step of an action: what its effect leads to, and why there is none.
-use Rattle.std.{proofs.Common.{◌≡◌, ℕ, List, [], ◌∷◌, ◌++◌, map, Option, refl, ap, ap₂, sym, subst, ◌∙◌, ◌&&◌}, specs.Arc.arc_value, specs.Prelude.IsTrue}
+use Rattle.std.{proofs.Common.{◌≡◌, ◌≤◌, ℕ, List, [], ◌∷◌, ◌++◌, map, Option, refl, ap, ap₂, sym, subst, ◌∙◌, ◌&&◌}, specs.Arc.arc_value, specs.Prelude.IsTrue}
 use Rattle.ct_word.{specs.Value.World, specs.Condition.{Condition, holds_at}, specs.Change.{PlainChange, PlainCommit}}
 use Rattle.ct_word.{specs.Reading.condition_at, specs.WellFormed.IsWellFormed, proofs.Prefixes.{condition_in_prefix, place_in_prefix, place_within}}
-use Rattle.ct_query.{specs.Plain.PlainAction, specs.Agrees.AgreesWith, specs.Fits.FitsChange, specs.Schema.schema}
+use Rattle.ct_query.{specs.Plain.PlainAction, specs.Agrees.AgreesWith, specs.Bounds.applying_words, specs.Fits.FitsChange, specs.Patterns.count, specs.Schema.schema}
 use Rattle.ct_history.{specs.declared.written.Written.Written, specs.Written.{IsWritten, plain_written}}
 use Rattle.ct_resolve.specs.Writing.{WritesAction}
 use Rattle.ct_table.{specs.Denotes.{Denotes, heading_of}, specs.Snapshot.{IsGlobal, IsKeptWorld}}
 use Rattle.ct_table.proofs.Snapshots.{global_grows, kept_grows}
-use Rattle.ct_keeper.{specs.declared.effects.Effect.Effect, specs.Doing.HasTermsFor, specs.Effects.{DoesChange, FitsEffect, tables_after, global_after}}
+use Rattle.ct_keeper.{specs.declared.effects.Effect.Effect, specs.Doing.HasTermsFor, specs.Effects.{DoesChange, FitsEffect, effect_words, tables_after, global_after}}
 use Rattle.ct_keeper.proofs.Doing.{tables_do, global_does, world_does, world_narrows}
 use Rattle.ct_transcript.specs.declared.reply.Refusal.{Refusal}
 use Rattle.ct_statement.{specs.declared.sight.Sight.Sight, specs.Narrowing.{IsEffectFor, IsBothWith, asserted, CanNarrow, IsWorldless, IsKeptFor, IsUnkept}}
 use Rattle.ct_statement.{specs.Proposals.{IsProposal, IsStep, kept_after}, specs.Sight.{IsSight, actions_before, history_of}, specs.Unmet.IsUnmet}
-use Rattle.ct_statement.proofs.Sights.{history_stays}
+use Rattle.ct_statement.{specs.Making.IsLight, proofs.Making.effect_within, proofs.Sights.history_stays}
 use mathlib.Core.List.{IsPrefix}
 use Rattle.ct_word.specs.declared.kinds.Class.TheVariants as class
 use Rattle.ct_query.specs.Plain as plain
@@ -121,3 +121,9 @@ module _ (old : List ℕ) (s : Sight) (is : IsSight old s) (a : PlainAction) (li
     agrees = subst (AgreesWith (history_of old s) (actions_before s) a) (sym same) p.agrees;
     terms = subst (HasTermsFor (history_of old s) (actions_before s) a) (sym same) p.terms;
   }
+
+  -- it makes no more words than are counted for the action
+  pub effect_light : effect_words s.tables (plain_written old w) ≤ applying_words (count (history_of old s) (actions_before s)) a
+  effect_light =
+      let counts = count (history_of old s) (actions_before s) in
+      effect_within old (history_of old s) (actions_before s) s.tables is.denotes a (plain_written old w) (subst (IsLight counts a) (sym same) p.light)

@@ -1,10 +1,11 @@
 -- The bound on a statement's words grows with the counts of rows of the tables, and these grow with the history.
-use Rattle.std.{proofs.Common.{ℕ, ◌+◌, ◌*◌, ◌≤◌, Bool, true, false, List, [], ◌∷◌, ◌++◌, arith}, proofs.lemmas.Nat.mul-le}
+use Rattle.std.{proofs.Common.{ℕ, ◌+◌, ◌*◌, ◌≤◌, Bool, true, false, List, [], ◌∷◌, ◌++◌, arith}, proofs.lemmas.Nat.mul-le, proofs.lemmas.List.Sums.sum_by-le-sum_by}
 use Rattle.std.specs.Prelude.{Option, Some, None, option_map, unwrap_or, if◌then◌else◌}
 use Rattle.ct_word.{specs.declared.values.Term.Term, specs.Value.same_text, specs.Sublist.IsSublist, specs.Change.PlainCommit}
 use Rattle.ct_query.{specs.declared.action.Ask.Ask, specs.Plain.{PlainQuery, PlainAction, PlainStatement}, specs.Size.{row_bound, greatest}}
 use Rattle.ct_query.specs.Patterns.{Patterns, patterns, query_pattern, pattern_action, pattern_actions, with_lines, count}
-use Rattle.ct_query.specs.Bounds.{ops, terms, width, product_counts, partial_products, select_words, operator_words, side_words, query_words, nodes, list_words, change_words, own_words, bound}
+use Rattle.ct_query.specs.Bounds.{ops, terms, width, product_counts, partial_products, select_words, operator_words, side_words, query_words, nodes, list_words}
+use Rattle.ct_query.specs.Bounds.{change_words, applying_words, commit_words, catalogue_words, own_words, bound}
 use Rattle.ct_query.proofs.Sublists.{all_of, sublist-append, pattern_part}
 use Rattle.ct_table.proofs.QuerySizes.{row_bound_grows}
 use Rattle.ct_keeper.proofs.Counting.{distinct_grows, patterns_kept}
@@ -45,8 +46,16 @@ partial_products_grow p q (m ∷ ms) (n ∷ ns) le a =
     (partial_products_grow (p * m) (q * n) ms ns more a.1)
 partial_products_grow p q _ _ le a = absurd a
 
+-- more rows, no fewer words of a list
+pub lists_grow : (k : Ask) (r s w : ℕ) → r ≤ s → list_words k r w ≤ list_words k s w
+lists_grow ask.Rows r s w le = omega arith
+lists_grow ask.Possible r s w le = le
+lists_grow ask.Certain r s w le =
+    let row : r * (2 * w + 2) ≤ s * (2 * w + 2) = mul-le r (2 * w + 2) s (2 * w + 2) le (omega arith) in
+    mul-le r (r * (2 * w + 2) + w + 1) s (s * (2 * w + 2) + w + 1) le (omega (arith, row))
+
 -- an action makes words, by any counts
-action_makes : (counts : List ℕ → ℕ) (a : PlainAction) → 1 ≤ change_words counts a
+pub action_makes : (counts : List ℕ → ℕ) (a : PlainAction) → 1 ≤ change_words counts a
 action_makes counts (plain.Create name columns) = omega arith
 action_makes counts _ = omega arith
 
@@ -123,28 +132,49 @@ module _ (f g : List ℕ → ℕ) (each : (t : List ℕ) → f t ≤ g t) where
   pub nodes_grow : (q : PlainQuery) → nodes f q ≤ nodes g q
   nodes_grow q = known_grows (query_words f q) (query_words g q) (query_grows q)
 
-  lists_grow : (k : Ask) (r s w : ℕ) → r ≤ s → list_words k r w ≤ list_words k s w
-  lists_grow ask.Rows r s w le = omega arith
-  lists_grow ask.Possible r s w le = le
-  lists_grow ask.Certain r s w le =
-      let row : r * (2 * w + 2) ≤ s * (2 * w + 2) = mul-le r (2 * w + 2) s (2 * w + 2) le (omega arith) in
-      mul-le r (r * (2 * w + 2) + w + 1) s (s * (2 * w + 2) + w + 1) le (omega (arith, row))
+  change_grows : (a : PlainAction) → change_words f a ≤ change_words g a
+  change_grows (plain.InsertQuery name q) =
+      let more = nodes_grow q in
+      let rows = mul-le (row_bound f q) (width q + 2) (row_bound g q) (width q + 2) (rows_grow q) (omega arith) in
+      omega (arith, more, rows)
+  change_grows _ = omega arith
 
-  -- a COMMIT that may make a word may make one where there are more rows
-  commit_makes_still : (own : Option (List PlainAction)) → 1 ≤ own_words f own → 1 ≤ own_words g own
-  commit_makes_still (Some (a ∷ actions)) le = omega arith
-  commit_makes_still _ le = le
+  pub applying_grows : (a : PlainAction) → applying_words f a ≤ applying_words g a
+  applying_grows (plain.InsertQuery name q) = rows_grow q
+  applying_grows (plain.Delete name p) = mul-le (f name) (ops p + 2) (g name) (ops p + 2) (each name) (omega arith)
+  applying_grows _ = omega arith
 
-  -- so may a statement, in a transaction or outside
+  catalogue_grows : (own : Option (List PlainAction)) (a : PlainAction) → catalogue_words f own a ≤ catalogue_words g own a
+  catalogue_grows None a = applying_grows a
+  catalogue_grows (Some own) a = omega arith
+
+  commits_grow : (actions : List PlainAction) → commit_words f actions ≤ commit_words g actions
+  commits_grow [] = omega arith
+  commits_grow (a ∷ actions) =
+      let all = sum_by-le-sum_by (applying_words f) (applying_words g) (a ∷ actions) applying_grows in omega (arith, all)
+
+  own_grow : (own : Option (List PlainAction)) → own_words f own ≤ own_words g own
+  own_grow None = omega arith
+  own_grow (Some own) = commits_grow own
+
+  -- nor is the bound of a statement smaller, in a transaction or outside
+  pub bound_grows : (own : Option (List PlainAction)) (st : PlainStatement) → bound f own st ≤ bound g own st
+  bound_grows own (plain.Act a) =
+      add_le (change_words f a + applying_words f a) (catalogue_words f own a) (change_words g a + applying_words g a) (catalogue_words g own a)
+      (add_le (change_words f a) (applying_words f a) (change_words g a) (applying_words g a) (change_grows a) (applying_grows a)) (catalogue_grows own a)
+  bound_grows own (plain.Asks k columns q) =
+      add_le (nodes f q) (list_words k (row_bound f q) (width q)) (nodes g q) (list_words k (row_bound g q) (width q))
+      (nodes_grow q) (lists_grow k (row_bound f q) (row_bound g q) (width q) (rows_grow q))
+  bound_grows own plain.Begin = omega arith
+  bound_grows own plain.Commit = own_grow own
+  bound_grows own plain.Rollback = omega arith
+
+  -- so one that may make a word may make one where there are more rows
   pub makes_words_still : (own : Option (List PlainAction)) (st : PlainStatement) → 1 ≤ bound f own st → 1 ≤ bound g own st
-  makes_words_still own (plain.Act a) le = action_makes_words g own a
-  makes_words_still own (plain.Asks k columns q) le =
-      let more = nodes_grow q in let lists = lists_grow k (row_bound f q) (row_bound g q) (width q) (rows_grow q) in omega (arith, le, more, lists)
-  makes_words_still own plain.Commit le = commit_makes_still own le
-  makes_words_still own _ le = le
+  makes_words_still own st le = let more = bound_grows own st in omega (arith, le, more)
 
 -- patterns that are parts of others stay so with further cell lists, with those of an action, and with those of actions
-lines_part : (p p' : Patterns) (each : (n : List ℕ) → IsSublist (p n) (p' n)) (name : List ℕ) (more more' : List (List Term)) → IsSublist more more'
+pub lines_part : (p p' : Patterns) (each : (n : List ℕ) → IsSublist (p n) (p' n)) (name : List ℕ) (more more' : List (List Term)) → IsSublist more more'
     → (n : List ℕ) → IsSublist (with_lines p name more n) (with_lines p' name more' n)
 lines_part p p' each name more more' part n = by_test (same_text name n) where
   by_test : (b : Bool) → IsSublist (if b then p n ++ more else p n) (if b then p' n ++ more' else p' n)
@@ -156,7 +186,7 @@ action_part p p' each (plain.InsertRows name rs c) n = lines_part p p' each name
 action_part p p' each (plain.InsertQuery name q) n = lines_part p p' each name (query_pattern p q) (query_pattern p' q) (pattern_part p p' each q) n
 action_part p p' each _ n = each n
 
-actions_part : (p p' : Patterns) (each : (n : List ℕ) → IsSublist (p n) (p' n)) (actions : List PlainAction) (n : List ℕ)
+pub actions_part : (p p' : Patterns) (each : (n : List ℕ) → IsSublist (p n) (p' n)) (actions : List PlainAction) (n : List ℕ)
     → IsSublist (pattern_actions p actions n) (pattern_actions p' actions n)
 actions_part p p' each [] n = each n
 actions_part p p' each (a ∷ actions) n = actions_part (pattern_action p a) (pattern_action p' a) (action_part p p' each a) actions n

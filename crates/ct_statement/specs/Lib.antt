@@ -2,6 +2,7 @@ pub mod Sight
 pub mod Drawing
 pub mod Unmet
 pub mod Asking
+pub mod Making
 pub mod Printed
 pub mod Answered
 pub mod Proposals

@@ -10,6 +10,7 @@ use Rattle.ct_word.specs.Writable.{is_writable}
 use Rattle.ct_query.specs.Plain.{PlainAction}
 use Rattle.ct_query.specs.Agrees.{AgreesWith}
 use Rattle.ct_query.specs.Fits.{FitsChange}
+use Rattle.ct_query.specs.Patterns.{count}
 use Rattle.ct_query.specs.Schema.{schema}
 use Rattle.ct_resolve.specs.Writing.{WritesAction}
 use Rattle.ct_keeper.specs.Doing.{HasTermsFor}
@@ -18,6 +19,7 @@ use Rattle.ct_table.specs.Denotes.{Denotes}
 use Rattle.ct_table.specs.Snapshot.{IsGlobal, IsKeptWorld}
 use Rattle.ct_statement.specs.declared.sight.Sight.{Sight}
 use Rattle.ct_statement.specs.declared.stepping.Step.{Step}
+use Rattle.ct_statement.specs.Making.{IsLight}
 use Rattle.ct_statement.specs.Sight.{actions_before, history_of}
 
 -- the changes of a list that may not have been begun
@@ -25,13 +27,14 @@ abbrev pub listed : List ℕ → Option ℕ → List PlainChange
 listed words None = []
 listed words (Some place) = change_list_at words place
 
--- a change list is this one with the change of an action added, which agrees with the action, fits the tables that the
--- statement sees, and can be written, as the action can
+-- a change list is this one with the change of an action added, which agrees with the action and is light for it, fits the
+-- tables that the statement sees, and can be written, as the action can
 pub record IsProposal (words : List ℕ) (h : List PlainCommit) (before : List PlainAction) (list : List PlainChange) (a : PlainAction) (changes : ℕ) : Type 0 where
   pub change : PlainChange
   pub place : IsTrue (is_place_of words class.ChangeList changes)
   pub list_is : change_list_at words changes ≡ list ++ change ∷ []
   pub agrees : AgreesWith h before a change
+  pub light : IsLight (count h before) a change
   pub fits : FitsChange (schema h before).tables change
   pub writable : IsTrue (is_writable change)
   pub terms : HasTermsFor h before a change

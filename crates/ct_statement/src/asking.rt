@@ -1,8 +1,11 @@
 // Questions about a query: which of its rows are possible.
 
-ghost use Rattle.std.specs.Prelude.{◌≡◌, ◌≤◌, List, ℕ, length, map, IfOk, IfErr};
+ghost use Rattle.std.specs.Prelude.{◌≡◌, ◌≤◌, ◌+◌, None, [], List, ℕ, length, map, IfOk, IfErr};
 ghost use mathlib.Core.List.{IsPrefix};
+ghost use Rattle.ct_condition.specs.Writes.{charge};
+ghost use Rattle.ct_query.specs.Bounds.{bound, nodes};
 ghost use Rattle.ct_query.specs.Fits.{Fits, width};
+ghost use Rattle.ct_query.specs.Patterns.{count};
 ghost use Rattle.ct_query.specs.Plain as plain;
 ghost use Rattle.ct_query.specs.Schema.{schema};
 ghost use Rattle.ct_query.specs.Size.{rows_in, row_bound};
@@ -12,6 +15,7 @@ ghost use Rattle.ct_history.specs.Kept.{kept_of};
 ghost use Rattle.ct_table.specs.Counting.{count_of};
 ghost use Rattle.ct_transcript.specs.Possible.{PossibleRight};
 ghost use Rattle.ct_statement.specs.Asking.{AnswersQuery, IsUnasked};
+ghost use Rattle.ct_statement.specs.Making.{is_full};
 ghost use Rattle.ct_statement.specs.Sight.{IsSight, actions_before, history_of};
 ghost use Rattle.ct_statement.specs.Unmet.{IsUnmet};
 
@@ -30,7 +34,7 @@ use std::alloc::Global;
 /// The table that answers a query under the global condition. The pass has the words of it.
 ///
 /// # Errors
-/// `TooLarge` only where the query's size, by the counts of all rows that were ever inserted, is above 1,048,576; `Full`
+/// `TooLarge` only where the query's size, by the counts of all rows that were ever inserted, is above 16,777,216; `Full`
 /// only where the log has no room; `Memory`.
 pub(crate) fn answered<N: Site>(
     alloc: Global,
@@ -43,6 +47,7 @@ pub(crate) fn answered<N: Site>(
     requires fits { Fits (schema (history_of pass.old.words sight.now) (actions_before sight.now)).tables (query_of query.now) }
     ensures longer { IsPrefix pass.old.words pass.new.words }
     ensures kept { kept_of pass.new ≡ kept_of pass.old }
+    ensures made { pass.new.made + charge (is_full result) ≤ pass.old.made + nodes (count (history_of pass.old.words sight.now) (actions_before sight.now)) (query_of query.now) }
     ensures width { IfOk result (λ table. length table.columns ≡ width (schema (history_of pass.old.words sight.now) (actions_before sight.now)).tables (query_of query.now)) }
     ensures few { IfOk result (λ table. length table.rows ≤ row_bound (rows_in (map count_of sight.now.tables)) (query_of query.now)) }
     ensures ok { IfOk result (λ table. AnswersQuery pass.new.words sight.now.global (history_of pass.old.words sight.now) (actions_before sight.now) (query_of query.now) (length table.columns) table.rows) }
@@ -61,7 +66,7 @@ pub(crate) fn answered<N: Site>(
 /// The rows that a query has in some world, each with a world that shows it. The pass has the words of the questions.
 ///
 /// # Errors
-/// `TooLarge` only where the query's size, by the counts of all rows that were ever inserted, is above 1,048,576; `Full`
+/// `TooLarge` only where the query's size, by the counts of all rows that were ever inserted, is above 16,777,216; `Full`
 /// only where the log has no room; `Memory`.
 pub fn possible_rows<N: Site>(
     alloc: Global,
@@ -74,6 +79,7 @@ pub fn possible_rows<N: Site>(
     requires fits { Fits (schema (history_of pass.old.words sight.now) (actions_before sight.now)).tables (query_of query.now) }
     ensures longer { IsPrefix pass.old.words pass.new.words }
     ensures kept { kept_of pass.new ≡ kept_of pass.old }
+    ensures made { pass.new.made + charge (is_full result) ≤ pass.old.made + bound (count (history_of pass.old.words sight.now) (actions_before sight.now)) None (plain.Asks ask.Possible [] (query_of query.now)) }
     ensures ok { IfOk result (λ list. PossibleRight list (query_of query.now) (history_of pass.old.words sight.now) (actions_before sight.now)) }
     ensures err { (columns : List (List ℕ)) → IfErr result (IsUnmet (history_of pass.old.words sight.now) (actions_before sight.now) N.log.cap pass.new.words (plain.Asks ask.Possible columns (query_of query.now))) }
 {

@@ -1,14 +1,18 @@
 // Questions about a query: which of its tuples are certain.
 
-ghost use Rattle.std.specs.Prelude.{◌≡◌, List, ℕ, length, IfOk, IfErr};
+ghost use Rattle.std.specs.Prelude.{◌≡◌, ◌≤◌, ◌+◌, None, [], List, ℕ, length, IfOk, IfErr};
 ghost use mathlib.Core.List.{IsPrefix};
+ghost use Rattle.ct_condition.specs.Writes.{charge};
+ghost use Rattle.ct_query.specs.Bounds.{bound};
 ghost use Rattle.ct_query.specs.Fits.{Fits, width};
+ghost use Rattle.ct_query.specs.Patterns.{count};
 ghost use Rattle.ct_query.specs.Plain as plain;
 ghost use Rattle.ct_query.specs.Schema.{schema};
 ghost use Rattle.ct_query.specs.Views.{query_of};
 ghost use Rattle.ct_query.specs.declared.action.Ask.TheVariants as ask;
 ghost use Rattle.ct_history.specs.Kept.{kept_of};
 ghost use Rattle.ct_transcript.specs.Certain.{CertainRight};
+ghost use Rattle.ct_statement.specs.Making.{is_full};
 ghost use Rattle.ct_statement.specs.Sight.{IsSight, actions_before, history_of};
 ghost use Rattle.ct_statement.specs.Unmet.{IsUnmet};
 
@@ -27,7 +31,7 @@ use std::alloc::Global;
 /// questions, over which the refutations are accepted.
 ///
 /// # Errors
-/// `TooLarge` only where the query's size, by the counts of all rows that were ever inserted, is above 1,048,576; `Full`
+/// `TooLarge` only where the query's size, by the counts of all rows that were ever inserted, is above 16,777,216; `Full`
 /// only where the log has no room; `Memory`.
 pub fn certain_rows<N: Site>(
     alloc: Global,
@@ -40,6 +44,7 @@ pub fn certain_rows<N: Site>(
     requires fits { Fits (schema (history_of pass.old.words sight.now) (actions_before sight.now)).tables (query_of query.now) }
     ensures longer { IsPrefix pass.old.words pass.new.words }
     ensures kept { kept_of pass.new ≡ kept_of pass.old }
+    ensures made { pass.new.made + charge (is_full result) ≤ pass.old.made + bound (count (history_of pass.old.words sight.now) (actions_before sight.now)) None (plain.Asks ask.Certain [] (query_of query.now)) }
     ensures ok { IfOk result (λ list. CertainRight list (query_of query.now) (history_of pass.old.words sight.now) (actions_before sight.now) pass.new.words) }
     ensures err { (columns : List (List ℕ)) → length columns ≡ width (schema (history_of pass.old.words sight.now) (actions_before sight.now)).tables (query_of query.now) → IfErr result (IsUnmet (history_of pass.old.words sight.now) (actions_before sight.now) N.log.cap pass.new.words (plain.Asks ask.Certain columns (query_of query.now))) }
 {
@@ -49,7 +54,10 @@ pub fn certain_rows<N: Site>(
     };
     let _ = pass.words();
     let made = pass.made();
-    let list = match certain(alloc, arena, pass, &table, sight.global, &sight.kept) {
+    let listed = certain(alloc, arena, pass, &table, sight.global, &sight.kept);
+    // A session has made fewer than 2^28 words.
+    let _ = pass.words();
+    let list = match listed {
         Ok(list) => list,
         Err(e) => return Err(unlisted(e, made, pass.made())),
     };

@@ -1,11 +1,14 @@
 // The change that a statement proposes.
 
-ghost use Rattle.std.specs.Prelude.{◌≡◌, ◌+◌, ◌<◌, ◌^◌, [], true, map, length, IfOk, IfErr, IfSome, IsTrue, OnErr};
+ghost use Rattle.std.specs.Prelude.{◌≡◌, ◌+◌, ◌<◌, ◌≤◌, ◌^◌, ℕ, List, [], true, is_err, map, length, IfOk, IfErr, IfSome, IsTrue, OnErr};
 ghost use mathlib.Core.List.{IsPrefix};
 ghost use Rattle.ct_word.specs.declared.kinds.Class.TheVariants as class;
 ghost use Rattle.ct_word.specs.Reading.{change_list_at};
 ghost use Rattle.ct_word.specs.WellFormed.{is_place_of};
+ghost use Rattle.ct_condition.specs.Writes.{charge};
+ghost use Rattle.ct_query.specs.Bounds.{change_words};
 ghost use Rattle.ct_query.specs.Fits.{FitsAction};
+ghost use Rattle.ct_query.specs.Patterns.{count};
 ghost use Rattle.ct_query.specs.Plain as plain;
 ghost use Rattle.ct_query.specs.Schema.{schema};
 ghost use Rattle.ct_query.specs.Views.{action_of};
@@ -14,6 +17,7 @@ ghost use Rattle.ct_history.specs.Kept.{kept_of};
 ghost use Rattle.ct_resolve.specs.Writing.{WritesAction};
 ghost use Rattle.ct_table.specs.Denotes.{heading_of};
 ghost use Rattle.ct_statement.specs.Drawing.{drawn};
+ghost use Rattle.ct_statement.specs.Making.{is_full, taken_rows, taking_words};
 ghost use Rattle.ct_statement.specs.Proposals.{IsProposal, listed};
 ghost use Rattle.ct_statement.specs.Sight.{IsSight, actions_before, history_of};
 ghost use Rattle.ct_statement.specs.Sources.{AreTakenFor, is_literal};
@@ -69,6 +73,7 @@ fn begun<N: Site>(arena: &Arena<N>, pass: &mut Pass<N>, list: Option<u32>) -> Re
     ensures longer { IsPrefix pass.old.words pass.new.words }
     ensures full { OnErr result (length pass.new.words ≡ N.log.cap) }
     ensures kept { kept_of pass.new ≡ kept_of pass.old }
+    ensures made { pass.new.made + charge (is_err result) ≤ pass.old.made + 1 }
 {
     match list {
         None => match no_changes(arena, pass) {
@@ -86,7 +91,7 @@ fn begun<N: Site>(arena: &Arena<N>, pass: &mut Pass<N>, list: Option<u32>) -> Re
 /// The rows that an action takes from its query; none where it has no query. The pass has the words of it.
 ///
 /// # Errors
-/// `TooLarge` only where the query's size, by the counts of all rows that were ever inserted, is above 1,048,576; `Full`
+/// `TooLarge` only where the query's size, by the counts of all rows that were ever inserted, is above 16,777,216; `Full`
 /// only where the log has no room; `Memory`.
 fn taken_for<N: Site>(
     alloc: Global,
@@ -99,6 +104,8 @@ fn taken_for<N: Site>(
     requires fits { FitsAction (schema (history_of pass.old.words sight.now) (actions_before sight.now)).tables (action_of action.now) }
     ensures longer { IsPrefix pass.old.words pass.new.words }
     ensures kept { kept_of pass.new ≡ kept_of pass.old }
+    ensures made { pass.new.made + charge (is_full result) ≤ pass.old.made + taking_words (count (history_of pass.old.words sight.now) (actions_before sight.now)) (action_of action.now) }
+    ensures few { IfOk result (λ rows. length rows ≤ taken_rows (count (history_of pass.old.words sight.now) (actions_before sight.now)) (action_of action.now)) }
     ensures rows { IfOk result (AreTakenFor pass.new.words sight.now.global (history_of pass.old.words sight.now) (actions_before sight.now) (action_of action.now)) }
     ensures err { IfErr result (IsUnmet (history_of pass.old.words sight.now) (actions_before sight.now) N.log.cap pass.new.words (plain.Act (action_of action.now))) }
 {
@@ -118,7 +125,7 @@ fn taken_for<N: Site>(
 ///
 /// # Errors
 /// `TooLarge` only where the size of the action's query, by the counts of all rows that were ever inserted, is above
-/// 1,048,576; `Full` only where the log has no room; `Memory`.
+/// 16,777,216; `Full` only where the log has no room; `Memory`.
 fn added<N: Site>(
     alloc: Global,
     arena: &Arena<N>,
@@ -133,6 +140,7 @@ fn added<N: Site>(
     requires written { WritesAction (action_of action.now) }
     ensures longer { IsPrefix pass.old.words pass.new.words }
     ensures kept { kept_of pass.new ≡ kept_of pass.old }
+    ensures made { pass.new.made + charge (is_full result) + 1 ≤ pass.old.made + change_words (count (history_of pass.old.words sight.now) (actions_before sight.now)) (action_of action.now) }
     ensures proposes { IfOk result (IsProposal pass.new.words (history_of pass.old.words sight.now) (actions_before sight.now) (listed pass.old.words list) (action_of action.now)) }
     ensures err { IfErr result (IsUnmet (history_of pass.old.words sight.now) (actions_before sight.now) N.log.cap pass.new.words (plain.Act (action_of action.now))) }
 {
@@ -149,18 +157,19 @@ fn added<N: Site>(
         Ok(rows) => rows,
         Err(why) => return Err(why),
     };
-    let changes = match encode(arena, pass, list, action, rows.as_slice()) {
-        Ok(changes) => changes,
-        Err(_) => return Err(Refusal::Full),
-    };
+    let encoded = encode(arena, pass, list, action, rows.as_slice());
+    // The words are well formed, and a session has made fewer than 2^28 of them.
     let _ = pass.words();
-    Ok(changes)
+    match encoded {
+        Ok(changes) => Ok(changes),
+        Err(_) => Err(Refusal::Full),
+    }
 }
 
 /// The change of an action, added to the list at a place, or to a new one. The pass has the words of it.
 ///
 /// # Errors
-/// `TooLarge` only where the size of its query, by the counts of all rows that were ever inserted, is above 1,048,576;
+/// `TooLarge` only where the size of its query, by the counts of all rows that were ever inserted, is above 16,777,216;
 /// `Full` only where the log has no room; `Memory`.
 pub fn propose<N: Site>(
     alloc: Global,
@@ -177,6 +186,7 @@ pub fn propose<N: Site>(
     requires written { WritesAction (action_of action) }
     ensures longer { IsPrefix pass.old.words pass.new.words }
     ensures kept { kept_of pass.new ≡ kept_of pass.old }
+    ensures made { pass.new.made + charge (is_full result) + 1 ≤ pass.old.made + change_words (count (history_of pass.old.words sight.now) (actions_before sight.now)) (action_of action) }
     ensures action { IfOk result (λ p. action_of p.action ≡ action_of action) }
     ensures fresh { IfOk result (λ p. p.fresh ≡ fresh + drawn (action_of action)) }
     ensures proposes { IfOk result (λ p. IsProposal pass.new.words (history_of pass.old.words sight.now) (actions_before sight.now) (listed pass.old.words list) (action_of action) p.changes) }
@@ -229,6 +239,7 @@ fn added_literal<N: Site>(
     requires written { WritesAction (action_of action.now) }
     ensures longer { IsPrefix pass.old.words pass.new.words }
     ensures kept { kept_of pass.new ≡ kept_of pass.old }
+    ensures made { (counts : List ℕ → ℕ) → pass.new.made + charge (is_full result) + 1 ≤ pass.old.made + change_words counts (action_of action.now) }
     ensures proposes { (s : SightValue) → IsSight pass.old.words s → FitsAction (schema (history_of pass.old.words s) (actions_before s)).tables (action_of action.now) → IfOk result (IsProposal pass.new.words (history_of pass.old.words s) (actions_before s) [] (action_of action.now)) }
     ensures err { IfErr result (IsWant N.log.cap pass.new.words) }
 {
@@ -237,12 +248,12 @@ fn added_literal<N: Site>(
         Err(_) => return Err(Refusal::Full),
     };
     let _ = pass.words();
-    let changes = match encode(arena, pass, list, action, &[]) {
-        Ok(changes) => changes,
-        Err(_) => return Err(Refusal::Full),
-    };
+    let encoded = encode(arena, pass, list, action, &[]);
     let _ = pass.words();
-    Ok(changes)
+    match encoded {
+        Ok(changes) => Ok(changes),
+        Err(_) => Err(Refusal::Full),
+    }
 }
 
 /// The change of an action that is all in its text, in a new list. The pass has the words of it. What its statement saw may
@@ -261,6 +272,7 @@ pub fn propose_literal<N: Site>(
     requires written { WritesAction (action_of action) }
     ensures longer { IsPrefix pass.old.words pass.new.words }
     ensures kept { kept_of pass.new ≡ kept_of pass.old }
+    ensures made { (counts : List ℕ → ℕ) → pass.new.made + charge (is_full result) + 1 ≤ pass.old.made + change_words counts (action_of action) }
     ensures action { IfOk result (λ p. action_of p.action ≡ action_of action) }
     ensures fresh { IfOk result (λ p. p.fresh ≡ fresh + drawn (action_of action)) }
     ensures proposes { (s : SightValue) → IsSight pass.old.words s → FitsAction (schema (history_of pass.old.words s) (actions_before s)).tables (action_of action) → IfOk result (λ p. IsProposal pass.new.words (history_of pass.old.words s) (actions_before s) [] (action_of action) p.changes) }

@@ -1,13 +1,17 @@
 // What a query is asked.
 
-ghost use Rattle.std.specs.Prelude.{◌≡◌, length, IfOk, IfErr};
+ghost use Rattle.std.specs.Prelude.{◌≡◌, ◌≤◌, ◌+◌, None, [], length, IfOk, IfErr};
 ghost use mathlib.Core.List.{IsPrefix};
+ghost use Rattle.ct_condition.specs.Writes.{charge};
+ghost use Rattle.ct_query.specs.Bounds.{bound};
 ghost use Rattle.ct_query.specs.Fits.{Fits, width};
+ghost use Rattle.ct_query.specs.Patterns.{count};
 ghost use Rattle.ct_query.specs.Plain as plain;
 ghost use Rattle.ct_query.specs.Schema.{schema};
 ghost use Rattle.ct_query.specs.Views.{query_of};
 ghost use Rattle.ct_history.specs.Kept.{kept_of};
 ghost use Rattle.ct_statement.specs.Answered.{Answers};
+ghost use Rattle.ct_statement.specs.Making.{is_full};
 ghost use Rattle.ct_statement.specs.Sight.{IsSight, actions_before, history_of};
 ghost use Rattle.ct_statement.specs.Unmet.{IsUnmet};
 
@@ -40,7 +44,7 @@ pub enum Answered {
 /// has the words of it.
 ///
 /// # Errors
-/// `TooLarge` only where the query's size, by the counts of all rows that were ever inserted, is above 1,048,576; `Full`
+/// `TooLarge` only where the query's size, by the counts of all rows that were ever inserted, is above 16,777,216; `Full`
 /// only where the log has no room, and the statement may need a word; `Memory`.
 pub fn answer_to<N: Site>(
     alloc: Global,
@@ -56,6 +60,7 @@ pub fn answer_to<N: Site>(
     requires named { length columns ≡ width (schema (history_of pass.old.words sight.now) (actions_before sight.now)).tables (query_of query.now) }
     ensures longer { IsPrefix pass.old.words pass.new.words }
     ensures kept { kept_of pass.new ≡ kept_of pass.old }
+    ensures made { pass.new.made + charge (is_full result) ≤ pass.old.made + bound (count (history_of pass.old.words sight.now) (actions_before sight.now)) None (plain.Asks kind [] (query_of query.now)) }
     ensures ok { IfOk result (Answers (history_of pass.old.words sight.now) (actions_before sight.now) pass.new.words kind columns (query_of query.now)) }
     ensures err { IfErr result (IsUnmet (history_of pass.old.words sight.now) (actions_before sight.now) N.log.cap pass.new.words (plain.Asks kind columns (query_of query.now))) }
 {

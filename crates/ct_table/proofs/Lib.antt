@@ -5,6 +5,7 @@ pub mod Putting
 pub mod Joining
 pub mod QuerySizes
 pub mod Counted
+pub mod Counts
 pub mod ByTables
 pub mod Shared
 pub mod Changing

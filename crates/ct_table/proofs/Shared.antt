@@ -1,9 +1,10 @@
 -- Shared tables, as the list that contracts see.
-use Rattle.std.{proofs.Common.{◌≡◌, ℕ, Bool, true, false, cond, List, [], ◌∷◌, ◌++◌, length, map, set, refl, ap, sym, subst, ◌∙◌}, specs.Map.set_value}
-use Rattle.std.specs.Prelude.{nat_eq, nat_lt, if◌then◌else◌, position, Option, Some, None, IsSome, Result, Ok, Err, OnOk, OnErr, IsOk}
-use Rattle.std.{proofs.lemmas.Bool.false≢true, specs.List.position_or_len, specs.Cmp.Lexicographic.pointwise}
+use Rattle.std.{proofs.Common.{◌≡◌, ℕ, ◌≤◌, ◌<◌, Bool, true, false, cond, List, [], ◌∷◌, ◌++◌, length, map, get_or, set, refl, ap, sym, subst, ◌∙◌}, specs.Map.set_value}
+use Rattle.std.specs.Prelude.{nat_eq, nat_lt, if◌then◌else◌, position, slice_get, Option, Some, None, IsSome, IfSome, MatchOption, Result, Ok, Err, OnOk, OnErr, IsOk}
+use Rattle.std.{proofs.lemmas.Bool.false≢true, specs.Borrow.Bor, proofs.lemmas.Option.{slice_get_past, slice_get_read}, specs.List.{HoldsAt, position_or_len}, specs.Cmp.Lexicographic.pointwise}
 use Rattle.indexmap.specs.IndexMap.{insert_entry}
 use Rattle.ct_query.specs.declared.schema.Heading.{Heading}
+use Rattle.ct_headings.specs.Named.{heading_in}
 use Rattle.ct_word.{specs.Value.same_text, proofs.Alike.text_decides, specs.declared.values.CRow.CRow}
 use Rattle.ct_operators.{specs.Merging.rows_of, specs.declared.table.CTable.CTable}
 use Rattle.ct_table.{specs.Denotes.{TableView, heading_of, find_table, with_table}, specs.Shared.{view_of, entry_of}, specs.Pending.put_into}
@@ -75,6 +76,33 @@ heading_set k x y h is (e ∷ es) found = cases (same_text k e.0)
     ap (λ i. set (headings_in (e ∷ es)) i h) (at_miss k e es p)
     ∙ ap (λ hs. heading_of (entry_of e) ∷ hs) (heading_set k x y h is es (sym (find_miss k e es p) ∙ found))
     ∙ sym (ap headings_in (put_miss k x e es p)))
+
+-- the heading of a name that is there stands at the place of its entry
+pub heading_at : (k : List ℕ) (es : List (List ℕ × CTable)) (i : ℕ) → i ≡ place_of k es → IsSome (value_at k es) → slice_get (headings_in es) i ≡ heading_in (headings_in es) k
+heading_at k es i at there = ap (slice_get (headings_in es)) at ∙ at_place es there where
+  at_place : (es : List (List ℕ × CTable)) → IsSome (value_at k es) → slice_get (headings_in es) (place_of k es) ≡ heading_in (headings_in es) k
+  at_place [] there = absurd (false≢true there)
+  at_place (e ∷ es) there = cases (same_text k e.0)
+      (λ p.
+      ap (slice_get (headings_in (e ∷ es))) (at_hit k e es p)
+      ∙ sym (ap (λ b. if b then Some (heading_of (entry_of e)) else heading_in (headings_in es) k) ((text_decides e.0 k).1 (sym ((text_decides k e.0).0 p)))))
+      (λ p.
+      ap (slice_get (headings_in (e ∷ es))) (at_miss k e es p)
+      ∙ at_place es (subst IsSome (find_miss k e es p) there)
+      ∙ sym (ap (λ b. if b then Some (heading_of (entry_of e)) else heading_in (headings_in es) k) (unalike k e.0 p)))
+
+-- one of a name that is not there stands nowhere
+pub heading_missing : (k : List ℕ) (es : List (List ℕ × CTable)) → value_at k es ≡ None → heading_in (headings_in es) k ≡ None
+heading_missing k [] none = refl
+heading_missing k (e ∷ es) none = cases (same_text k e.0)
+    (λ p. none_some e.1 (value_at k (e ∷ es)) none (find_hit k e es p))
+    (λ p. ap (λ b. if b then Some (heading_of (entry_of e)) else heading_in (headings_in es) k) (unalike k e.0 p) ∙ heading_missing k es (sym (find_miss k e es p) ∙ none))
+
+-- what stands at a place, or that it is past the last one
+pub found_as : {A : Type 0} (xs : List A) (i : ℕ) (o : Option (Bor A)) (x : Option A) → MatchOption o (length xs ≤ i) (λ b. (i < length xs) × HoldsAt (λ y. b.now ≡ y) xs i)
+    → IfSome o (λ b. b.now ≡ get_or xs i b.now) → slice_get xs i ≡ x → MatchOption o (x ≡ None) (λ b. x ≡ Some b.now)
+found_as xs i None x past value is = sym is ∙ slice_get_past xs i past
+found_as xs i (Some b) x within value is = sym is ∙ slice_get_read xs (length xs) i b.now refl within.0 value
 
 found_none : (k : List ℕ) (es : List (List ℕ × CTable)) → IsSome (value_at k es) → (y : CTable) × (value_at k es ≡ Some y)
 found_none k es there = by_entry (value_at k es) refl there where

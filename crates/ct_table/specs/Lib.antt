@@ -2,6 +2,7 @@ pub mod Denotes
 pub mod Snapshot
 pub mod Following
 pub mod Shared
+pub mod Headed
 pub mod Counting
 pub mod Growing
 pub mod Turn

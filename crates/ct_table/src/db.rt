@@ -1,15 +1,20 @@
 // The tables of a database, each shared.
 
-ghost use Rattle.std.specs.Prelude.{◌≡◌, List, [], map, min, Some, None, IfOk, OnOk, OnErr, MatchOption, MatchResult, length};
+ghost use Rattle.std.specs.Prelude.{◌≡◌, List, [], map, Some, None, IfOk, OnOk, OnErr, MatchOption, MatchResult};
+ghost use Rattle.ct_query.specs.Reads.{tables_of};
+ghost use Rattle.ct_query.specs.Size.{rows_in, size};
+ghost use Rattle.ct_query.specs.Views.{query_of};
 ghost use Rattle.ct_table.specs.Denotes.{TableView, heading_of, find_table, with_table};
 ghost use Rattle.ct_table.specs.Shared.{view_of, entry_of};
 ghost use Rattle.ct_table.specs.Pending.{FitsGrowth, after, turn_of};
-ghost use Rattle.ct_table.specs.Counting.{count_of};
+ghost use Rattle.ct_table.specs.Counting.{count_at, count_of};
 
+use crate::counting::add_counts;
 use crate::pending::{Growth, Pending, PendingRows, PendingTable};
 use crate::sharing::SharedTable;
+use ct_headings::Headings;
 use ct_operators::CTable;
-use ct_query::{Count, Counts, Heading, Schema};
+use ct_query::{Counts, Heading, Query, Schema};
 use ct_word::{List, Memory, Text};
 use indexmap::IndexMap;
 use std::alloc::{AllocError, Global};
@@ -84,17 +89,17 @@ impl Db {
         })
     }
 
-    /// The numbers of rows and columns of the tables. A number of columns stops at the greatest `u32`.
+    /// The numbers of rows and columns of the tables that a query names, one for each time that it names a table, and 0 of
+    /// both for a name that is not there. By them the query has the size that it has by those of all tables.
     ///
     /// # Errors
     /// `Memory` where there is none for the copies of the names.
-    pub fn counts(&self, alloc: Global) -> Result<Counts, Memory>
-        ensures { IfOk result (λ c. c.tables ≡ map count_of self.now) }
+    pub fn counts_of(&self, alloc: Global, q: &Query) -> Result<Counts, Memory>
+        ensures tables { IfOk result (λ c. c.tables ≡ map (count_at self.now) (tables_of (query_of q.now))) }
+        ensures same_size { IfOk result (λ c. size (rows_in c.tables) (query_of q.now) ≡ size (rows_in (map count_of self.now)) (query_of q.now)) }
     {
         let mut counts = Vec::new(alloc);
-        for (name, table) in self.tables.iter() {
-            counts.push(count(name, table)?)?;
-        }
+        add_counts(&mut counts, self, q)?;
         Ok(Counts {
             tables: List::from_vec(counts),
         })
@@ -154,6 +159,20 @@ impl Db {
     }
 }
 
+/// Each table is found by its name without going along all of them.
+impl Headings for Db {
+    ghost use Rattle.ct_table.specs.Headed.{schema_of};
+
+    ghost schema = { λ d. schema_of d };
+
+    fn heading(&self, name: &Text) -> Option<&Heading> {
+        match self.tables.get_index_of(name) {
+            Some(place) => self.headings.tables.as_slice().get(place),
+            None => None,
+        }
+    }
+}
+
 /// The name and the columns of a table.
 pub(crate) fn heading(name: &Text, table: &SharedTable) -> Result<Heading, Memory>
     ensures { IfOk result (λ h. h ≡ heading_of (view_of name.now table.now)) }
@@ -162,22 +181,4 @@ pub(crate) fn heading(name: &Text, table: &SharedTable) -> Result<Heading, Memor
         name: name.clone()?,
         columns: table.columns().clone()?,
     })
-}
-
-/// The name of a table, and its numbers of rows and columns.
-fn count(name: &Text, table: &SharedTable) -> Result<Count, Memory>
-    ensures { IfOk result (λ c. c ≡ count_of (view_of name.now table.now)) }
-{
-    Ok(Count {
-        name: name.clone()?,
-        rows: table.len() as u64,
-        columns: stopped(table.columns().len()),
-    })
-}
-
-/// The number, which stops at the greatest `u32`.
-fn stopped(number: usize) -> u32
-    ensures { result ≡ min number 4294967295 }
-{
-    u32::try_from(number).unwrap_or(u32::MAX)
 }

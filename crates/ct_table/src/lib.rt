@@ -1,6 +1,7 @@
 //! Tables of a database, with the operators on them: what they denote, and how they grow by a change.
 #![tactic(auto)]
 
+mod counting;
 mod db;
 mod insertion;
 mod pending;

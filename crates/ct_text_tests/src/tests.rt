@@ -1,4 +1,5 @@
 mod command_line;
+mod csv_files;
 mod generated;
 mod outside;
 mod queries;

@@ -1,7 +1,7 @@
 //! The log and the trail of a propositional search: clauses that were added and learned, and the literals that are true.
 //!
 //! Each step keeps what is true of both (`specs/Standing.antt`). From a false clause a new one is
-//! learned, up to the first unique implication point (Marques-Silva and Sakallah 1999).
+//! learned, up to the first unique implication point (Marques-Silva and Sakallah 1999; no clause says so).
 #![tactic(auto)]
 
 mod analysis;

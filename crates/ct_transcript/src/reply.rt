@@ -36,7 +36,7 @@ pub enum Refusal {
     /// Numbers of columns differ.
     ColumnCount,
     /// By the counts of all rows that were ever inserted, the greatest part of the query goes through more than
-    /// 1,048,576 rows or pairs of rows.
+    /// 16,777,216 rows or pairs of rows.
     TooLarge,
     /// The log has as many words as its capacity, and the statement may need a word.
     Full,

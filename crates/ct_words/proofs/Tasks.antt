@@ -2,7 +2,7 @@
 use Rattle.std.{proofs.Common.{◌≡◌, true, false, List, [], ◌∷◌, None, codes, refl}, specs.Borrow.Bor}
 use Rattle.clap.specs.Words.{Text}
 use Rattle.ct_word.specs.Value.{same_text}
-use Rattle.ct_words.specs.Asked.{task, task_of_run, task_of_fill, task_of_check, task_of_prove, texts_of}
+use Rattle.ct_words.specs.Asked.{task, task_of_run, task_of_fill, task_of_check, task_of_prove, task_of_import, task_of_export, texts_of}
 
 pub no_words : (all : List (Bor Text)) → all ≡ [] → None ≡ task (texts_of all)
 no_words all is = rw is refl
@@ -23,6 +23,12 @@ module _ (all : List (Bor Text)) (word : Bor Text) (rest : List (Bor Text)) (is 
         → task_of_prove (texts_of rest) ≡ task (texts_of all)
     prove_words check prove = rw (is, run, fill, check, prove) refl
 
-    pub other_words : same_text word.now (codes "check") ≡ false → same_text word.now (codes "prove") ≡ false
-        → None ≡ task (texts_of all)
-    other_words check prove = rw (is, run, fill, check, prove) refl
+    module _ (check : same_text word.now (codes "check") ≡ false) (prove : same_text word.now (codes "prove") ≡ false) where
+      pub import_words : same_text word.now (codes "import") ≡ true → task_of_import (texts_of rest) ≡ task (texts_of all)
+      import_words imports = rw (is, run, fill, check, prove, imports) refl
+
+      pub export_words : same_text word.now (codes "import") ≡ false → same_text word.now (codes "export") ≡ true → task_of_export (texts_of rest) ≡ task (texts_of all)
+      export_words imports exports = rw (is, run, fill, check, prove, imports, exports) refl
+
+      pub other_words : same_text word.now (codes "import") ≡ false → same_text word.now (codes "export") ≡ false → None ≡ task (texts_of all)
+      other_words imports exports = rw (is, run, fill, check, prove, imports, exports) refl

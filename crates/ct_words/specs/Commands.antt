@@ -1,7 +1,8 @@
--- The commands `run [--arena N] FILE...`, `fill N`, `check FILE` and `prove K FILE`, as the crate clap defines what they take.
+-- The commands `run [--arena N] [--first] FILE...`, `fill N`, `check FILE`, `prove K FILE`, `import NAME CSV FILE`
+-- and `export NAME FILE`, as the crate clap defines what they take.
 use Rattle.std.specs.Prelude.{List, [], ◌∷◌, Option, Some, None, true, codes, option_map}
 use Rattle.clap.specs.Words.{App, Kinds, Row, Rule, Text, fault_of, found_of, matches_of, new_app, new_rule, rows_of, with_rule}
-use Rattle.clap.specs.declared.builder.ArgAction.TheVariants.{Set, Append}
+use Rattle.clap.specs.declared.builder.ArgAction.TheVariants.{Set, Append, SetTrue}
 use Rattle.clap.specs.declared.parser.matches.ArgMatches.{ArgMatches}
 
 -- the option with the capacity of the log
@@ -11,6 +12,10 @@ arena = record (new_rule (codes "arena")) {
   action = Some Set;
   defaults = codes "262144" ∷ [];
 }
+
+-- the flag that lets the first file's session come to its end before the others begin
+abbrev pub first : Rule
+first = record (new_rule (codes "first")) { long = Some (codes "first"); action = Some SetTrue }
 
 -- the files to run
 abbrev pub file : Rule
@@ -35,7 +40,7 @@ plain name = let a = new_app name in record a {
 }
 
 unfoldable pub run_app : App
-run_app = with_rule (with_rule (plain (codes "run")) arena) file
+run_app = with_rule (with_rule (with_rule (plain (codes "run")) arena) first) file
 
 unfoldable pub fill_app : App
 fill_app = with_rule (plain (codes "fill")) (one (codes "n"))
@@ -45,6 +50,12 @@ check_app = with_rule (plain (codes "check")) (one (codes "file"))
 
 unfoldable pub prove_app : App
 prove_app = with_rule (with_rule (plain (codes "prove")) (one (codes "reply"))) (one (codes "file"))
+
+unfoldable pub import_app : App
+import_app = with_rule (with_rule (with_rule (plain (codes "import")) (one (codes "name"))) (one (codes "csv"))) (one (codes "file"))
+
+unfoldable pub export_app : App
+export_app = with_rule (with_rule (plain (codes "export")) (one (codes "name"))) (one (codes "file"))
 
 -- the rows, unless a kind of fault may come
 abbrev pub unless_fault : Kinds → List Row → Option (List Row)

@@ -3,7 +3,7 @@
 ghost use Rattle.std.specs.Prelude.{◌≡◌, IfOk, false, true};
 ghost use Rattle.clap.specs.Words.{app_of, rule_of, is_simple_and_free};
 ghost use Rattle.ct_words.specs.Asked.{texts_of};
-ghost use Rattle.ct_words.specs.Commands.{run_app, fill_app, check_app, prove_app, arena, file, one, plain, rows_in};
+ghost use Rattle.ct_words.specs.Commands.{run_app, fill_app, check_app, prove_app, import_app, export_app, arena, first, file, one, plain, rows_in};
 ghost use Rattle.ct_words.specs.Commands as commands;
 
 use clap::error::ErrorKind;
@@ -19,6 +19,15 @@ fn arena_arg<'a>(alloc: Global) -> Arg<'a>
         .long("arena")
         .action(ArgAction::Set)
         .default_value("262144")
+}
+
+fn first_arg<'a>(alloc: Global) -> Arg<'a>
+    ensures rule { rule_of result ≡ first }
+    ensures local { result.global ≡ false }
+{
+    Arg::new(alloc, "first")
+        .long("first")
+        .action(ArgAction::SetTrue)
 }
 
 fn file_arg<'a>(alloc: Global) -> Arg<'a>
@@ -47,7 +56,7 @@ fn plain_command<'a>(alloc: Global, name: &'a str) -> Command<'a>
         .disable_version_flag(true)
 }
 
-/// The command of `run [--arena N] FILE...`.
+/// The command of `run [--arena N] [--first] FILE...`.
 ///
 /// # Errors
 /// `Memory` where there is none for the command.
@@ -56,7 +65,8 @@ pub(crate) fn run_command<'a>(alloc: Global) -> Result<Command<'a>, Memory>
 {
     let plain = plain_command(alloc, "run");
     let with_arena = plain.arg(arena_arg(alloc))?;
-    let command = with_arena.arg(file_arg(alloc))?;
+    let with_first = with_arena.arg(first_arg(alloc))?;
+    let command = with_first.arg(file_arg(alloc))?;
     Ok(command)
 }
 
@@ -94,6 +104,33 @@ pub(crate) fn prove_command<'a>(alloc: Global) -> Result<Command<'a>, Memory>
     let plain = plain_command(alloc, "prove");
     let with_reply = plain.arg(one_arg(alloc, "reply"))?;
     let command = with_reply.arg(one_arg(alloc, "file"))?;
+    Ok(command)
+}
+
+/// The command of `import NAME CSV FILE`.
+///
+/// # Errors
+/// `Memory` where there is none for the command.
+pub(crate) fn import_command<'a>(alloc: Global) -> Result<Command<'a>, Memory>
+    ensures { IfOk result (λ command. app_of command ≡ import_app) }
+{
+    let plain = plain_command(alloc, "import");
+    let with_name = plain.arg(one_arg(alloc, "name"))?;
+    let with_csv = with_name.arg(one_arg(alloc, "csv"))?;
+    let command = with_csv.arg(one_arg(alloc, "file"))?;
+    Ok(command)
+}
+
+/// The command of `export NAME FILE`.
+///
+/// # Errors
+/// `Memory` where there is none for the command.
+pub(crate) fn export_command<'a>(alloc: Global) -> Result<Command<'a>, Memory>
+    ensures { IfOk result (λ command. app_of command ≡ export_app) }
+{
+    let plain = plain_command(alloc, "export");
+    let with_name = plain.arg(one_arg(alloc, "name"))?;
+    let command = with_name.arg(one_arg(alloc, "file"))?;
     Ok(command)
 }
 

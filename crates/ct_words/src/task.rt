@@ -1,14 +1,18 @@
 // What can be asked for.
 
+use ct_word::Text;
+
 /// What the words ask for.
 #[derive(Drop)]
 pub enum Asked<'a> {
     /// A session for each file, in their order, all on one log.
     Run {
-        /// How many words of 64 bits the log has: 64 to 1,048,576.
+        /// How many words of 64 bits the log has: 64 to 4,194,304.
         capacity: u32,
-        /// The names of the files, one to 64.
+        /// The names of the files, one to 64, or to 16 where the log has more than 1,048,576 words.
         files: Vec<&'a str>,
+        /// Whether the session of the first file comes to its end before the others begin.
+        is_first_alone: bool,
     },
     /// The sessions of generated scripts.
     Fill {
@@ -24,6 +28,22 @@ pub enum Asked<'a> {
     Prove {
         /// The number of the reply: 1 to 65,535.
         reply: u32,
+        /// The name of the file.
+        file: &'a str,
+    },
+    /// A session for one file, behind the script of a table that is in CSV.
+    Import {
+        /// The name of the table, in lower case.
+        name: Text,
+        /// The name of the CSV file.
+        csv: &'a str,
+        /// The name of the file with the script.
+        file: &'a str,
+    },
+    /// A session for one file, and the CSV file of a table after it.
+    Export {
+        /// The name of the table, in lower case.
+        name: Text,
         /// The name of the file.
         file: &'a str,
     },

@@ -52,7 +52,7 @@ IsNullNear words places v n = IsNullOf v n ⊎ IsNullBelow words places n
 abbrev pub IsMade : List ℕ → List ℕ → World → Value → Type 0
 IsMade words places v x = IsValueOf v x ⊎ (IsConstantBelow words places x ⊎ IsNumbered x)
 
--- a value of the world, a constant that stands below one of the places, or `@k` from a number on
+-- a value of the world, a constant that stands below one of the places, `@0`, or `@k` from a number on
 abbrev pub IsMadeFrom : List ℕ → List ℕ → ℕ → World → Value → Type 0
 IsMadeFrom words places next v x = IsValueOf v x ⊎ (IsConstantBelow words places x ⊎ IsFrom next x)
 
@@ -116,13 +116,13 @@ Each {X} P xs = (x : X) → Contains xs x → P x
 abbrev pub Adds : {X : Type 0} → (X → Type 0) → List X → List X → Type 0
 Adds {X} P old new = (x : X) → Contains new x → Contains old x ⊎ P x
 
--- a world with values of another one, constants of the equalities and values `@k` from a number on, nulls of the other one or of the equalities, and no null twice
+-- a world with values of another one, constants of the equalities, `@0` and values `@k` from a number on, nulls of the other one or of the equalities, and no null twice
 pub record IsDrawn (words : List ℕ) (wishes : List Wish) (next : ℕ) (old new : World) : Type 0 where
   pub values : Each (λ p. IsValueOf old p.1 ⊎ IsOf words wishes next p.1) new
   pub nulls : Each (λ p. IsNullOf old p.0 ⊎ IsNullSide words wishes p.0) new
   pub once : IsDistinct same_null (map (λ p. p.0) new)
 
--- a repaired world, whether or not the conditions hold in it, whose new values are `@0` and `@k` from a number on
+-- a repaired world, whether or not the conditions hold in it: its values are old ones, constants below the places, `@0` and `@k` from a number on
 pub record IsChanged (words places : List ℕ) (next : ℕ) (old new : World) : Type 0 where
   pub values : AllByRecursion (λ p. IsMadeFrom words places next old p.1) new
   pub nulls : AllByRecursion (λ p. IsNullNear words places old p.0) new

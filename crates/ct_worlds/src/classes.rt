@@ -1,4 +1,4 @@
-// Classes of nulls that have one value, as a policy: whatever they say, a world that they lead to is tried before it is used.
+// Classes of nulls that have one value, as a policy: nothing rests on what they say. Who uses `changed` has to try its world.
 
 use ct_word::Memory;
 use std::alloc::Global;

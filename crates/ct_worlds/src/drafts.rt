@@ -281,8 +281,8 @@ fn pairs_of(alloc: Global, draft: &Draft) -> Result<Vec<(Null, Value)>, Memory>
     Ok(pairs)
 }
 
-/// Gives each null of the wishes a value with which they come true, the new ones `@k` from this k on; false where that cannot
-/// be.
+/// Gives each null of the wishes a value with which they come true: a constant of theirs, `@0`, or `@k` from this k on; false where
+/// that cannot be.
 #[tactic(auto, using(crate::proofs::Drawing::adds_numbers, crate::proofs::Drawing::adds_still))]
 fn fulfil(
     alloc: Global,
@@ -319,7 +319,8 @@ fn blank(alloc: Global, count: usize) -> Result<Draft, Memory>
     })
 }
 
-/// A world like another one in which wishes come true, whose new values are `@k` from this k on; none where one cannot.
+/// A world like another one in which wishes come true; its new values are constants of theirs, `@0`, and `@k` from this k on. None
+/// where one cannot.
 pub(crate) fn drawn(
     alloc: Global,
     words: &[u64],

@@ -73,8 +73,8 @@ fn wishes_in(
     wishes(alloc, words, conditions, places, &truths)
 }
 
-/// A world made from another one so that conditions hold, as `repaired` makes it, but that it is not tried whether they do. Its
-/// new values are `@k` from this k on, and `@0`. The places are those of the conditions below these, and the nulls those below them.
+/// A world made from another one so that conditions hold, as `repaired` makes it, but that it is not tried whether they do. Each of
+/// its values is one of the other world, a constant below the conditions, `@0`, or `@k` for a k from `next` on. The places are those of the conditions below these, and the nulls those below them.
 ///
 /// # Errors
 /// `Memory` where there is none for the world and the conditions.
@@ -98,10 +98,10 @@ pub fn changed(
 
 /// A world in which conditions hold, made from another one: it gives no null twice, each null is one of the other world or
 /// stands below the conditions, and each value is one of the other world, a constant that stands below the conditions, or
-/// `@k` with k below 2^28. It chooses which equalities have to be true
-/// and which false, by what holds in the world at present where it can, gives nulls that are to be equal one value, and nulls
-/// that are to be different a value `@k` that no other has, where they had one value. It tries no other choice: None does not
-/// say that there is no such world.
+/// `@k` with k below 2^28. How it chooses is no clause: it means to choose which equalities have to be true and which false by
+/// what holds in the world at present where it can, to give nulls that are to be equal one value, and nulls that are to be
+/// different a value `@k` that no other has, where they had one value. It tries no other choice: None does not say that there
+/// is no such world.
 ///
 /// # Errors
 /// `Memory` where there is none for the world and what stands below the conditions.

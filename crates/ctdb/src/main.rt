@@ -1,6 +1,8 @@
-//! `ctdb run [--arena N] FILE...` runs a session for each script, and writes their transcript: every reply, then the history
-//! of commits. `ctdb fill N` runs four scripts that it makes, and writes what their sessions were answered in one line each.
+//! `ctdb run [--arena N] [--first] FILE...` runs a session for each script, and writes their transcript: every reply, then the
+//! history of commits. `ctdb fill N` runs four scripts that it makes, and writes what their sessions were answered in one line each.
 //! `ctdb prove K FILE` writes the certificate of reply K to a script, and `ctdb check FILE` judges a certificate.
+//! `ctdb import NAME CSV FILE` runs a script behind that of a table that is in CSV, and `ctdb export NAME FILE` writes a table
+//! after a script to CSV.
 #![tactic(auto)]
 
 mod saying;
@@ -27,22 +29,80 @@ fn filled(number: u32) -> u64 {
     4 * (u64::from(number) + 6)
 }
 
-/// The files that the words name, and how many statements are known before any of them is read.
-fn asked_of<'a>(alloc: Global, words: &'a [&'a str]) -> (Vec<&'a str>, u64) {
-    match asked(alloc, words) {
-        Ok(Some(Asked::Run { files, .. })) => (files, 0),
-        Ok(Some(Asked::Prove { file, .. })) => {
-            let files = Vec::from_slice(alloc, &[file]).unwrap_or(Vec::new(alloc));
-            (files, 0)
+/// What the scripts are called that are asked for, one of a table and a file by both names.
+fn names_of(alloc: Global, asked: &Asked<'_>) -> Result<Vec<String>> {
+    let mut names = Vec::new(alloc);
+    match asked {
+        Asked::Run { files, .. } => {
+            for file in files.iter() {
+                names.push(String::from_str(alloc, file)?)?;
+            }
         }
-        Ok(Some(Asked::Fill { number })) => (Vec::new(alloc), filled(number)),
-        _ => (Vec::new(alloc), 0),
+        Asked::Prove { file, .. } => names.push(String::from_str(alloc, file)?)?,
+        Asked::Export { file, .. } => names.push(String::from_str(alloc, file)?)?,
+        Asked::Import { csv, file, .. } => names.push(format!(in alloc; "{csv}+{file}")?)?,
+        Asked::Fill { .. } => {}
+        Asked::Check { .. } => {}
+    }
+    Ok(names)
+}
+
+/// How many statements are known before any file is read.
+fn known_of(asked: &Asked<'_>) -> u64 {
+    match asked {
+        Asked::Fill { number } => filled(*number),
+        _ => 0,
     }
 }
 
-/// Says what there is to say of a run with a transcript: of refused statements, where there are some, and what to note.
-fn remark<R: AllocGlobal + Eprint>(rt: &R, names: &[&str], ended: &Run, has_colours: bool) {
-    if let Status::Refused | Status::Memory = ended.status {
+/// What the scripts are called that the words ask for, and how many statements are known before any file is read.
+fn asked_of(alloc: Global, words: &[&str]) -> Result<(Vec<String>, u64)> {
+    let asked = match asked(alloc, words) {
+        Ok(Some(asked)) => asked,
+        Ok(None) => return Ok((Vec::new(alloc), 0)),
+        Err(e) => return Err(e.into()),
+    };
+    let known = known_of(&asked);
+    Ok((names_of(alloc, &asked)?, known))
+}
+
+/// The texts, as they are lent.
+fn lent(alloc: Global, texts: &[String]) -> Result<Vec<&str>> {
+    let mut all = Vec::new(alloc);
+    for text in texts {
+        all.push(text.as_str())?;
+    }
+    Ok(all)
+}
+
+/// The commands that end otherwise than a run does.
+#[derive(Clone, Copy, PartialEq, Eq)]
+enum Command {
+    Check,
+    Export,
+    Other,
+}
+
+/// The command that the words begin with.
+fn first_command(words: &[&str]) -> Command {
+    match words.first() {
+        Some(word) if *word == "check" => Command::Check,
+        Some(word) if *word == "export" => Command::Export,
+        _ => Command::Other,
+    }
+}
+
+/// Says what there is to say of a run with a transcript: of refused statements, where there may be some, and what to note.
+fn remark<R: AllocGlobal + Eprint>(
+    rt: &R,
+    command: Command,
+    names: &[&str],
+    ended: &Run,
+    has_colours: bool,
+) {
+    // A table is exported whatever the replies are.
+    let is_refused = matches!(ended.status, Status::Refused | Status::Memory);
+    if is_refused || command == Command::Export {
         if let Ok(lines) = remarks(rt.alloc(), &ended.transcript, names) {
             say(rt, lines.as_slice(), has_colours);
         }
@@ -86,36 +146,37 @@ fn run_shown<R: Threads + Wait + Sync + AllocGlobal + Files + Print + Eprint + C
     ended
 }
 
-/// Runs what the words of the command line ask for. With the status comes whether a certificate was to be checked, which has
-/// no statements to show.
+/// Runs what the words of the command line ask for. With the status comes the command.
 fn run_words<R: Threads + Wait + Sync + AllocGlobal + Env + Files + Print + Eprint + Clock>(
     rt: &R,
     is_terminal: bool,
-) -> Result<(Status, bool)> {
+) -> Result<(Status, Command)> {
     let args = match env::args(rt) {
         Ok(args) => args,
         // A word that is not UTF-8 is none that is understood.
-        Err(e) if e.kind() == ErrorKind::InvalidData => return Ok((Status::Words, false)),
+        Err(e) if e.kind() == ErrorKind::InvalidData => return Ok((Status::Words, Command::Other)),
         Err(e) => return Err(e.into()),
     };
     let mut texts = Vec::new(rt.alloc());
     for word in args {
         texts.push(word)?;
     }
-    let mut words = Vec::new(rt.alloc());
-    for text in texts.iter().skip(1) {
-        words.push(text.as_str())?;
-    }
-    let words = words.as_slice();
-    let (names, known) = asked_of(rt.alloc(), words);
-    let checks = matches!(words.first(), Some(word) if *word == "check");
-    let ended = if is_terminal && !checks {
+    let all = lent(rt.alloc(), texts.as_slice())?;
+    let words = all.get(1..).unwrap_or(&[]);
+    let (names, known) = asked_of(rt.alloc(), words)?;
+    let names = lent(rt.alloc(), names.as_slice())?;
+    let command = first_command(words);
+    // Of a table only its file is read, and not how many statements its script has.
+    let imports = matches!(words.first(), Some(word) if *word == "import");
+    // A certificate has no statements to show.
+    let ended = if is_terminal && command != Command::Check && !imports {
         run_shown(rt, words, known)
     } else {
         run_under(rt, words, &mut FileScripts::make(rt), &NoGate)
     };
-    remark(rt, names.as_slice(), &ended, is_terminal && has_colours(rt));
-    Ok((ended.into_status(), checks))
+    let has_colours = is_terminal && has_colours(rt);
+    remark(rt, command, names.as_slice(), &ended, has_colours);
+    Ok((ended.into_status(), command))
 }
 
 /// The number that a run ends with.
@@ -131,25 +192,26 @@ fn number(status: Status) -> u8 {
     }
 }
 
-/// What is said of a run without a whole text, which was to check a certificate or not.
-fn fault(status: Status, checks: bool) -> Option<&'static str> {
+/// What is said of a run of this command without a whole text.
+fn fault(status: Status, command: Command) -> Option<&'static str> {
     match status {
+        Status::Refused if command == Command::Export => Some("no such table"),
         Status::Done | Status::Refused => None,
         Status::Words => Some("words not understood"),
         Status::ReadFault => Some("read fault"),
         Status::WriteFault => Some("write fault"),
         Status::Memory => Some("out of memory"),
-        Status::Script if checks => Some("not a certificate"),
+        Status::Script if command == Command::Check => Some("not a certificate"),
         Status::Script => Some("not a script"),
     }
 }
 
 fn main(rt: HostRuntime) -> ExitCode {
-    let (status, checks) = match run_words(&rt, rt.stderr().is_terminal()) {
+    let (status, command) = match run_words(&rt, rt.stderr().is_terminal()) {
         Ok(ended) => ended,
-        Err(_) => (Status::Memory, false),
+        Err(_) => (Status::Memory, Command::Other),
     };
-    if let Some(fault) = fault(status, checks) {
+    if let Some(fault) = fault(status, command) {
         let _ = eprintln!(rt; "ctdb: {fault}");
     }
     ExitCode::from(number(status))

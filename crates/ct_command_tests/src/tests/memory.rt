@@ -38,7 +38,7 @@ pub struct Ended {
 }
 
 /// The words of a text, between blanks.
-fn words_of(alloc: Global, text: &str) -> Result<Vec<&str>, AllocError> {
+pub fn words_of(alloc: Global, text: &str) -> Result<Vec<&str>, AllocError> {
     let mut words = Vec::new(alloc);
     for word in text.split_whitespace() {
         words.push(word)?;
@@ -46,24 +46,27 @@ fn words_of(alloc: Global, text: &str) -> Result<Vec<&str>, AllocError> {
     Ok(words)
 }
 
-/// The file `f`.
-fn file(alloc: Global, script: &[u8]) -> Result<(Text, List<u8>), Memory> {
+/// The file of this name.
+pub fn file(alloc: Global, name: &str, script: &[u8]) -> Result<(Text, List<u8>), Memory> {
     let bytes = Vec::from_slice(alloc, script)?;
-    Ok((Text::from_str(alloc, "f")?, List::from_vec(bytes)))
+    Ok((Text::from_str(alloc, name)?, List::from_vec(bytes)))
 }
 
+/// The file `f`, and reads that fail.
 fn source(alloc: Global, script: &[u8], fails: &[u64]) -> Result<MemScripts, Memory> {
     let fails = List::from_vec(Vec::from_slice(alloc, fails)?);
-    let held = List::from_vec(Vec::from_array(alloc, [file(alloc, script)?])?);
+    let held = List::from_vec(Vec::from_array(alloc, [file(alloc, "f", script)?])?);
     Ok(MemScripts::make(alloc, held, fails))
 }
 
-fn sink(alloc: Global, fails: &[(u64, u32)]) -> Result<MemSink, AllocError> {
+/// A sink, and writes that fail.
+pub fn sink(alloc: Global, fails: &[(u64, u32)]) -> Result<MemSink, AllocError> {
     let fails = List::from_vec(Vec::from_slice(alloc, fails)?);
     Ok(MemSink::make(alloc, fails))
 }
 
-fn run_on<R: Threads + Wait + Sync, G: Gate + Sync>(
+/// Runs these words.
+pub fn run_on<R: Threads + Wait + Sync, G: Gate + Sync>(
     rt: &R,
     alloc: Global,
     words: &[&str],

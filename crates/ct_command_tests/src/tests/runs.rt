@@ -26,10 +26,12 @@ type Run = (
 );
 
 /// Runs of an empty script, words that are not understood, files that are not there, and reads and writes that fail.
-const RUNS: [Run; 12] = [
+const RUNS: [Run; 15] = [
     ("run f", &[], &[], Status::Done, EMPTY),
     ("run --arena 64 f", &[], &[], Status::Done, EMPTY),
     ("run f f", &[], &[], Status::Done, TWO),
+    ("run --first f", &[], &[], Status::Done, EMPTY),
+    ("run --first f f", &[], &[], Status::Done, TWO),
     ("", &[], &[], Status::Words, ""),
     ("run", &[], &[], Status::Words, ""),
     ("run --arena 63 f", &[], &[], Status::Words, ""),
@@ -37,6 +39,7 @@ const RUNS: [Run; 12] = [
     ("run f g", &[], &[], Status::ReadFault, ""),
     ("run f", &[1], &[], Status::ReadFault, ""),
     ("run f f", &[2], &[], Status::ReadFault, ""),
+    ("run --first f f", &[2], &[], Status::ReadFault, ""),
     ("run f", &[], &[(2, 0)], Status::WriteFault, "session 1\n"),
     (
         "run f",
@@ -75,6 +78,34 @@ fn many_words_end(
 fn sixty_four_files_are_the_most(rt: HostRuntime) -> Result<(), Fail> {
     many_words_end(&rt, rt.alloc(), 66, Status::Words)?;
     many_words_end(&rt, rt.alloc(), 65, Status::ReadFault)
+}
+
+/// What a script writes that is run twice, the second time after the first one's end.
+const IN_TURN: &str = "\
+session 1
+1 committed 1
+2 committed 2
+session 2
+1 refused TableExists
+2 committed 3
+history
+1 by 1
+  create table t (a)
+2 by 1
+  insert into t (1)
+3 by 2
+  insert into t (1)
+end
+";
+
+#[test]
+fn the_first_file_comes_to_its_end_first(rt: HostRuntime) -> Result<(), Fail> {
+    let given = faultless(b"create table t (a); insert into t values (1)");
+    for _ in 0..100 {
+        let words = "run --first f f";
+        ends(&rt, rt.alloc(), words, given, Status::Refused, IN_TURN)?;
+    }
+    Ok(())
 }
 
 /// Counts its calls, and how many of them did not come in their order.

@@ -115,13 +115,14 @@ fn ended_during_the_question<R: Threads + Wait + Abort + Sync>(
     Ok(gate.before_the_answer.load(Ordering::SeqCst))
 }
 
-/// The question goes through 100,000 rows. In some run all ten statements of session 2 end meanwhile: which runs those are
-/// the system's scheduler decides, and if statements waited for the question there would be none.
+/// The question goes through a million pairs of rows, since no conjunct is an equality that could be looked up. In some run all
+/// ten statements of session 2 end meanwhile: which runs those are the system's scheduler decides, and if statements waited for
+/// the question there would be none.
 #[test]
 fn ten_statements_during_a_question(rt: HostRuntime) -> Result<(), Fail> {
     let texts = [
         "create table digit (n); insert into digit values (0), (1), (2), (3), (4), (5), (6), (7), (8), (9);
-         select a.n from digit a, digit b, digit c, digit d, digit e where false;",
+         select a.n from digit a, digit b, digit c, digit d, digit e, digit f where not a.n <> f.n;",
         "create table t (a); insert into t values (1); insert into t values (NULL); select * from t;
          assert ?x = 1; begin; insert into t values (?x); commit; certain select * from t; delete from t;",
     ];

@@ -2,6 +2,7 @@
 
 use crate::tests::assignments::{all_hold_in, can_hold};
 use crate::tests::search::is_cnf;
+use crate::tests::solver::at_once;
 use ct_samples::{between, is_head, pick};
 use ct_sat::{Cnf, Rup, Verdict, solve};
 use ct_word::List;
@@ -61,7 +62,7 @@ fn is_right(verdict: &Verdict, clauses: &[List<i32>]) -> bool {
     }
 }
 
-/// Whether clauses have a model, where the verdict says so and is right.
+/// Whether clauses have a model, where the verdict says so and is right, and a solver that is asked once misses nothing.
 fn verdict_on(alloc: Global, cnf: &Cnf) -> Result<bool, Fail> {
     if !is_cnf(cnf) {
         return Err(Fail::new("no clauses"));
@@ -70,7 +71,11 @@ fn verdict_on(alloc: Global, cnf: &Cnf) -> Result<bool, Fail> {
     if !is_right(&verdict, cnf.clauses.as_slice()) {
         return Err(Fail::new("a wrong verdict"));
     }
-    Ok(matches!(verdict, Verdict::Model(_)))
+    let has_model = matches!(verdict, Verdict::Model(_));
+    if at_once(alloc, cnf)? != has_model {
+        return Err(Fail::new("another verdict by a solver"));
+    }
+    Ok(has_model)
 }
 
 /// How many of so many sets have a model.

@@ -118,7 +118,7 @@ fn takes_random_sets_one_by_one(rt: HostRuntime) -> Result<(), Fail> {
 }
 
 /// What the first step finds once all clauses are added.
-fn at_once(alloc: Global, cnf: &Cnf) -> Result<bool, Fail> {
+pub fn at_once(alloc: Global, cnf: &Cnf) -> Result<bool, Fail> {
     if cnf.vars > 99 {
         return Err(Fail::new("too many variables"));
     }

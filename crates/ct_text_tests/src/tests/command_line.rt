@@ -6,7 +6,7 @@ use std::process::Abort;
 use std::test::Fail;
 
 /// Words, and what they ask for.
-const ASKED: [(&[&str], &str); 67] = [
+const ASKED: [(&[&str], &str); 86] = [
     // No commands.
     (&[], "nothing"),
     (&["run"], "nothing"),
@@ -23,7 +23,7 @@ const ASKED: [(&[&str], &str); 67] = [
     (&["", "f"], "nothing"),
     // No numbers.
     (&["run", "--arena", "63", "f"], "nothing"),
-    (&["run", "--arena", "1048577", "f"], "nothing"),
+    (&["run", "--arena", "4194305", "f"], "nothing"),
     (&["run", "--arena", "64x", "f"], "nothing"),
     (&["run", "--arena", "+64", "f"], "nothing"),
     (&["run", "--arena", " 64", "f"], "nothing"),
@@ -40,9 +40,12 @@ const ASKED: [(&[&str], &str); 67] = [
     (&["run", "--arena", "64", "f"], "run 64 [f]"),
     (&["run", "--arena", "0000064", "f"], "run 64 [f]"),
     (&["run", "--arena", "1048576", "f"], "run 1048576 [f]"),
+    (&["run", "--arena", "4194304", "f"], "run 4194304 [f]"),
     (&["run", "f"], "run 262144 [f]"),
     (&["run", "f", "f"], "run 262144 [f] [f]"),
     (&["run", "g", "", "f"], "run 262144 [g] [] [f]"),
+    (&["run", "--first", "f", "g"], "run first 262144 [f] [g]"),
+    (&["run", "f", "--first", "g"], "run first 262144 [f] [g]"),
     (&["fill", "1"], "fill 1"),
     (&["fill", "2000"], "fill 2000"),
     (&["fill", "0003"], "fill 3"),
@@ -53,12 +56,16 @@ const ASKED: [(&[&str], &str); 67] = [
     (&["run", "f", "--arena", "64", "g"], "run 64 [f] [g]"),
     (&["run", "--", "-f"], "run 262144 [-f]"),
     (&["run", "--", "--arena", "64"], "run 262144 [--arena] [64]"),
+    (&["run", "--", "--first"], "run 262144 [--first]"),
     (&["run", "-"], "run 262144 [-]"),
-    // An option may not come twice, nor without a value, and is not shortened. Each other word that begins with `-` is
-    // an option, and none is there but `--arena`.
+    // An option may not come twice, nor without a value, a flag not with one, and neither is shortened. Each other word that
+    // begins with `-` is an option, and none is there but `--arena` and `--first`.
     (&["run", "--arena", "64", "--arena", "64", "f"], "nothing"),
     (&["run", "--arena"], "nothing"),
     (&["run", "f", "--arena"], "nothing"),
+    (&["run", "--first"], "nothing"),
+    (&["run", "--first", "f", "--first"], "nothing"),
+    (&["run", "--first=true", "f"], "nothing"),
     (&["run", "--aren", "64", "f"], "nothing"),
     (&["run", "-f"], "nothing"),
     (&["run", "--help", "f"], "nothing"),
@@ -82,17 +89,43 @@ const ASKED: [(&[&str], &str); 67] = [
     (&["prove", "1"], "nothing"),
     (&["prove", "1", "f", "g"], "nothing"),
     (&["prove", "f", "1"], "nothing"),
+    // Tables from and to CSV: a name is read in lower case, and has to be one of the grammar.
+    (&["import", "T", "c", "f"], "import t [c] [f]"),
+    (&["import", "t_1", "--", "-c", "f"], "import t_1 [-c] [f]"),
+    (&["import", "select", "c", "f"], "nothing"),
+    (&["import", "", "c", "f"], "nothing"),
+    (&["import", "a-b", "c", "f"], "nothing"),
+    (&["import", "1a", "c", "f"], "nothing"),
+    (&["import", "t", "c"], "nothing"),
+    (&["import", "t", "c", "f", "g"], "nothing"),
+    (&["export", "T", "f"], "export t [f]"),
+    (&["export", "select", "f"], "nothing"),
+    (&["export", "t"], "nothing"),
+    (&["export", "t", "f", "g"], "nothing"),
 ];
 
-/// What words ask for, as a text: a run with its capacity and its files, or a number to fill with.
+/// What words ask for, as a text: a run with its flag, its capacity and its files, or a number to fill with.
 fn told(alloc: Global, asked: &Option<Asked>) -> Result<String, AllocError> {
     match asked {
         None => String::from_str(alloc, "nothing"),
         Some(Asked::Fill { number }) => format!(in alloc; "fill {number}"),
         Some(Asked::Check { file }) => format!(in alloc; "check [{file}]"),
         Some(Asked::Prove { reply, file }) => format!(in alloc; "prove {reply} [{file}]"),
-        Some(Asked::Run { capacity, files }) => {
-            let mut text = format!(in alloc; "run {capacity}")?;
+        Some(Asked::Import { name, csv, file }) => {
+            format!(in alloc; "import {} [{csv}] [{file}]", name.as_str())
+        }
+        Some(Asked::Export { name, file }) => {
+            format!(in alloc; "export {} [{file}]", name.as_str())
+        }
+        Some(
+            Asked::Run {
+                capacity,
+                files,
+                is_first_alone,
+            },
+        ) => {
+            let first = if *is_first_alone { "first " } else { "" };
+            let mut text = format!(in alloc; "run {first}{capacity}")?;
             for file in files {
                 text.push_str(format!(in alloc; " [{file}]")?.as_str())?;
             }
@@ -131,11 +164,18 @@ fn words_of(alloc: Global, text: &str) -> Result<Vec<&str>, AllocError> {
     Ok(words)
 }
 
-/// Behind this front 64 files are run, with a capacity that stands in front of them in the answer, and 65 ask for nothing.
-fn takes_64_files(rt: &impl Abort, alloc: Global, front: &str, answer: &str) -> Result<(), Fail> {
-    let files = " f".repeat(alloc, 64)?;
+/// Behind this front so many files are run, with a capacity that stands in front of them in the answer, and one more asks for
+/// nothing.
+fn takes_files(
+    rt: &impl Abort,
+    alloc: Global,
+    count: usize,
+    front: &str,
+    answer: &str,
+) -> Result<(), Fail> {
+    let files = " f".repeat(alloc, count)?;
     let mut most = format!(in alloc; "{front}{}", files.as_str())?;
-    let wanted = format!(in alloc; "{answer}{}", " [f]".repeat(alloc, 64)?.as_str())?;
+    let wanted = format!(in alloc; "{answer}{}", " [f]".repeat(alloc, count)?.as_str())?;
     ask_for(
         rt,
         alloc,
@@ -153,6 +193,14 @@ fn takes_64_files(rt: &impl Abort, alloc: Global, front: &str, answer: &str) -> 
 
 #[test]
 fn at_most_64_files(rt: HostRuntime) -> Result<(), Fail> {
-    takes_64_files(&rt, rt.alloc(), "run", "run 262144")?;
-    takes_64_files(&rt, rt.alloc(), "run --arena 64", "run 64")
+    takes_files(&rt, rt.alloc(), 64, "run", "run 262144")?;
+    takes_files(&rt, rt.alloc(), 64, "run --first", "run first 262144")?;
+    takes_files(&rt, rt.alloc(), 64, "run --arena 64", "run 64")?;
+    takes_files(&rt, rt.alloc(), 64, "run --arena 1048576", "run 1048576")
+}
+
+#[test]
+fn at_most_16_files_on_a_large_log(rt: HostRuntime) -> Result<(), Fail> {
+    takes_files(&rt, rt.alloc(), 16, "run --arena 1048577", "run 1048577")?;
+    takes_files(&rt, rt.alloc(), 16, "run --arena 4194304", "run 4194304")
 }

@@ -1,11 +1,10 @@
-use Rattle.std.{proofs.Common.{◌≡◌, Some, None, Ok, Err, map, ap, sym, subst, arith}, specs.Prelude.IfOk, proofs.lemmas.Option.MatchOption-at_some}
-use Rattle.ct_query.{specs.Plain.{Table, Select, Project, Product, Union, Except, Intersect}, specs.Pred.condition_of, specs.Views.query_of, specs.Fits.Fits}
+use Rattle.std.{proofs.Common.{◌≡◌, ◌∙◌, ◌+◌, ◌*◌, [], ◌++◌, Some, None, Ok, map, ap, sym, subst, arith}, proofs.lemmas.Option.MatchOption-at_some, proofs.lemmas.Result.err_from_is_err_and, proofs.lemmas.List.Elements.{Contains-append_left, Contains-append_right}}
+use Rattle.ct_query.{specs.Plain.{Table, Select, Project, Product, Union, Except, Intersect}, specs.Pred.condition_of, specs.Views.query_of, specs.Fits.Fits, specs.Bounds.ops, specs.Terms.{condition_terms, query_terms}}
 use Rattle.ct_table.{specs.Denotes.{heading_of, find_table}, specs.Shared.view_of}
-use Rattle.ct_algebra.{specs.Evaluates.Evaluates, specs.Words.Answers, proofs.Growing.{tables_grow, answer_grows, answer_before}, proofs.Found.got_some}
-use Rattle.ct_algebra.proofs.Appending.{select_within, project_within, product_within, union_within, except_within, intersect_within}
-use Rattle.ct_algebra.proofs.Operators.{table_answers, select_answers, project_answers, product_answers, union_answers, except_answers, intersect_answers}
+use Rattle.ct_algebra.{specs.Evaluates.Evaluates, specs.Words.{Answers, GrowsWithin, most_rows, most_words}, proofs.Growing.{tables_grow, answer_grows, answer_before}, proofs.Found.got_some}
+use Rattle.ct_algebra.{proofs.Appending.{grows_then, grows_more, onward, refused_within, join_sum, pairs_most, rows_most, product_most, union_most, except_most, intersect_most}, proofs.Counted.rows_within}
+use Rattle.ct_algebra.proofs.Operators.{table_answers, project_answers, product_answers, union_answers, except_answers, intersect_answers}
 use Rattle.ct_algebra.proofs.Parts.{count_parts, one_part, two_parts}
-use Rattle.ct_operators.specs.declared.error.TableError.TheVariants as fault
 use Rattle.ct_algebra.proofs.answering.+answer.Goals as goal
 
 pub answer-unwrap-requires : goal.answer-unwrap-requires
@@ -24,39 +23,190 @@ answer-returns-in_ok-copied-in-Table-clause-answers g t c =
     let copy = c.in_ok-copied-in-Table.field-0 in
     subst (λ q. Answers ws ws db q c.args.pass.now.made c.args.pass.now.made (Ok copy)) (sym (ap query_of c.in-Table.is)) (record {
       evaluates = subst (Evaluates ws ws db (Table name)) (sym c.in_ok-copied-in-Table.ensures) (table_answers ws db name c.unwrap.result.now c.requires.tables found);
-      grows = record { made = omega arith; fewer = λ e. let bad : Ok copy ≡ Err fault.Full = e in cc };
+      grows = record { grows = λ literals has. omega arith };
     })
 
-pub answer-answer-requires : goal.answer-answer-requires
-answer-answer-requires g t c κs within =
+pub answer-selected-requires : goal.answer-selected-requires
+answer-selected-requires g t c κs within =
     let is = one_part (Select (condition_of c.in-Select.p)) c.deref.result.now _ _ c.deref.ensures (sym (ap query_of c.in-Select.is)) in
-    let fits : Fits (map heading_of c.args.db.now) (Select (condition_of c.in-Select.p) (query_of c.deref.result.now)) = subst (Fits (map heading_of c.args.db.now)) (sym is) c.requires.fits in
-    (omega (arith, ap count_parts is, c.decreases), (within, (c.requires.tables, fits.1)))
+    (omega (arith, ap count_parts is, c.decreases), (within, (c.requires.tables, subst (Fits (map heading_of c.args.db.now)) (sym is) c.requires.fits)))
 
-pub answer-returns-in_ok-table-in-Select-clause-answers : goal.answer-returns-in_ok-table-in-Select-clause-answers
-answer-returns-in_ok-table-in-Select-clause-answers g t c =
-    let part = c.in_ok-table-in-Select.ensures.answers in
-    subst (λ q. Answers c.args.pass.now.words c.select.new.pass.words c.args.db.now q c.args.pass.now.made c.select.new.pass.made c.select.result)
-    (one_part (Select (condition_of c.in-Select.p)) c.deref.result.now _ _ c.deref.ensures (sym (ap query_of c.in-Select.is))) (record {
-      evaluates = select_answers _ _ _ _ _ _ part.evaluates (condition_of c.in-Select.p) c.select.result c.select.ensures.columns c.select.ensures.rows c.select.ensures.tuples c.select.ensures.part c.select.ensures.terms;
-      grows = select_within _ _ _ _ _ part.evaluates _ _ _ part.grows.made c.select.result (condition_of c.in-Select.p) c.select.ensures.made c.select.ensures.fewer;
+pub answer-returns-in-Select-clause-answers : goal.answer-returns-in-Select-clause-answers
+answer-returns-in-Select-clause-answers g t c =
+    subst (λ q. Answers c.args.pass.now.words c.selected.new.pass.words c.args.db.now q c.args.pass.now.made c.selected.new.pass.made c.selected.result)
+    (one_part (Select (condition_of c.in-Select.p)) c.deref.result.now _ _ c.deref.ensures (sym (ap query_of c.in-Select.is))) c.selected.ensures.answers
+
+pub selected_rows-answer-requires : goal.selected_rows-answer-requires
+selected_rows-answer-requires g t c κs within = (omega (arith, c.decreases), (within, (c.requires.tables, c.requires.fits.1)))
+
+pub selected_rows-returns-clause-answers : goal.selected_rows-returns-clause-answers
+selected_rows-returns-clause-answers g t c =
+    let part = c.in_ok-table.ensures.answers in
+    let db = c.args.db.now in
+    let q = query_of c.args.part.now in
+    let p = condition_of c.args.p.now in
+    record {
+      evaluates = c.filtered.ensures.evaluates c.args.pass.now.words db q part.evaluates;
+      grows =
+          grows_then _ _ _ _ _ _ (query_terms (Select p q)) _ c.filtered.result (query_terms q) (condition_terms p) (most_words db q) _ (most_rows db q * (ops p + 1))
+          (λ t h. Contains-append_right (condition_terms p) (query_terms q) t h) (λ t h. Contains-append_left (condition_terms p) (query_terms q) t h)
+          (rows_most _ _ db q _ part.evaluates (ops p + 1)) part.grows c.filtered.ensures.grows;
+    }
+
+pub selected-selected_rows-requires : goal.selected-selected_rows-requires
+selected-selected_rows-requires g t c κs within = (omega (arith, c.decreases), (within, (c.requires.tables, c.requires.fits)))
+
+pub selected-sides-requires : goal.selected-sides-requires
+selected-sides-requires g t c κs within =
+    let is = two_parts Product c.deref.result.now c.deref-in-Product.result.now _ _ _ c.deref.ensures c.deref-in-Product.ensures (sym (ap query_of c.in-Product.is)) in
+    let fits : Fits (map heading_of c.args.db.now) (Product (query_of c.deref.result.now) (query_of c.deref-in-Product.result.now)) = subst (Fits (map heading_of c.args.db.now)) (sym is) c.requires.fits.1 in
+    (omega (arith, ap count_parts is, c.decreases), (within, (c.requires.tables, (fits.0, fits.1))))
+
+pub selected-returns-in_ok-left-in-Product-clause-answers : goal.selected-returns-in_ok-left-in-Product-clause-answers
+selected-returns-in_ok-left-in-Product-clause-answers g t c =
+    let parts = c.in_ok-left-in-Product.ensures in
+    let db = c.args.db.now in
+    let p = condition_of c.args.p.now in
+    let a = query_of c.deref.result.now in
+    let b = query_of c.deref-in-Product.result.now in
+    let both = query_terms a ++ query_terms b in
+    let most = most_rows db a * most_rows db b in
+    let grows = grows_then _ _ _ _ _ _ (condition_terms p ++ both) _ c.joined.result both (condition_terms p) (most_words db a + most_words db b) _ (most + most * (ops p + 1))
+    (λ t h. Contains-append_right (condition_terms p) both t h) (λ t h. Contains-append_left (condition_terms p) both t h)
+    (pairs_most _ most (ops p + 1) (product_most _ _ _ _ _ _ _ parts.left parts.right)) parts.grows c.joined.ensures.grows in
+    subst (λ q. Answers c.args.pass.now.words c.joined.new.pass.words db (Select p q) c.args.pass.now.made c.joined.new.pass.made c.joined.result)
+    (two_parts Product c.deref.result.now c.deref-in-Product.result.now _ _ _ c.deref.ensures c.deref-in-Product.ensures (sym (ap query_of c.in-Product.is))) (record {
+      evaluates = c.joined.ensures.evaluates c.args.pass.now.words db a b parts.left parts.right;
+      grows = subst (GrowsWithin c.joined.result _ _ _ _ (condition_terms p ++ both)) (join_sum (most_words db a + most_words db b) most (most * (ops p + 1))) grows;
     })
 
-pub answer-answer-requires-in-Project : goal.answer-answer-requires-in-Project
-answer-answer-requires-in-Project g t c κs within =
+pub selected-returns-in_err-left-in-Product-clause-answers : goal.selected-returns-in_err-left-in-Product-clause-answers
+selected-returns-in_err-left-in-Product-clause-answers g t c =
+    let db = c.args.db.now in
+    let p = condition_of c.args.p.now in
+    let a = query_of c.deref.result.now in
+    let b = query_of c.deref-in-Product.result.now in
+    let both = query_terms a ++ query_terms b in
+    let most = most_words db a + most_words db b in
+    let pairs = most_rows db a * most_rows db b in
+    let exit = err_from_is_err_and c.from_residual.result c.from_residual.ensures.1 in
+    subst (λ q. Answers c.args.pass.now.words c.sides.new.pass.words db (Select p q) c.args.pass.now.made c.sides.new.pass.made c.from_residual.result)
+    (two_parts Product c.deref.result.now c.deref-in-Product.result.now _ _ _ c.deref.ensures c.deref-in-Product.ensures (sym (ap query_of c.in-Product.is)))
+    (rw (exit.1, exit.2) (record {
+      evaluates = tt;
+      grows = refused_within _ _ _ _ _ both (condition_terms p ++ both) most (most + pairs + pairs * (ops p + 1)) (λ t h. Contains-append_right (condition_terms p) both t h) (omega arith)
+          c.in_err-left-in-Product.ensures.grows;
+    }))
+
+pub answer-projected-requires : goal.answer-projected-requires
+answer-projected-requires g t c κs within =
     let is = one_part (Project c.in-Project.columns) c.deref-in-Project.result.now _ _ c.deref-in-Project.ensures (sym (ap query_of c.in-Project.is)) in
     let fits : Fits (map heading_of c.args.db.now) (Project c.in-Project.columns (query_of c.deref-in-Project.result.now)) = subst (Fits (map heading_of c.args.db.now)) (sym is) c.requires.fits in
-    (omega (arith, ap count_parts is, c.decreases), (within, (c.requires.tables, fits.1)))
+    (omega (arith, ap count_parts is, c.decreases), (within, (c.requires.tables, subst (λ ks. Fits (map heading_of c.args.db.now) (Project ks (query_of c.deref-in-Project.result.now))) (sym c.as_slice.ensures) fits)))
 
-pub answer-returns-in_ok-table-in-Project-clause-answers : goal.answer-returns-in_ok-table-in-Project-clause-answers
-answer-returns-in_ok-table-in-Project-clause-answers g t c =
-    let part = c.in_ok-table-in-Project.ensures.answers in
-    subst (λ q. Answers c.args.pass.now.words c.project.new.pass.words c.args.db.now q c.args.pass.now.made c.project.new.pass.made c.project.result)
-    (one_part (Project c.in-Project.columns) c.deref-in-Project.result.now _ _ c.deref-in-Project.ensures (sym (ap query_of c.in-Project.is))) (record {
-      evaluates = subst (λ ks. IfOk c.project.result (Evaluates c.args.pass.now.words c.project.new.pass.words c.args.db.now (Project ks (query_of c.deref-in-Project.result.now)))) c.as_slice.ensures
-          (project_answers _ _ _ _ _ _ part.evaluates c.as_slice.result.now c.project.result c.project.ensures.columns c.project.ensures.rows c.project.ensures.tuples c.project.ensures.part c.project.ensures.terms);
-      grows = project_within _ _ _ _ _ part.evaluates _ _ _ part.grows.made c.project.result c.in-Project.columns c.project.ensures.made c.project.ensures.fewer;
+pub answer-returns-in-Project-clause-answers : goal.answer-returns-in-Project-clause-answers
+answer-returns-in-Project-clause-answers g t c =
+    subst (λ q. Answers c.args.pass.now.words c.projected.new.pass.words c.args.db.now q c.args.pass.now.made c.projected.new.pass.made c.projected.result)
+    ((λ i. Project (c.as_slice.ensures i) (query_of c.deref-in-Project.result.now)) ∙ one_part (Project c.in-Project.columns) c.deref-in-Project.result.now _ _ c.deref-in-Project.ensures (sym (ap query_of c.in-Project.is))) c.projected.ensures.answers
+
+pub projected_rows-answer-requires : goal.projected_rows-answer-requires
+projected_rows-answer-requires g t c κs within = (omega (arith, c.decreases), (within, (c.requires.tables, c.requires.fits.1)))
+
+pub projected_rows-returns-clause-answers : goal.projected_rows-returns-clause-answers
+projected_rows-returns-clause-answers g t c =
+    let part = c.in_ok-table.ensures.answers in
+    let q = query_of c.args.part.now in
+    record {
+      evaluates = project_answers _ _ _ _ q _ part.evaluates c.args.columns.now c.project.result c.project.ensures.columns c.project.ensures.rows c.project.ensures.tuples c.project.ensures.part c.project.ensures.terms;
+      grows =
+          onward _ _ _ _ _ _ _ _ c.project.result (most_words c.args.db.now q) _ _ c.project.ensures.writes.longer part.grows c.project.ensures.writes.made (rows_within _ _ _ _ _ part.evaluates);
+    }
+
+pub projected-projected_rows-requires : goal.projected-projected_rows-requires
+projected-projected_rows-requires g t c κs within = (omega (arith, c.decreases), (within, (c.requires.tables, c.requires.fits)))
+
+pub projected-sides-requires : goal.projected-sides-requires
+projected-sides-requires g t c κs within =
+    let is = two_parts Product c.deref.result.now c.deref-in-Product.result.now _ _ _ c.deref.ensures c.deref-in-Product.ensures (sym (ap query_of c.in-Product.is)) in
+    let fits : Fits (map heading_of c.args.db.now) (Product (query_of c.deref.result.now) (query_of c.deref-in-Product.result.now)) = subst (Fits (map heading_of c.args.db.now)) (sym is) c.requires.fits.1 in
+    (omega (arith, ap count_parts is, c.decreases), (within, (c.requires.tables, (fits.0, fits.1))))
+
+pub projected-returns-in_ok-left-in-Product-clause-answers : goal.projected-returns-in_ok-left-in-Product-clause-answers
+projected-returns-in_ok-left-in-Product-clause-answers g t c =
+    let parts = c.in_ok-left-in-Product.ensures in
+    let db = c.args.db.now in
+    let ks = c.args.columns.now in
+    let a = query_of c.deref.result.now in
+    let b = query_of c.deref-in-Product.result.now in
+    let both = query_terms a ++ query_terms b in
+    let words = most_words db a + most_words db b in
+    let most = most_rows db a * most_rows db b in
+    subst (λ q. Answers c.args.pass.now.words c.picked_product.new.pass.words db (Project ks q) c.args.pass.now.made c.picked_product.new.pass.made c.picked_product.result)
+    (two_parts Product c.deref.result.now c.deref-in-Product.result.now _ _ _ c.deref.ensures c.deref-in-Product.ensures (sym (ap query_of c.in-Product.is))) (record {
+      evaluates = c.picked_product.ensures.evaluates c.args.pass.now.words db a b parts.left parts.right;
+      grows =
+          grows_more c.picked_product.result _ _ _ _ both (words + (most + most)) (words + most + most) (omega arith)
+          (grows_then _ _ _ _ _ _ both _ c.picked_product.result both [] words _ (most + most) (λ t h. h) (λ t h. let lt = h.1 in absurd (omega (arith, lt))) (omega arith) parts.grows
+          (c.picked_product.ensures.grows c.args.pass.now.words db a b parts.left parts.right));
     })
+
+pub projected-returns-in_err-left-in-Product-clause-answers : goal.projected-returns-in_err-left-in-Product-clause-answers
+projected-returns-in_err-left-in-Product-clause-answers g t c =
+    let db = c.args.db.now in
+    let ks = c.args.columns.now in
+    let a = query_of c.deref.result.now in
+    let b = query_of c.deref-in-Product.result.now in
+    let both = query_terms a ++ query_terms b in
+    let words = most_words db a + most_words db b in
+    let most = most_rows db a * most_rows db b in
+    let exit = err_from_is_err_and c.from_residual.result c.from_residual.ensures.1 in
+    subst (λ q. Answers c.args.pass.now.words c.sides.new.pass.words db (Project ks q) c.args.pass.now.made c.sides.new.pass.made c.from_residual.result)
+    (two_parts Product c.deref.result.now c.deref-in-Product.result.now _ _ _ c.deref.ensures c.deref-in-Product.ensures (sym (ap query_of c.in-Product.is)))
+    (rw (exit.1, exit.2) (record {
+      evaluates = tt;
+      grows = refused_within _ _ _ _ _ both both words (words + most + most) (λ t h. h) (omega arith) c.in_err-left-in-Product.ensures.grows;
+    }))
+
+pub projected-returns-in_ok-left-in-Product-deref-clause-answers : goal.projected-returns-in_ok-left-in-Product-deref-clause-answers
+projected-returns-in_ok-left-in-Product-deref-clause-answers g t c =
+    let db = c.args.db.now in
+    let p = condition_of c.in-Select.p in
+    let a = query_of c.deref-in-Product-deref.result.now in
+    let b = query_of c.deref-in-Product-deref-2.result.now in
+    let ks = c.args.columns.now in
+    let both = query_terms a ++ query_terms b in
+    let words = most_words db a + most_words db b in
+    let most = most_rows db a * most_rows db b in
+    let inner = two_parts Product c.deref-in-Product-deref.result.now c.deref-in-Product-deref-2.result.now _ _ _ c.deref-in-Product-deref.ensures c.deref-in-Product-deref-2.ensures (sym (ap query_of c.in-Product-deref.is)) in
+    let is = ap (Select p) inner ∙ one_part (Select p) c.deref-in-Select.result.now _ _ c.deref-in-Select.ensures (sym (ap query_of c.in-Select.is)) in
+    let parts = c.in_ok-left-in-Product-deref.ensures in
+    subst (λ q. Answers c.args.pass.now.words c.picked_join.new.pass.words db (Project ks q) c.args.pass.now.made c.picked_join.new.pass.made c.picked_join.result) is (record {
+      evaluates = c.picked_join.ensures.evaluates c.args.pass.now.words db a b parts.left parts.right;
+      grows =
+          grows_more c.picked_join.result _ _ _ _ (condition_terms p ++ both) (words + (most + most * (ops p + 1) + most)) (words + most + most * (ops p + 1) + most) (omega arith)
+          (grows_then _ _ _ _ _ _ (condition_terms p ++ both) _ c.picked_join.result both (condition_terms p) words _ (most + most * (ops p + 1) + most)
+          (λ t h. Contains-append_right (condition_terms p) both t h) (λ t h. Contains-append_left (condition_terms p) both t h) (omega arith) parts.grows
+          (c.picked_join.ensures.grows c.args.pass.now.words db a b parts.left parts.right));
+    })
+
+pub projected-returns-in_err-left-in-Product-deref-clause-answers : goal.projected-returns-in_err-left-in-Product-deref-clause-answers
+projected-returns-in_err-left-in-Product-deref-clause-answers g t c =
+    let db = c.args.db.now in
+    let p = condition_of c.in-Select.p in
+    let a = query_of c.deref-in-Product-deref.result.now in
+    let b = query_of c.deref-in-Product-deref-2.result.now in
+    let ks = c.args.columns.now in
+    let both = query_terms a ++ query_terms b in
+    let words = most_words db a + most_words db b in
+    let most = most_rows db a * most_rows db b in
+    let inner = two_parts Product c.deref-in-Product-deref.result.now c.deref-in-Product-deref-2.result.now _ _ _ c.deref-in-Product-deref.ensures c.deref-in-Product-deref-2.ensures (sym (ap query_of c.in-Product-deref.is)) in
+    let is = ap (Select p) inner ∙ one_part (Select p) c.deref-in-Select.result.now _ _ c.deref-in-Select.ensures (sym (ap query_of c.in-Select.is)) in
+    let exit = err_from_is_err_and c.from_residual-in_err-left-in-Product-deref.result c.from_residual-in_err-left-in-Product-deref.ensures.1 in
+    subst (λ q. Answers c.args.pass.now.words c.sides-in-Product-deref.new.pass.words db (Project ks q) c.args.pass.now.made c.sides-in-Product-deref.new.pass.made c.from_residual-in_err-left-in-Product-deref.result) is
+    (rw (exit.1, exit.2) (record {
+      evaluates = tt;
+      grows = refused_within _ _ _ _ _ both (condition_terms p ++ both) words (words + most + most * (ops p + 1) + most) (λ t h. Contains-append_right (condition_terms p) both t h) (omega arith) c.in_err-left-in-Product-deref.ensures.grows;
+    }))
 
 pub answer-sides-requires : goal.answer-sides-requires
 answer-sides-requires g t c κs within =
@@ -70,7 +220,9 @@ answer-returns-in_ok-left-in-Product-clause-answers g t c =
     subst (λ q. Answers c.args.pass.now.words c.product.new.pass.words c.args.db.now q c.args.pass.now.made c.product.new.pass.made c.product.result)
     (two_parts Product c.deref-in-Product.result.now c.deref-in-Product-2.result.now _ _ _ c.deref-in-Product.ensures c.deref-in-Product-2.ensures (sym (ap query_of c.in-Product.is))) (record {
       evaluates = product_answers _ _ _ _ _ _ _ _ parts.left parts.right c.product.result c.product.ensures.columns c.product.ensures.rows c.product.ensures.tuples c.product.ensures.part c.product.ensures.terms;
-      grows = product_within _ _ _ _ _ _ _ parts.left parts.right _ _ _ parts.made.made c.product.result c.product.ensures.made c.product.ensures.fewer;
+      grows =
+          onward _ _ _ _ _ _ _ _ c.product.result _ _ _ c.product.ensures.writes.longer parts.grows c.product.ensures.writes.made
+          (product_most _ _ _ _ _ _ _ parts.left parts.right);
     })
 
 pub answer-sides-requires-in-Union : goal.answer-sides-requires-in-Union
@@ -85,7 +237,9 @@ answer-returns-in_ok-left-in-Union-clause-answers g t c =
     subst (λ q. Answers c.args.pass.now.words c.union.new.pass.words c.args.db.now q c.args.pass.now.made c.union.new.pass.made c.union.result)
     (two_parts Union c.deref-in-Union.result.now c.deref-in-Union-2.result.now _ _ _ c.deref-in-Union.ensures c.deref-in-Union-2.ensures (sym (ap query_of c.in-Union.is))) (record {
       evaluates = union_answers _ _ _ _ _ _ _ _ parts.left parts.right c.union.result c.union.ensures.columns c.union.ensures.rows c.union.ensures.tuples c.union.ensures.part c.union.ensures.terms;
-      grows = union_within _ _ _ _ _ _ _ parts.left parts.right _ _ _ parts.made.made c.union.result c.union.ensures.made c.union.ensures.fewer;
+      grows =
+          onward _ _ _ _ _ _ _ _ c.union.result _ _ _ c.union.ensures.writes.longer parts.grows c.union.ensures.writes.made
+          (union_most _ _ _ _ _ _ _ parts.left parts.right);
     })
 
 pub answer-sides-requires-in-Except : goal.answer-sides-requires-in-Except
@@ -100,7 +254,9 @@ answer-returns-in_ok-left-in-Except-clause-answers g t c =
     subst (λ q. Answers c.args.pass.now.words c.except.new.pass.words c.args.db.now q c.args.pass.now.made c.except.new.pass.made c.except.result)
     (two_parts Except c.deref-in-Except.result.now c.deref-in-Except-2.result.now _ _ _ c.deref-in-Except.ensures c.deref-in-Except-2.ensures (sym (ap query_of c.in-Except.is))) (record {
       evaluates = except_answers _ _ _ _ _ _ _ _ parts.left parts.right c.except.result c.except.ensures.columns c.except.ensures.rows c.except.ensures.tuples c.except.ensures.part c.except.ensures.terms;
-      grows = except_within _ _ _ _ _ _ _ parts.left parts.right _ _ _ parts.made.made c.except.result c.except.ensures.made c.except.ensures.fewer;
+      grows =
+          onward _ _ _ _ _ _ _ _ c.except.result _ _ _ c.except.ensures.writes.longer parts.grows c.except.ensures.writes.made
+          (except_most _ _ _ _ _ _ _ parts.left parts.right);
     })
 
 pub answer-sides-requires-in-Intersect : goal.answer-sides-requires-in-Intersect
@@ -115,7 +271,9 @@ answer-returns-in_ok-left-in-Intersect-clause-answers g t c =
     subst (λ q. Answers c.args.pass.now.words c.intersect.new.pass.words c.args.db.now q c.args.pass.now.made c.intersect.new.pass.made c.intersect.result)
     (two_parts Intersect c.deref-in-Intersect.result.now c.deref-in-Intersect-2.result.now _ _ _ c.deref-in-Intersect.ensures c.deref-in-Intersect-2.ensures (sym (ap query_of c.in-Intersect.is))) (record {
       evaluates = intersect_answers _ _ _ _ _ _ _ _ parts.left parts.right c.intersect.result c.intersect.ensures.columns c.intersect.ensures.rows c.intersect.ensures.tuples c.intersect.ensures.part c.intersect.ensures.terms;
-      grows = intersect_within _ _ _ _ _ _ _ parts.left parts.right _ _ _ parts.made.made c.intersect.result c.intersect.ensures.made c.intersect.ensures.fewer;
+      grows =
+          onward _ _ _ _ _ _ _ _ c.intersect.result _ _ _ c.intersect.ensures.writes.longer parts.grows c.intersect.ensures.writes.made
+          (intersect_most _ _ _ _ _ _ _ parts.left parts.right);
     })
 
 pub sides-answer-requires : goal.sides-answer-requires
@@ -132,3 +290,23 @@ sides-returns-clause-left g t c =
 pub sides-returns-clause-right : goal.sides-returns-clause-right
 sides-returns-clause-right g t c =
     answer_before c.args.pass.now.words c.answer.new.pass.words c.answer-2.new.pass.words c.args.db.now (query_of c.args.right.now) c.in_ok-other.other c.answer.ensures.longer c.words.ensures.formed c.requires.tables c.in_ok-other.ensures.answers.evaluates
+
+pub sides-returns-in_err-other-clause-grows : goal.sides-returns-in_err-other-clause-grows
+sides-returns-in_err-other-clause-grows g t c =
+    let lefts = query_terms (query_of c.args.left.now) in
+    let rights = query_terms (query_of c.args.right.now) in
+    let most = most_words c.args.db.now (query_of c.args.right.now) in
+    let exit = err_from_is_err_and c.from_residual-in_err-other.result c.from_residual-in_err-other.ensures.1 in
+    rw (exit.1, exit.2)
+    (grows_then _ _ _ _ _ _ (lefts ++ rights) _ _ lefts rights (most_words c.args.db.now (query_of c.args.left.now)) most most
+    (λ t h. Contains-append_left lefts rights t h) (λ t h. Contains-append_right lefts rights t h) (omega arith) c.in_ok-one.ensures.answers.grows
+    (refused_within _ _ _ _ _ rights rights most most (λ t h. h) (omega arith) c.in_err-other.ensures.answers.grows))
+
+pub sides-returns-clause-grows : goal.sides-returns-clause-grows
+sides-returns-clause-grows g t c =
+    let lefts = query_terms (query_of c.args.left.now) in
+    let rights = query_terms (query_of c.args.right.now) in
+    let most = most_words c.args.db.now (query_of c.args.right.now) in
+    grows_then _ _ _ _ _ _ (lefts ++ rights) _ (Ok (c.in_ok-one.one, c.in_ok-other.other)) lefts rights (most_words c.args.db.now (query_of c.args.left.now)) most most
+    (λ t h. Contains-append_left lefts rights t h) (λ t h. Contains-append_right lefts rights t h) (omega arith) c.in_ok-one.ensures.answers.grows
+    (record { grows = λ literals has. c.in_ok-other.ensures.answers.grows.grows literals has })

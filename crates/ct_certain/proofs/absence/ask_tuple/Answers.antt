@@ -1,10 +1,11 @@
-use Rattle.std.{proofs.Common.{◌≡◌, ◌*◌, ◌+◌, true, length, sym, subst}, specs.Prelude.All, proofs.lemmas.List.Elements.All-weaker}
+use Rattle.std.{proofs.Common.{◌≡◌, ◌*◌, ◌+◌, ℕ, true, length, sym, subst}, specs.Prelude.All, proofs.lemmas.List.Elements.All-weaker}
 use Rattle.std.proofs.lemmas.Result.{err_from_is_err_and}
 use Rattle.ct_word.{specs.Stands.HasNoColumn, specs.WellFormed.is_place_of}
 use Rattle.ct_word.proofs.Prefixes.{prefix_of_prefix}
 use Rattle.ct_condition.specs.Writes.{Writes}
+use Rattle.ct_decide.specs.declared.deciding.Decision.{Decision}
 use Rattle.ct_derivation.proofs.Longer.{accepted_longer}
-use Rattle.ct_certain.{specs.Answered.{IsNear, IsRefutation, IsSettled}, proofs.Nearby.near_grows, specs.Missing.IsRefuted, proofs.Cuts.cut_longer, proofs.Roots.handed_on}
+use Rattle.ct_certain.{specs.Answered.{IsNear, IsRefutation, IsSettled}, proofs.Nearby.near_grows, specs.Missing.IsRefuted, proofs.Cuts.cut_longer, proofs.Roots.{handed_on, root_from}, proofs.Candidates.asked_now}
 use Rattle.ct_word.specs.declared.kinds.Class.TheVariants as class
 use Rattle.ct_certain.proofs.absence.ask_tuple.Goals as goal
 
@@ -18,7 +19,7 @@ pub settle_near-requires-clause-near : goal.settle_near-requires-clause-near
 settle_near-requires-clause-near g c =
     let words = c.args.words.now in
     let old = g.I.Interner.list c.args.pass.now in
-    let new = g.I.Interner.list c.root.new.pass in
+    let new = g.I.Interner.list c.missing_root.new.pass in
     let longer = prefix_of_prefix words old new c.requires.asked.grown c.in_ok-place.ensures.writes.longer in
     subst (λ ws. IsNear ws c.args.global c.args.near.now) (sym c.words-now.ensures.words)
     (near_grows words new longer c.words-now.ensures.formed c.requires.asked.formed c.args.global c.args.near.now c.requires.near)
@@ -31,13 +32,26 @@ returns-in_err-place-clause-writes g c =
     let k = length c.args.table.now.columns in
     let r = length c.args.table.now.rows in
     let exit = err_from_is_err_and c.from_residual.result c.from_residual.ensures.1 in
-    rw (exit.1, exit.2) (subst (λ b. Writes g.I.Interner.list g.I.Interner.made g.I.Interner.kept g.I.Interner.lent g.N.Site.log.cap c.args.pass.now c.root.new.pass (r * (2 * k + 2) + k + 1) b) (handed_on c.in_err-place.field-0.0) c.in_err-place.ensures.writes)
+    rw (exit.1, exit.2) (subst (λ b. Writes g.I.Interner.list g.I.Interner.made g.I.Interner.kept g.I.Interner.lent g.N.Site.log.cap c.args.pass.now c.missing_root.new.pass (r * (2 * k + 2) + k + 1) b) (handed_on (ℕ × Decision) c.in_err-place.field-0.0) c.in_err-place.ensures.writes)
 
 pub known-requires : goal.known-requires
 known-requires g c =
     let old = g.I.Interner.list c.args.pass.now in
-    let new = g.I.Interner.list c.root.new.pass in
+    let new = g.I.Interner.list c.missing_root.new.pass in
     let longer = c.in_ok-place.ensures.writes.longer in
     subst (λ ws. All (λ r. IsRefutation ws r.proof.root r.proof.derivation) c.args.list.now.rows.items) (sym c.words-now.ensures.words)
     (All-weaker (IsRefuted c.args.words.now old c.args.global c.args.table.now.rows) (λ r. IsRefutation new r.proof.root r.proof.derivation)
     (λ r is. (accepted_longer old new longer r.proof.root r.proof.derivation is.refutes.accepted, cut_longer old new longer r.proof.root r.proof.derivation is.cut)) c.args.list.now.rows.items c.requires.listed)
+
+pub missing_root-requires : goal.missing_root-requires
+missing_root-requires g c =
+    let old = g.I.Interner.list c.args.pass.now in
+    asked_now c.args.words.now old c.args.global (length c.args.table.now.columns) c.args.table.now.rows c.args.tuple.now c.words.ensures.formed c.requires.asked
+
+pub returns-clause-root : goal.returns-clause-root
+returns-clause-root g c =
+    root_from c.args.words.now (g.I.Interner.list c.args.pass.now) (g.I.Interner.list c.missing_root.new.pass) c.args.global (length c.args.table.now.columns) c.args.table.now.rows c.args.tuple.now c.in_ok-place.place c.requires.asked c.in_ok-place.ensures.root
+
+pub returns-in-Some-clause-root : goal.returns-in-Some-clause-root
+returns-in-Some-clause-root g c =
+    root_from c.args.words.now (g.I.Interner.list c.args.pass.now) (g.I.Interner.list c.missing_root.new.pass) c.args.global (length c.args.table.now.columns) c.args.table.now.rows c.args.tuple.now c.in_ok-place.place c.requires.asked c.in_ok-place.ensures.root

@@ -35,7 +35,7 @@ returns-in-Ok-clause-writes g c =
     let x = c.in_ok-copy.copy in
     subst (λ r. Writes g.I.Interner.list g.I.Interner.made g.I.Interner.kept g.I.Interner.lent g.N.Site.log.cap old new 1 (is_err r)) c.in-Ok.is
     (value_writes old new x c.term-found.result (subst (IsAtHand (g.I.Interner.list old)) (sym c.in_ok-copy.ensures.cases) c.requires)
-    c.term-found.ensures.longer c.words-2.ensures.formed c.words-2.ensures.room c.term-found.ensures.full c.term-found.ensures.known c.term-found.ensures.made c.term-found.ensures.err c.term-found.ensures.kept c.term-found.ensures.lent)
+    c.term-found.ensures.known c.term-found.ensures.writes)
 
 pub returns-in-Err-clause-writes : goal.returns-in-Err-clause-writes
 returns-in-Err-clause-writes g c =
@@ -44,4 +44,4 @@ returns-in-Err-clause-writes g c =
     let x = c.in_ok-copy.copy in
     subst (λ r. Writes g.I.Interner.list g.I.Interner.made g.I.Interner.kept g.I.Interner.lent g.N.Site.log.cap old new 1 (is_err r)) c.in-Err.is
     (value_writes old new x c.term-found.result (subst (IsAtHand (g.I.Interner.list old)) (sym c.in_ok-copy.ensures.cases) c.requires)
-    c.term-found.ensures.longer c.words-2.ensures.formed c.words-2.ensures.room c.term-found.ensures.full c.term-found.ensures.known c.term-found.ensures.made c.term-found.ensures.err c.term-found.ensures.kept c.term-found.ensures.lent)
+    c.term-found.ensures.known c.term-found.ensures.writes)

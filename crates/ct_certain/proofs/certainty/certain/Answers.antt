@@ -1,8 +1,8 @@
-use Rattle.std.{proofs.Common.{◌≡◌, ◌≤◌, length, sym, subst, arith, ◌∙◌, rules}, specs.Prelude.All, specs.List.IsDistinct, proofs.lemmas.Result.IfOk-weaker}
+use Rattle.std.{proofs.Common.{◌≡◌, length, sym, subst, ◌∙◌, rules}, specs.Prelude.All, specs.List.IsDistinct, proofs.lemmas.Result.IfOk-weaker}
 use Rattle.ct_word.specs.Value.{same_tuple}
 use Rattle.ct_operators.specs.Tables.{firsts, value_of_rows}
 use Rattle.ct_certain.{specs.Certain.{IsCutProof, ListsCertain}, specs.Missing.{AreListed, IsAskedOf, IsSeen}}
-use Rattle.ct_certain.{proofs.Candidates.{distinct_keys, first_all, first_fewer, worth_asked, worth_fewer}, proofs.Certainties.{all_cut, listed_all}}
+use Rattle.ct_certain.{proofs.Candidates.{distinct_keys, firsts_asked, firsts_few}, proofs.Certainties.{all_cut, listed_all}}
 use Rattle.ct_certain.proofs.certainty.certain.Goals as goal
 
 pub each_certain-requires-clause-few : goal.each_certain-requires-clause-few
@@ -11,12 +11,7 @@ each_certain-requires-clause-few g c =
     let rows = c.args.table.now.rows in
     let kept = c.args.kept.now in
     let worth : c.as_slice.result.now ≡ firsts same_tuple (value_of_rows words kept rows) = search rules in
-    let first = first_fewer (value_of_rows words kept rows) in
-    let all = worth_fewer words kept rows in
-    subst (λ l. length l ≤ length rows) (sym worth) (omega (arith, first, all))
-
-pub each_certain-requires-clause-once : goal.each_certain-requires-clause-once
-each_certain-requires-clause-once g c = subst (IsDistinct same_tuple) (sym c.as_slice.ensures.keys) (distinct_keys _ c.as_slice.ensures.unique)
+    firsts_few words kept rows c.as_slice.result.now worth
 
 pub each_certain-requires-clause-asked : goal.each_certain-requires-clause-asked
 each_certain-requires-clause-asked g c =
@@ -27,13 +22,11 @@ each_certain-requires-clause-asked g c =
     let width = length c.args.table.now.columns in
     let same : c.as_slice-before.result.now ≡ words = search rules in
     let worth : c.as_slice.result.now ≡ firsts same_tuple (value_of_rows words kept rows) = search rules in
-    subst (λ l. All (IsAskedOf c.as_slice-before.result.now c.as_slice-before.result.now global width rows) l) (sym worth)
-    (subst (λ ws. All (IsAskedOf ws ws global width rows) (firsts same_tuple (value_of_rows words kept rows))) (sym same)
-    (first_all (IsAskedOf words words global width rows) (value_of_rows words kept rows)
-    (worth_asked words global width rows kept c.words.ensures.formed c.words.ensures.begins c.requires.global c.requires.plain c.requires.rows c.requires.kept)))
+    subst (λ ws. All (IsAskedOf ws ws global width rows) c.as_slice.result.now) (sym same)
+    (firsts_asked words kept rows c.as_slice.result.now worth global width c.words.ensures.formed c.words.ensures.begins c.requires.global c.requires.plain c.requires.rows c.requires.kept)
 
 pub each_certain-requires-clause-pool : goal.each_certain-requires-clause-pool
-each_certain-requires-clause-pool g c = subst (λ rs. All (IsSeen c.as_slice-before.result.now c.args.global rs) c.see_first.new.pool.items) c.as_slice-rows.ensures c.in_ok-see_first.ensures
+each_certain-requires-clause-pool g c = subst (λ rs. All (IsSeen c.as_slice-before.result.now c.args.global rs) c.in_ok-pool.pool.items) c.as_slice-rows.ensures c.in_ok-pool.ensures
 
 pub returns-clause-lists : goal.returns-clause-lists
 returns-clause-lists g c =

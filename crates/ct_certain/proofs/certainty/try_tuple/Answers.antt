@@ -1,11 +1,14 @@
-use Rattle.std.proofs.Common.{sym, subst}
-use Rattle.ct_certain.{specs.Answered.IsSettled, specs.Certain.IsInAll, specs.Missing.{IsRootOf, nothing}}
+use Rattle.std.proofs.Common.{ap, sym, subst, ◌∙◌}
+use Rattle.ct_certain.{specs.Answered.IsSettled, specs.Missing.{IsRootOf, is_in_each, nothing}, proofs.Candidates.{lacked_by, missing_once}}
 use Rattle.ct_certain.proofs.Certainties.{takes_nothing, takes_one}
 use Rattle.ct_certain.proofs.certainty.try_tuple.Goals as goal
 
 pub returns-then-not-is_everywhere-clause-takes : goal.returns-then-not-is_everywhere-clause-takes
 returns-then-not-is_everywhere-clause-takes g c =
-    nothing (λ all. c.is_everywhere.ensures c.if-not-is_everywhere.true (subst (λ rs. IsInAll c.args.words.now c.args.global rs c.args.tuple.now) (sym c.as_slice-rows.ensures) all))
+    let words = c.args.words.now in
+    let rows = c.args.table.now.rows in
+    nothing (missing_once words c.args.global rows c.args.tuple.now
+    (lacked_by words c.args.global rows c.args.pool.now.items c.args.tuple.now c.requires.pool (ap (λ ss. is_in_each ss c.args.tuple.now) (sym c.as_slice.ensures.value) ∙ sym c.is_everywhere.ensures ∙ c.if-not-is_everywhere.true)))
 
 pub returns-in_ok-see-in-World-clause-takes : goal.returns-in_ok-see-in-World-clause-takes
 returns-in_ok-see-in-World-clause-takes g c =

@@ -1,7 +1,7 @@
 use Rattle.std.{proofs.Common.{◌≡◌, ◌≤◌, ◌*◌, [], length, sym, subst, arith}, specs.Prelude.All, proofs.lemmas.List.take_all}
 use Rattle.std.{proofs.lemmas.List.Elements.All-nil, proofs.lemmas.Result.err_from_is_err_and}
 use Rattle.ct_condition.proofs.Writes.{writes_none, writes_within, writes_as, writes_more, writes_last}
-use Rattle.ct_certain.{specs.Own.IsOwn, specs.Possible.{ListsPossible, ended}, proofs.Listing.{lists_turn, row_of}}
+use Rattle.ct_certain.{specs.Own.IsOwn, specs.Possible.{ListsPossible, ended}, proofs.Listing.{listed_turn, own_turn, row_of}}
 use mathlib.Core.List.{IsPrefix}
 use Rattle.ct_certain.proofs.possibility.each_possible.Goals as goal
 
@@ -19,14 +19,14 @@ show-requires-clause-longer g c = subst (λ ws. IsPrefix ws (g.I.Interner.list c
 pub show-requires-clause-asked : goal.show-requires-clause-asked
 show-requires-clause-asked g c = row_of c.args.words.now c.args.global c.args.rows.now c.loop-row.row-index c.row-item.result c.loop-row-test.true c.row-item.is c.requires.rows
 
-pub list_row-requires-clause-asked : goal.list_row-requires-clause-asked
-list_row-requires-clause-asked g c = row_of c.args.words.now c.args.global c.args.rows.now c.loop-row.row-index c.row-item.result c.loop-row-test.true c.row-item.is c.requires.rows
+pub list_row-requires-clause-cells : goal.list_row-requires-clause-cells
+list_row-requires-clause-cells g c = (row_of c.args.words.now c.args.global c.args.rows.now c.loop-row.row-index c.row-item.result c.loop-row-test.true c.row-item.is c.requires.rows).terms
 
 pub loop-row-preserved : goal.loop-row-preserved
 loop-row-preserved g c = record {
   writes = writes_more _ c.loop-row.row-index c.loop-row.invariant.writes c.in_ok-found.ensures.writes;
-  lists = lists_turn c.args.words.now c.args.global c.args.rows.now c.loop-row.row-index c.row-item.result c.loop-row.list.items c.list_row.new.list.items c.loop-row-test.true c.row-item.is c.loop-row.invariant.lists c.in_ok-list_row.ensures.adds;
-  own = c.in_ok-list_row.ensures.own c.args.rows.now (c.loop-row.row-index, c.loop-row-test.true, sym c.row-item.is) c.loop-row.invariant.own;
+  lists = listed_turn c.args.words.now c.args.global c.args.rows.now c.loop-row.row-index c.row-item.result c.loop-row.list.items c.list_row.new.list.items c.in_ok-found.found c.loop-row-test.true c.row-item.is c.in_ok-found.ensures.answer c.in_ok-list_row.ensures c.loop-row.invariant.lists;
+  own = own_turn c.args.words.now c.args.global c.args.rows.now c.loop-row.row-index c.row-item.result c.loop-row.list.items c.list_row.new.list.items c.in_ok-found.found c.loop-row-test.true c.row-item.is c.in_ok-found.ensures.answer c.in_ok-list_row.ensures c.loop-row.invariant.own;
   pool = c.in_ok-found.ensures.pool;
 }
 

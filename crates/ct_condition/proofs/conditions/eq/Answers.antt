@@ -8,14 +8,14 @@ use Rattle.ct_condition.proofs.conditions.eq.Goals as goal
 pub returns-in-None-clause-truth : goal.returns-in-None-clause-truth
 returns-in-None-clause-truth g c =
     together c.pair.result _ _ _ _
-    (λ place stands is small. equal_put (g.I.Interner.list c.args.pass.now) (g.I.Interner.list c.pair.new.pass) c.pair.ensures.longer place is small c.args.s c.args.t c.requires.left c.requires.right stands)
+    (λ place stands is small. equal_put (g.I.Interner.list c.args.pass.now) (g.I.Interner.list c.pair.new.pass) c.pair.ensures.writes.longer place is small c.args.s c.args.t c.requires.left c.requires.right stands)
     c.pair.ensures.stands c.pair.ensures.place c.pair.ensures.small
 
 pub returns-in-None-clause-terms : goal.returns-in-None-clause-terms
 returns-in-None-clause-terms g c =
     let old = g.I.Interner.list c.args.pass.now in
     both_of c.pair.result _ _ _
-    (λ place is from. put_either old (g.I.Interner.list c.pair.new.pass) c.pair.ensures.longer c.pair.ensures.formed place is c.args.s c.args.t
+    (λ place is from. put_either old (g.I.Interner.list c.pair.new.pass) c.pair.ensures.writes.longer c.pair.ensures.writes.formed place is c.args.s c.args.t
     (place_within old class.Term c.args.s c.requires.left) (place_within old class.Term c.args.t c.requires.right) from)
     c.pair.ensures.place c.pair.ensures.terms
 
@@ -27,7 +27,7 @@ returns-in-Some-clause-terms g c =
 pub returns-in-None-clause-ops : goal.returns-in-None-clause-ops
 returns-in-None-clause-ops g c =
     IfOk-weaker c.pair.result _ _
-    (λ place stands. put_eq (g.I.Interner.list c.args.pass.now) (g.I.Interner.list c.pair.new.pass) c.pair.ensures.longer place c.args.s c.args.t stands) c.pair.ensures.stands
+    (λ place stands. put_eq (g.I.Interner.list c.args.pass.now) (g.I.Interner.list c.pair.new.pass) c.pair.ensures.writes.longer place c.args.s c.args.t stands) c.pair.ensures.stands
 
 pub returns-in-Some-clause-ops : goal.returns-in-Some-clause-ops
 returns-in-Some-clause-ops g c =

@@ -11,14 +11,14 @@ pair-requires-clause-formed g c = formed_either c.args.connective _ c.kind_under
 pub returns-in-None-clause-truth : goal.returns-in-None-clause-truth
 returns-in-None-clause-truth g c =
     together c.pair.result _ _ _ _
-    (λ place stands is small. join_put (g.I.Interner.list c.args.pass.now) (g.I.Interner.list c.pair.new.pass) c.pair.ensures.longer place is small c.args.connective c.args.c c.args.d c.requires.left c.requires.right stands)
+    (λ place stands is small. join_put (g.I.Interner.list c.args.pass.now) (g.I.Interner.list c.pair.new.pass) c.pair.ensures.writes.longer place is small c.args.connective c.args.c c.args.d c.requires.left c.requires.right stands)
     (rw c.kind_under.ensures.kind at c.pair.ensures.stands) (rw c.kind_under.ensures.class at c.pair.ensures.place) c.pair.ensures.small
 
 pub returns-in-None-clause-terms : goal.returns-in-None-clause-terms
 returns-in-None-clause-terms g c =
     let old = g.I.Interner.list c.args.pass.now in
     both_of c.pair.result _ _ _
-    (λ place is from. put_either old (g.I.Interner.list c.pair.new.pass) c.pair.ensures.longer c.pair.ensures.formed place is c.args.c c.args.d
+    (λ place is from. put_either old (g.I.Interner.list c.pair.new.pass) c.pair.ensures.writes.longer c.pair.ensures.writes.formed place is c.args.c c.args.d
     (place_within old class.Cond c.args.c c.requires.left) (place_within old class.Cond c.args.d c.requires.right) from)
     (rw c.kind_under.ensures.class at c.pair.ensures.place) c.pair.ensures.terms
 
@@ -31,7 +31,7 @@ pub returns-in-None-clause-ops : goal.returns-in-None-clause-ops
 returns-in-None-clause-ops g c =
     let old = g.I.Interner.list c.args.pass.now in
     IfOk-weaker c.pair.result _ _
-    (λ place stands. put_join old (g.I.Interner.list c.pair.new.pass) c.pair.ensures.longer c.args.connective place c.args.c c.args.d (place_within old class.Cond c.args.c c.requires.left) (place_within old class.Cond c.args.d c.requires.right) stands)
+    (λ place stands. put_join old (g.I.Interner.list c.pair.new.pass) c.pair.ensures.writes.longer c.args.connective place c.args.c c.args.d (place_within old class.Cond c.args.c c.requires.left) (place_within old class.Cond c.args.d c.requires.right) stands)
     (rw c.kind_under.ensures.kind at c.pair.ensures.stands)
 
 pub returns-in-Some-clause-ops : goal.returns-in-Some-clause-ops

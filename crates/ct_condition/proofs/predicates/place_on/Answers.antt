@@ -1,6 +1,7 @@
-use Rattle.std.{proofs.Common.{sym, arith}, proofs.lemmas.Result.IfOk-weaker}
+use Rattle.std.{proofs.Common.{sym}, proofs.lemmas.Result.IfOk-weaker}
 use Rattle.ct_condition.{proofs.OnRows.{cell_worth, cell_place, term_worth}, proofs.Pasts.past_fits, proofs.Named.{cell_terms, own_terms}}
-use Rattle.ct_condition.proofs.Placed.{cell_zero, placed_zero, place_from, term_made, term_less}
+use Rattle.ct_condition.proofs.Placed.{cell_zero, placed_zero, place_from, term_made}
+use Rattle.ct_condition.proofs.Writes.{writes_of}
 use Rattle.ct_condition.proofs.predicates.place_on.Goals as goal
 
 pub returns-in-Some-clause-worth : goal.returns-in-Some-clause-worth
@@ -25,21 +26,14 @@ returns-in-None-clause-terms g c =
     IfOk-weaker c.term.result _ _
     (λ place from. own_terms (g.I.Interner.list c.args.pass.now) (g.I.Interner.list c.term.new.pass) c.args.row.now c.args.t.now place (sym c.in-None.ensures) from) c.term.ensures.terms
 
-pub returns-in-Some-clause-made : goal.returns-in-Some-clause-made
-returns-in-Some-clause-made g c = omega arith
-
 pub returns-in-Some-clause-placed : goal.returns-in-Some-clause-placed
 returns-in-Some-clause-placed g c = cell_zero (g.I.Interner.list c.args.pass.now) c.args.row.now c.args.t.now c.in-Some.place (sym c.in-Some.ensures)
 
-pub returns-in-None-clause-made : goal.returns-in-None-clause-made
-returns-in-None-clause-made g c =
-    term_made (g.I.Interner.made c.args.pass.now) (g.I.Interner.made c.term.new.pass) (g.I.Interner.list c.args.pass.now) c.args.row.now c.args.t.now (sym c.in-None.ensures)
-    (λ e. (c.term.ensures.known e).2) c.term.ensures.made
-
-pub returns-in-None-clause-err : goal.returns-in-None-clause-err
-returns-in-None-clause-err g c =
-    term_less (g.I.Interner.made c.args.pass.now) (g.I.Interner.made c.term.new.pass) (g.I.Interner.list c.args.pass.now) c.args.row.now c.args.t.now c.term.result (sym c.in-None.ensures)
-    (λ e. (c.term.ensures.known e).0) c.term.ensures.err
+pub returns-in-None-clause-writes : goal.returns-in-None-clause-writes
+returns-in-None-clause-writes g c =
+    writes_of c.term.ensures.writes
+    (term_made (g.I.Interner.made c.args.pass.now) (g.I.Interner.made c.term.new.pass) (g.I.Interner.list c.args.pass.now) c.args.row.now c.args.t.now c.term.result (sym c.in-None.ensures)
+    (λ e. ((c.term.ensures.known e).0, (c.term.ensures.known e).2)) c.term.ensures.writes.made)
 
 pub returns-in-None-clause-placed : goal.returns-in-None-clause-placed
 returns-in-None-clause-placed g c =

@@ -7,6 +7,8 @@ use Rattle.ct_word.specs.declared.kinds.Class.TheVariants as class
 use Rattle.ct_word.specs.declared.values.Value.TheVariants as val
 use Rattle.ct_word.specs.declared.values.Term.TheVariants as term
 use Rattle.ct_word.specs.declared.kinds.Kind.TheVariants as kind
+use Rattle.std.proofs.lemmas.Result.{err_from_is_err_and}
+use Rattle.ct_condition.proofs.Writes.{writes_both, writes_within}
 use Rattle.ct_condition.proofs.terms.number.Goals as goal
 
 pub returns-clause-stands : goal.returns-clause-stands
@@ -51,3 +53,10 @@ returns-clause-known g c p s =
     let still = subst (λ ws. StandsAt ws p (IsTerm (term.Value (val.Int c.args.number)))) (sym first.1) s in
     let second = c.put-2.ensures.known (number_there mid c.in_ok-high.ensures.formed p n c.args.number (omega arith) is still c.in_ok-high.high c.in_ok-high.ensures.word) in
     (second.0, second.1 ∙ first.1, second.2 ∙ first.2)
+
+pub returns-clause-writes : goal.returns-clause-writes
+returns-clause-writes g c = writes_both c.in_ok-high.ensures.writes c.put-2.ensures.writes
+
+pub returns-in_err-high-clause-writes : goal.returns-in_err-high-clause-writes
+returns-in_err-high-clause-writes g c =
+    rw (err_from_is_err_and c.from_residual.result c.from_residual.ensures.1).1 (writes_within _ (omega arith) c.in_err-high.ensures.writes)

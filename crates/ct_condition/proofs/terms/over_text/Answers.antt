@@ -3,6 +3,8 @@ use Rattle.ct_word.{specs.Reading.{IsText, IsTerm, as_text, meanings}, specs.Sta
 use Rattle.ct_condition.{specs.Terms.{BelowSome, text_term}, proofs.Fields.kept, proofs.Reached.{formed_before, both_of, only_term, under_one, terms_before}}
 use Rattle.ct_condition.proofs.Known.{text_word, text_there, over_there}
 use Rattle.ct_word.specs.declared.kinds.Class.TheVariants as class
+use Rattle.std.{proofs.Common.arith, proofs.lemmas.Result.err_from_is_err_and}
+use Rattle.ct_condition.proofs.Writes.{writes_both, writes_within}
 use Rattle.ct_condition.proofs.terms.over_text.Goals as goal
 
 pub put-requires-clause-formed : goal.put-requires-clause-formed
@@ -49,3 +51,10 @@ returns-clause-known g c p s =
     let again = text_there mid c.in_ok-place.ensures.formed c.args.kind c.requires p c.args.t.now still in
     let second = c.put.ensures.known (over_there mid c.in_ok-place.ensures.formed c.args.kind c.args.t.now c.in_ok-place.place again c.in_ok-place.ensures.stands) in
     (second.0, second.1 ∙ first.1, second.2 ∙ first.2)
+
+pub returns-clause-writes : goal.returns-clause-writes
+returns-clause-writes g c = writes_within _ (omega arith) (writes_both c.in_ok-place.ensures.writes c.put.ensures.writes)
+
+pub returns-in_err-place-clause-writes : goal.returns-in_err-place-clause-writes
+returns-in_err-place-clause-writes g c =
+    rw (err_from_is_err_and c.from_residual.result c.from_residual.ensures.1).1 (writes_within _ (omega arith) c.in_err-place.ensures.writes)

@@ -1,4 +1,4 @@
-use Rattle.std.{proofs.Common.{◌≡◌, ◌+◌, ◌-◌, ◌<◌, ◌++◌, ◌∷◌, [], length, take, get_or, sym, ap, ◌∙◌, arith, length-append}, specs.Prelude.{Some, None}}
+use Rattle.std.{proofs.Common.{◌≡◌, ◌-◌, ◌<◌, ◌∷◌, [], length, take, get_or, sym, ap, ◌∙◌, arith, length-append}, specs.Prelude.{Some}}
 use Rattle.std.proofs.lemmas.List.{take_more}
 use Rattle.csv.specs.Records.{fields_of}
 use Rattle.ct_csv.{specs.Fields.{field_name, names_of}, proofs.Rows.names_more, proofs.Found.no_name_at}

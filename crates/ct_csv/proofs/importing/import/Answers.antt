@@ -1,4 +1,4 @@
-use Rattle.std.proofs.Common.{map, sym, ap, subst}
+use Rattle.std.proofs.Common.{map, sym, subst}
 use Rattle.csv.specs.Records.{fields_of}
 use Rattle.ct_lex.specs.Spelling.{lowered}
 use Rattle.ct_csv.{specs.Csv.{IsCsv, AreEven}, proofs.Imported.{imported, not_imported}}

@@ -1,4 +1,4 @@
-use Rattle.std.{proofs.Common.{◌≡◌, ◌+◌, ◌<◌, ◌++◌, [], length, map, get_or, sym, ap, subst, ◌∙◌, arith}, specs.Prelude.string_bytes}
+use Rattle.std.{proofs.Common.{◌+◌, ◌<◌, ◌++◌, [], length, map, sym, ap, subst, ◌∙◌, arith}, specs.Prelude.string_bytes}
 use Rattle.std.{proofs.lemmas.List.{get_or-map, length-map}, proofs.lemmas.Result.err_from_is_err_and}
 use Rattle.csv.specs.Records.{fields_of}
 use Rattle.ct_csv.{specs.Script.insert_line, specs.Refusing.{AreRight, WhyNoRow}, proofs.Inserted.{one_line, one_right, no_rows}}

@@ -1,10 +1,9 @@
-use Rattle.std.proofs.Common.{Bor, List, ℕ, ◌≡◌, ◌∙◌, sym, refl, rules, inl, inr, true, map, Some, ◌∷◌, []}
-use Rattle.std.specs.Result.{is_ok}
+use Rattle.std.proofs.Common.{Bor, List, ℕ, ◌≡◌, ◌∙◌, sym, refl, inl, inr, map, Some, ◌∷◌, []}
 use Rattle.std.proofs.lemmas.List.{map-append}
 use Rattle.csv.specs.Reading.{Reached, default_config, strip_bom}
 use Rattle.csv.specs.Records.{fields_of}
 use Rattle.csv.specs.declared.parser.State.TheVariants as st
-use Rattle.csv.proofs.ReadFacts.{rows-end, rows-more}
+use Rattle.csv.proofs.ReadFacts.{rows-more}
 use Rattle.ct_csv.proofs.{Even.{expects_more, texts_more}, Refused.{refused, if_some_at}}
 use Rattle.ct_csv.proofs.reading.records.Goals as goal
 

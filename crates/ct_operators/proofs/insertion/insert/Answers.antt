@@ -1,25 +1,15 @@
-use Rattle.std.{proofs.Common.{◌≡◌, ◌++◌, ◌∙◌, length, map, ap, sym, subst, ◌≤◌, ◌+◌, arith}, specs.Prelude.{All, IfOk}, proofs.lemmas.List.Elements.All-append}
-use Rattle.std.proofs.lemmas.List.{map-append, length-append}
+use Rattle.std.{proofs.Common.{◌≡◌, ◌++◌, ◌∙◌, length, map, ap, sym, subst, arith}, specs.Prelude.{All, IfOk}, proofs.lemmas.List.Elements.All-append}
+use Rattle.std.{proofs.lemmas.List.map-append, proofs.lemmas.Result.err_from_is_err_and}
 use Rattle.ct_word.{specs.declared.values.CRow.CRow, specs.Value.same_cells, specs.Sublist.IsSublist, specs.Reading.term_at}
 use Rattle.ct_query.specs.Database.{SameSet}
 use Rattle.ct_operators.{specs.Tables.{IsRow, AreRows, value_of_rows, cells_of, firsts}, proofs.Firsts.part_of_merged, proofs.Selecting.value-append}
-use Rattle.ct_operators.{proofs.Adding.rows_stay_first, specs.Terms.{TermOfRows, RowsFrom}, proofs.insertion.insert.Goals.After-merged}
+use Rattle.ct_condition.proofs.Writes.{writes_none, writes_within}
+use Rattle.ct_operators.{proofs.Adding.more_repeat, specs.Merging.repeats, specs.Terms.{TermOfRows, RowsFrom}, proofs.insertion.insert.Goals.After-merged}
 use Rattle.ct_operators.proofs.insertion.insert.Goals as goal
 
 -- the rows of the table, and the further ones
 listed : (g : _) (c : After-merged g) → c.copy_rows-2.new.to.items ≡ c.args.table.now.rows ++ c.args.rows.now
 listed g c = c.in_ok-copy_rows-2.ensures ∙ ap (λ l. l ++ c.args.rows.now) (c.in_ok-copy_rows.ensures ∙ (λ i. c.new-all.ensures.items i ++ c.as_slice.ensures i))
-
--- how many there are, and how many are first ones
-counts : (g : _) (c : After-merged g) → (length c.copy_rows-2.new.to.items ≡ length c.args.table.now.rows + length c.args.rows.now)
-    × (length c.args.table.now.rows ≤ length (firsts same_cells (cells_of (g.I.Interner.list c.args.pass.now) c.copy_rows-2.new.to.items)))
-counts g c =
-    let old = g.I.Interner.list c.args.pass.now in
-    let rows = c.args.table.now.rows in
-    let more = c.args.rows.now in (
-      ap (λ l. length l) (listed g c) ∙ length-append rows more,
-      subst (λ l. length rows ≤ length (firsts same_cells (cells_of old l))) (sym (listed g c)) (rows_stay_first old rows more c.requires.table.distinct),
-    )
 
 pub merged-requires : goal.merged-requires
 merged-requires g c =
@@ -57,11 +47,27 @@ returns-clause-part g c =
     let old = g.I.Interner.list c.args.pass.now in
     part_of_merged (g.I.Interner.list c.merged.new.pass) c.merged.result (cells_of old c.args.table.now.rows ++ cells_of old c.args.rows.now) (returns-clause-order g c)
 
-pub returns-clause-made : goal.returns-clause-made
-returns-clause-made g c = let n = counts g (goal.at.returns-clause-made g c).After-merged in omega (arith, n, c.merged.ensures.made)
+pub returns-clause-writes : goal.returns-clause-writes
+returns-clause-writes g c =
+    let old = g.I.Interner.list c.args.pass.now in
+    let few = more_repeat old c.args.table.now.rows c.args.rows.now c.requires.table.distinct in
+    let all = ap (repeats old) (listed g (goal.at.returns-clause-writes g c).After-merged) in
+    writes_within _ (omega (arith, few, all)) c.merged.ensures.writes
 
-pub returns-clause-fewer : goal.returns-clause-fewer
-returns-clause-fewer g c e = let n = counts g (goal.at.returns-clause-fewer g c).After-merged in omega (arith, n, c.merged.ensures.fewer e)
+pub returns-in_err-columns-clause-writes : goal.returns-in_err-columns-clause-writes
+returns-in_err-columns-clause-writes g c =
+    let exit = err_from_is_err_and c.from_residual.result c.from_residual.ensures.1 in
+    rw (exit.1, exit.2) (writes_none _ c.words.ensures.formed c.words.ensures.room)
+
+pub returns-in_err-copy_rows-clause-writes : goal.returns-in_err-copy_rows-clause-writes
+returns-in_err-copy_rows-clause-writes g c =
+    let exit = err_from_is_err_and c.from_residual-in_err-copy_rows.result c.from_residual-in_err-copy_rows.ensures.1 in
+    rw (exit.1, exit.2) (writes_none _ c.words.ensures.formed c.words.ensures.room)
+
+pub returns-in_err-copy_rows-2-clause-writes : goal.returns-in_err-copy_rows-2-clause-writes
+returns-in_err-copy_rows-2-clause-writes g c =
+    let exit = err_from_is_err_and c.from_residual-in_err-copy_rows-2.result c.from_residual-in_err-copy_rows-2.ensures.1 in
+    rw (exit.1, exit.2) (writes_none _ c.words.ensures.formed c.words.ensures.room)
 
 pub returns-clause-terms : goal.returns-clause-terms
 returns-clause-terms g c =

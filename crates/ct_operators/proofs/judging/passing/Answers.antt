@@ -1,7 +1,7 @@
-use Rattle.std.{proofs.Common.{◌≡◌, ◌≤◌, ◌<◌, ◌+◌, length, refl, sym, subst}, specs.Prelude.{IfOk, OnErr, OnOk, ◌⊎◌}, proofs.lemmas.Result.IfOk-weaker}
+use Rattle.std.{proofs.Common.{◌≡◌, ◌+◌, true, length, refl, sym, subst, arith}, specs.Prelude.{IfOk, OnOk, is_err, ◌⊎◌}, proofs.lemmas.Result.{IfOk-weaker, err_from_is_err_and}}
 use Rattle.ct_word.specs.Stands.{TermBelow}
 use Rattle.ct_query.{specs.Fits.FitsRows, specs.Pred.condition_of}
-use Rattle.ct_condition.{specs.Rows.words_on, specs.Terms.{TermsFrom, BelowSome}}
+use Rattle.ct_condition.{specs.Rows.words_on, specs.Terms.{TermsFrom, BelowSome}, specs.Writes.Writes, proofs.Writes.{writes_as, writes_both, writes_within}}
 use Rattle.ct_operators.{specs.Terms.IsPlaced, specs.Judging.{FitsTest, Beside, first_words, test_words}, proofs.Choosing.{new_on_cells, words_on_cells}}
 use Rattle.ct_operators.proofs.judging.passing.Goals.{After-pred}
 use Rattle.ct_operators.proofs.judging.passing.Goals as goal
@@ -18,13 +18,27 @@ words g c =
     subst (λ x. words_on old cells (condition_of c.in-Holds.p.now) ≡ first_words old x + test_words old (length cells) x) (sym c.in-Holds.is)
     (words_on_cells old cells cells (condition_of c.in-Holds.p.now) refl (fits g c).columns)
 
-pub returns-in-Holds-clause-made : goal.returns-in-Holds-clause-made
-returns-in-Holds-clause-made g c =
-    subst (λ n. g.I.Interner.made c.pred.new.pass ≤ g.I.Interner.made c.args.pass.now + n) (words g (goal.at.returns-in-Holds-clause-made g c).After-pred) c.pred.ensures.made
+pub returns-in-Holds-clause-writes : goal.returns-in-Holds-clause-writes
+returns-in-Holds-clause-writes g c = writes_as (words g (goal.at.returns-in-Holds-clause-writes g c).After-pred) c.pred.ensures.writes
 
-pub returns-in-Holds-clause-err : goal.returns-in-Holds-clause-err
-returns-in-Holds-clause-err g c =
-    subst (λ n. OnErr c.pred.result (g.I.Interner.made c.pred.new.pass < g.I.Interner.made c.args.pass.now + n)) (words g (goal.at.returns-in-Holds-clause-err g c).After-pred) c.pred.ensures.err
+pub returns-in_ok-gone-in-Fails-clause-writes : goal.returns-in_ok-gone-in-Fails-clause-writes
+returns-in_ok-gone-in-Fails-clause-writes g c =
+    let old = g.I.Interner.list c.args.pass.now in
+    subst (λ x. Writes g.I.Interner.list g.I.Interner.made g.I.Interner.kept g.I.Interner.lent g.N.Site.log.cap c.args.pass.now c.not.new.pass (first_words old x + test_words old (length c.args.cells.now) x) (is_err c.not.result)) (sym c.in-Fails.is)
+    (writes_within _ (omega arith) (writes_both c.in_ok-gone-in-Fails.ensures.writes c.not.ensures.writes))
+
+pub returns-in_err-gone-in-Fails-clause-writes : goal.returns-in_err-gone-in-Fails-clause-writes
+returns-in_err-gone-in-Fails-clause-writes g c =
+    let old = g.I.Interner.list c.args.pass.now in
+    rw (err_from_is_err_and c.from_residual.result c.from_residual.ensures.1).1
+    (subst (λ x. Writes g.I.Interner.list g.I.Interner.made g.I.Interner.kept g.I.Interner.lent g.N.Site.log.cap c.args.pass.now c.on_row.new.pass (first_words old x + test_words old (length c.args.cells.now) x) true) (sym c.in-Fails.is)
+    (writes_within _ (omega arith) c.in_err-gone-in-Fails.ensures.writes))
+
+pub returns-in-Among-clause-writes : goal.returns-in-Among-clause-writes
+returns-in-Among-clause-writes g c =
+    let old = g.I.Interner.list c.args.pass.now in
+    subst (λ x. Writes g.I.Interner.list g.I.Interner.made g.I.Interner.kept g.I.Interner.lent g.N.Site.log.cap c.args.pass.now c.among.new.pass (first_words old x + test_words old (length c.args.cells.now) x) (is_err c.among.result)) (sym c.in-Among.is)
+    (writes_within _ (omega arith) c.among.ensures.writes)
 
 pub returns-in-Holds-clause-placed : goal.returns-in-Holds-clause-placed
 returns-in-Holds-clause-placed g c =

@@ -1,10 +1,10 @@
-use Rattle.std.{proofs.Common.{◌∙◌, length, ap, sym, subst, ◌≡◌, arith, ◌++◌}, specs.Prelude.{All, IfOk}, specs.List.IsDistinct}
-use Rattle.std.{proofs.lemmas.List.length-append, proofs.lemmas.Result.IfOk-weaker}
+use Rattle.std.{proofs.Common.{◌∙◌, length, ap, sym, subst, arith, ◌++◌}, specs.Prelude.{All, IfOk}, specs.List.IsDistinct}
+use Rattle.std.{proofs.lemmas.List.length-append, proofs.lemmas.Result.{IfOk-weaker, err_from_is_err_and}}
 use Rattle.ct_word.{specs.Value.same_cells, specs.Sublist.IsSublist}
 use Rattle.ct_query.{specs.Database.SameSet, specs.Rows.joins}
-use Rattle.ct_operators.{specs.Tables.{IsRow, AreRows, value_of_rows, cells_of, firsts}, proofs.Firsts.part_of_merged, proofs.Adding.all_first}
+use Rattle.ct_condition.proofs.Writes.{writes_none, writes_both, writes_within}
+use Rattle.ct_operators.{specs.Tables.{IsRow, AreRows, value_of_rows, cells_of, firsts}, proofs.Firsts.part_of_merged, proofs.Adding.none_repeats}
 use Rattle.ct_operators.{proofs.Pairing.joined_apart, specs.Terms.{TermOfRows, RowsFrom}, proofs.Reaching.{rows_wider, from_rows}}
-use Rattle.ct_operators.proofs.products.product.Goals.{After-merged}
 use Rattle.ct_operators.proofs.products.product.Goals as goal
 
 pub merged-requires : goal.merged-requires
@@ -30,17 +30,24 @@ returns-clause-part g c =
     part_of_merged new c.merged.result (joins (cells_of old c.args.left.now.rows) (cells_of old c.args.right.now.rows))
     (subst (λ l. IfOk c.merged.result (λ out. IsSublist (cells_of new out.rows) (firsts same_cells l))) c.in_ok-pairs.ensures.pairs.cells_are c.merged.ensures.order)
 
--- pairs of rows of distinct cells have distinct cells
-apart : (g : _) (c : After-merged g) → length (firsts same_cells (cells_of (g.I.Interner.list c.pairs.new.pass) c.in_ok-pairs.pairs.items)) ≡ length c.in_ok-pairs.pairs.items
-apart g c =
-    all_first (g.I.Interner.list c.pairs.new.pass) c.in_ok-pairs.pairs.items (subst (IsDistinct same_cells) (sym c.in_ok-pairs.ensures.pairs.cells_are)
-    (joined_apart (g.I.Interner.list c.args.pass.now) (length c.args.left.now.columns) (length c.args.right.now.columns) c.args.left.now.rows c.args.right.now.rows c.requires.left c.requires.right))
+pub returns-clause-writes : goal.returns-clause-writes
+returns-clause-writes g c =
+    let old = g.I.Interner.list c.args.pass.now in
+    let mid = g.I.Interner.list c.pairs.new.pass in
+    -- pairs of rows of distinct cells have distinct cells
+    let apart = joined_apart old (length c.args.left.now.columns) (length c.args.right.now.columns) c.args.left.now.rows c.args.right.now.rows c.requires.left c.requires.right in
+    let none = none_repeats mid c.in_ok-pairs.pairs.items (subst (IsDistinct same_cells) (sym c.in_ok-pairs.ensures.pairs.cells_are) apart) in
+    writes_within _ (omega (arith, none)) (writes_both c.in_ok-pairs.ensures.writes c.merged.ensures.writes)
 
-pub returns-clause-made : goal.returns-clause-made
-returns-clause-made g c = omega (arith, apart g (goal.at.returns-clause-made g c).After-merged, c.in_ok-pairs.ensures.writes.made, c.merged.ensures.made)
+pub returns-in_err-names-clause-writes : goal.returns-in_err-names-clause-writes
+returns-in_err-names-clause-writes g c =
+    let exit = err_from_is_err_and c.from_residual.result c.from_residual.ensures.1 in
+    rw (exit.1, exit.2) (writes_none _ c.words.ensures.formed c.words.ensures.room)
 
-pub returns-clause-fewer : goal.returns-clause-fewer
-returns-clause-fewer g c e = omega (arith, apart g (goal.at.returns-clause-fewer g c).After-merged, c.in_ok-pairs.ensures.writes.made, c.merged.ensures.fewer e)
+pub returns-in_err-pairs-clause-writes : goal.returns-in_err-pairs-clause-writes
+returns-in_err-pairs-clause-writes g c =
+    let exit = err_from_is_err_and c.from_residual-in_err-pairs.result c.from_residual-in_err-pairs.ensures.1 in
+    rw (exit.1, exit.2) c.in_err-pairs.ensures.writes
 
 pub returns-clause-terms : goal.returns-clause-terms
 returns-clause-terms g c =

@@ -1,7 +1,8 @@
-use Rattle.std.{proofs.Common.{◌<◌, ◌∙◌, length, map, ap, sym, subst, ◌≡◌, arith}, specs.Prelude.{All, IfOk}, proofs.lemmas.List.length-map}
-use Rattle.std.proofs.lemmas.Result.{IfOk-weaker}
+use Rattle.std.{proofs.Common.{◌<◌, ◌∙◌, length, map, ap, sym, subst, arith}, specs.Prelude.{All, IfOk}, proofs.lemmas.List.length-map}
+use Rattle.std.proofs.lemmas.Result.{IfOk-weaker, err_from_is_err_and}
 use Rattle.ct_word.{specs.Value.same_cells, specs.Sublist.IsSublist}
 use Rattle.ct_query.{specs.Database.SameSet, specs.Patterns.picked}
+use Rattle.ct_condition.proofs.Writes.{writes_none, writes_within}
 use Rattle.ct_operators.{specs.Tables.{IsRow, AreRows, value_of_rows, cells_of, firsts}, specs.Projection.picked_row, proofs.Firsts.part_of_merged}
 use Rattle.ct_operators.{proofs.Projecting.{all_within, picked_rows, cells_picked, value_picked, picked_from}, specs.Terms.{TermOfRows, RowsFrom}}
 use Rattle.ct_operators.proofs.Reaching.{rows_itself, rows_wider, from_rows}
@@ -49,17 +50,20 @@ returns-clause-part g c =
     let old = g.I.Interner.list c.args.pass.now in
     part_of_merged (g.I.Interner.list c.merged.new.pass) c.merged.result (map (picked c.args.columns.now) (cells_of old c.args.table.now.rows)) (returns-clause-order g c)
 
-pub returns-clause-made : goal.returns-clause-made
-returns-clause-made g c =
-    let long : length c.in_ok-rows.rows.items ≡ length c.args.table.now.rows =
-    ap (λ l. length l) (c.in_ok-rows.ensures ∙ ap (map _) c.as_slice.ensures) ∙ length-map c.args.table.now.rows (picked_row c.args.columns.now) in
-    omega (arith, long, c.merged.ensures.made)
+pub returns-clause-writes : goal.returns-clause-writes
+returns-clause-writes g c =
+    let long = ap (λ l. length l) (c.in_ok-rows.ensures ∙ ap (map _) c.as_slice.ensures) ∙ length-map c.args.table.now.rows (picked_row c.args.columns.now) in
+    writes_within _ (omega (arith, long)) c.merged.ensures.writes
 
-pub returns-clause-fewer : goal.returns-clause-fewer
-returns-clause-fewer g c e =
-    let long : length c.in_ok-rows.rows.items ≡ length c.args.table.now.rows =
-    ap (λ l. length l) (c.in_ok-rows.ensures ∙ ap (map _) c.as_slice.ensures) ∙ length-map c.args.table.now.rows (picked_row c.args.columns.now) in
-    omega (arith, long, c.merged.ensures.fewer e)
+pub returns-in_err-names-clause-writes : goal.returns-in_err-names-clause-writes
+returns-in_err-names-clause-writes g c =
+    let exit = err_from_is_err_and c.from_residual.result c.from_residual.ensures.1 in
+    rw (exit.1, exit.2) (writes_none _ c.words.ensures.formed c.words.ensures.room)
+
+pub returns-in_err-rows-clause-writes : goal.returns-in_err-rows-clause-writes
+returns-in_err-rows-clause-writes g c =
+    let exit = err_from_is_err_and c.from_residual-in_err-rows.result c.from_residual-in_err-rows.ensures.1 in
+    rw (exit.1, exit.2) (writes_none _ c.words.ensures.formed c.words.ensures.room)
 
 pub returns-clause-terms : goal.returns-clause-terms
 returns-clause-terms g c =

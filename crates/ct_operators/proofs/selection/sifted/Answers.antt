@@ -1,34 +1,61 @@
-use Rattle.std.{proofs.Common.{◌≡◌, ◌≤◌, ◌+◌, ◌*◌, ◌∙◌, arith, length, take, subst, sym, ap, [], ◌∷◌, ◌++◌, refl, inl, inr}, proofs.lemmas.Bool.false≢true}
-use Rattle.std.{proofs.lemmas.List.take_all, specs.Prelude.{◌⊎◌}}
+use Rattle.ct_word.{specs.Condition.holds_at, specs.Reading.condition_at}
+use Rattle.std.{proofs.Common.{ℕ, List, ◌&&◌, ◌≡◌, ◌≤◌, ◌+◌, ◌*◌, ◌∙◌, arith, length, take, drop, subst, sym, ap, [], ◌∷◌, ◌++◌, inl, inr}, proofs.lemmas.Bool.false≢true, proofs.lemmas.Result.err_from_is_err_and}
+use Rattle.std.{proofs.lemmas.List.{take_all, drop_all, append-nil}, specs.Prelude.{◌⊎◌}}
 use Rattle.ct_word.specs.declared.values.Term.{Term}
-use Rattle.ct_condition.specs.Terms.{TermsFrom}
-use Rattle.ct_operators.{proofs.Adding.{made_more, made_within, made_fewer}, specs.Terms.TermOfRows, proofs.Reaching.{row_itself, row_wider, row_before}}
+use Rattle.ct_condition.{specs.Terms.TermsFrom, proofs.Writes.{writes_none, writes_both, writes_of, writes_made}}
+use Rattle.ct_join.specs.Pairs.{partners}
+use Rattle.ct_operators.{proofs.Adding.{made_more, made_within}, specs.Terms.TermOfRows, proofs.Reaching.{row_itself, row_wider, row_before}}
 use Rattle.ct_operators.proofs.Selecting.{Turn, turn, Selects, selects_none, selects_more, selects_as_many, selected_rows, selected_values}
 use Rattle.ct_operators.specs.Judging.{passes, FitsTest, Further, first_words, test_words}
-use Rattle.ct_operators.proofs.Tests.{no_column, fits_later, words_later, judged_before, further_before}
-use Rattle.ct_operators.proofs.selection.sifted.Goals.{then-not-is_false+in_ok-push_under, else-not-is_false, After-judged, After-from_vec}
+use Rattle.ct_operators.{specs.Nearness.{row_key, AreKeys, Narrows}, proofs.Narrowing.{narrows, key_later}, proofs.Holding.holds_as, proofs.Tests.{no_column, fits_later, words_later, judged_before, further_before}}
+use Rattle.ct_operators.proofs.selection.sifted.Goals.{then-not-is_false+in_ok-push_under, else-not-is_false, After-narrowed-near, After-from_vec}
 use Rattle.ct_operators.proofs.selection.sifted.Goals as goal
 
+-- a list keeps its length where a slice of all its items was written to
+written_back : (n : ℕ) (new old : List ℕ) → length new ≡ length old → n ≡ length old → length (take n (new ++ drop (length new) old)) ≡ length old
+written_back n new old e is =
+    ap (λ (l : List ℕ). length l) (ap (λ l. take n (new ++ l)) (drop_all (length new) old (omega (arith, e))) ∙ ap (take n) (append-nil new) ∙ take_all n new (omega (arith, e, is))) ∙ e
+
 -- the row of a turn
-this : (g : _) (c : After-judged g)
+this : (g : _) (c : After-narrowed-near g)
     → Turn (g.I.Interner.list c.args.pass.now) (g.I.Interner.list c.loop-row.pass) (length c.args.table.now.columns) c.args.table.now.rows c.loop-row.row-index c.row-item.result
 this g c =
-    turn _ _ _ _ _ _ c.loop-row.invariant.selects.grown c.words.ensures.formed c.requires.rows.each _ c.as_slice-row-items.ensures c.loop-row-test.true c.row-item.is
+    turn _ _ _ _ _ _ c.loop-row.invariant.selects.grown c.words-known.ensures.formed c.requires.rows.each _ c.as_slice-row-items.ensures c.loop-row-test.true c.row-item.is
+
+-- the test of this row alone
+near : (g : _) (c : After-narrowed-near g) → Narrows (g.I.Interner.list c.args.pass.now) (length c.args.table.now.columns) c.row-item.result.cells c.args.test c.narrowed-near.result
+near g c =
+    let old = g.I.Interner.list c.args.pass.now in
+    let now = g.I.Interner.list c.loop-row.pass in
+    let at = this g c in
+    let width = length c.args.table.now.columns in
+    let r = c.row-item.result in
+    let keys = c.as_slice-keyed.result.now in
+    let keyed : AreKeys old c.args.test keys =
+    subst (AreKeys old c.args.test) (sym c.as_slice-keyed.ensures.value) (subst (λ ws. AreKeys ws c.args.test c.in_ok-keys.keys.items) c.words-known.ensures.words c.in_ok-keys.ensures.keys) in
+    let later : row_key c.words-log.result.now r.cells ≡ row_key old r.cells =
+    ap (λ ws. row_key ws r.cells) c.words-log.ensures.words ∙ key_later old now c.loop-row.invariant.selects.grown 0 r.cells at.was.terms in
+    subst (Narrows old width r.cells c.args.test) (sym c.narrowed-near.ensures)
+    (narrows old c.words-known.ensures.formed width r.cells at.was.width_is c.args.test c.requires.fits keys c.as_slice-places.result keyed
+    (λ some. c.as_slice-places.ensures.value ∙ c.in_ok-find_near.ensures some ∙ ap (λ k. partners k keys) later))
 
 -- the words that a row takes at most
-each : (g : _) (c : After-judged g) → test_words (g.I.Interner.list c.loop-row.pass) (length c.row-item.result.cells) c.args.test + 1
-    ≡ test_words (g.I.Interner.list c.args.pass.now) (length c.args.table.now.columns) c.args.test + 1
+each : (g : _) (c : After-narrowed-near g) → test_words (g.I.Interner.list c.loop-row.pass) (length c.row-item.result.cells) c.narrowed-near.result
+    ≤ test_words (g.I.Interner.list c.args.pass.now) (length c.args.table.now.columns) c.args.test
 each g c =
-    ap (λ n. test_words (g.I.Interner.list c.loop-row.pass) n c.args.test + 1) (this g c).was.width_is
-    ∙ ap (λ n. n + 1) (words_later (g.I.Interner.list c.args.pass.now) (g.I.Interner.list c.loop-row.pass) c.loop-row.invariant.selects.grown c.words.ensures.formed (length c.args.table.now.columns) c.args.test c.requires.fits)
+    let now = g.I.Interner.list c.loop-row.pass in
+    let same = ap (λ n. test_words now n c.narrowed-near.result) (this g c).was.width_is
+    ∙ words_later (g.I.Interner.list c.args.pass.now) now c.loop-row.invariant.selects.grown c.words-known.ensures.formed (length c.args.table.now.columns) c.narrowed-near.result (near g c).fits in
+    omega (arith, same, (near g c).most)
 
 -- and all that were made after it
-made : (g : _) (c : After-judged g) → g.I.Interner.made c.judged.new.pass
-    ≤ g.I.Interner.made c.args.pass.now + (first_words (g.I.Interner.list c.args.pass.now) c.args.test + length c.args.table.now.rows * (test_words (g.I.Interner.list c.args.pass.now) (length c.args.table.now.columns) c.args.test + 1))
-made g c =
-    let most = made_within (test_words (g.I.Interner.list c.args.pass.now) (length c.args.table.now.columns) c.args.test + 1) c.args.table.now.rows c.loop-row.row-index (this g c).within
+made : (g : _) (c : After-narrowed-near g) (new : ℕ)
+    → new ≤ g.I.Interner.made c.loop-row.pass + (first_words (g.I.Interner.list c.loop-row.pass) c.narrowed-near.result + (test_words (g.I.Interner.list c.loop-row.pass) (length c.row-item.result.cells) c.narrowed-near.result + 1))
+    → new ≤ g.I.Interner.made c.args.pass.now + (first_words (g.I.Interner.list c.args.pass.now) c.args.test + length c.args.table.now.rows * (test_words (g.I.Interner.list c.args.pass.now) (length c.args.table.now.columns) c.args.test + 1))
+made g c new more =
+    let most = made_within (test_words (g.I.Interner.list c.args.pass.now) (length c.args.table.now.columns) c.args.test + 1) c.loop-row.row-index
     (g.I.Interner.made c.args.pass.now + first_words (g.I.Interner.list c.args.pass.now) c.args.test) (g.I.Interner.made c.loop-row.pass + first_words (g.I.Interner.list c.loop-row.pass) c.args.test)
-    (g.I.Interner.made c.judged.new.pass) c.loop-row.invariant.made (omega (arith, each g c, c.judged.ensures.made)) in
+    new c.loop-row.invariant.made (omega (arith, each g c, (near g c).first (g.I.Interner.list c.loop-row.pass), more)) (length c.args.table.now.rows) (this g c).within in
     omega (arith, most)
 
 pub loop-row-init : goal.loop-row-init
@@ -38,21 +65,25 @@ loop-row-init g c =
     let source : Term → Type 0 = λ t. TermOfRows old c.args.table.now.rows t ⊎ Further old c.args.test t in
     record {
       selects = subst (Selects old old width (passes old c.args.test) source []) (sym c.new-out.ensures.items) (selects_none old width (passes old c.args.test) source);
-      room = c.words.ensures.room;
+      long = c.in_ok-put.ensures;
+      writes = writes_none _ c.words-known.ensures.formed c.words-known.ensures.room;
       made = omega arith;
-      kept = refl;
-      lent = refl;
     }
 
 pub judged-requires-clause-row : goal.judged-requires-clause-row
-judged-requires-clause-row g c = (turn _ _ _ _ _ _ c.loop-row.invariant.selects.grown c.words.ensures.formed c.requires.rows.each _ c.as_slice-row-items.ensures c.loop-row-test.true c.row-item.is).itself
+judged-requires-clause-row g c = (turn _ _ _ _ _ _ c.loop-row.invariant.selects.grown c.words-known.ensures.formed c.requires.rows.each _ c.as_slice-row-items.ensures c.loop-row-test.true c.row-item.is).itself
 
 pub judged-requires-clause-fits : goal.judged-requires-clause-fits
 judged-requires-clause-fits g c =
     let now = g.I.Interner.list c.loop-row.pass in
-    let at = turn _ _ _ _ _ _ c.loop-row.invariant.selects.grown c.words.ensures.formed c.requires.rows.each _ c.as_slice-row-items.ensures c.loop-row-test.true c.row-item.is in
-    subst (λ n. FitsTest now n c.args.test) (sym at.was.width_is)
-    (fits_later (g.I.Interner.list c.args.pass.now) now c.loop-row.invariant.selects.grown c.words.ensures.formed (length c.args.table.now.columns) c.args.test c.requires.fits)
+    let turn = (goal.at.judged-requires-clause-fits g c).After-narrowed-near in
+    subst (λ n. FitsTest now n c.narrowed-near.result) (sym (this g turn).was.width_is)
+    (fits_later (g.I.Interner.list c.args.pass.now) now c.loop-row.invariant.selects.grown c.words-known.ensures.formed (length c.args.table.now.columns) c.narrowed-near.result (near g turn).fits)
+
+pub judged-requires-clause-long : goal.judged-requires-clause-long
+judged-requires-clause-long g c =
+    ap (λ (l : List ℕ). length l) c.as_mut_slice.ensures.value ∙ c.loop-row.invariant.long
+    ∙ ap (λ (l : List ℕ). length l) (sym (near g (goal.at.judged-requires-clause-long g c).After-narrowed-near).parts)
 
 pub loop-row-preserved : goal.loop-row-preserved
 loop-row-preserved g c =
@@ -67,19 +98,21 @@ loop-row-preserved g c =
     let out = c.loop-row.out.items in
     let place = c.in_ok-place.place in
     let so_far = c.loop-row.invariant.selects in
-    let formed = c.words.ensures.formed in
-    let turn = (goal.at.loop-row-preserved g c).After-judged in
+    let formed = c.words-known.ensures.formed in
+    let turn = (goal.at.loop-row-preserved g c).After-narrowed-near in
     let at = this g turn in
-    let chosen = judged_before old now so_far.grown formed width new x c.requires.fits r place at.was c.in_ok-place.ensures.holds in
+    let part = near g turn in
+    let chosen = holds_as new place _ _ (λ v. ap (λ b. holds_at v (condition_at old r.cond) && b) (part.passes_as v))
+    (judged_before old now so_far.grown formed width new c.narrowed-near.result part.fits r place at.was c.in_ok-place.ensures.holds) in
     let source : Term → Type 0 = λ t. TermOfRows old rows t ⊎ Further old x t in
     let plain = no_column old width rows c.requires.rows.each x c.requires.fits in
     let origin = row_wider old (TermOfRows old rows) source (λ t h. inl h) r (row_itself old rows r at.among) in
     let from : TermsFrom new place source = λ t h. elim (c.in_ok-place.ensures.terms t h) [
       | inl b ↦ inl (record { row = r; among = at.among; below = row_before old now so_far.grown formed width r t at.was b })
-      | inr y ↦ inr (further_before old now so_far.grown formed width x c.requires.fits r.cells at.was.width_is t y)
+      | inr y ↦ inr (part.further t (further_before old now so_far.grown formed width c.narrowed-near.result part.fits r.cells at.was.width_is t y))
     ] in
-    let more = selects_more old now new width (passes old x) source plain (take i rows) out so_far c.judged.ensures.longer c.words-in-loop-row.ensures.formed r at.was origin place chosen from in
-    let as_many = selects_as_many old now new width (passes old x) source plain (take i rows) out so_far c.judged.ensures.longer c.words-in-loop-row.ensures.formed r at.was origin place chosen from in
+    let more = selects_more old now new width (passes old x) source plain (take i rows) out so_far c.judged.ensures.writes.longer c.words-log.ensures.formed r at.was origin place chosen from in
+    let as_many = selects_as_many old now new width (passes old x) source plain (take i rows) out so_far c.judged.ensures.writes.longer c.words-log.ensures.formed r at.was origin place chosen from in
     record {
       selects = subst (λ d. Selects old new width (passes old x) source d c.if-not-is_false.out.items) at.done (elim c.if-not-is_false.branch [
         | then-not-is_false+in_ok-push_under w ↦
@@ -88,12 +121,14 @@ loop-row-preserved g c =
         | else-not-is_false w ↦
             subst (Selects old new width (passes old x) source (take i rows ++ r ∷ [])) (ap (λ v. v.items) (sym w.out-is)) (as_many (c.is_false.ensures.never w.if-not-is_false.false))
       ]);
-      room = c.is_false.ensures.room;
+      long =
+          let e = c.judged.ensures.long ∙ ap (λ (l : List ℕ). length l) c.as_mut_slice.ensures.value in
+          written_back c.loop-row.put.len c.judged.new.put c.loop-row.put.items e c.loop-row.put.ok.0 ∙ c.loop-row.invariant.long;
+      writes = writes_of (writes_both c.loop-row.invariant.writes c.in_ok-place.ensures.writes) (omega (arith, made g turn _ (writes_made c.in_ok-place.ensures.writes)));
       made =
-          made_more (test_words old width x + 1) rows i at.within (g.I.Interner.made c.args.pass.now + first_words old x) (g.I.Interner.made c.loop-row.pass + first_words now x)
-          (g.I.Interner.made c.judged.new.pass + first_words new x) c.loop-row.invariant.made (omega (arith, each g turn, c.judged.ensures.made, c.in_ok-place.ensures.placed));
-      kept = c.judged.ensures.kept ∙ c.loop-row.invariant.kept;
-      lent = c.judged.ensures.lent ∙ c.loop-row.invariant.lent;
+          made_more (test_words old width x + 1) i (g.I.Interner.made c.args.pass.now + first_words old x) (g.I.Interner.made c.loop-row.pass + first_words now x)
+          (g.I.Interner.made c.judged.new.pass + first_words new x) c.loop-row.invariant.made
+          (omega (arith, each g turn, part.first now, part.first new, writes_made c.in_ok-place.ensures.writes, c.in_ok-place.ensures.placed));
     }
 
 -- what was selected of all rows
@@ -120,25 +155,44 @@ returns-clause-part g c = (all g (goal.at.returns-clause-part g c).After-from_ve
 pub returns-clause-terms : goal.returns-clause-terms
 returns-clause-terms g c = (all g (goal.at.returns-clause-terms g c).After-from_vec).from
 
-pub returns-clause-made : goal.returns-clause-made
-returns-clause-made g c =
-    let old = g.I.Interner.list c.args.pass.now in
-    let words = test_words old (length c.args.table.now.columns) c.args.test in
-    let most = subst (λ d. g.I.Interner.made c.loop-row.pass + first_words (g.I.Interner.list c.loop-row.pass) c.args.test ≤ g.I.Interner.made c.args.pass.now + first_words old c.args.test + length d * (words + 1))
-    (take_all c.loop-row.row-index c.args.table.now.rows (subst (λ l. length l ≤ c.loop-row.row-index) c.as_slice-row-items.ensures c.loop-row-test.false)) c.loop-row.invariant.made in
-    omega (arith, most)
+pub returns-clause-writes : goal.returns-clause-writes
+returns-clause-writes g c = c.loop-row.invariant.writes
 
-pub returns-in_err-place-clause-made : goal.returns-in_err-place-clause-made
-returns-in_err-place-clause-made g c = made g (goal.at.returns-in_err-place-clause-made g c).After-judged
+pub returns-in_err-place-clause-writes : goal.returns-in_err-place-clause-writes
+returns-in_err-place-clause-writes g c =
+    let exit = err_from_is_err_and c.from_residual-in_err-place.result c.from_residual-in_err-place.ensures.1 in
+    let one = c.in_err-place.ensures.writes in
+    let most = made g (goal.at.returns-in_err-place-clause-writes g c).After-narrowed-near (g.I.Interner.made c.judged.new.pass + 1) (omega (arith, one.made)) in
+    rw (exit.1, exit.2) (writes_of (writes_both c.loop-row.invariant.writes one) (omega (arith, most)))
 
-pub returns-in_err-push_under-clause-made : goal.returns-in_err-push_under-clause-made
-returns-in_err-push_under-clause-made g c = made g (goal.at.returns-in_err-push_under-clause-made g c).After-judged
+pub returns-in_err-push_under-clause-writes : goal.returns-in_err-push_under-clause-writes
+returns-in_err-push_under-clause-writes g c =
+    let exit = err_from_is_err_and c.from_residual-in_err-push_under.result c.from_residual-in_err-push_under.ensures.1 in
+    let one = c.in_ok-place.ensures.writes in
+    let most = made g (goal.at.returns-in_err-push_under-clause-writes g c).After-narrowed-near _ (writes_made one) in
+    rw (exit.1, exit.2) (writes_of (writes_both c.loop-row.invariant.writes one) (omega (arith, most)))
 
-pub returns-in_err-place-clause-fewer : goal.returns-in_err-place-clause-fewer
-returns-in_err-place-clause-fewer g c e =
-    let old = g.I.Interner.list c.args.pass.now in
-    let turn = (goal.at.returns-in_err-place-clause-fewer g c).After-judged in
-    let words = each g turn in
-    let most = made_fewer (test_words old (length c.args.table.now.columns) c.args.test + 1) c.args.table.now.rows c.loop-row.row-index (this g turn).within (g.I.Interner.made c.args.pass.now + first_words old c.args.test)
-    (g.I.Interner.made c.loop-row.pass + first_words (g.I.Interner.list c.loop-row.pass) c.args.test) (g.I.Interner.made c.judged.new.pass) c.loop-row.invariant.made (omega (arith, words, c.in_err-place.ensures.err)) in
-    omega (arith, most)
+pub returns-in_err-find_near-clause-writes : goal.returns-in_err-find_near-clause-writes
+returns-in_err-find_near-clause-writes g c =
+    let exit = err_from_is_err_and c.from_residual-in_err-find_near.result c.from_residual-in_err-find_near.ensures.1 in
+    rw (exit.1, exit.2) c.loop-row.invariant.writes
+
+pub returns-in_err-columns-clause-writes : goal.returns-in_err-columns-clause-writes
+returns-in_err-columns-clause-writes g c =
+    let exit = err_from_is_err_and c.from_residual.result c.from_residual.ensures.1 in
+    rw (exit.1, exit.2) (writes_none _ c.words-known.ensures.formed c.words-known.ensures.room)
+
+pub returns-in_err-put-clause-writes : goal.returns-in_err-put-clause-writes
+returns-in_err-put-clause-writes g c =
+    let exit = err_from_is_err_and c.from_residual-in_err-put.result c.from_residual-in_err-put.ensures.1 in
+    rw (exit.1, exit.2) (writes_none _ c.words-known.ensures.formed c.words-known.ensures.room)
+
+pub returns-in_err-keys-clause-writes : goal.returns-in_err-keys-clause-writes
+returns-in_err-keys-clause-writes g c =
+    let exit = err_from_is_err_and c.from_residual-in_err-keys.result c.from_residual-in_err-keys.ensures.1 in
+    rw (exit.1, exit.2) (writes_none _ c.words-known.ensures.formed c.words-known.ensures.room)
+
+pub returns-in_err-index-clause-writes : goal.returns-in_err-index-clause-writes
+returns-in_err-index-clause-writes g c =
+    let exit = err_from_is_err_and c.from_residual-in_err-index.result c.from_residual-in_err-index.ensures.1 in
+    rw (exit.1, exit.2) (writes_none _ c.words-known.ensures.formed c.words-known.ensures.room)

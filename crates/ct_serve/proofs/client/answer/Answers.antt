@@ -23,8 +23,8 @@ loop-statement-preserved g c =
       few =
           let most : n.pass.mine ≤ s.pass.mine + 1 = one_more N (state_in s) (state_in n) s.pass.words n.pass.words _ c.execute-reply.result a i.numbered numbered in
           let few = i.few in omega (arith, most, few);
-      progress = subst (λ rs. Progress N (state_in first) (state_in n) first.pass.words n.pass.words (take (at + 1) (map (λ t. t.now) xs)) rs) (sym push.items)
-          (answered (λ t. t.now) xs at _ N (state_in first) (state_in s) (state_in n) first.pass.words s.pass.words n.pass.words c.loop-statement.replies.items c.execute-reply.result lt i.progress a);
+      progress = subst (λ rs. Progress N (state_in first) (state_in n) first.pass n.pass (take (at + 1) (map (λ t. t.now) xs)) rs) (sym push.items)
+          (answered (λ t. t.now) xs at _ N (state_in first) (state_in s) (state_in n) first.pass s.pass n.pass c.loop-statement.replies.items c.execute-reply.result lt i.progress a c.execute-reply.ensures.bounded);
       count = ap length push.items ∙ length-append c.loop-statement.replies.items (c.execute-reply.result ∷ []) ∙ ap (λ m. m + 1) i.count;
       room = let r = i.room in let k = push.capacity in omega arith;
     }

@@ -11,7 +11,7 @@ invariant-loop-statement g l =
     record {
       numbered : AreNumbered s.pass.session s.pass.mine s.pass.words;
       few : s.pass.mine ≤ first.pass.mine + l.statement-index;
-      progress : Progress g.N.Site.log.cap (state_in first) (state_in s) first.pass.words s.pass.words (take l.statement-index (map (λ t. t.now) l.statements)) l.replies.items;
+      progress : Progress g.N.Site.log.cap (state_in first) (state_in s) first.pass s.pass (take l.statement-index (map (λ t. t.now) l.statements)) l.replies.items;
       count : length l.replies.items ≡ l.statement-index;
       room : length l.statements ≤ vec_capacity l.replies;
     }

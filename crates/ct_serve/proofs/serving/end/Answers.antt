@@ -1,21 +1,9 @@
-use Rattle.std.proofs.Common.{sym, subst, ◌∙◌, length}
-use Rattle.ct_arena.specs.Counts.{AreOfSessions}
-use Rattle.ct_rewrite.specs.History.{plain_history}
-use Rattle.ct_word.specs.StandsFor.{StandsFor}
-use Rattle.ct_serve.proofs.Closed.{as_many, lawful_closed}
+use Rattle.std.{proofs.Common.{ap, sym, ◌∙◌, map}, specs.List.range_with_len, proofs.lemmas.Result.IfOk-weaker}
+use Rattle.ct_transcript.specs.declared.reply.SessionLog.{SessionLog}
 use Rattle.ct_serve.proofs.serving.end.Goals as goal
 
-pub close-words-requires : goal.close-words-requires
-close-words-requires g c = record {
-  all = as_many c.in_ok-passes.passes.items (length c.args.clients.items) (c.in_ok-passes.ensures.numbers ∙ c.requires.numbers) ∙ sym c.requires.number;
-}
+pub closed-requires-clause-numbers : goal.closed-requires-clause-numbers
+closed-requires-clause-numbers g c κs within = c.in_ok-passes.ensures.numbers ∙ c.requires.numbers ∙ ap (range_with_len 1) (sym c.requires.number)
 
-pub returns-clause-lawful : goal.returns-clause-lawful
-returns-clause-lawful g c =
-    let words = c.close-words.result in
-    let w = c.close-words.ensures in
-    let h = c.in_ok-history in
-    let p = c.in_ok-passes in
-    lawful_closed g.N.Site.log.cap words w.formed w.room h.history (subst (StandsFor (plain_history h.history)) c.words-listed.ensures h.ensures.0)
-    p.passes.items p.logs (length c.args.clients.items) w.begins h.ensures.1 (p.ensures.numbers ∙ c.requires.numbers) p.ensures.ended w.numbered w.seen
-    (subst (λ n. AreOfSessions n words) c.requires.number w.known) w.admitted
+pub returns-clause-scripts : goal.returns-clause-scripts
+returns-clause-scripts g c = IfOk-weaker c.closed.result _ _ (λ t e. ap (map (λ (l : SessionLog). l.script)) e ∙ c.in_ok-passes.ensures.scripts) c.closed.ensures.sessions

@@ -1,9 +1,12 @@
-use Rattle.std.{proofs.Common.{◌≡◌, ◌≤◌, ℕ, length, refl, sym, subst, ◌∙◌, arith}, specs.Prelude.None}
+use Rattle.std.{proofs.Common.{◌≡◌, ◌≤◌, ◌+◌, ℕ, ap, length, refl, sym, subst, ◌∙◌, arith}, specs.Prelude.None}
 use Rattle.std.proofs.lemmas.Result.{IfOk-at_ok}
 use Rattle.ct_word.{specs.Reading.commits_of, proofs.Prefixes.{commits_prefix, prefix_same}}
-use Rattle.ct_arena.specs.Seen.{Seen, tally_of}
+use Rattle.ct_arena.{specs.Seen.{Seen, tally_of}, specs.declared.tally.Tally.Tally}
 use Rattle.ct_history.specs.Kept.{kept_of}
+use Rattle.ct_condition.specs.Writes.{charge}
 use Rattle.ct_keeper.specs.Catalogue.{IsNewest}
+use Rattle.ct_statement.specs.Making.{says_full}
+use Rattle.ct_session.{specs.Answers.is_full, specs.Bounded.{Makes, Readies, nothing}, proofs.Bounded.{answered_room, readies_less, readies_makes}}
 use Rattle.ct_session.{specs.Known.IsKnown, specs.Offering.IsReady, specs.Outcomes.Begins, specs.Sessions.state_of, proofs.Going.{prefix_short, version_within}}
 use Rattle.ct_session.{proofs.Opened.standing_within, proofs.Ordered.{memory_carried, tally_kept}, proofs.Outside.{answered_outside, begins_on, refused_outside}}
 use Rattle.ct_session.{proofs.Replies.proceeds, proofs.StillKnown.{known_stays, nothing_known}}
@@ -126,3 +129,65 @@ returns-in-Err-clause-executes g c = λ first began.
 
 pub returns-in-Err-clause-known : goal.returns-in-Err-clause-known
 returns-in-Err-clause-known g c = subst (λ p. IsKnown p.words c.asked-ready.new.known) (sym c.refusal-in-Err.ensures.pass) c.asked-ready.ensures.known
+
+pub returns-in_default-clause-makes : goal.returns-in_default-clause-makes
+returns-in_default-clause-makes g c = λ first began same.
+    let made = ap (λ (t : Tally). t.made) c.begin-pass.ensures.pass in
+    let pass = ap (λ (p : Seen). p.made) c.refusal.ensures.pass in
+    let room = ap charge c.refusal.ensures.full in
+    nothing (omega (arith, made, pass, room, same))
+
+pub returns-in-Ok-Answer-clause-makes : goal.returns-in-Ok-Answer-clause-makes
+returns-in-Ok-Answer-clause-makes g c = λ first began same.
+    let pass = c.args.pass in
+    let begun = c.begin-pass.result.0 in
+    let now = c.asked-ready.new.pass in
+    let at = c.of-sight.result.version in
+    let st = c.args.statement.now in
+    let newest = c.of-sight.ensures.version ∙ (IfOk-at_ok (IsNewest begun.words) c.in-Ok.is c.begin-pass.ensures.snapshot).version in
+    let kept = c.asked-ready.ensures.kept ∙ tally_kept begun pass c.begin-pass.ensures.pass ∙ began.kept in
+    let made : begun.made ≡ first.made = ap (λ (t : Tally). t.made) c.begin-pass.ensures.pass ∙ sym same in
+    let total = now.made + charge (is_full c.reply_of.result) in
+    let room = ap charge (ap is_full c.reply_of.ensures ∙ answered_room at 0 c.in-Ok-Answer.answered) in
+    subst (λ (p : Seen). Makes (state_of first c.args.seen c.args.fresh None) p.words st first.made (p.made + charge (is_full c.reply_of.result))) (sym c.carrying-session.ensures.pass)
+    (readies_makes first c.args.seen c.args.fresh now at st total (seen_before pass begun c.begin-pass.ensures.longer at newest c.args.seen c.requires.seen)
+    (still_within pass begun c.begin-pass.ensures.longer at newest now c.asked-ready.ensures.longer) kept
+    (subst (λ m. Readies now.words at now.session c.args.fresh st m total) made
+    (readies_less now.words at now.session c.args.fresh st begun.made (now.made + 0) total (omega (arith, room)) c.in-Ok-Answer.ensures.readies)))
+
+pub returns-in-Ok-Offer-clause-makes : goal.returns-in-Ok-Offer-clause-makes
+returns-in-Ok-Offer-clause-makes g c = λ first began same.
+    let pass = c.args.pass in
+    let begun = c.begin-pass.result.0 in
+    let now = c.asked-ready.new.pass in
+    let at = c.of-sight.result.version in
+    let st = c.args.statement.now in
+    let newest = c.of-sight.ensures.version ∙ (IfOk-at_ok (IsNewest begun.words) c.in-Ok.is c.begin-pass.ensures.snapshot).version in
+    let kept = c.asked-ready.ensures.kept ∙ tally_kept begun pass c.begin-pass.ensures.pass ∙ began.kept in
+    let made : begun.made ≡ first.made = ap (λ (t : Tally). t.made) c.begin-pass.ensures.pass ∙ sym same in
+    let o = c.in-Ok-Offer.offering in
+    let ready = subst (IsReady now c.args.fresh at st) c.in-Ok-Offer.field-0-is c.in-Ok-Offer.ensures.ok in
+    c.offered.ensures.makes first
+    (subst (Begins first now) (sym ready.0) (goes_on pass begun c.begin-pass.ensures.longer at newest first now began c.begin-pass.ensures.pass c.asked-ready.ensures.longer c.asked-ready.ensures.kept))
+    (subst (λ n. Readies now.words n now.session c.args.fresh st first.made now.made) (sym ready.0)
+    (subst (λ m. Readies now.words at now.session c.args.fresh st m now.made) made
+    (readies_less now.words at now.session c.args.fresh st begun.made (now.made + 0) now.made (omega arith) c.in-Ok-Offer.ensures.readies)))
+
+pub returns-in-Err-clause-makes : goal.returns-in-Err-clause-makes
+returns-in-Err-clause-makes g c = λ first began same.
+    let pass = c.args.pass in
+    let begun = c.begin-pass.result.0 in
+    let now = c.asked-ready.new.pass in
+    let at = c.of-sight.result.version in
+    let st = c.args.statement.now in
+    let newest = c.of-sight.ensures.version ∙ (IfOk-at_ok (IsNewest begun.words) c.in-Ok.is c.begin-pass.ensures.snapshot).version in
+    let kept = c.asked-ready.ensures.kept ∙ tally_kept begun pass c.begin-pass.ensures.pass ∙ began.kept in
+    let made : begun.made ≡ first.made = ap (λ (t : Tally). t.made) c.begin-pass.ensures.pass ∙ sym same in
+    let said = c.refusal-in-Err.result.1 in
+    let total = now.made + charge (is_full said) in
+    let room = ap charge c.refusal-in-Err.ensures.full in
+    subst (λ (p : Seen). Makes (state_of first c.args.seen c.args.fresh None) p.words st first.made (p.made + charge (is_full said))) (sym c.refusal-in-Err.ensures.pass)
+    (readies_makes first c.args.seen c.args.fresh now at st total (seen_before pass begun c.begin-pass.ensures.longer at newest c.args.seen c.requires.seen)
+    (still_within pass begun c.begin-pass.ensures.longer at newest now c.asked-ready.ensures.longer) kept
+    (subst (λ m. Readies now.words at now.session c.args.fresh st m total) made
+    (readies_less now.words at now.session c.args.fresh st begun.made (now.made + charge (says_full c.in-Err.why)) total (omega (arith, room)) c.in-Err.ensures.readies)))

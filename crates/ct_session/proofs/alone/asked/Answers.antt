@@ -1,5 +1,9 @@
-use Rattle.std.proofs.Common.{refl}
+use Rattle.std.proofs.Common.{◌+◌, ap, arith, refl}
 use Rattle.ct_word.proofs.Prefixes.{prefix_same}
+use Rattle.ct_condition.specs.Writes.{charge}
+use Rattle.ct_query.{specs.Patterns.count, specs.Views.statement_of}
+use Rattle.ct_statement.{specs.Making.says_full, specs.Sight.{actions_before, history_of}}
+use Rattle.ct_session.{specs.Bounded.idle, proofs.Bounded.readies_on}
 use Rattle.ct_session.{proofs.Outside.refused_on, proofs.StillKnown.{known_stays, nothing_known, seen_longer}}
 use Rattle.ct_session.proofs.alone.asked.Goals as goal
 
@@ -31,3 +35,28 @@ returns-in-Err-offering-clause-known g c =
 
 pub returns-else-is_literal_act-clause-known : goal.returns-else-is_literal_act-clause-known
 returns-else-is_literal_act-clause-known g c = nothing_known c.performed-ready.new.pass.words c.args.known.now c.requires.known
+
+pub returns-in-Err-clause-readies : goal.returns-in-Err-clause-readies
+returns-in-Err-clause-readies g c = let room = ap charge c.in-Err.ensures.room in idle (omega (arith, room))
+
+pub returns-in-Ok-offering-clause-readies : goal.returns-in-Ok-offering-clause-readies
+returns-in-Ok-offering-clause-readies g c =
+    let begun = c.args.pass.now in
+    let s = c.args.sight in
+    let now = c.literal_offer-offering in
+    readies_on begun now.new.pass now.ensures.longer now.ensures.kept s c.requires.sees c.args.fresh c.args.statement.now (statement_of c.in-Ok.found.0) c.in-Ok.ensures.ok begun.made (now.new.pass.made + 0)
+    (c.in-Ok-offering.ensures.made (count (history_of begun.words s) (actions_before s)))
+
+pub returns-in-Err-offering-clause-readies : goal.returns-in-Err-offering-clause-readies
+returns-in-Err-offering-clause-readies g c =
+    let begun = c.args.pass.now in
+    let s = c.args.sight in
+    let now = c.literal_offer-offering in
+    readies_on begun now.new.pass now.ensures.longer now.ensures.kept s c.requires.sees c.args.fresh c.args.statement.now (statement_of c.in-Ok.found.0) c.in-Ok.ensures.ok begun.made
+    (now.new.pass.made + charge (says_full c.in-Err-offering.why)) (c.in-Err-offering.ensures.made (count (history_of begun.words s) (actions_before s)))
+
+pub returns-else-is_literal_act-clause-readies : goal.returns-else-is_literal_act-clause-readies
+returns-else-is_literal_act-clause-readies g c =
+    let begun = c.args.pass.now in
+    let now = c.performed-ready in
+    readies_on begun now.new.pass now.ensures.longer now.ensures.kept c.args.sight c.requires.sees c.args.fresh c.args.statement.now (statement_of c.in-Ok.found.0) c.in-Ok.ensures.ok begun.made _ now.ensures.made

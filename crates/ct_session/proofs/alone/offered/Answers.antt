@@ -1,6 +1,9 @@
-use Rattle.std.{proofs.Common.{refl, sym, subst}, specs.Prelude.None}
+use Rattle.std.{proofs.Common.{◌+◌, ◌≤◌, ap, arith, refl, sym, subst, ◌∙◌}, specs.Prelude.None}
 use Rattle.ct_word.proofs.Prefixes.{prefix_same}
 use Rattle.ct_statement.{specs.Sight.IsSight, proofs.Sights.sight_grows}
+use Rattle.ct_arena.specs.Seen.{Seen}
+use Rattle.ct_condition.specs.Writes.{charge}
+use Rattle.ct_session.{specs.Answers.is_full, specs.Bounded.Makes, proofs.Bounded.{alone_makes, offer_charged}}
 use Rattle.ct_session.{specs.Sessions.state_of, proofs.Acted.{ready_seen, ready_executes}, proofs.Called.called}
 use Rattle.ct_session.proofs.alone.offered.Goals as goal
 
@@ -32,3 +35,13 @@ returns-clause-executes g c = λ first began.
 pub returns-clause-stays : goal.returns-clause-stays
 returns-clause-stays g c = λ s is.
     subst (λ p. IsSight p.words s) (sym c.carrying.ensures.pass) (sight_grows c.args.pass.words c.commit-pass.result.0.words c.commit-pass.ensures.longer s c.words-now.ensures.formed is)
+
+pub returns-clause-makes : goal.returns-clause-makes
+returns-clause-makes g c = λ first began before.
+    let pass = c.args.pass in
+    let after = c.commit-pass.result.0 in
+    let o = c.args.offering in
+    let few =
+    offer_charged after.words pass o.offer c.commit-pass.result.1 after.made c.commit-pass.ensures.made c.commit-pass.ensures.fewer c.args.seen o.offer.base c.replied-at.result.1 c.replied-at.ensures.reply in
+    subst (λ (p : Seen). Makes (state_of first c.args.seen c.args.fresh None) p.words c.args.statement.now first.made (p.made + charge (is_full c.replied-at.result.1))) (sym c.carrying.ensures.pass)
+    (alone_makes pass c.args.fresh o c.args.statement.now c.requires.ready after c.commit-pass.ensures.longer first c.args.seen c.requires.seen began.kept (after.made + charge (is_full c.replied-at.result.1)) few before)

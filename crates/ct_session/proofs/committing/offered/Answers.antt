@@ -1,4 +1,8 @@
-use Rattle.std.{proofs.Common.{refl, ◌∙◌}, specs.Prelude.Some}
+use Rattle.std.{proofs.Common.{◌+◌, ap, arith, refl, sym, subst}, specs.Prelude.Some}
+use Rattle.ct_arena.specs.Seen.{Seen}
+use Rattle.ct_condition.specs.Writes.{charge}
+use Rattle.ct_keeper.specs.declared.catalogue.Offer.{Offer}
+use Rattle.ct_session.{specs.Answers.is_full, specs.Bounded.{Makes, nothing}, proofs.Bounded.{commit_makes, offer_charged}}
 use Rattle.ct_word.proofs.Prefixes.{prefix_same}
 use Rattle.ct_session.{specs.Prepared.wanting_memory, specs.Sessions.state_of, proofs.Called.called, proofs.Offered.{is_begun, is_offer}}
 use Rattle.ct_session.{proofs.Opened.open_grows, proofs.Whole.{replied_answers, replied_seen, left_open}}
@@ -37,3 +41,20 @@ returns-clause-executes g c =
     replied_answers N pass c.args.seen c.args.fresh o c.requires.session.open_is c.args.statement.now c.requires.order x reads c.args.changes b after k
     (record { base = o.sight.version; reads = o.reads; changes = c.args.changes; kept = Some c.in-Ok.kept }) refl refl refl
     c.commit-pass.result.1 c.commit-pass.ensures.outcome c.replied-at.result.0 c.replied-at.result.1 c.open_after-left.result c.replied-at.ensures.version c.replied-at.ensures.reply c.open_after-left.ensures)
+
+pub returns-in_default-clause-makes : goal.returns-in_default-clause-makes
+returns-in_default-clause-makes g c =
+    let pass = ap (λ (p : Seen). p.made) c.refused.ensures.pass in
+    let room = ap charge c.refused.ensures.full in
+    nothing (omega (arith, pass, room))
+
+pub returns-clause-makes : goal.returns-clause-makes
+returns-clause-makes g c =
+    let pass = c.args.pass in
+    let o = c.args.transaction in
+    let after = c.commit-pass.result.0 in
+    let offer : Offer = record { base = o.sight.version; reads = o.reads; changes = c.args.changes; kept = Some c.in-Ok.kept } in
+    let said = c.replied-at.result.1 in
+    let few = offer_charged after.words pass offer c.commit-pass.result.1 after.made c.commit-pass.ensures.made c.commit-pass.ensures.fewer c.args.seen o.sight.version said c.replied-at.ensures.reply in
+    subst (λ (p : Seen). Makes (state_of pass c.args.seen c.args.fresh (Some o)) p.words c.args.statement.now pass.made (p.made + charge (is_full said))) (sym c.carrying.ensures.pass)
+    (commit_makes pass o c.requires.session.open_is offer c.requires.begun after c.commit-pass.ensures.longer c.args.seen c.args.fresh c.args.statement.now (after.made + charge (is_full said)) c.requires.order few)

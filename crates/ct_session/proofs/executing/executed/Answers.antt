@@ -1,3 +1,4 @@
+use Rattle.ct_session.proofs.Bounded.{makes_bounded, unread_bounded}
 use Rattle.ct_session.{specs.Sessions.state_of, proofs.Readings.is_written, proofs.Replies.proceeds_same, proofs.Unread.unread_answers}
 use Rattle.ct_session.proofs.executing.executed.Goals as goal
 
@@ -12,3 +13,14 @@ returns-in-Err-clause-answers g c =
     let s = c.args.session in
     let N = g.N.Site.log.cap in
     unread_answers N (state_of s.pass s.seen s.fresh s.transaction) s.pass.words c.args.text.now (proceeds_same N s.pass.session s.pass.words c.words.ensures.room) c.in-Err.why c.in-Err.ensures.fault
+
+pub returns-clause-bounded : goal.returns-clause-bounded
+returns-clause-bounded g c =
+    let s = c.args.session in
+    let after = c.placed-done.result.0 in
+    makes_bounded g.N.Site.log.cap (state_of s.pass s.seen s.fresh s.transaction) after.pass.words c.in-Ok.statement c.args.text.now c.placed-done.result.1 s.pass.made after.pass.made c.in-Ok.ensures.ok c.placed-done.ensures.makes
+
+pub returns-in-Err-clause-bounded : goal.returns-in-Err-clause-bounded
+returns-in-Err-clause-bounded g c =
+    let s = c.args.session in
+    unread_bounded g.N.Site.log.cap (state_of s.pass s.seen s.fresh s.transaction) s.pass.words c.args.text.now s.seen c.in-Err.why s.pass.made c.in-Err.ensures.fault

@@ -1,7 +1,10 @@
-use Rattle.std.proofs.Common.{None, ap, refl, sym, subst, ◌∙◌}
+use Rattle.std.proofs.Common.{None, ◌+◌, arith, ap, refl, sym, subst, ◌∙◌}
 use Rattle.ct_word.proofs.Prefixes.{prefix_same}
 use Rattle.ct_query.{specs.Reads.reads_of, specs.Views.{action_of, statement_of}}
 use Rattle.ct_session.{specs.declared.offering.Offering.Offering, specs.Offering.{IsFoundAlone, IsReadyToOffer}, specs.Prepared.IsLiteralAct}
+use Rattle.ct_condition.specs.Writes.{charge}
+use Rattle.ct_statement.specs.Making.{says_full}
+use Rattle.ct_session.specs.Bounded.{Performs}
 use Rattle.ct_session.proofs.Literal.{literal_encodes, literal_ready, literal_refused}
 use Rattle.ct_session.proofs.offering.literal_offer.Goals as goal
 
@@ -32,3 +35,13 @@ returns-in-Err-clause-err g c =
     literal_refused pass made.new.pass made.ensures.longer made.ensures.kept c.args.fresh c.args.base c.args.statement.now (action_of c.in-Act.action)
     (subst (λ r. IsFoundAlone pass c.args.fresh c.args.base c.args.statement.now (statement_of r)) c.in-Act.is c.requires.found) (subst (λ r. IsLiteralAct (statement_of r)) c.in-Act.is c.requires.literal)
     g.N.Site.log.cap c.in-Err.why c.in-Err.ensures.err
+
+pub returns-in-Ok-clause-made : goal.returns-in-Ok-clause-made
+returns-in-Ok-clause-made g c = λ counts.
+    let most = c.in-Ok.ensures.made counts in
+    subst (λ r. Performs counts (statement_of r) c.args.pass.now.made (c.propose_literal-proposed.new.pass.made + 0)) (sym c.in-Act.is) (omega (arith, most))
+
+pub returns-in-Err-clause-made : goal.returns-in-Err-clause-made
+returns-in-Err-clause-made g c = λ counts.
+    let most = c.in-Err.ensures.made counts in
+    subst (λ r. Performs counts (statement_of r) c.args.pass.now.made (c.propose_literal-proposed.new.pass.made + charge (says_full c.in-Err.why))) (sym c.in-Act.is) (omega (arith, most))

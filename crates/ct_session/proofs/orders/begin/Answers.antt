@@ -1,6 +1,9 @@
-use Rattle.std.{proofs.Common.{List, ap, sym, subst, arith}, specs.Prelude.{None, IfOk, option_map}}
+use Rattle.std.{proofs.Common.{List, ◌+◌, ap, sym, subst, arith}, specs.Prelude.{None, IfOk, option_map}}
 use Rattle.ct_query.specs.declared.action.Read.{Read}
+use Rattle.ct_arena.{specs.Seen.Seen, specs.declared.tally.Tally.Tally}
+use Rattle.ct_condition.specs.Writes.{charge}
 use Rattle.ct_keeper.specs.Catalogue.{IsNewest}
+use Rattle.ct_session.specs.Bounded.{nothing}
 use Rattle.ct_session.{specs.Sessions.{IsOpen, state_of, transaction_of}, proofs.Going.version_within, proofs.Opened.open_begun, proofs.Replies.proceeds}
 use Rattle.ct_session.{proofs.Ordered.{begun_executes, memory_carried, tally_kept}, proofs.Outside.none_open}
 use Rattle.ct_transcript.specs.declared.reply.Reply.TheVariants as reply
@@ -46,3 +49,16 @@ returns-clause-executes g c =
     (begun_executes cap s.pass pass s.seen s.fresh at s.transaction (record { sight = c.of.result; changes = None; reads = c.new.result }) c.args.statement.now c.requires.none c.requires.order
     (proceeds cap s.pass pass c.begin-pass.ensures.longer kept c.words-words.ensures.room c.words.ensures.numbered c.words-words.ensures.numbered) kept
     c.requires.session.seen_is newest.version c.of.ensures.version c.of.ensures.none c.new.ensures)
+
+pub returns-in_default-clause-makes : goal.returns-in_default-clause-makes
+returns-in_default-clause-makes g c =
+    let made = ap (λ (t : Tally). t.made) c.begin-pass.ensures.pass in
+    let pass = ap (λ (p : Seen). p.made) c.refusal.ensures.pass in
+    let room = ap charge c.refusal.ensures.full in
+    nothing (omega (arith, made, pass, room))
+
+pub returns-clause-makes : goal.returns-clause-makes
+returns-clause-makes g c =
+    let made = ap (λ (t : Tally). t.made) c.begin-pass.ensures.pass in
+    let pass = ap (λ (p : Seen). p.made) c.carrying-session.ensures.pass in
+    nothing (omega (arith, made, pass))

@@ -1,3 +1,5 @@
+use Rattle.std.proofs.Common.{arith}
+use Rattle.ct_session.specs.Bounded.{nothing}
 use Rattle.ct_session.{proofs.Ordered.rolled_back_executes, proofs.Replies.proceeds_same}
 use Rattle.ct_session.proofs.orders.roll_back.Goals as goal
 
@@ -6,3 +8,6 @@ returns-clause-executes g c =
     let cap = g.N.Site.log.cap in
     let s = c.args.session in
     rolled_back_executes cap s.pass s.seen s.fresh s.transaction c.args.statement.now c.requires.some c.requires.order (proceeds_same cap s.pass.session s.pass.words c.words-words.ensures.room)
+
+pub returns-clause-makes : goal.returns-clause-makes
+returns-clause-makes g c = nothing (omega arith)

@@ -1,7 +1,9 @@
-use Rattle.std.proofs.Common.{sym, subst}
-use Rattle.ct_query.specs.Views.{action_of}
+use Rattle.std.proofs.Common.{◌+◌, ◌≤◌, arith, sym, subst}
+use Rattle.ct_condition.specs.Writes.{charge}
+use Rattle.ct_query.{specs.Bounds.applying_words, specs.Patterns.count, specs.Views.action_of}
 use Rattle.ct_statement.{specs.Proposals.{IsProposal, listed}, specs.Sight.{actions_before, history_of}, specs.Unmet.IsUnmet, proofs.Sights.{history_stays, sight_grows}}
-use Rattle.ct_session.{specs.Prepared.IsStepIf, proofs.Proposed.proposal_grows}
+use Rattle.ct_statement.specs.Making.{says_full}
+use Rattle.ct_session.{specs.Prepared.IsStepIf, proofs.Bounded.changed_within, proofs.Proposed.proposal_grows}
 use Rattle.ct_query.specs.Plain as plain
 use Rattle.ct_session.proofs.preparing.change.Goals as goal
 
@@ -43,3 +45,30 @@ returns-in-Err-step-clause-err g c =
     let s = c.args.sight.now in
     subst (λ h. IsUnmet h (actions_before s) g.N.Site.log.cap new (plain.Act (action_of c.args.action)) c.in-Err-step.why) (sym (history_stays old mid c.propose.ensures.longer s c.requires.sight.within))
     (subst (λ a. IsUnmet (history_of mid s) (actions_before s) g.N.Site.log.cap new (plain.Act a) c.in-Err-step.why) c.in-Ok.ensures.action c.in-Err-step.ensures.err)
+
+pub returns-in-Err-clause-made : goal.returns-in-Err-clause-made
+returns-in-Err-clause-made g c = let most = c.in-Err.ensures.made in omega (arith, most)
+
+pub returns-in-Ok-step-clause-made : goal.returns-in-Ok-step-clause-made
+returns-in-Ok-step-clause-made g c =
+    let old = c.args.pass.now.words in
+    let mid = c.propose.new.pass in
+    let s = c.args.sight.now in
+    let actions = actions_before s in
+    let first = c.in-Ok.ensures.made in
+    let total = c.step_where_needed-step.new.pass.made + 0 in
+    changed_within (count (history_of old s) actions) (action_of c.args.action) c.args.pass.now.made mid.made total (omega (arith, first))
+    (subst (λ h. total ≤ mid.made + applying_words (count h actions) (action_of c.args.action)) (sym (history_stays old mid.words c.propose.ensures.longer s c.requires.sight.within))
+    (subst (λ a. total ≤ mid.made + applying_words (count (history_of mid.words s) actions) a) c.in-Ok.ensures.action c.in-Ok-step.ensures.made))
+
+pub returns-in-Err-step-clause-made : goal.returns-in-Err-step-clause-made
+returns-in-Err-step-clause-made g c =
+    let old = c.args.pass.now.words in
+    let mid = c.propose.new.pass in
+    let s = c.args.sight.now in
+    let actions = actions_before s in
+    let first = c.in-Ok.ensures.made in
+    let total = c.step_where_needed-step.new.pass.made + charge (says_full c.in-Err-step.why) in
+    changed_within (count (history_of old s) actions) (action_of c.args.action) c.args.pass.now.made mid.made total (omega (arith, first))
+    (subst (λ h. total ≤ mid.made + applying_words (count h actions) (action_of c.args.action)) (sym (history_stays old mid.words c.propose.ensures.longer s c.requires.sight.within))
+    (subst (λ a. total ≤ mid.made + applying_words (count (history_of mid.words s) actions) a) c.in-Ok.ensures.action c.in-Err-step.ensures.made))

@@ -1,8 +1,12 @@
-use Rattle.std.{proofs.Common.{◌≡◌, ◌≤◌, ℕ, List, length, ap, sym, subst, ◌∙◌}, specs.Prelude.{Option, Some}}
+use Rattle.std.{proofs.Common.{◌≡◌, ◌≤◌, ◌+◌, ℕ, List, length, ap, sym, subst, ◌∙◌, arith}, specs.Prelude.{Option, Some, Ok}}
+use Rattle.ct_condition.specs.Writes.{charge}
 use Rattle.ct_word.specs.WellFormed.{IsWellFormed}
 use Rattle.ct_arena.{specs.Counts.AreNumbered, specs.Seen.Seen}
 use Rattle.ct_history.specs.Kept.{kept_of}
-use Rattle.ct_query.specs.Views.{statement_of}
+use Rattle.ct_query.{specs.Patterns.count, specs.Plain.PlainStatement, specs.Schema.schema, specs.Views.statement_of}
+use Rattle.ct_resolve.specs.Statements.{resolved}
+use Rattle.ct_statement.specs.Making.{says_full}
+use Rattle.ct_session.{specs.Answers.is_full, specs.Bounded.{Makes, nothing, Performs}, proofs.Bounded.makes_inside}
 use Rattle.ct_parse.specs.declared.tree.Statement.{Statement}
 use Rattle.ct_transcript.specs.declared.reply.Reply.{Reply}
 use Rattle.ct_statement.{specs.declared.stepping.Step.Step, specs.Proposals.listed, specs.Sight.{actions_before, history_of}}
@@ -24,6 +28,16 @@ later : (N : ℕ) (pass new : Seen) → IsPrefix pass.words new.words → kept_o
 later N pass new longer kept room old counted seen fresh o open' is next now st r e =
     subst (λ (p : Option Open). Executes N (state_of pass seen fresh p) next pass.words now st r) (sym is)
     (executes_later N pass new seen fresh open' next now st r (proceeds N pass new longer kept room old counted) kept e)
+
+-- what was made at what is seen, of a statement whose reply makes nothing more
+made_inside : (pass now : Seen) → IsPrefix pass.words now.words → (seen fresh : ℕ) (o : Option Open) (open' : Open) → o ≡ Some open' → IsSession pass.words seen o → (st : Statement) (asked : PlainStatement)
+    → resolved (schema (history_of pass.words open'.sight) (actions_before open'.sight)) pass.session fresh st ≡ Ok asked → (made : ℕ)
+    → Performs (count (history_of pass.words open'.sight) (actions_before open'.sight)) asked pass.made made → (after : Seen) → after ≡ now → (charged : ℕ) → now.made + charged ≤ made
+    → Makes (state_of pass seen fresh o) after.words st pass.made (after.made + charged)
+made_inside pass now longer seen fresh o open' is k st asked res made few after same charged le =
+    subst (λ (p : Option Open). Makes (state_of pass seen fresh p) after.words st pass.made (after.made + charged)) (sym is)
+    (subst (λ (p : Seen). Makes (state_of pass seen fresh (Some open')) p.words st pass.made (p.made + charged)) (sym same)
+    (makes_inside pass now longer seen fresh open' (subst (λ (p : Option Open). IsSession pass.words seen p) is k).open_is.sight st asked res (now.made + charged) (omega (arith, few, le))))
 
 pub answer-requires-clause-session : goal.answer-requires-clause-session
 answer-requires-clause-session g c =
@@ -103,3 +117,34 @@ returns-in-Err-clause-executes g c =
     let after = c.refused.result.0 in
     subst (λ (p : Option Open). Executes g.N.Site.log.cap (state_of s.pass s.seen s.fresh p) (state_of after.pass after.seen after.fresh after.transaction) s.pass.words after.pass.words c.args.statement.now c.refused.result.1)
     (sym c.in-Some.is) c.refused.ensures.executes
+
+pub returns-in-Ok-Answer-clause-makes : goal.returns-in-Ok-Answer-clause-makes
+returns-in-Ok-Answer-clause-makes g c =
+    let s = c.args.session in
+    let done = c.in-Ok-Answer.ensures in
+    let room = ap charge c.answer.ensures.room in
+    made_inside s.pass c.perform-prepared.new.pass done.longer s.seen s.fresh s.transaction c.in-Some.open c.in-Some.is c.requires.session c.args.statement.now (statement_of c.in-Ok.found.0) c.in-Ok.ensures.ok.resolves
+    (c.perform-prepared.new.pass.made + 0) done.made c.answer.result.0.pass c.answer.ensures.pass (charge (is_full c.answer.result.1)) (omega (arith, room))
+
+pub returns-in-Some-step-clause-makes : goal.returns-in-Some-step-clause-makes
+returns-in-Some-step-clause-makes g c =
+    let s = c.args.session in
+    let done = c.in-Ok-Change.ensures in
+    let room = ap charge c.change.ensures.room in
+    made_inside s.pass c.perform-prepared.new.pass done.longer s.seen s.fresh s.transaction c.in-Some.open c.in-Some.is c.requires.session c.args.statement.now (statement_of c.in-Ok.found.0) c.in-Ok.ensures.ok.resolves
+    (c.perform-prepared.new.pass.made + 0) done.made c.change.result.0.pass c.change.ensures.pass (charge (is_full c.change.result.1)) (omega (arith, room))
+
+pub returns-in-Err-prepared-clause-makes : goal.returns-in-Err-prepared-clause-makes
+returns-in-Err-prepared-clause-makes g c =
+    let s = c.args.session in
+    let done = c.in-Err-prepared.ensures in
+    let said = c.refused-in-Err-prepared in
+    let room = ap charge said.ensures.full in
+    made_inside s.pass c.perform-prepared.new.pass done.longer s.seen s.fresh s.transaction c.in-Some.open c.in-Some.is c.requires.session c.args.statement.now (statement_of c.in-Ok.found.0) c.in-Ok.ensures.ok.resolves
+    (c.perform-prepared.new.pass.made + charge (says_full c.in-Err-prepared.why)) done.made said.result.0.pass said.ensures.pass (charge (is_full said.result.1)) (omega (arith, room))
+
+pub returns-in-Err-clause-makes : goal.returns-in-Err-clause-makes
+returns-in-Err-clause-makes g c =
+    let pass = ap (λ (p : Seen). p.made) c.refused.ensures.pass in
+    let room = ap charge (c.refused.ensures.full ∙ c.in-Err.ensures.room) in
+    nothing (omega (arith, pass, room))

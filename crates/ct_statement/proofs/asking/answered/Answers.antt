@@ -1,9 +1,11 @@
-use Rattle.std.{proofs.Common.{◌∙◌, ap, arith, length, map, subst, sym}, specs.Prelude.{◌≤◌, Err}}
-use Rattle.ct_query.{specs.Fits.{Fits, width}, specs.Size.{rows_in, row_bound}, specs.Views.query_of}
+use Rattle.std.{proofs.Common.{◌∙◌, ◌+◌, ap, arith, length, map, subst, sym}, specs.Prelude.{◌≤◌, Err}}
+use Rattle.ct_query.{specs.Bounds.nodes, specs.Fits.{Fits, width}, specs.Patterns.count, specs.Size.{rows_in, row_bound}, specs.Views.query_of}
+use Rattle.ct_condition.specs.Writes.{charge}
 use Rattle.ct_table.{specs.Counting.count_of, specs.Denotes.Denotes}
 use Rattle.ct_operators.specs.Tables.{AreRows}
 use Rattle.ct_algebra.proofs.Counted.{rows_within}
-use Rattle.ct_statement.{specs.Asking.IsUnasked, specs.Sight.{actions_before, history_of}, proofs.Evaluating.{are_tables, answers_query, evaluation_fails}}
+use Rattle.ct_statement.{specs.Asking.IsUnasked, specs.Making.says_full, specs.Sight.{actions_before, history_of}, proofs.Evaluating.{are_tables, answers_query, evaluation_fails, rows_fewer}}
+use Rattle.ct_statement.{proofs.Making.evaluated_within, proofs.Weights.nodes_grow}
 use Rattle.ct_statement.proofs.asking.answered.Goals as goal
 
 pub eval-requires-clause-tables : goal.eval-requires-clause-tables
@@ -62,3 +64,26 @@ returns-in-Err-clause-err g c =
     (evaluation_fails old h actions c.db.result.now (subst (Denotes old h actions) (sym c.db.ensures) c.requires.sight.denotes) c.eval.new.pass.words q g.N.Site.log.cap c.made-made.result c.made.result c.in-Err.e
     (λ e. c.in-Err.ensures.too_large (ap Err e)) (λ e. c.in-Err.ensures.full (ap Err e))
     (λ e. let fewer = c.in-Err.ensures.fewer (ap Err e) in let before = c.made-made.ensures in let after = c.made.ensures in omega (arith, fewer, before, after)))
+
+pub returns-clause-made : goal.returns-clause-made
+returns-clause-made g c =
+    let old = c.args.pass.now.words in
+    let h = history_of old c.args.sight.now in
+    let actions = actions_before c.args.sight.now in
+    let db = c.db.result.now in
+    let more = nodes_grow (rows_in (map count_of db)) (count h actions) (rows_fewer old h actions db (subst (Denotes old h actions) (sym c.db.ensures) c.requires.sight.denotes)) (query_of c.args.query.now) in
+    let most = c.eval.ensures.made in
+    omega (arith, most, more)
+
+pub returns-in-Err-clause-made : goal.returns-in-Err-clause-made
+returns-in-Err-clause-made g c =
+    let old = c.args.pass.now.words in
+    let h = history_of old c.args.sight.now in
+    let actions = actions_before c.args.sight.now in
+    let q = query_of c.args.query.now in
+    let db = c.db.result.now in
+    let more = nodes_grow (rows_in (map count_of db)) (count h actions) (rows_fewer old h actions db (subst (Denotes old h actions) (sym c.db.ensures) c.requires.sight.denotes)) q in
+    let made = c.args.pass.now.made in
+    let made' = c.eval.new.pass.made in
+    subst (λ why. made' + charge (says_full why) ≤ made + nodes (count h actions) q) (sym c.unanswered.ensures)
+    (let within = evaluated_within (nodes (rows_in (map count_of db)) q) made made' c.made-made.result c.made.result c.in-Err.e c.eval.ensures.made (λ e. c.in-Err.ensures.fewer (ap Err e)) in omega (arith, within, more))

@@ -1,8 +1,10 @@
-use Rattle.std.{proofs.Common.{subst, sym}, specs.Prelude.All}
+use Rattle.std.{proofs.Common.{◌+◌, ◌^◌, ◌≤◌, arith, subst, sym}, specs.Prelude.All}
 use Rattle.ct_word.proofs.Prefixes.{place_in_prefix}
-use Rattle.ct_query.specs.Views.{action_of}
-use Rattle.ct_history.{specs.Encodes.Adds, specs.Rows.IsRowOf}
+use Rattle.ct_query.{specs.Bounds.change_words, specs.Patterns.count, specs.Views.action_of}
+use Rattle.ct_condition.specs.Writes.{charge}
+use Rattle.ct_history.{specs.Encodes.{Adds, encode_words}, specs.Rows.IsRowOf}
 use Rattle.ct_statement.{specs.Sight.{actions_before, history_of}, specs.Unmet.IsUnmet, proofs.Listed.{fits_started, proposal}, proofs.Proposed.taken_placed}
+use Rattle.ct_statement.{specs.Making.says_full, proofs.Making.{added_within, charge_most, taking_within}, proofs.Weights.action_makes}
 use Rattle.ct_statement.proofs.Sights.{history_stays, sight_grows}
 use Rattle.ct_word.specs.declared.kinds.Class.TheVariants as class
 use Rattle.ct_query.specs.Plain as plain
@@ -21,27 +23,92 @@ returns-in-Err-taken_for-clause-err g c =
     subst (λ h. IsUnmet h (actions_before s) g.N.Site.log.cap c.taken_for.new.pass.words (plain.Act (action_of c.args.action.now)) c.in-Err-taken_for.why)
     (sym (history_stays c.args.pass.now.words c.begun.new.pass.words c.in-Ok.ensures.longer s c.requires.sight.within)) c.in-Err-taken_for.ensures.err
 
-pub encode-requires-clause-list : goal.encode-requires-clause-list
-encode-requires-clause-list g c =
+pub encode-encoded-requires-clause-list : goal.encode-encoded-requires-clause-list
+encode-encoded-requires-clause-list g c =
     place_in_prefix c.begun.new.pass.words c.taken_for.new.pass.words class.ChangeList c.in-Ok.list c.in-Ok-taken_for.ensures.longer c.in-Ok.ensures.place
 
-pub encode-requires-clause-rows : goal.encode-requires-clause-rows
-encode-requires-clause-rows g c =
+pub encode-encoded-requires-clause-rows : goal.encode-encoded-requires-clause-rows
+encode-encoded-requires-clause-rows g c =
     let s = c.args.sight.now in
     let taken = c.taken_for.new.pass.words in
     subst (All (IsRowOf taken)) (sym c.as_slice.ensures)
     (taken_placed taken s.global (history_of c.begun.new.pass.words s) (actions_before s) (action_of c.args.action.now) c.in-Ok-taken_for.rows c.in-Ok-taken_for.ensures.rows)
 
-pub returns-clause-proposes : goal.returns-clause-proposes
-returns-clause-proposes g c =
+pub returns-in-Ok-encoded-clause-proposes : goal.returns-in-Ok-encoded-clause-proposes
+returns-in-Ok-encoded-clause-proposes g c =
     let s = c.args.sight.now in
     let a = action_of c.args.action.now in
     let started = c.begun.new.pass.words in
     let taken = c.taken_for.new.pass.words in
-    let new = c.encode.new.pass.words in
+    let new = c.encode-encoded.new.pass.words in
     let rows = c.in-Ok-taken_for.rows in
-    let changes = c.in-Ok-encode.changes in
+    let changes = c.in-Ok-encoded.changes in
     proposal c.args.pass.now.words started c.in-Ok.ensures.longer s c.requires.sight a c.requires.fits
-    taken new c.in-Ok-taken_for.ensures.longer c.in-Ok-encode.ensures.longer c.words-2.ensures.formed c.requires.written c.args.list c.in-Ok.list changes rows
-    c.in-Ok.ensures.place c.in-Ok.ensures.same c.in-Ok-taken_for.ensures.rows
-    (subst (λ rs. Adds taken new c.in-Ok.list changes a rs) c.as_slice.ensures c.in-Ok-encode.ensures.adds) c.in-Ok-encode.ensures.place
+    taken new c.in-Ok-taken_for.ensures.longer c.in-Ok-encoded.ensures.longer c.words-2.ensures.formed c.requires.written c.args.list c.in-Ok.list changes rows
+    c.in-Ok.ensures.place c.in-Ok.ensures.same c.in-Ok-taken_for.ensures.rows c.in-Ok-taken_for.ensures.few
+    (subst (λ rs. Adds taken new c.in-Ok.list changes a rs) c.as_slice.ensures c.in-Ok-encoded.ensures.adds) c.in-Ok-encoded.ensures.place
+
+pub returns-in-Err-clause-made : goal.returns-in-Err-clause-made
+returns-in-Err-clause-made g c =
+    let s = c.args.sight.now in
+    let some = taking_within (count (history_of c.args.pass.now.words s) (actions_before s)) (action_of c.args.action.now) in
+    let one = c.in-Err.ensures.made in
+    omega (arith, some, one)
+
+pub returns-in-Err-taken_for-clause-made : goal.returns-in-Err-taken_for-clause-made
+returns-in-Err-taken_for-clause-made g c =
+    let old = c.args.pass.now.words in
+    let started = c.begun.new.pass.words in
+    let s = c.args.sight.now in
+    let a = action_of c.args.action.now in
+    let actions = actions_before s in
+    let h = history_of started s in
+    let same = history_stays old started c.in-Ok.ensures.longer s c.requires.sight.within in
+    let one = c.in-Ok.ensures.made in
+    let took = c.in-Err-taken_for.ensures.made in
+    let some = taking_within (count h actions) a in
+    let total = c.taken_for.new.pass.made + charge (says_full c.in-Err-taken_for.why) in
+    subst (λ k. total + 1 ≤ c.args.pass.now.made + change_words (count k actions) a) (sym same) (omega (arith, one, took, some))
+
+pub returns-in-Ok-encoded-clause-made : goal.returns-in-Ok-encoded-clause-made
+returns-in-Ok-encoded-clause-made g c =
+    let old = c.args.pass.now.words in
+    let started = c.begun.new.pass.words in
+    let s = c.args.sight.now in
+    let a = action_of c.args.action.now in
+    let actions = actions_before s in
+    let h = history_of started s in
+    let same = history_stays old started c.in-Ok.ensures.longer s c.requires.sight.within in
+    let one = c.in-Ok.ensures.made in
+    let took = c.in-Ok-taken_for.ensures.made in
+    let rows = c.in-Ok-taken_for.rows in
+    let counted = c.words-2.ensures.counted in
+    let small = c.words-2.ensures.small in
+    let made = c.args.pass.now.made in
+    let total = c.encode-encoded.new.pass.made in
+    let put = subst (λ rs. total ≤ c.taken_for.new.pass.made + encode_words a rs) c.as_slice.ensures c.encode-encoded.ensures.made in
+    subst (λ k. total + 0 + 1 ≤ made + change_words (count k actions) a) (sym same)
+    (let all = added_within c.taken_for.new.pass.words s.global h actions (count h actions) made c.begun.new.pass.made c.taken_for.new.pass.made total (omega (arith, one)) (omega (arith, counted, small))
+    a rows c.in-Ok-taken_for.ensures.rows c.in-Ok-taken_for.ensures.few (omega (arith, took)) put in omega (arith, all))
+
+pub returns-clause-made : goal.returns-clause-made
+returns-clause-made g c =
+    let old = c.args.pass.now.words in
+    let started = c.begun.new.pass.words in
+    let s = c.args.sight.now in
+    let a = action_of c.args.action.now in
+    let actions = actions_before s in
+    let h = history_of started s in
+    let same = history_stays old started c.in-Ok.ensures.longer s c.requires.sight.within in
+    let one = c.in-Ok.ensures.made in
+    let took = c.in-Ok-taken_for.ensures.made in
+    let rows = c.in-Ok-taken_for.rows in
+    let counted = c.words-2.ensures.counted in
+    let small = c.words-2.ensures.small in
+    let made = c.args.pass.now.made in
+    let total = c.encode-encoded.new.pass.made + 1 in
+    let fewer = c.in-Err-encoded.ensures.err in
+    let put = subst (λ rs. total ≤ c.taken_for.new.pass.made + encode_words a rs) c.as_slice.ensures (omega (arith, fewer)) in
+    subst (λ k. total + 1 ≤ made + change_words (count k actions) a) (sym same)
+    (added_within c.taken_for.new.pass.words s.global h actions (count h actions) made c.begun.new.pass.made c.taken_for.new.pass.made total (omega (arith, one)) (omega (arith, counted, small))
+    a rows c.in-Ok-taken_for.ensures.rows c.in-Ok-taken_for.ensures.few (omega (arith, took)) put)

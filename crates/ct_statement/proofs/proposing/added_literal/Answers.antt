@@ -1,16 +1,33 @@
-use Rattle.std.{proofs.Common.{[]}, specs.Prelude.None}
+use Rattle.std.{proofs.Common.{[], ◌+◌, arith}, specs.Prelude.None}
 use Rattle.ct_word.proofs.Prefixes.{prefix_same}
 use Rattle.ct_query.specs.Views.{action_of}
-use Rattle.ct_statement.{specs.Sight.{actions_before, history_of}, proofs.Listed.proposal, proofs.Literal.takes_none}
+use Rattle.ct_statement.{specs.Sight.{actions_before, history_of}, proofs.Listed.proposal, proofs.Literal.takes_none, proofs.Making.{added_within, taking_within}}
 use Rattle.ct_statement.proofs.proposing.added_literal.Goals as goal
 
-pub returns-clause-proposes : goal.returns-clause-proposes
-returns-clause-proposes g c = λ s is fits.
+pub returns-in-Ok-encoded-clause-proposes : goal.returns-in-Ok-encoded-clause-proposes
+returns-in-Ok-encoded-clause-proposes g c = λ s is fits.
     let a = action_of c.args.action.now in
     let started = c.begun.new.pass.words in
-    let new = c.encode.new.pass.words in
-    let changes = c.in-Ok-encode.changes in
+    let new = c.encode-encoded.new.pass.words in
+    let changes = c.in-Ok-encoded.changes in
     proposal c.args.pass.now.words started c.in-Ok.ensures.longer s is a fits
-    started new (prefix_same started) c.in-Ok-encode.ensures.longer c.words-2.ensures.formed c.requires.written None c.in-Ok.list changes []
-    c.in-Ok.ensures.place c.in-Ok.ensures.same (takes_none started s.global (history_of started s) (actions_before s) a c.requires.literal)
-    c.in-Ok-encode.ensures.adds c.in-Ok-encode.ensures.place
+    started new (prefix_same started) c.in-Ok-encoded.ensures.longer c.words-2.ensures.formed c.requires.written None c.in-Ok.list changes []
+    c.in-Ok.ensures.place c.in-Ok.ensures.same (takes_none started s.global (history_of started s) (actions_before s) a c.requires.literal) (omega arith)
+    c.in-Ok-encoded.ensures.adds c.in-Ok-encoded.ensures.place
+
+pub returns-in-Err-clause-made : goal.returns-in-Err-clause-made
+returns-in-Err-clause-made g c = λ counts.
+    let some = taking_within counts (action_of c.args.action.now) in
+    let one = c.in-Err.ensures.made in
+    omega (arith, some, one)
+
+pub returns-in-Ok-encoded-clause-made : goal.returns-in-Ok-encoded-clause-made
+returns-in-Ok-encoded-clause-made g c = λ counts.
+    let started = c.begun.new.pass.words in
+    let a = action_of c.args.action.now in
+    let one = c.in-Ok.ensures.made in
+    let counted = c.words-2.ensures.counted in
+    let small = c.words-2.ensures.small in
+    let all = added_within started 0 [] [] counts c.args.pass.now.made c.begun.new.pass.made c.begun.new.pass.made c.encode-encoded.new.pass.made (omega (arith, one)) (omega (arith, counted, small))
+    a [] (takes_none started 0 [] [] a c.requires.literal) (omega arith) (omega arith) c.encode-encoded.ensures.made in
+    omega (arith, all)

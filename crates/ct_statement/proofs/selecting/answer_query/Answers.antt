@@ -1,4 +1,4 @@
-use Rattle.std.{proofs.Common.{length, sym, subst, ◌∙◌}, specs.Prelude.IsTrue}
+use Rattle.std.{proofs.Common.{arith, length, sym, subst, ◌∙◌}, specs.Prelude.IsTrue}
 use Rattle.ct_word.specs.WellFormed.{is_place_of}
 use Rattle.ct_query.specs.Views.{query_of}
 use Rattle.ct_operators.specs.Tables.{AreRows}
@@ -31,3 +31,9 @@ returns-in-Err-clause-err g c =
     let old = c.args.pass.now.words in
     unasked_unmet (history_of old c.args.sight.now) (actions_before c.args.sight.now) g.N.Site.log.cap c.answered.new.pass.words ask.Rows c.args.columns (query_of c.args.query.now) c.in-Err.why
     c.in-Err.ensures.err
+
+pub returns-in-Err-clause-made : goal.returns-in-Err-clause-made
+returns-in-Err-clause-made g c = let most = c.in-Err.ensures.made in omega (arith, most)
+
+pub returns-clause-made : goal.returns-clause-made
+returns-clause-made g c = let most = c.in-Ok.ensures.made in omega (arith, most)

@@ -1,9 +1,12 @@
-use Rattle.std.{proofs.Common.{◌≡◌, ◌++◌, ◌∷◌, [], subst, sym}, specs.Prelude.{IfSome, MatchOption}}
+use Rattle.std.{proofs.Common.{◌≡◌, ◌≤◌, ◌+◌, ◌++◌, ◌∷◌, [], ap, arith, subst, sym, ◌∙◌}, specs.Prelude.{Err, IfSome, MatchOption}}
+use Rattle.ct_condition.specs.Writes.{charge}
 use Rattle.ct_word.specs.Reading.{change_list_at}
 use Rattle.ct_query.specs.Views.{action_of}
 use Rattle.ct_history.specs.Written.{IsWritten, plain_written}
-use Rattle.ct_keeper.specs.Effects.{DoesChange}
-use Rattle.ct_statement.proofs.Stepped.{effect_is}
+use Rattle.ct_keeper.specs.Effects.{DoesChange, effect_words}
+use Rattle.ct_keeper.specs.declared.effects.Effect.{Effect}
+use Rattle.ct_statement.{specs.Making.says_full, proofs.Making.unapplied_full, proofs.Stepped.{effect_is, effect_light}}
+use Rattle.ct_operators.specs.Refusals as operators
 use Rattle.ct_statement.proofs.stepping.effect_for.Goals as goal
 
 pub returns-in-Ok-clause-is : goal.returns-in-Ok-clause-is
@@ -20,3 +23,33 @@ returns-in-Ok-clause-is g c =
     let placed = subst (λ o. IfSome o (IsWritten c.words.result.now)) c.in-Some.is c.in_ok-change.ensures.placed in
     effect_is old s c.requires.sight (action_of proposal.action) list proposal.changes p change (subst (λ ws. plain_written ws change ≡ p.change) c.words.ensures.words read)
     new c.in-Ok.effect (subst (λ ws. IsWritten ws change) c.words.ensures.words placed) (subst (λ db. DoesChange old new db s.global change c.in-Ok.effect) c.db.ensures c.in-Ok.ensures.does)
+
+pub returns-in-Ok-clause-made : goal.returns-in-Ok-clause-made
+returns-in-Ok-clause-made g c =
+    let old = c.args.pass.now.words in
+    let s = c.args.sight.now in
+    let proposal = c.args.proposal.now in
+    let list = c.requires.proposal.0 in
+    let p = c.requires.proposal.1 in
+    let change = c.in-Some.change in
+    let listed = subst (λ ws. change_list_at ws proposal.changes ≡ list ++ p.change ∷ []) (sym c.words.ensures.words) p.list_is in
+    let read = subst (λ o. MatchOption o ⊥ (λ x. plain_written c.words.result.now x ≡ p.change)) c.in-Some.is (c.in_ok-change.ensures.last list p.change listed) in
+    let few = effect_light old s c.requires.sight (action_of proposal.action) list proposal.changes p change (subst (λ ws. plain_written ws change ≡ p.change) c.words.ensures.words read) in
+    let most = subst (λ db. c.effect_of.new.pass.made + 0 ≤ c.args.pass.now.made + effect_words db (plain_written old change)) c.db.ensures c.in-Ok.ensures.writes.made in
+    omega (arith, most, few)
+
+pub returns-in-Err-clause-made : goal.returns-in-Err-clause-made
+returns-in-Err-clause-made g c =
+    let old = c.args.pass.now.words in
+    let s = c.args.sight.now in
+    let proposal = c.args.proposal.now in
+    let list = c.requires.proposal.0 in
+    let p = c.requires.proposal.1 in
+    let change = c.in-Some.change in
+    let listed = subst (λ ws. change_list_at ws proposal.changes ≡ list ++ p.change ∷ []) (sym c.words.ensures.words) p.list_is in
+    let read = subst (λ o. MatchOption o ⊥ (λ x. plain_written c.words.result.now x ≡ p.change)) c.in-Some.is (c.in_ok-change.ensures.last list p.change listed) in
+    let few = effect_light old s c.requires.sight (action_of proposal.action) list proposal.changes p change (subst (λ ws. plain_written ws change ≡ p.change) c.words.ensures.words read) in
+    let made = c.effect_of.new.pass.made in
+    let most = subst (λ db. made + charge (operators.is_full {T = Effect} (Err c.in-Err.e)) ≤ c.args.pass.now.made + effect_words db (plain_written old change)) c.db.ensures c.in-Err.ensures.writes.made in
+    let same = ap charge (ap says_full c.unapplied.ensures ∙ unapplied_full Effect c.in-Err.e) in
+    omega (arith, most, few, same)

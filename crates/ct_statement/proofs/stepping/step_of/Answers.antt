@@ -1,7 +1,9 @@
-use Rattle.std.{proofs.Common.{subst, sym}, specs.{Arc.arc_value, Prelude.IsTrue}}
+use Rattle.std.{proofs.Common.{◌+◌, ◌≤◌, ap, arith, subst, sym}, specs.{Arc.arc_value, Prelude.IsTrue}}
+use Rattle.ct_condition.specs.Writes.{charge}
 use Rattle.ct_word.{specs.Condition.holds_at, specs.Reading.condition_at}
 use Rattle.ct_query.specs.Views.{action_of}
 use Rattle.ct_statement.{specs.Narrowing.{CanNarrow, IsKeptFor, IsUnkept}, proofs.Stepped.{can_narrow, kept_holds, step_made, unkept_unmet}}
+use Rattle.ct_statement.proofs.Making.{unkept_room}
 use Rattle.ct_statement.proofs.stepping.step_of.Goals as goal
 
 pub kept_for-requires-clause-narrows : goal.kept_for-requires-clause-narrows
@@ -39,3 +41,12 @@ returns-clause-err g c =
     let why = c.in-Err-kept_for.why in
     unkept_unmet c.args.pass.now.words new c.in-Ok.ensures.longer c.words-words.ensures.formed s c.requires.sight g.N.Site.log.cap (action_of c.args.proposal.now.action) w e c.in-Ok.ensures.is
     why (subst (λ ws. IsUnkept ws e why) c.words-words.ensures.words c.in-Err-kept_for.ensures.err)
+
+pub returns-in-Ok-kept_for-clause-made : goal.returns-in-Ok-kept_for-clause-made
+returns-in-Ok-kept_for-clause-made g c = let most = c.in-Ok.ensures.made in omega (arith, most)
+
+pub returns-clause-made : goal.returns-clause-made
+returns-clause-made g c =
+    let most = c.in-Ok.ensures.made in
+    let room = ap charge (unkept_room c.words-words.result.now c.in-Ok.applied.1 c.in-Err-kept_for.why c.in-Err-kept_for.ensures.err) in
+    omega (arith, most, room)

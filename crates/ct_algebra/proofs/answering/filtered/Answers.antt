@@ -1,0 +1,45 @@
+use Rattle.std.{proofs.Common.{◌≡◌, ◌+◌, ◌*◌, length, arith}, proofs.lemmas.Result.err_from_is_err_and}
+use Rattle.ct_query.{specs.Bounds.ops, specs.Pred.condition_of, specs.Terms.condition_terms}
+use Rattle.ct_condition.specs.Places.{new_terms}
+use Rattle.ct_operators.proofs.Growing.{rows_grow}
+use Rattle.ct_algebra.{proofs.Putting.{literals_fit, none_new}, proofs.Growing.answer_grows, proofs.Operators.{select_answers, none_selected}, proofs.Appending.{after_literals, refused_within}}
+use Rattle.ct_algebra.proofs.answering.filtered.Goals as goal
+
+pub returns-then-is_empty-clause-evaluates : goal.returns-then-is_empty-clause-evaluates
+returns-then-is_empty-clause-evaluates g c =
+    λ old db q s. none_selected old c.args.pass.now.words c.args.pass.now.words db q c.args.table s (condition_of c.args.p.now) (c.is_empty.ensures.0 c.if-is_empty.true)
+
+pub returns-then-is_empty-clause-grows : goal.returns-then-is_empty-clause-grows
+returns-then-is_empty-clause-grows g c = record { grows = λ literals has. omega arith }
+
+pub put_literals-requires : goal.put_literals-requires
+put_literals-requires g c = record { fits = literals_fit (length c.args.table.columns) (condition_of c.args.p.now) c.requires.predicate.fields }
+
+pub returns-in_err-put_literals-clause-grows : goal.returns-in_err-put_literals-clause-grows
+returns-in_err-put_literals-clause-grows g c =
+    let p = condition_of c.args.p.now in
+    let exit = err_from_is_err_and c.from_residual.result c.from_residual.ensures.1 in
+    rw (exit.1, exit.2)
+    (refused_within _ _ _ _ _ (condition_terms p) (condition_terms p) 0 (length c.args.table.rows * (ops p + 1)) (λ t h. h) (omega arith) c.in_err-put_literals.ensures.grows)
+
+pub select-requires : goal.select-requires
+select-requires g c = record {
+  rows = rows_grow c.args.pass.now.words c.put_literals.new.pass.words c.in_ok-put_literals.ensures.longer c.words.ensures.formed (length c.args.table.columns) c.args.table.rows c.requires.rows;
+  predicate = c.requires.predicate;
+}
+
+pub returns-clause-evaluates : goal.returns-clause-evaluates
+returns-clause-evaluates g c =
+    λ old db q s.
+    let mid = c.put_literals.new.pass.words in
+    let later = answer_grows old c.args.pass.now.words mid db q c.args.table c.in_ok-put_literals.ensures.longer c.words.ensures.formed s in
+    select_answers old mid c.select.new.pass.words db q c.args.table later (condition_of c.args.p.now) c.select.result c.select.ensures.columns c.select.ensures.rows c.select.ensures.tuples c.select.ensures.part c.select.ensures.terms
+
+pub returns-clause-grows : goal.returns-clause-grows
+returns-clause-grows g c =
+    let p = condition_of c.args.p.now in
+    let mid = c.put_literals.new.pass.words in
+    let most = length c.args.table.rows * (ops p + 1) in
+    let nothing : new_terms mid p ≡ 0 = none_new mid p c.in_ok-put_literals.ensures.placed in
+    after_literals _ mid _ _ _ _ (condition_terms p) _ c.select.result (new_terms mid p + most) most c.select.ensures.writes.longer c.in_ok-put_literals.ensures.grows c.select.ensures.writes.made
+    (omega (arith, nothing))

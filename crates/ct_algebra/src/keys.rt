@@ -1,0 +1,73 @@
+// The keys of rows, by which the candidates of a join are found.
+
+ghost use Rattle.std.specs.Prelude.{◌≡◌, ◌<◌, length, map, All, IfOk};
+ghost use Rattle.ct_algebra.specs.Keyed as spec;
+ghost use Rattle.ct_algebra.specs.Keyed.{column_on, key_of};
+
+use crate::equals::Equal;
+use ct_join::Key;
+use ct_word::{CRow, is_constant};
+use std::alloc::{AllocError, Global};
+
+/// A row of a pair.
+#[derive(Clone, Copy)]
+pub(crate) enum Side {
+    Left,
+    Right,
+}
+
+/// An odd number without a pattern in its bits, from the golden ratio.
+const FACTOR: u64 = 2_654_435_761;
+
+/// A number mixed from one and from a place. That of 0 and a place is the place.
+#[tactic(auto, unfolding(crate::specs::Keyed::mixed))]
+fn mixed(number: u32, place: u32) -> u32
+    ensures { result ≡ spec.mixed number place }
+{
+    ((number as u64 * FACTOR + place as u64) % 4_294_967_296) as u32
+}
+
+/// The column of one side.
+fn column_on(side: Side, equal: &Equal) -> usize
+    ensures { result ≡ column_on side equal.now }
+{
+    match side {
+        Side::Left => equal.left,
+        Side::Right => equal.right,
+    }
+}
+
+/// The key of a row of these cells. Where two rows of a pair have keys of different numbers, they have different
+/// constants in columns that are to be equal.
+pub(crate) fn key_of(words: &[u64], side: Side, equals: &[Equal], cells: &[u32]) -> Key
+    requires { All (λ e. column_on side e < length cells.now) equals.now }
+    ensures { result ≡ key_of words.now side equals.now cells.now }
+{
+    let mut number = 0;
+    for equal in equals {
+        let place = cells[column_on(side, equal)];
+        if !is_constant(words, place) {
+            return Key::Null;
+        }
+        number = mixed(number, place);
+    }
+    Key::Constant(number)
+}
+
+/// The keys of rows.
+pub(crate) fn keys_of(
+    alloc: Global,
+    words: &[u64],
+    side: Side,
+    equals: &[Equal],
+    rows: &[CRow],
+) -> Result<Vec<Key>, AllocError>
+    requires { All (λ r. All (λ e. column_on side e < length r.cells) equals.now) rows.now }
+    ensures { IfOk result (λ out. out.items ≡ map (λ r. key_of words.now side equals.now r.cells) rows.now) }
+{
+    let mut keys = Vec::new(alloc);
+    for row in rows {
+        keys.push(key_of(words, side, equals, row.cells.as_slice()))?;
+    }
+    Ok(keys)
+}

@@ -1,0 +1,39 @@
+use Rattle.std.{proofs.Common.{◌≡◌, ◌∙◌, filter, length, ap, sym, subst, rules}, specs.{Prelude.All, List.IsDistinct}}
+use Rattle.ct_word.specs.Value.{same_tuple}
+use Rattle.ct_condition.proofs.Reached.{both_of}
+use Rattle.ct_operators.specs.Tables.{firsts, value_of_rows}
+use Rattle.ct_certain.{specs.Missing.{IsSeen, is_in_each}, proofs.Candidates.{distinct_keys, firsts_asked, firsts_few}}
+use Rattle.ct_questions.{specs.Candidates.{AreCandidates, IsCandidate, tuples_of}, proofs.Listing.candidates_are}
+use Rattle.ct_questions.proofs.tuples.certain_left.Goals as goal
+
+pub candidates_in-requires-clause-few : goal.candidates_in-requires-clause-few
+candidates_in-requires-clause-few g c =
+    let words = c.args.pass.now.words in
+    let rows = c.args.table.now.rows in
+    let kept = c.args.kept.now in
+    let worth : c.as_slice-2.result.now ≡ firsts same_tuple (value_of_rows words kept rows) = search rules in
+    firsts_few words kept rows c.as_slice-2.result.now worth
+
+pub candidates_in-requires-clause-asked : goal.candidates_in-requires-clause-asked
+candidates_in-requires-clause-asked g c =
+    let words = c.args.pass.now.words in
+    let rows = c.args.table.now.rows in
+    let kept = c.args.kept.now in
+    let worth : c.as_slice-2.result.now ≡ firsts same_tuple (value_of_rows words kept rows) = search rules in
+    firsts_asked words kept rows c.as_slice-2.result.now worth c.args.global (length c.args.table.now.columns) c.words.ensures.formed c.words.ensures.begins c.requires.global c.requires.plain c.requires.rows c.requires.kept
+
+pub returns-clause-candidates : goal.returns-clause-candidates
+returns-clause-candidates g c =
+    let words = c.args.pass.now.words in
+    let new = c.candidates_in.new.pass.words in
+    let rows = c.args.table.now.rows in
+    let kept = c.args.kept.now in
+    let global = c.args.global in
+    let tuples = c.as_slice-2.result.now in
+    let known = c.as_slice.result.now in
+    let worth : tuples ≡ firsts same_tuple (value_of_rows words kept rows) = search rules in
+    let once = subst (IsDistinct same_tuple) (sym c.as_slice-2.ensures.keys) (distinct_keys _ c.as_slice-2.ensures.unique) in
+    let seen : All (IsSeen words global rows) known = subst (All (IsSeen words global rows)) (sym c.as_slice.ensures.value)
+    (subst (λ ws. All (IsSeen ws global rows) c.in_ok-known.known.items) c.words-2.ensures.words (subst (λ rs. All (IsSeen c.words-2.result.now global rs) c.in_ok-known.known.items) c.as_slice-rows.ensures c.in_ok-known.ensures)) in
+    both_of c.candidates_in.result (λ list. tuples_of list ≡ filter (is_in_each known) tuples) (All (IsCandidate words new global rows)) (AreCandidates words new global rows kept)
+    (λ list these roots. candidates_are words new global rows kept known tuples list worth once c.requires.kept.holds seen these roots) c.candidates_in.ensures.tuples c.candidates_in.ensures.roots

@@ -1,5 +1,0 @@
-use Rattle.std.proofs.Common.{length}
-use Rattle.ct_serve.proofs.serving.serve.Given as goal
-
-abbrev pub ghosts-serve_named : goal.ghosts-serve_named
-ghosts-serve_named g a = record { log = a.blank; sessions = length a.scripts.now }
