@@ -72,13 +72,14 @@ def instructions(script):
 
 
 class Profile:
-    """What callgrind counts in one run: how it ended, what was written, all instructions, and for each function how often it
-    was called, and the instructions of these calls with all that they call."""
+    """What callgrind counts in one run: how it ended, what was written, all instructions, and for each function its own ones,
+    how often it was called, and the instructions of these calls with all that they call."""
 
     def __init__(self, status, wrote):
         self.status = status
         self.wrote = wrote
         self.total = 0
+        self.own = {}
         self.calls = {}
         self.within = {}
         # The same for each caller with the function that it calls.
@@ -103,6 +104,8 @@ class Profile:
                     is_next = True
                 elif line.startswith(("summary:", "totals:")):
                     self.total = int(line.split()[1])
+                elif counted := re.match(r"[-+*\d]\S* (\d+)$", line):
+                    self.own[caller] = self.own.get(caller, 0) + int(counted[1])
 
     def first(self, counted, functions):
         """Returns the count of the first of these functions that has one, or None. A function that the compiler put into its
@@ -127,6 +130,34 @@ def profile(script, seconds=3600):
         if os.path.exists(counts):
             found.read(counts)
         return found
+
+
+def less(counted, without):
+    """Returns the counts less those of another run."""
+    return {key: count - without.get(key, 0) for key, count in counted.items()}
+
+
+def heaviest(taken, total):
+    """Returns lines of a table for the five greatest counts of functions: in millions, and as a share of the total."""
+    found = sorted(taken, key=taken.get, reverse=True)[:5]
+    return [[f"`{one}`", f"{taken[one] / 1e6:,.3f}", f"{taken[one] / total:.0%}"] for one in found]
+
+
+def print_profile(title, script, start):
+    """Prints which functions take the instructions of a script that the same script without what is measured does not take.
+    Of those that count with all that they call, the ones that do little but call another one are left out."""
+    ran, before = profile(script), profile(start)
+    total = ran.total - before.total
+    within = less(ran.within, before.within)
+    within.pop("(below main)", None)
+    for (caller, callee), count in less(ran.between, before.between).items():
+        if caller != callee and count > 0.9 * within.get(caller, total):
+            within[caller] = 0
+    print(f"{title}: {total / 1e6:,.3f} million\n")
+    table(["function", "its own, millions", "share"], heaviest(less(ran.own, before.own), total))
+    print()
+    table(["function", "with all that it calls", "share"], heaviest(within, total))
+    print()
 
 
 def called(script, functions):

@@ -51,3 +51,7 @@ pub record Answers (old now : List ℕ) (db : List TableView) (q : PlainQuery) (
 pub record MakesWithin {A : Type 0} (out : Result A TableError) (before after most : ℕ) : Type 0 where
   pub made : after ≤ before + most
   pub fewer : IsErrOf out fault.Full → after < before + most
+
+-- a call makes at most the words of the literals among these terms that have no place, and so many more
+abbrev pub SpendsWithin : List ℕ → ℕ → ℕ → List Term → ℕ → Type 0
+SpendsWithin old before after terms most = (literals : List Term) → EachLiteral (Contains literals) terms → after ≤ before + unplaced old literals + most

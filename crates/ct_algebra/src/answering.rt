@@ -19,10 +19,13 @@ ghost use Rattle.ct_algebra.specs.Words.{most_rows, most_words, GrowsWithin, Ans
 
 use crate::joining::join;
 use crate::literals::put_literals;
+use crate::operands::Operand;
 use crate::picking::join_picked;
 use ct_arena::{Arena, Pass, Site};
 use ct_query::{Pred, Query};
-use ct_table::{CTable, Db, TableError, except, intersect, product, project, select, union};
+use ct_table::{
+    CTable, Db, RowSource, TableError, except, intersect, product, project, select, union,
+};
 use std::alloc::Global;
 
 /// The rows of an answer for which a predicate holds. Where there are rows, its literals are put first.
@@ -31,7 +34,7 @@ fn filtered<N: Site>(
     arena: &Arena<N>,
     pass: &mut Pass<N>,
     p: &Pred,
-    table: CTable,
+    table: Operand,
 ) -> Result<CTable, TableError>
     requires rows { AreRows pass.old.words (length table.columns) table.rows }
     requires predicate { FitsRows (length table.columns) (condition_of p.now) }
@@ -43,8 +46,8 @@ fn filtered<N: Site>(
     ensures session { pass.new.session ≡ pass.old.session }
     ensures mine { pass.new.mine ≡ pass.old.mine }
 {
-    if table.rows.is_empty() {
-        return Ok(table);
+    if table.len() == 0 {
+        return Ok(table.into_table(alloc)?);
     }
     // The words are well formed, which keeps the rows as words are added.
     let _ = pass.words();
@@ -53,12 +56,12 @@ fn filtered<N: Site>(
 }
 
 /// Whether there are pairs of rows, and no more rows on the right than places in an index.
-fn have_pairs(left: &CTable, right: &CTable) -> bool
+fn have_pairs(left: &Operand, right: &Operand) -> bool
     ensures few { IsTrue result → length right.now.rows < 2 ^ 32 }
     ensures pairs { IsTrue result ↔ ((length right.now.rows < 2 ^ 32) × (length left.now.rows ≢ 0) × (length right.now.rows ≢ 0)) }
 {
-    let few = right.rows.len() as u64 <= u32::MAX as u64;
-    few && !left.rows.is_empty() && !right.rows.is_empty()
+    let few = right.len() as u64 <= u32::MAX as u64;
+    few && left.len() != 0 && right.len() != 0
 }
 
 /// The pairs of rows of two answers for which a predicate holds, found in one pass. Its literals are put first.
@@ -67,8 +70,8 @@ fn in_one_pass<N: Site>(
     arena: &Arena<N>,
     pass: &mut Pass<N>,
     p: &Pred,
-    left: &CTable,
-    right: &CTable,
+    left: &Operand,
+    right: &Operand,
 ) -> Result<CTable, TableError>
     requires left { AreRows pass.old.words (length left.now.columns) left.now.rows }
     requires right { AreRows pass.old.words (length right.now.columns) right.now.rows }
@@ -94,8 +97,8 @@ fn of_all_pairs<N: Site>(
     arena: &Arena<N>,
     pass: &mut Pass<N>,
     p: &Pred,
-    left: &CTable,
-    right: &CTable,
+    left: &Operand,
+    right: &Operand,
 ) -> Result<CTable, TableError>
     requires left { AreRows pass.old.words (length left.now.columns) left.now.rows }
     requires right { AreRows pass.old.words (length right.now.columns) right.now.rows }
@@ -109,7 +112,7 @@ fn of_all_pairs<N: Site>(
     ensures mine { pass.new.mine ≡ pass.old.mine }
 {
     let pairs = product(alloc, arena, pass, left, right)?;
-    filtered(alloc, arena, pass, p, pairs)
+    filtered(alloc, arena, pass, p, Operand::made(pairs))
 }
 
 /// The same, in one pass where there are pairs.
@@ -118,8 +121,8 @@ fn joined<N: Site>(
     arena: &Arena<N>,
     pass: &mut Pass<N>,
     p: &Pred,
-    left: &CTable,
-    right: &CTable,
+    left: &Operand,
+    right: &Operand,
 ) -> Result<CTable, TableError>
     requires left { AreRows pass.old.words (length left.now.columns) left.now.rows }
     requires right { AreRows pass.old.words (length right.now.columns) right.now.rows }
@@ -146,8 +149,8 @@ fn picked_in_one_pass<N: Site>(
     pass: &mut Pass<N>,
     columns: &[u32],
     p: &Pred,
-    left: &CTable,
-    right: &CTable,
+    left: &Operand,
+    right: &Operand,
 ) -> Result<CTable, TableError>
     requires left { AreRows pass.old.words (length left.now.columns) left.now.rows }
     requires right { AreRows pass.old.words (length right.now.columns) right.now.rows }
@@ -175,8 +178,8 @@ fn picked_join<N: Site>(
     pass: &mut Pass<N>,
     columns: &[u32],
     p: &Pred,
-    left: &CTable,
-    right: &CTable,
+    left: &Operand,
+    right: &Operand,
 ) -> Result<CTable, TableError>
     requires sides { (old : List ℕ) × (db : List TableView) × (a : PlainQuery) × (b : PlainQuery) × Evaluates old pass.old.words db a left.now × Evaluates old pass.old.words db b right.now }
     requires columns { All (λ k. k < length left.now.columns + length right.now.columns) columns.now }
@@ -202,8 +205,8 @@ fn picked_product<N: Site>(
     arena: &Arena<N>,
     pass: &mut Pass<N>,
     columns: &[u32],
-    left: &CTable,
-    right: &CTable,
+    left: &Operand,
+    right: &Operand,
 ) -> Result<CTable, TableError>
     requires left { AreRows pass.old.words (length left.now.columns) left.now.rows }
     requires right { AreRows pass.old.words (length right.now.columns) right.now.rows }
@@ -223,9 +226,63 @@ fn picked_product<N: Site>(
     project(alloc, arena, pass, columns, &pairs)
 }
 
-/// The answers to both parts of a query.
+/// What an operator reads as a part of a query: the table that the part names, or the one that answers it.
+#[cycle(answer)]
+fn operand<N: Site>(
+    alloc: Global,
+    arena: &Arena<N>,
+    pass: &mut Pass<N>,
+    part: &Query,
+    db: &Db,
+) -> Result<Operand, TableError>
+    requires tables { AreTables pass.old.words db.now }
+    requires fits { Fits (map heading_of db.now) (query_of part.now) }
+    ensures answers { Answers pass.old.words pass.new.words db.now (query_of part.now) pass.old.made pass.new.made result }
+    ensures longer { IsPrefix pass.old.words pass.new.words }
+    ensures full { IsErrOf result fault.Full → length pass.new.words ≡ N.log.cap }
+    ensures rises { pass.old.made ≤ pass.new.made }
+    ensures session { pass.new.session ≡ pass.old.session }
+    ensures mine { pass.new.mine ≡ pass.old.mine }
+{
+    match part {
+        Query::Table(name) => Ok(Operand::stored(db.get(name).unwrap())?),
+        _ => Ok(Operand::made(answer(alloc, arena, pass, part, db)?)),
+    }
+}
+
+/// What an operator reads as the two parts of a query.
 #[cycle(answer)]
 fn sides<N: Site>(
+    alloc: Global,
+    arena: &Arena<N>,
+    pass: &mut Pass<N>,
+    left: &Query,
+    right: &Query,
+    db: &Db,
+) -> Result<(Operand, Operand), TableError>
+    requires tables { AreTables pass.old.words db.now }
+    requires left { Fits (map heading_of db.now) (query_of left.now) }
+    requires right { Fits (map heading_of db.now) (query_of right.now) }
+    ensures left { IfOk result (λ t. Evaluates pass.old.words pass.new.words db.now (query_of left.now) t.0) }
+    ensures right { IfOk result (λ t. Evaluates pass.old.words pass.new.words db.now (query_of right.now) t.1) }
+    ensures longer { IsPrefix pass.old.words pass.new.words }
+    ensures full { IsErrOf result fault.Full → length pass.new.words ≡ N.log.cap }
+    ensures grows { GrowsWithin result pass.old.words pass.new.words pass.old.made pass.new.made (query_terms (query_of left.now) ++ query_terms (query_of right.now)) (most_words db.now (query_of left.now) + most_words db.now (query_of right.now)) }
+    ensures rises { pass.old.made ≤ pass.new.made }
+    ensures session { pass.new.session ≡ pass.old.session }
+    ensures mine { pass.new.mine ≡ pass.old.mine }
+{
+    // The words are well formed, which keeps the terms below a place as words are added.
+    let _ = pass.words();
+    let one = operand(alloc, arena, pass, left, db)?;
+    let _ = pass.words();
+    let other = operand(alloc, arena, pass, right, db)?;
+    Ok((one, other))
+}
+
+/// The tables that answer both parts of a query.
+#[cycle(answer)]
+fn tables<N: Site>(
     alloc: Global,
     arena: &Arena<N>,
     pass: &mut Pass<N>,
@@ -245,12 +302,8 @@ fn sides<N: Site>(
     ensures session { pass.new.session ≡ pass.old.session }
     ensures mine { pass.new.mine ≡ pass.old.mine }
 {
-    // The words are well formed, which keeps the terms below a place as words are added.
-    let _ = pass.words();
-    let one = answer(alloc, arena, pass, left, db)?;
-    let _ = pass.words();
-    let other = answer(alloc, arena, pass, right, db)?;
-    Ok((one, other))
+    let (left, right) = sides(alloc, arena, pass, left, right, db)?;
+    Ok((left.into_table(alloc)?, right.into_table(alloc)?))
 }
 
 /// The table that answers a selection, by the rows of its part.
@@ -272,7 +325,7 @@ fn selected_rows<N: Site>(
     ensures session { pass.new.session ≡ pass.old.session }
     ensures mine { pass.new.mine ≡ pass.old.mine }
 {
-    let table = answer(alloc, arena, pass, part, db)?;
+    let table = operand(alloc, arena, pass, part, db)?;
     filtered(alloc, arena, pass, p, table)
 }
 
@@ -323,7 +376,7 @@ fn projected_rows<N: Site>(
     ensures session { pass.new.session ≡ pass.old.session }
     ensures mine { pass.new.mine ≡ pass.old.mine }
 {
-    let table = answer(alloc, arena, pass, part, db)?;
+    let table = operand(alloc, arena, pass, part, db)?;
     project(alloc, arena, pass, columns, &table)
 }
 
@@ -395,15 +448,15 @@ pub(crate) fn answer<N: Site>(
             product(alloc, arena, pass, &left, &right)
         }
         Query::Union(left, right) => {
-            let (left, right) = sides(alloc, arena, pass, left, right, db)?;
+            let (left, right) = tables(alloc, arena, pass, left, right, db)?;
             union(alloc, arena, pass, &left, &right)
         }
         Query::Except(left, right) => {
-            let (left, right) = sides(alloc, arena, pass, left, right, db)?;
+            let (left, right) = tables(alloc, arena, pass, left, right, db)?;
             except(alloc, arena, pass, &left, &right)
         }
         Query::Intersect(left, right) => {
-            let (left, right) = sides(alloc, arena, pass, left, right, db)?;
+            let (left, right) = tables(alloc, arena, pass, left, right, db)?;
             intersect(alloc, arena, pass, &left, &right)
         }
     }

@@ -11,6 +11,7 @@ ghost use Rattle.ct_query.specs.Patterns.{query_pattern};
 ghost use Rattle.ct_query.specs.Rows.{rows};
 ghost use Rattle.ct_query.specs.Size as spec;
 ghost use Rattle.ct_query.specs.Size.{rows_in};
+ghost use Rattle.ct_query.specs.Terms.{query_terms};
 ghost use Rattle.ct_query.specs.Views.{query_of};
 ghost use Rattle.ct_plan.specs.Planned.{planned};
 ghost use Rattle.ct_plan.specs.Replaces.{Replaces};
@@ -22,7 +23,7 @@ ghost use Rattle.ct_algebra.specs.Operands.{AreTables, cells_in};
 ghost use Rattle.ct_algebra.specs.Evaluates.{limit, Evaluates};
 ghost use Rattle.ct_algebra.specs.Names.{names};
 ghost use Rattle.ct_algebra.specs.Terms.{TermOfQuery};
-ghost use Rattle.ct_algebra.specs.Words.{MakesWithin};
+ghost use Rattle.ct_algebra.specs.Words.{MakesWithin, SpendsWithin, most_words};
 ghost use Rattle.ct_algebra.specs.declared.error.EvalError.TheVariants as fault;
 ghost use Rattle.ct_operators.specs.declared.error.TableError.TheVariants as refusal;
 
@@ -60,6 +61,7 @@ fn planned_answer<N: Site>(
     requires tables { AreTables pass.old.words db.now }
     requires fits { Fits (map heading_of db.now) (query_of q.now) }
     ensures evaluates { IfOk result (Evaluates pass.old.words pass.new.words db.now (query_of q.now)) }
+    ensures spends { SpendsWithin pass.old.words pass.old.made pass.new.made (query_terms (planned (map heading_of db.now) (query_of q.now))) (most_words db.now (planned (map heading_of db.now) (query_of q.now))) }
     ensures makes { pass.new.made < 2 ^ 28 → MakesWithin result pass.old.made pass.new.made (nodes (rows_in (map count_of db.now)) (query_of q.now)) }
     ensures longer { IsPrefix pass.old.words pass.new.words }
     ensures full { IsErrOf result refusal.Full → length pass.new.words ≡ N.log.cap }
@@ -101,6 +103,9 @@ pub fn eval<N: Site>(
     ensures rises { pass.old.made ≤ pass.new.made }
     ensures made { pass.new.made ≤ pass.old.made + nodes (rows_in (map count_of db.now)) (query_of q.now) }
     ensures fewer { IsErrOf result fault.Full → pass.new.made < pass.old.made + nodes (rows_in (map count_of db.now)) (query_of q.now) }
+
+    // The words are those of the planned query: conjuncts that it moves to a table leave out rows before they are joined.
+    ensures spends { SpendsWithin pass.old.words pass.old.made pass.new.made (query_terms (planned (map heading_of db.now) (query_of q.now))) (most_words db.now (planned (map heading_of db.now) (query_of q.now))) }
     ensures session { pass.new.session ≡ pass.old.session }
     ensures mine { pass.new.mine ≡ pass.old.mine }
 

@@ -1,6 +1,6 @@
 // Two tables joined: the pairs of rows for which a predicate holds, in one pass.
 
-ghost use Rattle.std.specs.Prelude.{◌≡◌, ◌⊎◌, ◌<◌, ◌+◌, ◌*◌, ◌^◌, ◌++◌, ◌∷◌, [], true, length, map, filter, All, IfOk, OnOk, IsTrue, is_err, slice_index_or};
+ghost use Rattle.std.specs.Prelude.{◌≡◌, ◌⊎◌, ◌<◌, ◌+◌, ◌*◌, ◌^◌, ◌++◌, ◌∷◌, [], true, length, map, filter, All, IfOk, OnOk, IsTrue, is_err};
 ghost use mathlib.Core.List.{IsPrefix};
 ghost use Rattle.ct_word.specs.declared.kinds.Class.TheVariants as class;
 ghost use Rattle.ct_word.specs.Value.{World};
@@ -29,12 +29,13 @@ ghost use Rattle.ct_algebra.specs.declared.keys.Side.TheVariants as side;
 
 use crate::equals::{Equal, differ_in, equals_of};
 use crate::keys::{Side, key_of, keys_of};
+use crate::operands::Operand;
 use ct_arena::{Arena, Full, Site};
 use ct_condition::{Interner, and, pred};
 use ct_join::Index;
 use ct_operators::joined_names;
 use ct_query::Pred;
-use ct_table::{CRow, CTable, TableError};
+use ct_table::{CRow, CTable, RowSource, TableError};
 use ct_word::{FALSE_PLACE, List};
 use std::alloc::{AllocError, Global};
 
@@ -66,14 +67,6 @@ fn push_possible(to: &mut Vec<CRow>, cells: &Vec<u32>, cond: u32) -> Result<(), 
         })?;
     }
     Ok(())
-}
-
-/// The row at a place.
-fn row_at(table: &CTable, place: u32) -> &CRow
-    requires { place < length table.now.rows }
-    ensures { result.now ≡ slice_index_or table.now.rows place result.now }
-{
-    &table.rows.as_slice()[place as usize]
 }
 
 /// The place of a predicate on the cells of a pair, where its terms have places.
@@ -166,7 +159,7 @@ fn joined_at<N: Site, I: Interner<N>>(
     pass: &mut I,
     asked: Asked<'_>,
     left: &CRow,
-    right: &CTable,
+    right: &Operand,
     places: &[u32],
 ) -> Result<Vec<CRow>, TableError>
     requires left { IsRow (I.list pass.old) (length left.now.cells) left.now }
@@ -183,7 +176,7 @@ fn joined_at<N: Site, I: Interner<N>>(
     let mut out = Vec::new(alloc);
     for place in places {
         let _ = pass.words();
-        let other = row_at(right, *place);
+        let other = right.row(*place as usize);
         fill(&mut cells, left, other)?;
         let cond = paired(arena, pass, asked, left, other, cells.as_slice())?;
         let _ = pass.words();
@@ -200,7 +193,7 @@ pub(crate) fn joined_row<N: Site, I: Interner<N>>(
     pass: &mut I,
     asked: Asked<'_>,
     left: &CRow,
-    right: &CTable,
+    right: &Operand,
     index: &Index<'_>,
     places: &mut Vec<u32>,
 ) -> Result<Vec<CRow>, TableError>
@@ -229,8 +222,8 @@ fn joined<N: Site, I: Interner<N>>(
     arena: &Arena<N>,
     pass: &mut I,
     asked: Asked<'_>,
-    left: &CTable,
-    right: &CTable,
+    left: &Operand,
+    right: &Operand,
 ) -> Result<Vec<CRow>, TableError>
     requires left { AreRows (I.list pass.old) (length left.now.columns) left.now.rows }
     requires right { AreRows (I.list pass.old) (length right.now.columns) right.now.rows }
@@ -242,17 +235,12 @@ fn joined<N: Site, I: Interner<N>>(
     ensures writes { Writes I.list I.made I.kept I.lent N.log.cap pass.old pass.new (length left.now.rows * length right.now.rows * pair_words (condition_of asked.entry.pred.now)) (is_full result) }
 {
     let _ = pass.words();
-    let keys = keys_of(
-        alloc,
-        pass.words(),
-        Side::Right,
-        asked.equals,
-        right.rows.as_slice(),
-    )?;
+    let keys = keys_of(alloc, pass.words(), Side::Right, asked.equals, right)?;
     let index = Index::make(alloc, keys.as_slice())?;
     let mut places = Vec::new(alloc);
     let mut out = Vec::new(alloc);
-    for row in left.rows.as_slice() {
+    for nth in 0..left.len() {
+        let row = left.row(nth);
         let _ = pass.words();
         let mut more = joined_row(alloc, arena, pass, asked, row, right, &index, &mut places)?;
         out.append(&mut more)?;
@@ -271,8 +259,8 @@ pub(crate) fn join<N: Site, I: Interner<N>>(
     arena: &Arena<N>,
     pass: &mut I,
     p: &Pred,
-    left: &CTable,
-    right: &CTable,
+    left: &Operand,
+    right: &Operand,
 ) -> Result<CTable, TableError>
     requires left { AreRows (I.list pass.old) (length left.now.columns) left.now.rows }
     requires right { AreRows (I.list pass.old) (length right.now.columns) right.now.rows }
@@ -287,8 +275,8 @@ pub(crate) fn join<N: Site, I: Interner<N>>(
     ensures writes { Writes I.list I.made I.kept I.lent N.log.cap pass.old pass.new (length left.now.rows * length right.now.rows * pair_words (condition_of p.now)) (is_full result) }
 {
     let _ = pass.words();
-    let columns = joined_names(&left.columns, &right.columns)?;
-    let equals = equals_of(alloc, left.columns.len(), p)?;
+    let columns = joined_names(left.columns(), right.columns())?;
+    let equals = equals_of(alloc, left.columns().len(), p)?;
     let asked = Asked {
         pred: p,
         equals: equals.as_slice(),

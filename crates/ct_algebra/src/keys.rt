@@ -5,8 +5,10 @@ ghost use Rattle.ct_algebra.specs.Keyed as spec;
 ghost use Rattle.ct_algebra.specs.Keyed.{column_on, key_of};
 
 use crate::equals::Equal;
+use crate::operands::Operand;
 use ct_join::Key;
-use ct_word::{CRow, is_constant};
+use ct_table::RowSource;
+use ct_word::is_constant;
 use std::alloc::{AllocError, Global};
 
 /// A row of a pair.
@@ -54,19 +56,20 @@ pub(crate) fn key_of(words: &[u64], side: Side, equals: &[Equal], cells: &[u32])
     Key::Constant(number)
 }
 
-/// The keys of rows.
+/// The keys of the rows of a table.
 pub(crate) fn keys_of(
     alloc: Global,
     words: &[u64],
     side: Side,
     equals: &[Equal],
-    rows: &[CRow],
+    table: &Operand,
 ) -> Result<Vec<Key>, AllocError>
-    requires { All (λ r. All (λ e. column_on side e < length r.cells) equals.now) rows.now }
-    ensures { IfOk result (λ out. out.items ≡ map (λ r. key_of words.now side equals.now r.cells) rows.now) }
+    requires { All (λ r. All (λ e. column_on side e < length r.cells) equals.now) table.now.rows }
+    ensures { IfOk result (λ out. out.items ≡ map (λ r. key_of words.now side equals.now r.cells) table.now.rows) }
 {
     let mut keys = Vec::new(alloc);
-    for row in rows {
+    for nth in 0..table.len() {
+        let row = table.row(nth);
         keys.push(key_of(words, side, equals, row.cells.as_slice()))?;
     }
     Ok(keys)

@@ -8,6 +8,7 @@ mod evaluation;
 mod joining;
 mod keys;
 mod literals;
+mod operands;
 mod picking;
 
 pub use ct_table::Db;

@@ -25,12 +25,13 @@ ghost use Rattle.ct_algebra.specs.Picking.{HasCells, PicksPairs};
 use crate::equals::equals_of;
 use crate::joining::{Asked, joined_row};
 use crate::keys::{Side, keys_of};
+use crate::operands::Operand;
 use ct_arena::{Arena, Site};
 use ct_condition::Interner;
 use ct_join::Index;
 use ct_operators::{Gathering, joined_names, pick, pick_names};
 use ct_query::Pred;
-use ct_table::{CRow, CTable, TableError};
+use ct_table::{CRow, CTable, RowSource, TableError};
 use std::alloc::Global;
 
 /// Puts rows, with their cells at these positions, to those that are gathered.
@@ -64,8 +65,8 @@ fn gathered<N: Site, I: Interner<N>>(
     pass: &mut I,
     columns: &[u32],
     asked: Asked<'_>,
-    left: &CTable,
-    right: &CTable,
+    left: &Operand,
+    right: &Operand,
 ) -> Result<Gathering, TableError>
     requires left { AreRows (I.list pass.old) (length left.now.columns) left.now.rows }
     requires right { AreRows (I.list pass.old) (length right.now.columns) right.now.rows }
@@ -78,17 +79,12 @@ fn gathered<N: Site, I: Interner<N>>(
     ensures writes { Writes I.list I.made I.kept I.lent N.log.cap pass.old pass.new (length left.now.rows * length right.now.rows * (pair_words (condition_of asked.entry.pred.now) + 1)) (is_full result) }
 {
     let _ = pass.words();
-    let keys = keys_of(
-        alloc,
-        pass.words(),
-        Side::Right,
-        asked.equals,
-        right.rows.as_slice(),
-    )?;
+    let keys = keys_of(alloc, pass.words(), Side::Right, asked.equals, right)?;
     let index = Index::make(alloc, keys.as_slice())?;
     let mut places = Vec::new(alloc);
-    let mut gathering = Gathering::make(alloc, left.rows.len())?;
-    for row in left.rows.as_slice() {
+    let mut gathering = Gathering::make(alloc, left.len())?;
+    for nth in 0..left.len() {
+        let row = left.row(nth);
         let _ = pass.words();
         let pairs = joined_row(alloc, arena, pass, asked, row, right, &index, &mut places)?;
         gather(
@@ -115,8 +111,8 @@ pub(crate) fn join_picked<N: Site, I: Interner<N>>(
     pass: &mut I,
     columns: &[u32],
     p: &Pred,
-    left: &CTable,
-    right: &CTable,
+    left: &Operand,
+    right: &Operand,
 ) -> Result<CTable, TableError>
     requires left { AreRows (I.list pass.old) (length left.now.columns) left.now.rows }
     requires right { AreRows (I.list pass.old) (length right.now.columns) right.now.rows }
@@ -132,9 +128,9 @@ pub(crate) fn join_picked<N: Site, I: Interner<N>>(
     ensures writes { Writes I.list I.made I.kept I.lent N.log.cap pass.old pass.new (length left.now.rows * length right.now.rows * (pair_words (condition_of p.now) + 1)) (is_full result) }
 {
     let _ = pass.words();
-    let both = joined_names(&left.columns, &right.columns)?;
+    let both = joined_names(left.columns(), right.columns())?;
     let names = pick_names(alloc, columns, &both)?;
-    let equals = equals_of(alloc, left.columns.len(), p)?;
+    let equals = equals_of(alloc, left.columns().len(), p)?;
     let asked = Asked {
         pred: p,
         equals: equals.as_slice(),

@@ -18,30 +18,6 @@ use Rattle.ct_operators.specs.declared.error.TableError.TheVariants as table
 use Rattle.ct_operators.specs.Refusals as refusals
 use Rattle.ct_certain.specs.Faults as faults
 
--- what an operator does to the words
-module _ {S : Type 0} {words_of : S → List ℕ} {made_of : S → ℕ} {kept_of : S → List ℕ} {lent_of : S → List GName} {cap : ℕ} {T : Type 0} (old new : S) where
-  pub table_writes : (m : ℕ) (r : Result T TableError) → IsPrefix (words_of old) (words_of new) → IsWellFormed (words_of new) → length (words_of new) ≤ cap → (IsErrOf r table.Full → length (words_of new) ≡ cap)
-      → made_of old ≤ made_of new → made_of new ≤ made_of old + m → (IsErrOf r table.Full → made_of new < made_of old + m) → kept_of new ≡ kept_of old → lent_of new ≡ lent_of old → Writes words_of made_of kept_of lent_of cap old new m (refusals.is_full r)
-  table_writes m r longer formed room full rises most fewer kept lent = record {
-    longer = longer;
-    formed = formed;
-    room = room;
-    full = when_full r full;
-    rises = rises;
-    made = when_made r fewer;
-    kept = kept;
-    lent = lent;
-  } where
-    when_full : (r : Result T TableError) → (IsErrOf r table.Full → length (words_of new) ≡ cap) → refusals.is_full r ≡ true → length (words_of new) ≡ cap
-    when_full (Ok x) h e = absurd (false≢true e)
-    when_full (Err table.Full) h e = h refl
-    when_full (Err table.Memory) h e = absurd (false≢true e)
-
-    when_made : (r : Result T TableError) → (IsErrOf r table.Full → made_of new < made_of old + m) → made_of new + charge (refusals.is_full r) ≤ made_of old + m
-    when_made (Ok x) h = omega (arith, most)
-    when_made (Err table.Full) h = let lt = h refl in omega (arith, lt)
-    when_made (Err table.Memory) h = omega (arith, most)
-
 -- where a tuple is missing over longer words, it is over those before
 missing_before : (words old : List ℕ) (global width : ℕ) (rs : List CRow) (tuple : List Value) → IsAskedOf words old global width rs tuple → (v : World) → is_missing old global rs tuple v ≡ is_missing words global rs tuple v
 missing_before words old global width rs tuple asked v i =

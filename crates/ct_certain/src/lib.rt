@@ -2,7 +2,7 @@
 //!
 //! A row is possible where it is shown at some valuation at which the global condition holds, and a tuple is certain
 //! where the table has it at all of these. Whether a condition can hold is a question to `ct_decide`. A row is asked for
-//! where no known valuation shows it, nor one changed near these, and a tuple where none of up to 16 known valuations
+//! where no known valuation shows it, nor one changed near one of them, and a tuple where none of up to 16 known valuations
 //! lacks it, nor one changed near the kept one.
 #![tactic(auto)]
 

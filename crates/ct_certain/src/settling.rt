@@ -42,8 +42,8 @@ fn settle(alloc: Global, words: &[u64], root: u32) -> Result<Decision, CertainEr
     Ok(decide(alloc, words, root)?)
 }
 
-/// The same, where a known world is near: of the conjuncts of the global condition only those are asked about that have to do
-/// with the rest of the question.
+/// The same, where a known world is near: of the conjuncts of the global condition those are asked about first that have to do
+/// with the rest of the question. No clause says which.
 fn settle_beside(
     alloc: Global,
     words: &[u64],

@@ -96,7 +96,7 @@ fn add_rib(
     }
 }
 
-/// Adds the paths of a fan, but for the one that is done.
+/// Adds the paths of a fan, but for the one that is done, where their clauses are over the atoms.
 pub fn add_fan(
     alloc: Global,
     words: &[u64],

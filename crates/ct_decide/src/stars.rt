@@ -225,7 +225,8 @@ fn fans_of(words: &[u64], path: &[u32]) -> Option<(Fan, Fan)> {
 }
 
 /// Adds clauses that rule a path out. Where it joins two constants, those from each of them to the
-/// other constants of the term before the other one are added as well: each of them would be next.
+/// other constants of the term before the other one are added as well, where they are over the atoms:
+/// each of them would be next.
 pub fn rule_out(
     alloc: Global,
     words: &[u64],

@@ -102,9 +102,7 @@ fn deleted<N: Site, I: Interner<N>>(
         unreachable!()
     };
     let name = name.clone()?;
-    let rows = table.copied(alloc)?;
-    let spared = delete(alloc, arena, pass, &rows, cond);
-    drop(rows);
+    let spared = delete(alloc, arena, pass, table, cond);
     // The words are well formed and within the capacity, also where no table was made.
     let _ = pass.words();
     let table = spared?;

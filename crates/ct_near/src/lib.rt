@@ -1,5 +1,5 @@
 //! Worlds near a known one: the conjuncts of a condition, each with the nulls below it, and a world in which further conditions
-//! hold with it, which differs from the known one at the nulls of a few of the conjuncts.
+//! hold with it, which differs from the known one only at nulls that these reach through conjuncts.
 #![tactic(auto)]
 
 mod changing;

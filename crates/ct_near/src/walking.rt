@@ -59,7 +59,8 @@ pub(crate) fn zeros(alloc: Global, count: usize) -> Result<Vec<usize>, Memory>
     ensures zero { IfOk result (λ v. AreOld v.items 1) }
 {
     let mut zeros = Vec::new(alloc);
-    zeros.reserve(count)?;
+    // With the last of the runs that are put at once, so that no run moves those before it.
+    zeros.reserve(count.saturating_add(256))?;
     while zeros.len() < count {
         zeros.extend_from_slice(&[0; 256])?;
     }

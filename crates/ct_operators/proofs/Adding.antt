@@ -1,11 +1,10 @@
 -- Sums of the words that rows are put by.
 use Rattle.std.proofs.Common.{◌≡◌, ℕ, zero, suc, ◌+◌, ◌-◌, ◌*◌, ◌≤◌, ◌<◌, Bool, true, false, ◌||◌, List, ◌++◌, map, length, refl, ap, sym, subst, ◌∙◌, arith}
-use Rattle.std.{specs.Prelude.{Result, is_err, IsErrOf, Option, Some, None, nat_eq, if◌then◌else◌}, specs.Borrow.GName, specs.Option.IsSome}
+use Rattle.std.{specs.Prelude.{Result, is_err, Option, Some, None, nat_eq, if◌then◌else◌}, specs.Borrow.GName, specs.Option.IsSome}
 use Rattle.std.{specs.List.IsDistinct, proofs.Math.Nat.{mul-le-mul_right, mul_assoc, mul-add}, proofs.lemmas.List.{length-map, length-append, map-append}}
-use Rattle.ct_operators.{specs.declared.error.TableError.TableError, specs.Refusals.is_full, specs.Merging.repeats, specs.Tables.{cells_of, firsts}, proofs.Firsts.{firsts_distinct, firsts_long}, proofs.Merges.cells_equiv}
+use Rattle.ct_operators.{specs.Merging.repeats, specs.Tables.{cells_of, firsts}, proofs.Firsts.{firsts_distinct, firsts_long}, proofs.Merges.cells_equiv}
 use Rattle.ct_condition.{specs.Writes.{Writes, charge}, proofs.Writes.writes_both, specs.Folding.{folded_and, FoldsTo}}
 use Rattle.ct_word.{specs.declared.values.CRow.CRow, specs.Value.same_cells, specs.Reading.term_at}
-use Rattle.ct_operators.specs.declared.error.TableError.TheVariants as fault
 
 -- the words for the rows so far, and for one more
 module _ (each i m now new : ℕ) (before : now ≤ m + i * each) (more : new ≤ now + each) where
@@ -15,18 +14,6 @@ module _ (each i m now new : ℕ) (before : now ≤ m + i * each) (more : new �
   -- they are within those of all rows
   pub made_within : (n : ℕ) → i < n → new ≤ m + n * each
   made_within n lt = let all : (i + 1) * each ≤ n * each = mul-le-mul_right each (omega arith) in omega (arith, made_more)
-
--- what is known of a call that a full log refused
-module _ {S : Type 0} {words_of : S → List ℕ} {made_of : S → ℕ} {kept_of : S → List ℕ} {lent_of : S → List GName} {cap : ℕ} {old new : S} {m : ℕ} {T : Type 0} (r : Result T TableError)
-    (w : Writes words_of made_of kept_of lent_of cap old new m (is_full r)) (e : IsErrOf r fault.Full) where
-  pub at_full : length (words_of new) ≡ cap
-  at_full = w.full (ap is_full e)
-
-  pub fewer_full : made_of new < made_of old + m
-  fewer_full =
-      let most : made_of new + charge (is_full r) ≤ made_of old + m = w.made in
-      let one : charge (is_full r) ≡ 1 = ap (λ d. charge (is_full d)) e in
-      omega (arith, most, one)
 
 -- a conjunction that begins or ends with true is folded
 pub true_first : (words : List ℕ) (d : ℕ) → IsSome (folded_and words 0 d)

@@ -1,5 +1,5 @@
 -- Rows put last, or merged by their cells.
-use Rattle.std.proofs.Common.{◌≡◌, ℕ, zero, suc, ◌+◌, ◌-◌, ◌<◌, ◌≤◌, Bool, true, false, not, ◌&&◌, ◌||◌, List, [], ◌∷◌, ◌++◌, Some, None, map, length, cond, get_or, set, take, drop, refl, ap, sym, subst, ◌∙◌, arith, inl, inr}
+use Rattle.std.proofs.Common.{◌≡◌, ℕ, zero, suc, ◌+◌, ◌<◌, ◌≤◌, Bool, true, false, not, ◌&&◌, ◌||◌, List, [], ◌∷◌, ◌++◌, Some, None, map, length, cond, get_or, set, take, drop, refl, ap, sym, subst, ◌∙◌, arith, inl, inr}
 use Rattle.std.{specs.Prelude.{◌≢◌, IsTrue, All, nat_eq, is_some, if◌then◌else◌}, specs.List.{IsDistinct, list_any, filter}, specs.Cmp.IsEquivalence}
 use Rattle.std.{specs.Cmp.Lexicographic.pointwise, specs.Map.lookup, proofs.lemmas.Bool.Decides.same_from_decides, proofs.lemmas.Map.Keys.IsDistinct-push}
 use Rattle.std.{proofs.lemmas.Bool.{false≢true, eqb-true, eqb-false, not-true}, proofs.lemmas.List.Folds.list_any_at}

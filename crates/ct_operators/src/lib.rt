@@ -16,6 +16,7 @@ mod products;
 mod projection;
 mod rows;
 mod selection;
+mod source;
 mod table;
 mod unions;
 
@@ -29,5 +30,6 @@ pub use products::{joined_names, product};
 pub use projection::{pick, pick_names, project};
 pub use rows::{names, under};
 pub use selection::select;
+pub use source::RowSource;
 pub use table::CTable;
 pub use unions::union;

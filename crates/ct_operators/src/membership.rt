@@ -1,7 +1,6 @@
 // The rows of one table that are not among those of another, or that are.
 
-ghost use Rattle.std.specs.Prelude.{◌≡◌, ◌≤◌, ◌<◌, ◌+◌, ◌*◌, not, ◌++◌, length, filter, IfOk, IsErrOf};
-ghost use mathlib.Core.List.{IsPrefix};
+ghost use Rattle.std.specs.Prelude.{◌≡◌, ◌+◌, ◌*◌, not, ◌++◌, length, filter, IfOk};
 ghost use Rattle.ct_word.specs.Value.{World};
 ghost use Rattle.ct_word.specs.Sublist.{IsSublist};
 ghost use Rattle.ct_query.specs.Database.{has_tuple, SameSet};
@@ -9,7 +8,6 @@ ghost use Rattle.ct_condition.specs.Writes.{Writes};
 ghost use Rattle.ct_operators.specs.Tables.{AreRows, value_of_rows, cells_of};
 ghost use Rattle.ct_operators.specs.Refusals.{is_full};
 ghost use Rattle.ct_operators.specs.Terms.{TermOfRows, RowsFrom};
-ghost use Rattle.ct_operators.specs.declared.error.TableError.TheVariants as fault;
 
 use crate::error::TableError;
 use crate::judging::Test;
@@ -41,13 +39,6 @@ pub fn except<N: Site, I: Interner<N>>(
     ensures part { IfOk result (λ out. IsSublist (cells_of (I.list pass.new) out.rows) (cells_of (I.list pass.old) left.now.rows)) }
     ensures terms { IfOk result (λ out. RowsFrom (I.list pass.new) out.rows (TermOfRows (I.list pass.old) (left.now.rows ++ right.now.rows))) }
     ensures writes { Writes I.list I.made I.kept I.lent N.log.cap pass.old pass.new (length left.now.rows * length right.now.rows * (2 * length left.now.columns + 2) + length left.now.rows) (is_full result) }
-    ensures longer { IsPrefix (I.list pass.old) (I.list pass.new) }
-    ensures full { IsErrOf result fault.Full → length (I.list pass.new) ≡ N.log.cap }
-    ensures rises { I.made pass.old ≤ I.made pass.new }
-    ensures made { I.made pass.new ≤ I.made pass.old + (length left.now.rows * length right.now.rows * (2 * length left.now.columns + 2) + length left.now.rows) }
-    ensures fewer { IsErrOf result fault.Full → I.made pass.new < I.made pass.old + (length left.now.rows * length right.now.rows * (2 * length left.now.columns + 2) + length left.now.rows) }
-    ensures kept { I.kept pass.new ≡ I.kept pass.old }
-    ensures lent { I.lent pass.new ≡ I.lent pass.old }
 {
     sifted(
         alloc,

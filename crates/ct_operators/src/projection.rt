@@ -13,6 +13,7 @@ ghost use Rattle.ct_operators.specs.Refusals.{is_full};
 
 use crate::error::TableError;
 use crate::merging::merged;
+use crate::source::RowSource;
 use crate::table::CTable;
 use ct_arena::{Arena, Site};
 use ct_condition::Interner;
@@ -38,13 +39,17 @@ pub fn pick(alloc: Global, columns: &[u32], row: &CRow) -> Result<CRow, AllocErr
 }
 
 /// The rows with these of their cells.
-fn pick_each(alloc: Global, columns: &[u32], rows: &[CRow]) -> Result<Vec<CRow>, AllocError>
-    requires { All (λ r. All (λ k. k < length r.cells) columns.now) rows.now }
-    ensures { IfOk result (λ out. out.items ≡ map (picked_row columns.now) rows.now) }
+fn pick_each<T: RowSource>(
+    alloc: Global,
+    columns: &[u32],
+    table: &T,
+) -> Result<Vec<CRow>, AllocError>
+    requires { All (λ r. All (λ k. k < length r.cells) columns.now) (T.table table.now).rows }
+    ensures { IfOk result (λ out. out.items ≡ map (picked_row columns.now) (T.table table.now).rows) }
 {
     let mut out = Vec::new(alloc);
-    for row in rows {
-        out.push(pick(alloc, columns, row)?)?;
+    for nth in 0..table.len() {
+        out.push(pick(alloc, columns, table.row(nth))?)?;
     }
     Ok(out)
 }
@@ -72,26 +77,26 @@ pub fn pick_names(
 ///
 /// # Errors
 /// `Full` where the log has no room for a condition, `Memory` where there is none for the rows.
-pub fn project<N: Site, I: Interner<N>>(
+pub fn project<N: Site, I: Interner<N>, T: RowSource>(
     alloc: Global,
     arena: &Arena<N>,
     pass: &mut I,
     columns: &[u32],
-    table: &CTable,
+    table: &T,
 ) -> Result<CTable, TableError>
-    requires rows { AreRows (I.list pass.old) (length table.now.columns) table.now.rows }
-    requires columns { All (λ k. k < length table.now.columns) columns.now }
-    ensures columns { IfOk result (λ out. out.columns ≡ map (λ k. slice_index_or table.now.columns k []) columns.now) }
+    requires rows { AreRows (I.list pass.old) (length (T.table table.now).columns) (T.table table.now).rows }
+    requires columns { All (λ k. k < length (T.table table.now).columns) columns.now }
+    ensures columns { IfOk result (λ out. out.columns ≡ map (λ k. slice_index_or (T.table table.now).columns k []) columns.now) }
     ensures rows { IfOk result (λ out. AreRows (I.list pass.new) (length columns.now) out.rows) }
-    ensures tuples { (v : World) → IfOk result (λ out. SameSet (value_of_rows (I.list pass.new) v out.rows) (map (λ t. map (cell_at t) columns.now) (value_of_rows (I.list pass.old) v table.now.rows))) }
-    ensures part { IfOk result (λ out. IsSublist (cells_of (I.list pass.new) out.rows) (map (picked columns.now) (cells_of (I.list pass.old) table.now.rows))) }
-    ensures order { IfOk result (λ out. IsSublist (cells_of (I.list pass.new) out.rows) (firsts same_cells (map (picked columns.now) (cells_of (I.list pass.old) table.now.rows)))) }
-    ensures terms { IfOk result (λ out. RowsFrom (I.list pass.new) out.rows (TermOfRows (I.list pass.old) table.now.rows)) }
-    ensures writes { Writes I.list I.made I.kept I.lent N.log.cap pass.old pass.new (length table.now.rows) (is_full result) }
+    ensures tuples { (v : World) → IfOk result (λ out. SameSet (value_of_rows (I.list pass.new) v out.rows) (map (λ t. map (cell_at t) columns.now) (value_of_rows (I.list pass.old) v (T.table table.now).rows))) }
+    ensures part { IfOk result (λ out. IsSublist (cells_of (I.list pass.new) out.rows) (map (picked columns.now) (cells_of (I.list pass.old) (T.table table.now).rows))) }
+    ensures order { IfOk result (λ out. IsSublist (cells_of (I.list pass.new) out.rows) (firsts same_cells (map (picked columns.now) (cells_of (I.list pass.old) (T.table table.now).rows)))) }
+    ensures terms { IfOk result (λ out. RowsFrom (I.list pass.new) out.rows (TermOfRows (I.list pass.old) (T.table table.now).rows)) }
+    ensures writes { Writes I.list I.made I.kept I.lent N.log.cap pass.old pass.new (length (T.table table.now).rows) (is_full result) }
 {
     // The words are within the capacity, also where memory is wanting.
     let _ = pass.words();
-    let names = pick_names(alloc, columns, &table.columns)?;
-    let rows = pick_each(alloc, columns, table.rows.as_slice())?;
+    let names = pick_names(alloc, columns, table.columns())?;
+    let rows = pick_each(alloc, columns, table)?;
     merged(alloc, arena, pass, names, rows)
 }

@@ -22,6 +22,7 @@ use crate::error::TableError;
 use crate::judging::{Test, judged};
 use crate::nearness::{find_near, keys_for, narrowed};
 use crate::rows::{names, push_under};
+use crate::source::RowSource;
 use crate::table::CTable;
 use ct_arena::{Arena, Site};
 use ct_condition::Interner;
@@ -53,32 +54,33 @@ fn room_for(alloc: Global, test: Test<'_>) -> Result<Vec<u32>, Memory>
 ///
 /// # Errors
 /// `Full` where the log has no room for a condition, `Memory` where there is none for the rows.
-pub(crate) fn sifted<N: Site, I: Interner<N>>(
+pub(crate) fn sifted<N: Site, I: Interner<N>, T: RowSource>(
     alloc: Global,
     arena: &Arena<N>,
     pass: &mut I,
     test: Test<'_>,
-    table: &CTable,
+    table: &T,
 ) -> Result<CTable, TableError>
-    requires rows { AreRows (I.list pass.old) (length table.now.columns) table.now.rows }
-    requires fits { FitsTest (I.list pass.old) (length table.now.columns) test }
-    ensures columns { IfOk result (λ out. out.columns ≡ table.now.columns) }
-    ensures rows { IfOk result (λ out. AreRows (I.list pass.new) (length table.now.columns) out.rows) }
-    ensures tuples { (v : World) → IfOk result (λ out. SameSet (value_of_rows (I.list pass.new) v out.rows) (filter (passes (I.list pass.old) test.entry v) (value_of_rows (I.list pass.old) v table.now.rows))) }
-    ensures part { IfOk result (λ out. IsSublist (cells_of (I.list pass.new) out.rows) (cells_of (I.list pass.old) table.now.rows)) }
-    ensures terms { IfOk result (λ out. RowsFrom (I.list pass.new) out.rows (λ t. TermOfRows (I.list pass.old) table.now.rows t ⊎ Further (I.list pass.old) test.entry t)) }
-    ensures writes { Writes I.list I.made I.kept I.lent N.log.cap pass.old pass.new (first_words (I.list pass.old) test.entry + length table.now.rows * (test_words (I.list pass.old) (length table.now.columns) test.entry + 1)) (is_full result) }
+    requires rows { AreRows (I.list pass.old) (length (T.table table.now).columns) (T.table table.now).rows }
+    requires fits { FitsTest (I.list pass.old) (length (T.table table.now).columns) test }
+    ensures columns { IfOk result (λ out. out.columns ≡ (T.table table.now).columns) }
+    ensures rows { IfOk result (λ out. AreRows (I.list pass.new) (length (T.table table.now).columns) out.rows) }
+    ensures tuples { (v : World) → IfOk result (λ out. SameSet (value_of_rows (I.list pass.new) v out.rows) (filter (passes (I.list pass.old) test.entry v) (value_of_rows (I.list pass.old) v (T.table table.now).rows))) }
+    ensures part { IfOk result (λ out. IsSublist (cells_of (I.list pass.new) out.rows) (cells_of (I.list pass.old) (T.table table.now).rows)) }
+    ensures terms { IfOk result (λ out. RowsFrom (I.list pass.new) out.rows (λ t. TermOfRows (I.list pass.old) (T.table table.now).rows t ⊎ Further (I.list pass.old) test.entry t)) }
+    ensures writes { Writes I.list I.made I.kept I.lent N.log.cap pass.old pass.new (first_words (I.list pass.old) test.entry + length (T.table table.now).rows * (test_words (I.list pass.old) (length (T.table table.now).columns) test.entry + 1)) (is_full result) }
 {
     // The words are within the capacity, also where no row adds any.
     let known = pass.words();
-    let columns = names(&table.columns)?;
+    let columns = names(table.columns())?;
     let mut put = room_for(alloc, test)?;
-    let keys = keys_for(alloc, known, test, table.rows.len())?;
+    let keys = keys_for(alloc, known, test, table.len())?;
     let keyed = keys.as_slice();
     let index = Index::make(alloc, keyed)?;
     let mut found = Vec::new(alloc);
     let mut out = Vec::new(alloc);
-    for row in table.rows.as_slice() {
+    for nth in 0..table.len() {
+        let row = table.row(nth);
         let log = pass.words();
         find_near(log, keyed, &index, row, &mut found)?;
         let places = found.as_slice();
@@ -99,21 +101,21 @@ pub(crate) fn sifted<N: Site, I: Interner<N>>(
 ///
 /// # Errors
 /// `Full` where the log has no room for a condition, `Memory` where there is none for the rows.
-pub fn select<N: Site, I: Interner<N>>(
+pub fn select<N: Site, I: Interner<N>, T: RowSource>(
     alloc: Global,
     arena: &Arena<N>,
     pass: &mut I,
     p: &Pred,
-    table: &CTable,
+    table: &T,
 ) -> Result<CTable, TableError>
-    requires rows { AreRows (I.list pass.old) (length table.now.columns) table.now.rows }
-    requires predicate { FitsRows (length table.now.columns) (condition_of p.now) }
-    ensures columns { IfOk result (λ out. out.columns ≡ table.now.columns) }
-    ensures rows { IfOk result (λ out. AreRows (I.list pass.new) (length table.now.columns) out.rows) }
-    ensures tuples { (v : World) → IfOk result (λ out. SameSet (value_of_rows (I.list pass.new) v out.rows) (filter (λ t. holds v t (condition_of p.now)) (value_of_rows (I.list pass.old) v table.now.rows))) }
-    ensures part { IfOk result (λ out. IsSublist (cells_of (I.list pass.new) out.rows) (cells_of (I.list pass.old) table.now.rows)) }
-    ensures terms { IfOk result (λ out. RowsFrom (I.list pass.new) out.rows (λ t. TermOfRows (I.list pass.old) table.now.rows t ⊎ (IsNamed (condition_of p.now) t × IsNoColumn t))) }
-    ensures writes { Writes I.list I.made I.kept I.lent N.log.cap pass.old pass.new (new_terms (I.list pass.old) (condition_of p.now) + length table.now.rows * (ops (condition_of p.now) + 1)) (is_full result) }
+    requires rows { AreRows (I.list pass.old) (length (T.table table.now).columns) (T.table table.now).rows }
+    requires predicate { FitsRows (length (T.table table.now).columns) (condition_of p.now) }
+    ensures columns { IfOk result (λ out. out.columns ≡ (T.table table.now).columns) }
+    ensures rows { IfOk result (λ out. AreRows (I.list pass.new) (length (T.table table.now).columns) out.rows) }
+    ensures tuples { (v : World) → IfOk result (λ out. SameSet (value_of_rows (I.list pass.new) v out.rows) (filter (λ t. holds v t (condition_of p.now)) (value_of_rows (I.list pass.old) v (T.table table.now).rows))) }
+    ensures part { IfOk result (λ out. IsSublist (cells_of (I.list pass.new) out.rows) (cells_of (I.list pass.old) (T.table table.now).rows)) }
+    ensures terms { IfOk result (λ out. RowsFrom (I.list pass.new) out.rows (λ t. TermOfRows (I.list pass.old) (T.table table.now).rows t ⊎ (IsNamed (condition_of p.now) t × IsNoColumn t))) }
+    ensures writes { Writes I.list I.made I.kept I.lent N.log.cap pass.old pass.new (new_terms (I.list pass.old) (condition_of p.now) + length (T.table table.now).rows * (ops (condition_of p.now) + 1)) (is_full result) }
 {
     sifted(alloc, arena, pass, Test::Holds(p), table)
 }

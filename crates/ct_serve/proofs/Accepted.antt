@@ -4,8 +4,8 @@ use Rattle.std.{proofs.Common.{◌≡◌, ◌+◌, ◌-◌, ◌<◌, ℕ, List, 
 use Rattle.std.proofs.lemmas.List.Elements.{All-nil, All-cons}
 use Rattle.ct_word.{specs.declared.values.Term.Term, specs.Condition.True, specs.Change.{PlainRow, PlainCommit, Create, Insert}}
 use Rattle.ct_query.{specs.Agrees.{SameTruthAlone, Agrees}, specs.Plain.PlainAction}
-use Rattle.ct_session.{specs.State.{Transaction, SessionState, beginning, carried, with_transaction, opened, extended}, specs.Seeing.{Asks, Orders, IsCommit}}
-use Rattle.ct_session.specs.LawfulReply.{LawfulReply}
+use Rattle.ct_transaction.{specs.State.{Transaction, SessionState, beginning, carried, with_transaction, opened, extended}, specs.Seeing.{Asks, Orders, IsCommit}}
+use Rattle.ct_transaction.specs.LawfulReply.{LawfulReply}
 use Rattle.ct_statement.specs.Drawing.{drawn}
 use Rattle.ct_serve.specs.Sessions.{AreLawful}
 use Rattle.ct_word.specs.declared.values.Value.TheVariants as val

@@ -14,8 +14,8 @@ use Rattle.ct_rewrite.{specs.declared.answer.Node.Node, specs.declared.history.C
 use Rattle.ct_rewrite.{specs.History.IsCommitFormed, specs.declared.answer.PossibleRow.PossibleRow, specs.declared.answer.CertainRow.CertainRow}
 use Rattle.ct_transcript.{specs.Means.{Means, shown}, specs.Possible.{ShowsRow, PossibleRight}, specs.Certain.{is_absent, RefutesAbsence, CertainRight}}
 use Rattle.ct_transcript.{specs.declared.reply.Answer.Answer, specs.declared.reply.Reply.Reply, specs.declared.transcript.Transcript.Transcript}
-use Rattle.ct_session.{specs.State.{SessionState, beginning, carried, with_transaction, opened, extended}, specs.Seeing.{Asks, Orders}}
-use Rattle.ct_session.specs.LawfulReply.{LawfulReply}
+use Rattle.ct_transaction.{specs.State.{SessionState, beginning, carried, with_transaction, opened, extended}, specs.Seeing.{Asks, Orders}}
+use Rattle.ct_transaction.specs.LawfulReply.{LawfulReply}
 use Rattle.ct_serve.{specs.Sessions.AreLawful, specs.Lawful.Lawful, proofs.Accepted.committed_alone}
 use Rattle.ct_serve.proofs.SmallLog.{x, number, x_is, created, filled, asserted, history, words, front, many, formed, stands, two_numbers, number_and_not, not_two, not_two_accepted, not_absent, not_absent_accepted}
 use Rattle.ct_word.specs.declared.values.Value.TheVariants as val

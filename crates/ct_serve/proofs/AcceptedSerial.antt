@@ -6,7 +6,7 @@ use Rattle.ct_word.{specs.declared.values.Term.Term, specs.Value.same_cells, spe
 use Rattle.ct_query.{specs.Agrees.SameTruthAlone, specs.Patterns.pattern, specs.Plain.{PlainQuery, PlainAction, PlainStatement}, specs.Reads.last as last_of, specs.declared.action.Read.Read}
 use Rattle.ct_rewrite.{specs.declared.answer.Node.Node}
 use Rattle.ct_transcript.{specs.Means.{IsAnswer, Means}, specs.declared.reply.Answer.Answer, specs.declared.reply.Reply.Reply}
-use Rattle.ct_session.{specs.State.{Transaction, SessionState, beginning, carried, with_transaction, opened, extended}, specs.Seeing.{Asks, Orders}}
+use Rattle.ct_transaction.{specs.State.{Transaction, SessionState, beginning, carried, with_transaction, opened, extended}, specs.Seeing.{Asks, Orders}}
 use Rattle.ct_serve.{specs.Serial.AreSerial, specs.Sessions.AreLawful, proofs.Serial.serial}
 use Rattle.ct_word.specs.Sublist as sublist
 use Rattle.ct_word.specs.declared.values.Value.TheVariants as val

@@ -7,7 +7,7 @@ use Rattle.ct_arena.specs.Counts.{opening, numbers_by, AreNumbered}
 use Rattle.ct_transcript.specs.declared.reply.Reply.{Reply}
 use Rattle.ct_arena.specs.Seen.{Seen}
 use Rattle.ct_keeper.specs.Served.{first_pass}
-use Rattle.ct_session.{specs.State.SessionState, specs.Answers.{Answers, commits_by, committed_of}, specs.Bounded.IsBounded}
+use Rattle.ct_transaction.{specs.State.SessionState, specs.Answers.{Answers, commits_by, committed_of}, specs.Bounded.IsBounded}
 use Rattle.ct_serve.{specs.Progress.{Progress, ClientView, HasAnswered, HasExecuted, HasRun}, proofs.Progress.progress_push}
 
 pub no_commits : commits_of opening ≡ []

@@ -6,8 +6,8 @@ use Rattle.std.proofs.lemmas.List.Elements.{All-nil, All-cons, All-head, All-tai
 use Rattle.ct_word.specs.Change.{PlainCommit}
 use Rattle.ct_query.specs.Plain.{PlainAction, PlainStatement}
 use Rattle.ct_transcript.{specs.declared.reply.Reply.Reply, specs.declared.reply.Refusal.Refusal}
-use Rattle.ct_session.{specs.Answers.{committed_of, commits_by}, specs.Seeing.{Sees, SeesIn}, specs.LawfulRefusal.LawfulRefusal, specs.LawfulReply.LawfulReply}
-use Rattle.ct_session.specs.State.{Transaction, SessionState, beginning, carried, with_transaction, opened, extended, extended_at}
+use Rattle.ct_transaction.{specs.Answers.{committed_of, commits_by}, specs.Seeing.{Sees, SeesIn}, specs.LawfulRefusal.LawfulRefusal, specs.LawfulReply.LawfulReply}
+use Rattle.ct_transaction.specs.State.{Transaction, SessionState, beginning, carried, with_transaction, opened, extended, extended_at}
 use Rattle.ct_statement.specs.Drawing.{drawn}
 use Rattle.ct_serve.{specs.Sessions.AreLawful, specs.Complete.IsCurrent}
 use Rattle.ct_query.specs.Plain as plain

@@ -9,9 +9,9 @@ use Rattle.ct_query.specs.Worlds.{admits, after_changes, changes_of}
 use Rattle.ct_arena.{specs.Seen.Seen, specs.Counts.{opening, AreNumbered, AreOfSessions}}
 use Rattle.ct_rewrite.{specs.declared.history.Commit.Commit, specs.History.{plain_history, IsCommitFormed}}
 use Rattle.ct_transcript.specs.declared.reply.SessionLog.{SessionLog}
-use Rattle.ct_session.{specs.Answers.{commits_by, committed_of}, proofs.Own.{own_commits_stay, same_by}, proofs.Sameness.sessions_same}
+use Rattle.ct_transaction.{specs.Answers.{commits_by, committed_of}, proofs.Own.{own_commits_stay, same_by}, proofs.Sameness.sessions_same}
 use Rattle.ct_lex.specs.Texts.{texts}
-use Rattle.ct_session.specs.State.{beginning}
+use Rattle.ct_transaction.specs.State.{beginning}
 use Rattle.ct_serve.{specs.Progress.HasEnded, specs.Sessions.{IsLawfulSession, AreLawfulSessions}, specs.Lawful.Lawful, specs.Within.{IsSessionWithin, AreSessionsWithin, IsWithin}}
 use Rattle.ct_serve.{proofs.Answered.no_commits, proofs.Progress.lawful_within}
 use mathlib.Core.List.{IsPrefix}

@@ -1,6 +1,6 @@
 -- A statement within all limits is answered.
 use Rattle.std.{proofs.Common.{◌≡◌, ℕ, ◌+◌, ◌≤◌, List, [], ◌∷◌, ◌++◌, take, refl, sym, subst, ◌∙◌, ◌<◌, arith, inl, inr}, proofs.lemmas.Bool.false≢true}
-use Rattle.std.{specs.Prelude.{All, Option, Some, None, IsSome, MatchOption, ◌⊎◌, filter_map}, proofs.lemmas.Option.none-some}
+use Rattle.std.{specs.Prelude.{All, Option, Some, None, IsSome, ◌⊎◌, filter_map}, proofs.lemmas.Option.none-some}
 use Rattle.std.proofs.lemmas.List.Elements.{All-head, All-tail}
 use Rattle.ct_word.specs.Change.{PlainCommit}
 use Rattle.ct_query.{specs.Plain.PlainAction, specs.declared.action.Read.Read, specs.Reads.last}
@@ -8,23 +8,20 @@ use Rattle.ct_rewrite.specs.History.{plain_history}
 use Rattle.ct_transcript.{specs.declared.reply.Reply.Reply, specs.declared.reply.Refusal.Refusal, specs.declared.reply.SessionLog.SessionLog}
 use Rattle.ct_transcript.specs.declared.transcript.Transcript.{Transcript}
 use Rattle.ct_resolve.specs.declared.error.ResolveError.{ResolveError}
-use Rattle.ct_session.{specs.Answers.committed_of, specs.Seeing.Sees, specs.State.{Transaction, SessionState, carried}, specs.LawfulReply.LawfulReply}
-use Rattle.ct_session.specs.LawfulRefusal.{IsNameFault, IsFirstWritten, CommitsWhole, CommitsAlone, IsConflict, LawfulRefusal}
-use Rattle.ct_serve.{specs.Sessions.{AreLawful, AreLawfulSessions}, specs.Lawful.Lawful, specs.declared.ending.Status.Status}
-use Rattle.ct_serve.{specs.Scripts.{IsScript, HoldsScript, HoldsNoScript, IsNoScript}, specs.Runs.{Asking, Taking, RunPromise, IsServedEnd}}
+use Rattle.ct_transaction.{specs.Answers.committed_of, specs.Seeing.Sees, specs.State.{Transaction, SessionState, carried}, specs.LawfulReply.LawfulReply}
+use Rattle.ct_transaction.specs.LawfulRefusal.{IsNameFault, IsFirstWritten, CommitsWhole, CommitsAlone, IsConflict, LawfulRefusal}
+use Rattle.ct_serve.{specs.Sessions.{AreLawful, AreLawfulSessions}, specs.Lawful.Lawful}
 use Rattle.ct_serve.specs.Complete.{IsAnswered, IsCurrent, IsWithinLimitsWhere, IsWithinLimits, HasCause, AreComplete, AreCompleteSessions, IsComplete}
 use Rattle.ct_serve.proofs.Between.{ground, ground_inside, ground_outside, IsAmidst, amidst_next, amidst_first, steps, later_commits, seen_current, conflict_current}
-use Rattle.ct_outside.specs.Outside.{Held, Rose}
 use Rattle.ct_transcript.specs.declared.reply.Reply.TheVariants as reply
 use Rattle.ct_transcript.specs.declared.reply.Refusal.TheVariants as refusal
-use Rattle.ct_serve.specs.declared.ending.Status.TheVariants as status
 
 none_open : (t : Option Transaction) → IsSome t → t ≡ None → ⊥
 none_open None some e = false≢true some
 none_open (Some t) some e = none-some t (sym e)
 
 -- what holds of all items holds of one among them
-of_one : {X : Type 0} (P : X → Type 0) (before after : List X) (x : X) → All P (before ++ x ∷ after) → P x
+pub of_one : {X : Type 0} (P : X → Type 0) (before after : List X) (x : X) → All P (before ++ x ∷ after) → P x
 of_one P [] after x all = All-head P x after all
 of_one P (b ∷ before) after x all = of_one P before after x (All-tail P b (before ++ x ∷ after) all)
 
@@ -95,27 +92,3 @@ module _ (H : List PlainCommit) (W : List ℕ) (N : ℕ) where
 -- the replies of a lawful transcript are complete
 pub lawful_complete : (t : Transcript) (N : ℕ) → Lawful t N → IsComplete t N
 lawful_complete t N l = all_complete (plain_history t.history) t.words N 1 t.sessions l.sessions
-
--- bytes are not both a script and none
-not_both : (bytes : Option (List ℕ)) → MatchOption bytes ⊥ IsScript → MatchOption bytes ⊥ (λ b. IsScript b → ⊥) → ⊥
-not_both None a b = a
-not_both (Some bytes) a b = b a
-
--- where all files are scripts, a run does not end for one that is none
-pub scripts_served : (N : ℕ) (files : List (List ℕ)) (a : Asking) (k : Taking) (t : Transcript) (held : Held) → a.held ≡ Some held → All (HoldsScript a.held) files → RunPromise N files a k status.Script t → ⊥
-scripts_served N files a k t held told all p =
-    let found : IsNoScript a.held a.asked a.asked' files = p.1 in
-    let reached = found.2 in
-    let is : HoldsScript a.held found.0 = of_one (HoldsScript a.held) reached.before (found.1 ++ reached.after) found.0 (subst (All (HoldsScript a.held)) reached.split all) in
-    not_both (held found.0) (subst (λ h. HoldsScript h found.0) told is) (subst (λ h. HoldsNoScript h found.0) told found.3)
-
--- without a failure of source and sink, a run of files that are scripts ends with its transcript, or for want of memory
-pub faultless_served : (N : ℕ) (files : List (List ℕ)) (a : Asking) (k : Taking) (s : Status) (t : Transcript) (held : Held) → a.held ≡ Some held → All (HoldsScript a.held) files
-    → (Rose a.faults a.faults' → ⊥) → (Rose k.faults k.faults' → ⊥) → RunPromise N files a k s t → IsServedEnd s
-faultless_served N files a k status.Done t held told all read write p = tt
-faultless_served N files a k status.Refused t held told all read write p = tt
-faultless_served N files a k status.Memory t held told all read write p = tt
-faultless_served N files a k status.Words t held told all read write p = p
-faultless_served N files a k status.ReadFault t held told all read write p = read p.2
-faultless_served N files a k status.WriteFault t held told all read write p = write p.1.rose
-faultless_served N files a k status.Script t held told all read write p = scripts_served N files a k t held told all p

@@ -8,10 +8,11 @@ use Rattle.ct_lex.specs.Texts.{texts}
 use Rattle.ct_query.{specs.Fits.columns_in, specs.Schema.schema}
 use Rattle.ct_rewrite.specs.History.{plain_history}
 use Rattle.ct_transcript.{specs.declared.reply.Reply.Reply, specs.declared.transcript.Transcript.Transcript}
-use Rattle.ct_session.{specs.State.{SessionState, beginning}, specs.Standing.{Standing, state_in}, proofs.Going.prefix_short, proofs.Own.own_commits_stay}
+use Rattle.ct_transaction.{specs.State.{SessionState, beginning}, proofs.Going.prefix_short, proofs.Own.own_commits_stay}
+use Rattle.ct_session.specs.Standing.{Standing, state_in}
 use Rattle.ct_session.specs.Exporting.{HasLooked, IsNow, HasExported, HasNotExported, IsFileOf, IsWideTable, Later}
 use Rattle.ct_session.specs.declared.exporting.ExportError.{ExportError}
-use Rattle.ct_serve.{specs.Lawful.Lawful, specs.Progress.{MadeWithin, Progress, HasAnswered}, specs.Exports.{IsAfterAll, WhyNone, IsTableFile, WhyNoTable}}
+use Rattle.ct_serve.{specs.Lawful.Lawful, specs.Progress.{MadeWithin, Progress, HasAnswered}, specs.TableFiles.{IsAfterAll, WhyNone, IsTableFile, WhyNoTable}}
 use mathlib.Core.List.{IsPrefix}
 use Rattle.ct_session.specs.declared.exporting.ExportError.TheVariants as fault
 

@@ -4,8 +4,8 @@ use Rattle.ct_word.specs.Change.{PlainCommit}
 use Rattle.ct_lex.specs.Texts.{texts}
 use Rattle.ct_rewrite.specs.History.{plain_history}
 use Rattle.ct_transcript.{specs.declared.reply.Reply.Reply, specs.declared.reply.SessionLog.SessionLog, specs.declared.transcript.Transcript.Transcript}
-use Rattle.ct_session.{specs.Answers.is_full, specs.LawfulReply.LawfulReply, specs.State.{SessionState, beginning}}
-use Rattle.ct_serve.{specs.Lawful.Lawful, specs.Runs.some_reply, specs.Sessions.{AreLawful, AreLawfulSessions}, specs.Within.IsWithin}
+use Rattle.ct_transaction.{specs.Answers.is_full, specs.LawfulReply.LawfulReply, specs.State.{SessionState, beginning}}
+use Rattle.ct_serve.{specs.Lawful.Lawful, specs.Sessions.{some_reply, AreLawful, AreLawfulSessions}, specs.Within.IsWithin}
 use Rattle.ct_transcript.specs.declared.reply.Reply.TheVariants as reply
 use Rattle.ct_transcript.specs.declared.reply.Refusal.TheVariants as refusal
 

@@ -2,8 +2,6 @@ pub mod Progress
 pub mod Answered
 pub mod Closed
 pub mod Clients
-pub mod Reached
-pub mod Generated
 pub mod Between
 pub mod Complete
 pub mod Serial
@@ -13,8 +11,5 @@ pub mod SmallLog
 pub mod AcceptedAnswers
 pub mod AcceptedSerial
 pub mod InParts
-pub mod Certified
-pub mod Bounds
-pub mod Behind
 pub mod Exports
 pub mod Filled

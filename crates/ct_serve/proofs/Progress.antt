@@ -7,7 +7,7 @@ use Rattle.ct_word.{specs.Change.PlainCommit, specs.Reading.commits_of, proofs.P
 use Rattle.ct_transcript.specs.declared.reply.Reply.{Reply}
 use Rattle.ct_arena.specs.Seen.{Seen}
 use Rattle.ct_condition.specs.Writes.{charge}
-use Rattle.ct_session.{specs.State.SessionState, specs.LawfulReply.LawfulReply, specs.Answers.{committed_of, commits_by, is_full, Answers}, specs.Bounded.{HasBound, IsBounded}}
+use Rattle.ct_transaction.{specs.State.SessionState, specs.LawfulReply.LawfulReply, specs.Answers.{committed_of, commits_by, is_full, Answers}, specs.Bounded.{HasBound, IsBounded}}
 use Rattle.ct_serve.{specs.Sessions.{AreLawful, IsNoCommit, EndsAtFull}, specs.Within.AreWithin, specs.Progress.{MadeWithin, Progress}}
 use mathlib.Core.List.{IsPrefix}
 use Rattle.ct_transcript.specs.declared.reply.Reply.TheVariants as reply

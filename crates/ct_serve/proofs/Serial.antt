@@ -12,8 +12,8 @@ use Rattle.ct_rewrite.{specs.History.plain_history, specs.declared.answer.Possib
 use Rattle.ct_transcript.{specs.Means.{Means, allowed, shown}, specs.Possible.{ShowsRow, PossibleRight}, specs.Certain.{IsCertain, is_absent, RefutesAbsence, CertainRight}}
 use Rattle.ct_transcript.{specs.declared.reply.Answer.Answer, specs.declared.reply.Reply.Reply, specs.declared.reply.Refusal.Refusal, specs.declared.reply.SessionLog.SessionLog}
 use Rattle.ct_transcript.specs.declared.transcript.Transcript.{Transcript}
-use Rattle.ct_session.{specs.LawfulRefusal.LawfulRefusal, specs.LawfulReply.LawfulReply, specs.Seeing.SeesIn}
-use Rattle.ct_session.specs.State.{Transaction, SessionState, carried, extended, extended_at, extended_by, actions_of}
+use Rattle.ct_transaction.{specs.LawfulRefusal.LawfulRefusal, specs.LawfulReply.LawfulReply, specs.Seeing.SeesIn}
+use Rattle.ct_transaction.specs.State.{Transaction, SessionState, carried, extended, extended_at, extended_by, actions_of}
 use Rattle.ct_serve.{specs.Lawful.Lawful, specs.Serial.{committed_later, IsRightAfter, AreSerial, AreSerialSessions, IsSerial}, specs.Sessions.{AreLawful, AreLawfulSessions}}
 use Rattle.ct_query.specs.Plain as plain
 use Rattle.ct_query.specs.declared.action.Ask.TheVariants as ask

@@ -12,7 +12,7 @@ use Rattle.ct_derivation.specs.declared.steps.Proof.{Proof}
 use Rattle.ct_rewrite.{specs.declared.answer.PossibleRow.PossibleRow, specs.declared.answer.CertainRow.CertainRow}
 use Rattle.ct_transcript.{specs.Means.Means, specs.Possible.PossibleRight, specs.Certain.CertainRight, specs.declared.reply.Answer.Answer}
 use Rattle.ct_statement.specs.Unmet.{query_in}
-use Rattle.ct_session.{specs.Statements.ReadsAs, specs.State.{SessionState, beginning, actions_of}, specs.Seeing.{Asks, Sees}}
+use Rattle.ct_transaction.{specs.Statements.ReadsAs, specs.State.{SessionState, beginning, actions_of}, specs.Seeing.{Asks, Sees}}
 use Rattle.ct_serve.specs.Sessions.{AreLawful}
 use Rattle.ct_word.specs.declared.values.Value.TheVariants as val
 use Rattle.ct_word.specs.declared.values.Null.TheVariants as null

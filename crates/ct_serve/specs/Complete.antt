@@ -20,13 +20,13 @@ use Rattle.ct_transcript.specs.declared.reply.Refusal.{Refusal}
 use Rattle.ct_transcript.specs.declared.reply.Refusal.TheVariants as refusal
 use Rattle.ct_transcript.specs.declared.reply.SessionLog.{SessionLog}
 use Rattle.ct_transcript.specs.declared.transcript.Transcript.{Transcript}
-use Rattle.ct_session.specs.Statements.{IsTextFault}
-use Rattle.ct_session.specs.State.{SessionState, beginning}
-use Rattle.ct_session.specs.Seeing.{Sees, ResolvesTo, Asks, Orders}
+use Rattle.ct_transaction.specs.Statements.{IsTextFault}
+use Rattle.ct_transaction.specs.State.{SessionState, beginning}
+use Rattle.ct_transaction.specs.Seeing.{Sees, ResolvesTo, Asks, Orders}
 use Rattle.ct_statement.specs.Unmet.{query_in}
-use Rattle.ct_session.specs.LawfulRefusal.{CommitsWhole, CommitsAlone}
-use Rattle.ct_session.specs.LawfulReply.{LawfulReply}
-use Rattle.ct_session.specs.Answers.{commits_by}
+use Rattle.ct_transaction.specs.LawfulRefusal.{CommitsWhole, CommitsAlone}
+use Rattle.ct_transaction.specs.LawfulReply.{LawfulReply}
+use Rattle.ct_transaction.specs.Answers.{commits_by}
 
 -- a reply is no refusal, or want of memory
 abbrev pub IsAnswered : Reply → Type 0

@@ -5,10 +5,4 @@ pub mod Within
 pub mod Lawful
 pub mod Complete
 pub mod Serial
-pub mod Scripts
-pub mod Runs
-pub mod Summary
-pub mod Certificates
-pub mod Imports
-pub mod Exports
-pub mod Promise
+pub mod TableFiles

@@ -11,8 +11,8 @@ use Rattle.ct_transcript.specs.declared.reply.SessionLog.{SessionLog}
 use Rattle.ct_arena.specs.Counts.{AreNumbered}
 use Rattle.ct_arena.specs.Seen.{Seen}
 use Rattle.ct_keeper.specs.Served.{first_pass}
-use Rattle.ct_session.specs.State.{SessionState, beginning}
-use Rattle.ct_session.specs.Answers.{committed_of, commits_by, is_full, GoesOn}
+use Rattle.ct_transaction.specs.State.{SessionState, beginning}
+use Rattle.ct_transaction.specs.Answers.{committed_of, commits_by, is_full, GoesOn}
 use Rattle.ct_serve.specs.Sessions.{EndsAtFull}
 use Rattle.ct_serve.specs.Within.{AreWithin}
 

@@ -13,8 +13,8 @@ use Rattle.ct_transcript.specs.declared.reply.Reply.TheVariants as reply
 use Rattle.ct_transcript.specs.declared.reply.Refusal.TheVariants as refusal
 use Rattle.ct_transcript.specs.declared.reply.SessionLog.{SessionLog}
 use Rattle.ct_transcript.specs.declared.transcript.Transcript.{Transcript}
-use Rattle.ct_session.specs.State.{SessionState, beginning}
-use Rattle.ct_session.specs.LawfulReply.{LawfulReply}
+use Rattle.ct_transaction.specs.State.{SessionState, beginning}
+use Rattle.ct_transaction.specs.LawfulReply.{LawfulReply}
 use Rattle.ct_serve.specs.Sessions.{AreLawful}
 
 -- the number of the commit that an open transaction becomes by these replies: that of the first Committed one, and none

@@ -1,14 +1,19 @@
 -- When the replies of a session are lawful.
-use Rattle.std.specs.Prelude.{◌≡◌, ℕ, ◌+◌, List, [], ◌∷◌, filter_map, All, ⊤}
+use Rattle.std.specs.Prelude.{◌≡◌, ℕ, ◌+◌, Bool, List, [], ◌∷◌, filter_map, All, ⊤}
+use Rattle.std.specs.List.{list_any}
 use Rattle.ct_word.specs.Change.{PlainCommit}
 use Rattle.ct_lex.specs.Texts.{texts}
 use Rattle.ct_transcript.specs.declared.reply.Reply.{Reply}
 use Rattle.ct_transcript.specs.declared.reply.Reply.TheVariants as reply
 use Rattle.ct_transcript.specs.declared.reply.Refusal.TheVariants as refusal
 use Rattle.ct_transcript.specs.declared.reply.SessionLog.{SessionLog}
-use Rattle.ct_session.specs.State.{SessionState, beginning}
-use Rattle.ct_session.specs.LawfulReply.{LawfulReply}
-use Rattle.ct_session.specs.Answers.{committed_of, commits_by}
+use Rattle.ct_transaction.specs.State.{SessionState, beginning}
+use Rattle.ct_transaction.specs.LawfulReply.{LawfulReply}
+use Rattle.ct_transaction.specs.Answers.{committed_of, commits_by}
+
+-- whether some reply of some session passes a test
+abbrev pub some_reply : (Reply → Bool) → List SessionLog → Bool
+some_reply test logs = list_any (λ l. list_any test l.replies) logs
 
 -- that a reply is not Committed
 abbrev pub IsNoCommit : Reply → Type 0

@@ -6,9 +6,9 @@ use Rattle.ct_rewrite.specs.History.{plain_history}
 use Rattle.ct_transcript.specs.declared.reply.Reply.{Reply}
 use Rattle.ct_transcript.specs.declared.reply.SessionLog.{SessionLog}
 use Rattle.ct_transcript.specs.declared.transcript.Transcript.{Transcript}
-use Rattle.ct_session.specs.Bounded.{HasBound}
-use Rattle.ct_session.specs.LawfulReply.{LawfulReply}
-use Rattle.ct_session.specs.State.{SessionState, beginning}
+use Rattle.ct_transaction.specs.Bounded.{HasBound}
+use Rattle.ct_transaction.specs.LawfulReply.{LawfulReply}
+use Rattle.ct_transaction.specs.State.{SessionState, beginning}
 
 -- H is the run's history, W the words of its log, N their capacity
 module _ (H : List PlainCommit) (W : List ℕ) (N : ℕ) where

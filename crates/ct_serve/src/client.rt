@@ -2,10 +2,10 @@
 
 ghost use Rattle.std.specs.Prelude.{◌≡◌, ◌<◌, ◌≤◌, ◌+◌, ◌^◌, map, length, IfOk, IfErr, IfSome, None};
 ghost use Rattle.ct_lex.specs.Texts.{texts};
+ghost use Rattle.ct_transaction.specs.State.{beginning};
 ghost use Rattle.ct_session.specs.Standing.{state_in};
-ghost use Rattle.ct_session.specs.State.{beginning};
 ghost use Rattle.ct_session.specs.Exporting.{IsFileOf};
-ghost use Rattle.ct_serve.specs.Exports.{IsAfterAll, WhyNone};
+ghost use Rattle.ct_serve.specs.TableFiles.{IsAfterAll, WhyNone};
 ghost use Rattle.ct_serve.specs.Progress.{Progress, IsReady, HasAnswered, HasExecuted, HasRun, HasEnded};
 
 use ct_arena::{Pass, Site};
@@ -13,11 +13,13 @@ use ct_keeper::Server;
 use ct_lex::split;
 use ct_outside::Gate;
 use ct_session::{ExportError, Session};
+use ct_statement::Workers;
 use ct_transcript::{Reply, SessionLog};
 use ct_word::{List, Memory, Text};
 use std::alloc::Global;
 use std::marker::Model;
 use std::sync::Wait;
+use std::thread::Threads;
 
 /// A script, and the pass of the session that executes it.
 #[derive(Drop)]
@@ -43,7 +45,7 @@ impl<N: Site> Model for Client<N> {
 ///
 /// # Errors
 /// `Memory` where there is none for the list of replies.
-fn answer<N: Site, R: Wait, G: Gate>(
+fn answer<N: Site, R: Threads + Wait + Sync, G: Gate>(
     rt: &R,
     alloc: Global,
     server: &Server<N>,
@@ -74,7 +76,7 @@ fn answer<N: Site, R: Wait, G: Gate>(
 ///
 /// # Errors
 /// `Memory` where there is none for the lists of statements and replies.
-fn answer_script<N: Site, R: Wait, G: Gate>(
+fn answer_script<N: Site, R: Threads + Wait + Sync, G: Gate>(
     rt: &R,
     alloc: Global,
     server: &Server<N>,
@@ -92,7 +94,7 @@ fn answer_script<N: Site, R: Wait, G: Gate>(
 
 /// The replies to the statements of a script from the session's beginning on, and the table with this name after the last of
 /// them, with the version. Either may be wanting.
-fn answer_and_export<N: Site, R: Wait, G: Gate>(
+fn answer_and_export<N: Site, R: Threads + Wait + Sync, G: Gate>(
     rt: &R,
     alloc: Global,
     server: &Server<N>,
@@ -131,13 +133,14 @@ impl<N: Site> Client<N> {
         }
     }
 
-    /// Executes the script by a session of its own. The gate is told of each statement, numbered from 1.
-    pub(crate) fn execute<R: Wait, G: Gate>(
+    /// Executes the script by a session of its own, with so many workers. The gate is told of each statement, numbered from 1.
+    pub(crate) fn execute<R: Threads + Wait + Sync, G: Gate>(
         &mut self,
         rt: &R,
         alloc: Global,
         server: &Server<N>,
         gate: &G,
+        workers: Workers,
     )
         requires { IsReady self.old }
         ensures { HasExecuted N.log.cap self.old self.new }
@@ -145,7 +148,7 @@ impl<N: Site> Client<N> {
         let Some(pass) = self.pass.take() else {
             unreachable!();
         };
-        let mut session = Session::make(pass);
+        let mut session = Session::with_workers(pass, workers.count());
         let script = self.script.as_str();
         let replies = answer_script(rt, alloc, server, &mut session, script, gate);
         self.pass = Some(session.finish());
@@ -157,7 +160,7 @@ impl<N: Site> Client<N> {
     ///
     /// # Errors
     /// As `export` of a session has them.
-    pub(crate) fn execute_and_export<R: Wait, G: Gate>(
+    pub(crate) fn execute_and_export<R: Threads + Wait + Sync, G: Gate>(
         &mut self,
         rt: &R,
         alloc: Global,

@@ -1,24 +1,16 @@
-// The command `export`: the session of a file, and then the CSV file of a table.
+// A session alone on its log, and then the CSV file of a table.
 
-ghost use Rattle.std.specs.Prelude.{◌≡◌, ◌≤◌, ◌∷◌, [], length, map, IfOk, IfErr, OnOk};
+ghost use Rattle.std.specs.Prelude.{◌≡◌, ◌≤◌, ◌∷◌, [], length, map, IfOk, IfErr};
 ghost use Rattle.ct_lex.specs.Texts.{texts};
-ghost use Rattle.ct_outside.specs.Outside.{Rose, Added, AddedFront};
 ghost use Rattle.ct_serve.specs.Lawful.{Lawful};
 ghost use Rattle.ct_serve.specs.Within.{IsWithin};
-ghost use Rattle.ct_serve.specs.Scripts.{AreScriptsOf, IsUnread, IsNoScript};
-ghost use Rattle.ct_serve.specs.Exports.{IsTableFile, WhyNoTable, Exported, ExportPromise};
-ghost use Rattle.ct_serve.specs.declared.reading.Unserved.TheVariants as unserved;
+ghost use Rattle.ct_serve.specs.TableFiles.{IsTableFile, WhyNoTable};
 
 use crate::client::Client;
-use crate::ending::{Run, Status, no_run};
-use crate::files::status_of;
-use crate::filling::CAPACITY;
-use crate::printing::write_once;
-use crate::reading::{Unserved, scripts_of};
 use crate::serving::closed;
 use ct_arena::{Blank, Pass, Site};
 use ct_keeper::Server;
-use ct_outside::{Gate, Scripts, Sink};
+use ct_outside::Gate;
 use ct_session::ExportError;
 use ct_transcript::{SessionLog, Transcript};
 use ct_word::{List, Memory, Text};
@@ -27,11 +19,12 @@ use std::marker::Brand;
 use std::sync::Wait;
 use std::thread::Threads;
 
-/// A transcript, and the file of a table after all of its commits, with their number, or why there is none.
+/// A transcript, and what an export gave after the last statement: the version and the bytes of a table's CSV file, or why
+/// there is none.
 #[derive(Drop)]
-struct TableRun {
-    transcript: Transcript,
-    table: Result<(u32, Vec<u8>), ExportError>,
+pub struct TableRun {
+    pub transcript: Transcript,
+    pub table: Result<(u32, Vec<u8>), ExportError>,
 }
 
 /// The session of this pass alone, as lists have it.
@@ -83,94 +76,31 @@ fn exported_named<N: Site + Send + Sync, R: Threads + Wait + Sync, G: Gate + Syn
     Ok(TableRun { transcript, table })
 }
 
-/// Executes a script on a log of 262,144 words, and then exports a table.
+/// Runs a session for a script, alone on a log that has room for `cap` words, from 64 to 4,194,304, and then exports the table
+/// with this name after all of its commits. The script has at most 65,535 statements. The gate is called as `serve` says.
+///
+/// Where the table is an error, the commits make no table with this name, a row of it has too wide a condition for a file, or
+/// memory was wanting.
 ///
 /// # Errors
 /// `Memory` where there is none for the log, or for the lists of statements and replies.
-fn exported_after<R: Threads + Wait + Sync, G: Gate + Sync>(
+pub fn serve_and_export<R: Threads + Wait + Sync, G: Gate + Sync>(
     rt: &R,
     alloc: Global,
+    cap: u32,
     script: Text,
     name: &Text,
     gate: &G,
 ) -> Result<TableRun, Memory>
+    requires least { 64 ≤ cap }
+    requires most { cap ≤ 4194304 }
     requires few { length (texts script) ≤ 65535 }
-    ensures lawful { IfOk result (λ r. Lawful r.transcript 262144) }
-    ensures within { IfOk result (λ r. IsWithin r.transcript 262144) }
+    ensures lawful { IfOk result (λ r. Lawful r.transcript cap) }
+    ensures within { IfOk result (λ r. IsWithin r.transcript cap) }
     ensures scripts { IfOk result (λ r. map (λ s. s.script) r.transcript.sessions ≡ script ∷ []) }
     ensures table { IfOk result (λ r. IfOk r.table (λ f. IsTableFile r.transcript name.now f.1.items)) }
     ensures none { IfOk result (λ r. IfErr r.table (WhyNoTable r.transcript name.now)) }
 {
-    let blank = Blank::make(alloc, CAPACITY)?;
+    let blank = Blank::make(alloc, cap)?;
     exported_named::<Brand, R, G>(rt, alloc, blank, script, name, gate)
-}
-
-/// Executes the script of a file on a log of 262,144 words, and then exports a table.
-///
-/// # Errors
-/// `ReadFault` only where the source failed, `Script` only where the file is no script, `Memory` for want of memory.
-fn exported<R: Threads + Wait + Sync, S: Scripts, G: Gate + Sync>(
-    rt: &R,
-    alloc: Global,
-    name: &Text,
-    file: &str,
-    source: &mut S,
-    gate: &G,
-) -> Result<TableRun, Unserved>
-    ensures lawful { IfOk result (λ r. Lawful r.transcript 262144) }
-    ensures within { IfOk result (λ r. IsWithin r.transcript 262144) }
-    ensures scripts { IfOk result (λ r. AreScriptsOf (S.held source.old) (file.now ∷ []) (map (λ s. s.script) r.transcript.sessions)) }
-    ensures table { IfOk result (λ r. IfOk r.table (λ f. IsTableFile r.transcript name.now f.1.items)) }
-    ensures none { IfOk result (λ r. IfErr r.table (WhyNoTable r.transcript name.now)) }
-    ensures in_order { AddedFront (S.names source.old) (S.names source.new) (file.now ∷ []) }
-    ensures asked { OnOk result (Added (S.names source.old) (S.names source.new) (file.now ∷ [])) }
-    ensures rose { IfErr result (λ e. e ≡ unserved.ReadFault → Rose (S.faults source.old) (S.faults source.new)) }
-    ensures unread { IfErr result (λ e. e ≡ unserved.ReadFault → IsUnread (S.held source.old) (S.names source.old) (S.names source.new) (file.now ∷ [])) }
-    ensures no_script { IfErr result (λ e. e ≡ unserved.Script → IsNoScript (S.held source.old) (S.names source.old) (S.names source.new) (file.now ∷ [])) }
-{
-    let mut scripts = scripts_of(alloc, source, &[file])?;
-    let Some(script) = scripts.pop() else {
-        unreachable!();
-    };
-    let exported = exported_after(rt, alloc, script, name, gate)?;
-    Ok(exported)
-}
-
-/// Writes the file of a table, with one call.
-fn write_table<K: Sink>(exported: &TableRun, name: &Text, out: &mut K) -> Status
-    requires table { IfOk exported.now.table (λ f. IsTableFile exported.now.transcript name.now f.1.items) }
-    requires none { IfErr exported.now.table (WhyNoTable exported.now.transcript name.now) }
-    ensures { Exported name.now (record { faults = K.faults out.old; faults' = K.faults out.new; taken = K.taken out.old; taken' = K.taken out.new; calls = K.calls out.old; calls' = K.calls out.new }) exported.now.transcript result }
-{
-    match &exported.table {
-        Ok((_, bytes)) => match write_once(bytes.as_slice(), out) {
-            Ok(()) => Status::Done,
-            Err(_) => Status::WriteFault,
-        },
-        Err(ExportError::Memory) => Status::Memory,
-        Err(_) => Status::Refused,
-    }
-}
-
-/// Runs the session of a file, on a log of 262,144 words, and writes the CSV file of the table with this name.
-pub(crate) fn export_table<R: Threads + Wait + Sync, S: Scripts, K: Sink, G: Gate + Sync>(
-    rt: &R,
-    alloc: Global,
-    name: &Text,
-    file: &str,
-    scripts: &mut S,
-    out: &mut K,
-    gate: &G,
-) -> Run
-    ensures promise { ExportPromise name.now file.now (record { held = S.held scripts.old; faults = S.faults scripts.old; faults' = S.faults scripts.new; asked = S.names scripts.old; asked' = S.names scripts.new }) (record { faults = K.faults out.old; faults' = K.faults out.new; taken = K.taken out.old; taken' = K.taken out.new; calls = K.calls out.old; calls' = K.calls out.new }) result.status result.transcript }
-    ensures names { AddedFront (S.names scripts.old) (S.names scripts.new) (file.now ∷ []) }
-{
-    let exported = match exported(rt, alloc, name, file, scripts, gate) {
-        Ok(exported) => exported,
-        Err(e) => return no_run(alloc, status_of(e)),
-    };
-    let status = write_table(&exported, name, out);
-    let TableRun { transcript, table } = exported;
-    drop(table);
-    Run { status, transcript }
 }

@@ -68,7 +68,7 @@ fn commit_lines<R: Threads + Sync>(
 ///
 /// # Errors
 /// `Memory` where there is none for the text.
-pub(crate) fn all_lines<R: Threads + Sync>(
+pub fn all_lines<R: Threads + Sync>(
     rt: &R,
     alloc: Global,
     transcript: &Transcript,

@@ -15,6 +15,7 @@ use crate::parts::parts_for;
 use ct_arena::{Blank, Pass, Site};
 use ct_keeper::Server;
 use ct_outside::Gate;
+use ct_statement::Workers;
 use ct_transcript::{SessionLog, Transcript};
 use ct_word::{List, Memory, Text};
 use std::alloc::Global;
@@ -53,6 +54,7 @@ fn execute_on<N: Site + Send + Sync, R: Threads + Wait + Sync, G: Gate + Sync>(
     gate: &G,
     clients: &mut [Client<N>],
     threads: usize,
+    workers: Workers,
 )
     requires some { 0 < threads }
     requires ready { All IsReady clients.old }
@@ -62,7 +64,7 @@ fn execute_on<N: Site + Send + Sync, R: Threads + Wait + Sync, G: Gate + Sync>(
     let run = |_: usize, client: &mut Client<N>|
         requires { IsReady client.old }
         ensures { HasExecuted N.log.cap client.old client.new }
-    { client.execute(rt, alloc, server, gate) };
+    { client.execute(rt, alloc, server, gate, workers) };
     thread::for_each_mut(rt, clients, threads, &run);
 }
 
@@ -75,6 +77,7 @@ fn execute_all<N: Site + Send + Sync, R: Threads + Wait + Sync, G: Gate + Sync>(
     gate: &G,
     clients: &mut [Client<N>],
     is_first_alone: bool,
+    workers: Workers,
 )
     requires some { 0 < length clients.old }
     requires ready { All IsReady clients.old }
@@ -83,8 +86,8 @@ fn execute_all<N: Site + Send + Sync, R: Threads + Wait + Sync, G: Gate + Sync>(
 {
     let threads = clients.len();
     let (alone, others) = clients.split_at_mut(usize::from(is_first_alone));
-    execute_on(rt, alloc, server, gate, alone, 1);
-    execute_on(rt, alloc, server, gate, others, threads);
+    execute_on(rt, alloc, server, gate, alone, 1, workers);
+    execute_on(rt, alloc, server, gate, others, threads, workers);
 }
 
 /// The passes and the logs of the sessions, in their order.
@@ -173,6 +176,7 @@ fn serve_named<N: Site + Send + Sync, R: Threads + Wait + Sync, G: Gate + Sync>(
     scripts: &[Text],
     gate: &G,
     is_first_alone: bool,
+    workers: Workers,
 ) -> Result<Transcript, Memory>
     requires name { blank ≡ N.log }
     requires number { N.sessions ≡ length scripts.now }
@@ -192,21 +196,24 @@ fn serve_named<N: Site + Send + Sync, R: Threads + Wait + Sync, G: Gate + Sync>(
         gate,
         clients.as_mut_slice(),
         is_first_alone,
+        workers,
     );
     end(rt, alloc, server, clients)
 }
 
-/// Runs a session for each script as `serve` does, where the first is to be alone before the others begin.
+/// Runs a session for each script as `serve_with` does. Where the first is to be alone, it comes to its end before the others
+/// begin; no clause is on that.
 ///
 /// # Errors
 /// As `serve` has them.
-pub(crate) fn serve_by<R: Threads + Wait + Sync, G: Gate + Sync>(
+pub fn serve_by<R: Threads + Wait + Sync, G: Gate + Sync>(
     rt: &R,
     alloc: Global,
     cap: u32,
     scripts: &[Text],
     gate: &G,
     is_first_alone: bool,
+    workers: Workers,
 ) -> Result<Transcript, Memory>
     requires least { 64 ≤ cap }
     requires most { cap ≤ 4194304 }
@@ -218,7 +225,7 @@ pub(crate) fn serve_by<R: Threads + Wait + Sync, G: Gate + Sync>(
     ensures scripts { IfOk result (λ transcript. map (λ s. s.script) transcript.sessions ≡ scripts.now) }
 {
     let blank = Blank::make(alloc, cap)?;
-    serve_named::<Brand, R, G>(rt, alloc, blank, scripts, gate, is_first_alone)
+    serve_named::<Brand, R, G>(rt, alloc, blank, scripts, gate, is_first_alone, workers)
 }
 
 /// Runs a session for each script, from 1 to 64 of them, each on a thread of its own. Their log has room for `cap` words,
@@ -247,5 +254,32 @@ pub fn serve<R: Threads + Wait + Sync, G: Gate + Sync>(
     ensures within { IfOk result (λ transcript. IsWithin transcript cap) }
     ensures scripts { IfOk result (λ transcript. map (λ s. s.script) transcript.sessions ≡ scripts.now) }
 {
-    serve_by(rt, alloc, cap, scripts, gate, false)
+    serve_with(rt, alloc, cap, scripts, gate, 1)
+}
+
+/// Runs a session for each script as `serve` does, where so many workers decide the questions of a statement, from 1 to 16. No
+/// clause is on their threads.
+///
+/// # Errors
+/// As `serve` has them.
+pub fn serve_with<R: Threads + Wait + Sync, G: Gate + Sync>(
+    rt: &R,
+    alloc: Global,
+    cap: u32,
+    scripts: &[Text],
+    gate: &G,
+    workers: u32,
+) -> Result<Transcript, Memory>
+    requires least { 64 ≤ cap }
+    requires most { cap ≤ 4194304 }
+    requires some { 1 ≤ length scripts.now }
+    requires most_scripts { length scripts.now ≤ 64 }
+    requires few { All (λ script. length (texts script) ≤ 65535) scripts.now }
+    requires least_workers { 1 ≤ workers }
+    requires most_workers { workers ≤ 16 }
+    ensures lawful { IfOk result (λ transcript. Lawful transcript cap) }
+    ensures within { IfOk result (λ transcript. IsWithin transcript cap) }
+    ensures scripts { IfOk result (λ transcript. map (λ s. s.script) transcript.sessions ≡ scripts.now) }
+{
+    serve_by(rt, alloc, cap, scripts, gate, false, Workers::new(workers))
 }

@@ -11,12 +11,13 @@ use Rattle.ct_parse.specs.declared.tree.Statement.{Statement}
 use Rattle.ct_resolve.specs.Statements.{resolved}
 use Rattle.ct_transcript.specs.declared.reply.Reply.{Reply}
 use Rattle.ct_statement.proofs.Weights.{action_makes_words}
-use Rattle.ct_session.{specs.Answers.{GoesOn, Answers}, specs.LawfulRefusal.IsConflict, specs.Seeing.Asks, specs.Sessions.state_of, specs.Executes.Executes}
-use Rattle.ct_session.{specs.Outcomes.{Begins, fresh_after, outcome_reply, outcome_version}, specs.Offering.IsReadyToOffer, specs.Statements.ReadsAs}
-use Rattle.ct_session.{specs.declared.offering.Offering.Offering, specs.State.{SessionState, carried, with_transaction}, proofs.Conflicting.{later_than, conflict_there}}
-use Rattle.ct_session.proofs.Called.{IsCall, uncommitted_proceeds, uncommitted_state, wanting_answers}
-use Rattle.ct_session.{proofs.Going.{prefix_short, onward}, proofs.Ordered.state_same, proofs.Replies.{Proceeds, answers_uncommitted}}
-use Rattle.ct_session.{proofs.Committed.committed_answers, proofs.Whole.replied_seen}
+use Rattle.ct_transaction.{specs.Answers.{GoesOn, Answers}, specs.LawfulRefusal.IsConflict, specs.Seeing.Asks, specs.Sessions.state_of, specs.Executes.Executes}
+use Rattle.ct_transaction.{specs.Outcomes.{outcome_reply, outcome_version}, specs.Statements.ReadsAs, specs.State.{SessionState, carried, with_transaction}}
+use Rattle.ct_transaction.{proofs.Conflicting.{later_than, conflict_there}, proofs.Called.{IsCall, uncommitted_proceeds, uncommitted_state, wanting_answers}}
+use Rattle.ct_transaction.{proofs.Going.{prefix_short, onward}, proofs.Ordered.state_same, proofs.Replies.{Proceeds, answers_uncommitted}}
+use Rattle.ct_transaction.proofs.Whole.{replied_seen}
+use Rattle.ct_session.{specs.Outcomes.{Begins, fresh_after}, specs.Offering.IsReadyToOffer, specs.declared.offering.Offering.Offering}
+use Rattle.ct_session.proofs.Committed.{committed_answers}
 use Rattle.ct_query.specs.Plain as plain
 use Rattle.ct_keeper.specs.declared.error.KeeperError.TheVariants as fault
 use Rattle.ct_keeper.specs.declared.catalogue.Outcome.TheVariants as outcome

@@ -12,9 +12,12 @@ use Rattle.ct_history.specs.Kept.{kept_of}
 use Rattle.ct_keeper.{specs.Bounds.offer_words, specs.Served.{IsLastCommit, IsOutcome}, specs.declared.catalogue.Offer.Offer, specs.declared.catalogue.Outcome.Outcome}
 use Rattle.ct_keeper.specs.declared.error.KeeperError.{KeeperError}
 use Rattle.ct_parse.specs.declared.tree.Statement.{Statement}
-use Rattle.ct_session.{specs.Executes.Executes, specs.Answers.is_full, specs.Outcomes.{committed_or, outcome_reply}, specs.Sessions.state_of, specs.State.carried, specs.Offering.{IsFoundAlone, IsInsertion, IsReadyToOffer}}
-use Rattle.ct_session.{specs.Bounded.{Makes, within, Performs}, specs.Prepared.{inserts_rows, InsertsRows, IsLiteralAct, IsRefused, unmet}, proofs.Bounded.{alone_counted, charged_less, offer_charged, one_asked, resolves_now, resolves_on}, proofs.Going.{front_taken, prefix_short}}
-use Rattle.ct_session.{specs.declared.offering.Offering.Offering, proofs.Called.IsCall, proofs.Committed.committed_from, proofs.Going.version_within, proofs.Whole.committed_seen}
+use Rattle.ct_transaction.{specs.Executes.Executes, specs.Answers.is_full, specs.Outcomes.outcome_reply, specs.Sessions.state_of, specs.State.carried}
+use Rattle.ct_transaction.{specs.Bounded.{Makes, within, Performs}, specs.Prepared.{IsRefused, unmet}, proofs.Bounded.offer_charged}
+use Rattle.ct_transaction.{proofs.Going.{front_taken, prefix_short, version_within}, proofs.Called.IsCall, proofs.Whole.committed_seen}
+use Rattle.ct_session.{specs.Outcomes.committed_or, specs.Offering.{IsFoundAlone, IsInsertion, IsReadyToOffer, inserts_rows, InsertsRows, IsLiteralAct}}
+use Rattle.ct_session.{specs.declared.offering.Offering.Offering, proofs.Bounded.{alone_counted, charged_less, one_asked, resolves_now, resolves_on}}
+use Rattle.ct_session.proofs.Committed.{committed_from}
 use mathlib.Core.List.{IsPrefix}
 use Rattle.ct_query.specs.Plain as plain
 use Rattle.ct_keeper.specs.declared.catalogue.Outcome.TheVariants as outcome

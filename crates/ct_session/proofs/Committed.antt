@@ -11,9 +11,10 @@ use Rattle.ct_keeper.{specs.Served.IsLastCommit, specs.declared.catalogue.Offer.
 use Rattle.ct_parse.specs.declared.tree.Statement.{Statement}
 use Rattle.ct_resolve.specs.Statements.{resolved}
 use Rattle.ct_statement.specs.Drawing.{drawn}
-use Rattle.ct_session.{specs.Answers.{GoesOn, Answers}, specs.LawfulReply.IsCommittedAlone, specs.Sessions.state_of, specs.State.{SessionState, carried}}
-use Rattle.ct_session.{specs.Statements.ReadsAs, proofs.Called.{IsCall, comes, one_before, had_room, before, there}, proofs.Going.{front_taken, prefix_short}}
-use Rattle.ct_session.{specs.declared.offering.Offering.Offering, specs.Offering.IsReadyToOffer, proofs.Ordered.state_same, proofs.Unchanged.{agrees_still, resolves_still}}
+use Rattle.ct_transaction.{specs.Answers.{GoesOn, Answers}, specs.LawfulReply.IsCommittedAlone, specs.Sessions.state_of, specs.State.{SessionState, carried}}
+use Rattle.ct_transaction.{specs.Statements.ReadsAs, proofs.Called.{IsCall, comes, one_before, had_room, before, there}}
+use Rattle.ct_transaction.{proofs.Going.{front_taken, prefix_short}, proofs.Ordered.state_same, proofs.Unchanged.{agrees_still, resolves_still}}
+use Rattle.ct_session.{specs.declared.offering.Offering.Offering, specs.Offering.IsReadyToOffer}
 use Rattle.ct_history.specs.Kept.{kept_of}
 use Rattle.ct_query.specs.Plain as plain
 use Rattle.ct_transcript.specs.declared.reply.Reply.TheVariants as reply

@@ -2,9 +2,9 @@
 use Rattle.std.proofs.Common.{◌≡◌, ℕ, ◌≤◌, Bool, true, false, List, [], ◌∷◌, ◌++◌, length, max, take, refl, ap, sym, subst, ◌∙◌, arith}
 use Rattle.std.{specs.Prelude.{◌↔◌, Option, Some, None, IfSome, IsTrue, if◌then◌else◌, option_map}, specs.List.{filter_map, list_all}}
 use Rattle.std.proofs.lemmas.{Bool.{and_parts, false≢true}, Option.IfSome_then, List.Elements.recursion_from_All}
-use Rattle.ct_word.{specs.declared.values.CRow.CRow, specs.declared.values.Term.Term, specs.Value.{same_text}, specs.Names.is_name}
+use Rattle.ct_word.{specs.declared.values.CRow.CRow, specs.declared.values.Term.Term, specs.Value.same_text, specs.Names.is_name}
 use Rattle.ct_word.specs.Change.{PlainChange, PlainCommit, Create, Insert, Delete, Assert}
-use Rattle.ct_word.{specs.Reading.commits_of, specs.WellFormed.IsWellFormed, specs.Writable.{is_writable}}
+use Rattle.ct_word.{specs.Reading.commits_of, specs.WellFormed.IsWellFormed, specs.Writable.is_writable}
 use Rattle.ct_query.{specs.declared.action.Read.Read, specs.Database.{SameSet, tuples_of}, specs.Fits.columns_in, specs.Keeping.Keeps}
 use Rattle.ct_query.{specs.Schema.{created_by_change, schema}, specs.Worlds.{changes_of, world}, proofs.SameRows.same_tuples_of}
 use Rattle.ct_arena.specs.Seen.{tally_of}
@@ -15,8 +15,8 @@ use Rattle.ct_table.specs.Denotes.{TableView, Denotes, IsKept, IsTermFor, by_cha
 use Rattle.ct_algebra.proofs.Found.{stands_for, no_columns}
 use Rattle.ct_statement.{proofs.EachTerm.written_in_change, proofs.Members.passes}
 use Rattle.ct_csv.specs.Exported.{CanBeExported}
-use Rattle.ct_session.{specs.declared.exporting.ExportError.ExportError, specs.Sessions.{IsSession, transaction_of}, specs.Standing.Standing, proofs.Going.{onward, version_within}}
-use Rattle.ct_session.specs.declared.session.Open.{Open}
+use Rattle.ct_transaction.{specs.Sessions.{IsSession, transaction_of}, specs.declared.state.Open.Open, proofs.Going.{onward, version_within}}
+use Rattle.ct_session.{specs.declared.exporting.ExportError.ExportError, specs.Standing.Standing}
 use Rattle.ct_session.specs.Exporting.{AreOfTable, IsFileOf, IsWideTable, WhyNoFile, HasLooked, IsNow, HasExported, HasNotExported, Later}
 use mathlib.Core.List.{IsPrefix}
 use Rattle.ct_query.specs.declared.action.Read.TheVariants as read

@@ -10,10 +10,11 @@ use Rattle.ct_table.specs.Snapshot.{commits_to}
 use Rattle.ct_statement.{proofs.Literal.literal_encodable, proofs.Sights.sight_grows, proofs.Wanting.want_unmet, specs.declared.proposing.Proposal.Proposal}
 use Rattle.ct_statement.{specs.Drawing.drawn, specs.Proposals.IsProposal, specs.Sight.{actions_before, history_of}, specs.Sources.is_literal, specs.Unmet.IsWant}
 use Rattle.ct_transcript.specs.declared.reply.Refusal.{Refusal}
-use Rattle.ct_session.{specs.Offering.{IsFoundAlone, IsReadyToOffer}, specs.Prepared.{IsRefused, unmet}, proofs.Actions.ready_to_offer, proofs.Outside.{prepared_on, refused_on}}
+use Rattle.ct_transaction.specs.Prepared.{IsRefused, unmet}
+use Rattle.ct_session.{specs.Offering.{IsFoundAlone, IsReadyToOffer}, proofs.Ready.ready_to_offer, proofs.Outside.{prepared_on, refused_on}}
 use mathlib.Core.List.{IsPrefix}
 use Rattle.ct_query.specs.Plain as plain
-use Rattle.ct_session.specs.declared.preparing.Prepared.TheVariants as prepared
+use Rattle.ct_transaction.specs.declared.preparing.Prepared.TheVariants as prepared
 
 -- one that was found at what is seen, over the words that came with its change
 module _ (begun now : Seen) (longer : IsPrefix begun.words now.words) (same : kept_of now ≡ kept_of begun) (fresh base : ℕ) (st : Statement) (a : PlainAction) (f : IsFoundAlone begun fresh base st (plain.Act a))

@@ -1,6 +1,5 @@
 -- A statement outside a transaction, at the newest version: what was prepared for it, over further words, and its reply.
-use Rattle.std.{proofs.Common.{◌≡◌, ℕ, ◌≤◌, List, [], length, refl, ap, sym, subst, ◌∙◌, arith}, specs.Prelude.{Option, Some, None, IsNone}}
-use Rattle.std.proofs.lemmas.Bool.{false≢true}
+use Rattle.std.{proofs.Common.{◌≡◌, ℕ, ◌≤◌, List, [], length, refl, ap, sym, subst, ◌∙◌, arith}, specs.Prelude.None}
 use Rattle.ct_word.{specs.Change.PlainCommit, specs.Reading.commits_of, proofs.Prefixes.prefix_of_prefix}
 use Rattle.ct_arena.{specs.Counts.AreNumbered, specs.Seen.Seen}
 use Rattle.ct_history.specs.Kept.{kept_of}
@@ -10,18 +9,14 @@ use Rattle.ct_table.specs.Snapshot.{commits_to}
 use Rattle.ct_parse.specs.declared.tree.Statement.{Statement}
 use Rattle.ct_transcript.{specs.declared.reply.Refusal.Refusal, specs.declared.reply.Reply.Reply}
 use Rattle.ct_statement.{specs.declared.replying.Answered.Answered, specs.declared.sight.Sight.Sight, specs.Sight.{actions_before, history_of}}
-use Rattle.ct_session.{specs.declared.session.Open.Open, specs.Answers.Answers, specs.Executes.Executes, specs.Outcomes.Begins, specs.Seeing.Sees}
-use Rattle.ct_session.{specs.Prepared.{ForAnswer, IsPrepared, IsRefused}, specs.Replying.{reply_of, standing}, specs.Sessions.state_of, proofs.Opened.{prepared_later, refused_later}, proofs.Ordered.state_same}
-use Rattle.ct_session.{specs.State.{SessionState, carried}, specs.declared.preparing.Prepared.Prepared}
-use Rattle.ct_session.proofs.Replies.{Proceeds, proceeds, prepared_answer, answered_answers, refused_answers}
+use Rattle.ct_transaction.{specs.Answers.Answers, specs.Executes.Executes, specs.Seeing.Sees, specs.Prepared.{ForAnswer, IsPrepared, IsRefused}}
+use Rattle.ct_transaction.{specs.Replying.{reply_of, standing}, specs.Sessions.state_of, specs.State.{SessionState, carried}}
+use Rattle.ct_transaction.{specs.declared.preparing.Prepared.Prepared, proofs.Opened.{prepared_later, refused_later}, proofs.Ordered.state_same}
+use Rattle.ct_transaction.proofs.Replies.{Proceeds, proceeds, prepared_answer, answered_answers, refused_answers}
+use Rattle.ct_session.specs.Outcomes.{Begins}
 use mathlib.Core.List.{IsPrefix}
 use Rattle.ct_transcript.specs.declared.reply.Reply.TheVariants as reply
-use Rattle.ct_session.specs.declared.preparing.Prepared.TheVariants as prepared
-
--- none is open
-pub none_open : (o : Option Open) → IsNone o → o ≡ None
-none_open None n = refl
-none_open (Some o) n = absurd (false≢true (sym n))
+use Rattle.ct_transaction.specs.declared.preparing.Prepared.TheVariants as prepared
 
 -- what was prepared at the sight, or why it was refused, over the words that came with it
 module _ (begun now : Seen) (longer : IsPrefix begun.words now.words) (kept : kept_of now ≡ kept_of begun) (sight : Sight) (within : sight.version ≤ length (commits_of begun.words)) (none : actions_before sight ≡ [])

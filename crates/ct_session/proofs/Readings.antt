@@ -4,7 +4,7 @@ use Rattle.ct_lex.{specs.declared.token.Token.Token, specs.declared.token.LexErr
 use Rattle.ct_parse.{specs.declared.error.ParseError.ParseError, specs.declared.tree.Statement.Statement, specs.Grammar.said, specs.Nest.is_too_deep}
 use Rattle.ct_parse.specs.Parses.{Spells}
 use Rattle.ct_transcript.specs.declared.reply.Refusal.{Refusal}
-use Rattle.ct_session.specs.Statements.{ReadsAs, IsWritten, HasFault, IsTextFault, number_range, open_text, stray_byte, too_deep, unspelled, lexical_refusal, grammatical_refusal}
+use Rattle.ct_transaction.specs.Statements.{ReadsAs, IsWritten, HasFault, IsTextFault, number_range, open_text, stray_byte, too_deep, unspelled, lexical_refusal, grammatical_refusal}
 use Rattle.ct_lex.specs.declared.token.LexError.TheVariants as lexical
 use Rattle.ct_parse.specs.declared.error.ParseError.TheVariants as grammatical
 use Rattle.ct_transcript.specs.declared.reply.Refusal.TheVariants as refusal

@@ -1,8 +1,8 @@
 -- A text that is read as no statement is refused so, however the words go on.
 use Rattle.std.{proofs.Common.{◌≢◌, ℕ, List, refl, sym}, proofs.lemmas.Bool.false≢true}
 use Rattle.ct_transcript.specs.declared.reply.Refusal.{Refusal}
-use Rattle.ct_session.{specs.Answers.Answers, specs.State.SessionState, proofs.Replies.{Proceeds, answers_uncommitted, carried_same, memory_answers}}
-use Rattle.ct_session.specs.Statements.{IsTextFault, number_range, open_text, stray_byte, too_deep, unspelled}
+use Rattle.ct_transaction.{specs.Answers.Answers, specs.State.SessionState, proofs.Replies.{Proceeds, answers_uncommitted, carried_same, memory_answers}}
+use Rattle.ct_transaction.specs.Statements.{IsTextFault, number_range, open_text, stray_byte, too_deep, unspelled}
 use Rattle.ct_transcript.specs.declared.reply.Reply.TheVariants as reply
 use Rattle.ct_transcript.specs.declared.reply.Refusal.TheVariants as refusal
 

@@ -13,10 +13,8 @@ use Rattle.ct_query.specs.Worlds.{world}
 use Rattle.ct_operators.specs.Tables.{AreRows, value_of_rows}
 use Rattle.ct_table.specs.Snapshot.{commits_to}
 use Rattle.ct_csv.specs.Exported.{IsExported, IsTooWide}
-use Rattle.ct_session.specs.Answers.{GoesOn}
-use Rattle.ct_session.specs.State.{carried}
-use Rattle.ct_session.specs.Standing.{Standing, state_in}
-use Rattle.ct_session.specs.declared.exporting.ExportError.{ExportError}
+use Rattle.ct_transaction.{specs.Answers.GoesOn, specs.State.carried}
+use Rattle.ct_session.{specs.Standing.{Standing, state_in}, specs.declared.exporting.ExportError.ExportError}
 use Rattle.ct_session.specs.declared.exporting.ExportError.TheVariants as fault
 
 -- an export leaves all of a session as it was, but that it has seen this version: its words may have gone on, by none of

@@ -1,5 +1,5 @@
 -- What a statement outside a transaction asks for, ready to be given or to be offered.
-use Rattle.std.specs.Prelude.{◌≡◌, ◌+◌, ℕ, List, [], ◌∷◌, true, Ok}
+use Rattle.std.specs.Prelude.{◌≡◌, ◌≤◌, ◌+◌, ℕ, List, [], ◌∷◌, Bool, true, false, Ok}
 use Rattle.ct_word.specs.Change.{PlainChange}
 use Rattle.ct_word.specs.Reading.{change_list_at, commits_of}
 use Rattle.ct_arena.specs.Seen.{Seen}
@@ -18,11 +18,25 @@ use Rattle.ct_statement.specs.declared.sight.Sight.{Sight}
 use Rattle.ct_statement.specs.Drawing.{drawn}
 use Rattle.ct_statement.specs.Making.{IsLight}
 use Rattle.ct_statement.specs.Sight.{actions_before, history_of}
-use Rattle.ct_session.specs.declared.alone.Ready.{Ready}
+use Rattle.ct_statement.specs.Sources.{is_literal}
+use Rattle.ct_transaction.{specs.Bounded.Performs, specs.Prepared.{ForAnswer, IsResolved}}
+use Rattle.ct_session.{specs.declared.alone.Ready.Ready, specs.declared.offering.Offering.Offering, specs.Known.SeesAlone}
 use Rattle.ct_session.specs.declared.alone.Ready.TheVariants as ready
-use Rattle.ct_session.specs.declared.offering.Offering.{Offering}
-use Rattle.ct_session.specs.Known.{SeesAlone}
-use Rattle.ct_session.specs.Prepared.{ForAnswer, IsResolved, inserts_rows}
+
+-- a statement with positions is an action whose change is all in its text
+abbrev pub IsLiteralAct : PlainStatement → Type 0
+IsLiteralAct (plain.Act a) = is_literal a ≡ true
+IsLiteralAct _ = ⊥
+
+-- whether an action is an insertion of written rows
+abbrev pub inserts_rows : PlainAction → Bool
+inserts_rows (plain.InsertRows name rs c) = true
+inserts_rows _ = false
+
+-- a statement with positions is an insertion of written rows
+abbrev pub InsertsRows : PlainStatement → Type 0
+InsertsRows (plain.Act a) = inserts_rows a ≡ true
+InsertsRows _ = ⊥
 
 -- a statement resolves to this at what it saw, which was this version
 pub record IsFoundAlone (pass : Seen) (fresh base : ℕ) (st : Statement) (asked : PlainStatement) : Type 0 where
@@ -54,3 +68,9 @@ pub record IsReadyToOffer (pass : Seen) (fresh : ℕ) (o : Offering) (st : State
 abbrev pub IsReady : Seen → ℕ → ℕ → Statement → Ready → Type 0
 IsReady pass fresh version st (ready.Answer given) = (reads : List Read) × ForAnswer pass.words (commits_to pass.words version) [] pass.session fresh st given reads
 IsReady pass fresh version st (ready.Offer o) = (o.offer.base ≡ version) × IsReadyToOffer pass fresh o st
+
+-- a statement outside a transaction made nothing, or at most as much of what it asks for at a version of these words
+pub data Readies (words : List ℕ) (version session fresh : ℕ) (st : Statement) (made made' : ℕ) : Type 0 where
+  idle : made' ≤ made → Readies words version session fresh st made made'
+  busy : (asked : PlainStatement) → resolved (schema (commits_to words version) []) session fresh st ≡ Ok asked
+      → Performs (count (commits_to words version) []) asked made made' → Readies words version session fresh st made made'

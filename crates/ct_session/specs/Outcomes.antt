@@ -1,4 +1,4 @@
--- The world that an offer has, and what is answered, by what became of it; how a statement goes on to its offer.
+-- The world that an offer has, and what became of it; how a statement goes on to its offer.
 use Rattle.std.specs.Prelude.{◌≡◌, ◌≤◌, ℕ, [], length, Option, Some, None, Result, Ok, Err}
 use mathlib.Core.List.{IsPrefix}
 use Rattle.ct_word.specs.Reading.{commits_of}
@@ -12,11 +12,8 @@ use Rattle.ct_keeper.specs.declared.catalogue.Outcome.{Outcome}
 use Rattle.ct_keeper.specs.declared.catalogue.Outcome.TheVariants as outcome
 use Rattle.ct_keeper.specs.declared.error.KeeperError.{KeeperError}
 use Rattle.ct_keeper.specs.declared.error.KeeperError.TheVariants as fault
-use Rattle.ct_transcript.specs.declared.reply.Reply.{Reply}
-use Rattle.ct_transcript.specs.declared.reply.Reply.TheVariants as reply
 use Rattle.ct_transcript.specs.declared.reply.Refusal.{Refusal}
 use Rattle.ct_transcript.specs.declared.reply.Refusal.TheVariants as refusal
-use Rattle.ct_session.specs.declared.session.Open.{Open}
 
 -- the world that the offer of an action has: the kept one after its step; where no step was made, the one that lists nothing
 abbrev pub world_offered : World → Option Step → World
@@ -42,29 +39,8 @@ abbrev pub fresh_after : ℕ → ℕ → Result Outcome KeeperError → ℕ
 fresh_after fresh drawn (Ok (outcome.Committed m)) = drawn
 fresh_after fresh drawn _ = fresh
 
--- the transaction after its offer: it stays where something is wanting
-abbrev pub open_after : Open → Result Outcome KeeperError → Option Open
-open_after o (Ok out) = None
-open_after o (Err e) = Some o
-
 -- the number of the commit that an offer became; else that the log is full, or that memory is wanting
 abbrev pub committed_or : Result Outcome KeeperError → Result ℕ Refusal
 committed_or (Ok (outcome.Committed m)) = Ok m
 committed_or (Err fault.Full) = Err refusal.Full
 committed_or _ = Err refusal.Memory
-
--- the reply to an offer with this base, by a session that had seen a version
-abbrev pub outcome_reply : ℕ → ℕ → Result Outcome KeeperError → Reply
-outcome_reply seen base (Ok (outcome.Committed m)) = reply.Committed m
-outcome_reply seen base (Ok outcome.Nothing) = reply.Nothing base
-outcome_reply seen base (Ok (outcome.Conflict table was now at)) = reply.Refused at (refusal.Conflict table was now at)
-outcome_reply seen base (Err fault.Full) = reply.Refused base refusal.Full
-outcome_reply seen base (Err fault.Memory) = reply.Refused seen refusal.Memory
-
--- the version that this reply carries
-abbrev pub outcome_version : ℕ → ℕ → Result Outcome KeeperError → ℕ
-outcome_version seen base (Ok (outcome.Committed m)) = m
-outcome_version seen base (Ok outcome.Nothing) = base
-outcome_version seen base (Ok (outcome.Conflict table was now at)) = at
-outcome_version seen base (Err fault.Full) = base
-outcome_version seen base (Err fault.Memory) = seen

@@ -1,11 +1,8 @@
 -- What contracts see of a session, and what is true of it between its statements.
 use Rattle.std.specs.Prelude.{ℕ, [], Option, Some, None}
 use Rattle.ct_arena.specs.Seen.{Seen}
-use Rattle.ct_session.specs.declared.knowing.Known.{Known}
-use Rattle.ct_session.specs.declared.session.Open.{Open}
-use Rattle.ct_session.specs.Known.{IsKnown}
-use Rattle.ct_session.specs.Sessions.{IsSession, state_of}
-use Rattle.ct_session.specs.State.{SessionState}
+use Rattle.ct_transaction.{specs.declared.state.Open.Open, specs.Sessions.{IsSession, state_of}, specs.State.SessionState}
+use Rattle.ct_session.{specs.declared.knowing.Known.Known, specs.Known.IsKnown}
 
 -- a session: its pass, the greatest version that a reply carried, the number of the last null that it drew, and its open
 -- transaction

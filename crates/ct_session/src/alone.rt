@@ -14,31 +14,29 @@ ghost use Rattle.ct_query.specs.Views.{statement_of};
 ghost use Rattle.ct_table.specs.Snapshot.{commits_to};
 ghost use Rattle.ct_statement.specs.Making as refusals;
 ghost use Rattle.ct_statement.specs.Sight.{actions_before, history_of};
-ghost use Rattle.ct_session.specs.Answers.{is_full};
-ghost use Rattle.ct_session.specs.Bounded.{Makes, Performs, Readies};
-ghost use Rattle.ct_session.specs.Executes.{Executes};
+ghost use Rattle.ct_transaction.specs.Answers.{is_full};
+ghost use Rattle.ct_transaction.specs.Bounded.{Makes, Performs};
+ghost use Rattle.ct_transaction.specs.Executes.{Executes};
+ghost use Rattle.ct_transaction.specs.Prepared.{IsNoOrder, IsRefused, IsResolved};
+ghost use Rattle.ct_transaction.specs.Sessions.{IsSession, state_of};
+ghost use Rattle.ct_transaction.specs.Statements.{IsWritten};
+ghost use Rattle.ct_session.specs.Offering.{IsReady, IsReadyToOffer, Readies};
 ghost use Rattle.ct_session.specs.Known.{IsKnown, SeesAlone, StillSeen};
 ghost use Rattle.ct_session.specs.Outcomes.{Begins, fresh_after};
-ghost use Rattle.ct_session.specs.Offering.{IsReady, IsReadyToOffer};
-ghost use Rattle.ct_session.specs.Prepared.{IsNoOrder, IsRefused, IsResolved};
-ghost use Rattle.ct_session.specs.Sessions.{IsSession, state_of};
-ghost use Rattle.ct_session.specs.Statements.{IsWritten};
 
-use crate::committing::replied;
 use crate::knowing::{Known, insert_known};
 use crate::offering::{Offering, is_literal_act, literal_offer, offering_of, world_of};
-use crate::preparing::{Prepared, perform, resolved_at};
-use crate::replying::{refusal, reply_of};
-use crate::session::State;
 use ct_arena::{Arena, Pass, Site};
 use ct_keeper::{KeeperError, Outcome, Server};
 use ct_parse::Statement;
 use ct_query::{Read, Resolved};
-use ct_statement::{Answered, Sight};
+use ct_statement::{Answered, Sight, Workers};
+use ct_transaction::{Prepared, State, perform, refusal, replied, reply_of, resolved_at};
 use ct_transcript::{Refusal, Reply};
 use ct_word::List;
 use std::alloc::Global;
 use std::sync::Wait;
+use std::thread::Threads;
 
 /// What a statement outside a transaction asks for, when what it saw has been let go: the answer to a query, or an action
 /// as it is offered.
@@ -52,7 +50,8 @@ pub enum Ready {
 ///
 /// # Errors
 /// One of `TooLarge`, `Full`, `Inconsistent` and `Memory`, only where its cause holds.
-fn performed<N: Site>(
+fn performed<N: Site, R: Threads + Sync>(
+    rt: &R,
     alloc: Global,
     arena: &Arena<N>,
     pass: &mut Pass<N>,
@@ -60,6 +59,7 @@ fn performed<N: Site>(
     sight: &Sight,
     found: Resolved,
     reads: List<Read>,
+    workers: Workers,
     statement: &Statement,
 ) -> Result<Ready, Refusal>
     requires sees { SeesAlone pass.old.words sight.now }
@@ -71,7 +71,9 @@ fn performed<N: Site>(
     ensures ok { IfOk result (IsReady pass.new fresh sight.now.version statement.now) }
     ensures err { IfErr result (IsRefused (commits_to pass.new.words sight.now.version) [] N.log.cap pass.new.words pass.new.session fresh statement.now) }
 {
-    let prepared = perform(alloc, arena, pass, sight, None, fresh, false, found, reads);
+    let prepared = perform(
+        rt, alloc, arena, pass, sight, None, fresh, false, found, reads, workers,
+    );
     let _now = pass.words();
     match prepared {
         Ok(Prepared::Answer { answered, reads }) => {
@@ -104,13 +106,15 @@ fn performed<N: Site>(
 /// # Errors
 /// The first fault of its names and counts. Else one of `TooLarge`, `Full`, `Inconsistent` and `Memory`, only where its
 /// cause holds.
-fn asked<N: Site>(
+fn asked<N: Site, R: Threads + Sync>(
+    rt: &R,
     alloc: Global,
     arena: &Arena<N>,
     pass: &mut Pass<N>,
     fresh: u32,
     sight: Sight,
     known: &mut Known,
+    workers: Workers,
     statement: &Statement,
 ) -> Result<Ready, Refusal>
     requires sees { SeesAlone pass.old.words sight }
@@ -141,7 +145,9 @@ fn asked<N: Site>(
             Err(why) => Err(why),
         }
     } else {
-        let ready = performed(alloc, arena, pass, fresh, &sight, found, reads, statement);
+        let ready = performed(
+            rt, alloc, arena, pass, fresh, &sight, found, reads, workers, statement,
+        );
         drop(sight);
         ready
     }
@@ -192,7 +198,7 @@ fn offered<N: Site, R: Wait>(
 
 /// Executes a statement outside a transaction at a version that has all commits of the words before. An action is committed
 /// at once.
-fn anew<N: Site, R: Wait>(
+fn anew<N: Site, R: Threads + Wait + Sync>(
     rt: &R,
     alloc: Global,
     server: &Server<N>,
@@ -200,6 +206,7 @@ fn anew<N: Site, R: Wait>(
     seen: u32,
     fresh: u32,
     known: &mut Known,
+    workers: Workers,
     statement: &Statement,
 ) -> (State<N>, Reply)
     requires few { pass.mine < 2 ^ 18 }
@@ -220,12 +227,14 @@ fn anew<N: Site, R: Wait>(
     let sight = Sight::of(alloc, snapshot);
     let at = sight.version;
     let ready = asked(
+        rt,
         alloc,
         server.arena(),
         &mut pass,
         fresh,
         sight,
         known,
+        workers,
         statement,
     );
     let _now = pass.words();
@@ -244,12 +253,13 @@ fn anew<N: Site, R: Wait>(
 /// Executes a statement outside a transaction that is no BEGIN, COMMIT or ROLLBACK: it sees a version that has all
 /// commits of the words before. An insertion of written rows may find its names at an earlier one, of which something is
 /// known; its commit comes after all of these. An action is committed at once.
-pub(crate) fn alone<N: Site, R: Wait>(
+pub(crate) fn alone<N: Site, R: Threads + Wait + Sync>(
     rt: &R,
     alloc: Global,
     server: &Server<N>,
     session: State<N>,
     known: &mut Known,
+    workers: Workers,
     statement: &Statement,
 ) -> (State<N>, Reply)
     requires session { IsSession session.pass.words session.seen session.transaction }
@@ -273,6 +283,8 @@ pub(crate) fn alone<N: Site, R: Wait>(
     drop(transaction);
     match insert_known(rt, alloc, server, pass, seen, fresh, known, statement) {
         Ok(done) => done,
-        Err(pass) => anew(rt, alloc, server, pass, seen, fresh, known, statement),
+        Err(pass) => anew(
+            rt, alloc, server, pass, seen, fresh, known, workers, statement,
+        ),
     }
 }

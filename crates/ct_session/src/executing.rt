@@ -2,34 +2,34 @@
 
 ghost use Rattle.std.specs.Prelude.{◌+◌, ◌<◌, ◌^◌};
 ghost use Rattle.ct_condition.specs.Writes.{charge};
-ghost use Rattle.ct_session.specs.Answers.{Answers, is_full};
-ghost use Rattle.ct_session.specs.Bounded.{IsBounded, Makes};
-ghost use Rattle.ct_session.specs.Executes.{Executes};
+ghost use Rattle.ct_transaction.specs.Answers.{Answers, is_full};
+ghost use Rattle.ct_transaction.specs.Bounded.{IsBounded, Makes};
+ghost use Rattle.ct_transaction.specs.Executes.{Executes};
+ghost use Rattle.ct_transaction.specs.Sessions.{IsSession, state_of};
+ghost use Rattle.ct_transaction.specs.Statements.{IsWritten};
 ghost use Rattle.ct_session.specs.Known.{IsKnown};
-ghost use Rattle.ct_session.specs.Sessions.{IsSession, state_of};
-ghost use Rattle.ct_session.specs.Statements.{IsWritten};
 
 use crate::alone::alone;
-use crate::committing::commit;
 use crate::knowing::Known;
-use crate::orders::{begin, refused_here, roll_back};
 use crate::reading::read;
-use crate::session::State;
-use crate::within::within;
 use ct_arena::Site;
 use ct_keeper::Server;
 use ct_parse::Statement;
+use ct_statement::Workers;
+use ct_transaction::{State, begin, refused_here, transact};
 use ct_transcript::{Refusal, Reply};
 use std::alloc::Global;
 use std::sync::Wait;
+use std::thread::Threads;
 
 /// Executes a statement, in a transaction or outside. What is known is let go, but for an insertion outside.
-fn placed<N: Site, R: Wait>(
+fn placed<N: Site, R: Threads + Wait + Sync>(
     rt: &R,
     alloc: Global,
     server: &Server<N>,
     session: State<N>,
     known: &mut Known,
+    workers: Workers,
     statement: &Statement,
 ) -> (State<N>, Reply)
     requires session { IsSession session.pass.words session.seen session.transaction }
@@ -43,29 +43,29 @@ fn placed<N: Site, R: Wait>(
 {
     let is_open = session.transaction.is_some();
     if let (Statement::InsertRows { .. }, false) = (statement, is_open) {
-        return alone(rt, alloc, server, session, known, statement);
+        return alone(rt, alloc, server, session, known, workers, statement);
     }
     *known = Known::nothing();
-    match (statement, is_open) {
-        (Statement::Begin, false) => begin(rt, alloc, server, session, statement),
-        (Statement::Begin, true) => refused_here(session, statement, Refusal::InTransaction),
-        (Statement::Commit, true) => commit(rt, alloc, server, session, statement),
-        (Statement::Rollback, true) => roll_back(session, statement),
-        (Statement::Commit | Statement::Rollback, false) => {
+    if is_open {
+        return transact(rt, alloc, server, session, workers, statement);
+    }
+    match statement {
+        Statement::Begin => begin(rt, alloc, server, session, statement),
+        Statement::Commit | Statement::Rollback => {
             refused_here(session, statement, Refusal::NoTransaction)
         }
-        (_, true) => within(alloc, server.arena(), session, statement),
-        (_, false) => alone(rt, alloc, server, session, known, statement),
+        _ => alone(rt, alloc, server, session, known, workers, statement),
     }
 }
 
 /// Executes one statement text, and gives the session after it and the reply.
-pub(crate) fn executed<N: Site, R: Wait>(
+pub(crate) fn executed<N: Site, R: Threads + Wait + Sync>(
     rt: &R,
     alloc: Global,
     server: &Server<N>,
     session: State<N>,
     known: &mut Known,
+    workers: Workers,
     text: &str,
 ) -> (State<N>, Reply)
     requires session { IsSession session.pass.words session.seen session.transaction }
@@ -84,7 +84,7 @@ pub(crate) fn executed<N: Site, R: Wait>(
             return (session, Reply::Refused { at, why });
         }
     };
-    let done = placed(rt, alloc, server, session, known, &statement);
+    let done = placed(rt, alloc, server, session, known, workers, &statement);
     // By a call, since a tree that is let go at the end of its scope is proved variant by variant.
     drop(statement);
     done

@@ -4,17 +4,17 @@ ghost use Rattle.std.specs.Prelude.{◌≡◌, ◌<◌, ◌^◌, [], IfOk, IfErr
 ghost use Rattle.ct_word.specs.WellFormed.{IsWellFormed};
 ghost use Rattle.ct_table.specs.Denotes.{Denotes};
 ghost use Rattle.ct_table.specs.Snapshot.{commits_to};
+ghost use Rattle.ct_transaction.specs.Sessions.{IsSession};
 ghost use Rattle.ct_session.specs.Exporting.{HasExported, HasNotExported, IsFileOf, WhyNoFile};
-ghost use Rattle.ct_session.specs.Sessions.{IsSession};
 ghost use Rattle.ct_session.specs.Known.{IsKnown};
 ghost use Rattle.ct_session.specs.declared.knowing.Known.{Known as KnownValue};
 ghost use Rattle.ct_session.specs.declared.exporting.ExportError.TheVariants as fault;
 
-use crate::session::State;
 use ct_arena::Site;
 use ct_csv::{WideError, export};
 use ct_keeper::Server;
 use ct_table::Db;
+use ct_transaction::State;
 use ct_word::{Memory, Text};
 use std::alloc::{AllocError, Global};
 use std::sync::Wait;

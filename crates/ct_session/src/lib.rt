@@ -2,19 +2,13 @@
 #![tactic(auto)]
 
 mod alone;
-mod committing;
 mod executing;
 mod exporting;
-mod extending;
 mod knowing;
 mod offering;
-mod orders;
-mod preparing;
 mod reading;
-mod replying;
 mod session;
-mod within;
 
 pub use exporting::ExportError;
 pub use reading::read;
-pub use session::{Open, Session};
+pub use session::Session;

@@ -13,10 +13,10 @@ ghost use Rattle.ct_query.specs.Views.{statement_of};
 ghost use Rattle.ct_table.specs.Snapshot.{commits_to};
 ghost use Rattle.ct_statement.specs.Making.{is_full};
 ghost use Rattle.ct_statement.specs.Unmet.{IsWant};
-ghost use Rattle.ct_session.specs.Bounded.{Performs};
-ghost use Rattle.ct_session.specs.Offering.{IsFoundAlone, IsReadyToOffer};
+ghost use Rattle.ct_transaction.specs.Bounded.{Performs};
+ghost use Rattle.ct_transaction.specs.Prepared.{IsRefused};
+ghost use Rattle.ct_session.specs.Offering.{IsFoundAlone, IsLiteralAct, IsReadyToOffer};
 ghost use Rattle.ct_session.specs.Outcomes.{world_offered};
-ghost use Rattle.ct_session.specs.Prepared.{IsLiteralAct, IsRefused};
 
 use ct_arena::{Arena, Pass, Site};
 use ct_keeper::Offer;

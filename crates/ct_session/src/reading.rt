@@ -4,7 +4,7 @@ ghost use Rattle.std.specs.Prelude.{◌≡◌, ◌≢◌, IfOk, IfErr};
 ghost use Rattle.ct_parse.specs.declared.tree.Statement.{Statement as StatementValue};
 ghost use Rattle.ct_transcript.specs.declared.reply.Refusal.{Refusal as RefusalValue};
 ghost use Rattle.ct_transcript.specs.declared.reply.Refusal.TheVariants as refusal;
-ghost use Rattle.ct_session.specs.Statements.{ReadsAs, IsTextFault, lexical_refusal, grammatical_refusal};
+ghost use Rattle.ct_transaction.specs.Statements.{IsTextFault, ReadsAs, grammatical_refusal, lexical_refusal};
 
 use ct_lex::{LexError, tokens};
 use ct_parse::{ParseError, Statement, statement};

@@ -1,72 +1,23 @@
 // A session between its statements.
 
-ghost use Rattle.std.specs.Prelude.{◌≡◌, ◌<◌, ◌^◌, ℕ, List, max, None, IfOk, IfErr};
-ghost use Rattle.ct_parse.specs.declared.tree.Statement.{Statement as StatementValue};
-ghost use Rattle.ct_transcript.specs.declared.reply.Reply.{Reply as ReplyValue};
-ghost use Rattle.ct_session.specs.Answers.{Answers};
-ghost use Rattle.ct_session.specs.Bounded.{IsBounded};
-ghost use Rattle.ct_session.specs.Executes.{Executes};
+ghost use Rattle.std.specs.Prelude.{◌≡◌, ◌<◌, ◌≤◌, ◌^◌, None, IfOk, IfErr};
+ghost use Rattle.ct_transaction.specs.Answers.{Answers};
+ghost use Rattle.ct_transaction.specs.Bounded.{IsBounded};
 ghost use Rattle.ct_session.specs.Exporting.{HasExported, HasNotExported};
-ghost use Rattle.ct_session.specs.Sessions.{IsSession, state_of};
 ghost use Rattle.ct_session.specs.Standing.{state_in};
-ghost use Rattle.ct_session.specs.State.{SessionState, carried};
 
 use crate::executing::executed;
 use crate::exporting::{ExportError, exported};
 use crate::knowing::Known;
 use ct_arena::{Pass, Site};
 use ct_keeper::Server;
-use ct_query::Read;
-use ct_statement::Sight;
+use ct_statement::Workers;
+use ct_transaction::State;
 use ct_transcript::Reply;
-use ct_word::List;
 use std::alloc::Global;
 use std::marker::Model;
 use std::sync::Wait;
-
-/// An open transaction: its base with its own actions done, the place of its change list, which is begun with its first
-/// action, and what it read.
-#[derive(Drop)]
-pub struct Open {
-    pub sight: Sight,
-    pub changes: Option<u32>,
-    pub reads: List<Read>,
-}
-
-/// What a session keeps between its statements.
-#[derive(Drop)]
-pub(crate) struct State<N: Site> {
-    /// The session's own pass, by which its statements read and add words.
-    pub(crate) pass: Pass<N>,
-    /// The greatest version that a reply carried.
-    pub(crate) seen: u32,
-    /// The number of the last null that the session drew, 0 before the first.
-    pub(crate) fresh: u32,
-    /// The transaction that is open.
-    pub(crate) transaction: Option<Open>,
-}
-
-impl<N: Site> State<N> {
-    /// The session of this pass, these numbers and this transaction, after a reply that carries a version.
-    pub(crate) fn carrying(
-        pass: Pass<N>,
-        seen: u32,
-        fresh: u32,
-        transaction: Option<Open>,
-        version: u32,
-    ) -> State<N>
-        ensures pass { result.pass ≡ pass }
-        ensures session { IsSession pass.words (max seen version) transaction → IsSession result.pass.words result.seen result.transaction }
-        ensures executes { (room : ℕ) (s : SessionState) (words : List ℕ) (st : StatementValue) (r : ReplyValue) → Executes room s (carried version (state_of pass seen fresh transaction)) words pass.words st r → Executes room s (state_of result.pass result.seen result.fresh result.transaction) words result.pass.words st r }
-    {
-        State {
-            pass,
-            seen: seen.max(version),
-            fresh,
-            transaction,
-        }
-    }
-}
+use std::thread::Threads;
 
 /// A session between its statements.
 #[derive(Drop)]
@@ -75,12 +26,14 @@ pub struct Session<N: Site> {
     state: Option<State<N>>,
     // What it knows for its next insertion of written rows.
     known: Known,
+    // How many workers decide the questions of its statements.
+    workers: Workers,
 }
 
 impl<N: Site> Model for Session<N> {
     ghost use Rattle.std.specs.Prelude.{option_map};
     ghost use Rattle.std.specs.Coded.{codes};
-    ghost use Rattle.ct_session.specs.contracts.session.Open as held;
+    ghost use Rattle.ct_transaction.specs.contracts.state.Open as held;
     ghost use Rattle.ct_session.specs.Standing.{Standing, IsThere, standing_of};
 
     ghost Value = { Standing };
@@ -93,9 +46,22 @@ impl<N: Site> Model for Session<N> {
 }
 
 impl<N: Site> Session<N> {
-    /// The session of a pass before its first statement. The pass has no commits of its own yet.
+    /// The session of a pass before its first statement. The pass has no commits of its own yet. One worker decides the
+    /// questions of its statements.
     pub fn make(pass: Pass<N>) -> Session<N>
         requires none { pass.mine ≡ 0 }
+        ensures { result ≡ record { pass = pass; seen = 0; fresh = 0; transaction = None } }
+    {
+        Session::with_workers(pass, 1)
+    }
+
+    /// The session that `make` makes, where so many workers decide the questions of a statement, from 1 to 16, each on a
+    /// thread of its own where one can be made. Which worlds stand beside possible rows may depend on their number, and
+    /// which of the right derivations beside certain ones.
+    pub fn with_workers(pass: Pass<N>, workers: u32) -> Session<N>
+        requires none { pass.mine ≡ 0 }
+        requires least { 1 ≤ workers }
+        requires most { workers ≤ 16 }
         ensures { result ≡ record { pass = pass; seen = 0; fresh = 0; transaction = None } }
     {
         Session {
@@ -106,6 +72,7 @@ impl<N: Site> Session<N> {
                 transaction: None,
             }),
             known: Known::nothing(),
+            workers: Workers::new(workers),
         }
     }
 
@@ -123,14 +90,14 @@ impl<N: Site> Session<N> {
     pub fn finish(self) -> Pass<N>
         ensures { result ≡ self.pass }
     {
-        let Session { state, known } = self;
+        let Session { state, known, .. } = self;
         drop(known);
         let Some(state) = state else { unreachable!() };
         state.pass
     }
 
-    /// Executes one statement text, and gives the reply to it. It waits for the server's lock. The session has fewer than
-    /// 2^18 commits.
+    /// Executes one statement text, and gives the reply to it. It waits for the server's lock and for its workers. The
+    /// session has fewer than 2^18 commits.
     ///
     /// The reply is
     /// - `Begun`, `RolledBack`, `Nothing` or `Committed` for BEGIN, ROLLBACK and COMMIT in their places;
@@ -149,7 +116,7 @@ impl<N: Site> Session<N> {
     ///
     /// The session makes at most as many words as the bound of the statement, by the counts of all rows that were ever
     /// inserted, and fewer where the log is full.
-    pub fn execute<R: Wait>(
+    pub fn execute<R: Threads + Wait + Sync>(
         &mut self,
         rt: &R,
         alloc: Global,
@@ -163,7 +130,9 @@ impl<N: Site> Session<N> {
         let Some(state) = self.state.take() else {
             unreachable!();
         };
-        let (state, reply) = executed(rt, alloc, server, state, &mut self.known, text);
+        let workers = self.workers;
+        let known = &mut self.known;
+        let (state, reply) = executed(rt, alloc, server, state, known, workers, text);
         self.state = Some(state);
         reply
     }

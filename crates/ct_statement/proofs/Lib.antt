@@ -5,6 +5,7 @@ pub mod Evaluating
 pub mod Printed
 pub mod Meaning
 pub mod Questions
+pub mod Sides
 pub mod KeptWorlds
 pub mod Members
 pub mod EachTerm

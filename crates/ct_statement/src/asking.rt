@@ -21,15 +21,16 @@ ghost use Rattle.ct_statement.specs.Unmet.{IsUnmet};
 
 use crate::refusing::{unanswered, unlisted};
 use crate::sight::Sight;
+use crate::workers::{Workers, possible};
 use ct_algebra::eval;
 use ct_arena::{Arena, Pass, Site};
-use ct_certain::possible;
 use ct_query::Query;
 use ct_rewrite::PossibleRow;
 use ct_table::CTable;
 use ct_transcript::Refusal;
 use ct_word::List;
 use std::alloc::Global;
+use std::thread::Threads;
 
 /// The table that answers a query under the global condition. The pass has the words of it.
 ///
@@ -63,17 +64,20 @@ pub(crate) fn answered<N: Site>(
     Ok(table)
 }
 
-/// The rows that a query has in some world, each with a world that shows it. The pass has the words of the questions.
+/// The rows that a query has in some world, each with a world that shows it, decided by so many workers. The pass has the
+/// words of the questions.
 ///
 /// # Errors
 /// `TooLarge` only where the query's size, by the counts of all rows that were ever inserted, is above 16,777,216; `Full`
 /// only where the log has no room; `Memory`.
-pub fn possible_rows<N: Site>(
+pub(crate) fn possible_rows<N: Site, R: Threads + Sync>(
+    rt: &R,
     alloc: Global,
     arena: &Arena<N>,
     pass: &mut Pass<N>,
     sight: &Sight,
     query: &Query,
+    workers: Workers,
 ) -> Result<List<PossibleRow>, Refusal>
     requires sight { IsSight pass.old.words sight.now }
     requires fits { Fits (schema (history_of pass.old.words sight.now) (actions_before sight.now)).tables (query_of query.now) }
@@ -89,7 +93,7 @@ pub fn possible_rows<N: Site>(
     };
     let _ = pass.words();
     let made = pass.made();
-    let list = match possible(alloc, arena, pass, &table, sight.global) {
+    let list = match possible(rt, alloc, arena, pass, &table, sight.global, workers) {
         Ok(list) => list,
         Err(e) => return Err(unlisted(e, made, pass.made())),
     };

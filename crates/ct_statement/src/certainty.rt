@@ -19,26 +19,29 @@ ghost use Rattle.ct_statement.specs.Unmet.{IsUnmet};
 use crate::asking::answered;
 use crate::refusing::unlisted;
 use crate::sight::Sight;
+use crate::workers::{Workers, certain};
 use ct_arena::{Arena, Pass, Site};
-use ct_certain::certain;
 use ct_query::Query;
 use ct_rewrite::CertainRow;
 use ct_transcript::Refusal;
 use ct_word::List;
 use std::alloc::Global;
+use std::thread::Threads;
 
-/// The tuples that a query has in every world, each with a refutation of its absence. The pass has the words of the
-/// questions, over which the refutations are accepted.
+/// The tuples that a query has in every world, each with a refutation of its absence, decided by so many workers. The pass has
+/// the words of the questions, over which the refutations are accepted.
 ///
 /// # Errors
 /// `TooLarge` only where the query's size, by the counts of all rows that were ever inserted, is above 16,777,216; `Full`
 /// only where the log has no room; `Memory`.
-pub fn certain_rows<N: Site>(
+pub(crate) fn certain_rows<N: Site, R: Threads + Sync>(
+    rt: &R,
     alloc: Global,
     arena: &Arena<N>,
     pass: &mut Pass<N>,
     sight: &Sight,
     query: &Query,
+    workers: Workers,
 ) -> Result<List<CertainRow>, Refusal>
     requires sight { IsSight pass.old.words sight.now }
     requires fits { Fits (schema (history_of pass.old.words sight.now) (actions_before sight.now)).tables (query_of query.now) }
@@ -54,7 +57,16 @@ pub fn certain_rows<N: Site>(
     };
     let _ = pass.words();
     let made = pass.made();
-    let listed = certain(alloc, arena, pass, &table, sight.global, &sight.kept);
+    let listed = certain(
+        rt,
+        alloc,
+        arena,
+        pass,
+        &table,
+        sight.global,
+        &sight.kept,
+        workers,
+    );
     // A session has made fewer than 2^28 words.
     let _ = pass.words();
     let list = match listed {

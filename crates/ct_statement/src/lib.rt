@@ -12,9 +12,11 @@ mod replying;
 mod selecting;
 mod sight;
 mod stepping;
+mod workers;
 
 pub use advancing::advance;
 pub use proposing::{Proposal, is_literal, propose, propose_literal};
 pub use replying::{Answered, answer_to};
 pub use sight::Sight;
 pub use stepping::{Step, step_of};
+pub use workers::Workers;

@@ -19,12 +19,14 @@ use crate::asking::possible_rows;
 use crate::certainty::certain_rows;
 use crate::selecting::answer_query;
 use crate::sight::Sight;
+use crate::workers::Workers;
 use ct_arena::{Arena, Pass, Site};
 use ct_query::{Ask, Query};
 use ct_rewrite::{CertainRow, PossibleRow};
 use ct_transcript::{Answer, Refusal};
 use ct_word::{List, Text};
 use std::alloc::Global;
+use std::thread::Threads;
 
 /// What a query is answered: its rows, or a list under the names of its columns.
 #[derive(Drop)]
@@ -40,13 +42,14 @@ pub enum Answered {
     },
 }
 
-/// What a query with these names of its columns is answered: its rows, the possible ones, or the certain tuples. The pass
-/// has the words of it.
+/// What a query with these names of its columns is answered: its rows, or the possible ones or the certain tuples, which so
+/// many workers decide. The pass has the words of it.
 ///
 /// # Errors
 /// `TooLarge` only where the query's size, by the counts of all rows that were ever inserted, is above 16,777,216; `Full`
 /// only where the log has no room, and the statement may need a word; `Memory`.
-pub fn answer_to<N: Site>(
+pub fn answer_to<N: Site, R: Threads + Sync>(
+    rt: &R,
     alloc: Global,
     arena: &Arena<N>,
     pass: &mut Pass<N>,
@@ -54,6 +57,7 @@ pub fn answer_to<N: Site>(
     kind: Ask,
     columns: List<Text>,
     query: &Query,
+    workers: Workers,
 ) -> Result<Answered, Refusal>
     requires sight { IsSight pass.old.words sight.now }
     requires fits { Fits (schema (history_of pass.old.words sight.now) (actions_before sight.now)).tables (query_of query.now) }
@@ -69,11 +73,11 @@ pub fn answer_to<N: Site>(
             Ok(answer) => Ok(Answered::Rows(answer)),
             Err(why) => Err(why),
         },
-        Ask::Possible => match possible_rows(alloc, arena, pass, sight, query) {
+        Ask::Possible => match possible_rows(rt, alloc, arena, pass, sight, query, workers) {
             Ok(list) => Ok(Answered::Possible { columns, list }),
             Err(why) => Err(why),
         },
-        Ask::Certain => match certain_rows(alloc, arena, pass, sight, query) {
+        Ask::Certain => match certain_rows(rt, alloc, arena, pass, sight, query, workers) {
             Ok(list) => Ok(Answered::Certain { columns, list }),
             Err(why) => Err(why),
         },

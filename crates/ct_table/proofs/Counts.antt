@@ -1,6 +1,6 @@
 -- The size of a query by the counts of its own tables.
 use Rattle.std.{proofs.Common.{◌≡◌, ℕ, ◌+◌, ◌*◌, Bool, true, false, List, [], ◌∷◌, ◌++◌, map, length, Some, max, refl, ap, sym, ◌∙◌, inl, inr}, specs.List.{fold, Contains}}
-use Rattle.std.{specs.Prelude.{◌⊎◌, if◌then◌else◌}, proofs.lemmas.List.{map-append, append_assoc}, proofs.lemmas.List.Elements.{Contains-append_left, Contains-append_right}}
+use Rattle.std.{specs.Prelude.{if◌then◌else◌}, proofs.lemmas.List.{map-append, append_assoc}, proofs.lemmas.List.Elements.{Contains-append_left, Contains-append_right}}
 use Rattle.std.proofs.lemmas.Bool.{false≢true}
 use Rattle.ct_word.{specs.Value.same_text, proofs.Alike.text_decides, proofs.Items.{first_item, no_item, item_cases}}
 use Rattle.ct_query.{specs.Plain.PlainQuery, specs.Size.{rows_in, row_bound, number, parts, size}, specs.Reads.tables_of, specs.declared.schema.Count.Count}

@@ -1,7 +1,7 @@
 -- Conditions put at their cells, one after another.
-use Rattle.std.proofs.Common.{◌≡◌, ℕ, zero, suc, ◌+◌, ◌<◌, Bool, true, false, not, List, [], ◌∷◌, ◌++◌, None, Some, cond, length, take, get_or, set, refl, ap, sym, subst, ◌∙◌, arith}
+use Rattle.std.proofs.Common.{◌≡◌, ℕ, zero, suc, ◌+◌, ◌<◌, ◌≤◌, Bool, true, false, not, List, [], ◌∷◌, ◌++◌, None, Some, cond, length, take, get_or, set, refl, ap, sym, subst, ◌∙◌, arith}
 use Rattle.std.{specs.Prelude.{◌≢◌, nat_eq, if◌then◌else◌, slice_get}, specs.List.filter, proofs.lemmas.Bool.ne_eqb, proofs.lemmas.Option.none-some}
-use Rattle.std.proofs.lemmas.List.{append-nil, append_assoc, take_more}
+use Rattle.std.proofs.lemmas.List.{append-nil, append_assoc, take_more, take-map, get_or-take, length-take-le}
 use Rattle.ct_word.{specs.declared.values.CRow.CRow, specs.Value.same_text, proofs.Alike.text_decides}
 use Rattle.ct_operators.specs.Merging.{rows_of, is_possible}
 use Rattle.ct_table.specs.Growing.{find, put, put_each, grown, entries_of, Apart, Fits}
@@ -155,6 +155,18 @@ rows_one_more (e ∷ es) zero p is = let same : p ≡ e = cc in λ i. record { c
 rows_one_more (e ∷ es) (suc n) p is =
     let more : suc (n + 1) ≡ suc n + 1 = omega arith in
     ap (λ l. record { cells = e.0; cond = e.1 } ∷ l) (rows_one_more es n p is) ∙ ap (λ k. take k (rows_of (e ∷ es))) more
+
+-- the row at a place
+pub row_found : (es : List (List ℕ × ℕ)) (n : ℕ) (r : CRow) → slice_get es n ≡ Some (r.cells, r.cond) → r ≡ get_or (rows_of es) n r
+row_found [] n r is = absurd (none-some (r.cells, r.cond) is)
+row_found (e ∷ es) zero r is = let same : (r.cells, r.cond) ≡ e = cc in λ i. record { cells = (same i).0; cond = (same i).1 }
+row_found (e ∷ es) (suc n) r is = row_found es n r is
+
+-- a row of the first ones
+pub row_of_first : (es : List (List ℕ × ℕ)) (n k : ℕ) (r : CRow) → n ≤ length es → k < length (take n es) → r ≡ get_or (rows_of es) k r → r ≡ get_or (rows_of (take n es)) k r
+row_of_first es n k r within lt is =
+    let one : List ℕ × ℕ → CRow = λ e. record { cells = e.0; cond = e.1 } in
+    is ∙ sym (get_or-take n (rows_of es) k r (omega (arith, lt, length-take-le n es within))) ∙ ap (λ (rs : List CRow). get_or rs k r) (take-map one n es)
 
 -- one more condition for the table
 pub grown_more : (p : List ℕ × ℕ) (ps es : List (List ℕ × ℕ)) → grown es (ps ++ p ∷ []) ≡ (if nat_eq p.1 1 then grown es ps else put (grown es ps) p.0 p.1)

@@ -10,7 +10,8 @@ mod sharing;
 mod stored;
 
 pub use ct_operators::{
-    CRow, CTable, TableError, delete, except, insert, intersect, product, project, select, union,
+    CRow, CTable, RowSource, TableError, delete, except, insert, intersect, product, project,
+    select, union,
 };
 pub use db::Db;
 pub use insertion::insertions;

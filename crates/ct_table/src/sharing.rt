@@ -1,14 +1,14 @@
 // The tables of a database: each is shared, and most have their rows found by their cells.
 
-ghost use Rattle.std.specs.Prelude.{◌≡◌, ◌≤◌, Ok, length, true, IfOk, IfSome, MatchOption, OnErr, OnOk, OnSome};
+ghost use Rattle.std.specs.Prelude.{◌≡◌, ◌≤◌, ◌<◌, Ok, get_or, length, true, IfOk, IfSome, MatchOption, OnErr, OnOk, OnSome};
 ghost use Rattle.std.specs.Arc.{arc_value};
 ghost use mathlib.Core.List.{IsPrefix};
 ghost use Rattle.ct_table.specs.Growing.{Apart, entries_of, grown, rows_after, table_of};
 ghost use Rattle.ct_table.specs.Shared.{body_of};
 
 use crate::stored::{Put, Stored};
-use ct_operators::CTable;
-use ct_word::{List, Text};
+use ct_operators::{CTable, RowSource};
+use ct_word::{CRow, List, Text};
 use std::alloc::{AllocError, Global};
 use std::marker::Model;
 use std::mem::replace;
@@ -123,6 +123,14 @@ impl Front {
         ensures { result ≡ length self.now.entries }
     {
         self.len
+    }
+
+    /// The row at a place, counted from 0.
+    fn row(&self, place: usize) -> &CRow
+        requires { place < length self.now.entries }
+        ensures { result.now ≡ get_or (table_of self.now).rows place result.now }
+    {
+        self.stored.row(place)
     }
 
     /// The table, in a copy that shares nothing.
@@ -293,5 +301,25 @@ impl Clone for SharedTable {
             Body::Keyed(front) => Body::Keyed(front.clone()?),
         };
         Ok(SharedTable { body })
+    }
+}
+
+/// The rows stand in the table, or in the parts that it shares.
+impl RowSource for SharedTable {
+    ghost table = { λ t. t };
+
+    fn columns(&self) -> &List<Text> {
+        self.columns()
+    }
+
+    fn len(&self) -> usize {
+        self.len()
+    }
+
+    fn row(&self, place: usize) -> &CRow {
+        match &self.body {
+            Body::Plain(table) => table.row(place),
+            Body::Keyed(front) => front.row(place),
+        }
     }
 }

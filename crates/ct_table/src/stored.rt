@@ -1,9 +1,10 @@
 // Tables whose rows are found by their cells, and which share them with their copies.
 
-ghost use Rattle.std.specs.Prelude.{◌≡◌, ◌<◌, ◌≤◌, ◌||◌, None, Some, is_none, length, nat_eq, slice_get, take, IfOk, IsTrue, OnOk};
+ghost use Rattle.std.specs.Prelude.{◌≡◌, ◌<◌, ◌≤◌, ◌||◌, None, Some, get_or, is_none, length, nat_eq, slice_get, take, IfOk, IsTrue, OnOk};
 ghost use Rattle.std.specs.List.{list_all};
 ghost use mathlib.Core.List.{IsPrefix};
 ghost use Rattle.std.specs.Arc.{arc_value};
+ghost use Rattle.ct_operators.specs.Merging.{rows_of};
 ghost use Rattle.ct_table.specs.Growing as spec;
 ghost use Rattle.ct_table.specs.Growing.{Keyed, Apart, entries_of, grown, table_with};
 
@@ -117,6 +118,14 @@ impl Stored {
         ensures { result ≡ length self.now.entries }
     {
         self.rows.len()
+    }
+
+    /// The row at a place, counted from 0.
+    pub(crate) fn row(&self, place: usize) -> &CRow
+        requires within { place < length self.now.entries }
+        ensures { result.now ≡ get_or (rows_of self.now.entries) place result.now }
+    {
+        self.rows.at(place)
     }
 
     /// The condition of the row with these cells.

@@ -178,7 +178,7 @@ impl Board {
     /// Looks at the added clauses, up to the first that is not true.
     ///
     /// # Errors
-    /// `Memory` where that one's position is 2^32 or more.
+    /// `Memory` where that one is false or a unit, at a position of 2^32 or more.
     pub fn scan(&self) -> Result<Scan, Memory>
         ensures { IfOk result (λ s. ScanOf (truths_now self.now) self.now.entries self.now.top s) }
     {

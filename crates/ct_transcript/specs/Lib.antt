@@ -1,4 +1,5 @@
 pub mod NodeText
+pub mod Owed
 pub mod Text
 pub mod Means
 pub mod Possible

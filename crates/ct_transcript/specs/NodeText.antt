@@ -4,7 +4,6 @@ use Rattle.std.specs.List.{join_by}
 use Rattle.ct_rewrite.specs.declared.answer.Node.{Node}
 use Rattle.ct_rewrite.specs.declared.answer.Node.TheVariants as node
 use Rattle.ct_rewrite.specs.Nodes.{children_of}
-use Rattle.ct_transcript.specs.declared.nodes.Printed.{Printed}
 use Rattle.ct_print.specs.TermText.{in_parentheses, term_text}
 
 -- a text and its line end
@@ -41,6 +40,12 @@ abbrev pub name_or : Option ℕ → List ℕ → List ℕ
 name_or (Some k) t = name_text k
 name_or None t = t
 
+-- a node as it is printed: its name, whether it is an And or Or, and its text
+pub record Printed : Type 0 where
+  pub name : Option ℕ
+  pub is_run : Bool
+  pub text : List ℕ
+
 -- a node where a row, a change or the global condition refers to it
 abbrev pub as_root : Option Printed → List ℕ
 as_root None = []
@@ -66,9 +71,13 @@ printed_after before (name ∷ names) (n ∷ ns) =
     printed_after (before ++ record { name = name; is_run = is_run n; text = node_text before n } ∷ []) names ns
 printed_after before _ _ = before
 
+-- a node list with these names as it is printed
+abbrev pub with_names : List Node → List (Option ℕ) → List Printed
+with_names nodes names = printed_after [] names nodes
+
 -- a node list as it is printed; roots are the references from outside the list
 abbrev pub printed : List Node → List ℕ → List Printed
-printed nodes roots = printed_after [] (names_of nodes roots) nodes
+printed nodes roots = with_names nodes (names_of nodes roots)
 
 -- the line of a node's name, where it has one
 abbrev pub name_line : Option ℕ → List ℕ → List (List ℕ)

@@ -16,9 +16,8 @@ use Rattle.ct_transcript.specs.declared.reply.Reply.TheVariants as reply
 use Rattle.ct_transcript.specs.declared.reply.Refusal.{Refusal}
 use Rattle.ct_transcript.specs.declared.reply.Refusal.TheVariants as refusal
 use Rattle.ct_transcript.specs.declared.reply.SessionLog.{SessionLog}
-use Rattle.ct_transcript.specs.declared.nodes.Printed.{Printed}
 use Rattle.ct_print.specs.TermText.{in_parentheses, with_commas, cells_text, tuple_text, world_text}
-use Rattle.ct_transcript.specs.NodeText.{line, printed, as_root, name_lines, unless_true, is_true_node, is_false_node}
+use Rattle.ct_transcript.specs.NodeText.{Printed, line, printed, as_root, name_lines, unless_true, is_true_node, is_false_node}
 
 -- a row's cells and its condition
 abbrev pub row_text : List Node → List Printed → AnswerRow → List ℕ

@@ -1,12 +1,13 @@
 // Commits as they are printed.
 
 ghost use Rattle.std.specs.Prelude.{◌≡◌, ◌+◌, ◌^◌, ◌≤◌, List, [], ◌∷◌, ◌++◌, map, flat_map, length, codes, IfOk};
-ghost use Rattle.ct_transcript.specs.NodeText.{line};
+ghost use Rattle.ct_transcript.specs.NodeText.{line, with_names};
 ghost use Rattle.ct_transcript.specs.Text.{references_of, change_text, change_lines, printed_commit, commit_lines, commits_from};
 ghost use Rattle.ct_print.specs.Written.{Appends, Adds};
 
-use crate::nodes::{Printed, print_nodes, push_root};
+use crate::nodes::names;
 use crate::rows::{push_conditions, push_line, push_name_lines, push_rows};
+use crate::writing::push_root;
 use ct_print::{push_names, push_text};
 use ct_rewrite::{Change, Commit, Node};
 use ct_word::{Memory, Text};
@@ -42,12 +43,13 @@ fn push_about(out: &mut String, verb: &str, name: &Text, after: &str) -> Result<
 }
 
 fn push_change(
+    alloc: Global,
     out: &mut String,
     nodes: &[Node],
-    printed: &[Printed],
+    names: &[Option<usize>],
     change: &Change,
 ) -> Result<(), Memory>
-    ensures { Appends result out.old out.new (change_text nodes.now printed.now change.now) }
+    ensures { Appends result out.old out.new (change_text nodes.now (with_names nodes.now names.now) change.now) }
 {
     match change {
         Change::Create { name, columns } => {
@@ -56,15 +58,15 @@ fn push_change(
         }
         Change::Insert { name, rows } => {
             push_about(out, "insert into ", name, " ")?;
-            push_rows(out, nodes, printed, rows.as_slice())
+            push_rows(alloc, out, nodes, names, rows.as_slice())
         }
         Change::Delete { name, cond } => {
             push_about(out, "delete from ", name, " where ")?;
-            push_root(out, printed, *cond)
+            push_root(alloc, out, nodes, names, *cond)
         }
         Change::Assert { cond } => {
             out.push_str("assert ")?;
-            push_root(out, printed, *cond)
+            push_root(alloc, out, nodes, names, *cond)
         }
     }
 }
@@ -73,13 +75,13 @@ fn push_change_line(
     alloc: Global,
     lines: &mut Vec<Text>,
     nodes: &[Node],
-    printed: &[Printed],
+    names: &[Option<usize>],
     change: &Change,
 ) -> Result<(), Memory>
-    ensures { Adds result lines.old lines.new (line (codes "  " ++ change_text nodes.now printed.now change.now) ∷ []) }
+    ensures { Adds result lines.old lines.new (line (codes "  " ++ change_text nodes.now (with_names nodes.now names.now) change.now) ∷ []) }
 {
     let mut text = String::from_str(alloc, "  ")?;
-    push_change(&mut text, nodes, printed, change)?;
+    push_change(alloc, &mut text, nodes, names, change)?;
     push_line(lines, text)
 }
 
@@ -87,22 +89,22 @@ fn push_change_lines(
     alloc: Global,
     lines: &mut Vec<Text>,
     nodes: &[Node],
-    printed: &[Printed],
+    names: &[Option<usize>],
     changes: &[Change],
 ) -> Result<(), Memory>
-    ensures { Adds result lines.old lines.new (change_lines nodes.now printed.now changes.now) }
+    ensures { Adds result lines.old lines.new (change_lines nodes.now (with_names nodes.now names.now) changes.now) }
 {
     for change in changes {
-        push_change_line(alloc, lines, nodes, printed, change)?;
+        push_change_line(alloc, lines, nodes, names, change)?;
     }
     Ok(())
 }
 
-fn print_commit(alloc: Global, commit: &Commit) -> Result<Vec<Printed>, Memory>
-    ensures { IfOk result (λ ps. ps.items ≡ printed_commit commit.now) }
+fn commit_names(alloc: Global, commit: &Commit) -> Result<Vec<Option<usize>>, Memory>
+    ensures { IfOk result (λ names. with_names commit.now.nodes names.items ≡ printed_commit commit.now) }
 {
     let references = commit_references(alloc, commit.changes.as_slice())?;
-    print_nodes(alloc, commit.nodes.as_slice(), &references)
+    names(alloc, commit.nodes.as_slice(), &references)
 }
 
 fn push_commit_lines(
@@ -110,20 +112,15 @@ fn push_commit_lines(
     lines: &mut Vec<Text>,
     m: usize,
     commit: &Commit,
-    printed: &[Printed],
+    names: &[Option<usize>],
 ) -> Result<(), Memory>
-    ensures { Adds result lines.old lines.new (commit_lines m commit.now printed.now) }
+    ensures { Adds result lines.old lines.new (commit_lines m commit.now (with_names commit.now.nodes names.now)) }
 {
     let session = commit.session;
     push_line(lines, format!(in alloc; "{m} by {session}")?)?;
-    push_name_lines(alloc, lines, printed)?;
-    push_change_lines(
-        alloc,
-        lines,
-        commit.nodes.as_slice(),
-        printed,
-        commit.changes.as_slice(),
-    )
+    let nodes = commit.nodes.as_slice();
+    push_name_lines(alloc, lines, nodes, names)?;
+    push_change_lines(alloc, lines, nodes, names, commit.changes.as_slice())
 }
 
 fn push_commit(
@@ -134,8 +131,8 @@ fn push_commit(
 ) -> Result<(), Memory>
     ensures { Adds result lines.old lines.new (commit_lines m commit.now (printed_commit commit.now)) }
 {
-    let printed = print_commit(alloc, commit)?;
-    push_commit_lines(alloc, lines, m, commit, &printed)
+    let names = commit_names(alloc, commit)?;
+    push_commit_lines(alloc, lines, m, commit, &names)
 }
 
 /// The lines of these commits, which are numbered from `first` on.

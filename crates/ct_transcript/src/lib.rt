@@ -12,6 +12,7 @@ mod reply;
 mod rows;
 mod sessions;
 mod transcript;
+mod writing;
 
 pub use ct_rewrite::{AnswerRow, CertainRow, Change, Commit, Node, PossibleRow};
 pub use history::lines_of_commits;

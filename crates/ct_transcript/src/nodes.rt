@@ -1,30 +1,18 @@
-// Node lists as they are printed.
+// Node lists, and the names of their nodes.
 
-ghost use Rattle.std.specs.Prelude.{◌≡◌, ℕ, ◌+◌, ◌<◌, ◌^◌, ◌&&◌, ◌++◌, if◌then◌else◌, nat_le, min, length, flat_map, slice_index, slice_get, option_copied, codes, string_bytes, IfOk, Some, None};
-ghost use Rattle.std.specs.List.{join_by};
+ghost use Rattle.std.specs.Prelude.{◌≡◌, ℕ, ◌+◌, ◌<◌, ◌^◌, ◌&&◌, ◌++◌, if◌then◌else◌, nat_le, min, length, flat_map, slice_index, slice_get, option_copied, take, IfOk, IfSome, IfNone, Some, None};
 ghost use Rattle.ct_rewrite.specs.Nodes.{children_of};
-ghost use Rattle.ct_print.specs.TermText.{term_text};
-ghost use Rattle.ct_transcript.specs.NodeText.{is_run, references_to, names_of, name_text, name_or, as_root, as_child, node_text, printed, is_true_node, is_false_node, unless_true};
-ghost use Rattle.ct_print.specs.Written.{Appends, separator_before};
+ghost use Rattle.ct_transcript.specs.NodeText.{is_run, references_to, names_of, with_names, is_true_node, is_false_node};
+ghost use Rattle.ct_transcript.specs.Owed.{printed_at};
 
-use ct_print::{push_separator, push_term, push_text};
 use ct_rewrite::Node;
-use ct_word::{Memory, Term, Text};
+use ct_word::Memory;
 use std::alloc::Global;
-use std::fmt::Write;
 
-/// A node as it is printed: its name, whether it is an And or Or, and its text.
-#[derive(Drop)]
-pub(crate) struct Printed {
-    pub name: Option<usize>,
-    pub is_run: bool,
-    pub text: Text,
-}
-
-fn at<T>(items: &[T], k: u32) -> Option<&T>
+fn at<T>(items: &[T], k: usize) -> Option<&T>
     ensures { option_copied result ≡ slice_get items.now k }
 {
-    items.get(k as usize)
+    items.get(k)
 }
 
 fn is_run(node: &Node) -> bool
@@ -77,7 +65,12 @@ fn next_name(is_needed: bool, named: &mut usize) -> Option<usize>
     Some(*named)
 }
 
-fn names(alloc: Global, nodes: &[Node], roots: &[u32]) -> Result<Vec<Option<usize>>, Memory>
+/// The names of the nodes. `roots` are the references from outside the list.
+pub(crate) fn names(
+    alloc: Global,
+    nodes: &[Node],
+    roots: &[u32],
+) -> Result<Vec<Option<usize>>, Memory>
     ensures { IfOk result (λ names. names.items ≡ names_of nodes.now roots.now) }
 {
     let counts = count_references(alloc, nodes, roots)?;
@@ -90,150 +83,29 @@ fn names(alloc: Global, nodes: &[Node], roots: &[u32]) -> Result<Vec<Option<usiz
     Ok(names)
 }
 
-fn push_name(out: &mut String, name: usize) -> Result<(), Memory>
-    ensures { Appends result out.old out.new (name_text name) }
+/// The node at a position, and its name where it has one.
+pub(crate) fn named_at<'a>(
+    nodes: &'a [Node],
+    names: &[Option<usize>],
+    k: usize,
+) -> Option<(&'a Node, Option<usize>)>
+    ensures none { IfNone result (slice_get (with_names nodes.now names.now) k ≡ None) }
+    ensures node { IfSome result (λ found. slice_get nodes.now k ≡ Some found.0.now) }
+    ensures printed { IfSome result (λ found. slice_get (with_names nodes.now names.now) k ≡ Some (printed_at (with_names nodes.now names.now) k found.1 found.0.now)) }
 {
-    write!(out, "[{name}]")?;
-    Ok(())
-}
-
-fn push_as_root(out: &mut String, node: &Printed) -> Result<(), Memory>
-    ensures { Appends result out.old out.new (as_root (Some node.now)) }
-{
-    match node.name {
-        Some(name) => push_name(out, name),
-        None => push_text(out, node.text.as_str()),
-    }
-}
-
-fn push_as_child(out: &mut String, node: &Printed) -> Result<(), Memory>
-    ensures { Appends result out.old out.new (as_child (Some node.now)) }
-{
-    match node.name {
-        Some(name) => push_name(out, name),
-        None if node.is_run => {
-            out.push_str("(")?;
-            out.push_str(node.text.as_str())?;
-            push_text(out, ")")
-        }
-        None => push_text(out, node.text.as_str()),
-    }
-}
-
-/// Appends the condition at a position as rows, changes and the global condition refer to it.
-pub(crate) fn push_root(out: &mut String, printed: &[Printed], k: u32) -> Result<(), Memory>
-    ensures { Appends result out.old out.new (as_root (slice_get printed.now k)) }
-{
-    match at(printed, k) {
-        Some(node) => push_as_root(out, node),
-        None => Ok(()),
-    }
-}
-
-fn push_child(out: &mut String, before: &[Printed], k: u32) -> Result<(), Memory>
-    ensures { Appends result out.old out.new (as_child (slice_get before.now k)) }
-{
-    match at(before, k) {
-        Some(node) => push_as_child(out, node),
-        None => Ok(()),
-    }
-}
-
-fn push_children(
-    out: &mut String,
-    before: &[Printed],
-    children: &[u32],
-    separator: &str,
-) -> Result<(), Memory>
-    ensures { Appends result out.old out.new (join_by (λ k. as_child (slice_get before.now k)) separator.now children.now) }
-{
-    for (i, k) in children.iter().enumerate() {
-        push_separator(out, i, separator)?;
-        push_child(out, before, *k)?;
-    }
-    Ok(())
-}
-
-fn push_leaf(out: &mut String, left: &Term, sign: &str, right: &Term) -> Result<(), Memory>
-    ensures { Appends result out.old out.new (term_text left.now ++ sign.now ++ term_text right.now) }
-{
-    push_term(out, left)?;
-    out.push_str(sign)?;
-    push_term(out, right)
-}
-
-fn push_node(out: &mut String, before: &[Printed], node: &Node) -> Result<(), Memory>
-    ensures { Appends result out.old out.new (node_text before.now node.now) }
-{
-    match node {
-        Node::True => push_text(out, "true"),
-        Node::False => push_text(out, "false"),
-        Node::Eq(s, t) => push_leaf(out, s, " = ", t),
-        Node::Ne(s, t) => push_leaf(out, s, " <> ", t),
-        Node::And(ks) => push_children(out, before, ks.as_slice(), " and "),
-        Node::Or(ks) => push_children(out, before, ks.as_slice(), " or "),
-    }
-}
-
-fn print_node(
-    alloc: Global,
-    before: &[Printed],
-    name: Option<usize>,
-    node: &Node,
-) -> Result<Printed, Memory>
-    ensures { IfOk result (λ p. p ≡ record { name = name; is_run = is_run node.now; text = node_text before.now node.now }) }
-{
-    let mut text = String::new(alloc);
-    push_node(&mut text, before, node)?;
-    Ok(Printed {
-        name,
-        is_run: is_run(node),
-        text: Text::from_string(text),
-    })
-}
-
-/// The nodes as they are printed. `roots` are the references from outside the list.
-pub(crate) fn print_nodes(
-    alloc: Global,
-    nodes: &[Node],
-    roots: &[u32],
-) -> Result<Vec<Printed>, Memory>
-    ensures { IfOk result (λ ps. ps.items ≡ printed nodes.now roots.now) }
-{
-    let names = names(alloc, nodes, roots)?;
-    let mut printed = Vec::new(alloc);
-    for (i, node) in nodes.iter().enumerate() {
-        let next = print_node(alloc, &printed, names[i], node)?;
-        printed.push(next)?;
-    }
-    Ok(printed)
+    let node = at(nodes, k)?;
+    let name = at(names, k)?;
+    Some((node, *name))
 }
 
 pub(crate) fn is_true(nodes: &[Node], k: u32) -> bool
     ensures { result ≡ is_true_node (slice_get nodes.now k) }
 {
-    matches!(at(nodes, k), Some(Node::True))
+    matches!(at(nodes, k as usize), Some(Node::True))
 }
 
 pub(crate) fn is_false(nodes: &[Node], k: u32) -> bool
     ensures { result ≡ is_false_node (slice_get nodes.now k) }
 {
-    matches!(at(nodes, k), Some(Node::False))
-}
-
-/// Appends the word and the condition at a position, nothing where it is True.
-pub(crate) fn push_unless_true(
-    out: &mut String,
-    nodes: &[Node],
-    printed: &[Printed],
-    word: &str,
-    k: u32,
-) -> Result<(), Memory>
-    ensures { Appends result out.old out.new (unless_true nodes.now printed.now word.now k) }
-{
-    if is_true(nodes, k) {
-        return Ok(());
-    }
-    out.push_str(word)?;
-    push_root(out, printed, k)
+    matches!(at(nodes, k as usize), Some(Node::False))
 }

@@ -1,14 +1,15 @@
 // Replies as they are printed.
 
 ghost use Rattle.std.specs.Prelude.{◌≡◌, ◌+◌, ◌<◌, ◌^◌, not, List, [], ◌∷◌, ◌++◌, map, filter, slice_get, codes, string_bytes, IfOk};
-ghost use Rattle.ct_transcript.specs.NodeText.{line, is_false_node};
+ghost use Rattle.ct_transcript.specs.NodeText.{line, is_false_node, with_names};
 ghost use Rattle.ct_transcript.specs.Text.{row_text, plus_text, head_text, global_lines, answer_row_lines, printed_answer, answer_lines, refusal_name, read_text, conflict_text, refusal_rest, reply_lines, numbered, replies_from};
 ghost use Rattle.ct_print.specs.Written.{Appends, Adds};
 
 use crate::listed::{push_certain_rows, push_possible_rows};
-use crate::nodes::{Printed, is_false, is_true, print_nodes, push_root};
+use crate::nodes::{is_false, is_true, names};
 use crate::reply::{Answer, Refusal, Reply};
 use crate::rows::{push_conditions, push_line, push_name_lines, push_row};
+use crate::writing::push_root;
 use ct_print::{push_names, push_text};
 use ct_query::Read;
 use ct_rewrite::{AnswerRow, Node};
@@ -39,16 +40,16 @@ fn push_global_line(
     alloc: Global,
     lines: &mut Vec<Text>,
     nodes: &[Node],
-    printed: &[Printed],
+    names: &[Option<usize>],
     k: u32,
 ) -> Result<(), Memory>
-    ensures { Adds result lines.old lines.new (global_lines nodes.now printed.now k) }
+    ensures { Adds result lines.old lines.new (global_lines nodes.now (with_names nodes.now names.now) k) }
 {
     if is_true(nodes, k) {
         return Ok(());
     }
     let mut text = String::from_str(alloc, "  worlds where ")?;
-    push_root(&mut text, printed, k)?;
+    push_root(alloc, &mut text, nodes, names, k)?;
     push_line(lines, text)
 }
 
@@ -56,13 +57,13 @@ fn push_row_line(
     alloc: Global,
     lines: &mut Vec<Text>,
     nodes: &[Node],
-    printed: &[Printed],
+    names: &[Option<usize>],
     row: &AnswerRow,
 ) -> Result<(), Memory>
-    ensures { Adds result lines.old lines.new (line (codes "  " ++ row_text nodes.now printed.now row.now) ∷ []) }
+    ensures { Adds result lines.old lines.new (line (codes "  " ++ row_text nodes.now (with_names nodes.now names.now) row.now) ∷ []) }
 {
     let mut text = String::from_str(alloc, "  ")?;
-    push_row(&mut text, nodes, printed, row)?;
+    push_row(alloc, &mut text, nodes, names, row)?;
     push_line(lines, text)
 }
 
@@ -70,14 +71,14 @@ fn push_row_lines(
     alloc: Global,
     lines: &mut Vec<Text>,
     nodes: &[Node],
-    printed: &[Printed],
+    names: &[Option<usize>],
     rows: &[AnswerRow],
 ) -> Result<(), Memory>
-    ensures { Adds result lines.old lines.new (answer_row_lines nodes.now printed.now rows.now) }
+    ensures { Adds result lines.old lines.new (answer_row_lines nodes.now (with_names nodes.now names.now) rows.now) }
 {
     for row in rows {
         if !is_false(nodes, row.cond) {
-            push_row_line(alloc, lines, nodes, printed, row)?;
+            push_row_line(alloc, lines, nodes, names, row)?;
         }
     }
     Ok(())
@@ -92,32 +93,32 @@ fn answer_references(alloc: Global, answer: &Answer) -> Result<Vec<u32>, Memory>
     Ok(references)
 }
 
-fn print_answer(alloc: Global, answer: &Answer) -> Result<Vec<Printed>, Memory>
-    ensures { IfOk result (λ ps. ps.items ≡ printed_answer answer.now) }
+fn answer_names(alloc: Global, answer: &Answer) -> Result<Vec<Option<usize>>, Memory>
+    ensures { IfOk result (λ names. with_names answer.now.nodes names.items ≡ printed_answer answer.now) }
 {
     let references = answer_references(alloc, answer)?;
-    print_nodes(alloc, answer.nodes.as_slice(), &references)
+    names(alloc, answer.nodes.as_slice(), &references)
 }
 
 fn push_answer_lines(
     alloc: Global,
     lines: &mut Vec<Text>,
     answer: &Answer,
-    printed: &[Printed],
+    names: &[Option<usize>],
 ) -> Result<(), Memory>
-    ensures { Adds result lines.old lines.new (answer_lines answer.now printed.now) }
+    ensures { Adds result lines.old lines.new (answer_lines answer.now (with_names answer.now.nodes names.now)) }
 {
     let nodes = answer.nodes.as_slice();
-    push_name_lines(alloc, lines, printed)?;
-    push_global_line(alloc, lines, nodes, printed, answer.global)?;
-    push_row_lines(alloc, lines, nodes, printed, answer.rows.as_slice())
+    push_name_lines(alloc, lines, nodes, names)?;
+    push_global_line(alloc, lines, nodes, names, answer.global)?;
+    push_row_lines(alloc, lines, nodes, names, answer.rows.as_slice())
 }
 
 fn push_answer(alloc: Global, lines: &mut Vec<Text>, answer: &Answer) -> Result<(), Memory>
     ensures { Adds result lines.old lines.new (answer_lines answer.now (printed_answer answer.now)) }
 {
-    let printed = print_answer(alloc, answer)?;
-    push_answer_lines(alloc, lines, answer, &printed)
+    let names = answer_names(alloc, answer)?;
+    push_answer_lines(alloc, lines, answer, &names)
 }
 
 /// The name of a refusal, as a transcript prints it.

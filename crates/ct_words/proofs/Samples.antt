@@ -3,21 +3,33 @@ use Rattle.std.proofs.Common.{◌≡◌, true, false, [], ◌∷◌, Some, None,
 use Rattle.clap.proofs.OnLiterals.{clap_on_literals}
 use Rattle.ct_words.{specs.Numbers.number_of, specs.Commands.{run_app, fill_app, check_app, prove_app, import_app, export_app, found}, specs.Asked.{run, fill, check, prove, import, export, task}}
 
-a_run : task (codes "run" ∷ codes "f" ∷ codes "g" ∷ []) ≡ Some (run 262144 (codes "f" ∷ codes "g" ∷ []) false)
+a_run : task (codes "run" ∷ codes "f" ∷ codes "g" ∷ []) ≡ Some (run 262144 (codes "f" ∷ codes "g" ∷ []) false 1)
 unfolding clap_on_literals number_of run_app found
 a_run = refl
 
-a_capacity : task (codes "run" ∷ codes "--arena" ∷ codes "0000064" ∷ codes "f" ∷ []) ≡ Some (run 64 (codes "f" ∷ []) false)
+a_capacity : task (codes "run" ∷ codes "--arena" ∷ codes "0000064" ∷ codes "f" ∷ []) ≡ Some (run 64 (codes "f" ∷ []) false 1)
 unfolding clap_on_literals number_of run_app found
 a_capacity = refl
 
-a_first : task (codes "run" ∷ codes "--first" ∷ codes "f" ∷ codes "g" ∷ []) ≡ Some (run 262144 (codes "f" ∷ codes "g" ∷ []) true)
+a_first : task (codes "run" ∷ codes "--first" ∷ codes "f" ∷ codes "g" ∷ []) ≡ Some (run 262144 (codes "f" ∷ codes "g" ∷ []) true 1)
 unfolding clap_on_literals number_of run_app found
 a_first = refl
 
 first_twice : task (codes "run" ∷ codes "--first" ∷ codes "--first" ∷ codes "f" ∷ []) ≡ None
 unfolding clap_on_literals number_of run_app found
 first_twice = refl
+
+workers : task (codes "run" ∷ codes "f" ∷ codes "--workers" ∷ codes "04" ∷ codes "--arena" ∷ codes "64" ∷ []) ≡ Some (run 64 (codes "f" ∷ []) false 4)
+unfolding clap_on_literals number_of run_app found
+workers = refl
+
+no_worker : task (codes "run" ∷ codes "--workers" ∷ codes "0" ∷ codes "f" ∷ []) ≡ None
+unfolding clap_on_literals number_of run_app found
+no_worker = refl
+
+many_workers : task (codes "run" ∷ codes "--workers" ∷ codes "17" ∷ codes "f" ∷ []) ≡ None
+unfolding clap_on_literals number_of run_app found
+many_workers = refl
 
 a_fill : task (codes "fill" ∷ codes "2000" ∷ []) ≡ Some (fill 2000)
 unfolding clap_on_literals number_of fill_app found
@@ -27,7 +39,7 @@ small_capacity : task (codes "run" ∷ codes "--arena" ∷ codes "63" ∷ codes 
 unfolding clap_on_literals number_of run_app found
 small_capacity = refl
 
-a_large_log : task (codes "run" ∷ codes "--arena" ∷ codes "4194304" ∷ codes "f" ∷ []) ≡ Some (run 4194304 (codes "f" ∷ []) false)
+a_large_log : task (codes "run" ∷ codes "--arena" ∷ codes "4194304" ∷ codes "f" ∷ []) ≡ Some (run 4194304 (codes "f" ∷ []) false 1)
 unfolding clap_on_literals number_of run_app found
 a_large_log = refl
 

@@ -10,10 +10,11 @@ use Rattle.ct_words.specs.Commands.{run_app, fill_app, check_app, prove_app, imp
 use Rattle.ct_words.specs.declared.task.Asked.{Asked}
 use Rattle.ct_words.specs.declared.task.Asked.TheVariants as asked
 
--- a run of these files on a log of this capacity, where the first file's session may have to end before the others; scripts to generate with this number, a certificate to check, that of a
+-- a run of these files on a log of this capacity, where the first file's session may have to end before the others, and with
+-- so many workers; scripts to generate with this number, a certificate to check, that of a
 -- reply to a script, a script for the table with this name of a CSV file, or a table with this name after a script
 pub data Task : Type 0 where
-  run : (capacity : ℕ) (files : List Text) (is_first_alone : Bool) → Task
+  run : (capacity : ℕ) (files : List Text) (is_first_alone : Bool) (workers : ℕ) → Task
   fill : (number : ℕ) → Task
   check : (file : Text) → Task
   prove : (reply : ℕ) (file : Text) → Task
@@ -26,7 +27,7 @@ texts_of words = map (λ word. word.now) words
 
 -- what a value asks for
 abbrev pub task_of : Asked → Task
-task_of (asked.Run capacity files alone) = run capacity (texts_of files.items) alone
+task_of (asked.Run capacity files alone workers) = run capacity (texts_of files.items) alone workers
 task_of (asked.Fill number) = fill number
 task_of (asked.Check file) = check file.now
 task_of (asked.Prove reply file) = prove reply file.now
@@ -43,19 +44,20 @@ abbrev pub files_most : ℕ → ℕ
 files_most capacity = if nat_le capacity 1048576 then 64 else 16
 
 -- a run of one file up to so many
-abbrev pub run_of_files : ℕ → Bool → List Text → Option Task
-run_of_files capacity alone files =
-    if is_within 1 (files_most capacity) (length files) then Some (run capacity files alone) else None
+abbrev pub run_of_files : ℕ → Bool → ℕ → List Text → Option Task
+run_of_files capacity alone workers files =
+    if is_within 1 (files_most capacity) (length files) then Some (run capacity files alone workers) else None
 
--- the run that a capacity, the flag and files spell
-abbrev pub run_of : Option Text → Option Text → Option (List Text) → Option Task
-run_of arena first files =
-    option_and_then (λ capacity. option_and_then (run_of_files capacity (is_set first)) files)
-    (option_and_then (number_within 64 4194304) arena)
+-- the run that a capacity, the flag, a number of workers and files spell
+abbrev pub run_of : Option Text → Option Text → Option Text → Option (List Text) → Option Task
+run_of arena first workers files =
+    option_and_then (λ capacity. option_and_then (λ count. option_and_then (run_of_files capacity (is_set first) count) files)
+    (option_and_then (number_within 1 16) workers)) (option_and_then (number_within 64 4194304) arena)
 
 -- the run by what was found for the arguments of its command
 abbrev pub run_by : List Row → Option Task
-run_by rows = run_of (first_of (codes "arena") rows) (first_of (codes "first") rows) (all_of (codes "file") rows)
+run_by rows =
+    run_of (first_of (codes "arena") rows) (first_of (codes "first") rows) (first_of (codes "workers") rows) (all_of (codes "file") rows)
 
 -- the fill that a number spells
 abbrev pub fill_of : Option Text → Option Task

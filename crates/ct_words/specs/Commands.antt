@@ -1,5 +1,5 @@
--- The commands `run [--arena N] [--first] FILE...`, `fill N`, `check FILE`, `prove K FILE`, `import NAME CSV FILE`
--- and `export NAME FILE`, as the crate clap defines what they take.
+-- The commands `run [--arena N] [--first] [--workers N] FILE...`, `fill N`, `check FILE`, `prove K FILE`,
+-- `import NAME CSV FILE` and `export NAME FILE`, as the crate clap defines what they take.
 use Rattle.std.specs.Prelude.{List, [], ◌∷◌, Option, Some, None, true, codes, option_map}
 use Rattle.clap.specs.Words.{App, Kinds, Row, Rule, Text, fault_of, found_of, matches_of, new_app, new_rule, rows_of, with_rule}
 use Rattle.clap.specs.declared.builder.ArgAction.TheVariants.{Set, Append, SetTrue}
@@ -16,6 +16,14 @@ arena = record (new_rule (codes "arena")) {
 -- the flag that lets the first file's session come to its end before the others begin
 abbrev pub first : Rule
 first = record (new_rule (codes "first")) { long = Some (codes "first"); action = Some SetTrue }
+
+-- the option with the number of workers
+abbrev pub workers : Rule
+workers = record (new_rule (codes "workers")) {
+  long = Some (codes "workers");
+  action = Some Set;
+  defaults = codes "1" ∷ [];
+}
 
 -- the files to run
 abbrev pub file : Rule
@@ -40,7 +48,7 @@ plain name = let a = new_app name in record a {
 }
 
 unfoldable pub run_app : App
-run_app = with_rule (with_rule (with_rule (plain (codes "run")) arena) first) file
+run_app = with_rule (with_rule (with_rule (with_rule (plain (codes "run")) arena) first) workers) file
 
 unfoldable pub fill_app : App
 fill_app = with_rule (plain (codes "fill")) (one (codes "n"))

@@ -21,6 +21,9 @@ const CAPACITY_LEAST: u32 = 64;
 /// The most words of 64 bits that a log can have.
 const CAPACITY_MOST: u32 = 4_194_304;
 
+/// The most workers of a statement.
+const WORKERS_MOST: u32 = 16;
+
 /// The most words of a log that is shared by as many sessions as a run can have.
 const CAPACITY_SHARED: u32 = 1_048_576;
 
@@ -66,14 +69,21 @@ fn run_of<'a>(
     alloc: Global,
     arena: Option<&str>,
     first: Option<&str>,
+    workers: Option<&str>,
     files: Option<&[&'a str]>,
 ) -> Result<Option<Asked<'a>>, Memory>
-    ensures { IfOk result (λ asked. option_map task_of asked ≡ run_of (option_map (λ s. s.now) arena.entry) (option_map (λ s. s.now) first.entry) (option_map (λ s. texts_of s.now) files.entry)) }
+    ensures { IfOk result (λ asked. option_map task_of asked ≡ run_of (option_map (λ s. s.now) arena.entry) (option_map (λ s. s.now) first.entry) (option_map (λ s. s.now) workers.entry) (option_map (λ s. texts_of s.now) files.entry)) }
 {
     let Some(arena) = arena else {
         return Ok(None);
     };
     let Some(capacity) = number_within(arena, CAPACITY_LEAST, CAPACITY_MOST) else {
+        return Ok(None);
+    };
+    let Some(workers) = workers else {
+        return Ok(None);
+    };
+    let Some(workers) = number_within(workers, 1, WORKERS_MOST) else {
         return Ok(None);
     };
     let Some(files) = files else {
@@ -87,6 +97,7 @@ fn run_of<'a>(
         capacity,
         files,
         is_first_alone: is_set(first),
+        workers,
     }))
 }
 
@@ -173,12 +184,9 @@ fn run_by<'a>(alloc: Global, matches: &ArgMatches<'a>) -> Result<Option<Asked<'a
     ensures { IfOk result (λ asked. option_map task_of asked ≡ run_by (rows_of (found_of matches.now))) }
 {
     let first = matches.get_str("first");
-    run_of(
-        alloc,
-        matches.get_str("arena"),
-        first,
-        matches.get_strs("file"),
-    )
+    let workers = matches.get_str("workers");
+    let files = matches.get_strs("file");
+    run_of(alloc, matches.get_str("arena"), first, workers, files)
 }
 
 fn fill_by<'a>(matches: &ArgMatches<'a>) -> Option<Asked<'a>>

@@ -3,7 +3,7 @@
 ghost use Rattle.std.specs.Prelude.{◌≡◌, IfOk, false, true};
 ghost use Rattle.clap.specs.Words.{app_of, rule_of, is_simple_and_free};
 ghost use Rattle.ct_words.specs.Asked.{texts_of};
-ghost use Rattle.ct_words.specs.Commands.{run_app, fill_app, check_app, prove_app, import_app, export_app, arena, first, file, one, plain, rows_in};
+ghost use Rattle.ct_words.specs.Commands.{run_app, fill_app, check_app, prove_app, import_app, export_app, arena, first, workers, file, one, plain, rows_in};
 ghost use Rattle.ct_words.specs.Commands as commands;
 
 use clap::error::ErrorKind;
@@ -28,6 +28,16 @@ fn first_arg<'a>(alloc: Global) -> Arg<'a>
     Arg::new(alloc, "first")
         .long("first")
         .action(ArgAction::SetTrue)
+}
+
+fn workers_arg<'a>(alloc: Global) -> Arg<'a>
+    ensures rule { rule_of result ≡ workers }
+    ensures local { result.global ≡ false }
+{
+    Arg::new(alloc, "workers")
+        .long("workers")
+        .action(ArgAction::Set)
+        .default_value("1")
 }
 
 fn file_arg<'a>(alloc: Global) -> Arg<'a>
@@ -56,7 +66,7 @@ fn plain_command<'a>(alloc: Global, name: &'a str) -> Command<'a>
         .disable_version_flag(true)
 }
 
-/// The command of `run [--arena N] [--first] FILE...`.
+/// The command of `run [--arena N] [--first] [--workers N] FILE...`.
 ///
 /// # Errors
 /// `Memory` where there is none for the command.
@@ -66,7 +76,8 @@ pub(crate) fn run_command<'a>(alloc: Global) -> Result<Command<'a>, Memory>
     let plain = plain_command(alloc, "run");
     let with_arena = plain.arg(arena_arg(alloc))?;
     let with_first = with_arena.arg(first_arg(alloc))?;
-    let command = with_first.arg(file_arg(alloc))?;
+    let with_workers = with_first.arg(workers_arg(alloc))?;
+    let command = with_workers.arg(file_arg(alloc))?;
     Ok(command)
 }
 

@@ -1,4 +1,4 @@
-//! The words of the command line: `run [--arena N] [--first] FILE...`, `fill N`, `check FILE`, `prove K FILE`,
+//! The words of the command line: `run [--arena N] [--first] [--workers N] FILE...`, `fill N`, `check FILE`, `prove K FILE`,
 //! `import NAME CSV FILE` and `export NAME FILE`.
 //!
 //! `asked` is the whole of it. What the words ask for is `task` in `specs/Asked.antt`.

@@ -13,6 +13,8 @@ pub enum Asked<'a> {
         files: Vec<&'a str>,
         /// Whether the session of the first file comes to its end before the others begin.
         is_first_alone: bool,
+        /// How many workers decide the questions of a statement: 1 to 16.
+        workers: u32,
     },
     /// The sessions of generated scripts.
     Fill {

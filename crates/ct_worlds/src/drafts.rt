@@ -220,7 +220,8 @@ fn new_number(draft: &mut Draft, next: &mut u32) -> Result<Option<usize>, Memory
     Ok(None)
 }
 
-/// Gives the two sides of an equality that is to be false different values; false where that cannot be.
+/// Gives the two sides of an equality that is to be false different values, but where they are in one class, which is not looked
+/// for; false where both values are fixed, or no new value is left.
 fn part(draft: &mut Draft, link: Link, next: &mut u32) -> Result<bool, Memory>
     ensures values { OnOk result (Adds (IsFrom next.old) draft.old.values.keys draft.new.values.keys) }
     ensures next { OnOk result (next.old ≤ next.new) }
@@ -241,8 +242,8 @@ fn part(draft: &mut Draft, link: Link, next: &mut u32) -> Result<bool, Memory>
     Ok(true)
 }
 
-/// Gives the two sides of each equality that is to be false different values, the new ones `@k` from this k on; false where
-/// that cannot be.
+/// Gives the two sides of each equality that is to be false different values, the new ones `@k` from this k on, but where they
+/// are in one class; false where one cannot get another value.
 fn part_all(draft: &mut Draft, links: &[Link], from: u32) -> Result<bool, Memory>
     ensures values { OnOk result (Adds (IsFrom from) draft.old.values.keys draft.new.values.keys) }
     ensures nulls { draft.new.nulls.keys ≡ draft.old.nulls.keys }
@@ -281,8 +282,8 @@ fn pairs_of(alloc: Global, draft: &Draft) -> Result<Vec<(Null, Value)>, Memory>
     Ok(pairs)
 }
 
-/// Gives each null of the wishes a value with which they come true: a constant of theirs, `@0`, or `@k` from this k on; false where
-/// that cannot be.
+/// Gives each null of the wishes a value, with which they come true but for sides of one class that are to differ: a constant of
+/// theirs, `@0`, or `@k` from this k on; false where two values clash.
 #[tactic(auto, using(crate::proofs::Drawing::adds_numbers, crate::proofs::Drawing::adds_still))]
 fn fulfil(
     alloc: Global,
@@ -319,8 +320,8 @@ fn blank(alloc: Global, count: usize) -> Result<Draft, Memory>
     })
 }
 
-/// A world like another one in which wishes come true; its new values are constants of theirs, `@0`, and `@k` from this k on. None
-/// where one cannot.
+/// A world like another one, made so that wishes come true; whether they do is to be tried. Its new values are constants of theirs,
+/// `@0`, and `@k` from this k on. None where two values clash.
 pub(crate) fn drawn(
     alloc: Global,
     words: &[u64],

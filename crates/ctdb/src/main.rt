@@ -1,5 +1,6 @@
-//! `ctdb run [--arena N] [--first] FILE...` runs a session for each script, and writes their transcript: every reply, then the
-//! history of commits. `ctdb fill N` runs four scripts that it makes, and writes what their sessions were answered in one line each.
+//! `ctdb run [--arena N] [--first] [--workers N] FILE...` runs a session for each script, and writes their transcript: every
+//! reply, then the history of commits. `ctdb fill N` runs four scripts that it makes, and writes what their sessions were
+//! answered in one line each.
 //! `ctdb prove K FILE` writes the certificate of reply K to a script, and `ctdb check FILE` judges a certificate.
 //! `ctdb import NAME CSV FILE` runs a script behind that of a table that is in CSV, and `ctdb export NAME FILE` writes a table
 //! after a script to CSV.
@@ -11,7 +12,7 @@ use crate::saying::say;
 use anyhow::Result;
 use ct_outside::{FileScripts, Gate, NoGate, Scripts, StdSink};
 use ct_progress::{CountGate, CountedScripts};
-use ct_serve::{Run, Status, notes, remarks, run};
+use ct_run::{Run, Status, notes, remarks, run};
 use ct_words::{Asked, asked};
 use std::alloc::Global;
 use std::env;

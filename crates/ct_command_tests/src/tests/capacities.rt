@@ -3,7 +3,7 @@
 use crate::tests::memory::{ends, faultless, is_ended, run_with};
 use crate::tests::runs::EMPTY;
 use ct_outside::NoGate;
-use ct_serve::Status;
+use ct_run::Status;
 use std::alloc::{AllocError, Global};
 use std::process::Abort;
 use std::sync::Wait;

@@ -2,7 +2,7 @@
 
 use crate::tests::memory::{Ended, Given, faultless, has_status, is_ended, run_with};
 use ct_outside::NoGate;
-use ct_serve::Status;
+use ct_run::Status;
 use std::alloc::{AllocError, Global};
 use std::process::Abort;
 use std::sync::Wait;

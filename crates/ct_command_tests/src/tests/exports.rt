@@ -1,7 +1,7 @@
 // Runs in memory of `export`: a script, and a table after it in CSV.
 
 use crate::tests::memory::{Given, ends, faultless};
-use ct_serve::Status;
+use ct_run::Status;
 use std::test::Fail;
 
 /// A script, and the file of its table `t`.

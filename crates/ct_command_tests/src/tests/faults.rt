@@ -1,7 +1,7 @@
 // A sink that fails at each line of a run in turn, and a source that fails at each of three files.
 
 use crate::tests::memory::{Given, ends};
-use ct_serve::Status;
+use ct_run::Status;
 use std::alloc::{AllocError, Global};
 use std::process::Abort;
 use std::sync::Wait;

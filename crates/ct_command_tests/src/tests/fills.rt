@@ -2,7 +2,7 @@
 
 use crate::tests::memory::{Given, ends, faultless, is_ended, run_with};
 use ct_outside::NoGate;
-use ct_serve::Status;
+use ct_run::Status;
 use std::test::Fail;
 
 /// The summary of the scripts that are made with 1.

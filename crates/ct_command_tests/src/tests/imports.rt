@@ -2,7 +2,7 @@
 
 use crate::tests::memory::{file, is_ended, run_on, sink, words_of};
 use ct_outside::{MemScripts, NoGate};
-use ct_serve::Status;
+use ct_run::Status;
 use ct_word::{List, Memory};
 use std::alloc::Global;
 use std::process::Abort;

@@ -2,7 +2,7 @@
 // and take minutes to prove. For the same reason what is owned is owned by few, and compared where it is borrowed.
 
 use ct_outside::{Gate, MemScripts, MemSink, NoGate};
-use ct_serve::{Status, run};
+use ct_run::{Status, run};
 use ct_word::{List, Memory, Text};
 use std::alloc::{AllocError, Global};
 use std::process::Abort;

@@ -2,7 +2,7 @@
 
 use crate::tests::memory::{Given, ends, faultless, run_with};
 use ct_outside::Gate;
-use ct_serve::Status;
+use ct_run::Status;
 use std::alloc::Global;
 use std::process::Abort;
 use std::sync::Wait;
@@ -26,15 +26,19 @@ type Run = (
 );
 
 /// Runs of an empty script, words that are not understood, files that are not there, and reads and writes that fail.
-const RUNS: [Run; 15] = [
+const RUNS: [Run; 19] = [
     ("run f", &[], &[], Status::Done, EMPTY),
     ("run --arena 64 f", &[], &[], Status::Done, EMPTY),
     ("run f f", &[], &[], Status::Done, TWO),
     ("run --first f", &[], &[], Status::Done, EMPTY),
     ("run --first f f", &[], &[], Status::Done, TWO),
+    ("run --workers 4 f", &[], &[], Status::Done, EMPTY),
+    ("run f f --workers 16", &[], &[], Status::Done, TWO),
     ("", &[], &[], Status::Words, ""),
     ("run", &[], &[], Status::Words, ""),
     ("run --arena 63 f", &[], &[], Status::Words, ""),
+    ("run --workers 0 f", &[], &[], Status::Words, ""),
+    ("run --workers 17 f", &[], &[], Status::Words, ""),
     ("run g", &[], &[], Status::ReadFault, ""),
     ("run f g", &[], &[], Status::ReadFault, ""),
     ("run f", &[1], &[], Status::ReadFault, ""),

@@ -25,7 +25,8 @@ const TRIANGLE: [(Kind, u32, u32); 10] = [
     (Kind::And, 7, 8),
 ];
 
-/// The decision, where the root is a condition of a log without columns.
+/// The decision, where the root is a condition of a log without columns. A call of its own, for the measurements.
+#[inline(never)]
 pub fn decided(alloc: Global, words: &[u64], root: u32) -> Result<Option<Decision>, DecideError>
     requires { IsWellFormed words.now }
 {

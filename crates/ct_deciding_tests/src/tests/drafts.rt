@@ -71,6 +71,11 @@ impl Draft {
         place(&mut self.parts, kind, first, second)
     }
 
+    /// The place of the conjunction of two conditions.
+    pub fn both(&mut self, c: u32, d: u32) -> Result<u32, AllocError> {
+        self.pair(Kind::And, c, d)
+    }
+
     /// The place of an equality of two terms, or of its negation; 0, which is true, where both are the same.
     fn leaf(&mut self, state: &mut u64) -> Result<u32, AllocError> {
         let s = one_of(state, self.terms.as_slice());

@@ -25,7 +25,7 @@ fn shows_number(row: &PossibleRow, number: i64) -> bool {
 }
 
 /// The place of the conjunction of two conditions.
-fn both<N: Site>(arena: &Arena<N>, pass: &mut Pass<N>, c: u32, d: u32) -> Result<u32, Fail> {
+pub fn both<N: Site>(arena: &Arena<N>, pass: &mut Pass<N>, c: u32, d: u32) -> Result<u32, Fail> {
     if !is_place(pass.words(), Class::Cond, c) {
         return Err("no condition on the left".into());
     }

@@ -1,9 +1,10 @@
-// What is shown of tables, each in a log of its own.
+// What is shown of tables, and of long logs, each in a log of its own.
 
 ghost use Rattle.std.specs.Prelude.{◌≡◌, ◌≤◌};
 
 use crate::tests::deletion::shows_deletion;
 use crate::tests::listing::{shows_rows, shows_short_worlds, shows_tuples};
+use crate::tests::long_logs::counts_clauses;
 use ct_arena::{Arena, Blank, Pass, Site};
 use std::alloc::Global;
 use std::marker::Brand;
@@ -17,6 +18,7 @@ enum Shown {
     Rows,
     Tuples,
     ShortWorlds,
+    Clauses { length: u32 },
 }
 
 /// Whether it is shown by this session.
@@ -31,6 +33,7 @@ fn shows_by<N: Site>(
         Shown::Rows => shows_rows(alloc, arena, pass),
         Shown::Tuples => shows_tuples(alloc, arena, pass),
         Shown::ShortWorlds => shows_short_worlds(alloc, arena, pass),
+        Shown::Clauses { length } => counts_clauses(alloc, arena, pass, length),
     }
 }
 
@@ -62,4 +65,11 @@ fn tables_are_asked(rt: HostRuntime) -> Result<(), Fail> {
     in_a_log(&rt, rt.alloc(), 64, Shown::Rows)?;
     in_a_log(&rt, rt.alloc(), 64, Shown::ShortWorlds)?;
     in_a_log(&rt, rt.alloc(), 256, Shown::Tuples)
+}
+
+/// A question has as many clauses in a log of 100,000 words as in one of 10,000.
+#[test]
+fn long_logs_are_asked(rt: HostRuntime) -> Result<(), Fail> {
+    in_a_log(&rt, rt.alloc(), 131_072, Shown::Clauses { length: 10_000 })?;
+    in_a_log(&rt, rt.alloc(), 131_072, Shown::Clauses { length: 100_000 })
 }

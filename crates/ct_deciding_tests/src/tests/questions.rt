@@ -13,7 +13,7 @@ use std::alloc::{AllocError, Global};
 use std::test::Fail;
 
 /// Whether a world makes the root true.
-fn shows(alloc: Global, words: &[u64], root: u32, world: &World) -> Result<bool, Fail>
+pub fn shows(alloc: Global, words: &[u64], root: u32, world: &World) -> Result<bool, Fail>
     requires { IsWellFormed words.now }
 {
     if !is_place(words, Class::Cond, root) {
@@ -24,7 +24,7 @@ fn shows(alloc: Global, words: &[u64], root: u32, world: &World) -> Result<bool,
 
 /// Whether the root can hold, where the decision says so with a world that makes it true, or else with a derivation that
 /// `check` accepts.
-fn can_hold(alloc: Global, words: &[u64], root: u32) -> Result<bool, Fail>
+pub fn can_hold(alloc: Global, words: &[u64], root: u32) -> Result<bool, Fail>
     requires { IsWellFormed words.now }
 {
     match decided(alloc, words, root)? {

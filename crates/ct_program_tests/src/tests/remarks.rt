@@ -2,7 +2,7 @@
 
 use crate::tests::played::{ROOMY, ordered};
 use ct_arena::Log;
-use ct_serve::{notes, remarks};
+use ct_remarks::{notes, remarks};
 use ct_transcript::{Refusal, Reply, SessionLog, Transcript};
 use ct_word::{List, Memory, Text};
 use std::alloc::Global;

@@ -257,13 +257,21 @@ fn push_last(alloc: Global, links: u32, count: u32, steps: &mut Vec<Step>) -> Re
     push_resolved(alloc, steps, &[], hints.as_slice())
 }
 
+/// Whether a derivation is accepted. A call of its own, for the measurements.
+#[inline(never)]
+fn accepts(words: &[u64], root: u32, derivation: &Derivation, marks: &mut Marks) -> bool
+    requires { accepted.widest derivation.now ≤ marks.old.room }
+{
+    check(words, root, derivation, marks)
+}
+
 /// Whether a chain is refuted by these steps.
 fn is_refuted(alloc: Global, links: u32, derivation: &Derivation) -> Result<bool, Memory>
     requires { links ≤ 10000 }
 {
     let words = long_chain(alloc, links)?;
     let mut marks = marks_for(alloc, derivation)?;
-    Ok(check(words.as_slice(), 3 * links + 4, derivation, &mut marks))
+    Ok(accepts(words.as_slice(), 3 * links + 4, derivation, &mut marks))
 }
 
 /// Whether a chain is refuted by so many steps to the wide clause, and one step along all others.

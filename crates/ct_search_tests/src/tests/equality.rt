@@ -108,7 +108,8 @@ fn closed(
     closed_over(alloc, words.as_slice(), atoms, truth)
 }
 
-/// The same over any words.
+/// The same over any words. A call of its own, for the measurements.
+#[inline(never)]
 fn closed_over(
     alloc: Global,
     words: &[u64],

@@ -59,7 +59,7 @@ const ASKED: [(&[&str], &str); 86] = [
     (&["run", "--", "--first"], "run 262144 [--first]"),
     (&["run", "-"], "run 262144 [-]"),
     // An option may not come twice, nor without a value, a flag not with one, and neither is shortened. Each other word that
-    // begins with `-` is an option, and none is there but `--arena` and `--first`.
+    // begins with `-` is an option, and none is there but `--arena`, `--first` and `--workers`.
     (&["run", "--arena", "64", "--arena", "64", "f"], "nothing"),
     (&["run", "--arena"], "nothing"),
     (&["run", "f", "--arena"], "nothing"),
@@ -104,7 +104,36 @@ const ASKED: [(&[&str], &str); 86] = [
     (&["export", "t", "f", "g"], "nothing"),
 ];
 
-/// What words ask for, as a text: a run with its flag, its capacity and its files, or a number to fill with.
+/// The same of words with `--workers`.
+const ASKED_WITH_WORKERS: [(&[&str], &str); 15] = [
+    (&["run", "--workers", "1", "f"], "run 262144 [f]"),
+    (&["run", "--workers", "04", "f"], "run 262144 by 4 [f]"),
+    (
+        &["run", "--workers", "16", "--arena", "64", "f"],
+        "run 64 by 16 [f]",
+    ),
+    (
+        &["run", "f", "--workers=2", "g", "--first"],
+        "run first 262144 by 2 [f] [g]",
+    ),
+    (
+        &["run", "--", "--workers", "4"],
+        "run 262144 [--workers] [4]",
+    ),
+    (&["run", "--workers", "0", "f"], "nothing"),
+    (&["run", "--workers", "17", "f"], "nothing"),
+    (&["run", "--workers", "x", "f"], "nothing"),
+    (&["run", "--workers", "f"], "nothing"),
+    (&["run", "f", "--workers"], "nothing"),
+    (&["run", "--workers", "", "f"], "nothing"),
+    (&["run", "--workers", "4", "--workers", "4", "f"], "nothing"),
+    (&["run", "--worker", "4", "f"], "nothing"),
+    (&["fill", "--workers", "4", "3"], "nothing"),
+    (&["prove", "--workers", "4", "1", "f"], "nothing"),
+];
+
+/// What words ask for, as a text: a run with its flag, its capacity, its workers where there are several, and its files, or a
+/// number to fill with.
 fn told(alloc: Global, asked: &Option<Asked>) -> Result<String, AllocError> {
     match asked {
         None => String::from_str(alloc, "nothing"),
@@ -122,10 +151,14 @@ fn told(alloc: Global, asked: &Option<Asked>) -> Result<String, AllocError> {
                 capacity,
                 files,
                 is_first_alone,
+                workers,
             },
         ) => {
             let first = if *is_first_alone { "first " } else { "" };
             let mut text = format!(in alloc; "run {first}{capacity}")?;
+            if *workers != 1 {
+                text.push_str(format!(in alloc; " by {workers}")?.as_str())?;
+            }
             for file in files {
                 text.push_str(format!(in alloc; " [{file}]")?.as_str())?;
             }
@@ -153,6 +186,11 @@ fn ask_for_all(rt: &impl Abort, alloc: Global, all: &[(&[&str], &str)]) -> Resul
 #[test]
 fn words_ask(rt: HostRuntime) -> Result<(), Fail> {
     ask_for_all(&rt, rt.alloc(), &ASKED)
+}
+
+#[test]
+fn words_ask_for_workers(rt: HostRuntime) -> Result<(), Fail> {
+    ask_for_all(&rt, rt.alloc(), &ASKED_WITH_WORKERS)
 }
 
 /// The words of a text, between blanks.

@@ -1,7 +1,8 @@
-use Rattle.std.{proofs.Common.{◌≡◌, ◌∙◌, ◌+◌, ◌*◌, [], ◌++◌, Some, None, Ok, map, ap, sym, subst, arith}, proofs.lemmas.Option.MatchOption-at_some, proofs.lemmas.Result.err_from_is_err_and, proofs.lemmas.List.Elements.{Contains-append_left, Contains-append_right}}
-use Rattle.ct_query.{specs.Plain.{Table, Select, Project, Product, Union, Except, Intersect}, specs.Pred.condition_of, specs.Views.query_of, specs.Fits.Fits, specs.Bounds.ops, specs.Terms.{condition_terms, query_terms}}
-use Rattle.ct_table.{specs.Denotes.{heading_of, find_table}, specs.Shared.view_of}
-use Rattle.ct_algebra.{specs.Evaluates.Evaluates, specs.Words.{Answers, GrowsWithin, most_rows, most_words}, proofs.Growing.{tables_grow, answer_grows, answer_before}, proofs.Found.got_some}
+use Rattle.std.{proofs.Common.{◌≡◌, ◌∙◌, ◌+◌, ◌*◌, ℕ, List, [], ◌++◌, Some, None, Ok, map, ap, sym, subst, arith}, proofs.lemmas.Option.MatchOption-at_some, proofs.lemmas.Result.err_from_is_err_and, proofs.lemmas.List.Elements.{Contains-append_left, Contains-append_right}}
+use Rattle.ct_query.{specs.Plain.{PlainQuery, Table, Select, Project, Product, Union, Except, Intersect}, specs.Pred.condition_of, specs.Views.query_of, specs.Fits.Fits, specs.Bounds.ops, specs.Terms.{condition_terms, query_terms}}
+use Rattle.ct_table.{specs.Denotes.{TableView, heading_of, find_table}, specs.Shared.view_of}
+use Rattle.ct_operators.specs.declared.table.CTable.{CTable}
+use Rattle.ct_algebra.{specs.Operands.AreTables, specs.Evaluates.Evaluates, specs.Words.{Answers, GrowsWithin, most_rows, most_words}, proofs.Growing.{tables_grow, answer_grows, answer_before}, proofs.Found.got_some}
 use Rattle.ct_algebra.{proofs.Appending.{grows_then, grows_more, onward, refused_within, join_sum, pairs_most, rows_most, product_most, union_most, except_most, intersect_most}, proofs.Counted.rows_within}
 use Rattle.ct_algebra.proofs.Operators.{table_answers, project_answers, product_answers, union_answers, except_answers, intersect_answers}
 use Rattle.ct_algebra.proofs.Parts.{count_parts, one_part, two_parts}
@@ -13,18 +14,20 @@ answer-unwrap-requires g t c =
     let fits : Fits hs (Table c.in-Table.name) = subst (Fits hs) (ap query_of c.in-Table.is) c.requires.fits in
     got_some c.get.result (λ t. find_table c.args.db.now c.in-Table.name ≡ Some (view_of c.in-Table.name t.now)) c.in-Table.name c.args.db.now fits c.get.ensures
 
+-- the table that a name stands for answers the query of this name, without a word
+named_answers : (ws : List ℕ) (before : ℕ) (db : List TableView) (name : List ℕ) (t out : CTable) (q : PlainQuery)
+    → AreTables ws db → find_table db name ≡ Some (view_of name t) → out ≡ t → Table name ≡ q → Answers ws ws db q before before (Ok out)
+named_answers ws before db name t out q are found same is = subst (λ q. Answers ws ws db q before before (Ok out)) is (record {
+  evaluates = subst (Evaluates ws ws db (Table name)) (sym same) (table_answers ws db name t are found);
+  grows = record { grows = λ literals has. omega arith };
+})
+
 pub answer-returns-in_ok-copied-in-Table-clause-answers : goal.answer-returns-in_ok-copied-in-Table-clause-answers
 answer-returns-in_ok-copied-in-Table-clause-answers g t c =
     let db = c.args.db.now in
-    let ws = c.args.pass.now.words in
     let name = c.in-Table.name in
-    let found : find_table db name ≡ Some (view_of name c.unwrap.result.now) =
-    MatchOption-at_some (find_table db name ≡ None) (λ t. find_table db name ≡ Some (view_of name t.now)) c.unwrap.result c.unwrap.ensures c.get.ensures in
-    let copy = c.in_ok-copied-in-Table.field-0 in
-    subst (λ q. Answers ws ws db q c.args.pass.now.made c.args.pass.now.made (Ok copy)) (sym (ap query_of c.in-Table.is)) (record {
-      evaluates = subst (Evaluates ws ws db (Table name)) (sym c.in_ok-copied-in-Table.ensures) (table_answers ws db name c.unwrap.result.now c.requires.tables found);
-      grows = record { grows = λ literals has. omega arith };
-    })
+    named_answers c.args.pass.now.words c.args.pass.now.made db name c.unwrap.result.now c.in_ok-copied-in-Table.field-0 (query_of c.args.query.now) c.requires.tables
+    (MatchOption-at_some (find_table db name ≡ None) (λ t. find_table db name ≡ Some (view_of name t.now)) c.unwrap.result c.unwrap.ensures c.get.ensures) c.in_ok-copied-in-Table.ensures (sym (ap query_of c.in-Table.is))
 
 pub answer-selected-requires : goal.answer-selected-requires
 answer-selected-requires g t c κs within =
@@ -36,8 +39,8 @@ answer-returns-in-Select-clause-answers g t c =
     subst (λ q. Answers c.args.pass.now.words c.selected.new.pass.words c.args.db.now q c.args.pass.now.made c.selected.new.pass.made c.selected.result)
     (one_part (Select (condition_of c.in-Select.p)) c.deref.result.now _ _ c.deref.ensures (sym (ap query_of c.in-Select.is))) c.selected.ensures.answers
 
-pub selected_rows-answer-requires : goal.selected_rows-answer-requires
-selected_rows-answer-requires g t c κs within = (omega (arith, c.decreases), (within, (c.requires.tables, c.requires.fits.1)))
+pub selected_rows-operand-requires : goal.selected_rows-operand-requires
+selected_rows-operand-requires g t c κs within = (omega (arith, c.decreases), (within, (c.requires.tables, c.requires.fits.1)))
 
 pub selected_rows-returns-clause-answers : goal.selected_rows-returns-clause-answers
 selected_rows-returns-clause-answers g t c =
@@ -109,8 +112,8 @@ answer-returns-in-Project-clause-answers g t c =
     subst (λ q. Answers c.args.pass.now.words c.projected.new.pass.words c.args.db.now q c.args.pass.now.made c.projected.new.pass.made c.projected.result)
     ((λ i. Project (c.as_slice.ensures i) (query_of c.deref-in-Project.result.now)) ∙ one_part (Project c.in-Project.columns) c.deref-in-Project.result.now _ _ c.deref-in-Project.ensures (sym (ap query_of c.in-Project.is))) c.projected.ensures.answers
 
-pub projected_rows-answer-requires : goal.projected_rows-answer-requires
-projected_rows-answer-requires g t c κs within = (omega (arith, c.decreases), (within, (c.requires.tables, c.requires.fits.1)))
+pub projected_rows-operand-requires : goal.projected_rows-operand-requires
+projected_rows-operand-requires g t c κs within = (omega (arith, c.decreases), (within, (c.requires.tables, c.requires.fits.1)))
 
 pub projected_rows-returns-clause-answers : goal.projected_rows-returns-clause-answers
 projected_rows-returns-clause-answers g t c =
@@ -225,8 +228,8 @@ answer-returns-in_ok-left-in-Product-clause-answers g t c =
           (product_most _ _ _ _ _ _ _ parts.left parts.right);
     })
 
-pub answer-sides-requires-in-Union : goal.answer-sides-requires-in-Union
-answer-sides-requires-in-Union g t c κs within =
+pub answer-tables-requires : goal.answer-tables-requires
+answer-tables-requires g t c κs within =
     let is = two_parts Union c.deref-in-Union.result.now c.deref-in-Union-2.result.now _ _ _ c.deref-in-Union.ensures c.deref-in-Union-2.ensures (sym (ap query_of c.in-Union.is)) in
     let fits : Fits (map heading_of c.args.db.now) (Union (query_of c.deref-in-Union.result.now) (query_of c.deref-in-Union-2.result.now)) = subst (Fits (map heading_of c.args.db.now)) (sym is) c.requires.fits in
     (omega (arith, ap count_parts is, c.decreases), (within, (c.requires.tables, (fits.1, fits.2))))
@@ -242,8 +245,8 @@ answer-returns-in_ok-left-in-Union-clause-answers g t c =
           (union_most _ _ _ _ _ _ _ parts.left parts.right);
     })
 
-pub answer-sides-requires-in-Except : goal.answer-sides-requires-in-Except
-answer-sides-requires-in-Except g t c κs within =
+pub answer-tables-requires-in-Except : goal.answer-tables-requires-in-Except
+answer-tables-requires-in-Except g t c κs within =
     let is = two_parts Except c.deref-in-Except.result.now c.deref-in-Except-2.result.now _ _ _ c.deref-in-Except.ensures c.deref-in-Except-2.ensures (sym (ap query_of c.in-Except.is)) in
     let fits : Fits (map heading_of c.args.db.now) (Except (query_of c.deref-in-Except.result.now) (query_of c.deref-in-Except-2.result.now)) = subst (Fits (map heading_of c.args.db.now)) (sym is) c.requires.fits in
     (omega (arith, ap count_parts is, c.decreases), (within, (c.requires.tables, (fits.1, fits.2))))
@@ -259,8 +262,8 @@ answer-returns-in_ok-left-in-Except-clause-answers g t c =
           (except_most _ _ _ _ _ _ _ parts.left parts.right);
     })
 
-pub answer-sides-requires-in-Intersect : goal.answer-sides-requires-in-Intersect
-answer-sides-requires-in-Intersect g t c κs within =
+pub answer-tables-requires-in-Intersect : goal.answer-tables-requires-in-Intersect
+answer-tables-requires-in-Intersect g t c κs within =
     let is = two_parts Intersect c.deref-in-Intersect.result.now c.deref-in-Intersect-2.result.now _ _ _ c.deref-in-Intersect.ensures c.deref-in-Intersect-2.ensures (sym (ap query_of c.in-Intersect.is)) in
     let fits : Fits (map heading_of c.args.db.now) (Intersect (query_of c.deref-in-Intersect.result.now) (query_of c.deref-in-Intersect-2.result.now)) = subst (Fits (map heading_of c.args.db.now)) (sym is) c.requires.fits in
     (omega (arith, ap count_parts is, c.decreases), (within, (c.requires.tables, (fits.1, fits.2))))
@@ -276,20 +279,20 @@ answer-returns-in_ok-left-in-Intersect-clause-answers g t c =
           (intersect_most _ _ _ _ _ _ _ parts.left parts.right);
     })
 
-pub sides-answer-requires : goal.sides-answer-requires
-sides-answer-requires g t c κs within = (omega (arith, c.decreases), (within, (c.requires.tables, c.requires.left)))
+pub sides-operand-requires : goal.sides-operand-requires
+sides-operand-requires g t c κs within = (omega (arith, c.decreases), (within, (c.requires.tables, c.requires.left)))
 
-pub sides-answer-requires-2 : goal.sides-answer-requires-2
-sides-answer-requires-2 g t c κs within =
-    (omega (arith, c.decreases), (within, (tables_grow c.args.pass.now.words c.answer.new.pass.words c.answer.ensures.longer c.words.ensures.formed c.args.db.now c.requires.tables, c.requires.right)))
+pub sides-operand-requires-2 : goal.sides-operand-requires-2
+sides-operand-requires-2 g t c κs within =
+    (omega (arith, c.decreases), (within, (tables_grow c.args.pass.now.words c.operand.new.pass.words c.operand.ensures.longer c.words.ensures.formed c.args.db.now c.requires.tables, c.requires.right)))
 
 pub sides-returns-clause-left : goal.sides-returns-clause-left
 sides-returns-clause-left g t c =
-    answer_grows c.args.pass.now.words c.answer.new.pass.words c.answer-2.new.pass.words c.args.db.now (query_of c.args.left.now) c.in_ok-one.one c.answer-2.ensures.longer c.words-2.ensures.formed c.in_ok-one.ensures.answers.evaluates
+    answer_grows c.args.pass.now.words c.operand.new.pass.words c.operand-2.new.pass.words c.args.db.now (query_of c.args.left.now) c.in_ok-one.one c.operand-2.ensures.longer c.words-2.ensures.formed c.in_ok-one.ensures.answers.evaluates
 
 pub sides-returns-clause-right : goal.sides-returns-clause-right
 sides-returns-clause-right g t c =
-    answer_before c.args.pass.now.words c.answer.new.pass.words c.answer-2.new.pass.words c.args.db.now (query_of c.args.right.now) c.in_ok-other.other c.answer.ensures.longer c.words.ensures.formed c.requires.tables c.in_ok-other.ensures.answers.evaluates
+    answer_before c.args.pass.now.words c.operand.new.pass.words c.operand-2.new.pass.words c.args.db.now (query_of c.args.right.now) c.in_ok-other.other c.operand.ensures.longer c.words.ensures.formed c.requires.tables c.in_ok-other.ensures.answers.evaluates
 
 pub sides-returns-in_err-other-clause-grows : goal.sides-returns-in_err-other-clause-grows
 sides-returns-in_err-other-clause-grows g t c =
@@ -310,3 +313,22 @@ sides-returns-clause-grows g t c =
     grows_then _ _ _ _ _ _ (lefts ++ rights) _ (Ok (c.in_ok-one.one, c.in_ok-other.other)) lefts rights (most_words c.args.db.now (query_of c.args.left.now)) most most
     (λ t h. Contains-append_left lefts rights t h) (λ t h. Contains-append_right lefts rights t h) (omega arith) c.in_ok-one.ensures.answers.grows
     (record { grows = λ literals has. c.in_ok-other.ensures.answers.grows.grows literals has })
+
+pub operand-unwrap-requires : goal.operand-unwrap-requires
+operand-unwrap-requires g t c =
+    let hs = map heading_of c.args.db.now in
+    let fits : Fits hs (Table c.in-Table.name) = subst (Fits hs) (ap query_of c.in-Table.is) c.requires.fits in
+    got_some c.get.result (λ t. find_table c.args.db.now c.in-Table.name ≡ Some (view_of c.in-Table.name t.now)) c.in-Table.name c.args.db.now fits c.get.ensures
+
+pub operand-answer-requires : goal.operand-answer-requires
+operand-answer-requires g t c κs within = (omega (arith, c.decreases), (within, (c.requires.tables, c.requires.fits)))
+
+pub tables-sides-requires : goal.tables-sides-requires
+tables-sides-requires g t c κs within = (omega (arith, c.decreases), (within, (c.requires.tables, (c.requires.left, c.requires.right))))
+
+pub operand-returns-in_ok-stored-in-Table-clause-answers : goal.operand-returns-in_ok-stored-in-Table-clause-answers
+operand-returns-in_ok-stored-in-Table-clause-answers g t c =
+    let db = c.args.db.now in
+    let name = c.in-Table.name in
+    named_answers c.args.pass.now.words c.args.pass.now.made db name c.unwrap.result.now c.in_ok-stored-in-Table.field-0 (query_of c.args.part.now) c.requires.tables
+    (MatchOption-at_some (find_table db name ≡ None) (λ t. find_table db name ≡ Some (view_of name t.now)) c.unwrap.result c.unwrap.ensures c.get.ensures) c.in_ok-stored-in-Table.ensures (sym (ap query_of c.in-Table.is))

@@ -9,7 +9,7 @@ pub joined-requires-clause-equals : goal.joined-requires-clause-equals
 joined-requires-clause-equals g c =
     let cond = condition_of c.args.p.now in
     let width = length c.args.left.now.columns in
-    subst (All (HasEqual width cond)) (sym (c.as_slice.ensures.value ∙ c.in_ok-equals.ensures ∙ ap (λ n. equals_of n cond) c.len.ensures)) (has_equals width cond)
+    subst (All (HasEqual width cond)) (sym (c.as_slice.ensures.value ∙ c.in_ok-equals.ensures ∙ ap (λ n. equals_of n cond) (c.len.ensures ∙ ap (λ cs. length cs) c.columns-3.ensures))) (has_equals width cond)
 
 -- the pairs of all rows
 all : (g : _) (c : After-from_vec g)

@@ -5,7 +5,7 @@ use Rattle.ct_query.specs.Database.{has_tuple, SameSet}
 use Rattle.ct_condition.{specs.Writes.Writes, proofs.Writes.{writes_both, writes_within, writes_as}}
 use Rattle.ct_operators.{specs.Refusals.is_full, specs.Tables.{AreRows, value_of_rows, cells_of}}
 use Rattle.ct_certain.{specs.Missing.{IsAtHand, IsRootOf, condition_of}, proofs.Candidates.asked_later, proofs.Values.at_hand_grows}
-use Rattle.ct_certain.proofs.Roots.{alone_by, table_rows, table_writes, root_by, root_most, root_begun}
+use Rattle.ct_certain.proofs.Roots.{alone_by, table_rows, root_by, root_most, root_begun}
 use Rattle.ct_certain.proofs.absence.missing_root.Goals as goal
 
 pub places-requires : goal.places-requires
@@ -58,7 +58,7 @@ returns-in-Ok-clause-writes g c =
     let n = length c.in_ok-alone.alone.columns in
     subst (λ x. Writes g.I.Interner.list g.I.Interner.made g.I.Interner.kept g.I.Interner.lent g.N.Site.log.cap c.args.pass.now c.except-rest.new.pass (r * (2 * k + 2) + k + 1) (is_full x)) c.in-Ok.is
     (writes_as (root_most (length c.args.tuple.now) k r a n c.requires.width_is (ap length c.in_ok-alone.ensures.rows) (ap length c.in_ok-alone.ensures.columns))
-    (writes_both c.in_ok-cells.ensures.writes (table_writes c.places.new.pass c.except-rest.new.pass (a * r * (2 * n + 2) + a) c.except-rest.result c.except-rest.ensures.longer c.words-2.ensures.formed c.words-2.ensures.room c.except-rest.ensures.full c.except-rest.ensures.rises c.except-rest.ensures.made c.except-rest.ensures.fewer c.except-rest.ensures.kept c.except-rest.ensures.lent)))
+    (writes_both c.in_ok-cells.ensures.writes c.except-rest.ensures.writes))
 
 pub returns-in-Err-clause-writes : goal.returns-in-Err-clause-writes
 returns-in-Err-clause-writes g c =
@@ -68,7 +68,7 @@ returns-in-Err-clause-writes g c =
     let n = length c.in_ok-alone.alone.columns in
     subst (λ x. Writes g.I.Interner.list g.I.Interner.made g.I.Interner.kept g.I.Interner.lent g.N.Site.log.cap c.args.pass.now c.except-rest.new.pass (r * (2 * k + 2) + k + 1) (is_full x)) c.in-Err.is
     (writes_as (root_most (length c.args.tuple.now) k r a n c.requires.width_is (ap length c.in_ok-alone.ensures.rows) (ap length c.in_ok-alone.ensures.columns))
-    (writes_both c.in_ok-cells.ensures.writes (table_writes c.places.new.pass c.except-rest.new.pass (a * r * (2 * n + 2) + a) c.except-rest.result c.except-rest.ensures.longer c.words-2.ensures.formed c.words-2.ensures.room c.except-rest.ensures.full c.except-rest.ensures.rises c.except-rest.ensures.made c.except-rest.ensures.fewer c.except-rest.ensures.kept c.except-rest.ensures.lent)))
+    (writes_both c.in_ok-cells.ensures.writes c.except-rest.ensures.writes))
 
 pub returns-in_err-cells-clause-writes : goal.returns-in_err-cells-clause-writes
 returns-in_err-cells-clause-writes g c =

@@ -1,9 +1,8 @@
-use Rattle.std.proofs.Common.{◌∙◌, length, subst, ap, sym}
+use Rattle.std.proofs.Common.{length, subst}
 use Rattle.ct_query.specs.Fits.{AreColumnsBelow}
 use Rattle.ct_word.specs.Reading.{condition_at}
 use Rattle.ct_table.{specs.Denotes.with_table, specs.Shared.view_of}
-use Rattle.ct_operators.{specs.Tables.AreRows, specs.declared.table.CTable.CTable}
-use Rattle.ct_keeper.{specs.Effects.AreSpared, proofs.Finding.{not_missing, width_found, rows_of_found, column_below}}
+use Rattle.ct_keeper.{proofs.Finding.{not_missing, width_found, rows_of_found, column_below}}
 use Rattle.ct_keeper.proofs.effects.deleted.Goals as goal
 
 pub unreachable-requires : goal.unreachable-requires
@@ -11,36 +10,29 @@ unreachable-requires g c = not_missing c.args.db.now c.args.name.now c.requires.
 
 pub delete-spared-requires-clause-rows : goal.delete-spared-requires-clause-rows
 delete-spared-requires-clause-rows g c =
-    let words = g.I.Interner.list c.args.pass.now in
-    subst (λ (t : CTable). AreRows words (length t.columns) t.rows) (sym c.in_ok-rows.ensures)
-    (rows_of_found words c.args.db.now c.args.name.now (view_of c.args.name.now c.in-Some.table.now) c.requires.tables c.in-Some.ensures)
+    rows_of_found (g.I.Interner.list c.args.pass.now) c.args.db.now c.args.name.now (view_of c.args.name.now c.in-Some.table.now) c.requires.tables c.in-Some.ensures
 
 pub delete-spared-requires-clause-columns : goal.delete-spared-requires-clause-columns
 delete-spared-requires-clause-columns g c =
     let words = g.I.Interner.list c.args.pass.now in
     let t = view_of c.args.name.now c.in-Some.table.now in
-    let wide = width_found c.args.db.now c.args.name.now t c.in-Some.ensures ∙ ap (λ (x : CTable). length x.columns) (sym c.in_ok-rows.ensures) in
-    column_below words c.words.ensures.formed (length c.in_ok-rows.rows.columns) c.args.cond c.requires.written
-    (subst (λ n. AreColumnsBelow n (condition_at words c.args.cond)) wide c.requires.fitting.1)
+    column_below words c.words.ensures.formed (length t.columns) c.args.cond c.requires.written
+    (subst (λ n. AreColumnsBelow n (condition_at words c.args.cond)) (width_found c.args.db.now c.args.name.now t c.in-Some.ensures) c.requires.fitting.1)
 
 pub returns-clause-does : goal.returns-clause-does
 returns-clause-does g c = λ global.
-    let old = g.I.Interner.list c.args.pass.now in
-    let new = g.I.Interner.list c.delete-spared.new.pass in
     let db = c.args.db.now in
     let name = c.args.name.now in
-    let cond = c.args.cond in
     let out = c.in_ok-table.table in
-    let columns = c.in_ok-table.ensures.columns ∙ ap (λ (x : CTable). x.columns) c.in_ok-rows.ensures in
     record {
       table = view_of name c.in-Some.table.now;
       rows = out.rows;
       is_found = c.in-Some.ensures;
-      after_is = λ i. with_table db (record { name = c.in_ok-name.ensures.cases i; columns = columns i; rows = out.rows });
-      true_of = subst (λ (x : CTable). AreSpared old new (length x.columns) cond x.rows out.rows) c.in_ok-rows.ensures (record {
+      after_is = λ i. with_table db (record { name = c.in_ok-name.ensures.cases i; columns = c.in_ok-table.ensures.columns i; rows = out.rows });
+      true_of = record {
         are = c.in_ok-table.ensures.rows;
         tuples = c.in_ok-table.ensures.tuples;
         part = c.in_ok-table.ensures.part;
         terms = c.in_ok-table.ensures.terms;
-      });
+      };
     }

@@ -1,7 +1,7 @@
 use Rattle.std.{proofs.Common.{[], ◌∷◌, sym, subst, arith}, proofs.lemmas.Result.err_from_is_err_and}
 use Rattle.ct_worlds.specs.Below.{AreBelow}
-use Rattle.ct_condition.proofs.Writes.{writes_none, writes_within, writes_made}
-use Rattle.ct_operators.{specs.Placing.ArePartsOf, proofs.Steps.parts_below, proofs.Adding.{at_full, fewer_full}}
+use Rattle.ct_condition.proofs.Writes.{writes_none, writes_within}
+use Rattle.ct_operators.{specs.Placing.ArePartsOf, proofs.Steps.parts_below}
 use Rattle.ct_operators.proofs.deletion.delete.Goals as goal
 
 pub sifted-requires-clause-fits : goal.sifted-requires-clause-fits
@@ -22,12 +22,3 @@ pub returns-in_err-places-clause-writes : goal.returns-in_err-places-clause-writ
 returns-in_err-places-clause-writes g c =
     let exit = err_from_is_err_and c.from_residual.result c.from_residual.ensures.1 in
     rw (exit.1, exit.2) (writes_none _ c.words.ensures.formed c.words.ensures.room)
-
-pub returns-clause-full : goal.returns-clause-full
-returns-clause-full g c e = at_full c.sifted.result c.sifted.ensures.writes e
-
-pub returns-clause-made : goal.returns-clause-made
-returns-clause-made g c = writes_made (returns-clause-writes g c)
-
-pub returns-clause-fewer : goal.returns-clause-fewer
-returns-clause-fewer g c e = fewer_full c.sifted.result (returns-clause-writes g c) e

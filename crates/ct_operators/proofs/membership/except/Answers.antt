@@ -1,7 +1,7 @@
 use Rattle.std.{proofs.Common.{◌+◌, ◌*◌, not, length, subst, arith}, specs.Prelude.IfOk, specs.List.filter}
 use Rattle.ct_query.specs.Database.{SameSet, has_tuple}
-use Rattle.ct_condition.proofs.Writes.{writes_within, writes_made}
-use Rattle.ct_operators.{specs.Tables.value_of_rows, proofs.Tests.{each_as, from_both, all_words}, proofs.Adding.{at_full, fewer_full}}
+use Rattle.ct_condition.proofs.Writes.{writes_within}
+use Rattle.ct_operators.{specs.Tables.value_of_rows, proofs.Tests.{each_as, from_both, all_words}}
 use Rattle.ct_operators.proofs.membership.except.Goals as goal
 
 pub sifted-requires-clause-fits : goal.sifted-requires-clause-fits
@@ -19,12 +19,3 @@ returns-clause-terms g c = from_both _ _ c.sifted.result c.args.left.now.rows c.
 pub returns-clause-writes : goal.returns-clause-writes
 returns-clause-writes g c =
     writes_within _ (omega (arith, all_words (length c.args.left.now.rows) (2 * length c.args.left.now.columns + 2) c.args.right.now.rows c.as_slice.result.now c.as_slice.ensures)) c.sifted.ensures.writes
-
-pub returns-clause-full : goal.returns-clause-full
-returns-clause-full g c e = at_full c.sifted.result c.sifted.ensures.writes e
-
-pub returns-clause-made : goal.returns-clause-made
-returns-clause-made g c = writes_made (returns-clause-writes g c)
-
-pub returns-clause-fewer : goal.returns-clause-fewer
-returns-clause-fewer g c e = fewer_full c.sifted.result (returns-clause-writes g c) e

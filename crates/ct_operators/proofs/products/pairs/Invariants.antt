@@ -4,10 +4,10 @@ use Rattle.ct_operators.{specs.Tables.{cells_of, value_of_rows}, specs.Building.
 use Rattle.ct_query.specs.Rows.{joins}
 use Rattle.ct_operators.proofs.products.pairs.Given as goal
 
-abbrev pub invariant-loop-row : goal.invariant-loop-row
-invariant-loop-row g l = record {
-  builds : Builds (g.I.Interner.list l.fn.pass) (g.I.Interner.list l.pass) (length l.left.columns + length l.right.columns)
-      (joins (cells_of (g.I.Interner.list l.fn.pass) (take l.row-index l.left.rows)) (cells_of (g.I.Interner.list l.fn.pass) l.right.rows))
-      (λ v. joins (value_of_rows (g.I.Interner.list l.fn.pass) v (take l.row-index l.left.rows)) (value_of_rows (g.I.Interner.list l.fn.pass) v l.right.rows)) (TermOfRows (g.I.Interner.list l.fn.pass) (l.left.rows ++ l.right.rows)) l.pairs.items;
-  writes : Writes g.I.Interner.list g.I.Interner.made g.I.Interner.kept g.I.Interner.lent g.N.Site.log.cap l.fn.pass l.pass (l.row-index * length l.right.rows) false;
+abbrev pub invariant-loop-nth : goal.invariant-loop-nth
+invariant-loop-nth g l = record {
+  builds : Builds (g.I.Interner.list l.fn.pass) (g.I.Interner.list l.pass) (length (g.L.RowSource.table l.left).columns + length (g.R.RowSource.table l.right).columns)
+      (joins (cells_of (g.I.Interner.list l.fn.pass) (take l.nth (g.L.RowSource.table l.left).rows)) (cells_of (g.I.Interner.list l.fn.pass) (g.R.RowSource.table l.right).rows))
+      (λ v. joins (value_of_rows (g.I.Interner.list l.fn.pass) v (take l.nth (g.L.RowSource.table l.left).rows)) (value_of_rows (g.I.Interner.list l.fn.pass) v (g.R.RowSource.table l.right).rows)) (TermOfRows (g.I.Interner.list l.fn.pass) ((g.L.RowSource.table l.left).rows ++ (g.R.RowSource.table l.right).rows)) l.pairs.items;
+  writes : Writes g.I.Interner.list g.I.Interner.made g.I.Interner.kept g.I.Interner.lent g.N.Site.log.cap l.fn.pass l.pass (l.nth * length (g.R.RowSource.table l.right).rows) false;
 }

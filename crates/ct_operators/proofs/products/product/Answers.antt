@@ -11,13 +11,13 @@ pub merged-requires : goal.merged-requires
 merged-requires g c =
     record {
       rows = subst (λ n. All (IsRow (g.I.Interner.list c.pairs.new.pass) n) c.in_ok-pairs.pairs.items)
-          (sym (ap (λ cs. length cs) c.in_ok-names.ensures ∙ length-append c.args.left.now.columns c.args.right.now.columns)) c.in_ok-pairs.ensures.pairs.each;
+          (sym (ap (λ cs. length cs) (c.in_ok-names.ensures ∙ (λ i. c.columns.ensures i ++ c.columns-2.ensures i)) ∙ length-append (g.L.RowSource.table c.args.left.now).columns (g.R.RowSource.table c.args.right.now).columns)) c.in_ok-pairs.ensures.pairs.each;
     }
 
 pub returns-clause-rows : goal.returns-clause-rows
 returns-clause-rows g c =
     subst (λ n. IfOk c.merged.result (λ out. AreRows (g.I.Interner.list c.merged.new.pass) n out.rows))
-    (ap (λ cs. length cs) c.in_ok-names.ensures ∙ length-append c.args.left.now.columns c.args.right.now.columns) c.merged.ensures.rows
+    (ap (λ cs. length cs) (c.in_ok-names.ensures ∙ (λ i. c.columns.ensures i ++ c.columns-2.ensures i)) ∙ length-append (g.L.RowSource.table c.args.left.now).columns (g.R.RowSource.table c.args.right.now).columns) c.merged.ensures.rows
 
 pub returns-clause-tuples : goal.returns-clause-tuples
 returns-clause-tuples g c v =
@@ -27,7 +27,7 @@ pub returns-clause-part : goal.returns-clause-part
 returns-clause-part g c =
     let old = g.I.Interner.list c.args.pass.now in
     let new = g.I.Interner.list c.merged.new.pass in
-    part_of_merged new c.merged.result (joins (cells_of old c.args.left.now.rows) (cells_of old c.args.right.now.rows))
+    part_of_merged new c.merged.result (joins (cells_of old (g.L.RowSource.table c.args.left.now).rows) (cells_of old (g.R.RowSource.table c.args.right.now).rows))
     (subst (λ l. IfOk c.merged.result (λ out. IsSublist (cells_of new out.rows) (firsts same_cells l))) c.in_ok-pairs.ensures.pairs.cells_are c.merged.ensures.order)
 
 pub returns-clause-writes : goal.returns-clause-writes
@@ -35,7 +35,7 @@ returns-clause-writes g c =
     let old = g.I.Interner.list c.args.pass.now in
     let mid = g.I.Interner.list c.pairs.new.pass in
     -- pairs of rows of distinct cells have distinct cells
-    let apart = joined_apart old (length c.args.left.now.columns) (length c.args.right.now.columns) c.args.left.now.rows c.args.right.now.rows c.requires.left c.requires.right in
+    let apart = joined_apart old (length (g.L.RowSource.table c.args.left.now).columns) (length (g.R.RowSource.table c.args.right.now).columns) (g.L.RowSource.table c.args.left.now).rows (g.R.RowSource.table c.args.right.now).rows c.requires.left c.requires.right in
     let none = none_repeats mid c.in_ok-pairs.pairs.items (subst (IsDistinct same_cells) (sym c.in_ok-pairs.ensures.pairs.cells_are) apart) in
     writes_within _ (omega (arith, none)) (writes_both c.in_ok-pairs.ensures.writes c.merged.ensures.writes)
 
@@ -53,7 +53,7 @@ pub returns-clause-terms : goal.returns-clause-terms
 returns-clause-terms g c =
     let mid = g.I.Interner.list c.pairs.new.pass in
     let new = g.I.Interner.list c.merged.new.pass in
-    let source = TermOfRows (g.I.Interner.list c.args.pass.now) (c.args.left.now.rows ++ c.args.right.now.rows) in
+    let source = TermOfRows (g.I.Interner.list c.args.pass.now) ((g.L.RowSource.table c.args.left.now).rows ++ (g.R.RowSource.table c.args.right.now).rows) in
     IfOk-weaker c.merged.result (λ out. RowsFrom new out.rows (TermOfRows mid c.in_ok-pairs.pairs.items)) (λ out. RowsFrom new out.rows source)
     (λ out. rows_wider new (TermOfRows mid c.in_ok-pairs.pairs.items) source (from_rows mid c.in_ok-pairs.pairs.items source c.in_ok-pairs.ensures.pairs.from) out.rows)
     c.merged.ensures.terms

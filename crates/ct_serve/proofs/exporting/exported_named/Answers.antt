@@ -1,5 +1,5 @@
 use Rattle.std.{proofs.Common.subst, proofs.lemmas.Result.{IfOk-weaker, IfErr-weaker}}
-use Rattle.ct_serve.{specs.Exports.{IsTableFile, WhyNoTable}, proofs.Exports.{file_of_all, none_of_all}}
+use Rattle.ct_serve.{specs.TableFiles.{IsTableFile, WhyNoTable}, proofs.Exports.{file_of_all, none_of_all}}
 use Rattle.ct_serve.proofs.exporting.exported_named.Goals as goal
 
 pub returns-clause-table : goal.returns-clause-table

@@ -2,7 +2,7 @@ use Rattle.std.{proofs.Common.{◌≤◌, ◌+◌, length, refl, sym, subst, ari
 use Rattle.ct_word.{specs.Reading.commits_of, proofs.Prefixes.prefix_same}
 use Rattle.ct_arena.{specs.Counts.AreNumbered, specs.Seen.Seen}
 use Rattle.ct_condition.specs.Writes.{charge}
-use Rattle.ct_session.{specs.Answers.is_full, specs.Bounded.Makes, specs.Executes.Executes, specs.Sessions.state_of, proofs.Outside.none_open}
+use Rattle.ct_transaction.{specs.Answers.is_full, specs.Bounded.Makes, specs.Executes.Executes, specs.Sessions.state_of, proofs.Ordered.none_open}
 use Rattle.ct_session.proofs.alone.alone.Goals as goal
 
 pub returns-in-Ok-clause-executes : goal.returns-in-Ok-clause-executes
@@ -19,7 +19,7 @@ returns-in-Ok-clause-makes g c =
     subst (λ o. Makes (state_of s.pass s.seen s.fresh o) after.pass.words c.args.statement.now s.pass.made (after.pass.made + charge (is_full c.in-Ok.done.1))) (sym (none_open s.transaction c.requires.none)) c.in-Ok.ensures.makes
 
 pub anew-requires-clause-seen : goal.anew-requires-clause-seen
-anew-requires-clause-seen g c = subst (λ (p : Seen). c.args.session.seen ≤ length (commits_of p.words)) (sym c.in-Err.ensures.same) c.requires.session.seen_is
+anew-requires-clause-seen g c κs within = subst (λ (p : Seen). c.args.session.seen ≤ length (commits_of p.words)) (sym c.in-Err.ensures.same) c.requires.session.seen_is
 
 pub returns-in-Err-clause-executes : goal.returns-in-Err-clause-executes
 returns-in-Err-clause-executes g c =

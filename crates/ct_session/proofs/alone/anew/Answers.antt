@@ -5,11 +5,13 @@ use Rattle.ct_arena.{specs.Seen.{Seen, tally_of}, specs.declared.tally.Tally.Tal
 use Rattle.ct_history.specs.Kept.{kept_of}
 use Rattle.ct_condition.specs.Writes.{charge}
 use Rattle.ct_keeper.specs.Catalogue.{IsNewest}
+use Rattle.ct_parse.specs.declared.tree.Statement.{Statement}
 use Rattle.ct_statement.specs.Making.{says_full}
-use Rattle.ct_session.{specs.Answers.is_full, specs.Bounded.{Makes, Readies, nothing}, proofs.Bounded.{answered_room, readies_less, readies_makes}}
-use Rattle.ct_session.{specs.Known.IsKnown, specs.Offering.IsReady, specs.Outcomes.Begins, specs.Sessions.state_of, proofs.Going.{prefix_short, version_within}}
-use Rattle.ct_session.{proofs.Opened.standing_within, proofs.Ordered.{memory_carried, tally_kept}, proofs.Outside.{answered_outside, begins_on, refused_outside}}
-use Rattle.ct_session.{proofs.Replies.proceeds, proofs.StillKnown.{known_stays, nothing_known}}
+use Rattle.ct_transaction.{specs.Answers.is_full, specs.Bounded.{Makes, nothing}, specs.Sessions.state_of, proofs.Going.{prefix_short, version_within}}
+use Rattle.ct_transaction.{proofs.Opened.standing_within, proofs.Ordered.{memory_carried, tally_kept}, proofs.Replies.proceeds}
+use Rattle.ct_session.{specs.Offering.{Readies, IsReady}, specs.Known.IsKnown, specs.Outcomes.Begins}
+use Rattle.ct_session.{proofs.Bounded.{answered_room, readies_less, readies_makes}, proofs.Outside.{answered_outside, begins_on, refused_outside}}
+use Rattle.ct_session.proofs.StillKnown.{known_stays, nothing_known}
 use mathlib.Core.List.{IsPrefix}
 use Rattle.ct_session.proofs.alone.anew.Goals as goal
 
@@ -28,6 +30,16 @@ module _ (pass begun : Seen) (longer : IsPrefix pass.words begun.words) (version
   still_within : (now : Seen) → IsPrefix begun.words now.words → version ≤ length (commits_of now.words)
   still_within now later = version_within begun.words now.words later version (omega (arith, newest))
 
+  -- what a statement made that offers nothing, whose reply makes nothing more
+  made_outside : (first now after : Seen) (seen fresh : ℕ) (st : Statement) (most charged : ℕ) → seen ≤ length (commits_of pass.words) → IsPrefix begun.words now.words → kept_of now ≡ kept_of first
+      → begun.made ≡ first.made → Readies now.words version now.session fresh st begun.made most → after ≡ now → now.made + charged ≤ most
+      → Makes (state_of first seen fresh None) after.words st first.made (after.made + charged)
+  made_outside first now after seen fresh st most charged le later kept made readies same few =
+      subst (λ (p : Seen). Makes (state_of first seen fresh None) p.words st first.made (p.made + charged)) (sym same)
+      (readies_makes first seen fresh now version st (now.made + charged) (seen_before seen le) (still_within now later) kept
+      (subst (λ m. Readies now.words version now.session fresh st m (now.made + charged)) made
+      (readies_less now.words version now.session fresh st begun.made most (now.made + charged) few readies)))
+
 pub returns-in_default-clause-session : goal.returns-in_default-clause-session
 returns-in_default-clause-session g c =
     let known = version_within c.args.pass.words c.begin-pass.result.0.words c.begin-pass.ensures.longer c.args.seen c.requires.seen in
@@ -45,7 +57,7 @@ returns-in_default-clause-executes g c = λ first began.
     (memory_carried N first begun c.args.seen c.args.fresh None None c.args.statement.now (proceeds N first begun b.longer b.kept c.words-begun.ensures.room b.numbered c.words-begun.ensures.numbered) b.kept refl)
 
 pub asked-ready-requires-clause-sees : goal.asked-ready-requires-clause-sees
-asked-ready-requires-clause-sees g c =
+asked-ready-requires-clause-sees g c κs within =
     let begun = c.begin-pass.result.0 in
     record { sight = c.of-sight.ensures.sight begun.words (IfOk-at_ok (IsNewest begun.words) c.in-Ok.is c.begin-pass.ensures.snapshot); none = c.of-sight.ensures.none }
 
@@ -143,17 +155,12 @@ returns-in-Ok-Answer-clause-makes g c = λ first began same.
     let begun = c.begin-pass.result.0 in
     let now = c.asked-ready.new.pass in
     let at = c.of-sight.result.version in
-    let st = c.args.statement.now in
     let newest = c.of-sight.ensures.version ∙ (IfOk-at_ok (IsNewest begun.words) c.in-Ok.is c.begin-pass.ensures.snapshot).version in
     let kept = c.asked-ready.ensures.kept ∙ tally_kept begun pass c.begin-pass.ensures.pass ∙ began.kept in
     let made : begun.made ≡ first.made = ap (λ (t : Tally). t.made) c.begin-pass.ensures.pass ∙ sym same in
-    let total = now.made + charge (is_full c.reply_of.result) in
     let room = ap charge (ap is_full c.reply_of.ensures ∙ answered_room at 0 c.in-Ok-Answer.answered) in
-    subst (λ (p : Seen). Makes (state_of first c.args.seen c.args.fresh None) p.words st first.made (p.made + charge (is_full c.reply_of.result))) (sym c.carrying-session.ensures.pass)
-    (readies_makes first c.args.seen c.args.fresh now at st total (seen_before pass begun c.begin-pass.ensures.longer at newest c.args.seen c.requires.seen)
-    (still_within pass begun c.begin-pass.ensures.longer at newest now c.asked-ready.ensures.longer) kept
-    (subst (λ m. Readies now.words at now.session c.args.fresh st m total) made
-    (readies_less now.words at now.session c.args.fresh st begun.made (now.made + 0) total (omega (arith, room)) c.in-Ok-Answer.ensures.readies)))
+    made_outside pass begun c.begin-pass.ensures.longer at newest first now c.carrying-session.result.pass c.args.seen c.args.fresh c.args.statement.now (now.made + 0) (charge (is_full c.reply_of.result)) c.requires.seen
+    c.asked-ready.ensures.longer kept made c.in-Ok-Answer.ensures.readies c.carrying-session.ensures.pass (omega (arith, room))
 
 pub returns-in-Ok-Offer-clause-makes : goal.returns-in-Ok-Offer-clause-makes
 returns-in-Ok-Offer-clause-makes g c = λ first began same.
@@ -179,15 +186,10 @@ returns-in-Err-clause-makes g c = λ first began same.
     let begun = c.begin-pass.result.0 in
     let now = c.asked-ready.new.pass in
     let at = c.of-sight.result.version in
-    let st = c.args.statement.now in
     let newest = c.of-sight.ensures.version ∙ (IfOk-at_ok (IsNewest begun.words) c.in-Ok.is c.begin-pass.ensures.snapshot).version in
     let kept = c.asked-ready.ensures.kept ∙ tally_kept begun pass c.begin-pass.ensures.pass ∙ began.kept in
     let made : begun.made ≡ first.made = ap (λ (t : Tally). t.made) c.begin-pass.ensures.pass ∙ sym same in
-    let said = c.refusal-in-Err.result.1 in
-    let total = now.made + charge (is_full said) in
-    let room = ap charge c.refusal-in-Err.ensures.full in
-    subst (λ (p : Seen). Makes (state_of first c.args.seen c.args.fresh None) p.words st first.made (p.made + charge (is_full said))) (sym c.refusal-in-Err.ensures.pass)
-    (readies_makes first c.args.seen c.args.fresh now at st total (seen_before pass begun c.begin-pass.ensures.longer at newest c.args.seen c.requires.seen)
-    (still_within pass begun c.begin-pass.ensures.longer at newest now c.asked-ready.ensures.longer) kept
-    (subst (λ m. Readies now.words at now.session c.args.fresh st m total) made
-    (readies_less now.words at now.session c.args.fresh st begun.made (now.made + charge (says_full c.in-Err.why)) total (omega (arith, room)) c.in-Err.ensures.readies)))
+    let said = c.refusal-in-Err in
+    let room = ap charge said.ensures.full in
+    made_outside pass begun c.begin-pass.ensures.longer at newest first now said.result.0.pass c.args.seen c.args.fresh c.args.statement.now (now.made + charge (says_full c.in-Err.why)) (charge (is_full said.result.1)) c.requires.seen
+    c.asked-ready.ensures.longer kept made c.in-Err.ensures.readies said.ensures.pass (omega (arith, room))

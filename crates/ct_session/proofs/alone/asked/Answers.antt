@@ -3,7 +3,7 @@ use Rattle.ct_word.proofs.Prefixes.{prefix_same}
 use Rattle.ct_condition.specs.Writes.{charge}
 use Rattle.ct_query.{specs.Patterns.count, specs.Views.statement_of}
 use Rattle.ct_statement.{specs.Making.says_full, specs.Sight.{actions_before, history_of}}
-use Rattle.ct_session.{specs.Bounded.idle, proofs.Bounded.readies_on}
+use Rattle.ct_session.{specs.Offering.idle, proofs.Bounded.readies_on}
 use Rattle.ct_session.{proofs.Outside.refused_on, proofs.StillKnown.{known_stays, nothing_known, seen_longer}}
 use Rattle.ct_session.proofs.alone.asked.Goals as goal
 

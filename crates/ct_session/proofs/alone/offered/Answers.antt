@@ -1,10 +1,10 @@
-use Rattle.std.{proofs.Common.{◌+◌, ◌≤◌, ap, arith, refl, sym, subst, ◌∙◌}, specs.Prelude.None}
+use Rattle.std.{proofs.Common.{◌+◌, refl, sym, subst}, specs.Prelude.None}
 use Rattle.ct_word.proofs.Prefixes.{prefix_same}
 use Rattle.ct_statement.{specs.Sight.IsSight, proofs.Sights.sight_grows}
 use Rattle.ct_arena.specs.Seen.{Seen}
 use Rattle.ct_condition.specs.Writes.{charge}
-use Rattle.ct_session.{specs.Answers.is_full, specs.Bounded.Makes, proofs.Bounded.{alone_makes, offer_charged}}
-use Rattle.ct_session.{specs.Sessions.state_of, proofs.Acted.{ready_seen, ready_executes}, proofs.Called.called}
+use Rattle.ct_transaction.{specs.Answers.is_full, specs.Bounded.Makes, specs.Sessions.state_of, proofs.Bounded.offer_charged, proofs.Called.called}
+use Rattle.ct_session.{proofs.Bounded.alone_makes, proofs.Acted.{ready_seen, ready_executes}}
 use Rattle.ct_session.proofs.alone.offered.Goals as goal
 
 pub commit-pass-requires-clause-offer : goal.commit-pass-requires-clause-offer

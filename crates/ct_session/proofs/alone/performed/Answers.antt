@@ -1,9 +1,10 @@
 use Rattle.std.proofs.Common.{false, [], refl, sym, subst}
 use Rattle.ct_statement.{specs.Sight.{actions_before, history_of}, proofs.Sights.sight_grows}
 use Rattle.ct_query.specs.Views.{statement_of}
-use Rattle.ct_session.{specs.Offering.IsReady, specs.Prepared.{IsPreparedFor, needs_step, unmet, wanting_memory}, proofs.Actions.ready_to_offer, proofs.Outside.{prepared_on, refused_on, answered_on}}
+use Rattle.ct_transaction.specs.Prepared.{IsPreparedFor, needs_step, unmet, wanting_memory}
+use Rattle.ct_session.{specs.Offering.IsReady, proofs.Ready.ready_to_offer, proofs.Outside.{prepared_on, refused_on, answered_on}}
 use Rattle.ct_session.specs.declared.alone.Ready.TheVariants as ready
-use Rattle.ct_session.specs.declared.preparing.Prepared.TheVariants as prepared
+use Rattle.ct_transaction.specs.declared.preparing.Prepared.TheVariants as prepared
 use Rattle.ct_session.proofs.alone.performed.Goals as goal
 
 pub returns-in-Ok-Answer-clause-ok : goal.returns-in-Ok-Answer-clause-ok

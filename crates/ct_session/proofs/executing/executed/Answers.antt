@@ -1,9 +1,9 @@
-use Rattle.ct_session.proofs.Bounded.{makes_bounded, unread_bounded}
-use Rattle.ct_session.{specs.Sessions.state_of, proofs.Readings.is_written, proofs.Replies.proceeds_same, proofs.Unread.unread_answers}
+use Rattle.ct_transaction.{specs.Sessions.state_of, proofs.Replies.proceeds_same}
+use Rattle.ct_session.{proofs.Bounded.{makes_bounded, unread_bounded}, proofs.Readings.is_written, proofs.Unread.unread_answers}
 use Rattle.ct_session.proofs.executing.executed.Goals as goal
 
 pub placed-done-requires-clause-written : goal.placed-done-requires-clause-written
-placed-done-requires-clause-written g c = is_written c.args.text.now c.in-Ok.statement c.in-Ok.ensures.ok
+placed-done-requires-clause-written g c κs within = is_written c.args.text.now c.in-Ok.statement c.in-Ok.ensures.ok
 
 pub returns-clause-answers : goal.returns-clause-answers
 returns-clause-answers g c = c.placed-done.ensures.executes c.args.text.now c.in-Ok.ensures.ok

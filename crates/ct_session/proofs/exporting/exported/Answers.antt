@@ -1,7 +1,8 @@
 use Rattle.std.{proofs.Common.{refl, subst}, proofs.lemmas.Result.IfOk-at_ok}
 use Rattle.ct_keeper.specs.Catalogue.{IsNewest}
 use Rattle.ct_table.specs.Snapshot.{commits_to}
-use Rattle.ct_session.{specs.Exporting.{IsFileOf, WhyNoFile}, specs.Standing.Standing, proofs.Opened.session_grows, proofs.StillKnown.{seen_longer, known_stays}}
+use Rattle.ct_transaction.proofs.Opened.{session_grows}
+use Rattle.ct_session.{specs.Exporting.{IsFileOf, WhyNoFile}, specs.Standing.Standing, proofs.StillKnown.{seen_longer, known_stays}}
 use Rattle.ct_session.proofs.Exports.{session_seen, now_is, looked, exported_then, not_exported_then}
 use Rattle.ct_session.proofs.exporting.exported.Goals as goal
 

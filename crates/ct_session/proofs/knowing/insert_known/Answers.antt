@@ -4,8 +4,8 @@ use Rattle.ct_condition.specs.Writes.{charge}
 use Rattle.ct_query.specs.Views.{statement_of}
 use Rattle.ct_word.proofs.Prefixes.{prefix_of_prefix}
 use Rattle.ct_statement.{specs.Making.says_full, proofs.Sights.sight_grows}
-use Rattle.ct_session.{specs.Answers.is_full, specs.Bounded.Makes, proofs.Bounded.{charged_less, makes_longer}}
-use Rattle.ct_session.{specs.Known.SeesAlone, specs.Sessions.state_of, proofs.Called.called, proofs.Going.version_within}
+use Rattle.ct_transaction.{specs.Answers.is_full, specs.Bounded.Makes, specs.Sessions.state_of, proofs.Called.called, proofs.Going.version_within}
+use Rattle.ct_session.{specs.Known.SeesAlone, proofs.Bounded.{charged_less, makes_longer}}
 use Rattle.ct_session.proofs.Again.{known_seen, known_executes, none_committed, outcome_wants, offer_wanted, session_stays, rows_literal, unmade_makes, unmade_insertion, offered_insertion, offered_makes}
 use Rattle.ct_transcript.specs.declared.reply.Reply.TheVariants as reply
 use Rattle.ct_session.proofs.knowing.insert_known.Goals as goal

@@ -1,9 +1,9 @@
-use Rattle.std.{proofs.Common.{ap, arith, length, refl, sym, subst, ◌∙◌}, specs.Prelude.{None, IfOk}, proofs.lemmas.Result.IfOk-at_ok}
+use Rattle.std.{proofs.Common.{ap, arith, length, refl, subst, ◌∙◌}, specs.Prelude.None, proofs.lemmas.Result.IfOk-at_ok}
 use Rattle.ct_word.{specs.Reading.commits_of, proofs.Prefixes.prefix_of_prefix}
 use Rattle.ct_keeper.specs.Catalogue.{IsNewest}
 use Rattle.ct_statement.specs.Unmet.{IsWant}
-use Rattle.ct_session.{specs.Sessions.state_of, proofs.Again.full_refused, proofs.Going.version_within, proofs.Ordered.{memory_carried, tally_kept}, proofs.Outside.refused_outside}
-use Rattle.ct_session.proofs.Replies.{proceeds}
+use Rattle.ct_transaction.{specs.Sessions.state_of, proofs.Going.version_within, proofs.Ordered.{memory_carried, tally_kept}, proofs.Replies.proceeds}
+use Rattle.ct_session.{proofs.Again.full_refused, proofs.Outside.refused_outside}
 use Rattle.ct_session.proofs.knowing.wanting.Goals as goal
 
 pub returns-in_default-clause-session : goal.returns-in_default-clause-session

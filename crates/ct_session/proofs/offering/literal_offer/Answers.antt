@@ -1,11 +1,11 @@
 use Rattle.std.proofs.Common.{None, ◌+◌, arith, ap, refl, sym, subst, ◌∙◌}
 use Rattle.ct_word.proofs.Prefixes.{prefix_same}
 use Rattle.ct_query.{specs.Reads.reads_of, specs.Views.{action_of, statement_of}}
-use Rattle.ct_session.{specs.declared.offering.Offering.Offering, specs.Offering.{IsFoundAlone, IsReadyToOffer}, specs.Prepared.IsLiteralAct}
+use Rattle.ct_transaction.specs.Bounded.{Performs}
+use Rattle.ct_session.{specs.declared.offering.Offering.Offering, specs.Offering.{IsFoundAlone, IsReadyToOffer, IsLiteralAct}}
+use Rattle.ct_session.proofs.Literal.{literal_encodes, literal_ready, literal_refused}
 use Rattle.ct_condition.specs.Writes.{charge}
 use Rattle.ct_statement.specs.Making.{says_full}
-use Rattle.ct_session.specs.Bounded.{Performs}
-use Rattle.ct_session.proofs.Literal.{literal_encodes, literal_ready, literal_refused}
 use Rattle.ct_session.proofs.offering.literal_offer.Goals as goal
 
 pub propose_literal-proposed-requires-clause-encodable : goal.propose_literal-proposed-requires-clause-encodable

@@ -1,7 +1,8 @@
 use Rattle.std.proofs.Common.{◌≡◌, ◌≢◌, List, sym, subst}
 use Rattle.ct_lex.{specs.declared.token.Token.Token, specs.Tokens.Lexes}
 use Rattle.ct_transcript.specs.declared.reply.Refusal.{Refusal}
-use Rattle.ct_session.{specs.Statements.IsTextFault, proofs.Readings.{lexical_fault, no_text_fault, grammatical_fault, grammatical_first}}
+use Rattle.ct_transaction.specs.Statements.{IsTextFault}
+use Rattle.ct_session.proofs.Readings.{lexical_fault, no_text_fault, grammatical_fault, grammatical_first}
 use Rattle.ct_transcript.specs.declared.reply.Refusal.TheVariants as refusal
 use Rattle.ct_session.proofs.reading.read.Goals as goal
 

@@ -8,10 +8,10 @@ use Rattle.ct_query.specs.declared.action.Ask.TheVariants as ask
 use Rattle.ct_statement.proofs.asking.possible_rows.Goals as goal
 
 pub possible-requires-clause-global : goal.possible-requires-clause-global
-possible-requires-clause-global g c = c.in-Ok.ensures.ok.condition.place
+possible-requires-clause-global g c κs within = c.in-Ok.ensures.ok.condition.place
 
 pub possible-requires-clause-plain : goal.possible-requires-clause-plain
-possible-requires-clause-plain g c = c.in-Ok.ensures.ok.condition.plain
+possible-requires-clause-plain g c κs within = c.in-Ok.ensures.ok.condition.plain
 
 pub returns-in-Err-clause-err : goal.returns-in-Err-clause-err
 returns-in-Err-clause-err g c =

@@ -11,13 +11,13 @@ use Rattle.ct_query.specs.declared.action.Ask.TheVariants as ask
 use Rattle.ct_statement.proofs.certainty.certain_rows.Goals as goal
 
 pub certain-listed-requires-clause-global : goal.certain-listed-requires-clause-global
-certain-listed-requires-clause-global g c = c.in-Ok.ensures.ok.condition.place
+certain-listed-requires-clause-global g c κs within = c.in-Ok.ensures.ok.condition.place
 
 pub certain-listed-requires-clause-plain : goal.certain-listed-requires-clause-plain
-certain-listed-requires-clause-plain g c = c.in-Ok.ensures.ok.condition.plain
+certain-listed-requires-clause-plain g c κs within = c.in-Ok.ensures.ok.condition.plain
 
 pub certain-listed-requires-clause-kept : goal.certain-listed-requires-clause-kept
-certain-listed-requires-clause-kept g c =
+certain-listed-requires-clause-kept g c κs within =
     let old = c.args.pass.now.words in
     let new = c.answered.new.pass.words in
     let h = history_of old c.args.sight.now in

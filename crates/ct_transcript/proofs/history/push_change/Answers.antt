@@ -1,6 +1,6 @@
 use Rattle.std.{proofs.Common.{◌++◌, ◌∙◌, ap}, specs.Prelude.{codes, string_bytes}, proofs.lemmas.Result.on_ok_weaker}
 use Rattle.ct_print.{specs.TermText.{in_parentheses, with_commas}, proofs.Joins.both_written}
-use Rattle.ct_transcript.specs.Text.{rows_text}
+use Rattle.ct_transcript.{specs.NodeText.with_names, specs.Text.rows_text}
 use Rattle.ct_transcript.proofs.history.push_change.Goals as goal
 
 pub returns-in_ok-push_about-in-Create : goal.returns-in_ok-push_about-in-Create
@@ -11,7 +11,7 @@ returns-in_ok-push_about-in-Create c =
 
 pub returns-in_ok-push_about-in-Insert : goal.returns-in_ok-push_about-in-Insert
 returns-in_ok-push_about-in-Insert c =
-    let shown = ap (λ rs. string_bytes c.push_about-in-Insert.new.out ++ rows_text c.args.nodes.now c.args.printed.now rs) c.as_slice-in-Insert.ensures in
+    let shown = ap (λ rs. string_bytes c.push_about-in-Insert.new.out ++ rows_text c.args.nodes.now (with_names c.args.nodes.now c.args.names.now) rs) c.as_slice-in-Insert.ensures in
     rw c.in-Insert.is
     (on_ok_weaker c.push_rows.result (λ put. both_written (codes "insert into " ++ c.in-Insert.name ++ codes " ") _ _ _ _ c.in_ok-push_about-in-Insert.ensures (put ∙ shown)) c.push_rows.ensures)
 

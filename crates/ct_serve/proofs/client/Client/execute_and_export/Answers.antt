@@ -1,7 +1,7 @@
 use Rattle.std.{proofs.Common.{sym, subst}, specs.Prelude.{IfOk, IfErr}}
 use Rattle.ct_arena.specs.Seen.{Seen}
 use Rattle.ct_session.specs.Exporting.{IsFileOf}
-use Rattle.ct_serve.specs.Exports.{IsAfterAll, WhyNone}
+use Rattle.ct_serve.specs.TableFiles.{IsAfterAll, WhyNone}
 use Rattle.ct_serve.proofs.client.Client.execute_and_export.Goals as goal
 
 pub returns-clause-file : goal.returns-clause-file

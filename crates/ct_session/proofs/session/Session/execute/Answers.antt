@@ -1,5 +1,6 @@
 use Rattle.std.{proofs.Common.{◌≡◌, ap, sym, subst, ◌∙◌}, specs.Prelude.{Option, Some, option_map}}
-use Rattle.ct_session.{specs.Bounded.IsBounded, specs.Standing.{Standing, standing_of, state_in}}
+use Rattle.ct_transaction.specs.Bounded.{IsBounded}
+use Rattle.ct_session.specs.Standing.{Standing, standing_of, state_in}
 use Rattle.ct_session.proofs.session.Session.execute.Goals as goal
 
 -- the standing of a state that is there

@@ -1,0 +1,6 @@
+pub mod Reached
+pub mod Generated
+pub mod Served
+pub mod Certified
+pub mod Bounds
+pub mod Behind

@@ -1,4 +1,0 @@
-use Rattle.ct_serve.proofs.exporting.exported_after.Given as goal
-
-abbrev pub ghosts-exported_named : goal.ghosts-exported_named
-ghosts-exported_named g a = record { log = a.blank; sessions = 1 }

@@ -1,0 +1,14 @@
+pub mod Statements
+pub mod State
+pub mod Seeing
+pub mod LawfulRefusal
+pub mod LawfulReply
+pub mod Answers
+pub mod Bounded
+pub mod Sessions
+pub mod Prepared
+pub mod Executes
+pub mod Orders
+pub mod Replying
+pub mod Outcomes
+pub mod Extending

@@ -1,0 +1,117 @@
+-- What a statement asks for, ready to be given, and why it is refused.
+use Rattle.std.specs.Prelude.{◌≡◌, ◌≢◌, ◌+◌, ℕ, Bool, true, false, List, Option, Some, None, IsSome, Ok, Err}
+use Rattle.ct_word.specs.Change.{PlainChange, PlainCommit}
+use Rattle.ct_query.specs.Plain.{PlainAction, PlainQuery, PlainStatement}
+use Rattle.ct_query.specs.Plain as plain
+use Rattle.ct_query.specs.Views.{action_of}
+use Rattle.ct_query.specs.declared.action.Ask.{Ask}
+use Rattle.ct_query.specs.declared.action.Read.{Read}
+use Rattle.ct_query.specs.Reads.{reads_of}
+use Rattle.ct_query.specs.Fits.{FitsStatement}
+use Rattle.ct_query.specs.Schema.{schema}
+use Rattle.ct_parse.specs.declared.tree.Statement.{Statement}
+use Rattle.ct_parse.specs.declared.tree.Statement.TheVariants as tree
+use Rattle.ct_word.specs.Condition.{Condition}
+use Rattle.ct_resolve.specs.declared.error.ResolveError.{ResolveError}
+use Rattle.ct_resolve.specs.declared.error.ResolveError.TheVariants as name
+use Rattle.ct_resolve.specs.Statements.{resolved}
+use Rattle.ct_resolve.specs.Writing.{WritesStatement}
+use Rattle.ct_transcript.specs.declared.reply.Refusal.{Refusal}
+use Rattle.ct_transcript.specs.declared.reply.Refusal.TheVariants as refusal
+use Rattle.ct_statement.specs.declared.sight.Sight.{Sight}
+use Rattle.ct_statement.specs.declared.replying.Answered.{Answered}
+use Rattle.ct_statement.specs.Answered.{Answers}
+use Rattle.ct_statement.specs.Drawing.{drawn}
+use Rattle.ct_statement.specs.Proposals.{IsProposal, IsStep}
+use Rattle.ct_statement.specs.Unmet.{IsUnmet}
+use Rattle.ct_transaction.specs.declared.preparing.Prepared.{Prepared}
+use Rattle.ct_transaction.specs.declared.preparing.Prepared.TheVariants as prepared
+use Rattle.ct_statement.specs.declared.stepping.Step.{Step}
+
+-- the refusal of a name or a count that does not fit
+abbrev pub name_refusal : ResolveError → Refusal
+name_refusal name.UnknownTable = refusal.UnknownTable
+name_refusal name.TableExists = refusal.TableExists
+name_refusal name.UnknownColumn = refusal.UnknownColumn
+name_refusal name.AmbiguousColumn = refusal.AmbiguousColumn
+name_refusal name.DuplicateName = refusal.DuplicateName
+name_refusal name.ColumnCount = refusal.ColumnCount
+name_refusal name.Memory = refusal.Memory
+
+-- where a step was made, it is that of the action
+abbrev pub IsStepIf : List ℕ → Sight → PlainAction → Option Step → Type 0
+IsStepIf words s a None = Unit {0}
+IsStepIf words s a (Some step) = IsStep words s a step
+
+-- an action as it is proposed: its change, the null that was drawn last, and the step where one was made
+pub record IsChange (words : List ℕ) (h : List PlainCommit) (before : List PlainAction) (list : List PlainChange) (fresh : ℕ) (s : Sight) (a a' : PlainAction) (changes fresh' : ℕ) (step : Option Step) : Type 0 where
+  pub action : a' ≡ a
+  pub proposes : IsProposal words h before list a changes
+  pub draws : fresh' ≡ fresh + drawn a
+  pub steps : IsStepIf words s a step
+
+-- what a statement with positions asks for, ready to be given
+abbrev pub IsPreparedFor : List ℕ → List PlainCommit → List PlainAction → List PlainChange → ℕ → Sight → PlainStatement → Prepared → Type 0
+IsPreparedFor words h before list fresh s (plain.Act a) (prepared.Change proposal step reads) =
+    IsChange words h before list fresh s a (action_of proposal.action) proposal.changes proposal.fresh step × (reads ≡ reads_of (plain.Act a))
+IsPreparedFor words h before list fresh s (plain.Asks k columns query) (prepared.Answer answered reads) =
+    Answers h before words k columns query answered × (reads ≡ reads_of (plain.Asks k columns query))
+IsPreparedFor words h before list fresh s _ _ = ⊥
+
+-- a statement resolves to what is prepared
+pub record IsPrepared (words : List ℕ) (h : List PlainCommit) (before : List PlainAction) (list : List PlainChange) (session fresh : ℕ) (s : Sight) (st : Statement) (p : Prepared) : Type 0 where
+  pub asked : PlainStatement
+  pub resolves : resolved (schema h before) session fresh st ≡ Ok asked
+  pub prepared : IsPreparedFor words h before list fresh s asked p
+
+-- what an answer was prepared for
+pub record ForAnswer (words : List ℕ) (h : List PlainCommit) (before : List PlainAction) (session fresh : ℕ) (st : Statement) (given : Answered) (reads : List Read) : Type 0 where
+  pub kind : Ask
+  pub columns : List (List ℕ)
+  pub query : PlainQuery
+  pub resolves : resolved (schema h before) session fresh st ≡ Ok (plain.Asks kind columns query)
+  pub answers : Answers h before words kind columns query given
+  pub reads_are : reads ≡ reads_of (plain.Asks kind columns query)
+
+-- a statement resolves to one for which this is wanting
+pub record IsUnmetAt (h : List PlainCommit) (before : List PlainAction) (room : ℕ) (words : List ℕ) (session fresh : ℕ) (st : Statement) (why : Refusal) : Type 0 where
+  pub asked : PlainStatement
+  pub resolves : resolved (schema h before) session fresh st ≡ Ok asked
+  pub unmet : IsUnmet h before room words asked why
+
+-- why a statement is refused: a name or a count does not fit, or something is wanting for it
+pub data IsRefused (h : List PlainCommit) (before : List PlainAction) (room : ℕ) (words : List ℕ) (session fresh : ℕ) (st : Statement) : Refusal → Type 0 where
+  by_name : (e : ResolveError) → e ≢ name.Memory → resolved (schema h before) session fresh st ≡ Err e → IsRefused h before room words session fresh st (name_refusal e)
+  unmet : (why : Refusal) → IsUnmetAt h before room words session fresh st why → IsRefused h before room words session fresh st why
+  wanting_memory : IsRefused h before room words session fresh st refusal.Memory
+
+-- a statement is no BEGIN, COMMIT or ROLLBACK
+abbrev pub IsNoOrder : Statement → Type 0
+IsNoOrder tree.Begin = ⊥
+IsNoOrder tree.Commit = ⊥
+IsNoOrder tree.Rollback = ⊥
+IsNoOrder _ = Unit {0}
+
+-- a statement with positions is no BEGIN, COMMIT or ROLLBACK
+abbrev pub IsNoPlainOrder : PlainStatement → Type 0
+IsNoPlainOrder (plain.Act a) = Unit {0}
+IsNoPlainOrder (plain.Asks k columns query) = Unit {0}
+IsNoPlainOrder _ = ⊥
+
+-- a statement resolves to this one with positions, which fits the tables and can be written, and is no order
+pub record IsResolved (h : List PlainCommit) (before : List PlainAction) (session fresh : ℕ) (st : Statement) (asked : PlainStatement) : Type 0 where
+  pub resolves : resolved (schema h before) session fresh st ≡ Ok asked
+  pub fits : FitsStatement (schema h before).tables asked
+  pub writes : WritesStatement asked
+  pub plain : IsNoPlainOrder asked
+
+-- whether an action is an assertion
+abbrev pub is_assertion : PlainAction → Bool
+is_assertion (plain.Assert c) = true
+is_assertion _ = false
+
+-- the step of an action was made, in a transaction and for an assertion
+abbrev pub needs_step : Bool → Prepared → Type 0
+needs_step true (prepared.Change proposal step reads) = IsSome step
+needs_step false (prepared.Change proposal step reads) = (c : Condition) → action_of proposal.action ≡ plain.Assert c → IsSome step
+needs_step inside (prepared.Answer answered reads) = Unit {0}
