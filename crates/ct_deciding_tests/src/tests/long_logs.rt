@@ -12,7 +12,7 @@ use std::alloc::Global;
 use std::test::Fail;
 
 /// How many nulls a chain has.
-const NULLS: u32 = 64;
+const NULLS: u32 = 1_000;
 
 /// Puts numbers into the log, until it has so many words.
 fn lengthen<N: Site>(arena: &Arena<N>, pass: &mut Pass<N>, length: u32) -> Result<(), Fail> {
