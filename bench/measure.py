@@ -3,6 +3,7 @@
 import glob
 import os
 import re
+import shutil
 import subprocess
 import sys
 import tempfile
@@ -26,16 +27,17 @@ def insertions(count):
     return "create table t (a, b);\n" + "".join(rows) + "select * from t where b = ?x_3;\n"
 
 
-def run(words, script):
-    """Runs words on a file with the script. Returns the seconds of processor time, those by the clock, the exit status,
-    what it wrote to standard output and what to standard error."""
+def run(words, script, options=()):
+    """Runs words on a file with the script, with options before it. Returns the seconds of processor time, those by the clock,
+    the exit status, what it wrote to standard output and what to standard error."""
     with tempfile.TemporaryDirectory() as room:
         path = os.path.join(room, "script.sql")
         with open(path, "w", encoding="utf-8") as it:
             it.write(script)
         began = time.monotonic()
         with open(os.path.join(room, "out"), "w+b") as out, open(os.path.join(room, "err"), "w+b") as err:
-            child = subprocess.Popen([*words, "run", path], stdin=subprocess.DEVNULL, stdout=out, stderr=err, cwd=room)
+            said = [*words, "run", *options, path]
+            child = subprocess.Popen(said, stdin=subprocess.DEVNULL, stdout=out, stderr=err, cwd=room)
             _, status, used = os.wait4(child.pid, 0)
             child.returncode = os.waitstatus_to_exitcode(status)
             took = time.monotonic() - began
@@ -49,22 +51,30 @@ def fastest(script, times):
     return min((run([program()], script)[:4] for _ in range(times)), key=lambda ran: ran[0])
 
 
-def peak(script):
-    """Returns the greatest memory of a run of the program on the script, in KiB."""
+def greatest(words, room):
+    """Returns the exit status of a run of the program on words, in a folder, and its greatest memory in KiB, as GNU time says
+    it. What the system tells Python of its own child has Python's memory in it."""
+    time_of = shutil.which("time")
+    if not time_of:
+        sys.exit("no memory without GNU time")
+    wanted = {"stdin": subprocess.DEVNULL, "stdout": subprocess.DEVNULL, "stderr": subprocess.PIPE}
+    ran = subprocess.run([time_of, "-f", "%M", program(), *words], cwd=room, check=False, **wanted)
+    return ran.returncode, int(ran.stderr.split()[-1])
+
+
+def peak(script, options=()):
+    """Returns the greatest memory of a run of the program on the script, with options before it, in KiB."""
     with tempfile.TemporaryDirectory() as room:
         path = os.path.join(room, "script.sql")
         with open(path, "w", encoding="utf-8") as it:
             it.write(script)
-        child = subprocess.Popen([program(), "run", path], stdout=subprocess.DEVNULL, stderr=subprocess.DEVNULL, cwd=room)
-        _, status, used = os.wait4(child.pid, 0)
-        child.returncode = os.waitstatus_to_exitcode(status)
-        return used.ru_maxrss
+        return greatest(["run", *options, path], room)[1]
 
 
-def instructions(script):
+def instructions(script, options=()):
     """Returns the number of instructions that the program executes on the script, as valgrind counts them."""
     words = ["valgrind", "--tool=callgrind", "--callgrind-out-file=/dev/null", program()]
-    said = run(words, script)[4].decode("utf-8", "replace")
+    said = run(words, script, options)[4].decode("utf-8", "replace")
     found = re.search(r"Collected : (\d+)", said)
     if not found:
         sys.exit(f"valgrind counted nothing:\n{said}")

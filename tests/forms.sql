@@ -65,7 +65,7 @@ insert into t values ('%', 4);
 insert into t values ('O'Neill', 1);
 select a from t where a = 'O';
 select a + b from t;
-update t set a = 'two
+merge t set a = 'two
 lines';
 insert into t values ('O'Neill', 1);
 select a from t where a like 'A%';

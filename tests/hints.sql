@@ -38,7 +38,7 @@ create table u as select a from t;
 select a from t for update;
 insert into t with u as (select a from t) select a, a from u;
 select case when a = 1 then 2 else 3 end from t;
-update t set a = 1;
+upsert into t values (3, 4);
 alter table t add c;
 truncate table t;
 start transaction;

@@ -19,7 +19,7 @@ select name from supplier where name < 'B';
 select name from supplier where city == 'Rome';
 select "name" from supplier;
 select name, from supplier;
-update supplier set city = 'Rome';
+merge into supplier values ('Cy', 'Rome');
 drop table supplier;
 select name n from supplier;
 select * from supplier left outer join supplier u on supplier.name = u.name;

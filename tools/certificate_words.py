@@ -17,8 +17,8 @@ AT_A_TIME = 1 << 16
 CHARACTER, NUMBER, TEXT, NAMED, FRESH, OTHER, COLUMN = 2, 4, 5, 6, 7, 8, 9
 TRUE, FALSE, EQUAL, NOT, AND, OR = 10, 11, 12, 13, 14, 15
 CONSTANTS, NULLS = (NUMBER, TEXT, OTHER), (NAMED, FRESH)
-CELL, ROW, ROWS, NAMES, CHANGES, COMMIT = 17, 18, 20, 22, 28, 29
-LISTS = (CHARACTER, CELL, ROWS, NAMES, CHANGES)
+CELL, ROW, ROWS, NAMES, CHANGES, COMMIT, SET, SETS = 17, 18, 20, 22, 28, 29, 30, 32
+LISTS = (CHARACTER, CELL, ROWS, NAMES, CHANGES, SETS)
 # How many fields of these conditions are places below them.
 BRANCHES = {EQUAL: 2, NOT: 1, AND: 2, OR: 2}
 # How the words of a kind are written: A and B are the words of their fields.
@@ -34,6 +34,8 @@ FORMS = {
     24: ["insert into ", "A", " ", "B"],
     25: ["delete from ", "A", " where ", "B"],
     26: ["assert ", "A"],
+    33: ["A", " where ", "B"],
+    34: ["update ", "A", " set ", "B"],
 }
 
 
@@ -81,6 +83,8 @@ def parts(words, place):
         return [a, " <> ", b]
     if kind == NOT and words[a] >> 56 in (AND, OR):
         return ["not ", a]
+    if kind == SET:
+        return [f"${a + 1} = ", b]
     if kind == ROW and words[b] >> 56 == TRUE:
         return ["(", a, ")"]
     if kind in FORMS:

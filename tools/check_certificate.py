@@ -37,6 +37,7 @@ KINDS = {
         (21, "NameList 0 0", "NameList NameList Text"),
         (23, "Change Text NameList", "Change Text RowList", "Change Text Cond", "Change Cond 0"),
         (27, "ChangeList 0 0", "ChangeList ChangeList Change", "Commit any ChangeList"),
+        (30, "Set any Term", "SetList 0 0", "SetList SetList Set", "UpdateBody SetList Cond", "Change Text UpdateBody"),
     )
     for i, kind in enumerate(kinds)
 }

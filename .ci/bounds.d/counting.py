@@ -1,5 +1,5 @@
 """The bound on the words of a statement, written from its definition and not from the program: it is told from the text, and
-from how many distinct rows were ever inserted into each table.
+from how many distinct rows there ever were in each table.
 
 Trees of statements are those of `reading`. A count is a function from the name of a table.
 """
@@ -80,9 +80,25 @@ def query_words(query, count, width):
     return sum(query_words(side, count, width) for side in query[1:]) + operator_words(query, count, width)
 
 
+def named_columns(terms):
+    """Returns how many of these terms are columns."""
+    return sum(kind == "column" for kind, _ in terms)
+
+
+def assertion_words(tree, count, width):
+    """Returns the words of an assertion's change, with that of its commit."""
+    if tree[0] == "assert query":
+        return query_words(tree[2], count, width) + 2 * row_bound(tree[2], count) + 6
+    if tree[0] == "assert key":
+        return count(tree[1]) ** 2 * (2 * width + 3) + 6
+    return literals(tree[1]) + operations(tree[1]) + 6
+
+
 def change_words(tree, count, width):
-    """Returns the words of an action's change, with that of its commit. The width is that of its query."""
+    """Returns the words of an action's change, with that of its commit. The width is that of its query, or of its table."""
     kind, name = tree[:2]
+    if kind.startswith("assert"):
+        return assertion_words(tree, count, width)
     if kind == "create":
         return sum(len(one) + 2 for one in [name, *tree[2]]) + 6
     if kind == "insert":
@@ -92,9 +108,9 @@ def change_words(tree, count, width):
     if kind == "insert query":
         return query_words(tree[2], count, width) + row_bound(tree[2], count) * (width + 2) + len(name) + 8
     if kind == "delete":
-        columns = sum(term[0] == "column" for term in terms_of(tree[2]))
-        return literals(tree[2]) + operations(tree[2]) + columns + len(name) + 6
-    return literals(name) + operations(name) + 6
+        return literals(tree[2]) + operations(tree[2]) + named_columns(terms_of(tree[2])) + len(name) + 6
+    terms = [term for _, term in tree[2]] + terms_of(tree[3])
+    return sum(map(literal_words, terms)) + named_columns(terms) + 2 * len(tree[2]) + operations(tree[3]) + len(name) + 8
 
 
 def applying_words(tree, count):
@@ -106,7 +122,9 @@ def applying_words(tree, count):
         return len(tree[2])
     if kind == "insert query":
         return row_bound(tree[2], count)
-    return count(tree[1]) * (operations(tree[2]) + 2) if kind == "delete" else 1
+    if kind == "delete":
+        return count(tree[1]) * (operations(tree[2]) + 2)
+    return count(tree[1]) * (operations(tree[3]) + 5) if kind == "update" else 1
 
 
 def list_words(kind, rows, width):
@@ -118,7 +136,7 @@ def list_words(kind, rows, width):
 
 def bound(tree, count, own, width):
     """Returns the bound on the words of a statement. `own` has the actions of the open transaction, or is None; the width is
-    that of the statement's query, if it has one."""
+    that of the statement's query, or of the table of its key, if it has one."""
     kind = tree[0]
     if kind in ("begin", "rollback"):
         return 0

@@ -4,7 +4,7 @@ import types
 
 COPIES = {
     "no test of repeats": (' = "it stands at an earlier place" if word in seen else self', " = self"),
-    "a kind too many": ('"Commit any ChangeList")', '"Commit any ChangeList", "Commit 0 0")'),
+    "a kind too many": ('"Change Text UpdateBody")', '"Change Text UpdateBody", "Commit 0 0")'),
     "equal fields let in": ("kind in (EQUAL, AND, OR) and b <= a", "kind in (EQUAL, AND, OR) and b < a"),
     "any character let in": ("value < 55296 or 57344 <= value <= 1114111", "value <= 1114111"),
     "a word that is its own field": (

@@ -15,9 +15,12 @@ CLASSES = {
     "CondRow": (18,),
     "RowList": (19, 20),
     "NameList": (21, 22),
-    "Change": range(23, 27),
+    "Change": (*range(23, 27), 34),
     "ChangeList": (27, 28),
     "Commit": (29,),
+    "Set": (30,),
+    "SetList": (31, 32),
+    "UpdateBody": (33,),
 }
 # The fields of each kind of word: a class, or the least and the greatest number.
 NOTHING, ANY = (0, 0), (0, (1 << 28) - 1)
@@ -51,6 +54,11 @@ FIELDS = {
     27: (NOTHING, NOTHING),
     28: ("ChangeList", "Change"),
     29: (ANY, "ChangeList"),
+    30: (ANY, "Term"),
+    31: (NOTHING, NOTHING),
+    32: ("SetList", "Set"),
+    33: ("SetList", "Cond"),
+    34: ("Text", "UpdateBody"),
 }
 # Numbers at the limits of what fields may be.
 EDGES = (0, 1, 2, 255, 256, 1023, 1024, 55295, 55296, 57343, 57344, 1114111, 1114112, (1 << 28) - 1)
@@ -142,7 +150,7 @@ class Words:
 
     def any_word(self):
         """Puts a word of any kind there, or none where a field is not to be had."""
-        kind = self.chance.randint(1, 29)
+        kind = self.chance.choice(list(FIELDS))
         a, b = map(self.field, FIELDS[kind])
         if a is None or b is None or (kind in (EQUAL, AND, OR) and b <= a):
             return
@@ -409,7 +417,7 @@ def near_words(number):
         (
             (kind, chance.choice(edges), b),
             (kind, a, chance.choice(edges)),
-            (chance.choice((0, 30, 31, 255, kind + 1, chance.randint(1, 29))), a, b),
+            (chance.choice((0, 35, 36, 255, kind + 1, chance.randint(1, 34))), a, b),
             words.fields(chance.randrange(size)),
         )
     )
@@ -419,7 +427,7 @@ def near_words(number):
 def one_of_each():
     """Returns a word of each kind, in the order of the kinds."""
     words = Words(0)
-    for kind in range(1, 30):
+    for kind in FIELDS:
         # Of two terms or conditions the second one has to be the later one.
         fields = [[wanted[0]] if wanted not in CLASSES else words.of_class(wanted) for wanted in FIELDS[kind]]
         words.word(kind, fields[0][0], fields[1][-1])
@@ -443,7 +451,7 @@ def edge_words():
     words = one_of_each()
     size = len(words.words)
     places = [words.of_class(name)[0] for name in CLASSES] + [size, size + 1]
-    for kind in (0, *FIELDS, 30, 31, 128, 255):
+    for kind in (0, *FIELDS, 35, 36, 128, 255):
         for at, wanted in enumerate(FIELDS.get(kind, ())):
             edges = places if wanted in CLASSES else {max(wanted[0] - 1, 0), *wanted, min(wanted[1] + 1, ANY[1])}
             for edge in sorted(edges if kind != 2 or at == 0 else EDGES):

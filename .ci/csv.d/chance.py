@@ -69,6 +69,7 @@ class TableMaker(Maker):
         """Returns a statement that is no insertion of rows."""
         kinds = [
             f"delete from t where {self.condition(COLUMNS, 1)}",
+            f"update t set b = {self.pick(*self.terms, *COLUMNS)}, d = c where {self.condition(COLUMNS, 1)}",
             f"insert into t select b, c, d, a from t where {self.condition(COLUMNS, 1)}",
             f"assert {self.condition((), 1)}",
         ]

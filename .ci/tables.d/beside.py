@@ -8,7 +8,7 @@ import random
 import conditions
 import printed
 import transcript
-from meaning import FURTHER, database_of, holds, leaves, relevant, rows, tables_of, tuple_at
+from meaning import database_of, holds, leaves, relevant, rows, tables_of, tuple_at
 from pages import Page
 from reading import PRINTED, Reader, statement, statements, tokens
 from session import Session
@@ -16,6 +16,8 @@ from terminal import visible
 
 ROOT = os.path.dirname(os.path.dirname(os.path.dirname(os.path.realpath(__file__))))
 
+# What a null may be worth besides the constants.
+FURTHER = [("other", 0), ("other", 1), ("other", 2)]
 # So many worlds are tried of an answer, where so many of so many that are drawn are admitted.
 WORLDS = 3
 DRAWN = 30

@@ -4,11 +4,13 @@ import re
 
 import printed
 from meaning import (
-    FURTHER,
+    ASSERTIONS,
+    DEFAULT,
     database_of,
     holds,
     pattern,
     patterns_of,
+    place_of,
     relevant,
     rows,
     shown,
@@ -63,7 +65,7 @@ def wrong_world(cells, world, query, wanted):
     nulls = [null for null, _ in world]
     if sorted(set(nulls), key=rank) != nulls:
         return "a world whose nulls are not in order, or one of them twice"
-    if FURTHER[0] in [value for _, value in world]:
+    if DEFAULT in [value for _, value in world]:
         return "a world with @0"
     valuation = dict(world)
     database = database_of(wanted, valuation)
@@ -99,18 +101,26 @@ def wrong_certain(query, changes, lines):
     certain = set.intersection(
         *(rows(query, database, valuation) for valuation, database in worlds(query, changes, found) if database is not None)
     )
+    # A tuple with a further value has another one in other worlds.
+    certain = {one for one in certain if all(kind != "other" for kind, _ in one)}
     return None if set(found) == certain else f"not the rows {certain}"
 
 
 JUDGES = {"rows": wrong_rows, "possible": wrong_possible, "certain": wrong_certain}
 
 
-def is_admitting(changes, condition):
-    """Tells whether some valuation that the changes admit satisfies the condition."""
-    wanted = relevant(changes, [])
-    return any(
-        database_of(wanted, v) is not None and holds(condition, v) for v in valuations([wanted, condition])
-    )
+def is_admitting(changes, assertion):
+    """Tells whether some valuation that the changes admit satisfies the assertion after them."""
+    wanted = relevant(changes + [(assertion, {})], [])
+    return any(database_of(wanted, v) is not None for v in valuations([wanted]))
+
+
+def placed(sets, columns):
+    """Returns the sets of an update with positions for names."""
+    def place(term):
+        return ("place", place_of(term, columns) + 1) if term[0] in ("column", "place") else term
+
+    return [(place(column), place(term)) for column, term in sets]
 
 
 def is_of_kind(own, other, patterns):
@@ -118,8 +128,12 @@ def is_of_kind(own, other, patterns):
     kind, name = own[0], own[1]
     if kind == "create":
         return own == other
-    if kind in ("delete", "assert"):
-        return other[0] == kind and (kind == "assert" or name == other[1])
+    if kind in ASSERTIONS:
+        return other[0] == "assert"
+    if kind == "delete":
+        return other[:2] == own[:2]
+    if kind == "update":
+        return other[:3] == (*own[:2], placed(own[2], patterns[name][0]))
     if other[:2] != ("insert rows", name):
         return False
     cells = [row for row, _ in other[2]]
@@ -142,7 +156,7 @@ def wrong_commit(own, other):
     flat, printed_flat = sum(own, []), sum(other, [])
     if wrong := wrong_kinds(own[-1], other[-1], sum(own[:-1], [])):
         return wrong
-    tables = {change[1] for change, _ in own[-1] if change[0] != "assert"}
+    tables = {change[1] for change, _ in own[-1] if change[0] not in ASSERTIONS}
     wanted, written = relevant(flat, tables), relevant(printed_flat, tables)
     for valuation in valuations([wanted, written]):
         left, right = database_of(wanted, valuation), database_of(written, valuation)

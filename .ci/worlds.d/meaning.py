@@ -4,13 +4,17 @@ A database has for each table its columns and a set of tuples of values. A chang
 draws put for its NULLs; those of a printed commit are ("insert rows", table, [(cells, condition)]) besides.
 """
 
+import functools
 import itertools
 
 from reading import OPERATORS
 
-FURTHER = [("other", 0), ("other", 1), ("other", 2)]
-# The most valuations that one question is tried at.
+ASSERTIONS = ("assert", "assert query", "assert key")
+# What a null is worth that a valuation does not name.
+DEFAULT = ("other", 0)
+# The most valuations that one question is tried at, and the most nulls.
 MOST = 400_000
+MOST_NULLS = 16
 
 
 class TooMany(Exception):
@@ -20,7 +24,7 @@ class TooMany(Exception):
 def worth(term, valuation, row=None):
     """Returns the value of a term. `row` gives the values of columns; a null without a value is worth @0."""
     if term[0] == "null":
-        return valuation.get(term[1], FURTHER[0])
+        return valuation.get(term[1], DEFAULT)
     return row(term) if term[0] in ("column", "place") else term
 
 
@@ -80,9 +84,13 @@ def shown(given, valuation, named):
 
 
 def row_of(values, columns):
-    """Returns what gives the values of a table's columns: those of a statement, and those of a printed deletion."""
-    position = {name: i for i, name in enumerate(columns)}
-    return lambda term: values[term[1] - 1 if term[0] == "place" else position[term[1][1]]]
+    """Returns what gives the values of a table's columns: those of a statement, and those of a printed change."""
+    return lambda term: values[place_of(term, columns)]
+
+
+def place_of(column, columns):
+    """Returns the position of a column of a table: of a statement, or of a printed change."""
+    return column[1] - 1 if column[0] == "place" else columns.index(column[1][1])
 
 
 def spared(change, database, valuation, named):
@@ -91,15 +99,51 @@ def spared(change, database, valuation, named):
     return {one for one in held if not holds(change[2], valuation, row_of(one, columns), named)}
 
 
+def with_sets(row, sets, columns, worth_of):
+    """Returns a row of a table with sets made on it, all of them from the old row."""
+    new = list(row)
+    for column, term in sets:
+        new[place_of(column, columns)] = worth_of(term)
+    return tuple(new)
+
+
+def updated(change, database, valuation, named):
+    """Returns the tuples of a table after an update: with the sets made on each for which the condition holds."""
+    columns, held = database[change[1]]
+    found = set()
+    for one in held:
+        row = row_of(one, columns)
+        is_set = holds(change[3], valuation, row, named)
+        found.add(with_sets(one, change[2], columns, lambda term: worth(term, valuation, row)) if is_set else one)
+    return found
+
+
+def is_key(columns, table):
+    """Tells whether no two different tuples of a table agree at these columns."""
+    names, held = table
+    return len({tuple(row_of(one, names)(("column", (None, name))) for name in columns) for one in held}) == len(held)
+
+
+def is_satisfied(assertion, database, valuation, named):
+    """Tells whether an assertion holds on a complete database."""
+    if assertion[0] == "assert query":
+        return bool(rows(assertion[2], database, valuation)) == assertion[1]
+    if assertion[0] == "assert key":
+        return is_key(assertion[2], database[assertion[1]])
+    return holds(assertion[1], valuation, None, named)
+
+
 def step(database, change, valuation, named=None):
     """Changes a complete database in place. Tells whether it is kept: an assertion may not hold."""
     kind, name = change[0], change[1]
+    if kind in ASSERTIONS:
+        return is_satisfied(change, database, valuation, named)
     if kind == "create":
         database[name] = (change[2], set())
     elif kind == "delete":
         database[name] = (database[name][0], spared(change, database, valuation, named))
-    elif kind == "assert":
-        return holds(name, valuation, None, named)
+    elif kind == "update":
+        database[name] = (database[name][0], updated(change, database, valuation, named))
     else:
         columns, held = database[name]
         if kind == "insert query":
@@ -134,20 +178,24 @@ def is_plainly_true(condition):
     return condition[0] == "true" or (condition[0] in ("and", "or") and all(map(is_plainly_true, condition[1])))
 
 
+def seen_by(change):
+    """Returns the tables whose tuples a change depends on, besides its own."""
+    if change[0] in ("insert query", "assert query"):
+        return set(tables_of(change[2]))
+    return {change[1]} if change[0] == "assert key" else set()
+
+
 def relevant(changes, tables):
-    """Returns the changes that these tables depend on, and all assertions. What a table had before all of its rows were
-    deleted is left out."""
+    """Returns the changes that these tables depend on, and all assertions with what they depend on. What a table had before
+    all of its rows were deleted is left out."""
     wanted, emptied, found = set(tables), set(), []
     for change in reversed(changes):
         kind, name = change[0][:2]
-        if kind == "assert":
+        if kind in ASSERTIONS or kind == "create" and name in wanted or name in wanted - emptied:
             found.append(change)
-        elif kind == "create" and name in wanted or name in wanted - emptied:
-            found.append(change)
-            if kind == "insert query":
-                wanted |= set(tables_of(change[0][2]))
-                emptied -= set(tables_of(change[0][2]))
-            elif kind == "delete" and is_plainly_true(change[0][2]):
+            wanted |= seen_by(change[0])
+            emptied -= seen_by(change[0])
+            if kind == "delete" and is_plainly_true(change[0][2]):
                 emptied.add(name)
     return found[::-1]
 
@@ -163,18 +211,38 @@ def leaves(tree, kinds):
     return set()
 
 
+def choices(count, constants, used=0):
+    """Gives the choices of so many values: each a constant, a further value that was chosen before, or the next one."""
+    if count == 0:
+        yield ()
+        return
+    further = [("other", k) for k in range(used + 1)]
+    for value in constants + further:
+        for rest in choices(count - 1, constants, used + (value == further[-1])):
+            yield (value, *rest)
+
+
+@functools.cache
+def how_many(count, constants, used=0):
+    """Returns how many choices there are, for so many constants."""
+    if count == 0:
+        return 1
+    return (constants + used) * how_many(count - 1, constants, used) + how_many(count - 1, constants, used + 1)
+
+
 def valuations(trees):
-    """Returns every valuation of the nulls of trees by their constants and three further values."""
+    """Returns every valuation of the nulls of trees by their constants and as many further values as there are nulls. Where
+    some differ only in which further values they have, one of them is there: nothing tells them apart."""
     nulls = sorted(value for _, value in leaves(trees, ("null",)))
-    values = sorted(leaves(trees, ("number", "text")), key=repr) + FURTHER
-    if len(values) ** len(nulls) > MOST:
-        raise TooMany(f"{len(nulls)} nulls over {len(values)} values")
-    return [dict(zip(nulls, chosen)) for chosen in itertools.product(values, repeat=len(nulls))]
+    constants = sorted(leaves(trees, ("number", "text")), key=repr)
+    if len(nulls) > MOST_NULLS or how_many(len(nulls), len(constants)) > MOST:
+        raise TooMany(f"{len(nulls)} nulls over {len(constants)} constants")
+    return [dict(zip(nulls, chosen)) for chosen in choices(len(nulls), constants)]
 
 
 def pattern(query, patterns):
     """Gives one after another the rows that a query combines, in order, whatever their conditions: cells of terms.
-    `patterns` has for each table its columns and the rows that were ever inserted."""
+    `patterns` has for each table its columns and its rows, as `patterns_of` gives them."""
     if query[0] in OPERATORS:
         yield from pattern(query[1], patterns)
         if query[0] == "union":
@@ -187,8 +255,17 @@ def pattern(query, patterns):
         yield row if items is None else tuple(row[position[column[1]]] for column, _ in items)
 
 
+def with_updated(lists, sets, columns):
+    """Returns rows of terms, after each of them the one with the sets of an update."""
+    found = []
+    for row in lists:
+        cell = row_of(row, columns)
+        found += [row, with_sets(row, sets, columns, lambda term: cell(term) if term[0] in ("column", "place") else term)]
+    return found
+
+
 def patterns_of(changes):
-    """Returns for each table its columns and all rows that were ever inserted into it."""
+    """Returns for each table its columns and all rows that were ever inserted into it, or made of those by an update."""
     found = {}
     for change, _ in changes:
         if change[0] == "create":
@@ -199,6 +276,9 @@ def patterns_of(changes):
             found[change[1]][1].extend(row for row, _ in change[2])
         elif change[0] == "insert query":
             found[change[1]][1].extend(list(pattern(change[2], found)))
+        elif change[0] == "update":
+            columns, lists = found[change[1]]
+            found[change[1]] = (columns, with_updated(lists, change[2], columns))
     return found
 
 
@@ -215,7 +295,8 @@ def size(query, counts):
     return product, most
 
 
-def greatest_part(query, changes):
-    """Returns how many rows or pairs of rows the greatest part of a query goes through, by all rows ever inserted."""
+def greatest_part(tree, changes):
+    """Returns how many rows or pairs of rows the greatest part of a statement goes through, by all rows there ever were: of
+    its query, or of the table of a key."""
     counts = {name: len(set(found)) for name, (_, found) in patterns_of(changes).items()}
-    return size(query, counts)[1]
+    return counts[tree[1]] ** 2 if tree[0] == "assert key" else size(tree[-1], counts)[1]

@@ -60,6 +60,25 @@ def check_creation(name, columns, schema):
         raise Refused("DuplicateName")
 
 
+def check_update(name, sets, condition, schema):
+    scope = [(name, known(name, schema))]
+    for column, term in sets:
+        check_column(column[1], scope)
+        if term[0] == "column":
+            check_column(term[1], scope)
+    if len({column for column, _ in sets}) < len(sets):
+        raise Refused("DuplicateName")
+    check_condition(condition, scope)
+
+
+def check_key(name, columns, schema):
+    scope = [(name, known(name, schema))]
+    for column in columns:
+        check_column((None, column), scope)
+    if len(set(columns)) < len(columns):
+        raise Refused("DuplicateName")
+
+
 def check(statement, schema):
     """Refuses a statement for its names and counts."""
     kind = statement[0]
@@ -67,6 +86,12 @@ def check(statement, schema):
         check_creation(*statement[1:], schema)
     elif kind == "assert":
         check_condition(statement[1], [])
+    elif kind == "assert query":
+        headed(statement[2], schema)
+    elif kind == "assert key":
+        check_key(*statement[1:], schema)
+    elif kind == "update":
+        check_update(*statement[1:], schema)
     elif kind == "delete":
         check_condition(statement[2], [(statement[1], known(statement[1], schema))])
     elif kind == "insert":

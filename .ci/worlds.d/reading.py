@@ -1,9 +1,9 @@
 """Reads scripts: statements, tokens, and trees.
 
 A term is a pair: ("number", 1), ("text", "x"), ("other", 0) for @0, ("null", "?x"), ("fresh", None) for NULL,
-("column", (table or None, name)), or ("place", k) for the column $k of a printed deletion. A condition is ("true",),
-("false",), ("same", s, t), ("not", c), ("and", [..]), ("or", [..]), or ("name", "[k]") in a printed one. A query is
-("select", items, tables, conditions) or (operator, left, right).
+("column", (table or None, name)), or ("place", k) for the column $k of a printed deletion or update. A condition is
+("true",), ("false",), ("same", s, t), ("not", c), ("and", [..]), ("or", [..]), or ("name", "[k]") in a printed one. A query is
+("select", items, tables, conditions) or (operator, left, right). The sets of an update are pairs of a column and a term.
 """
 
 import re
@@ -111,6 +111,10 @@ class Reader:
 
     def peek(self):
         return self.rest[0][1] if self.rest and self.rest[0][0] in ("word", "symbol") else None
+
+    def begins(self, *wanted):
+        """Tells whether these words come next."""
+        return self.rest[: len(wanted)] == [("word", one) for one in wanted]
 
     def take(self, *wanted):
         """Takes the next word or symbol where it is one of these."""
@@ -246,19 +250,48 @@ class Reader:
         self.need("from")
         return ("delete", self.name(), self.condition() if self.take("where") else ("true",))
 
+    def assignment(self):
+        """Reads the column that an update sets, and its term."""
+        is_place = self.rest and self.rest[0][0] == "place"
+        column = self.next("place") if is_place else ("column", (None, self.name()))
+        self.need("=")
+        return column, self.term()
+
+    def update(self):
+        name = self.name()
+        self.need("set")
+        sets = self.run(self.assignment, ",")
+        return ("update", name, sets, self.condition() if self.take("where") else ("true",))
+
+    def assertion(self):
+        if self.begins("exists") or self.begins("not", "exists"):
+            wanted = not self.take("not")
+            self.need("exists", "(")
+            query = self.query()
+            self.need(")")
+            return ("assert query", wanted, query)
+        # The word key is no keyword: it is one here where a name stands behind it.
+        if self.begins("key") and self.rest[1:] and self.rest[1][0] == "word" and self.rest[1][1] not in KEYWORDS:
+            self.need("key")
+            return ("assert key", self.name(), self.listed(self.name))
+        return ("assert", self.condition())
+
     def creation(self):
         self.need("table")
         return ("create", self.name(), self.listed(self.name))
 
     def statement(self):
-        kind = self.take("create", "insert", "delete", "assert", "begin", "commit", "rollback", "possible", "certain")
+        changes = {
+            "create": self.creation,
+            "insert": self.insertion,
+            "delete": self.deletion,
+            "update": self.update,
+            "assert": self.assertion,
+        }
+        kind = self.take(*changes, "begin", "commit", "rollback", "possible", "certain")
         if kind in ("begin", "commit", "rollback"):
             return (kind,)
-        if kind == "assert":
-            return (kind, self.condition())
-        if kind in ("create", "insert", "delete"):
-            return {"create": self.creation, "insert": self.insertion, "delete": self.deletion}[kind]()
-        return (kind or "rows", self.query())
+        return changes[kind]() if kind in changes else (kind or "rows", self.query())
 
 
 def statement(text):

@@ -20,8 +20,8 @@ class RunMaker(Maker):
 
     def single(self):
         """Returns a statement that may stand in a transaction or outside."""
-        kinds = [self.insertion] * 5 + [self.deletion] * 2 + [self.question] * 5 + [self.assertion]
-        return self.pick(*kinds)()
+        changes = [self.insertion] * 5 + [self.deletion, self.update, self.update, self.assertion, self.assertion]
+        return self.pick(*changes, *[self.question] * 5)()
 
     def statements(self, count):
         return [text for _ in range(count) for text in [*self.pause(), self.single()]]

@@ -70,19 +70,35 @@ class Maker:
         table = self.pick(*TABLES)
         return f"delete from {table}" + (f" where {self.condition(TABLES[table])}" if self.chance.random() < 0.97 else "")
 
+    def update(self):
+        table = self.pick(*TABLES)
+        columns = TABLES[table]
+        chosen = self.chance.sample(columns, self.pick(1, len(columns)))
+        sets = ", ".join(f"{column} = {self.term(columns)}" for column in chosen)
+        where = f" where {self.condition(columns)}" if self.chance.random() < 0.9 else ""
+        return f"update {table} set {sets}{where}"
+
     def question(self):
         return self.pick("", "", "possible ", "certain ") + self.query(self.pick(1, 1, 2))
 
+    def key(self):
+        table = self.pick(*TABLES)
+        columns = self.chance.sample(TABLES[table], self.pick(1, len(TABLES[table])))
+        return f"assert key {table} ({', '.join(columns)})"
+
     def assertion(self):
-        return f"assert {self.condition(())}"
+        form = self.chance.random()
+        if form < 0.5:
+            return f"assert {self.condition(())}"
+        return self.key() if form < 0.65 else f"assert {self.pick('', 'not ')}exists ({self.query(self.pick(1, 1, 2))})"
 
     def moment(self):
         """Returns the beginning or the end of a transaction, wherever it stands."""
         return self.pick("begin", "begin", "commit", "rollback")
 
     def statement(self):
-        kinds = [self.insertion] * 6 + [self.deletion] * 3 + [self.question] * 5 + [self.assertion] * 2 + [self.moment] * 4
-        return self.pick(*kinds)()
+        changes = [self.insertion] * 6 + [self.deletion] * 2 + [self.update] * 2 + [self.assertion] * 2
+        return self.pick(*changes, *[self.question] * 5, *[self.moment] * 4)()
 
     def script(self):
         tables = [f"create table {name} ({', '.join(columns)})" for name, columns in TABLES.items()]

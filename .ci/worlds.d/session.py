@@ -1,11 +1,12 @@
 """Follows a script as one session, and judges each reply."""
 
 from judging import JUDGES, is_admitting, wrong_commit
-from meaning import TooMany, greatest_part, tables_of
+from meaning import ASSERTIONS, TooMany, greatest_part
 from names import check, headed
 from reading import Refused, statement
 
-KINDS_OF_CHANGE = ("create", "insert", "insert query", "delete", "assert")
+KINDS_OF_CHANGE = ("create", "insert", "insert query", "delete", "update", *ASSERTIONS)
+KINDS_WITH_A_QUERY = ("rows", "possible", "certain", "insert query", "assert query")
 MOST_ROWS = 16_777_216
 
 
@@ -29,10 +30,8 @@ def with_nulls(change, session, drawn):
 
 
 def is_too_large(tree, changes):
-    """Tells whether a statement may be refused for the size of its query, where it sees these changes."""
-    if tree[0] not in ("rows", "possible", "certain", "insert query"):
-        return False
-    return greatest_part(tree[-1], changes) > MOST_ROWS
+    """Tells whether a statement may be refused for the size of its query or key, where it sees these changes."""
+    return tree[0] in (*KINDS_WITH_A_QUERY, "assert key") and greatest_part(tree, changes) > MOST_ROWS
 
 
 class Session:
@@ -56,7 +55,7 @@ class Session:
 
     def change(self, change):
         """Makes a change. Returns the reply that is due."""
-        if change[0] == "assert" and not is_admitting(self.changes(), change[1]):
+        if change[0] in ASSERTIONS and not is_admitting(self.changes(), change):
             raise Refused("Inconsistent")
         made, self.drawn = with_nulls(change, 1, self.drawn)
         if self.own is None:

@@ -8,11 +8,11 @@ still come.
 import re
 
 from judging import JUDGES, is_admitting, wrong_commit
-from meaning import TooMany, tables_of
+from meaning import ASSERTIONS, TooMany, tables_of
 from names import check, headed
 from printed import history, parts
 from reading import Refused, statement, statements
-from session import KINDS_OF_CHANGE, is_too_large, schema_of, with_nulls
+from session import KINDS_OF_CHANGE, KINDS_WITH_A_QUERY, is_too_large, schema_of, with_nulls
 
 ORDERS = ("begin", "commit", "rollback")
 
@@ -33,9 +33,9 @@ def reads_of(tree):
         return [tree[1]]
     if tree[0] == "assert":
         return ["worlds"]
-    if tree[0] in ("insert query", "rows", "possible", "certain"):
+    if tree[0] in KINDS_WITH_A_QUERY:
         return list(dict.fromkeys(tables_of(tree[-1]) + ["worlds"]))
-    return []
+    return [tree[1], "worlds"] if tree[0] == "assert key" else []
 
 
 class History:
@@ -52,7 +52,7 @@ class History:
     def last(self, version, read):
         """Returns the number of the last of the first commits that writes what is read, or 0."""
         for number in range(version, 0, -1):
-            if any(read == ("worlds" if one[0] == "assert" else one[1]) for one, _ in self.commits[number - 1]):
+            if any(read == ("worlds" if one[0] in ASSERTIONS else one[1]) for one, _ in self.commits[number - 1]):
                 return number
         return 0
 
@@ -114,7 +114,7 @@ class Follower:
         except Refused as refusal:
             return str(refusal) == name
         if name == "Inconsistent":
-            return tree[0] == "assert" and not is_admitting(changes, tree[1])
+            return tree[0] in ASSERTIONS and not is_admitting(changes, tree)
         return name == "TooLarge" and is_too_large(tree, changes)
 
     def refuse(self, tree, said):
@@ -204,7 +204,7 @@ class Follower:
     def extend(self, change, tree, said):
         """Judges the reply to an action in a transaction, which has the change."""
         changes = self.checked(tree, self.open.base)
-        if tree[0] == "assert" and not is_admitting(changes, tree[1]):
+        if tree[0] in ASSERTIONS and not is_admitting(changes, tree):
             raise Wrong("refused Inconsistent is due")
         wanted(said, f"pending at {self.open.base} plus {len(self.open.changes) + 1}")
         self.open.changes.append((change, {}))
@@ -295,7 +295,7 @@ def wrong_history(run, count):
         if not 1 <= by <= count:
             yield f"commit {number} is of session {by}"
     for version in range(len(run.commits) + 1):
-        if not is_admitting(run.changes(version), ("true",)):
+        if not is_admitting(run.changes(version), ("assert", ("true",))):
             yield f"no world is left at version {version}"
 
 

@@ -5,6 +5,7 @@
 
 mod aliases;
 mod alone;
+mod asserted;
 mod faults;
 mod limits;
 mod naming;
@@ -14,6 +15,7 @@ mod tokens;
 
 pub use aliases::{BareAlias, bare_alias, broken_text};
 pub use alone::{add_nulls, has_null, is_false_alone};
+pub use asserted::{Asserted, asserted_by, is_over_tables};
 pub use faults::{Fault, FaultAt, fault_in};
 pub use limits::{asserting, push_too_deep, push_too_large};
 pub use naming::{

@@ -2,6 +2,7 @@
 
 ghost use Rattle.std.specs.Prelude.{◌≤◌, length, IfOk};
 
+use crate::asserted::{Asserted, asserted_by};
 use crate::parts::{Select, selects};
 use crate::tables::{KEPT, Known};
 use crate::tokens::word;
@@ -44,7 +45,7 @@ pub fn push_too_deep(out: &mut String, tokens: &[Token]) -> Result<(), Memory> {
     Ok(())
 }
 
-/// How many rows or pairs of rows a FROM goes through at most, by the rows that were ever inserted.
+/// How many rows or pairs of rows a FROM goes through at most, by the rows that there ever were.
 fn product(known: &Known, select: &Select) -> u128 {
     let mut all: u128 = 1;
     for seen in &select.tables {
@@ -57,7 +58,7 @@ fn product(known: &Known, select: &Select) -> u128 {
     all
 }
 
-/// Appends how large a query may be, and how large it is at most by the rows that were ever inserted.
+/// Appends how large a query or the table of a key may be, and how large it is at most by the rows that there ever were.
 ///
 /// # Errors
 /// `Memory` where there is none for the text.
@@ -67,17 +68,27 @@ pub fn push_too_large(
     known: &Known,
     tokens: &[Token],
 ) -> Result<(), Memory> {
+    let is_key = asserted_by(tokens) == Asserted::Key;
     write!(out, "at most {SIZE} rows or pairs of rows")?;
     let mut most: u128 = 0;
     for select in &selects(alloc, tokens)? {
         if !select.tables.is_empty() {
-            most = most.max(product(known, select));
+            let rows = product(known, select);
+            most = most.max(if is_key {
+                rows.saturating_mul(rows)
+            } else {
+                rows
+            });
         }
     }
     if most > u128::from(SIZE) {
         write!(out, ", and here up to {most}")?;
     }
-    out.push_str(": insert what you select of one table into a table of its own, and join that")?;
+    out.push_str(if is_key {
+        ": a key goes over all pairs of rows of its table"
+    } else {
+        ": insert what you select of one table into a table of its own, and join that"
+    })?;
     Ok(())
 }
 

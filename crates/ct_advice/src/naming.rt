@@ -1,9 +1,10 @@
 // What is said of names and counts.
 
 use crate::aliases::{BareAlias, bare_alias};
+use crate::asserted::{Asserted, asserted_by};
 use crate::parts::{Mention, Seen, Select, selects};
 use crate::tables::Visible;
-use crate::tokens::{is_same, is_symbol_at, is_word_at, word};
+use crate::tokens::{is_same, is_symbol_at, is_word_at, word, word_at};
 use ct_lex::{Symbol, Token};
 use ct_word::{Memory, Text};
 use indexmap::IndexSet;
@@ -35,11 +36,15 @@ fn push_table(out: &mut String, name: &str, columns: &[Text]) -> Result<(), Memo
     Ok(())
 }
 
-/// The table that an insertion, a deletion or a creation names.
+/// The table that an insertion, a deletion, an update, a creation or a key names.
 fn target(tokens: &[Token]) -> Option<&str> {
+    if is_word_at(tokens, 0, "update") {
+        return Some(word(tokens.get(1)?));
+    }
     let names = is_word_at(tokens, 0, "insert")
         || is_word_at(tokens, 0, "delete")
-        || is_word_at(tokens, 0, "create");
+        || is_word_at(tokens, 0, "create")
+        || asserted_by(tokens) == Asserted::Key;
     if names {
         Some(word(tokens.get(2)?))
     } else {
@@ -289,7 +294,8 @@ fn repeated<'a>(alloc: Global, names: &[&'a str]) -> Result<Option<&'a str>, Mem
     Ok(None)
 }
 
-fn created_columns<'a>(alloc: Global, tokens: &'a [Token]) -> Result<Vec<&'a str>, Memory> {
+/// The columns of a creation or of a key.
+fn listed_columns<'a>(alloc: Global, tokens: &'a [Token]) -> Result<Vec<&'a str>, Memory> {
     let mut names = Vec::new(alloc);
     for token in tokens.iter().skip(3) {
         let name = word(token);
@@ -298,6 +304,42 @@ fn created_columns<'a>(alloc: Global, tokens: &'a [Token]) -> Result<Vec<&'a str
         }
     }
     Ok(names)
+}
+
+/// The columns that an update sets.
+fn set_columns<'a>(alloc: Global, tokens: &'a [Token]) -> Result<Vec<&'a str>, Memory> {
+    let mut names = Vec::new(alloc);
+    for i in 3..tokens.len() {
+        let before = i - 1;
+        if is_word_at(tokens, i, "where") {
+            break;
+        }
+        if is_word_at(tokens, before, "set") || is_symbol_at(tokens, before, Symbol::Comma) {
+            names.push(word_at(tokens, i))?;
+        }
+    }
+    Ok(names)
+}
+
+/// Appends the column that stands twice in a creation, an update or a key. Returns whether the statement is one of these.
+fn push_duplicate_column(
+    alloc: Global,
+    out: &mut String,
+    tokens: &[Token],
+) -> Result<bool, Memory> {
+    if is_word_at(tokens, 0, "create") {
+        let name = repeated(alloc, &listed_columns(alloc, tokens)?)?.unwrap_or("the name");
+        write!(out, "two columns are named {name}")?;
+    } else if is_word_at(tokens, 0, "update") {
+        let name = repeated(alloc, &set_columns(alloc, tokens)?)?.unwrap_or("a column");
+        write!(out, "{name} is set twice")?;
+    } else if asserted_by(tokens) == Asserted::Key {
+        let name = repeated(alloc, &listed_columns(alloc, tokens)?)?.unwrap_or("a column");
+        write!(out, "{name} stands twice in the key")?;
+    } else {
+        return Ok(false);
+    }
+    Ok(true)
 }
 
 /// Appends the name that stands twice.
@@ -309,9 +351,7 @@ pub fn push_duplicate_name(
     out: &mut String,
     tokens: &[Token],
 ) -> Result<(), Memory> {
-    if is_word_at(tokens, 0, "create") {
-        let name = repeated(alloc, &created_columns(alloc, tokens)?)?.unwrap_or("the name");
-        write!(out, "two columns are named {name}")?;
+    if push_duplicate_column(alloc, out, tokens)? {
         return Ok(());
     }
     for select in &selects(alloc, tokens)? {

@@ -1,5 +1,6 @@
 // The names in the parts of a statement.
 
+use crate::asserted::{Asserted, asserted_by};
 use crate::tokens::{is_same, is_symbol, word};
 use ct_lex::{Symbol, Token};
 use ct_word::Memory;
@@ -37,12 +38,14 @@ pub enum Part {
     Items,
     /// Behind the AS of an item.
     ItemName,
-    /// Behind FROM or JOIN.
+    /// Behind FROM, JOIN or UPDATE.
     Table,
     /// Behind the name of a table.
     Alias,
     /// Behind the alias of a table, or behind INNER.
     Join,
+    /// Behind SET.
+    Sets,
     /// Behind WHERE, ON, ASSERT or IF.
     Condition,
     /// Behind a set operator, or behind the parentheses around a query.
@@ -50,11 +53,13 @@ pub enum Part {
 }
 
 /// Which part a word begins.
-const PARTS: [(&str, Part); 11] = [
+const PARTS: [(&str, Part); 13] = [
     ("select", Part::Items),
     ("from", Part::Table),
     ("join", Part::Table),
+    ("update", Part::Table),
     ("inner", Part::Join),
+    ("set", Part::Sets),
     ("on", Part::Condition),
     ("where", Part::Condition),
     ("assert", Part::Condition),
@@ -65,7 +70,7 @@ const PARTS: [(&str, Part); 11] = [
 ];
 
 /// The words that are no names and begin no part.
-const BETWEEN: [&str; 6] = ["and", "or", "not", "true", "false", "distinct"];
+const BETWEEN: [&str; 7] = ["and", "or", "not", "true", "false", "distinct", "exists"];
 
 /// The part that a word begins, where it begins one.
 fn begun_by(word: &str) -> Option<Part> {
@@ -147,7 +152,7 @@ impl<'a> Reading<'a> {
         }
         match self.part {
             Part::Table | Part::Alias => self.name_table(word),
-            Part::Items | Part::Condition => self.name_column(word),
+            Part::Items | Part::Sets | Part::Condition => self.name_column(word),
             Part::ItemName => {
                 self.part = Part::Items;
                 Ok(())
@@ -200,12 +205,35 @@ fn read_select<'a>(alloc: Global, tokens: &'a [Token]) -> Result<Select<'a>, Mem
     Ok(reading.select)
 }
 
+/// The table of a key, and the columns of the key.
+fn read_key<'a>(alloc: Global, tokens: &'a [Token]) -> Result<Select<'a>, Memory> {
+    let mut tables = Vec::new(alloc);
+    let mut columns = Vec::new(alloc);
+    for token in tokens.iter().skip(2) {
+        let name = word(token);
+        if tables.is_empty() {
+            tables.push(Seen { table: name, name })?;
+        } else if !name.is_empty() {
+            columns.push(Mention { owner: None, name })?;
+        }
+    }
+    Ok(Select {
+        tables,
+        columns,
+        items: Some(1),
+    })
+}
+
 /// The parts of a statement that name tables and columns: what stands before the first SELECT, and each SELECT.
 ///
 /// # Errors
 /// `Memory` where there is none for the lists.
 pub fn selects<'a>(alloc: Global, tokens: &'a [Token]) -> Result<Vec<Select<'a>>, Memory> {
     let mut all = Vec::new(alloc);
+    if asserted_by(tokens) == Asserted::Key {
+        all.push(read_key(alloc, tokens)?)?;
+        return Ok(all);
+    }
     let mut start = 0;
     for (i, token) in tokens.iter().enumerate() {
         if i > start && is_same(word(token), "select") {

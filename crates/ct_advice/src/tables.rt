@@ -10,8 +10,8 @@ use std::alloc::Global;
 /// How many commits that have asserted something of a null are kept.
 pub const KEPT: usize = 3;
 
-/// A table of a history: the number of the commit that made it, its columns, and how many rows all commits have inserted
-/// into it.
+/// A table of a history: the number of the commit that made it, its columns, and how many rows it ever had at most: those
+/// that were inserted, and behind an UPDATE a new one for each that was there.
 #[derive(Clone, Copy)]
 pub struct Made<'a> {
     pub version: usize,
@@ -97,6 +97,11 @@ impl<'a> Known<'a> {
             Change::Insert { name, rows } => {
                 if let Some(made) = self.tables.get_mut(name.as_str()) {
                     made.rows = made.rows.saturating_add(rows.len() as u64);
+                }
+            }
+            Change::Update { name, .. } => {
+                if let Some(made) = self.tables.get_mut(name.as_str()) {
+                    made.rows = made.rows.saturating_mul(2);
                 }
             }
             Change::Delete { .. } | Change::Assert { .. } => {}

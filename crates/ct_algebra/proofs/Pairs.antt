@@ -1,6 +1,6 @@
 -- The condition of a pair of rows.
 use Rattle.std.proofs.Common.{◌≡◌, ◌≢◌, ℕ, ◌+◌, ◌≤◌, ◌<◌, Bool, true, false, ◌&&◌, List, [], ◌∷◌, ◌++◌, map, length, refl, ap, sym, subst, ◌∙◌, arith, inl, inr}
-use Rattle.std.specs.Prelude.{IsTrue}
+use Rattle.std.specs.Prelude.{Result, Ok, Err, IfOk, IsTrue}
 use Rattle.std.proofs.lemmas.Bool.{and_right}
 use Rattle.std.proofs.lemmas.List.{map-append, length-append}
 use Rattle.ct_word.{specs.declared.values.CRow.CRow}
@@ -13,7 +13,7 @@ use Rattle.ct_condition.specs.Terms.{TermsFrom, BelowEither, BelowSome, IsNamed,
 use Rattle.ct_operators.{specs.Building.HoldsWhere, specs.Tables.{IsRow}, proofs.Choosing.{words_on_cells, named_below}}
 use Rattle.ct_operators.proofs.Holding.{holds_as, holds_itself, holds_later, holds_false, holds_and}
 use Rattle.ct_operators.proofs.Reaching.{foremost, behind, some_among, from_two, from_later, no_cell_no_column}
-use Rattle.ct_algebra.specs.Joining.{pair_tuple, pair_holds, pair_words, TermOfPair}
+use Rattle.ct_algebra.specs.Joining.{pair_tuple, pair_holds, pair_words, TermOfPair, ShownBeside, as_it_is, with_both}
 use mathlib.Core.List.{IsPrefix}
 use Rattle.ct_word.specs.declared.kinds.Class.TheVariants as class
 use Rattle.ct_query.specs.declared.query.Pred.TheVariants as pred
@@ -38,6 +38,11 @@ other_words (pred.Or' shape cs) no' = refl
 -- what the cells of a pair are worth
 pub pair_tuple_is : (ws : List ℕ) (v : World) (l r : List ℕ) → tuple_at v (map (term_at ws) (l ++ r)) ≡ pair_tuple ws v l r
 pair_tuple_is ws v l r = ap (tuple_at v) (map-append (term_at ws) l r) ∙ map-append (at v []) (map (term_at ws) l) (map (term_at ws) r)
+
+-- two facts of a result as one
+pub both_ok : {T E : Type 0} (r : Result T E) (P Q R : T → Type 0) → ((x : T) → P x → Q x → R x) → IfOk r P → IfOk r Q → IfOk r R
+both_ok (Ok x) P Q R f p q = f x p q
+both_ok (Err e) P Q R f p q = tt
 
 -- a pair for which the condition never holds
 pub pair_never : (ws now : List ℕ) (c : Condition) (l r : CRow) → IsPrefix opening now → IsWellFormed now → ((v : World) → holds v (pair_tuple ws v l.cells r.cells) c ≡ false)
@@ -114,6 +119,18 @@ module _ (old : List ℕ) (c : Condition) (l r : CRow) (left : IsRow old (length
     all_from mid last new put both place grown longer mid_formed placed from either =
         from_two last new both put place (TermOfPair old c l r) (both_from mid last both grown either)
         (from_later mid last longer mid_formed put (TermOfPair old c l r) (place_within mid class.Cond put placed) (pred_from mid put from))
+
+    -- the same where a predicate that comes to the word false is left as it is
+    pub shown_holds : (mid new : List ℕ) (put place : ℕ) → IsPrefix old mid → IsPrefix opening mid → IsWellFormed mid → HasTruth mid put (on_row old c cells)
+        → ShownBeside mid new l.cond r.cond put place → HoldsWhere new place (pair_holds old c l r)
+    shown_holds mid new put place grown begins mid_formed h (as_it_is e same) = subst (λ ws. HoldsWhere ws put (pair_holds old c l r)) (sym same) (false_holds mid put begins mid_formed e h)
+    shown_holds mid new put place grown begins mid_formed h (with_both last both p longer g from f either) = all_hold mid last new put both place grown longer h g f
+
+    pub shown_from : (mid new : List ℕ) (put place : ℕ) → IsPrefix old mid → IsWellFormed mid → IsTrue (is_place_of mid class.Cond put) → TermsFrom mid put (IsOnRow old cells c)
+        → ShownBeside mid new l.cond r.cond put place → TermsFrom new place (TermOfPair old c l r)
+    shown_from mid new put place grown mid_formed placed from (as_it_is e same) = subst (λ ws. TermsFrom ws put (TermOfPair old c l r)) (sym same) (pred_from mid put from)
+    shown_from mid new put place grown mid_formed placed from (with_both last both p longer g own f either) =
+        all_from mid last new put both place grown longer mid_formed placed from own either
 
 -- what the predicate's place costs, where its terms have places
 pub pred_words : (ws cells : List ℕ) (c : Condition) → FitsRows (length cells) c → new_terms ws c ≡ 0 → words_on ws cells c ≡ ops c

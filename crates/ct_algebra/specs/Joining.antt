@@ -10,7 +10,8 @@ use Rattle.ct_word.specs.Condition.{Condition, True, holds, holds_at}
 use Rattle.ct_word.specs.Reading.{condition_at, term_at}
 use Rattle.ct_query.specs.Bounds.{ops}
 use Rattle.ct_query.specs.Rows.{joins}
-use Rattle.ct_condition.specs.Terms.{IsNamed, BelowSome}
+use Rattle.ct_condition.specs.Terms.{IsNamed, BelowSome, BelowEither, TermsFrom}
+use Rattle.ct_condition.specs.Truth.{HasTruth, and_at}
 use Rattle.ct_join.specs.declared.keys.Key.{Key}
 use Rattle.ct_join.specs.Pairs.{may_agree, key_at}
 use Rattle.ct_operators.specs.Tables.{cells_of, value_of_rows, IsRow}
@@ -55,6 +56,12 @@ pair_tuple words v l r = tuple_at v (map (term_at words) l) ++ tuple_at v (map (
 abbrev pub pair_holds : List ℕ → Condition → CRow → CRow → World → Bool
 pair_holds words c l r v =
     (holds_at v (condition_at words l.cond) && holds_at v (condition_at words r.cond)) && holds v (pair_tuple words v l.cells r.cells) c
+
+-- the place of the And of two conditions and another one, which is that one itself where it is the word false
+pub data ShownBeside (old new : List ℕ) (left right cond : ℕ) : ℕ → Type 0 where
+  as_it_is : cond ≡ 1 → new ≡ old → ShownBeside old new left right cond cond
+  with_both : (last : List ℕ) (both place : ℕ) → IsPrefix old last → HasTruth last both (and_at old left right) → TermsFrom last both (BelowEither old left right)
+      → HasTruth new place (and_at last both cond) → TermsFrom new place (BelowEither last both cond) → ShownBeside old new left right cond place
 
 -- a condition never holds for a row and one of those whose keys differ from its own
 abbrev pub TellApart : List ℕ → Condition → CRow → List CRow → Key → List Key → Type 0

@@ -1,16 +1,19 @@
 -- How many words the evaluation of a query appends at most.
-use Rattle.std.specs.Prelude.{◌≤◌, ◌<◌, ◌+◌, ℕ, List, map, sum_by, Result, Ok, Err, IfOk, IsErrOf, Contains}
+use Rattle.std.specs.Prelude.{◌≤◌, ◌+◌, ℕ, Bool, List, [], ◌∷◌, map, sum_by, Result, Ok, Err, IfOk, Contains}
 use Rattle.ct_word.specs.declared.values.Term.{Term}
 use Rattle.ct_query.specs.Plain.{PlainQuery}
 use Rattle.ct_query.specs.Fits.{IsColumnBelow}
 use Rattle.ct_query.specs.Size.{rows_in, row_bound}
 use Rattle.ct_query.specs.Terms.{query_terms}
+use Rattle.ct_arena.specs.Seen.{Seen}
 use Rattle.ct_condition.specs.Places.{new_literal_words}
+use Rattle.ct_condition.specs.Writes.{Writes}
 use Rattle.ct_plan.specs.Spent.{row_words}
 use Rattle.ct_table.specs.Counting.{count_of}
 use Rattle.ct_table.specs.Denotes.{TableView, heading_of}
 use Rattle.ct_operators.specs.declared.table.CTable.{CTable}
 use Rattle.ct_operators.specs.declared.error.TableError.{TableError}
+use Rattle.ct_operators.specs.Refusals.{is_full}
 use Rattle.ct_algebra.specs.Evaluates.{Evaluates}
 use Rattle.ct_operators.specs.declared.error.TableError.TheVariants as fault
 
@@ -37,20 +40,20 @@ spared (Ok x) n = n
 spared (Err fault.Full) n = 1
 spared (Err fault.Memory) n = 0
 
--- a call that names these terms makes at most so many words besides those of literals. Of any literals that have its own
--- among them it puts each once: with those that are left it makes no more than had no place before
-pub record GrowsWithin {A : Type 0} (out : Result A TableError) (old now : List ℕ) (before after : ℕ) (terms : List Term) (most : ℕ) : Type 0 where
-  pub grows : (literals : List Term) → EachLiteral (Contains literals) terms → after + spared out (unplaced now literals) ≤ before + unplaced old literals + most
+-- words were added, at most so many made, and fewer where the log was full; the session and the number of its commits are as they were
+abbrev pub PassWrites : ℕ → Seen → Seen → ℕ → Bool → Type 0
+PassWrites cap old new most refused = Writes (λ (p : Seen). p.words) (λ (p : Seen). p.made) (λ (p : Seen). p.session ∷ p.mine ∷ []) (λ (p : Seen). []) cap old new most refused
 
--- a call answers a query over the words now, or is refused, and a count of words grows by at most those of the query
-pub record Answers (old now : List ℕ) (db : List TableView) (q : PlainQuery) (before after : ℕ) (out : Result CTable TableError) : Type 0 where
-  pub evaluates : IfOk out (Evaluates old now db q)
-  pub grows : GrowsWithin out old now before after (query_terms q) (most_words db q)
+-- a call that names these terms writes at most those of its literals that have no place, and so many words besides. Of any
+-- literals that have its own among them it puts each once: with those that are left it makes no more than had no place before
+pub record GrowsWithin {A : Type 0} (cap : ℕ) (out : Result A TableError) (old now : Seen) (terms : List Term) (most : ℕ) : Type 0 where
+  pub writes : PassWrites cap old now (unplaced old.words terms + most) (is_full out)
+  pub grows : (literals : List Term) → EachLiteral (Contains literals) terms → now.made + spared out (unplaced now.words literals) ≤ old.made + unplaced old.words literals + most
 
--- a call makes at most so many words, and fewer where it is refused by a full log
-pub record MakesWithin {A : Type 0} (out : Result A TableError) (before after most : ℕ) : Type 0 where
-  pub made : after ≤ before + most
-  pub fewer : IsErrOf out fault.Full → after < before + most
+-- a call answers a query over the words now, or is refused, and writes at most the words of the query
+pub record Answers (cap : ℕ) (old now : Seen) (db : List TableView) (q : PlainQuery) (out : Result CTable TableError) : Type 0 where
+  pub evaluates : IfOk out (Evaluates old.words now.words db q)
+  pub grows : GrowsWithin cap out old now (query_terms q) (most_words db q)
 
 -- a call makes at most the words of the literals among these terms that have no place, and so many more
 abbrev pub SpendsWithin : List ℕ → ℕ → ℕ → List Term → ℕ → Type 0

@@ -1,7 +1,6 @@
 // The answer to a query, one operator after another.
 
-ghost use Rattle.std.specs.Prelude.{◌≡◌, ◌≢◌, ◌↔◌, ℕ, ◌≤◌, ◌<◌, ◌+◌, ◌*◌, ◌^◌, ◌++◌, [], List, length, map, All, IfOk, IsErrOf, IsTrue};
-ghost use mathlib.Core.List.{IsPrefix};
+ghost use Rattle.std.specs.Prelude.{◌≢◌, ◌↔◌, ℕ, ◌<◌, ◌+◌, ◌*◌, ◌^◌, ◌++◌, [], List, length, map, All, IfOk, IsTrue};
 ghost use Rattle.ct_query.specs.Bounds.{ops};
 ghost use Rattle.ct_query.specs.Fits.{Fits, FitsRows};
 ghost use Rattle.ct_query.specs.Plain as plain;
@@ -11,7 +10,6 @@ ghost use Rattle.ct_query.specs.Terms.{condition_terms, query_terms};
 ghost use Rattle.ct_query.specs.Views.{query_of};
 ghost use Rattle.ct_table.specs.Denotes.{TableView, heading_of};
 ghost use Rattle.ct_operators.specs.Tables.{AreRows};
-ghost use Rattle.ct_operators.specs.declared.error.TableError.TheVariants as fault;
 ghost use Rattle.ct_algebra.specs.Operands.{AreTables};
 ghost use Rattle.ct_algebra.specs.Evaluates.{Evaluates};
 ghost use Rattle.ct_algebra.specs.Joining.{pair_words};
@@ -39,18 +37,13 @@ fn filtered<N: Site>(
     requires rows { AreRows pass.old.words (length table.columns) table.rows }
     requires predicate { FitsRows (length table.columns) (condition_of p.now) }
     ensures evaluates { (old : List ℕ) (db : List TableView) (q : PlainQuery) → Evaluates old pass.old.words db q table → IfOk result (Evaluates old pass.new.words db (plain.Select (condition_of p.now) q)) }
-    ensures grows { GrowsWithin result pass.old.words pass.new.words pass.old.made pass.new.made (condition_terms (condition_of p.now)) (length table.rows * (ops (condition_of p.now) + 1)) }
-    ensures longer { IsPrefix pass.old.words pass.new.words }
-    ensures full { IsErrOf result fault.Full → length pass.new.words ≡ N.log.cap }
-    ensures rises { pass.old.made ≤ pass.new.made }
-    ensures session { pass.new.session ≡ pass.old.session }
-    ensures mine { pass.new.mine ≡ pass.old.mine }
+    ensures grows { GrowsWithin N.log.cap result pass.old pass.new (condition_terms (condition_of p.now)) (length table.rows * (ops (condition_of p.now) + 1)) }
 {
+    // The words are well formed, also where there are no rows.
+    let _ = pass.words();
     if table.len() == 0 {
         return Ok(table.into_table(alloc)?);
     }
-    // The words are well formed, which keeps the rows as words are added.
-    let _ = pass.words();
     put_literals(arena, pass, p)?;
     select(alloc, arena, pass, p, &table)
 }
@@ -78,15 +71,8 @@ fn in_one_pass<N: Site>(
     requires predicate { FitsRows (length left.now.columns + length right.now.columns) (condition_of p.now) }
     requires few { length right.now.rows < 2 ^ 32 }
     ensures evaluates { (old : List ℕ) (db : List TableView) (a b : PlainQuery) → Evaluates old pass.old.words db a left.now → Evaluates old pass.old.words db b right.now → IfOk result (Evaluates old pass.new.words db (plain.Select (condition_of p.now) (plain.Product a b))) }
-    ensures grows { GrowsWithin result pass.old.words pass.new.words pass.old.made pass.new.made (condition_terms (condition_of p.now)) (length left.now.rows * length right.now.rows + length left.now.rows * length right.now.rows * (ops (condition_of p.now) + 1)) }
-    ensures longer { IsPrefix pass.old.words pass.new.words }
-    ensures full { IsErrOf result fault.Full → length pass.new.words ≡ N.log.cap }
-    ensures rises { pass.old.made ≤ pass.new.made }
-    ensures session { pass.new.session ≡ pass.old.session }
-    ensures mine { pass.new.mine ≡ pass.old.mine }
+    ensures grows { GrowsWithin N.log.cap result pass.old pass.new (condition_terms (condition_of p.now)) (length left.now.rows * length right.now.rows + length left.now.rows * length right.now.rows * (ops (condition_of p.now) + 1)) }
 {
-    // The words are well formed, which keeps the rows as words are added.
-    let _ = pass.words();
     put_literals(arena, pass, p)?;
     join(alloc, arena, pass, p, left, right)
 }
@@ -104,12 +90,7 @@ fn of_all_pairs<N: Site>(
     requires right { AreRows pass.old.words (length right.now.columns) right.now.rows }
     requires predicate { FitsRows (length left.now.columns + length right.now.columns) (condition_of p.now) }
     ensures evaluates { (old : List ℕ) (db : List TableView) (a b : PlainQuery) → Evaluates old pass.old.words db a left.now → Evaluates old pass.old.words db b right.now → IfOk result (Evaluates old pass.new.words db (plain.Select (condition_of p.now) (plain.Product a b))) }
-    ensures grows { GrowsWithin result pass.old.words pass.new.words pass.old.made pass.new.made (condition_terms (condition_of p.now)) (length left.now.rows * length right.now.rows + length left.now.rows * length right.now.rows * (ops (condition_of p.now) + 1)) }
-    ensures longer { IsPrefix pass.old.words pass.new.words }
-    ensures full { IsErrOf result fault.Full → length pass.new.words ≡ N.log.cap }
-    ensures rises { pass.old.made ≤ pass.new.made }
-    ensures session { pass.new.session ≡ pass.old.session }
-    ensures mine { pass.new.mine ≡ pass.old.mine }
+    ensures grows { GrowsWithin N.log.cap result pass.old pass.new (condition_terms (condition_of p.now)) (length left.now.rows * length right.now.rows + length left.now.rows * length right.now.rows * (ops (condition_of p.now) + 1)) }
 {
     let pairs = product(alloc, arena, pass, left, right)?;
     filtered(alloc, arena, pass, p, Operand::made(pairs))
@@ -128,12 +109,7 @@ fn joined<N: Site>(
     requires right { AreRows pass.old.words (length right.now.columns) right.now.rows }
     requires predicate { FitsRows (length left.now.columns + length right.now.columns) (condition_of p.now) }
     ensures evaluates { (old : List ℕ) (db : List TableView) (a b : PlainQuery) → Evaluates old pass.old.words db a left.now → Evaluates old pass.old.words db b right.now → IfOk result (Evaluates old pass.new.words db (plain.Select (condition_of p.now) (plain.Product a b))) }
-    ensures grows { GrowsWithin result pass.old.words pass.new.words pass.old.made pass.new.made (condition_terms (condition_of p.now)) (length left.now.rows * length right.now.rows + length left.now.rows * length right.now.rows * (ops (condition_of p.now) + 1)) }
-    ensures longer { IsPrefix pass.old.words pass.new.words }
-    ensures full { IsErrOf result fault.Full → length pass.new.words ≡ N.log.cap }
-    ensures rises { pass.old.made ≤ pass.new.made }
-    ensures session { pass.new.session ≡ pass.old.session }
-    ensures mine { pass.new.mine ≡ pass.old.mine }
+    ensures grows { GrowsWithin N.log.cap result pass.old pass.new (condition_terms (condition_of p.now)) (length left.now.rows * length right.now.rows + length left.now.rows * length right.now.rows * (ops (condition_of p.now) + 1)) }
 {
     if have_pairs(left, right) {
         return in_one_pass(alloc, arena, pass, p, left, right);
@@ -158,15 +134,8 @@ fn picked_in_one_pass<N: Site>(
     requires predicate { FitsRows (length left.now.columns + length right.now.columns) (condition_of p.now) }
     requires few { length right.now.rows < 2 ^ 32 }
     ensures evaluates { (old : List ℕ) (db : List TableView) (a b : PlainQuery) → Evaluates old pass.old.words db a left.now → Evaluates old pass.old.words db b right.now → IfOk result (Evaluates old pass.new.words db (plain.Project columns.now (plain.Select (condition_of p.now) (plain.Product a b)))) }
-    ensures grows { GrowsWithin result pass.old.words pass.new.words pass.old.made pass.new.made (condition_terms (condition_of p.now)) (length left.now.rows * length right.now.rows * (pair_words (condition_of p.now) + 1)) }
-    ensures longer { IsPrefix pass.old.words pass.new.words }
-    ensures full { IsErrOf result fault.Full → length pass.new.words ≡ N.log.cap }
-    ensures rises { pass.old.made ≤ pass.new.made }
-    ensures session { pass.new.session ≡ pass.old.session }
-    ensures mine { pass.new.mine ≡ pass.old.mine }
+    ensures grows { GrowsWithin N.log.cap result pass.old pass.new (condition_terms (condition_of p.now)) (length left.now.rows * length right.now.rows * (pair_words (condition_of p.now) + 1)) }
 {
-    // The words are well formed, which keeps the rows as words are added.
-    let _ = pass.words();
     put_literals(arena, pass, p)?;
     join_picked(alloc, arena, pass, columns, p, left, right)
 }
@@ -185,12 +154,7 @@ fn picked_join<N: Site>(
     requires columns { All (λ k. k < length left.now.columns + length right.now.columns) columns.now }
     requires predicate { FitsRows (length left.now.columns + length right.now.columns) (condition_of p.now) }
     ensures evaluates { (old : List ℕ) (db : List TableView) (a b : PlainQuery) → Evaluates old pass.old.words db a left.now → Evaluates old pass.old.words db b right.now → IfOk result (Evaluates old pass.new.words db (plain.Project columns.now (plain.Select (condition_of p.now) (plain.Product a b)))) }
-    ensures grows { (old : List ℕ) (db : List TableView) (a b : PlainQuery) → Evaluates old pass.old.words db a left.now → Evaluates old pass.old.words db b right.now → GrowsWithin result pass.old.words pass.new.words pass.old.made pass.new.made (condition_terms (condition_of p.now)) (most_rows db a * most_rows db b + most_rows db a * most_rows db b * (ops (condition_of p.now) + 1) + most_rows db a * most_rows db b) }
-    ensures longer { IsPrefix pass.old.words pass.new.words }
-    ensures full { IsErrOf result fault.Full → length pass.new.words ≡ N.log.cap }
-    ensures rises { pass.old.made ≤ pass.new.made }
-    ensures session { pass.new.session ≡ pass.old.session }
-    ensures mine { pass.new.mine ≡ pass.old.mine }
+    ensures grows { (old : List ℕ) (db : List TableView) (a b : PlainQuery) → Evaluates old pass.old.words db a left.now → Evaluates old pass.old.words db b right.now → GrowsWithin N.log.cap result pass.old pass.new (condition_terms (condition_of p.now)) (most_rows db a * most_rows db b + most_rows db a * most_rows db b * (ops (condition_of p.now) + 1) + most_rows db a * most_rows db b) }
 {
     if have_pairs(left, right) {
         return picked_in_one_pass(alloc, arena, pass, columns, p, left, right);
@@ -212,12 +176,7 @@ fn picked_product<N: Site>(
     requires right { AreRows pass.old.words (length right.now.columns) right.now.rows }
     requires columns { All (λ k. k < length left.now.columns + length right.now.columns) columns.now }
     ensures evaluates { (old : List ℕ) (db : List TableView) (a b : PlainQuery) → Evaluates old pass.old.words db a left.now → Evaluates old pass.old.words db b right.now → IfOk result (Evaluates old pass.new.words db (plain.Project columns.now (plain.Product a b))) }
-    ensures grows { (old : List ℕ) (db : List TableView) (a b : PlainQuery) → Evaluates old pass.old.words db a left.now → Evaluates old pass.old.words db b right.now → GrowsWithin result pass.old.words pass.new.words pass.old.made pass.new.made [] (most_rows db a * most_rows db b + most_rows db a * most_rows db b) }
-    ensures longer { IsPrefix pass.old.words pass.new.words }
-    ensures full { IsErrOf result fault.Full → length pass.new.words ≡ N.log.cap }
-    ensures rises { pass.old.made ≤ pass.new.made }
-    ensures session { pass.new.session ≡ pass.old.session }
-    ensures mine { pass.new.mine ≡ pass.old.mine }
+    ensures grows { GrowsWithin N.log.cap result pass.old pass.new [] (length left.now.rows * length right.now.rows + length left.now.rows * length right.now.rows) }
 {
     if have_pairs(left, right) {
         return picked_in_one_pass(alloc, arena, pass, columns, &Pred::True, left, right);
@@ -237,13 +196,10 @@ fn operand<N: Site>(
 ) -> Result<Operand, TableError>
     requires tables { AreTables pass.old.words db.now }
     requires fits { Fits (map heading_of db.now) (query_of part.now) }
-    ensures answers { Answers pass.old.words pass.new.words db.now (query_of part.now) pass.old.made pass.new.made result }
-    ensures longer { IsPrefix pass.old.words pass.new.words }
-    ensures full { IsErrOf result fault.Full → length pass.new.words ≡ N.log.cap }
-    ensures rises { pass.old.made ≤ pass.new.made }
-    ensures session { pass.new.session ≡ pass.old.session }
-    ensures mine { pass.new.mine ≡ pass.old.mine }
+    ensures { Answers N.log.cap pass.old pass.new db.now (query_of part.now) result }
 {
+    // The words are well formed, also where none is added.
+    let _ = pass.words();
     match part {
         Query::Table(name) => Ok(Operand::stored(db.get(name).unwrap())?),
         _ => Ok(Operand::made(answer(alloc, arena, pass, part, db)?)),
@@ -265,17 +221,9 @@ fn sides<N: Site>(
     requires right { Fits (map heading_of db.now) (query_of right.now) }
     ensures left { IfOk result (λ t. Evaluates pass.old.words pass.new.words db.now (query_of left.now) t.0) }
     ensures right { IfOk result (λ t. Evaluates pass.old.words pass.new.words db.now (query_of right.now) t.1) }
-    ensures longer { IsPrefix pass.old.words pass.new.words }
-    ensures full { IsErrOf result fault.Full → length pass.new.words ≡ N.log.cap }
-    ensures grows { GrowsWithin result pass.old.words pass.new.words pass.old.made pass.new.made (query_terms (query_of left.now) ++ query_terms (query_of right.now)) (most_words db.now (query_of left.now) + most_words db.now (query_of right.now)) }
-    ensures rises { pass.old.made ≤ pass.new.made }
-    ensures session { pass.new.session ≡ pass.old.session }
-    ensures mine { pass.new.mine ≡ pass.old.mine }
+    ensures grows { GrowsWithin N.log.cap result pass.old pass.new (query_terms (query_of left.now) ++ query_terms (query_of right.now)) (most_words db.now (query_of left.now) + most_words db.now (query_of right.now)) }
 {
-    // The words are well formed, which keeps the terms below a place as words are added.
-    let _ = pass.words();
     let one = operand(alloc, arena, pass, left, db)?;
-    let _ = pass.words();
     let other = operand(alloc, arena, pass, right, db)?;
     Ok((one, other))
 }
@@ -295,12 +243,7 @@ fn tables<N: Site>(
     requires right { Fits (map heading_of db.now) (query_of right.now) }
     ensures left { IfOk result (λ t. Evaluates pass.old.words pass.new.words db.now (query_of left.now) t.0) }
     ensures right { IfOk result (λ t. Evaluates pass.old.words pass.new.words db.now (query_of right.now) t.1) }
-    ensures longer { IsPrefix pass.old.words pass.new.words }
-    ensures full { IsErrOf result fault.Full → length pass.new.words ≡ N.log.cap }
-    ensures grows { GrowsWithin result pass.old.words pass.new.words pass.old.made pass.new.made (query_terms (query_of left.now) ++ query_terms (query_of right.now)) (most_words db.now (query_of left.now) + most_words db.now (query_of right.now)) }
-    ensures rises { pass.old.made ≤ pass.new.made }
-    ensures session { pass.new.session ≡ pass.old.session }
-    ensures mine { pass.new.mine ≡ pass.old.mine }
+    ensures grows { GrowsWithin N.log.cap result pass.old pass.new (query_terms (query_of left.now) ++ query_terms (query_of right.now)) (most_words db.now (query_of left.now) + most_words db.now (query_of right.now)) }
 {
     let (left, right) = sides(alloc, arena, pass, left, right, db)?;
     Ok((left.into_table(alloc)?, right.into_table(alloc)?))
@@ -318,12 +261,7 @@ fn selected_rows<N: Site>(
 ) -> Result<CTable, TableError>
     requires tables { AreTables pass.old.words db.now }
     requires fits { Fits (map heading_of db.now) (plain.Select (condition_of p.now) (query_of part.now)) }
-    ensures answers { Answers pass.old.words pass.new.words db.now (plain.Select (condition_of p.now) (query_of part.now)) pass.old.made pass.new.made result }
-    ensures longer { IsPrefix pass.old.words pass.new.words }
-    ensures full { IsErrOf result fault.Full → length pass.new.words ≡ N.log.cap }
-    ensures rises { pass.old.made ≤ pass.new.made }
-    ensures session { pass.new.session ≡ pass.old.session }
-    ensures mine { pass.new.mine ≡ pass.old.mine }
+    ensures { Answers N.log.cap pass.old pass.new db.now (plain.Select (condition_of p.now) (query_of part.now)) result }
 {
     let table = operand(alloc, arena, pass, part, db)?;
     filtered(alloc, arena, pass, p, table)
@@ -341,12 +279,7 @@ fn selected<N: Site>(
 ) -> Result<CTable, TableError>
     requires tables { AreTables pass.old.words db.now }
     requires fits { Fits (map heading_of db.now) (plain.Select (condition_of p.now) (query_of part.now)) }
-    ensures answers { Answers pass.old.words pass.new.words db.now (plain.Select (condition_of p.now) (query_of part.now)) pass.old.made pass.new.made result }
-    ensures longer { IsPrefix pass.old.words pass.new.words }
-    ensures full { IsErrOf result fault.Full → length pass.new.words ≡ N.log.cap }
-    ensures rises { pass.old.made ≤ pass.new.made }
-    ensures session { pass.new.session ≡ pass.old.session }
-    ensures mine { pass.new.mine ≡ pass.old.mine }
+    ensures { Answers N.log.cap pass.old pass.new db.now (plain.Select (condition_of p.now) (query_of part.now)) result }
 {
     match part {
         Query::Product(left, right) => {
@@ -369,12 +302,7 @@ fn projected_rows<N: Site>(
 ) -> Result<CTable, TableError>
     requires tables { AreTables pass.old.words db.now }
     requires fits { Fits (map heading_of db.now) (plain.Project columns.now (query_of part.now)) }
-    ensures answers { Answers pass.old.words pass.new.words db.now (plain.Project columns.now (query_of part.now)) pass.old.made pass.new.made result }
-    ensures longer { IsPrefix pass.old.words pass.new.words }
-    ensures full { IsErrOf result fault.Full → length pass.new.words ≡ N.log.cap }
-    ensures rises { pass.old.made ≤ pass.new.made }
-    ensures session { pass.new.session ≡ pass.old.session }
-    ensures mine { pass.new.mine ≡ pass.old.mine }
+    ensures { Answers N.log.cap pass.old pass.new db.now (plain.Project columns.now (query_of part.now)) result }
 {
     let table = operand(alloc, arena, pass, part, db)?;
     project(alloc, arena, pass, columns, &table)
@@ -392,12 +320,7 @@ fn projected<N: Site>(
 ) -> Result<CTable, TableError>
     requires tables { AreTables pass.old.words db.now }
     requires fits { Fits (map heading_of db.now) (plain.Project columns.now (query_of part.now)) }
-    ensures answers { Answers pass.old.words pass.new.words db.now (plain.Project columns.now (query_of part.now)) pass.old.made pass.new.made result }
-    ensures longer { IsPrefix pass.old.words pass.new.words }
-    ensures full { IsErrOf result fault.Full → length pass.new.words ≡ N.log.cap }
-    ensures rises { pass.old.made ≤ pass.new.made }
-    ensures session { pass.new.session ≡ pass.old.session }
-    ensures mine { pass.new.mine ≡ pass.old.mine }
+    ensures { Answers N.log.cap pass.old pass.new db.now (plain.Project columns.now (query_of part.now)) result }
 {
     match part {
         Query::Product(left, right) => {
@@ -430,13 +353,10 @@ pub(crate) fn answer<N: Site>(
 ) -> Result<CTable, TableError>
     requires tables { AreTables pass.old.words db.now }
     requires fits { Fits (map heading_of db.now) (query_of query.now) }
-    ensures answers { Answers pass.old.words pass.new.words db.now (query_of query.now) pass.old.made pass.new.made result }
-    ensures longer { IsPrefix pass.old.words pass.new.words }
-    ensures full { IsErrOf result fault.Full → length pass.new.words ≡ N.log.cap }
-    ensures rises { pass.old.made ≤ pass.new.made }
-    ensures session { pass.new.session ≡ pass.old.session }
-    ensures mine { pass.new.mine ≡ pass.old.mine }
+    ensures { Answers N.log.cap pass.old pass.new db.now (query_of query.now) result }
 {
+    // The words are well formed, also where none is added.
+    let _ = pass.words();
     match query {
         Query::Table(name) => Ok(db.get(name).unwrap().copied(alloc)?),
         Query::Select(p, inner) => selected(alloc, arena, pass, p, inner, db),

@@ -1,6 +1,6 @@
 // The evaluation of a query.
 
-ghost use Rattle.std.specs.Prelude.{◌≡◌, ◌≤◌, ◌<◌, ◌+◌, ◌^◌, ◌⊎◌, length, map, IfOk, IsErrOf};
+ghost use Rattle.std.specs.Prelude.{◌≡◌, ◌≤◌, ◌<◌, ◌+◌, ◌⊎◌, length, map, IfOk, IsErrOf};
 ghost use mathlib.Core.List.{IsPrefix};
 ghost use Rattle.ct_word.specs.Value.{World};
 ghost use Rattle.ct_word.specs.Sublist.{IsSublist};
@@ -15,6 +15,7 @@ ghost use Rattle.ct_query.specs.Terms.{query_terms};
 ghost use Rattle.ct_query.specs.Views.{query_of};
 ghost use Rattle.ct_plan.specs.Planned.{planned};
 ghost use Rattle.ct_plan.specs.Replaces.{Replaces};
+ghost use Rattle.ct_operators.specs.Refusals.{is_full};
 ghost use Rattle.ct_operators.specs.Tables.{AreRows, cells_of, value_of_rows};
 ghost use Rattle.ct_table.specs.Counting.{count_of};
 ghost use Rattle.ct_table.specs.Denotes.{heading_of, value_of_tables};
@@ -23,9 +24,8 @@ ghost use Rattle.ct_algebra.specs.Operands.{AreTables, cells_in};
 ghost use Rattle.ct_algebra.specs.Evaluates.{limit, Evaluates};
 ghost use Rattle.ct_algebra.specs.Names.{names};
 ghost use Rattle.ct_algebra.specs.Terms.{TermOfQuery};
-ghost use Rattle.ct_algebra.specs.Words.{MakesWithin, SpendsWithin, most_words};
+ghost use Rattle.ct_algebra.specs.Words.{PassWrites, SpendsWithin, most_words};
 ghost use Rattle.ct_algebra.specs.declared.error.EvalError.TheVariants as fault;
-ghost use Rattle.ct_operators.specs.declared.error.TableError.TheVariants as refusal;
 
 use crate::answering::answer;
 use crate::error::EvalError;
@@ -62,16 +62,16 @@ fn planned_answer<N: Site>(
     requires fits { Fits (map heading_of db.now) (query_of q.now) }
     ensures evaluates { IfOk result (Evaluates pass.old.words pass.new.words db.now (query_of q.now)) }
     ensures spends { SpendsWithin pass.old.words pass.old.made pass.new.made (query_terms (planned (map heading_of db.now) (query_of q.now))) (most_words db.now (planned (map heading_of db.now) (query_of q.now))) }
-    ensures makes { pass.new.made < 2 ^ 28 → MakesWithin result pass.old.made pass.new.made (nodes (rows_in (map count_of db.now)) (query_of q.now)) }
-    ensures longer { IsPrefix pass.old.words pass.new.words }
-    ensures full { IsErrOf result refusal.Full → length pass.new.words ≡ N.log.cap }
-    ensures rises { pass.old.made ≤ pass.new.made }
-    ensures session { pass.new.session ≡ pass.old.session }
-    ensures mine { pass.new.mine ≡ pass.old.mine }
+    ensures writes { PassWrites N.log.cap pass.old pass.new (nodes (rows_in (map count_of db.now)) (query_of q.now)) (is_full result) }
 {
+    // The words are well formed, also where memory is wanting.
+    let _ = pass.words();
     // A planned query makes no pairs that its selections would leave out.
     let planned = in_place(alloc, q, db)?;
-    answer(alloc, arena, pass, &planned, db)
+    let answered = answer(alloc, arena, pass, &planned, db);
+    // No session makes as many words as the greatest number that `nodes` stops at.
+    let _ = pass.words();
+    answered
 }
 
 /// The table that answers a query over the tables of a database: at every valuation it is worth what the query gives
@@ -120,7 +120,5 @@ pub fn eval<N: Site>(
     if size(q, &counts) > LIMIT {
         return Err(EvalError::TooLarge);
     }
-    let answered = planned_answer(alloc, arena, pass, q, db);
-    let _ = pass.words();
-    Ok(answered?)
+    Ok(planned_answer(alloc, arena, pass, q, db)?)
 }

@@ -23,7 +23,7 @@ ghost use Rattle.ct_operators.specs.Refusals.{is_full};
 ghost use Rattle.ct_operators.specs.Tables.{IsRow, AreRows, value_of_rows, cells_of};
 ghost use Rattle.ct_operators.specs.Terms.{TermOfRows, RowsFrom, IsNoColumn};
 ghost use Rattle.ct_algebra.specs.Equals.{HasEqual, differ_in};
-ghost use Rattle.ct_algebra.specs.Joining.{MakesPairs, rows_at, row_under, pair_holds, pair_words, TermOfPair, TermOfJoin};
+ghost use Rattle.ct_algebra.specs.Joining.{MakesPairs, ShownBeside, rows_at, row_under, pair_holds, pair_words, TermOfPair, TermOfJoin};
 ghost use Rattle.ct_algebra.specs.Keyed.{key_of};
 ghost use Rattle.ct_algebra.specs.declared.keys.Side.TheVariants as side;
 
@@ -90,6 +90,30 @@ fn placed<N: Site, I: Interner<N>>(
     put
 }
 
+/// The place of the condition that two rows are shown and another one holds. Where that one is the word false, it is the
+/// place, and nothing is made.
+fn shown_beside<N: Site, I: Interner<N>>(
+    arena: &Arena<N>,
+    pass: &mut I,
+    left: &CRow,
+    right: &CRow,
+    place: u32,
+) -> Result<u32, Full>
+    requires left { IsTrue (is_place_of (I.list pass.old) class.Cond left.now.cond) }
+    requires right { IsTrue (is_place_of (I.list pass.old) class.Cond right.now.cond) }
+    requires place { IsTrue (is_place_of (I.list pass.old) class.Cond place) }
+    ensures shown { IfOk result (ShownBeside (I.list pass.old) (I.list pass.new) left.now.cond right.now.cond place) }
+    ensures left_out { place ≡ 1 → pass.new ≡ pass.old }
+    ensures writes { Writes I.list I.made I.kept I.lent N.log.cap pass.old pass.new 2 (is_err result) }
+{
+    let _ = pass.words();
+    if place == FALSE_PLACE {
+        return Ok(place);
+    }
+    let both = and(arena, pass, left.cond, right.cond)?;
+    and(arena, pass, both, place)
+}
+
 /// The place of the condition that two rows are shown and that a predicate holds for their cells. Where the predicate
 /// comes to the word false, that word is the place, and no further condition is made.
 fn met<N: Site, I: Interner<N>>(
@@ -111,11 +135,7 @@ fn met<N: Site, I: Interner<N>>(
 {
     let _ = pass.words();
     let place = placed(arena, pass, p, cells)?;
-    if place == FALSE_PLACE {
-        return Ok(place);
-    }
-    let both = and(arena, pass, left.cond, right.cond)?;
-    and(arena, pass, both, place)
+    shown_beside(arena, pass, left, right, place)
 }
 
 /// The same. Where two columns that the predicate asks to be equal have different constants, no word is made.

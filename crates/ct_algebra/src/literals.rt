@@ -1,14 +1,12 @@
 // Places for the literals of a predicate, each put once, before rows are selected by it.
 
-ghost use Rattle.std.specs.Prelude.{◌≡◌, ◌≤◌, [], ◌∷◌, true, map, length, IsErrOf, OnOk};
-ghost use mathlib.Core.List.{IsPrefix};
+ghost use Rattle.std.specs.Prelude.{◌≡◌, [], ◌∷◌, true, map, OnOk};
 ghost use Rattle.ct_word.specs.Condition.{listed};
 ghost use Rattle.ct_query.specs.Fields.{FitsFields};
 ghost use Rattle.ct_query.specs.Fits.{IsColumnBelow};
 ghost use Rattle.ct_query.specs.Pred.{condition_of};
 ghost use Rattle.ct_query.specs.Terms.{condition_terms, all_terms};
 ghost use Rattle.ct_condition.specs.Places.{has_place};
-ghost use Rattle.ct_operators.specs.declared.error.TableError.TheVariants as fault;
 ghost use Rattle.ct_algebra.specs.Words.{EachLiteral, GrowsWithin};
 
 use ct_arena::{Arena, Pass, Site};
@@ -22,12 +20,7 @@ fn put_term<N: Site>(arena: &Arena<N>, pass: &mut Pass<N>, literal: &Term) -> Re
     requires fits { EachLiteral FitsFields (literal.now ∷ []) }
     requires literal { IsColumnBelow 0 literal.now }
     ensures placed { OnOk result (EachLiteral (λ t. has_place pass.new.words t ≡ true) (literal.now ∷ [])) }
-    ensures grows { GrowsWithin result pass.old.words pass.new.words pass.old.made pass.new.made (literal.now ∷ []) 0 }
-    ensures longer { IsPrefix pass.old.words pass.new.words }
-    ensures full { IsErrOf result fault.Full → length pass.new.words ≡ N.log.cap }
-    ensures rises { pass.old.made ≤ pass.new.made }
-    ensures session { pass.new.session ≡ pass.old.session }
-    ensures mine { pass.new.mine ≡ pass.old.mine }
+    ensures grows { GrowsWithin N.log.cap result pass.old pass.new (literal.now ∷ []) 0 }
 {
     term(arena, pass, literal)?;
     Ok(())
@@ -41,13 +34,10 @@ fn put_literal<N: Site>(
 ) -> Result<(), TableError>
     requires fits { EachLiteral FitsFields (literal.now ∷ []) }
     ensures placed { OnOk result (EachLiteral (λ t. has_place pass.new.words t ≡ true) (literal.now ∷ [])) }
-    ensures grows { GrowsWithin result pass.old.words pass.new.words pass.old.made pass.new.made (literal.now ∷ []) 0 }
-    ensures longer { IsPrefix pass.old.words pass.new.words }
-    ensures full { IsErrOf result fault.Full → length pass.new.words ≡ N.log.cap }
-    ensures rises { pass.old.made ≤ pass.new.made }
-    ensures session { pass.new.session ≡ pass.old.session }
-    ensures mine { pass.new.mine ≡ pass.old.mine }
+    ensures grows { GrowsWithin N.log.cap result pass.old pass.new (literal.now ∷ []) 0 }
 {
+    // The words are well formed, also where none is added.
+    let _ = pass.words();
     match literal {
         Term::Column(_) => Ok(()),
         Term::Null(_) => put_term(arena, pass, literal),
@@ -68,13 +58,9 @@ pub(crate) fn put_literals<N: Site>(
 ) -> Result<(), TableError>
     requires fits { EachLiteral FitsFields (condition_terms (condition_of p.now)) }
     ensures placed { OnOk result (EachLiteral (λ t. has_place pass.new.words t ≡ true) (condition_terms (condition_of p.now))) }
-    ensures grows { GrowsWithin result pass.old.words pass.new.words pass.old.made pass.new.made (condition_terms (condition_of p.now)) 0 }
-    ensures longer { IsPrefix pass.old.words pass.new.words }
-    ensures full { IsErrOf result fault.Full → length pass.new.words ≡ N.log.cap }
-    ensures rises { pass.old.made ≤ pass.new.made }
-    ensures session { pass.new.session ≡ pass.old.session }
-    ensures mine { pass.new.mine ≡ pass.old.mine }
+    ensures grows { GrowsWithin N.log.cap result pass.old pass.new (condition_terms (condition_of p.now)) 0 }
 {
+    let _ = pass.words();
     match p {
         Pred::True | Pred::False => Ok(()),
         Pred::Same(one, other) => {
@@ -96,13 +82,9 @@ fn put_all_literals<N: Site>(
 ) -> Result<(), TableError>
     requires fits { EachLiteral FitsFields (all_terms (listed (map condition_of preds.now))) }
     ensures placed { OnOk result (EachLiteral (λ t. has_place pass.new.words t ≡ true) (all_terms (listed (map condition_of preds.now)))) }
-    ensures grows { GrowsWithin result pass.old.words pass.new.words pass.old.made pass.new.made (all_terms (listed (map condition_of preds.now))) 0 }
-    ensures longer { IsPrefix pass.old.words pass.new.words }
-    ensures full { IsErrOf result fault.Full → length pass.new.words ≡ N.log.cap }
-    ensures rises { pass.old.made ≤ pass.new.made }
-    ensures session { pass.new.session ≡ pass.old.session }
-    ensures mine { pass.new.mine ≡ pass.old.mine }
+    ensures grows { GrowsWithin N.log.cap result pass.old pass.new (all_terms (listed (map condition_of preds.now))) 0 }
 {
+    let _ = pass.words();
     for p in preds {
         put_literals(arena, pass, p)?;
     }

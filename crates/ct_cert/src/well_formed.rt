@@ -32,7 +32,7 @@ fn fields(kind: Kind) -> (Field, Field)
     match kind {
         Kind::TextEnd | Kind::True | Kind::False => (Field::Zero, Field::Zero),
         Kind::RowEnd | Kind::RowsEnd | Kind::NamesEnd => (Field::Zero, Field::Zero),
-        Kind::ChangesEnd => (Field::Zero, Field::Zero),
+        Kind::SetsEnd | Kind::ChangesEnd => (Field::Zero, Field::Zero),
         Kind::TextCharacter => (Field::PlaceOf(Class::Text), Field::Scalar),
         Kind::NumberHigh => (Field::Any, Field::Any),
         Kind::Number => (Field::PlaceOf(Class::High), Field::Byte),
@@ -57,6 +57,13 @@ fn fields(kind: Kind) -> (Field, Field)
             Field::PlaceOf(Class::Change),
         ),
         Kind::Commit => (Field::Any, Field::PlaceOf(Class::ChangeList)),
+        Kind::Set => (Field::Any, Field::PlaceOf(Class::Term)),
+        Kind::Sets => (Field::PlaceOf(Class::SetList), Field::PlaceOf(Class::Set)),
+        Kind::UpdateBody => (Field::PlaceOf(Class::SetList), Field::PlaceOf(Class::Cond)),
+        Kind::Update => (
+            Field::PlaceOf(Class::Text),
+            Field::PlaceOf(Class::UpdateBody),
+        ),
     }
 }
 

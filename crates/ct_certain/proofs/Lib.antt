@@ -1,4 +1,5 @@
 pub mod Agreed
+mod Alone
 pub mod Asking
 pub mod Cuts
 pub mod Pools

@@ -89,6 +89,11 @@ field_of_other (Some kind.Assert) ms a b k e = absurd (false≢true (ap is_other
 field_of_other (Some kind.ChangesEnd) ms a b k e = absurd (false≢true (ap is_other e))
 field_of_other (Some kind.Changes) ms a b k e = absurd (false≢true (ap is_other e))
 field_of_other (Some kind.Commit) ms a b k e = absurd (false≢true (ap is_other e))
+field_of_other (Some kind.Set) ms a b k e = absurd (false≢true (ap is_other e))
+field_of_other (Some kind.SetsEnd) ms a b k e = absurd (false≢true (ap is_other e))
+field_of_other (Some kind.Sets) ms a b k e = absurd (false≢true (ap is_other e))
+field_of_other (Some kind.UpdateBody) ms a b k e = absurd (false≢true (ap is_other e))
+field_of_other (Some kind.Update) ms a b k e = absurd (false≢true (ap is_other e))
 field_of_other None ms a b k e = absurd (false≢true (ap is_other e))
 
 left_small : (w : ℕ) → left_of w < 2 ^ 28

@@ -160,6 +160,7 @@ pub fn certain<N: Site>(
     ensures formed { IsWellFormed pass.new.words }
     ensures room { length pass.new.words ≤ N.log.cap }
     ensures full { IsErrOf result fault.Full → length pass.new.words ≡ N.log.cap }
+    ensures rises { pass.old.made ≤ pass.new.made }
     ensures made { pass.new.made ≤ pass.old.made + length table.now.rows * (length table.now.rows * (2 * length table.now.columns + 2) + length table.now.columns + 1) }
     ensures fewer { IsErrOf result fault.Full → pass.new.made < pass.old.made + length table.now.rows * (length table.now.rows * (2 * length table.now.columns + 2) + length table.now.columns + 1) }
     ensures session { pass.new.session ≡ pass.old.session }

@@ -74,6 +74,7 @@ pub fn possible<N: Site>(
     ensures formed { IsWellFormed pass.new.words }
     ensures room { length pass.new.words ≤ N.log.cap }
     ensures full { IsErrOf result fault.Full → length pass.new.words ≡ N.log.cap }
+    ensures rises { pass.old.made ≤ pass.new.made }
     ensures made { pass.new.made ≤ pass.old.made + length table.now.rows }
     ensures fewer { IsErrOf result fault.Full → pass.new.made < pass.old.made + length table.now.rows }
     ensures session { pass.new.session ≡ pass.old.session }

@@ -7,7 +7,8 @@ use Rattle.std.proofs.lemmas.List.Elements.{All-contains, All-contains_itself}
 use Rattle.ct_word.{specs.declared.values.Value.Value, specs.Value.{same_value, same_tuple, cell_at, other_zero}, proofs.Alike.{value_decides, tuple_decides}}
 use Rattle.ct_word.proofs.Items.{first_item, later_item, item_cases, no_item}
 use Rattle.ct_operators.proofs.Reaching.{both_all}
-use Rattle.ct_constraint.{specs.Assertions.{agree, clash}, specs.Comparing.{is_in, same_below}}
+use Rattle.ct_query.specs.Assertions.{agree, clash}
+use Rattle.ct_constraint.specs.Comparing.{is_in, same_below}
 
 counted : (b x : Bool) → b ≡ true → (not b || x) ≡ true → x ≡ true
 counted true x e h = h

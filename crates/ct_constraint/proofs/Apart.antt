@@ -1,10 +1,10 @@
 -- Tuples of which no two clash, row by row.
-use Rattle.std.proofs.Common.{◌≡◌, ℕ, Bool, true, false, not, ◌&&◌, List, [], ◌∷◌, ◌++◌, map, cond, refl, ap, sym, ◌∙◌}
-use Rattle.std.{specs.List.list_all, proofs.lemmas.List.Folds.list_all-append, proofs.lemmas.Bool.Decides.same_from_decides, proofs.lemmas.Bool.{and_left, and_right, not_from_true}}
+use Rattle.std.proofs.Common.{◌≡◌, ℕ, Bool, true, false, not, ◌&&◌, List, [], ◌∷◌, ◌++◌, map, take, drop, cond, refl, ap, sym, subst, ◌∙◌}
+use Rattle.std.{specs.List.list_all, proofs.lemmas.List.{take-append-drop}, proofs.lemmas.List.Folds.list_all-append, proofs.lemmas.Bool.Decides.same_from_decides, proofs.lemmas.Bool.{and_left, and_right, not_from_true}}
 use Rattle.ct_word.{specs.declared.values.Value.Value, specs.declared.values.CRow.CRow, specs.Value.{World, same_value, same_tuple, cell_at, tuple_at}}
 use Rattle.ct_word.{specs.Condition.holds_at, specs.Reading.{term_at, condition_at, plain_crow}, proofs.Alike.{value_decides, tuple_decides}}
 use Rattle.ct_operators.{specs.Tables.value_of_rows, specs.Placing.tuple_of, proofs.Selecting.{value-append, one_shown}}
-use Rattle.ct_constraint.specs.Assertions.{agree, clash, keep_apart, is_key}
+use Rattle.ct_query.specs.Assertions.{agree, clash, keep_apart, is_key}
 
 crossed : (a b c d : Bool) → ((a && b) && (c && d)) ≡ ((a && c) && (b && d))
 crossed true true c d = refl
@@ -86,6 +86,27 @@ module _ (ks : List ℕ) where
     beside_more rs r row =
         ap (λ ts. keep_apart ks ts (value_of_rows ws v (row ∷ []))) (value-append ws v rs (r ∷ []))
         ∙ apart-append (value_of_rows ws v rs) (value_of_rows ws v (r ∷ [])) (value_of_rows ws v (row ∷ []))
+
+    -- what is false of the first rows is so of all
+    pub beside_never : (rs : List CRow) (n : ℕ) (row : CRow)
+        → keep_apart ks (value_of_rows ws v (take n rs)) (value_of_rows ws v (row ∷ [])) ≡ false
+        → keep_apart ks (value_of_rows ws v rs) (value_of_rows ws v (row ∷ [])) ≡ false
+    beside_never rs n row e =
+        let first = value_of_rows ws v (take n rs) in
+        let rest = value_of_rows ws v (drop n rs) in
+        let one = value_of_rows ws v (row ∷ []) in
+        subst (λ l. keep_apart ks (value_of_rows ws v l) one ≡ false) (take-append-drop n rs)
+        (ap (λ ts. keep_apart ks ts one) (value-append ws v (take n rs) (drop n rs)) ∙ apart-append first rest one
+        ∙ and_left (keep_apart ks first one) (keep_apart ks rest one) e)
+
+    pub key_never : (rs : List CRow) (n : ℕ) → is_key ks (value_of_rows ws v (take n rs)) ≡ false → is_key ks (value_of_rows ws v rs) ≡ false
+    key_never rs n e =
+        let first = value_of_rows ws v (take n rs) in
+        let rest = value_of_rows ws v (drop n rs) in
+        subst (λ l. is_key ks (value_of_rows ws v l) ≡ false) (take-append-drop n rs)
+        (ap (is_key ks) (value-append ws v (take n rs) (drop n rs)) ∙ apart-append first rest (first ++ rest)
+        ∙ and_left (keep_apart ks first (first ++ rest)) (keep_apart ks rest (first ++ rest))
+        (apart-both first first rest ∙ and_left (is_key ks first) (keep_apart ks first rest) e))
 
     -- two rows
     pub pair_apart : (l r : CRow) → not (holds_at v (condition_at ws l.cond) && (holds_at v (condition_at ws r.cond) && clash ks (tuple_of ws l.cells v) (tuple_of ws r.cells v)))

@@ -1,11 +1,12 @@
 -- What the tests on tuples tell.
 use Rattle.std.proofs.Common.{◌≡◌, ℕ, Bool, true, false, not, ◌&&◌, List, [], ◌∷◌, refl, ap, sym, ◌∙◌}
-use Rattle.std.{specs.Prelude.{All, Contains}, specs.Bool.Decides, specs.List.list_all, proofs.lemmas.Bool.{false≢true}}
+use Rattle.std.{specs.Prelude.{All, Contains, if◌then◌else◌}, specs.Bool.Decides, specs.List.list_all, proofs.lemmas.Bool.{false≢true}}
 use Rattle.std.proofs.lemmas.Bool.Decides.{same_from_decides, Decides-like}
 use Rattle.std.{proofs.lemmas.List.Sums.{AllPass-from_list_all, list_all-from_AllPass}, proofs.lemmas.List.Elements.{All-contains, All-weaker, All-contains_itself}}
 use Rattle.ct_word.{specs.declared.values.Value.Value, specs.Value.{same_value, same_tuple, cell_at}, proofs.Alike.{value_decides, tuple_decides}, proofs.Items.{first_item, no_item}}
 use Rattle.ct_query.specs.Database.{SameSet}
-use Rattle.ct_constraint.{specs.Assertions.{has_member, agree, clash, is_key, IsKey}, proofs.Agreeing.in_list}
+use Rattle.ct_query.specs.Assertions.{has_member, as_wanted, agree, clash, is_key, IsKey}
+use Rattle.ct_constraint.proofs.Agreeing.{in_list}
 
 module _ {X : Type 0} (p : X → Bool) where
   passes : (xs : List X) (x : X) → list_all p xs ≡ true → Contains xs x → p x ≡ true
@@ -61,6 +62,9 @@ module _ (a b : List (List Value)) (same : SameSet a b) where
   pub member_of_set : has_member a ≡ has_member b
   member_of_set = same_from_decides (has_member a) (has_member b) (member_tells a)
       (Decides-like (has_member b) (λ h. (h.0, moved b a back h.0 h.1)) (λ h. (h.0, moved a b same h.0 h.1)) (member_tells b))
+
+  pub wanted_of_set : (wanted : Bool) → as_wanted wanted a ≡ as_wanted wanted b
+  wanted_of_set wanted = ap (λ h. if wanted then h else not h) member_of_set
 
   pub key_of_set : (columns : List ℕ) → is_key columns a ≡ is_key columns b
   key_of_set columns = same_from_decides (is_key columns a) (is_key columns b) (key_tells columns a)

@@ -3,7 +3,7 @@ use Rattle.std.{proofs.Common.{◌≡◌, ℕ, Bool, true, false, ◌||◌, List
 use Rattle.ct_word.{specs.declared.values.Value.Value, specs.declared.values.CRow.CRow, specs.Value.{World, tuple_at}}
 use Rattle.ct_word.{specs.Condition.holds_at, specs.Reading.{term_at, condition_at, plain_crow}}
 use Rattle.ct_operators.{specs.Tables.value_of_rows, proofs.Selecting.{value-append, one_shown}}
-use Rattle.ct_constraint.specs.Assertions.{has_member}
+use Rattle.ct_query.specs.Assertions.{has_member}
 
 member-append : (ts us : List (List Value)) → has_member (ts ++ us) ≡ (has_member ts || has_member us)
 member-append [] us = refl

@@ -1,16 +1,19 @@
 -- Conditions on cells and rows, as one more is compared.
-use Rattle.std.proofs.Common.{◌≡◌, ℕ, ◌+◌, ◌*◌, ◌<◌, ◌≤◌, Bool, not, ◌&&◌, ◌||◌, List, [], ◌∷◌, ◌++◌, take, drop, length, get_or, ap, sym, subst, ◌∙◌, add-one, arith, inl, inr}
-use Rattle.std.{specs.Prelude.{◌⊎◌, All, Contains, IsTrue}, proofs.lemmas.List.{take-append-drop}}
+use Rattle.std.proofs.Common.{◌≡◌, ℕ, ◌+◌, ◌*◌, ◌<◌, ◌≤◌, Bool, true, false, not, ◌&&◌, ◌||◌, List, [], ◌∷◌, ◌++◌, take, drop, length, get_or, nat_eq, refl, ap, sym, subst, ◌∙◌, add-one, arith, inl, inr}
+use Rattle.std.{specs.Prelude.{◌⊎◌, All, Contains, IsTrue}, proofs.lemmas.Bool.{false≢true, or_right}, proofs.lemmas.Bool.Decides.{Decides-eqb, eqb_tells}, proofs.lemmas.List.{take-append-drop}}
 use Rattle.std.proofs.Math.Nat.{mul-le-mul_right}
-use Rattle.std.proofs.lemmas.List.Elements.{All-get_or, All-cons, All-nil, Contains-append_left, Contains-append_cases}
-use Rattle.ct_word.{specs.declared.values.Term.Term, specs.declared.values.CRow.CRow, specs.Value.{at, same_value, cell_at}}
-use Rattle.ct_word.{specs.WellFormed.{IsWellFormed, is_place_of}, specs.Reading.{term_at}}
-use Rattle.ct_word.proofs.Prefixes.{prefix_of_prefix, term_in_prefix, place_within}
-use Rattle.ct_condition.{specs.Truth.{HasTruth, truth_at, equal_at, not_at, and_at}, specs.Terms.{TermsFrom, BelowEither, BelowSome}}
+use Rattle.std.proofs.lemmas.List.Elements.{All-get_or, All-cons, All-nil, All-contains, Contains-append_left, Contains-append_cases}
+use Rattle.ct_word.{specs.declared.values.Term.Term, specs.declared.values.CRow.CRow, specs.Value.{World, at, same_value, cell_at}}
+use Rattle.ct_word.{specs.WellFormed.{IsWellFormed, is_place_of}, specs.Reading.{term_at, condition_at}, specs.Condition.holds_at}
+use Rattle.ct_word.proofs.Prefixes.{prefix_of_prefix, get_in_prefix, term_in_prefix, place_within}
+use Rattle.ct_arena.specs.Counts.{opening}
+use Rattle.ct_condition.{specs.Folding.are_apart, specs.Truth.{HasTruth, truth_at, equal_at, not_at, and_at}, specs.Terms.{TermsFrom, BelowEither, BelowSome}}
 use Rattle.ct_operators.{specs.Tables.{IsRow, value_of_rows}, specs.Terms.{TermOfRow, TermOfRows}, specs.Building.HoldsWhere, specs.Placing.tuple_of}
-use Rattle.ct_operators.proofs.Holding.{holds_as, holds_itself, holds_later, holds_equal, holds_not, holds_and}
+use Rattle.ct_operators.proofs.Holding.{holds_as, holds_false, holds_itself, holds_later, holds_equal, holds_not, holds_and}
 use Rattle.ct_operators.{proofs.Selecting.cell_of_tuple, proofs.Growing.value_grows, proofs.Reaching.{foremost, behind, from_two, from_later, row_before, rows_before, rows_among}}
-use Rattle.ct_constraint.{specs.Assertions.{clash, keep_apart, is_key}, specs.Comparing.same_below, proofs.Apart.{key_more, beside_more, pair_apart}}
+use Rattle.ct_query.specs.Assertions.{clash, keep_apart, is_key}
+use Rattle.ct_word.{specs.Constant.is_constant_word, proofs.Alike.value_decides}
+use Rattle.ct_constraint.{specs.Comparing.{MayAgree, is_in, same_below}, proofs.Agreeing.in_list, proofs.Apart.{key_more, beside_more, pair_apart}}
 use mathlib.Core.List.{IsPrefix}
 use Rattle.ct_word.specs.declared.kinds.Class.TheVariants as class
 
@@ -28,8 +31,52 @@ cells_same old now new ps qs k place grown a b lp lq h =
     ∙ sym (λ i. same_value (cell_of_tuple old v ps k lp i) (cell_of_tuple old v qs k lq i)))
     (holds_equal now new p q place h)
 
+settled : (a b x : Bool) → x ≡ true → (a || x) ≡ (b || x)
+settled a b x e = or_right a x e ∙ sym (or_right b x e)
+
+-- a test that counts where cells differ and are not apart, which those that pass another one are not
+asked : (same apart test counts : Bool) → (test ≡ true → apart ≡ false) → counts ≡ (not same && (not apart && test)) → same ≡ false → counts ≡ test
+asked true apart test counts may is differs = absurd (false≢true (sym differs))
+asked false false test counts may is differs = is
+asked false true false counts may is differs = is
+asked false true true counts may is differs = absurd (false≢true (sym (may refl)))
+
+module _ (old now : List ℕ) (grown : IsPrefix old now) (ps qs columns : List ℕ) (a : All (λ p. IsTrue (is_place_of old class.Term p)) ps) (b : All (λ p. IsTrue (is_place_of old class.Term p)) qs)
+    (may : MayAgree old ps qs columns) (k : ℕ) (lp : k < length ps) (lq : k < length qs) (counts : Bool)
+    (is : counts ≡ (not (nat_eq (get_or ps k 0) (get_or qs k 0)) && (not (are_apart now (get_or ps k 0) (get_or qs k 0)) && is_in columns k))) where
+  -- whether the cells at a position are worth the same
+  abbrev cells_agree : World → Bool
+  cells_agree v = same_value (cell_at (tuple_of old ps v) k) (cell_at (tuple_of old qs v) k)
+
+  equal_agree : get_or ps k 0 ≡ get_or qs k 0 → (v : World) → cells_agree v ≡ true
+  equal_agree e v = (value_decides (cell_at (tuple_of old ps v) k) (cell_at (tuple_of old qs v) k)).1
+      (cell_of_tuple old v ps k lp ∙ ap (λ p. at v [] (term_at old p)) e ∙ sym (cell_of_tuple old v qs k lq))
+
+  not_apart : is_in columns k ≡ true → are_apart now (get_or ps k 0) (get_or qs k 0) ≡ false
+  not_apart among =
+      let p = get_or ps k 0 in
+      let q = get_or qs k 0 in
+      let within_p = place_within old class.Term p (All-get_or (λ x. IsTrue (is_place_of old class.Term x)) ps k 0 lp a) in
+      let within_q = place_within old class.Term q (All-get_or (λ x. IsTrue (is_place_of old class.Term x)) qs k 0 lq b) in
+      (λ i. not (nat_eq p q) && (is_constant_word (get_in_prefix old now p grown within_p i) && is_constant_word (get_in_prefix old now q grown within_q i)))
+      ∙ All-contains (λ j. are_apart old (get_or ps j 0) (get_or qs j 0) ≡ false) columns k may ((in_list nat_eq Decides-eqb columns k).0 among)
+
+  -- it tells where it matters whether a position is one of the columns
+  pub counted : (v : World) → ((not counts || cells_agree v) ≡ (not (is_in columns k) || cells_agree v)) × ((not (not counts) || cells_agree v) ≡ (not (not (is_in columns k)) || cells_agree v))
+  counted v = elim (eqb_tells (get_or ps k 0) (get_or qs k 0)) [
+    | inl same ↦ (
+      settled (not counts) (not (is_in columns k)) (cells_agree v) (equal_agree same.1 v),
+      settled (not (not counts)) (not (not (is_in columns k))) (cells_agree v) (equal_agree same.1 v),
+    )
+    | inr differs ↦
+        let tells = asked (nat_eq (get_or ps k 0) (get_or qs k 0)) (are_apart now (get_or ps k 0) (get_or qs k 0)) (is_in columns k) counts not_apart is differs.0 in
+        (ap (λ c. not c || cells_agree v) tells, ap (λ c. not (not c) || cells_agree v) tells)
+  ]
+
 -- one more position
-pub below_more : (old now mid new : List ℕ) (ps qs : List ℕ) (test : ℕ → Bool) (k c same place : ℕ) (counts : Bool) → counts ≡ test k → IsPrefix now mid
+pub below_more : (old now mid new : List ℕ) (ps qs : List ℕ) (test : ℕ → Bool) (k c same place : ℕ) (counts : Bool)
+    → ((v : World) → (not counts || same_value (cell_at (tuple_of old ps v) k) (cell_at (tuple_of old qs v) k)) ≡ (not (test k) || same_value (cell_at (tuple_of old ps v) k) (cell_at (tuple_of old qs v) k)))
+    → IsPrefix now mid
     → HoldsWhere now c (λ v. same_below k test (tuple_of old ps v) (tuple_of old qs v)) → HoldsWhere mid same (λ v. same_value (cell_at (tuple_of old ps v) k) (cell_at (tuple_of old qs v) k))
     → HasTruth new place (λ v row. truth_at mid c v row && (not counts || truth_at mid same v row)) → HoldsWhere new place (λ v. same_below (k + 1) test (tuple_of old ps v) (tuple_of old qs v))
 below_more old now mid new ps qs test k c same place counts e longer so_far one h =
@@ -37,9 +84,17 @@ below_more old now mid new ps qs test k c same place counts e longer so_far one 
     record {
       class = h.class;
       holds = λ v. h.truth_is v []
-          ∙ (λ i. moved.holds v i && (not (e i) || one.holds v i))
+          ∙ (λ i. moved.holds v i && (not counts || one.holds v i))
+          ∙ ap (λ b. same_below k test (tuple_of old ps v) (tuple_of old qs v) && b) (e v)
           ∙ sym (ap (λ n. same_below n test (tuple_of old ps v) (tuple_of old qs v)) (add-one k));
     }
+
+-- the word false, where what it stands for is false only where something else is
+pub never_more : (ws : List ℕ) (place : ℕ) (s t : World → Bool) → IsPrefix opening ws → IsWellFormed ws → place ≡ 1 → ((v : World) → s v ≡ false → t v ≡ false)
+    → HoldsWhere ws place s → HoldsWhere ws place t
+never_more ws place s t begins formed is both h =
+    holds_as ws place s t
+    (λ v. let never = sym (h.holds v) ∙ ap (λ p. holds_at v (condition_at ws p)) is ∙ (holds_false ws begins formed).holds v in never ∙ sym (both v never)) h
 
 -- two rows, from the condition that what they are worth clashes
 pub pair_kept : (ks : List ℕ) (old m1 m2 m3 new : List ℕ) (l r : CRow) (c one both place : ℕ) → IsPrefix old m1 → IsPrefix m1 m2

@@ -1,2 +1,1 @@
-pub mod Assertions
 pub mod Comparing

@@ -1,9 +1,10 @@
 // Whether two rows are worth different tuples that agree at some columns.
 
-ghost use Rattle.std.specs.Prelude.{◌≡◌, ◌≤◌, ◌<◌, ◌+◌, ◌*◌, ◌++◌, ◌∷◌, ◌&&◌, ◌||◌, ◌⊎◌, [], true, false, not, length, All, IfOk, IsTrue, is_err};
+ghost use Rattle.std.specs.Prelude.{◌≡◌, ◌≤◌, ◌<◌, ◌+◌, ◌*◌, ◌++◌, ◌∷◌, ◌&&◌, ◌||◌, ◌⊎◌, [], true, false, not, nat_eq, length, All, IfOk, IsTrue, is_err};
 ghost use Rattle.ct_word.specs.declared.kinds.Class.TheVariants as class;
 ghost use Rattle.ct_word.specs.Value.{World};
 ghost use Rattle.ct_word.specs.WellFormed.{IsWellFormed, is_place_of};
+ghost use Rattle.ct_condition.specs.Folding.{are_apart};
 ghost use Rattle.ct_condition.specs.Terms.{TermsFrom, BelowEither, BelowSome};
 ghost use Rattle.ct_condition.specs.Truth.{HasTruth, truth_at};
 ghost use Rattle.ct_condition.specs.Writes.{Writes};
@@ -11,8 +12,8 @@ ghost use Rattle.ct_operators.specs.Building.{HoldsWhere};
 ghost use Rattle.ct_operators.specs.Placing.{tuple_of};
 ghost use Rattle.ct_operators.specs.Tables.{IsRow, value_of_rows};
 ghost use Rattle.ct_operators.specs.Terms.{TermOfRow};
-ghost use Rattle.ct_constraint.specs.Assertions.{agree, clash, keep_apart};
-ghost use Rattle.ct_constraint.specs.Comparing.{is_in, same_below};
+ghost use Rattle.ct_query.specs.Assertions.{agree, clash, keep_apart};
+ghost use Rattle.ct_constraint.specs.Comparing.{MayAgree, is_in, same_below};
 
 use ct_arena::{Arena, Full, Site};
 use ct_condition::{Interner, and, are_apart, eq, not};
@@ -23,7 +24,8 @@ fn differ_at(words: &[u64], left: &[u32], right: &[u32], columns: &[u32]) -> boo
     requires formed { IsWellFormed words.now }
     requires left { All (λ k. k < length left.now) columns.now }
     requires right { All (λ k. k < length right.now) columns.now }
-    ensures { result ≡ true → (v : World) → agree columns.now (tuple_of words.now left.now v) (tuple_of words.now right.now v) ≡ false }
+    ensures differ { result ≡ true → (v : World) → agree columns.now (tuple_of words.now left.now v) (tuple_of words.now right.now v) ≡ false }
+    ensures may { result ≡ false → MayAgree words.now left.now right.now columns.now }
 {
     for column in columns {
         let k = *column as usize;
@@ -39,6 +41,14 @@ fn is_among(columns: &[u32], k: usize) -> bool
     ensures { result ≡ is_in columns.now k }
 {
     columns.iter().any(|column| *column as usize == k)
+}
+
+/// Whether a position is one of these columns, where that is asked. It is not of cells that are the same term, nor of those
+/// that are different constants.
+fn is_asked_among(words: &[u64], s: u32, t: u32, columns: &[u32], k: usize) -> bool
+    ensures { result ≡ (not (nat_eq s t) && (not (are_apart words.now s t) && is_in columns.now k)) }
+{
+    s != t && !are_apart(words, s, t) && is_among(columns, k)
 }
 
 /// The place of a condition, joined with another one where that counts.
@@ -64,7 +74,7 @@ fn and_if<N: Site, I: Interner<N>>(
 }
 
 /// The places of the conditions that two lists of cells are worth the same at each of these columns, and at each other
-/// one.
+/// one. A position is only looked for among the columns where its cells may or may not be worth the same.
 fn compared<N: Site, I: Interner<N>>(
     arena: &Arena<N>,
     pass: &mut I,
@@ -75,6 +85,7 @@ fn compared<N: Site, I: Interner<N>>(
     requires left { All (λ p. IsTrue (is_place_of (I.list pass.old) class.Term p)) left.now }
     requires right { All (λ p. IsTrue (is_place_of (I.list pass.old) class.Term p)) right.now }
     requires lengths { length left.now ≡ length right.now }
+    requires may { MayAgree (I.list pass.old) left.now right.now columns.now }
     ensures inside { IfOk result (λ p. HoldsWhere (I.list pass.new) p.0 (λ v. same_below (length left.now) (is_in columns.now) (tuple_of (I.list pass.old) left.now v) (tuple_of (I.list pass.old) right.now v))) }
     ensures outside { IfOk result (λ p. HoldsWhere (I.list pass.new) p.1 (λ v. same_below (length left.now) (λ k. not (is_in columns.now k)) (tuple_of (I.list pass.old) left.now v) (tuple_of (I.list pass.old) right.now v))) }
     ensures inside_terms { IfOk result (λ p. TermsFrom (I.list pass.new) p.0 (BelowSome (I.list pass.old) (left.now ++ right.now))) }
@@ -85,8 +96,8 @@ fn compared<N: Site, I: Interner<N>>(
     let mut inside = TRUE_PLACE;
     let mut outside = TRUE_PLACE;
     for k in 0..left.len() {
+        let is_key = is_asked_among(pass.words(), left[k], right[k], columns, k);
         let same = eq(arena, pass, left[k], right[k])?;
-        let is_key = is_among(columns, k);
         inside = and_if(arena, pass, is_key, inside, same)?;
         outside = and_if(arena, pass, !is_key, outside, same)?;
     }
@@ -105,6 +116,7 @@ fn clashing<N: Site, I: Interner<N>>(
     requires right { All (λ p. IsTrue (is_place_of (I.list pass.old) class.Term p)) right.now }
     requires lengths { length left.now ≡ length right.now }
     requires columns { All (λ k. k < length left.now) columns.now }
+    requires may { MayAgree (I.list pass.old) left.now right.now columns.now }
     ensures holds { IfOk result (λ place. HoldsWhere (I.list pass.new) place (λ v. clash columns.now (tuple_of (I.list pass.old) left.now v) (tuple_of (I.list pass.old) right.now v))) }
     ensures terms { IfOk result (λ place. TermsFrom (I.list pass.new) place (BelowSome (I.list pass.old) (left.now ++ right.now))) }
     ensures writes { Writes I.list I.made I.kept I.lent N.log.cap pass.old pass.new (length left.now * 3 + 2) (is_err result) }

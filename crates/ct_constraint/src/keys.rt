@@ -8,13 +8,13 @@ ghost use Rattle.ct_condition.specs.Writes.{Writes};
 ghost use Rattle.ct_operators.specs.Building.{HoldsWhere};
 ghost use Rattle.ct_operators.specs.Tables.{AreRows, IsRow, value_of_rows};
 ghost use Rattle.ct_operators.specs.Terms.{TermOfRow, TermOfRows};
-ghost use Rattle.ct_constraint.specs.Assertions.{is_key, keep_apart};
+ghost use Rattle.ct_query.specs.Assertions.{is_key, keep_apart};
 
 use crate::comparing::apart;
 use ct_arena::{Arena, Full, Pass, Site};
 use ct_condition::{Interner, and};
 use ct_operators::CTable;
-use ct_word::{CRow, TRUE_PLACE};
+use ct_word::{CRow, FALSE_PLACE, TRUE_PLACE};
 
 /// The place of the condition that a row and none of others are worth different tuples that agree at these columns.
 fn beside<N: Site, I: Interner<N>>(
@@ -34,6 +34,10 @@ fn beside<N: Site, I: Interner<N>>(
     let _ = pass.words();
     let mut all = TRUE_PLACE;
     for other in others {
+        // No valuation satisfies the word false, whatever rows follow.
+        if all == FALSE_PLACE {
+            return Ok(all);
+        }
         let one = apart(arena, pass, other, row, columns)?;
         all = and(arena, pass, all, one)?;
     }
@@ -58,6 +62,9 @@ fn all_apart<N: Site, I: Interner<N>>(
     let rows = table.rows.as_slice();
     let mut all = TRUE_PLACE;
     for (i, row) in rows.iter().enumerate() {
+        if all == FALSE_PLACE {
+            return Ok(all);
+        }
         let one = beside(arena, pass, row, &rows[..i], columns)?;
         all = and(arena, pass, all, one)?;
     }

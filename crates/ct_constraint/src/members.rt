@@ -8,7 +8,7 @@ ghost use Rattle.ct_condition.specs.Writes.{Writes};
 ghost use Rattle.ct_operators.specs.Building.{HoldsWhere};
 ghost use Rattle.ct_operators.specs.Tables.{AreRows, value_of_rows};
 ghost use Rattle.ct_operators.specs.Terms.{TermOfRows};
-ghost use Rattle.ct_constraint.specs.Assertions.{has_member};
+ghost use Rattle.ct_query.specs.Assertions.{has_member};
 
 use ct_arena::{Arena, Full, Pass, Site};
 use ct_condition::{Interner, not, or};

@@ -4,7 +4,7 @@ ghost use Rattle.std.specs.Prelude.{◌≡◌, ℕ, List, Contains};
 ghost use Rattle.std.specs.Bool.{Decides};
 ghost use Rattle.ct_word.specs.declared.values.Value.{Value};
 ghost use Rattle.ct_query.specs.Database.{SameSet};
-ghost use Rattle.ct_constraint.specs.Assertions.{has_member, is_key, IsKey};
+ghost use Rattle.ct_query.specs.Assertions.{has_member, is_key, IsKey};
 
 /// The tests tell whether there is a tuple, and whether any two tuples that agree at the columns are one.
 pub fn tests_tell()

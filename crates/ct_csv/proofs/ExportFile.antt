@@ -15,6 +15,7 @@ use Rattle.ct_csv.specs.{Csv.{IsCsv, AreTexts, HaveFields}, Fields.{field_name, 
 use Rattle.ct_csv.specs.Exported.{renamed_text, is_false, condition_text, row_fields, first_fields, printed_rows, written_rows, file_records, records_text, FormsAreExported}
 use Rattle.ct_csv.proofs.ExportBytes.{HaveFirst, are_records, records_written, no_mark}
 use Rattle.ct_csv.proofs.ExportRows.{but_last, last_is, rows_written, records_say, shown_same, shown_without, shown_printed, filtered_can, filtered_among}
+use Rattle.ct_csv.proofs.Apart.{apart, each_old, each_new}
 use Rattle.ct_csv.proofs.ExportForms.{rows_can, rows_among}
 
 -- the first record names the columns
@@ -115,6 +116,10 @@ exported words columns rows nodes ks j can forms least texts =
     record {
       underscores = j;
       least = least;
+      nodes = nodes;
+      positions = ks;
+      forms = forms;
+      bytes_are = refl;
       written = found.0;
       file = record {
         records = file_records j columns printed;
@@ -122,6 +127,9 @@ exported words columns rows nodes ks j can forms least texts =
         names = names_first columns can.some can.names (map (row_fields j) (written_rows printed));
         says = records_say j (written_rows printed) found.0 found.1;
       };
+      apart = apart words can.formed rows j least;
+      each_old = each_old words can.formed rows j least;
+      each_new = each_new words can.formed rows j least;
       shown = λ v u renames tuple.
           ap (λ ts. has_tuple ts tuple) (shown_same j (TermOfRows words rows) v u renames (written_rows printed) found.0 among found.1
           ∙ shown_without v printed ∙ shown_printed v words nodes rows ks forms.truth);

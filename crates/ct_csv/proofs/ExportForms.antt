@@ -1,5 +1,5 @@
 -- The rows of a table with the printed forms of their conditions can be written.
-use Rattle.std.proofs.Common.{◌≡◌, ℕ, zero, suc, ◌<◌, ◌≤◌, Bool, true, false, ◌||◌, List, [], ◌∷◌, ◌++◌, map, length, replicate, refl, sym, ◌∙◌, subst, arith, inl, inr, codes, decimal}
+use Rattle.std.proofs.Common.{◌≡◌, ℕ, zero, suc, ◌<◌, ◌≤◌, Bool, true, false, ◌||◌, List, [], ◌∷◌, ◌++◌, map, length, replicate, refl, sym, ◌∙◌, subst, arith, inl, inr, decimal}
 use Rattle.std.{specs.Prelude.{IsTrue, All}, specs.List.{AllZip, Contains, list_all}, proofs.lemmas.Bool.and_parts}
 use Rattle.std.proofs.lemmas.List.{Elements.{All-contains, All-head, All-tail, Contains-append_left, Contains-append_right}, Folds.list_all-append}
 use Rattle.std.proofs.lemmas.Fmt.{decimal_is_IsNumeral}
@@ -18,7 +18,7 @@ use Rattle.ct_condition.specs.Terms.{TermsFrom}
 use Rattle.ct_operators.specs.{Tables.{IsRow}, Terms.{TermOfRow, TermOfRows, RowFrom, RowsFrom}}
 use Rattle.ct_history.proofs.Named.{term_reached}
 use Rattle.ct_reread.{specs.Printed.IsPlain, specs.Reread.KeepsWithin, proofs.Terms.digits_all, proofs.Forms.{form_named, form_reread}}
-use Rattle.ct_csv.specs.{Renaming.{mark, renamed}, Exported.{printed_rows, AreShallow}}
+use Rattle.ct_csv.specs.{Renaming.{mark, between, renamed}, Exported.{printed_rows, AreShallow}}
 use Rattle.ct_csv.proofs.{ExportRanges.{InRange, term_in_range}, ExportRows.{ArePlain, CanBeWritten, AllCan, AreAmong, RowAmong, RowsAmong}}
 
 -- the new name of a fresh null is a word
@@ -41,12 +41,12 @@ digits_go_on (d ∷ ds) h =
 decimal_goes_on : (n : ℕ) → n < 268435456 → list_all (λ b. is_letter b || is_digit b) (decimal n) ≡ true
 decimal_goes_on n h = digits_go_on (decimal n) (digits_all (decimal n) (decimal_is_IsNumeral n (omega (arith, h))).0.1)
 
-fresh_name : (j s n : ℕ) → s < 268435456 → n < 268435456 → is_word (mark j ++ decimal s ++ codes "_" ++ decimal n) ≡ true
+fresh_name : (j s n : ℕ) → s < 268435456 → n < 268435456 → is_word (mark j ++ decimal s ++ between ++ decimal n) ≡ true
 fresh_name j s n hs hn =
     let ok : ℕ → Bool = λ b. is_letter b || is_digit b in
     let us = replicate j 95 in
-    list_all-append ok (us ++ decimal s ++ codes "_") (decimal n)
-    ∙ rw (list_all-append ok (us ++ decimal s) (codes "_"), list_all-append ok us (decimal s), underscores_go_on j, decimal_goes_on s hs, decimal_goes_on n hn) refl
+    list_all-append ok (us ++ decimal s ++ between) (decimal n)
+    ∙ rw (list_all-append ok (us ++ decimal s) between, list_all-append ok us (decimal s), underscores_go_on j, decimal_goes_on s hs, decimal_goes_on n hn) refl
 
 plain_term : (j : ℕ) (t : Term) → IsTrue (is_writable_term t) → ((k : ℕ) → t ≡ term.Column k → ⊥) → InRange t → IsPlain (renamed j t)
 plain_term j (term.Column k) w h r = absurd (h k refl)

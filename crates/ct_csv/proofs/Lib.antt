@@ -15,6 +15,7 @@ pub mod ExportCells
 pub mod ExportConditions
 pub mod ExportRows
 pub mod ExportRanges
+pub mod Apart
 pub mod ExportForms
 pub mod ExportFile
 pub mod ExportTexts

@@ -1,16 +1,22 @@
 -- The records of rows, one more at a time.
-use Rattle.std.proofs.Common.{◌≡◌, ℕ, zero, suc, ◌+◌, ◌<◌, true, false, not, List, [], ◌∷◌, ◌++◌, length, map, take, get_or, refl, ap, sym, ◌∙◌, subst, arith, append-nil, append_assoc}
-use Rattle.std.{specs.Prelude.{String, string_bytes}, proofs.lemmas.List.{map-append}, proofs.lemmas.Grind.flat_map-append, proofs.lemmas.List.Elements.filter-append, proofs.lemmas.Str.IsUtf8-string_bytes}
+use Rattle.std.proofs.Common.{◌≡◌, ℕ, Bool, zero, suc, ◌+◌, ◌<◌, true, false, not, List, [], ◌∷◌, ◌++◌, length, map, take, get_or, refl, ap, sym, ◌∙◌, subst, arith, append-nil, append_assoc}
+use Rattle.std.{specs.Prelude.{IsTrue, String, string_bytes}, specs.List.list_all, proofs.lemmas.Bool.{Decides.nat_tests, false≢true}, proofs.lemmas.List.Folds.list_all_at, proofs.lemmas.List.{map-append}, proofs.lemmas.Grind.flat_map-append, proofs.lemmas.List.Elements.filter-append, proofs.lemmas.Str.IsUtf8-string_bytes}
 use Rattle.csv.specs.Records.{AllText}
 use Rattle.csv.specs.Writing.{default_writer, row_text}
 use Rattle.ct_word.{specs.declared.values.CRow.CRow, specs.Condition.Condition, specs.Change.PlainRow, specs.Reading.term_at}
-use Rattle.ct_rewrite.{specs.declared.answer.Node.Node, specs.Nodes.{condition_of_node, node_condition}}
+use Rattle.ct_rewrite.{specs.declared.answer.Node.Node, specs.Nodes.{is_position, condition_of_node, node_condition}}
 use Rattle.ct_rewrite.specs.declared.answer.Node.TheVariants as node
 use Rattle.ct_csv.specs.{Csv.AreTexts, Exported.{is_false, is_false_node, row_fields, printed_rows, written_rows, row_records, records_text}}
 
 -- a row with the condition at a position
 abbrev pub form_of : List ℕ → List Node → List ℕ → ℕ → PlainRow
 form_of words nodes cells k = record { cells = map (term_at words) cells; condition = node_condition nodes k }
+
+pub position_within : (nodes : List Node) (ks : List ℕ) (i : ℕ) → i < length ks → IsTrue (list_all (is_position nodes) ks) → get_or ks i 0 < length nodes
+position_within nodes ks i lt h = by (is_position nodes (get_or ks i 0)) refl where
+  by : (b : Bool) → is_position nodes (get_or ks i 0) ≡ b → get_or ks i 0 < length nodes
+  by true e = grind (arith, nat_tests, e)
+  by false e = absurd (false≢true (sym (list_all_at (is_position nodes) ks i 0 lt e) ∙ h))
 
 pub printed_more : (words : List ℕ) (nodes : List Node) (rows : List CRow) (ks : List ℕ) (i : ℕ) (d : CRow) → i < length rows → i < length ks
     → printed_rows words nodes (take (suc i) rows) (take (suc i) ks) ≡ printed_rows words nodes (take i rows) (take i ks) ++ form_of words nodes (get_or rows i d).cells (get_or ks i 0) ∷ []

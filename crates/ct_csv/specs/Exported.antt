@@ -1,5 +1,5 @@
 -- The file that is written for a table.
-use Rattle.std.specs.Prelude.{◌≡◌, ◌⊎◌, ℕ, ◌+◌, ◌<◌, ◌≤◌, Bool, true, false, not, ◌&&◌, List, [], ◌∷◌, ◌++◌, length, map, flat_map, filter, take, slice_index_or, nat_le, IsTrue, IsFalse, codes}
+use Rattle.std.specs.Prelude.{◌≡◌, ◌⊎◌, ℕ, ◌+◌, ◌<◌, ◌≤◌, Bool, true, false, not, ◌&&◌, List, [], ◌∷◌, ◌++◌, length, map, flat_map, filter, take, slice_index_or, nat_le, IsTrue, IsFalse, codes, string_bytes}
 use Rattle.std.specs.List.{AllZip, list_all}
 use Rattle.csv.specs.Writing.{default_writer, row_text}
 use Rattle.ct_word.specs.declared.values.CRow.{CRow}
@@ -25,6 +25,7 @@ use Rattle.ct_operators.specs.Terms.{TermOfRows, RowsFrom}
 use Rattle.ct_reread.specs.Reread.{KeepsWithin}
 use Rattle.ct_csv.specs.declared.error.WideError.{WideError}
 use Rattle.ct_csv.specs.declared.error.WideError.TheVariants as fault
+use Rattle.ct_csv.specs.declared.writing.Field.{Field}
 use Rattle.ct_csv.specs.Csv.{AreTexts}
 use Rattle.ct_csv.specs.Renaming.{renamed_null, renamed, IsLeastFree}
 use Rattle.ct_csv.specs.File.{IsFile, shown_rows}
@@ -59,9 +60,17 @@ abbrev pub condition_text : ℕ → Condition → List ℕ
 condition_text j True = []
 condition_text j c = text_of (renamed_text j) c
 
+-- the record of these cells and this text of a condition
+abbrev pub fields_with : ℕ → List Term → List ℕ → List (List ℕ)
+fields_with j cells text = map (renamed_text j) cells ++ text ∷ []
+
 -- the record of a row
 abbrev pub row_fields : ℕ → PlainRow → List (List ℕ)
-row_fields j row = map (renamed_text j) row.cells ++ condition_text j row.condition ∷ []
+row_fields j row = fields_with j row.cells (condition_text j row.condition)
+
+-- a text is that of the condition at its position
+abbrev pub IsFieldOf : ℕ → List Node → Field → Type 0
+IsFieldOf j nodes f = string_bytes f.text ≡ condition_text j (node_condition nodes f.position)
 
 -- the first record
 abbrev pub first_fields : List (List ℕ) → List (List ℕ)
@@ -122,12 +131,25 @@ pub record CanBeExported (words : List ℕ) (columns : List (List ℕ)) (rows : 
 abbrev pub Renames : ℕ → (Term → Type 0) → World → World → Type 0
 Renames j among v u = (n : Null) → among (term.Null n) → value_of_null u (renamed_null j n) ≡ value_of_null v n
 
--- the bytes are a file of the table: its rows, shown where each new null has the value of the old one, are the table's value
+-- no two of these nulls get one new name
+abbrev pub KeepsApart : ℕ → (Term → Type 0) → Type 0
+KeepsApart j among = (m n : Null) → among (term.Null m) → among (term.Null n) → renamed_null j m ≡ renamed_null j n → m ≡ n
+
+-- the bytes are a file of the table: the records of its rows with printed forms of their conditions, in order; these rows,
+-- shown where each new null has the value of the old one, are the table's value; the new names keep the table's nulls apart,
+-- so each valuation of the old nulls is that of some valuation of the new ones, and the other way round
 pub record IsExported (words : List ℕ) (columns : List (List ℕ)) (rows : List CRow) (bytes : List ℕ) : Type 0 where
   pub underscores : ℕ
   pub least : IsLeastFree underscores (TermOfRows words rows)
+  pub nodes : List Node
+  pub positions : List ℕ
+  pub forms : AreForms words rows nodes positions
+  pub bytes_are : bytes ≡ records_text (file_records underscores columns (printed_rows words nodes rows positions))
   pub written : List PlainRow
   pub file : IsFile bytes columns written
+  pub apart : KeepsApart underscores (TermOfRows words rows)
+  pub each_old : (v : World) → (u : World) × Renames underscores (TermOfRows words rows) v u
+  pub each_new : (u : World) → (v : World) × Renames underscores (TermOfRows words rows) v u
   pub shown : (v u : World) → Renames underscores (TermOfRows words rows) v u → SameSet (shown_rows u written) (value_of_rows words v rows)
 
 -- whether the text of the condition at a position is within both bounds of a file

@@ -10,10 +10,14 @@ use Rattle.ct_word.specs.Value.{same_text}
 abbrev pub mark : ℕ → List ℕ
 mark j = codes "n" ++ replicate j 95
 
+-- what stands between the numbers of a fresh null
+abbrev pub between : List ℕ
+between = codes "_"
+
 -- the null that stands for a null: for a fresh one the mark, its session, an underscore and its number
 abbrev pub renamed_null : ℕ → Null → Null
 renamed_null j (null.Named t) = null.Named t
-renamed_null j (null.Fresh s k) = null.Named (mark j ++ decimal s ++ codes "_" ++ decimal k)
+renamed_null j (null.Fresh s k) = null.Named (mark j ++ decimal s ++ between ++ decimal k)
 
 -- the term with the null that stands for its null
 abbrev pub renamed : ℕ → Term → Term

@@ -1,6 +1,6 @@
 // The text of terms and of conditions, with new names for fresh nulls.
 
-ghost use Rattle.std.specs.Prelude.{◌≡◌, ◌<◌, ◌≤◌, ◌++◌, List, map, length, nat_lt, replicate, IsTrue, codes, decimal};
+ghost use Rattle.std.specs.Prelude.{◌≡◌, ◌<◌, ◌≤◌, ◌++◌, List, map, length, nat_lt, replicate, IsTrue, decimal};
 ghost use Rattle.std.specs.List.{list_all};
 ghost use Rattle.ct_word.specs.Condition.{listed};
 ghost use Rattle.ct_word.specs.declared.values.Null.TheVariants as null;
@@ -8,7 +8,7 @@ ghost use Rattle.ct_rewrite.specs.Nodes.{IsOrdered, node_condition};
 ghost use Rattle.ct_rewrite.specs.Sizes.{as_part, text_of, text_of_parts};
 ghost use Rattle.ct_print.specs.TermText.{null_text};
 ghost use Rattle.ct_print.specs.Written.{Appends};
-ghost use Rattle.ct_csv.specs.Renaming.{renamed_null};
+ghost use Rattle.ct_csv.specs.Renaming.{between, renamed_null};
 ghost use Rattle.ct_csv.specs.Exported.{renamed_text};
 ghost use Rattle.ct_csv.specs.Exported as spec;
 
@@ -29,7 +29,7 @@ fn push_underscores(out: &mut String, count: usize) -> Result<(), Memory>
 
 /// Appends two numbers with an underscore between.
 fn push_numbers(out: &mut String, first: u32, second: u32) -> Result<(), Memory>
-    ensures { Appends result out.old out.new (decimal first ++ codes "_" ++ decimal second) }
+    ensures { Appends result out.old out.new (decimal first ++ between ++ decimal second) }
 {
     Ok(write!(out, "{first}_{second}")?)
 }

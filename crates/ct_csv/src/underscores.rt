@@ -1,6 +1,8 @@
 // How many underscores the new names of fresh nulls have.
 
-ghost use Rattle.std.specs.Prelude.{◌≡◌, ◌≤◌, ◌+◌, drop, length, IfOk, IsTrue, All};
+ghost use Rattle.std.specs.Prelude.{◌≡◌, ◌≤◌, ◌+◌, drop, length, Some, IfOk, IsTrue, All};
+ghost use Rattle.ct_word.specs.Reading.{term_at};
+ghost use Rattle.ct_csv.specs.Underscores.{IsFreeWith};
 ghost use Rattle.ct_word.specs.declared.kinds.Class.TheVariants as class;
 ghost use Rattle.ct_word.specs.WellFormed.{IsWellFormed, is_place_of};
 ghost use Rattle.ct_operators.specs.Terms.{TermOfRows};
@@ -8,7 +10,7 @@ ghost use Rattle.ct_csv.specs.Renaming.{IsLeastFree};
 ghost use Rattle.ct_csv.specs.Underscores as spec;
 
 use ct_tidy::nulls_below;
-use ct_word::{CRow, Memory, Null};
+use ct_word::{CRow, Memory, Null, Term, term_at};
 use std::alloc::Global;
 
 /// The place behind the underscores that stand from a place on.
@@ -55,7 +57,63 @@ fn free_of_all(nulls: &[Null], from: usize) -> usize
     free
 }
 
-/// The least number of underscores from 1 on such that no named null of the rows begins with `n` and so many.
+/// The greatest of a number and that of a term.
+fn free_with_term(alloc: Global, words: &[u64], place: u32, from: usize) -> Result<usize, Memory>
+    requires formed { IsWellFormed words.now }
+    requires term { IsTrue (is_place_of words.now class.Term place) }
+    ensures { IfOk result (λ j. j ≡ spec.free_of_all from (spec.null_in (term_at words.now place))) }
+{
+    match term_at(alloc, words, place)? {
+        Term::Null(null) => Ok(from.max(free_of(&null))),
+        _ => Ok(from),
+    }
+}
+
+/// The greatest of a number and those of the terms at these places.
+fn free_with_terms(
+    alloc: Global,
+    words: &[u64],
+    places: &[u32],
+    from: usize,
+) -> Result<usize, Memory>
+    requires formed { IsWellFormed words.now }
+    requires terms { All (λ p. IsTrue (is_place_of words.now class.Term p)) places.now }
+    ensures { IfOk result (λ j. j ≡ spec.free_of_terms words.now from places.now) }
+{
+    let mut free = from;
+    for place in places {
+        free = free_with_term(alloc, words, *place, free)?;
+    }
+    Ok(free)
+}
+
+/// The greatest of a number and those of the nulls below a condition.
+fn free_with_condition(
+    alloc: Global,
+    words: &[u64],
+    cond: u32,
+    from: usize,
+) -> Result<usize, Memory>
+    requires formed { IsWellFormed words.now }
+    requires cond { IsTrue (is_place_of words.now class.Cond cond) }
+    ensures { IfOk result (IsFreeWith words.now cond from) }
+{
+    let nulls = nulls_below(alloc, words, cond, &[])?;
+    Ok(free_of_all(nulls.as_slice(), from))
+}
+
+/// Whether a condition is the last one.
+fn is_last(last: Option<u32>, cond: u32) -> bool
+    ensures { IsTrue result → last ≡ Some cond }
+{
+    match last {
+        Some(place) => place == cond,
+        None => false,
+    }
+}
+
+/// The least number of underscores from 1 on such that no named null of the rows begins with `n` and so many. A condition that
+/// a row has as the one before it is gone over once.
 pub fn least_free(alloc: Global, words: &[u64], rows: &[CRow]) -> Result<usize, Memory>
     requires formed { IsWellFormed words.now }
     requires conditions { All (λ r. IsTrue (is_place_of words.now class.Cond r.cond)) rows.now }
@@ -63,9 +121,13 @@ pub fn least_free(alloc: Global, words: &[u64], rows: &[CRow]) -> Result<usize, 
     ensures { IfOk result (λ j. IsLeastFree j (TermOfRows words.now rows.now)) }
 {
     let mut free = 1;
+    let mut last = None;
     for row in rows {
-        let nulls = nulls_below(alloc, words, row.cond, row.cells.as_slice())?;
-        free = free_of_all(nulls.as_slice(), free);
+        if !is_last(last, row.cond) {
+            free = free_with_condition(alloc, words, row.cond, free)?;
+            last = Some(row.cond);
+        }
+        free = free_with_terms(alloc, words, row.cells.as_slice(), free)?;
     }
     Ok(free)
 }

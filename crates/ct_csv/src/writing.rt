@@ -1,6 +1,6 @@
 // The records of a table's file.
 
-ghost use Rattle.std.specs.Prelude.{◌≡◌, ◌<◌, [], ◌∷◌, All, map, length, string_bytes, IfOk, IsTrue, OnOk};
+ghost use Rattle.std.specs.Prelude.{◌≡◌, ◌<◌, [], ◌∷◌, All, map, length, string_bytes, IfOk, IfSome, IsTrue, OnOk};
 ghost use Rattle.std.specs.List.{list_all};
 ghost use Rattle.csv.specs.Records.{AllText};
 ghost use Rattle.csv.specs.Writing.{default_writer, row_text};
@@ -94,25 +94,34 @@ fn cell_fields(
     Ok(fields)
 }
 
-/// The fields of a row, with its condition at a position of a node list.
-fn row_fields(
+/// The text of a condition, and its position in a node list.
+#[derive(Drop)]
+pub struct Field {
+    pub position: u32,
+    pub text: String,
+}
+
+/// The text of the condition at a position of a node list, which is the one at hand if that is of the same position.
+fn field_at(
     alloc: Global,
     underscores: usize,
-    words: &[u64],
-    cells: &[u32],
     nodes: &[Node],
     position: u32,
-) -> Result<Vec<String>, Memory>
-    requires formed { IsWellFormed words.now }
-    requires terms { All (λ p. IsTrue (is_place_of words.now class.Term p)) cells.now }
+    before: Option<Field>,
+) -> Result<Field, Memory>
     requires ordered { IsOrdered nodes.now }
     requires within { position < length nodes.now }
-    ensures { IfOk result (λ v. map string_bytes v.items ≡ spec.row_fields underscores (record { cells = map (term_at words.now) cells.now; condition = node_condition nodes.now position })) }
+    requires before { IfSome before (spec.IsFieldOf underscores nodes.now) }
+    ensures position { IfOk result (λ f. f.position ≡ position) }
+    ensures text { IfOk result (spec.IsFieldOf underscores nodes.now) }
 {
-    let condition = condition_field(alloc, underscores, nodes, position)?;
-    let mut fields = cell_fields(alloc, underscores, words, cells)?;
-    fields.push(condition)?;
-    Ok(fields)
+    if let Some(field) = before {
+        if field.position == position {
+            return Ok(field);
+        }
+    }
+    let text = condition_field(alloc, underscores, nodes, position)?;
+    Ok(Field { position, text })
 }
 
 /// The fields of the first record.
@@ -156,34 +165,29 @@ fn write_record(
     }
 }
 
-/// Writes the record of a row with its condition at a position of a node list, or none where it is
-/// False.
+/// Writes the record of a row with this text of its condition.
 fn write_row(
     alloc: Global,
     writer: &mut Writer<Vec<u8>>,
     underscores: usize,
     words: &[u64],
     cells: &[u32],
-    nodes: &[Node],
-    position: u32,
+    condition: &str,
 ) -> Result<(), Memory>
     requires ready { IsReady writer.old }
     requires formed { IsWellFormed words.now }
     requires terms { All (λ p. IsTrue (is_place_of words.now class.Term p)) cells.now }
-    requires ordered { IsOrdered nodes.now }
-    requires within { position < length nodes.now }
     ensures ready { OnOk result (IsReady writer.new) }
-    ensures bytes { OnOk result (HasWritten writer.old writer.new (spec.records_text (spec.row_records underscores (record { cells = map (term_at words.now) cells.now; condition = node_condition nodes.now position } ∷ [])))) }
-    ensures texts { OnOk result (AreTexts (spec.row_records underscores (record { cells = map (term_at words.now) cells.now; condition = node_condition nodes.now position } ∷ []))) }
+    ensures bytes { OnOk result (HasWritten writer.old writer.new (row_text default_writer (spec.fields_with underscores (map (term_at words.now) cells.now) condition.now))) }
+    ensures texts { OnOk result (AllText (spec.fields_with underscores (map (term_at words.now) cells.now) condition.now)) }
 {
-    if is_false(&nodes[position as usize]) {
-        return Ok(());
-    }
-    let fields = row_fields(alloc, underscores, words, cells, nodes, position)?;
+    let mut fields = cell_fields(alloc, underscores, words, cells)?;
+    fields.push(String::from_str(alloc, condition)?)?;
     write_record(alloc, writer, fields.as_slice())
 }
 
-/// Writes the records of rows with their conditions at these positions of a node list.
+/// Writes the records of rows with their conditions at these positions of a node list, but of those that are False. The text
+/// of a condition that a row has as the one before it is made once.
 fn write_rows(
     alloc: Global,
     writer: &mut Writer<Vec<u8>>,
@@ -203,7 +207,13 @@ fn write_rows(
     ensures bytes { OnOk result (HasWritten writer.old writer.new (spec.records_text (spec.row_records underscores (spec.printed_rows words.now nodes.now rows.now positions.now)))) }
     ensures texts { OnOk result (AreTexts (spec.row_records underscores (spec.printed_rows words.now nodes.now rows.now positions.now))) }
 {
+    let mut last = None;
     for (i, row) in rows.iter().enumerate() {
+        let position = positions[i];
+        if is_false(&nodes[position as usize]) {
+            continue;
+        }
+        let field = field_at(alloc, underscores, nodes, position, last.take())?;
         let cells = row.cells.as_slice();
         write_row(
             alloc,
@@ -211,9 +221,9 @@ fn write_rows(
             underscores,
             words,
             cells,
-            nodes,
-            positions[i],
+            field.text.as_str(),
         )?;
+        last = Some(field);
     }
     Ok(())
 }

@@ -8,4 +8,5 @@ mod near;
 mod questions;
 mod sides;
 mod tables;
+mod updating;
 mod worlds;

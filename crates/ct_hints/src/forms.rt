@@ -120,7 +120,7 @@ fn of_returning(tokens: &[Token], stop: usize) -> Option<&'static str> {
         && before > 3
         && part_before(tokens, before) == Part::Table;
     let is_meant = is_alias || (stop >= 3 && is_word_at(tokens, stop, "returning"));
-    (is_meant && is_among_at(tokens, 0, &["insert", "delete"])).then_some(RETURNING)
+    (is_meant && is_among_at(tokens, 0, &["insert", "delete", "update"])).then_some(RETURNING)
 }
 
 /// What is said of a query in place of rows or of columns, or behind INTO.

@@ -3,17 +3,17 @@
 use crate::forms::stands_for_name;
 use crate::words::{CASES, NULL, TRUTH};
 use ct_advice::{
-    Part, is_among_at, is_cell_at, is_keyword_at, is_name_at, is_symbol_at, is_text_at, is_word_at,
-    selects, word_at,
+    Asserted, Part, asserted_by, is_among_at, is_cell_at, is_keyword_at, is_name_at, is_symbol_at,
+    is_text_at, is_word_at, selects, word_at,
 };
 use ct_lex::{Symbol, Token};
 use ct_word::Memory;
 use std::alloc::Global;
 
 /// The words that begin a statement.
-pub const STARTS: [&str; 10] = [
-    "select", "insert", "create", "delete", "assert", "begin", "commit", "rollback", "possible",
-    "certain",
+pub const STARTS: [&str; 11] = [
+    "select", "insert", "create", "delete", "update", "assert", "begin", "commit", "rollback",
+    "possible", "certain",
 ];
 
 /// The most tables of a FROM.
@@ -22,7 +22,7 @@ pub const TABLES: usize = 16;
 const COMMA: &str = "is a comma missing before it?";
 
 const FIRST: &str =
-    "no statement begins with it, but with SELECT, INSERT, CREATE, DELETE, ASSERT, BEGIN, COMMIT, ROLLBACK, POSSIBLE or CERTAIN";
+    "no statement begins with it, but with SELECT, INSERT, CREATE, DELETE, UPDATE, ASSERT, BEGIN, COMMIT, ROLLBACK, POSSIBLE or CERTAIN";
 
 const CELL: &str = "a cell is a number, a text in single quotes, ?x or NULL";
 
@@ -46,6 +46,8 @@ fn of_first(tokens: &[Token], stop: usize) -> Option<&'static str> {
         ("insert", 4) if is_symbol_at(tokens, 3, Symbol::LeftParen) => {
             Some("is VALUES missing before the row?")
         }
+        ("update", 1) => Some("write update t set a = 1, or update t set a = 1 where .."),
+        ("update", 2) => Some("SET is wanted here, as update t set a = 1"),
         ("create", 3) => Some("the columns stand in parentheses, as create table t (a, b)"),
         ("possible" | "certain", 1) => Some("a query is wanted here, as select * from t"),
         _ => None,
@@ -173,6 +175,18 @@ fn of_term(tokens: &[Token], before: usize, stop: usize) -> &'static str {
     "a comparison is wanted here: two terms with = or <> between them"
 }
 
+/// What is said behind SET.
+fn of_set(tokens: &[Token], before: usize, stop: usize) -> &'static str {
+    let name = before.saturating_sub(1);
+    if is_word_at(tokens, name, "set") || is_symbol_at(tokens, name, Symbol::Comma) {
+        return "= is wanted here";
+    }
+    if is_comparison_at(tokens, before) {
+        return of_term(tokens, before, stop);
+    }
+    "is a comma, WHERE or a ; missing before it?"
+}
+
 /// What is said behind the first term of a comparison.
 fn behind_term(tokens: &[Token], before: usize, stop: usize) -> &'static str {
     let is_behind = is_among_at(tokens, before.saturating_sub(1), &["and", "or"]);
@@ -224,7 +238,7 @@ fn of_condition(tokens: &[Token], before: usize, stop: usize) -> &'static str {
 
 /// Whether a name has to stand behind the token at a position.
 fn wants_name(tokens: &[Token], i: usize) -> bool {
-    is_among_at(tokens, i, &["table", "into", "from", "join", "as"])
+    is_among_at(tokens, i, &["table", "into", "from", "join", "set", "as"])
         || is_symbol_at(tokens, i, Symbol::Dot)
 }
 
@@ -239,7 +253,10 @@ fn of_name(
     let may_begin = is_among_at(tokens, before, &["select", "distinct"])
         || is_symbol_at(tokens, before, Symbol::Comma)
         || is_symbol_at(tokens, before, Symbol::LeftParen);
-    let has_names = part == Part::Table || is_word_at(tokens, 0, "create");
+    let has_names = part == Part::Table
+        || part == Part::Sets
+        || is_word_at(tokens, 0, "create")
+        || asserted_by(tokens) == Asserted::Key;
     let is_wanted = wants_name(tokens, before) || (may_begin && has_names);
     if (is_wanted || may_begin) && is_keyword_at(alloc, tokens, stop)? {
         return Ok(Some("a name is wanted here, and keywords are none"));
@@ -254,7 +271,7 @@ fn of_name(
 }
 
 /// How many parentheses are open before a position.
-fn open_before(tokens: &[Token], stop: usize) -> usize {
+pub fn open_before(tokens: &[Token], stop: usize) -> usize {
     let mut open: usize = 0;
     for i in 0..stop {
         if is_symbol_at(tokens, i, Symbol::LeftParen) {
@@ -304,6 +321,7 @@ fn of_part(
     match part {
         Part::Condition => Ok(Some(of_condition(tokens, before, stop))),
         Part::Items => Ok(Some(behind_item(tokens, before, stop))),
+        Part::Sets => Ok(Some(of_set(tokens, before, stop))),
         Part::Join => Ok(Some("JOIN is wanted here")),
         Part::Behind => Ok(Some("a query is wanted here, as select * from t")),
         Part::Table if is_name_at(alloc, tokens, before)? => Ok(Some(behind_table(tokens, stop))),
@@ -353,7 +371,7 @@ pub fn by_grammar(
     if said.is_some() {
         return Ok(said);
     }
-    if is_among_at(tokens, stop, &STARTS) || is_word_at(tokens, stop, "update") {
+    if is_among_at(tokens, stop, &STARTS) {
         return Ok(Some("is a ; missing before it?"));
     }
     match of_parentheses(tokens, stop, open) {

@@ -1,5 +1,6 @@
 // What to write instead of a text that is no statement.
 
+use crate::changes::of_changes;
 use crate::forms::{of_forms, stands_for_name};
 use crate::grammar::{STARTS, by_grammar};
 use crate::words::{
@@ -246,7 +247,10 @@ fn form_of(
     part: Part,
     stop: usize,
 ) -> Result<Option<&'static str>, Memory> {
-    let form = match of_quote(tokens, stop).or(by_first(tokens)) {
+    let first = of_quote(tokens, stop)
+        .or(by_first(tokens))
+        .or(of_changes(tokens, part, stop));
+    let form = match first {
         Some(said) => Some(said),
         None => of_forms(alloc, tokens, part, stop)?,
     };

@@ -3,6 +3,7 @@
 //! Nothing here has a contract: the sentences are meant for people. What they are put behind is proved in `ct_remarks`.
 #![tactic(auto)]
 
+mod changes;
 mod forms;
 mod grammar;
 mod hints;

@@ -106,6 +106,7 @@ fn wanted(tokens: &[Token], i: usize) -> &'static [&'static str] {
         (1, "insert") => &["into"],
         (1, "create") => &["table"],
         (1, "delete") => &["from"],
+        (2, "update") => &["set"],
         (1, "select") => &["distinct", "from"],
         (1, "possible" | "certain") => &["select"],
         (3, "insert") => &["values", "select"],

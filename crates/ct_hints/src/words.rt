@@ -56,8 +56,8 @@ const LOCKS: &str =
 
 pub const CASES: &str = "there are no functions and no CASE";
 
-const UPDATE: &str =
-    "there is no UPDATE: delete the row and insert another, between BEGIN and COMMIT";
+const UPSERT: &str =
+    "write update t set a = 1 where b = 2 for rows that are there, and insert into t values (..) for others";
 
 const DROP: &str = "a table stays: there is no DROP; delete from t takes all of its rows";
 
@@ -147,7 +147,7 @@ const WITHIN: [Hint; 44] = [
 ];
 
 const FIRST: [Hint; 16] = [
-    (&["update", "replace", "merge", "upsert"], "", UPDATE),
+    (&["replace", "merge", "upsert"], "", UPSERT),
     (&["drop"], "", DROP),
     (&["alter", "rename"], "", ALTER),
     (&["truncate"], "", "write delete from t"),

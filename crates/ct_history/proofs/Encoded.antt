@@ -3,10 +3,10 @@ use Rattle.std.proofs.Common.{◌≡◌, ◌≤◌, ◌<◌, ◌+◌, ℕ, zero,
 use Rattle.std.{specs.Prelude.{◌⊎◌, IsTrue, All, flat_map, sum_by}, specs.List.Contains, proofs.lemmas.List.Sums.sum_by-cons}
 use Rattle.std.proofs.lemmas.List.Elements.{All-get_or, Contains-append_left, Contains-append_right, Contains-append_cases}
 use Rattle.ct_word.{specs.declared.values.CRow.CRow, specs.declared.values.Term.Term, specs.Condition.{Condition, holds}, specs.Stands.StandsAt}
-use Rattle.ct_word.{specs.Change.{PlainRow, Insert}, specs.WellFormed.{IsWellFormed, is_place_of}}
-use Rattle.ct_word.specs.Reading.{IsTerm, IsRow, as_row, as_term, by_kind, meanings, condition_at}
+use Rattle.ct_word.{specs.Change.{PlainRow, Insert, Update, Assert}, specs.WellFormed.{IsWellFormed, is_place_of}}
+use Rattle.ct_word.specs.Reading.{IsTerm, IsRow, IsChangeList, as_row, as_term, by_kind, change_list_at, meanings, condition_at}
 use Rattle.ct_word.proofs.Prefixes.{stands_in_prefix, condition_in_prefix, place_in_prefix, place_within}
-use Rattle.ct_query.{specs.Agrees.SameTruthAlone, specs.Bounds.{ops, literal_words, column_words}, specs.Fits.FitsCell, specs.Terms.condition_terms}
+use Rattle.ct_query.{specs.Plain.PlainAction, specs.Agrees.SameTruthAlone, specs.Bounds.{ops, literal_words, column_words}, specs.Fits.FitsCell, specs.Terms.condition_terms}
 use Rattle.ct_condition.{specs.Rows.on_row, specs.Terms.{TermsFrom, IsOnRow}, specs.Truth.{HasTruth, ops_at}, proofs.Reached.under_none}
 use Rattle.ct_history.{specs.Encodes.{Adds, IsConditionOf, IsChangeFor, HasTermsOf, HasOpsOf, term_row_words}, specs.Rows.row_under}
 use Rattle.ct_history.proofs.Named.{named_in, no_column, term_reached}
@@ -94,6 +94,16 @@ module _ (words : List ℕ) (cond : ℕ) (p : Condition) (is : IsConditionOf wor
   pub rows_few : HasOpsOf (plain.InsertRows name rows p) (Insert name rows_under)
   rows_few = all_under (condition_at words cond) (λ r. ops r.condition ≤ ops p) (λ r. is.few) rows
 
+-- the terms of an update under a condition of the predicate
+pub update_from : (words : List ℕ) (cond : ℕ) (p : Condition) → IsConditionOf words cond p → (name : List ℕ) (sets : List (ℕ × Term))
+    → HasTermsOf (plain.Update name sets p) [] (Update name sets (condition_at words cond))
+update_from words cond p is name sets t h =
+    let own : List Term = map (λ s. s.1) sets in
+    elim (Contains-append_cases own (condition_terms (condition_at words cond)) t h) [
+      | inl a ↦ Contains-append_left own (condition_terms p) t a
+      | inr b ↦ Contains-append_right own (condition_terms p) t (is.from t b)
+    ]
+
 -- the words of rows of terms
 pub rows_words : (rows : List (List Term)) → sum_by term_row_words rows ≡ sum_by (sum_by literal_words) rows + sum_by (λ r. length r + 2) rows
 rows_words [] = refl
@@ -113,6 +123,37 @@ pub adds_rows : (old new : List ℕ) (list place : ℕ) (name : List ℕ) (rs : 
     → Adds old new list place (plain.InsertRows name rs p) [] → Adds old new list place (plain.InsertRows name rs p) rows
 adds_rows old new list place name rs p rows h = record { change = h.change; list_is = h.list_is; does = h.does; from = h.from; few = h.few }
 
+pub adds_update : (old new : List ℕ) (list place : ℕ) (name : List ℕ) (sets : List (ℕ × Term)) (p : Condition) (rows : List CRow)
+    → Adds old new list place (plain.Update name sets p) [] → Adds old new list place (plain.Update name sets p) rows
+adds_update old new list place name sets p rows h = record { change = h.change; list_is = h.list_is; does = h.does; from = h.from; few = h.few }
+
 pub adds_deletion : (old new : List ℕ) (list place : ℕ) (name : List ℕ) (p : Condition) (rows : List CRow)
     → Adds old new list place (plain.Delete name p) [] → Adds old new list place (plain.Delete name p) rows
 adds_deletion old new list place name p rows h = record { change = h.change; list_is = h.list_is; does = h.does; from = h.from; few = h.few }
+
+-- an assertion over a query or a key
+abbrev pub IsOverRows : PlainAction → Type 0
+IsOverRows (plain.AssertQuery wanted q) = Unit {0}
+IsOverRows (plain.AssertKey name columns) = Unit {0}
+IsOverRows _ = ⊥
+
+-- it asserts the condition of the first row that is handed in
+pub adds_assertion : (old new : List ℕ) (list place : ℕ) (a : PlainAction) (rows : List CRow) (d : CRow) → IsOverRows a → 0 < length rows
+    → StandsAt new place (IsChangeList (change_list_at old list ++ Assert (condition_at old (get_or rows 0 d).cond) ∷ []))
+    → Adds old new list place a rows
+adds_assertion old new list place a [] d over lt stands = absurd (omega (arith, lt))
+adds_assertion old new list place (plain.AssertQuery wanted q) (r ∷ rows) d over lt stands = record {
+  change = Assert (condition_at old r.cond);
+  list_is = stands;
+  does = refl;
+  from = λ t h. h;
+  few = tt;
+}
+adds_assertion old new list place (plain.AssertKey name columns) (r ∷ rows) d over lt stands = record {
+  change = Assert (condition_at old r.cond);
+  list_is = stands;
+  does = refl;
+  from = λ t h. h;
+  few = tt;
+}
+adds_assertion old new list place _ (r ∷ rows) d over lt stands = absurd over

@@ -3,9 +3,9 @@ use Rattle.std.proofs.Common.{◌≡◌, ℕ, ◌<◌, Bool, true, false, ◌||�
 use Rattle.std.{specs.Prelude.{IsTrue, All, reverse, if◌then◌else◌}, proofs.lemmas.List.{append_assoc, map_push, reverse-append}}
 use Rattle.std.{proofs.lemmas.List.Elements.{All-cons, All-push}, proofs.lemmas.Bool.{false≢true, or_left, or_right}}
 use Rattle.ct_word.{specs.declared.kinds.Kind.Kind, specs.declared.kinds.Class.Class, specs.declared.reading.Word.Word, specs.WordAt.{IsWordAt, text_at}}
-use Rattle.ct_word.specs.Reading.{as_row, as_row_list, as_name_list, as_change_list, as_cond_row, term_at, condition_at, change_list_at}
+use Rattle.ct_word.specs.Reading.{as_row, as_row_list, as_name_list, as_set, as_set_list, as_update_body, as_change_list, as_cond_row, term_at, condition_at, change_list_at}
 use Rattle.ct_word.{specs.WellFormed.{is_place_of, same_class, class_of}, proofs.Spelling.of_kind}
-use Rattle.ct_history.{specs.Items.{AreItems, ended, longer, is_longer, is_place_of_list}, specs.Places.{change_at, cells_at, names_at, rows_at, cond_row_at}}
+use Rattle.ct_history.{specs.Items.{AreItems, ended, longer, is_longer, is_place_of_list}, specs.Places.{change_at, cells_at, names_at, set_at, sets_at, rows_at, cond_row_at, IsBodyOf}}
 use Rattle.ct_word.specs.declared.kinds.Kind.TheVariants as kind
 use Rattle.ct_word.specs.declared.kinds.Class.TheVariants as class
 
@@ -19,20 +19,32 @@ module _ (ws : List ℕ) (p : ℕ) where
   abbrev is_names : Bool
   is_names = is_place_of ws class.NameList p
 
+  abbrev is_sets : Bool
+  is_sets = is_place_of ws class.SetList p
+
   abbrev is_changes : Bool
   is_changes = is_place_of ws class.ChangeList p
 
   pub row_is_list : is_row ≡ true → is_place_of_list ws p ≡ true
-  row_is_list e = or_left is_row (is_rows || (is_names || is_changes)) e
+  row_is_list e = or_left is_row (is_rows || (is_names || (is_sets || is_changes))) e
 
   pub rows_are_list : is_rows ≡ true → is_place_of_list ws p ≡ true
-  rows_are_list e = or_right is_row (is_rows || (is_names || is_changes)) (or_left is_rows (is_names || is_changes) e)
+  rows_are_list e = or_right is_row (is_rows || (is_names || (is_sets || is_changes))) (or_left is_rows (is_names || (is_sets || is_changes)) e)
 
   pub names_are_list : is_names ≡ true → is_place_of_list ws p ≡ true
-  names_are_list e = or_right is_row (is_rows || (is_names || is_changes)) (or_right is_rows (is_names || is_changes) (or_left is_names is_changes e))
+  names_are_list e =
+      or_right is_row (is_rows || (is_names || (is_sets || is_changes)))
+      (or_right is_rows (is_names || (is_sets || is_changes)) (or_left is_names (is_sets || is_changes) e))
+
+  pub sets_are_list : is_sets ≡ true → is_place_of_list ws p ≡ true
+  sets_are_list e =
+      or_right is_row (is_rows || (is_names || (is_sets || is_changes)))
+      (or_right is_rows (is_names || (is_sets || is_changes)) (or_right is_names (is_sets || is_changes) (or_left is_sets is_changes e)))
 
   pub changes_are_list : is_changes ≡ true → is_place_of_list ws p ≡ true
-  changes_are_list e = or_right is_row (is_rows || (is_names || is_changes)) (or_right is_rows (is_names || is_changes) (or_right is_names is_changes e))
+  changes_are_list e =
+      or_right is_row (is_rows || (is_names || (is_sets || is_changes)))
+      (or_right is_rows (is_names || (is_sets || is_changes)) (or_right is_names (is_sets || is_changes) (or_right is_sets is_changes e)))
 
 -- what the word of a list says: it ends the list, or puts an item behind a list at an earlier place
 pub record Behind (ws : List ℕ) (p : ℕ) (w : Word) : Type 0 where
@@ -45,6 +57,7 @@ behind ws p w is e = by w.kind refl e where
   by kind.RowCell q e = let h = of_kind ws p w kind.RowCell q is in record { below = h.left.0; list = row_is_list ws w.left h.left.1 }
   by kind.Rows q e = let h = of_kind ws p w kind.Rows q is in record { below = h.left.0; list = rows_are_list ws w.left h.left.1 }
   by kind.Names q e = let h = of_kind ws p w kind.Names q is in record { below = h.left.0; list = names_are_list ws w.left h.left.1 }
+  by kind.Sets q e = let h = of_kind ws p w kind.Sets q is in record { below = h.left.0; list = sets_are_list ws w.left h.left.1 }
   by kind.Changes q e = let h = of_kind ws p w kind.Changes q is in record { below = h.left.0; list = changes_are_list ws w.left h.left.1 }
   by _ q e = absurd (false≢true e)
 
@@ -79,6 +92,11 @@ names_kinds kind.NamesEnd e = refl
 names_kinds kind.Names e = refl
 names_kinds _ e = absurd (false≢true e)
 
+sets_kinds : HasKinds class.SetList kind.SetsEnd kind.Sets
+sets_kinds kind.SetsEnd e = refl
+sets_kinds kind.Sets e = refl
+sets_kinds _ e = absurd (false≢true e)
+
 changes_kinds : HasKinds class.ChangeList kind.ChangesEnd kind.Changes
 changes_kinds kind.ChangesEnd e = refl
 changes_kinds kind.Changes e = refl
@@ -105,6 +123,12 @@ module _ (ws : List ℕ) (p : ℕ) (w : Word) (is : IsWordAt ws p w) where
   last_name : IsTrue (is_place_of ws class.NameList p) → is_longer w.kind ≡ true → Last class.NameList class.Text (names_at ws) (text_at ws)
   last_name placed e = let h = said class.NameList kind.NamesEnd kind.Names names_kinds placed true e in (ap as_name_list h.meaning, h.left.1, h.right.1, h.left.0)
 
+  no_set : IsTrue (is_place_of ws class.SetList p) → is_longer w.kind ≡ false → sets_at ws p ≡ []
+  no_set placed e = ap as_set_list (said class.SetList kind.SetsEnd kind.Sets sets_kinds placed false e).meaning
+
+  last_set : IsTrue (is_place_of ws class.SetList p) → is_longer w.kind ≡ true → Last class.SetList class.Set (sets_at ws) (set_at ws)
+  last_set placed e = let h = said class.SetList kind.SetsEnd kind.Sets sets_kinds placed true e in (ap as_set_list h.meaning, h.left.1, h.right.1, h.left.0)
+
   pub no_row : IsTrue (is_place_of ws class.RowList p) → is_longer w.kind ≡ false → rows_at ws p ≡ []
   no_row placed e = ap as_row_list (said class.RowList kind.RowsEnd kind.Rows rows_kinds placed false e).meaning
 
@@ -127,6 +151,9 @@ module _ (ws : List ℕ) where
   pub names_read : Read class.NameList class.Text (names_at ws) (text_at ws)
   names_read = read_items ws class.NameList class.Text (names_at ws) (text_at ws) (no_name ws) (last_name ws)
 
+  pub sets_read : Read class.SetList class.Set (sets_at ws) (set_at ws)
+  sets_read = read_items ws class.SetList class.Set (sets_at ws) (set_at ws) (no_set ws) (last_set ws)
+
 -- one more item, read from the end of a list, comes before those read so far
 pub one_before : {X Y : Type 0} (f : X → Y) (all before after : List Y) (items : List X) (x : X) (y : Y)
     → all ≡ before ++ map f (reverse items) → before ≡ after ++ y ∷ [] → f x ≡ y → all ≡ after ++ map f (reverse (items ++ x ∷ []))
@@ -144,6 +171,21 @@ row_word ws p w is e = by w.kind refl (sym (is.class class.CondRow) ∙ e) where
   by : (k : Kind) → w.kind ≡ k → same_class (class_of k) class.CondRow ≡ true
       → (cond_row_at ws p ≡ record { cells = cells_at ws w.left; condition = condition_at ws w.right }) × IsTrue (is_place_of ws class.Row w.left) × IsTrue (is_place_of ws class.Cond w.right)
   by kind.ConditionalRow q of = let h = of_kind ws p w kind.ConditionalRow q is in (ap as_cond_row h.meaning, h.left.1, h.right.1)
+  by _ q of = absurd (false≢true of)
+
+-- what the word of a set says
+pub set_word : (ws : List ℕ) (p : ℕ) (w : Word) → IsWordAt ws p w → IsTrue (is_place_of ws class.Set p)
+    → (set_at ws p ≡ (w.left, term_at ws w.right)) × IsTrue (is_place_of ws class.Term w.right)
+set_word ws p w is e = by w.kind refl (sym (is.class class.Set) ∙ e) where
+  by : (k : Kind) → w.kind ≡ k → same_class (class_of k) class.Set ≡ true → (set_at ws p ≡ (w.left, term_at ws w.right)) × IsTrue (is_place_of ws class.Term w.right)
+  by kind.Set q of = let h = of_kind ws p w kind.Set q is in (ap as_set h.meaning, h.right.1)
+  by _ q of = absurd (false≢true of)
+
+-- what the word of an update's body says
+pub body_word : (ws : List ℕ) (p : ℕ) (w : Word) → IsWordAt ws p w → IsTrue (is_place_of ws class.UpdateBody p) → IsBodyOf ws p w.left w.right
+body_word ws p w is e = by w.kind refl (sym (is.class class.UpdateBody) ∙ e) where
+  by : (k : Kind) → w.kind ≡ k → same_class (class_of k) class.UpdateBody ≡ true → IsBodyOf ws p w.left w.right
+  by kind.UpdateBody q of = let h = of_kind ws p w kind.UpdateBody q is in (ap as_update_body h.meaning, h.left.1, h.right.1)
   by _ q of = absurd (false≢true of)
 
 -- the items so far, the last one first, come behind those of the list that is left

@@ -1,4 +1,5 @@
 pub mod Encoded
+pub mod Frames
 pub mod ItemLists
 pub mod Lists
 pub mod Named

@@ -53,6 +53,8 @@ module _ (ws : List ℕ) (nodes : List Node) where
   change_same (written.Insert name rows) ks h = (refl, rows_same rows ks h)
   change_same (written.Delete name c) [] h = absurd h
   change_same (written.Delete name c) (k ∷ ks) h = (refl, h.0.0)
+  change_same (written.Update name sets c) [] h = absurd h
+  change_same (written.Update name sets c) (k ∷ ks) h = (refl, refl, h.0.0)
   change_same (written.Assert c) [] h = absurd h
   change_same (written.Assert c) (k ∷ ks) h = h.0.0
 
@@ -61,6 +63,8 @@ module _ (ws : List ℕ) (nodes : List Node) where
   change_placed (written.Insert name rows) ks h = rows_placed rows ks h
   change_placed (written.Delete name c) [] h = absurd h
   change_placed (written.Delete name c) (k ∷ ks) h = h.0.1
+  change_placed (written.Update name sets c) [] h = absurd h
+  change_placed (written.Update name sets c) (k ∷ ks) h = h.0.1
   change_placed (written.Assert c) [] h = absurd h
   change_placed (written.Assert c) (k ∷ ks) h = h.0.1
 
@@ -95,6 +99,7 @@ module _ (ws : List ℕ) where
   change_conds (written.Create name columns) is = refl
   change_conds (written.Insert name rows) is = rows_conds rows is
   change_conds (written.Delete name c) is = and_from _ _ is refl
+  change_conds (written.Update name sets c) is = and_from _ _ is.1 refl
   change_conds (written.Assert c) is = and_from _ _ is refl
 
   pub all_conds : (xs : List Written) → All (IsWritten ws) xs → IsTrue (list_all (is_place_of ws class.Cond) (flat_map conds_of xs))

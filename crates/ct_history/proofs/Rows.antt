@@ -1,10 +1,9 @@
 -- Rows of the log: one more cell, one more row.
-use Rattle.std.proofs.Common.{◌≡◌, ◌<◌, ◌≤◌, ◌+◌, arith, inl, inr, ℕ, List, [], ◌∷◌, ◌++◌, Some, map, take, length, get_or, refl, ap, sym, subst, ◌∙◌}
+use Rattle.std.proofs.Common.{◌≡◌, ◌<◌, ◌+◌, ℕ, List, [], ◌∷◌, ◌++◌, Some, map, take, length, get_or, refl, ap, sym, subst, ◌∙◌}
 use Rattle.std.{proofs.lemmas.List.map_more, proofs.lemmas.List.Elements.{All-head, All-tail, All-get_or, All-weaker}, specs.Prelude.{IsTrue, All, slice_get}}
 use Rattle.ct_word.{specs.declared.values.CRow.CRow, specs.declared.values.Term.Term, specs.Stands.StandsAt, specs.WellFormed.is_place_of}
 use Rattle.ct_word.specs.Reading.{IsRow, IsRowList, as_cond, as_row, as_cond_row, as_row_list, by_kind, meanings, condition_at, term_at, plain_crow}
 use Rattle.ct_word.proofs.Prefixes.{prefix_of_prefix, stands_in_prefix, term_in_prefix, condition_in_prefix, place_in_prefix, place_within}
-use Rattle.ct_arena.specs.Seen.{CountsWord}
 use Rattle.ct_history.{specs.Places.{cells_at, rows_at}, specs.Rows.{AreTerms, IsNoRow, IsRowOf, row_under}, proofs.Lists.meaning_kept}
 use mathlib.Core.List.{IsPrefix}
 use Rattle.ct_word.specs.declared.kinds.Class.TheVariants as class
@@ -63,11 +62,6 @@ no_row_later ws xs p longer is = record {
   class = place_in_prefix ws xs class.Row p longer is.class;
   small = is.small;
 }
-
--- a word that was put raised the count by one at most
-pub counted : (a b : ℕ) (ws : List ℕ) (w : ℕ) → CountsWord a b ws w → b ≤ a + 1
-counted a b ws w (inl e) = omega (arith, e)
-counted a b ws w (inr e) = omega (arith, e.0)
 
 -- a row of places stays one in more words
 pub row_later : (ws xs : List ℕ) → IsPrefix ws xs → (r : CRow) → IsRowOf ws r → IsRowOf xs r

@@ -12,12 +12,13 @@ abbrev pub is_longer : Kind → Bool
 is_longer kind.RowCell = true
 is_longer kind.Rows = true
 is_longer kind.Names = true
+is_longer kind.Sets = true
 is_longer kind.Changes = true
 is_longer _ = false
 
 -- whether a place is one of a list
 abbrev pub is_place_of_list : List ℕ → ℕ → Bool
-is_place_of_list words p = is_place_of words class.Row p || (is_place_of words class.RowList p || (is_place_of words class.NameList p || is_place_of words class.ChangeList p))
+is_place_of_list words p = is_place_of words class.Row p || (is_place_of words class.RowList p || (is_place_of words class.NameList p || (is_place_of words class.SetList p || is_place_of words class.ChangeList p)))
 
 -- these are the places of the items of the list at a place, in order
 pub data AreItems (words : List ℕ) : ℕ → List ℕ → Type 0 where

@@ -7,12 +7,14 @@ use Rattle.ct_rewrite.specs.declared.history.Change.{Change}
 use Rattle.ct_rewrite.specs.declared.history.Change.TheVariants as change
 use Rattle.ct_history.specs.declared.written.Written.{Written}
 use Rattle.ct_history.specs.declared.written.Written.TheVariants as written
+use Rattle.ct_history.specs.Written.{plain_set}
 
 -- the places of the conditions of a change, in order
 abbrev pub conds_of : Written → List ℕ
 conds_of (written.Create name columns) = []
 conds_of (written.Insert name rows) = map (λ r. r.cond) rows
 conds_of (written.Delete name cond) = cond ∷ []
+conds_of (written.Update name sets cond) = cond ∷ []
 conds_of (written.Assert cond) = cond ∷ []
 
 -- a row of terms at a position
@@ -30,6 +32,7 @@ abbrev pub change_with : List ℕ → Written → List ℕ → Change
 change_with words (written.Create name columns) ks = change.Create name columns
 change_with words (written.Insert name rows) ks = change.Insert name (rows_with words rows ks)
 change_with words (written.Delete name cond) ks = change.Delete name (get_or ks 0 0)
+change_with words (written.Update name sets cond) ks = change.Update name (map (plain_set words) sets) (get_or ks 0 0)
 change_with words (written.Assert cond) ks = change.Assert (get_or ks 0 0)
 
 -- changes with these positions, each taking as many as it has conditions

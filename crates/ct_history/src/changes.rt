@@ -1,6 +1,6 @@
 // Change lists, put into the log word by word.
 
-ghost use Rattle.std.specs.Prelude.{◌≡◌, ◌≤◌, ◌<◌, ◌+◌, ◌^◌, [], ◌∷◌, ◌++◌, Some, length, sum_by, IfOk, OnErr, IsTrue};
+ghost use Rattle.std.specs.Prelude.{◌≡◌, ◌≤◌, ◌<◌, ◌+◌, ◌^◌, [], ◌∷◌, ◌++◌, Some, length, sum_by, IfOk, OnErr, IsTrue, is_err};
 ghost use mathlib.Core.List.{IsPrefix};
 ghost use Rattle.ct_word.specs.declared.kinds.Class.TheVariants as class;
 ghost use Rattle.ct_word.specs.Change.{Create};
@@ -8,7 +8,7 @@ ghost use Rattle.ct_word.specs.Reading.{IsNameList, IsChangeList, change_list_at
 ghost use Rattle.ct_word.specs.Stands.{StandsAt};
 ghost use Rattle.ct_word.specs.WellFormed.{class_of, is_formed_as, is_place_of};
 ghost use Rattle.ct_history.specs.Encodes.{name_words};
-ghost use Rattle.ct_history.specs.Kept.{kept_of};
+ghost use Rattle.ct_history.specs.Kept.{PassWrites, kept_of};
 ghost use Rattle.ct_history.specs.Places.{change_of};
 
 use ct_arena::{Arena, Full, Pass, Site};
@@ -23,6 +23,7 @@ pub fn no_changes<N: Site>(arena: &Arena<N>, pass: &mut Pass<N>) -> Result<u32, 
     ensures stands { IfOk result (λ place. StandsAt pass.new.words place (IsChangeList [])) }
     ensures place { IfOk result (λ place. IsTrue (is_place_of pass.new.words class.ChangeList place)) }
     ensures small { IfOk result (λ place. place < 2 ^ 28) }
+    ensures writes { PassWrites N.log.cap pass.old pass.new 1 (is_err result) }
     ensures longer { IsPrefix pass.old.words pass.new.words }
     ensures full { OnErr result (length pass.new.words ≡ N.log.cap) }
     ensures made { pass.new.made ≤ pass.old.made + 1 }
@@ -33,16 +34,12 @@ pub fn no_changes<N: Site>(arena: &Arena<N>, pass: &mut Pass<N>) -> Result<u32, 
 }
 
 /// The place of a list of names.
-#[tactic(auto, using(ct_word::proofs::Prefixes::place_in_prefix, std::proofs::lemmas::List::Sums::sum_by_more_le))]
+#[tactic(auto, using(ct_word::proofs::Prefixes::place_in_prefix))]
 fn names<N: Site>(arena: &Arena<N>, pass: &mut Pass<N>, names: &[Text]) -> Result<u32, Full>
     ensures stands { IfOk result (λ place. StandsAt pass.new.words place (IsNameList names.now)) }
     ensures place { IfOk result (λ place. IsTrue (is_place_of pass.new.words class.NameList place)) }
     ensures small { IfOk result (λ place. place < 2 ^ 28) }
-    ensures longer { IsPrefix pass.old.words pass.new.words }
-    ensures full { OnErr result (length pass.new.words ≡ N.log.cap) }
-    ensures made { pass.new.made ≤ pass.old.made + (sum_by name_words names.now + 1) }
-    ensures err { OnErr result (pass.new.made < pass.old.made + (sum_by name_words names.now + 1)) }
-    ensures kept { kept_of pass.new ≡ kept_of pass.old }
+    ensures writes { PassWrites N.log.cap pass.old pass.new (sum_by name_words names.now + 1) (is_err result) }
 {
     let mut place = put(arena, pass, Kind::NamesEnd, 0, 0)?;
     for name in names {
@@ -71,11 +68,7 @@ pub(crate) fn add<N: Site>(
     ensures adds { IfOk result (λ place. StandsAt pass.new.words place (IsChangeList (change_list_at pass.old.words list ++ change_of pass.old.words kind left right ∷ []))) }
     ensures place { IfOk result (λ place. IsTrue (is_place_of pass.new.words class.ChangeList place)) }
     ensures small { IfOk result (λ place. place < 2 ^ 28) }
-    ensures longer { IsPrefix pass.old.words pass.new.words }
-    ensures full { OnErr result (length pass.new.words ≡ N.log.cap) }
-    ensures made { pass.new.made ≤ pass.old.made + 2 }
-    ensures err { OnErr result (pass.new.made < pass.old.made + 2) }
-    ensures kept { kept_of pass.new ≡ kept_of pass.old }
+    ensures writes { PassWrites N.log.cap pass.old pass.new 2 (is_err result) }
 {
     let change = put(arena, pass, kind, left, right)?;
     put(arena, pass, Kind::Changes, list, change)
@@ -98,11 +91,7 @@ pub fn create<N: Site>(
     ensures stands { IfOk result (λ place. StandsAt pass.new.words place (IsChangeList (change_list_at pass.old.words list ++ Create name.now columns.now ∷ []))) }
     ensures place { IfOk result (λ place. IsTrue (is_place_of pass.new.words class.ChangeList place)) }
     ensures small { IfOk result (λ place. place < 2 ^ 28) }
-    ensures longer { IsPrefix pass.old.words pass.new.words }
-    ensures full { OnErr result (length pass.new.words ≡ N.log.cap) }
-    ensures made { pass.new.made ≤ pass.old.made + (sum_by name_words (name.now ∷ columns.now) + 2) }
-    ensures err { OnErr result (pass.new.made < pass.old.made + (sum_by name_words (name.now ∷ columns.now) + 2)) }
-    ensures kept { kept_of pass.new ≡ kept_of pass.old }
+    ensures writes { PassWrites N.log.cap pass.old pass.new (sum_by name_words (name.now ∷ columns.now) + 2) (is_err result) }
 {
     let table = text(arena, pass, name)?;
     let list_of_names = names(arena, pass, columns)?;

@@ -1,19 +1,20 @@
 // The change of an action, put into the log.
 
-ghost use Rattle.std.specs.Prelude.{◌≡◌, ◌≤◌, ◌<◌, ◌+◌, ◌^◌, [], ◌∷◌, ◌++◌, map, length, sum_by, All, IfOk, OnErr, IsTrue};
+ghost use Rattle.std.specs.Prelude.{◌≡◌, ◌≤◌, ◌<◌, ◌+◌, ◌^◌, [], ◌∷◌, ◌++◌, map, length, sum_by, All, IfOk, OnErr, IsTrue, is_err};
 ghost use mathlib.Core.List.{IsPrefix};
 ghost use Rattle.ct_word.specs.declared.kinds.Class.TheVariants as class;
-ghost use Rattle.ct_word.specs.Reading.{IsRow, condition_at};
+ghost use Rattle.ct_word.specs.Change.{Assert};
+ghost use Rattle.ct_word.specs.Reading.{IsRow, IsSetList, IsChangeList, change_list_at, condition_at};
 ghost use Rattle.ct_word.specs.Stands.{StandsAt};
 ghost use Rattle.ct_word.specs.WellFormed.{is_place_of};
-ghost use Rattle.ct_query.specs.Bounds.{characters, literal_words};
-ghost use Rattle.ct_query.specs.Fields.{AreFittingOn};
+ghost use Rattle.ct_query.specs.Bounds.{literal_words};
+ghost use Rattle.ct_query.specs.Fields.{FitsFields, AreFittingOn};
 ghost use Rattle.ct_query.specs.Fits.{FitsCell, FitsRows};
 ghost use Rattle.ct_query.specs.Plain as plain;
 ghost use Rattle.ct_query.specs.Pred.{condition_of};
 ghost use Rattle.ct_query.specs.Views.{action_of};
-ghost use Rattle.ct_history.specs.Encodes.{Adds, IsConditionOf, IsEncodable, condition_words, encode_words, term_row_words};
-ghost use Rattle.ct_history.specs.Kept.{kept_of};
+ghost use Rattle.ct_history.specs.Encodes.{Adds, AreHanded, IsConditionOf, IsEncodable, condition_words, encode_words, set_words, term_row_words};
+ghost use Rattle.ct_history.specs.Kept.{PassWrites, kept_of};
 ghost use Rattle.ct_history.specs.Places.{rows_at};
 ghost use Rattle.ct_history.specs.Rows.{AreRowsAt, IsNoRow, IsRowOf, row_under};
 
@@ -25,15 +26,10 @@ use ct_query::{Action, Pred};
 use ct_word::{CRow, Kind, List, Term};
 
 /// The place of a predicate, whose columns stay columns.
-#[tactic(auto, using(crate::proofs::Named::words_written))]
 fn condition<N: Site>(arena: &Arena<N>, pass: &mut Pass<N>, p: &Pred) -> Result<u32, Full>
     requires fields { AreFittingOn 0 (condition_of p.now) }
     ensures is { IfOk result (λ place. IsConditionOf pass.new.words place (condition_of p.now)) }
-    ensures longer { IsPrefix pass.old.words pass.new.words }
-    ensures full { OnErr result (length pass.new.words ≡ N.log.cap) }
-    ensures made { pass.new.made ≤ pass.old.made + condition_words (condition_of p.now) }
-    ensures err { OnErr result (pass.new.made < pass.old.made + condition_words (condition_of p.now)) }
-    ensures kept { kept_of pass.new ≡ kept_of pass.old }
+    ensures writes { PassWrites N.log.cap pass.old pass.new (condition_words (condition_of p.now)) (is_err result) }
 {
     let place = pred(arena, pass, p, &[])?;
     let _ = pass.words();
@@ -41,7 +37,6 @@ fn condition<N: Site>(arena: &Arena<N>, pass: &mut Pass<N>, p: &Pred) -> Result<
 }
 
 /// The place of a row of terms, put behind the row without cells.
-#[tactic(auto, using(std::proofs::lemmas::List::Sums::sum_by_more_le, crate::proofs::Encoded::cell_counted))]
 fn term_cells<N: Site>(
     arena: &Arena<N>,
     pass: &mut Pass<N>,
@@ -53,12 +48,10 @@ fn term_cells<N: Site>(
     ensures stands { IfOk result (λ place. StandsAt pass.new.words place (IsRow cells.now)) }
     ensures place { IfOk result (λ place. IsTrue (is_place_of pass.new.words class.Row place)) }
     ensures small { IfOk result (λ place. place < 2 ^ 28) }
-    ensures longer { IsPrefix pass.old.words pass.new.words }
-    ensures full { OnErr result (length pass.new.words ≡ N.log.cap) }
-    ensures made { pass.new.made ≤ pass.old.made + (sum_by literal_words cells.now + length cells.now) }
-    ensures err { OnErr result (pass.new.made < pass.old.made + (sum_by literal_words cells.now + length cells.now)) }
-    ensures kept { kept_of pass.new ≡ kept_of pass.old }
+    ensures writes { PassWrites N.log.cap pass.old pass.new (sum_by literal_words cells.now + length cells.now) (is_err result) }
 {
+    // The words of a pass are well formed, and no more than the capacity.
+    let _ = pass.words();
     let mut place = start;
     for cell in cells {
         let item = term(arena, pass, cell)?;
@@ -84,18 +77,14 @@ fn add_terms<N: Site>(
     requires cond { IsTrue (is_place_of pass.old.words class.Cond cond) }
     requires small { cond < 2 ^ 28 }
     ensures rows { IfOk result (λ place. AreRowsAt pass.new.words place (rows_at pass.old.words list ++ row_under (condition_at pass.old.words cond) cells.now ∷ [])) }
-    ensures longer { IsPrefix pass.old.words pass.new.words }
-    ensures full { OnErr result (length pass.new.words ≡ N.log.cap) }
-    ensures made { pass.new.made ≤ pass.old.made + term_row_words cells.now }
-    ensures err { OnErr result (pass.new.made < pass.old.made + term_row_words cells.now) }
-    ensures kept { kept_of pass.new ≡ kept_of pass.old }
+    ensures writes { PassWrites N.log.cap pass.old pass.new (term_row_words cells.now) (is_err result) }
 {
     let row = term_cells(arena, pass, start, cells)?;
     put_row(arena, pass, list, row, cond)
 }
 
 /// The place of a list of rows of terms, each under the same condition.
-#[tactic(auto, using(ct_word::proofs::Prefixes::place_in_prefix, std::proofs::lemmas::List::Sums::sum_by_more_le))]
+#[tactic(auto, using(ct_word::proofs::Prefixes::place_in_prefix))]
 fn term_rows<N: Site>(
     arena: &Arena<N>,
     pass: &mut Pass<N>,
@@ -106,11 +95,7 @@ fn term_rows<N: Site>(
     requires cond { IsTrue (is_place_of pass.old.words class.Cond cond) }
     requires small { cond < 2 ^ 28 }
     ensures rows { IfOk result (λ place. AreRowsAt pass.new.words place (map (row_under (condition_at pass.old.words cond)) rows.now)) }
-    ensures longer { IsPrefix pass.old.words pass.new.words }
-    ensures full { OnErr result (length pass.new.words ≡ N.log.cap) }
-    ensures made { pass.new.made ≤ pass.old.made + (sum_by term_row_words rows.now + 2) }
-    ensures err { OnErr result (pass.new.made < pass.old.made + (sum_by term_row_words rows.now + 2)) }
-    ensures kept { kept_of pass.new ≡ kept_of pass.old }
+    ensures writes { PassWrites N.log.cap pass.old pass.new (sum_by term_row_words rows.now + 2) (is_err result) }
 {
     let (mut place, start) = no_rows(arena, pass)?;
     for row in rows {
@@ -120,7 +105,7 @@ fn term_rows<N: Site>(
 }
 
 /// The place of a change list with the insertion of rows under a condition added.
-#[tactic(auto, using(ct_word::proofs::Prefixes::place_in_prefix, crate::proofs::Named::no_columns, crate::proofs::Encoded::rows_words))]
+#[tactic(auto, using(ct_word::proofs::Prefixes::place_in_prefix))]
 fn insert_rows<N: Site>(
     arena: &Arena<N>,
     pass: &mut Pass<N>,
@@ -136,11 +121,7 @@ fn insert_rows<N: Site>(
     ensures adds { IfOk result (λ place. Adds pass.old.words pass.new.words list place (plain.InsertRows name.now rows.now (condition_of p.now)) []) }
     ensures place { IfOk result (λ place. IsTrue (is_place_of pass.new.words class.ChangeList place)) }
     ensures small { IfOk result (λ place. place < 2 ^ 28) }
-    ensures longer { IsPrefix pass.old.words pass.new.words }
-    ensures full { OnErr result (length pass.new.words ≡ N.log.cap) }
-    ensures made { pass.new.made ≤ pass.old.made + encode_words (plain.InsertRows name.now rows.now (condition_of p.now)) [] }
-    ensures err { OnErr result (pass.new.made < pass.old.made + encode_words (plain.InsertRows name.now rows.now (condition_of p.now)) []) }
-    ensures kept { kept_of pass.new ≡ kept_of pass.old }
+    ensures writes { PassWrites N.log.cap pass.old pass.new (encode_words (plain.InsertRows name.now rows.now (condition_of p.now)) []) (is_err result) }
 {
     let cond = condition(arena, pass, p)?;
     let list_of_rows = term_rows(arena, pass, rows, cond)?;
@@ -162,19 +143,79 @@ fn delete<N: Site>(
     ensures adds { IfOk result (λ place. Adds pass.old.words pass.new.words list place (plain.Delete name.now (condition_of p.now)) []) }
     ensures place { IfOk result (λ place. IsTrue (is_place_of pass.new.words class.ChangeList place)) }
     ensures small { IfOk result (λ place. place < 2 ^ 28) }
-    ensures longer { IsPrefix pass.old.words pass.new.words }
-    ensures full { OnErr result (length pass.new.words ≡ N.log.cap) }
-    ensures made { pass.new.made ≤ pass.old.made + encode_words (plain.Delete name.now (condition_of p.now)) [] }
-    ensures err { OnErr result (pass.new.made < pass.old.made + encode_words (plain.Delete name.now (condition_of p.now)) []) }
-    ensures kept { kept_of pass.new ≡ kept_of pass.old }
+    ensures writes { PassWrites N.log.cap pass.old pass.new (encode_words (plain.Delete name.now (condition_of p.now)) []) (is_err result) }
 {
     let cond = condition(arena, pass, p)?;
     let table = text(arena, pass, name)?;
     add(arena, pass, list, Kind::Delete, table, cond)
 }
 
+/// The place of a list of sets.
+#[tactic(auto, using(ct_word::proofs::Prefixes::place_in_prefix))]
+fn sets<N: Site>(arena: &Arena<N>, pass: &mut Pass<N>, sets: &[(u32, Term)]) -> Result<u32, Full>
+    requires sets { All (λ s. (s.0 < 2 ^ 28) × FitsFields s.1) sets.now }
+    ensures stands { IfOk result (λ place. StandsAt pass.new.words place (IsSetList sets.now)) }
+    ensures place { IfOk result (λ place. IsTrue (is_place_of pass.new.words class.SetList place)) }
+    ensures small { IfOk result (λ place. place < 2 ^ 28) }
+    ensures writes { PassWrites N.log.cap pass.old pass.new (sum_by set_words sets.now + 1) (is_err result) }
+{
+    let mut place = put(arena, pass, Kind::SetsEnd, 0, 0)?;
+    for set in sets {
+        let item = term(arena, pass, &set.1)?;
+        let word = put(arena, pass, Kind::Set, set.0, item)?;
+        place = put(arena, pass, Kind::Sets, place, word)?;
+    }
+    Ok(place)
+}
+
+/// The place of a change list with an update added.
+#[tactic(auto, using(ct_word::proofs::Prefixes::place_in_prefix))]
+fn update<N: Site>(
+    arena: &Arena<N>,
+    pass: &mut Pass<N>,
+    list: u32,
+    name: &str,
+    sets_of: &[(u32, Term)],
+    p: &Pred,
+) -> Result<u32, Full>
+    requires small { list < 2 ^ 28 }
+    requires list { IsTrue (is_place_of pass.old.words class.ChangeList list) }
+    requires sets { All (λ s. (s.0 < 2 ^ 28) × FitsFields s.1) sets_of.now }
+    requires fields { AreFittingOn 0 (condition_of p.now) }
+    ensures adds { IfOk result (λ place. Adds pass.old.words pass.new.words list place (plain.Update name.now sets_of.now (condition_of p.now)) []) }
+    ensures place { IfOk result (λ place. IsTrue (is_place_of pass.new.words class.ChangeList place)) }
+    ensures small { IfOk result (λ place. place < 2 ^ 28) }
+    ensures writes { PassWrites N.log.cap pass.old pass.new (encode_words (plain.Update name.now sets_of.now (condition_of p.now)) []) (is_err result) }
+{
+    let cond = condition(arena, pass, p)?;
+    let list_of_sets = sets(arena, pass, sets_of)?;
+    let body = put(arena, pass, Kind::UpdateBody, list_of_sets, cond)?;
+    let table = text(arena, pass, name)?;
+    add(arena, pass, list, Kind::Update, table, body)
+}
+
+/// The place of a change list with the assertion of the condition at a place added.
+fn assert_at<N: Site>(
+    arena: &Arena<N>,
+    pass: &mut Pass<N>,
+    list: u32,
+    cond: u32,
+) -> Result<u32, Full>
+    requires small { list < 2 ^ 28 }
+    requires list { IsTrue (is_place_of pass.old.words class.ChangeList list) }
+    requires cond { IsTrue (is_place_of pass.old.words class.Cond cond) }
+    ensures stands { IfOk result (λ place. StandsAt pass.new.words place (IsChangeList (change_list_at pass.old.words list ++ Assert (condition_at pass.old.words cond) ∷ []))) }
+    ensures place { IfOk result (λ place. IsTrue (is_place_of pass.new.words class.ChangeList place)) }
+    ensures small { IfOk result (λ place. place < 2 ^ 28) }
+    ensures writes { PassWrites N.log.cap pass.old pass.new 2 (is_err result) }
+{
+    // A pass has fewer words than a field can number, so the condition fits one.
+    let _ = pass.words();
+    add(arena, pass, list, Kind::Assert, cond, 0)
+}
+
 /// The place of a change list with an assertion added.
-#[tactic(auto, using(ct_word::proofs::Prefixes::place_in_prefix, crate::proofs::Named::no_columns))]
+#[tactic(auto, using(ct_word::proofs::Prefixes::place_in_prefix))]
 fn assert_that<N: Site>(
     arena: &Arena<N>,
     pass: &mut Pass<N>,
@@ -187,19 +228,16 @@ fn assert_that<N: Site>(
     ensures adds { IfOk result (λ place. Adds pass.old.words pass.new.words list place (plain.Assert (condition_of p.now)) []) }
     ensures place { IfOk result (λ place. IsTrue (is_place_of pass.new.words class.ChangeList place)) }
     ensures small { IfOk result (λ place. place < 2 ^ 28) }
-    ensures longer { IsPrefix pass.old.words pass.new.words }
-    ensures full { OnErr result (length pass.new.words ≡ N.log.cap) }
-    ensures made { pass.new.made ≤ pass.old.made + encode_words (plain.Assert (condition_of p.now)) [] }
-    ensures err { OnErr result (pass.new.made < pass.old.made + encode_words (plain.Assert (condition_of p.now)) []) }
-    ensures kept { kept_of pass.new ≡ kept_of pass.old }
+    ensures writes { PassWrites N.log.cap pass.old pass.new (encode_words (plain.Assert (condition_of p.now)) []) (is_err result) }
 {
     let cond = condition(arena, pass, p)?;
-    add(arena, pass, list, Kind::Assert, cond, 0)
+    assert_at(arena, pass, list, cond)
 }
 
-/// The place of a change list with the change of an action added. `rows` are those of a query: an
-/// insertion from a query becomes the insertion of exactly these rows, in their order. Every other
-/// action is recorded as it is said. It takes no memory.
+/// The place of a change list with the change of an action added. An insertion from a query becomes
+/// the insertion of exactly `rows`, in their order; an assertion over a query or a key becomes that
+/// of exactly the first row's condition. Every other action is recorded as it is said. It takes no
+/// memory.
 ///
 /// # Errors
 /// `Full` where the log has no room for a word of it.
@@ -214,9 +252,11 @@ pub fn encode<N: Site>(
     requires list { IsTrue (is_place_of pass.old.words class.ChangeList list) }
     requires action { IsEncodable (action_of action.now) }
     requires rows { All (IsRowOf pass.old.words) rows.now }
+    requires handed { AreHanded (action_of action.now) rows.now }
     ensures adds { IfOk result (λ place. Adds pass.old.words pass.new.words list place (action_of action.now) rows.now) }
     ensures place { IfOk result (λ place. IsTrue (is_place_of pass.new.words class.ChangeList place)) }
     ensures small { IfOk result (λ place. place < 2 ^ 28) }
+    ensures writes { PassWrites N.log.cap pass.old pass.new (encode_words (action_of action.now) rows.now) (is_err result) }
     ensures longer { IsPrefix pass.old.words pass.new.words }
     ensures full { OnErr result (length pass.new.words ≡ N.log.cap) }
     ensures made { pass.new.made ≤ pass.old.made + encode_words (action_of action.now) rows.now }
@@ -232,6 +272,12 @@ pub fn encode<N: Site>(
         }
         Action::InsertQuery { name, .. } => insert(arena, pass, list, name.as_str(), rows),
         Action::Delete { name, pred } => delete(arena, pass, list, name.as_str(), pred),
+        Action::Update { name, sets, pred } => {
+            update(arena, pass, list, name.as_str(), sets.as_slice(), pred)
+        }
         Action::Assert { pred } => assert_that(arena, pass, list, pred),
+        Action::AssertQuery { .. } | Action::AssertKey { .. } => {
+            assert_at(arena, pass, list, rows[0].cond)
+        }
     }
 }

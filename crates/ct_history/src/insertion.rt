@@ -1,7 +1,6 @@
 // The insertion of rows, put into the log word by word.
 
-ghost use Rattle.std.specs.Prelude.{◌≡◌, ◌≤◌, ◌<◌, ◌+◌, ◌^◌, [], ◌∷◌, ◌++◌, map, length, sum_by, All, IfOk, OnErr, IsTrue};
-ghost use mathlib.Core.List.{IsPrefix};
+ghost use Rattle.std.specs.Prelude.{◌<◌, ◌+◌, ◌^◌, [], ◌∷◌, ◌++◌, map, length, sum_by, All, IfOk, IsTrue, is_err};
 ghost use Rattle.ct_word.specs.declared.kinds.Class.TheVariants as class;
 ghost use Rattle.ct_word.specs.Change.{Insert};
 ghost use Rattle.ct_word.specs.Reading.{IsRow, IsChangeList, term_at, condition_at, plain_crow, change_list_at};
@@ -9,7 +8,7 @@ ghost use Rattle.ct_word.specs.Stands.{StandsAt};
 ghost use Rattle.ct_word.specs.WellFormed.{is_place_of};
 ghost use Rattle.ct_query.specs.Bounds.{characters};
 ghost use Rattle.ct_history.specs.Encodes.{row_words};
-ghost use Rattle.ct_history.specs.Kept.{kept_of};
+ghost use Rattle.ct_history.specs.Kept.{PassWrites};
 ghost use Rattle.ct_history.specs.Places.{cells_at, rows_at};
 ghost use Rattle.ct_history.specs.Rows.{AreRowsAt, AreTerms, IsNoRow, IsRowOf, row_under};
 
@@ -30,11 +29,7 @@ fn cells<N: Site>(
     ensures stands { IfOk result (λ place. StandsAt pass.new.words place (IsRow (map (term_at pass.old.words) cells.now))) }
     ensures place { IfOk result (λ place. IsTrue (is_place_of pass.new.words class.Row place)) }
     ensures small { IfOk result (λ place. place < 2 ^ 28) }
-    ensures longer { IsPrefix pass.old.words pass.new.words }
-    ensures full { OnErr result (length pass.new.words ≡ N.log.cap) }
-    ensures made { pass.new.made ≤ pass.old.made + (length cells.now) }
-    ensures err { OnErr result (pass.new.made < pass.old.made + (length cells.now)) }
-    ensures kept { kept_of pass.new ≡ kept_of pass.old }
+    ensures writes { PassWrites N.log.cap pass.old pass.new (length cells.now) (is_err result) }
 {
     // A pass has fewer words than a field can number, so each cell fits one.
     let _ = pass.words();
@@ -49,11 +44,7 @@ fn cells<N: Site>(
 pub(crate) fn no_rows<N: Site>(arena: &Arena<N>, pass: &mut Pass<N>) -> Result<(u32, u32), Full>
     ensures rows { IfOk result (λ places. AreRowsAt pass.new.words places.0 []) }
     ensures start { IfOk result (λ places. IsNoRow pass.new.words places.1) }
-    ensures longer { IsPrefix pass.old.words pass.new.words }
-    ensures full { OnErr result (length pass.new.words ≡ N.log.cap) }
-    ensures made { pass.new.made ≤ pass.old.made + 2 }
-    ensures err { OnErr result (pass.new.made < pass.old.made + 2) }
-    ensures kept { kept_of pass.new ≡ kept_of pass.old }
+    ensures writes { PassWrites N.log.cap pass.old pass.new 2 (is_err result) }
 {
     let list = put(arena, pass, Kind::RowsEnd, 0, 0)?;
     let start = put(arena, pass, Kind::RowEnd, 0, 0)?;
@@ -76,11 +67,7 @@ pub(crate) fn put_row<N: Site>(
     requires cond { IsTrue (is_place_of pass.old.words class.Cond cond) }
     requires within { cond < 2 ^ 28 }
     ensures rows { IfOk result (λ place. AreRowsAt pass.new.words place (rows_at pass.old.words list ++ row_under (condition_at pass.old.words cond) (cells_at pass.old.words cells) ∷ [])) }
-    ensures longer { IsPrefix pass.old.words pass.new.words }
-    ensures full { OnErr result (length pass.new.words ≡ N.log.cap) }
-    ensures made { pass.new.made ≤ pass.old.made + 2 }
-    ensures err { OnErr result (pass.new.made < pass.old.made + 2) }
-    ensures kept { kept_of pass.new ≡ kept_of pass.old }
+    ensures writes { PassWrites N.log.cap pass.old pass.new 2 (is_err result) }
 {
     let row = put(arena, pass, Kind::ConditionalRow, cells, cond)?;
     let place = put(arena, pass, Kind::Rows, list, row)?;
@@ -101,11 +88,7 @@ fn add_row<N: Site>(
     requires start { IsNoRow pass.old.words start }
     requires row { IsRowOf pass.old.words row.now }
     ensures rows { IfOk result (λ place. AreRowsAt pass.new.words place (rows_at pass.old.words list ++ plain_crow pass.old.words row.now ∷ [])) }
-    ensures longer { IsPrefix pass.old.words pass.new.words }
-    ensures full { OnErr result (length pass.new.words ≡ N.log.cap) }
-    ensures made { pass.new.made ≤ pass.old.made + row_words row.now }
-    ensures err { OnErr result (pass.new.made < pass.old.made + row_words row.now) }
-    ensures kept { kept_of pass.new ≡ kept_of pass.old }
+    ensures writes { PassWrites N.log.cap pass.old pass.new (row_words row.now) (is_err result) }
 {
     // As for the cells, the condition fits a field.
     let _ = pass.words();
@@ -114,15 +97,10 @@ fn add_row<N: Site>(
 }
 
 /// The place of a list of rows.
-#[tactic(auto, using(std::proofs::lemmas::List::Sums::sum_by_more_le))]
 fn row_list<N: Site>(arena: &Arena<N>, pass: &mut Pass<N>, rows: &[CRow]) -> Result<u32, Full>
     requires rows { All (IsRowOf pass.old.words) rows.now }
     ensures rows { IfOk result (λ place. AreRowsAt pass.new.words place (map (plain_crow pass.old.words) rows.now)) }
-    ensures longer { IsPrefix pass.old.words pass.new.words }
-    ensures full { OnErr result (length pass.new.words ≡ N.log.cap) }
-    ensures made { pass.new.made ≤ pass.old.made + (sum_by row_words rows.now + 2) }
-    ensures err { OnErr result (pass.new.made < pass.old.made + (sum_by row_words rows.now + 2)) }
-    ensures kept { kept_of pass.new ≡ kept_of pass.old }
+    ensures writes { PassWrites N.log.cap pass.old pass.new (sum_by row_words rows.now + 2) (is_err result) }
 {
     let (mut place, start) = no_rows(arena, pass)?;
     for row in rows {
@@ -147,11 +125,7 @@ pub(crate) fn insert_list<N: Site>(
     ensures stands { IfOk result (λ place. StandsAt pass.new.words place (IsChangeList (change_list_at pass.old.words list ++ Insert name.now (rows_at pass.old.words rows) ∷ []))) }
     ensures place { IfOk result (λ place. IsTrue (is_place_of pass.new.words class.ChangeList place)) }
     ensures small { IfOk result (λ place. place < 2 ^ 28) }
-    ensures longer { IsPrefix pass.old.words pass.new.words }
-    ensures full { OnErr result (length pass.new.words ≡ N.log.cap) }
-    ensures made { pass.new.made ≤ pass.old.made + (characters name.now + 3) }
-    ensures err { OnErr result (pass.new.made < pass.old.made + (characters name.now + 3)) }
-    ensures kept { kept_of pass.new ≡ kept_of pass.old }
+    ensures writes { PassWrites N.log.cap pass.old pass.new (characters name.now + 3) (is_err result) }
 {
     let table = text(arena, pass, name)?;
     add(arena, pass, list, Kind::Insert, table, rows)
@@ -175,11 +149,7 @@ pub fn insert<N: Site>(
     ensures stands { IfOk result (λ place. StandsAt pass.new.words place (IsChangeList (change_list_at pass.old.words list ++ Insert name.now (map (plain_crow pass.old.words) rows.now) ∷ []))) }
     ensures place { IfOk result (λ place. IsTrue (is_place_of pass.new.words class.ChangeList place)) }
     ensures small { IfOk result (λ place. place < 2 ^ 28) }
-    ensures longer { IsPrefix pass.old.words pass.new.words }
-    ensures full { OnErr result (length pass.new.words ≡ N.log.cap) }
-    ensures made { pass.new.made ≤ pass.old.made + (sum_by row_words rows.now + characters name.now + 5) }
-    ensures err { OnErr result (pass.new.made < pass.old.made + (sum_by row_words rows.now + characters name.now + 5)) }
-    ensures kept { kept_of pass.new ≡ kept_of pass.old }
+    ensures writes { PassWrites N.log.cap pass.old pass.new (sum_by row_words rows.now + characters name.now + 5) (is_err result) }
 {
     let list_of_rows = row_list(arena, pass, rows)?;
     insert_list(arena, pass, list, name, list_of_rows)

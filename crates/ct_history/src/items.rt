@@ -13,11 +13,11 @@ pub(crate) fn is_longer(kind: Kind) -> bool
 {
     matches!(
         kind,
-        Kind::RowCell | Kind::Rows | Kind::Names | Kind::Changes
+        Kind::RowCell | Kind::Rows | Kind::Names | Kind::Sets | Kind::Changes
     )
 }
 
-/// The places of the items of a list of cells, rows, names or changes, in order.
+/// The places of the items of a list of cells, rows, names, sets or changes, in order.
 pub(crate) fn items(alloc: Global, words: &[u64], place: u32) -> Result<Vec<u32>, Memory>
     requires formed { IsWellFormed words.now }
     requires list { IsTrue (is_place_of_list words.now place) }

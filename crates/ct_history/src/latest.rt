@@ -57,7 +57,8 @@ fn change_writes(words: &[u64], place: u32, read: &Read) -> bool
         (ChangeWord::Assert { .. }, Read::Worlds) => true,
         (ChangeWord::Create { name, .. }, Read::Table(table))
         | (ChangeWord::Insert { name, .. }, Read::Table(table))
-        | (ChangeWord::Delete { name, .. }, Read::Table(table)) => is_text(
+        | (ChangeWord::Delete { name, .. }, Read::Table(table))
+        | (ChangeWord::Update { name, .. }, Read::Table(table)) => is_text(
             words,
             name,
             table.as_str(),

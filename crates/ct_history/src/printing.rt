@@ -9,7 +9,7 @@ ghost use Rattle.ct_rewrite.specs.History.{IsCommitFormed, plain_history};
 ghost use Rattle.ct_history.specs.Printed.{change_with, changes_with, conds_of, rows_with};
 ghost use Rattle.ct_history.specs.Commits.{IsCommitAt, StandsBetween};
 ghost use Rattle.ct_history.specs.Rows.{AreTerms, IsRowOf};
-ghost use Rattle.ct_history.specs.Written.{IsWritten};
+ghost use Rattle.ct_history.specs.Written.{IsWritten, plain_set};
 
 use crate::written::{Written, changes_at};
 use ct_rewrite::{AnswerRow, Change, Commit, normal};
@@ -35,7 +35,9 @@ fn conditions(alloc: Global, changes: &[Written]) -> Result<Vec<u32>, Memory>
         match change {
             Written::Create { .. } => {}
             Written::Insert { rows, .. } => add_conditions(&mut roots, rows.as_slice())?,
-            Written::Delete { cond, .. } | Written::Assert { cond } => roots.push(*cond)?,
+            Written::Delete { cond, .. }
+            | Written::Update { cond, .. }
+            | Written::Assert { cond } => roots.push(*cond)?,
         }
     }
     Ok(roots)
@@ -52,6 +54,20 @@ fn terms(alloc: Global, words: &[u64], places: &[u32]) -> Result<List<Term>, Mem
         terms.push(term_at(alloc, words, *place)?)?;
     }
     Ok(List::from_vec(terms))
+}
+
+/// Sets with terms for their places.
+fn sets(alloc: Global, words: &[u64], sets: &[(u32, u32)]) -> Result<List<(u32, Term)>, Memory>
+    requires formed { IsWellFormed words.now }
+    requires sets { All (λ s. IsTrue (is_place_of words.now class.Term s.1)) sets.now }
+    ensures { IfOk result (λ out. out ≡ map (plain_set words.now) sets.now) }
+{
+    let mut out = Vec::with_capacity(alloc, sets.len())?;
+    for set in sets {
+        let term = term_at(alloc, words, set.1)?;
+        out.push((set.0, term))?;
+    }
+    Ok(List::from_vec(out))
 }
 
 /// Rows with positions for the places of their conditions.
@@ -100,6 +116,15 @@ fn change(
             name,
             cond: positions[0],
         }),
+        Written::Update {
+            name,
+            sets: list,
+            cond: _,
+        } => Ok(Change::Update {
+            name,
+            sets: sets(alloc, words, list.as_slice())?,
+            cond: positions[0],
+        }),
         Written::Assert { cond: _ } => Ok(Change::Assert { cond: positions[0] }),
     }
 }
@@ -111,7 +136,7 @@ fn count(change: &Written) -> usize
     match change {
         Written::Create { .. } => 0,
         Written::Insert { rows, .. } => rows.len(),
-        Written::Delete { .. } | Written::Assert { .. } => 1,
+        Written::Delete { .. } | Written::Update { .. } | Written::Assert { .. } => 1,
     }
 }
 

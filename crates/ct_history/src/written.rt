@@ -5,9 +5,9 @@ ghost use Rattle.ct_word.specs.declared.kinds.Class.TheVariants as class;
 ghost use Rattle.ct_word.specs.Change.{PlainChange};
 ghost use Rattle.ct_word.specs.Reading.{change_list_at, plain_crow};
 ghost use Rattle.ct_word.specs.WellFormed.{IsWellFormed, is_place_of};
-ghost use Rattle.ct_history.specs.Places.{change_at, cond_row_at, names_at, rows_at};
+ghost use Rattle.ct_history.specs.Places.{change_at, cond_row_at, names_at, rows_at, sets_at};
 ghost use Rattle.ct_history.specs.Rows.{IsRowOf};
-ghost use Rattle.ct_history.specs.Written.{IsWritten, plain_written};
+ghost use Rattle.ct_history.specs.Written.{IsWritten, plain_set, plain_written};
 
 use crate::items::{is_longer, items};
 use crate::words::{ChangeWord, change_word};
@@ -17,10 +17,27 @@ use std::alloc::Global;
 /// A change of the log, its rows and its condition by their places.
 #[derive(Drop)]
 pub enum Written {
-    Create { name: Text, columns: List<Text> },
-    Insert { name: Text, rows: List<CRow> },
-    Delete { name: Text, cond: u32 },
-    Assert { cond: u32 },
+    Create {
+        name: Text,
+        columns: List<Text>,
+    },
+    Insert {
+        name: Text,
+        rows: List<CRow>,
+    },
+    Delete {
+        name: Text,
+        cond: u32,
+    },
+    /// The sets are positions of columns from 0, each with the place of the term that its cells get.
+    Update {
+        name: Text,
+        sets: List<(u32, u32)>,
+        cond: u32,
+    },
+    Assert {
+        cond: u32,
+    },
 }
 
 /// The names at a place.
@@ -75,6 +92,22 @@ fn rows(alloc: Global, words: &[u64], place: u32) -> Result<List<CRow>, Memory>
     Ok(List::from_vec(rows))
 }
 
+/// The sets at a place, each a position and the place of a term.
+fn sets(alloc: Global, words: &[u64], place: u32) -> Result<List<(u32, u32)>, Memory>
+    requires formed { IsWellFormed words.now }
+    requires place { IsTrue (is_place_of words.now class.SetList place) }
+    ensures same { IfOk result (λ sets. map (plain_set words.now) sets ≡ sets_at words.now place) }
+    ensures placed { IfOk result (λ sets. All (λ s. IsTrue (is_place_of words.now class.Term s.1)) sets) }
+{
+    let places = items(alloc, words, place)?;
+    let mut sets = Vec::with_capacity(alloc, places.len())?;
+    for item in places.as_slice() {
+        let word = word_at(words, *item);
+        sets.push((word.left, word.right))?;
+    }
+    Ok(List::from_vec(sets))
+}
+
 /// The change at a place.
 fn written_change(alloc: Global, words: &[u64], place: u32) -> Result<Written, Memory>
     requires formed { IsWellFormed words.now }
@@ -93,6 +126,15 @@ fn written_change(alloc: Global, words: &[u64], place: u32) -> Result<Written, M
         }),
         ChangeWord::Delete { name, cond } => Ok(Written::Delete {
             name: text_at(alloc, words, name)?,
+            cond,
+        }),
+        ChangeWord::Update {
+            name,
+            sets: list,
+            cond,
+        } => Ok(Written::Update {
+            name: text_at(alloc, words, name)?,
+            sets: sets(alloc, words, list)?,
             cond,
         }),
         ChangeWord::Assert { cond } => Ok(Written::Assert { cond }),

@@ -2,12 +2,12 @@
 use Rattle.std.proofs.Common.{◌≡◌, ℕ, ◌+◌, ◌≤◌, Bool, true, false, List, [], ◌∷◌, ◌++◌, length, map, refl, ap, sym, subst, ◌∙◌, arith}
 use Rattle.std.{specs.Prelude.if◌then◌else◌, specs.List.{AllByRecursion, IsDistinct, list_any}, proofs.lemmas.Bool.or_parts, proofs.lemmas.Nat.mul-le}
 use Rattle.std.{proofs.lemmas.Grind.flat_map-append, proofs.lemmas.List.Sums.sum_by-le-sum_by}
-use Rattle.ct_word.{specs.declared.values.Term.Term, specs.Change.{PlainChange, Insert, Delete, PlainCommit}, specs.Sublist.{IsSublist, ended, left_out, taken}}
+use Rattle.ct_word.{specs.declared.values.Term.Term, specs.Change.{PlainChange, Insert, Delete, Update, PlainCommit}, specs.Sublist.{IsSublist, ended, left_out, taken}}
 use Rattle.ct_word.specs.Value.{same_cells, same_text}
 use Rattle.ct_query.{specs.Bounds.ops, specs.Patterns.{Patterns, no_patterns, pattern_change, pattern_changes, patterns, distinct_count, count}}
 use Rattle.ct_query.{specs.Worlds.changes_of, proofs.Laws.{pattern_changes-append, patterns_commit}}
-use Rattle.ct_query.proofs.Sublists.{all_of, sublist-append, sublist_of_sublist}
-use Rattle.ct_table.{proofs.Counted.rows_counted, proofs.Following.first_part}
+use Rattle.ct_query.{specs.Updates.{Sets, with_updated}, proofs.Sublists.{all_of, sublist-append, sublist_of_sublist, sublist_updated}}
+use Rattle.ct_table.{proofs.Counted.rows_counted, proofs.Following.change_kept}
 use Rattle.ct_keeper.specs.Bounds.{applied_words, commit_words}
 use mathlib.Core.List.{IsPrefix}
 
@@ -45,17 +45,14 @@ pub distinct_grows : (ls ms : List (List Term)) → IsSublist ls ms → distinct
 distinct_grows ls ms p = let o = once ls in subst (λ n. n ≤ distinct_count ms) o.counts (rows_counted o.part ms o.distinct (sublist_of_sublist o.part ls ms o.is_part p))
 
 -- further cell lists at one name
-lines_kept : (b : Bool) (ls more : List (List Term)) → IsSublist ls (if b then ls ++ more else ls)
-lines_kept true ls more = first_part ls more
-lines_kept false ls more = all_of ls
-
 lines_grow : (b : Bool) (ls ms more : List (List Term)) → IsSublist ls ms → IsSublist (if b then ls ++ more else ls) (if b then ms ++ more else ms)
 lines_grow true ls ms more p = sublist-append ls ms more more p (all_of more)
 lines_grow false ls ms more p = p
 
-change_kept : (p : Patterns) (x : PlainChange) (n : List ℕ) → IsSublist (p n) (pattern_change p x n)
-change_kept p (Insert name rs) n = lines_kept (same_text name n) (p n) (map (λ r. r.cells) rs)
-change_kept p _ n = all_of (p n)
+-- and each with its sets made on it
+sets_grow : (b : Bool) (ls ms : List (List Term)) (sets : Sets) → IsSublist ls ms → IsSublist (if b then with_updated sets ls else ls) (if b then with_updated sets ms else ms)
+sets_grow true ls ms sets p = sublist_updated sets ls ms p
+sets_grow false ls ms sets p = p
 
 changes_kept : (p : Patterns) (xs : List PlainChange) (n : List ℕ) → IsSublist (p n) (pattern_changes p xs n)
 changes_kept p [] n = all_of (p n)
@@ -63,6 +60,7 @@ changes_kept p (x ∷ xs) n = sublist_of_sublist (p n) (pattern_change p x n) (p
 
 change_grows : (p q : Patterns) → ((n : List ℕ) → IsSublist (p n) (q n)) → (x : PlainChange) (n : List ℕ) → IsSublist (pattern_change p x n) (pattern_change q x n)
 change_grows p q each (Insert name rs) n = lines_grow (same_text name n) (p n) (q n) (map (λ r. r.cells) rs) (each n)
+change_grows p q each (Update name sets c) n = sets_grow (same_text name n) (p n) (q n) sets (each n)
 change_grows p q each _ n = each n
 
 changes_grow : (p q : Patterns) → ((n : List ℕ) → IsSublist (p n) (q n)) → (xs : List PlainChange) (n : List ℕ) → IsSublist (pattern_changes p xs n) (pattern_changes q xs n)
@@ -88,6 +86,9 @@ module _ (h g : List PlainCommit) (longer : IsPrefix h g) (c : PlainCommit) wher
   applied_grows : (x : PlainChange) → applied_words (count (h ++ c ∷ []) []) x ≤ applied_words (count (g ++ c ∷ []) []) x
   applied_grows (Delete name d) =
       mul-le (count (h ++ c ∷ []) [] name) (ops d + 2) (count (g ++ c ∷ []) [] name) (ops d + 2)
+      (distinct_grows (patterns (h ++ c ∷ []) [] name) (patterns (g ++ c ∷ []) [] name) (patterns_grow name)) (omega arith)
+  applied_grows (Update name sets d) =
+      mul-le (count (h ++ c ∷ []) [] name) (ops d + 5) (count (g ++ c ∷ []) [] name) (ops d + 5)
       (distinct_grows (patterns (h ++ c ∷ []) [] name) (patterns (g ++ c ∷ []) [] name) (patterns_grow name)) (omega arith)
   applied_grows _ = omega arith
 

@@ -5,15 +5,15 @@ use Rattle.ct_word.{specs.declared.values.Value.Value, specs.declared.values.Ter
 use Rattle.ct_word.{specs.Condition.{Condition, holds_at}, specs.Sublist.IsSublist, specs.Change.{PlainRow, PlainChange, Insert, PlainCommit}}
 use Rattle.ct_word.{specs.Reading.{condition_at, plain_crow}, specs.Stands.{TermBelow, HasNoColumn}, specs.WellFormed.IsWellFormed, specs.Writable.is_writable}
 use Rattle.ct_query.{specs.Plain.PlainAction, specs.Database.{Database, SameSet}, specs.Rows.rows, specs.Step.{inserted, shown_rows, step_change, step_action}}
-use Rattle.ct_query.{specs.Agrees.{SameTruthAlone, AgreesWith}, specs.Worlds.{world, changes_of}, specs.Patterns.{pattern, patterns}, proofs.Sublists.all_of}
+use Rattle.ct_query.{specs.Agrees.{SameTruthAlone, AgreesWith}, specs.Updates.{updated, with_updated}, specs.Worlds.{world, changes_of}, specs.Patterns.{pattern, patterns}, proofs.Sublists.all_of}
 use Rattle.ct_query.{specs.Schema.{created_by_change, created_by_action}, proofs.Laws.patterns_action, proofs.Sets.same_set_itself}
 use Rattle.ct_condition.proofs.Reached.{formed_before}
 use Rattle.ct_history.{specs.declared.written.Written.Written, specs.Written.{IsWritten, plain_written}}
 use Rattle.ct_table.{specs.declared.pending.Growth.Growth, specs.Following.Follows, specs.Denotes.{TableView, Denotes, IsTermFor, find_table, with_table}}
-use Rattle.ct_table.{specs.Snapshot.{IsGlobal, IsKeptValue, IsKeptWorld}, proofs.Following.{change_follows, action_follows, lines_here}}
-use Rattle.ct_table.{proofs.Denoting.{with_rows, found_name}, proofs.Acting.{created_by, asserted_by, rows_where, rows_follow}}
-use Rattle.ct_table.proofs.Changing.{cells_listed, inserted_after, deleted_after, created_denotes, inserted_denotes, deleted_denotes, asserted_denotes}
-use Rattle.ct_table.proofs.Snapshots.{global_grows, global_stays, global_asserted, global_denotes, kept_grows, kept_stays}
+use Rattle.ct_table.{specs.Snapshot.{IsGlobal, IsKeptValue, IsKeptWorld}, proofs.Following.{change_follows, action_follows, lines_here, sets_here}}
+use Rattle.ct_table.{proofs.Denoting.{with_rows, found_name}, proofs.Acting.{asserts_by, kept_by, created_by, asserted_by, rows_where, rows_follow}}
+use Rattle.ct_table.proofs.Changing.{cells_listed, update_named, inserted_after, deleted_after, updated_after, created_denotes, inserted_denotes, deleted_denotes, updated_denotes, asserted_denotes}
+use Rattle.ct_table.proofs.Snapshots.{global_grows, global_stays, global_narrowed_by, global_denotes, kept_grows, kept_stays}
 use Rattle.ct_operators.{specs.Tables.{cells_of, value_of_rows}, specs.Terms.{TermOfRows, IsNoColumn}, proofs.Reaching.{none_of_rows, plain_rows}}
 use Rattle.ct_operators.proofs.Naming.{condition_named, rows_named}
 use Rattle.ct_keeper.{specs.declared.effects.Effect.Effect, specs.Effects.{DoesChange, Gets, AreInserted, tables_after, global_after, rows_of_table}}
@@ -65,6 +65,10 @@ module _ (old new : List ℕ) (longer : IsPrefix old new) (formed : IsWellFormed
         let t = does.table in
         subst (Denotes new g []) (with_found db _ name t does.rows does.is_found does.after_is)
         (deleted_denotes old new longer formed h g db d name cond is can placed t does.is_found does.rows does.true_of.are does.true_of.tuples does.true_of.part does.true_of.terms)
+    history_tables (written.Update name sets cond) (effect.Grows growth) placed does is d can =
+        let t = does.table in
+        subst (Denotes new g []) (with_found db _ name t does.rows does.is_found does.after_is)
+        (updated_denotes old new longer formed h g db d name sets cond is can placed.0 placed.1 t does.is_found does.rows does.true_of.are does.true_of.tuples does.true_of.part does.true_of.terms)
     history_tables (written.Assert cond) (effect.Narrows place) placed does is d can = asserted_denotes old new longer formed h g db d (condition_at old cond) is can
     history_tables _ _ placed does is d can = absurd does
 
@@ -143,8 +147,19 @@ module _ (old new : List ℕ) (longer : IsPrefix old new) (formed : IsWellFormed
         c (action_follows h actions a) cond agrees.1
         (λ u b none. subst (λ n. IsTermFor h (actions ++ a ∷ []) (read.Table n) u) agrees.0 (terms u none (condition_named old formed_old cond u placed b)))
         does.true_of.tuples does.true_of.part does.true_of.terms)
-    action_tables (written.Assert cond) (effect.Narrows place) (plain.Assert c) placed does agrees terms d = asserted_by old new longer formed h actions db d c
-    action_tables (written.Assert cond) (effect.Narrows place) _ placed does agrees terms d = absurd agrees
+    action_tables (written.Update name sets cond) (effect.Grows growth) (plain.Update name' sets' c) placed does agrees terms d =
+        let a = plain.Update name' sets' c in
+        let t = does.table in
+        let found : find_table db name' ≡ Some t = ap (find_table db) (sym agrees.0) ∙ does.is_found in
+        subst (Denotes new h (actions ++ a ∷ [])) (with_found db (tables_after db (effect.Grows growth)) name' t does.rows found does.after_is)
+        (updated_after old new longer formed h actions h (actions ++ a ∷ []) db d d.writable name' t found does.rows does.true_of.are
+        sets' c (action_follows h actions a) ((λ i. patterns_action h actions a i name') ∙ sets_here (patterns h actions) name' sets') cond agrees.2
+        (cond ∷ map (λ s. s.1) sets)
+        (λ u b none. subst (λ n. IsTermFor h (actions ++ a ∷ []) (read.Table n) u) agrees.0 (terms u none (update_named old formed_old name sets cond placed.0 placed.1 u b)))
+        (λ v. subst (λ ss. SameSet (value_of_rows new v does.rows) (updated v (condition_at old cond) ss (value_of_rows old v t.rows))) agrees.1 (does.true_of.tuples v))
+        (subst (λ ss. IsSublist (cells_of new does.rows) (with_updated ss (cells_of old t.rows))) agrees.1 does.true_of.part)
+        does.true_of.terms)
+    action_tables (written.Assert cond) (effect.Narrows place) a placed does agrees terms d = asserted_by old new longer formed h actions db d a (asserts_by h actions a (condition_at old cond) agrees)
     action_tables _ (effect.Narrows place) a placed does agrees terms d = absurd does
     action_tables (written.Assert cond) (effect.Grows growth) a placed does agrees terms d = absurd does
     action_tables _ _ _ placed does agrees terms d = absurd agrees
@@ -164,17 +179,18 @@ module _ (old new : List ℕ) (longer : IsPrefix old new) (formed : IsWellFormed
     -- an action fails nowhere whose change is a growth
     action_total : (w : Written) (growth : Growth) (a : PlainAction) → DoesChange old new db global w (effect.Grows growth) → AgreesWith h actions a (plain_written old w)
         → (v : World) (d : Database) → IsSome (step_action v d a)
-    action_total (written.Assert cond) growth (plain.Assert c) does agrees v d = absurd does
+    action_total (written.Assert cond) growth a does agrees v d = absurd does
     action_total _ growth (plain.Assert c) does agrees v d = absurd agrees
+    action_total _ growth (plain.AssertQuery wanted q) does agrees v d = absurd agrees
+    action_total _ growth (plain.AssertKey name columns) does agrees v d = absurd agrees
     action_total w growth _ does agrees v d = refl
 
     asserted_global : (w : Written) (place : ℕ) (a : PlainAction) → IsWritten old w → DoesChange old new db global w (effect.Narrows place) → AgreesWith h actions a (plain_written old w)
         → HasTermsFor h actions a (plain_written old w) → IsGlobal old h actions global → IsGlobal new h (actions ++ a ∷ []) place
-    asserted_global (written.Assert cond) place (plain.Assert c) placed does agrees terms was =
-        global_asserted h actions h (actions ++ plain.Assert c ∷ []) c (action_follows h actions (plain.Assert c)) old new global cond place was agrees does.plain
+    asserted_global (written.Assert cond) place a placed does agrees terms was =
+        global_narrowed_by old new h actions a global cond place was (kept_by h actions a (condition_at old cond) agrees) does.plain
         (λ u b. terms u (no_column old cond u does.plain b) (condition_named old formed_old cond u placed b))
         does.truth does.terms
-    asserted_global (written.Assert cond) place _ placed does agrees terms was = absurd agrees
     asserted_global _ place a placed does agrees terms was = absurd does
 
 -- a world at which the global condition holds is admitted

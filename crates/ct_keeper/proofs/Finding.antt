@@ -1,13 +1,14 @@
 -- The table that a change names, and what the change's fitting says of its rows and its condition.
 use Rattle.std.proofs.Common.{◌≡◌, ℕ, ◌<◌, Bool, true, false, List, [], ◌∷◌, ◌++◌, length, map, refl, ap, sym, subst, ◌∙◌, arith, inl, inr}
 use Rattle.std.{specs.Prelude.{All, Option, Some, None, IsSome, IsTrue, option_map, if◌then◌else◌}, specs.List.Contains, proofs.lemmas.Bool.false≢true}
-use Rattle.std.{proofs.lemmas.List.length-map, proofs.lemmas.List.Elements.{All-nil, All-cons, All-head, All-tail, recursion_from_All, Contains-append_cases}}
+use Rattle.std.{proofs.lemmas.List.length-map, proofs.lemmas.List.Elements.{All-nil, All-cons, All-head, All-tail, All-contains, recursion_from_All, Contains-append_cases}}
 use Rattle.ct_word.{specs.declared.values.CRow.CRow, specs.declared.values.Term.Term, specs.Value.same_text, specs.Reading.{condition_at, term_at, plain_crow}}
-use Rattle.ct_word.{specs.Condition.{Condition, Conditions, True, False, Same, Not, And, Or, none, also}, specs.Stands.{TermBelow, HasNoColumn}}
+use Rattle.ct_word.{specs.Condition.{Condition, Conditions, True, False, Same, Not, And, Or, none, also}, specs.Stands.{TermBelow, HasNoColumn}, proofs.Items.{mapped_item, unmapped_item}}
 use Rattle.ct_word.specs.WellFormed.{IsWellFormed, is_place_of}
-use Rattle.ct_query.specs.Fits.{columns_in, count_of, width, IsColumnBelow, AreColumnsBelow, AreAllColumnsBelow, FitsRow}
+use Rattle.ct_query.specs.Fits.{columns_in, count_of, width, IsColumnBelow, AreColumnsBelow, AreAllColumnsBelow, AreSets, FitsRow}
 use Rattle.ct_query.specs.Terms.{condition_terms, all_terms}
-use Rattle.ct_history.specs.Rows.{IsRowOf}
+use Rattle.ct_condition.specs.Terms.{BelowSome}
+use Rattle.ct_history.{specs.Rows.IsRowOf, specs.Written.plain_set}
 use Rattle.ct_table.{specs.Denotes.{TableView, heading_of, find_table, with_table}, specs.Pending.put_into}
 use Rattle.ct_table.{specs.Growing.rows_after, proofs.Denoting.found_all}
 use Rattle.ct_operators.{specs.Tables.{IsRow, AreRows}, proofs.Naming.condition_named, proofs.Reaching.{first_or_behind, term_alone}}
@@ -120,6 +121,26 @@ module _ (words : List ℕ) (formed : IsWellFormed words) where
       All-cons (IsRow words n) r rs
       (row_fits n r (All-head (IsRowOf words) r rs all) (All-head (FitsRow n) (plain_crow words r) (map (plain_crow words) rs) fits))
       (rows_fit n rs (All-tail (IsRowOf words) r rs all) (All-tail (FitsRow n) (plain_crow words r) (map (plain_crow words) rs) fits))
+
+  -- sets of places that are made on rows of so many cells have their positions among these
+  pub positions_below : (n : ℕ) (sets : List (ℕ × ℕ)) → All (λ (s : ℕ × Term). s.0 < n) (map (plain_set words) sets) → All (λ (s : ℕ × ℕ). s.0 < n) sets
+  positions_below n [] all = All-nil (λ (s : ℕ × ℕ). s.0 < n)
+  positions_below n (s ∷ sets) all =
+      All-cons (λ (u : ℕ × ℕ). u.0 < n) s sets (All-head (λ (u : ℕ × Term). u.0 < n) (plain_set words s) (map (plain_set words) sets) all)
+      (positions_below n sets (All-tail (λ (u : ℕ × Term). u.0 < n) (plain_set words s) (map (plain_set words) sets) all))
+
+  -- a column that an update of places names is below the row's end
+  pub column_named : (n : ℕ) (sets : List (ℕ × ℕ)) (cond : ℕ) → All (λ (s : ℕ × ℕ). IsTrue (is_place_of words class.Term s.1)) sets → IsTrue (is_place_of words class.Cond cond)
+      → AreSets n (map (plain_set words) sets) → AreColumnsBelow n (condition_at words cond) → (k : ℕ) → BelowSome words (cond ∷ map (λ s. s.1) sets) (term.Column k) → k < n
+  column_named n sets cond terms place are below k b = elim (first_or_behind cond (map (λ s. s.1) sets) b.place b.among) [
+    | inl e ↦ column_below n cond place below k (subst (λ p. TermBelow words p (term.Column k)) (sym e) b.below)
+    | inr i ↦
+        let set = unmapped_item (λ (s : ℕ × ℕ). s.1) sets b.place i in
+        let placed = All-contains (λ (s : ℕ × ℕ). IsTrue (is_place_of words class.Term s.1)) sets set.0 terms set.1 in
+        let is : term.Column k ≡ term_at words set.0.1 = term_alone words formed set.0.1 (term.Column k) placed (subst (λ p. TermBelow words p (term.Column k)) (sym set.2) b.below) in
+        subst (IsColumnBelow n) (sym is)
+        (All-contains (λ (s : ℕ × Term). IsColumnBelow n s.1) (map (plain_set words) sets) (plain_set words set.0) are.columns (mapped_item (plain_set words) sets set.0 set.1))
+  ]
 
 -- a table that comes last is what a creation does
 pub does_create : (old new : List ℕ) (db : List TableView) (global : ℕ) (name : List ℕ) (columns : List (List ℕ)) (made : Effect)

@@ -1,8 +1,8 @@
--- What an effect makes, at most, from the counts of the rows that were ever inserted.
+-- What an effect makes, at most, from the counts of the rows that were ever made.
 use Rattle.std.{proofs.Common.{◌≡◌, ◌≢◌, ℕ, ◌+◌, ◌≤◌, List, [], ◌∷◌, ◌++◌, map, refl, ap, sym, subst, ◌∙◌, arith}, proofs.lemmas.Nat.mul-le}
 use Rattle.std.{specs.Prelude.{Option, Some, None, sum_by}, proofs.lemmas.List.{append-nil, append_assoc, length-map}}
 use Rattle.std.proofs.lemmas.List.Elements.{recursion_from_All}
-use Rattle.ct_word.{specs.declared.values.CRow.CRow, specs.declared.values.Term.Term, specs.Sublist.IsSublist, specs.Change.{PlainChange, Delete, PlainCommit}}
+use Rattle.ct_word.{specs.declared.values.CRow.CRow, specs.declared.values.Term.Term, specs.Sublist.IsSublist, specs.Change.{PlainChange, Delete, Update, PlainCommit}}
 use Rattle.ct_word.specs.Reading.{commits_of, change_list_at, term_at}
 use Rattle.ct_query.{specs.Bounds.ops, specs.Patterns.{no_patterns, pattern_changes, patterns, distinct_count, count}, proofs.Laws.changes_of-snoc}
 use Rattle.ct_query.proofs.Sublists.{all_of, sublist_of_sublist}
@@ -40,6 +40,7 @@ module _ (words : List ℕ) (g k : List PlainCommit) (db : List TableView) (d : 
   -- so an effect makes no more words than are told from the counts
   pub effect_within : (x : PlainChange) → effect_words db x ≤ applied_words (count k []) x
   effect_within (Delete name c) = mul-le (rows_found (find_table db name)) (ops c + 2) (count k [] name) (ops c + 2) (found_within name) (omega arith)
+  effect_within (Update name sets c) = mul-le (rows_found (find_table db name)) (ops c + 5) (count k [] name) (ops c + 5) (found_within name) (omega arith)
   effect_within _ = omega arith
 
 -- the counts with a commit are those with its changes

@@ -2,7 +2,7 @@
 use Rattle.std.specs.Prelude.{List, [], ◌∷◌, ◌++◌}
 use Rattle.std.specs.List.{Contains}
 use Rattle.ct_word.specs.declared.values.Term.{Term}
-use Rattle.ct_word.specs.Change.{PlainChange, Create, Insert, Delete, Assert, PlainCommit}
+use Rattle.ct_word.specs.Change.{PlainChange, Create, Insert, Delete, Update, Assert, PlainCommit}
 use Rattle.ct_query.specs.Plain.{PlainAction}
 use Rattle.ct_query.specs.declared.action.Read.{Read}
 use Rattle.ct_query.specs.declared.action.Read.TheVariants as read
@@ -15,6 +15,7 @@ abbrev pub written_by : PlainChange → Read
 written_by (Create name columns) = read.Table name
 written_by (Insert name rows) = read.Table name
 written_by (Delete name c) = read.Table name
+written_by (Update name sets c) = read.Table name
 written_by (Assert c) = read.Worlds
 
 -- the terms of the change of an action, but for columns, come with the action or from the changes of what it read

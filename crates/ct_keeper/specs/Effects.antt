@@ -1,17 +1,19 @@
 -- What one change does to tables and to the global condition.
-use Rattle.std.specs.Prelude.{◌≡◌, ◌⊎◌, ℕ, ◌+◌, ◌*◌, not, List, [], ◌∷◌, ◌++◌, length, filter, Option, Some, None, All}
+use Rattle.std.specs.Prelude.{◌≡◌, ◌⊎◌, ℕ, ◌+◌, ◌*◌, not, List, [], ◌∷◌, ◌++◌, length, map, filter, Option, Some, None, All}
 use Rattle.ct_word.specs.declared.values.CRow.{CRow}
 use Rattle.ct_word.specs.Value.{World}
 use Rattle.ct_word.specs.Condition.{holds}
 use Rattle.ct_word.specs.Sublist.{IsSublist}
-use Rattle.ct_word.specs.Change.{PlainChange, Create, Insert, Delete, Assert}
+use Rattle.ct_word.specs.Change.{PlainChange, Create, Insert, Delete, Update, Assert}
 use Rattle.ct_word.specs.Reading.{condition_at}
 use Rattle.ct_word.specs.Stands.{TermBelow, HasNoColumn}
 use Rattle.ct_query.specs.Bounds.{ops}
 use Rattle.ct_query.specs.Database.{SameSet}
+use Rattle.ct_query.specs.Updates.{updated, with_updated}
 use Rattle.ct_condition.specs.Truth.{HasTruth, and_at}
-use Rattle.ct_condition.specs.Terms.{TermsFrom, BelowEither}
+use Rattle.ct_condition.specs.Terms.{TermsFrom, BelowEither, BelowSome}
 use Rattle.ct_history.specs.declared.written.Written.{Written}
+use Rattle.ct_history.specs.Written.{plain_set}
 use Rattle.ct_history.specs.declared.written.Written.TheVariants as written
 use Rattle.ct_table.specs.Denotes.{TableView, find_table, with_table}
 use Rattle.ct_table.specs.Pending.{FitsGrowth, after}
@@ -58,6 +60,13 @@ pub record AreSpared (old new : List ℕ) (width cond : ℕ) (rows after : List 
   pub part : IsSublist (cells_of new after) (cells_of old rows)
   pub terms : RowsFrom new after (λ t. TermOfRows old rows t ⊎ (TermBelow old cond t × IsNoColumn t))
 
+-- rows with sets made on them where a condition holds for them
+pub record AreUpdated (old new : List ℕ) (width : ℕ) (sets : List (ℕ × ℕ)) (cond : ℕ) (rows after : List CRow) : Type 0 where
+  pub are : AreRows new width after
+  pub tuples : (v : World) → SameSet (value_of_rows new v after) (updated v (condition_at old cond) (map (plain_set old) sets) (value_of_rows old v rows))
+  pub part : IsSublist (cells_of new after) (with_updated (map (plain_set old) sets) (cells_of old rows))
+  pub terms : RowsFrom new after (λ t. TermOfRows old rows t ⊎ (BelowSome old (cond ∷ map (λ s. s.1) sets) t × IsNoColumn t))
+
 -- a place holds the And of the global condition and a further one, in which no column stands
 pub record IsNarrowed (old new : List ℕ) (global cond place : ℕ) : Type 0 where
   pub truth : HasTruth new place (and_at old global cond)
@@ -80,6 +89,8 @@ DoesChange old new db global (written.Insert name more) (effect.Grows growth) =
     Gets db (after db growth) (find_table db name) (λ t rows. AreInserted old new (length t.columns) t.rows more rows)
 DoesChange old new db global (written.Delete name cond) (effect.Grows growth) =
     Gets db (after db growth) (find_table db name) (λ t rows. AreSpared old new (length t.columns) cond t.rows rows)
+DoesChange old new db global (written.Update name sets cond) (effect.Grows growth) =
+    Gets db (after db growth) (find_table db name) (λ t rows. AreUpdated old new (length t.columns) sets cond t.rows rows)
 DoesChange old new db global (written.Assert cond) (effect.Narrows place) = IsNarrowed old new global cond place
 DoesChange old new db global _ _ = ⊥
 
@@ -93,4 +104,5 @@ abbrev pub effect_words : List TableView → PlainChange → ℕ
 effect_words db (Create name columns) = 0
 effect_words db (Insert name more) = length more
 effect_words db (Delete name c) = rows_found (find_table db name) * (ops c + 2)
+effect_words db (Update name sets c) = rows_found (find_table db name) * (ops c + 5)
 effect_words db (Assert c) = 1

@@ -30,4 +30,5 @@ abbrev pub names_in : Written → List (List ℕ)
 names_in (written.Create name columns) = name ∷ []
 names_in (written.Insert name rows) = name ∷ []
 names_in (written.Delete name cond) = name ∷ []
+names_in (written.Update name sets cond) = name ∷ []
 names_in (written.Assert cond) = []

@@ -2,14 +2,14 @@
 
 ghost use Rattle.std.specs.Prelude.{◌≡◌, ◌+◌, ◌*◌, ℕ, List, [], false, length, map, All, IfOk, IsTrue};
 ghost use Rattle.ct_word.specs.declared.kinds.Class.TheVariants as class;
-ghost use Rattle.ct_word.specs.Change.{Insert, Delete};
+ghost use Rattle.ct_word.specs.Change.{Insert, Delete, Update};
 ghost use Rattle.ct_word.specs.Reading.{condition_at, plain_crow};
 ghost use Rattle.ct_word.specs.WellFormed.{is_place_of};
 ghost use Rattle.ct_query.specs.Bounds.{ops};
 ghost use Rattle.ct_query.specs.Fits.{AreColumnsBelow, FitsChange};
 ghost use Rattle.ct_condition.specs.Writes.{Writes};
 ghost use Rattle.ct_history.specs.Rows.{IsRowOf};
-ghost use Rattle.ct_history.specs.Written.{IsWritten, plain_written};
+ghost use Rattle.ct_history.specs.Written.{IsWritten, plain_set, plain_written};
 ghost use Rattle.ct_history.specs.declared.written.Written.TheVariants as written;
 ghost use Rattle.ct_table.specs.Denotes.{TableView, find_table, heading_of};
 ghost use Rattle.ct_operators.specs.Refusals.{is_full};
@@ -22,6 +22,7 @@ use ct_arena::{Arena, Site};
 use ct_condition::{Interner, and};
 use ct_history::Written;
 use ct_table::{CRow, CTable, Db, Growth, TableError, delete, insertions};
+use ct_update::update;
 use ct_word::{List, Text};
 use std::alloc::Global;
 
@@ -109,6 +110,39 @@ fn deleted<N: Site, I: Interner<N>>(
     Ok(Effect::Grows(Growth::Table { name, table }))
 }
 
+/// What an update does: the table of this name is put with the sets made on its rows where a condition holds for them.
+///
+/// # Errors
+/// `Full` where the log has no room for a condition, `Memory` where there is none for the rows.
+fn updated<N: Site, I: Interner<N>>(
+    alloc: Global,
+    arena: &Arena<N>,
+    pass: &mut I,
+    db: &Db,
+    name: &Text,
+    sets: &[(u32, u32)],
+    cond: u32,
+) -> Result<Effect, TableError>
+    requires tables { All (λ t. AreRows (I.list pass.old) (length t.columns) t.rows) db.now }
+    requires sets { All (λ s. IsTrue (is_place_of (I.list pass.old) class.Term s.1)) sets.now }
+    requires written { IsTrue (is_place_of (I.list pass.old) class.Cond cond) }
+    requires fitting { FitsChange (map heading_of db.now) (Update name.now (map (plain_set (I.list pass.old)) sets.now) (condition_at (I.list pass.old) cond)) }
+    ensures fits { IfOk result (FitsEffect db.now) }
+    ensures does { (global : ℕ) → IfOk result (DoesChange (I.list pass.old) (I.list pass.new) db.now global (written.Update name.now sets.now cond)) }
+    ensures writes { Writes I.list I.made I.kept I.lent N.log.cap pass.old pass.new (rows_found (find_table db.now name.now) * (ops (condition_at (I.list pass.old) cond) + 5)) (is_full result) }
+{
+    let _ = pass.words();
+    let Some(table) = db.get(name) else {
+        unreachable!()
+    };
+    let name = name.clone()?;
+    let made = update(alloc, arena, pass, table, sets, cond);
+    // The words are well formed and within the capacity, also where no table was made.
+    let _ = pass.words();
+    let table = made?;
+    Ok(Effect::Grows(Growth::Table { name, table }))
+}
+
 /// The place of the conjunction of the global condition and a further one.
 ///
 /// # Errors
@@ -155,6 +189,15 @@ pub fn effect_of<N: Site, I: Interner<N>>(
         Written::Create { name, columns } => created(alloc, name, columns),
         Written::Insert { name, rows } => inserted(alloc, arena, pass, db, name, rows.as_slice()),
         Written::Delete { name, cond } => deleted(alloc, arena, pass, db, name, *cond),
+        Written::Update { name, sets, cond } => updated(
+            alloc,
+            arena,
+            pass,
+            db,
+            name,
+            sets.as_slice(),
+            *cond,
+        ),
         Written::Assert { cond } => Ok(Effect::Narrows(narrowed(arena, pass, global, *cond)?)),
     }
 }

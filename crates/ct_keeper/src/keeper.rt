@@ -160,7 +160,7 @@ impl<N: Site> Keeper<N> {
     /// commit after its base has changed what it read; else `Committed`, at the number of the new commit.
     ///
     /// The words that are made are counted to the session: at most those of the commit and of applying its changes to
-    /// tables with as many rows as were ever inserted, and fewer where the log was full.
+    /// tables with as many rows as were ever made, and fewer where the log was full.
     ///
     /// # Errors
     /// `Full` where the log has no room for a condition of the new tables or for the commit word, `Memory`. Where the

@@ -94,6 +94,7 @@ fn written_name(change: &Written) -> Option<&Text>
         Written::Create { name, .. } => Some(name),
         Written::Insert { name, .. } => Some(name),
         Written::Delete { name, .. } => Some(name),
+        Written::Update { name, .. } => Some(name),
         Written::Assert { .. } => None,
     }
 }

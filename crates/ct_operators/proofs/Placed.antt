@@ -1,6 +1,6 @@
 -- The cell that stands for a term.
 use Rattle.std.proofs.Common.{◌≡◌, ℕ, ◌<◌, ◌≤◌, true, List, [], Option, Some, None, map, length, get_or, refl, ap, sym, subst, ◌∙◌, arith, inl, inr}
-use Rattle.std.{specs.Prelude.{IsTrue, All, slice_get}, specs.List.Contains, proofs.lemmas.Bool.false≢true, proofs.lemmas.Option.slice_get_past}
+use Rattle.std.{specs.Prelude.{IsTrue, All, slice_get, unwrap_or}, specs.List.Contains, proofs.lemmas.Bool.false≢true, proofs.lemmas.Option.{slice_get_past, slice_get-get_or}}
 use Rattle.std.{proofs.lemmas.List.{length-map, get_or_past}, proofs.lemmas.List.Elements.{All-get_or, Contains-get_or}}
 use Rattle.ct_word.{specs.declared.kinds.Kind.Kind, specs.declared.values.Value.Value, specs.declared.values.Term.Term, specs.Word.{kind_of, left_of, right_of}}
 use Rattle.ct_word.{specs.Value.{World, at, other_zero}, specs.WordAt.IsWordAt}
@@ -48,6 +48,7 @@ module _ (ws : List ℕ) (wf : IsWellFormed ws) (place w : ℕ) (there : slice_g
     term_itself n =
         let alone = uncolumned (kind_of w) refl (sym (ap (λ o. is_word_of o class.Term) there) ∙ class_is) n in
         record {
+          is = sym (ap (λ o. unwrap_or o place) (alone.1 cells));
           class = class_is;
           worth = λ v. alone.0 v (tuple_of ws cells v);
           from = λ u h. inr (h, ap (cell_for cells) (term_alone ws wf place u class_is h) ∙ alone.1 cells);
@@ -57,6 +58,7 @@ module _ (ws : List ℕ) (wf : IsWellFormed ws) (place w : ℕ) (there : slice_g
     pub cell_itself : (k cell : ℕ) → column_of (kind_of w) (left_of w) ≡ Some k → get_or cells k 0 ≡ cell → k < length cells
         → All (λ p. IsTrue (is_place_of ws class.Term p)) cells → IsCellFor ws cells place cell
     cell_itself k cell c is lt terms = record {
+      is = sym (ap (λ t. unwrap_or (cell_for cells t) place) (column_by_kind (kind_of w) refl k c) ∙ ap (λ o. unwrap_or o place) (slice_get-get_or cells k 0 lt) ∙ is);
       class = subst (λ p. IsTrue (is_place_of ws class.Term p)) is (All-get_or (λ p. IsTrue (is_place_of ws class.Term p)) cells k 0 lt terms);
       worth = λ v.
           ap (λ p. at v [] (term_at ws p)) (sym is)
@@ -68,6 +70,7 @@ module _ (ws : List ℕ) (wf : IsWellFormed ws) (place w : ℕ) (there : slice_g
     -- a column past the row's end
     pub column_itself : (k : ℕ) → column_of (kind_of w) (left_of w) ≡ Some k → length cells ≤ k → IsCellFor ws cells place place
     column_itself k c past = record {
+      is = sym (ap (λ t. unwrap_or (cell_for cells t) place) (column_by_kind (kind_of w) refl k c) ∙ ap (λ o. unwrap_or o place) (slice_get_past cells k past));
       class = class_is;
       worth = λ v.
           ap (at v []) (column_by_kind (kind_of w) refl k c)

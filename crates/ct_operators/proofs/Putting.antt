@@ -1,6 +1,6 @@
 -- What is put on a row for a condition, by what was put for its parts.
-use Rattle.std.proofs.Common.{◌≡◌, ℕ, zero, suc, ◌+◌, ◌<◌, ◌≤◌, Bool, true, false, not, List, [], ◌∷◌, ◌++◌, length, take, get_or, refl, ap, sym, subst, ◌∙◌, arith, inl, inr}
-use Rattle.std.{specs.Prelude.{IsTrue, All, Contains, ◌⊎◌}, proofs.lemmas.Bool.cases_lt, proofs.lemmas.List.{get_or_default, get_or-take, length-take}}
+use Rattle.std.proofs.Common.{◌≡◌, ℕ, zero, suc, ◌+◌, ◌<◌, ◌≤◌, Bool, true, false, not, List, [], ◌∷◌, ◌++◌, length, take, drop, get_or, refl, ap, sym, subst, ◌∙◌, arith, inl, inr}
+use Rattle.std.{specs.Prelude.{IsTrue, All, Contains, ◌⊎◌}, proofs.lemmas.Bool.cases_lt, proofs.lemmas.List.{get_or_default, get_or-take, length-take, take_all, drop_all, append-nil}}
 use Rattle.std.proofs.lemmas.List.Elements.{All-weaker, All-contains, Contains-get_or}
 use Rattle.ct_word.{specs.declared.values.Value.Value, specs.declared.values.Term.Term, specs.declared.connectives.Connective.Connective}
 use Rattle.ct_word.{specs.Value.{World, tuple_at}, specs.Condition.holds, specs.Connective.{join}, specs.Stands.{TermBelow, through}}
@@ -212,3 +212,8 @@ steps_within words [] zero = omega arith
 steps_within words [] (suc n) = omega arith
 steps_within words (p ∷ ps) zero = omega arith
 steps_within words (p ∷ ps) (suc n) = let rest = steps_within words ps n in omega (arith, rest)
+
+-- a list keeps its length where a slice of all its items was written to
+pub written_back : (n : ℕ) (new old : List ℕ) → length new ≡ length old → n ≡ length old → length (take n (new ++ drop (length new) old)) ≡ length old
+written_back n new old e is =
+    ap (λ (l : List ℕ). length l) (ap (λ l. take n (new ++ l)) (drop_all (length new) old (omega (arith, e))) ∙ ap (take n) (append-nil new) ∙ take_all n new (omega (arith, e, is))) ∙ e

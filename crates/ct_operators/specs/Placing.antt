@@ -1,5 +1,5 @@
 -- Conditions with the cells of a row put for their columns.
-use Rattle.std.specs.Prelude.{◌≡◌, ◌<◌, ◌≤◌, ◌+◌, ℕ, Bool, List, [], ◌∷◌, length, map, Option, Some, None, IsTrue, slice_index_or, Contains}
+use Rattle.std.specs.Prelude.{◌≡◌, ◌<◌, ◌≤◌, ◌+◌, ℕ, Bool, List, [], ◌∷◌, length, map, Option, Some, None, IsTrue, slice_index_or, unwrap_or, Contains}
 use Rattle.ct_word.specs.declared.kinds.Kind.{Kind}
 use Rattle.ct_word.specs.declared.kinds.Kind.TheVariants as kind
 use Rattle.ct_word.specs.declared.kinds.Class.TheVariants as class
@@ -13,6 +13,7 @@ use Rattle.ct_worlds.specs.declared.shape.Shape.TheVariants as shape
 use Rattle.ct_worlds.specs.Shape.{shape_at}
 use Rattle.ct_worlds.specs.Truths.{ArePartsFirst}
 use Rattle.ct_query.specs.Bounds.{ops}
+use Rattle.ct_condition.specs.Rows.{cell_for}
 use Rattle.ct_condition.specs.Terms.{TermsFrom}
 use Rattle.ct_operators.specs.Building.{HoldsWhere}
 use Rattle.ct_operators.specs.Terms.{IsPlaced}
@@ -34,8 +35,13 @@ abbrev pub column_of : Option Kind → ℕ → Option ℕ
 column_of (Some kind.Column) k = Some k
 column_of _ k = None
 
+-- the place of the cell that stands for the term at a place: that of its column, or the place itself where it is none of these columns
+abbrev pub place_on : List ℕ → List ℕ → ℕ → ℕ
+place_on words cells p = unwrap_or (cell_for cells (term_at words p)) p
+
 -- a place is of a term that is worth what another is for the tuple of these cells
 pub record IsCellFor (words : List ℕ) (cells : List ℕ) (term place : ℕ) : Type 0 where
+  pub is : place ≡ place_on words cells term
   pub class : IsTrue (is_place_of words class.Term place)
   pub worth : (v : World) → at v [] (term_at words place) ≡ at v (tuple_of words cells v) (term_at words term)
   pub from : TermsFrom words place (IsPlaced words term cells)

@@ -26,6 +26,7 @@ pub use error::TableError;
 pub use gathering::Gathering;
 pub use insertion::insert;
 pub use membership::{except, intersect};
+pub use placing::{cell_for, on_row};
 pub use products::{joined_names, product};
 pub use projection::{pick, pick_names, project};
 pub use rows::{names, under};

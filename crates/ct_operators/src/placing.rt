@@ -35,7 +35,7 @@ fn column(kind: Option<Kind>, position: u32) -> Option<u32>
 }
 
 /// The cell that stands for a term: that of its column, or the term itself where it is none of these columns.
-fn cell_for(words: &[u64], term: u32, cells: &[u32]) -> u32
+pub fn cell_for(words: &[u64], term: u32, cells: &[u32]) -> u32
     requires formed { IsWellFormed words.now }
     requires term { IsTrue (is_place_of words.now class.Term term) }
     requires cells { All (λ p. IsTrue (is_place_of words.now class.Term p)) cells.now }
@@ -120,7 +120,7 @@ fn over_parts<N: Site, I: Interner<N>>(
 ///
 /// # Errors
 /// `Full` where the log has no room for a word of it.
-pub(crate) fn on_row<N: Site, I: Interner<N>>(
+pub fn on_row<N: Site, I: Interner<N>>(
     arena: &Arena<N>,
     pass: &mut I,
     cond: u32,

@@ -3,7 +3,7 @@ use Rattle.std.proofs.Common.{◌≡◌, ℕ, Bool, true, false, List, [], ◌�
 use Rattle.std.{specs.Prelude.{IsTrue, nat_eq}, specs.Cmp.Lexicographic.{same_text as same_bytes}, proofs.lemmas.Bool.false≢true}
 use Rattle.ct_word.{specs.Writable.is_name, specs.Value.same_text}
 use Rattle.ct_lex.specs.declared.token.Lexeme.{Lexeme}
-use Rattle.ct_parse.{specs.declared.tree.Condition.Condition, specs.Ends.{Fails, at_word, EndsAnyhow, EndsList, EndsCondition, EndsBehind}}
+use Rattle.ct_parse.{specs.declared.tree.Condition.Condition, specs.Ends.{Fails, at_word, EndsAnyhow, EndsItem, EndsItems, EndsCondition, EndsBehind}}
 use Rattle.ct_parse.specs.Grammar.{IsName, name, AreMore, no_more, one_more, IsClosed, closed, IsCondition, HasCondition, no_condition, a_condition}
 use Rattle.ct_parse.{specs.Reads.{Reads, Never}, proofs.Fronts.{Same, tail, moved}, proofs.TermSteps.{reads_at, never_at}}
 use Rattle.ct_parse.proofs.Listed.{Behind, Cases, ended, split, Lists, Parts, parts, Pairs}
@@ -111,35 +111,32 @@ cases_of_more : {T : Type 0} (X : List Lexeme → T → List Lexeme → Type 0) 
 cases_of_more X no_more = ended
 cases_of_more X (one_more x l) = split (_, refl, x) l
 
-module _ {T : Type 0} (X : List Lexeme → T → List Lexeme → Type 0) (EX EL : List Lexeme → Type 0) (at : (r : List Lexeme) → EX (lexeme.Symbol symbol.Comma ∷ r)) (sub : (r : List Lexeme) → EL r → EX r)
-    (apart : (r : List Lexeme) → EL (lexeme.Symbol symbol.Comma ∷ r) → ⊥) where
-  pub before_more : {ws r : List Lexeme} {xs : List T} → AreMore X ws xs r → EL r → EX ws
-  before_more {r = r} no_more e = sub r e
-  before_more (one_more x l) e = at _
+before_more : {T : Type 0} (X : List Lexeme → T → List Lexeme → Type 0) {ws r : List Lexeme} {xs : List T} → AreMore X ws xs r → EndsItems r → EndsItem ws
+before_more X no_more e = e.1
+before_more X (one_more x l) e = (tt, tt)
 
-  pub comma_list : Lists (Behind (lexeme.Symbol symbol.Comma) X) EX EL (AreMore X)
-  comma_list = record {
-    none = no_more;
-    more = λ b l. more_behind X b l;
-    cases = λ l. cases_of_more X l;
-    before = λ l e. before_more l e;
-    apart = λ b e. apart _ (subst EL b.1 e);
-  }
+pub part_list : {T : Type 0} (X : List Lexeme → T → List Lexeme → Type 0) → Lists (Behind (lexeme.Symbol symbol.Comma) X) EndsItem EndsItems (AreMore X)
+part_list X = record {
+  none = no_more;
+  more = λ b l. more_behind X b l;
+  cases = λ l. cases_of_more X l;
+  before = λ l e. before_more X l e;
+  apart = λ b e. (subst EndsItems b.1 e).0;
+}
 
 pub no_comma_part : {T : Type 0} (X : List Lexeme → T → List Lexeme → Type 0) {ws : List Lexeme} → ((r : List Lexeme) → ws ≡ lexeme.Symbol symbol.Comma ∷ r → ⊥) → (x : T) (m : List Lexeme)
     → Behind (lexeme.Symbol symbol.Comma) X ws x m → ⊥
 no_comma_part X never x m b = never _ b.1
 
--- a list of parts that end anyhow
-pub plain_list : {T : Type 0} (X : List Lexeme → T → List Lexeme → Type 0) → Lists (Behind (lexeme.Symbol symbol.Comma) X) EndsAnyhow EndsList (AreMore X)
-plain_list X = comma_list X EndsAnyhow EndsList (λ r. tt) (λ r e. tt) (λ r e. e)
-
 -- "(" x {"," x} ")"
 abbrev pub Inside : {T : Type 0} → (List Lexeme → T → List Lexeme → Type 0) → List Lexeme → T × List T → List Lexeme → Type 0
 Inside X = Behind (lexeme.Symbol symbol.LeftParen) (Then (Both X (AreMore X)) (lexeme.Symbol symbol.RightParen))
 
-pub inside_pair : {T : Type 0} (X : List Lexeme → T → List Lexeme → Type 0) → Pairs X EndsAnyhow (AreMore X) EndsList (λ x y. (x, y)) (Both X (AreMore X))
-inside_pair X = pair_of X EndsAnyhow (AreMore X) EndsList (λ ws r y l e. tt)
+pub listed_pair : {T : Type 0} (X : List Lexeme → T → List Lexeme → Type 0) → Pairs X EndsItem (AreMore X) EndsItems (λ x y. (x, y)) (Both X (AreMore X))
+listed_pair X = pair_of X EndsItem (AreMore X) EndsItems (λ ws r y l e. (part_list X).before l e)
+
+pub list_ends_at_close : (r : List Lexeme) → EndsItems (lexeme.Symbol symbol.RightParen ∷ r)
+list_ends_at_close r = (tt, (tt, tt))
 
 into_closed : {T : Type 0} (X : List Lexeme → T → List Lexeme → Type 0) {ws r : List Lexeme} {p : T × List T} → Both X (AreMore X) ws p (lexeme.Symbol symbol.RightParen ∷ r)
     → IsClosed X (lexeme.Symbol symbol.LeftParen ∷ ws) p r

@@ -9,4 +9,5 @@ pub mod RowSteps
 pub mod TableSteps
 pub mod QuerySteps
 pub mod StatementSteps
+pub mod AssertSteps
 pub mod Readings

@@ -4,7 +4,7 @@ use Rattle.ct_lex.specs.declared.token.Lexeme.{Lexeme}
 use Rattle.ct_parse.{specs.declared.tree.Column.Column, specs.declared.tree.Condition.Condition, specs.declared.tree.Items.Items, specs.Reads.{Reads, Never}}
 use Rattle.ct_parse.{specs.Source.{IsSource, source}, specs.declared.tree.Tables.Tables, specs.declared.tree.Select.Select, specs.declared.tree.Query.Query}
 use Rattle.ct_parse.{specs.declared.tree.SetOperator.SetOperator, specs.declared.tree.QueryPrimary.QueryPrimary, specs.declared.tree.QueryTerm.QueryTerm}
-use Rattle.ct_parse.specs.Grammar.{HasCondition, no_condition, a_condition, item, IsColumn, plain, qualified, AreItems, star, listed, AreTables, IsDistinct, not_distinct, distinct, IsSelect, select, IsSetOperator, union, except, query_of, IsPrimary, nested_query, select_query, ArePrimaries, no_primary, intersect, IsQueryTerm, query_term, AreTerms, no_term, combined, IsQuery, query}
+use Rattle.ct_parse.specs.Grammar.{HasCondition, no_condition, a_condition, item, IsColumn, plain, qualified, AreItems, star, listed, AreTables, IsDistinct, not_distinct, distinct, IsSelect, select, IsSetOperator, union, except, query_of, IsPrimary, nested_query, select_query, ArePrimaries, no_primary, intersect, IsQueryTerm, query_term, AreTerms, no_term, combined, IsQuery, query, IsEnclosed, enclosed}
 use Rattle.ct_parse.specs.Ends.{Fails, at_word, at_operator, EndsAnyhow, EndsBehind, EndsItems, EndsTables, EndsDistinct, EndsSelect, EndsQueryTerm, EndsQuery}
 use Rattle.ct_parse.{proofs.Fronts.{Same, moved}, proofs.TermSteps.reads_at, proofs.Listed.{Behind, Cases, ended, split, Lists, Parts, parts, Pairs}}
 use Rattle.ct_parse.proofs.Combined.{not_word, name_apart, CLOSE, Then, Both, pair_of, Image, image, Led}
@@ -135,6 +135,16 @@ back_nested (select_query s) = absurd (paren_select s)
 
 pub nesting : Led (lexeme.Symbol symbol.LeftParen) (Then IsQuery CLOSE) EndsAnyhow primary.Nested IsPrimary EndsSelect
 nesting = record { into = λ q. nested_query q; back = λ p e. back_nested p; ends = λ r e. tt }
+
+-- "(" query ")"
+back_enclosed : {ws r : List Lexeme} {q : Query} → IsEnclosed (lexeme.Symbol symbol.LeftParen ∷ ws) q r → Image (Then IsQuery CLOSE) (λ q. q) ws q r
+back_enclosed (enclosed q) = image q
+
+pub enclosing : Led (lexeme.Symbol symbol.LeftParen) (Then IsQuery CLOSE) EndsAnyhow (λ q. q) IsEnclosed EndsAnyhow
+enclosing = record { into = λ q. enclosed q; back = λ p e. back_enclosed p; ends = λ r e. tt }
+
+pub no_paren : {ws : List Lexeme} → ((r : List Lexeme) → ws ≡ lexeme.Symbol symbol.LeftParen ∷ r → ⊥) → Never IsEnclosed EndsAnyhow ws
+no_paren never q r e (enclosed x) = never _ refl
 
 -- primaries behind INTERSECT
 abbrev INTERSECT : Lexeme

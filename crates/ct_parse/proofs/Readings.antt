@@ -1,23 +1,22 @@
 -- Lexemes have one reading: whatever is spelled is what a reader would find, and nothing else.
-use Rattle.std.{proofs.Common.{◌≡◌, ℕ, List, [], refl, sym, subst}, specs.Prelude.{Bool, Option, codes}}
+use Rattle.std.{proofs.Common.{◌≡◌, ℕ, List, [], refl, sym, subst}, specs.Prelude.{Bool, Option, IsTrue, codes}}
 use Rattle.ct_lex.specs.declared.token.Lexeme.{Lexeme}
 use Rattle.ct_parse.{specs.declared.tree.Column.Column, specs.declared.tree.Term.Term, specs.declared.tree.Comparison.Comparison, specs.declared.tree.Cell.Cell}
 use Rattle.ct_parse.{specs.declared.tree.Factor.Factor, specs.declared.tree.Conjunction.Conjunction, specs.declared.tree.Condition.Condition, specs.Reads.Reads}
 use Rattle.ct_parse.{specs.declared.tree.Row.Row, specs.declared.tree.Item.Item, specs.declared.tree.Items.Items, specs.declared.tree.Table.Table}
 use Rattle.ct_parse.{specs.declared.tree.Joined.Joined, specs.declared.tree.Tables.Tables, specs.declared.tree.Query.Query, specs.Source.{IsSource, source}}
 use Rattle.ct_parse.{specs.declared.tree.SetOperator.SetOperator, specs.declared.tree.QueryPrimary.QueryPrimary, specs.declared.tree.QueryTerm.QueryTerm}
-use Rattle.ct_parse.{specs.declared.tree.Statement.Statement, specs.Parses.{Spells, SpellsCondition}, proofs.Fronts.{moved, before_comparison}}
-use Rattle.ct_parse.specs.Grammar.{IsName, name, IsColumn, plain, qualified, IsTerm, number_term, text_term, null_term, column_term, IsComparison, equal, unequal, IsFactor, negated, nested, true_factor, false_factor, compared, AreFactors, no_factor, and_factor, IsConjunction, conjunction, AreConjunctions, no_conjunction, or_conjunction, IsCondition, condition, AreMore, no_more, one_more, IsClosed, closed, IsCell, number_cell, text_cell, null_cell, new_null, IsRow, row, HasCondition, no_condition, a_condition, HasName, no_name, as_name, IsItem, item, AreItems, star, listed, HasAlias, no_alias, alias, as_alias, IsTable, table, IsTableOn, table_on, IsJoined, comma, join, inner_join, AreJoined, none_joined, more_joined, AreTables, tables, IsDistinct, not_distinct, distinct, select, IsSetOperator, union, except, IsPrimary, nested_query, select_query, ArePrimaries, no_primary, intersect, IsQueryTerm, query_term, AreTerms, no_term, combined, IsQuery, query, IsStatement, create, insert_rows, insert_query, delete, assert, rows, possible, certain, begin, commit, rollback}
-use Rattle.ct_parse.specs.Ends.{Fails, at_word, EndsAnyhow, EndsColumn, EndsConjunction, EndsCondition, EndsList, EndsBehind, EndsItem, EndsItems, EndsTable, EndsJoined, EndsTables, EndsDistinct, EndsSelect, EndsQueryTerm, EndsQuery, EndsStatement}
-use Rattle.ct_parse.proofs.TermSteps.{name_reads, plain_reads, qualified_reads, number_reads, text_reads, null_reads, column_reads, equal_reads, unequal_reads}
-use Rattle.ct_parse.{proofs.Listed.{Behind, behind_reads, Lists, none_read, more_read, both_read}, proofs.RowSteps.{closed_read, row_is, new_null_reads}}
+use Rattle.ct_parse.{specs.declared.tree.Assignment.Assignment, specs.declared.tree.Statement.Statement, specs.Parses.{Spells, SpellsCondition}, proofs.Fronts.{moved, before_comparison}}
+use Rattle.ct_parse.specs.Grammar.{IsName, name, IsColumn, plain, qualified, IsTerm, number_term, text_term, null_term, column_term, IsComparison, equal, unequal, IsFactor, negated, nested, true_factor, false_factor, compared, AreFactors, no_factor, and_factor, IsConjunction, conjunction, AreConjunctions, no_conjunction, or_conjunction, IsCondition, condition, AreMore, no_more, one_more, IsClosed, closed, IsCell, number_cell, text_cell, null_cell, new_null, IsRow, row, HasCondition, no_condition, a_condition, HasName, no_name, as_name, IsItem, item, AreItems, star, listed, HasAlias, no_alias, alias, as_alias, IsTable, table, IsTableOn, table_on, IsJoined, comma, join, inner_join, AreJoined, none_joined, more_joined, AreTables, tables, IsDistinct, not_distinct, distinct, select, IsSetOperator, union, except, IsPrimary, nested_query, select_query, ArePrimaries, no_primary, intersect, IsQueryTerm, query_term, AreTerms, no_term, combined, IsQuery, query, IsAssignment, assignment, IsEnclosed, enclosed, IsStatement, create, insert_rows, insert_query, delete, update, assert, assert_exists, assert_not_exists, assert_key, rows, possible, certain, begin, commit, rollback}
+use Rattle.ct_parse.specs.Ends.{Fails, at_name, at_word, EndsAnyhow, EndsColumn, EndsConjunction, EndsCondition, EndsBehind, EndsItem, EndsItems, EndsTable, EndsJoined, EndsTables, EndsDistinct, EndsSelect, EndsQueryTerm, EndsQuery, EndsStatement}
+use Rattle.ct_parse.proofs.TermSteps.{narrow, name_reads, plain_reads, qualified_reads, number_reads, text_reads, null_reads, column_reads, equal_reads, unequal_reads}
+use Rattle.ct_parse.{proofs.Listed.{behind_reads, none_read, more_read, both_read}, proofs.RowSteps.{closed_read, row_is, new_null_reads}}
 use Rattle.ct_parse.proofs.ConditionSteps.{negation, nesting, ends_at_close, true_read, false_read, compared_read, factors, conjunctions, conjunction_pair, condition_pair}
-use Rattle.ct_parse.proofs.Combined.{CLOSE, then_read, renamed, led_read, plain_list, condition_led, has_none_read}
-use Rattle.ct_parse.proofs.TableSteps.{naming, no_as_read, item_pair, item_list, symbol_item, star_read, listed_pair, listed_is, aliasing, alias_stands, alias_read, no_alias_read, table_pair, ON, on_pair, on_is, ends_at_on, comma_led, join_led, inner_led, joined_list, tables_read}
-use Rattle.ct_parse.proofs.QuerySteps.{distinct_read, not_distinct_read, items_apart, before_filter, filter_reads, source_pair, sourcing, shown_pair, distinct_pair, selecting, union_read, except_read, ends_at_paren, primary_list, term_pair, combined_pair, term_list, query_pair}
-use Rattle.ct_parse.proofs.StatementSteps.{query_at_end, condition_at_end, behind_at_end, before_if, create_read, delete_read, insert_rows_read, insert_query_read, asserting, asking_possible, asking_certain, begin_read, commit_read, rollback_read, OnlyQuery, rows_read}
-use Rattle.ct_lex.specs.declared.token.Lexeme.TheVariants as lexeme
-use Rattle.ct_lex.specs.declared.token.Symbol.TheVariants as symbol
+use Rattle.ct_parse.proofs.Combined.{CLOSE, then_read, renamed, led_read, part_list, listed_pair, list_ends_at_close, condition_led, has_none_read}
+use Rattle.ct_parse.proofs.TableSteps.{naming, no_as_read, item_pair, symbol_item, star_read, listed_is, aliasing, alias_stands, alias_read, no_alias_read, table_pair, ON, on_pair, on_is, ends_at_on, comma_led, join_led, inner_led, joined_list, tables_read}
+use Rattle.ct_parse.proofs.QuerySteps.{distinct_read, not_distinct_read, items_apart, before_filter, filter_reads, source_pair, sourcing, shown_pair, distinct_pair, selecting, union_read, except_read, ends_at_paren, enclosing, primary_list, term_pair, combined_pair, term_list, query_pair}
+use Rattle.ct_parse.proofs.StatementSteps.{query_at_end, condition_at_end, behind_at_end, before_condition, apart_from_if, apart_from_where, grouped_read, assignment_read, updating, create_read, delete_read, insert_rows_read, insert_query_read, asking_possible, asking_certain, begin_read, commit_read, rollback_read, OnlyQuery, rows_read}
+use Rattle.ct_parse.proofs.AssertSteps.{exists_read, not_exists_read, key_read, condition_read, only_condition}
 use Rattle.ct_parse.proofs.RowSteps as cells
 use Rattle.ct_parse.proofs.QuerySteps as queries
 
@@ -62,27 +61,36 @@ mutual
   reads_condition (condition c l) e = both_read condition_pair (reads_conjunction c (conjunctions.before l e)) (reads_conjunctions l e)
 
 -- lists behind commas, and in parentheses
-reads_more : {T : Type 0} (X : List Lexeme → T → List Lexeme → Type 0) (EX EL : List Lexeme → Type 0) → Lists (Behind (lexeme.Symbol symbol.Comma) X) EX EL (AreMore X)
-    → ((ws r : List Lexeme) (x : T) → X ws x r → EX r → Reads X EX ws x r) → {ws r : List Lexeme} {xs : List T} → AreMore X ws xs r → EL r → Reads (AreMore X) EL ws xs r
-reads_more X EX EL k reads no_more e = none_read k e
-reads_more X EX EL k reads (one_more x l) e = more_read k (behind_reads refl (reads _ _ _ x (k.before l e))) (reads_more X EX EL k reads l e)
+reads_more : {T : Type 0} (X : List Lexeme → T → List Lexeme → Type 0) → ((ws r : List Lexeme) (x : T) → X ws x r → EndsItem r → Reads X EndsItem ws x r) → {ws r : List Lexeme} {xs : List T}
+    → AreMore X ws xs r → EndsItems r → Reads (AreMore X) EndsItems ws xs r
+reads_more X reads no_more e = none_read (part_list X) e
+reads_more X reads (one_more x l) e = more_read (part_list X) (behind_reads refl (reads _ _ _ x ((part_list X).before l e))) (reads_more X reads l e)
 
-reads_closed : {T : Type 0} (X : List Lexeme → T → List Lexeme → Type 0) → ((ws r : List Lexeme) (x : T) → X ws x r → EndsAnyhow r → Reads X EndsAnyhow ws x r) → {ws r : List Lexeme} {p : T × List T}
+reads_closed : {T : Type 0} (X : List Lexeme → T → List Lexeme → Type 0) → ((ws r : List Lexeme) (x : T) → X ws x r → EndsItem r → Reads X EndsItem ws x r) → {ws r : List Lexeme} {p : T × List T}
     → IsClosed X ws p r → Reads (IsClosed X) EndsAnyhow ws p r
-reads_closed X reads (closed x l) = closed_read X refl (reads _ _ _ x tt) (reads_more X EndsAnyhow EndsList (plain_list X) reads l tt) refl
+reads_closed X reads (closed {r = r} x l) =
+    closed_read X refl (reads _ _ _ x ((part_list X).before l (list_ends_at_close r))) (reads_more X reads l (list_ends_at_close r)) refl
 
-reads_cell : {ws r : List Lexeme} {c : Cell} → IsCell ws c r → Reads IsCell EndsAnyhow ws c r
+-- a name in a list
+reads_part : {ws r : List Lexeme} {n : List ℕ} → IsName ws n r → Reads IsName EndsItem ws n r
+reads_part n = narrow {E = EndsAnyhow} (λ r e. tt) (reads_name n)
+
+reads_cell : {ws r : List Lexeme} {c : Cell} → IsCell ws c r → Reads IsCell EndsItem ws c r
 reads_cell number_cell = cells.number_reads refl refl
 reads_cell text_cell = cells.text_reads refl refl
 reads_cell null_cell = cells.null_reads refl refl
 reads_cell new_null = new_null_reads refl
 
-reads_row : {ws r : List Lexeme} {w : Row} → IsRow ws w r → Reads IsRow EndsAnyhow ws w r
-reads_row (row c) = renamed (row_is _) (reads_closed IsCell (λ ws r x c e. reads_cell c) c)
+reads_row : {ws r : List Lexeme} {w : Row} → IsRow ws w r → Reads IsRow EndsItem ws w r
+reads_row (row c) = renamed (row_is _) (narrow {E = EndsAnyhow} (λ r e. tt) (reads_closed IsCell (λ ws r x c e. reads_cell c) c))
 
 reads_has : {w : List ℕ} {ws r : List Lexeme} {o : Option Condition} → HasCondition w ws o r → EndsBehind w r → Reads (HasCondition w) (EndsBehind w) ws o r
 reads_has no_condition e = has_none_read e.0
 reads_has (a_condition c) e = led_read (condition_led _) refl (reads_condition c e.1)
+
+-- assignments
+reads_assignment : {ws r : List Lexeme} {a : Assignment} → IsAssignment ws a r → EndsItem r → Reads IsAssignment EndsItem ws a r
+reads_assignment (assignment n t) e = assignment_read (reads_name n) refl (reads_term t e.1)
 
 -- items
 reads_as : {ws r : List Lexeme} {o : Option (List ℕ)} → HasName ws o r → EndsItem r → Reads HasName EndsItem ws o r
@@ -96,7 +104,7 @@ reads_items : {ws r : List Lexeme} {i : Items} → AreItems ws i r → EndsItems
 reads_items star e = star_read refl
 reads_items (listed i l) e =
     renamed (listed_is (λ x f. symbol_item (moved IsItem f i)))
-    (both_read listed_pair (reads_item i (item_list.before l e)) (reads_more IsItem EndsItem EndsItems item_list (λ ws r x i e. reads_item i e) l e))
+    (both_read (listed_pair IsItem) (reads_item i ((part_list IsItem).before l e)) (reads_more IsItem (λ ws r x i e. reads_item i e) l e))
 
 -- tables
 reads_alias : {ws r : List Lexeme} {o : _} → HasAlias ws o r → EndsTable r → Reads HasAlias EndsTable ws o r
@@ -154,10 +162,13 @@ mutual
   reads_query : {ws r : List Lexeme} {q : Query} → IsQuery ws q r → EndsQuery r → Reads IsQuery EndsQuery ws q r
   reads_query (query t l) e = both_read query_pair (reads_query_term t (term_list.before l e)) (reads_terms l e)
 
+reads_enclosed : {ws r : List Lexeme} {q : Query} → IsEnclosed ws q r → Reads IsEnclosed EndsAnyhow ws q r
+reads_enclosed (enclosed {r = r} q) = led_read enclosing refl (then_read CLOSE ends_at_paren (reads_query q (ends_at_paren r)) refl)
+
 -- statements
 primary_only : {ws r : List Lexeme} {p : QueryPrimary} → IsPrimary ws p r → OnlyQuery ws × Fails (at_word (codes "values") ws)
-primary_only (nested_query q) = (record { lone = (tt, tt, tt); create = tt; insert = tt; delete = tt; assert = tt; possible = tt; certain = tt }, tt)
-primary_only (select_query (select d i t c)) = (record { lone = (tt, tt, tt); create = tt; insert = tt; delete = tt; assert = tt; possible = tt; certain = tt }, tt)
+primary_only (nested_query q) = (record { lone = (tt, tt, tt); create = tt; insert = tt; delete = tt; update = tt; assert = tt; possible = tt; certain = tt }, tt)
+primary_only (select_query (select d i t c)) = (record { lone = (tt, tt, tt); create = tt; insert = tt; delete = tt; update = tt; assert = tt; possible = tt; certain = tt }, tt)
 
 term_only : {ws r : List Lexeme} {t : QueryTerm} → IsQueryTerm ws t r → OnlyQuery ws × Fails (at_word (codes "values") ws)
 term_only (query_term p l) = primary_only p
@@ -171,14 +182,26 @@ at_end e = subst EndsQuery (sym e) query_at_end
 condition_end : {r : List Lexeme} → r ≡ [] → EndsCondition r
 condition_end e = subst EndsCondition (sym e) condition_at_end
 
+behind_end : {r : List Lexeme} (w : List ℕ) → r ≡ [] → EndsBehind w r
+behind_end w e = subst (EndsBehind w) (sym e) (behind_at_end w)
+
+named_front : {ws r : List Lexeme} {n : List ℕ} → IsName ws n r → IsTrue (at_name ws)
+named_front (name p) = p
+
 reads_statement : {ws r : List Lexeme} {st : Statement} → IsStatement ws st r → r ≡ [] → Reads IsStatement EndsStatement ws st r
-reads_statement (create n c) e = create_read refl (reads_name n) (reads_closed IsName (λ ws r x n e. reads_name n) c)
+reads_statement (create n c) e = create_read refl (reads_name n) (reads_closed IsName (λ ws r x n e. reads_part n) c)
 reads_statement (insert_rows n w vs c) e =
-    insert_rows_read refl (reads_name n) refl (reads_row w) (reads_more IsRow EndsAnyhow EndsList (plain_list IsRow) (λ ws r x w e. reads_row w) vs (before_if c e))
-    (reads_has c (subst (EndsBehind (codes "if")) (sym e) (behind_at_end (codes "if"))))
+    insert_rows_read refl (reads_name n) refl (reads_row w) (reads_more IsRow (λ ws r x w e. reads_row w) vs (before_condition {w = codes "if"} apart_from_if c e)) (reads_has c (behind_end (codes "if") e))
 reads_statement (insert_query n q) e = insert_query_read refl (reads_name n) (query_only q).1 (reads_query q (at_end e))
-reads_statement (delete n c) e = delete_read refl (reads_name n) (reads_has c (subst (EndsBehind (codes "where")) (sym e) (behind_at_end (codes "where"))))
-reads_statement (assert c) e = led_read asserting refl (reads_condition c (condition_end e))
+reads_statement (delete n c) e = delete_read refl (reads_name n) (reads_has c (behind_end (codes "where") e))
+reads_statement (update n a l c) e =
+    let others = before_condition {w = codes "where"} apart_from_where c e in
+    led_read updating refl (grouped_read IsAssignment (codes "set") (codes "where") apart_from_where (reads_name n) refl (reads_assignment a ((part_list IsAssignment).before l others))
+    (reads_more IsAssignment (λ ws r x a e. reads_assignment a e) l others) (reads_has c (behind_end (codes "where") e)))
+reads_statement (assert c) e = condition_read (only_condition c) (reads_condition c (condition_end e))
+reads_statement (assert_exists q) e = exists_read refl (reads_enclosed q)
+reads_statement (assert_not_exists q) e = not_exists_read refl (reads_enclosed q)
+reads_statement (assert_key n c) e = key_read (named_front n) (reads_name n) (reads_closed IsName (λ ws r x n e. reads_part n) c)
 reads_statement (rows q) e = rows_read (query_only q).0 (reads_query q (at_end e))
 reads_statement (possible q) e = led_read asking_possible refl (reads_query q (at_end e))
 reads_statement (certain q) e = led_read asking_certain refl (reads_query q (at_end e))

@@ -8,7 +8,7 @@ use Rattle.ct_parse.specs.Grammar.{IsName, name, IsColumn, plain, qualified, IsC
 use Rattle.ct_parse.specs.Ends.{Fails, at_word, at_name, at_joined, EndsAnyhow, EndsColumn, EndsItem, EndsItems, EndsTable, EndsCondition, EndsJoined, EndsTables}
 use Rattle.ct_parse.{specs.Reads.{Reads, Never}, proofs.Fronts.{Same, moved, symbol_name, word_name}, proofs.TermSteps.reads_at}
 use Rattle.ct_parse.proofs.Listed.{Behind, Cases, ended, split, Lists, Parts, parts, Pairs}
-use Rattle.ct_parse.proofs.Combined.{Then, Both, pair_of, comma_list, Image, image, Renames, Led}
+use Rattle.ct_parse.proofs.Combined.{Then, Both, pair_of, Image, image, Renames, Led}
 use Rattle.ct_lex.specs.declared.token.Lexeme.TheVariants as lexeme
 use Rattle.ct_lex.specs.declared.token.Symbol.TheVariants as symbol
 use Rattle.ct_parse.specs.declared.tree.Items.TheVariants as items
@@ -43,9 +43,6 @@ parts_of_item (item c a) = parts c a
 pub item_pair : Pairs IsColumn EndsColumn HasName EndsItem item_of IsItem
 item_pair = record { both = λ c a. item c a; cases = λ i. parts_of_item i; before = λ a e. before_as a e }
 
-pub item_list : Lists (Behind (lexeme.Symbol symbol.Comma) IsItem) EndsItem EndsItems (AreMore IsItem)
-item_list = comma_list IsItem EndsItem EndsItems (λ r. (tt, tt)) (λ r e. e.1) (λ r e. e.0)
-
 symbol_column : {s : _} {ws r : List Lexeme} {c : Column} → IsColumn (lexeme.Symbol s ∷ ws) c r → ⊥
 symbol_column (plain n) = symbol_name n
 symbol_column (qualified n m) = symbol_name n
@@ -59,9 +56,6 @@ star_only (listed i l) = absurd (symbol_item i)
 
 pub star_read : {ws r : List Lexeme} → ws ≡ lexeme.Symbol symbol.Star ∷ r → Reads AreItems EndsItems ws items.Star r
 star_read f = reads_at f (record { is = star; only = λ t r e x. star_only x; within = omega arith })
-
-pub listed_pair : Pairs IsItem EndsItem (AreMore IsItem) EndsItems (λ x y. (x, y)) (Both IsItem (AreMore IsItem))
-listed_pair = pair_of IsItem EndsItem (AreMore IsItem) EndsItems (λ ws r y l e. item_list.before l e)
 
 abbrev pub listed_of : Item × List Item → Items
 listed_of p = items.Listed p.0 p.1

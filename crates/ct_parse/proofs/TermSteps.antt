@@ -1,10 +1,10 @@
 -- What the steps of the readers of names, columns and terms show.
-use Rattle.std.{proofs.Common.{◌≡◌, ℕ, List, [], ◌∷◌, refl, ap, ap₂, sym, subst, ◌∙◌, arith}, specs.Prelude.{◌≢◌, IsTrue, Result, Ok, Err, IfErr, IsErrAnd}}
+use Rattle.std.{proofs.Common.{◌≡◌, ℕ, Bool, true, false, List, [], ◌∷◌, Option, Some, None, refl, ap, ap₂, sym, subst, ◌∙◌, arith}, specs.Prelude.{◌≢◌, IsTrue, is_some, IfSome, IfNone, Result, Ok, Err, IfErr, IsErrAnd}}
 use Rattle.ct_word.specs.Writable.{is_name}
 use Rattle.ct_lex.specs.declared.token.Lexeme.{Lexeme}
 use Rattle.ct_parse.{specs.declared.tree.Column.Column, specs.declared.tree.Term.Term, specs.declared.error.Unread.Unread, specs.Reads.{Reads, Never}}
 use Rattle.ct_parse.specs.Grammar.{IsName, name, IsColumn, plain, qualified, IsTerm, number_term, text_term, null_term, column_term, IsComparison, equal, unequal}
-use Rattle.ct_parse.specs.Ends.{Fails, at_dot, EndsAnyhow, EndsColumn}
+use Rattle.ct_parse.specs.Ends.{Fails, at_dot, at_name, EndsAnyhow, EndsColumn}
 use Rattle.ct_parse.proofs.Fronts.{Same, tail, moved, one_name, number_column, text_column, null_column, one_comparison}
 use Rattle.ct_lex.specs.declared.token.Lexeme.TheVariants as lexeme
 use Rattle.ct_lex.specs.declared.token.Symbol.TheVariants as symbol
@@ -20,6 +20,14 @@ reads_at {R = R} {E = E} {r = r} {t = t} e x = subst (λ ws. Reads R E ws t r) (
 pub never_at : {T : Type 0} (R : List Lexeme → T → List Lexeme → Type 0) (E : List Lexeme → Type 0) {ws ws' : List Lexeme} → ws ≡ ws' → Never R E ws' → Never R E ws
 never_at R E e never = λ t r ends x. never t r ends (moved R e x)
 
+-- what reads where more may not go on reads where less may not
+pub narrow : {T : Type 0} {R : List Lexeme → T → List Lexeme → Type 0} {E F : List Lexeme → Type 0} → ((r : List Lexeme) → F r → E r) → {ws r : List Lexeme} {t : T} → Reads R E ws t r
+    → Reads R F ws t r
+narrow sub h = record { is = h.is; only = λ t r f x. h.only t r (sub r f) x; within = h.within }
+
+pub narrow_never : {T : Type 0} (R : List Lexeme → T → List Lexeme → Type 0) (E F : List Lexeme → Type 0) → ((r : List Lexeme) → F r → E r) → {ws : List Lexeme} → Never R E ws → Never R F ws
+narrow_never R E F sub never = λ t r f x. never t r (sub r f) x
+
 pub no_dot : (ws : List Lexeme) → ((r : List Lexeme) → ws ≡ lexeme.Symbol symbol.Dot ∷ r → ⊥) → Fails (at_dot ws)
 no_dot (lexeme.Symbol symbol.Dot ∷ r) no_r = absurd (no_r r refl)
 no_dot _ no_r = tt
@@ -30,6 +38,22 @@ name_reads {r = r} {n = n} p e f = reads_at (e ∙ ap (λ x. x ∷ r) f) (record
   only = λ t' r' ends x. one_name x (name p);
   within = omega arith;
 })
+
+-- whether a name stands in front
+no_name_at : (w : Lexeme) (r : List Lexeme) → ((t : List ℕ) → IsTrue (is_name t) → w ≡ lexeme.Word t → ⊥) → at_name (w ∷ r) ≡ false
+no_name_at (lexeme.Word n) r never = by_test (is_name n) refl where
+  by_test : (b : Bool) → is_name n ≡ b → is_name n ≡ false
+  by_test true e = absurd (never n e refl)
+  by_test false e = e
+no_name_at (lexeme.Number n) r never = refl
+no_name_at (lexeme.Text n) r never = refl
+no_name_at (lexeme.Null n) r never = refl
+no_name_at (lexeme.Symbol n) r never = refl
+
+pub at_name_is : {B : Type 0} (of : B → List ℕ) (o : Option B) {w : Lexeme} {ws r : List Lexeme} → ws ≡ w ∷ r → IfSome o (λ t. w ≡ lexeme.Word (of t)) → IfSome o (λ t. IsTrue (is_name (of t)))
+    → IfNone o ((t : List ℕ) → IsTrue (is_name t) → w ≡ lexeme.Word t → ⊥) → is_some o ≡ at_name ws
+at_name_is of (Some t) {r = r} e word p none = sym (ap at_name (e ∙ ap (λ x. x ∷ r) word) ∙ p)
+at_name_is of None {w = w} e word p none = sym (ap at_name e ∙ no_name_at w _ none)
 
 -- a column without a table
 plain_only : {ws m r : List Lexeme} {n : List ℕ} {c : Column} → Reads IsName EndsAnyhow ws n m → Fails (at_dot m) → IsColumn ws c r → Same c (column.Plain n) r m

@@ -55,20 +55,16 @@ at_joined r = at_comma r || at_word (codes "join") r || at_word (codes "inner") 
 abbrev pub at_operator : List Lexeme → Bool
 at_operator r = at_word (codes "union") r || at_word (codes "except") r
 
--- behind a list of names, cells or rows
-abbrev pub EndsList : List Lexeme → Type 0
-EndsList r = Fails (at_comma r)
-
 -- behind a condition that may stand behind a word
 abbrev pub EndsBehind : List ℕ → List Lexeme → Type 0
 EndsBehind w r = Fails (at_word w r) × EndsCondition r
 
--- behind an item, and behind all items
+-- behind a name, a cell, a row, an item or an assignment in a list, and behind the list
 abbrev pub EndsItem : List Lexeme → Type 0
 EndsItem r = Fails (at_word (codes "as") r) × EndsColumn r
 
 abbrev pub EndsItems : List Lexeme → Type 0
-EndsItems r = EndsList r × EndsItem r
+EndsItems r = Fails (at_comma r) × EndsItem r
 
 -- behind a table, a table that is joined, and all tables
 abbrev pub EndsTable : List Lexeme → Type 0

@@ -1,7 +1,9 @@
 -- Which lexemes spell a statement: a relation for each line of the grammar, and a case for each of its alternatives.
 -- Each relates lexemes, the tree of those in front, and the rest.
 --     statement = CREATE TABLE name "(" name {"," name} ")" | INSERT INTO name VALUES row {"," row} [IF cond]
---               | INSERT INTO name query | DELETE FROM name [WHERE cond] | ASSERT cond
+--               | INSERT INTO name query | DELETE FROM name [WHERE cond]
+--               | UPDATE name SET name "=" term {"," name "=" term} [WHERE cond]
+--               | ASSERT cond | ASSERT [NOT] EXISTS "(" query ")" | ASSERT KEY name "(" name {"," name} ")"
 --               | query | POSSIBLE query | CERTAIN query | BEGIN | COMMIT | ROLLBACK
 --     row = "(" cell {"," cell} ")", cell = Number | Text | Null | NULL
 --     query = qterm {(UNION | EXCEPT) qterm}, qterm = qprim {INTERSECT qprim}
@@ -12,6 +14,7 @@
 --     cond = conj {OR conj}, conj = factor {AND factor}
 --     factor = NOT factor | "(" cond ")" | TRUE | FALSE | term ("=" | "<>") term
 --     term = Number | Text | Null | column, column = name | name "." name
+-- KEY is the word `key`, which is no keyword: a name stands behind it, and none behind a column of that name.
 use Rattle.std.specs.Prelude.{◌≤◌, Bool, true, false, Option, Some, None, length, ℕ, ℤ, List, [], ◌∷◌, IsTrue, codes, map}
 use Rattle.ct_word.specs.Writable.{is_name}
 use Rattle.ct_lex.specs.declared.token.Lexeme.{Lexeme}
@@ -46,6 +49,7 @@ use Rattle.ct_parse.specs.declared.tree.QueryPrimary.{QueryPrimary}
 use Rattle.ct_parse.specs.declared.tree.QueryPrimary.TheVariants as primary
 use Rattle.ct_parse.specs.declared.tree.QueryTerm.{QueryTerm}
 use Rattle.ct_parse.specs.declared.tree.Query.{Query, roll-Query}
+use Rattle.ct_parse.specs.declared.tree.Assignment.{Assignment}
 use Rattle.ct_parse.specs.declared.tree.Statement.{Statement}
 use Rattle.ct_parse.specs.declared.tree.Statement.TheVariants as statement
 
@@ -73,6 +77,10 @@ pub data IsTerm : List Lexeme → Term → List Lexeme → Type 0 where
 pub data IsComparison : List Lexeme → Comparison → List Lexeme → Type 0 where
   equal : {r : List Lexeme} → IsComparison (Symbol Equal ∷ r) comparison.Equal r
   unequal : {r : List Lexeme} → IsComparison (Symbol Unequal ∷ r) comparison.Unequal r
+
+-- name "=" term
+pub data IsAssignment : List Lexeme → Assignment → List Lexeme → Type 0 where
+  assignment : {ws m r : List Lexeme} {n : List ℕ} {t : Term} → IsName ws n (Symbol Equal ∷ m) → IsTerm m t r → IsAssignment ws (record { column = n; value = t }) r
 
 -- a condition of these parts
 abbrev pub condition_of : Conjunction → List Conjunction → Condition
@@ -223,6 +231,10 @@ mutual
   pub data IsQuery : List Lexeme → Query → List Lexeme → Type 0 where
     query : {ws m r : List Lexeme} {t : QueryTerm} {ts : List (SetOperator × QueryTerm)} → IsQueryTerm ws t m → AreTerms m ts r → IsQuery ws (query_of t ts) r
 
+-- "(" query ")"
+pub data IsEnclosed : List Lexeme → Query → List Lexeme → Type 0 where
+  enclosed : {ws r : List Lexeme} {q : Query} → IsQuery ws q (Symbol RightParen ∷ r) → IsEnclosed (Symbol LeftParen ∷ ws) q r
+
 -- a statement, by the lines of the grammar
 pub data IsStatement : List Lexeme → Statement → List Lexeme → Type 0 where
   create : {ws m r : List Lexeme} {n c : List ℕ} {cs : List (List ℕ)} → IsName ws n m → IsClosed IsName m (c, cs) r
@@ -233,7 +245,15 @@ pub data IsStatement : List Lexeme → Statement → List Lexeme → Type 0 wher
       → IsStatement (Word (codes "insert") ∷ Word (codes "into") ∷ ws) (statement.InsertQuery n q) r
   delete : {ws m r : List Lexeme} {n : List ℕ} {c : Option Condition} → IsName ws n m → HasCondition (codes "where") m c r
       → IsStatement (Word (codes "delete") ∷ Word (codes "from") ∷ ws) (statement.Delete n c) r
+  update : {ws m l k r : List Lexeme} {n : List ℕ} {a : Assignment} {bs : List Assignment} {c : Option Condition} → IsName ws n (Word (codes "set") ∷ m) → IsAssignment m a l
+      → AreMore IsAssignment l bs k → HasCondition (codes "where") k c r → IsStatement (Word (codes "update") ∷ ws) (statement.Update n a bs c) r
   assert : {ws r : List Lexeme} {c : Condition} → IsCondition ws c r → IsStatement (Word (codes "assert") ∷ ws) (statement.Assert c) r
+  assert_exists : {ws r : List Lexeme} {q : Query} → IsEnclosed ws q r
+      → IsStatement (Word (codes "assert") ∷ Word (codes "exists") ∷ ws) (statement.AssertExists false q) r
+  assert_not_exists : {ws r : List Lexeme} {q : Query} → IsEnclosed ws q r
+      → IsStatement (Word (codes "assert") ∷ Word (codes "not") ∷ Word (codes "exists") ∷ ws) (statement.AssertExists true q) r
+  assert_key : {ws m r : List Lexeme} {n c : List ℕ} {cs : List (List ℕ)} → IsName ws n m → IsClosed IsName m (c, cs) r
+      → IsStatement (Word (codes "assert") ∷ Word (codes "key") ∷ ws) (statement.AssertKey n c cs) r
   rows : {ws r : List Lexeme} {q : Query} → IsQuery ws q r → IsStatement ws (statement.Rows q) r
   possible : {ws r : List Lexeme} {q : Query} → IsQuery ws q r → IsStatement (Word (codes "possible") ∷ ws) (statement.Possible q) r
   certain : {ws r : List Lexeme} {q : Query} → IsQuery ws q r → IsStatement (Word (codes "certain") ∷ ws) (statement.Certain q) r

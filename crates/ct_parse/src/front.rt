@@ -6,7 +6,7 @@ ghost use Rattle.ct_lex.specs.declared.token.Lexeme.TheVariants as lexical;
 ghost use Rattle.ct_lex.specs.declared.token.Symbol.TheVariants as symbols;
 ghost use Rattle.ct_word.specs.Writable.{is_name};
 ghost use Rattle.ct_parse.specs.Grammar.{said, IsName};
-ghost use Rattle.ct_parse.specs.Ends.{Fails, at_word, EndsAnyhow};
+ghost use Rattle.ct_parse.specs.Ends.{Fails, at_name, at_word, EndsAnyhow};
 ghost use Rattle.ct_parse.specs.Reads.{Reads, Never};
 ghost use Rattle.ct_parse.specs.declared.error.Unread.TheVariants as unread;
 
@@ -115,6 +115,16 @@ fn name_said(lexeme: &Lexeme) -> Option<&str>
         Lexeme::Word(text) if is_name(text.as_str()) => Some(text.as_str()),
         _ => None,
     }
+}
+
+/// Whether a name stands in front.
+pub fn is_at_name(tokens: &[Token]) -> bool
+    ensures { result ≡ at_name (said tokens.now) }
+{
+    let Some((first, _)) = front(tokens) else {
+        return false;
+    };
+    name_said(first).is_some()
 }
 
 /// The name in front, and the tokens behind it.

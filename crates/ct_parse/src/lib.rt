@@ -1,6 +1,7 @@
 //! Statements from tokens.
 #![tactic(auto)]
 
+mod assertions;
 mod boxed;
 mod conditions;
 mod error;
@@ -24,6 +25,7 @@ pub use parsing::statement;
 pub use parsing_condition::condition;
 pub use places::{condition_place, statement_place};
 pub use tree::{
-    Alias, Cell, Column, Comparison, Condition, Conjunction, Factor, Item, Items, Joined, Query,
-    QueryPrimary, QueryTerm, Row, Select, SetOperator, Statement, Table, Tables, Term,
+    Alias, Assignment, Cell, Column, Comparison, Condition, Conjunction, Factor, Item, Items,
+    Joined, Query, QueryPrimary, QueryTerm, Row, Select, SetOperator, Statement, Table, Tables,
+    Term,
 };

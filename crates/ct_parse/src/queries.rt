@@ -4,14 +4,14 @@ ghost use Rattle.std.specs.Prelude.{◌≡◌, ◌≢◌, ◌<◌, ◌∷◌, Li
 ghost use Rattle.ct_lex.specs.declared.token.Lexeme.{Lexeme};
 ghost use Rattle.ct_lex.specs.declared.token.Lexeme.TheVariants as lexical;
 ghost use Rattle.ct_lex.specs.declared.token.Symbol.TheVariants as symbol;
-ghost use Rattle.ct_parse.specs.Grammar.{said, IsDistinct, IsSetOperator, IsPrimary, ArePrimaries, IsQueryTerm, AreTerms, IsQuery};
+ghost use Rattle.ct_parse.specs.Grammar.{said, IsDistinct, IsSetOperator, IsPrimary, ArePrimaries, IsQueryTerm, AreTerms, IsQuery, IsEnclosed};
 ghost use Rattle.ct_parse.specs.Source.{IsSource};
 ghost use Rattle.ct_parse.specs.Ends.{Fails, at_operator, EndsAnyhow, EndsDistinct, EndsSelect, EndsQueryTerm, EndsQuery};
 ghost use Rattle.ct_parse.specs.Reads.{Reads, Never};
 ghost use Rattle.ct_parse.specs.declared.error.Unread.TheVariants as unread;
 
 use crate::error::Unread;
-use crate::front::{behind_symbol, behind_word, closed, expect_word};
+use crate::front::{behind_symbol, behind_word, closed, expect_symbol, expect_word};
 use crate::rows::condition_behind;
 use crate::tables::{items, tables};
 use crate::tree::{Condition, Query, QueryPrimary, QueryTerm, Select, SetOperator, Tables};
@@ -175,4 +175,18 @@ pub fn query(alloc: Global, tokens: &[Token]) -> Result<(Query, &[Token]), Unrea
             Err(unread)
         }
     }
+}
+
+/// A query in parentheses.
+pub fn enclosed(alloc: Global, tokens: &[Token]) -> Result<(Query, &[Token]), Unread>
+    ensures ok { IfOk result (λ p. Reads IsEnclosed EndsAnyhow (said tokens.now) p.0 (said p.1.now)) }
+    ensures none { IfErr result (λ e. e ≢ unread.Memory → Never IsEnclosed EndsAnyhow (said tokens.now)) }
+{
+    let tail = expect_symbol(tokens, Symbol::LeftParen)?;
+    let (found, rest) = query(alloc, tail)?;
+    let Some(tail) = behind_symbol(rest, Symbol::RightParen) else {
+        drop(found);
+        return Err(Unread::NotSpelled(rest.len()));
+    };
+    Ok((found, tail))
 }

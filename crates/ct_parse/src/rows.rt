@@ -2,7 +2,7 @@
 
 ghost use Rattle.std.specs.Prelude.{◌≡◌, ◌≢◌, IfOk, IfErr};
 ghost use Rattle.ct_parse.specs.Grammar.{said, IsName, AreMore, IsClosed, IsCell, IsRow, HasCondition};
-ghost use Rattle.ct_parse.specs.Ends.{EndsAnyhow, EndsList, EndsBehind};
+ghost use Rattle.ct_parse.specs.Ends.{EndsAnyhow, EndsItem, EndsItems, EndsBehind};
 ghost use Rattle.ct_parse.specs.Reads.{Reads, Never};
 ghost use Rattle.ct_parse.specs.declared.error.Unread.TheVariants as unread;
 
@@ -14,7 +14,7 @@ use ct_lex::{Lexeme, Symbol, Token};
 use ct_word::{List, Text};
 use std::alloc::Global;
 
-/// What stands in lists behind commas. It has an end of its own, so anything may stand behind it.
+/// What stands in lists behind commas. It ends where neither AS nor a dot stands behind it.
 pub trait Part {
     ghost use Rattle.std.specs.Prelude.{List};
     ghost use Rattle.ct_lex.specs.declared.token.Lexeme.{Lexeme};
@@ -24,8 +24,8 @@ pub trait Part {
 
     /// The part in front, and the tokens behind it.
     fn read(alloc: Global, tokens: &[Token]) -> Result<(Self, &[Token]), Unread>
-        ensures ok { IfOk result (λ p. Reads spelled EndsAnyhow (said tokens.now) p.0 (said p.1.now)) }
-        ensures none { IfErr result (λ e. e ≢ unread.Memory → Never spelled EndsAnyhow (said tokens.now)) };
+        ensures ok { IfOk result (λ p. Reads spelled EndsItem (said tokens.now) p.0 (said p.1.now)) }
+        ensures none { IfErr result (λ e. e ≢ unread.Memory → Never spelled EndsItem (said tokens.now)) };
 }
 
 impl Part for Text {
@@ -72,8 +72,8 @@ impl Part for Row {
 
 /// Each part behind a comma.
 pub fn more<P: Part + Drop>(alloc: Global, tokens: &[Token]) -> Result<(List<P>, &[Token]), Unread>
-    ensures ok { IfOk result (λ p. Reads (AreMore P.spelled) EndsList (said tokens.now) p.0 (said p.1.now)) }
-    ensures none { IfErr result (λ e. e ≢ unread.Memory → Never (AreMore P.spelled) EndsList (said tokens.now)) }
+    ensures ok { IfOk result (λ p. Reads (AreMore P.spelled) EndsItems (said tokens.now) p.0 (said p.1.now)) }
+    ensures none { IfErr result (λ e. e ≢ unread.Memory → Never (AreMore P.spelled) EndsItems (said tokens.now)) }
 {
     let mut found = Vec::new(alloc);
     let mut rest = tokens;

@@ -2,18 +2,19 @@
 
 ghost use Rattle.std.specs.Prelude.{◌≡◌, ◌≢◌, ◌∷◌, codes, IfOk, IfErr, IfSome, IfNone};
 ghost use Rattle.ct_lex.specs.declared.token.Lexeme.TheVariants as lexical;
-ghost use Rattle.ct_parse.specs.Grammar.{said, IsStatement};
+ghost use Rattle.ct_parse.specs.Grammar.{said, IsAssignment, IsStatement};
 ghost use Rattle.ct_parse.specs.Ends.{Fails, at_word, EndsStatement};
 ghost use Rattle.ct_parse.specs.Reads.{Reads, Never};
 ghost use Rattle.ct_parse.specs.declared.error.Unread.TheVariants as unread;
 
-use crate::conditions::condition;
+use crate::assertions::assertion;
 use crate::error::Unread;
-use crate::front::{behind_word, expect_word, name};
+use crate::front::{behind_word, expect_symbol, expect_word, name};
 use crate::queries::query;
 use crate::rows::{Part, condition_behind, in_parentheses, more};
-use crate::tree::{Row, Statement};
-use ct_lex::Token;
+use crate::terms::term;
+use crate::tree::{Assignment, Row, Statement};
+use ct_lex::{Symbol, Token};
 use ct_word::Text;
 use std::alloc::Global;
 
@@ -96,6 +97,59 @@ fn delete(alloc: Global, tokens: &[Token]) -> Result<(Statement, &[Token]), Unre
     }
 }
 
+/// A column, and the term that it is set to.
+impl Part for Assignment {
+    ghost spelled = { IsAssignment };
+
+    fn read(alloc: Global, tokens: &[Token]) -> Result<(Assignment, &[Token]), Unread> {
+        let (column, rest) = name(alloc, tokens)?;
+        let tail = expect_symbol(rest, Symbol::Equal)?;
+        match term(alloc, tail) {
+            Ok((value, rest)) => Ok((Assignment { column, value }, rest)),
+            Err(unread) => {
+                drop(column);
+                Err(unread)
+            }
+        }
+    }
+}
+
+/// A statement that replaces rows of a table, behind UPDATE.
+fn update(alloc: Global, tokens: &[Token]) -> Result<(Statement, &[Token]), Unread>
+    ensures ok { IfOk result (λ p. Reads IsStatement EndsStatement (lexical.Word (codes "update") ∷ said tokens.now) p.0 (said p.1.now)) }
+    ensures none { IfErr result (λ e. e ≢ unread.Memory → Never IsStatement EndsStatement (lexical.Word (codes "update") ∷ said tokens.now)) }
+{
+    let (name, rest) = name(alloc, tokens)?;
+    let tail = expect_word(rest, "set")?;
+    let (first, rest) = Assignment::read(alloc, tail)?;
+    let (others, rest) = match more::<Assignment>(alloc, rest) {
+        Ok(found) => found,
+        Err(unread) => {
+            drop(name);
+            drop(first);
+            return Err(unread);
+        }
+    };
+    let (condition, rest) = match condition_behind(alloc, rest, "where") {
+        Ok(found) => found,
+        Err(unread) => {
+            drop(name);
+            drop(first);
+            drop(others);
+            return Err(unread);
+        }
+    };
+    Ok((
+        Statement::Update {
+            name,
+            first,
+            rest: others,
+            condition,
+        },
+        rest,
+    ))
+}
+
 /// A statement of one word.
 fn lone_word(tokens: &[Token]) -> Option<(Statement, &[Token])>
     ensures some { IfSome result (λ p. Reads IsStatement EndsStatement (said tokens.now) p.0 (said p.1.now)) }
@@ -130,9 +184,11 @@ pub fn statement(alloc: Global, tokens: &[Token]) -> Result<(Statement, &[Token]
     if let Some(tail) = behind_word(tokens, "delete") {
         return delete(alloc, tail);
     }
+    if let Some(tail) = behind_word(tokens, "update") {
+        return update(alloc, tail);
+    }
     if let Some(tail) = behind_word(tokens, "assert") {
-        let (found, rest) = condition(alloc, tail)?;
-        return Ok((Statement::Assert(found), rest));
+        return assertion(alloc, tail);
     }
     if let Some(tail) = behind_word(tokens, "possible") {
         let (found, rest) = query(alloc, tail)?;

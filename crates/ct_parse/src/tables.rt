@@ -1,7 +1,7 @@
 // The items of a SELECT, and the tables of its FROM.
 
 ghost use Rattle.std.specs.Prelude.{◌≡◌, ◌≢◌, ◌<◌, length, IfOk, IfErr};
-ghost use Rattle.ct_parse.specs.Grammar.{said, AreMore, HasName, IsItem, AreItems, HasAlias, IsTable, IsTableOn, IsJoined, AreJoined, AreTables};
+ghost use Rattle.ct_parse.specs.Grammar.{said, HasName, IsItem, AreItems, HasAlias, IsTable, IsTableOn, IsJoined, AreJoined, AreTables};
 ghost use Rattle.ct_parse.specs.Ends.{at_joined, EndsItem, EndsItems, EndsTable, EndsCondition, EndsJoined, EndsTables};
 ghost use Rattle.ct_parse.specs.Reads.{Reads, Never};
 ghost use Rattle.ct_parse.specs.declared.error.Unread.TheVariants as unread;
@@ -9,6 +9,7 @@ ghost use Rattle.ct_parse.specs.declared.error.Unread.TheVariants as unread;
 use crate::conditions::condition;
 use crate::error::Unread;
 use crate::front::{behind_symbol, behind_word, expect_word, name};
+use crate::rows::{Part, more};
 use crate::terms::column;
 use crate::tree::{Alias, Condition, Item, Items, Joined, Table, Tables};
 use ct_lex::{Symbol, Token};
@@ -31,33 +32,19 @@ fn name_behind_as(alloc: Global, tokens: &[Token]) -> Result<(Option<Text>, &[To
 }
 
 /// A column, and the name that AS gives it.
-fn item(alloc: Global, tokens: &[Token]) -> Result<(Item, &[Token]), Unread>
-    ensures ok { IfOk result (λ p. Reads IsItem EndsItem (said tokens.now) p.0 (said p.1.now)) }
-    ensures none { IfErr result (λ e. e ≢ unread.Memory → Never IsItem EndsItem (said tokens.now)) }
-{
-    let (column, rest) = column(alloc, tokens)?;
-    match name_behind_as(alloc, rest) {
-        Ok((alias, rest)) => Ok((Item { column, alias }, rest)),
-        Err(unread) => {
-            drop(column);
-            Err(unread)
+impl Part for Item {
+    ghost spelled = { IsItem };
+
+    fn read(alloc: Global, tokens: &[Token]) -> Result<(Item, &[Token]), Unread> {
+        let (column, rest) = column(alloc, tokens)?;
+        match name_behind_as(alloc, rest) {
+            Ok((alias, rest)) => Ok((Item { column, alias }, rest)),
+            Err(unread) => {
+                drop(column);
+                Err(unread)
+            }
         }
     }
-}
-
-/// Each item behind a comma.
-fn more_items(alloc: Global, tokens: &[Token]) -> Result<(List<Item>, &[Token]), Unread>
-    ensures ok { IfOk result (λ p. Reads (AreMore IsItem) EndsItems (said tokens.now) p.0 (said p.1.now)) }
-    ensures none { IfErr result (λ e. e ≢ unread.Memory → Never (AreMore IsItem) EndsItems (said tokens.now)) }
-{
-    let mut found = Vec::new(alloc);
-    let mut rest = tokens;
-    while let Some(tail) = behind_symbol(rest, Symbol::Comma) {
-        let (next, after) = item(alloc, tail)?;
-        found.push(next)?;
-        rest = after;
-    }
-    Ok((List::from_vec(found), rest))
 }
 
 /// A star, or items.
@@ -68,8 +55,8 @@ pub fn items(alloc: Global, tokens: &[Token]) -> Result<(Items, &[Token]), Unrea
     if let Some(rest) = behind_symbol(tokens, Symbol::Star) {
         return Ok((Items::Star, rest));
     }
-    let (first, rest) = item(alloc, tokens)?;
-    match more_items(alloc, rest) {
+    let (first, rest) = Item::read(alloc, tokens)?;
+    match more::<Item>(alloc, rest) {
         Ok((others, rest)) => Ok((Items::Listed(first, others), rest)),
         Err(unread) => {
             drop(first);

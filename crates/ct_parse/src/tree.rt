@@ -159,6 +159,13 @@ pub struct Query {
     pub rest: List<(SetOperator, QueryTerm)>,
 }
 
+/// `name "=" term`
+#[derive(Drop)]
+pub struct Assignment {
+    pub column: Text,
+    pub value: Term,
+}
+
 /// A statement, by the line of the grammar that it is.
 #[derive(Drop)]
 pub enum Statement {
@@ -185,8 +192,26 @@ pub enum Statement {
         name: Text,
         condition: Option<Condition>,
     },
+    /// `UPDATE name SET name "=" term {"," name "=" term} [WHERE cond]`
+    Update {
+        name: Text,
+        first: Assignment,
+        rest: List<Assignment>,
+        condition: Option<Condition>,
+    },
     /// `ASSERT cond`
     Assert(Condition),
+    /// `ASSERT [NOT] EXISTS "(" query ")"`
+    AssertExists {
+        not: bool,
+        query: Query,
+    },
+    /// `ASSERT KEY name "(" name {"," name} ")"`
+    AssertKey {
+        name: Text,
+        first: Text,
+        rest: List<Text>,
+    },
     /// `query`
     Rows(Query),
     /// `POSSIBLE query`

@@ -7,3 +7,4 @@ mod remarks;
 mod schedules;
 mod side_by_side;
 mod together;
+mod updates;

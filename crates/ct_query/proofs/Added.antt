@@ -64,7 +64,10 @@ action_reads_once (plain.Create name columns) = one_once (read.Table name)
 action_reads_once (plain.InsertRows name rs p) = none_once
 action_reads_once (plain.InsertQuery name q) = query_reads_once q
 action_reads_once (plain.Delete name p) = none_once
+action_reads_once (plain.Update name sets p) = none_once
 action_reads_once (plain.Assert p) = one_once read.Worlds
+action_reads_once (plain.AssertQuery wanted q) = query_reads_once q
+action_reads_once (plain.AssertKey name columns) = IsDistinct-push same_read_equiv (read.Table name ∷ []) read.Worlds (one_once (read.Table name)) refl
 
 reads_once : (s : PlainStatement) → IsDistinct same_read (reads_of s)
 reads_once (plain.Act a) = action_reads_once a

@@ -3,14 +3,14 @@ use Rattle.std.{proofs.Common.{◌≡◌, ℕ, Bool, true, false, not, List, [],
 use Rattle.std.{proofs.lemmas.List.Elements.{recursion_from_All, filter_map-append}, specs.List.{AllByRecursion, cons_option}}
 use Rattle.std.specs.Prelude.{Option, Some, None, IfSome, is_some, option_and_then, filter, filter_map, if◌then◌else◌}
 use Rattle.ct_word.{specs.declared.values.Value.Value, specs.declared.values.Term.Term, specs.Value.{World, tuple_at, same_text}, specs.Sublist.IsSublist}
-use Rattle.ct_word.{specs.Condition.{Condition, holds, holds_at}, specs.Change.{PlainRow, PlainChange, Create, Insert, Delete, Assert, PlainCommit}}
-use Rattle.ct_query.{specs.Plain.PlainAction, specs.Database.{Relation, Database, SameSet, SameRelation, SameDatabase, changed, with_tuples}, specs.Rows.rows}
-use Rattle.ct_query.{specs.Step.{inserted, deleted, asserted, shown_rows, step_change, step_action}, specs.Schema.{created_by_change, created_by_action}}
+use Rattle.ct_word.{specs.Condition.{Condition, holds, holds_at}, specs.Change.{PlainRow, PlainChange, Create, Insert, Delete, Update, Assert, PlainCommit}}
+use Rattle.ct_query.{specs.Plain.PlainAction, specs.Database.{Relation, Database, tuples_of, SameSet, SameRelation, SameDatabase, changed, with_tuples}, specs.Rows.rows}
+use Rattle.ct_query.{specs.Step.{inserted, deleted, set_where, only_if, asserted, shown_rows, step_change, step_action}, specs.Updates.{Sets, updated_tuple, updated, with_updated}, specs.Assertions.{as_wanted, is_key}, specs.Schema.{created_by_change, created_by_action}}
 use Rattle.ct_query.{specs.Worlds.{world, after_changes, after_actions, changes_of}, specs.Agrees.{AgreesWith, AgreesAfter, Agrees, SameTruthAlone}}
-use Rattle.ct_query.specs.Patterns.{Patterns, patterns, pattern, pattern_change, pattern_changes, pattern_action, pattern_actions, with_lines}
+use Rattle.ct_query.specs.Patterns.{Patterns, patterns, pattern, pattern_change, pattern_changes, pattern_action, pattern_actions, with_lines, with_sets}
 use Rattle.ct_query.{specs.Committed.{SameWorld, Does}, proofs.Laws.{world_commit, world_action, patterns_commit, patterns_action, changes_of-snoc}}
-use Rattle.ct_query.{proofs.Sets.{same_set_itself, same_set-append}, proofs.SameRows.{same_set_filter, same_database_append}}
-use Rattle.ct_query.proofs.Sublists.{all_of, sublist-append, pattern_part}
+use Rattle.ct_query.{proofs.Sets.{same_set_itself, same_set-append}, proofs.SameRows.{same_set_filter, same_set_map, same_database_append}}
+use Rattle.ct_query.proofs.Sublists.{all_of, sublist-append, sublist_updated, pattern_part}
 use Rattle.ct_query.specs.Plain as plain
 
 -- the same tables
@@ -69,6 +69,13 @@ module _ (v : World) where
   asserted_same true a d s = s
   asserted_same false a d s = tt
 
+  -- a condition that holds exactly where a database is kept
+  asserted_as : (b : Bool) (c : Condition) (w w' : Database) → holds_at v c ≡ is_some (only_if b w) → SameDatabase w w' → SameWorld (only_if b w) (asserted v w' c)
+  asserted_as b c w w' e s = subst (λ x. SameWorld (only_if b w) (if x then Some w' else None)) (sym (e ∙ is_kept b)) (asserted_same b w w' s) where
+    is_kept : (x : Bool) → is_some (only_if x w) ≡ x
+    is_kept true = refl
+    is_kept false = refl
+
   module _ (h : List PlainCommit) (before : List PlainAction) where
     -- one change that agrees
     does_one : (x : PlainAction) (y : PlainChange) → AgreesWith h before x y → (w w' : Database) → world v h before ≡ Some w → SameDatabase w w'
@@ -89,6 +96,16 @@ module _ (v : World) where
         subst (λ m. SameDatabase (deleted v w n p) (deleted v w' m c)) (sym f.0)
         (same_changed n (filter (λ tuple. not (holds v tuple p))) (filter (λ tuple. not (holds v tuple c)))
         (λ a b e. subst (λ l. SameSet (filter (λ tuple. not (holds v tuple p)) a) l) (λ i. filter (λ tuple. not (sym (f.1 v tuple) i)) b) (same_set_filter (λ tuple. not (holds v tuple p)) a b e)) w w' s)
+    does_one (plain.Update n ss p) (Update n' ss' c) f w w' is s =
+        subst (λ m. SameDatabase (set_where v w n ss p) (set_where v w' m ss' c)) (sym f.0)
+        (subst (λ sets. SameDatabase (set_where v w n ss p) (set_where v w' n sets c)) (sym f.1)
+        (same_changed n (updated v p ss) (updated v c ss)
+        (λ a b e. subst (SameSet (updated v p ss a)) (λ i. map (λ tuple. if sym (f.2 v tuple) i then updated_tuple v ss tuple else tuple) b)
+        (same_set_map (λ tuple. if holds v tuple p then updated_tuple v ss tuple else tuple) a b e)) w w' s))
+    does_one (plain.AssertQuery wanted q) (Assert c) f w w' is s =
+        asserted_as (as_wanted wanted (rows v q w)) c w w' (subst (λ o. IfSome o (λ d. holds_at v c ≡ is_some (only_if (as_wanted wanted (rows v q d)) d))) is (f v)) s
+    does_one (plain.AssertKey n ks) (Assert c) f w w' is s =
+        asserted_as (is_key ks (tuples_of w n)) c w w' (subst (λ o. IfSome o (λ d. holds_at v c ≡ is_some (only_if (is_key ks (tuples_of d n)) d))) is (f v)) s
     does_one (plain.Assert p) (Assert c) f w w' is s =
         subst (λ b. SameWorld (asserted v w p) (if b then Some w' else None)) (sym (f v)) (asserted_same (holds_at v p) w w' s)
     does_one _ _ f w w' is s = absurd f
@@ -120,7 +137,10 @@ table_of_both h before (plain.Create n cs) (Create n' cs') f = λ i. Some (recor
 table_of_both h before (plain.InsertRows n ls p) (Insert n' rs) f = refl
 table_of_both h before (plain.InsertQuery n q) (Insert n' rs) f = refl
 table_of_both h before (plain.Delete n p) (Delete n' c) f = refl
+table_of_both h before (plain.Update n ss p) (Update n' ss' c) f = refl
 table_of_both h before (plain.Assert p) (Assert c) f = refl
+table_of_both h before (plain.AssertQuery wanted q) (Assert c) f = refl
+table_of_both h before (plain.AssertKey n ks) (Assert c) f = refl
 table_of_both h before _ _ f = absurd f
 
 tables_of_both : (h : List PlainCommit) (before actions : List PlainAction) (xs : List PlainChange) → AgreesAfter h before actions xs
@@ -137,6 +157,12 @@ lines_part p p' n ls ls' l e t = by_test (same_text n t) where
   by_test true = sublist-append (p t) (p' t) ls ls' (e t) l
   by_test false = e t
 
+sets_part : (p p' : Patterns) (n : List ℕ) (ss : Sets) → ((t : List ℕ) → IsSublist (p t) (p' t)) → (t : List ℕ) → IsSublist (with_sets p n ss t) (with_sets p' n ss t)
+sets_part p p' n ss e t = by_test (same_text n t) where
+  by_test : (b : Bool) → IsSublist (if b then with_updated ss (p t) else p t) (if b then with_updated ss (p' t) else p' t)
+  by_test true = sublist_updated ss (p t) (p' t) (e t)
+  by_test false = e t
+
 module _ (h : List PlainCommit) where
   one_part : (before : List PlainAction) (a : PlainAction) (x : PlainChange) → AgreesWith h before a x → (p : Patterns)
       → ((t : List ℕ) → IsSublist (p t) (patterns h before t)) → (t : List ℕ) → IsSublist (pattern_change p x t) (pattern_action (patterns h before) a t)
@@ -148,7 +174,12 @@ module _ (h : List PlainCommit) where
       subst (λ m. (t : List ℕ) → IsSublist (with_lines p m (map (λ (r : PlainRow). r.cells) rs) t) (with_lines (patterns h before) n (pattern h before q) t)) (sym f.0)
       (lines_part p (patterns h before) n (map (λ (r : PlainRow). r.cells) rs) (pattern h before q) f.1 e)
   one_part before (plain.Delete n c) (Delete n' d) f p e = e
+  one_part before (plain.Update n ss c) (Update n' ss' d) f p e =
+      subst (λ m. (t : List ℕ) → IsSublist (with_sets p m ss' t) (with_sets (patterns h before) n ss t)) (sym f.0)
+      (subst (λ sets. (t : List ℕ) → IsSublist (with_sets p n sets t) (with_sets (patterns h before) n ss t)) (sym f.1) (sets_part p (patterns h before) n ss e))
   one_part before (plain.Assert c) (Assert d) f p e = e
+  one_part before (plain.AssertQuery wanted q) (Assert d) f p e = e
+  one_part before (plain.AssertKey n ks) (Assert d) f p e = e
   one_part before _ _ f p e = absurd f
 
   all_parts : (before actions : List PlainAction) (xs : List PlainChange) → AgreesAfter h before actions xs → (p : Patterns)

@@ -3,16 +3,16 @@ use Rattle.std.{proofs.Common.{◌≡◌, ℕ, ◌≤◌, Bool, true, false, Lis
 use Rattle.std.{specs.Prelude.{Option, Some, None, IfSome, IsSome, All, is_some, option_map, filter_map, if◌then◌else◌}, proofs.lemmas.Bool.false≢true}
 use Rattle.std.{specs.List.{AllByRecursion, cons_option, list_any}, proofs.lemmas.List.Elements.{All-contains, recursion_from_All, filter_map-append}}
 use Rattle.std.proofs.lemmas.Grind.{flat_map-append}
-use Rattle.ct_word.{specs.declared.values.Value.Value, specs.Value.{World, same_text}, specs.Change.{PlainChange, Create, Insert, Delete, Assert, PlainCommit}}
+use Rattle.ct_word.{specs.declared.values.Value.Value, specs.Value.{World, same_text}, specs.Change.{PlainChange, Create, Insert, Delete, Update, Assert, PlainCommit}}
 use Rattle.ct_word.proofs.Alike.{text_decides}
 use Rattle.ct_query.{specs.declared.schema.Heading.Heading, specs.Plain.{PlainQuery, PlainAction}, specs.declared.action.Read.Read, specs.Rows.rows}
-use Rattle.ct_query.{specs.Database.{Database, SameSet}, specs.Worlds.{world, admits, after_changes, after_actions, changes_of}}
+use Rattle.ct_query.{specs.Database.{Database, SameSet}, specs.Worlds.{world, admits, after_changes, after_actions, changes_of}, specs.Step.step_action}
 use Rattle.ct_query.{specs.Schema.{schema, created_by_change, created_by_action}, specs.Patterns.{patterns, pattern, pattern_changes, no_patterns}}
 use Rattle.ct_query.{specs.Reads.{tables_of, query_reads, action_reads, writes, last}, proofs.Laws.{after_changes-append, pattern_changes-append}}
-use Rattle.ct_query.specs.Fits.{columns_in, count_of, AreColumnsBelow, FitsRow, FitsChange, FitChanges, FitAfter}
+use Rattle.ct_query.specs.Fits.{columns_in, count_of, AreColumnsBelow, AreSets, FitsRow, FitsChange, FitChanges, FitAfter}
 use Rattle.ct_query.specs.Frame.{AreOlder, reads_of_actions, creates, SameForActions, SameForQuery}
 use Rattle.ct_query.proofs.Keeping.{Finds, FindAll, all_agree, changes_themselves}
-use Rattle.ct_query.proofs.Within.{Unwritten, or_false, later_unwritten, all_parts, all_push, of_added, Within, ReadsWithin, within_tables, Below, below_itself, below_changes, rows_within, below_actions, changes_admit, actions_admit, lines_unwritten, pattern_within, actions_within}
+use Rattle.ct_query.proofs.Within.{Unwritten, or_false, later_unwritten, all_parts, all_push, of_added, Within, ReadsWithin, within_tables, Below, below_itself, below_changes, rows_within, below_actions, changes_admit, action_admits, actions_admit, lines_unwritten, pattern_within, actions_within}
 use Rattle.ct_query.specs.Plain as plain
 use Rattle.ct_query.specs.declared.action.Read.TheVariants as read
 
@@ -43,6 +43,7 @@ none_created (x ∷ xs) t free =
       first (Create n cs) f rest = ap (λ b. if b then Some cs else columns_in (filter_map created_by_change xs) t) f ∙ rest
       first (Insert n rs) f rest = rest
       first (Delete n c) f rest = rest
+      first (Update n ss c) f rest = rest
       first (Assert c) f rest = rest
 
 -- tables of a set, and all tables that are there, have the same columns among more tables
@@ -80,6 +81,7 @@ module _ (S : List ℕ → Type 0) where
   change_fits s more g (Create n cs) named f = g.same n named.0 ∙ f
   change_fits s more g (Insert n rs) named f = subst (λ o. IsSome o × All (FitsRow (count_of o)) rs) (sym (g.there n f.0)) f
   change_fits s more g (Delete n c) named f = subst (λ o. IsSome o × AreColumnsBelow (count_of o) c) (sym (g.there n f.0)) f
+  change_fits s more g (Update n ss c) named f = subst (λ o. IsSome o × AreSets (count_of o) ss × AreColumnsBelow (count_of o) c) (sym (g.there n f.0)) f
   change_fits s more g (Assert c) named f = f
 
   changes_fit : (xs : List PlainChange) (s more : List Heading) → Grows S s more → Named (filter_map created_by_change xs) → FitChanges s xs → FitChanges more xs
@@ -115,6 +117,8 @@ module _ (h k : List PlainCommit) where
 
   action_older : (a : PlainAction) → AllByRecursion Older (action_reads a) → ReadsWithin Free a
   action_older (plain.InsertQuery n q) all = (query_older q all).0
+  action_older (plain.AssertQuery wanted q) all = (query_older q all).0
+  action_older (plain.AssertKey n ks) all = free_of n all.0
   action_older _ all = tt
 
   actions_older : (actions : List PlainAction) → AllByRecursion Older (reads_of_actions actions) → AllByRecursion (ReadsWithin Free) actions
@@ -151,10 +155,21 @@ module _ (h k : List PlainCommit) where
       by_worlds (Some w) None b g = absurd b
       by_worlds (Some w) (Some w') b g = subst (SameSet tuples) (sym (rows_within Free v w w' b q s)) g
 
+    -- an action that reads older tables leaves a database behind where it did
+    kept_later : (v : World) (a : PlainAction) → ReadsWithin Free a → (b : Bool)
+        → IfSome (world v h actions) (λ w. b ≡ is_some (step_action v w a)) → IfSome (world v (h ++ k) actions) (λ w. b ≡ is_some (step_action v w a))
+    kept_later v a s b f = by_worlds (world v (h ++ k) actions) (world v h actions) (below v) f where
+      by_worlds : (o o' : Option Database) → Below Free o o' → IfSome o' (λ w. b ≡ is_some (step_action v w a)) → IfSome o (λ w. b ≡ is_some (step_action v w a))
+      by_worlds None o' e g = tt
+      by_worlds (Some w) None e g = absurd e
+      by_worlds (Some w) (Some w') e g = g ∙ sym (action_admits Free v a s (Some w) (Some w') e refl)
+
     admits_later : Older read.Worlds → (v : World) → admits v (h ++ k) actions ≡ admits v h actions
     admits_later old v =
         ap (λ o. is_some (after_actions v o actions)) (world_later v)
-        ∙ actions_admit v actions (after_changes v (world v h []) (changes_of k)) (world v h []) (changes_admit v (changes_of k) (later_unwritten read.Worlds h k old) (world v h []))
+        ∙ actions_admit Free v actions within (after_changes v (world v h []) (changes_of k)) (world v h [])
+        (below_changes Free v (changes_of k) (λ t s. s) (world v h []) (world v h []) (below_itself Free (world v h [])))
+        (changes_admit v (changes_of k) (later_unwritten read.Worlds h k old) (world v h []))
 
     rows_later : Older read.Worlds → (v : World) (q : PlainQuery) → Within Free q
         → option_map (rows v q) (world v (h ++ k) actions) ≡ option_map (rows v q) (world v h actions)
@@ -170,7 +185,10 @@ module _ (h k : List PlainCommit) where
   finds_later before within (plain.Create n cs) s = tt
   finds_later before within (plain.InsertRows n ls p) s = tt
   finds_later before within (plain.Delete n p) s = tt
+  finds_later before within (plain.Update n ss p) s = tt
   finds_later before within (plain.Assert p) s = tt
+  finds_later before within (plain.AssertQuery wanted q) s = λ v. kept_later before within v (plain.AssertQuery wanted q) s
+  finds_later before within (plain.AssertKey n ks) s = λ v. kept_later before within v (plain.AssertKey n ks) s
 
   all_find_later : (before actions : List PlainAction) → AllByRecursion (ReadsWithin Free) before → AllByRecursion (ReadsWithin Free) actions → FindAll h (h ++ k) before actions
   all_find_later before [] within rest = tt
@@ -204,7 +222,10 @@ module _ (h k : List PlainCommit) where
     by_first (plain.InsertRows n ls c) own rest = rest
     by_first (plain.InsertQuery n q) own rest = rest
     by_first (plain.Delete n c) own rest = rest
+    by_first (plain.Update n ss c) own rest = rest
     by_first (plain.Assert c) own rest = rest
+    by_first (plain.AssertQuery wanted q) own rest = rest
+    by_first (plain.AssertKey n ks) own rest = rest
 
   named_free : (hs : List Heading) → AllByRecursion Older (map (λ (t : Heading). read.Table t.name) hs) → Named Free hs
   named_free [] all = tt

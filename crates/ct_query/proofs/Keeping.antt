@@ -3,13 +3,13 @@ use Rattle.std.proofs.Common.{◌≡◌, ℕ, zero, suc, Bool, true, false, not,
 use Rattle.std.specs.Prelude.{Option, Some, None, IfSome, ⊤, ◌||◌, is_some, option_and_then, filter, filter_map, if◌then◌else◌}
 use Rattle.std.{specs.List.{AllByRecursion, cons_option, list_any}, proofs.lemmas.List.Elements.{All-from_recursion, recursion_from_All}}
 use Rattle.ct_word.{specs.declared.values.Value.Value, specs.Value.{World, tuple_at, same_text}, specs.Condition.{Condition, holds_at, SameTruth}}
-use Rattle.ct_word.{specs.Sublist.IsSublist, specs.Change.{PlainRow, PlainChange, Create, Insert, Delete, Assert, PlainCommit}}
+use Rattle.ct_word.{specs.Sublist.IsSublist, specs.Change.{PlainRow, PlainChange, Create, Insert, Delete, Update, Assert, PlainCommit}}
 use Rattle.ct_word.specs.StandsFor.{SameRows, SameChange, SameChanges, SameCommits}
 use Rattle.ct_query.{specs.Plain.PlainAction, specs.declared.action.Read.Read, specs.Database.{Database, SameSet, changed}, specs.Rows.rows}
-use Rattle.ct_query.{specs.Step.{created, inserted, shown_rows, step_change}, specs.Worlds.{world, after_changes, after_actions, changes_of}}
+use Rattle.ct_query.{specs.Step.{created, inserted, shown_rows, step_change, step_action}, specs.Updates.{Sets, updated_tuple}, specs.Worlds.{world, after_changes, after_actions, changes_of}}
 use Rattle.ct_query.{specs.Schema.{created_by_change, created_by_action}, specs.Reads.{writes, one_earlier, last}, specs.Keeping.{Keeps, KeepsThroughout}}
-use Rattle.ct_query.specs.Patterns.{Patterns, patterns, pattern, query_pattern, pattern_change, pattern_changes, pattern_actions, no_patterns, with_lines, distinct_count}
-use Rattle.ct_query.specs.Agrees.{AgreesWith, AgreesAfter, SameTruthAlone}
+use Rattle.ct_query.specs.Patterns.{Patterns, patterns, pattern, query_pattern, pattern_change, pattern_changes, pattern_actions, no_patterns, with_lines, with_sets, distinct_count}
+use Rattle.ct_query.specs.Agrees.{AgreesWith, AgreesAfter, SameTruthAlone, HoldsWhereKept}
 use Rattle.ct_query.specs.Plain as plain
 use Rattle.ct_query.specs.declared.action.Read.TheVariants as read
 
@@ -33,6 +33,7 @@ module _ (v : World) where
   step_same w (Create n cs) (Create n' cs') s = λ i. Some (created w (s.0 i) (s.1 i))
   step_same w (Insert n rs) (Insert n' qs) s = λ i. Some (inserted w (s.0 i) (shown_same rs qs s.1 i))
   step_same w (Delete n c) (Delete n' d) s = λ i. Some (changed w (s.0 i) (filter (λ tuple. not (s.1 v tuple i))))
+  step_same w (Update n ss c) (Update n' ss' d) s = λ i. Some (changed w (s.0 i) (map (λ tuple. if s.2 v tuple i then updated_tuple v (s.1 i) tuple else tuple)))
   step_same w (Assert c) (Assert d) s = λ i. if s v [] i then Some w else None
   step_same w _ _ s = absurd s
 
@@ -51,6 +52,7 @@ lines_same : (p : Patterns) (x y : PlainChange) → SameChange x y → pattern_c
 lines_same p (Create n cs) (Create n' cs') s = refl
 lines_same p (Insert n rs) (Insert n' qs) s = let cells = cells_same rs qs s.1 in λ i. with_lines p (s.0 i) (cells i)
 lines_same p (Delete n c) (Delete n' d) s = refl
+lines_same p (Update n ss c) (Update n' ss' d) s = λ i. with_sets p (s.0 i) (s.1 i)
 lines_same p (Assert c) (Assert d) s = refl
 lines_same p _ _ s = absurd s
 
@@ -63,6 +65,7 @@ table_same : (x y : PlainChange) → SameChange x y → created_by_change x ≡ 
 table_same (Create n cs) (Create n' cs') s = λ i. Some (record { name = s.0 i; columns = s.1 i })
 table_same (Insert n rs) (Insert n' qs) s = refl
 table_same (Delete n c) (Delete n' d) s = refl
+table_same (Update n ss c) (Update n' ss' d) s = refl
 table_same (Assert c) (Assert d) s = refl
 table_same _ _ s = absurd s
 
@@ -78,6 +81,8 @@ writes_same (read.Table t) (Insert n rs) (Insert n' qs) s = λ i. same_text (s.0
 writes_same read.Worlds (Insert n rs) (Insert n' qs) s = refl
 writes_same (read.Table t) (Delete n c) (Delete n' d) s = λ i. same_text (s.0 i) t
 writes_same read.Worlds (Delete n c) (Delete n' d) s = refl
+writes_same (read.Table t) (Update n ss c) (Update n' ss' d) s = λ i. same_text (s.0 i) t
+writes_same read.Worlds (Update n ss c) (Update n' ss' d) s = refl
 writes_same (read.Table t) (Assert c) (Assert d) s = refl
 writes_same read.Worlds (Assert c) (Assert d) s = refl
 writes_same r _ _ s = absurd s
@@ -130,22 +135,38 @@ module _ (g : List PlainCommit) (before : List PlainAction) where
   deleted_agrees (plain.Delete m p) n n' c d e s f = (sym e ∙ f.0, λ v row. sym (s v row) ∙ f.1 v row)
   deleted_agrees _ n n' c d e s f = f
 
+  updated_agrees : (a : PlainAction) (n n' : List ℕ) (ss ss' : Sets) (c d : Condition) → n ≡ n' → ss ≡ ss' → SameTruth c d → AgreesWith g before a (Update n ss c) → AgreesWith g before a (Update n' ss' d)
+  updated_agrees (plain.Update m qs p) n n' ss ss' c d e es s f = (sym e ∙ f.0, sym es ∙ f.1, λ v row. sym (s v row) ∙ f.2 v row)
+  updated_agrees _ n n' ss ss' c d e es s f = f
+
+  kept_agrees : (a : PlainAction) (c d : Condition) → SameTruth c d → HoldsWhereKept g before a c → HoldsWhereKept g before a d
+  kept_agrees a c d s f = λ v. subst (λ b. IfSome (world v g before) (λ w. b ≡ is_some (step_action v w a))) (s v []) (f v)
+
   asserted_agrees : (a : PlainAction) (c d : Condition) → SameTruth c d → AgreesWith g before a (Assert c) → AgreesWith g before a (Assert d)
   asserted_agrees (plain.Assert p) c d s f = λ v. sym (s v []) ∙ f v
+  asserted_agrees (plain.AssertQuery wanted q) c d s f = kept_agrees (plain.AssertQuery wanted q) c d s f
+  asserted_agrees (plain.AssertKey n ks) c d s f = kept_agrees (plain.AssertKey n ks) c d s f
   asserted_agrees _ c d s f = f
 
   change_agrees : (a : PlainAction) (x y : PlainChange) → SameChange x y → AgreesWith g before a x → AgreesWith g before a y
   change_agrees a (Create n cs) (Create n' cs') s f = subst (λ (p : List ℕ × List (List ℕ)). AgreesWith g before a (Create p.0 p.1)) (λ i. (s.0 i, s.1 i)) f
   change_agrees a (Insert n rs) (Insert n' qs) s f = inserted_agrees a n n' rs qs s.0 s.1 f
   change_agrees a (Delete n c) (Delete n' d) s f = deleted_agrees a n n' c d s.0 s.1 f
+  change_agrees a (Update n ss c) (Update n' ss' d) s f = updated_agrees a n n' ss ss' c d s.0 s.1 s.2 f
   change_agrees a (Assert c) (Assert d) s f = asserted_agrees a c d s f
   change_agrees a _ _ s f = absurd s
 
--- an action finds the same pattern for its query after another history, and its tuples there too
+-- an action that leaves a database behind exactly where this holds does so after another history too
+abbrev pub FindsKept : List PlainCommit → List PlainCommit → List PlainAction → PlainAction → Type 0
+FindsKept g h before a = (v : World) (b : Bool) → IfSome (world v g before) (λ w. b ≡ is_some (step_action v w a)) → IfSome (world v h before) (λ w. b ≡ is_some (step_action v w a))
+
+-- an action finds the same pattern for its query after another history, and its tuples there too, and asserts the same of it
 abbrev pub Finds : List PlainCommit → List PlainCommit → List PlainAction → PlainAction → Type 0
 Finds g h before (plain.InsertQuery n q) =
     (pattern g before q ≡ pattern h before q)
     × ((v : World) (tuples : List (List Value)) → IfSome (world v g before) (λ w. SameSet tuples (rows v q w)) → IfSome (world v h before) (λ w. SameSet tuples (rows v q w)))
+Finds g h before (plain.AssertQuery wanted q) = FindsKept g h before (plain.AssertQuery wanted q)
+Finds g h before (plain.AssertKey n ks) = FindsKept g h before (plain.AssertKey n ks)
 Finds g h before _ = ⊤
 
 -- so does each of these actions, after the ones before it
@@ -157,6 +178,8 @@ module _ (g h : List PlainCommit) where
   history_agrees : (before : List PlainAction) (a : PlainAction) (x : PlainChange) → Finds g h before a → AgreesWith g before a x → AgreesWith h before a x
   history_agrees before (plain.InsertQuery m q) (Insert n rs) same f =
       (f.0, subst (IsSublist (map (λ (r : PlainRow). r.cells) rs)) same.0 f.1, λ v. same.1 v (shown_rows v rs) (f.2 v))
+  history_agrees before (plain.AssertQuery wanted q) (Assert c) same f = λ v. same v (holds_at v c) (f v)
+  history_agrees before (plain.AssertKey n ks) (Assert c) same f = λ v. same v (holds_at v c) (f v)
   history_agrees before _ _ same f = f
 
   -- agreement after one history is agreement after the other
@@ -180,6 +203,7 @@ change_itself : (x : PlainChange) → SameChange x x
 change_itself (Create n cs) = (refl, refl)
 change_itself (Insert n rs) = (refl, rows_themselves rs)
 change_itself (Delete n c) = (refl, λ v row. refl)
+change_itself (Update n ss c) = (refl, refl, λ v row. refl)
 change_itself (Assert c) = λ v row. refl
 
 pub changes_themselves : (xs : List PlainChange) → SameChanges xs xs
@@ -200,6 +224,8 @@ module _ (g h : List PlainCommit) (s : SameCommits g h) where
   finds : (before : List PlainAction) (a : PlainAction) → Finds g h before a
   finds before (plain.InsertQuery n q) =
       (ap (λ p. query_pattern p q) (patterns_same before), λ v tuples. subst (λ o. IfSome o (λ w. SameSet tuples (rows v q w))) (worlds_same v before))
+  finds before (plain.AssertQuery wanted q) = λ v b. subst (λ o. IfSome o (λ w. b ≡ is_some (step_action v w (plain.AssertQuery wanted q)))) (worlds_same v before)
+  finds before (plain.AssertKey n ks) = λ v b. subst (λ o. IfSome o (λ w. b ≡ is_some (step_action v w (plain.AssertKey n ks)))) (worlds_same v before)
   finds before _ = tt
 
   find_all : (before actions : List PlainAction) → FindAll g h before actions

@@ -1,7 +1,8 @@
 -- Parts of lists, and that the pattern of a query over parts of the tables' patterns is a part of its pattern over these.
 use Rattle.std.proofs.Common.{ℕ, List, [], ◌∷◌, ◌++◌, map}
 use Rattle.ct_word.specs.Sublist.{IsSublist, ended, left_out, taken}
-use Rattle.ct_query.{specs.Plain.PlainQuery, specs.Rows.joins, specs.Patterns.{Patterns, picked, query_pattern}}
+use Rattle.ct_word.specs.declared.values.Term.{Term}
+use Rattle.ct_query.{specs.Plain.PlainQuery, specs.Rows.joins, specs.Updates.{Sets, with_updated}, specs.Patterns.{Patterns, picked, query_pattern}}
 use Rattle.ct_query.specs.Plain as plain
 
 -- nothing is a part of every list
@@ -39,6 +40,12 @@ sublist_joins xs (y ∷ ys) zs ws (left_out p) q =
     sublist-append [] (map (λ z. y ++ z) ws) (joins xs zs) (joins ys ws) (nothing_of (map (λ z. y ++ z) ws)) (sublist_joins xs ys zs ws p q)
 sublist_joins (x ∷ xs) (x' ∷ ys) zs ws (taken p) q =
     sublist-append (map (λ z. x ++ z) zs) (map (λ z. x ++ z) ws) (joins xs zs) (joins ys ws) (sublist-map (λ z. x ++ z) zs ws q) (sublist_joins xs ys zs ws p q)
+
+-- each item of a part followed by the one with the sets
+pub sublist_updated : (sets : Sets) (xs ys : List (List Term)) → IsSublist xs ys → IsSublist (with_updated sets xs) (with_updated sets ys)
+sublist_updated sets xs ys ended = ended
+sublist_updated sets xs (y ∷ ys) (left_out p) = left_out (left_out (sublist_updated sets xs ys p))
+sublist_updated sets (x ∷ xs) (x' ∷ ys) (taken p) = taken (taken (sublist_updated sets xs ys p))
 
 module _ (p p' : Patterns) (each : (t : List ℕ) → IsSublist (p t) (p' t)) where
   -- a query's pattern over parts of patterns

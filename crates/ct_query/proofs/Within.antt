@@ -4,11 +4,11 @@ use Rattle.std.{specs.Prelude.{Option, Some, None, ⊤, is_some, option_and_then
 use Rattle.std.{proofs.lemmas.Bool.false≢true, proofs.lemmas.Cmp.nat_list_eq_equiv, proofs.lemmas.List.append-nil}
 use Rattle.std.{proofs.lemmas.List.Elements.{All-weaker, filter_passes, filter-append}, proofs.lemmas.List.Folds.{list_any-append, map_fixed}}
 use Rattle.ct_word.{specs.declared.values.Value.Value, specs.declared.values.Term.Term, specs.Value.{World, tuple_at, cell_at, same_text}}
-use Rattle.ct_word.{specs.Condition.{holds, holds_at}, specs.Change.{PlainRow, PlainChange, Create, Insert, Delete, Assert, PlainCommit}}
+use Rattle.ct_word.{specs.Condition.{holds, holds_at}, specs.Change.{PlainRow, PlainChange, Create, Insert, Delete, Update, Assert, PlainCommit}}
 use Rattle.ct_word.proofs.Alike.{text_decides}
 use Rattle.ct_query.{specs.Plain.{PlainQuery, PlainAction}, specs.declared.action.Read.Read, specs.Rows.{rows, joins}}
 use Rattle.ct_query.{specs.Database.{Relation, Database, tuples_of, with_tuples, changed, has_tuple}, specs.Worlds.{after_changes, after_actions, changes_of}}
-use Rattle.ct_query.specs.Step.{created, inserted, shown_rows, step_change, step_action}
+use Rattle.ct_query.{specs.Step.{created, inserted, shown_rows, only_if, step_change, step_action}, specs.Updates.{updated, with_updated}, specs.Assertions.{as_wanted, is_key}}
 use Rattle.ct_query.specs.Patterns.{Patterns, query_pattern, picked, pattern_change, pattern_changes, pattern_action, pattern_actions, with_lines}
 use Rattle.ct_query.specs.Reads.{same_read, with_reads, tables_of, writes, commit_writes, one_earlier, last}
 use Rattle.ct_query.specs.Plain as plain
@@ -88,6 +88,8 @@ module _ (S : List ℕ → Type 0) where
 
   abbrev pub ReadsWithin : PlainAction → Type 0
   ReadsWithin (plain.InsertQuery n q) = Within q
+  ReadsWithin (plain.AssertQuery wanted q) = Within q
+  ReadsWithin (plain.AssertKey n ks) = S n
   ReadsWithin _ = ⊤
 
   pub within_tables : (q : PlainQuery) → AllByRecursion S (tables_of q) → Within q
@@ -154,6 +156,7 @@ module _ (S : List ℕ → Type 0) (v : World) where
   one_change (Create n cs) free w w' e = λ t s. cut_created n cs t (free t s) w ∙ e t s
   one_change (Insert n rs) free w w' e = λ t s. cut_unchanged n (λ tuples. tuples ++ shown_rows v rs) t (free t s) w ∙ e t s
   one_change (Delete n c) free w w' e = λ t s. cut_unchanged n (filter (λ tuple. not (holds v tuple c))) t (free t s) w ∙ e t s
+  one_change (Update n ss c) free w w' e = λ t s. cut_unchanged n (updated v c ss) t (free t s) w ∙ e t s
   one_change (Assert c) free w w' e = by_test (holds_at v c) where
     by_test : (b : Bool) → Below S (if b then Some w else None) (Some w')
     by_test true = e
@@ -187,6 +190,10 @@ module _ (S : List ℕ → Type 0) (v : World) where
     inserted_within n more more' m t s =
         cut_changed n (λ tuples. tuples ++ more) t w ∙ (λ i. changed (e t s i) n (λ tuples. tuples ++ m i)) ∙ sym (cut_changed n (λ tuples. tuples ++ more') t w')
 
+    kept_within : (b : Bool) → Below S (only_if b w) (only_if b w')
+    kept_within true = e
+    kept_within false = tt
+
     -- an action that reads these tables alone
     one_action : (a : PlainAction) → ReadsWithin S a → Below S (step_action v w a) (step_action v w' a)
     one_action (plain.Create n cs) within = λ t s.
@@ -201,10 +208,13 @@ module _ (S : List ℕ → Type 0) (v : World) where
     one_action (plain.Delete n p) within = λ t s.
         cut_changed n (filter (λ tuple. not (holds v tuple p))) t w
         ∙ ap (λ u. changed u n (filter (λ tuple. not (holds v tuple p)))) (e t s) ∙ sym (cut_changed n (filter (λ tuple. not (holds v tuple p))) t w')
-    one_action (plain.Assert p) within = by_test (holds_at v p) where
-      by_test : (b : Bool) → Below S (if b then Some w else None) (if b then Some w' else None)
-      by_test true = e
-      by_test false = tt
+    one_action (plain.Update n ss p) within = λ t s.
+        cut_changed n (updated v p ss) t w ∙ ap (λ u. changed u n (updated v p ss)) (e t s) ∙ sym (cut_changed n (updated v p ss) t w')
+    one_action (plain.Assert p) within = kept_within (holds_at v p)
+    one_action (plain.AssertQuery wanted q) within =
+        subst (λ ts. Below S (only_if (as_wanted wanted (rows v q w)) w) (only_if (as_wanted wanted ts) w')) (rows_within q within) (kept_within (as_wanted wanted (rows v q w)))
+    one_action (plain.AssertKey n ks) within =
+        subst (λ ts. Below S (only_if (is_key ks (tuples_of w n)) w) (only_if (is_key ks ts) w')) (rows_within (plain.Table n) within) (kept_within (is_key ks (tuples_of w n)))
 
   next_action : (a : PlainAction) → ReadsWithin S a → (o o' : Option Database) → Below S o o'
       → Below S (option_and_then (λ d. step_action v d a) o) (option_and_then (λ d. step_action v d a) o')
@@ -225,6 +235,7 @@ module _ (v : World) where
   change_admits (Create n cs) free (Some w) = refl
   change_admits (Insert n rs) free (Some w) = refl
   change_admits (Delete n c) free (Some w) = refl
+  change_admits (Update n ss c) free (Some w) = refl
   change_admits (Assert c) free (Some w) = absurd (false≢true (sym free))
 
   pub changes_admit : (xs : List PlainChange) → Unwritten xs read.Worlds → (o : Option Database) → is_some (after_changes v o xs) ≡ is_some o
@@ -233,30 +244,41 @@ module _ (v : World) where
       let both = or_false (writes x read.Worlds) (list_any (λ y. writes y read.Worlds) xs) free in
       changes_admit xs both.1 (option_and_then (λ d. step_change v d x) o) ∙ change_admits x both.0 o
 
-  action_admits : (a : PlainAction) (o o' : Option Database) → is_some o ≡ is_some o'
-      → is_some (option_and_then (λ d. step_action v d a) o) ≡ is_some (option_and_then (λ d. step_action v d a) o')
-  action_admits a None None e = refl
-  action_admits (plain.Assert p) (Some w) (Some w') e = by_test (holds_at v p) where
-    by_test : (b : Bool) → is_some (if b then Some w else None) ≡ is_some (if b then Some w' else None)
-    by_test true = refl
-    by_test false = refl
-  action_admits (plain.Create n cs) (Some w) (Some w') e = refl
-  action_admits (plain.InsertRows n ls p) (Some w) (Some w') e = refl
-  action_admits (plain.InsertQuery n q) (Some w) (Some w') e = refl
-  action_admits (plain.Delete n p) (Some w) (Some w') e = refl
-  action_admits a None (Some w) e = absurd (false≢true e)
-  action_admits a (Some w) None e = absurd (false≢true (sym e))
+module _ (S : List ℕ → Type 0) (v : World) where
+  is_kept : (b : Bool) (w : Database) → is_some (only_if b w) ≡ b
+  is_kept true w = refl
+  is_kept false w = refl
 
-  pub actions_admit : (actions : List PlainAction) (o o' : Option Database) → is_some o ≡ is_some o' → is_some (after_actions v o actions) ≡ is_some (after_actions v o' actions)
-  actions_admit [] o o' e = e
-  actions_admit (a ∷ actions) o o' e =
-      actions_admit actions (option_and_then (λ d. step_action v d a) o) (option_and_then (λ d. step_action v d a) o') (action_admits a o o' e)
+  -- an action that reads these tables alone admits the same
+  pub action_admits : (a : PlainAction) → ReadsWithin S a → (o o' : Option Database) → Below S o o' → is_some o ≡ is_some o'
+      → is_some (option_and_then (λ d. step_action v d a) o) ≡ is_some (option_and_then (λ d. step_action v d a) o')
+  action_admits a within None None b e = refl
+  action_admits (plain.Create n cs) within (Some w) (Some w') b e = refl
+  action_admits (plain.InsertRows n ls p) within (Some w) (Some w') b e = refl
+  action_admits (plain.InsertQuery n q) within (Some w) (Some w') b e = refl
+  action_admits (plain.Delete n p) within (Some w) (Some w') b e = refl
+  action_admits (plain.Update n ss p) within (Some w) (Some w') b e = refl
+  action_admits (plain.Assert p) within (Some w) (Some w') b e = is_kept (holds_at v p) w ∙ sym (is_kept (holds_at v p) w')
+  action_admits (plain.AssertQuery wanted q) within (Some w) (Some w') b e =
+      is_kept (as_wanted wanted (rows v q w)) w ∙ ap (as_wanted wanted) (rows_within S v w w' b q within) ∙ sym (is_kept (as_wanted wanted (rows v q w')) w')
+  action_admits (plain.AssertKey n ks) within (Some w) (Some w') b e =
+      is_kept (is_key ks (tuples_of w n)) w ∙ ap (is_key ks) (rows_within S v w w' b (plain.Table n) within) ∙ sym (is_kept (is_key ks (tuples_of w' n)) w')
+  action_admits a within None (Some w) b e = absurd (false≢true e)
+  action_admits a within (Some w) None b e = absurd b
+
+  pub actions_admit : (actions : List PlainAction) → AllByRecursion (ReadsWithin S) actions → (o o' : Option Database) → Below S o o' → is_some o ≡ is_some o'
+      → is_some (after_actions v o actions) ≡ is_some (after_actions v o' actions)
+  actions_admit [] within o o' b e = e
+  actions_admit (a ∷ actions) within o o' b e =
+      actions_admit actions within.1 (option_and_then (λ d. step_action v d a) o) (option_and_then (λ d. step_action v d a) o')
+      (next_action S v a within.0 o o' b) (action_admits a within.0 o o' b e)
 
 -- patterns
 line_unwritten : (x : PlainChange) (t : List ℕ) → writes x (read.Table t) ≡ false → (p : Patterns) → pattern_change p x t ≡ p t
 line_unwritten (Create n cs) t free p = refl
 line_unwritten (Insert n rs) t free p = ap (λ b. if b then p t ++ map (λ (r : PlainRow). r.cells) rs else p t) free
 line_unwritten (Delete n c) t free p = refl
+line_unwritten (Update n ss c) t free p = ap (λ b. if b then with_updated ss (p t) else p t) free
 line_unwritten (Assert c) t free p = refl
 
 pub lines_unwritten : (xs : List PlainChange) (t : List ℕ) → Unwritten xs (read.Table t) → (p : Patterns) → pattern_changes p xs t ≡ p t
@@ -284,7 +306,10 @@ module _ (S : List ℕ → Type 0) where
     action_within (plain.InsertRows n ls c) within = lines_within n ls ls refl
     action_within (plain.InsertQuery n q) within = lines_within n (query_pattern p q) (query_pattern p' q) (pattern_within q within)
     action_within (plain.Delete n c) within = e
+    action_within (plain.Update n ss c) within = λ t s i. if same_text n t then with_updated ss (e t s i) else e t s i
     action_within (plain.Assert c) within = e
+    action_within (plain.AssertQuery wanted q) within = e
+    action_within (plain.AssertKey n ks) within = e
 
   pub actions_within : (actions : List PlainAction) → AllByRecursion (ReadsWithin S) actions → (p p' : Patterns) → ((t : List ℕ) → S t → p t ≡ p' t)
       → (t : List ℕ) → S t → pattern_actions p actions t ≡ pattern_actions p' actions t

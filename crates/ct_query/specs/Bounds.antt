@@ -129,15 +129,19 @@ list_words ask.Rows r k = 0
 list_words ask.Possible r k = r
 list_words ask.Certain r k = r * (r * (2 * k + 2) + k + 1)
 
--- the words of an action's change, with that of its commit
-abbrev pub change_words : (List ℕ → ℕ) → PlainAction → ℕ
-change_words counts (plain.Create name columns) = sum_by (λ n. characters n + 2) (name ∷ columns) + 6
-change_words counts (plain.InsertRows name rs p) =
+-- the words of an action's change, with that of its commit, by the counts of rows and of columns
+abbrev pub change_words : (List ℕ → ℕ) → (List ℕ → ℕ) → PlainAction → ℕ
+change_words counts widths (plain.Create name columns) = sum_by (λ n. characters n + 2) (name ∷ columns) + 6
+change_words counts widths (plain.InsertRows name rs p) =
     sum_by (sum_by literal_words) rs + terms p + ops p + sum_by (λ r. length r + 2) rs + characters name + 8
-change_words counts (plain.InsertQuery name q) = nodes counts q + row_bound counts q * (width q + 2) + characters name + 8
-change_words counts (plain.Delete name p) =
+change_words counts widths (plain.InsertQuery name q) = nodes counts q + row_bound counts q * (width q + 2) + characters name + 8
+change_words counts widths (plain.Delete name p) =
     terms p + ops p + columns_named p + characters name + 6
-change_words counts (plain.Assert p) = terms p + ops p + 6
+change_words counts widths (plain.Update name sets p) =
+    sum_by (λ s. literal_words s.1 + column_words s.1 + 2) sets + terms p + ops p + columns_named p + characters name + 8
+change_words counts widths (plain.Assert p) = terms p + ops p + 6
+change_words counts widths (plain.AssertQuery wanted q) = nodes counts q + 2 * row_bound counts q + 6
+change_words counts widths (plain.AssertKey name columns) = counts name * counts name * (2 * widths name + 3) + 6
 
 -- the words of applying an action's change to the tables
 abbrev pub applying_words : (List ℕ → ℕ) → PlainAction → ℕ
@@ -145,7 +149,10 @@ applying_words counts (plain.Create name columns) = 0
 applying_words counts (plain.InsertRows name rs p) = length rs
 applying_words counts (plain.InsertQuery name q) = row_bound counts q
 applying_words counts (plain.Delete name p) = counts name * (ops p + 2)
+applying_words counts (plain.Update name sets p) = counts name * (ops p + 5)
 applying_words counts (plain.Assert p) = 1
+applying_words counts (plain.AssertQuery wanted q) = 1
+applying_words counts (plain.AssertKey name columns) = 1
 
 -- the words of a COMMIT of these actions
 abbrev pub commit_words : (List ℕ → ℕ) → List PlainAction → ℕ
@@ -163,9 +170,9 @@ own_words counts None = 0
 own_words counts (Some own) = commit_words counts own
 
 -- the bound on a statement's words; own are the actions of the open transaction, if one is open
-abbrev pub bound : (List ℕ → ℕ) → Option (List PlainAction) → PlainStatement → ℕ
-bound counts own (plain.Act a) = change_words counts a + applying_words counts a + catalogue_words counts own a
-bound counts own (plain.Asks k columns q) = nodes counts q + list_words k (row_bound counts q) (width q)
-bound counts own plain.Begin = 0
-bound counts own plain.Commit = own_words counts own
-bound counts own plain.Rollback = 0
+abbrev pub bound : (List ℕ → ℕ) → (List ℕ → ℕ) → Option (List PlainAction) → PlainStatement → ℕ
+bound counts widths own (plain.Act a) = change_words counts widths a + applying_words counts a + catalogue_words counts own a
+bound counts widths own (plain.Asks k columns q) = nodes counts q + list_words k (row_bound counts q) (width q)
+bound counts widths own plain.Begin = 0
+bound counts widths own plain.Commit = own_words counts own
+bound counts widths own plain.Rollback = 0

@@ -1,15 +1,17 @@
 -- Which queries, actions, statements and changes by positions fit the tables of a schema.
-use Rattle.std.specs.Prelude.{◌≡◌, ◌<◌, ◌+◌, ℕ, List, [], ◌∷◌, ◌++◌, length, Option, Some, None, IsSome, All, ⊤, if◌then◌else◌}
+use Rattle.std.specs.Prelude.{◌≡◌, ◌<◌, ◌+◌, ℕ, List, [], ◌∷◌, ◌++◌, length, map, nat_eq, Option, Some, None, IsSome, All, ⊤, if◌then◌else◌}
 use Rattle.std.specs.Option.{option_to_list}
+use Rattle.std.specs.List.{IsDistinct}
 use Rattle.ct_word.specs.declared.values.Term.{Term}
 use Rattle.ct_word.specs.declared.values.Term.TheVariants as term
 use Rattle.ct_word.specs.Value.{same_text}
 use Rattle.ct_word.specs.Condition.{Condition, Conditions, True, False, Same, Not, And, Or, none, also}
-use Rattle.ct_word.specs.Change.{PlainRow, PlainChange, Create, Insert, Delete, Assert, PlainCommit}
+use Rattle.ct_word.specs.Change.{PlainRow, PlainChange, Create, Insert, Delete, Update, Assert, PlainCommit}
 use Rattle.ct_query.specs.declared.schema.Heading.{Heading}
 use Rattle.ct_query.specs.Plain as plain
 use Rattle.ct_query.specs.Plain.{PlainQuery, PlainAction, PlainStatement}
-use Rattle.ct_query.specs.Fields.{FitsFields, AreFittingOn}
+use Rattle.ct_query.specs.Updates.{Sets}
+use Rattle.ct_query.specs.Fields.{FitsFields, FitsFieldsOn, AreFittingOn}
 use Rattle.ct_query.specs.Schema.{schema, created_by_change}
 
 -- the columns of the first table with this name, if there is one
@@ -73,15 +75,25 @@ Fits s (plain.Union a b) = (width s a ≡ width s b) × Fits s a × Fits s b
 Fits s (plain.Except a b) = (width s a ≡ width s b) × Fits s a × Fits s b
 Fits s (plain.Intersect a b) = (width s a ≡ width s b) × Fits s a × Fits s b
 
--- an action fits: a new table has a new name, and further rows have as many cells as their table has columns, none of
--- them a column
+-- sets are made on rows of so many cells: their positions differ and are among these, and so are the columns of their terms
+pub record AreSets (n : ℕ) (sets : Sets) : Type 0 where
+  pub once : IsDistinct nat_eq (map (λ s. s.0) sets)
+  pub within : All (λ s. s.0 < n) sets
+  pub columns : All (λ s. IsColumnBelow n s.1) sets
+
+-- an action fits: a new table has a new name, further rows have as many cells as their table has columns, none of them a
+-- column, and sets and keys name columns of their table, each once
 abbrev pub FitsAction : List Heading → PlainAction → Type 0
 FitsAction s (plain.Create name columns) = columns_in s name ≡ None
 FitsAction s (plain.InsertRows name rows c) =
     IsSome (columns_in s name) × All (λ r. length r ≡ width s (plain.Table name)) rows × All (All FitsCell) rows × FitsRows 0 c
 FitsAction s (plain.InsertQuery name q) = IsSome (columns_in s name) × (width s q ≡ width s (plain.Table name)) × Fits s q
 FitsAction s (plain.Delete name c) = IsSome (columns_in s name) × FitsRows (width s (plain.Table name)) c
+FitsAction s (plain.Update name sets c) =
+    IsSome (columns_in s name) × AreSets (width s (plain.Table name)) sets × All (λ s. FitsFieldsOn 0 s.1) sets × FitsRows (width s (plain.Table name)) c
 FitsAction s (plain.Assert c) = FitsRows 0 c
+FitsAction s (plain.AssertQuery wanted q) = Fits s q
+FitsAction s (plain.AssertKey name columns) = IsSome (columns_in s name) × All (λ k. k < width s (plain.Table name)) columns × IsDistinct nat_eq columns
 
 -- a statement fits: its action does, or its query does and has a name for each column
 abbrev pub FitsStatement : List Heading → PlainStatement → Type 0
@@ -103,6 +115,7 @@ abbrev pub FitsChange : List Heading → PlainChange → Type 0
 FitsChange s (Create name columns) = columns_in s name ≡ None
 FitsChange s (Insert name rs) = IsSome (columns_in s name) × All (FitsRow (width s (plain.Table name))) rs
 FitsChange s (Delete name c) = IsSome (columns_in s name) × AreColumnsBelow (width s (plain.Table name)) c
+FitsChange s (Update name sets c) = IsSome (columns_in s name) × AreSets (width s (plain.Table name)) sets × AreColumnsBelow (width s (plain.Table name)) c
 FitsChange s (Assert c) = AreColumnsBelow 0 c
 
 -- each change fits the tables that are there after the changes before it

@@ -1,13 +1,14 @@
--- Patterns: the cells of all rows that were ever inserted, without conditions.
+-- Patterns: the cells of all rows that were ever inserted, and of those that an update made of them, without conditions.
 use Rattle.std.specs.Prelude.{ℕ, ◌+◌, List, [], ◌∷◌, ◌++◌, map, filter_map, slice_get, if◌then◌else◌}
 use Rattle.std.specs.List.{list_any}
 use Rattle.ct_word.specs.declared.values.Term.{Term}
 use Rattle.ct_word.specs.Value.{same_text, same_cells}
-use Rattle.ct_word.specs.Change.{PlainChange, Create, Insert, Delete, Assert, PlainCommit}
+use Rattle.ct_word.specs.Change.{PlainChange, Create, Insert, Delete, Update, Assert, PlainCommit}
 use Rattle.ct_query.specs.Plain.{PlainAction}
 use Rattle.ct_query.specs.Plain as plain
 use Rattle.ct_query.specs.Plain.{PlainQuery}
 use Rattle.ct_query.specs.Rows.{joins}
+use Rattle.ct_query.specs.Updates.{Sets, with_updated}
 use Rattle.ct_query.specs.Worlds.{changes_of}
 
 -- the cell lists of each table, by its name
@@ -36,11 +37,16 @@ query_pattern p (plain.Intersect a b) = query_pattern p a
 abbrev pub with_lines : Patterns → List ℕ → List (List Term) → Patterns
 with_lines p name more = λ t. if same_text name t then p t ++ more else p t
 
+-- the patterns where each cell list of one table is followed by the one with the sets
+abbrev pub with_sets : Patterns → List ℕ → Sets → Patterns
+with_sets p name sets = λ t. if same_text name t then with_updated sets (p t) else p t
+
 -- the patterns after a change
 abbrev pub pattern_change : Patterns → PlainChange → Patterns
 pattern_change p (Create name columns) = p
 pattern_change p (Insert name rs) = with_lines p name (map (λ r. r.cells) rs)
 pattern_change p (Delete name c) = p
+pattern_change p (Update name sets c) = with_sets p name sets
 pattern_change p (Assert c) = p
 
 -- the patterns after an action
@@ -49,7 +55,10 @@ pattern_action p (plain.Create name columns) = p
 pattern_action p (plain.InsertRows name rs c) = with_lines p name rs
 pattern_action p (plain.InsertQuery name q) = with_lines p name (query_pattern p q)
 pattern_action p (plain.Delete name c) = p
+pattern_action p (plain.Update name sets c) = with_sets p name sets
 pattern_action p (plain.Assert c) = p
+pattern_action p (plain.AssertQuery wanted q) = p
+pattern_action p (plain.AssertKey name columns) = p
 
 -- the patterns after changes, one after another
 abbrev pub pattern_changes : Patterns → List PlainChange → Patterns

@@ -1,5 +1,5 @@
 -- Queries, actions and statements as plain trees, without where they lie in memory.
-use Rattle.std.specs.Prelude.{ℕ, List}
+use Rattle.std.specs.Prelude.{ℕ, Bool, List}
 use Rattle.ct_word.specs.declared.values.Term.{Term}
 use Rattle.ct_word.specs.Condition.{Condition}
 use Rattle.ct_query.specs.declared.action.Ask.{Ask}
@@ -20,7 +20,10 @@ pub data PlainAction : Type 0 where
   InsertRows : (name : List ℕ) (rows : List (List Term)) (c : Condition) → PlainAction
   InsertQuery : (name : List ℕ) (q : PlainQuery) → PlainAction
   Delete : (name : List ℕ) (c : Condition) → PlainAction
+  Update : (name : List ℕ) (sets : List (ℕ × Term)) (c : Condition) → PlainAction
   Assert : (c : Condition) → PlainAction
+  AssertQuery : (wanted : Bool) (q : PlainQuery) → PlainAction
+  AssertKey : (name : List ℕ) (columns : List ℕ) → PlainAction
 
 -- a statement with positions for names
 pub data PlainStatement : Type 0 where

@@ -2,7 +2,7 @@
 use Rattle.std.specs.Prelude.{ℕ, zero, suc, Bool, true, false, List, [], ◌∷◌, ◌++◌, map, if◌then◌else◌}
 use Rattle.std.specs.List.{list_any}
 use Rattle.ct_word.specs.Value.{same_text}
-use Rattle.ct_word.specs.Change.{PlainChange, Create, Insert, Delete, Assert, PlainCommit}
+use Rattle.ct_word.specs.Change.{PlainChange, Create, Insert, Delete, Update, Assert, PlainCommit}
 use Rattle.ct_query.specs.Plain.{PlainAction}
 use Rattle.ct_query.specs.Plain as plain
 use Rattle.ct_query.specs.declared.action.Read.{Read}
@@ -41,7 +41,10 @@ action_reads (plain.Create name columns) = read.Table name ∷ []
 action_reads (plain.InsertRows name rs p) = []
 action_reads (plain.InsertQuery name q) = query_reads q
 action_reads (plain.Delete name p) = []
+action_reads (plain.Update name sets p) = []
 action_reads (plain.Assert p) = read.Worlds ∷ []
+action_reads (plain.AssertQuery wanted q) = query_reads q
+action_reads (plain.AssertKey name columns) = read.Table name ∷ read.Worlds ∷ []
 
 -- what a statement reads
 abbrev pub reads_of : PlainStatement → List Read
@@ -56,6 +59,7 @@ abbrev pub writes : PlainChange → Read → Bool
 writes (Create name columns) (read.Table t) = same_text name t
 writes (Insert name rs) (read.Table t) = same_text name t
 writes (Delete name c) (read.Table t) = same_text name t
+writes (Update name sets c) (read.Table t) = same_text name t
 writes (Assert c) read.Worlds = true
 writes _ _ = false
 

@@ -1,13 +1,12 @@
--- Terms of queries, actions and changes, and how many distinct ones a question has.
-use Rattle.std.specs.Prelude.{ℕ, ◌+◌, List, [], ◌∷◌, ◌++◌, length, filter, flat_map, if◌then◌else◌}
+-- Terms of queries, actions and changes, and the distinct ones that a statement asks about.
+use Rattle.std.specs.Prelude.{List, [], ◌∷◌, ◌++◌, filter, map, flat_map, if◌then◌else◌}
 use Rattle.std.specs.List.{list_any}
 use Rattle.ct_word.specs.declared.values.Term.{Term}
 use Rattle.ct_word.specs.Value.{same_term}
 use Rattle.ct_word.specs.Condition.{Condition, Conditions, True, False, Same, Not, And, Or, none, also}
-use Rattle.ct_word.specs.Change.{PlainChange, Create, Insert, Delete, Assert, PlainCommit}
+use Rattle.ct_word.specs.Change.{PlainChange, Create, Insert, Delete, Update, Assert, PlainCommit}
 use Rattle.ct_query.specs.Plain as plain
 use Rattle.ct_query.specs.Plain.{PlainQuery, PlainAction, PlainStatement}
-use Rattle.ct_query.specs.declared.action.Ask.TheVariants as ask
 use Rattle.ct_query.specs.declared.action.Read.{Read}
 use Rattle.ct_query.specs.Reads.{action_reads, reads_of, writes}
 use Rattle.ct_query.specs.Worlds.{changes_of}
@@ -31,6 +30,7 @@ abbrev pub change_terms : PlainChange → List Term
 change_terms (Create name columns) = []
 change_terms (Insert name rs) = flat_map (λ r. r.cells ++ condition_terms r.condition) rs
 change_terms (Delete name c) = condition_terms c
+change_terms (Update name sets c) = map (λ s. s.1) sets ++ condition_terms c
 change_terms (Assert c) = condition_terms c
 
 -- the terms of a query: those of its conditions
@@ -49,7 +49,10 @@ action_terms (plain.Create name columns) = []
 action_terms (plain.InsertRows name rs c) = flat_map (λ r. r) rs ++ condition_terms c
 action_terms (plain.InsertQuery name q) = query_terms q
 action_terms (plain.Delete name c) = condition_terms c
+action_terms (plain.Update name sets c) = map (λ s. s.1) sets ++ condition_terms c
 action_terms (plain.Assert c) = condition_terms c
+action_terms (plain.AssertQuery wanted q) = query_terms q
+action_terms (plain.AssertKey name columns) = []
 
 -- the terms of a statement
 abbrev pub statement_terms : PlainStatement → List Term
@@ -77,12 +80,3 @@ reads_with actions x = flat_map action_reads actions ++ reads_of x
 abbrev pub terms_asked : List PlainCommit → List PlainAction → PlainStatement → List Term
 terms_asked h actions x =
     distinct_terms (flat_map change_terms (changes_that_write (reads_with actions x) h) ++ flat_map action_terms actions ++ statement_terms x)
-
--- one for each column of an answer of certain rows
-abbrev pub further_terms : PlainStatement → ℕ
-further_terms (plain.Asks ask.Certain columns q) = length columns
-further_terms _ = 0
-
--- how many distinct terms a statement asks about
-abbrev pub term_count : List PlainCommit → List PlainAction → PlainStatement → ℕ
-term_count h actions x = length (terms_asked h actions x) + further_terms x

@@ -6,7 +6,7 @@ use Rattle.ct_query.specs.declared.action.Action.TheVariants as action
 use Rattle.ct_query.specs.declared.action.Resolved.{Resolved}
 use Rattle.ct_query.specs.declared.action.Resolved.TheVariants as resolved
 use Rattle.ct_query.specs.Pred.{condition_of}
-use Rattle.ct_query.specs.Plain.{PlainQuery, Table, Select, Project, Product, Union, Except, Intersect, PlainAction, Create, InsertRows, InsertQuery, Delete, Assert, PlainStatement, Act, Asks, Begin, Commit, Rollback}
+use Rattle.ct_query.specs.Plain.{PlainQuery, Table, Select, Project, Product, Union, Except, Intersect, PlainAction, Create, InsertRows, InsertQuery, Delete, Update, Assert, AssertQuery, AssertKey, PlainStatement, Act, Asks, Begin, Commit, Rollback}
 
 -- the plain tree of a query
 abbrev pub query_of : Query → PlainQuery
@@ -24,7 +24,10 @@ action_of (action.Create name columns) = Create name columns
 action_of (action.InsertRows name rs p) = InsertRows name rs (condition_of p)
 action_of (action.InsertQuery name q) = InsertQuery name (query_of q)
 action_of (action.Delete name p) = Delete name (condition_of p)
+action_of (action.Update name sets p) = Update name sets (condition_of p)
 action_of (action.Assert p) = Assert (condition_of p)
+action_of (action.AssertQuery wanted q) = AssertQuery wanted (query_of q)
+action_of (action.AssertKey name columns) = AssertKey name columns
 
 -- the plain form of a statement
 abbrev pub statement_of : Resolved → PlainStatement

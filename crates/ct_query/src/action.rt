@@ -23,8 +23,24 @@ pub enum Action {
         name: Text,
         pred: Pred,
     },
+    /// Each set is a position and the term that it gets, taken from the old row.
+    Update {
+        name: Text,
+        sets: List<(u32, Term)>,
+        pred: Pred,
+    },
     Assert {
         pred: Pred,
+    },
+    /// That the query has a row, where one is wanted, or that it has none.
+    AssertQuery {
+        wanted: bool,
+        query: Query,
+    },
+    /// That no two different rows of the table agree at these positions.
+    AssertKey {
+        name: Text,
+        columns: List<u32>,
     },
 }
 

@@ -8,7 +8,7 @@ ghost use Rattle.ct_query.specs.declared.action.Read.TheVariants as read;
 
 use crate::action::{Action, Read, Resolved};
 use crate::query::Query;
-use ct_word::{List, Memory};
+use ct_word::{List, Memory, Text};
 use std::alloc::Global;
 
 /// Adds a read that is not there yet.
@@ -59,6 +59,15 @@ fn only(alloc: Global, read: Read) -> Result<Vec<Read>, Memory>
     Ok(reads)
 }
 
+/// A table, and then the worlds.
+fn of_key(alloc: Global, name: &Text) -> Result<Vec<Read>, Memory>
+    ensures { IfOk result (λ v. v.items ≡ read.Table name.now ∷ read.Worlds ∷ []) }
+{
+    let mut reads = only(alloc, Read::Table(name.clone()?))?;
+    reads.push(Read::Worlds)?;
+    Ok(reads)
+}
+
 /// What an action reads.
 fn of_action(alloc: Global, action: &Action) -> Result<Vec<Read>, Memory>
     ensures { IfOk result (λ v. v.items ≡ action_reads (action_of action.now)) }
@@ -66,8 +75,12 @@ fn of_action(alloc: Global, action: &Action) -> Result<Vec<Read>, Memory>
     match action {
         Action::Create { name, .. } => only(alloc, Read::Table(name.clone()?)),
         Action::InsertQuery { query, .. } => of_query(alloc, query),
+        Action::AssertQuery { query, .. } => of_query(alloc, query),
+        Action::AssertKey { name, .. } => of_key(alloc, name),
         Action::Assert { .. } => only(alloc, Read::Worlds),
-        Action::InsertRows { .. } | Action::Delete { .. } => Ok(Vec::new(alloc)),
+        Action::InsertRows { .. } | Action::Delete { .. } | Action::Update { .. } => {
+            Ok(Vec::new(alloc))
+        }
     }
 }
 
@@ -83,8 +96,9 @@ fn of_statement(alloc: Global, statement: &Resolved) -> Result<Vec<Read>, Memory
 }
 
 /// What a statement reads, each table once: of a query, also under POSSIBLE, CERTAIN and INSERT,
-/// its tables in the order of its text and then the worlds; of an assertion the worlds; of a
-/// creation its name. Insertions of rows, deletions, BEGIN, COMMIT and ROLLBACK read nothing.
+/// its tables in the order of its text and then the worlds, and the same of an assertion over a query;
+/// of one over a key its table and then the worlds; of another assertion the worlds; of a creation its
+/// name. Insertions of rows, deletions, updates, BEGIN, COMMIT and ROLLBACK read nothing.
 ///
 /// # Errors
 /// `Memory` where there is none for the list.

@@ -3,7 +3,7 @@
 use crate::cases::Case;
 use crate::context::Context;
 use crate::transactions::Opened;
-use ct_advice::{asserting, is_false_alone};
+use ct_advice::{Asserted, asserted_by, asserting, is_false_alone};
 use ct_lex::Token;
 use ct_query::Read;
 use ct_word::Memory;
@@ -54,7 +54,28 @@ pub fn push_conflict(out: &mut String, case: &Case, table: &Read, now: u32) -> R
     Ok(())
 }
 
-/// An assertion is false by itself where nothing was asserted of its nulls before, or where that is seen at once.
+/// What is said of an assertion over tables which no world satisfies that is left.
+fn over_tables(tokens: &[Token]) -> Option<&'static str> {
+    match asserted_by(tokens) {
+        Asserted::Condition => None,
+        Asserted::Exists => Some("the query has no row in any world that is left"),
+        Asserted::NotExists => Some("the query has a row in each world that is left"),
+        Asserted::Key => {
+            Some("two different rows agree in these columns, in each world that is left")
+        }
+    }
+}
+
+/// Appends how to take back what the open transaction asserted, where it did.
+fn push_way_back(out: &mut String, opened: &Opened) -> Result<(), Memory> {
+    if opened.has_asserted() {
+        out.push_str("; ROLLBACK takes back what this transaction asserted")?;
+    }
+    Ok(())
+}
+
+/// An assertion of a condition is false by itself where nothing was asserted of its nulls before, or where that is seen at
+/// once.
 pub fn push_inconsistent(
     alloc: Global,
     out: &mut String,
@@ -63,6 +84,10 @@ pub fn push_inconsistent(
     case: &Case,
     tokens: &[Token],
 ) -> Result<(), Memory> {
+    if let Some(said) = over_tables(tokens) {
+        out.push_str(said)?;
+        return push_way_back(out, opened);
+    }
     out.push_str("no values satisfy it")?;
     let commits = asserting(alloc, context.known, case.version as usize, tokens)?;
     let is_first = commits.is_empty() && !opened.has_asserted_of(tokens);
@@ -75,8 +100,5 @@ pub fn push_inconsistent(
         let before = if i == 0 { ", in commit " } else { ", " };
         write!(out, "{before}{number}")?;
     }
-    if opened.has_asserted() {
-        out.push_str("; ROLLBACK takes back what this transaction asserted")?;
-    }
-    Ok(())
+    push_way_back(out, opened)
 }

@@ -3,7 +3,7 @@
 use crate::cases::Case;
 use crate::context::Context;
 use crate::places::Placed;
-use ct_advice::{Own, add_nulls, has_null, own_table};
+use ct_advice::{Own, add_nulls, has_null, is_over_tables, own_table};
 use ct_lex::Token;
 use ct_transcript::{Refusal, Reply};
 use ct_word::{Memory, Text};
@@ -57,6 +57,8 @@ pub struct Opened {
     next: usize,
     tables: Vec<Own>,
     has_asserted: bool,
+    /// Whether it has asserted something over tables, and so of nulls that no text names.
+    over_tables: bool,
     /// The names of the nulls of which it has asserted something.
     asserted: IndexSet<Text>,
 }
@@ -70,6 +72,7 @@ impl Opened {
             next: 0,
             tables: Vec::new(alloc),
             has_asserted: false,
+            over_tables: false,
             asserted: IndexSet::new(alloc),
         }
     }
@@ -82,15 +85,16 @@ impl Opened {
         self.has_asserted
     }
 
-    /// Whether it has asserted something of a null of these tokens.
+    /// Whether it may have asserted something of a null of these tokens.
     pub fn has_asserted_of(&self, tokens: &[Token]) -> bool {
-        has_null(&self.asserted, tokens)
+        self.over_tables || has_null(&self.asserted, tokens)
     }
 
     fn push_own(&mut self, alloc: Global, reply: &Reply, text: &Placed) -> Result<(), Memory> {
         let is_change = matches!(reply, Reply::Pending { .. });
         if is_change && may_assert(text) {
             self.has_asserted = true;
+            self.over_tables = self.over_tables || is_over_tables(alloc, text.text)?;
             add_nulls(alloc, &mut self.asserted, text.text)?;
         }
         if is_change && may_create(text) {
@@ -112,6 +116,7 @@ impl Opened {
             self.next = case.begun.unwrap_or(0);
             self.tables.clear();
             self.has_asserted = false;
+            self.over_tables = false;
             self.asserted = IndexSet::new(alloc);
         }
         let Some(_) = case.begun else {

@@ -28,7 +28,7 @@ first_below : (b : Bool) (o : Option ℕ) (k i n : ℕ) → (o ≡ Some i → i 
 first_below true o k i n h e = omega (arith, same_Some k i e)
 first_below false o k i n h e = omega (arith, h e)
 
-place_from_below : (k : ℕ) (ds : List (List ℕ)) (c : List ℕ) (i : ℕ) → place_from k ds c ≡ Some i → i < k + length ds
+pub place_from_below : (k : ℕ) (ds : List (List ℕ)) (c : List ℕ) (i : ℕ) → place_from k ds c ≡ Some i → i < k + length ds
 place_from_below k [] c i e = absurd (none-some i e)
 place_from_below k (d ∷ ds) c i e = first_below (same_text d c) (place_from (k + 1) ds c) k i (length ds) (place_from_below (k + 1) ds c i) e
 
@@ -66,10 +66,10 @@ column_below scope c =
     (All-weaker (λ k. k < 0 + width_of scope) (λ k. k < width_of scope) (λ k l. omega (arith, l)) (positions_from 0 scope c) (positions_below 0 scope c))
 
 -- a term that fits rows of so many cells
-abbrev FitsTerm : ℕ → Term → Type 0
+abbrev pub FitsTerm : ℕ → Term → Type 0
 FitsTerm n t = FitsFieldsOn n t × IsColumnBelow n t
 
-term_fits : (scope : List Heading) (t : parsed.Term) → IfOk (term_at scope t) (FitsTerm (width_of scope))
+pub term_fits : (scope : List Heading) (t : parsed.Term) → IfOk (term_at scope t) (FitsTerm (width_of scope))
 term_fits scope (written.Number i) = (tt, tt)
 term_fits scope (written.Text t) = (tt, tt)
 term_fits scope (written.Null n) = (tt, tt)

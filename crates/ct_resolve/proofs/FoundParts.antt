@@ -8,6 +8,11 @@ module _ {A B : Type 0} (P : A → Type 0) (Q : B → Type 0) where
   and_then_has (Ok a) f p h = h a p
   and_then_has (Err e) f p h = tt
 
+-- what is found is so itself
+pub itself : {A : Type 0} (m : Found A) → IfOk m (λ a. m ≡ Ok a)
+itself (Ok a) = refl
+itself (Err e) = tt
+
 module _ {A : Type 0} (P : A → Type 0) where
   pub unless_has : (b : Bool) (e : ResolveError) (r : Found A) → (b ≡ true → IfOk r P) → IfOk (unless b e r) P
   unless_has true e r h = h refl

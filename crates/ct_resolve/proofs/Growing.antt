@@ -8,8 +8,8 @@ use Rattle.ct_query.{specs.Plain.{PlainAction, PlainStatement}, specs.Schema.{sc
 use Rattle.ct_parse.{specs.declared.tree.Statement.Statement, specs.declared.tree.Table.Table, specs.declared.tree.Select.Select}
 use Rattle.ct_parse.specs.declared.tree.QueryPrimary.{QueryPrimary, more_of-Query}
 use Rattle.ct_parse.specs.declared.tree.Query.{Query, Query', Row_of-QueryPrimary, end_of-QueryPrimary, more_of-QueryPrimary, Row_of-Query-rest-2, end_of-Query-rest-2, more_of-Query-rest-2}
-use Rattle.ct_resolve.{specs.Found.{Found, and_then, unless, each}, specs.Conditions.condition_or_true, specs.Names.{table_in, is_table, are_distinct}}
-use Rattle.ct_resolve.specs.Statements.{resolved, row_terms, cells_of}
+use Rattle.ct_resolve.{specs.Found.{Found, and_then, unless, each}, specs.Conditions.condition_or_true, specs.Names.{table_in, is_table, are_distinct, column_in}}
+use Rattle.ct_resolve.specs.Statements.{resolved, row_terms, cells_of, set_at, columns_set}
 use Rattle.ct_resolve.specs.Queries.{Named, visible, tables_of, seen_table, selected, select_at, sides, operation, primary_at, primaries_at, terms_at, query_at}
 use Rattle.ct_query.specs.declared.action.Ask.TheVariants as ask
 use Rattle.ct_query.specs.Plain as plain
@@ -141,7 +141,20 @@ module _ (hs more : List Heading) (session fresh : ℕ) (a : PlainAction) (new :
       let given : Heading → Found PlainStatement = λ h. and_then (condition_or_true (h ∷ []) c) (λ d. Ok (plain.Act (plain.Delete name d))) in
       taken (and_then (table_in hs name) given) (and_then (table_in (hs ++ more) name) given) (plain.Act a)
       (follows_then (table_in hs name) (table_in (hs ++ more) name) given given (table_follows hs more hs name) (λ h. follows_same (given h))) e
+  resolves_among (statement.Update name b bs c) e =
+      let given : Heading → Found PlainStatement = λ h. and_then (each (set_at h) (b ∷ bs)) (λ sets. unless (are_distinct (columns_set (b ∷ bs))) fault.DuplicateName (
+      and_then (condition_or_true (h ∷ []) c) (λ d. Ok (plain.Act (plain.Update name sets d))))) in
+      taken (and_then (table_in hs name) given) (and_then (table_in (hs ++ more) name) given) (plain.Act a)
+      (follows_then (table_in hs name) (table_in (hs ++ more) name) given given (table_follows hs more hs name) (λ h. follows_same (given h))) e
   resolves_among (statement.Assert c) e = e
+  resolves_among (statement.AssertExists negated q) e =
+      let given : Named → Found PlainStatement = λ n. Ok (plain.Act (plain.AssertQuery (not negated) n.query)) in
+      taken (and_then (query_at hs q) given) (and_then (query_at (hs ++ more) q) given) (plain.Act a)
+      (follows_then (query_at hs q) (query_at (hs ++ more) q) given given (query_follows hs more q) (λ n. refl)) e
+  resolves_among (statement.AssertKey name c cs) e =
+      let given : Heading → Found PlainStatement = λ h. and_then (each (column_in h) (c ∷ cs)) (λ ks. unless (are_distinct (c ∷ cs)) fault.DuplicateName (Ok (plain.Act (plain.AssertKey name ks)))) in
+      taken (and_then (table_in hs name) given) (and_then (table_in (hs ++ more) name) given) (plain.Act a)
+      (follows_then (table_in hs name) (table_in (hs ++ more) name) given given (table_follows hs more hs name) (λ h. follows_same (given h))) e
   resolves_among (statement.Rows q) e = absurd (no_ask (query_at hs q) e) where
     no_ask : (r : Found Named) → and_then r (λ n. Ok (plain.Asks ask.Rows n.columns n.query)) ≡ Ok (plain.Act a) → ⊥
     no_ask (Ok n) p = cc

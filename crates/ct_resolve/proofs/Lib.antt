@@ -7,8 +7,9 @@ pub mod QueryTrees
 pub mod FoundParts
 pub mod FittingConditions
 pub mod FittingQueries
-pub mod Fitting
 pub mod WritingConditions
+pub mod FittingSets
+pub mod Fitting
 pub mod WritingQueries
 pub mod Writing
 pub mod Growing

@@ -1,14 +1,16 @@
 -- What a statement that is spelled by lexemes as a text writes them is resolved to can be written.
-use Rattle.std.{proofs.Common.{◌≡◌, ◌+◌, ℕ, not, List, [], ◌∷◌, length, refl}, proofs.lemmas.List.Elements.{All-nil, All-cons, All-head, All-tail}}
+use Rattle.std.{proofs.Common.{◌≡◌, ◌+◌, ℕ, Bool, true, false, not, List, [], ◌∷◌, length, refl}, proofs.lemmas.List.Elements.{All-nil, All-cons, All-head, All-tail}}
 use Rattle.std.{proofs.lemmas.Result.IfOk-at_ok, specs.List.list_all, specs.Prelude.{All, nat_eq, Ok, Option, Some, None, IfOk}}
+use Rattle.ct_word.specs.declared.values.Term.{Term}
 use Rattle.ct_query.{specs.declared.action.Ask.Ask, specs.declared.schema.Heading.Heading, specs.declared.schema.Schema.Schema, specs.Plain.PlainStatement}
 use Rattle.ct_lex.{specs.declared.token.Lexeme.Lexeme, specs.Written.AreWritten}
+use Rattle.ct_parse.specs.declared.tree.Assignment.{Assignment}
 use Rattle.ct_parse.{specs.declared.tree.Cell.Cell, specs.declared.tree.Query.Query, specs.declared.tree.Row.Row, specs.declared.tree.Statement.Statement}
-use Rattle.ct_parse.specs.Grammar.{IsCell, number_cell, text_cell, null_cell, new_null, IsRow, row, IsQuery, IsStatement, create, insert_rows, insert_query, delete, assert, rows, possible, certain, begin, commit, rollback}
-use Rattle.ct_resolve.{specs.Conditions.{condition_at, condition_or_true}, specs.Found.{Found, and_then, unless}, specs.Queries.{Named, query_at, where_of}}
-use Rattle.ct_resolve.{specs.Names.{table_in, is_table, are_distinct}, specs.Writing.{IsNamed, WritesTerm, Writes, WritesStatement, NamesColumns}}
-use Rattle.ct_resolve.specs.Statements.{cell_term, next_after, next_after_all, cell_terms, cells_of, row_terms, resolved}
-use Rattle.ct_resolve.{proofs.FoundParts.{and_then_has, unless_has}, proofs.WritingConditions.{any_found_at_all, name_writes, Good, good}}
+use Rattle.ct_parse.specs.Grammar.{IsCell, number_cell, text_cell, null_cell, new_null, IsRow, row, IsQuery, IsAssignment, assignment, IsEnclosed, enclosed, IsStatement, create, insert_rows, insert_query, delete, update, assert, assert_exists, assert_not_exists, assert_key, rows, possible, certain, begin, commit, rollback}
+use Rattle.ct_resolve.{specs.Conditions.{term_at, condition_at, condition_or_true}, specs.Found.{Found, and_then, unless, each}, specs.Queries.{Named, query_at, where_of}}
+use Rattle.ct_resolve.{specs.Names.{table_in, is_table, are_distinct, column_in}, specs.Writing.{IsNamed, WritesTerm, Writes, WritesStatement, NamesColumns}}
+use Rattle.ct_resolve.specs.Statements.{cell_term, next_after, next_after_all, cell_terms, cells_of, row_terms, set_at, columns_set, resolved}
+use Rattle.ct_resolve.{proofs.FoundParts.{and_then_has, unless_has, in_front_has}, proofs.WritingConditions.{any_found_at_all, name_writes, term_writes, Good, good}}
 use Rattle.ct_resolve.proofs.WritingQueries.{more_write, closed_write, behind_writes, WritesNamed, query_writes}
 use Rattle.ct_query.specs.declared.action.Ask.TheVariants as ask
 use Rattle.ct_query.specs.Plain as plain
@@ -44,6 +46,25 @@ rows_write session next (r ∷ rs) all =
     All-cons (All WritesTerm) (cell_terms session next (cells_of r)) (row_terms session after rs) (terms_write session next (cells_of r) (All-head WritesRow r rs all))
     (rows_write session after rs (All-tail WritesRow r rs all))
 
+-- assignments
+abbrev WritesSet : Assignment → Type 0
+WritesSet a = (t : Heading) → IfOk (term_at (t ∷ []) a.value) WritesTerm
+
+abbrev WritesSetTerm : ℕ × Term → Type 0
+WritesSetTerm b = WritesTerm b.1
+
+assignment_writes : {ws r : List Lexeme} {a : Assignment} → IsAssignment ws a r → AreWritten ws → WritesSet a × AreWritten r
+assignment_writes (assignment n v) h = let own = name_writes n h in (λ t. (term_writes (t ∷ []) v own.1.1).0, (term_writes [] v own.1.1).1)
+
+set_writes : (t : Heading) (a : Assignment) → WritesSet a → IfOk (set_at t a) WritesSetTerm
+set_writes t a writes =
+    and_then_has (λ _. Unit {0}) WritesSetTerm (column_in t a.column) (λ k. and_then (term_at (t ∷ []) a.value) (λ v. Ok (k, v))) (any_found_at_all (column_in t a.column))
+    (λ k _. and_then_has WritesTerm WritesSetTerm (term_at (t ∷ []) a.value) (λ v. Ok (k, v)) (writes t) (λ v w. w))
+
+sets_write : (t : Heading) (bs : List Assignment) → All WritesSet bs → IfOk (each (set_at t) bs) (All WritesSetTerm)
+sets_write t [] all = All-nil WritesSetTerm
+sets_write t (a ∷ bs) all = in_front_has WritesSetTerm (set_at t a) (each (set_at t) bs) (set_writes t a (All-head WritesSet a bs all)) (sets_write t bs (All-tail WritesSet a bs all))
+
 -- a condition that may be left out
 or_true_writes : (scope : List Heading) (c : Option tree.Condition) → All Good (where_of c) → IfOk (condition_or_true scope c) Writes
 or_true_writes scope None all = refl
@@ -57,6 +78,11 @@ module _ (schema : Schema) where
   asked_writes : (a : Ask) {ws r : List Lexeme} {q : Query} → IsQuery ws q r → AreWritten ws → IfOk (and_then (query_at schema.tables q) (λ n. Ok (plain.Asks a n.columns n.query))) (IsWritable schema.tables)
   asked_writes a {q = q} d h =
       and_then_has (WritesNamed schema.tables) (IsWritable schema.tables) (query_at schema.tables q) (λ n. Ok (plain.Asks a n.columns n.query)) (query_writes schema.tables d h).0 (λ n w. w)
+
+  existence_writes : (wanted : Bool) {ws r : List Lexeme} {q : Query} → IsEnclosed ws q r → AreWritten ws
+      → IfOk (and_then (query_at schema.tables q) (λ a. Ok (plain.Act (plain.AssertQuery wanted a.query)))) (IsWritable schema.tables)
+  existence_writes wanted (enclosed {q = q} d) h =
+      and_then_has (WritesNamed schema.tables) (IsWritable schema.tables) (query_at schema.tables q) (λ a. Ok (plain.Act (plain.AssertQuery wanted a.query))) (query_writes schema.tables d h.1).0 (λ a w. (w.0, tt))
 
   statement_writes : (session fresh : ℕ) {ws r : List Lexeme} {st : Statement} → IsStatement ws st r → AreWritten ws → IfOk (resolved schema session fresh st) (IsWritable schema.tables)
   statement_writes session fresh (create {n = n} {c = c} {cs = cs} d ds) h =
@@ -88,6 +114,30 @@ module _ (schema : Schema) where
       let tested = behind_writes behind own.1 in
       and_then_has (λ _. Unit {0}) (IsWritable schema.tables) (table_in schema.tables n) (λ t. and_then (condition_or_true (t ∷ []) c) (λ e. Ok (plain.Act (plain.Delete n e)))) (any_found_at_all (table_in schema.tables n))
       (λ t _. and_then_has Writes (IsWritable schema.tables) (condition_or_true (t ∷ []) c) (λ e. Ok (plain.Act (plain.Delete n e))) (or_true_writes (t ∷ []) c tested.0) (λ e w. ((own.0, w), tt)))
+  statement_writes session fresh (update {n = n} {a = a} {bs = bs} {c = c} d first others behind) h =
+      let own = name_writes d h.1 in
+      let one = assignment_writes first own.1.1 in
+      let more = more_write WritesSet (λ us r x e. assignment_writes e) others one.1 in
+      let tested = behind_writes behind more.1 in
+      let once = are_distinct (columns_set (a ∷ bs)) in
+      let updated : Heading → List (ℕ × Term) → Found PlainStatement = λ t sets. and_then (condition_or_true (t ∷ []) c) (λ e. Ok (plain.Act (plain.Update n sets e))) in
+      and_then_has (λ _. Unit {0}) (IsWritable schema.tables) (table_in schema.tables n) (λ t. and_then (each (set_at t) (a ∷ bs)) (λ sets. unless once fault.DuplicateName (updated t sets)))
+      (any_found_at_all (table_in schema.tables n))
+      (λ t _. and_then_has (All WritesSetTerm) (IsWritable schema.tables) (each (set_at t) (a ∷ bs)) (λ sets. unless once fault.DuplicateName (updated t sets))
+      (sets_write t (a ∷ bs) (All-cons WritesSet a bs one.0 more.0))
+      (λ sets all. unless_has (IsWritable schema.tables) once fault.DuplicateName (updated t sets)
+      (λ _. and_then_has Writes (IsWritable schema.tables) (condition_or_true (t ∷ []) c) (λ e. Ok (plain.Act (plain.Update n sets e))) (or_true_writes (t ∷ []) c tested.0)
+      (λ e w. ((own.0, all, w), tt)))))
+  statement_writes session fresh (assert_exists {q = q} d) h = existence_writes true d h.1.1
+  statement_writes session fresh (assert_not_exists {q = q} d) h = existence_writes false d h.1.1.1
+  statement_writes session fresh (assert_key {n = n} {c = c} {cs = cs} d ds) h =
+      let own = name_writes d h.1.1 in
+      let once = are_distinct (c ∷ cs) in
+      let asserted : List ℕ → Found PlainStatement = λ ks. Ok (plain.Act (plain.AssertKey n ks)) in
+      and_then_has (λ _. Unit {0}) (IsWritable schema.tables) (table_in schema.tables n) (λ t. and_then (each (column_in t) (c ∷ cs)) (λ ks. unless once fault.DuplicateName (asserted ks)))
+      (any_found_at_all (table_in schema.tables n))
+      (λ t _. and_then_has (λ _. Unit {0}) (IsWritable schema.tables) (each (column_in t) (c ∷ cs)) (λ ks. unless once fault.DuplicateName (asserted ks)) (any_found_at_all (each (column_in t) (c ∷ cs)))
+      (λ ks _. unless_has (IsWritable schema.tables) once fault.DuplicateName (asserted ks) (λ _. (own.0, tt))))
   statement_writes session fresh (assert {c = c} d) h =
       and_then_has Writes (IsWritable schema.tables) (condition_at [] c) (λ e. Ok (plain.Act (plain.Assert e))) ((good d h.1).0 []) (λ e w. (w, tt))
   statement_writes session fresh (rows d) h = asked_writes ask.Rows d h

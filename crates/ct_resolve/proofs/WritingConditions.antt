@@ -67,7 +67,7 @@ any_found_writes : (m : Found (List Condition)) → IfOk m (All Writes) → IfOk
 any_found_writes m f = and_then_has (All Writes) Writes m (λ ds. Ok (or_of ds)) f or_writes
 
 module _ (scope : List Heading) where
-  term_writes : {ws r : List Lexeme} {t : parsed.Term} → IsTerm ws t r → AreWritten ws → IfOk (term_at scope t) WritesTerm × AreWritten r
+  pub term_writes : {ws r : List Lexeme} {t : parsed.Term} → IsTerm ws t r → AreWritten ws → IfOk (term_at scope t) WritesTerm × AreWritten r
   term_writes number_term h = (refl, h.1)
   term_writes text_term h = (refl, h.1)
   term_writes null_term h = (h.0, h.1)

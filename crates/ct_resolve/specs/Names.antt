@@ -37,6 +37,15 @@ abbrev pub place_from : ℕ → List (List ℕ) → List ℕ → Option ℕ
 place_from k [] c = None
 place_from k (d ∷ ds) c = if same_text d c then Some k else place_from (k + 1) ds c
 
+-- the position of a place, or UnknownColumn
+abbrev pub placed : Option ℕ → Found ℕ
+placed None = Err fault.UnknownColumn
+placed (Some k) = Ok k
+
+-- the position of a table's first column with this name, or UnknownColumn
+abbrev pub column_in : Heading → List ℕ → Found ℕ
+column_in h c = placed (place_from 0 h.columns c)
+
 -- the place of a written column in a table that is seen under its name, where it has one
 abbrev pub place_in : Heading → Column → Option ℕ
 place_in h c = if may_be_of c h.name then place_from 0 h.columns (own_name c) else None

@@ -1,23 +1,25 @@
 -- Statements with positions for names.
-use Rattle.std.specs.Prelude.{ℕ, ◌+◌, ◌≤◌, ◌^◌, not, List, [], ◌∷◌, length, Ok, nat_eq}
+use Rattle.std.specs.Prelude.{◌≡◌, ℕ, ◌+◌, ◌≤◌, ◌^◌, Bool, true, not, List, [], ◌∷◌, length, map, Ok, IfOk, nat_eq, nat_lt}
 use Rattle.std.specs.List.{list_all}
 use Rattle.ct_word.specs.declared.values.Value.TheVariants as val
 use Rattle.ct_word.specs.declared.values.Null.TheVariants as null
 use Rattle.ct_word.specs.declared.values.Term.{Term}
 use Rattle.ct_word.specs.declared.values.Term.TheVariants as term
 use Rattle.ct_query.specs.declared.action.Ask.TheVariants as ask
+use Rattle.ct_query.specs.declared.schema.Heading.{Heading}
 use Rattle.ct_query.specs.declared.schema.Schema.{Schema}
 use Rattle.ct_query.specs.Plain as plain
 use Rattle.ct_query.specs.Plain.{PlainStatement}
+use Rattle.ct_parse.specs.declared.tree.Assignment.{Assignment}
 use Rattle.ct_parse.specs.declared.tree.Cell.{Cell}
 use Rattle.ct_parse.specs.declared.tree.Cell.TheVariants as cell
 use Rattle.ct_parse.specs.declared.tree.Row.{Row}
 use Rattle.ct_parse.specs.declared.tree.Statement.{Statement}
 use Rattle.ct_parse.specs.declared.tree.Statement.TheVariants as statement
 use Rattle.ct_resolve.specs.declared.error.ResolveError.TheVariants as fault
-use Rattle.ct_resolve.specs.Found.{Found, and_then, unless}
-use Rattle.ct_resolve.specs.Names.{table_in, is_table, are_distinct}
-use Rattle.ct_resolve.specs.Conditions.{condition_at, condition_or_true}
+use Rattle.ct_resolve.specs.Found.{Found, and_then, unless, each}
+use Rattle.ct_resolve.specs.Names.{table_in, is_table, are_distinct, column_in}
+use Rattle.ct_resolve.specs.Conditions.{term_at, condition_at, condition_or_true}
 use Rattle.ct_resolve.specs.Queries.{query_at}
 
 -- the term of a cell; a NULL is the null of the session with the next number
@@ -56,6 +58,14 @@ abbrev pub row_terms : ℕ → ℕ → List Row → List (List Term)
 row_terms session next [] = []
 row_terms session next (r ∷ rs) = cell_terms session next (cells_of r) ∷ row_terms session (next_after_all next (cells_of r)) rs
 
+-- an assignment: the position of its column, then its term, which sees the table under its own name
+abbrev pub set_at : Heading → Assignment → Found (ℕ × Term)
+set_at h a = and_then (column_in h a.column) (λ k. and_then (term_at (h ∷ []) a.value) (λ t. Ok (k, t)))
+
+-- the columns that assignments set
+abbrev pub columns_set : List Assignment → List (List ℕ)
+columns_set bs = map (λ a. a.column) bs
+
 -- a statement with positions for names; fresh is the number of the session's last null
 abbrev pub resolved : Schema → ℕ → ℕ → Statement → Found PlainStatement
 resolved s session fresh (statement.Create name c cs) =
@@ -71,7 +81,17 @@ resolved s session fresh (statement.InsertQuery name q) =
     unless (nat_eq (length a.columns) (length h.columns)) fault.ColumnCount (Ok (plain.Act (plain.InsertQuery name a.query)))))
 resolved s session fresh (statement.Delete name c) =
     and_then (table_in s.tables name) (λ h. and_then (condition_or_true (h ∷ []) c) (λ d. Ok (plain.Act (plain.Delete name d))))
+resolved s session fresh (statement.Update name a bs c) =
+    and_then (table_in s.tables name) (λ h.
+    and_then (each (set_at h) (a ∷ bs)) (λ sets.
+    unless (are_distinct (columns_set (a ∷ bs))) fault.DuplicateName (
+    and_then (condition_or_true (h ∷ []) c) (λ d. Ok (plain.Act (plain.Update name sets d))))))
 resolved s session fresh (statement.Assert c) = and_then (condition_at [] c) (λ d. Ok (plain.Act (plain.Assert d)))
+resolved s session fresh (statement.AssertExists negated q) = and_then (query_at s.tables q) (λ a. Ok (plain.Act (plain.AssertQuery (not negated) a.query)))
+resolved s session fresh (statement.AssertKey name c cs) =
+    and_then (table_in s.tables name) (λ h.
+    and_then (each (column_in h) (c ∷ cs)) (λ ks.
+    unless (are_distinct (c ∷ cs)) fault.DuplicateName (Ok (plain.Act (plain.AssertKey name ks)))))
 resolved s session fresh (statement.Rows q) = and_then (query_at s.tables q) (λ a. Ok (plain.Asks ask.Rows a.columns a.query))
 resolved s session fresh (statement.Possible q) = and_then (query_at s.tables q) (λ a. Ok (plain.Asks ask.Possible a.columns a.query))
 resolved s session fresh (statement.Certain q) = and_then (query_at s.tables q) (λ a. Ok (plain.Asks ask.Certain a.columns a.query))
@@ -79,7 +99,19 @@ resolved s session fresh statement.Begin = Ok plain.Begin
 resolved s session fresh statement.Commit = Ok plain.Commit
 resolved s session fresh statement.Rollback = Ok plain.Rollback
 
--- a word has room for the number of each null that a statement draws; fresh is the number of the session's last null
-abbrev pub HasRoom : ℕ → Statement → Type 0
-HasRoom fresh (statement.InsertRows name r rs c) = next_after_rows (fresh + 1) (r ∷ rs) ≤ 2 ^ 28
-HasRoom fresh _ = Unit {0}
+-- whether a word has room for the number of the column that a term may be
+abbrev pub has_room : Term → Bool
+has_room (term.Column k) = nat_lt k (2 ^ 28)
+has_room (term.Null u) = true
+has_room (term.Value x) = true
+
+-- words have room for the numbers of the columns that sets have as terms
+abbrev pub HaveRoom : List (ℕ × Term) → Type 0
+HaveRoom sets = list_all (λ b. has_room b.1) sets ≡ true
+
+-- words have room for the number of each null that a statement draws, and for the columns that its sets have as terms;
+-- fresh is the number of the session's last null
+abbrev pub HasRoom : Schema → ℕ → Statement → Type 0
+HasRoom s fresh (statement.InsertRows name r rs c) = next_after_rows (fresh + 1) (r ∷ rs) ≤ 2 ^ 28
+HasRoom s fresh (statement.Update name a bs c) = IfOk (and_then (table_in s.tables name) (λ h. each (set_at h) (a ∷ bs))) HaveRoom
+HasRoom s fresh _ = Unit {0}

@@ -40,7 +40,10 @@ WritesAction (plain.Create name columns) = IsNamed name × All IsNamed columns
 WritesAction (plain.InsertRows name rows c) = IsNamed name × All (All WritesTerm) rows × Writes c
 WritesAction (plain.InsertQuery name q) = IsNamed name × WritesQuery q
 WritesAction (plain.Delete name c) = IsNamed name × Writes c
+WritesAction (plain.Update name sets c) = IsNamed name × All (λ b. WritesTerm b.1) sets × Writes c
 WritesAction (plain.Assert c) = Writes c
+WritesAction (plain.AssertQuery wanted q) = WritesQuery q
+WritesAction (plain.AssertKey name columns) = IsNamed name
 
 -- a statement's action or query can be written
 abbrev pub WritesStatement : PlainStatement → Type 0

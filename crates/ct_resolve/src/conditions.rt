@@ -19,7 +19,11 @@ use std::alloc::Global;
 ///
 /// # Errors
 /// The refusal of the column; `Memory` where there is none for a copy.
-fn term(alloc: Global, scope: &[Heading], written: &ct_parse::Term) -> Result<Term, ResolveError>
+pub fn term(
+    alloc: Global,
+    scope: &[Heading],
+    written: &ct_parse::Term,
+) -> Result<Term, ResolveError>
     ensures ok { IfOk result (λ t. spec.term_at scope.now written.now ≡ Ok t) }
     ensures err { IfErr result (λ e. e ≢ fault.Memory → spec.term_at scope.now written.now ≡ Err e) }
 {

@@ -22,7 +22,7 @@ pub enum ResolveError {
     /// Two or more tables in scope have a column that is named without its table.
     #[error("a column is in two tables")]
     AmbiguousColumn,
-    /// Two columns of a new table, or two tables of a FROM, have one name.
+    /// Two columns of a new table or of a key, two sets, or two tables of a FROM have one name.
     #[error("a name is given twice")]
     DuplicateName,
     /// Numbers of columns differ.

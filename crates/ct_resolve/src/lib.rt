@@ -8,6 +8,7 @@ mod queries;
 mod resolving;
 mod rows;
 mod selects;
+mod sets;
 mod statements;
 mod tables;
 

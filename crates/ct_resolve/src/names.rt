@@ -1,7 +1,7 @@
 // Tables and columns by their names.
 
 ghost use Rattle.std.specs.Prelude.{◌≡◌, ◌≢◌, ◌+◌, IfOk, IfErr, Ok, Err};
-ghost use Rattle.ct_resolve.specs.Names.{table_in, is_table, are_distinct, may_be_of, own_name, place_from, place_in, column_at};
+ghost use Rattle.ct_resolve.specs.Names.{table_in, is_table, are_distinct, may_be_of, own_name, place_from, place_in, column_in, column_at};
 ghost use Rattle.ct_resolve.specs.declared.error.ResolveError.TheVariants as fault;
 
 use crate::error::ResolveError;
@@ -70,6 +70,20 @@ pub fn further(position: u32, more: usize) -> Result<u32, ResolveError>
 {
     let more = u32::try_from(more).map_err(|_| ResolveError::Memory)?;
     position.checked_add(more).ok_or(ResolveError::Memory)
+}
+
+/// The position of the first column of a table with this name.
+///
+/// # Errors
+/// `UnknownColumn` where there is none; `Memory` where the position is no number of 32 bits.
+pub fn own_position(table: &Heading, name: &Text) -> Result<u32, ResolveError>
+    ensures ok { IfOk result (λ k. column_in table.now name.now ≡ Ok k) }
+    ensures err { IfErr result (λ e. e ≢ fault.Memory → column_in table.now name.now ≡ Err e) }
+{
+    match place(table.columns.as_slice(), name.as_str()) {
+        Some(k) => further(0, k),
+        None => Err(ResolveError::UnknownColumn),
+    }
 }
 
 /// The position of a written column among those of the tables in scope, each under its visible

@@ -15,7 +15,9 @@ ghost use Rattle.ct_resolve.specs.declared.error.ResolveError.TheVariants as fau
 
 use crate::error::ResolveError;
 use crate::queries::query;
-use crate::statements::{assertion, create, delete, insert_query, insert_rows};
+use crate::statements::{
+    assertion, create, delete, existence, insert_query, insert_rows, key, update,
+};
 use ct_headings::Headings;
 use ct_parse::{Query, Statement};
 use ct_query::{Ask, Resolved};
@@ -54,7 +56,7 @@ fn positioned<H: Headings>(
     written: &Statement,
 ) -> Result<Resolved, ResolveError>
     ensures ok { IfOk result (λ r. resolved (H.schema schema.now) session fresh written.now ≡ Ok (statement_of r)) }
-    ensures room { IfOk result (λ r. HasRoom fresh written.now) }
+    ensures room { IfOk result (λ r. HasRoom (H.schema schema.now) fresh written.now) }
     ensures err { IfErr result (λ e. e ≢ fault.Memory → resolved (H.schema schema.now) session fresh written.now ≡ Err e) }
 {
     match written {
@@ -67,7 +69,15 @@ fn positioned<H: Headings>(
         } => insert_rows(alloc, schema, session, fresh, name, first, rest, condition),
         Statement::InsertQuery { name, query } => insert_query(alloc, schema, name, query),
         Statement::Delete { name, condition } => delete(alloc, schema, name, condition),
+        Statement::Update {
+            name,
+            first,
+            rest,
+            condition,
+        } => update(alloc, schema, name, first, rest, condition),
         Statement::Assert(condition) => assertion(alloc, condition),
+        Statement::AssertExists { not, query } => existence(alloc, schema, !*not, query),
+        Statement::AssertKey { name, first, rest } => key(alloc, schema, name, first, rest),
         Statement::Rows(query) => asked(alloc, schema, Ask::Rows, query),
         Statement::Possible(query) => asked(alloc, schema, Ask::Possible, query),
         Statement::Certain(query) => asked(alloc, schema, Ask::Certain, query),
@@ -87,12 +97,19 @@ fn positioned<H: Headings>(
 ///
 /// # Errors
 /// The first refusal in this order, and `Memory` where there is none for the answer, where a position
-/// is no number of 32 bits, or where the number of the session's last null would be 2^28 or more.
+/// is no number of 32 bits, where the column that is set to is the 2^28th or a later one, or where the
+/// number of the session's last null would be 2^28 or more.
 /// - CREATE: `TableExists`, then `DuplicateName` for two columns of one name.
 /// - INSERT of rows: `UnknownTable`, then `ColumnCount`, then the condition, which sees no table.
 /// - INSERT of a query: `UnknownTable`, then the query, then `ColumnCount`.
 /// - DELETE: `UnknownTable`, then the condition, which sees the table under its own name.
+/// - UPDATE: `UnknownTable`, then the assignments from the left, each its column and then its term,
+///   which see the table under its own name, then `DuplicateName` for a column that is set twice, then
+///   the condition, which sees the table, too.
 /// - ASSERT: the condition, which sees no table.
+/// - ASSERT EXISTS and NOT EXISTS: the query.
+/// - ASSERT KEY: `UnknownTable`, then `UnknownColumn` for the columns from the left, then
+///   `DuplicateName` for a column that stands twice.
 /// - SELECT: `UnknownTable` for the tables from the left, then `DuplicateName` for two tables of one
 ///   visible name, then the items, then the conditions of ON and WHERE, each from the left.
 /// - A set operator: its left side, its right side, then `ColumnCount`.

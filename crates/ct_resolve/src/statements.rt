@@ -6,8 +6,10 @@ ghost use Rattle.ct_query.specs.Views.{statement_of};
 ghost use Rattle.ct_query.specs.Plain as plain;
 ghost use Rattle.ct_parse.specs.declared.tree.Statement.TheVariants as tree;
 ghost use Rattle.ct_resolve.specs.Conditions.{condition_at, condition_or_true};
-ghost use Rattle.ct_resolve.specs.Found.{and_then};
-ghost use Rattle.ct_resolve.specs.Statements.{next_after_rows, resolved};
+ghost use Rattle.ct_resolve.specs.Found.{and_then, each};
+ghost use Rattle.ct_resolve.specs.Names.{table_in};
+ghost use Rattle.ct_resolve.specs.Queries.{query_at};
+ghost use Rattle.ct_resolve.specs.Statements.{next_after_rows, set_at, HaveRoom, resolved};
 ghost use Rattle.ct_resolve.specs.declared.error.ResolveError.TheVariants as fault;
 
 use crate::conditions::condition;
@@ -16,8 +18,9 @@ use crate::names::{is_named, table_named};
 use crate::queries::query;
 use crate::rows::{all_fit, are_distinct, listed, terms_of_rows};
 use crate::selects::Named;
+use crate::sets::{are_set_once, have_room, positions, sets};
 use ct_headings::Headings;
-use ct_parse::{Condition, Query, Row};
+use ct_parse::{Assignment, Condition, Query, Row};
 use ct_query::{Action, Heading, Pred, Resolved};
 use ct_word::{List, Text};
 use std::alloc::Global;
@@ -121,6 +124,37 @@ pub fn delete<H: Headings>(
     Ok(Resolved::Act(Action::Delete { name, pred }))
 }
 
+/// The replacement of the rows of a table where a condition holds.
+///
+/// # Errors
+/// `UnknownTable`, then the first refusal of the assignments, then `DuplicateName` where a column is
+/// set twice, then the first refusal of the condition; all see the table under its own name. `Memory`
+/// where there is none for the sets or the predicate, or a word has no room for a column set to.
+pub fn update<H: Headings>(
+    alloc: Global,
+    schema: &H,
+    name: &Text,
+    first: &Assignment,
+    rest: &List<Assignment>,
+    written: &Option<Condition>,
+) -> Result<Resolved, ResolveError>
+    ensures ok { IfOk result (λ r. resolved (H.schema schema.now) 0 0 (tree.Update name.now first.now rest.now written.now) ≡ Ok (statement_of r)) }
+    ensures room { IfOk result (λ r. IfOk (and_then (table_in (H.schema schema.now).tables name.now) (λ h. each (set_at h) (first.now ∷ rest.now))) HaveRoom) }
+    ensures err { IfErr result (λ e. e ≢ fault.Memory → resolved (H.schema schema.now) 0 0 (tree.Update name.now first.now rest.now written.now) ≡ Err e) }
+{
+    let table = table_named(schema, name)?;
+    let sets = sets(alloc, table, first, rest.as_slice())?;
+    if !are_set_once(alloc, first, rest.as_slice())? {
+        return Err(ResolveError::DuplicateName);
+    }
+    if !have_room(sets.as_slice()) {
+        return Err(ResolveError::Memory);
+    }
+    let name = name.clone()?;
+    let pred = condition_or_default(alloc, std::slice::from_ref(table), written)?;
+    Ok(Resolved::Act(Action::Update { name, sets, pred }))
+}
+
 /// That a condition, which sees no table, holds.
 ///
 /// # Errors
@@ -155,4 +189,47 @@ pub fn insert_query<H: Headings>(
         return Err(ResolveError::ColumnCount);
     }
     Ok(Resolved::Act(Action::InsertQuery { name, query }))
+}
+
+/// That a query has a row, where one is wanted, or that it has none.
+///
+/// # Errors
+/// The refusals of the query; `Memory` where there is none for it.
+pub fn existence<H: Headings>(
+    alloc: Global,
+    schema: &H,
+    wanted: bool,
+    written: &Query,
+) -> Result<Resolved, ResolveError>
+    ensures ok { IfOk result (λ r. and_then (query_at (H.schema schema.now).tables written.now) (λ a. Ok (plain.Act (plain.AssertQuery wanted a.query))) ≡ Ok (statement_of r)) }
+    ensures err { IfErr result (λ e. e ≢ fault.Memory → and_then (query_at (H.schema schema.now).tables written.now) (λ a. Ok (plain.Act (plain.AssertQuery wanted a.query))) ≡ Err e) }
+{
+    let Named { columns, query } = query(alloc, schema, written)?;
+    drop(columns);
+    Ok(Resolved::Act(Action::AssertQuery { wanted, query }))
+}
+
+/// That no two different rows of a table agree at these columns.
+///
+/// # Errors
+/// `UnknownTable`; then `UnknownColumn` for the columns from the left; then `DuplicateName` where one
+/// stands twice. `Memory` where there is none for the positions.
+pub fn key<H: Headings>(
+    alloc: Global,
+    schema: &H,
+    name: &Text,
+    first: &Text,
+    rest: &List<Text>,
+) -> Result<Resolved, ResolveError>
+    ensures ok { IfOk result (λ r. resolved (H.schema schema.now) 0 0 (tree.AssertKey name.now first.now rest.now) ≡ Ok (statement_of r)) }
+    ensures err { IfErr result (λ e. e ≢ fault.Memory → resolved (H.schema schema.now) 0 0 (tree.AssertKey name.now first.now rest.now) ≡ Err e) }
+{
+    let heading = table_named(schema, name)?;
+    let names = listed(alloc, first, rest.as_slice())?;
+    let columns = positions(alloc, heading, names.as_slice())?;
+    if !are_distinct(alloc, names.as_slice())? {
+        return Err(ResolveError::DuplicateName);
+    }
+    let name = name.clone()?;
+    Ok(Resolved::Act(Action::AssertKey { name, columns }))
 }

@@ -43,6 +43,11 @@ column_of (Some kind.Assert) ms a b e = refl
 column_of (Some kind.ChangesEnd) ms a b e = refl
 column_of (Some kind.Changes) ms a b e = refl
 column_of (Some kind.Commit) ms a b e = refl
+column_of (Some kind.Set) ms a b e = refl
+column_of (Some kind.SetsEnd) ms a b e = refl
+column_of (Some kind.Sets) ms a b e = refl
+column_of (Some kind.UpdateBody) ms a b e = refl
+column_of (Some kind.Update) ms a b e = refl
 column_of None ms a b e = refl
 
 none_at : (words : List ℕ) (q w : ℕ) → list_any (λ x. is_column_kind (kind_of x)) words ≡ false → slice_get words q ≡ Some w → is_column_kind (kind_of w) ≡ false

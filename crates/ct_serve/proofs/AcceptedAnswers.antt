@@ -244,7 +244,8 @@ module _ (N : ℕ) where
       refuted = (
         record {
           actions = [];
-          condition = x_is 2;
+          action = asserts 2;
+          is = refl;
           sees = (omega arith, omega arith, refl);
           asks = fails;
           none_satisfies = λ v. sym (both_asserted v) ∙ root_refuted words 29 not_two.derivation formed not_two_accepted v;

@@ -45,11 +45,11 @@ module _ (H : List PlainCommit) (W : List ℕ) (N : ℕ) where
     of_memory refusal.InTransaction l = absurd (none_open s.transaction l.0.is_open (w.begins_outside l.0.asks))
     of_memory refusal.NoTransaction l = absurd (none_open s.transaction (w.ends_inside l.0.statement l.0.ends l.0.asks) l.0.none_open)
     of_memory refusal.TooLarge l =
-        let le = w.small at l.0.actions l.0.statement l.0.query (saw l.0.actions l.1 l.0.sees) l.0.sees l.0.asks l.0.evaluates in
+        let le = w.small at l.0.actions l.0.statement l.0.asked (saw l.0.actions l.1 l.0.sees) l.0.sees l.0.asks l.0.evaluates in
         let lt = l.0.past in absurd (omega (arith, le, lt))
     of_memory refusal.Full l = let lt = w.room in let e = l.0.full in absurd (omega (arith, lt, e))
     of_memory (refusal.Inconsistent proof) l =
-        let v = w.satisfied at l.0.actions l.0.condition (saw l.0.actions l.1 l.0.sees) l.0.sees l.0.asks in
+        let v = w.satisfied at l.0.actions l.0.action (saw l.0.actions l.1 l.0.sees) l.0.sees l.0.asks l.0.is in
         absurd (false≢true (sym (l.0.none_satisfies v.0) ∙ v.1))
     of_memory (refusal.Conflict table was now at') l =
         let c = l.1 in

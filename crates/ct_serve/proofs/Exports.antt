@@ -61,7 +61,7 @@ pub looked_any : {X : Type 0} (N : ℕ) (old new : Standing) (name : List ℕ) (
 looked_any N old new name (Ok x) at_of bytes_of ok err = (at_of x, ok.looked)
 looked_any N old new name (Err (fault.UnknownTable at)) at_of bytes_of ok err = (at, err.0)
 looked_any N old new name (Err (fault.TooWide row)) at_of bytes_of ok err = (err.0, err.1)
-looked_any N old new name (Err fault.Memory) at_of bytes_of ok err = err
+looked_any N old new name (Err fault.Memory) at_of bytes_of ok err = (err.0, err.2)
 
 -- a session that has answered from its beginning on, and then exported
 pub answered_after : (N : ℕ) (first old new : Standing) (at : ℕ) (script : List ℕ) → HasLooked old new at → state_in first ≡ beginning first.pass.session → old.pass.session ≡ first.pass.session → length new.pass.words ≤ N

@@ -7,7 +7,7 @@ use Rattle.ct_word.{specs.Change.PlainCommit, specs.Reading.commits_of, proofs.P
 use Rattle.ct_transcript.specs.declared.reply.Reply.{Reply}
 use Rattle.ct_arena.specs.Seen.{Seen}
 use Rattle.ct_condition.specs.Writes.{charge}
-use Rattle.ct_transaction.{specs.State.SessionState, specs.LawfulReply.LawfulReply, specs.Answers.{committed_of, commits_by, is_full, Answers}, specs.Bounded.{HasBound, IsBounded}}
+use Rattle.ct_transaction.{specs.State.SessionState, specs.LawfulReply.LawfulReply, specs.Answers.{committed_of, commits_by, is_full, is_unasked, Answers}, specs.Bounded.{HasBound, IsBounded}}
 use Rattle.ct_serve.{specs.Sessions.{AreLawful, IsNoCommit, EndsAtFull}, specs.Within.AreWithin, specs.Progress.{MadeWithin, Progress}}
 use mathlib.Core.List.{IsPrefix}
 use Rattle.ct_transcript.specs.declared.reply.Reply.TheVariants as reply
@@ -16,28 +16,28 @@ use Rattle.ct_transcript.specs.declared.reply.Refusal.TheVariants as refusal
 -- replies that are lawful with bounds on the words of their texts, and one more
 module _ (H : List PlainCommit) (W : List ℕ) (N : ℕ) where
   within_push : (s t u : SessionState) (xs : List (List ℕ)) (rs : List Reply) (x : List ℕ) (r : Reply) (total b : ℕ)
-      → AreWithin H W N s xs rs t total → LawfulReply H W N t x r u → HasBound H t x b → AreWithin H W N s (xs ++ x ∷ []) (rs ++ r ∷ []) u (total + b)
-  within_push s t u [] [] x r total b are is has =
+      → AreWithin H W N s xs rs t total → LawfulReply H W N t x r u → HasBound H t x b → (is_unasked r ≡ true → b ≡ 0) → AreWithin H W N s (xs ++ x ∷ []) (rs ++ r ∷ []) u (total + b)
+  within_push s t u [] [] x r total b are is has named =
       let none = are.1 in
-      (u, subst (λ st. LawfulReply H W N st x r u) (sym are.0) is, b, subst (λ st. HasBound H st x b) (sym are.0) has, 0, omega (arith, none), (refl, refl))
-  within_push s t u (y ∷ xs) (q ∷ rs) x r total b (next, one, own, bound, rest, sum, are) is has =
-      (next, one, own, bound, rest + b, omega (arith, sum), within_push next t u xs rs x r rest b are is has)
-  within_push s t u [] (q ∷ rs) x r total b are is has = absurd are
-  within_push s t u (y ∷ xs) [] x r total b are is has = absurd are
+      (u, subst (λ st. LawfulReply H W N st x r u) (sym are.0) is, b, subst (λ st. HasBound H st x b) (sym are.0) has, named, 0, omega (arith, none), (refl, refl))
+  within_push s t u (y ∷ xs) (q ∷ rs) x r total b (next, one, own, bound, none, rest, sum, are) is has named =
+      (next, one, own, bound, none, rest + b, omega (arith, sum), within_push next t u xs rs x r rest b are is has named)
+  within_push s t u [] (q ∷ rs) x r total b are is has named = absurd are
+  within_push s t u (y ∷ xs) [] x r total b are is has named = absurd are
 
   -- the replies are lawful, the bounds left out
   pub lawful_within : (s last : SessionState) (xs : List (List ℕ)) (rs : List Reply) (total : ℕ) → AreWithin H W N s xs rs last total → AreLawful H W N s xs rs last
   lawful_within s last [] [] total are = are.0
-  lawful_within s last (x ∷ xs) (r ∷ rs) total (next, one, own, bound, rest, sum, are) = (next, one, lawful_within next last xs rs rest are)
+  lawful_within s last (x ∷ xs) (r ∷ rs) total (next, one, own, bound, none, rest, sum, are) = (next, one, lawful_within next last xs rs rest are)
   lawful_within s last [] (r ∷ rs) total are = absurd are
   lawful_within s last (x ∷ xs) [] total are = absurd are
 
   -- what was made is within the sum of the bounds, with a further one
   made_push : (s t u : SessionState) (xs : List (List ℕ)) (rs : List Reply) (x : List ℕ) (r : Reply) (made mid made' : ℕ) → MadeWithin H W N s t xs rs made mid → LawfulReply H W N t x r u
-      → (b : ℕ) × HasBound H t x b × (made' + charge (is_full r) ≤ mid + b) → MadeWithin H W N s u (xs ++ x ∷ []) (rs ++ r ∷ []) made made'
-  made_push s t u xs rs x r made mid made' m is (b, has, few) = record {
+      → (b : ℕ) × HasBound H t x b × (is_unasked r ≡ true → b ≡ 0) × (made' + charge (is_full r) ≤ mid + b) → MadeWithin H W N s u (xs ++ x ∷ []) (rs ++ r ∷ []) made made'
+  made_push s t u xs rs x r made mid made' m is (b, has, named, few) = record {
     total = m.total + b;
-    bounds = within_push s t u xs rs x r m.total b m.bounds is has;
+    bounds = within_push s t u xs rs x r m.total b m.bounds is has named;
     few = let first = m.few in omega (arith, first, few);
   }
 

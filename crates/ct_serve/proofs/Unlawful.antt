@@ -1,6 +1,6 @@
 -- Closed tests: replies that no log makes lawful. A text may be read as any statement of the reply's kind.
 use Rattle.std.{proofs.Common.{◌≡◌, ℕ, ◌≤◌, List, [], ◌∷◌, refl, sym, subst, ap, ◌∙◌, arith, inl, inr}, proofs.lemmas.Bool.false≢true}
-use Rattle.std.specs.Prelude.{◌<◌, ◌++◌, Bool, true, false, pos, codes, All, Some, None, Ok, Err, is_ok, slice_get, if◌then◌else◌}
+use Rattle.std.specs.Prelude.{◌<◌, ◌++◌, Bool, true, false, pos, codes, All, Option, Some, None, Ok, Err, is_ok, slice_get, if◌then◌else◌}
 use Rattle.std.proofs.lemmas.Option.{none-some}
 use Rattle.ct_word.{specs.declared.values.Term.Term, specs.Value.{World, same_text}, specs.Condition.{True, Same}, proofs.Splits.some-injective}
 use Rattle.ct_word.{specs.Sublist.{IsSublist, ended, left_out, taken}, specs.Change.{PlainChange, PlainCommit, Create, Insert, Assert}}
@@ -11,7 +11,7 @@ use Rattle.ct_resolve.specs.Statements.{resolved}
 use Rattle.ct_derivation.specs.declared.steps.Proof.{Proof}
 use Rattle.ct_rewrite.{specs.declared.answer.PossibleRow.PossibleRow, specs.declared.answer.CertainRow.CertainRow}
 use Rattle.ct_transcript.{specs.Means.Means, specs.Possible.PossibleRight, specs.Certain.CertainRight, specs.declared.reply.Answer.Answer}
-use Rattle.ct_statement.specs.Unmet.{query_in}
+use Rattle.ct_statement.{specs.Making.widths_in, specs.Unmet.asked_size}
 use Rattle.ct_transaction.{specs.Statements.ReadsAs, specs.State.{SessionState, beginning, actions_of}, specs.Seeing.{Asks, Sees}}
 use Rattle.ct_serve.specs.Sessions.{AreLawful}
 use Rattle.ct_word.specs.declared.values.Value.TheVariants as val
@@ -149,7 +149,7 @@ module _ (W : List ℕ) (N : ℕ) (text more : List ℕ) (last : SessionState) w
       → AreLawful [] W N (beginning 1) (text ∷ []) (reply.Refused 0 refusal.Full ∷ []) last → ⊥
   full_for_begin only l =
       let f = l.1.0 in
-      let le : 1 ≤ 0 = subst (λ st. 1 ≤ bound (count [] f.actions) None st) (only 0 f.actions f.statement f.asks) f.makes_words in omega (arith, le)
+      let le : 1 ≤ 0 = subst (λ st. 1 ≤ bound (count [] f.actions) (widths_in (schema [] f.actions).tables) None st) (only 0 f.actions f.statement f.asks) f.makes_words in omega (arith, le)
 
   -- a conflict without a cause: nothing of the history wrote the worlds
   no_cause : (s : SessionState) → AreLawful created W N s (text ∷ []) (reply.Refused 1 (refusal.Conflict read.Worlds 0 1 1) ∷ []) last → ⊥
@@ -174,6 +174,26 @@ module _ (W : List ℕ) (N : ℕ) (text more : List ℕ) (last : SessionState) w
       let none = subst (λ st. admits in_one asserted (r.actions ++ actions_of st) ≡ false) (only r.actions _ r.asks) (r.none_satisfies in_one) in
       false≢true (sym (subst (λ a. admits in_one asserted (a ++ actions_of x_is_one) ≡ false) r.sees.2 none))
 
+  -- a key of a table without rows is not too large: `assert key t (a)`, after t was created
+  abbrev key_of_t : PlainStatement
+  key_of_t = plain.Act (plain.AssertKey (codes "t") (0 ∷ []))
+
+  not_too_large : ((actions : List PlainAction) (st : PlainStatement) → Asks created (beginning 2) text 1 actions st → st ≡ key_of_t)
+      → AreLawful created W N (beginning 2) (text ∷ []) (reply.Refused 1 refusal.TooLarge ∷ []) last → ⊥
+  not_too_large only l =
+      let r = l.1.0 in
+      let evaluates = subst (λ a. asked_size (count created a) r.statement ≡ Some r.asked) r.sees.2 r.evaluates in
+      let none : 0 ≡ r.asked = some-injective 0 r.asked (subst (λ st. asked_size (count created []) st ≡ Some r.asked) (only r.actions r.statement r.asks) evaluates) in
+      let past = r.past in omega (arith, none, past)
+
+  -- nor is it inconsistent
+  key_holds : (proof : Proof) → ((actions : List PlainAction) (st : PlainStatement) → Asks created (beginning 2) text 1 actions st → st ≡ key_of_t)
+      → AreLawful created W N (beginning 2) (text ∷ []) (reply.Refused 1 (refusal.Inconsistent proof) ∷ []) last → ⊥
+  key_holds proof only l =
+      let r = l.1.0 in
+      let none = subst (λ st. admits [] created (r.actions ++ actions_of st) ≡ false) (only r.actions _ r.asks) (r.none_satisfies []) in
+      false≢true (sym (subst (λ a. admits [] created (a ++ actions_of key_of_t) ≡ false) r.sees.2 none))
+
   -- a table that is there is not unknown: `delete from t`, after t was created
   abbrev deletion : Statement
   deletion = statement.Delete (codes "t") None
@@ -191,6 +211,11 @@ module _ (W : List ℕ) (N : ℕ) (text more : List ℕ) (last : SessionState) w
 
   abbrev all_of_t : PlainQuery
   all_of_t = plain.Project (0 ∷ []) (plain.Select True (plain.Table (codes "t")))
+
+  -- the query that a statement asks, if it asks one
+  abbrev query_in : PlainStatement → Option PlainQuery
+  query_in (plain.Asks k columns q) = Some q
+  query_in _ = None
 
   row_left_out : ((actions : List PlainAction) (st : PlainStatement) → Asks filled (beginning 3) text 2 actions st → st ≡ plain.Asks ask.Possible (codes "a" ∷ []) all_of_t)
       → AreLawful filled W N (beginning 3) (text ∷ []) (reply.Possible 2 0 (codes "a" ∷ []) [] ∷ []) last → ⊥

@@ -1,15 +1,13 @@
 -- Completeness: what is within all limits is not refused.
 use Rattle.std.specs.Prelude.{◌≡◌, ℕ, ◌+◌, ◌<◌, ◌≤◌, ◌⊎◌, List, [], ◌∷◌, ◌++◌, length, take, All, ⊤, Some, None, Err, IsSome, IsTrue}
 use Rattle.ct_word.specs.Value.{World}
-use Rattle.ct_word.specs.Condition.{Condition}
 use Rattle.ct_word.specs.Change.{PlainCommit}
-use Rattle.ct_query.specs.Plain.{PlainQuery, PlainAction, PlainStatement}
+use Rattle.ct_query.specs.Plain.{PlainAction, PlainStatement}
 use Rattle.ct_query.specs.Plain as plain
 use Rattle.ct_query.specs.declared.action.Read.{Read}
 use Rattle.ct_query.specs.Worlds.{admits}
 use Rattle.ct_query.specs.Reads.{last}
 use Rattle.ct_query.specs.Patterns.{count}
-use Rattle.ct_query.specs.Size.{size}
 use Rattle.ct_algebra.specs.Evaluates.{limit}
 use Rattle.ct_resolve.specs.declared.error.ResolveError.{ResolveError}
 use Rattle.ct_lex.specs.Texts.{texts}
@@ -23,7 +21,8 @@ use Rattle.ct_transcript.specs.declared.transcript.Transcript.{Transcript}
 use Rattle.ct_transaction.specs.Statements.{IsTextFault}
 use Rattle.ct_transaction.specs.State.{SessionState, beginning}
 use Rattle.ct_transaction.specs.Seeing.{Sees, ResolvesTo, Asks, Orders}
-use Rattle.ct_statement.specs.Unmet.{query_in}
+use Rattle.ct_statement.specs.Sources.{is_assertion}
+use Rattle.ct_statement.specs.Unmet.{asked_size}
 use Rattle.ct_transaction.specs.LawfulRefusal.{CommitsWhole, CommitsAlone}
 use Rattle.ct_transaction.specs.LawfulReply.{LawfulReply}
 use Rattle.ct_transaction.specs.Answers.{commits_by}
@@ -47,13 +46,13 @@ module _ (H : List PlainCommit) (W : List ℕ) (N : ℕ) where
     pub ends_inside : (st : PlainStatement) → (st ≡ plain.Commit) ⊎ (st ≡ plain.Rollback) → Orders H s x st → IsSome s.transaction
     -- no fault of a name or a count
     pub named : (at : ℕ) (actions : List PlainAction) (e : ResolveError) → At at → Sees H s at actions → ResolvesTo H s x at actions (Err e) → ⊥
-    -- its query is not too large, and the log is not full
-    pub small : (at : ℕ) (actions : List PlainAction) (st : PlainStatement) (q : PlainQuery) → At at → Sees H s at actions → Asks H s x at actions st → query_in st ≡ Some q
-        → size (count (take at H) actions) q ≤ limit
+    -- what it evaluates is not too large, and the log is not full
+    pub small : (at : ℕ) (actions : List PlainAction) (st : PlainStatement) (asked : ℕ) → At at → Sees H s at actions → Asks H s x at actions st
+        → asked_size (count (take at H) actions) st ≡ Some asked → asked ≤ limit
     pub room : length W < N
     -- where it asserts, some valuation satisfies it
-    pub satisfied : (at : ℕ) (actions : List PlainAction) (c : Condition) → At at → Sees H s at actions → Asks H s x at actions (plain.Act (plain.Assert c))
-        → (v : World) × IsTrue (admits v (take at H) (actions ++ plain.Assert c ∷ []))
+    pub satisfied : (at : ℕ) (actions : List PlainAction) (a : PlainAction) → At at → Sees H s at actions → Asks H s x at actions (plain.Act a) → IsTrue (is_assertion a)
+        → (v : World) × IsTrue (admits v (take at H) (actions ++ a ∷ []))
     -- where it commits, no commit after its base has written what it reads
     pub unwritten : (base at : ℕ) (reads : List Read) → At at → CommitsWhole H W N s x base reads ⊎ CommitsAlone H W N s x base reads → at ≤ length H
         → All (λ r. last (take at H) r ≤ base) reads

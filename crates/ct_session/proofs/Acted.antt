@@ -1,8 +1,8 @@
 -- An action outside a transaction: what it is answered, by what became of its offer.
-use Rattle.std.{proofs.Common.{◌≡◌, ℕ, ◌<◌, ◌≤◌, List, [], length, max, refl, ap, sym, subst, inr, ◌∙◌, arith}, specs.Prelude.{None, Result, Ok, Err}}
+use Rattle.std.{proofs.Common.{◌≡◌, ℕ, ◌<◌, ◌≤◌, List, [], length, max, take, refl, ap, sym, subst, inr, ◌∙◌, arith}, specs.Prelude.{None, Result, Ok, Err}}
 use Rattle.std.proofs.lemmas.Bool.{false≢true}
 use Rattle.ct_word.{specs.Change.PlainCommit, specs.Reading.commits_of, specs.StandsFor.StandsFor, proofs.Prefixes.prefix_of_prefix}
-use Rattle.ct_query.specs.Patterns.{count}
+use Rattle.ct_query.{specs.Patterns.count, specs.Schema.schema}
 use Rattle.ct_query.specs.declared.action.Read.{Read}
 use Rattle.ct_arena.specs.Seen.{Seen}
 use Rattle.ct_keeper.{specs.declared.error.KeeperError.KeeperError, specs.Offers.{IsConflict as MeetsLater, changes_in}, specs.Served.IsOutcome}
@@ -10,7 +10,7 @@ use Rattle.ct_keeper.{specs.declared.catalogue.Offer.Offer, specs.declared.catal
 use Rattle.ct_parse.specs.declared.tree.Statement.{Statement}
 use Rattle.ct_resolve.specs.Statements.{resolved}
 use Rattle.ct_transcript.specs.declared.reply.Reply.{Reply}
-use Rattle.ct_statement.proofs.Weights.{action_makes_words}
+use Rattle.ct_statement.{specs.Making.widths_in, proofs.Weights.action_makes_words}
 use Rattle.ct_transaction.{specs.Answers.{GoesOn, Answers}, specs.LawfulRefusal.IsConflict, specs.Seeing.Asks, specs.Sessions.state_of, specs.Executes.Executes}
 use Rattle.ct_transaction.{specs.Outcomes.{outcome_reply, outcome_version}, specs.Statements.ReadsAs, specs.State.{SessionState, carried, with_transaction}}
 use Rattle.ct_transaction.{proofs.Conflicting.{later_than, conflict_there}, proofs.Called.{IsCall, uncommitted_proceeds, uncommitted_state, wanting_answers}}
@@ -74,7 +74,7 @@ module _ (N : ℕ) (pass : Seen) (seen fresh : ℕ) (o : Offering) (st : Stateme
                 sees = (le, (onward pass.words base f.takes.seen W (prefix_of_prefix pass.words pass'.words W k.longer goes.log) H stands).within, refl);
                 asks = asks_there seen W goes H stands;
                 full = let short = prefix_short pass'.words W goes.log in let most = goes.room in omega (arith, short, most, full);
-                makes_words = action_makes_words (count H []) None f.action;
+                makes_words = action_makes_words (count H []) (widths_in (schema (take base H) []).tables) None f.action;
               },
               refl,
             )))

@@ -1,21 +1,21 @@
 -- An insertion by what an earlier one saw: its offer, and what it is answered where that has become a commit.
-use Rattle.std.{proofs.Common.{◌≡◌, ◌≤◌, ◌+◌, ℕ, List, [], max, length, refl, ap, sym, subst, ◌∙◌, true, arith}, specs.Prelude.{◌<◌, None, Result, Ok, Err, IsErrOf}, proofs.lemmas.List.take_all, proofs.lemmas.Bool.false≢true}
-use Rattle.ct_word.{specs.Reading.commits_of, proofs.Prefixes.{commits_prefix, prefix_of_prefix}}
-use Rattle.ct_query.{specs.Bounds.bound, specs.Patterns.count, specs.Plain.PlainStatement, specs.Schema.schema}
+use Rattle.std.{proofs.Common.{◌≡◌, ◌≤◌, ◌+◌, ℕ, List, [], ◌∷◌, max, length, refl, ap, sym, subst, ◌∙◌, true, false, arith}, specs.Prelude.{◌<◌, Contains, None, Result, Ok, Err, IsErrOf}, proofs.lemmas.List.take_all, proofs.lemmas.List.Elements.Contains-append_right, proofs.lemmas.Bool.false≢true}
+use Rattle.ct_word.{specs.Change.PlainChange, specs.Reading.commits_of, proofs.Items.{first_item, no_item}, proofs.Prefixes.{commits_prefix, prefix_of_prefix}}
+use Rattle.ct_query.{specs.Bounds.bound, specs.Patterns.count, specs.Plain.{PlainAction, PlainStatement}, specs.Reads.action_reads, specs.Schema.schema}
 use Rattle.ct_resolve.specs.Statements.{resolved}
 use Rattle.ct_table.specs.Snapshot.{commits_to}
 use Rattle.ct_condition.specs.Writes.{charge}
-use Rattle.ct_statement.{specs.Making.says_full, specs.Sight.history_of, specs.Unmet.IsWant, proofs.Sights.history_stays, proofs.Weights.action_makes_words}
+use Rattle.ct_statement.{specs.Making.{says_full, widths_in}, specs.Sight.history_of, specs.Unmet.IsWant, proofs.Sights.history_stays, proofs.Weights.action_makes_words}
 use Rattle.ct_transcript.specs.declared.reply.Refusal.{Refusal}
 use Rattle.ct_arena.specs.Seen.{Seen}
 use Rattle.ct_history.specs.Kept.{kept_of}
-use Rattle.ct_keeper.{specs.Bounds.offer_words, specs.Served.{IsLastCommit, IsOutcome}, specs.declared.catalogue.Offer.Offer, specs.declared.catalogue.Outcome.Outcome}
+use Rattle.ct_keeper.{specs.Bounds.offer_words, specs.Offers.changes_in, specs.Served.{IsLastCommit, IsOutcome}, specs.declared.catalogue.Offer.Offer, specs.declared.catalogue.Outcome.Outcome}
 use Rattle.ct_keeper.specs.declared.error.KeeperError.{KeeperError}
 use Rattle.ct_parse.specs.declared.tree.Statement.{Statement}
 use Rattle.ct_transaction.{specs.Executes.Executes, specs.Answers.is_full, specs.Outcomes.outcome_reply, specs.Sessions.state_of, specs.State.carried}
-use Rattle.ct_transaction.{specs.Bounded.{Makes, within, Performs}, specs.Prepared.{IsRefused, unmet}, proofs.Bounded.offer_charged}
+use Rattle.ct_transaction.{specs.Bounded.{Makes, within, Performs}, specs.Prepared.{IsRefused, unmet}, proofs.Bounded.{offer_charged, step_within}}
 use Rattle.ct_transaction.{proofs.Going.{front_taken, prefix_short, version_within}, proofs.Called.IsCall, proofs.Whole.committed_seen}
-use Rattle.ct_session.{specs.Outcomes.committed_or, specs.Offering.{IsFoundAlone, IsInsertion, IsReadyToOffer, inserts_rows, InsertsRows, IsLiteralAct}}
+use Rattle.ct_session.{specs.Outcomes.{CommitsOrWants, IsCommittedOr}, specs.Offering.{IsFoundAlone, IsInsertion, IsReadyToOffer, inserts_rows, InsertsRows, IsLiteralAct}}
 use Rattle.ct_session.{specs.declared.offering.Offering.Offering, proofs.Bounded.{alone_counted, charged_less, one_asked, resolves_now, resolves_on}}
 use Rattle.ct_session.proofs.Committed.{committed_from}
 use mathlib.Core.List.{IsPrefix}
@@ -41,41 +41,54 @@ rows_literal (plain.Act (plain.InsertRows name rs c)) is = refl
 rows_literal (plain.Act _) is = absurd (false≢true is)
 rows_literal _ is = absurd is
 
+-- and reads nothing
+none_read : (a : PlainAction) → inserts_rows a ≡ true → action_reads a ≡ []
+none_read (plain.InsertRows name rs c) is = refl
+none_read _ is = absurd (false≢true is)
+
 -- an offer that became a commit is the last one of the words
-pub last_commit : (N : ℕ) (pass pass' : Seen) (offer : Offer) (r : Result Outcome KeeperError) (m : ℕ) → committed_or r ≡ Ok m → IsOutcome N pass pass' offer r → IsLastCommit pass pass' offer m
+pub last_commit : (N : ℕ) (pass pass' : Seen) (offer : Offer) (r : Result Outcome KeeperError) (m : ℕ) → IsCommittedOr r (Ok m) → IsOutcome N pass pass' offer r → IsLastCommit pass pass' offer m
 last_commit N pass pass' offer (Ok (outcome.Committed n)) m e is = let same : n ≡ m = cc in subst (IsLastCommit pass pass' offer) same is
-last_commit N pass pass' offer (Err fault.Full) m e is = absurd (failed e)
-last_commit N pass pass' offer _ m e is = absurd (failed e)
+last_commit N pass pass' offer (Err fault.Full) m e is = absurd (failed (sym e))
+last_commit N pass pass' offer (Err fault.Memory) m e is = absurd (failed (sym e))
+last_commit N pass pass' offer _ m e is = absurd e
 
 -- one that became none committed nothing, and says what is wanting
 module _ (N : ℕ) (pass pass' : Seen) (offer : Offer) where
-  pub none_committed : (r : Result Outcome KeeperError) (why : Refusal) → committed_or r ≡ Err why → IsOutcome N pass pass' offer r → pass'.mine ≡ pass.mine
-  none_committed (Ok (outcome.Committed n)) why e is = absurd (failed (sym e))
-  none_committed (Ok outcome.Nothing) why e is = is.0
-  none_committed (Ok (outcome.Conflict table was now at)) why e is = is.0.mine
+  pub none_committed : (r : Result Outcome KeeperError) (why : Refusal) → IsCommittedOr r (Err why) → IsOutcome N pass pass' offer r → pass'.mine ≡ pass.mine
+  none_committed (Ok (outcome.Committed n)) why e is = absurd (failed e)
   none_committed (Err fault.Full) why e is = is.0.mine
   none_committed (Err fault.Memory) why e is = is
+  none_committed _ why e is = absurd e
 
-  pub outcome_wants : (r : Result Outcome KeeperError) (why : Refusal) → committed_or r ≡ Err why → IsOutcome N pass pass' offer r → IsWant N pass'.words why
-  outcome_wants (Ok (outcome.Committed n)) why e is = absurd (failed (sym e))
-  outcome_wants (Err fault.Full) why e is = subst (IsWant N pass'.words) (one_refusal e) is.2
-  outcome_wants (Err fault.Memory) why e is = subst (IsWant N pass'.words) (one_refusal e) tt
-  outcome_wants (Ok outcome.Nothing) why e is = subst (IsWant N pass'.words) (one_refusal e) tt
-  outcome_wants (Ok (outcome.Conflict table was now at)) why e is = subst (IsWant N pass'.words) (one_refusal e) tt
+  pub outcome_wants : (r : Result Outcome KeeperError) (why : Refusal) → IsCommittedOr r (Err why) → IsOutcome N pass pass' offer r → IsWant N pass'.words why
+  outcome_wants (Ok (outcome.Committed n)) why e is = absurd (failed e)
+  outcome_wants (Err fault.Full) why e is = subst (IsWant N pass'.words) (one_refusal (sym e)) is.2
+  outcome_wants (Err fault.Memory) why e is = subst (IsWant N pass'.words) (one_refusal (sym e)) tt
+  outcome_wants _ why e is = absurd e
+
+  -- an offer with a change that read nothing
+  pub commits_or_wants : (change : PlainChange) → changes_in pass.words offer ≡ change ∷ [] → offer.reads ≡ [] → (r : Result Outcome KeeperError) → IsOutcome N pass pass' offer r → CommitsOrWants r
+  commits_or_wants change one none (Ok outcome.Nothing) is = let bad = ap length (sym is.1 ∙ one) in omega (arith, bad)
+  commits_or_wants change one none (Ok (outcome.Conflict table was now at)) is =
+      let first = is.1.first in
+      no_item table (subst (λ rs. Contains rs table) (sym first.place ∙ none) (Contains-append_right first.before (table ∷ first.after) table (first_item first.after table)))
+  commits_or_wants change one none (Ok (outcome.Committed m)) is = tt
+  commits_or_wants change one none (Err fault.Full) is = tt
+  commits_or_wants change one none (Err fault.Memory) is = tt
 
 -- an offer that became none made at most its words, and fewer where it says that the log is full
 pub offer_wanted : (words : List ℕ) (pass : Seen) (offer : Offer) (r : Result Outcome KeeperError) (made' : ℕ) → made' ≤ pass.made + offer_words words pass offer
-    → (IsErrOf r fault.Full → made' < pass.made + offer_words words pass offer) → (why : Refusal) → committed_or r ≡ Err why → made' + charge (says_full why) ≤ pass.made + offer_words words pass offer
+    → (IsErrOf r fault.Full → made' < pass.made + offer_words words pass offer) → (why : Refusal) → IsCommittedOr r (Err why) → made' + charge (says_full why) ≤ pass.made + offer_words words pass offer
 offer_wanted words pass offer r made' most fewer why e =
     let all = offer_charged words pass offer r made' most fewer 0 0 (outcome_reply 0 0 r) refl in
     let less = charged_less (says_full why) (is_full (outcome_reply 0 0 r)) (so r e) in
     omega (arith, all, less) where
-      so : (q : Result Outcome KeeperError) → committed_or q ≡ Err why → says_full why ≡ true → is_full (outcome_reply 0 0 q) ≡ true
-      so (Ok (outcome.Committed n)) is full = absurd (failed (sym is))
+      so : (q : Result Outcome KeeperError) → IsCommittedOr q (Err why) → says_full why ≡ true → is_full (outcome_reply 0 0 q) ≡ true
+      so (Ok (outcome.Committed n)) is full = absurd (failed is)
       so (Err fault.Full) is full = refl
-      so (Err fault.Memory) is full = absurd (false≢true (ap says_full (one_refusal is) ∙ full))
-      so (Ok outcome.Nothing) is full = absurd (false≢true (ap says_full (one_refusal is) ∙ full))
-      so (Ok (outcome.Conflict table was now at)) is full = absurd (false≢true (ap says_full (one_refusal is) ∙ full))
+      so (Err fault.Memory) is full = absurd (false≢true (ap says_full (one_refusal (sym is)) ∙ full))
+      so _ is full = absurd is
 
 -- an insertion of written rows is one over further words
 pub insertion_grows : (pass pass' : Seen) → IsPrefix pass.words pass'.words → pass'.session ≡ pass.session → (fresh : ℕ) (st : Statement) → IsInsertion pass fresh st → IsInsertion pass' fresh st
@@ -104,21 +117,24 @@ module _ (begun now : Seen) (longer : IsPrefix begun.words now.words) (same : no
 
   -- at a version of all commits
   makes_all : (after : Seen) → IsPrefix begun.words after.words → after.session ≡ begun.session → (q : PlainStatement) → resolved (schema (commits_of after.words) []) after.session fresh st ≡ Ok q
-      → (made' : ℕ) → made' ≤ begun.made + bound (count (commits_of after.words) []) None q → Makes (state_of begun seen fresh None) after.words st begun.made made'
+      → (made' : ℕ) → made' ≤ begun.made + bound (count (commits_of after.words) []) (widths_in (schema (commits_of after.words) []).tables) None q → Makes (state_of begun seen fresh None) after.words st begun.made made'
   makes_all after longer' same' q res made' few =
       let all = length (commits_of after.words) in
       let low = version_within begun.words after.words longer' seen seen_is in
+      let whole = sym (take_all all (commits_of after.words) (omega arith)) in
       within all [] q (omega arith) (low, omega arith, refl)
-      (subst (λ n. resolved (schema (commits_to after.words all) []) n fresh st ≡ Ok q) same'
-      (subst (λ h. resolved (schema h []) after.session fresh st ≡ Ok q) (sym (take_all all (commits_of after.words) (omega arith))) res)) few
+      (subst (λ n. resolved (schema (commits_to after.words all) []) n fresh st ≡ Ok q) same' (subst (λ h. resolved (schema h []) after.session fresh st ≡ Ok q) whole res))
+      (subst (λ h. made' ≤ begun.made + bound (count (commits_of after.words) []) (widths_in (schema h []).tables) None q) whole few)
 
   -- there was no room for its change, or no memory
-  module _ (made made' : ℕ) (done : (counts : List ℕ → ℕ) → Performs counts asked begun.made made) (le : made' ≤ made) where
+  module _ (made made' : ℕ) (done : (counts widths : List ℕ → ℕ) → Performs false counts widths asked begun.made made) (le : made' ≤ made) where
     pub unmade_makes : Makes (state_of begun seen fresh None) now.words st begun.made made'
-    unmade_makes = by_asked asked rows resolves_there (done (count (commits_of now.words) [])) where
-      by_asked : (q : PlainStatement) → InsertsRows q → resolved (schema (commits_to now.words base) []) now.session fresh st ≡ Ok q → Performs (count (commits_of now.words) []) q begun.made made
-          → Makes (state_of begun seen fresh None) now.words st begun.made made'
-      by_asked (plain.Act a) is res few = makes_all now longer same (plain.Act a) (resolves_now now.words base now.session fresh st a is res) made' (omega (arith, few, le))
+    unmade_makes = by_asked asked rows resolves_there (done (count (commits_of now.words) []) (widths_in (schema (commits_of now.words) []).tables)) where
+      by_asked : (q : PlainStatement) → InsertsRows q → resolved (schema (commits_to now.words base) []) now.session fresh st ≡ Ok q
+          → Performs false (count (commits_of now.words) []) (widths_in (schema (commits_of now.words) []).tables) q begun.made made → Makes (state_of begun seen fresh None) now.words st begun.made made'
+      by_asked (plain.Act a) is res few =
+          makes_all now longer same (plain.Act a) (resolves_now now.words base now.session fresh st a is res) made'
+          (let step = step_within false (count (commits_of now.words) []) a in omega (arith, few, le, step))
       by_asked _ is res few = absurd is
 
   pub unmade_insertion : IsInsertion now fresh st
@@ -141,11 +157,16 @@ module _ (begun now : Seen) (longer : IsPrefix begun.words now.words) (same : no
     pub offered_insertion : IsInsertion after fresh st
     offered_insertion = record { action = f.action; inserts = its_rows; resolves = offered_resolves }
 
-    pub offered_makes : (made' : ℕ) → ((counts : List ℕ → ℕ) → Performs counts asked begun.made now.made) → made' ≤ now.made + offer_words after.words now o.offer
+    -- it read nothing, and has one change
+    pub offered_commits : (N : ℕ) (r : Result Outcome KeeperError) → IsOutcome N now after o.offer r → CommitsOrWants r
+    offered_commits N = commits_or_wants N now after o.offer f.change f.list_is (f.reads_are ∙ none_read f.action its_rows)
+
+    pub offered_makes : (made' : ℕ) → ((counts widths : List ℕ → ℕ) → Performs false counts widths asked begun.made now.made) → made' ≤ now.made + offer_words after.words now o.offer
         → Makes (state_of begun seen fresh None) after.words st begun.made made'
     offered_makes made' done few =
         let counts = count (commits_of after.words) [] in
-        let own = subst (λ q. Performs counts q begun.made now.made) action_is (done counts) in
+        let widths = widths_in (schema (commits_of after.words) []).tables in
+        let own = subst (λ q. Performs false counts widths q begun.made now.made) action_is (done counts widths) in
         let counted = alone_counted now fresh o st f after later in
         makes_all after (prefix_of_prefix begun.words now.words after.words longer later) (same' ∙ same) (plain.Act f.action) offered_resolves made' (omega (arith, own, counted, few))
 
@@ -160,13 +181,13 @@ full_refused N pass pass' fresh version st longer same room newest i full =
       resolves = subst (λ h. resolved (schema h []) pass'.session fresh st ≡ Ok (plain.Act j.action)) all j.resolves;
       unmet = record {
         full = let short = prefix_short pass.words pass'.words longer in omega (arith, short, room, full);
-        makes_words = λ own. action_makes_words (count (commits_to pass'.words version) []) own j.action;
+        makes_words = λ own. action_makes_words (count (commits_to pass'.words version) []) (widths_in (schema (commits_to pass'.words version) []).tables) own j.action;
       };
     })
 
 -- what an earlier insertion saw, and its change in further words: it is offered, and has become a commit
 module _ (begun now : Seen) (same : kept_of now ≡ kept_of begun) (fresh : ℕ) (o : Offering) (st : Statement) (f : IsReadyToOffer now fresh o st) (N seen : ℕ) (seen_is : seen ≤ length (commits_of begun.words))
-    (after : Seen) (k : IsCall N begun.words now after) (r : Result Outcome KeeperError) (m : ℕ) (e : committed_or r ≡ Ok m) (is : IsOutcome N now after o.offer r) where
+    (after : Seen) (k : IsCall N begun.words now after) (r : Result Outcome KeeperError) (m : ℕ) (e : IsCommittedOr r (Ok m)) (is : IsOutcome N now after o.offer r) where
   there : seen ≤ length (commits_of now.words)
   there = version_within begun.words now.words k.first seen seen_is
 

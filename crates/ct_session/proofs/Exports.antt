@@ -3,7 +3,7 @@ use Rattle.std.proofs.Common.{◌≡◌, ℕ, ◌≤◌, Bool, true, false, List
 use Rattle.std.{specs.Prelude.{◌↔◌, Option, Some, None, IfSome, IsTrue, if◌then◌else◌, option_map}, specs.List.{filter_map, list_all}}
 use Rattle.std.proofs.lemmas.{Bool.{and_parts, false≢true}, Option.IfSome_then, List.Elements.recursion_from_All}
 use Rattle.ct_word.{specs.declared.values.CRow.CRow, specs.declared.values.Term.Term, specs.Value.same_text, specs.Names.is_name}
-use Rattle.ct_word.specs.Change.{PlainChange, PlainCommit, Create, Insert, Delete, Assert}
+use Rattle.ct_word.specs.Change.{PlainChange, PlainCommit, Create, Insert, Delete, Update, Assert}
 use Rattle.ct_word.{specs.Reading.commits_of, specs.WellFormed.IsWellFormed, specs.Writable.is_writable}
 use Rattle.ct_query.{specs.declared.action.Read.Read, specs.Database.{SameSet, tuples_of}, specs.Fits.columns_in, specs.Keeping.Keeps}
 use Rattle.ct_query.{specs.Schema.{created_by_change, schema}, specs.Worlds.{changes_of, world}, proofs.SameRows.same_tuples_of}
@@ -35,6 +35,7 @@ created_names (Create n cs ∷ xs) name columns can there =
       by_test false is named rest = rest is
 created_names (Insert n rs ∷ xs) name columns can there = created_names xs name columns (and_parts (is_writable (Insert n rs)) (list_all is_writable xs) can).1 there
 created_names (Delete n c ∷ xs) name columns can there = created_names xs name columns (and_parts (is_writable (Delete n c)) (list_all is_writable xs) can).1 there
+created_names (Update n ss c ∷ xs) name columns can there = created_names xs name columns (and_parts (is_writable (Update n ss c)) (list_all is_writable xs) can).1 there
 created_names (Assert c ∷ xs) name columns can there = created_names xs name columns (and_parts (is_writable (Assert c)) (list_all is_writable xs) can).1 there
 
 -- a list that is not empty
@@ -145,4 +146,4 @@ module _ (N : ℕ) (old new : Standing) (name : List ℕ) (at : ℕ) where
         (l, n, later N new.pass.words at (λ h. columns_in (schema h []).tables name ≡ None) n.within (λ h keeps. sym (same_columns new.pass.words (commits_to new.pass.words at) h keeps name) ∙ none))
     not_exported_then (fault.TooWide row) wide =
         (at, l, n, later N new.pass.words at (λ h. IsWideTable new.pass.words h name row) n.within (λ h keeps. wide_kept new.pass.words (commits_to new.pass.words at) h keeps name row wide))
-    not_exported_then fault.Memory none = (at, l)
+    not_exported_then fault.Memory none = (at, n.within, l)

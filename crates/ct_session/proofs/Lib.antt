@@ -1,3 +1,4 @@
+pub mod Unasked
 pub mod Bounded
 pub mod Literal
 pub mod Exports

@@ -1,5 +1,5 @@
 -- Actions whose change is all in their text.
-use Rattle.std.{proofs.Common.{◌≡◌, ◌+◌, ℕ, true, List, [], ap, sym, subst, ◌∙◌}, specs.Prelude.None, proofs.lemmas.Bool.false≢true}
+use Rattle.std.{proofs.Common.{◌≡◌, ◌+◌, ℕ, true, List, [], sym, subst}, specs.Prelude.{None, IsTrue}, proofs.lemmas.Bool.false≢true}
 use Rattle.ct_keeper.{specs.Offers.kept_in, specs.declared.catalogue.Offer.Offer}
 use Rattle.ct_word.specs.WellFormed.{IsWellFormed}
 use Rattle.ct_arena.specs.Seen.{Seen}
@@ -8,13 +8,19 @@ use Rattle.ct_parse.specs.declared.tree.Statement.{Statement}
 use Rattle.ct_query.{specs.Plain.PlainAction, specs.Reads.reads_of, specs.Schema.schema, specs.Views.action_of, specs.declared.action.Read.Read}
 use Rattle.ct_table.specs.Snapshot.{commits_to}
 use Rattle.ct_statement.{proofs.Literal.literal_encodable, proofs.Sights.sight_grows, proofs.Wanting.want_unmet, specs.declared.proposing.Proposal.Proposal}
-use Rattle.ct_statement.{specs.Drawing.drawn, specs.Proposals.IsProposal, specs.Sight.{actions_before, history_of}, specs.Sources.is_literal, specs.Unmet.IsWant}
+use Rattle.ct_statement.{specs.Drawing.drawn, specs.Proposals.IsProposal, specs.Sight.{actions_before, history_of}, specs.Sources.{is_assertion, is_literal}, specs.Unmet.IsWant}
 use Rattle.ct_transcript.specs.declared.reply.Refusal.{Refusal}
 use Rattle.ct_transaction.specs.Prepared.{IsRefused, unmet}
 use Rattle.ct_session.{specs.Offering.{IsFoundAlone, IsReadyToOffer}, proofs.Ready.ready_to_offer, proofs.Outside.{prepared_on, refused_on}}
 use mathlib.Core.List.{IsPrefix}
 use Rattle.ct_query.specs.Plain as plain
 use Rattle.ct_transaction.specs.declared.preparing.Prepared.TheVariants as prepared
+
+-- none of these is an assertion
+literal_asserts_none : (a : PlainAction) → is_literal a ≡ true → IsTrue (is_assertion a) → ⊥
+literal_asserts_none (plain.Create name columns) literal asserts = false≢true asserts
+literal_asserts_none (plain.InsertRows name rs c) literal asserts = false≢true asserts
+literal_asserts_none _ literal asserts = false≢true literal
 
 -- one that was found at what is seen, over the words that came with its change
 module _ (begun now : Seen) (longer : IsPrefix begun.words now.words) (same : kept_of now ≡ kept_of begun) (fresh base : ℕ) (st : Statement) (a : PlainAction) (f : IsFoundAlone begun fresh base st (plain.Act a))
@@ -43,4 +49,4 @@ module _ (begun now : Seen) (longer : IsPrefix begun.words now.words) (same : ke
         asked = plain.Act a;
         resolves = f.found.resolves;
         prepared = (record { action = is; proposes = proposes; draws = draws; steps = tt }, reads_are);
-      })) (λ c asserts. absurd (false≢true (ap is_literal (sym asserts ∙ is) ∙ literal))) like empty)
+      })) (λ asserts. absurd (literal_asserts_none a literal (subst (λ b. IsTrue (is_assertion b)) is asserts))) like empty)

@@ -2,7 +2,7 @@
 use Rattle.std.{proofs.Common.{◌≡◌, ℕ, Bool, true, false, ◌&&◌, List, [], ◌∷◌, ◌++◌, refl, ap, sym, subst, ◌∙◌}, specs.Arc.arc_value}
 use Rattle.std.{specs.Prelude.{Option, Some, None, IsTrue, IsSome}, specs.List.{AllByRecursion, Contains, list_all}, proofs.lemmas.Bool.false≢true}
 use Rattle.std.{proofs.lemmas.List.append-nil, proofs.lemmas.List.Elements.{All-from_recursion, recursion_from_All, All-contains_itself}}
-use Rattle.ct_word.{specs.Condition.Condition, specs.Change.{PlainChange, Assert, PlainCommit}, specs.Reading.change_list_at}
+use Rattle.ct_word.{specs.Change.{PlainChange, Assert, PlainCommit}, specs.Reading.change_list_at}
 use Rattle.ct_word.specs.Writable.{is_writable}
 use Rattle.ct_query.{specs.Agrees.{AgreesWith, Agrees}, specs.Fits.FitChanges, specs.Frame.{creates, reads_of_actions}, specs.Reads.action_reads}
 use Rattle.ct_query.{specs.Plain.PlainAction, specs.Schema.schema, specs.Views.action_of, specs.declared.action.Read.Read}
@@ -12,7 +12,7 @@ use Rattle.ct_keeper.{specs.Offers.{IsOffer, commit_for, has_assertion, kept_in}
 use Rattle.ct_table.specs.Snapshot.{IsKeptWorld}
 use Rattle.ct_parse.specs.declared.tree.Statement.{Statement}
 use Rattle.ct_statement.{specs.declared.proposing.Proposal.Proposal, specs.declared.sight.Sight.Sight, specs.declared.stepping.Step.Step}
-use Rattle.ct_statement.specs.Sight.{actions_before, history_of, IsSight}
+use Rattle.ct_statement.{specs.Sight.{actions_before, history_of, IsSight}, specs.Sources.is_assertion}
 use Rattle.ct_transaction.{specs.Prepared.{IsPrepared, IsStepIf, needs_step}, proofs.Actions.{ForAction, prepared_action}}
 use Rattle.ct_transaction.proofs.Offered.{creates_all, asserts_read}
 use Rattle.ct_session.{specs.Offering.IsReadyToOffer, specs.Outcomes.world_offered}
@@ -20,8 +20,10 @@ use Rattle.ct_query.specs.Plain as plain
 use Rattle.ct_transaction.specs.declared.preparing.Prepared.TheVariants as prepared
 
 -- an action whose change asserts is an assertion
-asserts : (h : List PlainCommit) (a : PlainAction) (x : PlainChange) → AgreesWith h [] a x → has_assertion (x ∷ []) → (c : Condition) × (a ≡ plain.Assert c)
-asserts h (plain.Assert c) (Assert c') f some = (c, refl)
+asserts : (h : List PlainCommit) (a : PlainAction) (x : PlainChange) → AgreesWith h [] a x → has_assertion (x ∷ []) → IsTrue (is_assertion a)
+asserts h (plain.Assert c) (Assert c') f some = refl
+asserts h (plain.AssertQuery wanted q) (Assert c') f some = refl
+asserts h (plain.AssertKey n ks) (Assert c') f some = refl
 asserts h _ (Assert c') f some = absurd f
 asserts h _ _ f some = absurd (false≢true some)
 
@@ -71,7 +73,7 @@ module _ (pass : Seen) (fresh : ℕ) (sight : Sight) (sees : IsSight pass.words 
       creations = All-from_recursion (Contains reads) (creates xs) (creates_all h (Contains reads) [] (action ∷ []) xs changes_agree all_read);
       leaves = λ some.
           let is = asserts h action f.change.proposes.change f.change.proposes.agrees (subst has_assertion f.change.proposes.list_is some) in
-          let world = left_by step (needs is.0 is.1) f.change.steps in
+          let world = left_by step (needs is) f.change.steps in
           record {
             reads = asserts_read h (Contains reads) [] (action ∷ []) xs changes_agree all_read some;
             world = subst (λ v. IsKeptWorld pass.words (h ++ commit_for pass offered ∷ []) [] v) (sym same) (record {

@@ -68,10 +68,10 @@ pub record HasExported (N : ℕ) (old new : Standing) (name : List ℕ) (at : �
   pub now : IsNow old new at
   pub file : Later N new.pass.words at (λ h. IsFileOf new.pass.words h name bytes)
 
--- why it has not; want of memory may come at any time
+-- why it has not; want of memory may come at any time, and what was looked at then is a version of the words
 abbrev pub HasNotExported : ℕ → Standing → Standing → List ℕ → ExportError → Type 0
 HasNotExported N old new name (fault.UnknownTable at) =
     HasLooked old new at × IsNow old new at × Later N new.pass.words at (λ h. columns_in (schema h []).tables name ≡ None)
 HasNotExported N old new name (fault.TooWide row) =
     (at : ℕ) × HasLooked old new at × IsNow old new at × Later N new.pass.words at (λ h. IsWideTable new.pass.words h name row)
-HasNotExported N old new name fault.Memory = (at : ℕ) × HasLooked old new at
+HasNotExported N old new name fault.Memory = (at : ℕ) × (at ≤ length (commits_of new.pass.words)) × HasLooked old new at

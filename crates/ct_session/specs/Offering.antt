@@ -16,7 +16,7 @@ use Rattle.ct_table.specs.Snapshot.{commits_to}
 use Rattle.ct_keeper.specs.Offers.{IsOffer}
 use Rattle.ct_statement.specs.declared.sight.Sight.{Sight}
 use Rattle.ct_statement.specs.Drawing.{drawn}
-use Rattle.ct_statement.specs.Making.{IsLight}
+use Rattle.ct_statement.specs.Making.{widths_in, IsLight}
 use Rattle.ct_statement.specs.Sight.{actions_before, history_of}
 use Rattle.ct_statement.specs.Sources.{is_literal}
 use Rattle.ct_transaction.{specs.Bounded.Performs, specs.Prepared.{ForAnswer, IsResolved}}
@@ -73,4 +73,4 @@ IsReady pass fresh version st (ready.Offer o) = (o.offer.base ≡ version) × Is
 pub data Readies (words : List ℕ) (version session fresh : ℕ) (st : Statement) (made made' : ℕ) : Type 0 where
   idle : made' ≤ made → Readies words version session fresh st made made'
   busy : (asked : PlainStatement) → resolved (schema (commits_to words version) []) session fresh st ≡ Ok asked
-      → Performs (count (commits_to words version) []) asked made made' → Readies words version session fresh st made made'
+      → Performs false (count (commits_to words version) []) (widths_in (schema (commits_to words version) []).tables) asked made made' → Readies words version session fresh st made made'

@@ -39,8 +39,15 @@ abbrev pub fresh_after : ℕ → ℕ → Result Outcome KeeperError → ℕ
 fresh_after fresh drawn (Ok (outcome.Committed m)) = drawn
 fresh_after fresh drawn _ = fresh
 
+-- an offer became a commit, or the log is full, or memory is wanting: it met no conflict, and had changes
+abbrev pub CommitsOrWants : Result Outcome KeeperError → Type 0
+CommitsOrWants (Ok outcome.Nothing) = ⊥
+CommitsOrWants (Ok (outcome.Conflict table was now at)) = ⊥
+CommitsOrWants _ = Unit {0}
+
 -- the number of the commit that an offer became; else that the log is full, or that memory is wanting
-abbrev pub committed_or : Result Outcome KeeperError → Result ℕ Refusal
-committed_or (Ok (outcome.Committed m)) = Ok m
-committed_or (Err fault.Full) = Err refusal.Full
-committed_or _ = Err refusal.Memory
+abbrev pub IsCommittedOr : Result Outcome KeeperError → Result ℕ Refusal → Type 0
+IsCommittedOr (Ok (outcome.Committed m)) said = said ≡ Ok m
+IsCommittedOr (Err fault.Full) said = said ≡ Err refusal.Full
+IsCommittedOr (Err fault.Memory) said = said ≡ Err refusal.Memory
+IsCommittedOr _ said = ⊥

@@ -2,7 +2,7 @@
 //
 // A pass's words are read, here and there, for what their type keeps: that they are well formed, and few.
 
-ghost use Rattle.std.specs.Prelude.{◌≡◌, ◌+◌, ◌<◌, ◌≤◌, ◌^◌, [], None, length, IfOk, IfErr, IsNone};
+ghost use Rattle.std.specs.Prelude.{◌≡◌, ◌+◌, ◌<◌, ◌≤◌, ◌^◌, [], None, true, false, length, IfOk, IfErr, IsNone};
 ghost use mathlib.Core.List.{IsPrefix};
 ghost use Rattle.ct_word.specs.Reading.{commits_of};
 ghost use Rattle.ct_arena.specs.Seen.{Seen};
@@ -10,11 +10,12 @@ ghost use Rattle.ct_condition.specs.Writes.{charge};
 ghost use Rattle.ct_history.specs.Kept.{kept_of};
 ghost use Rattle.ct_query.specs.Patterns.{count};
 ghost use Rattle.ct_query.specs.Reads.{reads_of};
+ghost use Rattle.ct_query.specs.Schema.{schema};
 ghost use Rattle.ct_query.specs.Views.{statement_of};
 ghost use Rattle.ct_table.specs.Snapshot.{commits_to};
-ghost use Rattle.ct_statement.specs.Making as refusals;
+ghost use Rattle.ct_statement.specs.Making as making;
 ghost use Rattle.ct_statement.specs.Sight.{actions_before, history_of};
-ghost use Rattle.ct_transaction.specs.Answers.{is_full};
+ghost use Rattle.ct_transaction.specs.Answers.{is_full, is_of_name, is_unasked};
 ghost use Rattle.ct_transaction.specs.Bounded.{Makes, Performs};
 ghost use Rattle.ct_transaction.specs.Executes.{Executes};
 ghost use Rattle.ct_transaction.specs.Prepared.{IsNoOrder, IsRefused, IsResolved};
@@ -67,7 +68,8 @@ fn performed<N: Site, R: Threads + Sync>(
     requires reads { reads ≡ reads_of (statement_of found) }
     ensures longer { IsPrefix pass.old.words pass.new.words }
     ensures kept { kept_of pass.new ≡ kept_of pass.old }
-    ensures made { Performs (count (history_of pass.old.words sight.now) (actions_before sight.now)) (statement_of found) pass.old.made (pass.new.made + charge (refusals.is_full result)) }
+    ensures made { Performs false (count (history_of pass.old.words sight.now) (actions_before sight.now)) (making.widths_in (schema (history_of pass.old.words sight.now) (actions_before sight.now)).tables) (statement_of found) pass.old.made (pass.new.made + charge (making.is_full result)) }
+    ensures unnamed { IfErr result (λ why. is_of_name why ≡ false) }
     ensures ok { IfOk result (IsReady pass.new fresh sight.now.version statement.now) }
     ensures err { IfErr result (IsRefused (commits_to pass.new.words sight.now.version) [] N.log.cap pass.new.words pass.new.session fresh statement.now) }
 {
@@ -124,7 +126,8 @@ fn asked<N: Site, R: Threads + Sync>(
     ensures longer { IsPrefix pass.old.words pass.new.words }
     ensures kept { kept_of pass.new ≡ kept_of pass.old }
     ensures known { IsKnown pass.new.words known.new }
-    ensures readies { Readies pass.new.words sight.version pass.new.session fresh statement.now pass.old.made (pass.new.made + charge (refusals.is_full result)) }
+    ensures readies { Readies pass.new.words sight.version pass.new.session fresh statement.now pass.old.made (pass.new.made + charge (making.is_full result)) }
+    ensures unasked { IfErr result (λ why. is_of_name why ≡ true → pass.new.made ≡ pass.old.made) }
     ensures ok { IfOk result (IsReady pass.new fresh sight.version statement.now) }
     ensures err { IfErr result (IsRefused (commits_to pass.new.words sight.version) [] N.log.cap pass.new.words pass.new.session fresh statement.now) }
 {
@@ -178,6 +181,7 @@ fn offered<N: Site, R: Wait>(
     requires seen { seen ≤ offering.offer.base }
     requires ready { IsReadyToOffer pass fresh offering statement.now }
     ensures session { IsSession result.0.pass.words result.0.seen result.0.transaction }
+    ensures asked { is_unasked result.1 ≡ false }
     ensures stays { StillSeen pass.words result.0.pass.words }
     ensures makes { (first : Seen) → Begins first pass offering.offer.base → Readies pass.words offering.offer.base pass.session fresh statement.now first.made pass.made → Makes (state_of first seen fresh None) result.0.pass.words statement.now first.made (result.0.pass.made + charge (is_full result.1)) }
     ensures executes { (first : Seen) → Begins first pass offering.offer.base → Executes N.log.cap (state_of first seen fresh None) (state_of result.0.pass result.0.seen result.0.fresh result.0.transaction) first.words result.0.pass.words statement.now result.1 }
@@ -217,6 +221,7 @@ fn anew<N: Site, R: Threads + Wait + Sync>(
     ensures session { IsSession result.0.pass.words result.0.seen result.0.transaction }
     ensures known { IsKnown result.0.pass.words known.new }
     ensures makes { (first : Seen) → Begins first pass (length (commits_of pass.words)) → first.made ≡ pass.made → Makes (state_of first seen fresh None) result.0.pass.words statement.now first.made (result.0.pass.made + charge (is_full result.1)) }
+    ensures unasked { is_unasked result.1 ≡ true → result.0.pass.made ≡ pass.made }
     ensures executes { (first : Seen) → Begins first pass (length (commits_of pass.words)) → Executes N.log.cap (state_of first seen fresh None) (state_of result.0.pass result.0.seen result.0.fresh result.0.transaction) first.words result.0.pass.words statement.now result.1 }
 {
     let (mut pass, snapshot) = server.begin(rt, alloc, pass);
@@ -271,6 +276,7 @@ pub(crate) fn alone<N: Site, R: Threads + Wait + Sync>(
     ensures session { IsSession result.0.pass.words result.0.seen result.0.transaction }
     ensures known { IsKnown result.0.pass.words known.new }
     ensures makes { Makes (state_of session.pass session.seen session.fresh session.transaction) result.0.pass.words statement.now session.pass.made (result.0.pass.made + charge (is_full result.1)) }
+    ensures unasked { is_unasked result.1 ≡ true → result.0.pass.made ≡ session.pass.made }
     ensures executes { Executes N.log.cap (state_of session.pass session.seen session.fresh session.transaction) (state_of result.0.pass result.0.seen result.0.fresh result.0.transaction) session.pass.words result.0.pass.words statement.now result.1 }
 {
     let _words = session.pass.words();

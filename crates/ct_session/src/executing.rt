@@ -1,10 +1,11 @@
 // One statement of a session.
 
-ghost use Rattle.std.specs.Prelude.{◌+◌, ◌<◌, ◌^◌};
+ghost use Rattle.std.specs.Prelude.{◌≡◌, ◌+◌, ◌<◌, ◌^◌, true, IsNone};
 ghost use Rattle.ct_condition.specs.Writes.{charge};
-ghost use Rattle.ct_transaction.specs.Answers.{Answers, is_full};
+ghost use Rattle.ct_transaction.specs.Answers.{Answers, is_full, is_unasked};
 ghost use Rattle.ct_transaction.specs.Bounded.{IsBounded, Makes};
 ghost use Rattle.ct_transaction.specs.Executes.{Executes};
+ghost use Rattle.ct_transaction.specs.Prepared.{IsNoOrder};
 ghost use Rattle.ct_transaction.specs.Sessions.{IsSession, state_of};
 ghost use Rattle.ct_transaction.specs.Statements.{IsWritten};
 ghost use Rattle.ct_session.specs.Known.{IsKnown};
@@ -39,6 +40,7 @@ fn placed<N: Site, R: Threads + Wait + Sync>(
     ensures session { IsSession result.0.pass.words result.0.seen result.0.transaction }
     ensures known { IsKnown result.0.pass.words known.new }
     ensures makes { Makes (state_of session.pass session.seen session.fresh session.transaction) result.0.pass.words statement.now session.pass.made (result.0.pass.made + charge (is_full result.1)) }
+    ensures unasked { IsNone session.transaction → IsNoOrder statement.now → is_unasked result.1 ≡ true → result.0.pass.made ≡ session.pass.made }
     ensures executes { Executes N.log.cap (state_of session.pass session.seen session.fresh session.transaction) (state_of result.0.pass result.0.seen result.0.fresh result.0.transaction) session.pass.words result.0.pass.words statement.now result.1 }
 {
     let is_open = session.transaction.is_some();

@@ -2,7 +2,7 @@
 //
 // A pass's words are read, here and there, for what their type keeps: that they are well formed, and few.
 
-ghost use Rattle.std.specs.Prelude.{◌≡◌, ◌+◌, ◌<◌, ◌≤◌, ◌^◌, ℕ, List, true, None, length, IfOk, IfErr, IfSome, IsNone};
+ghost use Rattle.std.specs.Prelude.{◌≡◌, ◌+◌, ◌<◌, ◌≤◌, ◌^◌, ℕ, List, true, false, None, length, IfOk, IfErr, IfSome, IsNone};
 ghost use mathlib.Core.List.{IsPrefix};
 ghost use Rattle.ct_word.specs.Reading.{commits_of};
 ghost use Rattle.ct_arena.specs.Seen.{Seen};
@@ -12,7 +12,7 @@ ghost use Rattle.ct_query.specs.Reads.{reads_of};
 ghost use Rattle.ct_query.specs.Views.{statement_of};
 ghost use Rattle.ct_statement.specs.Making.{says_full};
 ghost use Rattle.ct_statement.specs.Unmet.{IsWant};
-ghost use Rattle.ct_transaction.specs.Answers.{is_full};
+ghost use Rattle.ct_transaction.specs.Answers.{is_full, is_unasked};
 ghost use Rattle.ct_transaction.specs.Bounded.{Makes};
 ghost use Rattle.ct_transaction.specs.Executes.{Executes};
 ghost use Rattle.ct_transaction.specs.Prepared.{IsNoOrder};
@@ -20,7 +20,7 @@ ghost use Rattle.ct_transaction.specs.Sessions.{IsSession, state_of};
 ghost use Rattle.ct_transaction.specs.Statements.{IsWritten};
 ghost use Rattle.ct_session.specs.Known.{IsKnown, SeesAlone};
 ghost use Rattle.ct_session.specs.Offering.{InsertsRows, IsFoundAlone, IsInsertion};
-ghost use Rattle.ct_session.specs.Outcomes.{Starts, committed_or};
+ghost use Rattle.ct_session.specs.Outcomes.{CommitsOrWants, IsCommittedOr, Starts};
 
 use crate::offering::{Offering, literal_offer};
 use ct_arena::{Pass, Site};
@@ -74,12 +74,22 @@ impl Known {
 /// The number of the commit that an offer became. Else why it became none: the log is full, or memory is wanting. An
 /// insertion of written rows reads nothing, so that it meets no conflict, and its list of changes is not empty.
 fn committed_or(outcome: Result<Outcome, KeeperError>) -> Result<u32, Refusal>
-    ensures { result ≡ committed_or outcome }
+    requires settled { CommitsOrWants outcome }
+    ensures { IsCommittedOr outcome result }
 {
     match outcome {
         Ok(Outcome::Committed(at)) => Ok(at),
+        Ok(Outcome::Nothing) => unreachable!(),
+        Ok(
+            Outcome::Conflict {
+                table: _table,
+                was: _was,
+                now: _now,
+                at: _at,
+            },
+        ) => unreachable!(),
         Err(KeeperError::Full) => Err(Refusal::Full),
-        _ => Err(Refusal::Memory),
+        Err(KeeperError::Memory) => Err(Refusal::Memory),
     }
 }
 
@@ -142,6 +152,7 @@ fn wanting<N: Site, R: Wait>(
     ensures kept { kept_of result.0.pass ≡ kept_of pass }
     ensures made { result.0.pass.made ≡ pass.made }
     ensures full { is_full result.1 ≡ true → says_full why ≡ true }
+    ensures asked { is_unasked result.1 ≡ false }
     ensures executes { (first : Seen) → Starts first pass → Executes N.log.cap (state_of first seen fresh None) (state_of result.0.pass result.0.seen result.0.fresh result.0.transaction) first.words result.0.pass.words statement.now result.1 }
 {
     let _before = pass.words();
@@ -183,6 +194,7 @@ pub(crate) fn insert_known<N: Site, R: Wait>(
     requires plain { IsNoOrder statement.now }
     ensures session { IfOk result (λ done. IsSession done.0.pass.words done.0.seen done.0.transaction) }
     ensures makes { IfOk result (λ done. Makes (state_of pass seen fresh None) done.0.pass.words statement.now pass.made (done.0.pass.made + charge (is_full done.1))) }
+    ensures asked { IfOk result (λ done. is_unasked done.1 ≡ false) }
     ensures executes { IfOk result (λ done. Executes N.log.cap (state_of pass seen fresh None) (state_of done.0.pass done.0.seen done.0.fresh done.0.transaction) pass.words done.0.pass.words statement.now done.1) }
     ensures known { IfOk result (λ done. IsKnown done.0.pass.words known.new) }
     ensures same { IfErr result (λ same. same ≡ pass) }

@@ -2,7 +2,7 @@
 //
 // A pass's words are read, here and there, for what their type keeps: that they are well formed, and few.
 
-ghost use Rattle.std.specs.Prelude.{◌≡◌, ◌+◌, ℕ, List, true, [], IfOk, IfErr, option_map};
+ghost use Rattle.std.specs.Prelude.{◌≡◌, ◌+◌, ℕ, List, true, false, [], IfOk, IfErr, option_map};
 ghost use Rattle.std.specs.Arc.{arc_value};
 ghost use mathlib.Core.List.{IsPrefix};
 ghost use Rattle.ct_condition.specs.Writes.{charge};
@@ -111,7 +111,7 @@ pub(crate) fn literal_offer<N: Site>(
     requires reads { reads ≡ reads_of (statement_of found) }
     ensures longer { IsPrefix pass.old.words pass.new.words }
     ensures kept { kept_of pass.new ≡ kept_of pass.old }
-    ensures made { (counts : List ℕ → ℕ) → Performs counts (statement_of found) pass.old.made (pass.new.made + charge (is_full result)) }
+    ensures made { (counts widths : List ℕ → ℕ) → Performs false counts widths (statement_of found) pass.old.made (pass.new.made + charge (is_full result)) }
     ensures ok { IfOk result (λ o. IsReadyToOffer pass.new fresh o statement.now) }
     ensures base { IfOk result (λ o. o.offer.base ≡ base) }
     ensures want { IfErr result (IsWant N.log.cap pass.new.words) }

@@ -106,16 +106,17 @@ impl<N: Site> Session<N> {
     ///   or in a transaction its base with its own actions;
     /// - `Refused` for the first of these three that holds: `NumberRange`, `NotAStatement` or `TooDeep` where the text is
     ///   read as no statement; `InTransaction` or `NoTransaction`; a name or a count that does not fit. Else only for a
-    ///   cause that holds, in an order that the contract leaves free: `TooLarge` where the query's size, by the counts of
-    ///   all rows that were ever inserted, is above 16,777,216; `Full` where the log has no room; `Inconsistent` for an
-    ///   assertion that no admitted valuation satisfies; `Conflict` where a commit after the base has changed what was
-    ///   read. By the contract `Memory` may come in place of any reply.
+    ///   cause that holds, in an order that the contract leaves free: `TooLarge` where the size of a query, also of one that
+    ///   is asserted, or the number of pairs of rows of a table whose key is asserted, by the counts of all rows that were
+    ///   ever made, is above 16,777,216; `Full` where the log has no room; `Inconsistent` for an assertion that no
+    ///   admitted valuation satisfies; `Conflict` where a commit after the base has changed what was read. By the contract
+    ///   `Memory` may come in place of any reply.
     ///
     /// A refused statement leaves the transaction and the number of the last null as they were, and commits nothing, though
     /// words may have come to the log. There is one exception: `Conflict` ends the transaction.
     ///
     /// The session makes at most as many words as the bound of the statement, by the counts of all rows that were ever
-    /// inserted, and fewer where the log is full.
+    /// inserted, and fewer where the log is full. The bound of one that is refused for a name or a count is 0.
     pub fn execute<R: Threads + Wait + Sync>(
         &mut self,
         rt: &R,

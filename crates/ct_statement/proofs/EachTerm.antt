@@ -1,9 +1,9 @@
 -- What is true of each term of a condition or a row, and of the whole; the terms of what can be written can be written.
-use Rattle.std.{proofs.Common.{◌≡◌, ℕ, true, [], ◌∷◌, length, refl, subst, arith, inl, inr}, specs.Prelude.{All, flat_map}, specs.List.{Contains, list_all}}
+use Rattle.std.{proofs.Common.{◌≡◌, ℕ, true, ◌&&◌, [], ◌∷◌, length, map, refl, subst, arith, inl, inr}, specs.Prelude.{All, flat_map}, specs.List.{Contains, list_all}}
 use Rattle.std.proofs.lemmas.Bool.{and_parts, and_from}
 use Rattle.std.proofs.lemmas.List.Elements.{All-weaker, All-contains, All-contains_itself, Contains-append_left, Contains-append_right, Contains-append_cases}
 use Rattle.ct_word.{specs.declared.values.Term.Term, specs.Condition.{Condition, Conditions, True, False, Same, Not, And, Or, none, also}}
-use Rattle.ct_word.specs.Change.{PlainRow, PlainChange, Create, Insert, Delete, Assert}
+use Rattle.ct_word.{specs.Change.{PlainRow, PlainChange, Create, Insert, Delete, Update, Assert}, proofs.Items.unmapped_item}
 use Rattle.ct_word.specs.Writable.{is_name, is_writable_term, is_writable_condition, are_writable_conditions, is_writable_row, is_writable}
 use Rattle.ct_query.{specs.Plain.{PlainQuery, PlainAction}, specs.Fits.{IsColumnBelow, AreColumnsBelow, AreAllColumnsBelow, FitsRow}}
 use Rattle.ct_query.specs.Terms.{condition_terms, all_terms, query_terms, action_terms, change_terms}
@@ -106,7 +106,13 @@ written_in_action (plain.InsertRows name rows c) t w i = elim (Contains-append_c
 ]
 written_in_action (plain.InsertQuery name q) t w i = written_in_query q t w.1 i
 written_in_action (plain.Delete name c) t w i = written_in c t w.1 i
+written_in_action (plain.Update name sets c) t w i = elim (Contains-append_cases (map (λ s. s.1) sets) (condition_terms c) t i) [
+  | inl l ↦ let s = unmapped_item (λ (s : ℕ × Term). s.1) sets t l in subst WritesTerm s.2 (All-contains (λ (b : ℕ × Term). WritesTerm b.1) sets s.0 w.1 s.1)
+  | inr r ↦ written_in c t w.2 r
+]
 written_in_action (plain.Assert c) t w i = written_in c t w i
+written_in_action (plain.AssertQuery wanted q) t w i = written_in_query q t w i
+written_in_action (plain.AssertKey name columns) t w i = absurd (omega (arith, i.1))
 
 written_in_row : (r : PlainRow) (t : Term) → is_writable_row r ≡ true → Contains (row_terms r) t → WritesTerm t
 written_in_row r t w i =
@@ -120,4 +126,10 @@ written_in_change (Insert name rs) t w i =
     let r = unflat row_terms rs t i in
     written_in_row r.0 t (passes is_writable_row rs r.0 (and_parts (is_name name) (list_all is_writable_row rs) w).1 r.1) r.2
 written_in_change (Delete name c) t w i = written_in c t (and_parts (is_name name) (is_writable_condition c) w).1 i
+written_in_change (Update name sets c) t w i =
+    let parts = and_parts (is_name name && list_all (λ (s : ℕ × Term). is_writable_term s.1) sets) (is_writable_condition c) w in
+    elim (Contains-append_cases (map (λ s. s.1) sets) (condition_terms c) t i) [
+      | inl l ↦ let s = unmapped_item (λ (s : ℕ × Term). s.1) sets t l in subst WritesTerm s.2 (passes (λ (s : ℕ × Term). is_writable_term s.1) sets s.0 (and_parts (is_name name) (list_all (λ (s : ℕ × Term). is_writable_term s.1) sets) parts.0).1 s.1)
+      | inr r ↦ written_in c t parts.1 r
+    ]
 written_in_change (Assert c) t w i = written_in c t w i

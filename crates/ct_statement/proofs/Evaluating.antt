@@ -1,9 +1,9 @@
 -- Queries over tables that denote a history and further actions: what answers them, and why they are refused.
-use Rattle.std.proofs.Common.{◌≡◌, ℕ, Bool, true, false, ◌+◌, ◌*◌, ◌<◌, ◌≤◌, List, [], ◌∷◌, map, length, refl, ap, sym, subst, ◌∙◌, arith}
-use Rattle.std.{specs.Prelude.{None, nat_lt, if◌then◌else◌}, specs.List.Contains, proofs.lemmas.Nat.mul-le, proofs.lemmas.Bool.ltb-false}
+use Rattle.std.proofs.Common.{◌≡◌, ℕ, ◌+◌, ◌*◌, ◌<◌, ◌≤◌, List, [], ◌∷◌, map, length, refl, ap, sym, subst, ◌∙◌, arith}
+use Rattle.std.{specs.Prelude.{None, if◌then◌else◌}, specs.List.Contains, proofs.lemmas.Nat.mul-le}
 use Rattle.std.proofs.lemmas.List.Elements.{All-weaker}
 use Rattle.ct_word.{specs.declared.values.CRow.CRow, specs.Value.same_text, specs.Sublist.IsSublist, specs.Change.PlainCommit, specs.WellFormed.IsWellFormed}
-use Rattle.ct_query.{specs.Bounds.{nodes, bound}, specs.Plain.{PlainQuery, PlainAction, PlainStatement}, specs.Patterns.{query_pattern, count}}
+use Rattle.ct_query.{specs.Bounds.{nodes, bound}, specs.Plain.{PlainQuery, PlainAction}, specs.Patterns.{query_pattern, count}, specs.Schema.schema}
 use Rattle.ct_query.{specs.Size.{size, rows_in, row_bound}, specs.declared.action.Ask.Ask, proofs.Sublists.sublist_of_sublist}
 use Rattle.ct_operators.{specs.declared.table.CTable.CTable, specs.Tables.{cells_of, value_of_rows, AreRows}, proofs.Reaching.rows_wider}
 use Rattle.ct_table.{specs.Counting.count_of, specs.Denotes.{TableView, IsKept, Denotes}, specs.Snapshot.IsGlobal, proofs.QuerySizes.{row_bound_grows, size_grows}}
@@ -12,7 +12,7 @@ use Rattle.ct_table.proofs.Snapshots.{global_grows}
 use Rattle.ct_algebra.{specs.Evaluates.{limit, Evaluates}, specs.Operands.{AreTables, cells_in}, specs.Terms.TermOfQuery}
 use Rattle.ct_algebra.specs.declared.error.EvalError.{EvalError}
 use Rattle.ct_certain.specs.declared.error.CertainError.{CertainError}
-use Rattle.ct_statement.{specs.Asking.{terms_of_query, AnswersQuery, IsUnasked, filled, unanswered, unlisted}, specs.Unmet.IsUnmet}
+use Rattle.ct_statement.{specs.Asking.{terms_of_query, AnswersQuery, IsUnasked, unanswered, unlisted}, specs.Making.widths_in, specs.Unmet.IsUnmet}
 use Rattle.ct_statement.{proofs.AskedTerms.of_query_asked, proofs.Weights.{nodes_grow, makes_words_still}}
 use mathlib.Core.List.{IsPrefix}
 use Rattle.ct_query.specs.Bounds as bounds
@@ -55,51 +55,42 @@ module _ (old : List ℕ) (h : List PlainCommit) (actions : List PlainAction) (d
     }
 
     -- the errors of the evaluation are causes
-    pub evaluation_fails : (room made made' : ℕ) (e : EvalError) → (e ≡ eval.TooLarge → limit < size (rows_in (map count_of db)) q) → (e ≡ eval.Full → length new ≡ room)
-        → (e ≡ eval.Full → made' < made + nodes (rows_in (map count_of db)) q) → IsUnasked h actions room new q (unanswered e made made')
-    evaluation_fails room made made' eval.TooLarge past full fewer =
+    pub evaluation_fails : (room made made' : ℕ) (e : EvalError) → made ≤ made' → (e ≡ eval.TooLarge → limit < size (rows_in (map count_of db)) q) → (e ≡ eval.Full → length new ≡ room)
+        → (e ≡ eval.Full → made' < made + nodes (rows_in (map count_of db)) q) → IsUnasked h actions room new q (unanswered e)
+    evaluation_fails room made made' eval.TooLarge rises past full fewer =
         let over = past refl in let at_most = size_grows (rows_in (map count_of db)) (count h actions) rows_fewer q in omega (arith, over, at_most)
-    evaluation_fails room made made' eval.Full past full fewer = by_test (nat_lt made' made) refl where
-      by_test : (b : Bool) → nat_lt made' made ≡ b → IsUnasked h actions room new q (if b then refusal.Memory else refusal.Full)
-      by_test true e = tt
-      by_test false e =
-          let le = ltb-false made' made e in
-          let lt = fewer refl in
-          let more = nodes_grow (rows_in (map count_of db)) (count h actions) rows_fewer q in
-          (full refl, omega (arith, le, lt, more))
-    evaluation_fails room made made' eval.Memory past full fewer = tt
+    evaluation_fails room made made' eval.Full rises past full fewer =
+        let lt = fewer refl in
+        let more = nodes_grow (rows_in (map count_of db)) (count h actions) rows_fewer q in
+        (full refl, omega (arith, rises, lt, more))
+    evaluation_fails room made made' eval.Memory rises past full fewer = tt
 
-    -- a full log is a cause, where the pass has made no fewer words than before, and so may make one
-    fails_full : (room : ℕ) (k : Ask) (columns : List (List ℕ)) (made made' : ℕ) → length new ≡ room
-        → (made ≤ made' → 1 ≤ bound (rows_in (map count_of db)) None (plain.Asks k columns q)) → IsUnmet h actions room new (plain.Asks k columns q) (filled made made')
-    fails_full room k columns made made' full makes = by_test (nat_lt made' made) refl where
-      st : PlainStatement
-      st = plain.Asks k columns q
-
-      by_test : (b : Bool) → nat_lt made' made ≡ b → IsUnmet h actions room new st (if b then refusal.Memory else refusal.Full)
-      by_test true e = tt
-      by_test false e = record { full = full; makes_words = λ own. makes_words_still (rows_in (map count_of db)) (count h actions) rows_fewer own st (makes (ltb-false made' made e)) }
+    -- a full log is a cause, where what is asked may make a word
+    fails_full : (room : ℕ) (k : Ask) (columns : List (List ℕ)) → length new ≡ room
+        → 1 ≤ bound (rows_in (map count_of db)) (widths_in (schema h actions).tables) None (plain.Asks k columns q) → IsUnmet h actions room new (plain.Asks k columns q) refusal.Full
+    fails_full room k columns full makes =
+        record { full = full; makes_words = λ own. makes_words_still (rows_in (map count_of db)) (count h actions) rows_fewer (widths_in (schema h actions).tables) own (plain.Asks k columns q) makes }
 
     -- the errors of the lists are causes
     module _ (rs : List CRow) (few : length rs ≤ row_bound (rows_in (map count_of db)) q) where
-      pub possible_fails : (room : ℕ) (columns : List (List ℕ)) (made made' : ℕ) (e : CertainError) → (e ≡ fault.Full → length new ≡ room)
+      pub possible_fails : (room : ℕ) (columns : List (List ℕ)) (made made' : ℕ) (e : CertainError) → made ≤ made' → (e ≡ fault.Full → length new ≡ room)
           → (e ≡ fault.Full → made' < made + length rs)
-          → IsUnmet h actions room new (plain.Asks ask.Possible columns q) (unlisted e made made')
-      possible_fails room columns made made' fault.Full full fewer =
+          → IsUnmet h actions room new (plain.Asks ask.Possible columns q) (unlisted e)
+      possible_fails room columns made made' fault.Full rises full fewer =
           let lt = fewer refl in
-          fails_full room ask.Possible columns made made' (full refl) (λ le. omega (arith, le, lt, few))
-      possible_fails room columns made made' fault.Memory full fewer = tt
+          fails_full room ask.Possible columns (full refl) (omega (arith, rises, lt, few))
+      possible_fails room columns made made' fault.Memory rises full fewer = tt
 
-      pub certain_fails : (room : ℕ) (columns : List (List ℕ)) (made made' k : ℕ) (e : CertainError) → (e ≡ fault.Full → length new ≡ room)
+      pub certain_fails : (room : ℕ) (columns : List (List ℕ)) (made made' k : ℕ) (e : CertainError) → made ≤ made' → (e ≡ fault.Full → length new ≡ room)
           → (e ≡ fault.Full → made' < made + length rs * (length rs * (2 * k + 2) + k + 1))
-          → IsUnmet h actions room new (plain.Asks ask.Certain columns q) (unlisted e made made')
-      certain_fails room columns made made' k fault.Full full fewer =
-          fails_full room ask.Certain columns made made' (full refl) (λ le. some_words (row_bound (rows_in (map count_of db)) q) (bounds.width q) (has_row rs le (fewer refl) few)) where
-            has_row : (rs : List CRow) → made ≤ made' → made' < made + length rs * (length rs * (2 * k + 2) + k + 1) → length rs ≤ row_bound (rows_in (map count_of db)) q
+          → IsUnmet h actions room new (plain.Asks ask.Certain columns q) (unlisted e)
+      certain_fails room columns made made' k fault.Full rises full fewer =
+          fails_full room ask.Certain columns (full refl) (some_words (row_bound (rows_in (map count_of db)) q) (bounds.width q) (has_row rs (fewer refl) few)) where
+            has_row : (rs : List CRow) → made' < made + length rs * (length rs * (2 * k + 2) + k + 1) → length rs ≤ row_bound (rows_in (map count_of db)) q
                 → 1 ≤ row_bound (rows_in (map count_of db)) q
-            has_row [] le lt few = absurd (omega (arith, le, lt))
-            has_row (r ∷ rs) le lt few = omega (arith, few)
+            has_row [] lt few = absurd (omega (arith, rises, lt))
+            has_row (r ∷ rs) lt few = omega (arith, few)
 
             some_words : (r w : ℕ) → 1 ≤ r → 1 ≤ nodes (rows_in (map count_of db)) q + r * (r * (2 * w + 2) + w + 1)
             some_words r w le = let more = mul-le 1 1 r (r * (2 * w + 2) + w + 1) le (omega arith) in omega (arith, more)
-      certain_fails room columns made made' k fault.Memory full fewer = tt
+      certain_fails room columns made made' k fault.Memory rises full fewer = tt

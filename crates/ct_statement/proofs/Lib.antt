@@ -10,7 +10,9 @@ pub mod KeptWorlds
 pub mod Members
 pub mod EachTerm
 pub mod TermSources
+pub mod Asserts
 pub mod Sights
+pub mod Narrow
 pub mod Proposed
 pub mod Worlds
 pub mod Making

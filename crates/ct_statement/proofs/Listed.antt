@@ -30,7 +30,7 @@ module _ (old started : List ℕ) (longer : IsPrefix old started) (s : Sight) (i
       let formed_taken = formed_before taken new third formed in
       let rows : AreTakenFor taken s.global h actions a rs = subst (λ g. AreTakenFor taken s.global g actions a rs) (sym (history_stays old started longer s is.within)) its in
       let agrees : AgreesWith h actions a adds.change = agrees_then taken formed_taken s.global h actions a rs adds.change adds.does rows in
-      let terms : HasTermsFor h actions a adds.change = has_sources taken formed_taken s.global h actions a rs adds.change adds.from rows in
+      let terms : HasTermsFor h actions a adds.change = has_sources taken formed_taken s.global h actions a rs adds.change adds.does adds.from rows in
       record {
         change = adds.change;
         place = is_place;

@@ -1,13 +1,13 @@
 -- The words of each call are within those of its statement.
-use Rattle.std.proofs.Common.{◌≡◌, ℕ, ◌+◌, ◌*◌, ◌^◌, ◌<◌, ◌≤◌, Bool, true, false, List, [], ◌∷◌, map, length, refl, ap, sym, subst, ◌∙◌, arith}
-use Rattle.std.specs.Prelude.{Option, Some, None, IsSome, Err, All, sum_by, unwrap_or, nat_lt, if◌then◌else◌}
+use Rattle.std.proofs.Common.{◌≡◌, ℕ, ◌+◌, ◌*◌, ◌^◌, ◌<◌, ◌≤◌, Bool, true, false, List, [], ◌∷◌, map, length, refl, ap, sym, subst, arith}
+use Rattle.std.specs.Prelude.{Option, Some, None, IsSome, Result, Ok, Err, OnErr, is_err, All, sum_by, unwrap_or}
 use Rattle.std.specs.Option.{option_map_or}
 use Rattle.std.proofs.lemmas.{Bool.false≢true, Nat.mul-le, List.length-map, List.Sums.sum_by-le, List.Elements.All-weaker}
-use Rattle.ct_word.{specs.declared.values.CRow.CRow, specs.Change.{PlainRow, PlainChange, Create, Insert, Delete, Assert, PlainCommit}, specs.Reading.plain_crow}
+use Rattle.ct_word.{specs.declared.values.CRow.CRow, specs.Change.{PlainRow, PlainChange, Create, Insert, Delete, Update, Assert, PlainCommit}}
 use Rattle.ct_query.{specs.Plain.{PlainQuery, PlainAction}, specs.Size.{row_bound, greatest}, specs.Patterns.count, specs.Schema.schema, specs.declared.schema.Heading.Heading}
-use Rattle.ct_query.specs.Bounds.{ops, characters, width, query_words, side_words, nodes, list_words, change_words, applying_words, bound}
+use Rattle.ct_query.specs.Bounds.{ops, characters, width, query_words, side_words, nodes, change_words, applying_words, bound}
 use Rattle.ct_condition.specs.Writes.{charge}
-use Rattle.ct_history.specs.Encodes.{IsChangeFor, HasOpsOf, row_words, encode_words}
+use Rattle.ct_history.specs.Encodes.{IsChangeFor, HasOpsOf, asserted_by, row_words, encode_words}
 use Rattle.ct_operators.specs.declared.error.TableError.{TableError}
 use Rattle.ct_operators.specs.Tables.{IsRow}
 use Rattle.ct_algebra.specs.declared.error.EvalError.{EvalError}
@@ -15,7 +15,7 @@ use Rattle.ct_certain.specs.declared.error.CertainError.{CertainError}
 use Rattle.ct_table.{specs.Denotes.{TableView, Denotes, find_table}, proofs.ByTables.tables_counted, proofs.QuerySizes.row_bound_grows}
 use Rattle.ct_keeper.{specs.Bounds.applied_words, specs.Effects.{rows_found, effect_words}, specs.declared.effects.Effect.Effect}
 use Rattle.ct_transcript.specs.declared.reply.Refusal.{Refusal}
-use Rattle.ct_statement.{specs.Asking.{filled, unanswered, unlisted}, specs.Making.{says_full, taking_words, taken_rows, IsLight}, specs.Narrowing.{unapplied, IsWorldless, IsUnkept}}
+use Rattle.ct_statement.{specs.Asking.{unanswered, unlisted}, specs.Making.{says_full, widths_in, taking_words, taken_rows, IsLight}, specs.Narrowing.{unapplied, IsWorldless, IsUnkept}}
 use Rattle.ct_statement.{specs.Sources.AreTakenFor, proofs.Weights.lists_grow}
 use Rattle.ct_query.specs.Plain as plain
 use Rattle.ct_query.specs.Fits as fits
@@ -32,21 +32,20 @@ pub charge_most : (b : Bool) → charge b ≤ 1
 charge_most true = omega arith
 charge_most false = omega arith
 
--- a call that made at most so many words, and fewer where the log was full; that it made fewer than none does not come
-filled_within : (n made made' before after : ℕ) → made' < made + n → made' + charge (says_full (filled before after)) ≤ made + n
-filled_within n made made' before after lt = by_test (nat_lt after before) where
-  by_test : (b : Bool) → made' + charge (says_full (if b then refusal.Memory else refusal.Full)) ≤ made + n
-  by_test true = omega (arith, lt)
-  by_test false = omega (arith, lt)
+-- a call that made at most so many words, and fewer where it was refused
+pub charged_within : {T E : Type 0} (r : Result T E) (n made made' : ℕ) → made' ≤ made + n → OnErr r (made' < made + n) → made' + charge (is_err r) ≤ made + n
+charged_within (Ok x) n made made' le fewer = omega (arith, le)
+charged_within (Err e) n made made' le fewer = omega (arith, fewer)
 
-pub evaluated_within : (n made made' before after : ℕ) (e : EvalError) → made' ≤ made + n → (e ≡ eval.Full → made' < made + n) → made' + charge (says_full (unanswered e before after)) ≤ made + n
-evaluated_within n made made' before after eval.Full le fewer = filled_within n made made' before after (fewer refl)
-evaluated_within n made made' before after eval.TooLarge le fewer = omega (arith, le)
-evaluated_within n made made' before after eval.Memory le fewer = omega (arith, le)
+-- a call that made at most so many words, and fewer where the log was full
+pub evaluated_within : (n made made' : ℕ) (e : EvalError) → made' ≤ made + n → (e ≡ eval.Full → made' < made + n) → made' + charge (says_full (unanswered e)) ≤ made + n
+evaluated_within n made made' eval.Full le fewer = let lt = fewer refl in omega (arith, lt)
+evaluated_within n made made' eval.TooLarge le fewer = omega (arith, le)
+evaluated_within n made made' eval.Memory le fewer = omega (arith, le)
 
-pub listed_within : (n made made' before after : ℕ) (e : CertainError) → made' ≤ made + n → (e ≡ fault.Full → made' < made + n) → made' + charge (says_full (unlisted e before after)) ≤ made + n
-listed_within n made made' before after fault.Full le fewer = filled_within n made made' before after (fewer refl)
-listed_within n made made' before after fault.Memory le fewer = omega (arith, le)
+pub listed_within : (n made made' : ℕ) (e : CertainError) → made' ≤ made + n → (e ≡ fault.Full → made' < made + n) → made' + charge (says_full (unlisted e)) ≤ made + n
+listed_within n made made' fault.Full le fewer = let lt = fewer refl in omega (arith, lt)
+listed_within n made made' fault.Memory le fewer = omega (arith, le)
 
 -- a query whose words are counted has as many columns as are counted
 first_counted : (m : ℕ) (a b : Option ℕ) → IsSome (side_words m a b) → IsSome a
@@ -69,12 +68,12 @@ by_width counts s q made total more few le = by_words (query_words counts q) ref
   by_words None e = let all : nodes counts q ≡ greatest = ap (λ o. unwrap_or o greatest) e in omega (arith, all, few)
 
 -- the words of a query and of what is asked of its rows
-pub asked_within : (counts : List ℕ → ℕ) (q : PlainQuery) (r made0 made1 total : ℕ) → r ≤ row_bound counts q → made1 ≤ made0 + nodes counts q → total ≤ made1 + r
-    → total ≤ made0 + bound counts None (plain.Asks ask.Possible [] q)
-asked_within counts q r made0 made1 total few first then' = omega (arith, few, first, then')
+pub asked_within : (counts widths : List ℕ → ℕ) (q : PlainQuery) (r made0 made1 total : ℕ) → r ≤ row_bound counts q → made1 ≤ made0 + nodes counts q → total ≤ made1 + r
+    → total ≤ made0 + bound counts widths None (plain.Asks ask.Possible [] q)
+asked_within counts widths q r made0 made1 total few first then' = omega (arith, few, first, then')
 
 pub certain_within : (counts : List ℕ → ℕ) (s : List Heading) (q : PlainQuery) (r k made0 made1 total : ℕ) → r ≤ row_bound counts q → k ≡ fits.width s q → made1 ≤ made0 + nodes counts q
-    → total ≤ made1 + r * (r * (2 * k + 2) + k + 1) → total ≤ 2 ^ 28 → total ≤ made0 + bound counts None (plain.Asks ask.Certain [] q)
+    → total ≤ made1 + r * (r * (2 * k + 2) + k + 1) → total ≤ 2 ^ 28 → total ≤ made0 + bound counts (widths_in s) None (plain.Asks ask.Certain [] q)
 certain_within counts s q r k made0 made1 total few wide first then' most =
     let own : total ≤ made1 + r * (r * (2 * fits.width s q + 2) + fits.width s q + 1) = subst (λ n. total ≤ made1 + r * (r * (2 * n + 2) + n + 1)) wide then' in
     let all = by_width counts s q made0 total (λ n. r * (r * (2 * n + 2) + n + 1)) most (omega (arith, own, first)) in
@@ -82,18 +81,19 @@ certain_within counts s q r k made0 made1 total few wide first then' most =
     omega (arith, all, lists)
 
 -- what an action takes, and a further five words, are within the words of its change
-pub taking_within : (counts : List ℕ → ℕ) (a : PlainAction) → taking_words counts a + 6 ≤ change_words counts a
-taking_within counts (plain.Create name columns) = omega arith
-taking_within counts _ = omega arith
+pub taking_within : (counts widths : List ℕ → ℕ) (a : PlainAction) → taking_words counts widths a + 6 ≤ change_words counts widths a
+taking_within counts widths (plain.Create name columns) = omega arith
+taking_within counts widths (plain.AssertKey name columns) = omega arith
+taking_within counts widths _ = omega arith
 
 -- rows of so many cells
 rows_words : (k : ℕ) (rs : List CRow) → All (λ r. length r.cells ≡ k) rs → sum_by row_words rs ≤ length rs * (k + 2)
 rows_words k rs all = sum_by-le row_words (k + 2) rs (All-weaker (λ (r : CRow). length r.cells ≡ k) (λ (r : CRow). row_words r ≤ k + 2) (λ r e. omega (arith, e)) rs all)
 
 -- a list that is begun, the rows of a query, and the change of an action; one word is left for the commit word
-module _ (words : List ℕ) (global : ℕ) (h : List PlainCommit) (before : List PlainAction) (counts : List ℕ → ℕ) (made0 made1 made2 total : ℕ) (one : made1 ≤ made0 + 1) (most : total + 1 ≤ 2 ^ 28) where
-  pub added_within : (a : PlainAction) (rs : List CRow) → AreTakenFor words global h before a rs → length rs ≤ taken_rows counts a → made2 ≤ made1 + taking_words counts a
-      → total ≤ made2 + encode_words a rs → total + 1 ≤ made0 + change_words counts a
+module _ (words : List ℕ) (global : ℕ) (h : List PlainCommit) (before : List PlainAction) (counts widths : List ℕ → ℕ) (made0 made1 made2 total : ℕ) (one : made1 ≤ made0 + 1) (most : total + 1 ≤ 2 ^ 28) where
+  pub added_within : (a : PlainAction) (rs : List CRow) → AreTakenFor words global h before a rs → length rs ≤ taken_rows counts a → made2 ≤ made1 + taking_words counts widths a
+      → total ≤ made2 + encode_words a rs → total + 1 ≤ made0 + change_words counts widths a
   added_within (plain.InsertQuery name q) rs its few took put =
       let s = (schema h before).tables in
       let n = fits.width s q in
@@ -102,7 +102,13 @@ module _ (words : List ℕ) (global : ℕ) (h : List PlainCommit) (before : List
       let wide = mul-le (length rs) (width q + 2) (row_bound counts q) (width q + 2) few (omega arith) in
       omega (arith, all, wide)
   added_within (plain.Create name columns) rs its few took put = omega (arith, one, took, put)
+  added_within (plain.AssertKey name columns) rs its few took put = omega (arith, one, took, put)
   added_within _ rs its few took put = omega (arith, one, took, put)
+
+-- an assertion is applied by one word
+assertion_light : (g : List ℕ → ℕ) (rs : List PlainRow) → applied_words g (asserted_by rs) ≤ 1
+assertion_light g [] = omega arith
+assertion_light g (r ∷ rs) = omega arith
 
 -- a change is light for its action, where an insertion has no more rows than its query may have
 pub light_for : (counts : List ℕ → ℕ) (a : PlainAction) (rs : List PlainRow) (x : PlainChange) → IsChangeFor a rs x → HasOpsOf a x → length rs ≤ taken_rows counts a → IsLight counts a x
@@ -115,6 +121,10 @@ light_for counts (plain.InsertRows name lists p) rs (Insert name' rs') is ops_ar
     omega (arith, same, length-map rs' (λ (r : PlainRow). r.cells))
 light_for counts (plain.Delete name p) rs (Delete name' c) is ops_are few = λ g more.
     subst (λ n. g n * (ops c + 2) ≤ g name * (ops p + 2)) (sym is.0) (mul-le (g name) (ops c + 2) (g name) (ops p + 2) (omega arith) (omega (arith, ops_are)))
+light_for counts (plain.Update name sets p) rs (Update name' sets' c) is ops_are few = λ g more.
+    subst (λ n. g n * (ops c + 5) ≤ g name * (ops p + 5)) (sym is.0) (mul-le (g name) (ops c + 5) (g name) (ops p + 5) (omega arith) (omega (arith, ops_are)))
+light_for counts (plain.AssertQuery wanted q) rs x is ops_are few = λ g more. subst (λ y. applied_words g y ≤ 1) (sym is) (assertion_light g rs)
+light_for counts (plain.AssertKey name columns) rs x is ops_are few = λ g more. subst (λ y. applied_words g y ≤ 1) (sym is) (assertion_light g rs)
 light_for counts (plain.Assert p) rs (Assert c) is ops_are few = λ g more. omega arith
 light_for counts _ rs _ is ops_are few = absurd is
 
@@ -128,6 +138,7 @@ module _ (words : List ℕ) (h : List PlainCommit) (actions : List PlainAction) 
 
   effect_counted : (x : PlainChange) → effect_words db x ≤ applied_words (count h actions) x
   effect_counted (Delete name c) = mul-le (rows_found (find_table db name)) (ops c + 2) (count h actions name) (ops c + 2) (found_within name) (omega arith)
+  effect_counted (Update name sets c) = mul-le (rows_found (find_table db name)) (ops c + 5) (count h actions name) (ops c + 5) (found_within name) (omega arith)
   effect_counted _ = omega arith
 
   pub effect_within : (a : PlainAction) (x : PlainChange) → IsLight (count h actions) a x → effect_words db x ≤ applying_words (count h actions) a

@@ -4,7 +4,7 @@ use Rattle.std.{specs.Prelude.{All, IsTrue}, specs.List.AllZip, proofs.lemmas.Li
 use Rattle.ct_word.{specs.declared.values.CRow.CRow, specs.WellFormed.is_place_of}
 use Rattle.ct_decide.specs.declared.deciding.Decision.{Decision}
 use Rattle.ct_certain.specs.Answered.{IsSettled}
-use Rattle.ct_questions.specs.{Candidates.IsCandidate, Roots.{AreRowRoots, IsRowRoot}, declared.tuples.Candidate.Candidate}
+use Rattle.ct_questions.specs.{Candidates.IsCandidate, Roots.{AreRowRoots}, declared.tuples.Candidate.Candidate}
 use Rattle.ct_workers.specs.Right.{IsQuestion, IsRight}
 use Rattle.ct_word.specs.declared.kinds.Class.TheVariants as class
 use Rattle.ct_decide.specs.declared.deciding.Decision.TheVariants as decision

@@ -10,7 +10,7 @@ use Rattle.ct_table.{specs.Denotes.Denotes, specs.Snapshot.{commits_to, IsGlobal
 use Rattle.ct_table.proofs.Snapshots.{global_grows, kept_grows}
 use Rattle.ct_keeper.specs.Effects.{tables_after, global_after}
 use Rattle.ct_statement.{specs.declared.sight.Sight.Sight, specs.declared.stepping.Step.Step, specs.Proposals.{IsStep, kept_after}}
-use Rattle.ct_statement.specs.Sight.{IsSight, actions_before, history_of}
+use Rattle.ct_statement.specs.Sight.{IsNarrow, IsSight, actions_before, history_of}
 use mathlib.Core.List.{IsPrefix}
 
 module _ (old new : List ℕ) (longer : IsPrefix old new) (s : Sight) where
@@ -33,6 +33,7 @@ module _ (old new : List ℕ) (longer : IsPrefix old new) (s : Sight) where
         condition = subst (λ g. IsGlobal new g actions s.global) same (global_grows old new longer formed h actions s.global is.condition);
         world = subst (λ g. IsKeptWorld new g actions (arc_value s.kept)) same (kept_grows old new longer formed h actions (arc_value s.kept) is.world);
         written = is.written;
+        narrow = is.narrow;
       }
 
 -- another world where there is one, else the one before
@@ -59,4 +60,5 @@ sight_after words s next x step v a t g k is after =
       world = subst (λ n. IsKeptWorld words (commits_to words n) (actions_before next) (arc_value next.kept)) (sym v)
           (subst (λ xs. IsKeptWorld words (history_of words s) xs (arc_value next.kept)) (sym a) (subst (IsKeptWorld words (history_of words s) actions) (sym k) after.world));
       written = subst (All WritesAction) (sym a) (All-push WritesAction (actions_before s) x is.written after.written);
+      narrow = subst (All IsNarrow) (sym a) (All-push IsNarrow (actions_before s) x is.narrow after.narrow);
     }

@@ -1,6 +1,6 @@
 -- The step of an action: what its effect leads to, and why there is none.
-use Rattle.std.{proofs.Common.{◌≡◌, ◌≤◌, ℕ, List, [], ◌∷◌, ◌++◌, map, Option, refl, ap, ap₂, sym, subst, ◌∙◌, ◌&&◌}, specs.Arc.arc_value, specs.Prelude.IsTrue}
-use Rattle.ct_word.{specs.Value.World, specs.Condition.{Condition, holds_at}, specs.Change.{PlainChange, PlainCommit}}
+use Rattle.std.{proofs.Common.{◌≡◌, ◌≤◌, ℕ, List, [], ◌∷◌, ◌++◌, map, true, Option, refl, ap, ap₂, sym, subst, ◌∙◌, ◌&&◌}, specs.Arc.arc_value, specs.Prelude.IsTrue}
+use Rattle.ct_word.{specs.Value.World, specs.Condition.{Condition, holds_at}, specs.Change.{PlainChange, Assert, PlainCommit}}
 use Rattle.ct_word.{specs.Reading.condition_at, specs.WellFormed.IsWellFormed, proofs.Prefixes.{condition_in_prefix, place_in_prefix, place_within}}
 use Rattle.ct_query.{specs.Plain.PlainAction, specs.Agrees.AgreesWith, specs.Bounds.applying_words, specs.Fits.FitsChange, specs.Patterns.count, specs.Schema.schema}
 use Rattle.ct_history.{specs.declared.written.Written.Written, specs.Written.{IsWritten, plain_written}}
@@ -11,7 +11,7 @@ use Rattle.ct_keeper.{specs.declared.effects.Effect.Effect, specs.Doing.HasTerms
 use Rattle.ct_keeper.proofs.Doing.{tables_do, global_does, world_does, world_narrows}
 use Rattle.ct_transcript.specs.declared.reply.Refusal.{Refusal}
 use Rattle.ct_statement.{specs.declared.sight.Sight.Sight, specs.Narrowing.{IsEffectFor, IsBothWith, asserted, CanNarrow, IsWorldless, IsKeptFor, IsUnkept}}
-use Rattle.ct_statement.{specs.Proposals.{IsProposal, IsStep, kept_after}, specs.Sight.{IsSight, actions_before, history_of}, specs.Unmet.IsUnmet}
+use Rattle.ct_statement.{specs.Proposals.{IsProposal, IsStep, kept_after}, specs.Sight.{IsNarrow, IsSight, actions_before, history_of}, specs.Sources.is_assertion, specs.Unmet.IsUnmet}
 use Rattle.ct_statement.{specs.Making.IsLight, proofs.Making.effect_within, proofs.Sights.history_stays}
 use mathlib.Core.List.{IsPrefix}
 use Rattle.ct_word.specs.declared.kinds.Class.TheVariants as class
@@ -46,14 +46,15 @@ module _ (old new : List ℕ) (longer : IsPrefix old new) (formed : IsWellFormed
       k.holds (k.values (kept_grows old new longer formed h actions (arc_value s.kept) is.world).values)
 
   -- the step
-  pub step_made : (w : Written) (e : Effect) → IsEffectFor old new s a w e → FitsEffect s.tables e → WritesAction a → (next : Option World) → IsKeptFor new e (arc_value s.kept) next
+  pub step_made : (w : Written) (e : Effect) → IsEffectFor old new s a w e → FitsEffect s.tables e → WritesAction a → IsNarrow a → (next : Option World) → IsKeptFor new e (arc_value s.kept) next
       → IsStep new s a (record { effect = e; kept = next })
-  step_made w e f fits own next k = record {
+  step_made w e f fits own few next k = record {
     fits = fits;
     denotes = subst (λ g. Denotes new g (actions ++ a ∷ []) (tables_after s.tables e)) same_history (tables_then w e f);
     condition = subst (λ g. IsGlobal new g (actions ++ a ∷ []) (global_after s.global e)) same_history (global_then w e f);
     world = subst (λ g. IsKeptWorld new g (actions ++ a ∷ []) (kept_after (arc_value s.kept) next)) same_history (world_then w e f next k);
     written = own;
+    narrow = few;
   }
 
   -- the kept world satisfies the global condition over the longer words too
@@ -78,14 +79,12 @@ module _ (old new : List ℕ) (longer : IsPrefix old new) (formed : IsWellFormed
   can_narrow w (effect.Narrows place) f = both_then w place f
 
 -- after an assertion more
-module _ (new : List ℕ) (h : List PlainCommit) (actions : List PlainAction) (c : Condition) (place room : ℕ) (g : IsGlobal new h (actions ++ plain.Assert c ∷ []) place) where
-  abbrev asserts : PlainAction
-  asserts = plain.Assert c
-
-  worldless_unmet : (why : Refusal) → IsWorldless new place why → IsUnmet h actions room new (plain.Act asserts) why
+module _ (new : List ℕ) (h : List PlainCommit) (actions : List PlainAction) (a : PlainAction) (assertion : is_assertion a ≡ true) (place room : ℕ) (g : IsGlobal new h (actions ++ a ∷ []) place) where
+  worldless_unmet : (why : Refusal) → IsWorldless new place why → IsUnmet h actions room new (plain.Act a) why
   worldless_unmet (refusal.Inconsistent proof) w = record {
-    condition = c;
+    action = a;
     asserts = refl;
+    is = assertion;
     none_satisfies = λ v. sym (g.holds v) ∙ w.2 v;
     accepted = w.1;
     root = λ v. ap (λ p. holds_at v (condition_at new p)) w.0 ∙ g.holds v;
@@ -93,13 +92,20 @@ module _ (new : List ℕ) (h : List PlainCommit) (actions : List PlainAction) (c
   worldless_unmet refusal.Memory w = tt
   worldless_unmet _ w = absurd w
 
+-- an action with which an assertion agrees is one
+asserts_itself : (h : List PlainCommit) (before : List PlainAction) (a : PlainAction) (c : Condition) → AgreesWith h before a (Assert c) → is_assertion a ≡ true
+asserts_itself h before (plain.Assert p) c agrees = refl
+asserts_itself h before (plain.AssertQuery wanted q) c agrees = refl
+asserts_itself h before (plain.AssertKey name columns) c agrees = refl
+asserts_itself h before _ c agrees = absurd agrees
+
 module _ (old new : List ℕ) (longer : IsPrefix old new) (formed : IsWellFormed new) (s : Sight) (is : IsSight old s) (room : ℕ) where
   -- where the global condition is another one, the action is an assertion
   of_assertion : (change : Written) (a : PlainAction) (place : ℕ) → DoesChange old new s.tables s.global change (effect.Narrows place)
       → AgreesWith (history_of old s) (actions_before s) a (plain_written old change) → IsGlobal new (history_of old s) (actions_before s ++ a ∷ []) place
       → (why : Refusal) → IsWorldless new place why → IsUnmet (history_of old s) (actions_before s) room new (plain.Act a) why
-  of_assertion (written.Assert cond) (plain.Assert c) place does agrees g why w = worldless_unmet new (history_of old s) (actions_before s) c place room g why w
-  of_assertion (written.Assert cond) _ place does agrees g why w = absurd agrees
+  of_assertion (written.Assert cond) a place does agrees g why w =
+      worldless_unmet new (history_of old s) (actions_before s) a (asserts_itself (history_of old s) (actions_before s) a (condition_at old cond) agrees) place room g why w
   of_assertion _ a place does agrees g why w = absurd does
 
   pub unkept_unmet : (a : PlainAction) (w : Written) (e : Effect) → IsEffectFor old new s a w e → (why : Refusal) → IsUnkept new e why → IsUnmet (history_of old s) (actions_before s) room new (plain.Act a) why

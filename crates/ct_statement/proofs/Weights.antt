@@ -3,10 +3,11 @@ use Rattle.std.{proofs.Common.{ℕ, ◌+◌, ◌*◌, ◌≤◌, Bool, true, fal
 use Rattle.std.specs.Prelude.{Option, Some, None, option_map, unwrap_or, if◌then◌else◌}
 use Rattle.ct_word.{specs.declared.values.Term.Term, specs.Value.same_text, specs.Sublist.IsSublist, specs.Change.PlainCommit}
 use Rattle.ct_query.{specs.declared.action.Ask.Ask, specs.Plain.{PlainQuery, PlainAction, PlainStatement}, specs.Size.{row_bound, greatest}}
-use Rattle.ct_query.specs.Patterns.{Patterns, patterns, query_pattern, pattern_action, pattern_actions, with_lines, count}
+use Rattle.ct_query.specs.Patterns.{Patterns, patterns, query_pattern, pattern_action, pattern_actions, with_lines, with_sets, count}
+use Rattle.ct_query.specs.Updates.{Sets, with_updated}
 use Rattle.ct_query.specs.Bounds.{ops, terms, width, product_counts, partial_products, select_words, operator_words, side_words, query_words, nodes, list_words}
 use Rattle.ct_query.specs.Bounds.{change_words, applying_words, commit_words, catalogue_words, own_words, bound}
-use Rattle.ct_query.proofs.Sublists.{all_of, sublist-append, pattern_part}
+use Rattle.ct_query.proofs.Sublists.{all_of, sublist-append, sublist_updated, pattern_part}
 use Rattle.ct_table.proofs.QuerySizes.{row_bound_grows}
 use Rattle.ct_keeper.proofs.Counting.{distinct_grows, patterns_kept}
 use mathlib.Core.List.{IsPrefix}
@@ -54,19 +55,21 @@ lists_grow ask.Certain r s w le =
     let row : r * (2 * w + 2) ≤ s * (2 * w + 2) = mul-le r (2 * w + 2) s (2 * w + 2) le (omega arith) in
     mul-le r (r * (2 * w + 2) + w + 1) s (s * (2 * w + 2) + w + 1) le (omega (arith, row))
 
--- an action makes words, by any counts
-pub action_makes : (counts : List ℕ → ℕ) (a : PlainAction) → 1 ≤ change_words counts a
-action_makes counts (plain.Create name columns) = omega arith
-action_makes counts _ = omega arith
+-- by any counts and widths
+module _ (counts widths : List ℕ → ℕ) where
+  -- an action makes words
+  pub action_makes : (a : PlainAction) → 1 ≤ change_words counts widths a
+  action_makes (plain.Create name columns) = omega arith
+  action_makes _ = omega arith
 
--- in a transaction or outside
-pub action_makes_words : (counts : List ℕ → ℕ) (own : Option (List PlainAction)) (a : PlainAction) → 1 ≤ bound counts own (plain.Act a)
-action_makes_words counts own a = let one = action_makes counts a in omega (arith, one)
+  -- in a transaction or outside
+  pub action_makes_words : (own : Option (List PlainAction)) (a : PlainAction) → 1 ≤ bound counts widths own (plain.Act a)
+  action_makes_words own a = let one = action_makes a in omega (arith, one)
 
--- a statement that evaluates a query makes the words of the query, whatever it asks
-pub question_makes_words : (counts : List ℕ → ℕ) (own : Option (List PlainAction)) (k : Ask) (columns : List (List ℕ)) (q : PlainQuery)
-    → 1 ≤ nodes counts q → 1 ≤ bound counts own (plain.Asks k columns q)
-question_makes_words counts own k columns q one = omega (arith, one)
+  -- a statement that evaluates a query makes the words of the query, whatever it asks
+  pub question_makes_words : (own : Option (List PlainAction)) (k : Ask) (columns : List (List ℕ)) (q : PlainQuery)
+      → 1 ≤ nodes counts q → 1 ≤ bound counts widths own (plain.Asks k columns q)
+  question_makes_words own k columns q one = omega (arith, one)
 
 module _ (f g : List ℕ → ℕ) (each : (t : List ℕ) → f t ≤ g t) where
   rows_grow : (q : PlainQuery) → row_bound f q ≤ row_bound g q
@@ -132,16 +135,23 @@ module _ (f g : List ℕ → ℕ) (each : (t : List ℕ) → f t ≤ g t) where
   pub nodes_grow : (q : PlainQuery) → nodes f q ≤ nodes g q
   nodes_grow q = known_grows (query_words f q) (query_words g q) (query_grows q)
 
-  change_grows : (a : PlainAction) → change_words f a ≤ change_words g a
-  change_grows (plain.InsertQuery name q) =
+  square_grows : (name : List ℕ) (k : ℕ) → f name * f name * k ≤ g name * g name * k
+  square_grows name k = mul-le (f name * f name) k (g name * g name) k (mul-le (f name) (f name) (g name) (g name) (each name) (each name)) (omega arith)
+
+  pub change_grows : (widths : List ℕ → ℕ) (a : PlainAction) → change_words f widths a ≤ change_words g widths a
+  change_grows widths (plain.InsertQuery name q) =
       let more = nodes_grow q in
       let rows = mul-le (row_bound f q) (width q + 2) (row_bound g q) (width q + 2) (rows_grow q) (omega arith) in
       omega (arith, more, rows)
-  change_grows _ = omega arith
+  change_grows widths (plain.AssertQuery wanted q) = add_le (nodes f q + 2 * row_bound f q) 6 (nodes g q + 2 * row_bound g q) 6 (add_le (nodes f q) (2 * row_bound f q) (nodes g q) (2 * row_bound g q) (nodes_grow q) (twice_grows q)) (omega arith)
+  change_grows widths (plain.AssertKey name columns) =
+      add_le (f name * f name * (2 * widths name + 3)) 6 (g name * g name * (2 * widths name + 3)) 6 (square_grows name (2 * widths name + 3)) (omega arith)
+  change_grows widths _ = omega arith
 
   pub applying_grows : (a : PlainAction) → applying_words f a ≤ applying_words g a
   applying_grows (plain.InsertQuery name q) = rows_grow q
   applying_grows (plain.Delete name p) = mul-le (f name) (ops p + 2) (g name) (ops p + 2) (each name) (omega arith)
+  applying_grows (plain.Update name sets p) = mul-le (f name) (ops p + 5) (g name) (ops p + 5) (each name) (omega arith)
   applying_grows _ = omega arith
 
   catalogue_grows : (own : Option (List PlainAction)) (a : PlainAction) → catalogue_words f own a ≤ catalogue_words g own a
@@ -158,22 +168,23 @@ module _ (f g : List ℕ → ℕ) (each : (t : List ℕ) → f t ≤ g t) where
   own_grow (Some own) = commits_grow own
 
   -- nor is the bound of a statement smaller, in a transaction or outside
-  pub bound_grows : (own : Option (List PlainAction)) (st : PlainStatement) → bound f own st ≤ bound g own st
-  bound_grows own (plain.Act a) =
-      add_le (change_words f a + applying_words f a) (catalogue_words f own a) (change_words g a + applying_words g a) (catalogue_words g own a)
-      (add_le (change_words f a) (applying_words f a) (change_words g a) (applying_words g a) (change_grows a) (applying_grows a)) (catalogue_grows own a)
-  bound_grows own (plain.Asks k columns q) =
+  pub bound_grows : (widths : List ℕ → ℕ) (own : Option (List PlainAction)) (st : PlainStatement) → bound f widths own st ≤ bound g widths own st
+  bound_grows widths own (plain.Act a) =
+      add_le (change_words f widths a + applying_words f a) (catalogue_words f own a) (change_words g widths a + applying_words g a) (catalogue_words g own a)
+      (add_le (change_words f widths a) (applying_words f a) (change_words g widths a) (applying_words g a) (change_grows widths a) (applying_grows a)) (catalogue_grows own a)
+  bound_grows widths own (plain.Asks k columns q) =
       add_le (nodes f q) (list_words k (row_bound f q) (width q)) (nodes g q) (list_words k (row_bound g q) (width q))
       (nodes_grow q) (lists_grow k (row_bound f q) (row_bound g q) (width q) (rows_grow q))
-  bound_grows own plain.Begin = omega arith
-  bound_grows own plain.Commit = own_grow own
-  bound_grows own plain.Rollback = omega arith
+  bound_grows widths own plain.Begin = omega arith
+  bound_grows widths own plain.Commit = own_grow own
+  bound_grows widths own plain.Rollback = omega arith
 
   -- so one that may make a word may make one where there are more rows
-  pub makes_words_still : (own : Option (List PlainAction)) (st : PlainStatement) → 1 ≤ bound f own st → 1 ≤ bound g own st
-  makes_words_still own st le = let more = bound_grows own st in omega (arith, le, more)
+  pub makes_words_still : (widths : List ℕ → ℕ) (own : Option (List PlainAction)) (st : PlainStatement) → 1 ≤ bound f widths own st → 1 ≤ bound g widths own st
+  makes_words_still widths own st le = let more = bound_grows widths own st in omega (arith, le, more)
 
--- patterns that are parts of others stay so with further cell lists, with those of an action, and with those of actions
+-- patterns that are parts of others stay so with further cell lists, with sets, with those of an action, and with those of
+-- actions
 pub lines_part : (p p' : Patterns) (each : (n : List ℕ) → IsSublist (p n) (p' n)) (name : List ℕ) (more more' : List (List Term)) → IsSublist more more'
     → (n : List ℕ) → IsSublist (with_lines p name more n) (with_lines p' name more' n)
 lines_part p p' each name more more' part n = by_test (same_text name n) where
@@ -181,9 +192,16 @@ lines_part p p' each name more more' part n = by_test (same_text name n) where
   by_test true = sublist-append (p n) (p' n) more more' (each n) part
   by_test false = each n
 
+pub sets_part : (p p' : Patterns) (each : (n : List ℕ) → IsSublist (p n) (p' n)) (name : List ℕ) (sets : Sets) (n : List ℕ) → IsSublist (with_sets p name sets n) (with_sets p' name sets n)
+sets_part p p' each name sets n = by_test (same_text name n) where
+  by_test : (b : Bool) → IsSublist (if b then with_updated sets (p n) else p n) (if b then with_updated sets (p' n) else p' n)
+  by_test true = sublist_updated sets (p n) (p' n) (each n)
+  by_test false = each n
+
 action_part : (p p' : Patterns) (each : (n : List ℕ) → IsSublist (p n) (p' n)) (a : PlainAction) (n : List ℕ) → IsSublist (pattern_action p a n) (pattern_action p' a n)
 action_part p p' each (plain.InsertRows name rs c) n = lines_part p p' each name rs rs (all_of rs) n
 action_part p p' each (plain.InsertQuery name q) n = lines_part p p' each name (query_pattern p q) (query_pattern p' q) (pattern_part p p' each q) n
+action_part p p' each (plain.Update name sets c) n = sets_part p p' each name sets n
 action_part p p' each _ n = each n
 
 pub actions_part : (p p' : Patterns) (each : (n : List ℕ) → IsSublist (p n) (p' n)) (actions : List PlainAction) (n : List ℕ)

@@ -1,5 +1,5 @@
 -- Rows that answer a query, with the terms that a question about it asks about.
-use Rattle.std.specs.Prelude.{◌≡◌, ◌<◌, ◌≤◌, ℕ, List, [], length, IfSome, nat_lt, if◌then◌else◌}
+use Rattle.std.specs.Prelude.{◌≡◌, ◌<◌, ◌≤◌, ℕ, List, [], length, IfSome}
 use Rattle.std.specs.List.{Contains}
 use Rattle.ct_word.specs.declared.values.Term.{Term}
 use Rattle.ct_word.specs.declared.values.CRow.{CRow}
@@ -40,20 +40,16 @@ pub record AnswersQuery (words : List ℕ) (global : ℕ) (h : List PlainCommit)
   pub part : IsSublist (cells_of words rs) (pattern h actions q)
   pub from : RowsFrom words rs (Contains (terms_of_query h actions q))
 
--- the refusal for a full log, where a pass has made so many words before and after; that they are fewer does not come
-abbrev pub filled : ℕ → ℕ → Refusal
-filled before after = if nat_lt after before then refusal.Memory else refusal.Full
-
 -- the refusal of a query that is not evaluated
-abbrev pub unanswered : EvalError → ℕ → ℕ → Refusal
-unanswered eval.TooLarge before after = refusal.TooLarge
-unanswered eval.Full before after = filled before after
-unanswered eval.Memory before after = refusal.Memory
+abbrev pub unanswered : EvalError → Refusal
+unanswered eval.TooLarge = refusal.TooLarge
+unanswered eval.Full = refusal.Full
+unanswered eval.Memory = refusal.Memory
 
 -- the refusal of a question whose rows are not listed
-abbrev pub unlisted : CertainError → ℕ → ℕ → Refusal
-unlisted fault.Full before after = filled before after
-unlisted fault.Memory before after = refusal.Memory
+abbrev pub unlisted : CertainError → Refusal
+unlisted fault.Full = refusal.Full
+unlisted fault.Memory = refusal.Memory
 
 -- why a query is not evaluated, at what a statement sees: it is too large, the log is full, or memory is wanting
 abbrev pub IsUnasked : List PlainCommit → List PlainAction → ℕ → List ℕ → PlainQuery → Refusal → Type 0

@@ -20,7 +20,7 @@ use Rattle.ct_table.specs.Snapshot.{IsGlobal, IsKeptWorld}
 use Rattle.ct_statement.specs.declared.sight.Sight.{Sight}
 use Rattle.ct_statement.specs.declared.stepping.Step.{Step}
 use Rattle.ct_statement.specs.Making.{IsLight}
-use Rattle.ct_statement.specs.Sight.{actions_before, history_of}
+use Rattle.ct_statement.specs.Sight.{actions_before, history_of, IsNarrow}
 
 -- the changes of a list that may not have been begun
 abbrev pub listed : List ℕ → Option ℕ → List PlainChange
@@ -45,10 +45,12 @@ abbrev pub kept_after : World → Option World → World
 kept_after kept None = kept
 kept_after kept (Some other) = other
 
--- a step leads from what a statement sees to what is seen after its action, which can be written
+-- a step leads from what a statement sees to what is seen after its action, which can be written, and whose table has no more
+-- columns than a word can tell apart
 pub record IsStep (words : List ℕ) (s : Sight) (a : PlainAction) (step : Step) : Type 0 where
   pub fits : FitsEffect s.tables step.effect
   pub denotes : Denotes words (history_of words s) (actions_before s ++ a ∷ []) (tables_after s.tables step.effect)
   pub condition : IsGlobal words (history_of words s) (actions_before s ++ a ∷ []) (global_after s.global step.effect)
   pub world : IsKeptWorld words (history_of words s) (actions_before s ++ a ∷ []) (kept_after (arc_value s.kept) step.kept)
   pub written : WritesAction a
+  pub narrow : IsNarrow a

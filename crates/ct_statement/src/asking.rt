@@ -15,7 +15,7 @@ ghost use Rattle.ct_history.specs.Kept.{kept_of};
 ghost use Rattle.ct_table.specs.Counting.{count_of};
 ghost use Rattle.ct_transcript.specs.Possible.{PossibleRight};
 ghost use Rattle.ct_statement.specs.Asking.{AnswersQuery, IsUnasked};
-ghost use Rattle.ct_statement.specs.Making.{is_full};
+ghost use Rattle.ct_statement.specs.Making.{is_full, widths_in};
 ghost use Rattle.ct_statement.specs.Sight.{IsSight, actions_before, history_of};
 ghost use Rattle.ct_statement.specs.Unmet.{IsUnmet};
 
@@ -35,7 +35,7 @@ use std::thread::Threads;
 /// The table that answers a query under the global condition. The pass has the words of it.
 ///
 /// # Errors
-/// `TooLarge` only where the query's size, by the counts of all rows that were ever inserted, is above 16,777,216; `Full`
+/// `TooLarge` only where the query's size, by the counts of all rows that were ever made, is above 16,777,216; `Full`
 /// only where the log has no room; `Memory`.
 pub(crate) fn answered<N: Site>(
     alloc: Global,
@@ -54,10 +54,9 @@ pub(crate) fn answered<N: Site>(
     ensures ok { IfOk result (λ table. AnswersQuery pass.new.words sight.now.global (history_of pass.old.words sight.now) (actions_before sight.now) (query_of query.now) (length table.columns) table.rows) }
     ensures err { IfErr result (IsUnasked (history_of pass.old.words sight.now) (actions_before sight.now) N.log.cap pass.new.words (query_of query.now)) }
 {
-    let made = pass.made();
     let table = match eval(alloc, arena, pass, query, sight.tables.db()) {
         Ok(table) => table,
-        Err(e) => return Err(unanswered(e, made, pass.made())),
+        Err(e) => return Err(unanswered(e)),
     };
     // The words begin with the word true.
     let _ = pass.words();
@@ -68,7 +67,7 @@ pub(crate) fn answered<N: Site>(
 /// words of the questions.
 ///
 /// # Errors
-/// `TooLarge` only where the query's size, by the counts of all rows that were ever inserted, is above 16,777,216; `Full`
+/// `TooLarge` only where the query's size, by the counts of all rows that were ever made, is above 16,777,216; `Full`
 /// only where the log has no room; `Memory`.
 pub(crate) fn possible_rows<N: Site, R: Threads + Sync>(
     rt: &R,
@@ -83,7 +82,7 @@ pub(crate) fn possible_rows<N: Site, R: Threads + Sync>(
     requires fits { Fits (schema (history_of pass.old.words sight.now) (actions_before sight.now)).tables (query_of query.now) }
     ensures longer { IsPrefix pass.old.words pass.new.words }
     ensures kept { kept_of pass.new ≡ kept_of pass.old }
-    ensures made { pass.new.made + charge (is_full result) ≤ pass.old.made + bound (count (history_of pass.old.words sight.now) (actions_before sight.now)) None (plain.Asks ask.Possible [] (query_of query.now)) }
+    ensures made { pass.new.made + charge (is_full result) ≤ pass.old.made + bound (count (history_of pass.old.words sight.now) (actions_before sight.now)) (widths_in (schema (history_of pass.old.words sight.now) (actions_before sight.now)).tables) None (plain.Asks ask.Possible [] (query_of query.now)) }
     ensures ok { IfOk result (λ list. PossibleRight list (query_of query.now) (history_of pass.old.words sight.now) (actions_before sight.now)) }
     ensures err { (columns : List (List ℕ)) → IfErr result (IsUnmet (history_of pass.old.words sight.now) (actions_before sight.now) N.log.cap pass.new.words (plain.Asks ask.Possible columns (query_of query.now))) }
 {
@@ -92,10 +91,9 @@ pub(crate) fn possible_rows<N: Site, R: Threads + Sync>(
         Err(why) => return Err(why),
     };
     let _ = pass.words();
-    let made = pass.made();
     let list = match possible(rt, alloc, arena, pass, &table, sight.global, workers) {
         Ok(list) => list,
-        Err(e) => return Err(unlisted(e, made, pass.made())),
+        Err(e) => return Err(unlisted(e)),
     };
     Ok(list)
 }

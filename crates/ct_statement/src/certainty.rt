@@ -12,7 +12,7 @@ ghost use Rattle.ct_query.specs.Views.{query_of};
 ghost use Rattle.ct_query.specs.declared.action.Ask.TheVariants as ask;
 ghost use Rattle.ct_history.specs.Kept.{kept_of};
 ghost use Rattle.ct_transcript.specs.Certain.{CertainRight};
-ghost use Rattle.ct_statement.specs.Making.{is_full};
+ghost use Rattle.ct_statement.specs.Making.{is_full, widths_in};
 ghost use Rattle.ct_statement.specs.Sight.{IsSight, actions_before, history_of};
 ghost use Rattle.ct_statement.specs.Unmet.{IsUnmet};
 
@@ -32,7 +32,7 @@ use std::thread::Threads;
 /// the words of the questions, over which the refutations are accepted.
 ///
 /// # Errors
-/// `TooLarge` only where the query's size, by the counts of all rows that were ever inserted, is above 16,777,216; `Full`
+/// `TooLarge` only where the query's size, by the counts of all rows that were ever made, is above 16,777,216; `Full`
 /// only where the log has no room; `Memory`.
 pub(crate) fn certain_rows<N: Site, R: Threads + Sync>(
     rt: &R,
@@ -47,7 +47,7 @@ pub(crate) fn certain_rows<N: Site, R: Threads + Sync>(
     requires fits { Fits (schema (history_of pass.old.words sight.now) (actions_before sight.now)).tables (query_of query.now) }
     ensures longer { IsPrefix pass.old.words pass.new.words }
     ensures kept { kept_of pass.new ≡ kept_of pass.old }
-    ensures made { pass.new.made + charge (is_full result) ≤ pass.old.made + bound (count (history_of pass.old.words sight.now) (actions_before sight.now)) None (plain.Asks ask.Certain [] (query_of query.now)) }
+    ensures made { pass.new.made + charge (is_full result) ≤ pass.old.made + bound (count (history_of pass.old.words sight.now) (actions_before sight.now)) (widths_in (schema (history_of pass.old.words sight.now) (actions_before sight.now)).tables) None (plain.Asks ask.Certain [] (query_of query.now)) }
     ensures ok { IfOk result (λ list. CertainRight list (query_of query.now) (history_of pass.old.words sight.now) (actions_before sight.now) pass.new.words) }
     ensures err { (columns : List (List ℕ)) → length columns ≡ width (schema (history_of pass.old.words sight.now) (actions_before sight.now)).tables (query_of query.now) → IfErr result (IsUnmet (history_of pass.old.words sight.now) (actions_before sight.now) N.log.cap pass.new.words (plain.Asks ask.Certain columns (query_of query.now))) }
 {
@@ -56,7 +56,6 @@ pub(crate) fn certain_rows<N: Site, R: Threads + Sync>(
         Err(why) => return Err(why),
     };
     let _ = pass.words();
-    let made = pass.made();
     let listed = certain(
         rt,
         alloc,
@@ -71,7 +70,7 @@ pub(crate) fn certain_rows<N: Site, R: Threads + Sync>(
     let _ = pass.words();
     let list = match listed {
         Ok(list) => list,
-        Err(e) => return Err(unlisted(e, made, pass.made())),
+        Err(e) => return Err(unlisted(e)),
     };
     Ok(list)
 }

@@ -3,6 +3,7 @@
 
 mod advancing;
 mod asking;
+mod asserting;
 mod certainty;
 mod drawing;
 mod printing;

@@ -1,6 +1,6 @@
 // The change that a statement proposes.
 
-ghost use Rattle.std.specs.Prelude.{◌≡◌, ◌+◌, ◌<◌, ◌≤◌, ◌^◌, ℕ, List, [], true, is_err, map, length, IfOk, IfErr, IfSome, IsTrue, OnErr};
+ghost use Rattle.std.specs.Prelude.{◌≡◌, ◌+◌, ◌<◌, ◌≤◌, ◌^◌, ℕ, List, [], true, is_err, length, IfOk, IfErr, IfSome, IsTrue, OnErr};
 ghost use mathlib.Core.List.{IsPrefix};
 ghost use Rattle.ct_word.specs.declared.kinds.Class.TheVariants as class;
 ghost use Rattle.ct_word.specs.Reading.{change_list_at};
@@ -15,28 +15,25 @@ ghost use Rattle.ct_query.specs.Views.{action_of};
 ghost use Rattle.ct_history.specs.Encodes.{IsEncodable};
 ghost use Rattle.ct_history.specs.Kept.{kept_of};
 ghost use Rattle.ct_resolve.specs.Writing.{WritesAction};
-ghost use Rattle.ct_table.specs.Denotes.{heading_of};
 ghost use Rattle.ct_statement.specs.Drawing.{drawn};
-ghost use Rattle.ct_statement.specs.Making.{is_full, taken_rows, taking_words};
+ghost use Rattle.ct_statement.specs.Making.{is_full, taken_rows, taking_words, widths_in};
 ghost use Rattle.ct_statement.specs.Proposals.{IsProposal, listed};
 ghost use Rattle.ct_statement.specs.Sight.{IsSight, actions_before, history_of};
 ghost use Rattle.ct_statement.specs.Sources.{AreTakenFor, is_literal};
-ghost use Rattle.ct_statement.specs.Unmet.{IsUnmet, IsWant};
+ghost use Rattle.ct_statement.specs.Unmet.{HasFewPairs, IsUnmet, IsWant};
 ghost use Rattle.ct_statement.specs.declared.sight.Sight.{Sight as SightValue};
 
 use crate::asking::answered;
+use crate::asserting::{asserted_key, asserted_query};
 use crate::drawing::after;
 use crate::sight::Sight;
 use ct_arena::{Arena, Full, Pass, Site};
 use ct_history::{encode, no_changes};
 use ct_query::Action;
-use ct_table::{CTable, Db};
+use ct_table::CTable;
 use ct_transcript::Refusal;
 use ct_word::{CRow, List};
 use std::alloc::Global;
-
-/// How many columns a word can tell apart: the numbers of columns are below 2^28.
-const COLUMNS: usize = 1 << 28;
 
 /// An action with its change: the change list that has it last, and the number of the session's last null after it.
 #[derive(Drop)]
@@ -44,21 +41,6 @@ pub struct Proposal {
     pub action: Action,
     pub changes: u32,
     pub fresh: u32,
-}
-
-/// Whether each column that an action may name has a number that a word has room for. No clause says that a table has no
-/// more columns. It has not, since each of their names has a word, so this is true.
-fn is_encodable(tables: &Db, action: &Action) -> bool
-    requires fits { FitsAction (map heading_of tables.now) (action_of action.now) }
-    ensures { IsTrue result → IsEncodable (action_of action.now) }
-{
-    match action {
-        Action::Delete { name, .. } => match tables.get(name) {
-            Some(table) => table.columns().len() <= COLUMNS,
-            None => unreachable!(),
-        },
-        _ => true,
-    }
 }
 
 /// The change list at a place, or a new one.
@@ -88,11 +70,12 @@ fn begun<N: Site>(arena: &Arena<N>, pass: &mut Pass<N>, list: Option<u32>) -> Re
     }
 }
 
-/// The rows that an action takes from its query; none where it has no query. The pass has the words of it.
+/// The rows that an action takes from its query, or the one under the condition of an assertion over a query or a key; none
+/// for another action. The pass has the words of it.
 ///
 /// # Errors
-/// `TooLarge` only where the query's size, by the counts of all rows that were ever inserted, is above 16,777,216; `Full`
-/// only where the log has no room; `Memory`.
+/// `TooLarge` only where the size of the query, or of all pairs of rows of a key's table, by the counts of all rows that were
+/// ever made, is above 16,777,216; `Full` only where the log has no room; `Memory`.
 fn taken_for<N: Site>(
     alloc: Global,
     arena: &Arena<N>,
@@ -104,9 +87,10 @@ fn taken_for<N: Site>(
     requires fits { FitsAction (schema (history_of pass.old.words sight.now) (actions_before sight.now)).tables (action_of action.now) }
     ensures longer { IsPrefix pass.old.words pass.new.words }
     ensures kept { kept_of pass.new ≡ kept_of pass.old }
-    ensures made { pass.new.made + charge (is_full result) ≤ pass.old.made + taking_words (count (history_of pass.old.words sight.now) (actions_before sight.now)) (action_of action.now) }
+    ensures made { pass.new.made + charge (is_full result) ≤ pass.old.made + taking_words (count (history_of pass.old.words sight.now) (actions_before sight.now)) (widths_in (schema (history_of pass.old.words sight.now) (actions_before sight.now)).tables) (action_of action.now) }
     ensures few { IfOk result (λ rows. length rows ≤ taken_rows (count (history_of pass.old.words sight.now) (actions_before sight.now)) (action_of action.now)) }
     ensures rows { IfOk result (AreTakenFor pass.new.words sight.now.global (history_of pass.old.words sight.now) (actions_before sight.now) (action_of action.now)) }
+    ensures within { IfOk result (λ _. HasFewPairs sight.now.tables (action_of action.now)) }
     ensures err { IfErr result (IsUnmet (history_of pass.old.words sight.now) (actions_before sight.now) N.log.cap pass.new.words (plain.Act (action_of action.now))) }
 {
     match action {
@@ -117,6 +101,12 @@ fn taken_for<N: Site>(
             }
             Err(why) => Err(why),
         },
+        Action::AssertQuery { wanted, query } => {
+            asserted_query(alloc, arena, pass, sight, *wanted, query)
+        }
+        Action::AssertKey { name, columns } => {
+            asserted_key(alloc, arena, pass, sight, name, columns)
+        }
         _ => Ok(List::new(alloc)),
     }
 }
@@ -124,8 +114,7 @@ fn taken_for<N: Site>(
 /// The change list at a place, or a new one, with the change of an action added. The pass has the words of it.
 ///
 /// # Errors
-/// `TooLarge` only where the size of the action's query, by the counts of all rows that were ever inserted, is above
-/// 16,777,216; `Full` only where the log has no room; `Memory`.
+/// As `taken_for` has them.
 fn added<N: Site>(
     alloc: Global,
     arena: &Arena<N>,
@@ -140,13 +129,11 @@ fn added<N: Site>(
     requires written { WritesAction (action_of action.now) }
     ensures longer { IsPrefix pass.old.words pass.new.words }
     ensures kept { kept_of pass.new ≡ kept_of pass.old }
-    ensures made { pass.new.made + charge (is_full result) + 1 ≤ pass.old.made + change_words (count (history_of pass.old.words sight.now) (actions_before sight.now)) (action_of action.now) }
+    ensures made { pass.new.made + charge (is_full result) + 1 ≤ pass.old.made + change_words (count (history_of pass.old.words sight.now) (actions_before sight.now)) (widths_in (schema (history_of pass.old.words sight.now) (actions_before sight.now)).tables) (action_of action.now) }
     ensures proposes { IfOk result (IsProposal pass.new.words (history_of pass.old.words sight.now) (actions_before sight.now) (listed pass.old.words list) (action_of action.now)) }
+    ensures within { IfOk result (λ _. HasFewPairs sight.now.tables (action_of action.now)) }
     ensures err { IfErr result (IsUnmet (history_of pass.old.words sight.now) (actions_before sight.now) N.log.cap pass.new.words (plain.Act (action_of action.now))) }
 {
-    if !is_encodable(sight.tables.db(), action) {
-        return Err(Refusal::Memory);
-    }
     let list = match begun(arena, pass, list) {
         Ok(list) => list,
         Err(_) => return Err(Refusal::Full),
@@ -166,11 +153,12 @@ fn added<N: Site>(
     }
 }
 
-/// The change of an action, added to the list at a place, or to a new one. The pass has the words of it.
+/// The change of an action, added to the list at a place, or to a new one. The pass has the words of it. There is none of an
+/// assertion of a key of a table with more than 4,096 rows.
 ///
 /// # Errors
-/// `TooLarge` only where the size of its query, by the counts of all rows that were ever inserted, is above 16,777,216;
-/// `Full` only where the log has no room; `Memory`.
+/// `TooLarge` only where the size of its query, or of all pairs of rows of the table that it asserts a key of, by the counts of
+/// all rows that were ever made, is above 16,777,216; `Full` only where the log has no room; `Memory`.
 pub fn propose<N: Site>(
     alloc: Global,
     arena: &Arena<N>,
@@ -186,10 +174,11 @@ pub fn propose<N: Site>(
     requires written { WritesAction (action_of action) }
     ensures longer { IsPrefix pass.old.words pass.new.words }
     ensures kept { kept_of pass.new ≡ kept_of pass.old }
-    ensures made { pass.new.made + charge (is_full result) + 1 ≤ pass.old.made + change_words (count (history_of pass.old.words sight.now) (actions_before sight.now)) (action_of action) }
+    ensures made { pass.new.made + charge (is_full result) + 1 ≤ pass.old.made + change_words (count (history_of pass.old.words sight.now) (actions_before sight.now)) (widths_in (schema (history_of pass.old.words sight.now) (actions_before sight.now)).tables) (action_of action) }
     ensures action { IfOk result (λ p. action_of p.action ≡ action_of action) }
     ensures fresh { IfOk result (λ p. p.fresh ≡ fresh + drawn (action_of action)) }
     ensures proposes { IfOk result (λ p. IsProposal pass.new.words (history_of pass.old.words sight.now) (actions_before sight.now) (listed pass.old.words list) (action_of action) p.changes) }
+    ensures within { IfOk result (λ _. HasFewPairs sight.now.tables (action_of action)) }
     ensures err { IfErr result (IsUnmet (history_of pass.old.words sight.now) (actions_before sight.now) N.log.cap pass.new.words (plain.Act (action_of action))) }
 {
     let fresh = match after(fresh, &action) {
@@ -221,7 +210,10 @@ pub fn is_literal(action: &Action) -> bool
         Action::InsertRows { .. } => true,
         Action::InsertQuery { .. } => false,
         Action::Delete { .. } => false,
+        Action::Update { .. } => false,
         Action::Assert { .. } => false,
+        Action::AssertQuery { .. } => false,
+        Action::AssertKey { .. } => false,
     }
 }
 
@@ -239,7 +231,7 @@ fn added_literal<N: Site>(
     requires written { WritesAction (action_of action.now) }
     ensures longer { IsPrefix pass.old.words pass.new.words }
     ensures kept { kept_of pass.new ≡ kept_of pass.old }
-    ensures made { (counts : List ℕ → ℕ) → pass.new.made + charge (is_full result) + 1 ≤ pass.old.made + change_words counts (action_of action.now) }
+    ensures made { (counts widths : List ℕ → ℕ) → pass.new.made + charge (is_full result) + 1 ≤ pass.old.made + change_words counts widths (action_of action.now) }
     ensures proposes { (s : SightValue) → IsSight pass.old.words s → FitsAction (schema (history_of pass.old.words s) (actions_before s)).tables (action_of action.now) → IfOk result (IsProposal pass.new.words (history_of pass.old.words s) (actions_before s) [] (action_of action.now)) }
     ensures err { IfErr result (IsWant N.log.cap pass.new.words) }
 {
@@ -272,7 +264,7 @@ pub fn propose_literal<N: Site>(
     requires written { WritesAction (action_of action) }
     ensures longer { IsPrefix pass.old.words pass.new.words }
     ensures kept { kept_of pass.new ≡ kept_of pass.old }
-    ensures made { (counts : List ℕ → ℕ) → pass.new.made + charge (is_full result) + 1 ≤ pass.old.made + change_words counts (action_of action) }
+    ensures made { (counts widths : List ℕ → ℕ) → pass.new.made + charge (is_full result) + 1 ≤ pass.old.made + change_words counts widths (action_of action) }
     ensures action { IfOk result (λ p. action_of p.action ≡ action_of action) }
     ensures fresh { IfOk result (λ p. p.fresh ≡ fresh + drawn (action_of action)) }
     ensures proposes { (s : SightValue) → IsSight pass.old.words s → FitsAction (schema (history_of pass.old.words s) (actions_before s)).tables (action_of action) → IfOk result (λ p. IsProposal pass.new.words (history_of pass.old.words s) (actions_before s) [] (action_of action) p.changes) }

@@ -11,7 +11,7 @@ ghost use Rattle.ct_query.specs.Schema.{schema};
 ghost use Rattle.ct_query.specs.Views.{query_of};
 ghost use Rattle.ct_history.specs.Kept.{kept_of};
 ghost use Rattle.ct_statement.specs.Answered.{Answers};
-ghost use Rattle.ct_statement.specs.Making.{is_full};
+ghost use Rattle.ct_statement.specs.Making.{is_full, widths_in};
 ghost use Rattle.ct_statement.specs.Sight.{IsSight, actions_before, history_of};
 ghost use Rattle.ct_statement.specs.Unmet.{IsUnmet};
 
@@ -46,7 +46,7 @@ pub enum Answered {
 /// many workers decide. The pass has the words of it.
 ///
 /// # Errors
-/// `TooLarge` only where the query's size, by the counts of all rows that were ever inserted, is above 16,777,216; `Full`
+/// `TooLarge` only where the query's size, by the counts of all rows that were ever made, is above 16,777,216; `Full`
 /// only where the log has no room, and the statement may need a word; `Memory`.
 pub fn answer_to<N: Site, R: Threads + Sync>(
     rt: &R,
@@ -64,7 +64,7 @@ pub fn answer_to<N: Site, R: Threads + Sync>(
     requires named { length columns ≡ width (schema (history_of pass.old.words sight.now) (actions_before sight.now)).tables (query_of query.now) }
     ensures longer { IsPrefix pass.old.words pass.new.words }
     ensures kept { kept_of pass.new ≡ kept_of pass.old }
-    ensures made { pass.new.made + charge (is_full result) ≤ pass.old.made + bound (count (history_of pass.old.words sight.now) (actions_before sight.now)) None (plain.Asks kind [] (query_of query.now)) }
+    ensures made { pass.new.made + charge (is_full result) ≤ pass.old.made + bound (count (history_of pass.old.words sight.now) (actions_before sight.now)) (widths_in (schema (history_of pass.old.words sight.now) (actions_before sight.now)).tables) None (plain.Asks kind [] (query_of query.now)) }
     ensures ok { IfOk result (Answers (history_of pass.old.words sight.now) (actions_before sight.now) pass.new.words kind columns (query_of query.now)) }
     ensures err { IfErr result (IsUnmet (history_of pass.old.words sight.now) (actions_before sight.now) N.log.cap pass.new.words (plain.Asks kind columns (query_of query.now))) }
 {

@@ -221,7 +221,7 @@ fn effect_for<N: Site>(
 /// What a proposed change does to what its statement sees. The pass has the words of it.
 ///
 /// # Errors
-/// `Full` only where the log has no room. For an assertion `Inconsistent`, only where no admitted valuation satisfies it.
+/// `Full` only where the log has no room. For an assertion, in each of its forms, `Inconsistent`, only where no admitted valuation satisfies it.
 /// `Memory`.
 pub fn step_of<N: Site>(
     alloc: Global,

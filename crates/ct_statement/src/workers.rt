@@ -110,15 +110,13 @@ fn possible_beside<N: Site, R: Threads + Sync>(
     ensures formed { IsWellFormed pass.new.words }
     ensures room { length pass.new.words ≤ N.log.cap }
     ensures full { IsErrOf result fault.Full → length pass.new.words ≡ N.log.cap }
+    ensures rises { pass.old.made ≤ pass.new.made }
     ensures made { pass.new.made ≤ pass.old.made + length table.now.rows }
     ensures fewer { IsErrOf result fault.Full → pass.new.made < pass.old.made + length table.now.rows }
     ensures session { pass.new.session ≡ pass.old.session }
     ensures mine { pass.new.mine ≡ pass.old.mine }
 {
-    let roots = match possible_questions(alloc, arena, pass, table, global) {
-        Ok(roots) => roots,
-        Err(e) => return Err(e),
-    };
+    let roots = possible_questions(alloc, arena, pass, table, global)?;
     let words = pass.words();
     match possible_decided(rt, alloc, words, table, roots.as_slice(), workers) {
         Ok(list) => Ok(list),
@@ -149,6 +147,7 @@ pub(crate) fn possible<N: Site, R: Threads + Sync>(
     ensures formed { IsWellFormed pass.new.words }
     ensures room { length pass.new.words ≤ N.log.cap }
     ensures full { IsErrOf result fault.Full → length pass.new.words ≡ N.log.cap }
+    ensures rises { pass.old.made ≤ pass.new.made }
     ensures made { pass.new.made ≤ pass.old.made + length table.now.rows }
     ensures fewer { IsErrOf result fault.Full → pass.new.made < pass.old.made + length table.now.rows }
     ensures session { pass.new.session ≡ pass.old.session }
@@ -223,15 +222,13 @@ fn certain_beside<N: Site, R: Threads + Sync>(
     ensures formed { IsWellFormed pass.new.words }
     ensures room { length pass.new.words ≤ N.log.cap }
     ensures full { IsErrOf result fault.Full → length pass.new.words ≡ N.log.cap }
+    ensures rises { pass.old.made ≤ pass.new.made }
     ensures made { pass.new.made ≤ pass.old.made + length table.now.rows * (length table.now.rows * (2 * length table.now.columns + 2) + length table.now.columns + 1) }
     ensures fewer { IsErrOf result fault.Full → pass.new.made < pass.old.made + length table.now.rows * (length table.now.rows * (2 * length table.now.columns + 2) + length table.now.columns + 1) }
     ensures session { pass.new.session ≡ pass.old.session }
     ensures mine { pass.new.mine ≡ pass.old.mine }
 {
-    let candidates = match certain_left(alloc, arena, pass, table, global, kept) {
-        Ok(candidates) => candidates,
-        Err(e) => return Err(e),
-    };
+    let candidates = certain_left(alloc, arena, pass, table, global, kept)?;
     let words = pass.words();
     match certain_decided(rt, alloc, words, candidates.as_slice(), workers) {
         Ok(list) => Ok(list),
@@ -264,6 +261,7 @@ pub(crate) fn certain<N: Site, R: Threads + Sync>(
     ensures formed { IsWellFormed pass.new.words }
     ensures room { length pass.new.words ≤ N.log.cap }
     ensures full { IsErrOf result fault.Full → length pass.new.words ≡ N.log.cap }
+    ensures rises { pass.old.made ≤ pass.new.made }
     ensures made { pass.new.made ≤ pass.old.made + length table.now.rows * (length table.now.rows * (2 * length table.now.columns + 2) + length table.now.columns + 1) }
     ensures fewer { IsErrOf result fault.Full → pass.new.made < pass.old.made + length table.now.rows * (length table.now.rows * (2 * length table.now.columns + 2) + length table.now.columns + 1) }
     ensures session { pass.new.session ≡ pass.old.session }

@@ -4,19 +4,21 @@ use Rattle.std.{specs.Prelude.{◌⊎◌, Option, Some, None, All, filter, optio
 use Rattle.std.proofs.lemmas.List.{append-nil}
 use Rattle.std.proofs.lemmas.List.Elements.{All-contains, All-contains_itself, All-from_recursion, recursion_from_All, Contains-push, Contains-append_left}
 use Rattle.ct_word.{specs.declared.values.Term.Term, specs.declared.values.CRow.CRow, specs.Value.{World, same_text, tuple_at}, specs.Sublist.IsSublist}
-use Rattle.ct_word.{specs.Condition.{Condition, SameTruth, holds, holds_at}, specs.WellFormed.IsWellFormed, specs.Change.{PlainRow, PlainCommit}}
+use Rattle.ct_word.{specs.Condition.{Condition, SameTruth, holds, holds_at}, specs.WellFormed.IsWellFormed, specs.Change.{PlainRow, Assert, PlainCommit}}
 use Rattle.ct_word.{specs.Reading.{condition_at, term_at, plain_crow}, specs.Stands.TermBelow}
-use Rattle.ct_query.{specs.Plain.{PlainQuery, PlainAction}, specs.Database.{Database, SameSet, with_tuples}, specs.Rows.rows, specs.Worlds.world}
-use Rattle.ct_query.{specs.Step.{inserted, step_action}, specs.Patterns.{patterns, pattern, query_pattern}, specs.Reads.{tables_of, query_reads, action_reads}}
-use Rattle.ct_query.{specs.Agrees.SameTruthAlone, specs.Terms.{condition_terms, query_terms, action_terms}, specs.Frame.reads_of_actions}
+use Rattle.ct_query.{specs.Plain.{PlainQuery, PlainAction}, specs.Database.{Database, SameSet, tuples_of, with_tuples}, specs.Rows.rows, specs.Worlds.world}
+use Rattle.ct_query.{specs.Step.{inserted, only_if, step_action}, specs.Patterns.{patterns, pattern, query_pattern}, specs.Reads.{tables_of, query_reads, action_reads}}
+use Rattle.ct_query.{specs.Updates.{Sets, updated, with_updated}, specs.Assertions.{as_wanted, is_key}}
+use Rattle.ct_query.{specs.Agrees.{SameTruthAlone, HoldsWhereKept, AgreesWith}, specs.Terms.{condition_terms, query_terms, action_terms}, specs.Frame.reads_of_actions}
 use Rattle.ct_query.{proofs.Laws.patterns_action, proofs.Sets.{same_set_itself, same_set_on}, proofs.Sublists.{all_of, sublist_of_sublist}}
 use Rattle.ct_query.proofs.Within.{of_added}
+use Rattle.ct_condition.specs.Terms.{BelowSome}
 use Rattle.ct_operators.{specs.Tables.{cells_of, value_of_rows, AreRows}, specs.Terms.{TermOfRows, RowsFrom, IsNoColumn}, proofs.Naming.{mapped, given}}
 use Rattle.ct_operators.proofs.Reaching.{first_or_behind, from_rows, behind}
-use Rattle.ct_table.{specs.Denotes.{TableView, value_of_tables, IsTermFor, by_change, by_action, Denotes, find_table, with_table}, specs.Following.Follows}
-use Rattle.ct_table.{proofs.Following.{action_follows, more_read, lines_here}, proofs.Denoting.{empty_table, with_rows}}
+use Rattle.ct_table.{specs.Denotes.{TableView, value_of_tables, IsTermFor, by_change, by_action, Denotes, find_table, with_table}, specs.Following.{Follows, Asserts}}
+use Rattle.ct_table.{proofs.Following.{action_follows, more_read, lines_here, sets_here, kept_where_asserted}, proofs.Denoting.{empty_table, with_rows}}
 use Rattle.ct_table.proofs.ByTables.{cells_found, means_by_tables, pattern_by_tables}
-use Rattle.ct_table.proofs.Changing.{found_from, created_after, inserted_after, deleted_after, asserted_after}
+use Rattle.ct_table.proofs.Changing.{found_from, created_after, inserted_after, deleted_after, updated_after, asserted_after}
 use mathlib.Core.List.{IsPrefix}
 use Rattle.ct_query.specs.Plain as plain
 use Rattle.ct_query.specs.declared.action.Read.TheVariants as read
@@ -41,6 +43,21 @@ rows_where words v c (r ∷ more) false e all =
     ap (λ b. map (λ (x : PlainRow). tuple_at v x.cells) (if b then plain_crow words r ∷ filter (λ x. holds_at v x.condition) (map (plain_crow words) more) else filter (λ x. holds_at v x.condition) (map (plain_crow words) more))) (all.0 v ∙ e)
     ∙ rows_where words v c more false e all.1
 
+module _ (h : List PlainCommit) (before : List PlainAction) where
+  -- an assertion of the history agrees with actions that assert only
+  pub asserts_by : (a : PlainAction) (c : Condition) → AgreesWith h before a (Assert c) → Asserts a
+  asserts_by (plain.Assert p) c agrees = tt
+  asserts_by (plain.AssertQuery wanted q) c agrees = tt
+  asserts_by (plain.AssertKey name columns) c agrees = tt
+  asserts_by _ c agrees = absurd agrees
+
+  -- and its condition holds exactly where the action keeps the database
+  pub kept_by : (a : PlainAction) (c : Condition) → AgreesWith h before a (Assert c) → HoldsWhereKept h before a c
+  kept_by (plain.Assert p) c agrees = λ v. kept_where_asserted v c p (agrees v) (world v h before)
+  kept_by (plain.AssertQuery wanted q) c agrees = agrees
+  kept_by (plain.AssertKey name columns) c agrees = agrees
+  kept_by _ c agrees = absurd agrees
+
 -- a table of a query is one of its reads
 table_read : (q : PlainQuery) (n : List ℕ) → Contains (tables_of q) n → Contains (query_reads q) (read.Table n)
 table_read q n h =
@@ -59,14 +76,20 @@ pub record IsReadBelow (words : List ℕ) (db : List TableView) (q : PlainQuery)
   pub below : TermOfRows words table.rows u
 
 module _ (old new : List ℕ) (longer : IsPrefix old new) (formed : IsWellFormed new) (h : List PlainCommit) (actions : List PlainAction) (db : List TableView) (d : Denotes old h actions db) where
+  kept_denotes : (a : PlainAction) (test : World → Database → Bool) → Follows h actions h (actions ++ a ∷ []) (λ v w. only_if (test v w) w) [] → Denotes new h (actions ++ a ∷ []) db
+  kept_denotes a test f = asserted_after old new longer formed h actions h (actions ++ a ∷ []) db d d.writable test f
+
   -- CREATE
   pub created_by : (name : List ℕ) (columns : List (List ℕ)) → find_table db name ≡ None → Denotes new h (actions ++ plain.Create name columns ∷ []) (db ++ empty_table name columns ∷ [])
   created_by name columns none =
       created_after old new longer formed h actions h (actions ++ plain.Create name columns ∷ []) db d d.writable name columns (action_follows h actions (plain.Create name columns)) none
 
-  -- ASSERT
-  pub asserted_by : (c : Condition) → Denotes new h (actions ++ plain.Assert c ∷ []) db
-  asserted_by c = asserted_after old new longer formed h actions h (actions ++ plain.Assert c ∷ []) db d d.writable c (action_follows h actions (plain.Assert c))
+  -- ASSERT, of a condition, a query or a key
+  pub asserted_by : (a : PlainAction) → Asserts a → Denotes new h (actions ++ a ∷ []) db
+  asserted_by (plain.Assert c) is = kept_denotes (plain.Assert c) (λ v w. holds_at v c) (action_follows h actions (plain.Assert c))
+  asserted_by (plain.AssertQuery wanted q) is = kept_denotes (plain.AssertQuery wanted q) (λ v w. as_wanted wanted (rows v q w)) (action_follows h actions (plain.AssertQuery wanted q))
+  asserted_by (plain.AssertKey name columns) is = kept_denotes (plain.AssertKey name columns) (λ v w. is_key columns (tuples_of w name)) (action_follows h actions (plain.AssertKey name columns))
+  asserted_by _ is = absurd is
 
   module _ (name : List ℕ) (t : TableView) (found : find_table db name ≡ Some t) (rows' : List CRow) (are : AreRows new (length t.columns) rows') where
     -- INSERT of rows under a condition: rows of these cells, each under a condition of the same truth, whose terms the action has
@@ -146,4 +169,16 @@ module _ (old new : List ℕ) (longer : IsPrefix old new) (formed : IsWellFormed
     deleted_by c cond same named =
         let a = plain.Delete name c in
         deleted_after old new longer formed h actions h (actions ++ a ∷ []) db d d.writable name t found rows' are c (action_follows h actions a) cond same
+        (λ u b n. by_action a (Contains-push actions a) (named u b n))
+
+    -- UPDATE
+    pub updated_by : (sets : Sets) (c : Condition) (cond : ℕ) → SameTruth (condition_at old cond) c
+        → (places : List ℕ) → ((u : Term) → BelowSome old places u → IsNoColumn u → Contains (action_terms (plain.Update name sets c)) u)
+        → ((v : World) → SameSet (value_of_rows new v rows') (updated v (condition_at old cond) sets (value_of_rows old v t.rows)))
+        → IsSublist (cells_of new rows') (with_updated sets (cells_of old t.rows))
+        → RowsFrom new rows' (λ u. TermOfRows old t.rows u ⊎ (BelowSome old places u × IsNoColumn u)) → Denotes new h (actions ++ plain.Update name sets c ∷ []) (with_table db (with_rows name t rows'))
+    updated_by sets c cond same places named =
+        let a = plain.Update name sets c in
+        updated_after old new longer formed h actions h (actions ++ a ∷ []) db d d.writable name t found rows' are sets c (action_follows h actions a)
+        ((λ i. patterns_action h actions a i name) ∙ sets_here (patterns h actions) name sets) cond same places
         (λ u b n. by_action a (Contains-push actions a) (named u b n))

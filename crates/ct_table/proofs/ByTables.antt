@@ -38,14 +38,14 @@ module _ (words : List ℕ) (h : List PlainCommit) (actions : List PlainAction) 
   found_kept : (name : List ℕ) (t : TableView) → find_table db name ≡ Some t → IsKept words h actions t
   found_kept name t e = found_all (IsKept words h actions) name t db (recursion_from_All (IsKept words h actions) db d.kept) e
 
-  -- the cells of a table are, in order, a part of the cells that were ever inserted into it
+  -- the cells of a table are, in order, a part of the cells that were ever made into it
   pub cells_part : (name : List ℕ) → IsSublist (cells_found words db name) (patterns h actions name)
   cells_part name = by_case (find_table db name) refl where
     by_case : (o : Option TableView) → find_table db name ≡ o → IsSublist (option_map_or (λ t. cells_of words t.rows) o []) (patterns h actions name)
     by_case None e = nothing_of (patterns h actions name)
     by_case (Some t) e = found_pattern words h actions h actions db d name t e
 
-  -- a table has at most as many rows as different cells were ever inserted into it
+  -- a table has at most as many rows as different cells were ever made in it
   pub tables_counted : (name : List ℕ) → rows_found db name ≤ count h actions name
   tables_counted name = by_case (find_table db name) refl where
     by_case : (o : Option TableView) → find_table db name ≡ o → option_map_or (λ t. length t.rows) o 0 ≤ count h actions name

@@ -1,20 +1,22 @@
 -- Tables go on denoting a history and further actions, by the contract of the operator that changes them.
 use Rattle.std.{proofs.Common.{◌≡◌, ℕ, Bool, true, not, List, [], ◌∷◌, ◌++◌, map, length, refl, ap, sym, subst, inl, inr}, specs.List.{Contains, list_all}}
-use Rattle.std.specs.Prelude.{◌⊎◌, Some, None, IsTrue, All, filter}
-use Rattle.std.proofs.lemmas.List.Elements.{All-nil, All-weaker, All-push, All-from_recursion, recursion_from_All, Contains-push, Contains-append_cases}
+use Rattle.std.specs.Prelude.{◌⊎◌, Some, None, IsTrue, All, filter, if◌then◌else◌}
+use Rattle.std.proofs.lemmas.List.Elements.{All-nil, All-weaker, All-push, All-contains, All-from_recursion, recursion_from_All, Contains-push}
+use Rattle.std.proofs.lemmas.List.Elements.{Contains-append_cases, Contains-append_left, Contains-append_right}
 use Rattle.ct_word.{specs.declared.values.Value.Value, specs.declared.values.Term.Term, specs.declared.values.CRow.CRow, specs.Value.{World, same_text}}
-use Rattle.ct_word.{specs.Condition.{Condition, SameTruth, holds}, specs.Sublist.IsSublist, specs.WellFormed.{IsWellFormed, is_place_of}}
-use Rattle.ct_word.{specs.Writable.is_writable, specs.Change.{PlainRow, PlainChange, Create, Insert, Delete, Assert, PlainCommit}, specs.Stands.TermBelow}
-use Rattle.ct_word.{specs.Reading.{condition_at, term_at, plain_crow}, proofs.Alike.text_decides, proofs.Packed.{true_left, true_right, true_both}}
+use Rattle.ct_word.{specs.Condition.{Condition, SameTruth, holds, holds_at}, specs.Sublist.IsSublist, specs.WellFormed.{IsWellFormed, is_place_of}}
+use Rattle.ct_word.{specs.Writable.is_writable, specs.Change.{PlainRow, PlainChange, Create, Insert, Delete, Update, Assert, PlainCommit}, specs.Stands.TermBelow}
+use Rattle.ct_word.{specs.Reading.{condition_at, term_at, plain_crow}, proofs.Alike.text_decides, proofs.Packed.{true_left, true_right, true_both}, proofs.Items.unmapped_item}
 use Rattle.ct_query.{specs.Plain.PlainAction, specs.declared.action.Read.Read, specs.Database.{Database, SameSet}, specs.Rows.rows, specs.Patterns.patterns}
-use Rattle.ct_query.{specs.Step.{created, inserted, deleted, asserted, shown_rows}, specs.Worlds.{world, changes_of}, proofs.SameRows.same_set_filter}
-use Rattle.ct_query.{proofs.Sets.{same_set_itself, same_set_on, same_set-append}, proofs.Sublists.{all_of, sublist_of_sublist}}
-use Rattle.ct_condition.proofs.Reached.{formed_before}
+use Rattle.ct_query.{specs.Step.{created, inserted, deleted, set_where, only_if, shown_rows}, specs.Worlds.{world, changes_of}, proofs.SameRows.{same_set_filter, same_set_map}}
+use Rattle.ct_query.{specs.Updates.{Sets, updated_tuple, updated, with_updated}, specs.Terms.{condition_terms, change_terms}}
+use Rattle.ct_query.{proofs.Sets.{same_set_itself, same_set_on, same_set-append}, proofs.Sublists.{all_of, sublist_of_sublist, sublist_updated}}
+use Rattle.ct_condition.{specs.Terms.BelowSome, proofs.Reached.formed_before}
 use Rattle.ct_operators.{specs.Tables.{cells_of, value_of_rows, IsRow, AreRows}, specs.Terms.{TermOfRows, RowsFrom, IsNoColumn}}
-use Rattle.ct_operators.{proofs.Reaching.{both_all, foremost, rows_wider, from_rows, rows_later}, proofs.Growing.{value_grows, cells_grow}}
-use Rattle.ct_operators.proofs.Naming.{condition_named, rows_named}
+use Rattle.ct_operators.{proofs.Reaching.{both_all, foremost, first_or_behind, term_alone, rows_wider, from_rows, rows_later}, proofs.Growing.{value_grows, cells_grow}}
+use Rattle.ct_operators.proofs.Naming.{mapped, condition_named, rows_named}
 use Rattle.ct_table.{specs.Denotes.{TableView, IsKept, AreWorth, IsTermFor, by_change, Denotes, find_table, with_table}, specs.Following.Follows}
-use Rattle.ct_table.proofs.Following.{change_follows, lines_follow}
+use Rattle.ct_table.proofs.Following.{change_follows, lines_follow, sets_follow}
 use Rattle.ct_table.proofs.Denoting.{empty_table, with_rows, found_name, found_all, all_with_table, found_pattern, part_after, created_worth, changed_worth, inserted_worth, asserted_worth, worth_grows}
 use mathlib.Core.List.{IsPrefix}
 use Rattle.ct_word.specs.declared.kinds.Class.TheVariants as class
@@ -78,9 +80,9 @@ module _ (old new : List ℕ) (longer : IsPrefix old new) (formed : IsWellFormed
       → find_table db name ≡ None → Denotes new h' actions' (db ++ empty_table name columns ∷ [])
   created_after name columns f none = with_empty new h actions h' actions' db now f.terms writable name columns (created_worth new h actions h' actions' db now.worth name columns f none)
 
-  -- after an assertion
-  pub asserted_after : (c : Condition) → Follows h actions h' actions' (λ v w. asserted v w c) [] → Denotes new h' actions' db
-  asserted_after c f = as_before new h actions h' actions' db now f.terms writable (asserted_worth new h actions h' actions' db now.worth c f)
+  -- after an assertion, whatever it tests
+  pub asserted_after : (test : World → Database → Bool) → Follows h actions h' actions' (λ v w. only_if (test v w) w) [] → Denotes new h' actions' db
+  asserted_after test f = as_before new h actions h' actions' db now f.terms writable (asserted_worth new h actions h' actions' db now.worth test f)
 
   -- the rows of one of the tables, and others in their place
   module _ (name : List ℕ) (t : TableView) (found : find_table db name ≡ Some t) (rows : List CRow) (are : AreRows new (length t.columns) rows) where
@@ -136,6 +138,27 @@ module _ (old new : List ℕ) (longer : IsPrefix old new) (formed : IsWellFormed
           source u (inl b) = from_rows old t.rows (IsTermFor h' actions' (read.Table name)) (found_from old h actions h' actions' db d f.terms writable name t found) u b
           source u (inr b) = named u b.0 b.1
 
+    -- after `update` with these sets, under a condition of the truth of the step's, whose terms stand below these places
+    pub updated_after : (sets : Sets) (c : Condition) → Follows h actions h' actions' (λ v w. Some (set_where v w name sets c)) []
+        → patterns h' actions' name ≡ with_updated sets (patterns h actions name) → (cond : ℕ) → SameTruth (condition_at old cond) c
+        → (places : List ℕ) → ((u : Term) → BelowSome old places u → IsNoColumn u → IsTermFor h' actions' (read.Table name) u)
+        → ((v : World) → SameSet (value_of_rows new v rows) (updated v (condition_at old cond) sets (value_of_rows old v t.rows)))
+        → IsSublist (cells_of new rows) (with_updated sets (cells_of old t.rows))
+        → RowsFrom new rows (λ u. TermOfRows old t.rows u ⊎ (BelowSome old places u × IsNoColumn u)) → Denotes new h' actions' (with_table db (with_rows name t rows))
+    updated_after sets c f grows cond same places named tuples part terms =
+        with_other new h actions h' actions' db now f.terms writable name t rows
+        (changed_worth new h actions h' actions' db now.worth name (λ v w ts. updated v c sets ts) f t rows found
+        (λ v w e ts s. same_set_on _ _ _
+        (subst (λ xs. SameSet (value_of_rows new v rows) xs) (λ i. map (λ x. if same v x i then updated_tuple v sets x else x) (value_of_rows old v t.rows)) (tuples v))
+        (same_set_map (λ x. if holds v x c then updated_tuple v sets x else x) (value_of_rows old v t.rows) ts (subst (λ xs. SameSet xs ts) (same_value_now v) s))) are
+        (subst (IsSublist (cells_of new rows)) (sym grows)
+        (sublist_of_sublist _ _ _ (subst (λ l. IsSublist (cells_of new rows) (with_updated sets l)) (sym same_cells_now) part)
+        (sublist_updated sets (cells_of new t.rows) (patterns h actions name) (found_pattern new h actions h' actions' db now.worth name t found)))))
+        (rows_wider new (λ u. TermOfRows old t.rows u ⊎ (BelowSome old places u × IsNoColumn u)) (IsTermFor h' actions' (read.Table name)) source rows terms) where
+          source : (u : Term) → TermOfRows old t.rows u ⊎ (BelowSome old places u × IsNoColumn u) → IsTermFor h' actions' (read.Table name) u
+          source u (inl b) = from_rows old t.rows (IsTermFor h' actions' (read.Table name)) (found_from old h actions h' actions' db d f.terms writable name t found) u b
+          source u (inr b) = named u b.0 b.1
+
 -- what is true of each item and of one more is true of each of both
 all_true_push : {A : Type 0} (f : A → Bool) (xs : List A) (x : A) → IsTrue (list_all f xs) → IsTrue (f x) → IsTrue (list_all f (xs ++ x ∷ []))
 all_true_push f [] x all one = true_both (f x) true one refl
@@ -145,6 +168,25 @@ all_true_push f (y ∷ xs) x all one = true_both (f y) (list_all f (xs ++ x ∷ 
 pub cells_listed : (words : List ℕ) (rs : List CRow) → map (λ (r : PlainRow). r.cells) (map (plain_crow words) rs) ≡ cells_of words rs
 cells_listed words [] = refl
 cells_listed words (r ∷ rs) = ap (λ rest. map (term_at words) r.cells ∷ rest) (cells_listed words rs)
+
+-- sets whose terms are given by their places
+abbrev pub sets_listed : List ℕ → List (ℕ × ℕ) → Sets
+sets_listed words sets = map (λ s. (s.0, term_at words s.1)) sets
+
+-- a term below the condition of an update or below a term of its sets is one of its terms
+module _ (words : List ℕ) (formed : IsWellFormed words) (name : List ℕ) (sets : List (ℕ × ℕ)) (cond : ℕ) where
+  pub update_named : All (λ s. IsTrue (is_place_of words class.Term s.1)) sets → IsTrue (is_place_of words class.Cond cond)
+      → (u : Term) → BelowSome words (cond ∷ map (λ s. s.1) sets) u → Contains (change_terms (Update name (sets_listed words sets) (condition_at words cond))) u
+  update_named placed place u b = elim (first_or_behind cond (map (λ s. s.1) sets) b.place b.among) [
+    | inl e ↦
+        Contains-append_right (map (λ s. s.1) (sets_listed words sets)) (condition_terms (condition_at words cond)) u
+        (condition_named words formed cond u place (subst (λ p. TermBelow words p u) (sym e) b.below))
+    | inr i ↦
+        let s = unmapped_item (λ (x : ℕ × ℕ). x.1) sets b.place i in
+        Contains-append_left (map (λ s. s.1) (sets_listed words sets)) (condition_terms (condition_at words cond)) u
+        (subst (Contains (map (λ s. s.1) (sets_listed words sets))) (sym (term_alone words formed s.0.1 u (All-contains (λ x. IsTrue (is_place_of words class.Term x.1)) sets s.0 placed s.1) (subst (λ p. TermBelow words p u) (sym s.2) b.below)))
+        (mapped (λ (x : ℕ × Term). x.1) (sets_listed words sets) (s.0.0, term_at words s.0.1) (mapped (λ x. (x.0, term_at words x.1)) sets s.0 s.1)))
+  ]
 
 -- a history with one change more, such as the one of a commit that is made of its list, change by change
 module _ (old new : List ℕ) (longer : IsPrefix old new) (formed : IsWellFormed new) (h g : List PlainCommit) (db : List TableView) (d : Denotes old h [] db) where
@@ -193,6 +235,22 @@ module _ (old new : List ℕ) (longer : IsPrefix old new) (formed : IsWellFormed
       (λ u b plain. by_change x (read.Table name) (of_change x is) (foremost (read.Table name) []) (name_itself name)
       (condition_named old (formed_before old new longer formed) cond u place b))
 
+  -- an update
+  pub updated_denotes : (name : List ℕ) (sets : List (ℕ × ℕ)) (cond : ℕ) → changes_of g ≡ changes_of h ++ Update name (sets_listed old sets) (condition_at old cond) ∷ []
+      → IsTrue (is_writable (Update name (sets_listed old sets) (condition_at old cond)))
+      → All (λ s. IsTrue (is_place_of old class.Term s.1)) sets → IsTrue (is_place_of old class.Cond cond)
+      → (t : TableView) → find_table db name ≡ Some t → (rows : List CRow) → AreRows new (length t.columns) rows
+      → ((v : World) → SameSet (value_of_rows new v rows) (updated v (condition_at old cond) (sets_listed old sets) (value_of_rows old v t.rows)))
+      → IsSublist (cells_of new rows) (with_updated (sets_listed old sets) (cells_of old t.rows))
+      → RowsFrom new rows (λ u. TermOfRows old t.rows u ⊎ (BelowSome old (cond ∷ map (λ s. s.1) sets) u × IsNoColumn u)) → Denotes new g [] (with_table db (with_rows name t rows))
+  updated_denotes name sets cond is w placed place t found rows are =
+      let ss = sets_listed old sets in
+      let x = Update name ss (condition_at old cond) in
+      updated_after old new longer formed h [] g [] db d (can_write x is w) name t found rows are ss (condition_at old cond) (change_follows h g x is)
+      (sets_follow h g name ss (condition_at old cond) is) cond (λ v row. refl) (cond ∷ map (λ s. s.1) sets)
+      (λ u b plain. by_change x (read.Table name) (of_change x is) (foremost (read.Table name) []) (name_itself name)
+      (update_named old (formed_before old new longer formed) name sets cond placed place u b))
+
   -- an assertion
   pub asserted_denotes : (c : Condition) → changes_of g ≡ changes_of h ++ Assert c ∷ [] → IsTrue (is_writable (Assert c)) → Denotes new g [] db
-  asserted_denotes c is w = asserted_after old new longer formed h [] g [] db d (can_write (Assert c) is w) c (change_follows h g (Assert c) is)
+  asserted_denotes c is w = asserted_after old new longer formed h [] g [] db d (can_write (Assert c) is w) (λ v w. holds_at v c) (change_follows h g (Assert c) is)

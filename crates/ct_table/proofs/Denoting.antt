@@ -3,11 +3,11 @@ use Rattle.std.{proofs.Common.{◌≡◌, ℕ, Bool, true, false, ◌||◌, List
 use Rattle.std.{specs.Prelude.{Option, Some, None, option_and_then, IfSome, length, if◌then◌else◌}, specs.List.{IsDistinct, AllByRecursion, list_any}}
 use Rattle.std.{proofs.lemmas.Map.Keys.{IsDistinct-push, IsDistinct-head, IsDistinct-tail}, proofs.lemmas.Cmp.nat_list_eq_equiv}
 use Rattle.std.proofs.lemmas.List.Elements.{All-nil, All-weaker, All-push, All-from_recursion, recursion_from_All}
-use Rattle.ct_word.{specs.declared.values.Value.Value, specs.declared.values.Term.Term, specs.declared.values.CRow.CRow, specs.Condition.{Condition, holds_at}}
+use Rattle.ct_word.{specs.declared.values.Value.Value, specs.declared.values.Term.Term, specs.declared.values.CRow.CRow}
 use Rattle.ct_word.{specs.Value.{World, same_text, same_cells}, specs.Sublist.IsSublist, specs.WellFormed.IsWellFormed, proofs.Alike.text_decides}
 use Rattle.ct_word.specs.Change.{PlainCommit}
 use Rattle.ct_query.{specs.Plain.PlainAction, specs.Database.{Relation, Database, SameSet, with_tuples, SameRelation, SameDatabase, changed}}
-use Rattle.ct_query.{specs.Step.{created, inserted, asserted}, specs.Worlds.world, specs.Patterns.patterns, proofs.SameRows.same_database_append}
+use Rattle.ct_query.{specs.Step.{created, inserted, only_if}, specs.Worlds.world, specs.Patterns.patterns, proofs.SameRows.same_database_append}
 use Rattle.ct_query.{proofs.Sets.{same_set_itself, same_set_on, same_set-append}, proofs.Sublists.{nothing_of, sublist-append, sublist_of_sublist}}
 use Rattle.ct_operators.{specs.Tables.{cells_of, value_of_rows, AreRows}, proofs.Firsts.none_distinct, proofs.Growing.{value_grows, cells_grow, rows_grow}}
 use Rattle.ct_table.{specs.Denotes.{TableView, value_of_tables, IsKept, heading_of, AreWorth, find_table, with_table}, specs.Following.Follows}
@@ -198,10 +198,10 @@ module _ (words : List ℕ) (h : List PlainCommit) (actions : List PlainAction) 
       changed_worth name (λ v w ts. ts ++ more v w) f t rows found
       (λ v w e ts s. same_set_on _ _ _ (tuples v w e) (same_set-append (value_of_rows words v t.rows) ts (more v w) (more v w) s (same_set_itself (more v w)))) are part
 
-  -- after an assertion
-  pub asserted_worth : (c : Condition) → Follows h actions h' actions' (λ v w. asserted v w c) [] → AreWorth words h' actions' db
-  asserted_worth c f = record {
-    tables = worth_after (λ v w. asserted v w c) f.worlds db (λ v w e s. where_holds v w (holds_at v c) s);
+  -- after an assertion, whatever it tests
+  pub asserted_worth : (test : World → Database → Bool) → Follows h actions h' actions' (λ v w. only_if (test v w) w) [] → AreWorth words h' actions' db
+  asserted_worth test f = record {
+    tables = worth_after (λ v w. only_if (test v w) w) f.worlds db (λ v w e s. where_holds v w (test v w) s);
     kept = All-weaker _ _ (kept_on f.patterns) db d.kept;
     names = d.names;
     headings = d.headings ∙ sym (f.headings ∙ append-nil _);

@@ -1,19 +1,19 @@
 -- The global condition, the kept world and the whole of a snapshot: as words grow, and after one step.
-use Rattle.std.proofs.Common.{◌≡◌, ◌≤◌, ℕ, Bool, true, false, ◌&&◌, List, [], ◌∷◌, ◌++◌, length, take, refl, ap, sym, subst, ◌∙◌, ◌+◌, arith, inl, inr, take_all, length-append}
-use Rattle.std.{specs.Prelude.{Option, Some, None, IsSome, IsTrue, is_some, option_and_then, if◌then◌else◌}, specs.List.Contains}
+use Rattle.std.proofs.Common.{◌≡◌, ◌≤◌, ℕ, Bool, ◌&&◌, List, [], ◌∷◌, ◌++◌, length, take, refl, ap, sym, subst, ◌∙◌, ◌+◌, arith, inl, inr, take_all, length-append}
+use Rattle.std.{specs.Prelude.{Option, Some, None, IsSome, IfSome, IsTrue, is_some, option_and_then}, specs.Option.option_to_list, specs.List.Contains}
 use Rattle.std.{proofs.lemmas.List.take-append-le, proofs.lemmas.Option.slice_get_within, proofs.lemmas.List.Elements.{All-nil, All-weaker, Contains-push}}
 use Rattle.ct_word.{specs.declared.values.Value.Value, specs.declared.values.Term.Term, specs.Value.World, specs.Condition.{Condition, holds_at}}
 use Rattle.ct_word.{specs.Change.{Assert, PlainCommit}, specs.WellFormed.{IsWellFormed, is_place_of}, specs.Stands.{TermBelow, HasNoColumn}, specs.Later.Later}
 use Rattle.ct_word.{specs.Reading.{IsTerm, meanings, condition_at, commits_of}, proofs.Growth.length-read}
 use Rattle.ct_word.proofs.Prefixes.{place_within, place_in_prefix, stands_in_prefix, condition_in_prefix, commits_prefix}
-use Rattle.ct_query.{specs.Plain.PlainAction, specs.declared.schema.Heading.Heading, specs.Database.Database, specs.Step.asserted, specs.Agrees.SameTruthAlone}
-use Rattle.ct_query.{specs.Worlds.{world, admits, changes_of}, specs.Terms.condition_terms}
+use Rattle.ct_query.{specs.Plain.PlainAction, specs.declared.schema.Heading.Heading, specs.Database.Database, specs.Step.{asserted, step_action}, specs.Agrees.{SameTruthAlone, HoldsWhereKept}}
+use Rattle.ct_query.{specs.Worlds.{world, admits, changes_of}, specs.Terms.condition_terms, specs.Schema.created_by_action}
 use Rattle.ct_condition.{specs.Terms.{TermsFrom, BelowEither}, specs.Truth.{HasTruth, and_at}, proofs.Reached.formed_before, proofs.Truths.true_at}
 use Rattle.ct_condition.proofs.Denied.{below_literal}
 use Rattle.ct_arena.specs.Counts.{opening}
 use Rattle.ct_table.{specs.Denotes.{TableView, IsTermFor, by_change, by_action, Denotes}, specs.Following.Follows, proofs.Changing.denotes_grows}
 use Rattle.ct_table.specs.Snapshot.{IsGlobal, IsKeptValue, other, constant, IsKeptWorld, commits_to, IsSnapshot}
-use Rattle.ct_table.proofs.Following.{change_follows, action_follows}
+use Rattle.ct_table.proofs.Following.{change_follows, action_follows, kept_where_asserted}
 use Rattle.ct_operators.{proofs.Reaching.{below_before, foremost}, proofs.Naming.condition_named, proofs.Firsts.none_distinct}
 use mathlib.Core.List.{IsPrefix}
 use Rattle.ct_word.specs.declared.kinds.Class.TheVariants as class
@@ -136,25 +136,32 @@ module _ (h : List PlainCommit) (actions : List PlainAction) (h' : List PlainCom
     pub kept_stays : (words : List ℕ) (kept : World) → IsKeptWorld words h actions kept → IsKeptWorld words h' actions' kept
     kept_stays words kept k = record { admitted = still_admitted kept ∙ k.admitted; values = k.values }
 
-  -- after an assertion those at which it holds too
-  module _ (c : Condition) (f : Follows h actions h' actions' (λ v w. asserted v w c) []) where
-    pub admitted_where : (v : World) → admits v h' actions' ≡ (admits v h actions && holds_at v c)
-    admitted_where v = ap is_some (f.worlds v) ∙ by_world (world v h actions) (holds_at v c) where
-      by_world : (o : Option Database) (b : Bool) → is_some (option_and_then (λ w. if b then Some w else None) o) ≡ (is_some o && b)
-      by_world None b = refl
-      by_world (Some w) true = refl
-      by_world (Some w) false = refl
+  -- after a step that keeps the database exactly where a condition holds, those at which it holds too
+  module _ (step : World → Database → Option Database) (more : List Heading) (f : Follows h actions h' actions' step more) where
+    pub admitted_where : (v : World) (b : Bool) → IfSome (world v h actions) (λ w. b ≡ is_some (step v w)) → admits v h' actions' ≡ (admits v h actions && b)
+    admitted_where v b kept = ap is_some (f.worlds v) ∙ by_world (world v h actions) kept where
+      by_world : (o : Option Database) → IfSome o (λ w. b ≡ is_some (step v w)) → is_some (option_and_then (step v) o) ≡ (is_some o && b)
+      by_world None kept = refl
+      by_world (Some w) kept = sym kept
 
-    -- and the And of the global condition with one of its truth is the global condition
-    pub global_asserted : (old new : List ℕ) (global cond place : ℕ) → IsGlobal old h actions global → SameTruthAlone (condition_at old cond) c → HasNoColumn old cond
+    -- and the And of the global condition with this one is the global condition
+    pub global_narrowed : (old new : List ℕ) (global cond place : ℕ) → IsGlobal old h actions global
+        → ((v : World) → IfSome (world v h actions) (λ w. holds_at v (condition_at old cond) ≡ is_some (step v w))) → HasNoColumn old cond
         → ((t : Term) → TermBelow old cond t → IsTermFor h' actions' read.Worlds t)
         → HasTruth new place (and_at old global cond) → TermsFrom new place (BelowEither old global cond) → IsGlobal new h' actions' place
-    global_asserted old new global cond place g same none named truth terms = record {
+    global_narrowed old new global cond place g kept none named truth terms = record {
       place = truth.class;
-      holds = λ v. truth.truth_is v [] ∙ (λ i. g.holds v i && same v i) ∙ sym (admitted_where v);
+      holds = λ v. truth.truth_is v [] ∙ (λ i. g.holds v i && holds_at v (condition_at old cond)) ∙ sym (admitted_where v (holds_at v (condition_at old cond)) (kept v));
       plain = λ k b. elim (terms (term.Column k) b) [ inl l ↦ g.plain k l | inr r ↦ none k r ];
       from = λ t b. elim (terms t b) [ inl l ↦ f.terms read.Worlds t (g.from t l) | inr r ↦ named t r ];
     }
+
+  -- so after an assertion of a condition of this truth
+  pub global_asserted : (c : Condition) → Follows h actions h' actions' (λ v w. asserted v w c) [] → (old new : List ℕ) (global cond place : ℕ) → IsGlobal old h actions global
+      → SameTruthAlone (condition_at old cond) c → HasNoColumn old cond → ((t : Term) → TermBelow old cond t → IsTermFor h' actions' read.Worlds t)
+      → HasTruth new place (and_at old global cond) → TermsFrom new place (BelowEither old global cond) → IsGlobal new h' actions' place
+  global_asserted c f old new global cond place g same =
+      global_narrowed (λ v w. asserted v w c) [] f old new global cond place g (λ v. kept_where_asserted v (condition_at old cond) c (same v) (world v h actions))
 
 -- after an assertion in a history
 pub global_denotes : (old new : List ℕ) → IsWellFormed old → (h g : List PlainCommit) (global cond place : ℕ) → changes_of g ≡ changes_of h ++ Assert (condition_at old cond) ∷ []
@@ -165,6 +172,13 @@ global_denotes old new formed h g global cond place is was at_cond none truth te
     global_asserted h [] g [] (condition_at old cond) (change_follows h g x is) old new global cond place was (λ v. refl) none
     (λ t b. by_change x read.Worlds (subst (λ xs. Contains xs x) (sym is) (Contains-push (changes_of h) x)) (foremost read.Worlds []) refl (condition_named old formed cond t at_cond b))
     truth terms
+
+-- after one action more, where a condition holds exactly where it keeps the database
+pub global_narrowed_by : (old new : List ℕ) (h : List PlainCommit) (actions : List PlainAction) (a : PlainAction) (global cond place : ℕ) → IsGlobal old h actions global
+    → HoldsWhereKept h actions a (condition_at old cond) → HasNoColumn old cond → ((t : Term) → TermBelow old cond t → IsTermFor h (actions ++ a ∷ []) read.Worlds t)
+    → HasTruth new place (and_at old global cond) → TermsFrom new place (BelowEither old global cond) → IsGlobal new h (actions ++ a ∷ []) place
+global_narrowed_by old new h actions a global cond place was kept =
+    global_narrowed h actions h (actions ++ a ∷ []) (λ v w. step_action v w a) (option_to_list (created_by_action a)) (action_follows h actions a) old new global cond place was kept
 
 -- after one asserting action, whose terms are those of its condition
 pub global_asserted_by : (old new : List ℕ) (h : List PlainCommit) (actions : List PlainAction) (c : Condition) (global cond place : ℕ) → IsGlobal old h actions global

@@ -31,7 +31,7 @@ pub record TableView : Type 0 where
 abbrev pub value_of_tables : List ℕ → World → List TableView → Database
 value_of_tables words v db = map (λ t. record { name = t.name; columns = t.columns; tuples = value_of_rows words v t.rows }) db
 
--- a table's rows are well formed, and their cells are, in order, a part of the cells that were ever inserted
+-- a table's rows are well formed, and their cells are, in order, a part of the cells that were ever made
 pub record IsKept (words : List ℕ) (h : List PlainCommit) (actions : List PlainAction) (t : TableView) : Type 0 where
   pub rows : AreRows words (length t.columns) t.rows
   pub in_pattern : IsSublist (cells_of words t.rows) (pattern h actions (Table t.name))

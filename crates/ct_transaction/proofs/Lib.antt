@@ -2,6 +2,8 @@ pub mod Own
 pub mod Sameness
 pub mod Going
 pub mod Light
+pub mod Doubled
+pub mod Widths
 pub mod Bounded
 pub mod Listed
 pub mod Replies
@@ -10,6 +12,7 @@ pub mod Opened
 pub mod Ordered
 pub mod Inside
 pub mod Resolving
+pub mod OneText
 pub mod Counted
 pub mod Called
 pub mod Conflicting

@@ -1,14 +1,15 @@
 -- Changes that are light for their actions: as actions are added, and when they are committed.
-use Rattle.std.proofs.Common.{◌≡◌, ℕ, ◌+◌, ◌≤◌, Bool, true, false, List, [], ◌∷◌, ◌++◌, map, ap, sym, subst, ◌∙◌, arith}
+use Rattle.std.proofs.Common.{ℕ, ◌+◌, ◌≤◌, Bool, true, false, List, [], ◌∷◌, ◌++◌, map, sym, subst, arith}
 use Rattle.std.{specs.Prelude.{sum_by, if◌then◌else◌}, proofs.lemmas.Nat.mul-le, proofs.lemmas.List.Sums.sum_by-cons}
-use Rattle.ct_word.{specs.declared.values.Term.Term, specs.Value.same_text, specs.Sublist.IsSublist}
-use Rattle.ct_word.specs.Change.{PlainRow, PlainChange, Create, Insert, Delete, Assert, PlainCommit}
+use Rattle.ct_word.{specs.declared.values.Term.Term, specs.Value.same_text, specs.Sublist.{IsSublist, ended, left_out, taken}}
+use Rattle.ct_word.specs.Change.{PlainRow, PlainChange, Create, Insert, Delete, Update, Assert, PlainCommit}
 use Rattle.ct_query.{specs.Agrees.{AgreesWith, AgreesAfter, Agrees}, specs.Bounds.{ops, applying_words, commit_words}, specs.Plain.PlainAction}
-use Rattle.ct_query.specs.Patterns.{Patterns, query_pattern, pattern, patterns, with_lines, pattern_change, pattern_changes, pattern_action, pattern_actions, distinct_count, count}
+use Rattle.ct_query.specs.Patterns.{Patterns, query_pattern, pattern, patterns, with_lines, with_sets, pattern_change, pattern_changes, pattern_action, pattern_actions, count}
+use Rattle.ct_query.specs.Updates.{Sets, with_updated}
 use Rattle.ct_query.proofs.{Laws.{patterns_commit, patterns_action}, Sublists.{all_of, sublist_of_sublist, pattern_part}}
 use Rattle.ct_table.proofs.Following.{first_part}
 use Rattle.ct_keeper.{specs.Bounds.applied_words, proofs.Counting.distinct_grows}
-use Rattle.ct_statement.{specs.Making.{IsLight, AreLight}, proofs.Weights.{lines_part, actions_part}}
+use Rattle.ct_statement.{specs.Making.{IsLight, AreLight}, proofs.Weights.{lines_part, sets_part, actions_part}}
 use Rattle.ct_query.specs.Plain as plain
 use Rattle.ct_keeper.specs.Bounds as keeper
 
@@ -17,9 +18,18 @@ lines_kept : (b : Bool) (ls more : List (List Term)) → IsSublist ls (if b then
 lines_kept true ls more = first_part ls more
 lines_kept false ls more = all_of ls
 
+updated_kept : (sets : Sets) (ls : List (List Term)) → IsSublist ls (with_updated sets ls)
+updated_kept sets [] = ended
+updated_kept sets (l ∷ ls) = taken (left_out (updated_kept sets ls))
+
+sets_kept : (b : Bool) (sets : Sets) (ls : List (List Term)) → IsSublist ls (if b then with_updated sets ls else ls)
+sets_kept true sets ls = updated_kept sets ls
+sets_kept false sets ls = all_of ls
+
 action_kept : (p : Patterns) (a : PlainAction) (n : List ℕ) → IsSublist (p n) (pattern_action p a n)
 action_kept p (plain.InsertRows name rs c) n = lines_kept (same_text name n) (p n) rs
 action_kept p (plain.InsertQuery name q) n = lines_kept (same_text name n) (p n) (query_pattern p q)
+action_kept p (plain.Update name sets c) n = sets_kept (same_text name n) sets (p n)
 action_kept p _ n = all_of (p n)
 
 action_counts : (h : List PlainCommit) (actions : List PlainAction) (a : PlainAction) (n : List ℕ) → count h actions n ≤ count h (actions ++ a ∷ []) n
@@ -45,6 +55,7 @@ light_push h actions xs a x all one = all_push (count h actions) (count h (actio
 -- the words of applying light changes, by counts that are no greater
 applied_grows : (f g : List ℕ → ℕ) → ((t : List ℕ) → f t ≤ g t) → (x : PlainChange) → applied_words f x ≤ applied_words g x
 applied_grows f g each (Delete name c) = mul-le (f name) (ops c + 2) (g name) (ops c + 2) (each name) (omega arith)
+applied_grows f g each (Update name sets c) = mul-le (f name) (ops c + 5) (g name) (ops c + 5) (each name) (omega arith)
 applied_grows f g each _ = omega arith
 
 module _ (counts f g : List ℕ → ℕ) (low : (t : List ℕ) → f t ≤ g t) (high : (t : List ℕ) → counts t ≤ g t) where
@@ -80,7 +91,12 @@ module _ (h g : List PlainCommit) (longer : (n : List ℕ) → IsSublist (patter
       (lines_part p (patterns g before) e n (map (λ (r : PlainRow). r.cells) rs) (pattern g before q)
       (sublist_of_sublist _ _ _ f.1 (pattern_part (patterns h before) (patterns g before) (before_part before) q)))
   one_within before (plain.Delete n c) (Delete n' d) f p e = e
+  one_within before (plain.Update n ss c) (Update n' ss' d) f p e =
+      subst (λ m. (t : List ℕ) → IsSublist (with_sets p m ss' t) (with_sets (patterns g before) n ss t)) (sym f.0)
+      (subst (λ sets. (t : List ℕ) → IsSublist (with_sets p n sets t) (with_sets (patterns g before) n ss t)) (sym f.1) (sets_part p (patterns g before) e n ss))
   one_within before (plain.Assert c) (Assert d) f p e = e
+  one_within before (plain.AssertQuery wanted q) (Assert d) f p e = e
+  one_within before (plain.AssertKey n ks) (Assert d) f p e = e
   one_within before _ _ f p e = absurd f
 
   all_within : (before actions : List PlainAction) (xs : List PlainChange) → AgreesAfter h before actions xs → (p : Patterns)
@@ -103,10 +119,3 @@ module _ (h g : List PlainCommit) (longer : (n : List ℕ) → IsSublist (patter
   light_offer actions c f light =
       light_commit (count h actions) (count (g ++ c ∷ []) []) (count g actions) (agreed_counts actions c f)
       (λ t. distinct_grows (patterns h actions t) (patterns g actions t) (before_part actions t)) actions c.changes light
-
--- a commit of one change adds no rows that it is counted by
-pub one_alone : (g : List PlainCommit) (c : PlainCommit) (x : PlainChange) → c.changes ≡ x ∷ [] → applied_words (count (g ++ c ∷ []) []) x ≤ applied_words (count g []) x
-one_alone g c (Delete name d) e =
-    let same : count (g ++ c ∷ []) [] name ≡ count g [] name = ap (λ p. distinct_count (p name)) (patterns_commit g c ∙ ap (pattern_changes (patterns g [])) e) in
-    mul-le (count (g ++ c ∷ []) [] name) (ops d + 2) (count g [] name) (ops d + 2) (omega (arith, same)) (omega arith)
-one_alone g c _ e = omega arith

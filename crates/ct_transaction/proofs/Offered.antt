@@ -1,12 +1,12 @@
 -- The offer of an open transaction whose change list was begun.
-use Rattle.std.{proofs.Common.{◌≡◌, ℕ, ◌<◌, List, [], ◌∷◌, ◌++◌, length, refl, ap, sym, subst, ◌∙◌, arith}, specs.Prelude.{Some, IsTrue, All}}
+use Rattle.std.{proofs.Common.{◌≡◌, ℕ, ◌<◌, List, [], ◌∷◌, ◌++◌, length, map, refl, ap, sym, subst, ◌∙◌, arith}, specs.Prelude.{Some, IsTrue, All}}
 use Rattle.std.{specs.Arc.arc_value, specs.List.{AllByRecursion, Contains, list_all}, proofs.lemmas.Bool.false≢true}
 use Rattle.std.proofs.lemmas.List.Elements.{All-from_recursion, recursion_from_All}
 use Rattle.ct_word.{specs.Change.{PlainChange, Create, Assert, PlainCommit}, specs.Reading.change_list_at, specs.WellFormed.is_place_of}
 use Rattle.ct_word.specs.Writable.{is_writable}
 use Rattle.ct_query.{specs.Plain.PlainAction, specs.declared.action.Read.Read, specs.Agrees.{AgreesWith, AgreesAfter, Agrees}, specs.Fits.FitAfter}
-use Rattle.ct_query.{specs.Frame.{creates, reads_of_actions}, specs.Reads.action_reads, specs.Worlds.admits, proofs.Committed.commit_does}
-use Rattle.ct_query.proofs.Within.{all_parts}
+use Rattle.ct_query.{specs.Frame.{creates, reads_of_actions}, specs.Reads.{action_reads, tables_of}, specs.Worlds.admits, proofs.Committed.commit_does}
+use Rattle.ct_query.proofs.Within.{all_parts, of_added}
 use Rattle.ct_arena.specs.Seen.{Seen}
 use Rattle.ct_table.specs.Snapshot.{IsKeptValue}
 use Rattle.ct_keeper.{specs.Offers.{IsOffer, commit_for, has_assertion, kept_in}, specs.declared.catalogue.Offer.Offer}
@@ -36,6 +36,10 @@ module _ (h : List PlainCommit) (P : Read → Type 0) where
       by_first a x f.0 parts.0 (asserts_read (before ++ a ∷ []) actions xs f.1 parts.1) some where
         by_first : (b : PlainAction) (y : PlainChange) → AgreesWith h before b y → AllByRecursion P (action_reads b) → (has_assertion xs → P read.Worlds) → has_assertion (y ∷ xs) → P read.Worlds
         by_first (plain.Assert c) (Assert c') g own rest some' = own.0
+        by_first (plain.AssertQuery wanted q) (Assert c') g own rest some' =
+            let tables = map (λ (t : List ℕ). read.Table t) (tables_of q) in
+            (all_parts P tables (read.Worlds ∷ []) (of_added P [] (tables ++ read.Worlds ∷ []) own).1).1.0
+        by_first (plain.AssertKey n ks) (Assert c') g own rest some' = own.1.0
         by_first _ (Assert c') g own rest some' = absurd g
         by_first _ _ g own rest some' = rest some'
   asserts_read before _ _ f all some = absurd f

@@ -1,6 +1,6 @@
 -- From what was prepared, or why a statement was refused, to the reply, however the words go on: for any state, in a
 -- transaction or outside.
-use Rattle.std.proofs.Common.{◌≡◌, ◌≢◌, ℕ, ◌<◌, ◌≤◌, List, [], ◌∷◌, ◌++◌, length, take, map, max, refl, ap, sym, subst, ◌∙◌, arith}
+use Rattle.std.proofs.Common.{◌≡◌, ◌≢◌, ℕ, ◌≤◌, List, [], ◌∷◌, ◌++◌, length, take, map, max, refl, ap, sym, subst, ◌∙◌, arith}
 use Rattle.std.{specs.Prelude.{Option, Some, None, Ok, Err, IsTrue, IsSome, IfSome}, specs.Option.option_to_list, proofs.lemmas.Bool.false≢true}
 use Rattle.std.proofs.lemmas.List.{append-nil}
 use Rattle.ct_word.{specs.Condition.holds_at, specs.Sublist.IsSublist, specs.Change.{PlainChange, PlainCommit}, specs.Reading.commits_of}
@@ -10,15 +10,14 @@ use Rattle.ct_arena.{specs.Seen.Seen, specs.Counts.AreNumbered}
 use Rattle.ct_history.specs.Kept.{kept_of}
 use Rattle.ct_table.specs.Snapshot.{commits_to}
 use Rattle.ct_query.{specs.Plain.{PlainAction, PlainStatement, PlainQuery}, specs.declared.action.Ask.Ask, specs.declared.action.Read.Read, specs.Schema.schema}
-use Rattle.ct_query.{specs.Patterns.count, specs.Size.size}
-use Rattle.ct_algebra.specs.Evaluates.{limit}
+use Rattle.ct_query.{specs.Bounds.bound, specs.Patterns.count, specs.declared.schema.Schema.Schema}
 use Rattle.ct_rewrite.{specs.declared.answer.PossibleRow.PossibleRow, specs.declared.answer.CertainRow.CertainRow}
 use Rattle.ct_transcript.{specs.declared.reply.Answer.Answer, specs.Means.{allowed, shown}, specs.Possible.PossibleRight, specs.Certain.CertainRight}
 use Rattle.ct_transcript.{specs.declared.reply.Reply.Reply, specs.declared.reply.Refusal.Refusal}
 use Rattle.ct_parse.specs.declared.tree.Statement.{Statement}
 use Rattle.ct_resolve.{specs.declared.error.ResolveError.ResolveError, specs.Found.Found, specs.Statements.resolved}
 use Rattle.ct_statement.{specs.declared.replying.Answered.Answered, specs.declared.sight.Sight.Sight, specs.Answered.{IsAnswerFor, Answers as IsAnswered}}
-use Rattle.ct_statement.proofs.Weights.{makes_words_still}
+use Rattle.ct_statement.{specs.Making.widths_in, specs.Unmet.asked_size, proofs.Weights.makes_words_still}
 use Rattle.ct_transaction.{specs.Statements.ReadsAs, specs.State.{Transaction, SessionState, carried, extended, extended_at, own_actions}}
 use Rattle.ct_transaction.{specs.Seeing.{Sees, ResolvesTo}, specs.LawfulRefusal.{IsNameFault, IsTooLarge, IsFull, IsInconsistent, LawfulRefusal}}
 use Rattle.ct_transaction.{specs.LawfulReply.{IsRows, IsPossible, IsCertain, LawfulReply}, specs.Replying.{reply_of, standing}, proofs.Own.own_commits_stay}
@@ -155,16 +154,16 @@ module _ (N : ℕ) (s : SessionState) (x : List ℕ) (st : Statement) (reads : R
     name_lawful name.Memory n r = absurd (n refl)
     name_lawful e n r = (name_fault e r, refl)
 
-    -- its query is too large
+    -- what it evaluates is too large
     too_large : IsUnmetAt seen_commits actions N now s.session s.fresh st refusal.TooLarge → IsTooLarge H W N s x version
     too_large u = record {
       actions = actions;
       statement = u.asked;
-      query = u.unmet.query;
+      asked = u.unmet.asked;
       sees = sees_on;
       asks = resolves_on (Ok u.asked) u.resolves;
-      evaluates = u.unmet.evaluates;
-      past = subst (λ (counts : List ℕ → ℕ). limit < size counts u.unmet.query) (λ i t. on.keeps.counts actions t i) u.unmet.past;
+      evaluates = subst (λ (counts : List ℕ → ℕ). asked_size counts u.asked ≡ Some u.unmet.asked) (λ i t. on.keeps.counts actions t i) u.unmet.evaluates;
+      past = u.unmet.past;
     }
 
     -- the log is full
@@ -175,20 +174,22 @@ module _ (N : ℕ) (s : SessionState) (x : List ℕ) (st : Statement) (reads : R
       sees = sees_on;
       asks = resolves_on (Ok u.asked) u.resolves;
       full = let short = prefix_short now W g.log in let le = g.room in let all = u.unmet.full in omega (arith, short, le, all);
-      makes_words = makes_words_still (count seen_commits actions) (count H actions) (on.counts actions) (own_actions s) u.asked (u.unmet.makes_words (own_actions s));
+      makes_words = subst (λ (sch : Schema). 1 ≤ bound (count H actions) (widths_in sch.tables) (own_actions s) u.asked) (on.keeps.schemas actions)
+          (makes_words_still (count seen_commits actions) (count H actions) (on.counts actions) (widths_in (schema seen_commits actions).tables) (own_actions s) u.asked (u.unmet.makes_words (own_actions s)));
     }
 
     -- no admitted valuation satisfies it
     inconsistent : (proof : Proof) → IsUnmetAt seen_commits actions N now s.session s.fresh st (refusal.Inconsistent proof) → IsInconsistent H W N s x version proof
     inconsistent proof u =
-        let c = u.unmet.condition in
-        let after = actions ++ plain.Assert c ∷ [] in
+        let a = u.unmet.action in
+        let after = actions ++ a ∷ [] in
         let place = place_within now class.Cond proof.root (root_place now proof u.unmet.accepted) in
         record {
           actions = actions;
-          condition = c;
+          action = a;
+          is = u.unmet.is;
           sees = sees_on;
-          asks = resolves_on (Ok (plain.Act (plain.Assert c))) (u.resolves ∙ ap Ok u.unmet.asserts);
+          asks = resolves_on (Ok (plain.Act a)) (u.resolves ∙ ap Ok u.unmet.asserts);
           none_satisfies = λ v. sym (on.keeps.admitted v after) ∙ u.unmet.none_satisfies v;
           accepted = accepted_longer now W g.log proof.root proof.derivation u.unmet.accepted;
           root = λ v. ap (holds_at v) (condition_in_prefix now W proof.root g.log place) ∙ u.unmet.root v ∙ on.keeps.admitted v after;

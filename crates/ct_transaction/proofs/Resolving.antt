@@ -4,8 +4,8 @@ use Rattle.ct_word.specs.Change.{PlainCommit}
 use Rattle.ct_query.{specs.declared.action.Ask.Ask, specs.declared.action.Resolved.Resolved, specs.declared.schema.Schema.Schema, specs.Schema.schema}
 use Rattle.ct_query.{specs.Plain.{PlainAction, PlainStatement}, specs.Views.statement_of}
 use Rattle.ct_parse.specs.declared.tree.Statement.{Statement}
-use Rattle.ct_resolve.{specs.declared.error.ResolveError.ResolveError, specs.Found.{Found, and_then, unless}, specs.Names.{table_in, is_table, are_distinct}}
-use Rattle.ct_resolve.{specs.Conditions.{condition_at, condition_or_true}, specs.Queries.{Named, query_at}, specs.Statements.{cells_of, resolved}}
+use Rattle.ct_resolve.{specs.declared.error.ResolveError.ResolveError, specs.Found.{Found, and_then, unless, each}, specs.Names.{table_in, is_table, are_distinct, column_in}}
+use Rattle.ct_resolve.{specs.Conditions.{condition_at, condition_or_true}, specs.Queries.{Named, query_at}, specs.Statements.{cells_of, columns_set, resolved, set_at}}
 use Rattle.ct_statement.specs.Making.{says_full}
 use Rattle.ct_transaction.specs.Prepared.{IsNoOrder, IsNoPlainOrder, IsRefused, by_name, wanting_memory, name_refusal}
 use Rattle.ct_query.specs.declared.action.Ask.TheVariants as ask
@@ -18,31 +18,38 @@ use Rattle.ct_resolve.specs.declared.error.ResolveError.TheVariants as fault
 abbrev FindsNone : Found PlainStatement → Type 0
 FindsNone r = IfOk r IsNoPlainOrder
 
-after_step : {A : Type 0} (m : Found A) (f : A → Found PlainStatement) → ((a : A) → FindsNone (f a)) → FindsNone (and_then m f)
-after_step (Ok a) f h = h a
-after_step (Err e) f h = tt
+-- what holds of what is found behind a step or a test
+module _ (P : PlainStatement → Type 0) where
+  pub after_step : {A : Type 0} (m : Found A) (f : A → Found PlainStatement) → ((a : A) → IfOk (f a) P) → IfOk (and_then m f) P
+  after_step (Ok a) f h = h a
+  after_step (Err e) f h = tt
 
-after_test : (b : Bool) (e : ResolveError) (r : Found PlainStatement) → FindsNone r → FindsNone (unless b e r)
-after_test true e r h = h
-after_test false e r h = tt
+  pub after_test : (b : Bool) (e : ResolveError) (r : Found PlainStatement) → IfOk r P → IfOk (unless b e r) P
+  after_test true e r h = h
+  after_test false e r h = tt
 
 -- a query of which something is asked
-abbrev asking : Ask → Named → Found PlainStatement
+abbrev pub asking : Ask → Named → Found PlainStatement
 asking k a = Ok (plain.Asks k a.columns a.query)
 
 finds_none : (s : Schema) (session fresh : ℕ) (st : Statement) → IsNoOrder st → FindsNone (resolved s session fresh st)
 finds_none s session fresh (statement.Create name c cs) n =
-    after_test (not (is_table s.tables name)) fault.TableExists _ (after_test (are_distinct (c ∷ cs)) fault.DuplicateName _ tt)
+    after_test IsNoPlainOrder (not (is_table s.tables name)) fault.TableExists _ (after_test IsNoPlainOrder (are_distinct (c ∷ cs)) fault.DuplicateName _ tt)
 finds_none s session fresh (statement.InsertRows name r rs c) n =
-    after_step (table_in s.tables name) _ (λ h. after_test (list_all (λ w. nat_eq (length (cells_of w)) (length h.columns)) (r ∷ rs)) fault.ColumnCount _ (after_step (condition_or_true [] c) _ (λ d. tt)))
+    after_step IsNoPlainOrder (table_in s.tables name) _ (λ h. after_test IsNoPlainOrder (list_all (λ w. nat_eq (length (cells_of w)) (length h.columns)) (r ∷ rs)) fault.ColumnCount _ (after_step IsNoPlainOrder (condition_or_true [] c) _ (λ d. tt)))
 finds_none s session fresh (statement.InsertQuery name q) n =
-    after_step (table_in s.tables name) _ (λ h. after_step (query_at s.tables q) _ (λ a. after_test (nat_eq (length a.columns) (length h.columns)) fault.ColumnCount _ tt))
+    after_step IsNoPlainOrder (table_in s.tables name) _ (λ h. after_step IsNoPlainOrder (query_at s.tables q) _ (λ a. after_test IsNoPlainOrder (nat_eq (length a.columns) (length h.columns)) fault.ColumnCount _ tt))
 finds_none s session fresh (statement.Delete name c) n =
-    after_step (table_in s.tables name) _ (λ h. after_step (condition_or_true (h ∷ []) c) _ (λ d. tt))
-finds_none s session fresh (statement.Assert c) n = after_step (condition_at [] c) _ (λ d. tt)
-finds_none s session fresh (statement.Rows q) n = after_step (query_at s.tables q) (asking ask.Rows) (λ a. tt)
-finds_none s session fresh (statement.Possible q) n = after_step (query_at s.tables q) (asking ask.Possible) (λ a. tt)
-finds_none s session fresh (statement.Certain q) n = after_step (query_at s.tables q) (asking ask.Certain) (λ a. tt)
+    after_step IsNoPlainOrder (table_in s.tables name) _ (λ h. after_step IsNoPlainOrder (condition_or_true (h ∷ []) c) _ (λ d. tt))
+finds_none s session fresh (statement.Update name a bs c) n =
+    after_step IsNoPlainOrder (table_in s.tables name) _ (λ h. after_step IsNoPlainOrder (each (set_at h) (a ∷ bs)) _ (λ sets. after_test IsNoPlainOrder (are_distinct (columns_set (a ∷ bs))) fault.DuplicateName _ (after_step IsNoPlainOrder (condition_or_true (h ∷ []) c) _ (λ d. tt))))
+finds_none s session fresh (statement.Assert c) n = after_step IsNoPlainOrder (condition_at [] c) _ (λ d. tt)
+finds_none s session fresh (statement.AssertExists negated q) n = after_step IsNoPlainOrder (query_at s.tables q) _ (λ a. tt)
+finds_none s session fresh (statement.AssertKey name c cs) n =
+    after_step IsNoPlainOrder (table_in s.tables name) _ (λ h. after_step IsNoPlainOrder (each (column_in h) (c ∷ cs)) _ (λ ks. after_test IsNoPlainOrder (are_distinct (c ∷ cs)) fault.DuplicateName _ tt))
+finds_none s session fresh (statement.Rows q) n = after_step IsNoPlainOrder (query_at s.tables q) (asking ask.Rows) (λ a. tt)
+finds_none s session fresh (statement.Possible q) n = after_step IsNoPlainOrder (query_at s.tables q) (asking ask.Possible) (λ a. tt)
+finds_none s session fresh (statement.Certain q) n = after_step IsNoPlainOrder (query_at s.tables q) (asking ask.Certain) (λ a. tt)
 finds_none s session fresh _ n = absurd n
 
 pub no_order : (s : Schema) (session fresh : ℕ) (st : Statement) (asked : PlainStatement) → IsNoOrder st → resolved s session fresh st ≡ Ok asked → IsNoPlainOrder asked

@@ -1,7 +1,7 @@
 -- Histories of the same commits, either way.
 use Rattle.std.{proofs.Common.{◌≡◌, ℕ, zero, suc, List, [], ◌∷◌, refl, sym, subst}, specs.Prelude.{Some, slice_get, All}}
 use Rattle.std.proofs.lemmas.List.Elements.{All-nil, All-cons, All-head, All-tail}
-use Rattle.ct_word.specs.Change.{PlainRow, PlainChange, Create, Insert, Delete, Assert, PlainCommit}
+use Rattle.ct_word.specs.Change.{PlainRow, PlainChange, Create, Insert, Delete, Update, Assert, PlainCommit}
 use Rattle.ct_word.specs.StandsFor.{SameRows, SameChange, SameChanges, SameCommits}
 
 rows_back : (rs qs : List PlainRow) → SameRows rs qs → SameRows qs rs
@@ -13,6 +13,7 @@ change_back : (x y : PlainChange) → SameChange x y → SameChange y x
 change_back (Create n cs) (Create n' cs') s = (sym s.0, sym s.1)
 change_back (Insert n rs) (Insert n' rs') s = (sym s.0, rows_back rs rs' s.1)
 change_back (Delete n c) (Delete n' c') s = (sym s.0, λ v row. sym (s.1 v row))
+change_back (Update n ss c) (Update n' ss' c') s = (sym s.0, sym s.1, λ v row. sym (s.2 v row))
 change_back (Assert c) (Assert c') s = λ v row. sym (s v row)
 change_back _ _ s = absurd s
 

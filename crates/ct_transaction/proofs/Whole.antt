@@ -3,13 +3,13 @@ use Rattle.std.proofs.Common.{◌≡◌, ℕ, ◌+◌, ◌-◌, ◌<◌, ◌≤�
 use Rattle.std.{specs.Prelude.{Option, Some, None, Result, Ok, Err, All, IfSome}, proofs.lemmas.Bool.false≢true, proofs.lemmas.List.Elements.All-weaker}
 use Rattle.ct_word.{specs.Change.{PlainChange, PlainCommit}, specs.Reading.{commits_of, change_list_at}, specs.StandsFor.{SameChanges, StandsFor}}
 use Rattle.ct_word.proofs.Prefixes.{prefix_same}
-use Rattle.ct_query.{specs.Agrees.Agrees, specs.Plain.PlainAction, specs.Reads.last, specs.declared.action.Read.Read, specs.Bounds.bound, specs.Patterns.count}
+use Rattle.ct_query.{specs.Agrees.Agrees, specs.Plain.PlainAction, specs.Reads.last, specs.declared.action.Read.Read, specs.Bounds.bound, specs.Patterns.count, specs.Schema.schema}
 use Rattle.ct_arena.specs.Seen.{Seen}
 use Rattle.ct_keeper.{specs.Offers.{IsConflict as MeetsLater, changes_in}, specs.Served.{IsLastCommit, IsOutcome}, specs.declared.catalogue.Outcome.Outcome}
 use Rattle.ct_keeper.{specs.declared.error.KeeperError.KeeperError, specs.declared.catalogue.Offer.Offer}
 use Rattle.ct_parse.specs.declared.tree.Statement.{Statement}
 use Rattle.ct_transcript.specs.declared.reply.Reply.{Reply}
-use Rattle.ct_statement.specs.Sight.{actions_before, history_of}
+use Rattle.ct_statement.{specs.Making.widths_in, specs.Sight.{actions_before, history_of}}
 use Rattle.ct_transaction.{specs.declared.state.Open.Open, specs.Answers.{GoesOn, Answers}, specs.LawfulRefusal.IsConflict, specs.LawfulReply.IsCommittedWhole}
 use Rattle.ct_transaction.{specs.Outcomes.{open_after, outcome_reply, outcome_version}, specs.Seeing.Orders, specs.Statements.ReadsAs}
 use Rattle.ct_transaction.{specs.Sessions.{IsBegunList, IsOpen, state_of, transaction_of}, specs.State.{SessionState, carried, with_transaction}}
@@ -134,9 +134,9 @@ module _ (N : ℕ) (pass : Seen) (seen fresh : ℕ) (o : Open) (open' : IsOpen p
         has_actions = some_agree (history_of pass.words o.sight) actions xs b.agrees some
 
         -- the log is full
-        makes_words : (counts : List ℕ → ℕ) (own : List PlainAction) → 0 < length own → 1 ≤ bound counts (Some own) plain.Commit
-        makes_words counts [] lt = absurd (omega (arith, lt))
-        makes_words counts (a ∷ own) lt = omega arith
+        makes_words : (counts widths : List ℕ → ℕ) (own : List PlainAction) → 0 < length own → 1 ≤ bound counts widths (Some own) plain.Commit
+        makes_words counts widths [] lt = absurd (omega (arith, lt))
+        makes_words counts widths (a ∷ own) lt = omega arith
 
         pub full_answers : length pass'.words ≡ N → Answers N s (carried base (state_of pass' seen fresh (Some o))) pass.words pass'.words x (reply.Refused base refusal.Full)
         full_answers full = subst (λ (t : SessionState). Answers N s (carried base t) pass.words pass'.words x (reply.Refused base refusal.Full)) (same_state (Some o))
@@ -148,7 +148,7 @@ module _ (N : ℕ) (pass : Seen) (seen fresh : ℕ) (o : Open) (open' : IsOpen p
                 sees = (refl, refl);
                 asks = record { statement = tree.Commit; reads = subst (ReadsAs x) order reads; gives = refl };
                 full = let short = prefix_short pass'.words W goes.log in let le = goes.room in omega (arith, short, le, full);
-                makes_words = makes_words (count H actions) actions has_actions;
+                makes_words = makes_words (count H actions) (widths_in (schema (take base H) actions).tables) actions has_actions;
               },
               refl,
             ))) where

@@ -24,6 +24,21 @@ abbrev pub is_full : Reply → Bool
 is_full (reply.Refused at refusal.Full) = true
 is_full _ = false
 
+-- whether a refusal is for a name or a count that does not fit
+abbrev pub is_of_name : Refusal → Bool
+is_of_name refusal.UnknownTable = true
+is_of_name refusal.TableExists = true
+is_of_name refusal.UnknownColumn = true
+is_of_name refusal.AmbiguousColumn = true
+is_of_name refusal.DuplicateName = true
+is_of_name refusal.ColumnCount = true
+is_of_name _ = false
+
+-- whether a reply refuses a statement for a name or a count that does not fit, so that it asks for nothing
+abbrev pub is_unasked : Reply → Bool
+is_unasked (reply.Refused at why) = is_of_name why
+is_unasked _ = false
+
 -- whether a refusal rests on no version: that of a text, of BEGIN, COMMIT or ROLLBACK in the wrong place, and for want of memory
 abbrev pub is_of_text : Refusal → Bool
 is_of_text refusal.NotAStatement = true

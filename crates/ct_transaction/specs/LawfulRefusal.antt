@@ -1,19 +1,19 @@
 -- Which refusal may follow a text in a state, and the state after it.
-use Rattle.std.specs.Prelude.{◌≡◌, ℕ, ◌<◌, ◌≤◌, ◌⊎◌, false, List, [], ◌∷◌, ◌++◌, length, take, Some, None, Err, All, IsSome}
+use Rattle.std.specs.Prelude.{◌≡◌, ℕ, ◌<◌, ◌≤◌, ◌⊎◌, false, List, [], ◌∷◌, ◌++◌, length, take, Some, None, Err, All, IsSome, IsTrue}
 use Rattle.ct_word.specs.Value.{World}
-use Rattle.ct_word.specs.Condition.{Condition, holds_at}
+use Rattle.ct_word.specs.Condition.{holds_at}
 use Rattle.ct_word.specs.Change.{PlainCommit}
 use Rattle.ct_word.specs.Reading.{condition_at}
 use Rattle.ct_derivation.specs.declared.steps.Proof.{Proof}
 use Rattle.ct_derivation.specs.Accepts.{AcceptsProof}
-use Rattle.ct_query.specs.Plain.{PlainQuery, PlainAction, PlainStatement}
+use Rattle.ct_query.specs.Plain.{PlainAction, PlainStatement}
 use Rattle.ct_query.specs.Plain as plain
 use Rattle.ct_query.specs.declared.action.Read.{Read}
 use Rattle.ct_query.specs.Worlds.{admits}
 use Rattle.ct_query.specs.Reads.{last, action_reads}
 use Rattle.ct_query.specs.Patterns.{count}
-use Rattle.ct_query.specs.Size.{size}
 use Rattle.ct_query.specs.Bounds.{bound}
+use Rattle.ct_query.specs.Schema.{schema}
 use Rattle.ct_algebra.specs.Evaluates.{limit}
 use Rattle.ct_transcript.specs.declared.reply.Refusal.{Refusal}
 use Rattle.ct_transcript.specs.declared.reply.Refusal.TheVariants as refusal
@@ -22,7 +22,9 @@ use Rattle.ct_resolve.specs.declared.error.ResolveError.TheVariants as name
 use Rattle.ct_transaction.specs.Statements.{IsTextFault}
 use Rattle.ct_transaction.specs.State.{Transaction, SessionState, carried, own_actions, with_transaction}
 use Rattle.ct_transaction.specs.Seeing.{Sees, ResolvesTo, Asks, Orders}
-use Rattle.ct_statement.specs.Unmet.{query_in}
+use Rattle.ct_statement.specs.Making.{widths_in}
+use Rattle.ct_statement.specs.Sources.{is_assertion}
+use Rattle.ct_statement.specs.Unmet.{asked_size}
 
 -- H is the run's history, W the words of its log, N their capacity
 module _ (H : List PlainCommit) (W : List ℕ) (N : ℕ) where
@@ -51,16 +53,16 @@ module _ (H : List PlainCommit) (W : List ℕ) (N : ℕ) where
     pub sees : Sees H s at actions
     pub found : ResolvesTo H s x at actions (Err e)
 
-  -- a statement with a query whose greatest part goes through more rows, or pairs of rows, than a part may, by the counts
-  -- of all rows that were ever inserted
+  -- what a statement evaluates is too large: by the counts of all rows that were ever made, a part of its query, or the
+  -- key that it asserts, goes through more rows, or pairs of rows, than a part may
   pub record IsTooLarge (s : SessionState) (x : List ℕ) (at : ℕ) : Type 0 where
     pub actions : List PlainAction
     pub statement : PlainStatement
-    pub query : PlainQuery
+    pub asked : ℕ
     pub sees : Sees H s at actions
     pub asks : Asks H s x at actions statement
-    pub evaluates : query_in statement ≡ Some query
-    pub past : limit < size (count (take at H) actions) query
+    pub evaluates : asked_size (count (take at H) actions) statement ≡ Some asked
+    pub past : limit < asked
 
   -- the log is full, and the statement may need a word
   pub record IsFull (s : SessionState) (x : List ℕ) (at : ℕ) : Type 0 where
@@ -69,17 +71,18 @@ module _ (H : List PlainCommit) (W : List ℕ) (N : ℕ) where
     pub sees : Sees H s at actions
     pub asks : Asks H s x at actions statement
     pub full : length W ≡ N
-    pub makes_words : 1 ≤ bound (count H actions) (own_actions s) statement
+    pub makes_words : 1 ≤ bound (count H actions) (widths_in (schema (take at H) actions).tables) (own_actions s) statement
 
   -- no admitted valuation satisfies the assertion: the proof refutes a condition that is true where one does
   pub record IsInconsistent (s : SessionState) (x : List ℕ) (at : ℕ) (proof : Proof) : Type 0 where
     pub actions : List PlainAction
-    pub condition : Condition
+    pub action : PlainAction
+    pub is : IsTrue (is_assertion action)
     pub sees : Sees H s at actions
-    pub asks : Asks H s x at actions (plain.Act (plain.Assert condition))
-    pub none_satisfies : (v : World) → admits v (take at H) (actions ++ plain.Assert condition ∷ []) ≡ false
+    pub asks : Asks H s x at actions (plain.Act action)
+    pub none_satisfies : (v : World) → admits v (take at H) (actions ++ action ∷ []) ≡ false
     pub accepted : AcceptsProof W proof
-    pub root : (v : World) → holds_at v (condition_at W proof.root) ≡ admits v (take at H) (actions ++ plain.Assert condition ∷ [])
+    pub root : (v : World) → holds_at v (condition_at W proof.root) ≡ admits v (take at H) (actions ++ action ∷ [])
 
   -- COMMIT of a transaction of at least one action from this base, with these reads
   pub record CommitsWhole (s : SessionState) (x : List ℕ) (base : ℕ) (reads : List Read) : Type 0 where

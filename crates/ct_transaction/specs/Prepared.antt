@@ -1,5 +1,5 @@
 -- What a statement asks for, ready to be given, and why it is refused.
-use Rattle.std.specs.Prelude.{◌≡◌, ◌≢◌, ◌+◌, ℕ, Bool, true, false, List, Option, Some, None, IsSome, Ok, Err}
+use Rattle.std.specs.Prelude.{◌≡◌, ◌≢◌, ◌+◌, ℕ, Bool, true, false, List, Option, Some, None, IsSome, IsTrue, Ok, Err}
 use Rattle.ct_word.specs.Change.{PlainChange, PlainCommit}
 use Rattle.ct_query.specs.Plain.{PlainAction, PlainQuery, PlainStatement}
 use Rattle.ct_query.specs.Plain as plain
@@ -11,7 +11,6 @@ use Rattle.ct_query.specs.Fits.{FitsStatement}
 use Rattle.ct_query.specs.Schema.{schema}
 use Rattle.ct_parse.specs.declared.tree.Statement.{Statement}
 use Rattle.ct_parse.specs.declared.tree.Statement.TheVariants as tree
-use Rattle.ct_word.specs.Condition.{Condition}
 use Rattle.ct_resolve.specs.declared.error.ResolveError.{ResolveError}
 use Rattle.ct_resolve.specs.declared.error.ResolveError.TheVariants as name
 use Rattle.ct_resolve.specs.Statements.{resolved}
@@ -23,6 +22,7 @@ use Rattle.ct_statement.specs.declared.replying.Answered.{Answered}
 use Rattle.ct_statement.specs.Answered.{Answers}
 use Rattle.ct_statement.specs.Drawing.{drawn}
 use Rattle.ct_statement.specs.Proposals.{IsProposal, IsStep}
+use Rattle.ct_statement.specs.Sources.{is_assertion}
 use Rattle.ct_statement.specs.Unmet.{IsUnmet}
 use Rattle.ct_transaction.specs.declared.preparing.Prepared.{Prepared}
 use Rattle.ct_transaction.specs.declared.preparing.Prepared.TheVariants as prepared
@@ -105,13 +105,8 @@ pub record IsResolved (h : List PlainCommit) (before : List PlainAction) (sessio
   pub writes : WritesStatement asked
   pub plain : IsNoPlainOrder asked
 
--- whether an action is an assertion
-abbrev pub is_assertion : PlainAction → Bool
-is_assertion (plain.Assert c) = true
-is_assertion _ = false
-
 -- the step of an action was made, in a transaction and for an assertion
 abbrev pub needs_step : Bool → Prepared → Type 0
 needs_step true (prepared.Change proposal step reads) = IsSome step
-needs_step false (prepared.Change proposal step reads) = (c : Condition) → action_of proposal.action ≡ plain.Assert c → IsSome step
+needs_step false (prepared.Change proposal step reads) = IsTrue (is_assertion (action_of proposal.action)) → IsSome step
 needs_step inside (prepared.Answer answered reads) = Unit {0}

@@ -7,6 +7,7 @@ mod orders;
 mod preparing;
 mod replying;
 mod state;
+mod theorems;
 mod transacting;
 mod within;
 
@@ -15,4 +16,5 @@ pub use orders::{begin, refused_here};
 pub use preparing::{Prepared, perform, resolved_at};
 pub use replying::{refusal, reply_of};
 pub use state::{Open, State};
+pub use theorems::{actions_keep_their_bounds, texts_have_one_bound};
 pub use transacting::transact;

@@ -7,7 +7,6 @@ ghost use Rattle.ct_word.specs.Change.{PlainChange};
 ghost use Rattle.ct_word.specs.WellFormed.{is_place_of};
 ghost use Rattle.ct_condition.specs.Writes.{charge};
 ghost use Rattle.ct_history.specs.Kept.{kept_of};
-ghost use Rattle.ct_query.specs.Bounds.{applying_words};
 ghost use Rattle.ct_query.specs.Fits.{FitsAction, FitsStatement};
 ghost use Rattle.ct_query.specs.Patterns.{count};
 ghost use Rattle.ct_query.specs.Plain as plain;
@@ -16,12 +15,13 @@ ghost use Rattle.ct_query.specs.Schema.{schema};
 ghost use Rattle.ct_query.specs.Views.{action_of, query_of, statement_of};
 ghost use Rattle.ct_query.specs.declared.action.Read.{Read as ReadValue};
 ghost use Rattle.ct_resolve.specs.Writing.{WritesAction, WritesStatement};
-ghost use Rattle.ct_statement.specs.Making.{is_full, says_full};
+ghost use Rattle.ct_statement.specs.Making.{is_full, says_full, widths_in};
 ghost use Rattle.ct_statement.specs.Proposals.{IsProposal, listed};
 ghost use Rattle.ct_statement.specs.Sight.{IsSight, actions_before, history_of};
+ghost use Rattle.ct_statement.specs.Sources.{is_assertion};
 ghost use Rattle.ct_statement.specs.Unmet.{IsUnmet};
-ghost use Rattle.ct_transaction.specs.Bounded.{Performs};
-ghost use Rattle.ct_transaction.specs.Prepared.{IsNoOrder, IsNoPlainOrder, IsPreparedFor, IsRefused, IsResolved, IsStepIf, is_assertion, name_refusal, needs_step};
+ghost use Rattle.ct_transaction.specs.Bounded.{Performs, step_words};
+ghost use Rattle.ct_transaction.specs.Prepared.{IsNoOrder, IsNoPlainOrder, IsPreparedFor, IsRefused, IsResolved, IsStepIf, name_refusal, needs_step};
 ghost use Rattle.ct_transaction.specs.Statements.{IsWritten};
 ghost use Rattle.ct_transaction.specs.declared.preparing.Prepared.TheVariants as prepared;
 
@@ -71,6 +71,8 @@ fn is_assertion(action: &Action) -> bool
 {
     match action {
         Action::Assert { .. } => true,
+        Action::AssertQuery { .. } => true,
+        Action::AssertKey { .. } => true,
         _ => false,
     }
 }
@@ -91,7 +93,7 @@ fn step_where_needed<N: Site>(
     requires proposal { (list : List PlainChange) × IsProposal pass.old.words (history_of pass.old.words sight.now) (actions_before sight.now) list (action_of proposal.now.action) proposal.now.changes }
     ensures longer { IsPrefix pass.old.words pass.new.words }
     ensures kept { kept_of pass.new ≡ kept_of pass.old }
-    ensures made { pass.new.made + charge (is_full result) ≤ pass.old.made + applying_words (count (history_of pass.old.words sight.now) (actions_before sight.now)) (action_of proposal.now.action) }
+    ensures made { pass.new.made + charge (is_full result) ≤ pass.old.made + step_words inside (count (history_of pass.old.words sight.now) (actions_before sight.now)) (action_of proposal.now.action) }
     ensures step { IfOk result (IsStepIf pass.new.words sight.now (action_of proposal.now.action)) }
     ensures needs { (reads : List ReadValue) → IfOk result (λ step. needs_step inside (prepared.Change proposal.now step reads)) }
     ensures err { IfErr result (IsUnmet (history_of pass.old.words sight.now) (actions_before sight.now) N.log.cap pass.new.words (plain.Act (action_of proposal.now.action))) }
@@ -129,7 +131,7 @@ fn change<N: Site>(
     requires reads { reads ≡ reads_of (plain.Act (action_of action)) }
     ensures longer { IsPrefix pass.old.words pass.new.words }
     ensures kept { kept_of pass.new ≡ kept_of pass.old }
-    ensures made { Performs (count (history_of pass.old.words sight.now) (actions_before sight.now)) (plain.Act (action_of action)) pass.old.made (pass.new.made + charge (is_full result)) }
+    ensures made { Performs inside (count (history_of pass.old.words sight.now) (actions_before sight.now)) (widths_in (schema (history_of pass.old.words sight.now) (actions_before sight.now)).tables) (plain.Act (action_of action)) pass.old.made (pass.new.made + charge (is_full result)) }
     ensures ok { IfOk result (IsPreparedFor pass.new.words (history_of pass.old.words sight.now) (actions_before sight.now) (listed pass.old.words list) fresh sight.now (plain.Act (action_of action))) }
     ensures steps { IfOk result (needs_step inside) }
     ensures err { IfErr result (IsUnmet (history_of pass.old.words sight.now) (actions_before sight.now) N.log.cap pass.new.words (plain.Act (action_of action))) }
@@ -184,7 +186,7 @@ pub fn perform<N: Site, R: Threads + Sync>(
     requires reads { reads ≡ reads_of (statement_of resolved) }
     ensures longer { IsPrefix pass.old.words pass.new.words }
     ensures kept { kept_of pass.new ≡ kept_of pass.old }
-    ensures made { Performs (count (history_of pass.old.words sight.now) (actions_before sight.now)) (statement_of resolved) pass.old.made (pass.new.made + charge (is_full result)) }
+    ensures made { Performs inside (count (history_of pass.old.words sight.now) (actions_before sight.now)) (widths_in (schema (history_of pass.old.words sight.now) (actions_before sight.now)).tables) (statement_of resolved) pass.old.made (pass.new.made + charge (is_full result)) }
     ensures ok { IfOk result (IsPreparedFor pass.new.words (history_of pass.old.words sight.now) (actions_before sight.now) (listed pass.old.words list) fresh sight.now (statement_of resolved)) }
     ensures steps { IfOk result (needs_step inside) }
     ensures err { IfErr result (IsUnmet (history_of pass.old.words sight.now) (actions_before sight.now) N.log.cap pass.new.words (statement_of resolved)) }

@@ -3,7 +3,7 @@
 ghost use Rattle.std.specs.Prelude.{◌≡◌, ℕ, List, max};
 ghost use Rattle.ct_parse.specs.declared.tree.Statement.{Statement};
 ghost use Rattle.ct_statement.specs.Making.{says_full};
-ghost use Rattle.ct_transaction.specs.Answers.{is_full};
+ghost use Rattle.ct_transaction.specs.Answers.{is_full, is_of_name, is_unasked};
 ghost use Rattle.ct_transaction.specs.Executes.{Executes};
 ghost use Rattle.ct_transaction.specs.Replying.{reply_of, standing};
 ghost use Rattle.ct_transaction.specs.Sessions.{IsSession, state_of};
@@ -58,6 +58,7 @@ pub fn refusal<N: Site>(
 ) -> (State<N>, Reply)
     ensures pass { result.0.pass ≡ pass }
     ensures full { is_full result.1 ≡ says_full why }
+    ensures unasked { is_unasked result.1 ≡ is_of_name why }
     ensures session { IsSession pass.words (max seen (standing seen version why)) transaction → IsSession result.0.pass.words result.0.seen result.0.transaction }
     ensures executes { (room : ℕ) (s : SessionState) (words : List ℕ) (st : Statement) → Executes room s (carried (standing seen version why) (state_of pass seen fresh transaction)) words pass.words st (reply.Refused (standing seen version why) why) → Executes room s (state_of result.0.pass result.0.seen result.0.fresh result.0.transaction) words result.0.pass.words st result.1 }
 {

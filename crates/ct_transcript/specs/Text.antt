@@ -1,6 +1,8 @@
 -- The text of replies and of a history, line by line.
 use Rattle.std.specs.Prelude.{ℕ, ◌+◌, not, List, [], ◌∷◌, ◌++◌, map, filter, flat_map, nat_eq, slice_get, if◌then◌else◌, codes, decimal}
 use Rattle.std.specs.List.{join_by}
+use Rattle.ct_word.specs.declared.values.Term.{Term}
+use Rattle.ct_word.specs.declared.values.Term.TheVariants as term
 use Rattle.ct_rewrite.specs.declared.answer.Node.{Node}
 use Rattle.ct_rewrite.specs.declared.answer.AnswerRow.{AnswerRow}
 use Rattle.ct_rewrite.specs.declared.answer.PossibleRow.{PossibleRow}
@@ -16,7 +18,7 @@ use Rattle.ct_transcript.specs.declared.reply.Reply.TheVariants as reply
 use Rattle.ct_transcript.specs.declared.reply.Refusal.{Refusal}
 use Rattle.ct_transcript.specs.declared.reply.Refusal.TheVariants as refusal
 use Rattle.ct_transcript.specs.declared.reply.SessionLog.{SessionLog}
-use Rattle.ct_print.specs.TermText.{in_parentheses, with_commas, cells_text, tuple_text, world_text}
+use Rattle.ct_print.specs.TermText.{in_parentheses, with_commas, term_text, cells_text, tuple_text, world_text}
 use Rattle.ct_transcript.specs.NodeText.{Printed, line, printed, as_root, name_lines, unless_true, is_true_node, is_false_node}
 
 -- a row's cells and its condition
@@ -121,6 +123,7 @@ abbrev pub references_of : Change → List ℕ
 references_of (change.Create name columns) = []
 references_of (change.Insert name rs) = map (λ r. r.cond) rs
 references_of (change.Delete name c) = c ∷ []
+references_of (change.Update name sets c) = c ∷ []
 references_of (change.Assert c) = c ∷ []
 
 -- the rows of an insertion
@@ -128,11 +131,17 @@ abbrev pub rows_text : List Node → List Printed → List AnswerRow → List �
 rows_text nodes ps [] = codes "nothing"
 rows_text nodes ps (r ∷ rs) = join_by (row_text nodes ps) (codes "; ") (r ∷ rs)
 
+-- a column that is set, and the term that it gets
+abbrev pub set_text : ℕ × Term → List ℕ
+set_text set = term_text (term.Column set.0) ++ codes " = " ++ term_text set.1
+
 -- a change as it is printed
 abbrev pub change_text : List Node → List Printed → Change → List ℕ
 change_text nodes ps (change.Create name columns) = codes "create table " ++ name ++ codes " " ++ in_parentheses (with_commas (λ c. c) columns)
 change_text nodes ps (change.Insert name rs) = codes "insert into " ++ name ++ codes " " ++ rows_text nodes ps rs
 change_text nodes ps (change.Delete name c) = codes "delete from " ++ name ++ codes " where " ++ as_root (slice_get ps c)
+change_text nodes ps (change.Update name sets c) =
+    codes "update " ++ name ++ codes " set " ++ with_commas set_text sets ++ codes " where " ++ as_root (slice_get ps c)
 change_text nodes ps (change.Assert c) = codes "assert " ++ as_root (slice_get ps c)
 
 -- the lines of a commit's changes

@@ -2,15 +2,16 @@
 
 ghost use Rattle.std.specs.Prelude.{◌≡◌, ◌+◌, ◌^◌, ◌≤◌, List, [], ◌∷◌, ◌++◌, map, flat_map, length, codes, IfOk};
 ghost use Rattle.ct_transcript.specs.NodeText.{line, with_names};
-ghost use Rattle.ct_transcript.specs.Text.{references_of, change_text, change_lines, printed_commit, commit_lines, commits_from};
+ghost use Rattle.ct_transcript.specs.Text.{references_of, set_text, change_text, change_lines, printed_commit, commit_lines, commits_from};
+ghost use Rattle.ct_print.specs.TermText.{with_commas};
 ghost use Rattle.ct_print.specs.Written.{Appends, Adds};
 
 use crate::nodes::names;
 use crate::rows::{push_conditions, push_line, push_name_lines, push_rows};
-use crate::writing::push_root;
-use ct_print::{push_names, push_text};
+use crate::writing::{push_leaf, push_root};
+use ct_print::{push_names, push_separator, push_text};
 use ct_rewrite::{Change, Commit, Node};
-use ct_word::{Memory, Text};
+use ct_word::{Memory, Term, Text};
 use std::alloc::Global;
 
 fn push_references(references: &mut Vec<u32>, change: &Change) -> Result<(), Memory>
@@ -19,7 +20,9 @@ fn push_references(references: &mut Vec<u32>, change: &Change) -> Result<(), Mem
     match change {
         Change::Create { .. } => Ok(()),
         Change::Insert { rows, .. } => push_conditions(references, rows.as_slice()),
-        Change::Delete { cond, .. } | Change::Assert { cond } => Ok(references.push(*cond)?),
+        Change::Delete { cond, .. } | Change::Update { cond, .. } | Change::Assert { cond } => {
+            Ok(references.push(*cond)?)
+        }
     }
 }
 
@@ -42,6 +45,23 @@ fn push_about(out: &mut String, verb: &str, name: &Text, after: &str) -> Result<
     push_text(out, after)
 }
 
+fn push_set(out: &mut String, set: &(u32, Term)) -> Result<(), Memory>
+    ensures { Appends result out.old out.new (set_text set.now) }
+{
+    push_leaf(out, &Term::Column(set.0), " = ", &set.1)
+}
+
+// Appends the columns that an update sets, with commas between.
+fn push_sets(out: &mut String, sets: &[(u32, Term)]) -> Result<(), Memory>
+    ensures { Appends result out.old out.new (with_commas set_text sets.now) }
+{
+    for (i, set) in sets.iter().enumerate() {
+        push_separator(out, i, ", ")?;
+        push_set(out, set)?;
+    }
+    Ok(())
+}
+
 fn push_change(
     alloc: Global,
     out: &mut String,
@@ -62,6 +82,12 @@ fn push_change(
         }
         Change::Delete { name, cond } => {
             push_about(out, "delete from ", name, " where ")?;
+            push_root(alloc, out, nodes, names, *cond)
+        }
+        Change::Update { name, sets, cond } => {
+            push_about(out, "update ", name, " set ")?;
+            push_sets(out, sets.as_slice())?;
+            out.push_str(" where ")?;
             push_root(alloc, out, nodes, names, *cond)
         }
         Change::Assert { cond } => {

@@ -31,12 +31,12 @@ pub enum Refusal {
     UnknownColumn,
     /// Two or more tables in scope have a column that is named without its table.
     AmbiguousColumn,
-    /// Two columns of a new table, or two tables of a FROM, have one name.
+    /// Two columns of a new table, or two tables of a FROM, have one name, or a column is set twice, or stands twice in a key.
     DuplicateName,
     /// Numbers of columns differ.
     ColumnCount,
-    /// By the counts of all rows that were ever inserted, the greatest part of the query goes through more than
-    /// 16,777,216 rows or pairs of rows.
+    /// By the counts of all rows that were ever made, the greatest part of the query, or a key, goes through
+    /// more than 16,777,216 rows or pairs of rows.
     TooLarge,
     /// The log has as many words as its capacity, and the statement may need a word.
     Full,

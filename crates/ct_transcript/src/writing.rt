@@ -33,7 +33,13 @@ fn push_name(out: &mut String, name: usize) -> Result<(), Memory>
     Ok(())
 }
 
-fn push_leaf(out: &mut String, left: &Term, sign: &str, right: &Term) -> Result<(), Memory>
+/// Appends two terms with a sign between.
+pub(crate) fn push_leaf(
+    out: &mut String,
+    left: &Term,
+    sign: &str,
+    right: &Term,
+) -> Result<(), Memory>
     ensures { Appends result out.old out.new (term_text left.now ++ sign.now ++ term_text right.now) }
 {
     push_term(out, left)?;

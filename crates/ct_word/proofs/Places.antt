@@ -43,6 +43,9 @@ same_class_is class.NameList class.NameList e = refl
 same_class_is class.Change class.Change e = refl
 same_class_is class.ChangeList class.ChangeList e = refl
 same_class_is class.Commit class.Commit e = refl
+same_class_is class.Set class.Set e = refl
+same_class_is class.SetList class.SetList e = refl
+same_class_is class.UpdateBody class.UpdateBody e = refl
 same_class_is _ _ e = cc
 
 has_class_is : (k : Option Kind) (c : Class) (ms : List Meaning) (a b : ℕ) → IsTrue (has_class k c) → class_of_meaning (by_kind k ms a b) ≡ Some c

@@ -1,6 +1,6 @@
 -- Closed tests: what the definitions say of small logs.
-use Rattle.std.{proofs.Common.{◌≡◌, ℕ, List, [], ◌∷◌, refl}, specs.Prelude.{negsuc, codes, true, false}}
-use Rattle.ct_word.{specs.Word.kind_with, specs.Condition.True, specs.Change.{Create, Insert}, specs.Reading.{meaning_of, commits_of, int_of_bits}}
+use Rattle.std.{proofs.Common.{◌≡◌, ℕ, List, [], ◌∷◌, ◌++◌, refl}, specs.Prelude.{pos, negsuc, codes, true, false}}
+use Rattle.ct_word.{specs.Word.kind_with, specs.Condition.{True, Same}, specs.Change.{Create, Insert, Update}, specs.Reading.{meaning_of, commits_of, int_of_bits}}
 use Rattle.ct_word.{specs.Writable.is_writable, specs.WellFormed.{is_word_after, each_follows, IsWellFormed}}
 use lib.Utf8.{encode}
 use Rattle.ct_word.specs.declared.values.Value.TheVariants as val
@@ -19,6 +19,29 @@ well_formed = refl
 one_commit : commits_of first_log ≡ record { session = 1; number = 0; changes = Create (codes "t") (codes "a" ∷ []) ∷ [] } ∷ []
 unfolding first_log meaning_of kind_with encode
 one_commit = refl
+
+-- the log after a second commit, of `update t set a = 7 where a = 5`: number high, 7, set, sets end, sets, column, 5, equal,
+-- update body, update, changes, commit
+update_log : List ℕ
+update_log = first_log ++ 216172782113783808 ∷ 288230379104501767 ∷ 2161727821137838092 ∷ 2233785415175766016 ∷ 2305843012971790349 ∷ 648518346341351424 ∷ 288230379104501765 ∷ 864691132750102545 ∷ 2377900607278153746 ∷ 2449958198094856211 ∷ 2017612635209465876 ∷ 2089740596112523285 ∷ []
+
+update_well_formed : IsWellFormed update_log
+unfolding first_log update_log is_word_after kind_with
+update_well_formed = refl
+
+-- it holds two commits, the second of which puts 7 for 5
+two_commits :
+    commits_of update_log
+    ≡ record { session = 1; number = 0; changes = Create (codes "t") (codes "a" ∷ []) ∷ [] }
+    ∷ record { session = 1; number = 1; changes = Update (codes "t") ((0, term.Value (val.Int (pos 7))) ∷ []) (Same (term.Column 0) (term.Value (val.Int (pos 5)))) ∷ [] }
+    ∷ []
+unfolding first_log update_log meaning_of kind_with encode
+two_commits = refl
+
+-- a set names an earlier term
+no_term : each_follows [] (2161727821137838080 ∷ []) ≡ false
+unfolding is_word_after kind_with
+no_term = refl
 
 -- a word that stands already may not stand again
 no_repeat : each_follows [] (720575940379279360 ∷ 720575940379279360 ∷ []) ≡ false
@@ -41,3 +64,10 @@ keyword_no_name = refl
 
 other_not_written : is_writable (Insert (codes "t") (record { cells = term.Value (val.Other 0) ∷ []; condition = True } ∷ [])) ≡ false
 other_not_written = refl
+
+-- an update that puts a number can be written, one that puts another value can't
+update_writable : is_writable (Update (codes "t") ((0, term.Value (val.Int (pos 7))) ∷ []) True) ≡ true
+update_writable = refl
+
+other_not_put : is_writable (Update (codes "t") ((0, term.Value (val.Other 0)) ∷ []) True) ≡ false
+other_not_put = refl

@@ -13,6 +13,7 @@ pub data PlainChange : Type 0 where
   Create : (name : List ℕ) (columns : List (List ℕ)) → PlainChange
   Insert : (name : List ℕ) (rows : List PlainRow) → PlainChange
   Delete : (name : List ℕ) (condition : Condition) → PlainChange
+  Update : (name : List ℕ) (sets : List (ℕ × Term)) (condition : Condition) → PlainChange
   Assert : (condition : Condition) → PlainChange
 
 -- the changes of one commit, its session, and its number among the session's commits

@@ -9,7 +9,7 @@ use Rattle.ct_word.specs.declared.values.Term.{Term}
 use Rattle.ct_word.specs.declared.values.Term.TheVariants as term
 use Rattle.ct_word.specs.Value.{other_zero}
 use Rattle.ct_word.specs.Condition.{Condition, True, False, Same, Not, both, either}
-use Rattle.ct_word.specs.Change.{PlainRow, PlainChange, Create, Insert, Delete, Assert, PlainCommit}
+use Rattle.ct_word.specs.Change.{PlainRow, PlainChange, Create, Insert, Delete, Update, Assert, PlainCommit}
 use Rattle.ct_word.specs.Word.{kind_of, left_of, right_of}
 
 -- what a place stands for
@@ -26,6 +26,9 @@ pub data Meaning : Type 0 where
   IsChange : (change : PlainChange) → Meaning
   IsChangeList : (changes : List PlainChange) → Meaning
   IsCommit : (commit : PlainCommit) → Meaning
+  IsSet : (position : ℕ) (t : Term) → Meaning
+  IsSetList : (sets : List (ℕ × Term)) → Meaning
+  IsUpdateBody : (sets : List (ℕ × Term)) (c : Condition) → Meaning
 
 -- the text, nothing where it is none
 abbrev pub as_text : Option Meaning → List ℕ
@@ -77,6 +80,21 @@ abbrev pub as_change_list : Option Meaning → List PlainChange
 as_change_list (Some (IsChangeList xs)) = xs
 as_change_list _ = []
 
+-- the set, of @0 at position 0 where it is none
+abbrev pub as_set : Option Meaning → ℕ × Term
+as_set (Some (IsSet k t)) = (k, t)
+as_set _ = (0, term.Value other_zero)
+
+-- the sets, none where it is no list of sets
+abbrev pub as_set_list : Option Meaning → List (ℕ × Term)
+as_set_list (Some (IsSetList sets)) = sets
+as_set_list _ = []
+
+-- the sets of an update and its condition, none under False where it is none
+abbrev pub as_update_body : Option Meaning → List (ℕ × Term) × Condition
+as_update_body (Some (IsUpdateBody sets c)) = (sets, c)
+as_update_body _ = ([], False)
+
 -- the commit, if it is one
 abbrev pub as_commit : Meaning → Option PlainCommit
 as_commit (IsCommit c) = Some c
@@ -117,6 +135,11 @@ by_kind (Some kind.Assert) ms a b = IsChange (Assert (as_cond (slice_get ms a)))
 by_kind (Some kind.ChangesEnd) ms a b = IsChangeList []
 by_kind (Some kind.Changes) ms a b = IsChangeList (as_change_list (slice_get ms a) ++ as_change (slice_get ms b) ∷ [])
 by_kind (Some kind.Commit) ms a b = IsCommit (record { session = a / 262144; number = a % 262144; changes = as_change_list (slice_get ms b) })
+by_kind (Some kind.Set) ms a b = IsSet a (as_term (slice_get ms b))
+by_kind (Some kind.SetsEnd) ms a b = IsSetList []
+by_kind (Some kind.Sets) ms a b = IsSetList (as_set_list (slice_get ms a) ++ as_set (slice_get ms b) ∷ [])
+by_kind (Some kind.UpdateBody) ms a b = IsUpdateBody (as_set_list (slice_get ms a)) (as_cond (slice_get ms b))
+by_kind (Some kind.Update) ms a b = IsChange (Update (as_text (slice_get ms a)) (as_update_body (slice_get ms b)).0 (as_update_body (slice_get ms b)).1)
 by_kind None ms a b = Nothing
 
 -- what a word stands for, after words that stand for ms

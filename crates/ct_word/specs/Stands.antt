@@ -8,7 +8,7 @@ use Rattle.ct_word.specs.declared.values.Term.{Term}
 use Rattle.ct_word.specs.declared.values.Term.TheVariants as term
 use Rattle.ct_word.specs.Word.{kind_of, left_of, right_of}
 use Rattle.ct_word.specs.WellFormed.{Field, PlaceOf, fields_of}
-use Rattle.ct_word.specs.Reading.{Meaning, Nothing, IsText, IsHigh, IsTerm, IsCond, IsRow, IsCondRow, IsRowList, IsNameList, IsChange, IsChangeList, IsCommit, meanings}
+use Rattle.ct_word.specs.Reading.{Meaning, Nothing, IsText, IsHigh, IsTerm, IsCond, IsRow, IsCondRow, IsRowList, IsNameList, IsChange, IsChangeList, IsCommit, IsSet, IsSetList, IsUpdateBody, meanings}
 
 -- a place stands for this: it lies within the words, and its word is of the class of this
 abbrev pub StandsAt : List ℕ → ℕ → Meaning → Type 0
@@ -28,6 +28,9 @@ class_of_meaning (IsNameList names) = Some class.NameList
 class_of_meaning (IsChange change) = Some class.Change
 class_of_meaning (IsChangeList changes) = Some class.ChangeList
 class_of_meaning (IsCommit commit) = Some class.Commit
+class_of_meaning (IsSet k t) = Some class.Set
+class_of_meaning (IsSetList sets) = Some class.SetList
+class_of_meaning (IsUpdateBody sets c) = Some class.UpdateBody
 
 -- the place that a field names, if it names one
 abbrev pub place_in : Field → ℕ → List ℕ

@@ -1,7 +1,7 @@
 -- When a printed history stands for the commits of a log.
 use Rattle.std.specs.Prelude.{◌≡◌, ℕ, List, [], ◌∷◌, ⊤}
 use Rattle.ct_word.specs.Condition.{SameTruth}
-use Rattle.ct_word.specs.Change.{PlainRow, PlainChange, Create, Insert, Delete, Assert, PlainCommit}
+use Rattle.ct_word.specs.Change.{PlainRow, PlainChange, Create, Insert, Delete, Update, Assert, PlainCommit}
 use Rattle.ct_word.specs.Reading.{commits_of}
 
 -- the same cells, the conditions of one truth
@@ -15,6 +15,7 @@ abbrev pub SameChange : PlainChange → PlainChange → Type 0
 SameChange (Create n cs) (Create n' cs') = (n ≡ n') × (cs ≡ cs')
 SameChange (Insert n rs) (Insert n' rs') = (n ≡ n') × SameRows rs rs'
 SameChange (Delete n c) (Delete n' c') = (n ≡ n') × SameTruth c c'
+SameChange (Update n ss c) (Update n' ss' c') = (n ≡ n') × (ss ≡ ss') × SameTruth c c'
 SameChange (Assert c) (Assert c') = SameTruth c c'
 SameChange _ _ = ⊥
 

@@ -38,6 +38,11 @@ class_of kind.Assert = class.Change
 class_of kind.ChangesEnd = class.ChangeList
 class_of kind.Changes = class.ChangeList
 class_of kind.Commit = class.Commit
+class_of kind.Set = class.Set
+class_of kind.SetsEnd = class.SetList
+class_of kind.Sets = class.SetList
+class_of kind.UpdateBody = class.UpdateBody
+class_of kind.Update = class.Change
 
 -- what the table asks of a field
 pub data Field : Type 0 where
@@ -80,6 +85,11 @@ fields_of kind.Assert = (PlaceOf class.Cond, Zero)
 fields_of kind.ChangesEnd = (Zero, Zero)
 fields_of kind.Changes = (PlaceOf class.ChangeList, PlaceOf class.Change)
 fields_of kind.Commit = (Any, PlaceOf class.ChangeList)
+fields_of kind.Set = (Any, PlaceOf class.Term)
+fields_of kind.SetsEnd = (Zero, Zero)
+fields_of kind.Sets = (PlaceOf class.SetList, PlaceOf class.Set)
+fields_of kind.UpdateBody = (PlaceOf class.SetList, PlaceOf class.Cond)
+fields_of kind.Update = (PlaceOf class.Text, PlaceOf class.UpdateBody)
 
 -- the kinds whose right field is a greater place than the left one
 abbrev pub is_ordered : Kind → Bool
@@ -101,6 +111,9 @@ same_class class.NameList class.NameList = true
 same_class class.Change class.Change = true
 same_class class.ChangeList class.ChangeList = true
 same_class class.Commit class.Commit = true
+same_class class.Set class.Set = true
+same_class class.SetList class.SetList = true
+same_class class.UpdateBody class.UpdateBody = true
 same_class _ _ = false
 
 -- whether a word of this kind is of a class

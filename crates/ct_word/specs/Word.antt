@@ -34,6 +34,11 @@ code_of kind.Assert = 26
 code_of kind.ChangesEnd = 27
 code_of kind.Changes = 28
 code_of kind.Commit = 29
+code_of kind.Set = 30
+code_of kind.SetsEnd = 31
+code_of kind.Sets = 32
+code_of kind.UpdateBody = 33
+code_of kind.Update = 34
 
 -- the word of a kind with two fields
 abbrev pub word_of : Kind → ℕ → ℕ → ℕ
@@ -41,7 +46,7 @@ word_of k a b = code_of k * 72057594037927936 + a * 268435456 + b
 
 -- all kinds, in the order of their codes
 abbrev pub all_kinds : List Kind
-all_kinds = kind.TextEnd ∷ kind.TextCharacter ∷ kind.NumberHigh ∷ kind.Number ∷ kind.TextConstant ∷ kind.NamedNull ∷ kind.FreshNull ∷ kind.OtherValue ∷ kind.Column ∷ kind.True ∷ kind.False ∷ kind.Equal ∷ kind.Not ∷ kind.And ∷ kind.Or ∷ kind.RowEnd ∷ kind.RowCell ∷ kind.ConditionalRow ∷ kind.RowsEnd ∷ kind.Rows ∷ kind.NamesEnd ∷ kind.Names ∷ kind.Create ∷ kind.Insert ∷ kind.Delete ∷ kind.Assert ∷ kind.ChangesEnd ∷ kind.Changes ∷ kind.Commit ∷ []
+all_kinds = kind.TextEnd ∷ kind.TextCharacter ∷ kind.NumberHigh ∷ kind.Number ∷ kind.TextConstant ∷ kind.NamedNull ∷ kind.FreshNull ∷ kind.OtherValue ∷ kind.Column ∷ kind.True ∷ kind.False ∷ kind.Equal ∷ kind.Not ∷ kind.And ∷ kind.Or ∷ kind.RowEnd ∷ kind.RowCell ∷ kind.ConditionalRow ∷ kind.RowsEnd ∷ kind.Rows ∷ kind.NamesEnd ∷ kind.Names ∷ kind.Create ∷ kind.Insert ∷ kind.Delete ∷ kind.Assert ∷ kind.ChangesEnd ∷ kind.Changes ∷ kind.Commit ∷ kind.Set ∷ kind.SetsEnd ∷ kind.Sets ∷ kind.UpdateBody ∷ kind.Update ∷ []
 
 -- the kind with this code
 unfoldable pub kind_with : ℕ → Option Kind

@@ -6,7 +6,7 @@ use Rattle.ct_word.specs.declared.values.Null.TheVariants as null
 use Rattle.ct_word.specs.declared.values.Term.{Term}
 use Rattle.ct_word.specs.declared.values.Term.TheVariants as term
 use Rattle.ct_word.specs.Condition.{Condition, Conditions, True, False, Same, Not, And, Or, none, also}
-use Rattle.ct_word.specs.Change.{PlainRow, PlainChange, Create, Insert, Delete, Assert}
+use Rattle.ct_word.specs.Change.{PlainRow, PlainChange, Create, Insert, Delete, Update, Assert}
 pub use Rattle.ct_word.specs.Names.{is_letter, is_digit, is_word, keywords, is_name}
 
 -- whether a term can be written: no other value, and a named null that is spelled as a word
@@ -41,4 +41,5 @@ abbrev pub is_writable : PlainChange → Bool
 is_writable (Create name columns) = is_name name && list_all is_name columns
 is_writable (Insert name rows) = is_name name && list_all is_writable_row rows
 is_writable (Delete name c) = is_name name && is_writable_condition c
+is_writable (Update name sets c) = is_name name && list_all (λ s. is_writable_term s.1) sets && is_writable_condition c
 is_writable (Assert c) = is_writable_condition c

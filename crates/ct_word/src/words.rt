@@ -7,7 +7,7 @@ ghost use Rattle.ct_word.specs.WellFormed.{class_of};
 use crate::kinds::{Class, Kind};
 
 /// All kinds, in the order of their codes, which begin at 1.
-const KINDS: [Kind; 29] = [
+const KINDS: [Kind; 34] = [
     Kind::TextEnd,
     Kind::TextCharacter,
     Kind::NumberHigh,
@@ -37,9 +37,14 @@ const KINDS: [Kind; 29] = [
     Kind::ChangesEnd,
     Kind::Changes,
     Kind::Commit,
+    Kind::Set,
+    Kind::SetsEnd,
+    Kind::Sets,
+    Kind::UpdateBody,
+    Kind::Update,
 ];
 
-/// The number of a kind, from 1 to 29.
+/// The number of a kind, from 1 to 34.
 fn code(kind: Kind) -> u64
     ensures { result ≡ code_of kind }
 {
@@ -110,8 +115,11 @@ pub fn class(kind: Kind) -> Class
         Kind::ConditionalRow => Class::CondRow,
         Kind::RowsEnd | Kind::Rows => Class::RowList,
         Kind::NamesEnd | Kind::Names => Class::NameList,
-        Kind::Create | Kind::Insert | Kind::Delete | Kind::Assert => Class::Change,
+        Kind::Create | Kind::Insert | Kind::Delete | Kind::Assert | Kind::Update => Class::Change,
         Kind::ChangesEnd | Kind::Changes => Class::ChangeList,
         Kind::Commit => Class::Commit,
+        Kind::Set => Class::Set,
+        Kind::SetsEnd | Kind::Sets => Class::SetList,
+        Kind::UpdateBody => Class::UpdateBody,
     }
 }

@@ -25,7 +25,7 @@ pub struct Answer {
 /// What a worker has found.
 #[derive(Drop)]
 pub struct Worker {
-    /// The last worlds that it found, the newest last.
+    /// The first worlds that it found.
     pub worlds: Vec<Known>,
     /// The condition near which it asked last.
     pub held: Option<Held>,
@@ -33,8 +33,8 @@ pub struct Worker {
     pub places: IndexMap<u32, usize>,
 }
 
-/// The most worlds that a worker knows. Each has a byte for every word.
-const MOST_WORLDS: usize = 16;
+/// The most worlds that a worker knows. Each has a byte for every word, for which all words are gone over.
+const MOST_WORLDS: usize = 2;
 
 /// A worker that has found nothing.
 pub fn beginner(alloc: Global) -> Worker
@@ -106,7 +106,7 @@ fn known(
     repeated(alloc, words, &worker.places, row, root)
 }
 
-/// The decision of a question, near the last world where there is one.
+/// The decision of a question, near the newest known world where there is one.
 fn searched(
     alloc: Global,
     words: &[u64],
@@ -134,7 +134,7 @@ fn searched(
     decision
 }
 
-/// Puts the world of a decision among the known ones, in the place of the oldest where there are as many as are kept.
+/// Puts the world of a decision among the known ones, while there is room.
 fn learn(
     alloc: Global,
     words: &[u64],
@@ -149,8 +149,8 @@ fn learn(
     let Decision::World(found) = decision else {
         return Ok(());
     };
-    if worlds.len() == MOST_WORLDS {
-        drop(worlds.remove(0));
+    if worlds.len() >= MOST_WORLDS {
+        return Ok(());
     }
     let world = copied_world(found)?;
     let worths = worths(alloc, words, &world)?;

@@ -117,9 +117,9 @@ fn decisions_of(
 /// A decision for each root, in their order: a world at which it holds, or a derivation that it holds at none. They are made
 /// by at most so many workers, from 1 to 16, and by at most as many as there are roots, each on a thread of its own where one
 /// can be made. The gate is called round each question, on the worker's thread. Where no thread can be made, one worker is done
-/// before the next one begins, so a gate that waits for another question may wait for ever. A worker knows its last
-/// 16 worlds, and answers by one of them where it can, so which right decision a root gets depends on how many workers there
-/// are. Each root is the place of a condition below which no column stands.
+/// before the next one begins, so a gate that waits for another question may wait for ever. A worker knows the first
+/// two worlds that it found, and answers by one of them where it can, so which right decision a root gets depends on how many
+/// workers there are. Each root is the place of a condition below which no column stands.
 ///
 /// # Errors
 /// `Memory` where there is none for a question, for what a worker keeps or for the list. A worker asks no further question

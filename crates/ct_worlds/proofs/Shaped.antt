@@ -158,6 +158,9 @@ module _ (ws : List ℕ) where
   same_class_is class.Change class.Change e b = b
   same_class_is class.ChangeList class.ChangeList e b = b
   same_class_is class.Commit class.Commit e b = b
+  same_class_is class.Set class.Set e b = b
+  same_class_is class.SetList class.SetList e b = b
+  same_class_is class.UpdateBody class.UpdateBody e b = b
   same_class_is _ _ e b = absurd (false≢true e)
 
   not_both : (k : Kind) (c : Class) → is_bare c ≡ true → same_class (class_of k) c ≡ true → same_class (class_of k) class.Cond ≡ true → ⊥

@@ -5,6 +5,7 @@ ghost use Rattle.std.specs.Prelude.{◌≡◌, ◌≤◌};
 use crate::tests::deletion::shows_deletion;
 use crate::tests::listing::{shows_rows, shows_short_worlds, shows_tuples};
 use crate::tests::long_logs::counts_clauses;
+use crate::tests::updating::{shows_itself, shows_merging, shows_swap, shows_update};
 use ct_arena::{Arena, Blank, Pass, Site};
 use std::alloc::Global;
 use std::marker::Brand;
@@ -15,6 +16,10 @@ use std::test::Fail;
 #[derive(Drop)]
 enum Shown {
     Deletion,
+    Update,
+    Swap,
+    Merging,
+    Itself,
     Rows,
     Tuples,
     ShortWorlds,
@@ -30,6 +35,10 @@ fn shows_by<N: Site>(
 ) -> Result<bool, Fail> {
     match shown {
         Shown::Deletion => shows_deletion(alloc, arena, pass),
+        Shown::Update => shows_update(alloc, arena, pass),
+        Shown::Swap => shows_swap(alloc, arena, pass),
+        Shown::Merging => shows_merging(alloc, arena, pass),
+        Shown::Itself => shows_itself(alloc, arena, pass),
         Shown::Rows => shows_rows(alloc, arena, pass),
         Shown::Tuples => shows_tuples(alloc, arena, pass),
         Shown::ShortWorlds => shows_short_worlds(alloc, arena, pass),
@@ -57,11 +66,15 @@ fn in_a_log(rt: &impl Abort, alloc: Global, cap: u32, shown: Shown) -> Result<()
     Ok(())
 }
 
-/// Rows are deleted where a condition holds, a row is listed where some world shows it, in a world that has the nulls of
+/// Rows are deleted where a condition holds, and changed where one does; a row is listed where some world shows it, in a world that has the nulls of
 /// the row, and a tuple where each world has it.
 #[test]
 fn tables_are_asked(rt: HostRuntime) -> Result<(), Fail> {
     in_a_log(&rt, rt.alloc(), 64, Shown::Deletion)?;
+    in_a_log(&rt, rt.alloc(), 64, Shown::Update)?;
+    in_a_log(&rt, rt.alloc(), 64, Shown::Swap)?;
+    in_a_log(&rt, rt.alloc(), 64, Shown::Merging)?;
+    in_a_log(&rt, rt.alloc(), 64, Shown::Itself)?;
     in_a_log(&rt, rt.alloc(), 64, Shown::Rows)?;
     in_a_log(&rt, rt.alloc(), 64, Shown::ShortWorlds)?;
     in_a_log(&rt, rt.alloc(), 256, Shown::Tuples)

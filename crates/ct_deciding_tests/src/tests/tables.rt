@@ -1,6 +1,7 @@
 // Terms, conditions and tables of a log, for the tests of what is made of them.
 
-ghost use Rattle.std.specs.Prelude.{◌≡◌, true, [], length, All, IfOk, IsTrue};
+ghost use Rattle.std.specs.Prelude.{◌≡◌, true, [], length, All, IfOk, IsTrue, OnOk};
+ghost use mathlib.Core.List.{IsPrefix};
 ghost use Rattle.ct_word.specs.WellFormed.{IsWellFormed, is_place_of};
 ghost use Rattle.ct_word.specs.declared.kinds.Class.TheVariants as class;
 ghost use Rattle.ct_operators.specs.Tables.{IsRow, AreRows};
@@ -30,7 +31,9 @@ pub fn number<N: Site>(arena: &Arena<N>, pass: &mut Pass<N>, n: i64) -> Result<u
 }
 
 /// The place of the equality of two terms.
-pub fn equal<N: Site>(arena: &Arena<N>, pass: &mut Pass<N>, s: u32, t: u32) -> Result<u32, Fail> {
+pub fn equal<N: Site>(arena: &Arena<N>, pass: &mut Pass<N>, s: u32, t: u32) -> Result<u32, Fail>
+    ensures { OnOk result (IsPrefix pass.old.words pass.new.words) }
+{
     if !is_place(pass.words(), Class::Term, s) {
         return Err("no term on the left".into());
     }
@@ -38,17 +41,6 @@ pub fn equal<N: Site>(arena: &Arena<N>, pass: &mut Pass<N>, s: u32, t: u32) -> R
         return Err("no term on the right".into());
     }
     Ok(eq(arena, pass, s, t)?)
-}
-
-/// A table of one column, without rows.
-fn empty(alloc: Global) -> Result<CTable, Fail>
-    ensures columns { IfOk result (λ t. length t.columns ≡ 1) }
-    ensures rows { IfOk result (λ t. t.rows ≡ []) }
-{
-    Ok(CTable {
-        columns: List::from_vec(Vec::from_array(alloc, [Text::from_str(alloc, "a")?])?),
-        rows: List::new(alloc),
-    })
 }
 
 fn is_row(words: &[u64], width: usize, row: &CRow) -> bool
@@ -74,6 +66,26 @@ fn are_rows(words: &[u64], width: usize, rows: &[CRow]) -> bool
     true
 }
 
+/// A table of these columns and rows.
+pub fn table_of<N: Site>(
+    alloc: Global,
+    arena: &Arena<N>,
+    pass: &mut Pass<N>,
+    columns: List<Text>,
+    rows: &[CRow],
+) -> Result<CTable, Fail>
+    ensures { IfOk result (λ t. AreRows pass.new.words (length t.columns) t.rows) }
+{
+    if !are_rows(pass.words(), columns.len(), rows) {
+        return Err("no rows".into());
+    }
+    let none = CTable {
+        columns,
+        rows: List::new(alloc),
+    };
+    Ok(insert(alloc, arena, pass, &none, rows)?)
+}
+
 /// A table of one column with these cells, each under its condition.
 pub fn filled<N: Site>(
     alloc: Global,
@@ -91,9 +103,6 @@ pub fn filled<N: Site>(
             cond: pair.1,
         })?;
     }
-    let none = empty(alloc)?;
-    if !are_rows(pass.words(), 1, rows.as_slice()) {
-        return Err("no rows".into());
-    }
-    Ok(insert(alloc, arena, pass, &none, rows.as_slice())?)
+    let columns = List::from_vec(Vec::from_array(alloc, [Text::from_str(alloc, "a")?])?);
+    table_of(alloc, arena, pass, columns, rows.as_slice())
 }

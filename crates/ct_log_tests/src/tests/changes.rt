@@ -1,10 +1,11 @@
 // The change lists of a creation and of an insertion, and the words of each.
 
-ghost use Rattle.std.specs.Prelude.{IfOk, IsTrue};
+ghost use Rattle.std.specs.Prelude.{◌≡◌, IfOk, IsTrue};
 ghost use mathlib.Core.List.{IsPrefix};
 ghost use Rattle.ct_word.specs.declared.kinds.Class.TheVariants as class;
 ghost use Rattle.ct_word.specs.WellFormed.{is_place_of};
 ghost use Rattle.ct_query.specs.Fields.{FitsFields};
+ghost use Rattle.ct_history.specs.Kept.{kept_of};
 ghost use Rattle.ct_history.specs.Rows.{IsRowOf};
 
 use ct_arena::{Arena, Pass, Site};
@@ -68,6 +69,7 @@ pub fn placed<N: Site>(arena: &Arena<N>, pass: &mut Pass<N>, value: Term) -> Res
     requires { FitsFields value }
     ensures place { IfOk result (λ place. IsTrue (is_place_of pass.new.words class.Term place)) }
     ensures longer { IsPrefix pass.old.words pass.new.words }
+    ensures kept { kept_of pass.new ≡ kept_of pass.old }
 {
     let place = term(arena, pass, &value);
     // What a term is dropped by is read off its every variant, unless a call takes it.

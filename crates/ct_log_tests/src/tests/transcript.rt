@@ -107,11 +107,16 @@ fn sessions(alloc: Global) -> Result<List<SessionLog>, Memory> {
     Ok(list(alloc, [first, session(alloc, refusals(alloc)?)?])?)
 }
 
-/// An insertion of the empty text, one of no rows, a deletion and an assertion.
+/// An insertion of the empty text, one of no rows, a deletion, an update of all rows and an assertion.
 fn changes(alloc: Global) -> Result<List<Change>, Memory> {
     let first = Text::from_str(alloc, "t")?;
     let second = Text::from_str(alloc, "t")?;
     let third = Text::from_str(alloc, "t")?;
+    let fourth = Text::from_str(alloc, "t")?;
+    let sets = list(
+        alloc,
+        [(1, Term::Column(0)), (0, Term::Value(Value::Int(-5)))],
+    )?;
     let empty = Term::Value(Value::Text(Text::from_str(alloc, "")?));
     let rows = list(alloc, [row(alloc, empty, 0)?])?;
     let changes = [
@@ -123,6 +128,11 @@ fn changes(alloc: Global) -> Result<List<Change>, Memory> {
         Change::Delete {
             name: third,
             cond: 1,
+        },
+        Change::Update {
+            name: fourth,
+            sets,
+            cond: 2,
         },
         Change::Assert { cond: 2 },
     ];
@@ -170,6 +180,7 @@ const EACH_FORM: &str = "session 1\n\
       insert into t ('') if false\n  \
       insert into t nothing\n  \
       delete from t where $1 = ?x\n  \
+      update t set $2 = $1, $1 = -5 where true\n  \
       assert true\n\
     end\n";
 
@@ -184,7 +195,7 @@ fn unused_log<N: Site>(alloc: Global, blank: Blank) -> Result<Log, Fail>
 }
 
 /// The text of a transcript.
-fn text_of(alloc: Global, transcript: &Transcript) -> Result<String, Fail> {
+pub fn text_of(alloc: Global, transcript: &Transcript) -> Result<String, Fail> {
     let mut text = String::new(alloc);
     for line in &lines(alloc, transcript)? {
         text.push_str(line.as_str())?;
@@ -193,7 +204,7 @@ fn text_of(alloc: Global, transcript: &Transcript) -> Result<String, Fail> {
 }
 
 /// A text is this one.
-fn is_text(rt: &impl Abort, text: &str, wanted: &str) {
+pub fn is_text(rt: &impl Abort, text: &str, wanted: &str) {
     assert_eq!(rt; text, wanted);
 }
 

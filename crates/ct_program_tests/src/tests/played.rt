@@ -77,7 +77,7 @@ fn statements(alloc: Global, order: &str) -> Result<List<(u32, u32)>, Fail> {
 }
 
 /// The text of a transcript.
-fn text_of(alloc: Global, transcript: &Transcript) -> Result<String, Fail> {
+pub fn text_of(alloc: Global, transcript: &Transcript) -> Result<String, Fail> {
     let mut text = String::new(alloc);
     for line in lines(alloc, transcript)? {
         text.push_str(line.as_str())?;

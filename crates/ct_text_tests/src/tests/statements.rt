@@ -4,7 +4,7 @@
 use ct_lex::{Token, split, tokens};
 use ct_parse::{ParseError, condition, condition_place, name_of, statement, statement_place};
 use ct_query::{Heading, Schema};
-use ct_resolve::resolve;
+use ct_resolve::{ResolveError, resolve};
 use ct_word::{List, Text};
 use std::alloc::Global;
 use std::test::Fail;
@@ -49,29 +49,43 @@ fn tokens_stand_where_they_are_spelled(rt: HostRuntime) -> Result<(), Fail> {
     Ok(())
 }
 
-/// The table `t` of the columns `a` and `b`.
-fn schema(alloc: Global) -> Result<Schema, Fail> {
-    let columns = [Text::from_str(alloc, "a")?, Text::from_str(alloc, "b")?];
-    let heading = Heading {
-        name: Text::from_str(alloc, "t")?,
-        columns: List::from_vec(Vec::from_array(alloc, columns)?),
-    };
-    Ok(Schema {
-        tables: List::from_vec(Vec::from_array(alloc, [heading])?),
+/// The name of a table and its columns.
+fn heading(alloc: Global, name: &str, columns: &[&str]) -> Result<Heading, Fail> {
+    let mut found = Vec::new(alloc);
+    for column in columns {
+        found.push(Text::from_str(alloc, column)?)?;
+    }
+    Ok(Heading {
+        name: Text::from_str(alloc, name)?,
+        columns: List::from_vec(found),
     })
 }
 
-/// Whether a text has its statement over that table, after so many nulls of session 1.
-fn is_resolved(alloc: Global, fresh: u32, text: &str) -> Result<bool, Fail> {
+/// The table `t` of the columns `a` and `b`, and the table `key` of the column `key`.
+fn schema(alloc: Global) -> Result<Schema, Fail> {
+    let tables = [
+        heading(alloc, "t", &["a", "b"])?,
+        heading(alloc, "key", &["key"])?,
+    ];
+    Ok(Schema {
+        tables: List::from_vec(Vec::from_array(alloc, tables)?),
+    })
+}
+
+/// Why a text has no statement over those tables, after so many nulls of session 1; none where it has one.
+fn refusal(alloc: Global, fresh: u32, text: &str) -> Result<Option<ResolveError>, Fail> {
     let schema = schema(alloc)?;
     let words = tokens(alloc, text)?;
     let spelled = statement(alloc, words.as_slice())?;
     let found = resolve(alloc, &schema, 1, fresh, &spelled);
-    let is_found = found.is_ok();
+    let refusal = match &found {
+        Ok(_) => None,
+        Err(error) => Some(*error),
+    };
     // What a tree is dropped by is read off its every variant, unless a call takes it.
     drop(found);
     drop(spelled);
-    Ok(is_found)
+    Ok(refusal)
 }
 
 /// Whether a script has these texts.
@@ -92,7 +106,7 @@ fn a_script_is_read_text_by_text(rt: HostRuntime) -> Result<(), Fail> {
     let script = "begin; select b as c from t; -- no text;\n;insert into t values (null, ';')";
     assert!(rt; are_its_texts(rt.alloc(), script, &TEXTS)?);
     for text in TEXTS {
-        assert!(rt; is_resolved(rt.alloc(), 0, text)?);
+        assert!(rt; refusal(rt.alloc(), 0, text)?.is_none());
     }
     Ok(())
 }
@@ -101,8 +115,85 @@ fn a_script_is_read_text_by_text(rt: HostRuntime) -> Result<(), Fail> {
 #[test]
 fn the_last_null_has_its_number(rt: HostRuntime) -> Result<(), Fail> {
     let both = "insert into t values (null, null)";
-    assert!(rt; is_resolved(rt.alloc(), 268_435_453, both)?);
-    assert!(rt; !is_resolved(rt.alloc(), 268_435_454, both)?);
+    assert!(rt; refusal(rt.alloc(), 268_435_453, both)?.is_none());
+    assert!(rt; refusal(rt.alloc(), 268_435_454, both)? == Some(ResolveError::Memory));
+    Ok(())
+}
+
+/// Texts, and why each has no statement over those tables, where it has none. Several things are wrong with the first,
+/// and the leftmost counts.
+const CHANGES: [(&str, Option<ResolveError>); 22] = [
+    (
+        "update u set a = 1, c = d, a = 3 where c = 4",
+        Some(ResolveError::UnknownTable),
+    ),
+    (
+        "update t set a = 1, c = 2, a = 3 where c = 4",
+        Some(ResolveError::UnknownColumn),
+    ),
+    (
+        "update t set a = 1, b = d, a = 3 where c = 4",
+        Some(ResolveError::UnknownColumn),
+    ),
+    (
+        "update t set a = 1, b = u.b, a = 3",
+        Some(ResolveError::UnknownColumn),
+    ),
+    (
+        "update t set a = 1, b = 2, a = 3 where c = 4",
+        Some(ResolveError::DuplicateName),
+    ),
+    (
+        "update t set a = 1, b = 2 where c = 4",
+        Some(ResolveError::UnknownColumn),
+    ),
+    ("update t set a = t.b, b = ?x where t.a = 1", None),
+    ("update t set c = 1", Some(ResolveError::UnknownColumn)),
+    (
+        "update t set a = 1, a = 2",
+        Some(ResolveError::DuplicateName),
+    ),
+    ("update key set key = key where key.key = 'set'", None),
+    ("assert exists (select a from t where b = ?x)", None),
+    (
+        "assert exists (select a from u where c = 1)",
+        Some(ResolveError::UnknownTable),
+    ),
+    (
+        "assert not exists (select c from t)",
+        Some(ResolveError::UnknownColumn),
+    ),
+    (
+        "assert not exists (select a from t union select a, b from t)",
+        Some(ResolveError::ColumnCount),
+    ),
+    ("assert key t (b, a)", None),
+    ("assert key key (key)", None),
+    ("assert key u (a, a)", Some(ResolveError::UnknownTable)),
+    ("assert key t (a, a, c)", Some(ResolveError::UnknownColumn)),
+    ("assert key t (b, a, b)", Some(ResolveError::DuplicateName)),
+    ("assert key = 1", Some(ResolveError::UnknownColumn)),
+    ("assert key.key <> 1", Some(ResolveError::UnknownColumn)),
+    ("assert not key = 1", Some(ResolveError::UnknownColumn)),
+];
+
+#[test]
+fn the_first_fault_of_a_change_counts(rt: HostRuntime) -> Result<(), Fail> {
+    for (text, wanted) in CHANGES {
+        assert!(rt; refusal(rt.alloc(), 0, text)? == wanted, "{text}");
+    }
+    Ok(())
+}
+
+#[test]
+fn an_update_may_be_long(rt: HostRuntime) -> Result<(), Fail> {
+    let sets = ", b = 2".repeat(rt.alloc(), 4_999)?;
+    let text = format!(in rt.alloc(); "update t set a = 1{}", sets.as_str())?;
+    let found = refusal(rt.alloc(), 0, text.as_str())?;
+    assert!(rt; found == Some(ResolveError::DuplicateName));
+    let parts = " or b <> 'x'".repeat(rt.alloc(), 49_999)?;
+    let text = format!(in rt.alloc(); "update t set a = 1 where a = 1{}", parts.as_str())?;
+    assert!(rt; refusal(rt.alloc(), 0, text.as_str())?.is_none());
     Ok(())
 }
 
@@ -120,12 +211,49 @@ fn a_condition_is_read_to_its_end(rt: HostRuntime) -> Result<(), Fail> {
     Ok(())
 }
 
+/// Texts that are near an update or an assertion, and are no statements.
+const NO_STATEMENTS: [&str; 18] = [
+    "update t",
+    "update t set",
+    "update t set a",
+    "update t set a =",
+    "update t set a = 1,",
+    "update t set a = null",
+    "update t set a = not b",
+    "update t set a <> 1",
+    "update t set t.a = 1",
+    "update t set a = 1 if true",
+    "update t set a = 1 where",
+    "assert exists select a from t",
+    "assert not not exists (select a from t)",
+    "assert not exists (select a from t) and 1 = 1",
+    "assert (exists (select a from t))",
+    "assert key t ()",
+    "assert key t (t.a)",
+    "assert not key t (a)",
+];
+
+#[test]
+fn others_are_no_statements(rt: HostRuntime) -> Result<(), Fail> {
+    for text in NO_STATEMENTS {
+        let words = tokens_of(rt.alloc(), text)?;
+        let found = statement(rt.alloc(), words.as_slice()).err();
+        assert!(rt; found == Some(ParseError::NotAStatement), "{text}");
+    }
+    Ok(())
+}
+
 /// Texts, and where reading each as a statement stops. The last nests 65 deep.
-const STATEMENT_PLACES: [(&str, Option<u64>); 5] = [
+const STATEMENT_PLACES: [(&str, Option<u64>); 10] = [
     ("select a from t where a = 1", None),
     ("select a b from t", Some(9)),
     ("insert into t values (1, 2", None),
     ("select a from t left outer join u on true", Some(21)),
+    ("update t set a = null", Some(17)),
+    ("update t set t.a = 1", Some(14)),
+    ("assert key key (key)", None),
+    ("assert not not exists (select * from t)", Some(15)),
+    ("assert not exists (select * from t) and 1 = 1", Some(36)),
     (
         "assert (((((((((((((((((((((((((((((((((((((((((((((((((((((((((((((((((",
         Some(71),

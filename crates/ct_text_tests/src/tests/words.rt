@@ -23,12 +23,13 @@ fn words_of_a_created_table(rt: HostRuntime) -> Result<(), Fail> {
         (Kind::Names, 4, 5, 0x1600_0000_4000_0005),
         (Kind::Create, 3, 6, 0x1700_0000_3000_0006),
         (Kind::Commit, 0x4_0000, 9, 0x1d00_4000_0000_0009),
+        (Kind::Update, 3, 6, 0x2200_0000_3000_0006),
     ];
     for (k, a, b, word) in words {
         assert!(rt; is_word_of(k, a, b, word), "{word:x}");
     }
     assert!(rt; has_no_kind(0));
-    assert!(rt; has_no_kind(0x1e00_0000_0000_0000));
+    assert!(rt; has_no_kind(0x2300_0000_0000_0000));
     assert_eq!(rt; class(Kind::Column), Class::Term);
     Ok(())
 }

@@ -20,11 +20,11 @@ returns-in_err-put_literals-clause-grows g c =
     let p = condition_of c.args.p.now in
     let exit = err_from_is_err_and c.from_residual-in_err-put_literals.result c.from_residual-in_err-put_literals.ensures.1 in
     rw (exit.1, exit.2)
-    (refused_within _ _ _ _ _ (condition_terms p) (condition_terms p) 0 (length c.args.table.rows * (ops p + 1)) (λ t h. h) (omega arith) c.in_err-put_literals.ensures.grows)
+    (refused_within _ _ _ (condition_terms p) (condition_terms p) 0 (length c.args.table.rows * (ops p + 1)) (λ t h. h) (omega arith) c.in_err-put_literals.ensures.grows)
 
 pub select-requires : goal.select-requires
 select-requires g c = record {
-  rows = rows_grow c.args.pass.now.words c.put_literals.new.pass.words c.in_ok-put_literals.ensures.longer c.words.ensures.formed (length c.args.table.columns) c.args.table.rows c.requires.rows;
+  rows = rows_grow c.args.pass.now.words c.put_literals.new.pass.words c.in_ok-put_literals.ensures.grows.writes.longer c.words.ensures.formed (length c.args.table.columns) c.args.table.rows c.requires.rows;
   predicate = c.requires.predicate;
 }
 
@@ -32,7 +32,7 @@ pub returns-clause-evaluates : goal.returns-clause-evaluates
 returns-clause-evaluates g c =
     λ old db q s.
     let mid = c.put_literals.new.pass.words in
-    let later = answer_grows old c.args.pass.now.words mid db q c.args.table c.in_ok-put_literals.ensures.longer c.words.ensures.formed s in
+    let later = answer_grows old c.args.pass.now.words mid db q c.args.table c.in_ok-put_literals.ensures.grows.writes.longer c.words.ensures.formed s in
     select_answers old mid c.select.new.pass.words db q c.args.table later (condition_of c.args.p.now) c.select.result c.select.ensures.columns c.select.ensures.rows c.select.ensures.tuples c.select.ensures.part c.select.ensures.terms
 
 pub returns-clause-grows : goal.returns-clause-grows
@@ -41,5 +41,5 @@ returns-clause-grows g c =
     let mid = c.put_literals.new.pass.words in
     let most = length c.args.table.rows * (ops p + 1) in
     let nothing : new_terms mid p ≡ 0 = none_new mid p c.in_ok-put_literals.ensures.placed in
-    after_literals _ mid _ _ _ _ (condition_terms p) _ c.select.result (new_terms mid p + most) most c.select.ensures.writes.longer c.in_ok-put_literals.ensures.grows c.select.ensures.writes.made
+    after_literals _ c.put_literals.new.pass _ (condition_terms p) _ c.select.result (new_terms mid p + most) most c.in_ok-put_literals.ensures.grows c.select.ensures.writes
     (omega (arith, nothing))

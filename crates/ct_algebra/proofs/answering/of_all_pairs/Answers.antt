@@ -30,9 +30,9 @@ returns-clause-grows g c =
     let made = c.made.result in
     let few : length made.rows ≤ all = subst (λ (t : CTable). length t.rows ≤ all) (sym c.made.ensures)
     (pairs_counted c.args.pass.now.words c.product.new.pass.words c.args.left.now.rows c.args.right.now.rows pairs.rows c.in_ok-pairs.ensures.part) in
-    grows_then _ _ _ _ _ _ (condition_terms p) _ c.filtered.result (condition_terms p) (condition_terms p) all (length made.rows * (ops p + 1)) (all * (ops p + 1)) (λ t h. h) (λ t h. h)
+    grows_then _ _ _ (condition_terms p) _ c.filtered.result (condition_terms p) (condition_terms p) all (length made.rows * (ops p + 1)) (all * (ops p + 1)) (λ t h. h) (λ t h. h)
     (mul-le (length made.rows) (ops p + 1) all (ops p + 1) few (omega arith))
-    (grows_by (Ok pairs) _ _ _ _ (condition_terms p) all c.in_ok-pairs.ensures.writes.longer c.in_ok-pairs.ensures.writes.made)
+    (grows_by (Ok pairs) _ _ (condition_terms p) all c.in_ok-pairs.ensures.writes)
     c.filtered.ensures.grows
 
 pub returns-in_err-pairs-clause-grows : goal.returns-in_err-pairs-clause-grows
@@ -41,5 +41,5 @@ returns-in_err-pairs-clause-grows g c =
     let all = length c.args.left.now.rows * length c.args.right.now.rows in
     let exit = err_from_is_err_and c.from_residual.result c.from_residual.ensures.1 in
     rw (exit.1, exit.2)
-    (refused_within {A = CTable} _ _ _ _ _ (condition_terms p) (condition_terms p) all (all + all * (ops p + 1)) (λ t h. h) (omega arith)
-    (grows_by _ _ _ _ _ (condition_terms p) all c.in_err-pairs.ensures.writes.longer c.in_err-pairs.ensures.writes.made))
+    (refused_within {A = CTable} _ _ _ (condition_terms p) (condition_terms p) all (all + all * (ops p + 1)) (λ t h. h) (omega arith)
+    (grows_by _ _ _ (condition_terms p) all c.in_err-pairs.ensures.writes))

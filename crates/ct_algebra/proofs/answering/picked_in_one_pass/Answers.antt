@@ -2,7 +2,7 @@ use Rattle.std.{proofs.Common.{◌+◌, ◌*◌, length, arith}, proofs.lemmas.R
 use Rattle.ct_query.{specs.Pred.condition_of, specs.Terms.condition_terms}
 use Rattle.ct_operators.proofs.Growing.{rows_grow}
 use Rattle.ct_algebra.{specs.Joining.pair_words, proofs.Putting.{literals_fit, none_new}, proofs.Growing.answer_grows, proofs.Operators.pick_answers}
-use Rattle.ct_algebra.proofs.Appending.{after_literals, refused_within}
+use Rattle.ct_algebra.proofs.Appending.{formed_before, after_literals, refused_within}
 use Rattle.ct_algebra.proofs.answering.picked_in_one_pass.Goals as goal
 
 pub put_literals-requires : goal.put_literals-requires
@@ -14,15 +14,16 @@ returns-in_err-put_literals-clause-grows g c =
     let p = condition_of c.args.p.now in
     let all = length c.args.left.now.rows * length c.args.right.now.rows in
     rw (exit.1, exit.2)
-    (refused_within _ _ _ _ _ (condition_terms p) (condition_terms p) 0 (all * (pair_words p + 1)) (λ t h. h) (omega arith) c.in_err-put_literals.ensures.grows)
+    (refused_within _ _ _ (condition_terms p) (condition_terms p) 0 (all * (pair_words p + 1)) (λ t h. h) (omega arith) c.in_err-put_literals.ensures.grows)
 
 pub join_picked-requires : goal.join_picked-requires
 join_picked-requires g c =
     let old = c.args.pass.now.words in
     let mid = c.put_literals.new.pass.words in
+    let writes = c.in_ok-put_literals.ensures.grows.writes in
     record {
-      left = rows_grow old mid c.in_ok-put_literals.ensures.longer c.words.ensures.formed (length c.args.left.now.columns) c.args.left.now.rows c.requires.left;
-      right = rows_grow old mid c.in_ok-put_literals.ensures.longer c.words.ensures.formed (length c.args.right.now.columns) c.args.right.now.rows c.requires.right;
+      left = rows_grow old mid writes.longer (formed_before writes) (length c.args.left.now.columns) c.args.left.now.rows c.requires.left;
+      right = rows_grow old mid writes.longer (formed_before writes) (length c.args.right.now.columns) c.args.right.now.rows c.requires.right;
       few = c.requires.few;
       columns = c.requires.columns;
       predicate = c.requires.predicate;
@@ -34,14 +35,14 @@ returns-clause-evaluates g c =
     λ old db a b s t.
     let ws = c.args.pass.now.words in
     let mid = c.put_literals.new.pass.words in
-    let longer = c.in_ok-put_literals.ensures.longer in
-    let formed = c.words.ensures.formed in
-    pick_answers old mid c.join_picked.new.pass.words db a b c.args.left.now c.args.right.now (answer_grows old ws mid db a c.args.left.now longer formed s) (answer_grows old ws mid db b c.args.right.now longer formed t)
+    let writes = c.in_ok-put_literals.ensures.grows.writes in
+    let formed = formed_before writes in
+    pick_answers old mid c.join_picked.new.pass.words db a b c.args.left.now c.args.right.now (answer_grows old ws mid db a c.args.left.now writes.longer formed s) (answer_grows old ws mid db b c.args.right.now writes.longer formed t)
     c.args.columns.now (condition_of c.args.p.now) c.join_picked.result c.join_picked.ensures.columns c.join_picked.ensures.rows c.join_picked.ensures.tuples c.join_picked.ensures.part c.join_picked.ensures.terms
 
 pub returns-clause-grows : goal.returns-clause-grows
 returns-clause-grows g c =
     let p = condition_of c.args.p.now in
     let most = length c.args.left.now.rows * length c.args.right.now.rows * (pair_words p + 1) in
-    after_literals _ c.put_literals.new.pass.words _ _ _ _ (condition_terms p) _ c.join_picked.result most most c.join_picked.ensures.writes.longer c.in_ok-put_literals.ensures.grows
-    c.join_picked.ensures.writes.made (omega arith)
+    after_literals _ c.put_literals.new.pass _ (condition_terms p) _ c.join_picked.result most most c.in_ok-put_literals.ensures.grows
+    c.join_picked.ensures.writes (omega arith)

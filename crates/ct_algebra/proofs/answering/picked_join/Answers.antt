@@ -36,7 +36,7 @@ returns-then-have_pairs-clause-grows g c =
     let most = most_rows db a * most_rows db b in
     let few : length c.args.left.now.rows * length c.args.right.now.rows ≤ most = product_most old _ db a b c.args.left.now c.args.right.now s t in
     let all : length c.args.left.now.rows * length c.args.right.now.rows * (pair_words p + 1) ≤ most * (ops p + 2 + 1) = mul-le _ (pair_words p + 1) most (ops p + 2 + 1) few (omega (arith, pair_words_within p)) in
-    grows_more c.picked_in_one_pass.result _ _ _ _ (condition_terms p) _ (most + most * (ops p + 1) + most) (omega (arith, all, picked_sum most (ops p))) c.picked_in_one_pass.ensures.grows
+    grows_more c.picked_in_one_pass.result _ _ (condition_terms p) _ (most + most * (ops p + 1) + most) (omega (arith, all, picked_sum most (ops p))) c.picked_in_one_pass.ensures.grows
 
 pub returns-in_err-pairs-clause-grows : goal.returns-in_err-pairs-clause-grows
 returns-in_err-pairs-clause-grows g c =
@@ -46,7 +46,7 @@ returns-in_err-pairs-clause-grows g c =
     let all = length c.args.left.now.rows * length c.args.right.now.rows in
     let exit = err_from_is_err_and c.from_residual.result c.from_residual.ensures.1 in
     rw (exit.1, exit.2)
-    (refused_within _ _ _ _ _ (condition_terms p) (condition_terms p) (all + all * (ops p + 1)) (most + most * (ops p + 1) + most) (λ t h. h)
+    (refused_within _ _ _ (condition_terms p) (condition_terms p) (all + all * (ops p + 1)) (most + most * (ops p + 1) + most) (λ t h. h)
     (omega (arith, pairs_most all most (ops p + 1) (product_most old _ db a b c.args.left.now c.args.right.now s t)))
     c.in_err-pairs.ensures.grows)
 
@@ -64,7 +64,7 @@ returns-clause-grows g c =
     let most = most_rows db a * most_rows db b in
     let all = length c.args.left.now.rows * length c.args.right.now.rows in
     let pairs = c.in_ok-pairs.ensures.evaluates old db a b s t in
-    grows_more c.project.result _ _ _ _ (condition_terms p) (all + all * (ops p + 1) + most) (most + most * (ops p + 1) + most)
+    grows_more c.project.result _ _ (condition_terms p) (all + all * (ops p + 1) + most) (most + most * (ops p + 1) + most)
     (omega (arith, pairs_most all most (ops p + 1) (product_most old _ db a b c.args.left.now c.args.right.now s t)))
-    (onward _ _ _ _ _ _ _ c.in_ok-pairs.pairs c.project.result (all + all * (ops p + 1)) _ most c.project.ensures.writes.longer c.in_ok-pairs.ensures.grows c.project.ensures.writes.made
+    (onward _ _ _ _ c.in_ok-pairs.pairs c.project.result (all + all * (ops p + 1)) _ most c.in_ok-pairs.ensures.grows c.project.ensures.writes
     (rows_within old _ db (Select p (Product a b)) c.in_ok-pairs.pairs pairs))

@@ -1,9 +1,9 @@
-use Rattle.std.{proofs.Common.{◌≡◌, ◌+◌, ◌*◌, ◌≤◌, ◌<◌, [], length, Ok, ap, sym, subst, ◌∙◌, arith}, specs.Prelude.{All}, proofs.lemmas.Result.{IfOk-weaker, err_from_is_err_and}}
+use Rattle.std.{proofs.Common.{◌≡◌, ◌+◌, ◌*◌, ◌<◌, [], length, Ok, ap, sym, subst, ◌∙◌, arith}, specs.Prelude.{All}, proofs.lemmas.Result.{IfOk-weaker, err_from_is_err_and}}
 use Rattle.std.proofs.lemmas.List.{length-append}
 use Rattle.ct_query.specs.Plain.{Product}
 use Rattle.ct_operators.{specs.declared.table.CTable.CTable, specs.Tables.AreRows}
-use Rattle.ct_algebra.{specs.Words.most_rows, proofs.Operators.{product_answers, project_answers, always_selected}, proofs.Counted.pairs_counted}
-use Rattle.ct_algebra.proofs.Appending.{onward, grows_by, grows_more, refused_within, product_most}
+use Rattle.ct_algebra.{proofs.Operators.{product_answers, project_answers, always_selected}, proofs.Counted.pairs_counted}
+use Rattle.ct_algebra.proofs.Appending.{onward, grows_by, grows_more, refused_within}
 use Rattle.ct_algebra.proofs.answering.picked_product.Goals as goal
 
 pub picked_in_one_pass-requires : goal.picked_in_one_pass-requires
@@ -32,21 +32,14 @@ returns-then-have_pairs-clause-evaluates g c =
 
 pub returns-then-have_pairs-clause-grows : goal.returns-then-have_pairs-clause-grows
 returns-then-have_pairs-clause-grows g c =
-    λ old db a b s t.
-    let most = most_rows db a * most_rows db b in
-    let few : length c.args.left.now.rows * length c.args.right.now.rows ≤ most = product_most old _ db a b c.args.left.now c.args.right.now s t in
-    grows_more c.picked_in_one_pass.result _ _ _ _ [] (length c.args.left.now.rows * length c.args.right.now.rows * 2) (most + most) (omega (arith, few)) c.picked_in_one_pass.ensures.grows
+    let all = length c.args.left.now.rows * length c.args.right.now.rows in
+    grows_more c.picked_in_one_pass.result _ _ [] (all * 2) (all + all) (omega arith) c.picked_in_one_pass.ensures.grows
 
 pub returns-in_err-pairs-clause-grows : goal.returns-in_err-pairs-clause-grows
 returns-in_err-pairs-clause-grows g c =
-    λ old db a b s t.
-    let most = most_rows db a * most_rows db b in
     let all = length c.args.left.now.rows * length c.args.right.now.rows in
     let exit = err_from_is_err_and c.from_residual.result c.from_residual.ensures.1 in
-    let few : all ≤ most = product_most old _ db a b c.args.left.now c.args.right.now s t in
-    rw (exit.1, exit.2)
-    (refused_within {A = CTable} _ _ _ _ _ [] [] all (most + most) (λ t h. h) (omega (arith, few))
-    (grows_by _ _ _ _ _ [] all c.in_err-pairs.ensures.writes.longer c.in_err-pairs.ensures.writes.made))
+    rw (exit.1, exit.2) (refused_within {A = CTable} _ _ _ [] [] all (all + all) (λ t h. h) (omega arith) (grows_by _ _ _ [] all c.in_err-pairs.ensures.writes))
 
 pub returns-clause-evaluates : goal.returns-clause-evaluates
 returns-clause-evaluates g c =
@@ -58,12 +51,7 @@ returns-clause-evaluates g c =
 
 pub returns-clause-grows : goal.returns-clause-grows
 returns-clause-grows g c =
-    λ old db a b s t.
-    let most = most_rows db a * most_rows db b in
     let all = length c.args.left.now.rows * length c.args.right.now.rows in
     let pairs = c.in_ok-pairs.pairs in
-    let few : all ≤ most = product_most old _ db a b c.args.left.now c.args.right.now s t in
-    let counted : length pairs.rows ≤ all = pairs_counted c.args.pass.now.words c.product.new.pass.words c.args.left.now.rows c.args.right.now.rows pairs.rows c.in_ok-pairs.ensures.part in
-    grows_more c.project.result _ _ _ _ [] (all + all) (most + most) (omega (arith, few))
-    (onward _ _ _ _ _ _ _ pairs c.project.result all _ all c.project.ensures.writes.longer (grows_by (Ok pairs) _ _ _ _ [] all c.in_ok-pairs.ensures.writes.longer c.in_ok-pairs.ensures.writes.made)
-    c.project.ensures.writes.made counted)
+    onward _ _ _ _ pairs c.project.result all _ all (grows_by (Ok pairs) _ _ [] all c.in_ok-pairs.ensures.writes) c.project.ensures.writes
+    (pairs_counted c.args.pass.now.words c.product.new.pass.words c.args.left.now.rows c.args.right.now.rows pairs.rows c.in_ok-pairs.ensures.part)

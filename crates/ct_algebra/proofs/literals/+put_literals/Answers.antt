@@ -1,6 +1,6 @@
-use Rattle.std.proofs.Common.{◌≡◌, ◌∙◌, true, [], ◌∷◌, Ok, sym, ap, subst, arith}
+use Rattle.std.proofs.Common.{◌≡◌, true, [], ◌∷◌, Ok, sym, ap, subst, arith}
 use Rattle.std.{specs.Prelude.{OnOk, Contains}, proofs.lemmas.Result.err_from_is_err_and, proofs.lemmas.List.Sums.get_or-le-sum_by}
-use Rattle.ct_word.{proofs.Prefixes.prefix_of_prefix, proofs.Items.{first_item, later_item, sole_item}}
+use Rattle.ct_word.proofs.Items.{first_item, later_item, sole_item}
 use Rattle.ct_query.{specs.declared.query.Pred.{And, Or}, proofs.Trees.{and_is, or_is}, specs.Fields.FitsFields, specs.Pred.condition_of, specs.Terms.condition_terms}
 use Rattle.ct_condition.{specs.Places.has_place, proofs.Depth.{parts_of, parts_under}}
 use Rattle.ct_algebra.{specs.Words.{EachLiteral, GrowsWithin}, proofs.Appending.grows_then}
@@ -19,16 +19,16 @@ pub put_literals-returns-in_ok-put_literal-in-Same-clause-placed : goal.put_lite
 put_literals-returns-in_ok-put_literal-in-Same-clause-placed g t c =
     let new = c.put_literal-in-Same.new.pass.words in
     subst (λ p. OnOk c.put_literal-in-Same.result (EachLiteral (λ u. has_place new u ≡ true) (condition_terms (condition_of p)))) (sym c.in-Same.is)
-    (both_placed c.put_literal-in-Same.result c.put_literal.new.pass.words new c.in-Same.one c.in-Same.other c.put_literal-in-Same.ensures.longer
+    (both_placed c.put_literal-in-Same.result c.put_literal.new.pass.words new c.in-Same.one c.in-Same.other c.put_literal-in-Same.ensures.grows.writes.longer
     c.in_ok-put_literal-in-Same.ensures.placed c.put_literal-in-Same.ensures.placed)
 
 pub put_literals-returns-in_ok-put_literal-in-Same-clause-grows : goal.put_literals-returns-in_ok-put_literal-in-Same-clause-grows
 put_literals-returns-in_ok-put_literal-in-Same-clause-grows g t c =
     let s = c.in-Same.one in
     let u = c.in-Same.other in
-    subst (λ p. GrowsWithin c.put_literal-in-Same.result c.args.pass.now.words c.put_literal-in-Same.new.pass.words c.args.pass.now.made c.put_literal-in-Same.new.pass.made (condition_terms (condition_of p)) 0)
+    subst (λ p. GrowsWithin g.N.Site.log.cap c.put_literal-in-Same.result c.args.pass.now c.put_literal-in-Same.new.pass (condition_terms (condition_of p)) 0)
     (sym c.in-Same.is)
-    (grows_then _ _ _ _ _ _ (s ∷ u ∷ []) tt c.put_literal-in-Same.result (s ∷ []) (u ∷ []) 0 0 0
+    (grows_then _ _ _ (s ∷ u ∷ []) tt c.put_literal-in-Same.result (s ∷ []) (u ∷ []) 0 0 0
     (λ x h. subst (λ y. Contains (s ∷ u ∷ []) y) (sole_item s x h) (first_item (u ∷ []) s)) (λ x h. later_item (u ∷ []) s x h) (omega arith)
     c.in_ok-put_literal-in-Same.ensures.grows c.put_literal-in-Same.ensures.grows)
 
@@ -41,14 +41,10 @@ put_all_literals-loop-p-preserved g t c =
     let new = c.put_literals.new.pass.words in
     record {
       rest = λ u h. c.loop-p.invariant.rest u (rest_within ps i p c.loop-p-test.true c.p-item.is u h);
-      placed = λ u l h. placed_more ps i p c.loop-p-test.true c.p-item.is mid new u c.in_ok-put_literals.ensures.longer l c.in_ok-put_literals.ensures.placed (c.loop-p.invariant.placed u l h);
+      placed = λ u l h. placed_more ps i p c.loop-p-test.true c.p-item.is mid new u c.in_ok-put_literals.ensures.grows.writes.longer l c.in_ok-put_literals.ensures.placed (c.loop-p.invariant.placed u l h);
       grows =
-          grows_then _ _ _ _ _ _ (run_terms ps) tt (Ok tt) (run_terms ps) (condition_terms (condition_of p)) 0 0 0 (λ u h. h)
+          grows_then _ _ _ (run_terms ps) tt (Ok tt) (run_terms ps) (condition_terms (condition_of p)) 0 0 0 (λ u h. h)
           (λ u h. c.loop-p.invariant.rest u (item_within ps i p c.loop-p-test.true c.p-item.is u h)) (omega arith) c.loop-p.invariant.grows c.in_ok-put_literals.ensures.grows;
-      longer = prefix_of_prefix c.args.pass.now.words mid new c.loop-p.invariant.longer c.in_ok-put_literals.ensures.longer;
-      rises = omega (arith, c.in_ok-put_literals.ensures.rises, c.loop-p.invariant.rises);
-      session = c.in_ok-put_literals.ensures.session ∙ c.loop-p.invariant.session;
-      mine = c.in_ok-put_literals.ensures.mine ∙ c.loop-p.invariant.mine;
     }
 
 pub put_all_literals-returns-clause-placed : goal.put_all_literals-returns-clause-placed
@@ -84,5 +80,5 @@ put_all_literals-returns-in_err-put_literals-clause-grows g t c =
     let p = c.p-item.result in
     let exit = err_from_is_err_and c.from_residual.result c.from_residual.ensures.1 in
     rw (exit.1, exit.2)
-    (grows_then _ _ _ _ _ _ (run_terms ps) tt _ (run_terms ps) (condition_terms (condition_of p)) 0 0 0 (λ u h. h)
+    (grows_then _ _ _ (run_terms ps) tt _ (run_terms ps) (condition_terms (condition_of p)) 0 0 0 (λ u h. h)
     (λ u h. c.loop-p.invariant.rest u (item_within ps c.loop-p.p-index p c.loop-p-test.true c.p-item.is u h)) (omega arith) c.loop-p.invariant.grows c.in_err-put_literals.ensures.grows)

@@ -2,7 +2,8 @@ use Rattle.std.{proofs.Common.{◌≡◌, true, false, ◌++◌, [], ◌∷◌, 
 use Rattle.ct_word.{specs.Stands.TermBelow, specs.WellFormed.is_place_of, proofs.Prefixes.{prefix_of_prefix, place_in_prefix}}
 use Rattle.ct_condition.{specs.Truth.{HasTruth, not_at}, specs.Terms.{TermsFrom, BelowSome}, proofs.Denied.below_literal, proofs.Writes.{writes_none, writes_both, writes_within}}
 use Rattle.ct_operators.{specs.Building.HoldsWhere, specs.Placing.tuple_of, specs.Tables.value_of_rows, specs.Terms.TermOfRow, proofs.Holding.{holds_as, holds_true}}
-use Rattle.ct_constraint.{specs.Assertions.{agree, clash, keep_apart}, proofs.Apart.pair_differs, proofs.Turns.{pair_kept, pair_from}}
+use Rattle.ct_query.specs.Assertions.{agree, clash, keep_apart}
+use Rattle.ct_constraint.{specs.Comparing.MayAgree, proofs.Apart.pair_differs, proofs.Turns.{pair_kept, pair_from}}
 use Rattle.ct_word.specs.declared.kinds.Class.TheVariants as class
 use Rattle.ct_constraint.proofs.comparing.apart.Goals as goal
 
@@ -14,7 +15,7 @@ returns-then-differ_at-clause-holds g c =
     holds_as old 0 (λ v. true) _
     (λ v. pair_differs c.args.columns.now old v l r (subst (λ ws. agree c.args.columns.now (tuple_of ws l.cells v) (tuple_of ws r.cells v) ≡ false) c.words.ensures.words
     (subst (λ ps. agree c.args.columns.now (tuple_of c.words.result.now ps v) (tuple_of c.words.result.now r.cells v) ≡ false) c.as_slice-mine.ensures
-    (subst (λ qs. agree c.args.columns.now (tuple_of c.words.result.now c.as_slice-mine.result.now v) (tuple_of c.words.result.now qs v) ≡ false) c.as_slice-theirs.ensures (c.differ_at.ensures c.if-differ_at.true v)))))
+    (subst (λ qs. agree c.args.columns.now (tuple_of c.words.result.now c.as_slice-mine.result.now v) (tuple_of c.words.result.now qs v) ≡ false) c.as_slice-theirs.ensures (c.differ_at.ensures.differ c.if-differ_at.true v)))))
     (holds_true old c.words.ensures.begins c.words.ensures.formed)
 
 pub returns-then-differ_at-clause-terms : goal.returns-then-differ_at-clause-terms
@@ -78,6 +79,7 @@ clashing-requires g c = record {
   right = subst (All (λ p. IsTrue (is_place_of (g.I.Interner.list c.args.pass.now) class.Term p))) (sym c.as_slice-theirs.ensures) c.requires.right.terms;
   lengths = ap (λ l. length l) c.as_slice-mine.ensures ∙ sym c.requires.right.width_is ∙ sym (ap (λ l. length l) c.as_slice-theirs.ensures);
   columns = subst (λ l. All (λ k. k < length l) c.args.columns.now) (sym c.as_slice-mine.ensures) c.requires.columns;
+  may = subst (λ ws. MayAgree ws c.as_slice-mine.result.now c.as_slice-theirs.result.now c.args.columns.now) c.words.ensures.words (c.differ_at.ensures.may c.if-differ_at.false);
 }
 
 pub and-requires-clause-left : goal.and-requires-clause-left

@@ -2,7 +2,8 @@ use Rattle.std.{proofs.Common.{◌≡◌, ℕ, List, [], ◌++◌, not, ◌&&◌
 use Rattle.ct_word.{specs.Reading.term_at, specs.Value.{World, at}, proofs.Prefixes.{place_in_prefix, place_within}}
 use Rattle.ct_condition.{specs.Truth.{HasTruth, and_at}, specs.Terms.{TermsFrom, BelowEither, BelowSome}, proofs.Writes.{writes_both, writes_within}}
 use Rattle.ct_operators.{specs.Building.HoldsWhere, specs.Placing.tuple_of, proofs.Holding.{holds_as, holds_later, holds_not, holds_and}, proofs.Reaching.{from_two, from_later}}
-use Rattle.ct_constraint.{specs.Assertions.clash, specs.Comparing.{is_in, same_below}, proofs.Agreeing.clash_is}
+use Rattle.ct_query.specs.Assertions.{clash}
+use Rattle.ct_constraint.{specs.Comparing.{is_in, same_below}, proofs.Agreeing.clash_is}
 use Rattle.ct_word.specs.declared.kinds.Class.TheVariants as class
 use Rattle.ct_constraint.proofs.comparing.clashing.Goals as goal
 

@@ -1,9 +1,9 @@
-use Rattle.std.{proofs.Common.{◌≡◌, ◌<◌, ◌*◌, ◌++◌, not, length, get_or, ap, subst, refl, arith, inl}, specs.Prelude.IsTrue, proofs.lemmas.Result.err_from_is_err_and}
+use Rattle.std.{proofs.Common.{◌≡◌, ◌<◌, ◌*◌, ◌++◌, ◌&&◌, not, nat_eq, length, get_or, ap, subst, refl, arith, inl}, specs.Prelude.IsTrue, proofs.lemmas.Result.err_from_is_err_and}
 use Rattle.std.proofs.lemmas.List.Elements.{All-get_or, Contains-get_or}
 use Rattle.ct_word.{specs.WellFormed.is_place_of, proofs.Prefixes.{prefix_of_prefix, place_in_prefix, place_within}}
-use Rattle.ct_condition.{specs.Terms.{TermsFrom, BelowSome}, proofs.Denied.below_literal, proofs.Writes.{writes_none, writes_both, writes_within, writes_as, writes_more, writes_last}}
+use Rattle.ct_condition.{specs.Folding.are_apart, specs.Terms.{TermsFrom, BelowSome}, proofs.Denied.below_literal, proofs.Writes.{writes_none, writes_both, writes_within, writes_as, writes_more, writes_last}}
 use Rattle.ct_operators.{specs.Building.HoldsWhere, specs.Placing.tuple_of, proofs.Holding.{holds_true, holds_later}, proofs.Reaching.{from_two, from_later, pair_below}}
-use Rattle.ct_constraint.{specs.Comparing.{is_in, same_below}, proofs.Turns.{cells_same, below_more}}
+use Rattle.ct_constraint.{specs.Comparing.{is_in, same_below}, proofs.Turns.{cells_same, counted, below_more}}
 use Rattle.ct_word.specs.declared.kinds.Class.TheVariants as class
 use Rattle.ct_constraint.proofs.comparing.compared.Goals as goal
 
@@ -58,6 +58,9 @@ loop-k-preserved g c =
     let both = prefix_of_prefix now m1 m2 first second in
     let in_right : k < length qs = omega (arith, c.loop-k-test.true, c.requires.lengths) in
     let cells = cells_same old now m1 ps qs k same grown c.requires.left c.requires.right c.loop-k-test.true in_right c.in_ok-same.ensures.truth in
+    let counts = c.is_asked_among-is_key.result in
+    let tells = counted old now grown ps qs c.args.columns.now c.requires.left c.requires.right c.requires.may k c.loop-k-test.true in_right counts
+    (subst (λ ws. counts ≡ (not (nat_eq (get_or ps k 0) (get_or qs k 0)) && (not (are_apart ws (get_or ps k 0) (get_or qs k 0)) && is_in c.args.columns.now k))) c.words-in-loop-k.ensures.words c.is_asked_among-is_key.ensures) in
     let source = BelowSome old (ps ++ qs) in
     let at_left = All-get_or (λ p. IsTrue (is_place_of old class.Term p)) ps k 0 c.loop-k-test.true c.requires.left in
     let at_right = All-get_or (λ p. IsTrue (is_place_of old class.Term p)) qs k 0 in_right c.requires.right in
@@ -70,8 +73,8 @@ loop-k-preserved g c =
     record {
       writes = writes_more _ k c.loop-k.invariant.writes (writes_both c.in_ok-same.ensures.writes (writes_both c.in_ok-inside.ensures.writes c.in_ok-outside.ensures.writes));
       inside = holds_later m2 new c.in_ok-inside.inside _ third
-          (below_more old now m1 m2 ps qs (is_in c.args.columns.now) k c.loop-k.inside same c.in_ok-inside.inside c.is_among-is_key.result c.is_among-is_key.ensures first c.loop-k.invariant.inside cells c.in_ok-inside.ensures.truth);
-      outside = below_more old now m2 new ps qs (λ k. not (is_in c.args.columns.now k)) k c.loop-k.outside same c.in_ok-outside.outside (not c.is_among-is_key.result) (ap not c.is_among-is_key.ensures) both
+          (below_more old now m1 m2 ps qs (is_in c.args.columns.now) k c.loop-k.inside same c.in_ok-inside.inside counts (λ v. (tells v).0) first c.loop-k.invariant.inside cells c.in_ok-inside.ensures.truth);
+      outside = below_more old now m2 new ps qs (λ k. not (is_in c.args.columns.now k)) k c.loop-k.outside same c.in_ok-outside.outside (not counts) (λ v. (tells v).1) both
           c.loop-k.invariant.outside (holds_later m1 m2 same _ second cells) c.in_ok-outside.ensures.truth;
       inside_from = from_later m2 new third c.in_ok-inside.ensures.writes.formed c.in_ok-inside.inside source (place_within m2 class.Cond c.in_ok-inside.inside c.in_ok-inside.ensures.truth.class) inside_then;
       outside_from = from_two m2 new c.loop-k.outside same c.in_ok-outside.outside source outside_now same_later c.in_ok-outside.ensures.terms;

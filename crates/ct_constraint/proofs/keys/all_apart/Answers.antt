@@ -1,10 +1,12 @@
 use Rattle.std.{proofs.Common.{◌≡◌, ◌≤◌, ◌<◌, ◌+◌, ◌*◌, [], ◌∷◌, length, take, ap, sym, subst, refl, ◌∙◌, arith, inl}, specs.Prelude.{◌⊎◌, All}}
 use Rattle.std.{proofs.lemmas.List.{take_all, length-take-le}, proofs.lemmas.List.Elements.{All-take, All-weaker}, proofs.lemmas.Result.err_from_is_err_and}
-use Rattle.ct_word.{proofs.Prefixes.{place_in_prefix, place_within}}
+use Rattle.ct_word.{proofs.Prefixes.{prefix_of_prefix, place_in_prefix, place_within}}
 use Rattle.ct_condition.{proofs.Denied.below_literal, proofs.Writes.{writes_none, writes_both, writes_within}}
 use Rattle.ct_operators.{specs.Tables.{IsRow, value_of_rows}, specs.Building.HoldsWhere, specs.Terms.{TermOfRow, TermOfRows}, proofs.Selecting.{Turn, turn}}
 use Rattle.ct_operators.proofs.{Holding.holds_true, Growing.is_row_grows, Reaching.{from_two, from_later}}
-use Rattle.ct_constraint.{specs.Assertions.{is_key, keep_apart}, proofs.Turns.{key_turn, key_from, key_words, key_all}}
+use Rattle.ct_query.specs.Assertions.{is_key, keep_apart}
+use Rattle.ct_constraint.proofs.Apart.{key_never}
+use Rattle.ct_constraint.proofs.Turns.{never_more, key_turn, key_from, key_words, key_all}
 use Rattle.ct_word.specs.declared.kinds.Class.TheVariants as class
 use Rattle.ct_constraint.proofs.keys.all_apart.Goals.{After-beside}
 use Rattle.ct_constraint.proofs.keys.all_apart.Goals as goal
@@ -77,6 +79,12 @@ loop-i-preserved g c =
           (subst (λ d. TermOfRow now r u ⊎ TermOfRows now d u) (before g turn) (c.in_ok-one.ensures.terms u h)))
           c.in_ok-all.ensures.terms;
     }
+
+pub returns-then-all-eq-FALSE_PLACE-clause-holds : goal.returns-then-all-eq-FALSE_PLACE-clause-holds
+returns-then-all-eq-FALSE_PLACE-clause-holds g c =
+    let old = g.I.Interner.list c.args.pass.now in
+    never_more _ c.loop-i.all _ _ (prefix_of_prefix _ _ _ c.words.ensures.begins c.loop-i.invariant.writes.longer) c.loop-i.invariant.writes.formed c.if-all-eq-FALSE_PLACE.true
+    (λ v. key_never c.args.columns.now old v c.args.table.now.rows c.loop-i.i) c.loop-i.invariant.holds
 
 pub returns-clause-holds : goal.returns-clause-holds
 returns-clause-holds g c =

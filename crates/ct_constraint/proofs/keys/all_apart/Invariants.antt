@@ -1,7 +1,7 @@
 use Rattle.std.proofs.Common.{false, take, ◌*◌, ◌+◌, length}
 use Rattle.ct_condition.{specs.Writes.Writes, specs.Terms.TermsFrom}
 use Rattle.ct_operators.{specs.Building.HoldsWhere, specs.Tables.value_of_rows, specs.Terms.TermOfRows}
-use Rattle.ct_constraint.specs.Assertions.{is_key}
+use Rattle.ct_query.specs.Assertions.{is_key}
 use Rattle.ct_constraint.proofs.keys.all_apart.Given as goal
 
 abbrev pub invariant-loop-i : goal.invariant-loop-i

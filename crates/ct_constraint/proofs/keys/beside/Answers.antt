@@ -1,10 +1,11 @@
 use Rattle.std.{proofs.Common.{◌<◌, [], ◌∷◌, length, take, sym, subst, refl, arith, inl}, specs.Prelude.{◌⊎◌, All}}
 use Rattle.std.{proofs.lemmas.List.take_all, proofs.lemmas.Result.err_from_is_err_and}
-use Rattle.ct_word.{specs.declared.values.Term.Term, proofs.Prefixes.{place_in_prefix, place_within}}
+use Rattle.ct_word.{specs.declared.values.Term.Term, proofs.Prefixes.{prefix_of_prefix, place_in_prefix, place_within}}
 use Rattle.ct_condition.{proofs.Denied.below_literal, proofs.Writes.{writes_none, writes_both, writes_within, writes_as, writes_more, writes_all, writes_last}}
 use Rattle.ct_operators.{specs.Tables.{IsRow, value_of_rows}, specs.Building.HoldsWhere, specs.Terms.{TermOfRow, TermOfRows}, proofs.Selecting.{Turn, turn}}
 use Rattle.ct_operators.proofs.{Holding.holds_true, Growing.is_row_grows, Reaching.{from_two, from_later}}
-use Rattle.ct_constraint.{specs.Assertions.keep_apart, proofs.Turns.{beside_turn, beside_from}}
+use Rattle.ct_query.specs.Assertions.{keep_apart}
+use Rattle.ct_constraint.{proofs.Apart.beside_never, proofs.Turns.{never_more, beside_turn, beside_from}}
 use Rattle.ct_constraint.proofs.keys.beside.Goals.{After-apart}
 use Rattle.ct_word.specs.declared.kinds.Class.TheVariants as class
 use Rattle.ct_constraint.proofs.keys.beside.Goals as goal
@@ -68,6 +69,12 @@ loop-other-preserved g c =
           (λ u h. beside_from old now grown c.words.ensures.formed width others s row t.was c.requires.row t.among u (c.in_ok-one.ensures.terms u h))
           c.in_ok-all.ensures.terms;
     }
+
+pub returns-then-all-eq-FALSE_PLACE-clause-holds : goal.returns-then-all-eq-FALSE_PLACE-clause-holds
+returns-then-all-eq-FALSE_PLACE-clause-holds g c =
+    let old = g.I.Interner.list c.args.pass.now in
+    never_more _ c.loop-other.all _ _ (prefix_of_prefix _ _ _ c.words.ensures.begins c.loop-other.invariant.writes.longer) c.loop-other.invariant.writes.formed c.if-all-eq-FALSE_PLACE.true
+    (λ v. beside_never c.args.columns.now old v c.args.others.now c.loop-other.other-index c.args.row.now) c.loop-other.invariant.holds
 
 pub returns-clause-holds : goal.returns-clause-holds
 returns-clause-holds g c =

@@ -1,7 +1,7 @@
 use Rattle.std.{proofs.Common.{false, take, [], ◌∷◌, ◌*◌, ◌+◌, length}, specs.Prelude.{◌⊎◌}}
 use Rattle.ct_condition.{specs.Writes.Writes, specs.Terms.TermsFrom}
 use Rattle.ct_operators.{specs.Building.HoldsWhere, specs.Tables.value_of_rows, specs.Terms.{TermOfRow, TermOfRows}}
-use Rattle.ct_constraint.specs.Assertions.{keep_apart}
+use Rattle.ct_query.specs.Assertions.{keep_apart}
 use Rattle.ct_constraint.proofs.keys.beside.Given as goal
 
 abbrev pub invariant-loop-other : goal.invariant-loop-other

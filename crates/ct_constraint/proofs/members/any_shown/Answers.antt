@@ -3,7 +3,8 @@ use Rattle.ct_word.proofs.Prefixes.{place_within}
 use Rattle.ct_condition.proofs.{Writes.{writes_none, writes_within, writes_as, writes_more, writes_last}, Denied.below_literal}
 use Rattle.ct_operators.{specs.Building.HoldsWhere, specs.Tables.value_of_rows, specs.Terms.TermOfRows, proofs.Selecting.{turn}}
 use Rattle.ct_operators.proofs.{Holding.{holds_as, holds_itself, holds_later, holds_false, holds_or}, Reaching.{foremost, below_before, from_two}}
-use Rattle.ct_constraint.{specs.Assertions.has_member, proofs.Shown.member_more}
+use Rattle.ct_query.specs.Assertions.{has_member}
+use Rattle.ct_constraint.proofs.Shown.{member_more}
 use Rattle.ct_word.specs.declared.kinds.Class.TheVariants as class
 use Rattle.ct_constraint.proofs.members.any_shown.Goals as goal
 

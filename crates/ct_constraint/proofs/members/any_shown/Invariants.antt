@@ -1,7 +1,7 @@
 use Rattle.std.proofs.Common.{◌≡◌, false, take, ◌*◌, length}
 use Rattle.ct_condition.{specs.Writes.Writes, specs.Terms.TermsFrom}
 use Rattle.ct_operators.{specs.Building.HoldsWhere, specs.Tables.value_of_rows, specs.Terms.TermOfRows}
-use Rattle.ct_constraint.specs.Assertions.{has_member}
+use Rattle.ct_query.specs.Assertions.{has_member}
 use Rattle.ct_constraint.proofs.members.any_shown.Given as goal
 
 abbrev pub invariant-loop-row : goal.invariant-loop-row

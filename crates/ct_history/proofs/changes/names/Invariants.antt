@@ -1,7 +1,6 @@
-use Rattle.std.{proofs.Common.{◌≡◌, ◌<◌, ◌^◌, ◌≤◌, ◌+◌, take}, specs.Prelude.{IsTrue, sum_by}}
+use Rattle.std.{proofs.Common.{◌<◌, ◌^◌, ◌+◌, take, false}, specs.Prelude.{IsTrue, sum_by}}
 use Rattle.ct_word.{specs.Reading.IsNameList, specs.Stands.StandsAt, specs.WellFormed.is_place_of}
-use Rattle.ct_history.{specs.Encodes.name_words, specs.Kept.kept_of}
-use mathlib.Core.List.{IsPrefix}
+use Rattle.ct_history.{specs.Encodes.name_words, specs.Kept.PassWrites}
 use Rattle.ct_word.specs.declared.kinds.Class.TheVariants as class
 use Rattle.ct_history.proofs.changes.names.Given as goal
 
@@ -10,7 +9,5 @@ invariant-loop-name g l = record {
   stands : StandsAt l.pass.words l.place (IsNameList (take l.name-index l.names));
   class : IsTrue (is_place_of l.pass.words class.NameList l.place);
   small : l.place < 2 ^ 28;
-  longer : IsPrefix l.fn.pass.words l.pass.words;
-  made : l.pass.made ≤ l.fn.pass.made + (sum_by name_words (take l.name-index l.names) + 1);
-  kept : kept_of l.pass ≡ kept_of l.fn.pass;
+  writes : PassWrites g.N.Site.log.cap l.fn.pass l.pass (sum_by name_words (take l.name-index l.names) + 1) false;
 }

@@ -4,6 +4,8 @@ use Rattle.ct_query.specs.Pred.{condition_of}
 use Rattle.ct_history.{specs.Encodes.Adds, proofs.Encoded.condition_later, proofs.Lists.list_said}
 use Rattle.ct_query.specs.Plain as plain
 use Rattle.ct_word.specs.declared.kinds.Class.TheVariants as class
+use Rattle.ct_condition.proofs.Writes.{writes_both, writes_within}
+use Rattle.ct_history.proofs.Frames.{refused}
 use Rattle.ct_history.proofs.encoding.delete.Goals as goal
 
 pub returns-clause-adds : goal.returns-clause-adds
@@ -15,7 +17,7 @@ returns-clause-adds g c =
     let cond = c.in_ok-cond.cond in
     let is = condition_later conds now p cond c.in_ok-table.ensures.longer c.in_ok-cond.ensures.is in
     let change = Delete c.args.name.now (condition_at now cond) in
-    let longer = prefix_of_prefix old conds now c.in_ok-cond.ensures.longer c.in_ok-table.ensures.longer in
+    let longer = prefix_of_prefix old conds now c.in_ok-cond.ensures.writes.longer c.in_ok-table.ensures.longer in
     IfOk-weaker c.add.result _ (λ place. Adds old c.add.new.pass.words c.args.list place (plain.Delete c.args.name.now p) [])
     (λ place stands. record {
       change = change;
@@ -31,7 +33,16 @@ add-requires-clause-list g c =
     let old = c.args.pass.now.words in
     let conds = c.condition.new.pass.words in
     let now = c.text.new.pass.words in
-    place_in_prefix old now class.ChangeList c.args.list (prefix_of_prefix old conds now c.in_ok-cond.ensures.longer c.in_ok-table.ensures.longer) c.requires.list
+    place_in_prefix old now class.ChangeList c.args.list (prefix_of_prefix old conds now c.in_ok-cond.ensures.writes.longer c.in_ok-table.ensures.longer) c.requires.list
 
 pub add-requires-clause-formed : goal.add-requires-clause-formed
 add-requires-clause-formed g c = grind (arith, place_in_prefix)
+
+pub returns-in_err-cond-clause-writes : goal.returns-in_err-cond-clause-writes
+returns-in_err-cond-clause-writes g c = refused _ c.from_residual.result c.from_residual.ensures.1 (omega arith) c.in_err-cond.ensures.writes
+
+pub returns-in_err-table-clause-writes : goal.returns-in_err-table-clause-writes
+returns-in_err-table-clause-writes g c = refused _ c.from_residual-in_err-table.result c.from_residual-in_err-table.ensures.1 (omega arith) (writes_both c.in_ok-cond.ensures.writes c.in_err-table.ensures.writes)
+
+pub returns-clause-writes : goal.returns-clause-writes
+returns-clause-writes g c = writes_within _ (omega arith) (writes_both c.in_ok-cond.ensures.writes (writes_both c.in_ok-table.ensures.writes c.add.ensures.writes))

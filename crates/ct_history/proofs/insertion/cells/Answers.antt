@@ -1,8 +1,10 @@
 use Rattle.std.{proofs.Common.{arith, ◌∙◌, ap, sym, map, take, get_or, Some}, proofs.lemmas.List.map_more, proofs.lemmas.List.Elements.All-get_or}
 use Rattle.std.specs.Prelude.{IsTrue}
 use Rattle.ct_word.{specs.Reading.{IsRow, term_at}, specs.WellFormed.is_place_of, proofs.Prefixes.prefix_of_prefix}
-use Rattle.ct_history.proofs.Rows.{cell_added, counted}
+use Rattle.ct_history.proofs.Rows.{cell_added}
 use Rattle.ct_word.specs.declared.kinds.Class.TheVariants as class
+use Rattle.ct_condition.proofs.Writes.{writes_none, writes_both, writes_within}
+use Rattle.ct_history.proofs.Frames.{refused}
 use Rattle.ct_history.proofs.insertion.cells.Goals as goal
 
 pub loop-cell-preserved : goal.loop-cell-preserved
@@ -13,7 +15,7 @@ loop-cell-preserved g c =
     let cells = c.args.cells.now in
     let at = c.loop-cell.cell-index in
     let cell = get_or cells at 0 in
-    let longer = prefix_of_prefix first old new c.loop-cell.invariant.longer c.in_ok-place.ensures.longer in
+    let longer = prefix_of_prefix first old new c.loop-cell.invariant.writes.longer c.in_ok-place.ensures.longer in
     record {
       stands =
           cell_added first old new (map (term_at first) (take at cells)) c.loop-cell.place cell c.in_ok-place.place
@@ -22,10 +24,19 @@ loop-cell-preserved g c =
           ∙ ap (λ ts. Some (IsRow ts)) (sym (map_more (term_at first) cells at 0 c.loop-cell-test.true));
       class = c.in_ok-place.ensures.place;
       small = c.in_ok-place.ensures.small;
-      longer = longer;
-      made = let one = counted _ _ _ _ c.in_ok-place.ensures.made in omega (arith, one, c.loop-cell.invariant.made);
-      kept = c.in_ok-place.ensures.kept ∙ c.loop-cell.invariant.kept;
+      writes = writes_both c.loop-cell.invariant.writes c.in_ok-place.ensures.writes;
     }
 
-pub returns-in_err-place-clause-made : goal.returns-in_err-place-clause-made
-returns-in_err-place-clause-made g c = omega (arith, c.in_err-place.ensures.err, c.loop-cell.invariant.made)
+pub loop-cell-init : goal.loop-cell-init
+loop-cell-init g c = record {
+  stands = c.requires.start.stands;
+  class = c.requires.start.class;
+  small = c.requires.start.small;
+  writes = writes_none _ c.words.ensures.formed c.words.ensures.room;
+}
+
+pub returns-in_err-place-clause-writes : goal.returns-in_err-place-clause-writes
+returns-in_err-place-clause-writes g c = refused _ c.from_residual.result c.from_residual.ensures.1 (omega arith) (writes_both c.loop-cell.invariant.writes c.in_err-place.ensures.writes)
+
+pub returns-clause-writes : goal.returns-clause-writes
+returns-clause-writes g c = writes_within _ (omega arith) c.loop-cell.invariant.writes

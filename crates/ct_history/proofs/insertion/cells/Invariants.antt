@@ -1,7 +1,6 @@
-use Rattle.std.{proofs.Common.{◌≡◌, ◌<◌, ◌^◌, ◌≤◌, ◌+◌, take, map}, specs.Prelude.IsTrue}
+use Rattle.std.{proofs.Common.{◌<◌, ◌^◌, take, map, false}, specs.Prelude.IsTrue}
 use Rattle.ct_word.{specs.Reading.{IsRow, term_at}, specs.Stands.StandsAt, specs.WellFormed.is_place_of}
-use Rattle.ct_history.specs.Kept.{kept_of}
-use mathlib.Core.List.{IsPrefix}
+use Rattle.ct_history.specs.Kept.{PassWrites}
 use Rattle.ct_word.specs.declared.kinds.Class.TheVariants as class
 use Rattle.ct_history.proofs.insertion.cells.Given as goal
 
@@ -10,7 +9,5 @@ invariant-loop-cell g l = record {
   stands : StandsAt l.pass.words l.place (IsRow (map (term_at l.fn.pass.words) (take l.cell-index l.cells)));
   class : IsTrue (is_place_of l.pass.words class.Row l.place);
   small : l.place < 2 ^ 28;
-  longer : IsPrefix l.fn.pass.words l.pass.words;
-  made : l.pass.made ≤ l.fn.pass.made + l.cell-index;
-  kept : kept_of l.pass ≡ kept_of l.fn.pass;
+  writes : PassWrites g.N.Site.log.cap l.fn.pass l.pass l.cell-index false;
 }

@@ -2,6 +2,8 @@ use Rattle.std.{proofs.Common.{arith, subst}, specs.Prelude.IfOk}
 use Rattle.ct_word.{proofs.Prefixes.place_in_prefix, specs.Change.Insert, specs.Reading.{IsChangeList, as_row_list, as_text}, specs.Stands.StandsAt}
 use Rattle.ct_history.proofs.Lists.{list_said, meaning_kept}
 use Rattle.ct_word.specs.declared.kinds.Class.TheVariants as class
+use Rattle.ct_condition.proofs.Writes.{writes_both, writes_within}
+use Rattle.ct_history.proofs.Frames.{refused}
 use Rattle.ct_history.proofs.insertion.insert_list.Goals as goal
 
 pub returns-clause-stands : goal.returns-clause-stands
@@ -19,3 +21,9 @@ add-requires-clause-list g c = grind (arith, place_in_prefix)
 
 pub add-requires-clause-formed : goal.add-requires-clause-formed
 add-requires-clause-formed g c = grind (arith, place_in_prefix)
+
+pub returns-in_err-table-clause-writes : goal.returns-in_err-table-clause-writes
+returns-in_err-table-clause-writes g c = refused _ c.from_residual.result c.from_residual.ensures.1 (omega arith) c.in_err-table.ensures.writes
+
+pub returns-clause-writes : goal.returns-clause-writes
+returns-clause-writes g c = writes_within _ (omega arith) (writes_both c.in_ok-table.ensures.writes c.add.ensures.writes)

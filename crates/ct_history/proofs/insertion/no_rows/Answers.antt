@@ -1,7 +1,8 @@
 use Rattle.std.proofs.Common.{arith}
-use Rattle.ct_history.proofs.Rows.{counted}
 use Rattle.ct_word.proofs.Prefixes.{place_in_prefix, place_within, stands_in_prefix}
 use Rattle.ct_word.specs.declared.kinds.Class.TheVariants as class
+use Rattle.ct_condition.proofs.Writes.{writes_both}
+use Rattle.ct_history.proofs.Frames.{refused}
 use Rattle.ct_history.proofs.insertion.no_rows.Goals as goal
 
 pub returns-clause-rows : goal.returns-clause-rows
@@ -18,14 +19,11 @@ returns-clause-rows g c =
 pub returns-clause-start : goal.returns-clause-start
 returns-clause-start g c = record { stands = c.in_ok-start.ensures.stands; class = c.in_ok-start.ensures.place; small = c.in_ok-start.ensures.small }
 
-pub returns-in_err-start-clause-made : goal.returns-in_err-start-clause-made
-returns-in_err-start-clause-made g c = let one = counted _ _ _ _ c.in_ok-list.ensures.made in omega (arith, one, c.in_err-start.ensures.err)
+pub returns-in_err-list-clause-writes : goal.returns-in_err-list-clause-writes
+returns-in_err-list-clause-writes g c = refused _ c.from_residual.result c.from_residual.ensures.1 (omega arith) c.in_err-list.ensures.writes
 
-pub returns-in_err-start-clause-err : goal.returns-in_err-start-clause-err
-returns-in_err-start-clause-err g c = grind (arith, counted)
+pub returns-in_err-start-clause-writes : goal.returns-in_err-start-clause-writes
+returns-in_err-start-clause-writes g c = refused _ c.from_residual-in_err-start.result c.from_residual-in_err-start.ensures.1 (omega arith) (writes_both c.in_ok-list.ensures.writes c.in_err-start.ensures.writes)
 
-pub returns-clause-made : goal.returns-clause-made
-returns-clause-made g c =
-    let one = counted _ _ _ _ c.in_ok-list.ensures.made in
-    let two = counted _ _ _ _ c.in_ok-start.ensures.made in
-    omega (arith, one, two)
+pub returns-clause-writes : goal.returns-clause-writes
+returns-clause-writes g c = writes_both c.in_ok-list.ensures.writes c.in_ok-start.ensures.writes

@@ -1,6 +1,8 @@
 use Rattle.std.proofs.Common.{arith}
-use Rattle.ct_history.proofs.Rows.{counted, row_added}
+use Rattle.ct_history.proofs.Rows.{row_added}
 use Rattle.ct_word.proofs.Prefixes.{place_in_prefix}
+use Rattle.ct_condition.proofs.Writes.{writes_both}
+use Rattle.ct_history.proofs.Frames.{refused}
 use Rattle.ct_history.proofs.insertion.put_row.Goals as goal
 
 pub returns-clause-rows : goal.returns-clause-rows
@@ -14,11 +16,11 @@ returns-clause-rows g c = record {
 pub put-requires-2-clause-formed : goal.put-requires-2-clause-formed
 put-requires-2-clause-formed g c = grind (arith, place_in_prefix)
 
-pub returns-in_err-place-clause-made : goal.returns-in_err-place-clause-made
-returns-in_err-place-clause-made g c = let one = counted _ _ _ _ c.in_ok-row.ensures.made in omega (arith, one, c.in_err-place.ensures.err)
+pub returns-in_err-row-clause-writes : goal.returns-in_err-row-clause-writes
+returns-in_err-row-clause-writes g c = refused _ c.from_residual.result c.from_residual.ensures.1 (omega arith) c.in_err-row.ensures.writes
 
-pub returns-clause-made : goal.returns-clause-made
-returns-clause-made g c =
-    let one = counted _ _ _ _ c.in_ok-row.ensures.made in
-    let two = counted _ _ _ _ c.in_ok-place.ensures.made in
-    omega (arith, one, two)
+pub returns-in_err-place-clause-writes : goal.returns-in_err-place-clause-writes
+returns-in_err-place-clause-writes g c = refused _ c.from_residual-in_err-place.result c.from_residual-in_err-place.ensures.1 (omega arith) (writes_both c.in_ok-row.ensures.writes c.in_err-place.ensures.writes)
+
+pub returns-clause-writes : goal.returns-clause-writes
+returns-clause-writes g c = writes_both c.in_ok-row.ensures.writes c.in_ok-place.ensures.writes

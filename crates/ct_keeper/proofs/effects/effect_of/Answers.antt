@@ -23,3 +23,8 @@ pub returns-in-Delete-clause-does : goal.returns-in-Delete-clause-does
 returns-in-Delete-clause-does g c =
     subst (λ w. IfOk c.deleted.result (DoesChange (g.I.Interner.list c.args.pass.now) (g.I.Interner.list c.deleted.new.pass) c.args.db.now c.args.global w))
     (sym c.in-Delete.is) (c.deleted.ensures.does c.args.global)
+
+pub returns-in-Update-clause-does : goal.returns-in-Update-clause-does
+returns-in-Update-clause-does g c =
+    subst (λ w. IfOk c.updated.result (DoesChange (g.I.Interner.list c.args.pass.now) (g.I.Interner.list c.updated.new.pass) c.args.db.now c.args.global w))
+    ((λ i. written.Update c.in-Update.name (c.as_slice-in-Update.ensures i) c.in-Update.cond) ∙ sym c.in-Update.is) (c.updated.ensures.does c.args.global)

@@ -1,20 +1,15 @@
 use Rattle.ct_word.{specs.Condition.holds_at, specs.Reading.condition_at}
-use Rattle.std.{proofs.Common.{ℕ, List, ◌&&◌, ◌≡◌, ◌≤◌, ◌+◌, ◌*◌, ◌∙◌, arith, refl, length, take, drop, subst, sym, ap, [], ◌∷◌, ◌++◌, inl, inr}, proofs.lemmas.Bool.false≢true, proofs.lemmas.Result.err_from_is_err_and}
-use Rattle.std.{proofs.lemmas.List.{take_all, drop_all, append-nil}, specs.Prelude.{◌⊎◌}}
+use Rattle.std.{proofs.Common.{ℕ, List, ◌&&◌, ◌≡◌, ◌≤◌, ◌+◌, ◌*◌, ◌∙◌, arith, refl, length, take, subst, sym, ap, [], ◌∷◌, ◌++◌, inl, inr}, proofs.lemmas.Bool.false≢true, proofs.lemmas.Result.err_from_is_err_and}
+use Rattle.std.{proofs.lemmas.List.take_all, specs.Prelude.{◌⊎◌}}
 use Rattle.ct_word.specs.declared.values.Term.{Term}
 use Rattle.ct_condition.{specs.Terms.TermsFrom, proofs.Writes.{writes_none, writes_both, writes_of, writes_made}}
 use Rattle.ct_join.specs.Pairs.{partners}
 use Rattle.ct_operators.{proofs.Adding.{made_more, made_within}, specs.Terms.TermOfRows, proofs.Reaching.{row_itself, row_wider, row_before}}
 use Rattle.ct_operators.proofs.Selecting.{Turn, turn, Selects, selects_none, selects_more, selects_as_many, selected_rows, selected_values}
 use Rattle.ct_operators.specs.Judging.{passes, FitsTest, Further, first_words, test_words}
-use Rattle.ct_operators.{specs.Nearness.{row_key, AreKeys, Narrows}, proofs.Narrowing.{narrows, key_later}, proofs.Holding.holds_as, proofs.Tests.{no_column, fits_later, words_later, judged_before, further_before}}
+use Rattle.ct_operators.{specs.Nearness.{row_key, AreKeys, Narrows}, proofs.Narrowing.{narrows, key_later}, proofs.Putting.written_back, proofs.Holding.holds_as, proofs.Tests.{no_column, fits_later, words_later, judged_before, further_before}}
 use Rattle.ct_operators.proofs.selection.sifted.Goals.{then-not-is_false+in_ok-push_under, else-not-is_false, After-narrowed-near, After-from_vec}
 use Rattle.ct_operators.proofs.selection.sifted.Goals as goal
-
--- a list keeps its length where a slice of all its items was written to
-written_back : (n : ℕ) (new old : List ℕ) → length new ≡ length old → n ≡ length old → length (take n (new ++ drop (length new) old)) ≡ length old
-written_back n new old e is =
-    ap (λ (l : List ℕ). length l) (ap (λ l. take n (new ++ l)) (drop_all (length new) old (omega (arith, e))) ∙ ap (take n) (append-nil new) ∙ take_all n new (omega (arith, e, is))) ∙ e
 
 -- the row of a turn
 this : (g : _) (c : After-narrowed-near g)

@@ -1,8 +1,9 @@
-use Rattle.std.{proofs.Common.{◌≤◌, ◌+◌, length, refl, sym, subst, arith}, specs.Prelude.None}
+use Rattle.std.{proofs.Common.{◌≤◌, ◌+◌, ap, length, refl, sym, subst, ◌∙◌, arith}, specs.Prelude.None}
 use Rattle.ct_word.{specs.Reading.commits_of, proofs.Prefixes.prefix_same}
 use Rattle.ct_arena.{specs.Counts.AreNumbered, specs.Seen.Seen}
 use Rattle.ct_condition.specs.Writes.{charge}
-use Rattle.ct_transaction.{specs.Answers.is_full, specs.Bounded.Makes, specs.Executes.Executes, specs.Sessions.state_of, proofs.Ordered.none_open}
+use Rattle.ct_transaction.{specs.Answers.{is_full, is_unasked}, specs.Bounded.Makes, specs.Executes.Executes, specs.Sessions.state_of, proofs.Ordered.none_open}
+use Rattle.ct_session.proofs.Unasked.{never_both}
 use Rattle.ct_session.proofs.alone.alone.Goals as goal
 
 pub returns-in-Ok-clause-executes : goal.returns-in-Ok-clause-executes
@@ -52,3 +53,9 @@ returns-in-Err-clause-makes g c =
       numbered = subst (λ (q : Seen). AreNumbered q.session q.mine q.words) (sym same) c.words-words.ensures.numbered;
       all = omega arith;
     }) refl))
+
+pub returns-in-Ok-clause-unasked : goal.returns-in-Ok-clause-unasked
+returns-in-Ok-clause-unasked g c = never_both (is_unasked c.in-Ok.done.1) c.in-Ok.ensures.asked
+
+pub returns-in-Err-clause-unasked : goal.returns-in-Err-clause-unasked
+returns-in-Err-clause-unasked g c = λ is. c.anew.ensures.unasked is ∙ ap (λ (p : Seen). p.made) c.in-Err.ensures.same

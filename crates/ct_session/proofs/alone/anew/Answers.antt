@@ -7,11 +7,11 @@ use Rattle.ct_condition.specs.Writes.{charge}
 use Rattle.ct_keeper.specs.Catalogue.{IsNewest}
 use Rattle.ct_parse.specs.declared.tree.Statement.{Statement}
 use Rattle.ct_statement.specs.Making.{says_full}
-use Rattle.ct_transaction.{specs.Answers.is_full, specs.Bounded.{Makes, nothing}, specs.Sessions.state_of, proofs.Going.{prefix_short, version_within}}
+use Rattle.ct_transaction.{specs.Answers.{is_full, is_unasked}, specs.Bounded.{Makes, nothing}, specs.Sessions.state_of, proofs.Going.{prefix_short, version_within}}
 use Rattle.ct_transaction.{proofs.Opened.standing_within, proofs.Ordered.{memory_carried, tally_kept}, proofs.Replies.proceeds}
 use Rattle.ct_session.{specs.Offering.{Readies, IsReady}, specs.Known.IsKnown, specs.Outcomes.Begins}
 use Rattle.ct_session.{proofs.Bounded.{answered_room, readies_less, readies_makes}, proofs.Outside.{answered_outside, begins_on, refused_outside}}
-use Rattle.ct_session.proofs.StillKnown.{known_stays, nothing_known}
+use Rattle.ct_session.proofs.{StillKnown.{known_stays, nothing_known}, Unasked.{answered_asked, never_both}}
 use mathlib.Core.List.{IsPrefix}
 use Rattle.ct_session.proofs.alone.anew.Goals as goal
 
@@ -193,3 +193,16 @@ returns-in-Err-clause-makes g c = λ first began same.
     let room = ap charge said.ensures.full in
     made_outside pass begun c.begin-pass.ensures.longer at newest first now said.result.0.pass c.args.seen c.args.fresh c.args.statement.now (now.made + charge (says_full c.in-Err.why)) (charge (is_full said.result.1)) c.requires.seen
     c.asked-ready.ensures.longer kept made c.in-Err.ensures.readies said.ensures.pass (omega (arith, room))
+
+pub returns-in_default-clause-unasked : goal.returns-in_default-clause-unasked
+returns-in_default-clause-unasked g c = never_both (is_unasked c.refusal.result.1) c.refusal.ensures.unasked
+
+pub returns-in-Ok-Answer-clause-unasked : goal.returns-in-Ok-Answer-clause-unasked
+returns-in-Ok-Answer-clause-unasked g c = never_both (is_unasked c.reply_of.result) (ap is_unasked c.reply_of.ensures ∙ answered_asked c.of-sight.result.version 0 c.in-Ok-Answer.answered)
+
+pub returns-in-Ok-Offer-clause-unasked : goal.returns-in-Ok-Offer-clause-unasked
+returns-in-Ok-Offer-clause-unasked g c = never_both (is_unasked c.offered.result.1) c.offered.ensures.asked
+
+pub returns-in-Err-clause-unasked : goal.returns-in-Err-clause-unasked
+returns-in-Err-clause-unasked g c = λ is.
+    ap (λ (p : Seen). p.made) c.refusal-in-Err.ensures.pass ∙ c.in-Err.ensures.unasked (sym c.refusal-in-Err.ensures.unasked ∙ is) ∙ ap (λ (t : Tally). t.made) c.begin-pass.ensures.pass

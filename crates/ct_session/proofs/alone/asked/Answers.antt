@@ -1,10 +1,11 @@
-use Rattle.std.proofs.Common.{◌+◌, ap, arith, refl}
+use Rattle.std.{proofs.Common.{◌+◌, ap, arith, refl}, proofs.lemmas.Result.IfErr-weaker}
 use Rattle.ct_word.proofs.Prefixes.{prefix_same}
 use Rattle.ct_condition.specs.Writes.{charge}
-use Rattle.ct_query.{specs.Patterns.count, specs.Views.statement_of}
-use Rattle.ct_statement.{specs.Making.says_full, specs.Sight.{actions_before, history_of}}
+use Rattle.ct_query.{specs.Patterns.count, specs.Schema.schema, specs.Views.statement_of}
+use Rattle.ct_statement.{specs.Making.{says_full, widths_in}, specs.Sight.{actions_before, history_of}}
+use Rattle.ct_transaction.specs.Answers.{is_of_name}
 use Rattle.ct_session.{specs.Offering.idle, proofs.Bounded.readies_on}
-use Rattle.ct_session.{proofs.Outside.refused_on, proofs.StillKnown.{known_stays, nothing_known, seen_longer}}
+use Rattle.ct_session.{proofs.Outside.refused_on, proofs.StillKnown.{known_stays, nothing_known, seen_longer}, proofs.Unasked.{never_both, want_unnamed}}
 use Rattle.ct_session.proofs.alone.asked.Goals as goal
 
 pub returns-in-Err-clause-err : goal.returns-in-Err-clause-err
@@ -45,7 +46,7 @@ returns-in-Ok-offering-clause-readies g c =
     let s = c.args.sight in
     let now = c.literal_offer-offering in
     readies_on begun now.new.pass now.ensures.longer now.ensures.kept s c.requires.sees c.args.fresh c.args.statement.now (statement_of c.in-Ok.found.0) c.in-Ok.ensures.ok begun.made (now.new.pass.made + 0)
-    (c.in-Ok-offering.ensures.made (count (history_of begun.words s) (actions_before s)))
+    (c.in-Ok-offering.ensures.made (count (history_of begun.words s) (actions_before s)) (widths_in (schema (history_of begun.words s) (actions_before s)).tables))
 
 pub returns-in-Err-offering-clause-readies : goal.returns-in-Err-offering-clause-readies
 returns-in-Err-offering-clause-readies g c =
@@ -53,10 +54,18 @@ returns-in-Err-offering-clause-readies g c =
     let s = c.args.sight in
     let now = c.literal_offer-offering in
     readies_on begun now.new.pass now.ensures.longer now.ensures.kept s c.requires.sees c.args.fresh c.args.statement.now (statement_of c.in-Ok.found.0) c.in-Ok.ensures.ok begun.made
-    (now.new.pass.made + charge (says_full c.in-Err-offering.why)) (c.in-Err-offering.ensures.made (count (history_of begun.words s) (actions_before s)))
+    (now.new.pass.made + charge (says_full c.in-Err-offering.why)) (c.in-Err-offering.ensures.made (count (history_of begun.words s) (actions_before s)) (widths_in (schema (history_of begun.words s) (actions_before s)).tables))
 
 pub returns-else-is_literal_act-clause-readies : goal.returns-else-is_literal_act-clause-readies
 returns-else-is_literal_act-clause-readies g c =
     let begun = c.args.pass.now in
     let now = c.performed-ready in
     readies_on begun now.new.pass now.ensures.longer now.ensures.kept c.args.sight c.requires.sees c.args.fresh c.args.statement.now (statement_of c.in-Ok.found.0) c.in-Ok.ensures.ok begun.made _ now.ensures.made
+
+pub returns-in-Err-offering-clause-unasked : goal.returns-in-Err-offering-clause-unasked
+returns-in-Err-offering-clause-unasked g c =
+    let why = c.in-Err-offering.why in
+    never_both (is_of_name why) (want_unnamed g.N.Site.log.cap c.literal_offer-offering.new.pass.words why c.in-Err-offering.ensures.want)
+
+pub returns-else-is_literal_act-clause-unasked : goal.returns-else-is_literal_act-clause-unasked
+returns-else-is_literal_act-clause-unasked g c = IfErr-weaker c.performed-ready.result _ _ (λ why e. never_both (is_of_name why) e) c.performed-ready.ensures.unnamed

@@ -1,10 +1,10 @@
-use Rattle.std.{proofs.Common.{◌+◌, refl, sym, subst}, specs.Prelude.None}
+use Rattle.std.{proofs.Common.{◌+◌, ap, refl, sym, subst, ◌∙◌}, specs.Prelude.None}
 use Rattle.ct_word.proofs.Prefixes.{prefix_same}
 use Rattle.ct_statement.{specs.Sight.IsSight, proofs.Sights.sight_grows}
 use Rattle.ct_arena.specs.Seen.{Seen}
 use Rattle.ct_condition.specs.Writes.{charge}
-use Rattle.ct_transaction.{specs.Answers.is_full, specs.Bounded.Makes, specs.Sessions.state_of, proofs.Bounded.offer_charged, proofs.Called.called}
-use Rattle.ct_session.{proofs.Bounded.alone_makes, proofs.Acted.{ready_seen, ready_executes}}
+use Rattle.ct_transaction.{specs.Answers.{is_full, is_unasked}, specs.Bounded.Makes, specs.Sessions.state_of, proofs.Bounded.offer_charged, proofs.Called.called}
+use Rattle.ct_session.{proofs.Bounded.alone_makes, proofs.Acted.{ready_seen, ready_executes}, proofs.Unasked.outcome_asked}
 use Rattle.ct_session.proofs.alone.offered.Goals as goal
 
 pub commit-pass-requires-clause-offer : goal.commit-pass-requires-clause-offer
@@ -45,3 +45,6 @@ returns-clause-makes g c = λ first began before.
     offer_charged after.words pass o.offer c.commit-pass.result.1 after.made c.commit-pass.ensures.made c.commit-pass.ensures.fewer c.args.seen o.offer.base c.replied-at.result.1 c.replied-at.ensures.reply in
     subst (λ (p : Seen). Makes (state_of first c.args.seen c.args.fresh None) p.words c.args.statement.now first.made (p.made + charge (is_full c.replied-at.result.1))) (sym c.carrying.ensures.pass)
     (alone_makes pass c.args.fresh o c.args.statement.now c.requires.ready after c.commit-pass.ensures.longer first c.args.seen c.requires.seen began.kept (after.made + charge (is_full c.replied-at.result.1)) few before)
+
+pub returns-clause-asked : goal.returns-clause-asked
+returns-clause-asked g c = ap is_unasked c.replied-at.ensures.reply ∙ outcome_asked c.args.seen c.args.offering.offer.base c.commit-pass.result.1

@@ -2,7 +2,7 @@ use Rattle.std.proofs.Common.{false, [], refl, sym, subst}
 use Rattle.ct_statement.{specs.Sight.{actions_before, history_of}, proofs.Sights.sight_grows}
 use Rattle.ct_query.specs.Views.{statement_of}
 use Rattle.ct_transaction.specs.Prepared.{IsPreparedFor, needs_step, unmet, wanting_memory}
-use Rattle.ct_session.{specs.Offering.IsReady, proofs.Ready.ready_to_offer, proofs.Outside.{prepared_on, refused_on, answered_on}}
+use Rattle.ct_session.{specs.Offering.IsReady, proofs.Ready.ready_to_offer, proofs.Outside.{prepared_on, refused_on, answered_on}, proofs.Unasked.unmet_unnamed}
 use Rattle.ct_session.specs.declared.alone.Ready.TheVariants as ready
 use Rattle.ct_transaction.specs.declared.preparing.Prepared.TheVariants as prepared
 use Rattle.ct_session.proofs.alone.performed.Goals as goal
@@ -48,3 +48,8 @@ returns-in-Err-clause-err g c =
     let done = c.in-Err.ensures in
     refused_on c.args.pass.now c.perform-prepared.new.pass done.longer done.kept c.args.sight.now c.requires.sees.sight.within c.requires.sees.none c.args.fresh c.args.statement.now g.N.Site.log.cap why
     (unmet why (record { asked = statement_of c.args.found; resolves = c.requires.resolved.resolves; unmet = done.err }))
+
+pub returns-in-Err-clause-unnamed : goal.returns-in-Err-clause-unnamed
+returns-in-Err-clause-unnamed g c =
+    let s = c.args.sight.now in
+    unmet_unnamed (history_of c.args.pass.now.words s) (actions_before s) g.N.Site.log.cap c.perform-prepared.new.pass.words (statement_of c.args.found) c.in-Err.why c.in-Err.ensures.err

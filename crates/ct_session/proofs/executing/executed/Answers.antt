@@ -1,5 +1,5 @@
 use Rattle.ct_transaction.{specs.Sessions.state_of, proofs.Replies.proceeds_same}
-use Rattle.ct_session.{proofs.Bounded.{makes_bounded, unread_bounded}, proofs.Readings.is_written, proofs.Unread.unread_answers}
+use Rattle.ct_session.{proofs.Bounded.{makes_bounded, unread_bounded}, proofs.Readings.is_written, proofs.Unasked.closed, proofs.Unread.unread_answers}
 use Rattle.ct_session.proofs.executing.executed.Goals as goal
 
 pub placed-done-requires-clause-written : goal.placed-done-requires-clause-written
@@ -18,7 +18,9 @@ pub returns-clause-bounded : goal.returns-clause-bounded
 returns-clause-bounded g c =
     let s = c.args.session in
     let after = c.placed-done.result.0 in
-    makes_bounded g.N.Site.log.cap (state_of s.pass s.seen s.fresh s.transaction) after.pass.words c.in-Ok.statement c.args.text.now c.placed-done.result.1 s.pass.made after.pass.made c.in-Ok.ensures.ok c.placed-done.ensures.makes
+    let done = c.placed-done.ensures in
+    makes_bounded g.N.Site.log.cap (state_of s.pass s.seen s.fresh s.transaction) (state_of after.pass after.seen after.fresh after.transaction) s.pass.words after.pass.words c.in-Ok.statement c.args.text.now c.placed-done.result.1
+    s.pass.made after.pass.made c.in-Ok.ensures.ok (done.executes c.args.text.now c.in-Ok.ensures.ok) (λ none. done.unasked (closed s.transaction none)) done.makes
 
 pub returns-in-Err-clause-bounded : goal.returns-in-Err-clause-bounded
 returns-in-Err-clause-bounded g c =

@@ -1,12 +1,12 @@
-use Rattle.std.{proofs.Common.{◌+◌, ◌∷◌, [], ap₂, arith, sym, subst, ◌∙◌}, specs.Prelude.{None, IfSome}}
+use Rattle.std.{proofs.Common.{◌+◌, ◌∷◌, [], false, ap₂, arith, sym, subst, ◌∙◌}, specs.Prelude.{None, IfSome}}
 use Rattle.ct_arena.specs.Seen.{Seen}
 use Rattle.ct_condition.specs.Writes.{charge}
 use Rattle.ct_query.specs.Views.{statement_of}
 use Rattle.ct_word.proofs.Prefixes.{prefix_of_prefix}
 use Rattle.ct_statement.{specs.Making.says_full, proofs.Sights.sight_grows}
-use Rattle.ct_transaction.{specs.Answers.is_full, specs.Bounded.Makes, specs.Sessions.state_of, proofs.Called.called, proofs.Going.version_within}
-use Rattle.ct_session.{specs.Known.SeesAlone, proofs.Bounded.{charged_less, makes_longer}}
-use Rattle.ct_session.proofs.Again.{known_seen, known_executes, none_committed, outcome_wants, offer_wanted, session_stays, rows_literal, unmade_makes, unmade_insertion, offered_insertion, offered_makes}
+use Rattle.ct_transaction.{specs.Answers.is_full, specs.Bounded.Makes, specs.Sessions.state_of, proofs.Bounded.performs_less, proofs.Called.called, proofs.Going.version_within}
+use Rattle.ct_session.{specs.Known.SeesAlone, specs.Outcomes.IsCommittedOr, proofs.Bounded.{charged_less, makes_longer}}
+use Rattle.ct_session.proofs.Again.{known_seen, known_executes, none_committed, outcome_wants, offer_wanted, session_stays, rows_literal, unmade_makes, unmade_insertion, offered_commits, offered_insertion, offered_makes}
 use Rattle.ct_transcript.specs.declared.reply.Reply.TheVariants as reply
 use Rattle.ct_session.proofs.knowing.insert_known.Goals as goal
 
@@ -46,6 +46,17 @@ pub returns-in-Err-clause-executes : goal.returns-in-Err-clause-executes
 returns-in-Err-clause-executes g c =
     c.wanting.ensures.executes c.args.pass (record { longer = c.literal_offer-offering.ensures.longer; kept = c.literal_offer-offering.ensures.kept; numbered = c.words-begun.ensures.numbered })
 
+pub committed_or-requires : goal.committed_or-requires
+committed_or-requires g c =
+    let pass = c.args.pass in
+    let now = c.literal_offer-offering in
+    let made = c.in-Ok in
+    record {
+      settled = offered_commits pass now.new.pass now.ensures.longer (session_stays pass now.new.pass now.ensures.kept) c.args.seen c.args.fresh c.in-Some.sight.version c.requires.seen c.args.statement.now
+          (statement_of c.in-Some-found_known.found) c.in-Some-found_known.ensures.found c.in-Some-found_known.ensures.rows made.offering made.ensures.ok made.ensures.base c.commit-pass.result.0 c.commit-pass.ensures.longer c.commit-pass.ensures.session
+          g.N.Site.log.cap c.commit-pass.result.1 c.commit-pass.ensures.outcome;
+    }
+
 pub returns-in-Ok-committed_or-clause-session : goal.returns-in-Ok-committed_or-clause-session
 returns-in-Ok-committed_or-clause-session g c =
     let N = g.N.Site.log.cap in
@@ -55,7 +66,7 @@ returns-in-Ok-committed_or-clause-session g c =
     let k = called N c.args.pass now.new.pass after now.ensures.longer now.ensures.kept c.words-begun.ensures.numbered c.words-now.ensures.numbered c.commit-pass.ensures.longer c.commit-pass.ensures.session c.words-after.ensures.numbered c.words-after.ensures.room in
     c.carrying-session.ensures.session (record {
       seen_is = known_seen c.args.pass now.new.pass now.ensures.kept c.args.fresh made.offering c.args.statement.now made.ensures.ok N c.args.seen c.requires.seen after k
-          c.commit-pass.result.1 c.in-Ok-committed_or.at (sym c.committed_or.ensures ∙ c.in-Ok-committed_or.is) c.commit-pass.ensures.outcome;
+          c.commit-pass.result.1 c.in-Ok-committed_or.at (subst (IsCommittedOr c.commit-pass.result.1) c.in-Ok-committed_or.is c.committed_or.ensures) c.commit-pass.ensures.outcome;
       open_is = tt;
     })
 
@@ -69,7 +80,7 @@ returns-in-Ok-committed_or-clause-executes g c =
     let k = called N c.args.pass now.new.pass after now.ensures.longer now.ensures.kept c.words-begun.ensures.numbered c.words-now.ensures.numbered c.commit-pass.ensures.longer c.commit-pass.ensures.session c.words-after.ensures.numbered c.words-after.ensures.room in
     c.carrying-session.ensures.executes N (state_of c.args.pass c.args.seen c.args.fresh None) c.args.pass.words st (reply.Committed c.in-Ok-committed_or.at)
     (known_executes c.args.pass now.new.pass now.ensures.kept c.args.fresh made.offering st made.ensures.ok N c.args.seen c.requires.seen after k
-    c.commit-pass.result.1 c.in-Ok-committed_or.at (sym c.committed_or.ensures ∙ c.in-Ok-committed_or.is) c.commit-pass.ensures.outcome)
+    c.commit-pass.result.1 c.in-Ok-committed_or.at (subst (IsCommittedOr c.commit-pass.result.1) c.in-Ok-committed_or.is c.committed_or.ensures) c.commit-pass.ensures.outcome)
 
 pub returns-in-Ok-committed_or-clause-known : goal.returns-in-Ok-committed_or-clause-known
 returns-in-Ok-committed_or-clause-known g c =
@@ -93,7 +104,7 @@ returns-in-Ok-committed_or-clause-makes g c =
     subst (λ (p : Seen). Makes (state_of pass c.args.seen c.args.fresh None) p.words c.args.statement.now pass.made (p.made + 0)) (sym c.carrying-session.ensures.pass)
     (offered_makes pass now.new.pass now.ensures.longer (session_stays pass now.new.pass now.ensures.kept) c.args.seen c.args.fresh c.in-Some.sight.version c.requires.seen c.args.statement.now
     (statement_of c.in-Some-found_known.found) c.in-Some-found_known.ensures.found c.in-Some-found_known.ensures.rows made.offering made.ensures.ok made.ensures.base after c.commit-pass.ensures.longer c.commit-pass.ensures.session
-    (after.made + 0) (λ counts. let done = made.ensures.made counts in omega (arith, done)) (omega (arith, few)))
+    (after.made + 0) (λ counts widths. performs_less false counts widths (statement_of c.in-Some-found_known.found) pass.made (now.new.pass.made + 0) now.new.pass.made (omega arith) (made.ensures.made counts widths)) (omega (arith, few)))
 
 pub wanting-requires-in-Err-committed_or-clause-seen : goal.wanting-requires-in-Err-committed_or-clause-seen
 wanting-requires-in-Err-committed_or-clause-seen g c =
@@ -110,7 +121,7 @@ wanting-requires-in-Err-committed_or-clause-insertion g c =
 
 pub wanting-requires-in-Err-committed_or-clause-want : goal.wanting-requires-in-Err-committed_or-clause-want
 wanting-requires-in-Err-committed_or-clause-want g c =
-    outcome_wants g.N.Site.log.cap c.literal_offer-offering.new.pass c.commit-pass.result.0 c.in-Ok.offering.offer c.commit-pass.result.1 c.in-Err-committed_or.why (sym c.committed_or.ensures ∙ c.in-Err-committed_or.is)
+    outcome_wants g.N.Site.log.cap c.literal_offer-offering.new.pass c.commit-pass.result.0 c.in-Ok.offering.offer c.commit-pass.result.1 c.in-Err-committed_or.why (subst (IsCommittedOr c.commit-pass.result.1) c.in-Err-committed_or.is c.committed_or.ensures)
     c.commit-pass.ensures.outcome
 
 pub returns-in-Err-committed_or-clause-executes : goal.returns-in-Err-committed_or-clause-executes
@@ -118,7 +129,7 @@ returns-in-Err-committed_or-clause-executes g c =
     let pass = c.args.pass in
     let now = c.literal_offer-offering in
     let after = c.commit-pass.result.0 in
-    let mine = none_committed g.N.Site.log.cap now.new.pass after c.in-Ok.offering.offer c.commit-pass.result.1 c.in-Err-committed_or.why (sym c.committed_or.ensures ∙ c.in-Err-committed_or.is)
+    let mine = none_committed g.N.Site.log.cap now.new.pass after c.in-Ok.offering.offer c.commit-pass.result.1 c.in-Err-committed_or.why (subst (IsCommittedOr c.commit-pass.result.1) c.in-Err-committed_or.is c.committed_or.ensures)
     c.commit-pass.ensures.outcome in
     c.wanting-in-Err-committed_or.ensures.executes pass (record {
       longer = prefix_of_prefix pass.words now.new.pass.words after.words now.ensures.longer c.commit-pass.ensures.longer;
@@ -136,10 +147,10 @@ returns-in-Err-committed_or-clause-makes g c =
     let after = w.result.0.pass in
     let few =
     offer_wanted offered.words now.new.pass made.offering.offer c.commit-pass.result.1 offered.made c.commit-pass.ensures.made c.commit-pass.ensures.fewer c.in-Err-committed_or.why
-    (sym c.committed_or.ensures ∙ c.in-Err-committed_or.is) in
+    (subst (IsCommittedOr c.commit-pass.result.1) c.in-Err-committed_or.is c.committed_or.ensures) in
     let more = charged_less (is_full w.result.1) (says_full c.in-Err-committed_or.why) w.ensures.full in
     let same = w.ensures.made in
     makes_longer (state_of pass c.args.seen c.args.fresh None) offered.words after.words c.args.statement.now pass.made (after.made + charge (is_full w.result.1)) w.ensures.longer
     (offered_makes pass now.new.pass now.ensures.longer (session_stays pass now.new.pass now.ensures.kept) c.args.seen c.args.fresh c.in-Some.sight.version c.requires.seen c.args.statement.now
     (statement_of c.in-Some-found_known.found) c.in-Some-found_known.ensures.found c.in-Some-found_known.ensures.rows made.offering made.ensures.ok made.ensures.base offered c.commit-pass.ensures.longer c.commit-pass.ensures.session
-    (after.made + charge (is_full w.result.1)) (λ counts. let done = made.ensures.made counts in omega (arith, done)) (omega (arith, few, more, same)))
+    (after.made + charge (is_full w.result.1)) (λ counts widths. performs_less false counts widths (statement_of c.in-Some-found_known.found) pass.made (now.new.pass.made + 0) now.new.pass.made (omega arith) (made.ensures.made counts widths)) (omega (arith, few, more, same)))

@@ -1,4 +1,4 @@
-use Rattle.std.proofs.Common.{None, ◌+◌, arith, ap, refl, sym, subst, ◌∙◌}
+use Rattle.std.proofs.Common.{None, ◌+◌, false, arith, ap, refl, sym, subst, ◌∙◌}
 use Rattle.ct_word.proofs.Prefixes.{prefix_same}
 use Rattle.ct_query.{specs.Reads.reads_of, specs.Views.{action_of, statement_of}}
 use Rattle.ct_transaction.specs.Bounded.{Performs}
@@ -37,11 +37,11 @@ returns-in-Err-clause-err g c =
     g.N.Site.log.cap c.in-Err.why c.in-Err.ensures.err
 
 pub returns-in-Ok-clause-made : goal.returns-in-Ok-clause-made
-returns-in-Ok-clause-made g c = λ counts.
-    let most = c.in-Ok.ensures.made counts in
-    subst (λ r. Performs counts (statement_of r) c.args.pass.now.made (c.propose_literal-proposed.new.pass.made + 0)) (sym c.in-Act.is) (omega (arith, most))
+returns-in-Ok-clause-made g c = λ counts widths.
+    let most = c.in-Ok.ensures.made counts widths in
+    subst (λ r. Performs false counts widths (statement_of r) c.args.pass.now.made (c.propose_literal-proposed.new.pass.made + 0)) (sym c.in-Act.is) (omega (arith, most))
 
 pub returns-in-Err-clause-made : goal.returns-in-Err-clause-made
-returns-in-Err-clause-made g c = λ counts.
-    let most = c.in-Err.ensures.made counts in
-    subst (λ r. Performs counts (statement_of r) c.args.pass.now.made (c.propose_literal-proposed.new.pass.made + charge (says_full c.in-Err.why))) (sym c.in-Act.is) (omega (arith, most))
+returns-in-Err-clause-made g c = λ counts widths.
+    let most = c.in-Err.ensures.made counts widths in
+    subst (λ r. Performs false counts widths (statement_of r) c.args.pass.now.made (c.propose_literal-proposed.new.pass.made + charge (says_full c.in-Err.why))) (sym c.in-Act.is) (omega (arith, most))

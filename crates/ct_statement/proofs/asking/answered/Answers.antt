@@ -61,9 +61,8 @@ returns-in-Err-clause-err g c =
     let actions = actions_before c.args.sight.now in
     let q = query_of c.args.query.now in
     subst (IsUnasked h actions g.N.Site.log.cap c.eval.new.pass.words q) (sym c.unanswered.ensures)
-    (evaluation_fails old h actions c.db.result.now (subst (Denotes old h actions) (sym c.db.ensures) c.requires.sight.denotes) c.eval.new.pass.words q g.N.Site.log.cap c.made-made.result c.made.result c.in-Err.e
-    (λ e. c.in-Err.ensures.too_large (ap Err e)) (λ e. c.in-Err.ensures.full (ap Err e))
-    (λ e. let fewer = c.in-Err.ensures.fewer (ap Err e) in let before = c.made-made.ensures in let after = c.made.ensures in omega (arith, fewer, before, after)))
+    (evaluation_fails old h actions c.db.result.now (subst (Denotes old h actions) (sym c.db.ensures) c.requires.sight.denotes) c.eval.new.pass.words q g.N.Site.log.cap c.args.pass.now.made c.eval.new.pass.made c.in-Err.e c.eval.ensures.rises
+    (λ e. c.in-Err.ensures.too_large (ap Err e)) (λ e. c.in-Err.ensures.full (ap Err e)) (λ e. c.in-Err.ensures.fewer (ap Err e)))
 
 pub returns-clause-made : goal.returns-clause-made
 returns-clause-made g c =
@@ -86,4 +85,4 @@ returns-in-Err-clause-made g c =
     let made = c.args.pass.now.made in
     let made' = c.eval.new.pass.made in
     subst (λ why. made' + charge (says_full why) ≤ made + nodes (count h actions) q) (sym c.unanswered.ensures)
-    (let within = evaluated_within (nodes (rows_in (map count_of db)) q) made made' c.made-made.result c.made.result c.in-Err.e c.eval.ensures.made (λ e. c.in-Err.ensures.fewer (ap Err e)) in omega (arith, within, more))
+    (let within = evaluated_within (nodes (rows_in (map count_of db)) q) made made' c.in-Err.e c.eval.ensures.made (λ e. c.in-Err.ensures.fewer (ap Err e)) in omega (arith, within, more))

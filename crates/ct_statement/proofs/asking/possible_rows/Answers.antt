@@ -1,8 +1,8 @@
 use Rattle.std.{proofs.Common.{◌+◌, ◌≤◌, [], ap, arith, length, subst, sym}, specs.Prelude.{Err, None}}
-use Rattle.ct_query.{specs.Bounds.bound, specs.Patterns.count, specs.Views.query_of}
+use Rattle.ct_query.{specs.Bounds.bound, specs.Patterns.count, specs.Schema.schema, specs.Views.query_of}
 use Rattle.ct_condition.specs.Writes.{charge}
 use Rattle.ct_statement.{specs.Sight.{actions_before, history_of}, specs.Unmet.IsUnmet, proofs.Evaluating.possible_fails, proofs.Questions.possible_right}
-use Rattle.ct_statement.{specs.Asking.unlisted, specs.Making.says_full, proofs.Evaluating.few_counted, proofs.Making.{asked_within, listed_within}, proofs.Wanting.unasked_unmet}
+use Rattle.ct_statement.{specs.Asking.unlisted, specs.Making.{says_full, widths_in}, proofs.Evaluating.few_counted, proofs.Making.{asked_within, listed_within}, proofs.Wanting.unasked_unmet}
 use Rattle.ct_query.specs.Plain as plain
 use Rattle.ct_query.specs.declared.action.Ask.TheVariants as ask
 use Rattle.ct_statement.proofs.asking.possible_rows.Goals as goal
@@ -36,8 +36,8 @@ returns-in-Err-possible-clause-err g c =
     let table = c.in-Ok.table in
     let new = c.possible.new.pass.words in
     λ columns. subst (IsUnmet h actions g.N.Site.log.cap new (plain.Asks ask.Possible columns q)) (sym c.unlisted.ensures)
-    (possible_fails old h actions c.args.sight.now.tables c.requires.sight.denotes new q table.rows c.in-Ok.ensures.few g.N.Site.log.cap columns c.made-made.result c.made.result c.in-Err-possible.e
-    (λ e. c.in-Err-possible.ensures.full (ap Err e)) (λ e. let fewer = c.in-Err-possible.ensures.fewer (ap Err e) in let before = c.made-made.ensures in let after = c.made.ensures in omega (arith, fewer, before, after)))
+    (possible_fails old h actions c.args.sight.now.tables c.requires.sight.denotes new q table.rows c.in-Ok.ensures.few g.N.Site.log.cap columns c.answered.new.pass.made c.possible.new.pass.made c.in-Err-possible.e c.possible.ensures.rises
+    (λ e. c.in-Err-possible.ensures.full (ap Err e)) (λ e. c.in-Err-possible.ensures.fewer (ap Err e)))
 
 pub returns-in-Err-clause-made : goal.returns-in-Err-clause-made
 returns-in-Err-clause-made g c = let most = c.in-Err.ensures.made in omega (arith, most)
@@ -52,7 +52,7 @@ returns-clause-made g c =
     let few = few_counted old h actions db c.requires.sight.denotes q (length c.in-Ok.table.rows) c.in-Ok.ensures.few in
     let first = c.in-Ok.ensures.made in
     let most = c.possible.ensures.made in
-    let all = asked_within (count h actions) q (length c.in-Ok.table.rows) c.args.pass.now.made c.answered.new.pass.made c.possible.new.pass.made few (omega (arith, first)) most in
+    let all = asked_within (count h actions) (widths_in (schema h actions).tables) q (length c.in-Ok.table.rows) c.args.pass.now.made c.answered.new.pass.made c.possible.new.pass.made few (omega (arith, first)) most in
     omega (arith, all)
 
 pub returns-in-Err-possible-clause-made : goal.returns-in-Err-possible-clause-made
@@ -66,6 +66,6 @@ returns-in-Err-possible-clause-made g c =
     let few = few_counted old h actions db c.requires.sight.denotes q (length c.in-Ok.table.rows) c.in-Ok.ensures.few in
     let first = c.in-Ok.ensures.made in
     let made = c.possible.new.pass.made in
-    subst (λ why. made + charge (says_full why) ≤ c.args.pass.now.made + bound (count h actions) None (plain.Asks ask.Possible [] q)) (sym c.unlisted.ensures)
-    (asked_within (count h actions) q (length rows) c.args.pass.now.made c.answered.new.pass.made (made + charge (says_full (unlisted c.in-Err-possible.e c.made-made.result c.made.result))) few (omega (arith, first))
-    (listed_within (length rows) c.answered.new.pass.made made c.made-made.result c.made.result c.in-Err-possible.e c.possible.ensures.made (λ e. c.in-Err-possible.ensures.fewer (ap Err e))))
+    subst (λ why. made + charge (says_full why) ≤ c.args.pass.now.made + bound (count h actions) (widths_in (schema h actions).tables) None (plain.Asks ask.Possible [] q)) (sym c.unlisted.ensures)
+    (asked_within (count h actions) (widths_in (schema h actions).tables) q (length rows) c.args.pass.now.made c.answered.new.pass.made (made + charge (says_full (unlisted c.in-Err-possible.e))) few (omega (arith, first))
+    (listed_within (length rows) c.answered.new.pass.made made c.in-Err-possible.e c.possible.ensures.made (λ e. c.in-Err-possible.ensures.fewer (ap Err e))))

@@ -4,7 +4,7 @@ use Rattle.ct_condition.specs.Writes.{charge}
 use Rattle.ct_table.proofs.Snapshots.{kept_grows}
 use Rattle.ct_certain.specs.Certain.{IsKeptWorld}
 use Rattle.ct_statement.{specs.Sight.{actions_before, history_of}, specs.Unmet.IsUnmet, proofs.Evaluating.certain_fails, proofs.KeptWorlds.world_taken}
-use Rattle.ct_statement.{proofs.Questions.certain_right, proofs.Wanting.unasked_unmet, specs.Asking.unlisted, specs.Making.says_full, proofs.Evaluating.few_counted}
+use Rattle.ct_statement.{proofs.Questions.certain_right, proofs.Wanting.unasked_unmet, specs.Asking.unlisted, specs.Making.{says_full, widths_in}, proofs.Evaluating.few_counted}
 use Rattle.ct_statement.proofs.Making.{certain_within, charge_most, listed_within}
 use Rattle.ct_query.specs.Plain as plain
 use Rattle.ct_query.specs.declared.action.Ask.TheVariants as ask
@@ -49,8 +49,8 @@ returns-in-Err-listed-clause-err g c =
     let table = c.in-Ok.table in
     let new = c.certain-listed.new.pass.words in
     λ columns named. subst (IsUnmet h actions g.N.Site.log.cap new (plain.Asks ask.Certain columns q)) (sym c.unlisted.ensures)
-    (certain_fails old h actions c.args.sight.now.tables c.requires.sight.denotes new q table.rows c.in-Ok.ensures.few g.N.Site.log.cap columns c.made-made.result c.made.result (length table.columns) c.in-Err-listed.e
-    (λ e. c.in-Err-listed.ensures.full (ap Err e)) (λ e. let fewer = c.in-Err-listed.ensures.fewer (ap Err e) in let before = c.made-made.ensures in let after = c.made.ensures in omega (arith, fewer, before, after)))
+    (certain_fails old h actions c.args.sight.now.tables c.requires.sight.denotes new q table.rows c.in-Ok.ensures.few g.N.Site.log.cap columns c.answered.new.pass.made c.certain-listed.new.pass.made (length table.columns) c.in-Err-listed.e c.certain-listed.ensures.rises
+    (λ e. c.in-Err-listed.ensures.full (ap Err e)) (λ e. c.in-Err-listed.ensures.fewer (ap Err e)))
 
 pub returns-in-Err-clause-made : goal.returns-in-Err-clause-made
 returns-in-Err-clause-made g c = let most = c.in-Err.ensures.made in omega (arith, most)
@@ -86,10 +86,10 @@ returns-in-Err-listed-clause-made g c =
     let counted = c.words-2.ensures.counted in
     let small = c.words-2.ensures.small in
     let made = c.certain-listed.new.pass.made in
-    let why = unlisted c.in-Err-listed.e c.made-made.result c.made.result in
+    let why = unlisted c.in-Err-listed.e in
     let one = charge_most (says_full why) in
-    subst (λ x. made + charge (says_full x) ≤ c.args.pass.now.made + bound (count h actions) None (plain.Asks ask.Certain [] q)) (sym c.unlisted.ensures)
+    subst (λ x. made + charge (says_full x) ≤ c.args.pass.now.made + bound (count h actions) (widths_in (schema h actions).tables) None (plain.Asks ask.Certain [] q)) (sym c.unlisted.ensures)
     (certain_within (count h actions) (schema h actions).tables q r k c.args.pass.now.made c.answered.new.pass.made (made + charge (says_full why))
     few c.in-Ok.ensures.width (omega (arith, first))
-    (listed_within (r * (r * (2 * k + 2) + k + 1)) c.answered.new.pass.made made c.made-made.result c.made.result c.in-Err-listed.e c.certain-listed.ensures.made (λ e. c.in-Err-listed.ensures.fewer (ap Err e)))
+    (listed_within (r * (r * (2 * k + 2) + k + 1)) c.answered.new.pass.made made c.in-Err-listed.e c.certain-listed.ensures.made (λ e. c.in-Err-listed.ensures.fewer (ap Err e)))
     (omega (arith, counted, small, one)))

@@ -1,8 +1,11 @@
-use Rattle.std.{proofs.Common.{[], ◌+◌, arith}, specs.Prelude.None}
+use Rattle.std.{proofs.Common.{[], arith}, specs.Prelude.None}
 use Rattle.ct_word.proofs.Prefixes.{prefix_same}
 use Rattle.ct_query.specs.Views.{action_of}
-use Rattle.ct_statement.{specs.Sight.{actions_before, history_of}, proofs.Listed.proposal, proofs.Literal.takes_none, proofs.Making.{added_within, taking_within}}
+use Rattle.ct_statement.{specs.Sight.{actions_before, history_of}, proofs.Listed.proposal, proofs.Literal.{hands_none, takes_none}, proofs.Making.{added_within, taking_within}}
 use Rattle.ct_statement.proofs.proposing.added_literal.Goals as goal
+
+pub encode-encoded-requires-clause-handed : goal.encode-encoded-requires-clause-handed
+encode-encoded-requires-clause-handed g c = hands_none (action_of c.args.action.now) c.requires.literal
 
 pub returns-in-Ok-encoded-clause-proposes : goal.returns-in-Ok-encoded-clause-proposes
 returns-in-Ok-encoded-clause-proposes g c = λ s is fits.
@@ -16,18 +19,18 @@ returns-in-Ok-encoded-clause-proposes g c = λ s is fits.
     c.in-Ok-encoded.ensures.adds c.in-Ok-encoded.ensures.place
 
 pub returns-in-Err-clause-made : goal.returns-in-Err-clause-made
-returns-in-Err-clause-made g c = λ counts.
-    let some = taking_within counts (action_of c.args.action.now) in
+returns-in-Err-clause-made g c = λ counts widths.
+    let some = taking_within counts widths (action_of c.args.action.now) in
     let one = c.in-Err.ensures.made in
     omega (arith, some, one)
 
 pub returns-in-Ok-encoded-clause-made : goal.returns-in-Ok-encoded-clause-made
-returns-in-Ok-encoded-clause-made g c = λ counts.
+returns-in-Ok-encoded-clause-made g c = λ counts widths.
     let started = c.begun.new.pass.words in
     let a = action_of c.args.action.now in
     let one = c.in-Ok.ensures.made in
     let counted = c.words-2.ensures.counted in
     let small = c.words-2.ensures.small in
-    let all = added_within started 0 [] [] counts c.args.pass.now.made c.begun.new.pass.made c.begun.new.pass.made c.encode-encoded.new.pass.made (omega (arith, one)) (omega (arith, counted, small))
+    let all = added_within started 0 [] [] counts widths c.args.pass.now.made c.begun.new.pass.made c.begun.new.pass.made c.encode-encoded.new.pass.made (omega (arith, one)) (omega (arith, counted, small))
     a [] (takes_none started 0 [] [] a c.requires.literal) (omega arith) (omega arith) c.encode-encoded.ensures.made in
     omega (arith, all)

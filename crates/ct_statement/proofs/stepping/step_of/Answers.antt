@@ -1,8 +1,9 @@
-use Rattle.std.{proofs.Common.{◌+◌, ◌≤◌, ap, arith, subst, sym}, specs.{Arc.arc_value, Prelude.IsTrue}}
+use Rattle.std.{proofs.Common.{ap, arith, subst, sym}, specs.{Arc.arc_value, Prelude.IsTrue}}
 use Rattle.ct_condition.specs.Writes.{charge}
 use Rattle.ct_word.{specs.Condition.holds_at, specs.Reading.condition_at}
 use Rattle.ct_query.specs.Views.{action_of}
 use Rattle.ct_statement.{specs.Narrowing.{CanNarrow, IsKeptFor, IsUnkept}, proofs.Stepped.{can_narrow, kept_holds, step_made, unkept_unmet}}
+use Rattle.ct_statement.{specs.Sight.{actions_before, history_of}, proofs.Narrow.proposed_narrow}
 use Rattle.ct_statement.proofs.Making.{unkept_room}
 use Rattle.ct_statement.proofs.stepping.step_of.Goals as goal
 
@@ -28,8 +29,11 @@ returns-in-Ok-kept_for-clause-step g c =
     let w = c.in-Ok.applied.0 in
     let e = c.in-Ok.applied.1 in
     let next = c.in-Ok-kept_for.kept in
+    let proposal = c.requires.proposal.1 in
+    let h = history_of c.args.pass.now.words s in
+    let few = proposed_narrow c.args.pass.now.words new c.in-Ok.ensures.longer c.words-words.ensures.small h (actions_before s) c.requires.proposal.0 (action_of c.args.proposal.now.action) c.args.proposal.now.changes proposal in
     step_made c.args.pass.now.words new c.in-Ok.ensures.longer c.words-words.ensures.formed s c.requires.sight (action_of c.args.proposal.now.action) w e c.in-Ok.ensures.is c.in-Ok.ensures.fits
-    c.requires.proposal.1.written next
+    proposal.written few next
     (subst (λ ws. IsKeptFor ws e (arc_value s.kept) next) c.words-words.ensures.words (subst (λ kept. IsKeptFor c.words-words.result.now e kept next) c.deref.ensures c.in-Ok-kept_for.ensures.ok))
 
 pub returns-clause-err : goal.returns-clause-err

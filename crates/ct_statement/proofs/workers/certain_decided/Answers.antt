@@ -1,4 +1,4 @@
-use Rattle.std.{proofs.Common.{map, sym, subst, ◌∙◌}, specs.Prelude.All, specs.List.AllZip}
+use Rattle.std.{proofs.Common.{sym, subst, ◌∙◌}, specs.Prelude.All, specs.List.AllZip}
 use Rattle.ct_certain.specs.Answered.{IsSettled}
 use Rattle.ct_questions.specs.declared.tuples.Candidate.{Candidate}
 use Rattle.ct_workers.specs.Right.{IsQuestion, IsRight}

@@ -1,4 +1,4 @@
-use Rattle.std.{proofs.Common.{length, sym, subst}, specs.Prelude.IfOk}
+use Rattle.std.{proofs.Common.{length, sym, subst}}
 use Rattle.ct_condition.proofs.Reached.{formed_before}
 use Rattle.ct_operators.{specs.Tables.AreRows, proofs.Growing.rows_grow}
 use Rattle.ct_questions.specs.Roots.{AreRowRoots}
@@ -19,13 +19,13 @@ possible_decided-requires-clause-roots g c κs within =
     let old = c.args.pass.now.words in
     let global = c.args.global in
     let rows = c.args.table.now.rows in
-    let are = subst (AreRowRoots old c.possible_questions.new.pass.words global rows) (sym c.as_slice.ensures) c.in-Ok.ensures.roots in
+    let are = subst (AreRowRoots old c.possible_questions.new.pass.words global rows) (sym c.as_slice.ensures) c.in_ok-roots.ensures.roots in
     (old, global, subst (λ ws. AreRowRoots old ws global rows c.as_slice.result.now) (sym c.words-words.ensures.words) are)
 
-pub returns-in-Ok-possible_decided-clause-lists : goal.returns-in-Ok-possible_decided-clause-lists
-returns-in-Ok-possible_decided-clause-lists g c =
+pub returns-in-Ok-clause-lists : goal.returns-in-Ok-clause-lists
+returns-in-Ok-clause-lists g c =
     let old = c.args.pass.now.words in
     let global = c.args.global in
     let rows = c.args.table.now.rows in
-    let are = subst (AreRowRoots old c.possible_questions.new.pass.words global rows) (sym c.as_slice.ensures) c.in-Ok.ensures.roots in
-    c.in-Ok-possible_decided.ensures old global (subst (λ ws. AreRowRoots old ws global rows c.as_slice.result.now) (sym c.words-words.ensures.words) are)
+    let are = subst (AreRowRoots old c.possible_questions.new.pass.words global rows) (sym c.as_slice.ensures) c.in_ok-roots.ensures.roots in
+    c.in-Ok.ensures old global (subst (λ ws. AreRowRoots old ws global rows c.as_slice.result.now) (sym c.words-words.ensures.words) are)

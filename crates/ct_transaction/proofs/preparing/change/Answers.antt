@@ -1,9 +1,9 @@
 use Rattle.std.proofs.Common.{◌+◌, ◌≤◌, arith, sym, subst}
 use Rattle.ct_condition.specs.Writes.{charge}
-use Rattle.ct_query.{specs.Bounds.applying_words, specs.Patterns.count, specs.Views.action_of}
+use Rattle.ct_query.{specs.Patterns.count, specs.Schema.schema, specs.Views.action_of}
 use Rattle.ct_statement.{specs.Proposals.{IsProposal, listed}, specs.Sight.{actions_before, history_of}, specs.Unmet.IsUnmet, proofs.Sights.{history_stays, sight_grows}}
-use Rattle.ct_statement.specs.Making.{says_full}
-use Rattle.ct_transaction.{specs.Prepared.IsStepIf, proofs.Bounded.changed_within, proofs.Proposed.proposal_grows}
+use Rattle.ct_statement.specs.Making.{says_full, widths_in}
+use Rattle.ct_transaction.{specs.Bounded.step_words, specs.Prepared.IsStepIf, proofs.Bounded.changed_within, proofs.Proposed.proposal_grows}
 use Rattle.ct_query.specs.Plain as plain
 use Rattle.ct_transaction.proofs.preparing.change.Goals as goal
 
@@ -57,9 +57,9 @@ returns-in-Ok-step-clause-made g c =
     let actions = actions_before s in
     let first = c.in-Ok.ensures.made in
     let total = c.step_where_needed-step.new.pass.made + 0 in
-    changed_within (count (history_of old s) actions) (action_of c.args.action) c.args.pass.now.made mid.made total (omega (arith, first))
-    (subst (λ h. total ≤ mid.made + applying_words (count h actions) (action_of c.args.action)) (sym (history_stays old mid.words c.propose.ensures.longer s c.requires.sight.within))
-    (subst (λ a. total ≤ mid.made + applying_words (count (history_of mid.words s) actions) a) c.in-Ok.ensures.action c.in-Ok-step.ensures.made))
+    changed_within c.args.inside (count (history_of old s) actions) (widths_in (schema (history_of old s) actions).tables) (action_of c.args.action) c.args.pass.now.made mid.made total (omega (arith, first))
+    (subst (λ h. total ≤ mid.made + step_words c.args.inside (count h actions) (action_of c.args.action)) (sym (history_stays old mid.words c.propose.ensures.longer s c.requires.sight.within))
+    (subst (λ a. total ≤ mid.made + step_words c.args.inside (count (history_of mid.words s) actions) a) c.in-Ok.ensures.action c.in-Ok-step.ensures.made))
 
 pub returns-in-Err-step-clause-made : goal.returns-in-Err-step-clause-made
 returns-in-Err-step-clause-made g c =
@@ -69,6 +69,6 @@ returns-in-Err-step-clause-made g c =
     let actions = actions_before s in
     let first = c.in-Ok.ensures.made in
     let total = c.step_where_needed-step.new.pass.made + charge (says_full c.in-Err-step.why) in
-    changed_within (count (history_of old s) actions) (action_of c.args.action) c.args.pass.now.made mid.made total (omega (arith, first))
-    (subst (λ h. total ≤ mid.made + applying_words (count h actions) (action_of c.args.action)) (sym (history_stays old mid.words c.propose.ensures.longer s c.requires.sight.within))
-    (subst (λ a. total ≤ mid.made + applying_words (count (history_of mid.words s) actions) a) c.in-Ok.ensures.action c.in-Err-step.ensures.made))
+    changed_within c.args.inside (count (history_of old s) actions) (widths_in (schema (history_of old s) actions).tables) (action_of c.args.action) c.args.pass.now.made mid.made total (omega (arith, first))
+    (subst (λ h. total ≤ mid.made + step_words c.args.inside (count h actions) (action_of c.args.action)) (sym (history_stays old mid.words c.propose.ensures.longer s c.requires.sight.within))
+    (subst (λ a. total ≤ mid.made + step_words c.args.inside (count (history_of mid.words s) actions) a) c.in-Ok.ensures.action c.in-Err-step.ensures.made))

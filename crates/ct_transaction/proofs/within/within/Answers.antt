@@ -1,12 +1,12 @@
-use Rattle.std.{proofs.Common.{◌≡◌, ◌≤◌, ◌+◌, ℕ, List, length, ap, sym, subst, ◌∙◌, arith}, specs.Prelude.{Option, Some, Ok}}
+use Rattle.std.{proofs.Common.{◌≡◌, ◌≤◌, ◌+◌, ℕ, true, List, length, ap, sym, subst, ◌∙◌, arith}, specs.Prelude.{Option, Some, Ok}}
 use Rattle.ct_condition.specs.Writes.{charge}
 use Rattle.ct_word.specs.WellFormed.{IsWellFormed}
 use Rattle.ct_arena.{specs.Counts.AreNumbered, specs.Seen.Seen}
 use Rattle.ct_history.specs.Kept.{kept_of}
 use Rattle.ct_query.{specs.Patterns.count, specs.Plain.PlainStatement, specs.Schema.schema, specs.Views.statement_of}
 use Rattle.ct_resolve.specs.Statements.{resolved}
-use Rattle.ct_statement.specs.Making.{says_full}
-use Rattle.ct_transaction.{specs.Answers.is_full, specs.Bounded.{Makes, nothing, Performs}, proofs.Bounded.makes_inside}
+use Rattle.ct_statement.specs.Making.{says_full, widths_in}
+use Rattle.ct_transaction.{specs.Answers.is_full, specs.Bounded.{Makes, nothing, Performs}, proofs.Bounded.{makes_inside, performs_less}}
 use Rattle.ct_parse.specs.declared.tree.Statement.{Statement}
 use Rattle.ct_transcript.specs.declared.reply.Reply.{Reply}
 use Rattle.ct_statement.{specs.declared.stepping.Step.Step, specs.Proposals.listed, specs.Sight.{actions_before, history_of}}
@@ -32,12 +32,13 @@ later N pass new longer kept room old counted seen fresh o open' is next now st 
 -- what was made at what is seen, of a statement whose reply makes nothing more
 made_inside : (pass now : Seen) → IsPrefix pass.words now.words → (seen fresh : ℕ) (o : Option Open) (open' : Open) → o ≡ Some open' → IsSession pass.words seen o → (st : Statement) (asked : PlainStatement)
     → resolved (schema (history_of pass.words open'.sight) (actions_before open'.sight)) pass.session fresh st ≡ Ok asked → (made : ℕ)
-    → Performs (count (history_of pass.words open'.sight) (actions_before open'.sight)) asked pass.made made → (after : Seen) → after ≡ now → (charged : ℕ) → now.made + charged ≤ made
+    → Performs true (count (history_of pass.words open'.sight) (actions_before open'.sight)) (widths_in (schema (history_of pass.words open'.sight) (actions_before open'.sight)).tables) asked pass.made made → (after : Seen) → after ≡ now → (charged : ℕ) → now.made + charged ≤ made
     → Makes (state_of pass seen fresh o) after.words st pass.made (after.made + charged)
 made_inside pass now longer seen fresh o open' is k st asked res made few after same charged le =
     subst (λ (p : Option Open). Makes (state_of pass seen fresh p) after.words st pass.made (after.made + charged)) (sym is)
     (subst (λ (p : Seen). Makes (state_of pass seen fresh (Some open')) p.words st pass.made (p.made + charged)) (sym same)
-    (makes_inside pass now longer seen fresh open' (subst (λ (p : Option Open). IsSession pass.words seen p) is k).open_is.sight st asked res (now.made + charged) (omega (arith, few, le))))
+    (makes_inside pass now longer seen fresh open' (subst (λ (p : Option Open). IsSession pass.words seen p) is k).open_is.sight st asked res (now.made + charged)
+    (performs_less true (count (history_of pass.words open'.sight) (actions_before open'.sight)) (widths_in (schema (history_of pass.words open'.sight) (actions_before open'.sight)).tables) asked pass.made made (now.made + charged) le few)))
 
 pub answer-requires-clause-session : goal.answer-requires-clause-session
 answer-requires-clause-session g c =

@@ -1,4 +1,4 @@
-use Rattle.std.{specs.Prelude.{All, IsTrue}, proofs.lemmas.List.Elements.All-weaker}
+use Rattle.std.{specs.Prelude.{IsTrue}, proofs.lemmas.List.Elements.All-weaker}
 use Rattle.ct_word.specs.WellFormed.{is_place_of}
 use Rattle.ct_workers.specs.Right.{IsQuestion}
 use Rattle.ct_word.specs.declared.kinds.Class.TheVariants as class

@@ -1,9 +1,0 @@
-use Rattle.std.{proofs.Common.{length, subst, sym}, proofs.lemmas.List.Elements.All-nil}
-use Rattle.ct_word.specs.Value.{same_cells}
-use Rattle.ct_operators.{specs.Tables.AreRows, proofs.Firsts.none_distinct}
-use Rattle.ct_deciding_tests.proofs.tests.tables.filled.Goals as goal
-
-pub insert-requires-clause-table : goal.insert-requires-clause-table
-insert-requires-clause-table g c =
-    subst (AreRows c.args.pass.now.words (length c.in_ok-none.none.columns)) (sym c.in_ok-none.ensures.rows)
-    (record { each = All-nil _; distinct = none_distinct same_cells; possible = All-nil _ })
