@@ -303,7 +303,7 @@ class Judged:
     """What was found in the transcript of a run: its faults, how many replies and commits it has, how many conflicts there
     were, and whether a session committed between two commits of another one."""
 
-    def __init__(self, scripts, text):
+    def __init__(self, scripts, text, follower=Follower):
         self.faults, self.count, self.conflicts, self.took_turns = [], 0, 0, False
         try:
             replies, lines = parts(text)
@@ -316,7 +316,7 @@ class Judged:
             return
         self.count = sum(map(len, replies)) + len(run.commits)
         for number, (script, given) in enumerate(zip(scripts, replies), 1):
-            session = Follower(number, run)
+            session = follower(number, run)
             self.faults += wrong_session(session, script, given)
             self.conflicts += session.conflicts
         self.faults += wrong_history(run, len(scripts))

@@ -1,15 +1,12 @@
 -- The keys of rows by the columns that are to be equal.
-use Rattle.std.specs.Prelude.{ℕ, ◌+◌, ◌*◌, ◌%◌, List, [], ◌∷◌, slice_get, slice_index_or, if◌then◌else◌}
+use Rattle.std.specs.Prelude.{ℕ, List, [], ◌∷◌, slice_get, slice_index_or, if◌then◌else◌}
 use Rattle.ct_word.specs.Constant.{is_constant_word}
 use Rattle.ct_join.specs.declared.keys.Key.{Key}
 use Rattle.ct_join.specs.declared.keys.Key.TheVariants as key
+use Rattle.ct_join.specs.Mixing.{mixed}
 use Rattle.ct_algebra.specs.declared.equals.Equal.{Equal}
 use Rattle.ct_algebra.specs.declared.keys.Side.{Side}
 use Rattle.ct_algebra.specs.declared.keys.Side.TheVariants as side
-
--- a number mixed from one and from a place
-unfoldable pub mixed : ℕ → ℕ → ℕ
-mixed number place = (number * 2654435761 + place) % 4294967296
 
 -- the column of one side
 abbrev pub column_on : Side → Equal → ℕ

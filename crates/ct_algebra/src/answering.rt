@@ -228,16 +228,16 @@ fn sides<N: Site>(
     Ok((one, other))
 }
 
-/// The tables that answer both parts of a query.
+/// What an operator reads as the left part of a query, and the table that answers the right one.
 #[cycle(answer)]
-fn tables<N: Site>(
+fn side_and_table<N: Site>(
     alloc: Global,
     arena: &Arena<N>,
     pass: &mut Pass<N>,
     left: &Query,
     right: &Query,
     db: &Db,
-) -> Result<(CTable, CTable), TableError>
+) -> Result<(Operand, CTable), TableError>
     requires tables { AreTables pass.old.words db.now }
     requires left { Fits (map heading_of db.now) (query_of left.now) }
     requires right { Fits (map heading_of db.now) (query_of right.now) }
@@ -246,7 +246,7 @@ fn tables<N: Site>(
     ensures grows { GrowsWithin N.log.cap result pass.old pass.new (query_terms (query_of left.now) ++ query_terms (query_of right.now)) (most_words db.now (query_of left.now) + most_words db.now (query_of right.now)) }
 {
     let (left, right) = sides(alloc, arena, pass, left, right, db)?;
-    Ok((left.into_table(alloc)?, right.into_table(alloc)?))
+    Ok((left, right.into_table(alloc)?))
 }
 
 /// The table that answers a selection, by the rows of its part.
@@ -368,15 +368,15 @@ pub(crate) fn answer<N: Site>(
             product(alloc, arena, pass, &left, &right)
         }
         Query::Union(left, right) => {
-            let (left, right) = tables(alloc, arena, pass, left, right, db)?;
+            let (left, right) = sides(alloc, arena, pass, left, right, db)?;
             union(alloc, arena, pass, &left, &right)
         }
         Query::Except(left, right) => {
-            let (left, right) = tables(alloc, arena, pass, left, right, db)?;
+            let (left, right) = side_and_table(alloc, arena, pass, left, right, db)?;
             except(alloc, arena, pass, &left, &right)
         }
         Query::Intersect(left, right) => {
-            let (left, right) = tables(alloc, arena, pass, left, right, db)?;
+            let (left, right) = side_and_table(alloc, arena, pass, left, right, db)?;
             intersect(alloc, arena, pass, &left, &right)
         }
     }

@@ -1,12 +1,11 @@
 // The keys of rows, by which the candidates of a join are found.
 
 ghost use Rattle.std.specs.Prelude.{◌≡◌, ◌<◌, length, map, All, IfOk};
-ghost use Rattle.ct_algebra.specs.Keyed as spec;
 ghost use Rattle.ct_algebra.specs.Keyed.{column_on, key_of};
 
 use crate::equals::Equal;
 use crate::operands::Operand;
-use ct_join::Key;
+use ct_join::{Key, mixed};
 use ct_table::RowSource;
 use ct_word::is_constant;
 use std::alloc::{AllocError, Global};
@@ -16,17 +15,6 @@ use std::alloc::{AllocError, Global};
 pub(crate) enum Side {
     Left,
     Right,
-}
-
-/// An odd number without a pattern in its bits, from the golden ratio.
-const FACTOR: u64 = 2_654_435_761;
-
-/// A number mixed from one and from a place. That of 0 and a place is the place.
-#[tactic(auto, unfolding(crate::specs::Keyed::mixed))]
-fn mixed(number: u32, place: u32) -> u32
-    ensures { result ≡ spec.mixed number place }
-{
-    ((number as u64 * FACTOR + place as u64) % 4_294_967_296) as u32
 }
 
 /// The column of one side.

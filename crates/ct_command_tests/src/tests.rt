@@ -9,3 +9,4 @@ mod imports;
 mod memory;
 mod runs;
 mod updates;
+mod workers;

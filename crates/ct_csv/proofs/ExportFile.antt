@@ -110,7 +110,7 @@ pub exported : FormsAreExported
 exported words columns rows nodes ks j can forms least texts =
     let width = length columns in
     let printed : List PlainRow = printed_rows words nodes rows ks in
-    let writes = filtered_can j printed (rows_can words can.formed width j nodes forms.within rows ks can.are.each can.writable forms.short forms.shallow) in
+    let writes = filtered_can j printed (rows_can words can.formed width j nodes forms.within rows ks can.are.each can.writable forms.short forms.narrow) in
     let among = filtered_among (TermOfRows words rows) printed (rows_among words can.formed width j nodes forms.within rows rows ks (λ r h. h) can.are.each can.writable forms.short) in
     let found = rows_written j (written_rows printed) writes in
     record {

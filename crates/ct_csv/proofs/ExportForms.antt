@@ -18,8 +18,8 @@ use Rattle.ct_condition.specs.Terms.{TermsFrom}
 use Rattle.ct_operators.specs.{Tables.{IsRow}, Terms.{TermOfRow, TermOfRows, RowFrom, RowsFrom}}
 use Rattle.ct_history.proofs.Named.{term_reached}
 use Rattle.ct_reread.{specs.Printed.IsPlain, specs.Reread.KeepsWithin, proofs.Terms.digits_all, proofs.Forms.{form_named, form_reread}}
-use Rattle.ct_csv.specs.{Renaming.{mark, between, renamed}, Exported.{printed_rows, AreShallow}}
-use Rattle.ct_csv.proofs.{ExportRanges.{InRange, term_in_range}, ExportRows.{ArePlain, CanBeWritten, AllCan, AreAmong, RowAmong, RowsAmong}}
+use Rattle.ct_csv.specs.{Renaming.{mark, between, renamed}, Exported.{printed_rows, is_narrow}}
+use Rattle.ct_csv.proofs.{ExportRanges.{InRange, term_in_range}, ExportRows.{ArePlain, CanBeWritten, AllCan, AreAmong, RowAmong, RowsAmong}, Widths.low_nest}
 
 -- the new name of a fresh null is a word
 underscores_go_on : (j : ℕ) → list_all (λ b. is_letter b || is_digit b) (replicate j 95) ≡ true
@@ -126,14 +126,15 @@ module _ (words : List ℕ) (wf : IsWellFormed words) (width : ℕ) where
 
   module _ (j : ℕ) (nodes : List Node) (within : IsTrue (list_all are_children_within nodes)) where
     pub rows_can : (rs : List CRow) (ks : List ℕ) → All (IsRow words width) rs → RowsFrom words rs (λ t. IsTrue (is_writable_term t))
-        → AllZip (λ k place. KeepsWithin (node_condition nodes k) (condition_at words place)) ks (map (λ r. r.cond) rs) → AreShallow nodes ks → AllCan j (printed_rows words nodes rs ks)
-    rows_can [] [] are from short low = tt
-    rows_can [] (k ∷ ks) are from short low = absurd short
-    rows_can (r ∷ rs) [] are from short low = absurd short
-    rows_can (r ∷ rs) (k ∷ ks) are from short low = (
-      row_can j r (All-head (IsRow words width) r rs are) (All-head (RowFrom words (λ t. IsTrue (is_writable_term t))) r rs from) nodes k within short.0 low.0,
-      rows_can rs ks (All-tail (IsRow words width) r rs are) (All-tail (RowFrom words (λ t. IsTrue (is_writable_term t))) r rs from) short.1 low.1,
-    )
+        → AllZip (λ k place. KeepsWithin (node_condition nodes k) (condition_at words place)) ks (map (λ r. r.cond) rs) → IsTrue (list_all (is_narrow nodes) ks) → AllCan j (printed_rows words nodes rs ks)
+    rows_can [] [] are from short narrow = tt
+    rows_can [] (k ∷ ks) are from short narrow = absurd short
+    rows_can (r ∷ rs) [] are from short narrow = absurd short
+    rows_can (r ∷ rs) (k ∷ ks) are from short narrow =
+        let parts = and_parts (is_narrow nodes k) (list_all (is_narrow nodes) ks) narrow in (
+          row_can j r (All-head (IsRow words width) r rs are) (All-head (RowFrom words (λ t. IsTrue (is_writable_term t))) r rs from) nodes k within short.0 (low_nest nodes k parts.0),
+          rows_can rs ks (All-tail (IsRow words width) r rs are) (All-tail (RowFrom words (λ t. IsTrue (is_writable_term t))) r rs from) short.1 parts.1,
+        )
 
     pub rows_among : (all rs : List CRow) (ks : List ℕ) → ((r : CRow) → Contains rs r → Contains all r) → All (IsRow words width) rs → RowsFrom words rs (λ t. IsTrue (is_writable_term t))
         → AllZip (λ k place. KeepsWithin (node_condition nodes k) (condition_at words place)) ks (map (λ r. r.cond) rs) → RowsAmong (TermOfRows words all) (printed_rows words nodes rs ks)

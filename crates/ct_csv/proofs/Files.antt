@@ -11,7 +11,7 @@ use Rattle.ct_operators.specs.{Tables.IsRow, Terms.TermOfRows}
 use Rattle.ct_csv.specs.declared.measuring.Size.{Size}
 use Rattle.ct_csv.specs.{Csv.AreTexts, Measured.{size_of, fits_at, IsFirstPast}, Renaming.IsLeastFree}
 use Rattle.ct_csv.specs.Exported.{ArePrinted, CanBeExported, AreForms, IsExported, IsTooWide, is_narrow, file_records, printed_rows, records_text}
-use Rattle.ct_csv.proofs.{ExportFile.exported, ExportForms.each_keeps, Widths.{none_empty, narrow_at, all_narrow, shallow, past_cases, zipped, as_long, long_read}}
+use Rattle.ct_csv.proofs.{ExportFile.exported, ExportForms.each_keeps, Widths.{none_empty, narrow_at, all_narrow, past_cases, zipped, as_long, long_read}}
 
 module _ (words : List ℕ) (columns : List (List ℕ)) (rows : List CRow) (can : CanBeExported words columns rows) where
   pub conditions_of : All (λ r. IsTrue (is_place_of words class.Cond r.cond)) rows
@@ -55,7 +55,7 @@ module _ (words : List ℕ) (columns : List (List ℕ)) (rows : List CRow) (can 
         below = omega (arith, first.within, as_many);
         nodes = nodes;
         positions = ks;
-        truth = are_printed.truth;
+        forms = are_printed;
         before = sym (all_narrow nodes (take first.index ks)) ∙ subst (λ s. IsTrue (list_all (fits_at s) (take first.index ks))) are first.before;
         past = narrow;
         wide = elim (past_cases (length (text_of term_text (node_condition nodes k))) (nest_of (node_condition nodes k)) narrow) [
@@ -69,5 +69,5 @@ module _ (words : List ℕ) (columns : List (List ℕ)) (rows : List CRow) (can 
       → AreTexts (file_records j columns (printed_rows words nodes rows ks)) → IsExported words columns rows file
   is_exported sizes are fit j least file is texts =
       let narrow : IsTrue (list_all (is_narrow nodes) ks) = sym (all_narrow nodes ks) ∙ subst (λ s. IsTrue (list_all (fits_at s) ks)) are fit in
-      let forms : AreForms words rows nodes ks = record { within = are_printed.within; truth = are_printed.truth; short = each_keeps words nodes ks (map (λ r. r.cond) rows) are_printed.bytes; shallow = shallow nodes ks narrow } in
+      let forms : AreForms words rows nodes ks = record { within = are_printed.within; truth = are_printed.truth; short = each_keeps words nodes ks (map (λ r. r.cond) rows) are_printed.bytes; narrow = narrow } in
       subst (IsExported words columns rows) (sym is) (exported words columns rows nodes ks j can forms least texts)

@@ -15,7 +15,7 @@ use Rattle.ct_rewrite.proofs.Nodes.{read-append}
 use Rattle.ct_print.{specs.TermText.term_text, specs.Written.separator_before, proofs.Joins.join_more}
 use Rattle.ct_csv.specs.declared.measuring.Size.{Size}
 use Rattle.ct_csv.specs.Measured.{capped, size_of, leaf, size_as_part, fits, fits_at}
-use Rattle.ct_csv.{specs.Exported.{AreShallow, is_narrow}, proofs.ExportTexts.{part_text}}
+use Rattle.ct_csv.{specs.Exported.is_narrow, proofs.ExportTexts.{part_text}}
 
 -- no term's text is empty
 onto_longer : (k n : ℕ) (ds : List ℕ) → length ds ≤ length (digits_onto k 10 false n ds)
@@ -140,13 +140,10 @@ pub all_narrow : (nodes : List Node) (ks : List ℕ) → list_all (fits_at (map 
 all_narrow nodes [] = refl
 all_narrow nodes (k ∷ ks) = λ i. narrow_at nodes k i && all_narrow nodes ks i
 
-pub shallow : (nodes : List Node) (ks : List ℕ) → IsTrue (list_all (is_narrow nodes) ks) → AreShallow nodes ks
-shallow nodes [] h = tt
-shallow nodes (k ∷ ks) h =
-    let parts = and_parts (is_narrow nodes k) (list_all (is_narrow nodes) ks) h in
-    let nest = (and_parts (nat_le (length (text_of term_text (node_condition nodes k))) 65536) (nat_le (nest_of (node_condition nodes k)) 64) parts.0).1 in
-    let le : nest_of (node_condition nodes k) ≤ 64 = grind (arith, nat_tests, nest) in
-    (le, shallow nodes ks parts.1)
+pub low_nest : (nodes : List Node) (k : ℕ) → is_narrow nodes k ≡ true → nest_of (node_condition nodes k) ≤ 64
+low_nest nodes k h =
+    let nest = (and_parts (nat_le (length (text_of term_text (node_condition nodes k))) 65536) (nat_le (nest_of (node_condition nodes k)) 64) h).1 in
+    grind (arith, nat_tests, nest)
 
 -- past the bounds
 pub past_cases : (a b : ℕ) → (nat_le a 65536 && nat_le b 64) ≡ false → (65536 < a) ⊎ (64 < b)

@@ -97,17 +97,16 @@ file_records j columns rows = first_fields columns ∷ row_records j rows
 abbrev pub records_text : List (List (List ℕ)) → List ℕ
 records_text records = flat_map (row_text default_writer) records
 
--- the nests of the conditions at these positions are within what the grammar allows
-abbrev pub AreShallow : List Node → List ℕ → Type 0
-AreShallow nodes [] = Unit {0}
-AreShallow nodes (k ∷ ks) = (nest_of (node_condition nodes k) ≤ 64) × AreShallow nodes ks
+-- whether the text of the condition at a position, with the old names of nulls, is within both bounds of a file
+abbrev pub is_narrow : List Node → ℕ → Bool
+is_narrow nodes k = nat_le (length (text_of term_text (node_condition nodes k))) 65536 && nat_le (nest_of (node_condition nodes k)) 64
 
--- the conditions at these positions are printed forms of those of the rows
+-- the conditions at these positions are printed forms of those of the rows, each within both bounds of a file
 pub record AreForms (words : List ℕ) (rows : List CRow) (nodes : List Node) (ks : List ℕ) : Type 0 where
   pub within : IsTrue (list_all are_children_within nodes)
   pub truth : AllZip (λ k place. SameTruth (node_condition nodes k) (condition_at words place)) ks (map (λ r. r.cond) rows)
   pub short : AllZip (λ k place. KeepsWithin (node_condition nodes k) (condition_at words place)) ks (map (λ r. r.cond) rows)
-  pub shallow : AreShallow nodes ks
+  pub narrow : IsTrue (list_all (is_narrow nodes) ks)
 
 -- what the printed form of the conditions of rows keeps to
 pub record ArePrinted (words : List ℕ) (rows : List CRow) (nodes : List Node) (ks : List ℕ) : Type 0 where
@@ -152,22 +151,19 @@ pub record IsExported (words : List ℕ) (columns : List (List ℕ)) (rows : Lis
   pub each_new : (u : World) → (v : World) × Renames underscores (TermOfRows words rows) v u
   pub shown : (v u : World) → Renames underscores (TermOfRows words rows) v u → SameSet (shown_rows u written) (value_of_rows words v rows)
 
--- whether the text of the condition at a position is within both bounds of a file
-abbrev pub is_narrow : List Node → ℕ → Bool
-is_narrow nodes k = nat_le (length (text_of term_text (node_condition nodes k))) 65536 && nat_le (nest_of (node_condition nodes k)) 64
-
 -- the bounds on the text of a condition's form are past those of a file
 abbrev pub MayBeWide : Condition → Type 0
 MayBeWide c = (65536 < wide (λ t. length (term_text t)) c) ⊎ (64 < deep c)
 
--- the row with this number, from 1, is the first whose condition's form is past a bound of a file
+-- with some printed forms of the rows' conditions, the row with this number, from 1, is the first whose form is past a bound of
+-- a file; so one of the bounds on the text of that condition's form is
 pub record IsTooWide (words : List ℕ) (rows : List CRow) (number : ℕ) : Type 0 where
   pub index : ℕ
   pub number_is : number ≡ index + 1
   pub below : index < length rows
   pub nodes : List Node
   pub positions : List ℕ
-  pub truth : AllZip (λ k place. SameTruth (node_condition nodes k) (condition_at words place)) positions (map (λ r. r.cond) rows)
+  pub forms : ArePrinted words rows nodes positions
   pub before : IsTrue (list_all (is_narrow nodes) (take index positions))
   pub past : IsFalse (is_narrow nodes (slice_index_or positions index 0))
   pub wide : MayBeWide (condition_at words (slice_index_or (map (λ r. r.cond) rows) index 0))

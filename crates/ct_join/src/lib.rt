@@ -10,5 +10,5 @@ mod keys;
 mod pairing;
 
 pub use index::Index;
-pub use keys::Key;
+pub use keys::{Key, mixed};
 pub use pairing::pairs;

@@ -12,11 +12,14 @@ use Rattle.ct_history.{specs.Rows.IsRowOf, specs.Written.plain_set}
 use Rattle.ct_table.{specs.Denotes.{TableView, heading_of, find_table, with_table}, specs.Pending.put_into}
 use Rattle.ct_table.{specs.Growing.rows_after, proofs.Denoting.found_all}
 use Rattle.ct_operators.{specs.Tables.{IsRow, AreRows}, proofs.Naming.condition_named, proofs.Reaching.{first_or_behind, term_alone}}
+use Rattle.ct_operators.specs.declared.table.CTable.{CTable}
+use Rattle.ct_update.{specs.declared.revising.Revision.Revision, specs.Revising.{FitsRevision, revised}}
 use Rattle.ct_keeper.{specs.declared.effects.Effect.Effect, specs.Effects.{DoesChange, new_table, rows_of_table}}
 use Rattle.ct_word.specs.declared.kinds.Class.TheVariants as class
 use Rattle.ct_word.specs.declared.values.Term.TheVariants as term
 use Rattle.ct_query.specs.Plain as plain
 use Rattle.ct_table.specs.declared.pending.Growth.TheVariants as growth
+use Rattle.ct_update.specs.declared.revising.Revision.TheVariants as revision
 use Rattle.ct_history.specs.declared.written.Written.TheVariants as written
 use Rattle.ct_keeper.specs.declared.effects.Effect.TheVariants as effect
 
@@ -148,3 +151,8 @@ pub does_create : (old new : List ℕ) (db : List TableView) (global : ℕ) (nam
 does_create old new db global name columns made is absent =
     let missing = not_there db name absent in
     subst (DoesChange old new db global (written.Create name columns)) (sym is) (missing, with_new db (new_table name columns) missing)
+
+-- a revision leaves the columns
+pub columns_revised : (t : CTable) (r : Revision) → FitsRevision t r → (revised t r).columns ≡ t.columns
+columns_revised t (revision.Rows edits) fits = refl
+columns_revised t (revision.Table u) fits = fits

@@ -14,6 +14,7 @@ ghost use Rattle.ct_history.specs.declared.written.Written.TheVariants as writte
 ghost use Rattle.ct_table.specs.Denotes.{TableView, find_table, heading_of};
 ghost use Rattle.ct_operators.specs.Refusals.{is_full};
 ghost use Rattle.ct_operators.specs.Tables.{AreRows};
+ghost use Rattle.ct_update.specs.Revising.{FitsRevision, revised};
 ghost use Rattle.ct_table.specs.declared.pending.Growth.TheVariants as growth;
 ghost use Rattle.ct_keeper.specs.declared.effects.Effect.TheVariants as effect;
 ghost use Rattle.ct_keeper.specs.Effects.{DoesChange, FitsEffect, IsNarrowed, effect_words, rows_found};
@@ -21,10 +22,10 @@ ghost use Rattle.ct_keeper.specs.Effects.{DoesChange, FitsEffect, IsNarrowed, ef
 use ct_arena::{Arena, Site};
 use ct_condition::{Interner, and};
 use ct_history::Written;
-use ct_table::{CRow, CTable, Db, Growth, TableError, delete, insertions};
-use ct_update::update;
+use ct_table::{CRow, CTable, Db, Growth, SharedTable, TableError, delete, insertions};
+use ct_update::{Revision, revise};
 use ct_word::{List, Text};
-use std::alloc::Global;
+use std::alloc::{AllocError, Global};
 
 /// What a change does: it lets the tables grow, or puts another condition in the place of the global one.
 #[derive(Drop)]
@@ -48,6 +49,7 @@ fn created(alloc: Global, name: &Text, columns: &List<Text>) -> Result<Effect, T
         columns,
         rows: List::new(alloc),
     };
+    let table = SharedTable::make(alloc, table)?;
     Ok(Effect::Grows(Growth::Table { name, table }))
 }
 
@@ -106,8 +108,27 @@ fn deleted<N: Site, I: Interner<N>>(
     let spared = delete(alloc, arena, pass, table, cond);
     // The words are well formed and within the capacity, also where no table was made.
     let _ = pass.words();
-    let table = spared?;
+    let rest = spared?;
+    let table = SharedTable::make(alloc, rest)?;
     Ok(Effect::Grows(Growth::Table { name, table }))
+}
+
+/// The table after a revision.
+///
+/// # Errors
+/// `AllocError` where there is no memory for it.
+fn after_revision(
+    alloc: Global,
+    table: &SharedTable,
+    revision: Revision,
+) -> Result<SharedTable, AllocError>
+    requires { FitsRevision table.now revision }
+    ensures { IfOk result (λ s. s ≡ revised table.now revision) }
+{
+    match revision {
+        Revision::Rows(rows) => table.with_rows(alloc, rows),
+        Revision::Table(table) => SharedTable::make(alloc, table),
+    }
 }
 
 /// What an update does: the table of this name is put with the sets made on its rows where a condition holds for them.
@@ -136,10 +157,11 @@ fn updated<N: Site, I: Interner<N>>(
         unreachable!()
     };
     let name = name.clone()?;
-    let made = update(alloc, arena, pass, table, sets, cond);
+    let made = revise(alloc, arena, pass, table, sets, cond);
     // The words are well formed and within the capacity, also where no table was made.
     let _ = pass.words();
-    let table = made?;
+    let revision = made?;
+    let table = after_revision(alloc, table, revision)?;
     Ok(Effect::Grows(Growth::Table { name, table }))
 }
 

@@ -1,11 +1,11 @@
 -- Rows put last, or merged by their cells.
 use Rattle.std.proofs.Common.{◌≡◌, ℕ, zero, suc, ◌+◌, ◌<◌, ◌≤◌, Bool, true, false, not, ◌&&◌, ◌||◌, List, [], ◌∷◌, ◌++◌, Some, None, map, length, cond, get_or, set, take, drop, refl, ap, sym, subst, ◌∙◌, arith, inl, inr}
-use Rattle.std.{specs.Prelude.{◌≢◌, IsTrue, All, nat_eq, is_some, if◌then◌else◌}, specs.List.{IsDistinct, list_any, filter}, specs.Cmp.IsEquivalence}
-use Rattle.std.{specs.Cmp.Lexicographic.pointwise, specs.Map.lookup, proofs.lemmas.Bool.Decides.same_from_decides, proofs.lemmas.Map.Keys.IsDistinct-push}
+use Rattle.std.{specs.Prelude.{◌≢◌, IsTrue, All, nat_eq, is_some, if◌then◌else◌}, specs.List.{IsDistinct, list_any, filter, position_or_len}, specs.Cmp.IsEquivalence}
+use Rattle.std.{specs.Cmp.Lexicographic.pointwise, specs.Map.{lookup, keys_of}, proofs.lemmas.Bool.Decides.same_from_decides, proofs.lemmas.Map.Keys.IsDistinct-push}
 use Rattle.std.{proofs.lemmas.Bool.{false≢true, eqb-true, eqb-false, not-true}, proofs.lemmas.List.Folds.list_any_at}
 use Rattle.std.proofs.lemmas.List.Elements.{filter_passes, All-head, All-tail, All-cons, All-nil, All-push, All-set, All-weaker, All-get_or, All-filter, Contains-append_left, Contains-push}
 use Rattle.std.proofs.lemmas.List.{map_push, map-append, take_all, take-append-drop, length-append, length_push, length-map, get_or-map}
-use Rattle.indexmap.specs.IndexMap.{insert_entry}
+use Rattle.indexmap.specs.IndexMap.{insert_entry, set_value_at}
 use Rattle.ct_word.{specs.declared.values.Value.Value, specs.declared.values.Term.Term, specs.declared.values.CRow.CRow, specs.Sublist.IsSublist}
 use Rattle.ct_word.{specs.Value.{World, same_text, same_cells, same_tuple, tuple_at}, specs.Condition.holds_at, specs.WellFormed.{IsWellFormed, is_place_of}}
 use Rattle.ct_word.{specs.Stands.HasNoColumn, specs.Reading.{term_at, condition_at, plain_crow}, proofs.Alike.{text_decides, cells_decide}}
@@ -338,6 +338,23 @@ entry_merged old new cells c first both es e h either =
     subst (Merged old new (rows_of es) r) (sym found.4)
     (into found.0 both found.1 found.2 (subst (λ k. HasTruth new both (or_at old k c)) (sym found.3) h)
     (subst (λ k. TermsFrom new both (BelowEither old k c)) (sym found.3) either))
+
+-- a condition put for cells, and another one in its place, is as if the other one had been put for them
+put_again : (cells : List ℕ) (c both : ℕ) (es : List (List ℕ × ℕ))
+    → set_value_at (insert_entry (pointwise nat_eq) es cells c) (position_or_len (pointwise nat_eq cells) (keys_of es)) both ≡ insert_entry (pointwise nat_eq) es cells both
+put_again cells c both [] = refl
+put_again cells c both (x ∷ es) = by_test (pointwise nat_eq cells x.0) (put_again cells c both es) where
+  by_test : (b : Bool) → set_value_at (insert_entry (pointwise nat_eq) es cells c) (position_or_len (pointwise nat_eq cells) (keys_of es)) both ≡ insert_entry (pointwise nat_eq) es cells both
+      → set_value_at (if b then (x.0, c) ∷ es else x ∷ insert_entry (pointwise nat_eq) es cells c) (cond (not b) (1 + position_or_len (pointwise nat_eq cells) (keys_of es)) 0) both
+      ≡ (if b then (x.0, both) ∷ es else x ∷ insert_entry (pointwise nat_eq) es cells both)
+  by_test true later = refl
+  by_test false later =
+      let next : 1 + position_or_len (pointwise nat_eq cells) (keys_of es) ≡ suc (position_or_len (pointwise nat_eq cells) (keys_of es)) = omega arith in
+      ap (λ n. set_value_at (x ∷ insert_entry (pointwise nat_eq) es cells c) n both) next ∙ ap (λ l. x ∷ l) later
+
+pub entry_again : (cells : List ℕ) (c both place : ℕ) (es put : List (List ℕ × ℕ)) → put ≡ insert_entry (pointwise nat_eq) es cells c → place ≡ position_or_len (pointwise nat_eq cells) (keys_of es)
+    → set_value_at put place both ≡ insert_entry (pointwise nat_eq) es cells both
+entry_again cells c both place es put is at = (λ i. set_value_at (is i) (at i) both) ∙ put_again cells c both es
 
 -- new cells get an entry of their own
 last_entry : (cells : List ℕ) (c : ℕ) (es : List (List ℕ × ℕ)) → lookup (same_text cells) es ≡ None

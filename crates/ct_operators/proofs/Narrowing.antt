@@ -7,10 +7,10 @@ use Rattle.std.{proofs.lemmas.Bool.{cases_lt, false≢true, eq-eqb, eqb-true, eq
 use Rattle.ct_word.{specs.declared.values.Term.Term, specs.declared.values.CRow.CRow, specs.Value.{World, at, same_value}, specs.Constant.is_constant_word}
 use Rattle.ct_word.{specs.WellFormed.{IsWellFormed, is_place_of}, specs.Reading.{term_at, condition_at}, specs.Condition.holds_at, proofs.Prefixes.{get_in_prefix, place_within}}
 use Rattle.ct_condition.proofs.Truths.{constants_differ}
-use Rattle.ct_join.{specs.declared.keys.Key.Key, specs.Pairs.{may_agree, partners}, specs.Indexed.places_from, proofs.Walk.all_filtered}
+use Rattle.ct_join.{specs.declared.keys.Key.Key, specs.Pairs.{may_agree, partners}, specs.Indexed.places_from, specs.Mixing.mixed, proofs.Walk.all_filtered}
 use Rattle.ct_operators.{specs.Tables.IsRow, specs.Terms.TermOfRows, specs.Matching.{same_worth, is_among}, specs.Others.{rows_at}, specs.Placing.tuple_of}
 use Rattle.ct_operators.specs.Judging.{FitsTest}
-use Rattle.ct_operators.specs.Nearness.{mixed, key_from, row_key, rows_in, AreKeys, at_found, narrowed, Narrows}
+use Rattle.ct_operators.specs.Nearness.{key_from, row_key, rows_in, AreKeys, at_found, narrowed, Narrows}
 use Rattle.ct_operators.{specs.declared.judging.Test.Test, proofs.Merges.has_cons, proofs.Reaching.rows_among, proofs.Firsts.filtered_among}
 use mathlib.Core.List.{IsPrefix}
 use Rattle.ct_word.specs.declared.kinds.Class.TheVariants as class

@@ -1,5 +1,5 @@
 -- Which rows of another table are met by a row: those with its key, and those with a null.
-use Rattle.std.specs.Prelude.{◌≡◌, ◌⊎◌, ◌≤◌, ◌+◌, ◌*◌, ◌%◌, ◌^◌, ℕ, List, [], ◌∷◌, length, map, nat_eq, slice_get, if◌then◌else◌}
+use Rattle.std.specs.Prelude.{◌≡◌, ◌⊎◌, ◌≤◌, ℕ, List, [], ◌∷◌, length, map, nat_eq, slice_get, if◌then◌else◌}
 use Rattle.std.specs.Borrow.{Bor}
 use Rattle.ct_word.specs.declared.values.Term.{Term}
 use Rattle.ct_word.specs.declared.values.CRow.{CRow}
@@ -7,16 +7,13 @@ use Rattle.ct_word.specs.Value.{World}
 use Rattle.ct_word.specs.Constant.{is_constant_word}
 use Rattle.ct_join.specs.declared.keys.Key.{Key}
 use Rattle.ct_join.specs.declared.keys.Key.TheVariants as key
+use Rattle.ct_join.specs.Mixing.{mixed}
 use Rattle.ct_operators.specs.Others.{at_places}
 use Rattle.ct_operators.specs.Placing.{tuple_of}
 use Rattle.ct_operators.specs.Judging.{passes, parts_in, FitsTest, Further, first_words, test_words}
 use Rattle.ct_operators.specs.declared.judging.Test.{Test}
 use Rattle.ct_operators.specs.declared.judging.Test.TheVariants as test
 use Rattle.ct_operators.specs.declared.others.Others.TheVariants as others
-
--- a number mixed from two
-abbrev pub mixed : ℕ → ℕ → ℕ
-mixed n p = (n * 2654435769 % 2 ^ 32 + p) % 2 ^ 32
 
 -- the number of constants mixed into another, or that there is a null among them
 abbrev pub key_from : List ℕ → ℕ → List ℕ → Key

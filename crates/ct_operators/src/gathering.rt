@@ -80,14 +80,11 @@ impl Gathering {
     {
         let _ = pass.words();
         let CRow { cells, cond } = row;
-        match self.rows.get(&cells) {
-            Some(first) => {
-                let both = or(arena, pass, *first, cond)?;
-                self.rows.insert(cells, both)?;
-            }
-            None => {
-                self.rows.insert(cells, cond)?;
-            }
+        // One look-up: where the cells have a condition already, the new one stands in its place until both are joined.
+        let (place, earlier) = self.rows.insert_full(cells, cond)?;
+        if let Some(first) = earlier {
+            let both = or(arena, pass, first, cond)?;
+            self.rows[place] = both;
         }
         Ok(())
     }

@@ -13,6 +13,7 @@ use crate::error::TableError;
 use crate::judging::Test;
 use crate::others::Others;
 use crate::selection::sifted;
+use crate::source::RowSource;
 use crate::table::CTable;
 use ct_arena::{Arena, Site};
 use ct_condition::Interner;
@@ -23,22 +24,22 @@ use std::alloc::Global;
 ///
 /// # Errors
 /// `Full` where the log has no room for a condition, `Memory` where there is none for the rows.
-pub fn except<N: Site, I: Interner<N>>(
+pub fn except<N: Site, I: Interner<N>, T: RowSource>(
     alloc: Global,
     arena: &Arena<N>,
     pass: &mut I,
-    left: &CTable,
+    left: &T,
     right: &CTable,
 ) -> Result<CTable, TableError>
-    requires left { AreRows (I.list pass.old) (length left.now.columns) left.now.rows }
+    requires left { AreRows (I.list pass.old) (length (T.table left.now).columns) (T.table left.now).rows }
     requires right { AreRows (I.list pass.old) (length right.now.columns) right.now.rows }
-    requires columns { length right.now.columns ≡ length left.now.columns }
-    ensures columns { IfOk result (λ out. out.columns ≡ left.now.columns) }
-    ensures rows { IfOk result (λ out. AreRows (I.list pass.new) (length left.now.columns) out.rows) }
-    ensures tuples { (v : World) → IfOk result (λ out. SameSet (value_of_rows (I.list pass.new) v out.rows) (filter (λ t. not (has_tuple (value_of_rows (I.list pass.old) v right.now.rows) t)) (value_of_rows (I.list pass.old) v left.now.rows))) }
-    ensures part { IfOk result (λ out. IsSublist (cells_of (I.list pass.new) out.rows) (cells_of (I.list pass.old) left.now.rows)) }
-    ensures terms { IfOk result (λ out. RowsFrom (I.list pass.new) out.rows (TermOfRows (I.list pass.old) (left.now.rows ++ right.now.rows))) }
-    ensures writes { Writes I.list I.made I.kept I.lent N.log.cap pass.old pass.new (length left.now.rows * length right.now.rows * (2 * length left.now.columns + 2) + length left.now.rows) (is_full result) }
+    requires columns { length right.now.columns ≡ length (T.table left.now).columns }
+    ensures columns { IfOk result (λ out. out.columns ≡ (T.table left.now).columns) }
+    ensures rows { IfOk result (λ out. AreRows (I.list pass.new) (length (T.table left.now).columns) out.rows) }
+    ensures tuples { (v : World) → IfOk result (λ out. SameSet (value_of_rows (I.list pass.new) v out.rows) (filter (λ t. not (has_tuple (value_of_rows (I.list pass.old) v right.now.rows) t)) (value_of_rows (I.list pass.old) v (T.table left.now).rows))) }
+    ensures part { IfOk result (λ out. IsSublist (cells_of (I.list pass.new) out.rows) (cells_of (I.list pass.old) (T.table left.now).rows)) }
+    ensures terms { IfOk result (λ out. RowsFrom (I.list pass.new) out.rows (TermOfRows (I.list pass.old) ((T.table left.now).rows ++ right.now.rows))) }
+    ensures writes { Writes I.list I.made I.kept I.lent N.log.cap pass.old pass.new (length (T.table left.now).rows * length right.now.rows * (2 * length (T.table left.now).columns + 2) + length (T.table left.now).rows) (is_full result) }
 {
     sifted(
         alloc,
@@ -54,22 +55,22 @@ pub fn except<N: Site, I: Interner<N>>(
 ///
 /// # Errors
 /// `Full` where the log has no room for a condition, `Memory` where there is none for the rows.
-pub fn intersect<N: Site, I: Interner<N>>(
+pub fn intersect<N: Site, I: Interner<N>, T: RowSource>(
     alloc: Global,
     arena: &Arena<N>,
     pass: &mut I,
-    left: &CTable,
+    left: &T,
     right: &CTable,
 ) -> Result<CTable, TableError>
-    requires left { AreRows (I.list pass.old) (length left.now.columns) left.now.rows }
+    requires left { AreRows (I.list pass.old) (length (T.table left.now).columns) (T.table left.now).rows }
     requires right { AreRows (I.list pass.old) (length right.now.columns) right.now.rows }
-    requires columns { length right.now.columns ≡ length left.now.columns }
-    ensures columns { IfOk result (λ out. out.columns ≡ left.now.columns) }
-    ensures rows { IfOk result (λ out. AreRows (I.list pass.new) (length left.now.columns) out.rows) }
-    ensures tuples { (v : World) → IfOk result (λ out. SameSet (value_of_rows (I.list pass.new) v out.rows) (filter (has_tuple (value_of_rows (I.list pass.old) v right.now.rows)) (value_of_rows (I.list pass.old) v left.now.rows))) }
-    ensures part { IfOk result (λ out. IsSublist (cells_of (I.list pass.new) out.rows) (cells_of (I.list pass.old) left.now.rows)) }
-    ensures terms { IfOk result (λ out. RowsFrom (I.list pass.new) out.rows (TermOfRows (I.list pass.old) (left.now.rows ++ right.now.rows))) }
-    ensures writes { Writes I.list I.made I.kept I.lent N.log.cap pass.old pass.new (length left.now.rows * length right.now.rows * (2 * length left.now.columns + 1) + 2 * length left.now.rows) (is_full result) }
+    requires columns { length right.now.columns ≡ length (T.table left.now).columns }
+    ensures columns { IfOk result (λ out. out.columns ≡ (T.table left.now).columns) }
+    ensures rows { IfOk result (λ out. AreRows (I.list pass.new) (length (T.table left.now).columns) out.rows) }
+    ensures tuples { (v : World) → IfOk result (λ out. SameSet (value_of_rows (I.list pass.new) v out.rows) (filter (has_tuple (value_of_rows (I.list pass.old) v right.now.rows)) (value_of_rows (I.list pass.old) v (T.table left.now).rows))) }
+    ensures part { IfOk result (λ out. IsSublist (cells_of (I.list pass.new) out.rows) (cells_of (I.list pass.old) (T.table left.now).rows)) }
+    ensures terms { IfOk result (λ out. RowsFrom (I.list pass.new) out.rows (TermOfRows (I.list pass.old) ((T.table left.now).rows ++ right.now.rows))) }
+    ensures writes { Writes I.list I.made I.kept I.lent N.log.cap pass.old pass.new (length (T.table left.now).rows * length right.now.rows * (2 * length (T.table left.now).columns + 1) + 2 * length (T.table left.now).rows) (is_full result) }
 {
     sifted(
         alloc,

@@ -7,22 +7,12 @@ ghost use Rattle.ct_operators.specs.Nearness.{row_key, rows_in, AreKeys};
 
 use crate::judging::Test;
 use crate::others::Others;
-use ct_join::{Index, Key};
+use ct_join::{Index, Key, mixed};
 use ct_word::{CRow, Memory, is_constant};
 use std::alloc::Global;
 
 /// Where so many rows come or fewer, each meets all rows of the other table: an index would cost more than it saves.
 const FEW_ROWS: usize = 8;
-
-/// An odd number without a pattern in its bits, from the golden ratio.
-const MIXING: u32 = 0x9E37_79B9;
-
-/// A number that differs for most pairs of numbers.
-fn mixed(number: u32, place: u32) -> u32
-    ensures { result ≡ spec.mixed number place }
-{
-    number.wrapping_mul(MIXING).wrapping_add(place)
-}
 
 /// The key of a row: a number mixed from the places of its cells, where all of them are constants.
 #[tactic(auto, using(crate::proofs::Narrowing::key_more, crate::proofs::Narrowing::key_null, crate::proofs::Narrowing::key_done))]

@@ -13,6 +13,13 @@ UnlessMemory (Err fault.Failed) fact = fact
 UnlessMemory (Err fault.TooLong) fact = fact
 UnlessMemory (Err fault.Memory) fact = Unit {0}
 
+-- a fact that holds unless the source failed
+abbrev pub UnlessFailed : {T : Type 0} → Result T ReadError → Type 0 → Type 0
+UnlessFailed (Ok text) fact = fact
+UnlessFailed (Err fault.Failed) fact = Unit {0}
+UnlessFailed (Err fault.TooLong) fact = fact
+UnlessFailed (Err fault.Memory) fact = fact
+
 -- a fact that holds where memory was wanting
 abbrev pub OnMemory : {T : Type 0} → Result T ReadError → Type 0 → Type 0
 OnMemory (Err fault.Memory) fact = fact

@@ -2,7 +2,7 @@
 
 ghost use Rattle.std.specs.Prelude.{◌≡◌, ◌≢◌, ◌≤◌, ◌+◌, ◌∷◌, [], ℕ, length, take, OnOk, OnErr, IfOk, IfErr, IsErrOf};
 ghost use Rattle.ct_outside.specs.Outside.{Rose, StillHolds, HoldsMore, Added, AddedFront, Called};
-ghost use Rattle.ct_outside.specs.Reads.{UnlessMemory, names_of, bytes_in, IsOneMore, AreOfAll, AreBeforeFault};
+ghost use Rattle.ct_outside.specs.Reads.{UnlessMemory, UnlessFailed, names_of, bytes_in, IsOneMore, AreOfAll, AreBeforeFault};
 ghost use Rattle.ct_outside.specs.Writes.{joined, FailedAtCall};
 ghost use Rattle.ct_outside.specs.declared.scripts.ReadError.TheVariants as fault;
 
@@ -30,6 +30,7 @@ fn read_next<S: Scripts>(
 ) -> Result<(), ReadError>
     ensures later { S.faults scripts.old ≤ S.faults scripts.new }
     ensures failed { IsErrOf result fault.Failed → Rose (S.faults scripts.old) (S.faults scripts.new) }
+    ensures quiet { UnlessFailed result (S.faults scripts.new ≡ S.faults scripts.old) }
     ensures held { StillHolds (S.held scripts.old) (S.held scripts.new) }
     ensures names { AddedFront (S.names scripts.old) (S.names scripts.new) (name.now ∷ []) }
     ensures asked { UnlessMemory result (Added (S.names scripts.old) (S.names scripts.new) (name.now ∷ [])) }
@@ -64,6 +65,8 @@ pub fn read_all<S: Scripts>(
     ensures ok { IfOk result (λ texts. AreOfAll (S.held scripts.old) (names_of files.now) limit (bytes_in texts.items)) }
     ensures err { IfErr result (λ e. AreBeforeFault (S.held scripts.old) (names_of files.now) limit (bytes_in e.texts.items) e.fault) }
     ensures failed { IfErr result (λ e. e.fault ≡ fault.Failed → Rose (S.faults scripts.old) (S.faults scripts.new)) }
+    ensures quiet { OnOk result (S.faults scripts.new ≡ S.faults scripts.old) }
+    ensures quiet_err { IfErr result (λ e. e.fault ≢ fault.Failed → S.faults scripts.new ≡ S.faults scripts.old) }
     ensures last { IfErr result (λ e. e.fault ≢ fault.Memory → Added (S.names scripts.old) (S.names scripts.new) (take (length e.texts.items + 1) (names_of files.now))) }
 {
     let mut texts = Vec::new(alloc);

@@ -3,7 +3,7 @@
 ghost use Rattle.std.specs.Prelude.{◌≡◌, ◌≤◌, ◌⊎◌, ◌∷◌, [], Some, IfOk, IsErrOf, IsTrue, option_map};
 ghost use Rattle.std.specs.Result.{result_map_both};
 ghost use Rattle.ct_outside.specs.Outside.{Rose};
-ghost use Rattle.ct_outside.specs.Reads.{UnlessMemory, OnMemory};
+ghost use Rattle.ct_outside.specs.Reads.{UnlessMemory, UnlessFailed, OnMemory};
 ghost use Rattle.ct_outside.specs.InMemory.{bytes_under, fails_next, next_answer, one_more, after_read, after_want};
 ghost use Rattle.ct_outside.specs.declared.scripts.ReadError.TheVariants as fault;
 
@@ -82,6 +82,7 @@ impl Scripts for MemScripts {
     fn read(&mut self, alloc: Global, name: &str, limit: u32) -> Result<Vec<u8>, ReadError>
         ensures later { self.old.faults ≤ self.new.faults }
         ensures failed { IsErrOf result fault.Failed → Rose self.old.faults self.new.faults }
+        ensures quiet { UnlessFailed result (self.new.faults ≡ self.old.faults) }
         ensures answer { UnlessMemory result (result_map_both (λ text. text.items) (λ e. e) result ≡ next_answer self.old name.now limit) }
         ensures after { UnlessMemory result (self.new ≡ after_read self.old name.now limit) }
         ensures want { OnMemory result ((self.new ≡ after_want self.old []) ⊎ (self.new ≡ after_want self.old (name.now ∷ []))) }

@@ -2,7 +2,7 @@
 
 ghost use Rattle.std.specs.Prelude.{◌≡◌, ◌≤◌, ◌∷◌, [], ℕ, List, Option, IfOk, IsErrOf, vec_len};
 ghost use Rattle.ct_outside.specs.Outside.{Rose, Held, StillHolds, Holds, HoldsWithin, HoldsMore, Added, AddedFront};
-ghost use Rattle.ct_outside.specs.Reads.{UnlessMemory};
+ghost use Rattle.ct_outside.specs.Reads.{UnlessMemory, UnlessFailed};
 ghost use Rattle.ct_outside.specs.declared.scripts.ReadError.TheVariants as fault;
 
 use ct_word::Memory;
@@ -49,7 +49,7 @@ impl From<Memory> for ReadError {
 
 /// A source of scripts under names.
 pub trait Scripts {
-    /// How often it failed: a number that never falls, and ends at the greatest `u64`.
+    /// How often it failed: a number that rises where a read fails alone, and ends at the greatest `u64`.
     ghost faults: { Self → ℕ };
 
     /// The bytes under each name, where it tells them.
@@ -66,6 +66,7 @@ pub trait Scripts {
     fn read(&mut self, alloc: Global, name: &str, limit: u32) -> Result<Vec<u8>, ReadError>
         ensures later { faults self.old ≤ faults self.new }
         ensures failed { IsErrOf result fault.Failed → Rose (faults self.old) (faults self.new) }
+        ensures quiet { UnlessFailed result (faults self.new ≡ faults self.old) }
         ensures held { StillHolds (held self.old) (held self.new) }
         ensures bytes { IfOk result (λ text. Holds (held self.old) name.now text.items) }
         ensures within { IfOk result (λ text. HoldsWithin (held self.old) name.now limit) }

@@ -46,8 +46,8 @@ fn row_roots<N: Site, I: Interner<N>>(
 }
 
 /// The roots of the questions whether the rows of a table are possible, one for each row in their order. A root holds exactly
-/// where the global condition and the row's hold. At most as many words are made as there are rows, and none for a row whose
-/// root stands in the log already.
+/// where the global condition and the row's hold. At most as many words are made as there are rows. A root that
+/// stands in the log already takes none, which no clause says.
 ///
 /// # Errors
 /// `Full` only where the log has as many words as its capacity, `Memory` where there is none for the list.

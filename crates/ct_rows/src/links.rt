@@ -106,6 +106,17 @@ impl Links {
         self.nodes.at(place).row()
     }
 
+    /// The row at a place, held once more.
+    ///
+    /// # Errors
+    /// `AllocError` where it cannot be held once more.
+    pub(crate) fn shared(&self, place: usize) -> Result<Arc<CRow, Global>, AllocError>
+        requires { place < length self.now.entries }
+        ensures { IfOk result (λ row. slice_get self.now.entries place ≡ Some (row.value.cells, row.value.cond)) }
+    {
+        self.nodes.at(place).shared()
+    }
+
     /// The place of the row with these cells.
     pub(crate) fn place_of(&self, cells: &[u32]) -> Option<u32>
         ensures { MatchOption result (find cells.now self.now.entries ≡ None) (λ place. IsFirst self.now.entries cells.now place) }

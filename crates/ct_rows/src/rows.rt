@@ -1,6 +1,6 @@
 // The rows of a table.
 
-ghost use Rattle.std.specs.Prelude.{◌≡◌, ◌<◌, [], ◌∷◌, ◌++◌, None, Some, length, slice_get, OnOk, OnErr};
+ghost use Rattle.std.specs.Prelude.{◌≡◌, ◌<◌, [], ◌∷◌, ◌++◌, None, Some, length, slice_get, IfOk, OnOk, OnErr};
 ghost use Rattle.ct_rows.specs.Entries as spec;
 
 use crate::links::Links;
@@ -47,6 +47,17 @@ impl Rows {
         ensures { slice_get self.now place ≡ Some (result.now.cells, result.now.cond) }
     {
         self.links.at(place)
+    }
+
+    /// The row at a place, held once more.
+    ///
+    /// # Errors
+    /// `AllocError` where it cannot be held once more.
+    pub fn shared(&self, place: usize) -> Result<Arc<CRow, Global>, AllocError>
+        requires { place < length self.now }
+        ensures { IfOk result (λ row. slice_get self.now place ≡ Some (row.value.cells, row.value.cond)) }
+    {
+        self.links.shared(place)
     }
 
     /// The condition of the row with these cells.

@@ -20,7 +20,7 @@ use std::sync::Wait;
 use std::thread::Threads;
 
 /// A transcript, and what an export gave after the last statement: the version and the bytes of a table's CSV file, or why
-/// there is none.
+/// there is none. No clause is on the version.
 #[derive(Drop)]
 pub struct TableRun {
     pub transcript: Transcript,

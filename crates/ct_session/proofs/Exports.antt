@@ -2,15 +2,15 @@
 use Rattle.std.proofs.Common.{◌≡◌, ℕ, ◌≤◌, Bool, true, false, List, [], ◌∷◌, ◌++◌, length, max, take, refl, ap, sym, subst, ◌∙◌, arith}
 use Rattle.std.{specs.Prelude.{◌↔◌, Option, Some, None, IfSome, IsTrue, if◌then◌else◌, option_map}, specs.List.{filter_map, list_all}}
 use Rattle.std.proofs.lemmas.{Bool.{and_parts, false≢true}, Option.IfSome_then, List.Elements.recursion_from_All}
-use Rattle.ct_word.{specs.declared.values.CRow.CRow, specs.declared.values.Term.Term, specs.Value.same_text, specs.Names.is_name}
+use Rattle.ct_word.{specs.declared.values.CRow.CRow, specs.declared.values.Term.Term, specs.Value.same_text, specs.Names.is_name, specs.Sublist.IsSublist}
 use Rattle.ct_word.specs.Change.{PlainChange, PlainCommit, Create, Insert, Delete, Update, Assert}
 use Rattle.ct_word.{specs.Reading.commits_of, specs.WellFormed.IsWellFormed, specs.Writable.is_writable}
-use Rattle.ct_query.{specs.declared.action.Read.Read, specs.Database.{SameSet, tuples_of}, specs.Fits.columns_in, specs.Keeping.Keeps}
+use Rattle.ct_query.{specs.declared.action.Read.Read, specs.Plain.Table, specs.Database.{SameSet, tuples_of}, specs.Fits.columns_in, specs.Keeping.Keeps}
 use Rattle.ct_query.{specs.Schema.{created_by_change, schema}, specs.Worlds.{changes_of, world}, proofs.SameRows.same_tuples_of}
 use Rattle.ct_arena.specs.Seen.{tally_of}
-use Rattle.ct_operators.{specs.Tables.{AreRows, value_of_rows}, specs.Terms.RowsFrom, proofs.Reaching.rows_wider}
+use Rattle.ct_operators.{specs.Tables.{AreRows, cells_of, value_of_rows}, specs.Terms.RowsFrom, proofs.Reaching.rows_wider}
 use Rattle.ct_resolve.specs.Writing.{WritesTerm}
-use Rattle.ct_table.{specs.Snapshot.commits_to, proofs.Denoting.found_all}
+use Rattle.ct_table.{specs.Snapshot.commits_to, proofs.Denoting.{found_all, found_pattern}}
 use Rattle.ct_table.specs.Denotes.{TableView, Denotes, IsKept, IsTermFor, by_change, by_action, find_table, value_of_tables}
 use Rattle.ct_algebra.proofs.Found.{stands_for, no_columns}
 use Rattle.ct_statement.{proofs.EachTerm.written_in_change, proofs.Members.passes}
@@ -65,6 +65,7 @@ module _ (words : List ℕ) (h : List PlainCommit) (db : List TableView) (d : De
       are = rows_are;
       worth = λ v. IfSome_then (world v h []) (d.worth.tables v) (λ w same.
           subst (λ l. SameSet l (tuples_of w name)) ((stands_for words name t db found).tuples v) (same_tuples_of name (value_of_tables words v db) w same));
+      in_pattern = found_pattern words h [] h [] db d.worth name t found;
     }
 
     pub can_be : IsWellFormed words → 1 ≤ length t.columns → CanBeExported words t.columns t.rows
@@ -89,6 +90,7 @@ module _ (words : List ℕ) (g h : List PlainCommit) (keeps : Keeps g h) (name :
     there = sym same_columns ∙ t.there;
     are = t.are;
     worth = λ v. subst (λ o. IfSome o (λ w. SameSet (value_of_rows words v rows) (tuples_of w name))) (keeps.worlds v []) (t.worth v);
+    in_pattern = subst (IsSublist (cells_of words rows)) (keeps.patterns [] (Table name)) t.in_pattern;
   }
 
   file_kept : (bytes : List ℕ) → IsFileOf words g name bytes → IsFileOf words h name bytes

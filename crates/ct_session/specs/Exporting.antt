@@ -3,14 +3,17 @@ use Rattle.std.specs.Prelude.{◌≡◌, ◌≤◌, ℕ, List, [], length, take,
 use mathlib.Core.List.{IsPrefix}
 use Rattle.ct_word.specs.declared.values.CRow.{CRow}
 use Rattle.ct_word.specs.Value.{World}
+use Rattle.ct_word.specs.Sublist.{IsSublist}
 use Rattle.ct_word.specs.Change.{PlainCommit}
 use Rattle.ct_word.specs.Reading.{commits_of}
 use Rattle.ct_word.specs.StandsFor.{StandsFor}
+use Rattle.ct_query.specs.Plain.{Table}
 use Rattle.ct_query.specs.Database.{SameSet, tuples_of}
 use Rattle.ct_query.specs.Fits.{columns_in}
+use Rattle.ct_query.specs.Patterns.{pattern}
 use Rattle.ct_query.specs.Schema.{schema}
 use Rattle.ct_query.specs.Worlds.{world}
-use Rattle.ct_operators.specs.Tables.{AreRows, value_of_rows}
+use Rattle.ct_operators.specs.Tables.{AreRows, cells_of, value_of_rows}
 use Rattle.ct_table.specs.Snapshot.{commits_to}
 use Rattle.ct_csv.specs.Exported.{IsExported, IsTooWide}
 use Rattle.ct_transaction.{specs.Answers.GoesOn, specs.State.carried}
@@ -32,11 +35,12 @@ pub record IsNow (old new : Standing) (at : ℕ) : Type 0 where
   pub within : at ≤ length (commits_of new.pass.words)
 
 -- rows over the words are the table with this name after a history: they are worth the same set at every valuation that it
--- admits
+-- admits, and their cells are, in order, a part of the table's pattern
 pub record AreOfTable (words : List ℕ) (h : List PlainCommit) (name : List ℕ) (columns : List (List ℕ)) (rows : List CRow) : Type 0 where
   pub there : columns_in (schema h []).tables name ≡ Some columns
   pub are : AreRows words (length columns) rows
   pub worth : (v : World) → IfSome (world v h []) (λ w. SameSet (value_of_rows words v rows) (tuples_of w name))
+  pub in_pattern : IsSublist (cells_of words rows) (pattern h [] (Table name))
 
 -- bytes are a file of rows over the words, which are the table with this name after a history
 pub record IsFileOf (words : List ℕ) (h : List PlainCommit) (name bytes : List ℕ) : Type 0 where

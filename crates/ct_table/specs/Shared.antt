@@ -15,7 +15,8 @@ view_of name t = record { name = name; columns = t.columns; rows = t.rows }
 abbrev pub entry_of : List ℕ × CTable → TableView
 entry_of e = view_of e.0 e.1
 
--- the table, with a map or without
+-- the table, however its rows stand
 abbrev pub body_of : Body → CTable
 body_of (body.Plain t) = arc_value t
 body_of (body.Keyed k) = table_of k
+body_of (body.Listed l) = arc_value l

@@ -126,6 +126,7 @@ impl Db {
     pub fn with(&self, alloc: Global, name: Text, table: CTable) -> Result<Db, Memory>
         ensures { IfOk result (λ db. db ≡ with_table self.now (view_of name table)) }
     {
+        let table = SharedTable::make(alloc, table)?;
         match self
             .copied(alloc)?
             .growing(alloc, Growth::Table { name, table })
@@ -147,7 +148,7 @@ impl Db {
         ensures after { IfOk result (λ p. (turn_of p).after ≡ after self growth) }
     {
         match growth {
-            Growth::Table { name, table } => match PendingTable::make(alloc, self, name, table) {
+            Growth::Table { name, table } => match PendingTable::make(self, name, table) {
                 Ok(pending) => Ok(Pending::Table(pending)),
                 Err(same) => Err(same),
             },

@@ -4,6 +4,7 @@
 mod counting;
 mod db;
 mod insertion;
+mod listed;
 mod pending;
 mod preparing;
 mod sharing;

@@ -11,9 +11,8 @@ ghost use Rattle.ct_table.specs.Shared.{view_of, entry_of};
 use crate::db::{Db, heading};
 use crate::sharing::SharedTable;
 use crate::stored::Put;
-use ct_operators::CTable;
 use ct_query::{Heading, Schema};
-use ct_word::{List, Memory, Text};
+use ct_word::{List, Text};
 use indexmap::IndexMap;
 use std::alloc::{AllocError, Global};
 use std::marker::Model;
@@ -22,7 +21,7 @@ use std::marker::Model;
 /// name gets at some cells.
 #[derive(Drop)]
 pub enum Growth {
-    Table { name: Text, table: CTable },
+    Table { name: Text, table: SharedTable },
     Rows { name: Text, puts: Vec<Put> },
 }
 
@@ -90,7 +89,7 @@ impl PendingTable {
     ///
     /// # Errors
     /// The database as it was, where there is no memory.
-    pub(crate) fn make(alloc: Global, db: Db, name: Text, table: CTable) -> Result<PendingTable, Db>
+    pub(crate) fn make(db: Db, name: Text, table: SharedTable) -> Result<PendingTable, Db>
         ensures before { MatchResult result (λ p. p.before ≡ db) (λ same. same ≡ db) }
         ensures after { IfOk result (λ p. p.after ≡ with_table db (view_of name table)) }
     {
@@ -98,7 +97,7 @@ impl PendingTable {
             mut tables,
             headings,
         } = db;
-        let Ok((table, heading)) = parts(alloc, &name, table) else {
+        let Ok(heading) = heading(&name, &table) else {
             return Err(Db { tables, headings });
         };
         let mut headings = headings.tables.into_vec();
@@ -228,19 +227,6 @@ fn schema_of(headings: Vec<Heading>) -> Schema
     Schema {
         tables: List::from_vec(headings),
     }
-}
-
-/// A table that is to be put in, and its heading.
-///
-/// # Errors
-/// `Memory` where there is none for them.
-fn parts(alloc: Global, name: &Text, table: CTable) -> Result<(SharedTable, Heading), Memory>
-    ensures table { IfOk result (λ p. p.0 ≡ table) }
-    ensures heading { IfOk result (λ p. p.1 ≡ heading_of (view_of name.now table)) }
-{
-    let table = SharedTable::make(alloc, table)?;
-    let heading = heading(name, &table)?;
-    Ok((table, heading))
 }
 
 /// The headings with that of a table of this name: at its name's place, or last. It takes no memory.

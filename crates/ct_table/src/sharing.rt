@@ -1,13 +1,15 @@
 // The tables of a database: each is shared, and most have their rows found by their cells.
 
-ghost use Rattle.std.specs.Prelude.{◌≡◌, ◌≤◌, ◌<◌, Ok, get_or, length, true, IfOk, IfSome, MatchOption, OnErr, OnOk, OnSome};
+ghost use Rattle.std.specs.Prelude.{◌≡◌, ◌≤◌, ◌<◌, Ok, get_or, length, true, All, IfOk, IfSome, MatchOption, OnErr, OnOk, OnSome};
 ghost use Rattle.std.specs.Arc.{arc_value};
 ghost use mathlib.Core.List.{IsPrefix};
+ghost use Rattle.ct_query.specs.Updates.{with_items};
 ghost use Rattle.ct_table.specs.Growing.{Apart, entries_of, grown, rows_after, table_of};
 ghost use Rattle.ct_table.specs.Shared.{body_of};
 
+use crate::listed::{Held, Listed};
 use crate::stored::{Put, Stored};
-use ct_operators::{CTable, RowSource};
+use ct_operators::{CTable, RowSource, under};
 use ct_word::{CRow, List, Text};
 use std::alloc::{AllocError, Global};
 use std::marker::Model;
@@ -34,11 +36,12 @@ impl Model for Front {
     ghost invariant = { λ f. f.len ≤ length (arc_value f.stored).entries };
 }
 
-/// A table, as its rows alone or with them found by their cells.
+/// A table, as its rows alone, with them found by their cells, or as a list that shares them.
 #[derive(Drop)]
 pub enum Body {
     Plain(Arc<CTable, Global>),
     Keyed(Front),
+    Listed(Arc<Listed, Global>),
 }
 
 /// A table of a database, shared with the databases that were made from it. Contracts see it as the table.
@@ -133,6 +136,17 @@ impl Front {
         self.stored.row(place)
     }
 
+    /// The row at a place, held once more.
+    ///
+    /// # Errors
+    /// `AllocError` where it cannot be held once more.
+    fn held(&self, place: usize) -> Result<Held, AllocError>
+        requires { place < length self.now.entries }
+        ensures { IfOk result (λ h. h ≡ get_or (table_of self.now).rows place h) }
+    {
+        Ok(Held::new(self.stored.shared(place)?))
+    }
+
     /// The table, in a copy that shares nothing.
     ///
     /// # Errors
@@ -179,7 +193,7 @@ impl SharedTable {
     ///
     /// # Errors
     /// `AllocError` where there is no memory for that.
-    pub(crate) fn make(alloc: Global, table: CTable) -> Result<SharedTable, AllocError>
+    pub fn make(alloc: Global, table: CTable) -> Result<SharedTable, AllocError>
         ensures { IfOk result (λ s. s ≡ table) }
     {
         let body = if table.rows.is_empty() {
@@ -197,6 +211,7 @@ impl SharedTable {
         match &self.body {
             Body::Plain(table) => &table.columns,
             Body::Keyed(front) => front.columns(),
+            Body::Listed(listed) => listed.columns(),
         }
     }
 
@@ -207,6 +222,7 @@ impl SharedTable {
         match &self.body {
             Body::Plain(table) => table.rows.len(),
             Body::Keyed(front) => front.len(),
+            Body::Listed(listed) => listed.len(),
         }
     }
 
@@ -220,6 +236,7 @@ impl SharedTable {
         match &self.body {
             Body::Plain(table) => table.copied(alloc),
             Body::Keyed(front) => front.copied(alloc),
+            Body::Listed(listed) => listed.copied(alloc),
         }
     }
 
@@ -228,8 +245,8 @@ impl SharedTable {
         ensures { IfSome result (λ s. table_of s.now ≡ self.now) }
     {
         match &self.body {
-            Body::Plain(_) => None,
             Body::Keyed(front) => front.whole(),
+            _ => None,
         }
     }
 
@@ -246,6 +263,60 @@ impl SharedTable {
             Some(stored) => stored.clone(),
             None => Stored::make(alloc, self.copied(alloc)?),
         }
+    }
+
+    /// The row at a place, to be held from now on: once more, or in a copy where it stands in a table that is no list.
+    ///
+    /// # Errors
+    /// `AllocError` where there is no memory for it.
+    fn held(&self, alloc: Global, place: usize) -> Result<Held, AllocError>
+        requires { place < length self.now.rows }
+        ensures { IfOk result (λ h. h ≡ get_or self.now.rows place h) }
+    {
+        match &self.body {
+            Body::Keyed(front) => front.held(place),
+            _ => {
+                let row = RowSource::row(self, place);
+                Ok(Held::new(Arc::new(alloc, under(row, row.cond)?)?))
+            }
+        }
+    }
+
+    /// The table as a list of its rows, which are shared where they can be.
+    ///
+    /// # Errors
+    /// `AllocError` where there is no memory for it.
+    fn listed(&self, alloc: Global) -> Result<Listed, AllocError>
+        ensures { IfOk result (λ l. l ≡ self.now) }
+    {
+        if let Body::Listed(listed) = &self.body {
+            let listed: &Listed = listed;
+            return listed.clone();
+        }
+        let mut listed = Listed::make(alloc, self.columns())?;
+        for place in 0..self.len() {
+            listed.push(alloc, self.held(alloc, place)?)?;
+        }
+        Ok(listed)
+    }
+
+    /// The table with these rows, each in the place of another. The table stays as it is. The next one that is made of the
+    /// new table in this way shares with it the parts of its rows that do not change.
+    ///
+    /// # Errors
+    /// `AllocError` where there is no memory for what is not shared.
+    pub fn with_rows(
+        &self,
+        alloc: Global,
+        rows: Vec<(usize, CRow)>,
+    ) -> Result<SharedTable, AllocError>
+        requires { All (λ e. e.0 < length self.now.rows) rows.items }
+        ensures { IfOk result (λ s. s ≡ record { columns = self.now.columns; rows = with_items rows.items self.now.rows }) }
+    {
+        let listed = self.listed(alloc)?.with_rows(alloc, rows)?;
+        Ok(SharedTable {
+            body: Body::Listed(Arc::new(alloc, listed)?),
+        })
     }
 
     /// Puts conditions at their cells in place, as `extend` does. The table as it was; none where they are not put.
@@ -299,6 +370,7 @@ impl Clone for SharedTable {
         let body = match &self.body {
             Body::Plain(table) => Body::Plain(Arc::try_clone(table)?),
             Body::Keyed(front) => Body::Keyed(front.clone()?),
+            Body::Listed(listed) => Body::Listed(Arc::try_clone(listed)?),
         };
         Ok(SharedTable { body })
     }
@@ -320,6 +392,7 @@ impl RowSource for SharedTable {
         match &self.body {
             Body::Plain(table) => table.row(place),
             Body::Keyed(front) => front.row(place),
+            Body::Listed(listed) => listed.row(place),
         }
     }
 }

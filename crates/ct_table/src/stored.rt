@@ -128,6 +128,17 @@ impl Stored {
         self.rows.at(place)
     }
 
+    /// The row at a place, held once more.
+    ///
+    /// # Errors
+    /// `AllocError` where it cannot be held once more.
+    pub(crate) fn shared(&self, place: usize) -> Result<Arc<CRow, Global>, AllocError>
+        requires within { place < length self.now.entries }
+        ensures { IfOk result (λ row. row.value ≡ get_or (rows_of self.now.entries) place row.value) }
+    {
+        self.rows.shared(place)
+    }
+
     /// The condition of the row with these cells.
     pub(crate) fn find(&self, cells: &List<u32>) -> Option<u32>
         ensures { result ≡ spec.find cells.now self.now.entries }

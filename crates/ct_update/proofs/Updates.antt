@@ -1,8 +1,8 @@
 -- Rows updated: their cells, and what they are worth.
-use Rattle.std.proofs.Common.{◌≡◌, ℕ, ◌+◌, ◌<◌, Bool, true, false, not, ◌&&◌, List, [], ◌∷◌, ◌++◌, Option, Some, None, map, length, take, cond, get_or, set, refl, ap, sym, subst, ◌∙◌, inl, inr}
-use Rattle.std.{specs.Prelude.{◌⊎◌, IsTrue, All, nat_eq, unwrap_or, if◌then◌else◌}, specs.List.{Contains, filter}, proofs.Math.ListN.get_or-map}
+use Rattle.std.proofs.Common.{◌≡◌, ℕ, zero, suc, ◌+◌, ◌*◌, ◌<◌, Bool, true, false, not, ◌&&◌, List, [], ◌∷◌, ◌++◌, Option, Some, None, map, length, take, cond, get_or, set, refl, ap, sym, subst, ◌∙◌, arith, inl, inr}
+use Rattle.std.{specs.Prelude.{◌⊎◌, IsTrue, All, nat_eq, unwrap_or, if◌then◌else◌}, specs.List.{Contains, filter}, proofs.Math.ListN.get_or-map, proofs.Math.Nat.mul-add}
 use Rattle.std.{proofs.lemmas.Option.{unwrap_or-slice_get, slice_get_within, get_or_from_slice_get}, proofs.lemmas.Bool.eqb-true}
-use Rattle.std.{proofs.lemmas.List.{map-set, map_push, take_more, length-set, map-append, append_assoc}, proofs.lemmas.Grind.flat_map-append}
+use Rattle.std.{proofs.lemmas.List.{map-set, map_push, take_more, length-set, length_push, length-take-le, map-append, append_assoc}, proofs.lemmas.Grind.flat_map-append}
 use Rattle.std.proofs.lemmas.List.Elements.{All-nil, All-cons, All-head, All-tail, All-map, All-set, All-weaker, All-filter, All-contains, All-contains_itself, Contains-get_or, Contains-append_left, Contains-append_right, filter-append}
 use Rattle.ct_word.{specs.declared.values.Value.Value, specs.declared.values.Term.Term, specs.declared.values.CRow.CRow, specs.Change.PlainRow}
 use Rattle.ct_word.{specs.Value.{World, at, tuple_at, same_cells}, specs.Sublist.IsSublist, specs.Condition.{holds, holds_at}, specs.WellFormed.{IsWellFormed, is_place_of}, specs.Stands.{TermBelow, HasNoColumn}}
@@ -11,9 +11,9 @@ use Rattle.ct_query.{specs.Database.SameSet, proofs.Sublists.{sublist_of_sublist
 use Rattle.ct_arena.specs.Counts.{opening}
 use Rattle.ct_condition.{specs.Rows.cell_for, specs.Terms.{TermsFrom, BelowSome, BelowEither}, specs.Truth.{HasTruth, not_at, and_at}, proofs.OnRows.places_in_prefix, proofs.Truths.false_at}
 use Rattle.ct_operators.{specs.Tables.{cells_of, value_of_rows, IsRow}, specs.Building.{Builds, HoldsWhere}, specs.Merging.{AreGathered, IsGathered, is_possible}, specs.Placing.{place_on, holds_for}}
-use Rattle.ct_operators.{specs.Terms.{TermOfRow, TermOfRows, RowFrom, RowsFrom, IsPlaced}, proofs.Firsts.{filtered_part, part_of_firsts}, proofs.Gathered.{gathered_none, gathered_later}}
+use Rattle.ct_operators.{specs.Terms.{TermOfRow, TermOfRows, RowFrom, RowsFrom, IsPlaced}, proofs.Firsts.{filtered_part, part_of_firsts}}
 use Rattle.ct_query.specs.Updates.{with_items, Sets, updated_tuple, updated, cell_on, updated_cells, with_updated}
-use Rattle.ct_update.specs.Updating.{sets_at, updated_places, places_named, IsSetOn, FitsUpdate, TermOfUpdate, Updates, PutsIn, PutsHalves}
+use Rattle.ct_update.specs.Updating.{sets_at, updated_places, halves_of, all_halves, places_named, IsSetOn, FitsUpdate, TermOfUpdate, Updates, AreSplit, PutsIn}
 use Rattle.ct_operators.{proofs.Building.{builds_none, builds_as, builds_append}, proofs.Growing.{terms_grow, is_row_grows, cells_grow, value_grows}, proofs.Selecting.{value-append, one_shown}, proofs.Holding.{holds_itself, holds_later, holds_not, holds_and}}
 use Rattle.ct_operators.proofs.Reaching.{row_itself, row_wider, rows_wider, rows_later, rows_before, from_rows, rows_among, under_from, none_from, none_of_rows, plain_rows, from_two, from_later, all_from_later, below_before, some_below_before, some_among, foremost, behind, no_cell_no_column, term_alone}
 use mathlib.Core.List.{IsPrefix}
@@ -63,7 +63,7 @@ sets_more ws sets i s cells out place lt at so_far is =
     ∙ ap (λ ss. updated_places ws ss cells) (ap (λ x. take i sets ++ x ∷ []) at ∙ sym (take_more sets i s lt))
 
 -- what holds of all items that are put and of those of the list holds of all after it
-items_all : (P : ℕ → Type 0) (ss : List (ℕ × ℕ)) (xs : List ℕ) → All (λ s. P s.1) ss → All P xs → All P (with_items ss xs)
+pub items_all : {A : Type 0} (P : A → Type 0) (ss : List (ℕ × A)) (xs : List A) → All (λ s. P s.1) ss → All P xs → All P (with_items ss xs)
 items_all P [] xs puts each = each
 items_all P (s ∷ ss) xs puts each = items_all P ss (set xs s.0 s.1) (All-tail (λ s. P s.1) s ss puts) (All-set P xs s.0 s.1 (All-head (λ s. P s.1) s ss puts) each)
 
@@ -247,7 +247,7 @@ module _ (old new : List ℕ) (longer : IsPrefix old new) (formed : IsWellFormed
   }
 
 -- rows put in, over more words
-builds_later : (old now new : List ℕ) → IsPrefix now new → IsWellFormed now → (width : ℕ) (cells : List (List Term)) (values : World → List (List Value)) (source : Term → Type 0) (out : List CRow)
+pub builds_later : (old now new : List ℕ) → IsPrefix now new → IsWellFormed now → (width : ℕ) (cells : List (List Term)) (values : World → List (List Value)) (source : Term → Type 0) (out : List CRow)
     → Builds old now width cells values source out → Builds old new width cells values source out
 builds_later old now new longer formed width cells values source out s = record {
   grown = prefix_of_prefix old now new s.grown longer;
@@ -331,67 +331,98 @@ places_stay old now grown sets cells terms = ap (λ ss. with_items ss cells) (ea
       λ i. (s.0, unwrap_or (cell_for cells (term_in_prefix old now s.1 grown (place_within old class.Term s.1 (All-head (λ s. IsTrue (is_place_of old class.Term s.1)) s ss terms)) i)) s.1)
       ∷ each_stays ss (All-tail (λ s. IsTrue (is_place_of old class.Term s.1)) s ss terms) i
 
--- the two rows that come of one, put in one after the other, over words that are added call after call
-module _ (w0 w1 w2 w3 : List ℕ) (l1 : IsPrefix w0 w1) (l2 : IsPrefix w1 w2) (l3 : IsPrefix w2 w3) (formed : IsWellFormed w0) (formed1 : IsWellFormed w1) (width : ℕ) (sets : List (ℕ × ℕ)) (c : ℕ) (fits : FitsUpdate w0 width sets c)
-    (r : CRow) (is : IsRow w0 width r) (stays goes : ℕ) (one : HoldsWhere w1 stays (λ v. holds_at v (condition_at w0 r.cond) && not (holds_for w0 c r.cells v)))
-    (other : HoldsWhere w1 goes (λ v. holds_at v (condition_at w0 r.cond) && holds_for w0 c r.cells v))
-    (conds : All (λ place. TermsFrom w1 place (λ t. TermOfRow w0 r t ⊎ IsPlaced w0 c r.cells t)) (stays ∷ goes ∷ [])) where
-  abbrev Stays : CRow
-  Stays = record { cells = r.cells; cond = stays }
+-- the two of each stay as words are added
+pub halves_stay : (old now : List ℕ) → IsPrefix old now → (sets : List (ℕ × ℕ)) → All (λ s. IsTrue (is_place_of old class.Term s.1)) sets → (rows : List CRow) (conds : List (ℕ × ℕ)) → all_halves now sets rows conds ≡ all_halves old sets rows conds
+halves_stay old now grown sets terms [] conds = refl
+halves_stay old now grown sets terms (r ∷ rows) [] = refl
+halves_stay old now grown sets terms (r ∷ rows) (b ∷ conds) =
+    λ i. record { cells = r.cells; cond = b.0 } ∷ record { cells = places_stay old now grown sets r.cells terms i; cond = b.1 } ∷ halves_stay old now grown sets terms rows conds i
 
-  abbrev GoesOver : List ℕ → CRow
-  GoesOver ws = record { cells = updated_places ws sets r.cells; cond = goes }
+-- the two of one more row
+pub halves_push : (ws : List ℕ) (sets : List (ℕ × ℕ)) (rows : List CRow) (conds : List (ℕ × ℕ)) → length conds ≡ length rows → (r : CRow) (b : ℕ × ℕ)
+    → all_halves ws sets (rows ++ r ∷ []) (conds ++ b ∷ []) ≡ all_halves ws sets rows conds ++ halves_of ws sets r b
+halves_push ws sets [] [] e r b = refl
+halves_push ws sets [] (c ∷ conds) e r b = absurd (omega (arith, e))
+halves_push ws sets (x ∷ rows) [] e r b = absurd (omega (arith, e))
+halves_push ws sets (x ∷ rows) (c ∷ conds) e r b = ap (λ l. halves_of ws sets x c ++ l) (halves_push ws sets rows conds (omega (arith, e)) r b)
 
-  both : Updates w0 w1 width sets c (r ∷ []) (Stays ∷ GoesOver w0 ∷ [])
-  both =
-      halves_update w0 w1 l1 formed width sets c fits r is (updated_places w0 sets r.cells) refl (places_terms w0 formed r.cells sets fits.terms is.terms) (places_from w0 formed r.cells sets fits.terms is.terms) stays goes one other
-      conds
+-- the rows that are left of the two of one more row
+pub halves_more : (ws : List ℕ) (sets : List (ℕ × ℕ)) (n : ℕ) (rows : List CRow) (conds : List (ℕ × ℕ)) → length conds ≡ length rows → n < length rows → (r : CRow) → r ≡ get_or rows n r → (b : ℕ × ℕ) → b ≡ get_or conds n b
+    → filter is_possible (all_halves ws sets (take (n + 1) rows) (take (n + 1) conds)) ≡ filter is_possible (all_halves ws sets (take n rows) (take n conds)) ++ filter is_possible (halves_of ws sets r b)
+halves_more ws sets n rows conds long lt r is b it =
+    (λ i. filter is_possible (all_halves ws sets ((take_more rows n r lt ∙ ap (λ x. take n rows ++ x ∷ []) (sym is)) i) ((take_more conds n b (omega (arith, lt, long)) ∙ ap (λ x. take n conds ++ x ∷ []) (sym it)) i)))
+    ∙ ap (filter is_possible) (halves_push ws sets (take n rows) (take n conds) (length-take-le n conds (omega (arith, lt, long)) ∙ sym (length-take-le n rows (omega (arith, lt)))) r b)
+    ∙ filter-append is_possible (all_halves ws sets (take n rows) (take n conds)) (halves_of ws sets r b)
 
-  after_first : IsPrefix w0 w2
-  after_first = prefix_of_prefix w0 w1 w2 l1 l2
+-- the two at a place
+pub halves_at : (P : CRow → Type 0) (ws : List ℕ) (sets : List (ℕ × ℕ)) (rows : List CRow) (conds : List (ℕ × ℕ)) → length conds ≡ length rows → (n : ℕ) → n < length rows → (r : CRow) (b : ℕ × ℕ)
+    → r ≡ get_or rows n r → b ≡ get_or conds n b → All P (all_halves ws sets rows conds) → All P (halves_of ws sets r b)
+halves_at P ws sets [] conds e n lt r b is it all = absurd (omega (arith, lt))
+halves_at P ws sets (x ∷ rows) [] e n lt r b is it all = absurd (omega (arith, e))
+halves_at P ws sets (x ∷ rows) (c ∷ conds) e zero lt r b is it all =
+    let one : CRow = record { cells = x.cells; cond = c.0 } in
+    let other : CRow = record { cells = updated_places ws sets x.cells; cond = c.1 } in
+    let rest = all_halves ws sets rows conds in
+    subst (λ y. All P (halves_of ws sets y b)) (sym is)
+    (subst (λ y. All P (halves_of ws sets x y)) (sym it)
+    (All-cons P one (other ∷ []) (All-head P one (other ∷ rest) all) (All-cons P other [] (All-head P other rest (All-tail P one (other ∷ rest) all)) (All-nil P))))
+halves_at P ws sets (x ∷ rows) (c ∷ conds) e (suc n) lt r b is it all =
+    let one : CRow = record { cells = x.cells; cond = c.0 } in
+    let other : CRow = record { cells = updated_places ws sets x.cells; cond = c.1 } in
+    let rest = all_halves ws sets rows conds in
+    halves_at P ws sets rows conds (omega (arith, e)) n (omega (arith, lt)) r b is it (All-tail P other rest (All-tail P one (other ∷ rest) all))
 
-  goes_over : GoesOver w0 ≡ GoesOver w2
-  goes_over = ap (λ cells. record { cells = cells; cond = goes }) (sym (places_stay w0 w2 after_first sets r.cells fits.terms))
+-- the row of a turn with its two conditions
+pub record Turned (old now : List ℕ) (width : ℕ) (sets : List (ℕ × ℕ)) (rows : List CRow) (conds : List (ℕ × ℕ)) (n : ℕ) (r : CRow) (b : ℕ × ℕ) : Type 0 where
+  pub within : n < length rows
+  pub width_is : length r.cells ≡ width
+  pub own : All (IsRow now (length r.cells)) (halves_of now sets r b)
+  pub over : halves_of now sets r b ≡ halves_of old sets r b
+  pub more : filter is_possible (all_halves old sets (take (n + 1) rows) (take (n + 1) conds)) ≡ filter is_possible (all_halves old sets (take n rows) (take n conds)) ++ filter is_possible (halves_of old sets r b)
 
-  pub stays_row : IsRow w1 width Stays
-  stays_row = All-head (IsRow w1 width) Stays (GoesOver w0 ∷ []) both.each
-
-  pub goes_row : IsRow w2 width (GoesOver w2)
-  goes_row =
-      subst (IsRow w2 width) goes_over
-      (is_row_grows w1 w2 l2 formed1 width (GoesOver w0) (All-head (IsRow w1 width) (GoesOver w0) [] (All-tail (IsRow w1 width) Stays (GoesOver w0 ∷ []) both.each)))
-
-  module _ (before mid : List CRow) (first : PutsIn w1 w2 width Stays before mid) where
-    pub first_put : (done : List CRow) → AreGathered w0 width done before → AreGathered w2 width (done ++ filter is_possible (Stays ∷ [])) mid
-    first_put done so_far = first done (gathered_later w0 w1 l1 formed width done before so_far)
-
-    pub halves_put : (after : List CRow) → PutsIn w2 w3 width (GoesOver w2) mid after → PutsHalves w0 w3 width sets c r before after
-    halves_put after second = record {
-      stays = Stays;
-      goes = GoesOver w0;
-      updates = builds_later w0 w1 w3 (prefix_of_prefix w1 w2 w3 l2 l3) formed1 width _ _ _ _ both;
-      puts = λ done so_far. subst (λ d. AreGathered w3 width d after)
-          (append_assoc done (filter is_possible (Stays ∷ [])) (filter is_possible (GoesOver w0 ∷ [])) ∙ ap (λ d. done ++ d) (sym (filter-append is_possible (Stays ∷ []) (GoesOver w0 ∷ []))))
-          (subst (λ x. PutsIn w2 w3 width x mid after) (sym goes_over) second (done ++ filter is_possible (Stays ∷ [])) (first_put done so_far));
+pub turned : (old now : List ℕ) → IsPrefix old now → IsWellFormed old → (width : ℕ) (sets : List (ℕ × ℕ)) → All (λ s. IsTrue (is_place_of old class.Term s.1)) sets → (rows : List CRow) (conds : List (ℕ × ℕ)) → length conds ≡ length rows
+    → All (IsRow old width) (all_halves old sets rows conds) → (n : ℕ) → n < length rows → (r : CRow) → r ≡ get_or rows n r → (b : ℕ × ℕ) → b ≡ get_or conds n b → Turned old now width sets rows conds n r b
+turned old now grown formed width sets terms rows conds long all n lt r is b it =
+    let both = halves_at (IsRow old width) old sets rows conds long n lt r b is it all in
+    let other : CRow = record { cells = updated_places old sets r.cells; cond = b.1 } in
+    let wide = (All-head (IsRow old width) (record { cells = r.cells; cond = b.0 }) (other ∷ []) both).width_is in
+    let same : halves_of now sets r b ≡ halves_of old sets r b = halves_stay old now grown sets terms (r ∷ []) (b ∷ []) in
+    record {
+      within = lt;
+      width_is = wide;
+      own = subst (λ w. All (IsRow now w) (halves_of now sets r b)) (sym wide) (subst (All (IsRow now width)) (sym same) (All-weaker (IsRow old width) (IsRow now width) (is_row_grows old now grown formed width) (halves_of old sets r b) both));
+      over = same;
+      more = halves_more old sets n rows conds long lt r is b it;
     }
 
--- the two rows of each of others, and what is gathered of those that are not under the word false
-pub record UpdatesSo (old now : List ℕ) (width : ℕ) (sets : List (ℕ × ℕ)) (c : ℕ) (rows out : List CRow) : Type 0 where
-  pub done : List CRow
-  pub updates : Updates old now width sets c rows done
-  pub gathered : AreGathered now width (filter is_possible done) out
+-- no rows, and the two conditions of one more
+pub split_none : (old : List ℕ) (width : ℕ) (sets : List (ℕ × ℕ)) (c : ℕ) → AreSplit old old width sets c [] []
+split_none old width sets c = record { long = refl; updates = builds_none old width (TermOfUpdate old [] sets c) }
 
-pub so_none : (old : List ℕ) (width : ℕ) (sets : List (ℕ × ℕ)) (c : ℕ) → UpdatesSo old old width sets c [] []
-so_none old width sets c = record { done = []; updates = builds_none old width (TermOfUpdate old [] sets c); gathered = gathered_none old width }
+pub split_more : (old now new : List ℕ) → IsPrefix now new → IsWellFormed old → IsWellFormed now → (width : ℕ) (sets : List (ℕ × ℕ)) (c : ℕ) → FitsUpdate old width sets c → (rows : List CRow) (conds : List (ℕ × ℕ))
+    → AreSplit old now width sets c rows conds → (r : CRow) → IsRow old width r → (b : ℕ × ℕ)
+    → HoldsWhere new b.0 (λ v. holds_at v (condition_at now r.cond) && not (holds_for now c r.cells v)) → HoldsWhere new b.1 (λ v. holds_at v (condition_at now r.cond) && holds_for now c r.cells v)
+    → All (λ place. TermsFrom new place (λ t. TermOfRow now r t ⊎ IsPlaced now c r.cells t)) (b.0 ∷ b.1 ∷ []) → AreSplit old new width sets c (rows ++ r ∷ []) (conds ++ b ∷ [])
+split_more old now new longer formed formed_now width sets c fits rows conds so_far r is b one other from =
+    let grown = so_far.updates.grown in
+    let later = update_later old now grown formed width sets c fits in
+    let is_now = is_row_grows old now grown formed width r is in
+    let cells = updated_places now sets r.cells in
+    let own = halves_update now new longer formed_now width sets c later r is_now cells refl (places_terms now formed_now r.cells sets later.terms is_now.terms) (places_from now formed_now r.cells sets later.terms is_now.terms)
+    b.0 b.1 one other from in
+    record {
+      long = length_push conds b ∙ ap (λ n. n + 1) so_far.long ∙ sym (length_push rows r);
+      updates = subst (Updates old new width sets c (rows ++ r ∷ [])) (sym (halves_push old sets rows conds so_far.long r b))
+          (updates_more old now grown formed width sets c fits new formed_now rows (all_halves old sets rows conds) (halves_of old sets r b) r is so_far.updates
+          (subst (λ l. Updates now new width sets c (r ∷ []) (record { cells = r.cells; cond = b.0 } ∷ record { cells = l; cond = b.1 } ∷ [])) (places_stay old now grown sets r.cells fits.terms) own));
+    }
 
--- the two rows of one more row
-pub so_more : (old now new : List ℕ) (width : ℕ) (sets : List (ℕ × ℕ)) (c : ℕ) (fits : FitsUpdate old width sets c) (rows before after : List CRow) (so_far : UpdatesSo old now width sets c rows before)
-    → IsWellFormed old → IsWellFormed now → (r : CRow) → IsRow old width r → PutsHalves now new width sets c r before after → UpdatesSo old new width sets c (rows ++ r ∷ []) after
-so_more old now new width sets c fits rows before after so_far formed formed_now r is one = record {
-  done = so_far.done ++ one.stays ∷ one.goes ∷ [];
-  updates = updates_more old now so_far.updates.grown formed width sets c fits new formed_now rows so_far.done (one.stays ∷ one.goes ∷ []) r is so_far.updates one.updates;
-  gathered = subst (λ d. AreGathered new width d after) (sym (filter-append is_possible so_far.done (one.stays ∷ one.goes ∷ []))) (one.puts (filter is_possible so_far.done) so_far.gathered);
-}
+-- rows put in, and further ones
+pub puts_both : (old mid new : List ℕ) (width : ℕ) (xs ys : List CRow) (before between after : List CRow) → PutsIn old mid width xs before between → PutsIn mid new width ys between after → PutsIn old new width (xs ++ ys) before after
+puts_both old mid new width xs ys before between after first second done so_far =
+    subst (λ d. AreGathered new width d after)
+    (append_assoc done (filter is_possible xs) (filter is_possible ys) ∙ ap (λ d. done ++ d) (sym (filter-append is_possible xs ys)))
+    (second (done ++ filter is_possible xs) (first done so_far))
 
 -- a row under the word false is worth nothing
 worth_without : (ws : List ℕ) (v : World) → holds_at v (condition_at ws 1) ≡ false → (rs : List CRow) → value_of_rows ws v (filter is_possible rs) ≡ value_of_rows ws v rs
@@ -406,20 +437,26 @@ worth_without ws v never (x ∷ rs) = by_test (nat_eq x.cond 1) refl (worth_with
       ap (λ b. value_of_rows ws v (cond (not b) (x ∷ filter is_possible rs) (filter is_possible rs))) p
       ∙ value-append ws v (x ∷ []) (filter is_possible rs) ∙ ap (λ l. value_of_rows ws v (x ∷ []) ++ l) later ∙ sym (value-append ws v (x ∷ []) rs)
 
--- the table of what is gathered of all rows
-module _ (old now : List ℕ) (width : ℕ) (sets : List (ℕ × ℕ)) (c : ℕ) (rows gathering out : List CRow) (s : UpdatesSo old now width sets c rows gathering) (is : IsGathered now width (filter is_possible s.done) out) where
+-- what is gathered of the two of each row
+module _ (old now : List ℕ) (width : ℕ) (sets : List (ℕ × ℕ)) (c : ℕ) (rows done out : List CRow) (updates : Updates old now width sets c rows done) (is : IsGathered now width (filter is_possible done) out) where
   pub updated_values : IsPrefix opening now → IsWellFormed now → (v : World) → SameSet (value_of_rows now v out) (updated v (condition_at old c) (sets_at old sets) (value_of_rows old v rows))
   updated_values begins formed v =
-      subst (SameSet (value_of_rows now v out)) (worth_without now v ((false_at now begins formed).truth_is v []) s.done ∙ s.updates.worth_is v) (is.values v)
+      subst (SameSet (value_of_rows now v out)) (worth_without now v ((false_at now begins formed).truth_is v []) done ∙ updates.worth_is v) (is.values v)
 
   pub updated_part : IsSublist (cells_of now out) (with_updated (sets_at old sets) (cells_of old rows))
   updated_part =
-      subst (IsSublist (cells_of now out)) s.updates.cells_are
-      (sublist_of_sublist (cells_of now out) (cells_of now (filter is_possible s.done)) (cells_of now s.done)
-      (part_of_firsts same_cells (cells_of now out) (cells_of now (filter is_possible s.done)) is.order)
-      (sublist-map (λ (x : CRow). map (term_at now) x.cells) (filter is_possible s.done) s.done (filtered_part is_possible s.done)))
+      subst (IsSublist (cells_of now out)) updates.cells_are
+      (sublist_of_sublist (cells_of now out) (cells_of now (filter is_possible done)) (cells_of now done)
+      (part_of_firsts same_cells (cells_of now out) (cells_of now (filter is_possible done)) is.order)
+      (sublist-map (λ (x : CRow). map (term_at now) x.cells) (filter is_possible done) done (filtered_part is_possible done)))
 
   pub updated_from : RowsFrom now out (TermOfUpdate old rows sets c)
   updated_from =
-      rows_wider now (TermOfRows now (filter is_possible s.done)) (TermOfUpdate old rows sets c)
-      (from_rows now (filter is_possible s.done) (TermOfUpdate old rows sets c) (All-filter is_possible (RowFrom now (TermOfUpdate old rows sets c)) s.done s.updates.from)) out is.from
+      rows_wider now (TermOfRows now (filter is_possible done)) (TermOfUpdate old rows sets c)
+      (from_rows now (filter is_possible done) (TermOfUpdate old rows sets c) (All-filter is_possible (RowFrom now (TermOfUpdate old rows sets c)) done updates.from)) out is.from
+
+-- the words of both steps
+pub words_of_both : (n k : ℕ) → n * (k + 5) ≡ n * (k + 3) + n * 2
+words_of_both n k = ap (λ m. n * m) five ∙ mul-add n (k + 3) 2 where
+  five : k + 5 ≡ (k + 3) + 2
+  five = omega arith

@@ -1,1 +1,3 @@
+pub mod Needing
+pub mod Revising
 pub mod Updating

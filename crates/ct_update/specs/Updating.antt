@@ -1,5 +1,5 @@
 -- Updates over places: cells with sets made on them, and the rows and terms of an update.
-use Rattle.std.specs.Prelude.{◌≡◌, ◌⊎◌, ◌<◌, ℕ, List, [], ◌∷◌, ◌++◌, map, None, All, IsTrue}
+use Rattle.std.specs.Prelude.{◌≡◌, ◌⊎◌, ◌<◌, ℕ, List, [], ◌∷◌, ◌++◌, length, map, None, All, IsTrue}
 use Rattle.std.specs.List.{filter}
 use Rattle.ct_word.specs.declared.kinds.Class.TheVariants as class
 use Rattle.ct_word.specs.declared.values.Term.{Term}
@@ -50,16 +50,23 @@ abbrev pub Updates : List ℕ → List ℕ → ℕ → List (ℕ × ℕ) → ℕ
 Updates old now width sets cond rows out =
     Builds old now width (with_updated (sets_at old sets) (cells_of old rows)) (λ v. updated v (condition_at old cond) (sets_at old sets) (value_of_rows old v rows)) (TermOfUpdate old rows sets cond) out
 
--- a row was put in, or left out where its condition is the word false
-abbrev pub PutsIn : List ℕ → List ℕ → ℕ → CRow → List CRow → List CRow → Type 0
-PutsIn old new width r before after = (done : List CRow) → AreGathered old width done before → AreGathered new width (done ++ filter is_possible (r ∷ [])) after
+-- the two rows that come of one under two conditions
+abbrev pub halves_of : List ℕ → List (ℕ × ℕ) → CRow → ℕ × ℕ → List CRow
+halves_of words sets r conds = record { cells = r.cells; cond = conds.0 } ∷ record { cells = updated_places words sets r.cells; cond = conds.1 } ∷ []
 
--- the two rows that come of one were put in, each left out where its condition is the word false
-pub record PutsHalves (old new : List ℕ) (width : ℕ) (sets : List (ℕ × ℕ)) (cond : ℕ) (r : CRow) (before after : List CRow) : Type 0 where
-  pub stays : CRow
-  pub goes : CRow
-  pub updates : Updates old new width sets cond (r ∷ []) (stays ∷ goes ∷ [])
-  pub puts : (done : List CRow) → AreGathered old width done before → AreGathered new width (done ++ filter is_possible (stays ∷ goes ∷ [])) after
+-- the two of each, under the two conditions at its place
+abbrev pub all_halves : List ℕ → List (ℕ × ℕ) → List CRow → List (ℕ × ℕ) → List CRow
+all_halves words sets (r ∷ rs) (c ∷ cs) = halves_of words sets r c ++ all_halves words sets rs cs
+all_halves words sets _ _ = []
+
+-- of each row there are two conditions, under which the two rows come of it
+pub record AreSplit (old now : List ℕ) (width : ℕ) (sets : List (ℕ × ℕ)) (cond : ℕ) (rows : List CRow) (conds : List (ℕ × ℕ)) : Type 0 where
+  pub long : length conds ≡ length rows
+  pub updates : Updates old now width sets cond rows (all_halves old sets rows conds)
+
+-- rows were put in, each left out where its condition is the word false
+abbrev pub PutsIn : List ℕ → List ℕ → ℕ → List CRow → List CRow → List CRow → Type 0
+PutsIn old new width rs before after = (done : List CRow) → AreGathered old width done before → AreGathered new width (done ++ filter is_possible rs) after
 
 -- rows are gathered of the two for each of others: their cells are, in order, among those of the two that are not under the word false, each where it stands first
 pub record AreOfHalves (old new : List ℕ) (width : ℕ) (sets : List (ℕ × ℕ)) (cond : ℕ) (rows out : List CRow) : Type 0 where

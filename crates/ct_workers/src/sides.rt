@@ -119,7 +119,7 @@ fn decisions_of(
 /// can be made. The gate is called round each question, on the worker's thread. Where no thread can be made, one worker is done
 /// before the next one begins, so a gate that waits for another question may wait for ever. A worker knows the first
 /// two worlds that it found, and answers by one of them where it can, so which right decision a root gets depends on how many
-/// workers there are. Each root is the place of a condition below which no column stands.
+/// workers there are. Each root is the place of a condition below which no column stands. No clause is on the threads.
 ///
 /// # Errors
 /// `Memory` where there is none for a question, for what a worker keeps or for the list. A worker asks no further question

@@ -196,7 +196,9 @@ fn number(status: Status) -> u8 {
 /// What is said of a run of this command without a whole text.
 fn fault(status: Status, command: Command) -> Option<&'static str> {
     match status {
-        Status::Refused if command == Command::Export => Some("no such table"),
+        Status::Refused if command == Command::Export => Some(
+            "no such table, or a condition too long for a file",
+        ),
         Status::Done | Status::Refused => None,
         Status::Words => Some("words not understood"),
         Status::ReadFault => Some("read fault"),

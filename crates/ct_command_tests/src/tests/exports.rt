@@ -2,7 +2,11 @@
 
 use crate::tests::memory::{Given, ends, faultless};
 use ct_run::Status;
+use std::alloc::Global;
+use std::process::Abort;
+use std::sync::Wait;
 use std::test::Fail;
+use std::thread::Threads;
 
 /// A script, and the file of its table `t`.
 const FILES: [(&[u8], &str); 6] = [
@@ -40,6 +44,30 @@ fn files_of_tables(rt: HostRuntime) -> Result<(), Fail> {
     Ok(())
 }
 
+/// An export of the first file of `FILES` to a sink that takes so many of its bytes, and then fails.
+fn write_fails(
+    rt: &(impl Threads + Wait + Abort + Sync),
+    alloc: Global,
+    taken: usize,
+) -> Result<(), Fail> {
+    let [(script, file), ..] = FILES;
+    let given = Given {
+        script,
+        reads: &[],
+        writes: &[(1, u32::try_from(taken).unwrap_or(u32::MAX))],
+    };
+    let written = file.get(..taken).unwrap_or("");
+    ends(rt, alloc, "export t f", given, Status::WriteFault, written)
+}
+
+#[test]
+fn a_write_fails_after_each_byte(rt: HostRuntime) -> Result<(), Fail> {
+    for taken in 0..26usize {
+        write_fails(&rt, rt.alloc(), taken)?;
+    }
+    Ok(())
+}
+
 /// Scripts after which there is no table `t`.
 const NO_TABLES: [&[u8]; 4] = [
     b"",
@@ -68,8 +96,8 @@ type Run = (
 
 const RUNS: [Run; 8] = [
     ("export t f", &[], &[], Status::Done, "a,if\n"),
-    ("export t f", &[], &[(1, 3)], Status::WriteFault, "a,i"),
     ("export t f", &[], &[(2, 0)], Status::Done, "a,if\n"),
+    ("export t f", &[2], &[], Status::Done, "a,if\n"),
     ("export t f", &[1], &[], Status::ReadFault, ""),
     ("export t g", &[], &[], Status::ReadFault, ""),
     ("export t", &[], &[], Status::Words, ""),

@@ -57,7 +57,7 @@ fn are_alike(rt: &impl Abort, alloc: Global, small: &[u8], large: &[u8]) -> Resu
 }
 
 /// On a log of this capacity a script is answered as on a large one where each statement that finds the log full is none.
-/// There is one, unless the log has as many words as it needs.
+/// There is one, unless the log has as many words as it needs. At the end it has as many words as its capacity.
 fn is_answered(
     rt: &(impl Threads + Wait + Abort + Sync),
     alloc: Global,
@@ -66,6 +66,7 @@ fn is_answered(
     is_enough: bool,
 ) -> Result<(), Fail> {
     let small = run_on_log(rt, alloc, capacity, script)?;
+    assert_eq!(rt; small.words, capacity);
     let rest = without_full(alloc, script, small.out.bytes())?;
     assert!(rt;
         rest.contains("none;") != is_enough,

@@ -12,7 +12,7 @@ use ct_word::{Class, Kind, List};
 use ct_workers::{NoWorkGate, WorkGate, decide_all};
 use std::alloc::{AllocError, Global};
 use std::process::Abort;
-use std::sync::atomic::{AtomicBool, Ordering};
+use std::sync::atomic::{AtomicBool, AtomicU64, Ordering};
 use std::test::Fail;
 use std::thread;
 use std::thread::Threads;
@@ -205,47 +205,95 @@ fn no_root_one_root_and_equal_ones(rt: HostRuntime) -> Result<(), Fail> {
     decide_small(&rt, rt.alloc())
 }
 
-/// Holds question 0 until question 1 has ended, or lets it go.
+/// Has two questions meet: before each is decided it waits until the other one is about to be, or misses it.
 #[derive(Drop)]
-struct Holding {
-    ended: AtomicBool,
-    late: AtomicBool,
+struct Meeting {
+    first: AtomicBool,
+    second: AtomicBool,
+    missed: AtomicBool,
 }
 
-impl WorkGate for Holding {
+impl WorkGate for Meeting {
     fn before(&self, question: u32) {
-        if question != 0 {
-            return;
-        }
+        let (own, other) = if question == 0 {
+            (&self.first, &self.second)
+        } else {
+            (&self.second, &self.first)
+        };
+        own.store(true, Ordering::SeqCst);
         for _ in 0..50_000_000u64 {
-            if self.ended.load(Ordering::SeqCst) {
+            if other.load(Ordering::SeqCst) {
                 return;
             }
             thread::yield_now();
         }
-        self.late.store(true, Ordering::SeqCst);
+        self.missed.store(true, Ordering::SeqCst);
     }
 
-    fn after(&self, question: u32) {
-        if question == 1 {
-            self.ended.store(true, Ordering::SeqCst);
-        }
-    }
+    fn after(&self, _: u32) {}
 }
 
-/// Two workers decide two questions, of which the first one waits for the second one's end.
-fn decide_held(rt: &(impl Threads + Abort + Sync), alloc: Global) -> Result<(), Fail> {
-    let gate = Holding {
-        ended: AtomicBool::new(false),
-        late: AtomicBool::new(false),
+/// Two workers decide two questions that meet.
+fn decide_together(rt: &(impl Threads + Abort + Sync), alloc: Global) -> Result<(), Fail> {
+    let gate = Meeting {
+        first: AtomicBool::new(false),
+        second: AtomicBool::new(false),
+        missed: AtomicBool::new(false),
     };
     let found = count_small(rt, alloc, &[4, 5], 2, &gate)?;
     assert_eq!(rt; found, Some(2));
-    assert!(rt; gate.ended.load(Ordering::SeqCst) && !gate.late.load(Ordering::SeqCst));
+    assert!(rt; gate.first.load(Ordering::SeqCst) && gate.second.load(Ordering::SeqCst));
+    assert!(rt; !gate.missed.load(Ordering::SeqCst));
     Ok(())
 }
 
 #[test]
-fn a_question_waits_for_the_next_one(rt: HostRuntime) -> Result<(), Fail> {
-    decide_held(&rt, rt.alloc())
+fn two_questions_are_decided_at_once(rt: HostRuntime) -> Result<(), Fail> {
+    decide_together(&rt, rt.alloc())
+}
+
+/// Counts how often it is told of each question: the sum of the powers of eight whose exponents are the numbers it was told.
+#[derive(Drop)]
+struct Counting {
+    begun: AtomicU64,
+    ended: AtomicU64,
+}
+
+impl WorkGate for Counting {
+    fn before(&self, question: u32) {
+        self.begun
+            .fetch_add(8u64.wrapping_pow(question), Ordering::SeqCst);
+    }
+
+    fn after(&self, question: u32) {
+        self.ended
+            .fetch_add(8u64.wrapping_pow(question), Ordering::SeqCst);
+    }
+}
+
+/// For each number of workers the gate is told once of each of eighteen questions.
+fn count_told(rt: &(impl Threads + Abort + Sync), alloc: Global) -> Result<(), Fail> {
+    let (roots, held) = LISTS[5];
+    for workers in 1..17u32 {
+        let gate = Counting {
+            begun: AtomicU64::new(0),
+            ended: AtomicU64::new(0),
+        };
+        let found = count_small(rt, alloc, roots, workers, &gate)?;
+        assert_eq!(rt; found, Some(held), "{workers} workers");
+        assert_eq!(rt;
+            gate.begun.load(Ordering::SeqCst),
+            0o111_111_111_111_111_111
+        );
+        assert_eq!(rt;
+            gate.ended.load(Ordering::SeqCst),
+            0o111_111_111_111_111_111
+        );
+    }
+    Ok(())
+}
+
+#[test]
+fn a_gate_is_told_of_each_question_once(rt: HostRuntime) -> Result<(), Fail> {
+    count_told(&rt, rt.alloc())
 }

@@ -243,8 +243,8 @@ answer-returns-in_ok-left-in-Product g t c =
           (product_most _ _ _ _ _ _ _ parts.left parts.right);
     })
 
-pub answer-tables-requires : goal.answer-tables-requires
-answer-tables-requires g t c κs within =
+pub answer-sides-requires-in-Union : goal.answer-sides-requires-in-Union
+answer-sides-requires-in-Union g t c κs within =
     let is = two_parts Union c.deref-in-Union.result.now c.deref-in-Union-2.result.now _ _ _ c.deref-in-Union.ensures c.deref-in-Union-2.ensures (sym (ap query_of c.in-Union.is)) in
     let fits : Fits (map heading_of c.args.db.now) (Union (query_of c.deref-in-Union.result.now) (query_of c.deref-in-Union-2.result.now)) = subst (Fits (map heading_of c.args.db.now)) (sym is) c.requires.fits in
     (omega (arith, ap count_parts is, c.decreases), (within, (c.requires.tables, (fits.1, fits.2))))
@@ -260,8 +260,8 @@ answer-returns-in_ok-left-in-Union g t c =
           (union_most _ _ _ _ _ _ _ parts.left parts.right);
     })
 
-pub answer-tables-requires-in-Except : goal.answer-tables-requires-in-Except
-answer-tables-requires-in-Except g t c κs within =
+pub answer-side_and_table-requires : goal.answer-side_and_table-requires
+answer-side_and_table-requires g t c κs within =
     let is = two_parts Except c.deref-in-Except.result.now c.deref-in-Except-2.result.now _ _ _ c.deref-in-Except.ensures c.deref-in-Except-2.ensures (sym (ap query_of c.in-Except.is)) in
     let fits : Fits (map heading_of c.args.db.now) (Except (query_of c.deref-in-Except.result.now) (query_of c.deref-in-Except-2.result.now)) = subst (Fits (map heading_of c.args.db.now)) (sym is) c.requires.fits in
     (omega (arith, ap count_parts is, c.decreases), (within, (c.requires.tables, (fits.1, fits.2))))
@@ -277,8 +277,8 @@ answer-returns-in_ok-left-in-Except g t c =
           (except_most _ _ _ _ _ _ _ parts.left parts.right);
     })
 
-pub answer-tables-requires-in-Intersect : goal.answer-tables-requires-in-Intersect
-answer-tables-requires-in-Intersect g t c κs within =
+pub answer-side_and_table-requires-in-Intersect : goal.answer-side_and_table-requires-in-Intersect
+answer-side_and_table-requires-in-Intersect g t c κs within =
     let is = two_parts Intersect c.deref-in-Intersect.result.now c.deref-in-Intersect-2.result.now _ _ _ c.deref-in-Intersect.ensures c.deref-in-Intersect-2.ensures (sym (ap query_of c.in-Intersect.is)) in
     let fits : Fits (map heading_of c.args.db.now) (Intersect (query_of c.deref-in-Intersect.result.now) (query_of c.deref-in-Intersect-2.result.now)) = subst (Fits (map heading_of c.args.db.now)) (sym is) c.requires.fits in
     (omega (arith, ap count_parts is, c.decreases), (within, (c.requires.tables, (fits.1, fits.2))))
@@ -348,8 +348,8 @@ operand-unwrap-requires g t c =
 pub operand-answer-requires : goal.operand-answer-requires
 operand-answer-requires g t c κs within = (omega (arith, c.decreases), (within, (c.requires.tables, c.requires.fits)))
 
-pub tables-sides-requires : goal.tables-sides-requires
-tables-sides-requires g t c κs within = (omega (arith, c.decreases), (within, (c.requires.tables, (c.requires.left, c.requires.right))))
+pub side_and_table-sides-requires : goal.side_and_table-sides-requires
+side_and_table-sides-requires g t c κs within = (omega (arith, c.decreases), (within, (c.requires.tables, (c.requires.left, c.requires.right))))
 
 pub operand-returns-in_ok-stored-in-Table : goal.operand-returns-in_ok-stored-in-Table
 operand-returns-in_ok-stored-in-Table g t c =

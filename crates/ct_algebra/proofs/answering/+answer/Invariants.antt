@@ -12,8 +12,8 @@ decreases-operand g l = 4 * count_parts (query_of l.part.now) + 1
 abbrev pub decreases-sides : goal.decreases-sides
 decreases-sides g l = 4 * (count_parts (query_of l.left.now) + count_parts (query_of l.right.now)) + 2
 
-abbrev pub decreases-tables : goal.decreases-tables
-decreases-tables g l = 4 * (count_parts (query_of l.left.now) + count_parts (query_of l.right.now)) + 3
+abbrev pub decreases-side_and_table : goal.decreases-side_and_table
+decreases-side_and_table g l = 4 * (count_parts (query_of l.left.now) + count_parts (query_of l.right.now)) + 3
 
 abbrev pub decreases-selected : goal.decreases-selected
 decreases-selected g l = 4 * count_parts (query_of l.part.now) + 3

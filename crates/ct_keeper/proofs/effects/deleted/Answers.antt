@@ -1,6 +1,7 @@
-use Rattle.std.proofs.Common.{length, subst}
+use Rattle.std.proofs.Common.{length, ap, subst, ◌∙◌}
 use Rattle.ct_query.specs.Fits.{AreColumnsBelow}
 use Rattle.ct_word.specs.Reading.{condition_at}
+use Rattle.ct_operators.specs.declared.table.CTable.{CTable}
 use Rattle.ct_table.{specs.Denotes.with_table, specs.Shared.view_of}
 use Rattle.ct_keeper.{proofs.Finding.{not_missing, width_found, rows_of_found, column_below}}
 use Rattle.ct_keeper.proofs.effects.deleted.Goals as goal
@@ -23,16 +24,17 @@ pub returns-clause-does : goal.returns-clause-does
 returns-clause-does g c = λ global.
     let db = c.args.db.now in
     let name = c.args.name.now in
-    let out = c.in_ok-table.table in
+    let out = c.in_ok-rest.rest in
+    let made = c.in_ok-table.ensures in
     record {
       table = view_of name c.in-Some.table.now;
       rows = out.rows;
       is_found = c.in-Some.ensures;
-      after_is = λ i. with_table db (record { name = c.in_ok-name.ensures.cases i; columns = c.in_ok-table.ensures.columns i; rows = out.rows });
+      after_is = λ i. with_table db (record { name = c.in_ok-name.ensures.cases i; columns = (ap (λ (u : CTable). u.columns) made ∙ c.in_ok-rest.ensures.columns) i; rows = (made i).rows });
       true_of = record {
-        are = c.in_ok-table.ensures.rows;
-        tuples = c.in_ok-table.ensures.tuples;
-        part = c.in_ok-table.ensures.part;
-        terms = c.in_ok-table.ensures.terms;
+        are = c.in_ok-rest.ensures.rows;
+        tuples = c.in_ok-rest.ensures.tuples;
+        part = c.in_ok-rest.ensures.part;
+        terms = c.in_ok-rest.ensures.terms;
       };
     }

@@ -16,7 +16,7 @@ loop-name-preserved g c =
     let e = c.in_default.ensures in
     let lt : c.loop-name.name-index < length c.args.files.now = omega arith in
     record {
-      later = omega arith;
+      quiet = e.quiet ∙ i.quiet;
       held = still_more _ _ _ i.held c.read_next.ensures.held;
       names = added_at (λ f. f.now) c.args.files.now c.loop-name.name-index _ _ _ _ lt i.names e.asked;
       texts = hold_at (λ f. f.now) c.args.files.now c.loop-name.name-index _ _ _ _ _ _ lt i.texts i.held e.ok;

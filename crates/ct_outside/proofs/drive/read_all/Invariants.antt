@@ -7,7 +7,7 @@ invariant-loop-name g l =
     let S = g.S.Scripts in
     let asked = take l.name-index (map (λ f. f.now) l.files) in
     record {
-      later : S.faults l.fn.scripts ≤ S.faults l.scripts;
+      quiet : S.faults l.scripts ≡ S.faults l.fn.scripts;
       held : StillHolds (S.held l.fn.scripts) (S.held l.scripts);
       names : Added (S.names l.fn.scripts) (S.names l.scripts) asked;
       texts : HoldsAll (S.held l.fn.scripts) asked (bytes_in l.texts.items);
