@@ -88,9 +88,9 @@ class Maker:
 
     def assertion(self):
         form = self.chance.random()
-        if form < 0.5:
+        if form < 0.4:
             return f"assert {self.condition(())}"
-        return self.key() if form < 0.65 else f"assert {self.pick('', 'not ')}exists ({self.query(self.pick(1, 1, 2))})"
+        return self.key() if form < 0.7 else f"assert {self.pick('', 'not ')}exists ({self.query(self.pick(1, 1, 2))})"
 
     def moment(self):
         """Returns the beginning or the end of a transaction, wherever it stands."""

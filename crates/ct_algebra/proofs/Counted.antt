@@ -9,10 +9,10 @@ use Rattle.ct_table.{specs.Counting.count_of, specs.Denotes.TableView}
 use Rattle.ct_algebra.{specs.Operands.cells_in, specs.Evaluates.Evaluates, specs.Words.most_rows}
 
 -- a part is no longer than the whole
-part_length : {A : Type 0} (xs ys : List A) → IsSublist xs ys → length xs ≤ length ys
-part_length xs ys ended = omega arith
-part_length xs (y ∷ ys) (left_out p) = omega (arith, part_length xs ys p)
-part_length (x ∷ xs) (x' ∷ ys) (taken p) = omega (arith, part_length xs ys p)
+pub part_length : {A : Type 0} {xs ys : List A} → IsSublist xs ys → length xs ≤ length ys
+part_length ended = omega arith
+part_length (left_out p) = omega (arith, part_length p)
+part_length (taken p) = omega (arith, part_length p)
 
 joins_length : {A : Type 0} (xs ys : List (List A)) → length (joins xs ys) ≡ length xs * length ys
 joins_length [] ys = omega arith
@@ -46,7 +46,7 @@ rows_within old now db q t s =
     omega (
       arith,
       sym (length-map t.rows (λ (r : CRow). map (term_at now) r.cells)),
-      part_length (cells_of now t.rows) (query_pattern (cells_in old db) q) s.part,
+      part_length s.part,
       pattern_length (cells_in old db) (rows_in (map count_of db)) (cells_counted old db) q,
     )
 
@@ -56,4 +56,4 @@ pairs_counted now new ls rs out part =
     let cells : length (cells_of new out) ≡ length out = length-map out (λ (r : CRow). map (term_at new) r.cells) in
     let both : length (joins (cells_of now ls) (cells_of now rs)) ≡ length ls * length rs =
     joins_length (cells_of now ls) (cells_of now rs) ∙ (λ i. length-map ls (λ (r : CRow). map (term_at now) r.cells) i * length-map rs (λ (r : CRow). map (term_at now) r.cells) i) in
-    omega (arith, cells, both, part_length (cells_of new out) (joins (cells_of now ls) (cells_of now rs)) part)
+    omega (arith, cells, both, part_length part)

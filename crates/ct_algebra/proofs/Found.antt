@@ -24,7 +24,8 @@ tuples_found ws v name [] = refl
 tuples_found ws v name (t ∷ db) =
     ap (λ l. if same_text t.name name then value_of_rows ws v t.rows else l) (tuples_found ws v name db) ∙ sym (found-cons (λ (x : TableView). value_of_rows ws v x.rows) [] t db name)
 
-cells_by_name : (ws name : List ℕ) (db : List TableView) → cells_in ws db name ≡ cells_found ws db name
+-- the cells that are found by a name
+pub cells_by_name : (ws name : List ℕ) (db : List TableView) → cells_in ws db name ≡ cells_found ws db name
 cells_by_name ws name [] = refl
 cells_by_name ws name (t ∷ db) =
     ap (λ l. if same_text t.name name then cells_of ws t.rows else l) (cells_by_name ws name db) ∙ sym (found-cons (λ (x : TableView). cells_of ws x.rows) [] t db name)

@@ -42,7 +42,6 @@ module _ (old now : List ℕ) (grown : IsPrefix old now) where
 -- an answer, as words are added to it
 pub answer_grows : (old now new : List ℕ) (db : List TableView) (q : PlainQuery) (t : CTable) → IsPrefix now new → IsWellFormed now → Evaluates old now db q t → Evaluates old new db q t
 answer_grows old now new db q t longer formed s = record {
-  names_are = s.names_are;
   width_is = s.width_is;
   are = rows_grow now new longer formed (length t.columns) t.rows s.are;
   tuples = λ v. subst (λ l. SameSet l (rows v q (value_of_tables old v db))) (sym (value_grows now new longer v (length t.columns) t.rows s.are.each)) (s.tuples v);
@@ -53,7 +52,6 @@ answer_grows old now new db q t longer formed s = record {
 -- an answer, said of the tables of the words before
 pub answer_before : (old now new : List ℕ) (db : List TableView) (q : PlainQuery) (t : CTable) → IsPrefix old now → IsWellFormed old → AreTables old db → Evaluates now new db q t → Evaluates old new db q t
 answer_before old now new db q t grown formed are s = record {
-  names_are = s.names_are;
   width_is = s.width_is;
   are = s.are;
   tuples = λ v. subst (λ w. SameSet (value_of_rows new v t.rows) (rows v q w)) (tables_worth old now grown v db are) (s.tuples v);

@@ -17,7 +17,7 @@ use Rattle.ct_operators.{specs.Tables.{cells_of, value_of_rows, IsRow, AreRows},
 use Rattle.ct_operators.{proofs.Reaching.{none_from, rows_later, row_later, rows_wider}, proofs.Growing.{terms_grow, is_row_grows, cells_grow, value_grows}}
 use Rattle.ct_operators.proofs.Selecting.{value-append, one_shown, distinct_part}
 use Rattle.ct_operators.proofs.Pairing.{joined_apart}
-use Rattle.ct_algebra.{specs.Joining.{Makes, MakesPairs, TermOfPair, rows_at, row_under, pair_tuple, pair_holds}}
+use Rattle.ct_algebra.{specs.Joining.{Makes, MakesPairs, TermOfPair, rows_at, row_under, pair_tuple, pair_holds}, proofs.Counted.part_length}
 use mathlib.Core.List.{IsPrefix}
 use Rattle.ct_word.specs.declared.kinds.Class.TheVariants as class
 use Rattle.ct_word.specs.declared.values.Term.TheVariants as term
@@ -282,8 +282,4 @@ partners_below f n = All-filter f (λ j. j < n) (range_with_len 0 n) (λ k d lt.
     omega (arith, is, within))
 
 pub few_partners : (f : ℕ → Bool) (n : ℕ) → length (filter f (range_with_len 0 n)) ≤ n
-few_partners f n = omega (arith, part_length (filter_part f (range_with_len 0 n)), length-range_with_len 0 n) where
-  part_length : {xs ys : List ℕ} → IsSublist xs ys → length xs ≤ length ys
-  part_length ended = omega arith
-  part_length (left_out p) = omega (arith, part_length p)
-  part_length (taken p) = omega (arith, part_length p)
+few_partners f n = omega (arith, part_length (filter_part f (range_with_len 0 n)), length-range_with_len 0 n)

@@ -12,7 +12,7 @@ use Rattle.ct_condition.specs.Terms.{IsNamed}
 use Rattle.ct_operators.{specs.declared.table.CTable.CTable, specs.declared.error.TableError.TableError, specs.Tables.{cells_of, value_of_rows, AreRows}}
 use Rattle.ct_operators.{specs.Terms.{TermOfRows, RowsFrom, IsNoColumn}, proofs.Reaching.{foremost, row_itself, rows_wider, from_rows}}
 use Rattle.ct_table.{specs.Shared.view_of, specs.Denotes.{TableView, heading_of, find_table, value_of_tables}, proofs.Denoting.found_all}
-use Rattle.ct_algebra.{specs.Operands.{AreTables, cells_in}, specs.Evaluates.Evaluates, specs.Names.{names, names_of}, specs.Terms.{IsNamedIn, TermOfQuery}}
+use Rattle.ct_algebra.{specs.Operands.{AreTables, cells_in}, specs.Evaluates.Evaluates, specs.Terms.{IsNamedIn, TermOfQuery}}
 use Rattle.ct_algebra.proofs.Found.{stands_for}
 
 -- the terms of a query are those of one that reads what it reads, and names what it names
@@ -26,7 +26,6 @@ pub table_answers : (ws : List ℕ) (db : List TableView) (name : List ℕ) (t :
 table_answers ws db name t are found =
     let s = stands_for ws name (view_of name t) db found in
     record {
-      names_are = sym (ap names_of s.columns);
       width_is = sym (ap count_of s.columns);
       are = found_all (λ (x : TableView). AreRows ws (length x.columns) x.rows) name (view_of name t) db
           (recursion_from_All (λ (x : TableView). AreRows ws (length x.columns) x.rows) db are) found;
@@ -37,14 +36,13 @@ table_answers ws db name t are found =
           (λ k d lt. row_itself ws t.rows (get_or t.rows k d) (Contains-get_or t.rows k d lt));
     }
 
--- a table with the columns and the rows of an operator
-module _ (old new : List ℕ) (db : List TableView) (q : PlainQuery) (columns : List (List ℕ)) (named : columns ≡ names (map heading_of db) q) (wide : length columns ≡ width (map heading_of db) q) where
-  made : (o : CTable) → o.columns ≡ columns → AreRows new (length columns) o.rows → ((v : World) → SameSet (value_of_rows new v o.rows) (rows v q (value_of_tables old v db)))
+-- a table with the rows of an operator, and as many columns
+module _ (old new : List ℕ) (db : List TableView) (q : PlainQuery) (n : ℕ) (wide : n ≡ width (map heading_of db) q) where
+  made : (o : CTable) → length o.columns ≡ n → AreRows new n o.rows → ((v : World) → SameSet (value_of_rows new v o.rows) (rows v q (value_of_tables old v db)))
       → IsSublist (cells_of new o.rows) (query_pattern (cells_in old db) q) → RowsFrom new o.rows (TermOfQuery old db q) → Evaluates old new db q o
   made o e are tuples part from = record {
-    names_are = e ∙ named;
-    width_is = ap (λ cs. length cs) e ∙ wide;
-    are = subst (λ cs. AreRows new (length cs) o.rows) (sym e) are;
+    width_is = e ∙ wide;
+    are = subst (λ k. AreRows new k o.rows) (sym e) are;
     tuples = tuples;
     part = part;
     from = from;
@@ -64,7 +62,7 @@ module _ (old now new : List ℕ) (db : List TableView) (q : PlainQuery) (t : CT
       → IfOk out (λ o. RowsFrom new o.rows (λ x. TermOfRows now t.rows x ⊎ (IsNamed c x × IsNoColumn x))) → IfOk out (Evaluates old new db (Select c q))
   select_answers c (Err e) columns are tuples part from = tt
   select_answers c (Ok o) columns are tuples part from =
-      made old new db (Select c q) t.columns s.names_are s.width_is o columns are
+      made old new db (Select c q) (length t.columns) s.width_is o (ap (λ cs. length cs) columns) are
       (λ v. same_set_on _ _ _ (tuples v) (same_set_filter (λ u. holds v u c) (its_tuples v) (rows v q (value_of_tables old v db)) (s.tuples v)))
       (sublist_of_sublist _ _ _ part s.part)
       (rows_wider new (λ x. TermOfRows now t.rows x ⊎ (IsNamed c x × IsNoColumn x)) (TermOfQuery old db (Select c q)) (λ x h. elim h [
@@ -77,7 +75,6 @@ module _ (old now new : List ℕ) (db : List TableView) (q : PlainQuery) (t : CT
   none_selected c none =
       let alike : (v : World) → its_tuples v ≡ [] = λ v. ap (value_of_rows now v) none in
       record {
-        names_are = s.names_are;
         width_is = s.width_is;
         are = s.are;
         tuples = λ v.
@@ -93,8 +90,7 @@ module _ (old now new : List ℕ) (db : List TableView) (q : PlainQuery) (t : CT
       → IfOk out (λ o. IsSublist (cells_of new o.rows) (map (picked ks) (cells_of now t.rows))) → IfOk out (λ o. RowsFrom new o.rows (TermOfRows now t.rows)) → IfOk out (Evaluates old new db (Project ks q))
   project_answers ks (Err e) columns are tuples part from = tt
   project_answers ks (Ok o) columns are tuples part from =
-      let wide : length (map (λ k. slice_index_or t.columns k []) ks) ≡ length ks = length-map ks (λ k. slice_index_or t.columns k []) in
-      made old new db (Project ks q) (map (λ k. slice_index_or t.columns k []) ks) (ap (λ cs. map (λ k. slice_index_or cs k []) ks) s.names_are) wide o columns (subst (λ n. AreRows new n o.rows) (sym wide) are)
+      made old new db (Project ks q) (length ks) refl o (ap (λ cs. length cs) columns ∙ length-map ks (λ k. slice_index_or t.columns k [])) are
       (λ v. same_set_on _ _ _ (tuples v) (same_set_map (λ u. map (cell_at u) ks) (its_tuples v) (rows v q (value_of_tables old v db)) (s.tuples v)))
       (sublist_of_sublist _ _ _ part (sublist-map (picked ks) (cells_of now t.rows) (query_pattern (cells_in old db) q) s.part))
       (rows_wider new (TermOfRows now t.rows) (TermOfQuery old db (Project ks q)) (λ x h. widened old db q (Project ks q) x (λ n i. i) (λ n. n) (its_terms x h)) o.rows from)
@@ -131,22 +127,20 @@ module _ (old now new : List ℕ) (db : List TableView) (a b : PlainQuery) (l r 
       → IfOk out (λ o. RowsFrom new o.rows (TermOfRows now (l.rows ++ r.rows))) → IfOk out (Evaluates old new db (Product a b))
   product_answers (Err e) columns are tuples part from = tt
   product_answers (Ok o) columns are tuples part from =
-      let both = length-append l.columns r.columns in
-      made old new db (Product a b) (l.columns ++ r.columns) (λ i. s.names_are i ++ t.names_are i) (both ∙ (λ i. s.width_is i + t.width_is i)) o columns (subst (λ n. AreRows new n o.rows) (sym both) are)
+      made old new db (Product a b) (length l.columns + length r.columns) (λ i. s.width_is i + t.width_is i) o (ap (λ cs. length cs) columns ∙ length-append l.columns r.columns) are
       (λ v. same_set_on _ _ _ (tuples v) (same_set_joins (lefts v) (left_part v) (rights v) (right_part v) (s.tuples v) (t.tuples v)))
       (sublist_of_sublist _ _ _ part
       (sublist_joins (cells_of now l.rows) (query_pattern (cells_in old db) a) (cells_of now r.rows) (query_pattern (cells_in old db) b) s.part t.part))
       (both_from (Product a b) refl (λ x n. n) o from)
 
-  pub join_answers : (c : Condition) (out : Result CTable TableError) → IfOk out (λ o. o.columns ≡ l.columns ++ r.columns)
+  pub join_answers : (c : Condition) (out : Result CTable TableError) → IfOk out (λ o. length o.columns ≡ length l.columns + length r.columns)
       → IfOk out (λ o. AreRows new (length l.columns + length r.columns) o.rows)
       → ((v : World) → IfOk out (λ o. SameSet (value_of_rows new v o.rows) (filter (λ u. holds v u c) (joins (lefts v) (rights v)))))
       → IfOk out (λ o. IsSublist (cells_of new o.rows) (joins (cells_of now l.rows) (cells_of now r.rows)))
       → IfOk out (λ o. RowsFrom new o.rows (λ x. TermOfRows now (l.rows ++ r.rows) x ⊎ (IsNamed c x × IsNoColumn x))) → IfOk out (Evaluates old new db (Select c (Product a b)))
-  join_answers c (Err e) columns are tuples part from = tt
-  join_answers c (Ok o) columns are tuples part from =
-      let both = length-append l.columns r.columns in
-      made old new db (Select c (Product a b)) (l.columns ++ r.columns) (λ i. s.names_are i ++ t.names_are i) (both ∙ (λ i. s.width_is i + t.width_is i)) o columns (subst (λ n. AreRows new n o.rows) (sym both) are)
+  join_answers c (Err e) wide are tuples part from = tt
+  join_answers c (Ok o) wide are tuples part from =
+      made old new db (Select c (Product a b)) (length l.columns + length r.columns) (λ i. s.width_is i + t.width_is i) o wide are
       (λ v. same_set_on _ _ _ (tuples v)
       (same_set_filter (λ u. holds v u c) (joins (lefts v) (rights v)) (joins (left_part v) (right_part v)) (same_set_joins (lefts v) (left_part v) (rights v) (right_part v) (s.tuples v) (t.tuples v))))
       (sublist_of_sublist _ _ _ part
@@ -156,18 +150,17 @@ module _ (old now new : List ℕ) (db : List TableView) (a b : PlainQuery) (l r 
         | inr n ↦ inr (inl n.0, n.1)
       ]) o.rows from)
 
-  pub pick_answers : (ks : List ℕ) (c : Condition) (out : Result CTable TableError) → IfOk out (λ o. o.columns ≡ map (λ k. slice_index_or (l.columns ++ r.columns) k []) ks)
+  pub pick_answers : (ks : List ℕ) (c : Condition) (out : Result CTable TableError) → IfOk out (λ o. length o.columns ≡ length ks)
       → IfOk out (λ o. AreRows new (length ks) o.rows)
       → ((v : World) → IfOk out (λ o. SameSet (value_of_rows new v o.rows) (map (λ u. map (cell_at u) ks) (filter (λ u. holds v u c) (joins (lefts v) (rights v))))))
       → IfOk out (λ o. IsSublist (cells_of new o.rows) (map (picked ks) (joins (cells_of now l.rows) (cells_of now r.rows))))
       → IfOk out (λ o. RowsFrom new o.rows (λ x. TermOfRows now (l.rows ++ r.rows) x ⊎ (IsNamed c x × IsNoColumn x))) → IfOk out (Evaluates old new db (Project ks (Select c (Product a b))))
-  pick_answers ks c (Err e) columns are tuples part from = tt
-  pick_answers ks c (Ok o) columns are tuples part from =
+  pick_answers ks c (Err e) wide are tuples part from = tt
+  pick_answers ks c (Ok o) wide are tuples part from =
       let whole = Project ks (Select c (Product a b)) in
-      let wide : length (map (λ k. slice_index_or (l.columns ++ r.columns) k []) ks) ≡ length ks = length-map ks (λ k. slice_index_or (l.columns ++ r.columns) k []) in
       let pairs : World → List (List Value) = λ v. filter (λ u. holds v u c) (joins (lefts v) (rights v)) in
       let those : World → List (List Value) = λ v. filter (λ u. holds v u c) (joins (left_part v) (right_part v)) in
-      made old new db whole (map (λ k. slice_index_or (l.columns ++ r.columns) k []) ks) (λ i. map (λ k. slice_index_or (s.names_are i ++ t.names_are i) k []) ks) wide o columns (subst (λ n. AreRows new n o.rows) (sym wide) are)
+      made old new db whole (length ks) refl o wide are
       (λ v. same_set_on _ _ _ (tuples v) (same_set_map (λ u. map (cell_at u) ks) (pairs v) (those v)
       (same_set_filter (λ u. holds v u c) (joins (lefts v) (rights v)) (joins (left_part v) (right_part v)) (same_set_joins (lefts v) (left_part v) (rights v) (right_part v) (s.tuples v) (t.tuples v)))))
       (sublist_of_sublist _ _ _ part (sublist-map (picked ks) (joins (cells_of now l.rows) (cells_of now r.rows)) (joins (query_pattern (cells_in old db) a) (query_pattern (cells_in old db) b))
@@ -183,7 +176,7 @@ module _ (old now new : List ℕ) (db : List TableView) (a b : PlainQuery) (l r 
       → IfOk out (λ o. RowsFrom new o.rows (TermOfRows now (l.rows ++ r.rows))) → IfOk out (Evaluates old new db (Union a b))
   union_answers (Err e) columns are tuples part from = tt
   union_answers (Ok o) columns are tuples part from =
-      made old new db (Union a b) l.columns s.names_are s.width_is o columns are
+      made old new db (Union a b) (length l.columns) s.width_is o (ap (λ cs. length cs) columns) are
       (λ v. same_set_on _ _ _ (tuples v) (same_set-append (lefts v) (left_part v) (rights v) (right_part v) (s.tuples v) (t.tuples v)))
       (sublist_of_sublist _ _ _ part
       (sublist-append (cells_of now l.rows) (query_pattern (cells_in old db) a) (cells_of now r.rows) (query_pattern (cells_in old db) b) s.part t.part))
@@ -195,7 +188,7 @@ module _ (old now new : List ℕ) (db : List TableView) (a b : PlainQuery) (l r 
       → IfOk out (λ o. RowsFrom new o.rows (TermOfRows now (l.rows ++ r.rows))) → IfOk out (Evaluates old new db (Except a b))
   except_answers (Err e) columns are tuples part from = tt
   except_answers (Ok o) columns are tuples part from =
-      made old new db (Except a b) l.columns s.names_are s.width_is o columns are
+      made old new db (Except a b) (length l.columns) s.width_is o (ap (λ cs. length cs) columns) are
       (λ v. same_set_on _ _ _ (tuples v) (same_set_without (lefts v) (left_part v) (rights v) (right_part v) (s.tuples v) (t.tuples v)))
       (sublist_of_sublist _ _ _ part s.part)
       (both_from (Except a b) refl (λ x n. n) o from)
@@ -206,7 +199,7 @@ module _ (old now new : List ℕ) (db : List TableView) (a b : PlainQuery) (l r 
       → IfOk out (λ o. RowsFrom new o.rows (TermOfRows now (l.rows ++ r.rows))) → IfOk out (Evaluates old new db (Intersect a b))
   intersect_answers (Err e) columns are tuples part from = tt
   intersect_answers (Ok o) columns are tuples part from =
-      made old new db (Intersect a b) l.columns s.names_are s.width_is o columns are
+      made old new db (Intersect a b) (length l.columns) s.width_is o (ap (λ cs. length cs) columns) are
       (λ v. same_set_on _ _ _ (tuples v) (same_set_within (lefts v) (left_part v) (rights v) (right_part v) (s.tuples v) (t.tuples v)))
       (sublist_of_sublist _ _ _ part s.part)
       (both_from (Intersect a b) refl (λ x n. n) o from)
@@ -219,7 +212,6 @@ all_kept (x ∷ xs) = ap (λ l. x ∷ l) (all_kept xs)
 -- so it may be left out below a projection
 pub always_selected : (old new : List ℕ) (db : List TableView) (ks : List ℕ) (q : PlainQuery) (o : CTable) → Evaluates old new db (Project ks (Select True q)) o → Evaluates old new db (Project ks q) o
 always_selected old new db ks q o s = record {
-  names_are = s.names_are;
   width_is = s.width_is;
   are = s.are;
   tuples = λ v. subst (λ l. SameSet (value_of_rows new v o.rows) (map (λ u. map (cell_at u) ks) l)) (all_kept (rows v q (value_of_tables old v db))) (s.tuples v);

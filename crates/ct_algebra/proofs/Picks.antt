@@ -4,12 +4,12 @@ use Rattle.std.specs.Prelude.{All}
 use Rattle.std.proofs.lemmas.List.{append-nil, length-map}
 use Rattle.std.proofs.lemmas.List.Elements.{All-cons, All-head, All-nil, All-weaker}
 use Rattle.ct_word.{specs.declared.values.Value.Value, specs.declared.values.Term.Term, specs.declared.values.CRow.CRow, specs.WellFormed.IsWellFormed, specs.Reading.term_at}
-use Rattle.ct_word.{specs.Value.{World, cell_at, same_cells}, specs.Sublist.{IsSublist, ended, left_out, taken}, specs.Condition.Condition, proofs.Prefixes.prefix_of_prefix}
+use Rattle.ct_word.{specs.Value.{World, cell_at, same_cells}, specs.Sublist.IsSublist, specs.Condition.Condition, proofs.Prefixes.prefix_of_prefix}
 use Rattle.ct_query.{specs.Database.SameSet, specs.Patterns.picked, proofs.Sublists.{sublist_of_sublist, sublist-map}}
 use Rattle.ct_operators.{specs.Tables.{cells_of, value_of_rows, IsRow}, specs.Terms.{TermOfRows, RowsFrom}, specs.Projection.picked_row, specs.Merging.{IsGathered}}
 use Rattle.ct_operators.{proofs.Reaching.{rows_later, rows_wider, from_rows}, proofs.Growing.{is_row_grows, cells_grow, value_grows}}
 use Rattle.ct_operators.{proofs.Projecting.{cells_picked, value_picked, picked_from, picked_rows}, proofs.Firsts.part_of_firsts, proofs.Gathered.gathered_none}
-use Rattle.ct_algebra.{specs.Joining.{Makes, MakesPairs}, specs.Picking.{HasCells, PicksPairs}, proofs.Making.{makes_none, worth_of, cells_joined}}
+use Rattle.ct_algebra.{specs.Joining.{Makes, MakesPairs}, specs.Picking.{HasCells, PicksPairs}, proofs.Making.{makes_none, worth_of, cells_joined}, proofs.Counted.part_length}
 use mathlib.Core.List.{IsPrefix}
 
 -- the same rows, as words are added
@@ -36,12 +36,6 @@ picked_is ws ks r has =
 
 pub has_later : (ws xs ks : List ℕ) (r : CRow) → IsPrefix ws xs → IsWellFormed ws → HasCells ws ks r → HasCells xs ks r
 has_later ws xs ks r longer formed has = (is_row_grows ws xs longer formed (length r.cells) r has.0, has.1)
-
--- a part is no longer than the whole
-part_length : {A : Type 0} {xs ys : List A} → IsSublist xs ys → length xs ≤ length ys
-part_length ended = omega arith
-part_length (left_out p) = let le = part_length p in omega (arith, le)
-part_length (taken p) = let le = part_length p in omega (arith, le)
 
 -- a row has no more pairs than there are rows
 pub few_pairs : (old now : List ℕ) (width : ℕ) (c : Condition) (l : CRow) (rs : List CRow) (source : Term → Type 0) (out : List CRow) → MakesPairs old now width c (l ∷ []) rs source out → length out ≤ length rs

@@ -1,5 +1,5 @@
 -- An answer to a query that is evaluated in place of another answers this one.
-use Rattle.std.{proofs.Common.{◌≡◌, ℕ, List, [], ◌∷◌, ◌++◌, length, map, refl, sym, ap, subst, ◌∙◌, inl, inr}, specs.Prelude.{◌⊎◌, All, Contains, filter, slice_index_or}, proofs.lemmas.List.length-map}
+use Rattle.std.{proofs.Common.{◌≡◌, ℕ, List, [], ◌∷◌, ◌++◌, length, map, refl, sym, ap, subst, ◌∙◌, inl, inr}, specs.Prelude.{◌⊎◌, All, Contains, filter}, proofs.lemmas.List.length-map}
 use Rattle.std.proofs.lemmas.List.Elements.{All-head, All-tail, All-map, All-filter, All-weaker, Contains-append_left, Contains-append_right, Contains-append_cases}
 use Rattle.ct_word.{specs.declared.values.Term.Term, specs.declared.values.CRow.CRow, specs.Value.{World, at, tuple_at}, proofs.Items.{no_item, sole_item, item_cases, first_item, later_item}}
 use Rattle.ct_word.specs.Condition.{Condition, Conditions, True, False, Same, Not, And, Or, none, also, holds_at}
@@ -9,20 +9,11 @@ use Rattle.ct_query.{specs.Fits.{Fits, IsColumnBelow}, specs.Reads.tables_of, sp
 use Rattle.ct_plan.{specs.Over.HasSchema, specs.Planned.planned, specs.Replaces.{bare, Replaces}, proofs.Law.replaces}
 use Rattle.ct_operators.{specs.declared.table.CTable.CTable, specs.Tables.{IsRow, AreRows, cells_of, value_of_rows}, specs.Terms.IsNoColumn, proofs.Reaching.rows_wider}
 use Rattle.ct_table.specs.Denotes.{TableView, heading_of, value_of_tables}
-use Rattle.ct_algebra.{specs.Operands.{AreTables, cells_in}, specs.Evaluates.Evaluates, specs.Names.names, specs.Terms.{IsNamedIn, TermOfQuery}}
+use Rattle.ct_algebra.{specs.Operands.{AreTables, cells_in}, specs.Evaluates.Evaluates, specs.Terms.{IsNamedIn, TermOfQuery}}
 use Rattle.ct_word.{specs.Sublist.IsSublist}
 use Rattle.ct_word.specs.declared.values.Term.TheVariants as term
 
--- selections change neither the names of the columns nor what is read
-names_bare : (s : List Heading) (q : PlainQuery) → names s (bare q) ≡ names s q
-names_bare s (Table t) = refl
-names_bare s (Select c q) = names_bare s q
-names_bare s (Project ks q) = ap (λ ns. map (λ k. slice_index_or ns k []) ks) (names_bare s q)
-names_bare s (Product a b) = let left = names_bare s a in let right = names_bare s b in λ i. left i ++ right i
-names_bare s (Union a b) = names_bare s a
-names_bare s (Except a b) = names_bare s a
-names_bare s (Intersect a b) = names_bare s a
-
+-- selections do not change what is read
 tables_bare : (q : PlainQuery) → tables_of (bare q) ≡ tables_of q
 tables_bare (Table t) = refl
 tables_bare (Select c q) = tables_bare q
@@ -61,7 +52,7 @@ mutual
   all_named none t h = no_item t h
   all_named (also c cs) t h = elim (Contains-append_cases (condition_terms c) (all_terms cs) t h) [ inl i ↦ inl (is_named c t i) | inr i ↦ inr (all_named cs t i) ]
 
-named_in : (q : PlainQuery) (t : Term) → IsNamedIn q t → Contains (query_terms q) t
+pub named_in : (q : PlainQuery) (t : Term) → IsNamedIn q t → Contains (query_terms q) t
 named_in (Table name) t n = absurd n
 named_in (Select c q) t (inl n) = Contains-append_left (condition_terms c) (query_terms q) t (named_stands c t n)
 named_in (Select c q) t (inr n) = Contains-append_right (condition_terms c) (query_terms q) t (named_in q t n)
@@ -116,7 +107,6 @@ pub answers_in_place : (old now : List ℕ) (db : List TableView) (q p : PlainQu
 answers_in_place old now db q p out are law s =
     let hs = map heading_of db in
     record {
-      names_are = s.names_are ∙ sym (names_bare hs p) ∙ ap (names hs) law.same_parts ∙ names_bare hs q;
       width_is = s.width_is ∙ law.same_width;
       are = s.are;
       tuples = λ v. subst (SameSet (value_of_rows now v out.rows)) (law.same_rows v (value_of_tables old v db) (has_schema old v db are)) (s.tuples v);

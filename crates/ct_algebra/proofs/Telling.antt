@@ -11,11 +11,12 @@ use Rattle.ct_query.specs.Fits.{AreColumnsBelow}
 use Rattle.ct_condition.{specs.Folding.{are_apart}, proofs.Truths.apart_differ}
 use Rattle.ct_operators.{specs.Tables.IsRow, proofs.Selecting.cell_of_tuple}
 use Rattle.ct_join.{specs.declared.keys.Key.Key, specs.Mixing.mixed, specs.Pairs.{may_agree, key_at}}
-use Rattle.ct_algebra.{specs.declared.equals.Equal.Equal, specs.declared.keys.Side.Side, specs.Equals.{HasEqual, differ_in}, specs.Keyed.{column_on, key_from, key_of}, specs.Joining.TellApart, proofs.Making.{worth_of, worth_never}}
+use Rattle.ct_algebra.{specs.declared.equals.Equal.Equal, specs.Equals.{HasEqual, differ_in}, specs.Keyed.{column_on, key_from, key_of}, specs.Joining.TellApart, proofs.Making.{worth_of, worth_never}}
 use mathlib.Core.List.{IsPrefix}
 use Rattle.ct_join.specs.declared.keys.Key.TheVariants as key
 use Rattle.ct_word.specs.declared.kinds.Class.TheVariants as class
-use Rattle.ct_algebra.specs.declared.keys.Side.TheVariants as side
+use Rattle.ct_plan.specs.declared.sides.Side.{Side}
+use Rattle.ct_plan.specs.declared.sides.Side.TheVariants as side
 
 -- a null may be of one value with every key
 with_null : (k : Key) → may_agree k key.Null ≡ true

@@ -5,8 +5,8 @@ use Rattle.ct_join.specs.declared.keys.Key.{Key}
 use Rattle.ct_join.specs.declared.keys.Key.TheVariants as key
 use Rattle.ct_join.specs.Mixing.{mixed}
 use Rattle.ct_algebra.specs.declared.equals.Equal.{Equal}
-use Rattle.ct_algebra.specs.declared.keys.Side.{Side}
-use Rattle.ct_algebra.specs.declared.keys.Side.TheVariants as side
+use Rattle.ct_plan.specs.declared.sides.Side.{Side}
+use Rattle.ct_plan.specs.declared.sides.Side.TheVariants as side
 
 -- the column of one side
 abbrev pub column_on : Side → Equal → ℕ

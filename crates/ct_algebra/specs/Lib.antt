@@ -1,7 +1,6 @@
 pub mod Refusals
 pub mod Operands
 pub mod Terms
-pub mod Names
 pub mod Evaluates
 pub mod Words
 pub mod Equals

@@ -22,7 +22,6 @@ ghost use Rattle.ct_table.specs.Denotes.{heading_of, value_of_tables};
 ghost use Rattle.ct_operators.specs.Terms.{RowsFrom};
 ghost use Rattle.ct_algebra.specs.Operands.{AreTables, cells_in};
 ghost use Rattle.ct_algebra.specs.Evaluates.{limit, Evaluates};
-ghost use Rattle.ct_algebra.specs.Names.{names};
 ghost use Rattle.ct_algebra.specs.Terms.{TermOfQuery};
 ghost use Rattle.ct_algebra.specs.Words.{PassWrites, SpendsWithin, most_words};
 ghost use Rattle.ct_algebra.specs.declared.error.EvalError.TheVariants as fault;
@@ -75,8 +74,8 @@ fn planned_answer<N: Site>(
 }
 
 /// The table that answers a query over the tables of a database: at every valuation it is worth what the query gives
-/// on what these tables are worth (Imielinski and Lipski 1984). Its columns have the names that the operators give
-/// them: those of the left side, of both sides of a product, or the ones that a projection picks.
+/// on what these tables are worth (Imielinski and Lipski 1984). It has a name for each of its columns, by which they are
+/// counted, and any name will do: what an answer's columns are called is said by the statement.
 ///
 /// # Errors
 /// `TooLarge` exactly where a part of the query goes through more than 16,777,216 rows or pairs of rows, by the numbers
@@ -91,7 +90,6 @@ pub fn eval<N: Site>(
 ) -> Result<CTable, EvalError>
     requires tables { AreTables pass.old.words db.now }
     requires fits { Fits (map heading_of db.now) (query_of q.now) }
-    ensures names { IfOk result (λ out. out.columns ≡ names (map heading_of db.now) (query_of q.now)) }
     ensures columns { IfOk result (λ out. length out.columns ≡ width (map heading_of db.now) (query_of q.now)) }
     ensures rows { IfOk result (λ out. AreRows pass.new.words (width (map heading_of db.now) (query_of q.now)) out.rows) }
     ensures tuples { (v : World) → IfOk result (λ out. SameSet (value_of_rows pass.new.words v out.rows) (rows v (query_of q.now) (value_of_tables pass.old.words v db.now))) }

@@ -25,15 +25,16 @@ ghost use Rattle.ct_operators.specs.Terms.{TermOfRows, RowsFrom, IsNoColumn};
 ghost use Rattle.ct_algebra.specs.Equals.{HasEqual, differ_in};
 ghost use Rattle.ct_algebra.specs.Joining.{MakesPairs, ShownBeside, rows_at, row_under, pair_holds, pair_words, TermOfPair, TermOfJoin};
 ghost use Rattle.ct_algebra.specs.Keyed.{key_of};
-ghost use Rattle.ct_algebra.specs.declared.keys.Side.TheVariants as side;
+ghost use Rattle.ct_plan.specs.declared.sides.Side.TheVariants as side;
 
 use crate::equals::{Equal, differ_in, equals_of};
-use crate::keys::{Side, key_of, keys_of};
+use crate::keys::{key_of, keys_of};
 use crate::operands::Operand;
 use ct_arena::{Arena, Full, Site};
 use ct_condition::{Interner, and, pred};
 use ct_join::Index;
 use ct_operators::joined_names;
+use ct_plan::Side;
 use ct_query::Pred;
 use ct_table::{CRow, CTable, RowSource, TableError};
 use ct_word::{FALSE_PLACE, List};
@@ -287,7 +288,7 @@ pub(crate) fn join<N: Site, I: Interner<N>>(
     requires few { length right.now.rows < 2 ^ 32 }
     requires predicate { FitsRows (length left.now.columns + length right.now.columns) (condition_of p.now) }
     requires placed { new_terms (I.list pass.old) (condition_of p.now) ≡ 0 }
-    ensures columns { IfOk result (λ out. out.columns ≡ left.now.columns ++ right.now.columns) }
+    ensures width { IfOk result (λ out. length out.columns ≡ length left.now.columns + length right.now.columns) }
     ensures rows { IfOk result (λ out. AreRows (I.list pass.new) (length left.now.columns + length right.now.columns) out.rows) }
     ensures tuples { (v : World) → IfOk result (λ out. SameSet (value_of_rows (I.list pass.new) v out.rows) (filter (λ t. holds v t (condition_of p.now)) (joins (value_of_rows (I.list pass.old) v left.now.rows) (value_of_rows (I.list pass.old) v right.now.rows)))) }
     ensures part { IfOk result (λ out. IsSublist (cells_of (I.list pass.new) out.rows) (joins (cells_of (I.list pass.old) left.now.rows) (cells_of (I.list pass.old) right.now.rows))) }

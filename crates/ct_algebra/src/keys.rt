@@ -6,16 +6,10 @@ ghost use Rattle.ct_algebra.specs.Keyed.{column_on, key_of};
 use crate::equals::Equal;
 use crate::operands::Operand;
 use ct_join::{Key, mixed};
+use ct_plan::Side;
 use ct_table::RowSource;
 use ct_word::is_constant;
 use std::alloc::{AllocError, Global};
-
-/// A row of a pair.
-#[derive(Clone, Copy)]
-pub(crate) enum Side {
-    Left,
-    Right,
-}
 
 /// The column of one side.
 fn column_on(side: Side, equal: &Equal) -> usize

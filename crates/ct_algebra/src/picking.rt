@@ -1,6 +1,6 @@
 // Two tables joined, and some columns of the pairs: each pair is gathered as it is made.
 
-ghost use Rattle.std.specs.Prelude.{◌≡◌, ◌⊎◌, ◌<◌, ◌+◌, ◌*◌, ◌^◌, ◌++◌, [], List, length, map, filter, All, IfOk, OnOk, slice_index_or};
+ghost use Rattle.std.specs.Prelude.{◌≡◌, ◌⊎◌, ◌<◌, ◌+◌, ◌*◌, ◌^◌, ◌++◌, List, length, map, filter, All, IfOk, OnOk};
 ghost use Rattle.ct_word.specs.declared.values.CRow.{CRow};
 ghost use Rattle.ct_word.specs.Value.{World, cell_at};
 ghost use Rattle.ct_word.specs.Condition.{holds};
@@ -24,15 +24,26 @@ ghost use Rattle.ct_algebra.specs.Picking.{HasCells, PicksPairs};
 
 use crate::equals::equals_of;
 use crate::joining::{Asked, joined_row};
-use crate::keys::{Side, keys_of};
+use crate::keys::keys_of;
 use crate::operands::Operand;
 use ct_arena::{Arena, Site};
 use ct_condition::Interner;
 use ct_join::Index;
-use ct_operators::{Gathering, joined_names, pick, pick_names};
+use ct_operators::{Gathering, pick};
+use ct_plan::Side;
 use ct_query::Pred;
 use ct_table::{CRow, CTable, RowSource, TableError};
-use std::alloc::Global;
+use ct_word::{List, Text};
+use std::alloc::{AllocError, Global};
+
+/// A name for each of so many columns, by which they are counted. All share one text, since nobody reads them.
+fn unnamed(alloc: Global, width: usize) -> Result<List<Text>, AllocError>
+    ensures { IfOk result (λ names. length names ≡ width) }
+{
+    // A copy of a copy takes no memory.
+    let shared = Text::from_string(String::new(alloc)).clone()?;
+    Ok(List::from_vec(vec![in alloc; shared; width]?))
+}
 
 /// Puts rows, with their cells at these positions, to those that are gathered.
 fn gather<N: Site, I: Interner<N>>(
@@ -120,7 +131,7 @@ pub(crate) fn join_picked<N: Site, I: Interner<N>>(
     requires columns { All (λ k. k < length left.now.columns + length right.now.columns) columns.now }
     requires predicate { FitsRows (length left.now.columns + length right.now.columns) (condition_of p.now) }
     requires placed { new_terms (I.list pass.old) (condition_of p.now) ≡ 0 }
-    ensures columns { IfOk result (λ out. out.columns ≡ map (λ k. slice_index_or (left.now.columns ++ right.now.columns) k []) columns.now) }
+    ensures width { IfOk result (λ out. length out.columns ≡ length columns.now) }
     ensures rows { IfOk result (λ out. AreRows (I.list pass.new) (length columns.now) out.rows) }
     ensures tuples { (v : World) → IfOk result (λ out. SameSet (value_of_rows (I.list pass.new) v out.rows) (map (λ u. map (cell_at u) columns.now) (filter (λ t. holds v t (condition_of p.now)) (joins (value_of_rows (I.list pass.old) v left.now.rows) (value_of_rows (I.list pass.old) v right.now.rows))))) }
     ensures part { IfOk result (λ out. IsSublist (cells_of (I.list pass.new) out.rows) (map (picked columns.now) (joins (cells_of (I.list pass.old) left.now.rows) (cells_of (I.list pass.old) right.now.rows)))) }
@@ -128,8 +139,7 @@ pub(crate) fn join_picked<N: Site, I: Interner<N>>(
     ensures writes { Writes I.list I.made I.kept I.lent N.log.cap pass.old pass.new (length left.now.rows * length right.now.rows * (pair_words (condition_of p.now) + 1)) (is_full result) }
 {
     let _ = pass.words();
-    let both = joined_names(left.columns(), right.columns())?;
-    let names = pick_names(alloc, columns, &both)?;
+    let names = unnamed(alloc, columns.len())?;
     let equals = equals_of(alloc, left.columns().len(), p)?;
     let asked = Asked {
         pred: p,

@@ -1,5 +1,5 @@
 -- Questions and their answers.
-use Rattle.std.proofs.Common.{◌≡◌, ℕ, Bool, ◌&&◌, true, List, [], ◌∷◌, map, refl, ap, sym, subst, ◌∙◌, inl, inr, arith}
+use Rattle.std.proofs.Common.{◌≡◌, ℕ, Bool, ◌&&◌, true, List, [], ◌∷◌, map, ap, sym, subst, ◌∙◌, inl, inr}
 use Rattle.std.{specs.Prelude.{◌⊎◌, All, Contains, Some, None}, proofs.lemmas.Bool.and_from}
 use Rattle.std.proofs.lemmas.List.Elements.{All-contains, All-contains_itself, All-from_recursion, All-weaker}
 use Rattle.ct_word.{specs.declared.values.CRow.CRow, specs.declared.values.Null.Null, specs.Value.{World, value_of_null}, specs.Condition.{holds, holds_at}}
@@ -7,7 +7,6 @@ use Rattle.ct_word.{specs.Reading.condition_at, specs.Stands.{HasNoColumn, TermB
 use Rattle.ct_word.proofs.Items.{first_item, later_item, mapped_item, item_cases, sole_item, unmapped_item}
 use Rattle.ct_derivation.{specs.Accepts.Accepts, proofs.Sound.root_refuted}
 use Rattle.ct_condition.{specs.Truth.{HasTruth, and_at}, specs.Terms.{TermsFrom, BelowEither}, proofs.Reached.{either_before, terms_before}}
-use Rattle.ct_worlds.specs.Nulls.{IsNullBelow}
 use Rattle.ct_near.specs.{Conjuncts.AreBeside, Near.{IsNullNear, IsRepairedNear}}
 use Rattle.ct_decide.specs.{Decided.{DecisionNear, DecisionOf}, declared.deciding.Decision.Decision}
 use Rattle.ct_rewrite.specs.Tidy.{IsTidy}

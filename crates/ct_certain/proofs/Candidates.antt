@@ -8,12 +8,12 @@ use Rattle.ct_word.{specs.declared.values.Value.Value, specs.declared.values.Nul
 use Rattle.ct_word.{specs.Value.{World, at, cell_at, other_zero, same_null, same_tuple, same_value, tuple_at, value_of_null}, specs.Condition.holds_at}
 use Rattle.ct_word.{specs.Reading.{IsTerm, condition_at, plain_crow, term_at}, specs.Stands.{HasNoColumn, StandsAt}, proofs.Alike.tuple_decides}
 use Rattle.ct_word.{specs.WellFormed.{IsWellFormed, is_place_of}, specs.Sublist.{IsSublist, ended, left_out, taken}, proofs.Places.stands_term}
-use Rattle.ct_word.proofs.Prefixes.{place_in_prefix, place_within, prefix_of_prefix, prefix_same}
+use Rattle.ct_word.proofs.Prefixes.{condition_in_prefix, place_in_prefix, place_within, prefix_of_prefix, prefix_same}
 use Rattle.ct_arena.specs.Counts.{opening}
 use Rattle.ct_condition.proofs.{Placed.place_from, Reached.terms_before}
 use Rattle.ct_equality.specs.Valued.{IsNumbered}
 use Rattle.ct_operators.{specs.Tables.{AreRows, IsRow, firsts, value_of_rows}, proofs.Firsts.{any_first, firsts_known, firsts_long, firsts_new, firsts_part}}
-use Rattle.ct_operators.proofs.{Growing.rows_grow, Holding.holds_false}
+use Rattle.ct_operators.proofs.{Growing.{rows_grow, value_grows}, Holding.holds_false}
 use Rattle.ct_query.specs.Database.{has_tuple}
 use Rattle.ct_rewrite.proofs.Nodes.{term_compared}
 use Rattle.ct_certain.{specs.declared.striking.Seen.Seen, specs.Certain.{IsInAll, IsKeptWorld, IsMissed}, specs.Missing.{IsAskedOf, IsAtHand, IsSeen, is_in_each}}
@@ -187,6 +187,18 @@ module _ (words : List ℕ) (kept : World) (rs : List CRow) (ts : List (List Val
       → All (IsAskedOf words words global width rs) ts
   firsts_asked global width formed begins is plain rows keeps = subst (All (IsAskedOf words words global width rs)) (sym are)
       (first_all (IsAskedOf words words global width rs) (value_of_rows words kept rs) (worth_asked words global width rs kept formed begins is plain rows keeps))
+
+-- the tuples of known worlds, as words are added
+pub seen_later : (old new : List ℕ) (global width : ℕ) (rs : List CRow) (tuple : List Value) → IsAskedOf old old global width rs tuple → IsPrefix old new → (ss : List Seen) → All (IsSeen old global rs) ss → All (IsSeen new global rs) ss
+seen_later old new global width rs tuple asked longer = All-weaker (IsSeen old global rs) (IsSeen new global rs) (λ s is. record {
+  world = is.world;
+  holds = ap (holds_at is.world) (condition_in_prefix old new global longer (place_within old class.Cond global asked.global_is)) ∙ is.holds;
+  tuples = λ t. is.tuples t ∙ ap (λ ts. has_tuple ts t) (sym (value_grows old new longer is.world width rs asked.rows.each));
+})
+
+-- rows of a table, each of its own width
+pub each_own : (words : List ℕ) (width : ℕ) (rs : List CRow) → All (IsRow words width) rs → All (λ r. IsRow words (length r.cells) r) rs
+each_own words width = All-weaker (IsRow words width) (λ r. IsRow words (length r.cells) r) (λ r is. record { terms = is.terms; condition = is.condition; width_is = refl; plain = is.plain })
 
 -- a tuple that one of some known worlds lacks is missing there
 pub lacked_by : (words : List ℕ) (global : ℕ) (rs : List CRow) (ss : List Seen) (t : List Value) → All (IsSeen words global rs) ss → is_in_each ss t ≡ false → IsMissed words global rs t

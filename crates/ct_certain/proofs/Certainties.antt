@@ -8,9 +8,9 @@ use Rattle.ct_word.{proofs.Alike.tuple_decides, proofs.Prefixes.{condition_in_pr
 use Rattle.ct_query.specs.Database.{has_tuple}
 use Rattle.ct_derivation.{specs.Accepts.{Accepts, accepts}, proofs.Longer.accepted_longer, proofs.Sound.root_refuted}
 use Rattle.ct_rewrite.specs.declared.answer.CertainRow.{CertainRow}
-use Rattle.ct_operators.{specs.Tables.{firsts, value_of_rows}, proofs.Selecting.distinct_part}
-use Rattle.ct_certain.{specs.Certain.{tuples_in, IsCutProof, IsInAll, RefutesMissing, ListsCertain}, specs.Answered.IsSettled, proofs.Candidates.has_first}
-use Rattle.ct_certain.{specs.Missing.{AreListed, IsRefuted, IsRootOf, Takes, nothing, one}, proofs.Cuts.cut_longer}
+use Rattle.ct_operators.{specs.Tables.{firsts, value_of_rows}, proofs.{Growing.value_grows, Selecting.distinct_part}}
+use Rattle.ct_certain.{specs.Certain.{tuples_in, is_missing, IsCutProof, IsInAll, RefutesMissing, ListsCertain}, specs.Answered.{IsRefutation, IsSettled}, proofs.{Candidates.has_first, Roots.missing_before}}
+use Rattle.ct_certain.{specs.Missing.{AreListed, IsAskedOf, IsRefuted, IsRootOf, Takes, nothing, one}, proofs.Cuts.cut_longer}
 use mathlib.Core.List.{IsPrefix}
 use Rattle.ct_word.specs.declared.kinds.Class.TheVariants as class
 use Rattle.ct_decide.specs.declared.deciding.Decision.TheVariants as decision
@@ -64,7 +64,30 @@ lacks true true e f = false≢true e
 lacks true false e f = false≢true (f refl)
 lacks false b e f = false≢true e
 
+-- derivations, as words are added
+pub refutations_later : (old new : List ℕ) → IsPrefix old new → (list : List CertainRow) → All (λ r. IsRefutation old r.proof.root r.proof.derivation) list → All (λ r. IsRefutation new r.proof.root r.proof.derivation) list
+refutations_later old new longer list =
+    All-weaker (λ r. IsRefutation old r.proof.root r.proof.derivation) (λ r. IsRefutation new r.proof.root r.proof.derivation)
+    (λ r is. (accepted_longer old new longer r.proof.root r.proof.derivation is.0, cut_longer old new longer r.proof.root r.proof.derivation is.1)) list
+
 module _ (words : List ℕ) (global : ℕ) (rs : List CRow) where
+  -- the derivations in a list
+  pub refutations : (now : List ℕ) (list : List CertainRow) → All (IsRefuted words now global rs) list → All (λ r. IsRefutation now r.proof.root r.proof.derivation) list
+  refutations now list = All-weaker (IsRefuted words now global rs) (λ r. IsRefutation now r.proof.root r.proof.derivation) (λ r is. (is.refutes.accepted, is.cut)) list
+
+  -- a candidate that was asked for over words that these are the first of
+  pub takes_before : (old new : List ℕ) (width : ℕ) (t : List Value) (list out : List CertainRow) → IsAskedOf words old global width rs t → Takes old new global rs t list out → Takes words new global rs t list out
+  takes_before old new width t list out asked (nothing never) = nothing (λ all. never (λ v holds.
+      ap (λ ts. has_tuple ts t) (value_grows words old asked.grown v width rs asked.rows.each)
+      ∙ all v (sym (ap (holds_at v) (condition_in_prefix words old global asked.grown (place_within words class.Cond global asked.global_is))) ∙ holds)))
+  takes_before old new width t list out asked (one r is refuted) = one r is (record {
+    refutes = record {
+      accepted = refuted.refutes.accepted;
+      root = λ v. refuted.refutes.root v ∙ subst (λ u. is_missing old global rs u v ≡ is_missing words global rs u v) (sym is) (missing_before words old global width rs t asked v);
+    };
+    cut = refuted.cut;
+  })
+
   refutes_later : (old new : List ℕ) → IsPrefix old new → (r : CertainRow) → RefutesMissing words old global rs r → RefutesMissing words new global rs r
   refutes_later old new longer r is = record {
     accepted = accepted_longer old new longer r.proof.root r.proof.derivation is.accepted;

@@ -10,4 +10,6 @@ pub mod Values
 pub mod Roots
 pub mod Certainties
 pub mod Candidates
+pub mod Always
+pub mod Earlier
 pub mod Nearby

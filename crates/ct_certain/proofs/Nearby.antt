@@ -1,5 +1,5 @@
 -- Known worlds and the conjuncts of the global condition, as words are added; what a question has from them.
-use Rattle.std.proofs.Common.{◌≡◌, ◌⊎◌, ◌<◌, ℕ, true, List, [], ◌∷◌, length, get_or, ap, sym, subst, ◌∙◌, inl, inr}
+use Rattle.std.proofs.Common.{◌≡◌, ◌⊎◌, ◌<◌, ℕ, List, [], ◌∷◌, length, get_or, ap, sym, subst, ◌∙◌, inl, inr}
 use Rattle.std.{specs.Prelude.{IsTrue, Contains}, proofs.lemmas.List.Elements.{All-weaker, Contains-append_left, Contains-get_or}}
 use Rattle.ct_word.{specs.Value.World, specs.Condition.holds_at, specs.Reading.condition_at, specs.Stands.TermBelow, specs.WellFormed.{IsWellFormed, is_place_of}}
 use Rattle.ct_word.proofs.Prefixes.{condition_in_prefix, get_in_prefix, place_in_prefix, place_within, term_in_prefix}

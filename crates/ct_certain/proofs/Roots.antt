@@ -1,13 +1,13 @@
 -- The root of the question whether a tuple is missing.
-use Rattle.std.proofs.Common.{◌≡◌, ◌≢◌, ◌≤◌, ◌<◌, ◌+◌, ◌*◌, ℕ, true, not, ◌&&◌, List, [], ◌∷◌, length, Result, Ok, Err, refl, ap, sym, subst, ◌∙◌, arith, inr}
-use Rattle.std.{specs.Prelude.{All, IsTrue, filter, IsErrOf}, specs.Borrow.GName, proofs.lemmas.Bool.false≢true}
+use Rattle.std.proofs.Common.{◌≡◌, ◌≢◌, ◌≤◌, ◌<◌, ◌+◌, ◌*◌, ℕ, not, ◌&&◌, List, [], ◌∷◌, length, Err, refl, ap, ◌∙◌, arith, inr}
+use Rattle.std.{specs.Prelude.{All, IsTrue, filter}}
 use Rattle.std.{proofs.lemmas.List.Elements.{All-head, All-nil, All-cons}, proofs.lemmas.Map.Keys.IsDistinct-cons}
 use Rattle.ct_word.{specs.declared.values.Value.Value, specs.declared.values.Term.Term, specs.declared.values.CRow.CRow, specs.Value.{World, same_cells}}
 use Rattle.ct_word.{specs.Condition.holds_at, specs.Stands.{HasNoColumn, TermBelow}, specs.Sublist.IsSublist, specs.WellFormed.{IsWellFormed, is_place_of}}
 use Rattle.ct_word.proofs.Prefixes.{condition_in_prefix, place_in_prefix, place_within}
 use Rattle.ct_query.specs.Database.{has_tuple, SameSet}
 use Rattle.ct_arena.specs.Counts.{opening}
-use Rattle.ct_condition.{specs.Writes.{charge, Writes}, proofs.Denied.below_literal, proofs.Reached.terms_before}
+use Rattle.ct_condition.{proofs.Denied.below_literal, proofs.Reached.terms_before}
 use Rattle.ct_operators.{specs.declared.error.TableError.TableError, specs.Tables.{IsRow, AreRows, value_of_rows, cells_of}, proofs.Firsts.none_distinct}
 use Rattle.ct_operators.{proofs.Growing.{value_grows, rows_grow}, proofs.Holding.holds_false}
 use Rattle.ct_certain.{specs.Certain.is_missing, specs.Missing.{AreOfTuple, IsAskedOf, IsRootOf, condition_of}, proofs.Missing.{left_truth, tuple_worth}}
@@ -19,7 +19,7 @@ use Rattle.ct_operators.specs.Refusals as refusals
 use Rattle.ct_certain.specs.Faults as faults
 
 -- where a tuple is missing over longer words, it is over those before
-missing_before : (words old : List ℕ) (global width : ℕ) (rs : List CRow) (tuple : List Value) → IsAskedOf words old global width rs tuple → (v : World) → is_missing old global rs tuple v ≡ is_missing words global rs tuple v
+pub missing_before : (words old : List ℕ) (global width : ℕ) (rs : List CRow) (tuple : List Value) → IsAskedOf words old global width rs tuple → (v : World) → is_missing old global rs tuple v ≡ is_missing words global rs tuple v
 missing_before words old global width rs tuple asked v i =
     holds_at v (condition_in_prefix words old global asked.grown (place_within words class.Cond global asked.global_is) i) && not (has_tuple (value_grows words old asked.grown v width rs asked.rows.each i) tuple)
 
@@ -56,7 +56,7 @@ module _ (words mid new : List ℕ) (global width : ℕ) (rs : List CRow) (tuple
   global_terms t h = terms_before words mid asked.grown formed global t global_there h
 
   -- the tuple as a row under the global condition
-  alone_rows : AreRows mid width (one ps global ∷ [])
+  pub alone_rows : AreRows mid width (one ps global ∷ [])
   alone_rows = record {
     each = All-cons (IsRow mid width) (one ps global) []
         (record {
@@ -69,9 +69,6 @@ module _ (words mid new : List ℕ) (global width : ℕ) (rs : List CRow) (tuple
     distinct = IsDistinct-cons same_cells _ [] tt (none_distinct same_cells);
     possible = All-cons (λ r. r.cond ≢ 1) (one ps global) [] asked.not_false (All-nil _);
   }
-
-  pub alone_by : (alone : List CRow) (n : ℕ) → alone ≡ one ps global ∷ [] → n ≡ width → AreRows mid n alone
-  alone_by alone n is wide = subst (λ m. AreRows mid m alone) (sym wide) (subst (λ l. AreRows mid width l) (sym is) alone_rows)
 
   pub table_rows : AreRows mid width rs
   table_rows = rows_grow words mid asked.grown asked.formed width rs asked.rows
@@ -92,15 +89,6 @@ module _ (words mid new : List ℕ) (global width : ℕ) (rs : List CRow) (tuple
     its_plain : (out : List CRow) → All (IsRow new width) out → HasNoColumn new (condition_of out)
     its_plain [] each = λ k h. absurd (below_literal new formed_new begins 1 (inr refl) (term.Column k) h)
     its_plain (r ∷ out) each = All-head (HasNoColumn new) r.cond r.cells (All-head (IsRow new width) r out each).plain
-
-  -- the same, with the one row as a list that is equal to it
-  pub root_by : (alone out : List CRow) (n : ℕ) → alone ≡ one ps global ∷ [] → n ≡ width → IsWellFormed new → IsPrefix opening new → AreRows new n out → IsSublist (cells_of new out) (cells_of mid alone)
-      → ((v : World) → SameSet (value_of_rows new v out) (filter (λ t. not (has_tuple (value_of_rows mid v rs) t)) (value_of_rows mid v alone)))
-      → IsRootOf words new global rs tuple (condition_of out)
-  root_by alone out n is wide formed_new begins rows part same = root_of out formed_new begins
-      (subst (λ m. AreRows new m out) wide rows)
-      (subst (λ l. IsSublist (cells_of new out) (cells_of mid l)) is part)
-      (λ v. subst (λ l. SameSet (value_of_rows new v out) (filter (λ t. not (has_tuple (value_of_rows mid v rs) t)) (value_of_rows mid v l))) is (same v))
 
 -- over words before
 pub root_from : (words old new : List ℕ) (global width : ℕ) (rs : List CRow) (tuple : List Value) (root : ℕ) → IsAskedOf words old global width rs tuple → IsRootOf old new global rs tuple root → IsRootOf words new global rs tuple root

@@ -49,6 +49,10 @@ pub record IsAskedOf (words now : List ℕ) (global width : ℕ) (rs : List CRow
   pub width_is : length tuple ≡ width
   pub values : All (IsAtHand words) tuple
 
+-- rows are worth a tuple at every valuation
+abbrev pub IsSure : List ℕ → List CRow → List Value → Type 0
+IsSure words rs tuple = (v : World) → IsTrue (has_tuple (value_of_rows words v rs) tuple)
+
 -- a place of the words now holds exactly where the tuple is missing by the words before
 abbrev pub IsRootOf : List ℕ → List ℕ → ℕ → List CRow → List Value → ℕ → Type 0
 IsRootOf words now global rs tuple root = Asks now root (is_missing words global rs tuple)

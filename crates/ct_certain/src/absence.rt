@@ -1,11 +1,11 @@
 // The question whether a tuple is missing from a table.
 
-ghost use Rattle.std.specs.Prelude.{◌≡◌, ◌*◌, ◌+◌, [], ◌∷◌, false, length, All, IfOk};
+ghost use Rattle.std.specs.Prelude.{◌≡◌, ◌*◌, ◌+◌, [], ◌∷◌, length, All, IfOk};
 ghost use Rattle.ct_condition.specs.Writes.{Writes};
 ghost use Rattle.ct_operators.specs.Refusals.{is_full as has_no_room};
-ghost use Rattle.ct_certain.specs.Answered.{IsNear, IsSettled};
+ghost use Rattle.ct_certain.specs.Answered.{IsNear, IsRefutation, IsSettled};
 ghost use Rattle.ct_certain.specs.Faults.{is_full};
-ghost use Rattle.ct_certain.specs.Missing.{AreOfTuple, IsAtHand, IsAskedOf, IsOfValue, IsRefuted, IsRootOf, condition_of};
+ghost use Rattle.ct_certain.specs.Missing.{AreOfTuple, IsAtHand, IsAskedOf, IsOfValue, IsRootOf, IsSure, condition_of};
 
 use crate::derivations::{Listed, known};
 use crate::error::CertainError;
@@ -13,8 +13,9 @@ use crate::settling::{Near, settle_near};
 use ct_arena::{Arena, Site};
 use ct_condition::{Interner, term};
 use ct_decide::Decision;
-use ct_operators::{CTable, TableError, except};
+use ct_operators::{CTable, RowSource, TableError, except};
 use ct_word::{CRow, FALSE_PLACE, List, Term, Text, Value};
+use indexmap::IndexSet;
 use std::alloc::Global;
 
 /// The place of a value. A word is made for `@k` at most, and none for a constant of the words.
@@ -59,24 +60,27 @@ fn places<N: Site, I: Interner<N>>(
     Ok(List::from_vec(places))
 }
 
-/// A table of one row.
-fn of_one_row(
-    alloc: Global,
-    columns: &List<Text>,
-    cells: List<u32>,
-    cond: u32,
-) -> Result<CTable, TableError>
-    ensures columns { IfOk result (λ t. t.columns ≡ columns.now) }
-    ensures rows { IfOk result (λ t. t.rows ≡ (record { cells = cells; cond = cond }) ∷ []) }
-    ensures room { has_no_room result ≡ false }
-{
-    let mut rows = Vec::new(alloc);
-    rows.push(CRow { cells, cond })?;
-    let columns = columns.clone()?;
-    Ok(CTable {
-        columns,
-        rows: List::from_vec(rows),
-    })
+/// One row, under the names of a table's columns.
+#[derive(Drop)]
+struct Alone<'a> {
+    columns: &'a List<Text>,
+    row: CRow,
+}
+
+impl RowSource for Alone<'_> {
+    ghost table = { λ a. record { columns = a.columns.now; rows = a.row ∷ [] } };
+
+    fn columns(&self) -> &List<Text> {
+        self.columns
+    }
+
+    fn len(&self) -> usize {
+        1
+    }
+
+    fn row(&self, _: usize) -> &CRow {
+        &self.row
+    }
 }
 
 /// The condition of the first row; that of the word false where there is none.
@@ -90,12 +94,8 @@ fn first_condition(rows: &[CRow]) -> u32
 }
 
 /// The place of the condition that the global condition holds and a table is not worth a tuple: what `except` leaves of
-/// the tuple as a row under the global condition. At most `r (2k + 2) + k + 1` words are made, where the table has r rows and k
-/// columns.
-///
-/// # Errors
-/// `Full` only where the log has as many words as its capacity, `Memory` where there is none for the rows.
-pub fn missing_root<N: Site, I: Interner<N>>(
+/// the tuple as a row under the global condition.
+fn compared_root<N: Site, I: Interner<N>>(
     alloc: Global,
     arena: &Arena<N>,
     pass: &mut I,
@@ -109,7 +109,13 @@ pub fn missing_root<N: Site, I: Interner<N>>(
 {
     let cells = places(alloc, arena, pass, tuple)?;
     let _ = pass.words();
-    let alone = of_one_row(alloc, &table.columns, cells, global)?;
+    let alone = Alone {
+        columns: &table.columns,
+        row: CRow {
+            cells,
+            cond: global,
+        },
+    };
     let rest = except(alloc, arena, pass, &alone, table);
     drop(alone);
     let _ = pass.words();
@@ -119,34 +125,60 @@ pub fn missing_root<N: Site, I: Interner<N>>(
     }
 }
 
+/// The place of the condition that the global condition holds and a table is not worth a tuple. For one that it has at every
+/// valuation, as is known of the `sure` ones, that is the word false, and the table is not gone over. Each other is compared with
+/// all rows, and at most `r (2k + 2) + k + 1` words are made, where the table has r rows and k columns.
+///
+/// # Errors
+/// `Full` only where the log has as many words as its capacity, `Memory` where there is none for the rows.
+pub fn missing_root<N: Site, I: Interner<N>>(
+    alloc: Global,
+    arena: &Arena<N>,
+    pass: &mut I,
+    table: &CTable,
+    global: u32,
+    sure: &IndexSet<List<Value>>,
+    tuple: &List<Value>,
+) -> Result<u32, TableError>
+    requires asked { IsAskedOf (I.list pass.old) (I.list pass.old) global (length table.now.columns) table.now.rows tuple.now }
+    requires sure { All (IsSure (I.list pass.old) table.now.rows) sure.now.keys }
+    ensures root { IfOk result (λ p. IsRootOf (I.list pass.old) (I.list pass.new) global table.now.rows tuple.now p) }
+    ensures writes { Writes I.list I.made I.kept I.lent N.log.cap pass.old pass.new (length table.now.rows * (2 * length table.now.columns + 2) + length table.now.columns + 1) (has_no_room result) }
+{
+    let _ = pass.words();
+    if sure.contains(tuple) {
+        return Ok(FALSE_PLACE);
+    }
+    compared_root(alloc, arena, pass, table, global, tuple.as_slice())
+}
+
 /// A question about a tuple: its root, and a world in which the tuple is missing or a derivation that there is none. A
 /// root that stands in the list already is not asked again; the kept world is changed where that is enough.
 pub fn ask_tuple<N: Site, I: Interner<N>>(
     alloc: Global,
     arena: &Arena<N>,
     pass: &mut I,
-    words: &[u64],
     table: &CTable,
     global: u32,
     near: &Near<'_>,
+    sure: &IndexSet<List<Value>>,
     list: &Listed,
-    tuple: &[Value],
+    tuple: &List<Value>,
 ) -> Result<(u32, Decision), CertainError>
-    requires asked { IsAskedOf words.now (I.list pass.old) global (length table.now.columns) table.now.rows tuple.now }
-    requires near { IsNear words.now global near.now }
-    requires listed { All (IsRefuted words.now (I.list pass.old) global table.now.rows) list.now.rows.items }
-    ensures root { IfOk result (λ a. IsRootOf words.now (I.list pass.new) global table.now.rows tuple.now a.0) }
+    requires asked { IsAskedOf (I.list pass.old) (I.list pass.old) global (length table.now.columns) table.now.rows tuple.now }
+    requires near { IsNear (I.list pass.old) global near.now }
+    requires sure { All (IsSure (I.list pass.old) table.now.rows) sure.now.keys }
+    requires listed { All (λ r. IsRefutation (I.list pass.old) r.proof.root r.proof.derivation) list.now.rows.items }
+    ensures root { IfOk result (λ a. IsRootOf (I.list pass.old) (I.list pass.new) global table.now.rows tuple.now a.0) }
     ensures settled { IfOk result (λ a. IsSettled (I.list pass.new) a.0 a.1) }
     ensures writes { Writes I.list I.made I.kept I.lent N.log.cap pass.old pass.new (length table.now.rows * (2 * length table.now.columns + 2) + length table.now.columns + 1) (is_full result) }
 {
-    let _ = words;
-    let _ = pass.words();
-    let place = missing_root(alloc, arena, pass, table, global, tuple)?;
-    let now = pass.words();
-    let before = known(alloc, now, list, place)?;
+    let place = missing_root(alloc, arena, pass, table, global, sure, tuple)?;
+    let words = pass.words();
+    let before = known(alloc, words, list, place)?;
     if let Some(derivation) = before {
         return Ok((place, Decision::Refuted(derivation)));
     }
-    let decision = settle_near(alloc, now, place, global, near)?;
+    let decision = settle_near(alloc, words, place, global, near)?;
     Ok((place, decision))
 }

@@ -6,11 +6,11 @@ ghost use Rattle.ct_word.specs.declared.kinds.Class.TheVariants as class;
 ghost use Rattle.ct_word.specs.Stands.{HasNoColumn};
 ghost use Rattle.ct_word.specs.WellFormed.{IsWellFormed, is_place_of};
 ghost use Rattle.ct_condition.specs.Writes.{Writes};
-ghost use Rattle.ct_operators.specs.Tables.{AreRows, IsRow};
-ghost use Rattle.ct_certain.specs.Answered.{IsNear};
+ghost use Rattle.ct_operators.specs.Tables.{AreRows};
+ghost use Rattle.ct_certain.specs.Answered.{IsNear, IsRefutation};
 ghost use Rattle.ct_certain.specs.Certain.{IsCutProof, IsKeptWorld, ListsCertain};
 ghost use Rattle.ct_certain.specs.Faults.{is_full};
-ghost use Rattle.ct_certain.specs.Missing.{AreListed, IsAskedOf, IsRefuted, IsSeen, Takes};
+ghost use Rattle.ct_certain.specs.Missing.{AreListed, IsAskedOf, IsSeen, IsSure, Takes};
 ghost use Rattle.ct_certain.specs.declared.error.CertainError.TheVariants as fault;
 
 use crate::absence::ask_tuple;
@@ -18,6 +18,7 @@ use crate::derivations::Listed;
 use crate::error::CertainError;
 use crate::settling::Near;
 use crate::striking::{Seen, is_everywhere, see, see_first};
+use crate::sure::sure_tuples;
 use crate::tuples::kept_tuples;
 use ct_arena::{Arena, Pass, Site};
 use ct_condition::Interner;
@@ -27,7 +28,7 @@ use ct_near::conjuncts;
 use ct_operators::CTable;
 use ct_rewrite::CertainRow;
 use ct_word::{List, Memory, Value, World};
-use indexmap::IndexMap;
+use indexmap::{IndexMap, IndexSet};
 use std::alloc::Global;
 
 /// Puts a tuple with its proof last in a list.
@@ -55,43 +56,32 @@ fn try_tuple<N: Site, I: Interner<N>>(
     alloc: Global,
     arena: &Arena<N>,
     pass: &mut I,
-    words: &[u64],
     table: &CTable,
     global: u32,
     near: &Near<'_>,
+    sure: &IndexSet<List<Value>>,
     pool: &mut Vec<Seen>,
     list: &mut Listed,
     tuple: &List<Value>,
 ) -> Result<(), CertainError>
-    requires asked { IsAskedOf words.now (I.list pass.old) global (length table.now.columns) table.now.rows tuple.now }
-    requires near { IsNear words.now global near.now }
-    requires small { length words.now < 2 ^ 28 }
-    requires rows { All (λ r. IsRow words.now (length r.cells) r) table.now.rows }
-    requires pool { All (IsSeen words.now global table.now.rows) pool.old.items }
-    requires listed { All (IsRefuted words.now (I.list pass.old) global table.now.rows) list.old.rows.items }
-    ensures pool { OnOk result (All (IsSeen words.now global table.now.rows) pool.new.items) }
-    ensures takes { OnOk result (Takes words.now (I.list pass.new) global table.now.rows tuple.now list.old.rows.items list.new.rows.items) }
+    requires asked { IsAskedOf (I.list pass.old) (I.list pass.old) global (length table.now.columns) table.now.rows tuple.now }
+    requires near { IsNear (I.list pass.old) global near.now }
+    requires sure { All (IsSure (I.list pass.old) table.now.rows) sure.now.keys }
+    requires pool { All (IsSeen (I.list pass.old) global table.now.rows) pool.old.items }
+    requires listed { All (λ r. IsRefutation (I.list pass.old) r.proof.root r.proof.derivation) list.old.rows.items }
+    ensures pool { OnOk result (All (IsSeen (I.list pass.new) global table.now.rows) pool.new.items) }
+    ensures takes { OnOk result (Takes (I.list pass.old) (I.list pass.new) global table.now.rows tuple.now list.old.rows.items list.new.rows.items) }
     ensures writes { Writes I.list I.made I.kept I.lent N.log.cap pass.old pass.new (length table.now.rows * (2 * length table.now.columns + 2) + length table.now.columns + 1) (is_full result) }
 {
     let _ = pass.words();
-    let rows = table.rows.as_slice();
     if !is_everywhere(pool.as_slice(), tuple) {
         return Ok(());
     }
-    let (root, decision) = ask_tuple(
-        alloc,
-        arena,
-        pass,
-        words,
-        table,
-        global,
-        near,
-        list,
-        tuple.as_slice(),
-    )?;
+    let (root, decision) = ask_tuple(alloc, arena, pass, table, global, near, sure, list, tuple)?;
     match decision {
         Decision::World(world) => {
-            see(alloc, words, global, rows, &world, pool)?;
+            let words = pass.words();
+            see(alloc, words, global, table.rows.as_slice(), &world, pool)?;
             Ok(())
         }
         Decision::Refuted(derivation) => {
@@ -101,26 +91,24 @@ fn try_tuple<N: Site, I: Interner<N>>(
     }
 }
 
-/// The certain tuples among candidates over the words that the pass had before, in the order of these.
+/// The certain tuples among candidates, in the order of these.
 fn each_certain<N: Site, I: Interner<N>>(
     alloc: Global,
     arena: &Arena<N>,
     pass: &mut I,
-    words: &[u64],
     table: &CTable,
     global: u32,
     near: &Near<'_>,
+    sure: &IndexSet<List<Value>>,
     pool: &mut Vec<Seen>,
     candidates: &[List<Value>],
 ) -> Result<List<CertainRow>, CertainError>
-    requires same { words.now ≡ I.list pass.old }
-    requires near { IsNear words.now global near.now }
-    requires small { length words.now < 2 ^ 28 }
-    requires rows { All (λ r. IsRow words.now (length r.cells) r) table.now.rows }
-    requires pool { All (IsSeen words.now global table.now.rows) pool.old.items }
+    requires near { IsNear (I.list pass.old) global near.now }
+    requires sure { All (IsSure (I.list pass.old) table.now.rows) sure.now.keys }
+    requires pool { All (IsSeen (I.list pass.old) global table.now.rows) pool.old.items }
     requires few { length candidates.now ≤ length table.now.rows }
-    requires asked { All (IsAskedOf words.now words.now global (length table.now.columns) table.now.rows) candidates.now }
-    ensures lists { IfOk result (λ list. AreListed words.now (I.list pass.new) global table.now.rows candidates.now list) }
+    requires asked { All (IsAskedOf (I.list pass.old) (I.list pass.old) global (length table.now.columns) table.now.rows) candidates.now }
+    ensures lists { IfOk result (λ list. AreListed (I.list pass.old) (I.list pass.new) global table.now.rows candidates.now list) }
     ensures writes { Writes I.list I.made I.kept I.lent N.log.cap pass.old pass.new (length table.now.rows * (length table.now.rows * (2 * length table.now.columns + 2) + length table.now.columns + 1)) (is_full result) }
 {
     let _ = pass.words();
@@ -130,7 +118,7 @@ fn each_certain<N: Site, I: Interner<N>>(
     };
     for tuple in candidates {
         try_tuple(
-            alloc, arena, pass, words, table, global, near, pool, &mut list, tuple,
+            alloc, arena, pass, table, global, near, sure, pool, &mut list, tuple,
         )?;
     }
     Ok(List::from_vec(list.rows))
@@ -166,12 +154,12 @@ pub fn certain<N: Site>(
     ensures session { pass.new.session ≡ pass.old.session }
     ensures mine { pass.new.mine ≡ pass.old.mine }
 {
-    let words = pass.words().to_vec(alloc)?;
-    let before = words.as_slice();
+    let words = pass.words();
     let rows = table.rows.as_slice();
-    let candidates = kept_tuples(alloc, before, rows, kept)?;
-    let mut pool = see_first(alloc, before, global, rows, kept)?;
-    let conjuncts = conjuncts(alloc, before, global)?;
+    let candidates = kept_tuples(alloc, words, rows, kept)?;
+    let sure = sure_tuples(alloc, words, rows)?;
+    let mut pool = see_first(alloc, words, global, rows, kept)?;
+    let conjuncts = conjuncts(alloc, words, global)?;
     let near = Near {
         conjuncts: &conjuncts,
         world: kept,
@@ -180,10 +168,10 @@ pub fn certain<N: Site>(
         alloc,
         arena,
         pass,
-        before,
         table,
         global,
         &near,
+        &sure,
         &mut pool,
         candidates.as_slice(),
     )

@@ -15,6 +15,7 @@ mod possibility;
 mod settling;
 mod showing;
 mod striking;
+mod sure;
 mod theorems;
 mod tuples;
 
@@ -26,5 +27,6 @@ pub use error::CertainError;
 pub use possibility::possible;
 pub use showing::list_row;
 pub use striking::{Seen, is_everywhere, see_first};
+pub use sure::sure_tuples;
 pub use theorems::{certain_lists_agree, possible_lists_agree};
 pub use tuples::kept_tuples;

@@ -107,12 +107,9 @@ pub fn start(alloc: Global, words: &[u64], global: u32) -> Result<Pool, Memory>
 }
 
 /// Whether it is known that no world shows a row.
-pub fn is_never(words: &[u64], global: u32, never: &IndexSet<u32>, row: &CRow) -> bool
-    requires { All (IsNever words.now global) never.now.keys }
-    ensures { IsTrue result → IsAnswer words.now global row.now None }
+pub fn is_never(never: &IndexSet<u32>, row: &CRow) -> bool
+    ensures { (words : List ℕ) (global : ℕ) → All (IsNever words global) never.now.keys → IsTrue result → IsAnswer words global row.now None }
 {
-    let _ = words;
-    let _ = global;
     never.contains(&row.cond)
 }
 

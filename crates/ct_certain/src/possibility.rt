@@ -1,6 +1,6 @@
 // The possible rows of a table.
 
-ghost use Rattle.std.specs.Prelude.{◌≡◌, ◌≤◌, ◌<◌, ◌+◌, ◌^◌, length, All, IfOk, IsErrOf, IsTrue};
+ghost use Rattle.std.specs.Prelude.{◌≡◌, ◌≤◌, ◌<◌, ◌+◌, length, All, IfOk, IsErrOf, IsTrue};
 ghost use mathlib.Core.List.{IsPrefix};
 ghost use Rattle.ct_word.specs.declared.kinds.Class.TheVariants as class;
 ghost use Rattle.ct_word.specs.Stands.{HasNoColumn};
@@ -23,31 +23,26 @@ use ct_rewrite::PossibleRow;
 use ct_word::{CRow, List};
 use std::alloc::Global;
 
-/// The possible rows among these, which are of the words that the pass had before.
+/// The possible rows among these.
 fn each_possible<N: Site, I: Interner<N>>(
     alloc: Global,
     arena: &Arena<N>,
     pass: &mut I,
-    words: &[u64],
     global: u32,
     rows: &[CRow],
     pool: &mut Pool,
 ) -> Result<List<PossibleRow>, CertainError>
-    requires formed { IsWellFormed words.now }
-    requires small { length words.now < 2 ^ 28 }
-    requires same { words.now ≡ I.list pass.old }
-    requires global { IsTrue (is_place_of words.now class.Cond global) }
-    requires rows { All (AreOf words.now global) rows.now }
-    requires pool { IsPool words.now global pool.old }
-    ensures lists { IfOk result (λ list. ListsPossible words.now global rows.now list) }
-    ensures own { IfOk result (λ list. All (IsOwn words.now global rows.now) list) }
+    requires rows { All (AreOf (I.list pass.old) global) rows.now }
+    requires pool { IsPool (I.list pass.old) global pool.old }
+    ensures lists { IfOk result (λ list. ListsPossible (I.list pass.old) global rows.now list) }
+    ensures own { IfOk result (λ list. All (IsOwn (I.list pass.old) global rows.now) list) }
     ensures writes { Writes I.list I.made I.kept I.lent N.log.cap pass.old pass.new (length rows.now) (is_full result) }
 {
-    let _ = pass.words();
+    let count = pass.words().len();
     let mut list = Vec::new(alloc);
     for row in rows {
-        let found = show(alloc, arena, pass, words, global, rows, pool, row)?;
-        list_row(alloc, words, &mut list, row, found)?;
+        let found = show(alloc, arena, pass, count, global, rows, pool, row)?;
+        list_row(alloc, pass.words(), &mut list, row, found)?;
     }
     Ok(List::from_vec(list))
 }
@@ -80,9 +75,6 @@ pub fn possible<N: Site>(
     ensures session { pass.new.session ≡ pass.old.session }
     ensures mine { pass.new.mine ≡ pass.old.mine }
 {
-    let words = pass.words().to_vec(alloc)?;
-    let before = words.as_slice();
-    let rows = table.rows.as_slice();
-    let mut pool = start(alloc, before, global)?;
-    each_possible(alloc, arena, pass, before, global, rows, &mut pool)
+    let mut pool = start(alloc, pass.words(), global)?;
+    each_possible(alloc, arena, pass, global, table.rows.as_slice(), &mut pool)
 }

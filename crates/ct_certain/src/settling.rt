@@ -1,7 +1,6 @@
 // Questions, and their answers.
 
 ghost use Rattle.std.specs.Prelude.{◌≡◌, ◌<◌, ◌^◌, true, false, length, IfOk, IfSome, IsTrue};
-ghost use mathlib.Core.List.{IsPrefix};
 ghost use Rattle.ct_word.specs.declared.kinds.Class.TheVariants as class;
 ghost use Rattle.ct_word.specs.Condition.{holds_at};
 ghost use Rattle.ct_word.specs.Reading.{condition_at};
@@ -193,18 +192,15 @@ fn ask<N: Site, I: Interner<N>>(
     alloc: Global,
     arena: &Arena<N>,
     pass: &mut I,
-    words: &[u64],
     global: u32,
     row: &CRow,
     near: Option<&Near<'_>>,
 ) -> Result<Option<World>, CertainError>
-    requires longer { IsPrefix words.now (I.list pass.old) }
-    requires asked { AreOf words.now global row.now }
-    requires near { IfSome near (λ n. IsNearOwn words.now global n.now) }
-    ensures answer { IfOk result (λ o. IsAnswer words.now global row.now o) }
+    requires asked { AreOf (I.list pass.old) global row.now }
+    requires near { IfSome near (λ n. IsNearOwn (I.list pass.old) global n.now) }
+    ensures answer { IfOk result (λ o. IsAnswer (I.list pass.old) global row.now o) }
     ensures writes { Writes I.list I.made I.kept I.lent N.log.cap pass.old pass.new 1 (is_full result) }
 {
-    let _ = words;
     let _ = pass.words();
     let root = and(arena, pass, global, row.cond)?;
     let now = pass.words();
@@ -224,22 +220,17 @@ pub fn reach<N: Site, I: Interner<N>>(
     alloc: Global,
     arena: &Arena<N>,
     pass: &mut I,
-    words: &[u64],
     global: u32,
     row: &CRow,
     near: Option<&Near<'_>>,
 ) -> Result<Option<World>, CertainError>
-    requires formed { IsWellFormed words.now }
-    requires few { length words.now < 2 ^ 28 }
-    requires longer { IsPrefix words.now (I.list pass.old) }
-    requires asked { AreOf words.now global row.now }
-    requires near { IfSome near (λ n. IsNearOwn words.now global n.now) }
-    ensures answer { IfOk result (λ o. IsAnswer words.now global row.now o) }
+    requires asked { AreOf (I.list pass.old) global row.now }
+    requires near { IfSome near (λ n. IsNearOwn (I.list pass.old) global n.now) }
+    ensures answer { IfOk result (λ o. IsAnswer (I.list pass.old) global row.now o) }
     ensures writes { Writes I.list I.made I.kept I.lent N.log.cap pass.old pass.new 1 (is_full result) }
 {
-    let _ = pass.words();
-    if let Some(world) = change(alloc, words, global, row, near)? {
+    if let Some(world) = change(alloc, pass.words(), global, row, near)? {
         return Ok(Some(world));
     }
-    ask(alloc, arena, pass, words, global, row, near)
+    ask(alloc, arena, pass, global, row, near)
 }

@@ -1,7 +1,6 @@
 // One row of the possible ones.
 
-ghost use Rattle.std.specs.Prelude.{◌≡◌, ◌<◌, ◌^◌, ◌++◌, length, map, All, IfOk, IsTrue, OnOk};
-ghost use mathlib.Core.List.{IsPrefix};
+ghost use Rattle.std.specs.Prelude.{◌≡◌, ◌≤◌, ◌++◌, length, map, take, All, IfOk, IsTrue, OnOk};
 ghost use Rattle.ct_word.specs.declared.kinds.Class.TheVariants as class;
 ghost use Rattle.ct_word.specs.Reading.{term_at};
 ghost use Rattle.ct_word.specs.WellFormed.{IsWellFormed, is_place_of};
@@ -20,30 +19,36 @@ use ct_rewrite::PossibleRow;
 use ct_word::{CRow, List, Memory, Term, World, term_at};
 use std::alloc::Global;
 
+/// The words that a pass had when it had so many. They stand first, since words only grow.
+fn first_words<N: Site, I: Interner<N>>(pass: &I, count: usize) -> &[u64]
+    requires { count ≤ length (I.list pass.now) }
+    ensures { result.now ≡ take count (I.list pass.now) }
+{
+    &pass.words()[..count]
+}
+
 /// A world that shows a row, if there is one, near the one near which others are made, which is looked for first. One word is
-/// made for it at most.
+/// made for it at most. The row, and what the pool knows, are of the words that the pass had when it had so many.
 fn look_for<N: Site, I: Interner<N>>(
     alloc: Global,
     arena: &Arena<N>,
     pass: &mut I,
-    words: &[u64],
+    count: usize,
     global: u32,
     pool: &mut Pool,
     row: &CRow,
 ) -> Result<Option<World>, CertainError>
-    requires formed { IsWellFormed words.now }
-    requires small { length words.now < 2 ^ 28 }
-    requires longer { IsPrefix words.now (I.list pass.old) }
-    requires asked { AreOf words.now global row.now }
-    requires pool { IsPool words.now global pool.old }
-    ensures answer { IfOk result (λ o. IsAnswer words.now global row.now o) }
-    ensures pool { OnOk result (IsPool words.now global pool.new) }
+    requires count { count ≤ length (I.list pass.old) }
+    requires asked { AreOf (take count (I.list pass.old)) global row.now }
+    requires pool { IsPool (take count (I.list pass.old)) global pool.old }
+    ensures answer { IfOk result (λ o. IsAnswer (take count (I.list pass.old)) global row.now o) }
+    ensures pool { OnOk result (IsPool (take count (I.list pass.old)) global pool.new) }
     ensures writes { Writes I.list I.made I.kept I.lent N.log.cap pass.old pass.new 1 (is_full result) }
 {
     let _ = pass.words();
-    approach(alloc, words, global, pool)?;
+    approach(alloc, first_words::<N, I>(pass, count), global, pool)?;
     let near = near_of(pool);
-    reach(alloc, arena, pass, words, global, row, near.as_ref())
+    reach(alloc, arena, pass, global, row, near.as_ref())
 }
 
 /// What a row needs of a world that shows it, if there is one: a known one, or one that is looked for, and known from then on.
@@ -51,34 +56,34 @@ pub fn show<N: Site, I: Interner<N>>(
     alloc: Global,
     arena: &Arena<N>,
     pass: &mut I,
-    words: &[u64],
+    count: usize,
     global: u32,
     rows: &[CRow],
     pool: &mut Pool,
     row: &CRow,
 ) -> Result<Option<World>, CertainError>
-    requires formed { IsWellFormed words.now }
-    requires small { length words.now < 2 ^ 28 }
-    requires longer { IsPrefix words.now (I.list pass.old) }
-    requires asked { AreOf words.now global row.now }
-    requires pool { IsPool words.now global pool.old }
-    ensures answer { IfOk result (λ o. IsOwnAnswer words.now global row.now o) }
-    ensures pool { OnOk result (IsPool words.now global pool.new) }
+    requires count { count ≤ length (I.list pass.old) }
+    requires asked { AreOf (take count (I.list pass.old)) global row.now }
+    requires pool { IsPool (take count (I.list pass.old)) global pool.old }
+    ensures answer { IfOk result (λ o. IsOwnAnswer (take count (I.list pass.old)) global row.now o) }
+    ensures pool { OnOk result (IsPool (take count (I.list pass.old)) global pool.new) }
     ensures writes { Writes I.list I.made I.kept I.lent N.log.cap pass.old pass.new 1 (is_full result) }
 {
     let _ = pass.words();
-    if is_never(words, global, &pool.never, row) {
+    if is_never(&pool.never, row) {
         return Ok(None);
     }
+    let words = first_words::<N, I>(pass, count);
     if let Some(part) = find(alloc, words, global, rows, pool, row)? {
         return Ok(Some(part));
     }
-    match look_for(alloc, arena, pass, words, global, pool, row)? {
+    match look_for(alloc, arena, pass, count, global, pool, row)? {
         None => {
             pool.never.insert(row.cond)?;
             Ok(None)
         }
         Some(world) => {
+            let words = first_words::<N, I>(pass, count);
             learn(alloc, words, global, pool, row.cond, &world)?;
             Ok(Some(world))
         }

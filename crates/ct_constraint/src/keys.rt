@@ -1,8 +1,6 @@
 // Whether columns are a key.
 
-ghost use Rattle.std.specs.Prelude.{◌≡◌, ◌≤◌, ◌<◌, ◌+◌, ◌*◌, ◌∷◌, ◌⊎◌, [], length, All, IfOk, OnErr, is_err};
-ghost use mathlib.Core.List.{IsPrefix};
-ghost use Rattle.ct_word.specs.WellFormed.{IsWellFormed};
+ghost use Rattle.std.specs.Prelude.{◌<◌, ◌+◌, ◌*◌, ◌∷◌, ◌⊎◌, [], length, All, IfOk, is_err};
 ghost use Rattle.ct_condition.specs.Terms.{TermsFrom};
 ghost use Rattle.ct_condition.specs.Writes.{Writes};
 ghost use Rattle.ct_operators.specs.Building.{HoldsWhere};
@@ -11,7 +9,7 @@ ghost use Rattle.ct_operators.specs.Terms.{TermOfRow, TermOfRows};
 ghost use Rattle.ct_query.specs.Assertions.{is_key, keep_apart};
 
 use crate::comparing::apart;
-use ct_arena::{Arena, Full, Pass, Site};
+use ct_arena::{Arena, Full, Site};
 use ct_condition::{Interner, and};
 use ct_operators::CTable;
 use ct_word::{CRow, FALSE_PLACE, TRUE_PLACE};
@@ -44,9 +42,13 @@ fn beside<N: Site, I: Interner<N>>(
     Ok(all)
 }
 
-/// The place of the condition that no two rows of a table are worth different tuples that agree at these columns. Each
-/// row is compared with those before it.
-fn all_apart<N: Site, I: Interner<N>>(
+/// The place of the condition that columns are a key of a table: at every valuation it holds exactly where no two
+/// different tuples of what the table is worth there agree at these columns. Each row is compared with those before it. At
+/// most n times n times (2c + 3) words are made on n rows of c columns.
+///
+/// # Errors
+/// `Full` where the log has no room for a word.
+pub fn key<N: Site, I: Interner<N>>(
     arena: &Arena<N>,
     pass: &mut I,
     table: &CTable,
@@ -69,32 +71,4 @@ fn all_apart<N: Site, I: Interner<N>>(
         all = and(arena, pass, all, one)?;
     }
     Ok(all)
-}
-
-/// The place of the condition that columns are a key of a table: at every valuation it holds exactly where no two
-/// different tuples of what the table is worth there agree at these columns. At most n times n times (2c + 3) words are
-/// made on n rows of c columns.
-///
-/// # Errors
-/// `Full` where the log has no room for a word.
-pub fn key<N: Site>(
-    arena: &Arena<N>,
-    pass: &mut Pass<N>,
-    table: &CTable,
-    columns: &[u32],
-) -> Result<u32, Full>
-    requires rows { AreRows pass.old.words (length table.now.columns) table.now.rows }
-    requires columns { All (λ k. k < length table.now.columns) columns.now }
-    ensures holds { IfOk result (λ place. HoldsWhere pass.new.words place (λ v. is_key columns.now (value_of_rows pass.old.words v table.now.rows))) }
-    ensures terms { IfOk result (λ place. TermsFrom pass.new.words place (TermOfRows pass.old.words table.now.rows)) }
-    ensures longer { IsPrefix pass.old.words pass.new.words }
-    ensures formed { IsWellFormed pass.new.words }
-    ensures room { length pass.new.words ≤ N.log.cap }
-    ensures full { OnErr result (length pass.new.words ≡ N.log.cap) }
-    ensures made { pass.new.made ≤ pass.old.made + length table.now.rows * length table.now.rows * (2 * length table.now.columns + 3) }
-    ensures fewer { OnErr result (pass.new.made < pass.old.made + length table.now.rows * length table.now.rows * (2 * length table.now.columns + 3)) }
-    ensures session { pass.new.session ≡ pass.old.session }
-    ensures mine { pass.new.mine ≡ pass.old.mine }
-{
-    all_apart(arena, pass, table, columns)
 }

@@ -25,7 +25,7 @@ mutual
   conditions_on n (also c cs) f = (condition_on n c f.0, conditions_on n cs f.1)
 
 -- those that fit rows of no more than 2^28 cells fit
-below_fits : (n : ℕ) (t : Term) → n ≤ 2 ^ 28 → FitsFieldsOn n t → IsColumnBelow n t → FitsFields t
+pub below_fits : (n : ℕ) (t : Term) → n ≤ 2 ^ 28 → FitsFieldsOn n t → IsColumnBelow n t → FitsFields t
 below_fits n (term.Column k) small f l = omega (arith, small, l)
 below_fits n (term.Null u) small f l = f
 below_fits n (term.Value x) small f l = f

@@ -90,7 +90,7 @@ FitsAction s (plain.InsertRows name rows c) =
 FitsAction s (plain.InsertQuery name q) = IsSome (columns_in s name) × (width s q ≡ width s (plain.Table name)) × Fits s q
 FitsAction s (plain.Delete name c) = IsSome (columns_in s name) × FitsRows (width s (plain.Table name)) c
 FitsAction s (plain.Update name sets c) =
-    IsSome (columns_in s name) × AreSets (width s (plain.Table name)) sets × All (λ s. FitsFieldsOn 0 s.1) sets × FitsRows (width s (plain.Table name)) c
+    IsSome (columns_in s name) × AreSets (width s (plain.Table name)) sets × All (λ b. FitsFieldsOn (width s (plain.Table name)) b.1) sets × FitsRows (width s (plain.Table name)) c
 FitsAction s (plain.Assert c) = FitsRows 0 c
 FitsAction s (plain.AssertQuery wanted q) = Fits s q
 FitsAction s (plain.AssertKey name columns) = IsSome (columns_in s name) × All (λ k. k < width s (plain.Table name)) columns × IsDistinct nat_eq columns

@@ -1,6 +1,6 @@
 -- Candidates, and what right decisions of their questions list.
 use Rattle.std.proofs.Common.{◌≡◌, ◌<◌, ◌+◌, ℕ, Bool, true, false, ◌||◌, List, [], ◌∷◌, ◌++◌, append-nil, get_or, length, take, arith, refl, ap, sym, subst, ◌∙◌, if◌then◌else◌}
-use Rattle.std.{specs.Prelude.{All, IsTrue, filter}, specs.List.{AllZip, IsDistinct}, proofs.lemmas.Bool.{and_parts, false≢true}, proofs.lemmas.List.{append_assoc, map-append, take_more}}
+use Rattle.std.{specs.Prelude.{All, IsTrue, filter}, specs.List.{AllZip, IsDistinct}, proofs.lemmas.Bool.{false≢true}, proofs.lemmas.List.{append_assoc, take_more}}
 use Rattle.std.proofs.lemmas.{List.length-take-le, List.Elements.{All-cons, All-head, All-nil, All-push, All-tail, All-weaker}}
 use Rattle.ct_word.{specs.declared.values.CRow.CRow, specs.declared.values.Value.Value, specs.Value.{World, same_tuple}, specs.Condition.holds_at}
 use Rattle.ct_word.{specs.Reading.condition_at, specs.Sublist.{IsSublist, ended, left_out, taken}, specs.WellFormed.IsWellFormed, proofs.Alike.tuple_decides}

@@ -12,20 +12,21 @@ ghost use Rattle.ct_operators.specs.Tables.{AreRows, firsts, value_of_rows};
 ghost use Rattle.ct_certain.specs.Answered.{IsSettled};
 ghost use Rattle.ct_certain.specs.Certain.{IsCutProof, IsKeptWorld, ListsCertain};
 ghost use Rattle.ct_certain.specs.Faults.{is_full};
-ghost use Rattle.ct_certain.specs.Missing.{IsAskedOf, is_in_each};
+ghost use Rattle.ct_certain.specs.Missing.{IsAskedOf, IsSure, is_in_each};
 ghost use Rattle.ct_questions.specs.Candidates.{AreCandidates, IsCandidate, proof_of, tuples_of};
 ghost use Rattle.ct_questions.specs.Writing.{PassWrites};
 
 use ct_arena::{Arena, Pass, Site};
 use ct_certain::{
     CertainError, CertainRow, Seen, copied_derivation, is_everywhere, kept_tuples, missing_root,
-    see_first,
+    see_first, sure_tuples,
 };
 use ct_condition::Interner;
 use ct_decide::Decision;
 use ct_derivation::Proof;
 use ct_operators::CTable;
 use ct_word::{List, Memory, Value, World};
+use indexmap::IndexSet;
 use std::alloc::{AllocError, Global};
 
 /// A tuple that may be certain, with the root of the question whether it is missing.
@@ -50,10 +51,12 @@ fn add_candidate<N: Site, I: Interner<N>>(
     table: &CTable,
     global: u32,
     known: &[Seen],
+    sure: &IndexSet<List<Value>>,
     tuple: &List<Value>,
     list: &mut Vec<Candidate>,
 ) -> Result<(), CertainError>
-    requires { IsAskedOf (I.list pass.old) (I.list pass.old) global (length table.now.columns) table.now.rows tuple.now }
+    requires asked { IsAskedOf (I.list pass.old) (I.list pass.old) global (length table.now.columns) table.now.rows tuple.now }
+    requires sure { All (IsSure (I.list pass.old) table.now.rows) sure.now.keys }
     ensures tuples { OnOk result (tuples_of list.new.items ≡ tuples_of list.old.items ++ filter (is_in_each known.now) (tuple.now ∷ [])) }
     ensures roots { (words : List ℕ) → IsAskedOf words (I.list pass.old) global (length table.now.columns) table.now.rows tuple.now → All (IsCandidate words (I.list pass.old) global table.now.rows) list.old.items → OnOk result (All (IsCandidate words (I.list pass.new) global table.now.rows) list.new.items) }
     ensures writes { Writes I.list I.made I.kept I.lent N.log.cap pass.old pass.new (length table.now.rows * (2 * length table.now.columns + 2) + length table.now.columns + 1) (is_full result) }
@@ -62,7 +65,7 @@ fn add_candidate<N: Site, I: Interner<N>>(
     if !is_everywhere(known, tuple) {
         return Ok(());
     }
-    let root = missing_root(alloc, arena, pass, table, global, tuple.as_slice())?;
+    let root = missing_root(alloc, arena, pass, table, global, sure, tuple)?;
     let tuple = copied_tuple(tuple)?;
     list.push(Candidate { tuple, root })?;
     Ok(())
@@ -76,9 +79,11 @@ fn candidates_in<N: Site, I: Interner<N>>(
     table: &CTable,
     global: u32,
     known: &[Seen],
+    sure: &IndexSet<List<Value>>,
     tuples: &[List<Value>],
 ) -> Result<List<Candidate>, CertainError>
     requires few { length tuples.now ≤ length table.now.rows }
+    requires sure { All (IsSure (I.list pass.old) table.now.rows) sure.now.keys }
     requires asked { All (IsAskedOf (I.list pass.old) (I.list pass.old) global (length table.now.columns) table.now.rows) tuples.now }
     ensures tuples { IfOk result (λ list. tuples_of list ≡ filter (is_in_each known.now) tuples.now) }
     ensures roots { IfOk result (All (IsCandidate (I.list pass.old) (I.list pass.new) global table.now.rows)) }
@@ -87,7 +92,9 @@ fn candidates_in<N: Site, I: Interner<N>>(
     let _ = pass.words();
     let mut list = Vec::new(alloc);
     for tuple in tuples {
-        add_candidate(alloc, arena, pass, table, global, known, tuple, &mut list)?;
+        add_candidate(
+            alloc, arena, pass, table, global, known, sure, tuple, &mut list,
+        )?;
     }
     Ok(List::from_vec(list))
 }
@@ -116,7 +123,17 @@ pub fn certain_questions<N: Site>(
 {
     let rows = table.rows.as_slice();
     let tuples = kept_tuples(alloc, pass.words(), rows, kept)?;
-    candidates_in(alloc, arena, pass, table, global, &[], tuples.as_slice())
+    let sure = sure_tuples(alloc, pass.words(), rows)?;
+    candidates_in(
+        alloc,
+        arena,
+        pass,
+        table,
+        global,
+        &[],
+        &sure,
+        tuples.as_slice(),
+    )
 }
 
 /// The same without the tuples that a known world lacks, for which no word is made: the one in which each null is `@0`, and one
@@ -142,6 +159,7 @@ pub fn certain_left<N: Site>(
     let rows = table.rows.as_slice();
     let tuples = kept_tuples(alloc, pass.words(), rows, kept)?;
     let known = see_first(alloc, pass.words(), global, rows, kept)?;
+    let sure = sure_tuples(alloc, pass.words(), rows)?;
     candidates_in(
         alloc,
         arena,
@@ -149,6 +167,7 @@ pub fn certain_left<N: Site>(
         table,
         global,
         known.as_slice(),
+        &sure,
         tuples.as_slice(),
     )
 }

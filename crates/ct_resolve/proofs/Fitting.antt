@@ -4,12 +4,13 @@ use Rattle.std.{proofs.lemmas.Bool.{not-true, or_parts, and_parts, eqb-true}, pr
 use Rattle.std.{proofs.lemmas.Result.IfOk-at_ok, specs.List.list_all, specs.Prelude.{All, nat_eq, Option, Some, None, Ok, IfOk, if◌then◌else◌}}
 use Rattle.ct_word.{specs.declared.values.Term.Term, specs.Value.same_text}
 use Rattle.ct_query.{specs.declared.action.Ask.Ask, specs.declared.schema.Heading.Heading, specs.declared.schema.Schema.Schema, specs.Plain.PlainStatement}
+use Rattle.ct_query.specs.Fields.{FitsFieldsOn}
 use Rattle.ct_query.specs.Fits.{columns_in, FitsCell, FitsRows, AreSets, FitsStatement}
 use Rattle.ct_parse.specs.declared.tree.Assignment.{Assignment}
 use Rattle.ct_parse.{specs.declared.tree.Cell.Cell, specs.declared.tree.Query.Query, specs.declared.tree.Row.Row, specs.declared.tree.Statement.Statement}
 use Rattle.ct_resolve.{specs.Conditions.{condition_at, condition_or_true}, specs.Found.{Found, and_then, unless, each}, specs.Queries.{Named, query_at}}
 use Rattle.ct_resolve.{specs.Names.{table_in, is_table, are_distinct, column_in}, proofs.FoundParts.{and_then_has, unless_has, itself}}
-use Rattle.ct_resolve.specs.Statements.{cell_term, next_after, next_after_all, next_after_rows, cell_terms, cells_of, row_terms, set_at, columns_set, HaveRoom, HasRoom, resolved}
+use Rattle.ct_resolve.specs.Statements.{cell_term, next_after, next_after_all, next_after_rows, cell_terms, cells_of, row_terms, set_at, columns_set, HasRoom, resolved}
 use Rattle.ct_resolve.proofs.FittingConditions.{condition_fits, condition_or_true_fits}
 use Rattle.ct_resolve.proofs.FittingSets.{AreMade, sets_made, are_sets, fields_fit, IsKey, key_found, distinct_at}
 use Rattle.ct_resolve.proofs.FittingQueries.{table_columns, is_there, width_there, FitsNamed, query_fits}
@@ -128,9 +129,8 @@ module _ (schema : Schema) where
       (condition_or_true_fits (h ∷ []) c)
       (λ d fit. (is_there schema.tables name h.columns e, subst (λ n. FitsRows n d) (ap length (append-nil h.columns) ∙ sym (width_there schema.tables name h.columns e)) fit)))
 
-  update_fits : (name : List ℕ) (a : Assignment) (bs : List Assignment) (c : Option tree.Condition) → IfOk (and_then (table_in schema.tables name) (λ h. each (set_at h) (a ∷ bs))) HaveRoom
-      → Fitting (resolved schema 0 0 (statement.Update name a bs c))
-  update_fits name a bs c room =
+  update_fits : (name : List ℕ) (a : Assignment) (bs : List Assignment) (c : Option tree.Condition) → Fitting (resolved schema 0 0 (statement.Update name a bs c))
+  update_fits name a bs c =
       let once = are_distinct (columns_set (a ∷ bs)) in
       let updated : Heading → List (ℕ × Term) → Found PlainStatement = λ h sets. and_then (condition_or_true (h ∷ []) c) (λ d. Ok (plain.Act (plain.Update name sets d))) in
       and_then_has (λ h. table_in schema.tables name ≡ Ok h) (FitsStatement schema.tables) (table_in schema.tables name)
@@ -139,14 +139,14 @@ module _ (schema : Schema) where
       let there = IfOk-at_ok (λ h. columns_in schema.tables name ≡ Some h.columns) found (table_columns schema.tables name) in
       let many = sym (width_there schema.tables name h.columns there) in
       and_then_has (AreMade h (a ∷ bs)) (FitsStatement schema.tables) (each (set_at h) (a ∷ bs)) (λ sets. unless once fault.DuplicateName (updated h sets))
-      (sets_made h (a ∷ bs) (subst (λ m. IfOk (and_then m (λ h. each (set_at h) (a ∷ bs))) HaveRoom) found room))
+      (sets_made h (a ∷ bs))
       (λ sets made. unless_has (FitsStatement schema.tables) once fault.DuplicateName (updated h sets)
       (λ different. and_then_has (FitsRows (length (h.columns ++ []))) (FitsStatement schema.tables) (condition_or_true (h ∷ []) c) (λ d. Ok (plain.Act (plain.Update name sets d)))
       (condition_or_true_fits (h ∷ []) c)
       (λ d fit. (
         is_there schema.tables name h.columns there,
         subst (λ n. AreSets n sets) many (are_sets h (a ∷ bs) sets made different),
-        fields_fit h sets made.fit made.room,
+        subst (λ n. All (λ b. FitsFieldsOn n b.1) sets) many (fields_fit h sets made.fit),
         subst (λ n. FitsRows n d) (ap length (append-nil h.columns) ∙ many) fit,
       )))))
 
@@ -178,12 +178,12 @@ module _ (schema : Schema) where
       and_then_has (FitsNamed schema.tables) (FitsStatement schema.tables) (query_at schema.tables q) (λ n. Ok (plain.Asks a n.columns n.query)) (query_fits schema.tables q) (λ n fits. fits)
 
   -- a statement
-  statement_fits : (session fresh : ℕ) (st : Statement) → 1 ≤ session → session ≤ 1023 → HasRoom schema fresh st → Fitting (resolved schema session fresh st)
+  statement_fits : (session fresh : ℕ) (st : Statement) → 1 ≤ session → session ≤ 1023 → HasRoom fresh st → Fitting (resolved schema session fresh st)
   statement_fits session fresh (statement.Create name c cs) first last room = creation_fits name c cs
   statement_fits session fresh (statement.InsertRows name r rs c) first last room = rows_inserted_fit session fresh name r rs c first last room
   statement_fits session fresh (statement.InsertQuery name q) first last room = query_inserted_fits name q
   statement_fits session fresh (statement.Delete name c) first last room = deletion_fits name c
-  statement_fits session fresh (statement.Update name a bs c) first last room = update_fits name a bs c room
+  statement_fits session fresh (statement.Update name a bs c) first last room = update_fits name a bs c
   statement_fits session fresh (statement.Assert c) first last room = assertion_fits c
   statement_fits session fresh (statement.AssertExists negated q) first last room = existence_fits (not negated) q
   statement_fits session fresh (statement.AssertKey name c cs) first last room = key_fits name c cs
@@ -194,6 +194,6 @@ module _ (schema : Schema) where
   statement_fits session fresh statement.Commit first last room = tt
   statement_fits session fresh statement.Rollback first last room = tt
 
-pub resolved_fits : (schema : Schema) (session fresh : ℕ) (st : Statement) (r : PlainStatement) → 1 ≤ session → session ≤ 1023 → HasRoom schema fresh st
+pub resolved_fits : (schema : Schema) (session fresh : ℕ) (st : Statement) (r : PlainStatement) → 1 ≤ session → session ≤ 1023 → HasRoom fresh st
     → resolved schema session fresh st ≡ Ok r → FitsStatement schema.tables r
 resolved_fits schema session fresh st r first last room e = IfOk-at_ok (FitsStatement schema.tables) e (statement_fits schema session fresh st first last room)

@@ -4,17 +4,16 @@ use Rattle.std.{proofs.lemmas.List.{length-append, length-map}, proofs.lemmas.Li
 use Rattle.std.specs.Prelude.{All, map, nat_eq, Option, Some, Ok, IfOk, IsSome, is_some, if◌then◌else◌}
 use Rattle.ct_word.{specs.Value.same_text, specs.Condition.Condition}
 use Rattle.ct_query.{specs.declared.schema.Heading.Heading, specs.Fits.{columns_in, count_of, width, FitsRows, Fits}, specs.Plain.PlainQuery}
-use Rattle.ct_parse.{specs.declared.tree.Item.Item, specs.declared.tree.Items.Items, specs.declared.tree.QueryPrimary.{QueryPrimary, more_of-Query}}
-use Rattle.ct_parse.specs.declared.tree.Query.{Query, Query', Row_of-QueryPrimary, end_of-QueryPrimary, more_of-QueryPrimary, Row_of-Query-rest-2, end_of-Query-rest-2, more_of-Query-rest-2}
+use Rattle.ct_parse.{specs.declared.tree.Item.Item, specs.declared.tree.Items.Items}
+use Rattle.ct_parse.specs.declared.tree.Query.{Query}
 use Rattle.ct_parse.{specs.declared.tree.Select.Select, specs.declared.tree.SetOperator.SetOperator, specs.declared.tree.Table.Table}
 use Rattle.ct_parse.specs.declared.tree.Tables.{Tables}
 use Rattle.ct_resolve.{specs.Conditions.{condition_at, all_found}, specs.Found.{Found, and_then, unless, each}}
-use Rattle.ct_resolve.{specs.Names.{table_in, are_distinct, own_name, column_at}, proofs.FoundParts.{and_then_has, unless_has, each_has}}
-use Rattle.ct_resolve.specs.Queries.{name_or, visible, table_of, tables_of, seen_table, Picked, numbered, columns_of, item_at, items_at, product_onto, product_of, Named, conditions_of, selected, select_at, operation, sides, primary_at, primaries_at, terms_at, query_at}
+use Rattle.ct_resolve.{specs.Names.{table_in, are_distinct, own_name, column_at}, proofs.FoundParts.{and_then_has, unless_has, each_has}, proofs.QueryParts.query_has}
+use Rattle.ct_resolve.specs.Queries.{name_or, visible, table_of, tables_of, seen_table, Picked, numbered, columns_of, item_at, items_at, product_onto, product_of, Named, conditions_of, selected, select_at, operation, sides, query_at}
 use Rattle.ct_resolve.proofs.FittingConditions.{width_of, column_below, all_found_fits, condition_fits}
 use Rattle.ct_query.specs.Plain as plain
 use Rattle.ct_parse.specs.declared.tree.Items.TheVariants as items
-use Rattle.ct_parse.specs.declared.tree.QueryPrimary as primary
 use Rattle.ct_parse.specs.declared.tree.SetOperator.TheVariants as operator
 use Rattle.ct_resolve.specs.declared.error.ResolveError.TheVariants as fault
 
@@ -142,28 +141,5 @@ module _ (schema : List Heading) where
       let joined = joins a.query b.query (sym fa.1 ∙ same ∙ fb.1) fa.0 fb.0 in
       (joined.0, fa.1 ∙ sym joined.1))
 
-  more_fits : (f : PlainQuery → PlainQuery → PlainQuery) (a b : Found Named) → JoinsSides f → IfOk a (FitsNamed schema) → IfOk b (FitsNamed schema)
-      → IfOk (and_then a (λ x. and_then b (λ y. sides f x y))) (FitsNamed schema)
-  more_fits f a b joins fa fb =
-      and_then_has (FitsNamed schema) (FitsNamed schema) a (λ x. and_then b (λ y. sides f x y)) fa
-      (λ x fx. and_then_has (FitsNamed schema) (FitsNamed schema) b (λ y. sides f x y) fb (λ y fy. sides_fit f x y joins fx fy))
-
-  mutual
-    primary_fits : (p : QueryPrimary) → IfOk (primary_at schema p) (FitsNamed schema)
-    primary_fits (primary.Nested' shape (more_of-Query q rest)) = query_fits q
-    primary_fits (primary.Select s) = select_fits schema s
-
-    primaries_fit : {n : _} (a : Found Named) (row : Row_of-QueryPrimary n) → IfOk a (FitsNamed schema) → IfOk (primaries_at schema a row) (FitsNamed schema)
-    primaries_fit a end_of-QueryPrimary fits = fits
-    primaries_fit a (more_of-QueryPrimary p rest) fits =
-        primaries_fit (and_then a (λ x. and_then (primary_at schema p) (λ y. sides (λ l r. plain.Intersect l r) x y))) rest
-        (more_fits (λ l r. plain.Intersect l r) a (primary_at schema p) intersection_joins fits (primary_fits p))
-
-    terms_fit : {n : _} (a : Found Named) (row : Row_of-Query-rest-2 n) → IfOk a (FitsNamed schema) → IfOk (terms_at schema a row) (FitsNamed schema)
-    terms_fit a end_of-Query-rest-2 fits = fits
-    terms_fit a (more_of-Query-rest-2 o p shape ps rest) fits =
-        terms_fit (and_then a (λ x. and_then (primaries_at schema (primary_at schema p) ps) (λ y. sides (operation o) x y))) rest
-        (more_fits (operation o) a (primaries_at schema (primary_at schema p) ps) (operation_joins o) fits (primaries_fit (primary_at schema p) ps (primary_fits p)))
-
-    pub query_fits : (q : Query) → IfOk (query_at schema q) (FitsNamed schema)
-    query_fits (Query' p shape ps shapes rest) = terms_fit (primaries_at schema (primary_at schema p) ps) rest (primaries_fit (primary_at schema p) ps (primary_fits p))
+  pub query_fits : (q : Query) → IfOk (query_at schema q) (FitsNamed schema)
+  query_fits = query_has schema (FitsNamed schema) (select_fits schema) (λ x y. sides_fit (λ l r. plain.Intersect l r) x y intersection_joins) (λ o x y. sides_fit (operation o) x y (operation_joins o))

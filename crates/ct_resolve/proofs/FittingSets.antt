@@ -1,16 +1,15 @@
 -- Columns of a table by their names: positions that differ where the names do. What the sets of an update are resolved to
 -- fits the table.
-use Rattle.std.{proofs.Common.{◌≡◌, ◌+◌, ◌<◌, ◌≤◌, ◌^◌, ℕ, Bool, true, false, not, List, [], ◌∷◌, length, map, refl, ap, sym, subst, ◌∙◌, arith}, specs.List.{IsDistinct, AllByRecursion, list_all, list_any}}
+use Rattle.std.{proofs.Common.{◌≡◌, ◌+◌, ◌<◌, ◌≤◌, ℕ, Bool, true, false, not, List, [], ◌∷◌, length, map, refl, ap, sym, subst, ◌∙◌, arith}, specs.List.{IsDistinct, AllByRecursion, list_any}}
 use Rattle.std.{specs.Prelude.{All, nat_eq, Option, Some, None, Ok, Err, IfOk, if◌then◌else◌}, specs.Cmp.Lexicographic.{same_text as same_bytes}}
-use Rattle.std.{proofs.lemmas.Bool.{false≢true, not-true, or_parts, and_parts, eqb-true, ltb-true}, proofs.lemmas.List.append-nil, proofs.lemmas.Option.{none-some, same_Some}}
-use Rattle.std.proofs.lemmas.List.Elements.{All-nil, All-cons, All-head, All-tail, All-weaker}
+use Rattle.std.{proofs.lemmas.Bool.{false≢true, not-true, or_parts, and_parts, eqb-true}, proofs.lemmas.List.append-nil, proofs.lemmas.Option.{none-some, same_Some}}
+use Rattle.std.proofs.lemmas.List.Elements.{All-weaker}
 use Rattle.ct_word.{specs.declared.values.Term.Term, specs.Value.same_text}
 use Rattle.ct_query.{specs.declared.schema.Heading.Heading, specs.Fields.FitsFieldsOn, specs.Fits.{IsColumnBelow, AreSets}}
 use Rattle.ct_parse.specs.declared.tree.Assignment.{Assignment}
 use Rattle.ct_resolve.{specs.Found.{Found, and_then, each}, specs.Names.{place_from, placed, column_in, are_distinct}, specs.Conditions.term_at}
-use Rattle.ct_resolve.{specs.Statements.{set_at, columns_set, has_room, HaveRoom}, proofs.FoundParts.{and_then_has, each_has, itself}}
+use Rattle.ct_resolve.{specs.Statements.{set_at, columns_set}, proofs.FoundParts.{and_then_has, each_has, itself}}
 use Rattle.ct_resolve.{proofs.FittingConditions.{place_from_below, FitsTerm, term_fits}, proofs.WritingConditions.any_found_at_all}
-use Rattle.ct_word.specs.declared.values.Term.TheVariants as term
 
 -- a place is found from where the search began
 first_from : (b : Bool) (o : Option ℕ) (j i : ℕ) → (o ≡ Some i → j + 1 ≤ i) → (if b then Some j else o) ≡ Some i → j ≤ i
@@ -125,25 +124,16 @@ module _ (h : Heading) where
   pub record AreMade (bs : List Assignment) (sets : List (ℕ × Term)) : Type 0 where
     pub fit : All FitsSet sets
     pub at : AreSetAt bs sets
-    pub room : HaveRoom sets
 
-  pub sets_made : (bs : List Assignment) → IfOk (each (set_at h) bs) HaveRoom → IfOk (each (set_at h) bs) (AreMade bs)
-  sets_made bs room = together (each (set_at h) bs) (each_has FitsSet (set_at h) set_fits bs) (sets_at bs) room where
-    together : (m : Found (List (ℕ × Term))) → IfOk m (All FitsSet) → IfOk m (AreSetAt bs) → IfOk m HaveRoom → IfOk m (AreMade bs)
-    together (Ok sets) fit at room = record { fit = fit; at = at; room = room }
-    together (Err e) fit at room = tt
+  pub sets_made : (bs : List Assignment) → IfOk (each (set_at h) bs) (AreMade bs)
+  sets_made bs = together (each (set_at h) bs) (each_has FitsSet (set_at h) set_fits bs) (sets_at bs) where
+    together : (m : Found (List (ℕ × Term))) → IfOk m (All FitsSet) → IfOk m (AreSetAt bs) → IfOk m (AreMade bs)
+    together (Ok sets) fit at = record { fit = fit; at = at }
+    together (Err e) fit at = tt
 
-  -- a word has room for each of the terms
-  field_fits : (t : Term) → FitsTerm (length h.columns) t → has_room t ≡ true → FitsFieldsOn 0 t
-  field_fits (term.Column k) f room = λ low. ltb-true k (2 ^ 28) room
-  field_fits (term.Null u) f room = f.0
-  field_fits (term.Value x) f room = f.0
-
-  pub fields_fit : (sets : List (ℕ × Term)) → All FitsSet sets → HaveRoom sets → All (λ b. FitsFieldsOn 0 b.1) sets
-  fields_fit [] fit room = All-nil (λ b. FitsFieldsOn 0 b.1)
-  fields_fit (b ∷ sets) fit room =
-      let parts = and_parts (has_room b.1) (list_all (λ b. has_room b.1) sets) room in
-      All-cons (λ b. FitsFieldsOn 0 b.1) b sets (field_fits b.1 (All-head FitsSet b sets fit).1 parts.0) (fields_fit sets (All-tail FitsSet b sets fit) parts.1)
+  -- the numbers of the terms fit rows of the table
+  pub fields_fit : (sets : List (ℕ × Term)) → All FitsSet sets → All (λ b. FitsFieldsOn (length h.columns) b.1) sets
+  fields_fit sets fit = All-weaker FitsSet (λ b. FitsFieldsOn (length h.columns) b.1) (λ b f. f.1.0) sets fit
 
   pub are_sets : (bs : List Assignment) (sets : List (ℕ × Term)) → AreMade bs sets → are_distinct (columns_set bs) ≡ true → AreSets (length h.columns) sets
   are_sets bs sets made once = record {

@@ -6,8 +6,10 @@ pub mod Picked
 pub mod QueryTrees
 pub mod FoundParts
 pub mod FittingConditions
+pub mod QueryParts
 pub mod FittingQueries
 pub mod WritingConditions
+pub mod Numbered
 pub mod FittingSets
 pub mod Fitting
 pub mod WritingQueries

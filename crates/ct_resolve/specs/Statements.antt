@@ -1,5 +1,5 @@
 -- Statements with positions for names.
-use Rattle.std.specs.Prelude.{◌≡◌, ℕ, ◌+◌, ◌≤◌, ◌^◌, Bool, true, not, List, [], ◌∷◌, length, map, Ok, IfOk, nat_eq, nat_lt}
+use Rattle.std.specs.Prelude.{ℕ, ◌+◌, ◌≤◌, ◌^◌, not, List, [], ◌∷◌, length, map, Ok, nat_eq}
 use Rattle.std.specs.List.{list_all}
 use Rattle.ct_word.specs.declared.values.Value.TheVariants as val
 use Rattle.ct_word.specs.declared.values.Null.TheVariants as null
@@ -99,19 +99,7 @@ resolved s session fresh statement.Begin = Ok plain.Begin
 resolved s session fresh statement.Commit = Ok plain.Commit
 resolved s session fresh statement.Rollback = Ok plain.Rollback
 
--- whether a word has room for the number of the column that a term may be
-abbrev pub has_room : Term → Bool
-has_room (term.Column k) = nat_lt k (2 ^ 28)
-has_room (term.Null u) = true
-has_room (term.Value x) = true
-
--- words have room for the numbers of the columns that sets have as terms
-abbrev pub HaveRoom : List (ℕ × Term) → Type 0
-HaveRoom sets = list_all (λ b. has_room b.1) sets ≡ true
-
--- words have room for the number of each null that a statement draws, and for the columns that its sets have as terms;
--- fresh is the number of the session's last null
-abbrev pub HasRoom : Schema → ℕ → Statement → Type 0
-HasRoom s fresh (statement.InsertRows name r rs c) = next_after_rows (fresh + 1) (r ∷ rs) ≤ 2 ^ 28
-HasRoom s fresh (statement.Update name a bs c) = IfOk (and_then (table_in s.tables name) (λ h. each (set_at h) (a ∷ bs))) HaveRoom
-HasRoom s fresh _ = Unit {0}
+-- words have room for the number of each null that a statement draws; fresh is the number of the session's last null
+abbrev pub HasRoom : ℕ → Statement → Type 0
+HasRoom fresh (statement.InsertRows name r rs c) = next_after_rows (fresh + 1) (r ∷ rs) ≤ 2 ^ 28
+HasRoom fresh _ = Unit {0}

@@ -11,6 +11,8 @@ mod selects;
 mod sets;
 mod statements;
 mod tables;
+mod theorems;
 
 pub use error::ResolveError;
 pub use resolving::resolve;
+pub use theorems::queries_have_numbers;

@@ -56,7 +56,7 @@ fn positioned<H: Headings>(
     written: &Statement,
 ) -> Result<Resolved, ResolveError>
     ensures ok { IfOk result (λ r. resolved (H.schema schema.now) session fresh written.now ≡ Ok (statement_of r)) }
-    ensures room { IfOk result (λ r. HasRoom (H.schema schema.now) fresh written.now) }
+    ensures room { IfOk result (λ r. HasRoom fresh written.now) }
     ensures err { IfErr result (λ e. e ≢ fault.Memory → resolved (H.schema schema.now) session fresh written.now ≡ Err e) }
 {
     match written {
@@ -97,8 +97,7 @@ fn positioned<H: Headings>(
 ///
 /// # Errors
 /// The first refusal in this order, and `Memory` where there is none for the answer, where a position
-/// is no number of 32 bits, where the column that is set to is the 2^28th or a later one, or where the
-/// number of the session's last null would be 2^28 or more.
+/// is no number of 32 bits, or where the number of the session's last null would be 2^28 or more.
 /// - CREATE: `TableExists`, then `DuplicateName` for two columns of one name.
 /// - INSERT of rows: `UnknownTable`, then `ColumnCount`, then the condition, which sees no table.
 /// - INSERT of a query: `UnknownTable`, then the query, then `ColumnCount`.

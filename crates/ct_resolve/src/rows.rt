@@ -14,8 +14,8 @@ use ct_word::{List, Null, Term, Text, Value};
 use indexmap::IndexSet;
 use std::alloc::Global;
 
-/// The numbers of nulls and of columns that a word has room for are below this one.
-pub const NUMBERS: u32 = 1 << 28;
+/// The numbers of nulls that a word has room for are below this one.
+const NUMBERS: u32 = 1 << 28;
 
 /// Whether no name stands twice.
 ///

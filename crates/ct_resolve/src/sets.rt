@@ -1,7 +1,6 @@
 // The sets of an update, and the columns of a key.
 
 ghost use Rattle.std.specs.Prelude.{◌≡◌, ◌≢◌, ◌∷◌, IfOk, IfErr, Ok, Err};
-ghost use Rattle.std.specs.List.{list_all};
 ghost use Rattle.ct_resolve.specs.Found.{each};
 ghost use Rattle.ct_resolve.specs.Names as naming;
 ghost use Rattle.ct_resolve.specs.Statements as spec;
@@ -10,29 +9,11 @@ ghost use Rattle.ct_resolve.specs.declared.error.ResolveError.TheVariants as fau
 use crate::conditions::term;
 use crate::error::ResolveError;
 use crate::names::own_position;
-use crate::rows::{NUMBERS, are_distinct};
+use crate::rows::are_distinct;
 use ct_parse::Assignment;
 use ct_query::Heading;
 use ct_word::{List, Term, Text};
 use std::alloc::Global;
-
-/// Whether a word has room for the number of the column that a term may be.
-fn has_room(value: &Term) -> bool
-    ensures { result ≡ spec.has_room value.now }
-{
-    match value {
-        Term::Column(position) => *position < NUMBERS,
-        Term::Null(_) => true,
-        Term::Value(_) => true,
-    }
-}
-
-/// Whether words have room for the numbers of the columns that sets have as terms.
-pub fn have_room(sets: &[(u32, Term)]) -> bool
-    ensures { result ≡ list_all (λ b. spec.has_room b.1) sets.now }
-{
-    sets.iter().all(|set| has_room(&set.1))
-}
 
 /// An assignment with positions for names: its column, and then its term, which sees the table under
 /// its own name.

@@ -6,10 +6,9 @@ ghost use Rattle.ct_query.specs.Views.{statement_of};
 ghost use Rattle.ct_query.specs.Plain as plain;
 ghost use Rattle.ct_parse.specs.declared.tree.Statement.TheVariants as tree;
 ghost use Rattle.ct_resolve.specs.Conditions.{condition_at, condition_or_true};
-ghost use Rattle.ct_resolve.specs.Found.{and_then, each};
-ghost use Rattle.ct_resolve.specs.Names.{table_in};
+ghost use Rattle.ct_resolve.specs.Found.{and_then};
 ghost use Rattle.ct_resolve.specs.Queries.{query_at};
-ghost use Rattle.ct_resolve.specs.Statements.{next_after_rows, set_at, HaveRoom, resolved};
+ghost use Rattle.ct_resolve.specs.Statements.{next_after_rows, resolved};
 ghost use Rattle.ct_resolve.specs.declared.error.ResolveError.TheVariants as fault;
 
 use crate::conditions::condition;
@@ -18,7 +17,7 @@ use crate::names::{is_named, table_named};
 use crate::queries::query;
 use crate::rows::{all_fit, are_distinct, listed, terms_of_rows};
 use crate::selects::Named;
-use crate::sets::{are_set_once, have_room, positions, sets};
+use crate::sets::{are_set_once, positions, sets};
 use ct_headings::Headings;
 use ct_parse::{Assignment, Condition, Query, Row};
 use ct_query::{Action, Heading, Pred, Resolved};
@@ -129,7 +128,7 @@ pub fn delete<H: Headings>(
 /// # Errors
 /// `UnknownTable`, then the first refusal of the assignments, then `DuplicateName` where a column is
 /// set twice, then the first refusal of the condition; all see the table under its own name. `Memory`
-/// where there is none for the sets or the predicate, or a word has no room for a column set to.
+/// where there is none for the sets or the predicate.
 pub fn update<H: Headings>(
     alloc: Global,
     schema: &H,
@@ -139,16 +138,12 @@ pub fn update<H: Headings>(
     written: &Option<Condition>,
 ) -> Result<Resolved, ResolveError>
     ensures ok { IfOk result (λ r. resolved (H.schema schema.now) 0 0 (tree.Update name.now first.now rest.now written.now) ≡ Ok (statement_of r)) }
-    ensures room { IfOk result (λ r. IfOk (and_then (table_in (H.schema schema.now).tables name.now) (λ h. each (set_at h) (first.now ∷ rest.now))) HaveRoom) }
     ensures err { IfErr result (λ e. e ≢ fault.Memory → resolved (H.schema schema.now) 0 0 (tree.Update name.now first.now rest.now written.now) ≡ Err e) }
 {
     let table = table_named(schema, name)?;
     let sets = sets(alloc, table, first, rest.as_slice())?;
     if !are_set_once(alloc, first, rest.as_slice())? {
         return Err(ResolveError::DuplicateName);
-    }
-    if !have_room(sets.as_slice()) {
-        return Err(ResolveError::Memory);
     }
     let name = name.clone()?;
     let pred = condition_or_default(alloc, std::slice::from_ref(table), written)?;

@@ -1,22 +1,29 @@
 -- What the positions of conditions stand for.
-use Rattle.std.{proofs.Common.{◌≡◌, ℕ, ◌≤◌, Bool, List, [], ◌∷◌, length, map, refl, ap, sym, subst, arith}, specs.Prelude.IsTrue, specs.BTreeMap.BTreeMap}
+use Rattle.std.{proofs.Common.{◌≡◌, ℕ, ◌≤◌, Bool, true, List, [], ◌∷◌, length, map, refl, ap, sym, ◌∙◌, subst, arith}, specs.Prelude.IsTrue, specs.BTreeMap.BTreeMap}
 use Rattle.std.{specs.List.{AllByRecursion, list_all, AllZip}, proofs.lemmas.Bool.{and_from, lt-ltb}}
 use Rattle.ct_word.{specs.declared.values.Term.Term, specs.Condition.{Condition, SameTruth}, specs.Reading.condition_at}
-use Rattle.ct_rewrite.{specs.declared.answer.Node.Node, specs.declared.forms.Form.Form, specs.Nodes.{node_condition, is_position}, specs.Moving.IsKept}
-use Rattle.ct_rewrite.{specs.Building.Says, specs.Below.HasAt, specs.Signs.{IsFormAt, plus_of, plus_at}, proofs.Sizes.{nest_lower, text_shorter}}
+use Rattle.ct_rewrite.{specs.declared.answer.Node.Node, specs.Nodes.{node_condition, is_position}, specs.Moving.IsKept}
+use Rattle.ct_rewrite.{specs.Building.Says, specs.Below.HasAt, specs.Signs.{IsFormAt, number, position_of, position_at}, proofs.Signs.{says_number, fits_number}, proofs.Sizes.{nest_lower, text_shorter}}
 use Rattle.ct_rewrite.{proofs.Closing.there_have, specs.Sizes.{Fits, NoneIsEmpty, deep, nest_of, text_of, wide}}
+
+-- the number of the condition at a place
+abbrev plus : ℕ → ℕ
+plus p = number p true
 
 -- a position says a condition and keeps to its bounds
 record Stands (ns : List Node) (k : ℕ) (c : Condition) : Type 0 where
   says : Says ns k c
   fits : Fits (node_condition ns k) c
 
--- the positions for plus stand for the conditions at the places
-roots_stand : (ws : List ℕ) (ns : List Node) (fs : BTreeMap ℕ Form) (roots : List ℕ) → AllByRecursion (HasAt (IsFormAt ws ns) fs) roots
-    → AllZip (λ k p. Stands ns k (condition_at ws p)) (map (plus_at fs) roots) roots
+-- the positions of the roots stand for the conditions at their places
+roots_stand : (ws : List ℕ) (ns : List Node) (fs : BTreeMap ℕ ℕ) (roots : List ℕ) → AllByRecursion (HasAt (IsFormAt ws ns) fs) (map plus roots)
+    → AllZip (λ k p. Stands ns k (condition_at ws p)) (map (position_at fs) (map plus roots)) roots
 roots_stand ws ns fs [] h = tt
 roots_stand ws ns fs (r ∷ roots) h =
-    (subst (λ k. Stands ns k (condition_at ws r)) (sym (ap plus_of h.0.at)) (record { says = h.0.is.plus; fits = h.0.is.plus_fits }), roots_stand ws ns fs roots h.1)
+    let m = h.0.value in (
+      subst (λ k. Stands ns k (condition_at ws r)) (sym (ap position_of h.0.at)) (record { says = says_number ws ns r true m h.0.is; fits = fits_number ws ns r true m h.0.is }),
+      roots_stand ws ns fs roots h.1,
+    )
 
 -- positions that stand for the conditions, and those at which they were kept
 module _ (ws : List ℕ) (ns out : List Node) (P : Condition → Condition → Type 0) (says : (k : ℕ) (c : Condition) → Stands ns k c → P (node_condition ns k) c) where
@@ -41,12 +48,13 @@ stand_placed ws ns [] (p ∷ ps) h = absurd h
 stand_placed ws ns (k ∷ ks) [] h = absurd h
 stand_placed ws ns (k ∷ ks) (p ∷ ps) h = and_from _ _ (lt-ltb k (length ns) h.0.says.within) (stand_placed ws ns ks ps h.1)
 
-module _ (ws : List ℕ) (ns read : List Node) (fs : BTreeMap ℕ Form) (there : ℕ → Bool) (roots ks : List ℕ) (forms : (k : ℕ) → IsTrue (there k) → HasAt (IsFormAt ws ns) fs k)
-    (led : IsTrue (list_all there roots)) (seen : read ≡ ns) (found : ks ≡ map (plus_at fs) roots) where
+module _ (ws : List ℕ) (ns read : List Node) (fs : BTreeMap ℕ ℕ) (there : ℕ → Bool) (roots numbers ks : List ℕ) (forms : (k : ℕ) → IsTrue (there k) → HasAt (IsFormAt ws ns) fs k)
+    (by : numbers ≡ map plus roots) (led : IsTrue (list_all there numbers)) (seen : read ≡ ns) (found : ks ≡ map (position_at fs) numbers) where
   all_stand : AllZip (λ k p. Stands read k (condition_at ws p)) ks roots
   all_stand =
-      subst (λ (xs : List ℕ). AllZip (λ k p. Stands read k (condition_at ws p)) xs roots) (sym found)
-      (subst (λ (xs : List Node). AllZip (λ k p. Stands xs k (condition_at ws p)) (map (plus_at fs) roots) roots) (sym seen) (roots_stand ws ns fs roots (there_have (IsFormAt ws ns) fs there forms roots led)))
+      subst (λ (xs : List ℕ). AllZip (λ k p. Stands read k (condition_at ws p)) xs roots) (sym (found ∙ ap (map (position_at fs)) by))
+      (subst (λ (xs : List Node). AllZip (λ k p. Stands xs k (condition_at ws p)) (map (position_at fs) (map plus roots)) roots) (sym seen)
+      (roots_stand ws ns fs roots (there_have (IsFormAt ws ns) fs there forms (map plus roots) (subst (λ (xs : List ℕ). IsTrue (list_all there xs)) by led))))
 
   pub roots_placed : IsTrue (list_all (is_position read) ks)
   roots_placed = stand_placed ws read ks roots all_stand

@@ -1,10 +1,10 @@
 -- What the words of conditions stand for.
-use Rattle.std.{proofs.Common.{◌≡◌, ℕ, ◌<◌, List, [], ◌∷◌, length, nat_lt, Some, None, refl, ap, sym, subst, ◌∙◌, arith}, specs.List.{AllByRecursion, list_all}}
-use Rattle.std.{specs.Prelude.{IsTrue, slice_get, Option}, proofs.lemmas.Bool.{false≢true, and_from, lt-ltb}}
+use Rattle.std.{proofs.Common.{◌≡◌, ℕ, ◌<◌, List, Some, None, refl, ap, sym, subst, ◌∙◌, arith}}
+use Rattle.std.{specs.Prelude.{IsTrue, slice_get, Option}, proofs.lemmas.Bool.{false≢true}}
 use Rattle.ct_word.{specs.declared.kinds.Kind.Kind, specs.Word.{kind_of, left_of, right_of}, specs.Reading.as_cond, specs.WordAt.IsWordAt}
-use Rattle.ct_word.{specs.WellFormed.{IsWellFormed, is_place_of, is_word_of, has_class, same_class, class_of}, proofs.Growth.place_within}
+use Rattle.ct_word.{specs.WellFormed.{IsWellFormed, is_place_of, is_word_of, has_class, same_class, class_of}}
 use Rattle.ct_word.proofs.WordAt.{word_is}
-use Rattle.ct_rewrite.{specs.declared.shape.Shape.Shape, specs.Shape.{shape_of, shape_of_word, shape_at, parts_at, IsEarlier, IsShaped}, specs.Below.IsDownward}
+use Rattle.ct_rewrite.{specs.declared.shape.Shape.Shape, specs.Shape.{shape_of, shape_of_word, shape_at, IsEarlier, IsShaped}}
 use Rattle.ct_word.specs.declared.kinds.Kind.TheVariants as kind
 use Rattle.ct_word.specs.declared.kinds.Class.TheVariants as class
 
@@ -37,19 +37,3 @@ module _ (ws : List ℕ) (p : ℕ) where
   -- the same of what was read there, by its case
   pub shaped_as : {read s : Shape} → IsWellFormed ws → IsTrue (is_place_of ws class.Cond p) → read ≡ shape_at ws p → read ≡ s → IsShaped ws p s
   shaped_as formed placed e f = subst (IsShaped ws p) (sym e ∙ f) (shaped formed placed)
-
-  -- the conditions that it names stand below it
-  pub named_below : (ks : List ℕ) → AllByRecursion (IsEarlier ws p) ks → IsTrue (list_all (λ k. nat_lt k p) ks)
-  named_below [] e = refl
-  named_below (k ∷ ks) e = and_from _ _ (lt-ltb k p e.0.below) (named_below ks e.1)
-
-  named_placed : (ks : List ℕ) → AllByRecursion (IsEarlier ws p) ks → IsTrue (list_all (is_place_of ws class.Cond) ks)
-  named_placed [] e = refl
-  named_placed (k ∷ ks) e = and_from _ _ e.0.placed (named_placed ks e.1)
-
-pub conditions_downward : (ws : List ℕ) (bound : ℕ) → IsWellFormed ws → bound ≡ length ws → IsDownward (is_place_of ws class.Cond) (parts_at ws) bound
-conditions_downward ws bound formed long = record {
-  within = λ k e. omega (arith, place_within ws class.Cond k e, long);
-  lower = λ k e. named_below ws k _ (shaped ws k formed e).parts;
-  inside = λ k e. named_placed ws k _ (shaped ws k formed e).parts;
-}

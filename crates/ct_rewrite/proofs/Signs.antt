@@ -1,21 +1,68 @@
--- What the forms of conditions say.
-use Rattle.std.proofs.Common.{◌≡◌, ℕ, ◌<◌, Bool, true, false, not, List, ◌++◌, length, refl, ap, sym, ◌∙◌, subst, arith, length-append}
-use Rattle.std.proofs.lemmas.List.{append_assoc}
+-- The numbers of conditions with their signs, and what the positions of these say.
+use Rattle.std.proofs.Common.{◌≡◌, ℕ, ◌+◌, ◌*◌, ◌/◌, ◌%◌, ◌<◌, Bool, true, false, not, List, [], ◌∷◌, ◌++◌, length, map, nat_eq, nat_lt, refl, ap, sym, ◌∙◌, subst, arith, length-append}
+use Rattle.std.{specs.Prelude.{IsTrue, if◌then◌else◌}, specs.List.{AllByRecursion, list_all}, proofs.lemmas.Bool.{and_parts, and_from, eq-eqb, lt-ltb}}
 use Rattle.ct_word.{specs.declared.values.Value.Value, specs.Value.World, specs.declared.connectives.Connective.Connective}
 use Rattle.ct_word.{specs.Condition.{Condition, Not, holds, SameTruth}, specs.Connective.{joined, join, dual}, proofs.Joins.{joined_holds, denied_join}}
-use Rattle.ct_rewrite.{specs.declared.answer.Node.Node, specs.declared.forms.Form.Form, specs.Nodes.node_condition, specs.Building.{Grows, Says, literal}}
-use Rattle.ct_rewrite.{specs.Signs.IsForm, specs.Sizes.Fits, proofs.Nodes.condition_stays, proofs.Sizes.{fits_as, literal_fits}}
+use Rattle.ct_word.{specs.WellFormed.{IsWellFormed, is_place_of}, specs.Reading.condition_at, proofs.Growth.place_within}
+use Rattle.ct_rewrite.{specs.declared.answer.Node.Node, specs.declared.shape.Shape.Shape, specs.Nodes.node_condition, specs.Building.{Grows, Says, literal, signed}}
+use Rattle.ct_rewrite.{specs.Signs.{number, is_plus, is_number, signed_at, named_by, named_at, connective_for, IsFormAt}, specs.Shape.{parts_of, shape_at, IsEarlier}, specs.Below.IsDownward}
+use Rattle.ct_rewrite.{specs.Sizes.Fits, proofs.Nodes.condition_stays, proofs.Shaped.shaped, proofs.Sizes.{fits_as, literal_fits}}
+use Rattle.ct_word.specs.declared.kinds.Class.TheVariants as class
 use Rattle.ct_word.specs.declared.connectives.Connective.TheVariants as connective
+use Rattle.ct_rewrite.specs.declared.shape.Shape.TheVariants as shape
+
+-- the place and the sign of a number
+pub number_half : (p : ℕ) (s : Bool) → number p s / 2 ≡ p
+number_half p true = omega arith
+number_half p false = omega arith
+
+number_sign : (p : ℕ) (s : Bool) → is_plus (number p s) ≡ s
+number_sign p true = eq-eqb (2 * p % 2) 0 (omega arith)
+number_sign p false = let odd : (2 * p + 1) % 2 ≡ 1 = omega arith in ap (λ n. nat_eq n 0) odd
+
+number_stands : (ws : List ℕ) (p : ℕ) (s : Bool) → signed_at ws (number p s) ≡ signed s (condition_at ws p)
+number_stands ws p s = λ i. signed (number_sign p s i) (condition_at ws (number_half p s i))
+
+number_lower : (p k : ℕ) (s : Bool) → p < k / 2 → number p s < k
+number_lower p k true lt = omega (arith, lt)
+number_lower p k false lt = omega (arith, lt)
+
+-- the numbers that a number names are lower ones of conditions
+module _ (ws : List ℕ) (k : ℕ) where
+  lower : (p : ℕ) (s : Bool) → IsEarlier ws (k / 2) p → IsTrue (nat_lt (number p s) k)
+  lower p s e = lt-ltb (number p s) k (number_lower p k s e.below)
+
+  inside : (p : ℕ) (s : Bool) → IsEarlier ws (k / 2) p → IsTrue (is_number ws (number p s))
+  inside p s e = ap (is_place_of ws class.Cond) (number_half p s) ∙ e.placed
+
+  pub named_below : (s : Bool) (sh : Shape) → AllByRecursion (IsEarlier ws (k / 2)) (parts_of sh) → IsTrue (list_all (λ q. nat_lt q k) (named_by s sh))
+  named_below s (shape.Not p) e = and_from _ _ (lower p (not s) e.0) refl
+  named_below s (shape.Joined j p q) e = and_from _ _ (lower p s e.0) (and_from _ _ (lower q s e.1.0) refl)
+  named_below s (shape.Literal b) e = refl
+  named_below s (shape.Equal p q) e = refl
+
+  named_inside : (s : Bool) (sh : Shape) → AllByRecursion (IsEarlier ws (k / 2)) (parts_of sh) → IsTrue (list_all (is_number ws) (named_by s sh))
+  named_inside s (shape.Not p) e = and_from _ _ (inside p (not s) e.0) refl
+  named_inside s (shape.Joined j p q) e = and_from _ _ (inside p s e.0) (and_from _ _ (inside q s e.1.0) refl)
+  named_inside s (shape.Literal b) e = refl
+  named_inside s (shape.Equal p q) e = refl
+
+pub numbers_downward : (ws : List ℕ) (bound : ℕ) → IsWellFormed ws → bound ≡ 2 * length ws → IsDownward (is_number ws) (named_at ws) bound
+numbers_downward ws bound formed long = record {
+  within = λ k e. omega (arith, place_within ws class.Cond (k / 2) e, long);
+  lower = λ k e. named_below ws k (is_plus k) (shape_at ws (k / 2)) (shaped ws (k / 2) formed e).parts;
+  inside = λ k e. named_inside ws k (is_plus k) (shape_at ws (k / 2)) (shaped ws (k / 2) formed e).parts;
+}
+
+-- so are those of roots, whose places are ones of conditions
+pub roots_inside : (ws roots : List ℕ) → IsTrue (list_all (is_place_of ws class.Cond) roots) → IsTrue (list_all (is_number ws) (map (λ p. number p true) roots))
+roots_inside ws [] e = refl
+roots_inside ws (p ∷ roots) e =
+    let both = and_parts (is_place_of ws class.Cond p) (list_all (is_place_of ws class.Cond) roots) e in
+    and_from _ _ (ap (is_place_of ws class.Cond) (number_half p true) ∙ both.0) (roots_inside ws roots both.1)
 
 longer : (ns ms added : List Node) (k : ℕ) → ms ≡ ns ++ added → k < length ns → k < length ms
 longer ns ms added k e lt = subst (λ (xs : List Node). k < length xs) (sym e) (omega (arith, length-append ns added))
-
-pub grown_within : (ns ms : List Node) (k : ℕ) → Grows ns ms → k < length ns → k < length ms
-grown_within ns ms k g lt = longer ns ms g.added k g.is lt
-
--- nodes were put at the end twice
-pub grown_on : (ns ms os : List Node) → Grows ns ms → Grows ms os → Grows ns os
-grown_on ns ms os g h = record { added = g.added ++ h.added; is = h.is ∙ ap (λ xs. xs ++ h.added) g.is ∙ append_assoc ns g.added h.added }
 
 -- a position says what it said when nodes are put at the end
 pub still_says : (ns ms : List Node) (k : ℕ) (c : Condition) → Grows ns ms → Says ns k c → Says ms k c
@@ -31,49 +78,55 @@ says_like ns k c d e h = record { within = h.within; truth = λ v row. h.truth v
 still_is : (ns ms : List Node) (k : ℕ) → Grows ns ms → k < length ns → node_condition ms k ≡ node_condition ns k
 still_is ns ms k g lt = ap (λ xs. node_condition xs k) g.is ∙ condition_stays ns g.added k lt
 
-still_fits : (ns ms : List Node) (k : ℕ) (c : Condition) → Grows ns ms → k < length ns → Fits (node_condition ns k) c → Fits (node_condition ms k) c
-still_fits ns ms k c g lt h = fits_as _ _ c (still_is ns ms k g lt) h
-
-pub still_form : (ns ms : List Node) (f : Form) (c : Condition) → Grows ns ms → IsForm ns f c → IsForm ms f c
-still_form ns ms f c g h = record {
-  plus = still_says ns ms f.plus c g h.plus;
-  minus = still_says ns ms f.minus (Not c) g h.minus;
-  plus_fits = still_fits ns ms f.plus c g h.plus.within h.plus_fits;
-  minus_fits = still_fits ns ms f.minus c g h.minus.within h.minus_fits;
+pub still_form : (ws : List ℕ) (ns ms : List Node) (k m : ℕ) → Grows ns ms → IsFormAt ws ns k m → IsFormAt ws ms k m
+still_form ws ns ms k m g h = record {
+  says = still_says ns ms m (signed_at ws k) g h.says;
+  fits = fits_as _ _ (condition_at ws (k / 2)) (still_is ns ms m g h.says.within) h.fits;
 }
 
+-- a position that says the condition of a number by its place and sign
+pub form_of : (ws : List ℕ) (ns : List Node) (k m : ℕ) (c : Condition) → condition_at ws (k / 2) ≡ c → Says ns m (signed (is_plus k) c) → Fits (node_condition ns m) c → IsFormAt ws ns k m
+form_of ws ns k m c is says fits = record {
+  says = subst (λ d. Says ns m (signed (is_plus k) d)) (sym is) says;
+  fits = subst (Fits (node_condition ns m)) (sym is) fits;
+}
+
+-- what is said of a number is said of its place with its sign
+pub says_number : (ws : List ℕ) (ns : List Node) (p : ℕ) (s : Bool) (m : ℕ) → IsFormAt ws ns (number p s) m → Says ns m (signed s (condition_at ws p))
+says_number ws ns p s m h = subst (Says ns m) (number_stands ws p s) h.says
+
+pub fits_number : (ws : List ℕ) (ns : List Node) (p : ℕ) (s : Bool) (m : ℕ) → IsFormAt ws ns (number p s) m → Fits (node_condition ns m) (condition_at ws p)
+fits_number ws ns p s m h = subst (λ q. Fits (node_condition ns m) (condition_at ws q)) (number_half p s) h.fits
+
+-- a condition that is always true or always false
+literal_truth : (b s : Bool) → SameTruth (literal (if s then b else not b)) (signed s (literal b))
+literal_truth b true v row = refl
+literal_truth true false v row = refl
+literal_truth false false v row = refl
+
+pub literal_form : (ws : List ℕ) (ns : List Node) (k m : ℕ) (b r : Bool) → condition_at ws (k / 2) ≡ literal b → r ≡ (if is_plus k then b else not b)
+    → Says ns m (literal r) → node_condition ns m ≡ literal r → IsFormAt ws ns k m
+literal_form ws ns k m b r is by says at =
+    form_of ws ns k m (literal b) is
+    (says_like ns m (literal r) (signed (is_plus k) (literal b)) (λ v row. ap (λ x. holds v row (literal x)) by ∙ literal_truth b (is_plus k) v row) says)
+    (fits_as _ _ _ at (literal_fits r b))
+
+-- a denial, by the position of what it denies with the other sign
 not_not : (b : Bool) → b ≡ not (not b)
 not_not true = refl
 not_not false = refl
 
--- the denial of a condition has its positions the other way round
-pub denied_form : (ns : List Node) (f : Form) (c : Condition) → IsForm ns f c → IsForm ns (record { plus = f.minus; minus = f.plus }) (Not c)
-denied_form ns f c h = record {
-  plus = h.minus;
-  minus = says_like ns f.plus c (Not (Not c)) (λ v row. not_not (holds v row c)) h.plus;
-  plus_fits = record { short = h.minus_fits.short; shallow = h.minus_fits.shallow };
-  minus_fits = record { short = h.plus_fits.short; shallow = h.plus_fits.shallow };
-}
+denied_says : (ns : List Node) (m : ℕ) (s : Bool) (c : Condition) → Says ns m (signed (not s) c) → Says ns m (signed s (Not c))
+denied_says ns m true c h = h
+denied_says ns m false c h = says_like ns m c (Not (Not c)) (λ v row. not_not (holds v row c)) h
 
-not_literal : (b : Bool) → SameTruth (literal (not b)) (Not (literal b))
-not_literal true v row = refl
-not_literal false v row = refl
+pub denied_form : (ws : List ℕ) (ns : List Node) (k m p : ℕ) → condition_at ws (k / 2) ≡ Not (condition_at ws p) → IsFormAt ws ns (number p (not (is_plus k))) m → IsFormAt ws ns k m
+denied_form ws ns k m p is h =
+    let fits = fits_number ws ns p (not (is_plus k)) m h in
+    form_of ws ns k m (Not (condition_at ws p)) is (denied_says ns m (is_plus k) (condition_at ws p) (says_number ws ns p (not (is_plus k)) m h))
+    (record { short = fits.short; shallow = fits.shallow })
 
--- true or false
-pub literal_form_is : (ns ms : List Node) (b : Bool) (k m : ℕ) → Grows ns ms → Says ns k (literal b) → Says ms m (literal (not b))
-    → node_condition ns k ≡ literal b → node_condition ms m ≡ literal (not b) → IsForm ms (record { plus = k; minus = m }) (literal b)
-literal_form_is ns ms b k m g h i e f = record {
-  plus = still_says ns ms k _ g h;
-  minus = says_like ms m (literal (not b)) (Not (literal b)) (not_literal b) i;
-  plus_fits = still_fits ns ms k _ g h.within (fits_as _ _ _ e (literal_fits b b));
-  minus_fits = fits_as _ _ _ f (literal_fits (not b) b);
-}
-
--- a condition and its denial
-pub form_is : (ns ms : List Node) (c : Condition) (k m : ℕ) → Grows ns ms → Says ns k c → Says ms m (Not c) → Fits (node_condition ns k) c → Fits (node_condition ms m) c
-    → IsForm ms (record { plus = k; minus = m }) c
-form_is ns ms c k m g h i e f = record { plus = still_says ns ms k c g h; minus = i; plus_fits = still_fits ns ms k c g h.within e; minus_fits = f }
-
+-- two conditions under a connective
 joined_truth : (j : Connective) (a b c d : Condition) (v : World) (row : List Value) → holds v row a ≡ holds v row c → holds v row b ≡ holds v row d
     → holds v row (joined j a b) ≡ holds v row (joined j c d)
 joined_truth j a b c d v row e f = joined_holds j v row a b ∙ (λ i. join j (e i) (f i)) ∙ sym (joined_holds j v row c d)
@@ -81,26 +134,30 @@ joined_truth j a b c d v row e f = joined_holds j v row a b ∙ (λ i. join j (e
 de_morgan : (j : Connective) (c d : Condition) → SameTruth (joined (dual j) (Not c) (Not d)) (Not (joined j c d))
 de_morgan j c d v row = joined_holds (dual j) v row (Not c) (Not d) ∙ sym (denied_join j (holds v row c) (holds v row d)) ∙ ap not (sym (joined_holds j v row c d))
 
--- a denial has the bounds of what it denies
-fits_denied : (form : Condition) (j : Connective) (c d : Condition) → Fits form (joined (dual j) c d) → Fits form (joined j c d)
-fits_denied form connective.And c d h = record { short = h.short; shallow = h.shallow }
-fits_denied form connective.Or c d h = record { short = h.short; shallow = h.shallow }
+joined_signed : (j : Connective) (s : Bool) (c d : Condition) → SameTruth (joined (connective_for s j) (signed s c) (signed s d)) (signed s (joined j c d))
+joined_signed j true c d v row = refl
+joined_signed j false c d v row = de_morgan j c d v row
 
--- two conditions under a connective
-pub joined_form_is : (ns ns' ms : List Node) (j : Connective) (f g : Form) (k m : ℕ) → Grows ns ns' → Grows ns' ms
-    → Says ns' k (joined j (node_condition ns f.plus) (node_condition ns g.plus))
-    → Says ms m (joined (dual j) (node_condition ns' f.minus) (node_condition ns' g.minus))
-    → ((c d : Condition) → Fits (node_condition ns f.plus) c → Fits (node_condition ns g.plus) d → Fits (node_condition ns' k) (joined j c d))
-    → ((c d : Condition) → Fits (node_condition ns' f.minus) c → Fits (node_condition ns' g.minus) d → Fits (node_condition ms m) (joined (dual j) c d))
-    → (c d : Condition) → IsForm ns f c → IsForm ns g d → IsForm ms (record { plus = k; minus = m }) (joined j c d)
-joined_form_is ns ns' ms j f g k m g1 g2 p q p_fits q_fits c d h i =
-    let h' = still_form ns ns' f c g1 h in
-    let i' = still_form ns ns' g d g1 i in
-    record {
-      plus = still_says ns' ms k _ g2 (says_like ns' k _ (joined j c d) (λ v row. joined_truth j _ _ c d v row (h.plus.truth v row) (i.plus.truth v row)) p);
-      minus =
-          says_like ms m _ (Not (joined j c d))
-          (λ v row. joined_truth (dual j) _ _ (Not c) (Not d) v row (h'.minus.truth v row) (i'.minus.truth v row) ∙ de_morgan j c d v row) q;
-      plus_fits = still_fits ns' ms k (joined j c d) g2 p.within (p_fits c d h.plus_fits i.plus_fits);
-      minus_fits = fits_denied _ j c d (q_fits c d h'.minus_fits i'.minus_fits);
-    }
+-- a denial has the bounds of what it denies
+joined_fits : (form : Condition) (j : Connective) (s : Bool) (c d : Condition) → Fits form (joined (connective_for s j) c d) → Fits form (joined j c d)
+joined_fits form j true c d h = h
+joined_fits form connective.And false c d h = record { short = h.short; shallow = h.shallow }
+joined_fits form connective.Or false c d h = record { short = h.short; shallow = h.shallow }
+
+pub joined_form : (ws : List ℕ) (ns ms : List Node) (k p q l r m : ℕ) (j under : Connective) → condition_at ws (k / 2) ≡ joined j (condition_at ws p) (condition_at ws q)
+    → IsFormAt ws ns (number p (is_plus k)) l → IsFormAt ws ns (number q (is_plus k)) r → under ≡ connective_for (is_plus k) j
+    → Says ms m (joined under (node_condition ns l) (node_condition ns r))
+    → ((c d : Condition) → Fits (node_condition ns l) c → Fits (node_condition ns r) d → Fits (node_condition ms m) (joined under c d))
+    → IsFormAt ws ms k m
+joined_form ws ns ms k p q l r m j under is left right by says fits =
+    let s = is_plus k in
+    let c = condition_at ws p in
+    let d = condition_at ws q in
+    let on_left = says_number ws ns p s l left in
+    let on_right = says_number ws ns q s r right in
+    form_of ws ms k m (joined j c d) is
+    (says_like ms m (joined under (node_condition ns l) (node_condition ns r)) (signed s (joined j c d))
+    (λ v row. ap (λ x. holds v row (joined x (node_condition ns l) (node_condition ns r))) by
+    ∙ joined_truth (connective_for s j) (node_condition ns l) (node_condition ns r) (signed s c) (signed s d) v row (on_left.truth v row) (on_right.truth v row) ∙ joined_signed j s c d v row) says)
+    (joined_fits (node_condition ms m) j s c d
+    (subst (λ x. Fits (node_condition ms m) (joined x c d)) by (fits c d (fits_number ws ns p s l left) (fits_number ws ns q s r right))))

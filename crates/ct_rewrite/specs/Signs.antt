@@ -1,36 +1,63 @@
--- The forms of conditions in the making, with both signs.
-use Rattle.std.specs.Prelude.{ℕ, ◌<◌, length, List, Option, Some, None}
+-- The conditions of a log with their signs, and where they stand among nodes in the making.
+use Rattle.std.specs.Prelude.{ℕ, ◌+◌, ◌*◌, ◌/◌, ◌%◌, Bool, true, false, not, List, [], ◌∷◌, Option, Some, None, nat_eq}
 use Rattle.std.specs.Ordering.{nat_cmp}
 use Rattle.std.specs.BTreeMap.{BTreeMap, get}
-use Rattle.ct_word.specs.Condition.{Condition, Not}
+use Rattle.ct_word.specs.Condition.{Condition}
 use Rattle.ct_word.specs.Reading.{condition_at}
+use Rattle.ct_word.specs.WellFormed.{is_place_of}
+use Rattle.ct_word.specs.declared.kinds.Class.TheVariants as class
+use Rattle.ct_word.specs.declared.connectives.Connective.{Connective}
+use Rattle.ct_word.specs.Connective.{dual}
 use Rattle.ct_rewrite.specs.declared.answer.Node.{Node}
-use Rattle.ct_rewrite.specs.declared.forms.Form.{Form}
+use Rattle.ct_rewrite.specs.declared.shape.Shape.{Shape}
+use Rattle.ct_rewrite.specs.declared.shape.Shape.TheVariants as shape
 use Rattle.ct_rewrite.specs.Nodes.{node_condition}
 use Rattle.ct_rewrite.specs.Sizes.{Fits}
-use Rattle.ct_rewrite.specs.Building.{Says}
+use Rattle.ct_rewrite.specs.Shape.{shape_at}
+use Rattle.ct_rewrite.specs.Building.{Says, signed}
 
--- the positions of a condition and of its denial
-pub record IsForm (nodes : List Node) (f : Form) (c : Condition) : Type 0 where
-  pub plus : Says nodes f.plus c
-  pub minus : Says nodes f.minus (Not c)
-  pub plus_fits : Fits (node_condition nodes f.plus) c
-  pub minus_fits : Fits (node_condition nodes f.minus) c
+-- the number of the condition at a place, for minus of its denial
+abbrev pub number : ℕ → Bool → ℕ
+number p true = 2 * p
+number p false = 2 * p + 1
 
--- both positions lie in the node list
-pub record IsPlaced (nodes : List Node) (f : Form) : Type 0 where
-  pub plus : f.plus < length nodes
-  pub minus : f.minus < length nodes
+-- whether a number is that of a condition, and not of its denial
+abbrev pub is_plus : ℕ → Bool
+is_plus k = nat_eq (k % 2) 0
 
--- a form is that of the condition at a place
-abbrev pub IsFormAt : List ℕ → List Node → ℕ → Form → Type 0
-IsFormAt words nodes place f = IsForm nodes f (condition_at words place)
+-- the condition that a number stands for
+abbrev pub signed_at : List ℕ → ℕ → Condition
+signed_at words k = signed (is_plus k) (condition_at words (k / 2))
 
--- the position for plus
-abbrev pub plus_of : Option Form → ℕ
-plus_of (Some f) = f.plus
-plus_of None = 0
+-- whether a number is that of a condition of the words, or of its denial
+abbrev pub is_number : List ℕ → ℕ → Bool
+is_number words k = is_place_of words class.Cond (k / 2)
 
--- the position for plus at a place
-abbrev pub plus_at : BTreeMap ℕ Form → ℕ → ℕ
-plus_at forms place = plus_of (get nat_cmp forms place)
+-- the numbers that a shape names with this sign
+abbrev pub named_by : Bool → Shape → List ℕ
+named_by s (shape.Not p) = number p (not s) ∷ []
+named_by s (shape.Joined j p q) = number p s ∷ number q s ∷ []
+named_by s _ = []
+
+-- the numbers that the condition of a number names
+abbrev pub named_at : List ℕ → ℕ → List ℕ
+named_at words k = named_by (is_plus k) (shape_at words (k / 2))
+
+-- the connective of a condition's parts, for minus of their denials
+abbrev pub connective_for : Bool → Connective → Connective
+connective_for true j = j
+connective_for false j = dual j
+
+-- a position says the condition of a number, and keeps to the bounds of the condition at its place
+pub record IsFormAt (words : List ℕ) (nodes : List Node) (k position : ℕ) : Type 0 where
+  pub says : Says nodes position (signed_at words k)
+  pub fits : Fits (node_condition nodes position) (condition_at words (k / 2))
+
+-- a position, 0 for none
+abbrev pub position_of : Option ℕ → ℕ
+position_of (Some k) = k
+position_of None = 0
+
+-- the position of a number
+abbrev pub position_at : BTreeMap ℕ ℕ → ℕ → ℕ
+position_at forms k = position_of (get nat_cmp forms k)

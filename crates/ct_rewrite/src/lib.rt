@@ -12,6 +12,7 @@ mod forms;
 mod history;
 mod joining;
 mod kept;
+mod numbering;
 mod order;
 mod printed;
 mod shape;

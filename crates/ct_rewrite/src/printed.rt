@@ -12,28 +12,29 @@ ghost use Rattle.ct_rewrite.specs.Nodes.{IsOrdered, is_position, node_condition,
 ghost use Rattle.ct_rewrite.specs.Rules.{are_children_distinct, are_children_within, are_sides_in_order, has_no_literals, is_unsettled};
 ghost use Rattle.ct_rewrite.specs.Below.{has_at};
 ghost use Rattle.ct_rewrite.specs.Shape.{is_true_at};
-ghost use Rattle.ct_rewrite.specs.Signs.{plus_at};
+ghost use Rattle.ct_rewrite.specs.Signs.{position_at};
 ghost use Rattle.ct_rewrite.specs.Sizes.{NoneIsEmpty, deep, nest_of, text_of, wide};
 
 use crate::answer::Node;
 use crate::below::below;
 use crate::builder::Builder;
 use crate::form::Normal;
-use crate::forms::{Form, forms};
+use crate::forms::forms;
 use crate::kept::kept;
-use crate::shape::{Conditions, are_true};
+use crate::numbering::{Conditions, numbers};
+use crate::shape::are_true;
 use ct_word::{List, Memory};
 use std::alloc::Global;
 use std::collections::BTreeMap;
 
-/// The positions for plus at these places.
-fn positions(alloc: Global, forms: &BTreeMap<u32, Form>, places: &[u32]) -> Result<Vec<u32>, Memory>
-    requires { IsTrue (list_all (has_at forms.now) places.now) }
-    ensures { IfOk result (λ ks. ks.items ≡ map (plus_at forms.now) places.now) }
+/// The positions of these numbers.
+fn positions(alloc: Global, forms: &BTreeMap<u32, u32>, numbers: &[u32]) -> Result<Vec<u32>, Memory>
+    requires { IsTrue (list_all (has_at forms.now) numbers.now) }
+    ensures { IfOk result (λ ks. ks.items ≡ map (position_at forms.now) numbers.now) }
 {
     let mut positions = Vec::new(alloc);
-    for place in places {
-        positions.push(forms[place].plus)?;
+    for number in numbers {
+        positions.push(forms[number])?;
     }
     Ok(positions)
 }
@@ -60,9 +61,9 @@ fn all_true(alloc: Global, count: usize) -> Result<Normal, Memory>
 
 /// The printed form of the conditions at these places of a log.
 ///
-/// Each condition that a root leads to gets its form once for each sign, so that what conditions
-/// share is not unfolded. No other word of the log is looked at. Where each root is the word true,
-/// as that of most rows is, no forms are made.
+/// Each condition that a root leads to gets its form once for each sign with which it is led to, so
+/// that what conditions share is not unfolded. No other word of the log is looked at. Where each root
+/// is the word true, as that of most rows is, no forms are made.
 ///
 /// # Errors
 /// `Memory` where there is none for the nodes.
@@ -98,9 +99,11 @@ pub fn normal(alloc: Global, words: &[u64], roots: &[u32]) -> Result<Normal, Mem
     if is_plain(words, roots) {
         return all_true(alloc, roots.len());
     }
-    let places = below(alloc, &Conditions { words }, words.len() as u32, roots)?;
+    let numbered = numbers(alloc, roots)?;
+    let roots = numbered.as_slice();
+    let wanted = below(alloc, &Conditions { words }, 2 * words.len() as u32, roots)?;
     let mut builder = Builder::new(alloc);
-    let forms = forms(alloc, &mut builder, words, &places)?;
+    let forms = forms(alloc, &mut builder, words, &wanted)?;
     let positions = positions(alloc, &forms, roots)?;
     kept(alloc, builder.nodes(), positions.as_slice())
 }

@@ -5,9 +5,7 @@ ghost use Rattle.std.specs.List.{list_all};
 ghost use Rattle.ct_word.specs.Word.{kind_of, left_of, right_of};
 ghost use Rattle.ct_rewrite.specs.Shape.{is_true_at, shape_at, shape_of};
 
-use crate::below::{Graph, add};
-use ct_word::{Connective, Kind, Memory, kind, left, right};
-use std::collections::BTreeSet;
+use ct_word::{Connective, Kind, kind, left, right};
 
 /// A condition over earlier places of a log.
 #[derive(Clone, Copy)]
@@ -55,28 +53,4 @@ pub fn are_true(words: &[u64], places: &[u32]) -> bool
     ensures { result ≡ list_all (is_true_at words.now) places.now }
 {
     places.iter().all(|place| is_true(words, *place))
-}
-
-/// The conditions of a log.
-#[derive(Drop)]
-pub struct Conditions<'a> {
-    pub words: &'a [u64],
-}
-
-impl Graph for Conditions<'_> {
-    ghost use Rattle.ct_word.specs.declared.kinds.Class.TheVariants as class;
-    ghost use Rattle.ct_word.specs.WellFormed.{is_place_of};
-    ghost use Rattle.ct_rewrite.specs.Shape.{parts_at};
-
-    ghost is_in = { λ g. is_place_of g.words.now class.Cond };
-
-    ghost parts = { λ g. parts_at g.words.now };
-
-    fn add_parts(&self, place: u32, places: &mut BTreeSet<u32>) -> Result<(), Memory> {
-        match shape_at(self.words, place) {
-            Shape::Not(part) => add(places, &[part]),
-            Shape::Joined(_, left, right) => add(places, &[left, right]),
-            _ => Ok(()),
-        }
-    }
 }

@@ -1,8 +1,8 @@
 -- An insertion by what an earlier one saw: its offer, and what it is answered where that has become a commit.
-use Rattle.std.{proofs.Common.{◌≡◌, ◌≤◌, ◌+◌, ℕ, List, [], ◌∷◌, max, length, refl, ap, sym, subst, ◌∙◌, true, false, arith}, specs.Prelude.{◌<◌, Contains, None, Result, Ok, Err, IsErrOf}, proofs.lemmas.List.take_all, proofs.lemmas.List.Elements.Contains-append_right, proofs.lemmas.Bool.false≢true}
+use Rattle.std.{proofs.Common.{◌≡◌, ◌≤◌, ◌+◌, ℕ, List, [], ◌∷◌, max, length, refl, ap, sym, subst, ◌∙◌, true, false, arith}, specs.Prelude.{◌<◌, Contains, None, Result, Ok, Err, IfOk, IsErrOf, nat_eq}, specs.List.list_all, proofs.lemmas.List.take_all, proofs.lemmas.List.Elements.Contains-append_right, proofs.lemmas.Bool.false≢true}
 use Rattle.ct_word.{specs.Change.PlainChange, specs.Reading.commits_of, proofs.Items.{first_item, no_item}, proofs.Prefixes.{commits_prefix, prefix_of_prefix}}
-use Rattle.ct_query.{specs.Bounds.bound, specs.Patterns.count, specs.Plain.{PlainAction, PlainStatement}, specs.Reads.action_reads, specs.Schema.schema}
-use Rattle.ct_resolve.specs.Statements.{resolved}
+use Rattle.ct_query.{specs.Bounds.bound, specs.Patterns.count, specs.Plain.{PlainAction, PlainStatement}, specs.Reads.action_reads, specs.Schema.schema, specs.declared.schema.Schema.Schema}
+use Rattle.ct_resolve.{specs.Conditions.condition_or_true, specs.Names.table_in, specs.Statements.{cells_of, resolved}}
 use Rattle.ct_table.specs.Snapshot.{commits_to}
 use Rattle.ct_condition.specs.Writes.{charge}
 use Rattle.ct_statement.{specs.Making.{says_full, widths_in}, specs.Sight.history_of, specs.Unmet.IsWant, proofs.Sights.history_stays, proofs.Weights.action_makes_words}
@@ -13,13 +13,15 @@ use Rattle.ct_keeper.{specs.Bounds.offer_words, specs.Offers.changes_in, specs.S
 use Rattle.ct_keeper.specs.declared.error.KeeperError.{KeeperError}
 use Rattle.ct_parse.specs.declared.tree.Statement.{Statement}
 use Rattle.ct_transaction.{specs.Executes.Executes, specs.Answers.is_full, specs.Outcomes.outcome_reply, specs.Sessions.state_of, specs.State.carried}
-use Rattle.ct_transaction.{specs.Bounded.{Makes, within, Performs}, specs.Prepared.{IsRefused, unmet}, proofs.Bounded.{offer_charged, step_within}}
+use Rattle.ct_transaction.{specs.Bounded.{Makes, within, Performs}, specs.Prepared.{IsNoOrder, IsRefused, unmet}, proofs.Bounded.{offer_charged, step_within}, proofs.Resolving.{after_step, after_test}}
 use Rattle.ct_transaction.{proofs.Going.{front_taken, prefix_short, version_within}, proofs.Called.IsCall, proofs.Whole.committed_seen}
-use Rattle.ct_session.{specs.Outcomes.{CommitsOrWants, IsCommittedOr}, specs.Offering.{IsFoundAlone, IsInsertion, IsReadyToOffer, inserts_rows, InsertsRows, IsLiteralAct}}
+use Rattle.ct_session.{specs.Outcomes.{CommitsOrWants, IsCommittedOr}, specs.Offering.{IsFoundAlone, IsInsertion, IsReadyToOffer, IsRowInsertion, inserts_rows, InsertsRows, IsLiteralAct}}
 use Rattle.ct_session.{specs.declared.offering.Offering.Offering, proofs.Bounded.{alone_counted, charged_less, one_asked, resolves_now, resolves_on}}
 use Rattle.ct_session.proofs.Committed.{committed_from}
 use mathlib.Core.List.{IsPrefix}
 use Rattle.ct_query.specs.Plain as plain
+use Rattle.ct_parse.specs.declared.tree.Statement.TheVariants as tree
+use Rattle.ct_resolve.specs.declared.error.ResolveError.TheVariants as name
 use Rattle.ct_keeper.specs.declared.catalogue.Outcome.TheVariants as outcome
 use Rattle.ct_keeper.specs.declared.error.KeeperError.TheVariants as fault
 use Rattle.ct_transcript.specs.declared.reply.Reply.TheVariants as reply
@@ -34,6 +36,20 @@ one_refusal p = cc
 -- a session goes on
 pub session_stays : (begun now : Seen) → kept_of now ≡ kept_of begun → now.session ≡ begun.session
 session_stays begun now kept = cc
+
+-- an insertion of written rows is no order
+pub insertion_plain : (st : Statement) → IsRowInsertion st → IsNoOrder st
+insertion_plain (tree.InsertRows name r rs c) is = tt
+insertion_plain _ is = absurd is
+
+-- and resolves to one
+rows_found : (s : Schema) (session fresh : ℕ) (st : Statement) → IsRowInsertion st → IfOk (resolved s session fresh st) InsertsRows
+rows_found s session fresh (tree.InsertRows t r rs c) is =
+    after_step InsertsRows (table_in s.tables t) _ (λ h. after_test InsertsRows (list_all (λ w. nat_eq (length (cells_of w)) (length h.columns)) (r ∷ rs)) name.ColumnCount _ (after_step InsertsRows (condition_or_true [] c) _ (λ d. refl)))
+rows_found s session fresh _ is = absurd is
+
+pub insertion_rows : (s : Schema) (session fresh : ℕ) (st : Statement) (asked : PlainStatement) → IsRowInsertion st → resolved s session fresh st ≡ Ok asked → InsertsRows asked
+insertion_rows s session fresh st asked is e = subst (λ r. IfOk r InsertsRows) e (rows_found s session fresh st is)
 
 -- an insertion of written rows is all in its text
 pub rows_literal : (asked : PlainStatement) → InsertsRows asked → IsLiteralAct asked

@@ -10,3 +10,4 @@ pub mod Unread
 pub mod Outside
 pub mod StillKnown
 pub mod Again
+pub mod Asked

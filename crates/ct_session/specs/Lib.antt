@@ -3,3 +3,4 @@ pub mod Outcomes
 pub mod Offering
 pub mod Standing
 pub mod Known
+pub mod Doing

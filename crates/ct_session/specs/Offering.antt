@@ -4,6 +4,7 @@ use Rattle.ct_word.specs.Change.{PlainChange}
 use Rattle.ct_word.specs.Reading.{change_list_at, commits_of}
 use Rattle.ct_arena.specs.Seen.{Seen}
 use Rattle.ct_parse.specs.declared.tree.Statement.{Statement}
+use Rattle.ct_parse.specs.declared.tree.Statement.TheVariants as tree
 use Rattle.ct_query.specs.Agrees.{AgreesWith}
 use Rattle.ct_query.specs.Plain.{PlainAction, PlainStatement}
 use Rattle.ct_query.specs.Plain as plain
@@ -20,8 +21,8 @@ use Rattle.ct_statement.specs.Making.{widths_in, IsLight}
 use Rattle.ct_statement.specs.Sight.{actions_before, history_of}
 use Rattle.ct_statement.specs.Sources.{is_literal}
 use Rattle.ct_transaction.{specs.Bounded.Performs, specs.Prepared.{ForAnswer, IsResolved}}
-use Rattle.ct_session.{specs.declared.alone.Ready.Ready, specs.declared.offering.Offering.Offering, specs.Known.SeesAlone}
-use Rattle.ct_session.specs.declared.alone.Ready.TheVariants as ready
+use Rattle.ct_session.{specs.declared.settling.Ready.Ready, specs.declared.offering.Offering.Offering, specs.Known.SeesAlone}
+use Rattle.ct_session.specs.declared.settling.Ready.TheVariants as ready
 
 -- a statement with positions is an action whose change is all in its text
 abbrev pub IsLiteralAct : PlainStatement → Type 0
@@ -37,6 +38,11 @@ inserts_rows _ = false
 abbrev pub InsertsRows : PlainStatement → Type 0
 InsertsRows (plain.Act a) = inserts_rows a ≡ true
 InsertsRows _ = ⊥
+
+-- a statement is an insertion of written rows
+abbrev pub IsRowInsertion : Statement → Type 0
+IsRowInsertion (tree.InsertRows name row rows condition) = Unit {0}
+IsRowInsertion _ = ⊥
 
 -- a statement resolves to this at what it saw, which was this version
 pub record IsFoundAlone (pass : Seen) (fresh base : ℕ) (st : Statement) (asked : PlainStatement) : Type 0 where

@@ -11,6 +11,7 @@ ghost use Rattle.ct_transaction.specs.Statements.{IsWritten};
 ghost use Rattle.ct_session.specs.Known.{IsKnown};
 
 use crate::alone::alone;
+use crate::inserting::insert;
 use crate::knowing::Known;
 use crate::reading::read;
 use ct_arena::Site;
@@ -45,7 +46,7 @@ fn placed<N: Site, R: Threads + Wait + Sync>(
 {
     let is_open = session.transaction.is_some();
     if let (Statement::InsertRows { .. }, false) = (statement, is_open) {
-        return alone(rt, alloc, server, session, known, workers, statement);
+        return insert(rt, alloc, server, session, known, statement);
     }
     *known = Known::nothing();
     if is_open {
@@ -56,7 +57,7 @@ fn placed<N: Site, R: Threads + Wait + Sync>(
         Statement::Commit | Statement::Rollback => {
             refused_here(session, statement, Refusal::NoTransaction)
         }
-        _ => alone(rt, alloc, server, session, known, workers, statement),
+        _ => alone(rt, alloc, server, session, workers, statement),
     }
 }
 

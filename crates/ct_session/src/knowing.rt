@@ -15,18 +15,17 @@ ghost use Rattle.ct_statement.specs.Unmet.{IsWant};
 ghost use Rattle.ct_transaction.specs.Answers.{is_full, is_unasked};
 ghost use Rattle.ct_transaction.specs.Bounded.{Makes};
 ghost use Rattle.ct_transaction.specs.Executes.{Executes};
-ghost use Rattle.ct_transaction.specs.Prepared.{IsNoOrder};
 ghost use Rattle.ct_transaction.specs.Sessions.{IsSession, state_of};
 ghost use Rattle.ct_transaction.specs.Statements.{IsWritten};
 ghost use Rattle.ct_session.specs.Known.{IsKnown, SeesAlone};
-ghost use Rattle.ct_session.specs.Offering.{InsertsRows, IsFoundAlone, IsInsertion};
+ghost use Rattle.ct_session.specs.Offering.{InsertsRows, IsFoundAlone, IsInsertion, IsRowInsertion};
 ghost use Rattle.ct_session.specs.Outcomes.{CommitsOrWants, IsCommittedOr, Starts};
 
 use crate::offering::{Offering, literal_offer};
 use ct_arena::{Pass, Site};
 use ct_keeper::{KeeperError, Outcome, Server};
 use ct_parse::Statement;
-use ct_query::{Action, Read, Resolved};
+use ct_query::{Read, Resolved};
 use ct_statement::Sight;
 use ct_transaction::{State, refusal, resolved_at};
 use ct_transcript::{Refusal, Reply};
@@ -52,16 +51,13 @@ impl Known {
         }
     }
 
-    /// Keeps what a statement saw that began anew, or lets it go. While it is kept, the keeper cannot change its list of
-    /// tables in place, and copies it once. So it is kept only of an insertion of written rows, and only once there were
-    /// as many of these in a row as there are tables: then they have paid for the copy.
-    pub(crate) fn note(&mut self, sight: Sight, statement: &Statement)
+    /// Keeps what an insertion of written rows saw that began anew, or lets it go. While it is kept, the keeper cannot change
+    /// its list of tables in place, and copies it once. So it is kept only once there were as many of these in a row as there
+    /// are tables: then they have paid for the copy.
+    pub(crate) fn note(&mut self, sight: Sight)
         ensures known { (words : List ℕ) → SeesAlone words sight → IsKnown words self.old → IsKnown words self.new }
     {
-        match statement {
-            Statement::InsertRows { .. } => self.since = self.since.saturating_add(1),
-            _ => return drop(sight),
-        }
+        self.since = self.since.saturating_add(1);
         if sight.tables.db().headings().tables.len() <= self.since {
             self.sight = Some(sight);
             self.since = 0;
@@ -93,13 +89,6 @@ fn committed_or(outcome: Result<Outcome, KeeperError>) -> Result<u32, Refusal>
     }
 }
 
-/// Whether what a statement does is an insertion of written rows.
-fn inserts_rows(resolved: &Resolved) -> bool
-    ensures { result ≡ true → InsertsRows (statement_of resolved.now) }
-{
-    matches!(resolved, Resolved::Act(Action::InsertRows { .. }))
-}
-
 /// An insertion of written rows with positions for its names, and what it reads, where what an earlier one saw has the
 /// names. No word is made.
 fn found_known<N: Site>(
@@ -111,24 +100,17 @@ fn found_known<N: Site>(
 ) -> Option<(Resolved, List<Read>)>
     requires sees { SeesAlone pass.now.words sight.now }
     requires written { IsWritten statement.now }
-    requires plain { IsNoOrder statement.now }
+    requires insertion { IsRowInsertion statement.now }
     ensures found { IfSome result (λ r. IsFoundAlone pass.now fresh sight.now.version statement.now (statement_of r.0)) }
     ensures rows { IfSome result (λ r. InsertsRows (statement_of r.0)) }
     ensures reads { IfSome result (λ r. r.1 ≡ reads_of (statement_of r.0)) }
 {
-    let (found, reads) = match resolved_at(alloc, pass, sight, fresh, statement) {
-        Ok(found) => found,
+    match resolved_at(alloc, pass, sight, fresh, statement) {
+        Ok(found) => Some(found),
         Err(why) => {
             drop(why);
-            return None;
+            None
         }
-    };
-    if inserts_rows(&found) {
-        Some((found, reads))
-    } else {
-        drop(found);
-        drop(reads);
-        None
     }
 }
 
@@ -191,7 +173,7 @@ pub(crate) fn insert_known<N: Site, R: Wait>(
     requires seen { seen ≤ length (commits_of pass.words) }
     requires known { IsKnown pass.words known.old }
     requires written { IsWritten statement.now }
-    requires plain { IsNoOrder statement.now }
+    requires insertion { IsRowInsertion statement.now }
     ensures session { IfOk result (λ done. IsSession done.0.pass.words done.0.seen done.0.transaction) }
     ensures makes { IfOk result (λ done. Makes (state_of pass seen fresh None) done.0.pass.words statement.now pass.made (done.0.pass.made + charge (is_full done.1))) }
     ensures asked { IfOk result (λ done. is_unasked done.1 ≡ false) }

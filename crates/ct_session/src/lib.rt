@@ -4,10 +4,12 @@
 mod alone;
 mod executing;
 mod exporting;
+mod inserting;
 mod knowing;
 mod offering;
 mod reading;
 mod session;
+mod settling;
 
 pub use exporting::ExportError;
 pub use reading::read;

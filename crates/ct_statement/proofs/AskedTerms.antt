@@ -4,48 +4,17 @@ use Rattle.std.{specs.Prelude.{◌⊎◌, flat_map, if◌then◌else◌}, specs.
 use Rattle.std.proofs.lemmas.List.Elements.{All-contains, All-contains_itself, All-from_recursion, recursion_from_All, Contains-append_left, Contains-append_right}
 use Rattle.std.proofs.lemmas.Map.Views.{Contains-from_any}
 use Rattle.ct_word.{specs.declared.values.Term.Term, specs.Value.same_term, specs.Change.PlainCommit}
-use Rattle.ct_word.{specs.Condition.{Condition, Conditions, True, False, Same, Not, And, Or, none, also}, proofs.Alike.term_decides}
+use Rattle.ct_word.proofs.Alike.{term_decides}
 use Rattle.ct_query.{specs.declared.action.Read.Read, specs.Reads.{tables_of, query_reads, action_reads}, proofs.Within.of_added}
-use Rattle.ct_query.specs.Plain.{PlainQuery, PlainAction, PlainStatement, Table, Select, Project, Product, Union, Except, Intersect}
-use Rattle.ct_query.specs.Terms.{condition_terms, all_terms, query_terms, change_terms, action_terms, distinct_terms, changes_that_write, reads_with}
-use Rattle.ct_condition.specs.Terms.{IsNamed, IsNamedInSome}
+use Rattle.ct_query.specs.Plain.{PlainQuery, PlainAction, PlainStatement}
+use Rattle.ct_query.specs.Terms.{query_terms, change_terms, action_terms, distinct_terms, changes_that_write, reads_with}
 use Rattle.ct_table.{specs.Denotes.{TableView, IsTermFor, Denotes}, proofs.Denoting.{found_all, found_name}, proofs.Asked.term_is_asked}
 use Rattle.ct_operators.{specs.Terms.RowsFrom, proofs.Reaching.{behind, foremost, first_or_behind, from_rows}, proofs.Naming.mapped}
-use Rattle.ct_algebra.specs.Terms.{IsNamedIn, TermOfQuery}
+use Rattle.ct_algebra.{specs.Terms.TermOfQuery, proofs.Planned.named_in}
 use Rattle.ct_statement.specs.Asking.{terms_of_query}
 use Rattle.ct_query.specs.declared.action.Ask.TheVariants as ask
 use Rattle.ct_query.specs.declared.action.Read.TheVariants as read
 use Rattle.ct_query.specs.Plain as plain
-
--- a term that is named stands among the terms
-abbrev mutual
-  named_stands : (c : Condition) (t : Term) → IsNamed c t → Contains (condition_terms c) t
-  named_stands True t n = absurd n
-  named_stands False t n = absurd n
-  named_stands (Same s u) t (inl e) = subst (Contains (s ∷ u ∷ [])) (sym e) (foremost s (u ∷ []))
-  named_stands (Same s u) t (inr e) = subst (Contains (s ∷ u ∷ [])) (sym e) (behind s (u ∷ []) u (foremost u []))
-  named_stands (Not c) t n = named_stands c t n
-  named_stands (And cs) t n = some_named_stands cs t n
-  named_stands (Or cs) t n = some_named_stands cs t n
-
-  some_named_stands : (cs : Conditions) (t : Term) → IsNamedInSome cs t → Contains (all_terms cs) t
-  some_named_stands none t n = absurd n
-  some_named_stands (also c cs) t (inl n) = Contains-append_left (condition_terms c) (all_terms cs) t (named_stands c t n)
-  some_named_stands (also c cs) t (inr n) = Contains-append_right (condition_terms c) (all_terms cs) t (some_named_stands cs t n)
-
-named_in : (q : PlainQuery) (t : Term) → IsNamedIn q t → Contains (query_terms q) t
-named_in (Table name) t n = absurd n
-named_in (Select c q) t (inl n) = Contains-append_left (condition_terms c) (query_terms q) t (named_stands c t n)
-named_in (Select c q) t (inr n) = Contains-append_right (condition_terms c) (query_terms q) t (named_in q t n)
-named_in (Project ks q) t n = named_in q t n
-named_in (Product a b) t (inl n) = Contains-append_left (query_terms a) (query_terms b) t (named_in a t n)
-named_in (Product a b) t (inr n) = Contains-append_right (query_terms a) (query_terms b) t (named_in b t n)
-named_in (Union a b) t (inl n) = Contains-append_left (query_terms a) (query_terms b) t (named_in a t n)
-named_in (Union a b) t (inr n) = Contains-append_right (query_terms a) (query_terms b) t (named_in b t n)
-named_in (Except a b) t (inl n) = Contains-append_left (query_terms a) (query_terms b) t (named_in a t n)
-named_in (Except a b) t (inr n) = Contains-append_right (query_terms a) (query_terms b) t (named_in b t n)
-named_in (Intersect a b) t (inl n) = Contains-append_left (query_terms a) (query_terms b) t (named_in a t n)
-named_in (Intersect a b) t (inr n) = Contains-append_right (query_terms a) (query_terms b) t (named_in b t n)
 
 -- a query reads its tables and the worlds
 is_read : (q : PlainQuery) (r : Read) → Contains (map read.Table (tables_of q) ++ read.Worlds ∷ []) r → Contains (query_reads q) r

@@ -1,5 +1,6 @@
 pub mod Weights
 pub mod Wanting
+pub mod Frames
 pub mod AskedTerms
 pub mod Evaluating
 pub mod Printed

@@ -1,51 +1,28 @@
 -- The words of each call are within those of its statement.
 use Rattle.std.proofs.Common.{◌≡◌, ℕ, ◌+◌, ◌*◌, ◌^◌, ◌<◌, ◌≤◌, Bool, true, false, List, [], ◌∷◌, map, length, refl, ap, sym, subst, arith}
-use Rattle.std.specs.Prelude.{Option, Some, None, IsSome, Result, Ok, Err, OnErr, is_err, All, sum_by, unwrap_or}
+use Rattle.std.specs.Prelude.{Option, Some, None, IsSome, Err, All, sum_by, unwrap_or}
 use Rattle.std.specs.Option.{option_map_or}
 use Rattle.std.proofs.lemmas.{Bool.false≢true, Nat.mul-le, List.length-map, List.Sums.sum_by-le, List.Elements.All-weaker}
 use Rattle.ct_word.{specs.declared.values.CRow.CRow, specs.Change.{PlainRow, PlainChange, Create, Insert, Delete, Update, Assert, PlainCommit}}
 use Rattle.ct_query.{specs.Plain.{PlainQuery, PlainAction}, specs.Size.{row_bound, greatest}, specs.Patterns.count, specs.Schema.schema, specs.declared.schema.Heading.Heading}
 use Rattle.ct_query.specs.Bounds.{ops, characters, width, query_words, side_words, nodes, change_words, applying_words, bound}
-use Rattle.ct_condition.specs.Writes.{charge}
-use Rattle.ct_history.specs.Encodes.{IsChangeFor, HasOpsOf, asserted_by, row_words, encode_words}
+use Rattle.ct_arena.specs.Seen.{Seen}
+use Rattle.ct_condition.{specs.Writes.charge, proofs.Writes.writes_of}
+use Rattle.ct_history.{specs.Kept.PassWrites, specs.Encodes.{IsChangeFor, HasOpsOf, asserted_by, row_words, encode_words}}
 use Rattle.ct_operators.specs.declared.error.TableError.{TableError}
 use Rattle.ct_operators.specs.Tables.{IsRow}
-use Rattle.ct_algebra.specs.declared.error.EvalError.{EvalError}
-use Rattle.ct_certain.specs.declared.error.CertainError.{CertainError}
 use Rattle.ct_table.{specs.Denotes.{TableView, Denotes, find_table}, proofs.ByTables.tables_counted, proofs.QuerySizes.row_bound_grows}
 use Rattle.ct_keeper.{specs.Bounds.applied_words, specs.Effects.{rows_found, effect_words}, specs.declared.effects.Effect.Effect}
 use Rattle.ct_transcript.specs.declared.reply.Refusal.{Refusal}
-use Rattle.ct_statement.{specs.Asking.{unanswered, unlisted}, specs.Making.{says_full, widths_in, taking_words, taken_rows, IsLight}, specs.Narrowing.{unapplied, IsWorldless, IsUnkept}}
+use Rattle.ct_statement.{specs.Making.{says_full, widths_in, taking_words, taken_rows, IsLight}, specs.Narrowing.{unapplied, IsWorldless, IsUnkept}}
 use Rattle.ct_statement.{specs.Sources.AreTakenFor, proofs.Weights.lists_grow}
 use Rattle.ct_query.specs.Plain as plain
 use Rattle.ct_query.specs.Fits as fits
 use Rattle.ct_query.specs.declared.action.Ask.TheVariants as ask
 use Rattle.ct_operators.specs.Refusals as operators
 use Rattle.ct_operators.specs.declared.error.TableError.TheVariants as table
-use Rattle.ct_algebra.specs.declared.error.EvalError.TheVariants as eval
-use Rattle.ct_certain.specs.declared.error.CertainError.TheVariants as fault
 use Rattle.ct_keeper.specs.declared.effects.Effect.TheVariants as effect
 use Rattle.ct_transcript.specs.declared.reply.Refusal.TheVariants as refusal
-
--- at most one is charged
-pub charge_most : (b : Bool) → charge b ≤ 1
-charge_most true = omega arith
-charge_most false = omega arith
-
--- a call that made at most so many words, and fewer where it was refused
-pub charged_within : {T E : Type 0} (r : Result T E) (n made made' : ℕ) → made' ≤ made + n → OnErr r (made' < made + n) → made' + charge (is_err r) ≤ made + n
-charged_within (Ok x) n made made' le fewer = omega (arith, le)
-charged_within (Err e) n made made' le fewer = omega (arith, fewer)
-
--- a call that made at most so many words, and fewer where the log was full
-pub evaluated_within : (n made made' : ℕ) (e : EvalError) → made' ≤ made + n → (e ≡ eval.Full → made' < made + n) → made' + charge (says_full (unanswered e)) ≤ made + n
-evaluated_within n made made' eval.Full le fewer = let lt = fewer refl in omega (arith, lt)
-evaluated_within n made made' eval.TooLarge le fewer = omega (arith, le)
-evaluated_within n made made' eval.Memory le fewer = omega (arith, le)
-
-pub listed_within : (n made made' : ℕ) (e : CertainError) → made' ≤ made + n → (e ≡ fault.Full → made' < made + n) → made' + charge (says_full (unlisted e)) ≤ made + n
-listed_within n made made' fault.Full le fewer = let lt = fewer refl in omega (arith, lt)
-listed_within n made made' fault.Memory le fewer = omega (arith, le)
 
 -- a query whose words are counted has as many columns as are counted
 first_counted : (m : ℕ) (a b : Option ℕ) → IsSome (side_words m a b) → IsSome a
@@ -67,18 +44,21 @@ by_width counts s q made total more few le = by_words (query_words counts q) ref
   by_words (Some n) e = subst (λ k. total ≤ made + nodes counts q + more k) (counted_width counts s q (subst IsSome (sym e) refl)) le
   by_words None e = let all : nodes counts q ≡ greatest = ap (λ o. unwrap_or o greatest) e in omega (arith, all, few)
 
--- the words of a query and of what is asked of its rows
-pub asked_within : (counts widths : List ℕ → ℕ) (q : PlainQuery) (r made0 made1 total : ℕ) → r ≤ row_bound counts q → made1 ≤ made0 + nodes counts q → total ≤ made1 + r
-    → total ≤ made0 + bound counts widths None (plain.Asks ask.Possible [] q)
-asked_within counts widths q r made0 made1 total few first then' = omega (arith, few, first, then')
+-- at most one is charged
+charge_most : (b : Bool) → charge b ≤ 1
+charge_most true = omega arith
+charge_most false = omega arith
 
-pub certain_within : (counts : List ℕ → ℕ) (s : List Heading) (q : PlainQuery) (r k made0 made1 total : ℕ) → r ≤ row_bound counts q → k ≡ fits.width s q → made1 ≤ made0 + nodes counts q
-    → total ≤ made1 + r * (r * (2 * k + 2) + k + 1) → total ≤ 2 ^ 28 → total ≤ made0 + bound counts (widths_in s) None (plain.Asks ask.Certain [] q)
-certain_within counts s q r k made0 made1 total few wide first then' most =
-    let own : total ≤ made1 + r * (r * (2 * fits.width s q + 2) + fits.width s q + 1) = subst (λ n. total ≤ made1 + r * (r * (2 * n + 2) + n + 1)) wide then' in
-    let all = by_width counts s q made0 total (λ n. r * (r * (2 * n + 2) + n + 1)) most (omega (arith, own, first)) in
+-- the words of a query and of the questions about its tuples
+pub asks_certain : (counts : List ℕ → ℕ) (s : List Heading) (q : PlainQuery) (r k : ℕ) → r ≤ row_bound counts q → k ≡ fits.width s q → {cap : ℕ} {old new : Seen} {refused : Bool} → 2 + new.made ≤ length new.words
+    → length new.words < 2 ^ 28 → PassWrites cap old new (nodes counts q + r * (r * (2 * k + 2) + k + 1)) refused → PassWrites cap old new (bound counts (widths_in s) None (plain.Asks ask.Certain [] q)) refused
+asks_certain counts s q r k few wide {old = old} {new} {refused} counted small w =
+    let total = new.made + charge refused in
+    let own : total ≤ old.made + (nodes counts q + r * (r * (2 * fits.width s q + 2) + fits.width s q + 1)) = subst (λ n. total ≤ old.made + (nodes counts q + r * (r * (2 * n + 2) + n + 1))) wide w.made in
+    let one = charge_most refused in
+    let all = by_width counts s q old.made total (λ n. r * (r * (2 * n + 2) + n + 1)) (omega (arith, counted, small, one)) (omega (arith, own)) in
     let lists = lists_grow ask.Certain r (row_bound counts q) (width q) few in
-    omega (arith, all, lists)
+    writes_of w (omega (arith, all, lists))
 
 -- what an action takes, and a further five words, are within the words of its change
 pub taking_within : (counts widths : List ℕ → ℕ) (a : PlainAction) → taking_words counts widths a + 6 ≤ change_words counts widths a

@@ -5,12 +5,11 @@ use Rattle.std.proofs.lemmas.List.Elements.{All-nil, All-cons, All-append, All-w
 use Rattle.ct_word.{specs.declared.values.Term.Term, specs.Value.same_text, specs.Change.{PlainChange, Create, PlainCommit}, specs.Reading.commits_of}
 use Rattle.ct_word.proofs.Few.{HasFewColumns, listed_have_few_columns, commits_have_few_columns}
 use Rattle.ct_query.{specs.Plain.PlainAction, specs.Agrees.AgreesWith, specs.declared.schema.Heading.Heading, specs.Schema.{created_by_change, created_by_action, schema}}
-use Rattle.ct_query.{specs.Worlds.changes_of, specs.Fields.{FitsFields, FitsFieldsOn}, specs.Fits.{columns_in, count_of, FitsAction}, proofs.Fitting.{condition_on, narrow_fits}}
+use Rattle.ct_query.{specs.Worlds.changes_of, specs.Fields.{FitsFields, FitsFieldsOn}, specs.Fits.{columns_in, count_of, IsColumnBelow, FitsAction}, proofs.Fitting.{condition_on, below_fits, narrow_fits}}
 use Rattle.ct_history.specs.Encodes.{IsEncodable}
 use Rattle.ct_operators.proofs.Reaching.{both_all}
 use Rattle.ct_statement.{specs.declared.sight.Sight.Sight, specs.Proposals.IsProposal, specs.Sight.{IsNarrow, IsSight, actions_before, history_of}}
 use mathlib.Core.List.{IsPrefix}
-use Rattle.ct_word.specs.declared.values.Term.TheVariants as term
 use Rattle.ct_query.specs.Plain as plain
 
 -- a table has at most so many columns
@@ -84,12 +83,6 @@ columns_few n (t ∷ s) name few = by_test (same_text t.name name) (columns_few 
   by_test true rest = All-head (AtMost n) t s few
   by_test false rest = rest
 
--- a term that fits alone has numbers that a word has room for
-alone_fits : (t : Term) → FitsFieldsOn 0 t → FitsFields t
-alone_fits (term.Column k) f = f (omega arith)
-alone_fits (term.Null u) f = f
-alone_fits (term.Value x) f = f
-
 -- the terms of an action that fits such tables have numbers that a word has room for
 pub encodable : (s : List Heading) → All (λ t. length t.columns ≤ 2 ^ 28) s → (a : PlainAction) → FitsAction s a → IsEncodable a
 encodable s few (plain.InsertRows name rs c) f = (f.2, f.3)
@@ -97,7 +90,9 @@ encodable s few (plain.Delete name c) f = condition_on 0 c (narrow_fits (count_o
 encodable s few (plain.Update name sets c) f =
     let n = count_of (columns_in s name) in
     let small = columns_few (2 ^ 28) s name few in (
-      both_all (λ (b : ℕ × Term). b.0 < n) (λ (b : ℕ × Term). FitsFieldsOn 0 b.1) (λ (b : ℕ × Term). (b.0 < 2 ^ 28) × FitsFields b.1) (λ b lt on. (omega (arith, lt, small), alone_fits b.1 on)) sets f.1.within f.2,
+      both_all (λ (b : ℕ × Term). b.0 < n) (λ (b : ℕ × Term). FitsFieldsOn n b.1 × IsColumnBelow n b.1) (λ (b : ℕ × Term). (b.0 < 2 ^ 28) × FitsFields b.1)
+          (λ b lt on. (omega (arith, lt, small), below_fits n b.1 small on.0 on.1)) sets f.1.within
+          (both_all (λ (b : ℕ × Term). FitsFieldsOn n b.1) (λ (b : ℕ × Term). IsColumnBelow n b.1) (λ (b : ℕ × Term). FitsFieldsOn n b.1 × IsColumnBelow n b.1) (λ b on below. (on, below)) sets f.2 f.1.columns),
       condition_on 0 c (narrow_fits n c small f.3),
     )
 encodable s few (plain.Assert c) f = f

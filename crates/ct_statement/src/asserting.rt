@@ -1,16 +1,14 @@
 // The condition of an assertion over a query or a key.
 
-ghost use Rattle.std.specs.Prelude.{◌≡◌, ◌<◌, ◌≤◌, ◌↔◌, ◌+◌, ◌*◌, ◌∷◌, [], ◌⊎◌, length, Some, IfOk, IfErr, IsErrOf, IsSome, IsTrue, OnErr, is_err};
-ghost use mathlib.Core.List.{IsPrefix};
+ghost use Rattle.std.specs.Prelude.{◌≡◌, ◌<◌, ◌≤◌, ◌↔◌, ◌*◌, ◌∷◌, [], ◌⊎◌, length, Some, IfOk, IfErr, IsErrOf, IsSome, IsTrue, is_err};
 ghost use Rattle.ct_condition.specs.Terms.{TermsFrom};
-ghost use Rattle.ct_condition.specs.Writes.{charge};
 ghost use Rattle.ct_query.specs.Assertions.{as_wanted};
 ghost use Rattle.ct_query.specs.Fits.{Fits, FitsAction};
 ghost use Rattle.ct_query.specs.Patterns.{count};
 ghost use Rattle.ct_query.specs.Plain as plain;
 ghost use Rattle.ct_query.specs.Schema.{schema};
 ghost use Rattle.ct_query.specs.Views.{query_of};
-ghost use Rattle.ct_history.specs.Kept.{kept_of};
+ghost use Rattle.ct_history.specs.Kept.{PassWrites};
 ghost use Rattle.ct_operators.specs.Building.{HoldsWhere};
 ghost use Rattle.ct_operators.specs.Tables.{AreRows, value_of_rows};
 ghost use Rattle.ct_operators.specs.Terms.{TermOfRows};
@@ -66,10 +64,7 @@ fn has_row<N: Site>(
     requires rows { AreRows pass.old.words (length table.now.columns) table.now.rows }
     ensures holds { IfOk result (λ place. HoldsWhere pass.new.words place (λ v. as_wanted wanted (value_of_rows pass.old.words v table.now.rows))) }
     ensures terms { IfOk result (λ place. TermsFrom pass.new.words place (TermOfRows pass.old.words table.now.rows)) }
-    ensures longer { IsPrefix pass.old.words pass.new.words }
-    ensures full { OnErr result (length pass.new.words ≡ N.log.cap) }
-    ensures made { pass.new.made + charge (is_err result) ≤ pass.old.made + 2 * length table.now.rows }
-    ensures kept { kept_of pass.new ≡ kept_of pass.old }
+    ensures writes { PassWrites N.log.cap pass.old pass.new (2 * length table.now.rows) (is_err result) }
 {
     if wanted {
         some(arena, pass, table)
@@ -94,9 +89,7 @@ pub(crate) fn asserted_query<N: Site>(
 ) -> Result<List<CRow>, Refusal>
     requires sight { IsSight pass.old.words sight.now }
     requires fits { Fits (schema (history_of pass.old.words sight.now) (actions_before sight.now)).tables (query_of query.now) }
-    ensures longer { IsPrefix pass.old.words pass.new.words }
-    ensures kept { kept_of pass.new ≡ kept_of pass.old }
-    ensures made { pass.new.made + charge (is_full result) ≤ pass.old.made + taking_words (count (history_of pass.old.words sight.now) (actions_before sight.now)) (widths_in (schema (history_of pass.old.words sight.now) (actions_before sight.now)).tables) (plain.AssertQuery wanted (query_of query.now)) }
+    ensures writes { PassWrites N.log.cap pass.old pass.new (taking_words (count (history_of pass.old.words sight.now) (actions_before sight.now)) (widths_in (schema (history_of pass.old.words sight.now) (actions_before sight.now)).tables) (plain.AssertQuery wanted (query_of query.now))) (is_full result) }
     ensures row { IfOk result (AreAsserted pass.new.words (history_of pass.old.words sight.now) (actions_before sight.now) (plain.AssertQuery wanted (query_of query.now))) }
     ensures err { IfErr result (IsUnmet (history_of pass.old.words sight.now) (actions_before sight.now) N.log.cap pass.new.words (plain.Act (plain.AssertQuery wanted (query_of query.now)))) }
 {
@@ -145,13 +138,13 @@ pub(crate) fn asserted_key<N: Site>(
 ) -> Result<List<CRow>, Refusal>
     requires sight { IsSight pass.old.words sight.now }
     requires fits { FitsAction (schema (history_of pass.old.words sight.now) (actions_before sight.now)).tables (plain.AssertKey name.now columns.now) }
-    ensures longer { IsPrefix pass.old.words pass.new.words }
-    ensures kept { kept_of pass.new ≡ kept_of pass.old }
-    ensures made { pass.new.made + charge (is_full result) ≤ pass.old.made + taking_words (count (history_of pass.old.words sight.now) (actions_before sight.now)) (widths_in (schema (history_of pass.old.words sight.now) (actions_before sight.now)).tables) (plain.AssertKey name.now columns.now) }
+    ensures writes { PassWrites N.log.cap pass.old pass.new (taking_words (count (history_of pass.old.words sight.now) (actions_before sight.now)) (widths_in (schema (history_of pass.old.words sight.now) (actions_before sight.now)).tables) (plain.AssertKey name.now columns.now)) (is_full result) }
     ensures row { IfOk result (AreAsserted pass.new.words (history_of pass.old.words sight.now) (actions_before sight.now) (plain.AssertKey name.now columns.now)) }
     ensures within { IfOk result (λ _. rows_of_found (find_table sight.now.tables name.now) * rows_of_found (find_table sight.now.tables name.now) ≤ limit) }
     ensures err { IfErr result (IsUnmet (history_of pass.old.words sight.now) (actions_before sight.now) N.log.cap pass.new.words (plain.Act (plain.AssertKey name.now columns.now))) }
 {
+    // The words are well formed, also where there is no table.
+    let _ = pass.words();
     let table = match table_for_key(alloc, sight.tables.db(), name) {
         Ok(table) => table,
         Err(why) => return Err(why),

@@ -4,13 +4,11 @@
 mod advancing;
 mod asking;
 mod asserting;
-mod certainty;
 mod drawing;
 mod printing;
 mod proposing;
 mod refusing;
 mod replying;
-mod selecting;
 mod sight;
 mod stepping;
 mod workers;

@@ -1,7 +1,6 @@
 // The change that a statement proposes.
 
-ghost use Rattle.std.specs.Prelude.{◌≡◌, ◌+◌, ◌<◌, ◌≤◌, ◌^◌, ℕ, List, [], true, is_err, length, IfOk, IfErr, IfSome, IsTrue, OnErr};
-ghost use mathlib.Core.List.{IsPrefix};
+ghost use Rattle.std.specs.Prelude.{◌≡◌, ◌+◌, ◌<◌, ◌≤◌, ◌^◌, ℕ, List, [], true, is_err, length, IfOk, IfErr, IfSome, IsTrue};
 ghost use Rattle.ct_word.specs.declared.kinds.Class.TheVariants as class;
 ghost use Rattle.ct_word.specs.Reading.{change_list_at};
 ghost use Rattle.ct_word.specs.WellFormed.{is_place_of};
@@ -13,7 +12,7 @@ ghost use Rattle.ct_query.specs.Plain as plain;
 ghost use Rattle.ct_query.specs.Schema.{schema};
 ghost use Rattle.ct_query.specs.Views.{action_of};
 ghost use Rattle.ct_history.specs.Encodes.{IsEncodable};
-ghost use Rattle.ct_history.specs.Kept.{kept_of};
+ghost use Rattle.ct_history.specs.Kept.{PassWrites};
 ghost use Rattle.ct_resolve.specs.Writing.{WritesAction};
 ghost use Rattle.ct_statement.specs.Drawing.{drawn};
 ghost use Rattle.ct_statement.specs.Making.{is_full, taken_rows, taking_words, widths_in};
@@ -52,10 +51,7 @@ fn begun<N: Site>(arena: &Arena<N>, pass: &mut Pass<N>, list: Option<u32>) -> Re
     ensures place { IfOk result (λ place. IsTrue (is_place_of pass.new.words class.ChangeList place)) }
     ensures small { IfOk result (λ place. place < 2 ^ 28) }
     ensures same { IfOk result (λ place. change_list_at pass.new.words place ≡ listed pass.old.words list) }
-    ensures longer { IsPrefix pass.old.words pass.new.words }
-    ensures full { OnErr result (length pass.new.words ≡ N.log.cap) }
-    ensures kept { kept_of pass.new ≡ kept_of pass.old }
-    ensures made { pass.new.made + charge (is_err result) ≤ pass.old.made + 1 }
+    ensures writes { PassWrites N.log.cap pass.old pass.new 1 (is_err result) }
 {
     match list {
         None => match no_changes(arena, pass) {
@@ -85,9 +81,7 @@ fn taken_for<N: Site>(
 ) -> Result<List<CRow>, Refusal>
     requires sight { IsSight pass.old.words sight.now }
     requires fits { FitsAction (schema (history_of pass.old.words sight.now) (actions_before sight.now)).tables (action_of action.now) }
-    ensures longer { IsPrefix pass.old.words pass.new.words }
-    ensures kept { kept_of pass.new ≡ kept_of pass.old }
-    ensures made { pass.new.made + charge (is_full result) ≤ pass.old.made + taking_words (count (history_of pass.old.words sight.now) (actions_before sight.now)) (widths_in (schema (history_of pass.old.words sight.now) (actions_before sight.now)).tables) (action_of action.now) }
+    ensures writes { PassWrites N.log.cap pass.old pass.new (taking_words (count (history_of pass.old.words sight.now) (actions_before sight.now)) (widths_in (schema (history_of pass.old.words sight.now) (actions_before sight.now)).tables) (action_of action.now)) (is_full result) }
     ensures few { IfOk result (λ rows. length rows ≤ taken_rows (count (history_of pass.old.words sight.now) (actions_before sight.now)) (action_of action.now)) }
     ensures rows { IfOk result (AreTakenFor pass.new.words sight.now.global (history_of pass.old.words sight.now) (actions_before sight.now) (action_of action.now)) }
     ensures within { IfOk result (λ _. HasFewPairs sight.now.tables (action_of action.now)) }
@@ -107,7 +101,11 @@ fn taken_for<N: Site>(
         Action::AssertKey { name, columns } => {
             asserted_key(alloc, arena, pass, sight, name, columns)
         }
-        _ => Ok(List::new(alloc)),
+        _ => {
+            // The words are well formed.
+            let _ = pass.words();
+            Ok(List::new(alloc))
+        }
     }
 }
 
@@ -127,9 +125,10 @@ fn added<N: Site>(
     requires list { IfSome list (λ place. IsTrue (is_place_of pass.old.words class.ChangeList place)) }
     requires fits { FitsAction (schema (history_of pass.old.words sight.now) (actions_before sight.now)).tables (action_of action.now) }
     requires written { WritesAction (action_of action.now) }
-    ensures longer { IsPrefix pass.old.words pass.new.words }
-    ensures kept { kept_of pass.new ≡ kept_of pass.old }
-    ensures made { pass.new.made + charge (is_full result) + 1 ≤ pass.old.made + change_words (count (history_of pass.old.words sight.now) (actions_before sight.now)) (widths_in (schema (history_of pass.old.words sight.now) (actions_before sight.now)).tables) (action_of action.now) }
+    ensures writes { PassWrites N.log.cap pass.old pass.new (change_words (count (history_of pass.old.words sight.now) (actions_before sight.now)) (widths_in (schema (history_of pass.old.words sight.now) (actions_before sight.now)).tables) (action_of action.now)) (is_full result) }
+
+    // One word is left, for that of the commit.
+    ensures left { pass.new.made + charge (is_full result) + 1 ≤ pass.old.made + change_words (count (history_of pass.old.words sight.now) (actions_before sight.now)) (widths_in (schema (history_of pass.old.words sight.now) (actions_before sight.now)).tables) (action_of action.now) }
     ensures proposes { IfOk result (IsProposal pass.new.words (history_of pass.old.words sight.now) (actions_before sight.now) (listed pass.old.words list) (action_of action.now)) }
     ensures within { IfOk result (λ _. HasFewPairs sight.now.tables (action_of action.now)) }
     ensures err { IfErr result (IsUnmet (history_of pass.old.words sight.now) (actions_before sight.now) N.log.cap pass.new.words (plain.Act (action_of action.now))) }
@@ -172,15 +171,18 @@ pub fn propose<N: Site>(
     requires list { IfSome list (λ place. IsTrue (is_place_of pass.old.words class.ChangeList place)) }
     requires fits { FitsAction (schema (history_of pass.old.words sight.now) (actions_before sight.now)).tables (action_of action) }
     requires written { WritesAction (action_of action) }
-    ensures longer { IsPrefix pass.old.words pass.new.words }
-    ensures kept { kept_of pass.new ≡ kept_of pass.old }
-    ensures made { pass.new.made + charge (is_full result) + 1 ≤ pass.old.made + change_words (count (history_of pass.old.words sight.now) (actions_before sight.now)) (widths_in (schema (history_of pass.old.words sight.now) (actions_before sight.now)).tables) (action_of action) }
+    ensures writes { PassWrites N.log.cap pass.old pass.new (change_words (count (history_of pass.old.words sight.now) (actions_before sight.now)) (widths_in (schema (history_of pass.old.words sight.now) (actions_before sight.now)).tables) (action_of action)) (is_full result) }
+
+    // One word is left, for that of the commit.
+    ensures left { pass.new.made + charge (is_full result) + 1 ≤ pass.old.made + change_words (count (history_of pass.old.words sight.now) (actions_before sight.now)) (widths_in (schema (history_of pass.old.words sight.now) (actions_before sight.now)).tables) (action_of action) }
     ensures action { IfOk result (λ p. action_of p.action ≡ action_of action) }
     ensures fresh { IfOk result (λ p. p.fresh ≡ fresh + drawn (action_of action)) }
     ensures proposes { IfOk result (λ p. IsProposal pass.new.words (history_of pass.old.words sight.now) (actions_before sight.now) (listed pass.old.words list) (action_of action) p.changes) }
     ensures within { IfOk result (λ _. HasFewPairs sight.now.tables (action_of action)) }
     ensures err { IfErr result (IsUnmet (history_of pass.old.words sight.now) (actions_before sight.now) N.log.cap pass.new.words (plain.Act (action_of action))) }
 {
+    // The words are well formed, also where no number is left.
+    let _ = pass.words();
     let fresh = match after(fresh, &action) {
         Ok(fresh) => fresh,
         Err(_) => {
@@ -229,9 +231,10 @@ fn added_literal<N: Site>(
     requires literal { is_literal (action_of action.now) ≡ true }
     requires encodable { IsEncodable (action_of action.now) }
     requires written { WritesAction (action_of action.now) }
-    ensures longer { IsPrefix pass.old.words pass.new.words }
-    ensures kept { kept_of pass.new ≡ kept_of pass.old }
-    ensures made { (counts widths : List ℕ → ℕ) → pass.new.made + charge (is_full result) + 1 ≤ pass.old.made + change_words counts widths (action_of action.now) }
+    ensures writes { PassWrites N.log.cap pass.old pass.new (change_words (λ table. 0) (λ table. 0) (action_of action.now)) (is_full result) }
+
+    // By all counts; one word is left, for that of the commit.
+    ensures left { (counts widths : List ℕ → ℕ) → pass.new.made + charge (is_full result) + 1 ≤ pass.old.made + change_words counts widths (action_of action.now) }
     ensures proposes { (s : SightValue) → IsSight pass.old.words s → FitsAction (schema (history_of pass.old.words s) (actions_before s)).tables (action_of action.now) → IfOk result (IsProposal pass.new.words (history_of pass.old.words s) (actions_before s) [] (action_of action.now)) }
     ensures err { IfErr result (IsWant N.log.cap pass.new.words) }
 {
@@ -262,14 +265,17 @@ pub fn propose_literal<N: Site>(
     requires literal { is_literal (action_of action) ≡ true }
     requires encodable { IsEncodable (action_of action) }
     requires written { WritesAction (action_of action) }
-    ensures longer { IsPrefix pass.old.words pass.new.words }
-    ensures kept { kept_of pass.new ≡ kept_of pass.old }
-    ensures made { (counts widths : List ℕ → ℕ) → pass.new.made + charge (is_full result) + 1 ≤ pass.old.made + change_words counts widths (action_of action) }
+    ensures writes { PassWrites N.log.cap pass.old pass.new (change_words (λ table. 0) (λ table. 0) (action_of action)) (is_full result) }
+
+    // By all counts; one word is left, for that of the commit.
+    ensures left { (counts widths : List ℕ → ℕ) → pass.new.made + charge (is_full result) + 1 ≤ pass.old.made + change_words counts widths (action_of action) }
     ensures action { IfOk result (λ p. action_of p.action ≡ action_of action) }
     ensures fresh { IfOk result (λ p. p.fresh ≡ fresh + drawn (action_of action)) }
     ensures proposes { (s : SightValue) → IsSight pass.old.words s → FitsAction (schema (history_of pass.old.words s) (actions_before s)).tables (action_of action) → IfOk result (λ p. IsProposal pass.new.words (history_of pass.old.words s) (actions_before s) [] (action_of action) p.changes) }
     ensures err { IfErr result (IsWant N.log.cap pass.new.words) }
 {
+    // The words are well formed, also where no number is left.
+    let _ = pass.words();
     let fresh = match after(fresh, &action) {
         Ok(fresh) => fresh,
         Err(_) => {

@@ -1,19 +1,17 @@
 // The step from what a statement sees to what is seen after its action.
 
-ghost use Rattle.std.specs.Prelude.{◌≡◌, ◌<◌, ◌≤◌, ◌+◌, ◌^◌, List, length, IfOk, IfErr, IsTrue};
-ghost use mathlib.Core.List.{IsPrefix};
+ghost use Rattle.std.specs.Prelude.{◌≡◌, ◌<◌, ◌^◌, List, length, IfOk, IfErr, IsTrue};
 ghost use Rattle.ct_word.specs.Change.{PlainChange};
 ghost use Rattle.ct_word.specs.Condition.{holds_at};
 ghost use Rattle.ct_word.specs.Reading.{condition_at};
 ghost use Rattle.ct_word.specs.WellFormed.{IsWellFormed};
 ghost use Rattle.ct_near.specs.Conjuncts.{AreConjuncts};
 ghost use Rattle.ct_decide.specs.Decided.{DecisionNear};
-ghost use Rattle.ct_condition.specs.Writes.{charge};
 ghost use Rattle.ct_query.specs.Bounds.{applying_words};
 ghost use Rattle.ct_query.specs.Patterns.{count};
 ghost use Rattle.ct_query.specs.Plain as plain;
 ghost use Rattle.ct_query.specs.Views.{action_of};
-ghost use Rattle.ct_history.specs.Kept.{kept_of};
+ghost use Rattle.ct_history.specs.Kept.{PassWrites};
 ghost use Rattle.ct_keeper.specs.Effects.{FitsEffect};
 ghost use Rattle.ct_statement.specs.Making.{is_full};
 ghost use Rattle.ct_statement.specs.Narrowing.{CanNarrow, IsBoth, IsDecidable, IsEffectFor, IsKeptFor, IsUnkept, IsWorldFor, IsWorldless, asserted, unapplied, undecided};
@@ -202,9 +200,7 @@ fn effect_for<N: Site>(
 ) -> Result<(Written, Effect), Refusal>
     requires sight { IsSight pass.old.words sight.now }
     requires proposal { (list : List PlainChange) × IsProposal pass.old.words (history_of pass.old.words sight.now) (actions_before sight.now) list (action_of proposal.now.action) proposal.now.changes }
-    ensures longer { IsPrefix pass.old.words pass.new.words }
-    ensures kept { kept_of pass.new ≡ kept_of pass.old }
-    ensures made { pass.new.made + charge (is_full result) ≤ pass.old.made + applying_words (count (history_of pass.old.words sight.now) (actions_before sight.now)) (action_of proposal.now.action) }
+    ensures writes { PassWrites N.log.cap pass.old pass.new (applying_words (count (history_of pass.old.words sight.now) (actions_before sight.now)) (action_of proposal.now.action)) (is_full result) }
     ensures fits { IfOk result (λ p. FitsEffect sight.now.tables p.1) }
     ensures is { IfOk result (λ p. IsEffectFor pass.old.words pass.new.words sight.now (action_of proposal.now.action) p.0 p.1) }
     ensures err { IfErr result (IsWant N.log.cap pass.new.words) }
@@ -232,9 +228,7 @@ pub fn step_of<N: Site>(
 ) -> Result<Step, Refusal>
     requires sight { IsSight pass.old.words sight.now }
     requires proposal { (list : List PlainChange) × IsProposal pass.old.words (history_of pass.old.words sight.now) (actions_before sight.now) list (action_of proposal.now.action) proposal.now.changes }
-    ensures longer { IsPrefix pass.old.words pass.new.words }
-    ensures kept { kept_of pass.new ≡ kept_of pass.old }
-    ensures made { pass.new.made + charge (is_full result) ≤ pass.old.made + applying_words (count (history_of pass.old.words sight.now) (actions_before sight.now)) (action_of proposal.now.action) }
+    ensures writes { PassWrites N.log.cap pass.old pass.new (applying_words (count (history_of pass.old.words sight.now) (actions_before sight.now)) (action_of proposal.now.action)) (is_full result) }
     ensures step { IfOk result (IsStep pass.new.words sight.now (action_of proposal.now.action)) }
     ensures err { IfErr result (IsUnmet (history_of pass.old.words sight.now) (actions_before sight.now) N.log.cap pass.new.words (plain.Act (action_of proposal.now.action))) }
 {

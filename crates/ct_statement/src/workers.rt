@@ -1,16 +1,16 @@
 // The questions about the rows of a table, decided by one worker after another question, or by several at once.
 
-ghost use Rattle.std.specs.Prelude.{◌≡◌, ◌<◌, ◌≤◌, ◌+◌, ◌*◌, ◌^◌, ℕ, List, length, map, All, IfOk, IsErrOf, IsTrue};
-ghost use mathlib.Core.List.{IsPrefix};
+ghost use Rattle.std.specs.Prelude.{◌≡◌, ◌<◌, ◌≤◌, ◌+◌, ◌*◌, ◌^◌, ℕ, List, length, map, All, IfOk, IsTrue};
 ghost use Rattle.ct_word.specs.declared.kinds.Class.TheVariants as class;
 ghost use Rattle.ct_word.specs.declared.values.CRow.{CRow};
 ghost use Rattle.ct_word.specs.Stands.{HasNoColumn};
 ghost use Rattle.ct_word.specs.Value.{World as WorldValue};
 ghost use Rattle.ct_word.specs.WellFormed.{IsWellFormed, is_place_of};
 ghost use Rattle.ct_operators.specs.Tables.{AreRows};
+ghost use Rattle.ct_history.specs.Kept.{PassWrites};
 ghost use Rattle.ct_certain.specs.Certain.{IsKeptWorld, ListsCertain};
 ghost use Rattle.ct_certain.specs.Possible.{ListsPossible};
-ghost use Rattle.ct_certain.specs.declared.error.CertainError.TheVariants as fault;
+ghost use Rattle.ct_certain.specs.Faults.{is_full};
 ghost use Rattle.ct_questions.specs.Candidates.{AreCandidates};
 ghost use Rattle.ct_questions.specs.Roots.{AreRowRoots};
 
@@ -106,15 +106,7 @@ fn possible_beside<N: Site, R: Threads + Sync>(
     requires plain { HasNoColumn pass.old.words global }
     requires rows { AreRows pass.old.words (length table.now.columns) table.now.rows }
     ensures lists { IfOk result (λ list. ListsPossible pass.old.words global table.now.rows list) }
-    ensures longer { IsPrefix pass.old.words pass.new.words }
-    ensures formed { IsWellFormed pass.new.words }
-    ensures room { length pass.new.words ≤ N.log.cap }
-    ensures full { IsErrOf result fault.Full → length pass.new.words ≡ N.log.cap }
-    ensures rises { pass.old.made ≤ pass.new.made }
-    ensures made { pass.new.made ≤ pass.old.made + length table.now.rows }
-    ensures fewer { IsErrOf result fault.Full → pass.new.made < pass.old.made + length table.now.rows }
-    ensures session { pass.new.session ≡ pass.old.session }
-    ensures mine { pass.new.mine ≡ pass.old.mine }
+    ensures writes { PassWrites N.log.cap pass.old pass.new (length table.now.rows) (is_full result) }
 {
     let roots = possible_questions(alloc, arena, pass, table, global)?;
     let words = pass.words();
@@ -143,15 +135,7 @@ pub(crate) fn possible<N: Site, R: Threads + Sync>(
     requires plain { HasNoColumn pass.old.words global }
     requires rows { AreRows pass.old.words (length table.now.columns) table.now.rows }
     ensures lists { IfOk result (λ list. ListsPossible pass.old.words global table.now.rows list) }
-    ensures longer { IsPrefix pass.old.words pass.new.words }
-    ensures formed { IsWellFormed pass.new.words }
-    ensures room { length pass.new.words ≤ N.log.cap }
-    ensures full { IsErrOf result fault.Full → length pass.new.words ≡ N.log.cap }
-    ensures rises { pass.old.made ≤ pass.new.made }
-    ensures made { pass.new.made ≤ pass.old.made + length table.now.rows }
-    ensures fewer { IsErrOf result fault.Full → pass.new.made < pass.old.made + length table.now.rows }
-    ensures session { pass.new.session ≡ pass.old.session }
-    ensures mine { pass.new.mine ≡ pass.old.mine }
+    ensures writes { PassWrites N.log.cap pass.old pass.new (length table.now.rows) (is_full result) }
 {
     if workers.count() == 1 {
         possible_in_turn(alloc, arena, pass, table, global)
@@ -218,15 +202,7 @@ fn certain_beside<N: Site, R: Threads + Sync>(
     requires rows { AreRows pass.old.words (length table.now.columns) table.now.rows }
     requires kept { IsKeptWorld pass.old.words global kept.now }
     ensures lists { IfOk result (λ list. ListsCertain pass.old.words pass.new.words global table.now.rows kept.now list) }
-    ensures longer { IsPrefix pass.old.words pass.new.words }
-    ensures formed { IsWellFormed pass.new.words }
-    ensures room { length pass.new.words ≤ N.log.cap }
-    ensures full { IsErrOf result fault.Full → length pass.new.words ≡ N.log.cap }
-    ensures rises { pass.old.made ≤ pass.new.made }
-    ensures made { pass.new.made ≤ pass.old.made + length table.now.rows * (length table.now.rows * (2 * length table.now.columns + 2) + length table.now.columns + 1) }
-    ensures fewer { IsErrOf result fault.Full → pass.new.made < pass.old.made + length table.now.rows * (length table.now.rows * (2 * length table.now.columns + 2) + length table.now.columns + 1) }
-    ensures session { pass.new.session ≡ pass.old.session }
-    ensures mine { pass.new.mine ≡ pass.old.mine }
+    ensures writes { PassWrites N.log.cap pass.old pass.new (length table.now.rows * (length table.now.rows * (2 * length table.now.columns + 2) + length table.now.columns + 1)) (is_full result) }
 {
     let candidates = certain_left(alloc, arena, pass, table, global, kept)?;
     let words = pass.words();
@@ -257,15 +233,7 @@ pub(crate) fn certain<N: Site, R: Threads + Sync>(
     requires rows { AreRows pass.old.words (length table.now.columns) table.now.rows }
     requires kept { IsKeptWorld pass.old.words global kept.now }
     ensures lists { IfOk result (λ list. ListsCertain pass.old.words pass.new.words global table.now.rows kept.now list) }
-    ensures longer { IsPrefix pass.old.words pass.new.words }
-    ensures formed { IsWellFormed pass.new.words }
-    ensures room { length pass.new.words ≤ N.log.cap }
-    ensures full { IsErrOf result fault.Full → length pass.new.words ≡ N.log.cap }
-    ensures rises { pass.old.made ≤ pass.new.made }
-    ensures made { pass.new.made ≤ pass.old.made + length table.now.rows * (length table.now.rows * (2 * length table.now.columns + 2) + length table.now.columns + 1) }
-    ensures fewer { IsErrOf result fault.Full → pass.new.made < pass.old.made + length table.now.rows * (length table.now.rows * (2 * length table.now.columns + 2) + length table.now.columns + 1) }
-    ensures session { pass.new.session ≡ pass.old.session }
-    ensures mine { pass.new.mine ≡ pass.old.mine }
+    ensures writes { PassWrites N.log.cap pass.old pass.new (length table.now.rows * (length table.now.rows * (2 * length table.now.columns + 2) + length table.now.columns + 1)) (is_full result) }
 {
     if workers.count() == 1 {
         certain_in_turn(alloc, arena, pass, table, global, kept)

@@ -21,3 +21,4 @@ pub mod Offered
 pub mod Whole
 pub mod Actions
 pub mod Proposed
+pub mod Stepped

@@ -1,6 +1,11 @@
 -- What a statement asks for, ready to be given, and why it is refused.
-use Rattle.std.specs.Prelude.{◌≡◌, ◌≢◌, ◌+◌, ℕ, Bool, true, false, List, Option, Some, None, IsSome, IsTrue, Ok, Err}
+use Rattle.std.specs.Prelude.{◌≡◌, ◌≢◌, ◌+◌, ℕ, Bool, true, false, List, Option, Some, None, IsSome, IsTrue, Result, Ok, Err, IfOk, IfErr}
+use mathlib.Core.List.{IsPrefix}
 use Rattle.ct_word.specs.Change.{PlainChange, PlainCommit}
+use Rattle.ct_arena.specs.Seen.{Seen}
+use Rattle.ct_condition.specs.Writes.{charge}
+use Rattle.ct_history.specs.Kept.{kept_of}
+use Rattle.ct_query.specs.Patterns.{count}
 use Rattle.ct_query.specs.Plain.{PlainAction, PlainQuery, PlainStatement}
 use Rattle.ct_query.specs.Plain as plain
 use Rattle.ct_query.specs.Views.{action_of}
@@ -21,9 +26,12 @@ use Rattle.ct_statement.specs.declared.sight.Sight.{Sight}
 use Rattle.ct_statement.specs.declared.replying.Answered.{Answered}
 use Rattle.ct_statement.specs.Answered.{Answers}
 use Rattle.ct_statement.specs.Drawing.{drawn}
-use Rattle.ct_statement.specs.Proposals.{IsProposal, IsStep}
+use Rattle.ct_statement.specs.Making.{is_full, widths_in}
+use Rattle.ct_statement.specs.Proposals.{IsProposal, IsStep, listed}
+use Rattle.ct_statement.specs.Sight.{actions_before, history_of, IsSight}
 use Rattle.ct_statement.specs.Sources.{is_assertion}
 use Rattle.ct_statement.specs.Unmet.{IsUnmet}
+use Rattle.ct_transaction.specs.Bounded.{Performs}
 use Rattle.ct_transaction.specs.declared.preparing.Prepared.{Prepared}
 use Rattle.ct_transaction.specs.declared.preparing.Prepared.TheVariants as prepared
 use Rattle.ct_statement.specs.declared.stepping.Step.{Step}
@@ -110,3 +118,21 @@ abbrev pub needs_step : Bool → Prepared → Type 0
 needs_step true (prepared.Change proposal step reads) = IsSome step
 needs_step false (prepared.Change proposal step reads) = IsTrue (is_assertion (action_of proposal.action)) → IsSome step
 needs_step inside (prepared.Answer answered reads) = Unit {0}
+
+-- a statement with positions that is no order can be performed at what is seen: it fits, can be written, and reads these
+pub record IsPerformable (words : List ℕ) (s : Sight) (asked : PlainStatement) (reads : List Read) : Type 0 where
+  pub sight : IsSight words s
+  pub fits : FitsStatement (schema (history_of words s) (actions_before s)).tables asked
+  pub writes : WritesStatement asked
+  pub plain : IsNoPlainOrder asked
+  pub reads_are : reads ≡ reads_of asked
+
+-- a call prepared a statement with positions at what it sees, in a transaction or outside, or something is wanting for it. The
+-- words only grew, and what was made is at most its words
+pub record Prepares (inside : Bool) (N : ℕ) (old new : Seen) (s : Sight) (list : Option ℕ) (fresh : ℕ) (asked : PlainStatement) (r : Result Prepared Refusal) : Type 0 where
+  pub longer : IsPrefix old.words new.words
+  pub kept : kept_of new ≡ kept_of old
+  pub made : Performs inside (count (history_of old.words s) (actions_before s)) (widths_in (schema (history_of old.words s) (actions_before s)).tables) asked old.made (new.made + charge (is_full r))
+  pub ok : IfOk r (IsPreparedFor new.words (history_of old.words s) (actions_before s) (listed old.words list) fresh s asked)
+  pub steps : IfOk r (needs_step inside)
+  pub err : IfErr r (IsUnmet (history_of old.words s) (actions_before s) N new.words asked)

@@ -13,7 +13,7 @@ mod within;
 
 pub use committing::replied;
 pub use orders::{begin, refused_here};
-pub use preparing::{Prepared, perform, resolved_at};
+pub use preparing::{Prepared, perform_alone, resolved_at};
 pub use replying::{refusal, reply_of};
 pub use state::{Open, State};
 pub use theorems::{actions_keep_their_bounds, texts_have_one_bound};

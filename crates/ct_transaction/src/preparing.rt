@@ -1,37 +1,34 @@
 // What a statement asks for, at what it sees.
 
-ghost use Rattle.std.specs.Prelude.{◌≡◌, ◌≤◌, ◌+◌, false, List, IfOk, IfErr, IfSome, IsTrue};
+ghost use Rattle.std.specs.Prelude.{◌≡◌, ◌≤◌, ◌+◌, ℕ, Bool, true, false, List, Option, None, IfOk, IfErr, IfSome, IsTrue};
 ghost use mathlib.Core.List.{IsPrefix};
 ghost use Rattle.ct_word.specs.declared.kinds.Class.TheVariants as class;
 ghost use Rattle.ct_word.specs.Change.{PlainChange};
 ghost use Rattle.ct_word.specs.WellFormed.{is_place_of};
 ghost use Rattle.ct_condition.specs.Writes.{charge};
 ghost use Rattle.ct_history.specs.Kept.{kept_of};
-ghost use Rattle.ct_query.specs.Fits.{FitsAction, FitsStatement};
 ghost use Rattle.ct_query.specs.Patterns.{count};
 ghost use Rattle.ct_query.specs.Plain as plain;
 ghost use Rattle.ct_query.specs.Reads.{reads_of};
-ghost use Rattle.ct_query.specs.Schema.{schema};
 ghost use Rattle.ct_query.specs.Views.{action_of, query_of, statement_of};
 ghost use Rattle.ct_query.specs.declared.action.Read.{Read as ReadValue};
-ghost use Rattle.ct_resolve.specs.Writing.{WritesAction, WritesStatement};
-ghost use Rattle.ct_statement.specs.Making.{is_full, says_full, widths_in};
-ghost use Rattle.ct_statement.specs.Proposals.{IsProposal, listed};
+ghost use Rattle.ct_statement.specs.Making.{is_full, says_full};
+ghost use Rattle.ct_statement.specs.Proposals.{IsProposal};
 ghost use Rattle.ct_statement.specs.Sight.{IsSight, actions_before, history_of};
 ghost use Rattle.ct_statement.specs.Sources.{is_assertion};
 ghost use Rattle.ct_statement.specs.Unmet.{IsUnmet};
-ghost use Rattle.ct_transaction.specs.Bounded.{Performs, step_words};
-ghost use Rattle.ct_transaction.specs.Prepared.{IsNoOrder, IsNoPlainOrder, IsPreparedFor, IsRefused, IsResolved, IsStepIf, name_refusal, needs_step};
+ghost use Rattle.ct_transaction.specs.Bounded.{step_words};
+ghost use Rattle.ct_transaction.specs.Prepared.{IsNoOrder, IsPerformable, IsRefused, IsResolved, IsStepIf, Prepares, name_refusal, needs_step};
 ghost use Rattle.ct_transaction.specs.Statements.{IsWritten};
 ghost use Rattle.ct_transaction.specs.declared.preparing.Prepared.TheVariants as prepared;
 
 use ct_arena::{Arena, Pass, Site};
 use ct_parse::Statement;
-use ct_query::{Action, Read, Resolved, reads};
+use ct_query::{Action, Ask, Query, Read, Resolved, reads};
 use ct_resolve::{ResolveError, resolve};
 use ct_statement::{Answered, Proposal, Sight, Step, Workers, answer_to, propose, step_of};
 use ct_transcript::Refusal;
-use ct_word::List;
+use ct_word::{List, Text};
 use std::alloc::Global;
 use std::thread::Threads;
 
@@ -77,31 +74,28 @@ fn is_assertion(action: &Action) -> bool
     }
 }
 
-/// The step of a proposed action, in a transaction and for an assertion. The pass has the words of it.
+/// The step of a proposed action that is an assertion. The pass has the words of it.
 ///
 /// # Errors
 /// As `step_of` has them.
-fn step_where_needed<N: Site>(
+fn step_of_assertion<N: Site>(
     alloc: Global,
     arena: &Arena<N>,
     pass: &mut Pass<N>,
     sight: &Sight,
-    inside: bool,
     proposal: &Proposal,
 ) -> Result<Option<Step>, Refusal>
     requires sight { IsSight pass.old.words sight.now }
     requires proposal { (list : List PlainChange) × IsProposal pass.old.words (history_of pass.old.words sight.now) (actions_before sight.now) list (action_of proposal.now.action) proposal.now.changes }
     ensures longer { IsPrefix pass.old.words pass.new.words }
     ensures kept { kept_of pass.new ≡ kept_of pass.old }
-    ensures made { pass.new.made + charge (is_full result) ≤ pass.old.made + step_words inside (count (history_of pass.old.words sight.now) (actions_before sight.now)) (action_of proposal.now.action) }
+    ensures made { pass.new.made + charge (is_full result) ≤ pass.old.made + step_words false (count (history_of pass.old.words sight.now) (actions_before sight.now)) (action_of proposal.now.action) }
     ensures step { IfOk result (IsStepIf pass.new.words sight.now (action_of proposal.now.action)) }
-    ensures needs { (reads : List ReadValue) → IfOk result (λ step. needs_step inside (prepared.Change proposal.now step reads)) }
+    ensures needs { (reads : List ReadValue) → IfOk result (λ step. needs_step false (prepared.Change proposal.now step reads)) }
     ensures err { IfErr result (IsUnmet (history_of pass.old.words sight.now) (actions_before sight.now) N.log.cap pass.new.words (plain.Act (action_of proposal.now.action))) }
 {
-    if !inside {
-        if !is_assertion(&proposal.action) {
-            return Ok(None);
-        }
+    if !is_assertion(&proposal.action) {
+        return Ok(None);
     }
     match step_of(alloc, arena, pass, sight, proposal) {
         Ok(step) => Ok(Some(step)),
@@ -109,32 +103,24 @@ fn step_where_needed<N: Site>(
     }
 }
 
-/// An action with these reads, as it is proposed. The pass has the words of it.
+/// An action of a transaction, as it is proposed behind the changes of the list at this place, where there is one, with its
+/// step. The pass has the words of it.
 ///
 /// # Errors
 /// As `propose` and `step_of` have them.
-fn change<N: Site>(
+fn change_within<N: Site>(
     alloc: Global,
     arena: &Arena<N>,
     pass: &mut Pass<N>,
     sight: &Sight,
     list: Option<u32>,
     fresh: u32,
-    inside: bool,
     action: Action,
     reads: List<Read>,
 ) -> Result<Prepared, Refusal>
-    requires sight { IsSight pass.old.words sight.now }
     requires list { IfSome list (λ place. IsTrue (is_place_of pass.old.words class.ChangeList place)) }
-    requires fits { FitsAction (schema (history_of pass.old.words sight.now) (actions_before sight.now)).tables (action_of action) }
-    requires written { WritesAction (action_of action) }
-    requires reads { reads ≡ reads_of (plain.Act (action_of action)) }
-    ensures longer { IsPrefix pass.old.words pass.new.words }
-    ensures kept { kept_of pass.new ≡ kept_of pass.old }
-    ensures made { Performs inside (count (history_of pass.old.words sight.now) (actions_before sight.now)) (widths_in (schema (history_of pass.old.words sight.now) (actions_before sight.now)).tables) (plain.Act (action_of action)) pass.old.made (pass.new.made + charge (is_full result)) }
-    ensures ok { IfOk result (IsPreparedFor pass.new.words (history_of pass.old.words sight.now) (actions_before sight.now) (listed pass.old.words list) fresh sight.now (plain.Act (action_of action))) }
-    ensures steps { IfOk result (needs_step inside) }
-    ensures err { IfErr result (IsUnmet (history_of pass.old.words sight.now) (actions_before sight.now) N.log.cap pass.new.words (plain.Act (action_of action))) }
+    requires asks { IsPerformable pass.old.words sight.now (plain.Act (action_of action)) reads }
+    ensures { Prepares true N.log.cap pass.old pass.new sight.now list fresh (plain.Act (action_of action)) result }
 {
     let proposal = match propose(alloc, arena, pass, sight, list, fresh, action) {
         Ok(proposal) => proposal,
@@ -142,8 +128,44 @@ fn change<N: Site>(
     };
     // The words are well formed, which keeps what is seen as words are added.
     let _ = pass.words();
-    let step = step_where_needed(alloc, arena, pass, sight, inside, &proposal);
-    let _words = pass.words();
+    let step = step_of(alloc, arena, pass, sight, &proposal);
+    match step {
+        Ok(step) => Ok(Prepared::Change {
+            proposal,
+            step: Some(step),
+            reads,
+        }),
+        Err(why) => {
+            drop(proposal);
+            Err(why)
+        }
+    }
+}
+
+/// An action outside a transaction, as it is proposed in a list of its own, with its step where it is an assertion. The pass
+/// has the words of it.
+///
+/// # Errors
+/// As `propose` and `step_of` have them.
+fn change_alone<N: Site>(
+    alloc: Global,
+    arena: &Arena<N>,
+    pass: &mut Pass<N>,
+    sight: &Sight,
+    fresh: u32,
+    action: Action,
+    reads: List<Read>,
+) -> Result<Prepared, Refusal>
+    requires asks { IsPerformable pass.old.words sight.now (plain.Act (action_of action)) reads }
+    ensures { Prepares false N.log.cap pass.old pass.new sight.now None fresh (plain.Act (action_of action)) result }
+{
+    let proposal = match propose(alloc, arena, pass, sight, None, fresh, action) {
+        Ok(proposal) => proposal,
+        Err(why) => return Err(why),
+    };
+    // The words are well formed, which keeps what is seen as words are added.
+    let _ = pass.words();
+    let step = step_of_assertion(alloc, arena, pass, sight, &proposal);
     match step {
         Ok(step) => Ok(Prepared::Change {
             proposal,
@@ -157,15 +179,42 @@ fn change<N: Site>(
     }
 }
 
-/// What a statement with positions asks for that is no BEGIN, COMMIT or ROLLBACK. The pass has the words of it. An action's
-/// change comes behind those of the list at this place, where there is one; its step is made where it is `inside` a
-/// transaction, and of an assertion in any case. So many workers decide the questions of a query, each on a thread of its own
-/// where one can be made.
+/// The answer to a query with these reads. The pass has the words of it. So many workers decide its questions, each on a
+/// thread of its own where one can be made.
+///
+/// # Errors
+/// One of `TooLarge`, `Full` and `Memory`, only where its cause holds.
+fn answered<N: Site, R: Threads + Sync>(
+    rt: &R,
+    alloc: Global,
+    arena: &Arena<N>,
+    pass: &mut Pass<N>,
+    sight: &Sight,
+    ask: Ask,
+    columns: List<Text>,
+    query: Query,
+    reads: List<Read>,
+    workers: Workers,
+) -> Result<Prepared, Refusal>
+    requires asks { IsPerformable pass.old.words sight.now (plain.Asks ask columns (query_of query)) reads }
+    ensures { (inside : Bool) (list : Option ℕ) (fresh : ℕ) → Prepares inside N.log.cap pass.old pass.new sight.now list fresh (plain.Asks ask columns (query_of query)) result }
+{
+    let answered = answer_to(rt, alloc, arena, pass, sight, ask, columns, &query, workers);
+    drop(query);
+    match answered {
+        Ok(answered) => Ok(Prepared::Answer { answered, reads }),
+        Err(why) => Err(why),
+    }
+}
+
+/// What a statement of a transaction asks for, once it has positions; it is no BEGIN, COMMIT or ROLLBACK. The pass has the words
+/// of it. An action's change comes behind those of the list at this place, where there is one, and its step is made. So many
+/// workers decide the questions of a query.
 ///
 /// # Errors
 /// One of `TooLarge`, `Full`, `Inconsistent` and `Memory`, only where its cause holds.
 #[tactic(auto, using(crate::proofs::Resolving::not_begin, crate::proofs::Resolving::not_commit, crate::proofs::Resolving::not_rollback))]
-pub fn perform<N: Site, R: Threads + Sync>(
+pub(crate) fn perform_within<N: Site, R: Threads + Sync>(
     rt: &R,
     alloc: Global,
     arena: &Arena<N>,
@@ -173,40 +222,61 @@ pub fn perform<N: Site, R: Threads + Sync>(
     sight: &Sight,
     list: Option<u32>,
     fresh: u32,
-    inside: bool,
     resolved: Resolved,
     reads: List<Read>,
     workers: Workers,
 ) -> Result<Prepared, Refusal>
-    requires sight { IsSight pass.old.words sight.now }
     requires list { IfSome list (λ place. IsTrue (is_place_of pass.old.words class.ChangeList place)) }
-    requires fits { FitsStatement (schema (history_of pass.old.words sight.now) (actions_before sight.now)).tables (statement_of resolved) }
-    requires written { WritesStatement (statement_of resolved) }
-    requires plain { IsNoPlainOrder (statement_of resolved) }
-    requires reads { reads ≡ reads_of (statement_of resolved) }
-    ensures longer { IsPrefix pass.old.words pass.new.words }
-    ensures kept { kept_of pass.new ≡ kept_of pass.old }
-    ensures made { Performs inside (count (history_of pass.old.words sight.now) (actions_before sight.now)) (widths_in (schema (history_of pass.old.words sight.now) (actions_before sight.now)).tables) (statement_of resolved) pass.old.made (pass.new.made + charge (is_full result)) }
-    ensures ok { IfOk result (IsPreparedFor pass.new.words (history_of pass.old.words sight.now) (actions_before sight.now) (listed pass.old.words list) fresh sight.now (statement_of resolved)) }
-    ensures steps { IfOk result (needs_step inside) }
-    ensures err { IfErr result (IsUnmet (history_of pass.old.words sight.now) (actions_before sight.now) N.log.cap pass.new.words (statement_of resolved)) }
+    requires asks { IsPerformable pass.old.words sight.now (statement_of resolved) reads }
+    ensures { Prepares true N.log.cap pass.old pass.new sight.now list fresh (statement_of resolved) result }
 {
     match resolved {
-        Resolved::Act(action) => change(
-            alloc, arena, pass, sight, list, fresh, inside, action, reads,
+        Resolved::Act(action) => change_within(
+            alloc, arena, pass, sight, list, fresh, action, reads,
         ),
         Resolved::Ask {
             ask,
             columns,
             query,
-        } => {
-            let answered = answer_to(rt, alloc, arena, pass, sight, ask, columns, &query, workers);
-            drop(query);
-            match answered {
-                Ok(answered) => Ok(Prepared::Answer { answered, reads }),
-                Err(why) => Err(why),
-            }
-        }
+        } => answered(
+            rt, alloc, arena, pass, sight, ask, columns, query, reads, workers,
+        ),
+        Resolved::Begin => unreachable!(),
+        Resolved::Commit => unreachable!(),
+        Resolved::Rollback => unreachable!(),
+    }
+}
+
+/// What a statement outside a transaction asks for, once it has positions; it is no BEGIN, COMMIT or ROLLBACK. The pass has the
+/// words of it. An action's change is in a list of its own, and the step of an assertion is made. So many workers decide the
+/// questions of a query.
+///
+/// # Errors
+/// One of `TooLarge`, `Full`, `Inconsistent` and `Memory`, only where its cause holds.
+#[tactic(auto, using(crate::proofs::Resolving::not_begin, crate::proofs::Resolving::not_commit, crate::proofs::Resolving::not_rollback))]
+pub fn perform_alone<N: Site, R: Threads + Sync>(
+    rt: &R,
+    alloc: Global,
+    arena: &Arena<N>,
+    pass: &mut Pass<N>,
+    sight: &Sight,
+    fresh: u32,
+    resolved: Resolved,
+    reads: List<Read>,
+    workers: Workers,
+) -> Result<Prepared, Refusal>
+    requires asks { IsPerformable pass.old.words sight.now (statement_of resolved) reads }
+    ensures { Prepares false N.log.cap pass.old pass.new sight.now None fresh (statement_of resolved) result }
+{
+    match resolved {
+        Resolved::Act(action) => change_alone(alloc, arena, pass, sight, fresh, action, reads),
+        Resolved::Ask {
+            ask,
+            columns,
+            query,
+        } => answered(
+            rt, alloc, arena, pass, sight, ask, columns, query, reads, workers,
+        ),
         Resolved::Begin => unreachable!(),
         Resolved::Commit => unreachable!(),
         Resolved::Rollback => unreachable!(),

@@ -14,7 +14,7 @@ ghost use Rattle.ct_transaction.specs.Statements.{IsWritten};
 ghost use Rattle.ct_transaction.specs.declared.preparing.Prepared.TheVariants as prepared;
 
 use crate::extending::{after_action, after_query};
-use crate::preparing::{Prepared, perform, resolved_at};
+use crate::preparing::{Prepared, perform_within, resolved_at};
 use crate::replying::{refusal, reply_of};
 use crate::state::{Open, State};
 use ct_arena::{Arena, Pass, Site};
@@ -165,7 +165,7 @@ pub(crate) fn within<N: Site, R: Threads + Sync>(
         Err(why) => return refused(pass, seen, fresh, open, statement, why),
     };
     let list = open.changes;
-    let prepared = perform(
+    let prepared = perform_within(
         rt,
         alloc,
         arena,
@@ -173,7 +173,6 @@ pub(crate) fn within<N: Site, R: Threads + Sync>(
         &open.sight,
         list,
         fresh,
-        true,
         resolved,
         reads,
         workers,

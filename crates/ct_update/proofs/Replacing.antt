@@ -113,6 +113,18 @@ module _ (ws : List ℕ) (formed : IsWellFormed ws) (width : ℕ) (sets : List (
     distinct = s.distinct;
   }
 
+  -- one that the sets leave as it is
+  pub replaced_unchanged : r.cond ≢ 1 → b.0 ≡ 1 → b.1 ≡ r.cond → updated_places ws sets r.cells ≡ r.cells → ReplacedSo ws width sets (n + 1) rows conds edits
+  replaced_unchanged possible stays goes made = record {
+    within = further;
+    each = s.each;
+    are = ap (with_items edits) one_more ∙ items_front edits (take n rows) (r ∷ []) inside
+        ∙ (λ i. s.are i ++ record { cells = sym made i; cond = sym goes i } ∷ [])
+        ∙ sym (more_halves ∙ ap (λ l. filter is_possible (all_halves ws sets (take n rows) (take n conds)) ++ l)
+        (second_possible (record { cells = r.cells; cond = b.0 }) (record { cells = updated_places ws sets r.cells; cond = b.1 }) stays (λ e. possible (sym goes ∙ e))));
+    distinct = s.distinct;
+  }
+
   -- one that another takes the place of
   pub replaced_other : b.0 ≡ 1 → b.1 ≢ 1 → (cells : List ℕ) → cells ≡ updated_places ws sets r.cells → IsRow ws width (record { cells = cells; cond = b.1 }) → All (IsRow ws width) rows
       → All (λ x. x.cells ≢ cells) rows → All (λ e. e.1.cells ≢ cells) edits → ReplacedSo ws width sets (n + 1) rows conds (edits ++ (n, record { cells = cells; cond = b.1 }) ∷ [])

@@ -62,7 +62,8 @@ fn is_in_none(rows: &[(usize, CRow)], cells: &List<u32>) -> bool
 }
 
 /// The rows that take the places of others, where few do, nothing is left of those others, and their cells are those of no
-/// row; none where it is not so. The conditions are those under which each row stays, and is changed.
+/// row; none where it is not so. A row whose sets say what it has already stays as it is. The conditions are those under
+/// which each row stays, and is changed.
 fn replaced<T: RowSource>(
     alloc: Global,
     words: &[u64],
@@ -85,10 +86,16 @@ fn replaced<T: RowSource>(
         if stays == row.cond && goes == FALSE_PLACE {
             continue;
         }
-        if stays != FALSE_PLACE || goes == FALSE_PLACE || edits.len() >= FEW_ROWS {
+        if stays != FALSE_PLACE || goes == FALSE_PLACE {
             return Ok(None);
         }
         let cells = with_sets(words, sets, &row.cells)?;
+        if goes == row.cond && cells.as_slice() == row.cells.as_slice() {
+            continue;
+        }
+        if edits.len() >= FEW_ROWS {
+            return Ok(None);
+        }
         if !is_nowhere(table, &cells) || !is_in_none(edits.as_slice(), &cells) {
             return Ok(None);
         }

@@ -37,7 +37,7 @@ returns-clause-evaluates g c =
     let writes = c.in_ok-put_literals.ensures.grows.writes in
     let formed = formed_before writes in
     join_answers old mid c.join.new.pass.words db a b c.args.left.now c.args.right.now (answer_grows old ws mid db a c.args.left.now writes.longer formed s) (answer_grows old ws mid db b c.args.right.now writes.longer formed t)
-    (condition_of c.args.p.now) c.join.result c.join.ensures.columns c.join.ensures.rows c.join.ensures.tuples c.join.ensures.part c.join.ensures.terms
+    (condition_of c.args.p.now) c.join.result c.join.ensures.width c.join.ensures.rows c.join.ensures.tuples c.join.ensures.part c.join.ensures.terms
 
 pub returns-clause-grows : goal.returns-clause-grows
 returns-clause-grows g c =

@@ -38,7 +38,7 @@ returns-clause-evaluates g c =
     let writes = c.in_ok-put_literals.ensures.grows.writes in
     let formed = formed_before writes in
     pick_answers old mid c.join_picked.new.pass.words db a b c.args.left.now c.args.right.now (answer_grows old ws mid db a c.args.left.now writes.longer formed s) (answer_grows old ws mid db b c.args.right.now writes.longer formed t)
-    c.args.columns.now (condition_of c.args.p.now) c.join_picked.result c.join_picked.ensures.columns c.join_picked.ensures.rows c.join_picked.ensures.tuples c.join_picked.ensures.part c.join_picked.ensures.terms
+    c.args.columns.now (condition_of c.args.p.now) c.join_picked.result c.join_picked.ensures.width c.join_picked.ensures.rows c.join_picked.ensures.tuples c.join_picked.ensures.part c.join_picked.ensures.terms
 
 pub returns-clause-grows : goal.returns-clause-grows
 returns-clause-grows g c =

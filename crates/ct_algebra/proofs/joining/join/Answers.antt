@@ -1,4 +1,4 @@
-use Rattle.std.{proofs.Common.{◌+◌, ◌++◌, ◌∙◌, length, ap, sym, subst}, specs.Prelude.All, proofs.lemmas.Result.err_from_is_err_and}
+use Rattle.std.{proofs.Common.{◌+◌, ◌++◌, ◌∙◌, length, ap, sym, subst}, specs.Prelude.All, proofs.lemmas.List.length-append, proofs.lemmas.Result.err_from_is_err_and}
 use Rattle.ct_query.specs.Pred.{condition_of}
 use Rattle.ct_condition.proofs.Writes.{writes_none}
 use Rattle.ct_algebra.{specs.Equals.{equals_of, HasEqual}, specs.Joining.{MakesPairs, TermOfJoin}, proofs.Comparing.has_equals, proofs.Making.{joined_rows, joined_values}}
@@ -18,6 +18,10 @@ all : (g : _) (c : After-from_vec g)
 all g c =
     subst (MakesPairs (g.I.Interner.list c.args.pass.now) (g.I.Interner.list c.joined.new.pass) (length c.args.left.now.columns + length c.args.right.now.columns) (condition_of c.args.p.now) c.args.left.now.rows
     c.args.right.now.rows (TermOfJoin (g.I.Interner.list c.args.pass.now) (condition_of c.args.p.now) (c.args.left.now.rows ++ c.args.right.now.rows))) (sym c.from_vec.ensures) c.in_ok-rows.ensures.rows
+
+pub returns-clause-width : goal.returns-clause-width
+returns-clause-width g c =
+    ap (λ cs. length cs) (c.in_ok-columns.ensures ∙ (λ i. c.columns.ensures i ++ c.columns-2.ensures i)) ∙ length-append c.args.left.now.columns c.args.right.now.columns
 
 pub returns-clause-rows : goal.returns-clause-rows
 returns-clause-rows g c = joined_rows _ _ _ _ (condition_of c.args.p.now) _ _ _ _ (all g (goal.at.returns-clause-rows g c).After-from_vec) c.requires.left c.requires.right

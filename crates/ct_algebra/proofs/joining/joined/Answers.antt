@@ -8,7 +8,7 @@ use Rattle.ct_algebra.{specs.Equals.HasEqual, specs.Keyed.{key_of}, specs.Joinin
 use Rattle.ct_algebra.{proofs.Making.{makes_none, row_before, rows_more}, proofs.Telling.{keys_grow, right_columns}}
 use Rattle.ct_algebra.proofs.joining.joined.Goals.{After-words-in-loop-nth}
 use Rattle.ct_algebra.proofs.joining.joined.Goals as goal
-use Rattle.ct_algebra.specs.declared.keys.Side.TheVariants as side
+use Rattle.ct_plan.specs.declared.sides.Side.TheVariants as side
 
 -- the row of a turn
 this : (g : _) (c : After-words-in-loop-nth g)

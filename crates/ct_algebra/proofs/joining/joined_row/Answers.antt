@@ -6,7 +6,7 @@ use Rattle.ct_join.specs.Pairs.{may_agree, key_at}
 use Rattle.ct_algebra.{specs.declared.equals.Equal.Equal, specs.Keyed.{column_on, key_of}, specs.Joining.{MakesPairs, TermOfJoin, TellApart, rows_at, pair_words}, proofs.Making.{row_whole, partners_below, few_partners}, proofs.Telling.{left_columns, right_within, tell_apart, others_never}}
 use Rattle.ct_algebra.proofs.joining.joined_row.Goals.{After-as_slice-2}
 use Rattle.ct_algebra.proofs.joining.joined_row.Goals as goal
-use Rattle.ct_algebra.specs.declared.keys.Side.TheVariants as side
+use Rattle.ct_plan.specs.declared.sides.Side.TheVariants as side
 
 pub key_of-key-requires : goal.key_of-key-requires
 key_of-key-requires g c =

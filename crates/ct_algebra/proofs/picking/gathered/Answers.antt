@@ -11,7 +11,7 @@ use Rattle.ct_algebra.{proofs.Making.{row_before, rows_more}, proofs.Telling.{ke
 use Rattle.ct_algebra.proofs.Picks.{makes_later, have_cells, few_pairs, picks_none}
 use Rattle.ct_algebra.proofs.picking.gathered.Goals.{After-words-in-loop-nth, After-as_slice-in-loop-nth}
 use Rattle.ct_algebra.proofs.picking.gathered.Goals as goal
-use Rattle.ct_algebra.specs.declared.keys.Side.TheVariants as side
+use Rattle.ct_plan.specs.declared.sides.Side.TheVariants as side
 
 -- the row of a turn
 this : (g : _) (c : After-words-in-loop-nth g)

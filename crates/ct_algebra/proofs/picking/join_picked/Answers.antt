@@ -1,21 +1,14 @@
-use Rattle.std.{proofs.Common.{◌<◌, ◌++◌, ◌∙◌, [], length, map, ap, sym, subst}, specs.Prelude.{All, slice_index_or}, proofs.lemmas.List.length-append, proofs.lemmas.Result.err_from_is_err_and}
+use Rattle.std.{proofs.Common.{◌∙◌, length, ap, sym, subst}, specs.Prelude.All, proofs.lemmas.Result.err_from_is_err_and}
 use Rattle.ct_query.specs.Pred.{condition_of}
 use Rattle.ct_condition.proofs.Writes.{writes_none}
 use Rattle.ct_algebra.{specs.Equals.{equals_of, HasEqual}, proofs.Comparing.has_equals, proofs.Picks.{picked_values, picked_part, picked_terms}}
 use Rattle.ct_algebra.proofs.picking.join_picked.Goals as goal
 
-pub pick_names-requires : goal.pick_names-requires
-pick_names-requires g c =
-    subst (λ n. All (λ k. k < n) c.args.columns.now) (sym (ap (λ cs. length cs) (c.in_ok-both.ensures ∙ (λ i. c.columns.ensures i ++ c.columns-2.ensures i)) ∙ length-append c.args.left.now.columns c.args.right.now.columns)) c.requires.columns
-
 pub gathered-requires-clause-equals : goal.gathered-requires-clause-equals
 gathered-requires-clause-equals g c =
     let cond = condition_of c.args.p.now in
     let width = length c.args.left.now.columns in
-    subst (All (HasEqual width cond)) (sym (c.as_slice.ensures.value ∙ c.in_ok-equals.ensures ∙ ap (λ n. equals_of n cond) (c.len.ensures ∙ ap (λ cs. length cs) c.columns-3.ensures))) (has_equals width cond)
-
-pub returns-clause-columns : goal.returns-clause-columns
-returns-clause-columns g c = c.in_ok-finish.ensures.columns ∙ c.in_ok-names.ensures ∙ ap (λ ns. map (λ k. slice_index_or ns k []) c.args.columns.now) (c.in_ok-both.ensures ∙ (λ i. c.columns.ensures i ++ c.columns-2.ensures i))
+    subst (All (HasEqual width cond)) (sym (c.as_slice.ensures.value ∙ c.in_ok-equals.ensures ∙ ap (λ n. equals_of n cond) (c.len.ensures ∙ ap (λ cs. length cs) c.columns.ensures))) (has_equals width cond)
 
 pub returns-clause-rows : goal.returns-clause-rows
 returns-clause-rows g c = (c.in_ok-finish.ensures.gathered _ _ _ c.words-2.ensures.begins c.words-2.ensures.formed c.in_ok-gathering.ensures.rows.gathered).are
@@ -38,14 +31,9 @@ returns-clause-terms g c =
 pub returns-clause-writes : goal.returns-clause-writes
 returns-clause-writes g c = c.in_ok-gathering.ensures.writes
 
-pub returns-in_err-both-clause-writes : goal.returns-in_err-both-clause-writes
-returns-in_err-both-clause-writes g c =
-    let exit = err_from_is_err_and c.from_residual.result c.from_residual.ensures.1 in
-    rw (exit.1, exit.2) (writes_none _ c.words.ensures.formed c.words.ensures.room)
-
 pub returns-in_err-names-clause-writes : goal.returns-in_err-names-clause-writes
 returns-in_err-names-clause-writes g c =
-    let exit = err_from_is_err_and c.from_residual-in_err-names.result c.from_residual-in_err-names.ensures.1 in
+    let exit = err_from_is_err_and c.from_residual.result c.from_residual.ensures.1 in
     rw (exit.1, exit.2) (writes_none _ c.words.ensures.formed c.words.ensures.room)
 
 pub returns-in_err-equals-clause-writes : goal.returns-in_err-equals-clause-writes

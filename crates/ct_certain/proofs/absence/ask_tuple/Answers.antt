@@ -1,31 +1,27 @@
-use Rattle.std.{proofs.Common.{◌≡◌, ◌*◌, ◌+◌, ℕ, true, length, sym, subst}, specs.Prelude.All, proofs.lemmas.List.Elements.All-weaker}
+use Rattle.std.{proofs.Common.{◌≡◌, ◌*◌, ◌+◌, ℕ, true, length, sym, subst}, specs.Prelude.All}
 use Rattle.std.proofs.lemmas.Result.{err_from_is_err_and}
 use Rattle.ct_word.{specs.Stands.HasNoColumn, specs.WellFormed.is_place_of}
-use Rattle.ct_word.proofs.Prefixes.{prefix_of_prefix}
 use Rattle.ct_condition.specs.Writes.{Writes}
 use Rattle.ct_decide.specs.declared.deciding.Decision.{Decision}
-use Rattle.ct_derivation.proofs.Longer.{accepted_longer}
-use Rattle.ct_certain.{specs.Answered.{IsNear, IsRefutation, IsSettled}, proofs.Nearby.near_grows, specs.Missing.IsRefuted, proofs.Cuts.cut_longer, proofs.Roots.{handed_on, root_from}, proofs.Candidates.asked_now}
+use Rattle.ct_certain.{specs.Answered.{IsNear, IsRefutation, IsSettled}, proofs.Nearby.near_grows, proofs.Certainties.refutations_later, proofs.Roots.handed_on}
 use Rattle.ct_word.specs.declared.kinds.Class.TheVariants as class
 use Rattle.ct_certain.proofs.absence.ask_tuple.Goals as goal
 
 pub settle_near-requires-clause-condition : goal.settle_near-requires-clause-condition
-settle_near-requires-clause-condition g c = subst (λ ws. is_place_of ws class.Cond c.in_ok-place.place ≡ true) (sym c.words-now.ensures.words) c.in_ok-place.ensures.root.class
+settle_near-requires-clause-condition g c = subst (λ ws. is_place_of ws class.Cond c.in_ok-place.place ≡ true) (sym c.words-words.ensures.words) c.in_ok-place.ensures.root.class
 
 pub settle_near-requires-clause-columns : goal.settle_near-requires-clause-columns
-settle_near-requires-clause-columns g c = subst (λ ws. HasNoColumn ws c.in_ok-place.place) (sym c.words-now.ensures.words) c.in_ok-place.ensures.root.plain
+settle_near-requires-clause-columns g c = subst (λ ws. HasNoColumn ws c.in_ok-place.place) (sym c.words-words.ensures.words) c.in_ok-place.ensures.root.plain
 
 pub settle_near-requires-clause-near : goal.settle_near-requires-clause-near
 settle_near-requires-clause-near g c =
-    let words = c.args.words.now in
     let old = g.I.Interner.list c.args.pass.now in
     let new = g.I.Interner.list c.missing_root.new.pass in
-    let longer = prefix_of_prefix words old new c.requires.asked.grown c.in_ok-place.ensures.writes.longer in
-    subst (λ ws. IsNear ws c.args.global c.args.near.now) (sym c.words-now.ensures.words)
-    (near_grows words new longer c.words-now.ensures.formed c.requires.asked.formed c.args.global c.args.near.now c.requires.near)
+    subst (λ ws. IsNear ws c.args.global c.args.near.now) (sym c.words-words.ensures.words)
+    (near_grows old new c.in_ok-place.ensures.writes.longer c.words-words.ensures.formed c.requires.asked.formed c.args.global c.args.near.now c.requires.near)
 
 pub returns-clause-settled : goal.returns-clause-settled
-returns-clause-settled g c = subst (λ ws. IsSettled ws c.in_ok-place.place c.in_ok-decision.decision) c.words-now.ensures.words c.in_ok-decision.ensures.settled
+returns-clause-settled g c = subst (λ ws. IsSettled ws c.in_ok-place.place c.in_ok-decision.decision) c.words-words.ensures.words c.in_ok-decision.ensures.settled
 
 pub returns-in_err-place-clause-writes : goal.returns-in_err-place-clause-writes
 returns-in_err-place-clause-writes g c =
@@ -38,20 +34,5 @@ pub known-requires : goal.known-requires
 known-requires g c =
     let old = g.I.Interner.list c.args.pass.now in
     let new = g.I.Interner.list c.missing_root.new.pass in
-    let longer = c.in_ok-place.ensures.writes.longer in
-    subst (λ ws. All (λ r. IsRefutation ws r.proof.root r.proof.derivation) c.args.list.now.rows.items) (sym c.words-now.ensures.words)
-    (All-weaker (IsRefuted c.args.words.now old c.args.global c.args.table.now.rows) (λ r. IsRefutation new r.proof.root r.proof.derivation)
-    (λ r is. (accepted_longer old new longer r.proof.root r.proof.derivation is.refutes.accepted, cut_longer old new longer r.proof.root r.proof.derivation is.cut)) c.args.list.now.rows.items c.requires.listed)
-
-pub missing_root-requires : goal.missing_root-requires
-missing_root-requires g c =
-    let old = g.I.Interner.list c.args.pass.now in
-    asked_now c.args.words.now old c.args.global (length c.args.table.now.columns) c.args.table.now.rows c.args.tuple.now c.words.ensures.formed c.requires.asked
-
-pub returns-clause-root : goal.returns-clause-root
-returns-clause-root g c =
-    root_from c.args.words.now (g.I.Interner.list c.args.pass.now) (g.I.Interner.list c.missing_root.new.pass) c.args.global (length c.args.table.now.columns) c.args.table.now.rows c.args.tuple.now c.in_ok-place.place c.requires.asked c.in_ok-place.ensures.root
-
-pub returns-in-Some-clause-root : goal.returns-in-Some-clause-root
-returns-in-Some-clause-root g c =
-    root_from c.args.words.now (g.I.Interner.list c.args.pass.now) (g.I.Interner.list c.missing_root.new.pass) c.args.global (length c.args.table.now.columns) c.args.table.now.rows c.args.tuple.now c.in_ok-place.place c.requires.asked c.in_ok-place.ensures.root
+    subst (λ ws. All (λ r. IsRefutation ws r.proof.root r.proof.derivation) c.args.list.now.rows.items) (sym c.words-words.ensures.words)
+    (refutations_later old new c.in_ok-place.ensures.writes.longer c.args.list.now.rows.items c.requires.listed)

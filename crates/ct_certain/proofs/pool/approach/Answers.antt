@@ -1,4 +1,4 @@
-use Rattle.std.{proofs.Common.{[], ap, sym, subst, ◌∙◌}, specs.Prelude.IfSome, proofs.lemmas.Option.IfSome_then}
+use Rattle.std.{proofs.Common.{ap, sym, subst, ◌∙◌}, specs.Prelude.IfSome, proofs.lemmas.Option.IfSome_then}
 use Rattle.ct_rewrite.specs.Tidy.{IsTidy}
 use Rattle.ct_tidy.specs.Nulls.{cut_to}
 use Rattle.ct_certain.{specs.Answered.IsWithin, proofs.Short.{cut_tidy, cut_within}}

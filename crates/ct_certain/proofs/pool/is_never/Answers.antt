@@ -4,5 +4,5 @@ use Rattle.ct_certain.specs.Answered.{IsNever}
 use Rattle.ct_certain.proofs.pool.is_never.Goals as goal
 
 pub returns : goal.returns
-returns c = λ e. All-contains (IsNever c.args.words.now c.args.global) c.args.never.now.keys c.args.row.now.cond c.requires
+returns c = λ words global all e. All-contains (IsNever words global) c.args.never.now.keys c.args.row.now.cond all
     (Contains-list_any nat_eq eqb-true c.args.never.now.keys c.args.row.now.cond (sym c.contains.ensures ∙ e))

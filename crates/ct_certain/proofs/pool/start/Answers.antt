@@ -1,5 +1,5 @@
-use Rattle.std.{proofs.Common.{[], sym, subst}, specs.Prelude.{All, IfSome}, proofs.lemmas.List.Elements.All-nil, proofs.lemmas.Option.IfSome_then}
-use Rattle.ct_certain.{specs.Answered.{AreFound, IsKnown, IsNever, IsWithin, IsWithinGlobal}, proofs.Pools.none_found, proofs.Short.one_root}
+use Rattle.std.{proofs.Common.{sym, subst}, specs.Prelude.{All}, proofs.lemmas.List.Elements.All-nil, proofs.lemmas.Option.IfSome_then}
+use Rattle.ct_certain.{specs.Answered.{AreFound, IsKnown, IsNever, IsWithin}, proofs.Pools.none_found, proofs.Short.one_root}
 use Rattle.ct_certain.proofs.pool.start.Goals as goal
 
 pub returns : goal.returns

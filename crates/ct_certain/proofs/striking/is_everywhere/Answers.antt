@@ -1,4 +1,4 @@
-use Rattle.std.{proofs.Common.{true, ap, sym, ◌∙◌, take}, proofs.lemmas.{Bool.and_from, List.take_all, List.Folds.{list_all_at, list_all_more}}}
+use Rattle.std.{proofs.Common.{ap, sym, ◌∙◌, take}, proofs.lemmas.{Bool.and_from, List.take_all, List.Folds.{list_all_at, list_all_more}}}
 use Rattle.ct_query.specs.Database.{has_tuple}
 use Rattle.ct_certain.{specs.Missing.is_in_each, proofs.Candidates.contained}
 use Rattle.ct_certain.proofs.striking.is_everywhere.Goals as goal

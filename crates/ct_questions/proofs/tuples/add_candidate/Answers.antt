@@ -1,5 +1,5 @@
 use Rattle.std.specs.Prelude.{⊤}
-use Rattle.std.proofs.Common.{◌≡◌, ◌*◌, ◌+◌, [], ◌∷◌, ◌++◌, append-nil, cond, length, ap, sym, subst, ◌∙◌}
+use Rattle.std.proofs.Common.{◌*◌, ◌+◌, [], ◌∷◌, ◌++◌, append-nil, cond, length, ap, sym, subst, ◌∙◌}
 use Rattle.std.proofs.lemmas.{List.map-append, Result.err_from_is_err_and}
 use Rattle.ct_condition.specs.Writes.{Writes}
 use Rattle.ct_certain.{specs.Missing.IsRootOf, proofs.Roots.{handed_on, root_from}}
@@ -29,7 +29,7 @@ returns-clause-roots g c = λ words asked all.
     let root = c.in_ok-root.root in
     candidates_more words old new global rows c.in_ok-root.ensures.writes.longer c.in_ok-root.ensures.writes.formed c.args.list.now.items c.push.new.self.items (record { tuple = c.in_ok-tuple.tuple; root = root }) c.in_ok-push.ensures.items all
     (subst (λ t. IsRootOf words new global rows t root) (sym c.in_ok-tuple.ensures)
-    (root_from words old new global (length c.args.table.now.columns) rows c.args.tuple.now root asked (subst (λ t. IsRootOf old new global rows t root) c.as_slice.ensures c.in_ok-root.ensures.root)))
+    (root_from words old new global (length c.args.table.now.columns) rows c.args.tuple.now root asked c.in_ok-root.ensures.root))
 
 pub returns-in_err-root-clause-writes : goal.returns-in_err-root-clause-writes
 returns-in_err-root-clause-writes g c =

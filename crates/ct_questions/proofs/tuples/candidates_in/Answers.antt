@@ -1,7 +1,7 @@
 use Rattle.std.{proofs.Common.{◌≡◌, ◌≤◌, ◌<◌, ◌+◌, ◌∙◌, [], ◌∷◌, ◌++◌, filter, length, take, ap, sym, subst, arith}, specs.Prelude.All, proofs.lemmas.List.{take_all, take_more}}
 use Rattle.std.proofs.lemmas.{List.Elements.{All-get_or, All-nil, filter-append}, Result.err_from_is_err_and}
 use Rattle.ct_condition.proofs.Writes.{writes_none, writes_all, writes_more, writes_last}
-use Rattle.ct_certain.{specs.Missing.{IsAskedOf, is_in_each}, proofs.Candidates.{asked_later, asked_now}}
+use Rattle.ct_certain.{specs.Missing.{IsAskedOf, is_in_each}, proofs.Candidates.{asked_later, asked_now}, proofs.Always.sure_later}
 use Rattle.ct_questions.{specs.Candidates.{IsCandidate, tuples_of}}
 use Rattle.ct_questions.proofs.tuples.candidates_in.Goals as goal
 
@@ -14,8 +14,17 @@ loop-tuple-init g c =
       roots = subst (All (IsCandidate words words c.args.global c.args.table.now.rows)) (sym c.new-list.ensures.items) (All-nil _);
     }
 
-pub add_candidate-requires : goal.add_candidate-requires
-add_candidate-requires g c =
+pub add_candidate-requires-clause-sure : goal.add_candidate-requires-clause-sure
+add_candidate-requires-clause-sure g c =
+    let words = g.I.Interner.list c.args.pass.now in
+    let now = g.I.Interner.list c.loop-tuple.pass in
+    let width = length c.args.table.now.columns in
+    let rows = c.args.table.now.rows in
+    let asked = subst (IsAskedOf words words c.args.global width rows) (sym c.tuple-item.is) (All-get_or (IsAskedOf words words c.args.global width rows) c.args.tuples.now c.loop-tuple.tuple-index c.tuple-item.result c.loop-tuple-test.true c.requires.asked) in
+    sure_later words now c.args.global width rows c.tuple-item.result (asked_later words words now c.args.global width rows c.tuple-item.result c.loop-tuple.invariant.writes.longer asked) c.args.sure.now.keys c.requires.sure
+
+pub add_candidate-requires-clause-asked : goal.add_candidate-requires-clause-asked
+add_candidate-requires-clause-asked g c =
     let words = g.I.Interner.list c.args.pass.now in
     let now = g.I.Interner.list c.loop-tuple.pass in
     let width = length c.args.table.now.columns in

@@ -1,8 +1,8 @@
-use Rattle.std.{proofs.Common.{◌≡◌, ◌∙◌, filter, length, ap, sym, subst, rules}, specs.{Prelude.All, List.IsDistinct}}
+use Rattle.std.{proofs.Common.{◌≡◌, filter, length, sym, subst, rules}, specs.{Prelude.All, List.IsDistinct}, proofs.lemmas.Result.err_from_is_err_and}
 use Rattle.ct_word.specs.Value.{same_tuple}
-use Rattle.ct_condition.proofs.Reached.{both_of}
+use Rattle.ct_condition.proofs.{Reached.both_of, Writes.writes_none}
 use Rattle.ct_operators.specs.Tables.{firsts, value_of_rows}
-use Rattle.ct_certain.{specs.Missing.{IsSeen, is_in_each}, proofs.Candidates.{distinct_keys, firsts_asked, firsts_few}}
+use Rattle.ct_certain.{specs.Missing.{IsSeen, IsSure, is_in_each}, proofs.Candidates.{distinct_keys, firsts_asked, firsts_few}}
 use Rattle.ct_questions.{specs.Candidates.{AreCandidates, IsCandidate, tuples_of}, proofs.Listing.candidates_are}
 use Rattle.ct_questions.proofs.tuples.certain_left.Goals as goal
 
@@ -21,6 +21,16 @@ candidates_in-requires-clause-asked g c =
     let kept = c.args.kept.now in
     let worth : c.as_slice-2.result.now ≡ firsts same_tuple (value_of_rows words kept rows) = search rules in
     firsts_asked words kept rows c.as_slice-2.result.now worth c.args.global (length c.args.table.now.columns) c.words.ensures.formed c.words.ensures.begins c.requires.global c.requires.plain c.requires.rows c.requires.kept
+
+pub candidates_in-requires-clause-sure : goal.candidates_in-requires-clause-sure
+candidates_in-requires-clause-sure g c =
+    let rows = c.args.table.now.rows in
+    subst (λ ws. All (IsSure ws rows) c.in_ok-sure.sure.keys) c.words-3.ensures.words (subst (λ rs. All (IsSure c.words-3.result.now rs) c.in_ok-sure.sure.keys) c.as_slice-rows.ensures c.in_ok-sure.ensures)
+
+pub returns-in_err-sure-clause-writes : goal.returns-in_err-sure-clause-writes
+returns-in_err-sure-clause-writes g c =
+    let exit = err_from_is_err_and c.from_residual-in_err-sure.result c.from_residual-in_err-sure.ensures.1 in
+    rw (exit.1, exit.2) (writes_none _ c.words.ensures.formed c.words.ensures.room)
 
 pub returns-clause-candidates : goal.returns-clause-candidates
 returns-clause-candidates g c =

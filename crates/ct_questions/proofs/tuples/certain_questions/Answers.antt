@@ -2,7 +2,7 @@ use Rattle.std.{proofs.Common.{◌≡◌, ◌∙◌, [], filter, length, sym, su
 use Rattle.ct_word.specs.Value.{same_tuple}
 use Rattle.ct_condition.proofs.Reached.{both_of}
 use Rattle.ct_operators.specs.Tables.{firsts, value_of_rows}
-use Rattle.ct_certain.{specs.Missing.is_in_each, proofs.Candidates.{distinct_keys, firsts_asked, firsts_few}}
+use Rattle.ct_certain.{specs.Missing.{IsSure, is_in_each}, proofs.Candidates.{distinct_keys, firsts_asked, firsts_few}}
 use Rattle.ct_questions.{specs.Candidates.{AreCandidates, IsCandidate, tuples_of}, proofs.Listing.{candidates_are, none_left_out}}
 use Rattle.ct_questions.proofs.tuples.certain_questions.Goals as goal
 
@@ -21,6 +21,11 @@ candidates_in-requires-clause-asked g c =
     let kept = c.args.kept.now in
     let worth : c.as_slice.result.now ≡ firsts same_tuple (value_of_rows words kept rows) = search rules in
     firsts_asked words kept rows c.as_slice.result.now worth c.args.global (length c.args.table.now.columns) c.words.ensures.formed c.words.ensures.begins c.requires.global c.requires.plain c.requires.rows c.requires.kept
+
+pub candidates_in-requires-clause-sure : goal.candidates_in-requires-clause-sure
+candidates_in-requires-clause-sure g c =
+    let rows = c.args.table.now.rows in
+    subst (λ ws. All (IsSure ws rows) c.in_ok-sure.sure.keys) c.words-2.ensures.words (subst (λ rs. All (IsSure c.words-2.result.now rs) c.in_ok-sure.sure.keys) c.as_slice-rows.ensures c.in_ok-sure.ensures)
 
 pub returns-clause-candidates : goal.returns-clause-candidates
 returns-clause-candidates g c =

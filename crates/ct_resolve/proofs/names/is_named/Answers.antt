@@ -1,5 +1,4 @@
 use Rattle.std.proofs.Common.{◌∙◌}
-use Rattle.ct_query.specs.declared.schema.Heading.{Heading}
 use Rattle.ct_resolve.proofs.TablesFound.{there_is}
 use Rattle.ct_resolve.proofs.names.is_named.Goals as goal
 

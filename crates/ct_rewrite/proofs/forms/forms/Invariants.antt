@@ -2,12 +2,12 @@ use Rattle.std.{proofs.Common.{ℕ, ◌<◌, ◌≤◌, ◌*◌, ◌-◌, length
 use Rattle.ct_rewrite.{specs.Below.{has, HasAt}, specs.Signs.IsFormAt}
 use Rattle.ct_rewrite.proofs.forms.forms.Given as goal
 
-abbrev pub invariant-loop-place : goal.invariant-loop-place
-invariant-loop-place l = record {
-  within : l.low ≤ length l.words;
-  room : length l.builder ≤ 2 * l.low;
-  forms : (k : ℕ) → IsTrue (has l.places k) → k < l.low → HasAt (IsFormAt l.words l.builder) l.forms k;
+abbrev pub invariant-loop-number : goal.invariant-loop-number
+invariant-loop-number l = record {
+  within : l.low ≤ 2 * length l.words;
+  room : length l.builder ≤ l.low;
+  forms : (k : ℕ) → IsTrue (has l.numbers k) → k < l.low → HasAt (IsFormAt l.words l.builder) l.forms k;
 }
 
-abbrev pub decreases-loop-place : goal.decreases-loop-place
-decreases-loop-place l = length l.words - l.low
+abbrev pub decreases-loop-number : goal.decreases-loop-number
+decreases-loop-number l = 2 * length l.words - l.low

@@ -1,16 +1,21 @@
-use Rattle.std.proofs.Common.{false, [], refl, sym, subst}
+use Rattle.std.proofs.Common.{false, rules, [], refl, sym, subst}
 use Rattle.ct_statement.{specs.Sight.{actions_before, history_of}, proofs.Sights.sight_grows}
 use Rattle.ct_query.specs.Views.{statement_of}
 use Rattle.ct_transaction.specs.Prepared.{IsPreparedFor, needs_step, unmet, wanting_memory}
 use Rattle.ct_session.{specs.Offering.IsReady, proofs.Ready.ready_to_offer, proofs.Outside.{prepared_on, refused_on, answered_on}, proofs.Unasked.unmet_unnamed}
-use Rattle.ct_session.specs.declared.alone.Ready.TheVariants as ready
+use Rattle.ct_session.specs.declared.settling.Ready.TheVariants as ready
 use Rattle.ct_transaction.specs.declared.preparing.Prepared.TheVariants as prepared
 use Rattle.ct_session.proofs.alone.performed.Goals as goal
+
+pub perform_alone-prepared-requires : goal.perform_alone-prepared-requires
+perform_alone-prepared-requires g c =
+    let found = c.requires.resolved in
+    (search rules, record { sight = c.requires.sees.sight; fits = found.fits; writes = found.writes; plain = found.plain; reads_are = c.requires.reads })
 
 pub returns-in-Ok-Answer-clause-ok : goal.returns-in-Ok-Answer-clause-ok
 returns-in-Ok-Answer-clause-ok g c =
     let begun = c.args.pass.now in
-    let now = c.perform-prepared.new.pass in
+    let now = c.perform_alone-prepared.new.pass in
     let s = c.args.sight.now in
     let done = c.in-Ok-Answer in (
       done.reads,
@@ -24,7 +29,7 @@ returns-in-Ok-Answer-clause-ok g c =
 pub returns-in-Ok-clause-ok : goal.returns-in-Ok-clause-ok
 returns-in-Ok-clause-ok g c =
     let begun = c.args.pass.now in
-    let now = c.perform-prepared.new.pass in
+    let now = c.perform_alone-prepared.new.pass in
     let s = c.args.sight.now in
     let sees = c.requires.sees in
     let done = c.in-Ok-Change in
@@ -46,10 +51,10 @@ pub returns-in-Err-clause-err : goal.returns-in-Err-clause-err
 returns-in-Err-clause-err g c =
     let why = c.in-Err.why in
     let done = c.in-Err.ensures in
-    refused_on c.args.pass.now c.perform-prepared.new.pass done.longer done.kept c.args.sight.now c.requires.sees.sight.within c.requires.sees.none c.args.fresh c.args.statement.now g.N.Site.log.cap why
+    refused_on c.args.pass.now c.perform_alone-prepared.new.pass done.longer done.kept c.args.sight.now c.requires.sees.sight.within c.requires.sees.none c.args.fresh c.args.statement.now g.N.Site.log.cap why
     (unmet why (record { asked = statement_of c.args.found; resolves = c.requires.resolved.resolves; unmet = done.err }))
 
 pub returns-in-Err-clause-unnamed : goal.returns-in-Err-clause-unnamed
 returns-in-Err-clause-unnamed g c =
     let s = c.args.sight.now in
-    unmet_unnamed (history_of c.args.pass.now.words s) (actions_before s) g.N.Site.log.cap c.perform-prepared.new.pass.words (statement_of c.args.found) c.in-Err.why c.in-Err.ensures.err
+    unmet_unnamed (history_of c.args.pass.now.words s) (actions_before s) g.N.Site.log.cap c.perform_alone-prepared.new.pass.words (statement_of c.args.found) c.in-Err.why c.in-Err.ensures.err

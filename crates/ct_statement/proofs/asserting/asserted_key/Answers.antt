@@ -1,14 +1,15 @@
-use Rattle.std.{proofs.Common.{inl, inr, ap, Ok, Err, ℕ, ◌≡◌, ◌+◌, ◌≤◌, ◌<◌, ◌*◌, Some, None, arith, length, refl, sym, subst, ◌∙◌}, specs.Prelude.{All, IsSome, Result}, proofs.lemmas.Bool.cases_lt, proofs.lemmas.Result.err_from_is_err_and}
-use Rattle.ct_query.{specs.Assertions.is_key, specs.Patterns.count}
-use Rattle.ct_condition.specs.Terms.{TermsFrom}
-use Rattle.ct_operators.{specs.Building.HoldsWhere, specs.Tables.{AreRows, value_of_rows}, specs.Terms.TermOfRows}
+use Rattle.std.{proofs.Common.{inl, inr, ap, Ok, Err, ℕ, ◌≡◌, ◌≤◌, ◌<◌, ◌*◌, Some, false, length, sym, subst}, specs.Prelude.{All, IsSome, Result}, proofs.lemmas.Bool.cases_lt, proofs.lemmas.Result.err_from_is_err_and}
+use Rattle.ct_query.{specs.Assertions.is_key}
+use Rattle.ct_condition.proofs.Writes.{writes_none, writes_within}
+use Rattle.ct_history.specs.Kept.{PassWrites}
+use Rattle.ct_operators.{specs.Building.HoldsWhere, specs.Tables.{value_of_rows}}
 use Rattle.ct_table.{specs.Denotes.find_table, specs.Shared.view_of}
 use Rattle.ct_algebra.specs.Evaluates.{limit}
 use Rattle.ct_statement.specs.Sight.{actions_before, history_of}
 use Rattle.ct_query.specs.Plain as plain
 use Rattle.ct_transcript.specs.declared.reply.Refusal.{Refusal}
 use Rattle.ct_table.specs.Counting.{rows_of_found}
-use Rattle.ct_statement.specs.Unmet.{IsUnmet}
+use Rattle.ct_statement.{specs.Making.says_full, specs.Unmet.IsUnmet}
 use Rattle.ct_statement.proofs.Asserts.{found_there, table_rows, table_width, key_words, key_asserted, key_too_large}
 use Rattle.ct_statement.proofs.asserting.asserted_key.Goals as goal
 
@@ -61,29 +62,6 @@ key-requires-clause-columns g c =
     subst (λ ks. All (λ k. k < length table.columns) ks) (sym c.as_slice.ensures)
     (subst (λ n. All (λ k. k < n) c.args.columns.now) wide c.requires.fits.1)
 
-pub returns-in_err-one_row-in-Ok-key-clause-made : goal.returns-in_err-one_row-in-Ok-key-clause-made
-returns-in_err-one_row-in-Ok-key-clause-made g c =
-    let old = c.args.pass.now.words in
-    let s = c.args.sight.now in
-    let name = c.args.name.now in
-    let table = c.in-Ok.table in
-    let found = subst (λ db. find_table db name ≡ Some (view_of name table)) c.db.ensures c.in-Ok.ensures.table in
-    let few = key_words (history_of old s) (actions_before s) old s.tables c.requires.sight.denotes name (view_of name table) found in
-    let most = c.in-Ok-key.ensures.made in
-    let p = err_from_is_err_and c.from_residual.result c.from_residual.ensures.1 in
-    rw (p.1, p.2) (omega (arith, few, most))
-
-pub returns-in-Ok-key-clause-made : goal.returns-in-Ok-key-clause-made
-returns-in-Ok-key-clause-made g c =
-    let old = c.args.pass.now.words in
-    let s = c.args.sight.now in
-    let name = c.args.name.now in
-    let table = c.in-Ok.table in
-    let found = subst (λ db. find_table db name ≡ Some (view_of name table)) c.db.ensures c.in-Ok.ensures.table in
-    let few = key_words (history_of old s) (actions_before s) old s.tables c.requires.sight.denotes name (view_of name table) found in
-    let most = c.in-Ok-key.ensures.made in
-    omega (arith, few, most)
-
 pub returns-in-Ok-key-clause-row : goal.returns-in-Ok-key-clause-row
 returns-in-Ok-key-clause-row g c =
     let old = c.args.pass.now.words in
@@ -105,13 +83,39 @@ returns-in-Ok-key-clause-within g c =
     subst (λ db. rows_of_found (find_table db name) * rows_of_found (find_table db name) ≤ limit) c.db.ensures
     (not_past (rows_of_found (find_table c.db.result.now name) * rows_of_found (find_table c.db.result.now name)) (λ many. is_ok (c.in-Ok.ensures.too_large.1 many)))
 
-pub returns-clause-made : goal.returns-clause-made
-returns-clause-made g c =
+pub returns-in-Err-clause-writes : goal.returns-in-Err-clause-writes
+returns-in-Err-clause-writes g c =
+    let pass = c.args.pass.now in
+    let unwritten : says_full c.in-Err.why ≡ false = elim c.in-Err.ensures.err [ inl e ↦ ap says_full e | inr e ↦ ap says_full e ] in
+    subst (PassWrites g.N.Site.log.cap pass pass _) (sym unwritten) (writes_none pass c.words.ensures.formed c.words.ensures.room)
+
+pub returns-in-Ok-key-clause-writes : goal.returns-in-Ok-key-clause-writes
+returns-in-Ok-key-clause-writes g c =
     let old = c.args.pass.now.words in
     let s = c.args.sight.now in
     let name = c.args.name.now in
     let table = c.in-Ok.table in
     let found = subst (λ db. find_table db name ≡ Some (view_of name table)) c.db.ensures c.in-Ok.ensures.table in
     let few = key_words (history_of old s) (actions_before s) old s.tables c.requires.sight.denotes name (view_of name table) found in
-    let fewer = c.in-Err-key.ensures.fewer in
-    omega (arith, few, fewer)
+    writes_within _ few c.in-Ok-key.ensures.writes
+
+pub returns-in_err-one_row-in-Ok-key-clause-writes : goal.returns-in_err-one_row-in-Ok-key-clause-writes
+returns-in_err-one_row-in-Ok-key-clause-writes g c =
+    let old = c.args.pass.now.words in
+    let s = c.args.sight.now in
+    let name = c.args.name.now in
+    let table = c.in-Ok.table in
+    let found = subst (λ db. find_table db name ≡ Some (view_of name table)) c.db.ensures c.in-Ok.ensures.table in
+    let few = key_words (history_of old s) (actions_before s) old s.tables c.requires.sight.denotes name (view_of name table) found in
+    let p = err_from_is_err_and c.from_residual.result c.from_residual.ensures.1 in
+    rw (p.1, p.2) (writes_within _ few c.in-Ok-key.ensures.writes)
+
+pub returns-clause-writes : goal.returns-clause-writes
+returns-clause-writes g c =
+    let old = c.args.pass.now.words in
+    let s = c.args.sight.now in
+    let name = c.args.name.now in
+    let table = c.in-Ok.table in
+    let found = subst (λ db. find_table db name ≡ Some (view_of name table)) c.db.ensures c.in-Ok.ensures.table in
+    let few = key_words (history_of old s) (actions_before s) old s.tables c.requires.sight.denotes name (view_of name table) found in
+    writes_within _ few c.in-Err-key.ensures.writes

@@ -40,15 +40,22 @@ made_inside pass now longer seen fresh o open' is k st asked res made few after 
     (makes_inside pass now longer seen fresh open' (subst (λ (p : Option Open). IsSession pass.words seen p) is k).open_is.sight st asked res (now.made + charged)
     (performs_less true (count (history_of pass.words open'.sight) (actions_before open'.sight)) (widths_in (schema (history_of pass.words open'.sight) (actions_before open'.sight)).tables) asked pass.made made (now.made + charged) le few)))
 
+pub perform_within-prepared-requires-clause-asks : goal.perform_within-prepared-requires-clause-asks
+perform_within-prepared-requires-clause-asks g c κs within =
+    let s = c.args.session in
+    let k = subst (λ (t : Option Open). IsSession s.pass.words s.seen t) c.in-Some.is c.requires.session in
+    let found = c.in-Ok.ensures.ok in
+    record { sight = k.open_is.sight; fits = found.fits; writes = found.writes; plain = found.plain; reads_are = c.in-Ok.ensures.reads }
+
 pub answer-requires-clause-session : goal.answer-requires-clause-session
 answer-requires-clause-session g c =
     let s = c.args.session in
-    grown s.pass.words c.perform-prepared.new.pass.words c.in-Ok-Answer.ensures.longer c.words-after.ensures.formed s.seen s.transaction c.in-Some.open c.in-Some.is c.requires.session
+    grown s.pass.words c.perform_within-prepared.new.pass.words c.in-Ok-Answer.ensures.longer c.words-after.ensures.formed s.seen s.transaction c.in-Some.open c.in-Some.is c.requires.session
 
 pub answer-requires-clause-prepared : goal.answer-requires-clause-prepared
 answer-requires-clause-prepared g c =
     let s = c.args.session in
-    let new = c.perform-prepared.new.pass in
+    let new = c.perform_within-prepared.new.pass in
     let o = c.in-Some.open in
     let done = c.in-Ok-Answer in
     let k = subst (λ (t : Option Open). IsSession s.pass.words s.seen t) c.in-Some.is c.requires.session in
@@ -62,12 +69,12 @@ answer-requires-clause-prepared g c =
 pub change-requires-clause-session : goal.change-requires-clause-session
 change-requires-clause-session g c =
     let s = c.args.session in
-    grown s.pass.words c.perform-prepared.new.pass.words c.in-Ok-Change.ensures.longer c.words-after.ensures.formed s.seen s.transaction c.in-Some.open c.in-Some.is c.requires.session
+    grown s.pass.words c.perform_within-prepared.new.pass.words c.in-Ok-Change.ensures.longer c.words-after.ensures.formed s.seen s.transaction c.in-Some.open c.in-Some.is c.requires.session
 
 pub change-requires-clause-prepared : goal.change-requires-clause-prepared
 change-requires-clause-prepared g c =
     let s = c.args.session in
-    let new = c.perform-prepared.new.pass in
+    let new = c.perform_within-prepared.new.pass in
     let o = c.in-Some.open in
     let done = c.in-Ok-Change in
     let k = subst (λ (t : Option Open). IsSession s.pass.words s.seen t) c.in-Some.is c.requires.session in
@@ -82,34 +89,34 @@ change-requires-clause-prepared g c =
 pub refused-requires-in-Err-prepared-clause-session : goal.refused-requires-in-Err-prepared-clause-session
 refused-requires-in-Err-prepared-clause-session g c =
     let s = c.args.session in
-    grown s.pass.words c.perform-prepared.new.pass.words c.in-Err-prepared.ensures.longer c.words-after.ensures.formed s.seen s.transaction c.in-Some.open c.in-Some.is c.requires.session
+    grown s.pass.words c.perform_within-prepared.new.pass.words c.in-Err-prepared.ensures.longer c.words-after.ensures.formed s.seen s.transaction c.in-Some.open c.in-Some.is c.requires.session
 
 pub refused-requires-in-Err-prepared-clause-refused : goal.refused-requires-in-Err-prepared-clause-refused
 refused-requires-in-Err-prepared-clause-refused g c =
     let s = c.args.session in
     let k = subst (λ (t : Option Open). IsSession s.pass.words s.seen t) c.in-Some.is c.requires.session in
-    refused_later s.pass c.perform-prepared.new.pass c.in-Err-prepared.ensures.longer c.in-Err-prepared.ensures.kept c.in-Some.open.sight k.open_is.sight.within c.in-Some.open.changes k.open_is.list s.fresh c.args.statement.now g.N.Site.log.cap c.in-Err-prepared.why
+    refused_later s.pass c.perform_within-prepared.new.pass c.in-Err-prepared.ensures.longer c.in-Err-prepared.ensures.kept c.in-Some.open.sight k.open_is.sight.within c.in-Some.open.changes k.open_is.list s.fresh c.args.statement.now g.N.Site.log.cap c.in-Err-prepared.why
     (unmet c.in-Err-prepared.why (record { asked = statement_of c.in-Ok.found.0; resolves = c.in-Ok.ensures.ok.resolves; unmet = c.in-Err-prepared.ensures.err }))
 
 pub returns-in-Ok-Answer-clause-executes : goal.returns-in-Ok-Answer-clause-executes
 returns-in-Ok-Answer-clause-executes g c =
     let s = c.args.session in
     let done = c.in-Ok-Answer.ensures in
-    later g.N.Site.log.cap s.pass c.perform-prepared.new.pass done.longer done.kept c.words-after.ensures.room c.words-before.ensures.numbered c.words-after.ensures.numbered
+    later g.N.Site.log.cap s.pass c.perform_within-prepared.new.pass done.longer done.kept c.words-after.ensures.room c.words-before.ensures.numbered c.words-after.ensures.numbered
     s.seen s.fresh s.transaction c.in-Some.open c.in-Some.is _ _ c.args.statement.now c.answer.result.1 c.answer.ensures.executes
 
 pub returns-in-Some-step-clause-executes : goal.returns-in-Some-step-clause-executes
 returns-in-Some-step-clause-executes g c =
     let s = c.args.session in
     let done = c.in-Ok-Change.ensures in
-    later g.N.Site.log.cap s.pass c.perform-prepared.new.pass done.longer done.kept c.words-after.ensures.room c.words-before.ensures.numbered c.words-after.ensures.numbered
+    later g.N.Site.log.cap s.pass c.perform_within-prepared.new.pass done.longer done.kept c.words-after.ensures.room c.words-before.ensures.numbered c.words-after.ensures.numbered
     s.seen s.fresh s.transaction c.in-Some.open c.in-Some.is _ _ c.args.statement.now c.change.result.1 c.change.ensures.executes
 
 pub returns-in-Err-prepared-clause-executes : goal.returns-in-Err-prepared-clause-executes
 returns-in-Err-prepared-clause-executes g c =
     let s = c.args.session in
     let done = c.in-Err-prepared.ensures in
-    later g.N.Site.log.cap s.pass c.perform-prepared.new.pass done.longer done.kept c.words-after.ensures.room c.words-before.ensures.numbered c.words-after.ensures.numbered
+    later g.N.Site.log.cap s.pass c.perform_within-prepared.new.pass done.longer done.kept c.words-after.ensures.room c.words-before.ensures.numbered c.words-after.ensures.numbered
     s.seen s.fresh s.transaction c.in-Some.open c.in-Some.is _ _ c.args.statement.now c.refused-in-Err-prepared.result.1 c.refused-in-Err-prepared.ensures.executes
 
 pub returns-in-Err-clause-executes : goal.returns-in-Err-clause-executes
@@ -124,16 +131,16 @@ returns-in-Ok-Answer-clause-makes g c =
     let s = c.args.session in
     let done = c.in-Ok-Answer.ensures in
     let room = ap charge c.answer.ensures.room in
-    made_inside s.pass c.perform-prepared.new.pass done.longer s.seen s.fresh s.transaction c.in-Some.open c.in-Some.is c.requires.session c.args.statement.now (statement_of c.in-Ok.found.0) c.in-Ok.ensures.ok.resolves
-    (c.perform-prepared.new.pass.made + 0) done.made c.answer.result.0.pass c.answer.ensures.pass (charge (is_full c.answer.result.1)) (omega (arith, room))
+    made_inside s.pass c.perform_within-prepared.new.pass done.longer s.seen s.fresh s.transaction c.in-Some.open c.in-Some.is c.requires.session c.args.statement.now (statement_of c.in-Ok.found.0) c.in-Ok.ensures.ok.resolves
+    (c.perform_within-prepared.new.pass.made + 0) done.made c.answer.result.0.pass c.answer.ensures.pass (charge (is_full c.answer.result.1)) (omega (arith, room))
 
 pub returns-in-Some-step-clause-makes : goal.returns-in-Some-step-clause-makes
 returns-in-Some-step-clause-makes g c =
     let s = c.args.session in
     let done = c.in-Ok-Change.ensures in
     let room = ap charge c.change.ensures.room in
-    made_inside s.pass c.perform-prepared.new.pass done.longer s.seen s.fresh s.transaction c.in-Some.open c.in-Some.is c.requires.session c.args.statement.now (statement_of c.in-Ok.found.0) c.in-Ok.ensures.ok.resolves
-    (c.perform-prepared.new.pass.made + 0) done.made c.change.result.0.pass c.change.ensures.pass (charge (is_full c.change.result.1)) (omega (arith, room))
+    made_inside s.pass c.perform_within-prepared.new.pass done.longer s.seen s.fresh s.transaction c.in-Some.open c.in-Some.is c.requires.session c.args.statement.now (statement_of c.in-Ok.found.0) c.in-Ok.ensures.ok.resolves
+    (c.perform_within-prepared.new.pass.made + 0) done.made c.change.result.0.pass c.change.ensures.pass (charge (is_full c.change.result.1)) (omega (arith, room))
 
 pub returns-in-Err-prepared-clause-makes : goal.returns-in-Err-prepared-clause-makes
 returns-in-Err-prepared-clause-makes g c =
@@ -141,8 +148,8 @@ returns-in-Err-prepared-clause-makes g c =
     let done = c.in-Err-prepared.ensures in
     let said = c.refused-in-Err-prepared in
     let room = ap charge said.ensures.full in
-    made_inside s.pass c.perform-prepared.new.pass done.longer s.seen s.fresh s.transaction c.in-Some.open c.in-Some.is c.requires.session c.args.statement.now (statement_of c.in-Ok.found.0) c.in-Ok.ensures.ok.resolves
-    (c.perform-prepared.new.pass.made + charge (says_full c.in-Err-prepared.why)) done.made said.result.0.pass said.ensures.pass (charge (is_full said.result.1)) (omega (arith, room))
+    made_inside s.pass c.perform_within-prepared.new.pass done.longer s.seen s.fresh s.transaction c.in-Some.open c.in-Some.is c.requires.session c.args.statement.now (statement_of c.in-Ok.found.0) c.in-Ok.ensures.ok.resolves
+    (c.perform_within-prepared.new.pass.made + charge (says_full c.in-Err-prepared.why)) done.made said.result.0.pass said.ensures.pass (charge (is_full said.result.1)) (omega (arith, room))
 
 pub returns-in-Err-clause-makes : goal.returns-in-Err-clause-makes
 returns-in-Err-clause-makes g c =
